@@ -1,0 +1,15 @@
+pub mod Asks
+pub mod Changes
+pub mod ConditionCode
+pub mod ConditionShape
+pub mod Conditions
+pub mod Fields
+pub mod Frames
+pub mod Grammar
+pub mod Lexical
+pub mod Replies
+pub mod Session
+pub mod Steps
+pub mod Tables
+pub mod Values
+pub mod Words

@@ -1,0 +1,162 @@
+-- What a session answers to its messages.
+use Rattle.std.specs.Prelude.{◌≡◌, ◌⊎◌, ℕ, ◌≤◌, Bool, true, false, not, ◌&&◌, ◌||◌, ◌==◌, nat_le, List, [], ◌∷◌, length, take, take_while, codes, if◌then◌else◌}
+use Rattle.std.specs.List.{flat_map, list_any}
+use Rattle.std.specs.Str.{bytes_eq}
+use Rattle.cj_model.specs.declared.database.Slot.{Slot}
+use Rattle.cj_model.specs.declared.message.Message.{Message}
+use Rattle.cj_model.specs.declared.message.Message.TheVariants.{Login, Query, Stats, Quit}
+use Rattle.cj_model.specs.declared.request.Request.{Request}
+use Rattle.cj_model.specs.declared.request.Request.TheVariants as request
+use Rattle.cj_model.specs.declared.request.Act.{Act}
+use Rattle.cj_model.specs.declared.request.Act.TheVariants as act
+use Rattle.cj_model.specs.declared.answer.Answer.{Answer}
+use Rattle.cj_model.specs.declared.answer.Outcome.{Outcome}
+use Rattle.cj_model.specs.declared.answer.Outcome.TheVariants as outcome
+use Rattle.cj_model.specs.declared.answer.Asked.{Asked}
+use Rattle.cj_model.specs.declared.answer.Asked.TheVariants as asked
+use Rattle.cj_model.specs.declared.answer.Refusal.{Refusal}
+use Rattle.cj_model.specs.declared.answer.Reply.{Reply}
+use Rattle.cj_model.specs.declared.answer.Reply.TheVariants.{Done, Rows, Refused}
+use Rattle.cj_model.specs.declared.codes.TheConstants.{NOT_LOGGED_IN, SYNTAX, NO_TABLE, NOT_BUILT}
+use Rattle.cj_model.specs.Changes.{bare}
+use Rattle.cj_model.specs.Steps.{acted}
+use Rattle.cj_model.specs.Asks.{ask}
+use Rattle.cj_model.specs.Grammar.{TextReads, ReadsNothing}
+use Rattle.cj_model.specs.Replies.{reply_length, reply_bytes}
+use Rattle.cj_model.specs.Frames.{frame_limit, Frames}
+
+-- where a session stands: whether a Login was accepted, and the database
+pub record Session : Type 0 where
+  pub logged_in : Bool
+  pub db : List Slot
+
+-- a session that begins
+abbrev pub fresh : Session
+fresh = record { logged_in = false; db = [] }
+
+-- the one account
+abbrev pub is_account : List ℕ → List ℕ → Bool
+is_account user password = bytes_eq user (codes "ann") && bytes_eq password (codes "secret")
+
+abbrev pub refused : ℕ → Reply
+refused code = Refused (bare code)
+
+-- ---- one request
+
+-- a refusal that isn't built yet is answered as such
+abbrev pub refusal_reply : Refusal → Reply
+refusal_reply r = if r.code == NO_TABLE then Refused r else refused NOT_BUILT
+
+abbrev pub outcome_reply : Outcome → Reply
+outcome_reply (outcome.Done count) = Done count
+outcome_reply (outcome.Refused r) = refusal_reply r
+
+-- an answer that has no frame, because it is too long, isn't built yet either
+abbrev pub rows_reply : Answer → Reply
+rows_reply a = if nat_le (reply_length (Rows a)) frame_limit then Rows a else refused NOT_BUILT
+
+abbrev pub asked_reply : Asked → Reply
+asked_reply (asked.Rows a) = rows_reply a
+asked_reply (asked.Refused r) = refusal_reply r
+
+-- what the act of an entry is answered, outside a transaction
+abbrev pub act_reply : List Slot → Act → Reply
+act_reply db a = outcome_reply (acted db 0 a).outcome
+
+abbrev pub request_reply : List Slot → Request → Reply
+request_reply db (request.Select s) = asked_reply (ask db 0 s)
+request_reply db (request.Write w) = act_reply db (act.Write w)
+request_reply db (request.Create c) = act_reply db (act.Create c)
+request_reply db (request.Drop name) = refused NOT_BUILT
+request_reply db request.Begin = refused NOT_BUILT
+request_reply db request.Commit = refused NOT_BUILT
+request_reply db request.Rollback = refused NOT_BUILT
+
+-- the database after the request
+abbrev pub request_after : List Slot → Request → List Slot
+request_after db (request.Select s) = db
+request_after db (request.Write w) = (acted db 0 (act.Write w)).db
+request_after db (request.Create c) = (acted db 0 (act.Create c)).db
+request_after db (request.Drop name) = db
+request_after db request.Begin = db
+request_after db request.Commit = db
+request_after db request.Rollback = db
+
+-- ---- one message
+
+-- the text is no statement
+pub record IsSyntax (s : Session) (text : List ℕ) (reply : Reply) (t : Session) : Type 0 where
+  pub nothing : ReadsNothing text
+  pub replied : reply ≡ refused SYNTAX
+  pub same : t ≡ s
+
+-- the text reads as a request, which is carried out
+pub record IsRequest (s : Session) (text : List ℕ) (reply : Reply) (t : Session) : Type 0 where
+  pub request : Request
+  pub reads : TextReads text request
+  pub replied : reply ≡ request_reply s.db request
+  pub after : t ≡ record s { db = request_after s.db request }
+
+-- a Login that is accepted
+abbrev pub accepts : Session → List ℕ → List ℕ → Bool
+accepts s user password = not s.logged_in && is_account user password
+
+-- a Query before and after the accepted Login
+abbrev pub QueryExchange : Bool → Session → List ℕ → Reply → Session → Type 0
+QueryExchange false s text reply t = (reply ≡ refused NOT_LOGGED_IN) × (t ≡ s)
+QueryExchange true s text reply t = IsSyntax s text reply t ⊎ IsRequest s text reply t
+
+-- From s the message gets the reply, and then the session stands at t.
+abbrev pub Exchange : Session → Message → Reply → Session → Type 0
+Exchange s (Login user password) reply t =
+    (reply ≡ (if accepts s user password then Done 0 else refused NOT_BUILT)) × (t ≡ record s { logged_in = s.logged_in || is_account user password })
+Exchange s (Query text) reply t = QueryExchange s.logged_in s text reply t
+Exchange s Stats reply t = (reply ≡ refused (if s.logged_in then NOT_BUILT else NOT_LOGGED_IN)) × (t ≡ s)
+Exchange s Quit reply t = ⊥
+
+-- From s the messages get the replies, one each, and then the session stands at t.
+abbrev pub Exchanges : Session → List Message → List Reply → Session → Type 0
+Exchanges s [] [] t = t ≡ s
+Exchanges s [] (r ∷ rs) t = ⊥
+Exchanges s (m ∷ ms) [] t = ⊥
+Exchanges s (m ∷ ms) (r ∷ rs) t = (u : Session) × Exchange s m r u × Exchanges u ms rs t
+
+-- ---- the whole session
+
+abbrev pub is_quit : Message → Bool
+is_quit (Login user password) = false
+is_quit (Query text) = false
+is_quit Stats = false
+is_quit Quit = true
+
+-- the messages that are answered: those before the first Quit
+abbrev pub answered : List Message → List Message
+answered ms = take_while (λ m. not (is_quit m)) ms
+
+-- whether the session ends well: by a Quit, or where the bytes end with a whole frame
+abbrev pub ends_well : List Message → List ℕ → Bool
+ends_well ms rest = list_any is_quit ms || length rest == 0
+
+-- The talk of a session over the bytes taken: what is written, and whether it ends well.
+pub record Talk (taken written : List ℕ) (well : Bool) : Type 0 where
+  pub messages : List Message
+  pub rest : List ℕ
+  pub frames : Frames taken messages rest
+  pub replies : List Reply
+  pub last : Session
+  pub exchanges : Exchanges fresh (answered messages) replies last
+  pub bytes : written ≡ flat_map reply_bytes replies
+  pub end : well ≡ ends_well messages rest
+
+-- A talk that was cut short: the first messages got their replies, written whole, and maybe one more its reply in part.
+pub record CutTalk (taken written : List ℕ) : Type 0 where
+  pub messages : List Message
+  pub rest : List ℕ
+  pub frames : Frames taken messages rest
+  pub count : ℕ
+  pub replies : List Reply
+  pub last : Session
+  pub exchanges : Exchanges fresh (take count (answered messages)) replies last
+  pub length_written : ℕ
+  pub within : length_written ≤ length (flat_map reply_bytes replies)
+  pub bytes : written ≡ take length_written (flat_map reply_bytes replies)
