@@ -1,29 +1,33 @@
 -- What a session answers to its messages.
-use Rattle.std.specs.Prelude.{◌≡◌, ◌⊎◌, ℕ, ◌≤◌, Bool, true, false, not, ◌&&◌, ◌||◌, ◌==◌, nat_le, List, [], ◌∷◌, length, take, take_while, codes, if◌then◌else◌}
+use Rattle.std.specs.Prelude.{◌≡◌, ◌⊎◌, ℕ, Bool, true, false, not, ◌&&◌, ◌||◌, ◌==◌, nat_le, List, [], ◌∷◌, ◌++◌, length, take, drop, codes, if◌then◌else◌}
+use Rattle.std.specs.declared.option.Option.{Option}
+use Rattle.std.specs.declared.option.Option.TheVariants.{None, Some}
 use Rattle.std.specs.List.{flat_map, list_any}
 use Rattle.std.specs.Str.{bytes_eq}
 use Rattle.cj_model.specs.declared.database.Slot.{Slot}
 use Rattle.cj_model.specs.declared.message.Message.{Message}
-use Rattle.cj_model.specs.declared.message.Message.TheVariants.{Login, Query, Stats, Quit}
+use Rattle.cj_model.specs.declared.message.Message.TheVariants as message
+use Rattle.cj_model.specs.declared.message.FrameFault.{FrameFault}
+use Rattle.cj_model.specs.declared.session.SessionEnd.{SessionEnd}
+use Rattle.cj_model.specs.declared.session.SessionEnd.TheVariants as end
 use Rattle.cj_model.specs.declared.request.Request.{Request}
 use Rattle.cj_model.specs.declared.request.Request.TheVariants as request
 use Rattle.cj_model.specs.declared.request.Act.{Act}
 use Rattle.cj_model.specs.declared.request.Act.TheVariants as act
-use Rattle.cj_model.specs.declared.answer.Answer.{Answer}
 use Rattle.cj_model.specs.declared.answer.Outcome.{Outcome}
 use Rattle.cj_model.specs.declared.answer.Outcome.TheVariants as outcome
 use Rattle.cj_model.specs.declared.answer.Asked.{Asked}
 use Rattle.cj_model.specs.declared.answer.Asked.TheVariants as asked
 use Rattle.cj_model.specs.declared.answer.Refusal.{Refusal}
 use Rattle.cj_model.specs.declared.answer.Reply.{Reply}
-use Rattle.cj_model.specs.declared.answer.Reply.TheVariants.{Done, Rows, Refused}
+use Rattle.cj_model.specs.declared.answer.Reply.TheVariants.{Done, Rows, Stats, Refused}
 use Rattle.cj_model.specs.declared.codes.TheConstants.{NOT_LOGGED_IN, SYNTAX, NO_TABLE, NOT_BUILT}
 use Rattle.cj_model.specs.Changes.{bare}
 use Rattle.cj_model.specs.Steps.{acted}
 use Rattle.cj_model.specs.Asks.{ask}
 use Rattle.cj_model.specs.Grammar.{TextReads, ReadsNothing}
 use Rattle.cj_model.specs.Replies.{reply_length, reply_bytes}
-use Rattle.cj_model.specs.Frames.{frame_limit, Frames}
+use Rattle.cj_model.specs.Frames.{frame_limit, Frames, fault_of}
 
 -- where a session stands: whether a Login was accepted, and the database
 pub record Session : Type 0 where
@@ -51,12 +55,8 @@ abbrev pub outcome_reply : Outcome → Reply
 outcome_reply (outcome.Done count) = Done count
 outcome_reply (outcome.Refused r) = refusal_reply r
 
--- an answer that has no frame, because it is too long, isn't built yet either
-abbrev pub rows_reply : Answer → Reply
-rows_reply a = if nat_le (reply_length (Rows a)) frame_limit then Rows a else refused NOT_BUILT
-
 abbrev pub asked_reply : Asked → Reply
-asked_reply (asked.Rows a) = rows_reply a
+asked_reply (asked.Rows a) = Rows a
 asked_reply (asked.Refused r) = refusal_reply r
 
 -- what the act of an entry is answered, outside a transaction
@@ -71,6 +71,13 @@ request_reply db (request.Drop name) = refused NOT_BUILT
 request_reply db request.Begin = refused NOT_BUILT
 request_reply db request.Commit = refused NOT_BUILT
 request_reply db request.Rollback = refused NOT_BUILT
+
+-- what is sent of a reply: rows whose frame would be too long aren't built yet
+abbrev pub limited : Reply → Reply
+limited (Done count) = Done count
+limited (Rows a) = if nat_le (reply_length (Rows a)) frame_limit then Rows a else refused NOT_BUILT
+limited (Stats hits misses) = Stats hits misses
+limited (Refused r) = Refused r
 
 -- the database after the request
 abbrev pub request_after : List Slot → Request → List Slot
@@ -94,7 +101,7 @@ pub record IsSyntax (s : Session) (text : List ℕ) (reply : Reply) (t : Session
 pub record IsRequest (s : Session) (text : List ℕ) (reply : Reply) (t : Session) : Type 0 where
   pub request : Request
   pub reads : TextReads text request
-  pub replied : reply ≡ request_reply s.db request
+  pub replied : reply ≡ limited (request_reply s.db request)
   pub after : t ≡ record s { db = request_after s.db request }
 
 -- a Login that is accepted
@@ -108,11 +115,11 @@ QueryExchange true s text reply t = IsSyntax s text reply t ⊎ IsRequest s text
 
 -- From s the message gets the reply, and then the session stands at t.
 abbrev pub Exchange : Session → Message → Reply → Session → Type 0
-Exchange s (Login user password) reply t =
+Exchange s (message.Login user password) reply t =
     (reply ≡ (if accepts s user password then Done 0 else refused NOT_BUILT)) × (t ≡ record s { logged_in = s.logged_in || is_account user password })
-Exchange s (Query text) reply t = QueryExchange s.logged_in s text reply t
-Exchange s Stats reply t = (reply ≡ refused (if s.logged_in then NOT_BUILT else NOT_LOGGED_IN)) × (t ≡ s)
-Exchange s Quit reply t = ⊥
+Exchange s (message.Query text) reply t = QueryExchange s.logged_in s text reply t
+Exchange s message.Stats reply t = (reply ≡ refused (if s.logged_in then NOT_BUILT else NOT_LOGGED_IN)) × (t ≡ s)
+Exchange s message.Quit reply t = ⊥
 
 -- From s the messages get the replies, one each, and then the session stands at t.
 abbrev pub Exchanges : Session → List Message → List Reply → Session → Type 0
@@ -124,21 +131,27 @@ Exchanges s (m ∷ ms) (r ∷ rs) t = (u : Session) × Exchange s m r u × Excha
 -- ---- the whole session
 
 abbrev pub is_quit : Message → Bool
-is_quit (Login user password) = false
-is_quit (Query text) = false
-is_quit Stats = false
-is_quit Quit = true
+is_quit (message.Login user password) = false
+is_quit (message.Query text) = false
+is_quit message.Stats = false
+is_quit message.Quit = true
 
 -- the messages that are answered: those before the first Quit
 abbrev pub answered : List Message → List Message
-answered ms = take_while (λ m. not (is_quit m)) ms
+answered [] = []
+answered (m ∷ ms) = if is_quit m then [] else m ∷ answered ms
 
--- whether the session ends well: by a Quit, or where the bytes end with a whole frame
-abbrev pub ends_well : List Message → List ℕ → Bool
-ends_well ms rest = list_any is_quit ms || length rest == 0
+-- how a session ends whose bytes go no further than this rest
+abbrev pub end_at : List ℕ → Option FrameFault → SessionEnd
+end_at rest None = if length rest == 0 then end.Eof else end.Cut
+end_at rest (Some fault) = end.BadFrame fault
 
--- The talk of a session over the bytes taken: what is written, and whether it ends well.
-pub record Talk (taken written : List ℕ) (well : Bool) : Type 0 where
+-- how a session ends: by the first Quit, or else by what the rest is
+abbrev pub end_of : List Message → List ℕ → SessionEnd
+end_of ms rest = if list_any is_quit ms then end.Quit else end_at rest (fault_of rest)
+
+-- The talk of a session over all the bytes taken: what is written, and how it ends.
+pub record Talk (taken written : List ℕ) (ending : SessionEnd) : Type 0 where
   pub messages : List Message
   pub rest : List ℕ
   pub frames : Frames taken messages rest
@@ -146,9 +159,14 @@ pub record Talk (taken written : List ℕ) (well : Bool) : Type 0 where
   pub last : Session
   pub exchanges : Exchanges fresh (answered messages) replies last
   pub bytes : written ≡ flat_map reply_bytes replies
-  pub end : well ≡ ends_well messages rest
+  pub end : ending ≡ end_of messages rest
 
--- A talk that was cut short: the first messages got their replies, written whole, and maybe one more its reply in part.
+-- nothing, or some bytes of the reply to the first of the messages
+abbrev pub BeginsReply : Session → List Message → List ℕ → Type 0
+BeginsReply s [] part = part ≡ []
+BeginsReply s (m ∷ ms) part = (part ≡ []) ⊎ ((reply : Reply) × (t : Session) × Exchange s m reply t × (count : ℕ) × (part ≡ take count (reply_bytes reply)))
+
+-- A talk that was cut short: the first messages have their replies, written whole, and the next one maybe a part of its own.
 pub record CutTalk (taken written : List ℕ) : Type 0 where
   pub messages : List Message
   pub rest : List ℕ
@@ -157,6 +175,6 @@ pub record CutTalk (taken written : List ℕ) : Type 0 where
   pub replies : List Reply
   pub last : Session
   pub exchanges : Exchanges fresh (take count (answered messages)) replies last
-  pub length_written : ℕ
-  pub within : length_written ≤ length (flat_map reply_bytes replies)
-  pub bytes : written ≡ take length_written (flat_map reply_bytes replies)
+  pub part : List ℕ
+  pub begins : BeginsReply last (drop count (answered messages)) part
+  pub bytes : written ≡ flat_map reply_bytes replies ++ part
