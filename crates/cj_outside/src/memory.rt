@@ -2,7 +2,7 @@
 //!
 //! Calls of `take` and of `put` are numbered from 1, up to 2^64 - 1, where the number stays. A call whose number is listed fails, and no other does.
 
-ghost use Rattle.std.specs.Prelude.{◌≡◌, min, Some, IfOk, IsErr, IsErrOf, take, length};
+ghost use Rattle.std.specs.Prelude.{◌≡◌, ◌↔◌, ◌≤◌, ◌+◌, ◌++◌, min, Some, IfOk, IsErr, IsErrOf, IsTrue, Contains, take, drop, length};
 ghost use Rattle.std.specs.Io.{ReadsAtMost, WritesAtMost};
 ghost use Rattle.std.specs.Io.KnownBytes.{ReadConsumes, WriteAppends};
 ghost use Rattle.cj_outside.specs.Bytes.{TakesSome, TellsEnd};
@@ -13,13 +13,54 @@ use crate::sink::{OutError, Sink};
 use crate::source::{Failed, Source};
 use std::marker::Model;
 
-/// Copies as many bytes of `from` as fit into the front of `buf`, and answers how many.
-fn fill(buf: &mut [u8], from: &[u8]) -> usize
-    ensures count { result ≡ min (length from.now) (length buf.old) }
-    ensures front { take result buf.new ≡ take result from.now }
+/// Which calls are to fail, how many there were, and how many of them failed.
+#[derive(Drop)]
+struct Schedule {
+    fails: Vec<u64>,
+    calls: u64,
+    faults: u64,
+}
+
+impl Schedule {
+    ghost use Rattle.cj_outside.specs.Memory.{next};
+
+    fn new(fails: Vec<u64>) -> Self
+        ensures { result ≡ record { fails = fails; calls = 0; faults = 0 } }
+    {
+        Schedule {
+            fails,
+            calls: 0,
+            faults: 0,
+        }
+    }
+
+    /// Numbers the next call and answers whether it fails, which it counts.
+    fn fails_next(&mut self) -> bool
+        ensures list { self.new.fails ≡ self.old.fails }
+        ensures number { self.new.calls ≡ next self.old.calls }
+        ensures listed { IsTrue result ↔ Contains self.old.fails.items self.new.calls }
+        ensures counted { IsTrue result → self.new.faults ≡ next self.old.faults }
+        ensures uncounted { ¬ IsTrue result → self.new.faults ≡ self.old.faults }
+        ensures later { self.old.faults ≤ self.new.faults }
+    {
+        self.calls = self.calls.saturating_add(1);
+        let fails = self.fails.contains(&self.calls);
+        if fails {
+            self.faults = self.faults.saturating_add(1);
+        }
+        fails
+    }
+}
+
+/// Copies as many bytes of `content` from `at` on as fit into the front of `buf`, and answers how many.
+fn fill(buf: &mut [u8], content: &[u8], at: usize) -> usize
+    requires { at ≤ length content.now }
+    ensures count { result ≡ min (length (drop at content.now)) (length buf.old) }
+    ensures moved { drop at content.now ≡ take result buf.new ++ drop (at + result) content.now }
 {
-    let count = from.len().min(buf.len());
-    buf[..count].copy_from_slice(&from[..count]);
+    let (_, rest) = content.split_at(at);
+    let count = rest.len().min(buf.len());
+    buf[..count].copy_from_slice(&rest[..count]);
     count
 }
 
@@ -28,9 +69,7 @@ fn fill(buf: &mut [u8], from: &[u8]) -> usize
 pub struct MemSource {
     content: Vec<u8>,
     at: usize,
-    fails: Vec<u64>,
-    calls: u64,
-    faults: u64,
+    schedule: Schedule,
 }
 
 impl Model for MemSource {
@@ -39,7 +78,7 @@ impl Model for MemSource {
 
     ghost Value = { State };
 
-    ghost view = { λ s. record { bytes = drop s.at s.content.items; fails = s.fails.items; calls = s.calls; faults = s.faults } };
+    ghost view = { λ s. record { bytes = drop s.at s.content.items; fails = s.schedule.fails.items; calls = s.schedule.calls; faults = s.schedule.faults } };
 
     ghost invariant = { λ s. s.at ≤ length s.content.items };
 }
@@ -52,9 +91,7 @@ impl MemSource {
         MemSource {
             content,
             at: 0,
-            fails,
-            calls: 0,
-            faults: 0,
+            schedule: Schedule::new(fails),
         }
     }
 }
@@ -74,12 +111,10 @@ impl Source for MemSource {
         ensures most { IfOk result (λ count. count ≡ min (length self.old.bytes) (length buf.old)) }
         ensures listed { FailsAsListed IsErr self.old self.new result }
     {
-        self.calls = self.calls.saturating_add(1);
-        if self.fails.contains(&self.calls) {
-            self.faults = self.faults.saturating_add(1);
+        if self.schedule.fails_next() {
             return Err(Failed);
         }
-        let count = fill(buf, &self.content[self.at..]);
+        let count = fill(buf, &self.content, self.at);
         self.at += count;
         Ok(count)
     }
@@ -89,9 +124,7 @@ impl Source for MemSource {
 #[derive(Drop)]
 pub struct MemSink {
     content: Vec<u8>,
-    fails: Vec<u64>,
-    calls: u64,
-    faults: u64,
+    schedule: Schedule,
 }
 
 impl Model for MemSink {
@@ -99,7 +132,7 @@ impl Model for MemSink {
 
     ghost Value = { State };
 
-    ghost view = { λ s. record { bytes = s.content.items; fails = s.fails.items; calls = s.calls; faults = s.faults } };
+    ghost view = { λ s. record { bytes = s.content.items; fails = s.schedule.fails.items; calls = s.schedule.calls; faults = s.schedule.faults } };
 }
 
 impl MemSink {
@@ -109,9 +142,7 @@ impl MemSink {
     {
         MemSink {
             content,
-            fails,
-            calls: 0,
-            faults: 0,
+            schedule: Schedule::new(fails),
         }
     }
 
@@ -138,9 +169,7 @@ impl Sink for MemSink {
         ensures whole { IfOk result (λ count. count ≡ length piece.now) }
         ensures listed { FailsAsListed (λ r. IsErrOf r OutError.Failed) self.old self.new result }
     {
-        self.calls = self.calls.saturating_add(1);
-        if self.fails.contains(&self.calls) {
-            self.faults = self.faults.saturating_add(1);
+        if self.schedule.fails_next() {
             return Err(OutError::Failed);
         }
         match self.content.extend_from_slice(piece) {
