@@ -1,0 +1,21 @@
+-- What contracts see of a source and a sink in memory.
+use Rattle.std.specs.Prelude.{ℕ, ◌+◌, ◌-◌, ◌^◌, min, List, Result, Contains, ◌↔◌, ◌≡◌}
+
+-- the bytes left or held, the numbers of the calls that are to fail, the calls so far and the faults so far
+pub record State : Type 0 where
+  pub bytes : List ℕ
+  pub fails : List ℕ
+  pub calls : ℕ
+  pub faults : ℕ
+
+-- one more, up to the largest `u64`
+abbrev pub next : ℕ → ℕ
+next n = min (n + 1) (2 ^ 64 - 1)
+
+-- the call takes the next number, fails exactly where that number is listed, and is counted as a fault exactly there
+pub record FailsAsListed {T E : Type 0} (IsFault : Result T E → Type 0) (old new : State) (result : Result T E) : Type 0 where
+  pub list : new.fails ≡ old.fails
+  pub number : new.calls ≡ next old.calls
+  pub listed : IsFault result ↔ Contains old.fails new.calls
+  pub counted : IsFault result → new.faults ≡ next old.faults
+  pub uncounted : ¬ IsFault result → new.faults ≡ old.faults

@@ -1,0 +1,15 @@
+//! The outside as two traits: a `Source` gives bytes and a `Sink` takes them.
+//!
+//! Each object may tell the bytes that it has left or holds, and counts its faults: a call answers that it failed only where that count has risen. On them
+//! stand `read_to_end` and `write_all`, and two objects in memory that fail at chosen calls.
+#![tactic(auto)]
+
+mod memory;
+mod sink;
+mod source;
+mod streams;
+
+pub use memory::{MemSink, MemSource};
+pub use sink::{OutError, Sink};
+pub use source::{Failed, Source};
+pub use streams::{MOST, ReadError, read_to_end, write_all};
