@@ -1,0 +1,49 @@
+//! Bytes by their class.
+
+ghost use Rattle.std.specs.Prelude.{◌≡◌, ◌≤◌, length};
+ghost use Rattle.cj_lex.specs.Cut as cut;
+
+/// What a byte may be part of.
+#[derive(Clone, Copy, Debug)]
+pub enum Class {
+    Blank,
+    Digit,
+    /// What a word begins with.
+    Letter,
+    /// What a word goes on with.
+    Word,
+}
+
+pub fn is_in(class: Class, b: u8) -> bool
+    ensures { result ≡ cut.is_in class b }
+{
+    match class {
+        Class::Blank => b == b' ' || b == b'\t' || b == b'\n' || b == b'\r',
+        Class::Digit => b.is_ascii_digit(),
+        Class::Letter => b.is_ascii_alphabetic() || b == b'_',
+        Class::Word => b.is_ascii_alphabetic() || b == b'_' || b.is_ascii_digit(),
+    }
+}
+
+/// Whether the text begins with a byte of the class.
+pub fn begins(class: Class, text: &[u8]) -> bool
+    ensures { result ≡ cut.begins class text.now }
+{
+    match text {
+        [] => false,
+        [b, ..] => is_in(class, *b),
+    }
+}
+
+/// How many bytes at the front are of the class.
+#[tactic(auto, unfolding(crate::specs::Cut::count))]
+pub fn count(class: Class, text: &[u8]) -> usize
+    ensures value { result ≡ cut.count class text.now }
+    ensures within { result ≤ length text.now }
+{
+    let mut n = 0;
+    while n < text.len() && is_in(class, text[n]) {
+        n += 1;
+    }
+    n
+}

@@ -1,0 +1,57 @@
+//! Strings.
+
+ghost use Rattle.std.specs.Prelude.{◌≡◌, IfOk, false};
+ghost use Rattle.cj_lex.specs.Cut as cut;
+ghost use Rattle.cj_lex.specs.Cut.{Closes, CutsOne};
+
+use crate::error::SqlError;
+use cj_model::{Text, Token};
+use std::alloc::{AllocError, Global};
+
+/// The most bytes of a string's value.
+const STRING_LIMIT: usize = 4096;
+
+/// What stands before the closing quote, with each quote once, and the text after it.
+type Closed<'a> = Option<(Vec<u8>, &'a [u8])>;
+
+#[tactic(auto, using(crate::proofs::Steps::behind_more))]
+fn closing(alloc: Global, mut text: &[u8]) -> Result<Closed<'_>, AllocError>
+    ensures { IfOk result (Closes (cut.closing false text.entry.now)) }
+{
+    let mut found = Vec::new(alloc);
+    let mut after_quote = false;
+    while let [b, rest @ ..] = text {
+        if after_quote && *b != b'\'' {
+            return Ok(Some((found, text)));
+        }
+        if !after_quote && *b == b'\'' {
+            after_quote = true;
+        } else {
+            found.push(*b)?;
+            after_quote = false;
+        }
+        text = rest;
+    }
+    if after_quote {
+        Ok(Some((found, text)))
+    } else {
+        Ok(None)
+    }
+}
+
+/// The string whose opening quote stands before this text.
+#[tactic(auto, unfolding(crate::specs::Cut::cut_string))]
+pub fn cut_string(alloc: Global, text: &[u8]) -> Result<(Token, &[u8]), SqlError>
+    ensures { CutsOne (cut.cut_string text.now) result }
+{
+    let Some((bytes, rest)) = closing(alloc, text)? else {
+        return Err(SqlError::Syntax);
+    };
+    if bytes.len() > STRING_LIMIT {
+        return Err(SqlError::Syntax);
+    }
+    match Text::of(bytes) {
+        Some(text) => Ok((Token::Text(text), rest)),
+        None => Err(SqlError::Syntax),
+    }
+}
