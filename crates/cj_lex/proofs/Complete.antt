@@ -1,20 +1,21 @@
 -- What is spelled so is cut.
-use Rattle.std.proofs.Common.{◌≡◌, ◌∙◌, refl, sym, ap, subst, ℕ, zero, suc, ◌+◌, ◌-◌, ◌≤◌, ◌<◌, ◌^◌, Bool, true, false, ◌&&◌, ◌||◌, ◌==◌, nat_lt, nat_le, cond, List, [], ◌∷◌, ◌++◌, append_assoc, length, map, take, drop, Option, Some, None, ◌⊎◌, inl, inr, arith, rules}
+use Rattle.std.proofs.Common.{◌≡◌, refl, ℕ, suc, ◌+◌, ◌≤◌, ◌^◌, Bool, true, false, ◌||◌, ◌==◌, nat_le, cond, List, [], ◌∷◌, ◌++◌, append_assoc, length, map, Option, Some, None, inl, inr, arith}
 use Rattle.std.specs.List.{prefix_len}
 use Rattle.std.specs.Char.{is_ascii_digit}
 use Rattle.std.proofs.lemmas.Bool.Decides.{nat_tests}
 use Rattle.std.proofs.Math.Seq.{take-append_seam, drop-append_seam}
-use Rattle.cj_model.specs.Words.{lower, is_text, name_of}
+use Rattle.cj_model.specs.Words.{lower, is_text}
 use Rattle.cj_model.specs.declared.token.Keyword.{Keyword}
 use Rattle.cj_model.specs.declared.token.Symbol.{Symbol}
 use Rattle.cj_model.specs.declared.token.Symbol.TheVariants as symbol
 use Rattle.cj_model.specs.declared.token.Token.{Token}
 use Rattle.cj_model.specs.declared.token.Token.TheVariants as token
-use Rattle.cj_model.specs.Lexical.{is_blank, is_letter, is_word, Each, EndsBefore, IsWord, IsDigits, value, doubled, keyword, IsSymbol, Spells, Ends, First}
+use Rattle.cj_model.specs.Lexical.{is_blank, is_letter, is_word, Each, EndsBefore, IsWord, value, doubled, keyword, IsSymbol, Spells, Ends, First}
 use Rattle.cj_lex.specs.declared.bytes.Class.TheVariants as class
 use Rattle.cj_lex.specs.Cut as reader
 use Rattle.cj_lex.specs.Cut.{Cut, finished, bad, cut, Closed, unclosed, closed, count, is_in, begins, begins_with, reserved_or_name, word_token, closing, behind}
 use Rattle.cj_lex.proofs.Names.{word_is_name}
+
 -- What is spelled so is cut.
 
 -- ---- bytes
@@ -82,8 +83,9 @@ closing_complete : (x r : List ℕ) → EndsBefore (λ b. b == 39) r → closing
 closing_complete [] r h = closing_end r h
 closing_complete (b ∷ x) r h =
     elim (b == 39) as (λ v. (b == 39) ≡ v → closing false (cond v (39 ∷ 39 ∷ doubled x) (b ∷ doubled x) ++ 39 ∷ r) ≡ closed (b ∷ x) r) [
-        true ↦ λ e. let same : b ≡ 39 = grind (arith, nat_tests, e) in rw (closing_complete x r h, same) refl
-      | false ↦ λ e. rw (e, closing_complete x r h) refl ] refl
+      | true ↦ λ e. let same : b ≡ 39 = grind (arith, nat_tests, e) in rw (closing_complete x r h, same) refl
+      | false ↦ λ e. rw (e, closing_complete x r h) refl
+    ] refl
 
 string_complete : (x rest : List ℕ) → is_text x ≡ true → length x ≤ 4096 → EndsBefore (λ b. b == 39) rest → reader.cut_string (doubled x ++ 39 ∷ rest) ≡ cut (token.Text x) rest
 unfolding reader.cut_string

@@ -1,24 +1,23 @@
 -- The tokens of a whole text, one after another.
-use Rattle.std.proofs.Common.{◌≡◌, ◌∙◌, refl, sym, ap, subst, ℕ, zero, suc, ◌+◌, ◌≤◌, ◌<◌, ◌^◌, Bool, true, false, ◌&&◌, ◌==◌, nat_le, cond, List, [], ◌∷◌, ◌++◌, append_assoc, append-nil, length, length-append, take, drop, Option, Some, None, Ok, Err, inl, inr, arith}
+use Rattle.std.proofs.Common.{◌≡◌, ◌∙◌, refl, sym, ap, subst, ℕ, ◌<◌, Bool, true, false, ◌==◌, cond, List, [], ◌∷◌, ◌++◌, append_assoc, append-nil, length, length-append, take, drop, Option, Some, None, Err, inl, inr, arith}
 use Rattle.std.specs.List.{prefix_len}
 use Rattle.std.specs.Char.{is_ascii_digit}
 use Rattle.std.proofs.lemmas.List.{take-append-drop}
 use Rattle.std.proofs.Math.Seq.{drop-append_seam}
-use Rattle.cj_model.specs.Words.{lower, is_text, name_of}
 use Rattle.cj_model.specs.declared.token.Symbol.{Symbol}
 use Rattle.cj_model.specs.declared.token.Symbol.TheVariants as symbol
 use Rattle.cj_model.specs.declared.token.Token.{Token}
 use Rattle.cj_model.specs.declared.token.Token.TheVariants as token
-use Rattle.cj_model.specs.Lexical.{is_blank, is_letter, is_word, Each, EndsBefore, IsSymbol, Spells, First, Tokens}
+use Rattle.cj_model.specs.Lexical.{is_blank, is_letter, Each, IsSymbol, Spells, Tokens}
 use Rattle.cj_lex.specs.declared.error.SqlError.{SqlError}
 use Rattle.cj_lex.specs.declared.error.SqlError.TheVariants.{Syntax, NoMemory}
-use Rattle.cj_lex.specs.declared.bytes.Class.TheVariants as class
 use Rattle.cj_lex.specs.Read.{TokensRead}
 use Rattle.cj_lex.specs.Cut as reader
 use Rattle.cj_lex.specs.Cut.{finished, bad, cut, Closed, unclosed, closed, count, begins_with, closing}
 use Rattle.cj_lex.proofs.Choices.{chosen}
 use Rattle.cj_lex.proofs.Sound.{first_sound, front_each}
 use Rattle.cj_lex.proofs.Complete.{first_complete, prefix_all}
+
 -- The tokens of a whole text, one after another.
 
 pub record Rest (found : List Token) (left : List ℕ) (all : List Token) : Type 0 where
@@ -82,18 +81,33 @@ exclamation_some z h = elim (chosen (begins_with 61 z) _ _ _ h) [ inl e ↦ let 
 symbol_some : (b : ℕ) (z : List ℕ) → reader.cut_symbol b z ≡ finished → ⊥
 unfolding reader.cut_symbol
 symbol_some b z h =
-    elim (chosen (b == 60) _ _ _ h) [ inl e ↦ less_some z e.1 | inr h1 ↦
-    elim (chosen (b == 62) _ _ _ h1.1) [ inl e ↦ greater_some z e.1 | inr h2 ↦
-    elim (chosen (b == 45) _ _ _ h2.1) [ inl e ↦ hyphen_some z e.1 | inr h3 ↦
-    elim (chosen (b == 33) _ _ _ h3.1) [ inl e ↦ exclamation_some z e.1 | inr h4 ↦ single_some (reader.single b) z h4.1 ] ] ] ]
+    elim (chosen (b == 60) _ _ _ h) [
+      | inl e ↦ less_some z e.1
+      | inr h1 ↦
+          elim (chosen (b == 62) _ _ _ h1.1) [
+            | inl e ↦ greater_some z e.1
+            | inr h2 ↦
+                elim (chosen (b == 45) _ _ _ h2.1) [
+                  | inl e ↦ hyphen_some z e.1
+                  | inr h3 ↦
+                      elim (chosen (b == 33) _ _ _ h3.1) [ inl e ↦ exclamation_some z e.1 | inr h4 ↦ single_some (reader.single b) z h4.1 ]
+                ]
+          ]
+    ]
 
 finished_nil : (z : List ℕ) → reader.cut_at z ≡ finished → z ≡ []
 unfolding reader.cut_at
 finished_nil [] h = refl
 finished_nil (b ∷ z) h =
-    elim (chosen (is_letter b) _ _ _ h) [ inl e ↦ absurd (word_some (b ∷ z) e.1) | inr h1 ↦
-    elim (chosen (is_ascii_digit b) _ _ _ h1.1) [ inl e ↦ absurd (number_some (b ∷ z) e.1) | inr h2 ↦
-    elim (chosen (b == 39) _ _ _ h2.1) [ inl e ↦ absurd (string_some z e.1) | inr e ↦ absurd (symbol_some b z e.1) ] ] ]
+    elim (chosen (is_letter b) _ _ _ h) [
+      | inl e ↦ absurd (word_some (b ∷ z) e.1)
+      | inr h1 ↦
+          elim (chosen (is_ascii_digit b) _ _ _ h1.1) [
+            | inl e ↦ absurd (number_some (b ∷ z) e.1)
+            | inr h2 ↦
+                elim (chosen (b == 39) _ _ _ h2.1) [ inl e ↦ absurd (string_some z e.1) | inr e ↦ absurd (symbol_some b z e.1) ]
+          ]
+    ]
 
 finished_sound : (z : List ℕ) → reader.first z ≡ finished → Each is_blank z
 unfolding reader.first count
@@ -167,11 +181,11 @@ rest_more found z t rest all (u ∷ more) h e k =
 
 pub leads_more : (text : List ℕ) (found : List Token) (z : List ℕ) (t : Token) (rest : List ℕ) → Leads text found z → reader.first z ≡ cut t rest → Leads text (found ++ t ∷ []) rest
 leads_more text found z t rest l h = record {
-    sound = λ more k.
+  sound = λ more k.
       let P : List Token → Type 0 = Tokens text in
       subst P (sym (append_assoc found (t ∷ []) more)) (l.sound (t ∷ more) (rest, first_sound z t rest h, k));
-    complete = λ all k. let r = l.complete all k in rest_more found z t rest all r.more h r.is r.tokens;
-  }
+  complete = λ all k. let r = l.complete all k in rest_more found z t rest all r.more h r.is r.tokens;
+}
 
 pub leads_end : (text : List ℕ) (found : List Token) (z : List ℕ) → Leads text found z → reader.first z ≡ finished → Tokens text found
 leads_end text found z l h = let P : List Token → Type 0 = Tokens text in subst P (append-nil found) (l.sound [] (finished_sound z h))

@@ -1,8 +1,7 @@
 -- Words and names: in lower case, the words of at most 32 bytes are names.
-use Rattle.std.proofs.Common.{◌≡◌, refl, ap, subst, ℕ, ◌≤◌, Bool, true, false, ◌&&◌, cond, nat_le, List, [], ◌∷◌, length, map, ◌⊎◌, inl, inr, arith}
-use Rattle.std.specs.declared.option.Option.TheVariants.{None, Some}
+use Rattle.std.proofs.Common.{◌≡◌, refl, ℕ, ◌≤◌, true, nat_le, List, [], ◌∷◌, length, map, inl, inr, arith}
+use Rattle.std.specs.declared.option.Option.TheVariants.{Some}
 use Rattle.std.specs.List.{list_all}
-use Rattle.std.specs.Char.{is_ascii_digit}
 use Rattle.std.proofs.lemmas.Bool.Decides.{nat_tests}
 use Rattle.std.proofs.lemmas.List.{length-map}
 use Rattle.cj_model.specs.Words.{lower, begins_name, continues_name, is_spelled_as_name, is_name, name_of}
@@ -41,8 +40,9 @@ name_is bytes name h = elim (chosen (is_name bytes) _ _ _ h) [ inl e ↦ let k =
 pub name_is_short : (z name : List ℕ) → name_of (map lower z) ≡ Some name → length z ≤ 32
 unfolding is_name
 name_is_short z name h = elim (chosen (is_name (map lower z)) _ _ _ h) [
-    inl e ↦
+  | inl e ↦
       let k = both (nat_le (length (map lower z)) 32) (is_spelled_as_name (map lower z)) e.0 in
       let l = length-map z lower in
       grind (arith, nat_tests, k.0, l)
-  | inr e ↦ absurd (let k = e.1 in cc) ]
+  | inr e ↦ absurd (let k = e.1 in cc)
+]

@@ -1,21 +1,21 @@
 -- What is cut is spelled so.
-use Rattle.std.proofs.Common.{◌≡◌, ◌∙◌, refl, sym, ap, subst, ℕ, zero, suc, ◌+◌, ◌-◌, ◌≤◌, ◌<◌, ◌^◌, Bool, true, false, ◌&&◌, ◌||◌, ◌==◌, nat_lt, nat_le, cond, List, [], ◌∷◌, ◌++◌, append_assoc, length, map, take, drop, Option, Some, None, ◌⊎◌, inl, inr, arith, rules}
+use Rattle.std.proofs.Common.{◌≡◌, ◌∙◌, refl, sym, ap, subst, ℕ, suc, ◌+◌, ◌≤◌, ◌^◌, Bool, true, false, ◌&&◌, ◌||◌, ◌==◌, nat_le, cond, List, [], ◌∷◌, ◌++◌, append_assoc, length, map, take, drop, Option, Some, None, inl, inr, arith}
 use Rattle.std.specs.List.{prefix_len}
 use Rattle.std.specs.Char.{is_ascii_digit}
 use Rattle.std.proofs.lemmas.Bool.Decides.{nat_tests}
 use Rattle.std.proofs.lemmas.List.{take-append-drop}
-use Rattle.std.proofs.lemmas.List.Folds.{length-prefix_len}
 use Rattle.cj_model.specs.Words.{lower, is_text, name_of}
 use Rattle.cj_model.specs.declared.token.Symbol.{Symbol}
 use Rattle.cj_model.specs.declared.token.Symbol.TheVariants as symbol
 use Rattle.cj_model.specs.declared.token.Token.{Token}
 use Rattle.cj_model.specs.declared.token.Token.TheVariants as token
-use Rattle.cj_model.specs.Lexical.{is_blank, is_letter, is_word, Each, EndsBefore, IsWord, IsDigits, value, doubled, keyword, IsSymbol, Spells, Ends, First}
+use Rattle.cj_model.specs.Lexical.{is_blank, is_letter, is_word, Each, EndsBefore, IsWord, IsDigits, value, doubled, keyword, Spells, Ends, First}
 use Rattle.cj_lex.specs.declared.bytes.Class.TheVariants as class
 use Rattle.cj_lex.specs.Cut as reader
 use Rattle.cj_lex.specs.Cut.{Cut, finished, bad, cut, Closed, unclosed, closed, count, is_in, begins, begins_with, reserved_or_name, word_token, closing, behind}
 use Rattle.cj_lex.proofs.Choices.{chosen, both, equal}
 use Rattle.cj_lex.proofs.Names.{name_is, name_is_short}
+
 -- What is cut is spelled so.
 
 -- ---- the bytes at the front that pass
@@ -30,15 +30,17 @@ pub front_each : (q : ℕ → Bool) (z : List ℕ) → Each q (front q z)
 front_each q [] = tt
 front_each q (b ∷ z) =
     elim (q b) as (λ v. q b ≡ v → Each q (take (cond v (1 + prefix_len q z) 0) (b ∷ z))) [
-        true ↦ λ e. let one : 1 + prefix_len q z ≡ suc (prefix_len q z) = omega arith in rw one (e, front_each q z)
-      | false ↦ λ e. tt ] refl
+      | true ↦ λ e. let one : 1 + prefix_len q z ≡ suc (prefix_len q z) = omega arith in rw one (e, front_each q z)
+      | false ↦ λ e. tt
+    ] refl
 
 pub past_ends : (q : ℕ → Bool) (z : List ℕ) → EndsBefore q (past q z)
 past_ends q [] = tt
 past_ends q (b ∷ z) =
     elim (q b) as (λ v. q b ≡ v → EndsBefore q (drop (cond v (1 + prefix_len q z) 0) (b ∷ z))) [
-        true ↦ λ e. let one : 1 + prefix_len q z ≡ suc (prefix_len q z) = omega arith in rw one (past_ends q z)
-      | false ↦ λ e. e ] refl
+      | true ↦ λ e. let one : 1 + prefix_len q z ≡ suc (prefix_len q z) = omega arith in rw one (past_ends q z)
+      | false ↦ λ e. e
+    ] refl
 
 -- a first byte that passes is part of the front
 pub front_first : (q : ℕ → Bool) (b : ℕ) (z : List ℕ) → q b ≡ true → front q (b ∷ z) ≡ b ∷ front q z
@@ -88,8 +90,9 @@ moved z a t r rest h s =
 word_spells : (z : List ℕ) → IsWord z → length z ≤ 32 → Spells (word_token (map lower z)) z
 word_spells z w l =
     elim (keyword (map lower z)) as (λ v. keyword (map lower z) ≡ v → Spells (reserved_or_name v (map lower z)) z) [
-        Some k ↦ λ e. (w, l, e)
-      | None ↦ λ e. (w, l, e, refl) ] refl
+      | Some k ↦ λ e. (w, l, e)
+      | None ↦ λ e. (w, l, e, refl)
+    ] refl
 
 word_ends : (x : List ℕ) (rest : List ℕ) → EndsBefore is_word rest → Ends (word_token x) rest
 word_ends x rest h = elim (keyword x) as (λ v. Ends (reserved_or_name v x) rest) [ Some k ↦ h | None ↦ h ]
@@ -115,15 +118,17 @@ word_sound b z t rest h e = cut_name_sound b z (name_of (map lower (front is_wor
 number_sound : (b : ℕ) (z : List ℕ) (t : Token) (rest : List ℕ) → is_ascii_digit b ≡ true → reader.cut_number (b ∷ z) ≡ cut t rest → Starts (b ∷ z) t rest
 unfolding reader.cut_number count
 number_sound b z t rest h e = elim (chosen (begins class.Word (past is_ascii_digit (b ∷ z))) _ _ _ e) [
-    inl f ↦ absurd (cc)
+  | inl f ↦ absurd (cc)
   | inr f ↦ elim (chosen (nat_le (value (front is_ascii_digit (b ∷ z))) (2 ^ 63)) _ _ _ f.1) [
-        inl g ↦ moved (b ∷ z) (token.Number (value (front is_ascii_digit (b ∷ z)))) t (past is_ascii_digit (b ∷ z)) rest g.1 (record {
-            spelling = front is_ascii_digit (b ∷ z);
-            text_is = sym (take-append-drop (prefix_len is_ascii_digit (b ∷ z)) (b ∷ z));
-            spells = (digits_front b z h, refl, grind (arith, nat_tests, g.0));
-            ends = not_begun _ f.0;
-          })
-      | inr g ↦ absurd (cc) ] ]
+    | inl g ↦ moved (b ∷ z) (token.Number (value (front is_ascii_digit (b ∷ z)))) t (past is_ascii_digit (b ∷ z)) rest g.1 (record {
+      spelling = front is_ascii_digit (b ∷ z);
+      text_is = sym (take-append-drop (prefix_len is_ascii_digit (b ∷ z)) (b ∷ z));
+      spells = (digits_front b z h, refl, grind (arith, nat_tests, g.0));
+      ends = not_begun _ f.0;
+    })
+    | inr g ↦ absurd (cc)
+  ]
+]
 
 -- ---- strings
 
@@ -152,22 +157,28 @@ closing_sound : (z : List ℕ) (second : Bool) (x r : List ℕ) → closing seco
 closing_sound [] false x r h = absurd (cc)
 closing_sound [] true x r h = let e : [] ≡ x = cc in let f : [] ≡ r = cc in rw (← e, ← f) (record { is = refl; ends = tt })
 closing_sound (b ∷ z) false x r h = elim (chosen (b == 39) _ _ _ h) [
-    inl e ↦ let q = closing_sound z true x r e.1 in record { is = rw (equal b 39 e.0) q.is; ends = q.ends }
-  | inr e ↦ elim (behind_is (b ∷ []) (closing false z) x r e.1) [ is_behind y c f ↦
-      let q = closing_sound z false y r c in
-      record { is = rw (f, doubled_other b y e.0) (ap (λ k. b ∷ k) q.is); ends = q.ends } ] ]
+  | inl e ↦ let q = closing_sound z true x r e.1 in record { is = rw (equal b 39 e.0) q.is; ends = q.ends }
+  | inr e ↦ elim (behind_is (b ∷ []) (closing false z) x r e.1) [
+    | is_behind y c f ↦
+        let q = closing_sound z false y r c in
+        record { is = rw (f, doubled_other b y e.0) (ap (λ k. b ∷ k) q.is); ends = q.ends }
+  ]
+]
 closing_sound (b ∷ z) true x r h = elim (chosen (b == 39) _ _ _ h) [
-    inl e ↦ elim (behind_is (39 ∷ []) (closing false z) x r e.1) [ is_behind y c f ↦
-      let q = closing_sound z false y r c in
-      record { is = rw (f, equal b 39 e.0) (ap (λ k. 39 ∷ 39 ∷ k) q.is); ends = q.ends } ]
-  | inr e ↦ let f : [] ≡ x = cc in let g : b ∷ z ≡ r = cc in rw (← f, ← g) (record { is = refl; ends = e.0 }) ]
+  | inl e ↦ elim (behind_is (39 ∷ []) (closing false z) x r e.1) [
+    | is_behind y c f ↦
+        let q = closing_sound z false y r c in
+        record { is = rw (f, equal b 39 e.0) (ap (λ k. 39 ∷ 39 ∷ k) q.is); ends = q.ends }
+  ]
+  | inr e ↦ let f : [] ≡ x = cc in let g : b ∷ z ≡ r = cc in rw (← f, ← g) (record { is = refl; ends = e.0 })
+]
 
 closed_sound : (z : List ℕ) (c : Closed) (t : Token) (rest : List ℕ) → closing false z ≡ c → reader.cut_closed c ≡ cut t rest → Starts (39 ∷ z) t rest
 closed_sound z unclosed t rest e h = absurd (cc)
 closed_sound z (closed x r) t rest e h =
     let q = closing_sound z false x r e in
     elim (chosen (nat_le (length x) 4096 && is_text x) _ _ _ h) [
-        inl f ↦
+      | inl f ↦
           let g = both (nat_le (length x) 4096) (is_text x) f.0 in
           moved (39 ∷ z) (token.Text x) t r rest f.1 (record {
             spelling = 39 ∷ doubled x ++ 39 ∷ [];
@@ -175,7 +186,8 @@ closed_sound z (closed x r) t rest e h =
             spells = (refl, g.1, grind (arith, nat_tests, g.0));
             ends = q.ends;
           })
-      | inr f ↦ absurd (cc) ]
+      | inr f ↦ absurd (cc)
+    ]
 
 string_sound : (z : List ℕ) (t : Token) (rest : List ℕ) → reader.cut_string z ≡ cut t rest → Starts (39 ∷ z) t rest
 unfolding reader.cut_string
@@ -188,25 +200,30 @@ sign x = token.Symbol x
 
 less_sound : (z : List ℕ) (t : Token) (rest : List ℕ) → reader.less z ≡ cut t rest → Starts (60 ∷ z) t rest
 less_sound z t rest h = elim (chosen (begins_with 61 z) _ _ _ h) [
-    inl e ↦ moved (60 ∷ z) (sign symbol.Le) t (drop 1 z) rest e.1 (record { spelling = 60 ∷ 61 ∷ []; text_is = ap (λ k. 60 ∷ k) (begun_with 61 z e.0); spells = refl; ends = tt })
+  | inl e ↦ moved (60 ∷ z) (sign symbol.Le) t (drop 1 z) rest e.1 (record { spelling = 60 ∷ 61 ∷ []; text_is = ap (λ k. 60 ∷ k) (begun_with 61 z e.0); spells = refl; ends = tt })
   | inr e ↦ elim (chosen (begins_with 62 z) _ _ _ e.1) [
-        inl f ↦ moved (60 ∷ z) (sign symbol.Ne) t (drop 1 z) rest f.1 (record { spelling = 60 ∷ 62 ∷ []; text_is = ap (λ k. 60 ∷ k) (begun_with 62 z f.0); spells = inl refl; ends = tt })
-      | inr f ↦ moved (60 ∷ z) (sign symbol.Lt) t z rest f.1 (record { spelling = 60 ∷ []; text_is = refl; spells = refl; ends = neither z e.0 f.0 }) ] ]
+    | inl f ↦ moved (60 ∷ z) (sign symbol.Ne) t (drop 1 z) rest f.1 (record { spelling = 60 ∷ 62 ∷ []; text_is = ap (λ k. 60 ∷ k) (begun_with 62 z f.0); spells = inl refl; ends = tt })
+    | inr f ↦ moved (60 ∷ z) (sign symbol.Lt) t z rest f.1 (record { spelling = 60 ∷ []; text_is = refl; spells = refl; ends = neither z e.0 f.0 })
+  ]
+]
 
 greater_sound : (z : List ℕ) (t : Token) (rest : List ℕ) → reader.greater z ≡ cut t rest → Starts (62 ∷ z) t rest
 greater_sound z t rest h = elim (chosen (begins_with 61 z) _ _ _ h) [
-    inl e ↦ moved (62 ∷ z) (sign symbol.Ge) t (drop 1 z) rest e.1 (record { spelling = 62 ∷ 61 ∷ []; text_is = ap (λ k. 62 ∷ k) (begun_with 61 z e.0); spells = refl; ends = tt })
-  | inr e ↦ moved (62 ∷ z) (sign symbol.Gt) t z rest e.1 (record { spelling = 62 ∷ []; text_is = refl; spells = refl; ends = not_begun_with 61 z e.0 }) ]
+  | inl e ↦ moved (62 ∷ z) (sign symbol.Ge) t (drop 1 z) rest e.1 (record { spelling = 62 ∷ 61 ∷ []; text_is = ap (λ k. 62 ∷ k) (begun_with 61 z e.0); spells = refl; ends = tt })
+  | inr e ↦ moved (62 ∷ z) (sign symbol.Gt) t z rest e.1 (record { spelling = 62 ∷ []; text_is = refl; spells = refl; ends = not_begun_with 61 z e.0 })
+]
 
 hyphen_sound : (z : List ℕ) (t : Token) (rest : List ℕ) → reader.hyphen z ≡ cut t rest → Starts (45 ∷ z) t rest
 hyphen_sound z t rest h = elim (chosen (begins_with 45 z) _ _ _ h) [
-    inl e ↦ absurd (cc)
-  | inr e ↦ moved (45 ∷ z) (sign symbol.Minus) t z rest e.1 (record { spelling = 45 ∷ []; text_is = refl; spells = refl; ends = not_begun_with 45 z e.0 }) ]
+  | inl e ↦ absurd (cc)
+  | inr e ↦ moved (45 ∷ z) (sign symbol.Minus) t z rest e.1 (record { spelling = 45 ∷ []; text_is = refl; spells = refl; ends = not_begun_with 45 z e.0 })
+]
 
 exclamation_sound : (z : List ℕ) (t : Token) (rest : List ℕ) → reader.exclamation z ≡ cut t rest → Starts (33 ∷ z) t rest
 exclamation_sound z t rest h = elim (chosen (begins_with 61 z) _ _ _ h) [
-    inl e ↦ moved (33 ∷ z) (sign symbol.Ne) t (drop 1 z) rest e.1 (record { spelling = 33 ∷ 61 ∷ []; text_is = ap (λ k. 33 ∷ k) (begun_with 61 z e.0); spells = inr refl; ends = tt })
-  | inr e ↦ absurd (cc) ]
+  | inl e ↦ moved (33 ∷ z) (sign symbol.Ne) t (drop 1 z) rest e.1 (record { spelling = 33 ∷ 61 ∷ []; text_is = ap (λ k. 33 ∷ k) (begun_with 61 z e.0); spells = inr refl; ends = tt })
+  | inr e ↦ absurd (cc)
+]
 
 -- a symbol of one byte that nothing can follow to make another one
 record Single (b : ℕ) (x : Symbol) : Type 0 where
@@ -224,14 +241,35 @@ byte_is b c x y h e s =
 single_sound : (b : ℕ) (x : Symbol) → reader.single b ≡ Some x → Single b x
 unfolding reader.single
 single_sound b x h =
-    elim (chosen (b == 40) _ _ _ h) [ inl e ↦ byte_is b 40 symbol.Open x e.0 e.1 (record { spells = refl; ends = λ r. tt }) | inr h1 ↦
-    elim (chosen (b == 41) _ _ _ h1.1) [ inl e ↦ byte_is b 41 symbol.Close x e.0 e.1 (record { spells = refl; ends = λ r. tt }) | inr h2 ↦
-    elim (chosen (b == 44) _ _ _ h2.1) [ inl e ↦ byte_is b 44 symbol.Comma x e.0 e.1 (record { spells = refl; ends = λ r. tt }) | inr h3 ↦
-    elim (chosen (b == 46) _ _ _ h3.1) [ inl e ↦ byte_is b 46 symbol.Dot x e.0 e.1 (record { spells = refl; ends = λ r. tt }) | inr h4 ↦
-    elim (chosen (b == 42) _ _ _ h4.1) [ inl e ↦ byte_is b 42 symbol.Star x e.0 e.1 (record { spells = refl; ends = λ r. tt }) | inr h5 ↦
-    elim (chosen (b == 59) _ _ _ h5.1) [ inl e ↦ byte_is b 59 symbol.Semi x e.0 e.1 (record { spells = refl; ends = λ r. tt }) | inr h6 ↦
-    elim (chosen (b == 61) _ _ _ h6.1) [ inl e ↦ byte_is b 61 symbol.Eq x e.0 e.1 (record { spells = refl; ends = λ r. tt }) | inr h7 ↦
-    elim (chosen (b == 43) _ _ _ h7.1) [ inl e ↦ byte_is b 43 symbol.Plus x e.0 e.1 (record { spells = refl; ends = λ r. tt }) | inr h8 ↦ absurd (let n = h8.1 in cc) ] ] ] ] ] ] ] ]
+    elim (chosen (b == 40) _ _ _ h) [
+      | inl e ↦ byte_is b 40 symbol.Open x e.0 e.1 (record { spells = refl; ends = λ r. tt })
+      | inr h1 ↦
+          elim (chosen (b == 41) _ _ _ h1.1) [
+            | inl e ↦ byte_is b 41 symbol.Close x e.0 e.1 (record { spells = refl; ends = λ r. tt })
+            | inr h2 ↦
+                elim (chosen (b == 44) _ _ _ h2.1) [
+                  | inl e ↦ byte_is b 44 symbol.Comma x e.0 e.1 (record { spells = refl; ends = λ r. tt })
+                  | inr h3 ↦
+                      elim (chosen (b == 46) _ _ _ h3.1) [
+                        | inl e ↦ byte_is b 46 symbol.Dot x e.0 e.1 (record { spells = refl; ends = λ r. tt })
+                        | inr h4 ↦
+                            elim (chosen (b == 42) _ _ _ h4.1) [
+                              | inl e ↦ byte_is b 42 symbol.Star x e.0 e.1 (record { spells = refl; ends = λ r. tt })
+                              | inr h5 ↦
+                                  elim (chosen (b == 59) _ _ _ h5.1) [
+                                    | inl e ↦ byte_is b 59 symbol.Semi x e.0 e.1 (record { spells = refl; ends = λ r. tt })
+                                    | inr h6 ↦
+                                        elim (chosen (b == 61) _ _ _ h6.1) [
+                                          | inl e ↦ byte_is b 61 symbol.Eq x e.0 e.1 (record { spells = refl; ends = λ r. tt })
+                                          | inr h7 ↦
+                                              elim (chosen (b == 43) _ _ _ h7.1) [ inl e ↦ byte_is b 43 symbol.Plus x e.0 e.1 (record { spells = refl; ends = λ r. tt }) | inr h8 ↦ absurd (let n = h8.1 in cc) ]
+                                        ]
+                                  ]
+                            ]
+                      ]
+                ]
+          ]
+    ]
 
 cut_single_sound : (o : Option Symbol) (b : ℕ) (z : List ℕ) (t : Token) (rest : List ℕ) → reader.single b ≡ o → reader.cut_single o z ≡ cut t rest → Starts (b ∷ z) t rest
 cut_single_sound None b z t rest e h = absurd (cc)
@@ -245,11 +283,23 @@ at_byte b c z t rest h s = let P : ℕ → Type 0 = λ k. Starts (k ∷ z) t res
 symbol_sound : (b : ℕ) (z : List ℕ) (t : Token) (rest : List ℕ) → reader.cut_symbol b z ≡ cut t rest → Starts (b ∷ z) t rest
 unfolding reader.cut_symbol
 symbol_sound b z t rest h =
-    elim (chosen (b == 60) _ _ _ h) [ inl e ↦ at_byte b 60 z t rest e.0 (less_sound z t rest e.1) | inr h1 ↦
-    elim (chosen (b == 62) _ _ _ h1.1) [ inl e ↦ at_byte b 62 z t rest e.0 (greater_sound z t rest e.1) | inr h2 ↦
-    elim (chosen (b == 45) _ _ _ h2.1) [ inl e ↦ at_byte b 45 z t rest e.0 (hyphen_sound z t rest e.1) | inr h3 ↦
-    elim (chosen (b == 33) _ _ _ h3.1) [ inl e ↦ at_byte b 33 z t rest e.0 (exclamation_sound z t rest e.1) | inr h4 ↦
-    cut_single_sound (reader.single b) b z t rest refl h4.1 ] ] ] ]
+    elim (chosen (b == 60) _ _ _ h) [
+      | inl e ↦ at_byte b 60 z t rest e.0 (less_sound z t rest e.1)
+      | inr h1 ↦
+          elim (chosen (b == 62) _ _ _ h1.1) [
+            | inl e ↦ at_byte b 62 z t rest e.0 (greater_sound z t rest e.1)
+            | inr h2 ↦
+                elim (chosen (b == 45) _ _ _ h2.1) [
+                  | inl e ↦ at_byte b 45 z t rest e.0 (hyphen_sound z t rest e.1)
+                  | inr h3 ↦
+                      elim (chosen (b == 33) _ _ _ h3.1) [
+                        | inl e ↦ at_byte b 33 z t rest e.0 (exclamation_sound z t rest e.1)
+                        | inr h4 ↦
+                            cut_single_sound (reader.single b) b z t rest refl h4.1
+                      ]
+                ]
+          ]
+    ]
 
 -- ---- the first token
 
@@ -257,10 +307,19 @@ cut_at_sound : (z : List ℕ) (t : Token) (rest : List ℕ) → reader.cut_at z 
 unfolding reader.cut_at
 cut_at_sound [] t rest h = absurd (cc)
 cut_at_sound (b ∷ z) t rest h =
-    elim (chosen (is_letter b) _ _ _ h) [ inl e ↦ word_sound b z t rest e.0 e.1 | inr h1 ↦
-    elim (chosen (is_ascii_digit b) _ _ _ h1.1) [ inl e ↦ number_sound b z t rest e.0 e.1 | inr h2 ↦
-    elim (chosen (b == 39) _ _ _ h2.1) [ inl e ↦ at_byte b 39 z t rest e.0 (string_sound z t rest e.1) | inr h3 ↦
-    symbol_sound b z t rest h3.1 ] ] ]
+    elim (chosen (is_letter b) _ _ _ h) [
+      | inl e ↦ word_sound b z t rest e.0 e.1
+      | inr h1 ↦
+          elim (chosen (is_ascii_digit b) _ _ _ h1.1) [
+            | inl e ↦ number_sound b z t rest e.0 e.1
+            | inr h2 ↦
+                elim (chosen (b == 39) _ _ _ h2.1) [
+                  | inl e ↦ at_byte b 39 z t rest e.0 (string_sound z t rest e.1)
+                  | inr h3 ↦
+                      symbol_sound b z t rest h3.1
+                ]
+          ]
+    ]
 
 pub first_sound : (z : List ℕ) (t : Token) (rest : List ℕ) → reader.first z ≡ cut t rest → First z t rest
 unfolding reader.first count

@@ -1,8 +1,9 @@
 -- One more byte of a string or of a number.
-use Rattle.std.proofs.Common.{◌≡◌, ℕ, ◌+◌, ◌-◌, ◌*◌, ◌^◌, ◌<◌, min, fold, List, [], ◌∷◌, ◌++◌, length, take, get_or, refl, ap, append_assoc, arith}
+use Rattle.std.proofs.Common.{◌≡◌, ℕ, ◌+◌, ◌-◌, ◌*◌, ◌^◌, ◌<◌, min, List, ◌++◌, length, take, get_or, refl, ap, append_assoc, arith}
 use Rattle.std.proofs.lemmas.List.Sums.{fold_more}
 use Rattle.cj_model.specs.Lexical.{value}
 use Rattle.cj_lex.specs.Cut.{Closed, unclosed, closed, behind}
+
 -- One more byte of a string or of a number.
 
 pub behind_more : (front more : List ℕ) (c : Closed) → behind (front ++ more) c ≡ behind front (behind more c)

@@ -19,6 +19,7 @@ loop-found-preserved c =
 
 pub returns : goal.returns
 returns c =
-    let k = rw c.in_default.is at c.in_ok-token.ensures in
-    (leads_end c.args.text.now c.loop-found.found.items c.loop-found.left.now c.loop-found.invariant k,
-     leads_only c.args.text.now c.loop-found.found.items c.loop-found.left.now c.loop-found.invariant k)
+    let k = rw c.in_default.is at c.in_ok-token.ensures in (
+      leads_end c.args.text.now c.loop-found.found.items c.loop-found.left.now c.loop-found.invariant k,
+      leads_only c.args.text.now c.loop-found.found.items c.loop-found.left.now c.loop-found.invariant k,
+    )
