@@ -1,0 +1,84 @@
+//! What an answer's payload is made of, counted and spelled.
+
+ghost use Rattle.std.specs.Prelude.{◌≡◌, ◌≤◌, ◌++◌, ℕ, List, length, OnOk};
+ghost use Rattle.std.specs.List.{flat_map};
+ghost use Rattle.cj_model.specs.Fields.{str16};
+ghost use Rattle.cj_model.specs.Frames.{frame_limit};
+ghost use Rattle.cj_model.specs.Replies.{value_bytes};
+ghost use Rattle.cj_reply.specs.Encode.{capped};
+
+use cj_model::{ListOf, Name, NoMemory, Value};
+
+/// A part of a payload.
+pub trait Part {
+    ghost bytes: { Self → List ℕ };
+
+    /// How many bytes it has; 2^64-1 where there are more.
+    fn size(&self) -> u64
+        ensures { result ≡ capped (length (bytes self.now)) };
+
+    /// Adds its bytes to a frame.
+    fn append(&self, frame: &mut Vec<u8>) -> Result<(), NoMemory>
+        requires { length (bytes self.now) ≤ frame_limit }
+        ensures { OnOk result (frame.new.items ≡ frame.old.items ++ bytes self.now) };
+}
+
+impl Part for Name {
+    ghost bytes = { str16 };
+
+    fn size(&self) -> u64 {
+        2 + self.as_slice().len() as u64
+    }
+
+    fn append(&self, frame: &mut Vec<u8>) -> Result<(), NoMemory> {
+        let name = self.as_slice();
+        frame.extend_from_slice(&(name.len() as u16).to_be_bytes())?;
+        frame.extend_from_slice(name)?;
+        Ok(())
+    }
+}
+
+impl Part for Value {
+    ghost bytes = { value_bytes };
+
+    fn size(&self) -> u64 {
+        match self {
+            Value::Int(_) => 9,
+            Value::Text(text) => (text.len() as u64).saturating_add(5),
+        }
+    }
+
+    fn append(&self, frame: &mut Vec<u8>) -> Result<(), NoMemory> {
+        match self {
+            Value::Int(number) => {
+                frame.push(1)?;
+                frame.extend_from_slice(&number.to_be_bytes())?;
+            }
+            Value::Text(text) => {
+                frame.push(2)?;
+                frame.extend_from_slice(&(text.len() as u32).to_be_bytes())?;
+                frame.extend_from_slice(text.as_slice())?;
+            }
+        }
+        Ok(())
+    }
+}
+
+impl<T: Part> Part for ListOf<T> {
+    ghost bytes = { flat_map T.bytes };
+
+    fn size(&self) -> u64 {
+        let mut total: u64 = 0;
+        for part in self.as_slice() {
+            total = total.saturating_add(part.size());
+        }
+        total
+    }
+
+    fn append(&self, frame: &mut Vec<u8>) -> Result<(), NoMemory> {
+        for part in self.as_slice() {
+            part.append(frame)?;
+        }
+        Ok(())
+    }
+}

@@ -1,0 +1,138 @@
+//! Replies as bytes.
+
+ghost use Rattle.std.specs.Prelude.{◌≡◌, ◌≤◌, ◌++◌, IfOk, OnOk};
+ghost use Rattle.cj_model.specs.Frames.{frame_limit};
+ghost use Rattle.cj_model.specs.Replies.{reply_body, reply_bytes, reply_length, IsEven};
+ghost use Rattle.cj_model.specs.declared.answer.Reply.TheVariants.{Done, Rows, Stats, Refused};
+ghost use Rattle.cj_reply.specs.Encode.{capped, Encodes, IsSendable};
+
+use crate::part::Part;
+use cj_model::{Answer, FRAME_LIMIT, NoMemory, Refusal, Reply};
+use std::alloc::Global;
+use thiserror::Error;
+
+/// Why a reply has no frame.
+#[derive(Clone, Copy, Debug, PartialEq, Eq, Error)]
+pub enum ReplyError {
+    /// Kind and payload have so many bytes, or 2^64-1 where there are more.
+    #[error("a reply of {0} bytes")]
+    TooLarge(u64),
+    #[error("out of memory")]
+    NoMemory,
+}
+
+impl From<NoMemory> for ReplyError {
+    ghost use Rattle.std.specs.Prelude.{◌≡◌};
+    ghost use Rattle.cj_reply.specs.declared.reply.ReplyError.TheVariants as errors;
+
+    ghost from_gives = { λ _ e. e ≡ errors.NoMemory };
+
+    fn from(_error: NoMemory) -> ReplyError {
+        ReplyError::NoMemory
+    }
+}
+
+/// The frame of a count.
+pub fn encode_done(count: u64) -> [u8; 13]
+    ensures { result ≡ reply_bytes (Done count) }
+{
+    let c = count.to_be_bytes();
+    [
+        0, 0, 0, 9, 0x81, c[0], c[1], c[2], c[3], c[4], c[5], c[6], c[7],
+    ]
+}
+
+/// The frame of the result cache's hits and misses.
+pub fn encode_stats(hits: u64, misses: u64) -> [u8; 21]
+    ensures { result ≡ reply_bytes (Stats hits misses) }
+{
+    let h = hits.to_be_bytes();
+    let m = misses.to_be_bytes();
+    [
+        0, 0, 0, 17, 0x83, h[0], h[1], h[2], h[3], h[4], h[5], h[6], h[7], m[0], m[1], m[2], m[3],
+        m[4], m[5], m[6], m[7],
+    ]
+}
+
+/// The frame of a refusal.
+pub fn encode_refused(refusal: Refusal) -> [u8; 23]
+    ensures { result ≡ reply_bytes (Refused refusal) }
+{
+    let c = refusal.code.to_be_bytes();
+    let a = refusal.a.to_be_bytes();
+    let b = refusal.b.to_be_bytes();
+    [
+        0, 0, 0, 19, 0x8f, c[0], c[1], a[0], a[1], a[2], a[3], a[4], a[5], a[6], a[7], b[0], b[1],
+        b[2], b[3], b[4], b[5], b[6], b[7],
+    ]
+}
+
+/// How many bytes an answer's kind and payload have; 2^64-1 where there are more.
+fn answer_size(answer: &Answer) -> u64
+    ensures { result ≡ capped (reply_length (Rows answer.now)) }
+{
+    answer
+        .columns
+        .size()
+        .saturating_add(answer.rows.size())
+        .saturating_add(7)
+}
+
+/// Adds an answer's kind and payload to a frame.
+fn append_answer(frame: &mut Vec<u8>, answer: &Answer) -> Result<(), NoMemory>
+    requires even { IsEven answer.now }
+    requires size { reply_length (Rows answer.now) ≤ frame_limit }
+    ensures { OnOk result (frame.new.items ≡ frame.old.items ++ reply_body (Rows answer.now)) }
+{
+    frame.push(0x82)?;
+    frame.extend_from_slice(&(answer.columns.len() as u16).to_be_bytes())?;
+    answer.columns.append(frame)?;
+    frame.extend_from_slice(&(answer.rows.len() as u32).to_be_bytes())?;
+    answer.rows.append(frame)?;
+    Ok(())
+}
+
+/// The frame of an answer that has so many bytes of kind and payload.
+fn answer_frame(alloc: Global, answer: &Answer, size: u32) -> Result<Vec<u8>, NoMemory>
+    requires even { IsEven answer.now }
+    requires size { size ≡ reply_length (Rows answer.now) }
+    requires limit { size ≤ frame_limit }
+    ensures { IfOk result (λ frame. frame.items ≡ reply_bytes (Rows answer.now)) }
+{
+    let mut frame = Vec::with_capacity(alloc, 4 + size as usize)?;
+    frame.extend_from_slice(&size.to_be_bytes())?;
+    append_answer(&mut frame, answer)?;
+    Ok(frame)
+}
+
+fn encode_rows(alloc: Global, answer: &Answer) -> Result<Vec<u8>, ReplyError>
+    requires { IsEven answer.now }
+    ensures { Encodes (Rows answer.now) result }
+{
+    let size = answer_size(answer);
+    if size > u64::from(FRAME_LIMIT) {
+        return Err(ReplyError::TooLarge(size));
+    }
+    Ok(answer_frame(alloc, answer, size as u32)?)
+}
+
+/// A frame in memory of its own.
+fn owned(alloc: Global, frame: &[u8]) -> Result<Vec<u8>, NoMemory>
+    ensures { IfOk result (λ copy. copy.items ≡ frame.now) }
+{
+    Ok(Vec::from_slice(alloc, frame)?)
+}
+
+/// The frame of a reply. `TooLarge` tells how many bytes kind and payload have, exactly where
+/// that is over the limit of a frame; nothing is allocated then.
+pub fn encode(alloc: Global, reply: &Reply) -> Result<Vec<u8>, ReplyError>
+    requires { IsSendable reply.now }
+    ensures { Encodes reply.now result }
+{
+    match reply {
+        Reply::Done(count) => Ok(owned(alloc, &encode_done(*count))?),
+        Reply::Rows(answer) => encode_rows(alloc, answer),
+        Reply::Stats(hits, misses) => Ok(owned(alloc, &encode_stats(*hits, *misses))?),
+        Reply::Refused(refusal) => Ok(owned(alloc, &encode_refused(*refusal))?),
+    }
+}
