@@ -1,2 +1,5 @@
+pub mod FaultLaws
+pub mod Fields
 pub mod Names
+pub mod OneReading
 pub mod SessionLaws

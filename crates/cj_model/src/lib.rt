@@ -6,6 +6,7 @@ mod answer;
 mod codes;
 mod condition;
 mod database;
+mod laws;
 mod list;
 mod memory;
 mod message;
@@ -29,6 +30,7 @@ pub use codes::{
 };
 pub use condition::{Cond, CondNode};
 pub use database::{Db, Draft, Row, Rows, Slot, Table};
+pub use laws::{bytes_have_one_reading, frame_faults_stay};
 pub use list::ListOf;
 pub use memory::{Duplicate, NoMemory};
 pub use message::{Bytes, FRAME_LIMIT, FrameFault, Message, Messages};
