@@ -1,0 +1,151 @@
+-- Lists of moves, the calls of a session in them, and the chain of turns that these are.
+use Rattle.std.specs.Prelude.{◌≡◌, ◌⊎◌, ℕ, ◌+◌, ◌<◌, ◌≤◌, ◌^◌, Bool, true, false, ◌&&◌, ◌==◌, is_none, if◌then◌else◌, List, [], ◌∷◌, ◌++◌, length, take, slice_get, Ok, Err}
+use Rattle.std.specs.declared.option.Option.{Option}
+use Rattle.std.specs.declared.option.Option.TheVariants.{None, Some}
+use mathlib.Core.List.{IsPrefix}
+use Rattle.cj_model.specs.declared.request.Request.{Request}
+use Rattle.cj_model.specs.declared.request.Request.TheVariants as request
+use Rattle.cj_model.specs.declared.request.Act.{Act}
+use Rattle.cj_model.specs.declared.request.Entry.{Entry}
+use Rattle.cj_model.specs.declared.answer.Refusal.{Refusal}
+use Rattle.cj_model.specs.declared.answer.Reply.{Reply}
+use Rattle.cj_model.specs.declared.answer.Reply.TheVariants.{Rows, Refused}
+use Rattle.cj_model.specs.declared.event.Event.{Event}
+use Rattle.cj_model.specs.declared.event.Event.TheVariants.{Sched, ReadFailed}
+use Rattle.cj_model.specs.declared.moves.Move.{Move}
+use Rattle.cj_model.specs.declared.moves.Move.TheVariants.{Open, Close, Schedule, Apply, End, Read, Arm, Disable, Replay, Enable}
+use Rattle.cj_model.specs.declared.moves.Moved.{Moved}
+use Rattle.cj_model.specs.declared.moves.Moved.TheVariants as moved
+use Rattle.cj_model.specs.declared.moves.OpenRead.{OpenRead}
+use Rattle.cj_model.specs.declared.moves.OpenSession.{OpenSession}
+use Rattle.cj_model.specs.Plain.{act_of, request_of}
+use Rattle.cj_model.specs.Histories.{has, log, done, free, opened, enabled, room}
+use Rattle.cj_model.specs.Legality.{IsWritten, user_limit}
+use Rattle.cj_model.specs.Answering.{Served}
+use Rattle.cj_model.specs.Turns.{Seen, Call, Turn, Chain}
+use Rattle.cj_model.specs.Cores.{Core, session_at, is_by}
+use Rattle.cj_model.specs.Moves.{Given, MovesTo, is_open, forbidden_by, tx_of_act, open_tx, read_number}
+
+-- ---- lists of moves
+
+-- from c the moves give these, one each, and lead to z
+abbrev pub Runs : Bool → Core → List Move → List Given → Core → Type 0
+Runs tells c [] [] z = c ≡ z
+Runs tells c (m ∷ ms) (g ∷ gs) z = (mid : Core) × MovesTo tells c m g mid × Runs tells mid ms gs z
+Runs tells c [] (g ∷ gs) z = ⊥
+Runs tells c (m ∷ ms) [] z = ⊥
+
+-- a request that can be scheduled so far
+abbrev pub IsLoneWrite : Request → Type 0
+IsLoneWrite (request.Select s) = ⊥
+IsLoneWrite (request.Write w) = Unit {0}
+IsLoneWrite (request.Create c) = Unit {0}
+IsLoneWrite (request.Drop table) = Unit {0}
+IsLoneWrite request.Begin = ⊥
+IsLoneWrite request.Commit = ⊥
+IsLoneWrite request.Rollback = ⊥
+
+-- What a move asks for: a backend that is there, a request that some text reads as, a user of at most 64 bytes.
+abbrev pub IsMove : ℕ → Move → Type 0
+IsMove backends (Open user) = length user ≤ user_limit
+IsMove backends (Close s) = Unit {0}
+IsMove backends (Schedule s r) = IsWritten r × IsLoneWrite r
+IsMove backends (Apply b) = b < backends
+IsMove backends End = Unit {0}
+IsMove backends (Read s b select) = (b < backends) × IsWritten (request.Select select)
+IsMove backends (Arm b) = b < backends
+IsMove backends (Disable b) = b < backends
+IsMove backends (Replay b) = b < backends
+IsMove backends (Enable b) = b < backends
+
+-- each session can make n requests more
+abbrev pub CanCount : Core → ℕ → Type 0
+CanCount c n = (s : ℕ) → (session_at c s).queries + n ≤ 2 ^ 62
+
+-- ---- the calls of a session
+
+-- the reply to session s in what a move gave; what its transaction's state forbids is no turn
+abbrev pub reply_in : Core → ℕ → Move → Moved → Option Reply
+reply_in c s (Schedule t r) (moved.Refused refusal) = if t == s && is_allowed c s (act_of r) then Some (Refused refusal) else None
+  where
+    is_allowed : Core → ℕ → Option Act → Bool
+    is_allowed c s None = false
+    is_allowed c s (Some a) = is_none (forbidden_by (open_tx c s) a)
+reply_in c s End (moved.Replied t reply) = if t == s then Some reply else None
+reply_in c s (Read t b select) (moved.Rows a) = if t == s then Some (Rows a) else None
+reply_in c s (Read t b select) (moved.Refused refusal) = if t == s then Some (Refused refusal) else None
+reply_in c s m g = None
+
+abbrev pub reply_given : Core → ℕ → Move → Given → Option Reply
+reply_given c s m (Ok g) = reply_in c s m g
+reply_given c s m (Err e) = None
+
+abbrev pub call_of_entry : Option Entry → Reply → Call
+call_of_entry None reply = record { number = 0; tx = 0; user = []; request = request.Rollback; reply = reply }
+call_of_entry (Some e) reply = record { number = e.seq; tx = e.tx; user = e.user; request = request_of e.act; reply = reply }
+
+abbrev pub call_of_act : Core → ℕ → Request → Option Act → Reply → Call
+call_of_act c s r None reply = record { number = 0; tx = 0; user = []; request = r; reply = reply }
+call_of_act c s r (Some a) reply =
+    record { number = (session_at c s).queries + 1; tx = tx_of_act (open_tx c s) a; user = (session_at c s).user; request = r; reply = reply }
+
+-- the call that a move answered
+abbrev pub call_at : Core → ℕ → Move → Reply → Call
+call_at c s (Schedule t r) reply = call_of_act c s r (act_of r) reply
+call_at c s (Read t b select) reply =
+    record { number = read_number (session_at c s); tx = open_tx c s; user = (session_at c s).user; request = request.Select select; reply = reply }
+call_at c s m reply = call_of_entry (opened c.history) reply
+
+abbrev pub calls_at : Core → ℕ → Move → Option Reply → List Call
+calls_at c s m None = []
+calls_at c s m (Some reply) = call_at c s m reply ∷ []
+
+-- a run, with the calls of session s that it answered
+abbrev pub RunsFor : ℕ → Bool → Core → List Move → List Given → List Call → Core → Type 0
+RunsFor s tells c [] [] calls z = (c ≡ z) × (calls ≡ [])
+RunsFor s tells c (m ∷ ms) (g ∷ gs) calls z =
+    (mid : Core) × MovesTo tells c m g mid × ((rest : List Call) × (calls ≡ calls_at c s m (reply_given c s m g) ++ rest) × RunsFor s tells mid ms gs rest z)
+RunsFor s tells c [] (g ∷ gs) calls z = ⊥
+RunsFor s tells c (m ∷ ms) [] calls z = ⊥
+
+-- ---- between two replies
+
+-- The session's own entry is open: it was scheduled since, and nothing was enabled or disabled after it.
+pub record IsUnanswered (front : List Event) (c : Core) (s : ℕ) : Type 0 where
+  pub e : Entry
+  pub is : opened c.history ≡ Some e
+  pub m : ℕ
+  pub low : length front ≤ m
+  pub high : m < length c.history
+  pub was_free : free (take m c.history) ≡ true
+  pub served : Served c.placement (take m c.history) (request_of e.act)
+  pub space : 3 ≤ room (take m c.history)
+  pub next : slice_get c.history m ≡ Some (Sched e)
+  pub number : length (log (take m c.history)) ≡ done c.history
+  pub same : (b : ℕ) → enabled (take m c.history) b ≡ enabled c.history b
+
+-- Each backend that was tried in the session's open read has failed in it since.
+abbrev pub TriedSince : List Event → Core → ℕ → Type 0
+TriedSince front c s = (r : OpenRead) (b : ℕ) → (session_at c s).reading ≡ Some r → has r.tried b ≡ true
+    → (k : ℕ) × (length front ≤ k) × (k < length c.history) × (slice_get c.history k ≡ Some (ReadFailed s (session_at c s).queries b))
+
+-- How an open session stands that has seen a at its last reply.
+pub record IsSeenBy (a : Seen) (c : Core) (s : ℕ) : Type 0 where
+  pub least : (session_at c s).least ≡ a.least
+  pub waits : is_by s (opened c.history) ≡ true → IsUnanswered a.front c s
+  pub reads : TriedSince a.front c s
+
+-- Session s has seen a at its last reply, or has not begun.
+pub record IsBetween (a : Seen) (c : Core) (s : ℕ) : Type 0 where
+  pub longer : IsPrefix a.front c.history
+  pub owes : a.least ≤ length (log a.front)
+  pub here : is_open c s ≡ true → IsSeenBy a c s
+  pub later : c.greatest < s → a.least ≡ 0
+
+-- The replies to session s in a run are a chain of turns from what it has seen, wherever the run begins and ends within its calls.
+pub record IsChained (s : ℕ) (c : Core) (ms : List Move) (gs : List Given) (z : Core) (a : Seen) : Type 0 where
+  pub calls : List Call
+  pub last : Seen
+  pub runs : RunsFor s true c ms gs calls z
+  pub chain : Chain c.placement s a calls last
+  pub between : IsBetween last z s

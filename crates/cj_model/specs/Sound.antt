@@ -1,0 +1,66 @@
+-- What holds of every state that moves lead to.
+use Rattle.std.specs.Prelude.{◌≡◌, ◌⊎◌, ℕ, ◌+◌, ◌-◌, ◌*◌, ◌^◌, ◌<◌, ◌≤◌, Bool, true, false, List, length, All, is_some}
+use Rattle.std.specs.declared.option.Option.{Option}
+use Rattle.std.specs.declared.option.Option.TheVariants.{None, Some}
+use Rattle.std.specs.Ordering.{nat_cmp}
+use Rattle.std.specs.declared.cmp.Ordering.{Ordering}
+use Rattle.cj_model.specs.declared.database.Slot.{Slot}
+use Rattle.cj_model.specs.declared.request.Act.{Act}
+use Rattle.cj_model.specs.declared.request.Act.TheVariants as act
+use Rattle.cj_model.specs.declared.request.Entry.{Entry}
+use Rattle.cj_model.specs.declared.event.Event.{Event}
+use Rattle.cj_model.specs.declared.moves.OpenSession.{OpenSession}
+use Rattle.cj_model.specs.Tables.{Rises}
+use Rattle.cj_model.specs.Placements.{Placement, part}
+use Rattle.cj_model.specs.Histories.{has, log, done, free, opened, enabled, at}
+use Rattle.cj_model.specs.Legality.{IsLegal, user_limit}
+use Rattle.cj_model.specs.Cores.{Core, position_at, session_of, session_limit}
+
+-- Where a backend stands: within the log, past each entry that ended where it is enabled, and in no mask. Or out, and then in a mask where it is enabled.
+abbrev pub Stands : List Event → ℕ → ℕ → ℕ → Option ℕ → Type 0
+Stands h failed starved b (Some p) =
+    (p ≤ length (log h)) × (enabled h b ≡ true → done h ≤ p) × (has failed b ≡ false) × (has starved b ≡ false)
+Stands h failed starved b None = enabled h b ≡ true → (has failed b ≡ true) ⊎ (has starved b ≡ true)
+
+-- the acts that can be scheduled so far: outside a transaction
+abbrev pub IsLone : Entry → Act → Type 0
+IsLone e act.Begin = ⊥
+IsLone e (act.Write w) = e.tx ≡ 0
+IsLone e (act.Create c) = e.tx ≡ 0
+IsLone e (act.Drop table) = e.tx ≡ 0
+IsLone e act.Commit = ⊥
+IsLone e act.Abort = ⊥
+
+abbrev pub by_number : OpenSession → OpenSession → Ordering
+by_number x y = nat_cmp x.number y.number
+
+-- an open session's number was given, it has seen no more than the log, and no entry of it is later than its last request
+pub record IsSession (h : List Event) (greatest : ℕ) (x : OpenSession) : Type 0 where
+  pub number : (0 < x.number) × (x.number ≤ greatest)
+  pub user : length x.user ≤ user_limit
+  pub owes : x.least ≤ length (log h)
+  pub entries : All (λ (e : Entry). e.session ≡ x.number → e.seq ≤ x.queries) (log h)
+
+pub record IsSound (c : Core) : Type 0 where
+  pub legal : IsLegal c.history
+  -- there is room for the end of an open entry
+  pub short : length c.history + 2 * (length (log c.history) - done c.history) ≤ 2 ^ 62
+  pub one_open : (done c.history ≤ length (log c.history)) × (length (log c.history) ≤ done c.history + 1)
+  pub cells : length c.positions ≡ c.placement.backends
+  pub hosts : (b : ℕ) → enabled c.history b ≡ true → b < length c.positions
+  pub stands : (b : ℕ) → b < length c.positions → Stands c.history c.failed c.starved b (position_at c b)
+  pub in_masks : (b : ℕ) → (has c.failed b ≡ true → (enabled c.history b ≡ true) × (has c.starved b ≡ false)) × (has c.starved b ≡ true → enabled c.history b ≡ true)
+  pub clear : free c.history ≡ true → (c.failed ≡ 0) × (c.starved ≡ 0)
+  pub lone : All (λ (e : Entry). IsLone e e.act) (log c.history)
+  pub sessions : All (IsSession c.history c.greatest) c.sessions
+  pub rises : Rises by_number c.sessions
+  pub few : length c.sessions ≤ session_limit
+  pub numbers : c.greatest ≤ 2 ^ 62
+  pub known : All (λ (e : Entry). e.session ≤ c.greatest) (log c.history)
+  -- the session of the open entry is open
+  pub waits : (e : Entry) → opened c.history ≡ Some e → is_some (session_of c.sessions e.session) ≡ true
+
+-- A backend that tells and is not out holds its part of the database after the entries that it has taken.
+abbrev pub Holds : Bool → Placement → ℕ → List Entry → Option (List Slot) → Option ℕ → Type 0
+Holds tells p b entries told None = Unit {0}
+Holds tells p b entries told (Some n) = tells ≡ true → told ≡ Some (part p b (at entries n))

@@ -1,0 +1,167 @@
+-- Turns: what one request of a session may be answered, from the history that it has seen to the one that it sees then.
+use Rattle.std.specs.Prelude.{◌≡◌, ◌≢◌, ◌⊎◌, ℕ, ◌+◌, ◌<◌, ◌≤◌, Bool, true, false, ◌==◌, ◌&&◌, List, [], ◌∷◌, length, take, count_by, slice_get, if◌then◌else◌}
+use Rattle.std.specs.declared.option.Option.{Option}
+use Rattle.std.specs.declared.option.Option.TheVariants.{None, Some}
+use mathlib.Core.List.{IsPrefix}
+use Rattle.cj_model.specs.declared.request.Request.{Request}
+use Rattle.cj_model.specs.declared.request.Request.TheVariants as request
+use Rattle.cj_model.specs.declared.request.Act.{Act}
+use Rattle.cj_model.specs.declared.request.Entry.{Entry}
+use Rattle.cj_model.specs.declared.select.Select.{Select}
+use Rattle.cj_model.specs.declared.answer.Refusal.{Refusal}
+use Rattle.cj_model.specs.declared.answer.Asked.{Asked}
+use Rattle.cj_model.specs.declared.answer.Asked.TheVariants as asked
+use Rattle.cj_model.specs.declared.answer.Reply.{Reply}
+use Rattle.cj_model.specs.declared.answer.Reply.TheVariants.{Rows, Refused}
+use Rattle.cj_model.specs.declared.event.Event.{Event}
+use Rattle.cj_model.specs.declared.event.Event.TheVariants.{Sched, ReadFailed, LogFailed}
+use Rattle.cj_model.specs.declared.codes.TheConstants.{NO_BACKEND, READ_FAULT, LOG_FAULT, NO_MEMORY, HISTORY_FULL}
+use Rattle.cj_model.specs.Changes.{bare}
+use Rattle.cj_model.specs.Asks.{ask}
+use Rattle.cj_model.specs.Plain.{act_of}
+use Rattle.cj_model.specs.Placements.{Placement}
+use Rattle.cj_model.specs.Histories.{has, log, done, free, room, at, tx_of}
+use Rattle.cj_model.specs.Legality.{IsLegal}
+use Rattle.cj_model.specs.Answering.{ServesAt, Served, Unserved, AnswersEntry}
+
+-- what a session has seen, and the position that its reads need at least
+pub record Seen : Type 0 where
+  pub front : List Event
+  pub least : ℕ
+
+-- one request of a session, with its number, the transaction that it is made in, the user, and its reply
+pub record Call : Type 0 where
+  pub number : ℕ
+  pub tx : ℕ
+  pub user : List ℕ
+  pub request : Request
+  pub reply : Reply
+
+-- a number of events from F to G
+pub record Moment (F G : List Event) (m : ℕ) : Type 0 where
+  pub low : length F ≤ m
+  pub high : m ≤ length G
+
+abbrev pub reply_of_asked : Asked → Reply
+reply_of_asked (asked.Rows a) = Rows a
+reply_of_asked (asked.Refused r) = Refused r
+
+abbrev pub entry_of : ℕ → Call → Act → Entry
+entry_of s c act = record { session = s; seq = c.number; tx = c.tx; user = c.user; act = act }
+
+-- ---- the cases
+
+-- the request was scheduled, and its entry has ended
+pub record Scheduled (p : Placement) (s : ℕ) (a : Seen) (c : Call) (z : Seen) : Type 0 where
+  pub m : ℕ
+  pub moment : Moment a.front z.front m
+  pub act : Act
+  pub is : act_of c.request ≡ Some act
+  pub was_free : free (take m z.front) ≡ true
+  pub served : Served p (take m z.front) c.request
+  pub space : 3 ≤ room (take m z.front)
+  pub next : slice_get z.front m ≡ Some (Sched (entry_of s c act))
+  pub answer : AnswersEntry p (take m z.front) z.front (length (log (take m z.front))) (entry_of s c act) c.reply
+  pub least : z.least ≡ length (log (take m z.front)) + 1
+
+-- no enabled backend has each table that is named
+pub record NoBackend (p : Placement) (a : Seen) (c : Call) (z : Seen) : Type 0 where
+  pub m : ℕ
+  pub moment : Moment a.front z.front m
+  pub none : Unserved p (take m z.front) c.request
+  pub replied : c.reply ≡ Refused (bare NO_BACKEND)
+  pub least : z.least ≡ a.least
+
+-- a read, at a position that holds all that the session was answered, and all that had ended
+pub record Read (p : Placement) (a : Seen) (c : Call) (z : Seen) : Type 0 where
+  pub m : ℕ
+  pub moment : Moment a.front z.front m
+  pub select : Select
+  pub is : c.request ≡ request.Select select
+  pub served : Served p (take m z.front) c.request
+  pub owed : a.least ≤ z.least
+  pub past : done (take m z.front) ≤ z.least
+  pub within : z.least ≤ length (log z.front)
+  pub replied : c.reply ≡ reply_of_asked (ask (at (log z.front) z.least) c.tx select)
+
+-- a read in which each backend that serves it failed
+pub record ReadFault (p : Placement) (s : ℕ) (a : Seen) (c : Call) (z : Seen) : Type 0 where
+  pub m : ℕ
+  pub moment : Moment a.front z.front m
+  pub select : Select
+  pub is : c.request ≡ request.Select select
+  pub mask : ℕ
+  pub some : mask ≢ 0
+  pub all : (b : ℕ) → (ServesAt p (take m z.front) c.request b → has mask b ≡ true) × (has mask b ≡ true → ServesAt p (take m z.front) c.request b)
+  pub failed : (b : ℕ) → has mask b ≡ true → (k : ℕ) × (length a.front ≤ k) × (k < m) × (slice_get z.front k ≡ Some (ReadFailed s c.number b))
+  pub replied : c.reply ≡ Refused (record { code = READ_FAULT; a = mask; b = 0 })
+  pub least : z.least ≡ a.least
+
+-- the log's store failed, and nothing was scheduled
+pub record LogFault (p : Placement) (s : ℕ) (a : Seen) (c : Call) (z : Seen) : Type 0 where
+  pub m : ℕ
+  pub moment : Moment a.front z.front m
+  pub act : Act
+  pub is : act_of c.request ≡ Some act
+  pub was_free : free (take m z.front) ≡ true
+  pub served : Served p (take m z.front) c.request
+  pub space : 3 ≤ room (take m z.front)
+  pub next : slice_get z.front m ≡ Some (LogFailed s c.number)
+  pub replied : c.reply ≡ Refused (bare LOG_FAULT)
+  pub least : z.least ≡ a.least
+
+-- a read without room for one event, or another request without room for three where no entry is open
+abbrev pub IsFull : List Event → Option Act → Type 0
+IsFull h None = room h < 1
+IsFull h (Some act) = (free h ≡ true) × (room h < 3)
+
+pub record Full (p : Placement) (a : Seen) (c : Call) (z : Seen) : Type 0 where
+  pub m : ℕ
+  pub moment : Moment a.front z.front m
+  pub served : Served p (take m z.front) c.request
+  pub full : IsFull (take m z.front) (act_of c.request)
+  pub replied : c.reply ≡ Refused (record { code = HISTORY_FULL; a = m; b = 0 })
+  pub least : z.least ≡ a.least
+
+-- want of memory, before anything was scheduled
+pub record Starved (a : Seen) (c : Call) (z : Seen) : Type 0 where
+  pub replied : c.reply ≡ Refused (bare NO_MEMORY)
+  pub least : z.least ≡ a.least
+
+pub data Case (p : Placement) (s : ℕ) (a : Seen) (c : Call) (z : Seen) : Type 0 where
+  scheduled : Scheduled p s a c z → Case p s a c z
+  no_backend : NoBackend p a c z → Case p s a c z
+  read : Read p a c z → Case p s a c z
+  read_fault : ReadFault p s a c z → Case p s a c z
+  log_fault : LogFault p s a c z → Case p s a c z
+  full : Full p a c z → Case p s a c z
+  starved : Starved a c z → Case p s a c z
+
+-- ---- a turn
+
+-- how many entries of session s there are
+abbrev pub entries_of : ℕ → List Event → ℕ
+entries_of s h = count_by (λ (e : Entry). e.session == s) (log h)
+
+-- how many entries the case schedules
+abbrev pub schedules : {p : Placement} {s : ℕ} {a : Seen} {c : Call} {z : Seen} → Case p s a c z → ℕ
+schedules (scheduled x) = 1
+schedules (no_backend x) = 0
+schedules (read x) = 0
+schedules (read_fault x) = 0
+schedules (log_fault x) = 0
+schedules (full x) = 0
+schedules (starved x) = 0
+
+pub record Turn (p : Placement) (s : ℕ) (a : Seen) (c : Call) (z : Seen) : Type 0 where
+  pub legal : IsLegal z.front
+  pub longer : IsPrefix a.front z.front
+  pub owes : a.least ≤ length (log a.front)
+  pub tx : (c.tx ≡ 0) ⊎ (c.tx ≡ tx_of (log a.front) s)
+  pub case : Case p s a c z
+  pub entries : entries_of s z.front ≡ entries_of s a.front + schedules case
+
+-- a chain of turns, each from where the last one led
+abbrev pub Chain : Placement → ℕ → Seen → List Call → Seen → Type 0
+Chain p s a [] z = a ≡ z
+Chain p s a (c ∷ cs) z = (mid : Seen) × Turn p s a c mid × Chain p s mid cs z
