@@ -1,5 +1,5 @@
 -- The classes of bytes side by side.
-use Rattle.std.proofs.Common.{◌≡◌, refl, ℕ, Bool, true, false, arith}
+use Rattle.std.proofs.Common.{◌≡◌, refl, ℕ, true, false, arith}
 use Rattle.std.specs.Char.{is_ascii_digit}
 use Rattle.std.proofs.lemmas.Bool.Decides.{nat_tests}
 use Rattle.cj_model.specs.Lexical.{is_blank, is_letter, is_word}

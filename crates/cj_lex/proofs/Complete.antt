@@ -1,5 +1,5 @@
 -- What is spelled so is cut.
-use Rattle.std.proofs.Common.{◌≡◌, refl, ℕ, suc, ◌+◌, ◌≤◌, ◌^◌, Bool, true, false, ◌||◌, ◌==◌, nat_le, cond, List, [], ◌∷◌, ◌++◌, append_assoc, length, map, Option, Some, None, inl, inr, arith}
+use Rattle.std.proofs.Common.{◌≡◌, refl, ℕ, ◌≤◌, ◌^◌, Bool, true, false, ◌||◌, ◌==◌, nat_le, cond, List, [], ◌∷◌, ◌++◌, append_assoc, length, map, Option, Some, None, inl, inr, arith}
 use Rattle.std.specs.List.{prefix_len}
 use Rattle.std.specs.Char.{is_ascii_digit}
 use Rattle.std.proofs.lemmas.Bool.Decides.{nat_tests}
@@ -10,7 +10,7 @@ use Rattle.cj_model.specs.declared.token.Symbol.{Symbol}
 use Rattle.cj_model.specs.declared.token.Symbol.TheVariants as symbol
 use Rattle.cj_model.specs.declared.token.Token.{Token}
 use Rattle.cj_model.specs.declared.token.Token.TheVariants as token
-use Rattle.cj_model.specs.Lexical.{is_blank, is_letter, is_word, Each, EndsBefore, IsWord, value, doubled, keyword, IsSymbol, Spells, Ends, First}
+use Rattle.cj_model.specs.Lexical.{is_blank, is_word, Each, EndsBefore, IsWord, value, doubled, keyword, IsSymbol, Spells, Ends, First}
 use Rattle.cj_lex.specs.declared.bytes.Class.TheVariants as class
 use Rattle.cj_lex.specs.Cut as reader
 use Rattle.cj_lex.specs.Cut.{Cut, finished, bad, cut, Closed, unclosed, closed, count, is_in, begins, begins_with, reserved_or_name, word_token, closing, behind}

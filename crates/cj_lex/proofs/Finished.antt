@@ -1,14 +1,12 @@
 -- A text is at its end exactly where it is white space alone.
-use Rattle.std.proofs.Common.{◌≡◌, ◌∙◌, refl, sym, ap, subst, ℕ, ◌<◌, Bool, true, false, ◌==◌, cond, List, [], ◌∷◌, ◌++◌, append_assoc, append-nil, length, length-append, take, drop, Option, Some, None, Err, inl, inr, arith}
+use Rattle.std.proofs.Common.{◌≡◌, ◌∙◌, refl, sym, ap, subst, ℕ, Bool, true, false, ◌==◌, cond, List, [], ◌∷◌, ◌++◌, append-nil, length, take, drop, Option, Some, None, inl, inr}
 use Rattle.std.specs.List.{prefix_len}
 use Rattle.std.specs.Char.{is_ascii_digit}
 use Rattle.std.proofs.lemmas.List.{take-append-drop}
 use Rattle.std.proofs.Math.Seq.{drop-append_seam}
 use Rattle.cj_model.specs.declared.token.Symbol.{Symbol}
-use Rattle.cj_model.specs.declared.token.Symbol.TheVariants as symbol
 use Rattle.cj_model.specs.declared.token.Token.{Token}
-use Rattle.cj_model.specs.declared.token.Token.TheVariants as token
-use Rattle.cj_model.specs.Lexical.{is_blank, is_letter, Each, IsSymbol, Spells, Tokens}
+use Rattle.cj_model.specs.Lexical.{is_blank, is_letter, Each}
 use Rattle.cj_lex.specs.Cut as reader
 use Rattle.cj_lex.specs.Cut.{finished, bad, cut, Closed, unclosed, closed, count, begins_with, closing}
 use Rattle.cj_lex.proofs.Choices.{chosen}

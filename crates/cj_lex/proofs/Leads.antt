@@ -1,14 +1,10 @@
 -- The tokens of a whole text, one after another.
-use Rattle.std.proofs.Common.{◌≡◌, ◌∙◌, refl, sym, ap, subst, ℕ, ◌<◌, Bool, true, false, ◌==◌, cond, List, [], ◌∷◌, ◌++◌, append_assoc, append-nil, length, length-append, take, drop, Option, Some, None, Err, inl, inr, arith}
-use Rattle.std.specs.List.{prefix_len}
-use Rattle.std.specs.Char.{is_ascii_digit}
-use Rattle.std.proofs.lemmas.List.{take-append-drop}
-use Rattle.std.proofs.Math.Seq.{drop-append_seam}
+use Rattle.std.proofs.Common.{◌≡◌, ◌∙◌, sym, ap, subst, ℕ, ◌<◌, List, [], ◌∷◌, ◌++◌, append_assoc, append-nil, length, length-append, Err, inl, inr, arith}
 use Rattle.cj_model.specs.declared.token.Symbol.{Symbol}
 use Rattle.cj_model.specs.declared.token.Symbol.TheVariants as symbol
 use Rattle.cj_model.specs.declared.token.Token.{Token}
 use Rattle.cj_model.specs.declared.token.Token.TheVariants as token
-use Rattle.cj_model.specs.Lexical.{is_blank, is_letter, Each, IsSymbol, Spells, Tokens}
+use Rattle.cj_model.specs.Lexical.{IsSymbol, Spells, Tokens}
 use Rattle.cj_lex.specs.declared.error.SqlError.{SqlError}
 use Rattle.cj_lex.specs.declared.error.SqlError.TheVariants.{Syntax, NoMemory}
 use Rattle.cj_lex.specs.Read.{TokensRead}
