@@ -1,5 +1,5 @@
 -- What is spelled so is cut.
-use Rattle.std.proofs.Common.{◌≡◌, refl, ℕ, suc, ◌+◌, ◌≤◌, ◌^◌, Bool, true, false, ◌||◌, ◌==◌, nat_le, cond, List, [], ◌∷◌, ◌++◌, append_assoc, length, map, Option, Some, None, inl, inr, arith}
+use Rattle.std.proofs.Common.{◌≡◌, refl, ℕ, ◌≤◌, ◌^◌, Bool, true, false, ◌||◌, ◌==◌, nat_le, cond, List, [], ◌∷◌, ◌++◌, append_assoc, length, map, Option, Some, None, inl, inr, arith}
 use Rattle.std.specs.List.{prefix_len}
 use Rattle.std.specs.Char.{is_ascii_digit}
 use Rattle.std.proofs.lemmas.Bool.Decides.{nat_tests}
@@ -10,62 +10,41 @@ use Rattle.cj_model.specs.declared.token.Symbol.{Symbol}
 use Rattle.cj_model.specs.declared.token.Symbol.TheVariants as symbol
 use Rattle.cj_model.specs.declared.token.Token.{Token}
 use Rattle.cj_model.specs.declared.token.Token.TheVariants as token
-use Rattle.cj_model.specs.Lexical.{is_blank, is_letter, is_word, Each, EndsBefore, IsWord, value, doubled, keyword, IsSymbol, Spells, Ends, First}
+use Rattle.cj_model.specs.Lexical.{is_blank, is_word, Each, EndsBefore, IsWord, value, doubled, keyword, IsSymbol, Spells, Ends, First}
 use Rattle.cj_lex.specs.declared.bytes.Class.TheVariants as class
 use Rattle.cj_lex.specs.Cut as reader
 use Rattle.cj_lex.specs.Cut.{Cut, finished, bad, cut, Closed, unclosed, closed, count, is_in, begins, begins_with, reserved_or_name, word_token, closing, behind}
+use Rattle.cj_lex.proofs.Classes.{letter_not_blank, digit_not_blank, digit_not_letter, word_not_digit, letter_in_word}
+use Rattle.cj_lex.proofs.Fronts.{prefix_all}
 use Rattle.cj_lex.proofs.Names.{word_is_name}
 
--- What is spelled so is cut.
+-- ---- what follows
 
--- ---- bytes
-
-letter_not_blank : (b : ℕ) → is_letter b ≡ true → is_blank b ≡ false
-letter_not_blank b h = grind (arith, nat_tests, h)
-
-digit_not_blank : (b : ℕ) → is_ascii_digit b ≡ true → is_blank b ≡ false
-digit_not_blank b h = grind (arith, nat_tests, h)
-
-digit_not_letter : (b : ℕ) → is_ascii_digit b ≡ true → is_letter b ≡ false
-digit_not_letter b h = grind (arith, nat_tests, h)
-
-word_not_digit : (b : ℕ) → is_word b ≡ false → is_ascii_digit b ≡ false
-word_not_digit b h = grind (arith, nat_tests, h)
-
-letter_in_word : (b : ℕ) → is_letter b ≡ true → is_word b ≡ true
-letter_in_word b h = rw h refl
-
-no_more : (q : ℕ → Bool) (rest : List ℕ) → EndsBefore q rest → prefix_len q rest ≡ 0
-no_more q [] h = refl
-no_more q (b ∷ z) h = rw h refl
-
-pub prefix_all : (q : ℕ → Bool) (w rest : List ℕ) → Each q w → EndsBefore q rest → prefix_len q (w ++ rest) ≡ length w
-prefix_all q [] rest e h = no_more q rest h
-prefix_all q (b ∷ w) rest e h =
-    let ih = prefix_all q w rest e.1 h in
-    let one : 1 + prefix_len q (w ++ rest) ≡ suc (length w) = omega arith in
-    rw e.0 one
-
+-- no digit follows where no byte of a word does
 not_word_digit : (rest : List ℕ) → EndsBefore is_word rest → EndsBefore is_ascii_digit rest
 not_word_digit [] h = tt
 not_word_digit (b ∷ z) h = word_not_digit b h
 
+-- no byte of a word follows
 not_begun : (rest : List ℕ) → EndsBefore is_word rest → begins class.Word rest ≡ false
 not_begun [] h = refl
 not_begun (b ∷ z) h = h
 
+-- the byte does not follow
 not_begun_with : (c : ℕ) (z : List ℕ) → EndsBefore (λ b. b == c) z → begins_with c z ≡ false
 not_begun_with c [] h = refl
 not_begun_with c (b ∷ z) h = h
 
 -- ---- words and numbers
 
+-- a word of at most 32 bytes is cut
 word_complete : (sp rest : List ℕ) → IsWord sp → Each is_word sp → length sp ≤ 32 → EndsBefore is_word rest → reader.cut_word (sp ++ rest) ≡ cut (word_token (map lower sp)) rest
 unfolding reader.cut_word count
 word_complete sp rest w e l h =
     let n : prefix_len is_word (sp ++ rest) ≡ length sp = prefix_all is_word sp rest e h in
     rw (n, take-append_seam sp rest, drop-append_seam sp rest, word_is_name sp w l) refl
 
+-- a number of at most 2^63 is cut
 number_complete : (sp rest : List ℕ) → Each is_ascii_digit sp → value sp ≤ 2 ^ 63 → EndsBefore is_word rest → reader.cut_number (sp ++ rest) ≡ cut (token.Number (value sp)) rest
 unfolding reader.cut_number count
 number_complete sp rest e l h =
@@ -75,10 +54,12 @@ number_complete sp rest e l h =
 
 -- ---- strings
 
+-- a quote that no other follows ends the string
 closing_end : (r : List ℕ) → EndsBefore (λ b. b == 39) r → closing true r ≡ closed [] r
 closing_end [] h = refl
 closing_end (b ∷ z) h = rw h refl
 
+-- a value, each quote twice, is found
 closing_complete : (x r : List ℕ) → EndsBefore (λ b. b == 39) r → closing false (doubled x ++ 39 ∷ r) ≡ closed x r
 closing_complete [] r h = closing_end r h
 closing_complete (b ∷ x) r h =
@@ -87,6 +68,7 @@ closing_complete (b ∷ x) r h =
       | false ↦ λ e. rw (e, closing_complete x r h) refl
     ] refl
 
+-- a string is cut
 string_complete : (x rest : List ℕ) → is_text x ≡ true → length x ≤ 4096 → EndsBefore (λ b. b == 39) rest → reader.cut_string (doubled x ++ 39 ∷ rest) ≡ cut (token.Text x) rest
 unfolding reader.cut_string
 string_complete x rest e l h =
@@ -95,22 +77,27 @@ string_complete x rest e l h =
 
 -- ---- symbols
 
-abbrev Cuts : List ℕ → Token → List ℕ → Type 0
-Cuts sp t rest = (reader.cut_at (sp ++ rest) ≡ cut t rest) × EndsBefore is_blank (sp ++ rest)
+-- the token is cut, and no white space stands before it
+abbrev CutsAtFront : List ℕ → Token → List ℕ → Type 0
+CutsAtFront sp t rest = (reader.cut_at (sp ++ rest) ≡ cut t rest) × EndsBefore is_blank (sp ++ rest)
 
+-- neither of the two: not the first
 either : (a b : Bool) → (a || b) ≡ false → a ≡ false
 either true b h = absurd (cc)
 either false b h = refl
 
+-- nor the second
 other : (a b : Bool) → (a || b) ≡ false → b ≡ false
 other true b h = absurd (cc)
 other false b h = h
 
+-- `<` that neither `=` nor `>` follows
 less_alone : (z : List ℕ) → EndsBefore (λ b. b == 61 || b == 62) z → reader.less z ≡ cut (token.Symbol symbol.Lt) z
 less_alone [] h = refl
 less_alone (b ∷ z) h = let e : (b == 61) ≡ false = either (b == 61) (b == 62) h in let f : (b == 62) ≡ false = other (b == 61) (b == 62) h in rw (e, f) refl
 
-symbol_complete : (x : Symbol) (sp rest : List ℕ) → IsSymbol x sp → Ends (token.Symbol x) rest → Cuts sp (token.Symbol x) rest
+-- a symbol is cut
+symbol_complete : (x : Symbol) (sp rest : List ℕ) → IsSymbol x sp → Ends (token.Symbol x) rest → CutsAtFront sp (token.Symbol x) rest
 unfolding reader.cut_at reader.cut_symbol reader.single
 symbol_complete symbol.Open sp rest e h = rw e (refl, refl)
 symbol_complete symbol.Close sp rest e h = rw e (refl, refl)
@@ -130,15 +117,18 @@ symbol_complete symbol.Minus sp rest e h = rw e (rw (not_begun_with 45 rest h) r
 
 -- ---- a token at the front
 
-word_starts : (sp rest : List ℕ) → IsWord sp → length sp ≤ 32 → EndsBefore is_word rest → Cuts sp (word_token (map lower sp)) rest
+-- a word is cut as its token
+word_starts : (sp rest : List ℕ) → IsWord sp → length sp ≤ 32 → EndsBefore is_word rest → CutsAtFront sp (word_token (map lower sp)) rest
 unfolding reader.cut_at
 word_starts [] rest w l h = absurd w
 word_starts (b ∷ z) rest w l h = (rw w.0 (word_complete (b ∷ z) rest w (letter_in_word b w.0, w.1) l h), letter_not_blank b w.0)
 
+-- the token of a word, by whether it is reserved
 keyed : (o : Option Keyword) (z n : List ℕ) → n ≡ map lower z → keyword n ≡ o → word_token (map lower z) ≡ reserved_or_name o n
 keyed o z n e h = rw (← e, h) refl
 
-starts_complete : (t : Token) (sp rest : List ℕ) → Spells t sp → Ends t rest → Cuts sp t rest
+-- a token at the front is cut
+starts_complete : (t : Token) (sp rest : List ℕ) → Spells t sp → Ends t rest → CutsAtFront sp t rest
 unfolding reader.cut_at
 starts_complete (token.Word k) sp rest w h = rw (← keyed (Some k) sp (map lower sp) refl w.2) (word_starts sp rest w.0 w.1 h)
 starts_complete (token.Name n) sp rest w h = rw (← keyed None sp n w.3 w.2) (word_starts sp rest w.0 w.1 h)
@@ -149,6 +139,7 @@ starts_complete (token.Number n) (b ∷ z) rest w h =
 starts_complete (token.Text x) sp rest w h = rw (w.0, append_assoc (doubled x) (39 ∷ []) rest) (string_complete x rest w.1 w.2 h, refl)
 starts_complete (token.Symbol x) sp rest w h = symbol_complete x sp rest w h
 
+-- the first token is cut
 pub first_complete : (z : List ℕ) (t : Token) (rest : List ℕ) → First z t rest → reader.first z ≡ cut t rest
 unfolding reader.first count
 first_complete z t rest f =

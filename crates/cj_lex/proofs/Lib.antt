@@ -1,6 +1,9 @@
 pub mod Choices
-pub mod Names
-pub mod Steps
-pub mod Sound
+pub mod Classes
 pub mod Complete
+pub mod Finished
+pub mod Fronts
 pub mod Leads
+pub mod Names
+pub mod Sound
+pub mod Steps

@@ -16,10 +16,12 @@ letter_begins b h = grind (arith, nat_tests, h)
 word_continues : (b : ℕ) → is_word b ≡ true → continues_name (lower b) ≡ true
 word_continues b h = grind (arith, nat_tests, h)
 
+-- so do all bytes of a word
 all_continue : (z : List ℕ) → Each is_word z → list_all continues_name (map lower z) ≡ true
 all_continue [] h = refl
 all_continue (b ∷ z) h = rw (word_continues b h.0, all_continue z h.1) refl
 
+-- a word in lower case is spelled as a name
 spelled : (z : List ℕ) → IsWord z → is_spelled_as_name (map lower z) ≡ true
 spelled [] h = absurd h
 spelled (b ∷ z) h = rw (letter_begins b h.0, all_continue z h.1) refl
@@ -32,11 +34,12 @@ word_is_name z w h =
     let short : nat_le (length (map lower z)) 32 ≡ true = grind (arith, nat_tests, h, l) in
     rw (short, spelled z w) refl
 
--- bytes that are a name are that name, and are at most 32
+-- bytes that are a name are that name
 pub name_is : (bytes name : List ℕ) → name_of bytes ≡ Some name → bytes ≡ name
 unfolding is_name
 name_is bytes name h = elim (chosen (is_name bytes) _ _ _ h) [ inl e ↦ let k = e.1 in cc | inr e ↦ absurd (let k = e.1 in cc) ]
 
+-- and are at most 32, as the word was
 pub name_is_short : (z name : List ℕ) → name_of (map lower z) ≡ Some name → length z ≤ 32
 unfolding is_name
 name_is_short z name h = elim (chosen (is_name (map lower z)) _ _ _ h) [

@@ -4,12 +4,12 @@ use Rattle.std.proofs.lemmas.List.Sums.{fold_more}
 use Rattle.cj_model.specs.Lexical.{value}
 use Rattle.cj_lex.specs.Cut.{Closed, unclosed, closed, behind}
 
--- One more byte of a string or of a number.
-
+-- more at the front is more behind it
 pub behind_more : (front more : List ℕ) (c : Closed) → behind (front ++ more) c ≡ behind front (behind more c)
 behind_more front more unclosed = refl
 behind_more front more (closed x rest) = ap (λ y. closed y rest) (append_assoc front more x)
 
+-- one digit more, as far as the largest `u64`
 pub value_more : (z : List ℕ) (i n k : ℕ) → i < length z → n ≡ min (value (take i z)) (2 ^ 64 - 1) → k ≡ min (10 * n + (get_or z i 0 - 48)) (2 ^ 64 - 1)
     → k ≡ min (value (take (i + 1) z)) (2 ^ 64 - 1)
 value_more z i n k h e f =

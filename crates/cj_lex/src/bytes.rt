@@ -4,7 +4,7 @@ ghost use Rattle.std.specs.Prelude.{◌≡◌, ◌≤◌, length};
 ghost use Rattle.cj_lex.specs.Cut as cut;
 
 /// What a byte may be part of.
-#[derive(Clone, Copy, Debug)]
+#[derive(Clone, Copy)]
 pub enum Class {
     Blank,
     Digit,
@@ -41,9 +41,5 @@ pub fn count(class: Class, text: &[u8]) -> usize
     ensures value { result ≡ cut.count class text.now }
     ensures within { result ≤ length text.now }
 {
-    let mut n = 0;
-    while n < text.len() && is_in(class, text[n]) {
-        n += 1;
-    }
-    n
+    text.iter().take_while(|b| is_in(class, **b)).count()
 }

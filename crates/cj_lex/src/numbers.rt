@@ -39,9 +39,9 @@ pub fn cut_number(text: &[u8]) -> Result<(Token, &[u8]), SqlError>
     if begins(Class::Word, &text[n..]) {
         return Err(SqlError::Syntax);
     }
-    let value = value(&text[..n]);
-    if value > NUMBER_LIMIT {
+    let number = value(&text[..n]);
+    if number > NUMBER_LIMIT {
         return Err(SqlError::Syntax);
     }
-    Ok((Token::Number(value), &text[n..]))
+    Ok((Token::Number(number), &text[n..]))
 }

@@ -36,6 +36,14 @@ done E x = Ok x
 pub ok_is : {A E : Type 0} (x y : A) → done E x ≡ done E y → x ≡ y
 ok_is x y e = cc
 
+-- a step that failed, with its error
+abbrev pub failed : (A : Type 0) {E : Type 0} → E → Result A E
+failed A x = Err x
+
+-- the error of a step that failed is one
+pub err_is : {A E : Type 0} (x y : E) → failed A x ≡ failed A y → x ≡ y
+err_is x y e = cc
+
 -- where two steps did not fail, the first did not
 pub bind_ok : {A B E : Type 0} (r : Result A E) (f : A → Result B E) (y : B) → (r >>= f) ≡ Ok y → (x : A) × (r ≡ Ok x) × (f x ≡ Ok y)
 bind_ok (Ok x) f y e = (x, refl, e)
@@ -50,6 +58,21 @@ guard_ok false d r y e = (refl, e)
 pub guard_else : {A E : Type 0} (b : Bool) (d : E) (r : Result A E) (y : A) → cond b r (Err d) ≡ Ok y → (b ≡ true) × (r ≡ Ok y)
 guard_else true d r y e = (refl, e)
 guard_else false d r y e = absurd cc
+
+-- where two steps failed, one of them did
+pub bind_err : {A B E : Type 0} (P : E → Type 0) (r : Result A E) (f : A → Result B E) (d : E) → (r ≡ Err d → P d) → ((x : A) → r ≡ Ok x → f x ≡ Err d → P d) → (r >>= f) ≡ Err d → P d
+bind_err P (Ok x) f d first second e = second x refl e
+bind_err P (Err c) f d first second e = first (cc)
+
+-- a test for a fault, and what comes after it, failed
+pub guard_err : {A E : Type 0} (P : E → Type 0) (b : Bool) (c d : E) (r : Result A E) → (b ≡ true → P c) → (b ≡ false → r ≡ Err d → P d) → cond b (Err c) r ≡ Err d → P d
+guard_err P true c d r fault later e = let is : c ≡ d = err_is c d e in subst P is (fault refl)
+guard_err P false c d r fault later e = later refl e
+
+-- a test without which there is a fault, and what comes after it, failed
+pub guard_else_err : {A E : Type 0} (P : E → Type 0) (b : Bool) (c d : E) (r : Result A E) → (b ≡ false → P c) → (b ≡ true → r ≡ Err d → P d) → cond b r (Err c) ≡ Err d → P d
+guard_else_err P true c d r fault later e = later refl e
+guard_else_err P false c d r fault later e = let is : c ≡ d = err_is c d e in subst P is (fault refl)
 
 -- ---- what a reader took from the front
 

@@ -1,3 +1,4 @@
+pub mod Columns
 pub mod FaultLaws
 pub mod Fields
 pub mod Names

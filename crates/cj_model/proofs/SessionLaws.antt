@@ -31,7 +31,8 @@ pub record AnsweredTo (ms : List Message) (i : ℕ) : Type 0 where
 pub answered_none : (ms : List Message) → AnsweredTo ms 0
 answered_none ms = record { within = omega arith; parts = refl; quits = refl }
 
-answered_on : (m : Message) (ms : List Message) → is_quit m ≡ false → answered (m ∷ ms) ≡ m ∷ answered ms
+-- a message that is no Quit is answered
+pub answered_on : (m : Message) (ms : List Message) → is_quit m ≡ false → answered (m ∷ ms) ≡ m ∷ answered ms
 answered_on m ms h = rw h refl
 
 quits_on : (m : Message) (ms : List Message) → is_quit m ≡ false → list_any is_quit (m ∷ ms) ≡ list_any is_quit ms

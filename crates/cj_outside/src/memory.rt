@@ -1,6 +1,7 @@
 //! A source and a sink in memory, which fail at chosen calls.
 //!
-//! Calls of `take` and of `put` are numbered from 1, up to 2^64 - 1, where the number stays. A call whose number is listed fails, and no other does.
+//! Calls of `take` and of `put` are numbered from 1, up to 2^64 - 1, where the number stays. A call answers `Failed` exactly
+//! where its number is listed; it then moves no byte, and counts one fault, up to 2^64 - 1 of them.
 
 ghost use Rattle.std.specs.Prelude.{◌≡◌, ◌↔◌, ◌≤◌, ◌+◌, ◌++◌, min, Some, IfOk, IsErr, IsErrOf, IsTrue, Contains, take, drop, length};
 ghost use Rattle.std.specs.Io.{ReadsAtMost, WritesAtMost};

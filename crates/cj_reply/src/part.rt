@@ -9,7 +9,7 @@ ghost use Rattle.cj_reply.specs.Encode.{capped};
 
 use cj_model::{ListOf, Name, NoMemory, Value};
 
-/// A part of a payload.
+/// A part of a payload: a name behind its length, a value behind its kind, or a list of such parts.
 pub trait Part {
     ghost bytes: { Self → List ℕ };
 

@@ -71,6 +71,7 @@ pub fn encode_refused(refusal: Refusal) -> [u8; 23]
 fn answer_size(answer: &Answer) -> u64
     ensures { result ≡ capped (reply_length (Rows answer.now)) }
 {
+    // 7: the kind, the number of columns, and the number of rows
     answer
         .columns
         .size()
@@ -105,6 +106,7 @@ fn answer_frame(alloc: Global, answer: &Answer, size: u32) -> Result<Vec<u8>, No
     Ok(frame)
 }
 
+/// The frame of an answer, or how large it would be.
 fn encode_rows(alloc: Global, answer: &Answer) -> Result<Vec<u8>, ReplyError>
     requires { IsEven answer.now }
     ensures { Encodes (Rows answer.now) result }

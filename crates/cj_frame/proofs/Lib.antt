@@ -1,0 +1,5 @@
+pub mod Again
+pub mod Faults
+pub mod Joined
+pub mod Taken
+pub mod Told

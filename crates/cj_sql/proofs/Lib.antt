@@ -1,0 +1,7 @@
+pub mod Binds
+pub mod Front
+pub mod Lists
+pub mod Names
+pub mod Statements
+pub mod Texts
+pub mod Turns

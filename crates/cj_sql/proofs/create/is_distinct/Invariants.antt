@@ -1,0 +1,10 @@
+use Rattle.std.proofs.Common.{◌≡◌, ℕ, map, length}
+use Rattle.cj_model.specs.declared.schema.ColDef.{ColDef}
+use Rattle.cj_model.specs.Tables as tables
+use Rattle.cj_sql.proofs.create.is_distinct.Given as goal
+
+abbrev pub invariant-loop-columns : goal.invariant-loop-columns
+invariant-loop-columns l = tables.is_distinct (map (λ (c : ColDef). c.name) l.fn.columns) ≡ tables.is_distinct (map (λ (c : ColDef). c.name) l.columns)
+
+abbrev pub decreases-loop-columns : goal.decreases-loop-columns
+decreases-loop-columns l = length l.columns

@@ -1,0 +1,4 @@
+pub mod Cursor
+pub mod Read
+pub mod Reader
+pub mod StatementReader

@@ -1,0 +1,80 @@
+-- Readers as functions on the tokens that are left: what one answers, how one follows another, and those of single tokens.
+use Rattle.std.specs.Prelude.{ℕ, zero, suc, Bool, true, false, if◌then◌else◌, List, [], ◌∷◌, ◌++◌, drop}
+use denote.Enum.Bare.{sameb}
+use Rattle.cj_model.specs.contracts.token.Keyword as keyword_type
+use Rattle.cj_model.specs.contracts.token.Symbol as symbol_type
+use Rattle.cj_model.specs.declared.token.Keyword.{Keyword}
+use Rattle.cj_model.specs.declared.token.Symbol.{Symbol}
+use Rattle.cj_model.specs.declared.token.Symbol.TheVariants as symbol
+use Rattle.cj_model.specs.declared.token.Token.{Token}
+use Rattle.cj_model.specs.declared.token.Token.TheVariants as token
+
+-- what a reader answers: a value and what is left, or nothing
+pub data Read (A S : Type 0) : Type 0 where
+  refused : Read A S
+  read : A → S → Read A S
+
+-- one reader after another
+abbrev pub and_then : {A B S T : Type 0} → Read A S → (A → S → Read B T) → Read B T
+and_then refused f = refused
+and_then (read x rest) f = f x rest
+
+abbrev pub Reader : Type 0 → Type 0
+Reader A = List Token → Read A (List Token)
+
+-- ---- the token at the front
+
+unfoldable pub same_word : Keyword → Keyword → Bool
+same_word = sameb keyword_type.the_type
+
+unfoldable pub same_symbol : Symbol → Symbol → Bool
+same_symbol = sameb symbol_type.the_type
+
+abbrev pub sees_word : Keyword → List Token → Bool
+sees_word w (token.Word found ∷ rest) = same_word found w
+sees_word w _ = false
+
+abbrev pub sees_symbol : Symbol → List Token → Bool
+sees_symbol s (token.Symbol found ∷ rest) = same_symbol found s
+sees_symbol s _ = false
+
+abbrev pub sees_number : List Token → Bool
+sees_number (token.Number n ∷ rest) = true
+sees_number _ = false
+
+abbrev pub sees_end : List Token → Bool
+sees_end [] = true
+sees_end (t ∷ rest) = false
+
+-- ---- readers of one token
+
+unfoldable pub name : Reader (List ℕ)
+name (token.Name n ∷ rest) = read n rest
+name _ = refused
+
+unfoldable pub number : Reader ℕ
+number (token.Number n ∷ rest) = read n rest
+number _ = refused
+
+unfoldable pub text : Reader (List ℕ)
+text (token.Text x ∷ rest) = read x rest
+text _ = refused
+
+unfoldable pub expect_word : Keyword → Reader (Unit {0})
+expect_word w ts = if sees_word w ts then read tt (drop 1 ts) else refused
+
+unfoldable pub expect_symbol : Symbol → Reader (Unit {0})
+expect_symbol s ts = if sees_symbol s ts then read tt (drop 1 ts) else refused
+
+-- ---- lists
+
+-- item { "," item } after those found, no more items than the number
+unfoldable pub items_from : {A : Type 0} → Reader A → ℕ → List A → Reader (List A)
+items_from item zero found ts = refused
+items_from item (suc room) found ts =
+    and_then (item ts) (λ x rest.
+    if sees_symbol symbol.Comma rest then items_from item room (found ++ x ∷ []) (drop 1 rest) else read (found ++ x ∷ []) rest)
+
+-- item { "," item }, no more items than the number
+unfoldable pub items : {A : Type 0} → Reader A → ℕ → Reader (List A)
+items item limit = items_from item limit []

@@ -1,0 +1,13 @@
+//! Reads the text of a request. Each function follows a reader of `specs/` step by step, and that
+//! reader is shown to read exactly what the grammar spells (`proofs/`).
+#![tactic(auto)]
+
+mod create;
+mod insert;
+mod list;
+mod request;
+mod select;
+mod tokens;
+
+pub use cj_lex::SqlError;
+pub use request::read;

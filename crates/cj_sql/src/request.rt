@@ -1,0 +1,46 @@
+//! Whole requests.
+
+ghost use Rattle.cj_sql.specs.Cursor.{Reads};
+ghost use Rattle.cj_sql.specs.Read.{IsRead};
+ghost use Rattle.cj_sql.specs.StatementReader as spec;
+
+use crate::create::create;
+use crate::insert::insert;
+use crate::select::select;
+use crate::tokens::Tokens;
+use cj_lex::{SqlError, read_tokens};
+use cj_model::{Keyword, Request, Symbol};
+use std::alloc::Global;
+
+#[tactic(auto, unfolding(crate::specs::StatementReader::statement))]
+fn statement(alloc: Global, tokens: &mut Tokens) -> Result<Request, SqlError>
+    ensures { Reads spec.statement tokens.old result tokens.new }
+{
+    if tokens.eat_word(Keyword::Create) {
+        return create(alloc, tokens);
+    }
+    if tokens.eat_word(Keyword::Insert) {
+        return insert(alloc, tokens);
+    }
+    tokens.expect_word(Keyword::Select)?;
+    select(alloc, tokens)
+}
+
+/// A statement, maybe with a semicolon, and nothing after it.
+#[tactic(auto, unfolding(crate::specs::StatementReader::whole))]
+fn whole(alloc: Global, tokens: &mut Tokens) -> Result<Request, SqlError>
+    ensures { Reads spec.whole tokens.old result tokens.new }
+{
+    let request = statement(alloc, tokens)?;
+    let _semicolon = tokens.eat_symbol(Symbol::Semi);
+    if tokens.sees_end() { Ok(request) } else { Err(SqlError::Syntax) }
+}
+
+/// The request that the text reads as. `Syntax` exactly where it reads as none.
+pub fn read(alloc: Global, text: &[u8]) -> Result<Request, SqlError>
+    ensures { IsRead text.now result }
+{
+    let found = read_tokens(alloc, text)?;
+    let mut tokens = Tokens::new(found);
+    whole(alloc, &mut tokens)
+}

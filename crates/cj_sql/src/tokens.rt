@@ -1,0 +1,160 @@
+//! What is left of a text's tokens.
+
+ghost use Rattle.std.specs.Prelude.{◌≡◌, drop, if◌then◌else◌};
+ghost use Rattle.cj_sql.specs.Cursor.{Shows, Takes, Reads};
+ghost use Rattle.cj_sql.specs.Reader as spec;
+
+use cj_lex::SqlError;
+use cj_model::{Keyword, Name, Symbol, Text, Token};
+use std::collections::VecDeque;
+use std::marker::Model;
+
+/// A cursor over tokens, which contracts see as the list of those that are left.
+#[derive(Drop)]
+pub struct Tokens {
+    rest: VecDeque<Token>,
+}
+
+impl Model for Tokens {
+    ghost use Rattle.std.specs.Prelude.{List};
+    ghost use Rattle.cj_model.specs.declared.token.Token.{Token};
+
+    ghost Value = { List Token };
+
+    ghost view = { λ tokens. tokens.rest.items };
+}
+
+#[tactic(auto, unfolding(crate::specs::Reader::same_word))]
+fn same_word(a: Keyword, b: Keyword) -> bool
+    ensures { result ≡ spec.same_word a b }
+{
+    a == b
+}
+
+#[tactic(auto, unfolding(crate::specs::Reader::same_symbol))]
+fn same_symbol(a: Symbol, b: Symbol) -> bool
+    ensures { result ≡ spec.same_symbol a b }
+{
+    a == b
+}
+
+impl Tokens {
+    pub fn new(rest: VecDeque<Token>) -> Tokens
+        ensures { result ≡ rest.items }
+    {
+        Tokens { rest }
+    }
+
+    fn front(&self) -> Option<&Token>
+        ensures { Shows result self.now }
+    {
+        self.rest.front()
+    }
+
+    fn take(&mut self) -> Option<Token>
+        ensures { Takes result self.old self.new }
+    {
+        self.rest.pop_front()
+    }
+
+    pub fn sees_word(&self, word: Keyword) -> bool
+        ensures { result ≡ spec.sees_word word self.now }
+    {
+        match self.front() {
+            Some(Token::Word(found)) => same_word(*found, word),
+            _ => false,
+        }
+    }
+
+    pub fn sees_symbol(&self, symbol: Symbol) -> bool
+        ensures { result ≡ spec.sees_symbol symbol self.now }
+    {
+        match self.front() {
+            Some(Token::Symbol(found)) => same_symbol(*found, symbol),
+            _ => false,
+        }
+    }
+
+    pub fn sees_number(&self) -> bool
+        ensures { result ≡ spec.sees_number self.now }
+    {
+        matches!(self.front(), Some(Token::Number(_)))
+    }
+
+    pub fn sees_end(&self) -> bool
+        ensures { result ≡ spec.sees_end self.now }
+    {
+        self.front().is_none()
+    }
+
+    /// Takes the word where it stands at the front.
+    pub fn eat_word(&mut self, word: Keyword) -> bool
+        ensures found { result ≡ spec.sees_word word self.old }
+        ensures rest { self.new ≡ (if result then drop 1 self.old else self.old) }
+    {
+        let found = self.sees_word(word);
+        if found {
+            self.take();
+        }
+        found
+    }
+
+    /// Takes the symbol where it stands at the front.
+    pub fn eat_symbol(&mut self, symbol: Symbol) -> bool
+        ensures found { result ≡ spec.sees_symbol symbol self.old }
+        ensures rest { self.new ≡ (if result then drop 1 self.old else self.old) }
+    {
+        let found = self.sees_symbol(symbol);
+        if found {
+            self.take();
+        }
+        found
+    }
+
+    #[tactic(auto, unfolding(crate::specs::Reader::name))]
+    pub fn name(&mut self) -> Result<Name, SqlError>
+        ensures { Reads spec.name self.old result self.new }
+    {
+        match self.take() {
+            Some(Token::Name(name)) => Ok(name),
+            Some(_other) => Err(SqlError::Syntax),
+            None => Err(SqlError::Syntax),
+        }
+    }
+
+    #[tactic(auto, unfolding(crate::specs::Reader::number))]
+    pub fn number(&mut self) -> Result<u64, SqlError>
+        ensures { Reads spec.number self.old result self.new }
+    {
+        match self.take() {
+            Some(Token::Number(number)) => Ok(number),
+            Some(_other) => Err(SqlError::Syntax),
+            None => Err(SqlError::Syntax),
+        }
+    }
+
+    #[tactic(auto, unfolding(crate::specs::Reader::text))]
+    pub fn text(&mut self) -> Result<Text, SqlError>
+        ensures { Reads spec.text self.old result self.new }
+    {
+        match self.take() {
+            Some(Token::Text(text)) => Ok(text),
+            Some(_other) => Err(SqlError::Syntax),
+            None => Err(SqlError::Syntax),
+        }
+    }
+
+    #[tactic(auto, unfolding(crate::specs::Reader::expect_word))]
+    pub fn expect_word(&mut self, word: Keyword) -> Result<(), SqlError>
+        ensures { Reads (spec.expect_word word) self.old result self.new }
+    {
+        if self.eat_word(word) { Ok(()) } else { Err(SqlError::Syntax) }
+    }
+
+    #[tactic(auto, unfolding(crate::specs::Reader::expect_symbol))]
+    pub fn expect_symbol(&mut self, symbol: Symbol) -> Result<(), SqlError>
+        ensures { Reads (spec.expect_symbol symbol) self.old result self.new }
+    {
+        if self.eat_symbol(symbol) { Ok(()) } else { Err(SqlError::Syntax) }
+    }
+}
