@@ -1,1 +1,4 @@
+pub mod DatabaseLaws
+pub mod RisingLaws
+pub mod TableLaws
 pub mod Names
