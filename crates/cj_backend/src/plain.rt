@@ -1,0 +1,2 @@
+//! The plain database.
+pub struct PlainDatabase { a: u8 }
