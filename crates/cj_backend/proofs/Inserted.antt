@@ -1,12 +1,12 @@
 -- Tests over lists, and an INSERT past its refusals by the list of columns.
-use Rattle.std.proofs.Common.{◌≡◌, ℕ, Bool, true, false, not, ◌||◌, ◌==◌, List, [], ◌∷◌, length, map, refl, ap, sym, ◌∙◌}
+use Rattle.std.proofs.Common.{◌≡◌, ℕ, Bool, false, not, ◌||◌, ◌==◌, List, [], ◌∷◌, length, map, refl, ap}
 use Rattle.std.specs.List.{list_any}
 use Rattle.std.specs.declared.option.Option.{Option}
 use Rattle.cj_model.specs.declared.term.Term.{Term}
 use Rattle.cj_model.specs.declared.database.Table.{Table}
-use Rattle.cj_model.specs.declared.codes.TheConstants.{NO_COLUMN, BAD_COLUMNS, WRONG_TYPE}
+use Rattle.cj_model.specs.declared.codes.TheConstants.{WRONG_TYPE}
 use Rattle.cj_model.specs.Tables.{fits_columns}
-use Rattle.cj_model.specs.Changes.{Changed, bare, unless, row_of, lists_stranger, lists_unevenly, with_rows, inserted}
+use Rattle.cj_model.specs.Changes.{bare, unless, row_of, lists_stranger, lists_unevenly, with_rows, inserted}
 use Rattle.cj_backend.specs.Plain.{with_fitting_rows}
 
 -- a test of what items are made into

@@ -13,10 +13,12 @@ use Rattle.cj_model.specs.declared.write.Write.{Write}
 use Rattle.cj_model.specs.declared.answer.Asked.{Asked}
 use Rattle.cj_model.specs.declared.answer.Asked.TheVariants.{Rows, Refused}
 use Rattle.cj_model.specs.declared.answer.Outcome.{Outcome}
+use Rattle.cj_model.specs.declared.answer.Outcome.TheVariants.{Done}
+use Rattle.cj_model.specs.declared.answer.Outcome.TheVariants as outcome
 use Rattle.cj_model.specs.declared.codes.TheConstants.{WRONG_TYPE, LOCKED}
 use Rattle.cj_model.specs.Tables.{fits_columns}
 use Rattle.cj_model.specs.Changes.{Changed, bare, unless, with_rows, change}
-use Rattle.cj_model.specs.Steps.{Stepped, seen, other_writer}
+use Rattle.cj_model.specs.Steps.{Stepped, seen, other_writer, with_table}
 use Rattle.cj_model.specs.Replies.{IsEven}
 
 -- the step's outcome and database; after want of memory the database is as it was
@@ -42,3 +44,10 @@ abbrev pub with_fitting_rows : Table → List (List Value) → Changed
 with_fitting_rows t rows =
     unless (list_any (λ r. not (fits_columns t.schema.columns r)) rows) (bare WRONG_TYPE)
     (with_rows t.schema.key t.rows rows)
+
+-- a slot after a change of the table that a transaction sees, and the outcome; a refusal or want of memory leaves it
+abbrev pub CarriesSlot : Slot → ℕ → Changed → Result Outcome NoMemory → Slot → Type 0
+CarriesSlot old tx (Ok (rows, count)) (Ok o) new = (o ≡ Done count) × (new ≡ with_table old tx (record { schema = old.base.schema; rows = rows }))
+CarriesSlot old tx (Err refusal) (Ok o) new = (o ≡ outcome.Refused refusal) × (new ≡ old)
+CarriesSlot old tx (Ok (rows, count)) (Err e) new = new ≡ old
+CarriesSlot old tx (Err refusal) (Err e) new = new ≡ old

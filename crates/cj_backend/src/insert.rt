@@ -9,8 +9,8 @@ ghost use Rattle.cj_model.specs.Tables as tables;
 
 use crate::rows::{Changed, bare, with_rows};
 use cj_model::{
-    BAD_COLUMNS, Column, Duplicate, Kind, NO_COLUMN, Name, Names, NoMemory, Row, Rows, Table,
-    Term, Tuple, Value, WRONG_TYPE,
+    BAD_COLUMNS, Column, Duplicate, Kind, NO_COLUMN, Name, Names, NoMemory, Row, Rows, Table, Term,
+    Tuple, Value, WRONG_TYPE,
 };
 use std::alloc::Global;
 

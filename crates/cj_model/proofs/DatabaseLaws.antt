@@ -118,9 +118,9 @@ key_within : (cs : List ColDef) → count_by (λ (c : ColDef). c.key) cs ≡ 1 �
 key_within cs one = cond_both (nat_lt (position_or_len (λ (c : ColDef). c.key) cs) (length cs)) (Some (position_or_len (λ (c : ColDef). c.key) cs)) None (λ o. unwrap_or o 0 < length cs)
     (λ t. ltb-true _ _ t)
     (λ _. some cs one) where
-  some : (ds : List ColDef) → count_by (λ (c : ColDef). c.key) ds ≡ 1 → 0 < length ds
-  some [] h = cc h
-  some (d ∷ ds) h = omega arith
+      some : (ds : List ColDef) → count_by (λ (c : ColDef). c.key) ds ≡ 1 → 0 < length ds
+      some [] h = cc h
+      some (d ∷ ds) h = omega arith
 
 names_kept : (cs : List ColDef) → column_names (map (λ (d : ColDef). record { name = d.name; kind = d.kind }) cs) ≡ map (λ (c : ColDef). c.name) cs
 names_kept [] = refl
@@ -132,15 +132,15 @@ empty_slot_is_slot c few made =
     let parts = and_parts (is_distinct (map (λ (d : ColDef). d.name) c.columns)) (eqb (count_by (λ (d : ColDef). d.key) c.columns) 1) made in
     let width : length (schema_of c).columns ≡ length c.columns = length-map c.columns _ in
     record {
-    base = record {
-    few = omega (arith, width, few);
-    distinct = ap is_distinct (names_kept c.columns) ∙ parts.0;
-    key = omega (arith, width, key_within c.columns (eqb-true _ _ parts.1));
-    kinds = All-nil _;
-    rises = tt;
-    room = omega arith;
-    };
-    draft = tt;
+      base = record {
+        few = omega (arith, width, few);
+        distinct = ap is_distinct (names_kept c.columns) ∙ parts.0;
+        key = omega (arith, width, key_within c.columns (eqb-true _ _ parts.1));
+        kinds = All-nil _;
+        rises = tt;
+        room = omega arith;
+      };
+      draft = tt;
     }
 
 pub created_keeps : (db : List Slot) (c : Create) → length c.columns ≤ column_limit → IsDatabase db → IsDatabase (created db c).db
@@ -148,8 +148,8 @@ created_keeps db c few is = cond_both (is_some (slot_of db c.table)) _ _ (λ (s 
     (λ _. is)
     (λ _. cond_both (make_schema c.columns) _ _ (λ (s : Stepped). IsDatabase s.db)
     (λ made. record {
-    slots = all_put by_table IsSlot db (empty_slot c) is.slots (empty_slot_is_slot c few made);
-    rises = rises_put by_table by_table_total db (empty_slot c) is.rises;
+      slots = all_put by_table IsSlot db (empty_slot c) is.slots (empty_slot_is_slot c few made);
+      rises = rises_put by_table by_table_total db (empty_slot c) is.rises;
     })
     (λ _. is))
 

@@ -126,12 +126,12 @@ module _ {A : Type 0} (R : A → A → Ordering) where
   rises_map P f same [] a r = tt
   rises_map P f same (x ∷ xs) a r =
       (above xs (All-tail P x xs a) r.0, rises_map P f same xs (All-tail P x xs a) r.1) where
-    above : (ys : List A) → All P ys → All (λ y. R x y ≡ Less) ys → All (λ y. R (f x) y ≡ Less) (map f ys)
-    above [] b l = All-nil (λ y. R (f x) y ≡ Less)
-    above (y ∷ ys) b l =
-        All-cons (λ y. R (f x) y ≡ Less) (f y) (map f ys)
-        (same x y (All-head P x xs a) (All-head P y ys b) ∙ All-head (λ y. R x y ≡ Less) y ys l)
-        (above ys (All-tail P y ys b) (All-tail (λ y. R x y ≡ Less) y ys l))
+        above : (ys : List A) → All P ys → All (λ y. R x y ≡ Less) ys → All (λ y. R (f x) y ≡ Less) (map f ys)
+        above [] b l = All-nil (λ y. R (f x) y ≡ Less)
+        above (y ∷ ys) b l =
+            All-cons (λ y. R (f x) y ≡ Less) (f y) (map f ys)
+            (same x y (All-head P x xs a) (All-head P y ys b) ∙ All-head (λ y. R x y ≡ Less) y ys l)
+            (above ys (All-tail P y ys b) (All-tail (λ y. R x y ≡ Less) y ys l))
 
   module _ (total : IsTotalOrder R) where
     -- what stands above a greater one, or above an equal one

@@ -98,7 +98,7 @@ pub table_is_even : (t : Table) → IsTable t → IsEven (record { columns = col
 table_is_even t is =
     let width : length (column_names t.schema.columns) ≡ length t.schema.columns = length-map t.schema.columns (λ (c : Column). c.name) in
     record {
-    some = omega (arith, width, is.key);
-    most = omega (arith, width, is.few);
-    each = All-weaker (Fits t.schema.columns) (λ row. length row ≡ length (column_names t.schema.columns)) (λ row h. length-fits t.schema.columns row h) t.rows is.kinds;
+      some = omega (arith, width, is.key);
+      most = omega (arith, width, is.few);
+      each = All-weaker (Fits t.schema.columns) (λ row. length row ≡ length (column_names t.schema.columns)) (λ row h. length-fits t.schema.columns row h) t.rows is.kinds;
     }

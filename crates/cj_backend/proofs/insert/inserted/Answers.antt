@@ -1,7 +1,7 @@
 use Rattle.std.proofs.Common.{◌≡◌, false, not, ◌==◌, List, length, map, IfOk, subst, sym, ap, ◌∙◌}
 use Rattle.std.specs.List.{list_any}
 use Rattle.cj_model.specs.declared.term.Term.{Term}
-use Rattle.cj_model.specs.Changes.{Changed, row_of, lists_stranger, lists_unevenly, inserted}
+use Rattle.cj_model.specs.Changes.{Changed, row_of, lists_stranger, lists_unevenly}
 use Rattle.cj_backend.specs.Plain.{with_fitting_rows}
 use Rattle.cj_backend.proofs.Inserted.{inserted_rows}
 use Rattle.cj_backend.proofs.insert.inserted.Goals as goal

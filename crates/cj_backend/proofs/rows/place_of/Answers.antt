@@ -1,4 +1,4 @@
-use Rattle.std.proofs.Common.{◌≡◌, ◌<◌, length, get_or, Equal, sym, ap, ◌∙◌}
+use Rattle.std.proofs.Common.{◌≡◌, get_or, Equal, sym, ap, ◌∙◌}
 use Rattle.cj_model.specs.Tables.{by_key}
 use Rattle.cj_model.proofs.RisingLaws.{put_over}
 use Rattle.cj_backend.proofs.rows.place_of.Goals as goal
