@@ -3,6 +3,7 @@
 #![tactic(auto)]
 
 mod asked;
+mod ends;
 mod insert;
 mod plain;
 mod rows;

@@ -1,14 +1,15 @@
 //! The plain database.
 
-ghost use Rattle.std.specs.Prelude.{◌≡◌, ◌≤◌, [], length, IfOk};
+ghost use Rattle.std.specs.Prelude.{◌≡◌, ◌≤◌, [], length, map, IfOk};
 ghost use Rattle.cj_backend.specs.Plain.{Carries, IsEvenAsked};
 ghost use Rattle.cj_model.specs.Asks as asks;
-ghost use Rattle.cj_model.specs.Steps.{created, written};
+ghost use Rattle.cj_model.specs.Steps.{aborted, committed, created, dropped, written};
 ghost use Rattle.cj_model.specs.Tables.{column_limit};
 
 use crate::asked::ask_slots;
+use crate::ends::{abort_slots, commit_slots, drop_slot};
 use crate::slots::{create_slot, write_slots};
-use cj_model::{Asked, Create, NoMemory, Outcome, Select, Slot, Write};
+use cj_model::{Asked, Create, Name, NoMemory, Outcome, Select, Slot, Write};
 use std::alloc::Global;
 use std::marker::Model;
 
@@ -62,5 +63,27 @@ impl PlainDatabase {
         ensures even { IfOk result IsEvenAsked }
     {
         ask_slots(alloc, &self.slots, tx, select)
+    }
+
+    /// DROP TABLE, which takes no memory.
+    pub fn drop_table(&mut self, name: &Name) -> Outcome
+        ensures outcome { result ≡ (dropped self.old name.now).outcome }
+        ensures database { self.new ≡ (dropped self.old name.now).db }
+    {
+        drop_slot(&mut self.slots, name)
+    }
+
+    /// COMMIT of transaction `tx`, which takes no memory.
+    pub fn commit(&mut self, tx: u64)
+        ensures { self.new ≡ map (committed tx) self.old }
+    {
+        commit_slots(&mut self.slots, tx);
+    }
+
+    /// The end of transaction `tx` without its changes, which takes no memory.
+    pub fn abort(&mut self, tx: u64)
+        ensures { self.new ≡ map (aborted tx) self.old }
+    {
+        abort_slots(&mut self.slots, tx);
     }
 }
