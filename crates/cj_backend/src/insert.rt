@@ -9,21 +9,10 @@ ghost use Rattle.cj_model.specs.Tables as tables;
 
 use crate::rows::{Changed, bare, with_rows};
 use cj_model::{
-    BAD_COLUMNS, Column, Duplicate, Kind, NO_COLUMN, Name, Names, NoMemory, Row, Rows, Table, Term,
+    BAD_COLUMNS, Column, Duplicate, NO_COLUMN, Name, Names, NoMemory, Row, Rows, Table, Term,
     Tuple, Value, WRONG_TYPE,
 };
 use std::alloc::Global;
-
-fn same_kind(kind: Kind, other: Kind) -> bool
-    ensures { result ≡ tables.same_kind kind other }
-{
-    match (kind, other) {
-        (Kind::Integer, Kind::Integer) => true,
-        (Kind::Integer, Kind::Text) => false,
-        (Kind::Text, Kind::Integer) => false,
-        (Kind::Text, Kind::Text) => true,
-    }
-}
 
 /// Whether the values are of the columns' kinds, one for each.
 fn fits_columns(mut columns: &[Column], mut row: &[Value]) -> bool
@@ -31,7 +20,7 @@ fn fits_columns(mut columns: &[Column], mut row: &[Value]) -> bool
 {
     while let [column, more @ ..] = columns {
         match row {
-            [value, rest @ ..] if same_kind(column.kind, value.kind()) => {
+            [value, rest @ ..] if column.kind == value.kind() => {
                 columns = more;
                 row = rest;
             }
@@ -47,9 +36,7 @@ fn constant(alloc: Global, term: &Term) -> Result<Value, NoMemory>
 {
     match term {
         Term::Lit(value) => value.copy(alloc),
-        Term::Col(_) => Ok(Value::Int(0)),
-        Term::Now => Ok(Value::Int(0)),
-        Term::Rand(_) => Ok(Value::Int(0)),
+        Term::Col(_) | Term::Now | Term::Rand(_) => Ok(Value::Int(0)),
     }
 }
 
