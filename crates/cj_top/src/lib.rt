@@ -8,3 +8,5 @@ mod session;
 pub use program::{pipe, run};
 pub use session::Session;
 
+#[cfg(test)]
+mod tests;
