@@ -54,12 +54,14 @@ text_sound (_ ∷ ts) x rest h = absurd (cc)
 pub expect_word_sound : (w : Keyword) (ts : List Token) (u : Unit {0}) (rest : List Token) → expect_word w ts ≡ read u rest → ts ≡ token.Word w ∷ rest
 unfolding expect_word
 expect_word_sound w ts u rest h = elim (chosen (sees_word w ts) _ _ _ h) [
-    inl e ↦ let seen = word_seen w ts e.0 in let k = e.1 in cc
-  | inr e ↦ let k = e.1 in absurd (cc) ]
+  | inl e ↦ let seen = word_seen w ts e.0 in let k = e.1 in cc
+  | inr e ↦ let k = e.1 in absurd (cc)
+]
 
 -- a symbol that was expected stood there
 pub expect_symbol_sound : (s : Symbol) (ts : List Token) (u : Unit {0}) (rest : List Token) → expect_symbol s ts ≡ read u rest → ts ≡ token.Symbol s ∷ rest
 unfolding expect_symbol
 expect_symbol_sound s ts u rest h = elim (chosen (sees_symbol s ts) _ _ _ h) [
-    inl e ↦ let seen = symbol_seen s ts e.0 in let k = e.1 in cc
-  | inr e ↦ let k = e.1 in absurd (cc) ]
+  | inl e ↦ let seen = symbol_seen s ts e.0 in let k = e.1 in cc
+  | inr e ↦ let k = e.1 in absurd (cc)
+]

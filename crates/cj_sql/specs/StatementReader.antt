@@ -1,5 +1,5 @@
 -- The reader of statements as a function, which the code follows step by step.
-use Rattle.std.specs.Prelude.{ℕ, ◌^◌, Bool, true, false, ◌&&◌, ◌==◌, nat_lt, nat_le, if◌then◌else◌, List, [], ◌∷◌, length, map, count_by, pos, neg_ℤ, drop}
+use Rattle.std.specs.Prelude.{◌^◌, Bool, true, false, ◌&&◌, ◌==◌, nat_lt, nat_le, if◌then◌else◌, List, [], ◌∷◌, length, map, count_by, pos, neg_ℤ, drop}
 use Rattle.std.specs.declared.option.Option.TheVariants.{None}
 use Rattle.cj_model.specs.declared.token.Keyword.TheVariants as word
 use Rattle.cj_model.specs.declared.token.Symbol.TheVariants as symbol
@@ -15,7 +15,7 @@ use Rattle.cj_model.specs.declared.write.Write.TheVariants as write
 use Rattle.cj_model.specs.declared.request.Request.{Request}
 use Rattle.cj_model.specs.declared.request.Request.TheVariants as request
 use Rattle.cj_model.specs.Tables.{is_distinct}
-use Rattle.cj_sql.specs.Reader.{Read, refused, read, and_then, Reader, sees_word, sees_symbol, sees_number, sees_end, name, number, text, expect_word, expect_symbol, items}
+use Rattle.cj_sql.specs.Reader.{refused, read, and_then, Reader, sees_word, sees_symbol, sees_number, sees_end, name, number, text, expect_word, expect_symbol, items}
 
 -- ---- CREATE TABLE
 

@@ -148,13 +148,21 @@ impl Tokens {
     pub fn expect_word(&mut self, word: Keyword) -> Result<(), SqlError>
         ensures { Reads (spec.expect_word word) self.old result self.new }
     {
-        if self.eat_word(word) { Ok(()) } else { Err(SqlError::Syntax) }
+        if self.eat_word(word) {
+            Ok(())
+        } else {
+            Err(SqlError::Syntax)
+        }
     }
 
     #[tactic(auto, unfolding(crate::specs::Reader::expect_symbol))]
     pub fn expect_symbol(&mut self, symbol: Symbol) -> Result<(), SqlError>
         ensures { Reads (spec.expect_symbol symbol) self.old result self.new }
     {
-        if self.eat_symbol(symbol) { Ok(()) } else { Err(SqlError::Syntax) }
+        if self.eat_symbol(symbol) {
+            Ok(())
+        } else {
+            Err(SqlError::Syntax)
+        }
     }
 }

@@ -1,4 +1,4 @@
-use Rattle.std.proofs.Common.{◌≡◌, ℕ, map, length}
+use Rattle.std.proofs.Common.{◌≡◌, map, length}
 use Rattle.cj_model.specs.declared.schema.ColDef.{ColDef}
 use Rattle.cj_model.specs.Tables as tables
 use Rattle.cj_sql.proofs.create.is_distinct.Given as goal
