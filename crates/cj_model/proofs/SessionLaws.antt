@@ -45,8 +45,8 @@ answered_more ms i m lt is no_quit before =
     record {
       within = omega arith;
       parts = before.parts ∙ ap (λ (xs : List Message). take i ms ++ xs) (ap answered next ∙ answered_on m (drop (i + 1) ms) no_quit)
-        ∙ sym (append_assoc (take i ms) (m ∷ []) (answered (drop (i + 1) ms)))
-        ∙ ap (λ (xs : List Message). xs ++ answered (drop (i + 1) ms)) (sym (take_item ms i m lt is));
+          ∙ sym (append_assoc (take i ms) (m ∷ []) (answered (drop (i + 1) ms)))
+          ∙ ap (λ (xs : List Message). xs ++ answered (drop (i + 1) ms)) (sym (take_item ms i m lt is));
       quits = before.quits ∙ ap (list_any is_quit) next ∙ quits_on m (drop (i + 1) ms) no_quit;
     }
 
