@@ -1,6 +1,9 @@
 pub mod Columns
+pub mod DatabaseLaws
 pub mod FaultLaws
 pub mod Fields
 pub mod Names
 pub mod OneReading
+pub mod RisingLaws
 pub mod SessionLaws
+pub mod TableLaws
