@@ -24,7 +24,7 @@ pub fn bare(code: u16) -> Refusal
 }
 
 /// The order of two rows by their values in the key's column.
-pub fn compare_keys(key: usize, row: &Row, other: &Row) -> Ordering
+fn compare_keys(key: usize, row: &Row, other: &Row) -> Ordering
     ensures { result ≡ by_key key row.now other.now }
 {
     let zero = Value::Int(0);
@@ -33,7 +33,7 @@ pub fn compare_keys(key: usize, row: &Row, other: &Row) -> Ordering
 }
 
 /// Whether one of the rows has this row's key.
-pub fn has_key(key: usize, rows: &[Row], row: &Row) -> bool
+fn has_key(key: usize, rows: &[Row], row: &Row) -> bool
     ensures { result ≡ changes.has_key key rows.now row.now }
 {
     rows.iter()
@@ -41,7 +41,7 @@ pub fn has_key(key: usize, rows: &[Row], row: &Row) -> bool
 }
 
 /// Whether two of the rows have one key.
-pub fn has_key_twice(key: usize, mut rows: &[Row]) -> bool
+fn has_key_twice(key: usize, mut rows: &[Row]) -> bool
     ensures { result ≡ changes.has_key_twice key rows.entry.now }
 {
     while let [row, rest @ ..] = rows {
@@ -61,7 +61,7 @@ fn has_key_of(key: usize, rows: &[Row], new: &[Row]) -> bool
 }
 
 /// Where the row is put: at the place of the row with its key, or in front of the row at a place.
-pub fn place_of(key: usize, rows: &[Row], row: &Row) -> Result<usize, usize>
+fn place_of(key: usize, rows: &[Row], row: &Row) -> Result<usize, usize>
     ensures { IsPlace (by_key key) rows.now row.now result }
 {
     for (i, other) in rows.iter().enumerate() {
@@ -75,7 +75,7 @@ pub fn place_of(key: usize, rows: &[Row], row: &Row) -> Result<usize, usize>
 }
 
 /// Puts a row in its place, instead of one with its key.
-pub fn put_row(key: usize, rows: &mut Vec<Row>, row: Row) -> Result<(), NoMemory>
+fn put_row(key: usize, rows: &mut Vec<Row>, row: Row) -> Result<(), NoMemory>
     ensures ok { OnOk result (rows.new.items ≡ put_by (by_key key) rows.old.items row) }
     ensures err { OnErr result (rows.new.items ≡ rows.old.items) }
 {
@@ -87,7 +87,7 @@ pub fn put_row(key: usize, rows: &mut Vec<Row>, row: Row) -> Result<(), NoMemory
 }
 
 /// A copy of the rows with the new ones in their places.
-pub fn put_rows(alloc: Global, key: usize, rows: &Rows, new: Rows) -> Result<Rows, NoMemory>
+fn put_rows(alloc: Global, key: usize, rows: &Rows, new: Rows) -> Result<Rows, NoMemory>
     ensures { IfOk result (λ all. all ≡ fold (put_by (by_key key)) rows.now new) }
 {
     let mut all = rows.copy(alloc)?.into_vec();

@@ -38,9 +38,8 @@ pub fn seen(slot: &Slot, tx: u64) -> &Table
     ensures { result.now ≡ steps.seen slot.now tx }
 {
     match &slot.draft {
-        None => &slot.base,
         Some(draft) if draft.tx == tx => &draft.table,
-        Some(_) => &slot.base,
+        _ => &slot.base,
     }
 }
 
@@ -49,9 +48,8 @@ fn other_writer(slot: &Slot, tx: u64) -> Option<u64>
     ensures { result ≡ steps.other_writer tx slot.now.draft }
 {
     match &slot.draft {
-        None => None,
-        Some(draft) if draft.tx == tx => None,
-        Some(draft) => Some(draft.tx),
+        Some(draft) if draft.tx != tx => Some(draft.tx),
+        _ => None,
     }
 }
 
@@ -70,9 +68,8 @@ fn table_written(write: &Write) -> &Name
     ensures { result.now ≡ steps.table_written write.now }
 {
     match write {
-        Write::Insert { table, .. } => table,
-        Write::Update { table, .. } => table,
-        Write::Delete { table, .. } => table,
+        Write::Insert { table, .. } | Write::Update { table, .. } | Write::Delete { table, .. } =>
+            table,
     }
 }
 
@@ -82,8 +79,7 @@ fn change(alloc: Global, table: &Table, write: &Write) -> Result<Changed, NoMemo
 {
     match write {
         Write::Insert { columns, rows, .. } => inserted(alloc, table, columns, rows.as_slice()),
-        Write::Update { .. } => Ok(Err(bare(NOT_BUILT))),
-        Write::Delete { .. } => Ok(Err(bare(NOT_BUILT))),
+        Write::Update { .. } | Write::Delete { .. } => Ok(Err(bare(NOT_BUILT))),
     }
 }
 

@@ -1,6 +1,6 @@
 -- A step leaves a database a database, and what it is asked has a value for each column.
 use Rattle.std.proofs.Common.{◌≡◌, ℕ, ◌<◌, ◌≤◌, true, not, eqb, nat_lt, List, [], ◌∷◌, length, map, refl, ap, sym, ◌∙◌, subst, is_eq, arith}
-use Rattle.std.specs.Prelude.{All, IfOk, IfSome, count_by, position, unwrap_or, is_some}
+use Rattle.std.specs.Prelude.{IfOk, IfSome, count_by, position, unwrap_or, is_some}
 use Rattle.std.specs.List.{position_or_len}
 use Rattle.std.specs.Str.{bytes_eq}
 use Rattle.std.specs.declared.option.Option.{Option}
@@ -10,7 +10,7 @@ use Rattle.std.specs.Cmp.{IsTotalOrder}
 use Rattle.std.proofs.lemmas.Bool.{and_parts, eqb-true, eqb-false, ltb-true, cond_both}
 use Rattle.std.proofs.lemmas.Cmp.{on_total, nat_list_cmp_total}
 use Rattle.std.proofs.lemmas.List.{length-map}
-use Rattle.std.proofs.lemmas.List.Elements.{All-nil, All-head, All-tail, All-filter, All-map, All-weaker}
+use Rattle.std.proofs.lemmas.List.Elements.{All-nil, All-filter, All-map, All-weaker}
 use Rattle.std.proofs.lemmas.Map.Text.{is_eq-slice_cmp}
 use Rattle.cj_model.specs.declared.schema.ColDef.{ColDef}
 use Rattle.cj_model.specs.declared.schema.Create.{Create}
@@ -29,7 +29,7 @@ use Rattle.cj_model.specs.Changes.{Changed, change}
 use Rattle.cj_model.specs.Steps.{Stepped, seen_behind, seen, other_writer, with_table, table_written, write_done, write_unless_locked, write_in, written, make_schema, schema_of, empty_slot, created, drop_unless_locked, drop_in, dropped, commit_behind, committed, abort_behind, aborted, acted}
 use Rattle.cj_model.specs.Asks.{asks_all, all_in, ask_over, ask}
 use Rattle.cj_model.specs.Replies.{IsEven}
-use Rattle.cj_model.proofs.RisingLaws.{find_All, all_put, rises_put, rises_filter, rises_map}
+use Rattle.cj_model.proofs.RisingLaws.{found_All, all_put, rises_put, rises_filter, rises_map}
 use Rattle.cj_model.proofs.TableLaws.{IsTableWith, change_keeps, table_is_even}
 
 -- slots have a total order by the names of their tables
@@ -40,9 +40,9 @@ by_table_total = on_total table_of nat_list_cmp_total
 pub is_eq-by_table : (s t : Slot) → is_eq (by_table s t) ≡ bytes_eq (table_of s) (table_of t)
 is_eq-by_table s t = is_eq-slice_cmp (table_of s) (table_of t)
 
--- a slot that is found is one
-pub slot_is_slot : (db : List Slot) (name : List ℕ) (s : Slot) → IsDatabase db → slot_of db name ≡ Some s → IsSlot s
-slot_is_slot db name s is e = find_All IsSlot (λ s. bytes_eq (table_of s) name) db s is.slots e
+-- what is found of a table is a slot
+pub found_is_slot : (db : List Slot) (name : List ℕ) → IsDatabase db → IfSome (slot_of db name) IsSlot
+found_is_slot db name is = found_All IsSlot (λ s. bytes_eq (table_of s) name) db is.slots
 
 -- a draft of a table with this schema, if there is one
 abbrev IfDraft : Table → Option Draft → Type 0
@@ -101,13 +101,7 @@ write_in_keeps : (db : List Slot) (tx : ℕ) (w : Write) (found : Option Slot) �
 write_in_keeps db tx w None is h = is
 write_in_keeps db tx w (Some s) is h = write_unless_locked_keeps db s tx w (other_writer tx s.draft) is h
 
--- what is found is a slot, if there is one
-found_is_slot : (db : List Slot) (name : List ℕ) → IsDatabase db → IfSome (slot_of db name) IsSlot
-found_is_slot db name is = all_found db is.slots where
-  all_found : (xs : List Slot) → All IsSlot xs → IfSome (slot_of xs name) IsSlot
-  all_found [] a = tt
-  all_found (x ∷ xs) a = cond_both (bytes_eq (table_of x) name) (Some x) (slot_of xs name) (λ o. IfSome o IsSlot) (λ _. All-head IsSlot x xs a) (λ _. all_found xs (All-tail IsSlot x xs a))
-
+-- any write
 pub written_keeps : (db : List Slot) (tx : ℕ) (w : Write) → IsDatabase db → IsDatabase (written db tx w).db
 written_keeps db tx w is = write_in_keeps db tx w (slot_of db (table_written w)) is (found_is_slot db (table_written w) is)
 

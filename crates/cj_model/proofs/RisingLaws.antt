@@ -1,14 +1,14 @@
 -- Rising lists: what putting in, leaving out and changing items keep, and where an item is put.
-use Rattle.std.proofs.Common.{◌≡◌, ℕ, ◌+◌, ◌<◌, ◌≤◌, Bool, true, false, cond, zero, suc, List, [], ◌∷◌, ◌++◌, length, get_or, set, take, drop, map, refl, ap, sym, ◌∙◌, subst, ⊎_elim, Ordering, Less, Equal, Greater, is_eq, arith, append_assoc, add-one}
-use Rattle.std.specs.Prelude.{All, filter, fold, find, insert}
+use Rattle.std.proofs.Common.{◌≡◌, ◌⊎◌, inl, inr, ℕ, ◌+◌, ◌<◌, ◌≤◌, Bool, true, false, cond, zero, suc, List, [], ◌∷◌, ◌++◌, length, get_or, set, take, drop, map, refl, ap, sym, ◌∙◌, subst, Ordering, Less, Equal, Greater, is_eq, arith, add-one}
+use Rattle.std.specs.Prelude.{All, Contains, IfSome, filter, fold, find}
 use Rattle.std.specs.declared.option.Option.{Option}
 use Rattle.std.specs.declared.option.Option.TheVariants.{None, Some}
 use Rattle.std.specs.Cmp.{IsTotalOrder}
 use Rattle.std.specs.Ordering.{match_ordering, ordering_reverse}
-use Rattle.std.proofs.lemmas.Bool.{cases_Bool, cond-true, cond-false}
+use Rattle.std.proofs.lemmas.Bool.{cond_both, cond-false}
 use Rattle.std.proofs.lemmas.Cmp.{alike_right}
-use Rattle.std.proofs.lemmas.List.{drop_more, drop_all, take_more, take_all, set_split}
-use Rattle.std.proofs.lemmas.List.Elements.{All-nil, All-cons, All-head, All-tail, All-weaker, All-filter, All-get_or}
+use Rattle.std.proofs.lemmas.List.{drop_more, set_split}
+use Rattle.std.proofs.lemmas.List.Elements.{All-contains, All-contains_itself, All-nil, All-cons, All-head, All-tail, All-weaker, All-filter, All-get_or}
 use Rattle.cj_model.specs.Tables.{Rises, put_by}
 
 -- a case on an ordering, with what it is
@@ -17,14 +17,17 @@ by_order Less f g h = f refl
 by_order Equal f g h = g refl
 by_order Greater f g h = h refl
 
--- what is found is one of the items
-pub find_All : {A : Type 0} (P : A → Type 0) (p : A → Bool) (xs : List A) (x : A) → All P xs → find p xs ≡ Some x → P x
-find_All P p [] x a e = cc e
-find_All P p (y ∷ ys) x a e = ⊎_elim
-    (λ (t : p y ≡ true). let same : Some y ≡ Some x = sym (cond-true (p y) (Some y) (find p ys) t) ∙ e in
-    subst P (ap (λ o. elim o [ None ↦ x | Some z ↦ z ]) same) (All-head P y ys a))
-    (λ (f : p y ≡ false). find_All P p ys x (All-tail P y ys a) (sym (cond-false (p y) (Some y) (find p ys) f) ∙ e))
-    (cases_Bool (p y))
+-- what is found, if there is anything, is one of the items
+pub found_All : {A : Type 0} (P : A → Type 0) (p : A → Bool) (xs : List A) → All P xs → IfSome (find p xs) P
+found_All P p [] a = tt
+found_All P p (x ∷ xs) a = cond_both (p x) (Some x) (find p xs) (λ o. IfSome o P) (λ _. All-head P x xs a) (λ _. found_All P p xs (All-tail P x xs a))
+
+-- an item at the front, and one behind it
+Contains-first : {A : Type 0} (x : A) (xs : List A) → Contains (x ∷ xs) x
+Contains-first x xs = (0, omega arith, refl)
+
+Contains-later : {A : Type 0} (y : A) (xs : List A) (x : A) → Contains xs x → Contains (y ∷ xs) x
+Contains-later y xs x h = (suc h.0, omega (arith, h.1), h.2)
 
 -- a test that was false already
 again : {X : Type 0} (b c : Bool) (x y z : X) → b ≡ c → cond b x z ≡ cond b x (cond c y z)
@@ -56,6 +59,19 @@ module _ {A : Type 0} (R : A → A → Ordering) where
     | Greater ↦ All-cons P y (put_by R ys x) (All-head P y ys a) (all_put P ys x (All-tail P y ys a) p)
   ]
 
+  -- the new item is there
+  pub Contains-put : (xs : List A) (x : A) → Contains (put_by R xs x) x
+  Contains-put [] x = Contains-first x []
+  Contains-put (y ∷ ys) x = elim (R x y) as (λ o. Contains (match_ordering o (x ∷ y ∷ ys) (x ∷ ys) (y ∷ put_by R ys x)) x) [
+    | Less ↦ Contains-first x (y ∷ ys)
+    | Equal ↦ Contains-first x ys
+    | Greater ↦ Contains-later y (put_by R ys x) x (Contains-put ys x)
+  ]
+
+  -- nothing else is new
+  pub Contains-put_cases : (xs : List A) (x y : A) → Contains (put_by R xs x) y → (y ≡ x) ⊎ Contains xs y
+  Contains-put_cases xs x y h = All-contains (λ z. (z ≡ x) ⊎ Contains xs z) (put_by R xs x) y (all_put (λ z. (z ≡ x) ⊎ Contains xs z) xs x (All-weaker (Contains xs) (λ z. (z ≡ x) ⊎ Contains xs z) (λ z p. inr p) xs (All-contains_itself xs)) (inl refl)) h
+
   -- at most one more
   pub length-put : (xs : List A) (x : A) → length (put_by R xs x) ≤ length xs + 1
   length-put [] x = omega arith
@@ -77,15 +93,6 @@ module _ {A : Type 0} (R : A → A → Ordering) where
   -- ---- finding the place from the front on
 
   module _ (xs : List A) (x : A) (i : ℕ) (before : put_by R xs x ≡ take i xs ++ put_by R (drop i xs) x) where
-    -- in front of the first that is above
-    pub put_before : (d : A) → i < length xs → R x (get_or xs i d) ≡ Less → put_by R xs x ≡ insert xs i x
-    put_before d l e =
-        let rest : drop i xs ≡ get_or xs i d ∷ drop (i + 1) xs = drop_more xs i d l in
-        let step : put_by R (drop i xs) x ≡ x ∷ drop i xs =
-        subst (λ (ys : List A). put_by R ys x ≡ x ∷ ys) (sym rest)
-        (ap (λ o. match_ordering o (x ∷ get_or xs i d ∷ drop (i + 1) xs) (x ∷ drop (i + 1) xs) (get_or xs i d ∷ put_by R (drop (i + 1) xs) x)) e) in
-        before ∙ ap (λ ys. take i xs ++ ys) step
-
     -- instead of the one that is equal
     pub put_over : (d : A) → i < length xs → R x (get_or xs i d) ≡ Equal → put_by R xs x ≡ set xs i x
     put_over d l e =
@@ -93,23 +100,6 @@ module _ {A : Type 0} (R : A → A → Ordering) where
         ap (λ ys. put_by R ys x) (drop_more xs i d l)
         ∙ ap (λ o. match_ordering o (x ∷ get_or xs i d ∷ drop (i + 1) xs) (x ∷ drop (i + 1) xs) (get_or xs i d ∷ put_by R (drop (i + 1) xs) x)) e in
         before ∙ ap (λ ys. take i xs ++ ys) step ∙ ap (λ n. take i xs ++ x ∷ drop n xs) (add-one i) ∙ sym (set_split xs i x l)
-
-    -- past one that is below
-    pub put_past : (d : A) → i < length xs → R x (get_or xs i d) ≡ Greater → put_by R xs x ≡ take (i + 1) xs ++ put_by R (drop (i + 1) xs) x
-    put_past d l e =
-        let step : put_by R (drop i xs) x ≡ get_or xs i d ∷ put_by R (drop (i + 1) xs) x =
-        ap (λ ys. put_by R ys x) (drop_more xs i d l)
-        ∙ ap (λ o. match_ordering o (x ∷ get_or xs i d ∷ drop (i + 1) xs) (x ∷ drop (i + 1) xs) (get_or xs i d ∷ put_by R (drop (i + 1) xs) x)) e in
-        before ∙ ap (λ ys. take i xs ++ ys) step
-        ∙ sym (append_assoc (take i xs) (get_or xs i d ∷ []) (put_by R (drop (i + 1) xs) x))
-        ∙ ap (λ ys. ys ++ put_by R (drop (i + 1) xs) x) (sym (take_more xs i d l))
-
-    -- at the end
-    pub put_last : length xs ≤ i → put_by R xs x ≡ insert xs (length xs) x
-    put_last l =
-        before ∙ ap (λ ys. take i xs ++ put_by R ys x) (drop_all i xs l)
-        ∙ ap (λ ys. ys ++ x ∷ []) (take_all i xs l ∙ sym (take_all (length xs) xs (omega arith)))
-        ∙ ap (λ ys. take (length xs) xs ++ x ∷ ys) (sym (drop_all (length xs) xs (omega arith)))
 
   -- ---- what stays rising
 
