@@ -1,7 +1,9 @@
 pub mod Columns
 pub mod FaultLaws
 pub mod Fields
+pub mod Masks
 pub mod Names
 pub mod OneReading
 pub mod Pushed
 pub mod SessionLaws
+pub mod Sessions
