@@ -3,6 +3,7 @@ pub mod FaultLaws
 pub mod Fields
 pub mod Masks
 pub mod Names
+pub mod Now
 pub mod OneReading
 pub mod Pushed
 pub mod SessionLaws
