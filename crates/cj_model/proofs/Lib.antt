@@ -1,4 +1,5 @@
 pub mod Columns
+pub mod Effects
 pub mod FaultLaws
 pub mod Fields
 pub mod Masks
@@ -8,3 +9,4 @@ pub mod OneReading
 pub mod Pushed
 pub mod SessionLaws
 pub mod Sessions
+pub mod Soundness

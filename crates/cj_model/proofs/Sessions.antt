@@ -1,11 +1,13 @@
 -- Open sessions: found by their numbers, changed, added and removed.
-use Rattle.std.proofs.Common.{◌≡◌, ◌≢◌, ℕ, ◌==◌, ◌<◌, ◌≤◌, Bool, true, false, not, cond, List, [], ◌∷◌, ◌++◌, length, filter, All, Option, None, Some, unwrap_or, option_map, is_some, refl, ap, sym, ◌∙◌, subst, arith, ⊎_elim}
-use Rattle.std.proofs.lemmas.Bool.{cases_eq, eqb-true, eq-eqb, ne_eqb}
+use Rattle.std.proofs.Common.{◌≡◌, ◌≢◌, ℕ, ◌==◌, ◌<◌, ◌≤◌, Bool, true, false, not, cond, List, [], ◌∷◌, ◌++◌, length, get_or, filter, All, Option, None, Some, unwrap_or, option_map, is_some, refl, ap, sym, ◌∙◌, subst, arith, ⊎_elim}
+use Rattle.std.proofs.lemmas.Bool.{cases_eq, eqb-true, eqb-false, eq-eqb, ne_eqb}
+use Rattle.std.proofs.lemmas.List.{length-map}
 use Rattle.std.proofs.lemmas.List.Elements.{All-nil, All-cons, All-head, All-tail, All-push, All-filter, All-weaker}
 use Rattle.std.proofs.lemmas.List.Folds.{find-append}
 use Rattle.std.specs.Option.{option_or}
 use Rattle.std.specs.Ordering.{nat_cmp}
 use Rattle.std.specs.Cmp.{nat_cmp_is}
+use Rattle.std.proofs.lemmas.Cmp.{ranked}
 use Rattle.std.specs.declared.cmp.Ordering.TheVariants.{Less}
 use Rattle.cj_model.specs.declared.moves.OpenSession.{OpenSession}
 use Rattle.cj_model.specs.Tables.{Rises}
@@ -43,6 +45,23 @@ found_none [] s all = refl
 found_none (y ∷ ss) s all =
     rw (ne_eqb y.number s (All-head (λ (x : OpenSession). x.number ≢ s) y ss all)) (found_none ss s (All-tail (λ (x : OpenSession). x.number ≢ s) y ss all))
 
+-- the session of an open number
+pub found_open : (c : Core) (s : ℕ) → is_some (session_of c.sessions s) ≡ true → session_of c.sessions s ≡ Some (session_at c s)
+found_open c s here = one (session_of c.sessions s) refl here
+  where
+    one : (o : Option OpenSession) → session_of c.sessions s ≡ o → is_some o ≡ true → session_of c.sessions s ≡ Some (session_at c s)
+    one None is on = absurd (cc on)
+    one (Some x) is on = is ∙ ap (λ y. Some y) (sym (session_at-is c s (Some x) is))
+
+-- where numbers rise, each session is found by its own
+pub found_itself : (ss : List OpenSession) → Rises by_number ss → All (λ (x : OpenSession). session_of ss x.number ≡ Some x) ss
+found_itself [] r = All-nil (λ (x : OpenSession). session_of [] x.number ≡ Some x)
+found_itself (y ∷ ss) r =
+    All-cons (λ (x : OpenSession). session_of (y ∷ ss) x.number ≡ Some x) y ss (rw (eq-eqb y.number y.number refl) refl) (λ k d lt. later (get_or ss k d) (r.0 k d lt) (found_itself ss r.1 k d lt))
+  where
+    later : (x : OpenSession) → by_number y x ≡ Less → session_of ss x.number ≡ Some x → session_of (y ∷ ss) x.number ≡ Some x
+    later x less is = let lt : y.number < x.number = ranked y.number x.number Less (sym less) in rw (ne_eqb y.number x.number (omega arith)) is
+
 -- ---- one session changed, by what keeps its number
 
 module _ (f : OpenSession → OpenSession) (keeps : (x : OpenSession) → (f x).number ≡ x.number) where
@@ -79,7 +98,7 @@ module _ (f : OpenSession → OpenSession) (keeps : (x : OpenSession) → (f x).
       some_map (Some x) = refl
 
 -- what holds of each after one was changed
-pub all_with : (P Q : OpenSession → Type 0) (f : OpenSession → OpenSession) (ss : List OpenSession) (s : ℕ) → ((x : OpenSession) → x.number ≡ s → P x → Q (f x)) → ((x : OpenSession) → P x → Q x)
+pub all_with : (P Q : OpenSession → Type 0) (f : OpenSession → OpenSession) (ss : List OpenSession) (s : ℕ) → ((x : OpenSession) → x.number ≡ s → P x → Q (f x)) → ((x : OpenSession) → x.number ≢ s → P x → Q x)
     → All P ss → All Q (with_session ss s f)
 all_with P Q f [] s here there all = All-nil Q
 all_with P Q f (y ∷ ss) s here there all =
@@ -87,7 +106,10 @@ all_with P Q f (y ∷ ss) s here there all =
   where
     one : (b : Bool) → (y.number == s) ≡ b → P y → Q (cond b (f y) y)
     one true e p = here y (eqb-true _ _ e) p
-    one false e p = there y p
+    one false e p = there y (eqb-false _ _ e) p
+
+pub length_with : (f : OpenSession → OpenSession) (ss : List OpenSession) (s : ℕ) → length (with_session ss s f) ≡ length ss
+length_with f ss s = length-map ss (λ (x : OpenSession). cond (x.number == s) (f x) x)
 
 -- rising numbers still rise
 pub rises_with : (f : OpenSession → OpenSession) → ((x : OpenSession) → (f x).number ≡ x.number) → (ss : List OpenSession) (s : ℕ) → Rises by_number ss → Rises by_number (with_session ss s f)
@@ -95,7 +117,7 @@ rises_with f keeps [] s r = tt
 rises_with f keeps (y ∷ ss) s r = (one (y.number == s), rises_with f keeps ss s r.1)
   where
     below : (n : ℕ) → All (λ (x : OpenSession). nat_cmp n x.number ≡ Less) ss → All (λ (x : OpenSession). nat_cmp n x.number ≡ Less) (with_session ss s f)
-    below n all = all_with (λ (x : OpenSession). nat_cmp n x.number ≡ Less) (λ (x : OpenSession). nat_cmp n x.number ≡ Less) f ss s (λ x e p. rw (keeps x) p) (λ x p. p) all
+    below n all = all_with (λ (x : OpenSession). nat_cmp n x.number ≡ Less) (λ (x : OpenSession). nat_cmp n x.number ≡ Less) f ss s (λ x e p. rw (keeps x) p) (λ x e p. p) all
     one : (b : Bool) → All (λ (x : OpenSession). by_number (cond b (f y) y) x ≡ Less) (with_session ss s f)
     one true = subst (λ (n : ℕ). All (λ (x : OpenSession). nat_cmp n x.number ≡ Less) (with_session ss s f)) (sym (keeps y)) (below y.number r.0)
     one false = below y.number r.0
@@ -114,6 +136,14 @@ session_of-push_other ss y t ne =
     or_none : (o : Option OpenSession) → option_or o None ≡ o
     or_none None = refl
     or_none (Some x) = refl
+
+-- an open session stays open
+pub is_open-push : (ss : List OpenSession) (y : OpenSession) (t : ℕ) → is_some (session_of ss t) ≡ true → is_some (session_of (ss ++ y ∷ []) t) ≡ true
+is_open-push ss y t here = rw (find-append (λ (x : OpenSession). x.number == t) ss (y ∷ [])) (one (session_of ss t) (session_of (y ∷ []) t) here)
+  where
+    one : (o p : Option OpenSession) → is_some o ≡ true → is_some (option_or o p) ≡ true
+    one None p on = absurd (cc on)
+    one (Some x) p on = refl
 
 pub rises_push : (ss : List OpenSession) (y : OpenSession) → All (λ (x : OpenSession). x.number < y.number) ss → Rises by_number ss → Rises by_number (ss ++ y ∷ [])
 rises_push [] y all r = (All-nil (λ (x : OpenSession). by_number y x ≡ Less), tt)
