@@ -2,6 +2,7 @@ pub mod Columns
 pub mod Effects
 pub mod FaultLaws
 pub mod Fields
+pub mod Growth
 pub mod Masks
 pub mod Names
 pub mod Now
