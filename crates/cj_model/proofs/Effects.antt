@@ -4,7 +4,7 @@ use Rattle.std.proofs.lemmas.Grind.{common_steps}
 use Rattle.std.proofs.lemmas.Bool.{cases_eq, cases_lt, eqb-true, eqb-false, and_parts, or_cases, both_ways, not-true, or_parts}
 use Rattle.std.proofs.lemmas.List.{get_or-set_same, get_or-set_other, get_or_past, length-set, length-map}
 use Rattle.std.proofs.lemmas.Option.{slice_get_within}
-use Rattle.std.proofs.lemmas.List.Elements.{All-push, All-filter, All-weaker, All-head, All-tail}
+use Rattle.std.proofs.lemmas.List.Elements.{All-nil, All-push, All-filter, All-weaker, All-head, All-tail}
 use Rattle.cj_model.specs.declared.request.Act.{Act}
 use Rattle.cj_model.specs.declared.request.Act.TheVariants as act
 use Rattle.cj_model.specs.declared.request.Entry.{Entry}
@@ -12,6 +12,7 @@ use Rattle.cj_model.specs.declared.event.Event.{Event}
 use Rattle.cj_model.specs.declared.event.Event.TheVariants.{Sched, Ended, ReadFailed, Disabled, Enabled}
 use Rattle.cj_model.specs.declared.moves.OpenSession.{OpenSession}
 use Rattle.cj_model.specs.Tables.{Rises}
+use Rattle.cj_model.specs.Placements.{Placement}
 use Rattle.cj_model.specs.Histories.{has, scheduled, is_ended, log, done, free, opened, enabled, room, TxState, tx_now, tx_after, tx_of}
 use Rattle.cj_model.specs.Legality.{Allowed, FitMasks, IsFit, IsLegal, user_limit}
 use Rattle.cj_model.specs.Cores.{Core, position_at, with_bit, session_limit, session_of, fresh_session, with_session, is_by}
@@ -199,6 +200,32 @@ pub lone_no_tx : (es : List Entry) (s : ℕ) → All (λ (e : Entry). IsLone e e
 lone_no_tx es s all = lone_from s (record { count = 0; tx = 0 }) es all
 
 -- ---- states
+
+-- nothing has happened, and each backend has taken no entry, or is out
+pub sound_start : (placement : Placement) (positions : List (Option ℕ)) → length positions ≡ placement.backends → ((b q : ℕ) → get_or positions b None ≡ Some q → q ≡ 0)
+    → IsSound (record { placement = placement; history = []; positions = positions; failed = 0; starved = 0; sessions = []; greatest = 0 })
+sound_start placement positions cells begin =
+    record {
+      legal = record { short = omega arith; each = λ k d lt. absurd (omega arith) };
+      short = omega arith;
+      one_open = (omega arith, omega arith);
+      cells = cells;
+      hosts = λ b on. absurd (cc on);
+      stands = λ b lt. one b (get_or positions b None) (begin b);
+      in_masks = λ b. (λ t. absurd (both_ways (has 0 b) (has-zero b) t), λ t. absurd (both_ways (has 0 b) (has-zero b) t));
+      clear = λ _. (refl, refl);
+      lone = All-nil (λ (e : Entry). IsLone e e.act);
+      sessions = All-nil (IsSession [] 0);
+      rises = tt;
+      few = omega arith;
+      numbers = omega arith;
+      known = All-nil (λ (e : Entry). e.session ≤ 0);
+      waits = λ e is. absurd (cc is);
+    }
+  where
+    one : (b : ℕ) (p : Option ℕ) → ((q : ℕ) → p ≡ Some q → q ≡ 0) → Stands [] 0 0 b p
+    one b (Some q) zero = (let z : q ≡ 0 = zero q refl in omega arith, λ on. absurd (cc on), has-zero b, has-zero b)
+    one b None zero = λ on. absurd (cc on)
 
 -- the sessions alone are changed
 pub sound_sessions : (c : Core) (ss : List OpenSession) (g : ℕ) → IsSound c → SessionsAre c.history g ss → IsSound (record c { sessions = ss; greatest = g })
