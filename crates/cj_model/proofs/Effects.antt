@@ -1,8 +1,7 @@
 -- Each change that a move makes keeps the state sound.
-use Rattle.std.proofs.Common.{◌≡◌, ◌≢◌, ◌⊎◌, inl, inr, ℕ, ◌+◌, ◌-◌, ◌*◌, ◌^◌, ◌<◌, ◌≤◌, ◌==◌, ◌&&◌, ◌||◌, not, Bool, true, false, cond, List, [], ◌∷◌, ◌++◌, length, map, get_or, set, fold, All, Option, None, Some, is_some, refl, ap, sym, ◌∙◌, subst, arith, length-append, ⊎_elim}
-use Rattle.std.proofs.lemmas.Grind.{common_steps}
+use Rattle.std.proofs.Common.{◌≡◌, ◌≢◌, ◌⊎◌, inl, inr, ℕ, ◌+◌, ◌-◌, ◌*◌, ◌^◌, ◌<◌, ◌≤◌, ◌==◌, not, Bool, true, false, List, [], ◌∷◌, ◌++◌, length, get_or, set, fold, All, Option, None, Some, is_some, refl, ap, sym, ◌∙◌, subst, arith, length-append, ⊎_elim}
 use Rattle.std.proofs.lemmas.Bool.{cases_eq, cases_lt, eqb-true, eqb-false, and_parts, or_cases, both_ways, not-true, or_parts}
-use Rattle.std.proofs.lemmas.List.{get_or-set_same, get_or-set_other, get_or_past, length-set, length-map}
+use Rattle.std.proofs.lemmas.List.{get_or-set_same, get_or-set_other, get_or_past, length-set}
 use Rattle.std.proofs.lemmas.Option.{slice_get_within}
 use Rattle.std.proofs.lemmas.List.Elements.{All-nil, All-push, All-filter, All-weaker, All-head, All-tail}
 use Rattle.cj_model.specs.declared.request.Act.{Act}
@@ -14,15 +13,15 @@ use Rattle.cj_model.specs.declared.moves.OpenSession.{OpenSession}
 use Rattle.cj_model.specs.Tables.{Rises}
 use Rattle.cj_model.specs.Placements.{Placement}
 use Rattle.cj_model.specs.Histories.{has, scheduled, is_ended, log, done, free, opened, enabled, room, TxState, tx_now, tx_after, tx_of}
-use Rattle.cj_model.specs.Legality.{Allowed, FitMasks, IsFit, IsLegal, user_limit}
+use Rattle.cj_model.specs.Legality.{Allowed, IsFit, user_limit}
 use Rattle.cj_model.specs.Cores.{Core, position_at, with_bit, session_limit, session_of, fresh_session, with_session, is_by}
 use Rattle.cj_model.specs.declared.moves.Did.{Did}
 use Rattle.cj_model.specs.declared.moves.Did.TheVariants as did
 use Rattle.cj_model.specs.Moves.{counted, Takes, failed_after, starved_after}
 use Rattle.cj_model.specs.Sound.{IsSound, IsSession, IsLone, Stands, by_number}
-use Rattle.cj_model.proofs.Pushed.{enabled-push, log-sched, log-same, done-same, done-ended, opened-sched, opened-same, opened-ended, legal_push}
+use Rattle.cj_model.proofs.Pushed.{enabled-push, log-sched, log-same, done-same, done-ended, opened-sched, opened-same, legal_push}
 use Rattle.cj_model.proofs.Masks.{has-zero, has-with_same, has-with_other}
-use Rattle.cj_model.proofs.Sessions.{found_itself, found_number, is_open-with, is_open-push, all_with, length_with, rises_with, rises_push, without, session_of-without_other, rises_without, length_without}
+use Rattle.cj_model.proofs.Sessions.{found_itself, is_open-with, is_open-push, all_with, length_with, rises_with, rises_push, without, session_of-without_other, rises_without, length_without}
 
 -- ---- sessions
 
@@ -50,19 +49,19 @@ pub are_opened : (h : List Event) (g : ℕ) (ss : List OpenSession) (user : List
     → SessionsAre h (g + 1) (ss ++ fresh_session (g + 1) user ∷ [])
 are_opened h g ss user a few lt fits =
     let below : All (λ (x : OpenSession). x.number < g + 1) ss =
-      All-weaker (IsSession h g) (λ (x : OpenSession). x.number < g + 1) (λ x i. let le : x.number ≤ g = i.number.1 in omega arith) ss a.sessions
+    All-weaker (IsSession h g) (λ (x : OpenSession). x.number < g + 1) (λ x i. let le : x.number ≤ g = i.number.1 in omega arith) ss a.sessions
     in
     let more : (x : OpenSession) → IsSession h g x → IsSession h (g + 1) x =
-      λ x i. record { number = (i.number.0, let le : x.number ≤ g = i.number.1 in omega arith); user = i.user; owes = i.owes; entries = i.entries }
+    λ x i. record { number = (i.number.0, let le : x.number ≤ g = i.number.1 in omega arith); user = i.user; owes = i.owes; entries = i.entries }
     in
     let unknown : All (λ (e : Entry). e.session ≡ g + 1 → e.seq ≤ 0) (log h) =
-      All-weaker (λ (e : Entry). e.session ≤ g) (λ (e : Entry). e.session ≡ g + 1 → e.seq ≤ 0) (λ e le is. absurd (omega arith)) (log h) a.known
+    All-weaker (λ (e : Entry). e.session ≤ g) (λ (e : Entry). e.session ≡ g + 1 → e.seq ≤ 0) (λ e le is. absurd (omega arith)) (log h) a.known
     in
     let n = length-append ss (fresh_session (g + 1) user ∷ []) in
     record {
       sessions =
-        All-push (IsSession h (g + 1)) ss (fresh_session (g + 1) user) (All-weaker (IsSession h g) (IsSession h (g + 1)) more ss a.sessions)
-        (record { number = (omega arith, omega arith); user = fits; owes = omega arith; entries = unknown });
+          All-push (IsSession h (g + 1)) ss (fresh_session (g + 1) user) (All-weaker (IsSession h g) (IsSession h (g + 1)) more ss a.sessions)
+          (record { number = (omega arith, omega arith); user = fits; owes = omega arith; entries = unknown });
       rises = rises_push ss (fresh_session (g + 1) user) below a.rises;
       few = omega arith;
       numbers = omega arith;
@@ -82,9 +81,9 @@ are_closed h g ss s a idle =
       numbers = a.numbers;
       known = a.known;
       waits =
-        λ e is.
-        let ne : e.session ≢ s = eqb-false _ _ (subst (λ (o : Option Entry). is_by s o ≡ false) is idle) in
-        rw (session_of-without_other ss s e.session ne) (a.waits e is);
+          λ e is.
+          let ne : e.session ≢ s = eqb-false _ _ (subst (λ (o : Option Entry). is_by s o ≡ false) is idle) in
+          rw (session_of-without_other ss s e.session ne) (a.waits e is);
     }
 
 -- a session is changed, at a history with the same log
@@ -103,10 +102,12 @@ are_with h h' g ss s f a k same was =
     there : (x : OpenSession) → x.number ≢ s → IsSession h g x → IsSession h' g x
     there x ne i =
         record {
-          number = i.number; user = i.user;
+          number = i.number;
+          user = i.user;
           owes = subst (λ (l : List Entry). x.least ≤ length l) (sym same) i.owes;
           entries = subst (All (λ (e : Entry). e.session ≡ x.number → e.seq ≤ x.queries)) (sym same) i.entries;
         }
+
     here : (x : OpenSession) → x.number ≡ s → IsSession h g x → IsSession h' g (f x)
     here x is i =
         record {
@@ -114,25 +115,28 @@ are_with h h' g ss s f a k same was =
           user = rw (k.user x) i.user;
           owes = subst (λ (l : List Entry). (f x).least ≤ length l) (sym same) (k.least x i.owes);
           entries =
-            subst (All (λ (e : Entry). e.session ≡ (f x).number → e.seq ≤ (f x).queries)) (sym same)
-            (All-weaker (λ (e : Entry). e.session ≡ x.number → e.seq ≤ x.queries) (λ (e : Entry). e.session ≡ (f x).number → e.seq ≤ (f x).queries)
-               (λ e old now. let le = old (now ∙ k.number x) in let more = k.queries x in omega arith) (log h) i.entries);
+              subst (All (λ (e : Entry). e.session ≡ (f x).number → e.seq ≤ (f x).queries)) (sym same)
+              (All-weaker (λ (e : Entry). e.session ≡ x.number → e.seq ≤ x.queries) (λ (e : Entry). e.session ≡ (f x).number → e.seq ≤ (f x).queries)
+              (λ e old now. let le = old (now ∙ k.number x) in let more = k.queries x in omega arith) (log h) i.entries);
         }
 
 -- no session is changed, at a history with the same log
 pub are_kept : (h h' : List Event) (g : ℕ) (ss : List OpenSession) → SessionsAre h g ss → log h' ≡ log h → ((e : Entry) → opened h' ≡ Some e → opened h ≡ Some e) → SessionsAre h' g ss
 are_kept h h' g ss a same was =
     let again : (x : OpenSession) → IsSession h g x → IsSession h' g x =
-      λ x i.
-      record {
-        number = i.number; user = i.user;
-        owes = subst (λ (l : List Entry). x.least ≤ length l) (sym same) i.owes;
-        entries = subst (All (λ (e : Entry). e.session ≡ x.number → e.seq ≤ x.queries)) (sym same) i.entries;
-      }
+    λ x i.
+    record {
+      number = i.number;
+      user = i.user;
+      owes = subst (λ (l : List Entry). x.least ≤ length l) (sym same) i.owes;
+      entries = subst (All (λ (e : Entry). e.session ≡ x.number → e.seq ≤ x.queries)) (sym same) i.entries;
+    }
     in
     record {
       sessions = All-weaker (IsSession h g) (IsSession h' g) again ss a.sessions;
-      rises = a.rises; few = a.few; numbers = a.numbers;
+      rises = a.rises;
+      few = a.few;
+      numbers = a.numbers;
       known = subst (All (λ (e : Entry). e.session ≤ g)) (sym same) a.known;
       waits = λ e is. a.waits e (was e is);
     }
@@ -148,36 +152,41 @@ are_sched h g ss s e x a found fr by seq le =
       numbers = a.numbers;
       known = subst (All (λ (d : Entry). d.session ≤ g)) (sym (log-sched h e)) (All-push (λ (d : Entry). d.session ≤ g) (log h) e a.known (omega arith));
       waits =
-        λ d is.
-        let same : e ≡ d = cc (sym (opened-sched h e fr) ∙ is) in
-        is_open-with counted (λ y. refl) ss s d.session ∙ (rw (← same, by, found) refl);
+          λ d is.
+          let same : e ≡ d = cc (sym (opened-sched h e fr) ∙ is) in
+          is_open-with counted (λ y. refl) ss s d.session ∙ (rw (← same, by, found) refl);
     }
   where
     Before : OpenSession → Type 0
     Before y = IsSession h g y × (session_of ss y.number ≡ Some y)
+
     longer : length (log (h ++ Sched e ∷ [])) ≡ length (log h) + 1
     longer = ap length (log-sched h e) ∙ length-append (log h) (e ∷ [])
+
     there : (y : OpenSession) → y.number ≢ s → Before y → IsSession (h ++ Sched e ∷ []) g y
     there y ne b =
         record {
-          number = b.0.number; user = b.0.user;
+          number = b.0.number;
+          user = b.0.user;
           owes = let le = b.0.owes in omega (arith, longer);
           entries =
-            subst (All (λ (d : Entry). d.session ≡ y.number → d.seq ≤ y.queries)) (sym (log-sched h e))
-            (All-push (λ (d : Entry). d.session ≡ y.number → d.seq ≤ y.queries) (log h) e b.0.entries (λ is. absurd (ne (sym is ∙ by))));
+              subst (All (λ (d : Entry). d.session ≡ y.number → d.seq ≤ y.queries)) (sym (log-sched h e))
+              (All-push (λ (d : Entry). d.session ≡ y.number → d.seq ≤ y.queries) (log h) e b.0.entries (λ is. absurd (ne (sym is ∙ by))));
         }
+
     here : (y : OpenSession) → y.number ≡ s → Before y → IsSession (h ++ Sched e ∷ []) g (counted y)
     here y is b =
         let same : x ≡ y = cc (sym found ∙ subst (λ (n : ℕ). session_of ss n ≡ Some y) is b.1) in
         let last : e.seq ≤ y.queries + 1 = subst (λ (w : OpenSession). e.seq ≤ w.queries + 1) same (omega arith) in
         record {
-          number = b.0.number; user = b.0.user;
+          number = b.0.number;
+          user = b.0.user;
           owes = let le = b.0.owes in omega (arith, longer);
           entries =
-            subst (All (λ (d : Entry). d.session ≡ y.number → d.seq ≤ y.queries + 1)) (sym (log-sched h e))
-            (All-push (λ (d : Entry). d.session ≡ y.number → d.seq ≤ y.queries + 1) (log h) e
-               (All-weaker (λ (d : Entry). d.session ≡ y.number → d.seq ≤ y.queries) (λ (d : Entry). d.session ≡ y.number → d.seq ≤ y.queries + 1) (λ d old now. let le = old now in omega arith) (log h) b.0.entries)
-               (λ is. last));
+              subst (All (λ (d : Entry). d.session ≡ y.number → d.seq ≤ y.queries + 1)) (sym (log-sched h e))
+              (All-push (λ (d : Entry). d.session ≡ y.number → d.seq ≤ y.queries + 1) (log h) e
+              (All-weaker (λ (d : Entry). d.session ≡ y.number → d.seq ≤ y.queries) (λ (d : Entry). d.session ≡ y.number → d.seq ≤ y.queries + 1) (λ d old now. let le = old now in omega arith) (log h) b.0.entries)
+              (λ is. last));
         }
 
 -- ---- outside transactions
@@ -231,8 +240,21 @@ sound_start placement positions cells begin =
 pub sound_sessions : (c : Core) (ss : List OpenSession) (g : ℕ) → IsSound c → SessionsAre c.history g ss → IsSound (record c { sessions = ss; greatest = g })
 sound_sessions c ss g s a =
     record {
-      legal = s.legal; short = s.short; one_open = s.one_open; cells = s.cells; hosts = s.hosts; stands = s.stands; in_masks = s.in_masks; clear = s.clear; lone = s.lone;
-      sessions = a.sessions; rises = a.rises; few = a.few; numbers = a.numbers; known = a.known; waits = a.waits;
+      legal = s.legal;
+      short = s.short;
+      one_open = s.one_open;
+      cells = s.cells;
+      hosts = s.hosts;
+      stands = s.stands;
+      in_masks = s.in_masks;
+      clear = s.clear;
+      lone = s.lone;
+      sessions = a.sessions;
+      rises = a.rises;
+      few = a.few;
+      numbers = a.numbers;
+      known = a.known;
+      waits = a.waits;
     }
 
 sched_stands : (h : List Event) (e : Entry) (f s b : ℕ) (p : Option ℕ) → f ≡ 0 → s ≡ 0 → Stands h f s b p → Stands (h ++ Sched e ∷ []) 0 0 b p
@@ -265,7 +287,12 @@ sound_sched c e ss s fr fit lone space a =
       in_masks = λ b. (λ t. absurd (both_ways (has 0 b) (has-zero b) t), λ t. absurd (both_ways (has 0 b) (has-zero b) t));
       clear = λ _. (refl, refl);
       lone = subst (All (λ (x : Entry). IsLone x x.act)) (sym (log-sched c.history e)) (All-push (λ (x : Entry). IsLone x x.act) (log c.history) e s.lone lone);
-      sessions = a.sessions; rises = a.rises; few = a.few; numbers = a.numbers; known = a.known; waits = a.waits;
+      sessions = a.sessions;
+      rises = a.rises;
+      few = a.few;
+      numbers = a.numbers;
+      known = a.known;
+      waits = a.waits;
     }
 
 ended_stands : (h : List Event) (f s b : ℕ) (p : Option ℕ) → free h ≡ false → done h ≤ length (log h) → length (log h) ≤ done h + 1
@@ -277,9 +304,9 @@ ended_stands h f s b (Some p) fr lo hi all st =
     let z : done h ≢ length (log h) = eqb-false _ _ fr in (
       omega arith,
       λ on.
-      let was : enabled h b ≡ true = (and_parts _ _ (sym (enabled-push h (Ended f s) b) ∙ on)).0 in
-      let g : length (log h) ≤ p = all p refl was in
-      omega arith,
+          let was : enabled h b ≡ true = (and_parts _ _ (sym (enabled-push h (Ended f s) b) ∙ on)).0 in
+          let g : length (log h) ≤ p = all p refl was in
+          omega arith,
       has-zero b,
       has-zero b,
     )
@@ -313,7 +340,12 @@ sound_ended c ss s fr all a =
       in_masks = λ b. (λ t. absurd (both_ways (has 0 b) (has-zero b) t), λ t. absurd (both_ways (has 0 b) (has-zero b) t));
       clear = λ _. (refl, refl);
       lone = subst (All (λ (x : Entry). IsLone x x.act)) (sym same) s.lone;
-      sessions = a.sessions; rises = a.rises; few = a.few; numbers = a.numbers; known = a.known; waits = a.waits;
+      sessions = a.sessions;
+      rises = a.rises;
+      few = a.few;
+      numbers = a.numbers;
+      known = a.known;
+      waits = a.waits;
     }
 
 -- where a backend comes to be enabled: it is within the positions, and not behind an end
@@ -326,8 +358,8 @@ same_stands : (h : List Event) (e : Event) (f s b : ℕ) (p : Option ℕ) → le
 same_stands h e f s b (Some p) l d on st = (
   omega arith,
   λ t.
-  ⊎_elim (λ (w : enabled h b ≡ true). let g : done h ≤ p = st.1 w in omega arith)
-  (λ (w : (q : ℕ) × (Some p ≡ Some q) × (done h ≤ q)). let g : p ≡ w.0 = cc (w.1) in let k : done h ≤ w.0 = w.2 in omega arith) (on t),
+      ⊎_elim (λ (w : enabled h b ≡ true). let g : done h ≤ p = st.1 w in omega arith)
+      (λ (w : (q : ℕ) × (Some p ≡ Some q) × (done h ≤ q)). let g : p ≡ w.0 = cc (w.1) in let k : done h ≤ w.0 = w.2 in omega arith) (on t),
   st.2,
   st.3,
 )
@@ -354,14 +386,19 @@ sound_same c e ss s allowed is stays space on keeps a =
       cells = s.cells;
       hosts = λ b t. ⊎_elim (λ (w : enabled c.history b ≡ true). s.hosts b w) (λ (w : CanBeOn c.history c.positions b). w.0) (on b t);
       stands =
-        λ b lt.
-        same_stands c.history e c.failed c.starved b (position_at c b) l d
-        (λ t. ⊎_elim (λ (w : enabled c.history b ≡ true). inl w) (λ (w : CanBeOn c.history c.positions b). inr w.1) (on b t)) (s.stands b lt);
+          λ b lt.
+          same_stands c.history e c.failed c.starved b (position_at c b) l d
+          (λ t. ⊎_elim (λ (w : enabled c.history b ≡ true). inl w) (λ (w : CanBeOn c.history c.positions b). inr w.1) (on b t)) (s.stands b lt);
       in_masks = λ b. (λ t. (keeps b (inl t), ((s.in_masks b).0 t).1), λ t. keeps b (inr t));
       clear =
-        λ fr. s.clear (subst (λ (x : ℕ). (x == length (log c.history)) ≡ true) d (subst (λ (x : List Entry). (done (c.history ++ e ∷ []) == length x) ≡ true) same fr));
+          λ fr. s.clear (subst (λ (x : ℕ). (x == length (log c.history)) ≡ true) d (subst (λ (x : List Entry). (done (c.history ++ e ∷ []) == length x) ≡ true) same fr));
       lone = subst (All (λ (x : Entry). IsLone x x.act)) (sym same) s.lone;
-      sessions = a.sessions; rises = a.rises; few = a.few; numbers = a.numbers; known = a.known; waits = a.waits;
+      sessions = a.sessions;
+      rises = a.rises;
+      few = a.few;
+      numbers = a.numbers;
+      known = a.known;
+      waits = a.waits;
     }
 
 -- a backend failed in a read
@@ -392,8 +429,8 @@ sound_enabled c b s fr off lt at_end space =
     let can : CanBeOn c.history c.positions b = (lt, (length (log c.history), at_end, s.one_open.0)) in
     sound_same c (Enabled b) c.sessions s (fr, off) refl refl space
     (λ k on.
-       ⊎_elim (λ (w : enabled c.history k ≡ true). inl w) (λ (w : (k == b) ≡ true). inr (subst (λ (x : ℕ). CanBeOn c.history c.positions x) (sym (eqb-true k b w)) can))
-       (or_cases _ _ (sym (enabled-push c.history (Enabled b) k) ∙ on)))
+    ⊎_elim (λ (w : enabled c.history k ≡ true). inl w) (λ (w : (k == b) ≡ true). inr (subst (λ (x : ℕ). CanBeOn c.history c.positions x) (sym (eqb-true k b w)) can))
+    (or_cases _ _ (sym (enabled-push c.history (Enabled b) k) ∙ on)))
     (λ k w. absurd (no_masks c s fr k w)) (kept_by c (Enabled b) s refl refl)
 
 -- ---- a backend takes an entry
@@ -421,25 +458,34 @@ pub sound_moved : (c : Core) (b f s : ℕ) (p : Option ℕ) → IsSound c → b 
     → IsSound (record c { positions = set c.positions b p; failed = f; starved = s })
 sound_moved c b f s p w lt now masks others clear =
     record {
-      legal = w.legal; short = w.short; one_open = w.one_open; lone = w.lone; sessions = w.sessions; rises = w.rises; few = w.few; numbers = w.numbers; known = w.known; waits = w.waits;
+      legal = w.legal;
+      short = w.short;
+      one_open = w.one_open;
+      lone = w.lone;
+      sessions = w.sessions;
+      rises = w.rises;
+      few = w.few;
+      numbers = w.numbers;
+      known = w.known;
+      waits = w.waits;
       cells = length-set c.positions b p ∙ w.cells;
       hosts = λ k on. subst (λ (n : ℕ). k < n) (sym (length-set c.positions b p)) (w.hosts k on);
       stands =
-        λ k klt.
-        ⊎_elim (λ (e : k ≡ b). subst (λ (x : ℕ). Stands c.history f s x (get_or (set c.positions b p) x None)) (sym e) (rw get_or-set_same now))
-        (λ (e : k ≡ b → ⊥).
-           let ne : k ≢ b = e in
-           rw get_or-set_other (other_stands c.history c.failed c.starved f s k (position_at c k) (others k ne).0 (others k ne).1 (w.stands k (subst (λ (n : ℕ). k < n) (length-set c.positions b p) klt))))
-        (cases_eq k b);
+          λ k klt.
+          ⊎_elim (λ (e : k ≡ b). subst (λ (x : ℕ). Stands c.history f s x (get_or (set c.positions b p) x None)) (sym e) (rw get_or-set_same now))
+          (λ (e : k ≡ b → ⊥).
+          let ne : k ≢ b = e in
+          rw get_or-set_other (other_stands c.history c.failed c.starved f s k (position_at c k) (others k ne).0 (others k ne).1 (w.stands k (subst (λ (n : ℕ). k < n) (length-set c.positions b p) klt))))
+          (cases_eq k b);
       in_masks =
-        λ k.
-        ⊎_elim (λ (e : k ≡ b). subst (FitsMasks c.history f s) (sym e) masks)
-        (λ (e : k ≡ b → ⊥).
-           let ne : k ≢ b = e in (
-             λ t. (((w.in_masks k).0 (sym (others k ne).0 ∙ t)).0, (others k ne).1 ∙ ((w.in_masks k).0 (sym (others k ne).0 ∙ t)).1),
-             λ t. (w.in_masks k).1 (sym (others k ne).1 ∙ t),
-           ))
-        (cases_eq k b);
+          λ k.
+          ⊎_elim (λ (e : k ≡ b). subst (FitsMasks c.history f s) (sym e) masks)
+          (λ (e : k ≡ b → ⊥).
+          let ne : k ≢ b = e in (
+            λ t. (((w.in_masks k).0 (sym (others k ne).0 ∙ t)).0, (others k ne).1 ∙ ((w.in_masks k).0 (sym (others k ne).0 ∙ t)).1),
+            λ t. (w.in_masks k).1 (sym (others k ne).1 ∙ t),
+          ))
+          (cases_eq k b);
       clear = clear;
     }
 

@@ -1,10 +1,10 @@
 -- What every move keeps: the history grows at its end, and a session makes at most one request. Lists of moves.
-use Rattle.std.proofs.Common.{◌≡◌, ◌≢◌, ◌⊎◌, ℕ, ◌+◌, ◌<◌, ◌≤◌, ◌==◌, ◌^◌, Bool, true, false, List, [], ◌∷◌, ◌++◌, length, cond, set, All, Option, None, Some, Ok, Err, is_some, unwrap_or, option_map, refl, ap, sym, ◌∙◌, subst, arith, ⊎_elim, length-append}
+use Rattle.std.proofs.Common.{◌≡◌, ◌⊎◌, ℕ, ◌+◌, ◌≤◌, ◌==◌, ◌^◌, Bool, true, false, List, [], ◌∷◌, ◌++◌, length, cond, set, All, Option, None, Some, Ok, Err, unwrap_or, option_map, refl, ap, sym, ◌∙◌, subst, arith, ⊎_elim}
 use mathlib.Core.List.{IsPrefix}
 use Rattle.std.specs.Option.{option_or}
-use Rattle.std.proofs.lemmas.Bool.{cases_eq, eqb-true}
+use Rattle.std.proofs.lemmas.Bool.{cases_eq}
 use Rattle.std.proofs.lemmas.List.{length-set}
-use Rattle.std.proofs.lemmas.List.Elements.{All-head, All-tail, All-weaker}
+use Rattle.std.proofs.lemmas.List.Elements.{All-head, All-tail}
 use Rattle.std.proofs.lemmas.List.Folds.{find-append}
 use Rattle.cj_model.specs.declared.request.Act.{Act}
 use Rattle.cj_model.specs.declared.request.Request.{Request}
@@ -172,10 +172,10 @@ module _ (tells : Bool) (c : Core) (s b : ℕ) (select : Select) where
   grow_read (Ok (moved.Refused r)) z h =
       ⊎_elim (λ (q : moves.Reaches tells c s b select _ z). grow_reached _ z q)
       (λ (q : moves.ReadsNowhere c s b select r z ⊎ (moves.ReadsFull c s b select r z ⊎ moves.ReadsInVain c s b select r z)).
-         ⊎_elim (λ (n : moves.ReadsNowhere c s b select r z). grow_with c z s b was_answered (λ x. refl) (λ x. (read_counts x).1) n.after)
-         (λ (n : moves.ReadsFull c s b select r z ⊎ moves.ReadsInVain c s b select r z).
-            ⊎_elim (λ (f : moves.ReadsFull c s b select r z). grow_with c z s b was_answered (λ x. refl) (λ x. (read_counts x).1) f.after)
-            (λ (f : moves.ReadsInVain c s b select r z). grow_failed c z s b was_answered (λ x. refl) (λ x. (read_counts x).1) f.after) n) q) h
+      ⊎_elim (λ (n : moves.ReadsNowhere c s b select r z). grow_with c z s b was_answered (λ x. refl) (λ x. (read_counts x).1) n.after)
+      (λ (n : moves.ReadsFull c s b select r z ⊎ moves.ReadsInVain c s b select r z).
+      ⊎_elim (λ (f : moves.ReadsFull c s b select r z). grow_with c z s b was_answered (λ x. refl) (λ x. (read_counts x).1) f.after)
+      (λ (f : moves.ReadsInVain c s b select r z). grow_failed c z s b was_answered (λ x. refl) (λ x. (read_counts x).1) f.after) n) q) h
   grow_read (Ok (moved.Behind p)) z h = grow_early (Some p) z h
   grow_read (Ok moved.Out) z h = grow_early None z h
   grow_read (Ok moved.Failed) z h = grow_failed c z s b (still_reading select (tried_with c s b)) (λ x. refl) (λ x. (read_counts x).1) h.after
@@ -243,7 +243,7 @@ runs_sound tells c (m ∷ ms) (g ∷ gs) z are count w runs =
     let more : CanCount c (1 + length ms) = λ s. (let can = count s in let le : (session_at c s).queries + (1 + length ms) ≤ 2 ^ 62 = omega arith in le) in
     let sound : IsSound d = moves_sound tells c m g d (All-head (IsMove c.placement.backends) m ms are) once w runs.1 in
     let rest : All (IsMove d.placement.backends) ms =
-      subst (λ (p : Placement). All (IsMove p.backends) ms) (sym grows.placement) (All-tail (IsMove c.placement.backends) m ms are)
+    subst (λ (p : Placement). All (IsMove p.backends) ms) (sym grows.placement) (All-tail (IsMove c.placement.backends) m ms are)
     in
     runs_sound tells d ms gs z rest (can_count 1 (length ms) c d grows more) sound runs.2
 runs_sound tells c [] (g ∷ gs) z are count w runs = absurd runs

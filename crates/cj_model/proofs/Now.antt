@@ -1,5 +1,5 @@
 -- What holds where a move can be made now.
-use Rattle.std.proofs.Common.{◌≡◌, ◌≢◌, ◌⊎◌, ℕ, zero, suc, ◌+◌, ◌<◌, ◌≤◌, ◌==◌, ◌&&◌, not, cond, Bool, true, false, nat_lt, List, [], ◌∷◌, length, get_or, Option, None, Some, is_some, is_none, refl, ap, sym, ◌∙◌, subst, arith, ⊎_elim}
+use Rattle.std.proofs.Common.{◌≡◌, ◌≢◌, ℕ, zero, suc, ◌+◌, ◌≤◌, ◌&&◌, cond, Bool, true, false, nat_lt, List, [], ◌∷◌, length, get_or, Option, None, Some, is_some, is_none, refl, ap, ◌∙◌, subst, arith, ⊎_elim}
 use Rattle.std.proofs.lemmas.Bool.{eqb-true, eqb-false, not-false, or_parts, ltb-false, and_cases, both_ways}
 use Rattle.cj_model.specs.declared.event.Event.{Event}
 use Rattle.cj_model.specs.declared.request.Request.{Request}
@@ -7,9 +7,9 @@ use Rattle.cj_model.specs.declared.select.Select.{Select}
 use Rattle.cj_model.specs.declared.moves.Why.{Why}
 use Rattle.cj_model.specs.declared.moves.OpenRead.{OpenRead}
 use Rattle.cj_model.specs.declared.moves.Move.TheVariants.{Close, Schedule, Apply, End, Read, Disable, Replay, Enable}
-use Rattle.cj_model.specs.Histories.{log, done, free, enabled}
+use Rattle.cj_model.specs.Histories.{log, free, enabled}
 use Rattle.cj_model.specs.Cores.{Core, position_at, session_at}
-use Rattle.cj_model.specs.Moves.{because, place, behind, because_behind, not_now, is_open, is_waiting, is_reading, last_number}
+use Rattle.cj_model.specs.Moves.{because, place, behind, because_behind, not_now, is_open, is_waiting}
 
 pub because_none : (t : Bool) (n v : ℕ) (otherwise : Option Why) → because t n v otherwise ≡ None → (t ≡ false) × (otherwise ≡ None)
 because_none true n v otherwise e = absurd (cc e)

@@ -211,13 +211,13 @@ legal_push h e l space a =
     record {
       short = omega arith;
       each =
-        λ k d lt.
-        ⊎_elim
-        (λ (c : k < length h). let le : k ≤ length h = omega arith in rw (take-append-le, get_or_append_left h (e ∷ []) d k c) (l.each k d c))
-        (λ (c : length h ≤ k).
-           let n : k ≡ length h = omega (arith, length-append h (e ∷ [])) in
-           rw n (rw (take-append_seam h (e ∷ []), get_or_push h e d (length h) refl) a))
-        (cases_lt k (length h));
+          λ k d lt.
+          ⊎_elim
+          (λ (c : k < length h). let le : k ≤ length h = omega arith in rw (take-append-le, get_or_append_left h (e ∷ []) d k c) (l.each k d c))
+          (λ (c : length h ≤ k).
+          let n : k ≡ length h = omega (arith, length-append h (e ∷ [])) in
+          rw n (rw (take-append_seam h (e ∷ []), get_or_push h e d (length h) refl) a))
+          (cases_lt k (length h));
     }
 
 -- what began a legal history is legal
@@ -228,10 +228,10 @@ legal_prefix f h p l =
     record {
       short = omega arith;
       each =
-        λ k d lt.
-        let le : k ≤ length f = omega arith in
-        let old : Allowed (take k (f ++ p.0)) (get_or (f ++ p.0) k d) = subst (λ (w : List Event). Allowed (take k w) (get_or w k d)) (sym p.1) (l.each k d (omega arith)) in
-        subst (λ (w : List Event). Allowed w (get_or f k d)) (take-append-le k f p.0 le) (subst (λ (x : Event). Allowed (take k (f ++ p.0)) x) (get_or_append_left f p.0 d k lt) old);
+          λ k d lt.
+          let le : k ≤ length f = omega arith in
+          let old : Allowed (take k (f ++ p.0)) (get_or (f ++ p.0) k d) = subst (λ (w : List Event). Allowed (take k w) (get_or w k d)) (sym p.1) (l.each k d (omega arith)) in
+          subst (λ (w : List Event). Allowed w (get_or f k d)) (take-append-le k f p.0 le) (subst (λ (x : Event). Allowed (take k (f ++ p.0)) x) (get_or_append_left f p.0 d k lt) old);
     }
 
 pub legal_take : (h : List Event) (n : ℕ) → IsLegal h → IsLegal (take n h)

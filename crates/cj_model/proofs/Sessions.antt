@@ -118,6 +118,7 @@ rises_with f keeps (y ∷ ss) s r = (one (y.number == s), rises_with f keeps ss 
   where
     below : (n : ℕ) → All (λ (x : OpenSession). nat_cmp n x.number ≡ Less) ss → All (λ (x : OpenSession). nat_cmp n x.number ≡ Less) (with_session ss s f)
     below n all = all_with (λ (x : OpenSession). nat_cmp n x.number ≡ Less) (λ (x : OpenSession). nat_cmp n x.number ≡ Less) f ss s (λ x e p. rw (keeps x) p) (λ x e p. p) all
+
     one : (b : Bool) → All (λ (x : OpenSession). by_number (cond b (f y) y) x ≡ Less) (with_session ss s f)
     one true = subst (λ (n : ℕ). All (λ (x : OpenSession). nat_cmp n x.number ≡ Less) (with_session ss s f)) (sym (keeps y)) (below y.number r.0)
     one false = below y.number r.0

@@ -1,5 +1,5 @@
 -- Every move keeps the state sound.
-use Rattle.std.proofs.Common.{◌≡◌, ◌≢◌, ◌⊎◌, inl, inr, ℕ, ◌+◌, ◌^◌, ◌<◌, ◌≤◌, ◌==◌, Bool, true, false, cond, List, [], ◌∷◌, ◌++◌, length, All, Option, None, Some, Ok, Err, refl, ap, sym, ◌∙◌, subst, arith, ⊎_elim, MatchOption}
+use Rattle.std.proofs.Common.{◌≡◌, ◌⊎◌, inl, ℕ, ◌+◌, ◌^◌, ◌<◌, ◌≤◌, Bool, true, false, cond, List, [], ◌∷◌, ◌++◌, length, Option, None, Some, Ok, Err, refl, sym, ◌∙◌, subst, arith, ⊎_elim, MatchOption}
 use Rattle.std.proofs.lemmas.Bool.{or_parts, leb-false}
 use Rattle.std.proofs.lemmas.List.Elements.{All-weaker}
 use Rattle.cj_model.specs.declared.request.Act.{Act}
@@ -12,7 +12,7 @@ use Rattle.cj_model.specs.declared.schema.Create.{Create}
 use Rattle.cj_model.specs.declared.select.Select.{Select}
 use Rattle.cj_model.specs.declared.answer.Asked.{Asked}
 use Rattle.cj_model.specs.declared.event.Event.{Event}
-use Rattle.cj_model.specs.declared.event.Event.TheVariants.{Sched, Ended, ReadFailed}
+use Rattle.cj_model.specs.declared.event.Event.TheVariants.{Ended, ReadFailed}
 use Rattle.cj_model.specs.declared.moves.Move.{Move}
 use Rattle.cj_model.specs.declared.moves.Move.TheVariants.{Open, Close, Schedule, Apply, End, Read, Arm, Disable, Replay, Enable}
 use Rattle.cj_model.specs.declared.moves.Moved.TheVariants as moved
@@ -20,16 +20,16 @@ use Rattle.cj_model.specs.declared.moves.MoveError.TheVariants.{NotNow, NoMemory
 use Rattle.cj_model.specs.declared.moves.Why.{Why}
 use Rattle.cj_model.specs.declared.moves.OpenSession.{OpenSession}
 use Rattle.cj_model.specs.Plain.{act_of, request_of}
-use Rattle.cj_model.specs.Histories.{log, free, opened, enabled, room}
+use Rattle.cj_model.specs.Histories.{log, room}
 use Rattle.cj_model.specs.Legality.{IsWritten, IsFit, FitsTx, user_limit}
-use Rattle.cj_model.specs.Cores.{Core, position_at, session_limit, session_at, fresh_session, with_session}
+use Rattle.cj_model.specs.Cores.{Core, session_limit, session_at, fresh_session, with_session}
 use Rattle.cj_model.specs.Moves as moves
 use Rattle.cj_model.specs.Moves.{Given, MovesTo, Does, not_now, is_open, is_reading, read_number, next_entry, open_tx, tx_of_act, counted, answered_at, was_answered, still_reading, last_number, with_read, read_failed, ended, tried_of, tried_with}
 use Rattle.cj_model.specs.Sound.{IsSound, IsSession, IsLone}
 use Rattle.cj_model.specs.Runs.{IsMove, IsLoneWrite, CanCount}
 use Rattle.cj_model.proofs.Pushed.{log-same, opened-ended, opened-same}
 use Rattle.cj_model.proofs.Sessions.{found_open, found_all, found_number, without}
-use Rattle.cj_model.proofs.Effects.{SessionsAre, sessions_are, KeepsSession, are_opened, are_closed, are_with, are_sched, lone_no_tx, sound_sessions, sound_sched, sound_ended, sound_read_failed, sound_disabled, sound_enabled, sound_applied, sound_replayed, is_there, stands_there}
+use Rattle.cj_model.proofs.Effects.{sessions_are, KeepsSession, are_opened, are_closed, are_with, are_sched, lone_no_tx, sound_sessions, sound_sched, sound_ended, sound_read_failed, sound_disabled, sound_enabled, sound_applied, sound_replayed, is_there, stands_there}
 use Rattle.cj_model.proofs.Now.{CanClose, can_close, CanSchedule, can_schedule, CanApply, can_apply, CanEnd, can_end, CanDisable, can_disable, CanReplay, can_replay, CanEnable, can_enable, behind_none}
 
 -- ---- sessions
@@ -100,15 +100,15 @@ next_fits c s r a is written lone count w here =
       written = subst IsWritten (sym (request_of-act r a is)) written;
       user = i.user;
       by =
-        inl
-        record {
-          session = (omega arith, omega arith);
-          limit = count s;
-          newer =
-            All-weaker (λ (d : Entry). d.session ≡ (session_at c s).number → d.seq ≤ (session_at c s).queries) (λ (d : Entry). d.session ≡ s → d.seq < (session_at c s).queries + 1)
-            (λ d old by. let le = old (by ∙ sym number) in omega arith) (log c.history) i.entries;
-          tx = by_lone (λ b. FitsTx (open_tx c s) (tx_of_act (open_tx c s) b) b) (λ q. inl (no_tx c s w)) (λ q. refl) (λ q. refl) r a is lone;
-        };
+          inl
+          record {
+            session = (omega arith, omega arith);
+            limit = count s;
+            newer =
+                All-weaker (λ (d : Entry). d.session ≡ (session_at c s).number → d.seq ≤ (session_at c s).queries) (λ (d : Entry). d.session ≡ s → d.seq < (session_at c s).queries + 1)
+                (λ d old by. let le = old (by ∙ sym number) in omega arith) (log c.history) i.entries;
+            tx = by_lone (λ b. FitsTx (open_tx c s) (tx_of_act (open_tx c s) b) b) (λ q. inl (no_tx c s w)) (λ q. refl) (λ q. refl) r a is lone;
+          };
     }
 
 next_lone : (c : Core) (s : ℕ) (r : Request) (a : Act) → act_of r ≡ Some a → IsLoneWrite r → IsSound c → IsLone (next_entry c s a) a
@@ -125,7 +125,7 @@ sound_act c s r a (Ok (moved.Entry n)) z is written lone count w can h =
     let number : (session_at c s).number ≡ s = x.1 in
     subst IsSound (sym h.4)
     (sound_sched c (next_entry c s a) (with_session c.sessions s counted) w can.is_free (next_fits c s r a is written lone count w can.here) (next_lone c s r a is lone w) h.2
-       (are_sched c.history c.greatest c.sessions s (next_entry c s a) (session_at c s) (sessions_are c w) (found_open c s can.here) can.is_free refl refl (omega arith)))
+    (are_sched c.history c.greatest c.sessions s (next_entry c s a) (session_at c s) (sessions_are c w) (found_open c s can.here) can.is_free refl refl (omega arith)))
 sound_act c s r a (Ok (moved.Refused refusal)) z is written lone count w can h = with_sound c s counted z w (keeps_counted (length (log c.history))) h.1
 sound_act c s r a (Err NoMemory) z is written lone count w can h = subst IsSound (sym h) w
 sound_act c s r a _ z is written lone count w can h = absurd h
@@ -154,8 +154,8 @@ sound_end tells c (Ok (moved.Replied s reply)) z w can h =
     let le : last_number c ≤ length (log c.history) = omega arith in
     subst IsSound (sym h.4)
     (sound_ended c (with_session c.sessions s (answered_at (last_number c))) w can.is_running (behind_none c.history c.positions can.none_behind)
-       (are_with c.history (ended c) c.greatest c.sessions s (answered_at (last_number c)) (sessions_are c w) (keeps_answered (length (log c.history)) (last_number c) le)
-          (log-same c.history (Ended c.failed c.starved) refl) (λ e on. absurd (cc (none, on)))))
+    (are_with c.history (ended c) c.greatest c.sessions s (answered_at (last_number c)) (sessions_are c w) (keeps_answered (length (log c.history)) (last_number c) le)
+    (log-same c.history (Ended c.failed c.starved) refl) (λ e on. absurd (cc (none, on)))))
 sound_end tells c _ z w can h = absurd h
 
 -- ---- reads
@@ -182,7 +182,7 @@ failed_sound c s b f z w keeps space is =
     let e : Event = ReadFailed s (read_number (session_at c s)) b in
     subst IsSound (sym is)
     (sound_read_failed c s (read_number (session_at c s)) b (with_session c.sessions s f) w space
-       (are_with c.history (c.history ++ e ∷ []) c.greatest c.sessions s f (sessions_are c w) keeps (log-same c.history e refl) (λ d on. sym (opened-same c.history e refl refl) ∙ on)))
+    (are_with c.history (c.history ++ e ∷ []) c.greatest c.sessions s f (sessions_are c w) keeps (log-same c.history e refl) (λ d on. sym (opened-same c.history e refl refl) ∙ on)))
 
 module _ (tells : Bool) (c : Core) (s b : ℕ) (select : Select) (w : IsSound c) where
   reached : (answer : Asked) (z : Core) → moves.Reaches tells c s b select answer z → IsSound z
@@ -196,10 +196,10 @@ module _ (tells : Bool) (c : Core) (s b : ℕ) (select : Select) (w : IsSound c)
   sound_read (Ok (moved.Refused r)) z h =
       ⊎_elim (λ (q : moves.Reaches tells c s b select _ z). reached _ z q)
       (λ (q : moves.ReadsNowhere c s b select r z ⊎ (moves.ReadsFull c s b select r z ⊎ moves.ReadsInVain c s b select r z)).
-         ⊎_elim (λ (n : moves.ReadsNowhere c s b select r z). with_sound c s was_answered z w (keeps_was_answered (length (log c.history))) n.after)
-         (λ (n : moves.ReadsFull c s b select r z ⊎ moves.ReadsInVain c s b select r z).
-            ⊎_elim (λ (f : moves.ReadsFull c s b select r z). with_sound c s was_answered z w (keeps_was_answered (length (log c.history))) f.after)
-            (λ (f : moves.ReadsInVain c s b select r z). failed_sound c s b was_answered z w (keeps_was_answered (length (log c.history))) f.space f.after) n) q) h
+      ⊎_elim (λ (n : moves.ReadsNowhere c s b select r z). with_sound c s was_answered z w (keeps_was_answered (length (log c.history))) n.after)
+      (λ (n : moves.ReadsFull c s b select r z ⊎ moves.ReadsInVain c s b select r z).
+      ⊎_elim (λ (f : moves.ReadsFull c s b select r z). with_sound c s was_answered z w (keeps_was_answered (length (log c.history))) f.after)
+      (λ (f : moves.ReadsInVain c s b select r z). failed_sound c s b was_answered z w (keeps_was_answered (length (log c.history))) f.space f.after) n) q) h
   sound_read (Ok (moved.Behind p)) z h = early (Some p) z h
   sound_read (Ok moved.Out) z h = early None z h
   sound_read (Ok moved.Failed) z h = failed_sound c s b (still_reading select (tried_with c s b)) z w (keeps_still_reading (length (log c.history)) select (tried_with c s b)) h.space h.after
