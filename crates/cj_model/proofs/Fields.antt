@@ -49,6 +49,11 @@ pub bind_ok : {A B E : Type 0} (r : Result A E) (f : A → Result B E) (y : B) �
 bind_ok (Ok x) f y e = (x, refl, e)
 bind_ok (Err d) f y e = absurd cc
 
+-- what follows from the value of the first of two steps that did not fail
+pub bind_then : {A B E : Type 0} (P : Type 0) (r : Result A E) (f : A → Result B E) (y : B) → (r >>= f) ≡ Ok y → ((x : A) → r ≡ Ok x → f x ≡ Ok y → P) → P
+bind_then P (Ok x) f y e so = so x refl e
+bind_then P (Err d) f y e so = absurd cc
+
 -- a test for a fault that found none
 pub guard_ok : {A E : Type 0} (b : Bool) (d : E) (r : Result A E) (y : A) → cond b (Err d) r ≡ Ok y → (b ≡ false) × (r ≡ Ok y)
 guard_ok true d r y e = absurd cc
@@ -176,17 +181,19 @@ pub text_again : {E : Type 0} (short : E) (w : Width) (limit : ℕ) (wide : IsWi
 text_again short w limit wide text rest lt =
     rw (append_assoc (to_be_bytes w (length text)) text rest, number_again short w limit wide (length text) (text ++ rest) lt) (bytes_again short (length text) text rest refl)
 
--- the same for a length of two bytes
+-- a text behind two bytes of length that is read is that length and its bytes
 pub str16_takes : {E : Type 0} (short : E) (bytes : List ℕ) (x : List ℕ × List ℕ) → IsBytes bytes → text_at short w16 bytes ≡ Ok x → Takes bytes (str16 x.0) x.1 × (length x.0 < 2 ^ 16) × IsBytes x.0
 str16_takes short bytes x fits e = text_takes short w16 (2 ^ 16) wide16 bytes x fits e
 
+-- a text behind two bytes of length is read again, whatever follows
 pub str16_again : {E : Type 0} (short : E) (text rest : List ℕ) → length text < 2 ^ 16 → text_at short w16 (str16 text ++ rest) ≡ Ok (text, rest)
 str16_again short text rest lt = text_again short w16 (2 ^ 16) wide16 text rest lt
 
--- the same for a length of four bytes
+-- a text behind four bytes of length that is read is that length and its bytes
 pub str32_takes : {E : Type 0} (short : E) (bytes : List ℕ) (x : List ℕ × List ℕ) → IsBytes bytes → text_at short w32 bytes ≡ Ok x → Takes bytes (str32 x.0) x.1 × (length x.0 < 2 ^ 32) × IsBytes x.0
 str32_takes short bytes x fits e = text_takes short w32 (2 ^ 32) wide32 bytes x fits e
 
+-- a text behind four bytes of length is read again, whatever follows
 pub str32_again : {E : Type 0} (short : E) (text rest : List ℕ) → length text < 2 ^ 32 → text_at short w32 (str32 text ++ rest) ≡ Ok (text, rest)
 str32_again short text rest lt = text_again short w32 (2 ^ 32) wide32 text rest lt
 

@@ -1,4 +1,5 @@
 pub mod Columns
+pub mod DatabaseLaws
 pub mod Effects
 pub mod FaultLaws
 pub mod Fields
@@ -8,6 +9,8 @@ pub mod Names
 pub mod Now
 pub mod OneReading
 pub mod Pushed
+pub mod RisingLaws
 pub mod SessionLaws
 pub mod Sessions
 pub mod Soundness
+pub mod TableLaws

@@ -1,5 +1,5 @@
 -- What was read of the token at the front.
-use Rattle.std.proofs.Common.{◌≡◌, refl, ap, ℕ, true, List, [], ◌∷◌, drop, rules, inl, inr}
+use Rattle.std.proofs.Common.{◌≡◌, refl, ap, ℕ, true, List, [], ◌∷◌, drop, rules}
 use denote.Enum.Bare.{same_true}
 use Rattle.cj_model.specs.contracts.token.Keyword as keyword_type
 use Rattle.cj_model.specs.contracts.token.Symbol as symbol_type
@@ -8,7 +8,7 @@ use Rattle.cj_model.specs.declared.token.Symbol.{Symbol}
 use Rattle.cj_model.specs.declared.token.Token.{Token}
 use Rattle.cj_model.specs.declared.token.Token.TheVariants as token
 use Rattle.cj_sql.specs.Reader.{read, same_word, same_symbol, sees_word, sees_symbol, sees_end, name, number, text, expect_word, expect_symbol}
-use Rattle.cj_sql.proofs.Binds.{chosen}
+use Rattle.cj_sql.proofs.Binds.{branch, holds, fails}
 
 -- a word that is seen stands there
 pub word_seen : (w : Keyword) (ts : List Token) → sees_word w ts ≡ true → ts ≡ token.Word w ∷ drop 1 ts
@@ -53,13 +53,15 @@ text_sound (_ ∷ ts) x rest h = absurd (cc)
 -- a word that was expected stood there
 pub expect_word_sound : (w : Keyword) (ts : List Token) (u : Unit {0}) (rest : List Token) → expect_word w ts ≡ read u rest → ts ≡ token.Word w ∷ rest
 unfolding expect_word
-expect_word_sound w ts u rest h = elim (chosen (sees_word w ts) _ _ _ h) [
-    inl e ↦ let seen = word_seen w ts e.0 in let k = e.1 in cc
-  | inr e ↦ let k = e.1 in absurd (cc) ]
+expect_word_sound w ts u rest h = elim (branch (sees_word w ts) _ _ _ h) [
+  | holds e k ↦ let seen = word_seen w ts e in cc
+  | fails e k ↦ absurd (cc)
+]
 
 -- a symbol that was expected stood there
 pub expect_symbol_sound : (s : Symbol) (ts : List Token) (u : Unit {0}) (rest : List Token) → expect_symbol s ts ≡ read u rest → ts ≡ token.Symbol s ∷ rest
 unfolding expect_symbol
-expect_symbol_sound s ts u rest h = elim (chosen (sees_symbol s ts) _ _ _ h) [
-    inl e ↦ let seen = symbol_seen s ts e.0 in let k = e.1 in cc
-  | inr e ↦ let k = e.1 in absurd (cc) ]
+expect_symbol_sound s ts u rest h = elim (branch (sees_symbol s ts) _ _ _ h) [
+  | holds e k ↦ let seen = symbol_seen s ts e in cc
+  | fails e k ↦ absurd (cc)
+]

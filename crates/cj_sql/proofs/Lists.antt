@@ -1,11 +1,11 @@
 -- What it is for a reader to read exactly the forms of the grammar, and lists with commas of what such a reader reads.
-use Rattle.std.proofs.Common.{◌≡◌, ◌∙◌, refl, sym, ap, ℕ, zero, suc, ◌≤◌, ◌<◌, Bool, true, false, List, [], ◌∷◌, ◌++◌, append_assoc, length, map, drop, arith, inl, inr}
+use Rattle.std.proofs.Common.{◌≡◌, ◌∙◌, refl, sym, ap, ℕ, zero, suc, ◌≤◌, ◌<◌, false, List, [], ◌∷◌, ◌++◌, append_assoc, length, map, drop, arith}
 use Rattle.cj_model.specs.declared.token.Token.{Token}
 use Rattle.cj_model.specs.declared.token.Token.TheVariants as token
 use Rattle.cj_model.specs.declared.token.Symbol.TheVariants as symbol
-use Rattle.cj_model.specs.Grammar.{commas, EachFits, SomeFit}
-use Rattle.cj_sql.specs.Reader.{Read, refused, read, Reader, same_symbol, sees_symbol, items_from, items}
-use Rattle.cj_sql.proofs.Binds.{chosen, Bound, through, bound}
+use Rattle.cj_model.specs.Grammar.{commas, SomeFit}
+use Rattle.cj_sql.specs.Reader.{read, Reader, same_symbol, sees_symbol, items_from, items}
+use Rattle.cj_sql.proofs.Binds.{branch, holds, fails, part, part_of}
 use Rattle.cj_sql.proofs.Front.{symbol_seen}
 
 -- the tokens up to the rest are those of a form that fits, which means the value
@@ -29,6 +29,7 @@ abbrev pub EndsList : (List Token → Type 0) → List Token → Type 0
 EndsList MayFollow ts = MayFollow ts × (sees_symbol symbol.Comma ts ≡ false)
 
 module _ {F A : Type 0} (tokens_of : F → List Token → List Token) (meant : F → A) (Fits : F → Type 0) (MayFollow : List Token → Type 0) (item : Reader A) where
+  -- an item, a comma and more items are items with commas
   cons_commas : (f : F) (fs : List F) (rest : List Token) → 0 < length fs → tokens_of f (token.Symbol symbol.Comma ∷ commas tokens_of fs rest) ≡ commas tokens_of (f ∷ fs) rest
   cons_commas f [] rest h = absurd (omega arith)
   cons_commas f (x ∷ fs) rest h = refl
@@ -39,21 +40,21 @@ module _ {F A : Type 0} (tokens_of : F → List Token → List Token) (meant : F
       IsForm (commas tokens_of) (λ fs. found ++ map meant fs) (SomeFit Fits room) ts xs rest
   unfolding items_from
   items_from_sound sound zero found ts xs rest h = absurd (cc)
-  items_from_sound sound (suc room) found ts xs rest h = elim (bound (item ts) _ _ _ h) [ through x us ex kx ↦
-      let a = sound ts x us ex in
-      elim (chosen (sees_symbol symbol.Comma us) _ _ _ kx) [
-          inl e ↦
-            let b = items_from_sound sound room (found ++ x ∷ []) (drop 1 us) xs rest e.1 in
-            let comma = symbol_seen symbol.Comma us e.0 ∙ ap (λ vs. token.Symbol symbol.Comma ∷ vs) b.tokens_are in
-            record {
-              form = a.form ∷ b.form;
-              tokens_are = a.tokens_are ∙ ap (tokens_of a.form) comma ∙ cons_commas a.form b.form rest b.fits.0;
-              means = ap (λ y. found ++ y ∷ map meant b.form) a.means ∙ sym (append_assoc found (x ∷ []) (map meant b.form)) ∙ b.means;
-              fits = (omega arith, let l = b.fits.1 in omega arith, (a.fits, b.fits.2));
-            }
-        | inr e ↦
-            let k = e.1 in
-            record { form = a.form ∷ []; tokens_are = cc; means = cc; fits = (omega arith, omega arith, (a.fits, tt)) } ] ]
+  items_from_sound sound (suc room) found ts xs rest h = elim (part_of (sound ts) h) [
+    | part x us a k ↦
+        elim (branch (sees_symbol symbol.Comma us) _ _ _ k) [
+          | holds e k ↦
+              let b = items_from_sound sound room (found ++ x ∷ []) (drop 1 us) xs rest k in
+              let comma = symbol_seen symbol.Comma us e ∙ ap (λ vs. token.Symbol symbol.Comma ∷ vs) b.tokens_are in
+              record {
+                form = a.form ∷ b.form;
+                tokens_are = a.tokens_are ∙ ap (tokens_of a.form) comma ∙ cons_commas a.form b.form rest b.fits.0;
+                means = ap (λ y. found ++ y ∷ map meant b.form) a.means ∙ sym (append_assoc found (x ∷ []) (map meant b.form)) ∙ b.means;
+                fits = (omega arith, let l = b.fits.1 in omega arith, (a.fits, b.fits.2));
+              }
+          | fails e k ↦ record { form = a.form ∷ []; tokens_are = cc; means = cc; fits = (omega arith, omega arith, (a.fits, tt)) }
+        ]
+  ]
 
   -- forms with commas are read as further items
   items_from_complete : ((ts : List Token) → MayFollow (token.Symbol symbol.Comma ∷ ts)) →
@@ -67,9 +68,11 @@ module _ {F A : Type 0} (tokens_of : F → List Token → List Token) (meant : F
   items_from_complete comma complete (f ∷ g ∷ fs) (suc room) found rest fits e =
       let l : length (g ∷ fs) ≤ room = let k = fits.1 in omega arith in
       let some : 0 < length (g ∷ fs) = omega arith in
-      rw (complete f (token.Symbol symbol.Comma ∷ commas tokens_of (g ∷ fs) rest) fits.2.0 (comma _),
-          items_from_complete comma complete (g ∷ fs) room (found ++ meant f ∷ []) rest (some, l, fits.2.1) e,
-          append_assoc found (meant f ∷ []) (map meant (g ∷ fs))) refl
+      rw (
+        complete f (token.Symbol symbol.Comma ∷ commas tokens_of (g ∷ fs) rest) fits.2.0 (comma _),
+        items_from_complete comma complete (g ∷ fs) room (found ++ meant f ∷ []) rest (some, l, fits.2.1) e,
+        append_assoc found (meant f ∷ []) (map meant (g ∷ fs)),
+      ) refl
 
   -- a list of what the reader reads
   pub items_read : (limit : ℕ) → ((ts : List Token) → MayFollow (token.Symbol symbol.Comma ∷ ts)) → IsReaderOf tokens_of meant Fits MayFollow item →
@@ -80,6 +83,7 @@ module _ {F A : Type 0} (tokens_of : F → List Token → List Token) (meant : F
     complete = λ fs rest fits e. items_from_complete comma reads.complete fs limit [] rest fits e;
   }
 
+-- what each item means by itself, all mean
 map_same : {A : Type 0} (xs : List A) → map (λ x. x) xs ≡ xs
 map_same [] = refl
 map_same (x ∷ xs) = ap (λ ys. x ∷ ys) (map_same xs)
@@ -88,6 +92,6 @@ map_same (x ∷ xs) = ap (λ ys. x ∷ ys) (map_same xs)
 pub items_mean_themselves : {A : Type 0} (tokens_of : List A → List Token → List Token) (Fits : List A → Type 0) (MayFollow : List Token → Type 0) (reader : Reader (List A))
     → IsReaderOf tokens_of (map (λ x. x)) Fits MayFollow reader → IsReaderOf tokens_of (λ xs. xs) Fits MayFollow reader
 items_mean_themselves tokens_of Fits MayFollow reader reads = record {
-    sound = λ ts xs rest h. let a = reads.sound ts xs rest h in record { form = a.form; tokens_are = a.tokens_are; means = sym (map_same a.form) ∙ a.means; fits = a.fits };
-    complete = λ xs rest fits e. reads.complete xs rest fits e ∙ ap (λ ys. read ys rest) (map_same xs);
-  }
+  sound = λ ts xs rest h. let a = reads.sound ts xs rest h in record { form = a.form; tokens_are = a.tokens_are; means = sym (map_same a.form) ∙ a.means; fits = a.fits };
+  complete = λ xs rest fits e. reads.complete xs rest fits e ∙ ap (λ ys. read ys rest) (map_same xs);
+}

@@ -1,14 +1,16 @@
 -- The names of columns, each once: by the first column and the rest, as a slice gives them.
-use Rattle.std.proofs.Common.{◌≡◌, ◌∙◌, refl, sym, ap, subst, ℕ, ◌-◌, ◌≤◌, Bool, true, false, not, ◌&&◌, ◌||◌, List, [], ◌∷◌, length, map, get_or, take, drop, arith}
+use Rattle.std.proofs.Common.{◌≡◌, refl, ap, ℕ, ◌-◌, ◌≤◌, Bool, true, false, not, ◌&&◌, ◌||◌, List, [], ◌∷◌, length, map, get_or, take, drop, arith}
 use Rattle.std.proofs.lemmas.List.{take_all}
 use Rattle.std.specs.List.{list_any}
 use Rattle.std.specs.Str.{bytes_eq}
 use Rattle.cj_model.specs.declared.schema.ColDef.{ColDef}
 use Rattle.cj_model.specs.Tables.{is_distinct}
 
+-- the names of columns
 abbrev names : List ColDef → List (List ℕ)
 names cs = map (λ (c : ColDef). c.name) cs
 
+-- whether a column has the name
 abbrev has_name : List ℕ → List ColDef → Bool
 has_name n cs = list_any (λ (c : ColDef). bytes_eq n c.name) cs
 
@@ -21,6 +23,7 @@ among_names n (c ∷ cs) = ap (λ b. bytes_eq n c.name || b) (among_names n cs)
 abbrev after_first : List ColDef → List ColDef
 after_first cs = take (length cs - 1) (drop 1 cs)
 
+-- names stand once each where the first is not among the rest, and the rest stand once each
 first_and_rest : (cs : List ColDef) (first : ColDef) → 1 ≤ length cs → first ≡ get_or cs 0 first
     → is_distinct (names cs) ≡ (not (has_name first.name (after_first cs)) && is_distinct (names (after_first cs)))
 first_and_rest [] first some e = absurd (omega arith)

@@ -19,50 +19,62 @@ abbrev pub and_then : {A B S T : Type 0} → Read A S → (A → S → Read B T)
 and_then refused f = refused
 and_then (read x rest) f = f x rest
 
+-- what a reader makes of the tokens that are left
 abbrev pub Reader : Type 0 → Type 0
 Reader A = List Token → Read A (List Token)
 
 -- ---- the token at the front
 
+-- whether two words are one
 unfoldable pub same_word : Keyword → Keyword → Bool
 same_word = sameb keyword_type.the_type
 
+-- whether two symbols are one
 unfoldable pub same_symbol : Symbol → Symbol → Bool
 same_symbol = sameb symbol_type.the_type
 
+-- whether the word stands at the front
 abbrev pub sees_word : Keyword → List Token → Bool
 sees_word w (token.Word found ∷ rest) = same_word found w
 sees_word w _ = false
 
+-- whether the symbol stands at the front
 abbrev pub sees_symbol : Symbol → List Token → Bool
 sees_symbol s (token.Symbol found ∷ rest) = same_symbol found s
 sees_symbol s _ = false
 
+-- whether a number stands at the front
 abbrev pub sees_number : List Token → Bool
 sees_number (token.Number n ∷ rest) = true
 sees_number _ = false
 
+-- whether no token is left
 abbrev pub sees_end : List Token → Bool
 sees_end [] = true
 sees_end (t ∷ rest) = false
 
 -- ---- readers of one token
 
+-- a name
 unfoldable pub name : Reader (List ℕ)
 name (token.Name n ∷ rest) = read n rest
 name _ = refused
 
+-- a number
 unfoldable pub number : Reader ℕ
 number (token.Number n ∷ rest) = read n rest
 number _ = refused
 
+-- a string
 unfoldable pub text : Reader (List ℕ)
 text (token.Text x ∷ rest) = read x rest
 text _ = refused
 
+-- this word
 unfoldable pub expect_word : Keyword → Reader (Unit {0})
 expect_word w ts = if sees_word w ts then read tt (drop 1 ts) else refused
 
+-- this symbol
 unfoldable pub expect_symbol : Symbol → Reader (Unit {0})
 expect_symbol s ts = if sees_symbol s ts then read tt (drop 1 ts) else refused
 

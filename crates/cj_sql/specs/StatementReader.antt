@@ -1,5 +1,5 @@
 -- The reader of statements as a function, which the code follows step by step.
-use Rattle.std.specs.Prelude.{ℕ, ◌^◌, Bool, true, false, ◌&&◌, ◌==◌, nat_lt, nat_le, if◌then◌else◌, List, [], ◌∷◌, length, map, count_by, pos, neg_ℤ, drop}
+use Rattle.std.specs.Prelude.{◌^◌, Bool, true, false, ◌&&◌, ◌==◌, nat_lt, nat_le, if◌then◌else◌, List, [], ◌∷◌, length, map, count_by, pos, neg_ℤ, drop}
 use Rattle.std.specs.declared.option.Option.TheVariants.{None}
 use Rattle.cj_model.specs.declared.token.Keyword.TheVariants as word
 use Rattle.cj_model.specs.declared.token.Symbol.TheVariants as symbol
@@ -15,7 +15,7 @@ use Rattle.cj_model.specs.declared.write.Write.TheVariants as write
 use Rattle.cj_model.specs.declared.request.Request.{Request}
 use Rattle.cj_model.specs.declared.request.Request.TheVariants as request
 use Rattle.cj_model.specs.Tables.{is_distinct}
-use Rattle.cj_sql.specs.Reader.{Read, refused, read, and_then, Reader, sees_word, sees_symbol, sees_number, sees_end, name, number, text, expect_word, expect_symbol, items}
+use Rattle.cj_sql.specs.Reader.{refused, read, and_then, Reader, sees_word, sees_symbol, sees_number, sees_end, name, number, text, expect_word, expect_symbol, items}
 
 -- ---- CREATE TABLE
 
@@ -27,6 +27,7 @@ kind_of ts = if sees_word word.Integer ts then read kind.Integer (drop 1 ts) els
 unfoldable pub key_of : Reader Bool
 key_of ts = if sees_word word.Primary ts then and_then (expect_word word.Key (drop 1 ts)) (λ _ rest. read true rest) else read false ts
 
+-- name ( INTEGER | TEXT ) [ PRIMARY KEY ]
 unfoldable pub coldef : Reader ColDef
 coldef ts =
     and_then (name ts) (λ n ts.
@@ -49,19 +50,23 @@ create ts =
 
 -- ---- INSERT
 
+-- a number in the range of 64 bits with a sign
 unfoldable pub positive : Reader Term
 positive ts = and_then (number ts) (λ n rest. if nat_lt n (2 ^ 63) then read (term.Lit (value.Int (pos n))) rest else refused)
 
--- after "-"
+-- the negative of a number in that range, after "-"
 unfoldable pub negative : Reader Term
 negative ts = and_then (number ts) (λ n rest. if nat_le n (2 ^ 63) then read (term.Lit (value.Int (neg_ℤ (pos n)))) rest else refused)
 
+-- a string as a constant
 unfoldable pub string : Reader Term
 string ts = and_then (text ts) (λ x rest. read (term.Lit (value.Text x)) rest)
 
+-- [ "-" ] number | string
 unfoldable pub constant : Reader Term
 constant ts = if sees_symbol symbol.Minus ts then negative (drop 1 ts) else (if sees_number ts then positive ts else string ts)
 
+-- "(" const { "," const } ")"
 unfoldable pub tuple : Reader (List Term)
 tuple ts =
     and_then (expect_symbol symbol.Open ts) (λ _ ts.
@@ -89,12 +94,14 @@ select ts =
 
 -- ---- requests
 
+-- the statement that the first word says
 unfoldable pub statement : Reader Request
 statement ts =
     if sees_word word.Create ts then create (drop 1 ts)
     else (if sees_word word.Insert ts then insert (drop 1 ts)
     else and_then (expect_word word.Select ts) (λ _ rest. select rest))
 
+-- what is left after the semicolon, if there is one
 abbrev pub past_semicolon : List Token → List Token
 past_semicolon ts = if sees_symbol symbol.Semi ts then drop 1 ts else ts
 

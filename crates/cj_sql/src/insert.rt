@@ -20,10 +20,9 @@ fn positive(tokens: &mut Tokens) -> Result<Term, SqlError>
     ensures { Reads spec.positive tokens.old result tokens.new }
 {
     let number = tokens.number()?;
-    if number < 1 << 63 {
-        Ok(Term::Lit(Value::Int(number as i64)))
-    } else {
-        Err(SqlError::Syntax)
+    match i64::try_from(number) {
+        Ok(number) => Ok(Term::Lit(Value::Int(number))),
+        Err(_) => Err(SqlError::Syntax),
     }
 }
 

@@ -32,8 +32,12 @@ fn whole(alloc: Global, tokens: &mut Tokens) -> Result<Request, SqlError>
     ensures { Reads spec.whole tokens.old result tokens.new }
 {
     let request = statement(alloc, tokens)?;
-    let _semicolon = tokens.eat_symbol(Symbol::Semi);
-    if tokens.sees_end() { Ok(request) } else { Err(SqlError::Syntax) }
+    tokens.eat_symbol(Symbol::Semi);
+    if tokens.sees_end() {
+        Ok(request)
+    } else {
+        Err(SqlError::Syntax)
+    }
 }
 
 /// The request that the text reads as. `Syntax` exactly where it reads as none.

@@ -39,24 +39,28 @@ fn same_symbol(a: Symbol, b: Symbol) -> bool
 }
 
 impl Tokens {
+    /// The cursor before all of these.
     pub fn new(rest: VecDeque<Token>) -> Tokens
         ensures { result ≡ rest.items }
     {
         Tokens { rest }
     }
 
+    /// The token at the front.
     fn front(&self) -> Option<&Token>
         ensures { Shows result self.now }
     {
         self.rest.front()
     }
 
+    /// Takes the token at the front.
     fn take(&mut self) -> Option<Token>
         ensures { Takes result self.old self.new }
     {
         self.rest.pop_front()
     }
 
+    /// Whether the word stands at the front.
     pub fn sees_word(&self, word: Keyword) -> bool
         ensures { result ≡ spec.sees_word word self.now }
     {
@@ -66,6 +70,7 @@ impl Tokens {
         }
     }
 
+    /// Whether the symbol stands at the front.
     pub fn sees_symbol(&self, symbol: Symbol) -> bool
         ensures { result ≡ spec.sees_symbol symbol self.now }
     {
@@ -75,12 +80,14 @@ impl Tokens {
         }
     }
 
+    /// Whether a number stands at the front.
     pub fn sees_number(&self) -> bool
         ensures { result ≡ spec.sees_number self.now }
     {
         matches!(self.front(), Some(Token::Number(_)))
     }
 
+    /// Whether no token is left.
     pub fn sees_end(&self) -> bool
         ensures { result ≡ spec.sees_end self.now }
     {
@@ -111,6 +118,7 @@ impl Tokens {
         found
     }
 
+    /// Takes a name; `Syntax` where none stands at the front.
     #[tactic(auto, unfolding(crate::specs::Reader::name))]
     pub fn name(&mut self) -> Result<Name, SqlError>
         ensures { Reads spec.name self.old result self.new }
@@ -122,6 +130,7 @@ impl Tokens {
         }
     }
 
+    /// Takes a number; `Syntax` where none stands at the front.
     #[tactic(auto, unfolding(crate::specs::Reader::number))]
     pub fn number(&mut self) -> Result<u64, SqlError>
         ensures { Reads spec.number self.old result self.new }
@@ -133,6 +142,7 @@ impl Tokens {
         }
     }
 
+    /// Takes a string's value; `Syntax` where none stands at the front.
     #[tactic(auto, unfolding(crate::specs::Reader::text))]
     pub fn text(&mut self) -> Result<Text, SqlError>
         ensures { Reads spec.text self.old result self.new }
@@ -144,17 +154,27 @@ impl Tokens {
         }
     }
 
+    /// Takes the word; `Syntax` where it does not stand at the front.
     #[tactic(auto, unfolding(crate::specs::Reader::expect_word))]
     pub fn expect_word(&mut self, word: Keyword) -> Result<(), SqlError>
         ensures { Reads (spec.expect_word word) self.old result self.new }
     {
-        if self.eat_word(word) { Ok(()) } else { Err(SqlError::Syntax) }
+        if self.eat_word(word) {
+            Ok(())
+        } else {
+            Err(SqlError::Syntax)
+        }
     }
 
+    /// Takes the symbol; `Syntax` where it does not stand at the front.
     #[tactic(auto, unfolding(crate::specs::Reader::expect_symbol))]
     pub fn expect_symbol(&mut self, symbol: Symbol) -> Result<(), SqlError>
         ensures { Reads (spec.expect_symbol symbol) self.old result self.new }
     {
-        if self.eat_symbol(symbol) { Ok(()) } else { Err(SqlError::Syntax) }
+        if self.eat_symbol(symbol) {
+            Ok(())
+        } else {
+            Err(SqlError::Syntax)
+        }
     }
 }

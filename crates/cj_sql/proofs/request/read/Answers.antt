@@ -1,4 +1,3 @@
-use Rattle.std.proofs.Common.{◌≡◌}
 use Rattle.cj_sql.proofs.Texts.{read_from_tokens}
 use Rattle.cj_sql.proofs.request.read.Goals as goal
 

@@ -1,0 +1,53 @@
+-- What a call of the plain database gives.
+use Rattle.std.specs.Prelude.{◌≡◌, ℕ, not, List}
+use Rattle.std.specs.List.{list_any}
+use Rattle.std.specs.declared.option.Option.{Option}
+use Rattle.std.specs.declared.option.Option.TheVariants.{None, Some}
+use Rattle.std.specs.declared.result.Result.{Result}
+use Rattle.std.specs.declared.result.Result.TheVariants.{Ok, Err}
+use Rattle.cj_model.specs.declared.memory.NoMemory.{NoMemory}
+use Rattle.cj_model.specs.declared.value.Value.{Value}
+use Rattle.cj_model.specs.declared.database.Table.{Table}
+use Rattle.cj_model.specs.declared.database.Slot.{Slot}
+use Rattle.cj_model.specs.declared.write.Write.{Write}
+use Rattle.cj_model.specs.declared.answer.Asked.{Asked}
+use Rattle.cj_model.specs.declared.answer.Asked.TheVariants.{Rows, Refused}
+use Rattle.cj_model.specs.declared.answer.Outcome.{Outcome}
+use Rattle.cj_model.specs.declared.answer.Outcome.TheVariants.{Done}
+use Rattle.cj_model.specs.declared.answer.Outcome.TheVariants as outcome
+use Rattle.cj_model.specs.declared.codes.TheConstants.{WRONG_TYPE, LOCKED}
+use Rattle.cj_model.specs.Tables.{fits_columns}
+use Rattle.cj_model.specs.Changes.{Changed, bare, unless, with_rows, change}
+use Rattle.cj_model.specs.Steps.{Stepped, seen, other_writer, with_table}
+use Rattle.cj_model.specs.Replies.{IsEven}
+
+-- the step's outcome and database; after want of memory the database is as it was
+abbrev pub Carries : List Slot → Stepped → Result Outcome NoMemory → List Slot → Type 0
+Carries old stepped (Ok o) new = (o ≡ stepped.outcome) × (new ≡ stepped.db)
+Carries old stepped (Err e) new = new ≡ old
+
+-- each row of an answer has a value for each column
+abbrev pub IsEvenAsked : Asked → Type 0
+IsEvenAsked (Rows answer) = IsEven answer
+IsEvenAsked (Refused refusal) = Unit {0}
+
+-- what a write makes of the table that its transaction sees, unless another transaction writes the table
+abbrev pub change_unless_locked : Slot → ℕ → Write → Option ℕ → Changed
+change_unless_locked s tx w None = change (seen s tx) w
+change_unless_locked s tx w (Some other) = Err (record { code = LOCKED; a = other; b = 0 })
+
+abbrev pub change_of : Slot → ℕ → Write → Changed
+change_of s tx w = change_unless_locked s tx w (other_writer tx s.draft)
+
+-- a table's rows with new ones, if these fit its columns
+abbrev pub with_fitting_rows : Table → List (List Value) → Changed
+with_fitting_rows t rows =
+    unless (list_any (λ r. not (fits_columns t.schema.columns r)) rows) (bare WRONG_TYPE)
+    (with_rows t.schema.key t.rows rows)
+
+-- a slot after a change of the table that a transaction sees, and the outcome; a refusal or want of memory leaves it
+abbrev pub CarriesSlot : Slot → ℕ → Changed → Result Outcome NoMemory → Slot → Type 0
+CarriesSlot old tx (Ok (rows, count)) (Ok o) new = (o ≡ Done count) × (new ≡ with_table old tx (record { schema = old.base.schema; rows = rows }))
+CarriesSlot old tx (Err refusal) (Ok o) new = (o ≡ outcome.Refused refusal) × (new ≡ old)
+CarriesSlot old tx (Ok (rows, count)) (Err e) new = new ≡ old
+CarriesSlot old tx (Err refusal) (Err e) new = new ≡ old

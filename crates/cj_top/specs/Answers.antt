@@ -1,0 +1,43 @@
+-- What was written of the answers to a session's messages.
+use Rattle.std.specs.Prelude.{◌≡◌, ℕ, List, ◌++◌, take, drop, Result, Ok, Err}
+use Rattle.std.specs.declared.option.Option.{Option}
+use Rattle.std.specs.List.{flat_map}
+use Rattle.std.specs.Io.KnownBytes.{Appends}
+use Rattle.cj_outside.specs.declared.sink.OutError.{OutError}
+use Rattle.cj_model.specs.declared.message.Message.{Message}
+use Rattle.cj_model.specs.declared.message.Message.TheVariants.{Login}
+use Rattle.cj_model.specs.declared.answer.Reply.{Reply}
+use Rattle.cj_model.specs.declared.request.Request.{Request}
+use Rattle.cj_model.specs.Grammar.{TextReads}
+use Rattle.cj_model.specs.Replies.{reply_bytes}
+use Rattle.cj_model.specs.Session.{Session, fresh, Exchange, Exchanges, answered, limited, BeginsReply}
+
+-- some text reads as the request
+pub record IsReadable (request : Request) : Type 0 where
+  pub text : List ℕ
+  pub reads : TextReads text request
+
+-- the exchange of a Login
+abbrev pub LogsIn : Session → List ℕ → List ℕ → Reply → Session → Type 0
+LogsIn s user password reply t = Exchange s (Login user password) (limited reply) t
+
+-- each message before the first Quit has its reply, in order
+pub record Answered (held held' : Option (List ℕ)) (messages : List Message) : Type 0 where
+  pub replies : List Reply
+  pub last : Session
+  pub exchanges : Exchanges fresh (answered messages) replies last
+  pub bytes : Appends held held' (flat_map reply_bytes replies)
+
+-- the first messages have their replies, and the next one maybe a part of its own
+pub record AnsweredInPart (held held' : Option (List ℕ)) (messages : List Message) : Type 0 where
+  pub count : ℕ
+  pub replies : List Reply
+  pub last : Session
+  pub exchanges : Exchanges fresh (take count (answered messages)) replies last
+  pub part : List ℕ
+  pub begins : BeginsReply last (drop count (answered messages)) part
+  pub bytes : Appends held held' (flat_map reply_bytes replies ++ part)
+
+abbrev pub Answers : Option (List ℕ) → Option (List ℕ) → List Message → Result (Unit {0}) OutError → Type 0
+Answers held held' messages (Ok _) = Answered held held' messages
+Answers held held' messages (Err _) = AnsweredInPart held held' messages

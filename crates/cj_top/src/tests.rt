@@ -1,0 +1,369 @@
+//! Runs over sources and sinks in memory, with bytes that were worked out by hand from the formats.
+
+use super::*;
+use cj_outside::{MemSink, MemSource};
+use std::alloc::Global;
+use std::process::Abort;
+use std::test::Fail;
+
+/// The Login of the one account.
+const LOGIN: &[u8] = b"\x00\x00\x00\x0e\x01\x00\x03ann\x00\x06secret";
+
+const CREATE: &str = "CREATE TABLE t (k INTEGER PRIMARY KEY, v TEXT)";
+
+const INSERT: &str = "INSERT INTO t VALUES (1, 'a')";
+
+const SELECT: &str = "SELECT * FROM t";
+
+const DONE_0: &[u8] = b"\x00\x00\x00\x09\x81\x00\x00\x00\x00\x00\x00\x00\x00";
+
+const DONE_1: &[u8] = b"\x00\x00\x00\x09\x81\x00\x00\x00\x00\x00\x00\x00\x01";
+/// The row (1, 'a') of columns k and v.
+const ONE_ROW: &[u8] =
+    b"\x00\x00\x00\x1c\x82\x00\x02\x00\x01k\x00\x01v\x00\x00\x00\x01\x01\x00\x00\x00\x00\x00\x00\x00\x01\x02\x00\x00\x00\x01a";
+
+const NOT_LOGGED_IN: &[u8] =
+    b"\x00\x00\x00\x13\x8f\x00\x02\x00\x00\x00\x00\x00\x00\x00\x00\x00\x00\x00\x00\x00\x00\x00\x00";
+
+const SYNTAX: &[u8] =
+    b"\x00\x00\x00\x13\x8f\x00\x0a\x00\x00\x00\x00\x00\x00\x00\x00\x00\x00\x00\x00\x00\x00\x00\x00";
+
+const NO_TABLE: &[u8] =
+    b"\x00\x00\x00\x13\x8f\x00\x15\x00\x00\x00\x00\x00\x00\x00\x00\x00\x00\x00\x00\x00\x00\x00\x00";
+
+const NOT_BUILT: &[u8] =
+    b"\x00\x00\x00\x13\x8f\x00\x5a\x00\x00\x00\x00\x00\x00\x00\x00\x00\x00\x00\x00\x00\x00\x00\x00";
+
+/// Appends the frame of a Query.
+fn query(input: &mut Vec<u8>, text: &str) -> Result<(), Fail> {
+    let size = u32::try_from(text.len()).unwrap_or(0).wrapping_add(1);
+    input.extend_from_slice(&size.to_be_bytes())?;
+    input.push(2)?;
+    input.extend_from_slice(text.as_bytes())?;
+    Ok(())
+}
+
+fn words(alloc: Global, text: &str) -> Result<Vec<String>, Fail> {
+    let mut words = Vec::new(alloc);
+    for word in text.split(' ').filter(|word| !word.is_empty()) {
+        words.push(String::from_str(alloc, word)?)?;
+    }
+    Ok(words)
+}
+
+/// The status and the output of `pipe` over the input, where the calls of these numbers fail.
+fn piped(alloc: Global, input: &[u8], takes: &[u64], puts: &[u64]) -> Result<(u8, Vec<u8>), Fail> {
+    let mut source = MemSource::new(input.to_vec(alloc)?, takes.to_vec(alloc)?);
+    let mut sink = MemSink::new(Vec::new(alloc), puts.to_vec(alloc)?);
+    let mut errors = MemSink::new(Vec::new(alloc), Vec::new(alloc));
+    let words = words(alloc, "pipe c1.toml")?;
+    let status = run(alloc, &words, &mut source, &mut sink, &mut errors);
+    Ok((status, sink.content().to_vec(alloc)?))
+}
+
+/// The input of the worked session: Login, CREATE, INSERT, SELECT.
+fn worked(alloc: Global) -> Result<Vec<u8>, Fail> {
+    let mut input = LOGIN.to_vec(alloc)?;
+    for text in [CREATE, INSERT, SELECT] {
+        query(&mut input, text)?;
+    }
+    Ok(input)
+}
+
+/// Statements, and the replies to them behind an accepted Login.
+const STATEMENTS: [(&[&str], &[&[u8]]); 17] = [
+    (&[CREATE, INSERT, SELECT], &[DONE_0, DONE_1, ONE_ROW]),
+    (
+        &[
+            "create\ttable T(K integer primary key,V text);",
+            "insert into t values(01,'a') ;",
+            "select*from T;",
+        ],
+        &[DONE_0, DONE_1, ONE_ROW],
+    ),
+    (&["SELECT * FROM u"], &[NO_TABLE]),
+    (&["INSERT INTO u VALUES (1)"], &[NO_TABLE]),
+    // the table is there already
+    (&[CREATE, CREATE], &[DONE_0, NOT_BUILT]),
+    // the length of the tuple, the kind of a constant, the key that is there
+    (&[CREATE, "INSERT INTO t VALUES (1)"], &[DONE_0, NOT_BUILT]),
+    (
+        &[CREATE, "INSERT INTO t VALUES ('a', 'a')"],
+        &[DONE_0, NOT_BUILT],
+    ),
+    (
+        &[CREATE, INSERT, "INSERT INTO t VALUES (1, 'b')", SELECT],
+        &[DONE_0, DONE_1, NOT_BUILT, ONE_ROW],
+    ),
+    // the ends of 64 bits, and past them
+    (
+        &[
+            CREATE,
+            "INSERT INTO t VALUES (9223372036854775807, '')",
+            "INSERT INTO t VALUES (-9223372036854775808, '')",
+            "INSERT INTO t VALUES (9223372036854775808, '')",
+            "INSERT INTO t VALUES (-9223372036854775809, '')",
+            "INSERT INTO t VALUES (18446744073709551617, '')",
+        ],
+        &[DONE_0, DONE_1, DONE_1, SYNTAX, SYNTAX, SYNTAX],
+    ),
+    (
+        &["", " ", ";", "SELECT", "SELECT * FROM"],
+        &[SYNTAX, SYNTAX, SYNTAX, SYNTAX, SYNTAX],
+    ),
+    // two hyphens, a quote that is left open, a number that goes on as a word, a reserved word as a name
+    (
+        &[
+            "SELECT * FROM t --",
+            "INSERT INTO t VALUES (1, 'a)",
+            "INSERT INTO t VALUES (1k)",
+            "SELECT * FROM key",
+        ],
+        &[SYNTAX, SYNTAX, SYNTAX, SYNTAX],
+    ),
+    // no primary key, two, and a column twice
+    (
+        &[
+            "CREATE TABLE t (k INTEGER)",
+            "CREATE TABLE t (k INTEGER PRIMARY KEY, v TEXT PRIMARY KEY)",
+            "CREATE TABLE t (k INTEGER PRIMARY KEY, K TEXT)",
+        ],
+        &[SYNTAX, SYNTAX, SYNTAX],
+    ),
+    // names of 32 and of 33 bytes
+    (
+        &[
+            "CREATE TABLE abcdefghijklmnopqrstuvwxyz_12345 (k TEXT PRIMARY KEY)",
+            "CREATE TABLE abcdefghijklmnopqrstuvwxyz_123456 (k TEXT PRIMARY KEY)",
+        ],
+        &[DONE_0, SYNTAX],
+    ),
+    // 16 columns and 17
+    (
+        &[
+            "CREATE TABLE t (a TEXT PRIMARY KEY, b TEXT, c TEXT, d TEXT, e TEXT, f TEXT, g TEXT, h TEXT, i TEXT, j TEXT, k TEXT, l TEXT, m TEXT, n TEXT, o TEXT, p TEXT)",
+            "CREATE TABLE u (a TEXT PRIMARY KEY, b TEXT, c TEXT, d TEXT, e TEXT, f TEXT, g TEXT, h TEXT, i TEXT, j TEXT, k TEXT, l TEXT, m TEXT, n TEXT, o TEXT, p TEXT, q TEXT)",
+        ],
+        &[DONE_0, SYNTAX],
+    ),
+    // what the grammar has and this version does not read
+    (
+        &[
+            "BEGIN",
+            "INSERT INTO t VALUES (1, 'a'), (2, 'b')",
+            "SELECT k FROM t",
+            "DROP TABLE t",
+        ],
+        &[SYNTAX, SYNTAX, SYNTAX, SYNTAX],
+    ),
+    // rows stand in rising key, texts by their bytes, a doubled quote is one
+    (
+        &[
+            "CREATE TABLE s (k TEXT PRIMARY KEY)",
+            "INSERT INTO s VALUES ('b')",
+            "INSERT INTO s VALUES ('''')",
+            "INSERT INTO s VALUES ('ä')",
+            "SELECT * FROM s",
+        ],
+        &[
+            DONE_0,
+            DONE_1,
+            DONE_1,
+            DONE_1,
+            b"\x00\x00\x00\x1d\x82\x00\x01\x00\x01k\x00\x00\x00\x03\x02\x00\x00\x00\x01'\x02\x00\x00\x00\x01b\x02\x00\x00\x00\x02\xc3\xa4",
+        ],
+    ),
+    // an empty table has columns and no row
+    (
+        &[CREATE, SELECT],
+        &[
+            DONE_0,
+            b"\x00\x00\x00\x0d\x82\x00\x02\x00\x01k\x00\x01v\x00\x00\x00\x00",
+        ],
+    ),
+];
+
+fn check_statements(
+    rt: &(impl Abort + AllocGlobal),
+    statements: &[&str],
+    replies: &[&[u8]],
+) -> Result<(), Fail> {
+    let alloc = rt.alloc();
+    let mut input = LOGIN.to_vec(alloc)?;
+    for text in statements {
+        query(&mut input, text)?;
+    }
+    let mut output = DONE_0.to_vec(alloc)?;
+    for reply in replies {
+        output.extend_from_slice(reply)?;
+    }
+    let (status, written) = piped(alloc, &input, &[], &[])?;
+    assert_eq!(rt; status, 0);
+    assert_eq!(rt; written.as_slice(), output.as_slice());
+    Ok(())
+}
+
+#[test]
+fn statements_get_their_replies(rt: HostRuntime) -> Result<(), Fail> {
+    for (statements, replies) in STATEMENTS {
+        check_statements(&rt, statements, replies)?;
+    }
+    Ok(())
+}
+
+/// Frames that are no Query, with the replies and the status.
+const FRAMES: [(&[u8], &[u8], u8); 14] = [
+    (b"", b"", 0),
+    // a Query and Stats before the Login
+    (b"\x00\x00\x00\x02\x02X", NOT_LOGGED_IN, 0),
+    (b"\x00\x00\x00\x01\x03", NOT_LOGGED_IN, 0),
+    // another password, and another user
+    (
+        b"\x00\x00\x00\x0e\x01\x00\x03ann\x00\x06Secret",
+        NOT_BUILT,
+        0,
+    ),
+    (
+        b"\x00\x00\x00\x0e\x01\x00\x03bob\x00\x06secret",
+        NOT_BUILT,
+        0,
+    ),
+    // nothing behind a Quit is looked at
+    (b"\x00\x00\x00\x01\x04\x00\x00\x00\x00", b"", 0),
+    // the four faults: no bytes, too many, an unknown kind, a payload that a Quit or a Login doesn't have
+    (b"\x00\x00\x00\x00", b"", 4),
+    (b"\x00\x10\x00\x01", b"", 4),
+    (b"\x00\x00\x00\x01\x05", b"", 4),
+    (b"\x00\x00\x00\x01\x00", b"", 4),
+    (b"\x00\x00\x00\x02\x04\x00", b"", 4),
+    (b"\x00\x00\x00\x0f\x01\x00\x03ann\x00\x06secret!", b"", 4),
+    // what was answered before a fault stands
+    (b"\x00\x00\x00\x02\x02X\x00\x00\x00\x00", NOT_LOGGED_IN, 4),
+    // a frame of the largest length, of which three bytes are there
+    (b"\x00\x10\x00\x00\x02SE", b"", 4),
+];
+
+#[test]
+fn frames_get_their_replies(rt: HostRuntime) -> Result<(), Fail> {
+    for (input, output, status) in FRAMES {
+        let (answered, written) = piped(rt.alloc(), input, &[], &[])?;
+        assert_eq!(rt; answered, status);
+        assert_eq!(rt; written.as_slice(), output);
+    }
+    Ok(())
+}
+
+#[test]
+fn a_second_login_and_stats_are_not_built(rt: HostRuntime) -> Result<(), Fail> {
+    let alloc = rt.alloc();
+    let mut input = LOGIN.to_vec(alloc)?;
+    input.extend_from_slice(LOGIN)?;
+    input.extend_from_slice(b"\x00\x00\x00\x01\x03")?;
+    let mut output = DONE_0.to_vec(alloc)?;
+    output.extend_from_slice(NOT_BUILT)?;
+    output.extend_from_slice(NOT_BUILT)?;
+    let (status, written) = piped(alloc, &input, &[], &[])?;
+    assert_eq!(rt; status, 0);
+    assert_eq!(rt; written.as_slice(), output.as_slice());
+    Ok(())
+}
+
+/// What is written of the worked session's replies where so many bytes of its input come, and the status.
+fn written_of(count: usize) -> (usize, u8) {
+    match count {
+        0 => (0, 0),
+        1..=17 => (0, 4),
+        18 => (13, 0),
+        19..=68 => (13, 4),
+        69 => (26, 0),
+        70..=102 => (26, 4),
+        103 => (39, 0),
+        104..=122 => (39, 4),
+        _ => (71, 0),
+    }
+}
+
+#[test]
+fn a_cut_loses_nothing_that_was_answered(rt: HostRuntime) -> Result<(), Fail> {
+    let alloc = rt.alloc();
+    let input = worked(alloc)?;
+    assert_eq!(rt; input.len(), 123);
+    let mut output = DONE_0.to_vec(alloc)?;
+    for reply in [DONE_0, DONE_1, ONE_ROW] {
+        output.extend_from_slice(reply)?;
+    }
+    for count in 0..input.len() {
+        let (cut, _) = input.split_at(count);
+        let (length, expected) = written_of(count);
+        let (status, written) = piped(alloc, cut, &[], &[])?;
+        assert_eq!(rt; status, expected, "after {count} bytes");
+        assert!(rt;
+            Some(written.as_slice()) == output.get(..length),
+            "after {count} bytes"
+        );
+    }
+    let (status, written) = piped(alloc, &input, &[], &[])?;
+    assert_eq!(rt; status, 0);
+    assert_eq!(rt; written.as_slice(), output.as_slice());
+    Ok(())
+}
+
+#[test]
+fn failing_calls_are_the_status(rt: HostRuntime) -> Result<(), Fail> {
+    let alloc = rt.alloc();
+    let input = worked(alloc)?;
+    for call in 1..3u64 {
+        let (status, written) = piped(alloc, &input, &[call], &[])?;
+        assert_eq!(rt; status, 5, "take {call}");
+        assert_eq!(rt; written.len(), 0);
+    }
+    for (call, length) in [(1u64, 0usize), (2, 13), (3, 26), (4, 39)] {
+        let (status, written) = piped(alloc, &input, &[], &[call])?;
+        assert_eq!(rt; status, 6, "put {call}");
+        assert_eq!(rt; written.len(), length);
+    }
+    let (status, _written) = piped(alloc, &input, &[3], &[5])?;
+    assert_eq!(rt; status, 0);
+    Ok(())
+}
+
+#[test]
+fn a_long_answer_is_not_built(rt: HostRuntime) -> Result<(), Fail> {
+    let alloc = rt.alloc();
+    let mut input = LOGIN.to_vec(alloc)?;
+    query(&mut input, CREATE)?;
+    let mut text = String::new(alloc);
+    for _ in 0..4000 {
+        text.push('x')?;
+    }
+    for key in 0..262u32 {
+        query(
+            &mut input,
+            format!(in alloc; "INSERT INTO t VALUES ({key}, '{text}')")?.as_str(),
+        )?;
+    }
+    query(&mut input, SELECT)?;
+    let (status, written) = piped(alloc, &input, &[], &[])?;
+    assert_eq!(rt; status, 0);
+    assert!(rt; written.as_slice().ends_with(NOT_BUILT));
+    assert_eq!(rt; written.len(), 264 * 13 + 23);
+    Ok(())
+}
+
+#[test]
+fn other_words_are_refused(rt: HostRuntime) -> Result<(), Fail> {
+    let alloc = rt.alloc();
+    for text in ["", "serve c1", "pipe", "pipe -c", "pipe c1 c2", "PIPE c1"] {
+        let mut source = MemSource::new(LOGIN.to_vec(alloc)?, Vec::new(alloc));
+        let mut sink = MemSink::new(Vec::new(alloc), Vec::new(alloc));
+        let mut errors = MemSink::new(Vec::new(alloc), Vec::new(alloc));
+        let words = words(alloc, text)?;
+        assert_eq!(rt;
+            run(alloc, &words, &mut source, &mut sink, &mut errors),
+            2,
+            "{text}"
+        );
+        assert_eq!(rt; sink.content().len(), 0);
+    }
+    Ok(())
+}
