@@ -11,3 +11,5 @@ pub mod Pushed
 pub mod SessionLaws
 pub mod Sessions
 pub mod Soundness
+pub mod Temp
+pub mod TurnCases
