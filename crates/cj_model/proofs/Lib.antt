@@ -11,5 +11,4 @@ pub mod Pushed
 pub mod SessionLaws
 pub mod Sessions
 pub mod Soundness
-pub mod Temp
 pub mod TurnCases
