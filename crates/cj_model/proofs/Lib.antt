@@ -1,3 +1,6 @@
+pub mod Answered
+pub mod Between
+pub mod Chains
 pub mod Columns
 pub mod DatabaseLaws
 pub mod Effects
@@ -14,3 +17,4 @@ pub mod SessionLaws
 pub mod Sessions
 pub mod Soundness
 pub mod TableLaws
+pub mod TurnCases
