@@ -1,5 +1,5 @@
 -- What one more event at the end of a history does, and what a history has in common with those that it began as.
-use Rattle.std.proofs.Common.{◌≡◌, ◌≢◌, ℕ, ◌+◌, ◌-◌, ◌*◌, ◌^◌, ◌<◌, ◌≤◌, true, false, cond, ◌==◌, List, [], ◌∷◌, ◌++◌, length, take, drop, get_or, slice_get, Option, None, Some, refl, ap, sym, ◌∙◌, subst, arith, length-append, append_assoc, take-append-drop, ⊎_elim}
+use Rattle.std.proofs.Common.{◌≡◌, ◌≢◌, ℕ, ◌+◌, ◌-◌, ◌*◌, ◌^◌, ◌<◌, ◌≤◌, true, false, cond, ◌==◌, List, [], ◌∷◌, ◌++◌, length, take, drop, get_or, slice_get, Option, option_map, None, Some, refl, ap, sym, ◌∙◌, subst, arith, length-append, append_assoc, take-append-drop, ⊎_elim}
 use mathlib.Core.List.{IsPrefix}
 use Rattle.std.proofs.lemmas.Grind.{fold-append}
 use Rattle.std.proofs.lemmas.Bool.{cases_lt, eqb-true, eqb-false, eq-eqb, ne_eqb}
@@ -11,7 +11,8 @@ use Rattle.std.proofs.Math.Seq.{take-append_seam, get_or-append_seam}
 use Rattle.cj_model.specs.declared.request.Entry.{Entry}
 use Rattle.cj_model.specs.declared.event.Event.{Event}
 use Rattle.cj_model.specs.declared.event.Event.TheVariants.{Sched, Ended, ReadFailed, LogFailed, Disabled, Enabled, Marker}
-use Rattle.cj_model.specs.Histories.{scheduled, log, is_ended, done, free, opened, enabled, enabled_after, room, masks_of, ends, marked, markers, blames, blame}
+use Rattle.cj_model.specs.Steps.{step}
+use Rattle.cj_model.specs.Histories.{run, at, said, scheduled, log, is_ended, done, free, opened, enabled, enabled_after, room, masks_of, ends, marked, markers, blames, blame}
 use Rattle.cj_model.specs.Legality.{Allowed, IsLegal}
 
 -- ---- lists
@@ -120,6 +121,10 @@ length-ends h = is_count_by (λ g. length (ends g)) is_ended refl one h
     one (Enabled b) g = refl
     one (Marker name b) g = refl
 
+-- and stand at the entry that ended
+pub ends-last : (h : List Event) (f s : ℕ) → slice_get (ends (h ++ Ended f s ∷ [])) (done h) ≡ Some (f, s)
+ends-last h f s = rw (ends-ended h f s, ← length-ends h) (get_seam (ends h) [] (f, s))
+
 -- the name of a marker comes last
 pub markers-marker : (h : List Event) (name : List ℕ) (b : Option ℕ) → markers (h ++ Marker name b ∷ []) ≡ markers h ++ name ∷ []
 markers-marker h name b = filter_map-append marked h (Marker name b ∷ [])
@@ -225,6 +230,18 @@ ends-prefix f h p = (ends p.0, sym (filter_map-append masks_of f p.0) ∙ ap end
 -- and its markers
 pub markers-prefix : (f h : List Event) → IsPrefix f h → IsPrefix (markers f) (markers h)
 markers-prefix f h p = (markers p.0, sym (filter_map-append marked f p.0) ∙ ap markers p.1)
+
+-- the database after some entries is the same in each log that begins so
+pub at-prefix : (xs ys : List Entry) (n : ℕ) → IsPrefix xs ys → n ≤ length xs → at ys n ≡ at xs n
+at-prefix xs ys n p le = ap run (take_prefix xs ys n p le)
+
+-- and so is what an entry comes to
+pub said-prefix : (xs ys : List Entry) (i : ℕ) (e : Entry) → IsPrefix xs ys → slice_get xs i ≡ Some e → said ys i ≡ said xs i
+said-prefix xs ys i e p is =
+    let lt : i < length xs = slice_get_within xs i e is in
+    let le : i ≤ length xs = omega arith in
+    ap (λ (o : Option Entry). option_map (λ d. (step (at ys i) d).outcome) o) (prefix_get xs ys i e p is ∙ sym is)
+    ∙ ap (λ db. option_map (λ d. (step db d).outcome) (slice_get xs i)) (at-prefix xs ys i p le)
 
 -- ---- legal histories
 
