@@ -22,7 +22,8 @@ use Rattle.cj_model.specs.Plain.{act_of, request_of}
 use Rattle.cj_model.specs.Histories.{has, log, done, free, opened, enabled, room}
 use Rattle.cj_model.specs.Legality.{IsWritten, user_limit}
 use Rattle.cj_model.specs.Answering.{Served}
-use Rattle.cj_model.specs.Turns.{Seen, Call, Turn, Chain}
+use Rattle.cj_model.specs.Placements.{Placement}
+use Rattle.cj_model.specs.Turns.{Seen, Call, Turn, Chain, entries_of}
 use Rattle.cj_model.specs.Cores.{Core, session_at, is_by}
 use Rattle.cj_model.specs.Moves.{Given, MovesTo, is_open, forbidden_by, tx_of_act, open_tx, read_number}
 
@@ -64,13 +65,14 @@ CanCount c n = (s : ℕ) → (session_at c s).queries + n ≤ 2 ^ 62
 
 -- ---- the calls of a session
 
+-- the state of the session's transaction does not forbid the act
+abbrev pub is_allowed : Core → ℕ → Option Act → Bool
+is_allowed c s None = false
+is_allowed c s (Some a) = is_none (forbidden_by (open_tx c s) a)
+
 -- the reply to session s in what a move gave; what its transaction's state forbids is no turn
 abbrev pub reply_in : Core → ℕ → Move → Moved → Option Reply
 reply_in c s (Schedule t r) (moved.Refused refusal) = if t == s && is_allowed c s (act_of r) then Some (Refused refusal) else None
-  where
-    is_allowed : Core → ℕ → Option Act → Bool
-    is_allowed c s None = false
-    is_allowed c s (Some a) = is_none (forbidden_by (open_tx c s) a)
 reply_in c s End (moved.Replied t reply) = if t == s then Some reply else None
 reply_in c s (Read t b select) (moved.Rows a) = if t == s then Some (Rows a) else None
 reply_in c s (Read t b select) (moved.Refused refusal) = if t == s then Some (Refused refusal) else None
@@ -111,35 +113,39 @@ RunsFor s tells c (m ∷ ms) [] calls z = ⊥
 -- ---- between two replies
 
 -- The session's own entry is open: it was scheduled since, and nothing was enabled or disabled after it.
-pub record IsUnanswered (front : List Event) (c : Core) (s : ℕ) : Type 0 where
+pub record IsUnanswered (p : Placement) (front h : List Event) (s : ℕ) : Type 0 where
   pub e : Entry
-  pub is : opened c.history ≡ Some e
+  pub is : opened h ≡ Some e
   pub m : ℕ
   pub low : length front ≤ m
-  pub high : m < length c.history
-  pub was_free : free (take m c.history) ≡ true
-  pub served : Served c.placement (take m c.history) (request_of e.act)
-  pub space : 3 ≤ room (take m c.history)
-  pub next : slice_get c.history m ≡ Some (Sched e)
-  pub number : length (log (take m c.history)) ≡ done c.history
-  pub same : (b : ℕ) → enabled (take m c.history) b ≡ enabled c.history b
+  pub high : m < length h
+  pub was_free : free (take m h) ≡ true
+  pub served : Served p (take m h) (request_of e.act)
+  pub space : 3 ≤ room (take m h)
+  pub next : slice_get h m ≡ Some (Sched e)
+  pub number : length (log (take m h)) ≡ done h
+  pub same : (b : ℕ) → enabled (take m h) b ≡ enabled h b
+  pub entries : entries_of s h ≡ entries_of s front + 1
 
--- Each backend that was tried in the session's open read has failed in it since.
-abbrev pub TriedSince : List Event → Core → ℕ → Type 0
-TriedSince front c s = (r : OpenRead) (b : ℕ) → (session_at c s).reading ≡ Some r → has r.tried b ≡ true
-    → (k : ℕ) × (length front ≤ k) × (k < length c.history) × (slice_get c.history k ≡ Some (ReadFailed s (session_at c s).queries b))
+-- Each backend that was tried in the open read of session s, as which x stands, has failed in it since.
+abbrev pub TriedSince : List Event → List Event → ℕ → OpenSession → Type 0
+TriedSince front h s x = (r : OpenRead) (b : ℕ) → x.reading ≡ Some r → has r.tried b ≡ true
+    → (k : ℕ) × (length front ≤ k) × (k < length h) × (slice_get h k ≡ Some (ReadFailed s x.queries b))
 
--- How an open session stands that has seen a at its last reply.
-pub record IsSeenBy (a : Seen) (c : Core) (s : ℕ) : Type 0 where
-  pub least : (session_at c s).least ≡ a.least
-  pub waits : is_by s (opened c.history) ≡ true → IsUnanswered a.front c s
-  pub reads : TriedSince a.front c s
+-- How it stands with an open session s, as which x stands, that has seen a at its last reply.
+pub record IsSeenBy (p : Placement) (a : Seen) (h : List Event) (s : ℕ) (x : OpenSession) : Type 0 where
+  pub least : x.least ≡ a.least
+  -- its own entry is open, and no read
+  pub waits : is_by s (opened h) ≡ true → IsUnanswered p a.front h s × (x.reading ≡ None)
+  -- no entry of its own is open, and it has no new one
+  pub rests : is_by s (opened h) ≡ false → entries_of s h ≡ entries_of s a.front
+  pub reads : TriedSince a.front h s x
 
 -- Session s has seen a at its last reply, or has not begun.
 pub record IsBetween (a : Seen) (c : Core) (s : ℕ) : Type 0 where
   pub longer : IsPrefix a.front c.history
   pub owes : a.least ≤ length (log a.front)
-  pub here : is_open c s ≡ true → IsSeenBy a c s
+  pub here : is_open c s ≡ true → IsSeenBy c.placement a c.history s (session_at c s)
   pub later : c.greatest < s → a.least ≡ 0
 
 -- The replies to session s in a run are a chain of turns from what it has seen, wherever the run begins and ends within its calls.
