@@ -1,0 +1,206 @@
+-- The turn of each kind of reply, over plain values.
+use Rattle.std.proofs.Common.{◌≡◌, ◌≢◌, ℕ, zero, suc, ◌+◌, ◌-◌, ◌<◌, ◌≤◌, ◌==◌, ◌⊎◌, inl, inr, Bool, true, false, cond, List, [], ◌∷◌, ◌++◌, length, take, slice_get, Option, None, Some, All, refl, ap, sym, ◌∙◌, subst, arith, ⊎_elim, length-append}
+use mathlib.Core.List.{IsPrefix}
+use Rattle.std.proofs.lemmas.Grind.{fold-append}
+use Rattle.std.proofs.lemmas.Bool.{cases_eq, cases_lt, eqb-true, eqb-false, eq-eqb, both_ways}
+use Rattle.std.proofs.lemmas.List.{append-nil, take-append-le}
+use Rattle.std.proofs.Math.Seq.{take-append_seam}
+use Rattle.cj_model.specs.declared.request.Request.{Request}
+use Rattle.cj_model.specs.declared.request.Request.TheVariants as request
+use Rattle.cj_model.specs.declared.request.Act.{Act}
+use Rattle.cj_model.specs.declared.request.Act.TheVariants as act
+use Rattle.cj_model.specs.declared.request.Entry.{Entry}
+use Rattle.cj_model.specs.declared.select.Select.{Select}
+use Rattle.cj_model.specs.declared.answer.Reply.{Reply}
+use Rattle.cj_model.specs.declared.answer.Reply.TheVariants.{Refused}
+use Rattle.cj_model.specs.declared.event.Event.{Event}
+use Rattle.cj_model.specs.declared.event.Event.TheVariants.{Sched, Ended, ReadFailed}
+use Rattle.cj_model.specs.declared.codes.TheConstants.{NO_BACKEND, READ_FAULT, HISTORY_FULL}
+use Rattle.cj_model.specs.Changes.{bare}
+use Rattle.cj_model.specs.Asks.{ask}
+use Rattle.cj_model.specs.Plain.{act_of, request_of}
+use Rattle.cj_model.specs.Placements.{Placement, concerns}
+use Rattle.cj_model.specs.Histories.{has, log, done, free, opened, enabled, room, at, tx_of}
+use Rattle.cj_model.specs.Legality.{IsLegal}
+use Rattle.cj_model.specs.Answering.{ServesAt, Served, Unserved, is_target, Finished, Unfinished, AnswersEntry}
+use Rattle.cj_model.specs.Turns.{Seen, Call, Moment, reply_of_asked, entry_of, Scheduled, NoBackend, Read, ReadFault, Full, IsFull, Case, scheduled, no_backend, read, read_fault, full, entries_of, Turn}
+use Rattle.cj_model.specs.Sound.{IsLone}
+use Rattle.cj_model.specs.Runs.{IsUnanswered, call_of_entry}
+use Rattle.cj_model.proofs.Temp.{enabled-push, log-sched, log-same, done-same, done-ended, prefix_self, prefix_trans}
+
+-- ---- lists
+
+pub prefix_length : {A : Type 0} (xs ys : List A) → IsPrefix xs ys → length xs ≤ length ys
+prefix_length xs ys p = let e : length (xs ++ p.0) ≡ length ys = ap length p.1 in omega (arith, length-append xs p.0)
+
+-- the item put behind a list
+pub seam : {A : Type 0} (xs : List A) (y : A) → slice_get (xs ++ y ∷ []) (length xs) ≡ Some y
+seam [] y = refl
+seam (x ∷ xs) y = seam xs y
+
+pub get_left : {A : Type 0} (xs ys : List A) (k : ℕ) → k < length xs → slice_get (xs ++ ys) k ≡ slice_get xs k
+get_left [] ys k lt = absurd (omega arith)
+get_left (x ∷ xs) ys zero lt = refl
+get_left (x ∷ xs) ys (suc k) lt = get_left xs ys k (omega arith)
+
+pub take_whole : {A : Type 0} (xs : List A) → take (length xs) xs ≡ xs
+take_whole {A = A} xs = subst (λ (y : List A). take (length xs) y ≡ xs) (append-nil xs) (take-append_seam xs [])
+
+pub length_more : {A : Type 0} (xs : List A) (y : A) → length (xs ++ y ∷ []) ≡ length xs + 1
+length_more xs y = length-append xs (y ∷ [])
+
+-- ---- requests and acts
+
+pub act_of_request : (a : Act) → act_of (request_of a) ≡ Some a
+act_of_request act.Begin = refl
+act_of_request (act.Write w) = refl
+act_of_request (act.Create c) = refl
+act_of_request (act.Drop table) = refl
+act_of_request act.Commit = refl
+act_of_request act.Abort = refl
+
+-- what concerns an act outside a transaction does not hang on the entries before it
+concerns_lone : (p : Placement) (b : ℕ) (xs ys : List Entry) (e : Entry) (a : Act) → IsLone e a → concerns p b xs e.tx a ≡ concerns p b ys e.tx a
+concerns_lone p b xs ys e act.Begin lone = absurd lone
+concerns_lone p b xs ys e (act.Write w) lone = refl
+concerns_lone p b xs ys e (act.Create c) lone = refl
+concerns_lone p b xs ys e (act.Drop table) lone = refl
+concerns_lone p b xs ys e act.Commit lone = absurd lone
+concerns_lone p b xs ys e act.Abort lone = absurd lone
+
+pub lone_tx : (e : Entry) (a : Act) → IsLone e a → e.tx ≡ 0
+lone_tx e act.Begin lone = absurd lone
+lone_tx e (act.Write w) lone = lone
+lone_tx e (act.Create c) lone = lone
+lone_tx e (act.Drop table) lone = lone
+lone_tx e act.Commit lone = absurd lone
+lone_tx e act.Abort lone = absurd lone
+
+-- the targets of an act outside a transaction are the enabled backends that it concerns
+target_at : (p : Placement) (g h : List Event) (e : Entry) → IsLone e e.act → ((b : ℕ) → enabled g b ≡ enabled h b) → (b : ℕ) → is_target p g e b → is_target p h e b
+target_at p g h e lone same b t = (sym (same b) ∙ t.0, concerns_lone p b (log h) (log g) e e.act lone ∙ t.1)
+
+-- so it is answered by the history at which it was scheduled as by one with the same enabled backends
+answers_then : (p : Placement) (g h now : List Event) (i : ℕ) (e : Entry) (r : Reply) → IsLone e e.act → ((b : ℕ) → enabled g b ≡ enabled h b)
+    → AnswersEntry p h now i e r → AnswersEntry p g now i e r
+answers_then p g h now i e r lone same answer =
+    let forth = target_at p g h e lone same in
+    let back = target_at p h g e lone (λ b. sym (same b)) in
+    ⊎_elim
+    (λ (x : Finished p h now i e r).
+       inl record {
+         failed = x.failed; starved = x.starved; masks = x.masks;
+         some = ⊎_elim (λ (none : (b : ℕ) → is_target p h e b → ⊥). inl (λ b t. none b (forth b t))) (λ (q : _). inr (q.0, back q.0 q.1, q.2, q.3)) x.some;
+         outcome = x.outcome; says = x.says; replied = x.replied;
+       })
+    (λ (x : Unfinished p h now i e r).
+       inr record {
+         failed = x.failed; starved = x.starved; masks = x.masks;
+         some = (x.some.0, back x.some.0 x.some.1);
+         all = λ b t. x.all b (forth b t); replied = x.replied;
+       })
+    answer
+
+-- ---- the number of a session's entries
+
+pub entries-same : (s : ℕ) (h g : List Event) → log g ≡ log h → entries_of s g ≡ entries_of s h
+entries-same s h g same = rw same refl
+
+pub entries-sched : (s : ℕ) (h : List Event) (e : Entry) → entries_of s (h ++ Sched e ∷ []) ≡ entries_of s h + cond (e.session == s) 1 0
+entries-sched s h e = rw (log-sched h e) (fold-append (λ (n : ℕ) (x : Entry). n + cond (x.session == s) 1 0) 0 (log h) (e ∷ []))
+
+-- ---- turns
+
+-- the end of an entry answers its session
+pub turn_end : (p : Placement) (a : Seen) (h : List Event) (failed starved : ℕ) (e : Entry) (r : Reply)
+    → IsLegal (h ++ Ended failed starved ∷ []) → IsPrefix a.front h → a.least ≤ length (log a.front) → IsUnanswered p a.front h e.session
+    → opened h ≡ Some e → IsLone e e.act → length (log h) ≡ done h + 1
+    → AnswersEntry p h (h ++ Ended failed starved ∷ []) (done h) e r
+    → Turn p e.session a (call_of_entry (Some e) r) (record { front = h ++ Ended failed starved ∷ []; least = length (log h) })
+turn_end p a h failed starved e r legal longer owes o is lone one_open answer =
+    let ev : Event = Ended failed starved in
+    let g : List Event = h ++ ev ∷ [] in
+    let m : ℕ = o.m in
+    let high : m < length h = o.high in
+    let its : o.e ≡ e = cc (o.is, is) in
+    let part : take m g ≡ take m h = take-append-le m h (ev ∷ []) (omega arith) in
+    let number : length (log (take m g)) ≡ done h = ap (λ x. length (log x)) part ∙ o.number in
+    let next : slice_get g m ≡ Some (Sched e) = get_left h (ev ∷ []) m high ∙ (o.next ∙ ap (λ x. Some (Sched x)) its) in
+    let many : length g ≡ length h + 1 = length_more h ev in
+    let low : length a.front ≤ m = o.low in
+    let served : Served p (take m h) (request_of e.act) = subst (λ (x : Entry). Served p (take m h) (request_of x.act)) its o.served in
+    record {
+      legal = legal;
+      longer = prefix_trans a.front h g longer (ev ∷ [], refl);
+      owes = owes;
+      tx = inl (lone_tx e e.act lone);
+      case =
+        scheduled
+        record {
+          m = m;
+          moment = record { low = low; high = omega arith };
+          act = e.act;
+          is = act_of_request e.act;
+          was_free = ap free part ∙ o.was_free;
+          served = subst (λ (x : List Event). Served p x (request_of e.act)) (sym part) served;
+          space = subst (λ (x : List Event). 3 ≤ room x) (sym part) o.space;
+          next = next;
+          answer =
+            subst (λ (i : ℕ). AnswersEntry p (take m g) g i e r) (sym number)
+            (subst (λ (x : List Event). AnswersEntry p x g (done h) e r) (sym part) (answers_then p (take m h) h g (done h) e r lone o.same answer));
+          least = one_open ∙ ap (λ n. n + 1) (sym number);
+        };
+      entries = entries-same e.session h g (log-same h ev refl) ∙ o.entries;
+    }
+
+-- the moment is now, and nothing was scheduled since the session saw a
+module _ (p : Placement) (s : ℕ) (a : Seen) (h : List Event) (legal : IsLegal h) (longer : IsPrefix a.front h) (owes : a.least ≤ length (log a.front)) (rests : entries_of s h ≡ entries_of s a.front) where
+  now : Moment a.front h (length h)
+  now = let n : length a.front ≤ length h = prefix_length a.front h longer in record { low = n; high = omega arith }
+
+  none_more : entries_of s h ≡ entries_of s a.front + 0
+  none_more = omega (arith, rests)
+
+  -- no backend serves the request
+  pub turn_unserved : (c : Call) → c.tx ≡ 0 → c.reply ≡ Refused (bare NO_BACKEND) → Unserved p h c.request → Turn p s a c (record { front = h; least = a.least })
+  turn_unserved c tx replied none =
+      record {
+        legal = legal; longer = longer; owes = owes; tx = inl tx;
+        case = no_backend record { m = length h; moment = now; none = subst (λ (x : List Event). Unserved p x c.request) (sym (take_whole h)) none; replied = replied; least = refl };
+        entries = none_more;
+      }
+
+  -- the history has no room
+  pub turn_full : (c : Call) → c.tx ≡ 0 → c.reply ≡ Refused (record { code = HISTORY_FULL; a = length h; b = 0 }) → Served p h c.request → IsFull h (act_of c.request)
+      → Turn p s a c (record { front = h; least = a.least })
+  turn_full c tx replied served small =
+      record {
+        legal = legal; longer = longer; owes = owes; tx = inl tx;
+        case =
+          full
+          record {
+            m = length h; moment = now;
+            served = subst (λ (x : List Event). Served p x c.request) (sym (take_whole h)) served;
+            full = subst (λ (x : List Event). IsFull x (act_of c.request)) (sym (take_whole h)) small;
+            replied = replied; least = refl;
+          };
+        entries = none_more;
+      }
+
+  -- a read that was answered at a position that the session owes and that no ended entry is past
+  pub turn_read : (c : Call) (select : Select) (n : ℕ) → c.tx ≡ 0 → c.request ≡ request.Select select → c.reply ≡ reply_of_asked (ask (at (log h) n) c.tx select)
+      → Served p h c.request → a.least ≤ n → done h ≤ n → n ≤ length (log h) → Turn p s a c (record { front = h; least = n })
+  turn_read c select n tx is replied served owed past within =
+      record {
+        legal = legal; longer = longer; owes = owes; tx = inl tx;
+        case =
+          read
+          record {
+            m = length h; moment = now; select = select; is = is;
+            served = subst (λ (x : List Event). Served p x c.request) (sym (take_whole h)) served;
+            owed = owed;
+            past = subst (λ (x : List Event). done x ≤ n) (sym (take_whole h)) past;
+            within = within; replied = replied;
+          };
+        entries = none_more;
+      }
