@@ -14,5 +14,4 @@ pub mod SessionLaws
 pub mod Sessions
 pub mod Soundness
 pub mod TableLaws
-pub mod Temp
 pub mod TurnCases

@@ -4,7 +4,7 @@ use mathlib.Core.List.{IsPrefix}
 use Rattle.std.proofs.lemmas.Grind.{fold-append}
 use Rattle.std.proofs.lemmas.Bool.{cases_eq, cases_lt, eqb-true, eqb-false, eq-eqb, both_ways}
 use Rattle.std.proofs.lemmas.List.{append-nil, take-append-le}
-use Rattle.std.proofs.Math.Seq.{take-append_seam}
+use Rattle.std.proofs.lemmas.Nat.Bits.{bit_at-zero}
 use Rattle.cj_model.specs.declared.request.Request.{Request}
 use Rattle.cj_model.specs.declared.request.Request.TheVariants as request
 use Rattle.cj_model.specs.declared.request.Act.{Act}
@@ -25,29 +25,8 @@ use Rattle.cj_model.specs.Legality.{IsLegal}
 use Rattle.cj_model.specs.Answering.{ServesAt, Served, Unserved, is_target, Finished, Unfinished, AnswersEntry}
 use Rattle.cj_model.specs.Turns.{Seen, Call, Moment, reply_of_asked, entry_of, Scheduled, NoBackend, Read, ReadFault, Full, IsFull, Case, scheduled, no_backend, read, read_fault, full, entries_of, Turn}
 use Rattle.cj_model.specs.Sound.{IsLone}
-use Rattle.cj_model.specs.Runs.{IsUnanswered, call_of_entry}
-use Rattle.cj_model.proofs.Temp.{enabled-push, log-sched, log-same, done-same, done-ended, prefix_self, prefix_trans}
-
--- ---- lists
-
-pub prefix_length : {A : Type 0} (xs ys : List A) → IsPrefix xs ys → length xs ≤ length ys
-prefix_length xs ys p = let e : length (xs ++ p.0) ≡ length ys = ap length p.1 in omega (arith, length-append xs p.0)
-
--- the item put behind a list
-pub seam : {A : Type 0} (xs : List A) (y : A) → slice_get (xs ++ y ∷ []) (length xs) ≡ Some y
-seam [] y = refl
-seam (x ∷ xs) y = seam xs y
-
-pub get_left : {A : Type 0} (xs ys : List A) (k : ℕ) → k < length xs → slice_get (xs ++ ys) k ≡ slice_get xs k
-get_left [] ys k lt = absurd (omega arith)
-get_left (x ∷ xs) ys zero lt = refl
-get_left (x ∷ xs) ys (suc k) lt = get_left xs ys k (omega arith)
-
-pub take_whole : {A : Type 0} (xs : List A) → take (length xs) xs ≡ xs
-take_whole {A = A} xs = subst (λ (y : List A). take (length xs) y ≡ xs) (append-nil xs) (take-append_seam xs [])
-
-pub length_more : {A : Type 0} (xs : List A) (y : A) → length (xs ++ y ∷ []) ≡ length xs + 1
-length_more xs y = length-append xs (y ∷ [])
+use Rattle.cj_model.specs.Runs.{IsUnanswered, HasFailed, call_of_entry}
+use Rattle.cj_model.proofs.Pushed.{get_seam, get_left, prefix_self, prefix_push, prefix_length, take_whole, enabled-push, log-sched, log-same}
 
 -- ---- requests and acts
 
@@ -125,13 +104,13 @@ turn_end p a h failed starved e r legal longer owes o is lone one_open answer =
     let its : o.e ≡ e = cc (o.is, is) in
     let part : take m g ≡ take m h = take-append-le m h (ev ∷ []) (omega arith) in
     let number : length (log (take m g)) ≡ done h = ap (λ x. length (log x)) part ∙ o.number in
-    let next : slice_get g m ≡ Some (Sched e) = get_left h (ev ∷ []) m high ∙ (o.next ∙ ap (λ x. Some (Sched x)) its) in
-    let many : length g ≡ length h + 1 = length_more h ev in
+    let next : slice_get g m ≡ Some (Sched e) = get_left h (ev ∷ []) m (Sched o.e) o.next ∙ ap (λ x. Some (Sched x)) its in
+    let many : length g ≡ length h + 1 = length-append h (ev ∷ []) in
     let low : length a.front ≤ m = o.low in
     let served : Served p (take m h) (request_of e.act) = subst (λ (x : Entry). Served p (take m h) (request_of x.act)) its o.served in
     record {
       legal = legal;
-      longer = prefix_trans a.front h g longer (ev ∷ [], refl);
+      longer = prefix_push a.front h ev longer;
       owes = owes;
       tx = inl (lone_tx e e.act lone);
       case =
@@ -158,6 +137,9 @@ module _ (p : Placement) (s : ℕ) (a : Seen) (h : List Event) (legal : IsLegal 
   now : Moment a.front h (length h)
   now = let n : length a.front ≤ length h = prefix_length a.front h longer in record { low = n; high = omega arith }
 
+  whole : take (length h) h ≡ h
+  whole = take_whole h h (prefix_self h)
+
   none_more : entries_of s h ≡ entries_of s a.front + 0
   none_more = omega (arith, rests)
 
@@ -166,7 +148,7 @@ module _ (p : Placement) (s : ℕ) (a : Seen) (h : List Event) (legal : IsLegal 
   turn_unserved c tx replied none =
       record {
         legal = legal; longer = longer; owes = owes; tx = inl tx;
-        case = no_backend record { m = length h; moment = now; none = subst (λ (x : List Event). Unserved p x c.request) (sym (take_whole h)) none; replied = replied; least = refl };
+        case = no_backend record { m = length h; moment = now; none = subst (λ (x : List Event). Unserved p x c.request) (sym (whole)) none; replied = replied; least = refl };
         entries = none_more;
       }
 
@@ -180,8 +162,8 @@ module _ (p : Placement) (s : ℕ) (a : Seen) (h : List Event) (legal : IsLegal 
           full
           record {
             m = length h; moment = now;
-            served = subst (λ (x : List Event). Served p x c.request) (sym (take_whole h)) served;
-            full = subst (λ (x : List Event). IsFull x (act_of c.request)) (sym (take_whole h)) small;
+            served = subst (λ (x : List Event). Served p x c.request) (sym (whole)) served;
+            full = subst (λ (x : List Event). IsFull x (act_of c.request)) (sym (whole)) small;
             replied = replied; least = refl;
           };
         entries = none_more;
@@ -197,10 +179,54 @@ module _ (p : Placement) (s : ℕ) (a : Seen) (h : List Event) (legal : IsLegal 
           read
           record {
             m = length h; moment = now; select = select; is = is;
-            served = subst (λ (x : List Event). Served p x c.request) (sym (take_whole h)) served;
+            served = subst (λ (x : List Event). Served p x c.request) (sym (whole)) served;
             owed = owed;
-            past = subst (λ (x : List Event). done x ≤ n) (sym (take_whole h)) past;
+            past = subst (λ (x : List Event). done x ≤ n) (sym (whole)) past;
             within = within; replied = replied;
           };
         entries = none_more;
       }
+
+-- a read in which the last backend that serves it failed now, and the others since the session saw a
+pub turn_fault : (p : Placement) (s : ℕ) (a : Seen) (h : List Event) (b : ℕ) (c : Call) (select : Select) (mask tried : ℕ)
+    → IsLegal (h ++ ReadFailed s c.number b ∷ []) → IsPrefix a.front h → a.least ≤ length (log a.front) → entries_of s h ≡ entries_of s a.front
+    → c.tx ≡ 0 → c.request ≡ request.Select select → c.reply ≡ Refused (record { code = READ_FAULT; a = mask; b = 0 })
+    → ((k : ℕ) → has tried k ≡ true → HasFailed a.front h s c.number k)
+    → ((k : ℕ) → (ServesAt p h c.request k → has mask k ≡ true) × (has mask k ≡ true → ServesAt p h c.request k))
+    → ((k : ℕ) → ServesAt p h c.request k → (k ≡ b) ⊎ (has tried k ≡ true)) → ServesAt p h c.request b
+    → Turn p s a c (record { front = h ++ ReadFailed s c.number b ∷ []; least = a.least })
+turn_fault p s a h b c select mask tried legal longer owes rests tx is replied prior serving all serves =
+    let ev : Event = ReadFailed s c.number b in
+    let g : List Event = h ++ ev ∷ [] in
+    let low : length a.front ≤ length h = prefix_length a.front h longer in
+    let many : length g ≡ length h + 1 = length-append h (ev ∷ []) in
+    let whole : take (length g) g ≡ g = take_whole g g (prefix_self g) in
+    let same : (k : ℕ) → enabled (take (length g) g) k ≡ enabled h k = λ k. ap (λ x. enabled x k) whole ∙ enabled-push h ev k in
+    let now : HasFailed a.front g s c.number b = record { k = length h; low = low; high = omega arith; is = get_seam h [] ev } in
+    let before : (k : ℕ) → has tried k ≡ true → HasFailed a.front g s c.number k =
+      λ k t. let x = prior k t in let lt : x.k < length h = x.high in record { k = x.k; low = x.low; high = omega arith; is = get_left h (ev ∷ []) x.k (ReadFailed s c.number k) x.is }
+    in
+    let each : (k : ℕ) → has mask k ≡ true → HasFailed a.front g s c.number k =
+      λ k t. ⊎_elim (λ (e : k ≡ b). subst (λ (i : ℕ). HasFailed a.front g s c.number i) (sym e) now) (λ (t : has tried k ≡ true). before k t) (all k ((serving k).1 t))
+    in
+    record {
+      legal = legal;
+      longer = prefix_push a.front h ev longer;
+      owes = owes;
+      tx = inl tx;
+      case =
+        read_fault
+        record {
+          m = length g;
+          moment = record { low = omega arith; high = omega arith };
+          select = select;
+          is = is;
+          mask = mask;
+          some = λ zero_mask. both_ways (has mask b) (ap (λ m. has m b) zero_mask ∙ ap (λ n. n == 1) (bit_at-zero b)) ((serving b).0 serves);
+          all = λ k. ((λ t. (serving k).0 (sym (same k) ∙ t.0, t.1)), λ t. let q = (serving k).1 t in (same k ∙ q.0, q.1));
+          failed = λ k t. let x = each k t in (x.k, x.low, x.high, x.is);
+          replied = replied;
+          least = refl;
+        };
+      entries = let same_log : log g ≡ log h = log-same h ev refl in let n : entries_of s g ≡ entries_of s h = entries-same s h g same_log in omega (arith, n, rests);
+    }

@@ -127,10 +127,16 @@ pub record IsUnanswered (p : Placement) (front h : List Event) (s : ℕ) : Type 
   pub same : (b : ℕ) → enabled (take m h) b ≡ enabled h b
   pub entries : entries_of s h ≡ entries_of s front + 1
 
+-- Backend b has failed since in the read of session s that has number q.
+pub record HasFailed (front h : List Event) (s q b : ℕ) : Type 0 where
+  pub k : ℕ
+  pub low : length front ≤ k
+  pub high : k < length h
+  pub is : slice_get h k ≡ Some (ReadFailed s q b)
+
 -- Each backend that was tried in the open read of session s, as which x stands, has failed in it since.
 abbrev pub TriedSince : List Event → List Event → ℕ → OpenSession → Type 0
-TriedSince front h s x = (r : OpenRead) (b : ℕ) → x.reading ≡ Some r → has r.tried b ≡ true
-    → (k : ℕ) × (length front ≤ k) × (k < length h) × (slice_get h k ≡ Some (ReadFailed s x.queries b))
+TriedSince front h s x = (r : OpenRead) (b : ℕ) → x.reading ≡ Some r → has r.tried b ≡ true → HasFailed front h s x.queries b
 
 -- How it stands with an open session s, as which x stands, that has seen a at its last reply.
 pub record IsSeenBy (p : Placement) (a : Seen) (h : List Event) (s : ℕ) (x : OpenSession) : Type 0 where
