@@ -4,7 +4,6 @@ use mathlib.Core.List.{IsPrefix}
 use Rattle.std.proofs.lemmas.Bool.{cases_eq, eqb-true, eq-eqb, ne_eqb, both_ways}
 use Rattle.std.proofs.lemmas.List.{take-append-le}
 use Rattle.std.proofs.Math.Seq.{take-append_seam}
-use Rattle.std.proofs.lemmas.Nat.Bits.{bit_at-zero}
 use Rattle.cj_model.specs.declared.request.Act.{Act}
 use Rattle.cj_model.specs.declared.request.Entry.{Entry}
 use Rattle.cj_model.specs.declared.select.Select.{Select}
@@ -17,10 +16,13 @@ use Rattle.cj_model.specs.Placements.{Placement}
 use Rattle.cj_model.specs.Histories.{has, scheduled, is_ended, log, done, free, opened, enabled, enabled_after, room}
 use Rattle.cj_model.specs.Answering.{Served}
 use Rattle.cj_model.specs.Turns.{Seen, entries_of}
-use Rattle.cj_model.specs.Cores.{Core, with_bit, session_at, is_by}
+use Rattle.cj_model.specs.Cores.{Core, with_bit, session_of, session_at, fresh_session, with_session, is_by}
 use Rattle.cj_model.specs.Moves.{is_open, is_reading, read_number, tried_of, still_reading}
+use Rattle.cj_model.specs.Sound.{IsSession, IsSound}
 use Rattle.cj_model.specs.Runs.{IsUnanswered, HasFailed, TriedSince, IsSeenBy, IsBetween}
 use Rattle.cj_model.proofs.Pushed.{get_seam, get_left, prefix_self, prefix_trans, prefix_push, prefix_length, enabled-push, log-same, done-same, opened-sched, opened-same, opened-free}
+use Rattle.cj_model.proofs.Masks.{has-zero, has-with_other}
+use Rattle.cj_model.proofs.Sessions.{session_at-is, found_number, found_all, session_of-other, session_of-push_same, session_of-push_other, without, session_of-without_same, session_of-without_other, session_at-same, session_at-other, is_open-with}
 use Rattle.cj_model.proofs.TurnCases.{entries-same, entries-sched}
 
 -- ---- a read's failed attempts
@@ -40,7 +42,7 @@ tried_none front h s x none r b is t = absurd (cc (none, is))
 
 prior_in : (front h : List Event) (s : ℕ) (x : OpenSession) → TriedSince front h s x → (o : Option OpenRead) → x.reading ≡ o → (b : ℕ) → has (tried_of o) b ≡ true
     → HasFailed front h s (cond (is_some o) x.queries (x.queries + 1)) b
-prior_in front h s x tried None is b t = absurd (both_ways (has 0 b) (ap (λ n. n == 1) (bit_at-zero b)) t)
+prior_in front h s x tried None is b t = absurd (both_ways (has 0 b) (has-zero b) t)
 prior_in front h s x tried (Some r) is b t = tried r b is t
 
 -- what was tried has failed in the read that is made next, be it open or new
@@ -167,4 +169,118 @@ seen_fresh p h s x idle none =
       waits = λ t. absurd (both_ways (is_by s (opened h)) idle t);
       rests = λ t. refl;
       reads = tried_none h h s x none;
+    }
+
+-- a mask with one backend more
+pub with_cases : (m b k : ℕ) → has (with_bit m b) k ≡ true → (k ≡ b) ⊎ (has m k ≡ true)
+with_cases m b k t = ⊎_elim (λ (e : k ≡ b). inl e) (λ (e : k ≡ b → ⊥). inr (sym (has-with_other m b k e) ∙ t)) (cases_eq k b)
+
+-- a read that fails at one backend more, and stays open
+pub tried_again : (front h : List Event) (s b : ℕ) (x : OpenSession) (select : Select) → length front ≤ length h → TriedSince front h s x
+    → TriedSince front (h ++ ReadFailed s (read_number x) b ∷ []) s (still_reading select (with_bit (tried_of x.reading) b) x)
+tried_again front h s b x select low tried =
+    let ev : Event = ReadFailed s (read_number x) b in
+    let many : length (h ++ ev ∷ []) ≡ length h + 1 = length-append h (ev ∷ []) in
+    let now : HasFailed front (h ++ ev ∷ []) s (read_number x) b = record { k = length h; low = low; high = omega arith; is = get_seam h [] ev } in
+    tried_still front (h ++ ev ∷ []) s x select (with_bit (tried_of x.reading) b)
+    (λ k t.
+       ⊎_elim (λ (e : k ≡ b). subst (λ (i : ℕ). HasFailed front (h ++ ev ∷ []) s (read_number x) i) (sym e) now)
+       (λ (was : has (tried_of x.reading) k ≡ true). failed_push front h ev s (read_number x) k (prior front h s x tried k was))
+       (with_cases (tried_of x.reading) b k t))
+
+-- ---- from one state to the next
+
+-- In z the history is h, and session s stands as x.
+pub record Follows (c z : Core) (h : List Event) (s : ℕ) (x : OpenSession) : Type 0 where
+  pub placement : z.placement ≡ c.placement
+  pub history : z.history ≡ h
+  pub longer : IsPrefix c.history h
+  pub greatest : c.greatest ≤ z.greatest
+  pub was_open : is_open z s ≡ true → is_open c s ≡ true
+  pub session : session_at z s ≡ x
+
+module _ (c z : Core) (h : List Event) (s : ℕ) (p : Placement) (ps : List (Option ℕ)) (failed starved : ℕ) (ss : List OpenSession) (longer : IsPrefix c.history h)
+  (is : z ≡ record { placement = c.placement; history = h; positions = ps; failed = failed; starved = starved; sessions = ss; greatest = c.greatest }) where
+  sessions_are : z.sessions ≡ ss
+  sessions_are = ap (λ (x : Core). x.sessions) is
+
+  -- the session itself changes
+  pub follows_own : (f : OpenSession → OpenSession) → ((x : OpenSession) → (f x).number ≡ x.number) → ss ≡ with_session c.sessions s f → is_open c s ≡ true → Follows c z h s (f (session_at c s))
+  follows_own f keeps changed here =
+      let n : z.greatest ≡ c.greatest = ap (λ (x : Core). x.greatest) is in
+      record {
+        placement = ap (λ (x : Core). x.placement) is;
+        history = ap (λ (x : Core). x.history) is;
+        longer = longer;
+        greatest = omega arith;
+        was_open = λ t. here;
+        session = session_at-same c z s f keeps (sessions_are ∙ changed) here;
+      }
+
+  -- it is found as before
+  pub follows_rest : session_of ss s ≡ session_of c.sessions s → Follows c z h s (session_at c s)
+  follows_rest same =
+      let n : z.greatest ≡ c.greatest = ap (λ (x : Core). x.greatest) is in
+      let found : session_of z.sessions s ≡ session_of c.sessions s = ap (λ x. session_of x s) sessions_are ∙ same in
+      record {
+        placement = ap (λ (x : Core). x.placement) is;
+        history = ap (λ (x : Core). x.history) is;
+        longer = longer;
+        greatest = omega arith;
+        was_open = λ t. sym (ap is_some found) ∙ t;
+        session = session_at-other c z s found;
+      }
+
+-- what stood between two replies stands still, where it does over the session's own change
+pub between_follows : (a : Seen) (c z : Core) (h : List Event) (s : ℕ) (x : OpenSession) → IsBetween a c s → Follows c z h s x
+    → (IsSeenBy c.placement a c.history s (session_at c s) → IsSeenBy c.placement a h s x) → IsBetween a z s
+between_follows a c z h s x j f step =
+    let n : c.greatest ≤ z.greatest = f.greatest in
+    record {
+      longer = prefix_trans a.front c.history z.history j.longer (subst (λ (g : List Event). IsPrefix c.history g) (sym f.history) f.longer);
+      owes = j.owes;
+      here =
+        λ t.
+        subst (λ (p : Placement). IsSeenBy p a z.history s (session_at z s)) (sym f.placement)
+        (subst (λ (g : List Event). IsSeenBy c.placement a g s (session_at z s)) (sym f.history)
+           (subst (λ (y : OpenSession). IsSeenBy c.placement a h s y) (sym f.session) (step (j.here (f.was_open t)))));
+      later = λ lt. j.later (omega arith);
+    }
+
+-- ---- after a reply
+
+-- what a session has seen that was just answered
+abbrev pub seen : Core → ℕ → Seen
+seen c s = record { front = c.history; least = (session_at c s).least }
+
+-- what holds of a fresh session, and of an open one, holds of each
+session_cases : (c : Core) (s : ℕ) (P : OpenSession → Type 0) → P (fresh_session s []) → ((x : OpenSession) → session_of c.sessions s ≡ Some x → P x) → P (session_at c s)
+session_cases c s P new old = one (session_of c.sessions s) refl
+  where
+    one : (o : Option OpenSession) → session_of c.sessions s ≡ o → P (session_at c s)
+    one None is = subst P (sym (session_at-is c s None is)) new
+    one (Some x) is = subst P (sym (session_at-is c s (Some x) is)) (old x is)
+
+pub session_owes : (c : Core) (s : ℕ) → IsSound c → (session_at c s).least ≤ length (log c.history)
+session_owes c s w =
+    session_cases c s (λ (x : OpenSession). x.least ≤ length (log c.history)) (let le : 0 ≤ length (log c.history) = omega arith in le)
+    (λ x is. (found_all (IsSession c.history c.greatest) c.sessions s x w.sessions is).owes)
+
+-- a session that has no number yet owes nothing
+owes_none : (c : Core) (s : ℕ) → IsSound c → c.greatest < s → (session_at c s).least ≡ 0
+owes_none c s w lt =
+    session_cases c s (λ (x : OpenSession). x.least ≡ 0) refl
+    (λ x is.
+       let own : x.number ≡ s = found_number c.sessions s x is in
+       let le : x.number ≤ c.greatest = (found_all (IsSession c.history c.greatest) c.sessions s x w.sessions is).number.1 in
+       absurd (omega arith))
+
+-- a session that was answered has seen the whole history
+pub between_fresh : (z : Core) (s : ℕ) → IsSound z → is_by s (opened z.history) ≡ false → (session_at z s).reading ≡ None → IsBetween (seen z s) z s
+between_fresh z s w idle none =
+    record {
+      longer = prefix_self z.history;
+      owes = session_owes z s w;
+      here = λ t. seen_fresh z.placement z.history s (session_at z s) idle none;
+      later = λ lt. owes_none z s w lt;
     }

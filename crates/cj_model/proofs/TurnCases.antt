@@ -4,7 +4,6 @@ use mathlib.Core.List.{IsPrefix}
 use Rattle.std.proofs.lemmas.Grind.{fold-append}
 use Rattle.std.proofs.lemmas.Bool.{cases_eq, cases_lt, eqb-true, eqb-false, eq-eqb, both_ways}
 use Rattle.std.proofs.lemmas.List.{append-nil, take-append-le}
-use Rattle.std.proofs.lemmas.Nat.Bits.{bit_at-zero}
 use Rattle.cj_model.specs.declared.request.Request.{Request}
 use Rattle.cj_model.specs.declared.request.Request.TheVariants as request
 use Rattle.cj_model.specs.declared.request.Act.{Act}
@@ -26,6 +25,7 @@ use Rattle.cj_model.specs.Answering.{ServesAt, Served, Unserved, is_target, Fini
 use Rattle.cj_model.specs.Turns.{Seen, Call, Moment, reply_of_asked, entry_of, Scheduled, NoBackend, Read, ReadFault, Full, IsFull, Case, scheduled, no_backend, read, read_fault, full, entries_of, Turn}
 use Rattle.cj_model.specs.Sound.{IsLone}
 use Rattle.cj_model.specs.Runs.{IsUnanswered, HasFailed, call_of_entry}
+use Rattle.cj_model.proofs.Masks.{has-zero}
 use Rattle.cj_model.proofs.Pushed.{get_seam, get_left, prefix_self, prefix_push, prefix_length, take_whole, enabled-push, log-sched, log-same}
 
 -- ---- requests and acts
@@ -222,7 +222,7 @@ turn_fault p s a h b c select mask tried legal longer owes rests tx is replied p
           select = select;
           is = is;
           mask = mask;
-          some = λ zero_mask. both_ways (has mask b) (ap (λ m. has m b) zero_mask ∙ ap (λ n. n == 1) (bit_at-zero b)) ((serving b).0 serves);
+          some = λ zero_mask. both_ways (has mask b) (ap (λ m. has m b) zero_mask ∙ has-zero b) ((serving b).0 serves);
           all = λ k. ((λ t. (serving k).0 (sym (same k) ∙ t.0, t.1)), λ t. let q = (serving k).1 t in (same k ∙ q.0, q.1));
           failed = λ k t. let x = each k t in (x.k, x.low, x.high, x.is);
           replied = replied;
