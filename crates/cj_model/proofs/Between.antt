@@ -1,8 +1,10 @@
 -- What stands between two replies to a session, over the moves that do not answer it.
-use Rattle.std.proofs.Common.{◌≡◌, ◌≢◌, ℕ, ◌+◌, ◌<◌, ◌≤◌, ◌==◌, ◌⊎◌, inl, inr, Bool, true, false, cond, List, [], ◌∷◌, ◌++◌, length, take, slice_get, Option, None, Some, is_some, refl, ap, sym, ◌∙◌, subst, arith, ⊎_elim, length-append}
+use Rattle.std.proofs.Common.{◌≡◌, ◌≢◌, ℕ, ◌+◌, ◌<◌, ◌≤◌, ◌==◌, ◌⊎◌, inl, inr, Bool, true, false, cond, List, [], ◌∷◌, ◌++◌, length, take, slice_get, count_by, All, Option, None, Some, is_some, refl, ap, sym, ◌∙◌, subst, arith, ⊎_elim, length-append}
 use mathlib.Core.List.{IsPrefix}
 use Rattle.std.proofs.lemmas.Bool.{cases_eq, eqb-true, eq-eqb, ne_eqb, both_ways}
 use Rattle.std.proofs.lemmas.List.{take-append-le}
+use Rattle.std.proofs.lemmas.List.Elements.{All-head, All-tail, All-take, All-get_or, All-weaker}
+use Rattle.std.proofs.lemmas.Option.{slice_get_within, get_or_from_slice_get}
 use Rattle.std.proofs.Math.Seq.{take-append_seam}
 use Rattle.cj_model.specs.declared.request.Act.{Act}
 use Rattle.cj_model.specs.declared.request.Entry.{Entry}
@@ -20,7 +22,7 @@ use Rattle.cj_model.specs.Cores.{Core, with_bit, session_of, session_at, fresh_s
 use Rattle.cj_model.specs.Moves.{is_open, is_reading, read_number, tried_of, still_reading}
 use Rattle.cj_model.specs.Sound.{IsSession, IsSound}
 use Rattle.cj_model.specs.Runs.{IsUnanswered, HasFailed, TriedSince, IsSeenBy, IsBetween}
-use Rattle.cj_model.proofs.Pushed.{get_seam, get_left, prefix_self, prefix_trans, prefix_push, prefix_length, enabled-push, log-same, done-same, opened-sched, opened-same, opened-free}
+use Rattle.cj_model.proofs.Pushed.{get_seam, get_left, prefix_self, prefix_trans, prefix_push, prefix_length, take_whole, log-prefix, enabled-push, log-same, done-same, opened-sched, opened-same, opened-free}
 use Rattle.cj_model.proofs.Masks.{has-zero, has-with_other}
 use Rattle.cj_model.proofs.Sessions.{session_at-is, found_number, found_all, session_of-other, session_of-push_same, session_of-push_other, without, session_of-without_same, session_of-without_other, session_at-same, session_at-other, is_open-with}
 use Rattle.cj_model.proofs.TurnCases.{entries-same, entries-sched}
@@ -283,4 +285,88 @@ between_fresh z s w idle none =
       owes = session_owes z s w;
       here = λ t. seen_fresh z.placement z.history s (session_at z s) idle none;
       later = λ lt. owes_none z s w lt;
+    }
+
+-- ---- sessions that open and close
+
+-- no entry is by a session that has no number yet
+entries_none : (s : ℕ) (entries : List Entry) → All (λ (e : Entry). e.session < s) entries → count_by (λ (e : Entry). e.session == s) entries ≡ 0
+entries_none s [] all = refl
+entries_none s (e ∷ es) all =
+    let lt : e.session < s = All-head (λ (x : Entry). x.session < s) e es all in
+    rw (ne_eqb e.session s (omega arith)) (entries_none s es (All-tail (λ (x : Entry). x.session < s) e es all))
+
+-- nor in what the history began as
+entries_begin : (s : ℕ) (front h : List Event) → IsPrefix front h → All (λ (e : Entry). e.session < s) (log h) → entries_of s front ≡ 0
+entries_begin s front h longer all =
+    let part : take (length (log front)) (log h) ≡ log front = take_whole (log front) (log h) (log-prefix front h longer) in
+    entries_none s (log front) (subst (All (λ (e : Entry). e.session < s)) part (All-take (λ (e : Entry). e.session < s) (length (log front)) (log h) all))
+
+-- what holds of each entry holds of the open one
+pub opened_all : (P : Entry → Type 0) (h : List Event) (e : Entry) → All P (log h) → opened h ≡ Some e → P e
+opened_all P h e all is = subst P (get_or_from_slice_get (log h) (done h) e e is) (All-get_or P (log h) (done h) e (slice_get_within (log h) (done h) e is) all)
+
+idle_new : (s : ℕ) (h : List Event) → All (λ (e : Entry). e.session < s) (log h) → is_by s (opened h) ≡ false
+idle_new s h all = one (opened h) refl
+  where
+    one : (o : Option Entry) → opened h ≡ o → is_by s o ≡ false
+    one None is = refl
+    one (Some e) is = let lt : e.session < s = opened_all (λ (x : Entry). x.session < s) h e all is in ne_eqb e.session s (omega arith)
+
+-- a session that opens has seen what it is to have seen
+pub between_opened : (a : Seen) (c z : Core) (s : ℕ) (user : List ℕ) → IsSound c → IsBetween a c s → s ≡ c.greatest + 1
+    → z ≡ record c { sessions = c.sessions ++ fresh_session s user ∷ []; greatest = s } → IsBetween a z s
+between_opened a c z s user w j new is =
+    let x : OpenSession = fresh_session s user in
+    let younger : All (λ (e : Entry). e.session < s) (log c.history) = All-weaker (λ (e : Entry). e.session ≤ c.greatest) (λ (e : Entry). e.session < s) (λ e le. omega arith) (log c.history) w.known in
+    let below : All (λ (y : OpenSession). y.number < s) c.sessions =
+      All-weaker (IsSession c.history c.greatest) (λ (y : OpenSession). y.number < s) (λ y q. let le : y.number ≤ c.greatest = q.number.1 in omega arith) c.sessions w.sessions
+    in
+    let found : session_of (c.sessions ++ x ∷ []) s ≡ Some x = session_of-push_same c.sessions x below in
+    let hist : z.history ≡ c.history = ap (λ (y : Core). y.history) is in
+    let here : session_at z s ≡ x = session_at-is z s (Some x) (ap (λ (y : Core). session_of y.sessions s) is ∙ found) in
+    let n : z.greatest ≡ s = ap (λ (y : Core). y.greatest) is in
+    let idle : is_by s (opened c.history) ≡ false = idle_new s c.history younger in
+    let owes : a.least ≡ 0 = j.later (omega arith) in
+    let begun : IsSeenBy z.placement a c.history s x =
+      record {
+        least = sym owes;
+        waits = λ t. absurd (both_ways (is_by s (opened c.history)) idle t);
+        rests = λ t. entries_none s (log c.history) younger ∙ sym (entries_begin s a.front c.history j.longer younger);
+        reads = tried_none a.front c.history s x refl;
+      }
+    in
+    record {
+      longer = subst (λ (g : List Event). IsPrefix a.front g) (sym hist) j.longer;
+      owes = j.owes;
+      here = λ t. subst (λ (g : List Event). IsSeenBy z.placement a g s (session_at z s)) (sym hist) (subst (IsSeenBy z.placement a c.history s) (sym here) begun);
+      later = λ lt. absurd (omega arith);
+    }
+
+-- another one opens
+pub follows_opened : (c z : Core) (s n : ℕ) (user : List ℕ) → s ≢ n → n ≡ c.greatest + 1 → z ≡ record c { sessions = c.sessions ++ fresh_session n user ∷ []; greatest = n }
+    → Follows c z c.history s (session_at c s)
+follows_opened c z s n user other new is =
+    let g : z.greatest ≡ n = ap (λ (y : Core). y.greatest) is in
+    let found : session_of z.sessions s ≡ session_of c.sessions s = ap (λ (y : Core). session_of y.sessions s) is ∙ session_of-push_other c.sessions (fresh_session n user) s other in
+    record {
+      placement = ap (λ (y : Core). y.placement) is;
+      history = ap (λ (y : Core). y.history) is;
+      longer = prefix_self c.history;
+      greatest = omega arith;
+      was_open = λ t. sym (ap is_some found) ∙ t;
+      session = session_at-other c z s found;
+    }
+
+-- a session that closes, which is answered no more
+pub between_closed : (a : Seen) (c z : Core) (s : ℕ) → IsBetween a c s → z ≡ record c { sessions = without s c.sessions } → IsBetween a z s
+between_closed a c z s j is =
+    let hist : z.history ≡ c.history = ap (λ (y : Core). y.history) is in
+    let n : z.greatest ≡ c.greatest = ap (λ (y : Core). y.greatest) is in
+    let gone : is_open z s ≡ false = ap is_some (ap (λ (y : Core). session_of y.sessions s) is ∙ session_of-without_same c.sessions s) in
+    record {
+      longer = subst (λ (g : List Event). IsPrefix a.front g) (sym hist) j.longer;
+      owes = j.owes;
+      here = λ t. absurd (both_ways (is_open z s) gone t);
+      later = λ lt. j.later (omega arith);
     }
