@@ -1,3 +1,4 @@
+pub mod Answered
 pub mod Between
 pub mod Columns
 pub mod DatabaseLaws

@@ -1,0 +1,149 @@
+-- What each move leaves a session: a turn where it answers it, and else what stood between two replies.
+use Rattle.std.proofs.Common.{◌≡◌, ◌≢◌, ℕ, ◌+◌, ◌<◌, ◌≤◌, ◌==◌, ◌⊎◌, inl, inr, Bool, true, false, cond, List, [], ◌∷◌, ◌++◌, length, Option, None, Some, Ok, Err, is_none, refl, ap, sym, ◌∙◌, subst, arith, ⊎_elim}
+use mathlib.Core.List.{IsPrefix}
+use Rattle.std.specs.Option.{MatchOption}
+use Rattle.std.proofs.lemmas.Bool.{cases_eq, eqb-true, eqb-false, eq-eqb, ne_eqb, both_ways, cond_both, and_parts}
+use Rattle.cj_model.specs.declared.request.Request.{Request}
+use Rattle.cj_model.specs.declared.request.Request.TheVariants as request
+use Rattle.cj_model.specs.declared.request.Act.{Act}
+use Rattle.cj_model.specs.declared.request.Act.TheVariants as act
+use Rattle.cj_model.specs.declared.request.Entry.{Entry}
+use Rattle.cj_model.specs.declared.select.Select.{Select}
+use Rattle.cj_model.specs.declared.answer.Asked.{Asked}
+use Rattle.cj_model.specs.declared.answer.Asked.TheVariants as asked
+use Rattle.cj_model.specs.declared.answer.Refusal.{Refusal}
+use Rattle.cj_model.specs.declared.answer.Reply.{Reply}
+use Rattle.cj_model.specs.declared.answer.Reply.TheVariants.{Rows, Refused}
+use Rattle.cj_model.specs.declared.event.Event.{Event}
+use Rattle.cj_model.specs.declared.event.Event.TheVariants as event
+use Rattle.cj_model.specs.declared.moves.Move.{Move}
+use Rattle.cj_model.specs.declared.moves.Move.TheVariants.{Open, Close, Schedule, Apply, End, Read, Arm, Disable, Replay, Enable}
+use Rattle.cj_model.specs.declared.moves.Moved.{Moved}
+use Rattle.cj_model.specs.declared.moves.Moved.TheVariants as moved
+use Rattle.cj_model.specs.declared.moves.Why.{Why}
+use Rattle.cj_model.specs.declared.moves.MoveError.TheVariants.{NotNow, NoMemory}
+use Rattle.cj_model.specs.declared.moves.OpenSession.{OpenSession}
+use Rattle.cj_model.specs.declared.codes.TheConstants.{NO_BACKEND, READ_FAULT, HISTORY_FULL}
+use Rattle.cj_model.specs.Changes.{bare}
+use Rattle.cj_model.specs.Plain.{act_of, request_of}
+use Rattle.cj_model.specs.Placements.{Placement}
+use Rattle.cj_model.specs.Histories.{has, scheduled, is_ended, log, done, free, opened, enabled, enabled_after, room}
+use Rattle.cj_model.specs.Legality.{IsLegal}
+use Rattle.cj_model.specs.Answering.{ServesAt, Served, Unserved}
+use Rattle.cj_model.specs.Turns.{Seen, Call, IsFull, reply_of_asked, entries_of, Turn}
+use Rattle.cj_model.specs.Cores.{Core, position_at, with_bit, session_of, session_at, fresh_session, with_session, is_by}
+use Rattle.cj_model.specs.Moves.{Given, MovesTo, Does, Opens, Closes, Schedules, SchedulesOf, SchedulesAct, RefusesSchedule, Applies, Replays, Ends, Reads, ReadsOrWaits, Reaches, ReadsNowhere, ReadsFull, ReadsInVain, ReadsAgain, ReadsTooEarly, Arms, Disables, Enables, not_now, forbidden_by, tx_of_act, open_tx, next_entry, last_number, counted, answered_at, was_answered, still_reading, read_number, tried_of, tried_with, ended}
+use Rattle.cj_model.specs.Sound.{Stands, IsLone, IsSound}
+use Rattle.cj_model.specs.Runs.{reply_in, reply_given, is_allowed, call_of_entry, call_of_act, call_at, IsUnanswered, IsSeenBy, IsBetween}
+use Rattle.cj_model.proofs.Pushed.{prefix_self, opened-same, opened-free, opened-last, opened-ended}
+use Rattle.cj_model.proofs.Sessions.{without, session_of-other, session_of-without_other}
+use Rattle.cj_model.proofs.Now.{CanSchedule, can_schedule, CanEnd, can_end, CanRead, can_read, CanDisable, can_disable, CanEnable, can_enable}
+use Rattle.cj_model.proofs.TurnCases.{turn_end, turn_unserved, turn_full, turn_read, turn_fault}
+use Rattle.cj_model.proofs.Between.{seen, Follows, follows_own, follows_rest, follows_opened, between_follows, between_fresh, between_opened, between_closed, seen_event, seen_ended, seen_other, seen_sched, seen_changed, tried_none, tried_still, tried_again, prior, with_cases, opened_all}
+
+-- what a move leaves session s that has seen a, where it gave it this reply
+abbrev pub After : Seen → Core → ℕ → Move → Core → Option Reply → Type 0
+After a c s m z None = IsBetween a z s
+After a c s m z (Some reply) = Turn c.placement s a (call_at c s m reply) (seen z s) × IsBetween (seen z s) z s
+
+-- ---- requests and acts
+
+request_of_act : (r : Request) (a : Act) → act_of r ≡ Some a → request_of a ≡ r
+request_of_act (request.Select s) a is = absurd (cc is)
+request_of_act (request.Write w) a is = let e : act.Write w ≡ a = cc is in ap request_of (sym e)
+request_of_act (request.Create c) a is = let e : act.Create c ≡ a = cc is in ap request_of (sym e)
+request_of_act (request.Drop table) a is = let e : act.Drop table ≡ a = cc is in ap request_of (sym e)
+request_of_act request.Begin a is = let e : act.Begin ≡ a = cc is in ap request_of (sym e)
+request_of_act request.Commit a is = let e : act.Commit ≡ a = cc is in ap request_of (sym e)
+request_of_act request.Rollback a is = let e : act.Abort ≡ a = cc is in ap request_of (sym e)
+
+-- an act where the session has no transaction has none
+tx_none : (a : Act) → tx_of_act 0 a ≡ 0
+tx_none act.Begin = refl
+tx_none (act.Write w) = refl
+tx_none (act.Create c) = refl
+tx_none (act.Drop table) = refl
+tx_none act.Commit = refl
+tx_none act.Abort = refl
+
+-- ---- replies
+
+-- a reply to the session itself, and one to another
+to_own : (s : ℕ) (r : Reply) (P : Option Reply → Type 0) → P (Some r) → P (cond (s == s) (Some r) None)
+to_own s r P h = cond_both (s == s) (Some r) None P (λ t. h) (λ f. absurd (both_ways (s == s) f (eq-eqb s s refl)))
+
+to_other : (t s : ℕ) (r : Reply) (P : Option Reply → Type 0) → (t ≡ s → ⊥) → P None → P (cond (t == s) (Some r) None)
+to_other t s r P ne h = cond_both (t == s) (Some r) None P (λ e. absurd (ne (eqb-true t s e))) (λ f. h)
+
+-- the turn up to where the session stands now, from which it goes on
+replied : (p : Placement) (a : Seen) (c z : Core) (h : List Event) (s : ℕ) (x : OpenSession) (call : Call) (n : ℕ) → IsSound z → Follows c z h s x → is_by s (opened h) ≡ false → x.reading ≡ None
+    → x.least ≡ n → Turn p s a call (record { front = h; least = n }) → Turn p s a call (seen z s) × IsBetween (seen z s) z s
+replied p a c z h s x call n v f idle none least turn =
+    let now : (session_at z s).least ≡ n = ap (λ (y : OpenSession). y.least) f.session ∙ least in
+    (
+      subst (λ (g : List Event). Turn p s a call (record { front = g; least = (session_at z s).least })) (sym f.history)
+        (subst (λ (m : ℕ). Turn p s a call (record { front = h; least = m })) (sym now) turn),
+      between_fresh z s v (ap (λ g. is_by s (opened g)) f.history ∙ idle) (ap (λ (y : OpenSession). y.reading) f.session ∙ none),
+    )
+
+-- ---- moves
+
+module _ (a : Seen) (c z : Core) (s : ℕ) (w : IsSound c) (v : IsSound z) (j : IsBetween a c s) (no_tx : open_tx c s ≡ 0) where
+  same : z ≡ c → IsBetween a z s
+  same e = subst (λ (x : Core). IsBetween a x s) (sym e) j
+
+  -- backends and masks change
+  rest : (ps : List (Option ℕ)) (failed starved : ℕ)
+      → z ≡ record { placement = c.placement; history = c.history; positions = ps; failed = failed; starved = starved; sessions = c.sessions; greatest = c.greatest } → IsBetween a z s
+  rest ps failed starved is =
+      between_follows a c z c.history s (session_at c s) j (follows_rest c z c.history s c.placement ps failed starved c.sessions (prefix_self c.history) is refl) (λ q. q)
+
+  opens : (user : List ℕ) (g : Given) → Opens c user g z → After a c s (Open user) z (reply_given c s (Open user) g)
+  opens user (Ok (moved.Session n)) h =
+      ⊎_elim
+      (λ (e : s ≡ n). between_opened a c z s user w j (e ∙ h.1) (subst (λ (k : ℕ). z ≡ record c { sessions = c.sessions ++ fresh_session k user ∷ []; greatest = k }) (sym e) h.2))
+      (λ (e : s ≡ n → ⊥). between_follows a c z c.history s (session_at c s) j (follows_opened c z s n user e h.1 h.2) (λ q. q))
+      (cases_eq s n)
+  opens user (Ok (moved.Refused r)) h = same h.2
+  opens user (Err NoMemory) h = same h
+  opens user _ h = absurd h
+
+  closes : (k : ℕ) (g : Given) → Closes c k g z → After a c s (Close k) z (reply_given c s (Close k) g)
+  closes k (Ok moved.Closed) h =
+      ⊎_elim
+      (λ (e : s ≡ k). between_closed a c z s j (subst (λ (n : ℕ). z ≡ record c { sessions = without n c.sessions }) (sym e) h))
+      (λ (e : s ≡ k → ⊥).
+         between_follows a c z c.history s (session_at c s) j (follows_rest c z c.history s c.placement c.positions c.failed c.starved (without k c.sessions) (prefix_self c.history) h (session_of-without_other c.sessions k s e)) (λ q. q))
+      (cases_eq s k)
+  closes k _ h = absurd h
+
+  applies : (b : ℕ) (g : Given) → Applies true c b g z → After a c s (Apply b) z (reply_given c s (Apply b) g)
+  applies b (Ok (moved.Applied n d)) h = rest _ _ _ h.1.2
+  applies b _ h = absurd h
+
+  replays : (b : ℕ) (g : Given) → Replays true c b g z → After a c s (Replay b) z (reply_given c s (Replay b) g)
+  replays b (Ok (moved.Replayed n d)) h = rest _ _ _ h.1.2
+  replays b _ h = absurd h
+
+  arms : (b : ℕ) (g : Given) → Arms c g z → After a c s (Arm b) z (reply_given c s (Arm b) g)
+  arms b (Ok moved.Armed) h = same h
+  arms b _ h = absurd h
+
+  -- an event while no entry is open
+  while_free : (ev : Event) → scheduled ev ≡ None → is_ended ev ≡ false → free c.history ≡ true → z ≡ record c { history = c.history ++ ev ∷ [] } → IsBetween a z s
+  while_free ev none stays fr is =
+      between_follows a c z (c.history ++ ev ∷ []) s (session_at c s) j
+      (follows_rest c z (c.history ++ ev ∷ []) s c.placement c.positions c.failed c.starved c.sessions (ev ∷ [], refl) is refl)
+      (λ q. seen_event c.placement a c.history s (session_at c s) q ev none stays (λ t. absurd (both_ways (is_by s (opened c.history)) (ap (is_by s) (opened-free c.history fr)) t)))
+
+  disables : (b : ℕ) (g : Given) → CanDisable c b → Disables c b g z → After a c s (Disable b) z (reply_given c s (Disable b) g)
+  disables b (Ok moved.Disabled) can h = while_free (event.Disabled b) refl refl can.is_free h.1
+  disables b (Ok (moved.Refused r)) can h = same h.2
+  disables b (Err NoMemory) can h = same h
+  disables b _ can h = absurd h
+
+  enables : (b : ℕ) (g : Given) → CanEnable c b → Enables c b g z → After a c s (Enable b) z (reply_given c s (Enable b) g)
+  enables b (Ok moved.Enabled) can h = while_free (event.Enabled b) refl refl can.is_free h.1
+  enables b (Ok (moved.Refused r)) can h = same h.2
+  enables b (Err NoMemory) can h = same h
+  enables b _ can h = absurd h
