@@ -1,5 +1,5 @@
 -- What each move leaves a session: a turn where it answers it, and else what stood between two replies.
-use Rattle.std.proofs.Common.{◌≡◌, ◌≢◌, ℕ, ◌+◌, ◌<◌, ◌≤◌, ◌==◌, ◌⊎◌, inl, inr, Bool, true, false, cond, List, [], ◌∷◌, ◌++◌, length, Option, None, Some, Ok, Err, is_none, refl, ap, sym, ◌∙◌, subst, arith, ⊎_elim}
+use Rattle.std.proofs.Common.{◌≡◌, ◌≢◌, ℕ, ◌+◌, ◌<◌, ◌≤◌, ◌==◌, ◌&&◌, ◌⊎◌, inl, inr, Bool, true, false, cond, List, [], ◌∷◌, ◌++◌, length, Option, None, Some, Ok, Err, is_none, refl, ap, sym, ◌∙◌, subst, arith, ⊎_elim}
 use mathlib.Core.List.{IsPrefix}
 use Rattle.std.specs.Option.{MatchOption}
 use Rattle.std.proofs.lemmas.Bool.{cases_eq, eqb-true, eqb-false, eq-eqb, ne_eqb, both_ways, cond_both, and_parts}
@@ -29,10 +29,10 @@ use Rattle.cj_model.specs.Plain.{act_of, request_of}
 use Rattle.cj_model.specs.Placements.{Placement}
 use Rattle.cj_model.specs.Histories.{has, scheduled, is_ended, log, done, free, opened, enabled, enabled_after, room}
 use Rattle.cj_model.specs.Legality.{IsLegal}
-use Rattle.cj_model.specs.Answering.{ServesAt, Served, Unserved}
+use Rattle.cj_model.specs.Answering.{ServesAt, Served, Unserved, AnswersEntry}
 use Rattle.cj_model.specs.Turns.{Seen, Call, IsFull, reply_of_asked, entries_of, Turn}
 use Rattle.cj_model.specs.Cores.{Core, position_at, with_bit, session_of, session_at, fresh_session, with_session, is_by}
-use Rattle.cj_model.specs.Moves.{Given, MovesTo, Does, Opens, Closes, Schedules, SchedulesOf, SchedulesAct, RefusesSchedule, Applies, Replays, Ends, Reads, ReadsOrWaits, Reaches, ReadsNowhere, ReadsFull, ReadsInVain, ReadsAgain, ReadsTooEarly, Arms, Disables, Enables, not_now, forbidden_by, tx_of_act, open_tx, next_entry, last_number, counted, answered_at, was_answered, still_reading, read_number, tried_of, tried_with, ended}
+use Rattle.cj_model.specs.Moves.{Given, MovesTo, is_open, Does, Opens, Closes, Schedules, SchedulesOf, SchedulesAct, RefusesSchedule, Applies, Replays, Ends, Reads, ReadsOrWaits, Reaches, ReadsNowhere, ReadsFull, ReadsInVain, ReadsAgain, ReadsTooEarly, Arms, Disables, Enables, not_now, forbidden_by, tx_of_act, open_tx, next_entry, last_number, counted, answered_at, was_answered, still_reading, read_number, tried_of, tried_with, ended}
 use Rattle.cj_model.specs.Sound.{Stands, IsLone, IsSound}
 use Rattle.cj_model.specs.Runs.{reply_in, reply_given, is_allowed, call_of_entry, call_of_act, call_at, IsUnanswered, IsSeenBy, IsBetween}
 use Rattle.cj_model.proofs.Pushed.{prefix_self, opened-same, opened-free, opened-last, opened-ended}
@@ -147,3 +147,125 @@ module _ (a : Seen) (c z : Core) (s : ℕ) (w : IsSound c) (v : IsSound z) (j : 
   enables b (Ok (moved.Refused r)) can h = same h.2
   enables b (Err NoMemory) can h = same h
   enables b _ can h = absurd h
+
+  -- the end of the session's own entry
+  ends_own : (e : Entry) (reply : Reply) → CanEnd c → opened c.history ≡ Some e → s ≡ e.session
+      → Follows c z (ended c) s (answered_at (last_number c) (session_at c s)) → AnswersEntry c.placement c.history (ended c) (done c.history) e reply
+      → After a c s End z (Some reply)
+  ends_own e reply can is own f answer =
+      let here : is_open c s ≡ true = subst (λ (k : ℕ). is_open c k ≡ true) (sym own) (w.waits e is) in
+      let waiting : is_by s (opened c.history) ≡ true = ap (is_by s) is ∙ eq-eqb e.session s (sym own) in
+      let seen_so : IsSeenBy c.placement a c.history s (session_at c s) = j.here here in
+      let q = seen_so.waits waiting in
+      let last = opened-last c.history e w.one_open.1 is in
+      let legal : IsLegal (ended c) = subst IsLegal f.history v.legal in
+      let turn : Turn c.placement e.session a (call_of_entry (Some e) reply) (record { front = ended c; least = length (log c.history) }) =
+        turn_end c.placement a c.history c.failed c.starved e reply legal j.longer j.owes (subst (IsUnanswered c.placement a.front c.history) own q.0) is (opened_all (λ (x : Entry). IsLone x x.act) c.history e w.lone is) last.1 answer
+      in
+      let mine : Turn c.placement s a (call_of_entry (opened c.history) reply) (record { front = ended c; least = length (log c.history) }) =
+        subst (λ (k : ℕ). Turn c.placement k a (call_of_entry (opened c.history) reply) (record { front = ended c; least = length (log c.history) })) (sym own)
+        (subst (λ (o : Option Entry). Turn c.placement e.session a (call_of_entry o reply) (record { front = ended c; least = length (log c.history) })) (sym is) turn)
+      in
+      let none : opened (ended c) ≡ None = opened-ended c.history c.failed c.starved can.is_running w.one_open.0 w.one_open.1 in
+      replied c.placement a c z (ended c) s (answered_at (last_number c) (session_at c s)) (call_of_entry (opened c.history) reply) (length (log c.history)) v f (ap (is_by s) none) q.1 refl mine
+
+  ends : (g : Given) → CanEnd c → Ends true c g z → After a c s End z (reply_given c s End g)
+  ends (Ok (moved.Replied t reply)) can h =
+      let e : Entry = h.0 in
+      let longer : IsPrefix c.history (ended c) = (event.Ended c.failed c.starved ∷ [], refl) in
+      let ss : List OpenSession = with_session c.sessions t (answered_at (last_number c)) in
+      cond_both (t == s) (Some reply) None (After a c s End z)
+      (λ is.
+         let own : s ≡ e.session = sym (eqb-true t s is) ∙ h.2 in
+         let here : is_open c s ≡ true = subst (λ (k : ℕ). is_open c k ≡ true) (sym own) (w.waits e h.1) in
+         ends_own e reply can h.1 own
+         (follows_own c z (ended c) s c.placement c.positions 0 0 ss longer h.4 (answered_at (last_number c)) (λ x. refl) (ap (λ (k : ℕ). with_session c.sessions k (answered_at (last_number c))) (eqb-true t s is)) here)
+         (h.3 refl))
+      (λ is.
+         let other : s ≢ t = λ q. eqb-false t s is (sym q) in
+         let not_own : is_by s (opened c.history) ≡ false = ap (is_by s) h.1 ∙ ne_eqb e.session s (λ q. other (sym (h.2 ∙ q))) in
+         let none : opened (ended c) ≡ None = opened-ended c.history c.failed c.starved can.is_running w.one_open.0 w.one_open.1 in
+         between_follows a c z (ended c) s (session_at c s) j
+         (follows_rest c z (ended c) s c.placement c.positions 0 0 ss longer h.4 (session_of-other (answered_at (last_number c)) (λ x. refl) c.sessions t s other))
+         (λ q. seen_ended c.placement a c.history s (session_at c s) q c.failed c.starved not_own none))
+  ends _ can h = absurd h
+
+  -- ---- what is scheduled, or refused
+
+  -- no entry was scheduled since the session's last reply
+  rested : is_open c s ≡ true → is_by s (opened c.history) ≡ false → entries_of s c.history ≡ entries_of s a.front
+  rested here idle = (j.here here).rests idle
+
+  owes_same : is_open c s ≡ true → (session_at c s).least ≡ a.least
+  owes_same here = (j.here here).least
+
+  module _ (r : Request) (act : Act) (is : act_of r ≡ Some act) where
+    -- the session's own request
+    own_refused : (refusal : Refusal) → CanSchedule c s → is_allowed c s (act_of r) ≡ true → RefusesSchedule c s r act refusal → Follows c z c.history s (counted (session_at c s))
+        → After a c s (Schedule s r) z (Some (Refused refusal))
+    own_refused refusal can allowed refuses f =
+        let call : Option Act → Call = λ o. call_of_act c s r o (Refused refusal) in
+        let rests = rested can.here can.idle in
+        let tx : tx_of_act (open_tx c s) act ≡ 0 = ap (λ t. tx_of_act t act) no_tx ∙ tx_none act in
+        let free_of : is_none (forbidden_by (open_tx c s) act) ≡ true = sym (ap (is_allowed c s) is) ∙ allowed in
+        let turn : Turn c.placement s a (call (Some act)) (record { front = c.history; least = a.least }) =
+          ⊎_elim (λ (x : _). absurd (both_ways (is_none (forbidden_by (open_tx c s) act)) (ap is_none x) free_of))
+          (λ (y : _).
+             ⊎_elim
+             (λ (x : _). turn_unserved c.placement s a c.history w.legal j.longer j.owes rests (call (Some act)) tx (ap (λ o. Refused o) x.1) x.2)
+             (λ (x : _). turn_full c.placement s a c.history w.legal j.longer j.owes rests (call (Some act)) tx (ap (λ o. Refused o) x.1) x.2 (subst (IsFull c.history) (sym is) (can.is_free, x.3)))
+             y)
+          refuses
+        in
+        replied c.placement a c z c.history s (counted (session_at c s)) (call (act_of r)) a.least v f can.idle can.no_read (owes_same can.here)
+        (subst (λ (o : Option Act). Turn c.placement s a (call o) (record { front = c.history; least = a.least })) (sym is) turn)
+
+    own_act : (g : Given) → CanSchedule c s → SchedulesAct c s r act g z → After a c s (Schedule s r) z (reply_given c s (Schedule s r) g)
+    own_act (Ok (moved.Entry n)) can h =
+        let e : Entry = next_entry c s act in
+        let g : List Event = c.history ++ event.Sched e ∷ [] in
+        between_follows a c z g s (counted (session_at c s)) j
+        (follows_own c z g s c.placement c.positions 0 0 (with_session c.sessions s counted) (event.Sched e ∷ [], refl) h.4 counted (λ x. refl) refl can.here)
+        (λ q.
+           seen_sched c.placement a c.history s (session_at c s) q e (counted (session_at c s)) can.is_free refl (subst (Served c.placement c.history) (sym (request_of_act r act is)) h.1) h.2 j.longer refl can.no_read)
+    own_act (Ok (moved.Refused refusal)) can h =
+        let f = follows_own c z c.history s c.placement c.positions c.failed c.starved (with_session c.sessions s counted) (prefix_self c.history) h.1 counted (λ x. refl) refl can.here in
+        cond_both ((s == s) && is_allowed c s (act_of r)) (Some (Refused refusal)) None (After a c s (Schedule s r) z)
+        (λ t. own_refused refusal can (and_parts _ _ t).1 h.0 f)
+        (λ t.
+           between_follows a c z c.history s (counted (session_at c s)) j f
+           (λ q. seen_changed c.placement a c.history s (session_at c s) q (counted (session_at c s)) can.idle refl (tried_none a.front c.history s (counted (session_at c s)) can.no_read)))
+    own_act (Err NoMemory) can h = same h
+    own_act _ can h = absurd h
+
+    -- another session's request
+    other_act : (k : ℕ) (g : Given) → s ≢ k → CanSchedule c k → SchedulesAct c k r act g z → After a c s (Schedule k r) z (reply_given c s (Schedule k r) g)
+    other_act k (Ok (moved.Entry n)) other can h =
+        let e : Entry = next_entry c k act in
+        let g : List Event = c.history ++ event.Sched e ∷ [] in
+        between_follows a c z g s (session_at c s) j
+        (follows_rest c z g s c.placement c.positions 0 0 (with_session c.sessions k counted) (event.Sched e ∷ [], refl) h.4 (session_of-other counted (λ x. refl) c.sessions k s other))
+        (λ q. seen_other c.placement a c.history s (session_at c s) q e can.is_free (λ i. other (sym i)))
+    other_act k (Ok (moved.Refused refusal)) other can h =
+        cond_both ((k == s) && is_allowed c s (act_of r)) (Some (Refused refusal)) None (After a c s (Schedule k r) z)
+        (λ t. absurd (other (sym (eqb-true k s (and_parts _ _ t).0))))
+        (λ t.
+           between_follows a c z c.history s (session_at c s) j
+           (follows_rest c z c.history s c.placement c.positions c.failed c.starved (with_session c.sessions k counted) (prefix_self c.history) h.1 (session_of-other counted (λ x. refl) c.sessions k s other)) (λ q. q))
+    other_act k (Err NoMemory) other can h = same h
+    other_act k _ other can h = absurd h
+
+    schedules_act : (k : ℕ) (g : Given) → CanSchedule c k → SchedulesAct c k r act g z → After a c s (Schedule k r) z (reply_given c s (Schedule k r) g)
+    schedules_act k g can h =
+        ⊎_elim
+        (λ (e : s ≡ k).
+           subst (λ (n : ℕ). CanSchedule c n → SchedulesAct c n r act g z → After a c s (Schedule n r) z (reply_given c s (Schedule n r) g)) e (own_act g) can h)
+        (λ (e : s ≡ k → ⊥). other_act k g e can h)
+        (cases_eq s k)
+
+  schedules : (k : ℕ) (r : Request) (g : Given) → CanSchedule c k → Schedules c k r g z → After a c s (Schedule k r) z (reply_given c s (Schedule k r) g)
+  schedules k r g can h = of (act_of r) refl h
+    where
+      of : (o : Option Act) → act_of r ≡ o → SchedulesOf c k r o g z → After a c s (Schedule k r) z (reply_given c s (Schedule k r) g)
+      of None is t = absurd t
+      of (Some act) is t = schedules_act r act is k g can t
