@@ -35,7 +35,7 @@ use Rattle.cj_model.specs.Cores.{Core, position_at, with_bit, session_of, sessio
 use Rattle.cj_model.specs.Moves.{Given, MovesTo, is_open, Does, Opens, Closes, Schedules, SchedulesOf, SchedulesAct, RefusesSchedule, Applies, Replays, Ends, Reads, ReadsOrWaits, Reaches, ReadsNowhere, ReadsFull, ReadsInVain, ReadsAgain, ReadsTooEarly, Arms, Disables, Enables, not_now, forbidden_by, tx_of_act, open_tx, next_entry, last_number, counted, answered_at, was_answered, still_reading, read_number, tried_of, tried_with, ended}
 use Rattle.cj_model.specs.Sound.{Stands, IsLone, IsSound}
 use Rattle.cj_model.specs.Runs.{reply_in, reply_given, is_allowed, call_of_entry, call_of_act, call_at, IsUnanswered, IsSeenBy, IsBetween}
-use Rattle.cj_model.proofs.Pushed.{prefix_self, opened-same, opened-free, opened-last, opened-ended}
+use Rattle.cj_model.proofs.Pushed.{prefix_self, prefix_length, opened-same, opened-free, opened-last, opened-ended}
 use Rattle.cj_model.proofs.Sessions.{without, session_of-other, session_of-without_other}
 use Rattle.cj_model.proofs.Now.{CanSchedule, can_schedule, CanEnd, can_end, CanRead, can_read, CanDisable, can_disable, CanEnable, can_enable}
 use Rattle.cj_model.proofs.TurnCases.{turn_end, turn_unserved, turn_full, turn_read, turn_fault}
@@ -269,3 +269,153 @@ module _ (a : Seen) (c z : Core) (s : ℕ) (w : IsSound c) (v : IsSound z) (j : 
       of : (o : Option Act) → act_of r ≡ o → SchedulesOf c k r o g z → After a c s (Schedule k r) z (reply_given c s (Schedule k r) g)
       of None is t = absurd t
       of (Some act) is t = schedules_act r act is k g can t
+
+  -- ---- reads
+
+  -- the session's own read, at backend b
+  module _ (b : ℕ) (select : Select) (can : CanRead c s) where
+    -- the history stays, or the failed attempt is its next event
+    follows_read : (f : OpenSession → OpenSession) → ((x : OpenSession) → (f x).number ≡ x.number) → z ≡ record c { sessions = with_session c.sessions s f }
+        → Follows c z c.history s (f (session_at c s))
+    follows_read f keeps is = follows_own c z c.history s c.placement c.positions c.failed c.starved (with_session c.sessions s f) (prefix_self c.history) is f keeps refl can.here
+
+    follows_failed : (ev : Event) (f : OpenSession → OpenSession) → ((x : OpenSession) → (f x).number ≡ x.number) → z ≡ record c { history = c.history ++ ev ∷ []; sessions = with_session c.sessions s f }
+        → Follows c z (c.history ++ ev ∷ []) s (f (session_at c s))
+    follows_failed ev f keeps is = follows_own c z (c.history ++ ev ∷ []) s c.placement c.positions c.failed c.starved (with_session c.sessions s f) (ev ∷ [], refl) is f keeps refl can.here
+
+    reaches : (answer : Asked) → Reaches true c s b select answer z → After a c s (Read s b select) z (Some (reply_of_asked answer))
+    reaches answer h =
+        let p : ℕ = h.p in
+        let stands : Stands c.history c.failed c.starved b (Some p) = subst (Stands c.history c.failed c.starved b) h.stands (w.stands b (w.hosts b h.serves.0)) in
+        let call : Call = call_at c s (Read s b select) (reply_of_asked answer) in
+        let least : (session_at c s).least ≡ a.least = owes_same can.here in
+        let owed : (session_at c s).least ≤ p = h.owed in
+        replied c.placement a c z c.history s (answered_at p (was_answered (session_at c s))) call p v (follows_read (λ x. answered_at p (was_answered x)) (λ x. refl) h.after) can.idle refl refl
+        (turn_read c.placement s a c.history w.legal j.longer j.owes (rested can.here can.idle) call select p no_tx refl (ap reply_of_asked (h.says refl)) (λ t. (b, h.serves)) (omega arith) (stands.1 h.serves.0) stands.0)
+
+    reads_nowhere : (refusal : Refusal) → ReadsNowhere c s b select refusal z → After a c s (Read s b select) z (Some (Refused refusal))
+    reads_nowhere refusal h =
+        let call : Call = call_at c s (Read s b select) (Refused refusal) in
+        replied c.placement a c z c.history s (was_answered (session_at c s)) call a.least v (follows_read was_answered (λ x. refl) h.after) can.idle refl (owes_same can.here)
+        (turn_unserved c.placement s a c.history w.legal j.longer j.owes (rested can.here can.idle) call no_tx (ap (λ o. Refused o) h.refused) h.none)
+
+    reads_full : (refusal : Refusal) → ReadsFull c s b select refusal z → After a c s (Read s b select) z (Some (Refused refusal))
+    reads_full refusal h =
+        let call : Call = call_at c s (Read s b select) (Refused refusal) in
+        let none : room c.history ≡ 0 = h.full in
+        let full : room c.history < 1 = omega arith in
+        replied c.placement a c z c.history s (was_answered (session_at c s)) call a.least v (follows_read was_answered (λ x. refl) h.after) can.idle refl (owes_same can.here)
+        (turn_full c.placement s a c.history w.legal j.longer j.owes (rested can.here can.idle) call no_tx (ap (λ o. Refused o) h.refused) (λ t. (b, h.serves)) full)
+
+    reads_in_vain : (refusal : Refusal) → ReadsInVain c s b select refusal z → After a c s (Read s b select) z (Some (Refused refusal))
+    reads_in_vain refusal h =
+        let call : Call = call_at c s (Read s b select) (Refused refusal) in
+        let x : OpenSession = session_at c s in
+        let ev : Event = event.ReadFailed s (read_number x) b in
+        let g : List Event = c.history ++ ev ∷ [] in
+        let f : Follows c z g s (was_answered x) = follows_failed ev was_answered (λ y. refl) h.after in
+        let idle : is_by s (opened g) ≡ false = ap (is_by s) (opened-same c.history ev refl refl) ∙ can.idle in
+        replied c.placement a c z g s (was_answered x) call a.least v f idle refl (owes_same can.here)
+        (turn_fault c.placement s a c.history b call select h.mask (tried_of x.reading) (subst IsLegal f.history v.legal) j.longer j.owes (rested can.here can.idle) no_tx refl (ap (λ o. Refused o) h.refused)
+           (prior a.front c.history s x (j.here can.here).reads) h.serving
+           (λ k serves. with_cases (tried_of x.reading) b k (h.all k serves)) h.serves)
+
+    reads_early : (position : Option ℕ) → ReadsTooEarly c s b select position z → IsBetween a z s
+    reads_early position h =
+        let x : OpenSession = session_at c s in
+        let y : OpenSession = still_reading select (tried_of x.reading) x in
+        between_follows a c z c.history s y j (follows_read (still_reading select (tried_of x.reading)) (λ q. refl) h.after)
+        (λ q. seen_changed c.placement a c.history s x q y can.idle refl (tried_still a.front c.history s x select (tried_of x.reading) (prior a.front c.history s x q.reads)))
+
+    reads_again : ReadsAgain c s b select z → IsBetween a z s
+    reads_again h =
+        let x : OpenSession = session_at c s in
+        let ev : Event = event.ReadFailed s (read_number x) b in
+        let g : List Event = c.history ++ ev ∷ [] in
+        let y : OpenSession = still_reading select (tried_with c s b) x in
+        let idle : is_by s (opened g) ≡ false = ap (is_by s) (opened-same c.history ev refl refl) ∙ can.idle in
+        between_follows a c z g s y j (follows_failed ev (still_reading select (tried_with c s b)) (λ q. refl) h.after)
+        (λ q.
+           seen_changed c.placement a g s x (seen_event c.placement a c.history s x q ev refl refl (λ t k. refl)) y idle refl
+           (tried_again a.front c.history s b x select (prefix_length a.front c.history j.longer) q.reads))
+
+    own_reads : (g : Given) → Reads true c s b select g z → After a c s (Read s b select) z (reply_given c s (Read s b select) g)
+    own_reads (Ok (moved.Rows rows)) h = to_own s (Rows rows) (After a c s (Read s b select) z) (reaches (asked.Rows rows) h)
+    own_reads (Ok (moved.Refused refusal)) h =
+        to_own s (Refused refusal) (After a c s (Read s b select) z)
+        (⊎_elim (reaches (asked.Refused refusal)) (⊎_elim (reads_nowhere refusal) (⊎_elim (reads_full refusal) (reads_in_vain refusal))) h)
+    own_reads (Ok (moved.Behind p)) h = reads_early (Some p) h
+    own_reads (Ok moved.Out) h = reads_early None h
+    own_reads (Ok moved.Failed) h = reads_again h
+    own_reads (Err (NotNow why)) h = same h.3
+    own_reads (Err NoMemory) h = same h
+    own_reads _ h = absurd h
+
+  -- another session's read
+  module _ (k b : ℕ) (select : Select) (other : s ≢ k) where
+    other_read : (f : OpenSession → OpenSession) → ((x : OpenSession) → (f x).number ≡ x.number) → z ≡ record c { sessions = with_session c.sessions k f } → IsBetween a z s
+    other_read f keeps is =
+        between_follows a c z c.history s (session_at c s) j
+        (follows_rest c z c.history s c.placement c.positions c.failed c.starved (with_session c.sessions k f) (prefix_self c.history) is (session_of-other f keeps c.sessions k s other)) (λ q. q)
+
+    other_failed : (q : ℕ) (f : OpenSession → OpenSession) → ((x : OpenSession) → (f x).number ≡ x.number)
+        → z ≡ record c { history = c.history ++ event.ReadFailed k q b ∷ []; sessions = with_session c.sessions k f } → IsBetween a z s
+    other_failed q f keeps is =
+        let ev : Event = event.ReadFailed k q b in
+        between_follows a c z (c.history ++ ev ∷ []) s (session_at c s) j
+        (follows_rest c z (c.history ++ ev ∷ []) s c.placement c.positions c.failed c.starved (with_session c.sessions k f) (ev ∷ [], refl) is (session_of-other f keeps c.sessions k s other))
+        (λ x. seen_event c.placement a c.history s (session_at c s) x ev refl refl (λ t i. refl))
+
+    other_reaches : (answer : Asked) → Reaches true c k b select answer z → IsBetween a z s
+    other_reaches answer h = other_read (λ x. answered_at h.p (was_answered x)) (λ x. refl) h.after
+
+    other_refused : (refusal : Refusal) → Reads true c k b select (Ok (moved.Refused refusal)) z → IsBetween a z s
+    other_refused refusal h =
+        ⊎_elim (other_reaches (asked.Refused refusal))
+        (⊎_elim (λ (x : ReadsNowhere c k b select refusal z). other_read was_answered (λ y. refl) x.after)
+           (⊎_elim (λ (x : ReadsFull c k b select refusal z). other_read was_answered (λ y. refl) x.after)
+              (λ (x : ReadsInVain c k b select refusal z). other_failed (read_number (session_at c k)) was_answered (λ y. refl) x.after)))
+        h
+
+    other_reads : (g : Given) → Reads true c k b select g z → After a c s (Read k b select) z (reply_given c s (Read k b select) g)
+    other_reads (Ok (moved.Rows rows)) h = to_other k s (Rows rows) (After a c s (Read k b select) z) (λ e. other (sym e)) (other_reaches (asked.Rows rows) h)
+    other_reads (Ok (moved.Refused refusal)) h = to_other k s (Refused refusal) (After a c s (Read k b select) z) (λ e. other (sym e)) (other_refused refusal h)
+    other_reads (Ok (moved.Behind p)) h = other_read (still_reading select (tried_of (session_at c k).reading)) (λ x. refl) h.after
+    other_reads (Ok moved.Out) h = other_read (still_reading select (tried_of (session_at c k).reading)) (λ x. refl) h.after
+    other_reads (Ok moved.Failed) h = other_failed (read_number (session_at c k)) (still_reading select (tried_with c k b)) (λ x. refl) h.after
+    other_reads (Err (NotNow why)) h = same h.3
+    other_reads (Err NoMemory) h = same h
+    other_reads _ h = absurd h
+
+  reads : (k b : ℕ) (select : Select) (g : Given) → CanRead c k → ReadsOrWaits true c k b select g z → After a c s (Read k b select) z (reply_given c s (Read k b select) g)
+  reads k b select g can h =
+      ⊎_elim (λ (x : _). subst (λ (y : Given). After a c s (Read k b select) z (reply_given c s (Read k b select) y)) (sym x.1) (same x.2))
+      (λ (x : _).
+         ⊎_elim
+         (λ (e : s ≡ k).
+            subst (λ (n : ℕ). CanRead c n → Reads true c n b select g z → After a c s (Read n b select) z (reply_given c s (Read n b select) g)) e (λ q. own_reads b select q g) can x.1)
+         (λ (e : s ≡ k → ⊥). other_reads k b select e g x.1)
+         (cases_eq s k))
+      h
+
+  -- ---- any move
+
+  does : (m : Move) (g : Given) → not_now c m ≡ None → Does true c m g z → After a c s m z (reply_given c s m g)
+  does (Open user) g now h = opens user g h
+  does (Close k) g now h = closes k g h
+  does (Schedule k r) g now h = schedules k r g (can_schedule c k r now) h
+  does (Apply b) g now h = applies b g h
+  does End g now h = ends g (can_end c now) h
+  does (Read k b select) g now h = reads k b select g (can_read c k b select now) h
+  does (Arm b) g now h = arms b g h
+  does (Disable b) g now h = disables b g (can_disable c b now) h
+  does (Replay b) g now h = replays b g h
+  does (Enable b) g now h = enables b g (can_enable c b now) h
+
+  -- what a move leaves the session
+  pub moves_after : (m : Move) (g : Given) → MovesTo true c m g z → After a c s m z (reply_given c s m g)
+  moves_after m g h = by (not_now c m) refl h
+    where
+      by : (o : Option Why) → not_now c m ≡ o → MatchOption o (Does true c m g z) (λ why. (g ≡ Err (NotNow why)) × (z ≡ c)) → After a c s m z (reply_given c s m g)
+      by None now t = does m g now t
+      by (Some why) now t = subst (λ (x : Given). After a c s m z (reply_given c s m x)) (sym t.0) (same t.1)
