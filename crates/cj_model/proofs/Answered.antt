@@ -38,6 +38,7 @@ use Rattle.cj_model.specs.Runs.{reply_in, reply_given, is_allowed, call_of_entry
 use Rattle.cj_model.proofs.Pushed.{prefix_self, prefix_length, opened-same, opened-free, opened-last, opened-ended}
 use Rattle.cj_model.proofs.Sessions.{without, session_of-other, session_of-without_other}
 use Rattle.cj_model.proofs.Now.{CanSchedule, can_schedule, CanEnd, can_end, CanRead, can_read, CanDisable, can_disable, CanEnable, can_enable}
+use Rattle.cj_model.proofs.Soundness.{request_of-act}
 use Rattle.cj_model.proofs.TurnCases.{turn_end, turn_unserved, turn_full, turn_read, turn_fault}
 use Rattle.cj_model.proofs.Between.{seen, Follows, follows_own, follows_rest, follows_opened, between_follows, between_fresh, between_opened, between_closed, seen_event, seen_ended, seen_other, seen_sched, seen_changed, tried_none, tried_still, tried_again, prior, with_cases, opened_all}
 
@@ -45,17 +46,6 @@ use Rattle.cj_model.proofs.Between.{seen, Follows, follows_own, follows_rest, fo
 abbrev pub After : Seen → Core → ℕ → Move → Core → Option Reply → Type 0
 After a c s m z None = IsBetween a z s
 After a c s m z (Some reply) = Turn c.placement s a (call_at c s m reply) (seen z s) × IsBetween (seen z s) z s
-
--- ---- requests and acts
-
-request_of_act : (r : Request) (a : Act) → act_of r ≡ Some a → request_of a ≡ r
-request_of_act (request.Select s) a is = absurd (cc is)
-request_of_act (request.Write w) a is = let e : act.Write w ≡ a = cc is in ap request_of (sym e)
-request_of_act (request.Create c) a is = let e : act.Create c ≡ a = cc is in ap request_of (sym e)
-request_of_act (request.Drop table) a is = let e : act.Drop table ≡ a = cc is in ap request_of (sym e)
-request_of_act request.Begin a is = let e : act.Begin ≡ a = cc is in ap request_of (sym e)
-request_of_act request.Commit a is = let e : act.Commit ≡ a = cc is in ap request_of (sym e)
-request_of_act request.Rollback a is = let e : act.Abort ≡ a = cc is in ap request_of (sym e)
 
 -- an act where the session has no transaction has none
 tx_none : (a : Act) → tx_of_act 0 a ≡ 0
@@ -227,7 +217,7 @@ module _ (a : Seen) (c z : Core) (s : ℕ) (w : IsSound c) (v : IsSound z) (j : 
         between_follows a c z g s (counted (session_at c s)) j
         (follows_own c z g s c.placement c.positions 0 0 (with_session c.sessions s counted) (event.Sched e ∷ [], refl) h.4 counted (λ x. refl) refl can.here)
         (λ q.
-           seen_sched c.placement a c.history s (session_at c s) q e (counted (session_at c s)) can.is_free refl (subst (Served c.placement c.history) (sym (request_of_act r act is)) h.1) h.2 j.longer refl can.no_read)
+           seen_sched c.placement a c.history s (session_at c s) q e (counted (session_at c s)) can.is_free refl (subst (Served c.placement c.history) (sym (request_of-act r act is)) h.1) h.2 j.longer refl can.no_read)
     own_act (Ok (moved.Refused refusal)) can h =
         let f = follows_own c z c.history s c.placement c.positions c.failed c.starved (with_session c.sessions s counted) (prefix_self c.history) h.1 counted (λ x. refl) refl can.here in
         cond_both ((s == s) && is_allowed c s (act_of r)) (Some (Refused refusal)) None (After a c s (Schedule s r) z)
