@@ -24,7 +24,7 @@ use Rattle.cj_model.specs.Sound.{IsSession, IsSound}
 use Rattle.cj_model.specs.Runs.{IsUnanswered, HasFailed, TriedSince, IsSeenBy, IsBetween}
 use Rattle.cj_model.proofs.Pushed.{get_seam, get_left, prefix_self, prefix_trans, prefix_push, prefix_length, take_whole, log-prefix, enabled-push, log-same, done-same, opened-sched, opened-same, opened-free}
 use Rattle.cj_model.proofs.Masks.{has-zero, has-with_other}
-use Rattle.cj_model.proofs.Sessions.{session_at-is, found_number, found_all, session_of-other, session_of-push_same, session_of-push_other, without, session_of-without_same, session_of-without_other, session_at-same, session_at-other, is_open-with}
+use Rattle.cj_model.proofs.Sessions.{session_at-is, found_all, found_none, session_of-other, session_of-push_same, session_of-push_other, without, session_of-without_same, session_of-without_other, session_at-same, session_at-other, is_open-with}
 use Rattle.cj_model.proofs.TurnCases.{entries-same, entries-sched}
 
 -- ---- a read's failed attempts
@@ -268,14 +268,10 @@ session_owes c s w =
     session_cases c s (λ (x : OpenSession). x.least ≤ length (log c.history)) (let le : 0 ≤ length (log c.history) = omega arith in le)
     (λ x is. (found_all (IsSession c.history c.greatest) c.sessions s x w.sessions is).owes)
 
--- a session that has no number yet owes nothing
-owes_none : (c : Core) (s : ℕ) → IsSound c → c.greatest < s → (session_at c s).least ≡ 0
-owes_none c s w lt =
-    session_cases c s (λ (x : OpenSession). x.least ≡ 0) refl
-    (λ x is.
-       let own : x.number ≡ s = found_number c.sessions s x is in
-       let le : x.number ≤ c.greatest = (found_all (IsSession c.history c.greatest) c.sessions s x w.sessions is).number.1 in
-       absurd (omega arith))
+-- a session that has no number yet is not open
+new_unknown : (c : Core) (s : ℕ) → IsSound c → c.greatest < s → session_of c.sessions s ≡ None
+new_unknown c s w lt =
+    found_none c.sessions s (All-weaker (IsSession c.history c.greatest) (λ (x : OpenSession). x.number ≢ s) (λ x q. let le : x.number ≤ c.greatest = q.number.1 in omega arith) c.sessions w.sessions)
 
 -- a session that was answered has seen the whole history
 pub between_fresh : (z : Core) (s : ℕ) → IsSound z → is_by s (opened z.history) ≡ false → (session_at z s).reading ≡ None → IsBetween (seen z s) z s
@@ -284,7 +280,17 @@ between_fresh z s w idle none =
       longer = prefix_self z.history;
       owes = session_owes z s w;
       here = λ t. seen_fresh z.placement z.history s (session_at z s) idle none;
-      later = λ lt. owes_none z s w lt;
+      later = λ lt. ap (λ (x : OpenSession). x.least) (session_at-is z s None (new_unknown z s w lt));
+    }
+
+-- a session that has no number yet has seen nothing
+pub between_new : (c : Core) (s : ℕ) → IsSound c → c.greatest < s → IsBetween (record { front = []; least = 0 }) c s
+between_new c s w lt =
+    record {
+      longer = (c.history, refl);
+      owes = (let le : 0 ≤ length (log []) = omega arith in le);
+      here = λ t. absurd (both_ways (is_open c s) (ap is_some (new_unknown c s w lt)) t);
+      later = λ more. refl;
     }
 
 -- ---- sessions that open and close
