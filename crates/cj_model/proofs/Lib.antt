@@ -1,5 +1,6 @@
 pub mod Answered
 pub mod Between
+pub mod Chains
 pub mod Columns
 pub mod DatabaseLaws
 pub mod Effects
