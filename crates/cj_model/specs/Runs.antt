@@ -111,7 +111,7 @@ RunsFor s tells c (m ∷ ms) [] calls z = ⊥
 
 -- ---- between two replies
 
--- The session's own entry is open: it was scheduled since, and nothing was enabled or disabled after it.
+-- The session's own entry is open: it was scheduled since, as its only one, and nothing was enabled or disabled after it.
 pub record IsUnanswered (p : Placement) (front h : List Event) (s : ℕ) : Type 0 where
   pub e : Entry
   pub is : opened h ≡ Some e
