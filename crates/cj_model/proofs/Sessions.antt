@@ -12,7 +12,7 @@ use Rattle.cj_model.specs.declared.moves.OpenSession.{OpenSession}
 use Rattle.cj_model.specs.Tables.{Rises}
 use Rattle.cj_model.specs.Cores.{Core, session_of, session_at, fresh_session, with_session}
 use Rattle.cj_model.specs.Sound.{by_number}
-use Rattle.cj_model.proofs.RisingLaws.{find_All, rises_filter, rises_map}
+use Rattle.cj_model.proofs.RisingLaws.{found_All, rises_filter, rises_map}
 
 -- ---- the session of a number
 
@@ -32,7 +32,7 @@ found_number (y ∷ ss) s x is = one (y.number == s) refl is (found_number ss s 
 
 -- and what holds of all
 pub found_all : (P : OpenSession → Type 0) (ss : List OpenSession) (s : ℕ) (x : OpenSession) → All P ss → session_of ss s ≡ Some x → P x
-found_all P ss s x all is = find_All P (λ (y : OpenSession). y.number == s) ss x all is
+found_all P ss s x all is = found_All P (λ (y : OpenSession). y.number == s) ss x all is
 
 -- none is found where no session has the number
 pub found_none : (ss : List OpenSession) (s : ℕ) → All (λ (x : OpenSession). x.number ≢ s) ss → session_of ss s ≡ None
