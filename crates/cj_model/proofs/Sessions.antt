@@ -1,5 +1,5 @@
 -- Open sessions: found by their numbers, changed, added and removed.
-use Rattle.std.proofs.Common.{◌≡◌, ◌≢◌, ℕ, ◌==◌, ◌<◌, ◌≤◌, Bool, true, false, not, cond, List, [], ◌∷◌, ◌++◌, length, get_or, filter, All, Option, None, Some, unwrap_or, option_map, is_some, refl, ap, sym, ◌∙◌, subst, arith, ⊎_elim}
+use Rattle.std.proofs.Common.{IfSome, ◌≡◌, ◌≢◌, ℕ, ◌==◌, ◌<◌, ◌≤◌, Bool, true, false, not, cond, List, [], ◌∷◌, ◌++◌, length, get_or, filter, All, Option, None, Some, unwrap_or, option_map, is_some, refl, ap, sym, ◌∙◌, subst, arith, ⊎_elim}
 use Rattle.std.proofs.lemmas.Bool.{cases_eq, eqb-true, eqb-false, eq-eqb, ne_eqb}
 use Rattle.std.proofs.lemmas.List.{length-map}
 use Rattle.std.proofs.lemmas.List.Elements.{All-nil, All-cons, All-head, All-tail, All-push, All-weaker}
@@ -32,7 +32,7 @@ found_number (y ∷ ss) s x is = one (y.number == s) refl is (found_number ss s 
 
 -- and what holds of all
 pub found_all : (P : OpenSession → Type 0) (ss : List OpenSession) (s : ℕ) (x : OpenSession) → All P ss → session_of ss s ≡ Some x → P x
-found_all P ss s x all is = found_All P (λ (y : OpenSession). y.number == s) ss x all is
+found_all P ss s x all is = subst (λ (o : Option OpenSession). IfSome o P) is (found_All P (λ (y : OpenSession). y.number == s) ss all)
 
 -- none is found where no session has the number
 pub found_none : (ss : List OpenSession) (s : ℕ) → All (λ (x : OpenSession). x.number ≢ s) ss → session_of ss s ≡ None

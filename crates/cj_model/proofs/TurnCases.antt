@@ -1,18 +1,9 @@
 -- The turn of each kind of reply, over plain values.
-<<<<<<< HEAD
-use Rattle.std.proofs.Common.{◌≡◌, ◌≢◌, ℕ, zero, suc, ◌+◌, ◌-◌, ◌<◌, ◌≤◌, ◌==◌, ◌⊎◌, inl, inr, Bool, true, false, cond, List, [], ◌∷◌, ◌++◌, length, take, slice_get, Option, None, Some, All, refl, ap, sym, ◌∙◌, subst, arith, ⊎_elim, length-append}
-use mathlib.Core.List.{IsPrefix}
-use Rattle.std.proofs.lemmas.Grind.{fold-append}
-use Rattle.std.proofs.lemmas.Bool.{cases_eq, cases_lt, eqb-true, eqb-false, eq-eqb, both_ways}
-use Rattle.std.proofs.lemmas.List.{append-nil, take-append-le}
-use Rattle.cj_model.specs.declared.request.Request.{Request}
-=======
 use Rattle.std.proofs.Common.{◌≡◌, ℕ, ◌+◌, ◌<◌, ◌≤◌, ◌==◌, ◌⊎◌, inl, inr, true, cond, List, [], ◌∷◌, ◌++◌, length, take, slice_get, Some, refl, ap, sym, ◌∙◌, subst, arith, ⊎_elim, length-append}
 use mathlib.Core.List.{IsPrefix}
 use Rattle.std.proofs.lemmas.Grind.{fold-append}
 use Rattle.std.proofs.lemmas.Bool.{both_ways}
 use Rattle.std.proofs.lemmas.List.{take-append-le}
->>>>>>> 06d0c44e35197313f49be4f7b9fea46a744cda5f
 use Rattle.cj_model.specs.declared.request.Request.TheVariants as request
 use Rattle.cj_model.specs.declared.request.Act.{Act}
 use Rattle.cj_model.specs.declared.request.Act.TheVariants as act
@@ -27,17 +18,10 @@ use Rattle.cj_model.specs.Changes.{bare}
 use Rattle.cj_model.specs.Asks.{ask}
 use Rattle.cj_model.specs.Plain.{act_of, request_of}
 use Rattle.cj_model.specs.Placements.{Placement, concerns}
-<<<<<<< HEAD
-use Rattle.cj_model.specs.Histories.{has, log, done, free, opened, enabled, room, at, tx_of}
-use Rattle.cj_model.specs.Legality.{IsLegal}
-use Rattle.cj_model.specs.Answering.{ServesAt, Served, Unserved, is_target, Finished, Unfinished, AnswersEntry}
-use Rattle.cj_model.specs.Turns.{Seen, Call, Moment, reply_of_asked, entry_of, Scheduled, NoBackend, Read, ReadFault, Full, IsFull, Case, scheduled, no_backend, read, read_fault, full, entries_of, Turn}
-=======
 use Rattle.cj_model.specs.Histories.{has, log, done, free, opened, enabled, room, at}
 use Rattle.cj_model.specs.Legality.{IsLegal}
 use Rattle.cj_model.specs.Answering.{ServesAt, Served, Unserved, is_target, Finished, Unfinished, AnswersEntry}
 use Rattle.cj_model.specs.Turns.{Seen, Call, Moment, reply_of_asked, IsFull, scheduled, no_backend, read, read_fault, full, entries_of, Turn}
->>>>>>> 06d0c44e35197313f49be4f7b9fea46a744cda5f
 use Rattle.cj_model.specs.Sound.{IsLone}
 use Rattle.cj_model.specs.Runs.{IsUnanswered, HasFailed, call_of_entry}
 use Rattle.cj_model.proofs.Masks.{has-zero}
@@ -45,10 +29,7 @@ use Rattle.cj_model.proofs.Pushed.{get_seam, get_left, prefix_self, prefix_push,
 
 -- ---- requests and acts
 
-<<<<<<< HEAD
-=======
 -- the act of a request that comes from an act
->>>>>>> 06d0c44e35197313f49be4f7b9fea46a744cda5f
 pub act_of_request : (a : Act) → act_of (request_of a) ≡ Some a
 act_of_request act.Begin = refl
 act_of_request (act.Write w) = refl
@@ -66,10 +47,7 @@ concerns_lone p b xs ys e (act.Drop table) lone = refl
 concerns_lone p b xs ys e act.Commit lone = absurd lone
 concerns_lone p b xs ys e act.Abort lone = absurd lone
 
-<<<<<<< HEAD
-=======
 -- an act outside a transaction has none
->>>>>>> 06d0c44e35197313f49be4f7b9fea46a744cda5f
 pub lone_tx : (e : Entry) (a : Act) → IsLone e a → e.tx ≡ 0
 lone_tx e act.Begin lone = absurd lone
 lone_tx e (act.Write w) lone = lone
@@ -90,19 +68,6 @@ answers_then p g h now i e r lone same answer =
     let back = target_at p h g e lone (λ b. sym (same b)) in
     ⊎_elim
     (λ (x : Finished p h now i e r).
-<<<<<<< HEAD
-       inl record {
-         failed = x.failed; starved = x.starved; masks = x.masks;
-         some = ⊎_elim (λ (none : (b : ℕ) → is_target p h e b → ⊥). inl (λ b t. none b (forth b t))) (λ (q : _). inr (q.0, back q.0 q.1, q.2, q.3)) x.some;
-         outcome = x.outcome; says = x.says; replied = x.replied;
-       })
-    (λ (x : Unfinished p h now i e r).
-       inr record {
-         failed = x.failed; starved = x.starved; masks = x.masks;
-         some = (x.some.0, back x.some.0 x.some.1);
-         all = λ b t. x.all b (forth b t); replied = x.replied;
-       })
-=======
     inl record {
       failed = x.failed;
       starved = x.starved;
@@ -121,22 +86,15 @@ answers_then p g h now i e r lone same answer =
       all = λ b t. x.all b (forth b t);
       replied = x.replied;
     })
->>>>>>> 06d0c44e35197313f49be4f7b9fea46a744cda5f
     answer
 
 -- ---- the number of a session's entries
 
-<<<<<<< HEAD
-pub entries-same : (s : ℕ) (h g : List Event) → log g ≡ log h → entries_of s g ≡ entries_of s h
-entries-same s h g same = rw same refl
-
-=======
 -- an event that leaves the log leaves the number
 pub entries-same : (s : ℕ) (h g : List Event) → log g ≡ log h → entries_of s g ≡ entries_of s h
 entries-same s h g same = rw same refl
 
 -- an entry counts for its session
->>>>>>> 06d0c44e35197313f49be4f7b9fea46a744cda5f
 pub entries-sched : (s : ℕ) (h : List Event) (e : Entry) → entries_of s (h ++ Sched e ∷ []) ≡ entries_of s h + cond (e.session == s) 1 0
 entries-sched s h e = rw (log-sched h e) (fold-append (λ (n : ℕ) (x : Entry). n + cond (x.session == s) 1 0) 0 (log h) (e ∷ []))
 
@@ -166,23 +124,6 @@ turn_end p a h failed starved e r legal longer owes o is lone one_open answer =
       owes = owes;
       tx = inl (lone_tx e e.act lone);
       case =
-<<<<<<< HEAD
-        scheduled
-        record {
-          m = m;
-          moment = record { low = low; high = omega arith };
-          act = e.act;
-          is = act_of_request e.act;
-          was_free = ap free part ∙ o.was_free;
-          served = subst (λ (x : List Event). Served p x (request_of e.act)) (sym part) served;
-          space = subst (λ (x : List Event). 3 ≤ room x) (sym part) o.space;
-          next = next;
-          answer =
-            subst (λ (i : ℕ). AnswersEntry p (take m g) g i e r) (sym number)
-            (subst (λ (x : List Event). AnswersEntry p x g (done h) e r) (sym part) (answers_then p (take m h) h g (done h) e r lone o.same answer));
-          least = one_open ∙ ap (λ n. n + 1) (sym number);
-        };
-=======
           scheduled
           record {
             m = m;
@@ -198,20 +139,11 @@ turn_end p a h failed starved e r legal longer owes o is lone one_open answer =
                 (subst (λ (x : List Event). AnswersEntry p x g (done h) e r) (sym part) (answers_then p (take m h) h g (done h) e r lone o.same answer));
             least = one_open ∙ ap (λ n. n + 1) (sym number);
           };
->>>>>>> 06d0c44e35197313f49be4f7b9fea46a744cda5f
       entries = entries-same e.session h g (log-same h ev refl) ∙ o.entries;
     }
 
 -- the moment is now, and nothing was scheduled since the session saw a
 module _ (p : Placement) (s : ℕ) (a : Seen) (h : List Event) (legal : IsLegal h) (longer : IsPrefix a.front h) (owes : a.least ≤ length (log a.front)) (rests : entries_of s h ≡ entries_of s a.front) where
-<<<<<<< HEAD
-  now : Moment a.front h (length h)
-  now = let n : length a.front ≤ length h = prefix_length a.front h longer in record { low = n; high = omega arith }
-
-  whole : take (length h) h ≡ h
-  whole = take_whole h h (prefix_self h)
-
-=======
   -- this moment
   now : Moment a.front h (length h)
   now = let n : length a.front ≤ length h = prefix_length a.front h longer in record { low = n; high = omega arith }
@@ -221,7 +153,6 @@ module _ (p : Placement) (s : ℕ) (a : Seen) (h : List Event) (legal : IsLegal 
   whole = take_whole h h (prefix_self h)
 
   -- no entry came
->>>>>>> 06d0c44e35197313f49be4f7b9fea46a744cda5f
   none_more : entries_of s h ≡ entries_of s a.front + 0
   none_more = omega (arith, rests)
 
@@ -229,14 +160,10 @@ module _ (p : Placement) (s : ℕ) (a : Seen) (h : List Event) (legal : IsLegal 
   pub turn_unserved : (c : Call) → c.tx ≡ 0 → c.reply ≡ Refused (bare NO_BACKEND) → Unserved p h c.request → Turn p s a c (record { front = h; least = a.least })
   turn_unserved c tx replied none =
       record {
-<<<<<<< HEAD
-        legal = legal; longer = longer; owes = owes; tx = inl tx;
-=======
         legal = legal;
         longer = longer;
         owes = owes;
         tx = inl tx;
->>>>>>> 06d0c44e35197313f49be4f7b9fea46a744cda5f
         case = no_backend record { m = length h; moment = now; none = subst (λ (x : List Event). Unserved p x c.request) (sym (whole)) none; replied = replied; least = refl };
         entries = none_more;
       }
@@ -246,17 +173,6 @@ module _ (p : Placement) (s : ℕ) (a : Seen) (h : List Event) (legal : IsLegal 
       → Turn p s a c (record { front = h; least = a.least })
   turn_full c tx replied served small =
       record {
-<<<<<<< HEAD
-        legal = legal; longer = longer; owes = owes; tx = inl tx;
-        case =
-          full
-          record {
-            m = length h; moment = now;
-            served = subst (λ (x : List Event). Served p x c.request) (sym (whole)) served;
-            full = subst (λ (x : List Event). IsFull x (act_of c.request)) (sym (whole)) small;
-            replied = replied; least = refl;
-          };
-=======
         legal = legal;
         longer = longer;
         owes = owes;
@@ -271,7 +187,6 @@ module _ (p : Placement) (s : ℕ) (a : Seen) (h : List Event) (legal : IsLegal 
               replied = replied;
               least = refl;
             };
->>>>>>> 06d0c44e35197313f49be4f7b9fea46a744cda5f
         entries = none_more;
       }
 
@@ -280,18 +195,6 @@ module _ (p : Placement) (s : ℕ) (a : Seen) (h : List Event) (legal : IsLegal 
       → Served p h c.request → a.least ≤ n → done h ≤ n → n ≤ length (log h) → Turn p s a c (record { front = h; least = n })
   turn_read c select n tx is replied served owed past within =
       record {
-<<<<<<< HEAD
-        legal = legal; longer = longer; owes = owes; tx = inl tx;
-        case =
-          read
-          record {
-            m = length h; moment = now; select = select; is = is;
-            served = subst (λ (x : List Event). Served p x c.request) (sym (whole)) served;
-            owed = owed;
-            past = subst (λ (x : List Event). done x ≤ n) (sym (whole)) past;
-            within = within; replied = replied;
-          };
-=======
         legal = legal;
         longer = longer;
         owes = owes;
@@ -309,7 +212,6 @@ module _ (p : Placement) (s : ℕ) (a : Seen) (h : List Event) (legal : IsLegal 
               within = within;
               replied = replied;
             };
->>>>>>> 06d0c44e35197313f49be4f7b9fea46a744cda5f
         entries = none_more;
       }
 
@@ -330,17 +232,10 @@ turn_fault p s a h b c select mask tried legal longer owes rests tx is replied p
     let same : (k : ℕ) → enabled (take (length g) g) k ≡ enabled h k = λ k. ap (λ x. enabled x k) whole ∙ enabled-push h ev k in
     let now : HasFailed a.front g s c.number b = record { k = length h; low = low; high = omega arith; is = get_seam h [] ev } in
     let before : (k : ℕ) → has tried k ≡ true → HasFailed a.front g s c.number k =
-<<<<<<< HEAD
-      λ k t. let x = prior k t in let lt : x.k < length h = x.high in record { k = x.k; low = x.low; high = omega arith; is = get_left h (ev ∷ []) x.k (ReadFailed s c.number k) x.is }
-    in
-    let each : (k : ℕ) → has mask k ≡ true → HasFailed a.front g s c.number k =
-      λ k t. ⊎_elim (λ (e : k ≡ b). subst (λ (i : ℕ). HasFailed a.front g s c.number i) (sym e) now) (λ (t : has tried k ≡ true). before k t) (all k ((serving k).1 t))
-=======
     λ k t. let x = prior k t in let lt : x.k < length h = x.high in record { k = x.k; low = x.low; high = omega arith; is = get_left h (ev ∷ []) x.k (ReadFailed s c.number k) x.is }
     in
     let each : (k : ℕ) → has mask k ≡ true → HasFailed a.front g s c.number k =
     λ k t. ⊎_elim (λ (e : k ≡ b). subst (λ (i : ℕ). HasFailed a.front g s c.number i) (sym e) now) (λ (t : has tried k ≡ true). before k t) (all k ((serving k).1 t))
->>>>>>> 06d0c44e35197313f49be4f7b9fea46a744cda5f
     in
     record {
       legal = legal;
@@ -348,21 +243,6 @@ turn_fault p s a h b c select mask tried legal longer owes rests tx is replied p
       owes = owes;
       tx = inl tx;
       case =
-<<<<<<< HEAD
-        read_fault
-        record {
-          m = length g;
-          moment = record { low = omega arith; high = omega arith };
-          select = select;
-          is = is;
-          mask = mask;
-          some = λ zero_mask. both_ways (has mask b) (ap (λ m. has m b) zero_mask ∙ has-zero b) ((serving b).0 serves);
-          all = λ k. ((λ t. (serving k).0 (sym (same k) ∙ t.0, t.1)), λ t. let q = (serving k).1 t in (same k ∙ q.0, q.1));
-          failed = λ k t. let x = each k t in (x.k, x.low, x.high, x.is);
-          replied = replied;
-          least = refl;
-        };
-=======
           read_fault
           record {
             m = length g;
@@ -376,6 +256,5 @@ turn_fault p s a h b c select mask tried legal longer owes rests tx is replied p
             replied = replied;
             least = refl;
           };
->>>>>>> 06d0c44e35197313f49be4f7b9fea46a744cda5f
       entries = let same_log : log g ≡ log h = log-same h ev refl in let n : entries_of s g ≡ entries_of s h = entries-same s h g same_log in omega (arith, n, rests);
     }

@@ -22,11 +22,7 @@ use Rattle.cj_model.specs.Histories.{has, log, done, free, opened, enabled, room
 use Rattle.cj_model.specs.Legality.{IsWritten, user_limit}
 use Rattle.cj_model.specs.Answering.{Served}
 use Rattle.cj_model.specs.Placements.{Placement}
-<<<<<<< HEAD
-use Rattle.cj_model.specs.Turns.{Seen, Call, Turn, Chain, entries_of}
-=======
 use Rattle.cj_model.specs.Turns.{Seen, Call, Chain, entries_of}
->>>>>>> 06d0c44e35197313f49be4f7b9fea46a744cda5f
 use Rattle.cj_model.specs.Cores.{Core, session_at, is_by}
 use Rattle.cj_model.specs.Moves.{Given, MovesTo, is_open, forbidden_by, tx_of_act, open_tx, read_number}
 
@@ -115,11 +111,7 @@ RunsFor s tells c (m ∷ ms) [] calls z = ⊥
 
 -- ---- between two replies
 
-<<<<<<< HEAD
--- The session's own entry is open: it was scheduled since, and nothing was enabled or disabled after it.
-=======
 -- The session's own entry is open: it was scheduled since, as its only one, and nothing was enabled or disabled after it.
->>>>>>> 06d0c44e35197313f49be4f7b9fea46a744cda5f
 pub record IsUnanswered (p : Placement) (front h : List Event) (s : ℕ) : Type 0 where
   pub e : Entry
   pub is : opened h ≡ Some e
