@@ -23,19 +23,20 @@ use Rattle.cj_model.specs.declared.moves.MoveError.TheVariants.{NotNow, NoMemory
 use Rattle.cj_model.specs.declared.moves.OpenSession.{OpenSession}
 use Rattle.cj_model.specs.Plain.{act_of}
 use Rattle.cj_model.specs.Placements.{Placement}
-use Rattle.cj_model.specs.Histories.{scheduled, is_ended, log, done, free, opened, room}
+use Rattle.cj_model.specs.Histories.{scheduled, is_ended, log, done, free, opened, room, is_log_fault, log_faults_of, tx_of}
 use Rattle.cj_model.specs.Legality.{IsLegal}
 use Rattle.cj_model.specs.Answering.{Served, AnswersEntry}
-use Rattle.cj_model.specs.Turns.{Seen, Call, IsFull, reply_of_asked, entries_of, Turn}
+use Rattle.cj_model.specs.Turns.{Seen, Call, IsFull, reply_of_asked, Turn}
 use Rattle.cj_model.specs.Cores.{Core, session_at, fresh_session, with_session, is_by}
 use Rattle.cj_model.specs.Moves.{Given, MovesTo, is_open, Does, Opens, Closes, Schedules, SchedulesOf, SchedulesAct, RefusesSchedule, Applies, Replays, Ends, Reads, ReadsOrWaits, Reaches, ReadsNowhere, ReadsFull, ReadsInVain, ReadsAgain, ReadsTooEarly, Arms, Disables, Enables, not_now, forbidden_by, tx_of_act, open_tx, next_entry, last_number, counted, answered_at, was_answered, still_reading, read_number, tried_of, tried_with, ended}
 use Rattle.cj_model.specs.Sound.{Stands, IsLone, IsSound}
 use Rattle.cj_model.specs.Runs.{reply_given, is_allowed, call_of_entry, call_of_act, call_at, IsUnanswered, IsSeenBy, IsBetween}
-use Rattle.cj_model.proofs.Pushed.{prefix_self, prefix_length, opened-same, opened-free, opened-last, opened-ended}
+use Rattle.cj_model.proofs.Pushed.{all_begin, prefix_self, prefix_length, opened-same, opened-free, opened-last, opened-ended}
 use Rattle.cj_model.proofs.Sessions.{without, session_of-other, session_of-without_other}
 use Rattle.cj_model.proofs.Now.{CanSchedule, can_schedule, CanEnd, can_end, CanRead, can_read, CanDisable, can_disable, CanEnable, can_enable}
+use Rattle.cj_model.proofs.Effects.{lone_no_tx}
 use Rattle.cj_model.proofs.Soundness.{no_tx, request_of-act}
-use Rattle.cj_model.proofs.TurnCases.{turn_end, turn_unserved, turn_full, turn_read, turn_fault}
+use Rattle.cj_model.proofs.TurnCases.{Rests, turn_end, turn_unserved, turn_full, turn_read, turn_fault}
 use Rattle.cj_model.proofs.Between.{seen, Follows, follows_own, follows_rest, follows_opened, between_follows, between_fresh, between_opened, between_closed, seen_event, seen_ended, seen_other, seen_sched, seen_changed, tried_none, tried_still, tried_again, prior, with_cases, opened_all}
 
 -- what a move leaves session s that has seen a, where it gave it this reply
@@ -78,6 +79,10 @@ module _ (a : Seen) (c z : Core) (s : ℕ) (w : IsSound c) (v : IsSound z) (j : 
   -- it has no transaction
   outside : open_tx c s ≡ 0
   outside = no_tx c s w
+
+  -- nor had it one when it saw a
+  tx_stays : tx_of (log c.history) s ≡ tx_of (log a.front) s
+  tx_stays = outside ∙ sym (lone_no_tx (log a.front) s (all_begin (λ (e : Entry). IsLone e e.act) a.front c.history j.longer w.lone))
 
   -- nothing changes
   same : z ≡ c → IsBetween a z s
@@ -125,23 +130,23 @@ module _ (a : Seen) (c z : Core) (s : ℕ) (w : IsSound c) (v : IsSound z) (j : 
   arms b (Ok moved.Armed) h = same h
   arms b _ h = absurd h
 
-  -- an event while no entry is open
-  while_free : (ev : Event) → scheduled ev ≡ None → is_ended ev ≡ false → free c.history ≡ true → z ≡ record c { history = c.history ++ ev ∷ [] } → IsBetween a z s
-  while_free ev none stays fr is =
+  -- an event while no entry is open, which is no fault of the log's store
+  while_free : (ev : Event) → scheduled ev ≡ None → is_ended ev ≡ false → ((t q : ℕ) → is_log_fault t q ev ≡ false) → free c.history ≡ true → z ≡ record c { history = c.history ++ ev ∷ [] } → IsBetween a z s
+  while_free ev none stays no_fault fr is =
       between_follows a c z (c.history ++ ev ∷ []) s (session_at c s) j
       (follows_rest c z (c.history ++ ev ∷ []) s c.placement c.positions c.failed c.starved c.sessions (ev ∷ [], refl) is refl)
-      (λ q. seen_event c.placement a c.history s (session_at c s) q ev none stays (λ t. absurd (both_ways (is_by s (opened c.history)) (ap (is_by s) (opened-free c.history fr)) t)))
+      (λ q. seen_event c.placement a c.history s (session_at c s) q ev none stays no_fault (λ t. absurd (both_ways (is_by s (opened c.history)) (ap (is_by s) (opened-free c.history fr)) t)))
 
   -- a backend is disabled
   disables : (b : ℕ) (g : Given) → CanDisable c b → Disables c b g z → After a c s (Disable b) z (reply_given c s (Disable b) g)
-  disables b (Ok moved.Disabled) can h = while_free (event.Disabled b) refl refl can.is_free h.1
+  disables b (Ok moved.Disabled) can h = while_free (event.Disabled b) refl refl (λ t q. refl) can.is_free h.1
   disables b (Ok (moved.Refused r)) can h = same h.2
   disables b (Err NoMemory) can h = same h
   disables b _ can h = absurd h
 
   -- a backend is enabled
   enables : (b : ℕ) (g : Given) → CanEnable c b → Enables c b g z → After a c s (Enable b) z (reply_given c s (Enable b) g)
-  enables b (Ok moved.Enabled) can h = while_free (event.Enabled b) refl refl can.is_free h.1
+  enables b (Ok moved.Enabled) can h = while_free (event.Enabled b) refl refl (λ t q. refl) can.is_free h.1
   enables b (Ok (moved.Refused r)) can h = same h.2
   enables b (Err NoMemory) can h = same h
   enables b _ can h = absurd h
@@ -158,7 +163,9 @@ module _ (a : Seen) (c z : Core) (s : ℕ) (w : IsSound c) (v : IsSound z) (j : 
       let last = opened-last c.history e w.one_open.1 is in
       let legal : IsLegal (ended c) = subst IsLegal f.history v.legal in
       let turn : Turn c.placement e.session a (call_of_entry (Some e) reply) (record { front = ended c; least = length (log c.history) }) =
-      turn_end c.placement a c.history c.failed c.starved e reply legal j.longer j.owes (subst (IsUnanswered c.placement a.front c.history) own q.0) is (opened_all (λ (x : Entry). IsLone x x.act) c.history e w.lone is) last.1 answer
+      turn_end c.placement a c.history c.failed c.starved e reply legal j.longer j.owes (subst (IsUnanswered c.placement a.front c.history) own q.0) is (opened_all (λ (x : Entry). IsLone x x.act) c.history e w.lone is) last.1
+      (subst (λ (k : ℕ). tx_of (log c.history) k ≡ tx_of (log a.front) k) own tx_stays)
+      (subst (λ (k : ℕ). (i : ℕ) → log_faults_of k i c.history ≡ log_faults_of k i a.front) own seen_so.log_faults) answer
       in
       let mine : Turn c.placement s a (call_of_entry (opened c.history) reply) (record { front = ended c; least = length (log c.history) }) =
       subst (λ (k : ℕ). Turn c.placement k a (call_of_entry (opened c.history) reply) (record { front = ended c; least = length (log c.history) })) (sym own)
@@ -191,9 +198,9 @@ module _ (a : Seen) (c z : Core) (s : ℕ) (w : IsSound c) (v : IsSound z) (j : 
 
   -- ---- what is scheduled, or refused
 
-  -- no entry was scheduled since the session's last reply
-  rested : is_open c s ≡ true → is_by s (opened c.history) ≡ false → entries_of s c.history ≡ entries_of s a.front
-  rested here idle = (j.here here).rests idle
+  -- no entry was scheduled since the session's last reply, and the log's store did not fail
+  rested : is_open c s ≡ true → is_by s (opened c.history) ≡ false → Rests s a c.history
+  rested here idle = record { entries = (j.here here).rests idle; tx = tx_stays; log_faults = (j.here here).log_faults }
 
   -- what the session owes is what it has seen
   owes_same : is_open c s ≡ true → (session_at c s).least ≡ a.least
@@ -346,7 +353,7 @@ module _ (a : Seen) (c z : Core) (s : ℕ) (w : IsSound c) (v : IsSound z) (j : 
         let idle : is_by s (opened g) ≡ false = ap (is_by s) (opened-same c.history ev refl refl) ∙ can.idle in
         between_follows a c z g s y j (follows_failed ev (still_reading select (tried_with c s b)) (λ q. refl) h.after)
         (λ q.
-        seen_changed c.placement a g s x (seen_event c.placement a c.history s x q ev refl refl (λ t k. refl)) y idle refl
+        seen_changed c.placement a g s x (seen_event c.placement a c.history s x q ev refl refl (λ t k. refl) (λ t k. refl)) y idle refl
         (tried_again a.front c.history s b x select (prefix_length a.front c.history j.longer) q.reads))
 
     -- any of these
@@ -377,7 +384,7 @@ module _ (a : Seen) (c z : Core) (s : ℕ) (w : IsSound c) (v : IsSound z) (j : 
         let ev : Event = event.ReadFailed k q b in
         between_follows a c z (c.history ++ ev ∷ []) s (session_at c s) j
         (follows_rest c z (c.history ++ ev ∷ []) s c.placement c.positions c.failed c.starved (with_session c.sessions k f) (ev ∷ [], refl) is (session_of-other f keeps c.sessions k s other))
-        (λ x. seen_event c.placement a c.history s (session_at c s) x ev refl refl (λ t i. refl))
+        (λ x. seen_event c.placement a c.history s (session_at c s) x ev refl refl (λ t i. refl) (λ t i. refl))
 
     -- the backend answered
     other_reaches : (answer : Asked) → Reaches true c k b select answer z → IsBetween a z s

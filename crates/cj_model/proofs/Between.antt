@@ -3,7 +3,7 @@ use Rattle.std.proofs.Common.{◌≡◌, ◌≢◌, ℕ, ◌+◌, ◌<◌, ◌�
 use mathlib.Core.List.{IsPrefix}
 use Rattle.std.proofs.lemmas.Bool.{cases_eq, eqb-true, eq-eqb, ne_eqb, both_ways}
 use Rattle.std.proofs.lemmas.List.{take-append-le}
-use Rattle.std.proofs.lemmas.List.Elements.{All-head, All-tail, All-take, All-get_or, All-weaker}
+use Rattle.std.proofs.lemmas.List.Elements.{All-head, All-tail, All-get_or, All-weaker}
 use Rattle.std.proofs.lemmas.Option.{slice_get_within, get_or_from_slice_get}
 use Rattle.std.proofs.Math.Seq.{take-append_seam}
 use Rattle.cj_model.specs.declared.request.Entry.{Entry}
@@ -14,14 +14,14 @@ use Rattle.cj_model.specs.declared.moves.OpenRead.{OpenRead}
 use Rattle.cj_model.specs.declared.moves.OpenSession.{OpenSession}
 use Rattle.cj_model.specs.Plain.{request_of}
 use Rattle.cj_model.specs.Placements.{Placement}
-use Rattle.cj_model.specs.Histories.{has, scheduled, is_ended, log, done, free, opened, enabled, enabled_after, room}
+use Rattle.cj_model.specs.Histories.{has, scheduled, is_ended, log, done, free, opened, enabled, enabled_after, room, is_log_fault, log_faults_of}
 use Rattle.cj_model.specs.Answering.{Served}
 use Rattle.cj_model.specs.Turns.{Seen, entries_of}
 use Rattle.cj_model.specs.Cores.{Core, with_bit, session_of, session_at, fresh_session, with_session, is_by}
 use Rattle.cj_model.specs.Moves.{is_open, read_number, tried_of, still_reading}
 use Rattle.cj_model.specs.Sound.{IsSession, IsSound}
 use Rattle.cj_model.specs.Runs.{IsUnanswered, HasFailed, TriedSince, IsSeenBy, IsBetween}
-use Rattle.cj_model.proofs.Pushed.{get_seam, get_left, prefix_self, prefix_trans, prefix_length, take_whole, log-prefix, enabled-push, log-same, done-same, opened-sched, opened-same, opened-free}
+use Rattle.cj_model.proofs.Pushed.{log_faults-same, log_faults-begin, all_begin, get_seam, get_left, prefix_self, prefix_trans, prefix_length, enabled-push, log-same, done-same, opened-sched, opened-same, opened-free}
 use Rattle.cj_model.proofs.Masks.{has-zero, has-with_other}
 use Rattle.cj_model.proofs.Sessions.{session_at-is, found_all, found_none, session_of-push_same, session_of-push_other, without, session_of-without_same, session_at-same, session_at-other}
 use Rattle.cj_model.proofs.TurnCases.{entries-same, entries-sched}
@@ -62,6 +62,11 @@ tried_still front h s x select mask each r b is t =
 
 -- ---- an open session, as the history grows and as it changes itself
 
+-- an event that is no fault of the log's store leaves their number as it was in the front
+faults_push : (front h : List Event) (ev : Event) (s : ℕ) → ((t q : ℕ) → is_log_fault t q ev ≡ false) → ((q : ℕ) → log_faults_of s q h ≡ log_faults_of s q front)
+    → (q : ℕ) → log_faults_of s q (h ++ ev ∷ []) ≡ log_faults_of s q front
+faults_push front h ev s none was q = log_faults-same h ev none s q ∙ was q
+
 -- an event that schedules nothing, ends nothing, and enables or disables nothing
 unanswered_push : (p : Placement) (front h : List Event) (ev : Event) (s : ℕ) → scheduled ev ≡ None → is_ended ev ≡ false → ((b : ℕ) → enabled_after b (enabled h b) ev ≡ enabled h b)
     → IsUnanswered p front h s → IsUnanswered p front (h ++ ev ∷ []) s
@@ -85,10 +90,10 @@ unanswered_push p front h ev s none stays same o =
     }
 
 module _ (p : Placement) (a : Seen) (h : List Event) (s : ℕ) (x : OpenSession) (w : IsSeenBy p a h s x) where
-  -- such an event, or one that enables or disables while the session's entry is not open
-  pub seen_event : (ev : Event) → scheduled ev ≡ None → is_ended ev ≡ false → (is_by s (opened h) ≡ true → (b : ℕ) → enabled_after b (enabled h b) ev ≡ enabled h b)
+  -- such an event, or one that enables or disables while the session's entry is not open, if it is no fault of the log's store
+  pub seen_event : (ev : Event) → scheduled ev ≡ None → is_ended ev ≡ false → ((t q : ℕ) → is_log_fault t q ev ≡ false) → (is_by s (opened h) ≡ true → (b : ℕ) → enabled_after b (enabled h b) ev ≡ enabled h b)
       → IsSeenBy p a (h ++ ev ∷ []) s x
-  seen_event ev none stays same =
+  seen_event ev none stays no_fault same =
       let op : opened (h ++ ev ∷ []) ≡ opened h = opened-same h ev none stays in
       record {
         least = w.least;
@@ -99,6 +104,7 @@ module _ (p : Placement) (a : Seen) (h : List Event) (s : ℕ) (x : OpenSession)
             (unanswered_push p a.front h ev s none stays (same was) q.0, q.1);
         rests = λ t. entries-same s h (h ++ ev ∷ []) (log-same h ev none) ∙ w.rests (ap (is_by s) (sym op) ∙ t);
         reads = tried_push a.front h ev s x w.reads;
+        log_faults = faults_push a.front h ev s no_fault w.log_faults;
       }
 
   -- the end of another session's entry
@@ -110,6 +116,7 @@ module _ (p : Placement) (a : Seen) (h : List Event) (s : ℕ) (x : OpenSession)
         waits = λ t. absurd (both_ways (is_by s (opened (h ++ ev ∷ []))) (ap (is_by s) none) t);
         rests = λ t. entries-same s h (h ++ ev ∷ []) (log-same h ev refl) ∙ w.rests other;
         reads = tried_push a.front h ev s x w.reads;
+        log_faults = faults_push a.front h ev s (λ t q. refl) w.log_faults;
       }
 
   -- another session's entry
@@ -124,6 +131,7 @@ module _ (p : Placement) (a : Seen) (h : List Event) (s : ℕ) (x : OpenSession)
         waits = λ t. absurd (both_ways (is_by s (opened (h ++ Sched e ∷ []))) op t);
         rests = λ t. omega (arith, more, was);
         reads = tried_push a.front h (Sched e) s x w.reads;
+        log_faults = faults_push a.front h (Sched e) s (λ t q. refl) w.log_faults;
       }
 
   -- the session's own entry
@@ -160,6 +168,7 @@ module _ (p : Placement) (a : Seen) (h : List Event) (s : ℕ) (x : OpenSession)
             );
         rests = λ t. absurd (both_ways (is_by s (opened g)) t op);
         reads = tried_none a.front g s y none;
+        log_faults = faults_push a.front h (Sched e) s (λ t q. refl) w.log_faults;
       }
 
   -- the session changes while no entry of it is open
@@ -170,6 +179,7 @@ module _ (p : Placement) (a : Seen) (h : List Event) (s : ℕ) (x : OpenSession)
         waits = λ t. absurd (both_ways (is_by s (opened h)) idle t);
         rests = w.rests;
         reads = tried;
+        log_faults = w.log_faults;
       }
 
 -- a session that was answered has seen all
@@ -180,6 +190,7 @@ seen_fresh p h s x idle none =
       waits = λ t. absurd (both_ways (is_by s (opened h)) idle t);
       rests = λ t. refl;
       reads = tried_none h h s x none;
+      log_faults = λ q. refl;
     }
 
 -- a mask with one backend more
@@ -315,9 +326,7 @@ entries_none s (e ∷ es) all =
 
 -- nor in what the history began as
 entries_begin : (s : ℕ) (front h : List Event) → IsPrefix front h → All (λ (e : Entry). e.session < s) (log h) → entries_of s front ≡ 0
-entries_begin s front h longer all =
-    let part : take (length (log front)) (log h) ≡ log front = take_whole (log front) (log h) (log-prefix front h longer) in
-    entries_none s (log front) (subst (All (λ (e : Entry). e.session < s)) part (All-take (λ (e : Entry). e.session < s) (length (log front)) (log h) all))
+entries_begin s front h longer all = entries_none s (log front) (all_begin (λ (e : Entry). e.session < s) front h longer all)
 
 -- what holds of each entry holds of the open one
 pub opened_all : (P : Entry → Type 0) (h : List Event) (e : Entry) → All P (log h) → opened h ≡ Some e → P e
@@ -352,6 +361,7 @@ between_opened a c z s user w j new is =
       waits = λ t. absurd (both_ways (is_by s (opened c.history)) idle t);
       rests = λ t. entries_none s (log c.history) younger ∙ sym (entries_begin s a.front c.history j.longer younger);
       reads = tried_none a.front c.history s x refl;
+      log_faults = λ q. let none = w.log_faults s q (omega arith) in none ∙ sym (log_faults-begin a.front c.history s q j.longer none);
     }
     in
     record {

@@ -12,14 +12,14 @@ use Rattle.cj_model.specs.declared.event.Event.TheVariants.{Sched, Ended, ReadFa
 use Rattle.cj_model.specs.declared.moves.OpenSession.{OpenSession}
 use Rattle.cj_model.specs.Tables.{Rises}
 use Rattle.cj_model.specs.Placements.{Placement}
-use Rattle.cj_model.specs.Histories.{has, scheduled, is_ended, log, done, free, opened, enabled, room, TxState, tx_now, tx_after, tx_of}
+use Rattle.cj_model.specs.Histories.{has, scheduled, is_ended, log, done, free, opened, enabled, room, is_log_fault, log_faults_of, TxState, tx_now, tx_after, tx_of}
 use Rattle.cj_model.specs.Legality.{Allowed, IsFit, user_limit}
 use Rattle.cj_model.specs.Cores.{Core, position_at, with_bit, session_limit, session_of, fresh_session, with_session, is_by}
 use Rattle.cj_model.specs.declared.moves.Did.{Did}
 use Rattle.cj_model.specs.declared.moves.Did.TheVariants as did
 use Rattle.cj_model.specs.Moves.{counted, Takes, failed_after, starved_after}
 use Rattle.cj_model.specs.Sound.{IsSound, IsSession, IsLone, Stands, by_number}
-use Rattle.cj_model.proofs.Pushed.{enabled-push, log-sched, log-same, done-same, done-ended, opened-sched, opened-same, legal_push}
+use Rattle.cj_model.proofs.Pushed.{SameFaults, log_faults-same, enabled-push, log-sched, log-same, done-same, done-ended, opened-sched, opened-same, legal_push}
 use Rattle.cj_model.proofs.Masks.{has-zero, has-with_same, has-with_other}
 use Rattle.cj_model.proofs.Sessions.{found_itself, is_open-with, is_open-push, all_with, length_with, rises_with, rises_push, without, session_of-without_other, rises_without, length_without}
 
@@ -32,11 +32,12 @@ pub record SessionsAre (h : List Event) (greatest : ℕ) (ss : List OpenSession)
   pub few : length ss ≤ session_limit
   pub numbers : greatest ≤ 2 ^ 62
   pub known : All (λ (e : Entry). e.session ≤ greatest) (log h)
+  pub log_faults : (s q : ℕ) → greatest < s → log_faults_of s q h ≡ 0
   pub waits : (e : Entry) → opened h ≡ Some e → is_some (session_of ss e.session) ≡ true
 
 -- the sessions of a sound state
 pub sessions_are : (c : Core) → IsSound c → SessionsAre c.history c.greatest c.sessions
-sessions_are c s = record { sessions = s.sessions; rises = s.rises; few = s.few; numbers = s.numbers; known = s.known; waits = s.waits }
+sessions_are c s = record { sessions = s.sessions; rises = s.rises; few = s.few; numbers = s.numbers; known = s.known; log_faults = s.log_faults; waits = s.waits }
 
 -- what a change of a session keeps, where its reads may need position n at most
 pub record KeepsSession (n : ℕ) (f : OpenSession → OpenSession) : Type 0 where
@@ -67,6 +68,7 @@ are_opened h g ss user a few lt fits =
       few = omega arith;
       numbers = omega arith;
       known = All-weaker (λ (e : Entry). e.session ≤ g) (λ (e : Entry). e.session ≤ g + 1) (λ e le. omega arith) (log h) a.known;
+      log_faults = λ t q lt. a.log_faults t q (omega arith);
       waits = λ e is. is_open-push ss (fresh_session (g + 1) user) e.session (a.waits e is);
     }
 
@@ -81,22 +83,24 @@ are_closed h g ss s a idle =
       few = omega arith;
       numbers = a.numbers;
       known = a.known;
+      log_faults = a.log_faults;
       waits =
           λ e is.
           let ne : e.session ≢ s = eqb-false _ _ (subst (λ (o : Option Entry). is_by s o ≡ false) is idle) in
           rw (session_of-without_other ss s e.session ne) (a.waits e is);
     }
 
--- a session is changed, at a history with the same log
-pub are_with : (h h' : List Event) (g : ℕ) (ss : List OpenSession) (s : ℕ) (f : OpenSession → OpenSession) → SessionsAre h g ss → KeepsSession (length (log h)) f → log h' ≡ log h
+-- a session is changed, at a history with the same log and faults of its store
+pub are_with : (h h' : List Event) (g : ℕ) (ss : List OpenSession) (s : ℕ) (f : OpenSession → OpenSession) → SessionsAre h g ss → KeepsSession (length (log h)) f → log h' ≡ log h → SameFaults h h'
     → ((e : Entry) → opened h' ≡ Some e → opened h ≡ Some e) → SessionsAre h' g (with_session ss s f)
-are_with h h' g ss s f a k same was =
+are_with h h' g ss s f a k same faults was =
     record {
       sessions = all_with (IsSession h g) (IsSession h' g) f ss s here there a.sessions;
       rises = rises_with f k.number ss s a.rises;
       few = let n = length_with f ss s in let le = a.few in omega arith;
       numbers = a.numbers;
       known = subst (All (λ (e : Entry). e.session ≤ g)) (sym same) a.known;
+      log_faults = λ t q lt. faults t q ∙ a.log_faults t q lt;
       waits = λ e is. is_open-with f k.number ss s e.session ∙ a.waits e (was e is);
     }
   where
@@ -121,9 +125,9 @@ are_with h h' g ss s f a k same was =
               (λ e old now. let le = old (now ∙ k.number x) in let more = k.queries x in omega arith) (log h) i.entries);
         }
 
--- no session is changed, at a history with the same log
-pub are_kept : (h h' : List Event) (g : ℕ) (ss : List OpenSession) → SessionsAre h g ss → log h' ≡ log h → ((e : Entry) → opened h' ≡ Some e → opened h ≡ Some e) → SessionsAre h' g ss
-are_kept h h' g ss a same was =
+-- no session is changed, at such a history
+pub are_kept : (h h' : List Event) (g : ℕ) (ss : List OpenSession) → SessionsAre h g ss → log h' ≡ log h → SameFaults h h' → ((e : Entry) → opened h' ≡ Some e → opened h ≡ Some e) → SessionsAre h' g ss
+are_kept h h' g ss a same faults was =
     let again : (x : OpenSession) → IsSession h g x → IsSession h' g x =
     λ x i.
     record {
@@ -139,6 +143,7 @@ are_kept h h' g ss a same was =
       few = a.few;
       numbers = a.numbers;
       known = subst (All (λ (e : Entry). e.session ≤ g)) (sym same) a.known;
+      log_faults = λ t q lt. faults t q ∙ a.log_faults t q lt;
       waits = λ e is. a.waits e (was e is);
     }
 
@@ -152,6 +157,7 @@ are_sched h g ss s e x a found fr by seq le =
       few = let n = length_with counted ss s in let few = a.few in omega arith;
       numbers = a.numbers;
       known = subst (All (λ (d : Entry). d.session ≤ g)) (sym (log-sched h e)) (All-push (λ (d : Entry). d.session ≤ g) (log h) e a.known (omega arith));
+      log_faults = λ t q lt. log_faults-same h (Sched e) (λ i j. refl) t q ∙ a.log_faults t q lt;
       waits =
           λ d is.
           let same : e ≡ d = cc (sym (opened-sched h e fr) ∙ is) in
@@ -232,6 +238,7 @@ sound_start placement positions cells begin =
       few = omega arith;
       numbers = omega arith;
       known = All-nil (λ (e : Entry). e.session ≤ 0);
+      log_faults = λ s q lt. refl;
       waits = λ e is. absurd (cc is);
     }
   where
@@ -257,6 +264,7 @@ sound_sessions c ss g s a =
       few = a.few;
       numbers = a.numbers;
       known = a.known;
+      log_faults = a.log_faults;
       waits = a.waits;
     }
 
@@ -296,6 +304,7 @@ sound_sched c e ss s fr fit lone space a =
       few = a.few;
       numbers = a.numbers;
       known = a.known;
+      log_faults = a.log_faults;
       waits = a.waits;
     }
 
@@ -350,6 +359,7 @@ sound_ended c ss s fr all a =
       few = a.few;
       numbers = a.numbers;
       known = a.known;
+      log_faults = a.log_faults;
       waits = a.waits;
     }
 
@@ -404,6 +414,7 @@ sound_same c e ss s allowed is stays space on keeps a =
       few = a.few;
       numbers = a.numbers;
       known = a.known;
+      log_faults = a.log_faults;
       waits = a.waits;
     }
 
@@ -422,14 +433,14 @@ no_masks c s fr b w =
     (λ (t : has c.starved b ≡ true). both_ways (has c.starved b) (ap (λ m. has m b) (s.clear fr).1 ∙ has-zero b) t) w
 
 -- the sessions at a history with one event more that leaves the log and the ends
-kept_by : (c : Core) (e : Event) → IsSound c → scheduled e ≡ None → is_ended e ≡ false → SessionsAre (c.history ++ e ∷ []) c.greatest c.sessions
-kept_by c e s is stays = are_kept c.history (c.history ++ e ∷ []) c.greatest c.sessions (sessions_are c s) (log-same c.history e is) (λ d on. sym (opened-same c.history e is stays) ∙ on)
+kept_by : (c : Core) (e : Event) → IsSound c → scheduled e ≡ None → is_ended e ≡ false → ((s q : ℕ) → is_log_fault s q e ≡ false) → SessionsAre (c.history ++ e ∷ []) c.greatest c.sessions
+kept_by c e s is stays none = are_kept c.history (c.history ++ e ∷ []) c.greatest c.sessions (sessions_are c s) (log-same c.history e is) (log_faults-same c.history e none) (λ d on. sym (opened-same c.history e is stays) ∙ on)
 
 -- a backend is disabled
 pub sound_disabled : (c : Core) (b : ℕ) → IsSound c → free c.history ≡ true → enabled c.history b ≡ true → 0 < room c.history → IsSound (record c { history = c.history ++ Disabled b ∷ [] })
 sound_disabled c b s fr on space =
     sound_same c (Disabled b) c.sessions s (fr, on) refl refl space (λ k now. inl (and_parts _ _ (sym (enabled-push c.history (Disabled b) k) ∙ now)).0)
-    (λ k w. absurd (no_masks c s fr k w)) (kept_by c (Disabled b) s refl refl)
+    (λ k w. absurd (no_masks c s fr k w)) (kept_by c (Disabled b) s refl refl (λ t q. refl))
 
 -- a backend at the log's end is enabled
 pub sound_enabled : (c : Core) (b : ℕ) → IsSound c → free c.history ≡ true → enabled c.history b ≡ false → b < length c.positions → position_at c b ≡ Some (length (log c.history)) → 0 < room c.history
@@ -440,7 +451,7 @@ sound_enabled c b s fr off lt at_end space =
     (λ k on.
     ⊎_elim (λ (w : enabled c.history k ≡ true). inl w) (λ (w : (k == b) ≡ true). inr (subst (λ (x : ℕ). CanBeOn c.history c.positions x) (sym (eqb-true k b w)) can))
     (or_cases _ _ (sym (enabled-push c.history (Enabled b) k) ∙ on)))
-    (λ k w. absurd (no_masks c s fr k w)) (kept_by c (Enabled b) s refl refl)
+    (λ k w. absurd (no_masks c s fr k w)) (kept_by c (Enabled b) s refl refl (λ t q. refl))
 
 -- ---- a backend takes an entry
 
@@ -477,6 +488,7 @@ sound_moved c b f s p w lt now masks others clear =
       few = w.few;
       numbers = w.numbers;
       known = w.known;
+      log_faults = w.log_faults;
       waits = w.waits;
       cells = length-set c.positions b p ∙ w.cells;
       hosts = λ k on. subst (λ (n : ℕ). k < n) (sym (length-set c.positions b p)) (w.hosts k on);

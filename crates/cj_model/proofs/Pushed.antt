@@ -1,18 +1,19 @@
 -- What one more event at the end of a history does, and what a history has in common with those that it began as.
-use Rattle.std.proofs.Common.{◌≡◌, ◌≢◌, ℕ, ◌+◌, ◌-◌, ◌*◌, ◌^◌, ◌<◌, ◌≤◌, true, false, cond, ◌==◌, List, [], ◌∷◌, ◌++◌, length, take, drop, get_or, slice_get, Option, option_map, None, Some, refl, ap, sym, ◌∙◌, subst, arith, length-append, append_assoc, take-append-drop, ⊎_elim}
+use Rattle.std.proofs.Common.{◌≡◌, ◌≢◌, ℕ, ◌+◌, ◌-◌, ◌*◌, ◌^◌, ◌<◌, ◌≤◌, true, false, cond, ◌==◌, List, [], ◌∷◌, ◌++◌, length, take, drop, get_or, slice_get, All, Option, option_map, None, Some, refl, ap, sym, ◌∙◌, subst, arith, length-append, append_assoc, take-append-drop, ⊎_elim}
 use mathlib.Core.List.{IsPrefix}
 use Rattle.std.proofs.lemmas.Grind.{fold-append}
 use Rattle.std.proofs.lemmas.Bool.{cases_lt, eqb-true, eqb-false, eq-eqb, ne_eqb}
 use Rattle.std.proofs.lemmas.List.{append-nil, get_or_push, take-append-le, get_or_append_left}
-use Rattle.std.proofs.lemmas.List.Elements.{filter_map-append}
+use Rattle.std.proofs.lemmas.List.Elements.{filter_map-append, All-take}
 use Rattle.std.proofs.lemmas.List.Recursion.{is_count_by}
+use Rattle.std.proofs.lemmas.List.Sums.{sum_by-append}
 use Rattle.std.proofs.lemmas.Option.{slice_get-get_or, slice_get_past, slice_get_within, get_or_from_slice_get}
 use Rattle.std.proofs.Math.Seq.{take-append_seam, get_or-append_seam}
 use Rattle.cj_model.specs.declared.request.Entry.{Entry}
 use Rattle.cj_model.specs.declared.event.Event.{Event}
 use Rattle.cj_model.specs.declared.event.Event.TheVariants.{Sched, Ended, ReadFailed, LogFailed, Disabled, Enabled, Marker}
 use Rattle.cj_model.specs.Steps.{step}
-use Rattle.cj_model.specs.Histories.{run, at, said, scheduled, log, is_ended, done, free, opened, enabled, enabled_after, room, masks_of, ends, marked, markers, blames, blame}
+use Rattle.cj_model.specs.Histories.{run, at, said, scheduled, log, is_ended, done, free, opened, enabled, enabled_after, room, masks_of, ends, marked, markers, blames, blame, is_log_fault, log_faults_of}
 use Rattle.cj_model.specs.Legality.{Allowed, IsLegal}
 
 -- ---- lists
@@ -143,6 +144,20 @@ markers-same h (Marker name b) is = absurd (cc is)
 pub blame-push : (h : List Event) (e : Event) (b : ℕ) → blame (h ++ e ∷ []) b ≡ blame h b + cond (blames b e) 1 0
 blame-push h e b = fold-append (λ (a : ℕ) (x : Event). a + cond (blames b x) 1 0) 0 h (e ∷ [])
 
+-- ---- faults of the log's store
+
+-- one fault more where the event is one
+log_faults-push : (h : List Event) (e : Event) (s q : ℕ) → log_faults_of s q (h ++ e ∷ []) ≡ log_faults_of s q h + cond (is_log_fault s q e) 1 0
+log_faults-push h e s q = fold-append (λ (a : ℕ) (x : Event). a + cond (is_log_fault s q x) 1 0) 0 h (e ∷ [])
+
+-- the log's store failed as often in the second history as in the first, in each request of each session
+abbrev pub SameFaults : List Event → List Event → Type 0
+SameFaults g h = (s q : ℕ) → log_faults_of s q h ≡ log_faults_of s q g
+
+-- an event that is no fault leaves their numbers
+pub log_faults-same : (h : List Event) (e : Event) → ((s q : ℕ) → is_log_fault s q e ≡ false) → SameFaults h (h ++ e ∷ [])
+log_faults-same h e none s q = log_faults-push h e s q ∙ rw (none s q) (omega arith)
+
 -- ---- whether an entry is open
 
 -- an entry that is scheduled is open
@@ -230,6 +245,16 @@ ends-prefix f h p = (ends p.0, sym (filter_map-append masks_of f p.0) ∙ ap end
 -- and its markers
 pub markers-prefix : (f h : List Event) → IsPrefix f h → IsPrefix (markers f) (markers h)
 markers-prefix f h p = (markers p.0, sym (filter_map-append marked f p.0) ∙ ap markers p.1)
+
+-- where a history has no fault in a request, nor has what it began as
+pub log_faults-begin : (f h : List Event) (s q : ℕ) → IsPrefix f h → log_faults_of s q h ≡ 0 → log_faults_of s q f ≡ 0
+log_faults-begin f h s q p none =
+    let all : log_faults_of s q h ≡ log_faults_of s q f + log_faults_of s q p.0 = ap (log_faults_of s q) (sym p.1) ∙ sum_by-append (λ (e : Event). cond (is_log_fault s q e) 1 0) f p.0 in
+    omega arith
+
+-- what holds of each entry holds of those of a beginning
+pub all_begin : (P : Entry → Type 0) (f h : List Event) → IsPrefix f h → All P (log h) → All P (log f)
+all_begin P f h p all = subst (All P) (take_whole (log f) (log h) (log-prefix f h p)) (All-take P (length (log f)) (log h) all)
 
 -- the database after some entries is the same in each log that begins so
 pub at-prefix : (xs ys : List Entry) (n : ℕ) → IsPrefix xs ys → n ≤ length xs → at ys n ≡ at xs n

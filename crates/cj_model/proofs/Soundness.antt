@@ -27,7 +27,7 @@ use Rattle.cj_model.specs.Moves as moves
 use Rattle.cj_model.specs.Moves.{Given, MovesTo, Does, not_now, is_open, is_reading, read_number, next_entry, open_tx, tx_of_act, counted, answered_at, was_answered, still_reading, last_number, with_read, read_failed, ended, tried_of, tried_with}
 use Rattle.cj_model.specs.Sound.{IsSound, IsSession, IsLone}
 use Rattle.cj_model.specs.Runs.{IsMove, IsLoneWrite, CanCount}
-use Rattle.cj_model.proofs.Pushed.{log-same, opened-ended, opened-same}
+use Rattle.cj_model.proofs.Pushed.{log-same, log_faults-same, opened-ended, opened-same}
 use Rattle.cj_model.proofs.Sessions.{found_open, found_all, found_number, without}
 use Rattle.cj_model.proofs.Effects.{sessions_are, KeepsSession, are_opened, are_closed, are_with, are_sched, lone_no_tx, sound_sessions, sound_sched, sound_ended, sound_read_failed, sound_disabled, sound_enabled, sound_applied, sound_replayed, is_there, stands_there}
 use Rattle.cj_model.proofs.Now.{CanClose, can_close, CanSchedule, can_schedule, CanApply, can_apply, CanEnd, can_end, CanDisable, can_disable, CanReplay, can_replay, CanEnable, can_enable, behind_none}
@@ -55,7 +55,7 @@ sound_close c s _ z w can h = absurd h
 -- a session is changed, and nothing else
 with_sound : (c : Core) (s : ℕ) (f : OpenSession → OpenSession) (z : Core) → IsSound c → KeepsSession (length (log c.history)) f → z ≡ with_read c s f → IsSound z
 with_sound c s f z w keeps is =
-    subst IsSound (sym is) (sound_sessions c (with_session c.sessions s f) c.greatest w (are_with c.history c.history c.greatest c.sessions s f (sessions_are c w) keeps refl (λ e on. on)))
+    subst IsSound (sym is) (sound_sessions c (with_session c.sessions s f) c.greatest w (are_with c.history c.history c.greatest c.sessions s f (sessions_are c w) keeps refl (λ t q. refl) (λ e on. on)))
 
 -- ---- entries
 
@@ -165,7 +165,7 @@ sound_end tells c (Ok (moved.Replied s reply)) z w can h =
     subst IsSound (sym h.4)
     (sound_ended c (with_session c.sessions s (answered_at (last_number c))) w can.is_running (behind_none c.history c.positions can.none_behind)
     (are_with c.history (ended c) c.greatest c.sessions s (answered_at (last_number c)) (sessions_are c w) (keeps_answered (length (log c.history)) (last_number c) le)
-    (log-same c.history (Ended c.failed c.starved) refl) (λ e on. absurd (cc (none, on)))))
+    (log-same c.history (Ended c.failed c.starved) refl) (log_faults-same c.history (Ended c.failed c.starved) (λ t q. refl)) (λ e on. absurd (cc (none, on)))))
 sound_end tells c _ z w can h = absurd h
 
 -- ---- reads
@@ -196,7 +196,7 @@ failed_sound c s b f z w keeps space is =
     let e : Event = ReadFailed s (read_number (session_at c s)) b in
     subst IsSound (sym is)
     (sound_read_failed c s (read_number (session_at c s)) b (with_session c.sessions s f) w space
-    (are_with c.history (c.history ++ e ∷ []) c.greatest c.sessions s f (sessions_are c w) keeps (log-same c.history e refl) (λ d on. sym (opened-same c.history e refl refl) ∙ on)))
+    (are_with c.history (c.history ++ e ∷ []) c.greatest c.sessions s f (sessions_are c w) keeps (log-same c.history e refl) (log_faults-same c.history e (λ t q. refl)) (λ d on. sym (opened-same c.history e refl refl) ∙ on)))
 
 module _ (tells : Bool) (c : Core) (s b : ℕ) (select : Select) (w : IsSound c) where
   -- the backend answered

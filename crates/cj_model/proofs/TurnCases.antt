@@ -18,14 +18,14 @@ use Rattle.cj_model.specs.Changes.{bare}
 use Rattle.cj_model.specs.Asks.{ask}
 use Rattle.cj_model.specs.Plain.{act_of, request_of}
 use Rattle.cj_model.specs.Placements.{Placement, concerns}
-use Rattle.cj_model.specs.Histories.{has, log, done, free, opened, enabled, room, at}
+use Rattle.cj_model.specs.Histories.{has, log, done, free, opened, enabled, room, at, log_faults_of, tx_of}
 use Rattle.cj_model.specs.Legality.{IsLegal}
 use Rattle.cj_model.specs.Answering.{ServesAt, Served, Unserved, is_target, Finished, Unfinished, AnswersEntry}
-use Rattle.cj_model.specs.Turns.{Seen, Call, Moment, reply_of_asked, IsFull, scheduled, no_backend, read, read_fault, full, entries_of, Turn}
+use Rattle.cj_model.specs.Turns.{Seen, Call, Moment, reply_of_asked, IsFull, scheduled, no_backend, read, read_fault, full, entries_of, next_tx_by, Turn}
 use Rattle.cj_model.specs.Sound.{IsLone}
 use Rattle.cj_model.specs.Runs.{IsUnanswered, HasFailed, call_of_entry}
 use Rattle.cj_model.proofs.Masks.{has-zero}
-use Rattle.cj_model.proofs.Pushed.{get_seam, get_left, prefix_self, prefix_push, prefix_length, take_whole, enabled-push, log-sched, log-same}
+use Rattle.cj_model.proofs.Pushed.{get_seam, get_left, prefix_self, prefix_push, prefix_length, take_whole, enabled-push, log-sched, log-same, log_faults-same}
 
 -- ---- requests and acts
 
@@ -55,6 +55,15 @@ lone_tx e (act.Create c) lone = lone
 lone_tx e (act.Drop table) lone = lone
 lone_tx e act.Commit lone = absurd lone
 lone_tx e act.Abort lone = absurd lone
+
+-- and leaves its session in the one that it was in
+next_tx_lone : (n tx : ℕ) (e : Entry) (a : Act) → IsLone e a → next_tx_by n tx a ≡ tx
+next_tx_lone n tx e act.Begin lone = absurd lone
+next_tx_lone n tx e (act.Write w) lone = refl
+next_tx_lone n tx e (act.Create c) lone = refl
+next_tx_lone n tx e (act.Drop table) lone = refl
+next_tx_lone n tx e act.Commit lone = absurd lone
+next_tx_lone n tx e act.Abort lone = absurd lone
 
 -- the targets of an act outside a transaction are the enabled backends that it concerns
 target_at : (p : Placement) (g h : List Event) (e : Entry) → IsLone e e.act → ((b : ℕ) → enabled g b ≡ enabled h b) → (b : ℕ) → is_target p g e b → is_target p h e b
@@ -100,13 +109,20 @@ entries-sched s h e = rw (log-sched h e) (fold-append (λ (n : ℕ) (x : Entry).
 
 -- ---- turns
 
+-- Since session s saw a it scheduled nothing, its transaction is as it was, and the log's store failed in none of its requests.
+pub record Rests (s : ℕ) (a : Seen) (h : List Event) : Type 0 where
+  pub entries : entries_of s h ≡ entries_of s a.front
+  pub tx : tx_of (log h) s ≡ tx_of (log a.front) s
+  pub log_faults : (q : ℕ) → log_faults_of s q h ≡ log_faults_of s q a.front
+
 -- the end of an entry answers its session
 pub turn_end : (p : Placement) (a : Seen) (h : List Event) (failed starved : ℕ) (e : Entry) (r : Reply)
     → IsLegal (h ++ Ended failed starved ∷ []) → IsPrefix a.front h → a.least ≤ length (log a.front) → IsUnanswered p a.front h e.session
     → opened h ≡ Some e → IsLone e e.act → length (log h) ≡ done h + 1
+    → tx_of (log h) e.session ≡ tx_of (log a.front) e.session → ((q : ℕ) → log_faults_of e.session q h ≡ log_faults_of e.session q a.front)
     → AnswersEntry p h (h ++ Ended failed starved ∷ []) (done h) e r
     → Turn p e.session a (call_of_entry (Some e) r) (record { front = h ++ Ended failed starved ∷ []; least = length (log h) })
-turn_end p a h failed starved e r legal longer owes o is lone one_open answer =
+turn_end p a h failed starved e r legal longer owes o is lone one_open in_tx faults answer =
     let ev : Event = Ended failed starved in
     let g : List Event = h ++ ev ∷ [] in
     let m : ℕ = o.m in
@@ -117,6 +133,7 @@ turn_end p a h failed starved e r legal longer owes o is lone one_open answer =
     let next : slice_get g m ≡ Some (Sched e) = get_left h (ev ∷ []) m (Sched o.e) o.next ∙ ap (λ x. Some (Sched x)) its in
     let many : length g ≡ length h + 1 = length-append h (ev ∷ []) in
     let low : length a.front ≤ m = o.low in
+    let same_log : log g ≡ log h = log-same h ev refl in
     let served : Served p (take m h) (request_of e.act) = subst (λ (x : Entry). Served p (take m h) (request_of x.act)) its o.served in
     record {
       legal = legal;
@@ -139,11 +156,15 @@ turn_end p a h failed starved e r legal longer owes o is lone one_open answer =
                 (subst (λ (x : List Event). AnswersEntry p x g (done h) e r) (sym part) (answers_then p (take m h) h g (done h) e r lone o.same answer));
             least = one_open ∙ ap (λ n. n + 1) (sym number);
           };
-      entries = entries-same e.session h g (log-same h ev refl) ∙ o.entries;
+      entries = entries-same e.session h g same_log ∙ o.entries;
+      tx_after =
+          ap (λ (l : List Entry). tx_of l e.session) same_log
+          ∙ (in_tx ∙ sym (next_tx_lone (length (log (take m g)) + 1) (tx_of (log a.front) e.session) e e.act lone));
+      log_faults = let n = log_faults-same h ev (λ t q. refl) e.session e.seq ∙ faults e.seq in omega (arith, n);
     }
 
 -- the moment is now, and nothing was scheduled since the session saw a
-module _ (p : Placement) (s : ℕ) (a : Seen) (h : List Event) (legal : IsLegal h) (longer : IsPrefix a.front h) (owes : a.least ≤ length (log a.front)) (rests : entries_of s h ≡ entries_of s a.front) where
+module _ (p : Placement) (s : ℕ) (a : Seen) (h : List Event) (legal : IsLegal h) (longer : IsPrefix a.front h) (owes : a.least ≤ length (log a.front)) (rests : Rests s a h) where
   -- this moment
   now : Moment a.front h (length h)
   now = let n : length a.front ≤ length h = prefix_length a.front h longer in record { low = n; high = omega arith }
@@ -154,7 +175,11 @@ module _ (p : Placement) (s : ℕ) (a : Seen) (h : List Event) (legal : IsLegal 
 
   -- no entry came
   none_more : entries_of s h ≡ entries_of s a.front + 0
-  none_more = omega (arith, rests)
+  none_more = let n = rests.entries in omega (arith, n)
+
+  -- and no fault of the log's store
+  no_fault : (q : ℕ) → log_faults_of s q h ≡ log_faults_of s q a.front + 0
+  no_fault q = let n = rests.log_faults q in omega (arith, n)
 
   -- no backend serves the request
   pub turn_unserved : (c : Call) → c.tx ≡ 0 → c.reply ≡ Refused (bare NO_BACKEND) → Unserved p h c.request → Turn p s a c (record { front = h; least = a.least })
@@ -166,6 +191,8 @@ module _ (p : Placement) (s : ℕ) (a : Seen) (h : List Event) (legal : IsLegal 
         tx = inl tx;
         case = no_backend record { m = length h; moment = now; none = subst (λ (x : List Event). Unserved p x c.request) (sym (whole)) none; replied = replied; least = refl };
         entries = none_more;
+        tx_after = rests.tx;
+        log_faults = no_fault c.number;
       }
 
   -- the history has no room
@@ -188,6 +215,8 @@ module _ (p : Placement) (s : ℕ) (a : Seen) (h : List Event) (legal : IsLegal 
               least = refl;
             };
         entries = none_more;
+        tx_after = rests.tx;
+        log_faults = no_fault c.number;
       }
 
   -- a read that was answered at a position that the session owes and that no ended entry is past
@@ -213,11 +242,13 @@ module _ (p : Placement) (s : ℕ) (a : Seen) (h : List Event) (legal : IsLegal 
               replied = replied;
             };
         entries = none_more;
+        tx_after = rests.tx;
+        log_faults = no_fault c.number;
       }
 
 -- a read in which the last backend that serves it failed now, and the others since the session saw a
 pub turn_fault : (p : Placement) (s : ℕ) (a : Seen) (h : List Event) (b : ℕ) (c : Call) (select : Select) (mask tried : ℕ)
-    → IsLegal (h ++ ReadFailed s c.number b ∷ []) → IsPrefix a.front h → a.least ≤ length (log a.front) → entries_of s h ≡ entries_of s a.front
+    → IsLegal (h ++ ReadFailed s c.number b ∷ []) → IsPrefix a.front h → a.least ≤ length (log a.front) → Rests s a h
     → c.tx ≡ 0 → c.request ≡ request.Select select → c.reply ≡ Refused (record { code = READ_FAULT; a = mask; b = 0 })
     → ((k : ℕ) → has tried k ≡ true → HasFailed a.front h s c.number k)
     → ((k : ℕ) → (ServesAt p h c.request k → has mask k ≡ true) × (has mask k ≡ true → ServesAt p h c.request k))
@@ -228,6 +259,7 @@ turn_fault p s a h b c select mask tried legal longer owes rests tx is replied p
     let g : List Event = h ++ ev ∷ [] in
     let low : length a.front ≤ length h = prefix_length a.front h longer in
     let many : length g ≡ length h + 1 = length-append h (ev ∷ []) in
+    let same_log : log g ≡ log h = log-same h ev refl in
     let whole : take (length g) g ≡ g = take_whole g g (prefix_self g) in
     let same : (k : ℕ) → enabled (take (length g) g) k ≡ enabled h k = λ k. ap (λ x. enabled x k) whole ∙ enabled-push h ev k in
     let now : HasFailed a.front g s c.number b = record { k = length h; low = low; high = omega arith; is = get_seam h [] ev } in
@@ -256,5 +288,7 @@ turn_fault p s a h b c select mask tried legal longer owes rests tx is replied p
             replied = replied;
             least = refl;
           };
-      entries = let same_log : log g ≡ log h = log-same h ev refl in let n : entries_of s g ≡ entries_of s h = entries-same s h g same_log in omega (arith, n, rests);
+      entries = let n = entries-same s h g same_log ∙ rests.entries in omega (arith, n);
+      tx_after = ap (λ (l : List Entry). tx_of l s) same_log ∙ rests.tx;
+      log_faults = let n = log_faults-same h ev (λ t q. refl) s c.number ∙ rests.log_faults c.number in omega (arith, n);
     }

@@ -110,6 +110,20 @@ blames b (Marker name c) = false
 abbrev pub blame : List Event → ℕ → ℕ
 blame h b = count_by (blames b) h
 
+-- the log's store failed in the request of session s that has number q
+abbrev pub is_log_fault : ℕ → ℕ → Event → Bool
+is_log_fault s q (Sched e) = false
+is_log_fault s q (Ended failed starved) = false
+is_log_fault s q (ReadFailed t n b) = false
+is_log_fault s q (LogFailed t n) = t == s && n == q
+is_log_fault s q (Disabled b) = false
+is_log_fault s q (Enabled b) = false
+is_log_fault s q (Marker name b) = false
+
+-- how often it failed so
+abbrev pub log_faults_of : ℕ → ℕ → List Event → ℕ
+log_faults_of s q h = count_by (is_log_fault s q) h
+
 abbrev pub marked : Event → Option (List ℕ)
 marked (Sched e) = None
 marked (Ended failed starved) = None

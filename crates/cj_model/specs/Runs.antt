@@ -18,7 +18,7 @@ use Rattle.cj_model.specs.declared.moves.Moved.TheVariants as moved
 use Rattle.cj_model.specs.declared.moves.OpenRead.{OpenRead}
 use Rattle.cj_model.specs.declared.moves.OpenSession.{OpenSession}
 use Rattle.cj_model.specs.Plain.{act_of, request_of}
-use Rattle.cj_model.specs.Histories.{has, log, done, free, opened, enabled, room}
+use Rattle.cj_model.specs.Histories.{has, log, done, free, opened, enabled, room, log_faults_of}
 use Rattle.cj_model.specs.Legality.{IsWritten, user_limit}
 use Rattle.cj_model.specs.Answering.{Served}
 use Rattle.cj_model.specs.Placements.{Placement}
@@ -145,6 +145,8 @@ pub record IsSeenBy (p : Placement) (a : Seen) (h : List Event) (s : ℕ) (x : O
   -- no entry of its own is open, and it has no new one
   pub rests : is_by s (opened h) ≡ false → entries_of s h ≡ entries_of s a.front
   pub reads : TriedSince a.front h s x
+  -- the log's store failed in none of its requests
+  pub log_faults : (q : ℕ) → log_faults_of s q h ≡ log_faults_of s q a.front
 
 -- Session s has seen a at its last reply, or has not begun.
 pub record IsBetween (a : Seen) (c : Core) (s : ℕ) : Type 0 where

@@ -12,7 +12,7 @@ use Rattle.cj_model.specs.declared.event.Event.{Event}
 use Rattle.cj_model.specs.declared.moves.OpenSession.{OpenSession}
 use Rattle.cj_model.specs.Tables.{Rises}
 use Rattle.cj_model.specs.Placements.{Placement, part}
-use Rattle.cj_model.specs.Histories.{has, log, done, free, opened, enabled, at}
+use Rattle.cj_model.specs.Histories.{has, log, done, free, opened, enabled, log_faults_of, at}
 use Rattle.cj_model.specs.Legality.{IsLegal, user_limit}
 use Rattle.cj_model.specs.Cores.{Core, position_at, session_of, session_limit}
 
@@ -57,6 +57,8 @@ pub record IsSound (c : Core) : Type 0 where
   pub few : length c.sessions ≤ session_limit
   pub numbers : c.greatest ≤ 2 ^ 62
   pub known : All (λ (e : Entry). e.session ≤ c.greatest) (log c.history)
+  -- the log's store failed for no session that has no number yet
+  pub log_faults : (s q : ℕ) → c.greatest < s → log_faults_of s q c.history ≡ 0
   -- the session of the open entry is open
   pub waits : (e : Entry) → opened c.history ≡ Some e → is_some (session_of c.sessions e.session) ≡ true
 

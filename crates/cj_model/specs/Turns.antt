@@ -6,6 +6,7 @@ use mathlib.Core.List.{IsPrefix}
 use Rattle.cj_model.specs.declared.request.Request.{Request}
 use Rattle.cj_model.specs.declared.request.Request.TheVariants as request
 use Rattle.cj_model.specs.declared.request.Act.{Act}
+use Rattle.cj_model.specs.declared.request.Act.TheVariants as act
 use Rattle.cj_model.specs.declared.request.Entry.{Entry}
 use Rattle.cj_model.specs.declared.select.Select.{Select}
 use Rattle.cj_model.specs.declared.answer.Asked.{Asked}
@@ -19,7 +20,7 @@ use Rattle.cj_model.specs.Changes.{bare}
 use Rattle.cj_model.specs.Asks.{ask}
 use Rattle.cj_model.specs.Plain.{act_of}
 use Rattle.cj_model.specs.Placements.{Placement}
-use Rattle.cj_model.specs.Histories.{has, log, done, free, room, at, tx_of}
+use Rattle.cj_model.specs.Histories.{has, log, done, free, room, at, log_faults_of, tx_of}
 use Rattle.cj_model.specs.Legality.{IsLegal}
 use Rattle.cj_model.specs.Answering.{ServesAt, Served, Unserved, AnswersEntry}
 
@@ -152,6 +153,35 @@ schedules (log_fault x) = 0
 schedules (full x) = 0
 schedules (starved x) = 0
 
+-- the transaction that a session is in after its entry n, where it was in tx before: BEGIN opens one with the entry's number, and COMMIT and ROLLBACK end it
+abbrev pub next_tx_by : ℕ → ℕ → Act → ℕ
+next_tx_by n tx act.Begin = n
+next_tx_by n tx (act.Write w) = tx
+next_tx_by n tx (act.Create c) = tx
+next_tx_by n tx (act.Drop table) = tx
+next_tx_by n tx act.Commit = 0
+next_tx_by n tx act.Abort = 0
+
+-- the transaction that the session is in after the case, where it was in tx before: what schedules nothing leaves it
+abbrev pub next_tx : {p : Placement} {s : ℕ} {a : Seen} {c : Call} {z : Seen} → ℕ → Case p s a c z → ℕ
+next_tx {z = z} tx (scheduled x) = next_tx_by (length (log (take x.m z.front)) + 1) tx x.act
+next_tx tx (no_backend x) = tx
+next_tx tx (read x) = tx
+next_tx tx (read_fault x) = tx
+next_tx tx (log_fault x) = tx
+next_tx tx (full x) = tx
+next_tx tx (starved x) = tx
+
+-- how often the log's store fails in the case
+abbrev pub faults_in : {p : Placement} {s : ℕ} {a : Seen} {c : Call} {z : Seen} → Case p s a c z → ℕ
+faults_in (scheduled x) = 0
+faults_in (no_backend x) = 0
+faults_in (read x) = 0
+faults_in (read_fault x) = 0
+faults_in (log_fault x) = 1
+faults_in (full x) = 0
+faults_in (starved x) = 0
+
 pub record Turn (p : Placement) (s : ℕ) (a : Seen) (c : Call) (z : Seen) : Type 0 where
   pub legal : IsLegal z.front
   pub longer : IsPrefix a.front z.front
@@ -159,6 +189,9 @@ pub record Turn (p : Placement) (s : ℕ) (a : Seen) (c : Call) (z : Seen) : Typ
   pub tx : (c.tx ≡ 0) ⊎ (c.tx ≡ tx_of (log a.front) s)
   pub case : Case p s a c z
   pub entries : entries_of s z.front ≡ entries_of s a.front + schedules case
+  -- the session's transaction and the faults of the log's store in the request are as the case says
+  pub tx_after : tx_of (log z.front) s ≡ next_tx (tx_of (log a.front) s) case
+  pub log_faults : log_faults_of s c.number z.front ≡ log_faults_of s c.number a.front + faults_in case
 
 -- a chain of turns, each from where the last one led
 abbrev pub Chain : Placement → ℕ → Seen → List Call → Seen → Type 0
