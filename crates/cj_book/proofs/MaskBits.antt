@@ -1,7 +1,6 @@
 -- What a mask of 32 bits has after the operations of a processor.
-use Rattle.std.proofs.Common.{◌≡◌, ℕ, zero, suc, w32, ◌+◌, ◌-◌, ◌*◌, ◌^◌, ◌%◌, ◌<◌, ◌≤◌, ◌==◌, ◌&&◌, ◌||◌, not, true, false, refl, ap, sym, ◌∙◌, arith, ⊎_elim, bit_and, bit_or, min, max}
+use Rattle.std.proofs.Common.{◌≡◌, ℕ, zero, suc, w32, ◌-◌, ◌*◌, ◌^◌, ◌%◌, ◌<◌, ◌≤◌, ◌==◌, ◌&&◌, ◌||◌, not, false, refl, ap, sym, ◌∙◌, arith, ⊎_elim, bit_and, bit_or, min, max}
 use Rattle.std.specs.Int.{bit_at}
-use Rattle.std.proofs.Math.Bool.{and-false}
 use Rattle.std.proofs.lemmas.Bool.{cases_eq, cases_lt, eq-eqb, ne_eqb}
 use Rattle.std.proofs.lemmas.Nat.Bits.{bit_at_and, bit_at_or, bit_at_not, bit_at-lt, bit_at_above, bit_at-pow_same, bit_at-pow_other}
 use Rattle.std.proofs.lemmas.Nat.{or_lt, pow_below}

@@ -1,5 +1,5 @@
 -- What contracts see of a book, and when an event can't come into it.
-use Rattle.std.specs.Prelude.{◌≡◌, ℕ, ◌+◌, ◌<◌, ◌≤◌, true, false, List, [], ◌∷◌, ◌++◌, length, Result, Ok, Err, refl}
+use Rattle.std.specs.Prelude.{◌≡◌, ℕ, ◌<◌, ◌≤◌, true, false, List, [], ◌∷◌, ◌++◌, length, Result, Ok, Err, refl}
 use Rattle.std.specs.Coded.{Coded, code_by, coded×, coded_list, coded_ℕ}
 use Rattle.cj_model.specs.declared.request.Act.{Act}
 use Rattle.cj_model.specs.declared.event.Event.{Event}
@@ -42,6 +42,11 @@ pub record LacksRoom (b : BookState) (a : Act) (n : ℕ) : Type 0 where
   pub full : room b.history < 3
   pub events : n ≡ length b.history
 
+-- the history of n events has no room for one more
+pub record IsFull (b : BookState) (n : ℕ) : Type 0 where
+  pub full : room b.history < 1
+  pub events : n ≡ length b.history
+
 -- an entry of this act can be scheduled
 pub record CanSchedule (b : BookState) (a : Act) : Type 0 where
   pub is_free : free b.history ≡ true
@@ -54,12 +59,19 @@ Checks b a (Ok x) = CanSchedule b a
 Checks b a (Err (InProgress n)) = IsInProgress b n
 Checks b a (Err NoBackend) = HasNoBackend b a
 Checks b a (Err (HistoryFull n)) = LacksRoom b a n
-Checks b a (Err NoMemory) = CanSchedule b a
+Checks b a (Err NoMemory) = ⊥
 
--- whether there is room for one more event beside the end of an open entry
+-- whether there is room for one more event, beside those kept for the end of an open entry
 abbrev pub HasRoom : {T : Type 0} → BookState → Result T BookError → Type 0
 HasRoom b (Ok x) = 0 < room b.history
 HasRoom b (Err (InProgress n)) = ⊥
 HasRoom b (Err NoBackend) = ⊥
-HasRoom b (Err (HistoryFull n)) = (room b.history ≡ 0) × (n ≡ length b.history)
-HasRoom b (Err NoMemory) = 0 < room b.history
+HasRoom b (Err (HistoryFull n)) = IsFull b n
+HasRoom b (Err NoMemory) = ⊥
+
+-- want of room in the history, or of memory
+abbrev pub IsWant : BookError → Type 0
+IsWant (InProgress n) = ⊥
+IsWant NoBackend = ⊥
+IsWant (HistoryFull n) = Unit {0}
+IsWant NoMemory = Unit {0}

@@ -1,6 +1,6 @@
 //! The history, and what is kept of it.
 
-ghost use Rattle.std.specs.Prelude.{◌≡◌, ◌↔◌, ◌+◌, ◌-◌, ◌<◌, ◌≤◌, ℕ, true, false, [], ◌∷◌, ◌++◌, length, slice_get, vec_capacity, option_copied, Some, None, IsNone, IfSome, IfOk, OnOk, OnErr, IsErrOf, IsTrue};
+ghost use Rattle.std.specs.Prelude.{◌≡◌, ◌↔◌, ◌+◌, ◌-◌, ◌<◌, ◌≤◌, ℕ, true, false, [], ◌∷◌, ◌++◌, length, slice_get, vec_capacity, option_copied, Some, None, IsNone, IfSome, IfOk, IfErr, OnOk, OnErr, IsErrOf, IsTrue};
 ghost use Rattle.cj_model.specs.declared.request.Entry.{Entry};
 ghost use Rattle.cj_model.specs.Plain.{request_of};
 ghost use Rattle.cj_model.specs.Placements as placements;
@@ -9,7 +9,7 @@ ghost use Rattle.cj_model.specs.Histories as histories;
 ghost use Rattle.cj_model.specs.Histories.{has, log, free};
 ghost use Rattle.cj_model.specs.Answering.{Served, Unserved, is_target};
 ghost use Rattle.cj_model.specs.Sound.{IsLone};
-ghost use Rattle.cj_book.specs.Books.{with_event, IsInProgress, HasNoBackend, LacksRoom, CanSchedule, Checks, HasRoom};
+ghost use Rattle.cj_book.specs.Books.{with_event, IsInProgress, HasNoBackend, LacksRoom, CanSchedule, Checks, IsFull, HasRoom, IsWant};
 ghost use Rattle.cj_book.specs.Kept as kept;
 
 use crate::error::BookError;
@@ -170,7 +170,8 @@ impl Book {
 
     /// The mask of the enabled backends.
     pub fn enabled(&self) -> u32
-        ensures { (b : ℕ) → has result b ≡ histories.enabled self.now.history b }
+        ensures mask { (b : ℕ) → has result b ≡ histories.enabled self.now.history b }
+        ensures below { (b : ℕ) → has result b ≡ true → b < self.now.backends }
     {
         self.enabled
     }
@@ -178,7 +179,7 @@ impl Book {
     /// The mask of the targets of the open entry, which is outside a transaction; 0 where none is open.
     pub fn targets(&self) -> u32
         ensures none { free self.now.history ≡ true → result ≡ 0 }
-        ensures open { (e : Entry) → histories.opened self.now.history ≡ Some e → IsLone e e.act → (b : ℕ) → (has result b ≡ true) ↔ is_target (everywhere self.now.backends) self.now.history e b }
+        ensures of_opened { (e : Entry) → histories.opened self.now.history ≡ Some e → IsLone e e.act → (b : ℕ) → (has result b ≡ true) ↔ is_target (everywhere self.now.backends) self.now.history e b }
     {
         if self.is_free() { 0 } else { self.enabled }
     }
@@ -207,8 +208,7 @@ impl Book {
     }
 
     fn check_schedule(&self, act: &Act) -> Result<(), BookError>
-        ensures checks { Checks self.now act.now result }
-        ensures memory { ¬ IsErrOf result BookError.NoMemory }
+        ensures { Checks self.now act.now result }
     {
         if let Some(n) = self.open_entry() {
             return Err(BookError::InProgress(n));
@@ -223,7 +223,7 @@ impl Book {
     }
 
     fn check_room(&self) -> Result<(), BookError>
-        ensures room { HasRoom self.now result }
+        ensures { HasRoom self.now result }
     {
         if self.room() == 0 {
             return Err(BookError::HistoryFull(self.events()));
@@ -267,7 +267,9 @@ impl Book {
         requires below { b < self.old.backends }
         requires is_enabled { histories.enabled self.old.history b ≡ true }
         ensures ok { OnOk result (self.new ≡ with_event self.old (Event.Disabled b)) }
-        ensures room { HasRoom self.old result }
+        ensures space { OnOk result (0 < histories.room self.old.history) }
+        ensures full { (n : ℕ) → IsErrOf result (BookError.HistoryFull n) ↔ IsFull self.old n }
+        ensures want { IfErr result IsWant }
         ensures err { OnErr result (self.new ≡ self.old) }
     {
         self.check_room()?;
@@ -281,7 +283,9 @@ impl Book {
         requires below { b < self.old.backends }
         requires is_disabled { histories.enabled self.old.history b ≡ false }
         ensures ok { OnOk result (self.new ≡ with_event self.old (Event.Enabled b)) }
-        ensures room { HasRoom self.old result }
+        ensures space { OnOk result (0 < histories.room self.old.history) }
+        ensures full { (n : ℕ) → IsErrOf result (BookError.HistoryFull n) ↔ IsFull self.old n }
+        ensures want { IfErr result IsWant }
         ensures err { OnErr result (self.new ≡ self.old) }
     {
         self.check_room()?;
@@ -293,7 +297,9 @@ impl Book {
     /// A backend failed in a session's read, also while an entry is open.
     pub fn read_failed(&mut self, session: u64, seq: u64, b: u8) -> Result<(), BookError>
         ensures ok { OnOk result (self.new ≡ with_event self.old (Event.ReadFailed session seq b)) }
-        ensures room { HasRoom self.old result }
+        ensures space { OnOk result (0 < histories.room self.old.history) }
+        ensures full { (n : ℕ) → IsErrOf result (BookError.HistoryFull n) ↔ IsFull self.old n }
+        ensures want { IfErr result IsWant }
         ensures err { OnErr result (self.new ≡ self.old) }
     {
         self.check_room()?;
