@@ -62,6 +62,7 @@ entries_sched h places entries new as_many have i =
 -- ---- a book with one more event
 
 module _ (n : ℕ) (h : List Event) (places : List ℕ) (count on cap : ℕ) (k : Keeps n h places count on cap) where
+  -- an entry that is scheduled
   pub keeps_sched : (e : Entry) (cap' : ℕ) → free h ≡ true → 3 ≤ room h → length (h ++ Sched e ∷ []) + 1 ≤ cap' → Keeps n (h ++ Sched e ∷ []) (places ++ length h ∷ []) count on cap'
   keeps_sched e cap' fr space spare =
       let at_end : done h ≡ length (log h) = eqb-true _ _ fr in
@@ -85,7 +86,7 @@ module _ (n : ℕ) (h : List Event) (places : List ℕ) (count on cap : ℕ) (k 
       }
 
   -- an event that leaves the log and the ends as they are
-  pub keeps_same : (new : Event) (on' cap' : ℕ) → scheduled new ≡ None → is_ended new ≡ false → 0 < room h → ((b : ℕ) → has on' b ≡ enabled (h ++ new ∷ []) b)
+  keeps_same : (new : Event) (on' cap' : ℕ) → scheduled new ≡ None → is_ended new ≡ false → 0 < room h → ((b : ℕ) → has on' b ≡ enabled (h ++ new ∷ []) b)
       → ((b : ℕ) → enabled (h ++ new ∷ []) b ≡ true → b < n) → length (h ++ new ∷ []) + 1 ≤ cap' → Keeps n (h ++ new ∷ []) places count on' cap'
   keeps_same new on' cap' no_entry no_end space mask below spare =
       let entries : log (h ++ new ∷ []) ≡ log h = log-same h new no_entry in
@@ -106,6 +107,7 @@ module _ (n : ℕ) (h : List Event) (places : List ℕ) (count on cap : ℕ) (k 
         spare = omega arith;
       }
 
+  -- the end of the open entry
   pub keeps_ended : (f s cap' : ℕ) → on < 2 ^ 32 → f < 2 ^ 32 → s < 2 ^ 32 → free h ≡ false → cap ≤ cap'
       → Keeps n (h ++ Ended f s ∷ []) places (count + 1) (bit_and on (4294967295 - bit_or f s)) cap'
   keeps_ended f s cap' fits p q fr more =
@@ -131,6 +133,7 @@ module _ (n : ℕ) (h : List Event) (places : List ℕ) (count on cap : ℕ) (k 
         spare = omega arith;
       }
 
+  -- a backend is disabled
   pub keeps_disabled : (b cap' : ℕ) → on < 2 ^ 32 → b < n → 0 < room h → length (h ++ Disabled b ∷ []) + 1 ≤ cap' → Keeps n (h ++ Disabled b ∷ []) places count (bit_and on (4294967295 - 1 * 2 ^ b % 4294967296)) cap'
   keeps_disabled b cap' fits lt space spare =
       let few : n ≤ 16 = k.backend_count.1 in
@@ -139,6 +142,7 @@ module _ (n : ℕ) (h : List Event) (places : List ℕ) (count on cap : ℕ) (k 
       (λ x is. k.below x (and_parts (enabled h x) (not (x == b)) (sym (enabled-push h (Disabled b) x) ∙ is)).0)
       spare
 
+  -- a backend is enabled
   pub keeps_enabled : (b cap' : ℕ) → b < n → 0 < room h → length (h ++ Enabled b ∷ []) + 1 ≤ cap' → Keeps n (h ++ Enabled b ∷ []) places count (bit_or on (1 * 2 ^ b % 4294967296)) cap'
   keeps_enabled b cap' lt space spare =
       let few : n ≤ 16 = k.backend_count.1 in
@@ -151,6 +155,7 @@ module _ (n : ℕ) (h : List Event) (places : List ℕ) (count on cap : ℕ) (k 
       (or_cases (enabled h x) (x == b) (sym (enabled-push h (Enabled b) x) ∙ is)))
       spare
 
+  -- a read failed
   pub keeps_read_failed : (s q b cap' : ℕ) → 0 < room h → length (h ++ ReadFailed s q b ∷ []) + 1 ≤ cap' → Keeps n (h ++ ReadFailed s q b ∷ []) places count on cap'
   keeps_read_failed s q b cap' space spare =
       let same : (x : ℕ) → enabled (h ++ ReadFailed s q b ∷ []) x ≡ enabled h x = λ x. enabled-push h (ReadFailed s q b) x in
