@@ -5,5 +5,6 @@ pub mod Finished
 pub mod Fronts
 pub mod Leads
 pub mod Names
+pub mod OneReading
 pub mod Sound
 pub mod Steps

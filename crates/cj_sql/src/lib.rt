@@ -4,10 +4,12 @@
 
 mod create;
 mod insert;
+mod laws;
 mod list;
 mod request;
 mod select;
 mod tokens;
 
 pub use cj_lex::SqlError;
+pub use laws::texts_have_one_reading;
 pub use request::read;

@@ -1,2 +1,3 @@
-pub mod Limits
 pub mod Answering
+pub mod Limits
+pub mod OneTalk

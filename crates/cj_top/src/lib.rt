@@ -1,10 +1,12 @@
 //! The program as one call over what it is handed.
 #![tactic(auto)]
 
+mod laws;
 mod program;
 mod send;
 mod session;
 
+pub use laws::bytes_have_one_talk;
 pub use program::{pipe, run};
 pub use session::Session;
 
