@@ -17,6 +17,7 @@ pub mod Placements
 pub mod Plain
 pub mod Replies
 pub mod Runs
+pub mod Scripts
 pub mod Session
 pub mod Sound
 pub mod Steps
