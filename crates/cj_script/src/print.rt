@@ -5,7 +5,9 @@ ghost use Rattle.std.specs.List.{flat_map};
 ghost use Rattle.cj_model.specs.Scripts.{did_text, ended, moved_lines, moved_text, not_now_text, refusal_text, reply_text, row_text, rows_under};
 ghost use Rattle.cj_model.specs.Scripts as scripts;
 
-use cj_model::{Answer, Did, Made, Moved, Names, NoMemory, Outcome, Refusal, Reply, Row, Value, Why};
+use cj_model::{
+    Answer, Did, Made, Moved, Names, NoMemory, Outcome, Refusal, Reply, Row, Value, Why,
+};
 use cj_print::write_value;
 use std::alloc::Global;
 
