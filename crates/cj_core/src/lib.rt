@@ -1,0 +1,5 @@
+//! The core of the controller: a history, the cells of its backends and its open sessions, under
+//! every list of moves.
+#![tactic(auto)]
+
+mod sessions;
