@@ -1,1 +1,4 @@
+pub mod CellStandIn
+pub mod Kept
 pub mod Places
+pub mod Worlds
