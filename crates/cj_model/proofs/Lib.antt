@@ -1,9 +1,16 @@
 pub mod Columns
 pub mod DatabaseLaws
+pub mod Effects
 pub mod FaultLaws
 pub mod Fields
+pub mod Growth
+pub mod Masks
 pub mod Names
+pub mod Now
 pub mod OneReading
+pub mod Pushed
 pub mod RisingLaws
 pub mod SessionLaws
+pub mod Sessions
+pub mod Soundness
 pub mod TableLaws

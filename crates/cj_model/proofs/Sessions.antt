@@ -1,0 +1,213 @@
+-- Open sessions: found by their numbers, changed, added and removed.
+use Rattle.std.proofs.Common.{◌≡◌, ◌≢◌, ℕ, ◌==◌, ◌<◌, ◌≤◌, Bool, true, false, not, cond, List, [], ◌∷◌, ◌++◌, length, get_or, filter, All, Option, None, Some, unwrap_or, option_map, is_some, refl, ap, sym, ◌∙◌, subst, arith, ⊎_elim}
+use Rattle.std.proofs.lemmas.Bool.{cases_eq, eqb-true, eqb-false, eq-eqb, ne_eqb}
+use Rattle.std.proofs.lemmas.List.{length-map}
+use Rattle.std.proofs.lemmas.List.Elements.{All-nil, All-cons, All-head, All-tail, All-push, All-filter, All-weaker}
+use Rattle.std.proofs.lemmas.List.Folds.{find-append}
+use Rattle.std.specs.Option.{option_or}
+use Rattle.std.specs.Ordering.{nat_cmp}
+use Rattle.std.specs.Cmp.{nat_cmp_is}
+use Rattle.std.proofs.lemmas.Cmp.{ranked}
+use Rattle.std.specs.declared.cmp.Ordering.TheVariants.{Less}
+use Rattle.cj_model.specs.declared.moves.OpenSession.{OpenSession}
+use Rattle.cj_model.specs.Tables.{Rises}
+use Rattle.cj_model.specs.Cores.{Core, session_of, session_at, fresh_session, with_session}
+use Rattle.cj_model.specs.Sound.{by_number}
+
+-- ---- the session of a number
+
+-- session_at, by what is found
+pub session_at-is : (c : Core) (s : ℕ) (o : Option OpenSession) → session_of c.sessions s ≡ o → session_at c s ≡ unwrap_or o (fresh_session s [])
+session_at-is c s None is = rw is refl
+session_at-is c s (Some x) is = rw is refl
+
+-- what is found has the number
+pub found_number : (ss : List OpenSession) (s : ℕ) (x : OpenSession) → session_of ss s ≡ Some x → x.number ≡ s
+found_number [] s x is = absurd (cc is)
+found_number (y ∷ ss) s x is = one (y.number == s) refl is (found_number ss s x)
+  where
+    one : (b : Bool) → (y.number == s) ≡ b → cond b (Some y) (session_of ss s) ≡ Some x → (session_of ss s ≡ Some x → x.number ≡ s) → x.number ≡ s
+    one true e found rest = let same : y ≡ x = cc found in subst (λ (w : OpenSession). w.number ≡ s) same (eqb-true _ _ e)
+    one false e found rest = rest found
+
+-- and what holds of all
+pub found_all : (P : OpenSession → Type 0) (ss : List OpenSession) (s : ℕ) (x : OpenSession) → All P ss → session_of ss s ≡ Some x → P x
+found_all P [] s x all is = absurd (cc is)
+found_all P (y ∷ ss) s x all is = one (y.number == s) is (found_all P ss s x (All-tail P y ss all))
+  where
+    one : (b : Bool) → cond b (Some y) (session_of ss s) ≡ Some x → (session_of ss s ≡ Some x → P x) → P x
+    one true found rest = let same : y ≡ x = cc found in subst P same (All-head P y ss all)
+    one false found rest = rest found
+
+-- none is found where no session has the number
+pub found_none : (ss : List OpenSession) (s : ℕ) → All (λ (x : OpenSession). x.number ≢ s) ss → session_of ss s ≡ None
+found_none [] s all = refl
+found_none (y ∷ ss) s all =
+    rw (ne_eqb y.number s (All-head (λ (x : OpenSession). x.number ≢ s) y ss all)) (found_none ss s (All-tail (λ (x : OpenSession). x.number ≢ s) y ss all))
+
+-- the session of an open number
+pub found_open : (c : Core) (s : ℕ) → is_some (session_of c.sessions s) ≡ true → session_of c.sessions s ≡ Some (session_at c s)
+found_open c s here = one (session_of c.sessions s) refl here
+  where
+    one : (o : Option OpenSession) → session_of c.sessions s ≡ o → is_some o ≡ true → session_of c.sessions s ≡ Some (session_at c s)
+    one None is on = absurd (cc on)
+    one (Some x) is on = is ∙ ap (λ y. Some y) (sym (session_at-is c s (Some x) is))
+
+-- where numbers rise, each session is found by its own
+pub found_itself : (ss : List OpenSession) → Rises by_number ss → All (λ (x : OpenSession). session_of ss x.number ≡ Some x) ss
+found_itself [] r = All-nil (λ (x : OpenSession). session_of [] x.number ≡ Some x)
+found_itself (y ∷ ss) r =
+    All-cons (λ (x : OpenSession). session_of (y ∷ ss) x.number ≡ Some x) y ss (rw (eq-eqb y.number y.number refl) refl) (λ k d lt. later (get_or ss k d) (r.0 k d lt) (found_itself ss r.1 k d lt))
+  where
+    later : (x : OpenSession) → by_number y x ≡ Less → session_of ss x.number ≡ Some x → session_of (y ∷ ss) x.number ≡ Some x
+    later x less is = let lt : y.number < x.number = ranked y.number x.number Less (sym less) in rw (ne_eqb y.number x.number (omega arith)) is
+
+-- ---- one session changed, by what keeps its number
+
+module _ (f : OpenSession → OpenSession) (keeps : (x : OpenSession) → (f x).number ≡ x.number) where
+  -- the session that is changed
+  pub session_of-same : (ss : List OpenSession) (s : ℕ) → session_of (with_session ss s f) s ≡ option_map f (session_of ss s)
+  session_of-same [] s = refl
+  session_of-same (y ∷ ss) s = one (y.number == s) refl (session_of-same ss s)
+    where
+      one : (b : Bool) → (y.number == s) ≡ b → session_of (with_session ss s f) s ≡ option_map f (session_of ss s)
+          → cond ((cond b (f y) y).number == s) (Some (cond b (f y) y)) (session_of (with_session ss s f) s) ≡ option_map f (cond b (Some y) (session_of ss s))
+      one true e rest = rw (ap (λ n. n == s) (keeps y) ∙ e) refl
+      one false e rest = rw e rest
+
+  -- another one
+  pub session_of-other : (ss : List OpenSession) (s t : ℕ) → t ≢ s → session_of (with_session ss s f) t ≡ session_of ss t
+  session_of-other [] s t ne = refl
+  session_of-other (y ∷ ss) s t ne = one (y.number == s) refl (session_of-other ss s t ne)
+    where
+      one : (b : Bool) → (y.number == s) ≡ b → session_of (with_session ss s f) t ≡ session_of ss t
+          → cond ((cond b (f y) y).number == t) (Some (cond b (f y) y)) (session_of (with_session ss s f) t) ≡ cond (y.number == t) (Some y) (session_of ss t)
+      one true e rest =
+          let is : y.number ≡ s = eqb-true _ _ e in
+          let off : (y.number == t) ≡ false = ne_eqb _ _ (omega arith) in
+          rw (ap (λ n. n == t) (keeps y) ∙ off, off) rest
+      one false e rest = ap (cond (y.number == t) (Some y)) rest
+
+  -- an open session stays open, and no other opens
+  pub is_open-with : (ss : List OpenSession) (s t : ℕ) → is_some (session_of (with_session ss s f) t) ≡ is_some (session_of ss t)
+  is_open-with ss s t =
+      ⊎_elim (λ (e : t ≡ s). rw (e, session_of-same ss s) (some_map (session_of ss s))) (λ (ne : t ≡ s → ⊥). ap is_some (session_of-other ss s t ne)) (cases_eq t s)
+    where
+      some_map : (o : Option OpenSession) → is_some (option_map f o) ≡ is_some o
+      some_map None = refl
+      some_map (Some x) = refl
+
+-- what holds of each after one was changed
+pub all_with : (P Q : OpenSession → Type 0) (f : OpenSession → OpenSession) (ss : List OpenSession) (s : ℕ) → ((x : OpenSession) → x.number ≡ s → P x → Q (f x)) → ((x : OpenSession) → x.number ≢ s → P x → Q x)
+    → All P ss → All Q (with_session ss s f)
+all_with P Q f [] s here there all = All-nil Q
+all_with P Q f (y ∷ ss) s here there all =
+    All-cons Q _ (with_session ss s f) (one (y.number == s) refl (All-head P y ss all)) (all_with P Q f ss s here there (All-tail P y ss all))
+  where
+    one : (b : Bool) → (y.number == s) ≡ b → P y → Q (cond b (f y) y)
+    one true e p = here y (eqb-true _ _ e) p
+    one false e p = there y (eqb-false _ _ e) p
+
+pub length_with : (f : OpenSession → OpenSession) (ss : List OpenSession) (s : ℕ) → length (with_session ss s f) ≡ length ss
+length_with f ss s = length-map ss (λ (x : OpenSession). cond (x.number == s) (f x) x)
+
+-- rising numbers still rise
+pub rises_with : (f : OpenSession → OpenSession) → ((x : OpenSession) → (f x).number ≡ x.number) → (ss : List OpenSession) (s : ℕ) → Rises by_number ss → Rises by_number (with_session ss s f)
+rises_with f keeps [] s r = tt
+rises_with f keeps (y ∷ ss) s r = (one (y.number == s), rises_with f keeps ss s r.1)
+  where
+    below : (n : ℕ) → All (λ (x : OpenSession). nat_cmp n x.number ≡ Less) ss → All (λ (x : OpenSession). nat_cmp n x.number ≡ Less) (with_session ss s f)
+    below n all = all_with (λ (x : OpenSession). nat_cmp n x.number ≡ Less) (λ (x : OpenSession). nat_cmp n x.number ≡ Less) f ss s (λ x e p. rw (keeps x) p) (λ x e p. p) all
+
+    one : (b : Bool) → All (λ (x : OpenSession). by_number (cond b (f y) y) x ≡ Less) (with_session ss s f)
+    one true = subst (λ (n : ℕ). All (λ (x : OpenSession). nat_cmp n x.number ≡ Less) (with_session ss s f)) (sym (keeps y)) (below y.number r.0)
+    one false = below y.number r.0
+
+-- ---- a session added, with a greater number
+
+pub session_of-push_same : (ss : List OpenSession) (y : OpenSession) → All (λ (x : OpenSession). x.number < y.number) ss → session_of (ss ++ y ∷ []) y.number ≡ Some y
+session_of-push_same ss y all =
+    let none : session_of ss y.number ≡ None = found_none ss y.number (All-weaker (λ (x : OpenSession). x.number < y.number) (λ (x : OpenSession). x.number ≢ y.number) (λ x lt. omega arith) ss all) in
+    find-append (λ (x : OpenSession). x.number == y.number) ss (y ∷ []) ∙ (rw none (rw (eq-eqb y.number y.number refl) refl))
+
+pub session_of-push_other : (ss : List OpenSession) (y : OpenSession) (t : ℕ) → t ≢ y.number → session_of (ss ++ y ∷ []) t ≡ session_of ss t
+session_of-push_other ss y t ne =
+    find-append (λ (x : OpenSession). x.number == t) ss (y ∷ []) ∙ rw (ne_eqb y.number t (omega arith)) (or_none (session_of ss t))
+  where
+    or_none : (o : Option OpenSession) → option_or o None ≡ o
+    or_none None = refl
+    or_none (Some x) = refl
+
+-- an open session stays open
+pub is_open-push : (ss : List OpenSession) (y : OpenSession) (t : ℕ) → is_some (session_of ss t) ≡ true → is_some (session_of (ss ++ y ∷ []) t) ≡ true
+is_open-push ss y t here = rw (find-append (λ (x : OpenSession). x.number == t) ss (y ∷ [])) (one (session_of ss t) (session_of (y ∷ []) t) here)
+  where
+    one : (o p : Option OpenSession) → is_some o ≡ true → is_some (option_or o p) ≡ true
+    one None p on = absurd (cc on)
+    one (Some x) p on = refl
+
+-- the session that is added, in a state
+pub session_at-pushed : (z : Core) (ss : List OpenSession) (y : OpenSession) → z.sessions ≡ ss ++ y ∷ [] → All (λ (x : OpenSession). x.number < y.number) ss → session_at z y.number ≡ y
+session_at-pushed z ss y is all = session_at-is z y.number (Some y) (ap (λ w. session_of w y.number) is ∙ session_of-push_same ss y all)
+
+pub rises_push : (ss : List OpenSession) (y : OpenSession) → All (λ (x : OpenSession). x.number < y.number) ss → Rises by_number ss → Rises by_number (ss ++ y ∷ [])
+rises_push [] y all r = (All-nil (λ (x : OpenSession). by_number y x ≡ Less), tt)
+rises_push (z ∷ ss) y all r = (
+  All-push (λ (x : OpenSession). by_number z x ≡ Less) ss y r.0 (sym (nat_cmp_is z.number y.number Less (All-head (λ (x : OpenSession). x.number < y.number) z ss all))),
+  rises_push ss y (All-tail (λ (x : OpenSession). x.number < y.number) z ss all) r.1,
+)
+
+-- ---- a session removed
+
+abbrev pub without : ℕ → List OpenSession → List OpenSession
+without s ss = filter (λ (x : OpenSession). not (x.number == s)) ss
+
+pub session_of-without_same : (ss : List OpenSession) (s : ℕ) → session_of (without s ss) s ≡ None
+session_of-without_same [] s = refl
+session_of-without_same (y ∷ ss) s = one (y.number == s) refl (session_of-without_same ss s)
+  where
+    one : (b : Bool) → (y.number == s) ≡ b → session_of (without s ss) s ≡ None → session_of (cond (not b) (y ∷ without s ss) (without s ss)) s ≡ None
+    one true e rest = rest
+    one false e rest = rw e rest
+
+pub session_of-without_other : (ss : List OpenSession) (s t : ℕ) → t ≢ s → session_of (without s ss) t ≡ session_of ss t
+session_of-without_other [] s t ne = refl
+session_of-without_other (y ∷ ss) s t ne = one (y.number == s) refl (session_of-without_other ss s t ne)
+  where
+    one : (b : Bool) → (y.number == s) ≡ b → session_of (without s ss) t ≡ session_of ss t
+        → session_of (cond (not b) (y ∷ without s ss) (without s ss)) t ≡ cond (y.number == t) (Some y) (session_of ss t)
+    one true e rest = let is : y.number ≡ s = eqb-true _ _ e in rw (ne_eqb y.number t (omega arith)) rest
+    one false e rest = ap (cond (y.number == t) (Some y)) rest
+
+pub rises_without : (ss : List OpenSession) (s : ℕ) → Rises by_number ss → Rises by_number (without s ss)
+rises_without [] s r = tt
+rises_without (y ∷ ss) s r = one (y.number == s) (rises_without ss s r.1)
+  where
+    one : (b : Bool) → Rises by_number (without s ss) → Rises by_number (cond (not b) (y ∷ without s ss) (without s ss))
+    one true rest = rest
+    one false rest = (All-filter (λ (x : OpenSession). not (x.number == s)) (λ (x : OpenSession). by_number y x ≡ Less) ss r.0, rest)
+
+pub length_without : (ss : List OpenSession) (s : ℕ) → length (without s ss) ≤ length ss
+length_without [] s = omega arith
+length_without (y ∷ ss) s = one (y.number == s) (length_without ss s)
+  where
+    one : (b : Bool) → length (without s ss) ≤ length ss → length (cond (not b) (y ∷ without s ss) (without s ss)) ≤ length (y ∷ ss)
+    one true rest = omega arith
+    one false rest = omega arith
+
+-- ---- in states
+
+module _ (c z : Core) (s : ℕ) where
+  -- the session that is changed, where it is open
+  pub session_at-same : (f : OpenSession → OpenSession) → ((x : OpenSession) → (f x).number ≡ x.number) → z.sessions ≡ with_session c.sessions s f → is_some (session_of c.sessions s) ≡ true
+      → session_at z s ≡ f (session_at c s)
+  session_at-same f keeps is here = one (session_of c.sessions s) refl here
+    where
+      one : (o : Option OpenSession) → session_of c.sessions s ≡ o → is_some o ≡ true → session_at z s ≡ f (session_at c s)
+      one None e on = absurd (cc on)
+      one (Some x) e on =
+          session_at-is z s (Some (f x)) (ap (λ w. session_of w s) is ∙ (session_of-same f keeps c.sessions s ∙ ap (option_map f) e)) ∙ ap f (sym (session_at-is c s (Some x) e))
+
+  -- one of another number, and each where the sessions stay
+  pub session_at-other : session_of z.sessions s ≡ session_of c.sessions s → session_at z s ≡ session_at c s
+  session_at-other same = session_at-is z s (session_of c.sessions s) same ∙ sym (session_at-is c s (session_of c.sessions s) refl)
