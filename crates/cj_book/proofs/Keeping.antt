@@ -1,0 +1,157 @@
+-- A book with one more event.
+use Rattle.std.proofs.Common.{◌≡◌, ◌≢◌, ◌⊎◌, ℕ, ◌+◌, ◌-◌, ◌*◌, ◌^◌, ◌%◌, ◌<◌, ◌≤◌, ◌==◌, ◌&&◌, ◌||◌, not, true, false, List, [], ◌∷◌, ◌++◌, length, get_or, slice_get, option_and_then, Option, None, Some, bit_and, bit_or, refl, ap, sym, ◌∙◌, subst, arith, length-append, ⊎_elim}
+use Rattle.std.proofs.lemmas.Bool.{cases_eq, eqb-true, eqb-false, and_parts, or_cases}
+use Rattle.std.proofs.lemmas.List.{get_or_append_left}
+use Rattle.std.proofs.lemmas.Option.{slice_get_cases, slice_get_past, slice_get_within, slice_get-get_or, option_and_then_some}
+use Rattle.cj_model.specs.declared.request.Entry.{Entry}
+use Rattle.cj_model.specs.declared.event.Event.{Event}
+use Rattle.cj_model.specs.declared.event.Event.TheVariants.{Sched, Ended, ReadFailed, Disabled, Enabled}
+use Rattle.cj_model.specs.Histories.{has, scheduled, is_ended, log, done, free, enabled, room}
+use Rattle.cj_model.proofs.Pushed.{get_seam, get_left, enabled-push, log-sched, log-same, done-same, done-ended}
+use Rattle.cj_book.specs.Kept.{Keeps, entry_at}
+use Rattle.cj_book.proofs.MaskBits.{has_without, has_cleared, has_set}
+
+-- ---- the entries at their places
+
+-- one more event leaves the entry at a place
+entry_stays : (h : List Event) (new : Event) (place : Option ℕ) (e : Entry) → option_and_then (entry_at h) place ≡ Some e → option_and_then (entry_at (h ++ new ∷ [])) place ≡ Some e
+entry_stays h new None e is = absurd (cc is)
+entry_stays h new (Some p) e is = option_and_then_some scheduled (slice_get h p) e is (λ d there is_sched. rw (get_left h (new ∷ []) p d there) is_sched)
+
+-- one more place leaves those before it
+place_stays : (places : List ℕ) (new i : ℕ) → i < length places → slice_get (places ++ new ∷ []) i ≡ slice_get places i
+place_stays places new i lt =
+    let l = length-append places (new ∷ []) in
+    slice_get-get_or (places ++ new ∷ []) i 0 (omega arith) ∙ (ap (λ p. Some p) (get_or_append_left places (new ∷ []) 0 i lt) ∙ sym (slice_get-get_or places i 0 lt))
+
+-- the entries of a history at these places
+abbrev HaveEntries : List Event → List ℕ → List Entry → Type 0
+HaveEntries h places entries = (i : ℕ) → option_and_then (entry_at h) (slice_get places i) ≡ slice_get entries i
+
+-- an event that schedules nothing
+entries_same : (h : List Event) (places : List ℕ) (entries : List Entry) (new : Event) → length places ≡ length entries → HaveEntries h places entries → HaveEntries (h ++ new ∷ []) places entries
+entries_same h places entries new as_many have i =
+    ⊎_elim
+    (λ (q : (e : Entry) × (i < length entries) × (slice_get entries i ≡ Some e) × (get_or entries i e ≡ e)). entry_stays h new (slice_get places i) q.0 (have i ∙ q.2) ∙ sym q.2)
+    (λ (q : (length entries ≤ i) × (slice_get entries i ≡ None)). let past : slice_get places i ≡ None = slice_get_past places i (omega arith) in rw past (sym q.1))
+    (slice_get_cases entries i).1
+
+-- an entry that is scheduled
+entries_sched : (h : List Event) (places : List ℕ) (entries : List Entry) (new : Entry) → length places ≡ length entries → HaveEntries h places entries
+    → HaveEntries (h ++ Sched new ∷ []) (places ++ length h ∷ []) (entries ++ new ∷ [])
+entries_sched h places entries new as_many have i =
+    ⊎_elim
+    (λ (q : (e : Entry) × (i < length entries) × (slice_get entries i ≡ Some e) × (get_or entries i e ≡ e)).
+       let stays : slice_get (places ++ length h ∷ []) i ≡ slice_get places i = place_stays places (length h) i (omega arith) in
+       rw stays (entry_stays h (Sched new) (slice_get places i) q.0 (have i ∙ q.2)) ∙ sym (get_left entries (new ∷ []) i q.0 q.2))
+    (λ (q : (length entries ≤ i) × (slice_get entries i ≡ None)).
+       ⊎_elim
+       (λ (last : i ≡ length entries).
+          let place : slice_get (places ++ length h ∷ []) i ≡ Some (length h) = ap (λ n. slice_get (places ++ length h ∷ []) n) (last ∙ sym as_many) ∙ get_seam places [] (length h) in
+          let entry : slice_get (entries ++ new ∷ []) i ≡ Some new = ap (λ n. slice_get (entries ++ new ∷ []) n) last ∙ get_seam entries [] new in
+          rw (place, entry) (rw (get_seam h [] (Sched new)) refl))
+       (λ (ne : i ≡ length entries → ⊥).
+          let l = length-append places (length h ∷ []) in
+          let m = length-append entries (new ∷ []) in
+          let far : i ≢ length entries = ne in
+          let place : slice_get (places ++ length h ∷ []) i ≡ None = slice_get_past (places ++ length h ∷ []) i (omega arith) in
+          rw place (sym (slice_get_past (entries ++ new ∷ []) i (omega arith))))
+       (cases_eq i (length entries)))
+    (slice_get_cases entries i).1
+
+-- ---- a book with one more event
+
+module _ (n : ℕ) (h : List Event) (places : List ℕ) (count on cap : ℕ) (k : Keeps n h places count on cap) where
+  pub keeps_sched : (e : Entry) (cap' : ℕ) → free h ≡ true → 3 ≤ room h → length (h ++ Sched e ∷ []) + 1 ≤ cap' → Keeps n (h ++ Sched e ∷ []) (places ++ length h ∷ []) count on cap'
+  keeps_sched e cap' fr space spare =
+      let at_end : done h ≡ length (log h) = eqb-true _ _ fr in
+      let entries : log (h ++ Sched e ∷ []) ≡ log h ++ e ∷ [] = log-sched h e in
+      let more : length (log (h ++ Sched e ∷ [])) ≡ length (log h) + 1 = ap length entries ∙ length-append (log h) (e ∷ []) in
+      let ends : done (h ++ Sched e ∷ []) ≡ done h = done-same h (Sched e) refl in
+      let places_more = length-append places (length h ∷ []) in
+      let events = length-append h (Sched e ∷ []) in
+      let as_many : length places ≡ length (log h) = k.entry_count in
+      let same : (b : ℕ) → enabled (h ++ Sched e ∷ []) b ≡ enabled h b = λ b. enabled-push h (Sched e) b in
+      record {
+        backend_count = k.backend_count;
+        entry_count = omega arith;
+        entries = λ i. rw entries (entries_sched h places (log h) e as_many k.entries i);
+        ends = k.ends ∙ sym ends;
+        one_open = (omega arith, omega arith);
+        mask = λ b. k.mask b ∙ sym (same b);
+        below = λ b is. k.below b (sym (same b) ∙ is);
+        short = omega arith;
+        spare = omega arith;
+      }
+
+  -- an event that leaves the log and the ends as they are
+  pub keeps_same : (new : Event) (on' cap' : ℕ) → scheduled new ≡ None → is_ended new ≡ false → 0 < room h → ((b : ℕ) → has on' b ≡ enabled (h ++ new ∷ []) b)
+      → ((b : ℕ) → enabled (h ++ new ∷ []) b ≡ true → b < n) → length (h ++ new ∷ []) + 1 ≤ cap' → Keeps n (h ++ new ∷ []) places count on' cap'
+  keeps_same new on' cap' no_entry no_end space mask below spare =
+      let entries : log (h ++ new ∷ []) ≡ log h = log-same h new no_entry in
+      let as_many : length (log (h ++ new ∷ [])) ≡ length (log h) = ap length entries in
+      let ends : done (h ++ new ∷ []) ≡ done h = done-same h new no_end in
+      let events = length-append h (new ∷ []) in
+      let lo : done h ≤ length (log h) = k.one_open.0 in
+      let hi : length (log h) ≤ done h + 1 = k.one_open.1 in
+      record {
+        backend_count = k.backend_count;
+        entry_count = k.entry_count ∙ sym as_many;
+        entries = λ i. rw entries (entries_same h places (log h) new k.entry_count k.entries i);
+        ends = k.ends ∙ sym ends;
+        one_open = (omega arith, omega arith);
+        mask = mask;
+        below = below;
+        short = omega arith;
+        spare = omega arith;
+      }
+
+  pub keeps_ended : (f s cap' : ℕ) → on < 2 ^ 32 → f < 2 ^ 32 → s < 2 ^ 32 → free h ≡ false → cap ≤ cap'
+      → Keeps n (h ++ Ended f s ∷ []) places (count + 1) (bit_and on (4294967295 - bit_or f s)) cap'
+  keeps_ended f s cap' fits p q fr more =
+      let entries : log (h ++ Ended f s ∷ []) ≡ log h = log-same h (Ended f s) refl in
+      let as_many : length (log (h ++ Ended f s ∷ [])) ≡ length (log h) = ap length entries in
+      let ends : done (h ++ Ended f s ∷ []) ≡ done h + 1 = done-ended h f s in
+      let events = length-append h (Ended f s ∷ []) in
+      let lo : done h ≤ length (log h) = k.one_open.0 in
+      let hi : length (log h) ≤ done h + 1 = k.one_open.1 in
+      let is_open : done h ≢ length (log h) = eqb-false _ _ fr in
+      let room : length h + 2 * (length (log h) - done h) ≤ 2 ^ 62 = k.short in
+      let spare : length h + (length (log h) - done h) ≤ cap = k.spare in
+      let counted : count ≡ done h = k.ends in
+      record {
+        backend_count = k.backend_count;
+        entry_count = k.entry_count ∙ sym as_many;
+        entries = λ i. rw entries (entries_same h places (log h) (Ended f s) k.entry_count k.entries i);
+        ends = omega arith;
+        one_open = (omega arith, omega arith);
+        mask = λ b. has_without on f s b fits p q ∙ (ap (λ x. x && not (has f b || has s b)) (k.mask b) ∙ sym (enabled-push h (Ended f s) b));
+        below = λ b is. k.below b (and_parts (enabled h b) (not (has f b || has s b)) (sym (enabled-push h (Ended f s) b) ∙ is)).0;
+        short = omega arith;
+        spare = omega arith;
+      }
+
+  pub keeps_disabled : (b cap' : ℕ) → on < 2 ^ 32 → b < n → 0 < room h → length (h ++ Disabled b ∷ []) + 1 ≤ cap' → Keeps n (h ++ Disabled b ∷ []) places count (bit_and on (4294967295 - 1 * 2 ^ b % 4294967296)) cap'
+  keeps_disabled b cap' fits lt space spare =
+      let few : n ≤ 16 = k.backend_count.1 in
+      keeps_same (Disabled b) (bit_and on (4294967295 - 1 * 2 ^ b % 4294967296)) cap' refl refl space
+      (λ x. has_cleared on b x fits (omega arith) ∙ (ap (λ y. y && not (x == b)) (k.mask x) ∙ sym (enabled-push h (Disabled b) x)))
+      (λ x is. k.below x (and_parts (enabled h x) (not (x == b)) (sym (enabled-push h (Disabled b) x) ∙ is)).0)
+      spare
+
+  pub keeps_enabled : (b cap' : ℕ) → b < n → 0 < room h → length (h ++ Enabled b ∷ []) + 1 ≤ cap' → Keeps n (h ++ Enabled b ∷ []) places count (bit_or on (1 * 2 ^ b % 4294967296)) cap'
+  keeps_enabled b cap' lt space spare =
+      let few : n ≤ 16 = k.backend_count.1 in
+      keeps_same (Enabled b) (bit_or on (1 * 2 ^ b % 4294967296)) cap' refl refl space
+      (λ x. has_set on b x (omega arith) ∙ (ap (λ y. y || x == b) (k.mask x) ∙ sym (enabled-push h (Enabled b) x)))
+      (λ x is.
+         ⊎_elim
+         (λ (was : enabled h x ≡ true). k.below x was)
+         (λ (now : (x == b) ≡ true). let e : x ≡ b = eqb-true x b now in omega arith)
+         (or_cases (enabled h x) (x == b) (sym (enabled-push h (Enabled b) x) ∙ is)))
+      spare
+
+  pub keeps_read_failed : (s q b cap' : ℕ) → 0 < room h → length (h ++ ReadFailed s q b ∷ []) + 1 ≤ cap' → Keeps n (h ++ ReadFailed s q b ∷ []) places count on cap'
+  keeps_read_failed s q b cap' space spare =
+      let same : (x : ℕ) → enabled (h ++ ReadFailed s q b ∷ []) x ≡ enabled h x = λ x. enabled-push h (ReadFailed s q b) x in
+      keeps_same (ReadFailed s q b) on cap' refl refl space (λ x. k.mask x ∙ sym (same x)) (λ x is. k.below x (sym (same x) ∙ is)) spare

@@ -1,0 +1,16 @@
+use Rattle.std.proofs.Common.{◌≡◌, ◌≢◌, ℕ, ◌+◌, ◌-◌, ◌*◌, ◌%◌, ◌≤◌, ◌<◌, ◌^◌, ◌==◌, ◌&&◌, ◌||◌, not, ◌++◌, ◌∷◌, [], length, vec_len, vec_capacity, true, false, bit_or, bit_and, refl, ap, sym, ◌∙◌, subst, arith, rules}
+use Rattle.cj_model.specs.Plain.{request_of}
+use Rattle.cj_model.specs.Placements.{everywhere}
+use Rattle.cj_model.specs.Answering.{Served}
+use Rattle.cj_book.specs.Books.{BookState}
+use Rattle.cj_book.proofs.Serving.{served_by_some}
+use Rattle.cj_book.proofs.book.Book.is_unserved.Goals as goal
+
+pub returns-else-self-eq0-clause-served : goal.returns-else-self-eq0-clause-served
+returns-else-self-eq0-clause-served c =
+    λ _.
+    let some : c.self.inside.enabled ≢ 0 = search rules in
+    subst
+    (λ (b : BookState). Served (everywhere b.backends) b.history (request_of c.args.act.now))
+    c.self.view_is
+    (served_by_some c.self.inside.backends c.self.inside.history.items (request_of c.args.act.now) c.self.inside.enabled (search rules) some c.self.invariant.mask c.self.invariant.below)

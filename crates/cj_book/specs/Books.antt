@@ -1,0 +1,65 @@
+-- What contracts see of a book, and when an event can't come into it.
+use Rattle.std.specs.Prelude.{◌≡◌, ℕ, ◌+◌, ◌<◌, ◌≤◌, true, false, List, [], ◌∷◌, ◌++◌, length, Result, Ok, Err, refl}
+use Rattle.std.specs.Coded.{Coded, code_by, coded×, coded_list, coded_ℕ}
+use Rattle.cj_model.specs.declared.request.Act.{Act}
+use Rattle.cj_model.specs.declared.event.Event.{Event}
+use Rattle.cj_model.specs.contracts.event.Event as event_type
+use Rattle.cj_model.specs.Plain.{request_of}
+use Rattle.cj_model.specs.Placements.{everywhere}
+use Rattle.cj_model.specs.Histories.{log, free, room}
+use Rattle.cj_model.specs.Answering.{Served, Unserved}
+use Rattle.cj_book.specs.declared.error.BookError.{BookError}
+use Rattle.cj_book.specs.declared.error.BookError.TheVariants.{InProgress, NoBackend, HistoryFull, NoMemory}
+
+-- a history, and the number of the backends
+pub record BookState : Type 0 where
+  pub backends : ℕ
+  pub history : List Event
+
+-- a book is stored as the pair of its fields
+abbrev pub book_code : Coded BookState
+book_code =
+    code_by (ℕ × List Event) (coded× coded_ℕ (coded_list event_type.the_row.coded)) (λ b. (b.backends, b.history)) (λ p. record { backends = p.0; history = p.1 }) (λ _. refl)
+
+-- the book with one more event
+abbrev pub with_event : BookState → Event → BookState
+with_event b e = record b { history = b.history ++ e ∷ [] }
+
+-- entry n is open
+pub record IsInProgress (b : BookState) (n : ℕ) : Type 0 where
+  pub open_now : free b.history ≡ false
+  pub number : n ≡ length (log b.history)
+
+-- no entry is open, and no enabled backend serves the act, which needs one
+pub record HasNoBackend (b : BookState) (a : Act) : Type 0 where
+  pub is_free : free b.history ≡ true
+  pub unserved : Unserved (everywhere b.backends) b.history (request_of a)
+
+-- the act could be scheduled but for the room in the history of n events
+pub record LacksRoom (b : BookState) (a : Act) (n : ℕ) : Type 0 where
+  pub is_free : free b.history ≡ true
+  pub served : Served (everywhere b.backends) b.history (request_of a)
+  pub full : room b.history < 3
+  pub events : n ≡ length b.history
+
+-- an entry of this act can be scheduled
+pub record CanSchedule (b : BookState) (a : Act) : Type 0 where
+  pub is_free : free b.history ≡ true
+  pub served : Served (everywhere b.backends) b.history (request_of a)
+  pub space : 3 ≤ room b.history
+
+-- whether an entry of this act can be scheduled, or the first reason against it
+abbrev pub Checks : {T : Type 0} → BookState → Act → Result T BookError → Type 0
+Checks b a (Ok x) = CanSchedule b a
+Checks b a (Err (InProgress n)) = IsInProgress b n
+Checks b a (Err NoBackend) = HasNoBackend b a
+Checks b a (Err (HistoryFull n)) = LacksRoom b a n
+Checks b a (Err NoMemory) = CanSchedule b a
+
+-- whether there is room for one more event beside the end of an open entry
+abbrev pub HasRoom : {T : Type 0} → BookState → Result T BookError → Type 0
+HasRoom b (Ok x) = 0 < room b.history
+HasRoom b (Err (InProgress n)) = ⊥
+HasRoom b (Err NoBackend) = ⊥
+HasRoom b (Err (HistoryFull n)) = (room b.history ≡ 0) × (n ≡ length b.history)
+HasRoom b (Err NoMemory) = 0 < room b.history

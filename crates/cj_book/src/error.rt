@@ -1,0 +1,31 @@
+//! Why an event didn't come into the history.
+
+use std::alloc::AllocError;
+use thiserror::Error;
+
+/// Why an event didn't come into the history, which is then as it was.
+#[derive(Clone, Copy, Debug, PartialEq, Eq, Error)]
+pub enum BookError {
+    /// The entry of this number is open.
+    #[error("entry {0} is in progress")]
+    InProgress(u64),
+    /// The entry needs a backend, and none that serves it is enabled.
+    #[error("no enabled backend serves the entry")]
+    NoBackend,
+    /// The history has so many events, and no room for more.
+    #[error("the history of {0} events is full")]
+    HistoryFull(u64),
+    #[error("out of memory")]
+    NoMemory,
+}
+
+impl From<AllocError> for BookError {
+    ghost use Rattle.std.specs.Prelude.{◌≡◌};
+    ghost use Rattle.cj_book.specs.declared.error.BookError.TheVariants.{NoMemory};
+
+    ghost from_gives = { λ _ e. e ≡ NoMemory };
+
+    fn from(_error: AllocError) -> BookError {
+        BookError::NoMemory
+    }
+}

@@ -1,0 +1,10 @@
+//! The history of a cluster: what was scheduled, how it ended, and which backends are enabled.
+//!
+//! Each backend has every table. A `Book` takes the events one by one, and refuses what can't be scheduled.
+#![tactic(auto)]
+
+mod book;
+mod error;
+
+pub use book::{BACKEND_LIMIT, Book, BookParts};
+pub use error::BookError;
