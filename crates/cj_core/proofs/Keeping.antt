@@ -41,7 +41,7 @@ pub position_of : (cells : List CellState) (b : ℕ) (d : CellState) → b < len
 position_of cells b d lt = get_or-map (λ (x : CellState). x.position) cells b d None lt
 
 -- each cell is as before but one, which is one too
-cells_set : (tells : Bool) (n : ℕ) (entries : List Entry) (cells : List CellState) (b : ℕ) (y : CellState) → IsCell tells n entries b y
+pub cells_set : (tells : Bool) (n : ℕ) (entries : List Entry) (cells : List CellState) (b : ℕ) (y : CellState) → IsCell tells n entries b y
     → ((k : ℕ) (d : CellState) → k < length cells → IsCell tells n entries k (get_or cells k d))
     → (k : ℕ) (d : CellState) → k < length (set cells b y) → IsCell tells n entries k (get_or (set cells b y) k d)
 cells_set tells n entries cells b y new all k d lt =

@@ -1,4 +1,5 @@
 pub mod CellStandIn
 pub mod Kept
 pub mod Places
+pub mod Taking
 pub mod Worlds
