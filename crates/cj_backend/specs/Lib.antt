@@ -1,2 +1,4 @@
+pub mod Backends
 pub mod Places
 pub mod Plain
+pub mod PlainBackends

@@ -3,11 +3,15 @@
 #![tactic(auto)]
 
 mod asked;
+mod backend;
 mod ends;
 mod insert;
 mod plain;
+mod plain_backend;
 mod rows;
 mod schemas;
 mod slots;
 
+pub use backend::{Backend, BackendError, Counts};
 pub use plain::PlainDatabase;
+pub use plain_backend::PlainBackend;

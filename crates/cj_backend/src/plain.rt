@@ -4,7 +4,7 @@ ghost use Rattle.std.specs.Prelude.{◌≡◌, ◌≤◌, [], length, map, IfOk}
 ghost use Rattle.cj_backend.specs.Plain.{Carries, IsEvenAsked};
 ghost use Rattle.cj_model.specs.Asks as asks;
 ghost use Rattle.cj_model.specs.Steps.{aborted, committed, created, dropped, written};
-ghost use Rattle.cj_model.specs.Tables.{column_limit};
+ghost use Rattle.cj_model.specs.Tables.{column_limit, IsDatabase};
 
 use crate::asked::ask_slots;
 use crate::ends::{abort_slots, commit_slots, drop_slot};
@@ -61,6 +61,7 @@ impl PlainDatabase {
     pub fn ask(&self, alloc: Global, tx: u64, select: &Select) -> Result<Asked, NoMemory>
         ensures asked { IfOk result (λ asked. asked ≡ asks.ask self.now tx select.now) }
         ensures even { IfOk result IsEvenAsked }
+        ensures database { IsDatabase self.now }
     {
         ask_slots(alloc, &self.slots, tx, select)
     }

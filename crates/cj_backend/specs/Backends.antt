@@ -1,0 +1,95 @@
+-- What calls of a backend give and leave. What a backend holds is told as `Some` database, or not told.
+use Rattle.std.specs.Prelude.{◌≡◌, ◌⊎◌, ℕ, ◌<◌, ◌≤◌, not, ◌==◌, List, [], ◌∷◌, ◌++◌, length, filter, All, Contains, IfSome, IfOk, IsErrOf}
+use Rattle.std.specs.declared.option.Option.{Option}
+use Rattle.std.specs.declared.option.Option.TheVariants.{None, Some}
+use Rattle.std.specs.Option.{option_map}
+use Rattle.std.specs.declared.result.Result.{Result}
+use Rattle.std.specs.declared.result.Result.TheVariants.{Ok, Err}
+use Rattle.cj_outside.specs.Causes.{Rose}
+use Rattle.cj_model.specs.declared.database.Slot.{Slot}
+use Rattle.cj_model.specs.declared.request.Act.{Act}
+use Rattle.cj_model.specs.declared.select.Select.{Select}
+use Rattle.cj_model.specs.declared.answer.Answer.{Answer}
+use Rattle.cj_model.specs.declared.answer.Asked.{Asked}
+use Rattle.cj_model.specs.declared.answer.Asked.TheVariants as asked
+use Rattle.cj_model.specs.declared.answer.Outcome.{Outcome}
+use Rattle.cj_model.specs.declared.answer.Outcome.TheVariants as outcome
+use Rattle.cj_model.specs.declared.codes.TheConstants.{NO_TABLE, NO_COLUMN, BAD_COLUMNS, OVERFLOW, WRONG_TYPE, ROWS_FULL, NOT_BUILT}
+use Rattle.cj_model.specs.Steps.{acted}
+use Rattle.cj_model.specs.Asks.{ask}
+use Rattle.cj_backend.specs.declared.backend.BackendError.{BackendError}
+use Rattle.cj_backend.specs.declared.backend.BackendError.TheVariants as errors
+
+-- ---- causes
+
+-- the count of faults doesn't fall, and rose where the backend failed
+pub record HasBackendCause {T : Type 0} (before now : ℕ) (result : Result T BackendError) : Type 0 where
+  pub later : before ≤ now
+  pub failed : IsErrOf result errors.Failed → Rose before now
+
+-- ---- contents
+
+-- the outcome is that of the act on the database that was told
+abbrev pub SaysOutcome : Option (List Slot) → ℕ → Act → Result Outcome BackendError → Type 0
+SaysOutcome told tx act result = IfOk result (λ o. IfSome told (λ db. o ≡ (acted db tx act).outcome))
+
+-- what is told after an act: the act's database, where one was told; and after an error nothing
+abbrev pub told_after : {T : Type 0} → Option (List Slot) → ℕ → Act → Result T BackendError → Option (List Slot)
+told_after told tx act (Ok x) = option_map (λ db. (acted db tx act).db) told
+told_after told tx act (Err e) = None
+
+-- the answer is that of the query on the database that is told
+abbrev pub SaysAnswer : Option (List Slot) → ℕ → Select → Result Asked BackendError → Type 0
+SaysAnswer told tx select result = IfOk result (λ answer. IfSome told (λ db. answer ≡ ask db tx select))
+
+-- ---- logins and transactions
+
+-- the last login is the one given; or after an error maybe the one before
+abbrev pub LogsIn : {T : Type 0} → Option (List ℕ) → List ℕ → Result T BackendError → Option (List ℕ) → Type 0
+LogsIn before given (Ok x) now = now ≡ Some given
+LogsIn before given (Err e) now = (now ≡ Some given) ⊎ (now ≡ before)
+
+-- no transaction, or one of those begun
+abbrev pub IsBegun : List ℕ → ℕ → Type 0
+IsBegun begun tx = (tx ≡ 0) ⊎ Contains begun tx
+
+-- the transactions begun, with one more unless there was an error
+abbrev pub begun_with : {T : Type 0} → List ℕ → ℕ → Result T BackendError → List ℕ
+begun_with begun tx (Ok x) = begun ++ tx ∷ []
+begun_with begun tx (Err e) = begun
+
+-- the transactions begun, without this one unless there was an error
+abbrev pub begun_without : {T : Type 0} → List ℕ → ℕ → Result T BackendError → List ℕ
+begun_without begun tx (Ok x) = filter (λ t. not (t == tx)) begun
+begun_without begun tx (Err e) = begun
+
+-- ---- what may be given
+
+-- the refusals of a change
+abbrev pub IsChangeCode : ℕ → Type 0
+IsChangeCode code = ((NO_TABLE ≤ code) × (code ≤ ROWS_FULL)) ⊎ (code ≡ NOT_BUILT)
+
+-- what a change may come to
+abbrev pub IsOutcome : Outcome → Type 0
+IsOutcome (outcome.Done count) = Unit {0}
+IsOutcome (outcome.Refused refusal) = IsChangeCode refusal.code
+
+-- the refusals of a query
+abbrev pub IsQueryCode : ℕ → Type 0
+IsQueryCode code =
+    (code ≡ NO_TABLE) ⊎ (code ≡ NO_COLUMN) ⊎ (code ≡ BAD_COLUMNS) ⊎ (code ≡ OVERFLOW) ⊎ (code ≡ WRONG_TYPE) ⊎ (code ≡ NOT_BUILT)
+
+-- the most columns of an answer
+abbrev pub answer_limit : ℕ
+answer_limit = 64
+
+-- it has columns, not too many, and in each row a value for each
+pub record IsAnswer (a : Answer) : Type 0 where
+  pub some : 0 < length a.columns
+  pub few : length a.columns ≤ answer_limit
+  pub each : All (λ row. length row ≡ length a.columns) a.rows
+
+-- what a query may come to
+abbrev pub IsAsked : Asked → Type 0
+IsAsked (asked.Rows answer) = IsAnswer answer
+IsAsked (asked.Refused refusal) = IsQueryCode refusal.code
