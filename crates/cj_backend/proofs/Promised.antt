@@ -1,6 +1,6 @@
 -- What changes and queries of a database come to.
-use Rattle.std.proofs.Common.{◌≡◌, ℕ, ◌+◌, ◌≤◌, Bool, true, false, not, ◌||◌, nat_lt, eqb, List, [], ◌∷◌, length, map, fold, refl, inl, inr, arith}
-use Rattle.std.specs.Prelude.{IfErr}
+use Rattle.std.proofs.Common.{◌≡◌, ℕ, ◌+◌, ◌≤◌, Bool, true, false, not, ◌||◌, nat_lt, eqb, List, [], ◌∷◌, length, map, fold, refl, subst, inl, inr, arith}
+use Rattle.std.specs.Prelude.{IfErr, IfSome}
 use Rattle.std.specs.List.{list_any}
 use Rattle.std.specs.declared.option.Option.{Option}
 use Rattle.std.specs.declared.option.Option.TheVariants.{None, Some}
@@ -17,11 +17,11 @@ use Rattle.cj_model.specs.declared.write.Write.TheVariants.{Insert, Update, Dele
 use Rattle.cj_model.specs.declared.select.Select.{Select}
 use Rattle.cj_model.specs.declared.answer.Refusal.{Refusal}
 use Rattle.cj_model.specs.declared.codes.TheConstants.{NO_TABLE, NO_COLUMN, BAD_COLUMNS, LOCKED, DUPLICATE, WRONG_TYPE, ROWS_FULL, NOT_BUILT}
-use Rattle.cj_model.specs.Tables.{IsTable, IsDatabase, slot_of, column_names, fits_columns, put_by, by_key, row_limit}
+use Rattle.cj_model.specs.Tables.{IsTable, IsSlot, IsDatabase, slot_of, column_names, fits_columns, put_by, by_key, row_limit}
 use Rattle.cj_model.specs.Changes.{Changed, bare, unless, row_of, lists_stranger, lists_unevenly, has_key, has_key_twice, too_many_rows, with_rows, inserted, change}
 use Rattle.cj_model.specs.Steps.{seen, other_writer, table_written, write_done, write_unless_locked, write_in, written}
 use Rattle.cj_model.specs.Asks.{asks_all, all_in, ask_over, ask}
-use Rattle.cj_model.proofs.DatabaseLaws.{slot_is_slot, seen_is_table}
+use Rattle.cj_model.proofs.DatabaseLaws.{found_is_slot, seen_is_table}
 use Rattle.cj_model.proofs.TableLaws.{table_is_even}
 use Rattle.cj_backend.specs.Backends.{IsChangeCode, IsOutcome, IsAnswer, IsAsked, IsQueryCode}
 
@@ -91,7 +91,7 @@ not_built = inr (inr (inr (inr (inr refl))))
 
 all_in_is_asked : (db : List Slot) (tx : ℕ) (name : List ℕ) (found : Option Slot) → IsDatabase db → slot_of db name ≡ found → IsAsked (all_in tx found)
 all_in_is_asked db tx name None is e = inl refl
-all_in_is_asked db tx name (Some s) is e = table_is_answer (seen s tx) (seen_is_table s tx (slot_is_slot db name s is e))
+all_in_is_asked db tx name (Some s) is e = table_is_answer (seen s tx) (seen_is_table s tx (subst (λ (o : Option Slot). IfSome o IsSlot) e (found_is_slot db name is)))
 
 over_is_asked : (db : List Slot) (tx : ℕ) (s : Select) (names : List (List ℕ)) → IsDatabase db → IsAsked (ask_over db tx s names)
 over_is_asked db tx s [] is = not_built

@@ -4,7 +4,7 @@ use Rattle.std.proofs.lemmas.Bool.{eqb-false, both_ways, and_parts, and_cases, o
 use Rattle.std.proofs.lemmas.Option.{slice_get_within}
 use Rattle.cj_model.specs.declared.request.Entry.{Entry}
 use Rattle.cj_model.specs.declared.answer.Outcome.{Outcome}
-use Rattle.cj_model.specs.declared.answer.Reply.{Reply}
+use Rattle.cj_model.specs.declared.answer.Refusal.{Refusal}
 use Rattle.cj_model.specs.declared.answer.Reply.TheVariants as reply
 use Rattle.cj_model.specs.declared.event.Event.{Event}
 use Rattle.cj_model.specs.declared.event.Event.TheVariants.{Ended}
@@ -21,16 +21,13 @@ use Rattle.cj_model.proofs.Masks.{has-zero, some_bit}
 use Rattle.cj_model.proofs.Now.{behind_none}
 use Rattle.cj_core.specs.CellStandIn.{CellState}
 use Rattle.cj_core.specs.Worlds.{core_of, world_of}
+use Rattle.cj_core.specs.Effects.{Refuses}
 use Rattle.cj_core.specs.Kept.{Kept}
 use Rattle.cj_core.proofs.Taking.{concerns_all, lone_at}
 
 -- the masks of the entry that ends
 ended_masks : (h : List Event) (f s : ℕ) → slice_get (ends (h ++ Ended f s ∷ [])) (done h) ≡ Some (f, s)
 ended_masks h f s = rw (ends-ended h f s, ← length-ends h) (get_seam (ends h) [] (f, s))
-
--- the refusal of an entry that no backend finished
-pub record Refuses (f s : ℕ) (r : Reply) : Type 0 where
-  pub is : ((f ≢ 0) × (r ≡ reply.Refused (record { code = UNFINISHED; a = f; b = s }))) ⊎ ((f ≡ 0) × (r ≡ reply.Refused (record { code = STARVED_ALL; a = 0; b = s })))
 
 module _ (tells : Bool) (n : ℕ) (h : List Event) (cells : List CellState) (f s : ℕ) (ss : List OpenSession) (g : ℕ) (heard : Option Outcome) (kept : Kept tells (world_of n h cells f s ss g) heard)
   (fr : free h ≡ false) (left : ℕ) (rest : (b : ℕ) → has left b ≡ enabled (h ++ Ended f s ∷ []) b) where
@@ -45,7 +42,7 @@ module _ (tells : Bool) (n : ℕ) (h : List Event) (cells : List CellState) (f s
         let lt : b < n = subst (λ (m : ℕ). b < m) kept.world.sound.cells (kept.world.sound.hosts b on) in
         (on, concerns_all n b (log h) e e.act lt (lone_at (core_of n h cells f s ss g) kept.world.sound (done h) e is))
 
-    pub unfinished : (r : Reply) → left ≡ 0 → Refuses f s r → AnswersEntry (everywhere n) h (h ++ Ended f s ∷ []) (done h) e r
+    pub unfinished : (r : Refusal) → left ≡ 0 → Refuses f s r → AnswersEntry (everywhere n) h (h ++ Ended f s ∷ []) (done h) e (reply.Refused r)
     unfinished r none how =
         let some = kept.served fr in
         inr
@@ -60,7 +57,9 @@ module _ (tells : Bool) (n : ℕ) (h : List Event) (cells : List CellState) (f s
               ⊎_elim (λ (q : enabled h b ≡ false). absurd (both_ways (enabled h b) q t.0))
               (λ (q : not (has f b || has s b) ≡ false). or_cases (has f b) (has s b) (not-false (has f b || has s b) q))
               (and_cases (enabled h b) (not (has f b || has s b)) off);
-          replied = how.is;
+          replied =
+              ⊎_elim (λ (q : (f ≢ 0) × (r ≡ record { code = UNFINISHED; a = f; b = s })). inl (q.0, ap reply.Refused q.1))
+              (λ (q : (f ≡ 0) × (r ≡ record { code = STARVED_ALL; a = 0; b = s })). inr (q.0, ap reply.Refused q.1)) how;
         }
 
   module _ (some : left ≢ 0) (fits : left < 2 ^ 32) where

@@ -1,4 +1,5 @@
 pub mod CellStandIn
+pub mod Effects
 pub mod Kept
 pub mod Places
 pub mod Taking

@@ -2,4 +2,6 @@
 //! every list of moves.
 #![tactic(auto)]
 
+mod cell;
 mod sessions;
+mod world;
