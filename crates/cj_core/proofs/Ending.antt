@@ -19,7 +19,7 @@ use Rattle.cj_model.specs.Sound.{Stands}
 use Rattle.cj_model.proofs.Pushed.{get_seam, enabled-push, log-same, ends-ended, length-ends}
 use Rattle.cj_model.proofs.Masks.{has-zero, some_bit}
 use Rattle.cj_model.proofs.Now.{behind_none}
-use Rattle.cj_core.specs.CellStandIn.{CellState}
+use Rattle.cj_replica.specs.Cells.{CellState}
 use Rattle.cj_core.specs.Worlds.{core_of, world_of}
 use Rattle.cj_core.specs.Effects.{Refuses}
 use Rattle.cj_core.specs.Kept.{Kept}

@@ -19,14 +19,14 @@ use Rattle.cj_model.specs.Moves.{Takes, DoesEntry, failed_after, starved_after}
 use Rattle.cj_model.specs.Sound.{IsSound, IsLone}
 use Rattle.cj_model.proofs.Effects.{sound_applied, sound_replayed, stands_there, is_there}
 
-use Rattle.cj_core.specs.CellStandIn.{CellState}
+use Rattle.cj_replica.specs.Cells.{CellState}
 use Rattle.cj_core.specs.Worlds.{WorldState, core_of, world_of, IsCell, IsWorld}
 use Rattle.cj_core.specs.Taking.{Took, heard_after}
 use Rattle.cj_core.specs.Kept.{Kept}
 use Rattle.cj_core.proofs.Keeping.{cells_set}
 
 -- a backend hosts every table
-hosts_each : (n b : ℕ) (table : List ℕ) → b < n → hosts (everywhere n) b table ≡ true
+pub hosts_each : (n b : ℕ) (table : List ℕ) → b < n → hosts (everywhere n) b table ≡ true
 hosts_each n b table lt = rw (lt-ltb b n lt) refl
 
 -- an entry outside transactions concerns every backend

@@ -1,19 +1,17 @@
 -- What the parts of moves make of a world.
-use Rattle.std.specs.Prelude.{◌≡◌, ◌≢◌, ◌⊎◌, ℕ, ◌+◌, ◌<◌, ◌≤◌, ◌^◌, Bool, true, false, List, [], ◌∷◌, ◌++◌, length, map, slice_index_or, IfSome, Result, Ok, Err}
+use Rattle.std.specs.Prelude.{◌≡◌, ◌≢◌, ◌⊎◌, ℕ, ◌+◌, ◌<◌, ◌≤◌, ◌^◌, Bool, true, false, List, [], ◌∷◌, ◌++◌, length, filter, not, ◌==◌, Result, Ok, Err}
 use Rattle.std.specs.declared.option.Option.{Option}
 use Rattle.std.specs.declared.option.Option.TheVariants.{None, Some}
-use Rattle.std.specs.List.{slice_get}
-use Rattle.cj_outside.specs.Causes.{Rose}
 use Rattle.cj_model.specs.declared.request.Entry.{Entry}
-use Rattle.cj_model.specs.declared.select.Select.{Select}
-use Rattle.cj_model.specs.declared.answer.Asked.{Asked}
 use Rattle.cj_model.specs.declared.answer.Refusal.{Refusal}
+use Rattle.cj_model.specs.declared.answer.Reply.{Reply}
 use Rattle.cj_model.specs.declared.event.Event.{Event}
 use Rattle.cj_model.specs.declared.event.Event.TheVariants as event
 use Rattle.cj_model.specs.declared.codes.TheConstants.{UNFINISHED, STARVED_ALL}
+use Rattle.cj_model.specs.declared.moves.OpenSession.{OpenSession}
 use Rattle.cj_model.specs.Plain.{request_of}
-use Rattle.cj_model.specs.Histories.{log, free, room}
-use Rattle.cj_model.specs.Answering.{Served, Unserved}
+use Rattle.cj_model.specs.Histories.{log, done, free, opened, room}
+use Rattle.cj_model.specs.Answering.{Served, Unserved, AnswersEntry}
 use Rattle.cj_model.specs.Cores.{Core, fresh_session, with_session}
 use Rattle.cj_model.specs.Moves.{last_number, counted, answered_at, ended}
 use Rattle.cj_book.specs.declared.error.BookError.{BookError}
@@ -31,6 +29,9 @@ happened c e = record c { history = c.history ++ e ∷ [] }
 -- a session with the next number
 abbrev pub opened_for : Core → List ℕ → Core
 opened_for c user = record c { sessions = c.sessions ++ fresh_session (c.greatest + 1) user ∷ []; greatest = c.greatest + 1 }
+
+abbrev pub closed_for : Core → ℕ → Core
+closed_for c s = record c { sessions = filter (λ (x : OpenSession). not (x.number == s)) c.sessions }
 
 -- the entry is open, and its session has counted it
 abbrev pub scheduled_as : Core → ℕ → Entry → Core
@@ -78,3 +79,7 @@ HadRoom c (Err NoMemory) = Unit {0}
 abbrev pub Refuses : ℕ → ℕ → Refusal → Type 0
 Refuses failed starved refusal =
     ((failed ≢ 0) × (refusal ≡ record { code = UNFINISHED; a = failed; b = starved })) ⊎ ((failed ≡ 0) × (refusal ≡ record { code = STARVED_ALL; a = 0; b = starved }))
+
+-- what the open entry is answered, where the backends tell
+abbrev pub AnswersOpen : Bool → Core → Reply → Type 0
+AnswersOpen tells c reply = tells ≡ true → (e : Entry) → opened c.history ≡ Some e → AnswersEntry c.placement c.history (ended c) (done c.history) e reply

@@ -1,4 +1,3 @@
-pub mod CellStandIn
 pub mod Effects
 pub mod Kept
 pub mod Places

@@ -9,7 +9,7 @@ use Rattle.cj_model.specs.Placements.{everywhere}
 use Rattle.cj_model.specs.Histories.{log, free, enabled}
 use Rattle.cj_model.specs.Cores.{Core, position_at}
 use Rattle.cj_model.specs.Sound.{IsSound, Holds}
-use Rattle.cj_core.specs.CellStandIn.{CellState}
+use Rattle.cj_replica.specs.Cells.{CellState}
 
 -- the state that moves change, and the cells of the backends by their numbers
 pub record WorldState : Type 0 where

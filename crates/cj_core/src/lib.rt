@@ -2,6 +2,6 @@
 //! every list of moves.
 #![tactic(auto)]
 
-mod cell;
+mod cells;
 mod sessions;
 mod world;
