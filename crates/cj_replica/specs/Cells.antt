@@ -1,0 +1,99 @@
+-- What contracts see of a cell, and what its calls give and leave.
+use Rattle.std.specs.Prelude.{◌≡◌, ℕ, ◌+◌, ◌≤◌, Bool, true, false, List, [], IfSome, IsErrOf}
+use Rattle.std.specs.declared.option.Option.{Option}
+use Rattle.std.specs.declared.option.Option.TheVariants.{None, Some}
+use Rattle.std.specs.Option.{option_map}
+use Rattle.std.specs.declared.result.Result.{Result}
+use Rattle.std.specs.declared.result.Result.TheVariants.{Ok, Err}
+use Rattle.cj_outside.specs.Causes.{Rose}
+use Rattle.cj_model.specs.declared.database.Slot.{Slot}
+use Rattle.cj_model.specs.declared.request.Entry.{Entry}
+use Rattle.cj_model.specs.declared.select.Select.{Select}
+use Rattle.cj_model.specs.declared.answer.Asked.{Asked}
+use Rattle.cj_model.specs.Steps.{step}
+use Rattle.cj_model.specs.Asks.{ask}
+use Rattle.cj_model.specs.Placements.{everywhere, concerns}
+use Rattle.cj_backend.specs.declared.backend.BackendError.{BackendError}
+use Rattle.cj_backend.specs.declared.backend.BackendError.TheVariants as backend_errors
+use Rattle.cj_backend.specs.Backends.{IsOutcome}
+use Rattle.cj_replica.specs.declared.cell.Caught.{Caught}
+use Rattle.cj_replica.specs.declared.cell.Caught.TheVariants.{Skipped, Did}
+use Rattle.cj_replica.specs.declared.cell.CellError.{CellError}
+use Rattle.cj_replica.specs.declared.cell.CellError.TheVariants as errors
+use Rattle.cj_replica.specs.declared.cell.CellReadError.{CellReadError}
+use Rattle.cj_replica.specs.declared.cell.CellReadError.TheVariants as read_errors
+
+-- backend b of so many
+pub record CellState : Type 0 where
+  pub b : ℕ
+  pub backends : ℕ
+  -- how many entries of the log it has taken, or none where it is out
+  pub position : Option ℕ
+  -- what its backend holds, where that is told
+  pub told : Option (List Slot)
+  -- how many faults its backend has counted
+  pub faults : ℕ
+
+-- ---- taking an entry
+
+-- entry n is the one behind this position
+abbrev pub IsNext : Option ℕ → ℕ → Type 0
+IsNext None n = ⊥
+IsNext (Some p) n = n ≡ p + 1
+
+-- whether an entry outside a transaction concerns the backend, where each hosts every table
+abbrev pub is_concerned : CellState → Entry → Bool
+is_concerned s e = concerns (everywhere s.backends) s.b [] e.tx e.act
+
+-- the entry was skipped
+abbrev pub is_skipped : Result Caught CellError → Bool
+is_skipped (Ok Skipped) = true
+is_skipped (Ok (Did o)) = false
+is_skipped (Err d) = false
+
+-- past the entry, or out
+abbrev pub position_after : ℕ → Result Caught CellError → Option ℕ
+position_after n (Ok caught) = Some n
+position_after n (Err e) = None
+
+-- the outcome is that of the entry on the database that was told
+abbrev pub SaysOutcome : Option (List Slot) → Entry → Result Caught CellError → Type 0
+SaysOutcome told e (Ok Skipped) = Unit {0}
+SaysOutcome told e (Ok (Did o)) = IfSome told (λ db. o ≡ (step db e).outcome)
+SaysOutcome told e (Err d) = Unit {0}
+
+-- what is told then: the entry's database, where one was told, or as before if the entry was skipped; and after an error nothing
+abbrev pub told_after : Option (List Slot) → Entry → Result Caught CellError → Option (List Slot)
+told_after told e (Ok Skipped) = told
+told_after told e (Ok (Did o)) = option_map (λ db. (step db e).db) told
+told_after told e (Err d) = None
+
+-- what a cell may answer to an entry
+abbrev pub IsCaught : Caught → Type 0
+IsCaught Skipped = Unit {0}
+IsCaught (Did o) = IsOutcome o
+
+-- the count of faults doesn't fall, and rose where the backend failed
+pub record HasCellCause (before now : ℕ) (result : Result Caught CellError) : Type 0 where
+  pub later : before ≤ now
+  pub failed : IsErrOf result errors.Failed → Rose before now
+
+-- a cell's error from its backend's
+abbrev pub error_of : BackendError → CellError
+error_of backend_errors.Failed = errors.Failed
+error_of backend_errors.NoMemory = errors.Starved
+
+-- ---- reading
+
+-- the answer is that of the query on the database that is told
+abbrev pub SaysAnswer : Option (List Slot) → ℕ → Select → Asked → Type 0
+SaysAnswer told tx select answer = IfSome told (λ db. answer ≡ ask db tx select)
+
+-- the same of a read
+pub record HasReadCause (before now : ℕ) (result : Result (Asked × ℕ) CellReadError) : Type 0 where
+  pub later : before ≤ now
+  pub failed : IsErrOf result read_errors.Failed → Rose before now
+
+abbrev pub read_error_of : BackendError → CellReadError
+read_error_of backend_errors.Failed = read_errors.Failed
+read_error_of backend_errors.NoMemory = read_errors.NoMemory

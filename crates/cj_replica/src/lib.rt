@@ -1,0 +1,6 @@
+//! Cells: backends that follow the log.
+#![tactic(auto)]
+
+mod cell;
+
+pub use cell::{Caught, Cell, CellError, CellReadError};
