@@ -1,8 +1,8 @@
 -- A book with one more event.
-use Rattle.std.proofs.Common.{◌≡◌, ◌≢◌, ◌⊎◌, ℕ, ◌+◌, ◌-◌, ◌*◌, ◌^◌, ◌%◌, ◌<◌, ◌≤◌, ◌==◌, ◌&&◌, ◌||◌, not, true, false, List, [], ◌∷◌, ◌++◌, length, get_or, slice_get, option_and_then, Option, None, Some, bit_and, bit_or, refl, ap, sym, ◌∙◌, subst, arith, length-append, ⊎_elim}
+use Rattle.std.proofs.Common.{◌≡◌, ◌≢◌, ℕ, ◌+◌, ◌-◌, ◌*◌, ◌^◌, ◌%◌, ◌<◌, ◌≤◌, ◌==◌, ◌&&◌, ◌||◌, not, true, false, List, [], ◌∷◌, ◌++◌, length, get_or, slice_get, option_and_then, Option, None, Some, bit_and, bit_or, refl, ap, sym, ◌∙◌, arith, length-append, ⊎_elim}
 use Rattle.std.proofs.lemmas.Bool.{cases_eq, eqb-true, eqb-false, and_parts, or_cases}
 use Rattle.std.proofs.lemmas.List.{get_or_append_left}
-use Rattle.std.proofs.lemmas.Option.{slice_get_cases, slice_get_past, slice_get_within, slice_get-get_or, option_and_then_some}
+use Rattle.std.proofs.lemmas.Option.{slice_get_cases, slice_get_past, slice_get-get_or, option_and_then_some}
 use Rattle.cj_model.specs.declared.request.Entry.{Entry}
 use Rattle.cj_model.specs.declared.event.Event.{Event}
 use Rattle.cj_model.specs.declared.event.Event.TheVariants.{Sched, Ended, ReadFailed, Disabled, Enabled}
@@ -42,26 +42,27 @@ entries_sched : (h : List Event) (places : List ℕ) (entries : List Entry) (new
 entries_sched h places entries new as_many have i =
     ⊎_elim
     (λ (q : (e : Entry) × (i < length entries) × (slice_get entries i ≡ Some e) × (get_or entries i e ≡ e)).
-       let stays : slice_get (places ++ length h ∷ []) i ≡ slice_get places i = place_stays places (length h) i (omega arith) in
-       rw stays (entry_stays h (Sched new) (slice_get places i) q.0 (have i ∙ q.2)) ∙ sym (get_left entries (new ∷ []) i q.0 q.2))
+    let stays : slice_get (places ++ length h ∷ []) i ≡ slice_get places i = place_stays places (length h) i (omega arith) in
+    rw stays (entry_stays h (Sched new) (slice_get places i) q.0 (have i ∙ q.2)) ∙ sym (get_left entries (new ∷ []) i q.0 q.2))
     (λ (q : (length entries ≤ i) × (slice_get entries i ≡ None)).
-       ⊎_elim
-       (λ (last : i ≡ length entries).
-          let place : slice_get (places ++ length h ∷ []) i ≡ Some (length h) = ap (λ n. slice_get (places ++ length h ∷ []) n) (last ∙ sym as_many) ∙ get_seam places [] (length h) in
-          let entry : slice_get (entries ++ new ∷ []) i ≡ Some new = ap (λ n. slice_get (entries ++ new ∷ []) n) last ∙ get_seam entries [] new in
-          rw (place, entry) (rw (get_seam h [] (Sched new)) refl))
-       (λ (ne : i ≡ length entries → ⊥).
-          let l = length-append places (length h ∷ []) in
-          let m = length-append entries (new ∷ []) in
-          let far : i ≢ length entries = ne in
-          let place : slice_get (places ++ length h ∷ []) i ≡ None = slice_get_past (places ++ length h ∷ []) i (omega arith) in
-          rw place (sym (slice_get_past (entries ++ new ∷ []) i (omega arith))))
-       (cases_eq i (length entries)))
+    ⊎_elim
+    (λ (last : i ≡ length entries).
+    let place : slice_get (places ++ length h ∷ []) i ≡ Some (length h) = ap (λ n. slice_get (places ++ length h ∷ []) n) (last ∙ sym as_many) ∙ get_seam places [] (length h) in
+    let entry : slice_get (entries ++ new ∷ []) i ≡ Some new = ap (λ n. slice_get (entries ++ new ∷ []) n) last ∙ get_seam entries [] new in
+    rw (place, entry) (rw (get_seam h [] (Sched new)) refl))
+    (λ (ne : i ≡ length entries → ⊥).
+    let l = length-append places (length h ∷ []) in
+    let m = length-append entries (new ∷ []) in
+    let far : i ≢ length entries = ne in
+    let place : slice_get (places ++ length h ∷ []) i ≡ None = slice_get_past (places ++ length h ∷ []) i (omega arith) in
+    rw place (sym (slice_get_past (entries ++ new ∷ []) i (omega arith))))
+    (cases_eq i (length entries)))
     (slice_get_cases entries i).1
 
 -- ---- a book with one more event
 
 module _ (n : ℕ) (h : List Event) (places : List ℕ) (count on cap : ℕ) (k : Keeps n h places count on cap) where
+  -- an entry that is scheduled
   pub keeps_sched : (e : Entry) (cap' : ℕ) → free h ≡ true → 3 ≤ room h → length (h ++ Sched e ∷ []) + 1 ≤ cap' → Keeps n (h ++ Sched e ∷ []) (places ++ length h ∷ []) count on cap'
   keeps_sched e cap' fr space spare =
       let at_end : done h ≡ length (log h) = eqb-true _ _ fr in
@@ -85,7 +86,7 @@ module _ (n : ℕ) (h : List Event) (places : List ℕ) (count on cap : ℕ) (k 
       }
 
   -- an event that leaves the log and the ends as they are
-  pub keeps_same : (new : Event) (on' cap' : ℕ) → scheduled new ≡ None → is_ended new ≡ false → 0 < room h → ((b : ℕ) → has on' b ≡ enabled (h ++ new ∷ []) b)
+  keeps_same : (new : Event) (on' cap' : ℕ) → scheduled new ≡ None → is_ended new ≡ false → 0 < room h → ((b : ℕ) → has on' b ≡ enabled (h ++ new ∷ []) b)
       → ((b : ℕ) → enabled (h ++ new ∷ []) b ≡ true → b < n) → length (h ++ new ∷ []) + 1 ≤ cap' → Keeps n (h ++ new ∷ []) places count on' cap'
   keeps_same new on' cap' no_entry no_end space mask below spare =
       let entries : log (h ++ new ∷ []) ≡ log h = log-same h new no_entry in
@@ -106,6 +107,7 @@ module _ (n : ℕ) (h : List Event) (places : List ℕ) (count on cap : ℕ) (k 
         spare = omega arith;
       }
 
+  -- the end of the open entry
   pub keeps_ended : (f s cap' : ℕ) → on < 2 ^ 32 → f < 2 ^ 32 → s < 2 ^ 32 → free h ≡ false → cap ≤ cap'
       → Keeps n (h ++ Ended f s ∷ []) places (count + 1) (bit_and on (4294967295 - bit_or f s)) cap'
   keeps_ended f s cap' fits p q fr more =
@@ -131,6 +133,7 @@ module _ (n : ℕ) (h : List Event) (places : List ℕ) (count on cap : ℕ) (k 
         spare = omega arith;
       }
 
+  -- a backend is disabled
   pub keeps_disabled : (b cap' : ℕ) → on < 2 ^ 32 → b < n → 0 < room h → length (h ++ Disabled b ∷ []) + 1 ≤ cap' → Keeps n (h ++ Disabled b ∷ []) places count (bit_and on (4294967295 - 1 * 2 ^ b % 4294967296)) cap'
   keeps_disabled b cap' fits lt space spare =
       let few : n ≤ 16 = k.backend_count.1 in
@@ -139,18 +142,20 @@ module _ (n : ℕ) (h : List Event) (places : List ℕ) (count on cap : ℕ) (k 
       (λ x is. k.below x (and_parts (enabled h x) (not (x == b)) (sym (enabled-push h (Disabled b) x) ∙ is)).0)
       spare
 
+  -- a backend is enabled
   pub keeps_enabled : (b cap' : ℕ) → b < n → 0 < room h → length (h ++ Enabled b ∷ []) + 1 ≤ cap' → Keeps n (h ++ Enabled b ∷ []) places count (bit_or on (1 * 2 ^ b % 4294967296)) cap'
   keeps_enabled b cap' lt space spare =
       let few : n ≤ 16 = k.backend_count.1 in
       keeps_same (Enabled b) (bit_or on (1 * 2 ^ b % 4294967296)) cap' refl refl space
       (λ x. has_set on b x (omega arith) ∙ (ap (λ y. y || x == b) (k.mask x) ∙ sym (enabled-push h (Enabled b) x)))
       (λ x is.
-         ⊎_elim
-         (λ (was : enabled h x ≡ true). k.below x was)
-         (λ (now : (x == b) ≡ true). let e : x ≡ b = eqb-true x b now in omega arith)
-         (or_cases (enabled h x) (x == b) (sym (enabled-push h (Enabled b) x) ∙ is)))
+      ⊎_elim
+      (λ (was : enabled h x ≡ true). k.below x was)
+      (λ (now : (x == b) ≡ true). let e : x ≡ b = eqb-true x b now in omega arith)
+      (or_cases (enabled h x) (x == b) (sym (enabled-push h (Enabled b) x) ∙ is)))
       spare
 
+  -- a read failed
   pub keeps_read_failed : (s q b cap' : ℕ) → 0 < room h → length (h ++ ReadFailed s q b ∷ []) + 1 ≤ cap' → Keeps n (h ++ ReadFailed s q b ∷ []) places count on cap'
   keeps_read_failed s q b cap' space spare =
       let same : (x : ℕ) → enabled (h ++ ReadFailed s q b ∷ []) x ≡ enabled h x = λ x. enabled-push h (ReadFailed s q b) x in

@@ -1,13 +1,15 @@
 -- What contracts see of a book, and when an event can't come into it.
-use Rattle.std.specs.Prelude.{◌≡◌, ℕ, ◌+◌, ◌<◌, ◌≤◌, true, false, List, [], ◌∷◌, ◌++◌, length, Result, Ok, Err, refl}
+use Rattle.std.specs.Prelude.{◌≡◌, ◌↔◌, ℕ, ◌<◌, ◌≤◌, true, false, List, [], ◌∷◌, ◌++◌, length, Some, Result, Ok, Err, refl}
 use Rattle.std.specs.Coded.{Coded, code_by, coded×, coded_list, coded_ℕ}
 use Rattle.cj_model.specs.declared.request.Act.{Act}
+use Rattle.cj_model.specs.declared.request.Entry.{Entry}
 use Rattle.cj_model.specs.declared.event.Event.{Event}
 use Rattle.cj_model.specs.contracts.event.Event as event_type
 use Rattle.cj_model.specs.Plain.{request_of}
 use Rattle.cj_model.specs.Placements.{everywhere}
-use Rattle.cj_model.specs.Histories.{log, free, room}
-use Rattle.cj_model.specs.Answering.{Served, Unserved}
+use Rattle.cj_model.specs.Histories.{has, log, free, opened, room}
+use Rattle.cj_model.specs.Answering.{Served, Unserved, is_target}
+use Rattle.cj_model.specs.Sound.{IsLone}
 use Rattle.cj_book.specs.declared.error.BookError.{BookError}
 use Rattle.cj_book.specs.declared.error.BookError.TheVariants.{InProgress, NoBackend, HistoryFull, NoMemory}
 
@@ -24,6 +26,11 @@ book_code =
 -- the book with one more event
 abbrev pub with_event : BookState → Event → BookState
 with_event b e = record b { history = b.history ++ e ∷ [] }
+
+-- the mask has the targets of the open entry, where that is outside a transaction
+abbrev pub HasTargets : ℕ → BookState → Type 0
+HasTargets mask book =
+    (e : Entry) → opened book.history ≡ Some e → IsLone e e.act → (b : ℕ) → (has mask b ≡ true) ↔ is_target (everywhere book.backends) book.history e b
 
 -- entry n is open
 pub record IsInProgress (b : BookState) (n : ℕ) : Type 0 where
@@ -42,6 +49,11 @@ pub record LacksRoom (b : BookState) (a : Act) (n : ℕ) : Type 0 where
   pub full : room b.history < 3
   pub events : n ≡ length b.history
 
+-- the history of n events has no room for one more
+pub record IsFull (b : BookState) (n : ℕ) : Type 0 where
+  pub full : room b.history < 1
+  pub events : n ≡ length b.history
+
 -- an entry of this act can be scheduled
 pub record CanSchedule (b : BookState) (a : Act) : Type 0 where
   pub is_free : free b.history ≡ true
@@ -54,12 +66,19 @@ Checks b a (Ok x) = CanSchedule b a
 Checks b a (Err (InProgress n)) = IsInProgress b n
 Checks b a (Err NoBackend) = HasNoBackend b a
 Checks b a (Err (HistoryFull n)) = LacksRoom b a n
-Checks b a (Err NoMemory) = CanSchedule b a
+Checks b a (Err NoMemory) = ⊥
 
--- whether there is room for one more event beside the end of an open entry
+-- whether there is room for one more event, beside those kept for the end of an open entry
 abbrev pub HasRoom : {T : Type 0} → BookState → Result T BookError → Type 0
 HasRoom b (Ok x) = 0 < room b.history
 HasRoom b (Err (InProgress n)) = ⊥
 HasRoom b (Err NoBackend) = ⊥
-HasRoom b (Err (HistoryFull n)) = (room b.history ≡ 0) × (n ≡ length b.history)
-HasRoom b (Err NoMemory) = 0 < room b.history
+HasRoom b (Err (HistoryFull n)) = IsFull b n
+HasRoom b (Err NoMemory) = ⊥
+
+-- want of room in the history, or of memory
+abbrev pub IsWant : BookError → Type 0
+IsWant (InProgress n) = ⊥
+IsWant NoBackend = ⊥
+IsWant (HistoryFull n) = Unit {0}
+IsWant NoMemory = Unit {0}

@@ -20,6 +20,6 @@ pub record Keeps (backends : ℕ) (h : List Event) (places : List ℕ) (ended on
   pub one_open : (done h ≤ length (log h)) × (length (log h) ≤ done h + 1)
   pub mask : (b : ℕ) → has on b ≡ enabled h b
   pub below : (b : ℕ) → enabled h b ≡ true → b < backends
-  -- the end of an open entry has its room
+  -- the history has room for the end of an open entry, and so has its vector
   pub short : length h + 2 * (length (log h) - done h) ≤ 2 ^ 62
   pub spare : length h + (length (log h) - done h) ≤ capacity

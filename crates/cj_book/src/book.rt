@@ -1,15 +1,13 @@
 //! The history, and what is kept of it.
 
-ghost use Rattle.std.specs.Prelude.{◌≡◌, ◌↔◌, ◌+◌, ◌-◌, ◌<◌, ◌≤◌, ℕ, true, false, [], ◌∷◌, ◌++◌, length, slice_get, vec_capacity, option_copied, Some, None, IsNone, IfSome, IfOk, OnOk, OnErr, IsErrOf, IsTrue};
-ghost use Rattle.cj_model.specs.declared.request.Entry.{Entry};
+ghost use Rattle.std.specs.Prelude.{◌≡◌, ◌↔◌, ◌+◌, ◌-◌, ◌<◌, ◌≤◌, ℕ, true, false, [], ◌∷◌, ◌++◌, length, slice_get, vec_capacity, option_copied, IsNone, IfSome, IfOk, IfErr, OnOk, OnErr, IsErrOf, IsTrue};
 ghost use Rattle.cj_model.specs.Plain.{request_of};
 ghost use Rattle.cj_model.specs.Placements as placements;
 ghost use Rattle.cj_model.specs.Placements.{everywhere};
 ghost use Rattle.cj_model.specs.Histories as histories;
 ghost use Rattle.cj_model.specs.Histories.{has, log, free};
-ghost use Rattle.cj_model.specs.Answering.{Served, Unserved, is_target};
-ghost use Rattle.cj_model.specs.Sound.{IsLone};
-ghost use Rattle.cj_book.specs.Books.{with_event, IsInProgress, HasNoBackend, LacksRoom, CanSchedule, Checks, HasRoom};
+ghost use Rattle.cj_model.specs.Answering.{Served, Unserved};
+ghost use Rattle.cj_book.specs.Books.{with_event, HasTargets, IsInProgress, HasNoBackend, LacksRoom, CanSchedule, Checks, IsFull, HasRoom, IsWant};
 ghost use Rattle.cj_book.specs.Kept as kept;
 
 use crate::error::BookError;
@@ -56,8 +54,8 @@ impl Model for Book {
 
     ghost view = { λ book. record { backends = book.backends; history = book.history.items } };
 
-    // The vector of the history has room for the end of an open entry.
-    ghost invariant = { λ book. Keeps book.backends book.history.items book.scheduled.items book.done book.enabled (vec_capacity book.history) };
+    ghost invariant = { λ book. Keeps book.backends book.history.items book.scheduled.items book.done book.enabled
+        (vec_capacity book.history) };
 }
 
 fn entry_at(history: &[Event], place: usize) -> Option<&Entry>
@@ -162,6 +160,7 @@ impl Book {
         self.entry_of((n - 1) as usize)
     }
 
+    /// Whether the backend is enabled; false of a number that no backend has.
     pub fn is_enabled(&self, b: u8) -> bool
         ensures { result ≡ histories.enabled self.now.history b }
     {
@@ -170,7 +169,8 @@ impl Book {
 
     /// The mask of the enabled backends.
     pub fn enabled(&self) -> u32
-        ensures { (b : ℕ) → has result b ≡ histories.enabled self.now.history b }
+        ensures mask { (b : ℕ) → has result b ≡ histories.enabled self.now.history b }
+        ensures below { (b : ℕ) → has result b ≡ true → b < self.now.backends }
     {
         self.enabled
     }
@@ -178,7 +178,7 @@ impl Book {
     /// The mask of the targets of the open entry, which is outside a transaction; 0 where none is open.
     pub fn targets(&self) -> u32
         ensures none { free self.now.history ≡ true → result ≡ 0 }
-        ensures open { (e : Entry) → histories.opened self.now.history ≡ Some e → IsLone e e.act → (b : ℕ) → (has result b ≡ true) ↔ is_target (everywhere self.now.backends) self.now.history e b }
+        ensures of_opened { HasTargets result self.now }
     {
         if self.is_free() { 0 } else { self.enabled }
     }
@@ -207,8 +207,7 @@ impl Book {
     }
 
     fn check_schedule(&self, act: &Act) -> Result<(), BookError>
-        ensures checks { Checks self.now act.now result }
-        ensures memory { ¬ IsErrOf result BookError.NoMemory }
+        ensures { Checks self.now act.now result }
     {
         if let Some(n) = self.open_entry() {
             return Err(BookError::InProgress(n));
@@ -223,7 +222,7 @@ impl Book {
     }
 
     fn check_room(&self) -> Result<(), BookError>
-        ensures room { HasRoom self.now result }
+        ensures { HasRoom self.now result }
     {
         if self.room() == 0 {
             return Err(BookError::HistoryFull(self.events()));
@@ -262,12 +261,15 @@ impl Book {
         self.enabled &= !(failed | starved);
     }
 
+    /// Disables a backend that is enabled, while no entry is open.
     pub fn disable(&mut self, b: u8) -> Result<(), BookError>
         requires is_free { free self.old.history ≡ true }
         requires below { b < self.old.backends }
         requires is_enabled { histories.enabled self.old.history b ≡ true }
         ensures ok { OnOk result (self.new ≡ with_event self.old (Event.Disabled b)) }
-        ensures room { HasRoom self.old result }
+        ensures space { OnOk result (0 < histories.room self.old.history) }
+        ensures full { (n : ℕ) → IsErrOf result (BookError.HistoryFull n) ↔ IsFull self.old n }
+        ensures want { IfErr result IsWant }
         ensures err { OnErr result (self.new ≡ self.old) }
     {
         self.check_room()?;
@@ -276,12 +278,15 @@ impl Book {
         Ok(())
     }
 
+    /// Enables a backend that isn't enabled, while no entry is open.
     pub fn enable(&mut self, b: u8) -> Result<(), BookError>
         requires is_free { free self.old.history ≡ true }
         requires below { b < self.old.backends }
         requires is_disabled { histories.enabled self.old.history b ≡ false }
         ensures ok { OnOk result (self.new ≡ with_event self.old (Event.Enabled b)) }
-        ensures room { HasRoom self.old result }
+        ensures space { OnOk result (0 < histories.room self.old.history) }
+        ensures full { (n : ℕ) → IsErrOf result (BookError.HistoryFull n) ↔ IsFull self.old n }
+        ensures want { IfErr result IsWant }
         ensures err { OnErr result (self.new ≡ self.old) }
     {
         self.check_room()?;
@@ -293,7 +298,9 @@ impl Book {
     /// A backend failed in a session's read, also while an entry is open.
     pub fn read_failed(&mut self, session: u64, seq: u64, b: u8) -> Result<(), BookError>
         ensures ok { OnOk result (self.new ≡ with_event self.old (Event.ReadFailed session seq b)) }
-        ensures room { HasRoom self.old result }
+        ensures space { OnOk result (0 < histories.room self.old.history) }
+        ensures full { (n : ℕ) → IsErrOf result (BookError.HistoryFull n) ↔ IsFull self.old n }
+        ensures want { IfErr result IsWant }
         ensures err { OnErr result (self.new ≡ self.old) }
     {
         self.check_room()?;

@@ -1,10 +1,9 @@
 -- What each move leaves a session: a turn where it answers it, and else what stood between two replies.
-use Rattle.std.proofs.Common.{◌≡◌, ◌≢◌, ℕ, ◌+◌, ◌<◌, ◌≤◌, ◌==◌, ◌&&◌, ◌⊎◌, inl, inr, Bool, true, false, cond, List, [], ◌∷◌, ◌++◌, length, Option, None, Some, Ok, Err, is_none, refl, ap, sym, ◌∙◌, subst, arith, ⊎_elim}
+use Rattle.std.proofs.Common.{◌≡◌, ◌≢◌, ℕ, ◌<◌, ◌≤◌, ◌==◌, ◌&&◌, true, false, cond, List, [], ◌∷◌, ◌++◌, length, Option, None, Some, Ok, Err, is_none, refl, ap, sym, ◌∙◌, subst, arith, ⊎_elim}
 use mathlib.Core.List.{IsPrefix}
 use Rattle.std.specs.Option.{MatchOption}
 use Rattle.std.proofs.lemmas.Bool.{cases_eq, eqb-true, eqb-false, eq-eqb, ne_eqb, both_ways, cond_both, and_parts}
 use Rattle.cj_model.specs.declared.request.Request.{Request}
-use Rattle.cj_model.specs.declared.request.Request.TheVariants as request
 use Rattle.cj_model.specs.declared.request.Act.{Act}
 use Rattle.cj_model.specs.declared.request.Act.TheVariants as act
 use Rattle.cj_model.specs.declared.request.Entry.{Entry}
@@ -18,27 +17,24 @@ use Rattle.cj_model.specs.declared.event.Event.{Event}
 use Rattle.cj_model.specs.declared.event.Event.TheVariants as event
 use Rattle.cj_model.specs.declared.moves.Move.{Move}
 use Rattle.cj_model.specs.declared.moves.Move.TheVariants.{Open, Close, Schedule, Apply, End, Read, Arm, Disable, Replay, Enable}
-use Rattle.cj_model.specs.declared.moves.Moved.{Moved}
 use Rattle.cj_model.specs.declared.moves.Moved.TheVariants as moved
 use Rattle.cj_model.specs.declared.moves.Why.{Why}
 use Rattle.cj_model.specs.declared.moves.MoveError.TheVariants.{NotNow, NoMemory}
 use Rattle.cj_model.specs.declared.moves.OpenSession.{OpenSession}
-use Rattle.cj_model.specs.declared.codes.TheConstants.{NO_BACKEND, READ_FAULT, HISTORY_FULL}
-use Rattle.cj_model.specs.Changes.{bare}
-use Rattle.cj_model.specs.Plain.{act_of, request_of}
+use Rattle.cj_model.specs.Plain.{act_of}
 use Rattle.cj_model.specs.Placements.{Placement}
-use Rattle.cj_model.specs.Histories.{has, scheduled, is_ended, log, done, free, opened, enabled, enabled_after, room}
+use Rattle.cj_model.specs.Histories.{scheduled, is_ended, log, done, free, opened, room}
 use Rattle.cj_model.specs.Legality.{IsLegal}
-use Rattle.cj_model.specs.Answering.{ServesAt, Served, Unserved, AnswersEntry}
+use Rattle.cj_model.specs.Answering.{Served, AnswersEntry}
 use Rattle.cj_model.specs.Turns.{Seen, Call, IsFull, reply_of_asked, entries_of, Turn}
-use Rattle.cj_model.specs.Cores.{Core, position_at, with_bit, session_of, session_at, fresh_session, with_session, is_by}
+use Rattle.cj_model.specs.Cores.{Core, session_at, fresh_session, with_session, is_by}
 use Rattle.cj_model.specs.Moves.{Given, MovesTo, is_open, Does, Opens, Closes, Schedules, SchedulesOf, SchedulesAct, RefusesSchedule, Applies, Replays, Ends, Reads, ReadsOrWaits, Reaches, ReadsNowhere, ReadsFull, ReadsInVain, ReadsAgain, ReadsTooEarly, Arms, Disables, Enables, not_now, forbidden_by, tx_of_act, open_tx, next_entry, last_number, counted, answered_at, was_answered, still_reading, read_number, tried_of, tried_with, ended}
 use Rattle.cj_model.specs.Sound.{Stands, IsLone, IsSound}
-use Rattle.cj_model.specs.Runs.{reply_in, reply_given, is_allowed, call_of_entry, call_of_act, call_at, IsUnanswered, IsSeenBy, IsBetween}
+use Rattle.cj_model.specs.Runs.{reply_given, is_allowed, call_of_entry, call_of_act, call_at, IsUnanswered, IsSeenBy, IsBetween}
 use Rattle.cj_model.proofs.Pushed.{prefix_self, prefix_length, opened-same, opened-free, opened-last, opened-ended}
 use Rattle.cj_model.proofs.Sessions.{without, session_of-other, session_of-without_other}
 use Rattle.cj_model.proofs.Now.{CanSchedule, can_schedule, CanEnd, can_end, CanRead, can_read, CanDisable, can_disable, CanEnable, can_enable}
-use Rattle.cj_model.proofs.Soundness.{request_of-act}
+use Rattle.cj_model.proofs.Soundness.{no_tx, request_of-act}
 use Rattle.cj_model.proofs.TurnCases.{turn_end, turn_unserved, turn_full, turn_read, turn_fault}
 use Rattle.cj_model.proofs.Between.{seen, Follows, follows_own, follows_rest, follows_opened, between_follows, between_fresh, between_opened, between_closed, seen_event, seen_ended, seen_other, seen_sched, seen_changed, tried_none, tried_still, tried_again, prior, with_cases, opened_all}
 
@@ -58,10 +54,11 @@ tx_none act.Abort = refl
 
 -- ---- replies
 
--- a reply to the session itself, and one to another
+-- a reply to the session itself
 to_own : (s : ℕ) (r : Reply) (P : Option Reply → Type 0) → P (Some r) → P (cond (s == s) (Some r) None)
 to_own s r P h = cond_both (s == s) (Some r) None P (λ t. h) (λ f. absurd (both_ways (s == s) f (eq-eqb s s refl)))
 
+-- a reply to another session
 to_other : (t s : ℕ) (r : Reply) (P : Option Reply → Type 0) → (t ≡ s → ⊥) → P None → P (cond (t == s) (Some r) None)
 to_other t s r P ne h = cond_both (t == s) (Some r) None P (λ e. absurd (ne (eqb-true t s e))) (λ f. h)
 
@@ -69,16 +66,20 @@ to_other t s r P ne h = cond_both (t == s) (Some r) None P (λ e. absurd (ne (eq
 replied : (p : Placement) (a : Seen) (c z : Core) (h : List Event) (s : ℕ) (x : OpenSession) (call : Call) (n : ℕ) → IsSound z → Follows c z h s x → is_by s (opened h) ≡ false → x.reading ≡ None
     → x.least ≡ n → Turn p s a call (record { front = h; least = n }) → Turn p s a call (seen z s) × IsBetween (seen z s) z s
 replied p a c z h s x call n v f idle none least turn =
-    let now : (session_at z s).least ≡ n = ap (λ (y : OpenSession). y.least) f.session ∙ least in
-    (
+    let now : (session_at z s).least ≡ n = ap (λ (y : OpenSession). y.least) f.session ∙ least in (
       subst (λ (g : List Event). Turn p s a call (record { front = g; least = (session_at z s).least })) (sym f.history)
-        (subst (λ (m : ℕ). Turn p s a call (record { front = h; least = m })) (sym now) turn),
+          (subst (λ (m : ℕ). Turn p s a call (record { front = h; least = m })) (sym now) turn),
       between_fresh z s v (ap (λ g. is_by s (opened g)) f.history ∙ idle) (ap (λ (y : OpenSession). y.reading) f.session ∙ none),
     )
 
 -- ---- moves
 
-module _ (a : Seen) (c z : Core) (s : ℕ) (w : IsSound c) (v : IsSound z) (j : IsBetween a c s) (no_tx : open_tx c s ≡ 0) where
+module _ (a : Seen) (c z : Core) (s : ℕ) (w : IsSound c) (v : IsSound z) (j : IsBetween a c s) where
+  -- it has no transaction
+  outside : open_tx c s ≡ 0
+  outside = no_tx c s w
+
+  -- nothing changes
   same : z ≡ c → IsBetween a z s
   same e = subst (λ (x : Core). IsBetween a x s) (sym e) j
 
@@ -88,6 +89,7 @@ module _ (a : Seen) (c z : Core) (s : ℕ) (w : IsSound c) (v : IsSound z) (j : 
   rest ps failed starved is =
       between_follows a c z c.history s (session_at c s) j (follows_rest c z c.history s c.placement ps failed starved c.sessions (prefix_self c.history) is refl) (λ q. q)
 
+  -- a session opens
   opens : (user : List ℕ) (g : Given) → Opens c user g z → After a c s (Open user) z (reply_given c s (Open user) g)
   opens user (Ok (moved.Session n)) h =
       ⊎_elim
@@ -98,23 +100,27 @@ module _ (a : Seen) (c z : Core) (s : ℕ) (w : IsSound c) (v : IsSound z) (j : 
   opens user (Err NoMemory) h = same h
   opens user _ h = absurd h
 
+  -- a session closes
   closes : (k : ℕ) (g : Given) → Closes c k g z → After a c s (Close k) z (reply_given c s (Close k) g)
   closes k (Ok moved.Closed) h =
       ⊎_elim
       (λ (e : s ≡ k). between_closed a c z s j (subst (λ (n : ℕ). z ≡ record c { sessions = without n c.sessions }) (sym e) h))
       (λ (e : s ≡ k → ⊥).
-         between_follows a c z c.history s (session_at c s) j (follows_rest c z c.history s c.placement c.positions c.failed c.starved (without k c.sessions) (prefix_self c.history) h (session_of-without_other c.sessions k s e)) (λ q. q))
+      between_follows a c z c.history s (session_at c s) j (follows_rest c z c.history s c.placement c.positions c.failed c.starved (without k c.sessions) (prefix_self c.history) h (session_of-without_other c.sessions k s e)) (λ q. q))
       (cases_eq s k)
   closes k _ h = absurd h
 
+  -- a backend takes the open entry
   applies : (b : ℕ) (g : Given) → Applies true c b g z → After a c s (Apply b) z (reply_given c s (Apply b) g)
   applies b (Ok (moved.Applied n d)) h = rest _ _ _ h.1.2
   applies b _ h = absurd h
 
+  -- a backend that is not enabled takes an entry
   replays : (b : ℕ) (g : Given) → Replays true c b g z → After a c s (Replay b) z (reply_given c s (Replay b) g)
   replays b (Ok (moved.Replayed n d)) h = rest _ _ _ h.1.2
   replays b _ h = absurd h
 
+  -- a backend's next call is to fail
   arms : (b : ℕ) (g : Given) → Arms c g z → After a c s (Arm b) z (reply_given c s (Arm b) g)
   arms b (Ok moved.Armed) h = same h
   arms b _ h = absurd h
@@ -126,12 +132,14 @@ module _ (a : Seen) (c z : Core) (s : ℕ) (w : IsSound c) (v : IsSound z) (j : 
       (follows_rest c z (c.history ++ ev ∷ []) s c.placement c.positions c.failed c.starved c.sessions (ev ∷ [], refl) is refl)
       (λ q. seen_event c.placement a c.history s (session_at c s) q ev none stays (λ t. absurd (both_ways (is_by s (opened c.history)) (ap (is_by s) (opened-free c.history fr)) t)))
 
+  -- a backend is disabled
   disables : (b : ℕ) (g : Given) → CanDisable c b → Disables c b g z → After a c s (Disable b) z (reply_given c s (Disable b) g)
   disables b (Ok moved.Disabled) can h = while_free (event.Disabled b) refl refl can.is_free h.1
   disables b (Ok (moved.Refused r)) can h = same h.2
   disables b (Err NoMemory) can h = same h
   disables b _ can h = absurd h
 
+  -- a backend is enabled
   enables : (b : ℕ) (g : Given) → CanEnable c b → Enables c b g z → After a c s (Enable b) z (reply_given c s (Enable b) g)
   enables b (Ok moved.Enabled) can h = while_free (event.Enabled b) refl refl can.is_free h.1
   enables b (Ok (moved.Refused r)) can h = same h.2
@@ -150,15 +158,16 @@ module _ (a : Seen) (c z : Core) (s : ℕ) (w : IsSound c) (v : IsSound z) (j : 
       let last = opened-last c.history e w.one_open.1 is in
       let legal : IsLegal (ended c) = subst IsLegal f.history v.legal in
       let turn : Turn c.placement e.session a (call_of_entry (Some e) reply) (record { front = ended c; least = length (log c.history) }) =
-        turn_end c.placement a c.history c.failed c.starved e reply legal j.longer j.owes (subst (IsUnanswered c.placement a.front c.history) own q.0) is (opened_all (λ (x : Entry). IsLone x x.act) c.history e w.lone is) last.1 answer
+      turn_end c.placement a c.history c.failed c.starved e reply legal j.longer j.owes (subst (IsUnanswered c.placement a.front c.history) own q.0) is (opened_all (λ (x : Entry). IsLone x x.act) c.history e w.lone is) last.1 answer
       in
       let mine : Turn c.placement s a (call_of_entry (opened c.history) reply) (record { front = ended c; least = length (log c.history) }) =
-        subst (λ (k : ℕ). Turn c.placement k a (call_of_entry (opened c.history) reply) (record { front = ended c; least = length (log c.history) })) (sym own)
-        (subst (λ (o : Option Entry). Turn c.placement e.session a (call_of_entry o reply) (record { front = ended c; least = length (log c.history) })) (sym is) turn)
+      subst (λ (k : ℕ). Turn c.placement k a (call_of_entry (opened c.history) reply) (record { front = ended c; least = length (log c.history) })) (sym own)
+      (subst (λ (o : Option Entry). Turn c.placement e.session a (call_of_entry o reply) (record { front = ended c; least = length (log c.history) })) (sym is) turn)
       in
       let none : opened (ended c) ≡ None = opened-ended c.history c.failed c.starved can.is_running w.one_open.0 w.one_open.1 in
       replied c.placement a c z (ended c) s (answered_at (last_number c) (session_at c s)) (call_of_entry (opened c.history) reply) (length (log c.history)) v f (ap (is_by s) none) q.1 refl mine
 
+  -- an entry ends, which answers its session and no other
   ends : (g : Given) → CanEnd c → Ends true c g z → After a c s End z (reply_given c s End g)
   ends (Ok (moved.Replied t reply)) can h =
       let e : Entry = h.0 in
@@ -166,18 +175,18 @@ module _ (a : Seen) (c z : Core) (s : ℕ) (w : IsSound c) (v : IsSound z) (j : 
       let ss : List OpenSession = with_session c.sessions t (answered_at (last_number c)) in
       cond_both (t == s) (Some reply) None (After a c s End z)
       (λ is.
-         let own : s ≡ e.session = sym (eqb-true t s is) ∙ h.2 in
-         let here : is_open c s ≡ true = subst (λ (k : ℕ). is_open c k ≡ true) (sym own) (w.waits e h.1) in
-         ends_own e reply can h.1 own
-         (follows_own c z (ended c) s c.placement c.positions 0 0 ss longer h.4 (answered_at (last_number c)) (λ x. refl) (ap (λ (k : ℕ). with_session c.sessions k (answered_at (last_number c))) (eqb-true t s is)) here)
-         (h.3 refl))
+      let own : s ≡ e.session = sym (eqb-true t s is) ∙ h.2 in
+      let here : is_open c s ≡ true = subst (λ (k : ℕ). is_open c k ≡ true) (sym own) (w.waits e h.1) in
+      ends_own e reply can h.1 own
+      (follows_own c z (ended c) s c.placement c.positions 0 0 ss longer h.4 (answered_at (last_number c)) (λ x. refl) (ap (λ (k : ℕ). with_session c.sessions k (answered_at (last_number c))) (eqb-true t s is)) here)
+      (h.3 refl))
       (λ is.
-         let other : s ≢ t = λ q. eqb-false t s is (sym q) in
-         let not_own : is_by s (opened c.history) ≡ false = ap (is_by s) h.1 ∙ ne_eqb e.session s (λ q. other (sym (h.2 ∙ q))) in
-         let none : opened (ended c) ≡ None = opened-ended c.history c.failed c.starved can.is_running w.one_open.0 w.one_open.1 in
-         between_follows a c z (ended c) s (session_at c s) j
-         (follows_rest c z (ended c) s c.placement c.positions 0 0 ss longer h.4 (session_of-other (answered_at (last_number c)) (λ x. refl) c.sessions t s other))
-         (λ q. seen_ended c.placement a c.history s (session_at c s) q c.failed c.starved not_own none))
+      let other : s ≢ t = λ q. eqb-false t s is (sym q) in
+      let not_own : is_by s (opened c.history) ≡ false = ap (is_by s) h.1 ∙ ne_eqb e.session s (λ q. other (sym (h.2 ∙ q))) in
+      let none : opened (ended c) ≡ None = opened-ended c.history c.failed c.starved can.is_running w.one_open.0 w.one_open.1 in
+      between_follows a c z (ended c) s (session_at c s) j
+      (follows_rest c z (ended c) s c.placement c.positions 0 0 ss longer h.4 (session_of-other (answered_at (last_number c)) (λ x. refl) c.sessions t s other))
+      (λ q. seen_ended c.placement a c.history s (session_at c s) q c.failed c.starved not_own none))
   ends _ can h = absurd h
 
   -- ---- what is scheduled, or refused
@@ -186,30 +195,32 @@ module _ (a : Seen) (c z : Core) (s : ℕ) (w : IsSound c) (v : IsSound z) (j : 
   rested : is_open c s ≡ true → is_by s (opened c.history) ≡ false → entries_of s c.history ≡ entries_of s a.front
   rested here idle = (j.here here).rests idle
 
+  -- what the session owes is what it has seen
   owes_same : is_open c s ≡ true → (session_at c s).least ≡ a.least
   owes_same here = (j.here here).least
 
   module _ (r : Request) (act : Act) (is : act_of r ≡ Some act) where
-    -- the session's own request
+    -- the session's own request, which its transaction's state allows
     own_refused : (refusal : Refusal) → CanSchedule c s → is_allowed c s (act_of r) ≡ true → RefusesSchedule c s r act refusal → Follows c z c.history s (counted (session_at c s))
         → After a c s (Schedule s r) z (Some (Refused refusal))
     own_refused refusal can allowed refuses f =
         let call : Option Act → Call = λ o. call_of_act c s r o (Refused refusal) in
         let rests = rested can.here can.idle in
-        let tx : tx_of_act (open_tx c s) act ≡ 0 = ap (λ t. tx_of_act t act) no_tx ∙ tx_none act in
+        let tx : tx_of_act (open_tx c s) act ≡ 0 = ap (λ t. tx_of_act t act) outside ∙ tx_none act in
         let free_of : is_none (forbidden_by (open_tx c s) act) ≡ true = sym (ap (is_allowed c s) is) ∙ allowed in
         let turn : Turn c.placement s a (call (Some act)) (record { front = c.history; least = a.least }) =
-          ⊎_elim (λ (x : _). absurd (both_ways (is_none (forbidden_by (open_tx c s) act)) (ap is_none x) free_of))
-          (λ (y : _).
-             ⊎_elim
-             (λ (x : _). turn_unserved c.placement s a c.history w.legal j.longer j.owes rests (call (Some act)) tx (ap (λ o. Refused o) x.1) x.2)
-             (λ (x : _). turn_full c.placement s a c.history w.legal j.longer j.owes rests (call (Some act)) tx (ap (λ o. Refused o) x.1) x.2 (subst (IsFull c.history) (sym is) (can.is_free, x.3)))
-             y)
-          refuses
+        ⊎_elim (λ (x : _). absurd (both_ways (is_none (forbidden_by (open_tx c s) act)) (ap is_none x) free_of))
+        (λ (y : _).
+        ⊎_elim
+        (λ (x : _). turn_unserved c.placement s a c.history w.legal j.longer j.owes rests (call (Some act)) tx (ap (λ o. Refused o) x.1) x.2)
+        (λ (x : _). turn_full c.placement s a c.history w.legal j.longer j.owes rests (call (Some act)) tx (ap (λ o. Refused o) x.1) x.2 (subst (IsFull c.history) (sym is) (can.is_free, x.3)))
+        y)
+        refuses
         in
         replied c.placement a c z c.history s (counted (session_at c s)) (call (act_of r)) a.least v f can.idle can.no_read (owes_same can.here)
         (subst (λ (o : Option Act). Turn c.placement s a (call o) (record { front = c.history; least = a.least })) (sym is) turn)
 
+    -- it is scheduled, refused, or neither for want of memory
     own_act : (g : Given) → CanSchedule c s → SchedulesAct c s r act g z → After a c s (Schedule s r) z (reply_given c s (Schedule s r) g)
     own_act (Ok (moved.Entry n)) can h =
         let e : Entry = next_entry c s act in
@@ -217,14 +228,14 @@ module _ (a : Seen) (c z : Core) (s : ℕ) (w : IsSound c) (v : IsSound z) (j : 
         between_follows a c z g s (counted (session_at c s)) j
         (follows_own c z g s c.placement c.positions 0 0 (with_session c.sessions s counted) (event.Sched e ∷ [], refl) h.4 counted (λ x. refl) refl can.here)
         (λ q.
-           seen_sched c.placement a c.history s (session_at c s) q e (counted (session_at c s)) can.is_free refl (subst (Served c.placement c.history) (sym (request_of-act r act is)) h.1) h.2 j.longer refl can.no_read)
+        seen_sched c.placement a c.history s (session_at c s) q e (counted (session_at c s)) can.is_free refl (subst (Served c.placement c.history) (sym (request_of-act r act is)) h.1) h.2 j.longer refl can.no_read)
     own_act (Ok (moved.Refused refusal)) can h =
         let f = follows_own c z c.history s c.placement c.positions c.failed c.starved (with_session c.sessions s counted) (prefix_self c.history) h.1 counted (λ x. refl) refl can.here in
         cond_both ((s == s) && is_allowed c s (act_of r)) (Some (Refused refusal)) None (After a c s (Schedule s r) z)
         (λ t. own_refused refusal can (and_parts _ _ t).1 h.0 f)
         (λ t.
-           between_follows a c z c.history s (counted (session_at c s)) j f
-           (λ q. seen_changed c.placement a c.history s (session_at c s) q (counted (session_at c s)) can.idle refl (tried_none a.front c.history s (counted (session_at c s)) can.no_read)))
+        between_follows a c z c.history s (counted (session_at c s)) j f
+        (λ q. seen_changed c.placement a c.history s (session_at c s) q (counted (session_at c s)) can.idle refl (tried_none a.front c.history s (counted (session_at c s)) can.no_read)))
     own_act (Err NoMemory) can h = same h
     own_act _ can h = absurd h
 
@@ -240,19 +251,21 @@ module _ (a : Seen) (c z : Core) (s : ℕ) (w : IsSound c) (v : IsSound z) (j : 
         cond_both ((k == s) && is_allowed c s (act_of r)) (Some (Refused refusal)) None (After a c s (Schedule k r) z)
         (λ t. absurd (other (sym (eqb-true k s (and_parts _ _ t).0))))
         (λ t.
-           between_follows a c z c.history s (session_at c s) j
-           (follows_rest c z c.history s c.placement c.positions c.failed c.starved (with_session c.sessions k counted) (prefix_self c.history) h.1 (session_of-other counted (λ x. refl) c.sessions k s other)) (λ q. q))
+        between_follows a c z c.history s (session_at c s) j
+        (follows_rest c z c.history s c.placement c.positions c.failed c.starved (with_session c.sessions k counted) (prefix_self c.history) h.1 (session_of-other counted (λ x. refl) c.sessions k s other)) (λ q. q))
     other_act k (Err NoMemory) other can h = same h
     other_act k _ other can h = absurd h
 
+    -- by whose request it is
     schedules_act : (k : ℕ) (g : Given) → CanSchedule c k → SchedulesAct c k r act g z → After a c s (Schedule k r) z (reply_given c s (Schedule k r) g)
     schedules_act k g can h =
         ⊎_elim
         (λ (e : s ≡ k).
-           subst (λ (n : ℕ). CanSchedule c n → SchedulesAct c n r act g z → After a c s (Schedule n r) z (reply_given c s (Schedule n r) g)) e (own_act g) can h)
+        subst (λ (n : ℕ). CanSchedule c n → SchedulesAct c n r act g z → After a c s (Schedule n r) z (reply_given c s (Schedule n r) g)) e (own_act g) can h)
         (λ (e : s ≡ k → ⊥). other_act k g e can h)
         (cases_eq s k)
 
+  -- by the act of the request
   schedules : (k : ℕ) (r : Request) (g : Given) → CanSchedule c k → Schedules c k r g z → After a c s (Schedule k r) z (reply_given c s (Schedule k r) g)
   schedules k r g can h = of (act_of r) refl h
     where
@@ -264,15 +277,17 @@ module _ (a : Seen) (c z : Core) (s : ℕ) (w : IsSound c) (v : IsSound z) (j : 
 
   -- the session's own read, at backend b
   module _ (b : ℕ) (select : Select) (can : CanRead c s) where
-    -- the history stays, or the failed attempt is its next event
+    -- the history stays
     follows_read : (f : OpenSession → OpenSession) → ((x : OpenSession) → (f x).number ≡ x.number) → z ≡ record c { sessions = with_session c.sessions s f }
         → Follows c z c.history s (f (session_at c s))
     follows_read f keeps is = follows_own c z c.history s c.placement c.positions c.failed c.starved (with_session c.sessions s f) (prefix_self c.history) is f keeps refl can.here
 
+    -- the failed attempt is the next event
     follows_failed : (ev : Event) (f : OpenSession → OpenSession) → ((x : OpenSession) → (f x).number ≡ x.number) → z ≡ record c { history = c.history ++ ev ∷ []; sessions = with_session c.sessions s f }
         → Follows c z (c.history ++ ev ∷ []) s (f (session_at c s))
     follows_failed ev f keeps is = follows_own c z (c.history ++ ev ∷ []) s c.placement c.positions c.failed c.starved (with_session c.sessions s f) (ev ∷ [], refl) is f keeps refl can.here
 
+    -- the backend answered
     reaches : (answer : Asked) → Reaches true c s b select answer z → After a c s (Read s b select) z (Some (reply_of_asked answer))
     reaches answer h =
         let p : ℕ = h.p in
@@ -281,22 +296,25 @@ module _ (a : Seen) (c z : Core) (s : ℕ) (w : IsSound c) (v : IsSound z) (j : 
         let least : (session_at c s).least ≡ a.least = owes_same can.here in
         let owed : (session_at c s).least ≤ p = h.owed in
         replied c.placement a c z c.history s (answered_at p (was_answered (session_at c s))) call p v (follows_read (λ x. answered_at p (was_answered x)) (λ x. refl) h.after) can.idle refl refl
-        (turn_read c.placement s a c.history w.legal j.longer j.owes (rested can.here can.idle) call select p no_tx refl (ap reply_of_asked (h.says refl)) (λ t. (b, h.serves)) (omega arith) (stands.1 h.serves.0) stands.0)
+        (turn_read c.placement s a c.history w.legal j.longer j.owes (rested can.here can.idle) call select p outside refl (ap reply_of_asked (h.says refl)) (λ t. (b, h.serves)) (omega arith) (stands.1 h.serves.0) stands.0)
 
+    -- no backend serves the read
     reads_nowhere : (refusal : Refusal) → ReadsNowhere c s b select refusal z → After a c s (Read s b select) z (Some (Refused refusal))
     reads_nowhere refusal h =
         let call : Call = call_at c s (Read s b select) (Refused refusal) in
         replied c.placement a c z c.history s (was_answered (session_at c s)) call a.least v (follows_read was_answered (λ x. refl) h.after) can.idle refl (owes_same can.here)
-        (turn_unserved c.placement s a c.history w.legal j.longer j.owes (rested can.here can.idle) call no_tx (ap (λ o. Refused o) h.refused) h.none)
+        (turn_unserved c.placement s a c.history w.legal j.longer j.owes (rested can.here can.idle) call outside (ap (λ o. Refused o) h.refused) h.none)
 
+    -- the history has no room for the failed attempt
     reads_full : (refusal : Refusal) → ReadsFull c s b select refusal z → After a c s (Read s b select) z (Some (Refused refusal))
     reads_full refusal h =
         let call : Call = call_at c s (Read s b select) (Refused refusal) in
         let none : room c.history ≡ 0 = h.full in
         let full : room c.history < 1 = omega arith in
         replied c.placement a c z c.history s (was_answered (session_at c s)) call a.least v (follows_read was_answered (λ x. refl) h.after) can.idle refl (owes_same can.here)
-        (turn_full c.placement s a c.history w.legal j.longer j.owes (rested can.here can.idle) call no_tx (ap (λ o. Refused o) h.refused) (λ t. (b, h.serves)) full)
+        (turn_full c.placement s a c.history w.legal j.longer j.owes (rested can.here can.idle) call outside (ap (λ o. Refused o) h.refused) (λ t. (b, h.serves)) full)
 
+    -- each backend that serves the read failed
     reads_in_vain : (refusal : Refusal) → ReadsInVain c s b select refusal z → After a c s (Read s b select) z (Some (Refused refusal))
     reads_in_vain refusal h =
         let call : Call = call_at c s (Read s b select) (Refused refusal) in
@@ -306,10 +324,11 @@ module _ (a : Seen) (c z : Core) (s : ℕ) (w : IsSound c) (v : IsSound z) (j : 
         let f : Follows c z g s (was_answered x) = follows_failed ev was_answered (λ y. refl) h.after in
         let idle : is_by s (opened g) ≡ false = ap (is_by s) (opened-same c.history ev refl refl) ∙ can.idle in
         replied c.placement a c z g s (was_answered x) call a.least v f idle refl (owes_same can.here)
-        (turn_fault c.placement s a c.history b call select h.mask (tried_of x.reading) (subst IsLegal f.history v.legal) j.longer j.owes (rested can.here can.idle) no_tx refl (ap (λ o. Refused o) h.refused)
-           (prior a.front c.history s x (j.here can.here).reads) h.serving
-           (λ k serves. with_cases (tried_of x.reading) b k (h.all k serves)) h.serves)
+        (turn_fault c.placement s a c.history b call select h.mask (tried_of x.reading) (subst IsLegal f.history v.legal) j.longer j.owes (rested can.here can.idle) outside refl (ap (λ o. Refused o) h.refused)
+        (prior a.front c.history s x (j.here can.here).reads) h.serving
+        (λ k serves. with_cases (tried_of x.reading) b k (h.all k serves)) h.serves)
 
+    -- the backend is out, or stands too early
     reads_early : (position : Option ℕ) → ReadsTooEarly c s b select position z → IsBetween a z s
     reads_early position h =
         let x : OpenSession = session_at c s in
@@ -317,6 +336,7 @@ module _ (a : Seen) (c z : Core) (s : ℕ) (w : IsSound c) (v : IsSound z) (j : 
         between_follows a c z c.history s y j (follows_read (still_reading select (tried_of x.reading)) (λ q. refl) h.after)
         (λ q. seen_changed c.placement a c.history s x q y can.idle refl (tried_still a.front c.history s x select (tried_of x.reading) (prior a.front c.history s x q.reads)))
 
+    -- the backend failed, and another is to be tried
     reads_again : ReadsAgain c s b select z → IsBetween a z s
     reads_again h =
         let x : OpenSession = session_at c s in
@@ -326,9 +346,10 @@ module _ (a : Seen) (c z : Core) (s : ℕ) (w : IsSound c) (v : IsSound z) (j : 
         let idle : is_by s (opened g) ≡ false = ap (is_by s) (opened-same c.history ev refl refl) ∙ can.idle in
         between_follows a c z g s y j (follows_failed ev (still_reading select (tried_with c s b)) (λ q. refl) h.after)
         (λ q.
-           seen_changed c.placement a g s x (seen_event c.placement a c.history s x q ev refl refl (λ t k. refl)) y idle refl
-           (tried_again a.front c.history s b x select (prefix_length a.front c.history j.longer) q.reads))
+        seen_changed c.placement a g s x (seen_event c.placement a c.history s x q ev refl refl (λ t k. refl)) y idle refl
+        (tried_again a.front c.history s b x select (prefix_length a.front c.history j.longer) q.reads))
 
+    -- any of these
     own_reads : (g : Given) → Reads true c s b select g z → After a c s (Read s b select) z (reply_given c s (Read s b select) g)
     own_reads (Ok (moved.Rows rows)) h = to_own s (Rows rows) (After a c s (Read s b select) z) (reaches (asked.Rows rows) h)
     own_reads (Ok (moved.Refused refusal)) h =
@@ -343,11 +364,13 @@ module _ (a : Seen) (c z : Core) (s : ℕ) (w : IsSound c) (v : IsSound z) (j : 
 
   -- another session's read
   module _ (k b : ℕ) (select : Select) (other : s ≢ k) where
+    -- the history stays
     other_read : (f : OpenSession → OpenSession) → ((x : OpenSession) → (f x).number ≡ x.number) → z ≡ record c { sessions = with_session c.sessions k f } → IsBetween a z s
     other_read f keeps is =
         between_follows a c z c.history s (session_at c s) j
         (follows_rest c z c.history s c.placement c.positions c.failed c.starved (with_session c.sessions k f) (prefix_self c.history) is (session_of-other f keeps c.sessions k s other)) (λ q. q)
 
+    -- the failed attempt is the next event
     other_failed : (q : ℕ) (f : OpenSession → OpenSession) → ((x : OpenSession) → (f x).number ≡ x.number)
         → z ≡ record c { history = c.history ++ event.ReadFailed k q b ∷ []; sessions = with_session c.sessions k f } → IsBetween a z s
     other_failed q f keeps is =
@@ -356,17 +379,20 @@ module _ (a : Seen) (c z : Core) (s : ℕ) (w : IsSound c) (v : IsSound z) (j : 
         (follows_rest c z (c.history ++ ev ∷ []) s c.placement c.positions c.failed c.starved (with_session c.sessions k f) (ev ∷ [], refl) is (session_of-other f keeps c.sessions k s other))
         (λ x. seen_event c.placement a c.history s (session_at c s) x ev refl refl (λ t i. refl))
 
+    -- the backend answered
     other_reaches : (answer : Asked) → Reaches true c k b select answer z → IsBetween a z s
     other_reaches answer h = other_read (λ x. answered_at h.p (was_answered x)) (λ x. refl) h.after
 
+    -- the read was refused
     other_refused : (refusal : Refusal) → Reads true c k b select (Ok (moved.Refused refusal)) z → IsBetween a z s
     other_refused refusal h =
         ⊎_elim (other_reaches (asked.Refused refusal))
         (⊎_elim (λ (x : ReadsNowhere c k b select refusal z). other_read was_answered (λ y. refl) x.after)
-           (⊎_elim (λ (x : ReadsFull c k b select refusal z). other_read was_answered (λ y. refl) x.after)
-              (λ (x : ReadsInVain c k b select refusal z). other_failed (read_number (session_at c k)) was_answered (λ y. refl) x.after)))
+        (⊎_elim (λ (x : ReadsFull c k b select refusal z). other_read was_answered (λ y. refl) x.after)
+        (λ (x : ReadsInVain c k b select refusal z). other_failed (read_number (session_at c k)) was_answered (λ y. refl) x.after)))
         h
 
+    -- any of these
     other_reads : (g : Given) → Reads true c k b select g z → After a c s (Read k b select) z (reply_given c s (Read k b select) g)
     other_reads (Ok (moved.Rows rows)) h = to_other k s (Rows rows) (After a c s (Read k b select) z) (λ e. other (sym e)) (other_reaches (asked.Rows rows) h)
     other_reads (Ok (moved.Refused refusal)) h = to_other k s (Refused refusal) (After a c s (Read k b select) z) (λ e. other (sym e)) (other_refused refusal h)
@@ -377,19 +403,21 @@ module _ (a : Seen) (c z : Core) (s : ℕ) (w : IsSound c) (v : IsSound z) (j : 
     other_reads (Err NoMemory) h = same h
     other_reads _ h = absurd h
 
+  -- by whose read it is, and whether it can be made
   reads : (k b : ℕ) (select : Select) (g : Given) → CanRead c k → ReadsOrWaits true c k b select g z → After a c s (Read k b select) z (reply_given c s (Read k b select) g)
   reads k b select g can h =
       ⊎_elim (λ (x : _). subst (λ (y : Given). After a c s (Read k b select) z (reply_given c s (Read k b select) y)) (sym x.1) (same x.2))
       (λ (x : _).
-         ⊎_elim
-         (λ (e : s ≡ k).
-            subst (λ (n : ℕ). CanRead c n → Reads true c n b select g z → After a c s (Read n b select) z (reply_given c s (Read n b select) g)) e (λ q. own_reads b select q g) can x.1)
-         (λ (e : s ≡ k → ⊥). other_reads k b select e g x.1)
-         (cases_eq s k))
+      ⊎_elim
+      (λ (e : s ≡ k).
+      subst (λ (n : ℕ). CanRead c n → Reads true c n b select g z → After a c s (Read n b select) z (reply_given c s (Read n b select) g)) e (λ q. own_reads b select q g) can x.1)
+      (λ (e : s ≡ k → ⊥). other_reads k b select e g x.1)
+      (cases_eq s k))
       h
 
   -- ---- any move
 
+  -- a move that can be made
   does : (m : Move) (g : Given) → not_now c m ≡ None → Does true c m g z → After a c s m z (reply_given c s m g)
   does (Open user) g now h = opens user g h
   does (Close k) g now h = closes k g h

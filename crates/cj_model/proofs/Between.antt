@@ -1,12 +1,11 @@
 -- What stands between two replies to a session, over the moves that do not answer it.
-use Rattle.std.proofs.Common.{◌≡◌, ◌≢◌, ℕ, ◌+◌, ◌<◌, ◌≤◌, ◌==◌, ◌⊎◌, inl, inr, Bool, true, false, cond, List, [], ◌∷◌, ◌++◌, length, take, slice_get, count_by, All, Option, None, Some, is_some, refl, ap, sym, ◌∙◌, subst, arith, ⊎_elim, length-append}
+use Rattle.std.proofs.Common.{◌≡◌, ◌≢◌, ℕ, ◌+◌, ◌<◌, ◌≤◌, ◌==◌, ◌⊎◌, inl, inr, true, false, cond, List, [], ◌∷◌, ◌++◌, length, take, count_by, All, Option, None, Some, is_some, refl, ap, sym, ◌∙◌, subst, arith, ⊎_elim, length-append}
 use mathlib.Core.List.{IsPrefix}
 use Rattle.std.proofs.lemmas.Bool.{cases_eq, eqb-true, eq-eqb, ne_eqb, both_ways}
 use Rattle.std.proofs.lemmas.List.{take-append-le}
 use Rattle.std.proofs.lemmas.List.Elements.{All-head, All-tail, All-take, All-get_or, All-weaker}
 use Rattle.std.proofs.lemmas.Option.{slice_get_within, get_or_from_slice_get}
 use Rattle.std.proofs.Math.Seq.{take-append_seam}
-use Rattle.cj_model.specs.declared.request.Act.{Act}
 use Rattle.cj_model.specs.declared.request.Entry.{Entry}
 use Rattle.cj_model.specs.declared.select.Select.{Select}
 use Rattle.cj_model.specs.declared.event.Event.{Event}
@@ -19,22 +18,24 @@ use Rattle.cj_model.specs.Histories.{has, scheduled, is_ended, log, done, free, 
 use Rattle.cj_model.specs.Answering.{Served}
 use Rattle.cj_model.specs.Turns.{Seen, entries_of}
 use Rattle.cj_model.specs.Cores.{Core, with_bit, session_of, session_at, fresh_session, with_session, is_by}
-use Rattle.cj_model.specs.Moves.{is_open, is_reading, read_number, tried_of, still_reading}
+use Rattle.cj_model.specs.Moves.{is_open, read_number, tried_of, still_reading}
 use Rattle.cj_model.specs.Sound.{IsSession, IsSound}
 use Rattle.cj_model.specs.Runs.{IsUnanswered, HasFailed, TriedSince, IsSeenBy, IsBetween}
-use Rattle.cj_model.proofs.Pushed.{get_seam, get_left, prefix_self, prefix_trans, prefix_push, prefix_length, take_whole, log-prefix, enabled-push, log-same, done-same, opened-sched, opened-same, opened-free}
+use Rattle.cj_model.proofs.Pushed.{get_seam, get_left, prefix_self, prefix_trans, prefix_length, take_whole, log-prefix, enabled-push, log-same, done-same, opened-sched, opened-same, opened-free}
 use Rattle.cj_model.proofs.Masks.{has-zero, has-with_other}
-use Rattle.cj_model.proofs.Sessions.{session_at-is, found_all, found_none, session_of-other, session_of-push_same, session_of-push_other, without, session_of-without_same, session_of-without_other, session_at-same, session_at-other, is_open-with}
+use Rattle.cj_model.proofs.Sessions.{session_at-is, found_all, found_none, session_of-push_same, session_of-push_other, without, session_of-without_same, session_at-same, session_at-other}
 use Rattle.cj_model.proofs.TurnCases.{entries-same, entries-sched}
 
 -- ---- a read's failed attempts
 
+-- what failed has failed after one more event
 failed_push : (front h : List Event) (ev : Event) (s q b : ℕ) → HasFailed front h s q b → HasFailed front (h ++ ev ∷ []) s q b
 failed_push front h ev s q b x =
     let high : x.k < length h = x.high in
     let many : length (h ++ ev ∷ []) ≡ length h + 1 = length-append h (ev ∷ []) in
     record { k = x.k; low = x.low; high = omega arith; is = get_left h (ev ∷ []) x.k (ReadFailed s q b) x.is }
 
+-- and so has all that was tried
 tried_push : (front h : List Event) (ev : Event) (s : ℕ) (x : OpenSession) → TriedSince front h s x → TriedSince front (h ++ ev ∷ []) s x
 tried_push front h ev s x tried r b is t = failed_push front h ev s x.queries b (tried r b is t)
 
@@ -42,6 +43,7 @@ tried_push front h ev s x tried r b is t = failed_push front h ev s x.queries b 
 pub tried_none : (front h : List Event) (s : ℕ) (x : OpenSession) → x.reading ≡ None → TriedSince front h s x
 tried_none front h s x none r b is t = absurd (cc (none, is))
 
+-- by whether a read is open
 prior_in : (front h : List Event) (s : ℕ) (x : OpenSession) → TriedSince front h s x → (o : Option OpenRead) → x.reading ≡ o → (b : ℕ) → has (tried_of o) b ≡ true
     → HasFailed front h s (cond (is_some o) x.queries (x.queries + 1)) b
 prior_in front h s x tried None is b t = absurd (both_ways (has 0 b) (has-zero b) t)
@@ -83,6 +85,7 @@ unanswered_push p front h ev s none stays same o =
     }
 
 module _ (p : Placement) (a : Seen) (h : List Event) (s : ℕ) (x : OpenSession) (w : IsSeenBy p a h s x) where
+  -- such an event, or one that enables or disables while the session's entry is not open
   pub seen_event : (ev : Event) → scheduled ev ≡ None → is_ended ev ≡ false → (is_by s (opened h) ≡ true → (b : ℕ) → enabled_after b (enabled h b) ev ≡ enabled h b)
       → IsSeenBy p a (h ++ ev ∷ []) s x
   seen_event ev none stays same =
@@ -90,10 +93,10 @@ module _ (p : Placement) (a : Seen) (h : List Event) (s : ℕ) (x : OpenSession)
       record {
         least = w.least;
         waits =
-          λ t.
-          let was : is_by s (opened h) ≡ true = ap (is_by s) (sym op) ∙ t in
-          let q = w.waits was in
-          (unanswered_push p a.front h ev s none stays (same was) q.0, q.1);
+            λ t.
+            let was : is_by s (opened h) ≡ true = ap (is_by s) (sym op) ∙ t in
+            let q = w.waits was in
+            (unanswered_push p a.front h ev s none stays (same was) q.0, q.1);
         rests = λ t. entries-same s h (h ++ ev ∷ []) (log-same h ev none) ∙ w.rests (ap (is_by s) (sym op) ∙ t);
         reads = tried_push a.front h ev s x w.reads;
       }
@@ -138,17 +141,23 @@ module _ (p : Placement) (a : Seen) (h : List Event) (s : ℕ) (x : OpenSession)
       record {
         least = least ∙ w.least;
         waits =
-          λ t.
-          (record {
-            e = e; is = opened-sched h e fr; m = length h; low = low; high = omega arith;
-            was_free = ap free part ∙ fr;
-            served = subst (λ (z : List Event). Served p z (request_of e.act)) (sym part) served;
-            space = subst (λ (z : List Event). 3 ≤ room z) (sym part) space;
-            next = get_seam h [] (Sched e);
-            number = ap (λ z. length (log z)) part ∙ (sym (eqb-true _ _ fr) ∙ sym (done-same h (Sched e) refl));
-            same = λ b. ap (λ z. enabled z b) part ∙ sym (enabled-push h (Sched e) b);
-            entries = omega (arith, more, was);
-          }, none);
+            λ t. (
+              record {
+                e = e;
+                is = opened-sched h e fr;
+                m = length h;
+                low = low;
+                high = omega arith;
+                was_free = ap free part ∙ fr;
+                served = subst (λ (z : List Event). Served p z (request_of e.act)) (sym part) served;
+                space = subst (λ (z : List Event). 3 ≤ room z) (sym part) space;
+                next = get_seam h [] (Sched e);
+                number = ap (λ z. length (log z)) part ∙ (sym (eqb-true _ _ fr) ∙ sym (done-same h (Sched e) refl));
+                same = λ b. ap (λ z. enabled z b) part ∙ sym (enabled-push h (Sched e) b);
+                entries = omega (arith, more, was);
+              },
+              none,
+            );
         rests = λ t. absurd (both_ways (is_by s (opened g)) t op);
         reads = tried_none a.front g s y none;
       }
@@ -186,9 +195,9 @@ tried_again front h s b x select low tried =
     let now : HasFailed front (h ++ ev ∷ []) s (read_number x) b = record { k = length h; low = low; high = omega arith; is = get_seam h [] ev } in
     tried_still front (h ++ ev ∷ []) s x select (with_bit (tried_of x.reading) b)
     (λ k t.
-       ⊎_elim (λ (e : k ≡ b). subst (λ (i : ℕ). HasFailed front (h ++ ev ∷ []) s (read_number x) i) (sym e) now)
-       (λ (was : has (tried_of x.reading) k ≡ true). failed_push front h ev s (read_number x) k (prior front h s x tried k was))
-       (with_cases (tried_of x.reading) b k t))
+    ⊎_elim (λ (e : k ≡ b). subst (λ (i : ℕ). HasFailed front (h ++ ev ∷ []) s (read_number x) i) (sym e) now)
+    (λ (was : has (tried_of x.reading) k ≡ true). failed_push front h ev s (read_number x) k (prior front h s x tried k was))
+    (with_cases (tried_of x.reading) b k t))
 
 -- ---- from one state to the next
 
@@ -202,7 +211,8 @@ pub record Follows (c z : Core) (h : List Event) (s : ℕ) (x : OpenSession) : T
   pub session : session_at z s ≡ x
 
 module _ (c z : Core) (h : List Event) (s : ℕ) (p : Placement) (ps : List (Option ℕ)) (failed starved : ℕ) (ss : List OpenSession) (longer : IsPrefix c.history h)
-  (is : z ≡ record { placement = c.placement; history = h; positions = ps; failed = failed; starved = starved; sessions = ss; greatest = c.greatest }) where
+    (is : z ≡ record { placement = c.placement; history = h; positions = ps; failed = failed; starved = starved; sessions = ss; greatest = c.greatest }) where
+  -- the open sessions, as they are given
   sessions_are : z.sessions ≡ ss
   sessions_are = ap (λ (x : Core). x.sessions) is
 
@@ -242,10 +252,10 @@ between_follows a c z h s x j f step =
       longer = prefix_trans a.front c.history z.history j.longer (subst (λ (g : List Event). IsPrefix c.history g) (sym f.history) f.longer);
       owes = j.owes;
       here =
-        λ t.
-        subst (λ (p : Placement). IsSeenBy p a z.history s (session_at z s)) (sym f.placement)
-        (subst (λ (g : List Event). IsSeenBy c.placement a g s (session_at z s)) (sym f.history)
-           (subst (λ (y : OpenSession). IsSeenBy c.placement a h s y) (sym f.session) (step (j.here (f.was_open t)))));
+          λ t.
+          subst (λ (p : Placement). IsSeenBy p a z.history s (session_at z s)) (sym f.placement)
+          (subst (λ (g : List Event). IsSeenBy c.placement a g s (session_at z s)) (sym f.history)
+          (subst (λ (y : OpenSession). IsSeenBy c.placement a h s y) (sym f.session) (step (j.here (f.was_open t)))));
       later = λ lt. j.later (omega arith);
     }
 
@@ -263,6 +273,7 @@ session_cases c s P new old = one (session_of c.sessions s) refl
     one None is = subst P (sym (session_at-is c s None is)) new
     one (Some x) is = subst P (sym (session_at-is c s (Some x) is)) (old x is)
 
+-- a session needs no position beyond the log
 pub session_owes : (c : Core) (s : ℕ) → IsSound c → (session_at c s).least ≤ length (log c.history)
 session_owes c s w =
     session_cases c s (λ (x : OpenSession). x.least ≤ length (log c.history)) (let le : 0 ≤ length (log c.history) = omega arith in le)
@@ -312,6 +323,7 @@ entries_begin s front h longer all =
 pub opened_all : (P : Entry → Type 0) (h : List Event) (e : Entry) → All P (log h) → opened h ≡ Some e → P e
 opened_all P h e all is = subst P (get_or_from_slice_get (log h) (done h) e e is) (All-get_or P (log h) (done h) e (slice_get_within (log h) (done h) e is) all)
 
+-- nor is the open entry by it
 idle_new : (s : ℕ) (h : List Event) → All (λ (e : Entry). e.session < s) (log h) → is_by s (opened h) ≡ false
 idle_new s h all = one (opened h) refl
   where
@@ -326,7 +338,7 @@ between_opened a c z s user w j new is =
     let x : OpenSession = fresh_session s user in
     let younger : All (λ (e : Entry). e.session < s) (log c.history) = All-weaker (λ (e : Entry). e.session ≤ c.greatest) (λ (e : Entry). e.session < s) (λ e le. omega arith) (log c.history) w.known in
     let below : All (λ (y : OpenSession). y.number < s) c.sessions =
-      All-weaker (IsSession c.history c.greatest) (λ (y : OpenSession). y.number < s) (λ y q. let le : y.number ≤ c.greatest = q.number.1 in omega arith) c.sessions w.sessions
+    All-weaker (IsSession c.history c.greatest) (λ (y : OpenSession). y.number < s) (λ y q. let le : y.number ≤ c.greatest = q.number.1 in omega arith) c.sessions w.sessions
     in
     let found : session_of (c.sessions ++ x ∷ []) s ≡ Some x = session_of-push_same c.sessions x below in
     let hist : z.history ≡ c.history = ap (λ (y : Core). y.history) is in
@@ -335,12 +347,12 @@ between_opened a c z s user w j new is =
     let idle : is_by s (opened c.history) ≡ false = idle_new s c.history younger in
     let owes : a.least ≡ 0 = j.later (omega arith) in
     let begun : IsSeenBy z.placement a c.history s x =
-      record {
-        least = sym owes;
-        waits = λ t. absurd (both_ways (is_by s (opened c.history)) idle t);
-        rests = λ t. entries_none s (log c.history) younger ∙ sym (entries_begin s a.front c.history j.longer younger);
-        reads = tried_none a.front c.history s x refl;
-      }
+    record {
+      least = sym owes;
+      waits = λ t. absurd (both_ways (is_by s (opened c.history)) idle t);
+      rests = λ t. entries_none s (log c.history) younger ∙ sym (entries_begin s a.front c.history j.longer younger);
+      reads = tried_none a.front c.history s x refl;
+    }
     in
     record {
       longer = subst (λ (g : List Event). IsPrefix a.front g) (sym hist) j.longer;

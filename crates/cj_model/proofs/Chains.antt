@@ -4,12 +4,12 @@ use Rattle.std.proofs.lemmas.List.Elements.{All-head, All-tail}
 use Rattle.cj_model.specs.declared.answer.Reply.{Reply}
 use Rattle.cj_model.specs.declared.moves.Move.{Move}
 use Rattle.cj_model.specs.Placements.{Placement}
-use Rattle.cj_model.specs.Turns.{Seen, Call, Chain}
+use Rattle.cj_model.specs.Turns.{Seen, Chain}
 use Rattle.cj_model.specs.Cores.{Core, session_at}
 use Rattle.cj_model.specs.Moves.{Given, MovesTo}
 use Rattle.cj_model.specs.Sound.{IsSound}
 use Rattle.cj_model.specs.Runs.{Runs, IsMove, CanCount, IsBetween, IsChained, reply_given, call_at, calls_at}
-use Rattle.cj_model.proofs.Soundness.{no_tx, moves_sound}
+use Rattle.cj_model.proofs.Soundness.{moves_sound}
 use Rattle.cj_model.proofs.Growth.{can_count, moves_grow}
 use Rattle.cj_model.proofs.Between.{seen}
 use Rattle.cj_model.proofs.Answered.{After, moves_after}
@@ -48,9 +48,9 @@ run_chained c (m ∷ ms) (g ∷ gs) z w are count runs s a j =
     let more : CanCount c (1 + length ms) = λ k. (let can = count k in let le : (session_at c k).queries + (1 + length ms) ≤ 2 ^ 62 = omega arith in le) in
     let v : IsSound mid = moves_sound true c m g mid (All-head (IsMove c.placement.backends) m ms are) once w runs.1 in
     let rest : All (IsMove mid.placement.backends) ms =
-      subst (λ (p : Placement). All (IsMove p.backends) ms) (sym grows.placement) (All-tail (IsMove c.placement.backends) m ms are)
+    subst (λ (p : Placement). All (IsMove p.backends) ms) (sym grows.placement) (All-tail (IsMove c.placement.backends) m ms are)
     in
     chain_on s c mid z m g ms gs a runs.1 grows.placement (λ b i. run_chained mid ms gs z v rest (can_count 1 (length ms) c mid grows more) runs.2 s b i) (reply_given c s m g) refl
-    (moves_after a c mid s w v j (no_tx c s w) m g runs.1)
+    (moves_after a c mid s w v j m g runs.1)
 run_chained c [] (g ∷ gs) z w are count runs s a j = absurd runs
 run_chained c (m ∷ ms) [] z w are count runs s a j = absurd runs

@@ -1,9 +1,8 @@
 -- What is known of the columns of a CREATE TABLE that some text reads as.
 use Rattle.std.proofs.Common.{◌≡◌, sym, subst, ℕ, ◌≤◌, List, length}
 use Rattle.cj_model.specs.declared.schema.Create.{Create}
-use Rattle.cj_model.specs.declared.request.Request.{Request}
 use Rattle.cj_model.specs.declared.request.Request.TheVariants as request
-use Rattle.cj_model.specs.Grammar.{Statement, create, insert, select_all, statement_meant, StatementFits, Reads, TextReads}
+use Rattle.cj_model.specs.Grammar.{Statement, create, insert, select_all, statement_meant, StatementFits, TextReads}
 
 of_statement : (s : Statement) (c : Create) → StatementFits s → request.Create c ≡ statement_meant s → length c.columns ≤ 16
 of_statement (create n cs) c fits e =

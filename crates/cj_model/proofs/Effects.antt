@@ -34,6 +34,7 @@ pub record SessionsAre (h : List Event) (greatest : ℕ) (ss : List OpenSession)
   pub known : All (λ (e : Entry). e.session ≤ greatest) (log h)
   pub waits : (e : Entry) → opened h ≡ Some e → is_some (session_of ss e.session) ≡ true
 
+-- the sessions of a sound state
 pub sessions_are : (c : Core) → IsSound c → SessionsAre c.history c.greatest c.sessions
 sessions_are c s = record { sessions = s.sessions; rises = s.rises; few = s.few; numbers = s.numbers; known = s.known; waits = s.waits }
 
@@ -191,6 +192,7 @@ are_sched h g ss s e x a found fr by seq le =
 
 -- ---- outside transactions
 
+-- an act outside transactions leaves the session's transaction
 lone_step : (s : ℕ) (t : TxState) (e : Entry) (a : Act) → IsLone e a → tx_now s t e a ≡ t.tx
 lone_step s t e act.Begin l = absurd l
 lone_step s t e (act.Write w) l = refl
@@ -199,6 +201,7 @@ lone_step s t e (act.Drop table) l = refl
 lone_step s t e act.Commit l = absurd l
 lone_step s t e act.Abort l = absurd l
 
+-- and so do entries of them, from any transaction
 lone_from : (s : ℕ) (t : TxState) (es : List Entry) → All (λ (e : Entry). IsLone e e.act) es → (fold (tx_after s) t es).tx ≡ t.tx
 lone_from s t [] all = refl
 lone_from s t (e ∷ es) all =
@@ -257,6 +260,7 @@ sound_sessions c ss g s a =
       waits = a.waits;
     }
 
+-- a backend stands after a schedule where it stood
 sched_stands : (h : List Event) (e : Entry) (f s b : ℕ) (p : Option ℕ) → f ≡ 0 → s ≡ 0 → Stands h f s b p → Stands (h ++ Sched e ∷ []) 0 0 b p
 sched_stands h e f s b (Some p) f0 s0 st =
     let l : length (log (h ++ Sched e ∷ [])) ≡ length (log h) + 1 = ap length (log-sched h e) ∙ length-append (log h) (e ∷ []) in
@@ -295,6 +299,7 @@ sound_sched c e ss s fr fit lone space a =
       waits = a.waits;
     }
 
+-- a backend stands after an end where it stood, or is no longer enabled
 ended_stands : (h : List Event) (f s b : ℕ) (p : Option ℕ) → free h ≡ false → done h ≤ length (log h) → length (log h) ≤ done h + 1
     → ((q : ℕ) → p ≡ Some q → enabled h b ≡ true → length (log h) ≤ q)
     → Stands h f s b p → Stands (h ++ Ended f s ∷ []) 0 0 b p
@@ -352,6 +357,7 @@ sound_ended c ss s fr all a =
 abbrev pub CanBeOn : List Event → List (Option ℕ) → ℕ → Type 0
 CanBeOn h positions b = (b < length positions) × ((q : ℕ) × (get_or positions b None ≡ Some q) × (done h ≤ q))
 
+-- a backend stands after another event where it stood
 same_stands : (h : List Event) (e : Event) (f s b : ℕ) (p : Option ℕ) → length (log (h ++ e ∷ [])) ≡ length (log h) → done (h ++ e ∷ []) ≡ done h
     → (enabled (h ++ e ∷ []) b ≡ true → (enabled h b ≡ true) ⊎ ((q : ℕ) × (p ≡ Some q) × (done h ≤ q)))
     → Stands h f s b p → Stands (h ++ e ∷ []) f s b p
@@ -409,6 +415,7 @@ sound_read_failed c t q b ss s space a =
     (λ k w. enabled-push c.history (ReadFailed t q b) k ∙ ⊎_elim (λ (m : has c.failed k ≡ true). ((s.in_masks k).0 m).0) (λ (m : has c.starved k ≡ true). (s.in_masks k).1 m) w)
     a
 
+-- no backend is in a mask where no entry is open
 no_masks : (c : Core) → IsSound c → free c.history ≡ true → (b : ℕ) → (has c.failed b ≡ true) ⊎ (has c.starved b ≡ true) → ⊥
 no_masks c s fr b w =
     ⊎_elim (λ (t : has c.failed b ≡ true). both_ways (has c.failed b) (ap (λ m. has m b) (s.clear fr).0 ∙ has-zero b) t)
@@ -418,11 +425,13 @@ no_masks c s fr b w =
 kept_by : (c : Core) (e : Event) → IsSound c → scheduled e ≡ None → is_ended e ≡ false → SessionsAre (c.history ++ e ∷ []) c.greatest c.sessions
 kept_by c e s is stays = are_kept c.history (c.history ++ e ∷ []) c.greatest c.sessions (sessions_are c s) (log-same c.history e is) (λ d on. sym (opened-same c.history e is stays) ∙ on)
 
+-- a backend is disabled
 pub sound_disabled : (c : Core) (b : ℕ) → IsSound c → free c.history ≡ true → enabled c.history b ≡ true → 0 < room c.history → IsSound (record c { history = c.history ++ Disabled b ∷ [] })
 sound_disabled c b s fr on space =
     sound_same c (Disabled b) c.sessions s (fr, on) refl refl space (λ k now. inl (and_parts _ _ (sym (enabled-push c.history (Disabled b) k) ∙ now)).0)
     (λ k w. absurd (no_masks c s fr k w)) (kept_by c (Disabled b) s refl refl)
 
+-- a backend at the log's end is enabled
 pub sound_enabled : (c : Core) (b : ℕ) → IsSound c → free c.history ≡ true → enabled c.history b ≡ false → b < length c.positions → position_at c b ≡ Some (length (log c.history)) → 0 < room c.history
     → IsSound (record c { history = c.history ++ Enabled b ∷ [] })
 sound_enabled c b s fr off lt at_end space =
@@ -440,6 +449,7 @@ pub is_there : (ps : List (Option ℕ)) (b p : ℕ) → get_or ps b None ≡ Som
 is_there ps b p is =
     ⊎_elim (λ (lt : b < length ps). lt) (λ (ge : length ps ≤ b). let e : get_or ps b None ≡ None = get_or_past ps b None ge in absurd (cc (e, is))) (cases_lt b (length ps))
 
+-- where a backend stands that is not out
 pub stands_there : (c : Core) (b p : ℕ) → IsSound c → position_at c b ≡ Some p → Stands c.history c.failed c.starved b (Some p)
 stands_there c b p s is = subst (λ (x : Option ℕ). Stands c.history c.failed c.starved b x) is (s.stands b (is_there c.positions b p is))
 
@@ -490,9 +500,11 @@ sound_moved c b f s p w lt now masks others clear =
     }
 
 module _ (c : Core) (b p : ℕ) (w : IsSound c) (is : position_at c b ≡ Some p) where
+  -- it is within the positions
   lt : b < length c.positions
   lt = is_there c.positions b p is
 
+  -- where it stood
   was : Stands c.history c.failed c.starved b (Some p)
   was = stands_there c b p w is
 
@@ -524,6 +536,7 @@ module _ (tells : Bool) (c : Core) (b : ℕ) (w : IsSound c) where
   abbrev pub taken : ℕ → ℕ → Option ℕ → Core
   taken f s p = record c { positions = set c.positions b p; failed = f; starved = s }
 
+  -- it has taken the entry
   next : (d : Did) (p : Option ℕ) (t : Takes tells c b d p) → p ≡ Some (t.p + 1) → IsSound (taken c.failed c.starved p)
   next d p t is = subst (λ (x : Option ℕ). IsSound (taken c.failed c.starved x)) (sym is) (sound_next c b t.p w t.stands (slice_get_within (log c.history) t.p t.entry t.there))
 

@@ -34,6 +34,7 @@ abbrev pub queries_in : Option OpenSession → ℕ
 queries_in None = 0
 queries_in (Some x) = x.queries
 
+-- the same, in a state
 pub queries_at : (c : Core) (s : ℕ) → (session_at c s).queries ≡ queries_in (session_of c.sessions s)
 queries_at c s = ap (λ (x : OpenSession). x.queries) (session_at-is c s (session_of c.sessions s) refl) ∙ one (session_of c.sessions s)
   where
@@ -45,9 +46,11 @@ queries_at c s = ap (λ (x : OpenSession). x.queries) (session_at-is c s (sessio
 abbrev pub CountsBy : ℕ → List OpenSession → List OpenSession → Type 0
 CountsBy n now before = (s : ℕ) → queries_in (session_of now s) ≤ queries_in (session_of before s) + n
 
+-- no request was made
 counts_same : (ss : List OpenSession) → CountsBy 1 ss ss
 counts_same ss s = omega arith
 
+-- a session was changed that has made one more at most
 counts_with : (ss : List OpenSession) (s : ℕ) (f : OpenSession → OpenSession) → ((x : OpenSession) → (f x).number ≡ x.number) → ((x : OpenSession) → (f x).queries ≤ x.queries + 1) → CountsBy 1 (with_session ss s f) ss
 counts_with ss s f keeps one t =
     ⊎_elim (λ (e : t ≡ s). rw (e, session_of-same f keeps ss s) (mapped (session_of ss s))) (λ (ne : t ≡ s → ⊥). rw (session_of-other f keeps ss s t ne) (omega arith)) (cases_eq t s)
@@ -56,6 +59,7 @@ counts_with ss s f keeps one t =
     mapped None = omega arith
     mapped (Some x) = one x
 
+-- a session was added that has made none
 counts_push : (ss : List OpenSession) (n : ℕ) (user : List ℕ) → CountsBy 1 (ss ++ fresh_session n user ∷ []) ss
 counts_push ss n user t = subst (λ (o : Option OpenSession). queries_in o ≤ queries_in (session_of ss t) + 1) (sym (find-append (λ (x : OpenSession). x.number == t) ss (fresh_session n user ∷ []))) (one (session_of ss t) (n == t))
   where
@@ -64,6 +68,7 @@ counts_push ss n user t = subst (λ (o : Option OpenSession). queries_in o ≤ q
     one None true = omega arith
     one None false = omega arith
 
+-- a session was removed
 counts_without : (ss : List OpenSession) (s : ℕ) → CountsBy 1 (without s ss) ss
 counts_without ss s t = ⊎_elim (λ (e : t ≡ s). rw (e, session_of-without_same ss s) (omega arith)) (λ (ne : t ≡ s → ⊥). rw (session_of-without_other ss s t ne) (omega arith)) (cases_eq t s)
 
@@ -82,6 +87,7 @@ pub grows_same : (n : ℕ) (c z : Core) → z ≡ c → Grows n c z
 grows_same n c z e =
     subst (Grows n c) (sym e) (record { longer = prefix_self c.history; placement = refl; cells = refl; counts = λ s. (let le : queries_in (session_of c.sessions s) ≤ queries_in (session_of c.sessions s) + n = omega arith in le); greatest = omega arith })
 
+-- one after another
 pub grows_trans : (m n : ℕ) (c d z : Core) → Grows m c d → Grows n d z → Grows (m + n) c z
 grows_trans m n c d z a b =
     record {
@@ -114,9 +120,11 @@ module _ (c z : Core) where
   grows_at : (b : ℕ) (p : Option ℕ) (f s : ℕ) → z ≡ record c { positions = set c.positions b p; failed = f; starved = s } → Grows 1 c z
   grows_at b p f s e = subst (Grows 1 c) (sym e) (record { longer = prefix_self c.history; placement = refl; cells = length-set c.positions b p; counts = counts_same c.sessions; greatest = omega arith })
 
+-- a request counts once
 counted_once : (x : OpenSession) → (counted x).queries ≤ x.queries + 1
 counted_once x = omega arith
 
+-- a session is opened, or none can be
 grow_open : (c : Core) (user : List ℕ) (g : Given) (z : Core) → moves.Opens c user g z → Grows 1 c z
 grow_open c user (Ok (moved.Session n)) z h =
     let next : n ≡ c.greatest + 1 = h.1 in
@@ -125,28 +133,34 @@ grow_open c user (Ok (moved.Refused r)) z h = grows_same 1 c z h.2
 grow_open c user (Err NoMemory) z h = grows_same 1 c z h
 grow_open c user _ z h = absurd h
 
+-- a session is closed
 grow_close : (c : Core) (s : ℕ) (g : Given) (z : Core) → moves.Closes c s g z → Grows 1 c z
 grow_close c s (Ok moved.Closed) z h = grows_in c z (without s c.sessions) c.greatest (counts_without c.sessions s) (omega arith) h
 grow_close c s _ z h = absurd h
 
+-- an act is scheduled, or refused
 grow_act : (c : Core) (s : ℕ) (r : Request) (a : Act) (g : Given) (z : Core) → moves.SchedulesAct c s r a g z → Grows 1 c z
 grow_act c s r a (Ok (moved.Entry n)) z h = grows_to c z _ 0 0 (with_session c.sessions s counted) (counts_with c.sessions s counted (λ x. refl) counted_once) h.4
 grow_act c s r a (Ok (moved.Refused refusal)) z h = grows_in c z (with_session c.sessions s counted) c.greatest (counts_with c.sessions s counted (λ x. refl) counted_once) (omega arith) h.1
 grow_act c s r a (Err NoMemory) z h = grows_same 1 c z h
 grow_act c s r a _ z h = absurd h
 
+-- a request is scheduled, or refused
 grow_schedule : (c : Core) (s : ℕ) (r : Request) (o : Option Act) (g : Given) (z : Core) → moves.SchedulesOf c s r o g z → Grows 1 c z
 grow_schedule c s r None g z h = absurd h
 grow_schedule c s r (Some a) g z h = grow_act c s r a g z h
 
+-- a backend takes the open entry
 grow_apply : (tells : Bool) (c : Core) (b : ℕ) (g : Given) (z : Core) → moves.Applies tells c b g z → Grows 1 c z
 grow_apply tells c b (Ok (moved.Applied n d)) z h = grows_at c z b h.1.0 _ _ h.1.2
 grow_apply tells c b _ z h = absurd h
 
+-- a backend that is not enabled takes the log's next entry
 grow_replay : (tells : Bool) (c : Core) (b : ℕ) (g : Given) (z : Core) → moves.Replays tells c b g z → Grows 1 c z
 grow_replay tells c b (Ok (moved.Replayed n d)) z h = grows_at c z b h.1.0 c.failed c.starved h.1.2
 grow_replay tells c b _ z h = absurd h
 
+-- the open entry ends, and its session is answered
 grow_end : (tells : Bool) (c : Core) (g : Given) (z : Core) → moves.Ends tells c g z → Grows 1 c z
 grow_end tells c (Ok (moved.Replied s reply)) z h =
     grows_to c z _ 0 0 (with_session c.sessions s (answered_at (moves.last_number c))) (counts_with c.sessions s (answered_at (moves.last_number c)) (λ x. refl) (λ x. (let le : x.queries ≤ x.queries + 1 = omega arith in le))) h.4
@@ -154,19 +168,24 @@ grow_end tells c _ z h = absurd h
 
 -- a read that changes its session alone, or adds one event
 module _ (c z : Core) (s b : ℕ) (f : OpenSession → OpenSession) (number : (x : OpenSession) → (f x).number ≡ x.number) (once : (x : OpenSession) → (f x).queries ≤ x.queries + 1) where
+  -- the session alone
   grow_with : z ≡ with_read c s f → Grows 1 c z
   grow_with e = grows_in c z (with_session c.sessions s f) c.greatest (counts_with c.sessions s f number once) (omega arith) e
 
+  -- and the backend's failure
   grow_failed : z ≡ read_failed c s b f → Grows 1 c z
   grow_failed e = grows_to c z _ c.failed c.starved (with_session c.sessions s f) (counts_with c.sessions s f number once) e
 
 module _ (tells : Bool) (c : Core) (s b : ℕ) (select : Select) where
+  -- the backend answered
   grow_reached : (answer : Asked) (z : Core) → moves.Reaches tells c s b select answer z → Grows 1 c z
   grow_reached answer z h = grow_with c z s b (λ x. answered_at h.p (was_answered x)) (λ x. refl) (λ x. (read_counts x).1) h.after
 
+  -- the backend is not far enough
   grow_early : (p : Option ℕ) (z : Core) → moves.ReadsTooEarly c s b select p z → Grows 1 c z
   grow_early p z h = grow_with c z s b (still_reading select (tried_of (session_at c s).reading)) (λ x. refl) (λ x. (read_counts x).1) h.after
 
+  -- all that a read may give
   grow_read : (g : Given) (z : Core) → moves.Reads tells c s b select g z → Grows 1 c z
   grow_read (Ok (moved.Rows a)) z h = grow_reached _ z h
   grow_read (Ok (moved.Refused r)) z h =
@@ -183,22 +202,26 @@ module _ (tells : Bool) (c : Core) (s b : ℕ) (select : Select) where
   grow_read (Err NoMemory) z h = grows_same 1 c z h
   grow_read _ z h = absurd h
 
+-- a backend is armed
 grow_arm : (c : Core) (g : Given) (z : Core) → moves.Arms c g z → Grows 1 c z
 grow_arm c (Ok moved.Armed) z h = grows_same 1 c z h
 grow_arm c _ z h = absurd h
 
+-- a backend is disabled, or the history is full
 grow_disable : (c : Core) (b : ℕ) (g : Given) (z : Core) → moves.Disables c b g z → Grows 1 c z
 grow_disable c b (Ok moved.Disabled) z h = grows_to c z _ c.failed c.starved c.sessions (counts_same c.sessions) h.1
 grow_disable c b (Ok (moved.Refused r)) z h = grows_same 1 c z h.2
 grow_disable c b (Err NoMemory) z h = grows_same 1 c z h
 grow_disable c b _ z h = absurd h
 
+-- a backend is enabled, or the history is full
 grow_enable : (c : Core) (b : ℕ) (g : Given) (z : Core) → moves.Enables c b g z → Grows 1 c z
 grow_enable c b (Ok moved.Enabled) z h = grows_to c z _ c.failed c.starved c.sessions (counts_same c.sessions) h.1
 grow_enable c b (Ok (moved.Refused r)) z h = grows_same 1 c z h.2
 grow_enable c b (Err NoMemory) z h = grows_same 1 c z h
 grow_enable c b _ z h = absurd h
 
+-- each move that can be made now
 does_grow : (tells : Bool) (c : Core) (m : Move) (g : Given) (z : Core) → Does tells c m g z → Grows 1 c z
 does_grow tells c (Open user) g z h = grow_open c user g z h
 does_grow tells c (Close s) g z h = grow_close c s g z h
@@ -213,6 +236,7 @@ does_grow tells c (Disable b) g z h = grow_disable c b g z h
 does_grow tells c (Replay b) g z h = grow_replay tells c b g z h
 does_grow tells c (Enable b) g z h = grow_enable c b g z h
 
+-- every move, with one request of each session at most
 pub moves_grow : (tells : Bool) (c : Core) (m : Move) (g : Given) (z : Core) → MovesTo tells c m g z → Grows 1 c z
 moves_grow tells c m g z h =
     by_reason (not_now c m) (Does tells c m g z) (Grows 1 c z) g c z h (λ now does. does_grow tells c m g z does) (λ why not_made same. grows_same 1 c z same)
@@ -226,6 +250,7 @@ runs_push tells c (n ∷ ms) (q ∷ gs) mid m g z runs h = (runs.0, runs.1, runs
 runs_push tells c [] (q ∷ gs) mid m g z runs h = absurd runs
 runs_push tells c (n ∷ ms) [] mid m g z runs h = absurd runs
 
+-- a list of moves, with as many requests of each session at most
 pub runs_grow : (tells : Bool) (c : Core) (ms : List Move) (gs : List Given) (z : Core) → Runs tells c ms gs z → Grows (length ms) c z
 runs_grow tells c [] [] z runs = grows_same 0 c z (sym runs)
 runs_grow tells c (m ∷ ms) (g ∷ gs) z runs =
@@ -234,6 +259,7 @@ runs_grow tells c (m ∷ ms) (g ∷ gs) z runs =
 runs_grow tells c [] (g ∷ gs) z runs = absurd runs
 runs_grow tells c (m ∷ ms) [] z runs = absurd runs
 
+-- a list of moves leads from a sound state to one
 pub runs_sound : (tells : Bool) (c : Core) (ms : List Move) (gs : List Given) (z : Core) → All (IsMove c.placement.backends) ms → CanCount c (length ms) → IsSound c → Runs tells c ms gs z → IsSound z
 runs_sound tells c [] [] z are count w runs = subst IsSound runs w
 runs_sound tells c (m ∷ ms) (g ∷ gs) z are count w runs =

@@ -11,11 +11,13 @@ use Rattle.cj_model.specs.Cores.{with_bit}
 pub has-zero : (b : ℕ) → has 0 b ≡ false
 has-zero b = ap (λ n. n == 1) (bit_at-zero b)
 
+-- a mask has the backend that it was given
 pub has-with_same : (m b : ℕ) → has (with_bit m b) b ≡ true
 has-with_same m b =
     let e : bit_at (bit_or m (2 ^ b)) b ≡ 1 = bit_at_or m (2 ^ b) b ∙ (let l = bit_at-lt m b in let k = bit_at-pow_same b in omega arith) in
     ap (λ n. n == 1) e
 
+-- and of each other one what it had
 pub has-with_other : (m b i : ℕ) → i ≢ b → has (with_bit m b) i ≡ has m i
 has-with_other m b i ne =
     let e : bit_at (bit_or m (2 ^ b)) i ≡ bit_at m i = bit_at_or m (2 ^ b) i ∙ (let k = bit_at-pow_other b i ne in omega arith) in

@@ -11,6 +11,7 @@ use Rattle.cj_model.specs.Histories.{log, free, enabled}
 use Rattle.cj_model.specs.Cores.{Core, position_at, session_at}
 use Rattle.cj_model.specs.Moves.{because, place, behind, because_behind, not_now, is_open, is_waiting}
 
+-- a reason that is none: the test is false, and no later reason is one
 pub because_none : (t : Bool) (n v : ℕ) (otherwise : Option Why) → because t n v otherwise ≡ None → (t ≡ false) × (otherwise ≡ None)
 because_none true n v otherwise e = absurd (cc e)
 because_none false n v otherwise e = (refl, e)
@@ -20,15 +21,18 @@ stands_at : (p : Option ℕ) → is_none p ≡ false → p ≡ Some (place p)
 stands_at None e = absurd (cc e)
 stands_at (Some p) e = refl
 
+-- a session that reads nothing has no open read
 no_read : (r : Option OpenRead) → is_some r ≡ false → r ≡ None
 no_read None e = refl
 no_read (Some r) e = absurd (cc e)
 
+-- the session is open, and waits for no reply
 pub record CanClose (c : Core) (s : ℕ) : Type 0 where
   pub here : is_open c s ≡ true
   pub idle : is_waiting c s ≡ false
   pub no_read : (session_at c s).reading ≡ None
 
+-- what a Close that can be made now says
 pub can_close : (c : Core) (s : ℕ) → not_now c (Close s) ≡ None → CanClose c s
 can_close c s e =
     let p = because_none _ _ _ _ e in
@@ -36,12 +40,14 @@ can_close c s e =
     let o = or_parts _ _ q.0 in
     record { here = not-false _ p.0; idle = o.0; no_read = no_read _ o.1 }
 
+-- the session is open and waits for no reply, and no entry is open
 pub record CanSchedule (c : Core) (s : ℕ) : Type 0 where
   pub here : is_open c s ≡ true
   pub idle : is_waiting c s ≡ false
   pub no_read : (session_at c s).reading ≡ None
   pub is_free : free c.history ≡ true
 
+-- what a Schedule that can be made now says
 pub can_schedule : (c : Core) (s : ℕ) (r : Request) → not_now c (Schedule s r) ≡ None → CanSchedule c s
 can_schedule c s r e =
     let p = because_none _ _ _ _ e in
@@ -50,12 +56,14 @@ can_schedule c s r e =
     let o = or_parts _ _ q.0 in
     record { here = not-false _ p.0; idle = o.0; no_read = no_read _ o.1; is_free = not-false _ f.0 }
 
+-- an entry is open, and the backend is enabled, not out and not yet at the log's end
 pub record CanApply (c : Core) (b : ℕ) : Type 0 where
   pub is_running : free c.history ≡ false
   pub on : enabled c.history b ≡ true
   pub at : position_at c b ≡ Some (place (position_at c b))
   pub more : place (position_at c b) ≢ length (log c.history)
 
+-- what an Apply that can be made now says
 pub can_apply : (c : Core) (b : ℕ) → not_now c (Apply b) ≡ None → CanApply c b
 can_apply c b e =
     let p = because_none _ _ _ _ e in
@@ -64,44 +72,53 @@ can_apply c b e =
     let s = because_none _ _ _ _ r.1 in
     record { is_running = p.0; on = not-false _ q.0; at = stands_at _ r.0; more = eqb-false _ _ s.0 }
 
+-- an entry is open, and no enabled backend is behind
 pub record CanEnd (c : Core) : Type 0 where
   pub is_running : free c.history ≡ false
   pub none_behind : behind c.history 0 c.positions ≡ None
 
+-- no reason where no backend is behind
 because_behind_none : (o : Option ℕ) → because_behind o ≡ None → o ≡ None
 because_behind_none None e = refl
 because_behind_none (Some p) e = absurd (cc e)
 
+-- what an End that can be made now says
 pub can_end : (c : Core) → not_now c End ≡ None → CanEnd c
 can_end c e =
     let p = because_none _ _ _ _ e in
     record { is_running = p.0; none_behind = because_behind_none _ p.1 }
 
+-- the session is open, and its own entry is not
 pub record CanRead (c : Core) (s : ℕ) : Type 0 where
   pub here : is_open c s ≡ true
   pub idle : is_waiting c s ≡ false
 
+-- what a Read that can be made now says
 pub can_read : (c : Core) (s b : ℕ) (select : Select) → not_now c (Read s b select) ≡ None → CanRead c s
 can_read c s b select e =
     let p = because_none _ _ _ _ e in
     let q = because_none _ _ _ _ p.1 in
     record { here = not-false _ p.0; idle = q.0 }
 
+-- no entry is open, and the backend is enabled
 pub record CanDisable (c : Core) (b : ℕ) : Type 0 where
   pub is_free : free c.history ≡ true
   pub on : enabled c.history b ≡ true
 
+-- what a Disable that can be made now says
 pub can_disable : (c : Core) (b : ℕ) → not_now c (Disable b) ≡ None → CanDisable c b
 can_disable c b e =
     let p = because_none _ _ _ _ e in
     let q = because_none _ _ _ _ p.1 in
     record { is_free = not-false _ p.0; on = not-false _ q.0 }
 
+-- the backend is not enabled, not out and not yet at the log's end
 pub record CanReplay (c : Core) (b : ℕ) : Type 0 where
   pub off : enabled c.history b ≡ false
   pub at : position_at c b ≡ Some (place (position_at c b))
   pub more : place (position_at c b) ≢ length (log c.history)
 
+-- what a Replay that can be made now says
 pub can_replay : (c : Core) (b : ℕ) → not_now c (Replay b) ≡ None → CanReplay c b
 can_replay c b e =
     let p = because_none _ _ _ _ e in
@@ -109,11 +126,13 @@ can_replay c b e =
     let r = because_none _ _ _ _ q.1 in
     record { off = p.0; at = stands_at _ q.0; more = eqb-false _ _ r.0 }
 
+-- no entry is open, and the backend is not enabled, and at the log's end
 pub record CanEnable (c : Core) (b : ℕ) : Type 0 where
   pub is_free : free c.history ≡ true
   pub off : enabled c.history b ≡ false
   pub at : position_at c b ≡ Some (length (log c.history))
 
+-- what an Enable that can be made now says
 pub can_enable : (c : Core) (b : ℕ) → not_now c (Enable b) ≡ None → CanEnable c b
 can_enable c b e =
     let p = because_none _ _ _ _ e in
@@ -124,6 +143,7 @@ can_enable c b e =
 
 -- ---- nobody is behind
 
+-- a choice that gives nothing: the test is false, and the other branch gives nothing
 cond_none : (t : Bool) (x : ℕ) (otherwise : Option ℕ) → cond t (Some x) otherwise ≡ None → (t ≡ false) × (otherwise ≡ None)
 cond_none true x otherwise e = absurd (cc e)
 cond_none false x otherwise e = (refl, e)
@@ -145,6 +165,7 @@ behind_from h n (Some p ∷ ps) none zero q is on =
 behind_from h n (Some p ∷ ps) none (suc i) q is on =
     behind_from h (n + 1) ps (cond_none (enabled h n && nat_lt p (length (log h))) p (behind h (n + 1) ps) none).1 i q is (let e : n + 1 + i ≡ n + suc i = omega arith in rw e on)
 
+-- the same of all positions
 pub behind_none : (h : List Event) (ps : List (Option ℕ)) → behind h 0 ps ≡ None
     → (b q : ℕ) → get_or ps b None ≡ Some q → enabled h b ≡ true → length (log h) ≤ q
 behind_none h ps none b q is on = behind_from h 0 ps none b q is (let e : 0 + b ≡ b = omega arith in rw e on)

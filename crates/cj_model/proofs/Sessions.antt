@@ -1,11 +1,10 @@
 -- Open sessions: found by their numbers, changed, added and removed.
-use Rattle.std.proofs.Common.{◌≡◌, ◌≢◌, ℕ, ◌==◌, ◌<◌, ◌≤◌, Bool, true, false, not, cond, List, [], ◌∷◌, ◌++◌, length, get_or, filter, All, Option, None, Some, unwrap_or, option_map, is_some, refl, ap, sym, ◌∙◌, subst, arith, ⊎_elim}
+use Rattle.std.proofs.Common.{IfSome, ◌≡◌, ◌≢◌, ℕ, ◌==◌, ◌<◌, ◌≤◌, Bool, true, false, not, cond, List, [], ◌∷◌, ◌++◌, length, get_or, filter, All, Option, None, Some, unwrap_or, option_map, is_some, refl, ap, sym, ◌∙◌, subst, arith, ⊎_elim}
 use Rattle.std.proofs.lemmas.Bool.{cases_eq, eqb-true, eqb-false, eq-eqb, ne_eqb}
 use Rattle.std.proofs.lemmas.List.{length-map}
-use Rattle.std.proofs.lemmas.List.Elements.{All-nil, All-cons, All-head, All-tail, All-push, All-filter, All-weaker}
+use Rattle.std.proofs.lemmas.List.Elements.{All-nil, All-cons, All-head, All-tail, All-push, All-weaker}
 use Rattle.std.proofs.lemmas.List.Folds.{find-append}
 use Rattle.std.specs.Option.{option_or}
-use Rattle.std.specs.Ordering.{nat_cmp}
 use Rattle.std.specs.Cmp.{nat_cmp_is}
 use Rattle.std.proofs.lemmas.Cmp.{ranked}
 use Rattle.std.specs.declared.cmp.Ordering.TheVariants.{Less}
@@ -13,6 +12,7 @@ use Rattle.cj_model.specs.declared.moves.OpenSession.{OpenSession}
 use Rattle.cj_model.specs.Tables.{Rises}
 use Rattle.cj_model.specs.Cores.{Core, session_of, session_at, fresh_session, with_session}
 use Rattle.cj_model.specs.Sound.{by_number}
+use Rattle.cj_model.proofs.RisingLaws.{found_All, rises_filter, rises_map}
 
 -- ---- the session of a number
 
@@ -32,12 +32,7 @@ found_number (y ∷ ss) s x is = one (y.number == s) refl is (found_number ss s 
 
 -- and what holds of all
 pub found_all : (P : OpenSession → Type 0) (ss : List OpenSession) (s : ℕ) (x : OpenSession) → All P ss → session_of ss s ≡ Some x → P x
-found_all P [] s x all is = absurd (cc is)
-found_all P (y ∷ ss) s x all is = one (y.number == s) is (found_all P ss s x (All-tail P y ss all))
-  where
-    one : (b : Bool) → cond b (Some y) (session_of ss s) ≡ Some x → (session_of ss s ≡ Some x → P x) → P x
-    one true found rest = let same : y ≡ x = cc found in subst P same (All-head P y ss all)
-    one false found rest = rest found
+found_all P ss s x all is = subst (λ (o : Option OpenSession). IfSome o P) is (found_All P (λ (y : OpenSession). y.number == s) ss all)
 
 -- none is found where no session has the number
 pub found_none : (ss : List OpenSession) (s : ℕ) → All (λ (x : OpenSession). x.number ≢ s) ss → session_of ss s ≡ None
@@ -108,28 +103,28 @@ all_with P Q f (y ∷ ss) s here there all =
     one true e p = here y (eqb-true _ _ e) p
     one false e p = there y (eqb-false _ _ e) p
 
+-- there are as many as before
 pub length_with : (f : OpenSession → OpenSession) (ss : List OpenSession) (s : ℕ) → length (with_session ss s f) ≡ length ss
 length_with f ss s = length-map ss (λ (x : OpenSession). cond (x.number == s) (f x) x)
 
 -- rising numbers still rise
 pub rises_with : (f : OpenSession → OpenSession) → ((x : OpenSession) → (f x).number ≡ x.number) → (ss : List OpenSession) (s : ℕ) → Rises by_number ss → Rises by_number (with_session ss s f)
-rises_with f keeps [] s r = tt
-rises_with f keeps (y ∷ ss) s r = (one (y.number == s), rises_with f keeps ss s r.1)
+rises_with f keeps ss s r =
+    rises_map by_number (λ (x : OpenSession). Unit {0}) (λ (x : OpenSession). cond (x.number == s) (f x) x) (λ x y _ _. rw (number x (x.number == s), number y (y.number == s)) refl) ss (λ k d lt. tt) r
   where
-    below : (n : ℕ) → All (λ (x : OpenSession). nat_cmp n x.number ≡ Less) ss → All (λ (x : OpenSession). nat_cmp n x.number ≡ Less) (with_session ss s f)
-    below n all = all_with (λ (x : OpenSession). nat_cmp n x.number ≡ Less) (λ (x : OpenSession). nat_cmp n x.number ≡ Less) f ss s (λ x e p. rw (keeps x) p) (λ x e p. p) all
-
-    one : (b : Bool) → All (λ (x : OpenSession). by_number (cond b (f y) y) x ≡ Less) (with_session ss s f)
-    one true = subst (λ (n : ℕ). All (λ (x : OpenSession). nat_cmp n x.number ≡ Less) (with_session ss s f)) (sym (keeps y)) (below y.number r.0)
-    one false = below y.number r.0
+    number : (x : OpenSession) (b : Bool) → (cond b (f x) x).number ≡ x.number
+    number x true = keeps x
+    number x false = refl
 
 -- ---- a session added, with a greater number
 
+-- the session that is added is found by its number
 pub session_of-push_same : (ss : List OpenSession) (y : OpenSession) → All (λ (x : OpenSession). x.number < y.number) ss → session_of (ss ++ y ∷ []) y.number ≡ Some y
 session_of-push_same ss y all =
     let none : session_of ss y.number ≡ None = found_none ss y.number (All-weaker (λ (x : OpenSession). x.number < y.number) (λ (x : OpenSession). x.number ≢ y.number) (λ x lt. omega arith) ss all) in
     find-append (λ (x : OpenSession). x.number == y.number) ss (y ∷ []) ∙ (rw none (rw (eq-eqb y.number y.number refl) refl))
 
+-- and each other one as before
 pub session_of-push_other : (ss : List OpenSession) (y : OpenSession) (t : ℕ) → t ≢ y.number → session_of (ss ++ y ∷ []) t ≡ session_of ss t
 session_of-push_other ss y t ne =
     find-append (λ (x : OpenSession). x.number == t) ss (y ∷ []) ∙ rw (ne_eqb y.number t (omega arith)) (or_none (session_of ss t))
@@ -150,6 +145,7 @@ is_open-push ss y t here = rw (find-append (λ (x : OpenSession). x.number == t)
 pub session_at-pushed : (z : Core) (ss : List OpenSession) (y : OpenSession) → z.sessions ≡ ss ++ y ∷ [] → All (λ (x : OpenSession). x.number < y.number) ss → session_at z y.number ≡ y
 session_at-pushed z ss y is all = session_at-is z y.number (Some y) (ap (λ w. session_of w y.number) is ∙ session_of-push_same ss y all)
 
+-- rising numbers still rise
 pub rises_push : (ss : List OpenSession) (y : OpenSession) → All (λ (x : OpenSession). x.number < y.number) ss → Rises by_number ss → Rises by_number (ss ++ y ∷ [])
 rises_push [] y all r = (All-nil (λ (x : OpenSession). by_number y x ≡ Less), tt)
 rises_push (z ∷ ss) y all r = (
@@ -159,9 +155,11 @@ rises_push (z ∷ ss) y all r = (
 
 -- ---- a session removed
 
+-- the sessions but for those of this number
 abbrev pub without : ℕ → List OpenSession → List OpenSession
 without s ss = filter (λ (x : OpenSession). not (x.number == s)) ss
 
+-- no session of that number is left
 pub session_of-without_same : (ss : List OpenSession) (s : ℕ) → session_of (without s ss) s ≡ None
 session_of-without_same [] s = refl
 session_of-without_same (y ∷ ss) s = one (y.number == s) refl (session_of-without_same ss s)
@@ -170,6 +168,7 @@ session_of-without_same (y ∷ ss) s = one (y.number == s) refl (session_of-with
     one true e rest = rest
     one false e rest = rw e rest
 
+-- and each other one is found as before
 pub session_of-without_other : (ss : List OpenSession) (s t : ℕ) → t ≢ s → session_of (without s ss) t ≡ session_of ss t
 session_of-without_other [] s t ne = refl
 session_of-without_other (y ∷ ss) s t ne = one (y.number == s) refl (session_of-without_other ss s t ne)
@@ -179,14 +178,11 @@ session_of-without_other (y ∷ ss) s t ne = one (y.number == s) refl (session_o
     one true e rest = let is : y.number ≡ s = eqb-true _ _ e in rw (ne_eqb y.number t (omega arith)) rest
     one false e rest = ap (cond (y.number == t) (Some y)) rest
 
+-- rising numbers still rise
 pub rises_without : (ss : List OpenSession) (s : ℕ) → Rises by_number ss → Rises by_number (without s ss)
-rises_without [] s r = tt
-rises_without (y ∷ ss) s r = one (y.number == s) (rises_without ss s r.1)
-  where
-    one : (b : Bool) → Rises by_number (without s ss) → Rises by_number (cond (not b) (y ∷ without s ss) (without s ss))
-    one true rest = rest
-    one false rest = (All-filter (λ (x : OpenSession). not (x.number == s)) (λ (x : OpenSession). by_number y x ≡ Less) ss r.0, rest)
+rises_without ss s r = rises_filter by_number (λ (x : OpenSession). not (x.number == s)) ss r
 
+-- there are no more than before
 pub length_without : (ss : List OpenSession) (s : ℕ) → length (without s ss) ≤ length ss
 length_without [] s = omega arith
 length_without (y ∷ ss) s = one (y.number == s) (length_without ss s)

@@ -34,6 +34,7 @@ use Rattle.cj_model.proofs.Now.{CanClose, can_close, CanSchedule, can_schedule, 
 
 -- ---- sessions
 
+-- a session is opened, or none can be
 sound_open : (c : Core) (user : List ℕ) (g : Given) (z : Core) → length user ≤ user_limit → IsSound c → moves.Opens c user g z → IsSound z
 sound_open c user (Ok (moved.Session n)) z fits w h =
     let full = or_parts _ _ h.0 in
@@ -45,6 +46,7 @@ sound_open c user (Ok (moved.Refused r)) z fits w h = subst IsSound (sym h.2) w
 sound_open c user (Err NoMemory) z fits w h = subst IsSound (sym h) w
 sound_open c user _ z fits w h = absurd h
 
+-- a session is closed
 sound_close : (c : Core) (s : ℕ) (g : Given) (z : Core) → IsSound c → CanClose c s → moves.Closes c s g z → IsSound z
 sound_close c s (Ok moved.Closed) z w can h =
     subst IsSound (sym h) (sound_sessions c (without s c.sessions) c.greatest w (are_closed c.history c.greatest c.sessions s (sessions_are c w) can.idle))
@@ -111,12 +113,15 @@ next_fits c s r a is written lone count w here =
           };
     }
 
+-- and is outside transactions
 next_lone : (c : Core) (s : ℕ) (r : Request) (a : Act) → act_of r ≡ Some a → IsLoneWrite r → IsSound c → IsLone (next_entry c s a) a
 next_lone c s r a is lone w = by_lone (λ b. IsLone (next_entry c s b) b) (λ q. no_tx c s w) (λ q. refl) (λ q. refl) r a is lone
 
+-- a request more
 keeps_counted : (n : ℕ) → KeepsSession n counted
 keeps_counted n = record { number = λ x. refl; user = λ x. refl; queries = λ x. (let le : x.queries ≤ x.queries + 1 = omega arith in le); least = λ x le. le }
 
+-- an act is scheduled, or refused
 sound_act : (c : Core) (s : ℕ) (r : Request) (a : Act) (g : Given) (z : Core) → act_of r ≡ Some a → IsWritten r → IsLoneWrite r → CanCount c 1 → IsSound c → CanSchedule c s
     → moves.SchedulesAct c s r a g z → IsSound z
 sound_act c s r a (Ok (moved.Entry n)) z is written lone count w can h =
@@ -130,6 +135,7 @@ sound_act c s r a (Ok (moved.Refused refusal)) z is written lone count w can h =
 sound_act c s r a (Err NoMemory) z is written lone count w can h = subst IsSound (sym h) w
 sound_act c s r a _ z is written lone count w can h = absurd h
 
+-- a request is scheduled, or refused
 sound_schedule : (c : Core) (s : ℕ) (r : Request) (o : Option Act) (g : Given) (z : Core) → act_of r ≡ o → IsWritten r → IsLoneWrite r → CanCount c 1 → IsSound c → CanSchedule c s
     → moves.SchedulesOf c s r o g z → IsSound z
 sound_schedule c s r None g z is written lone count w can h = absurd h
@@ -137,17 +143,21 @@ sound_schedule c s r (Some a) g z is written lone count w can h = sound_act c s 
 
 -- ---- backends take entries, and entries end
 
+-- a backend takes the open entry
 sound_apply : (tells : Bool) (c : Core) (b : ℕ) (g : Given) (z : Core) → IsSound c → CanApply c b → moves.Applies tells c b g z → IsSound z
 sound_apply tells c b (Ok (moved.Applied n d)) z w can h = subst IsSound (sym h.1.2) (sound_applied tells c b w can.is_running can.on d h.1.0 h.1.1)
 sound_apply tells c b _ z w can h = absurd h
 
+-- a backend that is not enabled takes the log's next entry
 sound_replay : (tells : Bool) (c : Core) (b : ℕ) (g : Given) (z : Core) → IsSound c → CanReplay c b → moves.Replays tells c b g z → IsSound z
 sound_replay tells c b (Ok (moved.Replayed n d)) z w can h = subst IsSound (sym h.1.2) (sound_replayed tells c b w can.off d h.1.0 h.1.1)
 sound_replay tells c b _ z w can h = absurd h
 
+-- a reply at a position within the log
 keeps_answered : (n p : ℕ) → p ≤ n → KeepsSession n (answered_at p)
 keeps_answered n p le = record { number = λ x. refl; user = λ x. refl; queries = λ x. (let le : x.queries ≤ x.queries = omega arith in le); least = λ x old. le }
 
+-- the open entry ends, and its session is answered
 sound_end : (tells : Bool) (c : Core) (g : Given) (z : Core) → IsSound c → CanEnd c → moves.Ends tells c g z → IsSound z
 sound_end tells c (Ok (moved.Replied s reply)) z w can h =
     let none = opened-ended c.history c.failed c.starved can.is_running w.one_open.0 w.one_open.1 in
@@ -168,15 +178,19 @@ read_counts x = one (is_reading x)
     one true = (omega arith, omega arith)
     one false = (omega arith, omega arith)
 
+-- a read that was answered
 keeps_was_answered : (n : ℕ) → KeepsSession n was_answered
 keeps_was_answered n = record { number = λ x. refl; user = λ x. refl; queries = λ x. (read_counts x).0; least = λ x le. le }
 
+-- a read that goes on
 keeps_still_reading : (n : ℕ) (select : Select) (tried : ℕ) → KeepsSession n (still_reading select tried)
 keeps_still_reading n select tried = record { number = λ x. refl; user = λ x. refl; queries = λ x. (read_counts x).0; least = λ x le. le }
 
+-- a read that was answered at a position within the log
 keeps_reached : (n p : ℕ) → p ≤ n → KeepsSession n (λ x. answered_at p (was_answered x))
 keeps_reached n p le = record { number = λ x. refl; user = λ x. refl; queries = λ x. (read_counts x).0; least = λ x old. le }
 
+-- a backend failed in a read, which goes on or was answered
 failed_sound : (c : Core) (s b : ℕ) (f : OpenSession → OpenSession) (z : Core) → IsSound c → KeepsSession (length (log c.history)) f → 0 < room c.history → z ≡ read_failed c s b f → IsSound z
 failed_sound c s b f z w keeps space is =
     let e : Event = ReadFailed s (read_number (session_at c s)) b in
@@ -185,12 +199,15 @@ failed_sound c s b f z w keeps space is =
     (are_with c.history (c.history ++ e ∷ []) c.greatest c.sessions s f (sessions_are c w) keeps (log-same c.history e refl) (λ d on. sym (opened-same c.history e refl refl) ∙ on)))
 
 module _ (tells : Bool) (c : Core) (s b : ℕ) (select : Select) (w : IsSound c) where
+  -- the backend answered
   reached : (answer : Asked) (z : Core) → moves.Reaches tells c s b select answer z → IsSound z
   reached answer z h = with_sound c s (λ x. answered_at h.p (was_answered x)) z w (keeps_reached (length (log c.history)) h.p (stands_there c b h.p w h.stands).0) h.after
 
+  -- the backend is not far enough
   early : (p : Option ℕ) (z : Core) → moves.ReadsTooEarly c s b select p z → IsSound z
   early p z h = with_sound c s (still_reading select (tried_of (session_at c s).reading)) z w (keeps_still_reading (length (log c.history)) select (tried_of (session_at c s).reading)) h.after
 
+  -- all that a read may give
   sound_read : (g : Given) (z : Core) → moves.Reads tells c s b select g z → IsSound z
   sound_read (Ok (moved.Rows a)) z h = reached _ z h
   sound_read (Ok (moved.Refused r)) z h =
@@ -209,16 +226,19 @@ module _ (tells : Bool) (c : Core) (s b : ℕ) (select : Select) (w : IsSound c)
 
 -- ---- backends
 
+-- a backend is armed
 sound_arm : (c : Core) (g : Given) (z : Core) → IsSound c → moves.Arms c g z → IsSound z
 sound_arm c (Ok moved.Armed) z w h = subst IsSound (sym h) w
 sound_arm c _ z w h = absurd h
 
+-- a backend is disabled, or the history is full
 sound_disable : (c : Core) (b : ℕ) (g : Given) (z : Core) → IsSound c → CanDisable c b → moves.Disables c b g z → IsSound z
 sound_disable c b (Ok moved.Disabled) z w can h = subst IsSound (sym h.1) (sound_disabled c b w can.is_free can.on h.0)
 sound_disable c b (Ok (moved.Refused r)) z w can h = subst IsSound (sym h.2) w
 sound_disable c b (Err NoMemory) z w can h = subst IsSound (sym h) w
 sound_disable c b _ z w can h = absurd h
 
+-- a backend is enabled, or the history is full
 sound_enable : (c : Core) (b : ℕ) (g : Given) (z : Core) → IsSound c → CanEnable c b → moves.Enables c b g z → IsSound z
 sound_enable c b (Ok moved.Enabled) z w can h = subst IsSound (sym h.1) (sound_enabled c b w can.is_free can.off (is_there c.positions b _ can.at) can.at h.0)
 sound_enable c b (Ok (moved.Refused r)) z w can h = subst IsSound (sym h.2) w
@@ -227,6 +247,7 @@ sound_enable c b _ z w can h = absurd h
 
 -- ---- all moves
 
+-- each move that can be made now
 does_sound : (tells : Bool) (c : Core) (m : Move) (g : Given) (z : Core) → IsMove c.placement.backends m → CanCount c 1 → IsSound c → not_now c m ≡ None → Does tells c m g z → IsSound z
 does_sound tells c (Open user) g z is count w now h = sound_open c user g z is w h
 does_sound tells c (Close s) g z is count w now h = sound_close c s g z w (can_close c s now) h
@@ -246,6 +267,7 @@ pub by_reason : (o : Option Why) (P Q : Type 0) (g : Given) (c z : Core) → Mat
 by_reason None P Q g c z h made not_made = made refl h
 by_reason (Some w) P Q g c z h made not_made = not_made w h.0 h.1
 
+-- every move leads from a sound state to one
 pub moves_sound : (tells : Bool) (c : Core) (m : Move) (g : Given) (z : Core) → IsMove c.placement.backends m → CanCount c 1 → IsSound c → MovesTo tells c m g z → IsSound z
 moves_sound tells c m g z is count w h =
     by_reason (not_now c m) (Does tells c m g z) (IsSound z) g c z h (λ now does. does_sound tells c m g z is count w now does) (λ why not_made same. subst IsSound (sym same) w)

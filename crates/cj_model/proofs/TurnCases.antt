@@ -1,10 +1,9 @@
 -- The turn of each kind of reply, over plain values.
-use Rattle.std.proofs.Common.{◌≡◌, ◌≢◌, ℕ, zero, suc, ◌+◌, ◌-◌, ◌<◌, ◌≤◌, ◌==◌, ◌⊎◌, inl, inr, Bool, true, false, cond, List, [], ◌∷◌, ◌++◌, length, take, slice_get, Option, None, Some, All, refl, ap, sym, ◌∙◌, subst, arith, ⊎_elim, length-append}
+use Rattle.std.proofs.Common.{◌≡◌, ℕ, ◌+◌, ◌<◌, ◌≤◌, ◌==◌, ◌⊎◌, inl, inr, true, cond, List, [], ◌∷◌, ◌++◌, length, take, slice_get, Some, refl, ap, sym, ◌∙◌, subst, arith, ⊎_elim, length-append}
 use mathlib.Core.List.{IsPrefix}
 use Rattle.std.proofs.lemmas.Grind.{fold-append}
-use Rattle.std.proofs.lemmas.Bool.{cases_eq, cases_lt, eqb-true, eqb-false, eq-eqb, both_ways}
-use Rattle.std.proofs.lemmas.List.{append-nil, take-append-le}
-use Rattle.cj_model.specs.declared.request.Request.{Request}
+use Rattle.std.proofs.lemmas.Bool.{both_ways}
+use Rattle.std.proofs.lemmas.List.{take-append-le}
 use Rattle.cj_model.specs.declared.request.Request.TheVariants as request
 use Rattle.cj_model.specs.declared.request.Act.{Act}
 use Rattle.cj_model.specs.declared.request.Act.TheVariants as act
@@ -19,10 +18,10 @@ use Rattle.cj_model.specs.Changes.{bare}
 use Rattle.cj_model.specs.Asks.{ask}
 use Rattle.cj_model.specs.Plain.{act_of, request_of}
 use Rattle.cj_model.specs.Placements.{Placement, concerns}
-use Rattle.cj_model.specs.Histories.{has, log, done, free, opened, enabled, room, at, tx_of}
+use Rattle.cj_model.specs.Histories.{has, log, done, free, opened, enabled, room, at}
 use Rattle.cj_model.specs.Legality.{IsLegal}
 use Rattle.cj_model.specs.Answering.{ServesAt, Served, Unserved, is_target, Finished, Unfinished, AnswersEntry}
-use Rattle.cj_model.specs.Turns.{Seen, Call, Moment, reply_of_asked, entry_of, Scheduled, NoBackend, Read, ReadFault, Full, IsFull, Case, scheduled, no_backend, read, read_fault, full, entries_of, Turn}
+use Rattle.cj_model.specs.Turns.{Seen, Call, Moment, reply_of_asked, IsFull, scheduled, no_backend, read, read_fault, full, entries_of, Turn}
 use Rattle.cj_model.specs.Sound.{IsLone}
 use Rattle.cj_model.specs.Runs.{IsUnanswered, HasFailed, call_of_entry}
 use Rattle.cj_model.proofs.Masks.{has-zero}
@@ -30,6 +29,7 @@ use Rattle.cj_model.proofs.Pushed.{get_seam, get_left, prefix_self, prefix_push,
 
 -- ---- requests and acts
 
+-- the act of a request that comes from an act
 pub act_of_request : (a : Act) → act_of (request_of a) ≡ Some a
 act_of_request act.Begin = refl
 act_of_request (act.Write w) = refl
@@ -47,6 +47,7 @@ concerns_lone p b xs ys e (act.Drop table) lone = refl
 concerns_lone p b xs ys e act.Commit lone = absurd lone
 concerns_lone p b xs ys e act.Abort lone = absurd lone
 
+-- an act outside a transaction has none
 pub lone_tx : (e : Entry) (a : Act) → IsLone e a → e.tx ≡ 0
 lone_tx e act.Begin lone = absurd lone
 lone_tx e (act.Write w) lone = lone
@@ -67,24 +68,33 @@ answers_then p g h now i e r lone same answer =
     let back = target_at p h g e lone (λ b. sym (same b)) in
     ⊎_elim
     (λ (x : Finished p h now i e r).
-       inl record {
-         failed = x.failed; starved = x.starved; masks = x.masks;
-         some = ⊎_elim (λ (none : (b : ℕ) → is_target p h e b → ⊥). inl (λ b t. none b (forth b t))) (λ (q : _). inr (q.0, back q.0 q.1, q.2, q.3)) x.some;
-         outcome = x.outcome; says = x.says; replied = x.replied;
-       })
+    inl record {
+      failed = x.failed;
+      starved = x.starved;
+      masks = x.masks;
+      some = ⊎_elim (λ (none : (b : ℕ) → is_target p h e b → ⊥). inl (λ b t. none b (forth b t))) (λ (q : _). inr (q.0, back q.0 q.1, q.2, q.3)) x.some;
+      outcome = x.outcome;
+      says = x.says;
+      replied = x.replied;
+    })
     (λ (x : Unfinished p h now i e r).
-       inr record {
-         failed = x.failed; starved = x.starved; masks = x.masks;
-         some = (x.some.0, back x.some.0 x.some.1);
-         all = λ b t. x.all b (forth b t); replied = x.replied;
-       })
+    inr record {
+      failed = x.failed;
+      starved = x.starved;
+      masks = x.masks;
+      some = (x.some.0, back x.some.0 x.some.1);
+      all = λ b t. x.all b (forth b t);
+      replied = x.replied;
+    })
     answer
 
 -- ---- the number of a session's entries
 
+-- an event that leaves the log leaves the number
 pub entries-same : (s : ℕ) (h g : List Event) → log g ≡ log h → entries_of s g ≡ entries_of s h
 entries-same s h g same = rw same refl
 
+-- an entry counts for its session
 pub entries-sched : (s : ℕ) (h : List Event) (e : Entry) → entries_of s (h ++ Sched e ∷ []) ≡ entries_of s h + cond (e.session == s) 1 0
 entries-sched s h e = rw (log-sched h e) (fold-append (λ (n : ℕ) (x : Entry). n + cond (x.session == s) 1 0) 0 (log h) (e ∷ []))
 
@@ -114,32 +124,35 @@ turn_end p a h failed starved e r legal longer owes o is lone one_open answer =
       owes = owes;
       tx = inl (lone_tx e e.act lone);
       case =
-        scheduled
-        record {
-          m = m;
-          moment = record { low = low; high = omega arith };
-          act = e.act;
-          is = act_of_request e.act;
-          was_free = ap free part ∙ o.was_free;
-          served = subst (λ (x : List Event). Served p x (request_of e.act)) (sym part) served;
-          space = subst (λ (x : List Event). 3 ≤ room x) (sym part) o.space;
-          next = next;
-          answer =
-            subst (λ (i : ℕ). AnswersEntry p (take m g) g i e r) (sym number)
-            (subst (λ (x : List Event). AnswersEntry p x g (done h) e r) (sym part) (answers_then p (take m h) h g (done h) e r lone o.same answer));
-          least = one_open ∙ ap (λ n. n + 1) (sym number);
-        };
+          scheduled
+          record {
+            m = m;
+            moment = record { low = low; high = omega arith };
+            act = e.act;
+            is = act_of_request e.act;
+            was_free = ap free part ∙ o.was_free;
+            served = subst (λ (x : List Event). Served p x (request_of e.act)) (sym part) served;
+            space = subst (λ (x : List Event). 3 ≤ room x) (sym part) o.space;
+            next = next;
+            answer =
+                subst (λ (i : ℕ). AnswersEntry p (take m g) g i e r) (sym number)
+                (subst (λ (x : List Event). AnswersEntry p x g (done h) e r) (sym part) (answers_then p (take m h) h g (done h) e r lone o.same answer));
+            least = one_open ∙ ap (λ n. n + 1) (sym number);
+          };
       entries = entries-same e.session h g (log-same h ev refl) ∙ o.entries;
     }
 
 -- the moment is now, and nothing was scheduled since the session saw a
 module _ (p : Placement) (s : ℕ) (a : Seen) (h : List Event) (legal : IsLegal h) (longer : IsPrefix a.front h) (owes : a.least ≤ length (log a.front)) (rests : entries_of s h ≡ entries_of s a.front) where
+  -- this moment
   now : Moment a.front h (length h)
   now = let n : length a.front ≤ length h = prefix_length a.front h longer in record { low = n; high = omega arith }
 
+  -- the history up to now
   whole : take (length h) h ≡ h
   whole = take_whole h h (prefix_self h)
 
+  -- no entry came
   none_more : entries_of s h ≡ entries_of s a.front + 0
   none_more = omega (arith, rests)
 
@@ -147,7 +160,10 @@ module _ (p : Placement) (s : ℕ) (a : Seen) (h : List Event) (legal : IsLegal 
   pub turn_unserved : (c : Call) → c.tx ≡ 0 → c.reply ≡ Refused (bare NO_BACKEND) → Unserved p h c.request → Turn p s a c (record { front = h; least = a.least })
   turn_unserved c tx replied none =
       record {
-        legal = legal; longer = longer; owes = owes; tx = inl tx;
+        legal = legal;
+        longer = longer;
+        owes = owes;
+        tx = inl tx;
         case = no_backend record { m = length h; moment = now; none = subst (λ (x : List Event). Unserved p x c.request) (sym (whole)) none; replied = replied; least = refl };
         entries = none_more;
       }
@@ -157,15 +173,20 @@ module _ (p : Placement) (s : ℕ) (a : Seen) (h : List Event) (legal : IsLegal 
       → Turn p s a c (record { front = h; least = a.least })
   turn_full c tx replied served small =
       record {
-        legal = legal; longer = longer; owes = owes; tx = inl tx;
+        legal = legal;
+        longer = longer;
+        owes = owes;
+        tx = inl tx;
         case =
-          full
-          record {
-            m = length h; moment = now;
-            served = subst (λ (x : List Event). Served p x c.request) (sym (whole)) served;
-            full = subst (λ (x : List Event). IsFull x (act_of c.request)) (sym (whole)) small;
-            replied = replied; least = refl;
-          };
+            full
+            record {
+              m = length h;
+              moment = now;
+              served = subst (λ (x : List Event). Served p x c.request) (sym (whole)) served;
+              full = subst (λ (x : List Event). IsFull x (act_of c.request)) (sym (whole)) small;
+              replied = replied;
+              least = refl;
+            };
         entries = none_more;
       }
 
@@ -174,16 +195,23 @@ module _ (p : Placement) (s : ℕ) (a : Seen) (h : List Event) (legal : IsLegal 
       → Served p h c.request → a.least ≤ n → done h ≤ n → n ≤ length (log h) → Turn p s a c (record { front = h; least = n })
   turn_read c select n tx is replied served owed past within =
       record {
-        legal = legal; longer = longer; owes = owes; tx = inl tx;
+        legal = legal;
+        longer = longer;
+        owes = owes;
+        tx = inl tx;
         case =
-          read
-          record {
-            m = length h; moment = now; select = select; is = is;
-            served = subst (λ (x : List Event). Served p x c.request) (sym (whole)) served;
-            owed = owed;
-            past = subst (λ (x : List Event). done x ≤ n) (sym (whole)) past;
-            within = within; replied = replied;
-          };
+            read
+            record {
+              m = length h;
+              moment = now;
+              select = select;
+              is = is;
+              served = subst (λ (x : List Event). Served p x c.request) (sym (whole)) served;
+              owed = owed;
+              past = subst (λ (x : List Event). done x ≤ n) (sym (whole)) past;
+              within = within;
+              replied = replied;
+            };
         entries = none_more;
       }
 
@@ -204,10 +232,10 @@ turn_fault p s a h b c select mask tried legal longer owes rests tx is replied p
     let same : (k : ℕ) → enabled (take (length g) g) k ≡ enabled h k = λ k. ap (λ x. enabled x k) whole ∙ enabled-push h ev k in
     let now : HasFailed a.front g s c.number b = record { k = length h; low = low; high = omega arith; is = get_seam h [] ev } in
     let before : (k : ℕ) → has tried k ≡ true → HasFailed a.front g s c.number k =
-      λ k t. let x = prior k t in let lt : x.k < length h = x.high in record { k = x.k; low = x.low; high = omega arith; is = get_left h (ev ∷ []) x.k (ReadFailed s c.number k) x.is }
+    λ k t. let x = prior k t in let lt : x.k < length h = x.high in record { k = x.k; low = x.low; high = omega arith; is = get_left h (ev ∷ []) x.k (ReadFailed s c.number k) x.is }
     in
     let each : (k : ℕ) → has mask k ≡ true → HasFailed a.front g s c.number k =
-      λ k t. ⊎_elim (λ (e : k ≡ b). subst (λ (i : ℕ). HasFailed a.front g s c.number i) (sym e) now) (λ (t : has tried k ≡ true). before k t) (all k ((serving k).1 t))
+    λ k t. ⊎_elim (λ (e : k ≡ b). subst (λ (i : ℕ). HasFailed a.front g s c.number i) (sym e) now) (λ (t : has tried k ≡ true). before k t) (all k ((serving k).1 t))
     in
     record {
       legal = legal;
@@ -215,18 +243,18 @@ turn_fault p s a h b c select mask tried legal longer owes rests tx is replied p
       owes = owes;
       tx = inl tx;
       case =
-        read_fault
-        record {
-          m = length g;
-          moment = record { low = omega arith; high = omega arith };
-          select = select;
-          is = is;
-          mask = mask;
-          some = λ zero_mask. both_ways (has mask b) (ap (λ m. has m b) zero_mask ∙ has-zero b) ((serving b).0 serves);
-          all = λ k. ((λ t. (serving k).0 (sym (same k) ∙ t.0, t.1)), λ t. let q = (serving k).1 t in (same k ∙ q.0, q.1));
-          failed = λ k t. let x = each k t in (x.k, x.low, x.high, x.is);
-          replied = replied;
-          least = refl;
-        };
+          read_fault
+          record {
+            m = length g;
+            moment = record { low = omega arith; high = omega arith };
+            select = select;
+            is = is;
+            mask = mask;
+            some = λ zero_mask. both_ways (has mask b) (ap (λ m. has m b) zero_mask ∙ has-zero b) ((serving b).0 serves);
+            all = λ k. ((λ t. (serving k).0 (sym (same k) ∙ t.0, t.1)), λ t. let q = (serving k).1 t in (same k ∙ q.0, q.1));
+            failed = λ k t. let x = each k t in (x.k, x.low, x.high, x.is);
+            replied = replied;
+            least = refl;
+          };
       entries = let same_log : log g ≡ log h = log-same h ev refl in let n : entries_of s g ≡ entries_of s h = entries-same s h g same_log in omega (arith, n, rests);
     }

@@ -8,7 +8,6 @@ use Rattle.cj_model.specs.declared.request.Act.{Act}
 use Rattle.cj_model.specs.declared.request.Act.TheVariants as act
 use Rattle.cj_model.specs.declared.request.Entry.{Entry}
 use Rattle.cj_model.specs.declared.select.Select.{Select}
-use Rattle.cj_model.specs.declared.answer.Answer.{Answer}
 use Rattle.cj_model.specs.declared.answer.Asked.{Asked}
 use Rattle.cj_model.specs.declared.answer.Asked.TheVariants as asked
 use Rattle.cj_model.specs.declared.answer.Refusal.{Refusal}

@@ -1,5 +1,5 @@
 -- Lists of moves, the calls of a session in them, and the chain of turns that these are.
-use Rattle.std.specs.Prelude.{◌≡◌, ◌⊎◌, ℕ, ◌+◌, ◌<◌, ◌≤◌, ◌^◌, Bool, true, false, ◌&&◌, ◌==◌, is_none, if◌then◌else◌, List, [], ◌∷◌, ◌++◌, length, take, slice_get, Ok, Err}
+use Rattle.std.specs.Prelude.{◌≡◌, ℕ, ◌+◌, ◌<◌, ◌≤◌, ◌^◌, Bool, true, false, ◌&&◌, ◌==◌, is_none, if◌then◌else◌, List, [], ◌∷◌, ◌++◌, length, take, slice_get, Ok, Err}
 use Rattle.std.specs.declared.option.Option.{Option}
 use Rattle.std.specs.declared.option.Option.TheVariants.{None, Some}
 use mathlib.Core.List.{IsPrefix}
@@ -7,7 +7,6 @@ use Rattle.cj_model.specs.declared.request.Request.{Request}
 use Rattle.cj_model.specs.declared.request.Request.TheVariants as request
 use Rattle.cj_model.specs.declared.request.Act.{Act}
 use Rattle.cj_model.specs.declared.request.Entry.{Entry}
-use Rattle.cj_model.specs.declared.answer.Refusal.{Refusal}
 use Rattle.cj_model.specs.declared.answer.Reply.{Reply}
 use Rattle.cj_model.specs.declared.answer.Reply.TheVariants.{Rows, Refused}
 use Rattle.cj_model.specs.declared.event.Event.{Event}
@@ -23,7 +22,7 @@ use Rattle.cj_model.specs.Histories.{has, log, done, free, opened, enabled, room
 use Rattle.cj_model.specs.Legality.{IsWritten, user_limit}
 use Rattle.cj_model.specs.Answering.{Served}
 use Rattle.cj_model.specs.Placements.{Placement}
-use Rattle.cj_model.specs.Turns.{Seen, Call, Turn, Chain, entries_of}
+use Rattle.cj_model.specs.Turns.{Seen, Call, Chain, entries_of}
 use Rattle.cj_model.specs.Cores.{Core, session_at, is_by}
 use Rattle.cj_model.specs.Moves.{Given, MovesTo, is_open, forbidden_by, tx_of_act, open_tx, read_number}
 
@@ -112,7 +111,7 @@ RunsFor s tells c (m ∷ ms) [] calls z = ⊥
 
 -- ---- between two replies
 
--- The session's own entry is open: it was scheduled since, and nothing was enabled or disabled after it.
+-- The session's own entry is open: it was scheduled since, as its only one, and nothing was enabled or disabled after it.
 pub record IsUnanswered (p : Placement) (front h : List Event) (s : ℕ) : Type 0 where
   pub e : Entry
   pub is : opened h ≡ Some e

@@ -1,5 +1,4 @@
-use Rattle.std.proofs.Common.{◌≡◌, ◌≢◌, ℕ, ◌+◌, ◌-◌, ◌*◌, ◌%◌, ◌≤◌, ◌<◌, ◌^◌, ◌==◌, ◌&&◌, ◌||◌, not, ◌++◌, ◌∷◌, [], length, vec_len, vec_capacity, true, false, bit_or, bit_and, refl, ap, sym, ◌∙◌, subst, arith, rules}
-use Rattle.cj_model.specs.declared.event.Event.TheVariants.{Ended}
+use Rattle.std.proofs.Common.{◌≡◌, vec_capacity, false, ap, ◌∙◌, arith, rules}
 use Rattle.cj_model.specs.Histories.{free}
 use Rattle.cj_book.specs.Books.{BookState}
 use Rattle.cj_book.proofs.Keeping.{keeps_ended}

@@ -1,4 +1,4 @@
-use Rattle.std.proofs.Common.{◌≡◌, ◌≢◌, ℕ, ◌+◌, ◌-◌, ◌*◌, ◌%◌, ◌≤◌, ◌<◌, ◌^◌, ◌==◌, ◌&&◌, ◌||◌, not, ◌++◌, ◌∷◌, [], length, vec_len, vec_capacity, true, false, bit_or, bit_and, refl, ap, sym, ◌∙◌, subst, arith, rules}
+use Rattle.std.proofs.Common.{◌≢◌, subst, rules}
 use Rattle.cj_model.specs.Plain.{request_of}
 use Rattle.cj_model.specs.Placements.{everywhere}
 use Rattle.cj_model.specs.Answering.{Served}

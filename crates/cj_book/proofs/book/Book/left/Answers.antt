@@ -1,6 +1,6 @@
-use Rattle.std.proofs.Common.{◌≡◌, ◌≢◌, ℕ, ◌+◌, ◌-◌, ◌*◌, ◌%◌, ◌≤◌, ◌<◌, ◌^◌, ◌==◌, ◌&&◌, ◌||◌, not, ◌++◌, ◌∷◌, [], length, vec_len, vec_capacity, true, false, bit_or, bit_and, refl, ap, sym, ◌∙◌, subst, arith, rules}
+use Rattle.std.proofs.Common.{◌&&◌, ◌||◌, not, ap, sym, ◌∙◌, rules}
 use Rattle.cj_model.specs.declared.event.Event.TheVariants.{Ended}
-use Rattle.cj_model.specs.Histories.{has, enabled}
+use Rattle.cj_model.specs.Histories.{has}
 use Rattle.cj_model.proofs.Pushed.{enabled-push}
 use Rattle.cj_book.proofs.MaskBits.{has_without}
 use Rattle.cj_book.proofs.book.Book.left.Goals as goal
@@ -11,4 +11,4 @@ returns c =
     let left = has_without c.self.inside.enabled c.args.failed c.args.starved b (search rules) (search rules) (search rules) in
     rw (← c.self.view_is)
     (left ∙ (ap (λ x. x && not (has c.args.failed b || has c.args.starved b)) (c.self.invariant.mask b)
-     ∙ sym (enabled-push c.self.inside.history.items (Ended c.args.failed c.args.starved) b)))
+    ∙ sym (enabled-push c.self.inside.history.items (Ended c.args.failed c.args.starved) b)))
