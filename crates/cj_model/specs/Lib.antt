@@ -11,6 +11,7 @@ pub mod Grammar
 pub mod Histories
 pub mod Legality
 pub mod Lexical
+pub mod Literals
 pub mod Moves
 pub mod Placements
 pub mod Plain

@@ -1,14 +1,16 @@
 //! The outside as two traits: a `Source` gives bytes and a `Sink` takes them.
 //!
 //! Each object may tell the bytes that it has left or holds, and counts its faults: a call answers that it failed only where that count has risen. On them
-//! stand `read_to_end` and `write_all`, and two objects in memory that fail at chosen calls.
+//! stand `read_to_end`, `write_all` and `Lines`, which gives a source line by line, and two objects in memory that fail at chosen calls.
 #![tactic(auto)]
 
+mod lines;
 mod memory;
 mod sink;
 mod source;
 mod streams;
 
+pub use lines::{LINE_LIMIT, Line, LineError, Lines};
 pub use memory::{MemSink, MemSource};
 pub use sink::{OutError, Sink};
 pub use source::{Failed, Source};
