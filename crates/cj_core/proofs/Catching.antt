@@ -1,6 +1,5 @@
 -- What a cell that takes its next entry makes of the cells.
-use Rattle.std.proofs.Common.{◌≡◌, ℕ, zero, suc, ◌+◌, ◌<◌, ◌≤◌, ◌^◌, Bool, true, false, List, [], ◌∷◌, ◌++◌, length, map, take, get_or, set, fold, slice_get, All, Option, None, Some, option_map, IfSome, Result, Ok, Err, refl, ap, sym, ◌∙◌, subst, arith}
-use Rattle.std.specs.Prelude.{IsErrOf, ◌↔◌}
+use Rattle.std.proofs.Common.{◌≡◌, ℕ, zero, suc, ◌+◌, ◌<◌, ◌≤◌, ◌^◌, not, Bool, true, false, List, [], ◌∷◌, ◌++◌, length, map, take, get_or, set, fold, slice_get, All, Option, None, Some, option_map, IfSome, Result, Ok, Err, refl, ap, sym, ◌∙◌, subst, arith}
 use Rattle.std.proofs.lemmas.Bool.{both_ways}
 use Rattle.std.proofs.lemmas.Grind.{fold-append}
 use Rattle.std.proofs.lemmas.List.{take_more, get_or_default}
@@ -28,7 +27,7 @@ use Rattle.cj_replica.specs.declared.cell.Caught.{Caught}
 use Rattle.cj_replica.specs.declared.cell.Caught.TheVariants as caught
 use Rattle.cj_replica.specs.declared.cell.CellError.{CellError}
 use Rattle.cj_replica.specs.declared.cell.CellError.TheVariants as errors
-use Rattle.cj_replica.specs.Cells.{CellState, HasCellCause, SaysOutcome, is_concerned, told_after, position_after}
+use Rattle.cj_replica.specs.Cells.{CellState, HasCellCause, SaysOutcome, is_concerned, is_skipped, told_after, position_after}
 use Rattle.cj_core.specs.Worlds.{core_of, IsCell}
 use Rattle.cj_core.specs.Taking.{CanTake, Took, did_of}
 use Rattle.cj_core.proofs.Keeping.{position_of}
@@ -89,8 +88,8 @@ module _ (tells : Bool) (n : ℕ) (h : List Event) (cells : List CellState) (b :
   told_now on = subst (λ (q : Option ℕ). Holds tells (everywhere n) b (log h) x.told q) stands cell.holds on ∙ ap (λ db. Some db) (part_all n b (at (log h) can.p) can.below)
 
   -- it holds its part after it
-  holds_now : (r : Result Caught CellError) → (r ≡ Ok caught.Skipped → is_concerned x e ≡ false) → y.told ≡ told_after x.told e r → (q : Option ℕ) → q ≡ position_after (can.p + 1) r → Holds tells (everywhere n) b (log h) y.told q
-  holds_now (Ok caught.Skipped) skipped told q is = absurd (both_ways (is_concerned x e) (skipped refl) concerned)
+  holds_now : (r : Result Caught CellError) → is_concerned x e ≡ not (is_skipped r) → y.told ≡ told_after x.told e r → (q : Option ℕ) → q ≡ position_after (can.p + 1) r → Holds tells (everywhere n) b (log h) y.told q
+  holds_now (Ok caught.Skipped) skipped told q is = absurd (both_ways (is_concerned x e) skipped concerned)
   holds_now (Ok (caught.Did o)) skipped told q is =
       subst (λ (z : Option ℕ). Holds tells (everywhere n) b (log h) y.told z) (sym is)
       (λ on.
@@ -98,9 +97,9 @@ module _ (tells : Bool) (n : ℕ) (h : List Event) (cells : List CellState) (b :
       ∙ (ap (λ db. Some db) (sym (at_more (log h) can.p e entry)) ∙ ap (λ db. Some db) (sym (part_all n b (at (log h) (can.p + 1)) can.below)))))
   holds_now (Err d) skipped told q is = subst (λ (z : Option ℕ). Holds tells (everywhere n) b (log h) y.told z) (sym is) tt
 
-  does_now : (r : Result Caught CellError) → (r ≡ Ok caught.Skipped → is_concerned x e ≡ false) → SaysOutcome x.told e r → y.position ≡ position_after (can.p + 1) r
+  does_now : (r : Result Caught CellError) → is_concerned x e ≡ not (is_skipped r) → SaysOutcome x.told e r → y.position ≡ position_after (can.p + 1) r
       → (f s : ℕ) (ss : List OpenSession) (g : ℕ) → DoesEntry tells (core_of n h cells f s ss g) b can.p e (did_of r) y.position
-  does_now (Ok caught.Skipped) skipped says is f s ss g = absurd (both_ways (is_concerned x e) (skipped refl) concerned)
+  does_now (Ok caught.Skipped) skipped says is f s ss g = absurd (both_ways (is_concerned x e) skipped concerned)
   does_now (Ok (caught.Did o)) skipped says is f s ss g = (
     concerns_all n b (take can.p (log h)) e e.act can.below lone,
     λ on.
@@ -120,14 +119,14 @@ module _ (tells : Bool) (n : ℕ) (h : List Event) (cells : List CellState) (b :
   same_cell : get_or cells b y ≡ x
   same_cell = get_or_default cells b y x can.within ∙ sym there
 
-  pub took : (r : Result Caught CellError) (next : ℕ) (now : List CellState) → next ≡ can.p + 1 → now ≡ set cells b y → ((r ≡ Ok caught.Skipped) ↔ (is_concerned x e ≡ false)) → SaysOutcome x.told e r
+  pub took : (r : Result Caught CellError) (next : ℕ) (now : List CellState) → next ≡ can.p + 1 → now ≡ set cells b y → is_concerned x e ≡ not (is_skipped r) → SaysOutcome x.told e r
       → HasCellCause x.faults y.faults r → y.told ≡ told_after x.told e r → y.position ≡ position_after next r → Took tells n h cells b (did_of r) now
   took r next now is_next is_set skipped says cause told position =
       let place : y.position ≡ position_after (can.p + 1) r = position ∙ ap (λ m. position_after m r) is_next in
       record {
         cell = y;
         set = is_set;
-        is = record { number = number ∙ cell.number; backends = backends ∙ cell.backends; holds = holds_now r skipped.0 told y.position place };
+        is = record { number = number ∙ cell.number; backends = backends ∙ cell.backends; holds = holds_now r skipped told y.position place };
         takes =
             λ f s ss g.
             record {
@@ -135,7 +134,7 @@ module _ (tells : Bool) (n : ℕ) (h : List Event) (cells : List CellState) (b :
               stands = position_of cells b x can.within ∙ can.stands x;
               entry = e;
               there = entry;
-              does = does_now r skipped.0 says place f s ss g;
+              does = does_now r skipped says place f s ss g;
             };
         later = subst (λ (z : CellState). z.faults ≤ y.faults) (sym same_cell) cause.later;
         rose = λ is. subst (λ (z : CellState). Rose z.faults y.faults) (sym same_cell) (cause.failed (failed_of r is));

@@ -1,6 +1,6 @@
 -- What the book's answers say of the core.
-use Rattle.std.proofs.Common.{◌≡◌, ℕ, ◌+◌, ◌<◌, ◌≤◌, ◌++◌, ◌∷◌, [], true, List, length, Result, Ok, Err, OnOk, OnErr, ap, sym, ◌∙◌, subst, refl, length-append}
-use Rattle.std.specs.Prelude.{IsErrOf, ◌↔◌}
+use Rattle.std.proofs.Common.{◌≡◌, ℕ, ◌+◌, ◌<◌, ◌≤◌, ◌++◌, ◌∷◌, [], true, List, length, Result, Ok, Err, OnOk, OnErr, ap, sym, ◌∙◌, subst, refl, arith, length-append}
+use Rattle.std.specs.Prelude.{IfErr, ◌↔◌}
 use Rattle.cj_model.specs.declared.request.Act.{Act}
 use Rattle.cj_model.specs.declared.request.Act.TheVariants as act
 use Rattle.cj_model.specs.declared.request.Entry.{Entry}
@@ -15,16 +15,28 @@ use Rattle.cj_model.specs.Sound.{IsLone}
 use Rattle.cj_model.proofs.Pushed.{log-sched}
 use Rattle.cj_book.specs.declared.error.BookError.{BookError}
 use Rattle.cj_book.specs.declared.error.BookError.TheVariants.{InProgress, NoBackend, HistoryFull, NoMemory}
-use Rattle.cj_book.specs.Books.{BookState, with_event, IsInProgress, HasNoBackend, LacksRoom, CanSchedule, HasRoom}
+use Rattle.cj_book.specs.Books.{BookState, with_event, IsInProgress, HasNoBackend, LacksRoom, IsFull, CanSchedule, IsWant}
 use Rattle.cj_replica.specs.Cells.{CellState}
 use Rattle.cj_core.specs.Worlds.{core_of}
-use Rattle.cj_core.specs.Effects.{SchedulesAs}
+use Rattle.cj_core.specs.Effects.{SchedulesAs, HadRoom}
 
 -- an event has come into the book where there was room, or nothing has changed
-pub noted : {T : Type 0} (r : Result T BookError) (old new : BookState) (e : Event) (Q : BookState → Type 0) → OnOk r (new ≡ with_event old e) → OnErr r (new ≡ old) → HasRoom old r
+pub noted : {T : Type 0} (r : Result T BookError) (old new : BookState) (e : Event) (Q : BookState → Type 0) → OnOk r (new ≡ with_event old e) → OnErr r (new ≡ old) → OnOk r (0 < room old.history)
     → (0 < room old.history → Q (with_event old e)) → Q old → Q new
-noted (Ok x) old new e Q ok err room came same = subst Q (sym ok) (came room)
-noted (Err d) old new e Q ok err room came same = subst Q (sym err) same
+noted (Ok x) old new e Q ok err space came same = subst Q (sym ok) (came space)
+noted (Err d) old new e Q ok err space came same = subst Q (sym err) same
+
+-- whether there was room for it
+pub had_room : {T : Type 0} (cells : List CellState) (f s : ℕ) (ss : List OpenSession) (g : ℕ) (b : BookState) (r : Result T BookError) → OnOk r (0 < room b.history) → ((n : ℕ) → r ≡ Err (HistoryFull n) ↔ IsFull b n) → IfErr r IsWant
+    → HadRoom (core_of b.backends b.history cells f s ss g) r
+had_room cells f s ss g b (Ok x) space full want = space
+had_room cells f s ss g b (Err (InProgress n)) space full want = want
+had_room cells f s ss g b (Err NoBackend) space full want = want
+had_room cells f s ss g b (Err (HistoryFull n)) space full want =
+    let q = (full n).0 refl in
+    let lt : room b.history < 1 = q.full in
+    (omega arith, q.events)
+had_room cells f s ss g b (Err NoMemory) space full want = tt
 
 -- an entry outside transactions needs a backend
 lone_needs : (e : Entry) (a : Act) → IsLone e a → needs_backend (request_of a) ≡ true
