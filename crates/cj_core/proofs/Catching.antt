@@ -1,0 +1,141 @@
+-- What a cell that takes its next entry makes of the cells.
+use Rattle.std.proofs.Common.{◌≡◌, ℕ, zero, suc, ◌+◌, ◌<◌, ◌≤◌, ◌^◌, not, Bool, true, false, List, [], ◌∷◌, ◌++◌, length, map, take, get_or, set, fold, slice_get, All, Option, None, Some, option_map, IfSome, Result, Ok, Err, refl, ap, sym, ◌∙◌, subst, arith}
+use Rattle.std.proofs.lemmas.Bool.{both_ways}
+use Rattle.std.proofs.lemmas.Grind.{fold-append}
+use Rattle.std.proofs.lemmas.List.{take_more, get_or_default}
+use Rattle.std.proofs.lemmas.List.Elements.{All-nil, All-cons}
+use Rattle.std.proofs.lemmas.Option.{slice_get_within, get_or_from_slice_get}
+use Rattle.cj_outside.specs.Causes.{Rose}
+use Rattle.cj_model.specs.declared.database.Slot.{Slot}
+use Rattle.cj_model.specs.declared.request.Entry.{Entry}
+use Rattle.cj_model.specs.declared.answer.Outcome.{Outcome}
+use Rattle.cj_model.specs.declared.event.Event.{Event}
+use Rattle.cj_model.specs.declared.event.Event.TheVariants.{Sched, Ended, ReadFailed, LogFailed, Disabled, Enabled, Marker}
+use Rattle.cj_model.specs.declared.moves.Did.{Did}
+use Rattle.cj_model.specs.declared.moves.Did.TheVariants as did
+use Rattle.cj_model.specs.declared.moves.OpenSession.{OpenSession}
+use Rattle.cj_model.specs.Plain.{request_of}
+use Rattle.cj_model.specs.Placements.{everywhere, part}
+use Rattle.cj_model.specs.Steps.{step}
+use Rattle.cj_model.specs.Tables.{table_of}
+use Rattle.cj_model.specs.Histories.{scheduled, log, run, at, said}
+use Rattle.cj_model.specs.Legality.{Allowed, IsLegal, IsWritten}
+use Rattle.cj_model.specs.Cores.{position_at}
+use Rattle.cj_model.specs.Moves.{Takes, DoesEntry}
+use Rattle.cj_model.specs.Sound.{IsLone, Holds}
+use Rattle.cj_replica.specs.declared.cell.Caught.{Caught}
+use Rattle.cj_replica.specs.declared.cell.Caught.TheVariants as caught
+use Rattle.cj_replica.specs.declared.cell.CellError.{CellError}
+use Rattle.cj_replica.specs.declared.cell.CellError.TheVariants as errors
+use Rattle.cj_replica.specs.Cells.{CellState, HasCellCause, SaysOutcome, is_concerned, is_skipped, told_after, position_after}
+use Rattle.cj_core.specs.Worlds.{core_of, IsCell}
+use Rattle.cj_core.specs.Taking.{CanTake, Took, did_of}
+use Rattle.cj_core.proofs.Keeping.{position_of}
+use Rattle.cj_core.proofs.Taking.{hosts_each, concerns_all}
+
+-- ---- what a backend holds
+
+-- where each backend hosts every table, its part is all
+pub part_all : (n b : ℕ) (db : List Slot) → b < n → part (everywhere n) b db ≡ db
+part_all n b [] lt = refl
+part_all n b (s ∷ db) lt = rw (hosts_each n b (table_of s) lt) (ap (λ l. s ∷ l) (part_all n b db lt))
+
+-- the database after one more entry
+at_more : (entries : List Entry) (p : ℕ) (e : Entry) → slice_get entries p ≡ Some e → at entries (p + 1) ≡ (step (at entries p) e).db
+at_more entries p e is =
+    let lt : p < length entries = slice_get_within entries p e is in
+    let read : get_or entries p e ≡ e = get_or_from_slice_get entries p e e is in
+    ap run (take_more entries p e lt ∙ ap (λ (x : Entry). take p entries ++ x ∷ []) read) ∙ fold-append (λ (db : List Slot) (x : Entry). (step db x).db) [] (take p entries) (e ∷ [])
+
+-- ---- what the log has
+
+-- what holds of each entry that is scheduled
+all_scheduled : (P : Entry → Type 0) (h : List Event) → ((k : ℕ) (d : Event) → k < length h → (e : Entry) → get_or h k d ≡ Sched e → P e) → All P (log h)
+all_scheduled P [] each = All-nil P
+all_scheduled P (Sched e ∷ h) each = All-cons P e (log h) (each 0 (Sched e) (omega arith) e refl) (all_scheduled P h (λ k d lt. each (suc k) d (omega arith)))
+all_scheduled P (Ended f s ∷ h) each = all_scheduled P h (λ k d lt. each (suc k) d (omega arith))
+all_scheduled P (ReadFailed s q b ∷ h) each = all_scheduled P h (λ k d lt. each (suc k) d (omega arith))
+all_scheduled P (LogFailed s q ∷ h) each = all_scheduled P h (λ k d lt. each (suc k) d (omega arith))
+all_scheduled P (Disabled b ∷ h) each = all_scheduled P h (λ k d lt. each (suc k) d (omega arith))
+all_scheduled P (Enabled b ∷ h) each = all_scheduled P h (λ k d lt. each (suc k) d (omega arith))
+all_scheduled P (Marker name b ∷ h) each = all_scheduled P h (λ k d lt. each (suc k) d (omega arith))
+
+-- each entry of a legal history is written
+pub all_written : (h : List Event) → IsLegal h → All (λ (e : Entry). IsWritten (request_of e.act)) (log h)
+all_written h legal =
+    all_scheduled (λ (e : Entry). IsWritten (request_of e.act)) h
+    (λ k d lt e is. let allowed : Allowed (take k h) (Sched e) = subst (Allowed (take k h)) is (legal.each k d lt) in allowed.1.written)
+
+-- ---- taking an entry
+
+module _ (tells : Bool) (n : ℕ) (h : List Event) (cells : List CellState) (b : ℕ) (can : CanTake tells n h cells b) (x y : CellState) (there : x ≡ get_or cells b x) (e : Entry) (entry : slice_get (log h) can.p ≡ Some e)
+  (number : y.b ≡ x.b) (backends : y.backends ≡ x.backends) where
+  cell : IsCell tells n (log h) b x
+  cell = subst (IsCell tells n (log h) b) (sym there) (can.is x)
+
+  stands : x.position ≡ Some can.p
+  stands = ap (λ (z : CellState). z.position) there ∙ can.stands x
+
+  lone : IsLone e e.act
+  lone = subst (λ (z : Entry). IsLone z z.act) (get_or_from_slice_get (log h) can.p e e entry) (can.lone can.p e (slice_get_within (log h) can.p e entry))
+
+  -- it is concerned
+  concerned : is_concerned x e ≡ true
+  concerned = rw (cell.number, cell.backends) (concerns_all n b [] e e.act can.below lone)
+
+  -- what it tells, where it tells
+  told_now : tells ≡ true → x.told ≡ Some (at (log h) can.p)
+  told_now on = subst (λ (q : Option ℕ). Holds tells (everywhere n) b (log h) x.told q) stands cell.holds on ∙ ap (λ db. Some db) (part_all n b (at (log h) can.p) can.below)
+
+  -- it holds its part after it
+  holds_now : (r : Result Caught CellError) → is_concerned x e ≡ not (is_skipped r) → y.told ≡ told_after x.told e r → (q : Option ℕ) → q ≡ position_after (can.p + 1) r → Holds tells (everywhere n) b (log h) y.told q
+  holds_now (Ok caught.Skipped) skipped told q is = absurd (both_ways (is_concerned x e) skipped concerned)
+  holds_now (Ok (caught.Did o)) skipped told q is =
+      subst (λ (z : Option ℕ). Holds tells (everywhere n) b (log h) y.told z) (sym is)
+      (λ on.
+      told ∙ (ap (option_map (λ db. (step db e).db)) (told_now on)
+      ∙ (ap (λ db. Some db) (sym (at_more (log h) can.p e entry)) ∙ ap (λ db. Some db) (sym (part_all n b (at (log h) (can.p + 1)) can.below)))))
+  holds_now (Err d) skipped told q is = subst (λ (z : Option ℕ). Holds tells (everywhere n) b (log h) y.told z) (sym is) tt
+
+  does_now : (r : Result Caught CellError) → is_concerned x e ≡ not (is_skipped r) → SaysOutcome x.told e r → y.position ≡ position_after (can.p + 1) r
+      → (f s : ℕ) (ss : List OpenSession) (g : ℕ) → DoesEntry tells (core_of n h cells f s ss g) b can.p e (did_of r) y.position
+  does_now (Ok caught.Skipped) skipped says is f s ss g = absurd (both_ways (is_concerned x e) skipped concerned)
+  does_now (Ok (caught.Did o)) skipped says is f s ss g = (
+    concerns_all n b (take can.p (log h)) e e.act can.below lone,
+    λ on.
+        let o_is : o ≡ (step (at (log h) can.p) e).outcome = subst (λ (t : Option (List Slot)). IfSome t (λ db. o ≡ (step db e).outcome)) (told_now on) says in
+        ap (option_map (λ (z : Entry). (step (at (log h) can.p) z).outcome)) entry ∙ ap (λ z. Some z) (sym o_is),
+    is,
+  )
+  does_now (Err errors.Failed) skipped says is f s ss g = is
+  does_now (Err errors.Starved) skipped says is f s ss g = is
+
+  failed_of : (r : Result Caught CellError) → did_of r ≡ did.Failed → r ≡ Err errors.Failed
+  failed_of (Ok caught.Skipped) is = absurd (cc is)
+  failed_of (Ok (caught.Did o)) is = absurd (cc is)
+  failed_of (Err errors.Failed) is = refl
+  failed_of (Err errors.Starved) is = absurd (cc is)
+
+  same_cell : get_or cells b y ≡ x
+  same_cell = get_or_default cells b y x can.within ∙ sym there
+
+  pub took : (r : Result Caught CellError) (next : ℕ) (now : List CellState) → next ≡ can.p + 1 → now ≡ set cells b y → is_concerned x e ≡ not (is_skipped r) → SaysOutcome x.told e r
+      → HasCellCause x.faults y.faults r → y.told ≡ told_after x.told e r → y.position ≡ position_after next r → Took tells n h cells b (did_of r) now
+  took r next now is_next is_set skipped says cause told position =
+      let place : y.position ≡ position_after (can.p + 1) r = position ∙ ap (λ m. position_after m r) is_next in
+      record {
+        cell = y;
+        set = is_set;
+        is = record { number = number ∙ cell.number; backends = backends ∙ cell.backends; holds = holds_now r skipped told y.position place };
+        takes =
+            λ f s ss g.
+            record {
+              p = can.p;
+              stands = position_of cells b x can.within ∙ can.stands x;
+              entry = e;
+              there = entry;
+              does = does_now r skipped says place f s ss g;
+            };
+        later = subst (λ (z : CellState). z.faults ≤ y.faults) (sym same_cell) cause.later;
+        rose = λ is. subst (λ (z : CellState). Rose z.faults y.faults) (sym same_cell) (cause.failed (failed_of r is));
+      }

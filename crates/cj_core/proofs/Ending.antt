@@ -1,0 +1,104 @@
+-- What an end answers.
+use Rattle.std.proofs.Common.{◌≡◌, ◌≢◌, ◌⊎◌, inl, inr, ℕ, ◌+◌, ◌<◌, ◌≤◌, ◌^◌, ◌&&◌, ◌||◌, not, Bool, true, false, List, [], ◌∷◌, ◌++◌, length, map, slice_get, Option, None, Some, IsSome, refl, ap, sym, ◌∙◌, subst, arith, ⊎_elim}
+use Rattle.std.proofs.lemmas.Bool.{eqb-false, both_ways, and_parts, and_cases, or_cases, or_parts, not-true, not-false}
+use Rattle.std.proofs.lemmas.Option.{slice_get_within}
+use Rattle.cj_model.specs.declared.request.Entry.{Entry}
+use Rattle.cj_model.specs.declared.answer.Outcome.{Outcome}
+use Rattle.cj_model.specs.declared.answer.Refusal.{Refusal}
+use Rattle.cj_model.specs.declared.answer.Reply.TheVariants as reply
+use Rattle.cj_model.specs.declared.event.Event.{Event}
+use Rattle.cj_model.specs.declared.event.Event.TheVariants.{Ended}
+use Rattle.cj_model.specs.declared.moves.OpenSession.{OpenSession}
+use Rattle.cj_model.specs.declared.codes.TheConstants.{UNFINISHED, STARVED_ALL}
+use Rattle.cj_model.specs.Placements.{everywhere, concerns}
+use Rattle.cj_model.specs.Histories.{has, log, done, free, opened, enabled, ends}
+use Rattle.cj_model.specs.Answering.{is_target, reply_of, Finished, Unfinished, AnswersEntry}
+use Rattle.cj_model.specs.Cores.{Core, position_at}
+use Rattle.cj_model.specs.Moves.{behind}
+use Rattle.cj_model.specs.Sound.{Stands}
+use Rattle.cj_model.proofs.Pushed.{get_seam, enabled-push, log-same, ends-ended, length-ends}
+use Rattle.cj_model.proofs.Masks.{has-zero, some_bit}
+use Rattle.cj_model.proofs.Now.{behind_none}
+use Rattle.cj_replica.specs.Cells.{CellState}
+use Rattle.cj_core.specs.Worlds.{core_of, world_of}
+use Rattle.cj_core.specs.Effects.{Refuses}
+use Rattle.cj_core.specs.Kept.{Kept}
+use Rattle.cj_core.proofs.Taking.{concerns_all, lone_at}
+
+-- the masks of the entry that ends
+ended_masks : (h : List Event) (f s : ℕ) → slice_get (ends (h ++ Ended f s ∷ [])) (done h) ≡ Some (f, s)
+ended_masks h f s = rw (ends-ended h f s, ← length-ends h) (get_seam (ends h) [] (f, s))
+
+module _ (tells : Bool) (n : ℕ) (h : List Event) (cells : List CellState) (f s : ℕ) (ss : List OpenSession) (g : ℕ) (heard : Option Outcome) (kept : Kept tells (world_of n h cells f s ss g) heard)
+  (fr : free h ≡ false) (left : ℕ) (rest : (b : ℕ) → has left b ≡ enabled (h ++ Ended f s ∷ []) b) where
+
+  left_is : (b : ℕ) → has left b ≡ (enabled h b && not (has f b || has s b))
+  left_is b = rest b ∙ enabled-push h (Ended f s) b
+
+  module _ (e : Entry) (is : opened h ≡ Some e) where
+    -- each enabled backend is a target
+    target : (b : ℕ) → enabled h b ≡ true → is_target (everywhere n) h e b
+    target b on =
+        let lt : b < n = subst (λ (m : ℕ). b < m) kept.world.sound.cells (kept.world.sound.hosts b on) in
+        (on, concerns_all n b (log h) e e.act lt (lone_at (core_of n h cells f s ss g) kept.world.sound (done h) e is))
+
+    pub unfinished : (r : Refusal) → left ≡ 0 → Refuses f s r → AnswersEntry (everywhere n) h (h ++ Ended f s ∷ []) (done h) e (reply.Refused r)
+    unfinished r none how =
+        let some = kept.served fr in
+        inr
+        record {
+          failed = f;
+          starved = s;
+          masks = ended_masks h f s;
+          some = (some.0, target some.0 some.1);
+          all =
+              λ b t.
+              let off : (enabled h b && not (has f b || has s b)) ≡ false = sym (left_is b) ∙ (ap (λ m. has m b) none ∙ has-zero b) in
+              ⊎_elim (λ (q : enabled h b ≡ false). absurd (both_ways (enabled h b) q t.0))
+              (λ (q : not (has f b || has s b) ≡ false). or_cases (has f b) (has s b) (not-false (has f b || has s b) q))
+              (and_cases (enabled h b) (not (has f b || has s b)) off);
+          replied =
+              ⊎_elim (λ (q : (f ≢ 0) × (r ≡ record { code = UNFINISHED; a = f; b = s })). inl (q.0, ap reply.Refused q.1))
+              (λ (q : (f ≡ 0) × (r ≡ record { code = STARVED_ALL; a = 0; b = s })). inr (q.0, ap reply.Refused q.1)) how;
+        }
+
+  module _ (some : left ≢ 0) (fits : left < 2 ^ 32) where
+    -- a backend that stays enabled
+    stays : ℕ
+    stays = (some_bit left some fits).0
+
+    parts : (enabled h (some_bit left some fits).0 ≡ true) × (not (has f (some_bit left some fits).0 || has s (some_bit left some fits).0) ≡ true)
+    parts = let q = some_bit left some fits in and_parts (enabled h q.0) (not (has f q.0 || has s q.0)) (sym (left_is q.0) ∙ q.2)
+
+    clear : (has f (some_bit left some fits).0 ≡ false) × (has s (some_bit left some fits).0 ≡ false)
+    clear = let q = some_bit left some fits in or_parts (has f q.0) (has s q.0) (not-true (has f q.0 || has s q.0) parts.1)
+
+    pub finished : (e : Entry) → opened h ≡ Some e → (o : Outcome) → heard ≡ Some o → tells ≡ true → AnswersEntry (everywhere n) h (h ++ Ended f s ∷ []) (done h) e (reply_of o)
+    finished e is o there t =
+        let q = some_bit left some fits in
+        inl
+        record {
+          failed = f;
+          starved = s;
+          masks = ended_masks h f s;
+          some = inr (q.0, target e is q.0 parts.0, clear.0, clear.1);
+          outcome = o;
+          says = rw (log-same h (Ended f s) refl) (kept.right o there t);
+          replied = refl;
+        }
+
+    somewhere : (b : ℕ) (p : Option ℕ) → enabled h b ≡ true → has f b ≡ false → has s b ≡ false → Stands h f s b p → (q : ℕ) × (p ≡ Some q) × (q ≤ length (log h))
+    somewhere b (Some q) on nf ns st = (q, refl, st.0)
+    somewhere b None on nf ns st = absurd (⊎_elim (λ (x : has f b ≡ true). both_ways (has f b) nf x) (λ (x : has s b ≡ true). both_ways (has s b) ns x) (st on))
+
+    -- where no backend is behind, the outcome was heard
+    pub was_heard : behind h 0 (map (λ (x : CellState). x.position) cells) ≡ None → heard ≡ None → ⊥
+    was_heard none unheard =
+        let q = some_bit left some fits in
+        let lt = kept.world.sound.hosts q.0 parts.0 in
+        let p = somewhere q.0 (position_at (core_of n h cells f s ss g) q.0) parts.0 clear.0 clear.1 (kept.world.sound.stands q.0 lt) in
+        let ge : length (log h) ≤ p.0 = behind_none h (map (λ (x : CellState). x.position) cells) none q.0 p.0 p.1 parts.0 in
+        let le : p.0 ≤ length (log h) = p.2 in
+        let same : p.0 ≡ length (log h) = omega arith in
+        let there : IsSome heard = kept.whole fr q.0 parts.0 (p.1 ∙ ap (λ x. Some x) same) in
+        absurd (cc (there, unheard))

@@ -1,0 +1,215 @@
+-- Each change keeps what a world keeps.
+use Rattle.std.proofs.Common.{◌≡◌, ◌≢◌, ◌⊎◌, inl, inr, ℕ, ◌+◌, ◌-◌, ◌*◌, ◌^◌, ◌<◌, ◌≤◌, ◌==◌, ◌&&◌, not, Bool, true, false, List, [], ◌∷◌, ◌++◌, length, map, take, get_or, set, All, Option, None, Some, IsSome, is_some, refl, ap, sym, ◌∙◌, subst, arith, length-append, ⊎_elim}
+use Rattle.std.proofs.lemmas.Bool.{cases_eq, both_ways, or_parts, leb-false}
+use Rattle.std.proofs.lemmas.List.{get_or-set_same, get_or-set_other, length-set, length-map, map-set, get_or-map, take-append-le}
+use Rattle.cj_model.specs.declared.request.Entry.{Entry}
+use Rattle.cj_model.specs.declared.answer.Outcome.{Outcome}
+use Rattle.cj_model.specs.declared.select.Select.{Select}
+use Rattle.cj_model.specs.declared.event.Event.{Event}
+use Rattle.cj_model.specs.declared.event.Event.TheVariants.{Sched, Ended, ReadFailed, Disabled, Enabled}
+use Rattle.cj_model.specs.declared.moves.OpenSession.{OpenSession}
+use Rattle.cj_model.specs.declared.database.Slot.{Slot}
+use Rattle.cj_model.specs.Placements.{Placement, everywhere, part}
+use Rattle.cj_model.specs.Histories.{has, scheduled, is_ended, log, done, free, opened, enabled, room, run, at, said}
+use Rattle.cj_model.specs.Legality.{IsFit, user_limit}
+use Rattle.cj_model.specs.Cores.{Core, position_at, session_limit, session_at, fresh_session, with_session, is_by}
+use Rattle.cj_model.specs.Moves.{behind, is_open, has_no_number, next_entry, counted, answered_at, was_answered, still_reading}
+use Rattle.cj_model.specs.Sound.{IsSound, IsLone, Holds}
+use Rattle.cj_model.proofs.Pushed.{enabled-push, log-sched, log-same, done-same, opened-same, opened-ended, free-same, free-ended}
+use Rattle.cj_model.proofs.Sessions.{found_open, without}
+use Rattle.cj_model.proofs.Effects.{SessionsAre, KeepsSession, sessions_are, are_opened, are_closed, are_with, are_kept, are_sched, sound_sessions, sound_sched, sound_ended, sound_read_failed, sound_disabled, sound_enabled, stands_there, is_there}
+use Rattle.cj_model.proofs.Soundness.{session_sound, read_counts}
+use Rattle.cj_model.proofs.Now.{behind_none}
+use Rattle.cj_replica.specs.Cells.{CellState}
+use Rattle.cj_core.specs.Worlds.{WorldState, core_of, world_of, IsCell, IsWorld, backend_limit}
+use Rattle.cj_core.specs.Kept.{Kept}
+
+-- ---- cells
+
+-- a cell holds the same of a log that grew
+holds_longer : (tells : Bool) (p : Placement) (b : ℕ) (entries : List Entry) (e : Entry) (told : Option (List Slot)) (position : Option ℕ)
+    → ((q : ℕ) → position ≡ Some q → q ≤ length entries) → Holds tells p b entries told position → Holds tells p b (entries ++ e ∷ []) told position
+holds_longer tells p b entries e told None le h = tt
+holds_longer tells p b entries e told (Some q) le h =
+    λ on. let lq : q ≤ length entries = le q refl in h on ∙ ap (λ l. Some (part p b (run l))) (sym (take-append-le q entries (e ∷ []) lq))
+
+-- a position is within the log
+pub position_within : (c : Core) → IsSound c → (b p : ℕ) → position_at c b ≡ Some p → p ≤ length (log c.history)
+position_within c w b p is = (stands_there c b p w is).0
+
+-- the position of a cell, as the core has it
+pub position_of : (cells : List CellState) (b : ℕ) (d : CellState) → b < length cells → get_or (map (λ (x : CellState). x.position) cells) b None ≡ (get_or cells b d).position
+position_of cells b d lt = get_or-map (λ (x : CellState). x.position) cells b d None lt
+
+-- each cell is as before but one, which is one too
+pub cells_set : (tells : Bool) (n : ℕ) (entries : List Entry) (cells : List CellState) (b : ℕ) (y : CellState) → IsCell tells n entries b y
+    → ((k : ℕ) (d : CellState) → k < length cells → IsCell tells n entries k (get_or cells k d))
+    → (k : ℕ) (d : CellState) → k < length (set cells b y) → IsCell tells n entries k (get_or (set cells b y) k d)
+cells_set tells n entries cells b y new all k d lt =
+    let klt : k < length cells = subst (λ (m : ℕ). k < m) (length-set cells b y) lt in
+    ⊎_elim (λ (e : k ≡ b). let blt : b < length cells = omega arith in subst (λ (x : ℕ). IsCell tells n entries x (get_or (set cells b y) x d)) (sym e) (rw (get_or-set_same cells b y d blt) new))
+    (λ (ne : k ≡ b → ⊥). rw (get_or-set_other cells b k y d ne) (all k d klt)) (cases_eq k b)
+
+-- ---- what changes of a session keep
+
+pub keeps_counted : (n : ℕ) → KeepsSession n counted
+keeps_counted n = record { number = λ x. refl; user = λ x. refl; queries = λ x. (let le : x.queries ≤ x.queries + 1 = omega arith in le); least = λ x le. le }
+
+keeps_answered : (n p : ℕ) → p ≤ n → KeepsSession n (answered_at p)
+keeps_answered n p le = record { number = λ x. refl; user = λ x. refl; queries = λ x. (let le : x.queries ≤ x.queries = omega arith in le); least = λ x old. le }
+
+pub keeps_refused : (n : ℕ) → KeepsSession n was_answered
+keeps_refused n = record { number = λ x. refl; user = λ x. refl; queries = λ x. (read_counts x).0; least = λ x le. le }
+
+pub keeps_reached : (n p : ℕ) → p ≤ n → KeepsSession n (λ x. answered_at p (was_answered x))
+keeps_reached n p le = record { number = λ x. refl; user = λ x. refl; queries = λ x. (read_counts x).0; least = λ x old. le }
+
+pub keeps_reading : (n : ℕ) (select : Select) (tried : ℕ) → KeepsSession n (still_reading select tried)
+keeps_reading n select tried = record { number = λ x. refl; user = λ x. refl; queries = λ x. (read_counts x).0; least = λ x le. le }
+
+-- ---- changes
+
+module _ (tells : Bool) (n : ℕ) (h : List Event) (cells : List CellState) (f s : ℕ) (ss : List OpenSession) (g : ℕ) (heard : Option Outcome) (kept : Kept tells (world_of n h cells f s ss g) heard) where
+  c : Core
+  c = core_of n h cells f s ss g
+
+  -- the sessions alone are changed
+  pub kept_sessions : (ss' : List OpenSession) (g' : ℕ) → SessionsAre h g' ss' → Kept tells (world_of n h cells f s ss' g') heard
+  kept_sessions ss' g' are =
+      let w = kept.world in
+      record {
+        world = record { sound = sound_sessions (core_of n h cells f s ss g) ss' g' w.sound are; full = refl; few = w.few; positions = refl; cells = w.cells };
+        served = kept.served;
+        right = kept.right;
+        whole = kept.whole;
+      }
+
+  -- a session is changed
+  pub kept_with : (number : ℕ) (change : OpenSession → OpenSession) → KeepsSession (length (log h)) change → Kept tells (world_of n h cells f s (with_session ss number change) g) heard
+  kept_with number change keeps = kept_sessions (with_session ss number change) g (are_with h h g ss number change (sessions_are (core_of n h cells f s ss g) kept.world.sound) keeps refl (λ e on. on))
+
+  -- a session is opened
+  pub kept_opened : (user : List ℕ) → has_no_number (core_of n h cells f s ss g) ≡ false → length user ≤ user_limit → Kept tells (world_of n h cells f s (ss ++ fresh_session (g + 1) user ∷ []) (g + 1)) heard
+  kept_opened user free_number fits =
+      let full = or_parts _ _ free_number in
+      let few : length ss < session_limit = leb-false _ _ full.0 in
+      let more : g < 2 ^ 62 = leb-false _ _ full.1 in
+      kept_sessions (ss ++ fresh_session (g + 1) user ∷ []) (g + 1) (are_opened h g ss user (sessions_are (core_of n h cells f s ss g) kept.world.sound) few more fits)
+
+  -- a session is closed
+  pub kept_closed : (number : ℕ) → is_by number (opened h) ≡ false → Kept tells (world_of n h cells f s (without number ss) g) heard
+  kept_closed number idle = kept_sessions (without number ss) g (are_closed h g ss number (sessions_are (core_of n h cells f s ss g) kept.world.sound) idle)
+
+  -- an entry is scheduled
+  kept_sched : (e : Entry) (ss' : List OpenSession) → free h ≡ true → IsFit (log h) e → IsLone e e.act → 3 ≤ room h → (b : ℕ) → enabled h b ≡ true
+      → SessionsAre (h ++ Sched e ∷ []) g ss' → Kept tells (world_of n (h ++ Sched e ∷ []) cells 0 0 ss' g) None
+  kept_sched e ss' fr fit lone space b on are =
+      let w = kept.world in
+      let longer : log (h ++ Sched e ∷ []) ≡ log h ++ e ∷ [] = log-sched h e in
+      let len : length (log (h ++ Sched e ∷ [])) ≡ length (log h) + 1 = ap length longer ∙ length-append (log h) (e ∷ []) in
+      record {
+        world =
+            record {
+              sound = sound_sched (core_of n h cells f s ss g) e ss' w.sound fr fit lone space are;
+              full = refl;
+              few = w.few;
+              positions = refl;
+              cells =
+                  λ k d lt.
+                  let x : CellState = get_or cells k d in
+                  let is : IsCell tells n (log h) k x = w.cells k d lt in
+                  record {
+                    number = is.number;
+                    backends = is.backends;
+                    holds =
+                        subst (λ (l : List Entry). Holds tells (everywhere n) k l x.told x.position) (sym longer)
+                        (holds_longer tells (everywhere n) k (log h) e x.told x.position
+                        (λ q there. position_within (core_of n h cells f s ss g) w.sound k q (position_of cells k d lt ∙ there)) is.holds);
+                  };
+            };
+        served = λ _. (b, enabled-push h (Sched e) b ∙ on);
+        right = λ o is. absurd (cc is);
+        whole =
+            λ _ k now there.
+            let le : length (log (h ++ Sched e ∷ [])) ≤ length (log h) = position_within (core_of n h cells f s ss g) w.sound k (length (log (h ++ Sched e ∷ []))) there in
+            absurd (omega arith);
+      }
+
+  -- an entry of a session is scheduled
+  pub kept_scheduled : (number : ℕ) (e : Entry) → is_open (core_of n h cells f s ss g) number ≡ true → e ≡ next_entry (core_of n h cells f s ss g) number e.act → free h ≡ true → IsFit (log h) e → IsLone e e.act
+      → 3 ≤ room h → (b : ℕ) → enabled h b ≡ true → Kept tells (world_of n (h ++ Sched e ∷ []) cells 0 0 (with_session ss number counted) g) None
+  kept_scheduled number e here next fr fit lone space b on =
+      let x = session_sound (core_of n h cells f s ss g) number kept.world.sound here in
+      let high : (session_at (core_of n h cells f s ss g) number).number ≤ g = x.0.number.1 in
+      let is : (session_at (core_of n h cells f s ss g) number).number ≡ number = x.1 in
+      kept_sched e (with_session ss number counted) fr fit lone space b on
+      (are_sched h g ss number e (session_at (core_of n h cells f s ss g) number) (sessions_are (core_of n h cells f s ss g) kept.world.sound) (found_open (core_of n h cells f s ss g) number here) fr
+      (ap (λ (d : Entry). d.session) next) (ap (λ (d : Entry). d.seq) next) (omega arith))
+
+  -- the open entry ends
+  kept_ended : (ss' : List OpenSession) → free h ≡ false → behind h 0 (map (λ (x : CellState). x.position) cells) ≡ None
+      → SessionsAre (h ++ Ended f s ∷ []) g ss' → Kept tells (world_of n (h ++ Ended f s ∷ []) cells 0 0 ss' g) None
+  kept_ended ss' fr none are =
+      let w = kept.world in
+      let same : log (h ++ Ended f s ∷ []) ≡ log h = log-same h (Ended f s) refl in
+      let closed : free (h ++ Ended f s ∷ []) ≡ true = free-ended h f s fr w.sound.one_open.0 w.sound.one_open.1 in
+      record {
+        world =
+            record {
+              sound = sound_ended (core_of n h cells f s ss g) ss' w.sound fr (λ b q is on. behind_none h (map (λ (x : CellState). x.position) cells) none b q is on) are;
+              full = refl;
+              few = w.few;
+              positions = refl;
+              cells = λ k d lt. subst (λ (l : List Entry). IsCell tells n l k (get_or cells k d)) (sym same) (w.cells k d lt);
+            };
+        served = λ now. absurd (both_ways (free (h ++ Ended f s ∷ [])) now closed);
+        right = λ o is. absurd (cc is);
+        whole = λ now k on there. absurd (both_ways (free (h ++ Ended f s ∷ [])) now closed);
+      }
+
+  -- the open entry ends, and its session is answered
+  pub kept_answered : (number : ℕ) → free h ≡ false → behind h 0 (map (λ (x : CellState). x.position) cells) ≡ None
+      → Kept tells (world_of n (h ++ Ended f s ∷ []) cells 0 0 (with_session ss number (answered_at (length (log h)))) g) None
+  kept_answered number fr none =
+      let w = kept.world in
+      let closed = opened-ended h f s fr w.sound.one_open.0 w.sound.one_open.1 in
+      let le : length (log h) ≤ length (log h) = omega arith in
+      kept_ended (with_session ss number (answered_at (length (log h)))) fr none
+      (are_with h (h ++ Ended f s ∷ []) g ss number (answered_at (length (log h))) (sessions_are (core_of n h cells f s ss g) w.sound) (keeps_answered (length (log h)) (length (log h)) le)
+      (log-same h (Ended f s) refl) (λ e on. absurd (cc (closed, on))))
+
+  -- an event comes that leaves the log and the ends, where the state stays sound
+  kept_same : (e : Event) (ss' : List OpenSession) → scheduled e ≡ None → is_ended e ≡ false → IsSound (core_of n (h ++ e ∷ []) cells f s ss' g)
+      → (free h ≡ false → (b : ℕ) → enabled (h ++ e ∷ []) b ≡ enabled h b) → Kept tells (world_of n (h ++ e ∷ []) cells f s ss' g) heard
+  kept_same e ss' is stays sound keeps =
+      let w = kept.world in
+      let same : log (h ++ e ∷ []) ≡ log h = log-same h e is in
+      let was : done (h ++ e ∷ []) ≡ done h = done-same h e stays in
+      let still : free (h ++ e ∷ []) ≡ free h = free-same h e is stays in
+      record {
+        world = record { sound = sound; full = refl; few = w.few; positions = refl; cells = λ k d lt. subst (λ (l : List Entry). IsCell tells n l k (get_or cells k d)) (sym same) (w.cells k d lt) };
+        served = λ now. let o = kept.served (sym still ∙ now) in (o.0, keeps (sym still ∙ now) o.0 ∙ o.1);
+        right = λ o there on. ap (λ l. said l (done (h ++ e ∷ []))) same ∙ (ap (said (log h)) was ∙ kept.right o there on);
+        whole =
+            λ now k on there. kept.whole (sym still ∙ now) k (sym (keeps (sym still ∙ now) k) ∙ on) (there ∙ ap (λ l. Some (length l)) same);
+      }
+
+  -- a backend failed in a read
+  pub kept_read_failed : (t q b : ℕ) → 0 < room h → Kept tells (world_of n (h ++ ReadFailed t q b ∷ []) cells f s ss g) heard
+  kept_read_failed t q b space =
+      let e : Event = ReadFailed t q b in
+      kept_same (ReadFailed t q b) ss refl refl
+      (sound_read_failed (core_of n h cells f s ss g) t q b ss kept.world.sound space
+      (are_kept h (h ++ e ∷ []) g ss (sessions_are (core_of n h cells f s ss g) kept.world.sound) (log-same h e refl) (λ d on. sym (opened-same h e refl refl) ∙ on)))
+      (λ _ k. enabled-push h (ReadFailed t q b) k)
+
+  pub kept_disabled : (b : ℕ) → free h ≡ true → enabled h b ≡ true → 0 < room h → Kept tells (world_of n (h ++ Disabled b ∷ []) cells f s ss g) heard
+  kept_disabled b fr on space =
+      kept_same (Disabled b) ss refl refl (sound_disabled (core_of n h cells f s ss g) b kept.world.sound fr on space) (λ now. absurd (both_ways (free h) now fr))
+
+  pub kept_enabled : (b : ℕ) → free h ≡ true → enabled h b ≡ false → position_at (core_of n h cells f s ss g) b ≡ Some (length (log h)) → 0 < room h
+      → Kept tells (world_of n (h ++ Enabled b ∷ []) cells f s ss g) heard
+  kept_enabled b fr off there space =
+      kept_same (Enabled b) ss refl refl
+      (sound_enabled (core_of n h cells f s ss g) b kept.world.sound fr off (is_there (map (λ (x : CellState). x.position) cells) b (length (log h)) there) there space)
+      (λ now. absurd (both_ways (free h) now fr))

@@ -1,0 +1,6 @@
+pub mod Catching
+pub mod Ending
+pub mod Keeping
+pub mod Noting
+pub mod Seats
+pub mod Taking

@@ -1,0 +1,150 @@
+-- What a world keeps where a backend takes an entry, and where a cell only counts.
+use Rattle.std.proofs.Common.{◌≡◌, ◌≢◌, ◌⊎◌, ℕ, ◌+◌, ◌<◌, ◌≤◌, Bool, true, false, List, length, map, take, get_or, set, slice_get, All, Option, None, Some, IsSome, refl, ap, sym, ◌∙◌, subst, arith, ⊎_elim}
+use Rattle.std.proofs.lemmas.Bool.{cases_eq, lt-ltb, both_ways}
+use Rattle.std.proofs.lemmas.List.{get_or-set_same, get_or-set_other, length-map, map-set, set-get_or}
+use Rattle.std.proofs.lemmas.Option.{slice_get_within, get_or_from_slice_get}
+use Rattle.cj_model.specs.declared.request.Act.{Act}
+use Rattle.cj_model.specs.declared.request.Act.TheVariants as act
+use Rattle.cj_model.specs.declared.request.Entry.{Entry}
+use Rattle.cj_model.specs.declared.answer.Outcome.{Outcome}
+use Rattle.cj_model.specs.declared.event.Event.{Event}
+use Rattle.cj_model.specs.declared.moves.Did.{Did}
+use Rattle.cj_model.specs.declared.moves.Did.TheVariants as did
+use Rattle.cj_model.specs.declared.moves.OpenSession.{OpenSession}
+use Rattle.cj_model.specs.Placements.{everywhere, hosts, concerns}
+use Rattle.cj_model.specs.Steps.{table_written}
+use Rattle.cj_model.specs.Histories.{log, done, free, enabled, said}
+use Rattle.cj_model.specs.Cores.{Core, position_at}
+use Rattle.cj_model.specs.Moves.{Takes, DoesEntry, failed_after, starved_after}
+use Rattle.cj_model.specs.Sound.{IsSound, IsLone}
+use Rattle.cj_model.proofs.Effects.{sound_applied, sound_replayed, stands_there, is_there}
+
+use Rattle.cj_replica.specs.Cells.{CellState}
+use Rattle.cj_core.specs.Worlds.{WorldState, core_of, world_of, IsCell, IsWorld}
+use Rattle.cj_core.specs.Taking.{Took, heard_after}
+use Rattle.cj_core.specs.Kept.{Kept}
+use Rattle.cj_core.proofs.Keeping.{cells_set}
+
+-- a backend hosts every table
+pub hosts_each : (n b : ℕ) (table : List ℕ) → b < n → hosts (everywhere n) b table ≡ true
+hosts_each n b table lt = rw (lt-ltb b n lt) refl
+
+-- an entry outside transactions concerns every backend
+pub concerns_all : (n b : ℕ) (before : List Entry) (e : Entry) (a : Act) → b < n → IsLone e a → concerns (everywhere n) b before e.tx a ≡ true
+concerns_all n b before e act.Begin lt lone = absurd lone
+concerns_all n b before e (act.Write w) lt lone = hosts_each n b (table_written w) lt
+concerns_all n b before e (act.Create c) lt lone = hosts_each n b c.table lt
+concerns_all n b before e (act.Drop table) lt lone = hosts_each n b table lt
+concerns_all n b before e act.Commit lt lone = absurd lone
+concerns_all n b before e act.Abort lt lone = absurd lone
+
+-- an entry of a sound log is outside transactions
+pub lone_at : (c : Core) → IsSound c → (i : ℕ) (e : Entry) → slice_get (log c.history) i ≡ Some e → IsLone e e.act
+lone_at c w i e is =
+    subst (λ (x : Entry). IsLone x x.act) (get_or_from_slice_get (log c.history) i e e is) (w.lone i e (slice_get_within (log c.history) i e is))
+
+module _ (tells : Bool) (n : ℕ) (h : List Event) (cells : List CellState) (f s : ℕ) (ss : List OpenSession) (g : ℕ) (heard : Option Outcome) (kept : Kept tells (world_of n h cells f s ss g) heard)
+  (b : ℕ) (d : Did) (now : List CellState) (took : Took tells n h cells b d now) where
+  c : Core
+  c = core_of n h cells f s ss g
+
+  takes : Takes tells (core_of n h cells f s ss g) b d took.cell.position
+  takes = took.takes f s ss g
+
+  -- its place alone is another
+  places : map (λ (x : CellState). x.position) now ≡ set (map (λ (x : CellState). x.position) cells) b took.cell.position
+  places = ap (map (λ (x : CellState). x.position)) took.set ∙ map-set (λ (x : CellState). x.position) cells b took.cell
+
+  within : b < length (map (λ (x : CellState). x.position) cells)
+  within = is_there (map (λ (x : CellState). x.position) cells) b takes.p takes.stands
+
+  -- no backend passes an entry over
+  not_skipped : d ≡ did.Skipped → ⊥
+  not_skipped is =
+      let at = subst (λ (x : Did). DoesEntry tells (core_of n h cells f s ss g) b takes.p takes.entry x took.cell.position) is takes.does in
+      let lone = lone_at (core_of n h cells f s ss g) kept.world.sound takes.p takes.entry takes.there in
+      let lt : b < n = subst (λ (m : ℕ). b < m) kept.world.sound.cells within in
+      both_ways _ at.0 (concerns_all n b (take takes.p (log h)) takes.entry takes.entry.act lt lone)
+
+  -- the state, with the masks that come of it
+  taken_world : (f' s' : ℕ) → IsSound (record (core_of n h cells f s ss g) { positions = set (map (λ (x : CellState). x.position) cells) b took.cell.position; failed = f'; starved = s' })
+      → IsWorld tells (world_of n h now f' s' ss g)
+  taken_world f' s' sound =
+      record {
+        sound =
+            subst (λ (ps : List (Option ℕ)). IsSound (record (core_of n h cells f s ss g) { positions = ps; failed = f'; starved = s' })) (sym places) sound;
+        full = refl;
+        few = kept.world.few;
+        positions = refl;
+        cells =
+            subst (λ (xs : List CellState). (k : ℕ) (x : CellState) → k < length xs → IsCell tells n (log h) k (get_or xs k x)) (sym took.set)
+            (cells_set tells n (log h) cells b took.cell took.is kept.world.cells);
+      }
+
+  -- another backend stands where it stood
+  place_other : (k : ℕ) → k ≢ b → get_or (map (λ (x : CellState). x.position) now) k None ≡ get_or (map (λ (x : CellState). x.position) cells) k None
+  place_other k ne = ap (λ ps. get_or ps k None) places ∙ get_or-set_other (map (λ (x : CellState). x.position) cells) b k took.cell.position None ne
+
+  place_same : get_or (map (λ (x : CellState). x.position) now) b None ≡ took.cell.position
+  place_same = ap (λ ps. get_or ps b None) places ∙ get_or-set_same (map (λ (x : CellState). x.position) cells) b took.cell.position None within
+
+  module _ (fr : free h ≡ false) (on : enabled h b ≡ true) where
+    -- the entry is the open one
+    open_there : takes.p ≡ done h
+    open_there =
+        let lt : takes.p < length (log h) = slice_get_within (log h) takes.p takes.entry takes.there in
+        let low : done h ≤ takes.p = (stands_there (core_of n h cells f s ss g) b takes.p kept.world.sound takes.stands).1 on in
+        let hi : length (log h) ≤ done h + 1 = kept.world.sound.one_open.1 in
+        omega arith
+
+    heard_right : (d' : Did) → d ≡ d' → (o : Outcome) → heard_after heard d' ≡ Some o → tells ≡ true → said (log h) (done h) ≡ Some o
+    heard_right (did.Done r) is o there t =
+        let does = subst (λ (x : Did). DoesEntry tells (core_of n h cells f s ss g) b takes.p takes.entry x took.cell.position) is takes.does in
+        ap (said (log h)) (sym open_there) ∙ (does.1 t ∙ there)
+    heard_right did.Skipped is o there t = kept.right o there t
+    heard_right did.Failed is o there t = kept.right o there t
+    heard_right did.Starved is o there t = kept.right o there t
+
+    heard_here : (d' : Did) → d ≡ d' → took.cell.position ≡ Some (length (log h)) → IsSome (heard_after heard d')
+    heard_here (did.Done r) is there = refl
+    heard_here did.Skipped is there = absurd (not_skipped is)
+    heard_here did.Failed is there =
+        let does = subst (λ (x : Did). DoesEntry tells (core_of n h cells f s ss g) b takes.p takes.entry x took.cell.position) is takes.does in
+        absurd (cc (does, there))
+    heard_here did.Starved is there =
+        let does = subst (λ (x : Did). DoesEntry tells (core_of n h cells f s ss g) b takes.p takes.entry x took.cell.position) is takes.does in
+        absurd (cc (does, there))
+
+    heard_still : (d' : Did) → IsSome heard → IsSome (heard_after heard d')
+    heard_still (did.Done r) some = refl
+    heard_still did.Skipped some = some
+    heard_still did.Failed some = some
+    heard_still did.Starved some = some
+
+    -- an enabled backend took the open entry
+    pub kept_applied : Kept tells (world_of n h now (failed_after f b d) (starved_after s b d) ss g) (heard_after heard d)
+    kept_applied =
+        record {
+          world = taken_world (failed_after f b d) (starved_after s b d) (sound_applied tells (core_of n h cells f s ss g) b kept.world.sound fr on d took.cell.position takes);
+          served = kept.served;
+          right = heard_right d refl;
+          whole =
+              λ _ k now_on there.
+              ⊎_elim
+              (λ (e : k ≡ b). heard_here d refl (sym place_same ∙ (ap (λ (x : ℕ). get_or (map (λ (y : CellState). y.position) now) x None) (sym e) ∙ there)))
+              (λ (ne : k ≡ b → ⊥). heard_still d (kept.whole fr k now_on (sym (place_other k ne) ∙ there))) (cases_eq k b);
+        }
+
+  -- another backend took the log's next
+  pub kept_replayed : enabled h b ≡ false → Kept tells (world_of n h now f s ss g) heard
+  kept_replayed off =
+      record {
+        world = taken_world f s (sound_replayed tells (core_of n h cells f s ss g) b kept.world.sound off d took.cell.position takes);
+        served = kept.served;
+        right = kept.right;
+        whole =
+            λ fr k now_on there.
+            ⊎_elim
+            (λ (e : k ≡ b). absurd (both_ways (enabled h b) off (subst (λ (x : ℕ). enabled h x ≡ true) e now_on)))
+            (λ (ne : k ≡ b → ⊥). kept.whole fr k now_on (sym (place_other k ne) ∙ there)) (cases_eq k b);
+      }

@@ -1,0 +1,19 @@
+use Rattle.std.proofs.Common.{◌≡◌, List, refl, sym, ◌∙◌, ap, subst, set}
+use Rattle.std.specs.List.{remove}
+use Rattle.cj_model.specs.declared.moves.OpenSession.{OpenSession}
+use Rattle.cj_core.specs.Places.{IsPlaceOf}
+use Rattle.cj_core.proofs.Seats.{removed, removed_rises, unremoved}
+use Rattle.cj_core.proofs.sessions.Sessions.close.Goals as goal
+
+pub invariant_of-self : goal.invariant_of-self
+invariant_of-self c =
+    let at = subst (λ (ss : List OpenSession). IsPlaceOf ss c.args.number c.in-Some.place) (sym c.self.view_is) c.in-Some.ensures in
+    rw c.remove.ensures.items (removed_rises c.self.inside.open.items c.self.invariant c.args.number c.in-Some.place at c.remove.result c.remove.ensures.value)
+
+pub returns-in-Some : goal.returns-in-Some
+returns-in-Some c =
+    let at = subst (λ (ss : List OpenSession). IsPlaceOf ss c.args.number c.in-Some.place) (sym c.self.view_is) c.in-Some.ensures in
+    rw (← c.self.view_is) (c.remove.ensures.items ∙ removed c.self.inside.open.items c.self.invariant c.args.number c.in-Some.place at c.remove.result c.remove.ensures.value)
+
+pub returns-in_default : goal.returns-in_default
+returns-in_default c = unremoved c.args.self.now c.args.number c.in_default.ensures

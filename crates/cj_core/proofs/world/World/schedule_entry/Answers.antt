@@ -1,0 +1,33 @@
+use Rattle.std.proofs.Common.{◌≡◌, Ok, Err, true, sym, subst}
+use Rattle.cj_model.specs.Histories.{log}
+use Rattle.cj_model.specs.Legality.{IsFit}
+use Rattle.cj_model.specs.Moves.{is_open, next_entry}
+use Rattle.cj_core.specs.Worlds.{WorldState}
+use Rattle.cj_core.specs.Effects.{SchedulesAs}
+use Rattle.cj_core.proofs.Keeping.{kept_scheduled}
+use Rattle.cj_core.proofs.Noting.{served_on, scheduled_as, not_scheduled}
+use Rattle.cj_core.proofs.world.World.schedule_entry.Goals as goal
+
+pub invariant_of-self : goal.invariant_of-self
+invariant_of-self g c =
+    let w = c.self.inside in
+    let here = subst (λ (x : WorldState). is_open x.core c.args.s ≡ true) (sym c.self.view_is) c.requires.here in
+    let next = subst (λ (x : WorldState). c.args.entry ≡ next_entry x.core c.args.s c.args.entry.act) (sym c.self.view_is) c.requires.next in
+    let fits = subst (λ (x : WorldState). IsFit (log x.core.history) c.args.entry) (sym c.self.view_is) c.requires.fits in
+    let ready = c.in-Ok.ensures.ready in
+    let on = served_on w.book c.args.entry c.requires.lone ready in
+    rw (c.in-Ok.ensures.ok, c.count.ensures)
+    (kept_scheduled g.B.Backend.TELLS w.book.backends w.book.history w.cells.items w.failed w.starved w.sessions w.greatest w.heard c.self.invariant c.args.s c.args.entry here next ready.is_free fits c.requires.lone ready.space on.0 on.1)
+
+pub returns-in-Ok-clause-scheduled : goal.returns-in-Ok-clause-scheduled
+returns-in-Ok-clause-scheduled g c =
+    let w = c.self.inside in
+    subst (λ (x : WorldState). SchedulesAs x.core c.args.entry (Ok c.in-Ok.number)) c.self.view_is
+    (scheduled_as w.cells.items w.failed w.starved w.sessions w.greatest w.book c.args.entry c.schedule.new.self c.in-Ok.number c.in-Ok.ensures.ok c.in-Ok.ensures.number c.in-Ok.ensures.ready)
+
+pub returns-in-Err-clause-scheduled : goal.returns-in-Err-clause-scheduled
+returns-in-Err-clause-scheduled g c =
+    let w = c.self.inside in
+    subst (λ (x : WorldState). SchedulesAs x.core c.args.entry (Err c.in-Err.error)) c.self.view_is
+    (not_scheduled w.cells.items w.failed w.starved w.sessions w.greatest w.book c.args.entry c.schedule.result c.in-Err.error c.in-Err.is
+    c.schedule.ensures.in_progress c.schedule.ensures.no_backend c.schedule.ensures.full)

@@ -1,0 +1,25 @@
+use Rattle.std.proofs.Common.{◌≡◌, true, false, Some, length, sym, subst}
+use Rattle.cj_model.specs.declared.event.Event.TheVariants.{Disabled, Enabled, ReadFailed}
+use Rattle.cj_model.specs.Histories.{log, free, enabled}
+use Rattle.cj_model.specs.Cores.{position_at}
+use Rattle.cj_book.specs.Books.{BookState}
+use Rattle.cj_core.specs.Worlds.{WorldState, world_of}
+use Rattle.cj_core.specs.Effects.{HadRoom}
+use Rattle.cj_core.specs.Kept.{Kept}
+use Rattle.cj_core.proofs.Keeping.{kept_disabled}
+use Rattle.cj_core.proofs.Noting.{noted, had_room}
+use Rattle.cj_core.proofs.world.World.switch_off.Goals as goal
+
+pub invariant_of-self : goal.invariant_of-self
+invariant_of-self g c =
+    let w = c.self.inside in
+    let fr = subst (λ (x : WorldState). free x.core.history ≡ true) (sym c.self.view_is) c.requires.free in
+    let on = subst (λ (x : WorldState). enabled x.core.history c.args.b ≡ true) (sym c.self.view_is) c.requires.on in
+    noted c.disable.result w.book c.disable.new.self (Disabled c.args.b) (λ (b : BookState). Kept g.B.Backend.TELLS (world_of b.backends b.history w.cells.items w.failed w.starved w.sessions w.greatest) w.heard) c.disable.ensures.ok c.disable.ensures.err c.disable.ensures.space
+    (λ space. kept_disabled g.B.Backend.TELLS w.book.backends w.book.history w.cells.items w.failed w.starved w.sessions w.greatest w.heard c.self.invariant c.args.b fr on space) c.self.invariant
+
+pub returns-clause-room : goal.returns-clause-room
+returns-clause-room g c =
+    let w = c.self.inside in
+    subst (λ (x : WorldState). HadRoom x.core c.disable.result) c.self.view_is
+    (had_room w.cells.items w.failed w.starved w.sessions w.greatest w.book c.disable.result c.disable.ensures.space c.disable.ensures.full c.disable.ensures.want)

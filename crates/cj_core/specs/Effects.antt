@@ -1,0 +1,85 @@
+-- What the parts of moves make of a world.
+use Rattle.std.specs.Prelude.{◌≡◌, ◌≢◌, ◌⊎◌, ℕ, ◌+◌, ◌<◌, ◌≤◌, ◌^◌, Bool, true, false, List, [], ◌∷◌, ◌++◌, length, filter, not, ◌==◌, Result, Ok, Err}
+use Rattle.std.specs.declared.option.Option.{Option}
+use Rattle.std.specs.declared.option.Option.TheVariants.{None, Some}
+use Rattle.cj_model.specs.declared.request.Entry.{Entry}
+use Rattle.cj_model.specs.declared.answer.Refusal.{Refusal}
+use Rattle.cj_model.specs.declared.answer.Reply.{Reply}
+use Rattle.cj_model.specs.declared.event.Event.{Event}
+use Rattle.cj_model.specs.declared.event.Event.TheVariants as event
+use Rattle.cj_model.specs.declared.codes.TheConstants.{UNFINISHED, STARVED_ALL}
+use Rattle.cj_model.specs.declared.moves.OpenSession.{OpenSession}
+use Rattle.cj_model.specs.Plain.{request_of}
+use Rattle.cj_model.specs.Histories.{log, done, free, opened, room}
+use Rattle.cj_model.specs.Answering.{Served, Unserved, AnswersEntry}
+use Rattle.cj_model.specs.Cores.{Core, fresh_session, with_session}
+use Rattle.cj_model.specs.Moves.{last_number, counted, answered_at, ended}
+use Rattle.cj_book.specs.declared.error.BookError.{BookError}
+use Rattle.cj_book.specs.declared.error.BookError.TheVariants.{InProgress, NoBackend, HistoryFull, NoMemory}
+use Rattle.cj_core.specs.Worlds.{WorldState}
+
+-- the world with another core
+abbrev pub with_core : WorldState → Core → WorldState
+with_core w c = record w { core = c }
+
+-- one more event
+abbrev pub happened : Core → Event → Core
+happened c e = record c { history = c.history ++ e ∷ [] }
+
+-- a session with the next number
+abbrev pub opened_for : Core → List ℕ → Core
+opened_for c user = record c { sessions = c.sessions ++ fresh_session (c.greatest + 1) user ∷ []; greatest = c.greatest + 1 }
+
+abbrev pub closed_for : Core → ℕ → Core
+closed_for c s = record c { sessions = filter (λ (x : OpenSession). not (x.number == s)) c.sessions }
+
+-- the entry is open, and its session has counted it
+abbrev pub scheduled_as : Core → ℕ → Entry → Core
+scheduled_as c s e =
+    record {
+      placement = c.placement;
+      history = c.history ++ event.Sched e ∷ [];
+      positions = c.positions;
+      failed = 0;
+      starved = 0;
+      sessions = with_session c.sessions s counted;
+      greatest = c.greatest;
+    }
+
+-- the entry has ended, and its session was answered
+abbrev pub ended_for : Core → ℕ → Core
+ended_for c s =
+    record {
+      placement = c.placement;
+      history = ended c;
+      positions = c.positions;
+      failed = 0;
+      starved = 0;
+      sessions = with_session c.sessions s (answered_at (last_number c));
+      greatest = c.greatest;
+    }
+
+-- whether the entry was scheduled, or why not
+abbrev pub SchedulesAs : Core → Entry → Result ℕ BookError → Type 0
+SchedulesAs c e (Ok n) = (n ≡ last_number c + 1) × Served c.placement c.history (request_of e.act) × (3 ≤ room c.history)
+SchedulesAs c e (Err (InProgress n)) = free c.history ≡ false
+SchedulesAs c e (Err NoBackend) = Unserved c.placement c.history (request_of e.act)
+SchedulesAs c e (Err (HistoryFull n)) = (n ≡ length c.history) × Served c.placement c.history (request_of e.act) × (room c.history < 3)
+SchedulesAs c e (Err NoMemory) = Unit {0}
+
+-- whether one event more could come, or why not
+abbrev pub HadRoom : {T : Type 0} → Core → Result T BookError → Type 0
+HadRoom c (Ok x) = 0 < room c.history
+HadRoom c (Err (InProgress n)) = ⊥
+HadRoom c (Err NoBackend) = ⊥
+HadRoom c (Err (HistoryFull n)) = (room c.history ≡ 0) × (n ≡ length c.history)
+HadRoom c (Err NoMemory) = Unit {0}
+
+-- the refusal of an entry that no backend finished
+abbrev pub Refuses : ℕ → ℕ → Refusal → Type 0
+Refuses failed starved refusal =
+    ((failed ≢ 0) × (refusal ≡ record { code = UNFINISHED; a = failed; b = starved })) ⊎ ((failed ≡ 0) × (refusal ≡ record { code = STARVED_ALL; a = 0; b = starved }))
+
+-- what the open entry is answered, where the backends tell
+abbrev pub AnswersOpen : Bool → Core → Reply → Type 0
+AnswersOpen tells c reply = tells ≡ true → (e : Entry) → opened c.history ≡ Some e → AnswersEntry c.placement c.history (ended c) (done c.history) e reply

@@ -1,0 +1,5 @@
+pub mod Effects
+pub mod Kept
+pub mod Places
+pub mod Taking
+pub mod Worlds

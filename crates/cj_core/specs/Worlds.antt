@@ -1,0 +1,55 @@
+-- What contracts see of a world, and what holds of every one.
+use Rattle.std.specs.Prelude.{◌≡◌, ℕ, ◌<◌, ◌≤◌, Bool, true, List, length, map, slice_index_or}
+use Rattle.std.specs.declared.option.Option.{Option}
+use Rattle.std.specs.declared.option.Option.TheVariants.{None, Some}
+use Rattle.cj_model.specs.declared.request.Entry.{Entry}
+use Rattle.cj_model.specs.declared.event.Event.{Event}
+use Rattle.cj_model.specs.declared.moves.OpenSession.{OpenSession}
+use Rattle.cj_model.specs.Placements.{everywhere}
+use Rattle.cj_model.specs.Histories.{log, free, enabled}
+use Rattle.cj_model.specs.Cores.{Core, position_at}
+use Rattle.cj_model.specs.Sound.{IsSound, Holds}
+use Rattle.cj_replica.specs.Cells.{CellState}
+
+-- the state that moves change, and the cells of the backends by their numbers
+pub record WorldState : Type 0 where
+  pub core : Core
+  pub cells : List CellState
+
+-- the state of a core over these cells, of n backends
+abbrev pub core_of : ℕ → List Event → List CellState → ℕ → ℕ → List OpenSession → ℕ → Core
+core_of n h cells failed starved sessions greatest =
+    record {
+      placement = everywhere n;
+      history = h;
+      positions = map (λ (x : CellState). x.position) cells;
+      failed = failed;
+      starved = starved;
+      sessions = sessions;
+      greatest = greatest;
+    }
+
+abbrev pub world_of : ℕ → List Event → List CellState → ℕ → ℕ → List OpenSession → ℕ → WorldState
+world_of n h cells failed starved sessions greatest = record { core = core_of n h cells failed starved sessions greatest; cells = cells }
+
+-- the most backends
+abbrev pub backend_limit : ℕ
+backend_limit = 16
+
+-- the cell of backend b, of n, that holds its part of the database after the entries that it has taken
+pub record IsCell (tells : Bool) (n : ℕ) (entries : List Entry) (b : ℕ) (x : CellState) : Type 0 where
+  pub number : x.b ≡ b
+  pub backends : x.backends ≡ n
+  pub holds : Holds tells (everywhere n) b entries x.told x.position
+
+-- What holds of every world: its core is sound, and cell b is the cell of backend b and stands where the core says.
+pub record IsWorld (tells : Bool) (w : WorldState) : Type 0 where
+  pub sound : IsSound w.core
+  pub full : w.core.placement ≡ everywhere w.core.placement.backends
+  pub few : w.core.placement.backends ≤ backend_limit
+  pub positions : w.core.positions ≡ map (λ (x : CellState). x.position) w.cells
+  pub cells : (b : ℕ) (d : CellState) → b < length w.cells → IsCell tells w.core.placement.backends (log w.core.history) b (slice_index_or w.cells b d)
+
+-- where no entry is open, each enabled backend has taken the whole log
+abbrev pub AreAtEnd : Core → Type 0
+AreAtEnd c = free c.history ≡ true → (b : ℕ) → enabled c.history b ≡ true → position_at c b ≡ Some (length (log c.history))

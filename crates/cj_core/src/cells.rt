@@ -1,0 +1,42 @@
+//! Cells by the numbers of their backends.
+
+ghost use Rattle.std.specs.Prelude.{◌≡◌};
+ghost use Rattle.std.specs.Option.{unwrap_or};
+ghost use Rattle.cj_core.specs.Taking.{CanTake, Took};
+ghost use Rattle.cj_core.specs.Taking as taking;
+ghost use Rattle.cj_model.specs.Moves as moves;
+
+use cj_backend::Backend;
+use cj_book::Book;
+use cj_model::{Did, Text};
+use cj_replica::{Caught, Cell, CellError};
+
+fn did_of(caught: Result<Caught, CellError>) -> Did
+    ensures { result ≡ taking.did_of caught }
+{
+    match caught {
+        Ok(Caught::Skipped) => Did::Skipped,
+        Ok(Caught::Did(outcome)) => Did::Done(outcome),
+        Err(CellError::Failed) => Did::Failed,
+        Err(CellError::Starved) => Did::Starved,
+    }
+}
+
+/// A position, or 0 for none.
+pub fn place(position: Option<u64>) -> u64
+    ensures { result ≡ moves.place position }
+{
+    position.unwrap_or(0)
+}
+
+/// Backend `b` takes the entry at its position.
+pub fn take<B: Backend>(book: &Book, cells: &mut Vec<Cell<B>>, login: &Text, b: u8) -> Did
+    requires { CanTake B.TELLS book.now.backends book.now.history cells.old.items b }
+    ensures { Took B.TELLS book.now.backends book.now.history cells.old.items b result cells.new.items }
+{
+    let next = place(cells[b as usize].position()) + 1;
+    let Some(entry) = book.entry(next) else {
+        unreachable!()
+    };
+    did_of(cells[b as usize].catch_up(next, entry, login))
+}

@@ -1,0 +1,7 @@
+//! The core of the controller: a history, the cells of its backends and its open sessions, under
+//! every list of moves.
+#![tactic(auto)]
+
+mod cells;
+mod sessions;
+mod world;

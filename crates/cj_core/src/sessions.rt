@@ -1,0 +1,179 @@
+//! The open sessions.
+
+ghost use Rattle.std.specs.Prelude.{◌≡◌, ◌+◌, ◌<◌, ◌^◌, ◌==◌, not, [], ◌∷◌, ◌++◌, length, filter, option_copied, All, IfSome, MatchOption, OnOk, OnErr};
+ghost use Rattle.cj_core.specs.Places.{IsPlaceOf, CanCountOne};
+ghost use Rattle.cj_model.specs.Cores.{session_of, with_session, fresh_session};
+ghost use Rattle.cj_model.specs.Moves as moves;
+ghost use Rattle.cj_model.specs.Moves.{read_number};
+
+use cj_model::{NoMemory, OpenRead, OpenSession, Select, Text};
+use std::alloc::Global;
+use std::marker::Model;
+
+/// Open sessions in rising number, which contracts see as a list.
+#[derive(Drop)]
+pub struct Sessions {
+    open: Vec<OpenSession>,
+}
+
+impl Model for Sessions {
+    ghost use Rattle.std.specs.Prelude.{List};
+    ghost use Rattle.cj_model.specs.declared.moves.OpenSession.{OpenSession};
+    ghost use Rattle.cj_model.specs.Tables.{Rises};
+    ghost use Rattle.cj_model.specs.Sound.{by_number};
+
+    ghost Value = { List OpenSession };
+
+    ghost use Rattle.std.specs.Coded.{codes};
+    ghost use Rattle.cj_model.specs.ConditionCode.{coded_condition};
+
+    ghost coded = { Prim.hlevel (codes, coded_condition) };
+
+    ghost view = { λ sessions. sessions.open.items };
+
+    ghost invariant = { λ sessions. Rises by_number sessions.open.items };
+}
+
+/// The number of the session's open read, or of the next request.
+fn read_number(session: &OpenSession) -> u64
+    requires { session.now.queries < 2 ^ 62 }
+    ensures { result ≡ moves.read_number session.now }
+{
+    if session.reading.is_some() {
+        session.queries
+    } else {
+        session.queries + 1
+    }
+}
+
+/// Closes the session's read.
+fn close_read(session: &mut OpenSession)
+    requires { session.old.queries < 2 ^ 62 }
+    ensures { session.new ≡ moves.was_answered session.old }
+{
+    session.queries = read_number(session);
+    session.reading = None;
+}
+
+/// Keeps the session's read open.
+fn put_read(session: &mut OpenSession, select: Select, tried: u32)
+    requires { session.old.queries < 2 ^ 62 }
+    ensures { session.new ≡ moves.still_reading select tried session.old }
+{
+    session.queries = read_number(session);
+    session.reading = Some(OpenRead { select, tried });
+}
+
+impl Sessions {
+    pub fn new(alloc: Global) -> Self
+        ensures { result ≡ [] }
+    {
+        Sessions {
+            open: Vec::new(alloc),
+        }
+    }
+
+    pub fn len(&self) -> usize
+        ensures { result ≡ length self.now }
+    {
+        self.open.len()
+    }
+
+    fn place_of(&self, number: u64) -> Option<usize>
+        ensures { MatchOption result (session_of self.now number ≡ None) (IsPlaceOf self.now number) }
+    {
+        match self
+            .open
+            .binary_search_by_key(&number, |session| session.number)
+        {
+            Ok(place) => Some(place),
+            Err(_) => None,
+        }
+    }
+
+    pub fn get(&self, number: u64) -> Option<&OpenSession>
+        ensures { option_copied result ≡ session_of self.now number }
+    {
+        match self.place_of(number) {
+            Some(place) => Some(&self.open[place]),
+            None => None,
+        }
+    }
+
+    /// Adds a session of a number above all others.
+    pub fn open(&mut self, number: u64, user: Text) -> Result<(), NoMemory>
+        requires { All (λ x. x.number < number) self.old }
+        ensures ok { OnOk result (self.new ≡ self.old ++ fresh_session number user ∷ []) }
+        ensures err { OnErr result (self.new ≡ self.old) }
+    {
+        self.open.push(OpenSession {
+            number,
+            user,
+            queries: 0,
+            least: 0,
+            reading: None,
+        })?;
+        Ok(())
+    }
+
+    pub fn close(&mut self, number: u64)
+        ensures { self.new ≡ filter (λ x. not (x.number == number)) self.old }
+    {
+        if let Some(place) = self.place_of(number) {
+            drop(self.open.remove(place));
+        }
+    }
+
+    /// The session has made one request more.
+    pub fn count(&mut self, number: u64)
+        requires { CanCountOne self.old number }
+        ensures { self.new ≡ with_session self.old number moves.counted }
+    {
+        if let Some(place) = self.place_of(number) {
+            let session = &mut self.open[place];
+            session.queries += 1;
+        }
+    }
+
+    /// The session was answered at a position.
+    pub fn answer(&mut self, number: u64, position: u64)
+        ensures { self.new ≡ with_session self.old number (moves.answered_at position) }
+    {
+        if let Some(place) = self.place_of(number) {
+            let session = &mut self.open[place];
+            session.least = position;
+        }
+    }
+
+    /// The session's read was refused.
+    pub fn refuse_read(&mut self, number: u64)
+        requires { CanCountOne self.old number }
+        ensures { self.new ≡ with_session self.old number moves.was_answered }
+    {
+        if let Some(place) = self.place_of(number) {
+            close_read(&mut self.open[place]);
+        }
+    }
+
+    /// The session's read was answered at a position.
+    pub fn answer_read(&mut self, number: u64, position: u64)
+        requires { CanCountOne self.old number }
+        ensures { self.new ≡ with_session self.old number (λ x. moves.answered_at position (moves.was_answered x)) }
+    {
+        if let Some(place) = self.place_of(number) {
+            let session = &mut self.open[place];
+            close_read(session);
+            session.least = position;
+        }
+    }
+
+    /// The session's read is still open, and the backends of a mask have failed in it.
+    pub fn keep_reading(&mut self, number: u64, select: Select, tried: u32)
+        requires { CanCountOne self.old number }
+        ensures { self.new ≡ with_session self.old number (moves.still_reading select tried) }
+    {
+        if let Some(place) = self.place_of(number) {
+            put_read(&mut self.open[place], select, tried);
+        }
+    }
+}

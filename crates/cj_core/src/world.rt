@@ -1,0 +1,369 @@
+//! A world, and the parts of its moves: each a change of its state that keeps it whole.
+
+ghost use Rattle.std.specs.Prelude.{◌≡◌, ◌↔◌, ℕ, ◌+◌, ◌<◌, ◌≤◌, ◌^◌, ◌==◌, true, false, not, [], ◌∷◌, ◌++◌, length, filter, is_some, IsNone, IfSome, IfOk, OnOk, OnErr, Some, None};
+ghost use Rattle.std.specs.Option.{option_map};
+ghost use Rattle.cj_model.specs.declared.request.Entry.{Entry};
+ghost use Rattle.cj_model.specs.Histories as histories;
+ghost use Rattle.cj_model.specs.Histories.{has, log, done, free};
+ghost use Rattle.cj_model.specs.Legality.{IsFit, user_limit};
+ghost use Rattle.cj_model.specs.Cores as cores;
+ghost use Rattle.cj_model.specs.Cores.{session_at, position_at};
+ghost use Rattle.cj_model.specs.Moves as moves;
+ghost use Rattle.cj_model.specs.Moves.{Applies, Replays, next_entry, not_now, ended, with_read, with_counted, counted, answered_at, was_answered, still_reading};
+ghost use Rattle.cj_model.specs.Sound.{IsLone};
+ghost use Rattle.cj_core.specs.Worlds.{IsWorld};
+ghost use Rattle.cj_core.specs.Effects.{AnswersOpen, Refuses, with_core, happened, opened_for, closed_for, scheduled_as, ended_for, SchedulesAs, HadRoom};
+
+
+use crate::sessions::Sessions;
+use cj_backend::Backend;
+use cj_book::{Book, BookError};
+use cj_replica::Cell;
+use cj_model::{
+    Entry, Event, HISTORY_FULL, NoMemory, Outcome, Refusal, Reply, SESSIONS_FULL, STARVED_ALL, Select,
+    Text, UNFINISHED,
+};
+use std::alloc::Global;
+use std::marker::Model;
+
+/// The most open sessions.
+const SESSION_LIMIT: usize = 1024;
+
+/// The greatest number of a session.
+const NUMBER_LIMIT: u64 = 1 << 62;
+
+/// The core over these backends.
+#[derive(Drop)]
+pub struct World<B: Backend> {
+    alloc: Global,
+    book: Book,
+    /// By the numbers of their backends.
+    cells: Vec<Cell<B>>,
+    /// While an entry is open, the mask of the backends that failed in it.
+    failed: u32,
+    /// And of those that wanted memory.
+    starved: u32,
+    /// What the open entry came to, from the first backend that did it.
+    heard: Option<Outcome>,
+    sessions: Sessions,
+    /// The greatest number that a session was given.
+    greatest: u64,
+    /// The login of all calls of backends.
+    login: Text,
+}
+
+impl<B: Backend> Model for World<B> {
+    ghost use Rattle.cj_core.specs.Worlds.{WorldState, world_of};
+
+    ghost Value = { WorldState };
+
+    ghost use Rattle.std.specs.Coded.{codes};
+    ghost use Rattle.cj_model.specs.ConditionCode.{coded_condition};
+
+    ghost coded = { Prim.hlevel (codes, coded_condition) };
+
+    ghost use Rattle.cj_core.specs.Kept.{Kept};
+
+    ghost view = {
+        λ w. world_of w.book.backends w.book.history w.cells.items w.failed w.starved w.sessions w.greatest
+    };
+
+    ghost invariant = {
+        λ w. Kept B.TELLS (world_of w.book.backends w.book.history w.cells.items w.failed w.starved w.sessions w.greatest) w.heard
+    };
+}
+
+/// The refusal of an entry that no backend finished.
+fn unfinished(failed: u32, starved: u32) -> Refusal
+    ensures { Refuses failed starved result }
+{
+    if failed != 0 {
+        Refusal {
+            code: UNFINISHED,
+            a: failed as u64,
+            b: starved as u64,
+        }
+    } else {
+        Refusal {
+            code: STARVED_ALL,
+            a: 0,
+            b: starved as u64,
+        }
+    }
+}
+
+// ---- what moves read
+
+impl<B: Backend> World<B> {
+    /// Shows what holds of every world.
+    pub fn legal(&self)
+        ensures { IsWorld B.TELLS self.now }
+    {
+        let _ = &self.book;
+    }
+
+    /// How many entries there are, which is the number of the last one.
+    pub fn length(&self) -> u64
+        ensures { result ≡ moves.last_number self.now.core }
+    {
+        self.book.length()
+    }
+
+    /// The number of the open entry.
+    pub fn open_entry(&self) -> Option<u64>
+        ensures none { IsNone result ↔ (free self.now.core.history ≡ true) }
+        ensures number { IfSome result (λ n. n ≡ moves.last_number self.now.core) }
+    {
+        self.book.open_entry()
+    }
+
+    /// The mask of the enabled backends.
+    pub fn enabled(&self) -> u32
+        ensures { (b : ℕ) → has result b ≡ histories.enabled self.now.core.history b }
+    {
+        self.book.enabled()
+    }
+
+    /// How many entries the backend has taken; none where it is out.
+    pub fn position(&self, b: u8) -> Option<u64>
+        ensures { result ≡ position_at self.now.core b }
+    {
+        match self.cells.get(b as usize) {
+            Some(cell) => cell.position(),
+            None => None,
+        }
+    }
+
+    pub(crate) fn is_free(&self) -> bool
+        ensures { result ≡ free self.now.core.history }
+    {
+        self.book.is_free()
+    }
+
+    pub(crate) fn is_enabled(&self, b: u8) -> bool
+        ensures { result ≡ histories.enabled self.now.core.history b }
+    {
+        self.book.is_enabled(b)
+    }
+
+    pub(crate) fn is_open(&self, s: u64) -> bool
+        ensures { result ≡ moves.is_open self.now.core s }
+    {
+        self.sessions.get(s).is_some()
+    }
+
+    /// Whether the session's own entry is open.
+    pub(crate) fn is_waiting(&self, s: u64) -> bool
+        ensures { result ≡ moves.is_waiting self.now.core s }
+    {
+        match self.book.opened() {
+            Some(entry) => entry.session == s,
+            None => false,
+        }
+    }
+
+    pub(crate) fn is_reading(&self, s: u64) -> bool
+        ensures { result ≡ moves.is_reading (session_at self.now.core s) }
+    {
+        match self.sessions.get(s) {
+            Some(session) => session.reading.is_some(),
+            None => false,
+        }
+    }
+
+    /// The position of the first enabled backend that is neither at the log's end nor out.
+    pub(crate) fn behind(&self) -> Option<u64>
+        ensures { result ≡ moves.behind self.now.core.history 0 self.now.core.positions }
+    {
+        let end = self.book.length();
+        for (b, cell) in self.cells.iter().enumerate() {
+            if let Some(position) = cell.position() {
+                if self.book.is_enabled(b as u8) && position < end {
+                    return Some(position);
+                }
+            }
+        }
+        None
+    }
+
+    /// Whether no session more can be opened.
+    pub(crate) fn has_no_number(&self) -> bool
+        ensures { result ≡ moves.has_no_number self.now.core }
+    {
+        self.sessions.len() >= SESSION_LIMIT || self.greatest >= NUMBER_LIMIT
+    }
+
+    pub(crate) fn sessions_full(&self) -> Refusal
+        ensures { result ≡ moves.sessions_full self.now.core }
+    {
+        Refusal {
+            code: SESSIONS_FULL,
+            a: self.sessions.len() as u64,
+            b: 0,
+        }
+    }
+
+    pub(crate) fn history_full(&self) -> Refusal
+        ensures { result ≡ moves.history_full self.now.core }
+    {
+        Refusal {
+            code: HISTORY_FULL,
+            a: self.book.events(),
+            b: 0,
+        }
+    }
+
+    /// What the open entry is answered, where no backend is behind.
+    pub(crate) fn reply(&self) -> Reply
+        requires open { free self.now.core.history ≡ false }
+        requires behind { moves.behind self.now.core.history 0 self.now.core.positions ≡ None }
+        ensures { AnswersOpen B.TELLS self.now.core result }
+    {
+        if self.book.left(self.failed, self.starved) == 0 {
+            return Reply::Refused(unfinished(self.failed, self.starved));
+        }
+        match self.heard {
+            Some(Outcome::Done(count)) => Reply::Done(count),
+            Some(Outcome::Refused(refusal)) => Reply::Refused(refusal),
+            None => unreachable!(),
+        }
+    }
+}
+
+
+// ---- what moves change
+
+impl<B: Backend> World<B> {
+    /// Opens a session of the next number.
+    pub(crate) fn add_session(&mut self, user: Text) -> Result<u64, NoMemory>
+        requires number { moves.has_no_number self.old.core ≡ false }
+        requires user { length user ≤ user_limit }
+        ensures number { IfOk result (λ n. n ≡ self.old.core.greatest + 1) }
+        ensures ok { OnOk result (self.new ≡ with_core self.old (opened_for self.old.core user)) }
+        ensures err { OnErr result (self.new ≡ self.old) }
+    {
+        let number = self.greatest + 1;
+        self.sessions.open(number, user)?;
+        self.greatest = number;
+        Ok(number)
+    }
+
+    /// Closes a session whose own entry is not open.
+    pub(crate) fn remove_session(&mut self, s: u64)
+        requires { moves.is_waiting self.old.core s ≡ false }
+        ensures { self.new ≡ with_core self.old (closed_for self.old.core s) }
+    {
+        self.sessions.close(s);
+    }
+
+    /// The session has made one request more.
+    pub(crate) fn count(&mut self, s: u64)
+        requires { (session_at self.old.core s).queries < 2 ^ 62 }
+        ensures { self.new ≡ with_core self.old (with_counted self.old.core s) }
+    {
+        self.sessions.count(s);
+    }
+
+    /// The session's read was refused.
+    pub(crate) fn refuse_read(&mut self, s: u64)
+        requires { (session_at self.old.core s).queries < 2 ^ 62 }
+        ensures { self.new ≡ with_core self.old (with_read self.old.core s was_answered) }
+    {
+        self.sessions.refuse_read(s);
+    }
+
+    /// The session's read was answered at a position.
+    pub(crate) fn answer_read(&mut self, s: u64, position: u64)
+        requires counts { (session_at self.old.core s).queries < 2 ^ 62 }
+        requires within { position ≤ moves.last_number self.old.core }
+        ensures { self.new ≡ with_core self.old (with_read self.old.core s (λ x. answered_at position (was_answered x))) }
+    {
+        self.sessions.answer_read(s, position);
+    }
+
+    /// The session's read stays open, and the backends of the mask have failed in it.
+    pub(crate) fn keep_reading(&mut self, s: u64, select: Select, tried: u32)
+        requires { (session_at self.old.core s).queries < 2 ^ 62 }
+        ensures { self.new ≡ with_core self.old (with_read self.old.core s (still_reading select tried)) }
+    {
+        self.sessions.keep_reading(s, select, tried);
+    }
+
+    /// Schedules an entry of the session.
+    pub(crate) fn schedule_entry(&mut self, s: u64, entry: Entry) -> Result<u64, BookError>
+        requires here { moves.is_open self.old.core s ≡ true }
+        requires counts { (session_at self.old.core s).queries < 2 ^ 62 }
+        requires next { entry ≡ next_entry self.old.core s entry.act }
+        requires fits { IsFit (log self.old.core.history) entry }
+        requires lone { IsLone entry entry.act }
+        ensures scheduled { SchedulesAs self.old.core entry result }
+        ensures ok { OnOk result (self.new ≡ with_core self.old (scheduled_as self.old.core s entry)) }
+        ensures err { OnErr result (self.new ≡ self.old) }
+    {
+        match self.book.schedule(entry) {
+            Ok(number) => {
+                self.sessions.count(s);
+                self.failed = 0;
+                self.starved = 0;
+                self.heard = None;
+                Ok(number)
+            }
+            Err(error) => Err(error),
+        }
+    }
+
+    /// The session of the open entry.
+    pub(crate) fn waiting(&self) -> u64
+        requires { free self.now.core.history ≡ false }
+        ensures { IfSome (histories.opened self.now.core.history) (λ e. result ≡ e.session) }
+    {
+        match self.book.opened() {
+            Some(entry) => entry.session,
+            None => unreachable!(),
+        }
+    }
+
+    /// Ends the open entry, which is of this session.
+    pub(crate) fn end_entry(&mut self, s: u64)
+        requires open { free self.old.core.history ≡ false }
+        requires behind { moves.behind self.old.core.history 0 self.old.core.positions ≡ None }
+        ensures { self.new ≡ with_core self.old (ended_for self.old.core s) }
+    {
+        let number = self.book.length();
+        self.sessions.answer(s, number);
+        self.book.end(self.failed, self.starved);
+        self.failed = 0;
+        self.starved = 0;
+        self.heard = None;
+    }
+
+    pub(crate) fn switch_off(&mut self, b: u8) -> Result<(), BookError>
+        requires free { free self.old.core.history ≡ true }
+        requires on { histories.enabled self.old.core.history b ≡ true }
+        ensures room { HadRoom self.old.core result }
+        ensures ok { OnOk result (self.new ≡ with_core self.old (happened self.old.core (Event.Disabled b))) }
+        ensures err { OnErr result (self.new ≡ self.old) }
+    {
+        self.book.disable(b)
+    }
+
+    pub(crate) fn switch_on(&mut self, b: u8) -> Result<(), BookError>
+        requires free { free self.old.core.history ≡ true }
+        requires off { histories.enabled self.old.core.history b ≡ false }
+        requires there { position_at self.old.core b ≡ Some (moves.last_number self.old.core) }
+        ensures room { HadRoom self.old.core result }
+        ensures ok { OnOk result (self.new ≡ with_core self.old (happened self.old.core (Event.Enabled b))) }
+        ensures err { OnErr result (self.new ≡ self.old) }
+    {
+        self.book.enable(b)
+    }
+
+    /// Notes that the backend failed in the session's read.
+    pub(crate) fn blame(&mut self, s: u64, number: u64, b: u8) -> Result<(), BookError>
+        ensures room { HadRoom self.old.core result }
+        ensures ok { OnOk result (self.new ≡ with_core self.old (happened self.old.core (Event.ReadFailed s number b))) }
+        ensures err { OnErr result (self.new ≡ self.old) }
+    {
+        self.book.read_failed(s, number, b)
+    }
+}
