@@ -15,7 +15,7 @@ use Rattle.cj_model.specs.Legality.{IsFit, user_limit}
 use Rattle.cj_model.specs.Cores.{Core, position_at, session_limit, session_at, fresh_session, with_session, is_by}
 use Rattle.cj_model.specs.Moves.{behind, is_open, has_no_number, next_entry, counted, answered_at, was_answered, still_reading}
 use Rattle.cj_model.specs.Sound.{IsSound, IsLone, Holds}
-use Rattle.cj_model.proofs.Pushed.{enabled-push, log-sched, log-same, done-same, opened-same, opened-ended, free-same, free-ended}
+use Rattle.cj_model.proofs.Pushed.{enabled-push, log-sched, log-same, log_faults-same, done-same, opened-same, opened-ended, free-same, free-ended}
 use Rattle.cj_model.proofs.Sessions.{found_open, without}
 use Rattle.cj_model.proofs.Effects.{SessionsAre, KeepsSession, sessions_are, are_opened, are_closed, are_with, are_kept, are_sched, sound_sessions, sound_sched, sound_ended, sound_read_failed, sound_disabled, sound_enabled, stands_there, is_there}
 use Rattle.cj_model.proofs.Soundness.{session_sound, read_counts}
@@ -86,7 +86,7 @@ module _ (tells : Bool) (n : ℕ) (h : List Event) (cells : List CellState) (f s
 
   -- a session is changed
   pub kept_with : (number : ℕ) (change : OpenSession → OpenSession) → KeepsSession (length (log h)) change → Kept tells (world_of n h cells f s (with_session ss number change) g) heard
-  kept_with number change keeps = kept_sessions (with_session ss number change) g (are_with h h g ss number change (sessions_are (core_of n h cells f s ss g) kept.world.sound) keeps refl (λ e on. on))
+  kept_with number change keeps = kept_sessions (with_session ss number change) g (are_with h h g ss number change (sessions_are (core_of n h cells f s ss g) kept.world.sound) keeps refl (λ s q. refl) (λ e on. on))
 
   -- a session is opened
   pub kept_opened : (user : List ℕ) → has_no_number (core_of n h cells f s ss g) ≡ false → length user ≤ user_limit → Kept tells (world_of n h cells f s (ss ++ fresh_session (g + 1) user ∷ []) (g + 1)) heard
@@ -176,7 +176,7 @@ module _ (tells : Bool) (n : ℕ) (h : List Event) (cells : List CellState) (f s
       let le : length (log h) ≤ length (log h) = omega arith in
       kept_ended (with_session ss number (answered_at (length (log h)))) fr none
       (are_with h (h ++ Ended f s ∷ []) g ss number (answered_at (length (log h))) (sessions_are (core_of n h cells f s ss g) w.sound) (keeps_answered (length (log h)) (length (log h)) le)
-      (log-same h (Ended f s) refl) (λ e on. absurd (cc (closed, on))))
+      (log-same h (Ended f s) refl) (log_faults-same h (Ended f s) (λ i j. refl)) (λ e on. absurd (cc (closed, on))))
 
   -- an event comes that leaves the log and the ends, where the state stays sound
   kept_same : (e : Event) (ss' : List OpenSession) → scheduled e ≡ None → is_ended e ≡ false → IsSound (core_of n (h ++ e ∷ []) cells f s ss' g)
@@ -200,7 +200,7 @@ module _ (tells : Bool) (n : ℕ) (h : List Event) (cells : List CellState) (f s
       let e : Event = ReadFailed t q b in
       kept_same (ReadFailed t q b) ss refl refl
       (sound_read_failed (core_of n h cells f s ss g) t q b ss kept.world.sound space
-      (are_kept h (h ++ e ∷ []) g ss (sessions_are (core_of n h cells f s ss g) kept.world.sound) (log-same h e refl) (λ d on. sym (opened-same h e refl refl) ∙ on)))
+      (are_kept h (h ++ e ∷ []) g ss (sessions_are (core_of n h cells f s ss g) kept.world.sound) (log-same h e refl) (log_faults-same h e (λ i j. refl)) (λ d on. sym (opened-same h e refl refl) ∙ on)))
       (λ _ k. enabled-push h (ReadFailed t q b) k)
 
   pub kept_disabled : (b : ℕ) → free h ≡ true → enabled h b ≡ true → 0 < room h → Kept tells (world_of n (h ++ Disabled b ∷ []) cells f s ss g) heard

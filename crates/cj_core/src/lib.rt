@@ -5,3 +5,4 @@
 mod cells;
 mod sessions;
 mod world;
+pub use world::World;

@@ -1,0 +1,139 @@
+-- Scripts: what lines play, how they lie in the bytes taken, and how far a script came.
+use Rattle.std.specs.Prelude.{◌≡◌, ◌≢◌, ◌⊎◌, ℕ, ◌+◌, ◌<◌, Bool, List, [], ◌∷◌, ◌++◌, length, take, All, Result, Ok, Err, IsSome}
+use Rattle.std.specs.declared.option.Option.{Option}
+use Rattle.std.specs.List.{flat_map}
+use Rattle.std.specs.Global.{Vec}
+use Rattle.std.specs.Io.KnownBytes.{Consumes, Appends, IsAtEnd}
+use Rattle.cj_outside.specs.declared.lines.Line.TheVariants as line
+use Rattle.cj_outside.specs.declared.lines.LineError.TheVariants as line_errors
+use Rattle.cj_outside.specs.Lines.{Reading, GivesLine, IsInLine, line_limit}
+use Rattle.cj_outside.specs.Streams.{most}
+use Rattle.cj_model.specs.declared.moves.Move.{Move}
+use Rattle.cj_model.specs.declared.moves.MoveError.TheVariants.{NotNow}
+use Rattle.cj_model.specs.declared.moves.Made.{Made}
+use Rattle.cj_model.specs.declared.moves.Made.TheVariants as made
+use Rattle.cj_model.specs.Cores.{Core}
+use Rattle.cj_model.specs.Moves.{Given, MovesTo}
+use Rattle.cj_model.specs.Scripts.{MoveLine, moved_lines, ended}
+use Rattle.cj_script.specs.declared.play.ScriptEnd.{ScriptEnd}
+use Rattle.cj_script.specs.declared.play.ScriptEnd.TheVariants.{Done, Line, ReadFault, WriteFault, Spent, NoMemory}
+
+-- ---- lines that play
+
+-- what a move came to is what it gave
+abbrev pub given_of : Made → Given
+given_of (made.Moved m) = Ok m
+given_of (made.NotNow why) = Err (NotNow why)
+
+-- The line is a move, which leads from c to z, and these are the lines of what it came to.
+pub record MakesMove (tells : Bool) (names : List (List ℕ)) (c : Core) (line written : List ℕ) (z : Core) : Type 0 where
+  pub move : Move
+  pub reads : MoveLine names line move
+  pub made : Made
+  pub moves : MovesTo tells c move (given_of made) z
+  pub gives : written ≡ moved_lines names made
+
+-- an empty line is skipped, and another makes its move
+abbrev pub PlaysLine : Bool → List (List ℕ) → Core → List ℕ → List ℕ → Core → Type 0
+PlaysLine tells names c [] written z = (written ≡ []) × (z ≡ c)
+PlaysLine tells names c (b ∷ line) written z = MakesMove tells names c (b ∷ line) written z
+
+-- From the state c the lines play, one after another, to the state z, and this is what they give.
+abbrev pub Plays : Bool → List (List ℕ) → Core → List (List ℕ) → List ℕ → Core → Type 0
+Plays tells names c [] written z = (written ≡ []) × (z ≡ c)
+Plays tells names c (line ∷ lines) written z =
+    (mid : Core) × (front : List ℕ) × (rest : List ℕ) × PlaysLine tells names c line front mid × Plays tells names mid lines rest z × (written ≡ front ++ rest)
+
+-- ---- lines in bytes
+
+-- The bytes are these lines, each with its LF, and a rest; or the last line ends with the bytes, where the source has ended.
+abbrev pub LieIn : Option (List ℕ) → List ℕ → List (List ℕ) → List ℕ → Type 0
+LieIn left bytes lines rest = (bytes ≡ flat_map ended lines ++ rest) ⊎ ((bytes ++ 10 ∷ [] ≡ flat_map ended lines) × (rest ≡ []) × IsAtEnd left)
+
+-- the rest begins with the line
+abbrev pub IsNext : Option (List ℕ) → List ℕ → List ℕ → Type 0
+IsNext left line rest = ((more : List ℕ) × (rest ≡ line ++ 10 ∷ more)) ⊎ ((rest ≡ line) × IsAtEnd left)
+
+-- the line is no move's
+abbrev pub IsNoMove : List (List ℕ) → List ℕ → Type 0
+IsNoMove names line = (m : Move) → MoveLine names line m → ⊥
+
+-- the line can't be played: it is too long, or neither empty nor a move's
+abbrev pub IsWrong : List (List ℕ) → List ℕ → Type 0
+IsWrong names line = (line_limit < length line) ⊎ ((line ≢ []) × IsNoMove names line)
+
+-- ---- how far a script came
+
+-- Of the bytes taken these lines were played, from c to z, and what they give was written; the rest was not played.
+pub record Played (tells : Bool) (names : List (List ℕ)) (left left' held held' : Option (List ℕ)) (c : Core) (taken : List ℕ) (lines : List (List ℕ)) (rest : List ℕ) (z : Core) : Type 0 where
+  pub inside : All IsInLine lines
+  pub consumed : Consumes left left' taken
+  pub lie : LieIn left' taken lines rest
+  pub written : List ℕ
+  pub plays : Plays tells names c lines written z
+  pub appended : Appends held held' written
+
+-- the source was taken to its end, and all of it was played
+pub record PlayedAll (tells : Bool) (names : List (List ℕ)) (left left' held held' : Option (List ℕ)) (c z : Core) : Type 0 where
+  pub taken : List ℕ
+  pub lines : List (List ℕ)
+  pub played : Played tells names left left' held held' c taken lines [] z
+  pub at_end : IsAtEnd left'
+
+-- All lines were played, up to the line that a wrong one has in the count from 1.
+pub record PlayedTo (tells : Bool) (names : List (List ℕ)) (left left' held held' : Option (List ℕ)) (number : ℕ) (c z : Core) : Type 0 where
+  pub taken : List ℕ
+  pub lines : List (List ℕ)
+  pub rest : List ℕ
+  pub played : Played tells names left left' held held' c taken lines rest z
+  pub before : number ≡ length lines + 1
+  pub line : List ℕ
+  pub inside : IsInLine line
+  pub next : IsNext left' line rest
+  pub wrong : IsWrong names line
+
+-- All whole lines were played, and so many bytes were taken, where the source tells.
+pub record PlayedWhole (tells : Bool) (names : List (List ℕ)) (left left' held held' : Option (List ℕ)) (IsCount : ℕ → Type 0) (c z : Core) : Type 0 where
+  pub taken : List ℕ
+  pub lines : List (List ℕ)
+  pub rest : List ℕ
+  pub played : Played tells names left left' held held' c taken lines rest z
+  pub inside : IsInLine rest
+  pub count : IsSome left → IsCount (length taken)
+
+-- some lines were played
+pub record PlayedSome (tells : Bool) (names : List (List ℕ)) (left left' held held' : Option (List ℕ)) (c z : Core) : Type 0 where
+  pub taken : List ℕ
+  pub lines : List (List ℕ)
+  pub rest : List ℕ
+  pub played : Played tells names left left' held held' c taken lines rest z
+
+-- The line makes its move, and of what it gives a front was written, which is not the whole.
+pub record MakesInPart (tells : Bool) (names : List (List ℕ)) (held held' : Option (List ℕ)) (c : Core) (line : List ℕ) (z : Core) : Type 0 where
+  pub whole : List ℕ
+  pub makes : MakesMove tells names c line whole z
+  pub count : ℕ
+  pub cut : count < length whole
+  pub appended : Appends held held' (take count whole)
+
+-- Some lines were played, and one more made its move, with what it gives written in part.
+pub record PlayedInPart (tells : Bool) (names : List (List ℕ)) (left left' held held' : Option (List ℕ)) (c z : Core) : Type 0 where
+  pub taken : List ℕ
+  pub lines : List (List ℕ)
+  pub rest : List ℕ
+  pub mid : Core
+  pub between : Option (List ℕ)
+  pub played : Played tells names left left' held between c taken lines rest mid
+  pub line : List ℕ
+  pub inside : IsInLine line
+  pub next : IsNext left' line rest
+  pub makes : MakesInPart tells names between held' mid line z
+
+-- How far a script came that ended so. Where the source or the sink tells nothing, this says nothing of its bytes.
+abbrev pub CameTo : Bool → List (List ℕ) → (left left' held held' : Option (List ℕ)) → Core → ScriptEnd → Core → Type 0
+CameTo tells names left left' held held' c Done z = PlayedAll tells names left left' held held' c z
+CameTo tells names left left' held held' c (Line number) z = PlayedTo tells names left left' held held' number c z
+CameTo tells names left left' held held' c ReadFault z = PlayedWhole tells names left left' held held' (λ n. n < most) c z
+CameTo tells names left left' held held' c WriteFault z = PlayedInPart tells names left left' held held' c z
+CameTo tells names left left' held held' c Spent z = PlayedWhole tells names left left' held held' (λ n. n ≡ most) c z
+CameTo tells names left left' held held' c NoMemory z = PlayedSome tells names left left' held held' c z ⊎ PlayedInPart tells names left left' held held' c z

@@ -1,0 +1,62 @@
+-- The steps of a script: a line is read, and it is played.
+use Rattle.std.specs.Prelude.{◌≡◌, ◌≢◌, ◌⊎◌, ℕ, ◌≤◌, Bool, List, [], Result, Ok, Err, IsErrOf}
+use Rattle.std.specs.declared.option.Option.{Option}
+use Rattle.std.specs.declared.option.Option.TheVariants.{None, Some}
+use Rattle.std.specs.Global.{Vec}
+use Rattle.std.specs.Io.KnownBytes.{Appends}
+use Rattle.cj_outside.specs.declared.lines.Line.TheVariants.{Text, Long, End}
+use Rattle.cj_outside.specs.declared.lines.LineError.TheVariants as errors
+use Rattle.cj_outside.specs.Causes.{Rose}
+use Rattle.cj_outside.specs.Lines.{Reading, GivesLine}
+use Rattle.cj_model.specs.declared.moves.Move.{Move}
+use Rattle.cj_model.specs.Cores.{Core}
+use Rattle.cj_model.specs.Scripts.{MoveLine}
+use Rattle.cj_script.specs.Script.{PlaysLine, MakesInPart, IsNoMove}
+use Rattle.cj_script.specs.declared.play.ScriptEnd.{ScriptEnd}
+use Rattle.cj_script.specs.declared.play.ScriptEnd.TheVariants.{Done, Line, ReadFault, WriteFault, Spent, NoMemory}
+
+-- the move of the line, and none where it is no move's
+abbrev pub IsParsed : List (List ℕ) → List ℕ → Option Move → Type 0
+IsParsed names line None = IsNoMove names line
+IsParsed names line (Some m) = MoveLine names line m
+
+-- the next line of the source, or the end that comes in place of it; `number` is the line's
+abbrev pub ReadsLine : Option (List ℕ) → Option (List ℕ) → Reading → Reading → ℕ → Result (Vec ℕ) ScriptEnd → Type 0
+ReadsLine left left' old new number (Ok v) = GivesLine left left' old new (Ok (Text v))
+ReadsLine left left' old new number (Err Done) = GivesLine left left' old new (Ok End)
+ReadsLine left left' old new number (Err (Line n)) = (n ≡ number) × GivesLine left left' old new (Ok Long)
+ReadsLine left left' old new number (Err ReadFault) = GivesLine left left' old new (Err errors.Failed)
+ReadsLine left left' old new number (Err WriteFault) = ⊥
+ReadsLine left left' old new number (Err Spent) = GivesLine left left' old new (Err errors.Spent)
+ReadsLine left left' old new number (Err NoMemory) = GivesLine left left' old new (Err errors.NoMemory)
+
+-- the line played, and this was written
+pub record PlaysWritten (tells : Bool) (names : List (List ℕ)) (held held' : Option (List ℕ)) (c : Core) (line : List ℕ) (z : Core) : Type 0 where
+  pub written : List ℕ
+  pub plays : PlaysLine tells names c line written z
+  pub appended : Appends held held' written
+
+-- nothing was done and nothing written
+abbrev pub Stays : Option (List ℕ) → Option (List ℕ) → Core → Core → Type 0
+Stays held held' c z = (z ≡ c) × Appends held held' []
+
+-- the line is no move's, and it is not empty
+pub record RefusesLine (names : List (List ℕ)) (held held' : Option (List ℕ)) (c : Core) (line : List ℕ) (z : Core) : Type 0 where
+  pub some : line ≢ []
+  pub none : IsNoMove names line
+  pub stays : Stays held held' c z
+
+-- the line played and what it gives was written, or the script ends in it
+abbrev pub PlaysOrEnds : Bool → List (List ℕ) → Option (List ℕ) → Option (List ℕ) → Core → List ℕ → ℕ → Result (Unit {0}) ScriptEnd → Core → Type 0
+PlaysOrEnds tells names held held' c line number (Ok _) z = PlaysWritten tells names held held' c line z
+PlaysOrEnds tells names held held' c line number (Err Done) z = ⊥
+PlaysOrEnds tells names held held' c line number (Err (Line n)) z = (n ≡ number) × RefusesLine names held held' c line z
+PlaysOrEnds tells names held held' c line number (Err ReadFault) z = ⊥
+PlaysOrEnds tells names held held' c line number (Err WriteFault) z = MakesInPart tells names held held' c line z
+PlaysOrEnds tells names held held' c line number (Err Spent) z = ⊥
+PlaysOrEnds tells names held held' c line number (Err NoMemory) z = Stays held held' c z ⊎ MakesInPart tells names held held' c line z
+
+-- the count of faults doesn't fall, and rises where the script ends with this fault
+pub record HasEndCause {T : Type 0} (fault : ScriptEnd) (before now : ℕ) (result : Result T ScriptEnd) : Type 0 where
+  pub later : before ≤ now
+  pub failed : IsErrOf result fault → Rose before now

@@ -1,0 +1,160 @@
+//! The loop of a script: lines of moves from a source, what they come to into a sink.
+
+ghost use Rattle.std.specs.Prelude.{◌≡◌, ◌≤◌, ◌^◌, ℕ, IfOk, IsErrOf, MatchResult, length};
+ghost use Rattle.cj_outside.specs.Causes.{HasOutCause, Rose};
+ghost use Rattle.cj_outside.specs.Streams.{most, WritesAll};
+ghost use Rattle.cj_model.specs.declared.moves.MoveError.TheVariants as move_errors;
+ghost use Rattle.cj_model.specs.Moves.{MovesTo};
+ghost use Rattle.cj_model.specs.Runs.{CanCount, IsMove};
+ghost use Rattle.cj_model.specs.Scripts.{moved_lines};
+ghost use Rattle.cj_script.specs.Script.{CameTo, given_of};
+ghost use Rattle.cj_script.specs.Steps.{HasEndCause, IsParsed, PlaysOrEnds, ReadsLine};
+ghost use Rattle.cj_script.specs.declared.play.ScriptEnd.TheVariants as ends;
+ghost use Rattle.std.specs.declared.result.Result.TheVariants.{Err};
+
+use crate::print::print_made;
+use cj_backend::Backend;
+use cj_core::World;
+use cj_model::{Made, Move, MoveError, Names, NoMemory};
+use cj_outside::{Line, LineError, Lines, OutError, Sink, Source, write_all};
+use std::alloc::Global;
+
+/// How a script ended.
+#[derive(Clone, Copy, Debug, PartialEq, Eq)]
+pub enum ScriptEnd {
+    /// All lines were played.
+    Done,
+    /// This line, counted from 1, is too long, or neither empty nor a move's.
+    Line(u64),
+    /// The source failed.
+    ReadFault,
+    /// The sink failed.
+    WriteFault,
+    /// `MOST` bytes were taken, and the source has not ended.
+    Spent,
+    /// Memory was wanting.
+    NoMemory,
+}
+
+/// The next line, or how the script ends in place of it.
+fn read_line<I: Source>(
+    alloc: Global,
+    lines: &mut Lines,
+    number: u64,
+    input: &mut I,
+) -> Result<Vec<u8>, ScriptEnd>
+    ensures bytes { ReadsLine (I.left input.old) (I.left input.new) lines.old lines.new number result }
+    ensures few { lines.new.taken ≤ most }
+    ensures cause { HasEndCause ends.ReadFault (I.faults input.old) (I.faults input.new) result }
+{
+    let next = lines.next(alloc, input);
+    lines.legal();
+    match next {
+        Ok(Line::Text(line)) => Ok(line),
+        Ok(Line::Long) => Err(ScriptEnd::Line(number)),
+        Ok(Line::End) => Err(ScriptEnd::Done),
+        Err(LineError::Failed) => Err(ScriptEnd::ReadFault),
+        Err(LineError::Spent) => Err(ScriptEnd::Spent),
+        Err(LineError::NoMemory) => Err(ScriptEnd::NoMemory),
+    }
+}
+
+fn parse_move(alloc: Global, names: &Names, line: &[u8]) -> Result<Option<Move>, NoMemory>
+    ensures { IfOk result (IsParsed names.now line.now) }
+{
+    Err(NoMemory)
+}
+
+/// Makes a move, or not where it can't be made now.
+fn make_move<B: Backend>(world: &mut World<B>, m: Move) -> Result<Made, NoMemory>
+    requires is { IsMove world.old.core.placement.backends m }
+    requires count { CanCount world.old.core 1 }
+    ensures {
+        MatchResult result (λ made. MovesTo B.TELLS world.old.core m (given_of made) world.new.core)
+        (λ _. world.new.core ≡ world.old.core)
+    }
+{
+    Err(NoMemory)
+}
+
+/// Writes the lines of what a move came to.
+fn write_made<O: Sink>(
+    alloc: Global,
+    names: &Names,
+    made: &Made,
+    output: &mut O,
+) -> Result<(), OutError>
+    ensures bytes { WritesAll (O.held output.old) (O.held output.new) (moved_lines names.now made.now) result }
+    ensures cause { HasOutCause (O.faults output.old) (O.faults output.new) result }
+{
+    match print_made(alloc, names, made) {
+        Ok(lines) => write_all(output, &lines),
+        Err(_) => Err(OutError::NoMemory),
+    }
+}
+
+/// Plays a line, or answers how the script ends in it.
+fn play_line<B: Backend, O: Sink>(
+    alloc: Global,
+    world: &mut World<B>,
+    names: &Names,
+    number: u64,
+    line: &[u8],
+    output: &mut O,
+) -> Result<(), ScriptEnd>
+    requires names { length names.now ≡ world.old.core.placement.backends }
+    requires count { 2 ≤ length line.now → CanCount world.old.core 1 }
+    ensures plays { PlaysOrEnds B.TELLS names.now (O.held output.old) (O.held output.new) world.old.core line.now number result world.new.core }
+    ensures cause { HasEndCause ends.WriteFault (O.faults output.old) (O.faults output.new) result }
+{
+    if line.is_empty() {
+        return Ok(());
+    }
+    let m = match parse_move(alloc, names, line) {
+        Ok(Some(m)) => m,
+        Ok(None) => return Err(ScriptEnd::Line(number)),
+        Err(_) => return Err(ScriptEnd::NoMemory),
+    };
+    let Ok(made) = make_move(world, m) else {
+        return Err(ScriptEnd::NoMemory);
+    };
+    match write_made(alloc, names, &made, output) {
+        Ok(()) => Ok(()),
+        Err(OutError::Failed) => Err(ScriptEnd::WriteFault),
+        Err(OutError::NoMemory) => Err(ScriptEnd::NoMemory),
+    }
+}
+
+/// Plays the lines of the source, each a move on the world, and writes what they come to.
+///
+/// A line that can't be played ends the script, and so do a fault and want of memory. What was played and written until then stays.
+pub fn script<B: Backend, I: Source, O: Sink>(
+    alloc: Global,
+    world: &mut World<B>,
+    names: &Names,
+    input: &mut I,
+    output: &mut O,
+) -> ScriptEnd
+    requires names { length names.now ≡ world.old.core.placement.backends }
+    requires count { CanCount world.old.core (2 ^ 61) }
+    ensures came {
+        CameTo B.TELLS names.now (I.left input.old) (I.left input.new) (O.held output.old) (O.held output.new) world.old.core result world.new.core
+    }
+    ensures input { I.faults input.old ≤ I.faults input.new }
+    ensures output { O.faults output.old ≤ O.faults output.new }
+    ensures read_fault { result ≡ ends.ReadFault → Rose (I.faults input.old) (I.faults input.new) }
+    ensures write_fault { result ≡ ends.WriteFault → Rose (O.faults output.old) (O.faults output.new) }
+{
+    let mut lines = Lines::new(alloc);
+    let mut number = 0;
+    loop {
+        number += 1;
+        let line = match read_line(alloc, &mut lines, number, input) {
+            Ok(line) => line,
+            Err(end) => return end,
+        };
+        if let Err(end) = play_line(alloc, world, names, number, &line, output) {
+            return end;
+        }
+    }
+}
