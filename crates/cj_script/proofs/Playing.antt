@@ -11,7 +11,11 @@ use Rattle.cj_outside.specs.Streams.{most}
 use Rattle.cj_outside.proofs.Joined.{consumes_then, consumes_none, appends_then, appends_none}
 use Rattle.cj_model.specs.Cores.{Core}
 use Rattle.cj_model.specs.Scripts.{ended}
-use Rattle.cj_script.specs.Script.{PlaysLine, Plays, LieIn, IsNext, Played}
+use Rattle.cj_outside.specs.declared.lines.Line.TheVariants.{Long}
+use Rattle.cj_script.specs.declared.play.ScriptEnd.{ScriptEnd}
+use Rattle.cj_script.specs.declared.play.ScriptEnd.TheVariants.{Done, Line as Line', ReadFault, WriteFault, Spent, NoMemory}
+use Rattle.cj_script.specs.Script.{PlaysLine, Plays, LieIn, IsNext, Played, PlayedInPart, MakesInPart, CameTo}
+use Rattle.cj_script.specs.Steps.{ReadsLine, PlaysWritten, Stays, PlaysOrEnds}
 
 -- ---- lines that play
 
@@ -77,7 +81,7 @@ record Longer (left left' : Option (List ℕ)) (taken : List ℕ) (lines : List 
 
 -- behind a last line without LF nothing comes, where the source tells
 longer : (left mid left' : Option (List ℕ)) (taken : List ℕ) (lines : List (List ℕ)) (rest more : List ℕ) → Consumes left mid taken → LieIn mid taken lines rest → Consumes mid left' more → Longer left left' taken lines rest more
-longer None mid left' taken lines rest more before lie next = record { whole = flat_map ended lines ++ (rest ++ more); consumed = tt; lie = inl refl; told = λ none. absurd none }
+longer None mid left' taken lines rest more before lie next = record { whole = flat_map ended lines ++ (rest ++ more); consumed = tt; lie = inl refl; told = λ none. absurd (cc none) }
 longer (Some xs) None left' taken lines rest more before lie next = absurd before
 longer (Some xs) (Some ys) None taken lines rest more before lie next = absurd next
 longer (Some xs) (Some ys) (Some zs) taken lines rest more before (inl is) next = record {
@@ -114,7 +118,19 @@ playing_longer tells names left mid left' held held' c rest bytes count z more p
       told = λ some. l.told some ∙ ap (λ (n : ℕ). n + length more) (p.told some);
     }
 
+-- the reader took more
+playing_taken : (tells : Bool) (names : List (List ℕ)) (left mid left' held held' : Option (List ℕ)) (c : Core) (old new : Reading) (count : ℕ) (z : Core) (bytes : List ℕ)
+    → Playing tells names left mid held held' c old.rest old.taken count z → Took mid left' old new bytes → Playing tells names left left' held held' c (old.rest ++ bytes) new.taken count z
+playing_taken tells names left mid left' held held' c old new count z bytes p took =
+    subst (λ (n : ℕ). Playing tells names left left' held held' c (old.rest ++ bytes) n count z) (sym took.count)
+    (playing_longer tells names left mid left' held held' c old.rest old.taken count z bytes p took.consumed)
+
 -- ---- a line
+
+-- a list that is not empty has some items
+not_empty : (xs : List ℕ) → xs ≢ [] → 0 < length xs
+not_empty [] some = absurd (some refl)
+not_empty (x ∷ xs) some = omega arith
 
 -- The next line was read, as which `line` stands at the rest's front, and the reader holds the rest behind it.
 pub record AtLine (tells : Bool) (names : List (List ℕ)) (left left' held held' : Option (List ℕ)) (c : Core) (line rest : List ℕ) (bytes count : ℕ) (z : Core) : Type 0 where
@@ -124,33 +140,166 @@ pub record AtLine (tells : Bool) (names : List (List ℕ)) (left left' held held
   pub next : IsNext left' line whole
   pub behind : LieIn left' playing.taken (playing.lines ++ line ∷ []) rest
 
+-- the reader has come behind a line
+pub record Advances (old new : Reading) (line : List ℕ) : Type 0 where
+  pub by : length line + length new.rest + old.taken ≤ length old.rest + new.taken
+  pub some : length new.rest + old.taken < length old.rest + new.taken
+
 -- a line came, whole or too long
-pub at_line : (tells : Bool) (names : List (List ℕ)) (left mid left' held held' : Option (List ℕ)) (c : Core) (old new : Reading) (count : ℕ) (z : Core) (bytes : List ℕ) (line : Line)
+pub record LineCame (tells : Bool) (names : List (List ℕ)) (left left' held held' : Option (List ℕ)) (c : Core) (old new : Reading) (count : ℕ) (z : Core) (line : Line) : Type 0 where
+  pub text : List ℕ
+  pub is : IsLine text line
+  pub advances : Advances old new text
+  pub at : AtLine tells names left left' held held' c text new.rest new.taken count z
+
+pub line_came : (tells : Bool) (names : List (List ℕ)) (left mid left' held held' : Option (List ℕ)) (c : Core) (old new : Reading) (count : ℕ) (z : Core) (bytes : List ℕ) (line : Line)
     → Playing tells names left mid held held' c old.rest old.taken count z → Took mid left' old new bytes → EndsLine old new bytes line ⊎ LastLine left' old new bytes line
-    → (text : List ℕ) × IsLine text line × (length text + length new.rest + 1 ≤ length old.rest + length bytes + 1) × AtLine tells names left left' held held' c text new.rest new.taken count z
-at_line tells names left mid left' held held' c old new count z bytes line p took (inl h) =
-    let now = subst (λ (n : ℕ). Playing tells names left left' held held' c (old.rest ++ bytes) n count z) (sym took.count) (playing_longer tells names left mid left' held held' c old.rest old.taken count z bytes p took.consumed) in (
-      h.text,
-      h.is,
-      omega (arith, ap length h.parts, length-append old.rest bytes, length-append h.text (10 ∷ new.rest)),
-      record {
+    → LineCame tells names left left' held held' c old new count z line
+line_came tells names left mid left' held held' c old new count z bytes line p took (inl h) =
+    let now = playing_taken tells names left mid left' held held' c old new count z bytes p took in
+    record {
+      text = h.text;
+      is = h.is;
+      advances = record {
+        by = omega (arith, took.count, ap length h.parts, length-append old.rest bytes, length-append h.text (10 ∷ new.rest));
+        some = omega (arith, took.count, ap length h.parts, length-append old.rest bytes, length-append h.text (10 ∷ new.rest));
+      };
+      at = record {
         whole = old.rest ++ bytes;
         playing = now;
         inside = h.inside;
         next = inl (new.rest, h.parts);
         behind = line_more left' now.taken now.lines (old.rest ++ bytes) h.text new.rest now.played.lie h.parts;
-      },
-    )
-at_line tells names left mid left' held held' c old new count z bytes line p took (inr h) =
-    let now = subst (λ (n : ℕ). Playing tells names left left' held held' c (old.rest ++ bytes) n count z) (sym took.count) (playing_longer tells names left mid left' held held' c old.rest old.taken count z bytes p took.consumed) in (
-      old.rest ++ bytes,
-      h.is,
-      omega (arith, ap length h.none, length-append old.rest bytes),
-      record {
+      };
+    }
+line_came tells names left mid left' held held' c old new count z bytes line p took (inr h) =
+    let now = playing_taken tells names left mid left' held held' c old new count z bytes p took in
+    let some = not_empty (old.rest ++ bytes) h.some in
+    record {
+      text = old.rest ++ bytes;
+      is = h.is;
+      advances = record {
+        by = omega (arith, took.count, ap length h.none, length-append old.rest bytes);
+        some = omega (arith, took.count, ap length h.none, length-append old.rest bytes, some);
+      };
+      at = record {
         whole = old.rest ++ bytes;
         playing = now;
         inside = h.inside;
         next = inr (refl, h.at_end);
         behind = subst (LieIn left' now.taken (now.lines ++ (old.rest ++ bytes) ∷ [])) (sym h.none) (last_more left' now.taken now.lines (old.rest ++ bytes) now.played.lie h.some h.at_end);
-      },
-    )
+      };
+    }
+
+-- The line was played, and what it gives written.
+pub line_played : (tells : Bool) (names : List (List ℕ)) (left left' held held' held'' : Option (List ℕ)) (c : Core) (line rest : List ℕ) (bytes count : ℕ) (mid z : Core)
+    → AtLine tells names left left' held held' c line rest bytes count mid → PlaysWritten tells names held' held'' mid line z → Playing tells names left left' held held'' c rest bytes (count + 1) z
+line_played tells names left left' held held' held'' c line rest bytes count mid z at now =
+    let p = at.playing in
+    record {
+      taken = p.taken;
+      lines = p.lines ++ line ∷ [];
+      played = record {
+        inside = All-push IsInLine p.lines line p.played.inside at.inside;
+        consumed = p.played.consumed;
+        lie = at.behind;
+        written = p.played.written ++ now.written;
+        plays = plays_more tells names c p.lines p.played.written mid line now.written z p.played.plays now.plays;
+        appended = appends_then held held' held'' p.played.written now.written p.played.appended now.appended;
+      };
+      number = omega (arith, p.number, length-append p.lines (line ∷ []));
+      told = p.told;
+    }
+
+-- nothing was done and nothing written
+playing_stays : (tells : Bool) (names : List (List ℕ)) (left left' held held' held'' : Option (List ℕ)) (c : Core) (taken : List ℕ) (lines : List (List ℕ)) (rest : List ℕ) (mid z : Core)
+    → Played tells names left left' held held' c taken lines rest mid → Stays held' held'' mid z → Played tells names left left' held held'' c taken lines rest z
+playing_stays tells names left left' held held' held'' c taken lines rest mid z p stays = record {
+  inside = p.inside;
+  consumed = p.consumed;
+  lie = p.lie;
+  written = p.written;
+  plays = subst (Plays tells names c lines p.written) (sym stays.0) p.plays;
+  appended = subst (λ (t : List ℕ). Appends held held'' t) (append-nil p.written) (appends_then held held' held'' p.written [] p.appended stays.1);
+}
+
+-- ---- ends
+
+-- in place of a line the script came to its end
+pub read_end : (tells : Bool) (names : List (List ℕ)) (left mid left' held held' : Option (List ℕ)) (c : Core) (old new : Reading) (count number : ℕ) (z : Core) (last : ScriptEnd)
+    → Playing tells names left mid held held' c old.rest old.taken count z → number ≡ count + 1 → ReadsLine mid left' old new number (Err last) → CameTo tells names left left' held held' c last z
+read_end tells names left mid left' held held' c old new count number z Done p is (bytes, took, none) =
+    let now = playing_taken tells names left mid left' held held' c old new count z bytes p took in
+    record {
+      taken = now.taken;
+      lines = now.lines;
+      played = subst (λ (t : List ℕ). Played tells names left left' held held' c now.taken now.lines t z) none.nothing now.played;
+      at_end = none.at_end;
+    }
+read_end tells names left mid left' held held' c old new count number z (Line' n) p is (same, (bytes, took, came)) =
+    let l = line_came tells names left mid left' held held' c old new count z bytes Long p took came in
+    record {
+      taken = l.at.playing.taken;
+      lines = l.at.playing.lines;
+      rest = l.at.whole;
+      played = l.at.playing.played;
+      before = same ∙ is ∙ ap (λ (k : ℕ). k + 1) l.at.playing.number;
+      line = l.text;
+      inside = l.at.inside;
+      next = l.at.next;
+      wrong = inl l.is;
+    }
+read_end tells names left mid left' held held' c old new count number z ReadFault p is (bytes, took, (none, few)) =
+    let now = playing_taken tells names left mid left' held held' c old new count z bytes p took in
+    record { taken = now.taken; lines = now.lines; rest = old.rest ++ bytes; played = now.played; inside = none.inside; count = λ some. omega (arith, now.told some, few) }
+read_end tells names left mid left' held held' c old new count number z WriteFault p is none = absurd none
+read_end tells names left mid left' held held' c old new count number z Spent p is (bytes, took, (none, all)) =
+    let now = playing_taken tells names left mid left' held held' c old new count z bytes p took in
+    record { taken = now.taken; lines = now.lines; rest = old.rest ++ bytes; played = now.played; inside = none.inside; count = λ some. now.told some ∙ all }
+read_end tells names left mid left' held held' c old new count number z NoMemory p is (bytes, took) =
+    let now = playing_longer tells names left mid left' held held' c old.rest old.taken count z bytes p took in
+    inl (record { taken = now.taken; lines = now.lines; rest = old.rest ++ bytes; played = now.played })
+
+-- a line that was made, with what it gives written in part
+in_part : (tells : Bool) (names : List (List ℕ)) (left left' held held' held'' : Option (List ℕ)) (c : Core) (line rest : List ℕ) (bytes count : ℕ) (mid z : Core)
+    → AtLine tells names left left' held held' c line rest bytes count mid → MakesInPart tells names held' held'' mid line z → PlayedInPart tells names left left' held held'' c z
+in_part tells names left left' held held' held'' c line rest bytes count mid z at makes = record {
+  taken = at.playing.taken;
+  lines = at.playing.lines;
+  rest = at.whole;
+  mid = mid;
+  between = held';
+  played = at.playing.played;
+  line = line;
+  inside = at.inside;
+  next = at.next;
+  makes = makes;
+}
+
+-- in a line the script came to its end
+pub play_end : (tells : Bool) (names : List (List ℕ)) (left left' held held' held'' : Option (List ℕ)) (c : Core) (line rest : List ℕ) (bytes count number : ℕ) (mid z : Core) (last : ScriptEnd)
+    → AtLine tells names left left' held held' c line rest bytes count mid → number ≡ count + 1 → PlaysOrEnds tells names held' held'' mid line number (Err last) z → CameTo tells names left left' held held'' c last z
+play_end tells names left left' held held' held'' c line rest bytes count number mid z Done at is none = absurd none
+play_end tells names left left' held held' held'' c line rest bytes count number mid z (Line' n) at is (same, refuses) = record {
+  taken = at.playing.taken;
+  lines = at.playing.lines;
+  rest = at.whole;
+  played = playing_stays tells names left left' held held' held'' c at.playing.taken at.playing.lines at.whole mid z at.playing.played refuses.stays;
+  before = same ∙ is ∙ ap (λ (k : ℕ). k + 1) at.playing.number;
+  line = line;
+  inside = at.inside;
+  next = at.next;
+  wrong = inr (refuses.some, refuses.none);
+}
+play_end tells names left left' held held' held'' c line rest bytes count number mid z ReadFault at is none = absurd none
+play_end tells names left left' held held' held'' c line rest bytes count number mid z WriteFault at is makes = in_part tells names left left' held held' held'' c line rest bytes count mid z at makes
+play_end tells names left left' held held' held'' c line rest bytes count number mid z Spent at is none = absurd none
+play_end tells names left left' held held' held'' c line rest bytes count number mid z NoMemory at is (inl stays) =
+    inl (record {
+      taken = at.playing.taken;
+      lines = at.playing.lines;
+      rest = at.whole;
+      played = playing_stays tells names left left' held held' held'' c at.playing.taken at.playing.lines at.whole mid z at.playing.played stays;
+    })
+play_end tells names left left' held held' held'' c line rest bytes count number mid z NoMemory at is (inr makes) =
+    inr (in_part tells names left left' held held' held'' c line rest bytes count mid z at makes)

@@ -15,11 +15,6 @@ use Rattle.cj_script.specs.Script.{PlaysLine, MakesInPart, IsNoMove}
 use Rattle.cj_script.specs.declared.play.ScriptEnd.{ScriptEnd}
 use Rattle.cj_script.specs.declared.play.ScriptEnd.TheVariants.{Done, Line, ReadFault, WriteFault, Spent, NoMemory}
 
--- the move of the line, and none where it is no move's
-abbrev pub IsParsed : List (List ℕ) → List ℕ → Option Move → Type 0
-IsParsed names line None = IsNoMove names line
-IsParsed names line (Some m) = MoveLine names line m
-
 -- the next line of the source, or the end that comes in place of it; `number` is the line's
 abbrev pub ReadsLine : Option (List ℕ) → Option (List ℕ) → Reading → Reading → ℕ → Result (Vec ℕ) ScriptEnd → Type 0
 ReadsLine left left' old new number (Ok v) = GivesLine left left' old new (Ok (Text v))

@@ -6,9 +6,10 @@ ghost use Rattle.cj_outside.specs.Streams.{most, WritesAll};
 ghost use Rattle.cj_model.specs.declared.moves.MoveError.TheVariants as move_errors;
 ghost use Rattle.cj_model.specs.Moves.{MovesTo};
 ghost use Rattle.cj_model.specs.Runs.{CanCount, IsMove};
-ghost use Rattle.cj_model.specs.Scripts.{moved_lines};
+ghost use Rattle.cj_model.specs.Scripts.{MoveLine, moved_lines};
+ghost use Rattle.cj_script.specs.Reading.{Finds};
 ghost use Rattle.cj_script.specs.Script.{CameTo, given_of};
-ghost use Rattle.cj_script.specs.Steps.{HasEndCause, IsParsed, PlaysOrEnds, ReadsLine};
+ghost use Rattle.cj_script.specs.Steps.{HasEndCause, PlaysOrEnds, ReadsLine};
 ghost use Rattle.cj_script.specs.declared.play.ScriptEnd.TheVariants as ends;
 ghost use Rattle.std.specs.declared.result.Result.TheVariants.{Err};
 
@@ -60,7 +61,8 @@ fn read_line<I: Source>(
 }
 
 fn parse_move(alloc: Global, names: &Names, line: &[u8]) -> Result<Option<Move>, NoMemory>
-    ensures { IfOk result (IsParsed names.now line.now) }
+    requires { length names.now ≤ 32 }
+    ensures { IfOk result (Finds (MoveLine names.now line.now)) }
 {
     Err(NoMemory)
 }
@@ -110,6 +112,7 @@ fn play_line<B: Backend, O: Sink>(
     if line.is_empty() {
         return Ok(());
     }
+    world.legal();
     let m = match parse_move(alloc, names, line) {
         Ok(Some(m)) => m,
         Ok(None) => return Err(ScriptEnd::Line(number)),
