@@ -1,7 +1,13 @@
 //! Scripts: lines that are moves of a controller, and the lines that they give (docs/SCRIPT.md).
 #![tactic(auto)]
 
+mod arguments;
+mod parse;
+mod plain;
 mod print;
 mod verb;
+mod words;
 
+pub use parse::parse_move;
 pub use print::print_made;
+pub use words::MOST_BACKENDS;

@@ -1,0 +1,4 @@
+pub mod Cutting
+pub mod MoveLines
+pub mod Numbers
+pub mod Requests
