@@ -194,7 +194,9 @@ impl Backend for PlainBackend {
         self.login.as_ref()
     }
 
-    fn arm(&mut self) {
+    fn arm(&mut self)
+        ensures { self.new ≡ record self.old { armed = true } }
+    {
         self.armed = true;
     }
 }

@@ -1,2 +1,6 @@
-pub mod Playing
+pub mod Cutting
+pub mod MoveLines
 pub mod Moving
+pub mod Numbers
+pub mod Playing
+pub mod Requests

@@ -4,6 +4,7 @@ use Rattle.std.specs.Prelude.{All, IsSome}
 use Rattle.std.specs.List.{flat_map}
 use Rattle.std.proofs.lemmas.List.Concat.{flat_map-append, flat_map-cons}
 use Rattle.std.proofs.lemmas.List.Elements.{All-push, All-nil}
+use Rattle.std.specs.Global.{Vec}
 use Rattle.std.specs.Io.KnownBytes.{Consumes, Appends, IsAtEnd}
 use Rattle.cj_outside.specs.declared.lines.Line.{Line}
 use Rattle.cj_outside.specs.Lines.{Reading, IsInLine, IsLine, EndsLine, LastLine, NoLine, EndsNoLine, Took}
@@ -11,7 +12,7 @@ use Rattle.cj_outside.specs.Streams.{most}
 use Rattle.cj_outside.proofs.Joined.{consumes_then, consumes_none, appends_then, appends_none}
 use Rattle.cj_model.specs.Cores.{Core}
 use Rattle.cj_model.specs.Scripts.{ended}
-use Rattle.cj_outside.specs.declared.lines.Line.TheVariants.{Long}
+use Rattle.cj_outside.specs.declared.lines.Line.TheVariants.{Text, Long}
 use Rattle.cj_script.specs.declared.play.ScriptEnd.{ScriptEnd}
 use Rattle.cj_script.specs.declared.play.ScriptEnd.TheVariants.{Done, Line as Line', ReadFault, WriteFault, Spent, NoMemory}
 use Rattle.cj_script.specs.Script.{PlaysLine, Plays, LieIn, IsNext, Played, PlayedInPart, MakesInPart, CameTo}
@@ -303,3 +304,16 @@ play_end tells names left left' held held' held'' c line rest bytes count number
     })
 play_end tells names left left' held held' held'' c line rest bytes count number mid z NoMemory at is (inr makes) =
     inr (in_part tells names left left' held held' held'' c line rest bytes count mid z at makes)
+
+-- ---- the next line
+
+-- The next line was read.
+pub record TextCame (tells : Bool) (names : List (List ℕ)) (left left' held held' : Option (List ℕ)) (c : Core) (old new : Reading) (count : ℕ) (z : Core) (line : List ℕ) : Type 0 where
+  pub advances : Advances old new line
+  pub at : AtLine tells names left left' held held' c line new.rest new.taken count z
+
+pub text_came : (tells : Bool) (names : List (List ℕ)) (left mid left' held held' : Option (List ℕ)) (c : Core) (old new : Reading) (count number : ℕ) (z : Core) (v : Vec ℕ)
+    → Playing tells names left mid held held' c old.rest old.taken count z → ReadsLine mid left' old new number (Ok v) → TextCame tells names left left' held held' c old new count z v.items
+text_came tells names left mid left' held held' c old new count number z v p (bytes, took, came) =
+    let l = line_came tells names left mid left' held held' c old new count z bytes (Text v) p took came in
+    subst (TextCame tells names left left' held held' c old new count z) (sym l.is.0) (record { advances = l.advances; at = l.at })

@@ -1,23 +1,25 @@
 -- How a line is read: its first word, the verb that it is, and what follows.
-use Rattle.std.specs.Prelude.{◌≡◌, ℕ, ◌<◌, ◌^◌, List, [], ◌∷◌, ◌++◌, codes, map, if◌then◌else◌, MatchOption}
+use Rattle.std.specs.Prelude.{◌≡◌, ℕ, ◌<◌, Bool, false, not, ◌&&◌, ◌||◌, ◌==◌, List, [], ◌∷◌, ◌++◌, length, take, codes, map, slice_index, if◌then◌else◌}
+use Rattle.std.specs.Char.{is_ascii_digit}
+use Rattle.std.specs.List.{list_all}
 use Rattle.std.specs.declared.option.Option.{Option}
 use Rattle.std.specs.declared.option.Option.TheVariants.{None, Some}
 use Rattle.std.specs.Str.{bytes_eq}
-use Rattle.std.specs.Borrow.{Bor}
 use Rattle.cj_model.specs.declared.request.Request.{Request}
 use Rattle.cj_model.specs.declared.request.Request.TheVariants as request
 use Rattle.cj_model.specs.declared.select.Select.{Select}
 use Rattle.cj_model.specs.declared.moves.Move.{Move}
 use Rattle.cj_model.specs.declared.moves.Move.TheVariants as move
-use Rattle.cj_model.specs.Scripts.{IsWord, IsUser, IsNumber, IsBackend, IsPlainSql, IsWrite, MoveLine}
+use Rattle.cj_model.specs.Words.{is_nothing}
+use Rattle.cj_model.specs.Scripts.{IsWord, IsUser, IsNumber, IsBackend, IsPlainSql, IsWrite}
 use Rattle.cj_script.specs.declared.verb.Verb.{Verb}
 use Rattle.cj_script.specs.declared.verb.Verb.TheVariants.{Open, Close, Write, Apply, End, Read, Arm, Disable, Replay, Enable}
 use Rattle.cj_script.specs.declared.verb.TheConstants.{VERBS}
 
--- one of the values, and no other, is as the fact says; or none is
+-- one value, and no other, is as the fact says; or none is
 abbrev pub Finds : {A : Type 0} → (A → Type 0) → Option A → Type 0
-Finds P None = (a : _) → P a → ⊥
-Finds P (Some x) = P x × ((a : _) → P a → a ≡ x)
+Finds {A} P None = (x : A) → P x → ⊥
+Finds {A} P (Some y) = P y × ((x : A) → P x → x ≡ y)
 
 -- ---- verbs
 
@@ -42,44 +44,91 @@ word_of Disable = codes "disable"
 word_of Replay = codes "replay"
 word_of Enable = codes "enable"
 
--- ---- cutting
+-- ---- words
 
 -- the first word of a line, and what follows the space behind it, where one is there
 abbrev pub Cuts : List ℕ → List ℕ → Option (List ℕ) → Type 0
 Cuts line word None = IsWord line × (word ≡ line)
 Cuts line word (Some rest) = IsWord word × (line ≡ word ++ 32 ∷ rest)
 
--- ---- what follows a verb
+-- the first space stands here
+pub record IsFirstSpace (bytes : List ℕ) (at : ℕ) : Type 0 where
+  pub within : at < length bytes
+  pub space : slice_index bytes at ≡ 32
+  pub word : IsWord (take at bytes)
+
+-- the first is no 0, unless it stands alone
+abbrev pub begins_number : List ℕ → Bool
+begins_number [] = false
+begins_number (b ∷ z) = not (b == 48) || is_nothing z
+
+-- digits that no number leaves out
+abbrev pub is_numeral : List ℕ → Bool
+is_numeral z = begins_number z && list_all is_ascii_digit z
 
 -- a number, a space and more
-abbrev pub IsNumbered : List ℕ → ℕ → List ℕ → Type 0
-IsNumbered rest n more = (number : List ℕ) × IsNumber number n × (rest ≡ number ++ 32 ∷ more)
+pub record IsNumbered (rest : List ℕ) (n : ℕ) (more : List ℕ) : Type 0 where
+  pub word : List ℕ
+  pub number : IsNumber word n
+  pub parts : rest ≡ word ++ 32 ∷ more
 
--- a session's number, a backend's name and a query
-pub record IsQuery (names : List (List ℕ)) (rest : List ℕ) (s b : ℕ) (select : Select) : Type 0 where
-  pub after : List ℕ
-  pub numbered : IsNumbered rest s after
-  pub name : List ℕ
-  pub sql : List ℕ
-  pub named : IsBackend names name b
-  pub parts : after ≡ name ++ 32 ∷ sql
-  pub reads : IsPlainSql sql (request.Select select)
+-- a backend's name, a space and more
+pub record IsNamed (names : List (List ℕ)) (rest : List ℕ) (b : ℕ) (more : List ℕ) : Type 0 where
+  pub word : List ℕ
+  pub backend : IsBackend names word b
+  pub parts : rest ≡ word ++ 32 ∷ more
+
+-- ---- what follows a verb
+
+abbrev pub Opens : List ℕ → Move → Type 0
+Opens rest m = IsUser rest × (m ≡ move.Open rest)
+
+abbrev pub Closes : List ℕ → Move → Type 0
+Closes rest m = (s : ℕ) × IsNumber rest s × (m ≡ move.Close s)
 
 -- a session's number and a write
-pub record IsScheduled (rest : List ℕ) (s : ℕ) (r : Request) : Type 0 where
+pub record Writes (rest : List ℕ) (m : Move) : Type 0 where
+  pub session : ℕ
   pub sql : List ℕ
-  pub numbered : IsNumbered rest s sql
-  pub reads : IsWrite sql r
+  pub numbered : IsNumbered rest session sql
+  pub request : Request
+  pub reads : IsWrite sql request
+  pub is : m ≡ move.Schedule session request
+
+-- a session's number, a backend's name and a query
+pub record Queries (names : List (List ℕ)) (rest : List ℕ) (m : Move) : Type 0 where
+  pub session : ℕ
+  pub more : List ℕ
+  pub numbered : IsNumbered rest session more
+  pub b : ℕ
+  pub sql : List ℕ
+  pub named : IsNamed names more b sql
+  pub select : Select
+  pub reads : IsPlainSql sql (request.Select select)
+  pub is : m ≡ move.Read session b select
+
+-- the query that a request is, if it is one
+abbrev pub IsQuery : Request → Option Select → Type 0
+IsQuery r None = (x : Select) → r ≡ request.Select x → ⊥
+IsQuery r (Some x) = r ≡ request.Select x
+
+-- a backend's name
+abbrev pub Names : List (List ℕ) → (ℕ → Move) → List ℕ → Move → Type 0
+Names names make rest m = (b : ℕ) × IsBackend names rest b × (m ≡ make b)
 
 -- behind this verb and a space these are the arguments of the move
 abbrev pub Arguments : List (List ℕ) → Verb → List ℕ → Move → Type 0
-Arguments names Open rest m = IsUser rest × (m ≡ move.Open rest)
-Arguments names Close rest m = (s : ℕ) × IsNumber rest s × (m ≡ move.Close s)
-Arguments names Write rest m = (s : ℕ) × (r : Request) × IsScheduled rest s r × (m ≡ move.Schedule s r)
-Arguments names Apply rest m = (b : ℕ) × IsBackend names rest b × (m ≡ move.Apply b)
+Arguments names Open rest m = Opens rest m
+Arguments names Close rest m = Closes rest m
+Arguments names Write rest m = Writes rest m
+Arguments names Apply rest m = Names names move.Apply rest m
 Arguments names End rest m = ⊥
-Arguments names Read rest m = (s : ℕ) × (b : ℕ) × (select : Select) × IsQuery names rest s b select × (m ≡ move.Read s b select)
-Arguments names Arm rest m = (b : ℕ) × IsBackend names rest b × (m ≡ move.Arm b)
-Arguments names Disable rest m = (b : ℕ) × IsBackend names rest b × (m ≡ move.Disable b)
-Arguments names Replay rest m = (b : ℕ) × IsBackend names rest b × (m ≡ move.Replay b)
-Arguments names Enable rest m = (b : ℕ) × IsBackend names rest b × (m ≡ move.Enable b)
+Arguments names Read rest m = Queries names rest m
+Arguments names Arm rest m = Names names move.Arm rest m
+Arguments names Disable rest m = Names names move.Disable rest m
+Arguments names Replay rest m = Names names move.Replay rest m
+Arguments names Enable rest m = Names names move.Enable rest m
+
+-- the move of a line that is one word
+abbrev pub IsLone : List ℕ → Move → Type 0
+IsLone word m = (word ≡ codes "end") × (m ≡ move.End)

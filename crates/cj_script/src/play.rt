@@ -6,13 +6,13 @@ ghost use Rattle.cj_outside.specs.Streams.{most, WritesAll};
 ghost use Rattle.cj_model.specs.declared.moves.MoveError.TheVariants as move_errors;
 ghost use Rattle.cj_model.specs.Moves.{MovesTo};
 ghost use Rattle.cj_model.specs.Runs.{CanCount, IsMove};
-ghost use Rattle.cj_model.specs.Scripts.{MoveLine, moved_lines};
-ghost use Rattle.cj_script.specs.Reading.{Finds};
+ghost use Rattle.cj_model.specs.Scripts.{moved_lines};
 ghost use Rattle.cj_script.specs.Script.{CameTo, given_of};
 ghost use Rattle.cj_script.specs.Steps.{HasEndCause, PlaysOrEnds, ReadsLine};
 ghost use Rattle.cj_script.specs.declared.play.ScriptEnd.TheVariants as ends;
 ghost use Rattle.std.specs.declared.result.Result.TheVariants.{Err};
 
+use crate::parse::parse_move;
 use crate::print::print_made;
 use cj_backend::Backend;
 use cj_core::World;
@@ -58,13 +58,6 @@ fn read_line<I: Source>(
         Err(LineError::Spent) => Err(ScriptEnd::Spent),
         Err(LineError::NoMemory) => Err(ScriptEnd::NoMemory),
     }
-}
-
-fn parse_move(alloc: Global, names: &Names, line: &[u8]) -> Result<Option<Move>, NoMemory>
-    requires { length names.now ≤ 32 }
-    ensures { IfOk result (Finds (MoveLine names.now line.now)) }
-{
-    Err(NoMemory)
 }
 
 /// Makes a move, or not where it can't be made now.

@@ -1,10 +1,10 @@
-use Rattle.std.proofs.Common.{◌≡◌, ◌≢◌, [], ap, arith, length}
+use Rattle.std.proofs.Common.{◌≡◌, ◌≢◌, [], rules}
 use Rattle.cj_script.proofs.Moving.{played_made}
 use Rattle.cj_script.proofs.play.play_line.Goals as goal
 
 pub returns-in-Ok-write_made-clause-plays : goal.returns-in-Ok-write_made-clause-plays
 returns-in-Ok-write_made-clause-plays g c =
     let held = g.O.Sink.held in
-    let some : c.args.line.now ≢ [] = ? in
+    let some : c.args.line.now ≢ [] = search rules in
     played_made g.B.Backend.TELLS c.args.names.now (held c.args.output.now) (held c.write_made.new.output) c.args.world.now.core c.args.line.now c.in-Ok-Some.m c.in-Ok.made
-    c.make_move.new.world.core some ? ? ?
+    c.make_move.new.world.core some c.in-Ok-Some.ensures.0 c.in-Ok.ensures c.in-Ok-write_made.ensures.bytes

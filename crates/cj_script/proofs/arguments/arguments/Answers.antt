@@ -1,0 +1,6 @@
+use Rattle.std.proofs.Common.{sym, subst}
+use Rattle.cj_script.specs.Reading.{Finds, Arguments}
+use Rattle.cj_script.proofs.arguments.arguments.Goals as goal
+
+pub returns-in-Close : goal.returns-in-Close
+returns-in-Close c = subst (λ v. Finds (Arguments c.args.names.now v c.args.rest.now) c.close.result) (sym c.in-Close.is) c.close.ensures

@@ -1,0 +1,14 @@
+use Rattle.std.proofs.Common.{◌∙◌, sym}
+use Rattle.cj_script.proofs.MoveLines.{read_behind, no_verb}
+use Rattle.cj_script.proofs.parse.parse_move.Goals as goal
+
+pub returns-in-Some : goal.returns-in-Some
+returns-in-Some c =
+    let cuts = rw c.in_default-Some.is-1 at c.cut.ensures in
+    read_behind c.args.names.now c.args.line.now _ c.in_default-Some.rest.now c.in-Some.verb c.arguments.result cuts (sym c.verb_of.ensures ∙ c.in-Some.is)
+    (rw c.in_default-Some.rest-is at c.arguments.ensures)
+
+pub returns-in-None : goal.returns-in-None
+returns-in-None c =
+    let cuts = rw c.in_default-Some.is-1 at c.cut.ensures in
+    no_verb c.args.names.now c.args.line.now _ c.in_default-Some.rest.now cuts (sym c.verb_of.ensures ∙ c.in-None.is)

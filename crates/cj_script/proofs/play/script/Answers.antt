@@ -1,0 +1,54 @@
+use Rattle.std.proofs.Common.{◌≡◌, ◌≤◌, sym, ap, ◌∙◌, refl, length, arith}
+use Rattle.cj_model.specs.Placements.{Placement}
+use Rattle.cj_script.proofs.Moving.{counting_start, counting_line, counting_played, played_backends}
+use Rattle.cj_script.proofs.Playing.{playing_none, read_end, play_end, text_came, line_played}
+use Rattle.cj_script.proofs.play.script.Goals as goal
+
+pub loop-line-init : goal.loop-line-init
+loop-line-init g c =
+    let none = ap (λ r. r.rest) c.new-lines.ensures in
+    let zero = ap (λ r. r.taken) c.new-lines.ensures in
+    record {
+      playing =
+          playing_none g.B.Backend.TELLS c.args.names.now (g.I.Source.left c.args.input.now) (g.O.Sink.held c.args.output.now) c.args.world.now.core c.new-lines.result.rest c.new-lines.result.taken none
+          zero;
+      few = omega (arith, zero);
+      numbers = omega (arith, zero, ap length none);
+      counting = counting_start c.new-lines.result.rest c.new-lines.result.taken c.args.world.now.core none zero c.requires.count;
+      backends = c.requires.names;
+      input = omega arith;
+      output = omega arith;
+    }
+
+pub returns-in-Err-clause-came : goal.returns-in-Err-clause-came
+returns-in-Err-clause-came g c =
+    let left = g.I.Source.left in
+    let held = g.O.Sink.held in
+    read_end g.B.Backend.TELLS c.args.names.now (left c.args.input.now) (left c.loop-line.input) (left c.read_line.new.input) (held c.args.output.now) (held c.loop-line.output)
+    c.args.world.now.core c.loop-line.lines c.read_line.new.lines c.loop-line.number (c.loop-line.number + 1) c.loop-line.world.core c.in-Err.end c.loop-line.invariant.playing refl c.in-Err.ensures.bytes
+
+pub play_line-requires-count : goal.play_line-requires-count
+play_line-requires-count g c =
+    let left = g.I.Source.left in
+    let held = g.O.Sink.held in
+    let came =
+        text_came g.B.Backend.TELLS c.args.names.now (left c.args.input.now) (left c.loop-line.input) (left c.read_line.new.input) (held c.args.output.now) (held c.loop-line.output)
+        c.args.world.now.core c.loop-line.lines c.read_line.new.lines c.loop-line.number (c.loop-line.number + 1) c.loop-line.world.core c.in-Ok.line c.loop-line.invariant.playing c.in-Ok.ensures.bytes
+    in
+    ?
+
+pub returns-in-Err-play_line-clause-came : goal.returns-in-Err-play_line-clause-came
+returns-in-Err-play_line-clause-came g c =
+    let left = g.I.Source.left in
+    let held = g.O.Sink.held in
+    let came =
+        text_came g.B.Backend.TELLS c.args.names.now (left c.args.input.now) (left c.loop-line.input) (left c.read_line.new.input) (held c.args.output.now) (held c.loop-line.output)
+        c.args.world.now.core c.loop-line.lines c.read_line.new.lines c.loop-line.number (c.loop-line.number + 1) c.loop-line.world.core c.in-Ok.line c.loop-line.invariant.playing c.in-Ok.ensures.bytes
+    in
+    ?
+
+pub loop-line-smaller : goal.loop-line-smaller
+loop-line-smaller g c = ?
+
+pub loop-line-preserved : goal.loop-line-preserved
+loop-line-preserved g c = ?

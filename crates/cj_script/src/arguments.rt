@@ -1,0 +1,156 @@
+//! What follows the first word of a line.
+
+ghost use Rattle.std.specs.Prelude.{◌≡◌, ◌≤◌, ◌<◌, ◌↔◌, length, is_none, IfOk, IsTrue};
+ghost use Rattle.cj_model.specs.Plain.{act_of};
+ghost use Rattle.cj_model.specs.Scripts.{IsPlainSql, IsUser, IsWrite};
+ghost use Rattle.cj_script.specs.Reading.{Arguments, Closes, Finds, IsQuery, Opens, Queries, Writes};
+
+use crate::plain::is_plain;
+use crate::verb::Verb;
+use crate::words::{MOST_BACKENDS, backend, is_word, named, number, numbered};
+use cj_model::{Move, Names, NoMemory, Request, Select, Text};
+use cj_sql::{SqlError, read};
+use std::alloc::Global;
+
+/// The most bytes of a user's name.
+const USER_LIMIT: usize = 64;
+
+fn is_short(word: &[u8]) -> bool
+    ensures { IsTrue result ↔ ((0 < length word.now) × (length word.now ≤ 64)) }
+{
+    !word.is_empty() && word.len() <= USER_LIMIT
+}
+
+/// "open USER"
+fn open(alloc: Global, rest: &[u8]) -> Result<Option<Move>, NoMemory>
+    ensures { IfOk result (Finds (Opens rest.now)) }
+{
+    if !is_short(rest) || !is_word(rest) {
+        return Ok(None);
+    }
+    match Text::of(Vec::from_slice(alloc, rest)?) {
+        Some(user) => Ok(Some(Move::Open { user })),
+        None => Ok(None),
+    }
+}
+
+/// "close S"
+fn close(rest: &[u8]) -> Option<Move>
+    ensures { Finds (Closes rest.now) result }
+{
+    match number(rest) {
+        Some(session) => Some(Move::Close { session }),
+        None => None,
+    }
+}
+
+/// The request of a text, which may call neither the clock nor random numbers.
+fn plain_request(alloc: Global, sql: &[u8]) -> Result<Option<Request>, NoMemory>
+    ensures { IfOk result (Finds (IsPlainSql sql.now)) }
+{
+    match read(alloc, sql) {
+        Ok(request) => {
+            if is_plain(&request) {
+                Ok(Some(request))
+            } else {
+                Ok(None)
+            }
+        }
+        Err(SqlError::Syntax) => Ok(None),
+        Err(SqlError::NoMemory) => Err(NoMemory),
+    }
+}
+
+fn is_query(request: &Request) -> bool
+    ensures { result ≡ is_none (act_of request.now) }
+{
+    matches!(request, Request::Select(_))
+}
+
+fn plain_write(alloc: Global, sql: &[u8]) -> Result<Option<Request>, NoMemory>
+    ensures { IfOk result (Finds (IsWrite sql.now)) }
+{
+    match plain_request(alloc, sql)? {
+        Some(request) => {
+            if is_query(&request) {
+                Ok(None)
+            } else {
+                Ok(Some(request))
+            }
+        }
+        None => Ok(None),
+    }
+}
+
+/// "write S SQL"
+fn write(alloc: Global, rest: &[u8]) -> Result<Option<Move>, NoMemory>
+    ensures { IfOk result (Finds (Writes rest.now)) }
+{
+    let Some((session, sql)) = numbered(rest) else {
+        return Ok(None);
+    };
+    match plain_write(alloc, sql)? {
+        Some(request) => Ok(Some(Move::Schedule { session, request })),
+        None => Ok(None),
+    }
+}
+
+/// The query that a request is.
+fn as_query(request: Request) -> Option<Select>
+    ensures { IsQuery request result }
+{
+    match request {
+        Request::Select(select) => Some(select),
+        _ => None,
+    }
+}
+
+fn plain_query(alloc: Global, sql: &[u8]) -> Result<Option<Select>, NoMemory>
+    ensures { IfOk result (Finds (λ select. IsPlainSql sql.now (Request.Select select))) }
+{
+    match plain_request(alloc, sql)? {
+        Some(request) => Ok(as_query(request)),
+        None => Ok(None),
+    }
+}
+
+/// "read S B SQL"
+fn query(alloc: Global, names: &Names, rest: &[u8]) -> Result<Option<Move>, NoMemory>
+    requires { length names.now ≤ MOST_BACKENDS }
+    ensures { IfOk result (Finds (Queries names.now rest.now)) }
+{
+    let Some((session, more)) = numbered(rest) else {
+        return Ok(None);
+    };
+    let Some((b, sql)) = named(names, more) else {
+        return Ok(None);
+    };
+    match plain_query(alloc, sql)? {
+        Some(select) => Ok(Some(Move::Read { session, b, select })),
+        None => Ok(None),
+    }
+}
+
+/// What follows the word of the verb and a space, as a move.
+pub fn arguments(
+    alloc: Global,
+    names: &Names,
+    verb: Verb,
+    rest: &[u8],
+) -> Result<Option<Move>, NoMemory>
+    requires { length names.now ≤ MOST_BACKENDS }
+    ensures { IfOk result (Finds (Arguments names.now verb rest.now)) }
+{
+    match verb {
+        Verb::Open => open(alloc, rest),
+        Verb::Close => Ok(close(rest)),
+        Verb::Write => write(alloc, rest),
+        Verb::Apply => Ok(backend(names, rest).map(|b| Move::Apply { b })),
+        Verb::End => Ok(None),
+        Verb::Read => query(alloc, names, rest),
+        Verb::Arm => Ok(backend(names, rest).map(|b| Move::Arm { b })),
+        Verb::Disable => Ok(backend(names, rest).map(|b| Move::Disable { b })),
+        Verb::Replay => Ok(backend(names, rest).map(|b| Move::Replay { b })),
+        Verb::Enable => Ok(backend(names, rest).map(|b| Move::Enable { b })),
+    }
+}

@@ -1,0 +1,36 @@
+//! Lines as moves.
+
+ghost use Rattle.std.specs.Prelude.{◌≤◌, length, IfOk};
+ghost use Rattle.cj_model.specs.Scripts.{MoveLine};
+ghost use Rattle.cj_script.specs.Reading.{Finds, IsLone};
+
+use crate::arguments::arguments;
+use crate::verb::verb_of;
+use crate::words::{MOST_BACKENDS, cut};
+use cj_model::{Move, Names, NoMemory};
+use std::alloc::Global;
+
+/// The move of a line that is one word.
+fn lone(word: &[u8]) -> Option<Move>
+    ensures { Finds (IsLone word.now) result }
+{
+    if word == b"end".as_slice() {
+        Some(Move::End)
+    } else {
+        None
+    }
+}
+
+/// The move of a line, which is given without its LF; none exactly where it is no move's line. Backends go by their names.
+pub fn parse_move(alloc: Global, names: &Names, line: &[u8]) -> Result<Option<Move>, NoMemory>
+    requires { length names.now ≤ MOST_BACKENDS }
+    ensures { IfOk result (Finds (MoveLine names.now line.now)) }
+{
+    match cut(line) {
+        (word, Some(rest)) => match verb_of(word) {
+            Some(verb) => arguments(alloc, names, verb, rest),
+            None => Ok(None),
+        },
+        (word, None) => Ok(lone(word)),
+    }
+}

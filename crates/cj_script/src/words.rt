@@ -1,0 +1,134 @@
+//! Words of a line: what stands between spaces.
+
+ghost use Rattle.std.specs.Prelude.{◌≡◌, ◌↔◌, ◌≤◌, ℕ, List, length, position, IsTrue, MatchOption};
+ghost use Rattle.std.specs.Char.{is_ascii_digit};
+ghost use Rattle.std.specs.List.{list_all};
+ghost use Rattle.std.specs.Str.{bytes_eq};
+ghost use Rattle.std.specs.Option.{option_copied};
+ghost use Rattle.cj_model.specs.Scripts.{IsBackend, IsNumber, IsWord};
+ghost use Rattle.cj_script.specs.Reading.{Cuts, Finds, IsFirstSpace, IsNamed, IsNumbered};
+ghost use Rattle.cj_script.specs.Reading as spec;
+
+use cj_model::{Name, Names};
+
+/// The most backends that lines may name.
+pub const MOST_BACKENDS: usize = 32;
+
+/// The place of the first space.
+fn first_space(bytes: &[u8]) -> Option<usize>
+    ensures { MatchOption result (IsWord bytes.now) (λ at. IsFirstSpace bytes.now at) }
+{
+    for (i, b) in bytes.iter().enumerate() {
+        if *b == b' ' {
+            return Some(i);
+        }
+    }
+    None
+}
+
+/// Whether the bytes are without a space.
+pub fn is_word(bytes: &[u8]) -> bool
+    ensures { IsTrue result ↔ IsWord bytes.now }
+{
+    first_space(bytes).is_none()
+}
+
+/// The first word, and what follows the space behind it.
+pub fn cut(line: &[u8]) -> (&[u8], Option<&[u8]>)
+    ensures { Cuts line.now result.0.now (option_copied result.1) }
+{
+    match first_space(line) {
+        Some(at) => {
+            let (word, rest) = line.split_at(at);
+            let (_, rest) = rest.split_at(1);
+            (word, Some(rest))
+        }
+        None => (line, None),
+    }
+}
+
+fn begins_number(word: &[u8]) -> bool
+    ensures { result ≡ spec.begins_number word.now }
+{
+    match word {
+        [] => false,
+        [first, rest @ ..] => *first != b'0' || rest.is_empty(),
+    }
+}
+
+fn are_digits(word: &[u8]) -> bool
+    ensures { result ≡ list_all is_ascii_digit word.now }
+{
+    word.iter().all(|b| b.is_ascii_digit())
+}
+
+/// Whether the word is how a number is written.
+fn is_numeral(word: &[u8]) -> bool
+    ensures { result ≡ spec.is_numeral word.now }
+{
+    begins_number(word) && are_digits(word)
+}
+
+/// The number of a word.
+pub fn number(word: &[u8]) -> Option<u64>
+    ensures { Finds (IsNumber word.now) result }
+{
+    if !is_numeral(word) {
+        return None;
+    }
+    match std::str::from_utf8(word) {
+        Ok(text) => match text.parse::<u64>() {
+            Ok(number) => Some(number),
+            Err(_) => None,
+        },
+        Err(_) => None,
+    }
+}
+
+/// The number of the first word, and what follows it.
+pub fn numbered(rest: &[u8]) -> Option<(u64, &[u8])>
+    ensures { MatchOption result ((n : ℕ) → (more : List ℕ) → IsNumbered rest.now n more → ⊥) (λ found. IsNumbered rest.now found.0 found.1.now) }
+{
+    match cut(rest) {
+        (word, Some(more)) => match number(word) {
+            Some(number) => Some((number, more)),
+            None => None,
+        },
+        (_, None) => None,
+    }
+}
+
+/// The place of the first name that is the word.
+fn place_of(names: &[Name], word: &[u8]) -> Option<usize>
+    ensures { result ≡ position (bytes_eq word.now) names.now }
+{
+    names.iter().position(|name| word == name.as_slice())
+}
+
+/// The first backend of this name.
+pub fn backend(names: &Names, word: &[u8]) -> Option<u8>
+    requires { length names.now ≤ MOST_BACKENDS }
+    ensures { Finds (IsBackend names.now word.now) result }
+{
+    if !is_word(word) {
+        return None;
+    }
+    match place_of(names.as_slice(), word) {
+        Some(place) => Some(place as u8),
+        None => None,
+    }
+}
+
+/// The backend that the first word names, and what follows it.
+pub fn named<'a>(names: &Names, rest: &'a [u8]) -> Option<(u8, &'a [u8])>
+    requires { length names.now ≤ MOST_BACKENDS }
+    ensures { MatchOption result ((b : ℕ) → (more : List ℕ) → IsNamed names.now rest.now b more → ⊥) (λ found. IsNamed names.now rest.now found.0 found.1.now) }
+{
+    match cut(rest) {
+        (word, Some(more)) => match backend(names, word) {
+            Some(b) => Some((b, more)),
+            None => None,
+        },
+        (_, None) => None,
+    }
+}
