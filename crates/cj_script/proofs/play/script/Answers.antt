@@ -1,5 +1,6 @@
-use Rattle.std.proofs.Common.{◌≡◌, ◌≤◌, sym, ap, ◌∙◌, refl, length, arith}
+use Rattle.std.proofs.Common.{◌≡◌, ◌+◌, ◌≤◌, ℕ, List, Err, sym, ap, subst, ◌∙◌, refl, length, arith}
 use Rattle.cj_model.specs.Placements.{Placement}
+use Rattle.cj_script.specs.Steps.{PlaysOrEnds}
 use Rattle.cj_script.proofs.Moving.{counting_start, counting_line, counting_played, played_backends}
 use Rattle.cj_script.proofs.Playing.{playing_none, read_end, play_end, text_came, line_played}
 use Rattle.cj_script.proofs.play.script.Goals as goal
@@ -27,16 +28,6 @@ returns-in-Err-clause-came g c =
     read_end g.B.Backend.TELLS c.args.names.now (left c.args.input.now) (left c.loop-line.input) (left c.read_line.new.input) (held c.args.output.now) (held c.loop-line.output)
     c.args.world.now.core c.loop-line.lines c.read_line.new.lines c.loop-line.number (c.loop-line.number + 1) c.loop-line.world.core c.in-Err.end c.loop-line.invariant.playing refl c.in-Err.ensures.bytes
 
-pub play_line-requires-count : goal.play_line-requires-count
-play_line-requires-count g c =
-    let left = g.I.Source.left in
-    let held = g.O.Sink.held in
-    let came =
-        text_came g.B.Backend.TELLS c.args.names.now (left c.args.input.now) (left c.loop-line.input) (left c.read_line.new.input) (held c.args.output.now) (held c.loop-line.output)
-        c.args.world.now.core c.loop-line.lines c.read_line.new.lines c.loop-line.number (c.loop-line.number + 1) c.loop-line.world.core c.in-Ok.line c.loop-line.invariant.playing c.in-Ok.ensures.bytes
-    in
-    ?
-
 pub returns-in-Err-play_line-clause-came : goal.returns-in-Err-play_line-clause-came
 returns-in-Err-play_line-clause-came g c =
     let left = g.I.Source.left in
@@ -45,10 +36,43 @@ returns-in-Err-play_line-clause-came g c =
         text_came g.B.Backend.TELLS c.args.names.now (left c.args.input.now) (left c.loop-line.input) (left c.read_line.new.input) (held c.args.output.now) (held c.loop-line.output)
         c.args.world.now.core c.loop-line.lines c.read_line.new.lines c.loop-line.number (c.loop-line.number + 1) c.loop-line.world.core c.in-Ok.line c.loop-line.invariant.playing c.in-Ok.ensures.bytes
     in
-    ?
+    play_end g.B.Backend.TELLS c.args.names.now (left c.args.input.now) (left c.read_line.new.input) (held c.args.output.now) (held c.loop-line.output) (held c.play_line.new.output)
+    c.args.world.now.core c.in-Ok.line.items c.read_line.new.lines.rest c.read_line.new.lines.taken c.loop-line.number (c.loop-line.number + 1) c.loop-line.world.core c.play_line.new.world.core
+    c.in-Err-play_line.end came.at refl
+    (subst (λ (t : List ℕ). PlaysOrEnds g.B.Backend.TELLS c.args.names.now (held c.loop-line.output) (held c.play_line.new.output) c.loop-line.world.core t (c.loop-line.number + 1) (Err c.in-Err-play_line.end) c.play_line.new.world.core)
+    c.deref.ensures.value c.in-Err-play_line.ensures.plays)
 
 pub loop-line-smaller : goal.loop-line-smaller
-loop-line-smaller g c = ?
+loop-line-smaller g c =
+    let left = g.I.Source.left in
+    let held = g.O.Sink.held in
+    let came =
+        text_came g.B.Backend.TELLS c.args.names.now (left c.args.input.now) (left c.loop-line.input) (left c.read_line.new.input) (held c.args.output.now) (held c.loop-line.output)
+        c.args.world.now.core c.loop-line.lines c.read_line.new.lines c.loop-line.number (c.loop-line.number + 1) c.loop-line.world.core c.in-Ok.line c.loop-line.invariant.playing c.in-Ok.ensures.bytes
+    in
+    omega (arith, came.advances.some, c.in-Ok.ensures.few, c.loop-line.invariant.few)
 
 pub loop-line-preserved : goal.loop-line-preserved
-loop-line-preserved g c = ?
+loop-line-preserved g c =
+    let left = g.I.Source.left in
+    let held = g.O.Sink.held in
+    let came =
+        text_came g.B.Backend.TELLS c.args.names.now (left c.args.input.now) (left c.loop-line.input) (left c.read_line.new.input) (held c.args.output.now) (held c.loop-line.output)
+        c.args.world.now.core c.loop-line.lines c.read_line.new.lines c.loop-line.number (c.loop-line.number + 1) c.loop-line.world.core c.in-Ok.line c.loop-line.invariant.playing c.in-Ok.ensures.bytes
+    in
+    let plays = rw c.deref.ensures.value at c.in_default.ensures.plays in
+    record {
+      playing =
+          line_played g.B.Backend.TELLS c.args.names.now (left c.args.input.now) (left c.read_line.new.input) (held c.args.output.now) (held c.loop-line.output) (held c.play_line.new.output)
+          c.args.world.now.core c.in-Ok.line.items c.read_line.new.lines.rest c.read_line.new.lines.taken c.loop-line.number c.loop-line.world.core c.play_line.new.world.core came.at plays;
+      few = c.in-Ok.ensures.few;
+      numbers = omega (arith, c.loop-line.invariant.numbers, came.advances.some);
+      counting =
+          counting_played g.B.Backend.TELLS c.args.names.now (held c.loop-line.output) (held c.play_line.new.output) c.loop-line.lines c.read_line.new.lines c.in-Ok.line.items c.loop-line.world.core
+          c.play_line.new.world.core c.loop-line.invariant.counting came.advances c.in-Ok.ensures.few plays;
+      backends =
+          c.loop-line.invariant.backends
+          ∙ sym (ap (λ (p : Placement). p.backends) (played_backends g.B.Backend.TELLS c.args.names.now (held c.loop-line.output) (held c.play_line.new.output) c.loop-line.world.core c.in-Ok.line.items c.play_line.new.world.core plays));
+      input = omega (arith, c.loop-line.invariant.input, c.in-Ok.ensures.cause.later);
+      output = omega (arith, c.loop-line.invariant.output, c.play_line.ensures.cause.later);
+    }
