@@ -1,4 +1,6 @@
+pub mod Asking
 pub mod Catching
+pub mod Counted
 pub mod Ending
 pub mod Keeping
 pub mod Noting

@@ -5,17 +5,23 @@ use Rattle.std.specs.declared.option.Option.TheVariants.{None, Some}
 use Rattle.cj_model.specs.declared.request.Entry.{Entry}
 use Rattle.cj_model.specs.declared.answer.Refusal.{Refusal}
 use Rattle.cj_model.specs.declared.answer.Reply.{Reply}
+use Rattle.cj_model.specs.declared.answer.Asked.{Asked}
+use Rattle.cj_model.specs.declared.select.Select.{Select}
 use Rattle.cj_model.specs.declared.event.Event.{Event}
 use Rattle.cj_model.specs.declared.event.Event.TheVariants as event
 use Rattle.cj_model.specs.declared.codes.TheConstants.{UNFINISHED, STARVED_ALL}
 use Rattle.cj_model.specs.declared.moves.OpenSession.{OpenSession}
 use Rattle.cj_model.specs.Plain.{request_of}
-use Rattle.cj_model.specs.Histories.{log, done, free, opened, room}
+use Rattle.cj_model.specs.Asks.{ask}
+use Rattle.cj_model.specs.Histories.{log, done, free, opened, room, at}
 use Rattle.cj_model.specs.Answering.{Served, Unserved, AnswersEntry}
-use Rattle.cj_model.specs.Cores.{Core, fresh_session, with_session}
-use Rattle.cj_model.specs.Moves.{last_number, counted, answered_at, ended}
+use Rattle.cj_model.specs.Cores.{Core, position_at, session_at, fresh_session, with_session}
+use Rattle.cj_model.specs.Moves.{last_number, open_tx, counted, answered_at, ended}
 use Rattle.cj_book.specs.declared.error.BookError.{BookError}
 use Rattle.cj_book.specs.declared.error.BookError.TheVariants.{InProgress, NoBackend, HistoryFull, NoMemory}
+use Rattle.cj_backend.specs.Backends.{IsAsked}
+use Rattle.cj_replica.specs.declared.cell.CellReadError.{CellReadError}
+use Rattle.cj_replica.specs.declared.cell.CellReadError.TheVariants as errors
 use Rattle.cj_core.specs.Worlds.{WorldState}
 
 -- the world with another core
@@ -83,3 +89,12 @@ Refuses failed starved refusal =
 -- what the open entry is answered, where the backends tell
 abbrev pub AnswersOpen : Bool → Core → Reply → Type 0
 AnswersOpen tells c reply = tells ≡ true → (e : Entry) → opened c.history ≡ Some e → AnswersEntry c.placement c.history (ended c) (done c.history) e reply
+
+-- what backend b answered a session's query, or why it did not
+abbrev pub Asks : Bool → Core → ℕ → ℕ → Select → Result (Asked × ℕ) CellReadError → Type 0
+Asks tells c s b select (Ok (answer, p)) =
+    (position_at c b ≡ Some p) × ((session_at c s).least ≤ p) × (p ≤ last_number c) × IsAsked answer × (tells ≡ true → answer ≡ ask (at (log c.history) p) (open_tx c s) select)
+Asks tells c s b select (Err errors.Out) = position_at c b ≡ None
+Asks tells c s b select (Err (errors.Behind p)) = (position_at c b ≡ Some p) × (p < (session_at c s).least)
+Asks tells c s b select (Err errors.Failed) = Unit {0}
+Asks tells c s b select (Err errors.NoMemory) = Unit {0}

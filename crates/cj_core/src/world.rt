@@ -1,6 +1,6 @@
 //! A world, and the parts of its moves: each a change of its state that keeps it whole.
 
-ghost use Rattle.std.specs.Prelude.{◌≡◌, ◌↔◌, ℕ, ◌+◌, ◌<◌, ◌≤◌, ◌^◌, ◌==◌, true, false, not, [], ◌∷◌, ◌++◌, length, filter, is_some, IsNone, IfSome, IfOk, OnOk, OnErr, Some, None};
+ghost use Rattle.std.specs.Prelude.{◌≡◌, ◌↔◌, ℕ, ◌+◌, ◌<◌, ◌≤◌, ◌^◌, ◌==◌, true, false, not, [], ◌∷◌, ◌++◌, length, filter, is_some, IsNone, IfSome, IfOk, OnOk, OnErr, Some, None, Ok, Err};
 ghost use Rattle.std.specs.Option.{option_map};
 ghost use Rattle.cj_model.specs.declared.request.Entry.{Entry};
 ghost use Rattle.cj_model.specs.Histories as histories;
@@ -12,15 +12,17 @@ ghost use Rattle.cj_model.specs.Moves as moves;
 ghost use Rattle.cj_model.specs.Moves.{Applies, Replays, next_entry, not_now, ended, with_read, with_counted, counted, answered_at, was_answered, still_reading};
 ghost use Rattle.cj_model.specs.Sound.{IsLone};
 ghost use Rattle.cj_core.specs.Worlds.{IsWorld};
-ghost use Rattle.cj_core.specs.Effects.{AnswersOpen, Refuses, with_core, happened, opened_for, closed_for, scheduled_as, ended_for, SchedulesAs, HadRoom};
+ghost use Rattle.cj_core.specs.Counting.{Counts};
+ghost use Rattle.cj_core.specs.Effects.{AnswersOpen, Asks, Refuses, with_core, happened, opened_for, closed_for, scheduled_as, ended_for, SchedulesAs, HadRoom};
 
 
+use crate::cells::{failed_after, heard_after, starved_after, take};
 use crate::sessions::Sessions;
 use cj_backend::Backend;
 use cj_book::{Book, BookError};
-use cj_replica::Cell;
+use cj_replica::{Cell, CellReadError};
 use cj_model::{
-    Entry, Event, HISTORY_FULL, NoMemory, Outcome, Refusal, Reply, SESSIONS_FULL, STARVED_ALL, Select,
+    Asked, Did, Entry, Event, Move, Moved, HISTORY_FULL, NoMemory, Outcome, Refusal, Reply, SESSIONS_FULL, STARVED_ALL, Select,
     Text, UNFINISHED,
 };
 use std::alloc::Global;
@@ -168,6 +170,16 @@ impl<B: Backend> World<B> {
         match self.sessions.get(s) {
             Some(session) => session.reading.is_some(),
             None => false,
+        }
+    }
+
+    /// The position that the session's reads need at least.
+    fn least(&self, s: u64) -> u64
+        ensures { result ≡ (session_at self.now.core s).least }
+    {
+        match self.sessions.get(s) {
+            Some(session) => session.least,
+            None => 0,
         }
     }
 
@@ -335,6 +347,48 @@ impl<B: Backend> World<B> {
         self.failed = 0;
         self.starved = 0;
         self.heard = None;
+    }
+
+    /// The backend takes the open entry.
+    pub(crate) fn take_open(&mut self, b: u8) -> Did
+        requires within { b < self.old.core.placement.backends }
+        requires now { not_now self.old.core (Move.Apply b) ≡ None }
+        ensures applies { Applies B.TELLS self.old.core b (Ok (Moved.Applied b result)) self.new.core }
+        ensures counts { Counts self.old self.new b (result ≡ Did.Failed) }
+    {
+        let did = take(&self.book, &mut self.cells, &self.login, b);
+        self.failed = failed_after(self.failed, b, did);
+        self.starved = starved_after(self.starved, b, did);
+        self.heard = heard_after(self.heard, did);
+        did
+    }
+
+    /// A backend that isn't enabled takes the log's next entry.
+    pub(crate) fn take_next(&mut self, b: u8) -> Did
+        requires within { b < self.old.core.placement.backends }
+        requires now { not_now self.old.core (Move.Replay b) ≡ None }
+        ensures replays { Replays B.TELLS self.old.core b (Ok (Moved.Replayed (moves.place (position_at self.old.core b) + 1) result)) self.new.core }
+        ensures counts { Counts self.old self.new b (result ≡ Did.Failed) }
+    {
+        take(&self.book, &mut self.cells, &self.login, b)
+    }
+
+    /// Asks the backend for a session.
+    pub(crate) fn ask(&mut self, s: u64, b: u8, select: &Select) -> Result<(Asked, u64), CellReadError>
+        requires { b < self.old.core.placement.backends }
+        ensures core { self.new.core ≡ self.old.core }
+        ensures asks { Asks B.TELLS self.old.core s b select.now result }
+        ensures counts { Counts self.old self.new b (result ≡ Err CellReadError.Failed) }
+    {
+        let least = self.least(s);
+        self.cells[b as usize].read(&self.login, 0, select, least)
+    }
+
+    pub(crate) fn arm_backend(&mut self, b: u8)
+        requires { b < self.old.core.placement.backends }
+        ensures { self.new ≡ self.old }
+    {
+        self.cells[b as usize].arm();
     }
 
     pub(crate) fn switch_off(&mut self, b: u8) -> Result<(), BookError>
