@@ -145,7 +145,7 @@ module _ (tells : Bool) (n : ℕ) (h : List Event) (cells : List CellState) (b :
 -- ---- who can take one
 
 -- no more entries than events
-log_length : (h : List Event) → length (log h) ≤ length h
+pub log_length : (h : List Event) → length (log h) ≤ length h
 log_length [] = omega arith
 log_length (Sched e ∷ h) = let le = log_length h in omega arith
 log_length (Ended f s ∷ h) = let le = log_length h in omega arith

@@ -4,5 +4,8 @@ pub mod Counted
 pub mod Ending
 pub mod Keeping
 pub mod Noting
+pub mod Reading
+pub mod Scheduling
 pub mod Seats
+pub mod Serving
 pub mod Taking

@@ -2,6 +2,8 @@
 use Rattle.std.specs.Prelude.{◌≡◌, ◌≢◌, ◌⊎◌, ℕ, ◌+◌, ◌<◌, ◌≤◌, ◌^◌, Bool, true, false, List, [], ◌∷◌, ◌++◌, length, filter, not, ◌==◌, Result, Ok, Err}
 use Rattle.std.specs.declared.option.Option.{Option}
 use Rattle.std.specs.declared.option.Option.TheVariants.{None, Some}
+use Rattle.cj_model.specs.declared.request.Act.{Act}
+use Rattle.cj_model.specs.declared.request.Act.TheVariants as act
 use Rattle.cj_model.specs.declared.request.Entry.{Entry}
 use Rattle.cj_model.specs.declared.answer.Refusal.{Refusal}
 use Rattle.cj_model.specs.declared.answer.Reply.{Reply}
@@ -10,10 +12,11 @@ use Rattle.cj_model.specs.declared.select.Select.{Select}
 use Rattle.cj_model.specs.declared.event.Event.{Event}
 use Rattle.cj_model.specs.declared.event.Event.TheVariants as event
 use Rattle.cj_model.specs.declared.codes.TheConstants.{UNFINISHED, STARVED_ALL}
+use Rattle.cj_model.specs.declared.moves.OpenRead.{OpenRead}
 use Rattle.cj_model.specs.declared.moves.OpenSession.{OpenSession}
 use Rattle.cj_model.specs.Plain.{request_of}
 use Rattle.cj_model.specs.Asks.{ask}
-use Rattle.cj_model.specs.Histories.{log, done, free, opened, room, at}
+use Rattle.cj_model.specs.Histories.{has, log, done, free, opened, room, at}
 use Rattle.cj_model.specs.Answering.{Served, Unserved, AnswersEntry}
 use Rattle.cj_model.specs.Cores.{Core, position_at, session_at, fresh_session, with_session}
 use Rattle.cj_model.specs.Moves.{last_number, open_tx, counted, answered_at, ended}
@@ -65,6 +68,15 @@ ended_for c s =
       greatest = c.greatest;
     }
 
+-- an act that is scheduled outside transactions
+abbrev pub IsChange : Act → Type 0
+IsChange act.Begin = ⊥
+IsChange (act.Write w) = Unit {0}
+IsChange (act.Create c) = Unit {0}
+IsChange (act.Drop table) = Unit {0}
+IsChange act.Commit = ⊥
+IsChange act.Abort = ⊥
+
 -- whether the entry was scheduled, or why not
 abbrev pub SchedulesAs : Core → Entry → Result ℕ BookError → Type 0
 SchedulesAs c e (Ok n) = (n ≡ last_number c + 1) × Served c.placement c.history (request_of e.act) × (3 ≤ room c.history)
@@ -98,3 +110,15 @@ Asks tells c s b select (Err errors.Out) = position_at c b ≡ None
 Asks tells c s b select (Err (errors.Behind p)) = (position_at c b ≡ Some p) × (p < (session_at c s).least)
 Asks tells c s b select (Err errors.Failed) = Unit {0}
 Asks tells c s b select (Err errors.NoMemory) = Unit {0}
+
+-- the mask has each backend that another has
+abbrev pub Covers : ℕ → ℕ → Type 0
+Covers mask other = (b : ℕ) → has other b ≡ true → has mask b ≡ true
+
+-- no read is open but of this query
+abbrev pub IsReadOf : Option OpenRead → Select → Type 0
+IsReadOf reading select = (r : OpenRead) → reading ≡ Some r → r.select ≡ select
+
+-- a read of another query is open
+abbrev pub IsReadOther : Option OpenRead → Select → Type 0
+IsReadOther reading select = (r : OpenRead) × (reading ≡ Some r) × (r.select ≢ select)

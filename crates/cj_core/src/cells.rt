@@ -1,8 +1,10 @@
 //! Cells by the numbers of their backends.
 
-ghost use Rattle.std.specs.Prelude.{◌≡◌, ◌<◌};
+ghost use Rattle.std.specs.Prelude.{◌≡◌, ◌↔◌, ◌<◌, IsTrue};
 ghost use Rattle.cj_core.specs.Taking.{CanTake, Took};
 ghost use Rattle.cj_core.specs.Taking as taking;
+ghost use Rattle.cj_core.specs.Effects.{Covers};
+ghost use Rattle.cj_model.specs.Cores as cores;
 ghost use Rattle.cj_model.specs.Moves as moves;
 
 use cj_backend::Backend;
@@ -21,13 +23,28 @@ fn did_of(caught: Result<Caught, CellError>) -> Did
     }
 }
 
+/// The mask with backend `b`.
+pub fn with_bit(mask: u32, b: u8) -> u32
+    requires { b < 32 }
+    ensures { result ≡ cores.with_bit mask b }
+{
+    mask | (1 << b)
+}
+
+/// Whether the mask has each backend that another has.
+pub fn covers(mask: u32, other: u32) -> bool
+    ensures { IsTrue result ↔ Covers mask other }
+{
+    other & !mask == 0
+}
+
 /// The mask of those that failed in the open entry, after a backend took it.
 pub fn failed_after(mask: u32, b: u8, did: Did) -> u32
     requires { b < 32 }
     ensures { result ≡ moves.failed_after mask b did }
 {
     match did {
-        Did::Failed => mask | (1 << b),
+        Did::Failed => with_bit(mask, b),
         Did::Done(_) | Did::Skipped | Did::Starved => mask,
     }
 }
@@ -38,7 +55,7 @@ pub fn starved_after(mask: u32, b: u8, did: Did) -> u32
     ensures { result ≡ moves.starved_after mask b did }
 {
     match did {
-        Did::Starved => mask | (1 << b),
+        Did::Starved => with_bit(mask, b),
         Did::Done(_) | Did::Skipped | Did::Failed => mask,
     }
 }

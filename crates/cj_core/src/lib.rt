@@ -3,5 +3,7 @@
 #![tactic(auto)]
 
 mod cells;
+mod movers;
+mod reasons;
 mod sessions;
 mod world;
