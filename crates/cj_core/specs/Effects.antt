@@ -8,6 +8,9 @@ use Rattle.cj_model.specs.declared.request.Entry.{Entry}
 use Rattle.cj_model.specs.declared.answer.Refusal.{Refusal}
 use Rattle.cj_model.specs.declared.answer.Reply.{Reply}
 use Rattle.cj_model.specs.declared.answer.Asked.{Asked}
+use Rattle.cj_model.specs.declared.answer.Asked.TheVariants as asked
+use Rattle.cj_model.specs.declared.moves.Moved.{Moved}
+use Rattle.cj_model.specs.declared.moves.Moved.TheVariants as moved
 use Rattle.cj_model.specs.declared.select.Select.{Select}
 use Rattle.cj_model.specs.declared.event.Event.{Event}
 use Rattle.cj_model.specs.declared.event.Event.TheVariants as event
@@ -122,3 +125,8 @@ IsReadOf reading select = (r : OpenRead) → reading ≡ Some r → r.select ≡
 -- a read of another query is open
 abbrev pub IsReadOther : Option OpenRead → Select → Type 0
 IsReadOther reading select = (r : OpenRead) × (reading ≡ Some r) × (r.select ≢ select)
+
+-- a backend's answer, as what a move gave
+abbrev pub answer_given : Asked → Moved
+answer_given (asked.Rows a) = moved.Rows a
+answer_given (asked.Refused r) = moved.Refused r

@@ -7,13 +7,14 @@ ghost use Rattle.cj_model.specs.Plain as plain;
 ghost use Rattle.cj_model.specs.Legality.{IsWritten, user_limit};
 ghost use Rattle.cj_model.specs.Cores.{session_at};
 ghost use Rattle.cj_model.specs.Moves as moves;
-ghost use Rattle.cj_model.specs.Moves.{Opens, Closes, Schedules, Applies, Ends, Reads, ReadsOrWaits, Arms, Disables, Replays, Enables, MovesTo, not_now};
+ghost use Rattle.cj_model.specs.Moves.{Opens, Closes, Schedules, Applies, Ends, Reads, ReadsOrWaits, Arms, Disables, Replays, Enables, MovesTo, not_now, with_read, answered_at, was_answered, still_reading};
 ghost use Rattle.cj_model.specs.Answering.{ServesAt};
 ghost use Rattle.cj_model.specs.Runs.{IsLoneWrite};
 ghost use Rattle.cj_core.specs.Counting.{HasCauses};
-ghost use Rattle.cj_core.specs.Effects.{IsChange};
+ghost use Rattle.cj_core.specs.Effects.{IsChange, answer_given, with_core};
 ghost use Rattle.cj_core.specs.Steps.{IsMet};
 
+use crate::cells::covers;
 use crate::world::World;
 use cj_backend::Backend;
 use cj_book::BookError;
@@ -123,6 +124,104 @@ impl<B: Backend> World<B> {
         Moved::Replied { session, reply }
     }
 
+    /// One attempt of the session's read.
+    fn read(&mut self, s: u64, b: u8, select: Select) -> Result<Moved, MoveError>
+        requires within { b < self.old.core.placement.backends }
+        requires counts { (session_at self.old.core s).queries < 2 ^ 62 }
+        ensures moves { ReadsOrWaits B.TELLS self.old.core s b select result self.new.core }
+        ensures causes { HasCauses self.old self.new (Move.Read s b select) result }
+    {
+        if self.reads_other(s, &select) {
+            return Err(MoveError::NotNow(Why {
+                number: 10,
+                value: s,
+            }));
+        }
+        if self.serving(&select) == 0 {
+            self.refuse_read(s);
+            return Ok(Moved::Refused(bare(NO_BACKEND)));
+        }
+        if !self.serves(b, &select) {
+            return Err(MoveError::NotNow(Why {
+                number: 11,
+                value: b as u64,
+            }));
+        }
+        match self.ask(s, b, &select) {
+            Ok((answer, position)) => Ok(self.answer(s, position, answer)),
+            Err(CellReadError::Failed) => self.fail_read(s, b, select),
+            Err(CellReadError::NoMemory) => Err(MoveError::NoMemory),
+            Err(CellReadError::Out) => {
+                self.wait(s, select);
+                Ok(Moved::Out)
+            }
+            Err(CellReadError::Behind(position)) => {
+                self.wait(s, select);
+                Ok(Moved::Behind(position))
+            }
+        }
+    }
+
+    /// The session's read stays open as it is.
+    fn wait(&mut self, s: u64, select: Select)
+        requires { (session_at self.old.core s).queries < 2 ^ 62 }
+        ensures { self.new ≡ with_core self.old (with_read self.old.core s (still_reading select (moves.tried_of (session_at self.old.core s).reading))) }
+    {
+        let tried = self.tried(s);
+        self.keep_reading(s, select, tried);
+    }
+
+    /// The session's read is answered at a position.
+    fn answer(&mut self, s: u64, position: u64, answer: Asked) -> Moved
+        requires counts { (session_at self.old.core s).queries < 2 ^ 62 }
+        requires within { position ≤ moves.last_number self.old.core }
+        ensures moved { result ≡ answer_given answer }
+        ensures ok { self.new ≡ with_core self.old (with_read self.old.core s (λ x. answered_at position (was_answered x))) }
+    {
+        self.answer_read(s, position);
+        match answer {
+            Asked::Rows(rows) => Moved::Rows(rows),
+            Asked::Refused(refusal) => Moved::Refused(refusal),
+        }
+    }
+
+    /// The backend failed in the session's read.
+    fn fail_read(&mut self, s: u64, b: u8, select: Select) -> Result<Moved, MoveError>
+        requires within { b < self.old.core.placement.backends }
+        requires counts { (session_at self.old.core s).queries < 2 ^ 62 }
+        requires serves { ServesAt self.old.core.placement self.old.core.history (requests.Select select) b }
+        ensures moves { Reads B.TELLS self.old.core s b select result self.new.core }
+        ensures cells { self.new.cells ≡ self.old.cells }
+    {
+        let number = self.read_number(s);
+        let tried = self.tried_with(s, b);
+        let serving = self.serving(&select);
+        match self.blame(s, number, b) {
+            Ok(()) if covers(tried, serving) => {
+                self.refuse_read(s);
+                Ok(Moved::Refused(Refusal {
+                    code: READ_FAULT,
+                    a: serving as u64,
+                    b: 0,
+                }))
+            }
+            Ok(()) => {
+                self.keep_reading(s, select, tried);
+                Ok(Moved::Failed)
+            }
+            Err(BookError::HistoryFull(events)) => {
+                self.refuse_read(s);
+                Ok(Moved::Refused(Refusal {
+                    code: HISTORY_FULL,
+                    a: events,
+                    b: 0,
+                }))
+            }
+            Err(BookError::NoMemory) => Err(MoveError::NoMemory),
+            Err(BookError::InProgress(_)) | Err(BookError::NoBackend) => unreachable!(),
+        }
+    }
+
     fn arm(&mut self, b: u8) -> Moved
         requires { b < self.old.core.placement.backends }
         ensures moves { Arms self.old.core (Ok result) self.new.core }
@@ -168,6 +267,30 @@ impl<B: Backend> World<B> {
             Err(BookError::HistoryFull(_)) => Ok(Moved::Refused(self.history_full())),
             Err(BookError::NoMemory) => Err(MoveError::NoMemory),
             Err(BookError::InProgress(_)) | Err(BookError::NoBackend) => unreachable!(),
+        }
+    }
+
+    /// Makes a move, or says why it can't be made now. Want of memory changes nothing; where it is
+    /// the backend's that takes an entry, the move says so and the backend is out.
+    pub fn step(&mut self, m: Move) -> Result<Moved, MoveError>
+        requires { IsMet self.old.core m }
+        ensures moves { MovesTo B.TELLS self.old.core m result self.new.core }
+        ensures causes { HasCauses self.old self.new m result }
+    {
+        if let Some(why) = self.not_now(&m) {
+            return Err(MoveError::NotNow(why));
+        }
+        match m {
+            Move::Open { user } => self.open(user),
+            Move::Close { session } => Ok(self.close(session)),
+            Move::Schedule { session, request } => self.schedule(session, request),
+            Move::Apply { b } => Ok(self.apply(b)),
+            Move::End => Ok(self.end()),
+            Move::Read { session, b, select } => self.read(session, b, select),
+            Move::Arm { b } => Ok(self.arm(b)),
+            Move::Disable { b } => self.disable(b),
+            Move::Replay { b } => Ok(self.replay(b)),
+            Move::Enable { b } => self.enable(b),
         }
     }
 }
