@@ -1,8 +1,8 @@
 -- What a cell that takes its next entry makes of the cells.
-use Rattle.std.proofs.Common.{◌≡◌, ℕ, zero, suc, ◌+◌, ◌<◌, ◌≤◌, ◌^◌, not, Bool, true, false, List, [], ◌∷◌, ◌++◌, length, map, take, get_or, set, fold, slice_get, All, Option, None, Some, option_map, IfSome, Result, Ok, Err, refl, ap, sym, ◌∙◌, subst, arith}
+use Rattle.std.proofs.Common.{◌≡◌, ◌≢◌, ℕ, zero, suc, ◌+◌, ◌<◌, ◌≤◌, ◌^◌, not, Bool, true, false, List, [], ◌∷◌, ◌++◌, length, map, take, get_or, set, fold, slice_get, All, Option, None, Some, option_map, IfSome, Result, Ok, Err, refl, ap, sym, ◌∙◌, subst, arith}
 use Rattle.std.proofs.lemmas.Bool.{both_ways}
 use Rattle.std.proofs.lemmas.Grind.{fold-append}
-use Rattle.std.proofs.lemmas.List.{take_more, get_or_default}
+use Rattle.std.proofs.lemmas.List.{take_more, get_or_default, length-map}
 use Rattle.std.proofs.lemmas.List.Elements.{All-nil, All-cons}
 use Rattle.std.proofs.lemmas.Option.{slice_get_within, get_or_from_slice_get}
 use Rattle.cj_outside.specs.Causes.{Rose}
@@ -23,14 +23,16 @@ use Rattle.cj_model.specs.Legality.{Allowed, IsLegal, IsWritten}
 use Rattle.cj_model.specs.Cores.{position_at}
 use Rattle.cj_model.specs.Moves.{Takes, DoesEntry}
 use Rattle.cj_model.specs.Sound.{IsLone, Holds}
+use Rattle.cj_model.proofs.Effects.{is_there}
 use Rattle.cj_replica.specs.declared.cell.Caught.{Caught}
 use Rattle.cj_replica.specs.declared.cell.Caught.TheVariants as caught
 use Rattle.cj_replica.specs.declared.cell.CellError.{CellError}
 use Rattle.cj_replica.specs.declared.cell.CellError.TheVariants as errors
 use Rattle.cj_replica.specs.Cells.{CellState, HasCellCause, SaysOutcome, is_concerned, is_skipped, told_after, position_after}
-use Rattle.cj_core.specs.Worlds.{core_of, IsCell}
+use Rattle.cj_core.specs.Worlds.{core_of, world_of, IsCell}
+use Rattle.cj_core.specs.Kept.{Kept}
 use Rattle.cj_core.specs.Taking.{CanTake, Took, did_of}
-use Rattle.cj_core.proofs.Keeping.{position_of}
+use Rattle.cj_core.proofs.Keeping.{position_of, position_within}
 use Rattle.cj_core.proofs.Taking.{hosts_each, concerns_all}
 
 -- ---- what a backend holds
@@ -139,3 +141,38 @@ module _ (tells : Bool) (n : ℕ) (h : List Event) (cells : List CellState) (b :
         later = subst (λ (z : CellState). z.faults ≤ y.faults) (sym same_cell) cause.later;
         rose = λ is. subst (λ (z : CellState). Rose z.faults y.faults) (sym same_cell) (cause.failed (failed_of r is));
       }
+
+-- ---- who can take one
+
+-- no more entries than events
+pub log_length : (h : List Event) → length (log h) ≤ length h
+log_length [] = omega arith
+log_length (Sched e ∷ h) = let le = log_length h in omega arith
+log_length (Ended f s ∷ h) = let le = log_length h in omega arith
+log_length (ReadFailed s q b ∷ h) = let le = log_length h in omega arith
+log_length (LogFailed s q ∷ h) = let le = log_length h in omega arith
+log_length (Disabled b ∷ h) = let le = log_length h in omega arith
+log_length (Enabled b ∷ h) = let le = log_length h in omega arith
+log_length (Marker name b ∷ h) = let le = log_length h in omega arith
+
+-- a backend that stands below the log's end
+pub can_take : (tells : Bool) (n : ℕ) (h : List Event) (cells : List CellState) (f s : ℕ) (ss : List OpenSession) (g : ℕ) (heard : Option Outcome) → Kept tells (world_of n h cells f s ss g) heard
+    → (b p : ℕ) → position_at (core_of n h cells f s ss g) b ≡ Some p → p ≢ length (log h) → CanTake tells n h cells b
+can_take tells n h cells f s ss g heard kept b p there more =
+    let w = kept.world in
+    let within : b < length (map (λ (x : CellState). x.position) cells) = is_there (map (λ (x : CellState). x.position) cells) b p there in
+    let lt : b < length cells = rw length-map at within in
+    let le : p ≤ length (log h) = position_within (core_of n h cells f s ss g) w.sound b p there in
+    let fewer = log_length h in
+    let short = w.sound.legal.short in
+    record {
+      within = lt;
+      below = subst (λ (m : ℕ). b < m) w.sound.cells within;
+      is = λ d. w.cells b d lt;
+      p = p;
+      stands = λ d. sym (position_of cells b d lt) ∙ there;
+      more = omega arith;
+      short = omega arith;
+      written = all_written h w.sound.legal;
+      lone = w.sound.lone;
+    }

@@ -1,6 +1,11 @@
+pub mod Asking
 pub mod Catching
+pub mod Counted
 pub mod Ending
 pub mod Keeping
 pub mod Noting
+pub mod Reading
+pub mod Scheduling
 pub mod Seats
+pub mod Serving
 pub mod Taking

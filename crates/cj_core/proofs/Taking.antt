@@ -1,5 +1,5 @@
 -- What a world keeps where a backend takes an entry, and where a cell only counts.
-use Rattle.std.proofs.Common.{◌≡◌, ◌≢◌, ◌⊎◌, ℕ, ◌+◌, ◌<◌, ◌≤◌, Bool, true, false, List, length, map, take, get_or, set, slice_get, All, Option, None, Some, IsSome, refl, ap, sym, ◌∙◌, subst, arith, ⊎_elim}
+use Rattle.std.proofs.Common.{◌≡◌, ◌≢◌, ◌⊎◌, ℕ, ◌+◌, ◌<◌, ◌≤◌, Bool, true, false, List, length, map, take, get_or, set, slice_get, All, Option, None, Some, IsSome, Ok, refl, ap, sym, ◌∙◌, subst, arith, ⊎_elim}
 use Rattle.std.proofs.lemmas.Bool.{cases_eq, lt-ltb, both_ways}
 use Rattle.std.proofs.lemmas.List.{get_or-set_same, get_or-set_other, length-map, map-set, set-get_or}
 use Rattle.std.proofs.lemmas.Option.{slice_get_within, get_or_from_slice_get}
@@ -10,19 +10,22 @@ use Rattle.cj_model.specs.declared.answer.Outcome.{Outcome}
 use Rattle.cj_model.specs.declared.event.Event.{Event}
 use Rattle.cj_model.specs.declared.moves.Did.{Did}
 use Rattle.cj_model.specs.declared.moves.Did.TheVariants as did
+use Rattle.cj_model.specs.declared.moves.Moved.TheVariants as moved
 use Rattle.cj_model.specs.declared.moves.OpenSession.{OpenSession}
 use Rattle.cj_model.specs.Placements.{everywhere, hosts, concerns}
 use Rattle.cj_model.specs.Steps.{table_written}
 use Rattle.cj_model.specs.Histories.{log, done, free, enabled, said}
 use Rattle.cj_model.specs.Cores.{Core, position_at}
-use Rattle.cj_model.specs.Moves.{Takes, DoesEntry, failed_after, starved_after}
+use Rattle.cj_model.specs.Moves.{place, Takes, DoesEntry, Applies, Replays, failed_after, starved_after}
 use Rattle.cj_model.specs.Sound.{IsSound, IsLone}
 use Rattle.cj_model.proofs.Effects.{sound_applied, sound_replayed, stands_there, is_there}
 
 use Rattle.cj_replica.specs.Cells.{CellState}
 use Rattle.cj_core.specs.Worlds.{WorldState, core_of, world_of, IsCell, IsWorld}
 use Rattle.cj_core.specs.Taking.{Took, heard_after}
+use Rattle.cj_core.specs.Counting.{Counts}
 use Rattle.cj_core.specs.Kept.{Kept}
+use Rattle.cj_core.proofs.Counted.{counts_in}
 use Rattle.cj_core.proofs.Keeping.{cells_set}
 
 -- a backend hosts every table
@@ -148,3 +151,26 @@ module _ (tells : Bool) (n : ℕ) (h : List Event) (cells : List CellState) (f s
             (λ (e : k ≡ b). absurd (both_ways (enabled h b) off (subst (λ (x : ℕ). enabled h x ≡ true) e now_on)))
             (λ (ne : k ≡ b → ⊥). kept.whole fr k now_on (sym (place_other k ne) ∙ there)) (cases_eq k b);
       }
+
+  -- what the move gives and leaves
+  core_now : (f' s' : ℕ) → core_of n h now f' s' ss g ≡ record (core_of n h cells f s ss g) { positions = set (map (λ (x : CellState). x.position) cells) b took.cell.position; failed = f'; starved = s' }
+  core_now f' s' = ap (λ (ps : List (Option ℕ)). record (core_of n h cells f s ss g) { positions = ps; failed = f'; starved = s' }) places
+
+  pub applies : (f' s' : ℕ) → f' ≡ failed_after f b d → s' ≡ starved_after s b d → Applies tells (core_of n h cells f s ss g) b (Ok (moved.Applied b d)) (core_of n h now f' s' ss g)
+  applies f' s' fe se = (
+    refl,
+    (
+      took.cell.position,
+      takes,
+      core_now f' s'
+      ∙ (ap (λ q. record (core_of n h cells f s ss g) { positions = set (map (λ (x : CellState). x.position) cells) b took.cell.position; failed = q; starved = s' }) fe
+      ∙ ap (λ q. record (core_of n h cells f s ss g) { positions = set (map (λ (x : CellState). x.position) cells) b took.cell.position; failed = failed_after f b d; starved = q }) se),
+    ),
+  )
+
+  pub replays : Replays tells (core_of n h cells f s ss g) b (Ok (moved.Replayed (place (position_at (core_of n h cells f s ss g) b) + 1) d)) (core_of n h now f s ss g)
+  replays = (refl, (took.cell.position, takes, core_now f s))
+
+  -- and what it counts
+  pub took_counts : (old new : WorldState) → old.cells ≡ cells → new.cells ≡ now → Counts old new b (d ≡ did.Failed)
+  took_counts old new was is = counts_in old new cells b took.cell (d ≡ did.Failed) was (is ∙ took.set) (rw length-map at within) took.later took.rose

@@ -1,5 +1,7 @@
+pub mod Counting
 pub mod Effects
 pub mod Kept
 pub mod Places
+pub mod Steps
 pub mod Taking
 pub mod Worlds

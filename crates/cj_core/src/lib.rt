@@ -3,6 +3,8 @@
 #![tactic(auto)]
 
 mod cells;
+mod movers;
+mod reasons;
 mod sessions;
 mod world;
 pub use world::World;

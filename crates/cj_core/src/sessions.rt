@@ -35,7 +35,7 @@ impl Model for Sessions {
 }
 
 /// The number of the session's open read, or of the next request.
-fn read_number(session: &OpenSession) -> u64
+pub fn read_number(session: &OpenSession) -> u64
     requires { session.now.queries < 2 ^ 62 }
     ensures { result ≡ moves.read_number session.now }
 {

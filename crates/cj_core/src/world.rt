@@ -1,26 +1,31 @@
 //! A world, and the parts of its moves: each a change of its state that keeps it whole.
 
-ghost use Rattle.std.specs.Prelude.{◌≡◌, ◌↔◌, ℕ, ◌+◌, ◌<◌, ◌≤◌, ◌^◌, ◌==◌, true, false, not, [], ◌∷◌, ◌++◌, length, filter, is_some, IsNone, IfSome, IfOk, OnOk, OnErr, Some, None};
+ghost use Rattle.std.specs.Prelude.{◌≡◌, ◌↔◌, ℕ, ◌+◌, ◌<◌, ◌≤◌, ◌^◌, ◌==◌, true, false, not, [], ◌∷◌, ◌++◌, length, filter, is_some, IsTrue, IsNone, IfSome, IfOk, MatchBool, OnOk, OnErr, Some, None, Ok, Err};
 ghost use Rattle.std.specs.Option.{option_map};
 ghost use Rattle.cj_model.specs.declared.request.Entry.{Entry};
+ghost use Rattle.cj_model.specs.declared.request.Request.TheVariants as request;
+ghost use Rattle.cj_model.specs.Plain.{request_of};
 ghost use Rattle.cj_model.specs.Histories as histories;
 ghost use Rattle.cj_model.specs.Histories.{has, log, done, free};
-ghost use Rattle.cj_model.specs.Legality.{IsFit, user_limit};
+ghost use Rattle.cj_model.specs.Legality.{IsFit, IsWritten, user_limit};
+ghost use Rattle.cj_model.specs.Answering.{ServesAt};
 ghost use Rattle.cj_model.specs.Cores as cores;
 ghost use Rattle.cj_model.specs.Cores.{session_at, position_at};
 ghost use Rattle.cj_model.specs.Moves as moves;
-ghost use Rattle.cj_model.specs.Moves.{Applies, Replays, next_entry, not_now, ended, with_read, with_counted, counted, answered_at, was_answered, still_reading};
+ghost use Rattle.cj_model.specs.Moves.{Applies, Replays, IsServing, ReadsOther, ReadsSame, forbidden_by, next_entry, not_now, ended, with_read, with_counted, counted, answered_at, was_answered, still_reading};
 ghost use Rattle.cj_model.specs.Sound.{IsLone};
 ghost use Rattle.cj_core.specs.Worlds.{IsWorld};
-ghost use Rattle.cj_core.specs.Effects.{AnswersOpen, Refuses, with_core, happened, opened_for, closed_for, scheduled_as, ended_for, SchedulesAs, HadRoom};
+ghost use Rattle.cj_core.specs.Counting.{Counts};
+ghost use Rattle.cj_core.specs.Effects.{AnswersOpen, Asks, IsChange, IsReadOf, IsReadOther, Refuses, with_core, happened, opened_for, closed_for, scheduled_as, ended_for, SchedulesAs, HadRoom};
 
 
-use crate::sessions::Sessions;
+use crate::cells::{failed_after, heard_after, place, starved_after, take, with_bit};
+use crate::sessions::{Sessions, read_number};
 use cj_backend::Backend;
 use cj_book::{Book, BookError};
-use cj_replica::Cell;
+use cj_replica::{Cell, CellReadError};
 use cj_model::{
-    Entry, Event, HISTORY_FULL, NoMemory, Outcome, Refusal, Reply, SESSIONS_FULL, STARVED_ALL, Select,
+    Act, Asked, Did, Duplicate, Entry, Event, Move, Moved, HISTORY_FULL, NoMemory, OpenRead, Outcome, Refusal, Reply, SESSIONS_FULL, STARVED_ALL, Same, Select,
     Text, UNFINISHED,
 };
 use std::alloc::Global;
@@ -89,6 +94,25 @@ fn unfinished(failed: u32, starved: u32) -> Refusal
             a: 0,
             b: starved as u64,
         }
+    }
+}
+
+/// Whether a read is open that is not of this query.
+fn is_other(reading: &Option<OpenRead>, select: &Select) -> bool
+    ensures { MatchBool result (IsReadOther reading.now select.now) (IsReadOf reading.now select.now) }
+{
+    match reading {
+        Some(read) => !read.select.is_same(select),
+        None => false,
+    }
+}
+
+fn tried_of(reading: &Option<OpenRead>) -> u32
+    ensures { result ≡ moves.tried_of reading.now }
+{
+    match reading {
+        Some(read) => read.tried,
+        None => 0,
     }
 }
 
@@ -169,6 +193,101 @@ impl<B: Backend> World<B> {
             Some(session) => session.reading.is_some(),
             None => false,
         }
+    }
+
+    /// The position that the session's reads need at least.
+    fn least(&self, s: u64) -> u64
+        ensures { result ≡ (session_at self.now.core s).least }
+    {
+        match self.sessions.get(s) {
+            Some(session) => session.least,
+            None => 0,
+        }
+    }
+
+    /// The number of the entry that the backend takes next; 1 where it is out.
+    pub(crate) fn next_of(&self, b: u8) -> u64
+        ensures { result ≡ moves.place (position_at self.now.core b) + 1 }
+    {
+        let _ = &self.book;
+        place(self.position(b)) + 1
+    }
+
+    /// The session's next entry.
+    pub(crate) fn next_entry(&self, s: u64, act: Act) -> Result<Entry, NoMemory>
+        requires here { moves.is_open self.now.core s ≡ true }
+        requires counts { (session_at self.now.core s).queries < 2 ^ 62 }
+        requires written { IsWritten (request_of act) }
+        requires change { IsChange act }
+        ensures next { IfOk result (λ e. e ≡ next_entry self.now.core s act) }
+        ensures fits { IfOk result (λ e. IsFit (log self.now.core.history) e) }
+        ensures lone { IfOk result (λ e. IsLone e e.act) }
+        ensures allowed { forbidden_by (moves.open_tx self.now.core s) act ≡ None }
+    {
+        match self.sessions.get(s) {
+            Some(session) => Ok(Entry {
+                session: s,
+                seq: session.queries + 1,
+                tx: 0,
+                user: session.user.copy(self.alloc)?,
+                act,
+            }),
+            None => unreachable!(),
+        }
+    }
+
+    /// Whether another read of the session is open.
+    pub(crate) fn reads_other(&self, s: u64, select: &Select) -> bool
+        ensures { MatchBool result (ReadsOther (session_at self.now.core s) select.now) (ReadsSame (session_at self.now.core s) select.now) }
+    {
+        match self.sessions.get(s) {
+            Some(session) => is_other(&session.reading, select),
+            None => false,
+        }
+    }
+
+    /// The number of the session's read.
+    pub(crate) fn read_number(&self, s: u64) -> u64
+        requires { (session_at self.now.core s).queries < 2 ^ 62 }
+        ensures { result ≡ moves.read_number (session_at self.now.core s) }
+    {
+        match self.sessions.get(s) {
+            Some(session) => read_number(session),
+            None => 1,
+        }
+    }
+
+    /// The mask of the backends that failed in the session's read.
+    pub(crate) fn tried(&self, s: u64) -> u32
+        ensures { result ≡ moves.tried_of (session_at self.now.core s).reading }
+    {
+        match self.sessions.get(s) {
+            Some(session) => tried_of(&session.reading),
+            None => 0,
+        }
+    }
+
+    /// That mask with one more backend.
+    pub(crate) fn tried_with(&self, s: u64, b: u8) -> u32
+        requires { b < self.now.core.placement.backends }
+        ensures { result ≡ moves.tried_with self.now.core s b }
+    {
+        let _ = &self.book;
+        with_bit(self.tried(s), b)
+    }
+
+    /// The mask of the backends that serve the query: each enabled one.
+    pub(crate) fn serving(&self, _select: &Select) -> u32
+        ensures { IsServing self.now.core _select.now result }
+    {
+        self.book.enabled()
+    }
+
+    /// Whether the backend serves the query.
+    pub(crate) fn serves(&self, b: u8, _select: &Select) -> bool
+        ensures { IsTrue result ↔ ServesAt self.now.core.placement self.now.core.history (request.Select _select.now) b }
+    {
+        self.book.is_enabled(b)
     }
 
     /// The position of the first enabled backend that is neither at the log's end nor out.
@@ -315,7 +434,7 @@ impl<B: Backend> World<B> {
     /// The session of the open entry.
     pub(crate) fn waiting(&self) -> u64
         requires { free self.now.core.history ≡ false }
-        ensures { IfSome (histories.opened self.now.core.history) (λ e. result ≡ e.session) }
+        ensures { (e : Entry) × (histories.opened self.now.core.history ≡ Some e) × (result ≡ e.session) }
     {
         match self.book.opened() {
             Some(entry) => entry.session,
@@ -335,6 +454,48 @@ impl<B: Backend> World<B> {
         self.failed = 0;
         self.starved = 0;
         self.heard = None;
+    }
+
+    /// The backend takes the open entry.
+    pub(crate) fn take_open(&mut self, b: u8) -> Did
+        requires within { b < self.old.core.placement.backends }
+        requires now { not_now self.old.core (Move.Apply b) ≡ None }
+        ensures applies { Applies B.TELLS self.old.core b (Ok (Moved.Applied b result)) self.new.core }
+        ensures counts { Counts self.old self.new b (result ≡ Did.Failed) }
+    {
+        let did = take(&self.book, &mut self.cells, &self.login, b);
+        self.failed = failed_after(self.failed, b, did);
+        self.starved = starved_after(self.starved, b, did);
+        self.heard = heard_after(self.heard, did);
+        did
+    }
+
+    /// A backend that isn't enabled takes the log's next entry.
+    pub(crate) fn take_next(&mut self, b: u8) -> Did
+        requires within { b < self.old.core.placement.backends }
+        requires now { not_now self.old.core (Move.Replay b) ≡ None }
+        ensures replays { Replays B.TELLS self.old.core b (Ok (Moved.Replayed (moves.place (position_at self.old.core b) + 1) result)) self.new.core }
+        ensures counts { Counts self.old self.new b (result ≡ Did.Failed) }
+    {
+        take(&self.book, &mut self.cells, &self.login, b)
+    }
+
+    /// Asks the backend for a session.
+    pub(crate) fn ask(&mut self, s: u64, b: u8, select: &Select) -> Result<(Asked, u64), CellReadError>
+        requires { b < self.old.core.placement.backends }
+        ensures core { self.new.core ≡ self.old.core }
+        ensures asks { Asks B.TELLS self.old.core s b select.now result }
+        ensures counts { Counts self.old self.new b (result ≡ Err CellReadError.Failed) }
+    {
+        let least = self.least(s);
+        self.cells[b as usize].read(&self.login, 0, select, least)
+    }
+
+    pub(crate) fn arm_backend(&mut self, b: u8)
+        requires { b < self.old.core.placement.backends }
+        ensures { self.new ≡ self.old }
+    {
+        self.cells[b as usize].arm();
     }
 
     pub(crate) fn switch_off(&mut self, b: u8) -> Result<(), BookError>

@@ -1,0 +1,23 @@
+-- When a move may be asked for.
+use Rattle.std.specs.Prelude.{ℕ, ◌<◌, ◌^◌}
+use Rattle.cj_model.specs.declared.moves.Move.{Move}
+use Rattle.cj_model.specs.declared.moves.Move.TheVariants.{Open, Close, Schedule, Apply, End, Read, Arm, Disable, Replay, Enable}
+use Rattle.cj_model.specs.Cores.{Core, session_at}
+use Rattle.cj_model.specs.Runs.{IsMove}
+
+-- the session of the move can make one request more
+abbrev pub CanAsk : Core → Move → Type 0
+CanAsk c (Open user) = Unit {0}
+CanAsk c (Close s) = Unit {0}
+CanAsk c (Schedule s r) = (session_at c s).queries < 2 ^ 62
+CanAsk c (Apply b) = Unit {0}
+CanAsk c End = Unit {0}
+CanAsk c (Read s b select) = (session_at c s).queries < 2 ^ 62
+CanAsk c (Arm b) = Unit {0}
+CanAsk c (Disable b) = Unit {0}
+CanAsk c (Replay b) = Unit {0}
+CanAsk c (Enable b) = Unit {0}
+
+-- the move is one of this cluster, and its session can make one request more
+abbrev pub IsMet : Core → Move → Type 0
+IsMet c m = IsMove c.placement.backends m × CanAsk c m

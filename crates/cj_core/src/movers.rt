@@ -1,0 +1,296 @@
+//! The moves.
+
+ghost use Rattle.std.specs.Prelude.{◌≡◌, ◌<◌, ◌≤◌, ◌^◌, length, Some, None, Ok};
+ghost use Rattle.cj_model.specs.declared.request.Request.TheVariants as requests;
+ghost use Rattle.cj_model.specs.Changes as changes;
+ghost use Rattle.cj_model.specs.Plain as plain;
+ghost use Rattle.cj_model.specs.Legality.{IsWritten, user_limit};
+ghost use Rattle.cj_model.specs.Cores.{session_at};
+ghost use Rattle.cj_model.specs.Moves as moves;
+ghost use Rattle.cj_model.specs.Moves.{Opens, Closes, Schedules, Applies, Ends, Reads, ReadsOrWaits, Arms, Disables, Replays, Enables, MovesTo, not_now, with_read, answered_at, was_answered, still_reading};
+ghost use Rattle.cj_model.specs.Answering.{ServesAt};
+ghost use Rattle.cj_model.specs.Runs.{IsLoneWrite};
+ghost use Rattle.cj_core.specs.Counting.{HasCauses};
+ghost use Rattle.cj_core.specs.Effects.{IsChange, answer_given, with_core};
+ghost use Rattle.cj_core.specs.Steps.{IsMet};
+
+use crate::cells::covers;
+use crate::world::World;
+use cj_backend::Backend;
+use cj_book::BookError;
+use cj_model::{
+    Act, Asked, HISTORY_FULL, Move, MoveError, Moved, NO_BACKEND, READ_FAULT, Refusal, Request,
+    Select, Text, Why,
+};
+use cj_replica::CellReadError;
+
+/// A refusal whose numbers say nothing.
+fn bare(code: u16) -> Refusal
+    ensures { result ≡ changes.bare code }
+{
+    Refusal { code, a: 0, b: 0 }
+}
+
+/// The act of a change outside transactions.
+fn act_of(request: Request) -> Act
+    requires written { IsWritten request }
+    requires lone { IsLoneWrite request }
+    ensures act { plain.act_of request ≡ Some result }
+    ensures written { IsWritten (plain.request_of result) }
+    ensures change { IsChange result }
+{
+    match request {
+        Request::Write(write) => Act::Write(write),
+        Request::Create(create) => Act::Create(create),
+        Request::Drop(table) => Act::Drop(table),
+        Request::Select(_) | Request::Begin | Request::Commit | Request::Rollback => unreachable!(),
+    }
+}
+
+impl<B: Backend> World<B> {
+    fn open(&mut self, user: Text) -> Result<Moved, MoveError>
+        requires { length user ≤ user_limit }
+        ensures moves { Opens self.old.core user result self.new.core }
+        ensures cells { self.new.cells ≡ self.old.cells }
+    {
+        if self.has_no_number() {
+            return Ok(Moved::Refused(self.sessions_full()));
+        }
+        match self.add_session(user) {
+            Ok(number) => Ok(Moved::Session(number)),
+            Err(_) => Err(MoveError::NoMemory),
+        }
+    }
+
+    fn close(&mut self, s: u64) -> Moved
+        requires { not_now self.old.core (Move.Close s) ≡ None }
+        ensures moves { Closes self.old.core s (Ok result) self.new.core }
+        ensures cells { self.new.cells ≡ self.old.cells }
+    {
+        self.remove_session(s);
+        Moved::Closed
+    }
+
+    fn schedule(&mut self, s: u64, request: Request) -> Result<Moved, MoveError>
+        requires written { IsWritten request }
+        requires lone { IsLoneWrite request }
+        requires counts { (session_at self.old.core s).queries < 2 ^ 62 }
+        requires now { not_now self.old.core (Move.Schedule s request) ≡ None }
+        ensures moves { Schedules self.old.core s request result self.new.core }
+        ensures cells { self.new.cells ≡ self.old.cells }
+    {
+        let Ok(entry) = self.next_entry(s, act_of(request)) else {
+            return Err(MoveError::NoMemory);
+        };
+        match self.schedule_entry(s, entry) {
+            Ok(number) => Ok(Moved::Entry(number)),
+            Err(BookError::NoBackend) => {
+                self.count(s);
+                Ok(Moved::Refused(bare(NO_BACKEND)))
+            }
+            Err(BookError::HistoryFull(events)) => {
+                self.count(s);
+                Ok(Moved::Refused(Refusal {
+                    code: HISTORY_FULL,
+                    a: events,
+                    b: 0,
+                }))
+            }
+            Err(BookError::NoMemory) => Err(MoveError::NoMemory),
+            Err(BookError::InProgress(_)) => unreachable!(),
+        }
+    }
+
+    fn apply(&mut self, b: u8) -> Moved
+        requires within { b < self.old.core.placement.backends }
+        requires now { not_now self.old.core (Move.Apply b) ≡ None }
+        ensures moves { Applies B.TELLS self.old.core b (Ok result) self.new.core }
+        ensures causes { HasCauses self.old self.new (Move.Apply b) (Ok result) }
+    {
+        Moved::Applied {
+            b,
+            did: self.take_open(b),
+        }
+    }
+
+    fn end(&mut self) -> Moved
+        requires { not_now self.old.core Move.End ≡ None }
+        ensures moves { Ends B.TELLS self.old.core (Ok result) self.new.core }
+        ensures cells { self.new.cells ≡ self.old.cells }
+    {
+        let session = self.waiting();
+        let reply = self.reply();
+        self.end_entry(session);
+        Moved::Replied { session, reply }
+    }
+
+    /// One attempt of the session's read.
+    fn read(&mut self, s: u64, b: u8, select: Select) -> Result<Moved, MoveError>
+        requires within { b < self.old.core.placement.backends }
+        requires counts { (session_at self.old.core s).queries < 2 ^ 62 }
+        ensures moves { ReadsOrWaits B.TELLS self.old.core s b select result self.new.core }
+        ensures causes { HasCauses self.old self.new (Move.Read s b select) result }
+    {
+        if self.reads_other(s, &select) {
+            return Err(MoveError::NotNow(Why {
+                number: 10,
+                value: s,
+            }));
+        }
+        if self.serving(&select) == 0 {
+            self.refuse_read(s);
+            return Ok(Moved::Refused(bare(NO_BACKEND)));
+        }
+        if !self.serves(b, &select) {
+            return Err(MoveError::NotNow(Why {
+                number: 11,
+                value: b as u64,
+            }));
+        }
+        match self.ask(s, b, &select) {
+            Ok((answer, position)) => Ok(self.answer(s, position, answer)),
+            Err(CellReadError::Failed) => self.fail_read(s, b, select),
+            Err(CellReadError::NoMemory) => Err(MoveError::NoMemory),
+            Err(CellReadError::Out) => {
+                self.wait(s, select);
+                Ok(Moved::Out)
+            }
+            Err(CellReadError::Behind(position)) => {
+                self.wait(s, select);
+                Ok(Moved::Behind(position))
+            }
+        }
+    }
+
+    /// The session's read stays open as it is.
+    fn wait(&mut self, s: u64, select: Select)
+        requires { (session_at self.old.core s).queries < 2 ^ 62 }
+        ensures { self.new ≡ with_core self.old (with_read self.old.core s (still_reading select (moves.tried_of (session_at self.old.core s).reading))) }
+    {
+        let tried = self.tried(s);
+        self.keep_reading(s, select, tried);
+    }
+
+    /// The session's read is answered at a position.
+    fn answer(&mut self, s: u64, position: u64, answer: Asked) -> Moved
+        requires counts { (session_at self.old.core s).queries < 2 ^ 62 }
+        requires within { position ≤ moves.last_number self.old.core }
+        ensures moved { result ≡ answer_given answer }
+        ensures ok { self.new ≡ with_core self.old (with_read self.old.core s (λ x. answered_at position (was_answered x))) }
+    {
+        self.answer_read(s, position);
+        match answer {
+            Asked::Rows(rows) => Moved::Rows(rows),
+            Asked::Refused(refusal) => Moved::Refused(refusal),
+        }
+    }
+
+    /// The backend failed in the session's read.
+    fn fail_read(&mut self, s: u64, b: u8, select: Select) -> Result<Moved, MoveError>
+        requires within { b < self.old.core.placement.backends }
+        requires counts { (session_at self.old.core s).queries < 2 ^ 62 }
+        requires serves { ServesAt self.old.core.placement self.old.core.history (requests.Select select) b }
+        ensures moves { Reads B.TELLS self.old.core s b select result self.new.core }
+        ensures cells { self.new.cells ≡ self.old.cells }
+    {
+        let number = self.read_number(s);
+        let tried = self.tried_with(s, b);
+        let serving = self.serving(&select);
+        match self.blame(s, number, b) {
+            Ok(()) if covers(tried, serving) => {
+                self.refuse_read(s);
+                Ok(Moved::Refused(Refusal {
+                    code: READ_FAULT,
+                    a: serving as u64,
+                    b: 0,
+                }))
+            }
+            Ok(()) => {
+                self.keep_reading(s, select, tried);
+                Ok(Moved::Failed)
+            }
+            Err(BookError::HistoryFull(events)) => {
+                self.refuse_read(s);
+                Ok(Moved::Refused(Refusal {
+                    code: HISTORY_FULL,
+                    a: events,
+                    b: 0,
+                }))
+            }
+            Err(BookError::NoMemory) => Err(MoveError::NoMemory),
+            Err(BookError::InProgress(_)) | Err(BookError::NoBackend) => unreachable!(),
+        }
+    }
+
+    fn arm(&mut self, b: u8) -> Moved
+        requires { b < self.old.core.placement.backends }
+        ensures moves { Arms self.old.core (Ok result) self.new.core }
+        ensures cells { self.new.cells ≡ self.old.cells }
+    {
+        self.arm_backend(b);
+        Moved::Armed
+    }
+
+    fn disable(&mut self, b: u8) -> Result<Moved, MoveError>
+        requires { not_now self.old.core (Move.Disable b) ≡ None }
+        ensures moves { Disables self.old.core b result self.new.core }
+        ensures cells { self.new.cells ≡ self.old.cells }
+    {
+        match self.switch_off(b) {
+            Ok(()) => Ok(Moved::Disabled),
+            Err(BookError::HistoryFull(_)) => Ok(Moved::Refused(self.history_full())),
+            Err(BookError::NoMemory) => Err(MoveError::NoMemory),
+            Err(BookError::InProgress(_)) | Err(BookError::NoBackend) => unreachable!(),
+        }
+    }
+
+    fn replay(&mut self, b: u8) -> Moved
+        requires within { b < self.old.core.placement.backends }
+        requires now { not_now self.old.core (Move.Replay b) ≡ None }
+        ensures moves { Replays B.TELLS self.old.core b (Ok result) self.new.core }
+        ensures causes { HasCauses self.old self.new (Move.Replay b) (Ok result) }
+    {
+        let number = self.next_of(b);
+        Moved::Replayed {
+            number,
+            did: self.take_next(b),
+        }
+    }
+
+    fn enable(&mut self, b: u8) -> Result<Moved, MoveError>
+        requires { not_now self.old.core (Move.Enable b) ≡ None }
+        ensures moves { Enables self.old.core b result self.new.core }
+        ensures cells { self.new.cells ≡ self.old.cells }
+    {
+        match self.switch_on(b) {
+            Ok(()) => Ok(Moved::Enabled),
+            Err(BookError::HistoryFull(_)) => Ok(Moved::Refused(self.history_full())),
+            Err(BookError::NoMemory) => Err(MoveError::NoMemory),
+            Err(BookError::InProgress(_)) | Err(BookError::NoBackend) => unreachable!(),
+        }
+    }
+
+    /// Makes a move, or says why it can't be made now. Want of memory changes nothing; where it is
+    /// the backend's that takes an entry, the move says so and the backend is out.
+    pub fn step(&mut self, m: Move) -> Result<Moved, MoveError>
+        requires { IsMet self.old.core m }
+        ensures moves { MovesTo B.TELLS self.old.core m result self.new.core }
+        ensures causes { HasCauses self.old self.new m result }
+    {
+        if let Some(why) = self.not_now(&m) {
+            return Err(MoveError::NotNow(why));
+        }
+        match m {
+            Move::Open { user } => self.open(user),
+            Move::Close { session } => Ok(self.close(session)),
+            Move::Schedule { session, request } => self.schedule(session, request),
+            Move::Apply { b } => Ok(self.apply(b)),
+            Move::End => Ok(self.end()),
+            Move::Read { session, b, select } => self.read(session, b, select),
+            Move::Arm { b } => Ok(self.arm(b)),
+            Move::Disable { b } => self.disable(b),
+            Move::Replay { b } => Ok(self.replay(b)),
+            Move::Enable { b } => self.enable(b),
+        }
+    }
+}
