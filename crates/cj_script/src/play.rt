@@ -69,7 +69,11 @@ fn make_move<B: Backend>(world: &mut World<B>, m: Move) -> Result<Made, NoMemory
         (λ _. world.new.core ≡ world.old.core)
     }
 {
-    Err(NoMemory)
+    match world.step(m) {
+        Ok(moved) => Ok(Made::Moved(moved)),
+        Err(MoveError::NotNow(why)) => Ok(Made::NotNow(why)),
+        Err(MoveError::NoMemory) => Err(NoMemory),
+    }
 }
 
 /// Writes the lines of what a move came to.
