@@ -1,6 +1,5 @@
 -- Lines that are moves: what they take at least, what the moves ask for, and how many can come.
-use Rattle.std.proofs.Common.{◌≡◌, ◌≢◌, ℕ, ◌+◌, ◌*◌, ◌-◌, ◌<◌, ◌≤◌, ◌^◌, Bool, true, List, [], ◌∷◌, ◌++◌, length, Option, Some, None, refl, sym, ap, subst, ◌∙◌, arith, is_some}
-use Rattle.std.specs.Prelude.{position}
+use Rattle.std.proofs.Common.{◌≡◌, ◌≢◌, ℕ, ◌+◌, ◌*◌, ◌-◌, ◌<◌, ◌≤◌, ◌^◌, Bool, true, List, [], ◌∷◌, length, Option, refl, sym, ap, subst, arith, is_some}
 use Rattle.std.specs.Str.{bytes_eq}
 use Rattle.std.specs.Io.KnownBytes.{Appends}
 use Rattle.std.proofs.lemmas.List.Quantifiers.{position-Some}
@@ -15,7 +14,7 @@ use Rattle.cj_model.specs.Cores.{Core, session_at}
 use Rattle.cj_model.specs.Moves.{MovesTo}
 use Rattle.cj_model.specs.Runs.{IsMove, IsLoneWrite, CanCount}
 use Rattle.cj_model.proofs.Growth.{moves_grow, can_count}
-use Rattle.cj_script.specs.Script.{given_of, MakesMove, PlaysLine}
+use Rattle.cj_script.specs.Script.{given_of}
 use Rattle.cj_script.specs.Steps.{PlaysWritten}
 use Rattle.cj_script.proofs.Playing.{Advances}
 use Rattle.cj_model.specs.declared.moves.Move.{Move}

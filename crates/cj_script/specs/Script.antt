@@ -1,12 +1,9 @@
 -- Scripts: what lines play, how they lie in the bytes taken, and how far a script came.
-use Rattle.std.specs.Prelude.{◌≡◌, ◌≢◌, ◌⊎◌, ℕ, ◌+◌, ◌<◌, Bool, List, [], ◌∷◌, ◌++◌, length, take, All, Result, Ok, Err, IsSome}
+use Rattle.std.specs.Prelude.{◌≡◌, ◌≢◌, ◌⊎◌, ℕ, ◌+◌, ◌<◌, Bool, List, [], ◌∷◌, ◌++◌, length, take, All, Ok, Err, IsSome}
 use Rattle.std.specs.declared.option.Option.{Option}
 use Rattle.std.specs.List.{flat_map}
-use Rattle.std.specs.Global.{Vec}
 use Rattle.std.specs.Io.KnownBytes.{Consumes, Appends, IsAtEnd}
-use Rattle.cj_outside.specs.declared.lines.Line.TheVariants as line
-use Rattle.cj_outside.specs.declared.lines.LineError.TheVariants as line_errors
-use Rattle.cj_outside.specs.Lines.{Reading, GivesLine, IsInLine, line_limit}
+use Rattle.cj_outside.specs.Lines.{IsInLine, line_limit}
 use Rattle.cj_outside.specs.Streams.{most}
 use Rattle.cj_model.specs.declared.moves.Move.{Move}
 use Rattle.cj_model.specs.declared.moves.MoveError.TheVariants.{NotNow}

@@ -1,16 +1,13 @@
 -- The steps of a script: a line is read, and it is played.
 use Rattle.std.specs.Prelude.{◌≡◌, ◌≢◌, ◌⊎◌, ℕ, ◌≤◌, Bool, List, [], Result, Ok, Err, IsErrOf}
 use Rattle.std.specs.declared.option.Option.{Option}
-use Rattle.std.specs.declared.option.Option.TheVariants.{None, Some}
 use Rattle.std.specs.Global.{Vec}
 use Rattle.std.specs.Io.KnownBytes.{Appends}
 use Rattle.cj_outside.specs.declared.lines.Line.TheVariants.{Text, Long, End}
 use Rattle.cj_outside.specs.declared.lines.LineError.TheVariants as errors
 use Rattle.cj_outside.specs.Causes.{Rose}
 use Rattle.cj_outside.specs.Lines.{Reading, GivesLine}
-use Rattle.cj_model.specs.declared.moves.Move.{Move}
 use Rattle.cj_model.specs.Cores.{Core}
-use Rattle.cj_model.specs.Scripts.{MoveLine}
 use Rattle.cj_script.specs.Script.{PlaysLine, MakesInPart, IsNoMove}
 use Rattle.cj_script.specs.declared.play.ScriptEnd.{ScriptEnd}
 use Rattle.cj_script.specs.declared.play.ScriptEnd.TheVariants.{Done, Line, ReadFault, WriteFault, Spent, NoMemory}

@@ -64,10 +64,8 @@ fn read_line<I: Source>(
 fn make_move<B: Backend>(world: &mut World<B>, m: Move) -> Result<Made, NoMemory>
     requires is { IsMove world.old.core.placement.backends m }
     requires count { CanCount world.old.core 1 }
-    ensures {
-        MatchResult result (λ made. MovesTo B.TELLS world.old.core m (given_of made) world.new.core)
-        (λ _. world.new.core ≡ world.old.core)
-    }
+    ensures { MatchResult result (λ made. MovesTo B.TELLS world.old.core m (given_of made) world.new.core)
+        (λ _. world.new.core ≡ world.old.core) }
 {
     match world.step(m) {
         Ok(moved) => Ok(Made::Moved(moved)),
@@ -137,9 +135,7 @@ pub fn script<B: Backend, I: Source, O: Sink>(
 ) -> ScriptEnd
     requires names { length names.now ≡ world.old.core.placement.backends }
     requires count { CanCount world.old.core (2 ^ 61) }
-    ensures came {
-        CameTo B.TELLS names.now (I.left input.old) (I.left input.new) (O.held output.old) (O.held output.new) world.old.core result world.new.core
-    }
+    ensures came { CameTo B.TELLS names.now (I.left input.old) (I.left input.new) (O.held output.old) (O.held output.new) world.old.core result world.new.core }
     ensures input { I.faults input.old ≤ I.faults input.new }
     ensures output { O.faults output.old ≤ O.faults output.new }
     ensures read_fault { result ≡ ends.ReadFault → Rose (I.faults input.old) (I.faults input.new) }

@@ -1,4 +1,4 @@
-use Rattle.std.proofs.Common.{◌≡◌, ◌≢◌, [], rules}
+use Rattle.std.proofs.Common.{◌≢◌, [], rules}
 use Rattle.cj_script.proofs.Moving.{played_made}
 use Rattle.cj_script.proofs.play.play_line.Goals as goal
 

@@ -1,7 +1,7 @@
-use Rattle.std.proofs.Common.{◌≡◌, ◌+◌, ◌≤◌, ℕ, List, Err, sym, ap, subst, ◌∙◌, refl, length, arith}
+use Rattle.std.proofs.Common.{◌+◌, ℕ, List, Err, sym, ap, subst, ◌∙◌, refl, length, arith}
 use Rattle.cj_model.specs.Placements.{Placement}
 use Rattle.cj_script.specs.Steps.{PlaysOrEnds}
-use Rattle.cj_script.proofs.Moving.{counting_start, counting_line, counting_played, played_backends}
+use Rattle.cj_script.proofs.Moving.{counting_start, counting_played, played_backends}
 use Rattle.cj_script.proofs.Playing.{playing_none, read_end, play_end, text_came, line_played}
 use Rattle.cj_script.proofs.play.script.Goals as goal
 
@@ -33,8 +33,8 @@ returns-in-Err-play_line-clause-came g c =
     let left = g.I.Source.left in
     let held = g.O.Sink.held in
     let came =
-        text_came g.B.Backend.TELLS c.args.names.now (left c.args.input.now) (left c.loop-line.input) (left c.read_line.new.input) (held c.args.output.now) (held c.loop-line.output)
-        c.args.world.now.core c.loop-line.lines c.read_line.new.lines c.loop-line.number (c.loop-line.number + 1) c.loop-line.world.core c.in-Ok.line c.loop-line.invariant.playing c.in-Ok.ensures.bytes
+    text_came g.B.Backend.TELLS c.args.names.now (left c.args.input.now) (left c.loop-line.input) (left c.read_line.new.input) (held c.args.output.now) (held c.loop-line.output)
+    c.args.world.now.core c.loop-line.lines c.read_line.new.lines c.loop-line.number (c.loop-line.number + 1) c.loop-line.world.core c.in-Ok.line c.loop-line.invariant.playing c.in-Ok.ensures.bytes
     in
     play_end g.B.Backend.TELLS c.args.names.now (left c.args.input.now) (left c.read_line.new.input) (held c.args.output.now) (held c.loop-line.output) (held c.play_line.new.output)
     c.args.world.now.core c.in-Ok.line.items c.read_line.new.lines.rest c.read_line.new.lines.taken c.loop-line.number (c.loop-line.number + 1) c.loop-line.world.core c.play_line.new.world.core
@@ -47,8 +47,8 @@ loop-line-smaller g c =
     let left = g.I.Source.left in
     let held = g.O.Sink.held in
     let came =
-        text_came g.B.Backend.TELLS c.args.names.now (left c.args.input.now) (left c.loop-line.input) (left c.read_line.new.input) (held c.args.output.now) (held c.loop-line.output)
-        c.args.world.now.core c.loop-line.lines c.read_line.new.lines c.loop-line.number (c.loop-line.number + 1) c.loop-line.world.core c.in-Ok.line c.loop-line.invariant.playing c.in-Ok.ensures.bytes
+    text_came g.B.Backend.TELLS c.args.names.now (left c.args.input.now) (left c.loop-line.input) (left c.read_line.new.input) (held c.args.output.now) (held c.loop-line.output)
+    c.args.world.now.core c.loop-line.lines c.read_line.new.lines c.loop-line.number (c.loop-line.number + 1) c.loop-line.world.core c.in-Ok.line c.loop-line.invariant.playing c.in-Ok.ensures.bytes
     in
     omega (arith, came.advances.some, c.in-Ok.ensures.few, c.loop-line.invariant.few)
 
@@ -57,8 +57,8 @@ loop-line-preserved g c =
     let left = g.I.Source.left in
     let held = g.O.Sink.held in
     let came =
-        text_came g.B.Backend.TELLS c.args.names.now (left c.args.input.now) (left c.loop-line.input) (left c.read_line.new.input) (held c.args.output.now) (held c.loop-line.output)
-        c.args.world.now.core c.loop-line.lines c.read_line.new.lines c.loop-line.number (c.loop-line.number + 1) c.loop-line.world.core c.in-Ok.line c.loop-line.invariant.playing c.in-Ok.ensures.bytes
+    text_came g.B.Backend.TELLS c.args.names.now (left c.args.input.now) (left c.loop-line.input) (left c.read_line.new.input) (held c.args.output.now) (held c.loop-line.output)
+    c.args.world.now.core c.loop-line.lines c.read_line.new.lines c.loop-line.number (c.loop-line.number + 1) c.loop-line.world.core c.in-Ok.line c.loop-line.invariant.playing c.in-Ok.ensures.bytes
     in
     let plays = rw c.deref.ensures.value at c.in_default.ensures.plays in
     record {

@@ -8,8 +8,8 @@ abbrev pub invariant-loop-line : goal.invariant-loop-line
 invariant-loop-line g l =
     record {
       playing :
-        Playing g.B.Backend.TELLS l.names (g.I.Source.left l.fn.input) (g.I.Source.left l.input) (g.O.Sink.held l.fn.output) (g.O.Sink.held l.output) l.fn.world.core l.lines.rest l.lines.taken l.number
-        l.world.core;
+          Playing g.B.Backend.TELLS l.names (g.I.Source.left l.fn.input) (g.I.Source.left l.input) (g.O.Sink.held l.fn.output) (g.O.Sink.held l.output) l.fn.world.core l.lines.rest l.lines.taken l.number
+          l.world.core;
       few : l.lines.taken ≤ most;
       numbers : l.number + length l.lines.rest ≤ l.lines.taken;
       counting : Counting (length l.lines.rest) l.lines.taken l.world.core;
