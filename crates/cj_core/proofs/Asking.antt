@@ -26,7 +26,7 @@ use Rattle.cj_core.proofs.Keeping.{position_of, position_within, cells_set}
 use Rattle.cj_core.proofs.Catching.{part_all}
 
 module _ (tells : Bool) (n : ℕ) (h : List Event) (cells : List CellState) (f s : ℕ) (ss : List OpenSession) (g : ℕ) (heard : Option Outcome) (kept : Kept tells (world_of n h cells f s ss g) heard)
-  (b : ℕ) (lt : b < length cells) (x : CellState) (there : x ≡ get_or cells b x) where
+    (b : ℕ) (lt : b < length cells) (x : CellState) (there : x ≡ get_or cells b x) where
   place : position_at (core_of n h cells f s ss g) b ≡ x.position
   place = position_of cells b x lt ∙ ap (λ (z : CellState). z.position) (sym there)
 

@@ -71,7 +71,7 @@ all_written h legal =
 -- ---- taking an entry
 
 module _ (tells : Bool) (n : ℕ) (h : List Event) (cells : List CellState) (b : ℕ) (can : CanTake tells n h cells b) (x y : CellState) (there : x ≡ get_or cells b x) (e : Entry) (entry : slice_get (log h) can.p ≡ Some e)
-  (number : y.b ≡ x.b) (backends : y.backends ≡ x.backends) where
+    (number : y.b ≡ x.b) (backends : y.backends ≡ x.backends) where
   cell : IsCell tells n (log h) b x
   cell = subst (IsCell tells n (log h) b) (sym there) (can.is x)
 

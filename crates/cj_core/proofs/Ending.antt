@@ -30,8 +30,7 @@ ended_masks : (h : List Event) (f s : ℕ) → slice_get (ends (h ++ Ended f s �
 ended_masks h f s = rw (ends-ended h f s, ← length-ends h) (get_seam (ends h) [] (f, s))
 
 module _ (tells : Bool) (n : ℕ) (h : List Event) (cells : List CellState) (f s : ℕ) (ss : List OpenSession) (g : ℕ) (heard : Option Outcome) (kept : Kept tells (world_of n h cells f s ss g) heard)
-  (fr : free h ≡ false) (left : ℕ) (rest : (b : ℕ) → has left b ≡ enabled (h ++ Ended f s ∷ []) b) where
-
+    (fr : free h ≡ false) (left : ℕ) (rest : (b : ℕ) → has left b ≡ enabled (h ++ Ended f s ∷ []) b) where
   left_is : (b : ℕ) → has left b ≡ (enabled h b && not (has f b || has s b))
   left_is b = rest b ∙ enabled-push h (Ended f s) b
 

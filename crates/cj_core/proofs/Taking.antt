@@ -19,7 +19,6 @@ use Rattle.cj_model.specs.Cores.{Core, position_at}
 use Rattle.cj_model.specs.Moves.{place, Takes, DoesEntry, Applies, Replays, failed_after, starved_after}
 use Rattle.cj_model.specs.Sound.{IsSound, IsLone}
 use Rattle.cj_model.proofs.Effects.{sound_applied, sound_replayed, stands_there, is_there}
-
 use Rattle.cj_replica.specs.Cells.{CellState}
 use Rattle.cj_core.specs.Worlds.{WorldState, core_of, world_of, IsCell, IsWorld}
 use Rattle.cj_core.specs.Taking.{Took, heard_after}
@@ -47,7 +46,7 @@ lone_at c w i e is =
     subst (λ (x : Entry). IsLone x x.act) (get_or_from_slice_get (log c.history) i e e is) (w.lone i e (slice_get_within (log c.history) i e is))
 
 module _ (tells : Bool) (n : ℕ) (h : List Event) (cells : List CellState) (f s : ℕ) (ss : List OpenSession) (g : ℕ) (heard : Option Outcome) (kept : Kept tells (world_of n h cells f s ss g) heard)
-  (b : ℕ) (d : Did) (now : List CellState) (took : Took tells n h cells b d now) where
+    (b : ℕ) (d : Did) (now : List CellState) (took : Took tells n h cells b d now) where
   c : Core
   c = core_of n h cells f s ss g
 
@@ -163,8 +162,8 @@ module _ (tells : Bool) (n : ℕ) (h : List Event) (cells : List CellState) (f s
       took.cell.position,
       takes,
       core_now f' s'
-      ∙ (ap (λ q. record (core_of n h cells f s ss g) { positions = set (map (λ (x : CellState). x.position) cells) b took.cell.position; failed = q; starved = s' }) fe
-      ∙ ap (λ q. record (core_of n h cells f s ss g) { positions = set (map (λ (x : CellState). x.position) cells) b took.cell.position; failed = failed_after f b d; starved = q }) se),
+          ∙ (ap (λ q. record (core_of n h cells f s ss g) { positions = set (map (λ (x : CellState). x.position) cells) b took.cell.position; failed = q; starved = s' }) fe
+          ∙ ap (λ q. record (core_of n h cells f s ss g) { positions = set (map (λ (x : CellState). x.position) cells) b took.cell.position; failed = failed_after f b d; starved = q }) se),
     ),
   )
 

@@ -18,16 +18,15 @@ ghost use Rattle.cj_core.specs.Worlds.{IsWorld};
 ghost use Rattle.cj_core.specs.Counting.{Counts};
 ghost use Rattle.cj_core.specs.Effects.{AnswersOpen, Asks, IsChange, IsReadOf, IsReadOther, Refuses, with_core, happened, opened_for, closed_for, scheduled_as, ended_for, SchedulesAs, HadRoom};
 
-
 use crate::cells::{failed_after, heard_after, place, starved_after, take, with_bit};
 use crate::sessions::{Sessions, read_number};
 use cj_backend::Backend;
 use cj_book::{Book, BookError};
-use cj_replica::{Cell, CellReadError};
 use cj_model::{
-    Act, Asked, Did, Duplicate, Entry, Event, Move, Moved, HISTORY_FULL, NoMemory, OpenRead, Outcome, Refusal, Reply, SESSIONS_FULL, STARVED_ALL, Same, Select,
-    Text, UNFINISHED,
+    Act, Asked, Did, Duplicate, Entry, Event, HISTORY_FULL, Move, Moved, NoMemory, OpenRead,
+    Outcome, Refusal, Reply, SESSIONS_FULL, STARVED_ALL, Same, Select, Text, UNFINISHED,
 };
+use cj_replica::{Cell, CellReadError};
 use std::alloc::Global;
 use std::marker::Model;
 
@@ -69,13 +68,9 @@ impl<B: Backend> Model for World<B> {
 
     ghost use Rattle.cj_core.specs.Kept.{Kept};
 
-    ghost view = {
-        λ w. world_of w.book.backends w.book.history w.cells.items w.failed w.starved w.sessions w.greatest
-    };
+    ghost view = { λ w. world_of w.book.backends w.book.history w.cells.items w.failed w.starved w.sessions w.greatest };
 
-    ghost invariant = {
-        λ w. Kept B.TELLS (world_of w.book.backends w.book.history w.cells.items w.failed w.starved w.sessions w.greatest) w.heard
-    };
+    ghost invariant = { λ w. Kept B.TELLS (world_of w.book.backends w.book.history w.cells.items w.failed w.starved w.sessions w.greatest) w.heard };
 }
 
 /// The refusal of an entry that no backend finished.
@@ -349,7 +344,6 @@ impl<B: Backend> World<B> {
     }
 }
 
-
 // ---- what moves change
 
 impl<B: Backend> World<B> {
@@ -481,7 +475,12 @@ impl<B: Backend> World<B> {
     }
 
     /// Asks the backend for a session.
-    pub(crate) fn ask(&mut self, s: u64, b: u8, select: &Select) -> Result<(Asked, u64), CellReadError>
+    pub(crate) fn ask(
+        &mut self,
+        s: u64,
+        b: u8,
+        select: &Select,
+    ) -> Result<(Asked, u64), CellReadError>
         requires { b < self.old.core.placement.backends }
         ensures core { self.new.core ≡ self.old.core }
         ensures asks { Asks B.TELLS self.old.core s b select.now result }

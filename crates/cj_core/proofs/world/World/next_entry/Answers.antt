@@ -19,8 +19,8 @@ returns-clause-next g c =
     let sound = subst (λ (x : WorldState). IsSound x.core) c.self.view_is c.self.invariant.world.sound in
     let found = subst (λ (x : WorldState). session_of x.core.sessions c.args.s ≡ Some c.in-Some.session.now) c.self.view_is (sym c.in-Some.ensures) in
     let is : record { session = c.args.s; seq = c.in-Some.session.now.queries + 1; tx = 0; user = c.in_ok-copy-in-Some.field-0; act = c.args.act } ≡ next_entry c.args.self.now.core c.args.s c.args.act =
-      ap (λ (user : List ℕ). record { session = c.args.s; seq = c.in-Some.session.now.queries + 1; tx = 0; user = user; act = c.args.act }) c.in_ok-copy-in-Some.ensures
-      ∙ next_is c.args.self.now.core c.args.s c.args.act c.in-Some.session.now sound found
+    ap (λ (user : List ℕ). record { session = c.args.s; seq = c.in-Some.session.now.queries + 1; tx = 0; user = user; act = c.args.act }) c.in_ok-copy-in-Some.ensures
+    ∙ next_is c.args.self.now.core c.args.s c.args.act c.in-Some.session.now sound found
     in
     is
 
@@ -29,8 +29,8 @@ returns-clause-fits g c =
     let sound = subst (λ (x : WorldState). IsSound x.core) c.self.view_is c.self.invariant.world.sound in
     let found = subst (λ (x : WorldState). session_of x.core.sessions c.args.s ≡ Some c.in-Some.session.now) c.self.view_is (sym c.in-Some.ensures) in
     let is : record { session = c.args.s; seq = c.in-Some.session.now.queries + 1; tx = 0; user = c.in_ok-copy-in-Some.field-0; act = c.args.act } ≡ next_entry c.args.self.now.core c.args.s c.args.act =
-      ap (λ (user : List ℕ). record { session = c.args.s; seq = c.in-Some.session.now.queries + 1; tx = 0; user = user; act = c.args.act }) c.in_ok-copy-in-Some.ensures
-      ∙ next_is c.args.self.now.core c.args.s c.args.act c.in-Some.session.now sound found
+    ap (λ (user : List ℕ). record { session = c.args.s; seq = c.in-Some.session.now.queries + 1; tx = 0; user = user; act = c.args.act }) c.in_ok-copy-in-Some.ensures
+    ∙ next_is c.args.self.now.core c.args.s c.args.act c.in-Some.session.now sound found
     in
     subst (IsFit (log c.args.self.now.core.history)) (sym is)
     (change_fits c.args.self.now.core c.args.s c.args.act sound c.requires.change c.requires.written c.requires.here c.requires.counts)
