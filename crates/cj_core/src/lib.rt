@@ -7,4 +7,5 @@ mod movers;
 mod reasons;
 mod sessions;
 mod world;
+
 pub use world::World;

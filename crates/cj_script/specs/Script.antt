@@ -82,7 +82,7 @@ pub record PlayedAll (tells : Bool) (names : List (List ℕ)) (left left' held h
   pub played : Played tells names left left' held held' c taken lines [] z
   pub at_end : IsAtEnd left'
 
--- All lines were played, up to the line that a wrong one has in the count from 1.
+-- The lines before this one, by its number from 1, were played, and it can't be.
 pub record PlayedTo (tells : Bool) (names : List (List ℕ)) (left left' held held' : Option (List ℕ)) (number : ℕ) (c z : Core) : Type 0 where
   pub taken : List ℕ
   pub lines : List (List ℕ)
