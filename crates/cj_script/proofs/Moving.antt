@@ -1,25 +1,19 @@
--- Lines that are moves: what they take at least, what the moves ask for, and how many can come.
-use Rattle.std.proofs.Common.{◌≡◌, ◌≢◌, ℕ, ◌+◌, ◌*◌, ◌-◌, ◌<◌, ◌≤◌, ◌^◌, Bool, true, List, [], ◌∷◌, length, Option, refl, sym, ap, subst, arith, is_some}
-use Rattle.std.specs.Str.{bytes_eq}
+-- Lines that are moves: what they take at least, and how many can come.
+use Rattle.std.proofs.Common.{◌≡◌, ◌≢◌, ℕ, ◌+◌, ◌*◌, ◌-◌, ◌≤◌, ◌^◌, Bool, List, [], ◌∷◌, length, Option, refl, sym, ap, subst, arith}
 use Rattle.std.specs.Io.KnownBytes.{Appends}
-use Rattle.std.proofs.lemmas.List.Quantifiers.{position-Some}
 use Rattle.cj_outside.specs.Lines.{Reading}
 use Rattle.cj_outside.specs.Streams.{most}
-use Rattle.cj_model.specs.declared.request.Request.{Request}
 use Rattle.cj_model.specs.declared.moves.Made.{Made}
-use Rattle.cj_model.specs.Grammar.{Statement, create, insert, select_all, statement_meant}
-use Rattle.cj_model.specs.Plain.{act_of}
-use Rattle.cj_model.specs.Legality.{IsWritten}
-use Rattle.cj_model.specs.Cores.{Core, session_at}
+use Rattle.cj_model.specs.Cores.{Core}
 use Rattle.cj_model.specs.Moves.{MovesTo}
-use Rattle.cj_model.specs.Runs.{IsMove, IsLoneWrite, CanCount}
+use Rattle.cj_model.specs.Runs.{CanCount}
 use Rattle.cj_model.proofs.Growth.{moves_grow, can_count}
 use Rattle.cj_script.specs.Script.{given_of}
 use Rattle.cj_script.specs.Steps.{PlaysWritten}
 use Rattle.cj_script.proofs.Playing.{Advances}
 use Rattle.cj_model.specs.declared.moves.Move.{Move}
 use Rattle.cj_model.specs.declared.moves.Move.TheVariants.{Open, Close, Schedule, Apply, End, Read, Arm, Disable, Replay, Enable}
-use Rattle.cj_model.specs.Scripts.{IsBackend, IsPlainSql, IsWrite, MoveLine, moved_lines}
+use Rattle.cj_model.specs.Scripts.{MoveLine, moved_lines}
 
 -- a verb and more behind a space
 verb_more : (line more : List ℕ) (v w : ℕ) → line ≡ v ∷ w ∷ more → 2 ≤ length line
@@ -37,39 +31,6 @@ move_line_long names line (Arm b) (name, is, e) = verb_more line _ _ _ e
 move_line_long names line (Disable b) (name, is, e) = verb_more line _ _ _ e
 move_line_long names line (Replay b) (name, is, e) = verb_more line _ _ _ e
 move_line_long names line (Enable b) (name, is, e) = verb_more line _ _ _ e
-
--- ---- what moves ask for
-
--- a write that is no query is a lone one
-lone_meant : (s : Statement) → is_some (act_of (statement_meant s)) ≡ true → IsLoneWrite (statement_meant s)
-lone_meant (create n cs) act = tt
-lone_meant (insert n rows) act = tt
-lone_meant (select_all n) act = absurd (cc act)
-
-lone_write : (sql : List ℕ) (r : Request) → IsWrite sql r → IsLoneWrite r
-lone_write sql r w =
-    let is = w.sql.reads.reads.meant in
-    subst IsLoneWrite (sym is) (lone_meant w.sql.reads.reads.statement (subst (λ (x : Request). is_some (act_of x) ≡ true) is w.act))
-
-written_of : (sql : List ℕ) (r : Request) → IsPlainSql sql r → IsWritten r
-written_of sql r p = record { plain = p.plain; text = sql; reads = p.reads }
-
--- a line names a backend that is there
-named_below : (names : List (List ℕ)) (name : List ℕ) (b : ℕ) → IsBackend names name b → b < length names
-named_below names name b is = (position-Some (bytes_eq name) names b [] is.named).0
-
--- what a line's move asks for is there
-pub is_move : (names : List (List ℕ)) (line : List ℕ) (m : Move) → MoveLine names line m → IsMove (length names) m
-is_move names line (Open user) (is, e) = is.short
-is_move names line (Close s) h = tt
-is_move names line (Schedule s r) (number, sql, is, reads, e) = (written_of sql r reads.sql, lone_write sql r reads)
-is_move names line (Apply b) (name, is, e) = named_below names name b is
-is_move names line End e = tt
-is_move names line (Read s b select) (number, name, sql, is, named, reads, e) = (named_below names name b named, written_of sql _ reads)
-is_move names line (Arm b) (name, is, e) = named_below names name b is
-is_move names line (Disable b) (name, is, e) = named_below names name b is
-is_move names line (Replay b) (name, is, e) = named_below names name b is
-is_move names line (Enable b) (name, is, e) = named_below names name b is
 
 -- ---- a line that was played
 
@@ -95,14 +56,6 @@ pub record Counting (rest taken : ℕ) (z : Core) : Type 0 where
 
 pub counting_start : (rest : List ℕ) (taken : ℕ) (c : Core) → rest ≡ [] → taken ≡ 0 → CanCount c (2 ^ 61) → Counting (length rest) taken c
 counting_start rest taken c none zero can = record { more = 2 ^ 61; can = can; room = omega (arith, ap length none, zero) }
-
--- no more than can be
-can_fewer : (c : Core) (m n : ℕ) → n ≤ m → CanCount c m → CanCount c n
-can_fewer c m n le can = λ s. (let one = can s in let two : (session_at c s).queries + n ≤ 2 ^ 62 = omega arith in two)
-
--- a line of two bytes can be a move
-pub counting_line : (old new : Reading) (line : List ℕ) (z : Core) → Counting (length old.rest) old.taken z → Advances old new line → new.taken ≤ most → 2 ≤ length line → CanCount z 1
-counting_line old new line z c a few long = can_fewer z c.more 1 (omega (arith, c.room, a.by)) c.can
 
 -- after a line there is room for those that can still come
 pub counting_played : (tells : Bool) (names : List (List ℕ)) (held held' : Option (List ℕ)) (old new : Reading) (line : List ℕ) (c z : Core)

@@ -7,14 +7,14 @@ use Rattle.std.proofs.lemmas.List.Elements.{All-push, All-nil}
 use Rattle.std.specs.Global.{Vec}
 use Rattle.std.specs.Io.KnownBytes.{Consumes, Appends, IsAtEnd}
 use Rattle.cj_outside.specs.declared.lines.Line.{Line}
-use Rattle.cj_outside.specs.Lines.{Reading, IsInLine, IsLine, EndsLine, LastLine, Took}
+use Rattle.cj_outside.specs.Lines.{line_limit, Reading, IsInLine, IsLine, EndsLine, LastLine, Took}
 use Rattle.cj_outside.proofs.Joined.{consumes_then, consumes_none, appends_then, appends_none}
 use Rattle.cj_model.specs.Cores.{Core}
 use Rattle.cj_model.specs.Scripts.{ended}
 use Rattle.cj_outside.specs.declared.lines.Line.TheVariants.{Text, Long}
 use Rattle.cj_script.specs.declared.play.ScriptEnd.{ScriptEnd}
 use Rattle.cj_script.specs.declared.play.ScriptEnd.TheVariants.{Done, Line as Line', ReadFault, WriteFault, Spent, NoMemory}
-use Rattle.cj_script.specs.Script.{PlaysLine, Plays, LieIn, IsNext, Played, PlayedInPart, MakesInPart, CameTo}
+use Rattle.cj_script.specs.Script.{IsShortLine, PlaysLine, Plays, LieIn, IsNext, Played, PlayedInPart, MakesInPart, CameTo}
 use Rattle.cj_script.specs.Steps.{ReadsLine, PlaysWritten, Stays, PlaysOrEnds}
 
 -- ---- lines that play
@@ -61,7 +61,7 @@ playing_none tells names left held c rest bytes none zero = record {
   taken = [];
   lines = [];
   played = record {
-    inside = All-nil IsInLine;
+    lines_are = All-nil IsShortLine;
     consumed = consumes_none left;
     lie = inl (sym none);
     written = [];
@@ -107,7 +107,7 @@ playing_longer tells names left mid left' held held' c rest bytes count z more p
       taken = l.whole;
       lines = p.lines;
       played = record {
-        inside = p.played.inside;
+        lines_are = p.played.lines_are;
         consumed = l.consumed;
         lie = l.lie;
         written = p.played.written;
@@ -193,14 +193,14 @@ line_came tells names left mid left' held held' c old new count z bytes line p t
 
 -- The line was played, and what it gives written.
 pub line_played : (tells : Bool) (names : List (List ℕ)) (left left' held held' held'' : Option (List ℕ)) (c : Core) (line rest : List ℕ) (bytes count : ℕ) (mid z : Core)
-    → AtLine tells names left left' held held' c line rest bytes count mid → PlaysWritten tells names held' held'' mid line z → Playing tells names left left' held held'' c rest bytes (count + 1) z
-line_played tells names left left' held held' held'' c line rest bytes count mid z at now =
+    → AtLine tells names left left' held held' c line rest bytes count mid → length line ≤ line_limit → PlaysWritten tells names held' held'' mid line z → Playing tells names left left' held held'' c rest bytes (count + 1) z
+line_played tells names left left' held held' held'' c line rest bytes count mid z at short now =
     let p = at.playing in
     record {
       taken = p.taken;
       lines = p.lines ++ line ∷ [];
       played = record {
-        inside = All-push IsInLine p.lines line p.played.inside at.inside;
+        lines_are = All-push IsShortLine p.lines line p.played.lines_are (record { inside = at.inside; short = short });
         consumed = p.played.consumed;
         lie = at.behind;
         written = p.played.written ++ now.written;
@@ -215,7 +215,7 @@ line_played tells names left left' held held' held'' c line rest bytes count mid
 playing_stays : (tells : Bool) (names : List (List ℕ)) (left left' held held' held'' : Option (List ℕ)) (c : Core) (taken : List ℕ) (lines : List (List ℕ)) (rest : List ℕ) (mid z : Core)
     → Played tells names left left' held held' c taken lines rest mid → Stays held' held'' mid z → Played tells names left left' held held'' c taken lines rest z
 playing_stays tells names left left' held held' held'' c taken lines rest mid z p stays = record {
-  inside = p.inside;
+  lines_are = p.lines_are;
   consumed = p.consumed;
   lie = p.lie;
   written = p.written;
@@ -262,8 +262,8 @@ read_end tells names left mid left' held held' c old new count number z NoMemory
 
 -- a line that was made, with what it gives written in part
 in_part : (tells : Bool) (names : List (List ℕ)) (left left' held held' held'' : Option (List ℕ)) (c : Core) (line rest : List ℕ) (bytes count : ℕ) (mid z : Core)
-    → AtLine tells names left left' held held' c line rest bytes count mid → MakesInPart tells names held' held'' mid line z → PlayedInPart tells names left left' held held'' c z
-in_part tells names left left' held held' held'' c line rest bytes count mid z at makes = record {
+    → AtLine tells names left left' held held' c line rest bytes count mid → length line ≤ line_limit → MakesInPart tells names held' held'' mid line z → PlayedInPart tells names left left' held held'' c z
+in_part tells names left left' held held' held'' c line rest bytes count mid z at short makes = record {
   taken = at.playing.taken;
   lines = at.playing.lines;
   rest = at.whole;
@@ -271,16 +271,16 @@ in_part tells names left left' held held' held'' c line rest bytes count mid z a
   between = held';
   played = at.playing.played;
   line = line;
-  inside = at.inside;
+  line_is = record { inside = at.inside; short = short };
   next = at.next;
   makes = makes;
 }
 
 -- in a line the script came to its end
 pub play_end : (tells : Bool) (names : List (List ℕ)) (left left' held held' held'' : Option (List ℕ)) (c : Core) (line rest : List ℕ) (bytes count number : ℕ) (mid z : Core) (last : ScriptEnd)
-    → AtLine tells names left left' held held' c line rest bytes count mid → number ≡ count + 1 → PlaysOrEnds tells names held' held'' mid line number (Err last) z → CameTo tells names left left' held held'' c last z
-play_end tells names left left' held held' held'' c line rest bytes count number mid z Done at is none = absurd none
-play_end tells names left left' held held' held'' c line rest bytes count number mid z (Line' n) at is (same, refuses) = record {
+    → AtLine tells names left left' held held' c line rest bytes count mid → length line ≤ line_limit → number ≡ count + 1 → PlaysOrEnds tells names held' held'' mid line number (Err last) z → CameTo tells names left left' held held'' c last z
+play_end tells names left left' held held' held'' c line rest bytes count number mid z Done at short is none = absurd none
+play_end tells names left left' held held' held'' c line rest bytes count number mid z (Line' n) at short is (same, refuses) = record {
   taken = at.playing.taken;
   lines = at.playing.lines;
   rest = at.whole;
@@ -291,28 +291,29 @@ play_end tells names left left' held held' held'' c line rest bytes count number
   next = at.next;
   wrong = inr (refuses.some, refuses.none);
 }
-play_end tells names left left' held held' held'' c line rest bytes count number mid z ReadFault at is none = absurd none
-play_end tells names left left' held held' held'' c line rest bytes count number mid z WriteFault at is makes = in_part tells names left left' held held' held'' c line rest bytes count mid z at makes
-play_end tells names left left' held held' held'' c line rest bytes count number mid z Spent at is none = absurd none
-play_end tells names left left' held held' held'' c line rest bytes count number mid z NoMemory at is (inl stays) =
+play_end tells names left left' held held' held'' c line rest bytes count number mid z ReadFault at short is none = absurd none
+play_end tells names left left' held held' held'' c line rest bytes count number mid z WriteFault at short is makes = in_part tells names left left' held held' held'' c line rest bytes count mid z at short makes
+play_end tells names left left' held held' held'' c line rest bytes count number mid z Spent at short is none = absurd none
+play_end tells names left left' held held' held'' c line rest bytes count number mid z NoMemory at short is (inl stays) =
     inl (record {
       taken = at.playing.taken;
       lines = at.playing.lines;
       rest = at.whole;
       played = playing_stays tells names left left' held held' held'' c at.playing.taken at.playing.lines at.whole mid z at.playing.played stays;
     })
-play_end tells names left left' held held' held'' c line rest bytes count number mid z NoMemory at is (inr makes) =
-    inr (in_part tells names left left' held held' held'' c line rest bytes count mid z at makes)
+play_end tells names left left' held held' held'' c line rest bytes count number mid z NoMemory at short is (inr makes) =
+    inr (in_part tells names left left' held held' held'' c line rest bytes count mid z at short makes)
 
 -- ---- the next line
 
 -- The next line was read.
 pub record TextCame (tells : Bool) (names : List (List ℕ)) (left left' held held' : Option (List ℕ)) (c : Core) (old new : Reading) (count : ℕ) (z : Core) (line : List ℕ) : Type 0 where
   pub advances : Advances old new line
+  pub short : length line ≤ line_limit
   pub at : AtLine tells names left left' held held' c line new.rest new.taken count z
 
 pub text_came : (tells : Bool) (names : List (List ℕ)) (left mid left' held held' : Option (List ℕ)) (c : Core) (old new : Reading) (count number : ℕ) (z : Core) (v : Vec ℕ)
     → Playing tells names left mid held held' c old.rest old.taken count z → ReadsLine mid left' old new number (Ok v) → TextCame tells names left left' held held' c old new count z v.items
 text_came tells names left mid left' held held' c old new count number z v p (bytes, took, came) =
     let l = line_came tells names left mid left' held held' c old new count z bytes (Text v) p took came in
-    subst (TextCame tells names left left' held held' c old new count z) (sym l.is.0) (record { advances = l.advances; at = l.at })
+    subst (TextCame tells names left left' held held' c old new count z) (sym l.is.0) (record { advances = l.advances; short = l.is.1; at = l.at })

@@ -1,5 +1,5 @@
 -- Scripts: what lines play, how they lie in the bytes taken, and how far a script came.
-use Rattle.std.specs.Prelude.{◌≡◌, ◌≢◌, ◌⊎◌, ℕ, ◌+◌, ◌<◌, Bool, List, [], ◌∷◌, ◌++◌, length, take, All, Ok, Err, IsSome}
+use Rattle.std.specs.Prelude.{◌≡◌, ◌≢◌, ◌⊎◌, ℕ, ◌+◌, ◌<◌, ◌≤◌, Bool, List, [], ◌∷◌, ◌++◌, length, take, All, Ok, Err, IsSome}
 use Rattle.std.specs.declared.option.Option.{Option}
 use Rattle.std.specs.List.{flat_map}
 use Rattle.std.specs.Io.KnownBytes.{Consumes, Appends, IsAtEnd}
@@ -47,6 +47,11 @@ Plays tells names c (line ∷ lines) written z =
 abbrev pub LieIn : Option (List ℕ) → List ℕ → List (List ℕ) → List ℕ → Type 0
 LieIn left bytes lines rest = (bytes ≡ flat_map ended lines ++ rest) ⊎ ((bytes ++ 10 ∷ [] ≡ flat_map ended lines) × (rest ≡ []) × IsAtEnd left)
 
+-- a line that may be played: no LF is in it, and it is not too long
+pub record IsShortLine (line : List ℕ) : Type 0 where
+  pub inside : IsInLine line
+  pub short : length line ≤ line_limit
+
 -- the rest begins with the line
 abbrev pub IsNext : Option (List ℕ) → List ℕ → List ℕ → Type 0
 IsNext left line rest = ((more : List ℕ) × (rest ≡ line ++ 10 ∷ more)) ⊎ ((rest ≡ line) × IsAtEnd left)
@@ -63,7 +68,7 @@ IsWrong names line = (line_limit < length line) ⊎ ((line ≢ []) × IsNoMove n
 
 -- Of the bytes taken these lines were played, from c to z, and what they give was written; the rest was not played.
 pub record Played (tells : Bool) (names : List (List ℕ)) (left left' held held' : Option (List ℕ)) (c : Core) (taken : List ℕ) (lines : List (List ℕ)) (rest : List ℕ) (z : Core) : Type 0 where
-  pub inside : All IsInLine lines
+  pub lines_are : All IsShortLine lines
   pub consumed : Consumes left left' taken
   pub lie : LieIn left' taken lines rest
   pub written : List ℕ
@@ -77,7 +82,7 @@ pub record PlayedAll (tells : Bool) (names : List (List ℕ)) (left left' held h
   pub played : Played tells names left left' held held' c taken lines [] z
   pub at_end : IsAtEnd left'
 
--- All lines were played, up to the line that a wrong one has in the count from 1.
+-- The lines before this one, by its number from 1, were played, and it can't be.
 pub record PlayedTo (tells : Bool) (names : List (List ℕ)) (left left' held held' : Option (List ℕ)) (number : ℕ) (c z : Core) : Type 0 where
   pub taken : List ℕ
   pub lines : List (List ℕ)
@@ -122,7 +127,7 @@ pub record PlayedInPart (tells : Bool) (names : List (List ℕ)) (left left' hel
   pub between : Option (List ℕ)
   pub played : Played tells names left left' held between c taken lines rest mid
   pub line : List ℕ
-  pub inside : IsInLine line
+  pub line_is : IsShortLine line
   pub next : IsNext left' line rest
   pub makes : MakesInPart tells names between held' mid line z
 

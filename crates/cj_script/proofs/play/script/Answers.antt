@@ -38,7 +38,7 @@ returns-in-Err-play_line-clause-came g c =
     in
     play_end g.B.Backend.TELLS c.args.names.now (left c.args.input.now) (left c.read_line.new.input) (held c.args.output.now) (held c.loop-line.output) (held c.play_line.new.output)
     c.args.world.now.core c.in-Ok.line.items c.read_line.new.lines.rest c.read_line.new.lines.taken c.loop-line.number (c.loop-line.number + 1) c.loop-line.world.core c.play_line.new.world.core
-    c.in-Err-play_line.end came.at refl
+    c.in-Err-play_line.end came.at came.short refl
     (subst (λ (t : List ℕ). PlaysOrEnds g.B.Backend.TELLS c.args.names.now (held c.loop-line.output) (held c.play_line.new.output) c.loop-line.world.core t (c.loop-line.number + 1) (Err c.in-Err-play_line.end) c.play_line.new.world.core)
     c.deref.ensures.value c.in-Err-play_line.ensures.plays)
 
@@ -64,7 +64,7 @@ loop-line-preserved g c =
     record {
       playing =
           line_played g.B.Backend.TELLS c.args.names.now (left c.args.input.now) (left c.read_line.new.input) (held c.args.output.now) (held c.loop-line.output) (held c.play_line.new.output)
-          c.args.world.now.core c.in-Ok.line.items c.read_line.new.lines.rest c.read_line.new.lines.taken c.loop-line.number c.loop-line.world.core c.play_line.new.world.core came.at plays;
+          c.args.world.now.core c.in-Ok.line.items c.read_line.new.lines.rest c.read_line.new.lines.taken c.loop-line.number c.loop-line.world.core c.play_line.new.world.core came.at came.short plays;
       few = c.in-Ok.ensures.few;
       numbers = omega (arith, c.loop-line.invariant.numbers, came.advances.some);
       counting =
