@@ -6,6 +6,8 @@ mod cells;
 mod movers;
 mod reasons;
 mod sessions;
+mod start;
 mod world;
 
+pub use start::Backends;
 pub use world::World;

@@ -1,0 +1,41 @@
+-- How a world begins, and what its backends hold when it is given up.
+use Rattle.std.specs.Prelude.{◌≡◌, ℕ, Bool, true, List, [], All, map, replicate, slice_get}
+use Rattle.std.specs.declared.option.Option.{Option}
+use Rattle.std.specs.declared.option.Option.TheVariants.{Some}
+use Rattle.std.specs.List.{range_with_len}
+use Rattle.cj_model.specs.declared.database.Slot.{Slot}
+use Rattle.cj_model.specs.declared.event.Event.{Event}
+use Rattle.cj_model.specs.declared.event.Event.TheVariants.{Enabled}
+use Rattle.cj_model.specs.Placements.{everywhere, part}
+use Rattle.cj_model.specs.Histories.{log, free, enabled, run, at}
+use Rattle.cj_model.specs.Cores.{Core, position_at}
+
+-- n backends are enabled, in the order of their numbers
+abbrev pub enables : ℕ → List Event
+enables n = map Enabled (range_with_len 0 n)
+
+-- n backends are enabled and have taken no entry, and no session was opened
+abbrev pub started : ℕ → Core
+started n =
+    record {
+      placement = everywhere n;
+      history = enables n;
+      positions = replicate n (Some 0);
+      failed = 0;
+      starved = 0;
+      sessions = [];
+      greatest = 0;
+    }
+
+-- backends that tell what they hold tell that they are empty
+abbrev pub AreEmpty : Bool → List (Option (List Slot)) → Type 0
+AreEmpty tells told = tells ≡ true → All (λ (t : Option (List Slot)). t ≡ Some []) told
+
+-- each backend that is not out holds its part of the database after the entries that it has taken
+abbrev pub AreHolding : Bool → Core → List (Option (List Slot)) → Type 0
+AreHolding tells c told = tells ≡ true → (b p : ℕ) → position_at c b ≡ Some p → slice_get told b ≡ Some (Some (part c.placement b (at (log c.history) p)))
+
+-- where no entry is open, each enabled backend holds its part of the database after the whole log
+abbrev pub AreCurrent : Bool → Core → List (Option (List Slot)) → Type 0
+AreCurrent tells c told =
+    tells ≡ true → free c.history ≡ true → (b : ℕ) → enabled c.history b ≡ true → slice_get told b ≡ Some (Some (part c.placement b (run (log c.history))))
