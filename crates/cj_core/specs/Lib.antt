@@ -2,6 +2,7 @@ pub mod Counting
 pub mod Effects
 pub mod Kept
 pub mod Places
+pub mod Played
 pub mod Starts
 pub mod Steps
 pub mod Taking

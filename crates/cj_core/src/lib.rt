@@ -5,6 +5,7 @@
 mod cells;
 mod movers;
 mod reasons;
+mod runs;
 mod sessions;
 mod start;
 mod world;

@@ -1,0 +1,135 @@
+-- How a list of moves comes from move to move.
+use Rattle.std.proofs.Common.{◌≡◌, ℕ, ◌+◌, ◌<◌, ◌≤◌, ◌^◌, Bool, true, List, [], ◌∷◌, ◌++◌, length, map, take, get_or, All, refl, ap, sym, ◌∙◌, subst, arith, Some}
+use mathlib.Core.List.{IsPrefix}
+use Rattle.std.proofs.lemmas.List.{take_more, map_push, length-take-le}
+use Rattle.std.proofs.lemmas.List.Elements.{All-get_or, All-take}
+use Rattle.cj_outside.specs.Causes.{Rose}
+use Rattle.cj_model.specs.declared.moves.Move.{Move}
+use Rattle.cj_model.specs.declared.moves.Move.TheVariants.{Open, Close, Schedule, Apply, End, Read, Arm, Disable, Replay, Enable}
+use Rattle.cj_model.specs.declared.moves.Made.{Made}
+use Rattle.cj_model.specs.Placements.{Placement}
+use Rattle.cj_model.specs.Legality.{IsLegal}
+use Rattle.cj_model.specs.Cores.{Core, session_at}
+use Rattle.cj_model.specs.Moves.{Given, MovesTo}
+use Rattle.cj_model.specs.Runs.{Runs, IsMove, CanCount}
+use Rattle.cj_model.proofs.Growth.{Grows, can_count, runs_push, runs_grow, runs_sound}
+use Rattle.cj_model.proofs.Chains.{run_chained}
+use Rattle.cj_core.specs.Worlds.{WorldState, IsWorld}
+use Rattle.cj_core.specs.Counting.{HasCauses, faults_at, blamed}
+use Rattle.cj_core.specs.Steps.{CanAsk, IsMet}
+use Rattle.cj_core.specs.Played.{given_of, HaveCauses, HasRun, HasRunInPart}
+
+-- no count has fallen
+abbrev pub AreLater : WorldState → WorldState → Type 0
+AreLater old new = (b : ℕ) → faults_at old b ≤ faults_at new b
+
+-- the first n moves were made, with what each came to
+pub record Making (tells : Bool) (old : WorldState) (moves : List Move) (n : ℕ) (came : List Made) (now : WorldState) : Type 0 where
+  pub runs : Runs tells old.core (take n moves) (map given_of came) now.core
+  pub causes : HaveCauses old now (take n moves) (map given_of came)
+  pub later : AreLater old now
+
+-- ---- causes
+
+-- they stand as counts go on
+causes_later : (old mid new : WorldState) (ms : List Move) (gs : List Given) → AreLater mid new → HaveCauses old mid ms gs → HaveCauses old new ms gs
+causes_later old mid new [] [] later h = tt
+causes_later old mid new (m ∷ ms) (g ∷ gs) later h = (λ b is. (let rose : Rose (faults_at old b) (faults_at mid b) = h.0 b is in let le = later b in omega arith), causes_later old mid new ms gs later h.1)
+causes_later old mid new [] (g ∷ gs) later h = absurd h
+causes_later old mid new (m ∷ ms) [] later h = absurd h
+
+-- and one move more has its own
+causes_push : (old new : WorldState) (ms : List Move) (gs : List Given) (m : Move) (g : Given) → HaveCauses old new ms gs → ((b : ℕ) → blamed m g ≡ Some b → Rose (faults_at old b) (faults_at new b))
+    → HaveCauses old new (ms ++ m ∷ []) (gs ++ g ∷ [])
+causes_push old new [] [] m g h one = (one, tt)
+causes_push old new (n ∷ ms) (q ∷ gs) m g h one = (h.0, causes_push old new ms gs m g h.1 one)
+causes_push old new [] (q ∷ gs) m g h one = absurd h
+causes_push old new (n ∷ ms) [] m g h one = absurd h
+
+-- ---- from move to move
+
+-- at first none was made
+pub making_none : (tells : Bool) (old : WorldState) (moves : List Move) → Making tells old moves 0 [] old
+making_none tells old moves = record { runs = refl; causes = tt; later = λ b. omega arith }
+
+-- the state stayed, and counts went on
+pub making_same : (tells : Bool) (old : WorldState) (moves : List Move) (n : ℕ) (came : List Made) (mid new : WorldState) → Making tells old moves n came mid → new.core ≡ mid.core → AreLater mid new → Making tells old moves n came new
+making_same tells old moves n came mid new making same later =
+    record {
+      runs = subst (Runs tells old.core (take n moves) (map given_of came)) (sym same) making.runs;
+      causes = causes_later old mid new (take n moves) (map given_of came) later making.causes;
+      later = λ b. (let one = making.later b in let two = later b in omega arith);
+    }
+
+-- one more was made
+pub making_more : (tells : Bool) (old : WorldState) (moves : List Move) (n : ℕ) (m : Move) (came : List Made) (mid : WorldState) (made : Made) (new : WorldState) → n < length moves → m ≡ get_or moves n m
+    → Making tells old moves n came mid → MovesTo tells mid.core m (given_of made) new.core → HasCauses mid new m (given_of made) → Making tells old moves (n + 1) (came ++ made ∷ []) new
+making_more tells old moves n m came mid made new lt is making moves_to has =
+    let more : take (n + 1) moves ≡ take n moves ++ m ∷ [] = take_more moves n m lt ∙ ap (λ (x : Move). take n moves ++ x ∷ []) (sym is) in
+    let pushed = map_push given_of came made in
+    let front = causes_later old mid new (take n moves) (map given_of came) has.later making.causes in
+    let one : (b : ℕ) → blamed m (given_of made) ≡ Some b → Rose (faults_at old b) (faults_at new b) =
+        λ b is. (let rose : Rose (faults_at mid b) (faults_at new b) = has.rose b is in let le = making.later b in omega arith)
+    in
+    record {
+      runs = rw (more, pushed) (runs_push tells old.core (take n moves) (map given_of came) mid.core m (given_of made) new.core making.runs moves_to);
+      causes = rw (more, pushed) (causes_push old new (take n moves) (map given_of came) m (given_of made) front one);
+      later = λ b. (let a = making.later b in let c = has.later b in omega arith);
+    }
+
+-- ---- what holds on the way
+
+-- a session that can make one request more can make the move
+can_ask : (c : Core) → CanCount c 1 → (m : Move) → CanAsk c m
+can_ask c can (Open user) = tt
+can_ask c can (Close s) = tt
+can_ask c can (Schedule s r) = let le = can s in omega arith
+can_ask c can (Apply b) = tt
+can_ask c can End = tt
+can_ask c can (Read s b select) = let le = can s in omega arith
+can_ask c can (Arm b) = tt
+can_ask c can (Disable b) = tt
+can_ask c can (Replay b) = tt
+can_ask c can (Enable b) = tt
+
+module _ (tells : Bool) (old : WorldState) (moves : List Move) (n : ℕ) (came : List Made) (now : WorldState)
+    (world : IsWorld tells old) (are : All (IsMove old.core.placement.backends) moves) (count : CanCount old.core (length moves)) (within : n ≤ length moves) (making : Making tells old moves n came now) where
+  front_are : All (IsMove old.core.placement.backends) (take n moves)
+  front_are = All-take (IsMove old.core.placement.backends) n moves are
+
+  front_length : length (take n moves) ≡ n
+  front_length = length-take-le n moves within
+
+  front_count : CanCount old.core (length (take n moves))
+  front_count s = let can = count s in let e = front_length in omega arith
+
+  grown : Grows (length (take n moves)) old.core now.core
+  grown = runs_grow tells old.core (take n moves) (map given_of came) now.core making.runs
+
+  -- the history has grown
+  pub making_longer : IsPrefix old.core.history now.core.history
+  making_longer = grown.longer
+
+  -- and is legal
+  pub making_legal : IsLegal now.core.history
+  making_legal = (runs_sound tells old.core (take n moves) (map given_of came) now.core front_are front_count world.sound making.runs).legal
+
+  -- the moves were made, and the replies to each session are a chain of turns
+  pub making_run : HasRun tells old (take n moves) (map given_of came) now
+  making_run =
+      record {
+        runs = making.runs;
+        chains = λ on s a between. run_chained old.core (take n moves) (map given_of came) now.core world.sound front_are front_count (subst (λ (t : Bool). Runs t old.core (take n moves) (map given_of came) now.core) on making.runs) s a between;
+        causes = making.causes;
+      }
+
+  -- the next move can be asked for
+  pub making_met : (m : Move) → n < length moves → m ≡ get_or moves n m → IsMet now.core m
+  making_met m lt is =
+      let room : CanCount old.core (length (take n moves) + 1) = λ s. (let can = count s in let e = front_length in let le : (session_at old.core s).queries + (length (take n moves) + 1) ≤ 2 ^ 62 = omega arith in le) in
+      let here : IsMove old.core.placement.backends m = subst (IsMove old.core.placement.backends) (sym is) (All-get_or (IsMove old.core.placement.backends) moves n m lt are) in
+      (subst (λ (p : Placement). IsMove p.backends m) (sym grown.placement) here, can_ask now.core (can_count (length (take n moves)) 1 old.core now.core grown room) m)
+
+  -- no more of them are
+  pub making_part : HasRunInPart tells old moves now
+  making_part = record { count = n; within = within; given = map given_of came; run = making_run }

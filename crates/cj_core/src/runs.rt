@@ -1,0 +1,63 @@
+//! Lists of moves.
+
+ghost use Rattle.std.specs.Prelude.{◌≡◌, ◌≤◌, ℕ, All, MatchResult, map, length};
+ghost use mathlib.Core.List.{IsPrefix};
+ghost use Rattle.cj_model.specs.Legality.{IsLegal};
+ghost use Rattle.cj_model.specs.Moves.{MovesTo};
+ghost use Rattle.cj_model.specs.Runs.{IsMove, CanCount};
+ghost use Rattle.cj_core.specs.Counting.{HasCauses, faults_at};
+ghost use Rattle.cj_core.specs.Played.{given_of, HasRun, HasRunInPart};
+ghost use Rattle.cj_core.specs.Steps.{IsMet};
+
+use crate::world::World;
+use cj_backend::Backend;
+use cj_model::{Duplicate, Made, Move, MoveError, MovedList, Moves, NoMemory};
+use std::alloc::Global;
+
+impl<B: Backend> World<B> {
+    /// Makes a move, or answers why it can't be made now. Want of memory changes nothing.
+    pub fn make(&mut self, m: Move) -> Result<Made, NoMemory>
+        requires { IsMet self.old.core m }
+        ensures made { MatchResult result (λ made. MovesTo B.TELLS self.old.core m (given_of made) self.new.core) (λ _. self.new.core ≡ self.old.core) }
+        ensures causes { MatchResult result (λ made. HasCauses self.old self.new m (given_of made)) (λ _. (b : ℕ) → faults_at self.old b ≤ faults_at self.new b) }
+    {
+        match self.step(m) {
+            Ok(moved) => Ok(Made::Moved(moved)),
+            Err(MoveError::NotNow(why)) => Ok(Made::NotNow(why)),
+            Err(MoveError::NoMemory) => Err(NoMemory),
+        }
+    }
+
+    /// The same of a move that stays with its list.
+    fn make_copy(&mut self, alloc: Global, m: &Move) -> Result<Made, NoMemory>
+        requires { IsMet self.old.core m.now }
+        ensures made { MatchResult result (λ made. MovesTo B.TELLS self.old.core m.now (given_of made) self.new.core) (λ _. self.new.core ≡ self.old.core) }
+        ensures causes { MatchResult result (λ made. HasCauses self.old self.new m.now (given_of made)) (λ _. (b : ℕ) → faults_at self.old b ≤ faults_at self.new b) }
+    {
+        let m = m.copy(alloc)?;
+        self.make(m)
+    }
+
+    /// Makes the moves in order, and answers what each came to; one that can't be made now changes nothing. After want
+    /// of memory the first of them were made, and no more.
+    pub fn run(&mut self, alloc: Global, moves: &Moves) -> Result<MovedList, NoMemory>
+        requires are { All (IsMove self.old.core.placement.backends) moves.now }
+        requires count { CanCount self.old.core (length moves.now) }
+        ensures runs { MatchResult result (λ made. HasRun B.TELLS self.old moves.now (map given_of made) self.new) (λ _. HasRunInPart B.TELLS self.old moves.now self.new) }
+        ensures longer { IsPrefix self.old.core.history self.new.core.history }
+        ensures legal { IsLegal self.new.core.history }
+        ensures later { (b : ℕ) → faults_at self.old b ≤ faults_at self.new b }
+    {
+        self.legal();
+        let Ok(mut made) = Vec::with_capacity(alloc, moves.len()) else {
+            return Err(NoMemory);
+        };
+        for m in moves.as_slice() {
+            let Ok(came) = self.make_copy(alloc, m) else {
+                return Err(NoMemory);
+            };
+            made.push_reserved(came);
+        }
+        Ok(MovedList::from_vec(made))
+    }
+}
