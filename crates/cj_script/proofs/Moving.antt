@@ -1,5 +1,5 @@
 -- Lines that are moves: what they take at least, and how many can come.
-use Rattle.std.proofs.Common.{◌≡◌, ◌≢◌, ℕ, ◌+◌, ◌*◌, ◌-◌, ◌≤◌, ◌^◌, Bool, List, [], ◌∷◌, length, Option, refl, sym, ap, subst, arith}
+use Rattle.std.proofs.Common.{◌≡◌, ℕ, ◌+◌, ◌*◌, ◌-◌, ◌≤◌, ◌^◌, Bool, true, false, List, [], ◌∷◌, length, Option, refl, sym, ap, subst, arith}
 use Rattle.std.specs.Io.KnownBytes.{Appends}
 use Rattle.cj_outside.specs.Lines.{Reading}
 use Rattle.cj_outside.specs.Streams.{most}
@@ -8,7 +8,9 @@ use Rattle.cj_model.specs.Cores.{Core}
 use Rattle.cj_model.specs.Moves.{MovesTo}
 use Rattle.cj_model.specs.Runs.{CanCount}
 use Rattle.cj_model.proofs.Growth.{moves_grow, can_count}
-use Rattle.cj_script.specs.Script.{given_of}
+use Rattle.std.specs.Prelude.{MatchBool}
+use Rattle.cj_core.specs.Played.{given_of}
+use Rattle.cj_script.specs.Script.{is_blank, PlaysLine, MakesMove}
 use Rattle.cj_script.specs.Steps.{PlaysWritten}
 use Rattle.cj_script.proofs.Playing.{Advances}
 use Rattle.cj_model.specs.declared.moves.Move.{Move}
@@ -34,17 +36,30 @@ move_line_long names line (Enable b) (name, is, e) = verb_more line _ _ _ e
 
 -- ---- a line that was played
 
+-- it was skipped, or it made its move
+pub line_cases : (tells : Bool) (names : List (List ℕ)) (c : Core) (line written : List ℕ) (z : Core) (P : Type 0) → PlaysLine tells names c line written z → (written ≡ [] → z ≡ c → P) → (MakesMove tells names c line written z → P) → P
+line_cases tells names c line written z P h skipped made = by (is_blank line) h
+  where
+    by : (blank : Bool) → MatchBool blank ((written ≡ []) × (z ≡ c)) (MakesMove tells names c line written z) → P
+    by true q = skipped q.0 q.1
+    by false q = made q
+
 -- it made its move, and what that came to was written
 pub played_made : (tells : Bool) (names : List (List ℕ)) (held held' : Option (List ℕ)) (c : Core) (line : List ℕ) (m : Move) (made : Made) (z : Core)
-    → line ≢ [] → MoveLine names line m → MovesTo tells c m (given_of made) z → Appends held held' (moved_lines names made) → PlaysWritten tells names held held' c line z
-played_made tells names held held' c [] m made z some reads moves wrote = absurd (some refl)
-played_made tells names held held' c (b ∷ line) m made z some reads moves wrote =
-    record { written = moved_lines names made; plays = record { move = m; reads = reads; made = made; moves = moves; gives = refl }; appended = wrote }
+    → is_blank line ≡ false → MoveLine names line m → MovesTo tells c m (given_of made) z → Appends held held' (moved_lines names made) → PlaysWritten tells names held held' c line z
+played_made tells names held held' c line m made z some reads moves wrote =
+    let makes : MakesMove tells names c line (moved_lines names made) z = record { move = m; reads = reads; made = made; moves = moves; gives = refl } in
+    record {
+      written = moved_lines names made;
+      plays = subst (λ (b : Bool). MatchBool b ((moved_lines names made ≡ []) × (z ≡ c)) (MakesMove tells names c line (moved_lines names made) z)) (sym some) makes;
+      appended = wrote;
+    }
 
 -- the backends are the same as before it
 pub played_backends : (tells : Bool) (names : List (List ℕ)) (held held' : Option (List ℕ)) (c : Core) (line : List ℕ) (z : Core) → PlaysWritten tells names held held' c line z → z.placement ≡ c.placement
-played_backends tells names held held' c [] z h = ap (λ (x : Core). x.placement) h.plays.1
-played_backends tells names held held' c (b ∷ line) z h = (moves_grow tells c h.plays.move (given_of h.plays.made) z h.plays.moves).placement
+played_backends tells names held held' c line z h =
+    line_cases tells names c line h.written z (z.placement ≡ c.placement) h.plays (λ none same. ap (λ (x : Core). x.placement) same)
+    (λ made. (moves_grow tells c made.move (given_of made.made) z made.moves).placement)
 
 -- ---- how many can come
 
@@ -60,13 +75,14 @@ counting_start rest taken c none zero can = record { more = 2 ^ 61; can = can; r
 -- after a line there is room for those that can still come
 pub counting_played : (tells : Bool) (names : List (List ℕ)) (held held' : Option (List ℕ)) (old new : Reading) (line : List ℕ) (c z : Core)
     → Counting (length old.rest) old.taken c → Advances old new line → new.taken ≤ most → PlaysWritten tells names held held' c line z → Counting (length new.rest) new.taken z
-counting_played tells names held held' old new [] c z k a few h =
-    subst (Counting (length new.rest) new.taken) (sym h.plays.1) (record { more = k.more; can = k.can; room = omega (arith, k.room, a.some) })
-counting_played tells names held held' old new (b ∷ line) c z k a few h =
-    let long = move_line_long names (b ∷ line) h.plays.move h.plays.reads in
+counting_played tells names held held' old new line c z k a few h =
+    line_cases tells names c line h.written z (Counting (length new.rest) new.taken z) h.plays
+    (λ none same. subst (Counting (length new.rest) new.taken) (sym same) (record { more = k.more; can = k.can; room = omega (arith, k.room, a.some) }))
+    (λ made.
+    let long = move_line_long names line made.move made.reads in
     let some : 1 + (k.more - 1) ≡ k.more = omega (arith, k.room, a.by) in
     record {
       more = k.more - 1;
-      can = can_count 1 (k.more - 1) c z (moves_grow tells c h.plays.move (given_of h.plays.made) z h.plays.moves) (subst (CanCount c) (sym some) k.can);
+      can = can_count 1 (k.more - 1) c z (moves_grow tells c made.move (given_of made.made) z made.moves) (subst (CanCount c) (sym some) k.can);
       room = omega (arith, k.room, a.by, some, long);
-    }
+    })

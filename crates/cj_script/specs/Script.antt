@@ -1,26 +1,20 @@
 -- Scripts: what lines play, how they lie in the bytes taken, and how far a script came.
-use Rattle.std.specs.Prelude.{◌≡◌, ◌≢◌, ◌⊎◌, ℕ, ◌+◌, ◌<◌, ◌≤◌, Bool, List, [], ◌∷◌, ◌++◌, length, take, All, Ok, Err, IsSome}
+use Rattle.std.specs.Prelude.{◌≡◌, ◌⊎◌, ℕ, ◌+◌, ◌<◌, ◌≤◌, Bool, false, ◌||◌, ◌==◌, List, [], ◌∷◌, ◌++◌, length, take, All, IsSome, MatchBool}
 use Rattle.std.specs.declared.option.Option.{Option}
-use Rattle.std.specs.List.{flat_map}
+use Rattle.std.specs.List.{flat_map, list_all}
 use Rattle.std.specs.Io.KnownBytes.{Consumes, Appends, IsAtEnd}
 use Rattle.cj_outside.specs.Lines.{IsInLine, line_limit}
 use Rattle.cj_outside.specs.Streams.{most}
 use Rattle.cj_model.specs.declared.moves.Move.{Move}
-use Rattle.cj_model.specs.declared.moves.MoveError.TheVariants.{NotNow}
 use Rattle.cj_model.specs.declared.moves.Made.{Made}
-use Rattle.cj_model.specs.declared.moves.Made.TheVariants as made
 use Rattle.cj_model.specs.Cores.{Core}
-use Rattle.cj_model.specs.Moves.{Given, MovesTo}
+use Rattle.cj_model.specs.Moves.{MovesTo}
 use Rattle.cj_model.specs.Scripts.{MoveLine, moved_lines, ended}
+use Rattle.cj_core.specs.Played.{given_of}
 use Rattle.cj_script.specs.declared.play.ScriptEnd.{ScriptEnd}
 use Rattle.cj_script.specs.declared.play.ScriptEnd.TheVariants.{Done, Line, ReadFault, WriteFault, Spent, NoMemory}
 
 -- ---- lines that play
-
--- what a move came to is what it gave
-abbrev pub given_of : Made → Given
-given_of (made.Moved m) = Ok m
-given_of (made.NotNow why) = Err (NotNow why)
 
 -- The line is a move, which leads from c to z, and these are the lines of what it came to.
 pub record MakesMove (tells : Bool) (names : List (List ℕ)) (c : Core) (line written : List ℕ) (z : Core) : Type 0 where
@@ -30,10 +24,13 @@ pub record MakesMove (tells : Bool) (names : List (List ℕ)) (c : Core) (line w
   pub moves : MovesTo tells c move (given_of made) z
   pub gives : written ≡ moved_lines names made
 
--- an empty line is skipped, and another makes its move
+-- no byte but spaces and tabs
+abbrev pub is_blank : List ℕ → Bool
+is_blank line = list_all (λ b. b == 32 || b == 9) line
+
+-- a blank line is skipped, and another makes its move
 abbrev pub PlaysLine : Bool → List (List ℕ) → Core → List ℕ → List ℕ → Core → Type 0
-PlaysLine tells names c [] written z = (written ≡ []) × (z ≡ c)
-PlaysLine tells names c (b ∷ line) written z = MakesMove tells names c (b ∷ line) written z
+PlaysLine tells names c line written z = MatchBool (is_blank line) ((written ≡ []) × (z ≡ c)) (MakesMove tells names c line written z)
 
 -- From the state c the lines play, one after another, to the state z, and this is what they give.
 abbrev pub Plays : Bool → List (List ℕ) → Core → List (List ℕ) → List ℕ → Core → Type 0
@@ -60,9 +57,9 @@ IsNext left line rest = ((more : List ℕ) × (rest ≡ line ++ 10 ∷ more)) �
 abbrev pub IsNoMove : List (List ℕ) → List ℕ → Type 0
 IsNoMove names line = (m : Move) → MoveLine names line m → ⊥
 
--- the line can't be played: it is too long, or neither empty nor a move's
+-- the line can't be played: it is too long, or neither blank nor a move's
 abbrev pub IsWrong : List (List ℕ) → List ℕ → Type 0
-IsWrong names line = (line_limit < length line) ⊎ ((line ≢ []) × IsNoMove names line)
+IsWrong names line = (line_limit < length line) ⊎ ((is_blank line ≡ false) × IsNoMove names line)
 
 -- ---- how far a script came
 

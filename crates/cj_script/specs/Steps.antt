@@ -1,5 +1,5 @@
 -- The steps of a script: a line is read, and it is played.
-use Rattle.std.specs.Prelude.{◌≡◌, ◌≢◌, ◌⊎◌, ℕ, ◌≤◌, Bool, List, [], Result, Ok, Err, IsErrOf}
+use Rattle.std.specs.Prelude.{◌≡◌, ◌⊎◌, ℕ, ◌≤◌, Bool, false, List, [], Result, Ok, Err, IsErrOf}
 use Rattle.std.specs.declared.option.Option.{Option}
 use Rattle.std.specs.Global.{Vec}
 use Rattle.std.specs.Io.KnownBytes.{Appends}
@@ -8,7 +8,7 @@ use Rattle.cj_outside.specs.declared.lines.LineError.TheVariants as errors
 use Rattle.cj_outside.specs.Causes.{Rose}
 use Rattle.cj_outside.specs.Lines.{Reading, GivesLine}
 use Rattle.cj_model.specs.Cores.{Core}
-use Rattle.cj_script.specs.Script.{PlaysLine, MakesInPart, IsNoMove}
+use Rattle.cj_script.specs.Script.{is_blank, PlaysLine, MakesInPart, IsNoMove}
 use Rattle.cj_script.specs.declared.play.ScriptEnd.{ScriptEnd}
 use Rattle.cj_script.specs.declared.play.ScriptEnd.TheVariants.{Done, Line, ReadFault, WriteFault, Spent, NoMemory}
 
@@ -32,9 +32,9 @@ pub record PlaysWritten (tells : Bool) (names : List (List ℕ)) (held held' : O
 abbrev pub Stays : Option (List ℕ) → Option (List ℕ) → Core → Core → Type 0
 Stays held held' c z = (z ≡ c) × Appends held held' []
 
--- the line is no move's, and it is not empty
+-- the line is no move's, and it is not blank
 pub record RefusesLine (names : List (List ℕ)) (held held' : Option (List ℕ)) (c : Core) (line : List ℕ) (z : Core) : Type 0 where
-  pub some : line ≢ []
+  pub some : is_blank line ≡ false
   pub none : IsNoMove names line
   pub stays : Stays held held' c z
 

@@ -3,11 +3,10 @@
 ghost use Rattle.std.specs.Prelude.{◌≡◌, ◌≤◌, ◌^◌, ℕ, IfOk, IsErrOf, MatchResult, length};
 ghost use Rattle.cj_outside.specs.Causes.{HasOutCause, Rose};
 ghost use Rattle.cj_outside.specs.Streams.{most, WritesAll};
-ghost use Rattle.cj_model.specs.declared.moves.MoveError.TheVariants as move_errors;
-ghost use Rattle.cj_model.specs.Moves.{MovesTo};
-ghost use Rattle.cj_model.specs.Runs.{CanCount, IsMove};
+ghost use Rattle.cj_model.specs.Runs.{CanCount};
 ghost use Rattle.cj_model.specs.Scripts.{moved_lines};
-ghost use Rattle.cj_script.specs.Script.{CameTo, given_of};
+ghost use Rattle.cj_script.specs.Script.{CameTo};
+ghost use Rattle.cj_script.specs.Script as steps;
 ghost use Rattle.cj_script.specs.Steps.{HasEndCause, PlaysOrEnds, ReadsLine};
 ghost use Rattle.cj_script.specs.declared.play.ScriptEnd.TheVariants as ends;
 ghost use Rattle.std.specs.declared.result.Result.TheVariants.{Err};
@@ -16,7 +15,7 @@ use crate::parse::parse_move;
 use crate::print::print_made;
 use cj_backend::Backend;
 use cj_core::World;
-use cj_model::{Made, Move, MoveError, Names, NoMemory};
+use cj_model::{Made, Names};
 use cj_outside::{Line, LineError, Lines, OutError, Sink, Source, write_all};
 use std::alloc::Global;
 
@@ -25,7 +24,7 @@ use std::alloc::Global;
 pub enum ScriptEnd {
     /// All lines were played.
     Done,
-    /// This line, counted from 1, is too long, or neither empty nor a move's.
+    /// This line, counted from 1, is too long, or neither blank nor a move's.
     Line(u64),
     /// The source failed.
     ReadFault,
@@ -60,18 +59,11 @@ fn read_line<I: Source>(
     }
 }
 
-/// Makes a move, or not where it can't be made now.
-fn make_move<B: Backend>(world: &mut World<B>, m: Move) -> Result<Made, NoMemory>
-    requires is { IsMove world.old.core.placement.backends m }
-    requires count { CanCount world.old.core 1 }
-    ensures { MatchResult result (λ made. MovesTo B.TELLS world.old.core m (given_of made) world.new.core)
-        (λ _. world.new.core ≡ world.old.core) }
+/// Whether a line has nothing but spaces and tabs.
+fn is_blank(line: &[u8]) -> bool
+    ensures { result ≡ steps.is_blank line.now }
 {
-    match world.step(m) {
-        Ok(moved) => Ok(Made::Moved(moved)),
-        Err(MoveError::NotNow(why)) => Ok(Made::NotNow(why)),
-        Err(MoveError::NoMemory) => Err(NoMemory),
-    }
+    line.iter().all(|b| *b == b' ' || *b == b'\t')
 }
 
 /// Writes the lines of what a move came to.
@@ -104,7 +96,7 @@ fn play_line<B: Backend, O: Sink>(
     ensures plays { PlaysOrEnds B.TELLS names.now (O.held output.old) (O.held output.new) world.old.core line.now number result world.new.core }
     ensures cause { HasEndCause ends.WriteFault (O.faults output.old) (O.faults output.new) result }
 {
-    if line.is_empty() {
+    if is_blank(line) {
         return Ok(());
     }
     world.legal();
@@ -113,7 +105,7 @@ fn play_line<B: Backend, O: Sink>(
         Ok(None) => return Err(ScriptEnd::Line(number)),
         Err(_) => return Err(ScriptEnd::NoMemory),
     };
-    let Ok(made) = make_move(world, m) else {
+    let Ok(made) = world.make(m) else {
         return Err(ScriptEnd::NoMemory);
     };
     match write_made(alloc, names, &made, output) {
