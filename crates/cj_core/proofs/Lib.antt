@@ -5,7 +5,9 @@ pub mod Ending
 pub mod Keeping
 pub mod Noting
 pub mod Reading
+pub mod Resting
 pub mod Scheduling
 pub mod Seats
 pub mod Serving
+pub mod Starting
 pub mod Taking
