@@ -3,6 +3,7 @@ pub mod Catching
 pub mod Counted
 pub mod Ending
 pub mod Keeping
+pub mod Leaving
 pub mod Noting
 pub mod Reading
 pub mod Resting

@@ -1,5 +1,5 @@
 -- A world of which no backend has taken an entry, and how its backends are enabled one after another.
-use Rattle.std.proofs.Common.{◌≡◌, ◌≢◌, ℕ, zero, suc, ◌+◌, ◌-◌, ◌*◌, ◌^◌, ◌<◌, ◌≤◌, Bool, true, false, ◌==◌, ◌||◌, List, [], ◌∷◌, ◌++◌, length, map, take, replicate, get_or, All, Option, None, Some, Err, refl, ap, sym, ◌∙◌, subst, arith, ne_eqb}
+use Rattle.std.proofs.Common.{◌≡◌, ◌≢◌, ℕ, zero, suc, ◌+◌, ◌^◌, ◌<◌, ◌≤◌, Bool, true, false, ◌==◌, List, [], ◌∷◌, ◌++◌, length, map, replicate, get_or, All, Option, None, Some, Err, refl, ap, sym, ◌∙◌, subst, arith, ne_eqb}
 use Rattle.std.proofs.lemmas.Bool.{both_ways}
 use Rattle.std.proofs.lemmas.List.{length-map, get_or-map, get_or-replicate, length-replicate, ext_get_or}
 use Rattle.std.proofs.lemmas.List.Elements.{All-nil, All-get_or}
@@ -8,9 +8,8 @@ use Rattle.cj_model.specs.declared.database.Slot.{Slot}
 use Rattle.cj_model.specs.declared.request.Entry.{Entry}
 use Rattle.cj_model.specs.declared.event.Event.{Event}
 use Rattle.cj_model.specs.declared.event.Event.TheVariants.{Enabled}
-use Rattle.cj_model.specs.Placements.{everywhere, part}
+use Rattle.cj_model.specs.Placements.{everywhere}
 use Rattle.cj_model.specs.Histories.{has, log, done, free, enabled, room}
-use Rattle.cj_model.specs.Legality.{IsLegal}
 use Rattle.cj_model.specs.Cores.{Core, position_at}
 use Rattle.cj_model.specs.Sound.{IsSound, Stands, Holds}
 use Rattle.cj_model.proofs.Masks.{has-zero}
@@ -18,7 +17,7 @@ use Rattle.cj_model.proofs.Pushed.{enabled-push, log-same, done-same}
 use Rattle.cj_book.specs.declared.error.BookError.{BookError}
 use Rattle.cj_book.specs.declared.error.BookError.TheVariants.{HistoryFull}
 use Rattle.cj_replica.specs.Cells.{CellState}
-use Rattle.cj_core.specs.Worlds.{core_of, world_of, IsCell, backend_limit}
+use Rattle.cj_core.specs.Worlds.{core_of, world_of, backend_limit}
 use Rattle.cj_core.specs.Effects.{happened, HadRoom}
 use Rattle.cj_core.specs.Kept.{Kept}
 use Rattle.cj_core.specs.Starts.{IsFresh, AreFresh, AreEmpty, enables, begun}

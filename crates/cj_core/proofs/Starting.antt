@@ -7,7 +7,7 @@ use Rattle.cj_replica.specs.Cells.{CellState}
 use Rattle.cj_core.specs.Starts.{IsFresh, AreFresh}
 
 -- what was moved and what is left, last first, are all; so too after one more
-moved_on : {A X Y : Type 0} (f : Y → A) (g : X → A) (all left : List X) (x : X) (moved : List Y) (y : Y) → f y ≡ g x → map f moved ++ map g (reverse (left ++ x ∷ [])) ≡ map g all
+pub moved_on : {A X Y : Type 0} (f : Y → A) (g : X → A) (all left : List X) (x : X) (moved : List Y) (y : Y) → f y ≡ g x → map f moved ++ map g (reverse (left ++ x ∷ [])) ≡ map g all
     → map f (moved ++ y ∷ []) ++ map g (reverse left) ≡ map g all
 moved_on f g all left x moved y same was =
     ap (λ l. l ++ map g (reverse left)) (map_push f moved y)

@@ -1,6 +1,6 @@
 //! How a world begins, and how it is given up.
 
-ghost use Rattle.std.specs.Prelude.{◌≡◌, ◌+◌, ◌<◌, ◌≤◌, [], length, map, IfOk, OnOk};
+ghost use Rattle.std.specs.Prelude.{◌≡◌, ◌+◌, ◌<◌, ◌≤◌, [], length, map, vec_capacity, IfOk, OnOk};
 ghost use Rattle.cj_replica.specs.Cells.{CellState};
 ghost use Rattle.cj_core.specs.Starts.{AreEmpty, AreFresh, AreHolding, AreCurrent, begun, started};
 
@@ -36,6 +36,20 @@ fn cells_of<B: Backend + Drop>(
     Ok(cells)
 }
 
+/// Moves the backends out of their cells into an empty list, in the order of numbers.
+fn backends_of<B: Backend + Drop>(mut cells: Vec<Cell<B>>, mut backends: Vec<B>) -> Vec<B>
+    requires empty { backends.items ≡ [] }
+    requires room { length cells.items ≤ vec_capacity backends }
+    ensures told { map B.told result.items ≡ map (λ (x : CellState). x.told) cells.items }
+    ensures faults { map B.faults result.items ≡ map (λ (x : CellState). x.faults) cells.items }
+{
+    cells.reverse();
+    while let Some(cell) = cells.pop() {
+        backends.push_reserved(cell.into_backend());
+    }
+    backends
+}
+
 impl<B: Backend + Drop> World<B> {
     /// The core over these backends, which are all enabled, with no session open.
     pub fn start(
@@ -57,6 +71,17 @@ impl<B: Backend + Drop> World<B> {
         let mut world = World::at_rest(alloc, book, cells, Emptied::new(list)?);
         world.enable_all(parts.backends)?;
         Ok(world)
+    }
+
+    /// The backends, as they stand. It takes no memory.
+    pub fn into_backends(self) -> Backends<B>
+        ensures told { map B.told result ≡ map (λ (x : CellState). x.told) self.cells }
+        ensures faults { map B.faults result ≡ map (λ (x : CellState). x.faults) self.cells }
+        ensures holding { AreHolding B.TELLS self.core (map B.told result) }
+        ensures current { AreCurrent B.TELLS self.core (map B.told result) }
+    {
+        let (cells, emptied) = self.into_parts();
+        ListOf::from_vec(backends_of(cells, emptied.into_vec()))
     }
 
     /// Enables each backend, in the order of numbers.

@@ -158,6 +158,20 @@ impl<B: Backend> World<B> {
     }
 }
 
+// ---- how it is given up
+
+impl<B: Backend + Drop> World<B> {
+    /// Its cells, and the list that their backends came in.
+    pub(crate) fn into_parts(self) -> (Vec<Cell<B>>, Emptied<B>)
+        ensures cells { result.0.items ≡ self.cells }
+        ensures few { length self.cells ≤ BACKEND_LIMIT }
+        ensures legal { IsWorld B.TELLS self }
+    {
+        let World { cells, emptied, .. } = self;
+        (cells, emptied)
+    }
+}
+
 // ---- what moves read
 
 impl<B: Backend> World<B> {

@@ -1,4 +1,3 @@
-use Rattle.std.proofs.Common.{◌≡◌, [], None, sym, ap, ap₂, ◌∙◌, subst}
 use Rattle.cj_core.proofs.Resting.{kept_at_rest, core_at_rest}
 use Rattle.cj_core.proofs.world.World.at_rest.Goals as goal
 

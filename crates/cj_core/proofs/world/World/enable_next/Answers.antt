@@ -1,4 +1,4 @@
-use Rattle.std.proofs.Common.{◌≡◌, ◌+◌, ◌<◌, ◌≤◌, ◌∷◌, ◌++◌, [], true, false, refl, sym, ap, ◌∙◌, subst, arith}
+use Rattle.std.proofs.Common.{◌≡◌, ◌≤◌, true, false, sym, ap, ◌∙◌, subst, arith}
 use Rattle.cj_model.specs.Histories.{free, enabled}
 use Rattle.cj_model.specs.Cores.{Core}
 use Rattle.cj_model.specs.declared.event.Event.TheVariants.{Enabled}
