@@ -13,7 +13,7 @@ pub struct Emptied<B> {
 }
 
 impl<B> Model for Emptied<B> {
-    ghost use Rattle.std.specs.Prelude.{List, ◌≡◌, ◌≤◌, [], length, vec_capacity};
+    ghost use Rattle.std.specs.Prelude.{List, ◌≡◌, ◌≤◌, [], vec_capacity};
     ghost use Rattle.std.specs.Coded.{coded_list};
     ghost use Rattle.cj_book.specs.declared.book.TheConstants.{BACKEND_LIMIT};
 
@@ -27,7 +27,7 @@ impl<B> Model for Emptied<B> {
 }
 
 impl<B> Emptied<B> {
-    /// Takes an empty list, and makes room in it.
+    /// An empty list, in which room is made.
     pub fn new(list: Vec<B>) -> Result<Self, NoMemory>
     where
         B: Drop,
@@ -38,7 +38,7 @@ impl<B> Emptied<B> {
         Ok(Emptied { list })
     }
 
-    /// The list.
+    /// The list, which is empty and has room for the most backends.
     pub fn into_vec(self) -> Vec<B>
         ensures items { result.items ≡ [] }
         ensures room { BACKEND_LIMIT ≤ vec_capacity result }

@@ -51,7 +51,8 @@ fn backends_of<B: Backend + Drop>(mut cells: Vec<Cell<B>>, mut backends: Vec<B>)
 }
 
 impl<B: Backend + Drop> World<B> {
-    /// The core over these backends, which are all enabled, with no session open.
+    /// The core over these backends, which are all enabled, with no session open. Where there is
+    /// no memory for it, the backends are dropped.
     pub fn start(
         alloc: Global,
         parts: BookParts,
@@ -73,7 +74,7 @@ impl<B: Backend + Drop> World<B> {
         Ok(world)
     }
 
-    /// The backends, as they stand. It takes no memory.
+    /// The backends in the order of their numbers, as they stand. It takes no memory.
     pub fn into_backends(self) -> Backends<B>
         ensures told { map B.told result ≡ map (λ (x : CellState). x.told) self.cells }
         ensures faults { map B.faults result ≡ map (λ (x : CellState). x.faults) self.cells }
