@@ -1,7 +1,7 @@
 -- Each change keeps what a world keeps.
-use Rattle.std.proofs.Common.{◌≡◌, ◌≢◌, ◌⊎◌, inl, inr, ℕ, ◌+◌, ◌-◌, ◌*◌, ◌^◌, ◌<◌, ◌≤◌, ◌==◌, ◌&&◌, not, Bool, true, false, List, [], ◌∷◌, ◌++◌, length, map, take, get_or, set, All, Option, None, Some, IsSome, is_some, refl, ap, sym, ◌∙◌, subst, arith, length-append, ⊎_elim}
+use Rattle.std.proofs.Common.{◌≡◌, ℕ, ◌+◌, ◌^◌, ◌<◌, ◌≤◌, Bool, true, false, List, [], ◌∷◌, ◌++◌, length, map, get_or, set, Option, None, Some, refl, ap, sym, ◌∙◌, subst, arith, length-append, ⊎_elim}
 use Rattle.std.proofs.lemmas.Bool.{cases_eq, both_ways, or_parts, leb-false}
-use Rattle.std.proofs.lemmas.List.{get_or-set_same, get_or-set_other, length-set, length-map, map-set, get_or-map, take-append-le}
+use Rattle.std.proofs.lemmas.List.{get_or-set_same, get_or-set_other, length-set, get_or-map, take-append-le}
 use Rattle.cj_model.specs.declared.request.Entry.{Entry}
 use Rattle.cj_model.specs.declared.answer.Outcome.{Outcome}
 use Rattle.cj_model.specs.declared.select.Select.{Select}
@@ -10,7 +10,7 @@ use Rattle.cj_model.specs.declared.event.Event.TheVariants.{Sched, Ended, ReadFa
 use Rattle.cj_model.specs.declared.moves.OpenSession.{OpenSession}
 use Rattle.cj_model.specs.declared.database.Slot.{Slot}
 use Rattle.cj_model.specs.Placements.{Placement, everywhere, part}
-use Rattle.cj_model.specs.Histories.{has, scheduled, is_ended, log, done, free, opened, enabled, room, run, at, said}
+use Rattle.cj_model.specs.Histories.{scheduled, is_ended, log, done, free, opened, enabled, room, run, said}
 use Rattle.cj_model.specs.Legality.{IsFit, user_limit}
 use Rattle.cj_model.specs.Cores.{Core, position_at, session_limit, session_at, fresh_session, with_session, is_by}
 use Rattle.cj_model.specs.Moves.{behind, is_open, has_no_number, next_entry, counted, answered_at, was_answered, still_reading}
@@ -21,7 +21,7 @@ use Rattle.cj_model.proofs.Effects.{SessionsAre, KeepsSession, sessions_are, are
 use Rattle.cj_model.proofs.Soundness.{session_sound, read_counts}
 use Rattle.cj_model.proofs.Now.{behind_none}
 use Rattle.cj_replica.specs.Cells.{CellState}
-use Rattle.cj_core.specs.Worlds.{WorldState, core_of, world_of, IsCell, IsWorld, backend_limit}
+use Rattle.cj_core.specs.Worlds.{core_of, world_of, IsCell}
 use Rattle.cj_core.specs.Kept.{Kept}
 
 -- ---- cells

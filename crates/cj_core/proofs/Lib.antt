@@ -3,10 +3,13 @@ pub mod Catching
 pub mod Counted
 pub mod Ending
 pub mod Keeping
+pub mod Leaving
 pub mod Making
 pub mod Noting
 pub mod Reading
+pub mod Resting
 pub mod Scheduling
 pub mod Seats
 pub mod Serving
+pub mod Starting
 pub mod Taking

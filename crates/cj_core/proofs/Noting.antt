@@ -1,5 +1,5 @@
 -- What the book's answers say of the core.
-use Rattle.std.proofs.Common.{◌≡◌, ℕ, ◌+◌, ◌<◌, ◌≤◌, ◌++◌, ◌∷◌, [], true, List, length, Result, Ok, Err, OnOk, OnErr, ap, sym, ◌∙◌, subst, refl, arith, length-append}
+use Rattle.std.proofs.Common.{◌≡◌, ℕ, ◌+◌, ◌<◌, ◌++◌, ◌∷◌, [], true, List, length, Result, Ok, Err, OnOk, OnErr, ap, sym, ◌∙◌, subst, refl, arith, length-append}
 use Rattle.std.specs.Prelude.{IfErr, ◌↔◌}
 use Rattle.cj_model.specs.declared.request.Act.{Act}
 use Rattle.cj_model.specs.declared.request.Act.TheVariants as act
@@ -8,9 +8,8 @@ use Rattle.cj_model.specs.declared.event.Event.{Event}
 use Rattle.cj_model.specs.declared.event.Event.TheVariants.{Sched}
 use Rattle.cj_model.specs.declared.moves.OpenSession.{OpenSession}
 use Rattle.cj_model.specs.Plain.{request_of}
-use Rattle.cj_model.specs.Placements.{everywhere, needs_backend}
+use Rattle.cj_model.specs.Placements.{needs_backend}
 use Rattle.cj_model.specs.Histories.{log, enabled, room}
-use Rattle.cj_model.specs.Answering.{Served}
 use Rattle.cj_model.specs.Sound.{IsLone}
 use Rattle.cj_model.proofs.Pushed.{log-sched}
 use Rattle.cj_book.specs.declared.error.BookError.{BookError}

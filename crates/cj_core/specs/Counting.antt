@@ -1,5 +1,5 @@
 -- The faults that backends have counted, and when they rise.
-use Rattle.std.specs.Prelude.{◌≡◌, ◌⊎◌, ℕ, ◌≤◌, ◌||◌, ◌==◌, if◌then◌else◌, List, map, slice_index_or, Ok, Err}
+use Rattle.std.specs.Prelude.{◌≡◌, ℕ, ◌≤◌, ◌||◌, ◌==◌, if◌then◌else◌, map, slice_index_or, Ok}
 use Rattle.std.specs.declared.option.Option.{Option}
 use Rattle.std.specs.declared.option.Option.TheVariants.{None, Some}
 use Rattle.cj_outside.specs.Causes.{Rose}

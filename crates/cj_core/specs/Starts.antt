@@ -1,5 +1,5 @@
 -- How a world begins, and what its backends hold when it is given up.
-use Rattle.std.specs.Prelude.{◌≡◌, ℕ, Bool, true, List, [], All, map, replicate, slice_get}
+use Rattle.std.specs.Prelude.{◌≡◌, ℕ, ◌<◌, Bool, true, List, [], All, length, map, replicate, slice_get, slice_index_or}
 use Rattle.std.specs.declared.option.Option.{Option}
 use Rattle.std.specs.declared.option.Option.TheVariants.{Some}
 use Rattle.std.specs.List.{range_with_len}
@@ -9,6 +9,7 @@ use Rattle.cj_model.specs.declared.event.Event.TheVariants.{Enabled}
 use Rattle.cj_model.specs.Placements.{everywhere, part}
 use Rattle.cj_model.specs.Histories.{log, free, enabled, run, at}
 use Rattle.cj_model.specs.Cores.{Core, position_at}
+use Rattle.cj_replica.specs.Cells.{CellState}
 
 -- n backends are enabled, in the order of their numbers
 abbrev pub enables : ℕ → List Event
@@ -26,6 +27,21 @@ started n =
       sessions = [];
       greatest = 0;
     }
+
+-- of n backends the first k are enabled, in the order of their numbers; else as above
+abbrev pub begun : ℕ → ℕ → Core
+begun n k = record (started n) { history = enables k }
+
+-- the cell of backend b, of n, which has taken no entry
+pub record IsFresh (n b : ℕ) (x : CellState) : Type 0 where
+  pub number : x.b ≡ b
+  pub backends : x.backends ≡ n
+  pub position : x.position ≡ Some 0
+
+-- the cells of n backends by their numbers, none of which has taken an entry
+pub record AreFresh (n : ℕ) (cells : List CellState) : Type 0 where
+  pub as_many : length cells ≡ n
+  pub each : (b : ℕ) (d : CellState) → b < length cells → IsFresh n b (slice_index_or cells b d)
 
 -- backends that tell what they hold tell that they are empty
 abbrev pub AreEmpty : Bool → List (Option (List Slot)) → Type 0

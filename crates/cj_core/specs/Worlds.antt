@@ -1,7 +1,6 @@
 -- What contracts see of a world, and what holds of every one.
 use Rattle.std.specs.Prelude.{◌≡◌, ℕ, ◌<◌, ◌≤◌, Bool, true, List, length, map, slice_index_or}
-use Rattle.std.specs.declared.option.Option.{Option}
-use Rattle.std.specs.declared.option.Option.TheVariants.{None, Some}
+use Rattle.std.specs.declared.option.Option.TheVariants.{Some}
 use Rattle.cj_model.specs.declared.request.Entry.{Entry}
 use Rattle.cj_model.specs.declared.event.Event.{Event}
 use Rattle.cj_model.specs.declared.moves.OpenSession.{OpenSession}

@@ -3,6 +3,7 @@
 #![tactic(auto)]
 
 mod cells;
+mod emptied;
 mod movers;
 mod reasons;
 mod runs;

@@ -1,20 +1,58 @@
 //! How a world begins, and how it is given up.
 
-ghost use Rattle.std.specs.Prelude.{◌≡◌, ◌<◌, ◌≤◌, length, map, IfOk};
+ghost use Rattle.std.specs.Prelude.{◌≡◌, ◌+◌, ◌<◌, ◌≤◌, [], length, map, vec_capacity, IfOk, OnOk};
 ghost use Rattle.cj_replica.specs.Cells.{CellState};
-ghost use Rattle.cj_core.specs.Starts.{AreEmpty, AreHolding, AreCurrent, started};
+ghost use Rattle.cj_core.specs.Starts.{AreEmpty, AreFresh, AreHolding, AreCurrent, begun, started};
 
+use crate::emptied::Emptied;
 use crate::world::World;
 use cj_backend::Backend;
-use cj_book::{BACKEND_LIMIT, BookParts};
+use cj_book::{BACKEND_LIMIT, Book, BookError, BookParts};
 use cj_model::{ListOf, NoMemory};
+use cj_replica::Cell;
 use std::alloc::Global;
 
 /// Backends in the order of their numbers.
 pub type Backends<B> = ListOf<B>;
 
+/// Moves the backends, `count` of them, into cells by their numbers, which leaves their list empty.
+fn cells_of<B: Backend + Drop>(
+    alloc: Global,
+    count: u8,
+    backends: &mut Vec<B>,
+) -> Result<Vec<Cell<B>>, NoMemory>
+    requires { length backends.old.items ≡ count }
+    ensures empty { OnOk result (backends.new.items ≡ []) }
+    ensures fresh { IfOk result (λ cells. AreFresh count cells.items) }
+    ensures told { IfOk result (λ cells. map (λ (x : CellState). x.told) cells.items ≡ map B.told backends.old.items) }
+    ensures faults { IfOk result (λ cells. map (λ (x : CellState). x.faults) cells.items ≡ map B.faults backends.old.items) }
+{
+    let mut cells = Vec::with_capacity(alloc, count as usize)?;
+    backends.reverse();
+    while let Some(backend) = backends.pop() {
+        let b = cells.len() as u8;
+        cells.push_reserved(Cell::new(b, count, backend));
+    }
+    Ok(cells)
+}
+
+/// Moves the backends out of their cells into an empty list, in the order of numbers.
+fn backends_of<B: Backend + Drop>(mut cells: Vec<Cell<B>>, mut backends: Vec<B>) -> Vec<B>
+    requires empty { backends.items ≡ [] }
+    requires room { length cells.items ≤ vec_capacity backends }
+    ensures told { map B.told result.items ≡ map (λ (x : CellState). x.told) cells.items }
+    ensures faults { map B.faults result.items ≡ map (λ (x : CellState). x.faults) cells.items }
+{
+    cells.reverse();
+    while let Some(cell) = cells.pop() {
+        backends.push_reserved(cell.into_backend());
+    }
+    backends
+}
+
 impl<B: Backend + Drop> World<B> {
-    /// The core over these backends, which are all enabled, with no session open.
+    /// The core over these backends, which are all enabled, with no session open. Where there is
+    /// no memory for it, the backends are dropped.
     pub fn start(
         alloc: Global,
         parts: BookParts,
@@ -28,7 +66,54 @@ impl<B: Backend + Drop> World<B> {
         ensures told { IfOk result (λ world. map (λ (x : CellState). x.told) world.cells ≡ map B.told backends) }
         ensures faults { IfOk result (λ world. map (λ (x : CellState). x.faults) world.cells ≡ map B.faults backends) }
     {
-        let _ = (alloc, parts, backends);
-        Err(NoMemory)
+        let mut list = backends.into_vec();
+        let cells = cells_of(alloc, parts.backends, &mut list)?;
+        let book = Book::new(alloc, parts)?;
+        let mut world = World::at_rest(alloc, book, cells, Emptied::new(list)?);
+        world.enable_all(parts.backends)?;
+        Ok(world)
+    }
+
+    /// The backends in the order of their numbers, as they stand. It takes no memory.
+    pub fn into_backends(self) -> Backends<B>
+        ensures told { map B.told result ≡ map (λ (x : CellState). x.told) self.cells }
+        ensures faults { map B.faults result ≡ map (λ (x : CellState). x.faults) self.cells }
+        ensures holding { AreHolding B.TELLS self.core (map B.told result) }
+        ensures current { AreCurrent B.TELLS self.core (map B.told result) }
+    {
+        let (cells, emptied) = self.into_parts();
+        ListOf::from_vec(backends_of(cells, emptied.into_vec()))
+    }
+
+    /// Enables each backend, in the order of numbers.
+    fn enable_all(&mut self, count: u8) -> Result<(), NoMemory>
+        requires rest { self.old.core ≡ begun count 0 }
+        requires few { count ≤ BACKEND_LIMIT }
+        ensures core { OnOk result (self.new.core ≡ started count) }
+        ensures cells { self.new.cells ≡ self.old.cells }
+    {
+        let mut b = 0;
+        while b < count {
+            self.enable_next(b, count)?;
+            b += 1;
+        }
+        Ok(())
+    }
+
+    /// Enables backend `b`, where those before it are enabled.
+    fn enable_next(&mut self, b: u8, count: u8) -> Result<(), NoMemory>
+        requires begun { self.old.core ≡ begun count b }
+        requires within { b < count }
+        requires few { count ≤ BACKEND_LIMIT }
+        ensures core { OnOk result (self.new.core ≡ begun count (b + 1)) }
+        ensures cells { self.new.cells ≡ self.old.cells }
+    {
+        match self.switch_on(b) {
+            Ok(()) => Ok(()),
+            Err(BookError::NoMemory) => Err(NoMemory),
+            Err(BookError::InProgress(_)) => unreachable!(),
+            Err(BookError::NoBackend) => unreachable!(),
+            Err(BookError::HistoryFull(_)) => unreachable!(),
+        }
     }
 }

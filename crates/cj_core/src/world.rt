@@ -1,6 +1,6 @@
 //! A world, and the parts of its moves: each a change of its state that keeps it whole.
 
-ghost use Rattle.std.specs.Prelude.{◌≡◌, ◌↔◌, ℕ, ◌+◌, ◌<◌, ◌≤◌, ◌^◌, ◌==◌, true, false, not, [], ◌∷◌, ◌++◌, length, filter, is_some, IsTrue, IsNone, IfSome, IfOk, MatchBool, OnOk, OnErr, Some, None, Ok, Err};
+ghost use Rattle.std.specs.Prelude.{◌≡◌, ◌↔◌, ℕ, ◌+◌, ◌<◌, ◌≤◌, ◌^◌, ◌==◌, true, false, not, [], ◌∷◌, ◌++◌, length, map, filter, is_some, IsTrue, IsNone, IfSome, IfOk, MatchBool, OnOk, OnErr, Some, None, Ok, Err};
 ghost use Rattle.std.specs.Option.{option_map};
 ghost use Rattle.cj_model.specs.declared.request.Entry.{Entry};
 ghost use Rattle.cj_model.specs.declared.request.Request.TheVariants as request;
@@ -14,14 +14,17 @@ ghost use Rattle.cj_model.specs.Cores.{session_at, position_at};
 ghost use Rattle.cj_model.specs.Moves as moves;
 ghost use Rattle.cj_model.specs.Moves.{Applies, Replays, IsServing, ReadsOther, ReadsSame, forbidden_by, next_entry, not_now, ended, with_read, with_counted, counted, answered_at, was_answered, still_reading};
 ghost use Rattle.cj_model.specs.Sound.{IsLone};
+ghost use Rattle.cj_replica.specs.Cells.{CellState};
 ghost use Rattle.cj_core.specs.Worlds.{IsWorld};
+ghost use Rattle.cj_core.specs.Starts.{AreEmpty, AreFresh, begun};
 ghost use Rattle.cj_core.specs.Counting.{Counts};
 ghost use Rattle.cj_core.specs.Effects.{AnswersOpen, Asks, IsChange, IsReadOf, IsReadOther, Refuses, with_core, happened, opened_for, closed_for, scheduled_as, ended_for, SchedulesAs, HadRoom};
 
 use crate::cells::{failed_after, heard_after, place, starved_after, take, with_bit};
+use crate::emptied::Emptied;
 use crate::sessions::{Sessions, read_number};
 use cj_backend::Backend;
-use cj_book::{Book, BookError};
+use cj_book::{BACKEND_LIMIT, Book, BookError};
 use cj_model::{
     Act, Asked, Did, Duplicate, Entry, Event, HISTORY_FULL, Move, Moved, NoMemory, OpenRead,
     Outcome, Refusal, Reply, SESSIONS_FULL, STARVED_ALL, Same, Select, Text, UNFINISHED,
@@ -54,6 +57,8 @@ pub struct World<B: Backend> {
     greatest: u64,
     /// The login of all calls of backends.
     login: Text,
+    /// The list that the backends came in, and are given up in.
+    emptied: Emptied<B>,
 }
 
 impl<B: Backend> Model for World<B> {
@@ -108,6 +113,62 @@ fn tried_of(reading: &Option<OpenRead>) -> u32
     match reading {
         Some(read) => read.tried,
         None => 0,
+    }
+}
+
+/// The login of all calls of backends.
+fn no_login(alloc: Global) -> Text
+    ensures { result ≡ [] }
+{
+    match Text::of(Vec::new(alloc)) {
+        Some(text) => text,
+        None => unreachable!(),
+    }
+}
+
+// ---- how it is made
+
+impl<B: Backend> World<B> {
+    /// The core over these cells, of which none has taken an entry, with no backend enabled.
+    pub(crate) fn at_rest(
+        alloc: Global,
+        book: Book,
+        cells: Vec<Cell<B>>,
+        emptied: Emptied<B>,
+    ) -> World<B>
+        requires book { book.history ≡ [] }
+        requires few { book.backends ≤ BACKEND_LIMIT }
+        requires fresh { AreFresh book.backends cells.items }
+        requires empty { AreEmpty B.TELLS (map (λ (x : CellState). x.told) cells.items) }
+        ensures core { result.core ≡ begun book.backends 0 }
+        ensures cells { result.cells ≡ cells.items }
+    {
+        World {
+            alloc,
+            book,
+            cells,
+            failed: 0,
+            starved: 0,
+            heard: None,
+            sessions: Sessions::new(alloc),
+            greatest: 0,
+            login: no_login(alloc),
+            emptied,
+        }
+    }
+}
+
+// ---- how it is given up
+
+impl<B: Backend + Drop> World<B> {
+    /// Its cells, and the list that their backends came in.
+    pub(crate) fn into_parts(self) -> (Vec<Cell<B>>, Emptied<B>)
+        ensures cells { result.0.items ≡ self.cells }
+        ensures few { length self.cells ≤ BACKEND_LIMIT }
+        ensures legal { IsWorld B.TELLS self }
+    {
+        let World { cells, emptied, .. } = self;
+        (cells, emptied)
     }
 }
 

@@ -1,5 +1,5 @@
 use Rattle.std.proofs.Common.{◌≡◌, true, false, Some, length, sym, subst}
-use Rattle.cj_model.specs.declared.event.Event.TheVariants.{Disabled, Enabled, ReadFailed}
+use Rattle.cj_model.specs.declared.event.Event.TheVariants.{Enabled}
 use Rattle.cj_model.specs.Histories.{log, free, enabled}
 use Rattle.cj_model.specs.Cores.{position_at}
 use Rattle.cj_book.specs.Books.{BookState}

@@ -1,0 +1,86 @@
+-- How backends move into cells, and cells into a world.
+use Rattle.std.proofs.Common.{◌≡◌, ℕ, ◌+◌, ◌<◌, ◌≤◌, List, [], ◌∷◌, ◌++◌, length, map, reverse, get_or, Option, Some, refl, ap, sym, ◌∙◌, subst, arith, length-append, append_assoc, append-nil, ⊎_elim}
+use Rattle.std.proofs.lemmas.Bool.{cases_lt}
+use Rattle.std.proofs.lemmas.List.{map_push, reverse-append, reverse-reverse, get_or_push, get_or_append_left, nil_from_length}
+use Rattle.cj_model.specs.declared.database.Slot.{Slot}
+use Rattle.cj_replica.specs.Cells.{CellState}
+use Rattle.cj_core.specs.Starts.{IsFresh, AreFresh}
+
+-- what was moved and what is left, last first, are all; so too after one more
+pub moved_on : {A X Y : Type 0} (f : Y → A) (g : X → A) (all left : List X) (x : X) (moved : List Y) (y : Y) → f y ≡ g x → map f moved ++ map g (reverse (left ++ x ∷ [])) ≡ map g all
+    → map f (moved ++ y ∷ []) ++ map g (reverse left) ≡ map g all
+moved_on f g all left x moved y same was =
+    ap (λ l. l ++ map g (reverse left)) (map_push f moved y)
+    ∙ (append_assoc (map f moved) (f y ∷ []) (map g (reverse left)) ∙ (ap (λ z. map f moved ++ z ∷ map g (reverse left)) same ∙ (ap (λ l. map f moved ++ map g l) (sym (reverse-append left (x ∷ []))) ∙ was)))
+
+-- The backends left, last first, and those that have moved into cells by their numbers, are all.
+pub record Moving {X : Type 0} (told_of : X → Option (List Slot)) (faults_of : X → ℕ) (n : ℕ) (all left : List X) (cells : List CellState) (capacity : ℕ) : Type 0 where
+  pub as_many : length cells + length left ≡ n
+  pub each : (b : ℕ) (d : CellState) → b < length cells → IsFresh n b (get_or cells b d)
+  pub told : map (λ (x : CellState). x.told) cells ++ map told_of (reverse left) ≡ map told_of all
+  pub faults : map (λ (x : CellState). x.faults) cells ++ map faults_of (reverse left) ≡ map faults_of all
+  pub room : n ≤ capacity
+
+module _ {X : Type 0} (told_of : X → Option (List Slot)) (faults_of : X → ℕ) (n : ℕ) (all left : List X) (cells : List CellState) (capacity : ℕ) where
+  pub moving_first : length left ≡ n → all ≡ reverse left → cells ≡ [] → n ≤ capacity → Moving told_of faults_of n all left cells capacity
+  moving_first count whole none room =
+      let no_cells : length cells ≡ 0 = ap length none in
+      record {
+        as_many = omega arith;
+        each = λ b d lt. absurd (omega arith);
+        told = rw (none, whole) refl;
+        faults = rw (none, whole) refl;
+        room = room;
+      }
+
+  -- the last of those left moves into a cell
+  module _ (before : List X) (x : X) (is : before ≡ left ++ x ∷ []) (moving : Moving told_of faults_of n all before cells capacity) where
+    count : length cells + (length left + 1) ≡ n
+    count = ap (λ m. length cells + m) (sym (ap length is ∙ length-append left (x ∷ []))) ∙ moving.as_many
+
+    pub moving_room : (length cells < n) × (length cells < capacity)
+    moving_room =
+        let all_of : length cells + (length left + 1) ≡ n = count in
+        let room : n ≤ capacity = moving.room in
+        (omega arith, omega arith)
+
+    pub moving_more : (number : ℕ) (y : CellState) (now : List CellState) (capacity_now : ℕ) → number ≡ length cells → y ≡ record { b = number; backends = n; position = Some 0; told = told_of x; faults = faults_of x }
+        → now ≡ cells ++ y ∷ [] → capacity_now ≡ capacity → Moving told_of faults_of n all left now capacity_now
+    moving_more number y now capacity_now numbered made pushed same =
+        let more = length-append cells (y ∷ []) in
+        let all_of : length cells + (length left + 1) ≡ n = count in
+        rw (pushed, same)
+        (record {
+          as_many = omega arith;
+          each =
+              λ k d lt.
+              ⊎_elim (λ (c : k < length cells). subst (IsFresh n k) (sym (get_or_append_left cells (y ∷ []) d k c)) (moving.each k d c))
+              (λ (c : length cells ≤ k).
+              let e : length cells ≡ k = omega arith in
+              subst (IsFresh n k) (sym (get_or_push cells y d k e))
+              (record { number = ap (λ (z : CellState). z.b) made ∙ (numbered ∙ e); backends = ap (λ (z : CellState). z.backends) made; position = ap (λ (z : CellState). z.position) made }))
+              (cases_lt k (length cells));
+          told = moved_on (λ (z : CellState). z.told) told_of all left x cells y (ap (λ (z : CellState). z.told) made) (subst (λ l. map (λ (z : CellState). z.told) cells ++ map told_of (reverse l) ≡ map told_of all) is moving.told);
+          faults = moved_on (λ (z : CellState). z.faults) faults_of all left x cells y (ap (λ (z : CellState). z.faults) made) (subst (λ l. map (λ (z : CellState). z.faults) cells ++ map faults_of (reverse l) ≡ map faults_of all) is moving.faults);
+          room = moving.room;
+        })
+
+  -- each backend of the list, which was reversed, has its cell
+  pub record Moved (list : List X) : Type 0 where
+    pub fresh : AreFresh n cells
+    pub told : map (λ (x : CellState). x.told) cells ≡ map told_of list
+    pub faults : map (λ (x : CellState). x.faults) cells ≡ map faults_of list
+
+  pub moving_last : (list reversed : List X) → reversed ≡ reverse list → all ≡ reverse reversed → length left ≡ 0 → Moving told_of faults_of n all left cells capacity → Moved list
+  moving_last list reversed back again empty moving =
+      let as_many : length cells + length left ≡ n = moving.as_many in
+      let none : left ≡ [] = nil_from_length left empty in
+      let whole : all ≡ list = again ∙ (ap reverse back ∙ reverse-reverse list) in
+      record {
+        fresh = record { as_many = omega arith; each = moving.each };
+        told =
+            sym (append-nil (map (λ (x : CellState). x.told) cells)) ∙ (ap (λ l. map (λ (x : CellState). x.told) cells ++ map told_of (reverse l)) (sym none) ∙ (moving.told ∙ ap (map told_of) whole));
+        faults =
+            sym (append-nil (map (λ (x : CellState). x.faults) cells))
+            ∙ (ap (λ l. map (λ (x : CellState). x.faults) cells ++ map faults_of (reverse l)) (sym none) ∙ (moving.faults ∙ ap (map faults_of) whole));
+      }

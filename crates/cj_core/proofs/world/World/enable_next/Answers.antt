@@ -1,0 +1,24 @@
+use Rattle.std.proofs.Common.{◌≡◌, ◌≤◌, true, false, sym, ap, ◌∙◌, subst, arith}
+use Rattle.cj_model.specs.Histories.{free, enabled}
+use Rattle.cj_model.specs.Cores.{Core}
+use Rattle.cj_model.specs.declared.event.Event.TheVariants.{Enabled}
+use Rattle.cj_core.specs.Worlds.{WorldState}
+use Rattle.cj_core.specs.Effects.{happened}
+use Rattle.cj_core.proofs.Resting.{free-enables, off-enables, happened-begun, no_room}
+use Rattle.cj_core.proofs.world.World.enable_next.Goals as goal
+
+pub switch_on-requires-clause-free : goal.switch_on-requires-clause-free
+switch_on-requires-clause-free g c = subst (λ (x : Core). free x.history ≡ true) (sym c.requires.begun) (free-enables c.args.b)
+
+pub switch_on-requires-clause-off : goal.switch_on-requires-clause-off
+switch_on-requires-clause-off g c =
+    let le : c.args.b ≤ c.args.b = omega arith in
+    subst (λ (x : Core). enabled x.history c.args.b ≡ false) (sym c.requires.begun) (off-enables c.args.b c.args.b le)
+
+pub unreachable-requires-in-Err-HistoryFull : goal.unreachable-requires-in-Err-HistoryFull
+unreachable-requires-in-Err-HistoryFull g c =
+    let full = c.in-Err-HistoryFull in
+    no_room c.args.self.now.core c.args.count c.args.b full.field-0-0 full.field-0 c.requires.begun c.requires.within c.requires.few full.ensures.room full.field-0-is
+
+pub returns-in-Ok-clause-core : goal.returns-in-Ok-clause-core
+returns-in-Ok-clause-core g c = ap (λ (x : WorldState). x.core) c.in-Ok.ensures.ok ∙ (ap (λ (x : Core). happened x (Enabled c.args.b)) c.requires.begun ∙ happened-begun c.args.count c.args.b)

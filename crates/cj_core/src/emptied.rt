@@ -1,0 +1,49 @@
+//! The list that backends came in.
+
+ghost use Rattle.std.specs.Prelude.{◌≡◌, ◌≤◌, [], vec_capacity};
+
+use cj_book::BACKEND_LIMIT;
+use cj_model::NoMemory;
+use std::marker::Model;
+
+/// An empty list with room for the most backends, so that they can be given up without memory.
+#[derive(Drop)]
+pub struct Emptied<B> {
+    list: Vec<B>,
+}
+
+impl<B> Model for Emptied<B> {
+    ghost use Rattle.std.specs.Prelude.{List, ◌≡◌, ◌≤◌, [], vec_capacity};
+    ghost use Rattle.std.specs.Coded.{coded_list};
+    ghost use Rattle.cj_book.specs.declared.book.TheConstants.{BACKEND_LIMIT};
+
+    ghost Value = { List B };
+
+    ghost coded = { coded_list B.code };
+
+    ghost view = { λ emptied. emptied.list.items };
+
+    ghost invariant = { λ emptied. (emptied.list.items ≡ []) × (BACKEND_LIMIT ≤ vec_capacity emptied.list) };
+}
+
+impl<B> Emptied<B> {
+    /// An empty list, in which room is made.
+    pub fn new(list: Vec<B>) -> Result<Self, NoMemory>
+    where
+        B: Drop,
+        requires { list.items ≡ [] }
+    {
+        let mut list = list;
+        list.reserve(BACKEND_LIMIT as usize)?;
+        Ok(Emptied { list })
+    }
+
+    /// The list, which is empty and has room for the most backends.
+    pub fn into_vec(self) -> Vec<B>
+        ensures items { result.items ≡ [] }
+        ensures room { BACKEND_LIMIT ≤ vec_capacity result }
+    {
+        let Emptied { list } = self;
+        list
+    }
+}
