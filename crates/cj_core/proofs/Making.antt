@@ -69,7 +69,7 @@ making_more tells old moves n m came mid made new lt is making moves_to has =
     let pushed = map_push given_of came made in
     let front = causes_later old mid new (take n moves) (map given_of came) has.later making.causes in
     let one : (b : ℕ) → blamed m (given_of made) ≡ Some b → Rose (faults_at old b) (faults_at new b) =
-        λ b is. (let rose : Rose (faults_at mid b) (faults_at new b) = has.rose b is in let le = making.later b in omega arith)
+    λ b is. (let rose : Rose (faults_at mid b) (faults_at new b) = has.rose b is in let le = making.later b in omega arith)
     in
     record {
       runs = rw (more, pushed) (runs_push tells old.core (take n moves) (map given_of came) mid.core m (given_of made) new.core making.runs moves_to);
