@@ -354,7 +354,15 @@ fn a_long_answer_is_not_built(rt: HostRuntime) -> Result<(), Fail> {
 fn other_words_are_refused(rt: HostRuntime) -> Result<(), Fail> {
     let alloc = rt.alloc();
     for text in [
-        "", "serve c1", "pipe", "pipe -c", "pipe c1 c2", "PIPE c1", "script", "script -c", "script c1 c2",
+        "",
+        "serve c1",
+        "pipe",
+        "pipe -c",
+        "pipe c1 c2",
+        "PIPE c1",
+        "script",
+        "script -c",
+        "script c1 c2",
     ] {
         let mut source = MemSource::new(LOGIN.to_vec(alloc)?, Vec::new(alloc));
         let mut sink = MemSink::new(Vec::new(alloc), Vec::new(alloc));
@@ -400,7 +408,10 @@ const READ_B1: &str = "read 1 b1 SELECT * FROM t";
 const SCRIPTS: [&[(&str, &str)]; 4] = [
     // each reason why a move can't be made now
     &[
-        ("close 18446744073709551615", "not now 9 18446744073709551615"),
+        (
+            "close 18446744073709551615",
+            "not now 9 18446744073709551615",
+        ),
         (WRITE_T, "not now 9 1"),
         (READ_B0, "not now 9 1"),
         ("apply b0", "not now 2 0"),
@@ -608,6 +619,10 @@ fn no_more_than_1024_sessions_are_open(rt: HostRuntime) -> Result<(), Fail> {
     }
     let (status, written, _errors) = scripted(alloc, &input, &[], &[], &[])?;
     assert_eq!(rt; status, 0);
-    assert!(rt; written.as_slice().ends_with(b"session 1024\nrefused 46 1024 0\n"));
+    assert!(rt;
+        written
+            .as_slice()
+            .ends_with(b"session 1024\nrefused 46 1024 0\n")
+    );
     Ok(())
 }
