@@ -1,3 +1,4 @@
 pub mod Answering
+pub mod BackendNames
 pub mod Limits
 pub mod OneTalk

@@ -3,11 +3,13 @@
 
 mod laws;
 mod program;
+mod scripted;
 mod send;
 mod session;
 
 pub use laws::bytes_have_one_talk;
 pub use program::{pipe, run};
+pub use scripted::play;
 pub use session::Session;
 
 #[cfg(test)]

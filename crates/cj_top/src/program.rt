@@ -1,13 +1,16 @@
 //! The top call.
 
-ghost use Rattle.std.specs.Prelude.{◌≡◌, ◌≤◌, true, false, map, string_bytes};
+ghost use Rattle.std.specs.Prelude.{◌≡◌, ◌≢◌, ◌≤◌, true, false, map, string_bytes};
 ghost use Rattle.std.specs.List.{list_any};
 ghost use Rattle.cj_outside.specs.Causes.{Rose};
 ghost use Rattle.cj_model.specs.Frames.{fault_of};
 ghost use Rattle.cj_model.specs.Session as session;
 ghost use Rattle.cj_top.specs.Program.{Piped, Runs};
 ghost use Rattle.cj_top.specs.Program as top;
+ghost use Rattle.cj_top.specs.Scripted.{RunsScript};
+ghost use Rattle.cj_top.specs.Scripted as scripted;
 
+use crate::scripted::run_script;
 use crate::session::{answer_all, quits};
 use cj_frame::read_frames;
 use cj_model::{FrameFault, Message, SessionEnd};
@@ -84,10 +87,25 @@ fn is_pipe(words: &[String]) -> bool
     }
 }
 
+fn is_script(words: &[String]) -> bool
+    ensures { result ≡ scripted.is_script (map string_bytes words.now) }
+{
+    match words {
+        [command, conf] => command.as_str() == "script" && names_file(conf.as_str()),
+        _ => false,
+    }
+}
+
 /// All that the program does, over the words after its name and what it is handed; the answer is the exit status.
+///
 /// `pipe CONF` serves one session from the input to the output: 0 where it ended by a Quit or behind a whole frame, 4 where
-/// the input ended inside a frame or with a faulty one, 5 and 6 where the input and the output failed, 11 where 2^62 bytes
-/// were taken, 1 for want of memory. With other words the answer is 2, and nothing is touched.
+/// the input ended inside a frame or with a faulty one.
+///
+/// `script CONF` plays the lines of the input as moves over two plain backends, `b0` and `b1`, and writes what they come to:
+/// 0 where all were played, 10 where a line can't be, whose number is then written to `errors` where that can be done.
+///
+/// Of both, 5 and 6 where the input and the output failed, 11 where 2^62 bytes were taken, 1 for want of memory. With other
+/// words the answer is 2, and nothing is touched.
 pub fn run<I: Source, O: Sink, E: Sink>(
     alloc: Global,
     words: &[String],
@@ -96,18 +114,23 @@ pub fn run<I: Source, O: Sink, E: Sink>(
     errors: &mut E,
 ) -> u8
     ensures pipe { top.is_pipe (map string_bytes words.now) ≡ true → Runs (I.left input.old) (I.left input.new) (O.held output.old) (O.held output.new) result }
-    ensures other { top.is_pipe (map string_bytes words.now) ≡ false → (result ≡ 2) × (input.new ≡ input.old) × (output.new ≡ output.old) }
-    ensures errors { errors.new ≡ errors.old }
+    ensures script { scripted.is_script (map string_bytes words.now) ≡ true → RunsScript (I.left input.old) (I.left input.new) (O.held output.old) (O.held output.new) (E.held errors.old) (E.held errors.new) result }
+    ensures other { top.is_pipe (map string_bytes words.now) ≡ false → scripted.is_script (map string_bytes words.now) ≡ false → (result ≡ 2) × (input.new ≡ input.old) × (output.new ≡ output.old) }
+    ensures errors { scripted.is_script (map string_bytes words.now) ≡ false → errors.new ≡ errors.old }
+    ensures quiet { result ≢ 10 → errors.new ≡ errors.old }
 
     // The counts of faults never fall, and a fault is answered only where its count rose in this call.
     ensures input { I.faults input.old ≤ I.faults input.new }
     ensures output { O.faults output.old ≤ O.faults output.new }
+    ensures error_faults { E.faults errors.old ≤ E.faults errors.new }
     ensures read_fault { result ≡ 5 → Rose (I.faults input.old) (I.faults input.new) }
     ensures write_fault { result ≡ 6 → Rose (O.faults output.old) (O.faults output.new) }
 {
-    let _ = errors;
-    if !is_pipe(words) {
-        return 2;
+    if is_pipe(words) {
+        return status_of(pipe(alloc, input, output));
     }
-    status_of(pipe(alloc, input, output))
+    if is_script(words) {
+        return run_script(alloc, input, output, errors);
+    }
+    2
 }

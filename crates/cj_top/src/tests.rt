@@ -353,7 +353,17 @@ fn a_long_answer_is_not_built(rt: HostRuntime) -> Result<(), Fail> {
 #[test]
 fn other_words_are_refused(rt: HostRuntime) -> Result<(), Fail> {
     let alloc = rt.alloc();
-    for text in ["", "serve c1", "pipe", "pipe -c", "pipe c1 c2", "PIPE c1"] {
+    for text in [
+        "",
+        "serve c1",
+        "pipe",
+        "pipe -c",
+        "pipe c1 c2",
+        "PIPE c1",
+        "script",
+        "script -c",
+        "script c1 c2",
+    ] {
         let mut source = MemSource::new(LOGIN.to_vec(alloc)?, Vec::new(alloc));
         let mut sink = MemSink::new(Vec::new(alloc), Vec::new(alloc));
         let mut errors = MemSink::new(Vec::new(alloc), Vec::new(alloc));
@@ -365,5 +375,254 @@ fn other_words_are_refused(rt: HostRuntime) -> Result<(), Fail> {
         );
         assert_eq!(rt; sink.content().len(), 0);
     }
+    Ok(())
+}
+
+/// The status, the output and the errors of `script` over the input, where the calls of these numbers fail.
+fn scripted(
+    alloc: Global,
+    input: &[u8],
+    takes: &[u64],
+    puts: &[u64],
+    error_puts: &[u64],
+) -> Result<(u8, Vec<u8>, Vec<u8>), Fail> {
+    let mut source = MemSource::new(input.to_vec(alloc)?, takes.to_vec(alloc)?);
+    let mut sink = MemSink::new(Vec::new(alloc), puts.to_vec(alloc)?);
+    let mut errors = MemSink::new(Vec::new(alloc), error_puts.to_vec(alloc)?);
+    let words = words(alloc, "script c1.toml")?;
+    let status = run(alloc, &words, &mut source, &mut sink, &mut errors);
+    Ok((
+        status,
+        sink.content().to_vec(alloc)?,
+        errors.content().to_vec(alloc)?,
+    ))
+}
+
+const WRITE_T: &str = "write 1 CREATE TABLE t (k INTEGER PRIMARY KEY, v TEXT)";
+
+const READ_B0: &str = "read 1 b0 SELECT * FROM t";
+
+const READ_B1: &str = "read 1 b1 SELECT * FROM t";
+
+/// Lines, and what each gives.
+const SCRIPTS: [&[(&str, &str)]; 4] = [
+    // each reason why a move can't be made now
+    &[
+        (
+            "close 18446744073709551615",
+            "not now 9 18446744073709551615",
+        ),
+        (WRITE_T, "not now 9 1"),
+        (READ_B0, "not now 9 1"),
+        ("apply b0", "not now 2 0"),
+        ("end", "not now 2 0"),
+        ("open ann", "session 1"),
+        ("open bob", "session 2"),
+        (WRITE_T, "entry 1"),
+        (WRITE_T, "not now 10 1"),
+        (READ_B0, "not now 10 1"),
+        ("close 1", "not now 10 1"),
+        ("write 2 INSERT INTO t VALUES (1, 'a')", "not now 1 1"),
+        ("disable b1", "not now 1 1"),
+        ("enable b1", "not now 1 1"),
+        ("replay b0", "not now 4 0"),
+        ("apply b0", "b0 done 0"),
+        ("apply b0", "not now 5 1"),
+        ("end", "not now 6 0"),
+        ("apply b1", "b1 done 0"),
+        ("end", "reply 1 done 0"),
+        ("enable b0", "not now 4 0"),
+        ("disable b1", "disabled"),
+        ("disable b1", "not now 3 1"),
+        ("replay b1", "not now 5 1"),
+        ("write 2 INSERT INTO t VALUES (1, 'a')", "entry 2"),
+        ("apply b1", "not now 3 1"),
+        ("apply b0", "b0 done 1"),
+        ("end", "reply 2 done 1"),
+        ("enable b1", "not now 6 1"),
+        (READ_B1, "not now 11 1"),
+        ("replay b1", "replayed 2 done 1"),
+        ("enable b1", "enabled"),
+        ("write 2 INSERT INTO t VALUES (2, 'b')", "entry 3"),
+        ("arm b1", "armed"),
+        ("apply b1", "b1 failed"),
+        ("apply b1", "not now 7 1"),
+        ("apply b0", "b0 done 1"),
+        ("end", "reply 2 done 1"),
+        ("replay b1", "not now 7 1"),
+        ("enable b1", "not now 7 1"),
+        ("close 2", "closed"),
+        ("close 2", "not now 9 2"),
+    ],
+    // refusals of the databases: at their entries, to their sessions, and where they are replayed
+    &[
+        ("open ann", "session 1"),
+        (READ_B0, "refused 21 0 0"),
+        (WRITE_T, "entry 1"),
+        ("apply b0", "b0 done 0"),
+        ("apply b1", "b1 done 0"),
+        ("end", "reply 1 done 0"),
+        ("disable b1", "disabled"),
+        (WRITE_T, "entry 2"),
+        ("apply b0", "b0 refused 22 0 0"),
+        ("end", "reply 1 refused 22 0 0"),
+        ("write 1 INSERT INTO u VALUES (1, 'a')", "entry 3"),
+        ("apply b0", "b0 refused 21 0 0"),
+        ("end", "reply 1 refused 21 0 0"),
+        ("write 1 INSERT INTO t VALUES (1)", "entry 4"),
+        ("apply b0", "b0 refused 24 0 0"),
+        ("end", "reply 1 refused 24 0 0"),
+        ("write 1 INSERT INTO t VALUES (1, 2)", "entry 5"),
+        ("apply b0", "b0 refused 28 0 0"),
+        ("end", "reply 1 refused 28 0 0"),
+        ("write 1 INSERT INTO t VALUES (7, 'it''s')", "entry 6"),
+        ("apply b0", "b0 done 1"),
+        ("end", "reply 1 done 1"),
+        ("write 1 INSERT INTO t VALUES (7, 'b')", "entry 7"),
+        ("apply b0", "b0 refused 27 0 0"),
+        ("end", "reply 1 refused 27 0 0"),
+        ("write 1 INSERT INTO t VALUES (-3, '')", "entry 8"),
+        ("apply b0", "b0 done 1"),
+        ("end", "reply 1 done 1"),
+        ("replay b1", "replayed 2 refused 22 0 0"),
+        ("replay b1", "replayed 3 refused 21 0 0"),
+        ("replay b1", "replayed 4 refused 24 0 0"),
+        ("replay b1", "replayed 5 refused 28 0 0"),
+        ("replay b1", "replayed 6 done 1"),
+        ("replay b1", "replayed 7 refused 27 0 0"),
+        ("replay b1", "replayed 8 done 1"),
+        ("enable b1", "enabled"),
+        (READ_B1, "rows 2\n-3, ''\n7, 'it''s'"),
+    ],
+    // reads: a backend that fails and another that serves, both failing, one behind, one out
+    &[
+        ("open ann", "session 1"),
+        ("open bob", "session 2"),
+        ("arm b0", "armed"),
+        (READ_B0, "failed"),
+        ("read 1 b0 SELECT * FROM u", "not now 10 1"),
+        (WRITE_T, "not now 10 1"),
+        ("close 1", "not now 10 1"),
+        (READ_B1, "refused 21 0 0"),
+        ("arm b0", "armed"),
+        ("arm b1", "armed"),
+        (READ_B0, "failed"),
+        (READ_B1, "refused 41 3 0"),
+        (WRITE_T, "entry 1"),
+        ("apply b1", "b1 done 0"),
+        ("read 2 b1 SELECT * FROM t", "rows 0"),
+        ("read 2 b0 SELECT * FROM t", "behind 0"),
+        ("read 2 b1 SELECT * FROM t", "rows 0"),
+        ("arm b0", "armed"),
+        ("apply b0", "b0 failed"),
+        ("read 2 b0 SELECT * FROM t", "out"),
+        ("read 2 b1 SELECT * FROM t", "rows 0"),
+        ("end", "reply 1 done 0"),
+    ],
+    // an entry that no backend finished, and what is asked of no backend; empty lines give nothing
+    &[
+        ("open ann", "session 1"),
+        (WRITE_T, "entry 1"),
+        ("arm b0", "armed"),
+        ("arm b1", "armed"),
+        ("apply b1", "b1 failed"),
+        ("apply b0", "b0 failed"),
+        ("end", "reply 1 refused 40 3 0"),
+        (WRITE_T, "refused 20 0 0"),
+        (READ_B0, "refused 20 0 0"),
+        ("close 1", "closed"),
+    ],
+];
+
+#[test]
+fn scripts_give_their_lines(rt: HostRuntime) -> Result<(), Fail> {
+    let alloc = rt.alloc();
+    for script in SCRIPTS {
+        let mut input = Vec::new(alloc);
+        let mut output = Vec::new(alloc);
+        for (line, given) in script {
+            input.extend_from_slice(line.as_bytes())?;
+            // an empty line is skipped
+            input.extend_from_slice(b"\n\n")?;
+            output.extend_from_slice(given.as_bytes())?;
+            output.push(b'\n')?;
+        }
+        let (status, written, errors) = scripted(alloc, &input, &[], &[], &[])?;
+        assert_eq!(rt; written.as_slice(), output.as_slice());
+        assert_eq!(rt; status, 0);
+        assert_eq!(rt; errors.len(), 0);
+    }
+    Ok(())
+}
+
+/// Lines that are no move's.
+const WRONG: [&str; 17] = [
+    " ",
+    "begin",
+    "End",
+    "end ",
+    "open",
+    "open ",
+    "open  ann",
+    "open ann smith",
+    "close 01",
+    "close 18446744073709551616",
+    "apply b2",
+    "apply B0",
+    "apply b0\r",
+    "write 1 SELECT * FROM t",
+    "write 1 INSERT INTO t VALUES",
+    "read 1 b0 INSERT INTO t VALUES (1)",
+    "read 1 SELECT * FROM t",
+];
+
+#[test]
+fn wrong_lines_are_named(rt: HostRuntime) -> Result<(), Fail> {
+    let alloc = rt.alloc();
+    for line in WRONG {
+        let input = format!(in alloc; "open ann\n{line}\nopen ann")?;
+        let (status, written, errors) = scripted(alloc, input.as_bytes(), &[], &[], &[])?;
+        assert_eq!(rt; status, 10, "{line}");
+        assert_eq!(rt; written.as_slice(), b"session 1\n".as_slice(), "{line}");
+        assert_eq!(rt; errors.as_slice(), b"line 2\n".as_slice(), "{line}");
+    }
+    Ok(())
+}
+
+#[test]
+fn failing_calls_end_a_script(rt: HostRuntime) -> Result<(), Fail> {
+    let alloc = rt.alloc();
+    // the last line needs no LF
+    let input = b"open ann\nopen bob";
+    for (take, length, expected) in [(1u64, 0usize, 5u8), (2, 10, 5), (3, 20, 5), (4, 20, 0)] {
+        let (status, written, _errors) = scripted(alloc, input, &[take], &[], &[])?;
+        assert_eq!(rt; status, expected, "take {take}");
+        assert_eq!(rt; written.len(), length, "take {take}");
+    }
+    for (put, length) in [(1u64, 0usize), (2, 10)] {
+        let (status, written, _errors) = scripted(alloc, input, &[], &[put], &[])?;
+        assert_eq!(rt; status, 6, "put {put}");
+        assert_eq!(rt; written.len(), length, "put {put}");
+    }
+    let (status, _written, errors) = scripted(alloc, b"close", &[], &[], &[1])?;
+    assert_eq!(rt; status, 10);
+    assert_eq!(rt; errors.len(), 0);
+    Ok(())
+}
+
+#[test]
+fn no_more_than_1024_sessions_are_open(rt: HostRuntime) -> Result<(), Fail> {
+    let alloc = rt.alloc();
+    let mut input = Vec::new(alloc);
+    for _ in 0..1025 {
+        input.extend_from_slice(b"open ann\n")?;
+    }
+    let (status, written, _errors) = scripted(alloc, &input, &[], &[], &[])?;
+    assert_eq!(rt; status, 0);
+    assert!(rt;
+        written
+            .as_slice()
+            .ends_with(b"session 1024\nrefused 46 1024 0\n")
+    );
     Ok(())
 }

@@ -1,0 +1,130 @@
+//! A script over two plain backends.
+
+ghost use Rattle.std.specs.Prelude.{◌≡◌, ◌≢◌, ◌≤◌, [], ◌∷◌, true, IfOk, OnErr, string_bytes};
+ghost use Rattle.cj_backend.specs.PlainBackends.{fresh_state};
+ghost use Rattle.cj_core.specs.Starts.{started};
+ghost use Rattle.cj_model.specs.Words as words;
+ghost use Rattle.cj_outside.specs.Causes.{Rose};
+ghost use Rattle.cj_script.specs.declared.play.ScriptEnd.TheVariants as ends;
+ghost use Rattle.cj_top.specs.Scripted.{NamesLine, PlayedOverTwo, RunsScript, backend_names, line_text};
+ghost use Rattle.cj_top.specs.Scripted as scripted;
+
+use cj_backend::PlainBackend;
+use cj_book::BookParts;
+use cj_core::{Backends, World};
+use cj_model::{Name, Names, NoMemory};
+use cj_outside::{Sink, Source, write_all};
+use cj_script::{ScriptEnd, script};
+use std::alloc::Global;
+
+fn name(bytes: &[u8]) -> Name
+    requires { words.is_name bytes.now ≡ true }
+    ensures { result ≡ bytes.now }
+{
+    match Name::of(bytes) {
+        Some(name) => name,
+        None => unreachable!(),
+    }
+}
+
+/// The names of the two backends.
+fn two_names(alloc: Global) -> Result<Names, NoMemory>
+    ensures { IfOk result (λ names. names ≡ backend_names) }
+{
+    let mut names = Names::new(alloc);
+    names.push(name(b"b0"))?;
+    names.push(name(b"b1"))?;
+    Ok(names)
+}
+
+fn two_backends(alloc: Global) -> Result<Backends<PlainBackend>, NoMemory>
+    ensures { IfOk result (λ backends. backends ≡ fresh_state ∷ fresh_state ∷ []) }
+{
+    let mut backends = Backends::new(alloc);
+    backends.push(PlainBackend::new(alloc))?;
+    backends.push(PlainBackend::new(alloc))?;
+    Ok(backends)
+}
+
+/// A world of two empty backends, of which each hosts every table.
+fn two_backend_world(alloc: Global) -> Result<World<PlainBackend>, NoMemory>
+    ensures { IfOk result (λ world. world.core ≡ started 2) }
+{
+    let backends = two_backends(alloc)?;
+    World::start(alloc, BookParts { backends: 2 }, backends)
+}
+
+/// Plays the lines of the input on a world of two plain backends, `b0` and `b1`, and writes what they come to.
+///
+/// At `NoMemory` the script has not begun; want of memory in it is an end of its own.
+pub fn play<I: Source, O: Sink>(
+    alloc: Global,
+    input: &mut I,
+    output: &mut O,
+) -> Result<ScriptEnd, NoMemory>
+    ensures played { IfOk result (λ end. PlayedOverTwo (I.left input.old) (I.left input.new) (O.held output.old) (O.held output.new) end) }
+    ensures unbegun { OnErr result ((input.new ≡ input.old) × (output.new ≡ output.old)) }
+    ensures input { I.faults input.old ≤ I.faults input.new }
+    ensures output { O.faults output.old ≤ O.faults output.new }
+    ensures read_fault { IfOk result (λ end. end ≡ ends.ReadFault → Rose (I.faults input.old) (I.faults input.new)) }
+    ensures write_fault { IfOk result (λ end. end ≡ ends.WriteFault → Rose (O.faults output.old) (O.faults output.new)) }
+{
+    let names = two_names(alloc)?;
+    let mut world = two_backend_world(alloc)?;
+    Ok(script(alloc, &mut world, &names, input, output))
+}
+
+fn line_words(alloc: Global, number: u64) -> Result<String, NoMemory>
+    ensures { IfOk result (λ text. string_bytes text ≡ line_text number) }
+{
+    Ok(format!(in alloc; "line {number}\n")?)
+}
+
+/// Names the line that can't be played, where the script ended with one. That this fails changes nothing else.
+fn name_line<E: Sink>(alloc: Global, end: ScriptEnd, errors: &mut E)
+    ensures named { NamesLine (E.held errors.old) (E.held errors.new) end }
+    ensures other { scripted.status_of_script end ≢ 10 → errors.new ≡ errors.old }
+    ensures faults { E.faults errors.old ≤ E.faults errors.new }
+{
+    let ScriptEnd::Line(number) = end else {
+        return;
+    };
+    if let Ok(text) = line_words(alloc, number) {
+        let _ = write_all(errors, text.as_bytes());
+    }
+}
+
+fn status_of_script(end: ScriptEnd) -> u8
+    ensures { result ≡ scripted.status_of_script end }
+{
+    match end {
+        ScriptEnd::Done => 0,
+        ScriptEnd::Line(_) => 10,
+        ScriptEnd::ReadFault => 5,
+        ScriptEnd::WriteFault => 6,
+        ScriptEnd::Spent => 11,
+        ScriptEnd::NoMemory => 1,
+    }
+}
+
+/// The command `script` over what it is handed; the answer is the exit status.
+pub fn run_script<I: Source, O: Sink, E: Sink>(
+    alloc: Global,
+    input: &mut I,
+    output: &mut O,
+    errors: &mut E,
+) -> u8
+    ensures runs { RunsScript (I.left input.old) (I.left input.new) (O.held output.old) (O.held output.new) (E.held errors.old) (E.held errors.new) result }
+    ensures quiet { result ≢ 10 → errors.new ≡ errors.old }
+    ensures input { I.faults input.old ≤ I.faults input.new }
+    ensures output { O.faults output.old ≤ O.faults output.new }
+    ensures errors { E.faults errors.old ≤ E.faults errors.new }
+    ensures read_fault { result ≡ 5 → Rose (I.faults input.old) (I.faults input.new) }
+    ensures write_fault { result ≡ 6 → Rose (O.faults output.old) (O.faults output.new) }
+{
+    let Ok(end) = play(alloc, input, output) else {
+        return 1;
+    };
+    name_line(alloc, end, errors);
+    status_of_script(end)
+}
