@@ -2,7 +2,6 @@ pub mod Binds
 pub mod Front
 pub mod Lists
 pub mod Names
-pub mod OneReading
-pub mod Statements
-pub mod Texts
+pub mod Ranks
+pub mod TermsRead
 pub mod Turns
