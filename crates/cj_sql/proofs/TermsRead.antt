@@ -1,5 +1,5 @@
 -- The readers of constants, columns, terms and expressions read exactly the forms of the grammar.
-use Rattle.std.proofs.Common.{◌≡◌, refl, sym, subst, ℕ, ◌^◌, ◌<◌, nat_lt, nat_le, true, false, ◌&&◌, List, [], ◌∷◌, drop, Option, None, Some, arith}
+use Rattle.std.proofs.Common.{◌≡◌, refl, sym, subst, ℕ, ◌^◌, ◌<◌, nat_lt, nat_le, true, false, ◌&&◌, List, ◌∷◌, drop, Option, None, Some, arith}
 use Rattle.std.proofs.lemmas.Bool.Decides.{nat_tests}
 use Rattle.std.proofs.lemmas.Bool.{and_parts}
 use Rattle.cj_model.specs.declared.token.Token.{Token}

@@ -52,10 +52,10 @@ comparison ts = and_then (symbol_at ts) (λ s rest. given (cmp_of s) rest)
 unfoldable pub test : Conditions
 test i =
     if nat_lt 0 i.tests then
-      and_then (term i.rest) (λ left ts.
-      and_then (comparison ts) (λ op ts.
-      and_then (term ts) (λ right rest.
-      read (Test op left right) (at rest (i.tests - 1)))))
+    and_then (term i.rest) (λ left ts.
+    and_then (comparison ts) (λ op ts.
+    and_then (term ts) (λ right rest.
+    read (Test op left right) (at rest (i.tests - 1)))))
     else refused
 
 -- ---- what joins them, over a reader of prim

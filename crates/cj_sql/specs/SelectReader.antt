@@ -53,8 +53,8 @@ listed ts =
 unfoldable pub group : Reader (Option ColRef)
 group ts =
     if sees_word word.Group ts then
-      and_then (expect_word word.By (drop 1 ts)) (λ _ ts.
-      and_then (column ts) (λ c rest. read (Some c) rest))
+    and_then (expect_word word.By (drop 1 ts)) (λ _ ts.
+    and_then (column ts) (λ c rest. read (Some c) rest))
     else read None ts
 
 -- [ ASC | DESC ], which says whether the order descends

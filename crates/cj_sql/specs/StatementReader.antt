@@ -62,8 +62,8 @@ tuple ts =
 unfoldable pub columns : Reader (Option (List (List ℕ)))
 columns ts =
     if sees_symbol symbol.Open ts then
-      and_then (items name 16 (drop 1 ts)) (λ names ts.
-      and_then (expect_symbol symbol.Close ts) (λ _ rest. read (Some names) rest))
+    and_then (items name 16 (drop 1 ts)) (λ names ts.
+    and_then (expect_symbol symbol.Close ts) (λ _ rest. read (Some names) rest))
     else read None ts
 
 -- after INSERT
