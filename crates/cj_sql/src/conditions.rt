@@ -69,15 +69,15 @@ fn comparison(tokens: &mut Tokens) -> Result<Cmp, SqlError>
 
 /// Two terms with a comparison between them, which is one of those that may still come.
 #[tactic(auto, unfolding(crate::specs::ConditionReader::test))]
-fn test(alloc: Global, tokens: &mut Tokens, tests: &mut usize) -> Result<CondNode, SqlError>
+fn test(tokens: &mut Tokens, tests: &mut usize) -> Result<CondNode, SqlError>
     ensures { ReadsNode spec.test (at tokens.old tests.old) result (at tokens.new tests.new) }
 {
     if *tests == 0 {
         return Err(SqlError::Syntax);
     }
-    let left = term(alloc, tokens)?;
+    let left = term(tokens)?;
     let cmp = comparison(tokens)?;
-    let right = term(alloc, tokens)?;
+    let right = term(tokens)?;
     *tests -= 1;
     Ok(CondNode::Test(cmp, left, right))
 }
@@ -94,7 +94,7 @@ fn prim(
     ensures { ReadsNode (spec.prim depth) (at tokens.old tests.old) result (at tokens.new tests.new) }
 {
     if depth == 0 {
-        return test(alloc, tokens, tests);
+        return test(tokens, tests);
     }
     if tokens.eat_word(Keyword::Not) {
         let inner = prim(alloc, tokens, tests, depth - 1)?;
@@ -103,7 +103,7 @@ fn prim(
     if tokens.eat_symbol(Symbol::Open) {
         return parens(alloc, tokens, tests, depth - 1);
     }
-    test(alloc, tokens, tests)
+    test(tokens, tests)
 }
 
 /// Conditions joined by AND. Each has a comparison, so there are no more of them than may come.

@@ -16,3 +16,6 @@ mod update;
 pub use cj_lex::SqlError;
 pub use laws::texts_have_one_reading;
 pub use request::read;
+
+#[cfg(test)]
+mod tests;

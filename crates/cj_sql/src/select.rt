@@ -194,18 +194,18 @@ fn is_allowed(items: &Items, tables: &[Name], group: &Option<ColRef>) -> bool
 pub fn select(alloc: Global, tokens: &mut Tokens) -> Result<Request, SqlError>
     ensures { Reads spec.select tokens.old result tokens.new }
 {
-    let items = listed(alloc, tokens)?;
+    let listed = listed(alloc, tokens)?;
     tokens.expect_word(Keyword::From)?;
-    let tables = crate::list::items::<Name>(alloc, tokens, TABLE_LIMIT)?;
+    let tables = items::<Name>(alloc, tokens, TABLE_LIMIT)?;
     let cond = filter(alloc, tokens)?;
     let group = group(tokens)?;
     let order = order(alloc, tokens)?;
     let limit = limit(tokens)?;
-    if !is_allowed(&items, tables.as_slice(), &group) {
+    if !is_allowed(&listed, tables.as_slice(), &group) {
         return Err(SqlError::Syntax);
     }
     Ok(Request::Select(Select {
-        items,
+        items: listed,
         tables,
         cond,
         group,

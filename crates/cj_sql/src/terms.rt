@@ -68,27 +68,33 @@ fn rand(tokens: &mut Tokens) -> Result<Term, SqlError>
     }
 }
 
+#[tactic(auto, unfolding(crate::specs::TermReader::constant))]
+fn constant(tokens: &mut Tokens) -> Result<Term, SqlError>
+    ensures { Reads spec.constant tokens.old result tokens.new }
+{
+    if tokens.eat_symbol(Symbol::Minus) {
+        return negative(tokens);
+    }
+    if tokens.sees_number() {
+        return positive(tokens);
+    }
+    if tokens.eat_word(Keyword::Now) {
+        return now(tokens);
+    }
+    if tokens.eat_word(Keyword::Rand) {
+        return rand(tokens);
+    }
+    string(tokens)
+}
+
+/// A list of terms is a tuple's, which has constants alone.
 impl Element for Term {
     ghost use Rattle.cj_sql.specs.TermReader.{constant};
 
     ghost reader = { constant };
 
-    /// A constant, as tuples hold it.
-    #[tactic(auto, unfolding(crate::specs::TermReader::constant))]
     fn read(_alloc: Global, tokens: &mut Tokens) -> Result<Term, SqlError> {
-        if tokens.eat_symbol(Symbol::Minus) {
-            return negative(tokens);
-        }
-        if tokens.sees_number() {
-            return positive(tokens);
-        }
-        if tokens.eat_word(Keyword::Now) {
-            return now(tokens);
-        }
-        if tokens.eat_word(Keyword::Rand) {
-            return rand(tokens);
-        }
-        string(tokens)
+        constant(tokens)
     }
 }
 
@@ -121,28 +127,28 @@ pub fn column(tokens: &mut Tokens) -> Result<ColRef, SqlError>
 
 /// A constant or a column.
 #[tactic(auto, unfolding(crate::specs::TermReader::term))]
-pub fn term(alloc: Global, tokens: &mut Tokens) -> Result<Term, SqlError>
+pub fn term(tokens: &mut Tokens) -> Result<Term, SqlError>
     ensures { Reads spec.term tokens.old result tokens.new }
 {
     if tokens.sees_name() {
         let column = column(tokens)?;
         Ok(Term::Col(column))
     } else {
-        <Term as Element>::read(alloc, tokens)
+        constant(tokens)
     }
 }
 
 /// The rest of an expression, after its first term.
 #[tactic(auto, unfolding(crate::specs::TermReader::combined))]
-fn combined(alloc: Global, tokens: &mut Tokens, left: Term) -> Result<Expr, SqlError>
+fn combined(tokens: &mut Tokens, left: Term) -> Result<Expr, SqlError>
     ensures { Reads (spec.combined left) tokens.old result tokens.new }
 {
     if tokens.eat_symbol(Symbol::Plus) {
-        let right = term(alloc, tokens)?;
+        let right = term(tokens)?;
         return Ok(Expr::Plus(left, right));
     }
     if tokens.eat_symbol(Symbol::Minus) {
-        let right = term(alloc, tokens)?;
+        let right = term(tokens)?;
         return Ok(Expr::Minus(left, right));
     }
     Ok(Expr::One(left))
@@ -150,9 +156,9 @@ fn combined(alloc: Global, tokens: &mut Tokens, left: Term) -> Result<Expr, SqlE
 
 /// A term, or two with a plus or a minus between them.
 #[tactic(auto, unfolding(crate::specs::TermReader::expr))]
-pub fn expr(alloc: Global, tokens: &mut Tokens) -> Result<Expr, SqlError>
+pub fn expr(tokens: &mut Tokens) -> Result<Expr, SqlError>
     ensures { Reads spec.expr tokens.old result tokens.new }
 {
-    let left = term(alloc, tokens)?;
-    combined(alloc, tokens, left)
+    let left = term(tokens)?;
+    combined(tokens, left)
 }

@@ -20,10 +20,10 @@ impl Element for Set {
     ghost reader = { assignment };
 
     #[tactic(auto, unfolding(crate::specs::StatementReader::assignment))]
-    fn read(alloc: Global, tokens: &mut Tokens) -> Result<Set, SqlError> {
+    fn read(_alloc: Global, tokens: &mut Tokens) -> Result<Set, SqlError> {
         let column = tokens.name()?;
         tokens.expect_symbol(Symbol::Eq)?;
-        let value = expr(alloc, tokens)?;
+        let value = expr(tokens)?;
         Ok(Set { column, value })
     }
 }
