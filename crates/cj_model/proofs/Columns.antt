@@ -2,15 +2,14 @@
 use Rattle.std.proofs.Common.{◌≡◌, sym, subst, ℕ, ◌≤◌, List, length}
 use Rattle.cj_model.specs.declared.schema.Create.{Create}
 use Rattle.cj_model.specs.declared.request.Request.TheVariants as request
-use Rattle.cj_model.specs.Grammar.{Statement, create, insert, select_all, statement_meant, StatementFits, TextReads}
+use Rattle.cj_model.specs.Grammar.{Statement, create, statement_meant, StatementFits, TextReads}
 
 of_statement : (s : Statement) (c : Create) → StatementFits s → request.Create c ≡ statement_meant s → length c.columns ≤ 16
 of_statement (create n cs) c fits e =
     let same : c ≡ record { table = n; columns = cs } = cc in
     let P : Create → Type 0 = λ d. length d.columns ≤ 16 in
     subst P (sym same) fits.1
-of_statement (insert n rows) c fits e = absurd (cc)
-of_statement (select_all n) c fits e = absurd (cc)
+of_statement _ c fits e = absurd (cc)
 
 -- there are at most 16
 pub read_columns : (text : List ℕ) (c : Create) → TextReads text (request.Create c) → length c.columns ≤ 16

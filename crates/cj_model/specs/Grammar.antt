@@ -1,111 +1,246 @@
 -- The grammar of statements: what may be written, the tokens of it, what it means, and its limits.
-use Rattle.std.specs.Prelude.{ℕ, ◌≤◌, ◌<◌, ◌^◌, ◌≡◌, Bool, true, false, List, [], ◌∷◌, length, map, count_by, pos, neg_ℤ}
-use Rattle.std.specs.declared.option.Option.TheVariants.{None}
+use Rattle.std.specs.Prelude.{ℕ, ◌≤◌, ◌<◌, ◌^◌, ◌≡◌, Bool, true, false, not, ◌||◌, is_some, List, [], ◌∷◌, length, map}
+use Rattle.std.specs.declared.option.Option.{Option}
+use Rattle.std.specs.declared.option.Option.TheVariants.{None, Some}
+use Rattle.std.specs.List.{list_all}
 use Rattle.cj_model.specs.declared.token.Token.{Token}
 use Rattle.cj_model.specs.declared.token.Token.TheVariants as token
 use Rattle.cj_model.specs.declared.token.Keyword.TheVariants as word
 use Rattle.cj_model.specs.declared.token.Symbol.TheVariants as symbol
 use Rattle.cj_model.specs.declared.value.Kind.{Kind}
 use Rattle.cj_model.specs.declared.value.Kind.TheVariants as kind
-use Rattle.cj_model.specs.declared.value.Value.TheVariants as value
-use Rattle.cj_model.specs.declared.term.Term.{Term}
-use Rattle.cj_model.specs.declared.term.Term.TheVariants as term
+use Rattle.cj_model.specs.declared.term.ColRef.{ColRef}
 use Rattle.cj_model.specs.declared.schema.ColDef.{ColDef}
+use Rattle.cj_model.specs.declared.select.Item.{Item}
+use Rattle.cj_model.specs.declared.select.Item.TheVariants as item
+use Rattle.cj_model.specs.declared.select.Items.{Items}
 use Rattle.cj_model.specs.declared.select.Items.TheVariants as items
+use Rattle.cj_model.specs.declared.select.Key.{Key}
+use Rattle.cj_model.specs.declared.select.Select.{Select}
+use Rattle.cj_model.specs.declared.write.Set.{Set}
 use Rattle.cj_model.specs.declared.write.Write.TheVariants as write
 use Rattle.cj_model.specs.declared.request.Request.{Request}
 use Rattle.cj_model.specs.declared.request.Request.TheVariants as request
+use Rattle.cj_model.specs.Conditions.{Condition}
 use Rattle.cj_model.specs.Lexical.{Tokens}
 use Rattle.cj_model.specs.Tables.{is_distinct}
+use Rattle.cj_model.specs.TermForms.{commas, SomeFit, AnyFits, ConstForm, ExprForm, const_tokens, const_meant, ConstFits, col_tokens, expr_tokens, expr_meant, ExprFits}
+use Rattle.cj_model.specs.ConditionForms.{CondForm, cond_tokens, cond_meant, CondFits}
 
 -- ---- what may be written
 
--- const = [ "-" ] number | string
-pub data ConstForm : Type 0 where
-  number : ℕ → ConstForm
-  minus : ℕ → ConstForm
-  string : List ℕ → ConstForm
+-- set = name "=" expr
+pub record SetForm : Type 0 where
+  pub column : List ℕ
+  pub value : ExprForm
+
+-- [ ASC | DESC ]
+pub data Direction : Type 0 where
+  unsaid : Direction
+  ascending : Direction
+  descending : Direction
+
+-- key = col [ ASC | DESC ]
+pub record KeyForm : Type 0 where
+  pub col : ColRef
+  pub direction : Direction
+
+-- SELECT items FROM name { "," name } [ WHERE cond ] [ GROUP BY col ] [ ORDER BY key { "," key } ] [ LIMIT number ]
+pub record SelectForm : Type 0 where
+  pub items : Items
+  pub tables : List (List ℕ)
+  pub cond : Option CondForm
+  pub group : Option ColRef
+  pub order : List KeyForm
+  pub limit : Option ℕ
 
 pub data Statement : Type 0 where
   -- CREATE TABLE name "(" coldef { "," coldef } ")", where coldef = name ( INTEGER | TEXT ) [ PRIMARY KEY ]
   create : List ℕ → List ColDef → Statement
-  -- INSERT INTO name VALUES tuple { "," tuple }, where tuple = "(" const { "," const } ")"
-  insert : List ℕ → List (List ConstForm) → Statement
-  -- SELECT "*" FROM name
-  select_all : List ℕ → Statement
+  -- DROP TABLE name
+  drop : List ℕ → Statement
+  -- INSERT INTO name [ "(" name { "," name } ")" ] VALUES tuple { "," tuple }, where tuple = "(" const { "," const } ")"
+  insert : List ℕ → Option (List (List ℕ)) → List (List ConstForm) → Statement
+  -- UPDATE name SET set { "," set } [ WHERE cond ]
+  update : List ℕ → List SetForm → Option CondForm → Statement
+  -- DELETE FROM name [ WHERE cond ]
+  delete : List ℕ → Option CondForm → Statement
+  select : SelectForm → Statement
+  begin : Statement
+  commit : Statement
+  rollback : Statement
 
 -- ---- its tokens, and the tokens that follow
 
--- item { "," item }
-abbrev pub commas : {A : Type 0} → (A → List Token → List Token) → List A → List Token → List Token
-commas item [] rest = rest
-commas item (x ∷ []) rest = item x rest
-commas item (x ∷ y ∷ more) rest = item x (token.Symbol symbol.Comma ∷ commas item (y ∷ more) rest)
-
-abbrev pub const_tokens : ConstForm → List Token → List Token
-const_tokens (number n) rest = token.Number n ∷ rest
-const_tokens (minus n) rest = token.Symbol symbol.Minus ∷ token.Number n ∷ rest
-const_tokens (string x) rest = token.Text x ∷ rest
-
-abbrev pub tuple_tokens : List ConstForm → List Token → List Token
-tuple_tokens xs rest = token.Symbol symbol.Open ∷ commas const_tokens xs (token.Symbol symbol.Close ∷ rest)
+abbrev pub name_tokens : List ℕ → List Token → List Token
+name_tokens n rest = token.Name n ∷ rest
 
 abbrev pub kind_token : Kind → Token
 kind_token kind.Integer = token.Word word.Integer
 kind_token kind.Text = token.Word word.Text
 
-abbrev pub key_tokens : Bool → List Token → List Token
-key_tokens true rest = token.Word word.Primary ∷ token.Word word.Key ∷ rest
-key_tokens false rest = rest
+abbrev pub primary_tokens : Bool → List Token → List Token
+primary_tokens true rest = token.Word word.Primary ∷ token.Word word.Key ∷ rest
+primary_tokens false rest = rest
 
 abbrev pub coldef_tokens : ColDef → List Token → List Token
-coldef_tokens c rest = token.Name c.name ∷ kind_token c.kind ∷ key_tokens c.key rest
+coldef_tokens c rest = token.Name c.name ∷ kind_token c.kind ∷ primary_tokens c.key rest
+
+abbrev pub tuple_tokens : List ConstForm → List Token → List Token
+tuple_tokens xs rest = token.Symbol symbol.Open ∷ commas const_tokens xs (token.Symbol symbol.Close ∷ rest)
+
+-- the names of an INSERT's list, in parentheses
+abbrev pub list_tokens : Option (List (List ℕ)) → List Token → List Token
+list_tokens None rest = rest
+list_tokens (Some names) rest = token.Symbol symbol.Open ∷ commas name_tokens names (token.Symbol symbol.Close ∷ rest)
+
+abbrev pub set_tokens : SetForm → List Token → List Token
+set_tokens s rest = token.Name s.column ∷ token.Symbol symbol.Eq ∷ expr_tokens s.value rest
+
+-- [ WHERE cond ]
+abbrev pub where_tokens : Option CondForm → List Token → List Token
+where_tokens None rest = rest
+where_tokens (Some c) rest = token.Word word.Where ∷ cond_tokens c rest
+
+-- item = col | COUNT "(" "*" ")" | SUM "(" col ")"
+abbrev pub item_tokens : Item → List Token → List Token
+item_tokens (item.Col c) rest = col_tokens c rest
+item_tokens item.Count rest = token.Word word.Count ∷ token.Symbol symbol.Open ∷ token.Symbol symbol.Star ∷ token.Symbol symbol.Close ∷ rest
+item_tokens (item.Sum c) rest = token.Word word.Sum ∷ token.Symbol symbol.Open ∷ col_tokens c (token.Symbol symbol.Close ∷ rest)
+
+-- items = "*" | item { "," item }
+abbrev pub items_tokens : Items → List Token → List Token
+items_tokens items.All rest = token.Symbol symbol.Star ∷ rest
+items_tokens (items.Listed xs) rest = commas item_tokens xs rest
+
+-- [ GROUP BY col ]
+abbrev pub group_tokens : Option ColRef → List Token → List Token
+group_tokens None rest = rest
+group_tokens (Some c) rest = token.Word word.Group ∷ token.Word word.By ∷ col_tokens c rest
+
+abbrev pub direction_tokens : Direction → List Token → List Token
+direction_tokens unsaid rest = rest
+direction_tokens ascending rest = token.Word word.Asc ∷ rest
+direction_tokens descending rest = token.Word word.Desc ∷ rest
+
+abbrev pub key_tokens : KeyForm → List Token → List Token
+key_tokens k rest = col_tokens k.col (direction_tokens k.direction rest)
+
+-- [ ORDER BY key { "," key } ]
+abbrev pub order_tokens : List KeyForm → List Token → List Token
+order_tokens [] rest = rest
+order_tokens (k ∷ ks) rest = token.Word word.Order ∷ token.Word word.By ∷ commas key_tokens (k ∷ ks) rest
+
+-- [ LIMIT number ]
+abbrev pub limit_tokens : Option ℕ → List Token → List Token
+limit_tokens None rest = rest
+limit_tokens (Some n) rest = token.Word word.Limit ∷ token.Number n ∷ rest
+
+abbrev pub select_tokens : SelectForm → List Token → List Token
+select_tokens s rest =
+    token.Word word.Select ∷ items_tokens s.items (token.Word word.From ∷ commas name_tokens s.tables (where_tokens s.cond (group_tokens s.group (order_tokens s.order (limit_tokens s.limit rest)))))
 
 abbrev pub statement_tokens : Statement → List Token → List Token
 statement_tokens (create n cs) rest =
     token.Word word.Create ∷ token.Word word.Table ∷ token.Name n ∷ token.Symbol symbol.Open ∷ commas coldef_tokens cs (token.Symbol symbol.Close ∷ rest)
-statement_tokens (insert n rows) rest = token.Word word.Insert ∷ token.Word word.Into ∷ token.Name n ∷ token.Word word.Values ∷ commas tuple_tokens rows rest
-statement_tokens (select_all n) rest = token.Word word.Select ∷ token.Symbol symbol.Star ∷ token.Word word.From ∷ token.Name n ∷ rest
+statement_tokens (drop n) rest = token.Word word.Drop ∷ token.Word word.Table ∷ token.Name n ∷ rest
+statement_tokens (insert n names rows) rest =
+    token.Word word.Insert ∷ token.Word word.Into ∷ token.Name n ∷ list_tokens names (token.Word word.Values ∷ commas tuple_tokens rows rest)
+statement_tokens (update n sets cond) rest = token.Word word.Update ∷ token.Name n ∷ token.Word word.Set ∷ commas set_tokens sets (where_tokens cond rest)
+statement_tokens (delete n cond) rest = token.Word word.Delete ∷ token.Word word.From ∷ token.Name n ∷ where_tokens cond rest
+statement_tokens (select s) rest = select_tokens s rest
+statement_tokens begin rest = token.Word word.Begin ∷ rest
+statement_tokens commit rest = token.Word word.Commit ∷ rest
+statement_tokens rollback rest = token.Word word.Rollback ∷ rest
 
 -- ---- what it means
 
-abbrev pub const_meant : ConstForm → Term
-const_meant (number n) = term.Lit (value.Int (pos n))
-const_meant (minus n) = term.Lit (value.Int (neg_ℤ (pos n)))
-const_meant (string x) = term.Lit (value.Text x)
+abbrev pub set_meant : SetForm → Set
+set_meant s = record { column = s.column; value = expr_meant s.value }
+
+abbrev pub where_meant : Option CondForm → Option Condition
+where_meant None = None
+where_meant (Some c) = Some (cond_meant c)
+
+-- a key rises where nothing else is said
+abbrev pub descends : Direction → Bool
+descends unsaid = false
+descends ascending = false
+descends descending = true
+
+abbrev pub key_meant : KeyForm → Key
+key_meant k = record { col = k.col; desc = descends k.direction }
+
+abbrev pub select_meant : SelectForm → Select
+select_meant s = record { items = s.items; tables = s.tables; cond = where_meant s.cond; group = s.group; order = map key_meant s.order; limit = s.limit }
 
 abbrev pub statement_meant : Statement → Request
 statement_meant (create n cs) = request.Create (record { table = n; columns = cs })
-statement_meant (insert n rows) = request.Write (write.Insert n None (map (map const_meant) rows))
-statement_meant (select_all n) = request.Select (record { items = items.All; tables = n ∷ []; cond = None; group = None; order = []; limit = None })
+statement_meant (drop n) = request.Drop n
+statement_meant (insert n names rows) = request.Write (write.Insert n names (map (map const_meant) rows))
+statement_meant (update n sets cond) = request.Write (write.Update n (map set_meant sets) (where_meant cond))
+statement_meant (delete n cond) = request.Write (write.Delete n (where_meant cond))
+statement_meant (select s) = request.Select (select_meant s)
+statement_meant begin = request.Begin
+statement_meant commit = request.Commit
+statement_meant rollback = request.Rollback
 
 -- ---- its limits
 
--- each of them fits
-abbrev pub EachFits : {A : Type 0} → (A → Type 0) → List A → Type 0
-EachFits P [] = Unit {0}
-EachFits P (x ∷ xs) = P x × EachFits P xs
+abbrev pub ListFits : Option (List (List ℕ)) → Type 0
+ListFits None = Unit {0}
+ListFits (Some names) = SomeFit AnyFits 16 names
 
--- one or more, at most so many, each of which fits
-abbrev pub SomeFit : {A : Type 0} → (A → Type 0) → ℕ → List A → Type 0
-SomeFit P limit xs = (0 < length xs) × (length xs ≤ limit) × EachFits P xs
+abbrev pub SetFits : SetForm → Type 0
+SetFits s = ExprFits s.value
 
--- a number is in the range of 64 bits with a sign
-abbrev pub ConstFits : ConstForm → Type 0
-ConstFits (number n) = n < 2 ^ 63
-ConstFits (minus n) = n ≤ 2 ^ 63
-ConstFits (string x) = Unit {0}
+abbrev pub WhereFits : Option CondForm → Type 0
+WhereFits None = Unit {0}
+WhereFits (Some c) = CondFits c
+
+abbrev pub ItemsFit : Items → Type 0
+ItemsFit items.All = Unit {0}
+ItemsFit (items.Listed xs) = SomeFit AnyFits 16 xs
+
+-- a number in the range of 64 bits with a sign
+abbrev pub LimitFits : Option ℕ → Type 0
+LimitFits None = Unit {0}
+LimitFits (Some n) = n < 2 ^ 63
+
+-- the item is neither COUNT nor SUM
+abbrev pub is_column : Item → Bool
+is_column (item.Col c) = true
+is_column item.Count = false
+is_column (item.Sum c) = false
+
+abbrev pub are_columns : Items → Bool
+are_columns items.All = true
+are_columns (items.Listed xs) = list_all is_column xs
+
+-- COUNT, SUM or GROUP BY stands there
+abbrev pub aggregates : Items → Option ColRef → Bool
+aggregates xs group = not (are_columns xs) || is_some group
+
+pub record SelectFits (s : SelectForm) : Type 0 where
+  pub items : ItemsFit s.items
+  pub tables : SomeFit AnyFits 4 s.tables
+  pub different : is_distinct s.tables ≡ true
+  pub cond : WhereFits s.cond
+  pub order : length s.order ≤ 4
+  pub limit : LimitFits s.limit
+  -- COUNT, SUM and GROUP BY stand only where FROM names one table
+  pub alone : aggregates s.items s.group ≡ true → length s.tables ≡ 1
 
 abbrev pub StatementFits : Statement → Type 0
-StatementFits (create n cs) = SomeFit (λ _. Unit {0}) 16 cs
-StatementFits (insert n rows) = SomeFit (SomeFit ConstFits 16) 4096 rows
-StatementFits (select_all n) = Unit {0}
-
--- What is built of it: CREATE with distinct columns of which exactly one is the primary key, and INSERT of one tuple.
-abbrev pub IsBuilt : Statement → Type 0
-IsBuilt (create n cs) = (is_distinct (map (λ (c : ColDef). c.name) cs) ≡ true) × (count_by (λ (c : ColDef). c.key) cs ≡ 1)
-IsBuilt (insert n rows) = length rows ≡ 1
-IsBuilt (select_all n) = Unit {0}
+StatementFits (create n cs) = SomeFit AnyFits 16 cs
+StatementFits (drop n) = Unit {0}
+StatementFits (insert n names rows) = ListFits names × SomeFit (SomeFit ConstFits 16) 4096 rows
+StatementFits (update n sets cond) = SomeFit SetFits 16 sets × WhereFits cond
+StatementFits (delete n cond) = WhereFits cond
+StatementFits (select s) = SelectFits s
+StatementFits begin = Unit {0}
+StatementFits commit = Unit {0}
+StatementFits rollback = Unit {0}
 
 -- ---- reading
 
@@ -120,7 +255,6 @@ pub record Reads (tokens : List Token) (r : Request) : Type 0 where
   pub semicolon : Bool
   pub tokens_are : tokens ≡ statement_tokens statement (end_tokens semicolon)
   pub fits : StatementFits statement
-  pub built : IsBuilt statement
   pub meant : r ≡ statement_meant statement
 
 -- the text reads as a request

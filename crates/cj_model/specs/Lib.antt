@@ -2,6 +2,7 @@ pub mod Answering
 pub mod Asks
 pub mod Changes
 pub mod ConditionCode
+pub mod ConditionForms
 pub mod ConditionShape
 pub mod Conditions
 pub mod Cores
@@ -22,6 +23,7 @@ pub mod Session
 pub mod Sound
 pub mod Steps
 pub mod Tables
+pub mod TermForms
 pub mod Turns
 pub mod Values
 pub mod Words

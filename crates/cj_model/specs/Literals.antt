@@ -1,12 +1,12 @@
 -- The literals of values in canonical SQL, and that they read back.
-use Rattle.std.specs.Prelude.{◌≡◌, ◌≤◌, ◌<◌, ◌^◌, ◌+◌, ℕ, suc, pos, negsuc, List, [], ◌∷◌, ◌++◌, length}
+use Rattle.std.specs.Prelude.{◌≡◌, ◌≤◌, ◌<◌, ◌^◌, ℕ, suc, pos, negsuc, List, [], ◌∷◌, ◌++◌, length}
 use Rattle.std.specs.Fmt.{signed_decimal}
 use Rattle.cj_model.specs.declared.value.Value.{Value}
 use Rattle.cj_model.specs.declared.value.Value.TheVariants as value
 use Rattle.cj_model.specs.declared.term.Term.TheVariants as term
 use Rattle.cj_model.specs.Words.{IsText}
 use Rattle.cj_model.specs.Lexical.{doubled, Tokens}
-use Rattle.cj_model.specs.Grammar.{ConstForm, number, minus, string, const_tokens, const_meant, ConstFits}
+use Rattle.cj_model.specs.TermForms.{ConstForm, number, minus, string, const_tokens, const_meant, ConstFits}
 
 -- an INTEGER in decimal, with `-` where it is negative; a TEXT in quotes, with each quote in it twice
 abbrev pub literal : Value → List ℕ

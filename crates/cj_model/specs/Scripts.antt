@@ -1,5 +1,5 @@
 -- Scripts: the lines that are moves, and the lines that they give.
-use Rattle.std.specs.Prelude.{◌≡◌, ℕ, ◌<◌, ◌≤◌, ◌^◌, Bool, true, false, not, ◌==◌, List, [], ◌∷◌, ◌++◌, length, codes, is_some, slice_index_or, position}
+use Rattle.std.specs.Prelude.{◌≡◌, ℕ, ◌<◌, ◌≤◌, ◌^◌, true, not, ◌==◌, List, [], ◌∷◌, ◌++◌, length, codes, is_some, slice_index_or, position}
 use Rattle.std.specs.declared.option.Option.TheVariants.{Some}
 use Rattle.std.specs.List.{join_with_byte, flat_map, list_all}
 use Rattle.std.specs.Str.{bytes_eq}
@@ -8,7 +8,6 @@ use Rattle.cj_model.specs.declared.value.Value.{Value}
 use Rattle.cj_model.specs.declared.request.Request.{Request}
 use Rattle.cj_model.specs.declared.request.Request.TheVariants as request
 use Rattle.cj_model.specs.declared.answer.Answer.{Answer}
-use Rattle.cj_model.specs.declared.answer.Outcome.{Outcome}
 use Rattle.cj_model.specs.declared.answer.Outcome.TheVariants as outcome
 use Rattle.cj_model.specs.declared.answer.Refusal.{Refusal}
 use Rattle.cj_model.specs.declared.answer.Reply.{Reply}
@@ -26,6 +25,7 @@ use Rattle.cj_model.specs.Words.{IsText}
 use Rattle.cj_model.specs.Grammar.{TextReads}
 use Rattle.cj_model.specs.Plain.{is_plain, act_of}
 use Rattle.cj_model.specs.Legality.{user_limit}
+use Rattle.cj_model.specs.Runs.{IsLoneWrite}
 use Rattle.cj_model.specs.Literals.{literal}
 
 -- these words, with one space between each two
@@ -60,10 +60,11 @@ pub record IsPlainSql (text : List ℕ) (r : Request) : Type 0 where
   pub reads : TextReads text r
   pub plain : is_plain r ≡ true
 
--- the text reads as such a request that is no query
+-- the text reads as such a request that is no query, and can be scheduled so far
 pub record IsWrite (text : List ℕ) (r : Request) : Type 0 where
   pub sql : IsPlainSql text r
   pub act : is_some (act_of r) ≡ true
+  pub lone : IsLoneWrite r
 
 -- the line "VERB B"
 abbrev pub NamesBackend : List (List ℕ) → List ℕ → List ℕ → ℕ → Type 0

@@ -7,7 +7,7 @@ use Rattle.cj_model.specs.declared.token.Keyword.{Keyword}
 use Rattle.cj_model.specs.declared.token.Symbol.{Symbol}
 use Rattle.cj_model.specs.declared.token.Token.{Token}
 use Rattle.cj_model.specs.declared.token.Token.TheVariants as token
-use Rattle.cj_sql.specs.Reader.{read, same_word, same_symbol, sees_word, sees_symbol, sees_end, name, number, text, expect_word, expect_symbol}
+use Rattle.cj_sql.specs.Reader.{read, same_word, same_symbol, sees_word, sees_symbol, sees_end, name, number, text, symbol_at, expect_word, expect_symbol}
 use Rattle.cj_sql.proofs.Binds.{branch, holds, fails}
 
 -- a word that is seen stands there
@@ -49,6 +49,13 @@ unfolding text
 text_sound [] x rest h = absurd (cc)
 text_sound (token.Text y ∷ ts) x rest h = cc
 text_sound (_ ∷ ts) x rest h = absurd (cc)
+
+-- a symbol that was read stood there
+pub symbol_sound : (ts : List Token) (s : Symbol) (rest : List Token) → symbol_at ts ≡ read s rest → ts ≡ token.Symbol s ∷ rest
+unfolding symbol_at
+symbol_sound [] s rest h = absurd (cc)
+symbol_sound (token.Symbol t ∷ ts) s rest h = cc
+symbol_sound (_ ∷ ts) s rest h = absurd (cc)
 
 -- a word that was expected stood there
 pub expect_word_sound : (w : Keyword) (ts : List Token) (u : Unit {0}) (rest : List Token) → expect_word w ts ≡ read u rest → ts ≡ token.Word w ∷ rest

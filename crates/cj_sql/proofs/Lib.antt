@@ -1,8 +1,17 @@
 pub mod Binds
+pub mod ConditionsComplete
+pub mod ConditionsSound
+pub mod Counts
+pub mod Filters
 pub mod Front
 pub mod Lists
 pub mod Names
 pub mod OneReading
+pub mod Ranks
+pub mod SelectParts
+pub mod Selects
+pub mod StatementParts
 pub mod Statements
+pub mod TermsRead
 pub mod Texts
 pub mod Turns

@@ -1,12 +1,13 @@
 -- What it is for a reader to read exactly the forms of the grammar, and lists with commas of what such a reader reads.
-use Rattle.std.proofs.Common.{◌≡◌, ◌∙◌, refl, sym, ap, ℕ, zero, suc, ◌≤◌, ◌<◌, false, List, [], ◌∷◌, ◌++◌, append_assoc, length, map, drop, arith}
+use Rattle.std.proofs.Common.{◌≡◌, ◌∙◌, refl, sym, ap, ℕ, zero, suc, ◌≤◌, ◌<◌, List, [], ◌∷◌, ◌++◌, append_assoc, length, map, drop, arith}
 use Rattle.cj_model.specs.declared.token.Token.{Token}
 use Rattle.cj_model.specs.declared.token.Token.TheVariants as token
 use Rattle.cj_model.specs.declared.token.Symbol.TheVariants as symbol
-use Rattle.cj_model.specs.Grammar.{commas, SomeFit}
+use Rattle.cj_model.specs.TermForms.{commas, SomeFit}
 use Rattle.cj_sql.specs.Reader.{read, Reader, same_symbol, sees_symbol, items_from, items}
 use Rattle.cj_sql.proofs.Binds.{branch, holds, fails, part, part_of}
 use Rattle.cj_sql.proofs.Front.{symbol_seen}
+use Rattle.cj_sql.proofs.Ranks.{rank, no_symbol}
 
 -- the tokens up to the rest are those of a form that fits, which means the value
 pub record IsForm {F A : Type 0} (tokens_of : F → List Token → List Token) (meant : F → A) (Fits : F → Type 0) (ts : List Token) (x : A) (rest : List Token) : Type 0 where
@@ -15,20 +16,12 @@ pub record IsForm {F A : Type 0} (tokens_of : F → List Token → List Token) (
   pub means : meant form ≡ x
   pub fits : Fits form
 
--- What the reader reads is a form, and it reads each form where what follows may follow it.
-pub record IsReaderOf {F A : Type 0} (tokens_of : F → List Token → List Token) (meant : F → A) (Fits : F → Type 0) (MayFollow : List Token → Type 0) (reader : Reader A) : Type 0 where
+-- What the reader reads is a form, and it reads each form where what follows is above the level.
+pub record IsReaderOf {F A : Type 0} (tokens_of : F → List Token → List Token) (meant : F → A) (Fits : F → Type 0) (level : ℕ) (reader : Reader A) : Type 0 where
   pub sound : (ts : List Token) (x : A) (rest : List Token) → reader ts ≡ read x rest → IsForm tokens_of meant Fits ts x rest
-  pub complete : (form : F) (rest : List Token) → Fits form → MayFollow rest → reader (tokens_of form rest) ≡ read (meant form) rest
+  pub complete : (form : F) (rest : List Token) → Fits form → level < rank rest → reader (tokens_of form rest) ≡ read (meant form) rest
 
--- what may follow a form that can't go on
-abbrev pub Anything : List Token → Type 0
-Anything ts = Unit {0}
-
--- what may follow a list
-abbrev pub EndsList : (List Token → Type 0) → List Token → Type 0
-EndsList MayFollow ts = MayFollow ts × (sees_symbol symbol.Comma ts ≡ false)
-
-module _ {F A : Type 0} (tokens_of : F → List Token → List Token) (meant : F → A) (Fits : F → Type 0) (MayFollow : List Token → Type 0) (item : Reader A) where
+module _ {F A : Type 0} (tokens_of : F → List Token → List Token) (meant : F → A) (Fits : F → Type 0) (level : ℕ) (item : Reader A) where
   -- an item, a comma and more items are items with commas
   cons_commas : (f : F) (fs : List F) (rest : List Token) → 0 < length fs → tokens_of f (token.Symbol symbol.Comma ∷ commas tokens_of fs rest) ≡ commas tokens_of (f ∷ fs) rest
   cons_commas f [] rest h = absurd (omega arith)
@@ -57,30 +50,30 @@ module _ {F A : Type 0} (tokens_of : F → List Token → List Token) (meant : F
   ]
 
   -- forms with commas are read as further items
-  items_from_complete : ((ts : List Token) → MayFollow (token.Symbol symbol.Comma ∷ ts)) →
-      ((form : F) (rest : List Token) → Fits form → MayFollow rest → item (tokens_of form rest) ≡ read (meant form) rest) →
-      (fs : List F) (room : ℕ) (found : List A) (rest : List Token) → SomeFit Fits room fs → EndsList MayFollow rest →
+  items_from_complete : level < 4 →
+      ((form : F) (rest : List Token) → Fits form → level < rank rest → item (tokens_of form rest) ≡ read (meant form) rest) →
+      (fs : List F) (room : ℕ) (found : List A) (rest : List Token) → SomeFit Fits room fs → 4 < rank rest →
       items_from item room found (commas tokens_of fs rest) ≡ read (found ++ map meant fs) rest
   unfolding items_from same_symbol
-  items_from_complete comma complete [] room found rest fits e = absurd (let l = fits.0 in omega arith)
-  items_from_complete comma complete (f ∷ fs) zero found rest fits e = absurd (let l = fits.1 in omega arith)
-  items_from_complete comma complete (f ∷ []) (suc room) found rest fits e = rw (complete f rest fits.2.0 e.0, e.1) refl
-  items_from_complete comma complete (f ∷ g ∷ fs) (suc room) found rest fits e =
+  items_from_complete low complete [] room found rest fits e = absurd (let l = fits.0 in omega arith)
+  items_from_complete low complete (f ∷ fs) zero found rest fits e = absurd (let l = fits.1 in omega arith)
+  items_from_complete low complete (f ∷ []) (suc room) found rest fits e = rw (complete f rest fits.2.0 (omega (arith, low, e)), no_symbol symbol.Comma rest e) refl
+  items_from_complete low complete (f ∷ g ∷ fs) (suc room) found rest fits e =
       let l : length (g ∷ fs) ≤ room = let k = fits.1 in omega arith in
       let some : 0 < length (g ∷ fs) = omega arith in
       rw (
-        complete f (token.Symbol symbol.Comma ∷ commas tokens_of (g ∷ fs) rest) fits.2.0 (comma _),
-        items_from_complete comma complete (g ∷ fs) room (found ++ meant f ∷ []) rest (some, l, fits.2.1) e,
+        complete f (token.Symbol symbol.Comma ∷ commas tokens_of (g ∷ fs) rest) fits.2.0 low,
+        items_from_complete low complete (g ∷ fs) room (found ++ meant f ∷ []) rest (some, l, fits.2.1) e,
         append_assoc found (meant f ∷ []) (map meant (g ∷ fs)),
       ) refl
 
   -- a list of what the reader reads
-  pub items_read : (limit : ℕ) → ((ts : List Token) → MayFollow (token.Symbol symbol.Comma ∷ ts)) → IsReaderOf tokens_of meant Fits MayFollow item →
-      IsReaderOf (commas tokens_of) (map meant) (SomeFit Fits limit) (EndsList MayFollow) (items item limit)
+  pub items_read : (limit : ℕ) → level < 4 → IsReaderOf tokens_of meant Fits level item →
+      IsReaderOf (commas tokens_of) (map meant) (SomeFit Fits limit) 4 (items item limit)
   unfolding items
-  items_read limit comma reads = record {
+  items_read limit low reads = record {
     sound = λ ts xs rest h. let a = items_from_sound reads.sound limit [] ts xs rest h in record { form = a.form; tokens_are = a.tokens_are; means = a.means; fits = a.fits };
-    complete = λ fs rest fits e. items_from_complete comma reads.complete fs limit [] rest fits e;
+    complete = λ fs rest fits e. items_from_complete low reads.complete fs limit [] rest fits e;
   }
 
 -- what each item means by itself, all mean
@@ -88,10 +81,12 @@ map_same : {A : Type 0} (xs : List A) → map (λ x. x) xs ≡ xs
 map_same [] = refl
 map_same (x ∷ xs) = ap (λ ys. x ∷ ys) (map_same xs)
 
--- where each item means itself, so does the list
-pub items_mean_themselves : {A : Type 0} (tokens_of : List A → List Token → List Token) (Fits : List A → Type 0) (MayFollow : List Token → Type 0) (reader : Reader (List A))
-    → IsReaderOf tokens_of (map (λ x. x)) Fits MayFollow reader → IsReaderOf tokens_of (λ xs. xs) Fits MayFollow reader
-items_mean_themselves tokens_of Fits MayFollow reader reads = record {
-  sound = λ ts xs rest h. let a = reads.sound ts xs rest h in record { form = a.form; tokens_are = a.tokens_are; means = sym (map_same a.form) ∙ a.means; fits = a.fits };
-  complete = λ xs rest fits e. reads.complete xs rest fits e ∙ ap (λ ys. read ys rest) (map_same xs);
-}
+-- a list of what means itself means itself
+pub themselves_read : {A : Type 0} (tokens_of : A → List Token → List Token) (Fits : A → Type 0) (level : ℕ) (item : Reader A) (limit : ℕ)
+    → level < 4 → IsReaderOf tokens_of (λ x. x) Fits level item → IsReaderOf (commas tokens_of) (λ xs. xs) (SomeFit Fits limit) 4 (items item limit)
+themselves_read tokens_of Fits level item limit low reads =
+    let all = items_read tokens_of (λ x. x) Fits level item limit low reads in
+    record {
+      sound = λ ts xs rest h. let a = all.sound ts xs rest h in record { form = a.form; tokens_are = a.tokens_are; means = sym (map_same a.form) ∙ a.means; fits = a.fits };
+      complete = λ xs rest fits e. all.complete xs rest fits e ∙ ap (λ ys. read ys rest) (map_same xs);
+    }

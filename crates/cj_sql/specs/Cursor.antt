@@ -4,6 +4,9 @@ use Rattle.std.specs.declared.option.Option.{Option}
 use Rattle.std.specs.declared.option.Option.TheVariants.{None, Some}
 use Rattle.std.specs.Borrow.{Bor}
 use Rattle.cj_model.specs.declared.token.Token.{Token}
+use Rattle.cj_model.specs.declared.condition.CondNode.{CondNode}
+use Rattle.cj_model.specs.Conditions.{Condition}
+use Rattle.cj_model.specs.ConditionShape.{shape}
 use Rattle.cj_lex.specs.declared.error.SqlError.{SqlError}
 use Rattle.cj_lex.specs.declared.error.SqlError.TheVariants.{Syntax, NoMemory}
 use Rattle.cj_sql.specs.Reader.{Read, refused, read}
@@ -23,3 +26,9 @@ abbrev pub Reads : {A S T : Type 0} → (S → Read A T) → S → Result A SqlE
 Reads reader old (Ok x) new = reader old ≡ read x new
 Reads reader old (Err Syntax) new = reader old ≡ refused
 Reads reader old (Err NoMemory) new = Unit {0}
+
+-- So does one that reads a node of a condition's tree.
+abbrev pub ReadsNode : {S T : Type 0} → (S → Read Condition T) → S → Result CondNode SqlError → T → Type 0
+ReadsNode reader old (Ok node) new = reader old ≡ read (shape node) new
+ReadsNode reader old (Err Syntax) new = reader old ≡ refused
+ReadsNode reader old (Err NoMemory) new = Unit {0}

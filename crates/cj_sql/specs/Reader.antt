@@ -48,6 +48,11 @@ abbrev pub sees_number : List Token → Bool
 sees_number (token.Number n ∷ rest) = true
 sees_number _ = false
 
+-- whether a name stands at the front
+abbrev pub sees_name : List Token → Bool
+sees_name (token.Name n ∷ rest) = true
+sees_name _ = false
+
 -- whether no token is left
 abbrev pub sees_end : List Token → Bool
 sees_end [] = true
@@ -69,6 +74,11 @@ number _ = refused
 unfoldable pub text : Reader (List ℕ)
 text (token.Text x ∷ rest) = read x rest
 text _ = refused
+
+-- a symbol
+unfoldable pub symbol_at : Reader Symbol
+symbol_at (token.Symbol s ∷ rest) = read s rest
+symbol_at _ = refused
 
 -- this word
 unfoldable pub expect_word : Keyword → Reader (Unit {0})

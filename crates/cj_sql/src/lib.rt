@@ -2,14 +2,20 @@
 //! reader is shown to read exactly what the grammar spells (`proofs/`).
 #![tactic(auto)]
 
+mod conditions;
 mod create;
 mod insert;
 mod laws;
 mod list;
 mod request;
 mod select;
+mod terms;
 mod tokens;
+mod update;
 
 pub use cj_lex::SqlError;
 pub use laws::texts_have_one_reading;
 pub use request::read;
+
+#[cfg(test)]
+mod tests;

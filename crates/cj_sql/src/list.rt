@@ -5,11 +5,11 @@ ghost use Rattle.cj_sql.specs.Reader as spec;
 
 use crate::tokens::Tokens;
 use cj_lex::SqlError;
-use cj_model::{ListOf, Symbol};
+use cj_model::{ListOf, Name, Symbol};
 use std::alloc::Global;
 
 /// What stands between the commas of a list.
-pub trait Item: Drop {
+pub trait Element: Drop {
     ghost use Rattle.std.specs.Prelude.{List};
     ghost use Rattle.cj_model.specs.declared.token.Token.{Token};
     ghost use Rattle.cj_sql.specs.Reader.{Read};
@@ -21,9 +21,19 @@ pub trait Item: Drop {
         ensures { Reads reader tokens.old result tokens.new };
 }
 
+impl Element for Name {
+    ghost use Rattle.cj_sql.specs.Reader.{name};
+
+    ghost reader = { name };
+
+    fn read(_alloc: Global, tokens: &mut Tokens) -> Result<Name, SqlError> {
+        tokens.name()
+    }
+}
+
 /// One item or more with commas between them, at most `limit`.
 #[tactic(auto, unfolding(crate::specs::Reader::items))]
-pub fn items<T: Item>(
+pub fn items<T: Element>(
     alloc: Global,
     tokens: &mut Tokens,
     limit: usize,

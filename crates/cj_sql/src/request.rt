@@ -4,10 +4,11 @@ ghost use Rattle.cj_sql.specs.Cursor.{Reads};
 ghost use Rattle.cj_sql.specs.Read.{IsRead};
 ghost use Rattle.cj_sql.specs.StatementReader as spec;
 
-use crate::create::create;
+use crate::create::{create, drop_table};
 use crate::insert::insert;
 use crate::select::select;
 use crate::tokens::Tokens;
+use crate::update::{delete, update};
 use cj_lex::{SqlError, read_tokens};
 use cj_model::{Keyword, Request, Symbol};
 use std::alloc::Global;
@@ -19,8 +20,26 @@ fn statement(alloc: Global, tokens: &mut Tokens) -> Result<Request, SqlError>
     if tokens.eat_word(Keyword::Create) {
         return create(alloc, tokens);
     }
+    if tokens.eat_word(Keyword::Drop) {
+        return drop_table(tokens);
+    }
     if tokens.eat_word(Keyword::Insert) {
         return insert(alloc, tokens);
+    }
+    if tokens.eat_word(Keyword::Update) {
+        return update(alloc, tokens);
+    }
+    if tokens.eat_word(Keyword::Delete) {
+        return delete(alloc, tokens);
+    }
+    if tokens.eat_word(Keyword::Begin) {
+        return Ok(Request::Begin);
+    }
+    if tokens.eat_word(Keyword::Commit) {
+        return Ok(Request::Commit);
+    }
+    if tokens.eat_word(Keyword::Rollback) {
+        return Ok(Request::Rollback);
     }
     tokens.expect_word(Keyword::Select)?;
     select(alloc, tokens)

@@ -87,6 +87,13 @@ impl Tokens {
         matches!(self.front(), Some(Token::Number(_)))
     }
 
+    /// Whether a name stands at the front.
+    pub fn sees_name(&self) -> bool
+        ensures { result ≡ spec.sees_name self.now }
+    {
+        matches!(self.front(), Some(Token::Name(_)))
+    }
+
     /// Whether no token is left.
     pub fn sees_end(&self) -> bool
         ensures { result ≡ spec.sees_end self.now }
@@ -149,6 +156,18 @@ impl Tokens {
     {
         match self.take() {
             Some(Token::Text(text)) => Ok(text),
+            Some(_other) => Err(SqlError::Syntax),
+            None => Err(SqlError::Syntax),
+        }
+    }
+
+    /// Takes a symbol; `Syntax` where none stands at the front.
+    #[tactic(auto, unfolding(crate::specs::Reader::symbol_at))]
+    pub fn symbol(&mut self) -> Result<Symbol, SqlError>
+        ensures { Reads spec.symbol_at self.old result self.new }
+    {
+        match self.take() {
+            Some(Token::Symbol(symbol)) => Ok(symbol),
             Some(_other) => Err(SqlError::Syntax),
             None => Err(SqlError::Syntax),
         }

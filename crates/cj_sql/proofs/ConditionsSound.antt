@@ -1,0 +1,190 @@
+-- What the reader of conditions reads is a condition of the grammar.
+use Rattle.std.proofs.Common.{◌≡◌, ℕ, zero, suc, ◌+◌, ◌-◌, ◌<◌, nat_lt, List, ◌∷◌, Option, None, Some, arith}
+use Rattle.std.proofs.lemmas.Bool.Decides.{nat_tests}
+use Rattle.cj_model.specs.declared.token.Token.{Token}
+use Rattle.cj_model.specs.declared.token.Token.TheVariants as token
+use Rattle.cj_model.specs.declared.token.Keyword.TheVariants as word
+use Rattle.cj_model.specs.declared.token.Symbol.{Symbol}
+use Rattle.cj_model.specs.declared.token.Symbol.TheVariants as symbol
+use Rattle.cj_model.specs.declared.term.Cmp.{Cmp}
+use Rattle.cj_model.specs.Conditions.{Condition, And, Or}
+use Rattle.cj_model.specs.ConditionForms.{CondForm, OrsForm, ConjForm, AndsForm, PrimForm, cmp_token, cond_tokens, ors_tokens, conj_tokens, ands_tokens, prim_tokens, cond_meant, ors_meant, conj_meant, ands_meant, prim_meant, CondNests, OrsNest, ConjNests, AndsNest, PrimNests}
+use Rattle.cj_model.specs.ConditionForms as form
+use Rattle.cj_sql.specs.Reader.{read, sees_word, sees_symbol}
+use Rattle.cj_sql.specs.ConditionReader.{Input, at, after, Conditions, cmp_of, given, comparison, test, ands, conj, ors, cond, parens, prim}
+use Rattle.cj_sql.proofs.Binds.{branch, holds, fails, part, part_of}
+use Rattle.cj_sql.proofs.Front.{word_seen, symbol_seen, symbol_sound, expect_symbol_sound}
+use Rattle.cj_sql.proofs.TermsRead.{term_read}
+use Rattle.cj_sql.proofs.Counts.{cond_tests, ors_tests, conj_tests, ands_tests, prim_tests}
+
+-- ---- comparisons
+
+-- what a symbol says is written by it
+cmp_sound : (s : Symbol) (op : Cmp) → cmp_of s ≡ Some op → token.Symbol s ≡ cmp_token op
+cmp_sound symbol.Eq op h = cc
+cmp_sound symbol.Ne op h = cc
+cmp_sound symbol.Lt op h = cc
+cmp_sound symbol.Le op h = cc
+cmp_sound symbol.Gt op h = cc
+cmp_sound symbol.Ge op h = cc
+cmp_sound _ op h = absurd (cc)
+
+given_sound : (o : Option Cmp) (ts : List Token) (op : Cmp) (rest : List Token) → given o ts ≡ read op rest → (o ≡ Some op) × (ts ≡ rest)
+given_sound None ts op rest h = absurd (cc)
+given_sound (Some x) ts op rest h = (cc, cc)
+
+-- a comparison's symbol that was read stood there
+pub comparison_sound : (ts : List Token) (op : Cmp) (rest : List Token) → comparison ts ≡ read op rest → ts ≡ cmp_token op ∷ rest
+unfolding comparison
+comparison_sound ts op rest h = elim (part_of (symbol_sound ts) h) [
+  | part s us a k ↦
+      let g = given_sound (cmp_of s) us op rest k in
+      let same = cmp_sound s op g.0 in
+      let end = g.1 in
+      cc
+]
+
+-- ---- conditions
+
+-- What stood there up to the rest is a form that nests and counts so and means the condition.
+pub record IsPart {F : Type 0} (tokens_of : F → List Token → List Token) (meant : F → Condition) (Nests : F → Type 0) (tests_of : F → ℕ) (i : Input) (c : Condition) (o : Input) : Type 0 where
+  pub form : F
+  pub tokens_are : i.rest ≡ tokens_of form o.rest
+  pub means : meant form ≡ c
+  pub nests : Nests form
+  pub counts : i.tests ≡ tests_of form + o.tests
+
+abbrev IsPrim : ℕ → Input → Condition → Input → Type 0
+IsPrim depth = IsPart prim_tokens prim_meant (PrimNests depth) prim_tests
+
+abbrev IsAnds : ℕ → Condition → Input → Condition → Input → Type 0
+IsAnds depth left = IsPart ands_tokens (ands_meant left) (AndsNest depth) ands_tests
+
+abbrev IsConj : ℕ → Input → Condition → Input → Type 0
+IsConj depth = IsPart conj_tokens conj_meant (ConjNests depth) conj_tests
+
+abbrev IsOrs : ℕ → Condition → Input → Condition → Input → Type 0
+IsOrs depth left = IsPart ors_tokens (ors_meant left) (OrsNest depth) ors_tests
+
+abbrev pub IsCond : ℕ → Input → Condition → Input → Type 0
+IsCond depth = IsPart cond_tokens cond_meant (CondNests depth) cond_tests
+
+test_sound : (depth : ℕ) (i : Input) (c : Condition) (o : Input) → test i ≡ read c o → IsPrim depth i c o
+unfolding test
+test_sound depth i c o h = elim (branch (nat_lt 0 i.tests) _ _ _ h) [
+  | holds e k ↦
+      elim (part_of (term_read.sound i.rest) k) [
+        | part left ts a k ↦
+            elim (part_of (comparison_sound ts) k) [
+              | part op us w k ↦
+                  elim (part_of (term_read.sound us) k) [
+                    | part right vs b k ↦
+                        let some : 0 < i.tests = grind (arith, nat_tests, e) in
+                        let less : i.tests - 1 ≡ o.tests = cc in
+                        record { form = form.test a.form op b.form; tokens_are = cc; means = cc; nests = (a.fits, b.fits); counts = omega (arith, some, less) }
+                  ]
+            ]
+      ]
+  | fails e k ↦ absurd (cc)
+]
+
+module _ (depth : ℕ) (prim : Conditions) (sound : (i : Input) (c : Condition) (o : Input) → prim i ≡ read c o → IsPrim depth i c o) where
+  ands_sound : (turns : ℕ) (left : Condition) (i : Input) (c : Condition) (o : Input) → ands prim turns left i ≡ read c o → IsAnds depth left i c o
+  unfolding ands
+  ands_sound zero left i c o h = elim (branch (sees_word word.And i.rest) _ _ _ h) [
+    | holds e k ↦ absurd (cc)
+    | fails e k ↦ record { form = form.no_and; tokens_are = cc; means = cc; nests = tt; counts = (let same : i.tests ≡ o.tests = cc in omega (arith, same)) }
+  ]
+  ands_sound (suc turns) left i c o h = elim (branch (sees_word word.And i.rest) _ _ _ h) [
+    | holds e k ↦
+        elim (part_of (sound (after i)) k) [
+          | part x m a k ↦
+              let b = ands_sound turns (And left x) m c o k in
+              let w = word_seen word.And i.rest e in
+              let p = a.counts in
+              let q = b.counts in
+              record { form = form.and a.form b.form; tokens_are = cc; means = cc; nests = (a.nests, b.nests); counts = omega (arith, p, q) }
+        ]
+    | fails e k ↦ record { form = form.no_and; tokens_are = cc; means = cc; nests = tt; counts = (let same : i.tests ≡ o.tests = cc in omega (arith, same)) }
+  ]
+
+  conj_sound : (i : Input) (c : Condition) (o : Input) → conj prim i ≡ read c o → IsConj depth i c o
+  unfolding conj
+  conj_sound i c o h =
+      elim (part_of (sound i) h) [
+        | part x m a k ↦
+            let b = ands_sound m.tests x m c o k in
+            let p = a.counts in
+            let q = b.counts in
+            record { form = form.ands a.form b.form; tokens_are = cc; means = cc; nests = (a.nests, b.nests); counts = omega (arith, p, q) }
+      ]
+
+  ors_sound : (turns : ℕ) (left : Condition) (i : Input) (c : Condition) (o : Input) → ors prim turns left i ≡ read c o → IsOrs depth left i c o
+  unfolding ors
+  ors_sound zero left i c o h = elim (branch (sees_word word.Or i.rest) _ _ _ h) [
+    | holds e k ↦ absurd (cc)
+    | fails e k ↦ record { form = form.no_or; tokens_are = cc; means = cc; nests = tt; counts = (let same : i.tests ≡ o.tests = cc in omega (arith, same)) }
+  ]
+  ors_sound (suc turns) left i c o h = elim (branch (sees_word word.Or i.rest) _ _ _ h) [
+    | holds e k ↦
+        elim (part_of (conj_sound (after i)) k) [
+          | part x m a k ↦
+              let b = ors_sound turns (Or left x) m c o k in
+              let w = word_seen word.Or i.rest e in
+              let p = a.counts in
+              let q = b.counts in
+              record { form = form.or a.form b.form; tokens_are = cc; means = cc; nests = (a.nests, b.nests); counts = omega (arith, p, q) }
+        ]
+    | fails e k ↦ record { form = form.no_or; tokens_are = cc; means = cc; nests = tt; counts = (let same : i.tests ≡ o.tests = cc in omega (arith, same)) }
+  ]
+
+  cond_sound_by : (i : Input) (c : Condition) (o : Input) → cond prim i ≡ read c o → IsCond depth i c o
+  unfolding cond
+  cond_sound_by i c o h =
+      elim (part_of (conj_sound i) h) [
+        | part x m a k ↦
+            let b = ors_sound m.tests x m c o k in
+            let p = a.counts in
+            let q = b.counts in
+            record { form = form.ors a.form b.form; tokens_are = cc; means = cc; nests = (a.nests, b.nests); counts = omega (arith, p, q) }
+      ]
+
+  parens_sound : (i : Input) (c : Condition) (o : Input) → parens prim i ≡ read c o → IsCond depth i c (at (token.Symbol symbol.Close ∷ o.rest) o.tests)
+  unfolding parens
+  parens_sound i c o h =
+      elim (part_of (cond_sound_by i) h) [
+        | part x m a k ↦
+            elim (part_of (expect_symbol_sound symbol.Close m.rest) k) [
+              | part _ rest w k ↦
+                  let end : rest ≡ o.rest = cc in
+                  let tests : m.tests ≡ o.tests = cc in
+                  let p = a.counts in
+                  record { form = a.form; tokens_are = cc; means = cc; nests = a.nests; counts = omega (arith, tests, p) }
+            ]
+      ]
+
+prim_sound : (depth : ℕ) (i : Input) (c : Condition) (o : Input) → prim depth i ≡ read c o → IsPrim depth i c o
+unfolding prim
+prim_sound zero i c o h = test_sound zero i c o h
+prim_sound (suc depth) i c o h = elim (branch (sees_word word.Not i.rest) _ _ _ h) [
+  | holds e k ↦
+      elim (part_of (prim_sound depth (after i)) k) [
+        | part x m a k ↦
+            let w = word_seen word.Not i.rest e in
+            let tests : m.tests ≡ o.tests = cc in
+            let p = a.counts in
+            record { form = form.not a.form; tokens_are = cc; means = cc; nests = a.nests; counts = omega (arith, tests, p) }
+      ]
+  | fails e k ↦ elim (branch (sees_symbol symbol.Open i.rest) _ _ _ k) [
+    | holds f k ↦
+        let a = parens_sound depth (prim depth) (prim_sound depth) (after i) c o k in
+        let w = symbol_seen symbol.Open i.rest f in
+        let p = a.counts in
+        record { form = form.parens a.form; tokens_are = cc; means = cc; nests = a.nests; counts = omega (arith, p) }
+    | fails f k ↦ test_sound (suc depth) i c o k
+  ]
+]
+
+-- a condition that was read stood there
+pub cond_sound : (depth : ℕ) (i : Input) (c : Condition) (o : Input) → cond (prim depth) i ≡ read c o → IsCond depth i c o
+cond_sound depth i c o h = cond_sound_by depth (prim depth) (prim_sound depth) i c o h

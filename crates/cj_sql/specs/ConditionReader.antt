@@ -1,0 +1,101 @@
+-- The reader of conditions as a function, which the code follows step by step.
+use Rattle.std.specs.Prelude.{ℕ, zero, suc, ◌-◌, nat_lt, if◌then◌else◌, List, drop}
+use Rattle.std.specs.declared.option.Option.{Option}
+use Rattle.std.specs.declared.option.Option.TheVariants.{None, Some}
+use Rattle.cj_model.specs.declared.token.Token.{Token}
+use Rattle.cj_model.specs.declared.token.Keyword.TheVariants as word
+use Rattle.cj_model.specs.declared.token.Symbol.{Symbol}
+use Rattle.cj_model.specs.declared.token.Symbol.TheVariants as symbol
+use Rattle.cj_model.specs.declared.term.Cmp.{Cmp}
+use Rattle.cj_model.specs.declared.term.Cmp.TheVariants as cmp
+use Rattle.cj_model.specs.Conditions.{Condition, Test, Not, And, Or}
+use Rattle.cj_sql.specs.Reader.{Read, refused, read, and_then, Reader, sees_word, sees_symbol, symbol_at, expect_symbol}
+use Rattle.cj_sql.specs.TermReader.{term}
+
+-- what is left to read, and how many comparisons may still come
+pub record Input : Type 0 where
+  pub rest : List Token
+  pub tests : ℕ
+
+abbrev pub at : List Token → ℕ → Input
+at rest tests = record { rest = rest; tests = tests }
+
+-- past the token at the front
+abbrev pub after : Input → Input
+after i = at (drop 1 i.rest) i.tests
+
+-- what a reader makes of a condition's input
+abbrev pub Conditions : Type 0
+Conditions = Input → Read Condition Input
+
+-- ---- comparisons
+
+-- the comparison that a symbol says
+abbrev pub cmp_of : Symbol → Option Cmp
+cmp_of symbol.Eq = Some cmp.Eq
+cmp_of symbol.Ne = Some cmp.Ne
+cmp_of symbol.Lt = Some cmp.Lt
+cmp_of symbol.Le = Some cmp.Le
+cmp_of symbol.Gt = Some cmp.Gt
+cmp_of symbol.Ge = Some cmp.Ge
+cmp_of _ = None
+
+abbrev pub given : Option Cmp → Reader Cmp
+given None ts = refused
+given (Some op) ts = read op ts
+
+-- "=" | "<>" | "<" | "<=" | ">" | ">="
+unfoldable pub comparison : Reader Cmp
+comparison ts = and_then (symbol_at ts) (λ s rest. given (cmp_of s) rest)
+
+-- term cmp term, where a comparison may still come
+unfoldable pub test : Conditions
+test i =
+    if nat_lt 0 i.tests then
+    and_then (term i.rest) (λ left ts.
+    and_then (comparison ts) (λ op ts.
+    and_then (term ts) (λ right rest.
+    read (Test op left right) (at rest (i.tests - 1)))))
+    else refused
+
+-- ---- what joins them, over a reader of prim
+
+module _ (prim : Conditions) where
+  -- { AND prim } after a condition, at most so many
+  unfoldable pub ands : ℕ → Condition → Conditions
+  ands zero left i = if sees_word word.And i.rest then refused else read left i
+  ands (suc turns) left i =
+      if sees_word word.And i.rest then and_then (prim (after i)) (λ right o. ands turns (And left right) o) else read left i
+
+  -- prim { AND prim }
+  unfoldable pub conj : Conditions
+  conj i = and_then (prim i) (λ left o. ands o.tests left o)
+
+  -- { OR conj } after a condition, at most so many
+  unfoldable pub ors : ℕ → Condition → Conditions
+  ors zero left i = if sees_word word.Or i.rest then refused else read left i
+  ors (suc turns) left i =
+      if sees_word word.Or i.rest then and_then (conj (after i)) (λ right o. ors turns (Or left right) o) else read left i
+
+  -- conj { OR conj }
+  unfoldable pub cond : Conditions
+  cond i = and_then (conj i) (λ left o. ors o.tests left o)
+
+  -- cond ")"
+  unfoldable pub parens : Conditions
+  parens i = and_then (cond i) (λ c o. and_then (expect_symbol symbol.Close o.rest) (λ _ rest. read c (at rest o.tests)))
+
+-- NOT prim | "(" cond ")" | term cmp term, within this many NOTs and parentheses more
+unfoldable pub prim : ℕ → Conditions
+prim zero i = test i
+prim (suc depth) i =
+    if sees_word word.Not i.rest then and_then (prim depth (after i)) (λ c o. read (Not c) o)
+    else (if sees_symbol symbol.Open i.rest then parens (prim depth) (after i) else test i)
+
+-- a whole condition
+unfoldable pub condition : Reader Condition
+condition ts = and_then (cond (prim 64) (at ts 256)) (λ c o. read c o.rest)
+
+-- [ WHERE cond ]
+unfoldable pub filter : Reader (Option Condition)
+filter ts = if sees_word word.Where ts then and_then (condition (drop 1 ts)) (λ c rest. read (Some c) rest) else read None ts

@@ -1,0 +1,196 @@
+//! Conditions. A condition has at most 256 comparisons, and none of its places lies in more than 64
+//! NOTs and parentheses, so neither reading nor dropping one goes deep.
+
+ghost use Rattle.std.specs.Prelude.{◌≡◌, IfOk};
+ghost use Rattle.cj_model.specs.ConditionShape.{shape};
+ghost use Rattle.cj_model.specs.Conditions as tree;
+ghost use Rattle.cj_sql.specs.Cursor.{Reads, ReadsNode};
+ghost use Rattle.cj_sql.specs.ConditionReader as spec;
+ghost use Rattle.cj_sql.specs.ConditionReader.{at};
+
+use crate::terms::term;
+use crate::tokens::Tokens;
+use cj_lex::SqlError;
+use cj_model::{Cmp, Cond, CondNode, Keyword, Symbol};
+use std::alloc::{AllocError, Global};
+
+/// The most comparisons of a condition.
+const TEST_LIMIT: usize = 256;
+
+/// The most NOTs and parentheses that are open at one place.
+const DEPTH_LIMIT: usize = 64;
+
+fn not(alloc: Global, inner: CondNode) -> Result<CondNode, AllocError>
+    ensures { IfOk result (λ node. shape node ≡ tree.Not (shape inner)) }
+{
+    Ok(CondNode::Not(Box::new(alloc, inner)?))
+}
+
+fn and(alloc: Global, left: CondNode, right: CondNode) -> Result<CondNode, AllocError>
+    ensures { IfOk result (λ node. shape node ≡ tree.And (shape left) (shape right)) }
+{
+    let left = Box::new(alloc, left)?;
+    let right = Box::new(alloc, right)?;
+    Ok(CondNode::And(left, right))
+}
+
+fn or(alloc: Global, left: CondNode, right: CondNode) -> Result<CondNode, AllocError>
+    ensures { IfOk result (λ node. shape node ≡ tree.Or (shape left) (shape right)) }
+{
+    let left = Box::new(alloc, left)?;
+    let right = Box::new(alloc, right)?;
+    Ok(CondNode::Or(left, right))
+}
+
+fn cmp_of(symbol: Symbol) -> Option<Cmp>
+    ensures { result ≡ spec.cmp_of symbol }
+{
+    match symbol {
+        Symbol::Eq => Some(Cmp::Eq),
+        Symbol::Ne => Some(Cmp::Ne),
+        Symbol::Lt => Some(Cmp::Lt),
+        Symbol::Le => Some(Cmp::Le),
+        Symbol::Gt => Some(Cmp::Gt),
+        Symbol::Ge => Some(Cmp::Ge),
+        _ => None,
+    }
+}
+
+#[tactic(auto, unfolding(crate::specs::ConditionReader::comparison))]
+fn comparison(tokens: &mut Tokens) -> Result<Cmp, SqlError>
+    ensures { Reads spec.comparison tokens.old result tokens.new }
+{
+    let symbol = tokens.symbol()?;
+    match cmp_of(symbol) {
+        Some(cmp) => Ok(cmp),
+        None => Err(SqlError::Syntax),
+    }
+}
+
+/// Two terms with a comparison between them, which is one of those that may still come.
+#[tactic(auto, unfolding(crate::specs::ConditionReader::test))]
+fn test(tokens: &mut Tokens, tests: &mut usize) -> Result<CondNode, SqlError>
+    ensures { ReadsNode spec.test (at tokens.old tests.old) result (at tokens.new tests.new) }
+{
+    if *tests == 0 {
+        return Err(SqlError::Syntax);
+    }
+    let left = term(tokens)?;
+    let cmp = comparison(tokens)?;
+    let right = term(tokens)?;
+    *tests -= 1;
+    Ok(CondNode::Test(cmp, left, right))
+}
+
+/// A comparison, or a condition behind NOT or in parentheses, within `depth` of those more.
+#[cycle(cond)]
+#[tactic(auto, unfolding(crate::specs::ConditionReader::prim))]
+fn prim(
+    alloc: Global,
+    tokens: &mut Tokens,
+    tests: &mut usize,
+    depth: usize,
+) -> Result<CondNode, SqlError>
+    ensures { ReadsNode (spec.prim depth) (at tokens.old tests.old) result (at tokens.new tests.new) }
+{
+    if depth == 0 {
+        return test(tokens, tests);
+    }
+    if tokens.eat_word(Keyword::Not) {
+        let inner = prim(alloc, tokens, tests, depth - 1)?;
+        return Ok(not(alloc, inner)?);
+    }
+    if tokens.eat_symbol(Symbol::Open) {
+        return parens(alloc, tokens, tests, depth - 1);
+    }
+    test(tokens, tests)
+}
+
+/// Conditions joined by AND. Each has a comparison, so there are no more of them than may come.
+#[cycle(cond)]
+#[tactic(auto, unfolding(crate::specs::ConditionReader::conj))]
+fn conj(
+    alloc: Global,
+    tokens: &mut Tokens,
+    tests: &mut usize,
+    depth: usize,
+) -> Result<CondNode, SqlError>
+    ensures { ReadsNode (spec.conj (spec.prim depth)) (at tokens.old tests.old) result (at tokens.new tests.new) }
+{
+    let mut left = prim(alloc, tokens, tests, depth)?;
+    let turns = *tests;
+    for _turn in 0..turns {
+        if !tokens.eat_word(Keyword::And) {
+            return Ok(left);
+        }
+        let right = prim(alloc, tokens, tests, depth)?;
+        left = and(alloc, left, right)?;
+    }
+    if tokens.sees_word(Keyword::And) {
+        return Err(SqlError::Syntax);
+    }
+    Ok(left)
+}
+
+/// Conditions joined by OR.
+#[cycle(cond)]
+#[tactic(auto, unfolding(crate::specs::ConditionReader::cond))]
+fn cond(
+    alloc: Global,
+    tokens: &mut Tokens,
+    tests: &mut usize,
+    depth: usize,
+) -> Result<CondNode, SqlError>
+    ensures { ReadsNode (spec.cond (spec.prim depth)) (at tokens.old tests.old) result (at tokens.new tests.new) }
+{
+    let mut left = conj(alloc, tokens, tests, depth)?;
+    let turns = *tests;
+    for _turn in 0..turns {
+        if !tokens.eat_word(Keyword::Or) {
+            return Ok(left);
+        }
+        let right = conj(alloc, tokens, tests, depth)?;
+        left = or(alloc, left, right)?;
+    }
+    if tokens.sees_word(Keyword::Or) {
+        return Err(SqlError::Syntax);
+    }
+    Ok(left)
+}
+
+/// The rest of a condition in parentheses.
+#[cycle(cond)]
+#[tactic(auto, unfolding(crate::specs::ConditionReader::parens))]
+fn parens(
+    alloc: Global,
+    tokens: &mut Tokens,
+    tests: &mut usize,
+    depth: usize,
+) -> Result<CondNode, SqlError>
+    ensures { ReadsNode (spec.parens (spec.prim depth)) (at tokens.old tests.old) result (at tokens.new tests.new) }
+{
+    let inner = cond(alloc, tokens, tests, depth)?;
+    tokens.expect_symbol(Symbol::Close)?;
+    Ok(inner)
+}
+
+#[tactic(auto, unfolding(crate::specs::ConditionReader::condition))]
+fn condition(alloc: Global, tokens: &mut Tokens) -> Result<Cond, SqlError>
+    ensures { Reads spec.condition tokens.old result tokens.new }
+{
+    let mut tests = TEST_LIMIT;
+    let root = cond(alloc, tokens, &mut tests, DEPTH_LIMIT)?;
+    Ok(Cond::of(root))
+}
+
+/// The condition of WHERE, if there is one.
+#[tactic(auto, unfolding(crate::specs::ConditionReader::filter))]
+pub fn filter(alloc: Global, tokens: &mut Tokens) -> Result<Option<Cond>, SqlError>
+    ensures { Reads spec.filter tokens.old result tokens.new }
+{
+    if !tokens.eat_word(Keyword::Where) {
+        return Ok(None);
+    }
+    let condition = condition(alloc, tokens)?;
+    Ok(Some(condition))
+}

@@ -1,0 +1,164 @@
+//! Constants, columns, terms and expressions.
+
+ghost use Rattle.cj_sql.specs.Cursor.{Reads};
+ghost use Rattle.cj_sql.specs.TermReader as spec;
+
+use crate::list::Element;
+use crate::tokens::Tokens;
+use cj_lex::SqlError;
+use cj_model::{ColRef, Expr, Keyword, Name, Symbol, Term, Value};
+use std::alloc::Global;
+
+#[tactic(auto, unfolding(crate::specs::TermReader::positive))]
+fn positive(tokens: &mut Tokens) -> Result<Term, SqlError>
+    ensures { Reads spec.positive tokens.old result tokens.new }
+{
+    let number = tokens.number()?;
+    match i64::try_from(number) {
+        Ok(number) => Ok(Term::Lit(Value::Int(number))),
+        Err(_) => Err(SqlError::Syntax),
+    }
+}
+
+/// A number after a minus.
+#[tactic(auto, unfolding(crate::specs::TermReader::negative))]
+fn negative(tokens: &mut Tokens) -> Result<Term, SqlError>
+    ensures { Reads spec.negative tokens.old result tokens.new }
+{
+    let number = tokens.number()?;
+    if number < 1 << 63 {
+        Ok(Term::Lit(Value::Int(-(number as i64))))
+    } else if number == 1 << 63 {
+        Ok(Term::Lit(Value::Int(i64::MIN)))
+    } else {
+        Err(SqlError::Syntax)
+    }
+}
+
+#[tactic(auto, unfolding(crate::specs::TermReader::string))]
+fn string(tokens: &mut Tokens) -> Result<Term, SqlError>
+    ensures { Reads spec.string tokens.old result tokens.new }
+{
+    let text = tokens.text()?;
+    Ok(Term::Lit(Value::Text(text)))
+}
+
+/// What follows NOW.
+#[tactic(auto, unfolding(crate::specs::TermReader::now))]
+fn now(tokens: &mut Tokens) -> Result<Term, SqlError>
+    ensures { Reads spec.now tokens.old result tokens.new }
+{
+    tokens.expect_symbol(Symbol::Open)?;
+    tokens.expect_symbol(Symbol::Close)?;
+    Ok(Term::Now)
+}
+
+/// What follows RAND.
+#[tactic(auto, unfolding(crate::specs::TermReader::rand))]
+fn rand(tokens: &mut Tokens) -> Result<Term, SqlError>
+    ensures { Reads spec.rand tokens.old result tokens.new }
+{
+    tokens.expect_symbol(Symbol::Open)?;
+    let bound = tokens.number()?;
+    tokens.expect_symbol(Symbol::Close)?;
+    if 0 < bound && bound < 1 << 63 {
+        Ok(Term::Rand(bound as i64))
+    } else {
+        Err(SqlError::Syntax)
+    }
+}
+
+#[tactic(auto, unfolding(crate::specs::TermReader::constant))]
+fn constant(tokens: &mut Tokens) -> Result<Term, SqlError>
+    ensures { Reads spec.constant tokens.old result tokens.new }
+{
+    if tokens.eat_symbol(Symbol::Minus) {
+        return negative(tokens);
+    }
+    if tokens.sees_number() {
+        return positive(tokens);
+    }
+    if tokens.eat_word(Keyword::Now) {
+        return now(tokens);
+    }
+    if tokens.eat_word(Keyword::Rand) {
+        return rand(tokens);
+    }
+    string(tokens)
+}
+
+/// A list of terms is a tuple's, which has constants alone.
+impl Element for Term {
+    ghost use Rattle.cj_sql.specs.TermReader.{constant};
+
+    ghost reader = { constant };
+
+    fn read(_alloc: Global, tokens: &mut Tokens) -> Result<Term, SqlError> {
+        constant(tokens)
+    }
+}
+
+/// The rest of a column, after its first name.
+#[tactic(auto, unfolding(crate::specs::TermReader::qualified))]
+fn qualified(tokens: &mut Tokens, first: Name) -> Result<ColRef, SqlError>
+    ensures { Reads (spec.qualified first) tokens.old result tokens.new }
+{
+    if !tokens.eat_symbol(Symbol::Dot) {
+        return Ok(ColRef {
+            table: None,
+            column: first,
+        });
+    }
+    let column = tokens.name()?;
+    Ok(ColRef {
+        table: Some(first),
+        column,
+    })
+}
+
+/// A column, qualified by its table or not.
+#[tactic(auto, unfolding(crate::specs::TermReader::column))]
+pub fn column(tokens: &mut Tokens) -> Result<ColRef, SqlError>
+    ensures { Reads spec.column tokens.old result tokens.new }
+{
+    let first = tokens.name()?;
+    qualified(tokens, first)
+}
+
+/// A constant or a column.
+#[tactic(auto, unfolding(crate::specs::TermReader::term))]
+pub fn term(tokens: &mut Tokens) -> Result<Term, SqlError>
+    ensures { Reads spec.term tokens.old result tokens.new }
+{
+    if tokens.sees_name() {
+        let column = column(tokens)?;
+        Ok(Term::Col(column))
+    } else {
+        constant(tokens)
+    }
+}
+
+/// The rest of an expression, after its first term.
+#[tactic(auto, unfolding(crate::specs::TermReader::combined))]
+fn combined(tokens: &mut Tokens, left: Term) -> Result<Expr, SqlError>
+    ensures { Reads (spec.combined left) tokens.old result tokens.new }
+{
+    if tokens.eat_symbol(Symbol::Plus) {
+        let right = term(tokens)?;
+        return Ok(Expr::Plus(left, right));
+    }
+    if tokens.eat_symbol(Symbol::Minus) {
+        let right = term(tokens)?;
+        return Ok(Expr::Minus(left, right));
+    }
+    Ok(Expr::One(left))
+}
+
+/// A term, or two with a plus or a minus between them.
+#[tactic(auto, unfolding(crate::specs::TermReader::expr))]
+pub fn expr(tokens: &mut Tokens) -> Result<Expr, SqlError>
+    ensures { Reads spec.expr tokens.old result tokens.new }
+{
+    let left = term(tokens)?;
+    combined(tokens, left)
+}

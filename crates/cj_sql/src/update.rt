@@ -1,0 +1,52 @@
+//! UPDATE and DELETE.
+
+ghost use Rattle.cj_sql.specs.Cursor.{Reads};
+ghost use Rattle.cj_sql.specs.StatementReader as spec;
+
+use crate::conditions::filter;
+use crate::list::{Element, items};
+use crate::terms::expr;
+use crate::tokens::Tokens;
+use cj_lex::SqlError;
+use cj_model::{Keyword, Request, Set, Symbol, Write};
+use std::alloc::Global;
+
+/// The most assignments of an UPDATE.
+const SET_LIMIT: usize = 16;
+
+impl Element for Set {
+    ghost use Rattle.cj_sql.specs.StatementReader.{assignment};
+
+    ghost reader = { assignment };
+
+    #[tactic(auto, unfolding(crate::specs::StatementReader::assignment))]
+    fn read(_alloc: Global, tokens: &mut Tokens) -> Result<Set, SqlError> {
+        let column = tokens.name()?;
+        tokens.expect_symbol(Symbol::Eq)?;
+        let value = expr(tokens)?;
+        Ok(Set { column, value })
+    }
+}
+
+/// What follows UPDATE.
+#[tactic(auto, unfolding(crate::specs::StatementReader::update))]
+pub fn update(alloc: Global, tokens: &mut Tokens) -> Result<Request, SqlError>
+    ensures { Reads spec.update tokens.old result tokens.new }
+{
+    let table = tokens.name()?;
+    tokens.expect_word(Keyword::Set)?;
+    let sets = items::<Set>(alloc, tokens, SET_LIMIT)?;
+    let cond = filter(alloc, tokens)?;
+    Ok(Request::Write(Write::Update { table, sets, cond }))
+}
+
+/// What follows DELETE.
+#[tactic(auto, unfolding(crate::specs::StatementReader::delete))]
+pub fn delete(alloc: Global, tokens: &mut Tokens) -> Result<Request, SqlError>
+    ensures { Reads spec.delete tokens.old result tokens.new }
+{
+    tokens.expect_word(Keyword::From)?;
+    let table = tokens.name()?;
+    let cond = filter(alloc, tokens)?;
+    Ok(Request::Write(Write::Delete { table, cond }))
+}
