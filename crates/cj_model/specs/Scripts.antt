@@ -1,5 +1,5 @@
 -- Scripts: the lines that are moves, and the lines that they give.
-use Rattle.std.specs.Prelude.{◌≡◌, ℕ, ◌<◌, ◌≤◌, ◌^◌, true, not, ◌==◌, List, [], ◌∷◌, ◌++◌, length, codes, is_some, slice_index_or, position}
+use Rattle.std.specs.Prelude.{◌≡◌, ℕ, ◌<◌, ◌≤◌, ◌^◌, true, not, ◌==◌, List, [], ◌∷◌, ◌++◌, length, codes, slice_index_or, position}
 use Rattle.std.specs.declared.option.Option.TheVariants.{Some}
 use Rattle.std.specs.List.{join_with_byte, flat_map, list_all}
 use Rattle.std.specs.Str.{bytes_eq}
@@ -23,7 +23,7 @@ use Rattle.cj_model.specs.declared.moves.Made.{Made}
 use Rattle.cj_model.specs.declared.moves.Made.TheVariants as made
 use Rattle.cj_model.specs.Words.{IsText}
 use Rattle.cj_model.specs.Grammar.{TextReads}
-use Rattle.cj_model.specs.Plain.{is_plain, act_of}
+use Rattle.cj_model.specs.Plain.{is_plain}
 use Rattle.cj_model.specs.Legality.{user_limit}
 use Rattle.cj_model.specs.Runs.{IsLoneWrite}
 use Rattle.cj_model.specs.Literals.{literal}
@@ -60,10 +60,9 @@ pub record IsPlainSql (text : List ℕ) (r : Request) : Type 0 where
   pub reads : TextReads text r
   pub plain : is_plain r ≡ true
 
--- the text reads as such a request that is no query, and can be scheduled so far
+-- the text reads as such a request that can be scheduled so far
 pub record IsWrite (text : List ℕ) (r : Request) : Type 0 where
   pub sql : IsPlainSql text r
-  pub act : is_some (act_of r) ≡ true
   pub lone : IsLoneWrite r
 
 -- the line "VERB B"

@@ -18,13 +18,13 @@ use Rattle.cj_model.specs.declared.answer.Outcome.{Outcome}
 use Rattle.cj_model.specs.declared.answer.Outcome.TheVariants as outcome
 use Rattle.cj_model.specs.declared.answer.Asked.{Asked}
 use Rattle.cj_model.specs.declared.answer.Asked.TheVariants as asked
-use Rattle.cj_model.specs.declared.answer.Refusal.{Refusal}
 use Rattle.cj_model.specs.declared.answer.Reply.{Reply}
 use Rattle.cj_model.specs.declared.answer.Reply.TheVariants.{Done, Rows, Stats, Refused}
-use Rattle.cj_model.specs.declared.codes.TheConstants.{NOT_LOGGED_IN, SYNTAX, NO_TABLE, NOT_BUILT}
+use Rattle.cj_model.specs.declared.codes.TheConstants.{NOT_LOGGED_IN, SYNTAX, NOT_BUILT}
 use Rattle.cj_model.specs.Changes.{bare}
 use Rattle.cj_model.specs.Steps.{acted}
 use Rattle.cj_model.specs.Asks.{ask}
+use Rattle.cj_model.specs.Plain.{is_plain, act_of}
 use Rattle.cj_model.specs.Grammar.{TextReads, ReadsNothing}
 use Rattle.cj_model.specs.Replies.{reply_length, reply_bytes}
 use Rattle.cj_model.specs.Frames.{frame_limit, Frames, fault_of}
@@ -47,30 +47,37 @@ refused code = Refused (bare code)
 
 -- ---- one request
 
--- a refusal that isn't built yet is answered as such
-abbrev pub refusal_reply : Refusal → Reply
-refusal_reply r = if r.code == NO_TABLE then Refused r else refused NOT_BUILT
-
 abbrev pub outcome_reply : Outcome → Reply
 outcome_reply (outcome.Done count) = Done count
-outcome_reply (outcome.Refused r) = refusal_reply r
+outcome_reply (outcome.Refused r) = Refused r
 
 abbrev pub asked_reply : Asked → Reply
 asked_reply (asked.Rows a) = Rows a
-asked_reply (asked.Refused r) = refusal_reply r
+asked_reply (asked.Refused r) = Refused r
 
 -- what the act of an entry is answered, outside a transaction
 abbrev pub act_reply : List Slot → Act → Reply
 act_reply db a = outcome_reply (acted db 0 a).outcome
 
+-- what is carried out so far: requests outside transactions that call neither the clock nor random numbers
+abbrev pub is_built : Request → Bool
+is_built (request.Select s) = is_plain (request.Select s)
+is_built (request.Write w) = is_plain (request.Write w)
+is_built (request.Create c) = true
+is_built (request.Drop name) = true
+is_built request.Begin = false
+is_built request.Commit = false
+is_built request.Rollback = false
+
+abbrev pub carried_reply : List Slot → Request → Reply
+carried_reply db (request.Select s) = asked_reply (ask db 0 s)
+carried_reply db (request.Write w) = act_reply db (act.Write w)
+carried_reply db (request.Create c) = act_reply db (act.Create c)
+carried_reply db (request.Drop name) = act_reply db (act.Drop name)
+carried_reply db _ = refused NOT_BUILT
+
 abbrev pub request_reply : List Slot → Request → Reply
-request_reply db (request.Select s) = asked_reply (ask db 0 s)
-request_reply db (request.Write w) = act_reply db (act.Write w)
-request_reply db (request.Create c) = act_reply db (act.Create c)
-request_reply db (request.Drop name) = refused NOT_BUILT
-request_reply db request.Begin = refused NOT_BUILT
-request_reply db request.Commit = refused NOT_BUILT
-request_reply db request.Rollback = refused NOT_BUILT
+request_reply db r = if is_built r then carried_reply db r else refused NOT_BUILT
 
 -- what is sent of a reply: rows whose frame would be too long aren't built yet
 abbrev pub limited : Reply → Reply
@@ -81,13 +88,11 @@ limited (Refused r) = Refused r
 
 -- the database after the request
 abbrev pub request_after : List Slot → Request → List Slot
-request_after db (request.Select s) = db
-request_after db (request.Write w) = (acted db 0 (act.Write w)).db
-request_after db (request.Create c) = (acted db 0 (act.Create c)).db
-request_after db (request.Drop name) = db
-request_after db request.Begin = db
-request_after db request.Commit = db
-request_after db request.Rollback = db
+request_after db r = if is_built r then carried_after db (act_of r) else db
+  where
+    carried_after : List Slot → Option Act → List Slot
+    carried_after db None = db
+    carried_after db (Some a) = (acted db 0 a).db
 
 -- ---- one message
 

@@ -1,15 +1,14 @@
 //! What follows the first word of a line.
 
-ghost use Rattle.std.specs.Prelude.{◌≡◌, ◌≤◌, ◌<◌, ◌↔◌, length, is_none, IfOk, IsTrue};
-ghost use Rattle.cj_model.specs.Plain.{act_of};
+ghost use Rattle.std.specs.Prelude.{◌≡◌, ◌≤◌, ◌<◌, ◌↔◌, length, IfOk, IsTrue, MatchBool};
+ghost use Rattle.cj_model.specs.Runs.{IsLoneWrite};
 ghost use Rattle.cj_model.specs.Scripts.{IsPlainSql, IsUser, IsWrite};
 ghost use Rattle.cj_script.specs.Reading.{Arguments, Closes, Finds, IsQuery, Opens, Queries, Writes};
 
-use crate::plain::is_plain;
 use crate::verb::Verb;
 use crate::words::{MOST_BACKENDS, backend, is_word, named, number, numbered};
 use cj_model::{Move, Names, NoMemory, Request, Select, Text};
-use cj_sql::{SqlError, read};
+use cj_sql::{SqlError, is_plain, read};
 use std::alloc::Global;
 
 /// The most bytes of a user's name.
@@ -61,10 +60,19 @@ fn plain_request(alloc: Global, sql: &[u8]) -> Result<Option<Request>, NoMemory>
     }
 }
 
-fn is_query(request: &Request) -> bool
-    ensures { result ≡ is_none (act_of request.now) }
+/// Whether the request can be scheduled so far: it is no query, and outside transactions.
+fn is_write(request: &Request) -> bool
+    ensures { MatchBool result (IsLoneWrite request.now) (IsLoneWrite request.now → ⊥) }
 {
-    matches!(request, Request::Select(_))
+    match request {
+        Request::Write(_) => true,
+        Request::Create(_) => true,
+        Request::Drop(_) => true,
+        Request::Select(_) => false,
+        Request::Begin => false,
+        Request::Commit => false,
+        Request::Rollback => false,
+    }
 }
 
 fn plain_write(alloc: Global, sql: &[u8]) -> Result<Option<Request>, NoMemory>
@@ -72,10 +80,10 @@ fn plain_write(alloc: Global, sql: &[u8]) -> Result<Option<Request>, NoMemory>
 {
     match plain_request(alloc, sql)? {
         Some(request) => {
-            if is_query(&request) {
-                Ok(None)
-            } else {
+            if is_write(&request) {
                 Ok(Some(request))
+            } else {
+                Ok(None)
             }
         }
         None => Ok(None),

@@ -3,7 +3,6 @@
 
 mod arguments;
 mod parse;
-mod plain;
 mod play;
 mod print;
 mod verb;

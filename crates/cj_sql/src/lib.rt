@@ -7,6 +7,7 @@ mod create;
 mod insert;
 mod laws;
 mod list;
+mod plain;
 mod request;
 mod select;
 mod terms;
@@ -15,7 +16,5 @@ mod update;
 
 pub use cj_lex::SqlError;
 pub use laws::texts_have_one_reading;
+pub use plain::is_plain;
 pub use request::read;
-
-#[cfg(test)]
-mod tests;

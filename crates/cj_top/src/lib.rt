@@ -13,4 +13,6 @@ pub use scripted::play;
 pub use session::Session;
 
 #[cfg(test)]
+mod sql_tests;
+#[cfg(test)]
 mod tests;

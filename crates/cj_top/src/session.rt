@@ -10,11 +10,11 @@ ghost use Rattle.cj_top.specs.Answers.{Answers, IsReadable, LogsIn};
 use crate::send::{bare, send};
 use cj_backend::PlainDatabase;
 use cj_model::{
-    Asked, Message, NO_TABLE, NOT_BUILT, NOT_LOGGED_IN, NoMemory, Outcome, Refusal, Reply, Request,
+    Asked, Message, NOT_BUILT, NOT_LOGGED_IN, NoMemory, Outcome, Reply, Request,
     SYNTAX,
 };
 use cj_outside::{OutError, Sink};
-use cj_sql::{SqlError, read};
+use cj_sql::{SqlError, is_plain, read};
 use std::alloc::Global;
 use std::marker::Model;
 
@@ -39,22 +39,12 @@ fn refused(code: u16) -> Reply
     Reply::Refused(bare(code))
 }
 
-fn refusal_reply(refusal: Refusal) -> Reply
-    ensures { result ≡ session.refusal_reply refusal }
-{
-    if refusal.code == NO_TABLE {
-        Reply::Refused(refusal)
-    } else {
-        refused(NOT_BUILT)
-    }
-}
-
 fn outcome_reply(outcome: Outcome) -> Reply
     ensures { result ≡ session.outcome_reply outcome }
 {
     match outcome {
         Outcome::Done(count) => Reply::Done(count),
-        Outcome::Refused(refusal) => refusal_reply(refusal),
+        Outcome::Refused(refusal) => Reply::Refused(refusal),
     }
 }
 
@@ -63,7 +53,7 @@ fn asked_reply(asked: Asked) -> Reply
 {
     match asked {
         Asked::Rows(answer) => Reply::Rows(answer),
-        Asked::Refused(refusal) => refusal_reply(refusal),
+        Asked::Refused(refusal) => Reply::Refused(refusal),
     }
 }
 
@@ -84,6 +74,21 @@ pub fn quits(messages: &[Message]) -> bool
     ensures { result ≡ list_any session.is_quit messages.now }
 {
     messages.iter().any(|message| is_quit(message))
+}
+
+/// Whether the request is carried out so far: plain, and outside transactions.
+fn is_built(request: &Request) -> bool
+    ensures { result ≡ session.is_built request.now }
+{
+    match request {
+        Request::Select(_) => is_plain(request),
+        Request::Write(_) => is_plain(request),
+        Request::Create(_) => true,
+        Request::Drop(_) => true,
+        Request::Begin => false,
+        Request::Commit => false,
+        Request::Rollback => false,
+    }
 }
 
 impl Session {
@@ -117,13 +122,17 @@ impl Session {
         ensures after { IfOk result (λ _. self.new ≡ record self.old { db = session.request_after self.old.db request.now }) }
         ensures sendable { IfOk result IsSendable }
     {
+        if !is_built(request) {
+            return Ok(refused(NOT_BUILT));
+        }
         match request {
             Request::Select(select) => Ok(asked_reply(self.database.ask(alloc, 0, select)?)),
             Request::Write(write) => Ok(outcome_reply(self.database.write(alloc, 0, write)?)),
             Request::Create(create) => Ok(outcome_reply(self.database.create(alloc, create)?)),
-            Request::Drop(_) | Request::Begin | Request::Commit | Request::Rollback => {
-                Ok(refused(NOT_BUILT))
-            }
+            Request::Drop(table) => Ok(outcome_reply(self.database.drop_table(table))),
+            Request::Begin => unreachable!(),
+            Request::Commit => unreachable!(),
+            Request::Rollback => unreachable!(),
         }
     }
 

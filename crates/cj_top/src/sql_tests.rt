@@ -1,6 +1,6 @@
 //! Texts that read, and texts that don't.
 
-use super::*;
+use cj_sql::{SqlError, read};
 use std::alloc::Global;
 use std::test::Fail;
 
