@@ -17,6 +17,7 @@ pub record Input : Type 0 where
   pub rest : List Token
   pub tests : ℕ
 
+-- these tokens, and so many comparisons
 abbrev pub at : List Token → ℕ → Input
 at rest tests = record { rest = rest; tests = tests }
 
@@ -40,6 +41,7 @@ cmp_of symbol.Gt = Some cmp.Gt
 cmp_of symbol.Ge = Some cmp.Ge
 cmp_of _ = None
 
+-- the comparison, where there is one
 abbrev pub given : Option Cmp → Reader Cmp
 given None ts = refused
 given (Some op) ts = read op ts
