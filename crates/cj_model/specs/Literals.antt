@@ -1,5 +1,5 @@
 -- The literals of values in canonical SQL, and that they read back.
-use Rattle.std.specs.Prelude.{◌≡◌, ◌≤◌, ◌<◌, ◌^◌, ℕ, suc, pos, negsuc, List, [], ◌∷◌, ◌++◌, length}
+use Rattle.std.specs.Prelude.{◌≡◌, ◌≤◌, ◌<◌, ◌^◌, ◌+◌, ℕ, suc, pos, negsuc, List, [], ◌∷◌, ◌++◌, length}
 use Rattle.std.specs.Fmt.{signed_decimal}
 use Rattle.cj_model.specs.declared.value.Value.{Value}
 use Rattle.cj_model.specs.declared.value.Value.TheVariants as value
