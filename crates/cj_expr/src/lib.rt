@@ -1,0 +1,15 @@
+//! Conditions and expressions, bound to the columns of tables, and what they come to in a row.
+#![tactic(auto)]
+
+mod binding;
+mod checks;
+mod formula;
+mod operand;
+mod predicate;
+mod scope;
+
+pub use binding::{BindError, bind, bind_expr, formula_of, predicate_of};
+pub use formula::{Formula, ValueError};
+pub use operand::Operand;
+pub use predicate::Predicate;
+pub use scope::Scope;
