@@ -1,6 +1,6 @@
 -- A walk over a list that looks for the only element that passes.
-use Rattle.std.proofs.Common.{◌≡◌, ℕ, zero, suc, ◌+◌, ◌<◌, ◌≤◌, Bool, true, false, cond, not, eqb, List, [], ◌∷◌, length, take, get_or, refl, ap, sym, ◌∙◌, subst, arith}
-use Rattle.std.specs.Prelude.{◌==◌, nat_lt, count_by, position, is_some, IfSome, if◌then◌else◌}
+use Rattle.std.proofs.Common.{◌≡◌, ℕ, zero, suc, ◌+◌, ◌<◌, Bool, true, false, cond, not, List, [], ◌∷◌, length, take, get_or, ap, sym, ◌∙◌, subst, arith}
+use Rattle.std.specs.Prelude.{nat_lt, count_by, position, is_some, IfSome}
 use Rattle.std.specs.List.{position_or_len}
 use Rattle.std.specs.declared.option.Option.{Option}
 use Rattle.std.specs.declared.option.Option.TheVariants.{None, Some}
@@ -24,8 +24,8 @@ module _ {X : Type 0} (p : X → Bool) where
   first_place (x ∷ xs) (suc i) d lt none t =
       let split : cond (p x) 1 0 + count_by p (take i xs) ≡ 0 = sym (sum_by-cons (λ y. cond (p y) 1 0) x (take i xs)) ∙ none in
       elim (p x) as (λ b. cond b 1 0 + count_by p (take i xs) ≡ 0 → cond (not b) (1 + position_or_len p xs) 0 ≡ suc i) [
-      | true ↦ λ e. absurd (omega (arith, e))
-      | false ↦ λ e. ap (λ n. 1 + n) (first_place xs i d (omega (arith, lt)) (omega (arith, e)) t) ∙ omega arith
+        | true ↦ λ e. absurd (omega (arith, e))
+        | false ↦ λ e. ap (λ n. 1 + n) (first_place xs i d (omega (arith, lt)) (omega (arith, e)) t) ∙ omega arith
       ] split
 
   -- the first that passes

@@ -1,5 +1,5 @@
 -- What binding and evaluating give.
-use Rattle.std.specs.Prelude.{◌≡◌, Bool, true, false, ⊤}
+use Rattle.std.specs.Prelude.{◌≡◌, true, false, ⊤}
 use Rattle.std.specs.declared.result.Result.{Result}
 use Rattle.std.specs.declared.result.Result.TheVariants.{Ok, Err}
 use Rattle.cj_model.specs.declared.value.Value.{Value}

@@ -45,8 +45,10 @@ impl Scope {
     {
         match expr {
             Expr::One(term) => self.term_names_stranger(term),
-            Expr::Plus(left, right) => self.term_names_stranger(left) || self.term_names_stranger(right),
-            Expr::Minus(left, right) => self.term_names_stranger(left) || self.term_names_stranger(right),
+            Expr::Plus(left, right) => self.term_names_stranger(left)
+                || self.term_names_stranger(right),
+            Expr::Minus(left, right) => self.term_names_stranger(left)
+                || self.term_names_stranger(right),
         }
     }
 
@@ -54,10 +56,13 @@ impl Scope {
         ensures { result ≡ scopes.names_stranger self.now (shape node.now) }
     {
         match node {
-            CondNode::Test(_, left, right) => self.term_names_stranger(left) || self.term_names_stranger(right),
+            CondNode::Test(_, left, right) => self.term_names_stranger(left)
+                || self.term_names_stranger(right),
             CondNode::Not(inner) => self.node_names_stranger(inner),
-            CondNode::And(left, right) => self.node_names_stranger(left) || self.node_names_stranger(right),
-            CondNode::Or(left, right) => self.node_names_stranger(left) || self.node_names_stranger(right),
+            CondNode::And(left, right) => self.node_names_stranger(left)
+                || self.node_names_stranger(right),
+            CondNode::Or(left, right) => self.node_names_stranger(left)
+                || self.node_names_stranger(right),
         }
     }
 
@@ -111,10 +116,15 @@ impl Scope {
         ensures { result ≡ scopes.mixes_kinds self.now (shape node.now) }
     {
         match node {
-            CondNode::Test(_, left, right) => !same_kind(self.kind_of_term(left), self.kind_of_term(right)),
+            CondNode::Test(_, left, right) => !same_kind(
+                self.kind_of_term(left),
+                self.kind_of_term(right),
+            ),
             CondNode::Not(inner) => self.node_mixes_kinds(inner),
-            CondNode::And(left, right) => self.node_mixes_kinds(left) || self.node_mixes_kinds(right),
-            CondNode::Or(left, right) => self.node_mixes_kinds(left) || self.node_mixes_kinds(right),
+            CondNode::And(left, right) => self.node_mixes_kinds(left)
+                || self.node_mixes_kinds(right),
+            CondNode::Or(left, right) => self.node_mixes_kinds(left)
+                || self.node_mixes_kinds(right),
         }
     }
 

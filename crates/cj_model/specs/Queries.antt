@@ -97,8 +97,8 @@ values_met n rows = fold (put_by value_cmp) [] (map (λ r. cell r n) rows)
 abbrev pub rows_with : ℕ → List (List Value) → Value → List (List Value)
 rows_with n rows v = filter (λ r. is_eq (value_cmp (cell r n) v)) rows
 
--- The rows from which each row of the answer is made: those with one value in the group's column; without GROUP BY all of them
--- where they are counted or summed, and else each one.
+-- The rows from which each row of the answer is made: with GROUP BY those with one value in the group's column, and without it
+-- all where they are counted or summed, else each by itself.
 abbrev pub gathered : Scope → Items → Option ColRef → List (List Value) → List (List (List Value))
 gathered scope items (Some group) rows = map (rows_with (place scope group) rows) (values_met (place scope group) rows)
 gathered scope items None rows = if aggregates items then rows ∷ [] else map (λ r. r ∷ []) rows
@@ -123,10 +123,15 @@ row_made scope (Listed items) rows = map (item_of scope rows) items
 abbrev pub sort_key_of : Scope → Key → SortKey
 sort_key_of scope k = record { place = place scope k.col; desc = k.desc }
 
--- what was gathered stands in the order of the tables' keys, or of the group's column, and in that order stays what ties by the keys
-abbrev pub rows_answered : Scope → Select → List (List Value) → List (List Value)
-rows_answered scope s rows =
-    map (row_made scope s.items) (cut s.limit (ordered (λ g h. before (map (sort_key_of scope) s.order) (first_of g) (first_of h)) (gathered scope s.items s.group rows)))
+-- what is gathered for each row of the answer: in the order of the keys, in which what ties stays as it is, and cut
+abbrev pub groups_answered : Scope → Select → List (List Value) → List (List (List Value))
+groups_answered scope s rows = cut s.limit (ordered (λ g h. before (map (sort_key_of scope) s.order) (first_of g) (first_of h)) (gathered scope s.items s.group rows))
+
+-- a sum outside 64 bits
+abbrev pub is_sum_outside : Scope → List (List Value) → Item → Bool
+is_sum_outside scope rows (item.Col r) = false
+is_sum_outside scope rows item.Count = false
+is_sum_outside scope rows (item.Sum r) = is_outside (Int (sum_at (place scope r) rows))
 
 -- ---- names of an answer's columns
 
@@ -141,8 +146,11 @@ names_answered scope (Listed items) = map name_of_item items
 
 -- ---- any query
 
-abbrev pub unless_outside : List (List ℕ) → List (List Value) → Result Answer Refusal
-unless_outside names rows = unless (list_any (list_any is_outside) rows) (bare OVERFLOW) (Ok (record { columns = names; rows = rows }))
+-- a row for each that was gathered
+abbrev pub answer_of : Scope → Select → List (List (List Value)) → Result Answer Refusal
+answer_of scope s groups =
+    unless (list_any (λ g. list_any (is_sum_outside scope g) (listed s.items)) groups) (bare OVERFLOW)
+    (Ok (record { columns = names_answered scope s.items; rows = map (row_made scope s.items) groups }))
 
 -- over tables
 abbrev pub answered : List Table → Select → Result Answer Refusal
@@ -152,7 +160,7 @@ answered tables s =
     unless (list_any (is_stranger scope) (columns_named s) || where_names_stranger scope s.cond) (bare NO_COLUMN)
     (unless (has_bad_columns scope s.items s.order s.group) (bare BAD_COLUMNS)
     (unless (where_mixes_kinds scope s.cond || list_any (sums_text scope) (listed s.items)) (bare WRONG_TYPE)
-    (unless_outside (names_answered scope s.items) (rows_answered scope s rows))))
+    (answer_of scope s (groups_answered scope s rows))))
 
 -- the tables of these names, as a transaction sees them
 abbrev pub tables_seen : List Slot → ℕ → List (List ℕ) → List Table
