@@ -18,3 +18,4 @@ pub mod Sessions
 pub mod Soundness
 pub mod TableLaws
 pub mod TurnCases
+pub mod UpdateLaws
