@@ -1,15 +1,20 @@
 -- Conditions and expressions that stand in memory, as the definitions speak of them.
-use Rattle.std.specs.Prelude.{unwrap_or, pos}
+use Rattle.std.specs.Prelude.{unwrap_or, pos, map}
 use Rattle.std.specs.declared.option.Option.{Option}
 use Rattle.cj_model.specs.declared.value.Value.{Value}
 use Rattle.cj_model.specs.declared.value.Value.TheVariants.{Int}
 use Rattle.cj_model.specs.Predicates as by_place
+use Rattle.cj_model.specs.Order as order
+use Rattle.cj_model.specs.Updates as updates
 use Rattle.cj_expr.specs.declared.operand.Operand.{Operand}
 use Rattle.cj_expr.specs.declared.operand.Operand.TheVariants.{Constant, Cell}
 use Rattle.cj_expr.specs.declared.formula.Formula.{Formula}
 use Rattle.cj_expr.specs.declared.formula.Formula.TheVariants.{Just, Sum, Difference}
 use Rattle.cj_expr.specs.declared.predicate.PredicateNode.{PredicateNode}
 use Rattle.cj_expr.specs.declared.predicate.PredicateNode.TheVariants as node
+use Rattle.cj_expr.specs.declared.sorting.SortKey.{SortKey}
+use Rattle.cj_expr.specs.declared.update.Assignment.{Assignment}
+use Rattle.cj_expr.specs.declared.update.BoundUpdate.{BoundUpdate}
 
 abbrev pub operand : Operand → by_place.Operand
 operand (Constant v) = by_place.Constant v
@@ -29,3 +34,12 @@ shape (node.Compare cmp l r) = by_place.Compare cmp (operand l) (operand r)
 shape (node.Not' p inner) = by_place.Not (shape inner)
 shape (node.And' p left q right) = by_place.And (shape left) (shape right)
 shape (node.Or' p left q right) = by_place.Or (shape left) (shape right)
+
+abbrev pub assignment : Assignment → updates.Assignment
+assignment a = record { place = a.place; value = formula a.value }
+
+abbrev pub update_of : BoundUpdate → updates.BoundUpdate
+update_of u = record { assignments = map assignment u.assignments; condition = u.condition }
+
+abbrev pub sort_key : SortKey → order.SortKey
+sort_key k = record { place = k.place; desc = k.desc }

@@ -7,9 +7,13 @@ mod formula;
 mod operand;
 mod predicate;
 mod scope;
+mod sorting;
+mod update;
 
-pub use binding::{BindError, bind, bind_expr, formula_of, predicate_of};
+pub use binding::{BindError, bind, bind_expr, formula_of, predicate_of, where_of};
 pub use formula::{Formula, ValueError};
 pub use operand::Operand;
-pub use predicate::Predicate;
+pub use predicate::{Predicate, meets};
 pub use scope::Scope;
+pub use sorting::{SortKey, SortKeys, compare, sort_key_of};
+pub use update::{Assignment, Assignments, BoundUpdate, assigned, bind_delete, bind_update};

@@ -31,9 +31,12 @@ column_set s = record { table = None; column = s.column }
 abbrev pub set_names_stranger : Scope → Set → Bool
 set_names_stranger scope s = is_stranger scope (column_set s) || expr_names_stranger scope s.value
 
+abbrev pub name_set : Set → List ℕ
+name_set s = s.column
+
 -- a column is set twice
 abbrev pub sets_twice : List Set → Bool
-sets_twice sets = not (is_distinct (map (λ (s : Set). s.column) sets))
+sets_twice sets = not (is_distinct (map name_set sets))
 
 -- the column at the key's place is set
 abbrev pub sets_key : Scope → ℕ → Set → Bool
