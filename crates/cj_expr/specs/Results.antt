@@ -11,14 +11,16 @@ use Rattle.cj_model.specs.Predicates as by_place
 use Rattle.cj_model.specs.Changes.{bare, unless}
 use Rattle.cj_model.specs.Scopes.{Scope, names_stranger, expr_names_stranger, mixes_kinds, adds_text, predicate_of, formula_of}
 use Rattle.cj_model.specs.Evaluation.{is_outside}
+use Rattle.cj_model.specs.Queries as queries
 use Rattle.cj_model.specs.Updates as updates
 use Rattle.cj_expr.specs.declared.binding.BindError.{BindError}
 use Rattle.cj_expr.specs.declared.binding.BindError.TheVariants as bind_error
 use Rattle.cj_expr.specs.declared.formula.Formula.{Formula}
 use Rattle.cj_expr.specs.declared.formula.ValueError.{ValueError}
 use Rattle.cj_expr.specs.declared.formula.ValueError.TheVariants as value_error
+use Rattle.cj_expr.specs.declared.select.BoundSelect.{BoundSelect}
 use Rattle.cj_expr.specs.declared.update.BoundUpdate.{BoundUpdate}
-use Rattle.cj_expr.specs.Shapes.{formula, update_of}
+use Rattle.cj_expr.specs.Shapes.{formula, select_of, update_of}
 
 -- the condition by places, or the first refusal
 abbrev pub bound : Scope → Condition → Result by_place.Predicate Refusal
@@ -48,6 +50,9 @@ GivesFormula = GivesBy formula
 
 abbrev pub GivesUpdate : Result updates.BoundUpdate Refusal → Result BoundUpdate BindError → Type 0
 GivesUpdate = GivesBy update_of
+
+abbrev pub GivesSelect : Result queries.BoundSelect Refusal → Result BoundSelect BindError → Type 0
+GivesSelect = GivesBy select_of
 
 -- the value, where it lies within 64 bits; there may be no memory for it
 abbrev pub IsValueOf : Value → Result Value ValueError → Type 0

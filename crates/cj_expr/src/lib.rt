@@ -7,6 +7,7 @@ mod formula;
 mod operand;
 mod predicate;
 mod scope;
+mod select;
 mod sorting;
 mod update;
 
@@ -15,5 +16,6 @@ pub use formula::{Formula, ValueError};
 pub use operand::Operand;
 pub use predicate::{Predicate, meets};
 pub use scope::Scope;
+pub use select::{BoundItem, BoundItems, BoundSelect, bind_select};
 pub use sorting::{SortKey, SortKeys, compare, sort_key_of};
 pub use update::{Assignment, Assignments, BoundUpdate, assigned, bind_delete, bind_update};

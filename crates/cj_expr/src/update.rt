@@ -50,34 +50,22 @@ impl Scope {
         self.is_stranger(&column_set(set)) || self.expr_names_stranger(&set.value)
     }
 
-    #[tactic(auto, using(crate::proofs::WalkLaws::any_here, crate::proofs::WalkLaws::any_next))]
     fn sets_name_stranger(&self, sets: &[Set]) -> bool
         ensures { result ≡ list_any (updates.set_names_stranger self.now) sets.now }
     {
-        for set in sets {
-            if self.set_names_stranger(set) {
-                return true;
-            }
-        }
-        false
+        sets.iter().any(|set| self.set_names_stranger(set))
     }
 
-    fn set_is_of_key(&self, key: usize, set: &Set) -> bool
+    fn sets_key(&self, key: usize, set: &Set) -> bool
         ensures { result ≡ updates.sets_key self.now key set.now }
     {
         self.place(&column_set(set)) == key
     }
 
-    #[tactic(auto, using(crate::proofs::WalkLaws::any_here, crate::proofs::WalkLaws::any_next))]
-    fn sets_key(&self, key: usize, sets: &[Set]) -> bool
+    fn any_sets_key(&self, key: usize, sets: &[Set]) -> bool
         ensures { result ≡ list_any (updates.sets_key self.now key) sets.now }
     {
-        for set in sets {
-            if self.set_is_of_key(key, set) {
-                return true;
-            }
-        }
-        false
+        sets.iter().any(|set| self.sets_key(key, set))
     }
 
     fn set_mixes_kinds(&self, set: &Set) -> bool
@@ -87,16 +75,10 @@ impl Scope {
         self.adds_text(&set.value) || !same_kind(kind, self.kind_of_expr(&set.value))
     }
 
-    #[tactic(auto, using(crate::proofs::WalkLaws::any_here, crate::proofs::WalkLaws::any_next))]
     fn sets_mix_kinds(&self, sets: &[Set]) -> bool
         ensures { result ≡ list_any (updates.set_mixes_kinds self.now) sets.now }
     {
-        for set in sets {
-            if self.set_mixes_kinds(set) {
-                return true;
-            }
-        }
-        false
+        sets.iter().any(|set| self.set_mixes_kinds(set))
     }
 }
 
@@ -157,7 +139,7 @@ pub fn bind_update(
     if scope.sets_name_stranger(sets) || scope.where_names_stranger(condition) {
         return Err(refused(NO_COLUMN));
     }
-    if sets_twice(sets) || scope.sets_key(usize::from(schema.key), sets) {
+    if sets_twice(sets) || scope.any_sets_key(usize::from(schema.key), sets) {
         return Err(refused(BAD_COLUMNS));
     }
     if scope.sets_mix_kinds(sets) || scope.where_mixes_kinds(condition) {

@@ -1,5 +1,5 @@
 -- What any query is answered, or the first refusal.
-use Rattle.std.specs.Prelude.{ℕ, ℤ, pos, ◌+ℤ◌, Bool, true, false, not, ◌&&◌, ◌||◌, ◌==◌, List, [], ◌∷◌, ◌++◌, length, map, filter, filter_map, flat_map, fold, codes, slice_index_or, is_none, option_map, option_to_list, if◌then◌else◌}
+use Rattle.std.specs.Prelude.{ℕ, ℤ, pos, ◌+ℤ◌, Bool, true, false, not, ◌&&◌, ◌||◌, ◌==◌, List, [], ◌∷◌, length, map, filter, filter_map, fold, codes, slice_index_or, is_none, option_map, if◌then◌else◌}
 use Rattle.std.specs.declared.option.Option.{Option}
 use Rattle.std.specs.declared.option.Option.TheVariants.{None, Some}
 use Rattle.std.specs.declared.result.Result.{Result}
@@ -33,20 +33,29 @@ use Rattle.cj_model.specs.Predicates.{Predicate}
 use Rattle.cj_model.specs.Evaluation.{meets, number, is_outside}
 use Rattle.cj_model.specs.Order.{product, SortKey, before, ordered, cut}
 
--- ---- what is named
-
-abbrev pub columns_of_item : Item → List ColRef
-columns_of_item (item.Col r) = r ∷ []
-columns_of_item item.Count = []
-columns_of_item (item.Sum r) = r ∷ []
+-- ---- columns that are not there
 
 abbrev pub listed : Items → List Item
 listed All = []
 listed (Listed items) = items
 
--- the columns that stand outside the condition
-abbrev pub columns_named : Select → List ColRef
-columns_named s = flat_map columns_of_item (listed s.items) ++ option_to_list s.group ++ map (λ (k : Key). k.col) s.order
+abbrev pub item_names_stranger : Scope → Item → Bool
+item_names_stranger scope (item.Col r) = is_stranger scope r
+item_names_stranger scope item.Count = false
+item_names_stranger scope (item.Sum r) = is_stranger scope r
+
+abbrev pub group_names_stranger : Scope → Option ColRef → Bool
+group_names_stranger scope None = false
+group_names_stranger scope (Some r) = is_stranger scope r
+
+abbrev pub key_names_stranger : Scope → Key → Bool
+key_names_stranger scope k = is_stranger scope k.col
+
+-- a column that is named anywhere is not there
+abbrev pub select_names_stranger : Scope → Select → Bool
+select_names_stranger scope s =
+    list_any (item_names_stranger scope) (listed s.items) || group_names_stranger scope s.group
+    || list_any (key_names_stranger scope) s.order || where_names_stranger scope s.cond
 
 -- ---- columns that do not fit each other
 
@@ -55,9 +64,9 @@ is_plain (item.Col r) = true
 is_plain item.Count = false
 is_plain (item.Sum r) = false
 
--- the rows are counted or summed
-abbrev pub aggregates : Items → Bool
-aggregates items = list_any (λ i. not (is_plain i)) (listed items)
+-- COUNT or SUM
+abbrev pub is_aggregate : Item → Bool
+is_aggregate i = not (is_plain i)
 
 -- two references to one column
 abbrev pub is_same_column : Scope → ColRef → ColRef → Bool
@@ -74,11 +83,15 @@ abbrev pub leave_group : Scope → ColRef → Items → Bool
 leave_group scope group All = true
 leave_group scope group (Listed items) = list_any (is_outside_group scope group) items
 
+-- a key other than the group's column
+abbrev pub is_other_key : Scope → ColRef → Key → Bool
+is_other_key scope group k = not (is_same_column scope group k.col)
+
 -- With GROUP BY, a column other than the group's is asked for or ordered by.
 -- Without it, counts or sums stand beside plain columns or are ordered.
 abbrev pub has_bad_columns : Scope → Items → List Key → Option ColRef → Bool
-has_bad_columns scope items keys (Some group) = leave_group scope group items || list_any (λ (k : Key). not (is_same_column scope group k.col)) keys
-has_bad_columns scope items keys None = aggregates items && (list_any is_plain (listed items) || not (length keys == 0))
+has_bad_columns scope items keys (Some group) = leave_group scope group items || list_any (is_other_key scope group) keys
+has_bad_columns scope items keys None = list_any is_aggregate (listed items) && (list_any is_plain (listed items) || not (length keys == 0))
 
 -- ---- kinds
 
@@ -125,8 +138,11 @@ name_of_item (item.Col r) = r.column
 name_of_item item.Count = codes "count"
 name_of_item (item.Sum r) = codes "sum"
 
+abbrev pub name_of_column : List ℕ × Column → List ℕ
+name_of_column c = c.1.name
+
 abbrev pub names_answered : Scope → Items → List (List ℕ)
-names_answered scope All = map (λ (c : List ℕ × Column). c.1.name) scope
+names_answered scope All = map name_of_column scope
 names_answered scope (Listed items) = map name_of_item items
 
 abbrev pub by_places : Scope → Select → BoundSelect
@@ -142,7 +158,7 @@ by_places scope s = record {
 -- the query with its columns by places, or the first refusal that looks at no row
 abbrev pub bound_select : Scope → Select → Result BoundSelect Refusal
 bound_select scope s =
-    unless (list_any (is_stranger scope) (columns_named s) || where_names_stranger scope s.cond) (bare NO_COLUMN)
+    unless (select_names_stranger scope s) (bare NO_COLUMN)
     (unless (has_bad_columns scope s.items s.order s.group) (bare BAD_COLUMNS)
     (unless (where_mixes_kinds scope s.cond || list_any (sums_text scope) (listed s.items)) (bare WRONG_TYPE)
     (Ok (by_places scope s))))
