@@ -12,6 +12,7 @@ pub mod Names
 pub mod Now
 pub mod OneReading
 pub mod Pushed
+pub mod QueryLaws
 pub mod RisingLaws
 pub mod SessionLaws
 pub mod Sessions
