@@ -20,3 +20,4 @@ pub mod Soundness
 pub mod TableLaws
 pub mod TurnCases
 pub mod UpdateLaws
+pub mod Worked
