@@ -1,5 +1,5 @@
 -- Statements worked out: what they come to on a table of three rows.
-use Rattle.std.proofs.Common.{◌≡◌, ℕ, pos, negsuc, true, false, List, [], ◌∷◌, refl}
+use Rattle.std.proofs.Common.{◌≡◌, ℕ, pos, true, List, [], ◌∷◌, refl}
 use Rattle.std.specs.Prelude.{codes}
 use Rattle.std.specs.declared.option.Option.{Option}
 use Rattle.std.specs.declared.option.Option.TheVariants.{None, Some}
@@ -9,19 +9,18 @@ use Rattle.cj_model.specs.declared.value.Value.TheVariants.{Int, Text}
 use Rattle.cj_model.specs.declared.value.Kind.TheVariants as kind
 use Rattle.cj_model.specs.declared.term.Cmp.TheVariants.{Eq, Lt, Ge}
 use Rattle.cj_model.specs.declared.term.ColRef.{ColRef}
-use Rattle.cj_model.specs.declared.term.Term.{Term}
 use Rattle.cj_model.specs.declared.term.Term.TheVariants.{Lit, Col}
 use Rattle.cj_model.specs.declared.term.Expr.TheVariants.{One, Plus}
 use Rattle.cj_model.specs.declared.database.Slot.{Slot}
 use Rattle.cj_model.specs.declared.database.Table.{Table}
 use Rattle.cj_model.specs.declared.select.Item.TheVariants as item
 use Rattle.cj_model.specs.declared.select.Items.{Items}
-use Rattle.cj_model.specs.declared.select.Items.TheVariants.{All, Listed}
+use Rattle.cj_model.specs.declared.select.Items.TheVariants.{Listed}
 use Rattle.cj_model.specs.declared.select.Key.{Key}
 use Rattle.cj_model.specs.declared.select.Select.{Select}
 use Rattle.cj_model.specs.declared.write.Write.TheVariants.{Update, Delete}
 use Rattle.cj_model.specs.declared.answer.Asked.TheVariants.{Rows, Refused}
-use Rattle.cj_model.specs.declared.codes.TheConstants.{NO_TABLE, NO_COLUMN, BAD_COLUMNS, OVERFLOW, WRONG_TYPE}
+use Rattle.cj_model.specs.declared.codes.TheConstants.{NO_COLUMN, BAD_COLUMNS, OVERFLOW, WRONG_TYPE}
 use Rattle.cj_model.specs.Conditions.{Condition, Test}
 use Rattle.cj_model.specs.Changes.{bare}
 use Rattle.cj_model.specs.Updates.{change_in_full}
