@@ -1,0 +1,4 @@
+mod AssignmentLaws
+mod PinLaws
+mod PlaceLaws
+mod WalkLaws
