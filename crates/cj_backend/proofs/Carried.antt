@@ -12,7 +12,7 @@ use Rattle.cj_model.specs.declared.answer.Answer.{Answer}
 use Rattle.cj_model.specs.declared.answer.Outcome.{Outcome}
 use Rattle.cj_model.specs.Tables.{IsDatabase}
 use Rattle.cj_model.specs.Steps.{Stepped}
-use Rattle.cj_model.specs.Asks.{ask}
+use Rattle.cj_model.specs.Queries.{ask}
 use Rattle.cj_model.specs.Replies.{IsEven}
 use Rattle.cj_model.proofs.DatabaseLaws.{ask_is_even}
 use Rattle.cj_backend.specs.Plain.{Carries, IsEvenAsked}

@@ -20,7 +20,7 @@ use Rattle.cj_model.specs.declared.codes.TheConstants.{NO_TABLE, NO_COLUMN, BAD_
 use Rattle.cj_model.specs.Tables.{IsSlot, IsTable, IsDatabase, slot_of, column_names, fits_columns, put_by, by_key, row_limit}
 use Rattle.cj_model.specs.Changes.{Changed, bare, unless, row_of, lists_stranger, lists_unevenly, has_key, has_key_twice, too_many_rows, with_rows, inserted, change}
 use Rattle.cj_model.specs.Steps.{seen, other_writer, table_written, write_done, write_unless_locked, write_in, written}
-use Rattle.cj_model.specs.Asks.{asks_all, all_in, ask_over, ask}
+use Rattle.cj_model.specs.Queries.{asks_all, all_in, ask_over, ask}
 use Rattle.cj_model.proofs.DatabaseLaws.{found_is_slot, seen_is_table}
 use Rattle.cj_model.proofs.TableLaws.{table_is_even}
 use Rattle.cj_backend.specs.Backends.{IsChangeCode, IsOutcome, IsAnswer, IsAsked, IsQueryCode}

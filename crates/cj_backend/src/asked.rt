@@ -1,7 +1,7 @@
 //! Answers to queries.
 
 ghost use Rattle.std.specs.Prelude.{◌≡◌, IfOk};
-ghost use Rattle.cj_model.specs.Asks as asks;
+ghost use Rattle.cj_model.specs.Queries as asks;
 ghost use Rattle.cj_model.specs.Tables.{column_names, slot_of};
 
 use crate::rows::bare;

@@ -2,7 +2,7 @@
 
 ghost use Rattle.std.specs.Prelude.{◌≡◌, ◌≤◌, [], length, map, IfOk};
 ghost use Rattle.cj_backend.specs.Plain.{Carries, IsEvenAsked};
-ghost use Rattle.cj_model.specs.Asks as asks;
+ghost use Rattle.cj_model.specs.Queries as asks;
 ghost use Rattle.cj_model.specs.Steps.{aborted, committed, created, dropped, written};
 ghost use Rattle.cj_model.specs.Tables.{column_limit, IsDatabase};
 

@@ -30,7 +30,7 @@ use Rattle.cj_model.specs.Steps.{seen}
 use Rattle.cj_model.specs.Scopes.{Scope, scope_of, where_mixes_kinds}
 use Rattle.cj_model.specs.Evaluation.{meets}
 use Rattle.cj_model.specs.Order.{product, put_before, ordered, cut, before}
-use Rattle.cj_model.specs.Queries.{BoundItem, BoundSelect, listed, select_names_stranger, has_bad_columns, sums_text, bound_item, bound_items, by_places, names_answered, name_of_item, name_of_column, item_of, gathered, first_of, groups_answered, row_made, has_sum_outside, answer_of, answer_from, answered, tables_seen, asked_by, ask_in_full}
+use Rattle.cj_model.specs.Queries.{BoundItem, BoundSelect, listed, select_names_stranger, has_bad_columns, sums_text, bound_item, bound_items, by_places, names_answered, name_of_item, name_of_column, item_of, gathered, first_of, groups_answered, row_made, has_sum_outside, answer_of, answer_from, answered, tables_seen, asked_by, ask}
 use Rattle.cj_model.proofs.DatabaseLaws.{found_is_slot, seen_is_table}
 use Rattle.cj_model.proofs.TableLaws.{unless_IfOk}
 use Rattle.cj_model.proofs.UpdateLaws.{then_unless}
@@ -206,8 +206,8 @@ module _ (db : List Slot) (tx : ℕ) (is : IsDatabase db) where
   asked_holds (Err r) a h e = cc e
 
   -- any answer
-  pub ask_in_full_holds : (s : Select) (a : Answer) → IsAskable s → ask_in_full db tx s ≡ Rows a → HasColumns a
-  ask_in_full_holds s a may e =
+  pub ask_has_columns : (s : Select) (a : Answer) → IsAskable s → ask db tx s ≡ Rows a → HasColumns a
+  ask_has_columns s a may e =
       let missing : Bool = list_any (λ n. is_none (slot_of db n)) s.tables in
       let ts : List Table = tables_seen db tx s.tables in
       asked_holds (unless missing (bare NO_TABLE) (answered ts s)) a

@@ -22,8 +22,8 @@ use Rattle.cj_model.specs.Conditions.{Condition}
 use Rattle.cj_model.specs.Changes.{bare, unless, too_many_rows, with_rows, inserted}
 use Rattle.cj_model.specs.Scopes.{Scope, and_then, scope_of}
 use Rattle.cj_model.specs.Order.{product}
-use Rattle.cj_model.specs.Updates.{bound_update, with_new_values, bound_delete, without_rows, change_in_full}
-use Rattle.cj_model.specs.Queries.{bound_select, answer_from, answered, tables_seen, asked_by, ask_in_full}
+use Rattle.cj_model.specs.Updates.{bound_update, with_new_values, bound_delete, without_rows, change}
+use Rattle.cj_model.specs.Queries.{bound_select, answer_from, answered, tables_seen, asked_by, ask}
 
 -- where there is a refusal, P holds of it
 record Refuses {A : Type 0} (P : Refusal → Type 0) (r : Result A Refusal) : Type 0 where
@@ -71,7 +71,7 @@ bound_delete_coded schema condition =
     coded IsChangeRefusal _ (bare NO_COLUMN) _ (among NO_COLUMN (omega arith) (omega arith))
     (coded IsChangeRefusal _ (bare WRONG_TYPE) _ (among WRONG_TYPE (omega arith) (omega arith)) (accepts IsChangeRefusal _))
 
-change_coded : (t : Table) (w : Write) → Refuses IsChangeRefusal (change_in_full t w)
+change_coded : (t : Table) (w : Write) → Refuses IsChangeRefusal (change t w)
 change_coded t (Insert name names tuples) = inserted_coded t names tuples
 change_coded t (Update name sets condition) =
     coded_then IsChangeRefusal (bound_update t.schema sets condition) (with_new_values t.rows) (bound_update_coded t.schema sets condition)
@@ -79,8 +79,8 @@ change_coded t (Update name sets condition) =
 change_coded t (Delete name condition) =
     coded_then IsChangeRefusal (bound_delete t.schema condition) (without_rows t.rows) (bound_delete_coded t.schema condition) (λ c. accepts IsChangeRefusal _)
 
-pub change_in_full_coded : (t : Table) (w : Write) → IfErr (change_in_full t w) IsChangeRefusal
-change_in_full_coded t w = (change_coded t w).holds
+pub write_coded : (t : Table) (w : Write) → IfErr (change t w) IsChangeRefusal
+write_coded t w = (change_coded t w).holds
 
 -- ---- queries
 
@@ -108,5 +108,5 @@ refused_by : (r : Result Answer Refusal) → Refuses IsQueryRefusal r → IfRefu
 refused_by (Ok answer) h = tt
 refused_by (Err refusal) h = h.holds
 
-pub ask_in_full_coded : (db : List Slot) (tx : ℕ) (s : Select) → IfRefused (ask_in_full db tx s) IsQueryRefusal
-ask_in_full_coded db tx s = refused_by _ (coded IsQueryRefusal _ (bare NO_TABLE) _ (inl refl) (answered_coded (tables_seen db tx s.tables) s))
+pub ask_coded : (db : List Slot) (tx : ℕ) (s : Select) → IfRefused (ask db tx s) IsQueryRefusal
+ask_coded db tx s = refused_by _ (coded IsQueryRefusal _ (bare NO_TABLE) _ (inl refl) (answered_coded (tables_seen db tx s.tables) s))

@@ -31,7 +31,7 @@ use Rattle.cj_model.specs.Tables.{IsTable, cell, by_key, fits_columns, same_kind
 use Rattle.cj_model.specs.Changes.{Changed, bare, unless}
 use Rattle.cj_model.specs.Scopes.{Scope, scope_of, and_then, place, kind_at, where_names_stranger, kind_of_term, kind_of_expr, adds_text, where_mixes_kinds, operand_of, formula_of, predicate_of}
 use Rattle.cj_model.specs.Evaluation.{meets, value_in, worth}
-use Rattle.cj_model.specs.Updates.{column_set, set_names_stranger, sets_twice, sets_key, set_mixes_kinds, Assignment, assignment_of, assigned, overflows, BoundUpdate, with_new_values, updated, bound_delete, without_rows, deleted, change_in_full}
+use Rattle.cj_model.specs.Updates.{column_set, set_names_stranger, sets_twice, sets_key, set_mixes_kinds, Assignment, assignment_of, assigned, overflows, BoundUpdate, with_new_values, updated, bound_delete, without_rows, deleted, change}
 use Rattle.cj_model.proofs.RisingLaws.{rises_filter, rises_map}
 use Rattle.cj_model.proofs.TableLaws.{unless_IfOk, IsTableWith, inserted_keeps}
 
@@ -167,7 +167,7 @@ updated_keeps t sets condition is =
     with_new_values_keeps t sets (option_map (predicate_of scope) condition) is (or_parts (sets_twice sets) _ good).1 (or_parts (list_any (set_mixes_kinds scope) sets) _ even).0)))
 
 -- any write
-pub change_in_full_keeps : (t : Table) (w : Write) → IsTable t → IfOk (change_in_full t w) (IsTableWith t.schema)
-change_in_full_keeps t (Insert name names tuples) is = inserted_keeps t names tuples is
-change_in_full_keeps t (Update name sets condition) is = updated_keeps t sets condition is
-change_in_full_keeps t (Delete name condition) is = deleted_keeps t condition is
+pub change_keeps : (t : Table) (w : Write) → IsTable t → IfOk (change t w) (IsTableWith t.schema)
+change_keeps t (Insert name names tuples) is = inserted_keeps t names tuples is
+change_keeps t (Update name sets condition) is = updated_keeps t sets condition is
+change_keeps t (Delete name condition) is = deleted_keeps t condition is

@@ -23,8 +23,8 @@ use Rattle.cj_model.specs.declared.answer.Asked.TheVariants.{Rows, Refused}
 use Rattle.cj_model.specs.declared.codes.TheConstants.{NO_COLUMN, BAD_COLUMNS, OVERFLOW, WRONG_TYPE}
 use Rattle.cj_model.specs.Conditions.{Condition, Test}
 use Rattle.cj_model.specs.Changes.{bare}
-use Rattle.cj_model.specs.Updates.{change_in_full}
-use Rattle.cj_model.specs.Queries.{ask_in_full}
+use Rattle.cj_model.specs.Updates.{change}
+use Rattle.cj_model.specs.Queries.{ask}
 
 abbrev int : ℕ → Value
 int n = Int (pos n)
@@ -58,61 +58,61 @@ abbrev from_both : Items → Option Condition → Select
 from_both items condition = record { items = items; tables = codes "a" ∷ codes "b" ∷ []; cond = condition; group = None; order = []; limit = None }
 
 -- SELECT k FROM a ORDER BY v DESC LIMIT 2: rows that tie stand by the key
-falling : ask_in_full db 0 (from_a (Listed (item.Col (col (codes "k")) ∷ [])) None None (record { col = col (codes "v"); desc = true } ∷ []) (Some 2))
+falling : ask db 0 (from_a (Listed (item.Col (col (codes "k")) ∷ [])) None None (record { col = col (codes "v"); desc = true } ∷ []) (Some 2))
     ≡ Rows (record { columns = codes "k" ∷ []; rows = (int 1 ∷ []) ∷ (int 3 ∷ []) ∷ [] })
 falling = refl
 
 -- SELECT v, COUNT(*), SUM(k) FROM a GROUP BY v
-grouped : ask_in_full db 0 (from_a (Listed (item.Col (col (codes "v")) ∷ item.Count ∷ item.Sum (col (codes "k")) ∷ [])) None (Some (col (codes "v"))) [] None)
+grouped : ask db 0 (from_a (Listed (item.Col (col (codes "v")) ∷ item.Count ∷ item.Sum (col (codes "k")) ∷ [])) None (Some (col (codes "v"))) [] None)
     ≡ Rows (record { columns = codes "v" ∷ codes "count" ∷ codes "sum" ∷ []; rows = (int 5 ∷ int 1 ∷ int 2 ∷ []) ∷ (int 7 ∷ int 2 ∷ int 4 ∷ []) ∷ [] })
 grouped = refl
 
 -- SELECT SUM(k) FROM a WHERE k < 1: no rows
-summed : ask_in_full db 0 (from_a (Listed (item.Sum (col (codes "k")) ∷ [])) (Some (Test Lt (Col (col (codes "k"))) (Lit (int 1)))) None [] None)
+summed : ask db 0 (from_a (Listed (item.Sum (col (codes "k")) ∷ [])) (Some (Test Lt (Col (col (codes "k"))) (Lit (int 1)))) None [] None)
     ≡ Rows (record { columns = codes "sum" ∷ []; rows = (int 0 ∷ []) ∷ [] })
 summed = refl
 
 -- SELECT a.w, x FROM a, b WHERE a.k = b.k
-joined : ask_in_full db 0 (from_both (Listed (item.Col (of (codes "a") (codes "w")) ∷ item.Col (col (codes "x")) ∷ [])) (Some (Test Eq (Col (of (codes "a") (codes "k"))) (Col (of (codes "b") (codes "k"))))))
+joined : ask db 0 (from_both (Listed (item.Col (of (codes "a") (codes "w")) ∷ item.Col (col (codes "x")) ∷ [])) (Some (Test Eq (Col (of (codes "a") (codes "k"))) (Col (of (codes "b") (codes "k"))))))
     ≡ Rows (record { columns = codes "w" ∷ codes "x" ∷ []; rows = (Text (codes "y") ∷ int 9223372036854775807 ∷ []) ∷ (Text (codes "xy") ∷ int 1 ∷ []) ∷ [] })
 joined = refl
 
 -- SELECT k FROM a, b: two tables have k
-ambiguous : ask_in_full db 0 (from_both (Listed (item.Col (col (codes "k")) ∷ [])) None) ≡ Refused (bare NO_COLUMN)
+ambiguous : ask db 0 (from_both (Listed (item.Col (col (codes "k")) ∷ [])) None) ≡ Refused (bare NO_COLUMN)
 ambiguous = refl
 
 -- SELECT SUM(x) FROM b: outside 64 bits, but not with LIMIT 0
-overflown : ask_in_full db 0 (record { items = Listed (item.Sum (col (codes "x")) ∷ []); tables = codes "b" ∷ []; cond = None; group = None; order = []; limit = None }) ≡ Refused (bare OVERFLOW)
+overflown : ask db 0 (record { items = Listed (item.Sum (col (codes "x")) ∷ []); tables = codes "b" ∷ []; cond = None; group = None; order = []; limit = None }) ≡ Refused (bare OVERFLOW)
 overflown = refl
 
-cut_off : ask_in_full db 0 (record { items = Listed (item.Sum (col (codes "x")) ∷ []); tables = codes "b" ∷ []; cond = None; group = None; order = []; limit = Some 0 }) ≡ Rows (record { columns = codes "sum" ∷ []; rows = [] })
+cut_off : ask db 0 (record { items = Listed (item.Sum (col (codes "x")) ∷ []); tables = codes "b" ∷ []; cond = None; group = None; order = []; limit = Some 0 }) ≡ Rows (record { columns = codes "sum" ∷ []; rows = [] })
 cut_off = refl
 
 -- SELECT k, COUNT(*) FROM a WHERE w = 1: plain columns beside a count come before kinds
-mixed : ask_in_full db 0 (from_a (Listed (item.Col (col (codes "k")) ∷ item.Count ∷ [])) (Some (Test Eq (Col (col (codes "w"))) (Lit (int 1)))) None [] None) ≡ Refused (bare BAD_COLUMNS)
+mixed : ask db 0 (from_a (Listed (item.Col (col (codes "k")) ∷ item.Count ∷ [])) (Some (Test Eq (Col (col (codes "w"))) (Lit (int 1)))) None [] None) ≡ Refused (bare BAD_COLUMNS)
 mixed = refl
 
 -- UPDATE a SET v = v + k WHERE w >= 'xy': TEXT by bytes
-raised : change_in_full a (Update (codes "a") (record { column = codes "v"; value = Plus (Col (col (codes "v"))) (Col (col (codes "k"))) } ∷ []) (Some (Test Ge (Col (col (codes "w"))) (Lit (Text (codes "xy"))))))
+raised : change a (Update (codes "a") (record { column = codes "v"; value = Plus (Col (col (codes "v"))) (Col (col (codes "k"))) } ∷ []) (Some (Test Ge (Col (col (codes "w"))) (Lit (Text (codes "xy"))))))
     ≡ Ok ((int 1 ∷ int 7 ∷ Text (codes "x") ∷ []) ∷ (int 2 ∷ int 7 ∷ Text (codes "y") ∷ []) ∷ (int 3 ∷ int 10 ∷ Text (codes "xy") ∷ []) ∷ [], 2)
 raised = refl
 
 -- UPDATE b SET x = x + 1 WHERE k < 3 lies outside 64 bits, and WHERE k >= 3 does not
-too_far : change_in_full b (Update (codes "b") (record { column = codes "x"; value = Plus (Col (col (codes "x"))) (Lit (int 1)) } ∷ []) (Some (Test Lt (Col (col (codes "k"))) (Lit (int 3))))) ≡ Err (bare OVERFLOW)
+too_far : change b (Update (codes "b") (record { column = codes "x"; value = Plus (Col (col (codes "x"))) (Lit (int 1)) } ∷ []) (Some (Test Lt (Col (col (codes "k"))) (Lit (int 3))))) ≡ Err (bare OVERFLOW)
 too_far = refl
 
-near : change_in_full b (Update (codes "b") (record { column = codes "x"; value = Plus (Col (col (codes "x"))) (Lit (int 1)) } ∷ []) (Some (Test Ge (Col (col (codes "k"))) (Lit (int 3)))))
+near : change b (Update (codes "b") (record { column = codes "x"; value = Plus (Col (col (codes "x"))) (Lit (int 1)) } ∷ []) (Some (Test Ge (Col (col (codes "k"))) (Lit (int 3)))))
     ≡ Ok ((int 2 ∷ int 9223372036854775807 ∷ []) ∷ (int 3 ∷ int 2 ∷ []) ∷ [], 1)
 near = refl
 
 -- UPDATE b SET k = 'x': the key comes before the kind
-keyed : change_in_full b (Update (codes "b") (record { column = codes "k"; value = One (Lit (Text (codes "x"))) } ∷ []) None) ≡ Err (bare BAD_COLUMNS)
+keyed : change b (Update (codes "b") (record { column = codes "k"; value = One (Lit (Text (codes "x"))) } ∷ []) None) ≡ Err (bare BAD_COLUMNS)
 keyed = refl
 
 -- DELETE FROM a WHERE v = 7
-less : change_in_full a (Delete (codes "a") (Some (Test Eq (Col (col (codes "v"))) (Lit (int 7))))) ≡ Ok ((int 2 ∷ int 5 ∷ Text (codes "y") ∷ []) ∷ [], 2)
+less : change a (Delete (codes "a") (Some (Test Eq (Col (col (codes "v"))) (Lit (int 7))))) ≡ Ok ((int 2 ∷ int 5 ∷ Text (codes "y") ∷ []) ∷ [], 2)
 less = refl
 
 -- DELETE FROM a WHERE w = 7
-unlike : change_in_full a (Delete (codes "a") (Some (Test Eq (Col (col (codes "w"))) (Lit (int 7))))) ≡ Err (bare WRONG_TYPE)
+unlike : change a (Delete (codes "a") (Some (Test Eq (Col (col (codes "w"))) (Lit (int 7))))) ≡ Err (bare WRONG_TYPE)
 unlike = refl

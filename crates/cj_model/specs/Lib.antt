@@ -1,5 +1,4 @@
 pub mod Answering
-pub mod Asks
 pub mod Changes
 pub mod ConditionCode
 pub mod ConditionForms

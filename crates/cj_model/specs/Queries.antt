@@ -244,7 +244,7 @@ abbrev pub asked_by : Result Answer Refusal → Asked
 asked_by (Ok answer) = Rows answer
 asked_by (Err refusal) = Refused refusal
 
-abbrev pub ask_in_full : List Slot → ℕ → Select → Asked
-ask_in_full db tx s =
+abbrev pub ask : List Slot → ℕ → Select → Asked
+ask db tx s =
     asked_by (unless (list_any (λ n. is_none (slot_of db n)) s.tables) (bare NO_TABLE)
     (answered (tables_seen db tx s.tables) s))

@@ -106,7 +106,7 @@ deleted t condition = and_then (bound_delete t.schema condition) (without_rows t
 
 -- ---- any write
 
-abbrev pub change_in_full : Table → Write → Changed
-change_in_full t (Insert name names tuples) = inserted t names tuples
-change_in_full t (Update name sets condition) = updated t sets condition
-change_in_full t (Delete name condition) = deleted t condition
+abbrev pub change : Table → Write → Changed
+change t (Insert name names tuples) = inserted t names tuples
+change t (Update name sets condition) = updated t sets condition
+change t (Delete name condition) = deleted t condition

@@ -1,6 +1,6 @@
 use Rattle.std.proofs.Common.{◌≡◌, IfOk, List, subst}
 use Rattle.cj_model.specs.declared.database.Slot.{Slot}
-use Rattle.cj_model.specs.Asks.{ask}
+use Rattle.cj_model.specs.Queries.{ask}
 use Rattle.cj_backend.proofs.Carried.{asked_is_even}
 use Rattle.cj_backend.proofs.plain.PlainDatabase.ask.Goals as goal
 
