@@ -1,4 +1,5 @@
 pub mod Answered
+pub mod Askable
 pub mod Between
 pub mod Chains
 pub mod Columns
