@@ -1,4 +1,4 @@
 mod AssignmentLaws
-mod PinLaws
+pub mod PinLaws
 mod PlaceLaws
 mod WalkLaws
