@@ -40,7 +40,7 @@ impl<B: Backend> World<B> {
 
     /// Makes the moves in order, and answers what each came to; one that can't be made now changes nothing. After want
     /// of memory the first of them were made, and no more.
-    pub fn run(&mut self, alloc: Global, moves: &Moves) -> Result<MovedList, NoMemory>
+    pub fn run(&mut self, moves: &Moves) -> Result<MovedList, NoMemory>
         requires are { All (IsMove self.old.core.placement.backends) moves.now }
         requires count { CanCount self.old.core (length moves.now) }
         ensures runs { MatchResult result (λ made. HasRun B.TELLS self.old moves.now (map given_of made) self.new) (λ _. HasRunInPart B.TELLS self.old moves.now self.new) }
@@ -49,6 +49,7 @@ impl<B: Backend> World<B> {
         ensures later { (b : ℕ) → faults_at self.old b ≤ faults_at self.new b }
     {
         self.legal();
+        let alloc = self.allocator();
         let Ok(mut made) = Vec::with_capacity(alloc, moves.len()) else {
             return Err(NoMemory);
         };

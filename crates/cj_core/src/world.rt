@@ -214,6 +214,11 @@ impl<B: Backend> World<B> {
         }
     }
 
+    /// Where it takes its memory from.
+    pub(crate) fn allocator(&self) -> Global {
+        self.alloc
+    }
+
     pub(crate) fn is_free(&self) -> bool
         ensures { result ≡ free self.now.core.history }
     {
