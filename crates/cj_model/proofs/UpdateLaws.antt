@@ -136,9 +136,9 @@ with_new_values_keeps t sets condition is unkeyed even =
     let assignments : List Assignment = map (assignment_of scope) sets in
     let new : List Value → List Value = λ r. cond (meets condition r) (assigned assignments r) r in
     let fits : (r : List Value) → Fits columns r → Fits columns (new r) =
-      λ r h. cond_both (meets condition r) (assigned assignments r) r (Fits columns) (λ _. fits_assigned t.schema.table columns key sets r r even h h) (λ _. h) in
+    λ r h. cond_both (meets condition r) (assigned assignments r) r (Fits columns) (λ _. fits_assigned t.schema.table columns key sets r r even h h) (λ _. h) in
     let kept : (r : List Value) → cell (new r) key ≡ cell r key =
-      λ r. cond_both (meets condition r) (assigned assignments r) r (λ (s : List Value). cell s key ≡ cell r key) (λ _. key_assigned t.schema.table columns key scope sets r r unkeyed) (λ _. refl) in
+    λ r. cond_both (meets condition r) (assigned assignments r) r (λ (s : List Value). cell s key ≡ cell r key) (λ _. key_assigned t.schema.table columns key scope sets r r unkeyed) (λ _. refl) in
     unless_IfOk (IsTableWith t.schema) (list_any (λ r. meets condition r && overflows assignments r) t.rows) (bare OVERFLOW) (Ok (map new t.rows, count_by (meets condition) t.rows)) (λ within. record {
       few = is.few;
       distinct = is.distinct;
