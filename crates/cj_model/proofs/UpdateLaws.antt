@@ -1,13 +1,13 @@
 -- UPDATE and DELETE leave a table a table.
-use Rattle.std.proofs.Common.{◌≡◌, ◌≢◌, ℕ, zero, suc, ◌+◌, ◌≤◌, Bool, true, false, not, ◌&&◌, ◌||◌, eqb, cond, List, [], ◌∷◌, ◌++◌, length, map, set, get_or, pos, refl, ap, sym, ◌∙◌, subst, arith, fold}
-use Rattle.std.specs.Prelude.{All, IfOk, filter, count_by, option_map, slice_set}
+use Rattle.std.proofs.Common.{◌≡◌, ◌≢◌, ℕ, zero, suc, Bool, true, false, not, ◌&&◌, ◌||◌, cond, List, [], ◌∷◌, ◌++◌, map, set, pos, refl, ap, sym, ◌∙◌, arith, fold}
+use Rattle.std.specs.Prelude.{IfOk, count_by, option_map, slice_set}
 use Rattle.std.specs.declared.option.Option.{Option}
 use Rattle.std.specs.declared.result.Result.TheVariants.{Ok}
 use Rattle.std.specs.List.{list_any}
 use Rattle.std.proofs.lemmas.Bool.{or_parts, not-false, and_parts, and_from, cond_both, eqb-false}
 use Rattle.std.proofs.lemmas.List.{length-map, get_or-set_other}
 use Rattle.std.proofs.lemmas.List.Sums.{length-filter, count_by-le-length}
-use Rattle.std.proofs.lemmas.List.Elements.{All-nil, All-cons, All-head, All-tail, All-weaker, All-filter, All-map}
+use Rattle.std.proofs.lemmas.List.Elements.{All-weaker, All-filter, All-map}
 use Rattle.cj_model.specs.declared.value.Value.{Value}
 use Rattle.cj_model.specs.declared.value.Value.TheVariants.{Int}
 use Rattle.cj_model.specs.declared.value.Kind.{Kind}
@@ -17,7 +17,6 @@ use Rattle.cj_model.specs.declared.term.Term.TheVariants.{Lit, Col, Now, Rand}
 use Rattle.cj_model.specs.declared.term.Expr.{Expr}
 use Rattle.cj_model.specs.declared.term.Expr.TheVariants.{One, Plus, Minus}
 use Rattle.cj_model.specs.declared.schema.Column.{Column}
-use Rattle.cj_model.specs.declared.schema.Schema.{Schema}
 use Rattle.cj_model.specs.declared.database.Table.{Table}
 use Rattle.cj_model.specs.declared.write.Set.{Set}
 use Rattle.cj_model.specs.declared.write.Write.{Write}
@@ -26,7 +25,7 @@ use Rattle.cj_model.specs.declared.codes.TheConstants.{NO_COLUMN, BAD_COLUMNS, O
 use Rattle.cj_model.specs.Values.{kind_of, value_cmp}
 use Rattle.cj_model.specs.Conditions.{Condition}
 use Rattle.cj_model.specs.Predicates.{Predicate}
-use Rattle.cj_model.specs.Tables.{IsTable, cell, by_key, fits_columns, same_kind, Rises}
+use Rattle.cj_model.specs.Tables.{IsTable, cell, by_key, fits_columns, same_kind}
 use Rattle.cj_model.specs.Changes.{Changed, bare, unless}
 use Rattle.cj_model.specs.Scopes.{Scope, scope_of, place, kind_at, where_names_stranger, kind_of_term, kind_of_expr, adds_text, where_mixes_kinds, operand_of, formula_of, predicate_of}
 use Rattle.cj_model.specs.Evaluation.{meets, value_in, worth}
