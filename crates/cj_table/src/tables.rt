@@ -44,6 +44,13 @@ impl Tables {
         }
     }
 
+    /// Shows what holds of every database.
+    pub fn legal(&self)
+        ensures { IsDatabase self.now }
+    {
+        let _ = &self.slots;
+    }
+
     /// CREATE TABLE; want of memory changes nothing.
     pub fn create(&mut self, create: &Create) -> Result<Outcome, NoMemory>
         requires { length create.now.columns ≤ column_limit }
