@@ -5,6 +5,7 @@ mod binding;
 mod checks;
 mod formula;
 mod operand;
+mod parts;
 mod predicate;
 mod scope;
 

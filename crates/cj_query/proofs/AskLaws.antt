@@ -1,26 +1,23 @@
 -- The tables that a query names, and its first refusal.
-use Rattle.std.proofs.Common.{◌≡◌, ℕ, ◌+◌, ◌<◌, ◌≤◌, Bool, true, false, ◌||◌, cond, List, [], ◌∷◌, ◌++◌, length, map, take, get_or, refl, ap, sym, ◌∙◌, arith, subst}
-use Rattle.std.specs.Prelude.{filter, filter_map, option_map, is_none}
+use Rattle.std.proofs.Common.{◌≡◌, ℕ, ◌+◌, ◌<◌, ◌≤◌, Bool, true, false, ◌||◌, cond, List, [], ◌∷◌, ◌++◌, length, map, take, get_or, refl, ap, sym, ◌∙◌, arith}
+use Rattle.std.specs.Prelude.{filter_map, option_map, is_none}
 use Rattle.std.specs.List.{list_any, cons_option}
 use Rattle.std.specs.declared.option.Option.{Option}
 use Rattle.std.specs.declared.option.Option.TheVariants.{None, Some}
 use Rattle.std.specs.declared.result.Result.{Result}
-use Rattle.std.specs.declared.result.Result.TheVariants.{Ok, Err}
+use Rattle.std.specs.declared.result.Result.TheVariants.{Err}
 use Rattle.std.proofs.lemmas.List.{take_more}
 use Rattle.std.proofs.lemmas.List.Elements.{filter_map-append}
-use Rattle.cj_model.specs.declared.value.Value.{Value}
 use Rattle.cj_model.specs.declared.schema.Column.{Column}
 use Rattle.cj_model.specs.declared.database.Slot.{Slot}
 use Rattle.cj_model.specs.declared.database.Table.{Table}
 use Rattle.cj_model.specs.declared.select.Select.{Select}
-use Rattle.cj_model.specs.declared.answer.Asked.{Asked}
 use Rattle.cj_model.specs.declared.answer.Asked.TheVariants.{Refused}
 use Rattle.cj_model.specs.declared.answer.Refusal.{Refusal}
 use Rattle.cj_model.specs.declared.codes.TheConstants.{NO_TABLE, NO_COLUMN, BAD_COLUMNS, WRONG_TYPE}
 use Rattle.cj_model.specs.Changes.{bare, unless}
-use Rattle.cj_model.specs.Evaluation.{meets}
 use Rattle.cj_model.specs.Order.{product}
-use Rattle.cj_model.specs.Queries.{answer_of, answered, ask, asked_by, columns_named, groups_answered, has_bad_columns, listed, sums_text, tables_seen}
+use Rattle.cj_model.specs.Queries.{answered, ask, asked_by, columns_named, has_bad_columns, listed, sums_text, tables_seen}
 use Rattle.cj_model.specs.Scopes.{is_stranger, predicate_of, scope_of, where_mixes_kinds, where_names_stranger}
 use Rattle.cj_model.specs.Steps.{seen}
 use Rattle.cj_model.specs.Tables.{slot_of}

@@ -1,7 +1,7 @@
 -- Rows in order, cut into runs of one value, are the rows with each value.
-use Rattle.std.proofs.Common.{◌≡◌, ℕ, suc, ◌+◌, Bool, true, false, cond, not, ◌||◌, List, [], ◌∷◌, ◌++◌, map, take, drop, refl, ap, sym, subst, ◌∙◌, ⊎_elim, Ordering, Less, Equal, Greater, is_eq, arith}
-use Rattle.std.specs.Prelude.{All, find, filter, fold}
-use Rattle.std.specs.List.{list_any, position_or_len}
+use Rattle.std.proofs.Common.{◌≡◌, ℕ, Bool, true, false, cond, ◌||◌, List, [], ◌∷◌, map, refl, ap, sym, subst, ◌∙◌, ⊎_elim, Ordering, Less, Equal, Greater, is_eq}
+use Rattle.std.specs.Prelude.{All, find, fold}
+use Rattle.std.specs.List.{list_any}
 use Rattle.std.specs.Ordering.{is_lt, ordering_reverse}
 use Rattle.std.specs.declared.option.Option.{Option}
 use Rattle.std.specs.declared.option.Option.TheVariants.{None, Some}
@@ -12,15 +12,14 @@ use Rattle.std.proofs.lemmas.List.Elements.{All-nil, All-cons, All-head, All-tai
 use Rattle.cj_model.specs.declared.value.Value.{Value}
 use Rattle.cj_model.specs.Values.{value_cmp, value_total, value_exact}
 use Rattle.cj_model.specs.Tables.{cell, by_key, put_by, Rises}
-use Rattle.cj_model.specs.Order.{ordered, put_before}
 use Rattle.cj_model.specs.declared.term.ColRef.{ColRef}
 use Rattle.cj_model.specs.declared.select.Items.{Items}
 use Rattle.cj_model.specs.Scopes.{Scope, place}
 use Rattle.cj_model.specs.Queries.{first_of, values_met, rows_with, gathered}
 use Rattle.cj_model.proofs.RisingLaws.{by_order, equal_from, found_above, found_put, rises_put_each}
 use Rattle.cj_query.specs.Gathered.{same_at, run_with, runs, sorted_at, arranged, cut_into}
-use Rattle.cj_query.proofs.KeyLaws.{by_key_total, row_orders}
-use Rattle.cj_query.proofs.OrderLaws.{IsInOrder, NoneBefore, ordered_rises, filter-ordered, list_any-ordered}
+use Rattle.cj_query.proofs.KeyLaws.{row_orders}
+use Rattle.cj_query.proofs.OrderLaws.{IsInOrder, ordered_rises, filter-ordered, list_any-ordered}
 
 -- ---- values
 

@@ -6,3 +6,4 @@ pub mod Seen
 pub mod Even
 pub mod Paths
 pub mod Counted
+pub mod Joined

@@ -1,8 +1,7 @@
-use Rattle.std.proofs.Common.{◌≡◌, Bool, true, false, ◌||◌, ap, sym, ◌∙◌}
+use Rattle.std.proofs.Common.{◌≡◌, ◌||◌, ap, sym, ◌∙◌}
 use Rattle.std.specs.Prelude.{option_to_list}
 use Rattle.std.specs.List.{list_any}
 use Rattle.cj_model.specs.declared.select.Key.{Key}
-use Rattle.cj_model.specs.declared.select.Item.{Item}
 use Rattle.cj_model.specs.Queries as queries
 use Rattle.cj_model.specs.Scopes as scopes
 use Rattle.cj_query.proofs.NameLaws.{any_named}

@@ -1,4 +1,4 @@
-use Rattle.std.proofs.Common.{◌≡◌, map, refl}
+use Rattle.std.proofs.Common.{map, refl}
 use Rattle.std.specs.Map.Iter.{deref}
 use Rattle.cj_query.specs.Gathered as gathered
 use Rattle.cj_query.specs.Groups.{rows_of}

@@ -1,4 +1,4 @@
-use Rattle.std.proofs.Common.{◌≡◌, refl}
+use Rattle.std.proofs.Common.{refl}
 use Rattle.std.specs.Map.Iter.{deref}
 use Rattle.cj_query.specs.Groups.{rows_of}
 use Rattle.cj_query.proofs.RunLaws.{single_next}

@@ -1,4 +1,4 @@
-use Rattle.std.proofs.Common.{◌≡◌, List, [], ◌∷◌, ◌++◌, ap, ◌∙◌}
+use Rattle.std.proofs.Common.{List, [], ◌∷◌, ◌++◌, ap, ◌∙◌}
 use Rattle.cj_model.specs.Order.{SortKey}
 use Rattle.cj_model.specs.Queries.{sort_key_of}
 use Rattle.cj_query.proofs.WalkLaws.{map_next_plain}

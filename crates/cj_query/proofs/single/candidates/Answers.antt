@@ -1,4 +1,4 @@
-use Rattle.std.proofs.Common.{◌≡◌, ℕ, List, map, sym, ap, subst, ◌∙◌}
+use Rattle.std.proofs.Common.{◌≡◌, ℕ, List, ap, subst, ◌∙◌}
 use Rattle.std.specs.Prelude.{filter, option_to_list}
 use Rattle.cj_model.specs.declared.value.Value.{Value}
 use Rattle.cj_model.specs.Evaluation as evaluation
