@@ -1,4 +1,3 @@
-mod AssignmentLaws
-pub mod PinLaws
+mod PinLaws
 mod PlaceLaws
 mod WalkLaws

@@ -9,9 +9,3 @@ flat_map_next h f xs i x lt is =
     flat_map_more f [] (map h (take i xs)) (h x)
     ∙ ap (flat_map f) (sym (map-append h (take i xs) (x ∷ [])))
     ∙ ap (λ l. flat_map f (map h l)) (ap (λ y. take i xs ++ y ∷ []) is ∙ sym (take_more xs i x lt))
-
--- one more element, made of the next one
-pub map_next : {A B Y : Type 0} (g : A → Y) (f : B → Y) (made : List A) (a : A) (xs : List B) (i : ℕ) (x : B) → i < length xs → x ≡ get_or xs i x → map g made ≡ map f (take i xs) → g a ≡ f x → map g (made ++ a ∷ []) ≡ map f (take (i + 1) xs)
-map_next g f made a xs i x lt is h same =
-    map-append g made (a ∷ []) ∙ ap (λ l. l ++ g a ∷ []) h ∙ ap (λ y. map f (take i xs) ++ y ∷ []) (same ∙ ap f is)
-    ∙ sym (map-append f (take i xs) (get_or xs i x ∷ [])) ∙ ap (map f) (sym (take_more xs i x lt))

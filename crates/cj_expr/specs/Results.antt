@@ -1,5 +1,5 @@
 -- What binding and evaluating give.
-use Rattle.std.specs.Prelude.{◌≡◌, true, false, List, ⊤}
+use Rattle.std.specs.Prelude.{◌≡◌, true, false, ⊤}
 use Rattle.std.specs.declared.result.Result.{Result}
 use Rattle.std.specs.declared.result.Result.TheVariants.{Ok, Err}
 use Rattle.cj_model.specs.declared.value.Value.{Value}
@@ -11,16 +11,12 @@ use Rattle.cj_model.specs.Predicates as by_place
 use Rattle.cj_model.specs.Changes.{bare, unless}
 use Rattle.cj_model.specs.Scopes.{Scope, names_stranger, expr_names_stranger, mixes_kinds, adds_text, predicate_of, formula_of}
 use Rattle.cj_model.specs.Evaluation.{is_outside}
-use Rattle.cj_model.specs.Queries as queries
-use Rattle.cj_model.specs.Updates as updates
 use Rattle.cj_expr.specs.declared.binding.BindError.{BindError}
 use Rattle.cj_expr.specs.declared.binding.BindError.TheVariants as bind_error
 use Rattle.cj_expr.specs.declared.formula.Formula.{Formula}
 use Rattle.cj_expr.specs.declared.formula.ValueError.{ValueError}
 use Rattle.cj_expr.specs.declared.formula.ValueError.TheVariants as value_error
-use Rattle.cj_expr.specs.declared.select.BoundSelect.{BoundSelect}
-use Rattle.cj_expr.specs.declared.update.BoundUpdate.{BoundUpdate}
-use Rattle.cj_expr.specs.Shapes.{formula, select_of, update_of}
+use Rattle.cj_expr.specs.Shapes.{formula}
 
 -- the condition by places, or the first refusal
 abbrev pub bound : Scope → Condition → Result by_place.Predicate Refusal
@@ -42,26 +38,14 @@ GivesBy sight expected (Ok x) = expected ≡ Ok (sight x)
 GivesBy sight expected (Err (bind_error.Refused r)) = expected ≡ Err r
 GivesBy sight expected (Err bind_error.NoMemory) = ⊤
 
-abbrev pub Gives : {A : Type 0} → Result A Refusal → Result A BindError → Type 0
-Gives = GivesBy (λ x. x)
+abbrev pub Gives : Result by_place.Predicate Refusal → Result by_place.Predicate BindError → Type 0
+Gives = GivesBy (λ p. p)
 
 abbrev pub GivesFormula : Result by_place.Formula Refusal → Result Formula BindError → Type 0
 GivesFormula = GivesBy formula
-
-abbrev pub GivesUpdate : Result updates.BoundUpdate Refusal → Result BoundUpdate BindError → Type 0
-GivesUpdate = GivesBy update_of
-
-abbrev pub GivesSelect : Result queries.BoundSelect Refusal → Result BoundSelect BindError → Type 0
-GivesSelect = GivesBy select_of
 
 -- the value, where it lies within 64 bits; there may be no memory for it
 abbrev pub IsValueOf : Value → Result Value ValueError → Type 0
 IsValueOf v (Ok w) = (is_outside v ≡ false) × (w ≡ v)
 IsValueOf v (Err value_error.Overflow) = is_outside v ≡ true
 IsValueOf v (Err value_error.NoMemory) = ⊤
-
--- the row with its new values, where each lies within 64 bits; there may be no memory for it
-abbrev pub IsAssigned : List updates.Assignment → List Value → Result (List Value) ValueError → Type 0
-IsAssigned assignments row (Ok new) = (updates.overflows assignments row ≡ false) × (new ≡ updates.assigned assignments row)
-IsAssigned assignments row (Err value_error.Overflow) = updates.overflows assignments row ≡ true
-IsAssigned assignments row (Err value_error.NoMemory) = ⊤

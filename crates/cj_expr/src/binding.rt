@@ -1,6 +1,6 @@
 //! Names bound to places.
 
-ghost use Rattle.std.specs.Prelude.{◌≡◌, IfOk, option_map};
+ghost use Rattle.std.specs.Prelude.{◌≡◌, IfOk};
 ghost use Rattle.cj_model.specs.ConditionShape as conditions;
 ghost use Rattle.cj_model.specs.Scopes as scopes;
 ghost use Rattle.cj_expr.specs.Shapes as shapes;
@@ -37,7 +37,7 @@ impl From<NoMemory> for BindError {
     }
 }
 
-pub fn refused(code: u16) -> BindError
+fn refused(code: u16) -> BindError
     ensures { result ≡ BindError.Refused (record { code = code; a = 0; b = 0 }) }
 {
     BindError::Refused(Refusal { code, a: 0, b: 0 })
@@ -48,7 +48,7 @@ fn operand_of(alloc: Global, term: &Term, scope: &Scope) -> Result<Operand, NoMe
 {
     match term {
         Term::Lit(value) => Ok(Operand::Constant(value.copy(alloc)?)),
-        Term::Col(reference) => Ok(Operand::Cell(scope.place(reference))),
+        Term::Col(reference) => Ok(Operand::Cell(scope.place(reference).unwrap_or(0))),
         Term::Now => Ok(Operand::Constant(Value::Int(0))),
         Term::Rand(_) => Ok(Operand::Constant(Value::Int(0))),
     }
@@ -102,20 +102,6 @@ pub fn predicate_of(alloc: Global, cond: &Cond, scope: &Scope) -> Result<Predica
     ensures { IfOk result (λ predicate. predicate ≡ scopes.predicate_of scope.now cond.now) }
 {
     Ok(Predicate::of(node_of(alloc, cond.root(), scope)?))
-}
-
-/// The condition of WHERE, if there is one, with its columns by place.
-pub fn where_of(
-    alloc: Global,
-    condition: &Option<Cond>,
-    scope: &Scope,
-) -> Result<Option<Predicate>, NoMemory>
-    ensures { IfOk result (λ predicate. predicate ≡ option_map (scopes.predicate_of scope.now) condition.now) }
-{
-    match condition {
-        None => Ok(None),
-        Some(cond) => Ok(Some(predicate_of(alloc, cond, scope)?)),
-    }
 }
 
 /// The condition with its columns by place. Refused with 23 where a column is not there, else with

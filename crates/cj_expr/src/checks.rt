@@ -25,7 +25,7 @@ impl Scope {
     pub fn is_stranger(&self, reference: &ColRef) -> bool
         ensures { result ≡ scopes.is_stranger self.now reference.now }
     {
-        self.find(reference).is_none()
+        self.place(reference).is_none()
     }
 
     fn term_names_stranger(&self, term: &Term) -> bool
@@ -78,7 +78,7 @@ impl Scope {
     {
         match term {
             Term::Lit(value) => value.kind(),
-            Term::Col(reference) => self.kind(self.place(reference)),
+            Term::Col(reference) => self.kind(self.place(reference).unwrap_or(0)),
             Term::Now => Kind::Integer,
             Term::Rand(_) => Kind::Integer,
         }
@@ -133,25 +133,5 @@ impl Scope {
         ensures { result ≡ scopes.mixes_kinds self.now cond.now }
     {
         self.node_mixes_kinds(cond.root())
-    }
-
-    /// Whether the condition of WHERE, if there is one, names a column that is not there.
-    pub fn where_names_stranger(&self, condition: &Option<Cond>) -> bool
-        ensures { result ≡ scopes.where_names_stranger self.now condition.now }
-    {
-        match condition {
-            None => false,
-            Some(cond) => self.names_stranger(cond),
-        }
-    }
-
-    /// Whether the sides of a comparison of WHERE differ in kind.
-    pub fn where_mixes_kinds(&self, condition: &Option<Cond>) -> bool
-        ensures { result ≡ scopes.where_mixes_kinds self.now condition.now }
-    {
-        match condition {
-            None => false,
-            Some(cond) => self.mixes_kinds(cond),
-        }
     }
 }

@@ -39,8 +39,8 @@ impl From<NoMemory> for ValueError {
     }
 }
 
-/// The number as a value of 64 bits.
-fn narrowed(number: i128) -> Result<Value, ValueError>
+/// The number as a value; Overflow exactly where it lies outside 64 bits.
+pub fn narrowed(number: i128) -> Result<Value, ValueError>
     ensures { IsValueOf (Value.Int number) result }
 {
     if number < -9_223_372_036_854_775_808 || 9_223_372_036_854_775_807 < number {

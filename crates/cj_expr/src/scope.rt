@@ -62,7 +62,7 @@ impl Scope {
     }
 
     /// The place of the column that is meant; none where there is no such column, or more than one.
-    pub fn find(&self, reference: &ColRef) -> Option<usize>
+    pub fn place(&self, reference: &ColRef) -> Option<usize>
         ensures { result ≡ place_of self.now reference.now }
     {
         let mut found = None;
@@ -77,14 +77,7 @@ impl Scope {
         found
     }
 
-    /// The place of a column that is there.
-    pub fn place(&self, reference: &ColRef) -> usize
-        ensures { result ≡ scopes.place self.now reference.now }
-    {
-        self.find(reference).unwrap_or(0)
-    }
-
-    /// The columns with their tables' names.
+    /// The columns, each with its table's name.
     pub fn columns(&self) -> &[(Name, Column)]
         ensures { result.now ≡ self.now }
     {

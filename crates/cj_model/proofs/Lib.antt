@@ -8,12 +8,10 @@ pub mod Effects
 pub mod FaultLaws
 pub mod Fields
 pub mod Growth
-pub mod KeyLaws
 pub mod Masks
 pub mod Names
 pub mod Now
 pub mod OneReading
-pub mod OrderLaws
 pub mod Pushed
 pub mod QueryLaws
 pub mod RefusalLaws

@@ -1,15 +1,13 @@
 -- Which refusals a change and a query may come to.
-use Rattle.std.proofs.Common.{◌≡◌, ◌⊎◌, inl, inr, ℕ, ◌+◌, ◌≤◌, Bool, true, false, List, length, map, refl, arith}
+use Rattle.std.proofs.Common.{◌≡◌, ◌⊎◌, inl, inr, ℕ, ◌+◌, ◌≤◌, Bool, true, false, List, length, refl, arith}
 use Rattle.std.specs.Prelude.{IfErr}
 use Rattle.std.specs.declared.option.Option.{Option}
 use Rattle.std.specs.declared.result.Result.{Result}
 use Rattle.std.specs.declared.result.Result.TheVariants.{Ok, Err}
 use Rattle.cj_model.specs.declared.value.Value.{Value}
 use Rattle.cj_model.specs.declared.term.Term.{Term}
-use Rattle.cj_model.specs.declared.schema.Schema.{Schema}
 use Rattle.cj_model.specs.declared.database.Slot.{Slot}
 use Rattle.cj_model.specs.declared.database.Table.{Table}
-use Rattle.cj_model.specs.declared.write.Set.{Set}
 use Rattle.cj_model.specs.declared.write.Write.{Write}
 use Rattle.cj_model.specs.declared.write.Write.TheVariants.{Insert, Update, Delete}
 use Rattle.cj_model.specs.declared.select.Select.{Select}
@@ -18,12 +16,9 @@ use Rattle.cj_model.specs.declared.answer.Asked.{Asked}
 use Rattle.cj_model.specs.declared.answer.Asked.TheVariants as asked
 use Rattle.cj_model.specs.declared.answer.Refusal.{Refusal}
 use Rattle.cj_model.specs.declared.codes.TheConstants.{NO_TABLE, NO_COLUMN, BAD_COLUMNS, OVERFLOW, DUPLICATE, WRONG_TYPE, ROWS_FULL}
-use Rattle.cj_model.specs.Conditions.{Condition}
 use Rattle.cj_model.specs.Changes.{bare, unless, too_many_rows, with_rows, inserted}
-use Rattle.cj_model.specs.Scopes.{Scope, and_then, scope_of}
-use Rattle.cj_model.specs.Order.{product}
-use Rattle.cj_model.specs.Updates.{bound_update, with_new_values, bound_delete, without_rows, change}
-use Rattle.cj_model.specs.Queries.{bound_select, answer_from, answered, tables_seen, asked_by, ask}
+use Rattle.cj_model.specs.Updates.{change}
+use Rattle.cj_model.specs.Queries.{answered, tables_seen, asked_by, ask}
 
 -- where there is a refusal, P holds of it
 record Refuses {A : Type 0} (P : Refusal → Type 0) (r : Result A Refusal) : Type 0 where
@@ -36,11 +31,6 @@ accepts P x = record { holds = tt }
 coded : {A : Type 0} (P : Refusal → Type 0) (b : Bool) (r : Refusal) (otherwise : Result A Refusal) → P r → Refuses P otherwise → Refuses P (unless b r otherwise)
 coded P true r otherwise p h = record { holds = p }
 coded P false r otherwise p h = h
-
--- one after the other
-coded_then : {A B : Type 0} (P : Refusal → Type 0) (r : Result A Refusal) (f : A → Result B Refusal) → Refuses P r → ((x : A) → Refuses P (f x)) → Refuses P (and_then r f)
-coded_then P (Ok x) f h k = k x
-coded_then P (Err r) f h k = record { holds = h.holds }
 
 -- ---- changes
 
@@ -60,24 +50,16 @@ inserted_coded t names tuples =
     (coded IsChangeRefusal _ (bare WRONG_TYPE) _ (among WRONG_TYPE (omega arith) (omega arith))
     (with_rows_coded t.schema.key t.rows _)))
 
-bound_update_coded : (schema : Schema) (sets : List Set) (condition : Option Condition) → Refuses IsChangeRefusal (bound_update schema sets condition)
-bound_update_coded schema sets condition =
-    coded IsChangeRefusal _ (bare NO_COLUMN) _ (among NO_COLUMN (omega arith) (omega arith))
-    (coded IsChangeRefusal _ (bare BAD_COLUMNS) _ (among BAD_COLUMNS (omega arith) (omega arith))
-    (coded IsChangeRefusal _ (bare WRONG_TYPE) _ (among WRONG_TYPE (omega arith) (omega arith)) (accepts IsChangeRefusal _)))
-
-bound_delete_coded : (schema : Schema) (condition : Option Condition) → Refuses IsChangeRefusal (bound_delete schema condition)
-bound_delete_coded schema condition =
-    coded IsChangeRefusal _ (bare NO_COLUMN) _ (among NO_COLUMN (omega arith) (omega arith))
-    (coded IsChangeRefusal _ (bare WRONG_TYPE) _ (among WRONG_TYPE (omega arith) (omega arith)) (accepts IsChangeRefusal _))
-
 change_coded : (t : Table) (w : Write) → Refuses IsChangeRefusal (change t w)
 change_coded t (Insert name names tuples) = inserted_coded t names tuples
 change_coded t (Update name sets condition) =
-    coded_then IsChangeRefusal (bound_update t.schema sets condition) (with_new_values t.rows) (bound_update_coded t.schema sets condition)
-    (λ u. coded IsChangeRefusal _ (bare OVERFLOW) _ (among OVERFLOW (omega arith) (omega arith)) (accepts IsChangeRefusal _))
+    coded IsChangeRefusal _ (bare NO_COLUMN) _ (among NO_COLUMN (omega arith) (omega arith))
+    (coded IsChangeRefusal _ (bare BAD_COLUMNS) _ (among BAD_COLUMNS (omega arith) (omega arith))
+    (coded IsChangeRefusal _ (bare WRONG_TYPE) _ (among WRONG_TYPE (omega arith) (omega arith))
+    (coded IsChangeRefusal _ (bare OVERFLOW) _ (among OVERFLOW (omega arith) (omega arith)) (accepts IsChangeRefusal _))))
 change_coded t (Delete name condition) =
-    coded_then IsChangeRefusal (bound_delete t.schema condition) (without_rows t.rows) (bound_delete_coded t.schema condition) (λ c. accepts IsChangeRefusal _)
+    coded IsChangeRefusal _ (bare NO_COLUMN) _ (among NO_COLUMN (omega arith) (omega arith))
+    (coded IsChangeRefusal _ (bare WRONG_TYPE) _ (among WRONG_TYPE (omega arith) (omega arith)) (accepts IsChangeRefusal _))
 
 pub write_coded : (t : Table) (w : Write) → IfErr (change t w) IsChangeRefusal
 write_coded t w = (change_coded t w).holds
@@ -87,17 +69,12 @@ write_coded t w = (change_coded t w).holds
 abbrev pub IsQueryRefusal : Refusal → Type 0
 IsQueryRefusal r = (r.code ≡ NO_TABLE) ⊎ (r.code ≡ NO_COLUMN) ⊎ (r.code ≡ BAD_COLUMNS) ⊎ (r.code ≡ OVERFLOW) ⊎ (r.code ≡ WRONG_TYPE)
 
-bound_select_coded : (scope : Scope) (s : Select) → Refuses IsQueryRefusal (bound_select scope s)
-bound_select_coded scope s =
-    coded IsQueryRefusal _ (bare NO_COLUMN) _ (inr (inl refl))
-    (coded IsQueryRefusal _ (bare BAD_COLUMNS) _ (inr (inr (inl refl)))
-    (coded IsQueryRefusal _ (bare WRONG_TYPE) _ (inr (inr (inr (inr refl)))) (accepts IsQueryRefusal _)))
-
 answered_coded : (tables : List Table) (s : Select) → Refuses IsQueryRefusal (answered tables s)
 answered_coded tables s =
-    let scope = scope_of (map (λ (t : Table). t.schema) tables) in
-    coded_then IsQueryRefusal (bound_select scope s) (answer_from (product (map (λ (t : Table). t.rows) tables))) (bound_select_coded scope s)
-    (λ b. coded IsQueryRefusal _ (bare OVERFLOW) _ (inr (inr (inr (inl refl)))) (accepts IsQueryRefusal _))
+    coded IsQueryRefusal _ (bare NO_COLUMN) _ (inr (inl refl))
+    (coded IsQueryRefusal _ (bare BAD_COLUMNS) _ (inr (inr (inl refl)))
+    (coded IsQueryRefusal _ (bare WRONG_TYPE) _ (inr (inr (inr (inr refl))))
+    (coded IsQueryRefusal _ (bare OVERFLOW) _ (inr (inr (inr (inl refl)))) (accepts IsQueryRefusal _))))
 
 -- an answer, or one of these refusals
 abbrev pub IfRefused : Asked → (Refusal → Type 0) → Type 0

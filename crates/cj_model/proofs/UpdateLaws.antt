@@ -2,8 +2,7 @@
 use Rattle.std.proofs.Common.{◌≡◌, ◌≢◌, ℕ, zero, suc, Bool, true, false, not, ◌&&◌, ◌||◌, cond, List, [], ◌∷◌, ◌++◌, map, set, pos, refl, ap, sym, ◌∙◌, arith, fold}
 use Rattle.std.specs.Prelude.{IfOk, count_by, option_map, slice_set}
 use Rattle.std.specs.declared.option.Option.{Option}
-use Rattle.std.specs.declared.result.Result.{Result}
-use Rattle.std.specs.declared.result.Result.TheVariants.{Ok, Err}
+use Rattle.std.specs.declared.result.Result.TheVariants.{Ok}
 use Rattle.std.specs.List.{list_any}
 use Rattle.std.proofs.lemmas.Bool.{or_parts, not-false, and_parts, and_from, cond_both, eqb-false}
 use Rattle.std.proofs.lemmas.List.{length-map, get_or-set_other}
@@ -22,30 +21,20 @@ use Rattle.cj_model.specs.declared.database.Table.{Table}
 use Rattle.cj_model.specs.declared.write.Set.{Set}
 use Rattle.cj_model.specs.declared.write.Write.{Write}
 use Rattle.cj_model.specs.declared.write.Write.TheVariants.{Insert, Update, Delete}
-use Rattle.cj_model.specs.declared.answer.Refusal.{Refusal}
 use Rattle.cj_model.specs.declared.codes.TheConstants.{NO_COLUMN, BAD_COLUMNS, OVERFLOW, WRONG_TYPE}
 use Rattle.cj_model.specs.Values.{kind_of, value_cmp}
 use Rattle.cj_model.specs.Conditions.{Condition}
 use Rattle.cj_model.specs.Predicates.{Predicate}
 use Rattle.cj_model.specs.Tables.{IsTable, cell, by_key, fits_columns, same_kind}
 use Rattle.cj_model.specs.Changes.{Changed, bare, unless}
-use Rattle.cj_model.specs.Scopes.{Scope, scope_of, and_then, place, kind_at, where_names_stranger, kind_of_term, kind_of_expr, adds_text, where_mixes_kinds, operand_of, formula_of, predicate_of}
+use Rattle.cj_model.specs.Scopes.{Scope, scope_of, place, kind_at, where_names_stranger, kind_of_term, kind_of_expr, adds_text, where_mixes_kinds, operand_of, formula_of, predicate_of}
 use Rattle.cj_model.specs.Evaluation.{meets, value_in, worth}
-use Rattle.cj_model.specs.Updates.{column_set, set_names_stranger, sets_twice, sets_key, set_mixes_kinds, Assignment, assignment_of, assigned, overflows, BoundUpdate, with_new_values, updated, bound_delete, without_rows, deleted, change}
+use Rattle.cj_model.specs.Updates.{column_set, set_names_stranger, sets_twice, sets_key, set_mixes_kinds, Assignment, assignment_of, assigned, overflows, with_new_values, updated, without_rows, deleted, change}
 use Rattle.cj_model.proofs.RisingLaws.{rises_filter, rises_map}
 use Rattle.cj_model.proofs.TableLaws.{unless_IfOk, IsTableWith, inserted_keeps}
 
 abbrev Fits : List Column → List Value → Type 0
 Fits columns row = fits_columns columns row ≡ true
-
--- what holds of all that is made of what is not refused
-and_then_IfOk : {A B : Type 0} (P : B → Type 0) (r : Result A Refusal) (f : A → Result B Refusal) → ((x : A) → IfOk (f x) P) → IfOk (and_then r f) P
-and_then_IfOk P (Ok x) f h = h x
-and_then_IfOk P (Err refusal) f h = tt
-
-pub then_unless : {A B : Type 0} (P : B → Type 0) (b : Bool) (r : Refusal) (otherwise : Result A Refusal) (f : A → Result B Refusal) → (b ≡ false → IfOk (and_then otherwise f) P) → IfOk (and_then (unless b r otherwise) f) P
-then_unless P true r otherwise f h = tt
-then_unless P false r otherwise f h = h refl
 
 -- ---- DELETE
 
@@ -62,7 +51,12 @@ without_rows_keeps t condition is =
     }
 
 pub deleted_keeps : (t : Table) (condition : Option Condition) → IsTable t → IfOk (deleted t condition) (IsTableWith t.schema)
-deleted_keeps t condition is = and_then_IfOk (IsTableWith t.schema) (bound_delete t.schema condition) (without_rows t.rows) (λ bound. without_rows_keeps t bound is)
+deleted_keeps t condition is =
+    let scope = scope_of (t.schema ∷ []) in
+    let rest : Changed = without_rows t.rows (option_map (predicate_of scope) condition) in
+    unless_IfOk (IsTableWith t.schema) (where_names_stranger scope condition) (bare NO_COLUMN) (unless (where_mixes_kinds scope condition) (bare WRONG_TYPE) rest) (λ known.
+    unless_IfOk (IsTableWith t.schema) (where_mixes_kinds scope condition) (bare WRONG_TYPE) rest (λ even.
+    without_rows_keeps t (option_map (predicate_of scope) condition) is))
 
 -- ---- kinds
 
@@ -133,7 +127,7 @@ module _ (table : List ℕ) (columns : List Column) (key : ℕ) where
 
 with_new_values_keeps : (t : Table) (sets : List Set) (condition : Option Predicate) → IsTable t
     → list_any (sets_key (scope_of (t.schema ∷ [])) t.schema.key) sets ≡ false → list_any (set_mixes_kinds (scope_of (t.schema ∷ []))) sets ≡ false
-    → IfOk (with_new_values t.rows (record { assignments = map (assignment_of (scope_of (t.schema ∷ []))) sets; condition = condition })) (IsTableWith t.schema)
+    → IfOk (with_new_values t.rows (map (assignment_of (scope_of (t.schema ∷ []))) sets) condition) (IsTableWith t.schema)
 with_new_values_keeps t sets condition is unkeyed even =
     let columns = t.schema.columns in
     let key = t.schema.key in
@@ -159,11 +153,10 @@ updated_keeps t sets condition is =
     let stranger : Bool = list_any (set_names_stranger scope) sets || where_names_stranger scope condition in
     let bad : Bool = sets_twice sets || list_any (sets_key scope t.schema.key) sets in
     let uneven : Bool = list_any (set_mixes_kinds scope) sets || where_mixes_kinds scope condition in
-    let update : BoundUpdate = record { assignments = map (assignment_of scope) sets; condition = option_map (predicate_of scope) condition } in
-    let run : BoundUpdate → Changed = with_new_values t.rows in
-    then_unless (IsTableWith t.schema) stranger (bare NO_COLUMN) (unless bad (bare BAD_COLUMNS) (unless uneven (bare WRONG_TYPE) (Ok update))) run (λ known.
-    then_unless (IsTableWith t.schema) bad (bare BAD_COLUMNS) (unless uneven (bare WRONG_TYPE) (Ok update)) run (λ good.
-    then_unless (IsTableWith t.schema) uneven (bare WRONG_TYPE) (Ok update) run (λ even.
+    let rest : Changed = with_new_values t.rows (map (assignment_of scope) sets) (option_map (predicate_of scope) condition) in
+    unless_IfOk (IsTableWith t.schema) stranger (bare NO_COLUMN) (unless bad (bare BAD_COLUMNS) (unless uneven (bare WRONG_TYPE) rest)) (λ known.
+    unless_IfOk (IsTableWith t.schema) bad (bare BAD_COLUMNS) (unless uneven (bare WRONG_TYPE) rest) (λ good.
+    unless_IfOk (IsTableWith t.schema) uneven (bare WRONG_TYPE) rest (λ even.
     with_new_values_keeps t sets (option_map (predicate_of scope) condition) is (or_parts (sets_twice sets) _ good).1 (or_parts (list_any (set_mixes_kinds scope) sets) _ even).0)))
 
 -- any write

@@ -1,5 +1,5 @@
 -- What any query is answered, or the first refusal.
-use Rattle.std.specs.Prelude.{ℕ, ℤ, pos, ◌+ℤ◌, Bool, true, false, not, ◌&&◌, ◌||◌, ◌==◌, List, [], ◌∷◌, length, map, filter, filter_map, fold, codes, slice_index_or, is_none, option_map, if◌then◌else◌}
+use Rattle.std.specs.Prelude.{ℕ, ℤ, pos, ◌+ℤ◌, Bool, true, false, not, ◌&&◌, ◌||◌, ◌==◌, List, [], ◌∷◌, ◌++◌, length, map, filter, filter_map, flat_map, fold, codes, slice_index_or, is_none, option_map, option_to_list, if◌then◌else◌}
 use Rattle.std.specs.declared.option.Option.{Option}
 use Rattle.std.specs.declared.option.Option.TheVariants.{None, Some}
 use Rattle.std.specs.declared.result.Result.{Result}
@@ -28,34 +28,24 @@ use Rattle.cj_model.specs.Values.{value_cmp}
 use Rattle.cj_model.specs.Tables.{cell, put_by, same_kind, slot_of}
 use Rattle.cj_model.specs.Changes.{bare, unless}
 use Rattle.cj_model.specs.Steps.{seen}
-use Rattle.cj_model.specs.Scopes.{Scope, scope_of, is_stranger, place, kind_at, where_names_stranger, where_mixes_kinds, predicate_of, and_then}
-use Rattle.cj_model.specs.Predicates.{Predicate}
+use Rattle.cj_model.specs.Scopes.{Scope, scope_of, is_stranger, place, kind_at, where_names_stranger, where_mixes_kinds, predicate_of}
 use Rattle.cj_model.specs.Evaluation.{meets, number, is_outside}
 use Rattle.cj_model.specs.Order.{product, SortKey, before, ordered, cut}
 
--- ---- columns that are not there
+-- ---- what is named
+
+abbrev pub columns_of_item : Item → List ColRef
+columns_of_item (item.Col r) = r ∷ []
+columns_of_item item.Count = []
+columns_of_item (item.Sum r) = r ∷ []
 
 abbrev pub listed : Items → List Item
 listed All = []
 listed (Listed items) = items
 
-abbrev pub item_names_stranger : Scope → Item → Bool
-item_names_stranger scope (item.Col r) = is_stranger scope r
-item_names_stranger scope item.Count = false
-item_names_stranger scope (item.Sum r) = is_stranger scope r
-
-abbrev pub group_names_stranger : Scope → Option ColRef → Bool
-group_names_stranger scope None = false
-group_names_stranger scope (Some r) = is_stranger scope r
-
-abbrev pub key_names_stranger : Scope → Key → Bool
-key_names_stranger scope k = is_stranger scope k.col
-
--- a column that is named anywhere is not there
-abbrev pub select_names_stranger : Scope → Select → Bool
-select_names_stranger scope s =
-    list_any (item_names_stranger scope) (listed s.items) || group_names_stranger scope s.group
-    || list_any (key_names_stranger scope) s.order || where_names_stranger scope s.cond
+-- the columns that stand outside the condition
+abbrev pub columns_named : Select → List ColRef
+columns_named s = flat_map columns_of_item (listed s.items) ++ option_to_list s.group ++ map (λ (k : Key). k.col) s.order
 
 -- ---- columns that do not fit each other
 
@@ -64,9 +54,9 @@ is_plain (item.Col r) = true
 is_plain item.Count = false
 is_plain (item.Sum r) = false
 
--- COUNT or SUM
-abbrev pub is_aggregate : Item → Bool
-is_aggregate i = not (is_plain i)
+-- the rows are counted or summed
+abbrev pub aggregates : Items → Bool
+aggregates items = list_any (λ i. not (is_plain i)) (listed items)
 
 -- two references to one column
 abbrev pub is_same_column : Scope → ColRef → ColRef → Bool
@@ -83,15 +73,11 @@ abbrev pub leave_group : Scope → ColRef → Items → Bool
 leave_group scope group All = true
 leave_group scope group (Listed items) = list_any (is_outside_group scope group) items
 
--- a key other than the group's column
-abbrev pub is_other_key : Scope → ColRef → Key → Bool
-is_other_key scope group k = not (is_same_column scope group k.col)
-
 -- With GROUP BY, a column other than the group's is asked for or ordered by.
 -- Without it, counts or sums stand beside plain columns or are ordered.
 abbrev pub has_bad_columns : Scope → Items → List Key → Option ColRef → Bool
-has_bad_columns scope items keys (Some group) = leave_group scope group items || list_any (is_other_key scope group) keys
-has_bad_columns scope items keys None = list_any is_aggregate (listed items) && (list_any is_plain (listed items) || not (length keys == 0))
+has_bad_columns scope items keys (Some group) = leave_group scope group items || list_any (λ (k : Key). not (is_same_column scope group k.col)) keys
+has_bad_columns scope items keys None = aggregates items && (list_any is_plain (listed items) || not (length keys == 0))
 
 -- ---- kinds
 
@@ -100,68 +86,6 @@ abbrev pub sums_text : Scope → Item → Bool
 sums_text scope (item.Col r) = false
 sums_text scope item.Count = false
 sums_text scope (item.Sum r) = same_kind (kind_at scope (place scope r)) kind.Text
-
--- ---- binding
-
--- an item by the place of its column
-pub data BoundItem : Type 0 where
-  Cell : ℕ → BoundItem
-  Count : BoundItem
-  Sum : ℕ → BoundItem
-
--- a query with its columns by places
-pub record BoundSelect : Type 0 where
-  -- the names of the answer's columns
-  pub names : List (List ℕ)
-  -- the items, or none for `*`
-  pub items : Option (List BoundItem)
-  pub condition : Option Predicate
-  pub group : Option ℕ
-  pub keys : List SortKey
-  pub limit : Option ℕ
-
-abbrev pub bound_item : Scope → Item → BoundItem
-bound_item scope (item.Col r) = Cell (place scope r)
-bound_item scope item.Count = Count
-bound_item scope (item.Sum r) = Sum (place scope r)
-
-abbrev pub bound_items : Scope → Items → Option (List BoundItem)
-bound_items scope All = None
-bound_items scope (Listed items) = Some (map (bound_item scope) items)
-
-abbrev pub sort_key_of : Scope → Key → SortKey
-sort_key_of scope k = record { place = place scope k.col; desc = k.desc }
-
--- an answer's column is named by its column, or `count` or `sum`
-abbrev pub name_of_item : Item → List ℕ
-name_of_item (item.Col r) = r.column
-name_of_item item.Count = codes "count"
-name_of_item (item.Sum r) = codes "sum"
-
-abbrev pub name_of_column : List ℕ × Column → List ℕ
-name_of_column c = c.1.name
-
-abbrev pub names_answered : Scope → Items → List (List ℕ)
-names_answered scope All = map name_of_column scope
-names_answered scope (Listed items) = map name_of_item items
-
-abbrev pub by_places : Scope → Select → BoundSelect
-by_places scope s = record {
-  names = names_answered scope s.items;
-  items = bound_items scope s.items;
-  condition = option_map (predicate_of scope) s.cond;
-  group = option_map (place scope) s.group;
-  keys = map (sort_key_of scope) s.order;
-  limit = s.limit;
-}
-
--- the query with its columns by places, or the first refusal that looks at no row
-abbrev pub bound_select : Scope → Select → Result BoundSelect Refusal
-bound_select scope s =
-    unless (select_names_stranger scope s) (bare NO_COLUMN)
-    (unless (has_bad_columns scope s.items s.order s.group) (bare BAD_COLUMNS)
-    (unless (where_mixes_kinds scope s.cond || list_any (sums_text scope) (listed s.items)) (bare WRONG_TYPE)
-    (Ok (by_places scope s))))
 
 -- ---- rows
 
@@ -173,68 +97,70 @@ values_met n rows = fold (put_by value_cmp) [] (map (λ r. cell r n) rows)
 abbrev pub rows_with : ℕ → List (List Value) → Value → List (List Value)
 rows_with n rows v = filter (λ r. is_eq (value_cmp (cell r n) v)) rows
 
-abbrev pub is_cell : BoundItem → Bool
-is_cell (Cell n) = true
-is_cell Count = false
-is_cell (Sum n) = false
-
--- the rows are counted or summed
-abbrev pub is_one_row : Option (List BoundItem) → Bool
-is_one_row None = false
-is_one_row (Some items) = list_any (λ i. not (is_cell i)) items
-
 -- The rows from which each row of the answer is made: with GROUP BY those with one value in the group's column, and without it
 -- all where they are counted or summed, else each by itself.
-abbrev pub gathered : Option (List BoundItem) → Option ℕ → List (List Value) → List (List (List Value))
-gathered items (Some n) rows = map (rows_with n rows) (values_met n rows)
-gathered items None rows = if is_one_row items then rows ∷ [] else map (λ r. r ∷ []) rows
+abbrev pub gathered : Scope → Items → Option ColRef → List (List Value) → List (List (List Value))
+gathered scope items (Some group) rows = map (rows_with (place scope group) rows) (values_met (place scope group) rows)
+gathered scope items None rows = if aggregates items then rows ∷ [] else map (λ r. r ∷ []) rows
 
--- the first one, whose value in the group's column is that of all
+-- the first one, whose values in the group's column are those of all
 abbrev pub first_of : List (List Value) → List Value
 first_of rows = slice_index_or rows 0 []
-
--- what is gathered for each row of the answer: in the order of the keys, in which what ties stays as it is, and cut
-abbrev pub groups_answered : BoundSelect → List (List Value) → List (List (List Value))
-groups_answered s rows = cut s.limit (ordered (λ g h. before s.keys (first_of g) (first_of h)) (gathered s.items s.group rows))
 
 abbrev pub sum_at : ℕ → List (List Value) → ℤ
 sum_at n rows = fold (λ total r. total +ℤ number (cell r n)) (pos 0) rows
 
 -- what an item is of the rows that were gathered
-abbrev pub item_of : List (List Value) → BoundItem → Value
-item_of rows (Cell n) = cell (first_of rows) n
-item_of rows Count = Int (pos (length rows))
-item_of rows (Sum n) = Int (sum_at n rows)
+abbrev pub item_of : Scope → List (List Value) → Item → Value
+item_of scope rows (item.Col r) = cell (first_of rows) (place scope r)
+item_of scope rows item.Count = Int (pos (length rows))
+item_of scope rows (item.Sum r) = Int (sum_at (place scope r) rows)
 
-abbrev pub row_made : Option (List BoundItem) → List (List Value) → List Value
-row_made None rows = first_of rows
-row_made (Some items) rows = map (item_of rows) items
+abbrev pub row_made : Scope → Items → List (List Value) → List Value
+row_made scope All rows = first_of rows
+row_made scope (Listed items) rows = map (item_of scope rows) items
 
--- a sum lies outside 64 bits
-abbrev pub is_sum_outside : List (List Value) → BoundItem → Bool
-is_sum_outside rows (Cell n) = false
-is_sum_outside rows Count = false
-is_sum_outside rows (Sum n) = is_outside (Int (sum_at n rows))
+abbrev pub sort_key_of : Scope → Key → SortKey
+sort_key_of scope k = record { place = place scope k.col; desc = k.desc }
 
-abbrev pub has_sum_outside : Option (List BoundItem) → List (List Value) → Bool
-has_sum_outside None rows = false
-has_sum_outside (Some items) rows = list_any (is_sum_outside rows) items
+-- what is gathered for each row of the answer: in the order of the keys, in which what ties stays as it is, and cut
+abbrev pub groups_answered : Scope → Select → List (List Value) → List (List (List Value))
+groups_answered scope s rows = cut s.limit (ordered (λ g h. before (map (sort_key_of scope) s.order) (first_of g) (first_of h)) (gathered scope s.items s.group rows))
 
--- a row for each that was gathered
-abbrev pub answer_of : BoundSelect → List (List (List Value)) → Result Answer Refusal
-answer_of s groups =
-    unless (list_any (has_sum_outside s.items) groups) (bare OVERFLOW)
-    (Ok (record { columns = s.names; rows = map (row_made s.items) groups }))
+-- a sum outside 64 bits
+abbrev pub is_sum_outside : Scope → List (List Value) → Item → Bool
+is_sum_outside scope rows (item.Col r) = false
+is_sum_outside scope rows item.Count = false
+is_sum_outside scope rows (item.Sum r) = is_outside (Int (sum_at (place scope r) rows))
 
--- the answer from the rows of the tables' product
-abbrev pub answer_from : List (List Value) → BoundSelect → Result Answer Refusal
-answer_from rows s = answer_of s (groups_answered s (filter (meets s.condition) rows))
+-- ---- names of an answer's columns
+
+abbrev pub name_of_item : Item → List ℕ
+name_of_item (item.Col r) = r.column
+name_of_item item.Count = codes "count"
+name_of_item (item.Sum r) = codes "sum"
+
+abbrev pub names_answered : Scope → Items → List (List ℕ)
+names_answered scope All = map (λ (c : List ℕ × Column). c.1.name) scope
+names_answered scope (Listed items) = map name_of_item items
 
 -- ---- any query
 
+-- a row for each that was gathered
+abbrev pub answer_of : Scope → Select → List (List (List Value)) → Result Answer Refusal
+answer_of scope s groups =
+    unless (list_any (λ g. list_any (is_sum_outside scope g) (listed s.items)) groups) (bare OVERFLOW)
+    (Ok (record { columns = names_answered scope s.items; rows = map (row_made scope s.items) groups }))
+
 -- over tables
 abbrev pub answered : List Table → Select → Result Answer Refusal
-answered tables s = and_then (bound_select (scope_of (map (λ (t : Table). t.schema) tables)) s) (answer_from (product (map (λ (t : Table). t.rows) tables)))
+answered tables s =
+    let scope = scope_of (map (λ (t : Table). t.schema) tables) in
+    let rows = filter (meets (option_map (predicate_of scope) s.cond)) (product (map (λ (t : Table). t.rows) tables)) in
+    unless (list_any (is_stranger scope) (columns_named s) || where_names_stranger scope s.cond) (bare NO_COLUMN)
+    (unless (has_bad_columns scope s.items s.order s.group) (bare BAD_COLUMNS)
+    (unless (where_mixes_kinds scope s.cond || list_any (sums_text scope) (listed s.items)) (bare WRONG_TYPE)
+    (answer_of scope s (groups_answered scope s rows))))
 
 -- the tables of these names, as a transaction sees them
 abbrev pub tables_seen : List Slot → ℕ → List (List ℕ) → List Table

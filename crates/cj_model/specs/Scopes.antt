@@ -2,8 +2,6 @@
 use Rattle.std.specs.Prelude.{ℕ, Bool, true, false, not, ◌&&◌, ◌||◌, ◌==◌, List, map, flat_map, count_by, position, slice_get, unwrap_or, option_map, is_none, if◌then◌else◌}
 use Rattle.std.specs.declared.option.Option.{Option}
 use Rattle.std.specs.declared.option.Option.TheVariants.{None, Some}
-use Rattle.std.specs.declared.result.Result.{Result}
-use Rattle.std.specs.declared.result.Result.TheVariants.{Ok, Err}
 use Rattle.std.specs.Str.{bytes_eq}
 use Rattle.cj_model.specs.declared.value.Kind.{Kind}
 use Rattle.cj_model.specs.declared.value.Kind.TheVariants as kind
@@ -14,7 +12,6 @@ use Rattle.cj_model.specs.declared.term.Expr.{Expr}
 use Rattle.cj_model.specs.declared.term.Expr.TheVariants.{One, Plus, Minus}
 use Rattle.cj_model.specs.declared.schema.Column.{Column}
 use Rattle.cj_model.specs.declared.schema.Schema.{Schema}
-use Rattle.cj_model.specs.declared.answer.Refusal.{Refusal}
 use Rattle.cj_model.specs.Values.{kind_of}
 use Rattle.cj_model.specs.Tables.{same_kind}
 use Rattle.cj_model.specs.Conditions.{Condition, Test, Not, And, Or}
@@ -28,11 +25,6 @@ Scope = List (List ℕ × Column)
 -- the columns of tables
 abbrev pub scope_of : List Schema → Scope
 scope_of schemas = flat_map (λ (s : Schema). map (λ (c : Column). (s.table, c)) s.columns) schemas
-
--- what is made of a statement that is not refused
-abbrev pub and_then : {A B : Type 0} → Result A Refusal → (A → Result B Refusal) → Result B Refusal
-and_then (Ok x) f = f x
-and_then (Err refusal) f = Err refusal
 
 -- ---- references to columns
 

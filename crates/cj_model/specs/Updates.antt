@@ -2,23 +2,20 @@
 use Rattle.std.specs.Prelude.{ℕ, Bool, not, ◌&&◌, ◌||◌, ◌==◌, List, [], ◌∷◌, map, filter, fold, count_by, slice_set, option_map, if◌then◌else◌}
 use Rattle.std.specs.declared.option.Option.{Option}
 use Rattle.std.specs.declared.option.Option.TheVariants.{None}
-use Rattle.std.specs.declared.result.Result.{Result}
 use Rattle.std.specs.declared.result.Result.TheVariants.{Ok}
 use Rattle.std.specs.List.{list_any}
 use Rattle.cj_model.specs.declared.value.Value.{Value}
 use Rattle.cj_model.specs.declared.term.ColRef.{ColRef}
-use Rattle.cj_model.specs.declared.schema.Schema.{Schema}
 use Rattle.cj_model.specs.declared.database.Table.{Table}
 use Rattle.cj_model.specs.declared.write.Set.{Set}
 use Rattle.cj_model.specs.declared.write.Write.{Write}
 use Rattle.cj_model.specs.declared.write.Write.TheVariants.{Insert, Update, Delete}
-use Rattle.cj_model.specs.declared.answer.Refusal.{Refusal}
 use Rattle.cj_model.specs.declared.codes.TheConstants.{NO_COLUMN, BAD_COLUMNS, OVERFLOW, WRONG_TYPE}
 use Rattle.cj_model.specs.Conditions.{Condition}
 use Rattle.cj_model.specs.Predicates.{Formula, Predicate}
 use Rattle.cj_model.specs.Tables.{is_distinct, same_kind}
 use Rattle.cj_model.specs.Changes.{Changed, bare, unless, inserted}
-use Rattle.cj_model.specs.Scopes.{Scope, scope_of, is_stranger, place, kind_at, expr_names_stranger, where_names_stranger, kind_of_expr, adds_text, where_mixes_kinds, formula_of, predicate_of, and_then}
+use Rattle.cj_model.specs.Scopes.{Scope, scope_of, is_stranger, place, kind_at, expr_names_stranger, where_names_stranger, kind_of_expr, adds_text, where_mixes_kinds, formula_of, predicate_of}
 use Rattle.cj_model.specs.Evaluation.{meets, worth, is_outside}
 
 -- ---- assignments
@@ -31,12 +28,9 @@ column_set s = record { table = None; column = s.column }
 abbrev pub set_names_stranger : Scope → Set → Bool
 set_names_stranger scope s = is_stranger scope (column_set s) || expr_names_stranger scope s.value
 
-abbrev pub name_set : Set → List ℕ
-name_set s = s.column
-
 -- a column is set twice
 abbrev pub sets_twice : List Set → Bool
-sets_twice sets = not (is_distinct (map name_set sets))
+sets_twice sets = not (is_distinct (map (λ (s : Set). s.column) sets))
 
 -- the column at the key's place is set
 abbrev pub sets_key : Scope → ℕ → Set → Bool
@@ -62,47 +56,32 @@ assigned assignments row = fold (λ new (a : Assignment). slice_set new a.place 
 abbrev pub overflows : List Assignment → List Value → Bool
 overflows assignments row = list_any (λ (a : Assignment). is_outside (worth row a.value)) assignments
 
--- ---- UPDATE
-
--- an UPDATE with its columns by places
-pub record BoundUpdate : Type 0 where
-  pub assignments : List Assignment
-  pub condition : Option Predicate
-
--- it, or the first refusal that looks at no row
-abbrev pub bound_update : Schema → List Set → Option Condition → Result BoundUpdate Refusal
-bound_update schema sets condition =
-    let scope = scope_of (schema ∷ []) in
-    unless (list_any (set_names_stranger scope) sets || where_names_stranger scope condition) (bare NO_COLUMN)
-    (unless (sets_twice sets || list_any (sets_key scope schema.key) sets) (bare BAD_COLUMNS)
-    (unless (list_any (set_mixes_kinds scope) sets || where_mixes_kinds scope condition) (bare WRONG_TYPE)
-    (Ok (record { assignments = map (assignment_of scope) sets; condition = option_map (predicate_of scope) condition }))))
+-- ---- UPDATE and DELETE
 
 -- the rows that meet the condition with their new values, and how many they are
-abbrev pub with_new_values : List (List Value) → BoundUpdate → Changed
-with_new_values rows u =
-    unless (list_any (λ r. meets u.condition r && overflows u.assignments r) rows) (bare OVERFLOW)
-    (Ok (map (λ r. if meets u.condition r then assigned u.assignments r else r) rows, count_by (meets u.condition) rows))
+abbrev pub with_new_values : List (List Value) → List Assignment → Option Predicate → Changed
+with_new_values rows assignments condition =
+    unless (list_any (λ r. meets condition r && overflows assignments r) rows) (bare OVERFLOW)
+    (Ok (map (λ r. if meets condition r then assigned assignments r else r) rows, count_by (meets condition) rows))
 
 abbrev pub updated : Table → List Set → Option Condition → Changed
-updated t sets condition = and_then (bound_update t.schema sets condition) (with_new_values t.rows)
-
--- ---- DELETE
-
--- its condition by places, or the first refusal
-abbrev pub bound_delete : Schema → Option Condition → Result (Option Predicate) Refusal
-bound_delete schema condition =
-    let scope = scope_of (schema ∷ []) in
-    unless (where_names_stranger scope condition) (bare NO_COLUMN)
-    (unless (where_mixes_kinds scope condition) (bare WRONG_TYPE)
-    (Ok (option_map (predicate_of scope) condition)))
+updated t sets condition =
+    let scope = scope_of (t.schema ∷ []) in
+    unless (list_any (set_names_stranger scope) sets || where_names_stranger scope condition) (bare NO_COLUMN)
+    (unless (sets_twice sets || list_any (sets_key scope t.schema.key) sets) (bare BAD_COLUMNS)
+    (unless (list_any (set_mixes_kinds scope) sets || where_mixes_kinds scope condition) (bare WRONG_TYPE)
+    (with_new_values t.rows (map (assignment_of scope) sets) (option_map (predicate_of scope) condition))))
 
 -- the rows that do not meet the condition, and how many do
 abbrev pub without_rows : List (List Value) → Option Predicate → Changed
 without_rows rows condition = Ok (filter (λ r. not (meets condition r)) rows, count_by (meets condition) rows)
 
 abbrev pub deleted : Table → Option Condition → Changed
-deleted t condition = and_then (bound_delete t.schema condition) (without_rows t.rows)
+deleted t condition =
+    let scope = scope_of (t.schema ∷ []) in
+    unless (where_names_stranger scope condition) (bare NO_COLUMN)
+    (unless (where_mixes_kinds scope condition) (bare WRONG_TYPE)
+    (without_rows t.rows (option_map (predicate_of scope) condition)))
 
 -- ---- any write
 

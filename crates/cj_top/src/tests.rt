@@ -31,6 +31,18 @@ const SYNTAX: &[u8] =
 const NO_TABLE: &[u8] =
     b"\x00\x00\x00\x13\x8f\x00\x15\x00\x00\x00\x00\x00\x00\x00\x00\x00\x00\x00\x00\x00\x00\x00\x00";
 
+const TABLE_EXISTS: &[u8] =
+    b"\x00\x00\x00\x13\x8f\x00\x16\x00\x00\x00\x00\x00\x00\x00\x00\x00\x00\x00\x00\x00\x00\x00\x00";
+
+const BAD_COLUMNS: &[u8] =
+    b"\x00\x00\x00\x13\x8f\x00\x18\x00\x00\x00\x00\x00\x00\x00\x00\x00\x00\x00\x00\x00\x00\x00\x00";
+
+const DUPLICATE: &[u8] =
+    b"\x00\x00\x00\x13\x8f\x00\x1b\x00\x00\x00\x00\x00\x00\x00\x00\x00\x00\x00\x00\x00\x00\x00\x00";
+
+const WRONG_TYPE: &[u8] =
+    b"\x00\x00\x00\x13\x8f\x00\x1c\x00\x00\x00\x00\x00\x00\x00\x00\x00\x00\x00\x00\x00\x00\x00\x00";
+
 const NOT_BUILT: &[u8] =
     b"\x00\x00\x00\x13\x8f\x00\x5a\x00\x00\x00\x00\x00\x00\x00\x00\x00\x00\x00\x00\x00\x00\x00\x00";
 
@@ -84,16 +96,19 @@ const STATEMENTS: [(&[&str], &[&[u8]]); 17] = [
     (&["SELECT * FROM u"], &[NO_TABLE]),
     (&["INSERT INTO u VALUES (1)"], &[NO_TABLE]),
     // the table is there already
-    (&[CREATE, CREATE], &[DONE_0, NOT_BUILT]),
+    (&[CREATE, CREATE], &[DONE_0, TABLE_EXISTS]),
     // the length of the tuple, the kind of a constant, the key that is there
-    (&[CREATE, "INSERT INTO t VALUES (1)"], &[DONE_0, NOT_BUILT]),
+    (
+        &[CREATE, "INSERT INTO t VALUES (1)"],
+        &[DONE_0, BAD_COLUMNS],
+    ),
     (
         &[CREATE, "INSERT INTO t VALUES ('a', 'a')"],
-        &[DONE_0, NOT_BUILT],
+        &[DONE_0, WRONG_TYPE],
     ),
     (
         &[CREATE, INSERT, "INSERT INTO t VALUES (1, 'b')", SELECT],
-        &[DONE_0, DONE_1, NOT_BUILT, ONE_ROW],
+        &[DONE_0, DONE_1, DUPLICATE, ONE_ROW],
     ),
     // the ends of 64 bits, and past them
     (
@@ -128,7 +143,7 @@ const STATEMENTS: [(&[&str], &[&[u8]]); 17] = [
             "CREATE TABLE t (k INTEGER PRIMARY KEY, v TEXT PRIMARY KEY)",
             "CREATE TABLE t (k INTEGER PRIMARY KEY, K TEXT)",
         ],
-        &[SYNTAX, SYNTAX, SYNTAX],
+        &[BAD_COLUMNS, BAD_COLUMNS, BAD_COLUMNS],
     ),
     // names of 32 and of 33 bytes
     (
@@ -146,15 +161,21 @@ const STATEMENTS: [(&[&str], &[&[u8]]); 17] = [
         ],
         &[DONE_0, SYNTAX],
     ),
-    // what the grammar has and this version does not read
+    // what is not built yet: transactions, the clock and random numbers
     (
         &[
+            CREATE,
             "BEGIN",
-            "INSERT INTO t VALUES (1, 'a'), (2, 'b')",
-            "SELECT k FROM t",
+            "COMMIT",
+            "ROLLBACK",
+            "INSERT INTO t VALUES (NOW(), 'a')",
+            "DELETE FROM t WHERE k = RAND(6)",
+            "DROP TABLE t",
             "DROP TABLE t",
         ],
-        &[SYNTAX, SYNTAX, SYNTAX, SYNTAX],
+        &[
+            DONE_0, NOT_BUILT, NOT_BUILT, NOT_BUILT, NOT_BUILT, NOT_BUILT, DONE_0, NO_TABLE,
+        ],
     ),
     // rows stand in rising key, texts by their bytes, a doubled quote is one
     (
@@ -542,8 +563,8 @@ fn scripts_give_their_lines(rt: HostRuntime) -> Result<(), Fail> {
         let mut output = Vec::new(alloc);
         for (line, given) in script {
             input.extend_from_slice(line.as_bytes())?;
-            // an empty line is skipped
-            input.extend_from_slice(b"\n\n")?;
+            // a blank line is skipped
+            input.extend_from_slice(b"\n \t\n")?;
             output.extend_from_slice(given.as_bytes())?;
             output.push(b'\n')?;
         }
@@ -556,8 +577,10 @@ fn scripts_give_their_lines(rt: HostRuntime) -> Result<(), Fail> {
 }
 
 /// Lines that are no move's.
-const WRONG: [&str; 17] = [
-    " ",
+const WRONG: [&str; 19] = [
+    " open ann",
+    "write 1 BEGIN",
+    "write 1 DELETE FROM t WHERE k = NOW()",
     "begin",
     "End",
     "end ",

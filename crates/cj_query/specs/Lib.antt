@@ -1,0 +1,5 @@
+pub mod Gathered
+pub mod Groups
+pub mod Refused
+pub mod Made
+pub mod Seen

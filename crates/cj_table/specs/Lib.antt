@@ -1,0 +1,4 @@
+pub mod Entries
+pub mod Layers
+pub mod Lookups
+pub mod RowEntries
