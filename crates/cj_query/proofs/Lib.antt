@@ -1,3 +1,4 @@
+pub mod EvenLaws
 pub mod GroupLaws
 pub mod KeyLaws
 pub mod OrderLaws
@@ -7,3 +8,6 @@ pub mod NameLaws
 pub mod MadeLaws
 pub mod JoinLaws
 pub mod AskLaws
+pub mod PathLaws
+pub mod CountLaws
+pub mod LimitLaws

@@ -65,7 +65,7 @@ fn runs<'b, 'a>(
 }
 
 /// Each row by itself.
-fn singles<'b, 'a>(alloc: Global, rows: &'b [&'a Row]) -> Result<Vec<&'b [&'a Row]>, NoMemory>
+pub fn singles<'b, 'a>(alloc: Global, rows: &'b [&'a Row]) -> Result<Vec<&'b [&'a Row]>, NoMemory>
     ensures { IfOk result (λ groups. rows_in groups.items ≡ map (λ row. row ∷ []) (map deref rows.now)) }
 {
     let mut out = Vec::new(alloc);

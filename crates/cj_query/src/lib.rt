@@ -8,5 +8,6 @@ mod groups;
 mod order;
 mod project;
 mod rows;
+mod single;
 
 pub use ask::select;

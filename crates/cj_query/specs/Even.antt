@@ -1,0 +1,10 @@
+-- Answers whose rows have a value for each column.
+use Rattle.std.specs.Prelude.{◌≡◌, length, All}
+use Rattle.cj_model.specs.declared.answer.Answer.{Answer}
+use Rattle.cj_model.specs.declared.answer.Asked.{Asked}
+use Rattle.cj_model.specs.declared.answer.Asked.TheVariants.{Rows, Refused}
+
+-- each row of an answer has a value for each column
+abbrev pub HasEvenRows : Asked → Type 0
+HasEvenRows (Rows answer) = All (λ row. length row ≡ length answer.columns) answer.rows
+HasEvenRows (Refused refusal) = Unit {0}
