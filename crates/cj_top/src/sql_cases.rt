@@ -24,10 +24,7 @@ const SCHEMAS: &[(&str, &str)] = &[
         "refused 24 0 0",
     ),
     ("SELECT * FROM t", "refused 21 0 0"),
-    (
-        "CREATE TABLE t (k INTEGER PRIMARY KEY, v TEXT)",
-        "done 0",
-    ),
+    ("CREATE TABLE t (k INTEGER PRIMARY KEY, v TEXT)", "done 0"),
     ("SELECT * FROM t", "rows 0"),
     ("INSERT INTO t VALUES (1, 'a')", "done 1"),
     (
@@ -37,10 +34,7 @@ const SCHEMAS: &[(&str, &str)] = &[
     ("CREATE TABLE T (j TEXT PRIMARY KEY)", "refused 22 0 0"),
     ("SELECT * FROM t", "rows 1\n1, 'a'"),
     // the primary key is any column
-    (
-        "CREATE TABLE u (v INTEGER, k TEXT PRIMARY KEY)",
-        "done 0",
-    ),
+    ("CREATE TABLE u (v INTEGER, k TEXT PRIMARY KEY)", "done 0"),
     ("INSERT INTO u VALUES (1, 'b'), (2, 'a')", "done 2"),
     ("SELECT * FROM u", "rows 2\n2, 'a'\n1, 'b'"),
     ("DROP TABLE T", "done 0"),
@@ -143,10 +137,7 @@ const INSERTS: &[(&str, &str)] = &[
     // a key whose row was deleted is free
     ("DELETE FROM t WHERE k = 3", "done 1"),
     ("INSERT INTO t VALUES (3, 'again', 33)", "done 1"),
-    (
-        "INSERT INTO t VALUES (3, 'again', 33)",
-        "refused 27 0 0",
-    ),
+    ("INSERT INTO t VALUES (3, 'again', 33)", "refused 27 0 0"),
     ("SELECT * FROM t WHERE k = 3", "rows 1\n3, 'again', 33"),
 ];
 
@@ -173,10 +164,7 @@ const UPDATES: &[(&str, &str)] = &[
         "SELECT * FROM t",
         "rows 3\n1, 100, 11, 'a'\n2, 220, 180, 'b'\n3, 330, 270, 'c'",
     ),
-    (
-        "UPDATE t SET s = 'z', v = t.w - 1 WHERE t.k = 3",
-        "done 1",
-    ),
+    ("UPDATE t SET s = 'z', v = t.w - 1 WHERE t.k = 3", "done 1"),
     ("SELECT * FROM t WHERE k = 3", "rows 1\n3, 269, 270, 'z'"),
     ("UPDATE t SET v = 1 - k, w = -5 - -7", "done 3"),
     (
@@ -198,7 +186,10 @@ const UPDATES: &[(&str, &str)] = &[
     ("UPDATE t SET v = 1 + x", "refused 23 0 0"),
     ("UPDATE t SET v = u.v", "refused 23 0 0"),
     ("UPDATE t SET v = 1 WHERE x = 1", "refused 23 0 0"),
-    ("UPDATE t SET v = 1 WHERE k = 1 OR u.k = 2", "refused 23 0 0"),
+    (
+        "UPDATE t SET v = 1 WHERE k = 1 OR u.k = 2",
+        "refused 23 0 0",
+    ),
     // a column that is set twice, and the primary key
     ("UPDATE t SET v = 1, w = 2, v = 1", "refused 24 0 0"),
     ("UPDATE t SET k = 5 WHERE k = 1", "refused 24 0 0"),
@@ -246,7 +237,10 @@ const DELETES: &[(&str, &str)] = &[
 
 /// The ends of 64 bits.
 const NUMBERS: &[(&str, &str)] = &[
-    ("CREATE TABLE t (k INTEGER PRIMARY KEY, v INTEGER)", "done 0"),
+    (
+        "CREATE TABLE t (k INTEGER PRIMARY KEY, v INTEGER)",
+        "done 0",
+    ),
     (
         "INSERT INTO t VALUES (9223372036854775807, 9223372036854775807), (007, 1), (0, -0), (-9223372036854775808, -9223372036854775808)",
         "done 4",
@@ -341,7 +335,10 @@ const NUMBERS: &[(&str, &str)] = &[
 
 /// Sums inside and outside 64 bits.
 const SUMS: &[(&str, &str)] = &[
-    ("CREATE TABLE t (k INTEGER PRIMARY KEY, v INTEGER)", "done 0"),
+    (
+        "CREATE TABLE t (k INTEGER PRIMARY KEY, v INTEGER)",
+        "done 0",
+    ),
     (
         "INSERT INTO t VALUES (1, 9223372036854775807), (2, 1), (3, -1), (4, -9223372036854775808), (5, -1)",
         "done 5",
@@ -381,10 +378,7 @@ const SUMS: &[(&str, &str)] = &[
         "SELECT g, SUM(v) FROM u GROUP BY g LIMIT 2",
         "refused 26 0 0",
     ),
-    (
-        "SELECT g, SUM(v) FROM u GROUP BY g LIMIT 1",
-        "rows 1\n1, 5",
-    ),
+    ("SELECT g, SUM(v) FROM u GROUP BY g LIMIT 1", "rows 1\n1, 5"),
     (
         "SELECT g, SUM(v) FROM u GROUP BY g ORDER BY g DESC LIMIT 1",
         "rows 1\n3, 9",
@@ -393,10 +387,7 @@ const SUMS: &[(&str, &str)] = &[
         "SELECT g, SUM(v) FROM u GROUP BY g ORDER BY g DESC LIMIT 2",
         "refused 26 0 0",
     ),
-    (
-        "SELECT g, SUM(v) FROM u GROUP BY g LIMIT 0",
-        "rows 0",
-    ),
+    ("SELECT g, SUM(v) FROM u GROUP BY g LIMIT 0", "rows 0"),
     (
         "SELECT g, COUNT(*) FROM u GROUP BY g",
         "rows 3\n1, 1\n2, 2\n3, 1",
@@ -427,15 +418,24 @@ const TEXTS: &[(&str, &str)] = &[
         "rows 3\n'𝄞'\n'～'\n'€'",
     ),
     ("SELECT COUNT(*) FROM t WHERE k < 'ä'", "rows 1\n7"),
-    ("SELECT k FROM t WHERE k >= '€' AND k < '𝄞'", "rows 2\n'€'\n'～'"),
+    (
+        "SELECT k FROM t WHERE k >= '€' AND k < '𝄞'",
+        "rows 2\n'€'\n'～'",
+    ),
     // capitals are other letters inside a string
     ("SELECT k FROM t WHERE k = 'A' OR k = 'b'", "rows 0"),
     ("SELECT k, v FROM t WHERE k = ''", "rows 1\n'', 'SELECT'"),
     ("SELECT k FROM t WHERE v = 'it''s'", "rows 1\n'ä'"),
     ("SELECT v FROM t WHERE k = ''''", "rows 1\n''''''"),
-    ("SELECT k FROM t WHERE v = '--' OR v = ';'", "rows 2\n'€'\n'～'"),
+    (
+        "SELECT k FROM t WHERE v = '--' OR v = ';'",
+        "rows 2\n'€'\n'～'",
+    ),
     ("SELECT k FROM t WHERE v = '  '", "rows 1\n' '"),
-    ("INSERT INTO t VALUES ('ö', ''), ('ä', '')", "refused 27 0 0"),
+    (
+        "INSERT INTO t VALUES ('ö', ''), ('ä', '')",
+        "refused 27 0 0",
+    ),
     ("UPDATE t SET v = k WHERE k = '𝄞'", "done 1"),
     ("SELECT v FROM t WHERE v = k", "rows 1\n'𝄞'"),
     ("DELETE FROM t WHERE v = ''", "done 4"),
@@ -478,17 +478,35 @@ const CONDITIONS: &[(&str, &str)] = &[
     ("SELECT k FROM t WHERE NOT k = 2", "rows 3\n1\n3\n4"),
     // NOT takes the next comparison alone, and AND comes before OR
     ("SELECT k FROM t WHERE NOT NOT v = 20", "rows 2\n2\n4"),
-    ("SELECT k FROM t WHERE NOT v = 20 AND s = 'a'", "rows 2\n1\n3"),
+    (
+        "SELECT k FROM t WHERE NOT v = 20 AND s = 'a'",
+        "rows 2\n1\n3",
+    ),
     (
         "SELECT k FROM t WHERE NOT (v = 20 AND s = 'b')",
         "rows 3\n1\n3\n4",
     ),
     ("SELECT k FROM t WHERE NOT (v = 20 OR s = 'a')", "rows 0"),
-    ("SELECT k FROM t WHERE NOT v = 20 OR s = 'b'", "rows 3\n1\n2\n3"),
-    ("SELECT k FROM t WHERE k = 1 OR k = 2 AND v = 30", "rows 1\n1"),
-    ("SELECT k FROM t WHERE (k = 1 OR k = 2) AND v = 30", "rows 0"),
-    ("SELECT k FROM t WHERE v = 30 AND k = 1 OR k = 4", "rows 1\n4"),
-    ("SELECT k FROM t WHERE v = 30 AND (k = 3 OR k = 4)", "rows 1\n3"),
+    (
+        "SELECT k FROM t WHERE NOT v = 20 OR s = 'b'",
+        "rows 3\n1\n2\n3",
+    ),
+    (
+        "SELECT k FROM t WHERE k = 1 OR k = 2 AND v = 30",
+        "rows 1\n1",
+    ),
+    (
+        "SELECT k FROM t WHERE (k = 1 OR k = 2) AND v = 30",
+        "rows 0",
+    ),
+    (
+        "SELECT k FROM t WHERE v = 30 AND k = 1 OR k = 4",
+        "rows 1\n4",
+    ),
+    (
+        "SELECT k FROM t WHERE v = 30 AND (k = 3 OR k = 4)",
+        "rows 1\n3",
+    ),
     (
         "SELECT k FROM t WHERE NOT k = 1 AND NOT (k = 2 OR NOT k < 4)",
         "rows 1\n3",
@@ -502,7 +520,10 @@ const CONDITIONS: &[(&str, &str)] = &[
     ("SELECT * FROM t WHERE u.k = 1", "refused 23 0 0"),
     // kinds agree in each comparison, met by a row or not
     ("SELECT k FROM t WHERE k = 'a'", "refused 28 0 0"),
-    ("SELECT k FROM t WHERE NOT (k = 9 AND s > 2)", "refused 28 0 0"),
+    (
+        "SELECT k FROM t WHERE NOT (k = 9 AND s > 2)",
+        "refused 28 0 0",
+    ),
     ("SELECT k FROM t WHERE k = s", "refused 28 0 0"),
     ("SELECT k FROM t WHERE k = 9 AND 1 = 'a'", "refused 28 0 0"),
 ];
@@ -571,14 +592,23 @@ const JOINS: &[(&str, &str)] = &[
         "CREATE TABLE b (id INTEGER PRIMARY KEY, k INTEGER, w INTEGER)",
         "done 0",
     ),
-    ("CREATE TABLE c (name TEXT PRIMARY KEY, w INTEGER)", "done 0"),
+    (
+        "CREATE TABLE c (name TEXT PRIMARY KEY, w INTEGER)",
+        "done 0",
+    ),
     ("CREATE TABLE d (k INTEGER PRIMARY KEY)", "done 0"),
-    ("INSERT INTO a VALUES (1, 'p'), (2, 'q'), (3, 'r')", "done 3"),
+    (
+        "INSERT INTO a VALUES (1, 'p'), (2, 'q'), (3, 'r')",
+        "done 3",
+    ),
     (
         "INSERT INTO b VALUES (10, 2, 7), (20, 1, 8), (30, 2, 9), (40, 5, 6)",
         "done 4",
     ),
-    ("INSERT INTO c VALUES ('x', 7), ('y', 8), ('z', 9)", "done 3"),
+    (
+        "INSERT INTO c VALUES ('x', 7), ('y', 8), ('z', 9)",
+        "done 3",
+    ),
     ("INSERT INTO d VALUES (2)", "done 1"),
     // rows stand by the keys of the tables in the order of FROM
     (
@@ -614,7 +644,10 @@ const JOINS: &[(&str, &str)] = &[
         "SELECT a.k, id FROM a, b WHERE a.k = b.k AND id = 20 OR a.k = 3 AND b.w = 6",
         "rows 2\n1, 20\n3, 40",
     ),
-    ("SELECT v, id FROM a, b WHERE id = 40 AND v = 'r'", "rows 1\n'r', 40"),
+    (
+        "SELECT v, id FROM a, b WHERE id = 40 AND v = 'r'",
+        "rows 1\n'r', 40",
+    ),
     (
         "SELECT v, id FROM a, b WHERE NOT a.k <> b.k AND 2 = a.k",
         "rows 2\n'q', 10\n'q', 30",
@@ -660,7 +693,10 @@ const JOINS: &[(&str, &str)] = &[
     ),
     // a name that two tables have
     ("SELECT k FROM a, b", "refused 23 0 0"),
-    ("SELECT v FROM a, b WHERE a.k = b.k AND k = 1", "refused 23 0 0"),
+    (
+        "SELECT v FROM a, b WHERE a.k = b.k AND k = 1",
+        "refused 23 0 0",
+    ),
     ("SELECT v FROM a, b ORDER BY a.k, k", "refused 23 0 0"),
     ("SELECT name, w FROM b, c", "refused 23 0 0"),
     // a table that isn't in FROM, and a column of the other table
@@ -671,7 +707,10 @@ const JOINS: &[(&str, &str)] = &[
     ("SELECT a.k FROM a, e", "refused 21 0 0"),
     ("SELECT e.k FROM e, a", "refused 21 0 0"),
     ("SELECT v FROM a, b WHERE v = id", "refused 28 0 0"),
-    ("SELECT v FROM a, b WHERE a.k = b.k AND a.v <> b.k", "refused 28 0 0"),
+    (
+        "SELECT v FROM a, b WHERE a.k = b.k AND a.v <> b.k",
+        "refused 28 0 0",
+    ),
 ];
 
 /// COUNT, SUM and GROUP BY.
@@ -689,7 +728,10 @@ const GROUPS: &[(&str, &str)] = &[
         "SELECT COUNT(*), SUM(v), SUM(k), COUNT(*) FROM t",
         "rows 1\n6, 13, 21, 6",
     ),
-    ("SELECT COUNT(*), SUM(t.v) FROM t WHERE g = 'b'", "rows 1\n3, 8"),
+    (
+        "SELECT COUNT(*), SUM(t.v) FROM t WHERE g = 'b'",
+        "rows 1\n3, 8",
+    ),
     ("SELECT COUNT(*), SUM(v) FROM t WHERE k > 6", "rows 1\n0, 0"),
     ("SELECT COUNT(*) FROM t WHERE k = 3", "rows 1\n1"),
     ("SELECT COUNT(*) FROM t LIMIT 1", "rows 1\n6"),
@@ -712,17 +754,20 @@ const GROUPS: &[(&str, &str)] = &[
         "SELECT t.g, COUNT(*) FROM t GROUP BY g ORDER BY g ASC, t.g DESC LIMIT 1",
         "rows 1\n'a', 2",
     ),
-    ("SELECT G FROM t GROUP BY t.g ORDER BY t.g", "rows 3\n'a'\n'b'\n'c'"),
+    (
+        "SELECT G FROM t GROUP BY t.g ORDER BY t.g",
+        "rows 3\n'a'\n'b'\n'c'",
+    ),
     (
         "SELECT g, COUNT(*) FROM t WHERE v > 0 GROUP BY g",
         "rows 2\n'a', 2\n'b', 2",
     ),
     ("SELECT g, COUNT(*) FROM t WHERE k > 6 GROUP BY g", "rows 0"),
+    ("SELECT g, COUNT(*) FROM t GROUP BY g LIMIT 0", "rows 0"),
     (
-        "SELECT g, COUNT(*) FROM t GROUP BY g LIMIT 0",
-        "rows 0",
+        "SELECT k, SUM(v) FROM t GROUP BY k LIMIT 2",
+        "rows 2\n1, 5\n2, 1",
     ),
-    ("SELECT k, SUM(v) FROM t GROUP BY k LIMIT 2", "rows 2\n1, 5\n2, 1"),
     (
         "SELECT v, COUNT(*) FROM t GROUP BY v",
         "rows 5\n-2, 1\n0, 1\n1, 1\n4, 1\n5, 2",
@@ -737,9 +782,15 @@ const GROUPS: &[(&str, &str)] = &[
     // columns other than the group's
     ("SELECT * FROM t GROUP BY g", "refused 24 0 0"),
     ("SELECT k FROM t GROUP BY g", "refused 24 0 0"),
-    ("SELECT g, COUNT(*), t.v FROM t GROUP BY g", "refused 24 0 0"),
+    (
+        "SELECT g, COUNT(*), t.v FROM t GROUP BY g",
+        "refused 24 0 0",
+    ),
     ("SELECT g FROM t GROUP BY g ORDER BY k", "refused 24 0 0"),
-    ("SELECT g FROM t GROUP BY g ORDER BY g, t.v", "refused 24 0 0"),
+    (
+        "SELECT g FROM t GROUP BY g ORDER BY g, t.v",
+        "refused 24 0 0",
+    ),
     // counts or sums in an order
     ("SELECT COUNT(*) FROM t ORDER BY k", "refused 24 0 0"),
     ("SELECT SUM(v) FROM t ORDER BY v", "refused 24 0 0"),
@@ -761,7 +812,10 @@ const EMPTY: &[(&str, &str)] = &[
     ("CREATE TABLE u (j INTEGER PRIMARY KEY)", "done 0"),
     ("INSERT INTO u VALUES (1)", "done 1"),
     ("SELECT * FROM t", "rows 0"),
-    ("SELECT * FROM t WHERE k = 1 ORDER BY v DESC LIMIT 1", "rows 0"),
+    (
+        "SELECT * FROM t WHERE k = 1 ORDER BY v DESC LIMIT 1",
+        "rows 0",
+    ),
     ("SELECT COUNT(*), SUM(v), SUM(k) FROM t", "rows 1\n0, 0, 0"),
     ("SELECT s, COUNT(*) FROM t GROUP BY s", "rows 0"),
     ("SELECT * FROM t, u", "rows 0"),
@@ -792,8 +846,14 @@ const FIRST_REFUSALS: &[(&str, &str)] = &[
     ("CREATE TABLE t (k INTEGER, k TEXT)", "refused 22 0 0"),
     // no table, and all else
     ("INSERT INTO u (x, x) VALUES ('a')", "refused 21 0 0"),
-    ("UPDATE u SET x = 1, x = 'a' WHERE 1 = 'a'", "refused 21 0 0"),
-    ("DELETE FROM u WHERE u.x = 1 AND t.k = 'a'", "refused 21 0 0"),
+    (
+        "UPDATE u SET x = 1, x = 'a' WHERE 1 = 'a'",
+        "refused 21 0 0",
+    ),
+    (
+        "DELETE FROM u WHERE u.x = 1 AND t.k = 'a'",
+        "refused 21 0 0",
+    ),
     ("SELECT x, COUNT(*) FROM u WHERE 1 = 'a'", "refused 21 0 0"),
     ("SELECT x FROM t, u WHERE t.k = 'a'", "refused 21 0 0"),
     // no column, and columns that don't fit
@@ -804,16 +864,28 @@ const FIRST_REFUSALS: &[(&str, &str)] = &[
     ("SELECT COUNT(*) FROM t ORDER BY x", "refused 23 0 0"),
     ("SELECT * FROM t GROUP BY x", "refused 23 0 0"),
     // no column, and kinds
-    ("INSERT INTO t (k, v, x) VALUES ('a', 'b', 3)", "refused 23 0 0"),
+    (
+        "INSERT INTO t (k, v, x) VALUES ('a', 'b', 3)",
+        "refused 23 0 0",
+    ),
     ("UPDATE t SET v = 'a', s = x", "refused 23 0 0"),
     ("DELETE FROM t WHERE k = 'a' OR x = 1", "refused 23 0 0"),
     ("SELECT k FROM t WHERE k = 'a' AND 1 = x", "refused 23 0 0"),
     // no column, and a number outside 64 bits
-    ("UPDATE t SET v = v + 1 WHERE k = 1 OR x = 1", "refused 23 0 0"),
+    (
+        "UPDATE t SET v = v + 1 WHERE k = 1 OR x = 1",
+        "refused 23 0 0",
+    ),
     ("SELECT SUM(v), SUM(x) FROM t", "refused 23 0 0"),
     // columns that don't fit, and kinds
-    ("INSERT INTO t VALUES ('a', 'b', 1), (3, 4)", "refused 24 0 0"),
-    ("INSERT INTO t (k, v, v) VALUES ('a', 1, 1)", "refused 24 0 0"),
+    (
+        "INSERT INTO t VALUES ('a', 'b', 1), (3, 4)",
+        "refused 24 0 0",
+    ),
+    (
+        "INSERT INTO t (k, v, v) VALUES ('a', 1, 1)",
+        "refused 24 0 0",
+    ),
     ("UPDATE t SET v = 'a', k = 2", "refused 24 0 0"),
     ("UPDATE t SET v = s, v = 1 WHERE k = 'a'", "refused 24 0 0"),
     ("SELECT k, SUM(s) FROM t", "refused 24 0 0"),
@@ -823,7 +895,10 @@ const FIRST_REFUSALS: &[(&str, &str)] = &[
     ("UPDATE t SET v = v + 1, k = 2", "refused 24 0 0"),
     ("SELECT k, SUM(v) FROM t", "refused 24 0 0"),
     // kinds, and what the rows refuse
-    ("INSERT INTO t VALUES (1, 1, 'a'), (3, 3, 3)", "refused 28 0 0"),
+    (
+        "INSERT INTO t VALUES (1, 1, 'a'), (3, 3, 3)",
+        "refused 28 0 0",
+    ),
     ("UPDATE t SET v = v + 1, s = 1", "refused 28 0 0"),
     ("UPDATE t SET v = v + 1 WHERE s = 1", "refused 28 0 0"),
     ("SELECT SUM(v), SUM(s) FROM t", "refused 28 0 0"),
