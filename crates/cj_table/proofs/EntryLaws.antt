@@ -320,6 +320,13 @@ module _ {K : Type 0} (R : K → K → Ordering) where
         (ap is_some (at_remove c.0 es k u ∙ cond-false _ _ _ other) ∙ All-head (λ c. is_some (at c.0 es) ≡ true) c cs a)
         (known_above es k cs u h.1 (All-tail (λ c. is_some (at c.0 es) ≡ true) c cs a))
 
+  pub remove_absent : {X : Type 0} (k : K) (es : List (K × X)) → lookup (is_at (R k)) es ≡ None → remove_entry (is_at (R k)) es ≡ es
+  remove_absent k [] n = refl
+  remove_absent k (e ∷ es) n = ⊎_elim
+      (λ (t : is_at (R k) e.0 ≡ true). cc (sym n ∙ cond-true _ _ _ t))
+      (λ (f : is_at (R k) e.0 ≡ false). cond-false _ _ _ f ∙ ap (λ (l : List (K × _)). e ∷ l) (remove_absent k es (sym (cond-false _ _ _ f) ∙ n)))
+      (cases_Bool (is_at (R k) e.0))
+
   pub merged_none : {X : Type 0} (es : List (K × X)) → merged R es [] ≡ es
   merged_none [] = refl
   merged_none (e ∷ es) = ap (λ (l : List (K × _)). e ∷ l) (merged_none es)

@@ -14,7 +14,7 @@ use Rattle.cj_model.specs.Values.{value_cmp, value_total, value_exact}
 use Rattle.cj_table.specs.Entries.{KeysRise, KeysAbove, at}
 use Rattle.cj_table.specs.Layers.{kept, merged, changed}
 use Rattle.cj_table.specs.RowEntries.{RowEntries, knows, KnowsKeys, overlaid, Extends, HasKeysOf}
-use Rattle.cj_table.proofs.EntryLaws.{at_remove, taken_back, note_change, commit_change, merged_none, rise_remove, all_remove, rise_kept, rise_merged, prepared, known_after, known_itself, all_insert}
+use Rattle.cj_table.proofs.EntryLaws.{at_remove, remove_absent, taken_back, note_change, commit_change, merged_none, rise_remove, all_remove, rise_kept, rise_merged, prepared, known_after, known_itself, all_insert}
 
 abbrev Rising : RowEntries → Type 0
 Rising es = KeysRise value_cmp es
@@ -119,3 +119,10 @@ module _ (below mid new s t : RowEntries) (key : Value) (row : Option (List Valu
 
   pub first_known : KnowsKeys mid s → knows mid key ≡ true
   first_known h = All-head (λ c. knows mid c.0 ≡ true) (key, row) t (subst (KnowsKeys mid) is h)
+
+-- a key that has no row does not show
+pub forgotten : (es : RowEntries) (key : Value) → Rising es → at value_cmp key (kept es) ≡ None → kept (remove_entry (is_at (value_cmp key)) es) ≡ kept es
+forgotten es key u n = taken_back value_cmp value_total value_exact [] es key tt u refl ∙ remove_absent value_cmp key (kept es) n
+
+pub keys_twice : (old changes mid new : RowEntries) → HasKeysOf old changes mid → HasKeysOf mid changes new → HasKeysOf old changes new
+keys_twice old changes mid new h g = record { each = λ p a b. g.each p (h.each p a b) b }

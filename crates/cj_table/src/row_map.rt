@@ -170,6 +170,30 @@ impl RowMap {
     }
 }
 
+impl RowMap {
+    /// Forgets a key that has no row.
+    fn forget_key(&mut self, key: &Value)
+        ensures kept { kept self.new ≡ kept self.old }
+        ensures rises { KeysRise value_cmp self.new }
+    {
+        self.rises();
+        if self.row(key).is_none() {
+            self.remove(key);
+        }
+    }
+
+    /// Forgets those keys of changes that have no row.
+    pub fn forget(&mut self, changes: RowMap)
+        ensures kept { kept self.new ≡ kept self.old }
+        ensures rises { KeysRise value_cmp self.new }
+    {
+        self.rises();
+        for (key, _) in &changes.rows {
+            self.forget_key(key);
+        }
+    }
+}
+
 /// Which comes first, an entry or a change, where their keys have this order. An entry without a
 /// row is passed over at once.
 fn turn(row: &Option<Row>, order: Ordering) -> Ordering

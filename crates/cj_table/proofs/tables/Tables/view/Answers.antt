@@ -3,14 +3,12 @@ use Rattle.std.specs.Prelude.{IfSome}
 use Rattle.std.specs.declared.option.Option.{Option}
 use Rattle.std.specs.declared.option.Option.TheVariants.{Some}
 use Rattle.cj_model.specs.declared.database.Slot.{Slot}
-use Rattle.cj_model.specs.declared.database.Table.{Table}
-use Rattle.cj_model.specs.Tables.{IsTable, IsSlot, slot_of}
-use Rattle.cj_model.proofs.DatabaseLaws.{found_is_slot, seen_is_table}
+use Rattle.cj_model.specs.Tables.{IsSlot, slot_of}
+use Rattle.cj_model.proofs.DatabaseLaws.{found_is_slot}
 use Rattle.cj_table.proofs.tables.Tables.view.Goals as goal
 
 pub of-requires : goal.of-requires
 of-requires c =
     let name = c.args.table.now in
     let found : slot_of c.self.inside.slots.items name ≡ Some c.in-Some.slot.now = ap (λ (db : List Slot). slot_of db name) (sym c.deref.ensures.value) ∙ sym c.in-Some.ensures in
-    let is : IsSlot c.in-Some.slot.now = subst (λ (o : Option Slot). IfSome o IsSlot) found (found_is_slot c.self.inside.slots.items name c.self.invariant) in
-    subst IsTable (sym c.seen_by.ensures) (seen_is_table c.in-Some.slot.now c.args.tx is)
+    subst (λ (o : Option Slot). IfSome o IsSlot) found (found_is_slot c.self.inside.slots.items name c.self.invariant)
