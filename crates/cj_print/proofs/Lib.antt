@@ -1,2 +1,6 @@
+pub mod Appended
+pub mod CanonicalForm
+pub mod FewestParentheses
+pub mod Forms
 pub mod ReadBack
 pub mod Texts
