@@ -250,7 +250,7 @@ where_fine (Some x) rest h = cond_fine x rest h.1
 
 -- each item of a list is fine, where one is
 commas_fine : {A B : Type 0} (item : A → List Token → List Token) (f : A → B) (P : B → Type 0) → ((x : A) (rest : List Token) → AreTokens (item x rest) → P (f x) × AreTokens rest)
-  → (xs : List A) (rest : List Token) → AreTokens (commas item xs rest) → EachFits P (map f xs) × AreTokens rest
+    → (xs : List A) (rest : List Token) → AreTokens (commas item xs rest) → EachFits P (map f xs) × AreTokens rest
 commas_fine item f P k [] rest h = (tt, h)
 commas_fine item f P k (x ∷ []) rest h = let a = k x rest h in ((a.0, tt), a.1)
 commas_fine item f P k (x ∷ y ∷ more) rest h =
@@ -259,7 +259,7 @@ commas_fine item f P k (x ∷ y ∷ more) rest h =
 
 -- the same, of items that mean themselves
 list_fine : {A : Type 0} (item : A → List Token → List Token) (P : A → Type 0) → ((x : A) (rest : List Token) → AreTokens (item x rest) → P x × AreTokens rest)
-  → (xs : List A) (rest : List Token) → AreTokens (commas item xs rest) → EachFits P xs × AreTokens rest
+    → (xs : List A) (rest : List Token) → AreTokens (commas item xs rest) → EachFits P xs × AreTokens rest
 list_fine item P k [] rest h = (tt, h)
 list_fine item P k (x ∷ []) rest h = let a = k x rest h in ((a.0, tt), a.1)
 list_fine item P k (x ∷ y ∷ more) rest h =
