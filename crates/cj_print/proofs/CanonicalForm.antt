@@ -1,21 +1,18 @@
 -- The canonical form of what a statement means means the same, and fits where the statement does.
-use Rattle.std.proofs.Common.{◌≡◌, ◌∙◌, refl, sym, ap, subst, ℕ, ◌<◌, ◌≤◌, Bool, List, [], ◌∷◌, length, map, Option, Some, None, arith}
+use Rattle.std.proofs.Common.{◌≡◌, ◌∙◌, refl, ap, ℕ, Bool, List, [], ◌∷◌, length, map, Option, Some, None, arith}
 use Rattle.std.proofs.lemmas.List.{length-map}
 use Rattle.cj_model.specs.declared.term.Expr.{Expr}
 use Rattle.cj_model.specs.declared.select.Key.{Key}
-use Rattle.cj_model.specs.declared.select.Items.{Items}
 use Rattle.cj_model.specs.declared.select.Select.{Select}
 use Rattle.cj_model.specs.declared.write.Set.{Set}
 use Rattle.cj_model.specs.declared.write.Write.TheVariants as write
-use Rattle.cj_model.specs.declared.request.Request.{Request}
 use Rattle.cj_model.specs.declared.request.Request.TheVariants as request
-use Rattle.cj_model.specs.declared.term.Term.{Term}
 use Rattle.cj_model.specs.Conditions.{Condition}
-use Rattle.cj_model.specs.TermForms.{EachFits, SomeFit, ConstForm, const_meant, ConstFits}
+use Rattle.cj_model.specs.TermForms.{EachFits, SomeFit, const_meant, ConstFits}
 use Rattle.cj_model.specs.ConditionForms.{CondForm}
 use Rattle.cj_model.specs.Grammar as g
 use Rattle.cj_model.specs.Grammar.{SetForm, Direction, KeyForm, SelectForm, Statement, set_meant, where_meant, descends, key_meant, select_meant, statement_meant, SetFits, WhereFits, SelectFits, StatementFits}
-use Rattle.cj_print.proofs.Forms.{const_form, expr_form, forms, where_form, set_form, direction_form, key_form, select_form, form}
+use Rattle.cj_print.proofs.Forms.{const_form, where_form, set_form, direction_form, key_form, select_form, form}
 use Rattle.cj_print.proofs.FewestParentheses.{const_means, const_least, expr_means, expr_least, cond_means, cond_fits}
 
 -- ---- lists

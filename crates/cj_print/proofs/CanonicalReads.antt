@@ -1,9 +1,8 @@
 -- Wherever some text reads as a request, its canonical text reads as it.
-use Rattle.std.proofs.Common.{◌≡◌, refl, sym, subst, ℕ, List, [], ◌∷◌, ◌++◌, false}
+use Rattle.std.proofs.Common.{refl, sym, subst, [], false}
 use Rattle.std.proofs.lemmas.List.{append-nil}
-use Rattle.cj_model.specs.declared.request.Request.{Request}
 use Rattle.cj_model.specs.Lexical.{Tokens}
-use Rattle.cj_model.specs.Grammar.{Statement, statement_tokens, statement_meant, StatementFits, end_tokens, Reads, TextReads}
+use Rattle.cj_model.specs.Grammar.{Statement, statement_tokens, statement_meant, StatementFits, end_tokens, TextReads}
 use Rattle.cj_print.specs.Canonical.{canonical, CanonicalReadsBack}
 use Rattle.cj_print.proofs.Forms.{form}
 use Rattle.cj_print.proofs.CanonicalForm.{form_means, form_fits}

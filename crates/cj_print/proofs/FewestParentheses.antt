@@ -1,10 +1,5 @@
 -- The canonical form of a condition means it, and fits wherever another form of it fits.
-use Rattle.std.proofs.Common.{◌≡◌, ◌∙◌, refl, sym, ap, subst, ℕ, zero, suc, ◌<◌, ◌≤◌, ◌^◌, pos, negsuc, arith}
-use Rattle.cj_model.specs.declared.value.Value.TheVariants as value
-use Rattle.cj_model.specs.declared.term.Term.{Term}
-use Rattle.cj_model.specs.declared.term.Term.TheVariants as term
-use Rattle.cj_model.specs.declared.term.Expr.{Expr}
-use Rattle.cj_model.specs.declared.term.Expr.TheVariants as expr
+use Rattle.std.proofs.Common.{◌≡◌, ◌∙◌, refl, sym, ap, subst, ℕ, zero, suc, ◌≤◌, arith}
 use Rattle.cj_model.specs.Conditions.{Condition, Test, Not, And, Or}
 use Rattle.cj_model.specs.TermForms as t
 use Rattle.cj_model.specs.TermForms.{ConstForm, TermForm, ExprForm, const_meant, term_meant, expr_meant, ConstFits, TermFits, ExprFits}

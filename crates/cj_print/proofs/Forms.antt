@@ -1,6 +1,5 @@
 -- What is written of a request in its canonical text.
-use Rattle.std.proofs.Common.{ℕ, suc, Bool, true, false, List, [], ◌∷◌, map, pos, negsuc, Option, Some, None}
-use Rattle.cj_model.specs.declared.value.Value.TheVariants as value
+use Rattle.std.proofs.Common.{Bool, true, false, map, pos, negsuc, Option, Some, None}
 use Rattle.cj_model.specs.declared.term.Term.{Term}
 use Rattle.cj_model.specs.declared.term.Term.TheVariants as term
 use Rattle.cj_model.specs.declared.term.Expr.{Expr}

@@ -1,8 +1,7 @@
 -- How texts of a token or some are put before others.
-use Rattle.std.proofs.Common.{◌≡◌, refl, sym, subst, ℕ, ◌≤◌, ◌^◌, ◌<◌, Bool, true, false, ◌==◌, List, [], ◌∷◌, ◌++◌, length, map, inl, codes, arith}
+use Rattle.std.proofs.Common.{◌≡◌, refl, sym, ℕ, ◌≤◌, ◌^◌, ◌<◌, false, ◌==◌, List, [], ◌∷◌, ◌++◌, inl, codes, arith}
 use Rattle.std.specs.Fmt.{decimal}
-use Rattle.std.specs.Char.{is_ascii_digit}
-use Rattle.std.proofs.lemmas.List.{append-nil, append_assoc}
+use Rattle.std.proofs.lemmas.List.{append_assoc}
 use Rattle.std.proofs.lemmas.Bool.Decides.{nat_tests}
 use Rattle.std.proofs.lemmas.Fmt.{digits_value-decimal}
 use Rattle.cj_model.specs.declared.token.Keyword.{Keyword}
@@ -11,8 +10,7 @@ use Rattle.cj_model.specs.declared.token.Symbol.{Symbol}
 use Rattle.cj_model.specs.declared.token.Symbol.TheVariants as symbol
 use Rattle.cj_model.specs.declared.token.Token.{Token}
 use Rattle.cj_model.specs.declared.token.Token.TheVariants as token
-use Rattle.cj_model.specs.Words.{lower}
-use Rattle.cj_model.specs.Lexical.{is_blank, is_word, Each, EndsBefore, IsWord, IsDigits, IsSymbol, doubled, keyword, Spells, Ends, First, Tokens}
+use Rattle.cj_model.specs.Lexical.{is_word, EndsBefore, IsDigits, doubled, keyword, Spells, Ends, Tokens}
 use Rattle.cj_print.proofs.Texts.{numerals}
 use Rattle.cj_print.proofs.ReadBack.{decimal_digits}
 use Rattle.cj_print.proofs.Spellable.{IsToken}
