@@ -2,7 +2,7 @@
 
 ghost use Rattle.std.specs.Prelude.{◌≡◌, ◌++◌, OnOk};
 ghost use Rattle.cj_model.specs.ConditionShape.{shape};
-ghost use Rattle.cj_print.specs.Canonical.{bracketed, closing, cmp_text, cond_text, opening, where_text};
+ghost use Rattle.cj_print.specs.Canonical.{bracketed, cmp_text, cond_text, where_text};
 ghost use Rattle.cj_print.specs.Canonical as texts;
 
 use crate::part::Part;
@@ -44,14 +44,14 @@ fn cmp_words(cmp: Cmp) -> &'static [u8]
     }
 }
 
-fn opening_words(needed: bool) -> &'static [u8]
-    ensures { result.now ≡ opening needed }
+fn opening(needed: bool) -> &'static [u8]
+    ensures { result.now ≡ texts.opening needed }
 {
     if needed { b"(" } else { b"" }
 }
 
-fn closing_words(needed: bool) -> &'static [u8]
-    ensures { result.now ≡ closing needed }
+fn closing(needed: bool) -> &'static [u8]
+    ensures { result.now ≡ texts.closing needed }
 {
     if needed { b")" } else { b"" }
 }
@@ -65,7 +65,7 @@ fn append_node(
 ) -> Result<(), NoMemory>
     ensures { OnOk result (text.new.items ≡ text.old.items ++ bracketed needed (cond_text (shape node.now))) }
 {
-    text.extend_from_slice(opening_words(needed))?;
+    text.extend_from_slice(opening(needed))?;
     match node {
         CondNode::Test(cmp, left, right) => {
             left.append(alloc, text)?;
@@ -87,7 +87,7 @@ fn append_node(
             append_node(alloc, text, right, is_or(right))?;
         }
     }
-    text.extend_from_slice(closing_words(needed))?;
+    text.extend_from_slice(closing(needed))?;
     Ok(())
 }
 

@@ -123,7 +123,7 @@ fn append_order(alloc: Global, text: &mut Vec<u8>, keys: &[Key]) -> Result<(), N
 {
     match keys {
         [] => Ok(()),
-        [_first, _rest @ ..] => {
+        [_, ..] => {
             text.extend_from_slice(b" ORDER BY ")?;
             append_separated(alloc, text, keys)
         }
