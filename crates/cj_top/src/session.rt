@@ -9,8 +9,7 @@ ghost use Rattle.cj_top.specs.Answers.{Answers, IsReadable, LogsIn};
 
 use crate::send::{bare, send};
 use cj_model::{
-    Asked, Message, NOT_BUILT, NOT_LOGGED_IN, NoMemory, Outcome, Reply, Request,
-    SYNTAX,
+    Asked, Message, NOT_BUILT, NOT_LOGGED_IN, NoMemory, Outcome, Reply, Request, SYNTAX,
 };
 use cj_outside::{OutError, Sink};
 use cj_query::select;
