@@ -14,9 +14,9 @@ use Rattle.cj_model.specs.declared.answer.Asked.{Asked}
 use Rattle.cj_model.specs.declared.answer.Asked.TheVariants as asked
 use Rattle.cj_model.specs.declared.answer.Outcome.{Outcome}
 use Rattle.cj_model.specs.declared.answer.Outcome.TheVariants as outcome
-use Rattle.cj_model.specs.declared.codes.TheConstants.{NO_TABLE, NO_COLUMN, BAD_COLUMNS, OVERFLOW, WRONG_TYPE, ROWS_FULL, NOT_BUILT}
+use Rattle.cj_model.specs.declared.codes.TheConstants.{NO_TABLE, NO_COLUMN, BAD_COLUMNS, OVERFLOW, WRONG_TYPE, ROWS_FULL}
 use Rattle.cj_model.specs.Steps.{acted}
-use Rattle.cj_model.specs.Asks.{ask}
+use Rattle.cj_model.specs.Queries.{ask}
 use Rattle.cj_backend.specs.declared.backend.BackendError.{BackendError}
 use Rattle.cj_backend.specs.declared.backend.BackendError.TheVariants as errors
 
@@ -67,7 +67,7 @@ begun_without begun tx (Err e) = begun
 
 -- the refusals of a change
 abbrev pub IsChangeCode : ℕ → Type 0
-IsChangeCode code = ((NO_TABLE ≤ code) × (code ≤ ROWS_FULL)) ⊎ (code ≡ NOT_BUILT)
+IsChangeCode code = (NO_TABLE ≤ code) × (code ≤ ROWS_FULL)
 
 -- what a change may come to
 abbrev pub IsOutcome : Outcome → Type 0
@@ -77,7 +77,7 @@ IsOutcome (outcome.Refused refusal) = IsChangeCode refusal.code
 -- the refusals of a query
 abbrev pub IsQueryCode : ℕ → Type 0
 IsQueryCode code =
-    (code ≡ NO_TABLE) ⊎ (code ≡ NO_COLUMN) ⊎ (code ≡ BAD_COLUMNS) ⊎ (code ≡ OVERFLOW) ⊎ (code ≡ WRONG_TYPE) ⊎ (code ≡ NOT_BUILT)
+    (code ≡ NO_TABLE) ⊎ (code ≡ NO_COLUMN) ⊎ (code ≡ BAD_COLUMNS) ⊎ (code ≡ OVERFLOW) ⊎ (code ≡ WRONG_TYPE)
 
 -- the most columns of an answer
 abbrev pub answer_limit : ℕ

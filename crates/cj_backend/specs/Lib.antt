@@ -1,4 +1,1 @@
 pub mod Backends
-pub mod Places
-pub mod Plain
-pub mod PlainBackends

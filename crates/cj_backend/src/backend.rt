@@ -134,6 +134,7 @@ pub trait Backend {
 
     /// Answers a query of transaction `tx`, 0 for none.
     fn ask(&mut self, user: &Text, tx: u64, select: &Select) -> Result<Asked, BackendError>
+        requires { IsWritten (request.Select select.now) }
         ensures answer { SaysAnswer (told self.old) tx select.now result }
         ensures possible { IfOk result IsAsked }
         ensures told { told self.new ≡ told self.old }

@@ -1,17 +1,6 @@
-//! Databases that carry out writes and answer queries. For now the plain one, which keeps tables
-//! as lists and does each thing in the plainest way.
+//! What a database has to offer, to take part in a cluster.
 #![tactic(auto)]
 
-mod asked;
 mod backend;
-mod ends;
-mod insert;
-mod plain;
-mod plain_backend;
-mod rows;
-mod schemas;
-mod slots;
 
 pub use backend::{Backend, BackendError, Counts};
-pub use plain::PlainDatabase;
-pub use plain_backend::PlainBackend;

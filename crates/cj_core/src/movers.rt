@@ -127,6 +127,7 @@ impl<B: Backend> World<B> {
     /// One attempt of the session's read.
     fn read(&mut self, s: u64, b: u8, select: Select) -> Result<Moved, MoveError>
         requires within { b < self.old.core.placement.backends }
+        requires written { IsWritten (requests.Select select) }
         requires counts { (session_at self.old.core s).queries < 2 ^ 62 }
         ensures moves { ReadsOrWaits B.TELLS self.old.core s b select result self.new.core }
         ensures causes { HasCauses self.old self.new (Move.Read s b select) result }

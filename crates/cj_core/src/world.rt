@@ -547,7 +547,8 @@ impl<B: Backend> World<B> {
         b: u8,
         select: &Select,
     ) -> Result<(Asked, u64), CellReadError>
-        requires { b < self.old.core.placement.backends }
+        requires within { b < self.old.core.placement.backends }
+        requires written { IsWritten (request.Select select.now) }
         ensures core { self.new.core ≡ self.old.core }
         ensures asks { Asks B.TELLS self.old.core s b select.now result }
         ensures counts { Counts self.old self.new b (result ≡ Err CellReadError.Failed) }

@@ -1,4 +1,4 @@
--- A step leaves a database a database, and what it is asked has a value for each column.
+-- A step leaves a database a database.
 use Rattle.std.proofs.Common.{◌≡◌, ℕ, ◌<◌, ◌≤◌, true, not, eqb, nat_lt, List, [], ◌∷◌, length, map, refl, ap, sym, ◌∙◌, subst, is_eq, arith}
 use Rattle.std.specs.Prelude.{IfOk, IfSome, count_by, position, unwrap_or, is_some}
 use Rattle.std.specs.List.{position_or_len}
@@ -18,19 +18,15 @@ use Rattle.cj_model.specs.declared.database.Table.{Table}
 use Rattle.cj_model.specs.declared.database.Draft.{Draft}
 use Rattle.cj_model.specs.declared.database.Slot.{Slot}
 use Rattle.cj_model.specs.declared.write.Write.{Write}
-use Rattle.cj_model.specs.declared.select.Select.{Select}
 use Rattle.cj_model.specs.declared.request.Act.{Act}
 use Rattle.cj_model.specs.declared.request.Act.TheVariants as act
-use Rattle.cj_model.specs.declared.answer.Answer.{Answer}
-use Rattle.cj_model.specs.declared.answer.Asked.{Asked}
-use Rattle.cj_model.specs.declared.answer.Asked.TheVariants as asked
 use Rattle.cj_model.specs.Tables.{IsTable, IsSlot, IsDatabase, by_table, name_cmp, table_of, slot_of, is_distinct, column_names, column_limit}
-use Rattle.cj_model.specs.Changes.{Changed, change}
+use Rattle.cj_model.specs.Changes.{Changed}
+use Rattle.cj_model.specs.Updates.{change}
 use Rattle.cj_model.specs.Steps.{Stepped, seen_behind, seen, other_writer, with_table, table_written, write_done, write_unless_locked, write_in, written, make_schema, schema_of, empty_slot, created, drop_unless_locked, drop_in, dropped, commit_behind, committed, abort_behind, aborted, acted}
-use Rattle.cj_model.specs.Asks.{asks_all, all_in, ask_over, ask}
-use Rattle.cj_model.specs.Replies.{IsEven}
 use Rattle.cj_model.proofs.RisingLaws.{found_All, all_put, rises_put, rises_filter, rises_map}
-use Rattle.cj_model.proofs.TableLaws.{IsTableWith, change_keeps, table_is_even}
+use Rattle.cj_model.proofs.TableLaws.{IsTableWith}
+use Rattle.cj_model.proofs.UpdateLaws.{change_keeps}
 
 -- slots have a total order by the names of their tables
 pub by_table_total : IsTotalOrder by_table
@@ -217,22 +213,3 @@ acted_keeps db tx (act.Create c) few is = created_keeps db c few is
 acted_keeps db tx (act.Drop name) few is = dropped_keeps db name is
 acted_keeps db tx act.Commit few is = committed_keeps tx db is
 acted_keeps db tx act.Abort few is = aborted_keeps tx db is
-
--- ---- queries
-
--- an answer has a value for each column
-abbrev IfRows : Asked → Type 0
-IfRows (asked.Rows answer) = IsEven answer
-IfRows (asked.Refused refusal) = Unit {0}
-
-all_in_is_even : (tx : ℕ) (found : Option Slot) → IfSome found IsSlot → IfRows (all_in tx found)
-all_in_is_even tx None h = tt
-all_in_is_even tx (Some s) h = table_is_even (seen s tx) (seen_is_table s tx h)
-
-ask_over_is_even : (db : List Slot) (tx : ℕ) (s : Select) (names : List (List ℕ)) → IsDatabase db → IfRows (ask_over db tx s names)
-ask_over_is_even db tx s [] is = tt
-ask_over_is_even db tx s (name ∷ []) is = cond_both (asks_all s) (all_in tx (slot_of db name)) _ IfRows (λ _. all_in_is_even tx (slot_of db name) (found_is_slot db name is)) (λ _. tt)
-ask_over_is_even db tx s (name ∷ other ∷ names) is = tt
-
-pub ask_is_even : (db : List Slot) (tx : ℕ) (s : Select) (answer : Answer) → IsDatabase db → ask db tx s ≡ asked.Rows answer → IsEven answer
-ask_is_even db tx s answer is e = subst IfRows e (ask_over_is_even db tx s s.tables is)

@@ -1,4 +1,5 @@
 pub mod Answered
+pub mod Askable
 pub mod Between
 pub mod Chains
 pub mod Columns
@@ -12,9 +13,13 @@ pub mod Names
 pub mod Now
 pub mod OneReading
 pub mod Pushed
+pub mod QueryLaws
+pub mod RefusalLaws
 pub mod RisingLaws
 pub mod SessionLaws
 pub mod Sessions
 pub mod Soundness
 pub mod TableLaws
 pub mod TurnCases
+pub mod UpdateLaws
+pub mod Worked

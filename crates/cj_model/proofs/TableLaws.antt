@@ -15,13 +15,11 @@ use Rattle.cj_model.specs.declared.term.Term.{Term}
 use Rattle.cj_model.specs.declared.schema.Column.{Column}
 use Rattle.cj_model.specs.declared.schema.Schema.{Schema}
 use Rattle.cj_model.specs.declared.database.Table.{Table}
-use Rattle.cj_model.specs.declared.write.Write.{Write}
-use Rattle.cj_model.specs.declared.write.Write.TheVariants.{Insert, Update, Delete}
 use Rattle.cj_model.specs.declared.answer.Refusal.{Refusal}
 use Rattle.cj_model.specs.declared.codes.TheConstants.{NO_COLUMN, BAD_COLUMNS, DUPLICATE, WRONG_TYPE}
 use Rattle.cj_model.specs.Values.{kind_of, value_total}
 use Rattle.cj_model.specs.Tables.{IsTable, cell, by_key, put_by, fits_columns, column_names, same_kind, row_limit}
-use Rattle.cj_model.specs.Changes.{Changed, bare, unless, row_of, lists_stranger, lists_unevenly, has_key, has_key_twice, too_many_rows, with_rows, inserted, change}
+use Rattle.cj_model.specs.Changes.{Changed, bare, unless, row_of, lists_stranger, lists_unevenly, has_key, has_key_twice, too_many_rows, with_rows, inserted}
 use Rattle.cj_model.specs.Replies.{IsEven}
 use Rattle.cj_model.proofs.RisingLaws.{all_put_each, length-put_each, rises_put_each}
 
@@ -77,12 +75,6 @@ inserted_keeps t names tuples is =
     unless_IfOk (IsTableWith t.schema) even (bare BAD_COLUMNS) (unless misfit (bare WRONG_TYPE) put) (λ whole.
     unless_IfOk (IsTableWith t.schema) misfit (bare WRONG_TYPE) put (λ fits.
     with_rows_keeps t (map (row_of columns names) tuples) is (all_from_none_fails (fits_columns columns) (row_of columns names) tuples fits))))
-
--- any write
-pub change_keeps : (t : Table) (w : Write) → IsTable t → IfOk (change t w) (IsTableWith t.schema)
-change_keeps t (Insert name names tuples) is = inserted_keeps t names tuples is
-change_keeps t (Update name sets cond) is = tt
-change_keeps t (Delete name cond) is = tt
 
 -- ---- rows as answers
 

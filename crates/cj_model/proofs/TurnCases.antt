@@ -15,7 +15,7 @@ use Rattle.cj_model.specs.declared.event.Event.{Event}
 use Rattle.cj_model.specs.declared.event.Event.TheVariants.{Sched, Ended, ReadFailed}
 use Rattle.cj_model.specs.declared.codes.TheConstants.{NO_BACKEND, READ_FAULT, HISTORY_FULL}
 use Rattle.cj_model.specs.Changes.{bare}
-use Rattle.cj_model.specs.Asks.{ask}
+use Rattle.cj_model.specs.Queries.{ask}
 use Rattle.cj_model.specs.Plain.{act_of, request_of}
 use Rattle.cj_model.specs.Placements.{Placement, concerns}
 use Rattle.cj_model.specs.Histories.{has, log, done, free, opened, enabled, room, at, log_faults_of, tx_of}

@@ -1,4 +1,4 @@
--- What a write makes of a table, or the first refusal.
+-- What an INSERT makes of a table, or the first refusal.
 use Rattle.std.specs.Prelude.{ℕ, ◌+◌, Bool, true, false, not, ◌&&◌, ◌||◌, ◌==◌, nat_lt, List, [], ◌∷◌, length, map, fold, position, unwrap_or, slice_index_or, pos}
 use Rattle.std.specs.declared.option.Option.{Option}
 use Rattle.std.specs.declared.option.Option.TheVariants.{None, Some}
@@ -13,10 +13,8 @@ use Rattle.cj_model.specs.declared.term.Term.{Term}
 use Rattle.cj_model.specs.declared.term.Term.TheVariants.{Lit, Col, Now, Rand}
 use Rattle.cj_model.specs.declared.schema.Column.{Column}
 use Rattle.cj_model.specs.declared.database.Table.{Table}
-use Rattle.cj_model.specs.declared.write.Write.{Write}
-use Rattle.cj_model.specs.declared.write.Write.TheVariants.{Insert, Update, Delete}
 use Rattle.cj_model.specs.declared.answer.Refusal.{Refusal}
-use Rattle.cj_model.specs.declared.codes.TheConstants.{NO_COLUMN, BAD_COLUMNS, DUPLICATE, WRONG_TYPE, ROWS_FULL, NOT_BUILT}
+use Rattle.cj_model.specs.declared.codes.TheConstants.{NO_COLUMN, BAD_COLUMNS, DUPLICATE, WRONG_TYPE, ROWS_FULL}
 use Rattle.cj_model.specs.Tables.{by_key, put_by, is_distinct, column_names, fits_columns, row_limit}
 
 -- a refusal whose numbers say nothing
@@ -82,10 +80,3 @@ inserted t names tuples =
     (unless (lists_unevenly columns names || list_any (λ (u : List Term). not (length u == length columns)) tuples) (bare BAD_COLUMNS)
     (unless (list_any (λ u. not (fits_columns columns (row_of columns names u))) tuples) (bare WRONG_TYPE)
     (with_rows t.schema.key t.rows (map (row_of columns names) tuples))))
-
--- ---- any write
-
-abbrev pub change : Table → Write → Changed
-change t (Insert name names tuples) = inserted t names tuples
-change t (Update name sets cond) = Err (bare NOT_BUILT)
-change t (Delete name cond) = Err (bare NOT_BUILT)

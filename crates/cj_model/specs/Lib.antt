@@ -1,11 +1,11 @@
 pub mod Answering
-pub mod Asks
 pub mod Changes
 pub mod ConditionCode
 pub mod ConditionForms
 pub mod ConditionShape
 pub mod Conditions
 pub mod Cores
+pub mod Evaluation
 pub mod Fields
 pub mod Frames
 pub mod Grammar
@@ -14,10 +14,15 @@ pub mod Legality
 pub mod Lexical
 pub mod Literals
 pub mod Moves
+pub mod Order
 pub mod Placements
 pub mod Plain
+pub mod PredicateCode
+pub mod Predicates
+pub mod Queries
 pub mod Replies
 pub mod Runs
+pub mod Scopes
 pub mod Scripts
 pub mod Session
 pub mod Sound
@@ -25,5 +30,6 @@ pub mod Steps
 pub mod Tables
 pub mod TermForms
 pub mod Turns
+pub mod Updates
 pub mod Values
 pub mod Words

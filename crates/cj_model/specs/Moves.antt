@@ -26,7 +26,7 @@ use Rattle.cj_model.specs.declared.moves.OpenRead.{OpenRead}
 use Rattle.cj_model.specs.declared.moves.OpenSession.{OpenSession}
 use Rattle.cj_model.specs.declared.codes.TheConstants.{IN_TRANSACTION, NO_TRANSACTION, SCHEMA_IN_TRANSACTION, NO_BACKEND, READ_FAULT, HISTORY_FULL, SESSIONS_FULL}
 use Rattle.cj_model.specs.Changes.{bare}
-use Rattle.cj_model.specs.Asks.{ask}
+use Rattle.cj_model.specs.Queries.{ask}
 use Rattle.cj_model.specs.Plain.{act_of}
 use Rattle.cj_model.specs.Placements.{concerns}
 use Rattle.cj_model.specs.Histories.{has, log, done, free, opened, enabled, room, at, said, tx_of}

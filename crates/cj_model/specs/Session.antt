@@ -23,7 +23,7 @@ use Rattle.cj_model.specs.declared.answer.Reply.TheVariants.{Done, Rows, Stats, 
 use Rattle.cj_model.specs.declared.codes.TheConstants.{NOT_LOGGED_IN, SYNTAX, NOT_BUILT}
 use Rattle.cj_model.specs.Changes.{bare}
 use Rattle.cj_model.specs.Steps.{acted}
-use Rattle.cj_model.specs.Asks.{ask}
+use Rattle.cj_model.specs.Queries.{ask}
 use Rattle.cj_model.specs.Plain.{is_plain, act_of}
 use Rattle.cj_model.specs.Grammar.{TextReads, ReadsNothing}
 use Rattle.cj_model.specs.Replies.{reply_length, reply_bytes}

@@ -20,7 +20,8 @@ use Rattle.cj_model.specs.declared.answer.Outcome.{Outcome}
 use Rattle.cj_model.specs.declared.answer.Outcome.TheVariants.{Done, Refused}
 use Rattle.cj_model.specs.declared.codes.TheConstants.{NO_TABLE, TABLE_EXISTS, BAD_COLUMNS, LOCKED}
 use Rattle.cj_model.specs.Tables.{slot_of, table_of, by_table, put_by, is_distinct}
-use Rattle.cj_model.specs.Changes.{Changed, bare, change}
+use Rattle.cj_model.specs.Changes.{Changed, bare}
+use Rattle.cj_model.specs.Updates.{change}
 
 -- the database afterwards, and the outcome
 pub record Stepped : Type 0 where

@@ -17,7 +17,7 @@ use Rattle.cj_model.specs.declared.event.Event.{Event}
 use Rattle.cj_model.specs.declared.event.Event.TheVariants.{Sched, ReadFailed, LogFailed}
 use Rattle.cj_model.specs.declared.codes.TheConstants.{NO_BACKEND, READ_FAULT, LOG_FAULT, NO_MEMORY, HISTORY_FULL}
 use Rattle.cj_model.specs.Changes.{bare}
-use Rattle.cj_model.specs.Asks.{ask}
+use Rattle.cj_model.specs.Queries.{ask}
 use Rattle.cj_model.specs.Plain.{act_of}
 use Rattle.cj_model.specs.Placements.{Placement}
 use Rattle.cj_model.specs.Histories.{has, log, done, free, room, at, log_faults_of, tx_of}

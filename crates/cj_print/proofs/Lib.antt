@@ -1,2 +1,11 @@
+pub mod Appended
+pub mod CanonicalForm
+pub mod CanonicalReads
+pub mod CanonicalTokens
+pub mod Examples
+pub mod FewestParentheses
+pub mod Forms
 pub mod ReadBack
+pub mod Spellable
+pub mod Spelling
 pub mod Texts

@@ -19,7 +19,7 @@ some_digits [] h l = absurd (omega arith)
 some_digits (b ∷ z) h l = h
 
 -- a printed number is digits
-decimal_digits : (n : ℕ) → n < 2 ^ 64 → IsDigits (decimal n)
+pub decimal_digits : (n : ℕ) → n < 2 ^ 64 → IsDigits (decimal n)
 decimal_digits n h = some_digits (decimal n) (digits_decimal numerals n h) (decimal_nonempty n h)
 
 -- digits begin with no hyphen

@@ -1,8 +1,12 @@
 //! Canonical SQL.
 #![tactic(auto)]
 
+mod condition;
 mod laws;
 mod literal;
+mod part;
+mod statement;
 
-pub use laws::literals_read_back;
+pub use laws::{canonical_reads_back, literals_read_back};
 pub use literal::write_value;
+pub use statement::write_sql;

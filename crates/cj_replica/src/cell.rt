@@ -1,6 +1,7 @@
 //! A backend with its place among the backends and its position of the log.
 
 ghost use Rattle.std.specs.Prelude.{◌≡◌, ◌↔◌, ◌<◌, ◌≤◌, ℕ, not, Some, None, Ok, Err, IfOk};
+ghost use Rattle.cj_model.specs.declared.request.Request.TheVariants as request;
 ghost use Rattle.cj_model.specs.Legality.{IsWritten};
 ghost use Rattle.cj_model.specs.Plain.{request_of};
 ghost use Rattle.cj_model.specs.Sound.{IsLone};
@@ -145,6 +146,7 @@ impl<B: Backend> Cell<B> {
         select: &Select,
         least: u64,
     ) -> Result<(Asked, u64), CellReadError>
+        requires { IsWritten (request.Select select.now) }
         ensures out { (result ≡ Err CellReadError.Out) ↔ (self.old.position ≡ None) }
         ensures behind { (p : ℕ) → (result ≡ Err (CellReadError.Behind p)) ↔ ((self.old.position ≡ Some p) × (p < least)) }
         ensures answer { IfOk result (λ (answer, at). SaysAnswer self.old.told tx select.now answer) }

@@ -12,7 +12,7 @@ use Rattle.cj_model.specs.TermForms.{TermForm, term_tokens, term_meant, TermFits
 use Rattle.cj_model.specs.ConditionForms.{CondForm, OrsForm, ConjForm, AndsForm, PrimForm, cmp_token, cond_tokens, ors_tokens, conj_tokens, ands_tokens, prim_tokens, cond_meant, ors_meant, conj_meant, ands_meant, prim_meant, CondNests, OrsNest, ConjNests, AndsNest, PrimNests}
 use Rattle.cj_model.specs.ConditionForms as form
 use Rattle.cj_sql.specs.Reader.{read, same_word, same_symbol, symbol_at, expect_symbol}
-use Rattle.cj_sql.specs.ConditionReader.{at, comparison, test, ands, conj, ors, cond, parens, prim}
+use Rattle.cj_sql.specs.ConditionReader.{at, comparison, compared, ands, conj, ors, cond, parens, prim}
 use Rattle.cj_sql.proofs.Ranks.{rank, no_word}
 use Rattle.cj_sql.proofs.TermsRead.{term_read, term_no_open, term_no_not}
 use Rattle.cj_sql.proofs.Counts.{cond_tests, ors_tests, conj_tests, ands_tests, prim_tests, conj_some, prim_some}
@@ -47,8 +47,8 @@ ands_rank form.no_and rest e = omega (arith, e)
 ands_rank (form.and p more) rest e = omega arith
 
 test_complete : (a : TermForm) (op : Cmp) (b : TermForm) (rest : List Token) (n k : ℕ) → TermFits a → TermFits b → 0 < rank rest → n ≡ 1 + k
-    → test (at (prim_tokens (form.test a op b) rest) n) ≡ read (Test op (term_meant a) (term_meant b)) (at rest k)
-unfolding test
+    → compared (at (prim_tokens (form.test a op b) rest) n) ≡ read (Test op (term_meant a) (term_meant b)) (at rest k)
+unfolding compared
 test_complete a op b rest n k fa fb e h =
     let some : nat_lt 0 n ≡ true = grind (arith, nat_tests, h) in
     let one : n - 1 ≡ k = omega (arith, h) in

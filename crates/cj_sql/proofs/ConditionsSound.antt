@@ -11,7 +11,7 @@ use Rattle.cj_model.specs.Conditions.{Condition, And, Or}
 use Rattle.cj_model.specs.ConditionForms.{CondForm, OrsForm, ConjForm, AndsForm, PrimForm, cmp_token, cond_tokens, ors_tokens, conj_tokens, ands_tokens, prim_tokens, cond_meant, ors_meant, conj_meant, ands_meant, prim_meant, CondNests, OrsNest, ConjNests, AndsNest, PrimNests}
 use Rattle.cj_model.specs.ConditionForms as form
 use Rattle.cj_sql.specs.Reader.{read, sees_word, sees_symbol}
-use Rattle.cj_sql.specs.ConditionReader.{Input, at, after, Conditions, cmp_of, given, comparison, test, ands, conj, ors, cond, parens, prim}
+use Rattle.cj_sql.specs.ConditionReader.{Input, at, after, Conditions, cmp_of, given, comparison, compared, ands, conj, ors, cond, parens, prim}
 use Rattle.cj_sql.proofs.Binds.{branch, holds, fails, part, part_of}
 use Rattle.cj_sql.proofs.Front.{word_seen, symbol_seen, symbol_sound, expect_symbol_sound}
 use Rattle.cj_sql.proofs.TermsRead.{term_read}
@@ -69,8 +69,8 @@ IsOrs depth left = IsPart ors_tokens (ors_meant left) (OrsNest depth) ors_tests
 abbrev pub IsCond : ℕ → Input → Condition → Input → Type 0
 IsCond depth = IsPart cond_tokens cond_meant (CondNests depth) cond_tests
 
-test_sound : (depth : ℕ) (i : Input) (c : Condition) (o : Input) → test i ≡ read c o → IsPrim depth i c o
-unfolding test
+test_sound : (depth : ℕ) (i : Input) (c : Condition) (o : Input) → compared i ≡ read c o → IsPrim depth i c o
+unfolding compared
 test_sound depth i c o h = elim (branch (nat_lt 0 i.tests) _ _ _ h) [
   | holds e k ↦
       elim (part_of (term_read.sound i.rest) k) [

@@ -51,8 +51,8 @@ unfoldable pub comparison : Reader Cmp
 comparison ts = and_then (symbol_at ts) (λ s rest. given (cmp_of s) rest)
 
 -- term cmp term, where a comparison may still come
-unfoldable pub test : Conditions
-test i =
+unfoldable pub compared : Conditions
+compared i =
     if nat_lt 0 i.tests then
     and_then (term i.rest) (λ left ts.
     and_then (comparison ts) (λ op ts.
@@ -89,10 +89,10 @@ module _ (prim : Conditions) where
 
 -- NOT prim | "(" cond ")" | term cmp term, within this many NOTs and parentheses more
 unfoldable pub prim : ℕ → Conditions
-prim zero i = test i
+prim zero i = compared i
 prim (suc depth) i =
     if sees_word word.Not i.rest then and_then (prim depth (after i)) (λ c o. read (Not c) o)
-    else (if sees_symbol symbol.Open i.rest then parens (prim depth) (after i) else test i)
+    else (if sees_symbol symbol.Open i.rest then parens (prim depth) (after i) else compared i)
 
 -- a whole condition
 unfoldable pub condition : Reader Condition

@@ -68,9 +68,9 @@ fn comparison(tokens: &mut Tokens) -> Result<Cmp, SqlError>
 }
 
 /// Two terms with a comparison between them, which is one of those that may still come.
-#[tactic(auto, unfolding(crate::specs::ConditionReader::test))]
+#[tactic(auto, unfolding(crate::specs::ConditionReader::compared))]
 fn test(tokens: &mut Tokens, tests: &mut usize) -> Result<CondNode, SqlError>
-    ensures { ReadsNode spec.test (at tokens.old tests.old) result (at tokens.new tests.new) }
+    ensures { ReadsNode spec.compared (at tokens.old tests.old) result (at tokens.new tests.new) }
 {
     if *tests == 0 {
         return Err(SqlError::Syntax);

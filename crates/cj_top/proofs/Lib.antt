@@ -1,4 +1,5 @@
 pub mod Answering
+pub mod Asking
 pub mod BackendNames
 pub mod Limits
 pub mod OneTalk

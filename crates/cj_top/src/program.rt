@@ -101,7 +101,7 @@ fn is_script(words: &[String]) -> bool
 /// `pipe CONF` serves one session from the input to the output: 0 where it ended by a Quit or behind a whole frame, 4 where
 /// the input ended inside a frame or with a faulty one.
 ///
-/// `script CONF` plays the lines of the input as moves over two plain backends, `b0` and `b1`, and writes what they come to:
+/// `script CONF` plays the lines of the input as moves over two backends in memory, `b0` and `b1`, and writes what they come to:
 /// 0 where all were played, 10 where a line can't be, whose number is then written to `errors` where that can be done.
 ///
 /// Of both, 5 and 6 where the input and the output failed, 11 where 2^62 bytes were taken, 1 for want of memory. With other

@@ -1,7 +1,8 @@
-//! A script over two plain backends.
+//! A script over two backends in memory.
 
 ghost use Rattle.std.specs.Prelude.{◌≡◌, ◌≢◌, ◌≤◌, [], ◌∷◌, true, IfOk, OnErr, string_bytes};
-ghost use Rattle.cj_backend.specs.PlainBackends.{fresh_state};
+ghost use Rattle.cj_flaky.specs.FlakyBackends.{fresh_over};
+ghost use Rattle.cj_mem.specs.MemoryBackends.{fresh_state};
 ghost use Rattle.cj_core.specs.Starts.{started};
 ghost use Rattle.cj_model.specs.Words as words;
 ghost use Rattle.cj_outside.specs.Causes.{Rose};
@@ -9,10 +10,11 @@ ghost use Rattle.cj_script.specs.declared.play.ScriptEnd.TheVariants as ends;
 ghost use Rattle.cj_top.specs.Scripted.{NamesLine, PlayedOverTwo, RunsScript, backend_names, line_text};
 ghost use Rattle.cj_top.specs.Scripted as scripted;
 
-use cj_backend::PlainBackend;
 use cj_book::BookParts;
 use cj_core::{Backends, World};
-use cj_model::{Name, Names, NoMemory};
+use cj_flaky::Flaky;
+use cj_mem::MemBackend;
+use cj_model::{ListOf, Name, Names, NoMemory};
 use cj_outside::{Sink, Source, write_all};
 use cj_script::{ScriptEnd, script};
 use std::alloc::Global;
@@ -37,24 +39,31 @@ fn two_names(alloc: Global) -> Result<Names, NoMemory>
     Ok(names)
 }
 
-fn two_backends(alloc: Global) -> Result<Backends<PlainBackend>, NoMemory>
-    ensures { IfOk result (λ backends. backends ≡ fresh_state ∷ fresh_state ∷ []) }
+/// An empty backend in memory, which can be armed.
+fn backend(alloc: Global) -> Flaky<MemBackend>
+    ensures { result ≡ fresh_over fresh_state [] }
+{
+    Flaky::new(MemBackend::new(alloc), ListOf::new(alloc))
+}
+
+fn two_backends(alloc: Global) -> Result<Backends<Flaky<MemBackend>>, NoMemory>
+    ensures { IfOk result (λ backends. backends ≡ fresh_over fresh_state [] ∷ fresh_over fresh_state [] ∷ []) }
 {
     let mut backends = Backends::new(alloc);
-    backends.push(PlainBackend::new(alloc))?;
-    backends.push(PlainBackend::new(alloc))?;
+    backends.push(backend(alloc))?;
+    backends.push(backend(alloc))?;
     Ok(backends)
 }
 
 /// A world of two empty backends, of which each hosts every table.
-fn two_backend_world(alloc: Global) -> Result<World<PlainBackend>, NoMemory>
+fn two_backend_world(alloc: Global) -> Result<World<Flaky<MemBackend>>, NoMemory>
     ensures { IfOk result (λ world. world.core ≡ started 2) }
 {
     let backends = two_backends(alloc)?;
     World::start(alloc, BookParts { backends: 2 }, backends)
 }
 
-/// Plays the lines of the input on a world of two plain backends, `b0` and `b1`, and writes what they come to.
+/// Plays the lines of the input on a world of two backends in memory, `b0` and `b1`, and writes what they come to.
 ///
 /// At `NoMemory` the script has not begun; want of memory in it is an end of its own.
 pub fn play<I: Source, O: Sink>(

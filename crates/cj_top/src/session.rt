@@ -8,13 +8,13 @@ ghost use Rattle.cj_model.specs.Session as session;
 ghost use Rattle.cj_top.specs.Answers.{Answers, IsReadable, LogsIn};
 
 use crate::send::{bare, send};
-use cj_backend::PlainDatabase;
 use cj_model::{
-    Asked, Message, NOT_BUILT, NOT_LOGGED_IN, NoMemory, Outcome, Reply, Request,
-    SYNTAX,
+    Asked, Message, NOT_BUILT, NOT_LOGGED_IN, NoMemory, Outcome, Reply, Request, SYNTAX,
 };
 use cj_outside::{OutError, Sink};
+use cj_query::select;
 use cj_sql::{SqlError, is_plain, read};
+use cj_table::Tables;
 use std::alloc::Global;
 use std::marker::Model;
 
@@ -22,7 +22,7 @@ use std::marker::Model;
 #[derive(Drop)]
 pub struct Session {
     logged_in: bool,
-    database: PlainDatabase,
+    tables: Tables,
 }
 
 impl Model for Session {
@@ -30,7 +30,7 @@ impl Model for Session {
 
     ghost Value = { Session };
 
-    ghost view = { λ s. record { logged_in = s.logged_in; db = s.database } };
+    ghost view = { λ s. record { logged_in = s.logged_in; db = s.tables } };
 }
 
 fn refused(code: u16) -> Reply
@@ -98,7 +98,7 @@ impl Session {
     {
         Session {
             logged_in: false,
-            database: PlainDatabase::new(alloc),
+            tables: Tables::new(alloc),
         }
     }
 
@@ -126,10 +126,10 @@ impl Session {
             return Ok(refused(NOT_BUILT));
         }
         match request {
-            Request::Select(select) => Ok(asked_reply(self.database.ask(alloc, 0, select)?)),
-            Request::Write(write) => Ok(outcome_reply(self.database.write(alloc, 0, write)?)),
-            Request::Create(create) => Ok(outcome_reply(self.database.create(alloc, create)?)),
-            Request::Drop(table) => Ok(outcome_reply(self.database.drop_table(table))),
+            Request::Select(query) => Ok(asked_reply(select(alloc, query, &self.tables, 0)?)),
+            Request::Write(write) => Ok(outcome_reply(self.tables.write(0, write)?)),
+            Request::Create(create) => Ok(outcome_reply(self.tables.create(create)?)),
+            Request::Drop(table) => Ok(outcome_reply(self.tables.drop_table(table))),
             Request::Begin => unreachable!(),
             Request::Commit => unreachable!(),
             Request::Rollback => unreachable!(),

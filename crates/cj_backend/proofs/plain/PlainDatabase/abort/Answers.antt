@@ -1,7 +1,0 @@
-use Rattle.std.proofs.Common.{sym, subst}
-use Rattle.cj_model.specs.Tables.{IsDatabase}
-use Rattle.cj_model.proofs.DatabaseLaws.{aborted_keeps}
-use Rattle.cj_backend.proofs.plain.PlainDatabase.abort.Goals as goal
-
-pub invariant_of-self : goal.invariant_of-self
-invariant_of-self c = subst IsDatabase (sym c.abort_slots.ensures) (aborted_keeps c.args.tx c.self.inside.slots.items c.self.invariant)

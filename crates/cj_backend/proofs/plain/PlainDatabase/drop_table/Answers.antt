@@ -1,7 +1,0 @@
-use Rattle.std.proofs.Common.{sym, subst}
-use Rattle.cj_model.specs.Tables.{IsDatabase}
-use Rattle.cj_model.proofs.DatabaseLaws.{dropped_keeps}
-use Rattle.cj_backend.proofs.plain.PlainDatabase.drop_table.Goals as goal
-
-pub invariant_of-self : goal.invariant_of-self
-invariant_of-self c = subst IsDatabase (sym c.drop_slot.ensures.slots) (dropped_keeps c.self.inside.slots.items c.args.name.now c.self.invariant)

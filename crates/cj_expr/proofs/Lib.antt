@@ -1,0 +1,3 @@
+mod PinLaws
+mod PlaceLaws
+mod WalkLaws

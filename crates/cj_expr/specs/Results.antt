@@ -1,0 +1,51 @@
+-- What binding and evaluating give.
+use Rattle.std.specs.Prelude.{◌≡◌, true, false, ⊤}
+use Rattle.std.specs.declared.result.Result.{Result}
+use Rattle.std.specs.declared.result.Result.TheVariants.{Ok, Err}
+use Rattle.cj_model.specs.declared.value.Value.{Value}
+use Rattle.cj_model.specs.declared.term.Expr.{Expr}
+use Rattle.cj_model.specs.declared.answer.Refusal.{Refusal}
+use Rattle.cj_model.specs.declared.codes.TheConstants.{NO_COLUMN, WRONG_TYPE}
+use Rattle.cj_model.specs.Conditions.{Condition}
+use Rattle.cj_model.specs.Predicates as by_place
+use Rattle.cj_model.specs.Changes.{bare, unless}
+use Rattle.cj_model.specs.Scopes.{Scope, names_stranger, expr_names_stranger, mixes_kinds, adds_text, predicate_of, formula_of}
+use Rattle.cj_model.specs.Evaluation.{is_outside}
+use Rattle.cj_expr.specs.declared.binding.BindError.{BindError}
+use Rattle.cj_expr.specs.declared.binding.BindError.TheVariants as bind_error
+use Rattle.cj_expr.specs.declared.formula.Formula.{Formula}
+use Rattle.cj_expr.specs.declared.formula.ValueError.{ValueError}
+use Rattle.cj_expr.specs.declared.formula.ValueError.TheVariants as value_error
+use Rattle.cj_expr.specs.Shapes.{formula}
+
+-- the condition by places, or the first refusal
+abbrev pub bound : Scope → Condition → Result by_place.Predicate Refusal
+bound scope c =
+    unless (names_stranger scope c) (bare NO_COLUMN)
+    (unless (mixes_kinds scope c) (bare WRONG_TYPE)
+    (Ok (predicate_of scope c)))
+
+-- the expression by places, or the first refusal
+abbrev pub bound_expr : Scope → Expr → Result by_place.Formula Refusal
+bound_expr scope e =
+    unless (expr_names_stranger scope e) (bare NO_COLUMN)
+    (unless (adds_text scope e) (bare WRONG_TYPE)
+    (Ok (formula_of scope e)))
+
+-- what is expected is given, seen so; there may be no memory for it
+abbrev pub GivesBy : {A B : Type 0} → (B → A) → Result A Refusal → Result B BindError → Type 0
+GivesBy sight expected (Ok x) = expected ≡ Ok (sight x)
+GivesBy sight expected (Err (bind_error.Refused r)) = expected ≡ Err r
+GivesBy sight expected (Err bind_error.NoMemory) = ⊤
+
+abbrev pub Gives : Result by_place.Predicate Refusal → Result by_place.Predicate BindError → Type 0
+Gives = GivesBy (λ p. p)
+
+abbrev pub GivesFormula : Result by_place.Formula Refusal → Result Formula BindError → Type 0
+GivesFormula = GivesBy formula
+
+-- the value, where it lies within 64 bits; there may be no memory for it
+abbrev pub IsValueOf : Value → Result Value ValueError → Type 0
+IsValueOf v (Ok w) = (is_outside v ≡ false) × (w ≡ v)
+IsValueOf v (Err value_error.Overflow) = is_outside v ≡ true
+IsValueOf v (Err value_error.NoMemory) = ⊤

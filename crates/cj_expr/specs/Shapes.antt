@@ -1,0 +1,31 @@
+-- Conditions and expressions that stand in memory, as the definitions speak of them.
+use Rattle.std.specs.Prelude.{unwrap_or, pos}
+use Rattle.std.specs.declared.option.Option.{Option}
+use Rattle.cj_model.specs.declared.value.Value.{Value}
+use Rattle.cj_model.specs.declared.value.Value.TheVariants.{Int}
+use Rattle.cj_model.specs.Predicates as by_place
+use Rattle.cj_expr.specs.declared.operand.Operand.{Operand}
+use Rattle.cj_expr.specs.declared.operand.Operand.TheVariants.{Constant, Cell}
+use Rattle.cj_expr.specs.declared.formula.Formula.{Formula}
+use Rattle.cj_expr.specs.declared.formula.Formula.TheVariants.{Just, Sum, Difference}
+use Rattle.cj_expr.specs.declared.predicate.PredicateNode.{PredicateNode}
+use Rattle.cj_expr.specs.declared.predicate.PredicateNode.TheVariants as node
+
+abbrev pub operand : Operand → by_place.Operand
+operand (Constant v) = by_place.Constant v
+operand (Cell n) = by_place.Cell n
+
+-- the value, or 0 where there is none
+abbrev pub or_nothing : Option Value → Value
+or_nothing o = unwrap_or o (Int (pos 0))
+
+abbrev pub formula : Formula → by_place.Formula
+formula (Just o) = by_place.Just (operand o)
+formula (Sum l r) = by_place.Sum (operand l) (operand r)
+formula (Difference l r) = by_place.Difference (operand l) (operand r)
+
+abbrev pub shape : PredicateNode → by_place.Predicate
+shape (node.Compare cmp l r) = by_place.Compare cmp (operand l) (operand r)
+shape (node.Not' p inner) = by_place.Not (shape inner)
+shape (node.And' p left q right) = by_place.And (shape left) (shape right)
+shape (node.Or' p left q right) = by_place.Or (shape left) (shape right)

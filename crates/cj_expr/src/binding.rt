@@ -1,0 +1,133 @@
+//! Names bound to places.
+
+ghost use Rattle.std.specs.Prelude.{◌≡◌, IfOk};
+ghost use Rattle.cj_model.specs.ConditionShape as conditions;
+ghost use Rattle.cj_model.specs.Scopes as scopes;
+ghost use Rattle.cj_expr.specs.Shapes as shapes;
+ghost use Rattle.cj_expr.specs.Results.{Gives, GivesFormula, bound, bound_expr};
+
+use crate::formula::Formula;
+use crate::operand::Operand;
+use crate::predicate::{Predicate, PredicateNode};
+use crate::scope::Scope;
+use cj_model::{
+    Cond, CondNode, Duplicate, Expr, NO_COLUMN, NoMemory, Refusal, Term, Value, WRONG_TYPE,
+};
+use std::alloc::Global;
+use thiserror::Error;
+
+/// Why a condition or an expression is not bound.
+#[derive(Clone, Copy, Debug, PartialEq, Eq, Error)]
+pub enum BindError {
+    /// A column is not there (23), or kinds do not agree (28).
+    #[error("refused with code {}", .0.code)]
+    Refused(Refusal),
+    #[error("out of memory")]
+    NoMemory,
+}
+
+impl From<NoMemory> for BindError {
+    ghost use Rattle.std.specs.Prelude.{◌≡◌};
+    ghost use Rattle.cj_expr.specs.declared.binding.BindError.TheVariants as errors;
+
+    ghost from_gives = { λ _error e. e ≡ errors.NoMemory };
+
+    fn from(_error: NoMemory) -> BindError {
+        BindError::NoMemory
+    }
+}
+
+fn refused(code: u16) -> BindError
+    ensures { result ≡ BindError.Refused (record { code = code; a = 0; b = 0 }) }
+{
+    BindError::Refused(Refusal { code, a: 0, b: 0 })
+}
+
+fn operand_of(alloc: Global, term: &Term, scope: &Scope) -> Result<Operand, NoMemory>
+    ensures { IfOk result (λ operand. shapes.operand operand ≡ scopes.operand_of scope.now term.now) }
+{
+    match term {
+        Term::Lit(value) => Ok(Operand::Constant(value.copy(alloc)?)),
+        Term::Col(reference) => Ok(Operand::Cell(scope.place(reference).unwrap_or(0))),
+        Term::Now => Ok(Operand::Constant(Value::Int(0))),
+        Term::Rand(_) => Ok(Operand::Constant(Value::Int(0))),
+    }
+}
+
+/// The expression with its columns by place. A column that is not there stands for the first.
+pub fn formula_of(alloc: Global, expr: &Expr, scope: &Scope) -> Result<Formula, NoMemory>
+    ensures { IfOk result (λ formula. shapes.formula formula ≡ scopes.formula_of scope.now expr.now) }
+{
+    match expr {
+        Expr::One(term) => Ok(Formula::Just(operand_of(alloc, term, scope)?)),
+        Expr::Plus(left, right) => Ok(Formula::Sum(
+            operand_of(alloc, left, scope)?,
+            operand_of(alloc, right, scope)?,
+        )),
+        Expr::Minus(left, right) => Ok(Formula::Difference(
+            operand_of(alloc, left, scope)?,
+            operand_of(alloc, right, scope)?,
+        )),
+    }
+}
+
+fn node_of(alloc: Global, cond: &CondNode, scope: &Scope) -> Result<PredicateNode, NoMemory>
+    ensures { IfOk result (λ node. shapes.shape node ≡ scopes.predicate_of scope.now (conditions.shape cond.now)) }
+{
+    match cond {
+        CondNode::Test(cmp, left, right) => Ok(PredicateNode::Compare(
+            *cmp,
+            operand_of(alloc, left, scope)?,
+            operand_of(alloc, right, scope)?,
+        )),
+        CondNode::Not(inner) => {
+            let inner = node_of(alloc, inner, scope)?;
+            Ok(PredicateNode::Not(Box::new(alloc, inner)?))
+        }
+        CondNode::And(left, right) => {
+            let left = Box::new(alloc, node_of(alloc, left, scope)?)?;
+            let right = Box::new(alloc, node_of(alloc, right, scope)?)?;
+            Ok(PredicateNode::And(left, right))
+        }
+        CondNode::Or(left, right) => {
+            let left = Box::new(alloc, node_of(alloc, left, scope)?)?;
+            let right = Box::new(alloc, node_of(alloc, right, scope)?)?;
+            Ok(PredicateNode::Or(left, right))
+        }
+    }
+}
+
+/// The condition with its columns by place. A column that is not there stands for the first.
+pub fn predicate_of(alloc: Global, cond: &Cond, scope: &Scope) -> Result<Predicate, NoMemory>
+    ensures { IfOk result (λ predicate. predicate ≡ scopes.predicate_of scope.now cond.now) }
+{
+    Ok(Predicate::of(node_of(alloc, cond.root(), scope)?))
+}
+
+/// The condition with its columns by place. Refused with 23 where a column is not there, else with
+/// 28 where the sides of a comparison differ in kind.
+pub fn bind(alloc: Global, cond: &Cond, scope: &Scope) -> Result<Predicate, BindError>
+    ensures { Gives (bound scope.now cond.now) result }
+{
+    if scope.names_stranger(cond) {
+        return Err(refused(NO_COLUMN));
+    }
+    if scope.mixes_kinds(cond) {
+        return Err(refused(WRONG_TYPE));
+    }
+    Ok(predicate_of(alloc, cond, scope)?)
+}
+
+/// The expression with its columns by place. Refused with 23 where a column is not there, else with
+/// 28 where `+` or `-` has a TEXT.
+pub fn bind_expr(alloc: Global, expr: &Expr, scope: &Scope) -> Result<Formula, BindError>
+    ensures { GivesFormula (bound_expr scope.now expr.now) result }
+{
+    if scope.expr_names_stranger(expr) {
+        return Err(refused(NO_COLUMN));
+    }
+    if scope.adds_text(expr) {
+        return Err(refused(WRONG_TYPE));
+    }
+    Ok(formula_of(alloc, expr, scope)?)
+}

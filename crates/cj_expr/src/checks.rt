@@ -1,0 +1,137 @@
+//! Whether the columns that a statement names are there, and whether its kinds agree.
+
+ghost use Rattle.std.specs.Prelude.{◌≡◌};
+ghost use Rattle.cj_model.specs.ConditionShape.{shape};
+ghost use Rattle.cj_model.specs.Scopes as scopes;
+ghost use Rattle.cj_model.specs.Tables as tables;
+
+use crate::scope::Scope;
+use cj_model::{ColRef, Cond, CondNode, Expr, Kind, Term};
+
+/// Whether the two are one kind.
+pub fn same_kind(one: Kind, two: Kind) -> bool
+    ensures { result ≡ tables.same_kind one two }
+{
+    match (one, two) {
+        (Kind::Integer, Kind::Integer) => true,
+        (Kind::Integer, Kind::Text) => false,
+        (Kind::Text, Kind::Integer) => false,
+        (Kind::Text, Kind::Text) => true,
+    }
+}
+
+impl Scope {
+    /// Whether the reference means no column.
+    pub fn is_stranger(&self, reference: &ColRef) -> bool
+        ensures { result ≡ scopes.is_stranger self.now reference.now }
+    {
+        self.place(reference).is_none()
+    }
+
+    fn term_names_stranger(&self, term: &Term) -> bool
+        ensures { result ≡ scopes.term_names_stranger self.now term.now }
+    {
+        match term {
+            Term::Lit(_) => false,
+            Term::Col(reference) => self.is_stranger(reference),
+            Term::Now => false,
+            Term::Rand(_) => false,
+        }
+    }
+
+    /// Whether an expression names a column that is not there.
+    pub fn expr_names_stranger(&self, expr: &Expr) -> bool
+        ensures { result ≡ scopes.expr_names_stranger self.now expr.now }
+    {
+        match expr {
+            Expr::One(term) => self.term_names_stranger(term),
+            Expr::Plus(left, right) => self.term_names_stranger(left)
+                || self.term_names_stranger(right),
+            Expr::Minus(left, right) => self.term_names_stranger(left)
+                || self.term_names_stranger(right),
+        }
+    }
+
+    fn node_names_stranger(&self, node: &CondNode) -> bool
+        ensures { result ≡ scopes.names_stranger self.now (shape node.now) }
+    {
+        match node {
+            CondNode::Test(_, left, right) => self.term_names_stranger(left)
+                || self.term_names_stranger(right),
+            CondNode::Not(inner) => self.node_names_stranger(inner),
+            CondNode::And(left, right) => self.node_names_stranger(left)
+                || self.node_names_stranger(right),
+            CondNode::Or(left, right) => self.node_names_stranger(left)
+                || self.node_names_stranger(right),
+        }
+    }
+
+    /// Whether a condition names a column that is not there.
+    pub fn names_stranger(&self, cond: &Cond) -> bool
+        ensures { result ≡ scopes.names_stranger self.now cond.now }
+    {
+        self.node_names_stranger(cond.root())
+    }
+
+    fn kind_of_term(&self, term: &Term) -> Kind
+        ensures { result ≡ scopes.kind_of_term self.now term.now }
+    {
+        match term {
+            Term::Lit(value) => value.kind(),
+            Term::Col(reference) => self.kind(self.place(reference).unwrap_or(0)),
+            Term::Now => Kind::Integer,
+            Term::Rand(_) => Kind::Integer,
+        }
+    }
+
+    /// The kind of an expression's values.
+    pub fn kind_of_expr(&self, expr: &Expr) -> Kind
+        ensures { result ≡ scopes.kind_of_expr self.now expr.now }
+    {
+        match expr {
+            Expr::One(term) => self.kind_of_term(term),
+            Expr::Plus(_, _) => Kind::Integer,
+            Expr::Minus(_, _) => Kind::Integer,
+        }
+    }
+
+    fn is_text(&self, term: &Term) -> bool
+        ensures { result ≡ scopes.is_text self.now term.now }
+    {
+        same_kind(self.kind_of_term(term), Kind::Text)
+    }
+
+    /// Whether `+` or `-` has a TEXT.
+    pub fn adds_text(&self, expr: &Expr) -> bool
+        ensures { result ≡ scopes.adds_text self.now expr.now }
+    {
+        match expr {
+            Expr::One(_) => false,
+            Expr::Plus(left, right) => self.is_text(left) || self.is_text(right),
+            Expr::Minus(left, right) => self.is_text(left) || self.is_text(right),
+        }
+    }
+
+    fn node_mixes_kinds(&self, node: &CondNode) -> bool
+        ensures { result ≡ scopes.mixes_kinds self.now (shape node.now) }
+    {
+        match node {
+            CondNode::Test(_, left, right) => !same_kind(
+                self.kind_of_term(left),
+                self.kind_of_term(right),
+            ),
+            CondNode::Not(inner) => self.node_mixes_kinds(inner),
+            CondNode::And(left, right) => self.node_mixes_kinds(left)
+                || self.node_mixes_kinds(right),
+            CondNode::Or(left, right) => self.node_mixes_kinds(left)
+                || self.node_mixes_kinds(right),
+        }
+    }
+
+    /// Whether the sides of a comparison differ in kind.
+    pub fn mixes_kinds(&self, cond: &Cond) -> bool
+        ensures { result ≡ scopes.mixes_kinds self.now cond.now }
+    {
+        self.node_mixes_kinds(cond.root())
+    }
+}

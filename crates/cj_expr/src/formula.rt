@@ -1,0 +1,71 @@
+//! Expressions with columns by their places.
+
+ghost use Rattle.std.specs.Prelude.{◌≡◌, pos, IfOk};
+ghost use Rattle.cj_model.specs.Evaluation.{worth};
+ghost use Rattle.cj_expr.specs.Shapes.{formula};
+ghost use Rattle.cj_expr.specs.Results.{IsValueOf};
+
+use crate::operand::Operand;
+use cj_model::{NoMemory, Value};
+use std::alloc::Global;
+use thiserror::Error;
+
+/// An operand, or a sum or difference of two.
+#[derive(Drop)]
+pub enum Formula {
+    Just(Operand),
+    Sum(Operand, Operand),
+    Difference(Operand, Operand),
+}
+
+/// Why an expression has no value.
+#[derive(Clone, Copy, Debug, PartialEq, Eq, Error)]
+pub enum ValueError {
+    /// It is an INTEGER outside 64 bits.
+    #[error("a number lies outside 64 bits")]
+    Overflow,
+    #[error("out of memory")]
+    NoMemory,
+}
+
+impl From<NoMemory> for ValueError {
+    ghost use Rattle.std.specs.Prelude.{◌≡◌};
+    ghost use Rattle.cj_expr.specs.declared.formula.ValueError.TheVariants as errors;
+
+    ghost from_gives = { λ _error e. e ≡ errors.NoMemory };
+
+    fn from(_error: NoMemory) -> ValueError {
+        ValueError::NoMemory
+    }
+}
+
+/// The number as a value; Overflow exactly where it lies outside 64 bits.
+pub fn narrowed(number: i128) -> Result<Value, ValueError>
+    ensures { IsValueOf (Value.Int number) result }
+{
+    if number < -9_223_372_036_854_775_808 || 9_223_372_036_854_775_807 < number {
+        return Err(ValueError::Overflow);
+    }
+    Ok(Value::Int(number as i64))
+}
+
+impl Formula {
+    /// The value in a row; Overflow exactly where it is an INTEGER outside 64 bits.
+    pub fn value_in(&self, alloc: Global, row: &[Value]) -> Result<Value, ValueError>
+        ensures { IsValueOf (worth row.now (formula self.now)) result }
+    {
+        match self {
+            Formula::Just(operand) => Ok(operand.value_in(alloc, row)?),
+            Formula::Sum(left, right) => {
+                let left = i128::from(left.number_in(row));
+                let right = i128::from(right.number_in(row));
+                narrowed(left + right)
+            }
+            Formula::Difference(left, right) => {
+                let left = i128::from(left.number_in(row));
+                let right = i128::from(right.number_in(row));
+                narrowed(left - right)
+            }
+        }
+    }
+}

@@ -1,0 +1,17 @@
+//! Conditions and expressions, bound to the columns of tables, and what they come to in a row.
+#![tactic(auto)]
+
+mod binding;
+mod checks;
+mod formula;
+mod operand;
+mod parts;
+mod predicate;
+mod scope;
+
+pub use binding::{BindError, bind, bind_expr, formula_of, predicate_of};
+pub use checks::same_kind;
+pub use formula::{Formula, ValueError, narrowed};
+pub use operand::Operand;
+pub use predicate::Predicate;
+pub use scope::Scope;

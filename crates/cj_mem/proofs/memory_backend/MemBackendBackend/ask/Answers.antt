@@ -1,0 +1,7 @@
+use Rattle.cj_model.proofs.Askable.{read_askable}
+use Rattle.cj_mem.proofs.Promised.{asked_is}
+use Rattle.cj_mem.proofs.memory_backend.MemBackendBackend.ask.Goals as goal
+
+pub returns-clause-possible : goal.returns-clause-possible
+returns-clause-possible c =
+    asked_is c.self-2.inside.tables c.args.tx c.args.query.now c.in_ok-select.field-0 c.legal.ensures (read_askable c.requires.text c.args.query.now c.requires.reads) c.in_ok-select.ensures.asked c.in_ok-select.ensures.rows

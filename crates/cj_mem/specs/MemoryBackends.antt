@@ -1,0 +1,42 @@
+-- What contracts see of a backend in memory, and what its calls begin with.
+use Rattle.std.specs.Prelude.{◌≡◌, ℕ, Bool, true, false, List, [], ◌∷◌, ◌++◌}
+use Rattle.std.specs.declared.option.Option.{Option}
+use Rattle.std.specs.declared.option.Option.TheVariants.{None, Some}
+use Rattle.std.specs.declared.result.Result.{Result}
+use Rattle.std.specs.declared.result.Result.TheVariants.{Ok, Err}
+use Rattle.cj_model.specs.declared.database.Slot.{Slot}
+use Rattle.cj_backend.specs.declared.backend.BackendError.{BackendError}
+use Rattle.cj_backend.specs.declared.backend.BackendError.TheVariants.{Failed, NoMemory}
+
+pub record MemoryState : Type 0 where
+  -- what it holds, until a change is not carried out
+  pub told : Option (List Slot)
+  pub asks : ℕ
+  pub begun : List ℕ
+  pub login : Option (List ℕ)
+
+-- an empty database, and nothing counted
+abbrev pub fresh_state : MemoryState
+fresh_state = record { told = Some []; asks = 0; begun = []; login = None }
+
+-- what it holds, where this is known
+abbrev pub told_where : Bool → List Slot → Option (List Slot)
+told_where true db = Some db
+told_where false db = None
+
+-- a call is entered under this login, or there is no memory for it
+abbrev pub Enters : MemoryState → List ℕ → Result Unit BackendError → MemoryState → Type 0
+Enters old user (Ok x) new = new ≡ record old { login = Some user }
+Enters old user (Err Failed) new = ⊥
+Enters old user (Err NoMemory) new = new ≡ old
+
+-- the same of a change: where it is not entered, nothing is told any more
+abbrev pub EntersChange : MemoryState → List ℕ → Result Unit BackendError → MemoryState → Type 0
+EntersChange old user (Ok x) new = Enters old user (Ok x) new
+EntersChange old user (Err e) new = Enters (record old { told = None }) user (Err e) new
+
+-- a transaction is added to those begun, or is not carried out
+abbrev pub AddsBegun : MemoryState → ℕ → Result Unit BackendError → MemoryState → Type 0
+AddsBegun old tx (Ok x) new = new ≡ record old { begun = old.begun ++ tx ∷ [] }
+AddsBegun old tx (Err NoMemory) new = new ≡ record old { told = None }
+AddsBegun old tx (Err Failed) new = ⊥

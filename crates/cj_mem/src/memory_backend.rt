@@ -1,0 +1,193 @@
+//! A database in memory as a backend.
+
+ghost use Rattle.std.specs.Prelude.{◌≡◌, ◌↔◌, ◌==◌, Some, None, IsTrue, filter, not};
+
+use cj_backend::{Backend, BackendError, Counts};
+use cj_model::{Asked, Create, Duplicate, Name, Outcome, Select, Text, Write};
+use cj_query::select;
+use cj_table::Tables;
+use std::alloc::Global;
+use std::marker::Model;
+
+/// A backend whose tables stand in memory as ordered trees. It tells what it holds, until a change
+/// is not carried out for want of memory, and never fails.
+#[derive(Drop)]
+pub struct MemBackend {
+    alloc: Global,
+    tables: Tables,
+    /// Whether each change so far was carried out.
+    known: bool,
+    asks: u64,
+    begun: Vec<u64>,
+    login: Option<Text>,
+}
+
+impl Model for MemBackend {
+    ghost use Rattle.cj_mem.specs.MemoryBackends.{MemoryState, told_where};
+
+    ghost Value = { MemoryState };
+
+    ghost view = { λ b. record { told = told_where b.known b.tables; asks = b.asks; begun = b.begun.items; login = b.login } };
+}
+
+fn is_login(last: &Option<Text>, user: &Text) -> bool
+    ensures { IsTrue result ↔ (last.now ≡ Some user.now) }
+{
+    match last {
+        None => false,
+        Some(last) => last.as_slice() == user.as_slice(),
+    }
+}
+
+fn remove(begun: &mut Vec<u64>, tx: u64)
+    ensures { begun.new.items ≡ filter (λ t. not (t == tx)) begun.old.items }
+{
+    begun.retain(|other| *other != tx);
+}
+
+impl MemBackend {
+    ghost use Rattle.cj_mem.specs.MemoryBackends.{AddsBegun, Enters, EntersChange, fresh_state};
+
+    /// A backend of no tables, which takes its memory from here.
+    pub fn new(alloc: Global) -> MemBackend
+        ensures { result ≡ fresh_state }
+    {
+        MemBackend {
+            alloc,
+            tables: Tables::new(alloc),
+            known: true,
+            asks: 0,
+            begun: Vec::new(alloc),
+            login: None,
+        }
+    }
+
+    /// Enters a call.
+    fn enter(&mut self, user: &Text) -> Result<(), BackendError>
+        ensures { Enters self.old user.now result self.new }
+    {
+        if !is_login(&self.login, user) {
+            self.login = Some(user.copy(self.alloc)?);
+        }
+        Ok(())
+    }
+
+    fn forget(&mut self)
+        ensures { self.new ≡ record self.old { told = None } }
+    {
+        self.known = false;
+    }
+
+    /// Gives a change up for want of memory.
+    fn starve(&mut self) -> BackendError
+        ensures error { result ≡ BackendError.NoMemory }
+        ensures state { self.new ≡ record self.old { told = None } }
+    {
+        self.forget();
+        BackendError::NoMemory
+    }
+
+    fn add_begun(&mut self, tx: u64) -> Result<(), BackendError>
+        ensures { AddsBegun self.old tx result self.new }
+    {
+        match self.begun.push(tx) {
+            Ok(()) => Ok(()),
+            Err(_) => Err(self.starve()),
+        }
+    }
+
+    fn enter_change(&mut self, user: &Text) -> Result<(), BackendError>
+        ensures { EntersChange self.old user.now result self.new }
+    {
+        let entered = self.enter(user);
+        if entered.is_err() {
+            self.forget();
+        }
+        entered
+    }
+}
+
+impl Backend for MemBackend {
+    ghost use Rattle.std.specs.Prelude.{true};
+
+    const TELLS: bool = true;
+
+    ghost TELLS = { true };
+
+    ghost told = { λ b. b.told };
+
+    ghost faults = { λ b. 0 };
+
+    ghost asks = { λ b. b.asks };
+
+    ghost begun = { λ b. b.begun };
+
+    ghost login = { λ b. b.login };
+
+    fn begin(&mut self, user: &Text, tx: u64) -> Result<(), BackendError> {
+        self.enter_change(user)?;
+        self.add_begun(tx)
+    }
+
+    fn write(&mut self, user: &Text, tx: u64, write: &Write) -> Result<Outcome, BackendError> {
+        self.enter_change(user)?;
+        match self.tables.write(tx, write) {
+            Ok(outcome) => Ok(outcome),
+            Err(_) => Err(self.starve()),
+        }
+    }
+
+    fn create(&mut self, user: &Text, create: &Create) -> Result<Outcome, BackendError> {
+        self.enter_change(user)?;
+        match self.tables.create(create) {
+            Ok(outcome) => Ok(outcome),
+            Err(_) => Err(self.starve()),
+        }
+    }
+
+    fn drop_table(&mut self, user: &Text, table: &Name) -> Result<Outcome, BackendError> {
+        self.enter_change(user)?;
+        Ok(self.tables.drop_table(table))
+    }
+
+    fn commit(&mut self, user: &Text, tx: u64) -> Result<(), BackendError> {
+        self.enter_change(user)?;
+        match self.tables.commit(tx) {
+            Ok(()) => {
+                remove(&mut self.begun, tx);
+                Ok(())
+            }
+            Err(_) => Err(self.starve()),
+        }
+    }
+
+    fn abort(&mut self, user: &Text, tx: u64) -> Result<(), BackendError> {
+        self.enter_change(user)?;
+        self.tables.abort(tx);
+        remove(&mut self.begun, tx);
+        Ok(())
+    }
+
+    fn ask(&mut self, user: &Text, tx: u64, query: &Select) -> Result<Asked, BackendError> {
+        self.asks = self.asks.saturating_add(1);
+        self.enter(user)?;
+        self.tables.legal();
+        Ok(select(self.alloc, query, &self.tables, tx)?)
+    }
+
+    fn counts(&self) -> Counts {
+        Counts {
+            faults: 0,
+            asks: self.asks,
+            begun: self.begun.len() as u64,
+        }
+    }
+
+    fn login(&self) -> Option<&Text> {
+        self.login.as_ref()
+    }
+
+    fn arm(&mut self) {
+        let _ = &self.alloc;
+    }
+}

@@ -1,0 +1,103 @@
+//! Conditions, with parentheses where they are needed alone.
+
+ghost use Rattle.std.specs.Prelude.{◌≡◌, ◌++◌, OnOk};
+ghost use Rattle.cj_model.specs.ConditionShape.{shape};
+ghost use Rattle.cj_print.specs.Canonical.{bracketed, cmp_text, cond_text, where_text};
+ghost use Rattle.cj_print.specs.Canonical as texts;
+
+use crate::part::Part;
+use cj_model::{Cmp, Cond, CondNode, NoMemory};
+use std::alloc::Global;
+
+fn is_or(node: &CondNode) -> bool
+    ensures { result ≡ texts.is_or (shape node.now) }
+{
+    match node {
+        CondNode::Test(_, _, _) => false,
+        CondNode::Not(_) => false,
+        CondNode::And(_, _) => false,
+        CondNode::Or(_, _) => true,
+    }
+}
+
+fn is_and(node: &CondNode) -> bool
+    ensures { result ≡ texts.is_and (shape node.now) }
+{
+    match node {
+        CondNode::Test(_, _, _) => false,
+        CondNode::Not(_) => false,
+        CondNode::And(_, _) => true,
+        CondNode::Or(_, _) => false,
+    }
+}
+
+fn cmp_words(cmp: Cmp) -> &'static [u8]
+    ensures { result.now ≡ cmp_text cmp }
+{
+    match cmp {
+        Cmp::Eq => b" = ",
+        Cmp::Ne => b" <> ",
+        Cmp::Lt => b" < ",
+        Cmp::Le => b" <= ",
+        Cmp::Gt => b" > ",
+        Cmp::Ge => b" >= ",
+    }
+}
+
+fn opening(needed: bool) -> &'static [u8]
+    ensures { result.now ≡ texts.opening needed }
+{
+    if needed { b"(" } else { b"" }
+}
+
+fn closing(needed: bool) -> &'static [u8]
+    ensures { result.now ≡ texts.closing needed }
+{
+    if needed { b")" } else { b"" }
+}
+
+/// Adds the condition, in parentheses where they are needed.
+fn append_node(
+    alloc: Global,
+    text: &mut Vec<u8>,
+    node: &CondNode,
+    needed: bool,
+) -> Result<(), NoMemory>
+    ensures { OnOk result (text.new.items ≡ text.old.items ++ bracketed needed (cond_text (shape node.now))) }
+{
+    text.extend_from_slice(opening(needed))?;
+    match node {
+        CondNode::Test(cmp, left, right) => {
+            left.append(alloc, text)?;
+            text.extend_from_slice(cmp_words(*cmp))?;
+            right.append(alloc, text)?;
+        }
+        CondNode::Not(inner) => {
+            text.extend_from_slice(b"NOT ")?;
+            append_node(alloc, text, inner, is_or(inner) || is_and(inner))?;
+        }
+        CondNode::And(left, right) => {
+            append_node(alloc, text, left, is_or(left))?;
+            text.extend_from_slice(b" AND ")?;
+            append_node(alloc, text, right, is_or(right) || is_and(right))?;
+        }
+        CondNode::Or(left, right) => {
+            append_node(alloc, text, left, false)?;
+            text.extend_from_slice(b" OR ")?;
+            append_node(alloc, text, right, is_or(right))?;
+        }
+    }
+    text.extend_from_slice(closing(needed))?;
+    Ok(())
+}
+
+/// Adds WHERE and the condition, if there is one.
+pub fn append_where(alloc: Global, text: &mut Vec<u8>, cond: &Option<Cond>) -> Result<(), NoMemory>
+    ensures { OnOk result (text.new.items ≡ text.old.items ++ where_text cond.now) }
+{
+    if let Some(cond) = cond {
+        text.extend_from_slice(b" WHERE ")?;
+        append_node(alloc, text, cond.root(), false)?;
+    }
+    Ok(())
+}

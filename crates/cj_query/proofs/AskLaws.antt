@@ -1,0 +1,102 @@
+-- The tables that a query names, and its first refusal.
+use Rattle.std.proofs.Common.{◌≡◌, ℕ, ◌+◌, ◌<◌, ◌≤◌, Bool, true, false, ◌||◌, cond, List, [], ◌∷◌, ◌++◌, length, map, take, get_or, refl, ap, sym, ◌∙◌, arith}
+use Rattle.std.specs.Prelude.{filter_map, option_map, is_none}
+use Rattle.std.specs.List.{list_any, cons_option}
+use Rattle.std.specs.declared.option.Option.{Option}
+use Rattle.std.specs.declared.option.Option.TheVariants.{None, Some}
+use Rattle.std.specs.declared.result.Result.{Result}
+use Rattle.std.specs.declared.result.Result.TheVariants.{Err}
+use Rattle.std.proofs.lemmas.List.{take_more}
+use Rattle.std.proofs.lemmas.List.Elements.{filter_map-append}
+use Rattle.cj_model.specs.declared.schema.Column.{Column}
+use Rattle.cj_model.specs.declared.database.Slot.{Slot}
+use Rattle.cj_model.specs.declared.database.Table.{Table}
+use Rattle.cj_model.specs.declared.select.Select.{Select}
+use Rattle.cj_model.specs.declared.answer.Asked.TheVariants.{Refused}
+use Rattle.cj_model.specs.declared.answer.Refusal.{Refusal}
+use Rattle.cj_model.specs.declared.codes.TheConstants.{NO_TABLE, NO_COLUMN, BAD_COLUMNS, WRONG_TYPE}
+use Rattle.cj_model.specs.Changes.{bare, unless}
+use Rattle.cj_model.specs.Order.{product}
+use Rattle.cj_model.specs.Queries.{answered, ask, asked_by, columns_named, has_bad_columns, listed, sums_text, tables_seen}
+use Rattle.cj_model.specs.Scopes.{is_stranger, predicate_of, scope_of, where_mixes_kinds, where_names_stranger}
+use Rattle.cj_model.specs.Steps.{seen}
+use Rattle.cj_model.specs.Tables.{slot_of}
+use Rattle.cj_query.specs.Refused.{code_of}
+use Rattle.cj_query.specs.Seen.{answer_from, tables_named}
+use Rattle.cj_query.proofs.JoinLaws.{product_one}
+use Rattle.cj_query.proofs.WalkLaws.{none_next}
+
+-- ---- tables
+
+filter_map_end : {X Y : Type 0} (f : X → Option Y) (xs : List X) (x : X) (y : Y) → f x ≡ Some y → filter_map f (xs ++ x ∷ []) ≡ filter_map f xs ++ y ∷ []
+filter_map_end f xs x y e = filter_map-append f xs (x ∷ []) ∙ ap (λ o. filter_map f xs ++ cons_option o []) e
+
+none_of : {X Y : Type 0} (f : X → Y) (o : Option X) (y : Y) → Some y ≡ option_map f o → is_none o ≡ false
+none_of f None y e = cc e
+none_of f (Some x) y e = refl
+
+itself : {X : Type 0} (xs : List X) → map (λ x. x) xs ≡ xs
+itself [] = refl
+itself (x ∷ xs) = ap (λ l. x ∷ l) (itself xs)
+
+-- one more table that is there
+module _ (db : List Slot) (tx : ℕ) (names : List (List ℕ)) (i : ℕ) (name : List ℕ) (view : Table) (lt : i < length names) (is : name ≡ get_or names i name) (there : Some view ≡ option_map (λ s. seen s tx) (slot_of db name)) where
+  pub named_next : list_any (λ n. is_none (slot_of db n)) (take i names) ≡ false → list_any (λ n. is_none (slot_of db n)) (take (i + 1) names) ≡ false
+  named_next all =
+      ap (list_any (λ n. is_none (slot_of db n))) (sym (itself (take (i + 1) names)))
+      ∙ none_next (λ n. n) (λ n. is_none (slot_of db n)) names i name lt is (ap (list_any (λ n. is_none (slot_of db n))) (itself (take i names)) ∙ all) (none_of (λ s. seen s tx) (slot_of db name) view there)
+
+  pub seen_next : (out new : List Table) → out ≡ tables_seen db tx (take i names) → new ≡ out ++ view ∷ [] → new ≡ tables_seen db tx (take (i + 1) names)
+  seen_next out new so_far more =
+      more ∙ ap (λ l. l ++ view ∷ []) so_far
+      ∙ sym (ap (tables_seen db tx) (take_more names i name lt ∙ ap (λ n. take i names ++ n ∷ []) (sym is))
+      ∙ filter_map_end (λ n. option_map (λ s. seen s tx) (slot_of db n)) (take i names) name view (sym there))
+
+-- a table alone
+pub one_table : (views : List Table) (view : Table) → 1 ≤ length views → length views < 2 → view ≡ get_or views 0 view → view.rows ≡ product (map (λ (t : Table). t.rows) views)
+one_table [] view some one is = absurd (omega (arith, some))
+one_table (t ∷ []) view some one is = ap (λ (t : Table). t.rows) is ∙ sym (product_one t.rows)
+one_table (t ∷ u ∷ us) view some one is = absurd (omega (arith, one))
+
+-- ---- refusals
+
+module _ {A : Type 0} (a b c : Bool) (rest : Result A Refusal) where
+  abbrev first_code : Option ℕ
+  first_code = cond a (Some NO_COLUMN) (cond b (Some BAD_COLUMNS) (cond c (Some WRONG_TYPE) None))
+
+  abbrev in_turn : Result A Refusal
+  in_turn = unless a (bare NO_COLUMN) (unless b (bare BAD_COLUMNS) (unless c (bare WRONG_TYPE) rest))
+
+the_code : (n m : ℕ) → ◌≡◌ {A = Option ℕ} (Some n) (Some m) → m ≡ n
+the_code n m e = sym (ap (λ o. elim o [ None ↦ n | Some k ↦ k ]) e)
+
+refused_first : {A : Type 0} (a b c : Bool) (rest : Result A Refusal) (code : ℕ) → Some code ≡ first_code a b c rest → in_turn a b c rest ≡ Err (bare code)
+refused_first true b c rest code e = ap (λ n. Err (bare n)) (the_code code NO_COLUMN e)
+refused_first false true c rest code e = ap (λ n. Err (bare n)) (the_code code BAD_COLUMNS e)
+refused_first false false true rest code e = ap (λ n. Err (bare n)) (the_code code WRONG_TYPE e)
+refused_first false false false rest code e = cc e
+
+accepted : {A : Type 0} (a b c : Bool) (rest : Result A Refusal) → None ≡ first_code a b c rest → in_turn a b c rest ≡ rest
+accepted true b c rest e = cc e
+accepted false true c rest e = cc e
+accepted false false true rest e = cc e
+accepted false false false rest e = refl
+
+module _ (tables : List Table) (s : Select) where
+  abbrev scope : List (List ℕ × Column)
+  scope = scope_of (map (λ (t : Table). t.schema) tables)
+
+  pub refused_is : (code : ℕ) → Some code ≡ code_of scope s → Refused (bare code) ≡ asked_by (answered tables s)
+  refused_is code e = sym (ap asked_by (refused_first (list_any (is_stranger scope) (columns_named s) || where_names_stranger scope s.cond) (has_bad_columns scope s.items s.order s.group) (where_mixes_kinds scope s.cond || list_any (sums_text scope) (listed s.items)) _ code e))
+
+  pub accepted_is : None ≡ code_of scope s → answer_from scope s (option_map (predicate_of scope) s.cond) (product (map (λ (t : Table). t.rows) tables)) ≡ asked_by (answered tables s)
+  accepted_is e = sym (ap asked_by (accepted (list_any (is_stranger scope) (columns_named s) || where_names_stranger scope s.cond) (has_bad_columns scope s.items s.order s.group) (where_mixes_kinds scope s.cond || list_any (sums_text scope) (listed s.items)) _ e))
+
+-- ---- the whole
+
+named_cases : (b : Bool) (s : Select) (tables : List Table) (o : Option (List Table)) → o ≡ cond b None (Some tables) → (v : List Table) → o ≡ Some v → asked_by (answered v s) ≡ asked_by (unless b (bare NO_TABLE) (answered tables s))
+named_cases true s tables o e v f = cc (sym e ∙ f)
+named_cases false s tables o e v f = ap (λ t. asked_by (answered t s)) (ap (λ o. elim o [ None ↦ v | Some t ↦ t ]) (sym f ∙ e))
+
+pub asked_is : (db : List Slot) (tx : ℕ) (s : Select) (v : List Table) → Some v ≡ tables_named db tx s.tables → asked_by (answered v s) ≡ ask db tx s
+asked_is db tx s v e = named_cases (list_any (λ n. is_none (slot_of db n)) s.tables) s (tables_seen db tx s.tables) (tables_named db tx s.tables) refl v (sym e)

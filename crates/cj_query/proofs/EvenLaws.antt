@@ -1,0 +1,243 @@
+-- The rows of an answer have a value for each of its columns.
+use Rattle.std.proofs.Common.{◌≡◌, ℕ, suc, ◌+◌, ◌*◌, ◌≤◌, arith, Bool, true, false, cond, ◌||◌, List, [], ◌∷◌, ◌++◌, length, map, refl, ap, sym, ◌∙◌, subst, length-append, take, get_or, ◌<◌}
+use Rattle.std.specs.Prelude.{All, IfOk, filter, flat_map, is_none, option_map}
+use Rattle.std.specs.List.{cons_option, list_any}
+use Rattle.std.specs.declared.option.Option.{Option}
+use Rattle.std.specs.declared.option.Option.TheVariants.{None, Some}
+use Rattle.std.specs.declared.result.Result.{Result}
+use Rattle.std.specs.declared.result.Result.TheVariants.{Ok, Err}
+use Rattle.std.proofs.lemmas.Bool.{and_parts}
+use Rattle.std.proofs.lemmas.List.{length-map, take_more}
+use Rattle.std.proofs.lemmas.List.Elements.{All-nil, All-cons, All-head, All-tail, All-append, All-map, All-filter, All-take, All-weaker}
+use Rattle.cj_model.specs.declared.value.Value.{Value}
+use Rattle.cj_model.specs.declared.term.ColRef.{ColRef}
+use Rattle.cj_model.specs.declared.schema.Column.{Column}
+use Rattle.cj_model.specs.declared.schema.Schema.{Schema}
+use Rattle.cj_model.specs.declared.database.Table.{Table}
+use Rattle.cj_model.specs.declared.select.Item.{Item}
+use Rattle.cj_model.specs.declared.select.Items.{Items}
+use Rattle.cj_model.specs.declared.select.Items.TheVariants as select_items
+use Rattle.cj_model.specs.declared.select.Select.{Select}
+use Rattle.cj_model.specs.declared.answer.Answer.{Answer}
+use Rattle.cj_model.specs.declared.answer.Refusal.{Refusal}
+use Rattle.cj_model.specs.Values.{kind_of}
+use Rattle.cj_model.specs.declared.answer.Asked.{Asked}
+use Rattle.cj_model.specs.declared.memory.NoMemory.{NoMemory}
+use Rattle.cj_model.specs.declared.codes.TheConstants.{NO_COLUMN, BAD_COLUMNS, OVERFLOW, WRONG_TYPE}
+use Rattle.cj_model.specs.Changes.{bare, unless}
+use Rattle.cj_model.specs.Evaluation.{meets}
+use Rattle.cj_model.specs.Order.{product, before, ordered, put_before, cut}
+use Rattle.cj_model.specs.Queries.{answer_of, answered, asked_by, columns_named, first_of, gathered, groups_answered, has_bad_columns, is_sum_outside, item_of, listed, names_answered, row_made, sort_key_of, sums_text, tables_seen}
+use Rattle.cj_model.specs.Scopes.{Scope, is_stranger, scope_of, predicate_of, where_mixes_kinds, where_names_stranger}
+use Rattle.cj_model.specs.Tables.{IsTable, fits_columns, same_kind, slot_of}
+use Rattle.cj_model.specs.declared.database.Slot.{Slot}
+use Rattle.cj_model.specs.declared.answer.Asked.TheVariants.{Rows, Refused}
+use Rattle.cj_model.specs.Steps.{seen}
+use Rattle.cj_query.specs.Seen.{tables_named}
+use Rattle.cj_query.specs.Even.{AsksColumns, HasEvenRows, IsAskable, IsEvenAsked}
+
+-- ---- rows of tables
+
+abbrev IsWide : ℕ → List Value → Type 0
+IsWide n row = length row ≡ n
+
+fits_width : (cs : List Column) (row : List Value) → fits_columns cs row ≡ true → length row ≡ length cs
+fits_width [] [] h = refl
+fits_width [] (v ∷ vs) h = cc h
+fits_width (c ∷ cs) [] h = cc h
+fits_width (c ∷ cs) (v ∷ vs) h = ap suc (fits_width cs vs (and_parts (same_kind c.kind (kind_of v)) (fits_columns cs vs) h).1)
+
+-- each row of a table has a key
+pub keyed_rows : (t : Table) → IsTable t → All (λ row. t.schema.key < length row) t.rows
+keyed_rows t is = All-weaker (λ row. fits_columns t.schema.columns row ≡ true) (λ row. t.schema.key < length row) (λ row h. subst (λ n. t.schema.key < n) (sym (fits_width t.schema.columns row h)) is.key) t.rows is.kinds
+
+beside_wide : (n m : ℕ) (row : List Value) (rows : List (List Value)) → length row ≡ n → All (IsWide m) rows → All (IsWide (n + m)) (map (λ s. row ++ s) rows)
+beside_wide n m row [] e a = All-nil (IsWide (n + m))
+beside_wide n m row (s ∷ rows) e a = All-cons (IsWide (n + m)) (row ++ s) (map (λ s. row ++ s) rows)
+    (length-append row s ∙ ap (λ k. k + length s) e ∙ ap (λ k. n + k) (All-head (IsWide m) s rows a))
+    (beside_wide n m row rows e (All-tail (IsWide m) s rows a))
+
+product_wide : (n m : ℕ) (rows rest : List (List Value)) → All (IsWide n) rows → All (IsWide m) rest → All (IsWide (n + m)) (flat_map (λ r. map (λ s. r ++ s) rest) rows)
+product_wide n m [] rest a b = All-nil (IsWide (n + m))
+product_wide n m (r ∷ rows) rest a b = All-append (IsWide (n + m)) (map (λ s. r ++ s) rest) (flat_map (λ r. map (λ s. r ++ s) rest) rows)
+    (beside_wide n m r rest (All-head (IsWide n) r rows a) b)
+    (product_wide n m rows rest (All-tail (IsWide n) r rows a) b)
+
+abbrev schemas_in : List Table → List Schema
+schemas_in tables = map (λ (t : Table). t.schema) tables
+
+joined_wide : (tables : List Table) → All IsTable tables → All (IsWide (length (scope_of (schemas_in tables)))) (product (map (λ (t : Table). t.rows) tables))
+joined_wide [] a = All-cons (IsWide 0) [] [] refl (All-nil (IsWide 0))
+joined_wide (t ∷ ts) a =
+    let rows : All (IsWide (length t.schema.columns)) t.rows = All-weaker (λ row. fits_columns t.schema.columns row ≡ true) (IsWide (length t.schema.columns)) (fits_width t.schema.columns) t.rows (All-head IsTable t ts a).kinds in
+    let width : length t.schema.columns + length (scope_of (schemas_in ts)) ≡ length (scope_of (schemas_in (t ∷ ts)))
+    = ap (λ n. n + length (scope_of (schemas_in ts))) (sym (length-map t.schema.columns (λ (c : Column). (t.schema.table, c))))
+    ∙ sym (length-append (map (λ (c : Column). (t.schema.table, c)) t.schema.columns) (scope_of (schemas_in ts))) in
+    subst (λ n. All (IsWide n) (product (map (λ (t : Table). t.rows) (t ∷ ts)))) width
+    (product_wide (length t.schema.columns) (length (scope_of (schemas_in ts))) t.rows (product (map (λ (t : Table). t.rows) ts)) rows (joined_wide ts (All-tail IsTable t ts a)))
+
+-- ---- groups
+
+All-put_before : {X : Type 0} (P : X → Type 0) (lt : X → X → Bool) (x : X) (ys : List X) → P x → All P ys → All P (put_before lt x ys)
+All-put_before P lt x [] p a = All-cons P x [] p a
+All-put_before P lt x (y ∷ ys) p a = elim (lt y x) as (λ b. All P (cond b (y ∷ put_before lt x ys) (x ∷ y ∷ ys))) [
+  | true ↦ All-cons P y (put_before lt x ys) (All-head P y ys a) (All-put_before P lt x ys p (All-tail P y ys a))
+  | false ↦ All-cons P x (y ∷ ys) p a
+]
+
+All-ordered : {X : Type 0} (P : X → Type 0) (lt : X → X → Bool) (xs : List X) → All P xs → All P (ordered lt xs)
+All-ordered P lt [] a = a
+All-ordered P lt (x ∷ xs) a = All-put_before P lt x (ordered lt xs) (All-head P x xs a) (All-ordered P lt xs (All-tail P x xs a))
+
+All-cut : {X : Type 0} (P : X → Type 0) (limit : Option ℕ) (xs : List X) → All P xs → All P (cut limit xs)
+All-cut P None xs a = a
+All-cut P (Some n) xs a = All-take P n xs a
+
+-- what holds of any
+always : {X : Type 0} (P : X → Type 0) → ((x : X) → P x) → (xs : List X) → All P xs
+always P h [] = All-nil P
+always P h (x ∷ xs) = All-cons P x xs (h x) (always P h xs)
+
+-- ---- answers
+
+module _ (scope : Scope) (s : Select) where
+  abbrev columns : List (List ℕ)
+  columns = names_answered scope s.items
+
+  abbrev IsEvenRow : List Value → Type 0
+  IsEvenRow row = length row ≡ length columns
+
+  -- the rows that are made of groups are even
+  abbrev MakesEven : List (List (List Value)) → Type 0
+  MakesEven groups = All IsEvenRow (map (row_made scope s.items) groups)
+
+  answer_even : (groups : List (List (List Value))) (b : Bool) (refusal : Refusal) → MakesEven groups → HasEvenRows (asked_by (unless b refusal (Ok (record { columns = columns; rows = map (row_made scope s.items) groups }))))
+  answer_even groups true refusal a = tt
+  answer_even groups false refusal a = a
+
+even_listed : (scope : Scope) (items : List Item) (groups : List (List (List Value))) → All (λ row. length row ≡ length (names_answered scope (select_items.Listed items))) (map (row_made scope (select_items.Listed items)) groups)
+even_listed scope items groups = All-map (λ (row : List Value). length row ≡ length (names_answered scope (select_items.Listed items))) (row_made scope (select_items.Listed items)) groups
+    (always (λ g. length (row_made scope (select_items.Listed items) g) ≡ length (names_answered scope (select_items.Listed items))) (λ g. length-map items (item_of scope g) ∙ sym (length-map items _)) groups)
+
+even_all : (scope : Scope) (limit : Option ℕ) (lt : List (List Value) → List (List Value) → Bool) (rows : List (List Value)) → All (IsWide (length scope)) rows → All (λ row. length row ≡ length (names_answered scope select_items.All)) (map (row_made scope select_items.All) (cut limit (ordered lt (map (λ r. r ∷ []) rows))))
+even_all scope limit lt rows a =
+    let P : List (List Value) → Type 0 = λ g. length (first_of g) ≡ length (names_answered scope select_items.All) in
+    All-map (λ (row : List Value). length row ≡ length (names_answered scope select_items.All)) (row_made scope select_items.All) (cut limit (ordered lt (map (λ r. r ∷ []) rows)))
+    (All-cut P limit (ordered lt (map (λ r. r ∷ []) rows)) (All-ordered P lt (map (λ r. r ∷ []) rows) (All-map P (λ r. r ∷ []) rows
+    (All-weaker (IsWide (length scope)) (λ r. length r ≡ length (names_answered scope select_items.All)) (λ r e. e ∙ sym (length-map scope _)) rows a))))
+
+refused_even : (b : Bool) (refusal : Refusal) (r : Result Answer Refusal) → (b ≡ false → HasEvenRows (asked_by r)) → HasEvenRows (asked_by (unless b refusal r))
+refused_even true refusal r h = tt
+refused_even false refusal r h = h refl
+
+-- whatever the items and the group are
+groups_even : (scope : Scope) (s : Select) (items : Items) (group : Option ColRef) (rows : List (List Value)) (lt : List (List Value) → List (List Value) → Bool) → All (IsWide (length scope)) rows → has_bad_columns scope items s.order group ≡ false → All (λ row. length row ≡ length (names_answered scope items)) (map (row_made scope items) (cut s.limit (ordered lt (gathered scope items group rows))))
+groups_even scope s select_items.All None rows lt a ok = even_all scope s.limit lt rows a
+groups_even scope s select_items.All (Some group) rows lt a ok = cc ok
+groups_even scope s (select_items.Listed items) group rows lt a ok = even_listed scope items (cut s.limit (ordered lt (gathered scope (select_items.Listed items) group rows)))
+
+pub answered_even : (tables : List Table) (s : Select) → All IsTable tables → HasEvenRows (asked_by (answered tables s))
+answered_even tables s legal =
+    let scope = scope_of (schemas_in tables) in
+    let rows = filter (meets (option_map (predicate_of scope) s.cond)) (product (map (λ (t : Table). t.rows) tables)) in
+    let wide : All (IsWide (length scope)) rows = All-filter (meets (option_map (predicate_of scope) s.cond)) (IsWide (length scope)) (product (map (λ (t : Table). t.rows) tables)) (joined_wide tables legal) in
+    let groups = groups_answered scope s rows in
+    let last : Result Answer Refusal = answer_of scope s groups in
+    let mixes = where_mixes_kinds scope s.cond || list_any (sums_text scope) (listed s.items) in
+    let bad = has_bad_columns scope s.items s.order s.group in
+    refused_even (list_any (is_stranger scope) (columns_named s) || where_names_stranger scope s.cond) (bare NO_COLUMN) (unless bad (bare BAD_COLUMNS) (unless mixes (bare WRONG_TYPE) last)) (λ known.
+    refused_even bad (bare BAD_COLUMNS) (unless mixes (bare WRONG_TYPE) last) (λ good.
+    refused_even mixes (bare WRONG_TYPE) last (λ kinds.
+    answer_even scope s groups (list_any (λ g. list_any (is_sum_outside scope g) (listed s.items)) groups) (bare OVERFLOW) (groups_even scope s s.items s.group rows (λ g h. before (map (sort_key_of scope) s.order) (first_of g) (first_of h)) wide good))))
+
+-- an answer of which it is known what it is
+pub known_even : (r : Result Asked NoMemory) (x : Asked) → IfOk r (λ asked. asked ≡ x) → HasEvenRows x → IfOk r HasEvenRows
+known_even (Ok asked) x e h = subst HasEvenRows (sym e) h
+known_even (Err error) x e h = tt
+
+-- ---- a walk that looks at each table
+
+pub legal_next : (views : List Table) (i : ℕ) (view : Table) → i < length views → view ≡ get_or views i view → All IsTable (take i views) → IsTable view → All IsTable (take (i + 1) views)
+legal_next views i view lt is a h = subst (All IsTable) (sym (take_more views i view lt ∙ ap (λ v. take i views ++ v ∷ []) (sym is))) (All-append IsTable (take i views) (view ∷ []) a (All-cons IsTable view [] h (All-nil IsTable)))
+
+-- ---- how many columns
+
+abbrev HasColumns : ℕ → Asked → Type 0
+HasColumns n (Rows answer) = length answer.columns ≡ n
+HasColumns n (Refused refusal) = Unit {0}
+
+unless_columns : (n : ℕ) (b : Bool) (refusal : Refusal) (r : Result Answer Refusal) → HasColumns n (asked_by r) → HasColumns n (asked_by (unless b refusal r))
+unless_columns n true refusal r h = tt
+unless_columns n false refusal r h = h
+
+answered_columns : (tables : List Table) (s : Select) → HasColumns (length (names_answered (scope_of (schemas_in tables)) s.items)) (asked_by (answered tables s))
+answered_columns tables s =
+    let scope = scope_of (schemas_in tables) in
+    let n = length (names_answered scope s.items) in
+    let rows = filter (meets (option_map (predicate_of scope) s.cond)) (product (map (λ (t : Table). t.rows) tables)) in
+    let groups = groups_answered scope s rows in
+    let all : Result Answer Refusal = Ok (record { columns = names_answered scope s.items; rows = map (row_made scope s.items) groups }) in
+    let last : Result Answer Refusal = answer_of scope s groups in
+    let mixes = where_mixes_kinds scope s.cond || list_any (sums_text scope) (listed s.items) in
+    let bad = has_bad_columns scope s.items s.order s.group in
+    unless_columns n (list_any (is_stranger scope) (columns_named s) || where_names_stranger scope s.cond) (bare NO_COLUMN) (unless bad (bare BAD_COLUMNS) (unless mixes (bare WRONG_TYPE) last))
+    (unless_columns n bad (bare BAD_COLUMNS) (unless mixes (bare WRONG_TYPE) last)
+    (unless_columns n mixes (bare WRONG_TYPE) last
+    (unless_columns n (list_any (λ g. list_any (is_sum_outside scope g) (listed s.items)) groups) (bare OVERFLOW) all refl)))
+
+scope_width : (tables : List Table) → All IsTable tables → (length tables ≤ length (scope_of (schemas_in tables))) × (length (scope_of (schemas_in tables)) ≤ 16 * length tables)
+scope_width [] a = (omega arith, omega arith)
+scope_width (t ∷ ts) a =
+    let is = All-head IsTable t ts a in
+    let rest = scope_width ts (All-tail IsTable t ts a) in
+    let some : 0 < length t.schema.columns = omega (arith, is.key) in
+    let few : length t.schema.columns ≤ 16 = is.few in
+    let width : length (scope_of (schemas_in (t ∷ ts))) ≡ length t.schema.columns + length (scope_of (schemas_in ts))
+    = length-append (map (λ (c : Column). (t.schema.table, c)) t.schema.columns) (scope_of (schemas_in ts)) ∙ ap (λ n. n + length (scope_of (schemas_in ts))) (length-map t.schema.columns (λ (c : Column). (t.schema.table, c))) in
+    (omega (arith, width, rest.0, some), omega (arith, width, rest.1, few))
+
+names_width : (tables : List Table) (items : Items) → All IsTable tables → 0 < length tables → length tables ≤ 4 → AsksColumns items → (0 < length (names_answered (scope_of (schemas_in tables)) items)) × (length (names_answered (scope_of (schemas_in tables)) items) < 65536)
+names_width tables select_items.All legal some few h =
+    let w = scope_width tables legal in
+    let e : length (names_answered (scope_of (schemas_in tables)) select_items.All) ≡ length (scope_of (schemas_in tables)) = length-map (scope_of (schemas_in tables)) _ in
+    (omega (arith, e, w.0, some), omega (arith, e, w.1, few))
+names_width tables (select_items.Listed items) legal some few h =
+    let e : length (names_answered (scope_of (schemas_in tables)) (select_items.Listed items)) ≡ length items = length-map items _ in
+    (omega (arith, e, h.0), omega (arith, e, h.1))
+
+even_from : (asked : Asked) (n : ℕ) → HasEvenRows asked → HasColumns n asked → 0 < n → n < 65536 → IsEvenAsked asked
+even_from (Rows answer) n rows count some most = record { some = subst (λ m. 0 < m) (sym count) some; most = subst (λ m. m < 65536) (sym count) most; each = rows }
+even_from (Refused refusal) n rows count some most = tt
+
+-- ---- tables that are there
+
+length-cons_some : (f : Slot → Table) (o : Option Slot) (l : List Table) → is_none o ≡ false → length (cons_option (option_map f o) l) ≡ suc (length l)
+length-cons_some f None l h = cc h
+length-cons_some f (Some s) l h = refl
+
+or_false : (b c : Bool) → (b || c) ≡ false → (b ≡ false) × (c ≡ false)
+or_false true c h = cc h
+or_false false c h = (refl, h)
+
+length-tables_seen : (db : List Slot) (tx : ℕ) (names : List (List ℕ)) → list_any (λ n. is_none (slot_of db n)) names ≡ false → length (tables_seen db tx names) ≡ length names
+length-tables_seen db tx [] h = refl
+length-tables_seen db tx (n ∷ names) h =
+    let parts = or_false (is_none (slot_of db n)) (list_any (λ n. is_none (slot_of db n)) names) h in
+    length-cons_some (λ s. seen s tx) (slot_of db n) (tables_seen db tx names) parts.0 ∙ ap suc (length-tables_seen db tx names parts.1)
+
+there : (b : Bool) (v t : List Table) → ◌≡◌ {A = Option (List Table)} (Some v) (cond b None (Some t)) → (b ≡ false) × (v ≡ t)
+there true v t e = cc e
+there false v t e = (refl, ap (λ o. elim o [ None ↦ v | Some u ↦ u ]) e)
+
+length-named : (db : List Slot) (tx : ℕ) (names : List (List ℕ)) (v : List Table) → Some v ≡ tables_named db tx names → length v ≡ length names
+length-named db tx names v e =
+    let parts = there (list_any (λ n. is_none (slot_of db n)) names) v (tables_seen db tx names) e in
+    ap length parts.1 ∙ length-tables_seen db tx names parts.0
+
+-- an answer of a query that asks for columns
+pub askable_even : (db : List Slot) (tx : ℕ) (s : Select) (v : List Table) (r : Result Asked NoMemory) → Some v ≡ tables_named db tx s.tables → All IsTable v → IfOk r (λ asked. asked ≡ asked_by (answered v s)) → IsAskable s → IfOk r IsEvenAsked
+askable_even db tx s v (Err error) e legal is h = tt
+askable_even db tx s v (Ok asked) e legal is h =
+    let count : length v ≡ length s.tables = length-named db tx s.tables v e in
+    let width = names_width v s.items legal (subst (λ n. 0 < n) (sym count) h.some) (subst (λ n. n ≤ 4) (sym count) h.few) h.columns in
+    subst IsEvenAsked (sym is) (even_from (asked_by (answered v s)) (length (names_answered (scope_of (schemas_in v)) s.items)) (answered_even v s legal) (answered_columns v s) width.0 width.1)

@@ -1,0 +1,13 @@
+pub mod EvenLaws
+pub mod GroupLaws
+pub mod KeyLaws
+pub mod OrderLaws
+pub mod WalkLaws
+pub mod RunLaws
+pub mod NameLaws
+pub mod MadeLaws
+pub mod JoinLaws
+pub mod AskLaws
+pub mod PathLaws
+pub mod CountLaws
+pub mod LimitLaws

@@ -1,0 +1,106 @@
+-- Where less than all rows are looked at, the answer is the same.
+use Rattle.std.proofs.Common.{◌≡◌, ℕ, ◌≤◌, Bool, true, false, not, ◌&&◌, cond, eqb, List, [], ◌∷◌, length, map, get_or, refl, ap, sym, ◌∙◌, ⊎_elim, Less, Greater, is_eq, arith}
+use Rattle.std.specs.Prelude.{All, filter, option_to_list, is_none}
+use Rattle.std.specs.Ordering.{is_lt, ordering_reverse, ordering_then}
+use Rattle.std.specs.declared.option.Option.{Option}
+use Rattle.std.specs.declared.option.Option.TheVariants.{None, Some}
+use Rattle.std.proofs.lemmas.Bool.{and_parts, cases_Bool, cond-true, cond-false, false_from_ne_true, not-true}
+use Rattle.std.proofs.lemmas.Cmp.{tied_itself}
+use Rattle.std.proofs.lemmas.List.{take-map}
+use Rattle.std.proofs.lemmas.List.Elements.{All-head, All-tail}
+use Rattle.std.proofs.lemmas.List.Sorted.{ranks_by}
+use Rattle.cj_model.specs.declared.value.Value.{Value}
+use Rattle.cj_model.specs.declared.select.Key.{Key}
+use Rattle.cj_model.specs.declared.select.Select.{Select}
+use Rattle.cj_model.specs.declared.term.ColRef.{ColRef}
+use Rattle.cj_model.specs.Values.{value_cmp, value_total}
+use Rattle.cj_model.specs.Tables.{Rises, by_key, cell}
+use Rattle.cj_model.specs.Order.{SortKey, before, by_sort_key, by_sort_keys, cut, ordered}
+use Rattle.cj_model.specs.Queries.{aggregates, first_of, gathered, groups_answered, sort_key_of}
+use Rattle.cj_model.specs.Scopes.{Scope, place}
+use Rattle.cj_table.specs.Lookups.{row_with_key}
+use Rattle.cj_query.specs.Paths.{PinsTo, is_led_by, is_rising_at, follows_rows}
+use Rattle.cj_query.proofs.KeyLaws.{by_sort_keys_total, always_in_order}
+use Rattle.cj_query.proofs.OrderLaws.{IsInOrder, NoneBefore, ordered_same}
+
+-- ---- a look-up
+
+module _ (k : ℕ) (v : Value) (p : List Value → Bool) (pins : PinsTo k p v) where
+  other_fails : (row : List Value) → is_eq (value_cmp (cell row k) v) ≡ false → p row ≡ false
+  other_fails row f = false_from_ne_true _ (λ t. cc (sym f ∙ ap (λ w. is_eq (value_cmp w v)) (pins.at row t) ∙ ap is_eq (tied_itself value_total v)))
+
+  none_above : (row : List Value) (rows : List (List Value)) → is_eq (value_cmp (cell row k) v) ≡ true → All (λ s. by_key k row s ≡ Less) rows → filter p rows ≡ []
+  none_above row [] e a = refl
+  none_above row (s ∷ rows) e a =
+      let less : value_cmp (cell row k) (cell s k) ≡ Less = All-head (λ s. by_key k row s ≡ Less) s rows a in
+      cond-false _ _ _ (false_from_ne_true _ (λ t. cc (sym (ap is_eq less) ∙ ap (λ w. is_eq (value_cmp (cell row k) w)) (pins.at s t) ∙ e)))
+      ∙ none_above row rows e (All-tail (λ s. by_key k row s ≡ Less) s rows a)
+
+  -- where the key is pinned, the row with that key is the only one that may pass
+  pub pinned_rows : (rows : List (List Value)) → Rises (by_key k) rows → filter p (option_to_list (row_with_key k rows v)) ≡ filter p rows
+  pinned_rows [] r = refl
+  pinned_rows (row ∷ rows) r = ⊎_elim
+      (λ (t : is_eq (value_cmp (cell row k) v) ≡ true).
+      ap (λ o. filter p (option_to_list o)) (cond-true _ _ _ t)
+      ∙ ap (λ l. cond (p row) (row ∷ l) l) (sym (none_above row rows t r.0)))
+      (λ (f : is_eq (value_cmp (cell row k) v) ≡ false).
+      ap (λ o. filter p (option_to_list o)) (cond-false _ _ _ f) ∙ pinned_rows rows r.1 ∙ sym (cond-false _ _ _ (other_fails row f)))
+      (cases_Bool (is_eq (value_cmp (cell row k) v)))
+
+-- ---- the order of the rows
+
+pub led_by_first : (scope : Scope) (n : ℕ) (keys : List Key) (k : Key) → 1 ≤ length keys → k ≡ get_or keys 0 k → is_rising_at scope n k ≡ is_led_by scope n keys
+led_by_first scope n [] k l is = absurd (omega (arith, l))
+led_by_first scope n (x ∷ keys) k l is = ap (is_rising_at scope n) is
+
+same_place : (a b : ℕ) → eqb a b ≡ true → a ≡ b
+same_place a b h = grind arith
+
+-- a row above another is not before it
+not_before_above : (scope : Scope) (n : ℕ) (k : Key) (keys : List SortKey) (r s : List Value) → is_rising_at scope n k ≡ true → by_key n r s ≡ Less → before (sort_key_of scope k ∷ keys) s r ≡ false
+not_before_above scope n k keys r s h l =
+    let parts = and_parts (not k.desc) (eqb (place scope k.col) n) h in
+    let greater : by_key n s r ≡ Greater = value_total.antisymm (cell s n) (cell r n) ∙ ap ordering_reverse l in
+    let first : by_sort_key (sort_key_of scope k) s r ≡ Greater
+    = ap (λ b. cond b (by_key (place scope k.col) r s) (by_key (place scope k.col) s r)) (not-true _ parts.0)
+    ∙ ap (λ m. by_key m s r) (same_place (place scope k.col) n parts.1) ∙ greater in
+    ap (λ o. is_lt (ordering_then o (by_sort_keys keys s r))) first
+
+module _ (scope : Scope) (n : ℕ) (keys : List Key) where
+  abbrev earlier : List (List Value) → List (List Value) → Bool
+  earlier g h = before (map (sort_key_of scope) keys) (first_of g) (first_of h)
+
+  abbrev alone : List (List Value) → List (List (List Value))
+  alone rows = map (λ r. r ∷ []) rows
+
+none_before_first : (scope : Scope) (n : ℕ) (k : Key) (keys : List Key) (r : List Value) (rows : List (List Value)) → is_rising_at scope n k ≡ true → All (λ s. by_key n r s ≡ Less) rows → NoneBefore (earlier scope n (k ∷ keys)) (r ∷ []) (alone scope n keys rows)
+none_before_first scope n k keys r [] h a = tt
+none_before_first scope n k keys r (s ∷ rows) h a = (
+  not_before_above scope n k (map (sort_key_of scope) keys) r s h (All-head (λ s. by_key n r s ≡ Less) s rows a),
+  none_before_first scope n k keys r rows h (All-tail (λ s. by_key n r s ≡ Less) s rows a),
+)
+
+rows_in_order : (scope : Scope) (n : ℕ) (k : Key) (keys : List Key) (rows : List (List Value)) → is_rising_at scope n k ≡ true → Rises (by_key n) rows → IsInOrder (earlier scope n (k ∷ keys)) (alone scope n keys rows)
+rows_in_order scope n k keys [] h r = tt
+rows_in_order scope n k keys (row ∷ rows) h r = (none_before_first scope n k keys row rows h r.0, rows_in_order scope n k keys rows h r.1)
+
+ordered_alone : (scope : Scope) (n : ℕ) (keys : List Key) (rows : List (List Value)) → is_led_by scope n keys ≡ true → Rises (by_key n) rows → ordered (earlier scope n keys) (alone scope n keys rows) ≡ alone scope n keys rows
+ordered_alone scope n [] rows h r = always_in_order (alone scope n [] rows)
+ordered_alone scope n (k ∷ keys) rows h r = ordered_same (earlier scope n (k ∷ keys)) (ranks_by (by_sort_keys_total (map (sort_key_of scope) (k ∷ keys))) first_of) (alone scope n keys rows) (rows_in_order scope n k keys rows h r)
+
+cut_alone : (limit : Option ℕ) (rows : List (List Value)) → cut limit (map (λ r. r ∷ []) rows) ≡ map (λ r. r ∷ []) (cut limit rows)
+cut_alone None rows = refl
+cut_alone (Some n) rows = take-map (λ r. r ∷ []) n rows
+
+gathered_alone : (scope : Scope) (s : Select) (group : Option ColRef) (rows : List (List Value)) → is_none group ≡ true → aggregates s.items ≡ false → gathered scope s.items group rows ≡ map (λ r. r ∷ []) rows
+gathered_alone scope s None rows g a = cond-false _ _ _ a
+gathered_alone scope s (Some c) rows g a = cc g
+
+-- each row is answered by itself, in the order of the rows
+pub groups_alone : (scope : Scope) (s : Select) (n : ℕ) (rows : List (List Value)) → follows_rows scope s n ≡ true → Rises (by_key n) rows → groups_answered scope s rows ≡ map (λ r. r ∷ []) (cut s.limit rows)
+groups_alone scope s n rows h r =
+    let a = and_parts (is_none s.group && not (aggregates s.items)) (is_led_by scope n s.order) h in
+    let b = and_parts (is_none s.group) (not (aggregates s.items)) a.0 in
+    ap (λ gs. cut s.limit (ordered (earlier scope n s.order) gs)) (gathered_alone scope s s.group rows b.0 (not-true _ b.1))
+    ∙ ap (cut s.limit) (ordered_alone scope n s.order rows a.1 r)
+    ∙ cut_alone s.limit rows

@@ -1,0 +1,7 @@
+use Rattle.std.proofs.Common.{◌≡◌, [], ◌∷◌, map, take}
+use Rattle.std.specs.Map.Iter.{deref}
+use Rattle.cj_query.specs.Groups.{rows_in}
+use Rattle.cj_query.proofs.groups.singles.Given as goal
+
+abbrev pub invariant-loop-at : goal.invariant-loop-at
+invariant-loop-at l = rows_in l.out.items ≡ map (λ row. row ∷ []) (map deref (take l.at l.rows))

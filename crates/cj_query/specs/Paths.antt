@@ -1,0 +1,48 @@
+-- Where less than all rows are looked at.
+use Rattle.std.specs.Prelude.{◌≡◌, ℕ, Bool, true, false, not, ◌&&◌, ◌==◌, nat_le, List, [], ◌∷◌, is_none}
+use Rattle.std.specs.declared.option.Option.{Option}
+use Rattle.std.specs.declared.option.Option.TheVariants.{None, Some}
+use Rattle.std.specs.List.{list_all}
+use Rattle.cj_model.specs.declared.value.Value.{Value}
+use Rattle.cj_model.specs.declared.select.Item.{Item}
+use Rattle.cj_model.specs.declared.select.Item.TheVariants as item
+use Rattle.cj_model.specs.declared.select.Items.{Items}
+use Rattle.cj_model.specs.declared.select.Items.TheVariants.{All, Listed}
+use Rattle.cj_model.specs.declared.select.Key.{Key}
+use Rattle.cj_model.specs.declared.select.Select.{Select}
+use Rattle.cj_model.specs.Queries.{aggregates}
+use Rattle.cj_model.specs.Scopes.{Scope, place}
+use Rattle.cj_model.specs.Tables.{cell}
+
+-- each row that passes the test has this value at the place
+pub record PinsTo (place : ℕ) (p : List Value → Bool) (v : Value) : Type 0 where
+  pub at : (row : List Value) → p row ≡ true → cell row place ≡ v
+
+-- the rising key at this place
+abbrev pub is_rising_at : Scope → ℕ → Key → Bool
+is_rising_at scope n k = not k.desc && place scope k.col == n
+
+-- no keys, or first the rising one at this place
+abbrev pub is_led_by : Scope → ℕ → List Key → Bool
+is_led_by scope n [] = true
+is_led_by scope n (k ∷ ks) = is_rising_at scope n k
+
+-- each row is answered by itself, in the order of the rows
+abbrev pub follows_rows : Scope → Select → ℕ → Bool
+follows_rows scope s n = is_none s.group && not (aggregates s.items) && is_led_by scope n s.order
+
+abbrev pub is_count : Item → Bool
+is_count (item.Col r) = false
+is_count item.Count = true
+is_count (item.Sum r) = false
+
+-- something is asked for, and nothing but the number of rows
+abbrev pub only_counts : Items → Bool
+only_counts All = false
+only_counts (Listed []) = false
+only_counts (Listed (i ∷ items)) = list_all is_count (i ∷ items)
+
+-- so many are as many as are wanted at most
+abbrev pub is_enough : Option ℕ → ℕ → Bool
+is_enough None n = false
+is_enough (Some most) n = nat_le most n

@@ -1,0 +1,17 @@
+-- The refusals of a query that come before its rows are looked at.
+use Rattle.std.specs.Prelude.{ℕ, ◌||◌, if◌then◌else◌}
+use Rattle.std.specs.declared.option.Option.{Option}
+use Rattle.std.specs.declared.option.Option.TheVariants.{None, Some}
+use Rattle.std.specs.List.{list_any}
+use Rattle.cj_model.specs.declared.select.Select.{Select}
+use Rattle.cj_model.specs.declared.codes.TheConstants.{NO_COLUMN, BAD_COLUMNS, WRONG_TYPE}
+use Rattle.cj_model.specs.Queries.{columns_named, has_bad_columns, listed, sums_text}
+use Rattle.cj_model.specs.Scopes.{Scope, is_stranger, where_mixes_kinds, where_names_stranger}
+
+-- the code of the first refusal
+abbrev pub code_of : Scope → Select → Option ℕ
+code_of scope s =
+    if list_any (is_stranger scope) (columns_named s) || where_names_stranger scope s.cond then Some NO_COLUMN
+    else if has_bad_columns scope s.items s.order s.group then Some BAD_COLUMNS
+    else if where_mixes_kinds scope s.cond || list_any (sums_text scope) (listed s.items) then Some WRONG_TYPE
+    else None

@@ -1,0 +1,107 @@
+//! The answer to a query whose columns are there and fit.
+
+ghost use Rattle.std.specs.Prelude.{◌≡◌, [], ◌∷◌, map, IfOk};
+ghost use Rattle.std.specs.Map.Iter.{deref};
+ghost use Rattle.cj_model.specs.Changes as changes;
+ghost use Rattle.cj_model.specs.Order.{cut};
+ghost use Rattle.cj_model.specs.Queries as queries;
+ghost use Rattle.cj_query.specs.Counted as counted;
+ghost use Rattle.cj_query.specs.Groups.{rows_in};
+
+use crate::checks::listed;
+use crate::groups::{arrange, gather, singles};
+use crate::order::{sort_groups, sort_keys};
+use crate::project::{counts_row, names_of, rows_of};
+use cj_expr::{Scope, ValueError};
+use cj_model::{Answer, Asked, NoMemory, OVERFLOW, Refusal, Row, Rows, Select};
+use std::alloc::Global;
+
+/// The refusal with this code, whose numbers say nothing.
+pub fn bare(code: u16) -> Refusal
+    ensures { result ≡ changes.bare code }
+{
+    Refusal { code, a: 0, b: 0 }
+}
+
+/// Keeps at most so many groups, from the front.
+fn cut_groups(groups: &mut Vec<&[&Row]>, limit: Option<u64>)
+    ensures { rows_in groups.new.items ≡ cut limit (rows_in groups.old.items) }
+{
+    if let Some(most) = limit {
+        groups.truncate(most as usize);
+    }
+}
+
+/// The answer with a row for each group.
+fn answer_groups(
+    alloc: Global,
+    scope: &Scope,
+    select: &Select,
+    groups: &[&[&Row]],
+) -> Result<Asked, NoMemory>
+    ensures { IfOk result (λ asked. asked ≡ queries.asked_by (queries.answer_of scope.now select.now (rows_in groups.now))) }
+{
+    match rows_of(alloc, scope, &select.items, groups) {
+        Ok(rows) => {
+            let columns = names_of(alloc, scope, &select.items)?;
+            Ok(Asked::Rows(Answer { columns, rows }))
+        }
+        Err(ValueError::Overflow) => Ok(Asked::Refused(bare(OVERFLOW))),
+        Err(ValueError::NoMemory) => Err(NoMemory),
+    }
+}
+
+/// The answer from the rows that meet the condition.
+pub fn answer_rows(
+    alloc: Global,
+    scope: &Scope,
+    select: &Select,
+    mut rows: Vec<&Row>,
+) -> Result<Asked, NoMemory>
+    ensures { IfOk result (λ asked. asked ≡ queries.asked_by (queries.answer_of scope.now select.now (queries.groups_answered scope.now select.now (map deref rows.entry.items)))) }
+{
+    arrange(scope, &select.group, &mut rows)?;
+    let mut groups = gather(alloc, scope, &select.items, &select.group, &rows)?;
+    let keys = sort_keys(alloc, select.order.as_slice(), scope)?;
+    sort_groups(&mut groups, &keys)?;
+    cut_groups(&mut groups, select.limit);
+    answer_groups(alloc, scope, select, &groups)
+}
+
+/// The answer with a row for each of these.
+pub fn answer_each(
+    alloc: Global,
+    scope: &Scope,
+    select: &Select,
+    rows: &[&Row],
+) -> Result<Asked, NoMemory>
+    ensures { IfOk result (λ asked. asked ≡ queries.asked_by (queries.answer_of scope.now select.now (map (λ row. row ∷ []) (map deref rows.now)))) }
+{
+    let groups = singles(alloc, rows)?;
+    answer_groups(alloc, scope, select, &groups)
+}
+
+/// The rows of the answer to a query for nothing but the number of rows.
+fn count_rows(alloc: Global, select: &Select, count: usize) -> Result<Rows, NoMemory>
+    ensures { IfOk result (λ rows. rows ≡ cut select.now.limit (counted.counts_row (queries.listed select.now.items) count ∷ [])) }
+{
+    let mut rows = Rows::new(alloc);
+    if select.limit != Some(0) {
+        rows.push(counts_row(alloc, listed(&select.items), count)?)?;
+    }
+    Ok(rows)
+}
+
+/// The answer to a query for nothing but the number of rows.
+pub fn answer_counts(
+    alloc: Global,
+    scope: &Scope,
+    select: &Select,
+    count: usize,
+) -> Result<Asked, NoMemory>
+    ensures { IfOk result (λ asked. asked ≡ counted.answer scope.now select.now count) }
+{
+    let columns = names_of(alloc, scope, &select.items)?;
+    let rows = count_rows(alloc, select, count)?;
+    Ok(Asked::Rows(Answer { columns, rows }))
+}

@@ -1,0 +1,13 @@
+//! Queries: SELECT in full, over the tables that a transaction sees.
+#![tactic(auto)]
+
+mod answer;
+mod ask;
+mod checks;
+mod groups;
+mod order;
+mod project;
+mod rows;
+mod single;
+
+pub use ask::select;

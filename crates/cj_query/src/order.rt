@@ -1,0 +1,116 @@
+//! The order of rows and of groups.
+
+ghost use Rattle.std.specs.Prelude.{◌≡◌, map, IfOk, OnOk};
+ghost use Rattle.std.specs.Map.Iter.{deref};
+ghost use Rattle.std.specs.Ordering.{is_lt};
+ghost use Rattle.cj_model.specs.Order.{before, by_sort_key, by_sort_keys, ordered};
+ghost use Rattle.cj_model.specs.Queries.{first_of};
+ghost use Rattle.cj_model.specs.Queries as queries;
+ghost use Rattle.cj_model.specs.Tables.{by_key};
+ghost use Rattle.cj_query.specs.Gathered.{sorted_at};
+ghost use Rattle.cj_query.specs.Groups.{rows_in};
+
+use cj_expr::Scope;
+use cj_model::{Key, NoMemory, Row, Value};
+use std::alloc::Global;
+use std::cmp::Ordering;
+use std::marker::Model;
+
+/// A place of a row, by which rows rise or fall.
+#[derive(Drop)]
+pub struct SortKey {
+    place: usize,
+    desc: bool,
+}
+
+impl Model for SortKey {
+    ghost use Rattle.cj_model.specs.Order as order;
+
+    ghost Value = { order.SortKey };
+
+    ghost view = { λ key. record { place = key.place; desc = key.desc } };
+}
+
+fn sort_key_of(key: &Key, scope: &Scope) -> SortKey
+    ensures { result ≡ queries.sort_key_of scope.now key.now }
+{
+    SortKey {
+        place: scope.place(&key.col).unwrap_or(0),
+        desc: key.desc,
+    }
+}
+
+/// The keys by their columns' places. A column that is not there stands for the first.
+pub fn sort_keys(alloc: Global, keys: &[Key], scope: &Scope) -> Result<Vec<SortKey>, NoMemory>
+    ensures { IfOk result (λ out. out.items ≡ map (queries.sort_key_of scope.now) keys.now) }
+{
+    let mut out = Vec::new(alloc);
+    for key in keys {
+        out.push(sort_key_of(key, scope))?;
+    }
+    Ok(out)
+}
+
+/// The order of two rows by their values at a place. Past a row's end stands 0.
+pub fn compare_at(place: usize, left: &[Value], right: &[Value]) -> Ordering
+    ensures { result ≡ by_key place left.now right.now }
+{
+    match (left.get(place), right.get(place)) {
+        (Some(left), Some(right)) => left.cmp(right),
+        (Some(left), None) => left.cmp(&Value::Int(0)),
+        (None, Some(right)) => Value::Int(0).cmp(right),
+        (None, None) => Ordering::Equal,
+    }
+}
+
+fn compare_by(key: &SortKey, left: &[Value], right: &[Value]) -> Ordering
+    ensures { result ≡ by_sort_key key.now left.now right.now }
+{
+    if key.desc {
+        compare_at(key.place, right, left)
+    } else {
+        compare_at(key.place, left, right)
+    }
+}
+
+/// The order of two rows by the first key, then by the second, and so on.
+fn compare(keys: &[SortKey], left: &[Value], right: &[Value]) -> Ordering
+    ensures { result ≡ by_sort_keys keys.now left.now right.now }
+{
+    for key in keys {
+        let order = compare_by(key, left, right);
+        if order.is_ne() {
+            return order;
+        }
+    }
+    Ordering::Equal
+}
+
+/// Puts rows in rising order of the values at a place; rows that tie stay as they are.
+pub fn sort_at(rows: &mut Vec<&Row>, place: usize) -> Result<(), NoMemory>
+    ensures { OnOk result (map deref rows.new.items ≡ sorted_at place (map deref rows.old.items)) }
+{
+    rows.sort_by(|left, right| compare_at(place, left.as_slice(), right.as_slice()))?;
+    Ok(())
+}
+
+/// The values of a group's first row, none of an empty group.
+pub fn first_values<'a>(group: &[&'a Row]) -> &'a [Value]
+    ensures { result.now ≡ first_of (map deref group.now) }
+{
+    match group.first() {
+        Some(row) => row.as_slice(),
+        None => &[],
+    }
+}
+
+/// Puts groups in the order of their first rows by the keys; groups that tie stay as they are.
+pub fn sort_groups(groups: &mut Vec<&[&Row]>, keys: &[SortKey]) -> Result<(), NoMemory>
+    ensures { OnOk result (rows_in groups.new.items ≡ ordered (λ g h. before keys.now (first_of g) (first_of h)) (rows_in groups.old.items)) }
+{
+    if keys.is_empty() {
+        return Ok(());
+    }
+    groups.sort_by(|left, right| compare(keys, first_values(left), first_values(right)))?;
+    Ok(())
+}

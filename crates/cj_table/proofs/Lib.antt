@@ -1,0 +1,9 @@
+pub mod EntryLaws
+pub mod RowEntryLaws
+pub mod RowLaws
+pub mod StoredLaws
+pub mod CarriedLaws
+pub mod PlanLaws
+pub mod UpdateRefusals
+pub mod Inserted
+pub mod WrittenLaws

@@ -1,0 +1,14 @@
+use Rattle.std.proofs.Common.{◌≡◌, List, sym, subst, ap, ◌∙◌}
+use Rattle.std.specs.Prelude.{IfSome}
+use Rattle.std.specs.declared.option.Option.{Option}
+use Rattle.std.specs.declared.option.Option.TheVariants.{Some}
+use Rattle.cj_model.specs.declared.database.Slot.{Slot}
+use Rattle.cj_model.specs.Tables.{IsSlot, slot_of}
+use Rattle.cj_model.proofs.DatabaseLaws.{found_is_slot}
+use Rattle.cj_table.proofs.tables.Tables.view.Goals as goal
+
+pub of-requires : goal.of-requires
+of-requires c =
+    let name = c.args.table.now in
+    let found : slot_of c.self.inside.slots.items name ≡ Some c.in-Some.slot.now = ap (λ (db : List Slot). slot_of db name) (sym c.deref.ensures.value) ∙ sym c.in-Some.ensures in
+    subst (λ (o : Option Slot). IfSome o IsSlot) found (found_is_slot c.self.inside.slots.items name c.self.invariant)

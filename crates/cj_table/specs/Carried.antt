@@ -1,0 +1,48 @@
+-- What a call that changes a database gives.
+use Rattle.std.specs.Prelude.{◌≡◌, ℕ, ◌<◌, ◌≤◌, List, length, insert, slice_set}
+use Rattle.std.specs.declared.option.Option.{Option}
+use Rattle.std.specs.declared.option.Option.TheVariants.{None, Some}
+use Rattle.std.specs.declared.result.Result.{Result}
+use Rattle.std.specs.declared.result.Result.TheVariants.{Ok, Err}
+use Rattle.std.specs.declared.cmp.Ordering.{Ordering}
+use Rattle.cj_model.specs.declared.memory.NoMemory.{NoMemory}
+use Rattle.cj_model.specs.declared.value.Value.{Value}
+use Rattle.cj_model.specs.declared.database.Slot.{Slot}
+use Rattle.cj_model.specs.declared.write.Write.{Write}
+use Rattle.cj_model.specs.declared.answer.Outcome.{Outcome}
+use Rattle.cj_model.specs.declared.answer.Outcome.TheVariants.{Done}
+use Rattle.cj_model.specs.declared.answer.Outcome.TheVariants as outcome
+use Rattle.cj_model.specs.declared.codes.TheConstants.{NO_TABLE, LOCKED}
+use Rattle.cj_model.specs.Tables.{slot_of, put_by}
+use Rattle.cj_model.specs.Changes.{Changed, bare}
+use Rattle.cj_model.specs.Updates.{change}
+use Rattle.cj_model.specs.Steps.{Stepped, refuse, seen, other_writer, with_table, table_written, write_done}
+
+-- ---- calls
+
+-- the step's outcome and database; after want of memory the database is as it was
+abbrev pub Carries : List Slot → Stepped → Result Outcome NoMemory → List Slot → Type 0
+Carries old stepped (Ok o) new = (o ≡ stepped.outcome) × (new ≡ stepped.db)
+Carries old stepped (Err e) new = new ≡ old
+
+-- what a write makes of the table that its transaction sees, unless another transaction writes the table
+abbrev pub change_unless_locked : Slot → ℕ → Write → Option ℕ → Changed
+change_unless_locked s tx w None = change (seen s tx) w
+change_unless_locked s tx w (Some other) = Err (record { code = LOCKED; a = other; b = 0 })
+
+abbrev pub change_of : Slot → ℕ → Write → Changed
+change_of s tx w = change_unless_locked s tx w (other_writer tx s.draft)
+
+-- a slot after a change of the table that a transaction sees, and the outcome; a refusal or want of memory leaves it
+abbrev pub CarriesSlot : Slot → ℕ → Changed → Result Outcome NoMemory → Slot → Type 0
+CarriesSlot old tx (Ok (rows, count)) (Ok o) new = (o ≡ Done count) × (new ≡ with_table old tx (record { schema = old.base.schema; rows = rows }))
+CarriesSlot old tx (Err refusal) (Ok o) new = (o ≡ outcome.Refused refusal) × (new ≡ old)
+CarriesSlot old tx (Ok (rows, count)) (Err e) new = new ≡ old
+CarriesSlot old tx (Err refusal) (Err e) new = new ≡ old
+
+-- ---- places in a rising list
+
+-- where x is put: at the place of what is equal to it, or in front of what stands at a place
+abbrev pub IsPlace : {A : Type 0} → (A → A → Ordering) → List A → A → Result ℕ ℕ → Type 0
+IsPlace order xs x (Ok i) = (i < length xs) × (put_by order xs x ≡ slice_set xs i x)
+IsPlace order xs x (Err i) = (i ≤ length xs) × (put_by order xs x ≡ insert xs i x)

@@ -1,0 +1,57 @@
+//! The ends of tables and of transactions, which take no memory.
+
+ghost use Rattle.std.specs.Prelude.{◌≡◌, filter, map, not};
+ghost use Rattle.std.specs.Str.{bytes_eq};
+ghost use Rattle.cj_model.specs.Steps.{aborted, committed, dropped};
+ghost use Rattle.cj_model.specs.Tables.{table_of};
+
+use crate::refusals::bare;
+use crate::slots::find;
+use crate::stored::StoredTable;
+use cj_model::{LOCKED, NO_TABLE, Name, Outcome, Refusal};
+use std::alloc::Global;
+
+fn remove_slot(slots: &mut Vec<StoredTable>, name: &Name)
+    ensures { slots.new.items ≡ filter (λ s. not (bytes_eq (table_of s) name.now)) slots.old.items }
+{
+    slots.retain(|slot| !slot.schema().table.is(name));
+}
+
+/// DROP TABLE, unless a transaction has a draft of the table.
+pub fn drop_slot(slots: &mut Vec<StoredTable>, name: &Name) -> Outcome
+    ensures outcome { result ≡ (dropped slots.old.items name.now).outcome }
+    ensures slots { slots.new.items ≡ (dropped slots.old.items name.now).db }
+{
+    match find(slots, name) {
+        None => Outcome::Refused(bare(NO_TABLE)),
+        Some(slot) => match slot.writer() {
+            Some(tx) => Outcome::Refused(Refusal {
+                code: LOCKED,
+                a: tx,
+                b: 0,
+            }),
+            None => {
+                remove_slot(slots, name);
+                Outcome::Done(0)
+            }
+        },
+    }
+}
+
+/// Makes the transaction's drafts the bases of their tables.
+pub fn commit_slots(alloc: Global, slots: &mut Vec<StoredTable>, tx: u64)
+    ensures { slots.new.items ≡ map (committed tx) slots.old.items }
+{
+    for slot in slots.iter_mut() {
+        slot.commit(alloc, tx);
+    }
+}
+
+/// Forgets the transaction's drafts.
+pub fn abort_slots(slots: &mut Vec<StoredTable>, tx: u64)
+    ensures { slots.new.items ≡ map (aborted tx) slots.old.items }
+{
+    for slot in slots.iter_mut() {
+        slot.abort(tx);
+    }
+}

@@ -1,0 +1,21 @@
+//! Tables kept as ordered trees, with what a transaction has changed and not yet committed.
+#![tactic(auto)]
+
+mod conditions;
+mod delete;
+mod ends;
+mod insert;
+mod keys;
+mod names;
+mod plan;
+mod refusals;
+mod row_map;
+mod schemas;
+mod slots;
+mod stored;
+mod tables;
+mod update;
+mod view;
+
+pub use tables::Tables;
+pub use view::View;

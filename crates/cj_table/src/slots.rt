@@ -1,0 +1,154 @@
+//! Tables by their names.
+
+ghost use Rattle.std.specs.Prelude.{◌≡◌, ◌≤◌, is_some, length, option_copied, position, OnOk, OnErr};
+ghost use Rattle.std.specs.Str.{bytes_eq};
+ghost use Rattle.cj_model.specs.Steps as steps;
+ghost use Rattle.cj_model.specs.Steps.{written};
+ghost use Rattle.cj_model.specs.Updates.{change};
+ghost use Rattle.cj_model.specs.Tables.{IsDatabase, IsSlot, by_table, column_limit, put_by, slot_of, table_of};
+ghost use Rattle.cj_table.specs.Carried.{Carries, CarriesSlot, IsPlace, change_of};
+ghost use Rattle.cj_table.specs.Plans.{PlansChange};
+
+use crate::plan::{Planned, planned};
+use crate::refusals::bare;
+use crate::schemas::{empty_table, makes_schema};
+use crate::stored::StoredTable;
+use crate::view::View;
+use cj_model::{
+    BAD_COLUMNS, Create, LOCKED, NO_TABLE, Name, NoMemory, Outcome, Refusal, TABLE_EXISTS, Write,
+};
+use std::alloc::Global;
+use std::cmp::Ordering;
+
+/// The slot of a table.
+pub fn find<'a>(slots: &'a [StoredTable], name: &Name) -> Option<&'a StoredTable>
+    ensures { option_copied result ≡ slot_of slots.now name.now }
+{
+    slots.iter().find(|slot| slot.schema().table.is(name))
+}
+
+fn position_of(slots: &[StoredTable], name: &Name) -> Option<usize>
+    ensures { result ≡ position (λ s. bytes_eq (table_of s) name.now) slots.now }
+{
+    slots.iter().position(|slot| slot.schema().table.is(name))
+}
+
+fn table_written(write: &Write) -> &Name
+    ensures { result.now ≡ steps.table_written write.now }
+{
+    match write {
+        Write::Insert { table, .. } | Write::Update { table, .. } | Write::Delete { table, .. } =>
+            table,
+    }
+}
+
+/// What a write is to change of the table that its transaction sees.
+fn planned_for(
+    alloc: Global,
+    slot: &StoredTable,
+    tx: u64,
+    write: &Write,
+) -> Result<Planned, NoMemory>
+    requires { IsSlot slot.now }
+    ensures { PlansChange (steps.seen slot.now tx) (change (steps.seen slot.now tx) write.now) result }
+{
+    let view = View::of(slot, tx);
+    planned(alloc, &view, write)
+}
+
+fn write_slot(
+    alloc: Global,
+    slot: &mut StoredTable,
+    tx: u64,
+    write: &Write,
+) -> Result<Outcome, NoMemory>
+    requires { IsSlot slot.old }
+    ensures { CarriesSlot slot.old tx (change_of slot.old tx write.now) result slot.new }
+{
+    if let Some(other) = slot.other_writer(tx) {
+        return Ok(Outcome::Refused(Refusal {
+            code: LOCKED,
+            a: other,
+            b: 0,
+        }));
+    }
+    match planned_for(alloc, slot, tx, write)? {
+        Ok(plan) => {
+            let written = plan.written;
+            slot.change(alloc, tx, plan.changes, plan.count)?;
+            Ok(Outcome::Done(written))
+        }
+        Err(refusal) => Ok(Outcome::Refused(refusal)),
+    }
+}
+
+/// A write of transaction `tx`, 0 for none; want of memory changes nothing.
+pub fn write_slots(
+    alloc: Global,
+    slots: &mut Vec<StoredTable>,
+    tx: u64,
+    write: &Write,
+) -> Result<Outcome, NoMemory>
+    requires { IsDatabase slots.old.items }
+    ensures { Carries slots.old.items (written slots.old.items tx write.now) result slots.new.items }
+{
+    match position_of(slots, table_written(write)) {
+        None => Ok(Outcome::Refused(bare(NO_TABLE))),
+        Some(place) => {
+            let slot = &mut slots[place];
+            write_slot(alloc, slot, tx, write)
+        }
+    }
+}
+
+/// Where the slot is put: at the place of the slot of its table, or in front of the one at a place.
+fn place_of(slots: &[StoredTable], slot: &StoredTable) -> Result<usize, usize>
+    ensures { IsPlace by_table slots.now slot.now result }
+{
+    let name = slot.schema().table.as_slice();
+    for (i, other) in slots.iter().enumerate() {
+        match name.cmp(other.schema().table.as_slice()) {
+            Ordering::Less => return Err(i),
+            Ordering::Equal => return Ok(i),
+            Ordering::Greater => {}
+        }
+    }
+    Err(slots.len())
+}
+
+fn put_slot(slots: &mut Vec<StoredTable>, slot: StoredTable) -> Result<(), NoMemory>
+    ensures ok { OnOk result (slots.new.items ≡ put_by by_table slots.old.items slot) }
+    ensures err { OnErr result (slots.new.items ≡ slots.old.items) }
+{
+    match place_of(slots, &slot) {
+        Ok(place) => slots[place] = slot,
+        Err(place) => slots.insert(place, slot)?,
+    }
+    Ok(())
+}
+
+fn has_table(slots: &[StoredTable], name: &Name) -> bool
+    ensures { result ≡ is_some (slot_of slots.now name.now) }
+{
+    find(slots, name).is_some()
+}
+
+/// CREATE TABLE; want of memory changes nothing.
+pub fn create_slot(
+    alloc: Global,
+    slots: &mut Vec<StoredTable>,
+    create: &Create,
+) -> Result<Outcome, NoMemory>
+    requires { length create.now.columns ≤ column_limit }
+    ensures { Carries slots.old.items (steps.created slots.old.items create.now) result slots.new.items }
+{
+    if has_table(slots, &create.table) {
+        return Ok(Outcome::Refused(bare(TABLE_EXISTS)));
+    }
+    if !makes_schema(alloc, create.columns.as_slice())? {
+        return Ok(Outcome::Refused(bare(BAD_COLUMNS)));
+    }
+    let slot = empty_table(alloc, create)?;
+    put_slot(slots, slot)?;
+    Ok(Outcome::Done(0))
+}

@@ -1,0 +1,102 @@
+//! The database.
+
+ghost use Rattle.std.specs.Prelude.{◌≡◌, ◌≤◌, [], length, map, option_map, OnOk, OnErr};
+ghost use Rattle.cj_model.specs.Steps.{aborted, committed, created, dropped, seen, written};
+ghost use Rattle.cj_model.specs.Tables.{IsDatabase, column_limit, slot_of};
+ghost use Rattle.cj_table.specs.Carried.{Carries};
+
+use crate::ends::{abort_slots, commit_slots, drop_slot};
+use crate::slots::{create_slot, find, write_slots};
+use crate::stored::StoredTable;
+use crate::view::View;
+use cj_model::{Create, Name, NoMemory, Outcome, Write};
+use std::alloc::Global;
+use std::marker::Model;
+
+/// A database, which contracts see as its slots in rising name of their table. Each table is a tree
+/// of its rows by their keys, and a draft is a tree of the keys that its transaction has changed.
+#[derive(Drop)]
+pub struct Tables {
+    slots: Vec<StoredTable>,
+    alloc: Global,
+}
+
+impl Model for Tables {
+    ghost use Rattle.std.specs.Prelude.{List};
+    ghost use Rattle.cj_model.specs.declared.database.Slot.{Slot};
+    ghost use Rattle.cj_model.specs.Tables.{IsDatabase};
+
+    ghost Value = { List Slot };
+
+    ghost view = { λ tables. tables.slots.items };
+
+    ghost invariant = { λ tables. IsDatabase tables.slots.items };
+}
+
+impl Tables {
+    /// The database of no tables, which takes no memory.
+    pub fn new(alloc: Global) -> Tables
+        ensures { result ≡ [] }
+    {
+        Tables {
+            slots: Vec::new(alloc),
+            alloc,
+        }
+    }
+
+    /// Shows what holds of every database.
+    pub fn legal(&self)
+        ensures { IsDatabase self.now }
+    {
+        let _ = &self.slots;
+    }
+
+    /// CREATE TABLE; want of memory changes nothing.
+    pub fn create(&mut self, create: &Create) -> Result<Outcome, NoMemory>
+        requires { length create.now.columns ≤ column_limit }
+        ensures { Carries self.old (created self.old create.now) result self.new }
+    {
+        create_slot(self.alloc, &mut self.slots, create)
+    }
+
+    /// INSERT, UPDATE or DELETE of transaction `tx`, 0 for none; want of memory changes nothing.
+    pub fn write(&mut self, tx: u64, write: &Write) -> Result<Outcome, NoMemory>
+        ensures { Carries self.old (written self.old tx write.now) result self.new }
+    {
+        write_slots(self.alloc, &mut self.slots, tx, write)
+    }
+
+    /// DROP TABLE, which takes no memory.
+    pub fn drop_table(&mut self, table: &Name) -> Outcome
+        ensures outcome { result ≡ (dropped self.old table.now).outcome }
+        ensures database { self.new ≡ (dropped self.old table.now).db }
+    {
+        drop_slot(&mut self.slots, table)
+    }
+
+    /// COMMIT of transaction `tx`; want of memory changes nothing.
+    pub fn commit(&mut self, tx: u64) -> Result<(), NoMemory>
+        ensures ok { OnOk result (self.new ≡ map (committed tx) self.old) }
+        ensures err { OnErr result (self.new ≡ self.old) }
+    {
+        commit_slots(self.alloc, &mut self.slots, tx);
+        Ok(())
+    }
+
+    /// The end of transaction `tx` without its changes, which takes no memory.
+    pub fn abort(&mut self, tx: u64)
+        ensures { self.new ≡ map (aborted tx) self.old }
+    {
+        abort_slots(&mut self.slots, tx);
+    }
+
+    /// The table as transaction `tx`, 0 for none, sees it; none exactly where it is not there.
+    pub fn view(&self, table: &Name, tx: u64) -> Option<View<'_>>
+        ensures { result ≡ option_map (λ slot. seen slot tx) (slot_of self.now table.now) }
+    {
+        match find(&self.slots, table) {
+            Some(slot) => Some(View::of(slot, tx)),
+            None => None,
+        }
+    }
+}
