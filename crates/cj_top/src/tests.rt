@@ -18,6 +18,9 @@ const SELECT: &str = "SELECT * FROM t";
 const DONE_0: &[u8] = b"\x00\x00\x00\x09\x81\x00\x00\x00\x00\x00\x00\x00\x00";
 
 const DONE_1: &[u8] = b"\x00\x00\x00\x09\x81\x00\x00\x00\x00\x00\x00\x00\x01";
+
+const DONE_2: &[u8] = b"\x00\x00\x00\x09\x81\x00\x00\x00\x00\x00\x00\x00\x02";
+
 /// The row (1, 'a') of columns k and v.
 const ONE_ROW: &[u8] =
     b"\x00\x00\x00\x1c\x82\x00\x02\x00\x01k\x00\x01v\x00\x00\x00\x01\x01\x00\x00\x00\x00\x00\x00\x00\x01\x02\x00\x00\x00\x01a";
@@ -36,6 +39,9 @@ const TABLE_EXISTS: &[u8] =
 
 const BAD_COLUMNS: &[u8] =
     b"\x00\x00\x00\x13\x8f\x00\x18\x00\x00\x00\x00\x00\x00\x00\x00\x00\x00\x00\x00\x00\x00\x00\x00";
+
+const OVERFLOW: &[u8] =
+    b"\x00\x00\x00\x13\x8f\x00\x1a\x00\x00\x00\x00\x00\x00\x00\x00\x00\x00\x00\x00\x00\x00\x00\x00";
 
 const DUPLICATE: &[u8] =
     b"\x00\x00\x00\x13\x8f\x00\x1b\x00\x00\x00\x00\x00\x00\x00\x00\x00\x00\x00\x00\x00\x00\x00\x00";
@@ -83,8 +89,36 @@ fn worked(alloc: Global) -> Result<Vec<u8>, Fail> {
 }
 
 /// Statements, and the replies to them behind an accepted Login.
-const STATEMENTS: [(&[&str], &[&[u8]]); 17] = [
+const STATEMENTS: [(&[&str], &[&[u8]]); 19] = [
     (&[CREATE, INSERT, SELECT], &[DONE_0, DONE_1, ONE_ROW]),
+    // two tuples, and rows in falling key
+    (
+        &[
+            CREATE,
+            "INSERT INTO t VALUES (1, 'a'), (2, 'b')",
+            "SELECT * FROM t ORDER BY k DESC",
+        ],
+        &[
+            DONE_0,
+            DONE_2,
+            b"\x00\x00\x00\x2b\x82\x00\x02\x00\x01k\x00\x01v\x00\x00\x00\x02\x01\x00\x00\x00\x00\x00\x00\x00\x02\x02\x00\x00\x00\x01b\x01\x00\x00\x00\x00\x00\x00\x00\x01\x02\x00\x00\x00\x01a",
+        ],
+    ),
+    // an UPDATE past 64 bits in one row changes none
+    (
+        &[
+            "CREATE TABLE t (k INTEGER PRIMARY KEY, v INTEGER)",
+            "INSERT INTO t VALUES (1, 9223372036854775807), (2, 0)",
+            "UPDATE t SET v = v + 1",
+            "SELECT v FROM t WHERE k = 2",
+        ],
+        &[
+            DONE_0,
+            DONE_2,
+            OVERFLOW,
+            b"\x00\x00\x00\x13\x82\x00\x01\x00\x01v\x00\x00\x00\x01\x01\x00\x00\x00\x00\x00\x00\x00\x00",
+        ],
+    ),
     (
         &[
             "create\ttable T(K integer primary key,V text);",
@@ -426,7 +460,29 @@ const READ_B0: &str = "read 1 b0 SELECT * FROM t";
 const READ_B1: &str = "read 1 b1 SELECT * FROM t";
 
 /// Lines, and what each gives.
-const SCRIPTS: [&[(&str, &str)]; 4] = [
+const SCRIPTS: [&[(&str, &str)]; 5] = [
+    // a read sees an entry as soon as its backend has it, and the session then needs it everywhere
+    &[
+        ("open ann", "session 1"),
+        ("open ann", "session 2"),
+        ("open ann", "session 3"),
+        (
+            "write 1 CREATE TABLE t (k INTEGER PRIMARY KEY, v INTEGER)",
+            "entry 1",
+        ),
+        ("apply b0", "b0 done 0"),
+        ("apply b1", "b1 done 0"),
+        ("end", "reply 1 done 0"),
+        ("write 1 INSERT INTO t VALUES (1, 5)", "entry 2"),
+        ("apply b0", "b0 done 1"),
+        ("read 2 b0 SELECT v FROM t", "rows 1\n5"),
+        ("read 2 b1 SELECT v FROM t", "behind 1"),
+        ("read 2 b0 SELECT v FROM t", "rows 1\n5"),
+        ("read 3 b1 SELECT v FROM t", "rows 0"),
+        ("end", "not now 6 1"),
+        ("apply b1", "b1 done 1"),
+        ("end", "reply 1 done 1"),
+    ],
     // each reason why a move can't be made now
     &[
         (
