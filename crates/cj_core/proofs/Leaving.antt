@@ -8,7 +8,7 @@ use Rattle.cj_model.specs.Placements.{everywhere, part}
 use Rattle.cj_model.specs.Histories.{has, log, done, free, enabled, run, at}
 use Rattle.cj_model.specs.Cores.{position_at}
 use Rattle.cj_model.specs.Sound.{Stands, Holds}
-use Rattle.cj_model.proofs.Effects.{is_there}
+use Rattle.cj_model.proofs.Effects.{is_there, no_masks}
 use Rattle.cj_model.proofs.Masks.{has-zero}
 use Rattle.cj_replica.specs.Cells.{CellState}
 use Rattle.cj_core.specs.Worlds.{WorldState, IsWorld, IsCell}
@@ -79,17 +79,10 @@ module _ (tells : Bool) (w : WorldState) (world : IsWorld tells w) (told : List 
       ∙ (slice_get-get_or (map (λ (z : CellState). z.told) w.cells) b None within
       ∙ ap (λ t. Some t) (get_or-map (λ (z : CellState). z.told) w.cells b some_cell None lt ∙ (held ∙ ap (λ q. Some (part q b (at (log w.core.history) p))) (sym world.full))))
 
-  -- no backend is in a mask where no entry is open
-  in_no_mask : free w.core.history ≡ true → (b : ℕ) → (has w.core.failed b ≡ true) ⊎ (has w.core.starved b ≡ true) → ⊥
-  in_no_mask fr b marked =
-      let clear = world.sound.clear fr in
-      both_ways (has 0 b) (has-zero b)
-      (⊎_elim (λ (m : has w.core.failed b ≡ true). subst (λ f. has f b ≡ true) clear.0 m) (λ (m : has w.core.starved b ≡ true). subst (λ f. has f b ≡ true) clear.1 m) marked)
-
   -- an enabled backend has taken the whole log, where no entry is open
   at_end : free w.core.history ≡ true → (b : ℕ) → enabled w.core.history b ≡ true → (p : Option ℕ) → p ≡ position_at w.core b → Stands w.core.history w.core.failed w.core.starved b p
       → position_at w.core b ≡ Some (length (log w.core.history))
-  at_end fr b on None is stands = absurd (in_no_mask fr b (stands on))
+  at_end fr b on None is stands = absurd (no_masks w.core world.sound fr b (stands on))
   at_end fr b on (Some p) is stands =
       let ended : done w.core.history ≡ length (log w.core.history) = eqb-true _ _ fr in
       let past : done w.core.history ≤ p = stands.1 on in

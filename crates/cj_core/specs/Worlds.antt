@@ -48,7 +48,3 @@ pub record IsWorld (tells : Bool) (w : WorldState) : Type 0 where
   pub few : w.core.placement.backends ≤ backend_limit
   pub positions : w.core.positions ≡ map (λ (x : CellState). x.position) w.cells
   pub cells : (b : ℕ) (d : CellState) → b < length w.cells → IsCell tells w.core.placement.backends (log w.core.history) b (slice_index_or w.cells b d)
-
--- where no entry is open, each enabled backend has taken the whole log
-abbrev pub AreAtEnd : Core → Type 0
-AreAtEnd c = free c.history ≡ true → (b : ℕ) → enabled c.history b ≡ true → position_at c b ≡ Some (length (log c.history))

@@ -427,7 +427,7 @@ sound_read_failed c t q b ss s space a =
     a
 
 -- no backend is in a mask where no entry is open
-no_masks : (c : Core) → IsSound c → free c.history ≡ true → (b : ℕ) → (has c.failed b ≡ true) ⊎ (has c.starved b ≡ true) → ⊥
+pub no_masks : (c : Core) → IsSound c → free c.history ≡ true → (b : ℕ) → (has c.failed b ≡ true) ⊎ (has c.starved b ≡ true) → ⊥
 no_masks c s fr b w =
     ⊎_elim (λ (t : has c.failed b ≡ true). both_ways (has c.failed b) (ap (λ m. has m b) (s.clear fr).0 ∙ has-zero b) t)
     (λ (t : has c.starved b ≡ true). both_ways (has c.starved b) (ap (λ m. has m b) (s.clear fr).1 ∙ has-zero b) t) w

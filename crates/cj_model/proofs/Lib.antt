@@ -19,6 +19,7 @@ pub mod RisingLaws
 pub mod SessionLaws
 pub mod Sessions
 pub mod Soundness
+pub mod Spellable
 pub mod TableLaws
 pub mod TurnCases
 pub mod UpdateLaws

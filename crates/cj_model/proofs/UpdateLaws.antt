@@ -116,7 +116,7 @@ module _ (table : List ℕ) (columns : List Column) (key : ℕ) where
       (ap (same_kind (kind_at scope (place scope (column_set s)))) (kind_of_worth table columns row fits s.value) ∙ not-false _ agree))
 
   -- the key stays
-  key_assigned : (scope : Scope) (sets : List Set) (row new : List Value) → list_any (sets_key scope key) sets ≡ false
+  pub key_assigned : (scope : Scope) (sets : List Set) (row new : List Value) → list_any (sets_key scope key) sets ≡ false
       → cell (fold (λ new (a : Assignment). slice_set new a.place (worth row a.value)) new (map (assignment_of scope) sets)) key ≡ cell new key
   key_assigned scope [] row new none = refl
   key_assigned scope (s ∷ sets) row new none =

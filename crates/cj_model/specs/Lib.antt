@@ -27,6 +27,7 @@ pub mod Scripts
 pub mod Session
 pub mod Sound
 pub mod Steps
+pub mod Storable
 pub mod Tables
 pub mod TermForms
 pub mod Turns

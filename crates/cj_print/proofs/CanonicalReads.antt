@@ -6,7 +6,7 @@ use Rattle.cj_model.specs.Grammar.{Statement, statement_tokens, statement_meant,
 use Rattle.cj_print.specs.Canonical.{canonical, CanonicalReadsBack}
 use Rattle.cj_print.proofs.Forms.{form}
 use Rattle.cj_print.proofs.CanonicalForm.{form_means, form_fits}
-use Rattle.cj_print.proofs.Spellable.{AreTokens, are_tokens, FineRequest, statement_fine}
+use Rattle.cj_model.proofs.Spellable.{AreTokens, are_tokens, FineRequest, statement_fine}
 use Rattle.cj_print.proofs.CanonicalTokens.{canonical_spelled}
 
 -- the canonical text of what a statement means reads as it

@@ -6,6 +6,5 @@ pub mod Examples
 pub mod FewestParentheses
 pub mod Forms
 pub mod ReadBack
-pub mod Spellable
 pub mod Spelling
 pub mod Texts

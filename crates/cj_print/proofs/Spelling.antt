@@ -13,7 +13,7 @@ use Rattle.cj_model.specs.declared.token.Token.TheVariants as token
 use Rattle.cj_model.specs.Lexical.{is_word, EndsBefore, IsDigits, doubled, keyword, Spells, Ends, Tokens}
 use Rattle.cj_print.proofs.Texts.{numerals}
 use Rattle.cj_print.proofs.ReadBack.{decimal_digits}
-use Rattle.cj_print.proofs.Spellable.{IsToken}
+use Rattle.cj_model.proofs.Spellable.{IsToken}
 
 -- ---- reserved words and symbols
 

@@ -20,20 +20,11 @@ use Rattle.cj_model.specs.Tables.{cell}
 use Rattle.cj_model.specs.Changes.{Changed, bare, unless}
 use Rattle.cj_model.specs.Scopes.{Scope, scope_of, place, formula_of, where_names_stranger, where_mixes_kinds, predicate_of}
 use Rattle.cj_model.specs.Updates.{Assignment, column_set, set_names_stranger, sets_twice, sets_key, set_mixes_kinds, assignment_of, with_new_values, updated}
+use Rattle.cj_model.proofs.UpdateLaws.{key_assigned}
 use Rattle.cj_table.specs.declared.plan.Plan.{Plan}
 use Rattle.cj_table.specs.Assignments.{KeepsKey}
 use Rattle.cj_table.specs.Plans.{Plans, PlansChange}
 use Rattle.cj_table.proofs.PlanLaws.{refused, past}
-
--- assignments that set no key leave it
-key_assigned : (scope : Scope) (key : ℕ) (sets : List Set) (row new : List Value) → list_any (sets_key scope key) sets ≡ false
-    → cell (fold (λ new (a : Assignment). slice_set new a.place (worth row a.value)) new (map (assignment_of scope) sets)) key ≡ cell new key
-key_assigned scope key [] row new none = refl
-key_assigned scope key (s ∷ sets) row new none =
-    let parts = or_parts (sets_key scope key s) (list_any (sets_key scope key) sets) none in
-    let other : place scope (column_set s) ≢ key = eqb-false _ _ parts.0 in
-    key_assigned scope key sets row (set new (place scope (column_set s)) (worth row (formula_of scope s.value))) parts.1
-    ∙ get_or-set_other new (place scope (column_set s)) key (worth row (formula_of scope s.value)) (Int (pos 0)) (λ e. other (sym e))
 
 module _ (t : Table) (sets : List Set) (when : Option Condition) where
   abbrev stranger : Scope → Bool
@@ -72,4 +63,4 @@ module _ (t : Table) (sets : List Set) (when : Option Condition) where
         past t (stranger own) (bare NO_COLUMN) after_names x (ap stranger (sym is) ∙ f) (past t (bad own) (bare BAD_COLUMNS) after_columns x (ap bad (sym is) ∙ g) (past t (mixed own) (bare WRONG_TYPE) (made own) x (ap mixed (sym is) ∙ h) (subst (λ s. Plans t (made s) x) is p)))
 
     pub keeps_key : bad s ≡ false → KeepsKey t.schema.key (map (assignment_of s) sets)
-    keeps_key g = record { same = λ row. key_assigned s t.schema.key sets row row (or_parts (sets_twice sets) (list_any (sets_key s t.schema.key) sets) g).1 }
+    keeps_key g = record { same = λ row. key_assigned t.schema.table t.schema.columns t.schema.key s sets row row (or_parts (sets_twice sets) (list_any (sets_key s t.schema.key) sets) g).1 }

@@ -1,5 +1,5 @@
 -- What a text reads as has names, texts and numbers that can be spelled.
-use Rattle.std.proofs.Common.{◌≡◌, refl, sym, ℕ, zero, suc, ◌≤◌, ◌^◌, Bool, true, false, List, [], ◌∷◌, length, map, pos, negsuc, Option, Some, None, arith}
+use Rattle.std.proofs.Common.{◌≡◌, refl, sym, subst, ℕ, zero, suc, ◌≤◌, ◌^◌, Bool, true, false, List, [], ◌∷◌, length, map, pos, negsuc, Option, Some, None, arith}
 use Rattle.std.proofs.lemmas.Bool.Decides.{nat_tests}
 use Rattle.std.proofs.lemmas.List.{length-map}
 use Rattle.std.proofs.lemmas.Str.Ascii.{lowercase-lowercase}
@@ -33,7 +33,7 @@ use Rattle.cj_model.specs.TermForms.{ConstForm, TermForm, ExprForm, EachFits, co
 use Rattle.cj_model.specs.ConditionForms as c
 use Rattle.cj_model.specs.ConditionForms.{CondForm, OrsForm, ConjForm, AndsForm, PrimForm, cmp_token, cond_tokens, ors_tokens, conj_tokens, ands_tokens, prim_tokens, cond_meant, ors_meant, conj_meant, ands_meant, prim_meant}
 use Rattle.cj_model.specs.Grammar as g
-use Rattle.cj_model.specs.Grammar.{SetForm, Direction, KeyForm, SelectForm, Statement, name_tokens, kind_token, primary_tokens, coldef_tokens, tuple_tokens, list_tokens, set_tokens, where_tokens, item_tokens, items_tokens, group_tokens, direction_tokens, key_tokens, order_tokens, limit_tokens, statement_tokens, set_meant, where_meant, key_meant, statement_meant, end_tokens}
+use Rattle.cj_model.specs.Grammar.{SetForm, Direction, KeyForm, SelectForm, Statement, name_tokens, kind_token, primary_tokens, coldef_tokens, tuple_tokens, list_tokens, set_tokens, where_tokens, item_tokens, items_tokens, group_tokens, direction_tokens, key_tokens, order_tokens, limit_tokens, statement_tokens, set_meant, where_meant, key_meant, statement_meant, end_tokens, TextReads}
 
 -- ---- tokens
 
@@ -344,3 +344,11 @@ statement_fine (g.select s) rest h = select_fine s rest h
 statement_fine g.begin rest h = tt
 statement_fine g.commit rest h = tt
 statement_fine g.rollback rest h = tt
+
+-- what some text reads as is fine
+pub request_fine : (text : List ℕ) (r : Request) → TextReads text r → FineRequest r
+request_fine text r h =
+    let s = h.reads.statement in
+    let rest = end_tokens h.reads.semicolon in
+    let are : AreTokens (statement_tokens s rest) = subst (λ xs. AreTokens xs) h.reads.tokens_are (are_tokens h.tokens text h.tokens_of) in
+    subst FineRequest (sym h.reads.meant) (statement_fine s rest are)
