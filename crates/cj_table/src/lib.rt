@@ -2,6 +2,7 @@
 #![tactic(auto)]
 
 mod conditions;
+mod conversion;
 mod delete;
 mod ends;
 mod insert;
@@ -17,6 +18,7 @@ mod stored;
 mod tables;
 mod update;
 mod view;
+mod writers;
 
 pub use scan::Scan;
 pub use tables::Tables;

@@ -1,6 +1,6 @@
 //! Rows by their keys.
 
-ghost use Rattle.std.specs.Prelude.{◌≡◌, ◌∷◌, [], true, None, option_copied, IfOk, OnOk, OnErr};
+ghost use Rattle.std.specs.Prelude.{◌≡◌, ◌↔◌, ◌∷◌, [], true, None, Some, option_copied, IfOk, IsTrue, OnOk, OnErr};
 ghost use Rattle.std.specs.BTreeMap.{insert_entry, is_at};
 ghost use Rattle.std.specs.Map.{remove_entry, values_of};
 ghost use Rattle.std.specs.declared.cmp.Ordering.TheVariants.{Less};
@@ -10,7 +10,7 @@ ghost use Rattle.cj_table.specs.Layers.{changed, kept, merged};
 ghost use Rattle.cj_table.specs.RowEntries as entries;
 
 use crate::scan::Scan;
-use cj_model::{Duplicate, NoMemory, Row, Value};
+use cj_model::{Duplicate, NoMemory, Row, Same, Value};
 use std::alloc::Global;
 use std::collections::BTreeMap;
 use std::marker::Model;
@@ -166,6 +166,36 @@ impl RowMap {
         for (key, row) in rows {
             self.set(below, key, row);
         }
+    }
+}
+
+impl RowMap {
+    fn has(&self, key: &Value, row: &Row) -> bool
+        ensures { IsTrue result ↔ (at value_cmp key.now self.now ≡ Some (Some row.now)) }
+    {
+        match self.rows.get(key) {
+            Some(Some(found)) => found.is_same(row),
+            Some(None) => false,
+            None => false,
+        }
+    }
+
+    /// Fits the change at a row's key to the row: there is none where the row stays as it is, and one
+    /// that takes the row out where there was none.
+    pub fn settle(&mut self, key: Value, row: &Row) -> Result<(), NoMemory>
+        ensures settles { OnOk result (entries.Settles key row.now self.old self.new) }
+        ensures rises { OnOk result (KeysRise value_cmp self.new) }
+    {
+        self.rises();
+        if self.has(&key, row) {
+            self.remove(&key);
+            return Ok(());
+        }
+        if self.knows(&key) {
+            return Ok(());
+        }
+        self.insert(key, None)?;
+        Ok(())
     }
 }
 
