@@ -6,6 +6,7 @@ pub mod WalkLaws
 pub mod RunLaws
 pub mod NameLaws
 pub mod MadeLaws
+pub mod ProjectionLaws
 pub mod JoinLaws
 pub mod AskLaws
 pub mod PathLaws

@@ -2,6 +2,7 @@ pub mod Gathered
 pub mod Groups
 pub mod Refused
 pub mod Made
+pub mod Projections
 pub mod Seen
 pub mod Even
 pub mod Paths

@@ -7,6 +7,7 @@ mod checks;
 mod groups;
 mod order;
 mod project;
+mod projection;
 mod rows;
 mod single;
 
