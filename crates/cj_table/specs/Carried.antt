@@ -6,17 +6,16 @@ use Rattle.std.specs.declared.result.Result.{Result}
 use Rattle.std.specs.declared.result.Result.TheVariants.{Ok, Err}
 use Rattle.std.specs.declared.cmp.Ordering.{Ordering}
 use Rattle.cj_model.specs.declared.memory.NoMemory.{NoMemory}
-use Rattle.cj_model.specs.declared.value.Value.{Value}
 use Rattle.cj_model.specs.declared.database.Slot.{Slot}
 use Rattle.cj_model.specs.declared.write.Write.{Write}
 use Rattle.cj_model.specs.declared.answer.Outcome.{Outcome}
 use Rattle.cj_model.specs.declared.answer.Outcome.TheVariants.{Done}
 use Rattle.cj_model.specs.declared.answer.Outcome.TheVariants as outcome
-use Rattle.cj_model.specs.declared.codes.TheConstants.{NO_TABLE, LOCKED}
-use Rattle.cj_model.specs.Tables.{slot_of, put_by}
-use Rattle.cj_model.specs.Changes.{Changed, bare}
+use Rattle.cj_model.specs.declared.codes.TheConstants.{LOCKED}
+use Rattle.cj_model.specs.Tables.{put_by}
+use Rattle.cj_model.specs.Changes.{Changed}
 use Rattle.cj_model.specs.Updates.{change}
-use Rattle.cj_model.specs.Steps.{Stepped, refuse, seen, other_writer, with_table, table_written, write_done}
+use Rattle.cj_model.specs.Steps.{Stepped, seen, other_writer, with_table}
 
 -- ---- calls
 

@@ -1,5 +1,5 @@
 -- Rows by their keys.
-use Rattle.std.specs.Prelude.{◌≡◌, ℕ, Bool, true, List, [], All, map, fold, is_some, filter}
+use Rattle.std.specs.Prelude.{◌≡◌, ℕ, Bool, true, List, [], All, map, fold, is_some}
 use Rattle.std.specs.declared.option.Option.{Option}
 use Rattle.std.specs.declared.option.Option.TheVariants.{None, Some}
 use Rattle.std.specs.declared.cmp.Ordering.{Ordering}
@@ -8,8 +8,12 @@ use Rattle.std.specs.BTreeMap.{insert_entry}
 use Rattle.cj_model.specs.declared.value.Value.{Value}
 use Rattle.cj_model.specs.Values.{value_cmp}
 use Rattle.cj_model.specs.Tables.{cell}
-use Rattle.cj_table.specs.Entries.{KeysRise, at}
+use Rattle.cj_table.specs.Entries.{at}
 use Rattle.cj_table.specs.Layers.{kept, merged}
+
+-- rows, each the list of its values
+abbrev pub Rows : Type 0
+Rows = List (List Value)
 
 -- keys in rising order, each with its row, or with none
 abbrev pub RowEntries : Type 0

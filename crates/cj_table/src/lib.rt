@@ -10,6 +10,7 @@ mod names;
 mod plan;
 mod refusals;
 mod row_map;
+mod scan;
 mod schemas;
 mod slots;
 mod stored;
@@ -17,5 +18,6 @@ mod tables;
 mod update;
 mod view;
 
+pub use scan::Scan;
 pub use tables::Tables;
 pub use view::View;
