@@ -2,6 +2,7 @@ pub mod EvenLaws
 pub mod GroupLaws
 pub mod KeyLaws
 pub mod OrderLaws
+pub mod ReverseLaws
 pub mod WalkLaws
 pub mod RunLaws
 pub mod NameLaws
@@ -11,4 +12,3 @@ pub mod JoinLaws
 pub mod AskLaws
 pub mod PathLaws
 pub mod CountLaws
-pub mod LimitLaws
