@@ -12,3 +12,4 @@ pub mod JoinLaws
 pub mod AskLaws
 pub mod PathLaws
 pub mod CountLaws
+pub mod LimitLaws
