@@ -7,6 +7,7 @@ pub mod WalkLaws
 pub mod RunLaws
 pub mod NameLaws
 pub mod MadeLaws
+pub mod MapLaws
 pub mod ProjectionLaws
 pub mod JoinLaws
 pub mod AskLaws

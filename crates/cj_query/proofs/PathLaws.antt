@@ -6,7 +6,7 @@ use Rattle.std.specs.declared.option.Option.{Option}
 use Rattle.std.specs.declared.option.Option.TheVariants.{None, Some}
 use Rattle.std.proofs.lemmas.Bool.{and_parts, cases_Bool, cond-true, cond-false, false_from_ne_true, not-true}
 use Rattle.std.proofs.lemmas.Cmp.{tied_itself}
-use Rattle.std.proofs.lemmas.List.{nil_from_length, take-map}
+use Rattle.std.proofs.lemmas.List.{nil_from_length}
 use Rattle.std.proofs.lemmas.List.Elements.{All-nil, All-cons, All-head, All-tail}
 use Rattle.std.proofs.lemmas.List.Sorted.{ranks_by}
 use Rattle.cj_model.specs.declared.value.Value.{Value}
@@ -22,6 +22,7 @@ use Rattle.cj_table.specs.Lookups.{row_with_key}
 use Rattle.cj_query.specs.Paths.{PinsTo, answers_each, falls_by, follows_rows, is_falling_at, is_led_by, is_rising_at, joined_limit, reverses_rows}
 use Rattle.cj_query.proofs.KeyLaws.{by_sort_keys_total, always_in_order}
 use Rattle.cj_query.proofs.LimitLaws.{cut_twice}
+use Rattle.cj_query.proofs.MapLaws.{cut-map}
 use Rattle.cj_query.proofs.OrderLaws.{IsInOrder, NoneBefore, ordered_same}
 use Rattle.cj_query.proofs.ReverseLaws.{IsFalling, map-reverse, ordered_falling}
 
@@ -89,10 +90,6 @@ ordered_alone : (scope : Scope) (n : ℕ) (keys : List Key) (rows : List (List V
 ordered_alone scope n [] rows h r = always_in_order (alone rows)
 ordered_alone scope n (k ∷ keys) rows h r = ordered_same (earlier scope (k ∷ keys)) (ranks_by (by_sort_keys_total (map (sort_key_of scope) (k ∷ keys))) first_of) (alone rows) (rows_in_order scope n k keys rows h r)
 
-cut_alone : (limit : Option ℕ) (rows : List (List Value)) → cut limit (map (λ r. r ∷ []) rows) ≡ map (λ r. r ∷ []) (cut limit rows)
-cut_alone None rows = refl
-cut_alone (Some n) rows = take-map (λ r. r ∷ []) n rows
-
 gathered_alone : (scope : Scope) (s : Select) (group : Option ColRef) (rows : List (List Value)) → is_none group ≡ true → aggregates s.items ≡ false → gathered scope s.items group rows ≡ map (λ r. r ∷ []) rows
 gathered_alone scope s None rows g a = cond-false _ _ _ a
 gathered_alone scope s (Some c) rows g a = cc g
@@ -108,7 +105,7 @@ groups_alone scope s n rows h r =
     let parts = and_parts (answers_each s) (is_led_by scope n s.order) h in
     ap (λ gs. cut s.limit (ordered (earlier scope s.order) gs)) (each_alone scope s rows parts.0)
     ∙ ap (cut s.limit) (ordered_alone scope n s.order rows parts.1 r)
-    ∙ cut_alone s.limit rows
+    ∙ sym (cut-map (λ r. r ∷ []) s.limit rows)
 
 -- ---- no keys
 
@@ -117,7 +114,7 @@ each_unordered scope s rows h e =
     ap (λ gs. cut s.limit (ordered (earlier scope s.order) gs)) (each_alone scope s rows h)
     ∙ ap (λ ks. cut s.limit (ordered (earlier scope ks) (alone rows))) e
     ∙ ap (cut s.limit) (always_in_order (alone rows))
-    ∙ cut_alone s.limit rows
+    ∙ sym (cut-map (λ r. r ∷ []) s.limit rows)
 
 no_keys : (n : ℕ) → eqb n 0 ≡ true → n ≡ 0
 no_keys n h = grind arith
@@ -170,4 +167,4 @@ groups_reversed scope s n rows h r =
     let parts = and_parts (answers_each s) (falls_by scope n s.order) h in
     ap (λ gs. cut s.limit (ordered (earlier scope s.order) gs)) (each_alone scope s rows parts.0)
     ∙ ap (cut s.limit) (ordered_back scope n s.order rows parts.1 r)
-    ∙ cut_alone s.limit (reverse rows)
+    ∙ sym (cut-map (λ r. r ∷ []) s.limit (reverse rows))
