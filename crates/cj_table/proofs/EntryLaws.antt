@@ -1,6 +1,6 @@
 -- Entries in rising key: look-ups tell them apart; what merging, inserting and removing leave at a key.
 use Rattle.std.proofs.Common.{◌≡◌, Bool, true, false, cond, List, [], ◌∷◌, refl, ap, sym, ◌∙◌, subst, ⊎_elim, Ordering, Less, Equal, Greater, is_eq}
-use Rattle.std.specs.Prelude.{All, is_some}
+use Rattle.std.specs.Prelude.{All, is_some, unwrap_or}
 use Rattle.std.proofs.lemmas.List.Elements.{All-nil, All-cons, All-head, All-tail}
 use Rattle.std.specs.declared.option.Option.{Option}
 use Rattle.std.specs.declared.option.Option.TheVariants.{None, Some}
@@ -21,15 +21,14 @@ by_order Less f g h = f refl
 by_order Equal f g h = g refl
 by_order Greater f g h = h refl
 
-eq_true : (o : Ordering) → is_eq o ≡ true → o ≡ Equal
+pub eq_true : (o : Ordering) → is_eq o ≡ true → o ≡ Equal
 eq_true Less h = cc h
 eq_true Equal h = refl
 eq_true Greater h = cc h
 
 -- the change at a key, else what is there
 abbrev pub pick : {X : Type 0} → Option (Option X) → Option X → Option X
-pick None o = o
-pick (Some w) o = w
+pick w o = unwrap_or w o
 
 module _ {K : Type 0} (R : K → K → Ordering) where
   abbrev KeysAbove : {X : Type 0} → K → List (K × X) → Type 0

@@ -28,7 +28,7 @@ use Rattle.cj_table.specs.Entries.{KeysRise, at}
 use Rattle.cj_table.specs.Layers.{merged, listed}
 use Rattle.cj_table.specs.Lookups.{row_with_key, IsKeyOf}
 use Rattle.cj_table.specs.RowEntries.{RowEntries, keyed, puts, removals}
-use Rattle.cj_table.specs.Stored.{rows_after}
+use Rattle.cj_table.specs.Stored.{IsChangeOf}
 use Rattle.cj_table.specs.Plans.{Leaves, Plans}
 use Rattle.cj_model.specs.declared.answer.Refusal.{Refusal}
 use Rattle.std.specs.declared.result.Result.{Result}
@@ -199,14 +199,18 @@ length_put k rows (r ∷ new) h g =
 
 -- ---- plans
 
+-- changes that leave rows
+pub change_into : (k : ℕ) (old rows : List (List Value)) (changes : RowEntries) (n : ℕ) → KeysRise value_cmp changes → merged value_cmp (keyed k old) changes ≡ keyed k rows → n ≡ length rows → IsChangeOf k old changes n
+change_into k old rows changes n r e c =
+    let values : values_of (merged value_cmp (keyed k old) changes) ≡ rows = ap values_of e ∙ values_keyed k rows in
+    record { rises = r; rows = record { own_keys = e ∙ ap (keyed k) (sym values); count = c ∙ ap length (sym values) } }
+
 leaves : (t : Table) (p : Plan) (rows : List (List Value)) (n : ℕ) → KeysRise value_cmp p.changes → merged value_cmp (keyed t.schema.key t.rows) p.changes ≡ keyed t.schema.key rows → p.count ≡ length rows → p.written ≡ n → Leaves t p rows n
-leaves t p rows n r e c w =
-    let values : rows_after t.schema.key t.rows p.changes ≡ rows = ap values_of e ∙ values_keyed t.schema.key rows in
-    record {
-      change = record { rises = r; rows = record { own_keys = e ∙ ap (keyed t.schema.key) (sym values); count = c ∙ ap length (sym values) } };
-      after = values;
-      written = w;
-    }
+leaves t p rows n r e c w = record {
+  change = change_into t.schema.key t.rows rows p.changes p.count r e c;
+  after = ap values_of e ∙ values_keyed t.schema.key rows;
+  written = w;
+}
 
 pub delete_leaves : (t : Table) (is : IsTable t) (p : Plan) (test : List Value → Bool) → p.changes ≡ removals t.schema.key (filter test t.rows) → p.count + length (filter test t.rows) ≡ length t.rows → p.written ≡ length (filter test t.rows)
     → Leaves t p (filter (λ r. not (test r)) t.rows) (count_by test t.rows)

@@ -121,7 +121,7 @@ merged_removals k p rows h =
 -- ---- rows changed, each with its key
 
 -- rows with greater keys are put past y
-fold_past : (k : ℕ) (y : List Value) (ys xs : List (List Value)) → All (λ x. by_key k y x ≡ Less) xs → fold (put_by (by_key k)) (y ∷ ys) xs ≡ y ∷ fold (put_by (by_key k)) ys xs
+pub fold_past : (k : ℕ) (y : List Value) (ys xs : List (List Value)) → All (λ x. by_key k y x ≡ Less) xs → fold (put_by (by_key k)) (y ∷ ys) xs ≡ y ∷ fold (put_by (by_key k)) ys xs
 fold_past k y ys [] h = refl
 fold_past k y ys (x ∷ xs) h =
     let g : by_key k x y ≡ Greater = value_total.antisymm (cell x k) (cell y k) ∙ ap ordering_reverse (All-head (λ x. by_key k y x ≡ Less) x xs h) in

@@ -45,3 +45,8 @@ CarriesSlot old tx (Err refusal) (Err e) new = new ≡ old
 abbrev pub IsPlace : {A : Type 0} → (A → A → Ordering) → List A → A → Result ℕ ℕ → Type 0
 IsPlace order xs x (Ok i) = (i < length xs) × (put_by order xs x ≡ slice_set xs i x)
 IsPlace order xs x (Err i) = (i ≤ length xs) × (put_by order xs x ≡ insert xs i x)
+
+-- in front of which place x is put; none where it stands there already
+abbrev pub IsGap : {A : Type 0} → (A → A → Ordering) → List A → A → Option ℕ → Type 0
+IsGap order xs x None = put_by order xs x ≡ xs
+IsGap order xs x (Some i) = (i ≤ length xs) × (put_by order xs x ≡ insert xs i x)

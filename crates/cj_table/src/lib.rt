@@ -2,6 +2,7 @@
 #![tactic(auto)]
 
 mod conditions;
+mod conversion;
 mod delete;
 mod ends;
 mod insert;
@@ -11,13 +12,16 @@ mod plan;
 mod refusals;
 mod row_map;
 mod scan;
+mod scan_back;
 mod schemas;
 mod slots;
 mod stored;
 mod tables;
 mod update;
 mod view;
+mod writers;
 
 pub use scan::Scan;
+pub use scan_back::ScanBack;
 pub use tables::Tables;
 pub use view::View;

@@ -1,6 +1,6 @@
 //! Rows by their keys.
 
-ghost use Rattle.std.specs.Prelude.{◌≡◌, ◌∷◌, [], true, None, option_copied, IfOk, OnOk, OnErr};
+ghost use Rattle.std.specs.Prelude.{◌≡◌, ◌↔◌, ◌∷◌, [], true, None, Some, option_copied, reverse, IfOk, IsTrue, OnOk, OnErr};
 ghost use Rattle.std.specs.BTreeMap.{insert_entry, is_at};
 ghost use Rattle.std.specs.Map.{remove_entry, values_of};
 ghost use Rattle.std.specs.declared.cmp.Ordering.TheVariants.{Less};
@@ -10,7 +10,8 @@ ghost use Rattle.cj_table.specs.Layers.{changed, kept, merged};
 ghost use Rattle.cj_table.specs.RowEntries as entries;
 
 use crate::scan::Scan;
-use cj_model::{Duplicate, NoMemory, Row, Value};
+use crate::scan_back::ScanBack;
+use cj_model::{Duplicate, NoMemory, Row, Same, Value};
 use std::alloc::Global;
 use std::collections::BTreeMap;
 use std::marker::Model;
@@ -170,6 +171,36 @@ impl RowMap {
 }
 
 impl RowMap {
+    fn has(&self, key: &Value, row: &Row) -> bool
+        ensures { IsTrue result ↔ (at value_cmp key.now self.now ≡ Some (Some row.now)) }
+    {
+        match self.rows.get(key) {
+            Some(Some(found)) => found.is_same(row),
+            Some(None) => false,
+            None => false,
+        }
+    }
+
+    /// Fits the change at a row's key to the row: there is none where the row stays as it is, and one
+    /// that takes the row out where there was none.
+    pub fn settle(&mut self, key: Value, row: &Row) -> Result<(), NoMemory>
+        ensures settles { OnOk result (entries.Settles key row.now self.old self.new) }
+        ensures rises { OnOk result (KeysRise value_cmp self.new) }
+    {
+        self.rises();
+        if self.has(&key, row) {
+            self.remove(&key);
+            return Ok(());
+        }
+        if self.knows(&key) {
+            return Ok(());
+        }
+        self.insert(key, None)?;
+        Ok(())
+    }
+}
+
+impl RowMap {
     /// Forgets a key that has no row.
     fn forget_key(&mut self, key: &Value)
         ensures kept { kept self.new ≡ kept self.old }
@@ -206,6 +237,22 @@ impl RowMap {
         ensures { result ≡ values_of (entries.overlaid self.now changes.now) }
     {
         Scan::under(self.rows.iter(), changes.rows.iter())
+    }
+
+    /// The rows, in falling key.
+    pub fn scan_back(&self) -> ScanBack<'_>
+        ensures { result ≡ reverse (values_of (kept self.now)) }
+    {
+        ScanBack::of(self.rows.iter())
+    }
+
+    /// The rows that changes leave of these, in falling key.
+    pub fn scan_back_under<'a>(&'a self, changes: &'a RowMap) -> ScanBack<'a>
+        ensures { result ≡ reverse (values_of (entries.overlaid self.now changes.now)) }
+    {
+        self.rises();
+        changes.rises();
+        ScanBack::under(self.rows.iter(), changes.rows.iter())
     }
 
     /// The row at a key that changes leave of these rows.
