@@ -36,7 +36,7 @@ module _ (k : ℕ) (v : Value) (p : List Value → Bool) (pins : PinsTo k p v) w
   none_above row [] e a = refl
   none_above row (s ∷ rows) e a =
       let less : value_cmp (cell row k) (cell s k) ≡ Less = All-head (λ s. by_key k row s ≡ Less) s rows a in
-      cond-false _ _ _ (false_from_ne_true _ (λ t. cc (sym (ap is_eq less) ∙ ap (λ w. is_eq (value_cmp (cell row k) w)) (pins.at s t) ∙ e)))
+      cond-false _ _ _ (false_from_ne_true _ (λ (t : p s ≡ true). cc (sym (ap is_eq less) ∙ ap (λ w. is_eq (value_cmp (cell row k) w)) (pins.at s t) ∙ e)))
       ∙ none_above row rows e (All-tail (λ s. by_key k row s ≡ Less) s rows a)
 
   -- where the key is pinned, the row with that key is the only one that may pass

@@ -8,3 +8,4 @@ pub mod Even
 pub mod Paths
 pub mod Counted
 pub mod Joined
+pub mod Cursors

@@ -4,6 +4,7 @@
 mod answer;
 mod ask;
 mod checks;
+mod cursor;
 mod groups;
 mod joins;
 mod order;

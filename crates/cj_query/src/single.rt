@@ -4,8 +4,9 @@ ghost use Rattle.std.specs.Prelude.{◌≡◌, option_copied, option_to_list, If
 ghost use Rattle.cj_query.specs.Seen.{answer_from};
 
 use crate::answer::{answer_counts, answer_each, answer_rows};
+use crate::cursor::Cursor;
 use crate::paths::{counts_all, follows_rows, pinned, reverses_rows};
-use crate::rows::{first_matching, last_matching, matching, matching_row};
+use crate::rows::{first_matching, matching, matching_row};
 use cj_expr::{Predicate, Scope};
 use cj_model::{Asked, NoMemory, Row, Select};
 use cj_table::View;
@@ -38,11 +39,13 @@ fn answer_scanned(
     view.legal();
     let key = usize::from(view.schema().key);
     if follows_rows(scope, select, key) {
-        let rows = first_matching(alloc, view.scan(), cond, select.limit)?;
+        let rows = Cursor::Rising(view.scan());
+        let rows = first_matching(alloc, rows, cond, select.limit)?;
         return answer_each(alloc, scope, select, &rows);
     }
     if reverses_rows(scope, select, key) {
-        let rows = last_matching(alloc, view.scan(), cond, select.limit)?;
+        let rows = Cursor::Falling(view.scan_back());
+        let rows = first_matching(alloc, rows, cond, select.limit)?;
         return answer_each(alloc, scope, select, &rows);
     }
     let rows = matching(alloc, view.scan(), cond)?;
