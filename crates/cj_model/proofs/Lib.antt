@@ -20,6 +20,7 @@ pub mod SessionLaws
 pub mod Sessions
 pub mod Soundness
 pub mod Spellable
+pub mod StorableLaws
 pub mod TableLaws
 pub mod TurnCases
 pub mod UpdateLaws

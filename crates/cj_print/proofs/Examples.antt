@@ -1,5 +1,5 @@
 -- Statements of each kind, and their canonical texts, by computing.
-use Rattle.std.proofs.Common.{◌≡◌, refl, ℕ, true, false, List, [], ◌∷◌, codes, pos, negsuc, Option, Some, None}
+use Rattle.std.proofs.Common.{◌≡◌, refl, ℕ, true, false, List, [], ◌∷◌, codes, pos, negsuc, Some, None}
 use Rattle.std.specs.Fmt.{digits}
 use Rattle.cj_model.specs.declared.value.Value.TheVariants as value
 use Rattle.cj_model.specs.declared.value.Kind.TheVariants as kind

@@ -7,4 +7,5 @@ pub mod FewestParentheses
 pub mod Forms
 pub mod ReadBack
 pub mod Spelling
+pub mod StoredWritten
 pub mod Texts
