@@ -1,6 +1,6 @@
 -- Entries in rising key: look-ups tell them apart; what merging, inserting and removing leave at a key.
-use Rattle.std.proofs.Common.{◌≡◌, ℕ, Bool, true, false, cond, List, [], ◌∷◌, refl, ap, sym, ◌∙◌, subst, ⊎_elim, Ordering, Less, Equal, Greater, is_eq, arith}
-use Rattle.std.specs.Prelude.{⊤, All, is_some}
+use Rattle.std.proofs.Common.{◌≡◌, Bool, true, false, cond, List, [], ◌∷◌, refl, ap, sym, ◌∙◌, subst, ⊎_elim, Ordering, Less, Equal, Greater, is_eq}
+use Rattle.std.specs.Prelude.{All, is_some, unwrap_or}
 use Rattle.std.proofs.lemmas.List.Elements.{All-nil, All-cons, All-head, All-tail}
 use Rattle.std.specs.declared.option.Option.{Option}
 use Rattle.std.specs.declared.option.Option.TheVariants.{None, Some}
@@ -11,7 +11,7 @@ use Rattle.std.specs.List.{AllByRecursion}
 use Rattle.std.specs.List.Sorted.{IsStrictlySortedBy}
 use Rattle.std.specs.Map.{lookup, remove_entry, keys_of}
 use Rattle.std.proofs.lemmas.Bool.{cases_Bool, cond-true, cond-false}
-use Rattle.std.proofs.lemmas.Cmp.{tied_itself, tied_back, alike_right}
+use Rattle.std.proofs.lemmas.Cmp.{tied_itself}
 use Rattle.std.proofs.lemmas.Map.Keys.{sorted_head, sorted_tail}
 use Rattle.cj_table.specs.Layers.{given, kept, onto, merged, changed}
 use Rattle.cj_table.specs.Entries as entries
@@ -28,8 +28,7 @@ eq_true Greater h = cc h
 
 -- the change at a key, else what is there
 abbrev pub pick : {X : Type 0} → Option (Option X) → Option X → Option X
-pick None o = o
-pick (Some w) o = w
+pick w o = unwrap_or w o
 
 module _ {K : Type 0} (R : K → K → Ordering) where
   abbrev KeysAbove : {X : Type 0} → K → List (K × X) → Type 0

@@ -1,3 +1,4 @@
+pub mod ConversionLaws
 pub mod EntryLaws
 pub mod RowEntryLaws
 pub mod RowLaws

@@ -1,17 +1,17 @@
 -- What INSERT, UPDATE and DELETE are to change of a table.
 use Rattle.std.proofs.Common.{◌≡◌, ℕ, zero, suc, ◌+◌, ◌<◌, ◌≤◌, Bool, true, false, cond, List, [], ◌∷◌, ◌++◌, length, map, get_or, take, refl, ap, sym, ◌∙◌, subst, ⊎_elim, Ordering, Less, Equal, Greater, is_eq, arith}
-use Rattle.std.specs.Prelude.{All, ⊤, filter, find, fold, not, is_some, count_by, ◌||◌, ◌&&◌, option_copied}
+use Rattle.std.specs.Prelude.{All, filter, find, fold, not, is_some, count_by, ◌||◌, ◌&&◌, option_copied}
 use Rattle.std.specs.Borrow.{Bor}
 use Rattle.std.specs.List.{list_any}
 use Rattle.std.specs.declared.option.Option.{Option}
 use Rattle.std.specs.declared.option.Option.TheVariants.{None, Some}
-use Rattle.std.specs.Ordering.{match_ordering, ordering_reverse}
-use Rattle.std.specs.BTreeMap.{insert_entry, is_at}
+use Rattle.std.specs.Ordering.{match_ordering}
+use Rattle.std.specs.BTreeMap.{insert_entry}
 use Rattle.std.specs.Map.{values_of}
 use Rattle.std.proofs.lemmas.Bool.{cases_Bool, cond-true, cond-false, or_left, or_right, or_parts, false_from_ne_true}
 use Rattle.std.proofs.lemmas.Cmp.{tied_itself}
 use Rattle.std.proofs.lemmas.List.{length-map, map-append, map_more}
-use Rattle.std.proofs.lemmas.List.Elements.{All-nil, All-cons, All-head, All-tail}
+use Rattle.std.proofs.lemmas.List.Elements.{All-head, All-tail}
 use Rattle.std.proofs.lemmas.List.Filters.{length-filter_both}
 use Rattle.std.proofs.lemmas.List.Sums.{length-filter, count_by-le-length}
 use Rattle.cj_model.specs.declared.value.Value.{Value}
@@ -20,21 +20,19 @@ use Rattle.cj_model.specs.Values.{value_cmp, value_total, value_exact}
 use Rattle.cj_model.specs.Tables.{IsTable, cell, by_key, put_by, Rises}
 use Rattle.cj_model.specs.Changes.{Changed, unless, has_key, has_key_twice}
 use Rattle.cj_model.specs.Predicates.{Predicate}
-use Rattle.cj_model.specs.Evaluation.{holds}
+use Rattle.cj_model.specs.Evaluation.{meets}
 use Rattle.cj_model.proofs.RisingLaws.{by_order, found_put}
 use Rattle.cj_model.proofs.TableLaws.{by_key_total}
-use Rattle.cj_expr.specs.Pinned.{Pins}
 use Rattle.cj_table.specs.declared.plan.Plan.{Plan}
 use Rattle.cj_table.specs.Entries.{KeysRise, at}
 use Rattle.cj_table.specs.Layers.{merged, listed}
-use Rattle.cj_table.specs.Lookups.{row_with_key}
+use Rattle.cj_table.specs.Lookups.{row_with_key, IsKeyOf}
 use Rattle.cj_table.specs.RowEntries.{RowEntries, keyed, puts, removals}
-use Rattle.cj_table.specs.Stored.{AreRows, IsChangeOf, rows_after}
-use Rattle.cj_table.specs.Plans.{Leaves, Plans, PlansChange}
+use Rattle.cj_table.specs.Stored.{IsChangeOf}
+use Rattle.cj_table.specs.Plans.{Leaves, Plans}
 use Rattle.cj_model.specs.declared.answer.Refusal.{Refusal}
-use Rattle.cj_model.specs.declared.memory.NoMemory.{NoMemory}
 use Rattle.std.specs.declared.result.Result.{Result}
-use Rattle.std.specs.declared.result.Result.TheVariants.{Ok, Err}
+use Rattle.std.specs.declared.result.Result.TheVariants.{Err}
 use Rattle.cj_table.proofs.EntryLaws.{at_insert}
 use Rattle.cj_table.proofs.RowLaws.{values_keyed, is_eq-flip, merged_puts, merged_removals, put_changed, rise_each}
 
@@ -80,28 +78,28 @@ found_key k rows r =
     is_some-find (λ x. is_eq (value_cmp (cell x k) (cell r k))) rows
     ∙ any_same (λ x. is_eq (value_cmp (cell x k) (cell r k))) (λ x. is_eq (by_key k r x)) (λ x. is_eq-flip (cell x k) (cell r k)) rows
 
-module _ (k : ℕ) (v : Value) (c : Predicate) (p : Pins k c v) where
-  fails : (r : List Value) → is_eq (value_cmp (cell r k) v) ≡ false → holds c r ≡ false
+module _ (k : ℕ) (v : Value) (c : Option Predicate) (p : IsKeyOf k c v) where
+  fails : (r : List Value) → is_eq (value_cmp (cell r k) v) ≡ false → meets c r ≡ false
   fails r n = false_from_ne_true _ (λ h. let e : true ≡ false = sym (ap is_eq (tied_itself value_total v)) ∙ ap (λ (w : Value). is_eq (value_cmp w v)) (sym (p.at r h)) ∙ n in cc e)
 
-  none_hold : (r : List Value) → cell r k ≡ v → (rs : List (List Value)) → All (λ s. by_key k r s ≡ Less) rs → filter (holds c) rs ≡ []
-  none_hold r e [] h = refl
-  none_hold r e (s ∷ rs) h =
+  none_meet : (r : List Value) → cell r k ≡ v → (rs : List (List Value)) → All (λ s. by_key k r s ≡ Less) rs → filter (meets c) rs ≡ []
+  none_meet r e [] h = refl
+  none_meet r e (s ∷ rs) h =
       let l : value_cmp v (cell s k) ≡ Less = ap (λ (w : Value). value_cmp w (cell s k)) (sym e) ∙ All-head (λ s. by_key k r s ≡ Less) s rs h in
-      cond-false _ _ _ (fails s (is_eq-flip (cell s k) v ∙ ap is_eq l)) ∙ none_hold r e rs (All-tail (λ s. by_key k r s ≡ Less) s rs h)
+      cond-false _ _ _ (fails s (is_eq-flip (cell s k) v ∙ ap is_eq l)) ∙ none_meet r e rs (All-tail (λ s. by_key k r s ≡ Less) s rs h)
 
   equal : (o : Ordering) → is_eq o ≡ true → o ≡ Equal
   equal Less h = cc h
   equal Equal h = refl
   equal Greater h = cc h
 
-  -- a condition that says what the key is holds of one row at most
-  pub pinned_rows : (rs : List (List Value)) → Rises (by_key k) rs → filter (holds c) (listed (row_with_key k rs v)) ≡ filter (holds c) rs
+  -- one row at most has the key of all that meet a condition
+  pub pinned_rows : (rs : List (List Value)) → Rises (by_key k) rs → filter (meets c) (listed (row_with_key k rs v)) ≡ filter (meets c) rs
   pinned_rows [] h = refl
   pinned_rows (r ∷ rs) h = ⊎_elim
-      (λ (t : is_eq (value_cmp (cell r k) v) ≡ true). ap (λ o. filter (holds c) (listed o)) (cond-true _ _ _ t)
-      ∙ ap (λ (l : List (List Value)). cond (holds c r) (r ∷ l) l) (sym (none_hold r (value_exact _ _ (equal _ t)) rs h.0)))
-      (λ (f : is_eq (value_cmp (cell r k) v) ≡ false). ap (λ o. filter (holds c) (listed o)) (cond-false _ _ _ f) ∙ pinned_rows rs h.1
+      (λ (t : is_eq (value_cmp (cell r k) v) ≡ true). ap (λ o. filter (meets c) (listed o)) (cond-true _ _ _ t)
+      ∙ ap (λ (l : List (List Value)). cond (meets c r) (r ∷ l) l) (sym (none_meet r (value_exact _ _ (equal _ t)) rs h.0)))
+      (λ (f : is_eq (value_cmp (cell r k) v) ≡ false). ap (λ o. filter (meets c) (listed o)) (cond-false _ _ _ f) ∙ pinned_rows rs h.1
       ∙ sym (cond-false _ _ _ (fails r f)))
       (cases_Bool (is_eq (value_cmp (cell r k) v)))
 
@@ -201,14 +199,18 @@ length_put k rows (r ∷ new) h g =
 
 -- ---- plans
 
+-- changes that leave rows
+pub change_into : (k : ℕ) (old rows : List (List Value)) (changes : RowEntries) (n : ℕ) → KeysRise value_cmp changes → merged value_cmp (keyed k old) changes ≡ keyed k rows → n ≡ length rows → IsChangeOf k old changes n
+change_into k old rows changes n r e c =
+    let values : values_of (merged value_cmp (keyed k old) changes) ≡ rows = ap values_of e ∙ values_keyed k rows in
+    record { rises = r; rows = record { own_keys = e ∙ ap (keyed k) (sym values); count = c ∙ ap length (sym values) } }
+
 leaves : (t : Table) (p : Plan) (rows : List (List Value)) (n : ℕ) → KeysRise value_cmp p.changes → merged value_cmp (keyed t.schema.key t.rows) p.changes ≡ keyed t.schema.key rows → p.count ≡ length rows → p.written ≡ n → Leaves t p rows n
-leaves t p rows n r e c w =
-    let values : rows_after t.schema.key t.rows p.changes ≡ rows = ap values_of e ∙ values_keyed t.schema.key rows in
-    record {
-      change = record { rises = r; rows = record { own_keys = e ∙ ap (keyed t.schema.key) (sym values); count = c ∙ ap length (sym values) } };
-      after = values;
-      written = w;
-    }
+leaves t p rows n r e c w = record {
+  change = change_into t.schema.key t.rows rows p.changes p.count r e c;
+  after = ap values_of e ∙ values_keyed t.schema.key rows;
+  written = w;
+}
 
 pub delete_leaves : (t : Table) (is : IsTable t) (p : Plan) (test : List Value → Bool) → p.changes ≡ removals t.schema.key (filter test t.rows) → p.count + length (filter test t.rows) ≡ length t.rows → p.written ≡ length (filter test t.rows)
     → Leaves t p (filter (λ r. not (test r)) t.rows) (count_by test t.rows)

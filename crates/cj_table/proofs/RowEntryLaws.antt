@@ -1,5 +1,5 @@
 -- What making entries for keys, and laying changes over them, does to rows by their keys.
-use Rattle.std.proofs.Common.{◌≡◌, Bool, true, false, cond, List, [], ◌∷◌, refl, ap, sym, ◌∙◌, subst, Ordering, Less, Equal, Greater, is_eq}
+use Rattle.std.proofs.Common.{◌≡◌, true, false, List, [], ◌∷◌, refl, ap, sym, ◌∙◌, subst, Less, is_eq}
 use Rattle.std.specs.Prelude.{All, is_some, ◌++◌, option_copied}
 use Rattle.std.specs.Borrow.{Bor}
 use Rattle.std.specs.Ordering.{ordering_reverse}
@@ -14,7 +14,7 @@ use Rattle.cj_model.specs.Values.{value_cmp, value_total, value_exact}
 use Rattle.cj_table.specs.Entries.{KeysRise, KeysAbove, at}
 use Rattle.cj_table.specs.Layers.{kept, merged, changed}
 use Rattle.cj_table.specs.RowEntries.{RowEntries, knows, KnowsKeys, overlaid, Extends, HasKeysOf}
-use Rattle.cj_table.proofs.EntryLaws.{at_remove, remove_absent, taken_back, note_change, commit_change, merged_none, rise_remove, all_remove, rise_kept, rise_merged, prepared, known_after, known_itself, all_insert}
+use Rattle.cj_table.proofs.EntryLaws.{at_remove, remove_absent, taken_back, note_change, commit_change, all_remove, rise_kept, rise_merged, prepared, known_after, all_insert}
 
 abbrev Rising : RowEntries → Type 0
 Rising es = KeysRise value_cmp es
@@ -72,7 +72,7 @@ all_front : {A : Type 0} (P : A → Type 0) (xs ys : List A) → All P (xs ++ ys
 all_front P [] ys a = All-nil P
 all_front P (x ∷ xs) ys a = All-cons P x xs (All-head P x (xs ++ ys) a) (all_front P xs ys (All-tail P x (xs ++ ys) a))
 
-all_back : {A : Type 0} (P : A → Type 0) (xs ys : List A) → All P (xs ++ ys) → All P ys
+pub all_back : {A : Type 0} (P : A → Type 0) (xs ys : List A) → All P (xs ++ ys) → All P ys
 all_back P [] ys a = a
 all_back P (x ∷ xs) ys a = all_back P xs ys (All-tail P x (xs ++ ys) a)
 

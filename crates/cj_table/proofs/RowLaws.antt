@@ -1,7 +1,6 @@
 -- Rows with their keys: look-ups, rows put and rows taken out.
-use Rattle.std.proofs.Common.{◌≡◌, ℕ, ◌+◌, Bool, true, false, cond, List, [], ◌∷◌, length, map, refl, ap, sym, ◌∙◌, subst, ⊎_elim, Ordering, Less, Equal, Greater, is_eq, arith}
-use Rattle.std.specs.Prelude.{All, ⊤, filter, find, fold, not, is_some, count_by, ◌||◌}
-use Rattle.std.specs.List.{list_any}
+use Rattle.std.proofs.Common.{◌≡◌, ℕ, Bool, true, false, cond, List, [], ◌∷◌, map, refl, ap, sym, ◌∙◌, subst, ⊎_elim, Ordering, Less, Equal, Greater, is_eq}
+use Rattle.std.specs.Prelude.{All, filter, fold, not}
 use Rattle.std.specs.declared.option.Option.{Option}
 use Rattle.std.specs.declared.option.Option.TheVariants.{None, Some}
 use Rattle.std.specs.Ordering.{match_ordering, ordering_reverse}
@@ -13,8 +12,7 @@ use Rattle.std.proofs.lemmas.List.Elements.{All-nil, All-cons, All-head, All-tai
 use Rattle.cj_model.specs.declared.value.Value.{Value}
 use Rattle.cj_model.specs.Values.{value_cmp, value_total, value_exact}
 use Rattle.cj_model.specs.Tables.{cell, by_key, put_by, Rises}
-use Rattle.cj_model.proofs.RisingLaws.{by_order, found_put}
-use Rattle.cj_model.proofs.TableLaws.{by_key_total}
+use Rattle.cj_model.proofs.RisingLaws.{by_order}
 use Rattle.cj_table.specs.Entries.{KeysRise, KeysAbove, at}
 use Rattle.cj_table.specs.Layers.{merged, changed}
 use Rattle.cj_table.specs.Lookups.{row_with_key}
@@ -123,7 +121,7 @@ merged_removals k p rows h =
 -- ---- rows changed, each with its key
 
 -- rows with greater keys are put past y
-fold_past : (k : ℕ) (y : List Value) (ys xs : List (List Value)) → All (λ x. by_key k y x ≡ Less) xs → fold (put_by (by_key k)) (y ∷ ys) xs ≡ y ∷ fold (put_by (by_key k)) ys xs
+pub fold_past : (k : ℕ) (y : List Value) (ys xs : List (List Value)) → All (λ x. by_key k y x ≡ Less) xs → fold (put_by (by_key k)) (y ∷ ys) xs ≡ y ∷ fold (put_by (by_key k)) ys xs
 fold_past k y ys [] h = refl
 fold_past k y ys (x ∷ xs) h =
     let g : by_key k x y ≡ Greater = value_total.antisymm (cell x k) (cell y k) ∙ ap ordering_reverse (All-head (λ x. by_key k y x ≡ Less) x xs h) in

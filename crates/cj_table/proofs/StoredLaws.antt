@@ -1,6 +1,6 @@
 -- What a stored table shows, and what changes of it leave.
-use Rattle.std.proofs.Common.{◌≡◌, ℕ, ◌<◌, Bool, true, false, cond, List, [], length, refl, ap, sym, ◌∙◌, subst, arith, ⊎_elim}
-use Rattle.std.specs.Prelude.{⊤, ◌==◌, All, OnErr}
+use Rattle.std.proofs.Common.{◌≡◌, ℕ, ◌<◌, true, false, List, [], ap, sym, ◌∙◌, subst, arith, ⊎_elim}
+use Rattle.std.specs.Prelude.{◌==◌, OnErr}
 use Rattle.std.specs.declared.result.Result.{Result}
 use Rattle.std.specs.declared.result.Result.TheVariants.{Ok, Err}
 use Rattle.std.specs.declared.option.Option.{Option}
@@ -11,9 +11,8 @@ use Rattle.cj_model.specs.declared.value.Value.{Value}
 use Rattle.cj_model.specs.declared.schema.Schema.{Schema}
 use Rattle.cj_model.specs.declared.database.Slot.{Slot}
 use Rattle.cj_model.specs.declared.database.Table.{Table}
-use Rattle.cj_model.specs.declared.database.Draft.{Draft}
-use Rattle.cj_model.specs.Values.{value_cmp, value_total, value_exact}
-use Rattle.cj_model.specs.Steps.{seen, seen_behind, other_writer, with_table, committed, aborted}
+use Rattle.cj_model.specs.Values.{value_cmp}
+use Rattle.cj_model.specs.Steps.{seen, other_writer}
 use Rattle.cj_table.specs.declared.stored.StoredDraft.{StoredDraft}
 use Rattle.cj_table.specs.Entries.{KeysRise, at}
 use Rattle.cj_table.specs.Layers.{kept, merged}

@@ -1,29 +1,23 @@
 -- The refusals of UPDATE in their order.
-use Rattle.std.proofs.Common.{◌≡◌, ◌≢◌, ℕ, pos, set, fold, Bool, true, false, List, [], ◌∷◌, map, refl, ap, sym, ◌∙◌, subst}
-use Rattle.std.specs.Prelude.{◌||◌, option_map, slice_set}
+use Rattle.std.proofs.Common.{◌≡◌, Bool, true, false, List, [], ◌∷◌, map, ap, sym, ◌∙◌, subst}
+use Rattle.std.specs.Prelude.{◌||◌, option_map}
 use Rattle.std.specs.List.{list_any}
 use Rattle.std.specs.declared.option.Option.{Option}
 use Rattle.std.specs.declared.result.Result.{Result}
-use Rattle.std.specs.declared.result.Result.TheVariants.{Ok, Err}
-use Rattle.std.proofs.lemmas.Bool.{or_parts, eqb-false}
-use Rattle.std.proofs.lemmas.List.{get_or-set_other}
-use Rattle.cj_model.specs.declared.value.Value.TheVariants.{Int}
-use Rattle.cj_model.specs.Evaluation.{worth}
-use Rattle.cj_model.specs.declared.memory.NoMemory.{NoMemory}
-use Rattle.cj_model.specs.declared.value.Value.{Value}
+use Rattle.std.specs.declared.result.Result.TheVariants.{Err}
+use Rattle.std.proofs.lemmas.Bool.{or_parts}
 use Rattle.cj_model.specs.declared.database.Table.{Table}
 use Rattle.cj_model.specs.declared.write.Set.{Set}
 use Rattle.cj_model.specs.declared.answer.Refusal.{Refusal}
 use Rattle.cj_model.specs.declared.codes.TheConstants.{NO_COLUMN, BAD_COLUMNS, WRONG_TYPE}
 use Rattle.cj_model.specs.Conditions.{Condition}
-use Rattle.cj_model.specs.Tables.{cell}
 use Rattle.cj_model.specs.Changes.{Changed, bare, unless}
-use Rattle.cj_model.specs.Scopes.{Scope, scope_of, place, formula_of, where_names_stranger, where_mixes_kinds, predicate_of}
-use Rattle.cj_model.specs.Updates.{Assignment, column_set, set_names_stranger, sets_twice, sets_key, set_mixes_kinds, assignment_of, with_new_values, updated}
+use Rattle.cj_model.specs.Scopes.{Scope, scope_of, where_names_stranger, where_mixes_kinds, predicate_of}
+use Rattle.cj_model.specs.Updates.{set_names_stranger, sets_twice, sets_key, set_mixes_kinds, assignment_of, with_new_values, updated}
 use Rattle.cj_model.proofs.UpdateLaws.{key_assigned}
 use Rattle.cj_table.specs.declared.plan.Plan.{Plan}
 use Rattle.cj_table.specs.Assignments.{KeepsKey}
-use Rattle.cj_table.specs.Plans.{Plans, PlansChange}
+use Rattle.cj_table.specs.Plans.{Plans}
 use Rattle.cj_table.proofs.PlanLaws.{refused, past}
 
 module _ (t : Table) (sets : List Set) (when : Option Condition) where

@@ -6,17 +6,16 @@ use Rattle.std.specs.declared.result.Result.{Result}
 use Rattle.std.specs.declared.result.Result.TheVariants.{Ok, Err}
 use Rattle.std.specs.declared.cmp.Ordering.{Ordering}
 use Rattle.cj_model.specs.declared.memory.NoMemory.{NoMemory}
-use Rattle.cj_model.specs.declared.value.Value.{Value}
 use Rattle.cj_model.specs.declared.database.Slot.{Slot}
 use Rattle.cj_model.specs.declared.write.Write.{Write}
 use Rattle.cj_model.specs.declared.answer.Outcome.{Outcome}
 use Rattle.cj_model.specs.declared.answer.Outcome.TheVariants.{Done}
 use Rattle.cj_model.specs.declared.answer.Outcome.TheVariants as outcome
-use Rattle.cj_model.specs.declared.codes.TheConstants.{NO_TABLE, LOCKED}
-use Rattle.cj_model.specs.Tables.{slot_of, put_by}
-use Rattle.cj_model.specs.Changes.{Changed, bare}
+use Rattle.cj_model.specs.declared.codes.TheConstants.{LOCKED}
+use Rattle.cj_model.specs.Tables.{put_by}
+use Rattle.cj_model.specs.Changes.{Changed}
 use Rattle.cj_model.specs.Updates.{change}
-use Rattle.cj_model.specs.Steps.{Stepped, refuse, seen, other_writer, with_table, table_written, write_done}
+use Rattle.cj_model.specs.Steps.{Stepped, seen, other_writer, with_table}
 
 -- ---- calls
 
@@ -46,3 +45,8 @@ CarriesSlot old tx (Err refusal) (Err e) new = new ≡ old
 abbrev pub IsPlace : {A : Type 0} → (A → A → Ordering) → List A → A → Result ℕ ℕ → Type 0
 IsPlace order xs x (Ok i) = (i < length xs) × (put_by order xs x ≡ slice_set xs i x)
 IsPlace order xs x (Err i) = (i ≤ length xs) × (put_by order xs x ≡ insert xs i x)
+
+-- in front of which place x is put; none where it stands there already
+abbrev pub IsGap : {A : Type 0} → (A → A → Ordering) → List A → A → Option ℕ → Type 0
+IsGap order xs x None = put_by order xs x ≡ xs
+IsGap order xs x (Some i) = (i ≤ length xs) × (put_by order xs x ≡ insert xs i x)

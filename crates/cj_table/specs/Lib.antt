@@ -6,4 +6,5 @@ pub mod Layers
 pub mod Lookups
 pub mod Plans
 pub mod RowEntries
+pub mod Scans
 pub mod Stored

@@ -1,15 +1,19 @@
 -- Rows by their keys.
-use Rattle.std.specs.Prelude.{◌≡◌, ℕ, Bool, true, List, [], All, map, fold, is_some, filter}
+use Rattle.std.specs.Prelude.{false, unwrap_or, ◌≡◌, ℕ, Bool, true, List, [], All, map, fold, is_some}
 use Rattle.std.specs.declared.option.Option.{Option}
 use Rattle.std.specs.declared.option.Option.TheVariants.{None, Some}
 use Rattle.std.specs.declared.cmp.Ordering.{Ordering}
 use Rattle.std.specs.declared.cmp.Ordering.TheVariants.{Less}
-use Rattle.std.specs.BTreeMap.{insert_entry}
+use Rattle.std.specs.BTreeMap.{insert_entry, is_at}
 use Rattle.cj_model.specs.declared.value.Value.{Value}
 use Rattle.cj_model.specs.Values.{value_cmp}
 use Rattle.cj_model.specs.Tables.{cell}
 use Rattle.cj_table.specs.Entries.{KeysRise, at}
 use Rattle.cj_table.specs.Layers.{kept, merged}
+
+-- rows, each the list of its values
+abbrev pub Rows : Type 0
+Rows = List (List Value)
 
 -- keys in rising order, each with its row, or with none
 abbrev pub RowEntries : Type 0
@@ -54,3 +58,15 @@ pub record Extends (below old new : RowEntries) : Type 0 where
 -- each key is an old one, or one of the changes: what holds of these holds of it
 pub record HasKeysOf (old changes new : RowEntries) : Type 0 where
   pub each : (p : Value → Bool) → All (λ e. p e.0 ≡ true) old → All (λ c. p c.0 ≡ true) changes → All (λ e. p e.0 ≡ true) new
+
+-- ---- changes that turn rows into new ones
+
+-- only the change at the row's key is another, and shows over the row what the old one showed over nothing
+pub record Settles (key : Value) (row : List Value) (old new : RowEntries) : Type 0 where
+  pub own : unwrap_or (at value_cmp key new) (Some row) ≡ unwrap_or (at value_cmp key old) None
+  pub others : (other : Value) → is_at (value_cmp other) key ≡ false → at value_cmp other new ≡ at value_cmp other old
+
+-- over the old rows the changes show the new ones
+pub record Turns (k : ℕ) (old new : List (List Value)) (changes : RowEntries) : Type 0 where
+  pub rises : KeysRise value_cmp changes
+  pub rows : merged value_cmp (keyed k old) changes ≡ keyed k new

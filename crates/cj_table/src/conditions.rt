@@ -1,10 +1,11 @@
 //! The conditions of UPDATE and DELETE, and the rows that meet them.
 
-ghost use Rattle.std.specs.Prelude.{◌≡◌, filter, map, option_copied, option_map, IfOk};
+ghost use Rattle.std.specs.Prelude.{◌≡◌, filter, map, option_map, IfOk, IfSome};
 ghost use Rattle.std.specs.Map.Iter.{deref};
 ghost use Rattle.cj_model.specs.Evaluation as evaluation;
 ghost use Rattle.cj_model.specs.Scopes as scopes;
 ghost use Rattle.cj_table.specs.Layers.{listed};
+ghost use Rattle.cj_table.specs.Lookups.{row_with_key, IsKeyOf};
 
 use crate::view::View;
 use cj_expr::{Predicate, Scope, predicate_of};
@@ -57,53 +58,53 @@ fn meets(condition: &Option<Predicate>, row: &Row) -> bool
     }
 }
 
-fn at_most_one<'a>(alloc: Global, row: Option<&'a Row>) -> Result<Vec<&'a Row>, NoMemory>
-    ensures { IfOk result (λ rows. map deref rows.items ≡ listed (option_copied row.entry)) }
-{
-    let mut rows = Vec::new(alloc);
-    if let Some(row) = row {
-        rows.push(row)?;
-        return Ok(rows);
-    }
-    Ok(rows)
-}
-
-/// Rows among which are all that meet the condition: where this says what the key is, one look-up
-/// finds them, else a scan.
-fn candidates<'a>(
-    alloc: Global,
-    view: &View<'a>,
-    predicate: &Predicate,
-) -> Result<Vec<&'a Row>, NoMemory>
-    ensures { IfOk result (λ rows. filter (evaluation.holds predicate.now) (map deref rows.items) ≡ filter (evaluation.holds predicate.now) view.now.rows) }
-{
-    view.legal();
-    match predicate.key_of(view.schema().key as usize) {
-        Some(key) => {
-            let rows = at_most_one(alloc, view.find(key))?;
-            Ok(rows)
-        }
-        None => view.scan(alloc),
-    }
-}
-
-fn candidates_for<'a>(
+/// The rows that meet the condition among all rows.
+fn scanned<'a>(
     alloc: Global,
     view: &View<'a>,
     condition: &Option<Predicate>,
 ) -> Result<Vec<&'a Row>, NoMemory>
-    ensures { IfOk result (λ rows. filter (evaluation.meets condition.now) (map deref rows.items) ≡ filter (evaluation.meets condition.now) view.now.rows) }
+    ensures { IfOk result (λ rows. map deref rows.items ≡ filter (evaluation.meets condition.now) view.now.rows) }
+{
+    let mut rows = Vec::new(alloc);
+    for row in view.scan() {
+        if meets(condition, row) {
+            rows.push(row)?;
+        }
+    }
+    Ok(rows)
+}
+
+/// The row with this key, if it meets the condition.
+fn looked_up<'a>(
+    alloc: Global,
+    view: &View<'a>,
+    condition: &Option<Predicate>,
+    key: &Value,
+) -> Result<Vec<&'a Row>, NoMemory>
+    ensures { IfOk result (λ rows. map deref rows.items ≡ filter (evaluation.meets condition.now) (listed (row_with_key view.now.schema.key view.now.rows key.now))) }
+{
+    let mut rows = Vec::new(alloc);
+    if let Some(row) = view.find(key) {
+        if meets(condition, row) {
+            rows.push(row)?;
+        }
+    }
+    Ok(rows)
+}
+
+/// The key that each row that meets the condition has, where the condition says it.
+fn key_of<'a>(condition: &'a Option<Predicate>, place: usize) -> Option<&'a Value>
+    ensures { IfSome result (λ key. IsKeyOf place condition.now key.now) }
 {
     match condition {
-        Some(predicate) => candidates(alloc, view, predicate),
-        None => {
-            let rows = view.scan(alloc)?;
-            Ok(rows)
-        }
+        Some(predicate) => predicate.key_of(place),
+        None => None,
     }
 }
 
-/// The rows that meet the condition, in rising key.
+/// The rows that meet the condition, in rising key: where this says what the key is, one look-up
+/// finds them, else a scan.
 pub fn matching<'a>(
     alloc: Global,
     view: &View<'a>,
@@ -111,12 +112,9 @@ pub fn matching<'a>(
 ) -> Result<Vec<&'a Row>, NoMemory>
     ensures { IfOk result (λ rows. map deref rows.items ≡ filter (evaluation.meets condition.now) view.now.rows) }
 {
-    let candidates = candidates_for(alloc, view, condition)?;
-    let mut rows = Vec::new(alloc);
-    for row in &candidates {
-        if meets(condition, *row) {
-            rows.push(*row)?;
-        }
+    view.legal();
+    match key_of(condition, view.schema().key as usize) {
+        Some(key) => looked_up(alloc, view, condition, key),
+        None => scanned(alloc, view, condition),
     }
-    Ok(rows)
 }

@@ -2,6 +2,7 @@
 #![tactic(auto)]
 
 mod conditions;
+mod conversion;
 mod delete;
 mod ends;
 mod insert;
@@ -10,12 +11,15 @@ mod names;
 mod plan;
 mod refusals;
 mod row_map;
+mod scan;
 mod schemas;
 mod slots;
 mod stored;
 mod tables;
 mod update;
 mod view;
+mod writers;
 
+pub use scan::Scan;
 pub use tables::Tables;
 pub use view::View;

@@ -1,18 +1,17 @@
 //! Rows by their keys.
 
-ghost use Rattle.std.specs.Prelude.{◌≡◌, ◌∷◌, ◌++◌, [], true, None, map, option_copied, IfOk, OnOk, OnErr};
+ghost use Rattle.std.specs.Prelude.{◌≡◌, ◌↔◌, ◌∷◌, [], true, None, Some, option_copied, IfOk, IsTrue, OnOk, OnErr};
 ghost use Rattle.std.specs.BTreeMap.{insert_entry, is_at};
 ghost use Rattle.std.specs.Map.{remove_entry, values_of};
-ghost use Rattle.std.specs.Map.Iter.{deref};
 ghost use Rattle.std.specs.declared.cmp.Ordering.TheVariants.{Less};
 ghost use Rattle.cj_model.specs.Values.{value_cmp};
 ghost use Rattle.cj_table.specs.Entries.{KeysRise, at};
-ghost use Rattle.cj_table.specs.Layers.{changed, kept, listed, merged};
+ghost use Rattle.cj_table.specs.Layers.{changed, kept, merged};
 ghost use Rattle.cj_table.specs.RowEntries as entries;
 
-use cj_model::{Duplicate, NoMemory, Row, Value};
+use crate::scan::Scan;
+use cj_model::{Duplicate, NoMemory, Row, Same, Value};
 use std::alloc::Global;
-use std::cmp::Ordering;
 use std::collections::BTreeMap;
 use std::marker::Model;
 
@@ -171,6 +170,36 @@ impl RowMap {
 }
 
 impl RowMap {
+    fn has(&self, key: &Value, row: &Row) -> bool
+        ensures { IsTrue result ↔ (at value_cmp key.now self.now ≡ Some (Some row.now)) }
+    {
+        match self.rows.get(key) {
+            Some(Some(found)) => found.is_same(row),
+            Some(None) => false,
+            None => false,
+        }
+    }
+
+    /// Fits the change at a row's key to the row: there is none where the row stays as it is, and one
+    /// that takes the row out where there was none.
+    pub fn settle(&mut self, key: Value, row: &Row) -> Result<(), NoMemory>
+        ensures settles { OnOk result (entries.Settles key row.now self.old self.new) }
+        ensures rises { OnOk result (KeysRise value_cmp self.new) }
+    {
+        self.rises();
+        if self.has(&key, row) {
+            self.remove(&key);
+            return Ok(());
+        }
+        if self.knows(&key) {
+            return Ok(());
+        }
+        self.insert(key, None)?;
+        Ok(())
+    }
+}
+
+impl RowMap {
     /// Forgets a key that has no row.
     fn forget_key(&mut self, key: &Value)
         ensures kept { kept self.new ≡ kept self.old }
@@ -194,80 +223,19 @@ impl RowMap {
     }
 }
 
-/// Which comes first, an entry or a change, where their keys have this order. An entry without a
-/// row is passed over at once.
-fn turn(row: &Option<Row>, order: Ordering) -> Ordering
-    ensures { result ≡ entries.turn row.now order }
-{
-    match row {
-        None => Ordering::Less,
-        Some(_) => order,
-    }
-}
-
-/// Adds the row, if there is one.
-fn push_row<'a>(rows: &mut Vec<&'a Row>, row: &'a Option<Row>) -> Result<(), NoMemory>
-    ensures { OnOk result (map deref rows.new.items ≡ map deref rows.old.items ++ listed row.now) }
-{
-    if let Some(row) = row {
-        rows.push(row)?;
-    }
-    Ok(())
-}
-
 impl RowMap {
     /// The rows, in rising key.
-    pub fn scan(&self, alloc: Global) -> Result<Vec<&Row>, NoMemory>
-        ensures { IfOk result (λ rows. map deref rows.items ≡ values_of (kept self.now)) }
+    pub fn scan(&self) -> Scan<'_>
+        ensures { result ≡ values_of (kept self.now) }
     {
-        let mut rows = Vec::new(alloc);
-        for (_, row) in &self.rows {
-            push_row(&mut rows, row)?;
-        }
-        Ok(rows)
+        Scan::of(self.rows.iter())
     }
 
     /// The rows that changes leave of these, in rising key.
-    pub fn scan_under<'a>(
-        &'a self,
-        alloc: Global,
-        changes: &'a RowMap,
-    ) -> Result<Vec<&'a Row>, NoMemory>
-        ensures { IfOk result (λ rows. map deref rows.items ≡ values_of (entries.overlaid self.now changes.now)) }
+    pub fn scan_under<'a>(&'a self, changes: &'a RowMap) -> Scan<'a>
+        ensures { result ≡ values_of (entries.overlaid self.now changes.now) }
     {
-        let mut rows = Vec::new(alloc);
-        let mut own = self.rows.iter();
-        let mut laid = changes.rows.iter();
-        let mut entry = own.next();
-        let mut change = laid.next();
-        loop {
-            match (entry, change) {
-                (None, None) => return Ok(rows),
-                (Some((_, row)), None) => {
-                    push_row(&mut rows, row)?;
-                    entry = own.next();
-                }
-                (None, Some((_, new))) => {
-                    push_row(&mut rows, new)?;
-                    change = laid.next();
-                }
-                (Some((key, row)), Some((at, new))) => match turn(row, key.cmp(at)) {
-                    Ordering::Less => {
-                        push_row(&mut rows, row)?;
-                        entry = own.next();
-                    }
-                    Ordering::Equal => {
-                        push_row(&mut rows, new)?;
-                        entry = own.next();
-                        change = laid.next();
-                    }
-                    Ordering::Greater => {
-                        push_row(&mut rows, new)?;
-                        change = laid.next();
-                    }
-                },
-            }
-        }
+        Scan::under(self.rows.iter(), changes.rows.iter())
     }
 
     /// The row at a key that changes leave of these rows.

@@ -1,7 +1,6 @@
 //! A table as it is kept: its rows by their keys, and what a transaction has changed.
 
-ghost use Rattle.std.specs.Prelude.{◌≡◌, [], None, length, map, option_copied, option_map, IfOk, OnOk, OnErr};
-ghost use Rattle.std.specs.Map.Iter.{deref};
+ghost use Rattle.std.specs.Prelude.{◌≡◌, [], None, length, option_copied, option_map, OnOk, OnErr};
 ghost use Rattle.cj_model.specs.Steps.{aborted, committed, seen};
 ghost use Rattle.cj_model.specs.Steps as steps;
 ghost use Rattle.cj_model.specs.Values.{value_cmp};
@@ -12,6 +11,7 @@ ghost use Rattle.cj_table.specs.RowEntries.{HasKeysOf, overlaid};
 ghost use Rattle.cj_table.specs.Stored.{IsChangeOf, changed_slot};
 
 use crate::row_map::RowMap;
+use crate::scan::Scan;
 use cj_model::{NoMemory, Row, Schema, Value};
 use std::alloc::Global;
 use std::marker::Model;
@@ -180,13 +180,13 @@ impl StoredTable {
     }
 
     /// The rows that a transaction sees, in rising key.
-    pub fn scan(&self, alloc: Global, tx: u64) -> Result<Vec<&Row>, NoMemory>
-        ensures { IfOk result (λ rows. map deref rows.items ≡ (seen self.now tx).rows) }
+    pub fn scan(&self, tx: u64) -> Scan<'_>
+        ensures { result ≡ (seen self.now tx).rows }
     {
         match &self.draft {
-            Some(draft) if draft.tx == tx => self.base.scan_under(alloc, &draft.changes),
-            Some(_) => self.base.scan(alloc),
-            None => self.base.scan(alloc),
+            Some(draft) if draft.tx == tx => self.base.scan_under(&draft.changes),
+            Some(_) => self.base.scan(),
+            None => self.base.scan(),
         }
     }
 

@@ -1,15 +1,18 @@
 //! The database.
 
-ghost use Rattle.std.specs.Prelude.{◌≡◌, ◌≤◌, [], length, map, option_map, OnOk, OnErr};
+ghost use Rattle.std.specs.Prelude.{◌≡◌, ◌≤◌, [], length, map, option_map, IfOk, OnOk, OnErr};
+ghost use Rattle.cj_model.specs.Storable.{writers};
 ghost use Rattle.cj_model.specs.Steps.{aborted, committed, created, dropped, seen, written};
 ghost use Rattle.cj_model.specs.Tables.{IsDatabase, column_limit, slot_of};
 ghost use Rattle.cj_table.specs.Carried.{Carries};
 
+use crate::conversion::{copied_slots, stored_slots};
 use crate::ends::{abort_slots, commit_slots, drop_slot};
 use crate::slots::{create_slot, find, write_slots};
 use crate::stored::StoredTable;
 use crate::view::View;
-use cj_model::{Create, Name, NoMemory, Outcome, Write};
+use crate::writers::writers_in;
+use cj_model::{Create, Db, Name, NoMemory, Outcome, Write};
 use std::alloc::Global;
 use std::marker::Model;
 
@@ -88,6 +91,31 @@ impl Tables {
         ensures { self.new ≡ map (aborted tx) self.old }
     {
         abort_slots(&mut self.slots, tx);
+    }
+
+    /// The database as trees of rows by their keys: rows are moved, and keys copied.
+    pub fn from_db(alloc: Global, db: Db) -> Result<Tables, NoMemory>
+        requires { IsDatabase db }
+        ensures { IfOk result (λ tables. tables ≡ db) }
+    {
+        Ok(Tables {
+            slots: stored_slots(alloc, db)?,
+            alloc,
+        })
+    }
+
+    /// A copy of the database.
+    pub fn to_db(&self) -> Result<Db, NoMemory>
+        ensures { IfOk result (λ db. db ≡ self.now) }
+    {
+        copied_slots(self.alloc, &self.slots)
+    }
+
+    /// The transactions that have a draft, in rising number.
+    pub fn writers(&self) -> Result<Vec<u64>, NoMemory>
+        ensures { IfOk result (λ list. list.items ≡ writers self.now) }
+    {
+        writers_in(self.alloc, &self.slots)
     }
 
     /// The table as transaction `tx`, 0 for none, sees it; none exactly where it is not there.

@@ -1,14 +1,13 @@
 //! Tables as a transaction sees them.
 
-ghost use Rattle.std.specs.Prelude.{◌≡◌, length, map, option_copied, IfOk};
-ghost use Rattle.std.specs.Map.Iter.{deref};
+ghost use Rattle.std.specs.Prelude.{◌≡◌, length, option_copied};
 ghost use Rattle.cj_model.specs.Steps.{seen};
 ghost use Rattle.cj_model.specs.Tables.{IsSlot, IsTable};
 ghost use Rattle.cj_table.specs.Lookups.{row_with_key};
 
+use crate::scan::Scan;
 use crate::stored::StoredTable;
-use cj_model::{NoMemory, Row, Schema, Value};
-use std::alloc::Global;
+use cj_model::{Row, Schema, Value};
 use std::marker::Model;
 
 /// A table as a transaction sees it.
@@ -49,11 +48,11 @@ impl<'a> View<'a> {
     }
 
     /// All rows, in rising key.
-    pub fn scan(&self, alloc: Global) -> Result<Vec<&'a Row>, NoMemory>
-        ensures { IfOk result (λ rows. map deref rows.items ≡ self.now.rows) }
+    pub fn scan(&self) -> Scan<'a>
+        ensures { result ≡ self.now.rows }
     {
         let stored = self.stored;
-        stored.scan(alloc, self.tx)
+        stored.scan(self.tx)
     }
 
     /// The row with this key.

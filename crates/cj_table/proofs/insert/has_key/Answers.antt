@@ -1,4 +1,4 @@
-use Rattle.std.proofs.Common.{◌≡◌, ap, ◌∙◌}
+use Rattle.std.proofs.Common.{ap, ◌∙◌}
 use Rattle.std.specs.Prelude.{is_some}
 use Rattle.cj_table.specs.Lookups.{row_with_key}
 use Rattle.cj_model.specs.declared.value.Value.{Value}

@@ -1,4 +1,4 @@
-use Rattle.std.proofs.Common.{◌≡◌, false, not, ◌==◌, List, length, map, IfOk, subst, sym, ap, ◌∙◌}
+use Rattle.std.proofs.Common.{◌≡◌, false, not, ◌==◌, List, length, map, subst, sym, ap, ◌∙◌}
 use Rattle.std.specs.List.{list_any}
 use Rattle.cj_model.specs.declared.term.Term.{Term}
 use Rattle.cj_model.specs.Changes.{Changed, row_of, lists_stranger, lists_unevenly}

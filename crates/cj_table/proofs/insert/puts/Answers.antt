@@ -1,5 +1,5 @@
-use Rattle.std.proofs.Common.{◌≡◌, ℕ, true, false, List, [], ◌∷◌, ◌++◌, ap, sym, ◌∙◌, subst}
-use Rattle.std.specs.Prelude.{is_some, ◌||◌}
+use Rattle.std.proofs.Common.{◌≡◌, true, false, List, [], ◌∷◌, ◌++◌, ap, sym, ◌∙◌, subst}
+use Rattle.std.specs.Prelude.{is_some}
 use Rattle.std.specs.BTreeMap.{insert_entry}
 use Rattle.std.specs.declared.option.Option.TheVariants.{Some}
 use Rattle.std.proofs.lemmas.Bool.{cond-true, or_right}
@@ -9,7 +9,7 @@ use Rattle.cj_model.specs.Values.{value_cmp}
 use Rattle.cj_model.specs.Tables.{cell}
 use Rattle.cj_model.specs.Changes.{has_key, has_key_twice}
 use Rattle.cj_table.specs.Entries.{at}
-use Rattle.cj_table.specs.RowEntries.{RowEntries, puts}
+use Rattle.cj_table.specs.RowEntries.{RowEntries}
 use Rattle.cj_table.proofs.PlanLaws.{is_some-copied, known_put, twice_more, twice_still, none_of, put_one_more}
 use Rattle.cj_table.proofs.insert.puts.Goals as goal
 

@@ -1,4 +1,4 @@
-use Rattle.std.proofs.Common.{◌≡◌, ◌∷◌, ◌++◌, List, [], sym, ap, ◌∙◌}
+use Rattle.std.proofs.Common.{ap, ◌∙◌}
 use Rattle.cj_model.specs.Updates.{assignment_of}
 use Rattle.cj_table.specs.Assignments.{assignment, assignments}
 use Rattle.cj_table.proofs.PlanLaws.{images_more}

@@ -1,4 +1,4 @@
-use Rattle.std.proofs.Common.{◌≡◌, ◌∷◌, List, [], true, false, sym, ap, ◌∙◌}
+use Rattle.std.proofs.Common.{◌∷◌, [], sym, ap, ◌∙◌}
 use Rattle.cj_model.specs.declared.schema.Schema.{Schema}
 use Rattle.std.specs.Prelude.{◌||◌}
 use Rattle.std.specs.List.{list_any}

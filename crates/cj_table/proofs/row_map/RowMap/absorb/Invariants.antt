@@ -1,4 +1,4 @@
-use Rattle.std.proofs.Common.{◌≡◌, ◌++◌, map}
+use Rattle.std.proofs.Common.{◌≡◌, ◌++◌}
 use Rattle.cj_model.specs.Values.{value_cmp}
 use Rattle.cj_table.specs.Entries.{KeysRise}
 use Rattle.cj_table.specs.Layers.{merged}

@@ -1,4 +1,4 @@
-use Rattle.std.proofs.Common.{◌≡◌, ◌∙◌, sym, ap}
+use Rattle.std.proofs.Common.{◌∙◌, sym, ap}
 use Rattle.cj_table.specs.Layers.{kept}
 use Rattle.cj_table.proofs.RowEntryLaws.{copied_none, forgotten}
 use Rattle.cj_table.proofs.row_map.RowMap.forget_key.Goals as goal

@@ -1,4 +1,3 @@
-use Rattle.std.proofs.Common.{◌≡◌}
 use Rattle.cj_model.specs.Values.{value_cmp}
 use Rattle.cj_table.proofs.EntryLaws.{rise_from}
 use Rattle.cj_table.proofs.row_map.RowMap.insert.Goals as goal

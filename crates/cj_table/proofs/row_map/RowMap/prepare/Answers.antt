@@ -4,7 +4,6 @@ use Rattle.std.specs.declared.option.Option.{Option}
 use Rattle.std.proofs.lemmas.List.Elements.{All-nil}
 use Rattle.std.specs.Map.Iter.{deref_pair}
 use Rattle.cj_model.specs.declared.value.Value.{Value}
-use Rattle.cj_model.specs.Values.{value_cmp}
 use Rattle.cj_table.specs.RowEntries.{RowEntries, KnowsKeys, HasKeysOf, knows}
 use Rattle.cj_table.proofs.RowEntryLaws.{extends_itself, has_keys_itself, extends_then, keys_then, keys_among, known_more}
 use Rattle.cj_table.proofs.row_map.RowMap.prepare.Goals as goal

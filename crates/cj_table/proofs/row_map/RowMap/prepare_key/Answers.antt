@@ -1,5 +1,4 @@
 use Rattle.std.proofs.Common.{◌≡◌, ◌∙◌, [], ◌∷◌, sym, ap, subst}
-use Rattle.std.specs.Prelude.{is_some}
 use Rattle.std.specs.declared.option.Option.TheVariants.{None}
 use Rattle.std.specs.BTreeMap.{insert_entry}
 use Rattle.cj_model.specs.declared.value.Value.{Value}

@@ -1,4 +1,4 @@
-use Rattle.std.proofs.Common.{◌≡◌, ◌∙◌, sym, ap}
+use Rattle.std.proofs.Common.{◌∙◌, sym, ap}
 use Rattle.std.specs.declared.option.Option.TheVariants.{None}
 use Rattle.cj_model.specs.Values.{value_cmp, value_total, value_exact}
 use Rattle.cj_table.specs.Entries.{at}

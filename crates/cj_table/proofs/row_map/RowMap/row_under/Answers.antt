@@ -1,4 +1,4 @@
-use Rattle.std.proofs.Common.{◌≡◌, sym, ap, ◌∙◌}
+use Rattle.std.proofs.Common.{sym, ap, ◌∙◌}
 use Rattle.cj_model.specs.Values.{value_cmp, value_total, value_exact}
 use Rattle.cj_table.specs.Entries.{at}
 use Rattle.cj_table.specs.Layers.{kept}

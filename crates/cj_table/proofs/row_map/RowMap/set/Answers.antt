@@ -1,11 +1,5 @@
-use Rattle.std.proofs.Common.{◌≡◌, ◌∙◌, [], ◌∷◌, true, sym, ap, subst}
-use Rattle.std.specs.declared.option.Option.{Option}
+use Rattle.std.proofs.Common.{◌∙◌, [], ◌∷◌, sym, ap, subst}
 use Rattle.std.specs.declared.option.Option.TheVariants.{None}
-use Rattle.std.specs.declared.cmp.Ordering.TheVariants.{Less}
-use Rattle.cj_model.specs.declared.value.Value.{Value}
-use Rattle.cj_model.specs.Values.{value_cmp}
-use Rattle.cj_table.specs.Entries.{at}
-use Rattle.cj_table.specs.Layers.{kept, changed}
 use Rattle.cj_table.specs.RowEntries.{RowEntries, knows, overlaid, HasKeysOf}
 use Rattle.cj_table.proofs.RowEntryLaws.{none_from, copied_none, set_shown, gone_shown, gone_keys, set_knows, gone_knows, prepared_keys}
 use Rattle.cj_table.proofs.row_map.RowMap.set.Goals as goal

@@ -1,4 +1,3 @@
-use Rattle.std.proofs.Common.{◌≡◌}
 use Rattle.cj_table.proofs.RowEntryLaws.{keys_twice}
 use Rattle.cj_table.proofs.stored.StoredDraft.add.Goals as goal
 

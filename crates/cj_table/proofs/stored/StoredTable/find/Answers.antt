@@ -1,4 +1,4 @@
-use Rattle.std.proofs.Common.{◌≡◌, sym, ◌∙◌}
+use Rattle.std.proofs.Common.{◌∙◌}
 use Rattle.cj_table.proofs.StoredLaws.{found_own, found_other, found_base}
 use Rattle.cj_table.proofs.stored.StoredTable.find.Goals as goal
 

@@ -1,4 +1,3 @@
-use Rattle.std.proofs.Common.{◌≡◌}
 use Rattle.cj_model.proofs.DatabaseLaws.{seen_is_table, seen-schema}
 use Rattle.cj_table.proofs.view.View.of.Goals as goal
 

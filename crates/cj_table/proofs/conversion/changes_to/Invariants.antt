@@ -1,0 +1,14 @@
+use Rattle.std.proofs.Common.{◌≡◌, ◌++◌, map}
+use Rattle.std.specs.Map.Iter.{deref}
+use Rattle.cj_model.specs.Values.{value_cmp}
+use Rattle.cj_table.specs.Entries.{KeysRise}
+use Rattle.cj_table.specs.RowEntries as entries
+use Rattle.cj_table.proofs.ConversionLaws.{Turned}
+use Rattle.cj_table.proofs.conversion.changes_to.Given as goal
+
+abbrev pub invariant-loop-row : goal.invariant-loop-row
+invariant-loop-row l = record {
+  rises : KeysRise value_cmp l.changes;
+  turned : Turned l.place (map deref l.yielded) (entries.puts l.place l.fn.new) l.changes;
+  all : map deref l.yielded ++ l.row-iterator ≡ l.fn.old;
+}

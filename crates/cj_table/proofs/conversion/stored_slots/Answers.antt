@@ -1,0 +1,20 @@
+use Rattle.std.proofs.Common.{◌∙◌, ◌++◌, ◌∷◌, List, [], sym, ap, subst}
+use Rattle.std.specs.Prelude.{All}
+use Rattle.std.proofs.lemmas.List.{append_assoc}
+use Rattle.std.proofs.lemmas.List.Elements.{All-tail}
+use Rattle.cj_model.specs.declared.database.Slot.{Slot}
+use Rattle.cj_model.specs.Tables.{IsSlot}
+use Rattle.cj_table.proofs.conversion.stored_slots.Goals as goal
+
+pub loop-slot-preserved : goal.loop-slot-preserved
+loop-slot-preserved c =
+    let i = c.loop-slot.invariant in
+    let rest : List Slot = c.next.new.self.rest.items in
+    let made : List Slot = c.loop-slot.slots.items in
+    record {
+      can_next = tt;
+      is_finite = tt;
+      are_slots = All-tail IsSlot c.in-Some.slot rest (subst (All IsSlot) c.in-Some.ensures.steps.0 i.are_slots);
+      all = ap (λ (l : List Slot). l ++ rest) (c.in_ok-push.ensures.items ∙ ap (λ (s : Slot). made ++ s ∷ []) c.in_ok-stored_slot.ensures)
+          ∙ append_assoc made (c.in-Some.slot ∷ []) rest ∙ ap (λ (l : List Slot). made ++ l) (sym c.in-Some.ensures.steps.0) ∙ i.all;
+    }

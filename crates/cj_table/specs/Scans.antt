@@ -1,0 +1,35 @@
+-- Rows that come one after another.
+use Rattle.std.specs.Prelude.{◌≡◌, ℕ, ◌+◌, List, [], ◌++◌, length, MatchOption}
+use Rattle.std.specs.declared.option.Option.{Option}
+use Rattle.std.specs.Borrow.{Bor}
+use Rattle.std.specs.Map.{values_of}
+use Rattle.std.specs.Map.Iter.{deref_pair}
+use Rattle.cj_model.specs.declared.value.Value.{Value}
+use Rattle.cj_table.specs.declared.scan.Layered.{Layered}
+use Rattle.cj_table.specs.declared.scan.Source.{Source}
+use Rattle.cj_table.specs.declared.scan.Source.TheVariants as source
+use Rattle.cj_table.specs.Layers.{kept, listed, pending}
+use Rattle.cj_table.specs.RowEntries.{RowEntries, Rows, overlaid}
+
+-- the entries that are left, and the changes
+abbrev pub entries_left : Layered → RowEntries
+entries_left l = pending deref_pair l.entry l.entries
+
+abbrev pub changes_left : Layered → RowEntries
+changes_left l = pending deref_pair l.change l.changes
+
+-- the rows that come
+abbrev pub rows_shown : Layered → Rows
+rows_shown l = values_of (overlaid (entries_left l) (changes_left l))
+
+-- how many entries and changes are left
+abbrev pub entry_count : Layered → ℕ
+entry_count l = length (entries_left l) + length (changes_left l)
+
+abbrev pub rows_left : Source → Rows
+rows_left (source.Entries es) = values_of (kept es)
+rows_left (source.Layered l) = rows_shown l
+
+-- a row was taken off the rows that are left, or none, where an entry was without one; or nothing was left
+abbrev pub Takes : {S : Type 0} → (S → Rows) → S → Option (Bor (Option (List Value))) → S → Type 0
+Takes rest old taken new = MatchOption taken ((rest old ≡ []) × (rest new ≡ [])) (λ row. rest old ≡ listed row.now ++ rest new)
