@@ -24,6 +24,7 @@ use Rattle.cj_model.specs.Tables.{slot_of}
 use Rattle.cj_query.specs.Refused.{code_of}
 use Rattle.cj_query.specs.Seen.{answer_from, tables_named}
 use Rattle.cj_query.proofs.JoinLaws.{product_one}
+use Rattle.cj_query.proofs.MapLaws.{map_itself}
 use Rattle.cj_query.proofs.WalkLaws.{none_next}
 
 -- ---- tables
@@ -35,16 +36,12 @@ none_of : {X Y : Type 0} (f : X → Y) (o : Option X) (y : Y) → Some y ≡ opt
 none_of f None y e = cc e
 none_of f (Some x) y e = refl
 
-itself : {X : Type 0} (xs : List X) → map (λ x. x) xs ≡ xs
-itself [] = refl
-itself (x ∷ xs) = ap (λ l. x ∷ l) (itself xs)
-
 -- one more table that is there
 module _ (db : List Slot) (tx : ℕ) (names : List (List ℕ)) (i : ℕ) (name : List ℕ) (view : Table) (lt : i < length names) (is : name ≡ get_or names i name) (there : Some view ≡ option_map (λ s. seen s tx) (slot_of db name)) where
   pub named_next : list_any (λ n. is_none (slot_of db n)) (take i names) ≡ false → list_any (λ n. is_none (slot_of db n)) (take (i + 1) names) ≡ false
   named_next all =
-      ap (list_any (λ n. is_none (slot_of db n))) (sym (itself (take (i + 1) names)))
-      ∙ none_next (λ n. n) (λ n. is_none (slot_of db n)) names i name lt is (ap (list_any (λ n. is_none (slot_of db n))) (itself (take i names)) ∙ all) (none_of (λ s. seen s tx) (slot_of db name) view there)
+      ap (list_any (λ n. is_none (slot_of db n))) (sym (map_itself (take (i + 1) names)))
+      ∙ none_next (λ n. n) (λ n. is_none (slot_of db n)) names i name lt is (ap (list_any (λ n. is_none (slot_of db n))) (map_itself (take i names)) ∙ all) (none_of (λ s. seen s tx) (slot_of db name) view there)
 
   pub seen_next : (out new : List Table) → out ≡ tables_seen db tx (take i names) → new ≡ out ++ view ∷ [] → new ≡ tables_seen db tx (take (i + 1) names)
   seen_next out new so_far more =

@@ -1,7 +1,7 @@
 -- The rows of an answer have a value for each of its columns.
-use Rattle.std.proofs.Common.{◌≡◌, ℕ, suc, ◌+◌, ◌*◌, ◌≤◌, arith, Bool, true, false, cond, ◌||◌, List, [], ◌∷◌, ◌++◌, length, map, refl, ap, sym, ◌∙◌, subst, length-append, take, get_or, ◌<◌}
-use Rattle.std.specs.Prelude.{All, IfOk, filter, flat_map, is_none, option_map}
-use Rattle.std.specs.List.{cons_option, list_any}
+use Rattle.std.proofs.Common.{◌≡◌, ℕ, suc, ◌+◌, Bool, true, false, cond, ◌||◌, List, [], ◌∷◌, ◌++◌, length, map, refl, ap, sym, ◌∙◌, subst, length-append, take, get_or, ◌<◌}
+use Rattle.std.specs.Prelude.{All, IfOk, filter, flat_map, option_map}
+use Rattle.std.specs.List.{list_any}
 use Rattle.std.specs.declared.option.Option.{Option}
 use Rattle.std.specs.declared.option.Option.TheVariants.{None, Some}
 use Rattle.std.specs.declared.result.Result.{Result}
@@ -27,14 +27,10 @@ use Rattle.cj_model.specs.declared.codes.TheConstants.{NO_COLUMN, BAD_COLUMNS, O
 use Rattle.cj_model.specs.Changes.{bare, unless}
 use Rattle.cj_model.specs.Evaluation.{meets}
 use Rattle.cj_model.specs.Order.{product, before, ordered, put_before, cut}
-use Rattle.cj_model.specs.Queries.{answer_of, answered, asked_by, columns_named, first_of, gathered, groups_answered, has_bad_columns, is_sum_outside, item_of, listed, names_answered, row_made, sort_key_of, sums_text, tables_seen}
+use Rattle.cj_model.specs.Queries.{answer_of, answered, asked_by, columns_named, first_of, gathered, groups_answered, has_bad_columns, is_sum_outside, item_of, listed, names_answered, row_made, sort_key_of, sums_text}
 use Rattle.cj_model.specs.Scopes.{Scope, is_stranger, scope_of, predicate_of, where_mixes_kinds, where_names_stranger}
-use Rattle.cj_model.specs.Tables.{IsTable, fits_columns, same_kind, slot_of}
-use Rattle.cj_model.specs.declared.database.Slot.{Slot}
-use Rattle.cj_model.specs.declared.answer.Asked.TheVariants.{Rows, Refused}
-use Rattle.cj_model.specs.Steps.{seen}
-use Rattle.cj_query.specs.Seen.{tables_named}
-use Rattle.cj_query.specs.Even.{AsksColumns, HasEvenRows, IsAskable, IsEvenAsked}
+use Rattle.cj_model.specs.Tables.{IsTable, fits_columns, same_kind}
+use Rattle.cj_query.specs.Even.{HasEvenRows}
 
 -- ---- rows of tables
 
@@ -159,85 +155,3 @@ known_even (Err error) x e h = tt
 
 pub legal_next : (views : List Table) (i : ℕ) (view : Table) → i < length views → view ≡ get_or views i view → All IsTable (take i views) → IsTable view → All IsTable (take (i + 1) views)
 legal_next views i view lt is a h = subst (All IsTable) (sym (take_more views i view lt ∙ ap (λ v. take i views ++ v ∷ []) (sym is))) (All-append IsTable (take i views) (view ∷ []) a (All-cons IsTable view [] h (All-nil IsTable)))
-
--- ---- how many columns
-
-abbrev HasColumns : ℕ → Asked → Type 0
-HasColumns n (Rows answer) = length answer.columns ≡ n
-HasColumns n (Refused refusal) = Unit {0}
-
-unless_columns : (n : ℕ) (b : Bool) (refusal : Refusal) (r : Result Answer Refusal) → HasColumns n (asked_by r) → HasColumns n (asked_by (unless b refusal r))
-unless_columns n true refusal r h = tt
-unless_columns n false refusal r h = h
-
-answered_columns : (tables : List Table) (s : Select) → HasColumns (length (names_answered (scope_of (schemas_in tables)) s.items)) (asked_by (answered tables s))
-answered_columns tables s =
-    let scope = scope_of (schemas_in tables) in
-    let n = length (names_answered scope s.items) in
-    let rows = filter (meets (option_map (predicate_of scope) s.cond)) (product (map (λ (t : Table). t.rows) tables)) in
-    let groups = groups_answered scope s rows in
-    let all : Result Answer Refusal = Ok (record { columns = names_answered scope s.items; rows = map (row_made scope s.items) groups }) in
-    let last : Result Answer Refusal = answer_of scope s groups in
-    let mixes = where_mixes_kinds scope s.cond || list_any (sums_text scope) (listed s.items) in
-    let bad = has_bad_columns scope s.items s.order s.group in
-    unless_columns n (list_any (is_stranger scope) (columns_named s) || where_names_stranger scope s.cond) (bare NO_COLUMN) (unless bad (bare BAD_COLUMNS) (unless mixes (bare WRONG_TYPE) last))
-    (unless_columns n bad (bare BAD_COLUMNS) (unless mixes (bare WRONG_TYPE) last)
-    (unless_columns n mixes (bare WRONG_TYPE) last
-    (unless_columns n (list_any (λ g. list_any (is_sum_outside scope g) (listed s.items)) groups) (bare OVERFLOW) all refl)))
-
-scope_width : (tables : List Table) → All IsTable tables → (length tables ≤ length (scope_of (schemas_in tables))) × (length (scope_of (schemas_in tables)) ≤ 16 * length tables)
-scope_width [] a = (omega arith, omega arith)
-scope_width (t ∷ ts) a =
-    let is = All-head IsTable t ts a in
-    let rest = scope_width ts (All-tail IsTable t ts a) in
-    let some : 0 < length t.schema.columns = omega (arith, is.key) in
-    let few : length t.schema.columns ≤ 16 = is.few in
-    let width : length (scope_of (schemas_in (t ∷ ts))) ≡ length t.schema.columns + length (scope_of (schemas_in ts))
-    = length-append (map (λ (c : Column). (t.schema.table, c)) t.schema.columns) (scope_of (schemas_in ts)) ∙ ap (λ n. n + length (scope_of (schemas_in ts))) (length-map t.schema.columns (λ (c : Column). (t.schema.table, c))) in
-    (omega (arith, width, rest.0, some), omega (arith, width, rest.1, few))
-
-names_width : (tables : List Table) (items : Items) → All IsTable tables → 0 < length tables → length tables ≤ 4 → AsksColumns items → (0 < length (names_answered (scope_of (schemas_in tables)) items)) × (length (names_answered (scope_of (schemas_in tables)) items) < 65536)
-names_width tables select_items.All legal some few h =
-    let w = scope_width tables legal in
-    let e : length (names_answered (scope_of (schemas_in tables)) select_items.All) ≡ length (scope_of (schemas_in tables)) = length-map (scope_of (schemas_in tables)) _ in
-    (omega (arith, e, w.0, some), omega (arith, e, w.1, few))
-names_width tables (select_items.Listed items) legal some few h =
-    let e : length (names_answered (scope_of (schemas_in tables)) (select_items.Listed items)) ≡ length items = length-map items _ in
-    (omega (arith, e, h.0), omega (arith, e, h.1))
-
-even_from : (asked : Asked) (n : ℕ) → HasEvenRows asked → HasColumns n asked → 0 < n → n < 65536 → IsEvenAsked asked
-even_from (Rows answer) n rows count some most = record { some = subst (λ m. 0 < m) (sym count) some; most = subst (λ m. m < 65536) (sym count) most; each = rows }
-even_from (Refused refusal) n rows count some most = tt
-
--- ---- tables that are there
-
-length-cons_some : (f : Slot → Table) (o : Option Slot) (l : List Table) → is_none o ≡ false → length (cons_option (option_map f o) l) ≡ suc (length l)
-length-cons_some f None l h = cc h
-length-cons_some f (Some s) l h = refl
-
-or_false : (b c : Bool) → (b || c) ≡ false → (b ≡ false) × (c ≡ false)
-or_false true c h = cc h
-or_false false c h = (refl, h)
-
-length-tables_seen : (db : List Slot) (tx : ℕ) (names : List (List ℕ)) → list_any (λ n. is_none (slot_of db n)) names ≡ false → length (tables_seen db tx names) ≡ length names
-length-tables_seen db tx [] h = refl
-length-tables_seen db tx (n ∷ names) h =
-    let parts = or_false (is_none (slot_of db n)) (list_any (λ n. is_none (slot_of db n)) names) h in
-    length-cons_some (λ s. seen s tx) (slot_of db n) (tables_seen db tx names) parts.0 ∙ ap suc (length-tables_seen db tx names parts.1)
-
-there : (b : Bool) (v t : List Table) → ◌≡◌ {A = Option (List Table)} (Some v) (cond b None (Some t)) → (b ≡ false) × (v ≡ t)
-there true v t e = cc e
-there false v t e = (refl, ap (λ o. elim o [ None ↦ v | Some u ↦ u ]) e)
-
-length-named : (db : List Slot) (tx : ℕ) (names : List (List ℕ)) (v : List Table) → Some v ≡ tables_named db tx names → length v ≡ length names
-length-named db tx names v e =
-    let parts = there (list_any (λ n. is_none (slot_of db n)) names) v (tables_seen db tx names) e in
-    ap length parts.1 ∙ length-tables_seen db tx names parts.0
-
--- an answer of a query that asks for columns
-pub askable_even : (db : List Slot) (tx : ℕ) (s : Select) (v : List Table) (r : Result Asked NoMemory) → Some v ≡ tables_named db tx s.tables → All IsTable v → IfOk r (λ asked. asked ≡ asked_by (answered v s)) → IsAskable s → IfOk r IsEvenAsked
-askable_even db tx s v (Err error) e legal is h = tt
-askable_even db tx s v (Ok asked) e legal is h =
-    let count : length v ≡ length s.tables = length-named db tx s.tables v e in
-    let width = names_width v s.items legal (subst (λ n. 0 < n) (sym count) h.some) (subst (λ n. n ≤ 4) (sym count) h.few) h.columns in
-    subst IsEvenAsked (sym is) (even_from (asked_by (answered v s)) (length (names_answered (scope_of (schemas_in v)) s.items)) (answered_even v s legal) (answered_columns v s) width.0 width.1)

@@ -5,7 +5,7 @@ use Rattle.std.specs.List.{list_any}
 use Rattle.std.specs.Ordering.{is_lt, ordering_reverse}
 use Rattle.std.specs.declared.option.Option.{Option}
 use Rattle.std.specs.declared.option.Option.TheVariants.{None, Some}
-use Rattle.std.proofs.lemmas.Bool.{cases_Bool, cond-true, cond-false}
+use Rattle.std.proofs.lemmas.Bool.{cases_Bool, cond-true, cond-false, or_parts}
 use Rattle.std.proofs.lemmas.Cmp.{tied_itself}
 use Rattle.std.proofs.lemmas.Simd.{map-map}
 use Rattle.std.proofs.lemmas.List.Elements.{All-nil, All-cons, All-head, All-tail}
@@ -19,6 +19,7 @@ use Rattle.cj_model.specs.Queries.{first_of, values_met, rows_with, gathered}
 use Rattle.cj_model.proofs.RisingLaws.{by_order, equal_from, found_above, found_put, rises_put_each}
 use Rattle.cj_query.specs.Gathered.{same_at, run_with, runs, sorted_at, arranged, cut_into}
 use Rattle.cj_query.proofs.KeyLaws.{row_orders}
+use Rattle.cj_query.proofs.MapLaws.{map_alike}
 use Rattle.cj_query.proofs.OrderLaws.{IsInOrder, ordered_rises, filter-ordered, list_any-ordered}
 
 -- ---- values
@@ -41,10 +42,6 @@ equal_is v w h = value_exact v w (equal_from _ h)
 again : {X : Type 0} (b c : Bool) (x y z : X) → b ≡ c → cond b x z ≡ cond b x (cond c y z)
 again true c x y z h = refl
 again false c x y z h = sym (cond-false c y z (sym h))
-
-or_false : (b c : Bool) → (b || c) ≡ false → (b ≡ false) × (c ≡ false)
-or_false true c h = cc h
-or_false false c h = (refl, h)
 
 from_none : (b : Bool) (v : Value) → ◌≡◌ {A = Option Value} (cond b (Some v) None) None → b ≡ false
 from_none true v h = cc h
@@ -135,7 +132,7 @@ found_heads n q (r ∷ rs) =
 none_with : (n : ℕ) (v : Value) (rows : List (List Value)) → met_in n rows v ≡ false → rows_with n rows v ≡ []
 none_with n v [] h = refl
 none_with n v (r ∷ rs) h =
-    let parts = or_false (is_eq (value_cmp v (cell r n))) (met_in n rs v) h in
+    let parts = or_parts (is_eq (value_cmp v (cell r n))) (met_in n rs v) h in
     cond-false _ _ _ (equal_back (cell r n) v ∙ parts.0) ∙ none_with n v rs parts.1
 
 not_met : (n : ℕ) (v : Value) (rows : List (List Value)) → All (λ z. value_cmp v z ≡ Less) (heads n (runs n rows)) → met_in n rows v ≡ false
@@ -221,10 +218,6 @@ are_groups n (r ∷ s ∷ ss) h =
 map_same : {X : Type 0} (f : X → X) (xs : List X) → All (λ x. x ≡ f x) xs → xs ≡ map f xs
 map_same f [] a = refl
 map_same f (x ∷ xs) a = ap (λ y. y ∷ xs) (All-head (λ x. x ≡ f x) x xs a) ∙ ap (λ l. f x ∷ l) (map_same f xs (All-tail (λ x. x ≡ f x) x xs a))
-
-map_alike : {X Y : Type 0} (f g : X → Y) → ((x : X) → f x ≡ g x) → (xs : List X) → map f xs ≡ map g xs
-map_alike f g h [] = refl
-map_alike f g h (x ∷ xs) = ap (λ y. y ∷ map f xs) (h x) ∙ ap (λ l. g x ∷ l) (map_alike f g h xs)
 
 -- the order of rows by a place doesn't part rows with one value
 with_sorted : (n : ℕ) (rows : List (List Value)) (v : Value) → rows_with n (sorted_at n rows) v ≡ rows_with n rows v

@@ -1,13 +1,13 @@
 -- Where less than all rows are looked at, the answer is the same.
 use Rattle.std.proofs.Common.{◌≡◌, ℕ, ◌≤◌, Bool, true, false, not, ◌&&◌, cond, eqb, List, [], ◌∷◌, length, map, get_or, refl, ap, sym, ◌∙◌, ⊎_elim, Less, Greater, is_eq, arith}
-use Rattle.std.specs.Prelude.{All, filter, option_to_list, is_none}
+use Rattle.std.specs.Prelude.{All, filter, option_to_list, is_none, reverse}
 use Rattle.std.specs.Ordering.{is_lt, ordering_reverse, ordering_then}
 use Rattle.std.specs.declared.option.Option.{Option}
 use Rattle.std.specs.declared.option.Option.TheVariants.{None, Some}
 use Rattle.std.proofs.lemmas.Bool.{and_parts, cases_Bool, cond-true, cond-false, false_from_ne_true, not-true}
 use Rattle.std.proofs.lemmas.Cmp.{tied_itself}
-use Rattle.std.proofs.lemmas.List.{take-map}
-use Rattle.std.proofs.lemmas.List.Elements.{All-head, All-tail}
+use Rattle.std.proofs.lemmas.List.{nil_from_length}
+use Rattle.std.proofs.lemmas.List.Elements.{All-nil, All-cons, All-head, All-tail}
 use Rattle.std.proofs.lemmas.List.Sorted.{ranks_by}
 use Rattle.cj_model.specs.declared.value.Value.{Value}
 use Rattle.cj_model.specs.declared.select.Key.{Key}
@@ -19,9 +19,12 @@ use Rattle.cj_model.specs.Order.{SortKey, before, by_sort_key, by_sort_keys, cut
 use Rattle.cj_model.specs.Queries.{aggregates, first_of, gathered, groups_answered, sort_key_of}
 use Rattle.cj_model.specs.Scopes.{Scope, place}
 use Rattle.cj_table.specs.Lookups.{row_with_key}
-use Rattle.cj_query.specs.Paths.{PinsTo, is_led_by, is_rising_at, follows_rows}
+use Rattle.cj_query.specs.Paths.{PinsTo, answers_each, falls_by, follows_rows, is_falling_at, is_led_by, is_rising_at, joined_limit, reverses_rows}
 use Rattle.cj_query.proofs.KeyLaws.{by_sort_keys_total, always_in_order}
+use Rattle.cj_query.proofs.LimitLaws.{cut_twice}
+use Rattle.cj_query.proofs.MapLaws.{cut-map}
 use Rattle.cj_query.proofs.OrderLaws.{IsInOrder, NoneBefore, ordered_same}
+use Rattle.cj_query.proofs.ReverseLaws.{IsFalling, map-reverse, ordered_falling}
 
 -- ---- a look-up
 
@@ -33,7 +36,7 @@ module _ (k : ℕ) (v : Value) (p : List Value → Bool) (pins : PinsTo k p v) w
   none_above row [] e a = refl
   none_above row (s ∷ rows) e a =
       let less : value_cmp (cell row k) (cell s k) ≡ Less = All-head (λ s. by_key k row s ≡ Less) s rows a in
-      cond-false _ _ _ (false_from_ne_true _ (λ t. cc (sym (ap is_eq less) ∙ ap (λ w. is_eq (value_cmp (cell row k) w)) (pins.at s t) ∙ e)))
+      cond-false _ _ _ (false_from_ne_true _ (λ (t : p s ≡ true). cc (sym (ap is_eq less) ∙ ap (λ w. is_eq (value_cmp (cell row k) w)) (pins.at s t) ∙ e)))
       ∙ none_above row rows e (All-tail (λ s. by_key k row s ≡ Less) s rows a)
 
   -- where the key is pinned, the row with that key is the only one that may pass
@@ -66,41 +69,102 @@ not_before_above scope n k keys r s h l =
     ∙ ap (λ m. by_key m s r) (same_place (place scope k.col) n parts.1) ∙ greater in
     ap (λ o. is_lt (ordering_then o (by_sort_keys keys s r))) first
 
-module _ (scope : Scope) (n : ℕ) (keys : List Key) where
-  abbrev earlier : List (List Value) → List (List Value) → Bool
-  earlier g h = before (map (sort_key_of scope) keys) (first_of g) (first_of h)
+abbrev earlier : Scope → List Key → List (List Value) → List (List Value) → Bool
+earlier scope keys g h = before (map (sort_key_of scope) keys) (first_of g) (first_of h)
 
-  abbrev alone : List (List Value) → List (List (List Value))
-  alone rows = map (λ r. r ∷ []) rows
+abbrev alone : List (List Value) → List (List (List Value))
+alone rows = map (λ r. r ∷ []) rows
 
-none_before_first : (scope : Scope) (n : ℕ) (k : Key) (keys : List Key) (r : List Value) (rows : List (List Value)) → is_rising_at scope n k ≡ true → All (λ s. by_key n r s ≡ Less) rows → NoneBefore (earlier scope n (k ∷ keys)) (r ∷ []) (alone scope n keys rows)
+none_before_first : (scope : Scope) (n : ℕ) (k : Key) (keys : List Key) (r : List Value) (rows : List (List Value)) → is_rising_at scope n k ≡ true → All (λ s. by_key n r s ≡ Less) rows → NoneBefore (earlier scope (k ∷ keys)) (r ∷ []) (alone rows)
 none_before_first scope n k keys r [] h a = tt
 none_before_first scope n k keys r (s ∷ rows) h a = (
   not_before_above scope n k (map (sort_key_of scope) keys) r s h (All-head (λ s. by_key n r s ≡ Less) s rows a),
   none_before_first scope n k keys r rows h (All-tail (λ s. by_key n r s ≡ Less) s rows a),
 )
 
-rows_in_order : (scope : Scope) (n : ℕ) (k : Key) (keys : List Key) (rows : List (List Value)) → is_rising_at scope n k ≡ true → Rises (by_key n) rows → IsInOrder (earlier scope n (k ∷ keys)) (alone scope n keys rows)
+rows_in_order : (scope : Scope) (n : ℕ) (k : Key) (keys : List Key) (rows : List (List Value)) → is_rising_at scope n k ≡ true → Rises (by_key n) rows → IsInOrder (earlier scope (k ∷ keys)) (alone rows)
 rows_in_order scope n k keys [] h r = tt
 rows_in_order scope n k keys (row ∷ rows) h r = (none_before_first scope n k keys row rows h r.0, rows_in_order scope n k keys rows h r.1)
 
-ordered_alone : (scope : Scope) (n : ℕ) (keys : List Key) (rows : List (List Value)) → is_led_by scope n keys ≡ true → Rises (by_key n) rows → ordered (earlier scope n keys) (alone scope n keys rows) ≡ alone scope n keys rows
-ordered_alone scope n [] rows h r = always_in_order (alone scope n [] rows)
-ordered_alone scope n (k ∷ keys) rows h r = ordered_same (earlier scope n (k ∷ keys)) (ranks_by (by_sort_keys_total (map (sort_key_of scope) (k ∷ keys))) first_of) (alone scope n keys rows) (rows_in_order scope n k keys rows h r)
-
-cut_alone : (limit : Option ℕ) (rows : List (List Value)) → cut limit (map (λ r. r ∷ []) rows) ≡ map (λ r. r ∷ []) (cut limit rows)
-cut_alone None rows = refl
-cut_alone (Some n) rows = take-map (λ r. r ∷ []) n rows
+ordered_alone : (scope : Scope) (n : ℕ) (keys : List Key) (rows : List (List Value)) → is_led_by scope n keys ≡ true → Rises (by_key n) rows → ordered (earlier scope keys) (alone rows) ≡ alone rows
+ordered_alone scope n [] rows h r = always_in_order (alone rows)
+ordered_alone scope n (k ∷ keys) rows h r = ordered_same (earlier scope (k ∷ keys)) (ranks_by (by_sort_keys_total (map (sort_key_of scope) (k ∷ keys))) first_of) (alone rows) (rows_in_order scope n k keys rows h r)
 
 gathered_alone : (scope : Scope) (s : Select) (group : Option ColRef) (rows : List (List Value)) → is_none group ≡ true → aggregates s.items ≡ false → gathered scope s.items group rows ≡ map (λ r. r ∷ []) rows
 gathered_alone scope s None rows g a = cond-false _ _ _ a
 gathered_alone scope s (Some c) rows g a = cc g
 
+each_alone : (scope : Scope) (s : Select) (rows : List (List Value)) → answers_each s ≡ true → gathered scope s.items s.group rows ≡ map (λ r. r ∷ []) rows
+each_alone scope s rows h =
+    let parts = and_parts (is_none s.group) (not (aggregates s.items)) h in
+    gathered_alone scope s s.group rows parts.0 (not-true _ parts.1)
+
 -- each row is answered by itself, in the order of the rows
 pub groups_alone : (scope : Scope) (s : Select) (n : ℕ) (rows : List (List Value)) → follows_rows scope s n ≡ true → Rises (by_key n) rows → groups_answered scope s rows ≡ map (λ r. r ∷ []) (cut s.limit rows)
 groups_alone scope s n rows h r =
-    let a = and_parts (is_none s.group && not (aggregates s.items)) (is_led_by scope n s.order) h in
-    let b = and_parts (is_none s.group) (not (aggregates s.items)) a.0 in
-    ap (λ gs. cut s.limit (ordered (earlier scope n s.order) gs)) (gathered_alone scope s s.group rows b.0 (not-true _ b.1))
-    ∙ ap (cut s.limit) (ordered_alone scope n s.order rows a.1 r)
-    ∙ cut_alone s.limit rows
+    let parts = and_parts (answers_each s) (is_led_by scope n s.order) h in
+    ap (λ gs. cut s.limit (ordered (earlier scope s.order) gs)) (each_alone scope s rows parts.0)
+    ∙ ap (cut s.limit) (ordered_alone scope n s.order rows parts.1 r)
+    ∙ sym (cut-map (λ r. r ∷ []) s.limit rows)
+
+-- ---- no keys
+
+each_unordered : (scope : Scope) (s : Select) (rows : List (List Value)) → answers_each s ≡ true → s.order ≡ [] → groups_answered scope s rows ≡ alone (cut s.limit rows)
+each_unordered scope s rows h e =
+    ap (λ gs. cut s.limit (ordered (earlier scope s.order) gs)) (each_alone scope s rows h)
+    ∙ ap (λ ks. cut s.limit (ordered (earlier scope ks) (alone rows))) e
+    ∙ ap (cut s.limit) (always_in_order (alone rows))
+    ∙ sym (cut-map (λ r. r ∷ []) s.limit rows)
+
+no_keys : (n : ℕ) → eqb n 0 ≡ true → n ≡ 0
+no_keys n h = grind arith
+
+-- so many rows are enough
+pub groups_limited : (scope : Scope) (s : Select) (rows : List (List Value)) → groups_answered scope s (cut (joined_limit s) rows) ≡ groups_answered scope s rows
+groups_limited scope s rows = ⊎_elim
+    (λ (t : (answers_each s && eqb (length s.order) 0) ≡ true).
+    let parts = and_parts (answers_each s) (eqb (length s.order) 0) t in
+    let none : s.order ≡ [] = nil_from_length s.order (no_keys (length s.order) parts.1) in
+    ap (λ limit. groups_answered scope s (cut limit rows)) (cond-true _ _ _ t)
+    ∙ each_unordered scope s (cut s.limit rows) parts.0 none
+    ∙ ap alone (cut_twice s.limit rows)
+    ∙ sym (each_unordered scope s rows parts.0 none))
+    (λ (f : (answers_each s && eqb (length s.order) 0) ≡ false). ap (λ limit. groups_answered scope s (cut limit rows)) (cond-false _ _ _ f))
+    (cases_Bool (answers_each s && eqb (length s.order) 0))
+
+-- ---- the order of the rows, reversed
+
+pub falls_by_first : (scope : Scope) (n : ℕ) (keys : List Key) (k : Key) → 1 ≤ length keys → k ≡ get_or keys 0 k → is_falling_at scope n k ≡ falls_by scope n keys
+falls_by_first scope n [] k l is = absurd (omega (arith, l))
+falls_by_first scope n (x ∷ keys) k l is = ap (is_falling_at scope n) is
+
+-- a row above another is before it
+before_below : (scope : Scope) (n : ℕ) (k : Key) (keys : List SortKey) (r s : List Value) → is_falling_at scope n k ≡ true → by_key n r s ≡ Less → before (sort_key_of scope k ∷ keys) s r ≡ true
+before_below scope n k keys r s h l =
+    let parts = and_parts k.desc (eqb (place scope k.col) n) h in
+    let first : by_sort_key (sort_key_of scope k) s r ≡ Less
+    = ap (λ b. cond b (by_key (place scope k.col) r s) (by_key (place scope k.col) s r)) parts.0
+    ∙ ap (λ m. by_key m r s) (same_place (place scope k.col) n parts.1) ∙ l in
+    ap (λ o. is_lt (ordering_then o (by_sort_keys keys s r))) first
+
+all_before : (scope : Scope) (n : ℕ) (k : Key) (keys : List Key) (r : List Value) (rows : List (List Value)) → is_falling_at scope n k ≡ true → All (λ s. by_key n r s ≡ Less) rows → All (λ g. earlier scope (k ∷ keys) g (r ∷ []) ≡ true) (alone rows)
+all_before scope n k keys r [] h a = All-nil (λ g. earlier scope (k ∷ keys) g (r ∷ []) ≡ true)
+all_before scope n k keys r (s ∷ rows) h a = All-cons (λ g. earlier scope (k ∷ keys) g (r ∷ []) ≡ true) (s ∷ []) (alone rows)
+    (before_below scope n k (map (sort_key_of scope) keys) r s h (All-head (λ s. by_key n r s ≡ Less) s rows a))
+    (all_before scope n k keys r rows h (All-tail (λ s. by_key n r s ≡ Less) s rows a))
+
+rows_fall : (scope : Scope) (n : ℕ) (k : Key) (keys : List Key) (rows : List (List Value)) → is_falling_at scope n k ≡ true → Rises (by_key n) rows → IsFalling (earlier scope (k ∷ keys)) (alone rows)
+rows_fall scope n k keys [] h r = tt
+rows_fall scope n k keys (row ∷ rows) h r = (all_before scope n k keys row rows h r.0, rows_fall scope n k keys rows h r.1)
+
+ordered_back : (scope : Scope) (n : ℕ) (keys : List Key) (rows : List (List Value)) → falls_by scope n keys ≡ true → Rises (by_key n) rows → ordered (earlier scope keys) (alone rows) ≡ alone (reverse rows)
+ordered_back scope n [] rows h r = cc h
+ordered_back scope n (k ∷ keys) rows h r = ordered_falling (earlier scope (k ∷ keys)) (alone rows) (rows_fall scope n k keys rows h r) ∙ sym (map-reverse (λ r. r ∷ []) rows)
+
+-- each row is answered by itself, from the last row to the first
+pub groups_reversed : (scope : Scope) (s : Select) (n : ℕ) (rows : List (List Value)) → reverses_rows scope s n ≡ true → Rises (by_key n) rows → groups_answered scope s rows ≡ map (λ r. r ∷ []) (cut s.limit (reverse rows))
+groups_reversed scope s n rows h r =
+    let parts = and_parts (answers_each s) (falls_by scope n s.order) h in
+    ap (λ gs. cut s.limit (ordered (earlier scope s.order) gs)) (each_alone scope s rows parts.0)
+    ∙ ap (cut s.limit) (ordered_back scope n s.order rows parts.1 r)
+    ∙ sym (cut-map (λ r. r ∷ []) s.limit (reverse rows))

@@ -9,14 +9,8 @@ use Rattle.cj_model.specs.Tables.{cell}
 use Rattle.std.proofs.lemmas.List.{take_more, map-append}
 
 -- one more element
-pub map_next : {A X Y : Type 0} (h : A → X) (f : X → Y) (xs : List A) (i : ℕ) (x : A) → i < length xs → x ≡ get_or xs i x → map f (map h (take i xs)) ++ f (h x) ∷ [] ≡ map f (map h (take (i + 1) xs))
-map_next h f xs i x lt is =
-    sym (map-append f (map h (take i xs)) (h x ∷ []))
-    ∙ ap (map f) (sym (map-append h (take i xs) (x ∷ [])))
-    ∙ ap (λ l. map f (map h l)) (ap (λ y. take i xs ++ y ∷ []) is ∙ sym (take_more xs i x lt))
-
-pub map_next_plain : {A Y : Type 0} (f : A → Y) (xs : List A) (i : ℕ) (x : A) → i < length xs → x ≡ get_or xs i x → map f (take i xs) ++ f x ∷ [] ≡ map f (take (i + 1) xs)
-map_next_plain f xs i x lt is =
+pub map_next : {A Y : Type 0} (f : A → Y) (xs : List A) (i : ℕ) (x : A) → i < length xs → x ≡ get_or xs i x → map f (take i xs) ++ f x ∷ [] ≡ map f (take (i + 1) xs)
+map_next f xs i x lt is =
     sym (map-append f (take i xs) (x ∷ []))
     ∙ ap (map f) (ap (λ y. take i xs ++ y ∷ []) is ∙ sym (take_more xs i x lt))
 

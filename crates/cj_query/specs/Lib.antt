@@ -2,8 +2,10 @@ pub mod Gathered
 pub mod Groups
 pub mod Refused
 pub mod Made
+pub mod Projections
 pub mod Seen
 pub mod Even
 pub mod Paths
 pub mod Counted
 pub mod Joined
+pub mod Cursors

@@ -1,5 +1,5 @@
--- Where less than all rows are looked at.
-use Rattle.std.specs.Prelude.{◌≡◌, ℕ, Bool, true, false, not, ◌&&◌, ◌==◌, nat_le, List, [], ◌∷◌, is_none}
+-- Where less than all rows are looked at, or none is sorted.
+use Rattle.std.specs.Prelude.{◌≡◌, ℕ, Bool, true, false, not, ◌&&◌, ◌==◌, nat_le, List, [], ◌∷◌, length, is_none, if◌then◌else◌}
 use Rattle.std.specs.declared.option.Option.{Option}
 use Rattle.std.specs.declared.option.Option.TheVariants.{None, Some}
 use Rattle.std.specs.List.{list_all}
@@ -27,9 +27,30 @@ abbrev pub is_led_by : Scope → ℕ → List Key → Bool
 is_led_by scope n [] = true
 is_led_by scope n (k ∷ ks) = is_rising_at scope n k
 
+-- the falling key at this place
+abbrev pub is_falling_at : Scope → ℕ → Key → Bool
+is_falling_at scope n k = k.desc && place scope k.col == n
+
+-- first the falling key at this place
+abbrev pub falls_by : Scope → ℕ → List Key → Bool
+falls_by scope n [] = false
+falls_by scope n (k ∷ ks) = is_falling_at scope n k
+
+-- each row is answered by itself
+abbrev pub answers_each : Select → Bool
+answers_each s = is_none s.group && not (aggregates s.items)
+
 -- each row is answered by itself, in the order of the rows
 abbrev pub follows_rows : Scope → Select → ℕ → Bool
-follows_rows scope s n = is_none s.group && not (aggregates s.items) && is_led_by scope n s.order
+follows_rows scope s n = answers_each s && is_led_by scope n s.order
+
+-- each row is answered by itself, from the last row to the first
+abbrev pub reverses_rows : Scope → Select → ℕ → Bool
+reverses_rows scope s n = answers_each s && falls_by scope n s.order
+
+-- how many rows are enough where each is answered by itself in the order of the rows, without any key
+abbrev pub joined_limit : Select → Option ℕ
+joined_limit s = if answers_each s && length s.order == 0 then s.limit else None
 
 abbrev pub is_count : Item → Bool
 is_count (item.Col r) = false

@@ -11,7 +11,7 @@ ghost use Rattle.cj_query.specs.Groups.{rows_in};
 use crate::checks::listed;
 use crate::groups::{arrange, gather, singles};
 use crate::order::{sort_groups, sort_keys};
-use crate::project::{counts_row, names_of, rows_of};
+use crate::project::{counts_row, names_of, project};
 use cj_expr::{Scope, ValueError};
 use cj_model::{Answer, Asked, NoMemory, OVERFLOW, Refusal, Row, Rows, Select};
 use std::alloc::Global;
@@ -41,7 +41,7 @@ fn answer_groups(
 ) -> Result<Asked, NoMemory>
     ensures { IfOk result (λ asked. asked ≡ queries.asked_by (queries.answer_of scope.now select.now (rows_in groups.now))) }
 {
-    match rows_of(alloc, scope, &select.items, groups) {
+    match project(alloc, scope, &select.items, groups) {
         Ok(rows) => {
             let columns = names_of(alloc, scope, &select.items)?;
             Ok(Asked::Rows(Answer { columns, rows }))

@@ -4,9 +4,13 @@
 mod answer;
 mod ask;
 mod checks;
+mod cursor;
 mod groups;
+mod joins;
 mod order;
+mod paths;
 mod project;
+mod projection;
 mod rows;
 mod single;
 

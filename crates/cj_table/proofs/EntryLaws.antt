@@ -21,7 +21,7 @@ by_order Less f g h = f refl
 by_order Equal f g h = g refl
 by_order Greater f g h = h refl
 
-eq_true : (o : Ordering) → is_eq o ≡ true → o ≡ Equal
+pub eq_true : (o : Ordering) → is_eq o ≡ true → o ≡ Equal
 eq_true Less h = cc h
 eq_true Equal h = refl
 eq_true Greater h = cc h

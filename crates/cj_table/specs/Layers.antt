@@ -1,5 +1,5 @@
 -- Entries with changes laid over them, both in rising key. A change is a new value, or none where the key goes.
-use Rattle.std.specs.Prelude.{List, [], ◌∷◌}
+use Rattle.std.specs.Prelude.{◌++◌, List, [], ◌∷◌}
 use Rattle.std.specs.Ordering.{match_ordering}
 use Rattle.std.specs.declared.cmp.Ordering.{Ordering}
 use Rattle.std.specs.declared.option.Option.{Option}
@@ -43,3 +43,8 @@ listed (Some x) = x ∷ []
 abbrev pub pending : {A X : Type 0} → (A → X) → Option A → List X → List X
 pending shows None rest = []
 pending shows (Some x) rest = shows x ∷ rest
+
+-- the same from the back, where `last` was taken
+abbrev pub pending_back : {A X : Type 0} → (A → X) → Option A → List X → List X
+pending_back shows None rest = []
+pending_back shows (Some x) rest = rest ++ shows x ∷ []

@@ -12,6 +12,7 @@ mod plan;
 mod refusals;
 mod row_map;
 mod scan;
+mod scan_back;
 mod schemas;
 mod slots;
 mod stored;
@@ -21,5 +22,6 @@ mod view;
 mod writers;
 
 pub use scan::Scan;
+pub use scan_back::ScanBack;
 pub use tables::Tables;
 pub use view::View;

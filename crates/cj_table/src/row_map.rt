@@ -1,6 +1,6 @@
 //! Rows by their keys.
 
-ghost use Rattle.std.specs.Prelude.{◌≡◌, ◌↔◌, ◌∷◌, [], true, None, Some, option_copied, IfOk, IsTrue, OnOk, OnErr};
+ghost use Rattle.std.specs.Prelude.{◌≡◌, ◌↔◌, ◌∷◌, [], true, None, Some, option_copied, reverse, IfOk, IsTrue, OnOk, OnErr};
 ghost use Rattle.std.specs.BTreeMap.{insert_entry, is_at};
 ghost use Rattle.std.specs.Map.{remove_entry, values_of};
 ghost use Rattle.std.specs.declared.cmp.Ordering.TheVariants.{Less};
@@ -10,6 +10,7 @@ ghost use Rattle.cj_table.specs.Layers.{changed, kept, merged};
 ghost use Rattle.cj_table.specs.RowEntries as entries;
 
 use crate::scan::Scan;
+use crate::scan_back::ScanBack;
 use cj_model::{Duplicate, NoMemory, Row, Same, Value};
 use std::alloc::Global;
 use std::collections::BTreeMap;
@@ -236,6 +237,22 @@ impl RowMap {
         ensures { result ≡ values_of (entries.overlaid self.now changes.now) }
     {
         Scan::under(self.rows.iter(), changes.rows.iter())
+    }
+
+    /// The rows, in falling key.
+    pub fn scan_back(&self) -> ScanBack<'_>
+        ensures { result ≡ reverse (values_of (kept self.now)) }
+    {
+        ScanBack::of(self.rows.iter())
+    }
+
+    /// The rows that changes leave of these, in falling key.
+    pub fn scan_back_under<'a>(&'a self, changes: &'a RowMap) -> ScanBack<'a>
+        ensures { result ≡ reverse (values_of (entries.overlaid self.now changes.now)) }
+    {
+        self.rises();
+        changes.rises();
+        ScanBack::under(self.rows.iter(), changes.rows.iter())
     }
 
     /// The row at a key that changes leave of these rows.

@@ -14,10 +14,10 @@ use std::collections::btree_map::Iter;
 use std::marker::Model;
 
 /// The entries of a tree that are left.
-type Entries<'a> = Iter<'a, Value, Option<Row>>;
+pub(crate) type Entries<'a> = Iter<'a, Value, Option<Row>>;
 
 /// A key, with its row or with none.
-type Entry<'a> = (&'a Value, &'a Option<Row>);
+pub(crate) type Entry<'a> = (&'a Value, &'a Option<Row>);
 
 /// Entries, with changes laid over them. The first of each that is left is taken ahead, so that their
 /// keys can be compared.
@@ -53,7 +53,7 @@ impl<'a> Model for Scan<'a> {
 
 /// Which comes first, an entry or a change, where their keys have this order. An entry without a
 /// row is passed over at once.
-fn turn(row: &Option<Row>, order: Ordering) -> Ordering
+pub(crate) fn turn(row: &Option<Row>, order: Ordering) -> Ordering
     ensures { result ≡ row_entries.turn row.now order }
 {
     match row {
@@ -134,7 +134,7 @@ fn next_row<'a>(entries: &mut Entries<'a>) -> Option<&'a Row>
 
 impl<'a> Scan<'a> {
     /// The rows that are there.
-    pub fn of(entries: Entries<'a>) -> Scan<'a>
+    pub(crate) fn of(entries: Entries<'a>) -> Scan<'a>
         ensures { result ≡ values_of (kept entries.entry) }
     {
         Scan {
@@ -143,7 +143,7 @@ impl<'a> Scan<'a> {
     }
 
     /// The rows that are there with changes laid over them.
-    pub fn under(entries: Entries<'a>, changes: Entries<'a>) -> Scan<'a>
+    pub(crate) fn under(entries: Entries<'a>, changes: Entries<'a>) -> Scan<'a>
         ensures { result ≡ values_of (overlaid entries.entry changes.entry) }
     {
         Scan {

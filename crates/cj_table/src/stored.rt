@@ -1,6 +1,6 @@
 //! A table as it is kept: its rows by their keys, and what a transaction has changed.
 
-ghost use Rattle.std.specs.Prelude.{◌≡◌, [], None, length, option_copied, option_map, OnOk, OnErr};
+ghost use Rattle.std.specs.Prelude.{◌≡◌, [], None, length, option_copied, option_map, reverse, OnOk, OnErr};
 ghost use Rattle.cj_model.specs.Steps.{aborted, committed, seen};
 ghost use Rattle.cj_model.specs.Steps as steps;
 ghost use Rattle.cj_model.specs.Values.{value_cmp};
@@ -12,6 +12,7 @@ ghost use Rattle.cj_table.specs.Stored.{IsChangeOf, changed_slot};
 
 use crate::row_map::RowMap;
 use crate::scan::Scan;
+use crate::scan_back::ScanBack;
 use cj_model::{NoMemory, Row, Schema, Value};
 use std::alloc::Global;
 use std::marker::Model;
@@ -187,6 +188,17 @@ impl StoredTable {
             Some(draft) if draft.tx == tx => self.base.scan_under(&draft.changes),
             Some(_) => self.base.scan(),
             None => self.base.scan(),
+        }
+    }
+
+    /// The rows that a transaction sees, in falling key.
+    pub fn scan_back(&self, tx: u64) -> ScanBack<'_>
+        ensures { result ≡ reverse (seen self.now tx).rows }
+    {
+        match &self.draft {
+            Some(draft) if draft.tx == tx => self.base.scan_back_under(&draft.changes),
+            Some(_) => self.base.scan_back(),
+            None => self.base.scan_back(),
         }
     }
 

@@ -1,11 +1,12 @@
 //! Tables as a transaction sees them.
 
-ghost use Rattle.std.specs.Prelude.{◌≡◌, length, option_copied};
+ghost use Rattle.std.specs.Prelude.{◌≡◌, length, option_copied, reverse};
 ghost use Rattle.cj_model.specs.Steps.{seen};
 ghost use Rattle.cj_model.specs.Tables.{IsSlot, IsTable};
 ghost use Rattle.cj_table.specs.Lookups.{row_with_key};
 
 use crate::scan::Scan;
+use crate::scan_back::ScanBack;
 use crate::stored::StoredTable;
 use cj_model::{Row, Schema, Value};
 use std::marker::Model;
@@ -53,6 +54,14 @@ impl<'a> View<'a> {
     {
         let stored = self.stored;
         stored.scan(self.tx)
+    }
+
+    /// All rows, in falling key.
+    pub fn scan_back(&self) -> ScanBack<'a>
+        ensures { result ≡ reverse self.now.rows }
+    {
+        let stored = self.stored;
+        stored.scan_back(self.tx)
     }
 
     /// The row with this key.

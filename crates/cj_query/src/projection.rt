@@ -1,0 +1,60 @@
+//! A query's items with their columns by place, found once and not for each row.
+
+ghost use Rattle.std.specs.Prelude.{◌≡◌, map, IfOk};
+ghost use Rattle.cj_query.specs.Projections as projections;
+
+use crate::checks::place_in;
+use cj_expr::Scope;
+use cj_model::{Item, Items, NoMemory};
+use std::alloc::Global;
+
+/// An item with its column by place.
+#[derive(Drop)]
+pub enum BoundItem {
+    /// The value of a group's first row.
+    Value(usize),
+    Count,
+    Sum(usize),
+}
+
+/// What the answer has of each group.
+#[derive(Drop)]
+pub enum Projection {
+    /// The whole first row.
+    All,
+    Items(Vec<BoundItem>),
+}
+
+/// The item by place. A column that is not there stands for the first.
+fn bound(scope: &Scope, item: &Item) -> BoundItem
+    ensures { result ≡ projections.bound scope.now item.now }
+{
+    match item {
+        Item::Col(column) => BoundItem::Value(place_in(scope, column)),
+        Item::Count => BoundItem::Count,
+        Item::Sum(column) => BoundItem::Sum(place_in(scope, column)),
+    }
+}
+
+fn bound_each(alloc: Global, scope: &Scope, items: &[Item]) -> Result<Vec<BoundItem>, NoMemory>
+    ensures { IfOk result (λ out. out.items ≡ map (projections.bound scope.now) items.now) }
+{
+    let mut out = Vec::new(alloc);
+    for item in items {
+        out.push(bound(scope, item))?;
+    }
+    Ok(out)
+}
+
+/// The items by place.
+pub fn projection_of(alloc: Global, scope: &Scope, items: &Items) -> Result<Projection, NoMemory>
+    ensures { IfOk result (λ projection. projections.items_of projection ≡ projections.bound_items scope.now items.now) }
+{
+    match items {
+        Items::All => Ok(Projection::All),
+        Items::Listed(items) => {
+            let items = bound_each(alloc, scope, items.as_slice())?;
+            Ok(Projection::Items(items))
+        }
+    }
+}
