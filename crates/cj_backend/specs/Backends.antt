@@ -1,5 +1,5 @@
 -- What calls of a backend give and leave. What a backend holds is told as `Some` database, or not told.
-use Rattle.std.specs.Prelude.{◌≡◌, ◌⊎◌, ℕ, ◌<◌, ◌≤◌, not, ◌==◌, List, [], ◌∷◌, ◌++◌, length, filter, All, Contains, IfSome, IfOk, IsErrOf}
+use Rattle.std.specs.Prelude.{◌≡◌, ◌⊎◌, ℕ, ◌<◌, ◌≤◌, Bool, if◌then◌else◌, not, ◌==◌, List, [], ◌∷◌, ◌++◌, length, filter, All, Contains, IfSome, IfOk, IsErrOf}
 use Rattle.std.specs.declared.option.Option.{Option}
 use Rattle.std.specs.declared.option.Option.TheVariants.{None, Some}
 use Rattle.std.specs.Option.{option_map}
@@ -17,6 +17,7 @@ use Rattle.cj_model.specs.declared.answer.Outcome.TheVariants as outcome
 use Rattle.cj_model.specs.declared.codes.TheConstants.{NO_TABLE, NO_COLUMN, BAD_COLUMNS, OVERFLOW, WRONG_TYPE, ROWS_FULL}
 use Rattle.cj_model.specs.Steps.{acted}
 use Rattle.cj_model.specs.Queries.{ask}
+use Rattle.cj_model.specs.Storable.{writers}
 use Rattle.cj_backend.specs.declared.backend.BackendError.{BackendError}
 use Rattle.cj_backend.specs.declared.backend.BackendError.TheVariants as errors
 
@@ -42,6 +43,11 @@ told_after told tx act (Err e) = None
 abbrev pub SaysAnswer : Option (List Slot) → ℕ → Select → Result Asked BackendError → Type 0
 SaysAnswer told tx select result = IfOk result (λ answer. IfSome told (λ db. answer ≡ ask db tx select))
 
+-- what is told after a load: the database that was loaded, of a backend that tells; and after an error nothing
+abbrev pub told_loaded : {T : Type 0} → Bool → List Slot → Result T BackendError → Option (List Slot)
+told_loaded tells db (Ok x) = if tells then Some db else None
+told_loaded tells db (Err e) = None
+
 -- ---- logins and transactions
 
 -- the last login is the one given; or after an error maybe the one before
@@ -62,6 +68,11 @@ begun_with begun tx (Err e) = begun
 abbrev pub begun_without : {T : Type 0} → List ℕ → ℕ → Result T BackendError → List ℕ
 begun_without begun tx (Ok x) = filter (λ t. not (t == tx)) begun
 begun_without begun tx (Err e) = begun
+
+-- the transactions begun, those with a draft in the database that was loaded unless there was an error
+abbrev pub begun_loaded : {T : Type 0} → List ℕ → List Slot → Result T BackendError → List ℕ
+begun_loaded begun db (Ok x) = writers db
+begun_loaded begun db (Err e) = begun
 
 -- ---- what may be given
 

@@ -1,14 +1,15 @@
 //! What a database has to offer, to take part in a cluster.
 
-ghost use Rattle.std.specs.Prelude.{◌≡◌, ℕ, Bool, List, IfOk, Contains, length, option_copied};
+ghost use Rattle.std.specs.Prelude.{◌≡◌, ℕ, Bool, List, IfOk, IfSome, Contains, length, option_copied};
 ghost use Rattle.std.specs.declared.option.Option.{Option};
 ghost use Rattle.cj_outside.specs.Memory.{next};
 ghost use Rattle.cj_model.specs.declared.database.Slot.{Slot};
 ghost use Rattle.cj_model.specs.declared.request.Act.TheVariants as act;
 ghost use Rattle.cj_model.specs.declared.request.Request.TheVariants as request;
 ghost use Rattle.cj_model.specs.Legality.{IsWritten};
+ghost use Rattle.cj_model.specs.Storable.{IsStorable};
 
-use cj_model::{Asked, Create, Name, NoMemory, Outcome, Select, Text, Write};
+use cj_model::{Asked, Create, Db, Name, NoMemory, Outcome, Select, Text, Write};
 use thiserror::Error;
 
 /// Why a backend did not carry out a call.
@@ -46,13 +47,15 @@ pub struct Counts {
 /// A database that carries out changes and answers queries, one call after another. It keeps its
 /// own allocator.
 ///
-/// Each call but `counts`, `login` and `arm` names the login that it is made under. It may answer
-/// `Failed` where it has counted a fault, and `NoMemory` at any time. After a change that was not
-/// carried out the backend no longer tells what it holds.
+/// Each call but `contents`, `load`, `counts`, `login` and `arm` names the login that it is made
+/// under. Each but `counts`, `login` and `arm` may answer `Failed` where it has counted a fault, and
+/// `NoMemory` at any time. After a change that was not carried out, a load among them, the backend
+/// no longer tells what it holds. After the next load that is carried out it tells again.
 pub trait Backend {
-    ghost use Rattle.cj_backend.specs.Backends.{HasBackendCause, SaysOutcome, SaysAnswer, told_after, LogsIn, IsBegun, begun_with, begun_without, IsOutcome, IsAsked};
+    ghost use Rattle.cj_backend.specs.Backends.{HasBackendCause, SaysOutcome, SaysAnswer, told_after, LogsIn, IsBegun, begun_with, begun_without, IsOutcome, IsAsked, told_loaded, begun_loaded};
 
-    /// Whether it tells what it holds, until a change is not carried out.
+    /// Whether it tells what it holds: at all times but from a change that was not carried out to
+    /// the next load that is.
     const TELLS: bool;
 
     ghost TELLS: { Bool };
@@ -142,6 +145,26 @@ pub trait Backend {
         ensures login { LogsIn (login self.old) user.now result (login self.new) }
         ensures begun { begun self.new ≡ begun self.old }
         ensures asks { asks self.new ≡ next (asks self.old) };
+
+    /// A copy of what it holds, drafts included. Nothing is changed by it.
+    fn contents(&mut self) -> Result<Db, BackendError>
+        ensures contents { IfOk result (λ db. IfSome (told self.old) (λ held. db ≡ held)) }
+        ensures storable { IfOk result IsStorable }
+        ensures told { told self.new ≡ told self.old }
+        ensures cause { HasBackendCause (faults self.old) (faults self.new) result }
+        ensures login { login self.new ≡ login self.old }
+        ensures begun { begun self.new ≡ begun self.old }
+        ensures asks { asks self.new ≡ asks self.old };
+
+    /// Holds this database from now on, whatever it held before. The transactions with a draft in it
+    /// are begun.
+    fn load(&mut self, db: Db) -> Result<(), BackendError>
+        requires { IsStorable db }
+        ensures told { told self.new ≡ told_loaded TELLS db result }
+        ensures cause { HasBackendCause (faults self.old) (faults self.new) result }
+        ensures login { login self.new ≡ login self.old }
+        ensures begun { begun self.new ≡ begun_loaded (begun self.old) db result }
+        ensures asks { asks self.new ≡ asks self.old };
 
     /// What it has counted, which takes no memory.
     fn counts(&self) -> Counts

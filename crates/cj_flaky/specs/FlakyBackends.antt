@@ -18,7 +18,7 @@ pub record FlakyState (B : Type 0) : Type 0 where
   pub calls : ℕ
   -- whether the next call fails whatever its number
   pub armed : Bool
-  -- whether each change so far was passed on
+  -- whether each change since the last load that was carried out was passed on
   pub passed : Bool
   -- how many calls it failed itself, up to the largest `u64`
   pub faults : ℕ

@@ -3,16 +3,16 @@
 ghost use Rattle.std.specs.Prelude.{◌≡◌, ◌↔◌, true, IsTrue};
 
 use cj_backend::{Backend, BackendError, Counts};
-use cj_model::{Asked, Create, ListOf, Name, Outcome, Select, Text, Write};
+use cj_model::{Asked, Create, Db, ListOf, Name, Outcome, Select, Text, Write};
 use std::marker::Model;
 
 /// A backend that passes calls on to another one, but for those that are to fail.
 ///
-/// Calls of `begin`, `write`, `create`, `drop_table`, `commit`, `abort` and `ask` are numbered from
-/// 1, up to 2^64 - 1, where the number stays. A call answers `Failed` exactly where its number is
-/// listed, it is the next numbered call after `arm`, or the inner backend answers so. A listed or
-/// armed call passes nothing on and counts one fault; where it is a change, nothing is told from
-/// then on. Faults and queries are counted together with those of the inner backend, up to
+/// Calls of `begin`, `write`, `create`, `drop_table`, `commit`, `abort`, `ask`, `contents` and `load`
+/// are numbered from 1, up to 2^64 - 1, where the number stays. A call answers `Failed` exactly
+/// where its number is listed, it is the next numbered call after `arm`, or the inner backend
+/// answers so. A listed or armed call passes nothing on and counts one fault; where it is a change,
+/// a load among them, nothing is told from then on until a load is carried out. Faults and queries are counted together with those of the inner backend, up to
 /// 2^64 - 1. Which calls are listed or armed is proved of `enter`, which each numbered call begins
 /// with: the trait's methods have the trait's clauses alone.
 #[derive(Drop)]
@@ -21,7 +21,7 @@ pub struct Flaky<B: Backend> {
     fails: ListOf<u64>,
     calls: u64,
     armed: bool,
-    /// Whether each change so far was passed on.
+    /// Whether each change since the last load that was carried out was passed on.
     passed: bool,
     /// The calls that failed here, up to 2^64 - 1.
     faults: u64,
@@ -166,6 +166,19 @@ impl<B: Backend> Backend for Flaky<B> {
     fn ask(&mut self, user: &Text, tx: u64, select: &Select) -> Result<Asked, BackendError> {
         self.enter_ask()?;
         self.inner.ask(user, tx, select)
+    }
+
+    fn contents(&mut self) -> Result<Db, BackendError> {
+        self.enter()?;
+        self.inner.contents()
+    }
+
+    /// The inner backend then holds what was loaded, whatever was not passed on to it before.
+    fn load(&mut self, db: Db) -> Result<(), BackendError> {
+        self.enter_change()?;
+        self.inner.load(db)?;
+        self.passed = true;
+        Ok(())
     }
 
     fn counts(&self) -> Counts {

@@ -10,7 +10,6 @@ use Rattle.cj_model.specs.declared.select.Select.{Select}
 use Rattle.cj_model.specs.declared.answer.Asked.{Asked}
 use Rattle.cj_model.specs.declared.answer.Asked.TheVariants.{Rows, Refused}
 use Rattle.cj_model.specs.declared.answer.Outcome.{Outcome}
-use Rattle.cj_model.specs.declared.codes.TheConstants.{NO_TABLE, LOCKED, ROWS_FULL}
 use Rattle.cj_model.specs.Tables.{IsDatabase, slot_of}
 use Rattle.cj_model.specs.Changes.{Changed}
 use Rattle.cj_model.specs.Updates.{change}

@@ -9,7 +9,7 @@ use Rattle.cj_backend.specs.declared.backend.BackendError.{BackendError}
 use Rattle.cj_backend.specs.declared.backend.BackendError.TheVariants.{Failed, NoMemory}
 
 pub record MemoryState : Type 0 where
-  -- what it holds, until a change is not carried out
+  -- what it holds; not told from a change that was not carried out to the next load that is
   pub told : Option (List Slot)
   pub asks : ℕ
   pub begun : List ℕ

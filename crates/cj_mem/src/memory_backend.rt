@@ -1,21 +1,24 @@
 //! A database in memory as a backend.
 
-ghost use Rattle.std.specs.Prelude.{◌≡◌, ◌↔◌, ◌==◌, Some, None, IsTrue, filter, not};
+ghost use Rattle.std.specs.Prelude.{◌≡◌, ◌↔◌, ◌==◌, Some, None, IfOk, IsTrue, filter, not};
+ghost use Rattle.cj_model.specs.Storable.{writers};
+ghost use Rattle.cj_model.specs.Tables.{IsDatabase};
 
 use cj_backend::{Backend, BackendError, Counts};
-use cj_model::{Asked, Create, Duplicate, Name, Outcome, Select, Text, Write};
+use cj_model::{Asked, Create, Db, Duplicate, Name, NoMemory, Outcome, Select, Text, Write};
 use cj_query::select;
 use cj_table::Tables;
 use std::alloc::Global;
 use std::marker::Model;
 
-/// A backend whose tables stand in memory as ordered trees. It tells what it holds, until a change
-/// is not carried out for want of memory, and never fails.
+/// A backend whose tables stand in memory as ordered trees. It never fails. It tells what it holds,
+/// but from a change that was not carried out for want of memory to the next load that is. All that
+/// it holds can be stored.
 #[derive(Drop)]
 pub struct MemBackend {
     alloc: Global,
     tables: Tables,
-    /// Whether each change so far was carried out.
+    /// Whether no change has wanted memory since the last load that was carried out.
     known: bool,
     asks: u64,
     begun: Vec<u64>,
@@ -23,11 +26,14 @@ pub struct MemBackend {
 }
 
 impl Model for MemBackend {
+    ghost use Rattle.cj_model.specs.Storable.{IsStorable};
     ghost use Rattle.cj_mem.specs.MemoryBackends.{MemoryState, told_where};
 
     ghost Value = { MemoryState };
 
     ghost view = { λ b. record { told = told_where b.known b.tables; asks = b.asks; begun = b.begun.items; login = b.login } };
+
+    ghost invariant = { λ b. IsStorable b.tables };
 }
 
 fn is_login(last: &Option<Text>, user: &Text) -> bool
@@ -43,6 +49,16 @@ fn remove(begun: &mut Vec<u64>, tx: u64)
     ensures { begun.new.items ≡ filter (λ t. not (t == tx)) begun.old.items }
 {
     begun.retain(|other| *other != tx);
+}
+
+/// The tables of a database, and the transactions that have a draft in it.
+fn restored(alloc: Global, db: Db) -> Result<(Tables, Vec<u64>), NoMemory>
+    requires { IsDatabase db }
+    ensures { IfOk result (λ made. (made.0 ≡ db) × (made.1.items ≡ writers db)) }
+{
+    let tables = Tables::from_db(alloc, db)?;
+    let begun = tables.writers()?;
+    Ok((tables, begun))
 }
 
 impl MemBackend {
@@ -137,6 +153,7 @@ impl Backend for MemBackend {
         }
     }
 
+    #[tactic(auto, using(cj_model::proofs::StorableLaws::created_storable))]
     fn create(&mut self, user: &Text, create: &Create) -> Result<Outcome, BackendError> {
         self.enter_change(user)?;
         match self.tables.create(create) {
@@ -145,11 +162,13 @@ impl Backend for MemBackend {
         }
     }
 
+    #[tactic(auto, using(cj_model::proofs::StorableLaws::dropped_storable))]
     fn drop_table(&mut self, user: &Text, table: &Name) -> Result<Outcome, BackendError> {
         self.enter_change(user)?;
         Ok(self.tables.drop_table(table))
     }
 
+    #[tactic(auto, using(cj_model::proofs::StorableLaws::committed_storable))]
     fn commit(&mut self, user: &Text, tx: u64) -> Result<(), BackendError> {
         self.enter_change(user)?;
         match self.tables.commit(tx) {
@@ -161,6 +180,7 @@ impl Backend for MemBackend {
         }
     }
 
+    #[tactic(auto, using(cj_model::proofs::StorableLaws::aborted_storable))]
     fn abort(&mut self, user: &Text, tx: u64) -> Result<(), BackendError> {
         self.enter_change(user)?;
         self.tables.abort(tx);
@@ -173,6 +193,23 @@ impl Backend for MemBackend {
         self.enter(user)?;
         self.tables.legal();
         Ok(select(self.alloc, query, &self.tables, tx)?)
+    }
+
+    fn contents(&mut self) -> Result<Db, BackendError> {
+        Ok(self.tables.to_db()?)
+    }
+
+    /// Takes all its memory before it changes anything.
+    fn load(&mut self, db: Db) -> Result<(), BackendError> {
+        match restored(self.alloc, db) {
+            Ok((tables, begun)) => {
+                self.tables = tables;
+                self.begun = begun;
+                self.known = true;
+                Ok(())
+            }
+            Err(_) => Err(self.starve()),
+        }
     }
 
     fn counts(&self) -> Counts {
