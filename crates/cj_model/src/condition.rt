@@ -80,6 +80,13 @@ impl Cond {
     {
         &self.root
     }
+
+    pub fn into_root(self) -> CondNode
+        ensures { shape result ≡ self }
+    {
+        let Cond { root } = self;
+        root
+    }
 }
 
 impl Duplicate for Cond {
