@@ -67,6 +67,8 @@ impl CondNode {
 
 impl Cond {
     ghost use Rattle.std.specs.Prelude.{◌≡◌};
+    ghost use Rattle.std.specs.Borrow.{sem};
+    ghost use Rattle.cj_model.specs.Lent.{LendsRoot};
     ghost use Rattle.cj_model.specs.ConditionShape.{shape};
 
     pub fn of(root: CondNode) -> Cond
@@ -81,11 +83,12 @@ impl Cond {
         &self.root
     }
 
-    pub fn into_root(self) -> CondNode
-        ensures { shape result ≡ self }
+    /// The tree, to be changed in place.
+    pub fn root_mut(&mut self) -> &mut CondNode
+        ensures* lends { sem 𝓛 (LendsRoot self.entry result) }
+        ensures root { shape result.now ≡ self.old }
     {
-        let Cond { root } = self;
-        root
+        &mut self.root
     }
 }
 

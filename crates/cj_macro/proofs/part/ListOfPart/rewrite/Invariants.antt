@@ -1,0 +1,14 @@
+use Rattle.std.proofs.Common.{◌≡◌, ◌++◌, take, drop}
+use Rattle.std.specs.List.{All, flat_map}
+use Rattle.cj_model.specs.Macros.{draws_from, state_after, each_rewritten, IsDrawable}
+use Rattle.cj_macro.proofs.Drawing.{rest_rewritten}
+use Rattle.cj_macro.proofs.part.ListOfPart.rewrite.Given as goal
+
+abbrev pub invariant-loop-item : goal.invariant-loop-item
+invariant-loop-item g l =
+    let rest = rest_rewritten g.D.Draw.drawn g.D.Draw.later g.T.Part.bounds (g.T.Part.rewritten l.now) in
+    record {
+      items : take l.item-index l.item-items ++ rest l.draw (drop l.item-index l.item-items) ≡ rest l.fn.draw l.fn.self;
+      state : state_after g.D.Draw.later l.draw (flat_map g.T.Part.bounds (drop l.item-index l.item-items)) ≡ state_after g.D.Draw.later l.fn.draw (flat_map g.T.Part.bounds l.fn.self);
+      drawable : All IsDrawable (flat_map g.T.Part.bounds (drop l.item-index l.item-items));
+    }

@@ -1,0 +1,82 @@
+//! Statements.
+
+ghost use Rattle.std.specs.Prelude.{◌≡◌};
+ghost use Rattle.cj_model.specs.Macros.{
+  bounds,
+  draws_from,
+  rewritten,
+  rewritten_where,
+  rewritten_write,
+  state_after,
+  where_bounds,
+  write_bounds,
+  RandsAreDrawable,
+};
+
+use crate::part::Part;
+use cj_model::{Cond, Request, Write};
+use cj_outside::Draw;
+
+impl Part for Option<Cond> {
+    ghost bounds = { where_bounds };
+
+    ghost rewritten = { rewritten_where };
+
+    fn rewrite<D: Draw>(&mut self, now: i64, draw: &mut D) {
+        match self {
+            None => {}
+            Some(cond) => cond.rewrite(now, draw),
+        }
+    }
+}
+
+impl Part for Write {
+    ghost bounds = { write_bounds };
+
+    ghost rewritten = { rewritten_write };
+
+    #[tactic(auto, using(
+        crate::proofs::Drawing::front_draws,
+        crate::proofs::Drawing::behind_draws,
+    ))]
+    fn rewrite<D: Draw>(&mut self, now: i64, draw: &mut D) {
+        match self {
+            Write::Insert { rows, .. } => rows.rewrite(now, draw),
+            Write::Update { sets, cond, .. } => {
+                sets.rewrite(now, draw);
+                cond.rewrite(now, draw);
+            }
+            Write::Delete { cond, .. } => cond.rewrite(now, draw),
+        }
+    }
+}
+
+impl Part for Request {
+    ghost bounds = { bounds };
+
+    ghost rewritten = { rewritten };
+
+    fn rewrite<D: Draw>(&mut self, now: i64, draw: &mut D) {
+        match self {
+            Request::Select(select) => select.cond.rewrite(now, draw),
+            Request::Write(write) => write.rewrite(now, draw),
+            Request::Create(_) => {}
+            Request::Drop(_) => {}
+            Request::Begin => {}
+            Request::Commit => {}
+            Request::Rollback => {}
+        }
+    }
+}
+
+/// The request with values in place of its calls: the clock's `now`, and a fresh draw for each RAND
+/// in text order.
+pub fn rewrite<D: Draw>(r: Request, now: i64, draw: &mut D) -> Request
+    requires { RandsAreDrawable r }
+    ensures rewritten { result ≡ rewritten now (draws_from D.drawn D.later draw.old (bounds r)) r }
+    ensures draw { draw.new ≡ state_after D.later draw.old (bounds r) }
+{
+    let mut r = r;
+    r.rewrite(now, draw);
+    r
+}
