@@ -1,6 +1,6 @@
 //! Statements.
 
-ghost use Rattle.std.specs.Prelude.{◌≡◌};
+ghost use Rattle.std.specs.Prelude.{◌≡◌, true};
 ghost use Rattle.cj_model.specs.Macros.{
   bounds,
   draws_from,
@@ -12,6 +12,7 @@ ghost use Rattle.cj_model.specs.Macros.{
   write_bounds,
   RandsAreDrawable,
 };
+ghost use Rattle.cj_model.specs.Plain.{is_plain};
 
 use crate::part::Part;
 use cj_model::{Cond, Request, Write};
@@ -71,10 +72,12 @@ impl Part for Request {
 
 /// The request with values in place of its calls: the clock's `now`, and a fresh draw for each RAND
 /// in text order.
+#[tactic(auto, using(crate::proofs::Plainness::rewritten_is_plain))]
 pub fn rewrite<D: Draw>(r: Request, now: i64, draw: &mut D) -> Request
     requires { RandsAreDrawable r }
     ensures rewritten { result ≡ rewritten now (draws_from D.drawn D.later draw.old (bounds r)) r }
     ensures draw { draw.new ≡ state_after D.later draw.old (bounds r) }
+    ensures plain { is_plain result ≡ true }
 {
     let mut r = r;
     r.rewrite(now, draw);
