@@ -7,6 +7,7 @@ use Rattle.std.proofs.lemmas.List.Elements.{All-nil, All-cons, All-head, All-tai
 use Rattle.cj_model.specs.Conditions.{Condition, Test, Not, And, Or}
 use Rattle.cj_model.specs.Macros.{term_bounds, condition_bounds, draws_from, state_after, front, behind, each_rewritten, IsDrawable}
 use Rattle.cj_macro.specs.Drawable.{DrawableParts}
+use Rattle.cj_macro.proofs.RewrittenTerms.{IsSmall}
 
 -- ---- draws
 
@@ -25,6 +26,14 @@ module _ {S : Type 0} (drawn : S → ℕ → ℕ) (later : S → ℕ → S) wher
   pub behind_draws : (s : S) (b c : List ℕ) → behind b (draws_from drawn later s (b ++ c)) ≡ draws_from drawn later (state_after later s b) c
   behind_draws s [] c = refl
   behind_draws s (n ∷ b) c = behind_draws (later s n) b c
+
+  -- a draw for a bound that is drawable can be written as a literal
+  pub draws_small : ((s : S) (n : ℕ) → 0 < n → drawn s n < n) → (s : S) (b : List ℕ) → All IsDrawable b → All IsSmall (draws_from drawn later s b)
+  draws_small below s [] h = All-nil IsSmall
+  draws_small below s (n ∷ b) h =
+      let own = All-head IsDrawable n b h in
+      let d : drawn s n < n = below s n own.0 in
+      All-cons IsSmall (drawn s n) (draws_from drawn later (later s n) b) (omega (arith, d, own.1)) (draws_small below (later s n) b (All-tail IsDrawable n b h))
 
 -- ---- what holds of each item
 

@@ -1,2 +1,5 @@
 pub mod Drawing
 pub mod Plainness
+pub mod RewrittenConditions
+pub mod RewrittenTerms
+pub mod Written

@@ -1,6 +1,6 @@
 //! Statements.
 
-ghost use Rattle.std.specs.Prelude.{◌≡◌, true};
+ghost use Rattle.std.specs.Prelude.{◌≡◌, ℕ, List, true};
 ghost use Rattle.cj_model.specs.Macros.{
   bounds,
   draws_from,
@@ -12,6 +12,8 @@ ghost use Rattle.cj_model.specs.Macros.{
   write_bounds,
   RandsAreDrawable,
 };
+ghost use Rattle.cj_model.specs.Grammar.{TextReads};
+ghost use Rattle.cj_model.specs.Legality.{IsWritten};
 ghost use Rattle.cj_model.specs.Plain.{is_plain};
 
 use crate::part::Part;
@@ -78,6 +80,7 @@ pub fn rewrite<D: Draw>(r: Request, now: i64, draw: &mut D) -> Request
     ensures rewritten { result ≡ rewritten now (draws_from D.drawn D.later draw.old (bounds r)) r }
     ensures draw { draw.new ≡ state_after D.later draw.old (bounds r) }
     ensures plain { is_plain result ≡ true }
+    ensures written { (text : List ℕ) → TextReads text r → IsWritten result }
 {
     let mut r = r;
     r.rewrite(now, draw);
