@@ -1,22 +1,18 @@
 -- What the draws of a state are for two lists of bounds, and for a list of items that is rewritten item by item.
-use Rattle.std.proofs.Common.{◌≡◌, ◌∙◌, refl, sym, ap, subst, ℕ, zero, suc, ◌+◌, ◌<◌, ◌≤◌, List, [], ◌∷◌, ◌++◌, length, take, drop, get_or, set, fold, arith}
+use Rattle.std.proofs.Common.{◌≡◌, ◌∙◌, refl, sym, ap, ℕ, ◌+◌, ◌^◌, ◌<◌, true, List, [], ◌∷◌, ◌++◌, length, take, drop, get_or, set, fold, arith}
 use Rattle.std.specs.List.{All, flat_map}
+use Rattle.std.specs.Cmp.Derive.{both_true}
+use Rattle.std.proofs.lemmas.Bool.{lt-ltb}
 use Rattle.std.proofs.lemmas.List.{append_assoc, drop_more, drop-set-lt, take_more_set}
 use Rattle.std.proofs.lemmas.List.Sums.{fold-append}
 use Rattle.std.proofs.lemmas.List.Elements.{All-nil, All-cons, All-head, All-tail}
-use Rattle.cj_model.specs.Conditions.{Condition, Test, Not, And, Or}
-use Rattle.cj_model.specs.Macros.{term_bounds, condition_bounds, draws_from, state_after, front, behind, each_rewritten, IsDrawable}
-use Rattle.cj_macro.specs.Drawable.{DrawableParts}
+use Rattle.cj_model.specs.Macros.{draws_from, state_after, front, behind, each_rewritten, IsDrawable}
+use Rattle.cj_macro.specs.Drawable.{are_drawable}
 use Rattle.cj_macro.proofs.RewrittenTerms.{IsSmall}
 
 -- ---- draws
 
 module _ {S : Type 0} (drawn : S → ℕ → ℕ) (later : S → ℕ → S) where
-  -- there is a draw for each bound
-  pub length_draws : (s : S) (b : List ℕ) → length (draws_from drawn later s b) ≡ length b
-  length_draws s [] = refl
-  length_draws s (n ∷ b) = ap (λ (k : ℕ). suc k) (length_draws (later s n) b)
-
   -- the first of the draws for two lists of bounds are those for the one
   pub front_draws : (s : S) (b c : List ℕ) → front b (draws_from drawn later s (b ++ c)) ≡ draws_from drawn later s b
   front_draws s [] c = refl
@@ -35,24 +31,12 @@ module _ {S : Type 0} (drawn : S → ℕ → ℕ) (later : S → ℕ → S) wher
       let d : drawn s n < n = below s n own.0 in
       All-cons IsSmall (drawn s n) (draws_from drawn later (later s n) b) (omega (arith, d, own.1)) (draws_small below (later s n) b (All-tail IsDrawable n b h))
 
--- ---- what holds of each item
-
-pub all_front : {A : Type 0} (P : A → Type 0) (xs ys : List A) → All P (xs ++ ys) → All P xs
-all_front P [] ys h = All-nil P
-all_front P (x ∷ xs) ys h = All-cons P x xs (All-head P x (xs ++ ys) h) (all_front P xs ys (All-tail P x (xs ++ ys) h))
-
-pub all_behind : {A : Type 0} (P : A → Type 0) (xs ys : List A) → All P (xs ++ ys) → All P ys
-all_behind P [] ys h = h
-all_behind P (x ∷ xs) ys h = all_behind P xs ys (All-tail P x (xs ++ ys) h)
-
--- the parts of a condition have the bounds that the condition has
-pub drawable_parts : (c : Condition) → All IsDrawable (condition_bounds c) → DrawableParts c
-drawable_parts (Test cmp l r) h = (all_front IsDrawable (term_bounds l) (term_bounds r) h, all_behind IsDrawable (term_bounds l) (term_bounds r) h)
-drawable_parts (Not c) h = drawable_parts c h
-drawable_parts (And c d) h =
-    (drawable_parts c (all_front IsDrawable (condition_bounds c) (condition_bounds d) h), drawable_parts d (all_behind IsDrawable (condition_bounds c) (condition_bounds d) h))
-drawable_parts (Or c d) h =
-    (drawable_parts c (all_front IsDrawable (condition_bounds c) (condition_bounds d) h), drawable_parts d (all_behind IsDrawable (condition_bounds c) (condition_bounds d) h))
+-- what is drawable passes the test
+pub passes_drawable : (b : List ℕ) → All IsDrawable b → are_drawable b ≡ true
+passes_drawable [] h = refl
+passes_drawable (n ∷ b) h =
+    let own = All-head IsDrawable n b h in
+    both_true (both_true (lt-ltb 0 n own.0) (lt-ltb n (2 ^ 63) own.1)) (passes_drawable b (All-tail IsDrawable n b h))
 
 -- ---- items in turn
 
@@ -64,18 +48,6 @@ bounds_more bounds_of items i d l = ap (λ xs. flat_map bounds_of xs) (drop_more
 -- what is written at an index leaves the items behind it
 behind_set : {A : Type 0} (items : List A) (i : ℕ) (x : A) → drop (i + 1) (set items i x) ≡ drop (i + 1) items
 behind_set items i x = drop-set-lt (i + 1) items i x (omega arith)
-
--- what holds of each bound holds of the item's at an index
-pub item_all : {A : Type 0} (P : ℕ → Type 0) (bounds_of : A → List ℕ) (items : List A) (i : ℕ) (d : A) → i < length items → All P (flat_map bounds_of (drop i items)) → All P (bounds_of (get_or items i d))
-item_all P bounds_of items i d l h =
-    all_front P (bounds_of (get_or items i d)) (flat_map bounds_of (drop (i + 1) items)) (subst (All P) (bounds_more bounds_of items i d l) h)
-
--- and of those of the items behind it
-pub behind_all : {A : Type 0} (P : ℕ → Type 0) (bounds_of : A → List ℕ) (items : List A) (i : ℕ) (d x : A) → i < length items → All P (flat_map bounds_of (drop i items))
-    → All P (flat_map bounds_of (drop (i + 1) (set items i x)))
-behind_all P bounds_of items i d x l h =
-    let more : All P (flat_map bounds_of (drop (i + 1) items)) = all_behind P (bounds_of (get_or items i d)) (flat_map bounds_of (drop (i + 1) items)) (subst (All P) (bounds_more bounds_of items i d l) h) in
-    subst (λ xs. All P (flat_map bounds_of xs)) (sym (behind_set items i x)) more
 
 -- the state after the draws for the items from an index on is that after the item there, and then for the items behind it
 pub state_step : {S A : Type 0} (later : S → ℕ → S) (bounds_of : A → List ℕ) (s s' last : S) (items : List A) (i : ℕ) (d x : A) → i < length items

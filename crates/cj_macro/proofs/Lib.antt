@@ -1,4 +1,5 @@
 pub mod Drawing
+pub mod Examples
 pub mod Plainness
 pub mod RewrittenConditions
 pub mod RewrittenTerms

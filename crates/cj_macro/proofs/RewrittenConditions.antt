@@ -1,18 +1,16 @@
 -- A condition with values in place of its calls can be spelled, nests no deeper and is what its form means.
-use Rattle.std.proofs.Common.{◌≡◌, ◌∙◌, refl, sym, ap, subst, ℕ, ℤ, zero, suc, ◌≤◌, ◌+◌, List, Option, Some, None}
+use Rattle.std.proofs.Common.{◌≡◌, ◌∙◌, refl, sym, ap, subst, ℕ, ℤ, zero, suc, ◌≤◌, List, Option, Some, None}
 use Rattle.std.specs.List.{All}
 use Rattle.std.proofs.lemmas.List.Elements.{All-nil, All-append}
 use Rattle.cj_model.specs.declared.value.Value.TheVariants as value
-use Rattle.cj_model.specs.declared.term.Term.{Term}
-use Rattle.cj_model.specs.declared.term.Term.TheVariants.{Lit, Col, Now, Rand}
 use Rattle.cj_model.specs.Conditions.{Condition, Test, Not, And, Or}
 use Rattle.cj_model.specs.Literals.{IsConstant}
-use Rattle.cj_model.specs.TermForms.{TermFits, term_meant}
+use Rattle.cj_model.specs.TermForms.{TermFits}
 use Rattle.cj_model.specs.ConditionForms as c
 use Rattle.cj_model.specs.ConditionForms.{CondForm, OrsForm, ConjForm, AndsForm, PrimForm, cond_meant, comparisons, CondNests, OrsNest, ConjNests, AndsNest, PrimNests, CondFits}
 use Rattle.cj_model.specs.Grammar.{where_meant, WhereFits}
 use Rattle.cj_model.specs.Macros.{term_bounds, condition_bounds, where_bounds, IsDrawable, front, behind, rewritten_condition, rewritten_where}
-use Rattle.cj_model.proofs.Spellable.{FineCond, FineWhere, FineTerm}
+use Rattle.cj_model.proofs.Spellable.{FineCond, FineWhere}
 use Rattle.cj_print.proofs.Forms.{term_form, or_end, and_end, or_also, and_also, Forms, of_prim, of_conj, of_cond, forms, where_form}
 use Rattle.cj_print.proofs.FewestParentheses.{Meant, forms_mean, or_also_fits, and_also_fits}
 use Rattle.cj_macro.proofs.RewrittenTerms.{IsSmall, front_small, behind_small, term_means, term_fine, term_fits, term_drawable, fine_term_means}
@@ -81,9 +79,10 @@ module _ (moment : ℤ) (in_range : IsConstant (value.Int moment)) where
   forms_no_deeper draws (Test op a b) small =
       prim_no_deeper _ _
       (λ d h. let parts = test_parts op (term_form a) (term_form b) d h in
-      test_whole op _ _ d
-      (term_fits moment in_range (front (term_bounds a) draws) a (front_small (term_bounds a) draws small) parts.0,
-      term_fits moment in_range (behind (term_bounds a) draws) b (behind_small (term_bounds a) draws small) parts.1))
+      test_whole op _ _ d (
+        term_fits moment in_range (front (term_bounds a) draws) a (front_small (term_bounds a) draws small) parts.0,
+        term_fits moment in_range (behind (term_bounds a) draws) b (behind_small (term_bounds a) draws small) parts.1,
+      ))
   forms_no_deeper draws (Not x) small = prim_no_deeper _ _ (not_deeper (forms x).tight _ (forms_no_deeper draws x small).tight)
   forms_no_deeper draws (And x y) small =
       let left = forms_no_deeper (front (condition_bounds x) draws) x (front_small (condition_bounds x) draws small) in
@@ -97,16 +96,19 @@ module _ (moment : ℤ) (in_range : IsConstant (value.Int moment)) where
   -- ---- spelling
 
   cond_fine : (draws : List ℕ) (x : Condition) → All IsSmall draws → FineCond x → FineCond (rewritten_condition moment draws x)
-  cond_fine draws (Test op a b) small h =
-      (term_fine moment in_range (front (term_bounds a) draws) a (front_small (term_bounds a) draws small) h.0,
-      term_fine moment in_range (behind (term_bounds a) draws) b (behind_small (term_bounds a) draws small) h.1)
+  cond_fine draws (Test op a b) small h = (
+    term_fine moment in_range (front (term_bounds a) draws) a (front_small (term_bounds a) draws small) h.0,
+    term_fine moment in_range (behind (term_bounds a) draws) b (behind_small (term_bounds a) draws small) h.1,
+  )
   cond_fine draws (Not x) small h = cond_fine draws x small h
-  cond_fine draws (And x y) small h =
-      (cond_fine (front (condition_bounds x) draws) x (front_small (condition_bounds x) draws small) h.0,
-      cond_fine (behind (condition_bounds x) draws) y (behind_small (condition_bounds x) draws small) h.1)
-  cond_fine draws (Or x y) small h =
-      (cond_fine (front (condition_bounds x) draws) x (front_small (condition_bounds x) draws small) h.0,
-      cond_fine (behind (condition_bounds x) draws) y (behind_small (condition_bounds x) draws small) h.1)
+  cond_fine draws (And x y) small h = (
+    cond_fine (front (condition_bounds x) draws) x (front_small (condition_bounds x) draws small) h.0,
+    cond_fine (behind (condition_bounds x) draws) y (behind_small (condition_bounds x) draws small) h.1,
+  )
+  cond_fine draws (Or x y) small h = (
+    cond_fine (front (condition_bounds x) draws) x (front_small (condition_bounds x) draws small) h.0,
+    cond_fine (behind (condition_bounds x) draws) y (behind_small (condition_bounds x) draws small) h.1,
+  )
 
   pub where_fine : (draws : List ℕ) (o : Option Condition) → All IsSmall draws → FineWhere o → FineWhere (rewritten_where moment draws o)
   where_fine draws None small h = tt

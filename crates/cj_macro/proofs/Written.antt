@@ -1,5 +1,5 @@
 -- What some text reads as has drawable RANDs, and with values in place of its calls some text reads as it still.
-use Rattle.std.proofs.Common.{◌≡◌, ◌∙◌, refl, sym, ap, ap₂, subst, ℕ, ℤ, suc, ◌<◌, ◌≤◌, Bool, true, false, Option, List, [], ◌∷◌, ◌++◌, length, map, arith}
+use Rattle.std.proofs.Common.{◌≡◌, ◌∙◌, refl, sym, ap, ap₂, subst, ℕ, ℤ, suc, ◌<◌, ◌≤◌, Bool, true, false, Option, List, [], ◌∷◌, length, map}
 use Rattle.std.specs.List.{All, flat_map}
 use Rattle.std.proofs.lemmas.List.{length-map}
 use Rattle.std.proofs.lemmas.List.Elements.{All-nil, All-append}
@@ -15,12 +15,12 @@ use Rattle.cj_model.specs.declared.request.Request.{Request}
 use Rattle.cj_model.specs.declared.request.Request.TheVariants as request
 use Rattle.cj_model.specs.Conditions.{Condition}
 use Rattle.cj_model.specs.Literals.{IsConstant}
-use Rattle.cj_model.specs.TermForms.{EachFits, SomeFit, ConstForm, const_meant, ConstFits}
+use Rattle.cj_model.specs.TermForms.{EachFits, SomeFit, const_meant, ConstFits}
 use Rattle.cj_model.specs.Grammar as g
 use Rattle.cj_model.specs.Grammar.{set_meant, select_meant, statement_meant, SetFits, StatementFits, TextReads}
 use Rattle.cj_model.specs.Legality.{IsWritten}
-use Rattle.cj_model.specs.Macros.{term_bounds, tuple_bounds, set_bounds, where_bounds, write_bounds, bounds, IsDrawable, RandsAreDrawable, front, behind, rewritten_term, rewritten_where, each_rewritten, rewritten_tuple, rewritten_set, rewritten_write, rewritten_select, rewritten}
-use Rattle.cj_model.proofs.Spellable.{FineConst, FineSet, FineSelect, FineWrite, FineRequest, request_fine}
+use Rattle.cj_model.specs.Macros.{term_bounds, tuple_bounds, set_bounds, where_bounds, write_bounds, IsDrawable, RandsAreDrawable, front, behind, rewritten_term, each_rewritten, rewritten_tuple, rewritten_set, rewritten_write, rewritten_select, rewritten}
+use Rattle.cj_model.proofs.Spellable.{FineConst, FineSet, FineWrite, FineRequest, request_fine}
 use Rattle.cj_print.proofs.Forms.{const_form, set_form, direction_form, key_form, select_form, form}
 use Rattle.cj_print.proofs.CanonicalForm.{form_fits}
 use Rattle.cj_print.proofs.StoredWritten.{written_in_canonical}
@@ -55,7 +55,7 @@ module _ {A : Type 0} (bounds_of : A → List ℕ) (item : List ℕ → A → A)
         → (limit : ℕ) (draws : List ℕ) (xs : List A) → All IsSmall draws → SomeFit P limit (map form_of xs) → SomeFit P limit (map form_of (each_rewritten bounds_of item draws xs))
     some_fit P k limit draws xs small h =
         let count : length (map form_of (each_rewritten bounds_of item draws xs)) ≡ length (map form_of xs) =
-            length-map (each_rewritten bounds_of item draws xs) form_of ∙ length_rewritten draws xs ∙ sym (length-map xs form_of)
+        length-map (each_rewritten bounds_of item draws xs) form_of ∙ length_rewritten draws xs ∙ sym (length-map xs form_of)
         in
         (subst (λ n. 0 < n) (sym count) h.0, subst (λ n. n ≤ limit) (sym count) h.1, each_fits P k draws xs small h.2)
 
@@ -160,9 +160,10 @@ module _ (moment : ℤ) (in_range : IsConstant (value.Int moment)) where
   write_fits draws (write.Insert n names rows) small spelled h =
       (h.0, some_fit tuple_bounds (rewritten_tuple moment) (map const_form) (SomeFit ConstFits 16) (tuple_fits moment in_range) 4096 draws rows small h.1)
   write_fits draws (write.Update n sets o) small spelled h =
-      let own = flat_map set_bounds sets in
-      (some_fit set_bounds (rewritten_set moment) set_form SetFits (set_fits moment in_range) 16 (front own draws) sets (front_small own draws small) h.0,
-      where_fits moment in_range (behind own draws) o (behind_small own draws small) spelled.2 h.1)
+      let own = flat_map set_bounds sets in (
+        some_fit set_bounds (rewritten_set moment) set_form SetFits (set_fits moment in_range) 16 (front own draws) sets (front_small own draws small) h.0,
+        where_fits moment in_range (behind own draws) o (behind_small own draws small) spelled.2 h.1,
+      )
   write_fits draws (write.Delete n o) small spelled h = where_fits moment in_range draws o small spelled.1 h
 
   -- and its form fits

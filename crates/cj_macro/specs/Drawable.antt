@@ -1,10 +1,10 @@
--- A condition whose RANDs are drawable, part by part.
-use Rattle.std.specs.Prelude.{All}
-use Rattle.cj_model.specs.Conditions.{Condition, Test, Not, And, Or}
-use Rattle.cj_model.specs.Macros.{term_bounds, IsDrawable}
+-- Whether draws can be had, as a test.
+use Rattle.std.specs.Prelude.{ℕ, ◌^◌, Bool, ◌&&◌, List, nat_lt}
+use Rattle.std.specs.List.{list_all}
 
-abbrev pub DrawableParts : Condition → Type 0
-DrawableParts (Test cmp l r) = All IsDrawable (term_bounds l) × All IsDrawable (term_bounds r)
-DrawableParts (Not c) = DrawableParts c
-DrawableParts (And c d) = DrawableParts c × DrawableParts d
-DrawableParts (Or c d) = DrawableParts c × DrawableParts d
+abbrev pub is_drawable : ℕ → Bool
+is_drawable n = nat_lt 0 n && nat_lt n (2 ^ 63)
+
+-- a draw can be had for each bound
+abbrev pub are_drawable : List ℕ → Bool
+are_drawable bounds = list_all is_drawable bounds

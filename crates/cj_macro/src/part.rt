@@ -1,6 +1,6 @@
 //! Parts of a request.
 
-ghost use Rattle.std.specs.Prelude.{◌≡◌, ℕ, ℤ, All, List, flat_map};
+ghost use Rattle.std.specs.Prelude.{◌≡◌, ℕ, ℤ, List, flat_map, true};
 ghost use Rattle.cj_model.specs.Macros.{
   draws_from,
   each_rewritten,
@@ -11,8 +11,8 @@ ghost use Rattle.cj_model.specs.Macros.{
   set_bounds,
   state_after,
   term_bounds,
-  IsDrawable,
 };
+ghost use Rattle.cj_macro.specs.Drawable.{are_drawable};
 
 use cj_model::{Expr, ListOf, Set, Term, Value};
 use cj_outside::Draw;
@@ -27,7 +27,7 @@ pub trait Part {
 
     /// Puts values in place of its calls.
     fn rewrite<D: Draw>(&mut self, now: i64, draw: &mut D)
-        requires { All IsDrawable (bounds self.old) }
+        requires { are_drawable (bounds self.old) ≡ true }
         ensures rewritten { self.new ≡ rewritten now (draws_from D.drawn D.later draw.old (bounds self.old)) self.old }
         ensures draw { draw.new ≡ state_after D.later draw.old (bounds self.old) };
 }

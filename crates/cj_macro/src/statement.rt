@@ -5,10 +5,8 @@ ghost use Rattle.cj_model.specs.Macros.{
   bounds,
   draws_from,
   rewritten,
-  rewritten_where,
   rewritten_write,
   state_after,
-  where_bounds,
   write_bounds,
   RandsAreDrawable,
 };
@@ -17,31 +15,15 @@ ghost use Rattle.cj_model.specs.Legality.{IsWritten};
 ghost use Rattle.cj_model.specs.Plain.{is_plain};
 
 use crate::part::Part;
-use cj_model::{Cond, Request, Write};
+use cj_model::{Request, Write};
 use cj_outside::Draw;
-
-impl Part for Option<Cond> {
-    ghost bounds = { where_bounds };
-
-    ghost rewritten = { rewritten_where };
-
-    fn rewrite<D: Draw>(&mut self, now: i64, draw: &mut D) {
-        match self {
-            None => {}
-            Some(cond) => cond.rewrite(now, draw),
-        }
-    }
-}
 
 impl Part for Write {
     ghost bounds = { write_bounds };
 
     ghost rewritten = { rewritten_write };
 
-    #[tactic(auto, using(
-        crate::proofs::Drawing::front_draws,
-        crate::proofs::Drawing::behind_draws,
-    ))]
+    #[tactic(auto, using(crate::proofs::Drawing::front_draws, crate::proofs::Drawing::behind_draws))]
     fn rewrite<D: Draw>(&mut self, now: i64, draw: &mut D) {
         match self {
             Write::Insert { rows, .. } => rows.rewrite(now, draw),
@@ -72,17 +54,16 @@ impl Part for Request {
     }
 }
 
-/// The request with values in place of its calls: the clock's `now`, and a fresh draw for each RAND
+/// The request with values in place of its calls: `now` for each NOW, and for each RAND a fresh draw,
 /// in text order.
-#[tactic(auto, using(crate::proofs::Plainness::rewritten_is_plain))]
-pub fn rewrite<D: Draw>(r: Request, now: i64, draw: &mut D) -> Request
-    requires { RandsAreDrawable r }
-    ensures rewritten { result ≡ rewritten now (draws_from D.drawn D.later draw.old (bounds r)) r }
-    ensures draw { draw.new ≡ state_after D.later draw.old (bounds r) }
+#[tactic(auto, using(crate::proofs::Drawing::passes_drawable, crate::proofs::Plainness::rewritten_is_plain))]
+pub fn rewrite<D: Draw>(mut request: Request, now: i64, draw: &mut D) -> Request
+    requires { RandsAreDrawable request }
+    ensures rewritten { result ≡ rewritten now (draws_from D.drawn D.later draw.old (bounds request)) request }
+    ensures draw { draw.new ≡ state_after D.later draw.old (bounds request) }
     ensures plain { is_plain result ≡ true }
-    ensures written { (text : List ℕ) → TextReads text r → IsWritten result }
+    ensures written { (text : List ℕ) → TextReads text request → IsWritten result }
 {
-    let mut r = r;
-    r.rewrite(now, draw);
-    r
+    request.rewrite(now, draw);
+    request
 }

@@ -9,7 +9,7 @@ use Rattle.cj_macro.proofs.statement.rewrite.Goals as goal
 
 pub returns-clause-written : goal.returns-clause-written
 returns-clause-written g c text reads =
-    let r = c.args.r in
+    let r = c.args.request in
     let draws = draws_from g.D.Draw.drawn g.D.Draw.later c.args.draw.now (bounds r) in
     let small = draws_small g.D.Draw.drawn g.D.Draw.later g.met.D.Draw.drawn_below c.args.draw.now (bounds r) c.requires in
     let is : c.rewrite.new.self ≡ rewritten c.args.now draws r = c.rewrite.ensures.rewritten ∙ ap (λ (moment : ℤ). rewritten moment draws r) (to_z-of_z w64 c.args.now c.ranges.now) in

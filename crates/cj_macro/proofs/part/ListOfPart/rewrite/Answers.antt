@@ -1,12 +1,9 @@
 use Rattle.std.proofs.Common.{◌<◌, length, w64, of_z, to_z, arith}
+use Rattle.std.proofs.lemmas.Grind.{common_steps}
 use Rattle.std.specs.List.{flat_map}
-use Rattle.cj_model.specs.Macros.{state_after, IsDrawable}
-use Rattle.cj_macro.proofs.Drawing.{item_all, behind_all, state_step, rest_rewritten, rest_step}
+use Rattle.cj_model.specs.Macros.{state_after}
+use Rattle.cj_macro.proofs.Drawing.{state_step, rest_rewritten, rest_step}
 use Rattle.cj_macro.proofs.part.ListOfPart.rewrite.Goals as goal
-
-pub rewrite-requires : goal.rewrite-requires
-rewrite-requires g c =
-    item_all IsDrawable g.T.Part.bounds c.loop-item.item-items c.loop-item.item-index c.item-item.result (omega arith) c.loop-item.invariant.drawable
 
 pub loop-item-preserved : goal.loop-item-preserved
 loop-item-preserved g c =
@@ -21,5 +18,5 @@ loop-item-preserved g c =
     record {
       items = rest_step g.D.Draw.drawn g.D.Draw.later g.T.Part.bounds item c.loop-item.draw c.rewrite.new.draw items whole i d x within c.rewrite.ensures.rewritten c.rewrite.ensures.draw c.loop-item.invariant.items;
       state = state_step g.D.Draw.later g.T.Part.bounds c.loop-item.draw c.rewrite.new.draw last items i d x within c.rewrite.ensures.draw c.loop-item.invariant.state;
-      drawable = behind_all IsDrawable g.T.Part.bounds items i d x within c.loop-item.invariant.drawable;
+      drawable = grind (arith, common_steps);
     }

@@ -1,6 +1,7 @@
-use Rattle.std.proofs.Common.{◌≡◌, ◌++◌, take, drop}
-use Rattle.std.specs.List.{All, flat_map}
-use Rattle.cj_model.specs.Macros.{draws_from, state_after, each_rewritten, IsDrawable}
+use Rattle.std.proofs.Common.{◌≡◌, true, ◌++◌, take, drop}
+use Rattle.std.specs.List.{flat_map}
+use Rattle.cj_model.specs.Macros.{state_after}
+use Rattle.cj_macro.specs.Drawable.{are_drawable}
 use Rattle.cj_macro.proofs.Drawing.{rest_rewritten}
 use Rattle.cj_macro.proofs.part.ListOfPart.rewrite.Given as goal
 
@@ -10,5 +11,5 @@ invariant-loop-item g l =
     record {
       items : take l.item-index l.item-items ++ rest l.draw (drop l.item-index l.item-items) ≡ rest l.fn.draw l.fn.self;
       state : state_after g.D.Draw.later l.draw (flat_map g.T.Part.bounds (drop l.item-index l.item-items)) ≡ state_after g.D.Draw.later l.fn.draw (flat_map g.T.Part.bounds l.fn.self);
-      drawable : All IsDrawable (flat_map g.T.Part.bounds (drop l.item-index l.item-items));
+      drawable : are_drawable (flat_map g.T.Part.bounds (drop l.item-index l.item-items)) ≡ true;
     }
