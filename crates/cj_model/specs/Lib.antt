@@ -12,7 +12,9 @@ pub mod Grammar
 pub mod Histories
 pub mod Legality
 pub mod Lexical
+pub mod Lent
 pub mod Literals
+pub mod Macros
 pub mod Moves
 pub mod Order
 pub mod Placements

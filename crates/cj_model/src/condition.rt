@@ -67,6 +67,8 @@ impl CondNode {
 
 impl Cond {
     ghost use Rattle.std.specs.Prelude.{◌≡◌};
+    ghost use Rattle.std.specs.Borrow.{sem};
+    ghost use Rattle.cj_model.specs.Lent.{LendsRoot};
     ghost use Rattle.cj_model.specs.ConditionShape.{shape};
 
     pub fn of(root: CondNode) -> Cond
@@ -79,6 +81,14 @@ impl Cond {
         ensures { shape result.now ≡ self.now }
     {
         &self.root
+    }
+
+    /// The tree, to be changed in place.
+    pub fn root_mut(&mut self) -> &mut CondNode
+        ensures* lends { sem 𝓛 (LendsRoot self.entry result) }
+        ensures root { shape result.now ≡ self.old }
+    {
+        &mut self.root
     }
 }
 

@@ -24,6 +24,9 @@ impl<T> Model for ListOf<T> {
 }
 
 impl<T> ListOf<T> {
+    ghost use Rattle.std.specs.Borrow.{sem};
+    ghost use Rattle.cj_model.specs.Lent.{LendsItems};
+
     /// The empty list, which takes no memory.
     pub fn new(alloc: Global) -> Self
         ensures { result ≡ [] }
@@ -50,6 +53,14 @@ impl<T> ListOf<T> {
         ensures { result.now ≡ self.now }
     {
         &self.items
+    }
+
+    /// The items, to be changed in place.
+    pub fn as_mut_slice(&mut self) -> &mut [T]
+        ensures* lends { sem 𝓛 (LendsItems T.row self.entry result) }
+        ensures items { result.now ≡ self.old }
+    {
+        self.items.as_mut_slice()
     }
 
     pub fn len(&self) -> usize

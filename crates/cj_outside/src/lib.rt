@@ -1,15 +1,20 @@
-//! The outside as two traits: a `Source` gives bytes and a `Sink` takes them.
+//! The outside as traits: a `Source` gives bytes, a `Sink` takes them, a `Clock` tells the time and a `Draw` gives random numbers.
 //!
-//! Each object may tell the bytes that it has left or holds, and counts its faults: a call answers that it failed only where that count has risen. On them
-//! stand `read_to_end`, `write_all` and `Lines`, which gives a source line by line, and two objects in memory that fail at chosen calls.
+//! Each source and sink may tell the bytes that it has left or holds, and counts its faults: a call answers that it failed only where that count has risen. On
+//! them stand `read_to_end`, `write_all` and `Lines`, which gives a source line by line, and two objects in memory that fail at chosen calls. Clocks and draws
+//! can't fail.
 #![tactic(auto)]
 
+mod clock;
+mod draw;
 mod lines;
 mod memory;
 mod sink;
 mod source;
 mod streams;
 
+pub use clock::{Clock, FixedClock};
+pub use draw::{Draw, ListDraw, PcgDraw};
 pub use lines::{LINE_LIMIT, Line, LineError, Lines};
 pub use memory::{MemSink, MemSource};
 pub use sink::{OutError, Sink};

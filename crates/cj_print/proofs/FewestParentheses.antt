@@ -177,10 +177,10 @@ and_end_fits : (m : AndsForm) (x : PrimForm) (d : ℕ) → AndsNest d m → Prim
 and_end_fits c.no_and x d h k = (k, tt)
 and_end_fits (c.and p m) x d h k = (h.0, and_end_fits m x d h.1 k)
 
-or_also_fits : (f : CondForm) (x : ConjForm) (d : ℕ) → CondNests d f → ConjNests d x → CondNests d (or_also f x)
+pub or_also_fits : (f : CondForm) (x : ConjForm) (d : ℕ) → CondNests d f → ConjNests d x → CondNests d (or_also f x)
 or_also_fits (c.ors y m) x d h k = (h.0, or_end_fits m x d h.1 k)
 
-and_also_fits : (f : ConjForm) (x : PrimForm) (d : ℕ) → ConjNests d f → PrimNests d x → ConjNests d (and_also f x)
+pub and_also_fits : (f : ConjForm) (x : PrimForm) (d : ℕ) → ConjNests d f → PrimNests d x → ConjNests d (and_also f x)
 and_also_fits (c.ands p m) x d h k = (h.0, and_end_fits m x d h.1 k)
 
 -- ---- the canonical form nests no deeper than another

@@ -88,7 +88,7 @@ free_is_fine n h =
 -- ---- requests
 
 -- a plain request is written in its canonical text, where its parts are fine and its form fits and means it
-written_in_canonical : (r : Request) → is_plain r ≡ true → FineRequest r → StatementFits (form r) → r ≡ statement_meant (form r) → IsWritten r
+pub written_in_canonical : (r : Request) → is_plain r ≡ true → FineRequest r → StatementFits (form r) → r ≡ statement_meant (form r) → IsWritten r
 written_in_canonical r plain fine fits meant =
     let text = canonical r in
     let tokens = statement_tokens (form r) [] in
@@ -123,7 +123,7 @@ create_written s table columns some few =
 -- ---- INSERT
 
 -- the literal of a constant can be spelled
-literal_fine : (v : Value) → IsConstant v → FineTerm (Lit v)
+pub literal_fine : (v : Value) → IsConstant v → FineTerm (Lit v)
 literal_fine (Int (pos n)) h = omega (arith, h)
 literal_fine (Int (negsuc n)) h = omega (arith, h)
 literal_fine (Text x) h = h

@@ -1,0 +1,6 @@
+pub mod Drawing
+pub mod Examples
+pub mod Plainness
+pub mod RewrittenConditions
+pub mod RewrittenTerms
+pub mod Written

@@ -1,0 +1,57 @@
+//! Conditions.
+
+ghost use Rattle.std.specs.Prelude.{◌≡◌, true};
+ghost use Rattle.cj_model.specs.ConditionShape.{shape};
+ghost use Rattle.cj_model.specs.Macros.{condition_bounds, draws_from, rewritten_condition, rewritten_where, state_after, where_bounds};
+ghost use Rattle.cj_macro.specs.Drawable.{are_drawable};
+
+use crate::part::Part;
+use cj_model::{Cond, CondNode};
+use cj_outside::Draw;
+
+/// Puts values in place of the calls in a condition's tree.
+#[tactic(auto, using(crate::proofs::Drawing::front_draws, crate::proofs::Drawing::behind_draws))]
+fn rewrite_node<D: Draw>(node: &mut CondNode, now: i64, draw: &mut D)
+    requires { are_drawable (condition_bounds (shape node.old)) ≡ true }
+    ensures rewritten { shape node.new ≡ rewritten_condition now (draws_from D.drawn D.later draw.old (condition_bounds (shape node.old))) (shape node.old) }
+    ensures draw { draw.new ≡ state_after D.later draw.old (condition_bounds (shape node.old)) }
+{
+    match node {
+        CondNode::Test(_, left, right) => {
+            left.rewrite(now, draw);
+            right.rewrite(now, draw);
+        }
+        CondNode::Not(inner) => rewrite_node(inner, now, draw),
+        CondNode::And(left, right) => {
+            rewrite_node(left, now, draw);
+            rewrite_node(right, now, draw);
+        }
+        CondNode::Or(left, right) => {
+            rewrite_node(left, now, draw);
+            rewrite_node(right, now, draw);
+        }
+    }
+}
+
+impl Part for Cond {
+    ghost bounds = { condition_bounds };
+
+    ghost rewritten = { rewritten_condition };
+
+    fn rewrite<D: Draw>(&mut self, now: i64, draw: &mut D) {
+        rewrite_node(self.root_mut(), now, draw);
+    }
+}
+
+impl Part for Option<Cond> {
+    ghost bounds = { where_bounds };
+
+    ghost rewritten = { rewritten_where };
+
+    fn rewrite<D: Draw>(&mut self, now: i64, draw: &mut D) {
+        match self {
+            None => {}
+            Some(cond) => cond.rewrite(now, draw),
+        }
+    }
+}
