@@ -1,5 +1,6 @@
 pub mod Answering
-pub mod Asking
 pub mod BackendNames
 pub mod Limits
+pub mod Logins
 pub mod OneTalk
+pub mod Querying

@@ -1,5 +1,5 @@
 -- What is sent of a reply that is too long.
-use Rattle.std.proofs.Common.{◌≡◌, ℕ, ◌<◌, sym, ap, ◌∙◌, refl}
+use Rattle.std.proofs.Common.{◌≡◌, ◌<◌, ap, ◌∙◌, refl}
 use Rattle.std.proofs.lemmas.Bool.{lt-leb}
 use Rattle.cj_model.specs.declared.answer.Answer.{Answer}
 use Rattle.cj_model.specs.declared.answer.Reply.{Reply}

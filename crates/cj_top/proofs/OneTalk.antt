@@ -1,5 +1,5 @@
 -- Bytes have one talk.
-use Rattle.std.proofs.Common.{◌≡◌, ◌⊎◌, ℕ, Bool, true, false, cond, List, [], ◌∷◌, refl, sym, ap, subst, ◌∙◌, inl, inr}
+use Rattle.std.proofs.Common.{◌≡◌, ℕ, Bool, true, false, List, [], ◌∷◌, refl, sym, ap, subst, ◌∙◌, inl, inr}
 use Rattle.std.specs.List.{flat_map}
 use Rattle.cj_model.specs.declared.message.Message.{Message}
 use Rattle.cj_model.specs.declared.message.Message.TheVariants as message
@@ -7,7 +7,7 @@ use Rattle.cj_model.specs.declared.session.SessionEnd.{SessionEnd}
 use Rattle.cj_model.specs.declared.request.Request.{Request}
 use Rattle.cj_model.specs.declared.answer.Reply.{Reply}
 use Rattle.cj_model.specs.Replies.{reply_bytes}
-use Rattle.cj_model.specs.Session.{Session, fresh, IsSyntax, IsRequest, QueryExchange, Exchange, Exchanges, request_reply, request_after, limited, answered, end_of, Talk}
+use Rattle.cj_model.specs.Session.{Session, fresh, IsRequest, QueryExchange, Exchange, Exchanges, request_reply, request_after, limited, answered, end_of, Talk}
 use Rattle.cj_model.proofs.OneReading.{one_reading}
 use Rattle.cj_sql.proofs.OneReading.{text_one}
 
