@@ -94,7 +94,7 @@ fn looked_up<'a>(
 }
 
 /// The key that each row that meets the condition has, where the condition says it.
-fn key_of<'a>(condition: &'a Option<Predicate>, place: usize) -> Option<&'a Value>
+fn pinned_key<'a>(condition: &'a Option<Predicate>, place: usize) -> Option<&'a Value>
     ensures { IfSome result (λ key. IsKeyOf place condition.now key.now) }
 {
     match condition {
@@ -113,7 +113,7 @@ pub fn matching<'a>(
     ensures { IfOk result (λ rows. map deref rows.items ≡ filter (evaluation.meets condition.now) view.now.rows) }
 {
     view.legal();
-    match key_of(condition, view.schema().key as usize) {
+    match pinned_key(condition, view.schema().key as usize) {
         Some(key) => looked_up(alloc, view, condition, key),
         None => scanned(alloc, view, condition),
     }
