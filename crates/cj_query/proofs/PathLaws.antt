@@ -18,7 +18,7 @@ use Rattle.cj_model.specs.Tables.{Rises, by_key, cell}
 use Rattle.cj_model.specs.Order.{SortKey, before, by_sort_key, by_sort_keys, cut, ordered}
 use Rattle.cj_model.specs.Queries.{aggregates, first_of, gathered, groups_answered, sort_key_of}
 use Rattle.cj_model.specs.Scopes.{Scope, place}
-use Rattle.cj_table.specs.Lookups.{row_with_key}
+use Rattle.cj_rows.specs.Lookups.{row_with_key}
 use Rattle.cj_query.specs.Paths.{PinsTo, answers_each, falls_by, follows_rows, is_falling_at, is_led_by, is_rising_at, joined_limit, reverses_rows}
 use Rattle.cj_query.proofs.KeyLaws.{by_sort_keys_total, always_in_order}
 use Rattle.cj_query.proofs.LimitLaws.{cut_twice}

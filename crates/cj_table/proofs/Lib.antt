@@ -1,12 +1,2 @@
-pub mod ConversionLaws
-pub mod EntryLaws
-pub mod LastLaws
-pub mod RowEntryLaws
-pub mod RowLaws
-pub mod ScanLaws
-pub mod StoredLaws
 pub mod CarriedLaws
-pub mod PlanLaws
-pub mod UpdateRefusals
-pub mod Inserted
 pub mod WrittenLaws

@@ -25,9 +25,9 @@ use Rattle.cj_model.specs.declared.answer.Refusal.{Refusal}
 use Rattle.cj_model.specs.declared.schema.Schema.{Schema}
 use Rattle.cj_model.specs.declared.value.Value.{Value}
 use Rattle.cj_model.specs.declared.codes.TheConstants.{NO_TABLE, LOCKED}
-use Rattle.cj_table.specs.declared.plan.Plan.{Plan}
-use Rattle.cj_table.specs.Plans.{Plans}
-use Rattle.cj_table.specs.Stored.{IsChangeOf, changed_slot, rows_after}
+use Rattle.cj_plan.specs.declared.plan.Plan.{Plan}
+use Rattle.cj_plan.specs.Plans.{Plans}
+use Rattle.cj_rows.specs.Stored.{IsChangeOf, changed_slot, rows_after}
 use Rattle.cj_model.specs.Tables.{IsDatabase, IsSlot, put_by, by_table, name_cmp, table_of, slot_of}
 use Rattle.cj_model.specs.Changes.{Changed, bare}
 use Rattle.cj_model.specs.Updates.{change}

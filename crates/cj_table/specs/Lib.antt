@@ -1,10 +1,1 @@
-pub mod Assignments
 pub mod Carried
-pub mod Entries
-pub mod Inserts
-pub mod Layers
-pub mod Lookups
-pub mod Plans
-pub mod RowEntries
-pub mod Scans
-pub mod Stored

@@ -2,15 +2,11 @@
 
 ghost use Rattle.std.specs.Prelude.{◌≡◌, All, None, Some, IfOk, OnOk};
 ghost use Rattle.cj_model.specs.Tables.{IsSlot, IsTable, Rises, by_key};
-ghost use Rattle.cj_table.specs.RowEntries.{Turns};
-ghost use Rattle.cj_table.specs.RowEntries as entries;
+ghost use Rattle.cj_rows.specs.RowEntries.{Turns};
+ghost use Rattle.cj_rows.specs.RowEntries as entries;
 
-use crate::keys::key_of;
-use crate::row_map::RowMap;
-use crate::scan::Scan;
-use crate::stored::StoredTable;
-use crate::view::View;
 use cj_model::{Db, Draft, Duplicate, NoMemory, Rows, Slot, Table};
+use cj_rows::{RowMap, Scan, StoredTable, View, key_of};
 use std::alloc::Global;
 
 /// The changes that put the rows at their keys.

@@ -5,10 +5,10 @@ ghost use Rattle.std.specs.Str.{bytes_eq};
 ghost use Rattle.cj_model.specs.Steps.{aborted, committed, dropped};
 ghost use Rattle.cj_model.specs.Tables.{table_of};
 
-use crate::refusals::bare;
 use crate::slots::find;
-use crate::stored::StoredTable;
 use cj_model::{LOCKED, NO_TABLE, Name, Outcome, Refusal};
+use cj_plan::bare;
+use cj_rows::StoredTable;
 use std::alloc::Global;
 
 fn remove_slot(slots: &mut Vec<StoredTable>, name: &Name)

@@ -4,9 +4,9 @@ ghost use Rattle.std.specs.Prelude.{◌≡◌, ◌<◌, ◌≤◌, ◌==◌, cou
 ghost use Rattle.cj_model.specs.Steps as steps;
 ghost use Rattle.cj_model.specs.Tables as tables;
 
-use crate::names::is_distinct;
-use crate::stored::StoredTable;
 use cj_model::{ColDef, Column, Columns, Create, Names, NoMemory, Schema};
+use cj_plan::is_distinct;
+use cj_rows::StoredTable;
 use std::alloc::Global;
 
 fn names_of(alloc: Global, columns: &[ColDef]) -> Result<Names, NoMemory>

@@ -7,16 +7,14 @@ ghost use Rattle.cj_model.specs.Steps.{written};
 ghost use Rattle.cj_model.specs.Updates.{change};
 ghost use Rattle.cj_model.specs.Tables.{IsDatabase, IsSlot, by_table, column_limit, put_by, slot_of, table_of};
 ghost use Rattle.cj_table.specs.Carried.{Carries, CarriesSlot, IsPlace, change_of};
-ghost use Rattle.cj_table.specs.Plans.{PlansChange};
+ghost use Rattle.cj_plan.specs.Plans.{PlansChange};
 
-use crate::plan::{Planned, planned};
-use crate::refusals::bare;
 use crate::schemas::{empty_table, makes_schema};
-use crate::stored::StoredTable;
-use crate::view::View;
 use cj_model::{
     BAD_COLUMNS, Create, LOCKED, NO_TABLE, Name, NoMemory, Outcome, Refusal, TABLE_EXISTS, Write,
 };
+use cj_plan::{Planned, bare, planned};
+use cj_rows::{StoredTable, View};
 use std::alloc::Global;
 use std::cmp::Ordering;
 

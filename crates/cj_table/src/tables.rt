@@ -9,10 +9,9 @@ ghost use Rattle.cj_table.specs.Carried.{Carries};
 use crate::conversion::{copied_slots, stored_slots};
 use crate::ends::{abort_slots, commit_slots, drop_slot};
 use crate::slots::{create_slot, find, write_slots};
-use crate::stored::StoredTable;
-use crate::view::View;
 use crate::writers::writers_in;
 use cj_model::{Create, Db, Name, NoMemory, Outcome, Write};
+use cj_rows::{StoredTable, View};
 use std::alloc::Global;
 use std::marker::Model;
 

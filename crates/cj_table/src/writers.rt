@@ -6,8 +6,8 @@ ghost use Rattle.cj_model.specs.Storable.{writers};
 ghost use Rattle.cj_model.specs.Tables.{put_by};
 ghost use Rattle.cj_table.specs.Carried.{IsGap};
 
-use crate::stored::StoredTable;
 use cj_model::NoMemory;
+use cj_rows::StoredTable;
 use std::alloc::Global;
 use std::cmp::Ordering;
 

@@ -4,7 +4,7 @@ use Rattle.std.specs.declared.option.Option.TheVariants.{Some}
 use Rattle.std.specs.BTreeMap.{insert_entry}
 use Rattle.cj_model.specs.Values.{value_cmp}
 use Rattle.cj_model.specs.Tables.{cell}
-use Rattle.cj_table.specs.RowEntries as entries
+use Rattle.cj_rows.specs.RowEntries as entries
 use Rattle.cj_table.proofs.conversion.puts.Given as goal
 
 abbrev pub invariant-loop-row : goal.invariant-loop-row

@@ -1,0 +1,3 @@
+pub mod Inserted
+pub mod PlanLaws
+pub mod UpdateRefusals

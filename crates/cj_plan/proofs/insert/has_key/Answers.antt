@@ -1,0 +1,15 @@
+use Rattle.std.proofs.Common.{ap, ◌∙◌}
+use Rattle.std.specs.Prelude.{is_some}
+use Rattle.cj_rows.specs.Lookups.{row_with_key}
+use Rattle.cj_model.specs.declared.value.Value.{Value}
+use Rattle.cj_model.specs.declared.schema.Schema.{Schema}
+use Rattle.cj_model.specs.Tables.{cell}
+use Rattle.cj_plan.proofs.PlanLaws.{is_some-copied, found_key}
+use Rattle.cj_plan.proofs.insert.has_key.Goals as goal
+
+pub returns : goal.returns
+returns c =
+    let t = c.args.view.now in
+    c.is_some.ensures ∙ is_some-copied c.find.result ∙ ap is_some c.find.ensures
+    ∙ ap (λ (v : Value). is_some (row_with_key t.schema.key t.rows v)) (c.key_in-key.ensures ∙ ap (λ (s : Schema). cell c.args.row.now s.key) c.schema.ensures)
+    ∙ found_key t.schema.key t.rows c.args.row.now

@@ -1,0 +1,24 @@
+use Rattle.std.proofs.Common.{◌≡◌, false, not, ◌==◌, List, length, map, subst, sym, ap, ◌∙◌}
+use Rattle.std.specs.List.{list_any}
+use Rattle.cj_model.specs.declared.term.Term.{Term}
+use Rattle.cj_model.specs.Changes.{Changed, row_of, lists_stranger, lists_unevenly}
+use Rattle.cj_model.specs.declared.schema.Schema.{Schema}
+use Rattle.cj_plan.specs.Inserts.{with_fitting_rows}
+use Rattle.cj_plan.specs.Plans.{Plans}
+use Rattle.cj_plan.proofs.Inserted.{inserted_rows}
+use Rattle.cj_plan.proofs.insert.inserted.Goals as goal
+
+pub returns : goal.returns
+returns c =
+    let t = c.args.view.now in
+    let names = c.args.names.now in
+    let tuples = c.args.tuples.now in
+    let columns = c.as_slice-columns.ensures ∙ ap (λ (s : Schema). s.columns) c.schema.ensures in
+    let known : lists_stranger t.schema.columns names ≡ false = ap (λ cs. lists_stranger cs names) (sym columns) ∙ sym c.lists_stranger.ensures ∙ c.if-lists_stranger.false in
+    let listed : lists_unevenly t.schema.columns names ≡ false = ap (λ cs. lists_unevenly cs names) (sym columns) ∙ sym c.lists_unevenly.ensures ∙ c.if-lists_unevenly.false in
+    let wide : list_any (λ (u : List Term). not (length u == length t.schema.columns)) tuples ≡ false =
+    ap (λ cs. list_any (λ (u : List Term). not (length u == length cs)) tuples) (sym columns) ∙ sym c.has_uneven.ensures ∙ c.if-has_uneven.false in
+    let rows : c.in_ok-rows.rows ≡ map (row_of t.schema.columns names) tuples = c.in_ok-rows.ensures ∙ ap (λ cs. map (row_of cs names) tuples) columns in
+    subst (λ (changed : Changed). Plans t changed c.in_ok-planned.planned)
+    (ap (with_fitting_rows t) rows ∙ inserted_rows t names tuples known listed wide)
+    c.in_ok-planned.ensures

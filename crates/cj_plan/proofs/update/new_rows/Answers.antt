@@ -1,0 +1,12 @@
+use Rattle.std.proofs.Common.{◌≡◌, true, sym, ◌∙◌}
+use Rattle.std.specs.Map.Iter.{deref}
+use Rattle.std.proofs.lemmas.Bool.{cond-true}
+use Rattle.cj_model.specs.Updates.{overflows}
+use Rattle.cj_plan.specs.Assignments.{assignments}
+use Rattle.cj_plan.proofs.PlanLaws.{any_at, from_none}
+use Rattle.cj_plan.proofs.update.new_rows.Goals as goal
+
+pub returns-in-None : goal.returns-in-None
+returns-in-None c =
+    let full : overflows (assignments c.args.assigns.now) c.row-item.result.now ≡ true = from_none _ _ (sym c.in-None.is ∙ c.in_ok-new.ensures) in
+    sym (cond-true _ _ _ (any_at deref (overflows (assignments c.args.assigns.now)) c.args.rows.now c.loop-row.row-index c.row-item.result c.loop-row-test.true c.row-item.is full))

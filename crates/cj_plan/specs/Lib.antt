@@ -1,0 +1,3 @@
+pub mod Assignments
+pub mod Inserts
+pub mod Plans

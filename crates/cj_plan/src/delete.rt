@@ -1,0 +1,62 @@
+//! DELETE.
+
+ghost use Rattle.std.specs.Prelude.{◌≡◌, map, option_map, IfOk};
+ghost use Rattle.std.specs.Map.Iter.{deref};
+ghost use Rattle.cj_model.specs.Scopes as scopes;
+ghost use Rattle.cj_model.specs.Updates as updates;
+ghost use Rattle.cj_plan.specs.Plans.{PlansChange};
+ghost use Rattle.cj_rows.specs.RowEntries as entries;
+
+use crate::conditions::{bound, matching, mixes_kinds, names_stranger};
+use crate::plan::{Plan, Planned};
+use crate::refusals::bare;
+use cj_expr::{Predicate, Scope};
+use cj_model::{Cond, NO_COLUMN, NoMemory, Row, WRONG_TYPE};
+use cj_rows::{RowMap, View, key_of};
+use std::alloc::Global;
+
+/// The changes that take the rows out.
+fn removals(alloc: Global, place: usize, rows: &[&Row]) -> Result<RowMap, NoMemory>
+    ensures { IfOk result (λ changes. changes ≡ entries.removals place (map deref rows.now)) }
+{
+    let mut changes = RowMap::new(alloc);
+    for row in rows {
+        let key = key_of(alloc, *row, place)?;
+        changes.insert(key, None)?;
+    }
+    Ok(changes)
+}
+
+/// What takes the rows that meet the condition out of a table.
+fn without_rows(
+    alloc: Global,
+    view: &View,
+    condition: &Option<Predicate>,
+) -> Result<Planned, NoMemory>
+    ensures { PlansChange view.now (updates.without_rows view.now.rows condition.now) result }
+{
+    view.legal();
+    let rows = matching(alloc, view, condition)?;
+    let changes = removals(alloc, view.schema().key as usize, &rows)?;
+    Ok(Ok(Plan {
+        changes,
+        count: view.count() - rows.len(),
+        written: rows.len() as u64,
+    }))
+}
+
+/// What a DELETE is to change of a table.
+pub fn deleted(alloc: Global, view: &View, cond: &Option<Cond>) -> Result<Planned, NoMemory>
+    ensures { PlansChange view.now (updates.deleted view.now cond.now) result }
+{
+    let scope = Scope::of(alloc, &[view.schema()])?;
+    if names_stranger(&scope, cond) {
+        return Ok(Err(bare(NO_COLUMN)));
+    }
+    if mixes_kinds(&scope, cond) {
+        return Ok(Err(bare(WRONG_TYPE)));
+    }
+    let condition = bound(alloc, &scope, cond)?;
+    let planned = without_rows(alloc, view, &condition)?;
+    Ok(planned)
+}

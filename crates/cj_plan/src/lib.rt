@@ -1,0 +1,14 @@
+//! What INSERT, UPDATE and DELETE change of a table, or the first refusal.
+#![tactic(auto)]
+
+mod conditions;
+mod delete;
+mod insert;
+mod names;
+mod plan;
+mod refusals;
+mod update;
+
+pub use names::is_distinct;
+pub use plan::{Plan, Planned, planned};
+pub use refusals::bare;

@@ -1,0 +1,247 @@
+//! UPDATE.
+
+ghost use Rattle.std.specs.Prelude.{◌≡◌, ◌||◌, cond, map, None, Some, option_map, slice_set, IfOk};
+ghost use Rattle.std.specs.List.{list_any};
+ghost use Rattle.std.specs.Map.Iter.{deref};
+ghost use Rattle.cj_model.specs.Evaluation.{is_outside, worth};
+ghost use Rattle.cj_model.specs.Scopes as scopes;
+ghost use Rattle.cj_model.specs.Updates as updates;
+ghost use Rattle.cj_expr.specs.Shapes.{formula};
+ghost use Rattle.cj_plan.specs.Assignments.{KeepsKey, assignment, assignments, values_or_none};
+ghost use Rattle.cj_plan.specs.Plans.{PlansChange};
+ghost use Rattle.cj_rows.specs.RowEntries as entries;
+
+use crate::conditions::{bound, matching, mixes_kinds, names_stranger};
+use crate::names::is_distinct;
+use crate::plan::{Plan, Planned};
+use crate::refusals::bare;
+use cj_expr::{Formula, Predicate, Scope, ValueError, formula_of};
+use cj_model::{
+    BAD_COLUMNS, ColRef, Cond, Duplicate, NO_COLUMN, Names, NoMemory, OVERFLOW, Row, Set, Value,
+    WRONG_TYPE,
+};
+use cj_rows::{RowMap, View, key_of};
+use std::alloc::Global;
+
+/// A place of a row, and what is put there.
+#[derive(Drop)]
+pub struct Assignment {
+    place: usize,
+    value: Formula,
+}
+
+fn column_set(set: &Set) -> ColRef
+    ensures { result ≡ updates.column_set set.now }
+{
+    ColRef {
+        table: None,
+        column: set.column.copy(),
+    }
+}
+
+fn place_set(scope: &Scope, set: &Set) -> usize
+    ensures { result ≡ scopes.place scope.now (updates.column_set set.now) }
+{
+    scope.place(&column_set(set)).unwrap_or(0)
+}
+
+fn set_names_stranger(scope: &Scope, set: &Set) -> bool
+    ensures { result ≡ updates.set_names_stranger scope.now set.now }
+{
+    scope.is_stranger(&column_set(set)) || scope.expr_names_stranger(&set.value)
+}
+
+fn set_mixes_kinds(scope: &Scope, set: &Set) -> bool
+    ensures { result ≡ updates.set_mixes_kinds scope.now set.now }
+{
+    scope.adds_text(&set.value)
+        || scope.kind(place_set(scope, set)) != scope.kind_of_expr(&set.value)
+}
+
+fn any_names_stranger(scope: &Scope, sets: &[Set]) -> bool
+    ensures { result ≡ list_any (updates.set_names_stranger scope.now) sets.now }
+{
+    sets.iter().any(|set| set_names_stranger(scope, set))
+}
+
+/// Whether a column that is named is none of the table's.
+fn has_stranger(scope: &Scope, sets: &[Set], when: &Option<Cond>) -> bool
+    ensures { result ≡ (list_any (updates.set_names_stranger scope.now) sets.now || scopes.where_names_stranger scope.now when.now) }
+{
+    any_names_stranger(scope, sets) || names_stranger(scope, when)
+}
+
+fn any_sets_key(scope: &Scope, key: usize, sets: &[Set]) -> bool
+    ensures { result ≡ list_any (updates.sets_key scope.now key) sets.now }
+{
+    sets.iter().any(|set| place_set(scope, set) == key)
+}
+
+fn any_mixes_kinds(scope: &Scope, sets: &[Set]) -> bool
+    ensures { result ≡ list_any (updates.set_mixes_kinds scope.now) sets.now }
+{
+    sets.iter().any(|set| set_mixes_kinds(scope, set))
+}
+
+/// Whether kinds do not agree.
+fn has_mixed_kinds(scope: &Scope, sets: &[Set], when: &Option<Cond>) -> bool
+    ensures { result ≡ (list_any (updates.set_mixes_kinds scope.now) sets.now || scopes.where_mixes_kinds scope.now when.now) }
+{
+    any_mixes_kinds(scope, sets) || mixes_kinds(scope, when)
+}
+
+fn names_of(alloc: Global, sets: &[Set]) -> Result<Names, NoMemory>
+    ensures { IfOk result (λ names. names ≡ map (λ s. s.column) sets.now) }
+{
+    let mut names = Names::new(alloc);
+    for set in sets {
+        names.push(set.column.copy())?;
+    }
+    Ok(names)
+}
+
+/// Whether a column is set twice, or the key is set.
+fn sets_badly(alloc: Global, scope: &Scope, key: usize, sets: &[Set]) -> Result<bool, NoMemory>
+    ensures { IfOk result (λ bad. bad ≡ (updates.sets_twice sets.now || list_any (updates.sets_key scope.now key) sets.now)) }
+{
+    let names = names_of(alloc, sets)?;
+    Ok(!is_distinct(names.as_slice()) || any_sets_key(scope, key, sets))
+}
+
+fn assignment_of(alloc: Global, scope: &Scope, set: &Set) -> Result<Assignment, NoMemory>
+    ensures { IfOk result (λ made. assignment made ≡ updates.assignment_of scope.now set.now) }
+{
+    let value = formula_of(alloc, &set.value, scope)?;
+    Ok(Assignment {
+        place: place_set(scope, set),
+        value,
+    })
+}
+
+fn assignments_of(alloc: Global, scope: &Scope, sets: &[Set]) -> Result<Vec<Assignment>, NoMemory>
+    ensures { IfOk result (λ made. assignments made.items ≡ map (updates.assignment_of scope.now) sets.now) }
+{
+    let mut made = Vec::new(alloc);
+    for set in sets {
+        made.push(assignment_of(alloc, scope, set)?)?;
+    }
+    Ok(made)
+}
+
+/// The value of an expression in a row; none where it lies outside 64 bits.
+fn value_in(alloc: Global, value: &Formula, row: &[Value]) -> Result<Option<Value>, NoMemory>
+    ensures { IfOk result (λ found. found ≡ cond (is_outside (worth row.now (formula value.now))) None (Some (worth row.now (formula value.now)))) }
+{
+    match value.value_in(alloc, row) {
+        Ok(value) => Ok(Some(value)),
+        Err(ValueError::Overflow) => Ok(None),
+        Err(ValueError::NoMemory) => Err(NoMemory),
+    }
+}
+
+fn put(values: &mut Vec<Value>, place: usize, value: Value)
+    ensures { values.new.items ≡ slice_set values.old.items place value }
+{
+    if place < values.len() {
+        values[place] = value;
+    }
+}
+
+/// The row with its new values, all computed from the old row; none where one lies outside 64 bits.
+fn assigned(alloc: Global, row: &Row, assigns: &[Assignment]) -> Result<Option<Row>, NoMemory>
+    ensures { IfOk result (λ new. new ≡ cond (updates.overflows (assignments assigns.now) row.now) None (Some (updates.assigned (assignments assigns.now) row.now))) }
+{
+    let mut values = row.copy(alloc)?.into_vec();
+    for assign in assigns {
+        match value_in(alloc, &assign.value, row.as_slice())? {
+            Some(value) => put(&mut values, assign.place, value),
+            None => return Ok(None),
+        }
+    }
+    Ok(Some(Row::from_vec(values)))
+}
+
+/// The changes that give the rows their new values; none where one lies outside 64 bits.
+fn new_rows(
+    alloc: Global,
+    place: usize,
+    rows: &[&Row],
+    assigns: &[Assignment],
+) -> Result<Option<RowMap>, NoMemory>
+    ensures { IfOk result (λ changes. changes ≡ values_or_none place (assignments assigns.now) (map deref rows.now)) }
+{
+    let mut changes = RowMap::new(alloc);
+    for row in rows {
+        match assigned(alloc, *row, assigns)? {
+            Some(new) => {
+                let key = key_of(alloc, &new, place)?;
+                changes.insert(key, Some(new))?;
+            }
+            None => return Ok(None),
+        }
+    }
+    Ok(Some(changes))
+}
+
+/// What gives the rows that meet the condition their new values.
+fn with_new_values(
+    alloc: Global,
+    view: &View,
+    assigns: &[Assignment],
+    condition: &Option<Predicate>,
+) -> Result<Planned, NoMemory>
+    requires { KeepsKey view.now.schema.key (assignments assigns.now) }
+    ensures { PlansChange view.now (updates.with_new_values view.now.rows (assignments assigns.now) condition.now) result }
+{
+    view.legal();
+    let rows = matching(alloc, view, condition)?;
+    match new_rows(alloc, view.schema().key as usize, &rows, assigns)? {
+        Some(changes) => Ok(Ok(Plan {
+            changes,
+            count: view.count(),
+            written: rows.len() as u64,
+        })),
+        None => Ok(Err(bare(OVERFLOW))),
+    }
+}
+
+/// What carries out assignments that may be made.
+fn with_assignments(
+    alloc: Global,
+    view: &View,
+    scope: &Scope,
+    sets: &[Set],
+    when: &Option<Cond>,
+) -> Result<Planned, NoMemory>
+    requires { KeepsKey view.now.schema.key (map (updates.assignment_of scope.now) sets.now) }
+    ensures { PlansChange view.now (updates.with_new_values view.now.rows (map (updates.assignment_of scope.now) sets.now) (option_map (scopes.predicate_of scope.now) when.now)) result }
+{
+    let assigns = assignments_of(alloc, scope, sets)?;
+    let condition = bound(alloc, scope, when)?;
+    let planned = with_new_values(alloc, view, &assigns, &condition)?;
+    Ok(planned)
+}
+
+/// What an UPDATE is to change of a table.
+pub fn updated(
+    alloc: Global,
+    view: &View,
+    sets: &[Set],
+    when: &Option<Cond>,
+) -> Result<Planned, NoMemory>
+    ensures { PlansChange view.now (updates.updated view.now sets.now when.now) result }
+{
+    let schema = view.schema();
+    let scope = Scope::of(alloc, &[schema])?;
+    if has_stranger(&scope, sets, when) {
+        return Ok(Err(bare(NO_COLUMN)));
+    }
+    if sets_badly(alloc, &scope, schema.key as usize, sets)? {
+        return Ok(Err(bare(BAD_COLUMNS)));
+    }
+    if has_mixed_kinds(&scope, sets, when) {
+        return Ok(Err(bare(WRONG_TYPE)));
+    }
+    let planned = with_assignments(alloc, view, &scope, sets, when)?;
+    Ok(planned)
+}

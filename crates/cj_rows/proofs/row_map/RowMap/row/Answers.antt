@@ -1,0 +1,13 @@
+use Rattle.std.proofs.Common.{◌∙◌, sym, ap}
+use Rattle.std.specs.declared.option.Option.TheVariants.{None}
+use Rattle.cj_model.specs.Values.{value_cmp, value_total, value_exact}
+use Rattle.cj_rows.specs.Entries.{at}
+use Rattle.cj_rows.specs.Layers.{kept}
+use Rattle.cj_rows.proofs.EntryLaws.{at_kept, pick}
+use Rattle.cj_rows.proofs.row_map.RowMap.row.Goals as goal
+
+pub returns-in-Some : goal.returns-in-Some
+returns-in-Some c = c.as_ref.ensures.value ∙ ap (λ z. pick z None) c.in-Some.ensures.value ∙ sym (at_kept value_cmp value_total value_exact c.args.key.now c.self.inside.rows.entries c.self.invariant) ∙ ap (λ es. at value_cmp c.args.key.now (kept es)) c.self.view_is
+
+pub returns-in-None : goal.returns-in-None
+returns-in-None c = ap (λ z. pick z None) c.in-None.ensures.value ∙ sym (at_kept value_cmp value_total value_exact c.args.key.now c.self.inside.rows.entries c.self.invariant) ∙ ap (λ es. at value_cmp c.args.key.now (kept es)) c.self.view_is

@@ -1,0 +1,26 @@
+use Rattle.std.proofs.Common.{◌∙◌, [], ◌∷◌, sym, ap, subst}
+use Rattle.std.specs.declared.option.Option.TheVariants.{None}
+use Rattle.cj_rows.specs.RowEntries.{RowEntries, knows, overlaid, HasKeysOf}
+use Rattle.cj_rows.proofs.RowEntryLaws.{none_from, copied_none, set_shown, gone_shown, gone_keys, set_knows, gone_knows, prepared_keys}
+use Rattle.cj_rows.proofs.row_map.RowMap.set.Goals as goal
+
+pub returns-then-is_none-2-clause-shown : goal.returns-then-is_none-2-clause-shown
+returns-then-is_none-2-clause-shown c =
+    ap (overlaid c.args.below.now) c.remove.ensures.entries
+    ∙ gone_shown c.args.below.now c.args.self.now c.args.key c.args.row c.rises.ensures c.remove.ensures.rose
+    (none_from c.args.row c.if-is_none.ensures) (sym c.row.ensures ∙ copied_none c.row.result c.if-is_none-2.ensures)
+
+pub returns-then-is_none-2-clause-keys : goal.returns-then-is_none-2-clause-keys
+returns-then-is_none-2-clause-keys c = subst (λ (es : RowEntries). HasKeysOf c.args.self.now ((c.args.key, None) ∷ []) es) (sym c.remove.ensures.entries) (gone_keys c.args.below.now c.args.self.now c.args.key c.args.row c.rises.ensures c.remove.ensures.rose)
+
+pub returns-then-is_none-2-clause-above : goal.returns-then-is_none-2-clause-above
+returns-then-is_none-2-clause-above c = λ other l h. ap (λ (es : RowEntries). knows es other) c.remove.ensures.entries ∙ gone_knows c.args.below.now c.args.self.now c.args.key c.args.row c.rises.ensures c.remove.ensures.rose other l h
+
+pub returns-clause-shown : goal.returns-clause-shown
+returns-clause-shown c = ap (overlaid c.args.below.now) c.in-Ok.ensures.ok ∙ set_shown c.args.below.now c.args.self.now c.args.key c.args.row c.rises.ensures c.insert.ensures.rose
+
+pub returns-clause-keys : goal.returns-clause-keys
+returns-clause-keys c = subst (λ (es : RowEntries). HasKeysOf c.args.self.now ((c.args.key, None) ∷ []) es) (sym c.in-Ok.ensures.ok) (prepared_keys c.args.below.now c.args.self.now c.args.key c.args.row c.rises.ensures c.insert.ensures.rose)
+
+pub returns-clause-above : goal.returns-clause-above
+returns-clause-above c = λ other l h. ap (λ (es : RowEntries). knows es other) c.in-Ok.ensures.ok ∙ set_knows c.args.below.now c.args.self.now c.args.key c.args.row c.rises.ensures c.insert.ensures.rose other l h

@@ -1,0 +1,278 @@
+//! Rows by their keys.
+
+ghost use Rattle.std.specs.Prelude.{◌≡◌, ◌↔◌, ◌∷◌, [], true, None, Some, option_copied, reverse, IfOk, IsTrue, OnOk, OnErr};
+ghost use Rattle.std.specs.BTreeMap.{insert_entry, is_at};
+ghost use Rattle.std.specs.Map.{remove_entry, values_of};
+ghost use Rattle.std.specs.declared.cmp.Ordering.TheVariants.{Less};
+ghost use Rattle.cj_model.specs.Values.{value_cmp};
+ghost use Rattle.cj_rows.specs.Entries.{KeysRise, at};
+ghost use Rattle.cj_rows.specs.Layers.{changed, kept, merged};
+ghost use Rattle.cj_rows.specs.RowEntries as entries;
+
+use crate::scan::Scan;
+use crate::scan_back::ScanBack;
+use cj_model::{Duplicate, NoMemory, Row, Same, Value};
+use std::alloc::Global;
+use std::collections::BTreeMap;
+use std::marker::Model;
+
+/// Keys, each with its row, or with none: the rows of a table, or changes of them, where a key
+/// without a row says that its row goes. A key without a row among the rows of a table means
+/// nothing; it keeps a place, so that a row can be put there without memory.
+#[derive(Drop)]
+pub struct RowMap {
+    rows: BTreeMap<Value, Option<Row>>,
+}
+
+impl Model for RowMap {
+    ghost use Rattle.cj_model.specs.Values.{value_cmp};
+    ghost use Rattle.cj_rows.specs.Entries.{KeysRise};
+    ghost use Rattle.cj_rows.specs.RowEntries.{RowEntries};
+
+    ghost Value = { RowEntries };
+
+    ghost view = { λ map. map.rows.entries };
+
+    ghost invariant = { λ map. KeysRise value_cmp map.rows.entries };
+}
+
+impl RowMap {
+    /// No keys, which takes no memory.
+    pub fn new(alloc: Global) -> RowMap
+        ensures { result ≡ [] }
+    {
+        RowMap {
+            rows: BTreeMap::new(alloc),
+        }
+    }
+
+    /// The law that keys rise.
+    pub fn rises(&self)
+        ensures { KeysRise value_cmp self.now }
+    {
+        let _ = &self.rows;
+    }
+
+    /// What is known of a key.
+    pub fn get(&self, key: &Value) -> Option<&Option<Row>>
+        ensures { option_copied result ≡ at value_cmp key.now self.now }
+    {
+        self.rows.get(key)
+    }
+
+    /// The row at a key.
+    pub fn row(&self, key: &Value) -> Option<&Row>
+        ensures { option_copied result ≡ at value_cmp key.now (kept self.now) }
+    {
+        match self.rows.get(key) {
+            Some(row) => row.as_ref(),
+            None => None,
+        }
+    }
+
+    fn knows(&self, key: &Value) -> bool
+        ensures { result ≡ entries.knows self.now key.now }
+    {
+        self.rows.contains_key(key)
+    }
+
+    /// Puts a row or none at a key; want of memory leaves all as it was, and comes only at a key
+    /// that is not known.
+    pub fn insert(&mut self, key: Value, row: Option<Row>) -> Result<(), NoMemory>
+        ensures ok { OnOk result (self.new ≡ insert_entry value_cmp self.old key row) }
+        ensures err { OnErr result (self.new ≡ self.old) }
+        ensures unknown { OnErr result (at value_cmp key self.old ≡ None) }
+        ensures rises { KeysRise value_cmp self.new }
+        ensures rose { KeysRise value_cmp self.old }
+    {
+        self.rows.insert(key, row)?;
+        Ok(())
+    }
+
+    /// Makes an entry for a key, at which what shows over `below` stays as it is.
+    #[tactic(auto, using(crate::proofs::RowEntryLaws::extends_itself, crate::proofs::RowEntryLaws::has_keys_itself))]
+    fn prepare_key(&mut self, alloc: Global, below: &RowMap, key: &Value) -> Result<(), NoMemory>
+        ensures known { OnOk result (entries.knows self.new key.now ≡ true) }
+        ensures rises { KeysRise value_cmp self.new }
+        ensures extends { entries.Extends below.now self.old self.new }
+        ensures keys { entries.HasKeysOf self.old ((key.now, None) ∷ []) self.new }
+    {
+        self.rises();
+        below.rises();
+        if self.knows(key) {
+            return Ok(());
+        }
+        let row = copied(alloc, below.row(key))?;
+        let key = key.copy(alloc)?;
+        self.insert(key, row)?;
+        Ok(())
+    }
+
+    /// Makes entries for the keys of changes, at which what shows over `below` stays as it is.
+    pub fn prepare(
+        &mut self,
+        alloc: Global,
+        below: &RowMap,
+        changes: &RowMap,
+    ) -> Result<(), NoMemory>
+        ensures known { OnOk result (entries.KnowsKeys self.new changes.now) }
+        ensures extends { entries.Extends below.now self.old self.new }
+        ensures keys { entries.HasKeysOf self.old changes.now self.new }
+        ensures rises { KeysRise value_cmp self.new }
+    {
+        self.rises();
+        for (key, _) in &changes.rows {
+            self.prepare_key(alloc, below, key)?;
+        }
+        Ok(())
+    }
+
+    fn remove(&mut self, key: &Value)
+        ensures entries { self.new ≡ remove_entry (is_at (value_cmp key.now)) self.old }
+        ensures rises { KeysRise value_cmp self.new }
+        ensures rose { KeysRise value_cmp self.old }
+    {
+        self.rows.remove(key);
+    }
+
+    /// Makes one change, which takes no memory. Where nothing shows below, no entry is kept for a
+    /// row that goes.
+    fn set(&mut self, below: &RowMap, key: Value, row: Option<Row>)
+        requires { entries.knows self.old key ≡ true }
+        ensures shown { entries.overlaid below.now self.new ≡ changed value_cmp (entries.overlaid below.now self.old) key row }
+        ensures keys { entries.HasKeysOf self.old ((key, None) ∷ []) self.new }
+        ensures rises { KeysRise value_cmp self.new }
+        ensures above { (other : Value) → value_cmp key other ≡ Less → entries.knows self.old other ≡ true → entries.knows self.new other ≡ true }
+    {
+        below.rises();
+        if row.is_none() && below.row(&key).is_none() {
+            self.remove(&key);
+            return;
+        }
+        let Ok(()) = self.insert(key, row) else {
+            unreachable!()
+        };
+    }
+
+    /// Lays changes over the entries, whose keys are known: this takes no memory.
+    pub fn absorb(&mut self, below: &RowMap, changes: RowMap)
+        requires { entries.KnowsKeys self.old changes }
+        ensures shown { entries.overlaid below.now self.new ≡ merged value_cmp (entries.overlaid below.now self.old) changes }
+        ensures keys { entries.HasKeysOf self.old changes self.new }
+        ensures rises { KeysRise value_cmp self.new }
+    {
+        self.rises();
+        below.rises();
+        let RowMap { rows } = changes;
+        for (key, row) in rows {
+            self.set(below, key, row);
+        }
+    }
+}
+
+impl RowMap {
+    fn has(&self, key: &Value, row: &Row) -> bool
+        ensures { IsTrue result ↔ (at value_cmp key.now self.now ≡ Some (Some row.now)) }
+    {
+        match self.rows.get(key) {
+            Some(Some(found)) => found.is_same(row),
+            Some(None) => false,
+            None => false,
+        }
+    }
+
+    /// Fits the change at a row's key to the row: there is none where the row stays as it is, and one
+    /// that takes the row out where there was none.
+    pub fn settle(&mut self, key: Value, row: &Row) -> Result<(), NoMemory>
+        ensures settles { OnOk result (entries.Settles key row.now self.old self.new) }
+        ensures rises { OnOk result (KeysRise value_cmp self.new) }
+    {
+        self.rises();
+        if self.has(&key, row) {
+            self.remove(&key);
+            return Ok(());
+        }
+        if self.knows(&key) {
+            return Ok(());
+        }
+        self.insert(key, None)?;
+        Ok(())
+    }
+}
+
+impl RowMap {
+    /// Forgets a key that has no row.
+    fn forget_key(&mut self, key: &Value)
+        ensures kept { kept self.new ≡ kept self.old }
+        ensures rises { KeysRise value_cmp self.new }
+    {
+        self.rises();
+        if self.row(key).is_none() {
+            self.remove(key);
+        }
+    }
+
+    /// Forgets those keys of changes that have no row.
+    pub fn forget(&mut self, changes: RowMap)
+        ensures kept { kept self.new ≡ kept self.old }
+        ensures rises { KeysRise value_cmp self.new }
+    {
+        self.rises();
+        for (key, _) in &changes.rows {
+            self.forget_key(key);
+        }
+    }
+}
+
+impl RowMap {
+    /// The rows, in rising key.
+    pub fn scan(&self) -> Scan<'_>
+        ensures { result ≡ values_of (kept self.now) }
+    {
+        Scan::of(self.rows.iter())
+    }
+
+    /// The rows that changes leave of these, in rising key.
+    pub fn scan_under<'a>(&'a self, changes: &'a RowMap) -> Scan<'a>
+        ensures { result ≡ values_of (entries.overlaid self.now changes.now) }
+    {
+        Scan::under(self.rows.iter(), changes.rows.iter())
+    }
+
+    /// The rows, in falling key.
+    pub fn scan_back(&self) -> ScanBack<'_>
+        ensures { result ≡ reverse (values_of (kept self.now)) }
+    {
+        ScanBack::of(self.rows.iter())
+    }
+
+    /// The rows that changes leave of these, in falling key.
+    pub fn scan_back_under<'a>(&'a self, changes: &'a RowMap) -> ScanBack<'a>
+        ensures { result ≡ reverse (values_of (entries.overlaid self.now changes.now)) }
+    {
+        self.rises();
+        changes.rises();
+        ScanBack::under(self.rows.iter(), changes.rows.iter())
+    }
+
+    /// The row at a key that changes leave of these rows.
+    pub fn row_under<'a>(&'a self, changes: &'a RowMap, key: &Value) -> Option<&'a Row>
+        ensures { option_copied result ≡ at value_cmp key.now (entries.overlaid self.now changes.now) }
+    {
+        self.rises();
+        changes.rises();
+        match changes.get(key) {
+            Some(row) => row.as_ref(),
+            None => self.row(key),
+        }
+    }
+}
+
+fn copied(alloc: Global, row: Option<&Row>) -> Result<Option<Row>, NoMemory>
+    ensures { IfOk result (λ copy. copy ≡ option_copied row.entry) }
+{
+    match row {
+        Some(row) => Ok(Some(row.copy(alloc)?)),
+        None => Ok(None),
+    }
+}

@@ -1,7 +1,0 @@
-use Rattle.std.proofs.Common.{◌≡◌, map, take}
-use Rattle.cj_model.specs.Updates.{assignment_of}
-use Rattle.cj_table.specs.Assignments.{assignments}
-use Rattle.cj_table.proofs.update.assignments_of.Given as goal
-
-abbrev pub invariant-loop-set : goal.invariant-loop-set
-invariant-loop-set l = assignments l.made.items ≡ map (assignment_of l.scope) (take l.set-index l.sets)
