@@ -13,6 +13,8 @@ pub use scripted::play;
 pub use session::Session;
 
 #[cfg(test)]
+mod load_tests;
+#[cfg(test)]
 mod sql_cases;
 #[cfg(test)]
 mod sql_tests;

@@ -1,0 +1,119 @@
+//! Backends that are dumped, and what is loaded of that.
+
+ghost use Rattle.std.specs.Prelude.{◌≡◌};
+ghost use Rattle.cj_model.specs.Legality.{IsWritten};
+
+use cj_backend::{Backend, BackendError};
+use cj_flaky::Flaky;
+use cj_mem::MemBackend;
+use cj_model::{Asked, Duplicate, ListOf, Request, Text, Value};
+use cj_sql::{is_plain, read};
+use std::alloc::Global;
+use std::process::Abort;
+use std::test::Fail;
+
+/// The plain request that a text reads as.
+fn request(rt: &impl Abort, alloc: Global, text: &str) -> Request
+    ensures { IsWritten result }
+{
+    match read(alloc, text.as_bytes()) {
+        Ok(request) if is_plain(&request) => request,
+        _ => panic!(rt; "{text}"),
+    }
+}
+
+/// Makes a change outside transactions.
+fn change<B: Backend>(rt: &impl Abort, alloc: Global, backend: &mut B, login: &Text, text: &str)
+    ensures { B.begun backend.new ≡ B.begun backend.old }
+{
+    let given = match request(rt, alloc, text) {
+        Request::Create(create) => backend.create(login, &create),
+        Request::Write(write) => backend.write(login, 0, &write),
+        _ => panic!(rt; "{text}"),
+    };
+    assert!(rt; given.is_ok(), "{text}");
+}
+
+/// The number of rows that transaction `tx`, 0 for none, sees of the table, and the sum of their
+/// values.
+fn totals<B: Backend>(
+    rt: &impl Abort,
+    alloc: Global,
+    backend: &mut B,
+    login: &Text,
+    tx: u64,
+) -> Result<Vec<Value>, Fail> {
+    let text = "SELECT COUNT(*), SUM(v) FROM t";
+    let Request::Select(select) = request(rt, alloc, text) else {
+        panic!(rt; "{text}")
+    };
+    match backend.ask(login, tx, &select) {
+        Ok(Asked::Rows(answer)) => {
+            let mut totals = Vec::new(alloc);
+            for row in answer.rows.as_slice() {
+                for value in row.as_slice() {
+                    totals.push(value.copy(alloc)?)?;
+                }
+            }
+            Ok(totals)
+        }
+        _ => panic!(rt; "{text}"),
+    }
+}
+
+/// A backend with three rows, of which transaction 7 has changed one and deleted another.
+fn with_draft(rt: &impl Abort, alloc: Global, login: &Text) -> MemBackend {
+    let mut backend = MemBackend::new(alloc);
+    change(
+        rt,
+        alloc,
+        &mut backend,
+        login,
+        "CREATE TABLE t (k INTEGER PRIMARY KEY, v INTEGER)",
+    );
+    change(
+        rt,
+        alloc,
+        &mut backend,
+        login,
+        "INSERT INTO t VALUES (3, 9), (1, 5), (2, 7)",
+    );
+    assert!(rt; backend.begin(login, 7).is_ok());
+    for text in [
+        "UPDATE t SET v = v + 100 WHERE k = 1",
+        "DELETE FROM t WHERE k = 3",
+    ] {
+        let Request::Write(write) = request(rt, alloc, text) else {
+            panic!(rt; "{text}")
+        };
+        assert!(rt; backend.write(login, 7, &write).is_ok(), "{text}");
+    }
+    backend
+}
+
+#[test]
+fn what_is_loaded_is_what_was_held(rt: HostRuntime) -> Result<(), Fail> {
+    let alloc = rt.alloc();
+    let login = Text::of(Vec::new(alloc)).unwrap_or_else(|| panic!(&rt; "a text"));
+    let mut held = with_draft(&rt, alloc, &login);
+    let Ok(contents) = held.contents() else {
+        panic!(&rt; "contents")
+    };
+    // the first call fails, and the second holds the database
+    let mut loaded = Flaky::new(
+        MemBackend::new(alloc),
+        ListOf::from_vec(Vec::from_array(alloc, [1])?),
+    );
+    assert_eq!(rt;
+        loaded.load(contents.copy(alloc)?),
+        Err(BackendError::Failed)
+    );
+    assert_eq!(rt; loaded.load(contents), Ok(()));
+    assert_eq!(rt; loaded.counts().begun, 1);
+    for (tx, count, sum) in [(0, 3, 21), (7, 2, 112), (8, 3, 21)] {
+        let wanted = Vec::from_array(alloc, [Value::Int(count), Value::Int(sum)])?;
+        assert!(rt; totals(&rt, alloc, &mut held, &login, tx)? == wanted);
+        assert!(rt; totals(&rt, alloc, &mut loaded, &login, tx)? == wanted);
+    }
+    Ok(())
+}
