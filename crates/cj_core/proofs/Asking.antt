@@ -1,5 +1,5 @@
 -- What a world keeps where a backend is asked, and what it answers.
-use Rattle.std.proofs.Common.{◌≡◌, ℕ, ◌<◌, ◌≤◌, Bool, true, List, length, map, get_or, set, Option, None, Some, IfSome, Result, Ok, Err, IfOk, refl, ap, sym, ◌∙◌, subst, arith}
+use Rattle.std.proofs.Common.{◌≡◌, ℕ, ◌<◌, ◌≤◌, Bool, true, List, length, map, get_or, set, Option, None, Some, IfSome, Result, Ok, Err, IfOk, refl, ap, sym, ◌∙◌, subst}
 use Rattle.std.specs.Prelude.{◌↔◌}
 use Rattle.std.proofs.lemmas.List.{length-map, map-set, set-get_or}
 use Rattle.cj_model.specs.declared.database.Slot.{Slot}
@@ -10,16 +10,15 @@ use Rattle.cj_model.specs.declared.event.Event.{Event}
 use Rattle.cj_model.specs.declared.moves.OpenSession.{OpenSession}
 use Rattle.cj_model.specs.Queries.{ask}
 use Rattle.cj_model.specs.Placements.{everywhere}
-use Rattle.cj_model.specs.Histories.{log, free, enabled, at}
-use Rattle.cj_model.specs.Cores.{Core, position_at, session_at}
-use Rattle.cj_model.specs.Moves.{open_tx}
+use Rattle.cj_model.specs.Histories.{log, at}
+use Rattle.cj_model.specs.Cores.{position_at, session_at}
 use Rattle.cj_model.specs.Sound.{IsSound, Holds}
 use Rattle.cj_model.proofs.Soundness.{no_tx}
 use Rattle.cj_backend.specs.Backends.{IsAsked}
 use Rattle.cj_replica.specs.declared.cell.CellReadError.{CellReadError}
 use Rattle.cj_replica.specs.declared.cell.CellReadError.TheVariants as errors
 use Rattle.cj_replica.specs.Cells.{CellState, SaysAnswer}
-use Rattle.cj_core.specs.Worlds.{WorldState, core_of, world_of, IsCell}
+use Rattle.cj_core.specs.Worlds.{core_of, world_of, IsCell}
 use Rattle.cj_core.specs.Effects.{Asks}
 use Rattle.cj_core.specs.Kept.{Kept}
 use Rattle.cj_core.proofs.Keeping.{position_of, position_within, cells_set}

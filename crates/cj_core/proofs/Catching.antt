@@ -1,5 +1,5 @@
 -- What a cell that takes its next entry makes of the cells.
-use Rattle.std.proofs.Common.{◌≡◌, ◌≢◌, ℕ, zero, suc, ◌+◌, ◌<◌, ◌≤◌, ◌^◌, not, Bool, true, false, List, [], ◌∷◌, ◌++◌, length, map, take, get_or, set, fold, slice_get, All, Option, None, Some, option_map, IfSome, Result, Ok, Err, refl, ap, sym, ◌∙◌, subst, arith}
+use Rattle.std.proofs.Common.{◌≡◌, ◌≢◌, ℕ, suc, ◌+◌, ◌<◌, ◌≤◌, not, Bool, true, List, [], ◌∷◌, ◌++◌, length, map, take, get_or, set, slice_get, All, Option, Some, option_map, IfSome, Result, Ok, Err, refl, ap, sym, ◌∙◌, subst, arith}
 use Rattle.std.proofs.lemmas.Bool.{both_ways}
 use Rattle.std.proofs.lemmas.Grind.{fold-append}
 use Rattle.std.proofs.lemmas.List.{take_more, get_or_default, length-map}
@@ -11,17 +11,16 @@ use Rattle.cj_model.specs.declared.request.Entry.{Entry}
 use Rattle.cj_model.specs.declared.answer.Outcome.{Outcome}
 use Rattle.cj_model.specs.declared.event.Event.{Event}
 use Rattle.cj_model.specs.declared.event.Event.TheVariants.{Sched, Ended, ReadFailed, LogFailed, Disabled, Enabled, Marker}
-use Rattle.cj_model.specs.declared.moves.Did.{Did}
 use Rattle.cj_model.specs.declared.moves.Did.TheVariants as did
 use Rattle.cj_model.specs.declared.moves.OpenSession.{OpenSession}
 use Rattle.cj_model.specs.Plain.{request_of}
 use Rattle.cj_model.specs.Placements.{everywhere, part}
 use Rattle.cj_model.specs.Steps.{step}
 use Rattle.cj_model.specs.Tables.{table_of}
-use Rattle.cj_model.specs.Histories.{scheduled, log, run, at, said}
+use Rattle.cj_model.specs.Histories.{log, run, at}
 use Rattle.cj_model.specs.Legality.{Allowed, IsLegal, IsWritten}
 use Rattle.cj_model.specs.Cores.{position_at}
-use Rattle.cj_model.specs.Moves.{Takes, DoesEntry}
+use Rattle.cj_model.specs.Moves.{DoesEntry}
 use Rattle.cj_model.specs.Sound.{IsLone, Holds}
 use Rattle.cj_model.proofs.Effects.{is_there}
 use Rattle.cj_replica.specs.declared.cell.Caught.{Caught}

@@ -1,7 +1,6 @@
 -- What an end answers.
-use Rattle.std.proofs.Common.{◌≡◌, ◌≢◌, ◌⊎◌, inl, inr, ℕ, ◌+◌, ◌<◌, ◌≤◌, ◌^◌, ◌&&◌, ◌||◌, not, Bool, true, false, List, [], ◌∷◌, ◌++◌, length, map, slice_get, Option, None, Some, IsSome, refl, ap, sym, ◌∙◌, subst, arith, ⊎_elim}
-use Rattle.std.proofs.lemmas.Bool.{eqb-false, both_ways, and_parts, and_cases, or_cases, or_parts, not-true, not-false}
-use Rattle.std.proofs.lemmas.Option.{slice_get_within}
+use Rattle.std.proofs.Common.{◌≡◌, ◌≢◌, inl, inr, ℕ, ◌<◌, ◌≤◌, ◌^◌, ◌&&◌, ◌||◌, not, Bool, true, false, List, [], ◌∷◌, ◌++◌, length, map, slice_get, Option, None, Some, IsSome, refl, ap, sym, ◌∙◌, subst, arith, ⊎_elim}
+use Rattle.std.proofs.lemmas.Bool.{both_ways, and_parts, and_cases, or_cases, or_parts, not-true, not-false}
 use Rattle.cj_model.specs.declared.request.Entry.{Entry}
 use Rattle.cj_model.specs.declared.answer.Outcome.{Outcome}
 use Rattle.cj_model.specs.declared.answer.Refusal.{Refusal}
@@ -10,10 +9,10 @@ use Rattle.cj_model.specs.declared.event.Event.{Event}
 use Rattle.cj_model.specs.declared.event.Event.TheVariants.{Ended}
 use Rattle.cj_model.specs.declared.moves.OpenSession.{OpenSession}
 use Rattle.cj_model.specs.declared.codes.TheConstants.{UNFINISHED, STARVED_ALL}
-use Rattle.cj_model.specs.Placements.{everywhere, concerns}
+use Rattle.cj_model.specs.Placements.{everywhere}
 use Rattle.cj_model.specs.Histories.{has, log, done, free, opened, enabled, ends}
-use Rattle.cj_model.specs.Answering.{is_target, reply_of, Finished, Unfinished, AnswersEntry}
-use Rattle.cj_model.specs.Cores.{Core, position_at}
+use Rattle.cj_model.specs.Answering.{is_target, reply_of, AnswersEntry}
+use Rattle.cj_model.specs.Cores.{position_at}
 use Rattle.cj_model.specs.Moves.{behind}
 use Rattle.cj_model.specs.Sound.{Stands}
 use Rattle.cj_model.proofs.Pushed.{get_seam, enabled-push, log-same, ends-ended, length-ends}

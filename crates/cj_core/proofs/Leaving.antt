@@ -1,15 +1,13 @@
 -- How backends leave their cells, and what they hold then.
-use Rattle.std.proofs.Common.{◌≡◌, ℕ, ◌+◌, ◌<◌, ◌≤◌, Bool, true, List, [], ◌∷◌, ◌++◌, length, map, reverse, get_or, slice_get, Option, None, Some, refl, ap, sym, ◌∙◌, subst, arith, length-append, append-nil, eqb-true, ◌⊎◌, ⊎_elim}
-use Rattle.std.proofs.lemmas.Bool.{both_ways}
+use Rattle.std.proofs.Common.{◌≡◌, ℕ, ◌+◌, ◌<◌, ◌≤◌, Bool, true, List, [], ◌∷◌, ◌++◌, length, map, reverse, get_or, slice_get, Option, None, Some, refl, ap, sym, ◌∙◌, subst, arith, length-append, append-nil, eqb-true}
 use Rattle.std.proofs.lemmas.List.{reverse-reverse, length-reverse, length-map, get_or-map, nil_from_length, take_all}
 use Rattle.std.proofs.lemmas.Option.{slice_get-get_or}
 use Rattle.cj_model.specs.declared.database.Slot.{Slot}
 use Rattle.cj_model.specs.Placements.{everywhere, part}
-use Rattle.cj_model.specs.Histories.{has, log, done, free, enabled, run, at}
+use Rattle.cj_model.specs.Histories.{log, done, free, enabled, run, at}
 use Rattle.cj_model.specs.Cores.{position_at}
 use Rattle.cj_model.specs.Sound.{Stands, Holds}
 use Rattle.cj_model.proofs.Effects.{is_there, no_masks}
-use Rattle.cj_model.proofs.Masks.{has-zero}
 use Rattle.cj_replica.specs.Cells.{CellState}
 use Rattle.cj_core.specs.Worlds.{WorldState, IsWorld, IsCell}
 use Rattle.cj_core.specs.Starts.{AreHolding, AreCurrent}

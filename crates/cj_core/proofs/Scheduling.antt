@@ -1,11 +1,10 @@
 -- The next entry of a session, and what a schedule gives.
-use Rattle.std.proofs.Common.{◌≡◌, ℕ, zero, ◌+◌, ◌<◌, ◌≤◌, ◌^◌, inl, inr, true, false, List, Option, None, Some, Ok, Err, All, refl, ap, sym, ◌∙◌, subst, arith}
+use Rattle.std.proofs.Common.{◌≡◌, ℕ, ◌+◌, ◌<◌, ◌≤◌, ◌^◌, inl, inr, true, Option, None, Some, Ok, Err, refl, ap, sym, ◌∙◌, subst, arith}
 use Rattle.std.proofs.lemmas.List.Elements.{All-weaker}
 use Rattle.cj_model.specs.declared.request.Act.{Act}
 use Rattle.cj_model.specs.declared.request.Act.TheVariants as act
 use Rattle.cj_model.specs.declared.request.Request.{Request}
 use Rattle.cj_model.specs.declared.request.Entry.{Entry}
-use Rattle.cj_model.specs.declared.answer.Refusal.{Refusal}
 use Rattle.cj_model.specs.declared.codes.TheConstants.{NO_BACKEND, HISTORY_FULL}
 use Rattle.cj_model.specs.declared.moves.Moved.TheVariants as moved
 use Rattle.cj_model.specs.declared.moves.OpenSession.{OpenSession}
@@ -14,8 +13,8 @@ use Rattle.cj_model.specs.Plain.{act_of, request_of}
 use Rattle.cj_model.specs.Histories.{log}
 use Rattle.cj_model.specs.Legality.{IsWritten, IsFit, FitsTx}
 use Rattle.cj_model.specs.Answering.{Served, Unserved}
-use Rattle.cj_model.specs.Cores.{Core, session_at, session_of, fresh_session}
-use Rattle.cj_model.specs.Moves.{Given, is_open, forbidden_by, tx_of_act, open_tx, next_entry, history_full, SchedulesAct, SchedulesOf, Schedules, with_counted}
+use Rattle.cj_model.specs.Cores.{Core, session_at, session_of}
+use Rattle.cj_model.specs.Moves.{Given, is_open, forbidden_by, tx_of_act, open_tx, next_entry, SchedulesAct, SchedulesOf, Schedules, with_counted}
 use Rattle.cj_model.specs.Sound.{IsSound, IsLone}
 use Rattle.cj_model.proofs.Sessions.{session_at-is}
 use Rattle.cj_model.proofs.Soundness.{session_sound, no_tx, request_of-act}

@@ -1,5 +1,5 @@
 -- Where an open session stands, and what a change there makes of the list.
-use Rattle.std.proofs.Common.{◌≡◌, ◌≢◌, ℕ, zero, suc, ◌+◌, ◌<◌, ◌≤◌, ◌==◌, not, Bool, true, false, cond, List, [], ◌∷◌, ◌++◌, length, get_or, set, take, drop, slice_get, Option, None, Some, Result, Ok, Err, MatchResult, MatchOption, IfSome, option_copied, filter, All, refl, ap, sym, ◌∙◌, subst, arith, ⊎_elim}
+use Rattle.std.proofs.Common.{◌≡◌, ◌≢◌, ℕ, zero, suc, ◌<◌, ◌≤◌, ◌==◌, Bool, true, false, cond, List, [], ◌∷◌, length, get_or, set, slice_get, None, Some, Result, Ok, Err, MatchResult, All, refl, ap, sym, ◌∙◌, subst, arith, ⊎_elim}
 use Rattle.std.specs.List.{remove}
 use Rattle.std.specs.List.Sorted.{IsSearchInRange, IsBinarySearchResult, IsNonDecreasingBy}
 use Rattle.std.specs.Ordering.{nat_cmp, ordering_index}

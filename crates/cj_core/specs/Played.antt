@@ -1,13 +1,11 @@
 -- Lists of moves: what each came to, and how far a list came.
 use Rattle.std.specs.Prelude.{◌≡◌, ℕ, ◌≤◌, Bool, true, List, [], ◌∷◌, length, take, Ok, Err}
 use Rattle.std.specs.declared.option.Option.TheVariants.{Some}
-use mathlib.Core.List.{IsPrefix}
 use Rattle.cj_outside.specs.Causes.{Rose}
 use Rattle.cj_model.specs.declared.moves.Move.{Move}
 use Rattle.cj_model.specs.declared.moves.Made.{Made}
 use Rattle.cj_model.specs.declared.moves.Made.TheVariants as made
 use Rattle.cj_model.specs.declared.moves.MoveError.TheVariants.{NotNow}
-use Rattle.cj_model.specs.Cores.{Core}
 use Rattle.cj_model.specs.Moves.{Given}
 use Rattle.cj_model.specs.Turns.{Seen}
 use Rattle.cj_model.specs.Runs.{Runs, IsBetween, IsChained}

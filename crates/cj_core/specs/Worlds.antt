@@ -1,12 +1,11 @@
 -- What contracts see of a world, and what holds of every one.
-use Rattle.std.specs.Prelude.{◌≡◌, ℕ, ◌<◌, ◌≤◌, Bool, true, List, length, map, slice_index_or}
-use Rattle.std.specs.declared.option.Option.TheVariants.{Some}
+use Rattle.std.specs.Prelude.{◌≡◌, ℕ, ◌<◌, ◌≤◌, Bool, List, length, map, slice_index_or}
 use Rattle.cj_model.specs.declared.request.Entry.{Entry}
 use Rattle.cj_model.specs.declared.event.Event.{Event}
 use Rattle.cj_model.specs.declared.moves.OpenSession.{OpenSession}
 use Rattle.cj_model.specs.Placements.{everywhere}
-use Rattle.cj_model.specs.Histories.{log, free, enabled}
-use Rattle.cj_model.specs.Cores.{Core, position_at}
+use Rattle.cj_model.specs.Histories.{log}
+use Rattle.cj_model.specs.Cores.{Core}
 use Rattle.cj_model.specs.Sound.{IsSound, Holds}
 use Rattle.cj_replica.specs.Cells.{CellState}
 

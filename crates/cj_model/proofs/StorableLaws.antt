@@ -49,26 +49,12 @@ use Rattle.cj_model.specs.Legality.{IsWritten}
 use Rattle.cj_model.specs.Storable.{IsFreeName, IsStorableTable, IsStorableSlot, IsStorable}
 use Rattle.cj_model.proofs.Columns.{read_columns}
 use Rattle.cj_model.proofs.DatabaseLaws.{written_keeps, created_keeps, dropped_keeps, committed_keeps, aborted_keeps}
+use Rattle.cj_model.proofs.Names.{spelled_as_name}
 use Rattle.cj_model.proofs.RisingLaws.{found_All, all_put, all_put_each}
 use Rattle.cj_model.proofs.Spellable.{FineName, FineTerm, FineConst, FineExpr, FineColDef, FineSet, FineRequest, request_fine}
 use Rattle.cj_model.proofs.TableLaws.{unless_IfOk}
 
 -- ---- names
-
-letter_begins : (b : ℕ) → is_letter b ≡ true → begins_name (lower b) ≡ true
-letter_begins b h = grind (arith, nat_tests, h)
-
-word_continues : (b : ℕ) → is_word b ≡ true → continues_name (lower b) ≡ true
-word_continues b h = grind (arith, nat_tests, h)
-
-all_continue : (z : List ℕ) → Each is_word z → list_all continues_name (map lower z) ≡ true
-all_continue [] h = refl
-all_continue (b ∷ z) h = and_from (continues_name (lower b)) (list_all continues_name (map lower z)) (word_continues b h.0) (all_continue z h.1)
-
--- a word in lower case is spelled as a name
-spelled_as_name : (z : List ℕ) → IsWord z → is_spelled_as_name (map lower z) ≡ true
-spelled_as_name [] h = absurd h
-spelled_as_name (b ∷ z) h = and_from (begins_name (lower b)) (list_all continues_name (map lower z)) (letter_begins b h.0) (all_continue z h.1)
 
 -- a name that can be spelled is no reserved word
 pub fine_is_free : (n : List ℕ) → FineName n → IsFreeName n

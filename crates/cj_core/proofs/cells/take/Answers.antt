@@ -1,4 +1,4 @@
-use Rattle.std.proofs.Common.{◌≡◌, ◌+◌, ◌-◌, List, All, slice_get, slice_set, Some, ℕ, refl, sym, ap, ◌∙◌, subst, arith, rules}
+use Rattle.std.proofs.Common.{◌≡◌, ◌+◌, ◌-◌, List, All, slice_get, slice_set, Some, ℕ, refl, sym, ap, ◌∙◌, subst, arith}
 use Rattle.std.proofs.lemmas.Option.{slice_get_within, get_or_from_slice_get}
 use Rattle.cj_model.specs.declared.request.Entry.{Entry}
 use Rattle.cj_model.specs.Plain.{request_of}
@@ -7,7 +7,6 @@ use Rattle.cj_model.specs.Legality.{IsWritten}
 use Rattle.cj_model.specs.Moves.{place}
 use Rattle.cj_model.specs.Sound.{IsLone}
 use Rattle.cj_replica.specs.Cells.{CellState}
-use Rattle.cj_core.specs.Taking.{Took}
 use Rattle.cj_core.proofs.Catching.{took}
 use Rattle.cj_core.proofs.cells.take.Goals as goal
 

@@ -1,4 +1,4 @@
-use Rattle.cj_core.proofs.Reading.{other_read, no_other_read}
+use Rattle.cj_core.proofs.Reading.{other_read}
 use Rattle.cj_core.proofs.world.is_other.Goals as goal
 
 pub returns-in-Some : goal.returns-in-Some

@@ -1,5 +1,4 @@
-use Rattle.std.proofs.Common.{◌≡◌, List, refl, sym, ◌∙◌, ap, subst, set}
-use Rattle.std.specs.List.{remove}
+use Rattle.std.proofs.Common.{List, sym, ◌∙◌, subst}
 use Rattle.cj_model.specs.declared.moves.OpenSession.{OpenSession}
 use Rattle.cj_core.specs.Places.{IsPlaceOf}
 use Rattle.cj_core.proofs.Seats.{removed, removed_rises, unremoved}

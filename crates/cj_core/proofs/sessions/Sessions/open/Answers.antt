@@ -1,4 +1,3 @@
-use Rattle.std.proofs.Common.{◌≡◌}
 use Rattle.cj_model.proofs.Sessions.{rises_push}
 use Rattle.cj_core.proofs.sessions.Sessions.open.Goals as goal
 

@@ -1,4 +1,4 @@
-use Rattle.std.proofs.Common.{◌≡◌, Ok, Err, refl, sym, subst, rules}
+use Rattle.std.proofs.Common.{Ok, Err, rules}
 use Rattle.std.proofs.lemmas.List.Sorted.{answers_always}
 use Rattle.cj_core.proofs.Seats.{searched}
 use Rattle.cj_core.proofs.sessions.Sessions.place_of.Goals as goal

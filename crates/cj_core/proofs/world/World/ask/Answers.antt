@@ -1,10 +1,10 @@
-use Rattle.std.proofs.Common.{◌≡◌, ◌<◌, ◌≤◌, ℕ, List, length, map, get_or, set, Err, refl, ap, sym, ◌∙◌, subst}
+use Rattle.std.proofs.Common.{◌≡◌, ◌<◌, ◌≤◌, ℕ, List, length, map, get_or, Err, refl, ap, sym, ◌∙◌, subst}
 use Rattle.std.proofs.lemmas.List.{length-map, get_or_default}
 use Rattle.cj_outside.specs.Causes.{Rose}
 use Rattle.cj_model.specs.Cores.{session_at}
 use Rattle.cj_replica.specs.declared.cell.CellReadError.TheVariants.{Failed}
 use Rattle.cj_replica.specs.Cells.{CellState}
-use Rattle.cj_core.specs.Worlds.{WorldState, core_of}
+use Rattle.cj_core.specs.Worlds.{WorldState}
 use Rattle.cj_core.specs.Effects.{Asks}
 use Rattle.cj_core.proofs.Asking.{kept_asked, same_core, asks}
 use Rattle.cj_core.proofs.Counted.{counts_in}

@@ -1,12 +1,11 @@
 use Rattle.std.proofs.Common.{◌≡◌, ◌+◌, Some, ℕ, List, sym, ap, ◌∙◌, subst}
-use Rattle.cj_model.specs.declared.request.Entry.{Entry}
 use Rattle.cj_model.specs.Histories.{log}
 use Rattle.cj_model.specs.Legality.{IsFit}
 use Rattle.cj_model.specs.Cores.{session_of}
 use Rattle.cj_model.specs.Moves.{next_entry}
-use Rattle.cj_model.specs.Sound.{IsSound, IsLone}
+use Rattle.cj_model.specs.Sound.{IsSound}
 use Rattle.cj_core.specs.Worlds.{WorldState}
-use Rattle.cj_core.proofs.Scheduling.{next_is, change_allowed, change_lone, change_fits}
+use Rattle.cj_core.proofs.Scheduling.{next_is, change_allowed, change_fits}
 use Rattle.cj_core.proofs.world.World.next_entry.Goals as goal
 
 pub returns-in_err-copy-in-Some-clause-allowed : goal.returns-in_err-copy-in-Some-clause-allowed

@@ -1,4 +1,3 @@
-use Rattle.std.proofs.Common.{◌≡◌}
 use Rattle.cj_core.proofs.world.World.not_now.Goals as goal
 
 pub returns-in-Schedule : goal.returns-in-Schedule

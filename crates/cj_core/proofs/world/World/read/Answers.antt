@@ -1,4 +1,4 @@
-use Rattle.std.proofs.Common.{◌≡◌, true, false, Err, ap, subst}
+use Rattle.std.proofs.Common.{Err, ap, subst}
 use Rattle.std.proofs.lemmas.Bool.{both_ways}
 use Rattle.cj_model.specs.Cores.{session_at}
 use Rattle.cj_model.specs.Moves.{ReadsSame}

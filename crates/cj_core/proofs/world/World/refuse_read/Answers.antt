@@ -1,4 +1,3 @@
-use Rattle.std.proofs.Common.{◌≡◌, ◌≤◌, length, sym, subst}
 use Rattle.cj_core.proofs.Keeping.{kept_with, keeps_refused}
 use Rattle.cj_core.proofs.world.World.refuse_read.Goals as goal
 

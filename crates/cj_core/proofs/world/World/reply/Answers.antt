@@ -1,4 +1,4 @@
-use Rattle.std.proofs.Common.{◌≡◌, ◌<◌, ◌^◌, false, None, sym, subst, rules}
+use Rattle.std.proofs.Common.{◌≡◌, false, None, sym, subst, rules}
 use Rattle.cj_model.specs.declared.answer.Outcome.TheVariants as outcome
 use Rattle.cj_model.specs.declared.answer.Reply.TheVariants as reply
 use Rattle.cj_model.specs.Histories.{free}

@@ -1,4 +1,4 @@
-use Rattle.std.proofs.Common.{◌≡◌, Err, ap, ◌∙◌, subst}
+use Rattle.std.proofs.Common.{Err, ap, ◌∙◌, subst}
 use Rattle.cj_model.specs.Moves.{with_counted}
 use Rattle.cj_book.specs.declared.error.BookError.{BookError}
 use Rattle.cj_core.specs.Worlds.{WorldState}

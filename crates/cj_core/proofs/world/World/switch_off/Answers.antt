@@ -1,7 +1,6 @@
-use Rattle.std.proofs.Common.{◌≡◌, true, false, Some, length, sym, subst}
-use Rattle.cj_model.specs.declared.event.Event.TheVariants.{Disabled, Enabled, ReadFailed}
-use Rattle.cj_model.specs.Histories.{log, free, enabled}
-use Rattle.cj_model.specs.Cores.{position_at}
+use Rattle.std.proofs.Common.{◌≡◌, true, sym, subst}
+use Rattle.cj_model.specs.declared.event.Event.TheVariants.{Disabled}
+use Rattle.cj_model.specs.Histories.{free, enabled}
 use Rattle.cj_book.specs.Books.{BookState}
 use Rattle.cj_core.specs.Worlds.{WorldState, world_of}
 use Rattle.cj_core.specs.Effects.{HadRoom}

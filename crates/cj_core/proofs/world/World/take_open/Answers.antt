@@ -1,5 +1,4 @@
 use Rattle.std.proofs.Common.{◌≡◌, None, Ok, refl, ap, sym, subst}
-use Rattle.cj_model.specs.declared.moves.Did.TheVariants.{Failed}
 use Rattle.cj_model.specs.declared.moves.Move.TheVariants.{Apply}
 use Rattle.cj_model.specs.declared.moves.Moved.TheVariants.{Applied}
 use Rattle.cj_model.specs.Moves.{place, not_now, Applies}
