@@ -134,7 +134,8 @@ impl Balancer {
     fn is_ahead(&self, a: u8, b: u8) -> bool
         requires left { a < BACKEND_LIMIT }
         requires right { b < BACKEND_LIMIT }
-        ensures { result ≡ balancing.is_ahead self.now.policy self.now.weights self.now.standing a b }
+        ensures ahead { result ≡ balancing.is_ahead self.now.policy self.now.weights self.now.standing a b }
+        ensures weighted { AreWeights self.now.weights }
     {
         match self.policy {
             Policy::RoundRobin => steps_to(self.last, a) < steps_to(self.last, b),

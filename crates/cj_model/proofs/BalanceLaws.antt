@@ -1,9 +1,11 @@
--- Laws of balancing.
-use Rattle.std.proofs.Common.{◌≡◌, ℕ, ◌<◌, Bool, true, false, List, ap, sym, ◌∙◌, ⊎_elim, arith}
-use Rattle.std.proofs.lemmas.Bool.{cases_eq, cases_lt, both_ways}
+-- Laws of balancing: a pick is the only one, and each policy's comparison is an order.
+use Rattle.std.proofs.Common.{◌≡◌, ℕ, ◌+◌, ◌*◌, ◌<◌, ◌≤◌, Bool, true, false, List, nat_lt, slice_index, ap, sym, ◌∙◌, ⊎_elim, arith}
+use Rattle.std.proofs.Math.Nat.{mul-le-mul_right, mul-lt-mul_of_pos_right}
+use Rattle.std.proofs.lemmas.Bool.{cases_Bool, cases_lt, both_ways, ltb-false, ltb-true, le-ltb}
 use Rattle.cj_model.specs.declared.policy.Policy.{Policy}
+use Rattle.cj_model.specs.declared.policy.Policy.TheVariants.{RoundRobin, Weighted, LeastPending}
 use Rattle.cj_model.specs.Histories.{has}
-use Rattle.cj_model.specs.Balancing.{Standing, IsFirst, Picks, is_ahead, picked}
+use Rattle.cj_model.specs.Balancing.{Standing, IsFirst, Picks, is_ahead, picked, steps_to}
 
 -- of two first candidates neither has the lower number
 none_lower : (ahead : ℕ → ℕ → Bool) (candidates b c : ℕ) → IsFirst ahead candidates b → IsFirst ahead candidates c → b < c → ⊥
@@ -21,3 +23,42 @@ pub picks_one : (policy : Policy) (weights : List ℕ) (s : Standing) (candidate
 picks_one policy weights s candidates b c y z p q =
     let e : b ≡ c = first_is_one (is_ahead policy weights s) candidates b c p.first q.first in
     (e, p.stands ∙ ap (λ n. picked policy s n) e ∙ sym q.stands)
+
+-- ---- the order of numbers, and of fractions
+
+less_one_way : (x y : ℕ) → nat_lt x y ≡ true → nat_lt y x ≡ false
+less_one_way x y h = let lt = ltb-true x y h in le-ltb y x (omega arith)
+
+less_chain : (x y z : ℕ) → nat_lt x y ≡ false → nat_lt y z ≡ false → nat_lt x z ≡ false
+less_chain x y z p q = let a = ltb-false x y p in let b = ltb-false y z q in le-ltb x z (omega arith)
+
+-- a fraction with no numerator below that of the second, which has none below that of the third
+fractions_chain : (a b c u v w : ℕ) → 0 < v → b * u ≤ a * v → c * v ≤ b * w → c * u ≤ a * w
+fractions_chain a b c u v w pos p q =
+    ⊎_elim
+    (λ (lt : a * w < c * u).
+        let more : a * w * v < c * u * v = mul-lt-mul_of_pos_right lt pos in
+        let first : b * u * w ≤ a * v * w = mul-le-mul_right w p in
+        let second : c * v * u ≤ b * w * u = mul-le-mul_right u q in
+        absurd (omega arith))
+    (λ (le : c * u ≤ a * w). le)
+    (cases_lt (a * w) (c * u))
+
+fraction_less_chain : (a b c u v w : ℕ) → 0 < v → nat_lt (a * v) (b * u) ≡ false → nat_lt (b * w) (c * v) ≡ false → nat_lt (a * w) (c * u) ≡ false
+fraction_less_chain a b c u v w pos p q =
+    le-ltb (a * w) (c * u) (fractions_chain a b c u v w pos (ltb-false (a * v) (b * u) p) (ltb-false (b * w) (c * v) q))
+
+-- ---- the order of claims
+
+-- of two backends one at most is ahead
+pub ahead_one_way : (policy : Policy) (weights : List ℕ) (s : Standing) (a b : ℕ) → is_ahead policy weights s a b ≡ true → is_ahead policy weights s b a ≡ false
+ahead_one_way RoundRobin weights s a b h = less_one_way (steps_to s.last a) (steps_to s.last b) h
+ahead_one_way Weighted weights s a b h = less_one_way (slice_index s.used a * slice_index weights b) (slice_index s.used b * slice_index weights a) h
+ahead_one_way LeastPending weights s a b h = less_one_way (slice_index s.pending a) (slice_index s.pending b) h
+
+-- a backend that isn't ahead of another, which has a weight and isn't ahead of a third, isn't ahead of the third
+pub ahead_chain : (policy : Policy) (weights : List ℕ) (s : Standing) (a b c : ℕ) → 0 < slice_index weights b → is_ahead policy weights s a b ≡ false → is_ahead policy weights s b c ≡ false → is_ahead policy weights s a c ≡ false
+ahead_chain RoundRobin weights s a b c pos p q = less_chain (steps_to s.last a) (steps_to s.last b) (steps_to s.last c) p q
+ahead_chain Weighted weights s a b c pos p q =
+    fraction_less_chain (slice_index s.used a) (slice_index s.used b) (slice_index s.used c) (slice_index weights a) (slice_index weights b) (slice_index weights c) pos p q
+ahead_chain LeastPending weights s a b c pos p q = less_chain (slice_index s.pending a) (slice_index s.pending b) (slice_index s.pending c) p q
