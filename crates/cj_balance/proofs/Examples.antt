@@ -1,5 +1,5 @@
 -- Picks worked out.
-use Rattle.std.proofs.Common.{◌≡◌, ℕ, zero, suc, ◌==◌, ◌<◌, ◌≤◌, true, false, List, [], ◌∷◌, ◌++◌, replicate, refl, ap, arith, lit<}
+use Rattle.std.proofs.Common.{◌≡◌, ℕ, zero, suc, ◌==◌, ◌<◌, true, false, List, [], ◌∷◌, replicate, refl, ap, arith, lit<}
 use Rattle.std.proofs.lemmas.Bool.{both_ways}
 use Rattle.std.proofs.lemmas.Nat.Bits.{bit_at_above}
 use Rattle.cj_model.specs.declared.policy.Policy.{Policy}
@@ -50,13 +50,9 @@ picks_one policy s other itself ahead = record {
 
 by_weight : ArePicked Weighted at_rest (0 ∷ 1 ∷ 0 ∷ 0 ∷ 1 ∷ 0 ∷ [])
 by_weight =
-    ( picks_zero Weighted _ refl refl
-    , (picks_one Weighted _ refl refl refl
-    , (picks_zero Weighted _ refl refl
-    , (picks_zero Weighted _ refl refl
-    , (picks_one Weighted _ refl refl refl
-    , (picks_zero Weighted _ refl refl
-    , tt))))))
+    let low = picks_zero Weighted in
+    let high = picks_one Weighted in
+    (low _ refl refl, (high _ refl refl refl, (low _ refl refl, (low _ refl refl, (high _ refl refl refl, (low _ refl refl, tt))))))
 
 round_again : ArePicked RoundRobin at_rest (0 ∷ 1 ∷ 0 ∷ [])
 round_again = (picks_zero RoundRobin _ refl refl, (picks_one RoundRobin _ refl refl refl, (picks_zero RoundRobin _ refl refl, tt)))

@@ -1,13 +1,13 @@
 -- The first of the candidates, one number after the other.
-use Rattle.std.proofs.Common.{◌≡◌, ◌≢◌, ℕ, ◌+◌, ◌^◌, ◌==◌, ◌<◌, ◌≤◌, Bool, true, false, List, slice_index, Option, None, Some, ap, sym, ◌∙◌, ⊎_elim, arith, below_more, subst}
+use Rattle.std.proofs.Common.{◌≡◌, ℕ, ◌+◌, ◌^◌, ◌==◌, ◌<◌, ◌≤◌, Bool, true, false, List, ap, ⊎_elim, arith, below_more}
 use Rattle.std.proofs.lemmas.Bool.{cases_Bool, cases_lt, both_ways}
 use Rattle.std.proofs.lemmas.Nat.Bits.{bit_at_above}
 use Rattle.cj_model.specs.declared.policy.Policy.{Policy}
 use Rattle.cj_model.specs.Histories.{has}
-use Rattle.cj_model.specs.Balancing.{Balance, Standing, IsFirst, Picks, is_ahead, picked}
-use Rattle.cj_model.proofs.BalanceLaws.{ahead_one_way, ahead_chain}
+use Rattle.cj_model.specs.Balancing.{Standing, IsFirst, is_ahead}
+use Rattle.cj_model.proofs.BalanceLaws.{ahead_one_way, ahead_chain, candidates_below}
 use Rattle.cj_model.proofs.Masks.{no_bit}
-use Rattle.cj_balance.specs.Kept.{AreWeights, IsFirstBelow, FirstBelow, IsFirstOrNone}
+use Rattle.cj_balance.specs.Kept.{AreWeights, IsFirstBelow}
 
 -- where number i is a candidate and ahead of the first of those below it, it is ahead of all of them
 ahead_of_all : (policy : Policy) (weights : List ℕ) (s : Standing) (candidates i b : ℕ) → AreWeights weights → i ≤ 16 → IsFirstBelow (is_ahead policy weights s) candidates i b → is_ahead policy weights s i b ≡ true → (k : ℕ) → k < i → has candidates k ≡ true → is_ahead policy weights s i k ≡ true
@@ -15,8 +15,8 @@ ahead_of_all policy weights s candidates i b ok le f h k lt here =
     ⊎_elim
     (λ (yes : is_ahead policy weights s i k ≡ true). yes)
     (λ (no : is_ahead policy weights s i k ≡ false).
-        let w = ok k (omega arith) in
-        absurd (both_ways (is_ahead policy weights s i b) (ahead_chain policy weights s i k b w.0 no (f.none_ahead k lt here)) h))
+    let w = ok k (omega arith) in
+    absurd (both_ways (is_ahead policy weights s i b) (ahead_chain policy weights s i k b w.0 no (f.none_ahead k lt here)) h))
     (cases_Bool (is_ahead policy weights s i k))
 
 -- no backend is ahead of itself
@@ -38,14 +38,6 @@ first_taken policy weights s candidates i b ok lt here f h =
       lower = all;
     }
 
--- candidates below 16 have no other number
-candidates_below : (candidates k : ℕ) → candidates < 2 ^ 16 → has candidates k ≡ true → k < 16
-candidates_below candidates k fits here =
-    ⊎_elim
-    (λ (lt : k < 16). lt)
-    (λ (le : 16 ≤ k). let none : has candidates k ≡ false = ap (λ n. n == 1) (bit_at_above candidates 16 k fits le) in absurd (both_ways (has candidates k) none here))
-    (cases_lt k 16)
-
 -- the first of those below 16 is the first of all
 pub first_of_all : (ahead : ℕ → ℕ → Bool) (candidates b : ℕ) → candidates < 2 ^ 16 → IsFirstBelow ahead candidates 16 b → IsFirst ahead candidates b
 first_of_all ahead candidates b fits f = record {
@@ -59,7 +51,7 @@ pub no_candidates : (candidates : ℕ) → candidates < 2 ^ 16 → ((k : ℕ) �
 no_candidates candidates fits none =
     no_bit candidates (omega arith)
     (λ k.
-        ⊎_elim
-        (λ (lt : k < 16). none k lt)
-        (λ (le : 16 ≤ k). ap (λ n. n == 1) (bit_at_above candidates 16 k fits le))
-        (cases_lt k 16))
+    ⊎_elim
+    (λ (lt : k < 16). none k lt)
+    (λ (le : 16 ≤ k). ap (λ n. n == 1) (bit_at_above candidates 16 k fits le))
+    (cases_lt k 16))

@@ -1,5 +1,5 @@
 -- What a balancer keeps, and what its search for the first candidate knows.
-use Rattle.std.specs.Prelude.{◌≡◌, ℕ, ◌^◌, ◌<◌, ◌≤◌, Bool, true, false, List, length, slice_index, EachIndex, Option, None, Some, IfSome}
+use Rattle.std.specs.Prelude.{◌≡◌, ℕ, ◌^◌, ◌<◌, ◌≤◌, Bool, true, false, List, length, slice_index, Option, None, Some, IfSome}
 use Rattle.cj_model.specs.Histories.{has}
 use Rattle.cj_model.specs.Balancing.{Balance, is_ahead}
 use Rattle.cj_balance.specs.declared.balancer.TheConstants.{BACKEND_LIMIT, MOST_WEIGHT}

@@ -176,7 +176,7 @@ impl Balancer {
     }
 
     /// Keeps that `b` was picked.
-    fn take(&mut self, b: u8)
+    fn record_pick(&mut self, b: u8)
         requires { b < BACKEND_LIMIT }
         ensures { self.new ≡ record self.old { standing = picked self.old.policy self.old.standing b } }
     {
@@ -193,8 +193,16 @@ impl Balancer {
         ensures kept { (self.new.policy ≡ self.old.policy) × (self.new.weights ≡ self.old.weights) }
     {
         let b = self.first(candidates)?;
-        self.take(b);
+        self.record_pick(b);
         Some(b)
+    }
+
+    /// How many reads are pending at `b`.
+    pub fn pending(&self, b: u8) -> u32
+        requires { b < BACKEND_LIMIT }
+        ensures { result ≡ slice_index self.now.standing.pending b }
+    {
+        self.pending[b as usize]
     }
 
     /// A read began at `b`, which has fewer than 2^32 - 1 of them pending.

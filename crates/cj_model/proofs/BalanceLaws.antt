@@ -1,11 +1,13 @@
 -- Laws of balancing: a pick is the only one, and each policy's comparison is an order.
-use Rattle.std.proofs.Common.{◌≡◌, ℕ, ◌+◌, ◌*◌, ◌<◌, ◌≤◌, Bool, true, false, List, nat_lt, slice_index, ap, sym, ◌∙◌, ⊎_elim, arith}
+use Rattle.std.proofs.Common.{◌≡◌, ℕ, ◌+◌, ◌-◌, ◌*◌, ◌^◌, ◌==◌, ◌<◌, ◌≤◌, Bool, true, false, List, nat_lt, slice_index, None, Some, ap, sym, ◌∙◌, ⊎_elim, arith}
 use Rattle.std.proofs.Math.Nat.{mul-le-mul_right, mul-lt-mul_of_pos_right}
-use Rattle.std.proofs.lemmas.Bool.{cases_Bool, cases_lt, both_ways, ltb-false, ltb-true, le-ltb}
+use Rattle.std.proofs.lemmas.Bool.{cases_lt, both_ways, ltb-false, ltb-true, le-ltb}
+use Rattle.std.proofs.lemmas.Bool.Decides.{nat_tests}
+use Rattle.std.proofs.lemmas.Nat.Bits.{bit_at_above}
 use Rattle.cj_model.specs.declared.policy.Policy.{Policy}
 use Rattle.cj_model.specs.declared.policy.Policy.TheVariants.{RoundRobin, Weighted, LeastPending}
 use Rattle.cj_model.specs.Histories.{has}
-use Rattle.cj_model.specs.Balancing.{Standing, IsFirst, Picks, is_ahead, picked, steps_to}
+use Rattle.cj_model.specs.Balancing.{Standing, IsFirst, Picks, is_ahead, picked, steps_from, steps_to}
 
 -- of two first candidates neither has the lower number
 none_lower : (ahead : ℕ → ℕ → Bool) (candidates b c : ℕ) → IsFirst ahead candidates b → IsFirst ahead candidates c → b < c → ⊥
@@ -24,6 +26,51 @@ picks_one policy weights s candidates b c y z p q =
     let e : b ≡ c = first_is_one (is_ahead policy weights s) candidates b c p.first q.first in
     (e, p.stands ∙ ap (λ n. picked policy s n) e ∙ sym q.stands)
 
+-- ---- what the round robin picks
+
+-- from a backend to a higher one it is their difference, and to another one 16 more
+steps_up : (l b : ℕ) → l < b → steps_from l b ≡ b - l
+steps_up l b lt = grind (arith, nat_tests)
+
+steps_round : (l b : ℕ) → b ≤ l → steps_from l b ≡ 16 + b - l
+steps_round l b le = grind (arith, nat_tests)
+
+steps_in_turn : (l b k : ℕ) → l < 16 → b < 16 → k < 16 → steps_from l b ≤ steps_from l k → (l < k → (l < b) × (b ≤ k)) × (b ≤ l → b ≤ k)
+steps_in_turn l b k small p q le = (
+  λ above.
+      let e = steps_up l k above in
+      ⊎_elim
+      (λ (lt : l < b). let d = steps_up l b lt in (lt, omega arith))
+      (λ (low : b ≤ l). let d = steps_round l b low in absurd (omega arith))
+      (cases_lt l b),
+  λ low.
+      let d = steps_round l b low in
+      ⊎_elim
+      (λ (above : l < k). omega arith)
+      (λ (under : k ≤ l). let e = steps_round l k under in omega arith)
+      (cases_lt l k),
+)
+
+-- candidates below 16 have no other number
+pub candidates_below : (candidates k : ℕ) → candidates < 2 ^ 16 → has candidates k ≡ true → k < 16
+candidates_below candidates k fits here =
+    ⊎_elim
+    (λ (lt : k < 16). lt)
+    (λ (le : 16 ≤ k). let none : has candidates k ≡ false = ap (λ n. n == 1) (bit_at_above candidates 16 k fits le) in absurd (both_ways (has candidates k) none here))
+    (cases_lt k 16)
+
+-- the round robin goes on after the last picked: where a candidate is above that one, it picks the lowest such one, and else the lowest of all
+pub next_in_turn : (weights : List ℕ) (s after : Standing) (candidates l b k : ℕ) → s.last ≡ Some l → l < 16 → candidates < 2 ^ 16 → Picks RoundRobin weights s candidates b after → has candidates k ≡ true → (l < k → (l < b) × (b ≤ k)) × (b ≤ l → b ≤ k)
+next_in_turn weights s after candidates l b k e small fits p here =
+    let le : steps_to s.last b ≤ steps_to s.last k = ltb-false (steps_to s.last k) (steps_to s.last b) (p.first.none_ahead k here) in
+    steps_in_turn l b k small (candidates_below candidates b fits p.first.candidate) (candidates_below candidates k fits here) (rw e at le)
+
+-- and at first it picks the lowest of all
+pub lowest_at_first : (weights : List ℕ) (s after : Standing) (candidates b k : ℕ) → s.last ≡ None → Picks RoundRobin weights s candidates b after → has candidates k ≡ true → b ≤ k
+lowest_at_first weights s after candidates b k e p here =
+    let le : steps_to s.last b ≤ steps_to s.last k = ltb-false (steps_to s.last k) (steps_to s.last b) (p.first.none_ahead k here) in
+    rw e at le
+
 -- ---- the order of numbers, and of fractions
 
 less_one_way : (x y : ℕ) → nat_lt x y ≡ true → nat_lt y x ≡ false
@@ -37,10 +84,10 @@ fractions_chain : (a b c u v w : ℕ) → 0 < v → b * u ≤ a * v → c * v �
 fractions_chain a b c u v w pos p q =
     ⊎_elim
     (λ (lt : a * w < c * u).
-        let more : a * w * v < c * u * v = mul-lt-mul_of_pos_right lt pos in
-        let first : b * u * w ≤ a * v * w = mul-le-mul_right w p in
-        let second : c * v * u ≤ b * w * u = mul-le-mul_right u q in
-        absurd (omega arith))
+    let more : a * w * v < c * u * v = mul-lt-mul_of_pos_right lt pos in
+    let first : b * u * w ≤ a * v * w = mul-le-mul_right w p in
+    let second : c * v * u ≤ b * w * u = mul-le-mul_right u q in
+    absurd (omega arith))
     (λ (le : c * u ≤ a * w). le)
     (cases_lt (a * w) (c * u))
 

@@ -1,5 +1,5 @@
 -- Balancing: which of up to 16 backends a read is sent to, among the candidates of a mask.
-use Rattle.std.specs.Prelude.{◌≡◌, ℕ, ◌+◌, ◌-◌, ◌*◌, ◌^◌, ◌<◌, ◌≤◌, ◌==◌, Bool, true, false, List, nat_lt, slice_index, slice_set, if◌then◌else◌, replicate, Option, None, Some}
+use Rattle.std.specs.Prelude.{◌≡◌, ℕ, ◌+◌, ◌-◌, ◌*◌, ◌^◌, ◌<◌, ◌==◌, Bool, true, false, List, nat_lt, slice_index, slice_set, if◌then◌else◌, replicate, Option, None, Some}
 use Rattle.cj_model.specs.declared.policy.Policy.{Policy}
 use Rattle.cj_model.specs.declared.policy.Policy.TheVariants.{RoundRobin, Weighted, LeastPending}
 use Rattle.cj_model.specs.Histories.{has}
@@ -16,23 +16,25 @@ pub record Balance : Type 0 where
   pub weights : List ℕ
   pub standing : Standing
 
--- nothing was picked, used or is pending yet
-abbrev pub none_of_all : List ℕ
-none_of_all = replicate 16 0
+-- 0 for each backend
+abbrev pub zeros : List ℕ
+zeros = replicate 16 0
 
+-- nothing was picked yet, and no read is pending
 abbrev pub at_rest : Standing
-at_rest = record { last = None; used = none_of_all; pending = none_of_all }
+at_rest = record { last = None; used = zeros; pending = zeros }
 
--- how many steps up it is from the last picked backend to b, where 0 comes after 15; at first from 0
+-- how many steps up it is from the last picked backend to b, where 0 comes after 15: 1 to the next one, and 16 to the last picked itself
 abbrev pub steps_from : ℕ → ℕ → ℕ
 steps_from last b = if nat_lt last b then b - last else 16 + b - last
 
+-- the same, and at first from 0
 abbrev pub steps_to : Option ℕ → ℕ → ℕ
 steps_to None b = b
 steps_to (Some last) b = steps_from last b
 
--- whether backend a has a better claim to the next read than b: it comes sooner after the last picked, or was used less often for its weight, or has fewer reads pending.
--- The fractions used / weight are compared exactly.
+-- whether backend a has a better claim to the next read than b, by the policy: it comes sooner after the last picked, or its used / weight is less, compared exactly as fractions,
+-- or it has fewer reads pending
 abbrev pub is_ahead : Policy → List ℕ → Standing → ℕ → ℕ → Bool
 is_ahead RoundRobin weights s a b = nat_lt (steps_to s.last a) (steps_to s.last b)
 is_ahead Weighted weights s a b = nat_lt (slice_index s.used a * slice_index weights b) (slice_index s.used b * slice_index weights a)
@@ -53,7 +55,7 @@ one_less counts b = slice_set counts b (slice_index counts b - 1)
 
 -- the counts, all begun again at 0 where one more at b would make 2^32
 abbrev pub with_room : List ℕ → ℕ → List ℕ
-with_room used b = if slice_index used b + 1 == 2 ^ 32 then none_of_all else used
+with_room used b = if slice_index used b + 1 == 2 ^ 32 then zeros else used
 
 -- how often each backend was used, after b was picked: only the weighted policy counts that
 abbrev pub used_after : Policy → List ℕ → ℕ → List ℕ
@@ -65,7 +67,7 @@ used_after LeastPending used b = used
 abbrev pub picked : Policy → Standing → ℕ → Standing
 picked policy s b = record s { last = Some b; used = used_after policy s.used b }
 
--- the policy picks b of the candidates, after which things stand so
+-- the policy picks b of the candidates, after which things stand so; there is one such pick at most (`picks_one`)
 pub record Picks (policy : Policy) (weights : List ℕ) (before : Standing) (candidates b : ℕ) (after : Standing) : Type 0 where
   pub first : IsFirst (is_ahead policy weights before) candidates b
   pub stands : after ≡ picked policy before b
