@@ -24,8 +24,8 @@ of_two P a b (suc (suc k)) h =
     let none : has 3 (suc (suc k)) ≡ false = ap (λ n. n == 1) (bit_at_above 3 2 (suc (suc k)) (lit< tt) (omega arith)) in
     absurd (both_ways (has 3 (suc (suc k))) none h)
 
-picks_zero : (policy : Policy) (s : Standing) → is_ahead policy weights s 0 0 ≡ false → is_ahead policy weights s 1 0 ≡ false → Picks policy weights s 3 0 (picked policy s 0)
-picks_zero policy s itself other = record {
+zero_picked : (policy : Policy) (s : Standing) → is_ahead policy weights s 0 0 ≡ false → is_ahead policy weights s 1 0 ≡ false → Picks policy weights s 3 0 (picked policy s 0)
+zero_picked policy s itself other = record {
   first = record {
     candidate = refl;
     none_ahead = of_two (λ k. is_ahead policy weights s k 0 ≡ false) itself other;
@@ -34,8 +34,8 @@ picks_zero policy s itself other = record {
   stands = refl;
 }
 
-picks_one : (policy : Policy) (s : Standing) → is_ahead policy weights s 0 1 ≡ false → is_ahead policy weights s 1 1 ≡ false → is_ahead policy weights s 1 0 ≡ true → Picks policy weights s 3 1 (picked policy s 1)
-picks_one policy s other itself ahead = record {
+one_picked : (policy : Policy) (s : Standing) → is_ahead policy weights s 0 1 ≡ false → is_ahead policy weights s 1 1 ≡ false → is_ahead policy weights s 1 0 ≡ true → Picks policy weights s 3 1 (picked policy s 1)
+one_picked policy s other itself ahead = record {
   first = record {
     candidate = refl;
     none_ahead = of_two (λ k. is_ahead policy weights s k 1 ≡ false) other itself;
@@ -50,13 +50,13 @@ picks_one policy s other itself ahead = record {
 
 by_weight : ArePicked Weighted at_rest (0 ∷ 1 ∷ 0 ∷ 0 ∷ 1 ∷ 0 ∷ [])
 by_weight =
-    let low = picks_zero Weighted in
-    let high = picks_one Weighted in
+    let low = zero_picked Weighted in
+    let high = one_picked Weighted in
     (low _ refl refl, (high _ refl refl refl, (low _ refl refl, (low _ refl refl, (high _ refl refl refl, (low _ refl refl, tt))))))
 
 round_again : ArePicked RoundRobin at_rest (0 ∷ 1 ∷ 0 ∷ [])
-round_again = (picks_zero RoundRobin _ refl refl, (picks_one RoundRobin _ refl refl refl, (picks_zero RoundRobin _ refl refl, tt)))
+round_again = (zero_picked RoundRobin _ refl refl, (one_picked RoundRobin _ refl refl refl, (zero_picked RoundRobin _ refl refl, tt)))
 
 -- with no read pending, and none begun between the picks
 lowest_on_a_tie : ArePicked LeastPending at_rest (0 ∷ 0 ∷ [])
-lowest_on_a_tie = (picks_zero LeastPending _ refl refl, (picks_zero LeastPending _ refl refl, tt))
+lowest_on_a_tie = (zero_picked LeastPending _ refl refl, (zero_picked LeastPending _ refl refl, tt))

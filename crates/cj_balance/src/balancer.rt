@@ -1,9 +1,9 @@
 //! The balancer, and what it keeps of each backend.
 
-ghost use Rattle.std.specs.Prelude.{◌≡◌, ◌↔◌, ℕ, ◌+◌, ◌-◌, ◌^◌, ◌<◌, ◌≤◌, List, length, slice_index, IsNone, IfSome, MatchOption};
+ghost use Rattle.std.specs.Prelude.{◌≡◌, ◌↔◌, ◌+◌, ◌-◌, ◌^◌, ◌<◌, slice_index, IsNone, IfSome};
 ghost use Rattle.cj_model.specs.Histories as histories;
 ghost use Rattle.cj_model.specs.Balancing as balancing;
-ghost use Rattle.cj_model.specs.Balancing.{Standing, Picks, at_rest, one_more, one_less, with_room, used_after, picked};
+ghost use Rattle.cj_model.specs.Balancing.{Picks, at_rest, one_more, one_less, with_room, used_after, picked};
 ghost use Rattle.cj_balance.specs.Kept.{AreWeights, IsFirstOrNone};
 
 use cj_model::Policy;
@@ -22,8 +22,11 @@ pub const MOST_WEIGHT: u16 = 1000;
 pub struct Balancer {
     policy: Policy,
     weights: [u16; 16],
+    /// The backend that was picked last.
     last: Option<u8>,
+    /// How often each backend was picked; only the weighted policy counts that.
     used: [u32; 16],
+    /// How many reads of each backend began and haven't ended.
     pending: [u32; 16],
 }
 
@@ -104,7 +107,7 @@ fn count_pick(policy: Policy, used: &mut [u32; 16], b: u8)
 }
 
 impl Balancer {
-    /// A balancer that has picked nothing yet.
+    /// A balancer that has picked nothing yet. Each weight is 1 to `MOST_WEIGHT`.
     pub fn new(policy: Policy, weights: [u16; 16]) -> Balancer
         requires { AreWeights weights }
         ensures { result ≡ record { policy = policy; weights = weights; standing = at_rest } }
@@ -165,6 +168,7 @@ impl Balancer {
         }
     }
 
+    /// The first of the candidates.
     fn first(&self, candidates: u32) -> Option<u8>
         ensures { IsFirstOrNone self.now candidates BACKEND_LIMIT result }
     {
@@ -184,7 +188,7 @@ impl Balancer {
         count_pick(self.policy, &mut self.used, b);
     }
 
-    /// Picks one of the candidates, which all are below `BACKEND_LIMIT`; None where there are none.
+    /// Picks one of the candidates, which are all below `BACKEND_LIMIT`; None exactly where there are none.
     pub fn pick(&mut self, candidates: u32) -> Option<u8>
         requires { candidates < 2 ^ BACKEND_LIMIT }
         ensures none { IsNone result ↔ (candidates ≡ 0) }
