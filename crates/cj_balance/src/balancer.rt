@@ -1,0 +1,229 @@
+//! The balancer, and what it keeps of each backend.
+
+ghost use Rattle.std.specs.Prelude.{◌≡◌, ◌↔◌, ◌+◌, ◌-◌, ◌^◌, ◌<◌, slice_index, IsNone, IfSome};
+ghost use Rattle.cj_model.specs.Histories as histories;
+ghost use Rattle.cj_model.specs.Balancing as balancing;
+ghost use Rattle.cj_model.specs.Balancing.{Picks, at_rest, one_more, one_less, with_room, used_after, picked};
+ghost use Rattle.cj_balance.specs.Kept.{AreWeights, IsFirstOrNone};
+
+use cj_model::Policy;
+use std::marker::Model;
+
+/// The most backends; their numbers begin with 0.
+pub const BACKEND_LIMIT: u8 = 16;
+
+/// The greatest weight of a backend.
+pub const MOST_WEIGHT: u16 = 1000;
+
+/// What picks a backend for each read, which contracts see with its policy, the weights and how things stand.
+///
+/// A mask of candidates has bit b for backend b. No call takes memory.
+#[derive(Drop)]
+pub struct Balancer {
+    policy: Policy,
+    weights: [u16; 16],
+    /// The backend that was picked last.
+    last: Option<u8>,
+    /// How often each backend was picked; only the weighted policy counts that.
+    used: [u32; 16],
+    /// How many reads of each backend began and haven't ended.
+    pending: [u32; 16],
+}
+
+impl Model for Balancer {
+    ghost use Rattle.cj_model.specs.Balancing.{Balance};
+    ghost use Rattle.cj_balance.specs.Kept.{Keeps};
+
+    ghost Value = { Balance };
+
+    ghost view = { λ b. record { policy = b.policy; weights = b.weights; standing = record { last = b.last; used = b.used; pending = b.pending } } };
+
+    ghost invariant = { λ b. Keeps b.weights b.last b.used b.pending };
+}
+
+fn has(mask: u32, b: u8) -> bool
+    requires { b < BACKEND_LIMIT }
+    ensures { result ≡ histories.has mask b }
+{
+    (mask >> b) & 1 == 1
+}
+
+/// The steps up from one backend to another, where 0 comes after 15.
+fn steps_from(last: u8, b: u8) -> u8
+    requires from { last < BACKEND_LIMIT }
+    requires to { b < BACKEND_LIMIT }
+    ensures { result ≡ balancing.steps_from last b }
+{
+    if last < b {
+        b - last
+    } else {
+        BACKEND_LIMIT + b - last
+    }
+}
+
+fn steps_to(last: Option<u8>, b: u8) -> u8
+    requires from { IfSome last (λ l. l < BACKEND_LIMIT) }
+    requires to { b < BACKEND_LIMIT }
+    ensures { result ≡ balancing.steps_to last b }
+{
+    match last {
+        None => b,
+        Some(last) => steps_from(last, b),
+    }
+}
+
+/// One more at `b`.
+fn count_up(counts: &mut [u32; 16], b: u8)
+    requires below { b < BACKEND_LIMIT }
+    requires room { slice_index counts.old b + 1 < 2 ^ 32 }
+    ensures { counts.new ≡ one_more counts.old b }
+{
+    counts[b as usize] += 1;
+}
+
+/// Begins all counts again at 0 where that of `b` can't grow.
+fn make_room(used: &mut [u32; 16], b: u8)
+    requires { b < BACKEND_LIMIT }
+    ensures { used.new ≡ with_room used.old b }
+{
+    if used[b as usize] == u32::MAX {
+        *used = [0; 16];
+    }
+}
+
+/// Counts a pick of `b` where the policy counts picks.
+fn count_pick(policy: Policy, used: &mut [u32; 16], b: u8)
+    requires { b < BACKEND_LIMIT }
+    ensures { used.new ≡ used_after policy used.old b }
+{
+    match policy {
+        Policy::RoundRobin => {}
+        Policy::Weighted => {
+            make_room(used, b);
+            count_up(used, b);
+        }
+        Policy::LeastPending => {}
+    }
+}
+
+impl Balancer {
+    /// A balancer that has picked nothing yet. Each weight is 1 to `MOST_WEIGHT`.
+    pub fn new(policy: Policy, weights: [u16; 16]) -> Balancer
+        requires { AreWeights weights }
+        ensures { result ≡ record { policy = policy; weights = weights; standing = at_rest } }
+    {
+        Balancer {
+            policy,
+            weights,
+            last: None,
+            used: [0; 16],
+            pending: [0; 16],
+        }
+    }
+
+    /// Whether `a` was used less often for its weight than `b`.
+    fn is_less_used(&self, a: u8, b: u8) -> bool
+        requires left { a < BACKEND_LIMIT }
+        requires right { b < BACKEND_LIMIT }
+        ensures { result ≡ balancing.is_ahead Policy.Weighted self.now.weights self.now.standing a b }
+    {
+        let (a, b) = (a as usize, b as usize);
+        let left = u64::from(self.used[a]) * u64::from(self.weights[b]);
+        let right = u64::from(self.used[b]) * u64::from(self.weights[a]);
+        left < right
+    }
+
+    /// Whether `a` has a better claim to the next read than `b`.
+    fn is_ahead(&self, a: u8, b: u8) -> bool
+        requires left { a < BACKEND_LIMIT }
+        requires right { b < BACKEND_LIMIT }
+        ensures ahead { result ≡ balancing.is_ahead self.now.policy self.now.weights self.now.standing a b }
+        ensures weighted { AreWeights self.now.weights }
+    {
+        match self.policy {
+            Policy::RoundRobin => steps_to(self.last, a) < steps_to(self.last, b),
+            Policy::Weighted => self.is_less_used(a, b),
+            Policy::LeastPending => self.pending[a as usize] < self.pending[b as usize],
+        }
+    }
+
+    /// The first of the candidates up to `b`, from the first of those below it.
+    fn first_with(&self, candidates: u32, first: Option<u8>, b: u8) -> Option<u8>
+        requires below { b < BACKEND_LIMIT }
+        requires so_far { IsFirstOrNone self.now candidates b first }
+        ensures { IsFirstOrNone self.now candidates (b + 1) result }
+    {
+        if !has(candidates, b) {
+            return first;
+        }
+        match first {
+            None => Some(b),
+            Some(other) => {
+                if self.is_ahead(b, other) {
+                    Some(b)
+                } else {
+                    Some(other)
+                }
+            }
+        }
+    }
+
+    /// The first of the candidates.
+    fn first(&self, candidates: u32) -> Option<u8>
+        ensures { IsFirstOrNone self.now candidates BACKEND_LIMIT result }
+    {
+        let mut first = None;
+        for b in 0..BACKEND_LIMIT {
+            first = self.first_with(candidates, first, b);
+        }
+        first
+    }
+
+    /// Keeps that `b` was picked.
+    fn record_pick(&mut self, b: u8)
+        requires { b < BACKEND_LIMIT }
+        ensures { self.new ≡ record self.old { standing = picked self.old.policy self.old.standing b } }
+    {
+        self.last = Some(b);
+        count_pick(self.policy, &mut self.used, b);
+    }
+
+    /// Picks one of the candidates, which are all below `BACKEND_LIMIT`; None exactly where there are none.
+    pub fn pick(&mut self, candidates: u32) -> Option<u8>
+        requires { candidates < 2 ^ BACKEND_LIMIT }
+        ensures none { IsNone result ↔ (candidates ≡ 0) }
+        ensures same { IsNone result → self.new ≡ self.old }
+        ensures some { IfSome result (λ b. Picks self.old.policy self.old.weights self.old.standing candidates b self.new.standing) }
+        ensures kept { (self.new.policy ≡ self.old.policy) × (self.new.weights ≡ self.old.weights) }
+    {
+        let b = self.first(candidates)?;
+        self.record_pick(b);
+        Some(b)
+    }
+
+    /// How many reads are pending at `b`.
+    pub fn pending(&self, b: u8) -> u32
+        requires { b < BACKEND_LIMIT }
+        ensures { result ≡ slice_index self.now.standing.pending b }
+    {
+        self.pending[b as usize]
+    }
+
+    /// A read began at `b`, which has fewer than 2^32 - 1 of them pending.
+    pub fn began(&mut self, b: u8)
+        requires below { b < BACKEND_LIMIT }
+        requires room { slice_index self.old.standing.pending b < 2 ^ 32 - 1 }
+        ensures { self.new ≡ record self.old { standing = record self.old.standing { pending = one_more self.old.standing.pending b } } }
+    {
+        count_up(&mut self.pending, b);
+    }
+
+    /// A read ended at `b`, which has some pending.
+    pub fn ended(&mut self, b: u8)
+        requires below { b < BACKEND_LIMIT }
+        requires some { 0 < slice_index self.old.standing.pending b }
+        ensures { self.new ≡ record self.old { standing = record self.old.standing { pending = one_less self.old.standing.pending b } } }
+    {
+        self.pending[b as usize] -= 1;
+    }
+}

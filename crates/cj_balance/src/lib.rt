@@ -1,0 +1,8 @@
+//! The backend that a read is sent to, where several can answer it.
+//!
+//! A `Balancer` picks one of the candidates by its policy, and counts the reads that haven't ended.
+#![tactic(auto)]
+
+mod balancer;
+
+pub use balancer::{BACKEND_LIMIT, Balancer, MOST_WEIGHT};
