@@ -7,6 +7,7 @@ pub mod DatabaseLaws
 pub mod Effects
 pub mod FaultLaws
 pub mod Fields
+pub mod FilterLaws
 pub mod Growth
 pub mod Masks
 pub mod Names
