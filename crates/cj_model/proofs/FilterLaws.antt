@@ -59,6 +59,28 @@ module _ {A : Type 0} (p : A → Bool) where
       (λ (e : q x ≡ false). ap (filter p) (cond-false (q x) (x ∷ filter q xs) (filter q xs) e) ∙ filter_after q goes xs ∙ sym (filter_goes x xs (goes x e)))
       (cases_Bool (q x))
 
+  -- two filters may come in either order
+  pub filter_swap : (q : A → Bool) (xs : List A) → filter p (filter q xs) ≡ filter q (filter p xs)
+  filter_swap q [] = refl
+  filter_swap q (x ∷ xs) =
+      let rest = filter_swap q xs in
+      ⊎_elim
+      (λ (e : p x ≡ true).
+      ⊎_elim
+      (λ (g : q x ≡ true).
+      ap (filter p) (cond-true (q x) (x ∷ filter q xs) (filter q xs) g) ∙ filter_stays x (filter q xs) e ∙ ap (λ ys. x ∷ ys) rest
+      ∙ sym (ap (filter q) (filter_stays x xs e) ∙ cond-true (q x) (x ∷ filter q (filter p xs)) (filter q (filter p xs)) g))
+      (λ (g : q x ≡ false).
+      ap (filter p) (cond-false (q x) (x ∷ filter q xs) (filter q xs) g) ∙ rest
+      ∙ sym (ap (filter q) (filter_stays x xs e) ∙ cond-false (q x) (x ∷ filter q (filter p xs)) (filter q (filter p xs)) g))
+      (cases_Bool (q x)))
+      (λ (e : p x ≡ false).
+      ⊎_elim
+      (λ (g : q x ≡ true). ap (filter p) (cond-true (q x) (x ∷ filter q xs) (filter q xs) g) ∙ filter_goes x (filter q xs) e ∙ rest ∙ sym (ap (filter q) (filter_goes x xs e)))
+      (λ (g : q x ≡ false). ap (filter p) (cond-false (q x) (x ∷ filter q xs) (filter q xs) g) ∙ rest ∙ sym (ap (filter q) (filter_goes x xs e)))
+      (cases_Bool (q x)))
+      (cases_Bool (p x))
+
   module _ (R : A → A → Ordering) (tied : (x y : A) → R x y ≡ Equal → p x ≡ p y) where
     -- an item that goes may be put in before
     pub filter-put_goes : (x : A) → p x ≡ false → (xs : List A) → filter p (put_by R xs x) ≡ filter p xs

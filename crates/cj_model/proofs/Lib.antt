@@ -13,6 +13,7 @@ pub mod Masks
 pub mod Names
 pub mod Now
 pub mod OneReading
+pub mod PartLaws
 pub mod Pushed
 pub mod QueryLaws
 pub mod RefusalLaws
