@@ -24,6 +24,7 @@ pub mod Soundness
 pub mod Spellable
 pub mod StorableLaws
 pub mod TableLaws
+pub mod TransactionLaws
 pub mod TurnCases
 pub mod UpdateLaws
 pub mod Worked

@@ -1,4 +1,5 @@
 pub mod Answering
+pub mod Begun
 pub mod Changes
 pub mod ConditionCode
 pub mod ConditionForms
