@@ -14,6 +14,11 @@ pub found_passes : {A : Type 0} (q : A → Bool) (xs : List A) → IfSome (find 
 found_passes q [] = tt
 found_passes q (x ∷ xs) = cond_both (q x) (Some x) (find q xs) (λ o. IfSome o (λ y. q y ≡ true)) (λ e. e) (λ _. found_passes q xs)
 
+-- items that a change leaves where they stay come out the same
+pub map_same : {A : Type 0} (f : A → A) (xs : List A) → All (λ x. f x ≡ x) xs → map f xs ≡ xs
+map_same f [] a = refl
+map_same f (x ∷ xs) a = ap (λ y. y ∷ map f xs) (All-head (λ y. f y ≡ y) x xs a) ∙ ap (λ ys. x ∷ ys) (map_same f xs (All-tail (λ y. f y ≡ y) x xs a))
+
 module _ {A : Type 0} (p : A → Bool) where
   -- an item that stays
   pub filter_stays : (x : A) (xs : List A) → p x ≡ true → filter p (x ∷ xs) ≡ x ∷ filter p xs
@@ -44,11 +49,6 @@ module _ {A : Type 0} (p : A → Bool) where
       (λ (e : p x ≡ true). filter_stays (f x) (map f xs) (now ∙ e) ∙ ap (λ ys. f x ∷ ys) rest ∙ sym (ap (map f) (filter_stays x xs e)))
       (λ (e : p x ≡ false). filter_goes (f x) (map f xs) (now ∙ e) ∙ rest ∙ sym (ap (map f) (filter_goes x xs e)))
       (cases_Bool (p x))
-
-  -- items that a change leaves where they stay come out the same
-  pub map_same : (f : A → A) (xs : List A) → All (λ x. f x ≡ x) xs → map f xs ≡ xs
-  map_same f [] a = refl
-  map_same f (x ∷ xs) a = ap (λ y. y ∷ map f xs) (All-head (λ y. f y ≡ y) x xs a) ∙ ap (λ ys. x ∷ ys) (map_same f xs (All-tail (λ y. f y ≡ y) x xs a))
 
   -- where all that another filter leaves out goes, that one makes no difference
   pub filter_after : (q : A → Bool) → ((x : A) → q x ≡ false → p x ≡ false) → (xs : List A) → filter p (filter q xs) ≡ filter p xs

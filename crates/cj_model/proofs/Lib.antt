@@ -4,6 +4,7 @@ pub mod Between
 pub mod Chains
 pub mod Columns
 pub mod DatabaseLaws
+pub mod DraftLaws
 pub mod Effects
 pub mod FaultLaws
 pub mod Fields
