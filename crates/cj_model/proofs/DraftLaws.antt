@@ -44,13 +44,13 @@ IsDrafted entries s = IfSome s.draft (λ (d : Draft). OpenWriter entries (table_
 -- ---- what a fit entry says of transactions
 
 -- a BEGIN comes where the session has no transaction open
-begins_free : (before : List Entry) (e : Entry) → IsFit before e → e.act ≡ act.Begin → tx_of before e.session ≡ 0
+pub begins_free : (before : List Entry) (e : Entry) → IsFit before e → e.act ≡ act.Begin → tx_of before e.session ≡ 0
 begins_free before e fit is =
     ⊎_elim (λ (o : OfSession before e). (subst (FitsTx (tx_of before e.session) e.tx) is o.tx).1)
     (λ (a : OfAdministrator before e). let bad : act.Begin ≡ act.Abort = sym is ∙ a.aborts in absurd (cc bad)) fit.by
 
 -- a write within a transaction is within its session's open one
-writes_within : (before : List Entry) (e : Entry) (w : Write) → IsFit before e → e.act ≡ act.Write w → e.tx ≢ 0 → tx_of before e.session ≡ e.tx
+pub writes_within : (before : List Entry) (e : Entry) (w : Write) → IsFit before e → e.act ≡ act.Write w → e.tx ≢ 0 → tx_of before e.session ≡ e.tx
 writes_within before e w fit is some =
     ⊎_elim (λ (o : OfSession before e). ⊎_elim (λ (z : e.tx ≡ 0). absurd (some z)) (λ (same : e.tx ≡ tx_of before e.session). sym same) (subst (FitsTx (tx_of before e.session) e.tx) is o.tx))
     (λ (a : OfAdministrator before e). let bad : act.Write w ≡ act.Abort = sym is ∙ a.aborts in absurd (cc bad)) fit.by

@@ -1,5 +1,5 @@
 -- What a filter has to do with look-ups, items put in, changed items and other filters.
-use Rattle.std.proofs.Common.{◌≡◌, Bool, true, false, cond, List, [], ◌∷◌, map, refl, ap, sym, ◌∙◌, Ordering, Less, Equal, ⊎_elim}
+use Rattle.std.proofs.Common.{◌≡◌, Bool, true, false, ◌&&◌, cond, List, [], ◌∷◌, map, refl, ap, sym, ◌∙◌, Ordering, Less, Equal, ⊎_elim}
 use Rattle.std.specs.Prelude.{All, filter, find, IfSome}
 use Rattle.std.specs.declared.option.Option.TheVariants.{Some}
 use Rattle.std.specs.Cmp.{IsTotalOrder}
@@ -80,6 +80,19 @@ module _ {A : Type 0} (p : A → Bool) where
       (λ (g : q x ≡ false). ap (filter p) (cond-false (q x) (x ∷ filter q xs) (filter q xs) g) ∙ rest ∙ sym (ap (filter q) (filter_goes x xs e)))
       (cases_Bool (q x)))
       (cases_Bool (p x))
+
+  -- a filter after another is one by both tests
+  pub filter_twice : (q : A → Bool) (xs : List A) → filter p (filter q xs) ≡ filter (λ x. q x && p x) xs
+  filter_twice q [] = refl
+  filter_twice q (x ∷ xs) =
+      ⊎_elim
+      (λ (e : q x ≡ true).
+      ap (filter p) (cond-true (q x) (x ∷ filter q xs) (filter q xs) e) ∙ ap (λ ys. cond (p x) (x ∷ ys) ys) (filter_twice q xs)
+      ∙ sym (ap (λ c. cond (c && p x) (x ∷ filter (λ y. q y && p y) xs) (filter (λ y. q y && p y) xs)) e))
+      (λ (e : q x ≡ false).
+      ap (filter p) (cond-false (q x) (x ∷ filter q xs) (filter q xs) e) ∙ filter_twice q xs
+      ∙ sym (ap (λ c. cond (c && p x) (x ∷ filter (λ y. q y && p y) xs) (filter (λ y. q y && p y) xs)) e))
+      (cases_Bool (q x))
 
   module _ (R : A → A → Ordering) (tied : (x y : A) → R x y ≡ Equal → p x ≡ p y) where
     -- an item that goes may be put in before

@@ -1,5 +1,6 @@
 pub mod Answered
 pub mod Askable
+pub mod BegunLaws
 pub mod Between
 pub mod Chains
 pub mod Columns

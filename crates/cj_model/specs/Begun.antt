@@ -61,7 +61,7 @@ has_ended tx log = list_any (λ (e : Entry). e.tx == tx && is_end e.act) log
 -- the numbers, each once, in the order of their first places
 abbrev pub firsts : List ℕ → List ℕ
 firsts [] = []
-firsts (x ∷ xs) = x ∷ filter (λ y. not (y == x)) (firsts xs)
+firsts (x ∷ xs) = x ∷ filter (λ y. not (x == y)) (firsts xs)
 
 -- a write of a transaction to a table that backend b hosts
 abbrev pub is_transaction_write : Placement → ℕ → Entry → Bool
