@@ -1,9 +1,9 @@
 -- The transactions that a backend has begun: what one more entry makes of them, and which they are.
-use Rattle.std.proofs.Common.{◌≡◌, ◌≢◌, ◌⊎◌, inl, inr, ℕ, ◌+◌, ◌<◌, ◌≤◌, ◌==◌, eqb, not, Bool, true, false, ◌&&◌, ◌||◌, List, [], ◌∷◌, ◌++◌, length, map, filter, refl, ap, sym, ◌∙◌, subst, arith, length-append, ⊎_elim}
+use Rattle.std.proofs.Common.{◌≡◌, ◌≢◌, ◌⊎◌, inl, inr, ℕ, ◌+◌, ◌<◌, ◌≤◌, ◌==◌, eqb, not, Bool, true, false, ◌&&◌, ◌||◌, List, [], ◌∷◌, ◌++◌, length, map, filter, refl, ap, sym, ◌∙◌, subst, arith, length-append, ⊎_elim, All}
 use Rattle.std.specs.List.{list_any, IsDistinct}
-use Rattle.std.proofs.lemmas.Bool.{cases_Bool, cases_eq, both_ways, not-true, not_from_true, not_from_false, eqb-true, eqb-false, eq-eqb, ne_eqb, and_from, and_left, and_right, or_parts, or_from, or_cases}
+use Rattle.std.proofs.lemmas.Bool.{cases_Bool, cases_eq, both_ways, not-true, not_from_true, not_from_false, eqb-true, eqb-false, eq-eqb, ne_eqb, and_parts, and_from, and_left, and_right, or_parts, or_from, or_cases}
 use Rattle.std.proofs.lemmas.List.{append-nil, map-append}
-use Rattle.std.proofs.lemmas.List.Elements.{All-filter, All-weaker, All-from_recursion, recursion_from_All, filter-append, filter_agree, filter_passes}
+use Rattle.std.proofs.lemmas.List.Elements.{All-filter, All-weaker, All-from_recursion, recursion_from_All, filter-append, filter_agree, filter_passes, All-nil, All-cons, All-head, All-tail, All-map}
 use Rattle.std.proofs.lemmas.List.Folds.{list_any-append}
 use Rattle.std.proofs.lemmas.Map.Views.{any-filter_same}
 use Rattle.cj_model.specs.declared.write.Write.{Write}
@@ -18,7 +18,7 @@ use Rattle.cj_model.specs.Placements.{Placement, hosts, writes_at, wrote_at}
 use Rattle.cj_model.specs.Begun.{AreFit, is_begin, is_end, has_ended, firsts, is_transaction_write, writers_at, begun_at}
 use Rattle.cj_model.proofs.FilterLaws.{filter_stays, filter_goes, filter_twice}
 use Rattle.cj_model.proofs.TransactionLaws.{by_fit_entries, tx_of_begin, tx_of_begin_other, tx_of_end, tx_of_end_other, tx_of_else, tx_of_below}
-use Rattle.cj_model.proofs.DraftLaws.{writes_within}
+use Rattle.cj_model.proofs.DraftLaws.{begins_free, writes_within}
 
 -- ---- numbers, each once
 
@@ -79,6 +79,12 @@ firsts_distinct (x ∷ xs) =
       recursion_from_All (λ y. eqb x y ≡ false) (filter keep (firsts xs)) (All-weaker (λ y. keep y ≡ true) (λ y. eqb x y ≡ false) (λ y t. not-true (x == y) t) (filter keep (firsts xs)) (filter_passes keep (firsts xs))),
       distinct_filter keep (firsts xs) (firsts_distinct xs),
     )
+
+-- what holds of all holds of each once
+firsts_all : (P : ℕ → Type 0) (xs : List ℕ) → All P xs → All P (firsts xs)
+firsts_all P [] all = All-nil P
+firsts_all P (x ∷ xs) all =
+    All-cons P x (filter (λ y. not (x == y)) (firsts xs)) (All-head P x xs all) (All-filter (λ y. not (x == y)) P (firsts xs) (firsts_all P xs (All-tail P x xs all)))
 
 -- ---- what one more entry is
 
@@ -245,6 +251,54 @@ module _ (p : Placement) (b : ℕ) where
   -- an open transaction has begun there if it wrote there
   pub open_begun : (s : ℕ) (entries : List Entry) → AreFit entries → tx_of entries s ≢ 0 → list_any (eqb (tx_of entries s)) (begun_at p b entries) ≡ wrote_at p b (tx_of entries s) entries
   open_begun s entries fits some = begun_have (tx_of entries s) entries some ∙ ap (λ c. not c && wrote_at p b (tx_of entries s) entries) (open_not_ended entries fits s some)
+
+  -- none of them is 0
+  pub begun_some : (entries : List Entry) → All (λ t. t ≢ 0) (begun_at p b entries)
+  begun_some entries =
+      let writes : List Entry = filter (is_transaction_write p b) entries in
+      All-filter (λ t. not (has_ended t entries)) (λ t. t ≢ 0) (writers_at p b entries)
+      (firsts_all (λ t. t ≢ 0) (writes_of entries)
+      (All-map (λ t. t ≢ 0) (λ (e : Entry). e.tx) writes
+      (All-weaker (λ (e : Entry). is_transaction_write p b e ≡ true) (λ (e : Entry). e.tx ≢ 0)
+      (λ e is. eqb-false e.tx 0 (not-true (e.tx == 0) (and_parts (not (e.tx == 0)) (writes_at p b e.tx e.tx e.act) is).0)) writes (filter_passes (is_transaction_write p b) entries))))
+
+  -- who wrote there and has not ended is open
+  running : (entries : List Entry) → AreFit entries → (t : ℕ) → t ≢ 0 → wrote_at p b t entries ≡ true → has_ended t entries ≡ false → (s : ℕ) × (tx_of entries s ≡ t)
+  running =
+      by_fit_entries (λ (l : List Entry). (t : ℕ) → t ≢ 0 → wrote_at p b t l ≡ true → has_ended t l ≡ false → (s : ℕ) × (tx_of l s ≡ t)) (λ t some wrote runs. absurd (cc wrote))
+      (λ before e fits fit h t some wrote runs.
+      let parts = or_parts (has_ended t before) (e.tx == t && is_end e.act) (sym (ended-push t before e) ∙ runs) in
+      let test : Entry → Bool = λ (d : Entry). writes_at p b t d.tx d.act in
+      ⊎_elim (λ (old : wrote_at p b t before ≡ true). let was = h t some old parts.0 in (was.0, stays before e t was.0 fit some was.1 parts.1 e.act refl ∙ was.1))
+      (λ (new : list_any test (e ∷ []) ≡ true).
+      ⊎_elim (λ (now : test e ≡ true). (e.session, writes before e t fit some e.act refl now)) (λ (none : false ≡ true). absurd (cc none)) (or_cases (test e) false new))
+      (or_cases (wrote_at p b t before) (list_any test (e ∷ [])) (sym (list_any-append test before (e ∷ [])) ∙ wrote)))
+    where
+      stays : (before : List Entry) (e : Entry) (t s : ℕ) → IsFit before e → t ≢ 0 → tx_of before s ≡ t → (e.tx == t && is_end e.act) ≡ false → (a : Act) → e.act ≡ a → tx_of (before ++ e ∷ []) s ≡ tx_of before s
+      stays before e t s fit some is runs act.Begin k = tx_of_begin_other before e s k (λ same. some (sym is ∙ (ap (tx_of before) (sym same) ∙ begins_free before e fit k)))
+      stays before e t s fit some is runs (act.Write w) k = tx_of_else before e s (ap is_begin k) (ap is_end k)
+      stays before e t s fit some is runs (act.Create c) k = tx_of_else before e s (ap is_begin k) (ap is_end k)
+      stays before e t s fit some is runs (act.Drop name) k = tx_of_else before e s (ap is_begin k) (ap is_end k)
+      stays before e t s fit some is runs act.Commit k =
+          tx_of_end_other before e s (ap is_end k) (λ same. both_ways (e.tx == t && is_end e.act) runs (and_from (e.tx == t) (is_end e.act) (eq-eqb e.tx t (same ∙ is)) (ap is_end k)))
+      stays before e t s fit some is runs act.Abort k =
+          tx_of_end_other before e s (ap is_end k) (λ same. both_ways (e.tx == t && is_end e.act) runs (and_from (e.tx == t) (is_end e.act) (eq-eqb e.tx t (same ∙ is)) (ap is_end k)))
+
+      writes : (before : List Entry) (e : Entry) (t : ℕ) → IsFit before e → t ≢ 0 → (a : Act) → e.act ≡ a → writes_at p b t e.tx a ≡ true → tx_of (before ++ e ∷ []) e.session ≡ t
+      writes before e t fit some act.Begin k now = absurd (cc now)
+      writes before e t fit some (act.Write w) k now =
+          let same : e.tx ≡ t = eqb-true e.tx t (and_parts (e.tx == t) (hosts p b (table_written w)) now).0 in
+          tx_of_else before e e.session (ap is_begin k) (ap is_end k) ∙ writes_within before e w fit k (λ z. some (sym same ∙ z)) ∙ same
+      writes before e t fit some (act.Create c) k now = absurd (cc now)
+      writes before e t fit some (act.Drop name) k now = absurd (cc now)
+      writes before e t fit some act.Commit k now = absurd (cc now)
+      writes before e t fit some act.Abort k now = absurd (cc now)
+
+  -- each that has begun there is the open transaction of a session
+  pub begun_is_open : (entries : List Entry) (t : ℕ) → AreFit entries → t ≢ 0 → list_any (eqb t) (begun_at p b entries) ≡ true → (s : ℕ) × (tx_of entries s ≡ t)
+  begun_is_open entries t fits some there =
+      let both = and_parts (not (has_ended t entries)) (wrote_at p b t entries) (sym (begun_have t entries some) ∙ there) in
+      running entries fits t some both.1 (not-true (has_ended t entries) both.0)
 
   -- ---- one more entry
 

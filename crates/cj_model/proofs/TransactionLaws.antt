@@ -1,8 +1,9 @@
 -- Transactions of a log: what one more entry makes of them, whose drafts a database has, and what their ends leave.
-use Rattle.std.proofs.Common.{◌≡◌, ◌≢◌, ◌⊎◌, inl, inr, ℕ, ◌+◌, ◌<◌, ◌≤◌, ◌==◌, suc, Bool, true, false, cond, List, [], ◌∷◌, ◌++◌, length, take, get_or, fold, None, refl, ap, sym, ◌∙◌, subst, arith, length-append, append_assoc, ⊎_elim}
+use Rattle.std.proofs.Common.{◌≡◌, ◌≢◌, ◌⊎◌, inl, inr, ℕ, ◌+◌, ◌<◌, ◌≤◌, ◌==◌, suc, Bool, true, false, cond, List, [], ◌∷◌, ◌++◌, length, take, get_or, fold, None, refl, ap, sym, ◌∙◌, subst, arith, length-append, append_assoc, ⊎_elim, zero, slice_get, Some}
 use Rattle.std.proofs.lemmas.Bool.{eqb-true, eq-eqb, ne_eqb, cond-true, cond-false}
 use Rattle.std.proofs.lemmas.Grind.{fold-append}
 use Rattle.std.proofs.lemmas.List.{append-nil}
+use Rattle.std.proofs.lemmas.Option.{slice_get_within, get_or_from_slice_get}
 use Rattle.cj_model.specs.declared.request.Act.{Act}
 use Rattle.cj_model.specs.declared.request.Act.TheVariants as act
 use Rattle.cj_model.specs.declared.request.Entry.{Entry}
@@ -24,17 +25,38 @@ module _ {A : Type 0} (P : List A → Type 0) (none : P []) (more : (before : Li
   pub by_items : (xs : List A) → P xs
   by_items xs = from_item [] xs none
 
+-- a fit entry more
+push_behind : (before rest : List Entry) (e : Entry) → AreFitBehind before rest → IsFit (before ++ rest) e → AreFitBehind before (rest ++ e ∷ [])
+push_behind before [] e fits fit = (subst (λ (l : List Entry). IsFit l e) (append-nil before) fit, tt)
+push_behind before (d ∷ rest) e fits fit = (fits.0, push_behind (before ++ d ∷ []) rest e fits.1 (subst (λ (l : List Entry). IsFit l e) (sym (append_assoc before (d ∷ []) rest)) fit))
+
+pub fit_push : (entries : List Entry) (e : Entry) → AreFit entries → IsFit entries e → AreFit (entries ++ e ∷ [])
+fit_push entries e fits fit = push_behind [] entries e fits fit
+
+-- the first entries of fit ones
+take_behind : (before rest : List Entry) (n : ℕ) → AreFitBehind before rest → AreFitBehind before (take n rest)
+take_behind before rest zero fits = tt
+take_behind before [] (suc n) fits = tt
+take_behind before (e ∷ rest) (suc n) fits = (fits.0, take_behind (before ++ e ∷ []) rest n fits.1)
+
+pub fit_take : (entries : List Entry) (n : ℕ) → AreFit entries → AreFit (take n entries)
+fit_take entries n fits = take_behind [] entries n fits
+
+-- an entry is fit behind the first ones
+get_behind : (before rest : List Entry) (k : ℕ) (d : Entry) → AreFitBehind before rest → k < length rest → IsFit (before ++ take k rest) (get_or rest k d)
+get_behind before [] k d fits lt = absurd (omega arith)
+get_behind before (e ∷ rest) zero d fits lt = subst (λ (l : List Entry). IsFit l e) (sym (append-nil before)) fits.0
+get_behind before (e ∷ rest) (suc k) d fits lt = subst (λ (l : List Entry). IsFit l (get_or rest k d)) (append_assoc before (e ∷ []) (take k rest)) (get_behind (before ++ e ∷ []) rest k d fits.1 (omega arith))
+
+pub fit_at : (entries : List Entry) (k : ℕ) (e : Entry) → AreFit entries → slice_get entries k ≡ Some e → IsFit (take k entries) e
+fit_at entries k e fits is = subst (λ (d : Entry). IsFit (take k entries) d) (get_or_from_slice_get entries k e e is) (get_behind [] entries k e fits (slice_get_within entries k e is))
+
 -- what one more fit entry keeps holds of each log of fit entries
 module _ (P : List Entry → Type 0) (none : P []) (more : (before : List Entry) (e : Entry) → AreFit before → IsFit before e → P before → P (before ++ e ∷ [])) where
-  -- a fit entry more
-  fit_push : (before rest : List Entry) (e : Entry) → AreFitBehind before rest → IsFit (before ++ rest) e → AreFitBehind before (rest ++ e ∷ [])
-  fit_push before [] e fits fit = (subst (λ (l : List Entry). IsFit l e) (append-nil before) fit, tt)
-  fit_push before (d ∷ rest) e fits fit = (fits.0, fit_push (before ++ d ∷ []) rest e fits.1 (subst (λ (l : List Entry). IsFit l e) (sym (append_assoc before (d ∷ []) rest)) fit))
-
   from_fit : (before rest : List Entry) → AreFit before → AreFitBehind before rest → P before → P (before ++ rest)
   from_fit before [] old fits h = subst P (sym (append-nil before)) h
   from_fit before (e ∷ rest) old fits h =
-      subst P (append_assoc before (e ∷ []) rest) (from_fit (before ++ e ∷ []) rest (fit_push [] before e old fits.0) fits.1 (more before e old fits.0 h))
+      subst P (append_assoc before (e ∷ []) rest) (from_fit (before ++ e ∷ []) rest (fit_push before e old fits.0) fits.1 (more before e old fits.0 h))
 
   pub by_fit_entries : (entries : List Entry) → AreFit entries → P entries
   by_fit_entries entries fits = from_fit [] entries tt fits none
