@@ -16,6 +16,7 @@ pub mod Names
 pub mod Now
 pub mod OneReading
 pub mod PartLaws
+pub mod PartRuns
 pub mod Pushed
 pub mod QueryLaws
 pub mod RefusalLaws
