@@ -188,6 +188,7 @@ module _ (p : Placement) (b : ℕ) where
       ap (map (λ (d : Entry). d.tx)) (filter-append (is_transaction_write p b) before (e ∷ []) ∙ ap (λ ds. filter (is_transaction_write p b) before ++ ds) (filter_stays (is_transaction_write p b) e [] is))
       ∙ map-append (λ (d : Entry). d.tx) (filter (is_transaction_write p b) before) (e ∷ [])
 
+  -- an entry that is none of its writes
   writes_same : (before : List Entry) (e : Entry) → is_transaction_write p b e ≡ false → writes_of (before ++ e ∷ []) ≡ writes_of before
   writes_same before e is =
       ap (map (λ (d : Entry). d.tx))
@@ -352,6 +353,7 @@ module _ (p : Placement) (b : ℕ) where
 
     -- ---- each act
 
+    -- an act that writes nothing there and ends nothing leaves them
     no_writer : (a : Act) → e.act ≡ a → writes_at p b e.tx e.tx a ≡ false → is_end a ≡ false → begun_at p b (before ++ e ∷ []) ≡ begun_at p b before
     no_writer a is off on = begun_kept (and_right (not (e.tx == 0)) (writes_at p b e.tx e.tx e.act) (ap (writes_at p b e.tx e.tx) is ∙ off)) (ap is_end is ∙ on)
 

@@ -56,6 +56,7 @@ writes_within before e w fit is some =
     (λ (a : OfAdministrator before e). let bad : act.Write w ≡ act.Abort = sym is ∙ a.aborts in absurd (cc bad)) fit.by
 
 module _ (before : List Entry) (e : Entry) where
+  -- the entries with this one
   abbrev after : List Entry
   after = before ++ e ∷ []
 
@@ -84,24 +85,29 @@ module _ (before : List Entry) (e : Entry) where
   -- ---- writes
 
   module _ (w : Write) (own : e.tx ≢ 0 → OpenWriter after (table_written w) e.tx) where
+    -- the slot that a write changed
     with_table_drafted : (s : Slot) (rows : List (List _)) → table_of s ≡ table_written w → IsDrafted after s → IsDrafted after (with_table s e.tx (record { schema = s.base.schema; rows = rows }))
     with_table_drafted s rows name is =
         let t : Table = record { schema = s.base.schema; rows = rows } in
         cond_both (eqb e.tx 0) (record { base = t; draft = s.draft }) (record { base = s.base; draft = Some (record { tx = e.tx; table = t }) }) (IsDrafted after) (λ _. is)
         (λ other. subst (λ n. OpenWriter after n e.tx) (sym name) (own (eqb-false e.tx 0 other)))
 
+    -- what a write that was carried out leaves
     write_done_drafted : (db : List Slot) (s : Slot) (c : Changed) → All (IsDrafted after) db → table_of s ≡ table_written w → IsDrafted after s → All (IsDrafted after) (write_done db s e.tx c).db
     write_done_drafted db s (Ok (rows, count)) all name is = all_put by_table (IsDrafted after) db _ all (with_table_drafted s rows name is)
     write_done_drafted db s (Err refusal) all name is = all
 
+    -- where no other transaction has a draft
     write_unless_locked_drafted : (db : List Slot) (s : Slot) (o : Option ℕ) → All (IsDrafted after) db → table_of s ≡ table_written w → IsDrafted after s → All (IsDrafted after) (write_unless_locked db s e.tx w o).db
     write_unless_locked_drafted db s None all name is = write_done_drafted db s (change (seen s e.tx) w) all name is
     write_unless_locked_drafted db s (Some other) all name is = all
 
+    -- where the table is found
     write_in_drafted : (db : List Slot) (found : Option Slot) → All (IsDrafted after) db → IfSome found (λ s. table_of s ≡ table_written w) → IfSome found (IsDrafted after) → All (IsDrafted after) (write_in db e.tx w found).db
     write_in_drafted db None all name is = all
     write_in_drafted db (Some s) all name is = write_unless_locked_drafted db s (other_writer e.tx s.draft) all name is
 
+    -- any write
     written_drafted : (db : List Slot) → All (IsDrafted after) db → All (IsDrafted after) (written db e.tx w).db
     written_drafted db all =
         write_in_drafted db (slot_of db (table_written w)) all (found_name db (table_written w)) (found_All (IsDrafted after) (λ s. bytes_eq (table_of s) (table_written w)) db all)
@@ -121,10 +127,12 @@ module _ (before : List Entry) (e : Entry) where
 
   -- ---- CREATE and DROP
 
+  -- a new table has no draft
   created_drafted : (db : List Slot) (c : Create) → All (IsDrafted after) db → All (IsDrafted after) (created db c).db
   created_drafted db c all = cond_both (is_some (slot_of db c.table)) _ _ (λ (s : Stepped). All (IsDrafted after) s.db) (λ _. all)
       (λ _. cond_both (make_schema c.columns) _ _ (λ (s : Stepped). All (IsDrafted after) s.db) (λ _. all_put by_table (IsDrafted after) db (empty_slot c) all tt) (λ _. all))
 
+  -- the other tables keep theirs
   drop_in_drafted : (db : List Slot) (name : List ℕ) (found : Option Slot) → All (IsDrafted after) db → All (IsDrafted after) (drop_in db name found).db
   drop_in_drafted db name None all = all
   drop_in_drafted db name (Some s) all = unlocked s.draft
@@ -139,11 +147,13 @@ module _ (before : List Entry) (e : Entry) where
   other_stays : is_end e.act ≡ true → (table : List ℕ) (tx : ℕ) (o : OpenWriter before table tx) → tx ≢ e.tx → OpenWriter after table tx
   other_stays ends table tx o ne = still_open table tx o (tx_of_end_other before e o.session ends (λ same. ne (sym o.is_open ∙ sym same)))
 
+  -- a slot after COMMIT
   commit_drafted : is_end e.act ≡ true → (base : Table) (draft : Option Draft) → IfSome draft (λ (d : Draft). OpenWriter before base.schema.table d.tx) → IsDrafted after (commit_behind base e.tx draft)
   commit_drafted ends base None h = tt
   commit_drafted ends base (Some d) h = cond_both (eqb d.tx e.tx) (record { base = d.table; draft = None }) (record { base = base; draft = Some d }) (IsDrafted after) (λ _. tt)
       (λ ne. other_stays ends base.schema.table d.tx h (eqb-false d.tx e.tx ne))
 
+  -- a slot after ROLLBACK
   abort_drafted : is_end e.act ≡ true → (base : Table) (draft : Option Draft) → IfSome draft (λ (d : Draft). OpenWriter before base.schema.table d.tx) → IsDrafted after (abort_behind base e.tx draft)
   abort_drafted ends base None h = tt
   abort_drafted ends base (Some d) h = cond_both (eqb d.tx e.tx) (record { base = base; draft = None }) (record { base = base; draft = Some d }) (IsDrafted after) (λ _. tt)
@@ -151,6 +161,7 @@ module _ (before : List Entry) (e : Entry) where
 
   -- ---- any act
 
+  -- any act of a fit entry
   act_drafted : (a : Act) → e.act ≡ a → IsFit before e → (db : List Slot) → All (IsDrafted before) db → All (IsDrafted after) (acted db e.tx a).db
   act_drafted act.Begin is fit db all =
       let free : tx_of before e.session ≡ 0 = begins_free before e fit is in
@@ -206,7 +217,7 @@ wrote_there p b table tx (e ∷ entries) on h =
 abbrev pub IsWithout : ℕ → Slot → Type 0
 IsWithout tx s = IfSome s.draft (λ (d : Draft). d.tx ≢ tx)
 
--- then neither of its ends changes it
+-- then COMMIT does not change it
 pub committed_without : (tx : ℕ) (s : Slot) → IsWithout tx s → committed tx s ≡ s
 committed_without tx s = one s.base s.draft
   where
@@ -214,6 +225,7 @@ committed_without tx s = one s.base s.draft
     one base None h = refl
     one base (Some d) h = cond-false (eqb d.tx tx) (record { base = d.table; draft = None }) (record { base = base; draft = Some d }) (ne_eqb d.tx tx h)
 
+-- nor does ROLLBACK
 pub aborted_without : (tx : ℕ) (s : Slot) → IsWithout tx s → aborted tx s ≡ s
 aborted_without tx s = one s.base s.draft
   where
@@ -239,15 +251,18 @@ module _ (p : Placement) (b tx : ℕ) (entries : List Entry) (fits : AreFit entr
               both_ways (wrote_at p b tx entries) nothing
               (subst (λ (t : ℕ). wrote_at p b t entries ≡ true) same (wrote_there p b (table_of s) d.tx entries on h.wrote))
 
-  -- so neither end changes it, before or after the part is taken
+  -- so COMMIT does not change it
   pub committed_nothing : map (committed tx) (part p b (run entries)) ≡ part p b (run entries)
   committed_nothing = map_same (committed tx) (part p b (run entries)) (All-weaker (IsWithout tx) (λ s. committed tx s ≡ s) (committed_without tx) (part p b (run entries)) without_draft)
 
+  -- nor does ROLLBACK change the part
   pub aborted_nothing : map (aborted tx) (part p b (run entries)) ≡ part p b (run entries)
   aborted_nothing = map_same (aborted tx) (part p b (run entries)) (All-weaker (IsWithout tx) (λ s. aborted tx s ≡ s) (aborted_without tx) (part p b (run entries)) without_draft)
 
+  -- the part of what COMMIT leaves is the part before
   pub part_committed_nothing : part p b (map (committed tx) (run entries)) ≡ part p b (run entries)
   part_committed_nothing = committed_part p b (run entries) tx (run_storable entries fits).database ∙ committed_nothing
 
+  -- and so is the part of what ROLLBACK leaves
   pub part_aborted_nothing : part p b (map (aborted tx) (run entries)) ≡ part p b (run entries)
   part_aborted_nothing = aborted_part p b (run entries) tx (run_storable entries fits).database ∙ aborted_nothing

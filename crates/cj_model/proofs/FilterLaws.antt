@@ -111,6 +111,7 @@ module _ {A : Type 0} (p : A → Bool) where
     put_first x (y ∷ ys) a = ap (λ o. match_ordering o (x ∷ y ∷ ys) (x ∷ ys) (y ∷ put_by R ys x)) (All-head (λ z. R x z ≡ Less) y ys a)
 
     module _ (total : IsTotalOrder R) where
+      -- what stands below the first stands below all
       above_all : (x y : A) (ys : List A) → R x y ≡ Less → All (λ z. R y z ≡ Less) ys → All (λ z. R x z ≡ Less) (y ∷ ys)
       above_all x y ys l a = All-cons (λ z. R x z ≡ Less) y ys l (λ k d lt. total.trans x y _ l (a k d lt))
 

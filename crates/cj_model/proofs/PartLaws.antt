@@ -63,6 +63,7 @@ module _ (p : Placement) (b : ℕ) where
 
   -- ---- queries
 
+  -- its tables are seen as in the whole
   seen_in_part : (db : List Slot) (tx : ℕ) (names : List (List ℕ)) → hosts_all p b names ≡ true → tables_seen (part p b db) tx names ≡ tables_seen db tx names
   seen_in_part db tx [] on = refl
   seen_in_part db tx (n ∷ names) on =
@@ -70,6 +71,7 @@ module _ (p : Placement) (b : ℕ) where
       ap (λ o. cons_option (option_map (λ s. seen s tx) o) (tables_seen (part p b db) tx names)) (found_in_part db n both.0)
       ∙ ap (λ ts. cons_option (option_map (λ s. seen s tx) (slot_of db n)) ts) (seen_in_part db tx names both.1)
 
+  -- one of the names is missing in both or in neither
   missing_in_part : (db : List Slot) (names : List (List ℕ)) → hosts_all p b names ≡ true
       → list_any (λ n. is_none (slot_of (part p b db) n)) names ≡ list_any (λ n. is_none (slot_of db n)) names
   missing_in_part db [] on = refl
@@ -94,17 +96,20 @@ module _ (p : Placement) (b : ℕ) where
   put_hosted : (db : List Slot) (s : Slot) → IsDatabase db → hosted s ≡ true → part p b (put_by by_table db s) ≡ put_by by_table (part p b db) s
   put_hosted db s is on = filter-put_stays hosted by_table tied by_table_total s on db is.rises
 
+  -- what a write that was carried out leaves
   write_done_hosted : (db : List Slot) (s : Slot) (tx : ℕ) (c : Changed) → IsDatabase db → hosted s ≡ true → SameAtPart (write_done db s tx c) (write_done (part p b db) s tx c)
   write_done_hosted db s tx (Ok (rows, count)) is on =
       let t : Table = record { schema = s.base.schema; rows = rows } in
       (put_hosted db (with_table s tx t) is (ap (hosts p b) (with_table-name s tx t refl) ∙ on), refl)
   write_done_hosted db s tx (Err refusal) is on = (refl, refl)
 
+  -- where no other transaction has a draft
   write_unless_locked_hosted : (db : List Slot) (s : Slot) (tx : ℕ) (w : Write) (o : Option ℕ) → IsDatabase db → hosted s ≡ true
       → SameAtPart (write_unless_locked db s tx w o) (write_unless_locked (part p b db) s tx w o)
   write_unless_locked_hosted db s tx w None is on = write_done_hosted db s tx (change (seen s tx) w) is on
   write_unless_locked_hosted db s tx w (Some other) is on = (refl, refl)
 
+  -- where the table is found
   write_in_hosted : (db : List Slot) (tx : ℕ) (w : Write) (found : Option Slot) → IsDatabase db → IfSome found (λ s. hosted s ≡ true) → SameAtPart (write_in db tx w found) (write_in (part p b db) tx w found)
   write_in_hosted db tx w None is on = (refl, refl)
   write_in_hosted db tx w (Some s) is on = write_unless_locked_hosted db s tx w (other_writer tx s.draft) is on
@@ -137,23 +142,26 @@ module _ (p : Placement) (b : ℕ) where
       same false true = (put_hosted db (empty_slot c) is on, refl)
       same false false = (refl, refl)
 
-  -- a DROP of one
+  -- where no transaction has a draft of it
   drop_unless_locked_hosted : (db : List Slot) (name : List ℕ) (draft : Option Draft) → SameAtPart (drop_unless_locked db name draft) (drop_unless_locked (part p b db) name draft)
   drop_unless_locked_hosted db name None = (filter_swap hosted (λ s. not (bytes_eq (table_of s) name)) db, refl)
   drop_unless_locked_hosted db name (Some d) = (refl, refl)
 
+  -- where the table of a DROP is found
   drop_in_hosted : (db : List Slot) (name : List ℕ) (found : Option Slot) → SameAtPart (drop_in db name found) (drop_in (part p b db) name found)
   drop_in_hosted db name None = (refl, refl)
   drop_in_hosted db name (Some s) = drop_unless_locked_hosted db name s.draft
 
+  -- a DROP of a hosted table
   pub dropped_hosted : (db : List Slot) (name : List ℕ) → hosts p b name ≡ true → SameAtPart (dropped db name) (dropped (part p b db) name)
   dropped_hosted db name on =
       subst (λ o. SameAtPart (dropped db name) (drop_in (part p b db) name o)) (sym (found_in_part db name on)) (drop_in_hosted db name (slot_of db name))
 
-  -- the end of a transaction
+  -- COMMIT does to the part what it does to the whole
   pub committed_part : (db : List Slot) (tx : ℕ) → IsDatabase db → part p b (map (committed tx) db) ≡ map (committed tx) (part p b db)
   committed_part db tx is = filter-map hosted IsSlot (committed tx) (λ s h. ap (hosts p b) (commit_behind-name s.base tx s.draft h.draft)) db is.slots
 
+  -- ROLLBACK does to the part what it does to the whole
   pub aborted_part : (db : List Slot) (tx : ℕ) → IsDatabase db → part p b (map (aborted tx) db) ≡ map (aborted tx) (part p b db)
   aborted_part db tx is = filter-map hosted IsSlot (aborted tx) (λ s h. ap (hosts p b) (abort_behind-name s.base tx s.draft)) db is.slots
 
@@ -181,16 +189,19 @@ module _ (p : Placement) (b : ℕ) where
   put_elsewhere : (db : List Slot) (s : Slot) → hosted s ≡ false → part p b (put_by by_table db s) ≡ part p b db
   put_elsewhere db s off = filter-put_goes hosted by_table tied s off db
 
+  -- what a write that was carried out leaves of the part
   write_done_elsewhere : (db : List Slot) (s : Slot) (tx : ℕ) (c : Changed) → hosted s ≡ false → part p b (write_done db s tx c).db ≡ part p b db
   write_done_elsewhere db s tx (Ok (rows, count)) off =
       let t : Table = record { schema = s.base.schema; rows = rows } in
       put_elsewhere db (with_table s tx t) (ap (hosts p b) (with_table-name s tx t refl) ∙ off)
   write_done_elsewhere db s tx (Err refusal) off = refl
 
+  -- where no other transaction has a draft of it
   write_unless_locked_elsewhere : (db : List Slot) (s : Slot) (tx : ℕ) (w : Write) (o : Option ℕ) → hosted s ≡ false → part p b (write_unless_locked db s tx w o).db ≡ part p b db
   write_unless_locked_elsewhere db s tx w None off = write_done_elsewhere db s tx (change (seen s tx) w) off
   write_unless_locked_elsewhere db s tx w (Some other) off = refl
 
+  -- where the other table is found
   write_in_elsewhere : (db : List Slot) (tx : ℕ) (w : Write) (found : Option Slot) → IfSome found (λ s. hosted s ≡ false) → part p b (write_in db tx w found).db ≡ part p b db
   write_in_elsewhere db tx w None off = refl
   write_in_elsewhere db tx w (Some s) off = write_unless_locked_elsewhere db s tx w (other_writer tx s.draft) off
@@ -205,7 +216,7 @@ module _ (p : Placement) (b : ℕ) where
       cond_both (is_some (slot_of db c.table)) _ _ (λ (s : Stepped). part p b s.db ≡ part p b db) (λ _. refl)
       (λ _. cond_both (make_schema c.columns) _ _ (λ (s : Stepped). part p b s.db ≡ part p b db) (λ _. put_elsewhere db (empty_slot c) off) (λ _. refl))
 
-  -- a DROP of one
+  -- a DROP, where the other table is found
   drop_in_elsewhere : (db : List Slot) (name : List ℕ) (found : Option Slot) → hosts p b name ≡ false → part p b (drop_in db name found).db ≡ part p b db
   drop_in_elsewhere db name None off = refl
   drop_in_elsewhere db name (Some s) off = unlocked s.draft
@@ -217,6 +228,7 @@ module _ (p : Placement) (b : ℕ) where
       unlocked None = filter_after hosted (λ t. not (bytes_eq (table_of t) name)) other db
       unlocked (Some d) = refl
 
+  -- a DROP of a table that is not hosted
   pub dropped_elsewhere : (db : List Slot) (name : List ℕ) → hosts p b name ≡ false → part p b (dropped db name).db ≡ part p b db
   dropped_elsewhere db name off = drop_in_elsewhere db name (slot_of db name) off
 

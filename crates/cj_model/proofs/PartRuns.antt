@@ -31,6 +31,7 @@ take_next xs k x is =
 pub run-push : (entries : List Entry) (e : Entry) → run (entries ++ e ∷ []) ≡ (step (run entries) e).db
 run-push entries e = fold-append (λ (db : List Slot) (d : Entry). (step db d).db) [] entries (e ∷ [])
 
+-- the same at the next place of a log
 pub at_next : (entries : List Entry) (k : ℕ) (e : Entry) → slice_get entries k ≡ Some e → at entries (k + 1) ≡ (step (at entries k) e).db
 at_next entries k e is = ap run (take_next entries k e is) ∙ run-push (take k entries) e
 

@@ -18,10 +18,12 @@ use Rattle.cj_model.proofs.Pushed.{log-sched, log-same}
 
 -- what one more item keeps holds of each list
 module _ {A : Type 0} (P : List A → Type 0) (none : P []) (more : (before : List A) (x : A) → P before → P (before ++ x ∷ [])) where
+  -- from any list on
   from_item : (before rest : List A) → P before → P (before ++ rest)
   from_item before [] h = subst P (sym (append-nil before)) h
   from_item before (x ∷ rest) h = subst P (append_assoc before (x ∷ []) rest) (from_item (before ++ x ∷ []) rest (more before x h))
 
+  -- so it holds of every list
   pub by_items : (xs : List A) → P xs
   by_items xs = from_item [] xs none
 
@@ -30,6 +32,7 @@ push_behind : (before rest : List Entry) (e : Entry) → AreFitBehind before res
 push_behind before [] e fits fit = (subst (λ (l : List Entry). IsFit l e) (append-nil before) fit, tt)
 push_behind before (d ∷ rest) e fits fit = (fits.0, push_behind (before ++ d ∷ []) rest e fits.1 (subst (λ (l : List Entry). IsFit l e) (sym (append_assoc before (d ∷ []) rest)) fit))
 
+-- so a fit entry more leaves the log fit
 pub fit_push : (entries : List Entry) (e : Entry) → AreFit entries → IsFit entries e → AreFit (entries ++ e ∷ [])
 fit_push entries e fits fit = push_behind [] entries e fits fit
 
@@ -39,6 +42,7 @@ take_behind before rest zero fits = tt
 take_behind before [] (suc n) fits = tt
 take_behind before (e ∷ rest) (suc n) fits = (fits.0, take_behind (before ++ e ∷ []) rest n fits.1)
 
+-- so each beginning of a fit log is fit
 pub fit_take : (entries : List Entry) (n : ℕ) → AreFit entries → AreFit (take n entries)
 fit_take entries n fits = take_behind [] entries n fits
 
@@ -48,16 +52,19 @@ get_behind before [] k d fits lt = absurd (omega arith)
 get_behind before (e ∷ rest) zero d fits lt = subst (λ (l : List Entry). IsFit l e) (sym (append-nil before)) fits.0
 get_behind before (e ∷ rest) (suc k) d fits lt = subst (λ (l : List Entry). IsFit l (get_or rest k d)) (append_assoc before (e ∷ []) (take k rest)) (get_behind (before ++ e ∷ []) rest k d fits.1 (omega arith))
 
+-- so each entry of a fit log is fit behind those before it
 pub fit_at : (entries : List Entry) (k : ℕ) (e : Entry) → AreFit entries → slice_get entries k ≡ Some e → IsFit (take k entries) e
 fit_at entries k e fits is = subst (λ (d : Entry). IsFit (take k entries) d) (get_or_from_slice_get entries k e e is) (get_behind [] entries k e fits (slice_get_within entries k e is))
 
 -- what one more fit entry keeps holds of each log of fit entries
 module _ (P : List Entry → Type 0) (none : P []) (more : (before : List Entry) (e : Entry) → AreFit before → IsFit before e → P before → P (before ++ e ∷ [])) where
+  -- from any fit entries on
   from_fit : (before rest : List Entry) → AreFit before → AreFitBehind before rest → P before → P (before ++ rest)
   from_fit before [] old fits h = subst P (sym (append-nil before)) h
   from_fit before (e ∷ rest) old fits h =
       subst P (append_assoc before (e ∷ []) rest) (from_fit (before ++ e ∷ []) rest (fit_push before e old fits.0) fits.1 (more before e old fits.0 h))
 
+  -- so it holds of every fit log
   pub by_fit_entries : (entries : List Entry) → AreFit entries → P entries
   by_fit_entries entries fits = from_fit [] entries tt fits none
 
@@ -118,6 +125,7 @@ pub tx_of_begin_other : (entries : List Entry) (e : Entry) (s : ℕ) → e.act �
 tx_of_begin_other entries e s is ne =
     tx_of-push entries e s ∙ ap (tx_now s (now entries s) e) is ∙ cond-false (e.session == s) (length entries + 1) (tx_of entries s) (ne_eqb e.session s ne)
 
+-- what an end makes of a transaction
 now_end : (s : ℕ) (t : TxState) (e : Entry) (a : Act) → is_end a ≡ true → tx_now s t e a ≡ cond (e.tx == t.tx) 0 t.tx
 now_end s t e act.Begin is = absurd (cc is)
 now_end s t e (act.Write w) is = absurd (cc is)
@@ -134,6 +142,7 @@ tx_of_end entries e s is same = tx_of-push entries e s ∙ now_end s (now entrie
 pub tx_of_end_other : (entries : List Entry) (e : Entry) (s : ℕ) → is_end e.act ≡ true → e.tx ≢ tx_of entries s → tx_of (entries ++ e ∷ []) s ≡ tx_of entries s
 tx_of_end_other entries e s is ne = tx_of-push entries e s ∙ now_end s (now entries s) e e.act is ∙ cond-false (e.tx == tx_of entries s) 0 (tx_of entries s) (ne_eqb e.tx (tx_of entries s) ne)
 
+-- what an act that begins and ends nothing makes of it
 now_else : (s : ℕ) (t : TxState) (e : Entry) (a : Act) → is_begin a ≡ false → is_end a ≡ false → tx_now s t e a ≡ t.tx
 now_else s t e act.Begin is on = absurd (cc is)
 now_else s t e (act.Write w) is on = refl
@@ -148,6 +157,7 @@ tx_of_else entries e s is on = tx_of-push entries e s ∙ now_else s (now entrie
 
 -- ---- numbers of transactions
 
+-- it is at most the number of entries
 now_below : (s : ℕ) (t : TxState) (e : Entry) (a : Act) → t.tx ≤ t.count → tx_now s t e a ≤ t.count + 1
 now_below s t e act.Begin le = one (e.session == s)
   where
