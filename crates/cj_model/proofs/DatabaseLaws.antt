@@ -166,7 +166,7 @@ commit_behind_is_slot base tx (Some d) is h = cond_both (eqb d.tx tx) (record { 
     (λ _. record { base = h.1; draft = tt })
     (λ _. record { base = is; draft = h })
 
-commit_behind-name : (base : Table) (tx : ℕ) (draft : Option Draft) → IfDraft base draft → table_of (commit_behind base tx draft) ≡ base.schema.table
+pub commit_behind-name : (base : Table) (tx : ℕ) (draft : Option Draft) → IfDraft base draft → table_of (commit_behind base tx draft) ≡ base.schema.table
 commit_behind-name base tx None h = refl
 commit_behind-name base tx (Some d) h = cond_both (eqb d.tx tx) (record { base = d.table; draft = None }) (record { base = base; draft = Some d }) (λ (s : Slot). table_of s ≡ base.schema.table)
     (λ _. ap (λ c. c.table) h.2)
@@ -178,7 +178,7 @@ abort_behind_is_slot base tx (Some d) is h = cond_both (eqb d.tx tx) (record { b
     (λ _. record { base = is; draft = tt })
     (λ _. record { base = is; draft = h })
 
-abort_behind-name : (base : Table) (tx : ℕ) (draft : Option Draft) → table_of (abort_behind base tx draft) ≡ base.schema.table
+pub abort_behind-name : (base : Table) (tx : ℕ) (draft : Option Draft) → table_of (abort_behind base tx draft) ≡ base.schema.table
 abort_behind-name base tx None = refl
 abort_behind-name base tx (Some d) = cond_both (eqb d.tx tx) (record { base = base; draft = None }) (record { base = base; draft = Some d }) (λ (s : Slot). table_of s ≡ base.schema.table) (λ _. refl) (λ _. refl)
 

@@ -1,5 +1,6 @@
 pub mod Answering
 pub mod Balancing
+pub mod Begun
 pub mod Changes
 pub mod ConditionCode
 pub mod ConditionForms
@@ -12,8 +13,8 @@ pub mod Frames
 pub mod Grammar
 pub mod Histories
 pub mod Legality
-pub mod Lexical
 pub mod Lent
+pub mod Lexical
 pub mod Literals
 pub mod Macros
 pub mod Moves
