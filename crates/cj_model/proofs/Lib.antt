@@ -8,6 +8,7 @@ pub mod Effects
 pub mod FaultLaws
 pub mod Fields
 pub mod Growth
+pub mod MaskBits
 pub mod Masks
 pub mod Names
 pub mod Now

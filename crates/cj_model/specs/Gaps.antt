@@ -1,0 +1,11 @@
+-- Where an item is put into a rising list of which each item is its own key.
+use Rattle.std.specs.Prelude.{◌≡◌, ℕ, ◌≤◌, List, length, insert}
+use Rattle.std.specs.declared.option.Option.{Option}
+use Rattle.std.specs.declared.option.Option.TheVariants.{None, Some}
+use Rattle.std.specs.declared.cmp.Ordering.{Ordering}
+use Rattle.cj_model.specs.Tables.{put_by}
+
+-- in front of which place x is put; none where it stands there already
+abbrev pub IsGap : {A : Type 0} → (A → A → Ordering) → List A → A → Option ℕ → Type 0
+IsGap order xs x None = put_by order xs x ≡ xs
+IsGap order xs x (Some i) = (i ≤ length xs) × (put_by order xs x ≡ insert xs i x)
