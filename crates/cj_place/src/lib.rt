@@ -2,6 +2,9 @@
 #![tactic(auto)]
 
 mod error;
+mod masks;
 mod refusals;
+mod rows;
 
 pub use error::PlaceError;
+pub use refusals::BACKEND_LIMIT;

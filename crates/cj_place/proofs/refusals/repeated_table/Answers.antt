@@ -1,7 +1,7 @@
 use Rattle.std.proofs.Common.{◌∙◌, ap, sym, []}
 use Rattle.std.specs.declared.option.Option.TheVariants.{Some}
 use Rattle.cj_place.specs.Refusals.{repeated}
-use Rattle.cj_place.proofs.Rows.{tables, repeated_found, repeated_passed}
+use Rattle.cj_place.proofs.Repeats.{tables, repeated_found, repeated_passed}
 use Rattle.cj_place.proofs.refusals.repeated_table.Goals as goal
 
 pub returns-then-has_table : goal.returns-then-has_table
