@@ -3,8 +3,10 @@
 
 mod error;
 mod masks;
+mod placement;
 mod refusals;
 mod rows;
 
 pub use error::PlaceError;
+pub use placement::Placement;
 pub use refusals::BACKEND_LIMIT;

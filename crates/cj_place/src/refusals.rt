@@ -122,7 +122,10 @@ fn has_all(backends: &[Name], hosts: &[Name]) -> bool
 fn not_all(backends: &[Name], rows: &[PlaceRow]) -> Option<Name>
     ensures { result ≡ refusals.not_all backends.now rows.now }
 {
-    table_of(rows.iter().find(|row| !has_all(backends, row.hosts.as_slice())))
+    table_of(
+        rows.iter()
+            .find(|row| !has_all(backends, row.hosts.as_slice())),
+    )
 }
 
 /// What the level refuses.

@@ -104,11 +104,7 @@ fn put_row(rows: &mut Vec<HostRow>, row: HostRow) -> Result<(), NoMemory>
 }
 
 /// The rows in rising name of their table, with their masks.
-pub fn host_rows(
-    alloc: Global,
-    names: &[Name],
-    rows: PlaceRows,
-) -> Result<Vec<HostRow>, NoMemory>
+pub fn host_rows(alloc: Global, names: &[Name], rows: PlaceRows) -> Result<Vec<HostRow>, NoMemory>
     requires { length names.now ≤ 16 }
     ensures masks { IfOk result (λ made. All (IsMasked names.now) made.items) }
     ensures rows { IfOk result (λ made. map (λ row. row.given) made.items ≡ fold (put_by by_row) [] rows) }

@@ -1,4 +1,4 @@
-use Rattle.std.proofs.Common.{◌≡◌, ◌∙◌, ◌∷◌, List, [], sym, ap, subst}
+use Rattle.std.proofs.Common.{◌∙◌, List, sym, ap, subst}
 use Rattle.std.specs.Prelude.{All, fold}
 use Rattle.cj_model.specs.declared.placement.PlaceRow.{PlaceRow}
 use Rattle.cj_model.specs.Tables.{put_by}

@@ -1,4 +1,4 @@
-use Rattle.std.proofs.Common.{◌≡◌, get_or, Equal, sym, ap, ◌∙◌}
+use Rattle.std.proofs.Common.{◌≡◌, Equal, sym, ap, ◌∙◌}
 use Rattle.cj_model.specs.Tables.{name_cmp}
 use Rattle.cj_model.proofs.RisingLaws.{put_over}
 use Rattle.cj_place.specs.Kept.{by_given}
