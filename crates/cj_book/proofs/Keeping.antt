@@ -9,7 +9,7 @@ use Rattle.cj_model.specs.declared.event.Event.TheVariants.{Sched, Ended, ReadFa
 use Rattle.cj_model.specs.Histories.{has, scheduled, is_ended, log, done, free, enabled, room}
 use Rattle.cj_model.proofs.Pushed.{get_seam, get_left, enabled-push, log-sched, log-same, done-same, done-ended}
 use Rattle.cj_book.specs.Kept.{Keeps, entry_at}
-use Rattle.cj_book.proofs.MaskBits.{has_without, has_cleared, has_set}
+use Rattle.cj_model.proofs.MaskBits.{has_without, has_cleared, has_set}
 
 -- ---- the entries at their places
 

@@ -12,6 +12,7 @@ pub mod FaultLaws
 pub mod Fields
 pub mod FilterLaws
 pub mod Growth
+pub mod MaskBits
 pub mod Masks
 pub mod Names
 pub mod Now

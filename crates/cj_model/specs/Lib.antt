@@ -10,6 +10,7 @@ pub mod Cores
 pub mod Evaluation
 pub mod Fields
 pub mod Frames
+pub mod Gaps
 pub mod Grammar
 pub mod Histories
 pub mod Legality

@@ -1,6 +1,6 @@
 //! The one list type behind all lists of the vocabulary.
 
-ghost use Rattle.std.specs.Prelude.{◌≡◌, ◌↔◌, [], ◌∷◌, ◌++◌, length, IsTrue, OnOk, OnErr};
+ghost use Rattle.std.specs.Prelude.{◌≡◌, ◌↔◌, ◌≤◌, [], ◌∷◌, ◌++◌, insert, length, IsTrue, OnOk, OnErr};
 
 use crate::memory::{Duplicate, NoMemory};
 use std::alloc::Global;
@@ -83,6 +83,17 @@ impl<T: Drop> ListOf<T> {
         ensures err { OnErr result (self.new ≡ self.old) }
     {
         self.items.push(item)?;
+        Ok(())
+    }
+
+    /// Adds an item in front of the one at a place, or at the end; want of memory leaves the list as
+    /// it was.
+    pub fn insert(&mut self, place: usize, item: T) -> Result<(), NoMemory>
+        requires { place ≤ length self.old }
+        ensures ok { OnOk result (self.new ≡ insert self.old place item) }
+        ensures err { OnErr result (self.new ≡ self.old) }
+    {
+        self.items.insert(place, item)?;
         Ok(())
     }
 }

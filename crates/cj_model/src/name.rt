@@ -16,7 +16,7 @@ pub const NAME_LIMIT: usize = 32;
 
 /// A name: 1 to 32 ASCII letters in lower case, digits and `_`, not beginning with a digit.
 /// It takes no memory. The empty name stands only where that is said.
-#[derive(Drop)]
+#[derive(Debug, Drop)]
 pub struct Name {
     bytes: [u8; 32],
     len: u8,

@@ -2,7 +2,7 @@ use Rattle.std.proofs.Common.{◌&&◌, ◌||◌, not, ap, sym, ◌∙◌, rules
 use Rattle.cj_model.specs.declared.event.Event.TheVariants.{Ended}
 use Rattle.cj_model.specs.Histories.{has}
 use Rattle.cj_model.proofs.Pushed.{enabled-push}
-use Rattle.cj_book.proofs.MaskBits.{has_without}
+use Rattle.cj_model.proofs.MaskBits.{has_without}
 use Rattle.cj_book.proofs.book.Book.left.Goals as goal
 
 pub returns : goal.returns

@@ -8,7 +8,7 @@ use Rattle.std.proofs.Math.Nat.{mod-eq_of_lt}
 use Rattle.cj_model.specs.Histories.{has}
 
 -- both masks have what their conjunction has
-has-and : (m n b : ℕ) → has (bit_and m n) b ≡ (has m b && has n b)
+pub has-and : (m n b : ℕ) → has (bit_and m n) b ≡ (has m b && has n b)
 has-and m n b = ap (λ x. x == 1) (bit_at_and m n b) ∙ of_min (bit_at m b) (bit_at n b) (bit_at-lt m b) (bit_at-lt n b)
   where
     of_min : (x y : ℕ) → x < 2 → y < 2 → (min x y == 1) ≡ ((x == 1) && (y == 1))
@@ -21,7 +21,7 @@ has-and m n b = ap (λ x. x == 1) (bit_at_and m n b) ∙ of_min (bit_at m b) (bi
     of_min (suc zero) (suc (suc y)) p q = absurd (omega arith)
 
 -- one of the masks has what their union has
-has-or : (m n b : ℕ) → has (bit_or m n) b ≡ (has m b || has n b)
+pub has-or : (m n b : ℕ) → has (bit_or m n) b ≡ (has m b || has n b)
 has-or m n b = ap (λ x. x == 1) (bit_at_or m n b) ∙ of_max (bit_at m b) (bit_at n b) (bit_at-lt m b) (bit_at-lt n b)
   where
     of_max : (x y : ℕ) → x < 2 → y < 2 → (max x y == 1) ≡ ((x == 1) || (y == 1))
@@ -34,11 +34,11 @@ has-or m n b = ap (λ x. x == 1) (bit_at_or m n b) ∙ of_max (bit_at m b) (bit_
     of_max (suc zero) (suc (suc y)) p q = absurd (omega arith)
 
 -- a mask of 32 bits has no backend from 32 on
-has_above : (m b : ℕ) → m < 2 ^ 32 → 32 ≤ b → has m b ≡ false
+pub has_above : (m b : ℕ) → m < 2 ^ 32 → 32 ≤ b → has m b ≡ false
 has_above m b lt le = ap (λ x. x == 1) (bit_at_above m 32 b lt le)
 
 -- the complement has the other backends below 32
-has-not : (m b : ℕ) → m < 2 ^ 32 → b < 32 → has (4294967295 - m) b ≡ not (has m b)
+pub has-not : (m b : ℕ) → m < 2 ^ 32 → b < 32 → has (4294967295 - m) b ≡ not (has m b)
 has-not m b lt below = ap (λ x. x == 1) (bit_at_not w32 m b lt below) ∙ of_minus (bit_at m b) (bit_at-lt m b)
   where
     of_minus : (x : ℕ) → x < 2 → (1 - x == 1) ≡ not (x == 1)
@@ -60,7 +60,7 @@ pub has_without : (m f s b : ℕ) → m < 2 ^ 32 → f < 2 ^ 32 → s < 2 ^ 32 �
 has_without m f s b fits p q = has-and_not m (bit_or f s) b fits (or_lt 32 f s p q) ∙ ap (λ x. has m b && not x) (has-or f s b)
 
 -- the mask of one backend
-has-shifted : (b k : ℕ) → b < 32 → has (1 * 2 ^ b % 4294967296) k ≡ (k == b)
+pub has-shifted : (b k : ℕ) → b < 32 → has (1 * 2 ^ b % 4294967296) k ≡ (k == b)
 has-shifted b k lt =
     ap (λ x. has x k) small
     ∙ ⊎_elim

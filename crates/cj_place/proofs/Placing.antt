@@ -1,0 +1,128 @@
+-- Rows with their masks, put in their places, and looked up.
+use Rattle.std.proofs.Common.{◌≡◌, ℕ, ◌==◌, ◌&&◌, ◌||◌, Bool, true, false, cond, nat_lt, List, [], ◌∷◌, length, map, refl, sym, ap, ◌∙◌, subst, Less, Equal, Greater, ⊎_elim}
+use Rattle.std.specs.Prelude.{All, find, fold}
+use Rattle.std.specs.declared.option.Option.TheVariants.{Some}
+use Rattle.std.specs.Cmp.{IsTotalOrder}
+use Rattle.std.specs.Option.{option_map_or}
+use Rattle.std.specs.Ordering.{match_ordering}
+use Rattle.std.specs.List.{list_any, flat_map}
+use Rattle.std.specs.Str.{bytes_eq}
+use Rattle.std.proofs.lemmas.Bool.{and_left, and_parts, cases_Bool, false_from_ne_true, leb-true, or_from}
+use Rattle.std.proofs.lemmas.Cmp.{nat_list_cmp_total, on_total, tied_itself}
+use Rattle.std.proofs.lemmas.List.Concat.{flat_map-cons}
+use Rattle.std.proofs.lemmas.List.Elements.{All-head, All-tail}
+use Rattle.std.proofs.lemmas.List.Folds.{list_any-append}
+use Rattle.std.proofs.lemmas.Slice.Eq.{bytes_eq-Decides}
+use Rattle.cj_model.specs.declared.placement.PlaceRow.{PlaceRow}
+use Rattle.cj_model.specs.Histories.{has}
+use Rattle.cj_model.specs.Placements.{Hosting, hosts}
+use Rattle.cj_model.specs.Tables.{Rises, name_cmp, put_by}
+use Rattle.cj_model.proofs.Masks.{has-zero}
+use Rattle.cj_model.proofs.RisingLaws.{rises_put_each}
+use Rattle.cj_place.specs.declared.rows.HostRow.{HostRow}
+use Rattle.cj_place.specs.Layouts.{by_row, number_of, placement_of, row_hostings}
+use Rattle.cj_place.specs.Kept.{IsKept, IsMasked, by_given, given_rows, mask_in}
+use Rattle.cj_place.specs.Refusals.{has_count}
+
+-- ---- putting in
+
+-- a row with its mask is put where the row is put
+pub given_put : (rows : List HostRow) (row : HostRow) → given_rows (put_by by_given rows row) ≡ put_by by_row (given_rows rows) row.given
+given_put [] row = refl
+given_put (r ∷ rows) row = elim (by_row row.given r.given) as (λ o. given_rows (match_ordering o (row ∷ r ∷ rows) (row ∷ rows) (r ∷ put_by by_given rows row)) ≡ match_ordering o (row.given ∷ r.given ∷ given_rows rows) (row.given ∷ given_rows rows) (r.given ∷ put_by by_row (given_rows rows) row.given)) [
+  | Less ↦ refl
+  | Equal ↦ refl
+  | Greater ↦ ap (λ (rs : List PlaceRow). r.given ∷ rs) (given_put rows row)
+]
+
+-- rows have a total order by their tables
+by_row_total : IsTotalOrder by_row
+by_row_total = on_total (λ (row : PlaceRow). row.table) nat_list_cmp_total
+
+-- the rows put in their places, with their masks, are kept
+pub makes_kept : (names : List (List ℕ)) (rows : List PlaceRow) (made : List HostRow) (empty : List ℕ) → has_count names ≡ true → All (IsMasked names) made → given_rows made ≡ fold (put_by by_row) [] rows → empty ≡ [] → IsKept names made empty
+makes_kept names rows made empty count masks is nameless =
+    let counts = and_parts _ _ count in
+    record {
+      some = leb-true 1 (length names) counts.0;
+      most = leb-true (length names) 16 counts.1;
+      masks = masks;
+      rises = subst (Rises by_row) (sym is) (rises_put_each by_row by_row_total [] rows tt);
+      nameless = nameless;
+    }
+
+-- ---- looking up
+
+on_bool : {G : Type 0} (b : Bool) → (b ≡ true → G) → (b ≡ false → G) → G
+on_bool b f g = ⊎_elim (λ (t : b ≡ true). f t) (λ (t : b ≡ false). g t) (cases_Bool b)
+
+any_map : {A B : Type 0} (q : B → Bool) (f : A → B) (xs : List A) → list_any q (map f xs) ≡ list_any (λ x. q (f x)) xs
+any_map q f [] = refl
+any_map q f (x ∷ xs) = ap (λ b. q (f x) || b) (any_map q f xs)
+
+any_and : {A : Type 0} (a : Bool) (f : A → Bool) (xs : List A) → list_any (λ x. a && f x) xs ≡ (a && list_any f xs)
+any_and true f xs = refl
+any_and false f [] = refl
+any_and false f (x ∷ xs) = any_and false f xs
+
+or-false : (b : Bool) → (b || false) ≡ b
+or-false true = refl
+or-false false = refl
+
+and-false : (b : Bool) → (b && false) ≡ false
+and-false true = refl
+and-false false = refl
+
+module _ (names : List (List ℕ)) (table : List ℕ) (b : ℕ) where
+  abbrev is_it : Hosting → Bool
+  is_it h = bytes_eq h.table table && h.backend == b
+
+  abbrev has_number : PlaceRow → Bool
+  has_number row = list_any (λ host. number_of names host == b) row.hosts
+
+  -- the first row, and those behind it
+  one_more : (row : PlaceRow) (rows : List PlaceRow) → list_any is_it (flat_map (row_hostings names) (row ∷ rows)) ≡ ((bytes_eq row.table table && has_number row) || list_any is_it (flat_map (row_hostings names) rows))
+  one_more row rows =
+      ap (list_any is_it) (flat_map-cons (row_hostings names) row rows)
+      ∙ list_any-append is_it (row_hostings names row) (flat_map (row_hostings names) rows)
+      ∙ ap (λ x. x || list_any is_it (flat_map (row_hostings names) rows))
+      (any_map is_it (λ host. record { table = row.table; backend = number_of names host }) row.hosts
+      ∙ any_and (bytes_eq row.table table) (λ host. number_of names host == b) row.hosts)
+
+  -- a row that stands above one of the table isn't of it
+  other_table : (r s : PlaceRow) → bytes_eq r.table table ≡ true → by_row r s ≡ Less → bytes_eq s.table table ≡ false
+  other_table r s t below = false_from_ne_true (bytes_eq s.table table) (λ u.
+      let same : r.table ≡ s.table = (bytes_eq-Decides r.table table).0 t ∙ sym ((bytes_eq-Decides s.table table).0 u) in
+      let e : Less ≡ Equal = sym below ∙ ap (λ n. name_cmp n s.table) same ∙ tied_itself nat_list_cmp_total s.table in
+      cc)
+
+  none_behind : (r : PlaceRow) (rows : List PlaceRow) → bytes_eq r.table table ≡ true → All (λ s. by_row r s ≡ Less) rows → list_any is_it (flat_map (row_hostings names) rows) ≡ false
+  none_behind r [] t below = refl
+  none_behind r (s ∷ rows) t below =
+      one_more s rows
+      ∙ or_from (bytes_eq s.table table && has_number s) (list_any is_it (flat_map (row_hostings names) rows))
+      (and_left (bytes_eq s.table table) (has_number s) (other_table r s t (All-head (λ s. by_row r s ≡ Less) s rows below)))
+      (none_behind r rows t (All-tail (λ s. by_row r s ≡ Less) s rows below))
+
+  abbrev Finds : List HostRow → Type 0
+  Finds rows = has (mask_in rows table) b ≡ (nat_lt b (length names) && list_any is_it (flat_map (row_hostings names) (given_rows rows)))
+
+  -- the mask that is found has the hosts that the rows list
+  mask_hosts : (rows : List HostRow) → All (IsMasked names) rows → Rises by_row (given_rows rows) → Finds rows
+  mask_hosts [] masks rises = has-zero b ∙ sym (and-false (nat_lt b (length names)))
+  mask_hosts (r ∷ rows) masks rises =
+      let found : Bool → Bool = λ o. has (option_map_or (λ (row : HostRow). row.mask) (cond o (Some r) (find (λ (row : HostRow). bytes_eq row.given.table table) rows)) 0) b in
+      let rest : Bool = list_any is_it (flat_map (row_hostings names) (given_rows rows)) in
+      let lists : Bool → Bool = λ o. nat_lt b (length names) && ((o && has_number r.given) || rest) in
+      let listed : (nat_lt b (length names) && list_any is_it (flat_map (row_hostings names) (given_rows (r ∷ rows)))) ≡ lists (bytes_eq r.given.table table) =
+      ap (λ x. nat_lt b (length names) && x) (one_more r.given (given_rows rows)) in
+      on_bool (bytes_eq r.given.table table)
+      (λ t. ap found t ∙ All-head (IsMasked names) r rows masks b
+      ∙ sym (listed ∙ ap lists t ∙ ap (λ x. nat_lt b (length names) && (has_number r.given || x)) (none_behind r.given (given_rows rows) t rises.0)
+      ∙ ap (λ x. nat_lt b (length names) && x) (or-false (has_number r.given))))
+      (λ f. ap found f ∙ mask_hosts rows (All-tail (IsMasked names) r rows masks) rises.1 ∙ sym (listed ∙ ap lists f))
+
+  -- it has the hosts of the table, where not every backend hosts all
+  pub part_hosts : (full : Bool) (rows : List HostRow) → full ≡ false → All (IsMasked names) rows → Rises by_row (given_rows rows) → has (mask_in rows table) b ≡ hosts (placement_of (record { names = names; full = full; rows = given_rows rows })) b table
+  part_hosts full rows f masks rises =
+      mask_hosts rows masks rises ∙ ap (λ k. nat_lt b (length names) && (k || list_any is_it (flat_map (row_hostings names) (given_rows rows)))) (sym f)

@@ -1,0 +1,14 @@
+use Rattle.std.proofs.Common.{◌≡◌, []}
+use Rattle.std.specs.Prelude.{All, fold}
+use Rattle.cj_model.specs.Tables.{put_by}
+use Rattle.cj_place.specs.Layouts.{by_row}
+use Rattle.cj_place.specs.Kept.{IsMasked, given_rows}
+use Rattle.cj_place.proofs.rows.host_rows.Given as goal
+
+abbrev pub invariant-loop-row : goal.invariant-loop-row
+invariant-loop-row l = record {
+  can_next : (goal.iterator-loop-row).can_next l.row-iterator;
+  is_finite : (goal.iterator-loop-row).is_finite l.row-iterator;
+  masks : All (IsMasked l.names) l.made.items;
+  all : fold (put_by by_row) (given_rows l.made.items) l.row-iterator.rest.items ≡ fold (put_by by_row) [] l.fn.rows;
+}

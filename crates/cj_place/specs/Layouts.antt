@@ -1,0 +1,71 @@
+-- What a placement of tables is, and what its calls say.
+use Rattle.std.specs.Prelude.{◌≡◌, ℕ, Bool, true, false, not, ◌&&◌, ◌||◌, ◌==◌, List, [], length, map, find, filter, fold, if◌then◌else◌}
+use Rattle.std.specs.declared.option.Option.{Option}
+use Rattle.std.specs.declared.option.Option.TheVariants.{None, Some}
+use Rattle.std.specs.declared.result.Result.{Result}
+use Rattle.std.specs.declared.result.Result.TheVariants.{Ok, Err}
+use Rattle.std.specs.declared.cmp.Ordering.{Ordering}
+use Rattle.std.specs.List.{list_all, flat_map, position_or_len, range_with_len}
+use Rattle.std.specs.Str.{bytes_eq}
+use Rattle.cj_model.specs.declared.placement.Level.{Level}
+use Rattle.cj_model.specs.declared.placement.Level.TheVariants.{Raidb0, Raidb1, Raidb2}
+use Rattle.cj_model.specs.declared.placement.PlaceRow.{PlaceRow}
+use Rattle.cj_model.specs.Histories.{has}
+use Rattle.cj_model.specs.Placements.{Hosting, Placement, hosts}
+use Rattle.cj_model.specs.Tables.{name_cmp, put_by}
+use Rattle.cj_place.specs.declared.error.PlaceError.{PlaceError}
+use Rattle.cj_place.specs.declared.error.PlaceError.TheVariants as error
+
+-- the names of the backends, whether each of them hosts every table, and the rows in rising name of their table
+pub record Layout : Type 0 where
+  pub names : List (List ℕ)
+  pub full : Bool
+  pub rows : List PlaceRow
+
+-- the number of the backend that has this name
+abbrev pub number_of : List (List ℕ) → List ℕ → ℕ
+number_of names name = position_or_len (λ n. bytes_eq n name) names
+
+-- a row's table with each of its hosts
+abbrev pub row_hostings : List (List ℕ) → PlaceRow → List Hosting
+row_hostings names row = map (λ host. record { table = row.table; backend = number_of names host }) row.hosts
+
+-- which backends host which tables
+abbrev pub placement_of : Layout → Placement
+placement_of l = record { backends = length l.names; full = l.full; hostings = flat_map (row_hostings l.names) l.rows }
+
+-- ---- making one
+
+-- rows by the name of their table
+abbrev pub by_row : PlaceRow → PlaceRow → Ordering
+by_row r s = name_cmp r.table s.table
+
+abbrev pub is_full : Level → Bool
+is_full Raidb0 = false
+is_full Raidb1 = true
+is_full Raidb2 = false
+
+abbrev pub layout_of : Level → List (List ℕ) → List PlaceRow → Layout
+layout_of level names rows = record { names = names; full = is_full level; rows = fold (put_by by_row) [] rows }
+
+-- the refusal, if there is one; otherwise the layout, or want of memory
+abbrev pub Makes : Option PlaceError → Layout → Result Layout PlaceError → Type 0
+Makes (Some refusal) layout result = result ≡ Err refusal
+Makes None layout (Ok made) = made ≡ layout
+Makes None layout (Err e) = e ≡ error.NoMemory
+
+-- ---- calls
+
+-- the tables of the rows that backend b hosts
+abbrev pub tables_at : Layout → ℕ → List (List ℕ)
+tables_at l b = filter (hosts (placement_of l) b) (map (λ (row : PlaceRow). row.table) l.rows)
+
+-- backend b is enabled and hosts the table, and each other backend isn't or doesn't
+abbrev pub is_last_host : Placement → ℕ → ℕ → List ℕ → Bool
+is_last_host p b enabled table = hosts p b table && has enabled b && list_all (λ c. c == b || not (hosts p c table && has enabled c)) (range_with_len 0 p.backends)
+
+-- the first table of the rows whose only enabled host is b; where every backend hosts all tables, the empty name if b alone is enabled
+abbrev pub last_host : Layout → ℕ → ℕ → Option (List ℕ)
+last_host l b enabled =
+    if l.full then (if is_last_host (placement_of l) b enabled [] then Some [] else None)
+    else find (is_last_host (placement_of l) b enabled) (map (λ (row : PlaceRow). row.table) l.rows)

@@ -1,0 +1,12 @@
+//! Which backends host which tables.
+#![tactic(auto)]
+
+mod error;
+mod masks;
+mod placement;
+mod refusals;
+mod rows;
+
+pub use error::PlaceError;
+pub use placement::Placement;
+pub use refusals::BACKEND_LIMIT;

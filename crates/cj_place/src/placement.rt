@@ -1,0 +1,224 @@
+//! Placements of tables on backends.
+
+ghost use Rattle.std.specs.Prelude.{◌≡◌, ◌<◌, ◌≤◌, [], ◌∷◌, ℕ, Some, filter, find, fold, length, map, option_copied, position, slice_get, true, IfOk, OnOk, OnErr};
+ghost use Rattle.std.specs.Str.{bytes_eq};
+ghost use Rattle.cj_model.specs.Histories.{has};
+ghost use Rattle.cj_model.specs.Placements as placements;
+ghost use Rattle.cj_model.specs.Placements.{hosts_all};
+ghost use Rattle.cj_model.specs.Tables.{name_cmp, put_by};
+ghost use Rattle.cj_place.specs.Layouts as layouts;
+ghost use Rattle.cj_place.specs.Layouts.{Makes, is_full, layout_of, placement_of, tables_at};
+ghost use Rattle.cj_place.specs.Refusals.{has_count, refusal_of};
+
+use crate::error::PlaceError;
+use crate::masks::{first_bits, has_bit, is_lone_bit};
+use crate::refusals::refusal;
+use crate::rows::{HostRow, host_rows, mask_at, number_of};
+use cj_model::{Duplicate, Level, ListOf, Name, Names, NoMemory, PlaceRows, TableSet};
+use std::alloc::Global;
+use std::marker::Model;
+
+/// Which backends host which tables. Backends go by their number, from 0.
+#[derive(Drop)]
+pub struct Placement {
+    names: Names,
+    /// Whether each backend hosts every table.
+    full: bool,
+    /// The rows in rising name of their table.
+    rows: ListOf<HostRow>,
+    /// The name that is lent where no table is meant.
+    empty: Name,
+}
+
+impl Model for Placement {
+    ghost use Rattle.std.specs.Prelude.{map};
+    ghost use Rattle.cj_place.specs.Layouts.{Layout};
+
+    ghost Value = { Layout };
+
+    ghost use Rattle.cj_place.specs.Kept.{IsKept, given_rows};
+
+    ghost view = { λ p. record { names = p.names; full = p.full; rows = given_rows p.rows } };
+
+    ghost invariant = { λ p. IsKept p.names p.rows p.empty };
+}
+
+fn replicates_in_full(level: Level) -> bool
+    ensures { result ≡ is_full level }
+{
+    match level {
+        Level::Raidb0 => false,
+        Level::Raidb1 => true,
+        Level::Raidb2 => false,
+    }
+}
+
+impl Placement {
+    /// The placement of the rows, each of which has a table and its hosts.
+    pub fn new(
+        alloc: Global,
+        level: Level,
+        backends: Names,
+        rows: PlaceRows,
+    ) -> Result<Placement, PlaceError>
+        ensures { Makes (refusal_of level backends rows) (layout_of level backends rows) result }
+    {
+        if let Some(refusal) = refusal(level, backends.as_slice(), rows.as_slice()) {
+            return Err(refusal);
+        }
+        match Placement::build(alloc, level, backends, rows) {
+            Ok(placement) => Ok(placement),
+            Err(_) => Err(PlaceError::NoMemory),
+        }
+    }
+
+    fn build(
+        alloc: Global,
+        level: Level,
+        names: Names,
+        rows: PlaceRows,
+    ) -> Result<Placement, NoMemory>
+        requires { has_count names ≡ true }
+        ensures { IfOk result (λ placement. placement ≡ layout_of level names rows) }
+    {
+        let rows = host_rows(alloc, names.as_slice(), rows)?;
+        Ok(Placement {
+            names,
+            full: replicates_in_full(level),
+            rows: ListOf::from_vec(rows),
+            empty: Name::empty(),
+        })
+    }
+
+    /// How many backends there are.
+    pub fn count(&self) -> u8
+        ensures count { result ≡ length self.now.names }
+        ensures some { 0 < result }
+        ensures most { result ≤ 16 }
+    {
+        self.names.len() as u8
+    }
+
+    /// The name of a backend.
+    pub fn name(&self, b: u8) -> &Name
+        requires { b < length self.now.names }
+        ensures { slice_get self.now.names b ≡ Some result.now }
+    {
+        &self.names.as_slice()[b as usize]
+    }
+
+    /// The backend of a name; none exactly where no backend has it.
+    pub fn find(&self, name: &Name) -> Option<u8>
+        ensures { result ≡ position (λ n. bytes_eq n name.now) self.now.names }
+    {
+        number_of(self.names.as_slice(), name)
+    }
+
+    /// Whether each backend hosts every table.
+    pub fn all(&self) -> bool
+        ensures { result ≡ self.now.full }
+    {
+        self.full
+    }
+
+    /// The mask of the backends that host a table.
+    pub fn hosts(&self, table: &Name) -> u32
+        ensures { (b : ℕ) → has result b ≡ placements.hosts (placement_of self.now) b table.now }
+    {
+        if self.full {
+            return first_bits(self.names.len());
+        }
+        mask_at(self.rows.as_slice(), table)
+    }
+
+    fn is_host(&self, b: u8, table: &Name) -> bool
+        requires { b < length self.now.names }
+        ensures { result ≡ placements.hosts (placement_of self.now) b table.now }
+    {
+        let _ = &self.names;
+        has_bit(self.hosts(table), b)
+    }
+
+    /// Whether a backend hosts each table of a set.
+    pub fn serves(&self, b: u8, set: &TableSet) -> bool
+        requires { b < length self.now.names }
+        ensures { result ≡ hosts_all (placement_of self.now) b set.now }
+    {
+        set.as_slice().iter().all(|table| self.is_host(b, table))
+    }
+
+    fn add_hosted(&self, set: &mut TableSet, b: u8, table: &Name) -> Result<(), NoMemory>
+        requires { b < length self.now.names }
+        ensures { OnOk result (set.new ≡ fold (put_by name_cmp) set.old (filter (placements.hosts (placement_of self.now) b) (table.now ∷ []))) }
+    {
+        if self.is_host(b, table) {
+            set.insert(table)?;
+        }
+        Ok(())
+    }
+
+    fn hosted_of(&self, alloc: Global, b: u8, rows: &[HostRow]) -> Result<TableSet, NoMemory>
+        requires { b < length self.now.names }
+        ensures { IfOk result (λ set. set ≡ fold (put_by name_cmp) [] (filter (placements.hosts (placement_of self.now) b) (map (λ row. row.given.table) rows.now))) }
+    {
+        let mut set = TableSet::new(alloc);
+        for row in rows {
+            self.add_hosted(&mut set, b, &row.given.table)?;
+        }
+        Ok(set)
+    }
+
+    /// The tables of the rows that a backend hosts.
+    pub fn hosted(&self, alloc: Global, b: u8) -> Result<TableSet, NoMemory>
+        requires { b < length self.now.names }
+        ensures { IfOk result (λ set. set ≡ fold (put_by name_cmp) [] (tables_at self.now b)) }
+    {
+        self.hosted_of(alloc, b, self.rows.as_slice())
+    }
+
+    fn is_last_host(&self, b: u8, enabled: u32, table: &Name) -> bool
+        requires { b < length self.now.names }
+        ensures { result ≡ layouts.is_last_host (placement_of self.now) b enabled table.now }
+    {
+        let _ = &self.names;
+        is_lone_bit(self.hosts(table) & enabled, b)
+    }
+
+    fn last_of<'a>(&self, b: u8, enabled: u32, rows: &'a [HostRow]) -> Option<&'a Name>
+        requires { b < length self.now.names }
+        ensures { option_copied result ≡ find (layouts.is_last_host (placement_of self.now) b enabled) (map (λ row. row.given.table) rows.now) }
+    {
+        for row in rows {
+            if self.is_last_host(b, enabled, &row.given.table) {
+                return Some(&row.given.table);
+            }
+        }
+        None
+    }
+
+    /// The first table, in the order of names, whose only enabled host is the backend. Where each
+    /// backend hosts every table, the empty name, exactly where the backend alone is enabled.
+    pub fn last_host(&self, b: u8, enabled: u32) -> Option<&Name>
+        requires { b < length self.now.names }
+        ensures { option_copied result ≡ layouts.last_host self.now b enabled }
+    {
+        if self.full {
+            if self.is_last_host(b, enabled, &self.empty) {
+                return Some(&self.empty);
+            }
+            return None;
+        }
+        self.last_of(b, enabled, self.rows.as_slice())
+    }
+}
+
+impl Duplicate for Placement {
+    fn copy(&self, alloc: Global) -> Result<Placement, NoMemory> {
+        Ok(Placement {
+            names: self.names.copy(alloc)?,
+            full: self.full,
+            rows: self.rows.copy(alloc)?,
+            empty: self.empty.copy(),
+        })
+    }
+}

@@ -1,0 +1,135 @@
+//! Tables with the masks of their hosts.
+
+ghost use Rattle.std.specs.Prelude.{◌≡◌, ◌≤◌, ◌==◌, ◌||◌, ◌&&◌, [], All, ℕ, find, fold, length, map, nat_lt, option_copied, position, IfOk, OnOk};
+ghost use Rattle.std.specs.List.{list_any};
+ghost use Rattle.std.specs.Str.{bytes_eq};
+ghost use Rattle.cj_model.specs.Gaps.{IsPlace};
+ghost use Rattle.cj_model.specs.Histories.{has};
+ghost use Rattle.cj_model.specs.Tables.{Rises, put_by};
+ghost use Rattle.cj_place.specs.Layouts.{by_row};
+ghost use Rattle.cj_place.specs.Layouts as layouts;
+ghost use Rattle.cj_place.specs.Kept.{HasMask, IsMasked, by_given, mask_in};
+
+use crate::masks::with_bit;
+use cj_model::{Duplicate, Name, NoMemory, PlaceRow, PlaceRows};
+use std::alloc::Global;
+use std::cmp::Ordering;
+
+/// A row, and the mask of its hosts.
+#[derive(Drop)]
+pub struct HostRow {
+    pub given: PlaceRow,
+    pub mask: u32,
+}
+
+impl Duplicate for HostRow {
+    fn copy(&self, alloc: Global) -> Result<HostRow, NoMemory> {
+        Ok(HostRow {
+            given: self.given.copy(alloc)?,
+            mask: self.mask,
+        })
+    }
+}
+
+fn place_in(names: &[Name], name: &Name) -> Option<usize>
+    ensures { result ≡ position (λ n. bytes_eq n name.now) names.now }
+{
+    names.iter().position(|n| n.is(name))
+}
+
+/// The number of the backend of a name.
+pub fn number_of(names: &[Name], name: &Name) -> Option<u8>
+    requires { length names.now ≤ 16 }
+    ensures { result ≡ position (λ n. bytes_eq n name.now) names.now }
+{
+    match place_in(names, name) {
+        Some(b) => Some(b as u8),
+        None => None,
+    }
+}
+
+fn with_host(names: &[Name], mask: u32, host: &Name) -> u32
+    requires { length names.now ≤ 16 }
+    ensures { (b : ℕ) → has result b ≡ (has mask b || (nat_lt b (length names.now) && layouts.number_of names.now host.now == b)) }
+{
+    match number_of(names, host) {
+        Some(b) => with_bit(mask, b),
+        None => mask,
+    }
+}
+
+fn mask_of(names: &[Name], hosts: &[Name]) -> u32
+    requires { length names.now ≤ 16 }
+    ensures { HasMask names.now hosts.now result }
+{
+    let mut mask = 0;
+    for host in hosts {
+        mask = with_host(names, mask, host);
+    }
+    mask
+}
+
+fn host_row(names: &[Name], given: PlaceRow) -> HostRow
+    requires { length names.now ≤ 16 }
+    ensures given { result.given ≡ given }
+    ensures mask { IsMasked names.now result }
+{
+    let mask = mask_of(names, given.hosts.as_slice());
+    HostRow { given, mask }
+}
+
+/// Where a row of the table is put: at the place of the table, or in front of the one at a place.
+fn place_of(rows: &[HostRow], row: &HostRow) -> Result<usize, usize>
+    ensures { IsPlace by_given rows.now row.now result }
+{
+    let table = row.given.table.as_slice();
+    for (i, other) in rows.iter().enumerate() {
+        match table.cmp(other.given.table.as_slice()) {
+            Ordering::Less => return Err(i),
+            Ordering::Equal => return Ok(i),
+            Ordering::Greater => {}
+        }
+    }
+    Err(rows.len())
+}
+
+fn put_row(rows: &mut Vec<HostRow>, row: HostRow) -> Result<(), NoMemory>
+    ensures { OnOk result (rows.new.items ≡ put_by by_given rows.old.items row) }
+{
+    match place_of(rows, &row) {
+        Ok(place) => rows[place] = row,
+        Err(place) => rows.insert(place, row)?,
+    }
+    Ok(())
+}
+
+/// The rows in rising name of their table, with their masks.
+pub fn host_rows(alloc: Global, names: &[Name], rows: PlaceRows) -> Result<Vec<HostRow>, NoMemory>
+    requires { length names.now ≤ 16 }
+    ensures masks { IfOk result (λ made. All (IsMasked names.now) made.items) }
+    ensures rows { IfOk result (λ made. map (λ row. row.given) made.items ≡ fold (put_by by_row) [] rows) }
+{
+    let mut made = Vec::new(alloc);
+    for row in rows.into_vec() {
+        put_row(&mut made, host_row(names, row))?;
+    }
+    Ok(made)
+}
+
+fn find_row<'a>(rows: &'a [HostRow], table: &Name) -> Option<&'a HostRow>
+    requires { Rises by_row (map (λ row. row.given) rows.now) }
+    ensures { option_copied result ≡ find (λ row. bytes_eq row.given.table table.now) rows.now }
+{
+    rows.iter().find(|row| row.given.table.is(table))
+}
+
+/// The mask of the row of a table, or 0 where there is no such row.
+pub fn mask_at(rows: &[HostRow], table: &Name) -> u32
+    requires { Rises by_row (map (λ row. row.given) rows.now) }
+    ensures { result ≡ mask_in rows.now table.now }
+{
+    match find_row(rows, table) {
+        Some(row) => row.mask,
+        None => 0,
+    }
+}
