@@ -1,8 +1,7 @@
 -- What a cell that takes its next entry makes of the cells.
-use Rattle.std.proofs.Common.{◌≡◌, ◌≢◌, ℕ, suc, ◌+◌, ◌<◌, ◌≤◌, not, Bool, true, List, [], ◌∷◌, ◌++◌, length, map, take, get_or, set, slice_get, All, Option, Some, option_map, IfSome, Result, Ok, Err, refl, ap, sym, ◌∙◌, subst, arith}
+use Rattle.std.proofs.Common.{◌≡◌, ◌≢◌, ℕ, suc, ◌+◌, ◌<◌, ◌≤◌, not, Bool, true, List, [], ◌∷◌, length, map, take, get_or, set, slice_get, All, Option, Some, option_map, IfSome, Result, Ok, Err, refl, ap, sym, ◌∙◌, subst, arith}
 use Rattle.std.proofs.lemmas.Bool.{both_ways}
-use Rattle.std.proofs.lemmas.Grind.{fold-append}
-use Rattle.std.proofs.lemmas.List.{take_more, get_or_default, length-map}
+use Rattle.std.proofs.lemmas.List.{get_or_default, length-map}
 use Rattle.std.proofs.lemmas.List.Elements.{All-nil, All-cons}
 use Rattle.std.proofs.lemmas.Option.{slice_get_within, get_or_from_slice_get}
 use Rattle.cj_outside.specs.Causes.{Rose}
@@ -17,12 +16,13 @@ use Rattle.cj_model.specs.Plain.{request_of}
 use Rattle.cj_model.specs.Placements.{everywhere, part}
 use Rattle.cj_model.specs.Steps.{step}
 use Rattle.cj_model.specs.Tables.{table_of}
-use Rattle.cj_model.specs.Histories.{log, run, at}
+use Rattle.cj_model.specs.Histories.{log, at}
 use Rattle.cj_model.specs.Legality.{Allowed, IsLegal, IsWritten}
 use Rattle.cj_model.specs.Cores.{position_at}
 use Rattle.cj_model.specs.Moves.{DoesEntry}
 use Rattle.cj_model.specs.Sound.{IsLone, Holds}
 use Rattle.cj_model.proofs.Effects.{is_there}
+use Rattle.cj_model.proofs.PartRuns.{at_next}
 use Rattle.cj_replica.specs.declared.cell.Caught.{Caught}
 use Rattle.cj_replica.specs.declared.cell.Caught.TheVariants as caught
 use Rattle.cj_replica.specs.declared.cell.CellError.{CellError}
@@ -40,13 +40,6 @@ use Rattle.cj_core.proofs.Taking.{hosts_each, concerns_all}
 pub part_all : (n b : ℕ) (db : List Slot) → b < n → part (everywhere n) b db ≡ db
 part_all n b [] lt = refl
 part_all n b (s ∷ db) lt = rw (hosts_each n b (table_of s) lt) (ap (λ l. s ∷ l) (part_all n b db lt))
-
--- the database after one more entry
-at_more : (entries : List Entry) (p : ℕ) (e : Entry) → slice_get entries p ≡ Some e → at entries (p + 1) ≡ (step (at entries p) e).db
-at_more entries p e is =
-    let lt : p < length entries = slice_get_within entries p e is in
-    let read : get_or entries p e ≡ e = get_or_from_slice_get entries p e e is in
-    ap run (take_more entries p e lt ∙ ap (λ (x : Entry). take p entries ++ x ∷ []) read) ∙ fold-append (λ (db : List Slot) (x : Entry). (step db x).db) [] (take p entries) (e ∷ [])
 
 -- ---- what the log has
 
@@ -95,7 +88,7 @@ module _ (tells : Bool) (n : ℕ) (h : List Event) (cells : List CellState) (b :
       subst (λ (z : Option ℕ). Holds tells (everywhere n) b (log h) y.told z) (sym is)
       (λ on.
       told ∙ (ap (option_map (λ db. (step db e).db)) (told_now on)
-      ∙ (ap (λ db. Some db) (sym (at_more (log h) can.p e entry)) ∙ ap (λ db. Some db) (sym (part_all n b (at (log h) (can.p + 1)) can.below)))))
+      ∙ (ap (λ db. Some db) (sym (at_next (log h) can.p e entry)) ∙ ap (λ db. Some db) (sym (part_all n b (at (log h) (can.p + 1)) can.below)))))
   holds_now (Err d) skipped told q is = subst (λ (z : Option ℕ). Holds tells (everywhere n) b (log h) y.told z) (sym is) tt
 
   does_now : (r : Result Caught CellError) → is_concerned x e ≡ not (is_skipped r) → SaysOutcome x.told e r → y.position ≡ position_after (can.p + 1) r

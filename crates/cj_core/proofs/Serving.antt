@@ -9,7 +9,7 @@ use Rattle.cj_model.specs.Placements.{Placement, everywhere, hosts_all, needs}
 use Rattle.cj_model.specs.Histories.{has, enabled}
 use Rattle.cj_model.specs.Answering.{ServesAt}
 use Rattle.cj_model.proofs.Masks.{has-zero, no_bit}
-use Rattle.cj_book.proofs.MaskBits.{has_without}
+use Rattle.cj_model.proofs.MaskBits.{has_without}
 use Rattle.cj_core.specs.Worlds.{WorldState, IsWorld}
 use Rattle.cj_core.specs.Effects.{Covers}
 use Rattle.cj_core.proofs.Taking.{hosts_each}
