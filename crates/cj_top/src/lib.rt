@@ -15,7 +15,7 @@ pub use session::Session;
 #[cfg(test)]
 mod load_tests;
 #[cfg(test)]
-mod sql_cases;
+mod row_limit_tests;
 #[cfg(test)]
 mod sql_tests;
 #[cfg(test)]
