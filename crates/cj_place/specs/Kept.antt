@@ -14,12 +14,15 @@ use Rattle.cj_place.specs.Layouts.{number_of, by_row}
 abbrev pub HasMask : List (List ℕ) → List (List ℕ) → ℕ → Type 0
 HasMask names hosts mask = (b : ℕ) → has mask b ≡ (nat_lt b (length names) && list_any (λ host. number_of names host == b) hosts)
 
+-- the row has the mask of its hosts
 abbrev pub IsMasked : List (List ℕ) → HostRow → Type 0
 IsMasked names row = HasMask names row.given.hosts row.mask
 
+-- rows by the name of their table
 abbrev pub by_given : HostRow → HostRow → Ordering
 by_given r s = by_row r.given s.given
 
+-- the rows without their masks
 abbrev pub given_rows : List HostRow → List PlaceRow
 given_rows rows = map (λ (row : HostRow). row.given) rows
 

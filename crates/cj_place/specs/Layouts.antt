@@ -40,11 +40,13 @@ placement_of l = record { backends = length l.names; full = l.full; hostings = f
 abbrev pub by_row : PlaceRow → PlaceRow → Ordering
 by_row r s = name_cmp r.table s.table
 
+-- the level at which each backend hosts every table
 abbrev pub is_full : Level → Bool
 is_full Raidb0 = false
 is_full Raidb1 = true
 is_full Raidb2 = false
 
+-- the layout of rows that aren't refused
 abbrev pub layout_of : Level → List (List ℕ) → List PlaceRow → Layout
 layout_of level names rows = record { names = names; full = is_full level; rows = fold (put_by by_row) [] rows }
 

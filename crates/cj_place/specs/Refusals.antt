@@ -13,10 +13,11 @@ use Rattle.cj_place.specs.declared.error.PlaceError.TheVariants.{BackendCount, T
 
 -- ---- words
 
+-- the name is one of the names
 abbrev pub is_among : List (List ℕ) → List ℕ → Bool
 is_among names name = list_any (λ n. bytes_eq n name) names
 
--- the first name that stands among those before it, which are behind the ones seen
+-- the first of the names that stands among those seen, or among those before it
 abbrev pub repeated : List (List ℕ) → List (List ℕ) → Option (List ℕ)
 repeated seen [] = None
 repeated seen (n ∷ ns) = if is_among seen n then Some n else repeated (seen ++ n ∷ []) ns

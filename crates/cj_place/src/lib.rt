@@ -9,4 +9,3 @@ mod rows;
 
 pub use error::PlaceError;
 pub use placement::Placement;
-pub use refusals::BACKEND_LIMIT;

@@ -10,7 +10,7 @@ use crate::error::PlaceError;
 use cj_model::{Level, Name, PlaceRow};
 
 /// The most backends.
-pub const BACKEND_LIMIT: usize = 16;
+const BACKEND_LIMIT: usize = 16;
 
 fn is_among(names: &[Name], name: &Name) -> bool
     ensures { result ≡ refusals.is_among names.now name.now }

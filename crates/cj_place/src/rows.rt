@@ -116,11 +116,21 @@ pub fn host_rows(alloc: Global, names: &[Name], rows: PlaceRows) -> Result<Vec<H
     Ok(made)
 }
 
+/// The row of a table, by halves.
 fn find_row<'a>(rows: &'a [HostRow], table: &Name) -> Option<&'a HostRow>
     requires { Rises by_row (map (λ row. row.given) rows.now) }
     ensures { option_copied result ≡ find (λ row. bytes_eq row.given.table table.now) rows.now }
 {
-    rows.iter().find(|row| row.given.table.is(table))
+    if rows.is_empty() {
+        return None;
+    }
+    let middle = rows.len() / 2;
+    let row = &rows[middle];
+    match table.as_slice().cmp(row.given.table.as_slice()) {
+        Ordering::Less => find_row(&rows[..middle], table),
+        Ordering::Equal => Some(row),
+        Ordering::Greater => find_row(&rows[middle + 1..], table),
+    }
 }
 
 /// The mask of the row of a table, or 0 where there is no such row.

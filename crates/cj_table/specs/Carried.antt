@@ -1,10 +1,9 @@
 -- What a call that changes a database gives.
-use Rattle.std.specs.Prelude.{◌≡◌, ℕ, ◌<◌, ◌≤◌, List, length, insert, slice_set}
+use Rattle.std.specs.Prelude.{◌≡◌, ℕ, List}
 use Rattle.std.specs.declared.option.Option.{Option}
 use Rattle.std.specs.declared.option.Option.TheVariants.{None, Some}
 use Rattle.std.specs.declared.result.Result.{Result}
 use Rattle.std.specs.declared.result.Result.TheVariants.{Ok, Err}
-use Rattle.std.specs.declared.cmp.Ordering.{Ordering}
 use Rattle.cj_model.specs.declared.memory.NoMemory.{NoMemory}
 use Rattle.cj_model.specs.declared.database.Slot.{Slot}
 use Rattle.cj_model.specs.declared.write.Write.{Write}
@@ -12,7 +11,6 @@ use Rattle.cj_model.specs.declared.answer.Outcome.{Outcome}
 use Rattle.cj_model.specs.declared.answer.Outcome.TheVariants.{Done}
 use Rattle.cj_model.specs.declared.answer.Outcome.TheVariants as outcome
 use Rattle.cj_model.specs.declared.codes.TheConstants.{LOCKED}
-use Rattle.cj_model.specs.Tables.{put_by}
 use Rattle.cj_model.specs.Changes.{Changed}
 use Rattle.cj_model.specs.Updates.{change}
 use Rattle.cj_model.specs.Steps.{Stepped, seen, other_writer, with_table}
@@ -38,15 +36,3 @@ CarriesSlot old tx (Ok (rows, count)) (Ok o) new = (o ≡ Done count) × (new �
 CarriesSlot old tx (Err refusal) (Ok o) new = (o ≡ outcome.Refused refusal) × (new ≡ old)
 CarriesSlot old tx (Ok (rows, count)) (Err e) new = new ≡ old
 CarriesSlot old tx (Err refusal) (Err e) new = new ≡ old
-
--- ---- places in a rising list
-
--- where x is put: at the place of what is equal to it, or in front of what stands at a place
-abbrev pub IsPlace : {A : Type 0} → (A → A → Ordering) → List A → A → Result ℕ ℕ → Type 0
-IsPlace order xs x (Ok i) = (i < length xs) × (put_by order xs x ≡ slice_set xs i x)
-IsPlace order xs x (Err i) = (i ≤ length xs) × (put_by order xs x ≡ insert xs i x)
-
--- in front of which place x is put; none where it stands there already
-abbrev pub IsGap : {A : Type 0} → (A → A → Ordering) → List A → A → Option ℕ → Type 0
-IsGap order xs x None = put_by order xs x ≡ xs
-IsGap order xs x (Some i) = (i ≤ length xs) × (put_by order xs x ≡ insert xs i x)

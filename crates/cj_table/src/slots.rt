@@ -2,11 +2,12 @@
 
 ghost use Rattle.std.specs.Prelude.{◌≡◌, ◌≤◌, is_some, length, option_copied, position, OnOk, OnErr};
 ghost use Rattle.std.specs.Str.{bytes_eq};
+ghost use Rattle.cj_model.specs.Gaps.{IsPlace};
 ghost use Rattle.cj_model.specs.Steps as steps;
 ghost use Rattle.cj_model.specs.Steps.{written};
 ghost use Rattle.cj_model.specs.Updates.{change};
 ghost use Rattle.cj_model.specs.Tables.{IsDatabase, IsSlot, by_table, column_limit, put_by, slot_of, table_of};
-ghost use Rattle.cj_table.specs.Carried.{Carries, CarriesSlot, IsPlace, change_of};
+ghost use Rattle.cj_table.specs.Carried.{Carries, CarriesSlot, change_of};
 ghost use Rattle.cj_plan.specs.Plans.{PlansChange};
 
 use crate::schemas::{empty_table, makes_schema};

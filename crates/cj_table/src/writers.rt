@@ -4,7 +4,7 @@ ghost use Rattle.std.specs.Prelude.{◌≡◌, fold, option_map, option_to_list,
 ghost use Rattle.std.specs.Ordering.{nat_cmp};
 ghost use Rattle.cj_model.specs.Storable.{writers};
 ghost use Rattle.cj_model.specs.Tables.{put_by};
-ghost use Rattle.cj_table.specs.Carried.{IsGap};
+ghost use Rattle.cj_model.specs.Gaps.{IsGap};
 
 use cj_model::NoMemory;
 use cj_rows::StoredTable;
