@@ -1,6 +1,6 @@
 -- The account of a user `ann`, whose password is `secret`, with logins at two backends.
 use Rattle.std.proofs.Common.{◌≡◌, ◌||◌, ℕ, true, false, List, [], ◌∷◌, refl, ap, ◌∙◌, Some, None, codes}
-use Rattle.sha2.specs.Sha256.{sha256}
+use Rattle.sha2.specs.Sha256.{compress, digest_bytes, first_words, hash_after, rounds, schedule, sha256}
 use Rattle.hex.proofs.OnLiterals.{hex_on_literals}
 use Rattle.cj_model.specs.declared.account.Account.{Account}
 use Rattle.cj_model.specs.Accounts.{login_of}
@@ -29,9 +29,18 @@ spells_in_capitals : spells (codes "2BB80D537B1DA3E38BD30361AA855686BDE0EACD7162
 unfolding hex_on_literals
 spells_in_capitals = refl
 
--- where the SHA-256 of `secret` is the key, it lets `ann` in, and no one else
-lets_ann_in : sha256 (codes "secret") ≡ key → admits (ann ∷ []) (codes "ann") (codes "secret") ≡ true
-lets_ann_in is = ap (λ k. spells ann.digest k || false) is ∙ ap (λ b. b || false) spells_key
+-- the key is the SHA-256 of `secret`
+hash_of_secret : sha256 (codes "secret") ≡ key
+unfolding sha256 hash_after compress rounds schedule first_words digest_bytes
+hash_of_secret = refl
+
+lets_ann_in : admits (ann ∷ []) (codes "ann") (codes "secret") ≡ true
+lets_ann_in = ap (λ k. spells ann.digest k || false) hash_of_secret ∙ ap (λ b. b || false) spells_key
+
+-- with another password it doesn't
+needs_the_password : admits (ann ∷ []) (codes "ann") (codes "secrets") ≡ false
+unfolding hex_on_literals sha256 hash_after compress rounds schedule first_words digest_bytes
+needs_the_password = refl
 
 keeps_others_out : admits (ann ∷ []) (codes "amy") (codes "secret") ≡ false
 keeps_others_out = refl
