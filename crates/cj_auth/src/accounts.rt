@@ -6,7 +6,7 @@ ghost use Rattle.cj_auth.specs.Admission.{admits};
 ghost use Rattle.cj_auth.specs.Refusals.{refusal_of};
 ghost use Rattle.cj_auth.specs.declared.error.AuthError.TheVariants as error;
 
-use crate::credentials::{Credential, find, has_key, with_keys};
+use crate::credentials::{Credential, find_user, has_key, with_keys};
 use crate::error::AuthError;
 use crate::refusals::refuse;
 use cj_model::{AccountRows, Duplicate, ListOf, NoMemory, Text};
@@ -65,7 +65,7 @@ impl Accounts {
         requires { b < self.now.backends }
         ensures { result.now ≡ login_of self.now.accounts user.now b }
     {
-        match find(self.credentials.as_slice(), user.as_slice()) {
+        match find_user(self.credentials.as_slice(), user.as_slice()) {
             Some(credential) => &credential.account.logins.as_slice()[b as usize],
             None => &self.empty,
         }

@@ -51,7 +51,7 @@ pub fn with_keys(alloc: Global, accounts: AccountRows) -> Result<ListOf<Credenti
     Ok(made)
 }
 
-/// Whether one of them has the user and the key.
+/// Whether an account is the user's and its digest spells the key.
 pub fn has_key(credentials: &[Credential], user: &[u8], key: &[u8; 32]) -> bool
     ensures { result ≡ list_any (λ credential. is_of user.now credential.account && bytes_eq credential.key key.now) credentials.now }
 {
@@ -60,8 +60,8 @@ pub fn has_key(credentials: &[Credential], user: &[u8], key: &[u8; 32]) -> bool
     })
 }
 
-/// The user's.
-pub fn find<'a>(credentials: &'a [Credential], user: &[u8]) -> Option<&'a Credential>
+/// The account of the user; none exactly where none is the user's.
+pub fn find_user<'a>(credentials: &'a [Credential], user: &[u8]) -> Option<&'a Credential>
     ensures { option_copied result ≡ find (λ credential. is_of user.now credential.account) credentials.now }
 {
     credentials

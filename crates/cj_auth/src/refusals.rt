@@ -49,7 +49,7 @@ fn user_without_logins(rows: &[Account], backends: u8) -> Option<&Text>
         .map(|account| &account.user)
 }
 
-/// Refuses accounts that are none.
+/// Passes accounts in which nothing is wrong, and else says what is wrong first.
 pub fn refuse(alloc: Global, rows: &[Account], backends: u8) -> Result<(), AuthError>
     ensures passed { IsOk result → refusal_of rows.now backends ≡ None }
     ensures refused { IfErr result (λ e. (e ≡ error.NoMemory) ⊎ (refusal_of rows.now backends ≡ Some e)) }
