@@ -2,6 +2,7 @@
 //! definitions that the contracts of all crates cite (`specs/`), with their laws (`proofs/`).
 #![tactic(auto)]
 
+mod account;
 mod answer;
 mod codes;
 mod condition;
@@ -27,6 +28,9 @@ mod token;
 mod value;
 mod write;
 
+pub use account::Account;
+pub use account::AccountRows;
+pub use account::Texts;
 pub use answer::Answer;
 pub use answer::Asked;
 pub use answer::Outcome;

@@ -11,7 +11,7 @@ use std::alloc::Global;
 use std::marker::Model;
 
 /// UTF-8 without byte 0, which contracts see as its bytes.
-#[derive(Drop)]
+#[derive(Debug, Drop)]
 pub struct Text {
     bytes: Vec<u8>,
 }

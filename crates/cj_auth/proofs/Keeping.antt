@@ -1,0 +1,123 @@
+-- What accounts that are accepted keep, and what is found among them.
+use Rattle.std.proofs.Common.{◌≡◌, ℕ, ◌&&◌, ◌||◌, not, Bool, true, false, cond, List, [], ◌∷◌, ◌++◌, length, refl, sym, ap, ◌∙◌, subst, ⊎_elim}
+use Rattle.std.specs.Prelude.{All, find, slice_index_or}
+use Rattle.std.specs.declared.option.Option.{Option}
+use Rattle.std.specs.declared.option.Option.TheVariants.{None, Some}
+use Rattle.std.specs.Option.{option_map, option_map_or, option_or}
+use Rattle.std.specs.List.{list_any}
+use Rattle.std.specs.Str.{bytes_eq}
+use Rattle.std.proofs.lemmas.Bool.{cases_Bool, eqb-true}
+use Rattle.std.proofs.lemmas.List.Elements.{All-cons, All-head, All-nil, All-tail}
+use Rattle.std.proofs.lemmas.List.{append_assoc, map-append}
+use Rattle.sha2.specs.Sha256.{sha256}
+use Rattle.cj_model.specs.declared.account.Account.{Account}
+use Rattle.cj_model.specs.Accounts.{has_logins, is_of, login_of, repeated_user, user_where}
+use Rattle.cj_auth.specs.declared.credentials.Credential.{Credential}
+use Rattle.cj_auth.specs.declared.error.AuthError.{AuthError}
+use Rattle.cj_auth.specs.declared.error.AuthError.TheVariants.{Twice, BadDigest, LoginCount}
+use Rattle.cj_auth.specs.Admission.{admits}
+use Rattle.cj_auth.specs.Digests.{is_digest, reads_as, spells}
+use Rattle.cj_auth.specs.Kept.{HasKey, accounts_of}
+use Rattle.cj_auth.specs.Refusals.{refusal_of}
+
+on_bool : {G : Type 0} (b : Bool) → (b ≡ true → G) → (b ≡ false → G) → G
+on_bool b f g = ⊎_elim (λ (t : b ≡ true). f t) (λ (t : b ≡ false). g t) (cases_Bool b)
+
+-- ---- accounts that are accepted
+
+neither : {A : Type 0} (o p : Option A) → option_or o p ≡ None → (o ≡ None) × (p ≡ None)
+neither None p h = (refl, h)
+neither (Some x) p h = cc
+
+not_there : {A B : Type 0} (f : A → B) (o : Option A) → option_map f o ≡ None → o ≡ None
+not_there f None h = refl
+not_there f (Some x) h = cc
+
+-- where no account fails the test, all pass it
+none_fails : (q : Account → Bool) (rows : List Account) → user_where (λ account. not (q account)) rows ≡ None → All (λ (account : Account). q account ≡ true) rows
+none_fails q [] h = All-nil (λ (account : Account). q account ≡ true)
+none_fails q (x ∷ rows) h =
+    let found : Bool → Option (List ℕ) = λ b. option_map (λ (account : Account). account.user) (cond (not b) (Some x) (find (λ account. not (q account)) rows)) in
+    on_bool (q x)
+    (λ t. All-cons (λ (account : Account). q account ≡ true) x rows t (none_fails q rows (sym (ap found t) ∙ h)))
+    (λ f. let e : Some x.user ≡ None = sym (ap found f) ∙ h in cc)
+
+module _ (rows : List Account) (backends : ℕ) (is : refusal_of rows backends ≡ None) where
+  later : Option AuthError
+  later = option_or (option_map BadDigest (user_where (λ account. not (is_digest account.digest)) rows)) (option_map LoginCount (user_where (λ account. not (has_logins backends account)) rows))
+
+  behind : (option_map BadDigest (user_where (λ account. not (is_digest account.digest)) rows) ≡ None) × (option_map LoginCount (user_where (λ account. not (has_logins backends account)) rows) ≡ None)
+  behind = neither _ _ (neither (option_map Twice (repeated_user [] rows)) _ is).1
+
+  pub have_digests : All (λ (account : Account). is_digest account.digest ≡ true) rows
+  have_digests = none_fails (λ account. is_digest account.digest) rows (not_there BadDigest _ behind.0)
+
+  pub have_logins : All (λ (account : Account). has_logins backends account ≡ true) rows
+  have_logins = none_fails (has_logins backends) rows (not_there LoginCount _ behind.1)
+
+-- ---- accounts with their keys
+
+abbrev account_of : Credential → Account
+account_of credential = credential.account
+
+-- what passes as accounts passes as credentials
+pub all_credentials : (P : Account → Type 0) (credentials : List Credential) → All P (accounts_of credentials) → All (λ (credential : Credential). P credential.account) credentials
+all_credentials P [] h = All-nil (λ (credential : Credential). P credential.account)
+all_credentials P (c ∷ credentials) h =
+    All-cons (λ (credential : Credential). P credential.account) c credentials (All-head P c.account (accounts_of credentials) h)
+    (all_credentials P credentials (All-tail P c.account (accounts_of credentials) h))
+
+-- with one more of the accounts that are left
+pub one_more : (made : List Credential) (credential : Credential) (account : Account) (rest whole : List Account) → credential.account ≡ account → accounts_of made ++ account ∷ rest ≡ whole → accounts_of (made ++ credential ∷ []) ++ rest ≡ whole
+one_more made credential account rest whole is h =
+    ap (λ (accounts : List Account). accounts ++ rest) (map-append account_of made (credential ∷ []))
+    ∙ append_assoc (accounts_of made) (credential.account ∷ []) rest
+    ∙ ap (λ (a : Account). accounts_of made ++ a ∷ rest) is
+    ∙ h
+
+-- ---- found among them
+
+-- the key and the digest's digits say the same
+pub same_admitted : (credentials : List Credential) (user password : List ℕ) → All HasKey credentials → list_any (λ (credential : Credential). is_of user credential.account && bytes_eq credential.key (sha256 password)) credentials ≡ admits (accounts_of credentials) user password
+same_admitted [] user password keys = refl
+same_admitted (c ∷ credentials) user password keys =
+    ap (λ b. (is_of user c.account && b) || list_any (λ (credential : Credential). is_of user credential.account && bytes_eq credential.key (sha256 password)) credentials)
+    (sym (ap (λ r. reads_as r (sha256 password)) (All-head HasKey c credentials keys)))
+    ∙ ap (λ b. (is_of user c.account && spells c.account.digest (sha256 password)) || b) (same_admitted credentials user password (All-tail HasKey c credentials keys))
+
+pub same_login : (credentials : List Credential) (user : List ℕ) (b : ℕ) → login_of (accounts_of credentials) user b ≡ option_map_or (λ (credential : Credential). slice_index_or credential.account.logins b []) (find (λ (credential : Credential). is_of user credential.account) credentials) []
+same_login [] user b = refl
+same_login (c ∷ credentials) user b =
+    on_bool (is_of user c.account)
+    (λ t. ap (λ o. option_map_or (λ (account : Account). slice_index_or account.logins b []) (cond o (Some c.account) (find (is_of user) (accounts_of credentials))) []) t
+    ∙ sym (ap (λ o. option_map_or (λ (credential : Credential). slice_index_or credential.account.logins b []) (cond o (Some c) (find (λ (credential : Credential). is_of user credential.account) credentials)) []) t))
+    (λ f. ap (λ o. option_map_or (λ (account : Account). slice_index_or account.logins b []) (cond o (Some c.account) (find (is_of user) (accounts_of credentials))) []) f
+    ∙ same_login credentials user b
+    ∙ sym (ap (λ o. option_map_or (λ (credential : Credential). slice_index_or credential.account.logins b []) (cond o (Some c) (find (λ (credential : Credential). is_of user credential.account) credentials)) []) f))
+
+-- what is found passes what all pass
+pub found_passes : {A : Type 0} (P : A → Type 0) (q : A → Bool) (xs : List A) (y : A) → Some y ≡ find q xs → All P xs → P y
+found_passes P q [] y is all = cc
+found_passes P q (x ∷ xs) y is all =
+    on_bool (q x)
+    (λ t. let e : Some y ≡ Some x = is ∙ ap (λ b. cond b (Some x) (find q xs)) t in subst P (let s : x ≡ y = cc in s) (All-head P x xs all))
+    (λ f. found_passes P q xs y (is ∙ ap (λ b. cond b (Some x) (find q xs)) f) (All-tail P x xs all))
+
+module _ (credentials : List Credential) (user : List ℕ) (b : ℕ) where
+  abbrev found : Option Credential
+  found = find (λ (credential : Credential). is_of user credential.account) credentials
+
+  abbrev login_in : Option Credential → List ℕ
+  login_in o = option_map_or (λ (credential : Credential). slice_index_or credential.account.logins b []) o []
+
+  -- the login of the credential that is found
+  pub login_found : (credential : Credential) → Some credential ≡ found → slice_index_or credential.account.logins b [] ≡ login_of (accounts_of credentials) user b
+  login_found credential is = ap login_in is ∙ sym (same_login credentials user b)
+
+  pub login_missing : None ≡ found → [] ≡ login_of (accounts_of credentials) user b
+  login_missing is = ap login_in is ∙ sym (same_login credentials user b)
+
+  -- it has a login for each backend where all have
+  pub login_count : (backends : ℕ) (credential : Credential) → Some credential ≡ found → All (λ (credential : Credential). has_logins backends credential.account ≡ true) credentials → length credential.account.logins ≡ backends
+  login_count backends credential is all =
+      eqb-true _ _ (found_passes (λ (credential : Credential). has_logins backends credential.account ≡ true) (λ (credential : Credential). is_of user credential.account) credentials credential is all)

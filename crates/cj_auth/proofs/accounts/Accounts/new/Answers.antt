@@ -1,0 +1,35 @@
+use Rattle.std.proofs.Common.{◌≡◌, ◌∙◌, ◌&&◌, true, List, [], refl, ap, sym, subst}
+use Rattle.std.specs.Prelude.{All}
+use Rattle.std.specs.Option.{is_some}
+use Rattle.std.specs.declared.option.Option.TheVariants.{Some}
+use Rattle.std.proofs.lemmas.Str.{IsUtf8-nil, is_utf8-from_IsUtf8}
+use Rattle.cj_model.specs.declared.account.Account.{Account}
+use Rattle.cj_model.specs.Accounts.{has_logins}
+use Rattle.cj_model.specs.Words.{is_text, text_of}
+use Rattle.cj_auth.specs.Refusals.{refusal_of}
+use Rattle.cj_auth.proofs.Keeping.{all_credentials, have_digests, have_logins}
+use Rattle.cj_auth.proofs.accounts.Accounts.new.Goals as goal
+
+pub with_keys-requires : goal.with_keys-requires
+with_keys-requires c = have_digests c.args.rows c.args.backends (ap (λ (rows : List Account). refusal_of rows c.args.backends) (sym c.as_slice.ensures) ∙ c.in_ok-refuse.ensures.passed refl)
+
+no_bytes : is_text [] ≡ true
+unfolding is_text
+no_bytes = ap (λ b. b && true) (is_utf8-from_IsUtf8 [] IsUtf8-nil)
+
+-- no bytes are a text
+empty_text : text_of [] ≡ Some []
+empty_text = rw no_bytes refl
+
+pub unwrap-requires : goal.unwrap-requires
+unwrap-requires c = ap is_some (c.of.ensures ∙ ap text_of c.new.ensures.items ∙ empty_text)
+
+pub invariant_of-result : goal.invariant_of-result
+invariant_of-result c =
+    let backends = c.args.backends in
+    let passes = have_logins c.args.rows backends (ap (λ (rows : List Account). refusal_of rows backends) (sym c.as_slice.ensures) ∙ c.in_ok-refuse.ensures.passed refl) in
+    record {
+      keys = c.in_ok-with_keys.ensures.keys;
+      logins = all_credentials (λ (account : Account). has_logins backends account ≡ true) c.in_ok-with_keys.field-0 (subst (All (λ (account : Account). has_logins backends account ≡ true)) (sym c.in_ok-with_keys.ensures.accounts) passes);
+      nameless = let is : Some c.unwrap.result ≡ Some [] = sym c.unwrap.ensures ∙ c.of.ensures ∙ ap text_of c.new.ensures.items ∙ empty_text in cc;
+    }

@@ -1,0 +1,25 @@
+use Rattle.std.proofs.Common.{◌≡◌, ◌++◌, List, true, ap, sym, ◌∙◌, subst}
+use Rattle.std.specs.Prelude.{All}
+use Rattle.std.proofs.lemmas.List.Elements.{All-push, All-rest}
+use Rattle.cj_model.specs.declared.account.Account.{Account}
+use Rattle.cj_auth.specs.declared.credentials.Credential.{Credential}
+use Rattle.cj_auth.specs.Digests.{is_digest}
+use Rattle.cj_auth.specs.Kept.{HasKey, accounts_of}
+use Rattle.cj_auth.proofs.Keeping.{one_more}
+use Rattle.cj_auth.proofs.credentials.with_keys.Goals as goal
+
+pub loop-account-preserved : goal.loop-account-preserved
+loop-account-preserved c =
+    let i = c.loop-account.invariant in
+    let rest : List Account = c.next.new.self.rest.items in
+    let made : List Credential = c.loop-account.made in
+    let next : Credential = c.with_key.result in
+    record {
+      can_next = tt;
+      is_finite = tt;
+      digests = All-rest (λ (account : Account). is_digest account.digest ≡ true) c.in-Some.account rest c.loop-account.account-iterator.rest.items c.in-Some.ensures.steps.0 i.digests;
+      keys = subst (All HasKey) (sym c.in_ok-push.ensures.ok) (All-push HasKey made next i.keys c.with_key.ensures.key);
+      all = ap (λ (cs : List Credential). accounts_of cs ++ rest) c.in_ok-push.ensures.ok
+          ∙ one_more made next c.in-Some.account rest c.args.accounts c.with_key.ensures.account
+          (ap (λ (accounts : List Account). accounts_of made ++ accounts) (sym c.in-Some.ensures.steps.0) ∙ i.all);
+    }

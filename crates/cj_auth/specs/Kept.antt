@@ -1,0 +1,20 @@
+-- What is kept of accounts for the look-ups.
+use Rattle.std.specs.Prelude.{◌≡◌, ℕ, true, List, [], map, All}
+use Rattle.std.specs.declared.result.Result.TheVariants.{Ok}
+use Rattle.hex.specs.Hex.{decode_of}
+use Rattle.cj_model.specs.declared.account.Account.{Account}
+use Rattle.cj_model.specs.Accounts.{has_logins}
+use Rattle.cj_auth.specs.declared.credentials.Credential.{Credential}
+
+abbrev pub accounts_of : List Credential → List Account
+accounts_of credentials = map (λ (credential : Credential). credential.account) credentials
+
+-- the key is what the digest spells
+abbrev pub HasKey : Credential → Type 0
+HasKey credential = decode_of credential.account.digest ≡ Ok credential.key
+
+-- each with its key and with a login for each backend, and an empty login for users that have none
+pub record IsKept (credentials : List Credential) (backends : ℕ) (empty : List ℕ) : Type 0 where
+  pub keys : All HasKey credentials
+  pub logins : All (λ (credential : Credential). has_logins backends credential.account ≡ true) credentials
+  pub nameless : empty ≡ []

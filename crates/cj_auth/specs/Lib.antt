@@ -1,0 +1,4 @@
+pub mod Admission
+pub mod Digests
+pub mod Kept
+pub mod Refusals

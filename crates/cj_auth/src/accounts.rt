@@ -1,0 +1,83 @@
+//! The accounts of users.
+
+ghost use Rattle.std.specs.Prelude.{◌≡◌, ◌⊎◌, ◌<◌, IfErr, IfOk, None, Some};
+ghost use Rattle.cj_model.specs.Accounts.{HasShortUsers, login_of};
+ghost use Rattle.cj_auth.specs.Admission.{admits};
+ghost use Rattle.cj_auth.specs.Refusals.{refusal_of};
+ghost use Rattle.cj_auth.specs.declared.error.AuthError.TheVariants as error;
+
+use crate::credentials::{Credential, find_user, has_key, with_keys};
+use crate::error::AuthError;
+use crate::refusals::refuse;
+use cj_model::{AccountRows, Duplicate, ListOf, NoMemory, Text};
+use sha2::{Digest, Sha256};
+use std::alloc::Global;
+use std::marker::Model;
+
+/// Who may log in, and under which login each backend is called for a user. Backends go by their
+/// number, from 0.
+#[derive(Drop)]
+pub struct Accounts {
+    credentials: ListOf<Credential>,
+    backends: u8,
+    /// The login that is lent where no account is the user's.
+    empty: Text,
+}
+
+impl Model for Accounts {
+    ghost use Rattle.cj_auth.specs.Admission.{Register};
+
+    ghost Value = { Register };
+
+    ghost use Rattle.cj_auth.specs.Kept.{IsKept, accounts_of};
+
+    ghost view = { λ a. record { accounts = accounts_of a.credentials; backends = a.backends } };
+
+    ghost invariant = { λ a. IsKept a.credentials a.backends a.empty };
+}
+
+impl Accounts {
+    /// The accounts of the rows, each of which has one login for each backend.
+    pub fn new(alloc: Global, rows: AccountRows, backends: u8) -> Result<Accounts, AuthError>
+        requires { HasShortUsers rows }
+        ensures accounts { IfOk result (λ a. a.accounts ≡ rows) }
+        ensures backends { IfOk result (λ a. a.backends ≡ backends) }
+        ensures accepted { IfOk result (λ _. refusal_of rows backends ≡ None) }
+        ensures refused { IfErr result (λ e. (e ≡ error.NoMemory) ⊎ (refusal_of rows backends ≡ Some e)) }
+    {
+        refuse(alloc, rows.as_slice(), backends)?;
+        Ok(Accounts {
+            credentials: with_keys(alloc, rows)?,
+            backends,
+            empty: Text::of(Vec::new(alloc)).unwrap(),
+        })
+    }
+
+    /// Whether the user has this password. It takes no memory.
+    pub fn check(&self, user: &[u8], password: &[u8]) -> bool
+        ensures { result ≡ admits self.now.accounts user.now password.now }
+    {
+        has_key(self.credentials.as_slice(), user, &Sha256::digest(password))
+    }
+
+    /// The user's login at a backend; the empty text where no account is the user's.
+    pub fn mapped(&self, user: &Text, b: u8) -> &Text
+        requires { b < self.now.backends }
+        ensures { result.now ≡ login_of self.now.accounts user.now b }
+    {
+        match find_user(self.credentials.as_slice(), user.as_slice()) {
+            Some(credential) => &credential.account.logins.as_slice()[b as usize],
+            None => &self.empty,
+        }
+    }
+}
+
+impl Duplicate for Accounts {
+    fn copy(&self, alloc: Global) -> Result<Accounts, NoMemory> {
+        Ok(Accounts {
+            credentials: self.credentials.copy(alloc)?,
+            backends: self.backends,
+            empty: self.empty.copy(alloc)?,
+        })
+    }
+}

@@ -1,0 +1,70 @@
+//! Accounts with what their digests spell.
+
+ghost use Rattle.std.specs.Prelude.{◌≡◌, ◌&&◌, find, option_copied, true, All, IfOk};
+ghost use Rattle.std.specs.List.{list_any};
+ghost use Rattle.std.specs.Str.{bytes_eq};
+ghost use Rattle.cj_model.specs.Accounts.{is_of};
+ghost use Rattle.cj_auth.specs.Digests.{is_digest};
+ghost use Rattle.cj_auth.specs.Kept.{HasKey, accounts_of};
+
+use crate::digests::{is_same_key, key_of};
+use cj_model::{Account, AccountRows, Duplicate, ListOf, NoMemory};
+use std::alloc::Global;
+
+/// An account and the bytes that its digest spells.
+#[derive(Drop)]
+pub struct Credential {
+    pub account: Account,
+    pub key: [u8; 32],
+}
+
+impl Duplicate for Credential {
+    fn copy(&self, alloc: Global) -> Result<Credential, NoMemory> {
+        Ok(Credential {
+            account: self.account.copy(alloc)?,
+            key: self.key,
+        })
+    }
+}
+
+fn with_key(account: Account) -> Credential
+    requires { is_digest account.digest ≡ true }
+    ensures account { result.account ≡ account }
+    ensures key { HasKey result }
+{
+    Credential {
+        key: key_of(account.digest.as_slice()),
+        account,
+    }
+}
+
+/// The accounts with their keys.
+pub fn with_keys(alloc: Global, accounts: AccountRows) -> Result<ListOf<Credential>, NoMemory>
+    requires { All (λ account. is_digest account.digest ≡ true) accounts }
+    ensures accounts { IfOk result (λ made. accounts_of made ≡ accounts) }
+    ensures keys { IfOk result (λ made. All HasKey made) }
+{
+    let mut made = ListOf::new(alloc);
+    for account in accounts.into_vec() {
+        made.push(with_key(account))?;
+    }
+    Ok(made)
+}
+
+/// Whether an account is the user's and its digest spells the key.
+pub fn has_key(credentials: &[Credential], user: &[u8], key: &[u8; 32]) -> bool
+    ensures { result ≡ list_any (λ credential. is_of user.now credential.account && bytes_eq credential.key key.now) credentials.now }
+{
+    credentials.iter().any(|credential| {
+        credential.account.user.as_slice() == user && is_same_key(&credential.key, key)
+    })
+}
+
+/// The account of the user; none exactly where none is the user's.
+pub fn find_user<'a>(credentials: &'a [Credential], user: &[u8]) -> Option<&'a Credential>
+    ensures { option_copied result ≡ find (λ credential. is_of user.now credential.account) credentials.now }
+{
+    credentials
+        .iter()
+        .find(|credential| credential.account.user.as_slice() == user)
+}

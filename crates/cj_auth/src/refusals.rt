@@ -1,0 +1,67 @@
+//! What is refused as a list of accounts.
+
+ghost use Rattle.std.specs.Prelude.{◌≡◌, ◌⊎◌, [], length, not, option_copied, IfErr, IsOk, None, Some};
+ghost use Rattle.cj_model.specs.Accounts as accounts;
+ghost use Rattle.cj_model.specs.Accounts.{has_logins, user_where};
+ghost use Rattle.cj_auth.specs.Digests.{is_digest};
+ghost use Rattle.cj_auth.specs.Refusals.{refusal_of};
+ghost use Rattle.cj_auth.specs.declared.error.AuthError.TheVariants as error;
+
+use crate::digests;
+use crate::error::AuthError;
+use cj_model::{Account, Duplicate, Text};
+use std::alloc::Global;
+
+fn has_user(rows: &[Account], user: &Text) -> bool
+    ensures { result ≡ accounts.has_user rows.now user.now }
+{
+    rows.iter()
+        .any(|account| account.user.as_slice() == user.as_slice())
+}
+
+/// The first user that has an account before its own.
+fn repeated_user(rows: &[Account]) -> Option<&Text>
+    ensures { option_copied result ≡ accounts.repeated_user [] rows.now }
+{
+    for (i, account) in rows.iter().enumerate() {
+        if has_user(&rows[..i], &account.user) {
+            return Some(&account.user);
+        }
+    }
+    None
+}
+
+/// The first user whose digest isn't one.
+fn user_without_digest(rows: &[Account]) -> Option<&Text>
+    ensures { option_copied result ≡ user_where (λ account. not (is_digest account.digest)) rows.now }
+{
+    rows.iter()
+        .find(|account| !digests::is_digest(account.digest.as_slice()))
+        .map(|account| &account.user)
+}
+
+/// The first user that doesn't have one login for each backend.
+fn user_without_logins(rows: &[Account], backends: u8) -> Option<&Text>
+    ensures { option_copied result ≡ user_where (λ account. not (has_logins backends account)) rows.now }
+{
+    rows.iter()
+        .find(|account| account.logins.len() != backends as usize)
+        .map(|account| &account.user)
+}
+
+/// Passes accounts in which nothing is wrong, and else says what is wrong first.
+pub fn refuse(alloc: Global, rows: &[Account], backends: u8) -> Result<(), AuthError>
+    ensures passed { IsOk result → refusal_of rows.now backends ≡ None }
+    ensures refused { IfErr result (λ e. (e ≡ error.NoMemory) ⊎ (refusal_of rows.now backends ≡ Some e)) }
+{
+    if let Some(user) = repeated_user(rows) {
+        return Err(AuthError::Twice(user.copy(alloc)?));
+    }
+    if let Some(user) = user_without_digest(rows) {
+        return Err(AuthError::BadDigest(user.copy(alloc)?));
+    }
+    if let Some(user) = user_without_logins(rows, backends) {
+        return Err(AuthError::LoginCount(user.copy(alloc)?));
+    }
+    Ok(())
+}
