@@ -1,6 +1,7 @@
 pub mod Answering
 pub mod Balancing
 pub mod Begun
+pub mod Caching
 pub mod Changes
 pub mod ConditionCode
 pub mod ConditionForms

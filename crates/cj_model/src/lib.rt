@@ -3,6 +3,7 @@
 #![tactic(auto)]
 
 mod answer;
+mod cached;
 mod codes;
 mod condition;
 mod database;
@@ -32,6 +33,7 @@ pub use answer::Asked;
 pub use answer::Outcome;
 pub use answer::Refusal;
 pub use answer::Reply;
+pub use cached::Cached;
 pub use codes::ALREADY_LOGGED_IN;
 pub use codes::BAD_COLUMNS;
 pub use codes::BAD_FRAME;
