@@ -1,10 +1,11 @@
 -- Laws of the result cache.
-use Rattle.std.proofs.Common.{◌≡◌, ◌↔◌, ℕ, true, false, not, cond, List, [], ◌∷◌, refl, ap, sym, ◌∙◌, subst, ⊎_elim}
-use Rattle.std.specs.Prelude.{All, IfSome}
+use Rattle.std.proofs.Common.{◌≡◌, ◌↔◌, ◌<◌, ◌≤◌, ℕ, zero, suc, length, take, arith, true, false, not, cond, List, [], ◌∷◌, refl, ap, sym, ◌∙◌, subst, ⊎_elim}
+use Rattle.std.specs.Prelude.{⊤, All, IfSome, min}
 use Rattle.std.specs.List.{cons_option}
 use Rattle.std.specs.Option.{option_map}
 use Rattle.std.specs.declared.option.Option.{Option}
 use Rattle.std.specs.declared.option.Option.TheVariants.{None, Some}
+use Rattle.std.proofs.lemmas.List.{length-take}
 use Rattle.std.proofs.lemmas.List.Elements.{All-cons, All-filter, All-head, All-tail, All-take, filter_passes}
 use Rattle.std.proofs.lemmas.Bool.{and_from, and_parts, both_ways, cases_Bool, eqb-true, eq-eqb}
 use base.Stored.{Gv, gnil, gnum, gcons}
@@ -12,7 +13,8 @@ use Rattle.cj_model.specs.declared.answer.Answer.{Answer}
 use Rattle.cj_model.specs.declared.cached.Cached.{Cached}
 use Rattle.cj_model.specs.declared.select.Select.{Select}
 use Rattle.cj_model.specs.contracts.select.Select as statement
-use Rattle.cj_model.specs.Caching.{CacheState, dropped, entry_of, is_of, kept, looked, needs_one_of, put, same_code, same_statement, without}
+use Rattle.cj_model.proofs.FilterLaws.{find-filter}
+use Rattle.cj_model.specs.Caching.{CacheState, brought_to_front, dropped, entry_of, is_of, kept, looked, needs_one_of, put, same_code, same_statement, without}
 
 -- ---- statements
 
@@ -86,3 +88,55 @@ all_dropped P set c all = All-filter (λ (e : Cached). not (needs_one_of set e.s
 
 pub none_needs : (set : List (List ℕ)) (c : CacheState) → All (λ (e : Cached). not (needs_one_of set e.select) ≡ true) (dropped set c).entries
 none_needs set c = filter_passes (λ (e : Cached). not (needs_one_of set e.select)) c.entries
+
+-- ---- which answer is kept
+
+none_without : (s : Select) (entries : List Cached) → entry_of s entries ≡ None → without s entries ≡ entries
+none_without s [] is = refl
+none_without s (e ∷ entries) is = ⊎_elim
+    (λ (same : is_of s e ≡ true).
+    let here : entry_of s (e ∷ entries) ≡ Some e = ap (λ b. cond b (Some e) (entry_of s entries)) same in
+    cc)
+    (λ (other : is_of s e ≡ false).
+    let rest : entry_of s entries ≡ None = sym (ap (λ b. cond b (Some e) (entry_of s entries)) other) ∙ is in
+    ap (λ b. cond b entries (e ∷ without s entries)) other ∙ ap (λ (es : List Cached). e ∷ es) (none_without s entries rest))
+    (cases_Bool (is_of s e))
+
+found_in_front : (s : Select) (entries : List Cached) → entry_of s (brought_to_front s entries) ≡ entry_of s entries
+found_in_front s entries = from (entry_of s entries) refl (entry_found (λ _. ⊤) s entries (λ k d lt. tt))
+  where
+    from : (o : Option Cached) → entry_of s entries ≡ o → IfSome o (λ e. (e.select ≡ s) × ⊤) → entry_of s (cons_option o (without s entries)) ≡ o
+    from None is h = ap (entry_of s) (none_without s entries is) ∙ is
+    from (Some e) is h = ap (λ b. cond b (Some e) (entry_of s (without s entries))) ((same_statement-Decides s e.select).1 (sym h.0))
+
+-- a look-up keeps the answer that it finds
+pub kept_looked : (s : Select) (c : CacheState) → kept s (looked s c) ≡ kept s c
+kept_looked s c = ap (option_map (λ (e : Cached). e.answer)) (found_in_front s c.entries)
+
+-- what was put is found, unless nothing may be kept
+pub kept_put : (e : Cached) (c : CacheState) → 0 < c.capacity → kept e.select (put e c) ≡ Some e.answer
+kept_put e c some = from c.capacity some
+  where
+    from : (n : ℕ) → 0 < n → option_map (λ (f : Cached). f.answer) (entry_of e.select (take n (e ∷ without e.select c.entries))) ≡ Some e.answer
+    from zero lt = absurd (omega arith)
+    from (suc n) lt = ap (λ b. option_map (λ (f : Cached). f.answer) (cond b (Some e) (entry_of e.select (take n (without e.select c.entries))))) ((same_statement-Decides e.select e.select).1 refl)
+
+-- no more entries are kept than may be
+pub put_within : (e : Cached) (c : CacheState) → length (put e c).entries ≤ c.capacity
+put_within e c =
+    let few : length (take c.capacity (e ∷ without e.select c.entries)) ≡ min c.capacity (length (e ∷ without e.select c.entries)) = length-take c.capacity (e ∷ without e.select c.entries) in
+    omega arith
+
+-- a change of tables drops the answer of each statement that needs one of them
+pub kept_changed : (set : List (List ℕ)) (s : Select) (c : CacheState) → needs_one_of set s ≡ true → kept s (dropped set c) ≡ None
+kept_changed set s c needs = from (entry_of s (dropped set c).entries) (entry_found (λ (e : Cached). not (needs_one_of set e.select) ≡ true) s (dropped set c).entries (none_needs set c))
+  where
+    from : (o : Option Cached) → IfSome o (λ e. (e.select ≡ s) × (not (needs_one_of set e.select) ≡ true)) → option_map (λ (e : Cached). e.answer) o ≡ None
+    from None h = refl
+    from (Some e) h = no (ap not (sym needs) ∙ ap (λ t. not (needs_one_of set t)) (sym h.0) ∙ h.1)
+
+-- and leaves that of each other statement
+pub kept_unchanged : (set : List (List ℕ)) (s : Select) (c : CacheState) → needs_one_of set s ≡ false → kept s (dropped set c) ≡ kept s c
+kept_unchanged set s c other =
+    let stays : (e : Cached) → is_of s e ≡ true → not (needs_one_of set e.select) ≡ true = λ e same. ap (λ t. not (needs_one_of set t)) (sym ((same_statement-Decides s e.select).0 same)) ∙ ap not other in
+    ap (option_map (λ (e : Cached). e.answer)) (find-filter (λ (e : Cached). not (needs_one_of set e.select)) (is_of s) stays c.entries)
