@@ -7,8 +7,8 @@ use Rattle.cj_model.specs.declared.answer.Answer.{Answer}
 use Rattle.cj_model.specs.declared.cached.Cached.{Cached}
 use Rattle.cj_model.specs.declared.select.Select.{Select}
 use Rattle.cj_model.specs.declared.select.Items.TheVariants as items
-use Rattle.cj_model.specs.Caching.{CacheState, doomed, dropped, empty_cache, kept, looked, put, same_statement}
-use Rattle.cj_model.proofs.CachingLaws.{same_statement-Decides}
+use Rattle.cj_model.specs.Caching.{CacheState, doomed, dropped, empty_cache, kept, looked, put}
+use Rattle.cj_model.specs.Statements.{same_statement, same_statement-Decides}
 
 -- `SELECT *` of the table whose name is this letter
 abbrev all_of : ℕ → Select

@@ -3,6 +3,6 @@
 #![tactic(auto)]
 
 mod cache;
-mod entries;
+mod held;
 
 pub use cache::{Cache, Selects};

@@ -1,15 +1,14 @@
 -- The result cache: the answers of queries, each dropped when a table that it needs changes.
-use Rattle.std.specs.Prelude.{ℕ, ◌+◌, ◌-◌, ◌^◌, ◌==◌, ◌&&◌, Bool, true, false, not, if◌then◌else◌, List, [], ◌∷◌, filter, find, map, min, take, Option, is_some, refl}
+use Rattle.std.specs.Prelude.{ℕ, ◌+◌, ◌-◌, ◌^◌, Bool, not, if◌then◌else◌, List, [], ◌∷◌, filter, find, map, min, take, Option, is_some, refl}
 use Rattle.std.specs.Coded.{Coded, code_by, coded×, coded_list, coded_ℕ}
 use Rattle.std.specs.List.{cons_option, list_any}
 use Rattle.std.specs.Option.{option_map}
 use Rattle.std.specs.Str.{bytes_eq}
-use base.Stored.{Gv, gnil, gnum, gcons}
 use Rattle.cj_model.specs.declared.answer.Answer.{Answer}
 use Rattle.cj_model.specs.declared.cached.Cached.{Cached}
 use Rattle.cj_model.specs.declared.select.Select.{Select}
 use Rattle.cj_model.specs.contracts.cached.Cached as entry
-use Rattle.cj_model.specs.contracts.select.Select as statement
+use Rattle.cj_model.specs.Statements.{same_statement}
 
 -- a cache: its entries, the most recently used first, its counts of hits and misses, and the most entries that it keeps
 pub record CacheState : Type 0 where
@@ -25,24 +24,6 @@ coded_cache = code_by (List Cached × (ℕ × (ℕ × ℕ))) (coded× (coded_lis
 -- a cache that has kept and counted nothing
 abbrev pub empty_cache : ℕ → CacheState
 empty_cache capacity = record { entries = []; hits = 0; misses = 0; capacity = capacity }
-
--- ---- statements
-
--- whether two of the logic's codes, which are trees of numbers, are one
-abbrev pub same_code : Gv → Gv → Bool
-same_code gnil gnil = true
-same_code gnil (gnum n) = false
-same_code gnil (gcons c d) = false
-same_code (gnum m) gnil = false
-same_code (gnum m) (gnum n) = m == n
-same_code (gnum m) (gcons c d) = false
-same_code (gcons a b) gnil = false
-same_code (gcons a b) (gnum n) = false
-same_code (gcons a b) (gcons c d) = same_code a c && same_code b d
-
--- whether two statements are one, as their codes tell; proofs know it by its law, `same_statement-Decides`
-unfoldable pub same_statement : Select → Select → Bool
-same_statement s t = same_code (statement.the_row.coded.code s) (statement.the_row.coded.code t)
 
 -- whether an entry is of this statement
 abbrev pub is_of : Select → Cached → Bool

@@ -32,6 +32,7 @@ pub mod Scopes
 pub mod Scripts
 pub mod Session
 pub mod Sound
+pub mod Statements
 pub mod Steps
 pub mod Storable
 pub mod Tables

@@ -8,6 +8,7 @@ mod codes;
 mod condition;
 mod database;
 mod event;
+mod key;
 mod laws;
 mod list;
 mod memory;
