@@ -3,6 +3,7 @@ pub mod Askable
 pub mod BalanceLaws
 pub mod BegunLaws
 pub mod Between
+pub mod CachingLaws
 pub mod Chains
 pub mod Columns
 pub mod DatabaseLaws

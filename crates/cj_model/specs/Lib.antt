@@ -2,6 +2,7 @@ pub mod Accounts
 pub mod Answering
 pub mod Balancing
 pub mod Begun
+pub mod Caching
 pub mod Changes
 pub mod ConditionCode
 pub mod ConditionForms
@@ -32,6 +33,7 @@ pub mod Scopes
 pub mod Scripts
 pub mod Session
 pub mod Sound
+pub mod Statements
 pub mod Steps
 pub mod Storable
 pub mod Tables

@@ -4,10 +4,12 @@
 
 mod account;
 mod answer;
+mod cached;
 mod codes;
 mod condition;
 mod database;
 mod event;
+mod key;
 mod laws;
 mod list;
 mod memory;
@@ -36,6 +38,7 @@ pub use answer::Asked;
 pub use answer::Outcome;
 pub use answer::Refusal;
 pub use answer::Reply;
+pub use cached::Cached;
 pub use codes::ALREADY_LOGGED_IN;
 pub use codes::BAD_COLUMNS;
 pub use codes::BAD_FRAME;

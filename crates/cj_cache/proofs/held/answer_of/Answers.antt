@@ -1,0 +1,22 @@
+use Rattle.std.proofs.Common.{rules, ◌≡◌, sym, ap, ◌∙◌}
+use Rattle.std.specs.Prelude.{option_map}
+use Rattle.std.specs.Map.{lookup}
+use Rattle.std.specs.declared.option.Option.TheVariants.{None, Some}
+use Rattle.cj_model.specs.Statements.{same_statement}
+use Rattle.cj_cache.specs.declared.held.Held.{Held}
+use Rattle.cj_cache.proofs.Maps.{answer_shown}
+use Rattle.cj_cache.proofs.held.answer_of.Goals as goal
+
+pub returns-in-None : goal.returns-in-None
+returns-in-None c =
+    let s = c.args.select.now in
+    let pairs = c.args.held.now.entries in
+    let found : lookup (same_statement s) pairs ≡ None = search rules in
+    sym (ap (option_map (λ (h : Held). h.answer)) found) ∙ answer_shown s pairs
+
+pub returns-in-Some : goal.returns-in-Some
+returns-in-Some c =
+    let s = c.args.select.now in
+    let pairs = c.args.held.now.entries in
+    let found : lookup (same_statement s) pairs ≡ Some c.in-Some.found.now = search rules in
+    sym (ap (option_map (λ (h : Held). h.answer)) found) ∙ answer_shown s pairs

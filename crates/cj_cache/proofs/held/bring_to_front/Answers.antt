@@ -1,0 +1,13 @@
+use Rattle.std.proofs.Common.{ap, ◌∙◌}
+use Rattle.lru.specs.LruCache.{LruCache}
+use Rattle.cj_model.specs.declared.select.Select.{Select}
+use Rattle.cj_cache.specs.declared.held.Held.{Held}
+use Rattle.cj_cache.specs.Kept.{shown}
+use Rattle.cj_cache.proofs.Maps.{brought_shown, some_shown}
+use Rattle.cj_cache.proofs.held.bring_to_front.Goals as goal
+
+pub returns-clause-found : goal.returns-clause-found
+returns-clause-found c = c.promote.ensures.value ∙ some_shown c.args.select.now c.args.held.now.entries
+
+pub returns-clause-entries : goal.returns-clause-entries
+returns-clause-entries c = ap shown c.promote.ensures.entries ∙ brought_shown c.args.select.now c.args.held.now.entries

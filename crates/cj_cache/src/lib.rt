@@ -1,0 +1,8 @@
+//! The result cache of the controller: the answers of queries, each dropped when a table that it
+//! needs changes.
+#![tactic(auto)]
+
+mod cache;
+mod held;
+
+pub use cache::{Cache, Selects};
