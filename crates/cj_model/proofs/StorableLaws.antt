@@ -1,13 +1,12 @@
 -- A step leaves a storable database storable, where some text reads as its request.
-use Rattle.std.proofs.Common.{◌≡◌, sym, subst, ℕ, zero, suc, ◌+◌, ◌==◌, true, false, not, ◌&&◌, ◌||◌, nat_lt, nat_le, eqb, cond, ℤ, pos, negsuc, List, [], ◌∷◌, length, map, refl, inl, inr, arith}
+use Rattle.std.proofs.Common.{◌≡◌, sym, subst, ℕ, zero, suc, ◌+◌, ◌==◌, true, false, not, ◌&&◌, ◌||◌, nat_lt, nat_le, eqb, cond, ℤ, pos, negsuc, List, [], ◌∷◌, length, map, inl, inr, arith}
 use Rattle.std.specs.Prelude.{All, IfOk, IfSome, fold, option_map, position, unwrap_or, slice_index_or, slice_set, is_some, count_by}
 use Rattle.std.specs.declared.option.Option.{Option}
 use Rattle.std.specs.declared.option.Option.TheVariants.{None, Some}
 use Rattle.std.specs.declared.result.Result.TheVariants.{Ok, Err}
-use Rattle.std.specs.List.{list_any, list_all}
+use Rattle.std.specs.List.{list_any}
 use Rattle.std.specs.Str.{bytes_eq}
 use Rattle.std.proofs.lemmas.Bool.{and_from, or_parts, cases_lt, cond_both, le-leb, ltb-false}
-use Rattle.std.proofs.lemmas.Bool.Decides.{nat_tests}
 use Rattle.std.proofs.lemmas.List.{get_or_past}
 use Rattle.std.proofs.lemmas.List.Elements.{All-nil, All-cons, All-head, All-tail, All-set, All-weaker, All-filter, All-map, All-get_or}
 use Rattle.cj_model.specs.declared.value.Value.{Value}
@@ -29,8 +28,7 @@ use Rattle.cj_model.specs.declared.request.Request.TheVariants as request
 use Rattle.cj_model.specs.declared.request.Act.{Act}
 use Rattle.cj_model.specs.declared.request.Act.TheVariants as act
 use Rattle.cj_model.specs.declared.codes.TheConstants.{NO_COLUMN, BAD_COLUMNS, DUPLICATE, OVERFLOW, WRONG_TYPE}
-use Rattle.cj_model.specs.Words.{lower, begins_name, continues_name, is_spelled_as_name, is_name}
-use Rattle.cj_model.specs.Lexical.{is_letter, is_word, Each, IsWord}
+use Rattle.cj_model.specs.Words.{is_spelled_as_name, is_name}
 use Rattle.cj_model.specs.Literals.{IsConstant}
 use Rattle.cj_model.specs.Conditions.{Condition}
 use Rattle.cj_model.specs.Predicates.{Predicate}
