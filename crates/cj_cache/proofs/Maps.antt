@@ -9,7 +9,6 @@ use Rattle.std.specs.declared.option.Option.TheVariants.{None, Some}
 use Rattle.std.proofs.lemmas.Bool.{both_ways, cases_Bool, false_from_ne_true}
 use Rattle.std.proofs.lemmas.List.{length-map, take-map, take_all}
 use Rattle.lru.specs.LruCache.{LruCache, promoted, put_entries}
-use Rattle.cj_model.specs.declared.answer.Answer.{Answer}
 use Rattle.cj_model.specs.declared.cached.Cached.{Cached}
 use Rattle.cj_model.specs.declared.select.Select.{Select}
 use Rattle.cj_model.specs.Caching.{brought_to_front, entry_of, is_of, needs_one_of, without}

@@ -1,14 +1,18 @@
 -- Statements that are one, and what a hash reads of them.
-use Rattle.std.specs.Prelude.{◌≡◌, ◌==◌, ◌&&◌, ℕ, List, Bool, true, false, refl}
+use Rattle.std.specs.Prelude.{◌≡◌, ◌==◌, ◌&&◌, ℕ, List, [], ◌++◌, Bool, true, false, Option, None, Some, refl}
 use Rattle.std.specs.Bool.{Decides}
 use Rattle.std.specs.Cmp.{IsEquivalence, decided}
-use Rattle.std.specs.Cmp.Lexicographic.{nat_list_eq_equiv}
-use Rattle.std.specs.Hash.{slice, u8, on_Alike, items_Alike, same_Alike}
+use Rattle.std.specs.Hash.{slice, u8, i64, same_Alike}
 use Rattle.std.specs.Str.{bytes_eq}
 use Rattle.std.proofs.Common.{ap, sym, ◌∙◌}
 use Rattle.std.proofs.lemmas.Bool.{and_from, and_parts, both_ways, eqb-true, eq-eqb}
 use Rattle.std.proofs.lemmas.Slice.Eq.{bytes_eq-Decides}
 use base.Stored.{Gv, gnil, gnum, gcons}
+use Rattle.cj_model.specs.declared.term.Term.{Term}
+use Rattle.cj_model.specs.declared.term.Term.TheVariants as term
+use Rattle.cj_model.specs.declared.value.Value.{Value}
+use Rattle.cj_model.specs.declared.value.Value.TheVariants.{Int, Text}
+use Rattle.cj_model.specs.Conditions.{Condition, Test, Not, And, Or}
 use Rattle.cj_model.specs.declared.select.Select.{Select}
 use Rattle.cj_model.specs.contracts.select.Select as statement
 
@@ -59,12 +63,33 @@ same_statement-Decides s t = (
 pub statement_equiv : IsEquivalence same_statement
 statement_equiv = decided same_statement same_statement-Decides
 
--- a hash reads the tables that a statement needs
+-- ---- what a hash reads of a statement: the tables that it needs, and the literals of its condition
+
 abbrev pub fed_name : List ℕ → List (List ℕ)
 fed_name = slice u8
 
+abbrev pub fed_value : Value → List (List ℕ)
+fed_value (Int n) = i64 n
+fed_value (Text bytes) = slice u8 bytes
+
+abbrev pub fed_term : Term → List (List ℕ)
+fed_term (term.Lit v) = fed_value v
+fed_term (term.Col column) = []
+fed_term term.Now = []
+fed_term (term.Rand n) = []
+
+abbrev pub fed_condition : Condition → List (List ℕ)
+fed_condition (Test c l r) = fed_term l ++ fed_term r
+fed_condition (Not x) = fed_condition x
+fed_condition (And x y) = fed_condition x ++ fed_condition y
+fed_condition (Or x y) = fed_condition x ++ fed_condition y
+
+abbrev pub fed_where : Option Condition → List (List ℕ)
+fed_where None = []
+fed_where (Some x) = fed_condition x
+
 abbrev pub fed_statement : Select → List (List ℕ)
-fed_statement s = slice fed_name s.tables
+fed_statement s = slice fed_name s.tables ++ fed_where s.cond
 
 pub names_alike : (m n : List ℕ) → bytes_eq m n ≡ true → fed_name m ≡ fed_name n
 names_alike = (same_Alike fed_name bytes_eq-Decides).fed

@@ -1,11 +1,71 @@
 //! Statements as keys of a map, by the equality that contracts see.
 
+ghost use Rattle.std.specs.Prelude.{◌≡◌, ◌++◌, fold};
 ghost use Rattle.std.specs.Cmp.{partial_equiv_from_equiv};
+ghost use Rattle.cj_model.specs.ConditionShape.{shape};
+ghost use Rattle.cj_model.specs.Statements.{fed_condition, fed_term, fed_value, fed_where};
 
+use crate::condition::{Cond, CondNode};
 use crate::name::Name;
 use crate::same::Same;
 use crate::select::Select;
+use crate::term::Term;
+use crate::value::Value;
 use std::hash::{Hash, Hasher};
+
+fn feed_value<H: Hasher>(value: &Value, state: &mut H)
+    ensures { state.new ≡ fold H.write state.old (fed_value value.now) }
+{
+    match value {
+        Value::Int(number) => number.hash(state),
+        Value::Text(text) => text.as_slice().hash(state),
+    }
+}
+
+fn feed_term<H: Hasher>(term: &Term, state: &mut H)
+    ensures { state.new ≡ fold H.write state.old (fed_term term.now) }
+{
+    match term {
+        Term::Lit(value) => feed_value(value, state),
+        Term::Col(_) => {}
+        Term::Now => {}
+        Term::Rand(_) => {}
+    }
+}
+
+fn feed_terms<H: Hasher>(left: &Term, right: &Term, state: &mut H)
+    ensures { state.new ≡ fold H.write state.old (fed_term left.now ++ fed_term right.now) }
+{
+    feed_term(left, state);
+    feed_term(right, state);
+}
+
+/// Feeds the literals of a condition to a hash.
+fn feed_node<H: Hasher>(node: &CondNode, state: &mut H)
+    ensures { state.new ≡ fold H.write state.old (fed_condition (shape node.now)) }
+{
+    match node {
+        CondNode::Test(_, left, right) => feed_terms(left, right, state),
+        CondNode::Not(inner) => feed_node(inner, state),
+        CondNode::And(left, right) => {
+            feed_node(left, state);
+            feed_node(right, state);
+        }
+        CondNode::Or(left, right) => {
+            feed_node(left, state);
+            feed_node(right, state);
+        }
+    }
+}
+
+fn feed_where<H: Hasher>(cond: &Option<Cond>, state: &mut H)
+    ensures { state.new ≡ fold H.write state.old (fed_where cond.now) }
+{
+    match cond {
+        None => {}
+        Some(cond) => feed_node(cond.root(), state),
+    }
+}
 
 impl PartialEq for Name {
     ghost use Rattle.std.specs.Str.{bytes_eq};
@@ -65,5 +125,6 @@ impl Hash for Select {
 
     fn hash<H: Hasher>(&self, state: &mut H) {
         self.tables.as_slice().hash(state);
+        feed_where(&self.cond, state);
     }
 }

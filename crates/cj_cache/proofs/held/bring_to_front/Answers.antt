@@ -1,7 +1,4 @@
 use Rattle.std.proofs.Common.{ap, ◌∙◌}
-use Rattle.lru.specs.LruCache.{LruCache}
-use Rattle.cj_model.specs.declared.select.Select.{Select}
-use Rattle.cj_cache.specs.declared.held.Held.{Held}
 use Rattle.cj_cache.specs.Kept.{shown}
 use Rattle.cj_cache.proofs.Maps.{brought_shown, some_shown}
 use Rattle.cj_cache.proofs.held.bring_to_front.Goals as goal
