@@ -1,6 +1,6 @@
 //! Backends that are dumped, and what is loaded of that.
 
-ghost use Rattle.std.specs.Prelude.{◌≡◌};
+ghost use Rattle.std.specs.Prelude.{◌≡◌, [], ◌∷◌, Contains};
 ghost use Rattle.cj_model.specs.Legality.{IsWritten};
 
 use cj_backend::{Backend, BackendError};
@@ -61,6 +61,35 @@ fn totals<B: Backend>(
     }
 }
 
+/// Makes a write in a transaction that is begun.
+fn write_in<B: Backend>(
+    rt: &impl Abort,
+    alloc: Global,
+    backend: &mut B,
+    login: &Text,
+    tx: u64,
+    text: &str,
+)
+    requires { Contains (B.begun backend.old) tx }
+    ensures { B.begun backend.new ≡ B.begun backend.old }
+{
+    let Request::Write(write) = request(rt, alloc, text) else {
+        panic!(rt; "{text}")
+    };
+    assert!(rt; backend.write(login, tx, &write).is_ok(), "{text}");
+}
+
+/// Begins transaction 7, as the first one.
+fn begin_first<B: Backend>(rt: &impl Abort, backend: &mut B, login: &Text)
+    requires { B.begun backend.old ≡ [] }
+    ensures { B.begun backend.new ≡ 7 ∷ [] }
+{
+    match backend.begin(login, 7) {
+        Ok(()) => {}
+        Err(_) => panic!(rt; "begin"),
+    }
+}
+
 /// A backend with three rows, of which transaction 7 has changed one and deleted another.
 fn with_draft(rt: &impl Abort, alloc: Global, login: &Text) -> MemBackend {
     let mut backend = MemBackend::new(alloc);
@@ -78,16 +107,23 @@ fn with_draft(rt: &impl Abort, alloc: Global, login: &Text) -> MemBackend {
         login,
         "INSERT INTO t VALUES (3, 9), (1, 5), (2, 7)",
     );
-    assert!(rt; backend.begin(login, 7).is_ok());
-    for text in [
+    begin_first(rt, &mut backend, login);
+    write_in(
+        rt,
+        alloc,
+        &mut backend,
+        login,
+        7,
         "UPDATE t SET v = v + 100 WHERE k = 1",
+    );
+    write_in(
+        rt,
+        alloc,
+        &mut backend,
+        login,
+        7,
         "DELETE FROM t WHERE k = 3",
-    ] {
-        let Request::Write(write) = request(rt, alloc, text) else {
-            panic!(rt; "{text}")
-        };
-        assert!(rt; backend.write(login, 7, &write).is_ok(), "{text}");
-    }
+    );
     backend
 }
 
