@@ -2,7 +2,7 @@
 
 ghost use Rattle.std.specs.Prelude.{◌≡◌, ℕ, Bool, List, IfOk, IfSome, Contains, length, option_copied};
 ghost use Rattle.std.specs.declared.option.Option.{Option};
-ghost use Rattle.cj_outside.specs.Memory.{next};
+ghost use Rattle.cj_outside.specs.Causes.{next};
 ghost use Rattle.cj_model.specs.declared.database.Slot.{Slot};
 ghost use Rattle.cj_model.specs.declared.request.Act.TheVariants as act;
 ghost use Rattle.cj_model.specs.declared.request.Request.TheVariants as request;

@@ -1,5 +1,6 @@
 -- What contracts see of a source and a sink in memory.
-use Rattle.std.specs.Prelude.{ℕ, ◌+◌, ◌-◌, ◌^◌, min, List, Result, Contains, ◌↔◌, ◌≡◌}
+use Rattle.std.specs.Prelude.{ℕ, List, Result, Contains, ◌↔◌, ◌≡◌}
+use Rattle.cj_outside.specs.Causes.{next}
 
 -- the bytes left or held, the numbers of the calls that are to fail, the calls so far and the faults so far
 pub record State : Type 0 where
@@ -7,10 +8,6 @@ pub record State : Type 0 where
   pub fails : List ℕ
   pub calls : ℕ
   pub faults : ℕ
-
--- one more, up to the largest `u64`
-abbrev pub next : ℕ → ℕ
-next n = min (n + 1) (2 ^ 64 - 1)
 
 -- the call takes the next number, fails exactly where that number is listed, and is counted as a fault exactly there
 pub record FailsAsListed {T E : Type 0} (IsFault : Result T E → Type 0) (old new : State) (result : Result T E) : Type 0 where

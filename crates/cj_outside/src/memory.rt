@@ -23,7 +23,7 @@ struct Schedule {
 }
 
 impl Schedule {
-    ghost use Rattle.cj_outside.specs.Memory.{next};
+    ghost use Rattle.cj_outside.specs.Causes.{next};
 
     fn new(fails: Vec<u64>) -> Self
         ensures { result ≡ record { fails = fails; calls = 0; faults = 0 } }
