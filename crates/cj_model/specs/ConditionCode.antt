@@ -1,9 +1,7 @@
--- A code for conditions, by which a proof tells them apart: prefix notation, from which a stack builds them again.
-use Rattle.std.specs.Prelude.{◌≡◌, ◌⊎◌, List, [], ◌∷◌, ◌++◌, refl}
-use Rattle.std.proofs.Common.{inl, inr, ap, ◌∙◌, sym, append_assoc}
-use Rattle.std.proofs.lemmas.List.{append-nil}
-use Rattle.std.specs.Coded.{Coded, code_by, coded×, coded⊎, coded_list, coded_ℕ}
-use Rattle.std.specs.Prelude.{ℕ, zero, suc}
+-- A code for conditions, by which a proof tells them apart.
+use Rattle.std.specs.Prelude.{◌≡◌, refl}
+use Rattle.std.proofs.Common.{ap, ap₂}
+use Rattle.std.specs.Coded.{Coded, code_by, coded×}
 use Rattle.cj_model.specs.declared.term.Cmp.{Cmp}
 use Rattle.cj_model.specs.declared.term.Cmp.TheVariants as cmp
 use Rattle.cj_model.specs.declared.term.Term.{Term}
@@ -11,48 +9,33 @@ use Rattle.cj_model.specs.declared.term.Term.TheVariants as term
 use Rattle.cj_model.specs.contracts.term.Cmp as cmp_type
 use Rattle.cj_model.specs.contracts.term.Term as term_type
 use Rattle.cj_model.specs.Conditions.{Condition, Test, Not, And, Or}
+use Rattle.cj_model.specs.TreeCode as tree
+use Rattle.cj_model.specs.TreeCode.{Tree, coded_tree}
 
--- a comparison, or the number of what joins: 0 for Not, 1 for And, 2 for Or
-abbrev pub Sign : Type 0
-Sign = (Cmp × (Term × Term)) ⊎ ℕ
+-- a comparison
+abbrev pub Comparison : Type 0
+Comparison = Cmp × (Term × Term)
 
-abbrev pub signs : Condition → List Sign
-signs (Test c l r) = inl (c, (l, r)) ∷ []
-signs (Not x) = inr 0 ∷ signs x
-signs (And x y) = inr 1 ∷ (signs x ++ signs y)
-signs (Or x y) = inr 2 ∷ (signs x ++ signs y)
+abbrev pub tree_of : Condition → Tree Comparison
+tree_of (Test c l r) = tree.Leaf (c, (l, r))
+tree_of (Not x) = tree.Not (tree_of x)
+tree_of (And x y) = tree.And (tree_of x) (tree_of y)
+tree_of (Or x y) = tree.Or (tree_of x) (tree_of y)
 
-abbrev pub deny : List Condition → List Condition
-deny [] = []
-deny (x ∷ s) = Not x ∷ s
+abbrev pub of_tree : Tree Comparison → Condition
+of_tree (tree.Leaf t) = Test t.0 t.1.0 t.1.1
+of_tree (tree.Not x) = Not (of_tree x)
+of_tree (tree.And x y) = And (of_tree x) (of_tree y)
+of_tree (tree.Or x y) = Or (of_tree x) (of_tree y)
 
-abbrev pub join : (Condition → Condition → Condition) → List Condition → List Condition
-join by [] = []
-join by (x ∷ []) = x ∷ []
-join by (x ∷ y ∷ s) = by x y ∷ s
+pub of_tree-tree_of : (c : Condition) → of_tree (tree_of c) ≡ c
+of_tree-tree_of (Test c l r) = refl
+of_tree-tree_of (Not x) = ap Not (of_tree-tree_of x)
+of_tree-tree_of (And x y) = ap₂ And (of_tree-tree_of x) (of_tree-tree_of y)
+of_tree-tree_of (Or x y) = ap₂ Or (of_tree-tree_of x) (of_tree-tree_of y)
 
-abbrev pub stack : List Sign → List Condition
-stack [] = []
-stack (inl t ∷ ss) = Test t.0 t.1.0 t.1.1 ∷ stack ss
-stack (inr zero ∷ ss) = deny (stack ss)
-stack (inr (suc zero) ∷ ss) = join And (stack ss)
-stack (inr (suc (suc n)) ∷ ss) = join Or (stack ss)
-
-abbrev pub first : List Condition → Condition
-first [] = Test cmp.Eq term.Now term.Now
-first (x ∷ s) = x
-
-pub stack_signs : (c : Condition) (ss : List Sign) → stack (signs c ++ ss) ≡ c ∷ stack ss
-stack_signs (Test c l r) ss = refl
-stack_signs (Not x) ss = ap deny (stack_signs x ss)
-stack_signs (And x y) ss = ap (λ (t : List Sign). join And (stack t)) (append_assoc (signs x) (signs y) ss) ∙ ap (join And) (stack_signs x (signs y ++ ss) ∙ ap (λ (s : List Condition). x ∷ s) (stack_signs y ss))
-stack_signs (Or x y) ss = ap (λ (t : List Sign). join Or (stack t)) (append_assoc (signs x) (signs y) ss) ∙ ap (join Or) (stack_signs x (signs y ++ ss) ∙ ap (λ (s : List Condition). x ∷ s) (stack_signs y ss))
-
-abbrev pub of_signs : List Sign → Condition
-of_signs ss = first (stack ss)
-
-pub of_signs-signs : (c : Condition) → of_signs (signs c) ≡ c
-of_signs-signs c = ap of_signs (sym (append-nil (signs c))) ∙ ap first (stack_signs c [])
+abbrev pub coded_comparison : Coded Comparison
+coded_comparison = coded× cmp_type.the_row.coded (coded× term_type.the_row.coded term_type.the_row.coded)
 
 abbrev pub coded_condition : Coded Condition
-coded_condition = code_by (List Sign) (coded_list (coded⊎ (coded× cmp_type.the_row.coded (coded× term_type.the_row.coded term_type.the_row.coded)) coded_ℕ)) signs of_signs of_signs-signs
+coded_condition = code_by (Tree Comparison) (coded_tree (cmp.Eq, (term.Now, term.Now)) coded_comparison) tree_of of_tree of_tree-tree_of

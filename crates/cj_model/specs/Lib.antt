@@ -38,6 +38,7 @@ pub mod Steps
 pub mod Storable
 pub mod Tables
 pub mod TermForms
+pub mod TreeCode
 pub mod Turns
 pub mod Updates
 pub mod Values
