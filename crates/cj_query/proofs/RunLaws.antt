@@ -1,5 +1,5 @@
 -- The first run of rows, and the rest.
-use Rattle.std.proofs.Common.{◌≡◌, ℕ, suc, ◌+◌, ◌<◌, ◌≤◌, Bool, true, false, cond, List, [], ◌∷◌, ◌++◌, length, map, take, drop, get_or, refl, ap, sym, ◌∙◌, ⊎_elim, is_eq, arith, append_assoc, ◌-◌}
+use Rattle.std.proofs.Common.{◌≡◌, ℕ, suc, ◌+◌, ◌<◌, ◌≤◌, true, false, cond, List, [], ◌∷◌, ◌++◌, length, map, take, drop, get_or, refl, ap, sym, ◌∙◌, ⊎_elim, is_eq, arith, append_assoc, ◌-◌}
 use Rattle.std.specs.List.{prefix_len}
 use Rattle.std.proofs.lemmas.Bool.{cases_Bool}
 use Rattle.std.proofs.lemmas.List.{take-map, drop-map, drop_more, take_more, map-append, length-map, length-drop, drop-drop, take_all}
@@ -8,18 +8,6 @@ use Rattle.cj_model.specs.Values.{value_cmp}
 use Rattle.cj_model.specs.Tables.{cell}
 use Rattle.cj_query.specs.Gathered.{same_at, run_with, runs, run_length}
 use Rattle.cj_query.proofs.GroupLaws.{equal_is}
-
--- ---- how far a test holds
-
-module _ {A X : Type 0} (h : A → X) (p : X → Bool) (xs : List A) (i : ℕ) (x : A) (lt : i < length xs) (is : x ≡ get_or xs i x) (so_far : prefix_len p (map h xs) ≡ i + prefix_len p (map h (drop i xs))) where
-  split : prefix_len p (map h xs) ≡ i + cond (p (h x)) (1 + prefix_len p (map h (drop (i + 1) xs))) 0
-  split = so_far ∙ ap (λ ys. i + prefix_len p (map h ys)) (drop_more xs i x lt) ∙ ap (λ y. i + cond (p (h y)) (1 + prefix_len p (map h (drop (i + 1) xs))) 0) (sym is)
-
-  pub prefix_more : p (h x) ≡ true → prefix_len p (map h xs) ≡ i + 1 + prefix_len p (map h (drop (i + 1) xs))
-  prefix_more t = split ∙ ap (λ b. i + cond b (1 + prefix_len p (map h (drop (i + 1) xs))) 0) t ∙ omega arith
-
-  pub prefix_ends : p (h x) ≡ false → i ≡ prefix_len p (map h xs)
-  prefix_ends f = sym (split ∙ ap (λ b. i + cond b (1 + prefix_len p (map h (drop (i + 1) xs))) 0) f ∙ omega arith)
 
 -- ---- runs
 

@@ -72,9 +72,6 @@ module _ (es : RowEntries) (key : Value) (row : List Value) (u : KeysRise value_
 pub record Turned (k : ℕ) (rows : List (List Value)) (first now : RowEntries) : Type 0 where
   pub each : (key : Value) → unwrap_or (at value_cmp key now) (at value_cmp key (keyed k rows)) ≡ unwrap_or (at value_cmp key first) None
 
-pub turned_none : (k : ℕ) (first : RowEntries) → Turned k [] first first
-turned_none k first = record { each = λ key. refl }
-
 module _ (k : ℕ) (r : List Value) where
   -- a row below it has another key
   apart : (d : List Value) (rows rest : List (List Value)) → Rises (by_key k) (d ∷ rows ++ r ∷ rest) → is_at (value_cmp (cell r k)) (cell d k) ≡ false

@@ -1,7 +1,7 @@
 -- Entries in rising key: look-ups tell them apart; what merging, inserting and removing leave at a key.
 use Rattle.std.proofs.Common.{◌≡◌, Bool, true, false, cond, List, [], ◌∷◌, refl, ap, sym, ◌∙◌, subst, ⊎_elim, Ordering, Less, Equal, Greater, is_eq}
 use Rattle.std.specs.Prelude.{All, is_some, unwrap_or}
-use Rattle.std.proofs.lemmas.List.Elements.{All-nil, All-cons, All-head, All-tail}
+use Rattle.std.proofs.lemmas.List.Elements.{All-cons, All-head, All-tail}
 use Rattle.std.specs.declared.option.Option.{Option}
 use Rattle.std.specs.declared.option.Option.TheVariants.{None, Some}
 use Rattle.std.specs.Cmp.{IsTotalOrder}
@@ -309,15 +309,6 @@ module _ {K : Type 0} (R : K → K → Ordering) where
       | true ↦ All-tail (λ e. P e.0) e es a
       | false ↦ All-cons (λ e. P e.0) e _ (All-head (λ e. P e.0) e es a) (all_remove P es k (All-tail (λ e. P e.0) e es a))
     ]
-
-    -- keys above a removed one stay known
-    pub known_above : {X Y : Type 0} (es : List (K × X)) (k : K) (cs : List (K × Y)) → KeysRise es → KeysAbove k cs → All (λ c. is_some (at c.0 es) ≡ true) cs → All (λ c. is_some (at c.0 (remove_entry (is_at (R k)) es)) ≡ true) cs
-    known_above es k [] u h a = All-nil (λ c. is_some (at c.0 (remove_entry (is_at (R k)) es)) ≡ true)
-    known_above es k (c ∷ cs) u h a =
-        let other : is_at (R c.0) k ≡ false = ap is_eq (o.antisymm c.0 k ∙ ap Rattle.std.specs.Ordering.ordering_reverse h.0) in
-        All-cons (λ c. is_some (at c.0 (remove_entry (is_at (R k)) es)) ≡ true) c cs
-        (ap is_some (at_remove c.0 es k u ∙ cond-false _ _ _ other) ∙ All-head (λ c. is_some (at c.0 es) ≡ true) c cs a)
-        (known_above es k cs u h.1 (All-tail (λ c. is_some (at c.0 es) ≡ true) c cs a))
 
   pub remove_absent : {X : Type 0} (k : K) (es : List (K × X)) → lookup (is_at (R k)) es ≡ None → remove_entry (is_at (R k)) es ≡ es
   remove_absent k [] n = refl

@@ -28,8 +28,3 @@ read_from_tokens text found (Ok r) rest t h = (
 )
 read_from_tokens text found (Err Syntax) rest t h = λ other x. let e = whole_complete found.items other (of_tokens text found.items other t.1 x) in cc
 read_from_tokens text found (Err NoMemory) rest t h = tt
-
--- where no tokens were found, that answers the text
-pub read_without_tokens : (text : List ℕ) (e : SqlError) → TokensRead text (Err e) → IsRead text (Err e)
-read_without_tokens text Syntax h = λ other x. h x.tokens x.tokens_of
-read_without_tokens text NoMemory h = tt

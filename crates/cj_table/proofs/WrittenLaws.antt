@@ -1,8 +1,6 @@
 -- A write of one slot of a database is the write of the database.
 use Rattle.std.proofs.Common.{◌≡◌, ℕ, ◌<◌, ◌≤◌, Bool, true, false, cond, nat_lt, List, length, get_or, set, refl, ap, sym, ◌∙◌, subst, Equal}
-use Rattle.std.specs.Prelude.{find, position, IfOk, IfSome}
-use Rattle.std.specs.Result.{IsErr}
-use Rattle.std.proofs.lemmas.List.Elements.{All-get_or}
+use Rattle.std.specs.Prelude.{find, position}
 use Rattle.std.specs.List.{position_or_len, slice_get}
 use Rattle.std.specs.Str.{bytes_eq}
 use Rattle.std.specs.declared.option.Option.{Option}
@@ -20,22 +18,13 @@ use Rattle.cj_model.specs.declared.database.Slot.{Slot}
 use Rattle.cj_model.specs.declared.database.Table.{Table}
 use Rattle.cj_model.specs.declared.write.Write.{Write}
 use Rattle.cj_model.specs.declared.answer.Outcome.{Outcome}
-use Rattle.cj_model.specs.declared.answer.Outcome.TheVariants.{Done, Refused}
-use Rattle.cj_model.specs.declared.answer.Refusal.{Refusal}
-use Rattle.cj_model.specs.declared.schema.Schema.{Schema}
-use Rattle.cj_model.specs.declared.value.Value.{Value}
-use Rattle.cj_model.specs.declared.codes.TheConstants.{NO_TABLE, LOCKED}
-use Rattle.cj_plan.specs.declared.plan.Plan.{Plan}
-use Rattle.cj_plan.specs.Plans.{Plans}
-use Rattle.cj_rows.specs.Stored.{IsChangeOf, changed_slot, rows_after}
-use Rattle.cj_model.specs.Tables.{IsDatabase, IsSlot, put_by, by_table, name_cmp, table_of, slot_of}
+use Rattle.cj_model.specs.declared.codes.TheConstants.{NO_TABLE}
+use Rattle.cj_model.specs.Tables.{IsDatabase, put_by, by_table, name_cmp, table_of, slot_of}
 use Rattle.cj_model.specs.Changes.{Changed, bare}
 use Rattle.cj_model.specs.Updates.{change}
 use Rattle.cj_model.specs.Steps.{refuse, seen, other_writer, with_table, table_written, write_done, write_unless_locked, write_in, written}
-use Rattle.cj_model.proofs.RisingLaws.{put_equal, all_put, rises_put}
-use Rattle.cj_model.proofs.TableLaws.{IsTableWith}
-use Rattle.cj_model.proofs.UpdateLaws.{change_keeps}
-use Rattle.cj_model.proofs.DatabaseLaws.{by_table_total, with_table-name, with_table_is_slot, seen-schema, seen_is_table, found_is_slot}
+use Rattle.cj_model.proofs.RisingLaws.{put_equal}
+use Rattle.cj_model.proofs.DatabaseLaws.{by_table_total, with_table-name}
 use Rattle.cj_table.specs.Carried.{Carries, CarriesSlot, change_unless_locked, change_of}
 
 -- what has no place isn't found
@@ -84,64 +73,3 @@ write_carries db tx w i s r new is place here h =
     let found : slot_of db (table_written w) ≡ Some s = find_some (λ s. bytes_eq (table_of s) (table_written w)) db i s place ∙ ap Some (sym here) in
     subst (λ (o : Option Slot). Carries db (write_in db tx w o) r (set db i new)) (sym found)
     (unless_carries db is i s (position-Some (λ s. bytes_eq (table_of s) (table_written w)) db i s place).0 here tx w (other_writer tx s.draft) r new h)
-
--- ---- a write of one slot
-
-pub slot_locked : (s : Slot) (tx other : ℕ) (w : Write) → other_writer tx s.draft ≡ Some other → CarriesSlot s tx (change_of s tx w) (Ok (Refused (record { code = LOCKED; a = other; b = 0 }))) s
-slot_locked s tx other w h = subst (λ (o : Option ℕ). CarriesSlot s tx (change_unless_locked s tx w o) (Ok (Refused (record { code = LOCKED; a = other; b = 0 }))) s) (sym h) (refl, refl)
-
-done_with : (s : Slot) (tx : ℕ) (c : Changed) (p : Plan) (new : Slot) → Plans (seen s tx) c (Ok p) → (seen s tx).schema ≡ s.base.schema → new ≡ changed_slot s tx p.changes → CarriesSlot s tx c (Ok (Done p.written)) new
-done_with s tx (Ok q) p new h same e =
-    (ap Done h.written, e ∙ ap (λ (rows : List (List Value)). with_table s tx (record { schema = s.base.schema; rows = rows })) (ap (λ (sc : Schema). rows_after sc.key (seen s tx).rows p.changes) (sym same) ∙ h.after))
-done_with s tx (Err refusal) p new h same e = absurd h
-
-refused_with : (s : Slot) (tx : ℕ) (c : Changed) (r : Refusal) → Plans (seen s tx) c (Err r) → CarriesSlot s tx c (Ok (Refused r)) s
-refused_with s tx (Ok q) r h = absurd h
-refused_with s tx (Err refusal) r h = (ap Refused h, refl)
-
-failed_with : (s : Slot) (tx : ℕ) (c : Changed) (e : NoMemory) (new : Slot) → new ≡ s → CarriesSlot s tx c (Err e) new
-failed_with s tx (Ok q) e new h = h
-failed_with s tx (Err refusal) e new h = h
-
-module _ (s : Slot) (is : IsSlot s) (tx : ℕ) (w : Write) (free : other_writer tx s.draft ≡ None) where
-  pub slot_done : (p : Plan) (new : Slot) → Plans (seen s tx) (change (seen s tx) w) (Ok p) → new ≡ changed_slot s tx p.changes → CarriesSlot s tx (change_of s tx w) (Ok (Done p.written)) new
-  slot_done p new h e = subst (λ (o : Option ℕ). CarriesSlot s tx (change_unless_locked s tx w o) (Ok (Done p.written)) new) (sym free) (done_with s tx (change (seen s tx) w) p new h (seen-schema s tx is) e)
-
-  pub slot_refused : (r : Refusal) → Plans (seen s tx) (change (seen s tx) w) (Err r) → CarriesSlot s tx (change_of s tx w) (Ok (Refused r)) s
-  slot_refused r h = subst (λ (o : Option ℕ). CarriesSlot s tx (change_unless_locked s tx w o) (Ok (Refused r)) s) (sym free) (refused_with s tx (change (seen s tx) w) r h)
-
-pub slot_failed : (s : Slot) (tx : ℕ) (w : Write) (r : Result Outcome NoMemory) (new : Slot) → IsErr r → new ≡ s → CarriesSlot s tx (change_of s tx w) r new
-slot_failed s tx w (Ok o) new i h = cc i
-slot_failed s tx w (Err e) new i h = failed_with s tx (change_of s tx w) e new h
-
-plan_changes : (s : Slot) (is : IsSlot s) (tx : ℕ) (c : Changed) (p : Plan) → Plans (seen s tx) c (Ok p) → IsChangeOf s.base.schema.key (seen s tx).rows p.changes p.count
-plan_changes s is tx (Ok q) p h = subst (λ (sc : Schema). IsChangeOf sc.key (seen s tx).rows p.changes p.count) (seen-schema s tx is) h.change
-plan_changes s is tx (Err refusal) p h = absurd h
-
-pub planned_change : (s : Slot) (is : IsSlot s) (tx : ℕ) (w : Write) (p : Plan) → Plans (seen s tx) (change (seen s tx) w) (Ok p) → IsChangeOf s.base.schema.key (seen s tx).rows p.changes p.count
-planned_change s is tx w p h = plan_changes s is tx (change (seen s tx) w) p h
-
--- ---- a write leaves a database
-
-done_keeps : (db : List Slot) (s : Slot) (tx : ℕ) (c : Changed) → IsDatabase db → IsSlot s → IfOk c (IsTableWith s.base.schema) → IsDatabase (write_done db s tx c).db
-done_keeps db s tx (Ok p) is slot h = record {
-  slots = all_put by_table IsSlot db _ is.slots (with_table_is_slot s tx (record { schema = s.base.schema; rows = p.0 }) slot h refl);
-  rises = rises_put by_table by_table_total db _ is.rises;
-}
-done_keeps db s tx (Err r) is slot h = is
-
-unless_keeps : (db : List Slot) (s : Slot) (tx : ℕ) (w : Write) (o : Option ℕ) → IsDatabase db → IsSlot s → IsDatabase (write_unless_locked db s tx w o).db
-unless_keeps db s tx w None is slot = done_keeps db s tx (change (seen s tx) w) is slot
-    (subst (λ c. IfOk (change (seen s tx) w) (IsTableWith c)) (seen-schema s tx slot) (change_keeps (seen s tx) w (seen_is_table s tx slot)))
-unless_keeps db s tx w (Some other) is slot = is
-
-in_keeps : (db : List Slot) (tx : ℕ) (w : Write) (found : Option Slot) → IsDatabase db → IfSome found IsSlot → IsDatabase (write_in db tx w found).db
-in_keeps db tx w None is h = is
-in_keeps db tx w (Some s) is h = unless_keeps db s tx w (other_writer tx s.draft) is h
-
-pub written_keeps : (db : List Slot) (tx : ℕ) (w : Write) → IsDatabase db → IsDatabase (written db tx w).db
-written_keeps db tx w is = in_keeps db tx w (slot_of db (table_written w)) is (found_is_slot db (table_written w) is)
-
--- the slot at a place
-pub slot_at : (db : List Slot) (i : ℕ) (s : Slot) → IsDatabase db → i < length db → s ≡ get_or db i s → IsSlot s
-slot_at db i s is l e = subst IsSlot (sym e) (All-get_or IsSlot db i s l is.slots)
