@@ -1,5 +1,5 @@
 -- What an end answers.
-use Rattle.std.proofs.Common.{◌≡◌, ◌≢◌, inl, inr, ℕ, ◌<◌, ◌≤◌, ◌^◌, ◌&&◌, ◌||◌, not, Bool, true, false, List, [], ◌∷◌, ◌++◌, length, map, slice_get, Option, None, Some, IsSome, refl, ap, sym, ◌∙◌, subst, arith, ⊎_elim}
+use Rattle.std.proofs.Common.{◌≡◌, ◌≢◌, inl, inr, ℕ, ◌<◌, ◌≤◌, ◌^◌, ◌&&◌, ◌||◌, not, Bool, true, false, List, [], ◌∷◌, ◌++◌, length, map, Option, None, Some, IsSome, refl, ap, sym, ◌∙◌, subst, arith, ⊎_elim}
 use Rattle.std.proofs.lemmas.Bool.{both_ways, and_parts, and_cases, or_cases, or_parts, not-true, not-false}
 use Rattle.cj_model.specs.declared.request.Entry.{Entry}
 use Rattle.cj_model.specs.declared.answer.Outcome.{Outcome}
@@ -10,12 +10,13 @@ use Rattle.cj_model.specs.declared.event.Event.TheVariants.{Ended}
 use Rattle.cj_model.specs.declared.moves.OpenSession.{OpenSession}
 use Rattle.cj_model.specs.declared.codes.TheConstants.{UNFINISHED, STARVED_ALL}
 use Rattle.cj_model.specs.Placements.{everywhere}
-use Rattle.cj_model.specs.Histories.{has, log, done, free, opened, enabled, ends}
-use Rattle.cj_model.specs.Answering.{is_target, reply_of, AnswersEntry}
+use Rattle.cj_model.specs.Histories.{has, log, done, free, opened, enabled}
+use Rattle.cj_model.specs.Replies.{outcome_reply}
+use Rattle.cj_model.specs.Answering.{is_target, AnswersEntry}
 use Rattle.cj_model.specs.Cores.{position_at}
 use Rattle.cj_model.specs.Moves.{behind}
 use Rattle.cj_model.specs.Sound.{Stands}
-use Rattle.cj_model.proofs.Pushed.{get_seam, enabled-push, log-same, ends-ended, length-ends}
+use Rattle.cj_model.proofs.Pushed.{enabled-push, ends-last, log-same}
 use Rattle.cj_model.proofs.Masks.{has-zero, some_bit}
 use Rattle.cj_model.proofs.Now.{behind_none}
 use Rattle.cj_replica.specs.Cells.{CellState}
@@ -23,10 +24,6 @@ use Rattle.cj_core.specs.Worlds.{core_of, world_of}
 use Rattle.cj_core.specs.Effects.{Refuses}
 use Rattle.cj_core.specs.Kept.{Kept}
 use Rattle.cj_core.proofs.Taking.{concerns_all, lone_at}
-
--- the masks of the entry that ends
-ended_masks : (h : List Event) (f s : ℕ) → slice_get (ends (h ++ Ended f s ∷ [])) (done h) ≡ Some (f, s)
-ended_masks h f s = rw (ends-ended h f s, ← length-ends h) (get_seam (ends h) [] (f, s))
 
 module _ (tells : Bool) (n : ℕ) (h : List Event) (cells : List CellState) (f s : ℕ) (ss : List OpenSession) (g : ℕ) (heard : Option Outcome) (kept : Kept tells (world_of n h cells f s ss g) heard)
     (fr : free h ≡ false) (left : ℕ) (rest : (b : ℕ) → has left b ≡ enabled (h ++ Ended f s ∷ []) b) where
@@ -47,7 +44,7 @@ module _ (tells : Bool) (n : ℕ) (h : List Event) (cells : List CellState) (f s
         record {
           failed = f;
           starved = s;
-          masks = ended_masks h f s;
+          masks = ends-last h f s;
           some = (some.0, target some.0 some.1);
           all =
               λ b t.
@@ -71,14 +68,14 @@ module _ (tells : Bool) (n : ℕ) (h : List Event) (cells : List CellState) (f s
     clear : (has f (some_bit left some fits).0 ≡ false) × (has s (some_bit left some fits).0 ≡ false)
     clear = let q = some_bit left some fits in or_parts (has f q.0) (has s q.0) (not-true (has f q.0 || has s q.0) parts.1)
 
-    pub finished : (e : Entry) → opened h ≡ Some e → (o : Outcome) → heard ≡ Some o → tells ≡ true → AnswersEntry (everywhere n) h (h ++ Ended f s ∷ []) (done h) e (reply_of o)
+    pub finished : (e : Entry) → opened h ≡ Some e → (o : Outcome) → heard ≡ Some o → tells ≡ true → AnswersEntry (everywhere n) h (h ++ Ended f s ∷ []) (done h) e (outcome_reply o)
     finished e is o there t =
         let q = some_bit left some fits in
         inl
         record {
           failed = f;
           starved = s;
-          masks = ended_masks h f s;
+          masks = ends-last h f s;
           some = inr (q.0, target e is q.0 parts.0, clear.0, clear.1);
           outcome = o;
           says = rw (log-same h (Ended f s) refl) (kept.right o there t);

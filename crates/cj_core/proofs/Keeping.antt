@@ -1,24 +1,24 @@
 -- Each change keeps what a world keeps.
-use Rattle.std.proofs.Common.{◌≡◌, ℕ, ◌+◌, ◌^◌, ◌<◌, ◌≤◌, Bool, true, false, List, [], ◌∷◌, ◌++◌, length, map, get_or, set, Option, None, Some, refl, ap, sym, ◌∙◌, subst, arith, length-append, ⊎_elim}
+use Rattle.std.proofs.Common.{◌≡◌, ℕ, ◌+◌, ◌<◌, ◌≤◌, Bool, true, false, List, [], ◌∷◌, ◌++◌, length, map, get_or, set, Option, None, Some, refl, ap, sym, ◌∙◌, subst, arith, length-append, ⊎_elim}
 use Rattle.std.proofs.lemmas.Bool.{cases_eq, both_ways, or_parts, leb-false}
 use Rattle.std.proofs.lemmas.List.{get_or-set_same, get_or-set_other, length-set, get_or-map, take-append-le}
 use Rattle.cj_model.specs.declared.request.Entry.{Entry}
 use Rattle.cj_model.specs.declared.answer.Outcome.{Outcome}
-use Rattle.cj_model.specs.declared.select.Select.{Select}
 use Rattle.cj_model.specs.declared.event.Event.{Event}
 use Rattle.cj_model.specs.declared.event.Event.TheVariants.{Sched, Ended, ReadFailed, Disabled, Enabled}
 use Rattle.cj_model.specs.declared.moves.OpenSession.{OpenSession}
 use Rattle.cj_model.specs.declared.database.Slot.{Slot}
+use Rattle.cj_model.specs.declared.limits.TheConstants.{SESSION_LIMIT, SESSION_NUMBER_LIMIT, USER_LIMIT}
 use Rattle.cj_model.specs.Placements.{Placement, everywhere, part}
 use Rattle.cj_model.specs.Histories.{scheduled, is_ended, log, done, free, opened, enabled, room, run, said}
-use Rattle.cj_model.specs.Legality.{IsFit, user_limit}
-use Rattle.cj_model.specs.Cores.{Core, position_at, session_limit, session_at, fresh_session, with_session, is_by}
-use Rattle.cj_model.specs.Moves.{behind, is_open, has_no_number, next_entry, counted, answered_at, was_answered, still_reading}
+use Rattle.cj_model.specs.Legality.{IsFit}
+use Rattle.cj_model.specs.Cores.{Core, position_at, session_at, fresh_session, with_session, is_by}
+use Rattle.cj_model.specs.Moves.{behind, is_open, has_no_number, next_entry, counted, answered_at}
 use Rattle.cj_model.specs.Sound.{IsSound, IsLone, Holds}
 use Rattle.cj_model.proofs.Pushed.{enabled-push, log-sched, log-same, log_faults-same, done-same, opened-same, opened-ended, free-same, free-ended}
 use Rattle.cj_model.proofs.Sessions.{found_open, without}
 use Rattle.cj_model.proofs.Effects.{SessionsAre, KeepsSession, sessions_are, are_opened, are_closed, are_with, are_kept, are_sched, sound_sessions, sound_sched, sound_ended, sound_read_failed, sound_disabled, sound_enabled, stands_there, is_there}
-use Rattle.cj_model.proofs.Soundness.{session_sound, read_counts}
+use Rattle.cj_model.proofs.Soundness.{session_sound, keeps_answered}
 use Rattle.cj_model.proofs.Now.{behind_none}
 use Rattle.cj_replica.specs.Cells.{CellState}
 use Rattle.cj_core.specs.Worlds.{core_of, world_of, IsCell}
@@ -50,23 +50,6 @@ cells_set tells n entries cells b y new all k d lt =
     ⊎_elim (λ (e : k ≡ b). let blt : b < length cells = omega arith in subst (λ (x : ℕ). IsCell tells n entries x (get_or (set cells b y) x d)) (sym e) (rw (get_or-set_same cells b y d blt) new))
     (λ (ne : k ≡ b → ⊥). rw (get_or-set_other cells b k y d ne) (all k d klt)) (cases_eq k b)
 
--- ---- what changes of a session keep
-
-pub keeps_counted : (n : ℕ) → KeepsSession n counted
-keeps_counted n = record { number = λ x. refl; user = λ x. refl; queries = λ x. (let le : x.queries ≤ x.queries + 1 = omega arith in le); least = λ x le. le }
-
-keeps_answered : (n p : ℕ) → p ≤ n → KeepsSession n (answered_at p)
-keeps_answered n p le = record { number = λ x. refl; user = λ x. refl; queries = λ x. (let le : x.queries ≤ x.queries = omega arith in le); least = λ x old. le }
-
-pub keeps_refused : (n : ℕ) → KeepsSession n was_answered
-keeps_refused n = record { number = λ x. refl; user = λ x. refl; queries = λ x. (read_counts x).0; least = λ x le. le }
-
-pub keeps_reached : (n p : ℕ) → p ≤ n → KeepsSession n (λ x. answered_at p (was_answered x))
-keeps_reached n p le = record { number = λ x. refl; user = λ x. refl; queries = λ x. (read_counts x).0; least = λ x old. le }
-
-pub keeps_reading : (n : ℕ) (select : Select) (tried : ℕ) → KeepsSession n (still_reading select tried)
-keeps_reading n select tried = record { number = λ x. refl; user = λ x. refl; queries = λ x. (read_counts x).0; least = λ x le. le }
-
 -- ---- changes
 
 module _ (tells : Bool) (n : ℕ) (h : List Event) (cells : List CellState) (f s : ℕ) (ss : List OpenSession) (g : ℕ) (heard : Option Outcome) (kept : Kept tells (world_of n h cells f s ss g) heard) where
@@ -89,11 +72,11 @@ module _ (tells : Bool) (n : ℕ) (h : List Event) (cells : List CellState) (f s
   kept_with number change keeps = kept_sessions (with_session ss number change) g (are_with h h g ss number change (sessions_are (core_of n h cells f s ss g) kept.world.sound) keeps refl (λ s q. refl) (λ e on. on))
 
   -- a session is opened
-  pub kept_opened : (user : List ℕ) → has_no_number (core_of n h cells f s ss g) ≡ false → length user ≤ user_limit → Kept tells (world_of n h cells f s (ss ++ fresh_session (g + 1) user ∷ []) (g + 1)) heard
+  pub kept_opened : (user : List ℕ) → has_no_number (core_of n h cells f s ss g) ≡ false → length user ≤ USER_LIMIT → Kept tells (world_of n h cells f s (ss ++ fresh_session (g + 1) user ∷ []) (g + 1)) heard
   kept_opened user free_number fits =
       let full = or_parts _ _ free_number in
-      let few : length ss < session_limit = leb-false _ _ full.0 in
-      let more : g < 2 ^ 62 = leb-false _ _ full.1 in
+      let few : length ss < SESSION_LIMIT = leb-false _ _ full.0 in
+      let more : g < SESSION_NUMBER_LIMIT = leb-false _ _ full.1 in
       kept_sessions (ss ++ fresh_session (g + 1) user ∷ []) (g + 1) (are_opened h g ss user (sessions_are (core_of n h cells f s ss g) kept.world.sound) few more fits)
 
   -- a session is closed

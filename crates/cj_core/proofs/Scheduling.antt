@@ -1,6 +1,5 @@
 -- The next entry of a session, and what a schedule gives.
-use Rattle.std.proofs.Common.{◌≡◌, ℕ, ◌+◌, ◌<◌, ◌≤◌, ◌^◌, inl, inr, true, Option, None, Some, Ok, Err, refl, ap, sym, ◌∙◌, subst, arith}
-use Rattle.std.proofs.lemmas.List.Elements.{All-weaker}
+use Rattle.std.proofs.Common.{◌≡◌, ℕ, ◌+◌, ◌<◌, inl, inr, true, Option, None, Some, Ok, Err, refl, ap, sym, ◌∙◌, subst}
 use Rattle.cj_model.specs.declared.request.Act.{Act}
 use Rattle.cj_model.specs.declared.request.Act.TheVariants as act
 use Rattle.cj_model.specs.declared.request.Request.{Request}
@@ -8,6 +7,7 @@ use Rattle.cj_model.specs.declared.request.Entry.{Entry}
 use Rattle.cj_model.specs.declared.codes.TheConstants.{NO_BACKEND, HISTORY_FULL}
 use Rattle.cj_model.specs.declared.moves.Moved.TheVariants as moved
 use Rattle.cj_model.specs.declared.moves.OpenSession.{OpenSession}
+use Rattle.cj_model.specs.declared.limits.TheConstants.{REQUEST_LIMIT}
 use Rattle.cj_model.specs.Changes.{bare}
 use Rattle.cj_model.specs.Plain.{act_of, request_of}
 use Rattle.cj_model.specs.Histories.{log}
@@ -17,7 +17,7 @@ use Rattle.cj_model.specs.Cores.{Core, session_at, session_of}
 use Rattle.cj_model.specs.Moves.{Given, is_open, forbidden_by, tx_of_act, open_tx, next_entry, SchedulesAct, SchedulesOf, Schedules, with_counted}
 use Rattle.cj_model.specs.Sound.{IsSound, IsLone}
 use Rattle.cj_model.proofs.Sessions.{session_at-is}
-use Rattle.cj_model.proofs.Soundness.{session_sound, no_tx, request_of-act}
+use Rattle.cj_model.proofs.Soundness.{entry_fits, no_tx, request_of-act}
 use Rattle.cj_book.specs.declared.error.BookError.TheVariants.{NoBackend, HistoryFull}
 use Rattle.cj_core.specs.Effects.{IsChange, SchedulesAs, scheduled_as}
 
@@ -63,28 +63,8 @@ change_tx c s act.Commit w is = absurd is
 change_tx c s act.Abort w is = absurd is
 
 -- it may be scheduled
-pub change_fits : (c : Core) (s : ℕ) (a : Act) → IsSound c → IsChange a → IsWritten (request_of a) → is_open c s ≡ true → (session_at c s).queries < 2 ^ 62 → IsFit (log c.history) (next_entry c s a)
-change_fits c s a w change written here count =
-    let x = session_sound c s w here in
-    let i = x.0 in
-    let number : (session_at c s).number ≡ s = x.1 in
-    let low : 0 < (session_at c s).number = i.number.0 in
-    let high : (session_at c s).number ≤ c.greatest = i.number.1 in
-    let limit = w.numbers in
-    record {
-      written = written;
-      user = i.user;
-      by =
-          inl
-          record {
-            session = (omega arith, omega arith);
-            limit = omega arith;
-            newer =
-                All-weaker (λ (d : Entry). d.session ≡ (session_at c s).number → d.seq ≤ (session_at c s).queries) (λ (d : Entry). d.session ≡ s → d.seq < (session_at c s).queries + 1)
-                (λ d old by. let le = old (by ∙ sym number) in omega arith) (log c.history) i.entries;
-            tx = change_tx c s a w change;
-          };
-    }
+pub change_fits : (c : Core) (s : ℕ) (a : Act) → IsSound c → IsChange a → IsWritten (request_of a) → is_open c s ≡ true → (session_at c s).queries < REQUEST_LIMIT → IsFit (log c.history) (next_entry c s a)
+change_fits c s a w change written here count = entry_fits c s a written (change_tx c s a w change) count w here
 
 -- ---- what a schedule gives
 

@@ -1,7 +1,8 @@
 use Rattle.std.proofs.Common.{◌≤◌, length, sym, subst}
 use Rattle.cj_model.specs.Histories.{log}
 use Rattle.cj_core.specs.Worlds.{WorldState}
-use Rattle.cj_core.proofs.Keeping.{kept_with, keeps_reached}
+use Rattle.cj_model.proofs.Soundness.{keeps_reached}
+use Rattle.cj_core.proofs.Keeping.{kept_with}
 use Rattle.cj_core.proofs.world.World.answer_read.Goals as goal
 
 pub invariant_of-self : goal.invariant_of-self

@@ -1,4 +1,5 @@
-use Rattle.cj_core.proofs.Keeping.{kept_with, keeps_counted}
+use Rattle.cj_model.proofs.Soundness.{keeps_counted}
+use Rattle.cj_core.proofs.Keeping.{kept_with}
 use Rattle.cj_core.proofs.world.World.count.Goals as goal
 
 pub invariant_of-self : goal.invariant_of-self
