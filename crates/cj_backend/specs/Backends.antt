@@ -15,6 +15,7 @@ use Rattle.cj_model.specs.declared.answer.Asked.TheVariants as asked
 use Rattle.cj_model.specs.declared.answer.Outcome.{Outcome}
 use Rattle.cj_model.specs.declared.answer.Outcome.TheVariants as outcome
 use Rattle.cj_model.specs.declared.codes.TheConstants.{NO_TABLE, NO_COLUMN, BAD_COLUMNS, OVERFLOW, WRONG_TYPE, ROWS_FULL}
+use Rattle.cj_model.specs.declared.limits.TheConstants.{ANSWER_LIMIT}
 use Rattle.cj_model.specs.Steps.{acted}
 use Rattle.cj_model.specs.Queries.{ask}
 use Rattle.cj_model.specs.Storable.{writers}
@@ -90,14 +91,10 @@ abbrev pub IsQueryCode : ℕ → Type 0
 IsQueryCode code =
     (code ≡ NO_TABLE) ⊎ (code ≡ NO_COLUMN) ⊎ (code ≡ BAD_COLUMNS) ⊎ (code ≡ OVERFLOW) ⊎ (code ≡ WRONG_TYPE)
 
--- the most columns of an answer
-abbrev pub answer_limit : ℕ
-answer_limit = 64
-
 -- it has columns, not too many, and in each row a value for each
 pub record IsAnswer (a : Answer) : Type 0 where
   pub some : 0 < length a.columns
-  pub few : length a.columns ≤ answer_limit
+  pub few : length a.columns ≤ ANSWER_LIMIT
   pub each : All (λ row. length row ≡ length a.columns) a.rows
 
 -- what a query may come to

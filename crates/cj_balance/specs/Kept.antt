@@ -2,7 +2,8 @@
 use Rattle.std.specs.Prelude.{◌≡◌, ℕ, ◌^◌, ◌<◌, ◌≤◌, Bool, true, false, List, length, slice_index, Option, None, Some, IfSome}
 use Rattle.cj_model.specs.Histories.{has}
 use Rattle.cj_model.specs.Balancing.{Balance, is_ahead}
-use Rattle.cj_balance.specs.declared.balancer.TheConstants.{BACKEND_LIMIT, MOST_WEIGHT}
+use Rattle.cj_model.specs.declared.limits.TheConstants.{BACKEND_LIMIT}
+use Rattle.cj_balance.specs.declared.balancer.TheConstants.{MOST_WEIGHT}
 
 -- each weight is 1 to 1,000
 abbrev pub AreWeights : List ℕ → Type 0

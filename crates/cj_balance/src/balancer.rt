@@ -1,16 +1,12 @@
 //! The balancer, and what it keeps of each backend.
 
 ghost use Rattle.std.specs.Prelude.{◌≡◌, ◌↔◌, ◌+◌, ◌-◌, ◌^◌, ◌<◌, slice_index, IsNone, IfSome};
-ghost use Rattle.cj_model.specs.Histories as histories;
 ghost use Rattle.cj_model.specs.Balancing as balancing;
 ghost use Rattle.cj_model.specs.Balancing.{Picks, at_rest, one_more, one_less, with_room, used_after, picked};
 ghost use Rattle.cj_balance.specs.Kept.{AreWeights, IsFirstOrNone};
 
-use cj_model::Policy;
+use cj_model::{BACKEND_LIMIT, Policy, has_bit};
 use std::marker::Model;
-
-/// The most backends; their numbers begin with 0.
-pub const BACKEND_LIMIT: u8 = 16;
 
 /// The greatest weight of a backend.
 pub const MOST_WEIGHT: u16 = 1000;
@@ -21,13 +17,13 @@ pub const MOST_WEIGHT: u16 = 1000;
 #[derive(Drop)]
 pub struct Balancer {
     policy: Policy,
-    weights: [u16; 16],
+    weights: [u16; BACKEND_LIMIT as usize],
     /// The backend that was picked last.
     last: Option<u8>,
     /// How often each backend was picked; only the weighted policy counts that.
-    used: [u32; 16],
+    used: [u32; BACKEND_LIMIT as usize],
     /// How many reads of each backend began and haven't ended.
-    pending: [u32; 16],
+    pending: [u32; BACKEND_LIMIT as usize],
 }
 
 impl Model for Balancer {
@@ -39,13 +35,6 @@ impl Model for Balancer {
     ghost view = { λ b. record { policy = b.policy; weights = b.weights; standing = record { last = b.last; used = b.used; pending = b.pending } } };
 
     ghost invariant = { λ b. Keeps b.weights b.last b.used b.pending };
-}
-
-fn has(mask: u32, b: u8) -> bool
-    requires { b < BACKEND_LIMIT }
-    ensures { result ≡ histories.has mask b }
-{
-    (mask >> b) & 1 == 1
 }
 
 /// The steps up from one backend to another, where 0 comes after 15.
@@ -73,7 +62,7 @@ fn steps_to(last: Option<u8>, b: u8) -> u8
 }
 
 /// One more at `b`.
-fn count_up(counts: &mut [u32; 16], b: u8)
+fn count_up(counts: &mut [u32; BACKEND_LIMIT as usize], b: u8)
     requires below { b < BACKEND_LIMIT }
     requires room { slice_index counts.old b + 1 < 2 ^ 32 }
     ensures { counts.new ≡ one_more counts.old b }
@@ -82,17 +71,17 @@ fn count_up(counts: &mut [u32; 16], b: u8)
 }
 
 /// Begins all counts again at 0 where that of `b` can't grow.
-fn make_room(used: &mut [u32; 16], b: u8)
+fn make_room(used: &mut [u32; BACKEND_LIMIT as usize], b: u8)
     requires { b < BACKEND_LIMIT }
     ensures { used.new ≡ with_room used.old b }
 {
     if used[b as usize] == u32::MAX {
-        *used = [0; 16];
+        *used = [0; BACKEND_LIMIT as usize];
     }
 }
 
 /// Counts a pick of `b` where the policy counts picks.
-fn count_pick(policy: Policy, used: &mut [u32; 16], b: u8)
+fn count_pick(policy: Policy, used: &mut [u32; BACKEND_LIMIT as usize], b: u8)
     requires { b < BACKEND_LIMIT }
     ensures { used.new ≡ used_after policy used.old b }
 {
@@ -108,7 +97,7 @@ fn count_pick(policy: Policy, used: &mut [u32; 16], b: u8)
 
 impl Balancer {
     /// A balancer that has picked nothing yet. Each weight is 1 to `MOST_WEIGHT`.
-    pub fn new(policy: Policy, weights: [u16; 16]) -> Balancer
+    pub fn new(policy: Policy, weights: [u16; BACKEND_LIMIT as usize]) -> Balancer
         requires { AreWeights weights }
         ensures { result ≡ record { policy = policy; weights = weights; standing = at_rest } }
     {
@@ -116,8 +105,8 @@ impl Balancer {
             policy,
             weights,
             last: None,
-            used: [0; 16],
-            pending: [0; 16],
+            used: [0; BACKEND_LIMIT as usize],
+            pending: [0; BACKEND_LIMIT as usize],
         }
     }
 
@@ -153,7 +142,7 @@ impl Balancer {
         requires so_far { IsFirstOrNone self.now candidates b first }
         ensures { IsFirstOrNone self.now candidates (b + 1) result }
     {
-        if !has(candidates, b) {
+        if !has_bit(candidates, b) {
             return first;
         }
         match first {

@@ -5,4 +5,4 @@
 
 mod balancer;
 
-pub use balancer::{BACKEND_LIMIT, Balancer, MOST_WEIGHT};
+pub use balancer::{Balancer, MOST_WEIGHT};

@@ -5,7 +5,7 @@ use Rattle.std.specs.Option.{option_and_then}
 use Rattle.cj_model.specs.declared.request.Entry.{Entry}
 use Rattle.cj_model.specs.declared.event.Event.{Event}
 use Rattle.cj_model.specs.Histories.{has, scheduled, log, done, enabled}
-use Rattle.cj_book.specs.declared.book.TheConstants.{BACKEND_LIMIT}
+use Rattle.cj_model.specs.declared.limits.TheConstants.{BACKEND_LIMIT, EVENT_LIMIT}
 
 -- the entry that the event at a place scheduled
 abbrev pub entry_at : List Event → ℕ → Option Entry
@@ -21,5 +21,5 @@ pub record Keeps (backends : ℕ) (h : List Event) (places : List ℕ) (ended on
   pub mask : (b : ℕ) → has on b ≡ enabled h b
   pub below : (b : ℕ) → enabled h b ≡ true → b < backends
   -- the history has room for the end of an open entry, and so has its vector
-  pub short : length h + 2 * (length (log h) - done h) ≤ 2 ^ 62
+  pub short : length h + 2 * (length (log h) - done h) ≤ EVENT_LIMIT
   pub spare : length h + (length (log h) - done h) ≤ capacity

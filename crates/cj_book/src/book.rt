@@ -11,15 +11,9 @@ ghost use Rattle.cj_book.specs.Books.{with_event, HasTargets, IsInProgress, HasN
 ghost use Rattle.cj_book.specs.Kept as kept;
 
 use crate::error::BookError;
-use cj_model::{Act, Entry, Event, NoMemory};
+use cj_model::{Act, BACKEND_LIMIT, EVENT_LIMIT, Entry, Event, NoMemory};
 use std::alloc::Global;
 use std::marker::Model;
-
-/// The most backends.
-pub const BACKEND_LIMIT: u8 = 16;
-
-/// The most events.
-const EVENT_LIMIT: u64 = 1 << 62;
 
 /// What a book is made of.
 #[derive(Clone, Copy, Debug)]

@@ -6,5 +6,5 @@
 mod book;
 mod error;
 
-pub use book::{BACKEND_LIMIT, Book, BookParts};
+pub use book::{Book, BookParts};
 pub use error::BookError;

@@ -8,6 +8,7 @@ use Rattle.cj_model.specs.declared.database.Slot.{Slot}
 use Rattle.cj_model.specs.declared.request.Entry.{Entry}
 use Rattle.cj_model.specs.declared.event.Event.{Event}
 use Rattle.cj_model.specs.declared.event.Event.TheVariants.{Enabled}
+use Rattle.cj_model.specs.declared.limits.TheConstants.{BACKEND_LIMIT}
 use Rattle.cj_model.specs.Placements.{everywhere}
 use Rattle.cj_model.specs.Histories.{has, log, done, free, enabled, room}
 use Rattle.cj_model.specs.Cores.{Core, position_at}
@@ -17,7 +18,7 @@ use Rattle.cj_model.proofs.Pushed.{enabled-push, log-same, done-same}
 use Rattle.cj_book.specs.declared.error.BookError.{BookError}
 use Rattle.cj_book.specs.declared.error.BookError.TheVariants.{HistoryFull}
 use Rattle.cj_replica.specs.Cells.{CellState}
-use Rattle.cj_core.specs.Worlds.{core_of, world_of, backend_limit}
+use Rattle.cj_core.specs.Worlds.{core_of, world_of}
 use Rattle.cj_core.specs.Effects.{happened, HadRoom}
 use Rattle.cj_core.specs.Kept.{Kept}
 use Rattle.cj_core.specs.Starts.{IsFresh, AreFresh, AreEmpty, enables, begun}
@@ -77,7 +78,7 @@ module _ (n : ℕ) (cells : List CellState) (fresh : AreFresh n cells) where
   pub core_at_rest : core_of n [] cells 0 0 [] 0 ≡ begun n 0
   core_at_rest = ap (λ (ps : List (Option ℕ)). record (begun n 0) { positions = ps }) positions_at_rest
 
-  pub kept_at_rest : (tells : Bool) → n ≤ backend_limit → AreEmpty tells (map (λ (x : CellState). x.told) cells) → Kept tells (world_of n [] cells 0 0 [] 0) None
+  pub kept_at_rest : (tells : Bool) → n ≤ BACKEND_LIMIT → AreEmpty tells (map (λ (x : CellState). x.told) cells) → Kept tells (world_of n [] cells 0 0 [] 0) None
   kept_at_rest tells few empty =
       record {
         world =
@@ -145,7 +146,7 @@ pub happened-begun : (n k : ℕ) → happened (begun n k) (Enabled k) ≡ begun 
 happened-begun n k = ap (λ (h : List Event). record (begun n k) { history = h }) (sym (enables-more k))
 
 -- there is room for as many as there can be
-pub no_room : (c : Core) (n k m : ℕ) (e : BookError) → c ≡ begun n k → k < n → n ≤ backend_limit → HadRoom {T = Unit {0}} c (Err e) → e ≡ HistoryFull m → ⊥
+pub no_room : (c : Core) (n k m : ℕ) (e : BookError) → c ≡ begun n k → k < n → n ≤ BACKEND_LIMIT → HadRoom {T = Unit {0}} c (Err e) → e ≡ HistoryFull m → ⊥
 no_room c n k m e is lt few had full =
     let none : room c.history ≡ 0 = (subst (λ (d : BookError). HadRoom {T = Unit {0}} c (Err d)) full had).0 in
     let begun_none : room (enables k) ≡ 0 = subst (λ (x : Core). room x.history ≡ 0) is none in

@@ -1,6 +1,7 @@
 -- Places of open sessions.
 use Rattle.std.specs.Prelude.{◌≡◌, ℕ, ◌<◌, ◌^◌, List, length, slice_get, IfSome}
 use Rattle.cj_model.specs.declared.moves.OpenSession.{OpenSession}
+use Rattle.cj_model.specs.declared.limits.TheConstants.{REQUEST_LIMIT}
 use Rattle.cj_model.specs.Cores.{session_of}
 
 -- the session of this number stands at this place
@@ -10,4 +11,4 @@ pub record IsPlaceOf (sessions : List OpenSession) (number place : ℕ) : Type 0
 
 -- the session of this number, where it is open, can make one request more
 abbrev pub CanCountOne : List OpenSession → ℕ → Type 0
-CanCountOne sessions number = IfSome (session_of sessions number) (λ x. x.queries < 2 ^ 62)
+CanCountOne sessions number = IfSome (session_of sessions number) (λ x. x.queries < REQUEST_LIMIT)

@@ -2,6 +2,7 @@
 use Rattle.std.specs.Prelude.{◌<◌, ◌^◌}
 use Rattle.cj_model.specs.declared.moves.Move.{Move}
 use Rattle.cj_model.specs.declared.moves.Move.TheVariants.{Open, Close, Schedule, Apply, End, Read, Arm, Disable, Replay, Enable}
+use Rattle.cj_model.specs.declared.limits.TheConstants.{REQUEST_LIMIT}
 use Rattle.cj_model.specs.Cores.{Core, session_at}
 use Rattle.cj_model.specs.Runs.{IsMove}
 
@@ -9,10 +10,10 @@ use Rattle.cj_model.specs.Runs.{IsMove}
 abbrev pub CanAsk : Core → Move → Type 0
 CanAsk c (Open user) = Unit {0}
 CanAsk c (Close s) = Unit {0}
-CanAsk c (Schedule s r) = (session_at c s).queries < 2 ^ 62
+CanAsk c (Schedule s r) = (session_at c s).queries < REQUEST_LIMIT
 CanAsk c (Apply b) = Unit {0}
 CanAsk c End = Unit {0}
-CanAsk c (Read s b select) = (session_at c s).queries < 2 ^ 62
+CanAsk c (Read s b select) = (session_at c s).queries < REQUEST_LIMIT
 CanAsk c (Arm b) = Unit {0}
 CanAsk c (Disable b) = Unit {0}
 CanAsk c (Replay b) = Unit {0}

@@ -11,6 +11,7 @@ use Rattle.cj_model.specs.declared.event.Event.{Event}
 use Rattle.cj_model.specs.declared.moves.Did.{Did}
 use Rattle.cj_model.specs.declared.moves.Did.TheVariants as did
 use Rattle.cj_model.specs.declared.moves.OpenSession.{OpenSession}
+use Rattle.cj_model.specs.declared.limits.TheConstants.{EVENT_LIMIT}
 use Rattle.cj_model.specs.Histories.{log}
 use Rattle.cj_model.specs.Plain.{request_of}
 use Rattle.cj_model.specs.Legality.{IsWritten}
@@ -31,7 +32,7 @@ pub record CanTake (tells : Bool) (n : ℕ) (h : List Event) (cells : List CellS
   pub p : ℕ
   pub stands : (d : CellState) → (slice_index_or cells b d).position ≡ Some p
   pub more : p < length (log h)
-  pub short : length (log h) ≤ 2 ^ 62
+  pub short : length (log h) ≤ EVENT_LIMIT
   pub written : All (λ (e : Entry). IsWritten (request_of e.act)) (log h)
   pub lone : All (λ (e : Entry). IsLone e e.act) (log h)
 

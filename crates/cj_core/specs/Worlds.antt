@@ -3,6 +3,7 @@ use Rattle.std.specs.Prelude.{◌≡◌, ℕ, ◌<◌, ◌≤◌, Bool, List, le
 use Rattle.cj_model.specs.declared.request.Entry.{Entry}
 use Rattle.cj_model.specs.declared.event.Event.{Event}
 use Rattle.cj_model.specs.declared.moves.OpenSession.{OpenSession}
+use Rattle.cj_model.specs.declared.limits.TheConstants.{BACKEND_LIMIT}
 use Rattle.cj_model.specs.Placements.{everywhere}
 use Rattle.cj_model.specs.Histories.{log}
 use Rattle.cj_model.specs.Cores.{Core}
@@ -30,10 +31,6 @@ core_of n h cells failed starved sessions greatest =
 abbrev pub world_of : ℕ → List Event → List CellState → ℕ → ℕ → List OpenSession → ℕ → WorldState
 world_of n h cells failed starved sessions greatest = record { core = core_of n h cells failed starved sessions greatest; cells = cells }
 
--- the most backends
-abbrev pub backend_limit : ℕ
-backend_limit = 16
-
 -- the cell of backend b, of n, that holds its part of the database after the entries that it has taken
 pub record IsCell (tells : Bool) (n : ℕ) (entries : List Entry) (b : ℕ) (x : CellState) : Type 0 where
   pub number : x.b ≡ b
@@ -44,6 +41,6 @@ pub record IsCell (tells : Bool) (n : ℕ) (entries : List Entry) (b : ℕ) (x :
 pub record IsWorld (tells : Bool) (w : WorldState) : Type 0 where
   pub sound : IsSound w.core
   pub full : w.core.placement ≡ everywhere w.core.placement.backends
-  pub few : w.core.placement.backends ≤ backend_limit
+  pub few : w.core.placement.backends ≤ BACKEND_LIMIT
   pub positions : w.core.positions ≡ map (λ (x : CellState). x.position) w.cells
   pub cells : (b : ℕ) (d : CellState) → b < length w.cells → IsCell tells w.core.placement.backends (log w.core.history) b (slice_index_or w.cells b d)

@@ -2,8 +2,7 @@
 
 ghost use Rattle.std.specs.Prelude.{◌≡◌, ◌≤◌, [], vec_capacity};
 
-use cj_book::BACKEND_LIMIT;
-use cj_model::NoMemory;
+use cj_model::{BACKEND_LIMIT, NoMemory};
 use std::marker::Model;
 
 /// An empty list with room for the most backends, so that they can be given up without memory.
@@ -15,7 +14,7 @@ pub struct Emptied<B> {
 impl<B> Model for Emptied<B> {
     ghost use Rattle.std.specs.Prelude.{List, ◌≡◌, ◌≤◌, [], vec_capacity};
     ghost use Rattle.std.specs.Coded.{coded_list};
-    ghost use Rattle.cj_book.specs.declared.book.TheConstants.{BACKEND_LIMIT};
+    ghost use Rattle.cj_model.specs.declared.limits.TheConstants.{BACKEND_LIMIT};
 
     ghost Value = { List B };
 

@@ -2,9 +2,8 @@
 
 ghost use Rattle.std.specs.Prelude.{◌≡◌, ◌<◌, ◌≤◌, ◌^◌, length, Some, None, Ok};
 ghost use Rattle.cj_model.specs.declared.request.Request.TheVariants as requests;
-ghost use Rattle.cj_model.specs.Changes as changes;
 ghost use Rattle.cj_model.specs.Plain as plain;
-ghost use Rattle.cj_model.specs.Legality.{IsWritten, user_limit};
+ghost use Rattle.cj_model.specs.Legality.{IsWritten};
 ghost use Rattle.cj_model.specs.Cores.{session_at};
 ghost use Rattle.cj_model.specs.Moves as moves;
 ghost use Rattle.cj_model.specs.Moves.{Opens, Closes, Schedules, Applies, Ends, Reads, ReadsOrWaits, Arms, Disables, Replays, Enables, MovesTo, not_now, with_read, answered_at, was_answered, still_reading};
@@ -19,17 +18,10 @@ use crate::world::World;
 use cj_backend::Backend;
 use cj_book::BookError;
 use cj_model::{
-    Act, Asked, HISTORY_FULL, Move, MoveError, Moved, NO_BACKEND, READ_FAULT, Refusal, Request,
-    Select, Text, Why,
+    Act, Asked, HISTORY_FULL, Move, MoveError, Moved, NO_BACKEND, READ_FAULT, REQUEST_LIMIT,
+    Refusal, Request, Select, Text, USER_LIMIT, Why,
 };
 use cj_replica::CellReadError;
-
-/// A refusal whose numbers say nothing.
-fn bare(code: u16) -> Refusal
-    ensures { result ≡ changes.bare code }
-{
-    Refusal { code, a: 0, b: 0 }
-}
 
 /// The act of a change outside transactions.
 fn act_of(request: Request) -> Act
@@ -49,7 +41,7 @@ fn act_of(request: Request) -> Act
 
 impl<B: Backend> World<B> {
     fn open(&mut self, user: Text) -> Result<Moved, MoveError>
-        requires { length user ≤ user_limit }
+        requires { length user ≤ USER_LIMIT }
         ensures moves { Opens self.old.core user result self.new.core }
         ensures cells { self.new.cells ≡ self.old.cells }
     {
@@ -74,7 +66,7 @@ impl<B: Backend> World<B> {
     fn schedule(&mut self, s: u64, request: Request) -> Result<Moved, MoveError>
         requires written { IsWritten request }
         requires lone { IsLoneWrite request }
-        requires counts { (session_at self.old.core s).queries < 2 ^ 62 }
+        requires counts { (session_at self.old.core s).queries < REQUEST_LIMIT }
         requires now { not_now self.old.core (Move.Schedule s request) ≡ None }
         ensures moves { Schedules self.old.core s request result self.new.core }
         ensures cells { self.new.cells ≡ self.old.cells }
@@ -86,7 +78,7 @@ impl<B: Backend> World<B> {
             Ok(number) => Ok(Moved::Entry(number)),
             Err(BookError::NoBackend) => {
                 self.count(s);
-                Ok(Moved::Refused(bare(NO_BACKEND)))
+                Ok(Moved::Refused(Refusal::bare(NO_BACKEND)))
             }
             Err(BookError::HistoryFull(events)) => {
                 self.count(s);
@@ -128,7 +120,7 @@ impl<B: Backend> World<B> {
     fn read(&mut self, s: u64, b: u8, select: Select) -> Result<Moved, MoveError>
         requires within { b < self.old.core.placement.backends }
         requires written { IsWritten (requests.Select select) }
-        requires counts { (session_at self.old.core s).queries < 2 ^ 62 }
+        requires counts { (session_at self.old.core s).queries < REQUEST_LIMIT }
         ensures moves { ReadsOrWaits B.TELLS self.old.core s b select result self.new.core }
         ensures causes { HasCauses self.old self.new (Move.Read s b select) result }
     {
@@ -140,7 +132,7 @@ impl<B: Backend> World<B> {
         }
         if self.serving(&select) == 0 {
             self.refuse_read(s);
-            return Ok(Moved::Refused(bare(NO_BACKEND)));
+            return Ok(Moved::Refused(Refusal::bare(NO_BACKEND)));
         }
         if !self.serves(b, &select) {
             return Err(MoveError::NotNow(Why {
@@ -165,7 +157,7 @@ impl<B: Backend> World<B> {
 
     /// The session's read stays open as it is.
     fn wait(&mut self, s: u64, select: Select)
-        requires { (session_at self.old.core s).queries < 2 ^ 62 }
+        requires { (session_at self.old.core s).queries < REQUEST_LIMIT }
         ensures { self.new ≡ with_core self.old (with_read self.old.core s (still_reading select (moves.tried_of (session_at self.old.core s).reading))) }
     {
         let tried = self.tried(s);
@@ -174,7 +166,7 @@ impl<B: Backend> World<B> {
 
     /// The session's read is answered at a position.
     fn answer(&mut self, s: u64, position: u64, answer: Asked) -> Moved
-        requires counts { (session_at self.old.core s).queries < 2 ^ 62 }
+        requires counts { (session_at self.old.core s).queries < REQUEST_LIMIT }
         requires within { position ≤ moves.last_number self.old.core }
         ensures moved { result ≡ answer_given answer }
         ensures ok { self.new ≡ with_core self.old (with_read self.old.core s (λ x. answered_at position (was_answered x))) }
@@ -189,7 +181,7 @@ impl<B: Backend> World<B> {
     /// The backend failed in the session's read.
     fn fail_read(&mut self, s: u64, b: u8, select: Select) -> Result<Moved, MoveError>
         requires within { b < self.old.core.placement.backends }
-        requires counts { (session_at self.old.core s).queries < 2 ^ 62 }
+        requires counts { (session_at self.old.core s).queries < REQUEST_LIMIT }
         requires serves { ServesAt self.old.core.placement self.old.core.history (requests.Select select) b }
         ensures moves { Reads B.TELLS self.old.core s b select result self.new.core }
         ensures cells { self.new.cells ≡ self.old.cells }

@@ -6,7 +6,7 @@ ghost use Rattle.cj_model.specs.Cores.{session_of, with_session, fresh_session};
 ghost use Rattle.cj_model.specs.Moves as moves;
 ghost use Rattle.cj_model.specs.Moves.{read_number};
 
-use cj_model::{NoMemory, OpenRead, OpenSession, Select, Text};
+use cj_model::{NoMemory, OpenRead, OpenSession, REQUEST_LIMIT, Select, Text};
 use std::alloc::Global;
 use std::marker::Model;
 
@@ -36,7 +36,7 @@ impl Model for Sessions {
 
 /// The number of the session's open read, or of the next request.
 pub fn read_number(session: &OpenSession) -> u64
-    requires { session.now.queries < 2 ^ 62 }
+    requires { session.now.queries < REQUEST_LIMIT }
     ensures { result ≡ moves.read_number session.now }
 {
     if session.reading.is_some() {
@@ -48,7 +48,7 @@ pub fn read_number(session: &OpenSession) -> u64
 
 /// Closes the session's read.
 fn close_read(session: &mut OpenSession)
-    requires { session.old.queries < 2 ^ 62 }
+    requires { session.old.queries < REQUEST_LIMIT }
     ensures { session.new ≡ moves.was_answered session.old }
 {
     session.queries = read_number(session);
@@ -57,7 +57,7 @@ fn close_read(session: &mut OpenSession)
 
 /// Keeps the session's read open.
 fn put_read(session: &mut OpenSession, select: Select, tried: u32)
-    requires { session.old.queries < 2 ^ 62 }
+    requires { session.old.queries < REQUEST_LIMIT }
     ensures { session.new ≡ moves.still_reading select tried session.old }
 {
     session.queries = read_number(session);

@@ -7,8 +7,8 @@ ghost use Rattle.cj_core.specs.Starts.{AreEmpty, AreFresh, AreHolding, AreCurren
 use crate::emptied::Emptied;
 use crate::world::World;
 use cj_backend::Backend;
-use cj_book::{BACKEND_LIMIT, Book, BookError, BookParts};
-use cj_model::{ListOf, NoMemory};
+use cj_book::{Book, BookError, BookParts};
+use cj_model::{BACKEND_LIMIT, ListOf, NoMemory};
 use cj_replica::Cell;
 use std::alloc::Global;
 

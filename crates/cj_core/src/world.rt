@@ -7,7 +7,7 @@ ghost use Rattle.cj_model.specs.declared.request.Request.TheVariants as request;
 ghost use Rattle.cj_model.specs.Plain.{request_of};
 ghost use Rattle.cj_model.specs.Histories as histories;
 ghost use Rattle.cj_model.specs.Histories.{has, log, done, free};
-ghost use Rattle.cj_model.specs.Legality.{IsFit, IsWritten, user_limit};
+ghost use Rattle.cj_model.specs.Legality.{IsFit, IsWritten};
 ghost use Rattle.cj_model.specs.Answering.{ServesAt};
 ghost use Rattle.cj_model.specs.Cores as cores;
 ghost use Rattle.cj_model.specs.Cores.{session_at, position_at};
@@ -20,24 +20,19 @@ ghost use Rattle.cj_core.specs.Starts.{AreEmpty, AreFresh, begun};
 ghost use Rattle.cj_core.specs.Counting.{Counts};
 ghost use Rattle.cj_core.specs.Effects.{AnswersOpen, Asks, IsChange, IsReadOf, IsReadOther, Refuses, with_core, happened, opened_for, closed_for, scheduled_as, ended_for, SchedulesAs, HadRoom};
 
-use crate::cells::{failed_after, heard_after, place, starved_after, take, with_bit};
+use crate::cells::{failed_after, heard_after, place, starved_after, take};
 use crate::emptied::Emptied;
 use crate::sessions::{Sessions, read_number};
 use cj_backend::Backend;
-use cj_book::{BACKEND_LIMIT, Book, BookError};
+use cj_book::{Book, BookError};
 use cj_model::{
-    Act, Asked, Did, Duplicate, Entry, Event, HISTORY_FULL, Move, Moved, NoMemory, OpenRead,
-    Outcome, Refusal, Reply, SESSIONS_FULL, STARVED_ALL, Same, Select, Text, UNFINISHED,
+    Act, Asked, BACKEND_LIMIT, Did, Duplicate, Entry, Event, HISTORY_FULL, Move, Moved, NoMemory,
+    OpenRead, Outcome, REQUEST_LIMIT, Refusal, Reply, SESSION_LIMIT, SESSION_NUMBER_LIMIT,
+    SESSIONS_FULL, STARVED_ALL, Same, Select, Text, UNFINISHED, USER_LIMIT, with_bit,
 };
 use cj_replica::{Cell, CellReadError};
 use std::alloc::Global;
 use std::marker::Model;
-
-/// The most open sessions.
-const SESSION_LIMIT: usize = 1024;
-
-/// The greatest number of a session.
-const NUMBER_LIMIT: u64 = 1 << 62;
 
 /// The core over these backends.
 #[derive(Drop)]
@@ -277,7 +272,7 @@ impl<B: Backend> World<B> {
     /// The session's next entry.
     pub(crate) fn next_entry(&self, s: u64, act: Act) -> Result<Entry, NoMemory>
         requires here { moves.is_open self.now.core s ≡ true }
-        requires counts { (session_at self.now.core s).queries < 2 ^ 62 }
+        requires counts { (session_at self.now.core s).queries < REQUEST_LIMIT }
         requires written { IsWritten (request_of act) }
         requires change { IsChange act }
         ensures next { IfOk result (λ e. e ≡ next_entry self.now.core s act) }
@@ -309,7 +304,7 @@ impl<B: Backend> World<B> {
 
     /// The number of the session's read.
     pub(crate) fn read_number(&self, s: u64) -> u64
-        requires { (session_at self.now.core s).queries < 2 ^ 62 }
+        requires { (session_at self.now.core s).queries < REQUEST_LIMIT }
         ensures { result ≡ moves.read_number (session_at self.now.core s) }
     {
         match self.sessions.get(s) {
@@ -370,7 +365,7 @@ impl<B: Backend> World<B> {
     pub(crate) fn has_no_number(&self) -> bool
         ensures { result ≡ moves.has_no_number self.now.core }
     {
-        self.sessions.len() >= SESSION_LIMIT || self.greatest >= NUMBER_LIMIT
+        self.sessions.len() >= SESSION_LIMIT || self.greatest >= SESSION_NUMBER_LIMIT
     }
 
     pub(crate) fn sessions_full(&self) -> Refusal
@@ -416,7 +411,7 @@ impl<B: Backend> World<B> {
     /// Opens a session of the next number.
     pub(crate) fn add_session(&mut self, user: Text) -> Result<u64, NoMemory>
         requires number { moves.has_no_number self.old.core ≡ false }
-        requires user { length user ≤ user_limit }
+        requires user { length user ≤ USER_LIMIT }
         ensures number { IfOk result (λ n. n ≡ self.old.core.greatest + 1) }
         ensures ok { OnOk result (self.new ≡ with_core self.old (opened_for self.old.core user)) }
         ensures err { OnErr result (self.new ≡ self.old) }
@@ -437,7 +432,7 @@ impl<B: Backend> World<B> {
 
     /// The session has made one request more.
     pub(crate) fn count(&mut self, s: u64)
-        requires { (session_at self.old.core s).queries < 2 ^ 62 }
+        requires { (session_at self.old.core s).queries < REQUEST_LIMIT }
         ensures { self.new ≡ with_core self.old (with_counted self.old.core s) }
     {
         self.sessions.count(s);
@@ -445,7 +440,7 @@ impl<B: Backend> World<B> {
 
     /// The session's read was refused.
     pub(crate) fn refuse_read(&mut self, s: u64)
-        requires { (session_at self.old.core s).queries < 2 ^ 62 }
+        requires { (session_at self.old.core s).queries < REQUEST_LIMIT }
         ensures { self.new ≡ with_core self.old (with_read self.old.core s was_answered) }
     {
         self.sessions.refuse_read(s);
@@ -453,7 +448,7 @@ impl<B: Backend> World<B> {
 
     /// The session's read was answered at a position.
     pub(crate) fn answer_read(&mut self, s: u64, position: u64)
-        requires counts { (session_at self.old.core s).queries < 2 ^ 62 }
+        requires counts { (session_at self.old.core s).queries < REQUEST_LIMIT }
         requires within { position ≤ moves.last_number self.old.core }
         ensures { self.new ≡ with_core self.old (with_read self.old.core s (λ x. answered_at position (was_answered x))) }
     {
@@ -462,7 +457,7 @@ impl<B: Backend> World<B> {
 
     /// The session's read stays open, and the backends of the mask have failed in it.
     pub(crate) fn keep_reading(&mut self, s: u64, select: Select, tried: u32)
-        requires { (session_at self.old.core s).queries < 2 ^ 62 }
+        requires { (session_at self.old.core s).queries < REQUEST_LIMIT }
         ensures { self.new ≡ with_core self.old (with_read self.old.core s (still_reading select tried)) }
     {
         self.sessions.keep_reading(s, select, tried);
@@ -471,7 +466,7 @@ impl<B: Backend> World<B> {
     /// Schedules an entry of the session.
     pub(crate) fn schedule_entry(&mut self, s: u64, entry: Entry) -> Result<u64, BookError>
         requires here { moves.is_open self.old.core s ≡ true }
-        requires counts { (session_at self.old.core s).queries < 2 ^ 62 }
+        requires counts { (session_at self.old.core s).queries < REQUEST_LIMIT }
         requires next { entry ≡ next_entry self.old.core s entry.act }
         requires fits { IsFit (log self.old.core.history) entry }
         requires lone { IsLone entry entry.act }

@@ -40,7 +40,7 @@ impl From<NoMemory> for BindError {
 fn refused(code: u16) -> BindError
     ensures { result ≡ BindError.Refused (record { code = code; a = 0; b = 0 }) }
 {
-    BindError::Refused(Refusal { code, a: 0, b: 0 })
+    BindError::Refused(Refusal::bare(code))
 }
 
 fn operand_of(alloc: Global, term: &Term, scope: &Scope) -> Result<Operand, NoMemory>

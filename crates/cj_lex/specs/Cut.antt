@@ -11,6 +11,7 @@ use Rattle.cj_model.specs.declared.token.Symbol.{Symbol}
 use Rattle.cj_model.specs.declared.token.Symbol.TheVariants as symbol
 use Rattle.cj_model.specs.declared.token.Token.{Token}
 use Rattle.cj_model.specs.declared.token.Token.TheVariants as token
+use Rattle.cj_model.specs.declared.limits.TheConstants.{TEXT_LIMIT}
 use Rattle.cj_lex.specs.declared.error.SqlError.{SqlError}
 use Rattle.cj_lex.specs.declared.error.SqlError.TheVariants.{Syntax, NoMemory}
 use Rattle.cj_lex.specs.declared.bytes.Class.{Class}
@@ -95,7 +96,7 @@ closing true (b ∷ z) = if b == 39 then behind (39 ∷ []) (closing false z) el
 
 abbrev pub cut_closed : Closed → Cut
 cut_closed unclosed = bad
-cut_closed (closed x rest) = if nat_le (length x) 4096 && is_text x then cut (token.Text x) rest else bad
+cut_closed (closed x rest) = if nat_le (length x) TEXT_LIMIT && is_text x then cut (token.Text x) rest else bad
 
 -- the string whose opening quote stands before this text
 unfoldable pub cut_string : List ℕ → Cut

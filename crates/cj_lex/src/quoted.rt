@@ -5,11 +5,8 @@ ghost use Rattle.cj_lex.specs.Cut as cut;
 ghost use Rattle.cj_lex.specs.Cut.{Closes, CutsOne};
 
 use crate::error::SqlError;
-use cj_model::{Text, Token};
+use cj_model::{TEXT_LIMIT, Text, Token};
 use std::alloc::{AllocError, Global};
-
-/// The most bytes of a string's value.
-const STRING_LIMIT: usize = 4096;
 
 /// What stands before the closing quote, with each quote once, and the text after it.
 type Closed<'a> = Option<(Vec<u8>, &'a [u8])>;
@@ -47,7 +44,7 @@ pub fn cut_string(alloc: Global, text: &[u8]) -> Result<(Token, &[u8]), SqlError
     let Some((bytes, rest)) = closing(alloc, text)? else {
         return Err(SqlError::Syntax);
     };
-    if bytes.len() > STRING_LIMIT {
+    if bytes.len() > TEXT_LIMIT {
         return Err(SqlError::Syntax);
     }
     match Text::of(bytes) {

@@ -26,7 +26,8 @@ use Rattle.cj_model.specs.Placements.{Placement}
 use Rattle.cj_model.specs.Histories.{scheduled, is_ended, log, done, free, opened, room, is_log_fault, log_faults_of, tx_of}
 use Rattle.cj_model.specs.Legality.{IsLegal}
 use Rattle.cj_model.specs.Answering.{Served, AnswersEntry}
-use Rattle.cj_model.specs.Turns.{Seen, Call, IsFull, reply_of_asked, Turn}
+use Rattle.cj_model.specs.Replies.{asked_reply}
+use Rattle.cj_model.specs.Turns.{Seen, Call, IsFull, Turn}
 use Rattle.cj_model.specs.Cores.{Core, session_at, fresh_session, with_session, is_by}
 use Rattle.cj_model.specs.Moves.{Given, MovesTo, is_open, Does, Opens, Closes, Schedules, SchedulesOf, SchedulesAct, RefusesSchedule, Applies, Replays, Ends, Reads, ReadsOrWaits, Reaches, ReadsNowhere, ReadsFull, ReadsInVain, ReadsAgain, ReadsTooEarly, Arms, Disables, Enables, not_now, forbidden_by, tx_of_act, open_tx, next_entry, last_number, counted, answered_at, was_answered, still_reading, read_number, tried_of, tried_with, ended}
 use Rattle.cj_model.specs.Sound.{Stands, IsLone, IsSound}
@@ -295,15 +296,15 @@ module _ (a : Seen) (c z : Core) (s : ℕ) (w : IsSound c) (v : IsSound z) (j : 
     follows_failed ev f keeps is = follows_own c z (c.history ++ ev ∷ []) s c.placement c.positions c.failed c.starved (with_session c.sessions s f) (ev ∷ [], refl) is f keeps refl can.here
 
     -- the backend answered
-    reaches : (answer : Asked) → Reaches true c s b select answer z → After a c s (Read s b select) z (Some (reply_of_asked answer))
+    reaches : (answer : Asked) → Reaches true c s b select answer z → After a c s (Read s b select) z (Some (asked_reply answer))
     reaches answer h =
         let p : ℕ = h.p in
         let stands : Stands c.history c.failed c.starved b (Some p) = subst (Stands c.history c.failed c.starved b) h.stands (w.stands b (w.hosts b h.serves.0)) in
-        let call : Call = call_at c s (Read s b select) (reply_of_asked answer) in
+        let call : Call = call_at c s (Read s b select) (asked_reply answer) in
         let least : (session_at c s).least ≡ a.least = owes_same can.here in
         let owed : (session_at c s).least ≤ p = h.owed in
         replied c.placement a c z c.history s (answered_at p (was_answered (session_at c s))) call p v (follows_read (λ x. answered_at p (was_answered x)) (λ x. refl) h.after) can.idle refl refl
-        (turn_read c.placement s a c.history w.legal j.longer j.owes (rested can.here can.idle) call select p outside refl (ap reply_of_asked (h.says refl)) (λ t. (b, h.serves)) (omega arith) (stands.1 h.serves.0) stands.0)
+        (turn_read c.placement s a c.history w.legal j.longer j.owes (rested can.here can.idle) call select p outside refl (ap asked_reply (h.says refl)) (λ t. (b, h.serves)) (omega arith) (stands.1 h.serves.0) stands.0)
 
     -- no backend serves the read
     reads_nowhere : (refusal : Refusal) → ReadsNowhere c s b select refusal z → After a c s (Read s b select) z (Some (Refused refusal))

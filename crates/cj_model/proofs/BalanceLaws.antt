@@ -6,6 +6,7 @@ use Rattle.std.proofs.lemmas.Bool.Decides.{nat_tests}
 use Rattle.std.proofs.lemmas.Nat.Bits.{bit_at_above}
 use Rattle.cj_model.specs.declared.policy.Policy.{Policy}
 use Rattle.cj_model.specs.declared.policy.Policy.TheVariants.{RoundRobin, Weighted, LeastPending}
+use Rattle.cj_model.specs.declared.limits.TheConstants.{BACKEND_LIMIT}
 use Rattle.cj_model.specs.Histories.{has}
 use Rattle.cj_model.specs.Balancing.{Standing, IsFirst, Picks, is_ahead, picked, steps_from, steps_to}
 
@@ -28,14 +29,14 @@ picks_one policy weights s candidates b c y z p q =
 
 -- ---- what the round robin picks
 
--- from a backend to a higher one it is their difference, and to another one 16 more
+-- from a backend to a higher one it is their difference, and to another one `BACKEND_LIMIT` more
 steps_up : (l b : ℕ) → l < b → steps_from l b ≡ b - l
 steps_up l b lt = grind (arith, nat_tests)
 
-steps_round : (l b : ℕ) → b ≤ l → steps_from l b ≡ 16 + b - l
+steps_round : (l b : ℕ) → b ≤ l → steps_from l b ≡ BACKEND_LIMIT + b - l
 steps_round l b le = grind (arith, nat_tests)
 
-steps_in_turn : (l b k : ℕ) → l < 16 → b < 16 → k < 16 → steps_from l b ≤ steps_from l k → (l < k → (l < b) × (b ≤ k)) × (b ≤ l → b ≤ k)
+steps_in_turn : (l b k : ℕ) → l < BACKEND_LIMIT → b < BACKEND_LIMIT → k < BACKEND_LIMIT → steps_from l b ≤ steps_from l k → (l < k → (l < b) × (b ≤ k)) × (b ≤ l → b ≤ k)
 steps_in_turn l b k small p q le = (
   λ above.
       let e = steps_up l k above in
@@ -51,16 +52,16 @@ steps_in_turn l b k small p q le = (
       (cases_lt l k),
 )
 
--- candidates below 16 have no other number
-pub candidates_below : (candidates k : ℕ) → candidates < 2 ^ 16 → has candidates k ≡ true → k < 16
+-- candidates below `BACKEND_LIMIT` have no other number
+pub candidates_below : (candidates k : ℕ) → candidates < 2 ^ BACKEND_LIMIT → has candidates k ≡ true → k < BACKEND_LIMIT
 candidates_below candidates k fits here =
     ⊎_elim
-    (λ (lt : k < 16). lt)
-    (λ (le : 16 ≤ k). let none : has candidates k ≡ false = ap (λ n. n == 1) (bit_at_above candidates 16 k fits le) in absurd (both_ways (has candidates k) none here))
-    (cases_lt k 16)
+    (λ (lt : k < BACKEND_LIMIT). lt)
+    (λ (le : BACKEND_LIMIT ≤ k). let none : has candidates k ≡ false = ap (λ n. n == 1) (bit_at_above candidates BACKEND_LIMIT k fits le) in absurd (both_ways (has candidates k) none here))
+    (cases_lt k BACKEND_LIMIT)
 
 -- the round robin goes on after the last picked: where a candidate is above that one, it picks the lowest such one, and else the lowest of all
-pub next_in_turn : (weights : List ℕ) (s after : Standing) (candidates l b k : ℕ) → s.last ≡ Some l → l < 16 → candidates < 2 ^ 16 → Picks RoundRobin weights s candidates b after → has candidates k ≡ true → (l < k → (l < b) × (b ≤ k)) × (b ≤ l → b ≤ k)
+pub next_in_turn : (weights : List ℕ) (s after : Standing) (candidates l b k : ℕ) → s.last ≡ Some l → l < BACKEND_LIMIT → candidates < 2 ^ BACKEND_LIMIT → Picks RoundRobin weights s candidates b after → has candidates k ≡ true → (l < k → (l < b) × (b ≤ k)) × (b ≤ l → b ≤ k)
 next_in_turn weights s after candidates l b k e small fits p here =
     let le : steps_to s.last b ≤ steps_to s.last k = ltb-false (steps_to s.last k) (steps_to s.last b) (p.first.none_ahead k here) in
     steps_in_turn l b k small (candidates_below candidates b fits p.first.candidate) (candidates_below candidates k fits here) (rw e at le)

@@ -2,15 +2,16 @@
 use Rattle.std.proofs.Common.{◌≡◌, sym, subst, ℕ, ◌≤◌, List, length}
 use Rattle.cj_model.specs.declared.schema.Create.{Create}
 use Rattle.cj_model.specs.declared.request.Request.TheVariants as request
+use Rattle.cj_model.specs.declared.limits.TheConstants.{COLUMN_LIMIT}
 use Rattle.cj_model.specs.Grammar.{Statement, create, statement_meant, StatementFits, TextReads}
 
-of_statement : (s : Statement) (c : Create) → StatementFits s → request.Create c ≡ statement_meant s → length c.columns ≤ 16
+of_statement : (s : Statement) (c : Create) → StatementFits s → request.Create c ≡ statement_meant s → length c.columns ≤ COLUMN_LIMIT
 of_statement (create n cs) c fits e =
     let same : c ≡ record { table = n; columns = cs } = cc in
-    let P : Create → Type 0 = λ d. length d.columns ≤ 16 in
+    let P : Create → Type 0 = λ d. length d.columns ≤ COLUMN_LIMIT in
     subst P (sym same) fits.1
 of_statement _ c fits e = absurd (cc)
 
 -- there are at most 16
-pub read_columns : (text : List ℕ) (c : Create) → TextReads text (request.Create c) → length c.columns ≤ 16
+pub read_columns : (text : List ℕ) (c : Create) → TextReads text (request.Create c) → length c.columns ≤ COLUMN_LIMIT
 read_columns text c x = of_statement x.reads.statement c x.reads.fits x.reads.meant

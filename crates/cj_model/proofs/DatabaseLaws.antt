@@ -20,7 +20,8 @@ use Rattle.cj_model.specs.declared.database.Slot.{Slot}
 use Rattle.cj_model.specs.declared.write.Write.{Write}
 use Rattle.cj_model.specs.declared.request.Act.{Act}
 use Rattle.cj_model.specs.declared.request.Act.TheVariants as act
-use Rattle.cj_model.specs.Tables.{IsTable, IsSlot, IsDatabase, by_table, name_cmp, table_of, slot_of, is_distinct, column_names, column_limit}
+use Rattle.cj_model.specs.declared.limits.TheConstants.{COLUMN_LIMIT}
+use Rattle.cj_model.specs.Tables.{IsTable, IsSlot, IsDatabase, by_table, name_cmp, table_of, slot_of, is_distinct, column_names}
 use Rattle.cj_model.specs.Changes.{Changed}
 use Rattle.cj_model.specs.Updates.{change}
 use Rattle.cj_model.specs.Steps.{Stepped, seen_behind, seen, other_writer, with_table, table_written, write_done, write_unless_locked, write_in, written, make_schema, schema_of, empty_slot, created, drop_unless_locked, drop_in, dropped, commit_behind, committed, abort_behind, aborted, acted}
@@ -117,7 +118,7 @@ names_kept [] = refl
 names_kept (c ∷ cs) = ap (λ ns. c.name ∷ ns) (names_kept cs)
 
 -- the table that CREATE makes, within the limit of columns
-pub empty_slot_is_slot : (c : Create) → length c.columns ≤ column_limit → make_schema c.columns ≡ true → IsSlot (empty_slot c)
+pub empty_slot_is_slot : (c : Create) → length c.columns ≤ COLUMN_LIMIT → make_schema c.columns ≡ true → IsSlot (empty_slot c)
 empty_slot_is_slot c few made =
     let parts = and_parts (is_distinct (map (λ (d : ColDef). d.name) c.columns)) (eqb (count_by (λ (d : ColDef). d.key) c.columns) 1) made in
     let width : length (schema_of c).columns ≡ length c.columns = length-map c.columns _ in
@@ -133,7 +134,7 @@ empty_slot_is_slot c few made =
       draft = tt;
     }
 
-pub created_keeps : (db : List Slot) (c : Create) → length c.columns ≤ column_limit → IsDatabase db → IsDatabase (created db c).db
+pub created_keeps : (db : List Slot) (c : Create) → length c.columns ≤ COLUMN_LIMIT → IsDatabase db → IsDatabase (created db c).db
 created_keeps db c few is = cond_both (is_some (slot_of db c.table)) _ _ (λ (s : Stepped). IsDatabase s.db)
     (λ _. is)
     (λ _. cond_both (make_schema c.columns) _ _ (λ (s : Stepped). IsDatabase s.db)
@@ -199,7 +200,7 @@ aborted_keeps tx db is = each_keeps (aborted tx) (λ s p. abort_behind_is_slot s
 
 -- a CREATE is within the limit of columns
 abbrev pub HasFewColumns : Act → Type 0
-HasFewColumns (act.Create c) = length c.columns ≤ column_limit
+HasFewColumns (act.Create c) = length c.columns ≤ COLUMN_LIMIT
 HasFewColumns act.Begin = Unit {0}
 HasFewColumns (act.Write w) = Unit {0}
 HasFewColumns (act.Drop name) = Unit {0}

@@ -13,10 +13,11 @@ use Rattle.cj_model.specs.declared.moves.OpenSession.{OpenSession}
 use Rattle.cj_model.specs.Tables.{Rises}
 use Rattle.cj_model.specs.Placements.{Placement}
 use Rattle.cj_model.specs.Histories.{has, scheduled, is_ended, log, done, free, opened, enabled, room, is_log_fault, log_faults_of, TxState, tx_now, tx_after, tx_of}
-use Rattle.cj_model.specs.Legality.{Allowed, IsFit, user_limit}
-use Rattle.cj_model.specs.Cores.{Core, position_at, with_bit, session_limit, session_of, fresh_session, with_session, is_by}
+use Rattle.cj_model.specs.Legality.{Allowed, IsFit}
+use Rattle.cj_model.specs.Cores.{Core, position_at, with_bit, session_of, fresh_session, with_session, is_by}
 use Rattle.cj_model.specs.declared.moves.Did.{Did}
 use Rattle.cj_model.specs.declared.moves.Did.TheVariants as did
+use Rattle.cj_model.specs.declared.limits.TheConstants.{SESSION_LIMIT, USER_LIMIT}
 use Rattle.cj_model.specs.Moves.{counted, Takes, failed_after, starved_after}
 use Rattle.cj_model.specs.Sound.{IsSound, IsSession, IsLone, Stands, by_number}
 use Rattle.cj_model.proofs.Pushed.{SameFaults, log_faults-same, enabled-push, log-sched, log-same, done-same, done-ended, opened-sched, opened-same, legal_push}
@@ -29,7 +30,7 @@ use Rattle.cj_model.proofs.Sessions.{found_itself, is_open-with, is_open-push, a
 pub record SessionsAre (h : List Event) (greatest : ℕ) (ss : List OpenSession) : Type 0 where
   pub sessions : All (IsSession h greatest) ss
   pub rises : Rises by_number ss
-  pub few : length ss ≤ session_limit
+  pub few : length ss ≤ SESSION_LIMIT
   pub numbers : greatest ≤ 2 ^ 62
   pub known : All (λ (e : Entry). e.session ≤ greatest) (log h)
   pub log_faults : (s q : ℕ) → greatest < s → log_faults_of s q h ≡ 0
@@ -47,7 +48,7 @@ pub record KeepsSession (n : ℕ) (f : OpenSession → OpenSession) : Type 0 whe
   pub least : (x : OpenSession) → x.least ≤ n → (f x).least ≤ n
 
 -- a session is added
-pub are_opened : (h : List Event) (g : ℕ) (ss : List OpenSession) (user : List ℕ) → SessionsAre h g ss → length ss < session_limit → g < 2 ^ 62 → length user ≤ user_limit
+pub are_opened : (h : List Event) (g : ℕ) (ss : List OpenSession) (user : List ℕ) → SessionsAre h g ss → length ss < SESSION_LIMIT → g < 2 ^ 62 → length user ≤ USER_LIMIT
     → SessionsAre h (g + 1) (ss ++ fresh_session (g + 1) user ∷ [])
 are_opened h g ss user a few lt fits =
     let below : All (λ (x : OpenSession). x.number < g + 1) ss =

@@ -8,19 +8,20 @@ use Rattle.cj_model.specs.declared.message.Message.{Message}
 use Rattle.cj_model.specs.declared.message.Message.TheVariants.{Login, Query, Stats, Quit}
 use Rattle.cj_model.specs.declared.message.FrameFault.{FrameFault}
 use Rattle.cj_model.specs.declared.message.FrameFault.TheVariants.{LengthZero, LengthOver, Kind, Payload}
-use Rattle.cj_model.specs.Frames.{frame_limit, message_body, frame, IsFramed, BeginsNoFrame, stated_length, is_client_kind, fault_of, FaultsStay}
+use Rattle.cj_model.specs.declared.limits.TheConstants.{FRAME_LIMIT}
+use Rattle.cj_model.specs.Frames.{message_body, frame, IsFramed, BeginsNoFrame, stated_length, is_client_kind, fault_of, FaultsStay}
 use Rattle.cj_model.proofs.Fields.{wide32}
 
 -- four bytes that say a length that may be
 pub record HasLength (rest : List ℕ) : Type 0 where
   pub four : 4 ≤ length rest
   pub some : 0 < stated_length rest
-  pub most : stated_length rest ≤ frame_limit
+  pub most : stated_length rest ≤ FRAME_LIMIT
 
 -- what shows each fault
 abbrev pub Shows : List ℕ → FrameFault → Type 0
 Shows rest LengthZero = (4 ≤ length rest) × (stated_length rest ≡ 0)
-Shows rest LengthOver = (4 ≤ length rest) × (frame_limit < stated_length rest)
+Shows rest LengthOver = (4 ≤ length rest) × (FRAME_LIMIT < stated_length rest)
 Shows rest Kind = HasLength rest × (5 ≤ length rest) × (is_client_kind (get_or rest 4 0) ≡ false)
 Shows rest Payload = HasLength rest × (4 + stated_length rest ≤ length rest) × (is_client_kind (get_or rest 4 0) ≡ true)
 
@@ -46,12 +47,12 @@ shows rest f e =
     let kind = is_client_kind (get_or rest 4 0) in
     let whole : Option FrameFault = cond (ltb (length rest) (4 + n)) None (Some Payload) in
     let fifth : Option FrameFault = cond (not kind) (Some Kind) whole in
-    let over : Option FrameFault = cond (ltb frame_limit n) (Some LengthOver) (cond (ltb (length rest) 5) None fifth) in
+    let over : Option FrameFault = cond (ltb FRAME_LIMIT n) (Some LengthOver) (cond (ltb (length rest) 5) None fifth) in
     let four = enough (ltb (length rest) 4) (cond (eqb n 0) (Some LengthZero) over) f e in
     let at_least : 4 ≤ length rest = ltb-false _ _ four.0 in
     tested (Shows rest) (eqb n 0) LengthZero f over
     (λ zero_length. (at_least, eqb-true n 0 zero_length))
-    (λ some e1. tested (Shows rest) (ltb frame_limit n) LengthOver f (cond (ltb (length rest) 5) None fifth)
+    (λ some e1. tested (Shows rest) (ltb FRAME_LIMIT n) LengthOver f (cond (ltb (length rest) 5) None fifth)
     (λ above. (at_least, ltb-true _ _ above))
     (λ below e2.
     let has : HasLength rest = record { four = at_least; some = grind (arith, eqb-false n 0 some); most = ltb-false _ _ below } in
@@ -75,18 +76,18 @@ shown rest LengthZero s =
 shown rest LengthOver s =
     let four : ltb (length rest) 4 ≡ false = le-ltb _ _ s.0 in
     let some : eqb (stated_length rest) 0 ≡ false = ne_eqb _ _ (λ e. omega (arith, e, s.1)) in
-    let above : ltb frame_limit (stated_length rest) ≡ true = lt-ltb _ _ s.1 in
+    let above : ltb FRAME_LIMIT (stated_length rest) ≡ true = lt-ltb _ _ s.1 in
     rw (four, some, above) refl
 shown rest Kind s =
     let four : ltb (length rest) 4 ≡ false = le-ltb _ _ s.0.four in
     let some : eqb (stated_length rest) 0 ≡ false = ne_eqb _ _ (λ e. omega (arith, e, s.0.some)) in
-    let below : ltb frame_limit (stated_length rest) ≡ false = le-ltb _ _ s.0.most in
+    let below : ltb FRAME_LIMIT (stated_length rest) ≡ false = le-ltb _ _ s.0.most in
     let five : ltb (length rest) 5 ≡ false = le-ltb _ _ s.1 in
     rw (four, some, below, five, s.2) refl
 shown rest Payload s =
     let four : ltb (length rest) 4 ≡ false = le-ltb _ _ s.0.four in
     let some : eqb (stated_length rest) 0 ≡ false = ne_eqb _ _ (λ e. omega (arith, e, s.0.some)) in
-    let below : ltb frame_limit (stated_length rest) ≡ false = le-ltb _ _ s.0.most in
+    let below : ltb FRAME_LIMIT (stated_length rest) ≡ false = le-ltb _ _ s.0.most in
     let five : ltb (length rest) 5 ≡ false = le-ltb _ _ (omega (arith, s.0.some, s.1)) in
     let whole : ltb (length rest) (4 + stated_length rest) ≡ false = le-ltb _ _ s.1 in
     rw (four, some, below, five, s.2, whole) refl

@@ -7,31 +7,27 @@ use Rattle.std.proofs.lemmas.Nat.{or_lt, pow_below}
 use Rattle.std.proofs.Math.Nat.{mod-eq_of_lt}
 use Rattle.cj_model.specs.Histories.{has}
 
+-- what holds of each two bits
+of_bits : (P : ℕ → ℕ → Type 0) → P 0 0 → P 0 1 → P 1 0 → P 1 1 → (x y : ℕ) → x < 2 → y < 2 → P x y
+of_bits P none right left both zero zero p q = none
+of_bits P none right left both zero (suc zero) p q = right
+of_bits P none right left both (suc zero) zero p q = left
+of_bits P none right left both (suc zero) (suc zero) p q = both
+of_bits P none right left both (suc (suc x)) y p q = absurd (omega arith)
+of_bits P none right left both zero (suc (suc y)) p q = absurd (omega arith)
+of_bits P none right left both (suc zero) (suc (suc y)) p q = absurd (omega arith)
+
 -- both masks have what their conjunction has
 pub has-and : (m n b : ℕ) → has (bit_and m n) b ≡ (has m b && has n b)
-has-and m n b = ap (λ x. x == 1) (bit_at_and m n b) ∙ of_min (bit_at m b) (bit_at n b) (bit_at-lt m b) (bit_at-lt n b)
-  where
-    of_min : (x y : ℕ) → x < 2 → y < 2 → (min x y == 1) ≡ ((x == 1) && (y == 1))
-    of_min zero zero p q = refl
-    of_min zero (suc zero) p q = refl
-    of_min (suc zero) zero p q = refl
-    of_min (suc zero) (suc zero) p q = refl
-    of_min (suc (suc x)) y p q = absurd (omega arith)
-    of_min zero (suc (suc y)) p q = absurd (omega arith)
-    of_min (suc zero) (suc (suc y)) p q = absurd (omega arith)
+has-and m n b =
+    ap (λ x. x == 1) (bit_at_and m n b)
+    ∙ of_bits (λ x y. (min x y == 1) ≡ ((x == 1) && (y == 1))) refl refl refl refl (bit_at m b) (bit_at n b) (bit_at-lt m b) (bit_at-lt n b)
 
 -- one of the masks has what their union has
 pub has-or : (m n b : ℕ) → has (bit_or m n) b ≡ (has m b || has n b)
-has-or m n b = ap (λ x. x == 1) (bit_at_or m n b) ∙ of_max (bit_at m b) (bit_at n b) (bit_at-lt m b) (bit_at-lt n b)
-  where
-    of_max : (x y : ℕ) → x < 2 → y < 2 → (max x y == 1) ≡ ((x == 1) || (y == 1))
-    of_max zero zero p q = refl
-    of_max zero (suc zero) p q = refl
-    of_max (suc zero) zero p q = refl
-    of_max (suc zero) (suc zero) p q = refl
-    of_max (suc (suc x)) y p q = absurd (omega arith)
-    of_max zero (suc (suc y)) p q = absurd (omega arith)
-    of_max (suc zero) (suc (suc y)) p q = absurd (omega arith)
+has-or m n b =
+    ap (λ x. x == 1) (bit_at_or m n b)
+    ∙ of_bits (λ x y. (max x y == 1) ≡ ((x == 1) || (y == 1))) refl refl refl refl (bit_at m b) (bit_at n b) (bit_at-lt m b) (bit_at-lt n b)
 
 -- a mask of 32 bits has no backend from 32 on
 pub has_above : (m b : ℕ) → m < 2 ^ 32 → 32 ≤ b → has m b ≡ false
@@ -59,17 +55,18 @@ has-and_not m n b fits lt =
 pub has_without : (m f s b : ℕ) → m < 2 ^ 32 → f < 2 ^ 32 → s < 2 ^ 32 → has (bit_and m (4294967295 - bit_or f s)) b ≡ (has m b && not (has f b || has s b))
 has_without m f s b fits p q = has-and_not m (bit_or f s) b fits (or_lt 32 f s p q) ∙ ap (λ x. has m b && not x) (has-or f s b)
 
+-- a shifted 1 stays below 32 bits
+pub shifted_one : (n : ℕ) → n < 32 → 1 * 2 ^ n % 4294967296 ≡ 2 ^ n
+shifted_one n lt = let p = pow_below n 32 lt in let e : 1 * 2 ^ n ≡ 2 ^ n = omega arith in rw e (mod-eq_of_lt p)
+
 -- the mask of one backend
 pub has-shifted : (b k : ℕ) → b < 32 → has (1 * 2 ^ b % 4294967296) k ≡ (k == b)
 has-shifted b k lt =
-    ap (λ x. has x k) small
+    ap (λ x. has x k) (shifted_one b lt)
     ∙ ⊎_elim
     (λ (e : k ≡ b). rw e (ap (λ x. x == 1) (bit_at-pow_same b) ∙ sym (eq-eqb b b refl)))
     (λ (ne : k ≡ b → ⊥). ap (λ x. x == 1) (bit_at-pow_other b k ne) ∙ sym (ne_eqb k b ne))
     (cases_eq k b)
-  where
-    small : 1 * 2 ^ b % 4294967296 ≡ 2 ^ b
-    small = let p = pow_below b 32 lt in let e : 1 * 2 ^ b ≡ 2 ^ b = omega arith in rw e (mod-eq_of_lt p)
 
 -- a mask with one backend cleared
 pub has_cleared : (m b k : ℕ) → m < 2 ^ 32 → b < 32 → has (bit_and m (4294967295 - 1 * 2 ^ b % 4294967296)) k ≡ (has m k && not (k == b))

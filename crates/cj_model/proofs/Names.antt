@@ -4,13 +4,14 @@ use Rattle.std.specs.declared.option.Option.TheVariants.{None}
 use Rattle.std.specs.List.{list_all}
 use Rattle.std.proofs.lemmas.Bool.{and_from, lt-leb}
 use Rattle.std.proofs.lemmas.Bool.Decides.{nat_tests}
+use Rattle.cj_model.specs.declared.limits.TheConstants.{NAME_LIMIT}
 use Rattle.cj_model.specs.Words.{lower, begins_name, continues_name, is_spelled_as_name, is_name, name_of}
 use Rattle.cj_model.specs.Lexical.{is_letter, is_word, Each, IsWord}
 
 -- what is too long is no name
-pub long_is_no_name : (bytes : List ℕ) → 32 < length bytes → name_of bytes ≡ None
+pub long_is_no_name : (bytes : List ℕ) → NAME_LIMIT < length bytes → name_of bytes ≡ None
 unfolding is_name
-long_is_no_name bytes h = rw (lt-leb (length bytes) 32 h) refl
+long_is_no_name bytes h = rw (lt-leb (length bytes) NAME_LIMIT h) refl
 
 -- a letter in lower case begins a name
 letter_begins : (b : ℕ) → is_letter b ≡ true → begins_name (lower b) ≡ true

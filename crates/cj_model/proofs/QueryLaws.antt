@@ -1,4 +1,4 @@
--- An answer has from 1 to 64 columns.
+-- An answer has a column, and not too many.
 use Rattle.std.proofs.Common.{◌≡◌, ℕ, suc, ◌+◌, ◌*◌, ◌<◌, ◌≤◌, Bool, true, false, ◌||◌, List, [], ◌∷◌, length, map, refl, ap, ◌∙◌, subst, arith}
 use Rattle.std.specs.Prelude.{All, IfOk, IfSome, filter, is_none, option_map}
 use Rattle.std.specs.declared.option.Option.{Option}
@@ -21,6 +21,7 @@ use Rattle.cj_model.specs.declared.answer.Answer.{Answer}
 use Rattle.cj_model.specs.declared.answer.Asked.TheVariants.{Rows}
 use Rattle.cj_model.specs.declared.answer.Refusal.{Refusal}
 use Rattle.cj_model.specs.declared.codes.TheConstants.{NO_TABLE, NO_COLUMN, BAD_COLUMNS, OVERFLOW, WRONG_TYPE}
+use Rattle.cj_model.specs.declared.limits.TheConstants.{ANSWER_LIMIT, COLUMN_LIMIT, ITEM_LIMIT, TABLE_LIMIT}
 use Rattle.cj_model.specs.Tables.{IsTable, IsSlot, IsDatabase, slot_of}
 use Rattle.cj_model.specs.Changes.{bare, unless}
 use Rattle.cj_model.specs.Steps.{seen}
@@ -31,19 +32,19 @@ use Rattle.cj_model.specs.Queries.{listed, columns_named, has_bad_columns, sums_
 use Rattle.cj_model.proofs.DatabaseLaws.{found_is_slot, seen_is_table}
 use Rattle.cj_model.proofs.TableLaws.{unless_IfOk}
 
--- what SQL can ask for: from 1 to 4 tables, and `*` or from 1 to 16 items
+-- what SQL can ask for: some tables and `*` or some items, not too many
 abbrev pub HasItems : Items → Type 0
 HasItems Whole = Unit {0}
-HasItems (Listed items) = (0 < length items) × (length items ≤ 16)
+HasItems (Listed items) = (0 < length items) × (length items ≤ ITEM_LIMIT)
 
 pub record IsAskable (s : Select) : Type 0 where
   pub some : 0 < length s.tables
-  pub few : length s.tables ≤ 4
+  pub few : length s.tables ≤ TABLE_LIMIT
   pub items : HasItems s.items
 
 pub record HasColumns (a : Answer) : Type 0 where
   pub some : 0 < length a.columns
-  pub few : length a.columns ≤ 64
+  pub few : length a.columns ≤ ANSWER_LIMIT
 
 -- ---- columns of tables
 
@@ -53,8 +54,8 @@ schemas ts = map (λ (t : Table). t.schema) ts
 width-cons : (t : Table) (ts : List Table) → length (scope_of (schemas (t ∷ ts))) ≡ length t.schema.columns + length (scope_of (schemas ts))
 width-cons t ts = length-append (map (λ (c : Column). (t.schema.table, c)) t.schema.columns) (scope_of (schemas ts)) ∙ ap (λ n. n + length (scope_of (schemas ts))) (length-map t.schema.columns (λ (c : Column). (t.schema.table, c)))
 
--- each table has from 1 to 16 columns
-columns_few : (ts : List Table) → All IsTable ts → length (scope_of (schemas ts)) ≤ length ts * 16
+-- each table has not too many columns
+columns_few : (ts : List Table) → All IsTable ts → length (scope_of (schemas ts)) ≤ length ts * COLUMN_LIMIT
 columns_few [] a = omega arith
 columns_few (t ∷ ts) a = omega (arith, width-cons t ts, columns_few ts (All-tail IsTable t ts a), (All-head IsTable t ts a).few)
 
@@ -64,7 +65,7 @@ columns_some (t ∷ ts) a h = omega (arith, width-cons t ts, (All-head IsTable t
 
 -- ---- answers
 
-module _ (ts : List Table) (tables : All IsTable ts) (some : 0 < length ts) (few : length ts ≤ 4) where
+module _ (ts : List Table) (tables : All IsTable ts) (some : 0 < length ts) (few : length ts ≤ TABLE_LIMIT) where
   abbrev scope : Scope
   scope = scope_of (schemas ts)
 
@@ -72,7 +73,7 @@ module _ (ts : List Table) (tables : All IsTable ts) (some : 0 < length ts) (few
   names_some Whole h = omega (arith, length-map scope (λ (c : List ℕ × Column). c.1.name), columns_some ts tables some)
   names_some (Listed items) h = omega (arith, length-map items name_of_item, h.0)
 
-  names_few : (items : Items) → HasItems items → length (names_answered scope items) ≤ 64
+  names_few : (items : Items) → HasItems items → length (names_answered scope items) ≤ ANSWER_LIMIT
   names_few Whole h = omega (arith, length-map scope (λ (c : List ℕ × Column). c.1.name), columns_few ts tables, few)
   names_few (Listed items) h = omega (arith, length-map items name_of_item, h.1)
 

@@ -1,5 +1,5 @@
 -- Every move keeps the state sound.
-use Rattle.std.proofs.Common.{◌≡◌, ◌⊎◌, inl, ℕ, ◌+◌, ◌^◌, ◌<◌, ◌≤◌, Bool, true, false, cond, List, [], ◌∷◌, ◌++◌, length, Option, None, Some, Ok, Err, refl, sym, ◌∙◌, subst, arith, ⊎_elim, MatchOption}
+use Rattle.std.proofs.Common.{◌≡◌, ◌⊎◌, inl, ℕ, ◌+◌, ◌<◌, ◌≤◌, Bool, true, false, cond, List, [], ◌∷◌, ◌++◌, length, Option, None, Some, Ok, Err, refl, sym, ◌∙◌, subst, arith, ⊎_elim, MatchOption}
 use Rattle.std.proofs.lemmas.Bool.{or_parts, leb-false}
 use Rattle.std.proofs.lemmas.List.Elements.{All-weaker}
 use Rattle.cj_model.specs.declared.request.Act.{Act}
@@ -19,10 +19,11 @@ use Rattle.cj_model.specs.declared.moves.Moved.TheVariants as moved
 use Rattle.cj_model.specs.declared.moves.MoveError.TheVariants.{NotNow, NoMemory}
 use Rattle.cj_model.specs.declared.moves.Why.{Why}
 use Rattle.cj_model.specs.declared.moves.OpenSession.{OpenSession}
+use Rattle.cj_model.specs.declared.limits.TheConstants.{REQUEST_LIMIT, SESSION_LIMIT, SESSION_NUMBER_LIMIT, USER_LIMIT}
 use Rattle.cj_model.specs.Plain.{act_of, request_of}
 use Rattle.cj_model.specs.Histories.{log, room}
-use Rattle.cj_model.specs.Legality.{IsWritten, IsFit, FitsTx, user_limit}
-use Rattle.cj_model.specs.Cores.{Core, session_limit, session_at, fresh_session, with_session}
+use Rattle.cj_model.specs.Legality.{IsWritten, IsFit, FitsTx}
+use Rattle.cj_model.specs.Cores.{Core, session_at, fresh_session, with_session}
 use Rattle.cj_model.specs.Moves as moves
 use Rattle.cj_model.specs.Moves.{Given, MovesTo, Does, not_now, is_open, is_reading, read_number, next_entry, open_tx, tx_of_act, counted, answered_at, was_answered, still_reading, last_number, with_read, read_failed, ended, tried_of, tried_with}
 use Rattle.cj_model.specs.Sound.{IsSound, IsSession, IsLone}
@@ -35,11 +36,11 @@ use Rattle.cj_model.proofs.Now.{CanClose, can_close, CanSchedule, can_schedule, 
 -- ---- sessions
 
 -- a session is opened, or none can be
-sound_open : (c : Core) (user : List ℕ) (g : Given) (z : Core) → length user ≤ user_limit → IsSound c → moves.Opens c user g z → IsSound z
+sound_open : (c : Core) (user : List ℕ) (g : Given) (z : Core) → length user ≤ USER_LIMIT → IsSound c → moves.Opens c user g z → IsSound z
 sound_open c user (Ok (moved.Session n)) z fits w h =
     let full = or_parts _ _ h.0 in
-    let few : length c.sessions < session_limit = leb-false _ _ full.0 in
-    let more : c.greatest < 2 ^ 62 = leb-false _ _ full.1 in
+    let few : length c.sessions < SESSION_LIMIT = leb-false _ _ full.0 in
+    let more : c.greatest < SESSION_NUMBER_LIMIT = leb-false _ _ full.1 in
     let now = sound_sessions c (c.sessions ++ fresh_session (c.greatest + 1) user ∷ []) (c.greatest + 1) w (are_opened c.history c.greatest c.sessions user (sessions_are c w) few more fits) in
     subst IsSound (sym h.2) (subst (λ (k : ℕ). IsSound (record c { sessions = c.sessions ++ fresh_session k user ∷ []; greatest = k })) (sym h.1) now)
 sound_open c user (Ok (moved.Refused r)) z fits w h = subst IsSound (sym h.2) w
@@ -89,9 +90,10 @@ session_sound c s w here =
 pub no_tx : (c : Core) (s : ℕ) → IsSound c → open_tx c s ≡ 0
 no_tx c s w = lone_no_tx (log c.history) s w.lone
 
--- the next entry of an open session may be scheduled
-pub next_fits : (c : Core) (s : ℕ) (r : Request) (a : Act) → act_of r ≡ Some a → IsWritten r → IsLoneWrite r → CanCount c 1 → IsSound c → is_open c s ≡ true → IsFit (log c.history) (next_entry c s a)
-next_fits c s r a is written lone count w here =
+-- the next entry of an open session may be scheduled, where its act is written and of a transaction that it may have
+pub entry_fits : (c : Core) (s : ℕ) (a : Act) → IsWritten (request_of a) → FitsTx (open_tx c s) (tx_of_act (open_tx c s) a) a → (session_at c s).queries < REQUEST_LIMIT → IsSound c → is_open c s ≡ true
+    → IsFit (log c.history) (next_entry c s a)
+entry_fits c s a written tx count w here =
     let x = session_sound c s w here in
     let i = x.0 in
     let number : (session_at c s).number ≡ s = x.1 in
@@ -99,26 +101,33 @@ next_fits c s r a is written lone count w here =
     let high : (session_at c s).number ≤ c.greatest = i.number.1 in
     let limit = w.numbers in
     record {
-      written = subst IsWritten (sym (request_of-act r a is)) written;
+      written = written;
       user = i.user;
       by =
           inl
           record {
             session = (omega arith, omega arith);
-            limit = count s;
+            limit = omega arith;
             newer =
                 All-weaker (λ (d : Entry). d.session ≡ (session_at c s).number → d.seq ≤ (session_at c s).queries) (λ (d : Entry). d.session ≡ s → d.seq < (session_at c s).queries + 1)
                 (λ d old by. let le = old (by ∙ sym number) in omega arith) (log c.history) i.entries;
-            tx = by_lone (λ b. FitsTx (open_tx c s) (tx_of_act (open_tx c s) b) b) (λ q. inl (no_tx c s w)) (λ q. refl) (λ q. refl) r a is lone;
+            tx = tx;
           };
     }
+
+-- and so the act of a request
+next_fits : (c : Core) (s : ℕ) (r : Request) (a : Act) → act_of r ≡ Some a → IsWritten r → IsLoneWrite r → CanCount c 1 → IsSound c → is_open c s ≡ true → IsFit (log c.history) (next_entry c s a)
+next_fits c s r a is written lone count w here =
+    let more : (session_at c s).queries + 1 ≤ REQUEST_LIMIT = count s in
+    entry_fits c s a (subst IsWritten (sym (request_of-act r a is)) written)
+    (by_lone (λ b. FitsTx (open_tx c s) (tx_of_act (open_tx c s) b) b) (λ q. inl (no_tx c s w)) (λ q. refl) (λ q. refl) r a is lone) (omega arith) w here
 
 -- and is outside transactions
 next_lone : (c : Core) (s : ℕ) (r : Request) (a : Act) → act_of r ≡ Some a → IsLoneWrite r → IsSound c → IsLone (next_entry c s a) a
 next_lone c s r a is lone w = by_lone (λ b. IsLone (next_entry c s b) b) (λ q. no_tx c s w) (λ q. refl) (λ q. refl) r a is lone
 
 -- a request more
-keeps_counted : (n : ℕ) → KeepsSession n counted
+pub keeps_counted : (n : ℕ) → KeepsSession n counted
 keeps_counted n = record { number = λ x. refl; user = λ x. refl; queries = λ x. (let le : x.queries ≤ x.queries + 1 = omega arith in le); least = λ x le. le }
 
 -- an act is scheduled, or refused
@@ -154,7 +163,7 @@ sound_replay tells c b (Ok (moved.Replayed n d)) z w can h = subst IsSound (sym 
 sound_replay tells c b _ z w can h = absurd h
 
 -- a reply at a position within the log
-keeps_answered : (n p : ℕ) → p ≤ n → KeepsSession n (answered_at p)
+pub keeps_answered : (n p : ℕ) → p ≤ n → KeepsSession n (answered_at p)
 keeps_answered n p le = record { number = λ x. refl; user = λ x. refl; queries = λ x. (let le : x.queries ≤ x.queries = omega arith in le); least = λ x old. le }
 
 -- the open entry ends, and its session is answered
@@ -179,15 +188,15 @@ read_counts x = one (is_reading x)
     one false = (omega arith, omega arith)
 
 -- a read that was answered
-keeps_was_answered : (n : ℕ) → KeepsSession n was_answered
+pub keeps_was_answered : (n : ℕ) → KeepsSession n was_answered
 keeps_was_answered n = record { number = λ x. refl; user = λ x. refl; queries = λ x. (read_counts x).0; least = λ x le. le }
 
 -- a read that goes on
-keeps_still_reading : (n : ℕ) (select : Select) (tried : ℕ) → KeepsSession n (still_reading select tried)
+pub keeps_still_reading : (n : ℕ) (select : Select) (tried : ℕ) → KeepsSession n (still_reading select tried)
 keeps_still_reading n select tried = record { number = λ x. refl; user = λ x. refl; queries = λ x. (read_counts x).0; least = λ x le. le }
 
 -- a read that was answered at a position within the log
-keeps_reached : (n p : ℕ) → p ≤ n → KeepsSession n (λ x. answered_at p (was_answered x))
+pub keeps_reached : (n p : ℕ) → p ≤ n → KeepsSession n (λ x. answered_at p (was_answered x))
 keeps_reached n p le = record { number = λ x. refl; user = λ x. refl; queries = λ x. (read_counts x).0; least = λ x old. le }
 
 -- a backend failed in a read, which goes on or was answered

@@ -25,6 +25,7 @@ use Rattle.cj_model.specs.declared.write.Write.TheVariants as write
 use Rattle.cj_model.specs.declared.request.Request.{Request}
 use Rattle.cj_model.specs.declared.request.Request.TheVariants as request
 use Rattle.cj_model.specs.declared.term.Cmp.{Cmp}
+use Rattle.cj_model.specs.declared.limits.TheConstants.{NAME_LIMIT, TEXT_LIMIT}
 use Rattle.cj_model.specs.Conditions.{Condition, Test, Not, And, Or}
 use Rattle.cj_model.specs.Words.{lower, IsText}
 use Rattle.cj_model.specs.Lexical.{is_letter, is_word, Each, IsWord, keyword, Spells, Tokens}
@@ -40,9 +41,9 @@ use Rattle.cj_model.specs.Grammar.{SetForm, Direction, KeyForm, SelectForm, Stat
 -- what a token of some text is, with its names in lower case
 abbrev pub IsToken : Token → Type 0
 IsToken (token.Word k) = Unit {0}
-IsToken (token.Name n) = IsWord n × (length n ≤ 32) × (keyword n ≡ None) × (n ≡ map lower n)
+IsToken (token.Name n) = IsWord n × (length n ≤ NAME_LIMIT) × (keyword n ≡ None) × (n ≡ map lower n)
 IsToken (token.Number n) = n ≤ 2 ^ 63
-IsToken (token.Text x) = IsText x × (length x ≤ 4096)
+IsToken (token.Text x) = IsText x × (length x ≤ TEXT_LIMIT)
 IsToken (token.Symbol s) = Unit {0}
 
 -- each of them is one
@@ -68,7 +69,7 @@ lower_again : (z : List ℕ) → map lower (map lower z) ≡ map lower z
 lower_again [] = refl
 lower_again (b ∷ z) = rw (lowercase-lowercase b, lower_again z) refl
 
-spelled_name : (n z : List ℕ) → n ≡ map lower z → IsWord z → length z ≤ 32 → keyword n ≡ None → IsToken (token.Name n)
+spelled_name : (n z : List ℕ) → n ≡ map lower z → IsWord z → length z ≤ NAME_LIMIT → keyword n ≡ None → IsToken (token.Name n)
 spelled_name n z e w l k =
     let same : length (map lower z) ≡ length z = length-map z lower in
     (rw e (is_word_lower z w), rw e (omega (arith, same, l)), k, rw e (sym (lower_again z)))

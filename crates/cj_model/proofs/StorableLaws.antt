@@ -28,11 +28,12 @@ use Rattle.cj_model.specs.declared.request.Request.TheVariants as request
 use Rattle.cj_model.specs.declared.request.Act.{Act}
 use Rattle.cj_model.specs.declared.request.Act.TheVariants as act
 use Rattle.cj_model.specs.declared.codes.TheConstants.{NO_COLUMN, BAD_COLUMNS, DUPLICATE, OVERFLOW, WRONG_TYPE}
+use Rattle.cj_model.specs.declared.limits.TheConstants.{COLUMN_LIMIT, NAME_LIMIT, ROW_LIMIT}
 use Rattle.cj_model.specs.Words.{is_spelled_as_name, is_name}
 use Rattle.cj_model.specs.Literals.{IsConstant}
 use Rattle.cj_model.specs.Conditions.{Condition}
 use Rattle.cj_model.specs.Predicates.{Predicate}
-use Rattle.cj_model.specs.Tables.{IsSlot, cell, by_key, by_table, table_of, slot_of, put_by, fits_columns, row_limit}
+use Rattle.cj_model.specs.Tables.{IsSlot, cell, by_key, by_table, table_of, slot_of, put_by, fits_columns}
 use Rattle.cj_model.specs.TermForms as t
 use Rattle.cj_model.specs.TermForms.{ConstForm, TermForm, ExprForm, EachFits, SomeFit, const_meant, term_meant, expr_meant, ConstFits, TermFits, ExprFits}
 use Rattle.cj_model.specs.Grammar as g
@@ -59,7 +60,7 @@ pub fine_is_free : (n : List ℕ) → FineName n → IsFreeName n
 unfolding is_name
 fine_is_free n h =
     let spelled : is_spelled_as_name n ≡ true = subst (λ z. is_spelled_as_name z ≡ true) (sym h.3) (spelled_as_name n h.0) in
-    (and_from (nat_le (length n) 32) (is_spelled_as_name n) (le-leb (length n) 32 h.1) spelled, h.2)
+    (and_from (nat_le (length n) NAME_LIMIT) (is_spelled_as_name n) (le-leb (length n) NAME_LIMIT h.1) spelled, h.2)
 
 -- ---- values
 
@@ -127,7 +128,7 @@ of_write : (s : Statement) (w : Write) → StatementFits s → FineRequest (stat
 of_write (g.insert n names rows) w fits fine e =
     let same : w ≡ Insert n names (map (map const_meant) rows) = cc in
     subst PutsConstants (sym same)
-    (each_meant (SomeFit ConstFits 16) (EachFits FineConst) (All IsConstantTerm) (map const_meant) (λ xs h k. each_meant ConstFits FineConst IsConstantTerm const_meant (λ x p q. const_is_constant x p q.1) xs h.2 k) rows fits.1.2 fine.2)
+    (each_meant (SomeFit ConstFits COLUMN_LIMIT) (EachFits FineConst) (All IsConstantTerm) (map const_meant) (λ xs h k. each_meant ConstFits FineConst IsConstantTerm const_meant (λ x p q. const_is_constant x p q.1) xs h.2 k) rows fits.1.2 fine.2)
 of_write (g.update n sets condition) w fits fine e =
     let same : w ≡ Update n (map set_meant sets) (where_meant condition) = cc in
     subst PutsConstants (sym same)
@@ -169,7 +170,7 @@ inserted_constants t names tuples rows h =
     let total : ℕ = length t.rows + length new in
     let fresh : All AreConstants new = All-map AreConstants (row_of columns names) tuples (All-weaker (All IsConstantTerm) (λ u. AreConstants (row_of columns names u)) (row_is_constant columns names) tuples h) in
     let put : Changed = Ok (fold (put_by (by_key key)) t.rows new, length new) in
-    let within : Changed = unless (nat_lt row_limit total) (too_many_rows total) put in
+    let within : Changed = unless (nat_lt ROW_LIMIT total) (too_many_rows total) put in
     let single : Changed = unless (list_any (has_key key t.rows) new || has_key_twice key new) (bare DUPLICATE) within in
     let even : Changed = unless (list_any (λ u. not (fits_columns columns (row_of columns names u))) tuples) (bare WRONG_TYPE) single in
     let whole : Changed = unless (lists_unevenly columns names || list_any (λ (u : List Term). not (length u == length columns)) tuples) (bare BAD_COLUMNS) even in

@@ -17,8 +17,9 @@ use Rattle.cj_model.specs.declared.schema.Schema.{Schema}
 use Rattle.cj_model.specs.declared.database.Table.{Table}
 use Rattle.cj_model.specs.declared.answer.Refusal.{Refusal}
 use Rattle.cj_model.specs.declared.codes.TheConstants.{NO_COLUMN, BAD_COLUMNS, DUPLICATE, WRONG_TYPE}
+use Rattle.cj_model.specs.declared.limits.TheConstants.{ROW_LIMIT}
 use Rattle.cj_model.specs.Values.{kind_of, value_total}
-use Rattle.cj_model.specs.Tables.{IsTable, cell, by_key, put_by, fits_columns, column_names, same_kind, row_limit}
+use Rattle.cj_model.specs.Tables.{IsTable, cell, by_key, put_by, fits_columns, column_names, same_kind}
 use Rattle.cj_model.specs.Changes.{Changed, bare, unless, row_of, lists_stranger, lists_unevenly, has_key, has_key_twice, too_many_rows, with_rows, inserted}
 use Rattle.cj_model.specs.Replies.{IsEven}
 use Rattle.cj_model.proofs.RisingLaws.{all_put_each, length-put_each, rises_put_each}
@@ -40,14 +41,14 @@ abbrev Fits : List Column → List Value → Type 0
 Fits columns row = fits_columns columns row ≡ true
 
 -- the rows put in their places, where none has a key that is there and there is room
-rows_put : (t : Table) (new : List (List Value)) → IsTable t → All (Fits t.schema.columns) new → nat_lt row_limit (length t.rows + length new) ≡ false → IsTableWith t.schema (fold (put_by (by_key t.schema.key)) t.rows new, length new)
+rows_put : (t : Table) (new : List (List Value)) → IsTable t → All (Fits t.schema.columns) new → nat_lt ROW_LIMIT (length t.rows + length new) ≡ false → IsTableWith t.schema (fold (put_by (by_key t.schema.key)) t.rows new, length new)
 rows_put t new is fits room = record {
   few = is.few;
   distinct = is.distinct;
   key = is.key;
   kinds = all_put_each (by_key t.schema.key) (Fits t.schema.columns) t.rows new is.kinds fits;
   rises = rises_put_each (by_key t.schema.key) (by_key_total t.schema.key) t.rows new is.rises;
-  room = omega (arith, length-put_each (by_key t.schema.key) t.rows new, ltb-false row_limit (length t.rows + length new) room);
+  room = omega (arith, length-put_each (by_key t.schema.key) t.rows new, ltb-false ROW_LIMIT (length t.rows + length new) room);
 }
 
 -- new rows that fit the columns
@@ -55,8 +56,8 @@ pub with_rows_keeps : (t : Table) (new : List (List Value)) → IsTable t → Al
 with_rows_keeps t new is fits =
     let total : ℕ = length t.rows + length new in
     let put : Changed = Ok (fold (put_by (by_key t.schema.key)) t.rows new, length new) in
-    unless_IfOk (IsTableWith t.schema) (list_any (has_key t.schema.key t.rows) new || has_key_twice t.schema.key new) (bare DUPLICATE) (unless (nat_lt row_limit total) (too_many_rows total) put) (λ fresh.
-    unless_IfOk (IsTableWith t.schema) (nat_lt row_limit total) (too_many_rows total) put (λ room. rows_put t new is fits room))
+    unless_IfOk (IsTableWith t.schema) (list_any (has_key t.schema.key t.rows) new || has_key_twice t.schema.key new) (bare DUPLICATE) (unless (nat_lt ROW_LIMIT total) (too_many_rows total) put) (λ fresh.
+    unless_IfOk (IsTableWith t.schema) (nat_lt ROW_LIMIT total) (too_many_rows total) put (λ room. rows_put t new is fits room))
 
 -- where no item fails the test, all that is made of the items passes it
 all_from_none_fails : {A B : Type 0} (p : B → Bool) (f : A → B) (xs : List A) → list_any (λ x. not (p (f x))) xs ≡ false → All (λ y. p y ≡ true) (map f xs)

@@ -21,7 +21,8 @@ use Rattle.cj_model.specs.Placements.{Placement, concerns}
 use Rattle.cj_model.specs.Histories.{has, log, done, free, opened, enabled, room, at, log_faults_of, tx_of}
 use Rattle.cj_model.specs.Legality.{IsLegal}
 use Rattle.cj_model.specs.Answering.{ServesAt, Served, Unserved, is_target, Finished, Unfinished, AnswersEntry}
-use Rattle.cj_model.specs.Turns.{Seen, Call, Moment, reply_of_asked, IsFull, scheduled, no_backend, read, read_fault, full, entries_of, next_tx_by, Turn}
+use Rattle.cj_model.specs.Replies.{asked_reply}
+use Rattle.cj_model.specs.Turns.{Seen, Call, Moment, IsFull, scheduled, no_backend, read, read_fault, full, entries_of, next_tx_by, Turn}
 use Rattle.cj_model.specs.Sound.{IsLone}
 use Rattle.cj_model.specs.Runs.{IsUnanswered, HasFailed, call_of_entry}
 use Rattle.cj_model.proofs.Masks.{has-zero}
@@ -220,7 +221,7 @@ module _ (p : Placement) (s : ℕ) (a : Seen) (h : List Event) (legal : IsLegal 
       }
 
   -- a read that was answered at a position that the session owes and that no ended entry is past
-  pub turn_read : (c : Call) (select : Select) (n : ℕ) → c.tx ≡ 0 → c.request ≡ request.Select select → c.reply ≡ reply_of_asked (ask (at (log h) n) c.tx select)
+  pub turn_read : (c : Call) (select : Select) (n : ℕ) → c.tx ≡ 0 → c.request ≡ request.Select select → c.reply ≡ asked_reply (ask (at (log h) n) c.tx select)
       → Served p h c.request → a.least ≤ n → done h ≤ n → n ≤ length (log h) → Turn p s a c (record { front = h; least = n })
   turn_read c select n tx is replied served owed past within =
       record {

@@ -6,11 +6,11 @@ use Rattle.std.specs.Option.{option_map, option_map_or}
 use Rattle.std.specs.List.{list_any}
 use Rattle.std.specs.Str.{bytes_eq}
 use Rattle.cj_model.specs.declared.account.Account.{Account}
-use Rattle.cj_model.specs.Legality.{user_limit}
+use Rattle.cj_model.specs.declared.limits.TheConstants.{USER_LIMIT}
 
 -- no user's name is too long
 abbrev pub HasShortUsers : List Account → Type 0
-HasShortUsers accounts = All (λ (account : Account). length account.user ≤ user_limit) accounts
+HasShortUsers accounts = All (λ (account : Account). length account.user ≤ USER_LIMIT) accounts
 
 -- whether the account is the user's
 abbrev pub is_of : List ℕ → Account → Bool

@@ -2,13 +2,13 @@
 use Rattle.std.specs.Prelude.{◌≡◌, ◌≢◌, ◌⊎◌, ℕ, true, false, List, slice_get}
 use Rattle.std.specs.declared.option.Option.TheVariants.{Some}
 use Rattle.cj_model.specs.declared.answer.Outcome.{Outcome}
-use Rattle.cj_model.specs.declared.answer.Outcome.TheVariants as outcome
 use Rattle.cj_model.specs.declared.answer.Reply.{Reply}
-use Rattle.cj_model.specs.declared.answer.Reply.TheVariants.{Done, Refused}
+use Rattle.cj_model.specs.declared.answer.Reply.TheVariants.{Refused}
 use Rattle.cj_model.specs.declared.request.Request.{Request}
 use Rattle.cj_model.specs.declared.request.Entry.{Entry}
 use Rattle.cj_model.specs.declared.event.Event.{Event}
 use Rattle.cj_model.specs.declared.codes.TheConstants.{UNFINISHED, STARVED_ALL}
+use Rattle.cj_model.specs.Replies.{outcome_reply}
 use Rattle.cj_model.specs.Placements.{Placement, hosts_all, needs, needs_backend, concerns}
 use Rattle.cj_model.specs.Histories.{has, enabled, log, ends, said}
 
@@ -28,10 +28,6 @@ Unserved p h r = (needs_backend r ≡ true) × ((b : ℕ) → enabled h b ≡ tr
 abbrev pub is_target : Placement → List Event → Entry → ℕ → Type 0
 is_target p then e b = (enabled then b ≡ true) × (concerns p b (log then) e.tx e.act ≡ true)
 
-abbrev pub reply_of : Outcome → Reply
-reply_of (outcome.Done count) = Done count
-reply_of (outcome.Refused refusal) = Refused refusal
-
 -- entry i has no target, or one that is in neither mask of its end: the reply is the one database's outcome
 pub record Finished (p : Placement) (then h : List Event) (i : ℕ) (e : Entry) (reply : Reply) : Type 0 where
   pub failed : ℕ
@@ -40,7 +36,7 @@ pub record Finished (p : Placement) (then h : List Event) (i : ℕ) (e : Entry) 
   pub some : ((b : ℕ) → is_target p then e b → ⊥) ⊎ ((b : ℕ) × is_target p then e b × (has failed b ≡ false) × (has starved b ≡ false))
   pub outcome : Outcome
   pub says : said (log h) i ≡ Some outcome
-  pub replied : reply ≡ reply_of outcome
+  pub replied : reply ≡ outcome_reply outcome
 
 -- each target of entry i, and there is one, is in a mask of its end
 pub record Unfinished (p : Placement) (then h : List Event) (i : ℕ) (e : Entry) (reply : Reply) : Type 0 where

@@ -2,6 +2,7 @@
 use Rattle.std.specs.Prelude.{◌≡◌, ℕ, ◌+◌, ◌-◌, ◌*◌, ◌^◌, ◌<◌, ◌==◌, Bool, true, false, List, nat_lt, slice_index, slice_set, if◌then◌else◌, replicate, Option, None, Some}
 use Rattle.cj_model.specs.declared.policy.Policy.{Policy}
 use Rattle.cj_model.specs.declared.policy.Policy.TheVariants.{RoundRobin, Weighted, LeastPending}
+use Rattle.cj_model.specs.declared.limits.TheConstants.{BACKEND_LIMIT}
 use Rattle.cj_model.specs.Histories.{has}
 
 -- the backend that was picked last, and of each backend how often it was used and how many of its reads are pending
@@ -18,7 +19,7 @@ pub record Balance : Type 0 where
 
 -- 0 for each backend
 abbrev pub zeros : List ℕ
-zeros = replicate 16 0
+zeros = replicate BACKEND_LIMIT 0
 
 -- nothing was picked yet, and no read is pending
 abbrev pub at_rest : Standing
@@ -26,7 +27,7 @@ at_rest = record { last = None; used = zeros; pending = zeros }
 
 -- how many steps up it is from the last picked backend to b, where 0 comes after 15: 1 to the next one, and 16 to the last picked itself
 abbrev pub steps_from : ℕ → ℕ → ℕ
-steps_from last b = if nat_lt last b then b - last else 16 + b - last
+steps_from last b = if nat_lt last b then b - last else BACKEND_LIMIT + b - last
 
 -- the same, and at first from 0
 abbrev pub steps_to : Option ℕ → ℕ → ℕ

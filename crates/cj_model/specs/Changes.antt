@@ -15,7 +15,8 @@ use Rattle.cj_model.specs.declared.schema.Column.{Column}
 use Rattle.cj_model.specs.declared.database.Table.{Table}
 use Rattle.cj_model.specs.declared.answer.Refusal.{Refusal}
 use Rattle.cj_model.specs.declared.codes.TheConstants.{NO_COLUMN, BAD_COLUMNS, DUPLICATE, WRONG_TYPE, ROWS_FULL}
-use Rattle.cj_model.specs.Tables.{by_key, put_by, is_distinct, column_names, fits_columns, row_limit}
+use Rattle.cj_model.specs.declared.limits.TheConstants.{ROW_LIMIT}
+use Rattle.cj_model.specs.Tables.{by_key, put_by, is_distinct, column_names, fits_columns}
 
 -- a refusal whose numbers say nothing
 abbrev pub bare : ℕ → Refusal
@@ -70,7 +71,7 @@ too_many_rows n = record { code = ROWS_FULL; a = n; b = 0 }
 abbrev pub with_rows : ℕ → List (List Value) → List (List Value) → Changed
 with_rows k rows new =
     unless (list_any (has_key k rows) new || has_key_twice k new) (bare DUPLICATE)
-    (unless (nat_lt row_limit (length rows + length new)) (too_many_rows (length rows + length new))
+    (unless (nat_lt ROW_LIMIT (length rows + length new)) (too_many_rows (length rows + length new))
     (Ok (fold (put_by (by_key k)) rows new, length new)))
 
 abbrev pub inserted : Table → Option (List (List ℕ)) → List (List Term) → Changed

@@ -6,6 +6,7 @@ use Rattle.cj_model.specs.declared.token.Keyword.TheVariants as word
 use Rattle.cj_model.specs.declared.token.Symbol.TheVariants as symbol
 use Rattle.cj_model.specs.declared.term.Cmp.{Cmp}
 use Rattle.cj_model.specs.declared.term.Cmp.TheVariants as cmp
+use Rattle.cj_model.specs.declared.limits.TheConstants.{DEPTH_LIMIT, TEST_LIMIT}
 use Rattle.cj_model.specs.Conditions.{Condition, Test, Not, And, Or}
 use Rattle.cj_model.specs.TermForms.{TermForm, term_tokens, term_meant, TermFits}
 
@@ -123,7 +124,7 @@ abbrev mutual
   PrimNests (suc depth) (parens c) = CondNests depth c
   PrimNests depth (test a op b) = TermFits a × TermFits b
 
--- at most 64 open NOTs and parentheses at one place, and 256 comparisons
+-- not too many open NOTs and parentheses at one place, nor comparisons
 pub record CondFits (form : CondForm) : Type 0 where
-  pub nests : CondNests 64 form
-  pub counts : comparisons (cond_meant form) ≤ 256
+  pub nests : CondNests DEPTH_LIMIT form
+  pub counts : comparisons (cond_meant form) ≤ TEST_LIMIT

@@ -19,10 +19,6 @@ pub record Core : Type 0 where
   -- the greatest session number given
   pub greatest : ℕ
 
--- the most open sessions
-abbrev pub session_limit : ℕ
-session_limit = 1024
-
 -- ---- backends
 
 abbrev pub position_at : Core → ℕ → Option ℕ

@@ -8,11 +8,8 @@ use Rattle.cj_model.specs.declared.message.Message.{Message}
 use Rattle.cj_model.specs.declared.message.Message.TheVariants.{Login, Query, Stats, Quit}
 use Rattle.cj_model.specs.declared.message.FrameFault.{FrameFault}
 use Rattle.cj_model.specs.declared.message.FrameFault.TheVariants.{LengthZero, LengthOver, Kind, Payload}
+use Rattle.cj_model.specs.declared.limits.TheConstants.{FRAME_LIMIT}
 use Rattle.cj_model.specs.Fields.{str16}
-
--- the most bytes of a kind and its payload
-abbrev pub frame_limit : ℕ
-frame_limit = 1048576
 
 -- the kind, and the payload
 abbrev pub message_body : Message → List ℕ
@@ -35,7 +32,7 @@ HasTexts Quit = Unit {0}
 -- what has a frame
 pub record IsFramed (m : Message) : Type 0 where
   pub texts : HasTexts m
-  pub size : length (message_body m) ≤ frame_limit
+  pub size : length (message_body m) ≤ FRAME_LIMIT
 
 -- no whole frame begins these bytes
 abbrev pub BeginsNoFrame : List ℕ → Type 0
@@ -63,7 +60,7 @@ unfoldable pub fault_of : List ℕ → Option FrameFault
 fault_of rest =
     if nat_lt (length rest) 4 then None
     else if stated_length rest == 0 then Some LengthZero
-    else if nat_lt frame_limit (stated_length rest) then Some LengthOver
+    else if nat_lt FRAME_LIMIT (stated_length rest) then Some LengthOver
     else if nat_lt (length rest) 5 then None
     else if not (is_client_kind (slice_index rest 4)) then Some Kind
     else if nat_lt (length rest) (4 + stated_length rest) then None

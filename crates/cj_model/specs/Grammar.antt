@@ -21,6 +21,7 @@ use Rattle.cj_model.specs.declared.write.Set.{Set}
 use Rattle.cj_model.specs.declared.write.Write.TheVariants as write
 use Rattle.cj_model.specs.declared.request.Request.{Request}
 use Rattle.cj_model.specs.declared.request.Request.TheVariants as request
+use Rattle.cj_model.specs.declared.limits.TheConstants.{COLUMN_LIMIT, ITEM_LIMIT, KEY_LIMIT, TABLE_LIMIT, TUPLE_LIMIT}
 use Rattle.cj_model.specs.Conditions.{Condition}
 use Rattle.cj_model.specs.Lexical.{Tokens}
 use Rattle.cj_model.specs.Tables.{is_distinct}
@@ -189,7 +190,7 @@ statement_meant rollback = request.Rollback
 
 abbrev pub ListFits : Option (List (List ℕ)) → Type 0
 ListFits None = Unit {0}
-ListFits (Some names) = SomeFit AnyFits 16 names
+ListFits (Some names) = SomeFit AnyFits COLUMN_LIMIT names
 
 abbrev pub SetFits : SetForm → Type 0
 SetFits s = ExprFits s.value
@@ -200,7 +201,7 @@ WhereFits (Some c) = CondFits c
 
 abbrev pub ItemsFit : Items → Type 0
 ItemsFit items.All = Unit {0}
-ItemsFit (items.Listed xs) = SomeFit AnyFits 16 xs
+ItemsFit (items.Listed xs) = SomeFit AnyFits ITEM_LIMIT xs
 
 -- a number in the range of 64 bits with a sign
 abbrev pub LimitFits : Option ℕ → Type 0
@@ -223,19 +224,19 @@ aggregates xs group = not (are_columns xs) || is_some group
 
 pub record SelectFits (s : SelectForm) : Type 0 where
   pub items : ItemsFit s.items
-  pub tables : SomeFit AnyFits 4 s.tables
+  pub tables : SomeFit AnyFits TABLE_LIMIT s.tables
   pub different : is_distinct s.tables ≡ true
   pub cond : WhereFits s.cond
-  pub order : length s.order ≤ 4
+  pub order : length s.order ≤ KEY_LIMIT
   pub limit : LimitFits s.limit
   -- COUNT, SUM and GROUP BY stand only where FROM names one table
   pub alone : aggregates s.items s.group ≡ true → length s.tables ≡ 1
 
 abbrev pub StatementFits : Statement → Type 0
-StatementFits (create n cs) = SomeFit AnyFits 16 cs
+StatementFits (create n cs) = SomeFit AnyFits COLUMN_LIMIT cs
 StatementFits (drop n) = Unit {0}
-StatementFits (insert n names rows) = ListFits names × SomeFit (SomeFit ConstFits 16) 4096 rows
-StatementFits (update n sets cond) = SomeFit SetFits 16 sets × WhereFits cond
+StatementFits (insert n names rows) = ListFits names × SomeFit (SomeFit ConstFits COLUMN_LIMIT) TUPLE_LIMIT rows
+StatementFits (update n sets cond) = SomeFit SetFits COLUMN_LIMIT sets × WhereFits cond
 StatementFits (delete n cond) = WhereFits cond
 StatementFits (select s) = SelectFits s
 StatementFits begin = Unit {0}

@@ -12,6 +12,7 @@ use Rattle.cj_model.specs.declared.request.Entry.{Entry}
 use Rattle.cj_model.specs.declared.answer.Outcome.{Outcome}
 use Rattle.cj_model.specs.declared.event.Event.{Event}
 use Rattle.cj_model.specs.declared.event.Event.TheVariants.{Sched, Ended, ReadFailed, LogFailed, Disabled, Enabled, Marker}
+use Rattle.cj_model.specs.declared.limits.TheConstants.{EVENT_LIMIT}
 use Rattle.cj_model.specs.Steps.{step}
 
 -- ---- one database run on a log
@@ -80,9 +81,9 @@ enabled_after b on (Marker name c) = on
 abbrev pub enabled : List Event → ℕ → Bool
 enabled h b = fold (enabled_after b) false h
 
--- how many events may still come: at most 2^62 in all, with two kept for the end of an open entry
+-- how many events may still come: so many as the limit leaves, with two kept for the end of an open entry
 abbrev pub room : List Event → ℕ
-room h = 2 ^ 62 - (length h + 2 * (length (log h) - done h))
+room h = EVENT_LIMIT - (length h + 2 * (length (log h) - done h))
 
 abbrev pub masks_of : Event → Option (ℕ × ℕ)
 masks_of (Sched e) = None

@@ -9,13 +9,10 @@ use Rattle.cj_model.specs.declared.request.Act.TheVariants as act
 use Rattle.cj_model.specs.declared.request.Entry.{Entry}
 use Rattle.cj_model.specs.declared.event.Event.{Event}
 use Rattle.cj_model.specs.declared.event.Event.TheVariants.{Sched, Ended, ReadFailed, LogFailed, Disabled, Enabled, Marker}
+use Rattle.cj_model.specs.declared.limits.TheConstants.{EVENT_LIMIT, REQUEST_LIMIT, SESSION_NUMBER_LIMIT, USER_LIMIT}
 use Rattle.cj_model.specs.Grammar.{TextReads}
 use Rattle.cj_model.specs.Plain.{is_plain, request_of}
 use Rattle.cj_model.specs.Histories.{has, log, free, enabled, markers, tx_of}
-
--- the most bytes of a user's name
-abbrev pub user_limit : ℕ
-user_limit = 64
 
 -- a plain request that some text reads as
 pub record IsWritten (r : Request) : Type 0 where
@@ -34,8 +31,8 @@ FitsTx t tx act.Abort = (tx ≢ 0) × (tx ≡ t)
 
 -- a session's next entry
 pub record OfSession (before : List Entry) (e : Entry) : Type 0 where
-  pub session : (0 < e.session) × (e.session ≤ 2 ^ 62)
-  pub limit : e.seq ≤ 2 ^ 62
+  pub session : (0 < e.session) × (e.session ≤ SESSION_NUMBER_LIMIT)
+  pub limit : e.seq ≤ REQUEST_LIMIT
   pub newer : All (λ (d : Entry). d.session ≡ e.session → d.seq < e.seq) before
   pub tx : FitsTx (tx_of before e.session) e.tx e.act
 
@@ -54,7 +51,7 @@ pub record OfAdministrator (before : List Entry) (e : Entry) : Type 0 where
 -- what may be scheduled behind the entries before it
 pub record IsFit (before : List Entry) (e : Entry) : Type 0 where
   pub written : IsWritten (request_of e.act)
-  pub user : length e.user ≤ user_limit
+  pub user : length e.user ≤ USER_LIMIT
   pub by : OfSession before e ⊎ OfAdministrator before e
 
 -- the masks have no backend in common, and each of theirs is enabled
@@ -72,7 +69,7 @@ Allowed h (Disabled b) = (free h ≡ true) × (enabled h b ≡ true)
 Allowed h (Enabled b) = (free h ≡ true) × (enabled h b ≡ false)
 Allowed h (Marker name b) = (free h ≡ true) × (list_any (bytes_eq name) (markers h) ≡ false)
 
--- at most 2^62 events, each allowed by those before it
+-- not too many events, each allowed by those before it
 pub record IsLegal (h : List Event) : Type 0 where
-  pub short : length h ≤ 2 ^ 62
+  pub short : length h ≤ EVENT_LIMIT
   pub each : (k : ℕ) (d : Event) → k < length h → Allowed (take k h) (slice_index_or h k d)

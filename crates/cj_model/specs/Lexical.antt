@@ -11,6 +11,7 @@ use Rattle.cj_model.specs.declared.token.Symbol.TheVariants as symbol
 use Rattle.cj_model.specs.declared.token.Token.{Token}
 use Rattle.cj_model.specs.declared.token.Token.TheVariants as token
 use Rattle.cj_model.specs.declared.token.TheConstants.{KEYWORDS}
+use Rattle.cj_model.specs.declared.limits.TheConstants.{NAME_LIMIT, TEXT_LIMIT}
 
 -- ---- bytes
 
@@ -79,14 +80,14 @@ IsSymbol symbol.Ge z = z ≡ 62 ∷ 61 ∷ []
 IsSymbol symbol.Plus z = z ≡ 43 ∷ []
 IsSymbol symbol.Minus z = z ≡ 45 ∷ []
 
--- a word: a letter or `_`, then letters, digits and `_`, at most 32 bytes; read in lower case
+-- a word: a letter or `_`, then letters, digits and `_`, at most `NAME_LIMIT` bytes; read in lower case
 -- a number: digits, at most 2^63
--- a string: in quotes, with each quote in it twice; its value is a text of at most 4,096 bytes
+-- a string: in quotes, with each quote in it twice; its value is a text of at most `TEXT_LIMIT` bytes
 abbrev pub Spells : Token → List ℕ → Type 0
-Spells (token.Word k) z = IsWord z × (length z ≤ 32) × (keyword (map lower z) ≡ Some k)
-Spells (token.Name n) z = IsWord z × (length z ≤ 32) × (keyword n ≡ None) × (n ≡ map lower z)
+Spells (token.Word k) z = IsWord z × (length z ≤ NAME_LIMIT) × (keyword (map lower z) ≡ Some k)
+Spells (token.Name n) z = IsWord z × (length z ≤ NAME_LIMIT) × (keyword n ≡ None) × (n ≡ map lower z)
 Spells (token.Number n) z = IsDigits z × (n ≡ value z) × (n ≤ 2 ^ 63)
-Spells (token.Text x) z = (z ≡ 39 ∷ doubled x ++ 39 ∷ []) × IsText x × (length x ≤ 4096)
+Spells (token.Text x) z = (z ≡ 39 ∷ doubled x ++ 39 ∷ []) × IsText x × (length x ≤ TEXT_LIMIT)
 Spells (token.Symbol s) z = IsSymbol s z
 
 -- The token is the longest that stands there: what follows doesn't go on with it. Two hyphens never stand side by side.

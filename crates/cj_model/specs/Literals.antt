@@ -4,6 +4,7 @@ use Rattle.std.specs.Fmt.{signed_decimal}
 use Rattle.cj_model.specs.declared.value.Value.{Value}
 use Rattle.cj_model.specs.declared.value.Value.TheVariants as value
 use Rattle.cj_model.specs.declared.term.Term.TheVariants as term
+use Rattle.cj_model.specs.declared.limits.TheConstants.{TEXT_LIMIT}
 use Rattle.cj_model.specs.Words.{IsText}
 use Rattle.cj_model.specs.Lexical.{doubled, Tokens}
 use Rattle.cj_model.specs.TermForms.{ConstForm, number, minus, string, const_tokens, const_meant, ConstFits}
@@ -23,7 +24,7 @@ form_of (value.Text t) = string t
 abbrev pub IsConstant : Value → Type 0
 IsConstant (value.Int (pos n)) = n < 2 ^ 63
 IsConstant (value.Int (negsuc n)) = n < 2 ^ 63
-IsConstant (value.Text t) = IsText t × (length t ≤ 4096)
+IsConstant (value.Text t) = IsText t × (length t ≤ TEXT_LIMIT)
 
 -- the literal of a value reads as a constant, whose value it is
 pub record ReadsBack (v : Value) : Type 0 where

@@ -25,13 +25,14 @@ use Rattle.cj_model.specs.declared.moves.MoveError.TheVariants.{NotNow, NoMemory
 use Rattle.cj_model.specs.declared.moves.OpenRead.{OpenRead}
 use Rattle.cj_model.specs.declared.moves.OpenSession.{OpenSession}
 use Rattle.cj_model.specs.declared.codes.TheConstants.{IN_TRANSACTION, NO_TRANSACTION, SCHEMA_IN_TRANSACTION, NO_BACKEND, READ_FAULT, HISTORY_FULL, SESSIONS_FULL}
+use Rattle.cj_model.specs.declared.limits.TheConstants.{SESSION_LIMIT, SESSION_NUMBER_LIMIT}
 use Rattle.cj_model.specs.Changes.{bare}
 use Rattle.cj_model.specs.Queries.{ask}
 use Rattle.cj_model.specs.Plain.{act_of}
 use Rattle.cj_model.specs.Placements.{concerns}
 use Rattle.cj_model.specs.Histories.{has, log, done, free, opened, enabled, room, at, said, tx_of}
 use Rattle.cj_model.specs.Answering.{ServesAt, Served, Unserved, AnswersEntry}
-use Rattle.cj_model.specs.Cores.{Core, position_at, with_bit, session_limit, session_of, session_at, fresh_session, with_session, is_by}
+use Rattle.cj_model.specs.Cores.{Core, position_at, with_bit, session_of, session_at, fresh_session, with_session, is_by}
 
 abbrev pub Given : Type 0
 Given = Result Moved MoveError
@@ -109,7 +110,7 @@ abbrev pub sessions_full : Core → Refusal
 sessions_full c = record { code = SESSIONS_FULL; a = length c.sessions; b = 0 }
 
 abbrev pub has_no_number : Core → Bool
-has_no_number c = nat_le session_limit (length c.sessions) || nat_le (2 ^ 62) c.greatest
+has_no_number c = nat_le SESSION_LIMIT (length c.sessions) || nat_le SESSION_NUMBER_LIMIT c.greatest
 
 abbrev pub Opens : Core → List ℕ → Given → Core → Type 0
 Opens c user (Ok (moved.Session n)) z =

@@ -1,13 +1,29 @@
--- What a reply is as bytes.
+-- What an outcome and an answer are as replies, and what a reply is as bytes.
 use Rattle.std.specs.Prelude.{ℕ, ◌≡◌, ◌<◌, ◌^◌, List, ◌∷◌, ◌++◌, length, All}
 use Rattle.std.specs.List.{flat_map}
 use Rattle.std.specs.Int.{w16, w32, w64, to_be_bytes, cast_unsigned}
 use Rattle.cj_model.specs.declared.value.Value.{Value}
 use Rattle.cj_model.specs.declared.value.Value.TheVariants.{Int, Text}
 use Rattle.cj_model.specs.declared.answer.Answer.{Answer}
+use Rattle.cj_model.specs.declared.answer.Outcome.{Outcome}
+use Rattle.cj_model.specs.declared.answer.Outcome.TheVariants as outcome
+use Rattle.cj_model.specs.declared.answer.Asked.{Asked}
+use Rattle.cj_model.specs.declared.answer.Asked.TheVariants as asked
 use Rattle.cj_model.specs.declared.answer.Reply.{Reply}
 use Rattle.cj_model.specs.declared.answer.Reply.TheVariants.{Done, Rows, Stats, Refused}
 use Rattle.cj_model.specs.Fields.{str16, str32}
+
+-- ---- what is replied
+
+abbrev pub outcome_reply : Outcome → Reply
+outcome_reply (outcome.Done count) = Done count
+outcome_reply (outcome.Refused refusal) = Refused refusal
+
+abbrev pub asked_reply : Asked → Reply
+asked_reply (asked.Rows answer) = Rows answer
+asked_reply (asked.Refused refusal) = Refused refusal
+
+-- ---- its bytes
 
 -- 01 and two's complement, or 02 and the text
 abbrev pub value_bytes : Value → List ℕ

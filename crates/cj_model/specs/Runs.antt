@@ -17,9 +17,10 @@ use Rattle.cj_model.specs.declared.moves.Moved.{Moved}
 use Rattle.cj_model.specs.declared.moves.Moved.TheVariants as moved
 use Rattle.cj_model.specs.declared.moves.OpenRead.{OpenRead}
 use Rattle.cj_model.specs.declared.moves.OpenSession.{OpenSession}
+use Rattle.cj_model.specs.declared.limits.TheConstants.{REQUEST_LIMIT, USER_LIMIT}
 use Rattle.cj_model.specs.Plain.{act_of, request_of}
 use Rattle.cj_model.specs.Histories.{has, log, done, free, opened, enabled, room, log_faults_of}
-use Rattle.cj_model.specs.Legality.{IsWritten, user_limit}
+use Rattle.cj_model.specs.Legality.{IsWritten}
 use Rattle.cj_model.specs.Answering.{Served}
 use Rattle.cj_model.specs.Placements.{Placement}
 use Rattle.cj_model.specs.Turns.{Seen, Call, Chain, entries_of}
@@ -45,9 +46,9 @@ IsLoneWrite request.Begin = ⊥
 IsLoneWrite request.Commit = ⊥
 IsLoneWrite request.Rollback = ⊥
 
--- What a move asks for: a backend that is there, a request that some text reads as, a user of at most 64 bytes.
+-- What a move asks for: a backend that is there, a request that some text reads as, a user whose name is not too long.
 abbrev pub IsMove : ℕ → Move → Type 0
-IsMove backends (Open user) = length user ≤ user_limit
+IsMove backends (Open user) = length user ≤ USER_LIMIT
 IsMove backends (Close s) = Unit {0}
 IsMove backends (Schedule s r) = IsWritten r × IsLoneWrite r
 IsMove backends (Apply b) = b < backends
@@ -60,7 +61,7 @@ IsMove backends (Enable b) = b < backends
 
 -- each session can make n requests more
 abbrev pub CanCount : Core → ℕ → Type 0
-CanCount c n = (s : ℕ) → (session_at c s).queries + n ≤ 2 ^ 62
+CanCount c n = (s : ℕ) → (session_at c s).queries + n ≤ REQUEST_LIMIT
 
 -- ---- the calls of a session
 

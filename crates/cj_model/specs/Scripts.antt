@@ -21,10 +21,10 @@ use Rattle.cj_model.specs.declared.moves.Moved.TheVariants as moved
 use Rattle.cj_model.specs.declared.moves.Why.{Why}
 use Rattle.cj_model.specs.declared.moves.Made.{Made}
 use Rattle.cj_model.specs.declared.moves.Made.TheVariants as made
+use Rattle.cj_model.specs.declared.limits.TheConstants.{USER_LIMIT}
 use Rattle.cj_model.specs.Words.{IsText}
 use Rattle.cj_model.specs.Grammar.{TextReads}
 use Rattle.cj_model.specs.Plain.{is_plain}
-use Rattle.cj_model.specs.Legality.{user_limit}
 use Rattle.cj_model.specs.Runs.{IsLoneWrite}
 use Rattle.cj_model.specs.Literals.{literal}
 
@@ -43,7 +43,7 @@ pub record IsUser (z : List ℕ) : Type 0 where
   pub text : IsText z
   pub word : IsWord z
   pub some : 0 < length z
-  pub short : length z ≤ user_limit
+  pub short : length z ≤ USER_LIMIT
 
 -- a number in decimal digits, with no sign and no zero before others
 pub record IsNumber (z : List ℕ) (n : ℕ) : Type 0 where

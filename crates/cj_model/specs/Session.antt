@@ -14,20 +14,17 @@ use Rattle.cj_model.specs.declared.request.Request.{Request}
 use Rattle.cj_model.specs.declared.request.Request.TheVariants as request
 use Rattle.cj_model.specs.declared.request.Act.{Act}
 use Rattle.cj_model.specs.declared.request.Act.TheVariants as act
-use Rattle.cj_model.specs.declared.answer.Outcome.{Outcome}
-use Rattle.cj_model.specs.declared.answer.Outcome.TheVariants as outcome
-use Rattle.cj_model.specs.declared.answer.Asked.{Asked}
-use Rattle.cj_model.specs.declared.answer.Asked.TheVariants as asked
 use Rattle.cj_model.specs.declared.answer.Reply.{Reply}
 use Rattle.cj_model.specs.declared.answer.Reply.TheVariants.{Done, Rows, Stats, Refused}
 use Rattle.cj_model.specs.declared.codes.TheConstants.{NOT_LOGGED_IN, SYNTAX, NOT_BUILT}
+use Rattle.cj_model.specs.declared.limits.TheConstants.{FRAME_LIMIT}
 use Rattle.cj_model.specs.Changes.{bare}
 use Rattle.cj_model.specs.Steps.{acted}
 use Rattle.cj_model.specs.Queries.{ask}
 use Rattle.cj_model.specs.Plain.{is_plain, act_of}
 use Rattle.cj_model.specs.Grammar.{TextReads, ReadsNothing}
-use Rattle.cj_model.specs.Replies.{reply_length, reply_bytes}
-use Rattle.cj_model.specs.Frames.{frame_limit, Frames, fault_of}
+use Rattle.cj_model.specs.Replies.{outcome_reply, asked_reply, reply_length, reply_bytes}
+use Rattle.cj_model.specs.Frames.{Frames, fault_of}
 
 -- where a session stands: whether a Login was accepted, and the database
 pub record Session : Type 0 where
@@ -46,14 +43,6 @@ abbrev pub refused : ℕ → Reply
 refused code = Refused (bare code)
 
 -- ---- one request
-
-abbrev pub outcome_reply : Outcome → Reply
-outcome_reply (outcome.Done count) = Done count
-outcome_reply (outcome.Refused r) = Refused r
-
-abbrev pub asked_reply : Asked → Reply
-asked_reply (asked.Rows a) = Rows a
-asked_reply (asked.Refused r) = Refused r
 
 -- what the act of an entry is answered, outside a transaction
 abbrev pub act_reply : List Slot → Act → Reply
@@ -82,7 +71,7 @@ request_reply db r = if is_built r then carried_reply db r else refused NOT_BUIL
 -- what is sent of a reply: rows whose frame would be too long aren't built yet
 abbrev pub limited : Reply → Reply
 limited (Done count) = Done count
-limited (Rows a) = if nat_le (reply_length (Rows a)) frame_limit then Rows a else refused NOT_BUILT
+limited (Rows a) = if nat_le (reply_length (Rows a)) FRAME_LIMIT then Rows a else refused NOT_BUILT
 limited (Stats hits misses) = Stats hits misses
 limited (Refused r) = Refused r
 

@@ -10,11 +10,12 @@ use Rattle.cj_model.specs.declared.request.Act.TheVariants as act
 use Rattle.cj_model.specs.declared.request.Entry.{Entry}
 use Rattle.cj_model.specs.declared.event.Event.{Event}
 use Rattle.cj_model.specs.declared.moves.OpenSession.{OpenSession}
+use Rattle.cj_model.specs.declared.limits.TheConstants.{EVENT_LIMIT, SESSION_LIMIT, SESSION_NUMBER_LIMIT, USER_LIMIT}
 use Rattle.cj_model.specs.Tables.{Rises}
 use Rattle.cj_model.specs.Placements.{Placement, part}
 use Rattle.cj_model.specs.Histories.{has, log, done, free, opened, enabled, log_faults_of, at}
-use Rattle.cj_model.specs.Legality.{IsLegal, user_limit}
-use Rattle.cj_model.specs.Cores.{Core, position_at, session_of, session_limit}
+use Rattle.cj_model.specs.Legality.{IsLegal}
+use Rattle.cj_model.specs.Cores.{Core, position_at, session_of}
 
 -- Where a backend stands: within the log, past each entry that ended where it is enabled, and in no mask. Or out, and then in a mask where it is enabled.
 abbrev pub Stands : List Event → ℕ → ℕ → ℕ → Option ℕ → Type 0
@@ -37,14 +38,14 @@ by_number x y = nat_cmp x.number y.number
 -- an open session's number was given, it has seen no more than the log, and no entry of it is later than its last request
 pub record IsSession (h : List Event) (greatest : ℕ) (x : OpenSession) : Type 0 where
   pub number : (0 < x.number) × (x.number ≤ greatest)
-  pub user : length x.user ≤ user_limit
+  pub user : length x.user ≤ USER_LIMIT
   pub owes : x.least ≤ length (log h)
   pub entries : All (λ (e : Entry). e.session ≡ x.number → e.seq ≤ x.queries) (log h)
 
 pub record IsSound (c : Core) : Type 0 where
   pub legal : IsLegal c.history
   -- there is room for the end of an open entry
-  pub short : length c.history + 2 * (length (log c.history) - done c.history) ≤ 2 ^ 62
+  pub short : length c.history + 2 * (length (log c.history) - done c.history) ≤ EVENT_LIMIT
   pub one_open : (done c.history ≤ length (log c.history)) × (length (log c.history) ≤ done c.history + 1)
   pub cells : length c.positions ≡ c.placement.backends
   pub hosts : (b : ℕ) → enabled c.history b ≡ true → b < length c.positions
@@ -54,8 +55,8 @@ pub record IsSound (c : Core) : Type 0 where
   pub lone : All (λ (e : Entry). IsLone e e.act) (log c.history)
   pub sessions : All (IsSession c.history c.greatest) c.sessions
   pub rises : Rises by_number c.sessions
-  pub few : length c.sessions ≤ session_limit
-  pub numbers : c.greatest ≤ 2 ^ 62
+  pub few : length c.sessions ≤ SESSION_LIMIT
+  pub numbers : c.greatest ≤ SESSION_NUMBER_LIMIT
   pub known : All (λ (e : Entry). e.session ≤ c.greatest) (log c.history)
   -- the log's store failed for no session that has no number yet
   pub log_faults : (s q : ℕ) → c.greatest < s → log_faults_of s q c.history ≡ 0

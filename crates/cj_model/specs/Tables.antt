@@ -14,15 +14,8 @@ use Rattle.cj_model.specs.declared.value.Kind.TheVariants as kind
 use Rattle.cj_model.specs.declared.schema.Column.{Column}
 use Rattle.cj_model.specs.declared.database.Table.{Table}
 use Rattle.cj_model.specs.declared.database.Slot.{Slot}
+use Rattle.cj_model.specs.declared.limits.TheConstants.{COLUMN_LIMIT, ROW_LIMIT}
 use Rattle.cj_model.specs.Values.{kind_of, value_cmp}
-
--- the most columns of a table
-abbrev pub column_limit : ℕ
-column_limit = 16
-
--- the most rows of a table, as committed or as a draft
-abbrev pub row_limit : ℕ
-row_limit = 65536
 
 -- ---- order
 
@@ -80,12 +73,12 @@ fits_columns (c ∷ cs) (v ∷ vs) = same_kind c.kind (kind_of v) && fits_column
 
 -- a schema, and at most so many rows of it in rising key
 pub record IsTable (t : Table) : Type 0 where
-  pub few : length t.schema.columns ≤ column_limit
+  pub few : length t.schema.columns ≤ COLUMN_LIMIT
   pub distinct : is_distinct (column_names t.schema.columns) ≡ true
   pub key : t.schema.key < length t.schema.columns
   pub kinds : All (λ row. fits_columns t.schema.columns row ≡ true) t.rows
   pub rises : Rises (by_key t.schema.key) t.rows
-  pub room : length t.rows ≤ row_limit
+  pub room : length t.rows ≤ ROW_LIMIT
 
 -- ---- databases
 

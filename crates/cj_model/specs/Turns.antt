@@ -9,15 +9,14 @@ use Rattle.cj_model.specs.declared.request.Act.{Act}
 use Rattle.cj_model.specs.declared.request.Act.TheVariants as act
 use Rattle.cj_model.specs.declared.request.Entry.{Entry}
 use Rattle.cj_model.specs.declared.select.Select.{Select}
-use Rattle.cj_model.specs.declared.answer.Asked.{Asked}
-use Rattle.cj_model.specs.declared.answer.Asked.TheVariants as asked
 use Rattle.cj_model.specs.declared.answer.Reply.{Reply}
-use Rattle.cj_model.specs.declared.answer.Reply.TheVariants.{Rows, Refused}
+use Rattle.cj_model.specs.declared.answer.Reply.TheVariants.{Refused}
 use Rattle.cj_model.specs.declared.event.Event.{Event}
 use Rattle.cj_model.specs.declared.event.Event.TheVariants.{Sched, ReadFailed, LogFailed}
 use Rattle.cj_model.specs.declared.codes.TheConstants.{NO_BACKEND, READ_FAULT, LOG_FAULT, NO_MEMORY, HISTORY_FULL}
 use Rattle.cj_model.specs.Changes.{bare}
 use Rattle.cj_model.specs.Queries.{ask}
+use Rattle.cj_model.specs.Replies.{asked_reply}
 use Rattle.cj_model.specs.Plain.{act_of}
 use Rattle.cj_model.specs.Placements.{Placement}
 use Rattle.cj_model.specs.Histories.{has, log, done, free, room, at, log_faults_of, tx_of}
@@ -41,10 +40,6 @@ pub record Call : Type 0 where
 pub record Moment (F G : List Event) (m : ℕ) : Type 0 where
   pub low : length F ≤ m
   pub high : m ≤ length G
-
-abbrev pub reply_of_asked : Asked → Reply
-reply_of_asked (asked.Rows a) = Rows a
-reply_of_asked (asked.Refused r) = Refused r
 
 abbrev pub entry_of : ℕ → Call → Act → Entry
 entry_of s c act = record { session = s; seq = c.number; tx = c.tx; user = c.user; act = act }
@@ -82,7 +77,7 @@ pub record Read (p : Placement) (a : Seen) (c : Call) (z : Seen) : Type 0 where
   pub owed : a.least ≤ z.least
   pub past : done (take m z.front) ≤ z.least
   pub within : z.least ≤ length (log z.front)
-  pub replied : c.reply ≡ reply_of_asked (ask (at (log z.front) z.least) c.tx select)
+  pub replied : c.reply ≡ asked_reply (ask (at (log z.front) z.least) c.tx select)
 
 -- a read in which each backend that serves it failed
 pub record ReadFault (p : Placement) (s : ℕ) (a : Seen) (c : Call) (z : Seen) : Type 0 where

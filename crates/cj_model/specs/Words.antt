@@ -5,6 +5,7 @@ use Rattle.std.specs.declared.option.Option.TheVariants.{None, Some}
 use Rattle.std.specs.Str.{is_utf8}
 use Rattle.std.specs.List.{list_all}
 use Rattle.std.specs.Char.{is_ascii_lowercase, is_ascii_digit, to_ascii_lowercase}
+use Rattle.cj_model.specs.declared.limits.TheConstants.{NAME_LIMIT}
 
 -- a byte in lower case
 abbrev pub lower : ℕ → ℕ
@@ -24,7 +25,7 @@ is_spelled_as_name (b ∷ z) = begins_name b && list_all continues_name z
 
 -- 1 to 32 letters in lower case, digits and `_`, not beginning with a digit
 unfoldable pub is_name : List ℕ → Bool
-is_name bytes = nat_le (length bytes) 32 && is_spelled_as_name bytes
+is_name bytes = nat_le (length bytes) NAME_LIMIT && is_spelled_as_name bytes
 
 -- the bytes as a name, where they are one
 abbrev pub name_of : List ℕ → Option (List ℕ)

@@ -13,6 +13,18 @@ pub struct Refusal {
     pub b: u64,
 }
 
+impl Refusal {
+    ghost use Rattle.std.specs.Prelude.{◌≡◌};
+    ghost use Rattle.cj_model.specs.Changes as changes;
+
+    /// The refusal whose numbers say nothing.
+    pub fn bare(code: u16) -> Refusal
+        ensures { result ≡ changes.bare code }
+    {
+        Refusal { code, a: 0, b: 0 }
+    }
+}
+
 /// The rows of a query: one value for each column.
 #[derive(Drop)]
 pub struct Answer {

@@ -7,9 +7,6 @@ use thiserror::Error;
 
 pub type Bytes = ListOf<u8>;
 
-/// The most bytes of a frame's kind and payload.
-pub const FRAME_LIMIT: u32 = 1_048_576;
-
 /// A client's message.
 #[derive(Drop)]
 pub enum Message {

@@ -6,31 +6,30 @@ ghost use Rattle.std.specs.Str.{bytes_eq};
 ghost use Rattle.cj_model.specs.Words.{lower, name_of, IsNameOrEmpty};
 ghost use Rattle.cj_model.specs.Words as words;
 
+use crate::limits::NAME_LIMIT;
 use crate::list::ListOf;
 use crate::memory::{Duplicate, NoMemory};
 use std::alloc::Global;
 use std::marker::Model;
 
-/// The most bytes of a name.
-pub const NAME_LIMIT: usize = 32;
-
-/// A name: 1 to 32 ASCII letters in lower case, digits and `_`, not beginning with a digit.
+/// A name: 1 to `NAME_LIMIT` ASCII letters in lower case, digits and `_`, not beginning with a digit.
 /// It takes no memory. The empty name stands only where that is said.
 #[derive(Debug, Drop)]
 pub struct Name {
-    bytes: [u8; 32],
+    bytes: [u8; NAME_LIMIT],
     len: u8,
 }
 
 impl Model for Name {
     ghost use Rattle.std.specs.Prelude.{List, ℕ, take, ◌≤◌};
+    ghost use Rattle.cj_model.specs.declared.limits.TheConstants.{NAME_LIMIT};
     ghost use Rattle.cj_model.specs.Words.{IsNameOrEmpty};
 
     ghost Value = { List ℕ };
 
     ghost view = { λ name. take name.len name.bytes };
 
-    ghost invariant = { λ name. (name.len ≤ 32) × IsNameOrEmpty (take name.len name.bytes) };
+    ghost invariant = { λ name. (name.len ≤ NAME_LIMIT) × IsNameOrEmpty (take name.len name.bytes) };
 }
 
 pub type Names = ListOf<Name>;
@@ -71,17 +70,17 @@ fn is_spelled_as_name(bytes: &[u8]) -> bool
 #[tactic(auto, unfolding(crate::specs::Words::is_name))]
 fn is_name(bytes: &[u8]) -> bool
     ensures name { result ≡ words.is_name bytes.now }
-    ensures short { result ≡ true → length bytes.now ≤ 32 }
+    ensures short { result ≡ true → length bytes.now ≤ NAME_LIMIT }
 {
     bytes.len() <= NAME_LIMIT && is_spelled_as_name(bytes)
 }
 
 /// The word in lower case, at the front of a place for names.
-fn lowered(word: &[u8]) -> [u8; 32]
-    requires { length word.now ≤ 32 }
+fn lowered(word: &[u8]) -> [u8; NAME_LIMIT]
+    requires { length word.now ≤ NAME_LIMIT }
     ensures { take (length word.now) result ≡ map lower word.now }
 {
-    let mut place = [0; 32];
+    let mut place = [0; NAME_LIMIT];
     for (i, b) in word.iter().enumerate() {
         place[i] = b.to_ascii_lowercase();
     }
@@ -94,7 +93,7 @@ impl Name {
         ensures { result ≡ [] }
     {
         Name {
-            bytes: [0; 32],
+            bytes: [0; NAME_LIMIT],
             len: 0,
         }
     }
@@ -106,7 +105,7 @@ impl Name {
         if !is_name(bytes) {
             return None;
         }
-        let mut place = [0; 32];
+        let mut place = [0; NAME_LIMIT];
         place[..bytes.len()].copy_from_slice(bytes);
         Some(Name {
             bytes: place,

@@ -2,21 +2,16 @@
 use Rattle.std.proofs.Common.{◌≡◌, ◌↔◌, ℕ, ◌-◌, ◌*◌, ◌^◌, ◌%◌, ◌<◌, ◌≤◌, ◌==◌, true, nat_lt, ap, sym, ◌∙◌, arith, ⊎_elim}
 use Rattle.std.specs.Int.{bit_at}
 use Rattle.std.proofs.lemmas.Bool.{cases_lt, cases_eq, eq-eqb, eqb-true, lt-ltb, le-ltb}
-use Rattle.std.proofs.lemmas.Nat.{pow_below}
 use Rattle.std.proofs.lemmas.Nat.Bits.{bit_at-lt, bit_at_ones, bit_at_ones_above, same_from_bits}
-use Rattle.std.proofs.Math.Nat.{mod-eq_of_lt}
+use Rattle.cj_model.specs.declared.limits.TheConstants.{BACKEND_LIMIT}
 use Rattle.cj_model.specs.Histories.{has}
-use Rattle.cj_model.proofs.MaskBits.{has-shifted}
-
--- a shifted 1 stays below 32 bits
-small : (n : ℕ) → n < 32 → 1 * 2 ^ n % 4294967296 ≡ 2 ^ n
-small n lt = let p = pow_below n 32 lt in let e : 1 * 2 ^ n ≡ 2 ^ n = omega arith in rw e (mod-eq_of_lt p)
+use Rattle.cj_model.proofs.MaskBits.{has-shifted, shifted_one}
 
 -- the ones below a place
-pub has_first : (n c : ℕ) → n ≤ 16 → has (1 * 2 ^ n % 4294967296 - 1) c ≡ nat_lt c n
+pub has_first : (n c : ℕ) → n ≤ BACKEND_LIMIT → has (1 * 2 ^ n % 4294967296 - 1) c ≡ nat_lt c n
 has_first n c le =
     let lt : n < 32 = omega arith in
-    ap (λ m. has (m - 1) c) (small n lt)
+    ap (λ m. has (m - 1) c) (shifted_one n lt)
     ∙ ⊎_elim
     (λ (below : c < n). ap (λ x. x == 1) (bit_at_ones n c below) ∙ sym (lt-ltb c n below))
     (λ (above : n ≤ c). ap (λ x. x == 1) (bit_at_ones_above n c above) ∙ sym (le-ltb c n above))

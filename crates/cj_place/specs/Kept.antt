@@ -5,6 +5,7 @@ use Rattle.std.specs.Str.{bytes_eq}
 use Rattle.std.specs.declared.cmp.Ordering.{Ordering}
 use Rattle.std.specs.List.{list_any}
 use Rattle.cj_model.specs.declared.placement.PlaceRow.{PlaceRow}
+use Rattle.cj_model.specs.declared.limits.TheConstants.{BACKEND_LIMIT}
 use Rattle.cj_model.specs.Histories.{has}
 use Rattle.cj_model.specs.Tables.{Rises}
 use Rattle.cj_place.specs.declared.rows.HostRow.{HostRow}
@@ -30,10 +31,10 @@ given_rows rows = map (λ (row : HostRow). row.given) rows
 abbrev pub mask_in : List HostRow → List ℕ → ℕ
 mask_in rows table = option_map_or (λ (row : HostRow). row.mask) (find (λ (row : HostRow). bytes_eq row.given.table table) rows) 0
 
--- 1 to 16 backends, the rows in rising name of their table with their masks, and an empty name
+-- some backends, not too many, the rows in rising name of their table with their masks, and an empty name
 pub record IsKept (names : List (List ℕ)) (rows : List HostRow) (empty : List ℕ) : Type 0 where
   pub some : 0 < length names
-  pub most : length names ≤ 16
+  pub most : length names ≤ BACKEND_LIMIT
   pub masks : All (IsMasked names) rows
   pub rises : Rises by_row (given_rows rows)
   pub nameless : empty ≡ []

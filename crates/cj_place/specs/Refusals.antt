@@ -8,6 +8,7 @@ use Rattle.std.specs.Str.{bytes_eq}
 use Rattle.cj_model.specs.declared.placement.Level.{Level}
 use Rattle.cj_model.specs.declared.placement.Level.TheVariants.{Raidb0, Raidb1, Raidb2}
 use Rattle.cj_model.specs.declared.placement.PlaceRow.{PlaceRow}
+use Rattle.cj_model.specs.declared.limits.TheConstants.{BACKEND_LIMIT}
 use Rattle.cj_place.specs.declared.error.PlaceError.{PlaceError}
 use Rattle.cj_place.specs.declared.error.PlaceError.TheVariants.{BackendCount, Twice, Stranger, NoHost, ManyHosts, NotAll}
 
@@ -38,9 +39,9 @@ table_where p rows = option_map (λ (row : PlaceRow). row.table) (find p rows)
 
 -- ---- each refusal
 
--- there are 1 to 16 backends
+-- there are some backends, not too many
 abbrev pub has_count : List (List ℕ) → Bool
-has_count backends = nat_le 1 (length backends) && nat_le (length backends) 16
+has_count backends = nat_le 1 (length backends) && nat_le (length backends) BACKEND_LIMIT
 
 -- the first backend that is named twice, or else the first table, or else the first host within a row
 abbrev pub twice : List (List ℕ) → List PlaceRow → Option (List ℕ)

@@ -11,10 +11,12 @@ ghost use Rattle.cj_place.specs.Layouts.{Makes, is_full, layout_of, placement_of
 ghost use Rattle.cj_place.specs.Refusals.{has_count, refusal_of};
 
 use crate::error::PlaceError;
-use crate::masks::{first_bits, has_bit, is_lone_bit};
+use crate::masks::{first_bits, is_lone_bit};
 use crate::refusals::refusal;
 use crate::rows::{HostRow, host_rows, mask_at, number_of};
-use cj_model::{Duplicate, Level, ListOf, Name, Names, NoMemory, PlaceRows, TableSet};
+use cj_model::{
+    BACKEND_LIMIT, Duplicate, Level, ListOf, Name, Names, NoMemory, PlaceRows, TableSet, has_bit,
+};
 use std::alloc::Global;
 use std::marker::Model;
 
@@ -94,7 +96,7 @@ impl Placement {
     pub fn count(&self) -> u8
         ensures count { result ≡ length self.now.names }
         ensures some { 0 < result }
-        ensures most { result ≤ 16 }
+        ensures most { result ≤ BACKEND_LIMIT }
     {
         self.names.len() as u8
     }

@@ -7,10 +7,7 @@ ghost use Rattle.cj_place.specs.Refusals.{bad_level, has_count, is_among, refusa
 ghost use Rattle.cj_place.specs.Refusals as refusals;
 
 use crate::error::PlaceError;
-use cj_model::{Level, Name, PlaceRow};
-
-/// The most backends.
-const BACKEND_LIMIT: usize = 16;
+use cj_model::{BACKEND_LIMIT, Level, Name, PlaceRow};
 
 fn is_among(names: &[Name], name: &Name) -> bool
     ensures { result ≡ refusals.is_among names.now name.now }
@@ -143,7 +140,7 @@ fn refused_by_level(level: Level, backends: &[Name], rows: &[PlaceRow]) -> Optio
 pub fn refusal(level: Level, backends: &[Name], rows: &[PlaceRow]) -> Option<PlaceError>
     ensures { result ≡ refusal_of level backends.now rows.now }
 {
-    if backends.is_empty() || backends.len() > BACKEND_LIMIT {
+    if backends.is_empty() || backends.len() > BACKEND_LIMIT as usize {
         return Some(PlaceError::BackendCount);
     }
     if let Some(name) = twice(backends, rows) {

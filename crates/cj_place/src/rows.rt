@@ -10,8 +10,7 @@ ghost use Rattle.cj_place.specs.Layouts.{by_row};
 ghost use Rattle.cj_place.specs.Layouts as layouts;
 ghost use Rattle.cj_place.specs.Kept.{HasMask, IsMasked, by_given, mask_in};
 
-use crate::masks::with_bit;
-use cj_model::{Duplicate, Name, NoMemory, PlaceRow, PlaceRows};
+use cj_model::{BACKEND_LIMIT, Duplicate, Name, NoMemory, PlaceRow, PlaceRows, with_bit};
 use std::alloc::Global;
 use std::cmp::Ordering;
 
@@ -39,7 +38,7 @@ fn place_in(names: &[Name], name: &Name) -> Option<usize>
 
 /// The number of the backend of a name.
 pub fn number_of(names: &[Name], name: &Name) -> Option<u8>
-    requires { length names.now ≤ 16 }
+    requires { length names.now ≤ BACKEND_LIMIT }
     ensures { result ≡ position (λ n. bytes_eq n name.now) names.now }
 {
     match place_in(names, name) {
@@ -49,7 +48,7 @@ pub fn number_of(names: &[Name], name: &Name) -> Option<u8>
 }
 
 fn with_host(names: &[Name], mask: u32, host: &Name) -> u32
-    requires { length names.now ≤ 16 }
+    requires { length names.now ≤ BACKEND_LIMIT }
     ensures { (b : ℕ) → has result b ≡ (has mask b || (nat_lt b (length names.now) && layouts.number_of names.now host.now == b)) }
 {
     match number_of(names, host) {
@@ -59,7 +58,7 @@ fn with_host(names: &[Name], mask: u32, host: &Name) -> u32
 }
 
 fn mask_of(names: &[Name], hosts: &[Name]) -> u32
-    requires { length names.now ≤ 16 }
+    requires { length names.now ≤ BACKEND_LIMIT }
     ensures { HasMask names.now hosts.now result }
 {
     let mut mask = 0;
@@ -70,7 +69,7 @@ fn mask_of(names: &[Name], hosts: &[Name]) -> u32
 }
 
 fn host_row(names: &[Name], given: PlaceRow) -> HostRow
-    requires { length names.now ≤ 16 }
+    requires { length names.now ≤ BACKEND_LIMIT }
     ensures given { result.given ≡ given }
     ensures mask { IsMasked names.now result }
 {
@@ -105,7 +104,7 @@ fn put_row(rows: &mut Vec<HostRow>, row: HostRow) -> Result<(), NoMemory>
 
 /// The rows in rising name of their table, with their masks.
 pub fn host_rows(alloc: Global, names: &[Name], rows: PlaceRows) -> Result<Vec<HostRow>, NoMemory>
-    requires { length names.now ≤ 16 }
+    requires { length names.now ≤ BACKEND_LIMIT }
     ensures masks { IfOk result (λ made. All (IsMasked names.now) made.items) }
     ensures rows { IfOk result (λ made. map (λ row. row.given) made.items ≡ fold (put_by by_row) [] rows) }
 {

@@ -9,9 +9,8 @@ ghost use Rattle.cj_rows.specs.RowEntries as entries;
 
 use crate::conditions::{bound, matching, mixes_kinds, names_stranger};
 use crate::plan::{Plan, Planned};
-use crate::refusals::bare;
 use cj_expr::{Predicate, Scope};
-use cj_model::{Cond, NO_COLUMN, NoMemory, Row, WRONG_TYPE};
+use cj_model::{Cond, NO_COLUMN, NoMemory, Refusal, Row, WRONG_TYPE};
 use cj_rows::{RowMap, View, key_of};
 use std::alloc::Global;
 
@@ -51,10 +50,10 @@ pub fn deleted(alloc: Global, view: &View, cond: &Option<Cond>) -> Result<Planne
 {
     let scope = Scope::of(alloc, &[view.schema()])?;
     if names_stranger(&scope, cond) {
-        return Ok(Err(bare(NO_COLUMN)));
+        return Ok(Err(Refusal::bare(NO_COLUMN)));
     }
     if mixes_kinds(&scope, cond) {
-        return Ok(Err(bare(WRONG_TYPE)));
+        return Ok(Err(Refusal::bare(WRONG_TYPE)));
     }
     let condition = bound(alloc, &scope, cond)?;
     let planned = without_rows(alloc, view, &condition)?;

@@ -10,16 +10,12 @@ ghost use Rattle.cj_plan.specs.Plans.{PlansChange};
 
 use crate::names::is_distinct;
 use crate::plan::{Plan, Planned};
-use crate::refusals::bare;
 use cj_model::{
-    BAD_COLUMNS, Column, DUPLICATE, Duplicate, NO_COLUMN, Name, Names, NoMemory, ROWS_FULL,
-    Refusal, Row, Rows, Term, Tuple, Value, WRONG_TYPE,
+    BAD_COLUMNS, Column, DUPLICATE, Duplicate, NO_COLUMN, Name, Names, NoMemory, ROW_LIMIT,
+    ROWS_FULL, Refusal, Row, Rows, Term, Tuple, Value, WRONG_TYPE,
 };
 use cj_rows::{RowMap, View, key_in, key_of};
 use std::alloc::Global;
-
-/// The most rows of a table.
-const ROW_LIMIT: usize = 65_536;
 
 /// Whether the values are of the columns' kinds, one for each.
 fn fits_columns(mut columns: &[Column], mut row: &[Value]) -> bool
@@ -209,11 +205,11 @@ fn with_rows(alloc: Global, view: &View, rows: Rows) -> Result<Planned, NoMemory
 {
     view.legal();
     if has_key_of(view, rows.as_slice()) {
-        return Ok(Err(bare(DUPLICATE)));
+        return Ok(Err(Refusal::bare(DUPLICATE)));
     }
     let added = rows.len();
     let Some(changes) = puts(alloc, view.schema().key as usize, rows)? else {
-        return Ok(Err(bare(DUPLICATE)));
+        return Ok(Err(Refusal::bare(DUPLICATE)));
     };
     let count = view.count() + added;
     if count > ROW_LIMIT {
@@ -235,7 +231,7 @@ fn with_fitting_rows(alloc: Global, view: &View, rows: Rows) -> Result<Planned, 
     ensures { PlansChange view.now (with_fitting_rows view.now rows) result }
 {
     if has_misfit(view.schema().columns.as_slice(), rows.as_slice()) {
-        return Ok(Err(bare(WRONG_TYPE)));
+        return Ok(Err(Refusal::bare(WRONG_TYPE)));
     }
     with_rows(alloc, view, rows)
 }
@@ -251,10 +247,10 @@ pub fn inserted(
 {
     let columns = view.schema().columns.as_slice();
     if lists_stranger(columns, names) {
-        return Ok(Err(bare(NO_COLUMN)));
+        return Ok(Err(Refusal::bare(NO_COLUMN)));
     }
     if lists_unevenly(columns, names) || has_uneven(columns.len(), tuples) {
-        return Ok(Err(bare(BAD_COLUMNS)));
+        return Ok(Err(Refusal::bare(BAD_COLUMNS)));
     }
     let rows = rows_of(alloc, columns, names, tuples)?;
     let planned = with_fitting_rows(alloc, view, rows)?;

@@ -6,9 +6,7 @@ mod delete;
 mod insert;
 mod names;
 mod plan;
-mod refusals;
 mod update;
 
 pub use names::is_distinct;
 pub use plan::{Plan, Planned, planned};
-pub use refusals::bare;

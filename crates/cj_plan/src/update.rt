@@ -14,11 +14,10 @@ ghost use Rattle.cj_rows.specs.RowEntries as entries;
 use crate::conditions::{bound, matching, mixes_kinds, names_stranger};
 use crate::names::is_distinct;
 use crate::plan::{Plan, Planned};
-use crate::refusals::bare;
 use cj_expr::{Formula, Predicate, Scope, ValueError, formula_of};
 use cj_model::{
-    BAD_COLUMNS, ColRef, Cond, Duplicate, NO_COLUMN, Names, NoMemory, OVERFLOW, Row, Set, Value,
-    WRONG_TYPE,
+    BAD_COLUMNS, ColRef, Cond, Duplicate, NO_COLUMN, Names, NoMemory, OVERFLOW, Refusal, Row, Set,
+    Value, WRONG_TYPE,
 };
 use cj_rows::{RowMap, View, key_of};
 use std::alloc::Global;
@@ -201,7 +200,7 @@ fn with_new_values(
             count: view.count(),
             written: rows.len() as u64,
         })),
-        None => Ok(Err(bare(OVERFLOW))),
+        None => Ok(Err(Refusal::bare(OVERFLOW))),
     }
 }
 
@@ -234,13 +233,13 @@ pub fn updated(
     let schema = view.schema();
     let scope = Scope::of(alloc, &[schema])?;
     if has_stranger(&scope, sets, when) {
-        return Ok(Err(bare(NO_COLUMN)));
+        return Ok(Err(Refusal::bare(NO_COLUMN)));
     }
     if sets_badly(alloc, &scope, schema.key as usize, sets)? {
-        return Ok(Err(bare(BAD_COLUMNS)));
+        return Ok(Err(Refusal::bare(BAD_COLUMNS)));
     }
     if has_mixed_kinds(&scope, sets, when) {
-        return Ok(Err(bare(WRONG_TYPE)));
+        return Ok(Err(Refusal::bare(WRONG_TYPE)));
     }
     let planned = with_assignments(alloc, view, &scope, sets, when)?;
     Ok(planned)

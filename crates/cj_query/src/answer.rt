@@ -2,7 +2,6 @@
 
 ghost use Rattle.std.specs.Prelude.{◌≡◌, [], ◌∷◌, map, IfOk};
 ghost use Rattle.std.specs.Map.Iter.{deref};
-ghost use Rattle.cj_model.specs.Changes as changes;
 ghost use Rattle.cj_model.specs.Order.{cut};
 ghost use Rattle.cj_model.specs.Queries as queries;
 ghost use Rattle.cj_query.specs.Counted as counted;
@@ -15,13 +14,6 @@ use crate::project::{counts_row, names_of, project};
 use cj_expr::{Scope, ValueError};
 use cj_model::{Answer, Asked, NoMemory, OVERFLOW, Refusal, Row, Rows, Select};
 use std::alloc::Global;
-
-/// The refusal with this code, whose numbers say nothing.
-pub fn bare(code: u16) -> Refusal
-    ensures { result ≡ changes.bare code }
-{
-    Refusal { code, a: 0, b: 0 }
-}
 
 /// Keeps at most so many groups, from the front.
 fn cut_groups(groups: &mut Vec<&[&Row]>, limit: Option<u64>)
@@ -46,7 +38,7 @@ fn answer_groups(
             let columns = names_of(alloc, scope, &select.items)?;
             Ok(Asked::Rows(Answer { columns, rows }))
         }
-        Err(ValueError::Overflow) => Ok(Asked::Refused(bare(OVERFLOW))),
+        Err(ValueError::Overflow) => Ok(Asked::Refused(Refusal::bare(OVERFLOW))),
         Err(ValueError::NoMemory) => Err(NoMemory),
     }
 }

@@ -3,7 +3,7 @@ use Rattle.std.specs.Prelude.{◌≡◌, ℕ, ◌-◌, ◌^◌, ◌<◌, ◌≤�
 use Rattle.std.specs.Global.{Vec}
 use Rattle.cj_model.specs.declared.answer.Reply.{Reply}
 use Rattle.cj_model.specs.declared.answer.Reply.TheVariants.{Done, Rows, Stats, Refused}
-use Rattle.cj_model.specs.Frames.{frame_limit}
+use Rattle.cj_model.specs.declared.limits.TheConstants.{FRAME_LIMIT}
 use Rattle.cj_model.specs.Replies.{reply_bytes, reply_length, IsEven}
 use Rattle.cj_reply.specs.declared.reply.ReplyError.{ReplyError}
 use Rattle.cj_reply.specs.declared.reply.ReplyError.TheVariants.{TooLarge, NoMemory}
@@ -21,6 +21,6 @@ IsSendable (Refused r) = Unit {0}
 
 -- its frame, where that is within the limit, and else how large it would be
 abbrev pub Encodes : Reply → Result (Vec ℕ) ReplyError → Type 0
-Encodes reply (Ok frame) = (frame.items ≡ reply_bytes reply) × (reply_length reply ≤ frame_limit)
-Encodes reply (Err (TooLarge n)) = (frame_limit < reply_length reply) × (n ≡ capped (reply_length reply))
-Encodes reply (Err NoMemory) = reply_length reply ≤ frame_limit
+Encodes reply (Ok frame) = (frame.items ≡ reply_bytes reply) × (reply_length reply ≤ FRAME_LIMIT)
+Encodes reply (Err (TooLarge n)) = (FRAME_LIMIT < reply_length reply) × (n ≡ capped (reply_length reply))
+Encodes reply (Err NoMemory) = reply_length reply ≤ FRAME_LIMIT

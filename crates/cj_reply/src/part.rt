@@ -3,11 +3,10 @@
 ghost use Rattle.std.specs.Prelude.{◌≡◌, ◌≤◌, ◌++◌, ℕ, List, length, OnOk};
 ghost use Rattle.std.specs.List.{flat_map};
 ghost use Rattle.cj_model.specs.Fields.{str16};
-ghost use Rattle.cj_model.specs.Frames.{frame_limit};
 ghost use Rattle.cj_model.specs.Replies.{value_bytes};
 ghost use Rattle.cj_reply.specs.Encode.{capped};
 
-use cj_model::{ListOf, Name, NoMemory, Value};
+use cj_model::{FRAME_LIMIT, ListOf, Name, NoMemory, Value};
 
 /// A part of a payload: a name behind its length, a value behind its kind, or a list of such parts.
 pub trait Part {
@@ -19,7 +18,7 @@ pub trait Part {
 
     /// Adds its bytes to a frame.
     fn append(&self, frame: &mut Vec<u8>) -> Result<(), NoMemory>
-        requires { length (bytes self.now) ≤ frame_limit }
+        requires { length (bytes self.now) ≤ FRAME_LIMIT }
         ensures { OnOk result (frame.new.items ≡ frame.old.items ++ bytes self.now) };
 }
 

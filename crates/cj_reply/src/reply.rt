@@ -1,7 +1,6 @@
 //! Replies as bytes.
 
 ghost use Rattle.std.specs.Prelude.{◌≡◌, ◌≤◌, ◌++◌, IfOk, OnOk};
-ghost use Rattle.cj_model.specs.Frames.{frame_limit};
 ghost use Rattle.cj_model.specs.Replies.{reply_body, reply_bytes, reply_length, IsEven};
 ghost use Rattle.cj_model.specs.declared.answer.Reply.TheVariants.{Done, Rows, Stats, Refused};
 ghost use Rattle.cj_reply.specs.Encode.{capped, Encodes, IsSendable};
@@ -82,7 +81,7 @@ fn answer_size(answer: &Answer) -> u64
 /// Adds an answer's kind and payload to a frame.
 fn append_answer(frame: &mut Vec<u8>, answer: &Answer) -> Result<(), NoMemory>
     requires even { IsEven answer.now }
-    requires size { reply_length (Rows answer.now) ≤ frame_limit }
+    requires size { reply_length (Rows answer.now) ≤ FRAME_LIMIT }
     ensures { OnOk result (frame.new.items ≡ frame.old.items ++ reply_body (Rows answer.now)) }
 {
     frame.push(0x82)?;
@@ -97,7 +96,7 @@ fn append_answer(frame: &mut Vec<u8>, answer: &Answer) -> Result<(), NoMemory>
 fn answer_frame(alloc: Global, answer: &Answer, size: u32) -> Result<Vec<u8>, NoMemory>
     requires even { IsEven answer.now }
     requires size { size ≡ reply_length (Rows answer.now) }
-    requires limit { size ≤ frame_limit }
+    requires limit { size ≤ FRAME_LIMIT }
     ensures { IfOk result (λ frame. frame.items ≡ reply_bytes (Rows answer.now)) }
 {
     let mut frame = Vec::with_capacity(alloc, 4 + size as usize)?;

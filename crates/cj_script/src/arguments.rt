@@ -6,16 +6,13 @@ ghost use Rattle.cj_model.specs.Scripts.{IsPlainSql, IsUser, IsWrite};
 ghost use Rattle.cj_script.specs.Reading.{Arguments, Closes, Finds, IsQuery, Opens, Queries, Writes};
 
 use crate::verb::Verb;
-use crate::words::{MOST_BACKENDS, backend, is_word, named, number, numbered};
-use cj_model::{Move, Names, NoMemory, Request, Select, Text};
+use crate::words::{backend, is_word, named, number, numbered};
+use cj_model::{BACKEND_LIMIT, Move, Names, NoMemory, Request, Select, Text, USER_LIMIT};
 use cj_sql::{SqlError, is_plain, read};
 use std::alloc::Global;
 
-/// The most bytes of a user's name.
-const USER_LIMIT: usize = 64;
-
 fn is_short(word: &[u8]) -> bool
-    ensures { IsTrue result ↔ ((0 < length word.now) × (length word.now ≤ 64)) }
+    ensures { IsTrue result ↔ ((0 < length word.now) × (length word.now ≤ USER_LIMIT)) }
 {
     !word.is_empty() && word.len() <= USER_LIMIT
 }
@@ -124,7 +121,7 @@ fn plain_query(alloc: Global, sql: &[u8]) -> Result<Option<Select>, NoMemory>
 
 /// "read S B SQL"
 fn query(alloc: Global, names: &Names, rest: &[u8]) -> Result<Option<Move>, NoMemory>
-    requires { length names.now ≤ MOST_BACKENDS }
+    requires { length names.now ≤ BACKEND_LIMIT }
     ensures { IfOk result (Finds (Queries names.now rest.now)) }
 {
     let Some((session, more)) = numbered(rest) else {
@@ -146,7 +143,7 @@ pub fn arguments(
     verb: Verb,
     rest: &[u8],
 ) -> Result<Option<Move>, NoMemory>
-    requires { length names.now ≤ MOST_BACKENDS }
+    requires { length names.now ≤ BACKEND_LIMIT }
     ensures { IfOk result (Finds (Arguments names.now verb rest.now)) }
 {
     match verb {

@@ -11,4 +11,3 @@ mod words;
 pub use parse::parse_move;
 pub use play::{ScriptEnd, script};
 pub use print::print_made;
-pub use words::MOST_BACKENDS;

@@ -6,8 +6,8 @@ ghost use Rattle.cj_script.specs.Reading.{Finds, IsLone};
 
 use crate::arguments::arguments;
 use crate::verb::verb_of;
-use crate::words::{MOST_BACKENDS, cut};
-use cj_model::{Move, Names, NoMemory};
+use crate::words::cut;
+use cj_model::{BACKEND_LIMIT, Move, Names, NoMemory};
 use std::alloc::Global;
 
 /// The move of a line that is one word.
@@ -23,7 +23,7 @@ fn lone(word: &[u8]) -> Option<Move>
 
 /// The move of a line, which is given without its LF; none exactly where it is no move's line. Backends go by their names.
 pub fn parse_move(alloc: Global, names: &Names, line: &[u8]) -> Result<Option<Move>, NoMemory>
-    requires { length names.now ≤ MOST_BACKENDS }
+    requires { length names.now ≤ BACKEND_LIMIT }
     ensures { IfOk result (Finds (MoveLine names.now line.now)) }
 {
     match cut(line) {

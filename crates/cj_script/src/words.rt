@@ -9,10 +9,7 @@ ghost use Rattle.cj_model.specs.Scripts.{IsBackend, IsNumber, IsWord};
 ghost use Rattle.cj_script.specs.Reading.{Cuts, Finds, IsFirstSpace, IsNamed, IsNumbered};
 ghost use Rattle.cj_script.specs.Reading as spec;
 
-use cj_model::{Name, Names};
-
-/// The most backends that lines may name.
-pub const MOST_BACKENDS: usize = 32;
+use cj_model::{BACKEND_LIMIT, Name, Names};
 
 /// The place of the first space.
 fn first_space(bytes: &[u8]) -> Option<usize>
@@ -107,7 +104,7 @@ fn place_of(names: &[Name], word: &[u8]) -> Option<usize>
 
 /// The first backend of this name.
 pub fn backend(names: &Names, word: &[u8]) -> Option<u8>
-    requires { length names.now ≤ MOST_BACKENDS }
+    requires { length names.now ≤ BACKEND_LIMIT }
     ensures { Finds (IsBackend names.now word.now) result }
 {
     if !is_word(word) {
@@ -121,7 +118,7 @@ pub fn backend(names: &Names, word: &[u8]) -> Option<u8>
 
 /// The backend that the first word names, and what follows it.
 pub fn named<'a>(names: &Names, rest: &'a [u8]) -> Option<(u8, &'a [u8])>
-    requires { length names.now ≤ MOST_BACKENDS }
+    requires { length names.now ≤ BACKEND_LIMIT }
     ensures { MatchOption result ((b : ℕ) → (more : List ℕ) → IsNamed names.now rest.now b more → ⊥) (λ found. IsNamed names.now rest.now found.0 found.1.now) }
 {
     match cut(rest) {

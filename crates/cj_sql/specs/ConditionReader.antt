@@ -8,6 +8,7 @@ use Rattle.cj_model.specs.declared.token.Symbol.{Symbol}
 use Rattle.cj_model.specs.declared.token.Symbol.TheVariants as symbol
 use Rattle.cj_model.specs.declared.term.Cmp.{Cmp}
 use Rattle.cj_model.specs.declared.term.Cmp.TheVariants as cmp
+use Rattle.cj_model.specs.declared.limits.TheConstants.{DEPTH_LIMIT, TEST_LIMIT}
 use Rattle.cj_model.specs.Conditions.{Condition, Test, Not, And, Or}
 use Rattle.cj_sql.specs.Reader.{Read, refused, read, and_then, Reader, sees_word, sees_symbol, symbol_at, expect_symbol}
 use Rattle.cj_sql.specs.TermReader.{term}
@@ -96,7 +97,7 @@ prim (suc depth) i =
 
 -- a whole condition
 unfoldable pub condition : Reader Condition
-condition ts = and_then (cond (prim 64) (at ts 256)) (λ c o. read c o.rest)
+condition ts = and_then (cond (prim DEPTH_LIMIT) (at ts TEST_LIMIT)) (λ c o. read c o.rest)
 
 -- [ WHERE cond ]
 unfoldable pub filter : Reader (Option Condition)

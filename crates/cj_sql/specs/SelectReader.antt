@@ -12,6 +12,7 @@ use Rattle.cj_model.specs.declared.select.Items.TheVariants as items_of
 use Rattle.cj_model.specs.declared.select.Key.{Key}
 use Rattle.cj_model.specs.declared.request.Request.{Request}
 use Rattle.cj_model.specs.declared.request.Request.TheVariants as request
+use Rattle.cj_model.specs.declared.limits.TheConstants.{ITEM_LIMIT, KEY_LIMIT, TABLE_LIMIT}
 use Rattle.cj_model.specs.Tables.{is_distinct}
 use Rattle.cj_model.specs.Grammar.{aggregates}
 use Rattle.cj_sql.specs.Reader.{refused, read, and_then, Reader, sees_word, sees_symbol, name, number, expect_word, expect_symbol, items}
@@ -45,7 +46,7 @@ item ts =
 unfoldable pub listed : Reader Items
 listed ts =
     if sees_symbol symbol.Star ts then read items_of.All (drop 1 ts)
-    else and_then (items item 16 ts) (λ xs rest. read (items_of.Listed xs) rest)
+    else and_then (items item ITEM_LIMIT ts) (λ xs rest. read (items_of.Listed xs) rest)
 
 -- ---- what follows the tables
 
@@ -70,7 +71,7 @@ key ts = and_then (column ts) (λ c ts. and_then (direction ts) (λ d rest. read
 
 -- [ ORDER BY key { "," key } ]
 unfoldable pub order : Reader (List Key)
-order ts = if sees_word word.Order ts then and_then (expect_word word.By (drop 1 ts)) (λ _ rest. items key 4 rest) else read [] ts
+order ts = if sees_word word.Order ts then and_then (expect_word word.By (drop 1 ts)) (λ _ rest. items key KEY_LIMIT rest) else read [] ts
 
 -- [ LIMIT number ]
 unfoldable pub limit : Reader (Option ℕ)
@@ -89,7 +90,7 @@ unfoldable pub select : Reader Request
 select ts =
     and_then (listed ts) (λ xs ts.
     and_then (expect_word word.From ts) (λ _ ts.
-    and_then (items name 4 ts) (λ tables ts.
+    and_then (items name TABLE_LIMIT ts) (λ tables ts.
     and_then (filter ts) (λ c ts.
     and_then (group ts) (λ g ts.
     and_then (order ts) (λ o ts.

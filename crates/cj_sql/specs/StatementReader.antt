@@ -13,6 +13,7 @@ use Rattle.cj_model.specs.declared.write.Set.{Set}
 use Rattle.cj_model.specs.declared.write.Write.TheVariants as write
 use Rattle.cj_model.specs.declared.request.Request.{Request}
 use Rattle.cj_model.specs.declared.request.Request.TheVariants as request
+use Rattle.cj_model.specs.declared.limits.TheConstants.{COLUMN_LIMIT, TUPLE_LIMIT}
 use Rattle.cj_sql.specs.Reader.{refused, read, and_then, Reader, sees_word, sees_symbol, sees_end, name, expect_word, expect_symbol, items}
 use Rattle.cj_sql.specs.TermReader.{constant, expr}
 use Rattle.cj_sql.specs.ConditionReader.{filter}
@@ -41,7 +42,7 @@ create ts =
     and_then (expect_word word.Table ts) (λ _ ts.
     and_then (name ts) (λ n ts.
     and_then (expect_symbol symbol.Open ts) (λ _ ts.
-    and_then (items coldef 16 ts) (λ cs ts.
+    and_then (items coldef COLUMN_LIMIT ts) (λ cs ts.
     and_then (expect_symbol symbol.Close ts) (λ _ rest.
     read (request.Create (record { table = n; columns = cs })) rest)))))
 
@@ -55,14 +56,14 @@ drop_table ts = and_then (expect_word word.Table ts) (λ _ ts. and_then (name ts
 unfoldable pub tuple : Reader (List Term)
 tuple ts =
     and_then (expect_symbol symbol.Open ts) (λ _ ts.
-    and_then (items constant 16 ts) (λ xs ts.
+    and_then (items constant COLUMN_LIMIT ts) (λ xs ts.
     and_then (expect_symbol symbol.Close ts) (λ _ rest. read xs rest)))
 
 -- [ "(" name { "," name } ")" ]
 unfoldable pub columns : Reader (Option (List (List ℕ)))
 columns ts =
     if sees_symbol symbol.Open ts then
-    and_then (items name 16 (drop 1 ts)) (λ names ts.
+    and_then (items name COLUMN_LIMIT (drop 1 ts)) (λ names ts.
     and_then (expect_symbol symbol.Close ts) (λ _ rest. read (Some names) rest))
     else read None ts
 
@@ -73,7 +74,7 @@ insert ts =
     and_then (name ts) (λ n ts.
     and_then (columns ts) (λ names ts.
     and_then (expect_word word.Values ts) (λ _ ts.
-    and_then (items tuple 4096 ts) (λ rows rest.
+    and_then (items tuple TUPLE_LIMIT ts) (λ rows rest.
     read (request.Write (write.Insert n names rows)) rest)))))
 
 -- ---- UPDATE and DELETE
@@ -90,7 +91,7 @@ unfoldable pub update : Reader Request
 update ts =
     and_then (name ts) (λ n ts.
     and_then (expect_word word.Set ts) (λ _ ts.
-    and_then (items assignment 16 ts) (λ sets ts.
+    and_then (items assignment COLUMN_LIMIT ts) (λ sets ts.
     and_then (filter ts) (λ c rest.
     read (request.Write (write.Update n sets c)) rest))))
 

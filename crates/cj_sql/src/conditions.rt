@@ -1,5 +1,5 @@
-//! Conditions. A condition has at most 256 comparisons, and none of its places lies in more than 64
-//! NOTs and parentheses, so neither reading nor dropping one goes deep.
+//! Conditions. A condition has at most `TEST_LIMIT` comparisons, and none of its places lies in more
+//! than `DEPTH_LIMIT` NOTs and parentheses, so neither reading nor dropping one goes deep.
 
 ghost use Rattle.std.specs.Prelude.{◌≡◌, IfOk};
 ghost use Rattle.cj_model.specs.ConditionShape.{shape};
@@ -11,14 +11,8 @@ ghost use Rattle.cj_sql.specs.ConditionReader.{at};
 use crate::terms::term;
 use crate::tokens::Tokens;
 use cj_lex::SqlError;
-use cj_model::{Cmp, Cond, CondNode, Keyword, Symbol};
+use cj_model::{Cmp, Cond, CondNode, DEPTH_LIMIT, Keyword, Symbol, TEST_LIMIT};
 use std::alloc::{AllocError, Global};
-
-/// The most comparisons of a condition.
-const TEST_LIMIT: usize = 256;
-
-/// The most NOTs and parentheses that are open at one place.
-const DEPTH_LIMIT: usize = 64;
 
 fn not(alloc: Global, inner: CondNode) -> Result<CondNode, AllocError>
     ensures { IfOk result (λ node. shape node ≡ tree.Not (shape inner)) }

@@ -6,11 +6,8 @@ ghost use Rattle.cj_sql.specs.StatementReader as spec;
 use crate::list::{Element, items};
 use crate::tokens::Tokens;
 use cj_lex::SqlError;
-use cj_model::{ColDef, Create, Keyword, Kind, Request, Symbol};
+use cj_model::{COLUMN_LIMIT, ColDef, Create, Keyword, Kind, Request, Symbol};
 use std::alloc::Global;
-
-/// The most columns of a table.
-const COLUMN_LIMIT: usize = 16;
 
 #[tactic(auto, unfolding(crate::specs::StatementReader::kind_of))]
 fn kind(tokens: &mut Tokens) -> Result<Kind, SqlError>

@@ -6,17 +6,10 @@ ghost use Rattle.cj_sql.specs.StatementReader as spec;
 use crate::list::{Element, items};
 use crate::tokens::Tokens;
 use cj_lex::SqlError;
-use cj_model::{Keyword, Name, Names, Request, Symbol, Term, Tuple, Write};
+use cj_model::{
+    COLUMN_LIMIT, Keyword, Name, Names, Request, Symbol, TUPLE_LIMIT, Term, Tuple, Write,
+};
 use std::alloc::Global;
-
-/// The most names in the list of an INSERT.
-const NAME_LIMIT: usize = 16;
-
-/// The most constants of a tuple.
-const TUPLE_LIMIT: usize = 16;
-
-/// The most tuples of an INSERT.
-const ROW_LIMIT: usize = 4096;
 
 impl Element for Tuple {
     ghost use Rattle.cj_sql.specs.StatementReader.{tuple};
@@ -26,7 +19,7 @@ impl Element for Tuple {
     #[tactic(auto, unfolding(crate::specs::StatementReader::tuple))]
     fn read(alloc: Global, tokens: &mut Tokens) -> Result<Tuple, SqlError> {
         tokens.expect_symbol(Symbol::Open)?;
-        let constants = items::<Term>(alloc, tokens, TUPLE_LIMIT)?;
+        let constants = items::<Term>(alloc, tokens, COLUMN_LIMIT)?;
         tokens.expect_symbol(Symbol::Close)?;
         Ok(constants)
     }
@@ -40,7 +33,7 @@ fn columns(alloc: Global, tokens: &mut Tokens) -> Result<Option<Names>, SqlError
     if !tokens.eat_symbol(Symbol::Open) {
         return Ok(None);
     }
-    let names = items::<Name>(alloc, tokens, NAME_LIMIT)?;
+    let names = items::<Name>(alloc, tokens, COLUMN_LIMIT)?;
     tokens.expect_symbol(Symbol::Close)?;
     Ok(Some(names))
 }
@@ -54,7 +47,7 @@ pub fn insert(alloc: Global, tokens: &mut Tokens) -> Result<Request, SqlError>
     let table = tokens.name()?;
     let columns = columns(alloc, tokens)?;
     tokens.expect_word(Keyword::Values)?;
-    let rows = items::<Tuple>(alloc, tokens, ROW_LIMIT)?;
+    let rows = items::<Tuple>(alloc, tokens, TUPLE_LIMIT)?;
     Ok(Request::Write(Write::Insert {
         table,
         columns,

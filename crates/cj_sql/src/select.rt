@@ -13,17 +13,11 @@ use crate::list::{Element, items};
 use crate::terms::column;
 use crate::tokens::Tokens;
 use cj_lex::SqlError;
-use cj_model::{ColRef, Item, Items, Key, Keys, Keyword, ListOf, Name, Request, Select, Symbol};
+use cj_model::{
+    ColRef, ITEM_LIMIT, Item, Items, KEY_LIMIT, Key, Keys, Keyword, ListOf, Name, Request, Select,
+    Symbol, TABLE_LIMIT,
+};
 use std::alloc::Global;
-
-/// The most items of an answer's row.
-const ITEM_LIMIT: usize = 16;
-
-/// The most tables of a query.
-const TABLE_LIMIT: usize = 4;
-
-/// The most keys of ORDER BY.
-const KEY_LIMIT: usize = 4;
 
 /// What follows COUNT.
 #[tactic(auto, unfolding(crate::specs::SelectReader::count))]

@@ -8,11 +8,8 @@ use crate::list::{Element, items};
 use crate::terms::expr;
 use crate::tokens::Tokens;
 use cj_lex::SqlError;
-use cj_model::{Keyword, Request, Set, Symbol, Write};
+use cj_model::{COLUMN_LIMIT, Keyword, Request, Set, Symbol, Write};
 use std::alloc::Global;
-
-/// The most assignments of an UPDATE.
-const SET_LIMIT: usize = 16;
 
 impl Element for Set {
     ghost use Rattle.cj_sql.specs.StatementReader.{assignment};
@@ -35,7 +32,7 @@ pub fn update(alloc: Global, tokens: &mut Tokens) -> Result<Request, SqlError>
 {
     let table = tokens.name()?;
     tokens.expect_word(Keyword::Set)?;
-    let sets = items::<Set>(alloc, tokens, SET_LIMIT)?;
+    let sets = items::<Set>(alloc, tokens, COLUMN_LIMIT)?;
     let cond = filter(alloc, tokens)?;
     Ok(Request::Write(Write::Update { table, sets, cond }))
 }

@@ -7,7 +7,6 @@ ghost use Rattle.cj_model.specs.Tables.{table_of};
 
 use crate::slots::find;
 use cj_model::{LOCKED, NO_TABLE, Name, Outcome, Refusal};
-use cj_plan::bare;
 use cj_rows::StoredTable;
 use std::alloc::Global;
 
@@ -23,7 +22,7 @@ pub fn drop_slot(slots: &mut Vec<StoredTable>, name: &Name) -> Outcome
     ensures slots { slots.new.items ≡ (dropped slots.old.items name.now).db }
 {
     match find(slots, name) {
-        None => Outcome::Refused(bare(NO_TABLE)),
+        None => Outcome::Refused(Refusal::bare(NO_TABLE)),
         Some(slot) => match slot.writer() {
             Some(tx) => Outcome::Refused(Refusal {
                 code: LOCKED,

@@ -2,9 +2,8 @@
 
 ghost use Rattle.std.specs.Prelude.{◌≡◌, ◌<◌, ◌≤◌, ◌==◌, count_by, length, map, position, unwrap_or, IfOk};
 ghost use Rattle.cj_model.specs.Steps as steps;
-ghost use Rattle.cj_model.specs.Tables as tables;
 
-use cj_model::{ColDef, Column, Columns, Create, Names, NoMemory, Schema};
+use cj_model::{COLUMN_LIMIT, ColDef, Column, Columns, Create, Names, NoMemory, Schema};
 use cj_plan::is_distinct;
 use cj_rows::StoredTable;
 use std::alloc::Global;
@@ -53,7 +52,7 @@ fn key_position(columns: &[ColDef]) -> Option<usize>
 }
 
 fn key_place(columns: &[ColDef]) -> u16
-    requires { length columns.now ≤ tables.column_limit }
+    requires { length columns.now ≤ COLUMN_LIMIT }
     ensures { result ≡ unwrap_or (position (λ c. c.key) columns.now) 0 }
 {
     match key_position(columns) {
@@ -63,7 +62,7 @@ fn key_place(columns: &[ColDef]) -> u16
 }
 
 fn schema_of(alloc: Global, create: &Create) -> Result<Schema, NoMemory>
-    requires { length create.now.columns ≤ tables.column_limit }
+    requires { length create.now.columns ≤ COLUMN_LIMIT }
     ensures { IfOk result (λ schema. schema ≡ steps.schema_of create.now) }
 {
     let columns = create.columns.as_slice();
@@ -76,7 +75,7 @@ fn schema_of(alloc: Global, create: &Create) -> Result<Schema, NoMemory>
 
 /// The new table, with no rows.
 pub fn empty_table(alloc: Global, create: &Create) -> Result<StoredTable, NoMemory>
-    requires { length create.now.columns ≤ tables.column_limit }
+    requires { length create.now.columns ≤ COLUMN_LIMIT }
     ensures { IfOk result (λ slot. slot ≡ steps.empty_slot create.now) }
 {
     let schema = schema_of(alloc, create)?;

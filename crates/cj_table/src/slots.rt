@@ -6,15 +6,16 @@ ghost use Rattle.cj_model.specs.Gaps.{IsPlace};
 ghost use Rattle.cj_model.specs.Steps as steps;
 ghost use Rattle.cj_model.specs.Steps.{written};
 ghost use Rattle.cj_model.specs.Updates.{change};
-ghost use Rattle.cj_model.specs.Tables.{IsDatabase, IsSlot, by_table, column_limit, put_by, slot_of, table_of};
+ghost use Rattle.cj_model.specs.Tables.{IsDatabase, IsSlot, by_table, put_by, slot_of, table_of};
 ghost use Rattle.cj_table.specs.Carried.{Carries, CarriesSlot, change_of};
 ghost use Rattle.cj_plan.specs.Plans.{PlansChange};
 
 use crate::schemas::{empty_table, makes_schema};
 use cj_model::{
-    BAD_COLUMNS, Create, LOCKED, NO_TABLE, Name, NoMemory, Outcome, Refusal, TABLE_EXISTS, Write,
+    BAD_COLUMNS, COLUMN_LIMIT, Create, LOCKED, NO_TABLE, Name, NoMemory, Outcome, Refusal,
+    TABLE_EXISTS, Write,
 };
-use cj_plan::{Planned, bare, planned};
+use cj_plan::{Planned, planned};
 use cj_rows::{StoredTable, View};
 use std::alloc::Global;
 use std::cmp::Ordering;
@@ -92,7 +93,7 @@ pub fn write_slots(
     ensures { Carries slots.old.items (written slots.old.items tx write.now) result slots.new.items }
 {
     match position_of(slots, table_written(write)) {
-        None => Ok(Outcome::Refused(bare(NO_TABLE))),
+        None => Ok(Outcome::Refused(Refusal::bare(NO_TABLE))),
         Some(place) => {
             let slot = &mut slots[place];
             write_slot(alloc, slot, tx, write)
@@ -138,14 +139,14 @@ pub fn create_slot(
     slots: &mut Vec<StoredTable>,
     create: &Create,
 ) -> Result<Outcome, NoMemory>
-    requires { length create.now.columns ≤ column_limit }
+    requires { length create.now.columns ≤ COLUMN_LIMIT }
     ensures { Carries slots.old.items (steps.created slots.old.items create.now) result slots.new.items }
 {
     if has_table(slots, &create.table) {
-        return Ok(Outcome::Refused(bare(TABLE_EXISTS)));
+        return Ok(Outcome::Refused(Refusal::bare(TABLE_EXISTS)));
     }
     if !makes_schema(alloc, create.columns.as_slice())? {
-        return Ok(Outcome::Refused(bare(BAD_COLUMNS)));
+        return Ok(Outcome::Refused(Refusal::bare(BAD_COLUMNS)));
     }
     let slot = empty_table(alloc, create)?;
     put_slot(slots, slot)?;

@@ -3,14 +3,14 @@
 ghost use Rattle.std.specs.Prelude.{◌≡◌, ◌≤◌, [], length, map, option_map, IfOk, OnOk, OnErr};
 ghost use Rattle.cj_model.specs.Storable.{writers};
 ghost use Rattle.cj_model.specs.Steps.{aborted, committed, created, dropped, seen, written};
-ghost use Rattle.cj_model.specs.Tables.{IsDatabase, column_limit, slot_of};
+ghost use Rattle.cj_model.specs.Tables.{IsDatabase, slot_of};
 ghost use Rattle.cj_table.specs.Carried.{Carries};
 
 use crate::conversion::{copied_slots, stored_slots};
 use crate::ends::{abort_slots, commit_slots, drop_slot};
 use crate::slots::{create_slot, find, write_slots};
 use crate::writers::writers_in;
-use cj_model::{Create, Db, Name, NoMemory, Outcome, Write};
+use cj_model::{COLUMN_LIMIT, Create, Db, Name, NoMemory, Outcome, Write};
 use cj_rows::{StoredTable, View};
 use std::alloc::Global;
 use std::marker::Model;
@@ -55,7 +55,7 @@ impl Tables {
 
     /// CREATE TABLE; want of memory changes nothing.
     pub fn create(&mut self, create: &Create) -> Result<Outcome, NoMemory>
-        requires { length create.now.columns ≤ column_limit }
+        requires { length create.now.columns ≤ COLUMN_LIMIT }
         ensures { Carries self.old (created self.old create.now) result self.new }
     {
         create_slot(self.alloc, &mut self.slots, create)

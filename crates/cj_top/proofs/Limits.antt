@@ -5,11 +5,11 @@ use Rattle.cj_model.specs.declared.answer.Answer.{Answer}
 use Rattle.cj_model.specs.declared.answer.Reply.{Reply}
 use Rattle.cj_model.specs.declared.answer.Reply.TheVariants.{Rows}
 use Rattle.cj_model.specs.declared.codes.TheConstants.{NOT_BUILT}
-use Rattle.cj_model.specs.Frames.{frame_limit}
+use Rattle.cj_model.specs.declared.limits.TheConstants.{FRAME_LIMIT}
 use Rattle.cj_model.specs.Replies.{reply_length}
 use Rattle.cj_model.specs.Session.{limited, refused}
 
-pub too_long : (r : Reply) (a : Answer) → r ≡ Rows a → frame_limit < reply_length r → limited r ≡ refused NOT_BUILT
+pub too_long : (r : Reply) (a : Answer) → r ≡ Rows a → FRAME_LIMIT < reply_length r → limited r ≡ refused NOT_BUILT
 too_long r a is long =
-    let rows : frame_limit < reply_length (Rows a) = rw is at long in
-    ap limited is ∙ rw (lt-leb (reply_length (Rows a)) frame_limit rows) refl
+    let rows : FRAME_LIMIT < reply_length (Rows a) = rw is at long in
+    ap limited is ∙ rw (lt-leb (reply_length (Rows a)) FRAME_LIMIT rows) refl

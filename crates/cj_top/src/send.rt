@@ -14,13 +14,6 @@ use cj_outside::{OutError, Sink, write_all};
 use cj_reply::{ReplyError, encode, encode_done, encode_refused, encode_stats};
 use std::alloc::Global;
 
-/// A refusal whose numbers say nothing.
-pub fn bare(code: u16) -> Refusal
-    ensures { result ≡ record { code = code; a = 0; b = 0 } }
-{
-    Refusal { code, a: 0, b: 0 }
-}
-
 fn send_rows<O: Sink>(alloc: Global, output: &mut O, reply: &Reply) -> Result<(), OutError>
     requires sendable { IsSendable reply.now }
     requires rows { (a : Answer) × (reply.now ≡ replies.Rows a) }
@@ -29,7 +22,10 @@ fn send_rows<O: Sink>(alloc: Global, output: &mut O, reply: &Reply) -> Result<()
 {
     match encode(alloc, reply) {
         Ok(frame) => write_all(output, &frame),
-        Err(ReplyError::TooLarge(_)) => write_all(output, &encode_refused(bare(NOT_BUILT))),
+        Err(ReplyError::TooLarge(_)) => write_all(
+            output,
+            &encode_refused(Refusal::bare(NOT_BUILT)),
+        ),
         Err(ReplyError::NoMemory) => Err(OutError::NoMemory),
     }
 }

@@ -9,11 +9,12 @@ ghost use Rattle.cj_reply.specs.Encode.{IsSendable};
 ghost use Rattle.cj_model.specs.Session as session;
 ghost use Rattle.cj_top.specs.Answers.{Answers, IsReadable, LogsIn};
 
-use crate::send::{bare, send};
+use crate::send::send;
 use cj_backend::{Backend, BackendError};
 use cj_mem::MemBackend;
 use cj_model::{
-    Asked, Message, NOT_BUILT, NOT_LOGGED_IN, NoMemory, Outcome, Reply, Request, SYNTAX, Text,
+    Asked, Message, NOT_BUILT, NOT_LOGGED_IN, NoMemory, Outcome, Refusal, Reply, Request, SYNTAX,
+    Text,
 };
 use cj_outside::{OutError, Sink};
 use cj_sql::{SqlError, is_plain, read};
@@ -45,7 +46,7 @@ impl Model for Session {
 fn refused(code: u16) -> Reply
     ensures { result ≡ session.refused code }
 {
-    Reply::Refused(bare(code))
+    Reply::Refused(Refusal::bare(code))
 }
 
 fn outcome_reply(outcome: Outcome) -> Reply

@@ -2,7 +2,7 @@ use Rattle.std.proofs.Common.{◌≡◌, ◌+◌, false, length, arith, sym, ap,
 use Rattle.std.specs.List.{list_any}
 use Rattle.std.proofs.lemmas.Bool.{le-ltb}
 use Rattle.cj_model.specs.declared.schema.Schema.{Schema}
-use Rattle.cj_model.specs.Tables.{row_limit}
+use Rattle.cj_model.specs.declared.limits.TheConstants.{ROW_LIMIT}
 use Rattle.cj_model.specs.Changes.{has_key}
 use Rattle.cj_plan.specs.Inserts.{puts_once}
 use Rattle.cj_plan.proofs.PlanLaws.{from_some, none_of, past, insert_leaves}
@@ -15,5 +15,5 @@ returns c =
     let there : list_any (has_key t.schema.key t.rows) new ≡ false = ap (list_any (has_key t.schema.key t.rows)) (sym c.as_slice.ensures) ∙ sym c.has_key_of.ensures ∙ c.if-has_key_of.false in
     let parts = from_some _ _ _ (sym c.in-Some.is ∙ c.in_ok-changes.ensures ∙ ap (λ (s : Schema). puts_once s.key new) c.schema.ensures) in
     past t _ _ _ _ (none_of _ _ there parts.0)
-    (past t _ _ _ _ (le-ltb row_limit (length t.rows + length new) (omega (arith, c.if-count-gt-ROW_LIMIT.false, c.count.ensures, c.len-added.ensures)))
+    (past t _ _ _ _ (le-ltb ROW_LIMIT (length t.rows + length new) (omega (arith, c.if-count-gt-ROW_LIMIT.false, c.count.ensures, c.len-added.ensures)))
     (insert_leaves t c.legal.ensures _ new there parts.0 parts.1 (omega (arith, c.count.ensures, c.len-added.ensures)) c.len-added.ensures))
