@@ -12,9 +12,9 @@ use std::marker::Model;
 /// are numbered from 1, up to 2^64 - 1, where the number stays. A call answers `Failed` exactly
 /// where its number is listed, it is the next numbered call after `arm`, or the inner backend
 /// answers so. A listed or armed call passes nothing on and counts one fault; where it is a change,
-/// a load among them, nothing is told from then on until a load is carried out. Faults and queries are counted together with those of the inner backend, up to
-/// 2^64 - 1. Which calls are listed or armed is proved of `enter`, which each numbered call begins
-/// with: the trait's methods have the trait's clauses alone.
+/// a load among them, nothing is told from then on until a load is carried out. Any other call
+/// gives what the inner backend gives. Faults are counted together with those of the inner
+/// backend, up to 2^64 - 1.
 #[derive(Drop)]
 pub struct Flaky<B: Backend> {
     inner: B,
@@ -25,8 +25,6 @@ pub struct Flaky<B: Backend> {
     passed: bool,
     /// The calls that failed here, up to 2^64 - 1.
     faults: u64,
-    /// The queries that failed here, up to 2^64 - 1.
-    asks: u64,
 }
 
 impl<B: Backend> Model for Flaky<B> {
@@ -34,11 +32,11 @@ impl<B: Backend> Model for Flaky<B> {
 
     ghost Value = { FlakyState B };
 
-    ghost view = { λ f. record { inner = f.inner; fails = f.fails; calls = f.calls; armed = f.armed; passed = f.passed; faults = f.faults; asks = f.asks } };
+    ghost view = { λ f. record { inner = f.inner; fails = f.fails; calls = f.calls; armed = f.armed; passed = f.passed; faults = f.faults } };
 }
 
 impl<B: Backend> Flaky<B> {
-    ghost use Rattle.cj_flaky.specs.FlakyBackends.{EntersAsListed, EntersAsk, EntersChange, IsToFail, fresh_over, numbered};
+    ghost use Rattle.cj_flaky.specs.FlakyBackends.{EntersAsListed, EntersChange, IsToFail, fresh_over, numbered};
 
     /// Over this backend; the calls with the numbers in `fails` fail.
     pub fn new(backend: B, fails: ListOf<u64>) -> Flaky<B>
@@ -51,7 +49,6 @@ impl<B: Backend> Flaky<B> {
             armed: false,
             passed: true,
             faults: 0,
-            asks: 0,
         }
     }
 
@@ -103,78 +100,154 @@ impl<B: Backend> Flaky<B> {
         }
         entered
     }
-
-    /// Enters a query, which counts as asked where it fails too.
-    fn enter_ask(&mut self) -> Result<(), BackendError>
-        ensures { EntersAsk self.old result self.new }
-    {
-        let entered = self.enter();
-        if entered.is_err() {
-            self.asks = self.asks.saturating_add(1);
-        }
-        entered
-    }
 }
 
 impl<B: Backend> Backend for Flaky<B> {
-    ghost use Rattle.cj_flaky.specs.FlakyBackends.{told_where, total};
+    ghost use Rattle.std.specs.Prelude.{Contains, IfOk, IfSome};
+    ghost use Rattle.cj_model.specs.declared.request.Act.TheVariants as act;
+    ghost use Rattle.cj_model.specs.declared.request.Request.TheVariants as request;
+    ghost use Rattle.cj_model.specs.Legality.{IsWritten};
+    ghost use Rattle.cj_model.specs.Storable.{IsStorable};
+    ghost use Rattle.cj_backend.specs.Backends.{HasBackendCause, SaysOutcome, SaysAnswer, told_after, LogsIn, IsBegun, begun_with, begun_without, IsOutcome, IsAsked, told_loaded, begun_loaded, asks_after};
+    ghost use Rattle.cj_flaky.specs.FlakyBackends.{CallsAsListed, ChangesAsListed, LoadsAsListed, PassesAsk, PassesBegin, PassesContents, PassesEnd, PassesLoad, PassesWrite, faults_by, told_by};
 
     const TELLS: bool = B::TELLS;
 
     ghost TELLS = { B.TELLS };
 
-    ghost told = { λ f. told_where f.passed (B.told f.inner) };
+    ghost told = { λ f. told_by B.told f };
 
-    ghost faults = { λ f. total f.faults (B.faults f.inner) };
+    ghost faults = { λ f. faults_by B.faults f };
 
-    ghost asks = { λ f. total f.asks (B.asks f.inner) };
+    ghost asks = { λ f. B.asks f.inner };
 
     ghost begun = { λ f. B.begun f.inner };
 
     ghost login = { λ f. B.login f.inner };
 
-    fn begin(&mut self, user: &Text, tx: u64) -> Result<(), BackendError> {
+    fn begin(&mut self, user: &Text, tx: u64) -> Result<(), BackendError>
+        requires { ¬ Contains (B.begun self.old.inner) tx }
+        ensures told { told_by B.told self.new ≡ told_after (told_by B.told self.old) tx act.Begin result }
+        ensures cause { HasBackendCause (faults_by B.faults self.old) (faults_by B.faults self.new) result }
+        ensures login { LogsIn (B.login self.old.inner) user.now result (B.login self.new.inner) }
+        ensures begun { B.begun self.new.inner ≡ begun_with (B.begun self.old.inner) tx result }
+        ensures asks { B.asks self.new.inner ≡ B.asks self.old.inner }
+        ensures listed { ChangesAsListed self.old result self.new (PassesBegin B.Backend self.old.inner user.now tx result self.new.inner) }
+    {
         self.enter_change()?;
         self.inner.begin(user, tx)
     }
 
-    fn write(&mut self, user: &Text, tx: u64, write: &Write) -> Result<Outcome, BackendError> {
+    fn write(&mut self, user: &Text, tx: u64, write: &Write) -> Result<Outcome, BackendError>
+        requires begun { IsBegun (B.begun self.old.inner) tx }
+        requires written { IsWritten (request.Write write.now) }
+        ensures outcome { SaysOutcome (told_by B.told self.old) tx (act.Write write.now) result }
+        ensures possible { IfOk result IsOutcome }
+        ensures told { told_by B.told self.new ≡ told_after (told_by B.told self.old) tx (act.Write write.now) result }
+        ensures cause { HasBackendCause (faults_by B.faults self.old) (faults_by B.faults self.new) result }
+        ensures login { LogsIn (B.login self.old.inner) user.now result (B.login self.new.inner) }
+        ensures begun { B.begun self.new.inner ≡ B.begun self.old.inner }
+        ensures asks { B.asks self.new.inner ≡ B.asks self.old.inner }
+        ensures listed { ChangesAsListed self.old result self.new (PassesWrite B.Backend self.old.inner user.now tx (act.Write write.now) result self.new.inner) }
+    {
         self.enter_change()?;
         self.inner.write(user, tx, write)
     }
 
-    fn create(&mut self, user: &Text, create: &Create) -> Result<Outcome, BackendError> {
+    fn create(&mut self, user: &Text, create: &Create) -> Result<Outcome, BackendError>
+        requires { IsWritten (request.Create create.now) }
+        ensures outcome { SaysOutcome (told_by B.told self.old) 0 (act.Create create.now) result }
+        ensures possible { IfOk result IsOutcome }
+        ensures told { told_by B.told self.new ≡ told_after (told_by B.told self.old) 0 (act.Create create.now) result }
+        ensures cause { HasBackendCause (faults_by B.faults self.old) (faults_by B.faults self.new) result }
+        ensures login { LogsIn (B.login self.old.inner) user.now result (B.login self.new.inner) }
+        ensures begun { B.begun self.new.inner ≡ B.begun self.old.inner }
+        ensures asks { B.asks self.new.inner ≡ B.asks self.old.inner }
+        ensures listed { ChangesAsListed self.old result self.new (PassesWrite B.Backend self.old.inner user.now 0 (act.Create create.now) result self.new.inner) }
+    {
         self.enter_change()?;
         self.inner.create(user, create)
     }
 
-    fn drop_table(&mut self, user: &Text, table: &Name) -> Result<Outcome, BackendError> {
+    fn drop_table(&mut self, user: &Text, table: &Name) -> Result<Outcome, BackendError>
+        ensures outcome { SaysOutcome (told_by B.told self.old) 0 (act.Drop table.now) result }
+        ensures possible { IfOk result IsOutcome }
+        ensures told { told_by B.told self.new ≡ told_after (told_by B.told self.old) 0 (act.Drop table.now) result }
+        ensures cause { HasBackendCause (faults_by B.faults self.old) (faults_by B.faults self.new) result }
+        ensures login { LogsIn (B.login self.old.inner) user.now result (B.login self.new.inner) }
+        ensures begun { B.begun self.new.inner ≡ B.begun self.old.inner }
+        ensures asks { B.asks self.new.inner ≡ B.asks self.old.inner }
+        ensures listed { ChangesAsListed self.old result self.new (PassesWrite B.Backend self.old.inner user.now 0 (act.Drop table.now) result self.new.inner) }
+    {
         self.enter_change()?;
         self.inner.drop_table(user, table)
     }
 
-    fn commit(&mut self, user: &Text, tx: u64) -> Result<(), BackendError> {
+    fn commit(&mut self, user: &Text, tx: u64) -> Result<(), BackendError>
+        requires { Contains (B.begun self.old.inner) tx }
+        ensures told { told_by B.told self.new ≡ told_after (told_by B.told self.old) tx act.Commit result }
+        ensures cause { HasBackendCause (faults_by B.faults self.old) (faults_by B.faults self.new) result }
+        ensures login { LogsIn (B.login self.old.inner) user.now result (B.login self.new.inner) }
+        ensures begun { B.begun self.new.inner ≡ begun_without (B.begun self.old.inner) tx result }
+        ensures asks { B.asks self.new.inner ≡ B.asks self.old.inner }
+        ensures listed { ChangesAsListed self.old result self.new (PassesEnd B.Backend self.old.inner user.now tx act.Commit result self.new.inner) }
+    {
         self.enter_change()?;
         self.inner.commit(user, tx)
     }
 
-    fn abort(&mut self, user: &Text, tx: u64) -> Result<(), BackendError> {
+    fn abort(&mut self, user: &Text, tx: u64) -> Result<(), BackendError>
+        requires { Contains (B.begun self.old.inner) tx }
+        ensures told { told_by B.told self.new ≡ told_after (told_by B.told self.old) tx act.Abort result }
+        ensures cause { HasBackendCause (faults_by B.faults self.old) (faults_by B.faults self.new) result }
+        ensures login { LogsIn (B.login self.old.inner) user.now result (B.login self.new.inner) }
+        ensures begun { B.begun self.new.inner ≡ begun_without (B.begun self.old.inner) tx result }
+        ensures asks { B.asks self.new.inner ≡ B.asks self.old.inner }
+        ensures listed { ChangesAsListed self.old result self.new (PassesEnd B.Backend self.old.inner user.now tx act.Abort result self.new.inner) }
+    {
         self.enter_change()?;
         self.inner.abort(user, tx)
     }
 
-    fn ask(&mut self, user: &Text, tx: u64, select: &Select) -> Result<Asked, BackendError> {
-        self.enter_ask()?;
+    fn ask(&mut self, user: &Text, tx: u64, select: &Select) -> Result<Asked, BackendError>
+        requires { IsWritten (request.Select select.now) }
+        ensures answer { SaysAnswer (told_by B.told self.old) tx select.now result }
+        ensures possible { IfOk result IsAsked }
+        ensures told { told_by B.told self.new ≡ told_by B.told self.old }
+        ensures cause { HasBackendCause (faults_by B.faults self.old) (faults_by B.faults self.new) result }
+        ensures login { LogsIn (B.login self.old.inner) user.now result (B.login self.new.inner) }
+        ensures begun { B.begun self.new.inner ≡ B.begun self.old.inner }
+        ensures asks { B.asks self.new.inner ≡ asks_after (B.asks self.old.inner) result }
+        ensures listed { CallsAsListed self.old result self.new (PassesAsk B.Backend self.old.inner user.now tx select.now result self.new.inner) }
+    {
+        self.enter()?;
         self.inner.ask(user, tx, select)
     }
 
-    fn contents(&mut self) -> Result<Db, BackendError> {
+    fn contents(&mut self) -> Result<Db, BackendError>
+        ensures contents { IfOk result (λ db. IfSome (told_by B.told self.old) (λ held. db ≡ held)) }
+        ensures storable { IfOk result IsStorable }
+        ensures told { told_by B.told self.new ≡ told_by B.told self.old }
+        ensures cause { HasBackendCause (faults_by B.faults self.old) (faults_by B.faults self.new) result }
+        ensures login { B.login self.new.inner ≡ B.login self.old.inner }
+        ensures begun { B.begun self.new.inner ≡ B.begun self.old.inner }
+        ensures asks { B.asks self.new.inner ≡ B.asks self.old.inner }
+        ensures listed { CallsAsListed self.old result self.new (PassesContents B.Backend self.old.inner result self.new.inner) }
+    {
         self.enter()?;
         self.inner.contents()
     }
 
     /// The inner backend then holds what was loaded, whatever was not passed on to it before.
-    fn load(&mut self, db: Db) -> Result<(), BackendError> {
+    fn load(&mut self, db: Db) -> Result<(), BackendError>
+        requires { IsStorable db }
+        ensures told { told_by B.told self.new ≡ told_loaded B.TELLS db result }
+        ensures cause { HasBackendCause (faults_by B.faults self.old) (faults_by B.faults self.new) result }
+        ensures login { B.login self.new.inner ≡ B.login self.old.inner }
+        ensures begun { B.begun self.new.inner ≡ begun_loaded (B.begun self.old.inner) db result }
+        ensures asks { B.asks self.new.inner ≡ B.asks self.old.inner }
+        ensures listed { LoadsAsListed self.old result self.new (PassesLoad B.Backend self.old.inner db result self.new.inner) }
+    {
         self.enter_change()?;
         self.inner.load(db)?;
         self.passed = true;
@@ -185,7 +258,7 @@ impl<B: Backend> Backend for Flaky<B> {
         let inner = self.inner.counts();
         Counts {
             faults: self.faults.saturating_add(inner.faults),
-            asks: self.asks.saturating_add(inner.asks),
+            asks: inner.asks,
             begun: inner.begun,
         }
     }
