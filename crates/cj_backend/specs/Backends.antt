@@ -5,7 +5,7 @@ use Rattle.std.specs.declared.option.Option.TheVariants.{None, Some}
 use Rattle.std.specs.Option.{option_map}
 use Rattle.std.specs.declared.result.Result.{Result}
 use Rattle.std.specs.declared.result.Result.TheVariants.{Ok, Err}
-use Rattle.cj_outside.specs.Causes.{Rose}
+use Rattle.cj_outside.specs.Causes.{CountsFault, next}
 use Rattle.cj_model.specs.declared.database.Slot.{Slot}
 use Rattle.cj_model.specs.declared.request.Act.{Act}
 use Rattle.cj_model.specs.declared.select.Select.{Select}
@@ -23,10 +23,16 @@ use Rattle.cj_backend.specs.declared.backend.BackendError.TheVariants as errors
 
 -- ---- causes
 
--- the count of faults doesn't fall, and rose where the backend failed
-pub record HasBackendCause {T : Type 0} (before now : ℕ) (result : Result T BackendError) : Type 0 where
-  pub later : before ≤ now
-  pub failed : IsErrOf result errors.Failed → Rose before now
+-- a fault is counted exactly where the backend answers that it failed
+abbrev pub HasBackendCause : {T : Type 0} → ℕ → ℕ → Result T BackendError → Type 0
+HasBackendCause before now result = CountsFault (IsErrOf result errors.Failed) before now
+
+-- ---- asks
+
+-- the count of asks after one: it rises by one where the ask was answered, whatever the answer, and is as before otherwise
+abbrev pub asks_after : {T E : Type 0} → ℕ → Result T E → ℕ
+asks_after asks (Ok answer) = next asks
+asks_after asks (Err e) = asks
 
 -- ---- contents
 

@@ -2,7 +2,6 @@
 
 ghost use Rattle.std.specs.Prelude.{◌≡◌, ℕ, Bool, List, IfOk, IfSome, Contains, length, option_copied};
 ghost use Rattle.std.specs.declared.option.Option.{Option};
-ghost use Rattle.cj_outside.specs.Causes.{next};
 ghost use Rattle.cj_model.specs.declared.database.Slot.{Slot};
 ghost use Rattle.cj_model.specs.declared.request.Act.TheVariants as act;
 ghost use Rattle.cj_model.specs.declared.request.Request.TheVariants as request;
@@ -38,7 +37,7 @@ impl From<NoMemory> for BackendError {
 pub struct Counts {
     /// The faults, up to 2^64 - 1.
     pub faults: u64,
-    /// The queries that it was asked, up to 2^64 - 1.
+    /// The queries that it answered, up to 2^64 - 1.
     pub asks: u64,
     /// The transactions that are begun and have not ended.
     pub begun: u64,
@@ -48,11 +47,11 @@ pub struct Counts {
 /// own allocator.
 ///
 /// Each call but `contents`, `load`, `counts`, `login` and `arm` names the login that it is made
-/// under. Each but `counts`, `login` and `arm` may answer `Failed` where it has counted a fault, and
-/// `NoMemory` at any time. After a change that was not carried out, a load among them, the backend
+/// under. Each but `counts`, `login` and `arm` may answer `Failed`, which counts one fault, and
+/// `NoMemory` at any time, which counts none; nor does a call that is carried out. After a change that was not carried out, a load among them, the backend
 /// no longer tells what it holds. After the next load that is carried out it tells again.
 pub trait Backend {
-    ghost use Rattle.cj_backend.specs.Backends.{HasBackendCause, SaysOutcome, SaysAnswer, told_after, LogsIn, IsBegun, begun_with, begun_without, IsOutcome, IsAsked, told_loaded, begun_loaded};
+    ghost use Rattle.cj_backend.specs.Backends.{HasBackendCause, SaysOutcome, SaysAnswer, told_after, LogsIn, IsBegun, begun_with, begun_without, IsOutcome, IsAsked, told_loaded, begun_loaded, asks_after};
 
     /// Whether it tells what it holds: at all times but from a change that was not carried out to
     /// the next load that is.
@@ -66,7 +65,7 @@ pub trait Backend {
     /// How many faults it has counted.
     ghost faults: { Self → ℕ };
 
-    /// How many queries it was asked.
+    /// How many queries it answered; a refusal of the query is an answer.
     ghost asks: { Self → ℕ };
 
     /// The transactions that are begun and have not ended, in the order of their beginnings.
@@ -144,7 +143,7 @@ pub trait Backend {
         ensures cause { HasBackendCause (faults self.old) (faults self.new) result }
         ensures login { LogsIn (login self.old) user.now result (login self.new) }
         ensures begun { begun self.new ≡ begun self.old }
-        ensures asks { asks self.new ≡ next (asks self.old) };
+        ensures asks { asks self.new ≡ asks_after (asks self.old) result };
 
     /// A copy of what it holds, drafts included. Nothing is changed by it.
     fn contents(&mut self) -> Result<Db, BackendError>

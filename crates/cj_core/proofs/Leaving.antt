@@ -59,7 +59,7 @@ module _ {X : Type 0} (told_of : X → Option (List Slot)) (faults_of : X → �
 -- ---- what they hold
 
 some_cell : CellState
-some_cell = record { b = 0; backends = 0; position = None; told = None; faults = 0 }
+some_cell = record { b = 0; backends = 0; position = None; told = None; faults = 0; asks = 0 }
 
 module _ (tells : Bool) (w : WorldState) (world : IsWorld tells w) (told : List (Option (List Slot))) (is : told ≡ map (λ (x : CellState). x.told) w.cells) where
   pub are_holding : AreHolding tells w.core told

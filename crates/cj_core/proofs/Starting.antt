@@ -44,9 +44,9 @@ module _ {X : Type 0} (told_of : X → Option (List Slot)) (faults_of : X → �
         let room : n ≤ capacity = moving.room in
         (omega arith, omega arith)
 
-    pub moving_more : (number : ℕ) (y : CellState) (now : List CellState) (capacity_now : ℕ) → number ≡ length cells → y ≡ record { b = number; backends = n; position = Some 0; told = told_of x; faults = faults_of x }
+    pub moving_more : (number asks : ℕ) (y : CellState) (now : List CellState) (capacity_now : ℕ) → number ≡ length cells → y ≡ record { b = number; backends = n; position = Some 0; told = told_of x; faults = faults_of x; asks = asks }
         → now ≡ cells ++ y ∷ [] → capacity_now ≡ capacity → Moving told_of faults_of n all left now capacity_now
-    moving_more number y now capacity_now numbered made pushed same =
+    moving_more number asks y now capacity_now numbered made pushed same =
         let more = length-append cells (y ∷ []) in
         let all_of : length cells + (length left + 1) ≡ n = count in
         rw (pushed, same)

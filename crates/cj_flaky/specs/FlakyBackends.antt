@@ -22,13 +22,11 @@ pub record FlakyState (B : Type 0) : Type 0 where
   pub passed : Bool
   -- how many calls it failed itself, up to the largest `u64`
   pub faults : ℕ
-  -- how many of them were queries
-  pub asks : ℕ
 
 module _ {B : Type 0} where
   -- over this backend, before any call
   abbrev pub fresh_over : B → List ℕ → FlakyState B
-  fresh_over inner fails = record { inner = inner; fails = fails; calls = 0; armed = false; passed = true; faults = 0; asks = 0 }
+  fresh_over inner fails = record { inner = inner; fails = fails; calls = 0; armed = false; passed = true; faults = 0 }
 
   -- the next call fails: the backend is armed, or the call's number is listed
   abbrev pub IsToFail : FlakyState B → Type 0
@@ -51,11 +49,6 @@ module _ {B : Type 0} where
   abbrev pub EntersChange : FlakyState B → Result Unit BackendError → FlakyState B → Type 0
   EntersChange old (Ok x) new = EntersAsListed old (Ok x) new
   EntersChange old (Err e) new = EntersAsListed (record old { passed = false }) (Err e) new
-
-  -- the same of a query: where it fails, it is counted as asked
-  abbrev pub EntersAsk : FlakyState B → Result Unit BackendError → FlakyState B → Type 0
-  EntersAsk old (Ok x) new = EntersAsListed old (Ok x) new
-  EntersAsk old (Err e) new = EntersAsListed (record old { asks = next old.asks }) (Err e) new
 
 -- what the inner backend tells, where each change was passed on to it
 abbrev pub told_where : Bool → Option (List Slot) → Option (List Slot)

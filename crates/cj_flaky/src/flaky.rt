@@ -12,8 +12,7 @@ use std::marker::Model;
 /// are numbered from 1, up to 2^64 - 1, where the number stays. A call answers `Failed` exactly
 /// where its number is listed, it is the next numbered call after `arm`, or the inner backend
 /// answers so. A listed or armed call passes nothing on and counts one fault; where it is a change,
-/// a load among them, nothing is told from then on until a load is carried out. Faults and queries are counted together with those of the inner backend, up to
-/// 2^64 - 1. Which calls are listed or armed is proved of `enter`, which each numbered call begins
+/// a load among them, nothing is told from then on until a load is carried out. Faults are counted together with those of the inner backend, up to 2^64 - 1. Which calls are listed or armed is proved of `enter`, which each numbered call begins
 /// with: the trait's methods have the trait's clauses alone.
 #[derive(Drop)]
 pub struct Flaky<B: Backend> {
@@ -25,8 +24,6 @@ pub struct Flaky<B: Backend> {
     passed: bool,
     /// The calls that failed here, up to 2^64 - 1.
     faults: u64,
-    /// The queries that failed here, up to 2^64 - 1.
-    asks: u64,
 }
 
 impl<B: Backend> Model for Flaky<B> {
@@ -34,11 +31,11 @@ impl<B: Backend> Model for Flaky<B> {
 
     ghost Value = { FlakyState B };
 
-    ghost view = { λ f. record { inner = f.inner; fails = f.fails; calls = f.calls; armed = f.armed; passed = f.passed; faults = f.faults; asks = f.asks } };
+    ghost view = { λ f. record { inner = f.inner; fails = f.fails; calls = f.calls; armed = f.armed; passed = f.passed; faults = f.faults } };
 }
 
 impl<B: Backend> Flaky<B> {
-    ghost use Rattle.cj_flaky.specs.FlakyBackends.{EntersAsListed, EntersAsk, EntersChange, IsToFail, fresh_over, numbered};
+    ghost use Rattle.cj_flaky.specs.FlakyBackends.{EntersAsListed, EntersChange, IsToFail, fresh_over, numbered};
 
     /// Over this backend; the calls with the numbers in `fails` fail.
     pub fn new(backend: B, fails: ListOf<u64>) -> Flaky<B>
@@ -51,7 +48,6 @@ impl<B: Backend> Flaky<B> {
             armed: false,
             passed: true,
             faults: 0,
-            asks: 0,
         }
     }
 
@@ -103,17 +99,6 @@ impl<B: Backend> Flaky<B> {
         }
         entered
     }
-
-    /// Enters a query, which counts as asked where it fails too.
-    fn enter_ask(&mut self) -> Result<(), BackendError>
-        ensures { EntersAsk self.old result self.new }
-    {
-        let entered = self.enter();
-        if entered.is_err() {
-            self.asks = self.asks.saturating_add(1);
-        }
-        entered
-    }
 }
 
 impl<B: Backend> Backend for Flaky<B> {
@@ -127,7 +112,7 @@ impl<B: Backend> Backend for Flaky<B> {
 
     ghost faults = { λ f. total f.faults (B.faults f.inner) };
 
-    ghost asks = { λ f. total f.asks (B.asks f.inner) };
+    ghost asks = { λ f. B.asks f.inner };
 
     ghost begun = { λ f. B.begun f.inner };
 
@@ -164,7 +149,7 @@ impl<B: Backend> Backend for Flaky<B> {
     }
 
     fn ask(&mut self, user: &Text, tx: u64, select: &Select) -> Result<Asked, BackendError> {
-        self.enter_ask()?;
+        self.enter()?;
         self.inner.ask(user, tx, select)
     }
 
@@ -185,7 +170,7 @@ impl<B: Backend> Backend for Flaky<B> {
         let inner = self.inner.counts();
         Counts {
             faults: self.faults.saturating_add(inner.faults),
-            asks: self.asks.saturating_add(inner.asks),
+            asks: inner.asks,
             begun: inner.begun,
         }
     }

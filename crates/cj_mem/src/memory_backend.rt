@@ -189,10 +189,11 @@ impl Backend for MemBackend {
     }
 
     fn ask(&mut self, user: &Text, tx: u64, query: &Select) -> Result<Asked, BackendError> {
-        self.asks = self.asks.saturating_add(1);
         self.enter(user)?;
         self.tables.legal();
-        Ok(select(self.alloc, query, &self.tables, tx)?)
+        let answer = select(self.alloc, query, &self.tables, tx)?;
+        self.asks = self.asks.saturating_add(1);
+        Ok(answer)
     }
 
     fn contents(&mut self) -> Result<Db, BackendError> {

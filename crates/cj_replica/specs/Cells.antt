@@ -1,11 +1,11 @@
 -- What contracts see of a cell, and what its calls give and leave.
-use Rattle.std.specs.Prelude.{◌≡◌, ℕ, ◌+◌, ◌≤◌, Bool, true, false, List, [], IfSome, IsErrOf}
+use Rattle.std.specs.Prelude.{◌≡◌, ℕ, ◌+◌, Bool, true, false, List, [], IfSome, IsErrOf}
 use Rattle.std.specs.declared.option.Option.{Option}
 use Rattle.std.specs.declared.option.Option.TheVariants.{None, Some}
 use Rattle.std.specs.Option.{option_map}
 use Rattle.std.specs.declared.result.Result.{Result}
 use Rattle.std.specs.declared.result.Result.TheVariants.{Ok, Err}
-use Rattle.cj_outside.specs.Causes.{Rose}
+use Rattle.cj_outside.specs.Causes.{CountsFault}
 use Rattle.cj_model.specs.declared.database.Slot.{Slot}
 use Rattle.cj_model.specs.declared.request.Entry.{Entry}
 use Rattle.cj_model.specs.declared.select.Select.{Select}
@@ -33,6 +33,8 @@ pub record CellState : Type 0 where
   pub told : Option (List Slot)
   -- how many faults its backend has counted
   pub faults : ℕ
+  -- how many queries its backend has answered
+  pub asks : ℕ
 
 -- ---- taking an entry
 
@@ -73,10 +75,9 @@ abbrev pub IsCaught : Caught → Type 0
 IsCaught Skipped = Unit {0}
 IsCaught (Did o) = IsOutcome o
 
--- the count of faults doesn't fall, and rose where the backend failed
-pub record HasCellCause (before now : ℕ) (result : Result Caught CellError) : Type 0 where
-  pub later : before ≤ now
-  pub failed : IsErrOf result errors.Failed → Rose before now
+-- a fault is counted exactly where the cell answers that its backend failed
+abbrev pub HasCellCause : ℕ → ℕ → Result Caught CellError → Type 0
+HasCellCause before now result = CountsFault (IsErrOf result errors.Failed) before now
 
 -- a cell's error from its backend's
 abbrev pub error_of : BackendError → CellError
@@ -90,9 +91,8 @@ abbrev pub SaysAnswer : Option (List Slot) → ℕ → Select → Asked → Type
 SaysAnswer told tx select answer = IfSome told (λ db. answer ≡ ask db tx select)
 
 -- the same of a read
-pub record HasReadCause (before now : ℕ) (result : Result (Asked × ℕ) CellReadError) : Type 0 where
-  pub later : before ≤ now
-  pub failed : IsErrOf result read_errors.Failed → Rose before now
+abbrev pub HasCellReadCause : ℕ → ℕ → Result (Asked × ℕ) CellReadError → Type 0
+HasCellReadCause before now result = CountsFault (IsErrOf result read_errors.Failed) before now
 
 abbrev pub read_error_of : BackendError → CellReadError
 read_error_of backend_errors.Failed = read_errors.Failed

@@ -92,15 +92,15 @@ impl<B: Backend> Model for Cell<B> {
 
     ghost Value = { CellState };
 
-    ghost view = { λ c. record { b = c.b; backends = c.backends; position = c.position; told = B.told c.backend; faults = B.faults c.backend } };
+    ghost view = { λ c. record { b = c.b; backends = c.backends; position = c.position; told = B.told c.backend; faults = B.faults c.backend; asks = B.asks c.backend } };
 }
 
 impl<B: Backend> Cell<B> {
-    ghost use Rattle.cj_replica.specs.Cells.{HasCellCause, HasReadCause, IsCaught, IsNext, SaysAnswer, SaysOutcome, is_concerned, is_skipped, position_after, told_after};
+    ghost use Rattle.cj_replica.specs.Cells.{HasCellCause, HasCellReadCause, IsCaught, IsNext, SaysAnswer, SaysOutcome, is_concerned, is_skipped, position_after, told_after};
 
     /// Backend `b` of so many, which has taken no entry.
     pub fn new(b: u8, backends: u8, backend: B) -> Cell<B>
-        ensures { result ≡ record { b = b; backends = backends; position = Some 0; told = B.told backend; faults = B.faults backend } }
+        ensures { result ≡ record { b = b; backends = backends; position = Some 0; told = B.told backend; faults = B.faults backend; asks = B.asks backend } }
     {
         Cell {
             b,
@@ -120,6 +120,7 @@ impl<B: Backend> Cell<B> {
         ensures outcome { SaysOutcome self.old.told e.now result }
         ensures possible { IfOk result IsCaught }
         ensures cause { HasCellCause self.old.faults self.new.faults result }
+        ensures asks { self.new.asks ≡ self.old.asks }
 
         ensures told { self.new.told ≡ told_after self.old.told e.now result }
         ensures position { self.new.position ≡ position_after n result }
@@ -153,8 +154,9 @@ impl<B: Backend> Cell<B> {
         ensures possible { IfOk result (λ (answer, at). IsAsked answer) }
         ensures at { IfOk result (λ (answer, at). self.old.position ≡ Some at) }
         ensures owed { IfOk result (λ (answer, at). least ≤ at) }
-        ensures cause { HasReadCause self.old.faults self.new.faults result }
-        ensures same { self.new ≡ record self.old { faults = self.new.faults } }
+        ensures cause { HasCellReadCause self.old.faults self.new.faults result }
+        ensures asks { self.new.asks ≡ backends.asks_after self.old.asks result }
+        ensures same { self.new ≡ record self.old { faults = self.new.faults; asks = self.new.asks } }
     {
         let Some(position) = self.position else {
             return Err(CellReadError::Out);
@@ -177,6 +179,7 @@ impl<B: Backend> Cell<B> {
     pub fn backend(&self) -> &B
         ensures told { B.told result.now ≡ self.now.told }
         ensures faults { B.faults result.now ≡ self.now.faults }
+        ensures asks { B.asks result.now ≡ self.now.asks }
     {
         &self.backend
     }
@@ -192,6 +195,7 @@ impl<B: Backend> Cell<B> {
     pub fn into_backend(self) -> B
         ensures told { B.told result ≡ self.told }
         ensures faults { B.faults result ≡ self.faults }
+        ensures asks { B.asks result ≡ self.asks }
     {
         let Cell { backend, .. } = self;
         backend
@@ -206,6 +210,7 @@ fn carry_out<B: Backend>(backend: &mut B, e: &Entry, login: &Text) -> Result<Out
     ensures possible { IfOk result backends.IsOutcome }
     ensures told { B.told backend.new ≡ backends.told_after (B.told backend.old) e.now.tx e.now.act result }
     ensures cause { backends.HasBackendCause (B.faults backend.old) (B.faults backend.new) result }
+    ensures asks { B.asks backend.new ≡ B.asks backend.old }
 {
     match &e.act {
         Act::Write(write) => backend.write(login, e.tx, write),
