@@ -1,6 +1,7 @@
 -- What a world keeps where a backend is asked, and what it answers.
-use Rattle.std.proofs.Common.{◌≡◌, ℕ, ◌<◌, ◌≤◌, Bool, true, List, length, map, get_or, set, Option, None, Some, IfSome, Result, Ok, Err, IfOk, refl, ap, sym, ◌∙◌, subst}
+use Rattle.std.proofs.Common.{◌≡◌, ℕ, ◌<◌, ◌≤◌, Bool, true, List, length, map, get_or, set, Option, None, Some, IfSome, Result, Ok, Err, IfOk, refl, ap, sym, ◌∙◌, subst, ⊎_elim}
 use Rattle.std.specs.Prelude.{◌↔◌}
+use Rattle.std.proofs.lemmas.Bool.{cases_lt}
 use Rattle.std.proofs.lemmas.List.{length-map, map-set, set-get_or}
 use Rattle.cj_model.specs.declared.database.Slot.{Slot}
 use Rattle.cj_model.specs.declared.select.Select.{Select}
@@ -9,12 +10,13 @@ use Rattle.cj_model.specs.declared.answer.Outcome.{Outcome}
 use Rattle.cj_model.specs.declared.event.Event.{Event}
 use Rattle.cj_model.specs.declared.moves.OpenSession.{OpenSession}
 use Rattle.cj_model.specs.Queries.{ask}
+use Rattle.cj_model.specs.Outcomes.{IsAsked}
 use Rattle.cj_model.specs.Placements.{everywhere}
 use Rattle.cj_model.specs.Histories.{log, at}
 use Rattle.cj_model.specs.Cores.{position_at, session_at}
+use Rattle.cj_model.specs.Moves.{IsFarEnough}
 use Rattle.cj_model.specs.Sound.{IsSound, Holds}
 use Rattle.cj_model.proofs.Soundness.{no_tx}
-use Rattle.cj_backend.specs.Backends.{IsAsked}
 use Rattle.cj_replica.specs.declared.cell.CellReadError.{CellReadError}
 use Rattle.cj_replica.specs.declared.cell.CellReadError.TheVariants as errors
 use Rattle.cj_replica.specs.Cells.{CellState, SaysAnswer}
@@ -70,6 +72,19 @@ module _ (tells : Bool) (n : ℕ) (h : List Event) (cells : List CellState) (f s
         let below : b < n = subst (λ (m : ℕ). b < m) kept.world.sound.cells (subst (λ (m : ℕ). b < m) (sym (length-map cells (λ (z : CellState). z.position))) lt) in
         subst (λ (q : Option ℕ). Holds tells (everywhere n) b (log h) x.told q) is cell.holds on ∙ ap (λ db. Some db) (part_all n b (at (log h) p) below)
 
+    -- a cell that is neither out nor below what the session has seen
+    far_enough : (r : Result (Asked × ℕ) CellReadError) → r ≡ Err errors.Failed → (q : Option ℕ) → x.position ≡ q → ((r ≡ Err errors.Out) ↔ (x.position ≡ None))
+        → ((p : ℕ) → (r ≡ Err (errors.Behind p)) ↔ ((x.position ≡ Some p) × (p < least))) → IsFarEnough (core_of n h cells f s ss g) number b
+    far_enough r failed None is out behind = let e = out.1 is in absurd (cc (failed, e))
+    far_enough r failed (Some p) is out behind =
+        record {
+          p = p;
+          stands = place ∙ is;
+          owed =
+              ⊎_elim (λ (lt : p < least). let e = (behind p).1 (is, lt) in absurd (cc (failed, e)))
+              (λ (le : least ≤ p). subst (λ (m : ℕ). m ≤ p) is_least le) (cases_lt p least);
+        }
+
     pub asks : (r : Result (Asked × ℕ) CellReadError) → ((r ≡ Err errors.Out) ↔ (x.position ≡ None)) → ((p : ℕ) → (r ≡ Err (errors.Behind p)) ↔ ((x.position ≡ Some p) × (p < least)))
         → IfOk r (λ q. SaysAnswer x.told 0 select q.0) → IfOk r (λ q. IsAsked q.0) → IfOk r (λ q. x.position ≡ Some q.1) → IfOk r (λ q. least ≤ q.1) → Asks tells (core_of n h cells f s ss g) number b select r
     asks (Ok (answer, p)) out behind says possible position owed = (
@@ -84,5 +99,5 @@ module _ (tells : Bool) (n : ℕ) (h : List Event) (cells : List CellState) (f s
     asks (Err errors.Out) out behind says possible position owed = place ∙ out.0 refl
     asks (Err (errors.Behind p)) out behind says possible position owed =
         let q = (behind p).0 refl in (place ∙ q.0, subst (λ (m : ℕ). p < m) is_least q.1)
-    asks (Err errors.Failed) out behind says possible position owed = tt
+    asks (Err errors.Failed) out behind says possible position owed = far_enough (Err errors.Failed) refl x.position refl out behind
     asks (Err errors.NoMemory) out behind says possible position owed = tt

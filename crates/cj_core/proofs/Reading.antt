@@ -56,6 +56,7 @@ module _ (tells : Bool) (c : Core) (s b : ℕ) (select : Select) (same : ReadsSa
           p = p;
           stands = asks.0;
           owed = asks.1;
+          possible = asks.3;
           says = asks.4;
           after = after ∙ ap (λ (x : Core). with_read x s (λ y. answered_at p (was_answered y))) same_core;
         })))

@@ -7,7 +7,7 @@ ghost use Rattle.cj_model.specs.Plain as plain;
 ghost use Rattle.cj_model.specs.Legality.{IsWritten, user_limit};
 ghost use Rattle.cj_model.specs.Cores.{session_at};
 ghost use Rattle.cj_model.specs.Moves as moves;
-ghost use Rattle.cj_model.specs.Moves.{Opens, Closes, Schedules, Applies, Ends, Reads, ReadsOrWaits, Arms, Disables, Replays, Enables, MovesTo, not_now, with_read, answered_at, was_answered, still_reading};
+ghost use Rattle.cj_model.specs.Moves.{Opens, Closes, Schedules, Applies, Ends, Reads, ReadsOrWaits, Arms, Disables, Replays, Enables, MovesTo, not_now, with_read, answered_at, was_answered, still_reading, IsFarEnough};
 ghost use Rattle.cj_model.specs.Answering.{ServesAt};
 ghost use Rattle.cj_model.specs.Runs.{IsLoneWrite};
 ghost use Rattle.cj_core.specs.Counting.{HasCauses};
@@ -191,6 +191,7 @@ impl<B: Backend> World<B> {
         requires within { b < self.old.core.placement.backends }
         requires counts { (session_at self.old.core s).queries < 2 ^ 62 }
         requires serves { ServesAt self.old.core.placement self.old.core.history (requests.Select select) b }
+        requires there { IsFarEnough self.old.core s b }
         ensures moves { Reads B.TELLS self.old.core s b select result self.new.core }
         ensures cells { self.new.cells ≡ self.old.cells }
     {
