@@ -1,5 +1,5 @@
 -- What calls of a backend give and leave. What a backend holds is told as `Some` database, or not told.
-use Rattle.std.specs.Prelude.{◌≡◌, ◌⊎◌, ℕ, ◌<◌, ◌≤◌, Bool, if◌then◌else◌, not, ◌==◌, List, [], ◌∷◌, ◌++◌, length, filter, All, Contains, IfSome, IfOk, IsErrOf}
+use Rattle.std.specs.Prelude.{◌≡◌, ◌⊎◌, ℕ, ◌≤◌, Bool, if◌then◌else◌, not, ◌==◌, List, [], ◌∷◌, ◌++◌, filter, Contains, IfSome, IfOk, IsErrOf}
 use Rattle.std.specs.declared.option.Option.{Option}
 use Rattle.std.specs.declared.option.Option.TheVariants.{None, Some}
 use Rattle.std.specs.Option.{option_map}
@@ -9,13 +9,8 @@ use Rattle.cj_outside.specs.Causes.{CountsFault, next}
 use Rattle.cj_model.specs.declared.database.Slot.{Slot}
 use Rattle.cj_model.specs.declared.request.Act.{Act}
 use Rattle.cj_model.specs.declared.select.Select.{Select}
-use Rattle.cj_model.specs.declared.answer.Answer.{Answer}
 use Rattle.cj_model.specs.declared.answer.Asked.{Asked}
-use Rattle.cj_model.specs.declared.answer.Asked.TheVariants as asked
 use Rattle.cj_model.specs.declared.answer.Outcome.{Outcome}
-use Rattle.cj_model.specs.declared.answer.Outcome.TheVariants as outcome
-use Rattle.cj_model.specs.declared.codes.TheConstants.{NO_TABLE, NO_COLUMN, BAD_COLUMNS, OVERFLOW, WRONG_TYPE, ROWS_FULL}
-use Rattle.cj_model.specs.declared.limits.TheConstants.{ANSWER_LIMIT}
 use Rattle.cj_model.specs.Steps.{acted}
 use Rattle.cj_model.specs.Queries.{ask}
 use Rattle.cj_model.specs.Storable.{writers}
@@ -80,30 +75,3 @@ begun_without begun tx (Err e) = begun
 abbrev pub begun_loaded : {T : Type 0} → List ℕ → List Slot → Result T BackendError → List ℕ
 begun_loaded begun db (Ok x) = writers db
 begun_loaded begun db (Err e) = begun
-
--- ---- what may be given
-
--- the refusals of a change
-abbrev pub IsChangeCode : ℕ → Type 0
-IsChangeCode code = (NO_TABLE ≤ code) × (code ≤ ROWS_FULL)
-
--- what a change may come to
-abbrev pub IsOutcome : Outcome → Type 0
-IsOutcome (outcome.Done count) = Unit {0}
-IsOutcome (outcome.Refused refusal) = IsChangeCode refusal.code
-
--- the refusals of a query
-abbrev pub IsQueryCode : ℕ → Type 0
-IsQueryCode code =
-    (code ≡ NO_TABLE) ⊎ (code ≡ NO_COLUMN) ⊎ (code ≡ BAD_COLUMNS) ⊎ (code ≡ OVERFLOW) ⊎ (code ≡ WRONG_TYPE)
-
--- it has columns, not too many, and in each row a value for each
-pub record IsAnswer (a : Answer) : Type 0 where
-  pub some : 0 < length a.columns
-  pub few : length a.columns ≤ ANSWER_LIMIT
-  pub each : All (λ row. length row ≡ length a.columns) a.rows
-
--- what a query may come to
-abbrev pub IsAsked : Asked → Type 0
-IsAsked (asked.Rows answer) = IsAnswer answer
-IsAsked (asked.Refused refusal) = IsQueryCode refusal.code

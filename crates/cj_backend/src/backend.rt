@@ -51,7 +51,8 @@ pub struct Counts {
 /// `NoMemory` at any time, which counts none; nor does a call that is carried out. After a change that was not carried out, a load among them, the backend
 /// no longer tells what it holds. After the next load that is carried out it tells again.
 pub trait Backend {
-    ghost use Rattle.cj_backend.specs.Backends.{HasBackendCause, SaysOutcome, SaysAnswer, told_after, LogsIn, IsBegun, begun_with, begun_without, IsOutcome, IsAsked, told_loaded, begun_loaded, asks_after};
+    ghost use Rattle.cj_model.specs.Outcomes.{IsOutcome, IsAsked};
+    ghost use Rattle.cj_backend.specs.Backends.{HasBackendCause, SaysOutcome, SaysAnswer, told_after, LogsIn, IsBegun, begun_with, begun_without, told_loaded, begun_loaded, asks_after};
 
     /// Whether it tells what it holds: at all times but from a change that was not carried out to
     /// the next load that is.

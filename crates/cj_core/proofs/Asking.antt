@@ -1,6 +1,7 @@
 -- What a world keeps where a backend is asked, and what it answers.
 use Rattle.std.proofs.Common.{◌≡◌, ℕ, ◌<◌, ◌≤◌, Bool, true, false, cond, List, [], ◌∷◌, ◌++◌, length, map, get_or, set, Option, None, Some, IfSome, Result, Ok, Err, IfOk, refl, ap, sym, ◌∙◌, subst, arith, ⊎_elim}
 use Rattle.std.specs.Prelude.{◌↔◌, IsErrOf}
+use Rattle.std.proofs.lemmas.Bool.{cases_lt}
 use Rattle.std.proofs.lemmas.List.{length-map, map-set, set-get_or}
 use Rattle.cj_model.specs.declared.database.Slot.{Slot}
 use Rattle.cj_model.specs.declared.select.Select.{Select}
@@ -10,15 +11,15 @@ use Rattle.cj_model.specs.declared.event.Event.{Event}
 use Rattle.cj_model.specs.declared.event.Event.TheVariants.{ReadFailed}
 use Rattle.cj_model.specs.declared.moves.OpenSession.{OpenSession}
 use Rattle.cj_model.specs.Queries.{ask}
+use Rattle.cj_model.specs.Outcomes.{IsAsked}
 use Rattle.cj_model.specs.Placements.{everywhere}
 use Rattle.cj_model.specs.Histories.{log, room, at}
 use Rattle.cj_model.specs.Cores.{position_at, session_at}
-use Rattle.cj_model.specs.Moves.{read_number}
+use Rattle.cj_model.specs.Moves.{read_number, IsFarEnough}
 use Rattle.cj_model.specs.Sound.{IsSound, Holds}
 use Rattle.cj_model.proofs.Soundness.{no_tx}
 use Rattle.cj_outside.specs.Causes.{CountsFault, next}
 use Rattle.cj_book.specs.Books.{BookState, with_event, IsFull}
-use Rattle.cj_backend.specs.Backends.{IsAsked}
 use Rattle.cj_replica.specs.declared.cell.CellReadError.{CellReadError}
 use Rattle.cj_replica.specs.declared.cell.CellReadError.TheVariants as errors
 use Rattle.cj_replica.specs.Cells.{CellState, SaysAnswer}
@@ -76,6 +77,19 @@ module _ (tells : Bool) (n : ℕ) (h : List Event) (cells : List CellState) (f s
         let below : b < n = subst (λ (m : ℕ). b < m) kept.world.sound.cells (subst (λ (m : ℕ). b < m) (sym (length-map cells (λ (z : CellState). z.position))) lt) in
         subst (λ (q : Option ℕ). Holds tells (everywhere n) b (log h) x.told q) is cell.holds on ∙ ap (λ db. Some db) (part_all n b (at (log h) p) below)
 
+    -- a cell that is neither out nor below what the session has seen
+    far_enough : (r : Result (Asked × ℕ) CellReadError) → r ≡ Err errors.Failed → (q : Option ℕ) → x.position ≡ q → ((r ≡ Err errors.Out) ↔ (x.position ≡ None))
+        → ((p : ℕ) → (r ≡ Err (errors.Behind p)) ↔ ((x.position ≡ Some p) × (p < least))) → IsFarEnough (core_of n h cells f s ss g) number b
+    far_enough r failed None is out behind = let e = out.1 is in absurd (cc (failed, e))
+    far_enough r failed (Some p) is out behind =
+        record {
+          p = p;
+          stands = place ∙ is;
+          owed =
+              ⊎_elim (λ (lt : p < least). let e = (behind p).1 (is, lt) in absurd (cc (failed, e)))
+              (λ (le : least ≤ p). subst (λ (m : ℕ). m ≤ p) is_least le) (cases_lt p least);
+        }
+
     pub answers : (answer : Asked) (p : ℕ) → SaysAnswer x.told 0 select answer → IsAsked answer → x.position ≡ Some p → least ≤ p → Asks tells (core_of n h cells f s ss g) number b select (Ok (answer, p))
     answers answer p says possible position owed = (
       place ∙ position,
@@ -96,14 +110,15 @@ module _ (tells : Bool) (n : ℕ) (h : List Event) (cells : List CellState) (f s
         subst (λ (d : AskError). Asks tells (core_of n h cells f s ss g) number b select (Err d)) (sym notes.0) (place ∙ early.0, subst (λ (m : ℕ). p < m) is_least early.1)
     errs old new q errors.NoMemory e is notes out behind = subst (λ (d : AskError). Asks tells (core_of n h cells f s ss g) number b select (Err d)) (sym notes.0) tt
     errs old new q errors.Failed e is notes out behind =
+        let there = far_enough (Err errors.Failed) refl x.position refl out behind in
         ⊎_elim
         (λ (came : (e ≡ ask_errors.Failed) × (0 < room old.history) × (new ≡ with_event old (ReadFailed number q b))).
-        subst (λ (d : AskError). Asks tells (core_of n h cells f s ss g) number b select (Err d)) (sym came.0) (subst (λ (l : List Event). 0 < room l) is came.1))
+        subst (λ (d : AskError). Asks tells (core_of n h cells f s ss g) number b select (Err d)) (sym came.0) (there, subst (λ (l : List Event). 0 < room l) is came.1))
         (λ (full : (k : ℕ) × (e ≡ ask_errors.Unnoted k) × IsFull old k × (new ≡ old)).
         let none : room old.history < 1 = full.2.full in
         let no_room : room old.history ≡ 0 = omega arith in
         subst (λ (d : AskError). Asks tells (core_of n h cells f s ss g) number b select (Err d)) (sym full.1)
-        (subst (λ (l : List Event). (room l ≡ 0) × (full.0 ≡ length l)) is (no_room, full.2.events)))
+        (there, subst (λ (l : List Event). room l ≡ 0) is no_room, subst (λ (l : List Event). full.0 ≡ length l) is full.2.events))
         notes
 
 -- ---- what becomes of the book

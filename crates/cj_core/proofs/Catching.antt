@@ -1,5 +1,5 @@
 -- What a cell that takes its next entry makes of the cells.
-use Rattle.std.proofs.Common.{◌≡◌, ◌≢◌, ℕ, suc, ◌+◌, ◌<◌, ◌≤◌, not, Bool, true, cond, List, [], ◌∷◌, length, map, take, get_or, set, slice_get, All, Option, Some, option_map, IfSome, Result, Ok, Err, refl, ap, sym, ◌∙◌, subst, arith}
+use Rattle.std.proofs.Common.{◌≡◌, ◌≢◌, ℕ, suc, ◌+◌, ◌<◌, ◌≤◌, not, Bool, true, cond, List, [], ◌∷◌, length, map, take, get_or, set, slice_get, All, Option, Some, option_map, IfSome, IfOk, Result, Ok, Err, refl, ap, sym, ◌∙◌, subst, arith}
 use Rattle.std.proofs.lemmas.Bool.{both_ways}
 use Rattle.std.proofs.lemmas.List.{get_or_default, length-map}
 use Rattle.std.proofs.lemmas.List.Elements.{All-nil, All-cons}
@@ -27,7 +27,7 @@ use Rattle.cj_replica.specs.declared.cell.Caught.{Caught}
 use Rattle.cj_replica.specs.declared.cell.Caught.TheVariants as caught
 use Rattle.cj_replica.specs.declared.cell.CellError.{CellError}
 use Rattle.cj_replica.specs.declared.cell.CellError.TheVariants as errors
-use Rattle.cj_replica.specs.Cells.{CellState, HasCellCause, SaysOutcome, is_concerned, is_skipped, told_after, position_after}
+use Rattle.cj_replica.specs.Cells.{CellState, HasCellCause, SaysOutcome, IsCaught, is_concerned, is_skipped, told_after, position_after}
 use Rattle.cj_core.specs.Worlds.{core_of, world_of, IsCell}
 use Rattle.cj_core.specs.Counting.{did_fail}
 use Rattle.cj_core.specs.Kept.{Kept}
@@ -92,18 +92,19 @@ module _ (tells : Bool) (n : ℕ) (h : List Event) (cells : List CellState) (b :
       ∙ (ap (λ db. Some db) (sym (at_next (log h) can.p e entry)) ∙ ap (λ db. Some db) (sym (part_all n b (at (log h) (can.p + 1)) can.below)))))
   holds_now (Err d) skipped told q is = subst (λ (z : Option ℕ). Holds tells (everywhere n) b (log h) y.told z) (sym is) tt
 
-  does_now : (r : Result Caught CellError) → is_concerned x e ≡ not (is_skipped r) → SaysOutcome x.told e r → y.position ≡ position_after (can.p + 1) r
+  does_now : (r : Result Caught CellError) → is_concerned x e ≡ not (is_skipped r) → SaysOutcome x.told e r → IfOk r IsCaught → y.position ≡ position_after (can.p + 1) r
       → (f s : ℕ) (ss : List OpenSession) (g : ℕ) → DoesEntry tells (core_of n h cells f s ss g) b can.p e (did_of r) y.position
-  does_now (Ok caught.Skipped) skipped says is f s ss g = absurd (both_ways (is_concerned x e) skipped concerned)
-  does_now (Ok (caught.Did o)) skipped says is f s ss g = (
+  does_now (Ok caught.Skipped) skipped says possible is f s ss g = absurd (both_ways (is_concerned x e) skipped concerned)
+  does_now (Ok (caught.Did o)) skipped says possible is f s ss g = (
     concerns_all n b (take can.p (log h)) e e.act can.below lone,
+    possible,
     λ on.
         let o_is : o ≡ (step (at (log h) can.p) e).outcome = subst (λ (t : Option (List Slot)). IfSome t (λ db. o ≡ (step db e).outcome)) (told_now on) says in
         ap (option_map (λ (z : Entry). (step (at (log h) can.p) z).outcome)) entry ∙ ap (λ z. Some z) (sym o_is),
     is,
   )
-  does_now (Err errors.Failed) skipped says is f s ss g = is
-  does_now (Err errors.Starved) skipped says is f s ss g = is
+  does_now (Err errors.Failed) skipped says possible is f s ss g = is
+  does_now (Err errors.Starved) skipped says possible is f s ss g = is
 
   counted : (r : Result Caught CellError) → HasCellCause x.faults y.faults r → y.faults ≡ cond (did_fail (did_of r)) (next x.faults) x.faults
   counted (Ok caught.Skipped) cause = cause.uncounted (λ is. cc is)
@@ -114,9 +115,9 @@ module _ (tells : Bool) (n : ℕ) (h : List Event) (cells : List CellState) (b :
   same_cell : get_or cells b y ≡ x
   same_cell = get_or_default cells b y x can.within ∙ sym there
 
-  pub took : (r : Result Caught CellError) (m : ℕ) (now : List CellState) → m ≡ can.p + 1 → now ≡ set cells b y → is_concerned x e ≡ not (is_skipped r) → SaysOutcome x.told e r
+  pub took : (r : Result Caught CellError) (m : ℕ) (now : List CellState) → m ≡ can.p + 1 → now ≡ set cells b y → is_concerned x e ≡ not (is_skipped r) → SaysOutcome x.told e r → IfOk r IsCaught
       → HasCellCause x.faults y.faults r → y.told ≡ told_after x.told e r → y.position ≡ position_after m r → Took tells n h cells b (did_of r) now
-  took r m now is_next is_set skipped says cause told position =
+  took r m now is_next is_set skipped says possible cause told position =
       let place : y.position ≡ position_after (can.p + 1) r = position ∙ ap (λ k. position_after k r) is_next in
       record {
         cell = y;
@@ -129,7 +130,7 @@ module _ (tells : Bool) (n : ℕ) (h : List Event) (cells : List CellState) (b :
               stands = position_of cells b x can.within ∙ can.stands x;
               entry = e;
               there = entry;
-              does = does_now r skipped says place f s ss g;
+              does = does_now r skipped says possible place f s ss g;
             };
         faults = subst (λ (z : CellState). y.faults ≡ cond (did_fail (did_of r)) (next z.faults) z.faults) (sym same_cell) (counted r cause);
       }

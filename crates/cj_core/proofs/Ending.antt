@@ -37,7 +37,7 @@ module _ (tells : Bool) (n : ℕ) (h : List Event) (cells : List CellState) (f s
         let lt : b < n = subst (λ (m : ℕ). b < m) kept.world.sound.cells (kept.world.sound.hosts b on) in
         (on, concerns_all n b (log h) e e.act lt (lone_at (core_of n h cells f s ss g) kept.world.sound (done h) e is))
 
-    pub unfinished : (r : Refusal) → left ≡ 0 → Refuses f s r → AnswersEntry (everywhere n) h (h ++ Ended f s ∷ []) (done h) e (reply.Refused r)
+    pub unfinished : (r : Refusal) → left ≡ 0 → Refuses f s r → AnswersEntry tells (everywhere n) h (h ++ Ended f s ∷ []) (done h) e (reply.Refused r)
     unfinished r none how =
         let some = kept.served fr in
         inr
@@ -68,9 +68,10 @@ module _ (tells : Bool) (n : ℕ) (h : List Event) (cells : List CellState) (f s
     clear : (has f (some_bit left some fits).0 ≡ false) × (has s (some_bit left some fits).0 ≡ false)
     clear = let q = some_bit left some fits in or_parts (has f q.0) (has s q.0) (not-true (has f q.0 || has s q.0) parts.1)
 
-    pub finished : (e : Entry) → opened h ≡ Some e → (o : Outcome) → heard ≡ Some o → tells ≡ true → AnswersEntry (everywhere n) h (h ++ Ended f s ∷ []) (done h) e (outcome_reply o)
-    finished e is o there t =
+    pub finished : (e : Entry) → opened h ≡ Some e → (o : Outcome) → heard ≡ Some o → AnswersEntry tells (everywhere n) h (h ++ Ended f s ∷ []) (done h) e (outcome_reply o)
+    finished e is o there =
         let q = some_bit left some fits in
+        let right = kept.right o there in
         inl
         record {
           failed = f;
@@ -78,7 +79,8 @@ module _ (tells : Bool) (n : ℕ) (h : List Event) (cells : List CellState) (f s
           masks = ends-last h f s;
           some = inr (q.0, target e is q.0 parts.0, clear.0, clear.1);
           outcome = o;
-          says = rw (log-same h (Ended f s) refl) (kept.right o there t);
+          possible = right.0;
+          says = λ t. rw (log-same h (Ended f s) refl) (right.1 t);
           replied = refl;
         }
 

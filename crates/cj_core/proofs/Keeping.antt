@@ -172,7 +172,7 @@ module _ (tells : Bool) (n : ℕ) (h : List Event) (cells : List CellState) (f s
       record {
         world = record { sound = sound; full = refl; few = w.few; positions = refl; cells = λ k d lt. subst (λ (l : List Entry). IsCell tells n l k (get_or cells k d)) (sym same) (w.cells k d lt) };
         served = λ now. let o = kept.served (sym still ∙ now) in (o.0, keeps (sym still ∙ now) o.0 ∙ o.1);
-        right = λ o there on. ap (λ l. said l (done (h ++ e ∷ []))) same ∙ (ap (said (log h)) was ∙ kept.right o there on);
+        right = λ o there. (let q = kept.right o there in (q.0, λ on. ap (λ l. said l (done (h ++ e ∷ []))) same ∙ (ap (said (log h)) was ∙ q.1 on)));
         whole =
             λ now k on there. kept.whole (sym still ∙ now) k (sym (keeps (sym still ∙ now) k) ∙ on) (there ∙ ap (λ l. Some (length l)) same);
       }

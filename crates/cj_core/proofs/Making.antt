@@ -93,7 +93,7 @@ module _ (tells : Bool) (old : WorldState) (moves : List Move) (n : ℕ) (came :
   making_run =
       record {
         runs = making.runs;
-        chains = λ on s a between. run_chained old.core (take n moves) (map given_of came) now.core world.sound front_are front_count (subst (λ (t : Bool). Runs t old.core (take n moves) (map given_of came) now.core) on making.runs) s a between;
+        chains = run_chained tells old.core (take n moves) (map given_of came) now.core world.sound front_are front_count making.runs;
         causes = making.causes;
       }
 

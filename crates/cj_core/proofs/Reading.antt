@@ -15,7 +15,7 @@ use Rattle.cj_model.specs.Answering.{ServesAt}
 use Rattle.cj_model.specs.Cores.{Core, position_at, session_at}
 use Rattle.cj_model.specs.Moves.{Given, place, IsServing, Reaches, ReadsTooEarly, ReadsSame, Reads, ReadsOrWaits, with_read, answered_at, was_answered, still_reading, tried_of, tried_with}
 use Rattle.cj_model.proofs.Masks.{some_bit}
-use Rattle.cj_backend.specs.Backends.{IsAsked}
+use Rattle.cj_model.specs.Outcomes.{IsAsked}
 use Rattle.cj_core.specs.declared.cells.AskError.TheVariants as errors
 use Rattle.cj_core.specs.Counting.{tells_fault}
 use Rattle.cj_core.specs.Effects.{Asks, asked_core, IsReadOf, IsReadOther, RefusesOrStays, answer_given}
@@ -59,6 +59,7 @@ module _ (tells : Bool) (c : Core) (s b : ℕ) (select : Select) (same : ReadsSa
           p = p;
           stands = asks.0;
           owed = asks.1;
+          possible = asks.3;
           says = asks.4;
           after = after ∙ ap (λ (x : Core). with_read x s (λ y. answered_at p (was_answered y))) same_core;
         })))
@@ -90,7 +91,8 @@ module _ (tells : Bool) (c : Core) (s b : ℕ) (select : Select) (same : ReadsSa
         (reads (Ok (moved.Refused (record { code = READ_FAULT; a = serving; b = 0 }))) z
         (inr (inr (inr (record {
           serves = serves;
-          space = asks;
+          there = asks.0;
+          space = asks.1;
           all = λ k there. h.0 k ((is k).0 there);
           mask = serving;
           serving = is;
@@ -102,7 +104,8 @@ module _ (tells : Bool) (c : Core) (s b : ℕ) (select : Select) (same : ReadsSa
         (reads (Ok moved.Failed) z
         (record {
           serves = serves;
-          space = asks;
+          there = asks.0;
+          space = asks.1;
           more = λ all. h.0 (λ k on. all k ((is k).1 on));
           after = h.2 ∙ ap (λ (x : Core). with_read x s (still_reading select (tried_with c s b))) noted;
         }))
@@ -115,8 +118,9 @@ module _ (tells : Bool) (c : Core) (s b : ℕ) (select : Select) (same : ReadsSa
         (reads (Ok (moved.Refused (record { code = HISTORY_FULL; a = n; b = 0 }))) z
         (inr (inr (inl (record {
           serves = serves;
-          full = asks.0;
-          refused = ap (λ (k : ℕ). record { code = HISTORY_FULL; a = k; b = 0 }) asks.1;
+          there = asks.0;
+          full = asks.1;
+          refused = ap (λ (k : ℕ). record { code = HISTORY_FULL; a = k; b = 0 }) asks.2;
           after = after ∙ ap (λ (x : Core). with_read x s was_answered) same_core;
         })))))
 

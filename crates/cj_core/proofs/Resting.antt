@@ -12,6 +12,7 @@ use Rattle.cj_model.specs.declared.limits.TheConstants.{BACKEND_LIMIT}
 use Rattle.cj_model.specs.Placements.{everywhere}
 use Rattle.cj_model.specs.Histories.{has, log, done, free, enabled, room}
 use Rattle.cj_model.specs.Cores.{Core, position_at}
+use Rattle.cj_model.specs.Moves.{happened}
 use Rattle.cj_model.specs.Sound.{IsSound, Stands, Holds}
 use Rattle.cj_model.proofs.Masks.{has-zero}
 use Rattle.cj_model.proofs.Pushed.{enabled-push, log-same, done-same}
@@ -19,7 +20,7 @@ use Rattle.cj_book.specs.declared.error.BookError.{BookError}
 use Rattle.cj_book.specs.declared.error.BookError.TheVariants.{HistoryFull}
 use Rattle.cj_replica.specs.Cells.{CellState}
 use Rattle.cj_core.specs.Worlds.{core_of, world_of}
-use Rattle.cj_core.specs.Effects.{happened, HadRoom}
+use Rattle.cj_core.specs.Effects.{HadRoom}
 use Rattle.cj_core.specs.Kept.{Kept}
 use Rattle.cj_core.specs.Starts.{IsFresh, AreFresh, AreEmpty, enables, begun}
 use Rattle.cj_core.proofs.Keeping.{position_of}

@@ -14,12 +14,12 @@ use Rattle.cj_model.specs.Histories.{log}
 use Rattle.cj_model.specs.Legality.{IsWritten, IsFit, FitsTx}
 use Rattle.cj_model.specs.Answering.{Served, Unserved}
 use Rattle.cj_model.specs.Cores.{Core, session_at, session_of}
-use Rattle.cj_model.specs.Moves.{Given, is_open, forbidden_by, tx_of_act, open_tx, next_entry, SchedulesAct, SchedulesOf, Schedules, with_counted}
+use Rattle.cj_model.specs.Moves.{Given, is_open, forbidden_by, tx_of_act, open_tx, next_entry, SchedulesAct, SchedulesOf, Schedules, scheduled_as, with_counted}
 use Rattle.cj_model.specs.Sound.{IsSound, IsLone}
 use Rattle.cj_model.proofs.Sessions.{session_at-is}
 use Rattle.cj_model.proofs.Soundness.{entry_fits, no_tx, request_of-act}
 use Rattle.cj_book.specs.declared.error.BookError.TheVariants.{NoBackend, HistoryFull}
-use Rattle.cj_core.specs.Effects.{IsChange, SchedulesAs, scheduled_as}
+use Rattle.cj_core.specs.Effects.{IsChange, SchedulesAs}
 
 -- ---- the next entry
 

@@ -16,6 +16,7 @@ use Rattle.cj_model.specs.Placements.{everywhere, hosts, concerns}
 use Rattle.cj_model.specs.Steps.{table_written}
 use Rattle.cj_model.specs.Histories.{log, done, free, enabled, said}
 use Rattle.cj_model.specs.Cores.{Core, position_at}
+use Rattle.cj_model.specs.Outcomes.{IsOutcome}
 use Rattle.cj_model.specs.Moves.{place, Takes, DoesEntry, Applies, Replays, failed_after, starved_after}
 use Rattle.cj_model.specs.Sound.{IsSound, IsLone}
 use Rattle.cj_model.proofs.Effects.{sound_applied, sound_replayed, stands_there, is_there}
@@ -99,13 +100,14 @@ module _ (tells : Bool) (n : ℕ) (h : List Event) (cells : List CellState) (f s
         let hi : length (log h) ≤ done h + 1 = kept.world.sound.one_open.1 in
         omega arith
 
-    heard_right : (d' : Did) → d ≡ d' → (o : Outcome) → heard_after heard d' ≡ Some o → tells ≡ true → said (log h) (done h) ≡ Some o
-    heard_right (did.Done r) is o there t =
+    heard_right : (d' : Did) → d ≡ d' → (o : Outcome) → heard_after heard d' ≡ Some o → IsOutcome o × (tells ≡ true → said (log h) (done h) ≡ Some o)
+    heard_right (did.Done r) is o there =
         let does = subst (λ (x : Did). DoesEntry tells (core_of n h cells f s ss g) b takes.p takes.entry x took.cell.position) is takes.does in
-        ap (said (log h)) (sym open_there) ∙ (does.1 t ∙ there)
-    heard_right did.Skipped is o there t = kept.right o there t
-    heard_right did.Failed is o there t = kept.right o there t
-    heard_right did.Starved is o there t = kept.right o there t
+        let same : r ≡ o = cc there in
+        (subst IsOutcome same does.1, λ t. ap (said (log h)) (sym open_there) ∙ (does.2 t ∙ there))
+    heard_right did.Skipped is o there = kept.right o there
+    heard_right did.Failed is o there = kept.right o there
+    heard_right did.Starved is o there = kept.right o there
 
     heard_here : (d' : Did) → d ≡ d' → took.cell.position ≡ Some (length (log h)) → IsSome (heard_after heard d')
     heard_here (did.Done r) is there = refl

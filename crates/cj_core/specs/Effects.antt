@@ -1,5 +1,5 @@
 -- What the parts of moves make of a world.
-use Rattle.std.specs.Prelude.{◌≡◌, ◌≢◌, ◌⊎◌, ℕ, ◌+◌, ◌<◌, ◌≤◌, Bool, true, false, List, [], ◌∷◌, ◌++◌, length, filter, not, ◌==◌, Result, Ok, Err}
+use Rattle.std.specs.Prelude.{◌≡◌, ◌≢◌, ◌⊎◌, ℕ, ◌+◌, ◌<◌, ◌≤◌, Bool, true, false, length, Result, Ok, Err}
 use Rattle.std.specs.declared.option.Option.{Option}
 use Rattle.std.specs.declared.option.Option.TheVariants.{None, Some}
 use Rattle.cj_model.specs.declared.request.Act.{Act}
@@ -12,20 +12,18 @@ use Rattle.cj_model.specs.declared.answer.Asked.TheVariants as asked
 use Rattle.cj_model.specs.declared.moves.Moved.{Moved}
 use Rattle.cj_model.specs.declared.moves.Moved.TheVariants as moved
 use Rattle.cj_model.specs.declared.select.Select.{Select}
-use Rattle.cj_model.specs.declared.event.Event.{Event}
 use Rattle.cj_model.specs.declared.event.Event.TheVariants as event
 use Rattle.cj_model.specs.declared.codes.TheConstants.{UNFINISHED, READ_FAULT, STARVED_ALL}
 use Rattle.cj_model.specs.declared.moves.OpenRead.{OpenRead}
-use Rattle.cj_model.specs.declared.moves.OpenSession.{OpenSession}
+use Rattle.cj_model.specs.Outcomes.{IsAsked}
 use Rattle.cj_model.specs.Plain.{request_of}
 use Rattle.cj_model.specs.Queries.{ask}
 use Rattle.cj_model.specs.Histories.{has, log, done, free, opened, room, at}
 use Rattle.cj_model.specs.Answering.{Served, Unserved, AnswersEntry}
-use Rattle.cj_model.specs.Cores.{Core, position_at, session_at, fresh_session, with_session}
-use Rattle.cj_model.specs.Moves.{last_number, open_tx, counted, answered_at, ended, read_number, with_read, was_answered, still_reading}
+use Rattle.cj_model.specs.Cores.{Core, position_at, session_at}
+use Rattle.cj_model.specs.Moves.{last_number, open_tx, ended, happened, IsFarEnough, read_number, with_read, was_answered, still_reading}
 use Rattle.cj_book.specs.declared.error.BookError.{BookError}
 use Rattle.cj_book.specs.declared.error.BookError.TheVariants.{InProgress, NoBackend, HistoryFull, NoMemory}
-use Rattle.cj_backend.specs.Backends.{IsAsked}
 use Rattle.cj_book.specs.Books.{BookState, with_event, IsFull}
 use Rattle.cj_replica.specs.declared.cell.CellReadError.{CellReadError}
 use Rattle.cj_replica.specs.declared.cell.CellReadError.TheVariants as cell_errors
@@ -36,43 +34,6 @@ use Rattle.cj_core.specs.Worlds.{WorldState}
 -- the world with another core
 abbrev pub with_core : WorldState → Core → WorldState
 with_core w c = record w { core = c }
-
--- one more event
-abbrev pub happened : Core → Event → Core
-happened c e = record c { history = c.history ++ e ∷ [] }
-
--- a session with the next number
-abbrev pub opened_for : Core → List ℕ → Core
-opened_for c user = record c { sessions = c.sessions ++ fresh_session (c.greatest + 1) user ∷ []; greatest = c.greatest + 1 }
-
-abbrev pub closed_for : Core → ℕ → Core
-closed_for c s = record c { sessions = filter (λ (x : OpenSession). not (x.number == s)) c.sessions }
-
--- the entry is open, and its session has counted it
-abbrev pub scheduled_as : Core → ℕ → Entry → Core
-scheduled_as c s e =
-    record {
-      placement = c.placement;
-      history = c.history ++ event.Sched e ∷ [];
-      positions = c.positions;
-      failed = 0;
-      starved = 0;
-      sessions = with_session c.sessions s counted;
-      greatest = c.greatest;
-    }
-
--- the entry has ended, and its session was answered
-abbrev pub ended_for : Core → ℕ → Core
-ended_for c s =
-    record {
-      placement = c.placement;
-      history = ended c;
-      positions = c.positions;
-      failed = 0;
-      starved = 0;
-      sessions = with_session c.sessions s (answered_at (last_number c));
-      greatest = c.greatest;
-    }
 
 -- an act that is scheduled outside transactions
 abbrev pub IsChange : Act → Type 0
@@ -104,9 +65,9 @@ abbrev pub Refuses : ℕ → ℕ → Refusal → Type 0
 Refuses failed starved refusal =
     ((failed ≢ 0) × (refusal ≡ record { code = UNFINISHED; a = failed; b = starved })) ⊎ ((failed ≡ 0) × (refusal ≡ record { code = STARVED_ALL; a = 0; b = starved }))
 
--- what the open entry is answered, where the backends tell
+-- what the open entry is answered
 abbrev pub AnswersOpen : Bool → Core → Reply → Type 0
-AnswersOpen tells c reply = tells ≡ true → (e : Entry) → opened c.history ≡ Some e → AnswersEntry c.placement c.history (ended c) (done c.history) e reply
+AnswersOpen tells c reply = (e : Entry) → opened c.history ≡ Some e → AnswersEntry tells c.placement c.history (ended c) (done c.history) e reply
 
 -- what backend b answered a session's query, or why it did not
 abbrev pub Asks : Bool → Core → ℕ → ℕ → Select → Result (Asked × ℕ) AskError → Type 0
@@ -114,8 +75,8 @@ Asks tells c s b select (Ok (answer, p)) =
     (position_at c b ≡ Some p) × ((session_at c s).least ≤ p) × (p ≤ last_number c) × IsAsked answer × (tells ≡ true → answer ≡ ask (at (log c.history) p) (open_tx c s) select)
 Asks tells c s b select (Err errors.Out) = position_at c b ≡ None
 Asks tells c s b select (Err (errors.Behind p)) = (position_at c b ≡ Some p) × (p < (session_at c s).least)
-Asks tells c s b select (Err errors.Failed) = 0 < room c.history
-Asks tells c s b select (Err (errors.Unnoted n)) = (room c.history ≡ 0) × (n ≡ length c.history)
+Asks tells c s b select (Err errors.Failed) = IsFarEnough c s b × (0 < room c.history)
+Asks tells c s b select (Err (errors.Unnoted n)) = IsFarEnough c s b × (room c.history ≡ 0) × (n ≡ length c.history)
 Asks tells c s b select (Err errors.NoMemory) = Unit {0}
 
 -- the core after that: a failure is an event of the history, where that has room

@@ -1,5 +1,5 @@
 -- Lists of moves: what each came to, and how far a list came.
-use Rattle.std.specs.Prelude.{◌≡◌, ℕ, ◌≤◌, Bool, true, List, [], ◌∷◌, length, take, Ok, Err}
+use Rattle.std.specs.Prelude.{◌≡◌, ℕ, ◌≤◌, Bool, List, [], ◌∷◌, length, take, Ok, Err}
 use Rattle.cj_model.specs.declared.moves.Move.{Move}
 use Rattle.cj_model.specs.declared.moves.Made.{Made}
 use Rattle.cj_model.specs.declared.moves.Made.TheVariants as made
@@ -26,10 +26,10 @@ faults_over faults (m ∷ ms) [] = faults
 abbrev pub HaveCauses : WorldState → WorldState → List Move → List Given → Type 0
 HaveCauses old new moves given = faults_of new.cells ≡ faults_over (faults_of old.cells) moves given
 
--- The moves were made in order, and this is what each gave. Where the backends tell, the replies to each session are a chain of turns from what it had seen.
+-- The moves were made in order, and this is what each gave. The replies to each session are a chain of turns from what it had seen.
 pub record HasRun (tells : Bool) (old : WorldState) (moves : List Move) (given : List Given) (new : WorldState) : Type 0 where
   pub runs : Runs tells old.core moves given new.core
-  pub chains : tells ≡ true → (s : ℕ) (a : Seen) → IsBetween a old.core s → IsChained s old.core moves given new.core a
+  pub chains : (s : ℕ) (a : Seen) → IsBetween a old.core s → IsChained tells s old.core moves given new.core a
   pub causes : HaveCauses old new moves given
 
 -- The first of the moves were made, and no more.

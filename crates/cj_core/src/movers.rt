@@ -6,7 +6,7 @@ ghost use Rattle.cj_model.specs.Plain as plain;
 ghost use Rattle.cj_model.specs.Legality.{IsWritten};
 ghost use Rattle.cj_model.specs.Cores.{session_at};
 ghost use Rattle.cj_model.specs.Moves as moves;
-ghost use Rattle.cj_model.specs.Moves.{Opens, Closes, Schedules, Applies, Ends, Reads, ReadsOrWaits, Arms, Disables, Replays, Enables, MovesTo, not_now, with_read, answered_at, was_answered, still_reading};
+ghost use Rattle.cj_model.specs.Moves.{Opens, Closes, Schedules, Applies, Ends, Reads, ReadsOrWaits, Arms, Disables, Replays, Enables, MovesTo, not_now, with_read, answered_at, was_answered, still_reading, IsFarEnough};
 ghost use Rattle.cj_model.specs.Answering.{ServesAt};
 ghost use Rattle.cj_model.specs.Runs.{IsLoneWrite};
 ghost use Rattle.cj_core.specs.Counting.{HasCauses};

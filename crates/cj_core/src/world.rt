@@ -12,13 +12,13 @@ ghost use Rattle.cj_model.specs.Answering.{ServesAt};
 ghost use Rattle.cj_model.specs.Cores as cores;
 ghost use Rattle.cj_model.specs.Cores.{session_at, position_at};
 ghost use Rattle.cj_model.specs.Moves as moves;
-ghost use Rattle.cj_model.specs.Moves.{Applies, Replays, IsServing, ReadsOther, ReadsSame, forbidden_by, next_entry, not_now, ended, with_read, with_counted, counted, answered_at, was_answered, still_reading};
+ghost use Rattle.cj_model.specs.Moves.{Applies, Replays, IsServing, ReadsOther, ReadsSame, forbidden_by, next_entry, not_now, ended, with_read, with_counted, happened, opened_for, closed_for, scheduled_as, ended_for, counted, answered_at, was_answered, still_reading};
 ghost use Rattle.cj_model.specs.Sound.{IsLone};
 ghost use Rattle.cj_replica.specs.Cells.{CellState};
 ghost use Rattle.cj_core.specs.Worlds.{IsWorld};
 ghost use Rattle.cj_core.specs.Starts.{AreEmpty, AreFresh, begun};
 ghost use Rattle.cj_core.specs.Counting.{did_fail, faults_after, faults_of};
-ghost use Rattle.cj_core.specs.Effects.{AnswersOpen, Asks, IsChange, asked_core, failed_asked, IsReadOf, IsReadOther, Refuses, with_core, happened, opened_for, closed_for, scheduled_as, ended_for, SchedulesAs, HadRoom};
+ghost use Rattle.cj_core.specs.Effects.{AnswersOpen, Asks, IsChange, asked_core, failed_asked, IsReadOf, IsReadOther, Refuses, with_core, SchedulesAs, HadRoom};
 
 use crate::cells::{
     AskError, failed_after, heard_after, noted, place, starved_after, take,

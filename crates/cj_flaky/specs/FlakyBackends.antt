@@ -11,11 +11,12 @@ use Rattle.cj_model.specs.declared.request.Act.TheVariants as act
 use Rattle.cj_model.specs.declared.select.Select.{Select}
 use Rattle.cj_model.specs.declared.answer.Asked.{Asked}
 use Rattle.cj_model.specs.declared.answer.Outcome.{Outcome}
+use Rattle.cj_model.specs.Outcomes.{IsOutcome, IsAsked}
 use Rattle.cj_model.specs.Storable.{IsStorable}
 use Rattle.cj_backend.specs.declared.backend.BackendError.{BackendError}
 use Rattle.cj_backend.specs.declared.backend.BackendError.TheVariants.{Failed}
 use Rattle.cj_backend.specs.declared.backend.Backend.{Ghosts}
-use Rattle.cj_backend.specs.Backends.{HasBackendCause, SaysOutcome, SaysAnswer, told_after, told_loaded, LogsIn, begun_with, begun_without, begun_loaded, asks_after, IsOutcome, IsAsked}
+use Rattle.cj_backend.specs.Backends.{HasBackendCause, SaysOutcome, SaysAnswer, told_after, told_loaded, LogsIn, begun_with, begun_without, begun_loaded, asks_after}
 
 pub record FlakyState (B : Type 0) : Type 0 where
   -- the backend that it passes calls on to

@@ -17,7 +17,7 @@ use Rattle.cj_model.specs.Steps.{seen, other_writer, table_written, write_done, 
 use Rattle.cj_model.specs.Queries.{ask}
 use Rattle.cj_model.proofs.QueryLaws.{IsAskable, ask_has_columns}
 use Rattle.cj_model.proofs.RefusalLaws.{IsChangeRefusal, IsQueryRefusal, IfRefused, write_coded, ask_coded}
-use Rattle.cj_backend.specs.Backends.{IsOutcome, IsAsked}
+use Rattle.cj_model.specs.Outcomes.{IsOutcome, IsAsked}
 use Rattle.cj_query.specs.Even.{HasEvenRows}
 
 -- ---- changes

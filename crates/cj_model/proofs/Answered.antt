@@ -1,5 +1,5 @@
 -- What each move leaves a session: a turn where it answers it, and else what stood between two replies.
-use Rattle.std.proofs.Common.{◌≡◌, ◌≢◌, ℕ, ◌<◌, ◌≤◌, ◌==◌, ◌&&◌, true, false, cond, List, [], ◌∷◌, ◌++◌, length, Option, None, Some, Ok, Err, is_none, refl, ap, sym, ◌∙◌, subst, arith, ⊎_elim}
+use Rattle.std.proofs.Common.{◌≡◌, ◌≢◌, ℕ, ◌<◌, ◌≤◌, ◌==◌, ◌&&◌, Bool, true, false, cond, List, [], ◌∷◌, ◌++◌, length, Option, None, Some, Ok, Err, is_none, refl, ap, sym, ◌∙◌, subst, arith, ⊎_elim}
 use mathlib.Core.List.{IsPrefix}
 use Rattle.std.specs.Option.{MatchOption}
 use Rattle.std.proofs.lemmas.Bool.{cases_eq, eqb-true, eqb-false, eq-eqb, ne_eqb, both_ways, cond_both, and_parts}
@@ -41,9 +41,9 @@ use Rattle.cj_model.proofs.TurnCases.{Rests, turn_end, turn_unserved, turn_full,
 use Rattle.cj_model.proofs.Between.{seen, Follows, follows_own, follows_rest, follows_opened, between_follows, between_fresh, between_opened, between_closed, seen_event, seen_ended, seen_other, seen_sched, seen_changed, tried_none, tried_still, tried_again, prior, with_cases, opened_all}
 
 -- what a move leaves session s that has seen a, where it gave it this reply
-abbrev pub After : Seen → Core → ℕ → Move → Core → Option Reply → Type 0
-After a c s m z None = IsBetween a z s
-After a c s m z (Some reply) = Turn c.placement s a (call_at c s m reply) (seen z s) × IsBetween (seen z s) z s
+abbrev pub After : Bool → Seen → Core → ℕ → Move → Core → Option Reply → Type 0
+After tells a c s m z None = IsBetween a z s
+After tells a c s m z (Some reply) = Turn tells c.placement s a (call_at c s m reply) (seen z s) × IsBetween (seen z s) z s
 
 -- an act where the session has no transaction has none
 tx_none : (a : Act) → tx_of_act 0 a ≡ 0
@@ -65,18 +65,18 @@ to_other : (t s : ℕ) (r : Reply) (P : Option Reply → Type 0) → (t ≡ s �
 to_other t s r P ne h = cond_both (t == s) (Some r) None P (λ e. absurd (ne (eqb-true t s e))) (λ f. h)
 
 -- the turn up to where the session stands now, from which it goes on
-replied : (p : Placement) (a : Seen) (c z : Core) (h : List Event) (s : ℕ) (x : OpenSession) (call : Call) (n : ℕ) → IsSound z → Follows c z h s x → is_by s (opened h) ≡ false → x.reading ≡ None
-    → x.least ≡ n → Turn p s a call (record { front = h; least = n }) → Turn p s a call (seen z s) × IsBetween (seen z s) z s
-replied p a c z h s x call n v f idle none least turn =
+replied : (tells : Bool) (p : Placement) (a : Seen) (c z : Core) (h : List Event) (s : ℕ) (x : OpenSession) (call : Call) (n : ℕ) → IsSound z → Follows c z h s x → is_by s (opened h) ≡ false → x.reading ≡ None
+    → x.least ≡ n → Turn tells p s a call (record { front = h; least = n }) → Turn tells p s a call (seen z s) × IsBetween (seen z s) z s
+replied tells p a c z h s x call n v f idle none least turn =
     let now : (session_at z s).least ≡ n = ap (λ (y : OpenSession). y.least) f.session ∙ least in (
-      subst (λ (g : List Event). Turn p s a call (record { front = g; least = (session_at z s).least })) (sym f.history)
-          (subst (λ (m : ℕ). Turn p s a call (record { front = h; least = m })) (sym now) turn),
+      subst (λ (g : List Event). Turn tells p s a call (record { front = g; least = (session_at z s).least })) (sym f.history)
+          (subst (λ (m : ℕ). Turn tells p s a call (record { front = h; least = m })) (sym now) turn),
       between_fresh z s v (ap (λ g. is_by s (opened g)) f.history ∙ idle) (ap (λ (y : OpenSession). y.reading) f.session ∙ none),
     )
 
 -- ---- moves
 
-module _ (a : Seen) (c z : Core) (s : ℕ) (w : IsSound c) (v : IsSound z) (j : IsBetween a c s) where
+module _ (tells : Bool) (a : Seen) (c z : Core) (s : ℕ) (w : IsSound c) (v : IsSound z) (j : IsBetween a c s) where
   -- it has no transaction
   outside : open_tx c s ≡ 0
   outside = no_tx c s w
@@ -96,18 +96,18 @@ module _ (a : Seen) (c z : Core) (s : ℕ) (w : IsSound c) (v : IsSound z) (j : 
       between_follows a c z c.history s (session_at c s) j (follows_rest c z c.history s c.placement ps failed starved c.sessions (prefix_self c.history) is refl) (λ q. q)
 
   -- a session opens
-  opens : (user : List ℕ) (g : Given) → Opens c user g z → After a c s (Open user) z (reply_given c s (Open user) g)
+  opens : (user : List ℕ) (g : Given) → Opens c user g z → After tells a c s (Open user) z (reply_given c s (Open user) g)
   opens user (Ok (moved.Session n)) h =
       ⊎_elim
-      (λ (e : s ≡ n). between_opened a c z s user w j (e ∙ h.1) (subst (λ (k : ℕ). z ≡ record c { sessions = c.sessions ++ fresh_session k user ∷ []; greatest = k }) (sym e) h.2))
-      (λ (e : s ≡ n → ⊥). between_follows a c z c.history s (session_at c s) j (follows_opened c z s n user e h.1 h.2) (λ q. q))
+      (λ (e : s ≡ n). between_opened a c z s user w j (e ∙ h.1) (subst (λ (k : ℕ). z ≡ record c { sessions = c.sessions ++ fresh_session k user ∷ []; greatest = k }) (sym (e ∙ h.1)) h.2))
+      (λ (e : s ≡ n → ⊥). between_follows a c z c.history s (session_at c s) j (follows_opened c z s n user e h.1 (subst (λ (k : ℕ). z ≡ record c { sessions = c.sessions ++ fresh_session k user ∷ []; greatest = k }) (sym h.1) h.2)) (λ q. q))
       (cases_eq s n)
   opens user (Ok (moved.Refused r)) h = same h.2
   opens user (Err NoMemory) h = same h
   opens user _ h = absurd h
 
   -- a session closes
-  closes : (k : ℕ) (g : Given) → Closes c k g z → After a c s (Close k) z (reply_given c s (Close k) g)
+  closes : (k : ℕ) (g : Given) → Closes c k g z → After tells a c s (Close k) z (reply_given c s (Close k) g)
   closes k (Ok moved.Closed) h =
       ⊎_elim
       (λ (e : s ≡ k). between_closed a c z s j (subst (λ (n : ℕ). z ≡ record c { sessions = without n c.sessions }) (sym e) h))
@@ -117,17 +117,17 @@ module _ (a : Seen) (c z : Core) (s : ℕ) (w : IsSound c) (v : IsSound z) (j : 
   closes k _ h = absurd h
 
   -- a backend takes the open entry
-  applies : (b : ℕ) (g : Given) → Applies true c b g z → After a c s (Apply b) z (reply_given c s (Apply b) g)
+  applies : (b : ℕ) (g : Given) → Applies tells c b g z → After tells a c s (Apply b) z (reply_given c s (Apply b) g)
   applies b (Ok (moved.Applied n d)) h = rest _ _ _ h.1.2
   applies b _ h = absurd h
 
   -- a backend that is not enabled takes an entry
-  replays : (b : ℕ) (g : Given) → Replays true c b g z → After a c s (Replay b) z (reply_given c s (Replay b) g)
+  replays : (b : ℕ) (g : Given) → Replays tells c b g z → After tells a c s (Replay b) z (reply_given c s (Replay b) g)
   replays b (Ok (moved.Replayed n d)) h = rest _ _ _ h.1.2
   replays b _ h = absurd h
 
   -- a backend's next call is to fail
-  arms : (b : ℕ) (g : Given) → Arms c g z → After a c s (Arm b) z (reply_given c s (Arm b) g)
+  arms : (b : ℕ) (g : Given) → Arms c g z → After tells a c s (Arm b) z (reply_given c s (Arm b) g)
   arms b (Ok moved.Armed) h = same h
   arms b _ h = absurd h
 
@@ -139,14 +139,14 @@ module _ (a : Seen) (c z : Core) (s : ℕ) (w : IsSound c) (v : IsSound z) (j : 
       (λ q. seen_event c.placement a c.history s (session_at c s) q ev none stays no_fault (λ t. absurd (both_ways (is_by s (opened c.history)) (ap (is_by s) (opened-free c.history fr)) t)))
 
   -- a backend is disabled
-  disables : (b : ℕ) (g : Given) → CanDisable c b → Disables c b g z → After a c s (Disable b) z (reply_given c s (Disable b) g)
+  disables : (b : ℕ) (g : Given) → CanDisable c b → Disables c b g z → After tells a c s (Disable b) z (reply_given c s (Disable b) g)
   disables b (Ok moved.Disabled) can h = while_free (event.Disabled b) refl refl (λ t q. refl) can.is_free h.1
   disables b (Ok (moved.Refused r)) can h = same h.2
   disables b (Err NoMemory) can h = same h
   disables b _ can h = absurd h
 
   -- a backend is enabled
-  enables : (b : ℕ) (g : Given) → CanEnable c b → Enables c b g z → After a c s (Enable b) z (reply_given c s (Enable b) g)
+  enables : (b : ℕ) (g : Given) → CanEnable c b → Enables c b g z → After tells a c s (Enable b) z (reply_given c s (Enable b) g)
   enables b (Ok moved.Enabled) can h = while_free (event.Enabled b) refl refl (λ t q. refl) can.is_free h.1
   enables b (Ok (moved.Refused r)) can h = same h.2
   enables b (Err NoMemory) can h = same h
@@ -154,8 +154,8 @@ module _ (a : Seen) (c z : Core) (s : ℕ) (w : IsSound c) (v : IsSound z) (j : 
 
   -- the end of the session's own entry
   ends_own : (e : Entry) (reply : Reply) → CanEnd c → opened c.history ≡ Some e → s ≡ e.session
-      → Follows c z (ended c) s (answered_at (last_number c) (session_at c s)) → AnswersEntry c.placement c.history (ended c) (done c.history) e reply
-      → After a c s End z (Some reply)
+      → Follows c z (ended c) s (answered_at (last_number c) (session_at c s)) → AnswersEntry tells c.placement c.history (ended c) (done c.history) e reply
+      → After tells a c s End z (Some reply)
   ends_own e reply can is own f answer =
       let here : is_open c s ≡ true = subst (λ (k : ℕ). is_open c k ≡ true) (sym own) (w.waits e is) in
       let waiting : is_by s (opened c.history) ≡ true = ap (is_by s) is ∙ eq-eqb e.session s (sym own) in
@@ -163,31 +163,31 @@ module _ (a : Seen) (c z : Core) (s : ℕ) (w : IsSound c) (v : IsSound z) (j : 
       let q = seen_so.waits waiting in
       let last = opened-last c.history e w.one_open.1 is in
       let legal : IsLegal (ended c) = subst IsLegal f.history v.legal in
-      let turn : Turn c.placement e.session a (call_of_entry (Some e) reply) (record { front = ended c; least = length (log c.history) }) =
-      turn_end c.placement a c.history c.failed c.starved e reply legal j.longer j.owes (subst (IsUnanswered c.placement a.front c.history) own q.0) is (opened_all (λ (x : Entry). IsLone x x.act) c.history e w.lone is) last.1
+      let turn : Turn tells c.placement e.session a (call_of_entry (Some e) reply) (record { front = ended c; least = length (log c.history) }) =
+      turn_end tells c.placement a c.history c.failed c.starved e reply legal j.longer j.owes (subst (IsUnanswered c.placement a.front c.history) own q.0) is (opened_all (λ (x : Entry). IsLone x x.act) c.history e w.lone is) last.1
       (subst (λ (k : ℕ). tx_of (log c.history) k ≡ tx_of (log a.front) k) own tx_stays)
       (subst (λ (k : ℕ). (i : ℕ) → log_faults_of k i c.history ≡ log_faults_of k i a.front) own seen_so.log_faults) answer
       in
-      let mine : Turn c.placement s a (call_of_entry (opened c.history) reply) (record { front = ended c; least = length (log c.history) }) =
-      subst (λ (k : ℕ). Turn c.placement k a (call_of_entry (opened c.history) reply) (record { front = ended c; least = length (log c.history) })) (sym own)
-      (subst (λ (o : Option Entry). Turn c.placement e.session a (call_of_entry o reply) (record { front = ended c; least = length (log c.history) })) (sym is) turn)
+      let mine : Turn tells c.placement s a (call_of_entry (opened c.history) reply) (record { front = ended c; least = length (log c.history) }) =
+      subst (λ (k : ℕ). Turn tells c.placement k a (call_of_entry (opened c.history) reply) (record { front = ended c; least = length (log c.history) })) (sym own)
+      (subst (λ (o : Option Entry). Turn tells c.placement e.session a (call_of_entry o reply) (record { front = ended c; least = length (log c.history) })) (sym is) turn)
       in
       let none : opened (ended c) ≡ None = opened-ended c.history c.failed c.starved can.is_running w.one_open.0 w.one_open.1 in
-      replied c.placement a c z (ended c) s (answered_at (last_number c) (session_at c s)) (call_of_entry (opened c.history) reply) (length (log c.history)) v f (ap (is_by s) none) q.1 refl mine
+      replied tells c.placement a c z (ended c) s (answered_at (last_number c) (session_at c s)) (call_of_entry (opened c.history) reply) (length (log c.history)) v f (ap (is_by s) none) q.1 refl mine
 
   -- an entry ends, which answers its session and no other
-  ends : (g : Given) → CanEnd c → Ends true c g z → After a c s End z (reply_given c s End g)
+  ends : (g : Given) → CanEnd c → Ends tells c g z → After tells a c s End z (reply_given c s End g)
   ends (Ok (moved.Replied t reply)) can h =
       let e : Entry = h.0 in
       let longer : IsPrefix c.history (ended c) = (event.Ended c.failed c.starved ∷ [], refl) in
       let ss : List OpenSession = with_session c.sessions t (answered_at (last_number c)) in
-      cond_both (t == s) (Some reply) None (After a c s End z)
+      cond_both (t == s) (Some reply) None (After tells a c s End z)
       (λ is.
       let own : s ≡ e.session = sym (eqb-true t s is) ∙ h.2 in
       let here : is_open c s ≡ true = subst (λ (k : ℕ). is_open c k ≡ true) (sym own) (w.waits e h.1) in
       ends_own e reply can h.1 own
       (follows_own c z (ended c) s c.placement c.positions 0 0 ss longer h.4 (answered_at (last_number c)) (λ x. refl) (ap (λ (k : ℕ). with_session c.sessions k (answered_at (last_number c))) (eqb-true t s is)) here)
-      (h.3 refl))
+      h.3)
       (λ is.
       let other : s ≢ t = λ q. eqb-false t s is (sym q) in
       let not_own : is_by s (opened c.history) ≡ false = ap (is_by s) h.1 ∙ ne_eqb e.session s (λ q. other (sym (h.2 ∙ q))) in
@@ -210,26 +210,26 @@ module _ (a : Seen) (c z : Core) (s : ℕ) (w : IsSound c) (v : IsSound z) (j : 
   module _ (r : Request) (act : Act) (is : act_of r ≡ Some act) where
     -- the session's own request, which its transaction's state allows
     own_refused : (refusal : Refusal) → CanSchedule c s → is_allowed c s (act_of r) ≡ true → RefusesSchedule c s r act refusal → Follows c z c.history s (counted (session_at c s))
-        → After a c s (Schedule s r) z (Some (Refused refusal))
+        → After tells a c s (Schedule s r) z (Some (Refused refusal))
     own_refused refusal can allowed refuses f =
         let call : Option Act → Call = λ o. call_of_act c s r o (Refused refusal) in
         let rests = rested can.here can.idle in
         let tx : tx_of_act (open_tx c s) act ≡ 0 = ap (λ t. tx_of_act t act) outside ∙ tx_none act in
         let free_of : is_none (forbidden_by (open_tx c s) act) ≡ true = sym (ap (is_allowed c s) is) ∙ allowed in
-        let turn : Turn c.placement s a (call (Some act)) (record { front = c.history; least = a.least }) =
+        let turn : Turn tells c.placement s a (call (Some act)) (record { front = c.history; least = a.least }) =
         ⊎_elim (λ (x : _). absurd (both_ways (is_none (forbidden_by (open_tx c s) act)) (ap is_none x) free_of))
         (λ (y : _).
         ⊎_elim
-        (λ (x : _). turn_unserved c.placement s a c.history w.legal j.longer j.owes rests (call (Some act)) tx (ap (λ o. Refused o) x.1) x.2)
-        (λ (x : _). turn_full c.placement s a c.history w.legal j.longer j.owes rests (call (Some act)) tx (ap (λ o. Refused o) x.1) x.2 (subst (IsFull c.history) (sym is) (can.is_free, x.3)))
+        (λ (x : _). turn_unserved tells c.placement s a c.history w.legal j.longer j.owes rests (call (Some act)) tx (ap (λ o. Refused o) x.1) x.2)
+        (λ (x : _). turn_full tells c.placement s a c.history w.legal j.longer j.owes rests (call (Some act)) tx (ap (λ o. Refused o) x.1) x.2 (subst (IsFull c.history) (sym is) (can.is_free, x.3)))
         y)
         refuses
         in
-        replied c.placement a c z c.history s (counted (session_at c s)) (call (act_of r)) a.least v f can.idle can.no_read (owes_same can.here)
-        (subst (λ (o : Option Act). Turn c.placement s a (call o) (record { front = c.history; least = a.least })) (sym is) turn)
+        replied tells c.placement a c z c.history s (counted (session_at c s)) (call (act_of r)) a.least v f can.idle can.no_read (owes_same can.here)
+        (subst (λ (o : Option Act). Turn tells c.placement s a (call o) (record { front = c.history; least = a.least })) (sym is) turn)
 
     -- it is scheduled, refused, or neither for want of memory
-    own_act : (g : Given) → CanSchedule c s → SchedulesAct c s r act g z → After a c s (Schedule s r) z (reply_given c s (Schedule s r) g)
+    own_act : (g : Given) → CanSchedule c s → SchedulesAct c s r act g z → After tells a c s (Schedule s r) z (reply_given c s (Schedule s r) g)
     own_act (Ok (moved.Entry n)) can h =
         let e : Entry = next_entry c s act in
         let g : List Event = c.history ++ event.Sched e ∷ [] in
@@ -239,7 +239,7 @@ module _ (a : Seen) (c z : Core) (s : ℕ) (w : IsSound c) (v : IsSound z) (j : 
         seen_sched c.placement a c.history s (session_at c s) q e (counted (session_at c s)) can.is_free refl (subst (Served c.placement c.history) (sym (request_of-act r act is)) h.1) h.2 j.longer refl can.no_read)
     own_act (Ok (moved.Refused refusal)) can h =
         let f = follows_own c z c.history s c.placement c.positions c.failed c.starved (with_session c.sessions s counted) (prefix_self c.history) h.1 counted (λ x. refl) refl can.here in
-        cond_both ((s == s) && is_allowed c s (act_of r)) (Some (Refused refusal)) None (After a c s (Schedule s r) z)
+        cond_both ((s == s) && is_allowed c s (act_of r)) (Some (Refused refusal)) None (After tells a c s (Schedule s r) z)
         (λ t. own_refused refusal can (and_parts _ _ t).1 h.0 f)
         (λ t.
         between_follows a c z c.history s (counted (session_at c s)) j f
@@ -248,7 +248,7 @@ module _ (a : Seen) (c z : Core) (s : ℕ) (w : IsSound c) (v : IsSound z) (j : 
     own_act _ can h = absurd h
 
     -- another session's request
-    other_act : (k : ℕ) (g : Given) → s ≢ k → CanSchedule c k → SchedulesAct c k r act g z → After a c s (Schedule k r) z (reply_given c s (Schedule k r) g)
+    other_act : (k : ℕ) (g : Given) → s ≢ k → CanSchedule c k → SchedulesAct c k r act g z → After tells a c s (Schedule k r) z (reply_given c s (Schedule k r) g)
     other_act k (Ok (moved.Entry n)) other can h =
         let e : Entry = next_entry c k act in
         let g : List Event = c.history ++ event.Sched e ∷ [] in
@@ -256,7 +256,7 @@ module _ (a : Seen) (c z : Core) (s : ℕ) (w : IsSound c) (v : IsSound z) (j : 
         (follows_rest c z g s c.placement c.positions 0 0 (with_session c.sessions k counted) (event.Sched e ∷ [], refl) h.4 (session_of-other counted (λ x. refl) c.sessions k s other))
         (λ q. seen_other c.placement a c.history s (session_at c s) q e can.is_free (λ i. other (sym i)))
     other_act k (Ok (moved.Refused refusal)) other can h =
-        cond_both ((k == s) && is_allowed c s (act_of r)) (Some (Refused refusal)) None (After a c s (Schedule k r) z)
+        cond_both ((k == s) && is_allowed c s (act_of r)) (Some (Refused refusal)) None (After tells a c s (Schedule k r) z)
         (λ t. absurd (other (sym (eqb-true k s (and_parts _ _ t).0))))
         (λ t.
         between_follows a c z c.history s (session_at c s) j
@@ -265,19 +265,19 @@ module _ (a : Seen) (c z : Core) (s : ℕ) (w : IsSound c) (v : IsSound z) (j : 
     other_act k _ other can h = absurd h
 
     -- by whose request it is
-    schedules_act : (k : ℕ) (g : Given) → CanSchedule c k → SchedulesAct c k r act g z → After a c s (Schedule k r) z (reply_given c s (Schedule k r) g)
+    schedules_act : (k : ℕ) (g : Given) → CanSchedule c k → SchedulesAct c k r act g z → After tells a c s (Schedule k r) z (reply_given c s (Schedule k r) g)
     schedules_act k g can h =
         ⊎_elim
         (λ (e : s ≡ k).
-        subst (λ (n : ℕ). CanSchedule c n → SchedulesAct c n r act g z → After a c s (Schedule n r) z (reply_given c s (Schedule n r) g)) e (own_act g) can h)
+        subst (λ (n : ℕ). CanSchedule c n → SchedulesAct c n r act g z → After tells a c s (Schedule n r) z (reply_given c s (Schedule n r) g)) e (own_act g) can h)
         (λ (e : s ≡ k → ⊥). other_act k g e can h)
         (cases_eq s k)
 
   -- by the act of the request
-  schedules : (k : ℕ) (r : Request) (g : Given) → CanSchedule c k → Schedules c k r g z → After a c s (Schedule k r) z (reply_given c s (Schedule k r) g)
+  schedules : (k : ℕ) (r : Request) (g : Given) → CanSchedule c k → Schedules c k r g z → After tells a c s (Schedule k r) z (reply_given c s (Schedule k r) g)
   schedules k r g can h = of (act_of r) refl h
     where
-      of : (o : Option Act) → act_of r ≡ o → SchedulesOf c k r o g z → After a c s (Schedule k r) z (reply_given c s (Schedule k r) g)
+      of : (o : Option Act) → act_of r ≡ o → SchedulesOf c k r o g z → After tells a c s (Schedule k r) z (reply_given c s (Schedule k r) g)
       of None is t = absurd t
       of (Some act) is t = schedules_act r act is k g can t
 
@@ -296,34 +296,34 @@ module _ (a : Seen) (c z : Core) (s : ℕ) (w : IsSound c) (v : IsSound z) (j : 
     follows_failed ev f keeps is = follows_own c z (c.history ++ ev ∷ []) s c.placement c.positions c.failed c.starved (with_session c.sessions s f) (ev ∷ [], refl) is f keeps refl can.here
 
     -- the backend answered
-    reaches : (answer : Asked) → Reaches true c s b select answer z → After a c s (Read s b select) z (Some (asked_reply answer))
+    reaches : (answer : Asked) → Reaches tells c s b select answer z → After tells a c s (Read s b select) z (Some (asked_reply answer))
     reaches answer h =
         let p : ℕ = h.p in
         let stands : Stands c.history c.failed c.starved b (Some p) = subst (Stands c.history c.failed c.starved b) h.stands (w.stands b (w.hosts b h.serves.0)) in
         let call : Call = call_at c s (Read s b select) (asked_reply answer) in
         let least : (session_at c s).least ≡ a.least = owes_same can.here in
         let owed : (session_at c s).least ≤ p = h.owed in
-        replied c.placement a c z c.history s (answered_at p (was_answered (session_at c s))) call p v (follows_read (λ x. answered_at p (was_answered x)) (λ x. refl) h.after) can.idle refl refl
-        (turn_read c.placement s a c.history w.legal j.longer j.owes (rested can.here can.idle) call select p outside refl (ap asked_reply (h.says refl)) (λ t. (b, h.serves)) (omega arith) (stands.1 h.serves.0) stands.0)
+        replied tells c.placement a c z c.history s (answered_at p (was_answered (session_at c s))) call p v (follows_read (λ x. answered_at p (was_answered x)) (λ x. refl) h.after) can.idle refl refl
+        (turn_read tells c.placement s a c.history w.legal j.longer j.owes (rested can.here can.idle) call select p answer outside refl refl h.possible h.says (λ t. (b, h.serves)) (omega arith) (stands.1 h.serves.0) stands.0)
 
     -- no backend serves the read
-    reads_nowhere : (refusal : Refusal) → ReadsNowhere c s b select refusal z → After a c s (Read s b select) z (Some (Refused refusal))
+    reads_nowhere : (refusal : Refusal) → ReadsNowhere c s b select refusal z → After tells a c s (Read s b select) z (Some (Refused refusal))
     reads_nowhere refusal h =
         let call : Call = call_at c s (Read s b select) (Refused refusal) in
-        replied c.placement a c z c.history s (was_answered (session_at c s)) call a.least v (follows_read was_answered (λ x. refl) h.after) can.idle refl (owes_same can.here)
-        (turn_unserved c.placement s a c.history w.legal j.longer j.owes (rested can.here can.idle) call outside (ap (λ o. Refused o) h.refused) h.none)
+        replied tells c.placement a c z c.history s (was_answered (session_at c s)) call a.least v (follows_read was_answered (λ x. refl) h.after) can.idle refl (owes_same can.here)
+        (turn_unserved tells c.placement s a c.history w.legal j.longer j.owes (rested can.here can.idle) call outside (ap (λ o. Refused o) h.refused) h.none)
 
     -- the history has no room for the failed attempt
-    reads_full : (refusal : Refusal) → ReadsFull c s b select refusal z → After a c s (Read s b select) z (Some (Refused refusal))
+    reads_full : (refusal : Refusal) → ReadsFull c s b select refusal z → After tells a c s (Read s b select) z (Some (Refused refusal))
     reads_full refusal h =
         let call : Call = call_at c s (Read s b select) (Refused refusal) in
         let none : room c.history ≡ 0 = h.full in
         let full : room c.history < 1 = omega arith in
-        replied c.placement a c z c.history s (was_answered (session_at c s)) call a.least v (follows_read was_answered (λ x. refl) h.after) can.idle refl (owes_same can.here)
-        (turn_full c.placement s a c.history w.legal j.longer j.owes (rested can.here can.idle) call outside (ap (λ o. Refused o) h.refused) (λ t. (b, h.serves)) full)
+        replied tells c.placement a c z c.history s (was_answered (session_at c s)) call a.least v (follows_read was_answered (λ x. refl) h.after) can.idle refl (owes_same can.here)
+        (turn_full tells c.placement s a c.history w.legal j.longer j.owes (rested can.here can.idle) call outside (ap (λ o. Refused o) h.refused) (λ t. (b, h.serves)) full)
 
     -- each backend that serves the read failed
-    reads_in_vain : (refusal : Refusal) → ReadsInVain c s b select refusal z → After a c s (Read s b select) z (Some (Refused refusal))
+    reads_in_vain : (refusal : Refusal) → ReadsInVain c s b select refusal z → After tells a c s (Read s b select) z (Some (Refused refusal))
     reads_in_vain refusal h =
         let call : Call = call_at c s (Read s b select) (Refused refusal) in
         let x : OpenSession = session_at c s in
@@ -331,8 +331,8 @@ module _ (a : Seen) (c z : Core) (s : ℕ) (w : IsSound c) (v : IsSound z) (j : 
         let g : List Event = c.history ++ ev ∷ [] in
         let f : Follows c z g s (was_answered x) = follows_failed ev was_answered (λ y. refl) h.after in
         let idle : is_by s (opened g) ≡ false = ap (is_by s) (opened-same c.history ev refl refl) ∙ can.idle in
-        replied c.placement a c z g s (was_answered x) call a.least v f idle refl (owes_same can.here)
-        (turn_fault c.placement s a c.history b call select h.mask (tried_of x.reading) (subst IsLegal f.history v.legal) j.longer j.owes (rested can.here can.idle) outside refl (ap (λ o. Refused o) h.refused)
+        replied tells c.placement a c z g s (was_answered x) call a.least v f idle refl (owes_same can.here)
+        (turn_fault tells c.placement s a c.history b call select h.mask (tried_of x.reading) (subst IsLegal f.history v.legal) j.longer j.owes (rested can.here can.idle) outside refl (ap (λ o. Refused o) h.refused)
         (prior a.front c.history s x (j.here can.here).reads) h.serving
         (λ k serves. with_cases (tried_of x.reading) b k (h.all k serves)) h.serves)
 
@@ -358,10 +358,10 @@ module _ (a : Seen) (c z : Core) (s : ℕ) (w : IsSound c) (v : IsSound z) (j : 
         (tried_again a.front c.history s b x select (prefix_length a.front c.history j.longer) q.reads))
 
     -- any of these
-    own_reads : (g : Given) → Reads true c s b select g z → After a c s (Read s b select) z (reply_given c s (Read s b select) g)
-    own_reads (Ok (moved.Rows rows)) h = to_own s (Rows rows) (After a c s (Read s b select) z) (reaches (asked.Rows rows) h)
+    own_reads : (g : Given) → Reads tells c s b select g z → After tells a c s (Read s b select) z (reply_given c s (Read s b select) g)
+    own_reads (Ok (moved.Rows rows)) h = to_own s (Rows rows) (After tells a c s (Read s b select) z) (reaches (asked.Rows rows) h)
     own_reads (Ok (moved.Refused refusal)) h =
-        to_own s (Refused refusal) (After a c s (Read s b select) z)
+        to_own s (Refused refusal) (After tells a c s (Read s b select) z)
         (⊎_elim (reaches (asked.Refused refusal)) (⊎_elim (reads_nowhere refusal) (⊎_elim (reads_full refusal) (reads_in_vain refusal))) h)
     own_reads (Ok (moved.Behind p)) h = reads_early (Some p) h
     own_reads (Ok moved.Out) h = reads_early None h
@@ -388,11 +388,11 @@ module _ (a : Seen) (c z : Core) (s : ℕ) (w : IsSound c) (v : IsSound z) (j : 
         (λ x. seen_event c.placement a c.history s (session_at c s) x ev refl refl (λ t i. refl) (λ t i. refl))
 
     -- the backend answered
-    other_reaches : (answer : Asked) → Reaches true c k b select answer z → IsBetween a z s
+    other_reaches : (answer : Asked) → Reaches tells c k b select answer z → IsBetween a z s
     other_reaches answer h = other_read (λ x. answered_at h.p (was_answered x)) (λ x. refl) h.after
 
     -- the read was refused
-    other_refused : (refusal : Refusal) → Reads true c k b select (Ok (moved.Refused refusal)) z → IsBetween a z s
+    other_refused : (refusal : Refusal) → Reads tells c k b select (Ok (moved.Refused refusal)) z → IsBetween a z s
     other_refused refusal h =
         ⊎_elim (other_reaches (asked.Refused refusal))
         (⊎_elim (λ (x : ReadsNowhere c k b select refusal z). other_read was_answered (λ y. refl) x.after)
@@ -401,9 +401,9 @@ module _ (a : Seen) (c z : Core) (s : ℕ) (w : IsSound c) (v : IsSound z) (j : 
         h
 
     -- any of these
-    other_reads : (g : Given) → Reads true c k b select g z → After a c s (Read k b select) z (reply_given c s (Read k b select) g)
-    other_reads (Ok (moved.Rows rows)) h = to_other k s (Rows rows) (After a c s (Read k b select) z) (λ e. other (sym e)) (other_reaches (asked.Rows rows) h)
-    other_reads (Ok (moved.Refused refusal)) h = to_other k s (Refused refusal) (After a c s (Read k b select) z) (λ e. other (sym e)) (other_refused refusal h)
+    other_reads : (g : Given) → Reads tells c k b select g z → After tells a c s (Read k b select) z (reply_given c s (Read k b select) g)
+    other_reads (Ok (moved.Rows rows)) h = to_other k s (Rows rows) (After tells a c s (Read k b select) z) (λ e. other (sym e)) (other_reaches (asked.Rows rows) h)
+    other_reads (Ok (moved.Refused refusal)) h = to_other k s (Refused refusal) (After tells a c s (Read k b select) z) (λ e. other (sym e)) (other_refused refusal h)
     other_reads (Ok (moved.Behind p)) h = other_read (still_reading select (tried_of (session_at c k).reading)) (λ x. refl) h.after
     other_reads (Ok moved.Out) h = other_read (still_reading select (tried_of (session_at c k).reading)) (λ x. refl) h.after
     other_reads (Ok moved.Failed) h = other_failed (read_number (session_at c k)) (still_reading select (tried_with c k b)) (λ x. refl) h.after
@@ -412,13 +412,13 @@ module _ (a : Seen) (c z : Core) (s : ℕ) (w : IsSound c) (v : IsSound z) (j : 
     other_reads _ h = absurd h
 
   -- by whose read it is, and whether it can be made
-  reads : (k b : ℕ) (select : Select) (g : Given) → CanRead c k → ReadsOrWaits true c k b select g z → After a c s (Read k b select) z (reply_given c s (Read k b select) g)
+  reads : (k b : ℕ) (select : Select) (g : Given) → CanRead c k → ReadsOrWaits tells c k b select g z → After tells a c s (Read k b select) z (reply_given c s (Read k b select) g)
   reads k b select g can h =
-      ⊎_elim (λ (x : _). subst (λ (y : Given). After a c s (Read k b select) z (reply_given c s (Read k b select) y)) (sym x.1) (same x.2))
+      ⊎_elim (λ (x : _). subst (λ (y : Given). After tells a c s (Read k b select) z (reply_given c s (Read k b select) y)) (sym x.1) (same x.2))
       (λ (x : _).
       ⊎_elim
       (λ (e : s ≡ k).
-      subst (λ (n : ℕ). CanRead c n → Reads true c n b select g z → After a c s (Read n b select) z (reply_given c s (Read n b select) g)) e (λ q. own_reads b select q g) can x.1)
+      subst (λ (n : ℕ). CanRead c n → Reads tells c n b select g z → After tells a c s (Read n b select) z (reply_given c s (Read n b select) g)) e (λ q. own_reads b select q g) can x.1)
       (λ (e : s ≡ k → ⊥). other_reads k b select e g x.1)
       (cases_eq s k))
       h
@@ -426,7 +426,7 @@ module _ (a : Seen) (c z : Core) (s : ℕ) (w : IsSound c) (v : IsSound z) (j : 
   -- ---- any move
 
   -- a move that can be made
-  does : (m : Move) (g : Given) → not_now c m ≡ None → Does true c m g z → After a c s m z (reply_given c s m g)
+  does : (m : Move) (g : Given) → not_now c m ≡ None → Does tells c m g z → After tells a c s m z (reply_given c s m g)
   does (Open user) g now h = opens user g h
   does (Close k) g now h = closes k g h
   does (Schedule k r) g now h = schedules k r g (can_schedule c k r now) h
@@ -439,9 +439,9 @@ module _ (a : Seen) (c z : Core) (s : ℕ) (w : IsSound c) (v : IsSound z) (j : 
   does (Enable b) g now h = enables b g (can_enable c b now) h
 
   -- what a move leaves the session
-  pub moves_after : (m : Move) (g : Given) → MovesTo true c m g z → After a c s m z (reply_given c s m g)
+  pub moves_after : (m : Move) (g : Given) → MovesTo tells c m g z → After tells a c s m z (reply_given c s m g)
   moves_after m g h = by (not_now c m) refl h
     where
-      by : (o : Option Why) → not_now c m ≡ o → MatchOption o (Does true c m g z) (λ why. (g ≡ Err (NotNow why)) × (z ≡ c)) → After a c s m z (reply_given c s m g)
+      by : (o : Option Why) → not_now c m ≡ o → MatchOption o (Does tells c m g z) (λ why. (g ≡ Err (NotNow why)) × (z ≡ c)) → After tells a c s m z (reply_given c s m g)
       by None now t = does m g now t
-      by (Some why) now t = subst (λ (x : Given). After a c s m z (reply_given c s m x)) (sym t.0) (same t.1)
+      by (Some why) now t = subst (λ (x : Given). After tells a c s m z (reply_given c s m x)) (sym t.0) (same t.1)

@@ -1,5 +1,5 @@
 -- The replies to a session in a list of moves are a chain of turns.
-use Rattle.std.proofs.Common.{◌≡◌, ℕ, ◌+◌, ◌≤◌, ◌^◌, true, List, [], ◌∷◌, ◌++◌, length, Option, None, Some, All, refl, ap, sym, subst, arith}
+use Rattle.std.proofs.Common.{◌≡◌, ℕ, ◌+◌, ◌≤◌, ◌^◌, Bool, List, [], ◌∷◌, ◌++◌, length, Option, None, Some, All, refl, ap, sym, subst, arith}
 use Rattle.std.proofs.lemmas.List.Elements.{All-head, All-tail}
 use Rattle.cj_model.specs.declared.answer.Reply.{Reply}
 use Rattle.cj_model.specs.declared.moves.Move.{Move}
@@ -15,42 +15,42 @@ use Rattle.cj_model.proofs.Between.{seen}
 use Rattle.cj_model.proofs.Answered.{After, moves_after}
 
 -- a move and then a chain are a chain
-chain_on : (s : ℕ) (c mid z : Core) (m : Move) (g : Given) (ms : List Move) (gs : List Given) (a : Seen) → MovesTo true c m g mid → mid.placement ≡ c.placement
-    → ((b : Seen) → IsBetween b mid s → IsChained s mid ms gs z b) → (o : Option Reply) → reply_given c s m g ≡ o → After a c s m mid o → IsChained s c (m ∷ ms) (g ∷ gs) z a
-chain_on s c mid z m g ms gs a moves same next None is after =
+chain_on : (tells : Bool) (s : ℕ) (c mid z : Core) (m : Move) (g : Given) (ms : List Move) (gs : List Given) (a : Seen) → MovesTo tells c m g mid → mid.placement ≡ c.placement
+    → ((b : Seen) → IsBetween b mid s → IsChained tells s mid ms gs z b) → (o : Option Reply) → reply_given c s m g ≡ o → After tells a c s m mid o → IsChained tells s c (m ∷ ms) (g ∷ gs) z a
+chain_on tells s c mid z m g ms gs a moves same next None is after =
     let q = next a after in
     record {
       calls = q.calls;
       last = q.last;
       runs = (mid, moves, (q.calls, sym (ap (λ o. calls_at c s m o ++ q.calls) is), q.runs));
-      chain = subst (λ (p : Placement). Chain p s a q.calls q.last) same q.chain;
+      chain = subst (λ (p : Placement). Chain tells p s a q.calls q.last) same q.chain;
       between = q.between;
     }
-chain_on s c mid z m g ms gs a moves same next (Some reply) is after =
+chain_on tells s c mid z m g ms gs a moves same next (Some reply) is after =
     let q = next (seen mid s) after.1 in
     record {
       calls = call_at c s m reply ∷ q.calls;
       last = q.last;
       runs = (mid, moves, (q.calls, sym (ap (λ o. calls_at c s m o ++ q.calls) is), q.runs));
-      chain = (seen mid s, after.0, subst (λ (p : Placement). Chain p s (seen mid s) q.calls q.last) same q.chain);
+      chain = (seen mid s, after.0, subst (λ (p : Placement). Chain tells p s (seen mid s) q.calls q.last) same q.chain);
       between = q.between;
     }
 
 -- Each session is answered by a chain of turns in every list of moves, from what it has seen and wherever the list begins and ends within its calls.
-pub run_chained : (c : Core) (ms : List Move) (gs : List Given) (z : Core) → IsSound c → All (IsMove c.placement.backends) ms → CanCount c (length ms) → Runs true c ms gs z
-    → (s : ℕ) (a : Seen) → IsBetween a c s → IsChained s c ms gs z a
-run_chained c [] [] z w are count runs s a j =
+pub run_chained : (tells : Bool) (c : Core) (ms : List Move) (gs : List Given) (z : Core) → IsSound c → All (IsMove c.placement.backends) ms → CanCount c (length ms) → Runs tells c ms gs z
+    → (s : ℕ) (a : Seen) → IsBetween a c s → IsChained tells s c ms gs z a
+run_chained tells c [] [] z w are count runs s a j =
     record { calls = []; last = a; runs = (runs, refl); chain = refl; between = subst (λ (x : Core). IsBetween a x s) runs j }
-run_chained c (m ∷ ms) (g ∷ gs) z w are count runs s a j =
+run_chained tells c (m ∷ ms) (g ∷ gs) z w are count runs s a j =
     let mid : Core = runs.0 in
-    let grows = moves_grow true c m g mid runs.1 in
+    let grows = moves_grow tells c m g mid runs.1 in
     let once : CanCount c 1 = λ k. (let can = count k in let le : (session_at c k).queries + 1 ≤ 2 ^ 62 = omega arith in le) in
     let more : CanCount c (1 + length ms) = λ k. (let can = count k in let le : (session_at c k).queries + (1 + length ms) ≤ 2 ^ 62 = omega arith in le) in
-    let v : IsSound mid = moves_sound true c m g mid (All-head (IsMove c.placement.backends) m ms are) once w runs.1 in
+    let v : IsSound mid = moves_sound tells c m g mid (All-head (IsMove c.placement.backends) m ms are) once w runs.1 in
     let rest : All (IsMove mid.placement.backends) ms =
     subst (λ (p : Placement). All (IsMove p.backends) ms) (sym grows.placement) (All-tail (IsMove c.placement.backends) m ms are)
     in
-    chain_on s c mid z m g ms gs a runs.1 grows.placement (λ b i. run_chained mid ms gs z v rest (can_count 1 (length ms) c mid grows more) runs.2 s b i) (reply_given c s m g) refl
-    (moves_after a c mid s w v j m g runs.1)
-run_chained c [] (g ∷ gs) z w are count runs s a j = absurd runs
-run_chained c (m ∷ ms) [] z w are count runs s a j = absurd runs
+    chain_on tells s c mid z m g ms gs a runs.1 grows.placement (λ b i. run_chained tells mid ms gs z v rest (can_count 1 (length ms) c mid grows more) runs.2 s b i) (reply_given c s m g) refl
+    (moves_after tells a c mid s w v j m g runs.1)
+run_chained tells c [] (g ∷ gs) z w are count runs s a j = absurd runs
+run_chained tells c (m ∷ ms) [] z w are count runs s a j = absurd runs

@@ -555,14 +555,14 @@ module _ (tells : Bool) (c : Core) (b : ℕ) (w : IsSound c) where
 
   -- an enabled backend takes the open entry
   pub sound_applied : free c.history ≡ false → enabled c.history b ≡ true → (d : Did) (p : Option ℕ) → Takes tells c b d p → IsSound (taken (failed_after c.failed b d) (starved_after c.starved b d) p)
-  sound_applied fr on (did.Done o) p t = next (did.Done o) p t t.does.2
+  sound_applied fr on (did.Done o) p t = next (did.Done o) p t t.does.3
   sound_applied fr on did.Skipped p t = next did.Skipped p t t.does.1
   sound_applied fr on did.Failed p t = subst (λ (x : Option ℕ). IsSound (taken (with_bit c.failed b) c.starved x)) (sym t.does) (sound_failed c b t.p w t.stands fr on)
   sound_applied fr on did.Starved p t = subst (λ (x : Option ℕ). IsSound (taken c.failed (with_bit c.starved b) x)) (sym t.does) (sound_starved c b t.p w t.stands fr on)
 
   -- one that is not enabled takes the log's next
   pub sound_replayed : enabled c.history b ≡ false → (d : Did) (p : Option ℕ) → Takes tells c b d p → IsSound (taken c.failed c.starved p)
-  sound_replayed off (did.Done o) p t = next (did.Done o) p t t.does.2
+  sound_replayed off (did.Done o) p t = next (did.Done o) p t t.does.3
   sound_replayed off did.Skipped p t = next did.Skipped p t t.does.1
   sound_replayed off did.Failed p t = subst (λ (x : Option ℕ). IsSound (taken c.failed c.starved x)) (sym t.does) (sound_dropped c b t.p w t.stands off)
   sound_replayed off did.Starved p t = subst (λ (x : Option ℕ). IsSound (taken c.failed c.starved x)) (sym t.does) (sound_dropped c b t.p w t.stands off)

@@ -127,8 +127,7 @@ counted_once x = omega arith
 -- a session is opened, or none can be
 grow_open : (c : Core) (user : List ℕ) (g : Given) (z : Core) → moves.Opens c user g z → Grows 1 c z
 grow_open c user (Ok (moved.Session n)) z h =
-    let next : n ≡ c.greatest + 1 = h.1 in
-    grows_in c z (c.sessions ++ fresh_session n user ∷ []) n (counts_push c.sessions n user) (omega arith) h.2
+    grows_in c z (c.sessions ++ fresh_session (c.greatest + 1) user ∷ []) (c.greatest + 1) (counts_push c.sessions (c.greatest + 1) user) (omega arith) h.2
 grow_open c user (Ok (moved.Refused r)) z h = grows_same 1 c z h.2
 grow_open c user (Err NoMemory) z h = grows_same 1 c z h
 grow_open c user _ z h = absurd h

@@ -41,8 +41,7 @@ sound_open c user (Ok (moved.Session n)) z fits w h =
     let full = or_parts _ _ h.0 in
     let few : length c.sessions < SESSION_LIMIT = leb-false _ _ full.0 in
     let more : c.greatest < SESSION_NUMBER_LIMIT = leb-false _ _ full.1 in
-    let now = sound_sessions c (c.sessions ++ fresh_session (c.greatest + 1) user ∷ []) (c.greatest + 1) w (are_opened c.history c.greatest c.sessions user (sessions_are c w) few more fits) in
-    subst IsSound (sym h.2) (subst (λ (k : ℕ). IsSound (record c { sessions = c.sessions ++ fresh_session k user ∷ []; greatest = k })) (sym h.1) now)
+    subst IsSound (sym h.2) (sound_sessions c (c.sessions ++ fresh_session (c.greatest + 1) user ∷ []) (c.greatest + 1) w (are_opened c.history c.greatest c.sessions user (sessions_are c w) few more fits))
 sound_open c user (Ok (moved.Refused r)) z fits w h = subst IsSound (sym h.2) w
 sound_open c user (Err NoMemory) z fits w h = subst IsSound (sym h) w
 sound_open c user _ z fits w h = absurd h

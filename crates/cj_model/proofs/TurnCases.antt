@@ -1,5 +1,5 @@
 -- The turn of each kind of reply, over plain values.
-use Rattle.std.proofs.Common.{◌≡◌, ℕ, ◌+◌, ◌<◌, ◌≤◌, ◌==◌, ◌⊎◌, inl, inr, true, cond, List, [], ◌∷◌, ◌++◌, length, take, slice_get, Some, refl, ap, sym, ◌∙◌, subst, arith, ⊎_elim, length-append}
+use Rattle.std.proofs.Common.{◌≡◌, ℕ, ◌+◌, ◌<◌, ◌≤◌, ◌==◌, ◌⊎◌, inl, inr, Bool, true, cond, List, [], ◌∷◌, ◌++◌, length, take, slice_get, Some, refl, ap, sym, ◌∙◌, subst, arith, ⊎_elim, length-append}
 use mathlib.Core.List.{IsPrefix}
 use Rattle.std.proofs.lemmas.Grind.{fold-append}
 use Rattle.std.proofs.lemmas.Bool.{both_ways}
@@ -9,6 +9,7 @@ use Rattle.cj_model.specs.declared.request.Act.{Act}
 use Rattle.cj_model.specs.declared.request.Act.TheVariants as act
 use Rattle.cj_model.specs.declared.request.Entry.{Entry}
 use Rattle.cj_model.specs.declared.select.Select.{Select}
+use Rattle.cj_model.specs.declared.answer.Asked.{Asked}
 use Rattle.cj_model.specs.declared.answer.Reply.{Reply}
 use Rattle.cj_model.specs.declared.answer.Reply.TheVariants.{Refused}
 use Rattle.cj_model.specs.declared.event.Event.{Event}
@@ -20,6 +21,7 @@ use Rattle.cj_model.specs.Plain.{act_of, request_of}
 use Rattle.cj_model.specs.Placements.{Placement, concerns}
 use Rattle.cj_model.specs.Histories.{has, log, done, free, opened, enabled, room, at, log_faults_of, tx_of}
 use Rattle.cj_model.specs.Legality.{IsLegal}
+use Rattle.cj_model.specs.Outcomes.{IsAsked}
 use Rattle.cj_model.specs.Answering.{ServesAt, Served, Unserved, is_target, Finished, Unfinished, AnswersEntry}
 use Rattle.cj_model.specs.Replies.{asked_reply}
 use Rattle.cj_model.specs.Turns.{Seen, Call, Moment, IsFull, scheduled, no_backend, read, read_fault, full, entries_of, next_tx_by, Turn}
@@ -71,19 +73,20 @@ target_at : (p : Placement) (g h : List Event) (e : Entry) → IsLone e e.act �
 target_at p g h e lone same b t = (sym (same b) ∙ t.0, concerns_lone p b (log h) (log g) e e.act lone ∙ t.1)
 
 -- so it is answered by the history at which it was scheduled as by one with the same enabled backends
-answers_then : (p : Placement) (g h now : List Event) (i : ℕ) (e : Entry) (r : Reply) → IsLone e e.act → ((b : ℕ) → enabled g b ≡ enabled h b)
-    → AnswersEntry p h now i e r → AnswersEntry p g now i e r
-answers_then p g h now i e r lone same answer =
+answers_then : (tells : Bool) (p : Placement) (g h now : List Event) (i : ℕ) (e : Entry) (r : Reply) → IsLone e e.act → ((b : ℕ) → enabled g b ≡ enabled h b)
+    → AnswersEntry tells p h now i e r → AnswersEntry tells p g now i e r
+answers_then tells p g h now i e r lone same answer =
     let forth = target_at p g h e lone same in
     let back = target_at p h g e lone (λ b. sym (same b)) in
     ⊎_elim
-    (λ (x : Finished p h now i e r).
+    (λ (x : Finished tells p h now i e r).
     inl record {
       failed = x.failed;
       starved = x.starved;
       masks = x.masks;
       some = ⊎_elim (λ (none : (b : ℕ) → is_target p h e b → ⊥). inl (λ b t. none b (forth b t))) (λ (q : _). inr (q.0, back q.0 q.1, q.2, q.3)) x.some;
       outcome = x.outcome;
+      possible = x.possible;
       says = x.says;
       replied = x.replied;
     })
@@ -117,13 +120,13 @@ pub record Rests (s : ℕ) (a : Seen) (h : List Event) : Type 0 where
   pub log_faults : (q : ℕ) → log_faults_of s q h ≡ log_faults_of s q a.front
 
 -- the end of an entry answers its session
-pub turn_end : (p : Placement) (a : Seen) (h : List Event) (failed starved : ℕ) (e : Entry) (r : Reply)
+pub turn_end : (tells : Bool) (p : Placement) (a : Seen) (h : List Event) (failed starved : ℕ) (e : Entry) (r : Reply)
     → IsLegal (h ++ Ended failed starved ∷ []) → IsPrefix a.front h → a.least ≤ length (log a.front) → IsUnanswered p a.front h e.session
     → opened h ≡ Some e → IsLone e e.act → length (log h) ≡ done h + 1
     → tx_of (log h) e.session ≡ tx_of (log a.front) e.session → ((q : ℕ) → log_faults_of e.session q h ≡ log_faults_of e.session q a.front)
-    → AnswersEntry p h (h ++ Ended failed starved ∷ []) (done h) e r
-    → Turn p e.session a (call_of_entry (Some e) r) (record { front = h ++ Ended failed starved ∷ []; least = length (log h) })
-turn_end p a h failed starved e r legal longer owes o is lone one_open in_tx faults answer =
+    → AnswersEntry tells p h (h ++ Ended failed starved ∷ []) (done h) e r
+    → Turn tells p e.session a (call_of_entry (Some e) r) (record { front = h ++ Ended failed starved ∷ []; least = length (log h) })
+turn_end tells p a h failed starved e r legal longer owes o is lone one_open in_tx faults answer =
     let ev : Event = Ended failed starved in
     let g : List Event = h ++ ev ∷ [] in
     let m : ℕ = o.m in
@@ -153,8 +156,8 @@ turn_end p a h failed starved e r legal longer owes o is lone one_open in_tx fau
             space = subst (λ (x : List Event). 3 ≤ room x) (sym part) o.space;
             next = next;
             answer =
-                subst (λ (i : ℕ). AnswersEntry p (take m g) g i e r) (sym number)
-                (subst (λ (x : List Event). AnswersEntry p x g (done h) e r) (sym part) (answers_then p (take m h) h g (done h) e r lone o.same answer));
+                subst (λ (i : ℕ). AnswersEntry tells p (take m g) g i e r) (sym number)
+                (subst (λ (x : List Event). AnswersEntry tells p x g (done h) e r) (sym part) (answers_then tells p (take m h) h g (done h) e r lone o.same answer));
             least = one_open ∙ ap (λ n. n + 1) (sym number);
           };
       entries = entries-same e.session h g same_log ∙ o.entries;
@@ -165,7 +168,7 @@ turn_end p a h failed starved e r legal longer owes o is lone one_open in_tx fau
     }
 
 -- the moment is now, and nothing was scheduled since the session saw a
-module _ (p : Placement) (s : ℕ) (a : Seen) (h : List Event) (legal : IsLegal h) (longer : IsPrefix a.front h) (owes : a.least ≤ length (log a.front)) (rests : Rests s a h) where
+module _ (tells : Bool) (p : Placement) (s : ℕ) (a : Seen) (h : List Event) (legal : IsLegal h) (longer : IsPrefix a.front h) (owes : a.least ≤ length (log a.front)) (rests : Rests s a h) where
   -- this moment
   now : Moment a.front h (length h)
   now = let n : length a.front ≤ length h = prefix_length a.front h longer in record { low = n; high = omega arith }
@@ -183,7 +186,7 @@ module _ (p : Placement) (s : ℕ) (a : Seen) (h : List Event) (legal : IsLegal 
   no_fault q = let n = rests.log_faults q in omega (arith, n)
 
   -- no backend serves the request
-  pub turn_unserved : (c : Call) → c.tx ≡ 0 → c.reply ≡ Refused (bare NO_BACKEND) → Unserved p h c.request → Turn p s a c (record { front = h; least = a.least })
+  pub turn_unserved : (c : Call) → c.tx ≡ 0 → c.reply ≡ Refused (bare NO_BACKEND) → Unserved p h c.request → Turn tells p s a c (record { front = h; least = a.least })
   turn_unserved c tx replied none =
       record {
         legal = legal;
@@ -198,7 +201,7 @@ module _ (p : Placement) (s : ℕ) (a : Seen) (h : List Event) (legal : IsLegal 
 
   -- the history has no room
   pub turn_full : (c : Call) → c.tx ≡ 0 → c.reply ≡ Refused (record { code = HISTORY_FULL; a = length h; b = 0 }) → Served p h c.request → IsFull h (act_of c.request)
-      → Turn p s a c (record { front = h; least = a.least })
+      → Turn tells p s a c (record { front = h; least = a.least })
   turn_full c tx replied served small =
       record {
         legal = legal;
@@ -221,9 +224,9 @@ module _ (p : Placement) (s : ℕ) (a : Seen) (h : List Event) (legal : IsLegal 
       }
 
   -- a read that was answered at a position that the session owes and that no ended entry is past
-  pub turn_read : (c : Call) (select : Select) (n : ℕ) → c.tx ≡ 0 → c.request ≡ request.Select select → c.reply ≡ asked_reply (ask (at (log h) n) c.tx select)
-      → Served p h c.request → a.least ≤ n → done h ≤ n → n ≤ length (log h) → Turn p s a c (record { front = h; least = n })
-  turn_read c select n tx is replied served owed past within =
+  pub turn_read : (c : Call) (select : Select) (n : ℕ) (answer : Asked) → c.tx ≡ 0 → c.request ≡ request.Select select → c.reply ≡ asked_reply answer
+      → IsAsked answer → (tells ≡ true → answer ≡ ask (at (log h) n) c.tx select) → Served p h c.request → a.least ≤ n → done h ≤ n → n ≤ length (log h) → Turn tells p s a c (record { front = h; least = n })
+  turn_read c select n answer tx is replied possible says served owed past within =
       record {
         legal = legal;
         longer = longer;
@@ -240,6 +243,9 @@ module _ (p : Placement) (s : ℕ) (a : Seen) (h : List Event) (legal : IsLegal 
               owed = owed;
               past = subst (λ (x : List Event). done x ≤ n) (sym (whole)) past;
               within = within;
+              answer = answer;
+              possible = possible;
+              says = says;
               replied = replied;
             };
         entries = none_more;
@@ -248,14 +254,14 @@ module _ (p : Placement) (s : ℕ) (a : Seen) (h : List Event) (legal : IsLegal 
       }
 
 -- a read in which the last backend that serves it failed now, and the others since the session saw a
-pub turn_fault : (p : Placement) (s : ℕ) (a : Seen) (h : List Event) (b : ℕ) (c : Call) (select : Select) (mask tried : ℕ)
+pub turn_fault : (tells : Bool) (p : Placement) (s : ℕ) (a : Seen) (h : List Event) (b : ℕ) (c : Call) (select : Select) (mask tried : ℕ)
     → IsLegal (h ++ ReadFailed s c.number b ∷ []) → IsPrefix a.front h → a.least ≤ length (log a.front) → Rests s a h
     → c.tx ≡ 0 → c.request ≡ request.Select select → c.reply ≡ Refused (record { code = READ_FAULT; a = mask; b = 0 })
     → ((k : ℕ) → has tried k ≡ true → HasFailed a.front h s c.number k)
     → ((k : ℕ) → (ServesAt p h c.request k → has mask k ≡ true) × (has mask k ≡ true → ServesAt p h c.request k))
     → ((k : ℕ) → ServesAt p h c.request k → (k ≡ b) ⊎ (has tried k ≡ true)) → ServesAt p h c.request b
-    → Turn p s a c (record { front = h ++ ReadFailed s c.number b ∷ []; least = a.least })
-turn_fault p s a h b c select mask tried legal longer owes rests tx is replied prior serving all serves =
+    → Turn tells p s a c (record { front = h ++ ReadFailed s c.number b ∷ []; least = a.least })
+turn_fault tells p s a h b c select mask tried legal longer owes rests tx is replied prior serving all serves =
     let ev : Event = ReadFailed s c.number b in
     let g : List Event = h ++ ev ∷ [] in
     let low : length a.front ≤ length h = prefix_length a.front h longer in

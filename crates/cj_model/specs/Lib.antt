@@ -22,6 +22,7 @@ pub mod Literals
 pub mod Macros
 pub mod Moves
 pub mod Order
+pub mod Outcomes
 pub mod Placements
 pub mod Plain
 pub mod PredicateCode

@@ -28,6 +28,7 @@ use Rattle.cj_model.specs.declared.codes.TheConstants.{IN_TRANSACTION, NO_TRANSA
 use Rattle.cj_model.specs.declared.limits.TheConstants.{SESSION_LIMIT, SESSION_NUMBER_LIMIT}
 use Rattle.cj_model.specs.Changes.{bare}
 use Rattle.cj_model.specs.Queries.{ask}
+use Rattle.cj_model.specs.Outcomes.{IsOutcome, IsAsked}
 use Rattle.cj_model.specs.Plain.{act_of}
 use Rattle.cj_model.specs.Placements.{concerns}
 use Rattle.cj_model.specs.Histories.{has, log, done, free, opened, enabled, room, at, said, tx_of}
@@ -112,15 +113,22 @@ sessions_full c = record { code = SESSIONS_FULL; a = length c.sessions; b = 0 }
 abbrev pub has_no_number : Core → Bool
 has_no_number c = nat_le SESSION_LIMIT (length c.sessions) || nat_le SESSION_NUMBER_LIMIT c.greatest
 
+-- a session with the next number
+abbrev pub opened_for : Core → List ℕ → Core
+opened_for c user = record c { sessions = c.sessions ++ fresh_session (c.greatest + 1) user ∷ []; greatest = c.greatest + 1 }
+
+abbrev pub closed_for : Core → ℕ → Core
+closed_for c s = record c { sessions = filter (λ (x : OpenSession). not (x.number == s)) c.sessions }
+
 abbrev pub Opens : Core → List ℕ → Given → Core → Type 0
 Opens c user (Ok (moved.Session n)) z =
-    (has_no_number c ≡ false) × (n ≡ c.greatest + 1) × (z ≡ record c { sessions = c.sessions ++ fresh_session n user ∷ []; greatest = n })
+    (has_no_number c ≡ false) × (n ≡ c.greatest + 1) × (z ≡ opened_for c user)
 Opens c user (Ok (moved.Refused r)) z = (has_no_number c ≡ true) × (r ≡ sessions_full c) × (z ≡ c)
 Opens c user (Err NoMemory) z = z ≡ c
 Opens c user _ z = ⊥
 
 abbrev pub Closes : Core → ℕ → Given → Core → Type 0
-Closes c s (Ok moved.Closed) z = z ≡ record c { sessions = filter (λ (x : OpenSession). not (x.number == s)) c.sessions }
+Closes c s (Ok moved.Closed) z = z ≡ closed_for c s
 Closes c s _ z = ⊥
 
 -- ---- entries
@@ -158,6 +166,10 @@ counted x = record x { queries = x.queries + 1 }
 abbrev pub with_counted : Core → ℕ → Core
 with_counted c s = record c { sessions = with_session c.sessions s counted }
 
+-- the entry is open, and its session has counted it
+abbrev pub scheduled_as : Core → ℕ → Entry → Core
+scheduled_as c s e = record c { history = c.history ++ event.Sched e ∷ []; failed = 0; starved = 0; sessions = with_session c.sessions s counted }
+
 abbrev pub history_full : Core → Refusal
 history_full c = record { code = HISTORY_FULL; a = length c.history; b = 0 }
 
@@ -171,15 +183,7 @@ RefusesSchedule c s r a refusal =
 abbrev pub SchedulesAct : Core → ℕ → Request → Act → Given → Core → Type 0
 SchedulesAct c s r a (Ok (moved.Entry n)) z =
     (forbidden_by (open_tx c s) a ≡ None) × Served c.placement c.history r × (3 ≤ room c.history) × (n ≡ last_number c + 1)
-    × (z ≡ record {
-      placement = c.placement;
-      history = c.history ++ event.Sched (next_entry c s a) ∷ [];
-      positions = c.positions;
-      failed = 0;
-      starved = 0;
-      sessions = with_session c.sessions s counted;
-      greatest = c.greatest;
-    })
+    × (z ≡ scheduled_as c s (next_entry c s a))
 SchedulesAct c s r a (Ok (moved.Refused refusal)) z = RefusesSchedule c s r a refusal × (z ≡ with_counted c s)
 SchedulesAct c s r a (Err NoMemory) z = z ≡ c
 SchedulesAct c s r a _ z = ⊥
@@ -197,7 +201,7 @@ Schedules c s r g z = SchedulesOf c s r (act_of r) g z
 -- What backend b does with the entry at its position, and where it stands then. `tells`: the backends tell what they hold.
 abbrev pub DoesEntry : Bool → Core → ℕ → ℕ → Entry → Did → Option ℕ → Type 0
 DoesEntry tells c b p e (did.Done o) position =
-    (concerns c.placement b (take p (log c.history)) e.tx e.act ≡ true) × (tells ≡ true → said (log c.history) p ≡ Some o) × (position ≡ Some (p + 1))
+    (concerns c.placement b (take p (log c.history)) e.tx e.act ≡ true) × IsOutcome o × (tells ≡ true → said (log c.history) p ≡ Some o) × (position ≡ Some (p + 1))
 DoesEntry tells c b p e did.Skipped position = (concerns c.placement b (take p (log c.history)) e.tx e.act ≡ false) × (position ≡ Some (p + 1))
 DoesEntry tells c b p e did.Failed position = position ≡ None
 DoesEntry tells c b p e did.Starved position = position ≡ None
@@ -243,19 +247,15 @@ answered_at n x = record x { least = n }
 abbrev pub ended : Core → List Event
 ended c = c.history ++ event.Ended c.failed c.starved ∷ []
 
+-- the entry has ended, and its session was answered
+abbrev pub ended_for : Core → ℕ → Core
+ended_for c s = record c { history = ended c; failed = 0; starved = 0; sessions = with_session c.sessions s (answered_at (last_number c)) }
+
 abbrev pub Ends : Bool → Core → Given → Core → Type 0
 Ends tells c (Ok (moved.Replied s reply)) z =
     (e : Entry) × (opened c.history ≡ Some e) × (s ≡ e.session)
-    × (tells ≡ true → AnswersEntry c.placement c.history (ended c) (done c.history) e reply)
-    × (z ≡ record {
-      placement = c.placement;
-      history = ended c;
-      positions = c.positions;
-      failed = 0;
-      starved = 0;
-      sessions = with_session c.sessions s (answered_at (last_number c));
-      greatest = c.greatest;
-    })
+    × AnswersEntry tells c.placement c.history (ended c) (done c.history) e reply
+    × (z ≡ ended_for c s)
 Ends tells c _ z = ⊥
 
 -- ---- reads
@@ -305,12 +305,19 @@ abbrev pub IsServing : Core → Select → ℕ → Type 0
 IsServing c select mask = (b : ℕ) →
     (ServesAt c.placement c.history (request.Select select) b → has mask b ≡ true) × (has mask b ≡ true → ServesAt c.placement c.history (request.Select select) b)
 
+-- the backend stands at position p, and has taken all that the session was answered
+pub record IsFarEnough (c : Core) (s b : ℕ) : Type 0 where
+  pub p : ℕ
+  pub stands : position_at c b ≡ Some p
+  pub owed : (session_at c s).least ≤ p
+
 -- the backend answered, at position p
 pub record Reaches (tells : Bool) (c : Core) (s b : ℕ) (select : Select) (answer : Asked) (z : Core) : Type 0 where
   pub serves : ServesAt c.placement c.history (request.Select select) b
   pub p : ℕ
   pub stands : position_at c b ≡ Some p
   pub owed : (session_at c s).least ≤ p
+  pub possible : IsAsked answer
   pub says : tells ≡ true → answer ≡ ask (at (log c.history) p) (open_tx c s) select
   pub after : z ≡ with_read c s (λ x. answered_at p (was_answered x))
 
@@ -323,6 +330,7 @@ pub record ReadsNowhere (c : Core) (s b : ℕ) (select : Select) (refusal : Refu
 -- the backend failed, and the history has no room to say so
 pub record ReadsFull (c : Core) (s b : ℕ) (select : Select) (refusal : Refusal) (z : Core) : Type 0 where
   pub serves : ServesAt c.placement c.history (request.Select select) b
+  pub there : IsFarEnough c s b
   pub full : room c.history ≡ 0
   pub refused : refusal ≡ history_full c
   pub after : z ≡ with_read c s was_answered
@@ -330,6 +338,7 @@ pub record ReadsFull (c : Core) (s b : ℕ) (select : Select) (refusal : Refusal
 -- the backend failed, as the last of those that serve the read
 pub record ReadsInVain (c : Core) (s b : ℕ) (select : Select) (refusal : Refusal) (z : Core) : Type 0 where
   pub serves : ServesAt c.placement c.history (request.Select select) b
+  pub there : IsFarEnough c s b
   pub space : 0 < room c.history
   pub all : AllTried c select (tried_with c s b)
   pub mask : ℕ
@@ -340,6 +349,7 @@ pub record ReadsInVain (c : Core) (s b : ℕ) (select : Select) (refusal : Refus
 -- the backend failed, and another that serves the read has not been tried
 pub record ReadsAgain (c : Core) (s b : ℕ) (select : Select) (z : Core) : Type 0 where
   pub serves : ServesAt c.placement c.history (request.Select select) b
+  pub there : IsFarEnough c s b
   pub space : 0 < room c.history
   pub more : ¬ (AllTried c select (tried_with c s b))
   pub after : z ≡ read_failed c s b (still_reading select (tried_with c s b))
@@ -373,18 +383,22 @@ ReadsOrWaits tells c s b select g z =
 
 -- ---- backends
 
+-- one more event
+abbrev pub happened : Core → Event → Core
+happened c e = record c { history = c.history ++ e ∷ [] }
+
 abbrev pub Arms : Core → Given → Core → Type 0
 Arms c (Ok moved.Armed) z = z ≡ c
 Arms c _ z = ⊥
 
 abbrev pub Disables : Core → ℕ → Given → Core → Type 0
-Disables c b (Ok moved.Disabled) z = (0 < room c.history) × (z ≡ record c { history = c.history ++ event.Disabled b ∷ [] })
+Disables c b (Ok moved.Disabled) z = (0 < room c.history) × (z ≡ happened c (event.Disabled b))
 Disables c b (Ok (moved.Refused r)) z = (room c.history ≡ 0) × (r ≡ history_full c) × (z ≡ c)
 Disables c b (Err NoMemory) z = z ≡ c
 Disables c b _ z = ⊥
 
 abbrev pub Enables : Core → ℕ → Given → Core → Type 0
-Enables c b (Ok moved.Enabled) z = (0 < room c.history) × (z ≡ record c { history = c.history ++ event.Enabled b ∷ [] })
+Enables c b (Ok moved.Enabled) z = (0 < room c.history) × (z ≡ happened c (event.Enabled b))
 Enables c b (Ok (moved.Refused r)) z = (room c.history ≡ 0) × (r ≡ history_full c) × (z ≡ c)
 Enables c b (Err NoMemory) z = z ≡ c
 Enables c b _ z = ⊥

@@ -157,9 +157,9 @@ pub record IsBetween (a : Seen) (c : Core) (s : ℕ) : Type 0 where
   pub later : c.greatest < s → a.least ≡ 0
 
 -- The replies to session s in a run are a chain of turns from what it has seen, wherever the run begins and ends within its calls.
-pub record IsChained (s : ℕ) (c : Core) (ms : List Move) (gs : List Given) (z : Core) (a : Seen) : Type 0 where
+pub record IsChained (tells : Bool) (s : ℕ) (c : Core) (ms : List Move) (gs : List Given) (z : Core) (a : Seen) : Type 0 where
   pub calls : List Call
   pub last : Seen
-  pub runs : RunsFor s true c ms gs calls z
-  pub chain : Chain c.placement s a calls last
+  pub runs : RunsFor s tells c ms gs calls z
+  pub chain : Chain tells c.placement s a calls last
   pub between : IsBetween last z s

@@ -1,5 +1,5 @@
--- Turns: what one request of a session may be answered, from the history that it has seen to the one that it sees then.
-use Rattle.std.specs.Prelude.{◌≡◌, ◌≢◌, ◌⊎◌, ℕ, ◌+◌, ◌<◌, ◌≤◌, true, ◌==◌, List, [], ◌∷◌, length, take, count_by, slice_get}
+-- Turns: what one request of a session may be answered, from the history that it has seen to the one that it sees then. `tells`: the backends tell what they hold; only what is answered of it hangs on that.
+use Rattle.std.specs.Prelude.{◌≡◌, ◌≢◌, ◌⊎◌, ℕ, ◌+◌, ◌<◌, ◌≤◌, Bool, true, ◌==◌, List, [], ◌∷◌, length, take, count_by, slice_get}
 use Rattle.std.specs.declared.option.Option.{Option}
 use Rattle.std.specs.declared.option.Option.TheVariants.{None, Some}
 use mathlib.Core.List.{IsPrefix}
@@ -21,6 +21,7 @@ use Rattle.cj_model.specs.Plain.{act_of}
 use Rattle.cj_model.specs.Placements.{Placement}
 use Rattle.cj_model.specs.Histories.{has, log, done, free, room, at, log_faults_of, tx_of}
 use Rattle.cj_model.specs.Legality.{IsLegal}
+use Rattle.cj_model.specs.Outcomes.{IsAsked}
 use Rattle.cj_model.specs.Answering.{ServesAt, Served, Unserved, AnswersEntry}
 
 -- what a session has seen, and the position that its reads need at least
@@ -47,7 +48,7 @@ entry_of s c act = record { session = s; seq = c.number; tx = c.tx; user = c.use
 -- ---- the cases
 
 -- the request was scheduled, and its entry has ended
-pub record Scheduled (p : Placement) (s : ℕ) (a : Seen) (c : Call) (z : Seen) : Type 0 where
+pub record Scheduled (tells : Bool) (p : Placement) (s : ℕ) (a : Seen) (c : Call) (z : Seen) : Type 0 where
   pub m : ℕ
   pub moment : Moment a.front z.front m
   pub act : Act
@@ -56,7 +57,7 @@ pub record Scheduled (p : Placement) (s : ℕ) (a : Seen) (c : Call) (z : Seen) 
   pub served : Served p (take m z.front) c.request
   pub space : 3 ≤ room (take m z.front)
   pub next : slice_get z.front m ≡ Some (Sched (entry_of s c act))
-  pub answer : AnswersEntry p (take m z.front) z.front (length (log (take m z.front))) (entry_of s c act) c.reply
+  pub answer : AnswersEntry tells p (take m z.front) z.front (length (log (take m z.front))) (entry_of s c act) c.reply
   pub least : z.least ≡ length (log (take m z.front)) + 1
 
 -- no enabled backend has each table that is named
@@ -68,7 +69,7 @@ pub record NoBackend (p : Placement) (a : Seen) (c : Call) (z : Seen) : Type 0 w
   pub least : z.least ≡ a.least
 
 -- a read, at a position that holds all that the session was answered, and all that had ended
-pub record Read (p : Placement) (a : Seen) (c : Call) (z : Seen) : Type 0 where
+pub record Read (tells : Bool) (p : Placement) (a : Seen) (c : Call) (z : Seen) : Type 0 where
   pub m : ℕ
   pub moment : Moment a.front z.front m
   pub select : Select
@@ -77,7 +78,10 @@ pub record Read (p : Placement) (a : Seen) (c : Call) (z : Seen) : Type 0 where
   pub owed : a.least ≤ z.least
   pub past : done (take m z.front) ≤ z.least
   pub within : z.least ≤ length (log z.front)
-  pub replied : c.reply ≡ asked_reply (ask (at (log z.front) z.least) c.tx select)
+  pub answer : Asked
+  pub possible : IsAsked answer
+  pub says : tells ≡ true → answer ≡ ask (at (log z.front) z.least) c.tx select
+  pub replied : c.reply ≡ asked_reply answer
 
 -- a read in which each backend that serves it failed
 pub record ReadFault (p : Placement) (s : ℕ) (a : Seen) (c : Call) (z : Seen) : Type 0 where
@@ -123,14 +127,14 @@ pub record Starved (a : Seen) (c : Call) (z : Seen) : Type 0 where
   pub replied : c.reply ≡ Refused (bare NO_MEMORY)
   pub least : z.least ≡ a.least
 
-pub data Case (p : Placement) (s : ℕ) (a : Seen) (c : Call) (z : Seen) : Type 0 where
-  scheduled : Scheduled p s a c z → Case p s a c z
-  no_backend : NoBackend p a c z → Case p s a c z
-  read : Read p a c z → Case p s a c z
-  read_fault : ReadFault p s a c z → Case p s a c z
-  log_fault : LogFault p s a c z → Case p s a c z
-  full : Full p a c z → Case p s a c z
-  starved : Starved a c z → Case p s a c z
+pub data Case (tells : Bool) (p : Placement) (s : ℕ) (a : Seen) (c : Call) (z : Seen) : Type 0 where
+  scheduled : Scheduled tells p s a c z → Case tells p s a c z
+  no_backend : NoBackend p a c z → Case tells p s a c z
+  read : Read tells p a c z → Case tells p s a c z
+  read_fault : ReadFault p s a c z → Case tells p s a c z
+  log_fault : LogFault p s a c z → Case tells p s a c z
+  full : Full p a c z → Case tells p s a c z
+  starved : Starved a c z → Case tells p s a c z
 
 -- ---- a turn
 
@@ -139,7 +143,7 @@ abbrev pub entries_of : ℕ → List Event → ℕ
 entries_of s h = count_by (λ (e : Entry). e.session == s) (log h)
 
 -- how many entries the case schedules
-abbrev pub schedules : {p : Placement} {s : ℕ} {a : Seen} {c : Call} {z : Seen} → Case p s a c z → ℕ
+abbrev pub schedules : {tells : Bool} {p : Placement} {s : ℕ} {a : Seen} {c : Call} {z : Seen} → Case tells p s a c z → ℕ
 schedules (scheduled x) = 1
 schedules (no_backend x) = 0
 schedules (read x) = 0
@@ -158,7 +162,7 @@ next_tx_by n tx act.Commit = 0
 next_tx_by n tx act.Abort = 0
 
 -- the transaction that the session is in after the case, where it was in tx before: what schedules nothing leaves it
-abbrev pub next_tx : {p : Placement} {s : ℕ} {a : Seen} {c : Call} {z : Seen} → ℕ → Case p s a c z → ℕ
+abbrev pub next_tx : {tells : Bool} {p : Placement} {s : ℕ} {a : Seen} {c : Call} {z : Seen} → ℕ → Case tells p s a c z → ℕ
 next_tx {z = z} tx (scheduled x) = next_tx_by (length (log (take x.m z.front)) + 1) tx x.act
 next_tx tx (no_backend x) = tx
 next_tx tx (read x) = tx
@@ -168,7 +172,7 @@ next_tx tx (full x) = tx
 next_tx tx (starved x) = tx
 
 -- how often the log's store fails in the case
-abbrev pub faults_in : {p : Placement} {s : ℕ} {a : Seen} {c : Call} {z : Seen} → Case p s a c z → ℕ
+abbrev pub faults_in : {tells : Bool} {p : Placement} {s : ℕ} {a : Seen} {c : Call} {z : Seen} → Case tells p s a c z → ℕ
 faults_in (scheduled x) = 0
 faults_in (no_backend x) = 0
 faults_in (read x) = 0
@@ -177,18 +181,18 @@ faults_in (log_fault x) = 1
 faults_in (full x) = 0
 faults_in (starved x) = 0
 
-pub record Turn (p : Placement) (s : ℕ) (a : Seen) (c : Call) (z : Seen) : Type 0 where
+pub record Turn (tells : Bool) (p : Placement) (s : ℕ) (a : Seen) (c : Call) (z : Seen) : Type 0 where
   pub legal : IsLegal z.front
   pub longer : IsPrefix a.front z.front
   pub owes : a.least ≤ length (log a.front)
   pub tx : (c.tx ≡ 0) ⊎ (c.tx ≡ tx_of (log a.front) s)
-  pub case : Case p s a c z
+  pub case : Case tells p s a c z
   pub entries : entries_of s z.front ≡ entries_of s a.front + schedules case
   -- the session's transaction and the faults of the log's store in the request are as the case says
   pub tx_after : tx_of (log z.front) s ≡ next_tx (tx_of (log a.front) s) case
   pub log_faults : log_faults_of s c.number z.front ≡ log_faults_of s c.number a.front + faults_in case
 
 -- a chain of turns, each from where the last one led
-abbrev pub Chain : Placement → ℕ → Seen → List Call → Seen → Type 0
-Chain p s a [] z = a ≡ z
-Chain p s a (c ∷ cs) z = (mid : Seen) × Turn p s a c mid × Chain p s mid cs z
+abbrev pub Chain : Bool → Placement → ℕ → Seen → List Call → Seen → Type 0
+Chain tells p s a [] z = a ≡ z
+Chain tells p s a (c ∷ cs) z = (mid : Seen) × Turn tells p s a c mid × Chain tells p s mid cs z

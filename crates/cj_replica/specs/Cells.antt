@@ -15,7 +15,7 @@ use Rattle.cj_model.specs.Queries.{ask}
 use Rattle.cj_model.specs.Placements.{everywhere, concerns}
 use Rattle.cj_backend.specs.declared.backend.BackendError.{BackendError}
 use Rattle.cj_backend.specs.declared.backend.BackendError.TheVariants as backend_errors
-use Rattle.cj_backend.specs.Backends.{IsOutcome}
+use Rattle.cj_model.specs.Outcomes.{IsOutcome}
 use Rattle.cj_replica.specs.declared.cell.Caught.{Caught}
 use Rattle.cj_replica.specs.declared.cell.Caught.TheVariants.{Skipped, Did}
 use Rattle.cj_replica.specs.declared.cell.CellError.{CellError}

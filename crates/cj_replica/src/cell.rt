@@ -5,7 +5,7 @@ ghost use Rattle.cj_model.specs.declared.request.Request.TheVariants as request;
 ghost use Rattle.cj_model.specs.Legality.{IsWritten};
 ghost use Rattle.cj_model.specs.Plain.{request_of};
 ghost use Rattle.cj_model.specs.Sound.{IsLone};
-ghost use Rattle.cj_backend.specs.Backends.{IsAsked};
+ghost use Rattle.cj_model.specs.Outcomes.{IsOutcome, IsAsked};
 ghost use Rattle.cj_backend.specs.Backends as backends;
 
 use cj_backend::{Backend, BackendError};
@@ -207,7 +207,7 @@ fn carry_out<B: Backend>(backend: &mut B, e: &Entry, login: &Text) -> Result<Out
     requires written { IsWritten (request_of e.now.act) }
     requires lone { IsLone e.now e.now.act }
     ensures outcome { backends.SaysOutcome (B.told backend.old) e.now.tx e.now.act result }
-    ensures possible { IfOk result backends.IsOutcome }
+    ensures possible { IfOk result IsOutcome }
     ensures told { B.told backend.new ≡ backends.told_after (B.told backend.old) e.now.tx e.now.act result }
     ensures cause { backends.HasBackendCause (B.faults backend.old) (B.faults backend.new) result }
     ensures asks { B.asks backend.new ≡ B.asks backend.old }

@@ -4,7 +4,8 @@ ghost use Rattle.std.specs.Prelude.{◌≡◌, true, false, codes, Ok, Err, IfOk
 ghost use Rattle.std.specs.List.{list_any};
 ghost use Rattle.std.specs.Option.{option_map};
 ghost use Rattle.cj_outside.specs.Causes.{HasOutCause};
-ghost use Rattle.cj_backend.specs.Backends.{HasBackendCause, IsAsked};
+ghost use Rattle.cj_backend.specs.Backends.{HasBackendCause};
+ghost use Rattle.cj_model.specs.Outcomes.{IsAsked};
 ghost use Rattle.cj_reply.specs.Encode.{IsSendable};
 ghost use Rattle.cj_model.specs.Session as session;
 ghost use Rattle.cj_top.specs.Answers.{Answers, IsReadable, LogsIn};

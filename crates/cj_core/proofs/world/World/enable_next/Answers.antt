@@ -1,9 +1,9 @@
 use Rattle.std.proofs.Common.{◌≡◌, ◌≤◌, true, false, sym, ap, ◌∙◌, subst, arith}
 use Rattle.cj_model.specs.Histories.{free, enabled}
 use Rattle.cj_model.specs.Cores.{Core}
+use Rattle.cj_model.specs.Moves.{happened}
 use Rattle.cj_model.specs.declared.event.Event.TheVariants.{Enabled}
 use Rattle.cj_core.specs.Worlds.{WorldState}
-use Rattle.cj_core.specs.Effects.{happened}
 use Rattle.cj_core.proofs.Resting.{free-enables, off-enables, happened-begun, no_room}
 use Rattle.cj_core.proofs.world.World.enable_next.Goals as goal
 

@@ -13,7 +13,7 @@ returns-then-left-eq0 g c =
     let w = c.self.inside in
     let open_now = subst (λ (x : WorldState). free x.core.history ≡ false) (sym c.self.view_is) c.requires.«open» in
     subst (λ (x : WorldState). AnswersOpen g.B.Backend.TELLS x.core (reply.Refused c.unfinished.result)) c.self.view_is
-    (λ t e is.
+    (λ e is.
     unfinished g.B.Backend.TELLS w.book.backends w.book.history w.cells.items w.failed w.starved w.sessions w.greatest w.heard c.self.invariant open_now c.left.result c.left.ensures e is c.unfinished.result
     c.if-left-eq0.true c.unfinished.ensures)
 
@@ -30,15 +30,15 @@ returns-in-Some-Done g c =
     let w = c.self.inside in
     let open_now = subst (λ (x : WorldState). free x.core.history ≡ false) (sym c.self.view_is) c.requires.«open» in
     subst (λ (x : WorldState). AnswersOpen g.B.Backend.TELLS x.core (reply.Done c.in-Some-Done.count)) c.self.view_is
-    (λ t e is.
+    (λ e is.
     finished g.B.Backend.TELLS w.book.backends w.book.history w.cells.items w.failed w.starved w.sessions w.greatest w.heard c.self.invariant open_now c.left.result c.left.ensures c.if-left-eq0.false
-    c.left.type_inv e is (outcome.Done c.in-Some-Done.count) (search rules) t)
+    c.left.type_inv e is (outcome.Done c.in-Some-Done.count) (search rules))
 
 pub returns-in-Some-Refused : goal.returns-in-Some-Refused
 returns-in-Some-Refused g c =
     let w = c.self.inside in
     let open_now = subst (λ (x : WorldState). free x.core.history ≡ false) (sym c.self.view_is) c.requires.«open» in
     subst (λ (x : WorldState). AnswersOpen g.B.Backend.TELLS x.core (reply.Refused c.in-Some-Refused.refusal)) c.self.view_is
-    (λ t e is.
+    (λ e is.
     finished g.B.Backend.TELLS w.book.backends w.book.history w.cells.items w.failed w.starved w.sessions w.greatest w.heard c.self.invariant open_now c.left.result c.left.ensures c.if-left-eq0.false
-    c.left.type_inv e is (outcome.Refused c.in-Some-Refused.refusal) (search rules) t)
+    c.left.type_inv e is (outcome.Refused c.in-Some-Refused.refusal) (search rules))
