@@ -31,19 +31,19 @@ use Rattle.cj_model.specs.Turns.{Seen, Call, IsFull, Turn}
 use Rattle.cj_model.specs.Cores.{Core, session_at, fresh_session, with_session, is_by}
 use Rattle.cj_model.specs.Moves.{Given, MovesTo, is_open, Does, Opens, Closes, Schedules, SchedulesOf, SchedulesAct, RefusesSchedule, Applies, Replays, Ends, Reads, ReadsOrWaits, Reaches, ReadsNowhere, ReadsFull, ReadsInVain, ReadsAgain, ReadsTooEarly, Arms, Disables, Enables, not_now, forbidden_by, tx_of_act, open_tx, next_entry, last_number, counted, answered_at, was_answered, still_reading, read_number, tried_of, tried_with, ended}
 use Rattle.cj_model.specs.Sound.{Stands, IsLone, IsSound}
-use Rattle.cj_model.specs.Runs.{reply_given, is_allowed, call_of_entry, call_of_act, call_at, IsUnanswered, IsSeenBy, IsBetween}
+use Rattle.cj_model.specs.Runs.{reply_given, is_allowed, call_of_entry, call_of_act, call_at, seen_at, IsUnanswered, IsSeenBy, IsBetween}
 use Rattle.cj_model.proofs.Pushed.{all_begin, prefix_self, prefix_length, opened-same, opened-free, opened-last, opened-ended}
 use Rattle.cj_model.proofs.Sessions.{without, session_of-other, session_of-without_other}
 use Rattle.cj_model.proofs.Now.{CanSchedule, can_schedule, CanEnd, can_end, CanRead, can_read, CanDisable, can_disable, CanEnable, can_enable}
 use Rattle.cj_model.proofs.Effects.{lone_no_tx}
 use Rattle.cj_model.proofs.Soundness.{no_tx, request_of-act}
 use Rattle.cj_model.proofs.TurnCases.{Rests, turn_end, turn_unserved, turn_full, turn_read, turn_fault}
-use Rattle.cj_model.proofs.Between.{seen, Follows, follows_own, follows_rest, follows_opened, between_follows, between_fresh, between_opened, between_closed, seen_event, seen_ended, seen_other, seen_sched, seen_changed, tried_none, tried_still, tried_again, prior, with_cases, opened_all}
+use Rattle.cj_model.proofs.Between.{Follows, follows_own, follows_rest, follows_opened, between_follows, between_fresh, between_opened, between_closed, seen_event, seen_ended, seen_other, seen_sched, seen_changed, tried_none, tried_still, tried_again, prior, with_cases, opened_all}
 
 -- what a move leaves session s that has seen a, where it gave it this reply
 abbrev pub After : Bool → Seen → Core → ℕ → Move → Core → Option Reply → Type 0
 After tells a c s m z None = IsBetween a z s
-After tells a c s m z (Some reply) = Turn tells c.placement s a (call_at c s m reply) (seen z s) × IsBetween (seen z s) z s
+After tells a c s m z (Some reply) = Turn tells c.placement s a (call_at c s m reply) (seen_at z s) × IsBetween (seen_at z s) z s
 
 -- an act where the session has no transaction has none
 tx_none : (a : Act) → tx_of_act 0 a ≡ 0
@@ -66,7 +66,7 @@ to_other t s r P ne h = cond_both (t == s) (Some r) None P (λ e. absurd (ne (eq
 
 -- the turn up to where the session stands now, from which it goes on
 replied : (tells : Bool) (p : Placement) (a : Seen) (c z : Core) (h : List Event) (s : ℕ) (x : OpenSession) (call : Call) (n : ℕ) → IsSound z → Follows c z h s x → is_by s (opened h) ≡ false → x.reading ≡ None
-    → x.least ≡ n → Turn tells p s a call (record { front = h; least = n }) → Turn tells p s a call (seen z s) × IsBetween (seen z s) z s
+    → x.least ≡ n → Turn tells p s a call (record { front = h; least = n }) → Turn tells p s a call (seen_at z s) × IsBetween (seen_at z s) z s
 replied tells p a c z h s x call n v f idle none least turn =
     let now : (session_at z s).least ≡ n = ap (λ (y : OpenSession). y.least) f.session ∙ least in (
       subst (λ (g : List Event). Turn tells p s a call (record { front = g; least = (session_at z s).least })) (sym f.history)

@@ -20,7 +20,7 @@ use Rattle.cj_model.specs.Turns.{Seen, entries_of}
 use Rattle.cj_model.specs.Cores.{Core, with_bit, session_of, session_at, fresh_session, with_session, is_by}
 use Rattle.cj_model.specs.Moves.{is_open, read_number, tried_of, still_reading}
 use Rattle.cj_model.specs.Sound.{IsSession, IsSound}
-use Rattle.cj_model.specs.Runs.{IsUnanswered, HasFailed, TriedSince, IsSeenBy, IsBetween}
+use Rattle.cj_model.specs.Runs.{seen_at, IsUnanswered, HasFailed, TriedSince, IsSeenBy, IsBetween}
 use Rattle.cj_model.proofs.Pushed.{log_faults-same, log_faults-begin, all_begin, get_seam, get_left, prefix_self, prefix_trans, prefix_length, enabled-push, log-same, done-same, opened-sched, opened-same, opened-free}
 use Rattle.cj_model.proofs.Masks.{has-zero, has-with_other}
 use Rattle.cj_model.proofs.Sessions.{session_at-is, found_all, found_none, session_of-push_same, session_of-push_other, without, session_of-without_same, session_at-same, session_at-other}
@@ -272,10 +272,6 @@ between_follows a c z h s x j f step =
 
 -- ---- after a reply
 
--- what a session has seen that was just answered
-abbrev pub seen : Core → ℕ → Seen
-seen c s = record { front = c.history; least = (session_at c s).least }
-
 -- what holds of a fresh session, and of an open one, holds of each
 session_cases : (c : Core) (s : ℕ) (P : OpenSession → Type 0) → P (fresh_session s []) → ((x : OpenSession) → session_of c.sessions s ≡ Some x → P x) → P (session_at c s)
 session_cases c s P new old = one (session_of c.sessions s) refl
@@ -296,7 +292,7 @@ new_unknown c s w lt =
     found_none c.sessions s (All-weaker (IsSession c.history c.greatest) (λ (x : OpenSession). x.number ≢ s) (λ x q. let le : x.number ≤ c.greatest = q.number.1 in omega arith) c.sessions w.sessions)
 
 -- a session that was answered has seen the whole history
-pub between_fresh : (z : Core) (s : ℕ) → IsSound z → is_by s (opened z.history) ≡ false → (session_at z s).reading ≡ None → IsBetween (seen z s) z s
+pub between_fresh : (z : Core) (s : ℕ) → IsSound z → is_by s (opened z.history) ≡ false → (session_at z s).reading ≡ None → IsBetween (seen_at z s) z s
 between_fresh z s w idle none =
     record {
       longer = prefix_self z.history;

@@ -8,10 +8,9 @@ use Rattle.cj_model.specs.Turns.{Seen, Chain}
 use Rattle.cj_model.specs.Cores.{Core, session_at}
 use Rattle.cj_model.specs.Moves.{Given, MovesTo}
 use Rattle.cj_model.specs.Sound.{IsSound}
-use Rattle.cj_model.specs.Runs.{Runs, IsMove, CanCount, IsBetween, IsChained, reply_given, call_at, calls_at}
+use Rattle.cj_model.specs.Runs.{Runs, IsMove, CanCount, IsBetween, IsChained, reply_given, call_at, calls_at, seen_at, seen_after}
 use Rattle.cj_model.proofs.Soundness.{moves_sound}
 use Rattle.cj_model.proofs.Growth.{can_count, moves_grow}
-use Rattle.cj_model.proofs.Between.{seen}
 use Rattle.cj_model.proofs.Answered.{After, moves_after}
 
 -- a move and then a chain are a chain
@@ -21,18 +20,18 @@ chain_on tells s c mid z m g ms gs a moves same next None is after =
     let q = next a after in
     record {
       calls = q.calls;
-      last = q.last;
-      runs = (mid, moves, (q.calls, sym (ap (λ o. calls_at c s m o ++ q.calls) is), q.runs));
-      chain = subst (λ (p : Placement). Chain tells p s a q.calls q.last) same q.chain;
+      seen = q.seen;
+      runs = (mid, q.calls, q.seen, moves, sym (ap (λ o. calls_at c s m o ++ q.calls) is), sym (ap (λ o. seen_after mid s o ++ q.seen) is), q.runs);
+      chain = subst (λ (p : Placement). Chain tells p s a q.calls q.seen) same q.chain;
       between = q.between;
     }
 chain_on tells s c mid z m g ms gs a moves same next (Some reply) is after =
-    let q = next (seen mid s) after.1 in
+    let q = next (seen_at mid s) after.1 in
     record {
       calls = call_at c s m reply ∷ q.calls;
-      last = q.last;
-      runs = (mid, moves, (q.calls, sym (ap (λ o. calls_at c s m o ++ q.calls) is), q.runs));
-      chain = (seen mid s, after.0, subst (λ (p : Placement). Chain tells p s (seen mid s) q.calls q.last) same q.chain);
+      seen = seen_at mid s ∷ q.seen;
+      runs = (mid, q.calls, q.seen, moves, sym (ap (λ o. calls_at c s m o ++ q.calls) is), sym (ap (λ o. seen_after mid s o ++ q.seen) is), q.runs);
+      chain = (after.0, subst (λ (p : Placement). Chain tells p s (seen_at mid s) q.calls q.seen) same q.chain);
       between = q.between;
     }
 
@@ -40,7 +39,7 @@ chain_on tells s c mid z m g ms gs a moves same next (Some reply) is after =
 pub run_chained : (tells : Bool) (c : Core) (ms : List Move) (gs : List Given) (z : Core) → IsSound c → All (IsMove c.placement.backends) ms → CanCount c (length ms) → Runs tells c ms gs z
     → (s : ℕ) (a : Seen) → IsBetween a c s → IsChained tells s c ms gs z a
 run_chained tells c [] [] z w are count runs s a j =
-    record { calls = []; last = a; runs = (runs, refl); chain = refl; between = subst (λ (x : Core). IsBetween a x s) runs j }
+    record { calls = []; seen = []; runs = (runs, refl, refl); chain = tt; between = subst (λ (x : Core). IsBetween a x s) runs j }
 run_chained tells c (m ∷ ms) (g ∷ gs) z w are count runs s a j =
     let mid : Core = runs.0 in
     let grows = moves_grow tells c m g mid runs.1 in

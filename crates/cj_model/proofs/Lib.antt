@@ -28,6 +28,7 @@ pub mod SessionLaws
 pub mod Sessions
 pub mod Soundness
 pub mod Spellable
+pub mod Standing
 pub mod StorableLaws
 pub mod TableLaws
 pub mod TransactionLaws

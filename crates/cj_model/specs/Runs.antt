@@ -102,13 +102,28 @@ abbrev pub calls_at : Core → ℕ → Move → Option Reply → List Call
 calls_at c s m None = []
 calls_at c s m (Some reply) = call_at c s m reply ∷ []
 
--- a run, with the calls of session s that it answered
-abbrev pub RunsFor : ℕ → Bool → Core → List Move → List Given → List Call → Core → Type 0
-RunsFor s tells c [] [] calls z = (c ≡ z) × (calls ≡ [])
-RunsFor s tells c (m ∷ ms) (g ∷ gs) calls z =
-    (mid : Core) × MovesTo tells c m g mid × ((rest : List Call) × (calls ≡ calls_at c s m (reply_given c s m g) ++ rest) × RunsFor s tells mid ms gs rest z)
-RunsFor s tells c [] (g ∷ gs) calls z = ⊥
-RunsFor s tells c (m ∷ ms) [] calls z = ⊥
+-- what session s has seen where it was just answered: all that has happened, and the position that it needs from now on
+abbrev pub seen_at : Core → ℕ → Seen
+seen_at c s = record { front = c.history; least = (session_at c s).least }
+
+-- what it has seen after a move that led to z, where the move answered it
+abbrev pub seen_after : Core → ℕ → Option Reply → List Seen
+seen_after z s None = []
+seen_after z s (Some reply) = seen_at z s ∷ []
+
+-- a run, with the calls of session s that it answered, and what the session has seen right after each
+abbrev pub RunsFor : ℕ → Bool → Core → List Move → List Given → List Call → List Seen → Core → Type 0
+RunsFor s tells c [] [] calls seen z = (c ≡ z) × (calls ≡ []) × (seen ≡ [])
+RunsFor s tells c (m ∷ ms) (g ∷ gs) calls seen z =
+    (mid : Core) × (rest : List Call) × (later : List Seen) × MovesTo tells c m g mid
+    × (calls ≡ calls_at c s m (reply_given c s m g) ++ rest) × (seen ≡ seen_after mid s (reply_given c s m g) ++ later) × RunsFor s tells mid ms gs rest later z
+RunsFor s tells c [] (g ∷ gs) calls seen z = ⊥
+RunsFor s tells c (m ∷ ms) [] calls seen z = ⊥
+
+-- what it has seen at its last reply, where it had seen a before
+abbrev pub last_seen : Seen → List Seen → Seen
+last_seen a [] = a
+last_seen a (b ∷ bs) = last_seen b bs
 
 -- ---- between two replies
 
@@ -156,10 +171,14 @@ pub record IsBetween (a : Seen) (c : Core) (s : ℕ) : Type 0 where
   pub here : is_open c s ≡ true → IsSeenBy c.placement a c.history s (session_at c s)
   pub later : c.greatest < s → a.least ≡ 0
 
--- The replies to session s in a run are a chain of turns from what it has seen, wherever the run begins and ends within its calls.
+-- Each session stands between two replies, or has not begun: there is what it has seen at its last one.
+abbrev pub AreBetween : Core → Type 0
+AreBetween c = (s : ℕ) → (a : Seen) × IsBetween a c s
+
+-- The replies to session s in a run are a chain of turns from what it has seen, wherever the run begins and ends within its calls. Each turn ends in the state that gave its reply.
 pub record IsChained (tells : Bool) (s : ℕ) (c : Core) (ms : List Move) (gs : List Given) (z : Core) (a : Seen) : Type 0 where
   pub calls : List Call
-  pub last : Seen
-  pub runs : RunsFor s tells c ms gs calls z
-  pub chain : Chain tells c.placement s a calls last
-  pub between : IsBetween last z s
+  pub seen : List Seen
+  pub runs : RunsFor s tells c ms gs calls seen z
+  pub chain : Chain tells c.placement s a calls seen
+  pub between : IsBetween (last_seen a seen) z s

@@ -192,7 +192,9 @@ pub record Turn (tells : Bool) (p : Placement) (s : ℕ) (a : Seen) (c : Call) (
   pub tx_after : tx_of (log z.front) s ≡ next_tx (tx_of (log a.front) s) case
   pub log_faults : log_faults_of s c.number z.front ≡ log_faults_of s c.number a.front + faults_in case
 
--- a chain of turns, each from where the last one led
-abbrev pub Chain : Bool → Placement → ℕ → Seen → List Call → Seen → Type 0
-Chain tells p s a [] z = a ≡ z
-Chain tells p s a (c ∷ cs) z = (mid : Seen) × Turn tells p s a c mid × Chain tells p s mid cs z
+-- a chain of turns, each from where the last one led; `seen` is what the session has seen after each
+abbrev pub Chain : Bool → Placement → ℕ → Seen → List Call → List Seen → Type 0
+Chain tells p s a [] [] = Unit {0}
+Chain tells p s a (c ∷ cs) (z ∷ zs) = Turn tells p s a c z × Chain tells p s z cs zs
+Chain tells p s a [] (z ∷ zs) = ⊥
+Chain tells p s a (c ∷ cs) [] = ⊥
