@@ -1,5 +1,5 @@
 -- What binding and evaluating give.
-use Rattle.std.specs.Prelude.{◌≡◌, true, false, ⊤}
+use Rattle.std.specs.Prelude.{◌≡◌, true, false, IsOk}
 use Rattle.std.specs.declared.result.Result.{Result}
 use Rattle.std.specs.declared.result.Result.TheVariants.{Ok, Err}
 use Rattle.cj_model.specs.declared.value.Value.{Value}
@@ -32,11 +32,11 @@ bound_expr scope e =
     (unless (adds_text scope e) (bare WRONG_TYPE)
     (Ok (formula_of scope e)))
 
--- what is expected is given, seen so; there may be no memory for it
+-- what is expected is given, seen so; only where nothing is refused may there be no memory for it
 abbrev pub GivesBy : {A B : Type 0} → (B → A) → Result A Refusal → Result B BindError → Type 0
 GivesBy sight expected (Ok x) = expected ≡ Ok (sight x)
 GivesBy sight expected (Err (bind_error.Refused r)) = expected ≡ Err r
-GivesBy sight expected (Err bind_error.NoMemory) = ⊤
+GivesBy sight expected (Err bind_error.NoMemory) = IsOk expected
 
 abbrev pub Gives : Result by_place.Predicate Refusal → Result by_place.Predicate BindError → Type 0
 Gives = GivesBy (λ p. p)
@@ -44,8 +44,8 @@ Gives = GivesBy (λ p. p)
 abbrev pub GivesFormula : Result by_place.Formula Refusal → Result Formula BindError → Type 0
 GivesFormula = GivesBy formula
 
--- the value, where it lies within 64 bits; there may be no memory for it
+-- the value, where it lies within 64 bits; only for one that does may there be no memory
 abbrev pub IsValueOf : Value → Result Value ValueError → Type 0
 IsValueOf v (Ok w) = (is_outside v ≡ false) × (w ≡ v)
 IsValueOf v (Err value_error.Overflow) = is_outside v ≡ true
-IsValueOf v (Err value_error.NoMemory) = ⊤
+IsValueOf v (Err value_error.NoMemory) = is_outside v ≡ false
