@@ -1,5 +1,5 @@
 -- What binding and evaluating give.
-use Rattle.std.specs.Prelude.{◌≡◌, true, false, IsOk}
+use Rattle.std.specs.Prelude.{◌≡◌, true, false, ⊤, IsOk}
 use Rattle.std.specs.declared.result.Result.{Result}
 use Rattle.std.specs.declared.result.Result.TheVariants.{Ok, Err}
 use Rattle.cj_model.specs.declared.value.Value.{Value}
@@ -44,8 +44,8 @@ Gives = GivesBy (λ p. p)
 abbrev pub GivesFormula : Result by_place.Formula Refusal → Result Formula BindError → Type 0
 GivesFormula = GivesBy formula
 
--- the value, where it lies within 64 bits; only for one that does may there be no memory
+-- the value, where it lies within 64 bits; there may be no memory for it
 abbrev pub IsValueOf : Value → Result Value ValueError → Type 0
 IsValueOf v (Ok w) = (is_outside v ≡ false) × (w ≡ v)
 IsValueOf v (Err value_error.Overflow) = is_outside v ≡ true
-IsValueOf v (Err value_error.NoMemory) = is_outside v ≡ false
+IsValueOf v (Err value_error.NoMemory) = ⊤
