@@ -6,7 +6,9 @@ use Rattle.std.specs.declared.option.Option.TheVariants.{None, Some}
 use Rattle.std.specs.Option.{option_map, option_map_or, option_or}
 use Rattle.std.specs.List.{list_any}
 use Rattle.std.specs.Str.{bytes_eq}
-use Rattle.std.proofs.lemmas.Bool.{cases_Bool, eqb-true}
+use Rattle.std.specs.Bool.{OnTrue}
+use Rattle.std.proofs.lemmas.Bool.{and_parts, cases_Bool, eqb-true}
+use Rattle.std.proofs.lemmas.Slice.Eq.{bytes_eq-Decides}
 use Rattle.std.proofs.lemmas.List.Elements.{All-cons, All-head, All-nil, All-tail}
 use Rattle.std.proofs.lemmas.List.{append_assoc, map-append}
 use Rattle.sha2.specs.Sha256.{sha256}
@@ -84,6 +86,20 @@ same_admitted (c ∷ credentials) user password keys =
     ap (λ b. (is_of user c.account && b) || list_any (λ (credential : Credential). is_of user credential.account && bytes_eq credential.key (sha256 password)) credentials)
     (sym (ap (λ r. reads_as r (sha256 password)) (All-head HasKey c credentials keys)))
     ∙ ap (λ b. (is_of user c.account && spells c.account.digest (sha256 password)) || b) (same_admitted credentials user password (All-tail HasKey c credentials keys))
+
+-- a fact of every user that has an account holds of the one that is let in
+pub admitted_user : (P : List ℕ → Type 0) (is_meant : Credential → Bool) (credentials : List Credential) (user : List ℕ) → All (λ (credential : Credential). P credential.account.user) credentials → list_any (λ (credential : Credential). is_of user credential.account && is_meant credential) credentials ≡ true → P user
+admitted_user P is_meant [] user all h = cc
+admitted_user P is_meant (c ∷ credentials) user all h =
+    let rest : Bool = list_any (λ (credential : Credential). is_of user credential.account && is_meant credential) credentials in
+    on_bool (is_of user c.account && is_meant c)
+    (λ t. subst P ((bytes_eq-Decides c.account.user user).0 (and_parts (is_of user c.account) (is_meant c) t).0) (All-head (λ (credential : Credential). P credential.account.user) c credentials all))
+    (λ f. admitted_user P is_meant credentials user (All-tail (λ (credential : Credential). P credential.account.user) c credentials all) (sym (ap (λ b. b || rest) f) ∙ h))
+
+-- a fact that follows where the test is passed
+pub on_true : (b : Bool) (P : Type 0) → (b ≡ true → P) → OnTrue b P
+on_true true P f = f refl
+on_true false P f = tt
 
 pub same_login : (credentials : List Credential) (user : List ℕ) (b : ℕ) → login_of (accounts_of credentials) user b ≡ option_map_or (λ (credential : Credential). slice_index_or credential.account.logins b []) (find (λ (credential : Credential). is_of user credential.account) credentials) []
 same_login [] user b = refl

@@ -1,9 +1,11 @@
 -- What is kept of accounts for the look-ups.
-use Rattle.std.specs.Prelude.{◌≡◌, ℕ, true, List, [], map, All}
+use Rattle.std.specs.Prelude.{◌≡◌, ◌≤◌, ℕ, true, List, [], length, map, All}
 use Rattle.std.specs.declared.result.Result.TheVariants.{Ok}
 use Rattle.hex.specs.Hex.{decode_of}
 use Rattle.cj_model.specs.declared.account.Account.{Account}
 use Rattle.cj_model.specs.Accounts.{has_logins}
+use Rattle.cj_model.specs.Legality.{user_limit}
+use Rattle.cj_model.specs.Words.{IsText}
 use Rattle.cj_auth.specs.declared.credentials.Credential.{Credential}
 
 abbrev pub accounts_of : List Credential → List Account
@@ -13,8 +15,14 @@ accounts_of credentials = map (λ (credential : Credential). credential.account)
 abbrev pub HasKey : Credential → Type 0
 HasKey credential = decode_of credential.account.digest ≡ Ok credential.key
 
+-- a text that is not too long for a user's name
+pub record IsUserName (user : List ℕ) : Type 0 where
+  pub text : IsText user
+  pub short : length user ≤ user_limit
+
 -- each with its key and with a login for each backend, and an empty login for users that have none
 pub record IsKept (credentials : List Credential) (backends : ℕ) (empty : List ℕ) : Type 0 where
+  pub users : All (λ (credential : Credential). IsUserName credential.account.user) credentials
   pub keys : All HasKey credentials
   pub logins : All (λ (credential : Credential). has_logins backends credential.account ≡ true) credentials
   pub nameless : empty ≡ []

@@ -1,8 +1,10 @@
 //! The accounts of users.
 
 ghost use Rattle.std.specs.Prelude.{◌≡◌, ◌⊎◌, ◌<◌, IfErr, IfOk, None, Some};
+ghost use Rattle.std.specs.Bool.{OnTrue};
 ghost use Rattle.cj_model.specs.Accounts.{HasShortUsers, login_of};
 ghost use Rattle.cj_auth.specs.Admission.{admits};
+ghost use Rattle.cj_auth.specs.Kept.{IsUserName};
 ghost use Rattle.cj_auth.specs.Refusals.{refusal_of};
 ghost use Rattle.cj_auth.specs.declared.error.AuthError.TheVariants as error;
 
@@ -55,7 +57,8 @@ impl Accounts {
 
     /// Whether the user has this password. It takes no memory.
     pub fn check(&self, user: &[u8], password: &[u8]) -> bool
-        ensures { result ≡ admits self.now.accounts user.now password.now }
+        ensures admitted { result ≡ admits self.now.accounts user.now password.now }
+        ensures user { OnTrue result (IsUserName user.now) }
     {
         has_key(self.credentials.as_slice(), user, &Sha256::digest(password))
     }

@@ -1,11 +1,12 @@
 //! Accounts with what their digests spell.
 
-ghost use Rattle.std.specs.Prelude.{◌≡◌, ◌&&◌, find, option_copied, true, All, IfOk};
+ghost use Rattle.std.specs.Prelude.{◌≡◌, ◌≤◌, ◌&&◌, find, length, option_copied, true, All, IfOk};
 ghost use Rattle.std.specs.List.{list_any};
 ghost use Rattle.std.specs.Str.{bytes_eq};
-ghost use Rattle.cj_model.specs.Accounts.{is_of};
+ghost use Rattle.cj_model.specs.Accounts.{HasShortUsers, is_of};
+ghost use Rattle.cj_model.specs.Legality.{user_limit};
 ghost use Rattle.cj_auth.specs.Digests.{is_digest};
-ghost use Rattle.cj_auth.specs.Kept.{HasKey, accounts_of};
+ghost use Rattle.cj_auth.specs.Kept.{HasKey, IsUserName, accounts_of};
 
 use crate::digests::{is_same_key, key_of};
 use cj_model::{Account, AccountRows, Duplicate, ListOf, NoMemory};
@@ -28,10 +29,13 @@ impl Duplicate for Credential {
 }
 
 fn with_key(account: Account) -> Credential
-    requires { is_digest account.digest ≡ true }
+    requires digest { is_digest account.digest ≡ true }
+    requires user { length account.user ≤ user_limit }
     ensures account { result.account ≡ account }
     ensures key { HasKey result }
+    ensures user { IsUserName result.account.user }
 {
+    let _text = account.user.as_slice();
     Credential {
         key: key_of(account.digest.as_slice()),
         account,
@@ -40,9 +44,11 @@ fn with_key(account: Account) -> Credential
 
 /// The accounts with their keys.
 pub fn with_keys(alloc: Global, accounts: AccountRows) -> Result<ListOf<Credential>, NoMemory>
-    requires { All (λ account. is_digest account.digest ≡ true) accounts }
+    requires digests { All (λ account. is_digest account.digest ≡ true) accounts }
+    requires users { HasShortUsers accounts }
     ensures accounts { IfOk result (λ made. accounts_of made ≡ accounts) }
     ensures keys { IfOk result (λ made. All HasKey made) }
+    ensures users { IfOk result (λ made. All (λ credential. IsUserName credential.account.user) made) }
 {
     let mut made = ListOf::new(alloc);
     for account in accounts.into_vec() {

@@ -1,15 +1,13 @@
 -- What contracts see of a book, and when an event can't come into it.
-use Rattle.std.specs.Prelude.{◌≡◌, ◌↔◌, ℕ, ◌<◌, ◌≤◌, Bool, true, false, List, [], ◌∷◌, ◌++◌, length, Some, Result, Ok, Err, refl}
+use Rattle.std.specs.Prelude.{◌≡◌, ℕ, ◌<◌, ◌≤◌, Bool, true, false, List, [], ◌∷◌, ◌++◌, length, Result, Ok, Err, refl}
 use Rattle.std.specs.Coded.{Coded, code_by, coded×, coded_bool, coded_list, coded_ℕ}
 use Rattle.cj_model.specs.declared.request.Act.{Act}
-use Rattle.cj_model.specs.declared.request.Entry.{Entry}
 use Rattle.cj_model.specs.declared.event.Event.{Event}
 use Rattle.cj_model.specs.contracts.event.Event as event_type
 use Rattle.cj_model.specs.Plain.{request_of}
 use Rattle.cj_model.specs.Placements.{everywhere}
-use Rattle.cj_model.specs.Histories.{has, log, free, opened, room}
-use Rattle.cj_model.specs.Answering.{Served, Unserved, is_target}
-use Rattle.cj_model.specs.Sound.{IsLone}
+use Rattle.cj_model.specs.Histories.{log, free, room}
+use Rattle.cj_model.specs.Answering.{Served, Unserved}
 use Rattle.cj_book.specs.declared.error.BookError.{BookError}
 use Rattle.cj_book.specs.declared.error.BookError.TheVariants.{InProgress, NoBackend, HistoryFull, NoMemory}
 
@@ -27,11 +25,6 @@ book_code =
 -- the book with one more event, which may have had the memory that was taken
 abbrev pub with_event : BookState → Event → BookState
 with_event b e = record b { history = b.history ++ e ∷ []; has_spare = false }
-
--- the mask has the targets of the open entry, where that is outside a transaction
-abbrev pub HasTargets : ℕ → BookState → Type 0
-HasTargets mask book =
-    (e : Entry) → opened book.history ≡ Some e → IsLone e e.act → (b : ℕ) → (has mask b ≡ true) ↔ is_target (everywhere book.backends) book.history e b
 
 -- entry n is open
 pub record IsInProgress (b : BookState) (n : ℕ) : Type 0 where

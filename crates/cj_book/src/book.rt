@@ -7,7 +7,7 @@ ghost use Rattle.cj_model.specs.Placements.{everywhere};
 ghost use Rattle.cj_model.specs.Histories as histories;
 ghost use Rattle.cj_model.specs.Histories.{has, log, free};
 ghost use Rattle.cj_model.specs.Answering.{Served, Unserved};
-ghost use Rattle.cj_book.specs.Books.{with_event, HasTargets, IsInProgress, HasNoBackend, LacksRoom, CanSchedule, Checks, IsFull, HasRoom, IsWant};
+ghost use Rattle.cj_book.specs.Books.{with_event, IsInProgress, HasNoBackend, LacksRoom, CanSchedule, Checks, IsFull, HasRoom, IsWant};
 ghost use Rattle.cj_book.specs.Kept as kept;
 
 use crate::error::BookError;
@@ -171,14 +171,6 @@ impl Book {
         ensures below { (b : ℕ) → has result b ≡ true → b < self.now.backends }
     {
         self.enabled
-    }
-
-    /// The mask of the targets of the open entry, which is outside a transaction; 0 where none is open.
-    pub fn targets(&self) -> u32
-        ensures none { free self.now.history ≡ true → result ≡ 0 }
-        ensures of_opened { HasTargets result self.now }
-    {
-        if self.is_free() { 0 } else { self.enabled }
     }
 
     /// The mask of the backends that stay enabled where the open entry ends so.

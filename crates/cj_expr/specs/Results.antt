@@ -1,5 +1,5 @@
 -- What binding and evaluating give.
-use Rattle.std.specs.Prelude.{◌≡◌, true, false, ⊤}
+use Rattle.std.specs.Prelude.{◌≡◌, true, false, ⊤, IsOk}
 use Rattle.std.specs.declared.result.Result.{Result}
 use Rattle.std.specs.declared.result.Result.TheVariants.{Ok, Err}
 use Rattle.cj_model.specs.declared.value.Value.{Value}
@@ -32,11 +32,11 @@ bound_expr scope e =
     (unless (adds_text scope e) (bare WRONG_TYPE)
     (Ok (formula_of scope e)))
 
--- what is expected is given, seen so; there may be no memory for it
+-- what is expected is given, seen so; only where nothing is refused may there be no memory for it
 abbrev pub GivesBy : {A B : Type 0} → (B → A) → Result A Refusal → Result B BindError → Type 0
 GivesBy sight expected (Ok x) = expected ≡ Ok (sight x)
 GivesBy sight expected (Err (bind_error.Refused r)) = expected ≡ Err r
-GivesBy sight expected (Err bind_error.NoMemory) = ⊤
+GivesBy sight expected (Err bind_error.NoMemory) = IsOk expected
 
 abbrev pub Gives : Result by_place.Predicate Refusal → Result by_place.Predicate BindError → Type 0
 Gives = GivesBy (λ p. p)

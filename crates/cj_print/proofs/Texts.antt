@@ -1,4 +1,4 @@
--- Literals are texts.
+-- What is written is a text: words of ASCII, names, numbers and literals.
 use Rattle.std.proofs.Common.{◌≡◌, ◌∙◌, refl, ℕ, suc, ◌+◌, ◌-◌, ◌*◌, fold, ◌≤◌, ◌<◌, ◌^◌, Bool, true, false, not, ◌==◌, List, [], ◌∷◌, ◌++◌, length, cond, arith, rules, ℤ, pos, negsuc, Option, IsSome, inl, inr, get_or, take, ap, nat_lt}
 use Rattle.std.proofs.Math.Utf8.{scalar, scalars, encode, encodes, low_scalar}
 use Rattle.std.specs.Int.Signed.{mag}
@@ -6,15 +6,17 @@ use Rattle.std.specs.Char.{is_ascii_digit}
 use Rattle.std.specs.List.{list_all}
 use Rattle.std.specs.Str.{IsUtf8, is_utf8}
 use Rattle.std.specs.Fmt.{decimal, signed_decimal}
-use Rattle.std.proofs.lemmas.Fmt.{digits_decimal, IsAscii-signed}
+use Rattle.std.proofs.lemmas.Fmt.{digits_decimal, IsAscii-decimal, IsAscii-signed}
 use Rattle.std.proofs.lemmas.Str.{IsUtf8-append, IsUtf8-from_ascii, IsUtf8-from_is_utf8, is_utf8-from_IsUtf8, encode_ascii, IsUtf8-nil}
 use Rattle.std.proofs.lemmas.Str.Parse.{IsNumeralModel, numerals_by_fold}
 use Rattle.std.proofs.lemmas.List.{append-nil, take_more}
 use Rattle.std.proofs.lemmas.List.Folds.{list_all-append}
 use Rattle.std.proofs.lemmas.Bool.{and_parts, and_from, le-ltb, cases_lt, cond_both, ne_eqb}
 use Rattle.std.proofs.lemmas.Bool.Decides.{nat_tests}
-use Rattle.cj_model.specs.Words.{is_text, IsText, text_of}
+use Rattle.std.specs.Prelude.{nat_le}
+use Rattle.cj_model.specs.Words.{begins_name, continues_name, is_name, is_spelled_as_name, IsNameOrEmpty, is_text, IsText, text_of}
 use Rattle.cj_model.specs.Lexical.{Each, value, doubled}
+use Rattle.cj_print.specs.Ascii.{is_ascii_byte, IsAsciiText}
 
 -- no byte is 0
 abbrev pub has_no_zero : List ℕ → Bool
@@ -33,6 +35,61 @@ text_from z u h = rw (is_utf8-from_IsUtf8 z u, h) refl
 -- a text is one
 pub some_text : (r : Option (List ℕ)) (z x : List ℕ) → r ≡ text_of z → z ≡ x → IsText x → IsSome r
 some_text r z x e q h = rw (e, q, h) refl
+
+-- two texts one after another are a text
+pub joined_text : (x y : List ℕ) → IsText x → IsText y → IsText (x ++ y)
+joined_text x y h k =
+    let left = text_parts x h in
+    let right = text_parts y k in
+    text_from (x ++ y) (IsUtf8-append x y (IsUtf8-from_is_utf8 x left.0) (IsUtf8-from_is_utf8 y right.0))
+    (list_all-append (λ b. not (b == 0)) x y ∙ and_from (has_no_zero x) (has_no_zero y) left.1 right.1)
+
+-- no bytes are a text
+pub empty_text : IsText []
+empty_text = text_from [] IsUtf8-nil refl
+
+-- ---- ASCII
+
+-- an ASCII byte is UTF-8
+one_utf8 : (c : ℕ) → c < 128 → IsUtf8 (c ∷ [])
+one_utf8 c h = (c ∷ [], (rw (low_scalar c (omega arith)) refl, rw (encode_ascii c h) refl))
+
+one_ascii_text : (b : ℕ) → is_ascii_byte b ≡ true → IsText (b ∷ [])
+one_ascii_text b h =
+    let parts = and_parts (nat_lt 0 b) (nat_lt b 128) h in
+    let above : 0 < b = grind (arith, nat_tests, parts) in
+    let below : b < 128 = grind (arith, nat_tests, parts) in
+    let e : (b == 0) ≡ false = ne_eqb b 0 (λ q. omega arith) in
+    text_from (b ∷ []) (one_utf8 b below) (rw e refl)
+
+-- ASCII without byte 0 is a text
+pub ascii_text : (z : List ℕ) → IsAsciiText z → IsText z
+ascii_text [] h = empty_text
+ascii_text (b ∷ z) h =
+    let parts = and_parts (is_ascii_byte b) (list_all is_ascii_byte z) h in
+    joined_text (b ∷ []) z (one_ascii_text b parts.0) (ascii_text z parts.1)
+
+name_byte : (b : ℕ) → continues_name b ≡ true → is_ascii_byte b ≡ true
+name_byte b h = grind (arith, nat_tests, h)
+
+name_bytes : (z : List ℕ) → list_all continues_name z ≡ true → IsAsciiText z
+name_bytes [] h = refl
+name_bytes (b ∷ z) h =
+    let parts = and_parts (continues_name b) (list_all continues_name z) h in
+    and_from (is_ascii_byte b) (list_all is_ascii_byte z) (name_byte b parts.0) (name_bytes z parts.1)
+
+spelled_bytes : (z : List ℕ) → is_spelled_as_name z ≡ true → IsAsciiText z
+spelled_bytes [] h = refl
+spelled_bytes (b ∷ z) h =
+    let parts = and_parts (begins_name b) (list_all continues_name z) h in
+    let goes : continues_name b ≡ true = rw parts.0 refl in
+    name_bytes (b ∷ z) (and_from (continues_name b) (list_all continues_name z) goes parts.1)
+
+-- a name is a text, and so is the empty one
+pub name_text : (z : List ℕ) → IsNameOrEmpty z → IsText z
+unfolding is_name
+name_text [] h = empty_text
+name_text (b ∷ z) h = ascii_text (b ∷ z) (spelled_bytes (b ∷ z) (and_parts (nat_le (length (b ∷ z)) 32) (is_spelled_as_name (b ∷ z)) h).1)
 
 -- ---- digits
 
@@ -53,6 +110,10 @@ signed_no_zero (negsuc n) h = digits_no_zero (decimal (suc n)) (digits_decimal n
 -- a number's digits are a text
 pub number_text : (n : ℤ) → mag n < 2 ^ 63 → IsText (signed_decimal n)
 number_text n h = text_from (signed_decimal n) (IsUtf8-from_ascii _ (IsAscii-signed n h)) (signed_no_zero n h)
+
+-- a count's digits are a text
+pub count_text : (n : ℕ) → n < 2 ^ 64 → IsText (decimal n)
+count_text n h = text_from (decimal n) (IsUtf8-from_ascii _ (IsAscii-decimal n h)) (digits_no_zero (decimal n) (digits_decimal numerals n h))
 
 -- ---- quotes
 
@@ -89,11 +150,7 @@ wide_encode c h =
 encode_utf8 : (c : ℕ) → scalar c ≡ true → IsUtf8 (encode c)
 encode_utf8 c s = (c ∷ [], (rw s refl, append-nil (encode c)))
 
--- an ASCII byte is UTF-8
-one_utf8 : (c : ℕ) → c < 128 → IsUtf8 (c ∷ [])
-one_utf8 c h = (c ∷ [], (rw (low_scalar c (omega arith)) refl, rw (encode_ascii c h) refl))
-
--- so is a quote
+-- a quote is UTF-8
 quote_utf8 : IsUtf8 (39 ∷ [])
 quote_utf8 = one_utf8 39 (omega arith)
 

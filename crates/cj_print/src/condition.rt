@@ -2,9 +2,11 @@
 
 ghost use Rattle.std.specs.Prelude.{◌≡◌, ◌++◌, OnOk};
 ghost use Rattle.cj_model.specs.ConditionShape.{shape};
+ghost use Rattle.cj_print.specs.Ascii.{IsAsciiText};
 ghost use Rattle.cj_print.specs.Canonical.{bracketed, cmp_text, cond_text, where_text};
 ghost use Rattle.cj_print.specs.Canonical as texts;
 
+use crate::buffer::TextBuffer;
 use crate::part::Part;
 use cj_model::{Cmp, Cond, CondNode, NoMemory};
 use std::alloc::Global;
@@ -32,7 +34,8 @@ fn is_and(node: &CondNode) -> bool
 }
 
 fn cmp_words(cmp: Cmp) -> &'static [u8]
-    ensures { result.now ≡ cmp_text cmp }
+    ensures words { result.now ≡ cmp_text cmp }
+    ensures ascii { IsAsciiText result.now }
 {
     match cmp {
         Cmp::Eq => b" = ",
@@ -45,13 +48,15 @@ fn cmp_words(cmp: Cmp) -> &'static [u8]
 }
 
 fn opening(needed: bool) -> &'static [u8]
-    ensures { result.now ≡ texts.opening needed }
+    ensures words { result.now ≡ texts.opening needed }
+    ensures ascii { IsAsciiText result.now }
 {
     if needed { b"(" } else { b"" }
 }
 
 fn closing(needed: bool) -> &'static [u8]
-    ensures { result.now ≡ texts.closing needed }
+    ensures words { result.now ≡ texts.closing needed }
+    ensures ascii { IsAsciiText result.now }
 {
     if needed { b")" } else { b"" }
 }
@@ -59,44 +64,48 @@ fn closing(needed: bool) -> &'static [u8]
 /// Adds the condition, in parentheses where they are needed.
 fn append_node(
     alloc: Global,
-    text: &mut Vec<u8>,
+    text: &mut TextBuffer,
     node: &CondNode,
     needed: bool,
 ) -> Result<(), NoMemory>
-    ensures { OnOk result (text.new.items ≡ text.old.items ++ bracketed needed (cond_text (shape node.now))) }
+    ensures { OnOk result (text.new ≡ text.old ++ bracketed needed (cond_text (shape node.now))) }
 {
-    text.extend_from_slice(opening(needed))?;
+    text.push_ascii(opening(needed))?;
     match node {
         CondNode::Test(cmp, left, right) => {
             left.append(alloc, text)?;
-            text.extend_from_slice(cmp_words(*cmp))?;
+            text.push_ascii(cmp_words(*cmp))?;
             right.append(alloc, text)?;
         }
         CondNode::Not(inner) => {
-            text.extend_from_slice(b"NOT ")?;
+            text.push_ascii(b"NOT ")?;
             append_node(alloc, text, inner, is_or(inner) || is_and(inner))?;
         }
         CondNode::And(left, right) => {
             append_node(alloc, text, left, is_or(left))?;
-            text.extend_from_slice(b" AND ")?;
+            text.push_ascii(b" AND ")?;
             append_node(alloc, text, right, is_or(right) || is_and(right))?;
         }
         CondNode::Or(left, right) => {
             append_node(alloc, text, left, false)?;
-            text.extend_from_slice(b" OR ")?;
+            text.push_ascii(b" OR ")?;
             append_node(alloc, text, right, is_or(right))?;
         }
     }
-    text.extend_from_slice(closing(needed))?;
+    text.push_ascii(closing(needed))?;
     Ok(())
 }
 
 /// Adds WHERE and the condition, if there is one.
-pub fn append_where(alloc: Global, text: &mut Vec<u8>, cond: &Option<Cond>) -> Result<(), NoMemory>
-    ensures { OnOk result (text.new.items ≡ text.old.items ++ where_text cond.now) }
+pub fn append_where(
+    alloc: Global,
+    text: &mut TextBuffer,
+    cond: &Option<Cond>,
+) -> Result<(), NoMemory>
+    ensures { OnOk result (text.new ≡ text.old ++ where_text cond.now) }
 {
     if let Some(cond) = cond {
-        text.extend_from_slice(b" WHERE ")?;
+        text.push_ascii(b" WHERE ")?;
         append_node(alloc, text, cond.root(), false)?;
     }
     Ok(())

@@ -1,6 +1,7 @@
 //! Canonical SQL.
 #![tactic(auto)]
 
+mod buffer;
 mod condition;
 mod laws;
 mod literal;

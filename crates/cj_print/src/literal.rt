@@ -1,7 +1,7 @@
 //! The literals of values.
 
 ghost use Rattle.std.specs.Prelude.{◌≡◌, [], ◌∷◌, ◌++◌, IfOk, OnOk};
-ghost use Rattle.std.specs.Fmt.{signed_decimal};
+ghost use Rattle.std.specs.Fmt.{decimal, signed_decimal};
 ghost use Rattle.cj_model.specs.Lexical.{doubled};
 ghost use Rattle.cj_model.specs.Literals.{literal};
 
@@ -9,10 +9,18 @@ use cj_model::{NoMemory, Text, Value};
 use std::alloc::Global;
 
 /// The number in decimal, with `-` where it is negative.
-fn write_number(alloc: Global, number: i64) -> Result<Text, NoMemory>
+pub fn write_number(alloc: Global, number: i64) -> Result<Text, NoMemory>
     ensures { IfOk result (λ text. text ≡ signed_decimal number) }
 {
     let digits = format!(in alloc; "{number}")?;
+    Ok(Text::of(digits.into_bytes()).unwrap())
+}
+
+/// The count in decimal.
+pub fn write_count(alloc: Global, count: u64) -> Result<Text, NoMemory>
+    ensures { IfOk result (λ text. text ≡ decimal count) }
+{
+    let digits = format!(in alloc; "{count}")?;
     Ok(Text::of(digits.into_bytes()).unwrap())
 }
 

@@ -1,6 +1,7 @@
 //! What a statement is made of.
 
 ghost use Rattle.std.specs.Prelude.{◌≡◌, ◌++◌, ℕ, List, OnOk};
+ghost use Rattle.cj_print.specs.Ascii.{IsAsciiText};
 ghost use Rattle.cj_print.specs.Canonical.{
   coldef_text,
   col_text,
@@ -19,7 +20,8 @@ ghost use Rattle.cj_print.specs.Canonical.{
   tuple_text,
 };
 
-use crate::literal::write_value;
+use crate::buffer::TextBuffer;
+use crate::literal::{write_number, write_value};
 use cj_model::{ColDef, ColRef, Expr, Item, Key, Kind, Name, NoMemory, Set, Term, Tuple};
 use std::alloc::Global;
 
@@ -28,20 +30,20 @@ pub trait Part {
     ghost written: { Self → List ℕ };
 
     /// Adds its canonical text.
-    fn append(&self, alloc: Global, text: &mut Vec<u8>) -> Result<(), NoMemory>
-        ensures { OnOk result (text.new.items ≡ text.old.items ++ written self.now) };
+    fn append(&self, alloc: Global, text: &mut TextBuffer) -> Result<(), NoMemory>
+        ensures { OnOk result (text.new ≡ text.old ++ written self.now) };
 }
 
 /// Adds the parts, each behind a comma and a space.
 fn append_behind_commas<T: Part>(
     alloc: Global,
-    text: &mut Vec<u8>,
+    text: &mut TextBuffer,
     parts: &[T],
 ) -> Result<(), NoMemory>
-    ensures { OnOk result (text.new.items ≡ text.old.items ++ behind_commas T.written parts.now) }
+    ensures { OnOk result (text.new ≡ text.old ++ behind_commas T.written parts.now) }
 {
     for part in parts {
-        text.extend_from_slice(b", ")?;
+        text.push_ascii(b", ")?;
         part.append(alloc, text)?;
     }
     Ok(())
@@ -50,10 +52,10 @@ fn append_behind_commas<T: Part>(
 /// Adds the parts with a comma and a space between each two.
 pub fn append_separated<T: Part>(
     alloc: Global,
-    text: &mut Vec<u8>,
+    text: &mut TextBuffer,
     parts: &[T],
 ) -> Result<(), NoMemory>
-    ensures { OnOk result (text.new.items ≡ text.old.items ++ separated T.written parts.now) }
+    ensures { OnOk result (text.new ≡ text.old ++ separated T.written parts.now) }
 {
     match parts {
         [] => Ok(()),
@@ -67,18 +69,18 @@ pub fn append_separated<T: Part>(
 impl Part for Name {
     ghost written = { name_text };
 
-    fn append(&self, _alloc: Global, text: &mut Vec<u8>) -> Result<(), NoMemory> {
-        text.extend_from_slice(self.as_slice())?;
+    fn append(&self, _alloc: Global, text: &mut TextBuffer) -> Result<(), NoMemory> {
+        text.push_name(self)?;
         Ok(())
     }
 }
 
-fn append_qualifier(text: &mut Vec<u8>, table: &Option<Name>) -> Result<(), NoMemory>
-    ensures { OnOk result (text.new.items ≡ text.old.items ++ qualifier_text table.now) }
+fn append_qualifier(text: &mut TextBuffer, table: &Option<Name>) -> Result<(), NoMemory>
+    ensures { OnOk result (text.new ≡ text.old ++ qualifier_text table.now) }
 {
     if let Some(table) = table {
-        text.extend_from_slice(table.as_slice())?;
-        text.extend_from_slice(b".")?;
+        text.push_name(table)?;
+        text.push_ascii(b".")?;
     }
     Ok(())
 }
@@ -86,9 +88,9 @@ fn append_qualifier(text: &mut Vec<u8>, table: &Option<Name>) -> Result<(), NoMe
 impl Part for ColRef {
     ghost written = { col_text };
 
-    fn append(&self, _alloc: Global, text: &mut Vec<u8>) -> Result<(), NoMemory> {
+    fn append(&self, _alloc: Global, text: &mut TextBuffer) -> Result<(), NoMemory> {
         append_qualifier(text, &self.table)?;
-        text.extend_from_slice(self.column.as_slice())?;
+        text.push_name(&self.column)?;
         Ok(())
     }
 }
@@ -96,16 +98,17 @@ impl Part for ColRef {
 impl Part for Term {
     ghost written = { term_text };
 
-    fn append(&self, alloc: Global, text: &mut Vec<u8>) -> Result<(), NoMemory> {
+    fn append(&self, alloc: Global, text: &mut TextBuffer) -> Result<(), NoMemory> {
         match self {
             Term::Lit(value) => {
-                text.extend_from_slice(write_value(alloc, value)?.as_slice())?;
+                text.push_text(&write_value(alloc, value)?)?;
             }
             Term::Col(column) => column.append(alloc, text)?,
-            Term::Now => text.extend_from_slice(b"NOW()")?,
+            Term::Now => text.push_ascii(b"NOW()")?,
             Term::Rand(bound) => {
-                let bound = *bound;
-                text.extend_from_slice(format!(in alloc; "RAND({bound})")?.as_bytes())?;
+                text.push_ascii(b"RAND(")?;
+                text.push_text(&write_number(alloc, *bound)?)?;
+                text.push_ascii(b")")?;
             }
         }
         Ok(())
@@ -115,17 +118,17 @@ impl Part for Term {
 impl Part for Expr {
     ghost written = { expr_text };
 
-    fn append(&self, alloc: Global, text: &mut Vec<u8>) -> Result<(), NoMemory> {
+    fn append(&self, alloc: Global, text: &mut TextBuffer) -> Result<(), NoMemory> {
         match self {
             Expr::One(term) => term.append(alloc, text),
             Expr::Plus(left, right) => {
                 left.append(alloc, text)?;
-                text.extend_from_slice(b" + ")?;
+                text.push_ascii(b" + ")?;
                 right.append(alloc, text)
             }
             Expr::Minus(left, right) => {
                 left.append(alloc, text)?;
-                text.extend_from_slice(b" - ")?;
+                text.push_ascii(b" - ")?;
                 right.append(alloc, text)
             }
         }
@@ -135,10 +138,10 @@ impl Part for Expr {
 impl Part for Tuple {
     ghost written = { tuple_text };
 
-    fn append(&self, alloc: Global, text: &mut Vec<u8>) -> Result<(), NoMemory> {
-        text.push(b'(')?;
+    fn append(&self, alloc: Global, text: &mut TextBuffer) -> Result<(), NoMemory> {
+        text.push_ascii(b"(")?;
         append_separated(alloc, text, self.as_slice())?;
-        text.push(b')')?;
+        text.push_ascii(b")")?;
         Ok(())
     }
 }
@@ -146,15 +149,16 @@ impl Part for Tuple {
 impl Part for Set {
     ghost written = { set_text };
 
-    fn append(&self, alloc: Global, text: &mut Vec<u8>) -> Result<(), NoMemory> {
-        text.extend_from_slice(self.column.as_slice())?;
-        text.extend_from_slice(b" = ")?;
+    fn append(&self, alloc: Global, text: &mut TextBuffer) -> Result<(), NoMemory> {
+        text.push_name(&self.column)?;
+        text.push_ascii(b" = ")?;
         self.value.append(alloc, text)
     }
 }
 
 fn kind_words(kind: Kind) -> &'static [u8]
-    ensures { result.now ≡ kind_text kind }
+    ensures words { result.now ≡ kind_text kind }
+    ensures ascii { IsAsciiText result.now }
 {
     match kind {
         Kind::Integer => b" INTEGER",
@@ -163,7 +167,8 @@ fn kind_words(kind: Kind) -> &'static [u8]
 }
 
 fn primary_words(is_key: bool) -> &'static [u8]
-    ensures { result.now ≡ primary_text is_key }
+    ensures words { result.now ≡ primary_text is_key }
+    ensures ascii { IsAsciiText result.now }
 {
     if is_key { b" PRIMARY KEY" } else { b"" }
 }
@@ -171,10 +176,10 @@ fn primary_words(is_key: bool) -> &'static [u8]
 impl Part for ColDef {
     ghost written = { coldef_text };
 
-    fn append(&self, _alloc: Global, text: &mut Vec<u8>) -> Result<(), NoMemory> {
-        text.extend_from_slice(self.name.as_slice())?;
-        text.extend_from_slice(kind_words(self.kind))?;
-        text.extend_from_slice(primary_words(self.key))?;
+    fn append(&self, _alloc: Global, text: &mut TextBuffer) -> Result<(), NoMemory> {
+        text.push_name(&self.name)?;
+        text.push_ascii(kind_words(self.kind))?;
+        text.push_ascii(primary_words(self.key))?;
         Ok(())
     }
 }
@@ -182,14 +187,14 @@ impl Part for ColDef {
 impl Part for Item {
     ghost written = { item_text };
 
-    fn append(&self, alloc: Global, text: &mut Vec<u8>) -> Result<(), NoMemory> {
+    fn append(&self, alloc: Global, text: &mut TextBuffer) -> Result<(), NoMemory> {
         match self {
             Item::Col(column) => column.append(alloc, text)?,
-            Item::Count => text.extend_from_slice(b"COUNT(*)")?,
+            Item::Count => text.push_ascii(b"COUNT(*)")?,
             Item::Sum(column) => {
-                text.extend_from_slice(b"SUM(")?;
+                text.push_ascii(b"SUM(")?;
                 column.append(alloc, text)?;
-                text.push(b')')?;
+                text.push_ascii(b")")?;
             }
         }
         Ok(())
@@ -197,7 +202,8 @@ impl Part for Item {
 }
 
 fn direction_words(falls: bool) -> &'static [u8]
-    ensures { result.now ≡ direction_text falls }
+    ensures words { result.now ≡ direction_text falls }
+    ensures ascii { IsAsciiText result.now }
 {
     if falls { b" DESC" } else { b"" }
 }
@@ -205,9 +211,9 @@ fn direction_words(falls: bool) -> &'static [u8]
 impl Part for Key {
     ghost written = { key_text };
 
-    fn append(&self, alloc: Global, text: &mut Vec<u8>) -> Result<(), NoMemory> {
+    fn append(&self, alloc: Global, text: &mut TextBuffer) -> Result<(), NoMemory> {
         self.col.append(alloc, text)?;
-        text.extend_from_slice(direction_words(self.desc))?;
+        text.push_ascii(direction_words(self.desc))?;
         Ok(())
     }
 }

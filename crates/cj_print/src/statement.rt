@@ -2,6 +2,7 @@
 
 ghost use Rattle.std.specs.Prelude.{◌≡◌, ◌++◌, codes, IfOk, OnOk};
 ghost use Rattle.cj_model.specs.declared.request.Request.TheVariants as request;
+ghost use Rattle.cj_print.specs.Ascii.{IsAsciiText};
 ghost use Rattle.cj_print.specs.Canonical.{
   canonical,
   group_text,
@@ -18,63 +19,66 @@ ghost use Rattle.cj_print.specs.Canonical.{
   write_text,
 };
 
+use crate::buffer::TextBuffer;
 use crate::condition::append_where;
+use crate::literal::write_count;
 use crate::part::{Part, append_separated};
 use cj_model::{
-    ColDefs, ColRef, Cond, Create, Items, Key, Name, Names, NoMemory, Request, Select, Sets,
+    ColDefs, ColRef, Cond, Create, Items, Key, Name, Names, NoMemory, Request, Select, Sets, Text,
     Tuples, Write,
 };
 use std::alloc::Global;
 
 /// Adds the list of an INSERT's columns, if there is one.
-fn append_list(alloc: Global, text: &mut Vec<u8>, names: &Option<Names>) -> Result<(), NoMemory>
-    ensures { OnOk result (text.new.items ≡ text.old.items ++ list_text names.now) }
+fn append_list(alloc: Global, text: &mut TextBuffer, names: &Option<Names>) -> Result<(), NoMemory>
+    ensures { OnOk result (text.new ≡ text.old ++ list_text names.now) }
 {
     if let Some(names) = names {
-        text.extend_from_slice(b" (")?;
+        text.push_ascii(b" (")?;
         append_separated(alloc, text, names.as_slice())?;
-        text.push(b')')?;
+        text.push_ascii(b")")?;
     }
     Ok(())
 }
 
 /// Adds a statement's first words and the table's name.
-fn append_head(text: &mut Vec<u8>, words: &[u8], table: &Name) -> Result<(), NoMemory>
-    ensures { OnOk result (text.new.items ≡ text.old.items ++ (words.now ++ table.now)) }
+fn append_head(text: &mut TextBuffer, words: &[u8], table: &Name) -> Result<(), NoMemory>
+    requires { IsAsciiText words.now }
+    ensures { OnOk result (text.new ≡ text.old ++ (words.now ++ table.now)) }
 {
-    text.extend_from_slice(words)?;
-    text.extend_from_slice(table.as_slice())?;
+    text.push_ascii(words)?;
+    text.push_name(table)?;
     Ok(())
 }
 
 fn append_insert(
     alloc: Global,
-    text: &mut Vec<u8>,
+    text: &mut TextBuffer,
     columns: &Option<Names>,
     rows: &Tuples,
 ) -> Result<(), NoMemory>
-    ensures { OnOk result (text.new.items ≡ text.old.items ++ (list_text columns.now ++ codes " VALUES " ++ separated tuple_text rows.now)) }
+    ensures { OnOk result (text.new ≡ text.old ++ (list_text columns.now ++ codes " VALUES " ++ separated tuple_text rows.now)) }
 {
     append_list(alloc, text, columns)?;
-    text.extend_from_slice(b" VALUES ")?;
+    text.push_ascii(b" VALUES ")?;
     append_separated(alloc, text, rows.as_slice())
 }
 
 fn append_update(
     alloc: Global,
-    text: &mut Vec<u8>,
+    text: &mut TextBuffer,
     sets: &Sets,
     cond: &Option<Cond>,
 ) -> Result<(), NoMemory>
-    ensures { OnOk result (text.new.items ≡ text.old.items ++ (codes " SET " ++ separated set_text sets.now ++ where_text cond.now)) }
+    ensures { OnOk result (text.new ≡ text.old ++ (codes " SET " ++ separated set_text sets.now ++ where_text cond.now)) }
 {
-    text.extend_from_slice(b" SET ")?;
+    text.push_ascii(b" SET ")?;
     append_separated(alloc, text, sets.as_slice())?;
     append_where(alloc, text, cond)
 }
 
-fn append_write(alloc: Global, text: &mut Vec<u8>, write: &Write) -> Result<(), NoMemory>
-    ensures { OnOk result (text.new.items ≡ text.old.items ++ write_text write.now) }
+fn append_write(alloc: Global, text: &mut TextBuffer, write: &Write) -> Result<(), NoMemory>
+    ensures { OnOk result (text.new ≡ text.old ++ write_text write.now) }
 {
     match write {
         Write::Insert {
@@ -96,55 +100,60 @@ fn append_write(alloc: Global, text: &mut Vec<u8>, write: &Write) -> Result<(), 
     }
 }
 
-fn append_items(alloc: Global, text: &mut Vec<u8>, items: &Items) -> Result<(), NoMemory>
-    ensures { OnOk result (text.new.items ≡ text.old.items ++ items_text items.now) }
+fn append_items(alloc: Global, text: &mut TextBuffer, items: &Items) -> Result<(), NoMemory>
+    ensures { OnOk result (text.new ≡ text.old ++ items_text items.now) }
 {
     match items {
         Items::All => {
-            text.push(b'*')?;
+            text.push_ascii(b"*")?;
             Ok(())
         }
         Items::Listed(items) => append_separated(alloc, text, items.as_slice()),
     }
 }
 
-fn append_group(alloc: Global, text: &mut Vec<u8>, group: &Option<ColRef>) -> Result<(), NoMemory>
-    ensures { OnOk result (text.new.items ≡ text.old.items ++ group_text group.now) }
+fn append_group(
+    alloc: Global,
+    text: &mut TextBuffer,
+    group: &Option<ColRef>,
+) -> Result<(), NoMemory>
+    ensures { OnOk result (text.new ≡ text.old ++ group_text group.now) }
 {
     if let Some(column) = group {
-        text.extend_from_slice(b" GROUP BY ")?;
+        text.push_ascii(b" GROUP BY ")?;
         column.append(alloc, text)?;
     }
     Ok(())
 }
 
-fn append_order(alloc: Global, text: &mut Vec<u8>, keys: &[Key]) -> Result<(), NoMemory>
-    ensures { OnOk result (text.new.items ≡ text.old.items ++ order_text keys.now) }
+fn append_order(alloc: Global, text: &mut TextBuffer, keys: &[Key]) -> Result<(), NoMemory>
+    ensures { OnOk result (text.new ≡ text.old ++ order_text keys.now) }
 {
     match keys {
         [] => Ok(()),
         [_, ..] => {
-            text.extend_from_slice(b" ORDER BY ")?;
+            text.push_ascii(b" ORDER BY ")?;
             append_separated(alloc, text, keys)
         }
     }
 }
 
-fn append_limit(alloc: Global, text: &mut Vec<u8>, limit: Option<u64>) -> Result<(), NoMemory>
-    ensures { OnOk result (text.new.items ≡ text.old.items ++ limit_text limit) }
+fn append_limit(alloc: Global, text: &mut TextBuffer, limit: Option<u64>) -> Result<(), NoMemory>
+    ensures { OnOk result (text.new ≡ text.old ++ limit_text limit) }
 {
     if let Some(most) = limit {
-        text.extend_from_slice(format!(in alloc; " LIMIT {most}")?.as_bytes())?;
+        text.push_ascii(b" LIMIT ")?;
+        text.push_text(&write_count(alloc, most)?)?;
     }
     Ok(())
 }
 
-fn append_select(alloc: Global, text: &mut Vec<u8>, select: &Select) -> Result<(), NoMemory>
-    ensures { OnOk result (text.new.items ≡ text.old.items ++ select_text select.now) }
+fn append_select(alloc: Global, text: &mut TextBuffer, select: &Select) -> Result<(), NoMemory>
+    ensures { OnOk result (text.new ≡ text.old ++ select_text select.now) }
 {
-    text.extend_from_slice(b"SELECT ")?;
+    text.push_ascii(b"SELECT ")?;
     append_items(alloc, text, &select.items)?;
-    text.extend_from_slice(b" FROM ")?;
+    text.push_ascii(b" FROM ")?;
     append_separated(alloc, text, select.tables.as_slice())?;
     append_where(alloc, text, &select.cond)?;
     append_group(alloc, text, &select.group)?;
@@ -152,35 +161,35 @@ fn append_select(alloc: Global, text: &mut Vec<u8>, select: &Select) -> Result<(
     append_limit(alloc, text, select.limit)
 }
 
-fn append_columns(alloc: Global, text: &mut Vec<u8>, columns: &ColDefs) -> Result<(), NoMemory>
-    ensures { OnOk result (text.new.items ≡ text.old.items ++ (codes " (" ++ separated coldef_text columns.now ++ codes ")")) }
+fn append_columns(alloc: Global, text: &mut TextBuffer, columns: &ColDefs) -> Result<(), NoMemory>
+    ensures { OnOk result (text.new ≡ text.old ++ (codes " (" ++ separated coldef_text columns.now ++ codes ")")) }
 {
-    text.extend_from_slice(b" (")?;
+    text.push_ascii(b" (")?;
     append_separated(alloc, text, columns.as_slice())?;
-    text.push(b')')?;
+    text.push_ascii(b")")?;
     Ok(())
 }
 
-fn append_create(alloc: Global, text: &mut Vec<u8>, create: &Create) -> Result<(), NoMemory>
-    ensures { OnOk result (text.new.items ≡ text.old.items ++ canonical (request.Create create.now)) }
+fn append_create(alloc: Global, text: &mut TextBuffer, create: &Create) -> Result<(), NoMemory>
+    ensures { OnOk result (text.new ≡ text.old ++ canonical (request.Create create.now)) }
 {
     append_head(text, b"CREATE TABLE ", &create.table)?;
     append_columns(alloc, text, &create.columns)
 }
 
 /// The request's canonical text: wherever some text reads as the request, this one does.
-pub fn write_sql(alloc: Global, request: &Request) -> Result<Vec<u8>, NoMemory>
-    ensures { IfOk result (λ text. text.items ≡ canonical request.now) }
+pub fn write_sql(alloc: Global, request: &Request) -> Result<Text, NoMemory>
+    ensures { IfOk result (λ text. text ≡ canonical request.now) }
 {
-    let mut text = Vec::new(alloc);
+    let mut text = TextBuffer::new(alloc);
     match request {
         Request::Select(select) => append_select(alloc, &mut text, select)?,
         Request::Write(write) => append_write(alloc, &mut text, write)?,
         Request::Create(create) => append_create(alloc, &mut text, create)?,
         Request::Drop(table) => append_head(&mut text, b"DROP TABLE ", table)?,
-        Request::Begin => text.extend_from_slice(b"BEGIN")?,
-        Request::Commit => text.extend_from_slice(b"COMMIT")?,
-        Request::Rollback => text.extend_from_slice(b"ROLLBACK")?,
+        Request::Begin => text.push_ascii(b"BEGIN")?,
+        Request::Commit => text.push_ascii(b"COMMIT")?,
+        Request::Rollback => text.push_ascii(b"ROLLBACK")?,
     }
-    Ok(text)
+    Ok(text.into_text())
 }

@@ -1,10 +1,11 @@
-use Rattle.std.proofs.Common.{◌≡◌, ◌++◌, List, true, ap, sym, ◌∙◌, subst}
+use Rattle.std.proofs.Common.{◌≡◌, ◌≤◌, ◌++◌, List, length, true, ap, sym, ◌∙◌, subst}
 use Rattle.std.specs.Prelude.{All}
 use Rattle.std.proofs.lemmas.List.Elements.{All-push, All-rest}
 use Rattle.cj_model.specs.declared.account.Account.{Account}
+use Rattle.cj_model.specs.Legality.{user_limit}
 use Rattle.cj_auth.specs.declared.credentials.Credential.{Credential}
 use Rattle.cj_auth.specs.Digests.{is_digest}
-use Rattle.cj_auth.specs.Kept.{HasKey, accounts_of}
+use Rattle.cj_auth.specs.Kept.{HasKey, IsUserName, accounts_of}
 use Rattle.cj_auth.proofs.Keeping.{one_more}
 use Rattle.cj_auth.proofs.credentials.with_keys.Goals as goal
 
@@ -14,11 +15,14 @@ loop-account-preserved c =
     let rest : List Account = c.next.new.self.rest.items in
     let made : List Credential = c.loop-account.made in
     let next : Credential = c.with_key.result in
+    let has_name : Credential → Type 0 = λ credential. IsUserName credential.account.user in
     record {
       can_next = tt;
       is_finite = tt;
       digests = All-rest (λ (account : Account). is_digest account.digest ≡ true) c.in-Some.account rest c.loop-account.account-iterator.rest.items c.in-Some.ensures.steps.0 i.digests;
+      short = All-rest (λ (account : Account). length account.user ≤ user_limit) c.in-Some.account rest c.loop-account.account-iterator.rest.items c.in-Some.ensures.steps.0 i.short;
       keys = subst (All HasKey) (sym c.in_ok-push.ensures.ok) (All-push HasKey made next i.keys c.with_key.ensures.key);
+      users = subst (All has_name) (sym c.in_ok-push.ensures.ok) (All-push has_name made next i.users c.with_key.ensures.user);
       all = ap (λ (cs : List Credential). accounts_of cs ++ rest) c.in_ok-push.ensures.ok
           ∙ one_more made next c.in-Some.account rest c.args.accounts c.with_key.ensures.account
           (ap (λ (accounts : List Account). accounts_of made ++ accounts) (sym c.in-Some.ensures.steps.0) ∙ i.all);

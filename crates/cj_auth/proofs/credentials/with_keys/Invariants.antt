@@ -1,8 +1,10 @@
 use Rattle.std.proofs.Common.{◌≡◌, ◌++◌, true}
 use Rattle.std.specs.Prelude.{All}
 use Rattle.cj_model.specs.declared.account.Account.{Account}
+use Rattle.cj_model.specs.Accounts.{HasShortUsers}
+use Rattle.cj_auth.specs.declared.credentials.Credential.{Credential}
 use Rattle.cj_auth.specs.Digests.{is_digest}
-use Rattle.cj_auth.specs.Kept.{HasKey, accounts_of}
+use Rattle.cj_auth.specs.Kept.{HasKey, IsUserName, accounts_of}
 use Rattle.cj_auth.proofs.credentials.with_keys.Given as goal
 
 abbrev pub invariant-loop-account : goal.invariant-loop-account
@@ -10,6 +12,8 @@ invariant-loop-account l = record {
   can_next : (goal.iterator-loop-account).can_next l.account-iterator;
   is_finite : (goal.iterator-loop-account).is_finite l.account-iterator;
   digests : All (λ (account : Account). is_digest account.digest ≡ true) l.account-iterator.rest.items;
+  short : HasShortUsers l.account-iterator.rest.items;
   keys : All HasKey l.made;
+  users : All (λ (credential : Credential). IsUserName credential.account.user) l.made;
   all : accounts_of l.made ++ l.account-iterator.rest.items ≡ l.fn.accounts;
 }

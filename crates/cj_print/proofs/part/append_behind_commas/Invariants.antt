@@ -4,4 +4,4 @@ use Rattle.cj_print.proofs.part.append_behind_commas.Given as goal
 
 -- the parts so far were added
 abbrev pub invariant-loop-part : goal.invariant-loop-part
-invariant-loop-part g l = l.text.items ≡ l.initial.text.items ++ behind_commas g.T.Part.written (take l.part-index l.parts)
+invariant-loop-part g l = l.text ≡ l.initial.text ++ behind_commas g.T.Part.written (take l.part-index l.parts)

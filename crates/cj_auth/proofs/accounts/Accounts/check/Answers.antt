@@ -1,15 +1,16 @@
-use Rattle.std.proofs.Common.{◌&&◌, ap, ◌∙◌}
+use Rattle.std.proofs.Common.{◌&&◌, Bool, ap, sym, ◌∙◌}
 use Rattle.std.specs.List.{list_any}
 use Rattle.std.specs.Str.{bytes_eq}
 use Rattle.sha2.specs.Sha256.{sha256}
 use Rattle.cj_model.specs.Accounts.{is_of}
 use Rattle.cj_auth.specs.declared.credentials.Credential.{Credential}
 use Rattle.cj_auth.specs.Admission.{Register, admits}
-use Rattle.cj_auth.proofs.Keeping.{same_admitted}
+use Rattle.cj_auth.specs.Kept.{IsUserName}
+use Rattle.cj_auth.proofs.Keeping.{admitted_user, on_true, same_admitted}
 use Rattle.cj_auth.proofs.accounts.Accounts.check.Goals as goal
 
-pub returns : goal.returns
-returns c =
+pub returns-clause-admitted : goal.returns-clause-admitted
+returns-clause-admitted c =
     let user = c.args.user.now in
     let password = c.args.password.now in
     c.has_key.ensures
@@ -17,3 +18,12 @@ returns c =
     ∙ ap (list_any (λ (credential : Credential). is_of user credential.account && bytes_eq credential.key (sha256 password))) c.as_slice.ensures
     ∙ same_admitted c.self.inside.credentials user password c.self.invariant.keys
     ∙ ap (λ (r : Register). admits r.accounts user password) c.self.view_is
+
+pub returns-clause-user : goal.returns-clause-user
+returns-clause-user c =
+    let user = c.args.user.now in
+    let kept = c.self.inside.credentials in
+    let is_meant : Credential → Bool = λ credential. bytes_eq credential.key c.digest.result in
+    on_true _ _
+    (λ h. admitted_user IsUserName is_meant kept user c.self.invariant.users
+    (ap (list_any (λ (credential : Credential). is_of user credential.account && is_meant credential)) (sym c.as_slice.ensures) ∙ sym c.has_key.ensures ∙ h))

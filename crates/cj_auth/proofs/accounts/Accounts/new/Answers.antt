@@ -10,8 +10,8 @@ use Rattle.cj_auth.specs.Refusals.{refusal_of}
 use Rattle.cj_auth.proofs.Keeping.{all_credentials, have_digests, have_logins}
 use Rattle.cj_auth.proofs.accounts.Accounts.new.Goals as goal
 
-pub with_keys-requires : goal.with_keys-requires
-with_keys-requires c = have_digests c.args.rows c.args.backends (ap (λ (rows : List Account). refusal_of rows c.args.backends) (sym c.as_slice.ensures) ∙ c.in_ok-refuse.ensures.passed refl)
+pub with_keys-requires-clause-digests : goal.with_keys-requires-clause-digests
+with_keys-requires-clause-digests c = have_digests c.args.rows c.args.backends (ap (λ (rows : List Account). refusal_of rows c.args.backends) (sym c.as_slice.ensures) ∙ c.in_ok-refuse.ensures.passed refl)
 
 no_bytes : is_text [] ≡ true
 unfolding is_text
@@ -29,6 +29,7 @@ invariant_of-result c =
     let backends = c.args.backends in
     let passes = have_logins c.args.rows backends (ap (λ (rows : List Account). refusal_of rows backends) (sym c.as_slice.ensures) ∙ c.in_ok-refuse.ensures.passed refl) in
     record {
+      users = c.in_ok-with_keys.ensures.users;
       keys = c.in_ok-with_keys.ensures.keys;
       logins = all_credentials (λ (account : Account). has_logins backends account ≡ true) c.in_ok-with_keys.field-0 (subst (All (λ (account : Account). has_logins backends account ≡ true)) (sym c.in_ok-with_keys.ensures.accounts) passes);
       nameless = let is : Some c.unwrap.result ≡ Some [] = sym c.unwrap.ensures ∙ c.of.ensures ∙ ap text_of c.new.ensures.items ∙ empty_text in cc;
