@@ -70,6 +70,8 @@ def program():
             say(now)
         elif proved := re.match(r"logic=proved functions=(\d+)", line):
             say(f"{now}: {proved[1]} functions proved")
+        elif line.startswith("rt: waiting"):
+            say(line)
     if rt.wait() != 0 or not os.path.exists(PROGRAM):
         sys.exit("\n".join(["rt run failed in crates/cjc:", *last]))
     say("built")
