@@ -5,19 +5,33 @@ use Rattle.std.specs.declared.option.Option.TheVariants.{None, Some}
 use Rattle.std.specs.declared.result.Result.{Result}
 use Rattle.std.specs.declared.result.Result.TheVariants.{Ok, Err}
 use Rattle.cj_model.specs.declared.database.Slot.{Slot}
+use Rattle.cj_model.specs.declared.request.Act.{Act}
+use Rattle.cj_model.specs.Steps.{acted}
 use Rattle.cj_backend.specs.declared.backend.BackendError.{BackendError}
 use Rattle.cj_backend.specs.declared.backend.BackendError.TheVariants.{Failed, NoMemory}
 
 pub record MemoryState : Type 0 where
-  -- what it holds; not told from a change that was not carried out to the next load that is
+  -- what it tells that it holds: nothing from a change that was not carried out to the next load that is
   pub told : Option (List Slot)
+  -- what it holds, whether told or not
+  pub held : List Slot
   pub asks : ℕ
   pub begun : List ℕ
   pub login : Option (List ℕ)
 
 -- an empty database, and nothing counted
 abbrev pub fresh_state : MemoryState
-fresh_state = record { told = Some []; asks = 0; begun = []; login = None }
+fresh_state = record { told = Some []; held = []; asks = 0; begun = []; login = None }
+
+-- what is held after an act: the act's database, or after an error what was held before
+abbrev pub held_after : {T : Type 0} → List Slot → ℕ → Act → Result T BackendError → List Slot
+held_after held tx act (Ok x) = (acted held tx act).db
+held_after held tx act (Err e) = held
+
+-- what is held after a load
+abbrev pub held_loaded : {T : Type 0} → List Slot → List Slot → Result T BackendError → List Slot
+held_loaded held db (Ok x) = db
+held_loaded held db (Err e) = held
 
 -- what it holds, where this is known
 abbrev pub told_where : Bool → List Slot → Option (List Slot)

@@ -12,7 +12,8 @@ use std::alloc::Global;
 use std::marker::Model;
 
 /// A backend whose tables stand in memory as ordered trees. It never fails. It tells what it holds,
-/// but from a change that was not carried out for want of memory to the next load that is. All that
+/// but from a change that was not carried out for want of memory to the next load that is. What it
+/// holds is changed only by what is carried out, and is what it answers by, told or not. All that
 /// it holds can be stored.
 #[derive(Drop)]
 pub struct MemBackend {
@@ -31,7 +32,7 @@ impl Model for MemBackend {
 
     ghost Value = { MemoryState };
 
-    ghost view = { λ b. record { told = told_where b.known b.tables; asks = b.asks; begun = b.begun.items; login = b.login } };
+    ghost view = { λ b. record { told = told_where b.known b.tables; held = b.tables; asks = b.asks; begun = b.begun.items; login = b.login } };
 
     ghost invariant = { λ b. IsStorable b.tables };
 }
@@ -124,7 +125,15 @@ impl MemBackend {
 }
 
 impl Backend for MemBackend {
-    ghost use Rattle.std.specs.Prelude.{true};
+    ghost use Rattle.std.specs.Prelude.{true, Contains, IfSome};
+    ghost use Rattle.cj_model.specs.declared.request.Act.TheVariants as act;
+    ghost use Rattle.cj_model.specs.declared.request.Request.TheVariants as request;
+    ghost use Rattle.cj_model.specs.Legality.{IsWritten};
+    ghost use Rattle.cj_model.specs.Queries.{ask};
+    ghost use Rattle.cj_model.specs.Steps.{acted};
+    ghost use Rattle.cj_model.specs.Storable.{IsStorable};
+    ghost use Rattle.cj_backend.specs.Backends.{HasBackendCause, SaysOutcome, SaysAnswer, told_after, LogsIn, IsBegun, begun_with, begun_without, IsOutcome, IsAsked, told_loaded, begun_loaded, asks_after};
+    ghost use Rattle.cj_mem.specs.MemoryBackends.{held_after, held_loaded};
 
     const TELLS: bool = true;
 
@@ -140,12 +149,32 @@ impl Backend for MemBackend {
 
     ghost login = { λ b. b.login };
 
-    fn begin(&mut self, user: &Text, tx: u64) -> Result<(), BackendError> {
+    fn begin(&mut self, user: &Text, tx: u64) -> Result<(), BackendError>
+        requires { ¬ Contains self.old.begun tx }
+        ensures told { self.new.told ≡ told_after self.old.told tx act.Begin result }
+        ensures held { self.new.held ≡ held_after self.old.held tx act.Begin result }
+        ensures cause { HasBackendCause 0 0 result }
+        ensures login { LogsIn self.old.login user.now result self.new.login }
+        ensures begun { self.new.begun ≡ begun_with self.old.begun tx result }
+        ensures asks { self.new.asks ≡ self.old.asks }
+    {
         self.enter_change(user)?;
         self.add_begun(tx)
     }
 
-    fn write(&mut self, user: &Text, tx: u64, write: &Write) -> Result<Outcome, BackendError> {
+    fn write(&mut self, user: &Text, tx: u64, write: &Write) -> Result<Outcome, BackendError>
+        requires begun { IsBegun self.old.begun tx }
+        requires written { IsWritten (request.Write write.now) }
+        ensures outcome { SaysOutcome self.old.told tx (act.Write write.now) result }
+        ensures held_outcome { IfOk result (λ o. o ≡ (acted self.old.held tx (act.Write write.now)).outcome) }
+        ensures possible { IfOk result IsOutcome }
+        ensures told { self.new.told ≡ told_after self.old.told tx (act.Write write.now) result }
+        ensures held { self.new.held ≡ held_after self.old.held tx (act.Write write.now) result }
+        ensures cause { HasBackendCause 0 0 result }
+        ensures login { LogsIn self.old.login user.now result self.new.login }
+        ensures begun { self.new.begun ≡ self.old.begun }
+        ensures asks { self.new.asks ≡ self.old.asks }
+    {
         self.enter_change(user)?;
         match self.tables.write(tx, write) {
             Ok(outcome) => Ok(outcome),
@@ -154,7 +183,18 @@ impl Backend for MemBackend {
     }
 
     #[tactic(auto, using(cj_model::proofs::StorableLaws::created_storable))]
-    fn create(&mut self, user: &Text, create: &Create) -> Result<Outcome, BackendError> {
+    fn create(&mut self, user: &Text, create: &Create) -> Result<Outcome, BackendError>
+        requires { IsWritten (request.Create create.now) }
+        ensures outcome { SaysOutcome self.old.told 0 (act.Create create.now) result }
+        ensures held_outcome { IfOk result (λ o. o ≡ (acted self.old.held 0 (act.Create create.now)).outcome) }
+        ensures possible { IfOk result IsOutcome }
+        ensures told { self.new.told ≡ told_after self.old.told 0 (act.Create create.now) result }
+        ensures held { self.new.held ≡ held_after self.old.held 0 (act.Create create.now) result }
+        ensures cause { HasBackendCause 0 0 result }
+        ensures login { LogsIn self.old.login user.now result self.new.login }
+        ensures begun { self.new.begun ≡ self.old.begun }
+        ensures asks { self.new.asks ≡ self.old.asks }
+    {
         self.enter_change(user)?;
         match self.tables.create(create) {
             Ok(outcome) => Ok(outcome),
@@ -163,13 +203,31 @@ impl Backend for MemBackend {
     }
 
     #[tactic(auto, using(cj_model::proofs::StorableLaws::dropped_storable))]
-    fn drop_table(&mut self, user: &Text, table: &Name) -> Result<Outcome, BackendError> {
+    fn drop_table(&mut self, user: &Text, table: &Name) -> Result<Outcome, BackendError>
+        ensures outcome { SaysOutcome self.old.told 0 (act.Drop table.now) result }
+        ensures held_outcome { IfOk result (λ o. o ≡ (acted self.old.held 0 (act.Drop table.now)).outcome) }
+        ensures possible { IfOk result IsOutcome }
+        ensures told { self.new.told ≡ told_after self.old.told 0 (act.Drop table.now) result }
+        ensures held { self.new.held ≡ held_after self.old.held 0 (act.Drop table.now) result }
+        ensures cause { HasBackendCause 0 0 result }
+        ensures login { LogsIn self.old.login user.now result self.new.login }
+        ensures begun { self.new.begun ≡ self.old.begun }
+        ensures asks { self.new.asks ≡ self.old.asks }
+    {
         self.enter_change(user)?;
         Ok(self.tables.drop_table(table))
     }
 
     #[tactic(auto, using(cj_model::proofs::StorableLaws::committed_storable))]
-    fn commit(&mut self, user: &Text, tx: u64) -> Result<(), BackendError> {
+    fn commit(&mut self, user: &Text, tx: u64) -> Result<(), BackendError>
+        requires { Contains self.old.begun tx }
+        ensures told { self.new.told ≡ told_after self.old.told tx act.Commit result }
+        ensures held { self.new.held ≡ held_after self.old.held tx act.Commit result }
+        ensures cause { HasBackendCause 0 0 result }
+        ensures login { LogsIn self.old.login user.now result self.new.login }
+        ensures begun { self.new.begun ≡ begun_without self.old.begun tx result }
+        ensures asks { self.new.asks ≡ self.old.asks }
+    {
         self.enter_change(user)?;
         match self.tables.commit(tx) {
             Ok(()) => {
@@ -181,14 +239,31 @@ impl Backend for MemBackend {
     }
 
     #[tactic(auto, using(cj_model::proofs::StorableLaws::aborted_storable))]
-    fn abort(&mut self, user: &Text, tx: u64) -> Result<(), BackendError> {
+    fn abort(&mut self, user: &Text, tx: u64) -> Result<(), BackendError>
+        requires { Contains self.old.begun tx }
+        ensures told { self.new.told ≡ told_after self.old.told tx act.Abort result }
+        ensures held { self.new.held ≡ held_after self.old.held tx act.Abort result }
+        ensures cause { HasBackendCause 0 0 result }
+        ensures login { LogsIn self.old.login user.now result self.new.login }
+        ensures begun { self.new.begun ≡ begun_without self.old.begun tx result }
+        ensures asks { self.new.asks ≡ self.old.asks }
+    {
         self.enter_change(user)?;
         self.tables.abort(tx);
         remove(&mut self.begun, tx);
         Ok(())
     }
 
-    fn ask(&mut self, user: &Text, tx: u64, query: &Select) -> Result<Asked, BackendError> {
+    fn ask(&mut self, user: &Text, tx: u64, query: &Select) -> Result<Asked, BackendError>
+        requires { IsWritten (request.Select query.now) }
+        ensures answer { SaysAnswer self.old.told tx query.now result }
+        ensures held_answer { IfOk result (λ answer. answer ≡ ask self.old.held tx query.now) }
+        ensures possible { IfOk result IsAsked }
+        ensures cause { HasBackendCause 0 0 result }
+        ensures login { LogsIn self.old.login user.now result self.new.login }
+        ensures asks { self.new.asks ≡ asks_after self.old.asks result }
+        ensures same { self.new ≡ record self.old { login = self.new.login; asks = self.new.asks } }
+    {
         self.enter(user)?;
         self.tables.legal();
         let answer = select(self.alloc, query, &self.tables, tx)?;
@@ -196,12 +271,26 @@ impl Backend for MemBackend {
         Ok(answer)
     }
 
-    fn contents(&mut self) -> Result<Db, BackendError> {
+    fn contents(&mut self) -> Result<Db, BackendError>
+        ensures contents { IfOk result (λ db. IfSome self.old.told (λ held. db ≡ held)) }
+        ensures held_contents { IfOk result (λ db. db ≡ self.old.held) }
+        ensures storable { IfOk result IsStorable }
+        ensures cause { HasBackendCause 0 0 result }
+        ensures same { self.new ≡ self.old }
+    {
         Ok(self.tables.to_db()?)
     }
 
     /// Takes all its memory before it changes anything.
-    fn load(&mut self, db: Db) -> Result<(), BackendError> {
+    fn load(&mut self, db: Db) -> Result<(), BackendError>
+        requires { IsStorable db }
+        ensures told { self.new.told ≡ told_loaded true db result }
+        ensures held { self.new.held ≡ held_loaded self.old.held db result }
+        ensures cause { HasBackendCause 0 0 result }
+        ensures login { self.new.login ≡ self.old.login }
+        ensures begun { self.new.begun ≡ begun_loaded self.old.begun db result }
+        ensures asks { self.new.asks ≡ self.old.asks }
+    {
         match restored(self.alloc, db) {
             Ok((tables, begun)) => {
                 self.tables = tables;
