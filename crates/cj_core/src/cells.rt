@@ -4,11 +4,12 @@ ghost use Rattle.std.specs.Prelude.{◌≡◌, ◌↔◌, ◌<◌, IsTrue};
 ghost use Rattle.cj_core.specs.Taking.{CanTake, Took};
 ghost use Rattle.cj_core.specs.Taking as taking;
 ghost use Rattle.cj_core.specs.Effects.{Covers};
+ghost use Rattle.cj_model.specs.Cores as cores;
 ghost use Rattle.cj_model.specs.Moves as moves;
 
 use cj_backend::Backend;
 use cj_book::Book;
-use cj_model::{Did, Outcome, Text, with_bit};
+use cj_model::{Did, Outcome, Text};
 use cj_replica::{Caught, Cell, CellError};
 
 fn did_of(caught: Result<Caught, CellError>) -> Did
@@ -20,6 +21,14 @@ fn did_of(caught: Result<Caught, CellError>) -> Did
         Err(CellError::Failed) => Did::Failed,
         Err(CellError::Starved) => Did::Starved,
     }
+}
+
+/// The mask with backend `b`.
+pub fn with_bit(mask: u32, b: u8) -> u32
+    requires { b < 32 }
+    ensures { result ≡ cores.with_bit mask b }
+{
+    mask | (1 << b)
 }
 
 /// Whether the mask has each backend that another has.

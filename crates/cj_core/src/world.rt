@@ -20,7 +20,7 @@ ghost use Rattle.cj_core.specs.Starts.{AreEmpty, AreFresh, begun};
 ghost use Rattle.cj_core.specs.Counting.{Counts};
 ghost use Rattle.cj_core.specs.Effects.{AnswersOpen, Asks, IsChange, IsReadOf, IsReadOther, Refuses, with_core, happened, opened_for, closed_for, scheduled_as, ended_for, SchedulesAs, HadRoom};
 
-use crate::cells::{failed_after, heard_after, place, starved_after, take};
+use crate::cells::{failed_after, heard_after, place, starved_after, take, with_bit};
 use crate::emptied::Emptied;
 use crate::sessions::{Sessions, read_number};
 use cj_backend::Backend;
@@ -28,7 +28,7 @@ use cj_book::{Book, BookError};
 use cj_model::{
     Act, Asked, BACKEND_LIMIT, Did, Duplicate, Entry, Event, HISTORY_FULL, Move, Moved, NoMemory,
     OpenRead, Outcome, REQUEST_LIMIT, Refusal, Reply, SESSION_LIMIT, SESSION_NUMBER_LIMIT,
-    SESSIONS_FULL, STARVED_ALL, Same, Select, Text, UNFINISHED, USER_LIMIT, with_bit,
+    SESSIONS_FULL, STARVED_ALL, Same, Select, Text, UNFINISHED, USER_LIMIT,
 };
 use cj_replica::{Cell, CellReadError};
 use std::alloc::Global;
