@@ -1,16 +1,13 @@
 -- Fields of the binary formats: numbers, and bytes behind their length. Reading one from the front of bytes may fail with the error given.
 use Rattle.std.specs.Prelude.{ℕ, List, ◌++◌, length, take, drop, Result, Ok, Err, nat_lt, if◌then◌else◌}
-use Rattle.std.specs.Int.{Width, w16, w32, w64, byte_len, to_be_bytes, from_be_bytes}
+use Rattle.std.specs.Int.{Width, w16, w32, byte_len, to_be_bytes, from_be_bytes}
 
--- bytes behind their number as a u16, a u32, a u64
+-- bytes behind their number as a u16, a u32
 abbrev pub str16 : List ℕ → List ℕ
 str16 bytes = to_be_bytes w16 (length bytes) ++ bytes
 
 abbrev pub str32 : List ℕ → List ℕ
 str32 bytes = to_be_bytes w32 (length bytes) ++ bytes
-
-abbrev pub str64 : List ℕ → List ℕ
-str64 bytes = to_be_bytes w64 (length bytes) ++ bytes
 
 -- one step of reading after another
 infixl 10 ◌>>=◌
