@@ -4,11 +4,12 @@ use Rattle.std.specs.Io.KnownBytes.{Appends}
 use Rattle.cj_outside.specs.Lines.{Reading}
 use Rattle.cj_outside.specs.Streams.{most}
 use Rattle.cj_model.specs.declared.moves.Made.{Made}
-use Rattle.cj_model.specs.Cores.{Core}
+use Rattle.cj_core.specs.Worlds.{WorldState}
 use Rattle.cj_model.specs.Moves.{MovesTo}
 use Rattle.cj_model.specs.Runs.{CanCount}
 use Rattle.cj_model.proofs.Growth.{moves_grow, can_count}
 use Rattle.std.specs.Prelude.{MatchBool}
+use Rattle.cj_core.specs.Counting.{HasCauses}
 use Rattle.cj_core.specs.Played.{given_of}
 use Rattle.cj_script.specs.Script.{is_blank, PlaysLine, MakesMove}
 use Rattle.cj_script.specs.Steps.{PlaysWritten}
@@ -37,7 +38,7 @@ move_line_long names line (Enable b) (name, is, e) = verb_more line _ _ _ e
 -- ---- a line that was played
 
 -- it was skipped, or it made its move
-pub line_cases : (tells : Bool) (names : List (List ℕ)) (c : Core) (line written : List ℕ) (z : Core) (P : Type 0) → PlaysLine tells names c line written z → (written ≡ [] → z ≡ c → P) → (MakesMove tells names c line written z → P) → P
+pub line_cases : (tells : Bool) (names : List (List ℕ)) (c : WorldState) (line written : List ℕ) (z : WorldState) (P : Type 0) → PlaysLine tells names c line written z → (written ≡ [] → z ≡ c → P) → (MakesMove tells names c line written z → P) → P
 line_cases tells names c line written z P h skipped made = by (is_blank line) h
   where
     by : (blank : Bool) → MatchBool blank ((written ≡ []) × (z ≡ c)) (MakesMove tells names c line written z) → P
@@ -45,10 +46,10 @@ line_cases tells names c line written z P h skipped made = by (is_blank line) h
     by false q = made q
 
 -- it made its move, and what that came to was written
-pub played_made : (tells : Bool) (names : List (List ℕ)) (held held' : Option (List ℕ)) (c : Core) (line : List ℕ) (m : Move) (made : Made) (z : Core)
-    → is_blank line ≡ false → MoveLine names line m → MovesTo tells c m (given_of made) z → Appends held held' (moved_lines names made) → PlaysWritten tells names held held' c line z
-played_made tells names held held' c line m made z some reads moves wrote =
-    let makes : MakesMove tells names c line (moved_lines names made) z = record { move = m; reads = reads; made = made; moves = moves; gives = refl } in
+pub played_made : (tells : Bool) (names : List (List ℕ)) (held held' : Option (List ℕ)) (c : WorldState) (line : List ℕ) (m : Move) (made : Made) (z : WorldState)
+    → is_blank line ≡ false → MoveLine names line m → MovesTo tells c.core m (given_of made) z.core → HasCauses c z m (given_of made) → Appends held held' (moved_lines names made) → PlaysWritten tells names held held' c line z
+played_made tells names held held' c line m made z some reads moves causes wrote =
+    let makes : MakesMove tells names c line (moved_lines names made) z = record { move = m; reads = reads; made = made; moves = moves; causes = causes; gives = refl } in
     record {
       written = moved_lines names made;
       plays = subst (λ (b : Bool). MatchBool b ((moved_lines names made ≡ []) × (z ≡ c)) (MakesMove tells names c line (moved_lines names made) z)) (sym some) makes;
@@ -56,24 +57,24 @@ played_made tells names held held' c line m made z some reads moves wrote =
     }
 
 -- the backends are the same as before it
-pub played_backends : (tells : Bool) (names : List (List ℕ)) (held held' : Option (List ℕ)) (c : Core) (line : List ℕ) (z : Core) → PlaysWritten tells names held held' c line z → z.placement ≡ c.placement
+pub played_backends : (tells : Bool) (names : List (List ℕ)) (held held' : Option (List ℕ)) (c : WorldState) (line : List ℕ) (z : WorldState) → PlaysWritten tells names held held' c line z → z.core.placement ≡ c.core.placement
 played_backends tells names held held' c line z h =
-    line_cases tells names c line h.written z (z.placement ≡ c.placement) h.plays (λ none same. ap (λ (x : Core). x.placement) same)
-    (λ made. (moves_grow tells c made.move (given_of made.made) z made.moves).placement)
+    line_cases tells names c line h.written z (z.core.placement ≡ c.core.placement) h.plays (λ none same. ap (λ (x : WorldState). x.core.placement) same)
+    (λ made. (moves_grow tells c.core made.move (given_of made.made) z.core made.moves).placement)
 
 -- ---- how many can come
 
 -- each session can make as many requests more as lines can come
-pub record Counting (rest taken : ℕ) (z : Core) : Type 0 where
+pub record Counting (rest taken : ℕ) (z : WorldState) : Type 0 where
   pub more : ℕ
-  pub can : CanCount z more
+  pub can : CanCount z.core more
   pub room : most + rest ≤ 2 * more + taken
 
-pub counting_start : (rest : List ℕ) (taken : ℕ) (c : Core) → rest ≡ [] → taken ≡ 0 → CanCount c (2 ^ 61) → Counting (length rest) taken c
+pub counting_start : (rest : List ℕ) (taken : ℕ) (c : WorldState) → rest ≡ [] → taken ≡ 0 → CanCount c.core (2 ^ 61) → Counting (length rest) taken c
 counting_start rest taken c none zero can = record { more = 2 ^ 61; can = can; room = omega (arith, ap length none, zero) }
 
 -- after a line there is room for those that can still come
-pub counting_played : (tells : Bool) (names : List (List ℕ)) (held held' : Option (List ℕ)) (old new : Reading) (line : List ℕ) (c z : Core)
+pub counting_played : (tells : Bool) (names : List (List ℕ)) (held held' : Option (List ℕ)) (old new : Reading) (line : List ℕ) (c z : WorldState)
     → Counting (length old.rest) old.taken c → Advances old new line → new.taken ≤ most → PlaysWritten tells names held held' c line z → Counting (length new.rest) new.taken z
 counting_played tells names held held' old new line c z k a few h =
     line_cases tells names c line h.written z (Counting (length new.rest) new.taken z) h.plays
@@ -83,6 +84,6 @@ counting_played tells names held held' old new line c z k a few h =
     let some : 1 + (k.more - 1) ≡ k.more = omega (arith, k.room, a.by) in
     record {
       more = k.more - 1;
-      can = can_count 1 (k.more - 1) c z (moves_grow tells c made.move (given_of made.made) z made.moves) (subst (CanCount c) (sym some) k.can);
+      can = can_count 1 (k.more - 1) c.core z.core (moves_grow tells c.core made.move (given_of made.made) z.core made.moves) (subst (CanCount c.core) (sym some) k.can);
       room = omega (arith, k.room, a.by, some, long);
     })

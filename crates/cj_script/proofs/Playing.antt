@@ -9,7 +9,7 @@ use Rattle.std.specs.Io.KnownBytes.{Consumes, Appends, IsAtEnd}
 use Rattle.cj_outside.specs.declared.lines.Line.{Line}
 use Rattle.cj_outside.specs.Lines.{line_limit, Reading, IsInLine, IsLine, EndsLine, LastLine, Took}
 use Rattle.cj_outside.proofs.Joined.{consumes_then, consumes_none, appends_then, appends_none}
-use Rattle.cj_model.specs.Cores.{Core}
+use Rattle.cj_core.specs.Worlds.{WorldState}
 use Rattle.cj_model.specs.Scripts.{ended}
 use Rattle.cj_outside.specs.declared.lines.Line.TheVariants.{Text, Long}
 use Rattle.cj_script.specs.declared.play.ScriptEnd.{ScriptEnd}
@@ -20,10 +20,10 @@ use Rattle.cj_script.specs.Steps.{ReadsLine, PlaysWritten, Stays, PlaysOrEnds}
 -- ---- lines that play
 
 -- the lines, and one more behind them
-pub plays_more : (tells : Bool) (names : List (List ℕ)) (c : Core) (lines : List (List ℕ)) (written : List ℕ) (mid : Core) (line more : List ℕ) (z : Core)
+pub plays_more : (tells : Bool) (names : List (List ℕ)) (c : WorldState) (lines : List (List ℕ)) (written : List ℕ) (mid : WorldState) (line more : List ℕ) (z : WorldState)
     → Plays tells names c lines written mid → PlaysLine tells names mid line more z → Plays tells names c (lines ++ line ∷ []) (written ++ more) z
 plays_more tells names c [] written mid line more z before next =
-    (z, more, [], subst (λ (x : Core). PlaysLine tells names x line more z) before.1 next, (refl, refl), ap (λ (t : List ℕ). t ++ more) before.0 ∙ sym (append-nil more))
+    (z, more, [], subst (λ (x : WorldState). PlaysLine tells names x line more z) before.1 next, (refl, refl), ap (λ (t : List ℕ). t ++ more) before.0 ∙ sym (append-nil more))
 plays_more tells names c (l ∷ lines) written mid line more z (d, front, rest, first, others, is) next =
     (d, front, rest ++ more, first, plays_more tells names d lines rest mid line more z others next, ap (λ (t : List ℕ). t ++ more) is ∙ append_assoc front rest more)
 
@@ -48,7 +48,7 @@ last_more left taken lines line (inr h) some end = absurd (some h.1)
 -- ---- between two lines
 
 -- The lines were played that lie in the bytes taken, and so many of them; the reader holds what is left.
-pub record Playing (tells : Bool) (names : List (List ℕ)) (left left' held held' : Option (List ℕ)) (c : Core) (rest : List ℕ) (bytes count : ℕ) (z : Core) : Type 0 where
+pub record Playing (tells : Bool) (names : List (List ℕ)) (left left' held held' : Option (List ℕ)) (c : WorldState) (rest : List ℕ) (bytes count : ℕ) (z : WorldState) : Type 0 where
   pub taken : List ℕ
   pub lines : List (List ℕ)
   pub played : Played tells names left left' held held' c taken lines rest z
@@ -56,7 +56,7 @@ pub record Playing (tells : Bool) (names : List (List ℕ)) (left left' held hel
   pub told : IsSome left → length taken ≡ bytes
 
 -- at first none was
-pub playing_none : (tells : Bool) (names : List (List ℕ)) (left held : Option (List ℕ)) (c : Core) (rest : List ℕ) (bytes : ℕ) → rest ≡ [] → bytes ≡ 0 → Playing tells names left left held held c rest bytes 0 c
+pub playing_none : (tells : Bool) (names : List (List ℕ)) (left held : Option (List ℕ)) (c : WorldState) (rest : List ℕ) (bytes : ℕ) → rest ≡ [] → bytes ≡ 0 → Playing tells names left left held held c rest bytes 0 c
 playing_none tells names left held c rest bytes none zero = record {
   taken = [];
   lines = [];
@@ -99,7 +99,7 @@ longer (Some xs) (Some ys) (Some zs) taken lines rest [] before (inr h) next = r
 }
 
 -- more was taken, and the rest is longer by it
-pub playing_longer : (tells : Bool) (names : List (List ℕ)) (left mid left' held held' : Option (List ℕ)) (c : Core) (rest : List ℕ) (bytes count : ℕ) (z : Core) (more : List ℕ)
+pub playing_longer : (tells : Bool) (names : List (List ℕ)) (left mid left' held held' : Option (List ℕ)) (c : WorldState) (rest : List ℕ) (bytes count : ℕ) (z : WorldState) (more : List ℕ)
     → Playing tells names left mid held held' c rest bytes count z → Consumes mid left' more → Playing tells names left left' held held' c (rest ++ more) (bytes + length more) count z
 playing_longer tells names left mid left' held held' c rest bytes count z more p next =
     let l = longer left mid left' p.taken p.lines rest more p.played.consumed p.played.lie next in
@@ -119,7 +119,7 @@ playing_longer tells names left mid left' held held' c rest bytes count z more p
     }
 
 -- the reader took more
-playing_taken : (tells : Bool) (names : List (List ℕ)) (left mid left' held held' : Option (List ℕ)) (c : Core) (old new : Reading) (count : ℕ) (z : Core) (bytes : List ℕ)
+playing_taken : (tells : Bool) (names : List (List ℕ)) (left mid left' held held' : Option (List ℕ)) (c : WorldState) (old new : Reading) (count : ℕ) (z : WorldState) (bytes : List ℕ)
     → Playing tells names left mid held held' c old.rest old.taken count z → Took mid left' old new bytes → Playing tells names left left' held held' c (old.rest ++ bytes) new.taken count z
 playing_taken tells names left mid left' held held' c old new count z bytes p took =
     subst (λ (n : ℕ). Playing tells names left left' held held' c (old.rest ++ bytes) n count z) (sym took.count)
@@ -133,7 +133,7 @@ not_empty [] some = absurd (some refl)
 not_empty (x ∷ xs) some = omega arith
 
 -- The next line was read, as which `line` stands at the rest's front, and the reader holds the rest behind it.
-pub record AtLine (tells : Bool) (names : List (List ℕ)) (left left' held held' : Option (List ℕ)) (c : Core) (line rest : List ℕ) (bytes count : ℕ) (z : Core) : Type 0 where
+pub record AtLine (tells : Bool) (names : List (List ℕ)) (left left' held held' : Option (List ℕ)) (c : WorldState) (line rest : List ℕ) (bytes count : ℕ) (z : WorldState) : Type 0 where
   pub whole : List ℕ
   pub playing : Playing tells names left left' held held' c whole bytes count z
   pub inside : IsInLine line
@@ -146,13 +146,13 @@ pub record Advances (old new : Reading) (line : List ℕ) : Type 0 where
   pub some : length new.rest + old.taken < length old.rest + new.taken
 
 -- a line came, whole or too long
-pub record LineCame (tells : Bool) (names : List (List ℕ)) (left left' held held' : Option (List ℕ)) (c : Core) (old new : Reading) (count : ℕ) (z : Core) (line : Line) : Type 0 where
+pub record LineCame (tells : Bool) (names : List (List ℕ)) (left left' held held' : Option (List ℕ)) (c : WorldState) (old new : Reading) (count : ℕ) (z : WorldState) (line : Line) : Type 0 where
   pub text : List ℕ
   pub is : IsLine text line
   pub advances : Advances old new text
   pub at : AtLine tells names left left' held held' c text new.rest new.taken count z
 
-pub line_came : (tells : Bool) (names : List (List ℕ)) (left mid left' held held' : Option (List ℕ)) (c : Core) (old new : Reading) (count : ℕ) (z : Core) (bytes : List ℕ) (line : Line)
+pub line_came : (tells : Bool) (names : List (List ℕ)) (left mid left' held held' : Option (List ℕ)) (c : WorldState) (old new : Reading) (count : ℕ) (z : WorldState) (bytes : List ℕ) (line : Line)
     → Playing tells names left mid held held' c old.rest old.taken count z → Took mid left' old new bytes → EndsLine old new bytes line ⊎ LastLine left' old new bytes line
     → LineCame tells names left left' held held' c old new count z line
 line_came tells names left mid left' held held' c old new count z bytes line p took (inl h) =
@@ -192,7 +192,7 @@ line_came tells names left mid left' held held' c old new count z bytes line p t
     }
 
 -- The line was played, and what it gives written.
-pub line_played : (tells : Bool) (names : List (List ℕ)) (left left' held held' held'' : Option (List ℕ)) (c : Core) (line rest : List ℕ) (bytes count : ℕ) (mid z : Core)
+pub line_played : (tells : Bool) (names : List (List ℕ)) (left left' held held' held'' : Option (List ℕ)) (c : WorldState) (line rest : List ℕ) (bytes count : ℕ) (mid z : WorldState)
     → AtLine tells names left left' held held' c line rest bytes count mid → length line ≤ line_limit → PlaysWritten tells names held' held'' mid line z → Playing tells names left left' held held'' c rest bytes (count + 1) z
 line_played tells names left left' held held' held'' c line rest bytes count mid z at short now =
     let p = at.playing in
@@ -212,7 +212,7 @@ line_played tells names left left' held held' held'' c line rest bytes count mid
     }
 
 -- nothing was done and nothing written
-playing_stays : (tells : Bool) (names : List (List ℕ)) (left left' held held' held'' : Option (List ℕ)) (c : Core) (taken : List ℕ) (lines : List (List ℕ)) (rest : List ℕ) (mid z : Core)
+playing_stays : (tells : Bool) (names : List (List ℕ)) (left left' held held' held'' : Option (List ℕ)) (c : WorldState) (taken : List ℕ) (lines : List (List ℕ)) (rest : List ℕ) (mid z : WorldState)
     → Played tells names left left' held held' c taken lines rest mid → Stays held' held'' mid z → Played tells names left left' held held'' c taken lines rest z
 playing_stays tells names left left' held held' held'' c taken lines rest mid z p stays = record {
   lines_are = p.lines_are;
@@ -226,7 +226,7 @@ playing_stays tells names left left' held held' held'' c taken lines rest mid z 
 -- ---- ends
 
 -- in place of a line the script came to its end
-pub read_end : (tells : Bool) (names : List (List ℕ)) (left mid left' held held' : Option (List ℕ)) (c : Core) (old new : Reading) (count number : ℕ) (z : Core) (last : ScriptEnd)
+pub read_end : (tells : Bool) (names : List (List ℕ)) (left mid left' held held' : Option (List ℕ)) (c : WorldState) (old new : Reading) (count number : ℕ) (z : WorldState) (last : ScriptEnd)
     → Playing tells names left mid held held' c old.rest old.taken count z → number ≡ count + 1 → ReadsLine mid left' old new number (Err last) → CameTo tells names left left' held held' c last z
 read_end tells names left mid left' held held' c old new count number z Done p is (bytes, took, none) =
     let now = playing_taken tells names left mid left' held held' c old new count z bytes p took in
@@ -261,7 +261,7 @@ read_end tells names left mid left' held held' c old new count number z NoMemory
     inl (record { taken = now.taken; lines = now.lines; rest = old.rest ++ bytes; played = now.played })
 
 -- a line that was made, with what it gives written in part
-in_part : (tells : Bool) (names : List (List ℕ)) (left left' held held' held'' : Option (List ℕ)) (c : Core) (line rest : List ℕ) (bytes count : ℕ) (mid z : Core)
+in_part : (tells : Bool) (names : List (List ℕ)) (left left' held held' held'' : Option (List ℕ)) (c : WorldState) (line rest : List ℕ) (bytes count : ℕ) (mid z : WorldState)
     → AtLine tells names left left' held held' c line rest bytes count mid → length line ≤ line_limit → MakesInPart tells names held' held'' mid line z → PlayedInPart tells names left left' held held'' c z
 in_part tells names left left' held held' held'' c line rest bytes count mid z at short makes = record {
   taken = at.playing.taken;
@@ -277,7 +277,7 @@ in_part tells names left left' held held' held'' c line rest bytes count mid z a
 }
 
 -- in a line the script came to its end
-pub play_end : (tells : Bool) (names : List (List ℕ)) (left left' held held' held'' : Option (List ℕ)) (c : Core) (line rest : List ℕ) (bytes count number : ℕ) (mid z : Core) (last : ScriptEnd)
+pub play_end : (tells : Bool) (names : List (List ℕ)) (left left' held held' held'' : Option (List ℕ)) (c : WorldState) (line rest : List ℕ) (bytes count number : ℕ) (mid z : WorldState) (last : ScriptEnd)
     → AtLine tells names left left' held held' c line rest bytes count mid → length line ≤ line_limit → number ≡ count + 1 → PlaysOrEnds tells names held' held'' mid line number (Err last) z → CameTo tells names left left' held held'' c last z
 play_end tells names left left' held held' held'' c line rest bytes count number mid z Done at short is none = absurd none
 play_end tells names left left' held held' held'' c line rest bytes count number mid z (Line' n) at short is (same, refuses) = record {
@@ -307,12 +307,12 @@ play_end tells names left left' held held' held'' c line rest bytes count number
 -- ---- the next line
 
 -- The next line was read.
-pub record TextCame (tells : Bool) (names : List (List ℕ)) (left left' held held' : Option (List ℕ)) (c : Core) (old new : Reading) (count : ℕ) (z : Core) (line : List ℕ) : Type 0 where
+pub record TextCame (tells : Bool) (names : List (List ℕ)) (left left' held held' : Option (List ℕ)) (c : WorldState) (old new : Reading) (count : ℕ) (z : WorldState) (line : List ℕ) : Type 0 where
   pub advances : Advances old new line
   pub short : length line ≤ line_limit
   pub at : AtLine tells names left left' held held' c line new.rest new.taken count z
 
-pub text_came : (tells : Bool) (names : List (List ℕ)) (left mid left' held held' : Option (List ℕ)) (c : Core) (old new : Reading) (count number : ℕ) (z : Core) (v : Vec ℕ)
+pub text_came : (tells : Bool) (names : List (List ℕ)) (left mid left' held held' : Option (List ℕ)) (c : WorldState) (old new : Reading) (count number : ℕ) (z : WorldState) (v : Vec ℕ)
     → Playing tells names left mid held held' c old.rest old.taken count z → ReadsLine mid left' old new number (Ok v) → TextCame tells names left left' held held' c old new count z v.items
 text_came tells names left mid left' held held' c old new count number z v p (bytes, took, came) =
     let l = line_came tells names left mid left' held held' c old new count z bytes (Text v) p took came in

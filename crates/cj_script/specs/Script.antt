@@ -7,21 +7,23 @@ use Rattle.cj_outside.specs.Lines.{IsInLine, line_limit}
 use Rattle.cj_outside.specs.Streams.{most}
 use Rattle.cj_model.specs.declared.moves.Move.{Move}
 use Rattle.cj_model.specs.declared.moves.Made.{Made}
-use Rattle.cj_model.specs.Cores.{Core}
 use Rattle.cj_model.specs.Moves.{MovesTo}
 use Rattle.cj_model.specs.Scripts.{MoveLine, moved_lines, ended}
+use Rattle.cj_core.specs.Worlds.{WorldState}
+use Rattle.cj_core.specs.Counting.{HasCauses}
 use Rattle.cj_core.specs.Played.{given_of}
 use Rattle.cj_script.specs.declared.play.ScriptEnd.{ScriptEnd}
 use Rattle.cj_script.specs.declared.play.ScriptEnd.TheVariants.{Done, Line, ReadFault, WriteFault, Spent, NoMemory}
 
 -- ---- lines that play
 
--- The line is a move, which leads from c to z, and these are the lines of what it came to.
-pub record MakesMove (tells : Bool) (names : List (List ℕ)) (c : Core) (line written : List ℕ) (z : Core) : Type 0 where
+-- The line is a move, which leads from c to z with the faults that were counted, and these are the lines of what it came to.
+pub record MakesMove (tells : Bool) (names : List (List ℕ)) (c : WorldState) (line written : List ℕ) (z : WorldState) : Type 0 where
   pub move : Move
   pub reads : MoveLine names line move
   pub made : Made
-  pub moves : MovesTo tells c move (given_of made) z
+  pub moves : MovesTo tells c.core move (given_of made) z.core
+  pub causes : HasCauses c z move (given_of made)
   pub gives : written ≡ moved_lines names made
 
 -- no byte but spaces and tabs
@@ -29,14 +31,14 @@ abbrev pub is_blank : List ℕ → Bool
 is_blank line = list_all (λ b. b == 32 || b == 9) line
 
 -- a blank line is skipped, and another makes its move
-abbrev pub PlaysLine : Bool → List (List ℕ) → Core → List ℕ → List ℕ → Core → Type 0
+abbrev pub PlaysLine : Bool → List (List ℕ) → WorldState → List ℕ → List ℕ → WorldState → Type 0
 PlaysLine tells names c line written z = MatchBool (is_blank line) ((written ≡ []) × (z ≡ c)) (MakesMove tells names c line written z)
 
 -- From the state c the lines play, one after another, to the state z, and this is what they give.
-abbrev pub Plays : Bool → List (List ℕ) → Core → List (List ℕ) → List ℕ → Core → Type 0
+abbrev pub Plays : Bool → List (List ℕ) → WorldState → List (List ℕ) → List ℕ → WorldState → Type 0
 Plays tells names c [] written z = (written ≡ []) × (z ≡ c)
 Plays tells names c (line ∷ lines) written z =
-    (mid : Core) × (front : List ℕ) × (rest : List ℕ) × PlaysLine tells names c line front mid × Plays tells names mid lines rest z × (written ≡ front ++ rest)
+    (mid : WorldState) × (front : List ℕ) × (rest : List ℕ) × PlaysLine tells names c line front mid × Plays tells names mid lines rest z × (written ≡ front ++ rest)
 
 -- ---- lines in bytes
 
@@ -64,7 +66,7 @@ IsWrong names line = (line_limit < length line) ⊎ ((is_blank line ≡ false) �
 -- ---- how far a script came
 
 -- Of the bytes taken these lines were played, from c to z, and what they give was written; the rest was not played.
-pub record Played (tells : Bool) (names : List (List ℕ)) (left left' held held' : Option (List ℕ)) (c : Core) (taken : List ℕ) (lines : List (List ℕ)) (rest : List ℕ) (z : Core) : Type 0 where
+pub record Played (tells : Bool) (names : List (List ℕ)) (left left' held held' : Option (List ℕ)) (c : WorldState) (taken : List ℕ) (lines : List (List ℕ)) (rest : List ℕ) (z : WorldState) : Type 0 where
   pub lines_are : All IsShortLine lines
   pub consumed : Consumes left left' taken
   pub lie : LieIn left' taken lines rest
@@ -73,14 +75,14 @@ pub record Played (tells : Bool) (names : List (List ℕ)) (left left' held held
   pub appended : Appends held held' written
 
 -- the source was taken to its end, and all of it was played
-pub record PlayedAll (tells : Bool) (names : List (List ℕ)) (left left' held held' : Option (List ℕ)) (c z : Core) : Type 0 where
+pub record PlayedAll (tells : Bool) (names : List (List ℕ)) (left left' held held' : Option (List ℕ)) (c z : WorldState) : Type 0 where
   pub taken : List ℕ
   pub lines : List (List ℕ)
   pub played : Played tells names left left' held held' c taken lines [] z
   pub at_end : IsAtEnd left'
 
 -- The lines before this one, by its number from 1, were played, and it can't be.
-pub record PlayedTo (tells : Bool) (names : List (List ℕ)) (left left' held held' : Option (List ℕ)) (number : ℕ) (c z : Core) : Type 0 where
+pub record PlayedTo (tells : Bool) (names : List (List ℕ)) (left left' held held' : Option (List ℕ)) (number : ℕ) (c z : WorldState) : Type 0 where
   pub taken : List ℕ
   pub lines : List (List ℕ)
   pub rest : List ℕ
@@ -92,7 +94,7 @@ pub record PlayedTo (tells : Bool) (names : List (List ℕ)) (left left' held he
   pub wrong : IsWrong names line
 
 -- All whole lines were played, and so many bytes were taken, where the source tells.
-pub record PlayedWhole (tells : Bool) (names : List (List ℕ)) (left left' held held' : Option (List ℕ)) (IsCount : ℕ → Type 0) (c z : Core) : Type 0 where
+pub record PlayedWhole (tells : Bool) (names : List (List ℕ)) (left left' held held' : Option (List ℕ)) (IsCount : ℕ → Type 0) (c z : WorldState) : Type 0 where
   pub taken : List ℕ
   pub lines : List (List ℕ)
   pub rest : List ℕ
@@ -101,14 +103,14 @@ pub record PlayedWhole (tells : Bool) (names : List (List ℕ)) (left left' held
   pub count : IsSome left → IsCount (length taken)
 
 -- some lines were played
-pub record PlayedSome (tells : Bool) (names : List (List ℕ)) (left left' held held' : Option (List ℕ)) (c z : Core) : Type 0 where
+pub record PlayedSome (tells : Bool) (names : List (List ℕ)) (left left' held held' : Option (List ℕ)) (c z : WorldState) : Type 0 where
   pub taken : List ℕ
   pub lines : List (List ℕ)
   pub rest : List ℕ
   pub played : Played tells names left left' held held' c taken lines rest z
 
 -- The line makes its move, and of what it gives a front was written, which is not the whole.
-pub record MakesInPart (tells : Bool) (names : List (List ℕ)) (held held' : Option (List ℕ)) (c : Core) (line : List ℕ) (z : Core) : Type 0 where
+pub record MakesInPart (tells : Bool) (names : List (List ℕ)) (held held' : Option (List ℕ)) (c : WorldState) (line : List ℕ) (z : WorldState) : Type 0 where
   pub whole : List ℕ
   pub makes : MakesMove tells names c line whole z
   pub count : ℕ
@@ -116,11 +118,11 @@ pub record MakesInPart (tells : Bool) (names : List (List ℕ)) (held held' : Op
   pub appended : Appends held held' (take count whole)
 
 -- Some lines were played, and one more made its move, with what it gives written in part.
-pub record PlayedInPart (tells : Bool) (names : List (List ℕ)) (left left' held held' : Option (List ℕ)) (c z : Core) : Type 0 where
+pub record PlayedInPart (tells : Bool) (names : List (List ℕ)) (left left' held held' : Option (List ℕ)) (c z : WorldState) : Type 0 where
   pub taken : List ℕ
   pub lines : List (List ℕ)
   pub rest : List ℕ
-  pub mid : Core
+  pub mid : WorldState
   pub between : Option (List ℕ)
   pub played : Played tells names left left' held between c taken lines rest mid
   pub line : List ℕ
@@ -129,7 +131,7 @@ pub record PlayedInPart (tells : Bool) (names : List (List ℕ)) (left left' hel
   pub makes : MakesInPart tells names between held' mid line z
 
 -- How far a script came that ended so. Where the source or the sink tells nothing, this says nothing of its bytes.
-abbrev pub CameTo : Bool → List (List ℕ) → (left left' held held' : Option (List ℕ)) → Core → ScriptEnd → Core → Type 0
+abbrev pub CameTo : Bool → List (List ℕ) → (left left' held held' : Option (List ℕ)) → WorldState → ScriptEnd → WorldState → Type 0
 CameTo tells names left left' held held' c Done z = PlayedAll tells names left left' held held' c z
 CameTo tells names left left' held held' c (Line number) z = PlayedTo tells names left left' held held' number c z
 CameTo tells names left left' held held' c ReadFault z = PlayedWhole tells names left left' held held' (λ n. n < most) c z

@@ -7,7 +7,7 @@ use Rattle.cj_outside.specs.declared.lines.Line.TheVariants.{Text, Long, End}
 use Rattle.cj_outside.specs.declared.lines.LineError.TheVariants as errors
 use Rattle.cj_outside.specs.Causes.{Rose}
 use Rattle.cj_outside.specs.Lines.{Reading, GivesLine}
-use Rattle.cj_model.specs.Cores.{Core}
+use Rattle.cj_core.specs.Worlds.{WorldState}
 use Rattle.cj_script.specs.Script.{is_blank, PlaysLine, MakesInPart, IsNoMove}
 use Rattle.cj_script.specs.declared.play.ScriptEnd.{ScriptEnd}
 use Rattle.cj_script.specs.declared.play.ScriptEnd.TheVariants.{Done, Line, ReadFault, WriteFault, Spent, NoMemory}
@@ -23,23 +23,23 @@ ReadsLine left left' old new number (Err Spent) = GivesLine left left' old new (
 ReadsLine left left' old new number (Err NoMemory) = GivesLine left left' old new (Err errors.NoMemory)
 
 -- the line played, and this was written
-pub record PlaysWritten (tells : Bool) (names : List (List ℕ)) (held held' : Option (List ℕ)) (c : Core) (line : List ℕ) (z : Core) : Type 0 where
+pub record PlaysWritten (tells : Bool) (names : List (List ℕ)) (held held' : Option (List ℕ)) (c : WorldState) (line : List ℕ) (z : WorldState) : Type 0 where
   pub written : List ℕ
   pub plays : PlaysLine tells names c line written z
   pub appended : Appends held held' written
 
 -- nothing was done and nothing written
-abbrev pub Stays : Option (List ℕ) → Option (List ℕ) → Core → Core → Type 0
+abbrev pub Stays : Option (List ℕ) → Option (List ℕ) → WorldState → WorldState → Type 0
 Stays held held' c z = (z ≡ c) × Appends held held' []
 
 -- the line is no move's, and it is not blank
-pub record RefusesLine (names : List (List ℕ)) (held held' : Option (List ℕ)) (c : Core) (line : List ℕ) (z : Core) : Type 0 where
+pub record RefusesLine (names : List (List ℕ)) (held held' : Option (List ℕ)) (c : WorldState) (line : List ℕ) (z : WorldState) : Type 0 where
   pub some : is_blank line ≡ false
   pub none : IsNoMove names line
   pub stays : Stays held held' c z
 
 -- the line played and what it gives was written, or the script ends in it
-abbrev pub PlaysOrEnds : Bool → List (List ℕ) → Option (List ℕ) → Option (List ℕ) → Core → List ℕ → ℕ → Result (Unit {0}) ScriptEnd → Core → Type 0
+abbrev pub PlaysOrEnds : Bool → List (List ℕ) → Option (List ℕ) → Option (List ℕ) → WorldState → List ℕ → ℕ → Result (Unit {0}) ScriptEnd → WorldState → Type 0
 PlaysOrEnds tells names held held' c line number (Ok _) z = PlaysWritten tells names held held' c line z
 PlaysOrEnds tells names held held' c line number (Err Done) z = ⊥
 PlaysOrEnds tells names held held' c line number (Err (Line n)) z = (n ≡ number) × RefusesLine names held held' c line z

@@ -93,7 +93,7 @@ fn play_line<B: Backend, O: Sink>(
 ) -> Result<(), ScriptEnd>
     requires names { length names.now ≡ world.old.core.placement.backends }
     requires count { 2 ≤ length line.now → CanCount world.old.core 1 }
-    ensures plays { PlaysOrEnds B.TELLS names.now (O.held output.old) (O.held output.new) world.old.core line.now number result world.new.core }
+    ensures plays { PlaysOrEnds B.TELLS names.now (O.held output.old) (O.held output.new) world.old line.now number result world.new }
     ensures cause { HasEndCause ends.WriteFault (O.faults output.old) (O.faults output.new) result }
 {
     if is_blank(line) {
@@ -127,7 +127,7 @@ pub fn script<B: Backend, I: Source, O: Sink>(
 ) -> ScriptEnd
     requires names { length names.now ≡ world.old.core.placement.backends }
     requires count { CanCount world.old.core (2 ^ 61) }
-    ensures came { CameTo B.TELLS names.now (I.left input.old) (I.left input.new) (O.held output.old) (O.held output.new) world.old.core result world.new.core }
+    ensures came { CameTo B.TELLS names.now (I.left input.old) (I.left input.new) (O.held output.old) (O.held output.new) world.old result world.new }
     ensures input { I.faults input.old ≤ I.faults input.new }
     ensures output { O.faults output.old ≤ O.faults output.new }
     ensures read_fault { result ≡ ends.ReadFault → Rose (I.faults input.old) (I.faults input.new) }
