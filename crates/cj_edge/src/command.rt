@@ -1,12 +1,38 @@
 //! The words of the command.
 
+use std::alloc::AllocFailed;
+use std::env;
+use std::io::ErrorKind;
 use std::rt::Env;
-use std::{env, io};
+use thiserror::Error;
 
-/// The words after the program's name. A word that isn't UTF-8 is an error, and so is want of memory.
-pub fn words(rt: &(impl Env + AllocGlobal)) -> io::Result<Vec<String>> {
+/// Why the words of the command could not be had.
+#[derive(Clone, Copy, Debug, PartialEq, Eq, Error)]
+pub enum WordsError {
+    /// A word isn't UTF-8.
+    #[error("a word is not UTF-8")]
+    NotUtf8,
+    /// The words did not fit into memory.
+    #[error("out of memory")]
+    NoMemory,
+}
+
+impl<T: Drop> From<AllocFailed<T>> for WordsError {
+    fn from(_error: AllocFailed<T>) -> WordsError {
+        WordsError::NoMemory
+    }
+}
+
+/// The words after the program's name.
+pub fn words(rt: &(impl Env + AllocGlobal)) -> Result<Vec<String>, WordsError> {
+    let args = match env::args(rt) {
+        Ok(args) => args,
+        Err(error) if error.kind() == ErrorKind::OutOfMemory => return Err(WordsError::NoMemory),
+        // std tells no other failure: an argument is there or not.
+        Err(_) => return Err(WordsError::NotUtf8),
+    };
     let mut words = Vec::new(rt.alloc());
-    for word in env::args(rt)?.skip(1) {
+    for word in args.skip(1) {
         words.push(word)?;
     }
     Ok(words)

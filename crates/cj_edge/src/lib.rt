@@ -5,4 +5,4 @@ mod adapters;
 mod command;
 
 pub use adapters::{StdSink, StdSource};
-pub use command::words;
+pub use command::{WordsError, words};

@@ -1,5 +1,5 @@
 -- What a session answers to its messages.
-use Rattle.std.specs.Prelude.{◌≡◌, ◌⊎◌, ℕ, Bool, true, false, not, ◌&&◌, ◌||◌, ◌==◌, nat_le, List, [], ◌∷◌, ◌++◌, length, take, drop, codes, if◌then◌else◌}
+use Rattle.std.specs.Prelude.{◌≡◌, ◌⊎◌, ℕ, Bool, true, false, not, ◌&&◌, ◌||◌, ◌==◌, ◌<◌, nat_le, List, [], ◌∷◌, ◌++◌, length, take, drop, codes, if◌then◌else◌}
 use Rattle.std.specs.declared.option.Option.{Option}
 use Rattle.std.specs.declared.option.Option.TheVariants.{None, Some}
 use Rattle.std.specs.List.{flat_map, list_any}
@@ -155,13 +155,18 @@ pub record Talk (taken written : List ℕ) (ending : SessionEnd) : Type 0 where
   pub bytes : written ≡ flat_map reply_bytes replies
   pub end : ending ≡ end_of messages rest
 
--- nothing, or some bytes of the reply to the first of the messages
-abbrev pub BeginsReply : Session → List Message → List ℕ → Type 0
-BeginsReply s [] part = part ≡ []
-BeginsReply s (m ∷ ms) part = (part ≡ []) ⊎ ((reply : Reply) × (t : Session) × Exchange s m reply t × (count : ℕ) × (part ≡ take count (reply_bytes reply)))
+-- the first of the messages has of its reply this front, which is not the whole
+abbrev pub CutsReply : Session → List Message → List ℕ → Type 0
+CutsReply s [] part = ⊥
+CutsReply s (m ∷ ms) part = (reply : Reply) × (t : Session) × Exchange s m reply t × (count : ℕ) × (count < length (reply_bytes reply)) × (part ≡ take count (reply_bytes reply))
 
--- A talk that was cut short: the first messages have their replies, written whole, and the next one maybe a part of its own.
-pub record CutTalk (taken written : List ℕ) : Type 0 where
+-- the same, or nothing of a reply that could not be made
+abbrev pub StarvesReply : Session → List Message → List ℕ → Type 0
+StarvesReply s [] part = ⊥
+StarvesReply s (m ∷ ms) part = (part ≡ []) ⊎ CutsReply s (m ∷ ms) part
+
+-- A talk that was cut short: the first messages have their replies, written whole, and the next one this part of its own.
+pub record CutTalk (IsPart : Session → List Message → List ℕ → Type 0) (taken written : List ℕ) : Type 0 where
   pub messages : List Message
   pub rest : List ℕ
   pub frames : Frames taken messages rest
@@ -170,5 +175,5 @@ pub record CutTalk (taken written : List ℕ) : Type 0 where
   pub last : Session
   pub exchanges : Exchanges fresh (take count (answered messages)) replies last
   pub part : List ℕ
-  pub begins : BeginsReply last (drop count (answered messages)) part
+  pub begins : IsPart last (drop count (answered messages)) part
   pub bytes : written ≡ flat_map reply_bytes replies ++ part

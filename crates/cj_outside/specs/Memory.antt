@@ -9,10 +9,8 @@ pub record State : Type 0 where
   pub calls : ℕ
   pub faults : ℕ
 
--- the call takes the next number, fails exactly where that number is listed, and is counted as a fault exactly there
+-- the call takes the next number, and fails exactly where that number is listed
 pub record FailsAsListed {T E : Type 0} (IsFault : Result T E → Type 0) (old new : State) (result : Result T E) : Type 0 where
   pub list : new.fails ≡ old.fails
   pub number : new.calls ≡ next old.calls
   pub listed : IsFault result ↔ Contains old.fails new.calls
-  pub counted : IsFault result → new.faults ≡ next old.faults
-  pub uncounted : ¬ IsFault result → new.faults ≡ old.faults

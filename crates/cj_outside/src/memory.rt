@@ -7,7 +7,7 @@ ghost use Rattle.std.specs.Prelude.{◌≡◌, ◌↔◌, ◌≤◌, ◌+◌, �
 ghost use Rattle.std.specs.Io.{ReadsAtMost, WritesAtMost};
 ghost use Rattle.std.specs.Io.KnownBytes.{ReadConsumes, WriteAppends};
 ghost use Rattle.cj_outside.specs.Bytes.{TakesSome, TellsEnd};
-ghost use Rattle.cj_outside.specs.Causes.{HasCause, HasOutCause};
+ghost use Rattle.cj_outside.specs.Causes.{CountsFault};
 ghost use Rattle.cj_outside.specs.Memory.{FailsAsListed};
 
 use crate::sink::{OutError, Sink};
@@ -40,9 +40,7 @@ impl Schedule {
         ensures list { self.new.fails ≡ self.old.fails }
         ensures number { self.new.calls ≡ next self.old.calls }
         ensures listed { IsTrue result ↔ Contains self.old.fails.items self.new.calls }
-        ensures counted { IsTrue result → self.new.faults ≡ next self.old.faults }
-        ensures uncounted { ¬ IsTrue result → self.new.faults ≡ self.old.faults }
-        ensures later { self.old.faults ≤ self.new.faults }
+        ensures counted { CountsFault (IsTrue result) self.old.faults self.new.faults }
     {
         self.calls = self.calls.saturating_add(1);
         let fails = self.fails.contains(&self.calls);
@@ -107,7 +105,7 @@ impl Source for MemSource {
         ensures bound { ReadsAtMost result buf.new }
         ensures bytes { ReadConsumes (Some self.old.bytes) (Some self.new.bytes) result buf.new }
         ensures end { TellsEnd (Some self.old.bytes) result buf.new }
-        ensures cause { HasCause self.old.faults self.new.faults result }
+        ensures cause { CountsFault (IsErr result) self.old.faults self.new.faults }
 
         ensures most { IfOk result (λ count. count ≡ min (length self.old.bytes) (length buf.old)) }
         ensures listed { FailsAsListed IsErr self.old self.new result }
@@ -165,7 +163,7 @@ impl Sink for MemSink {
         ensures bound { WritesAtMost result piece.now }
         ensures some { TakesSome piece.now result }
         ensures bytes { WriteAppends (Some self.old.bytes) (Some self.new.bytes) result piece.now }
-        ensures cause { HasOutCause self.old.faults self.new.faults result }
+        ensures cause { CountsFault (IsErrOf result OutError.Failed) self.old.faults self.new.faults }
 
         ensures whole { IfOk result (λ count. count ≡ length piece.now) }
         ensures listed { FailsAsListed (λ r. IsErrOf r OutError.Failed) self.old self.new result }

@@ -1,5 +1,5 @@
 -- Lines that are moves: what they take at least, and how many can come.
-use Rattle.std.proofs.Common.{◌≡◌, ℕ, ◌+◌, ◌*◌, ◌-◌, ◌≤◌, ◌^◌, Bool, true, false, List, [], ◌∷◌, length, Option, refl, sym, ap, subst, arith}
+use Rattle.std.proofs.Common.{◌≡◌, ℕ, ◌+◌, ◌*◌, ◌-◌, ◌≤◌, ◌^◌, Bool, List, [], ◌∷◌, length, Option, inl, inr, refl, sym, ap, subst, arith}
 use Rattle.std.specs.Io.KnownBytes.{Appends}
 use Rattle.cj_outside.specs.Lines.{Reading}
 use Rattle.cj_outside.specs.Streams.{most}
@@ -8,10 +8,9 @@ use Rattle.cj_core.specs.Worlds.{WorldState}
 use Rattle.cj_model.specs.Moves.{MovesTo}
 use Rattle.cj_model.specs.Runs.{CanCount}
 use Rattle.cj_model.proofs.Growth.{moves_grow, can_count}
-use Rattle.std.specs.Prelude.{MatchBool}
 use Rattle.cj_core.specs.Counting.{HasCauses}
 use Rattle.cj_core.specs.Played.{given_of}
-use Rattle.cj_script.specs.Script.{is_blank, PlaysLine, MakesMove}
+use Rattle.cj_script.specs.Script.{PlaysLine, MakesMove}
 use Rattle.cj_script.specs.Steps.{PlaysWritten}
 use Rattle.cj_script.proofs.Playing.{Advances}
 use Rattle.cj_model.specs.declared.moves.Move.{Move}
@@ -39,20 +38,17 @@ move_line_long names line (Enable b) (name, is, e) = verb_more line _ _ _ e
 
 -- it was skipped, or it made its move
 pub line_cases : (tells : Bool) (names : List (List ℕ)) (c : WorldState) (line written : List ℕ) (z : WorldState) (P : Type 0) → PlaysLine tells names c line written z → (written ≡ [] → z ≡ c → P) → (MakesMove tells names c line written z → P) → P
-line_cases tells names c line written z P h skipped made = by (is_blank line) h
-  where
-    by : (blank : Bool) → MatchBool blank ((written ≡ []) × (z ≡ c)) (MakesMove tells names c line written z) → P
-    by true q = skipped q.0 q.1
-    by false q = made q
+line_cases tells names c line written z P (inl skips) skipped made = skipped skips.nothing skips.same
+line_cases tells names c line written z P (inr makes) skipped made = made makes
 
 -- it made its move, and what that came to was written
 pub played_made : (tells : Bool) (names : List (List ℕ)) (held held' : Option (List ℕ)) (c : WorldState) (line : List ℕ) (m : Move) (made : Made) (z : WorldState)
-    → is_blank line ≡ false → MoveLine names line m → MovesTo tells c.core m (given_of made) z.core → HasCauses c z m (given_of made) → Appends held held' (moved_lines names made) → PlaysWritten tells names held held' c line z
-played_made tells names held held' c line m made z some reads moves causes wrote =
+    → MoveLine names line m → MovesTo tells c.core m (given_of made) z.core → HasCauses c z m (given_of made) → Appends held held' (moved_lines names made) → PlaysWritten tells names held held' c line z
+played_made tells names held held' c line m made z reads moves causes wrote =
     let makes : MakesMove tells names c line (moved_lines names made) z = record { move = m; reads = reads; made = made; moves = moves; causes = causes; gives = refl } in
     record {
       written = moved_lines names made;
-      plays = subst (λ (b : Bool). MatchBool b ((moved_lines names made ≡ []) × (z ≡ c)) (MakesMove tells names c line (moved_lines names made) z)) (sym some) makes;
+      plays = inr makes;
       appended = wrote;
     }
 

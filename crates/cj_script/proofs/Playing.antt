@@ -235,6 +235,7 @@ read_end tells names left mid left' held held' c old new count number z Done p i
       lines = now.lines;
       played = subst (λ (t : List ℕ). Played tells names left left' held held' c now.taken now.lines t z) none.nothing now.played;
       at_end = none.at_end;
+      few = λ some. omega (arith, now.told some, none.few);
     }
 read_end tells names left mid left' held held' c old new count number z (Line' n) p is (same, (bytes, took, came)) =
     let l = line_came tells names left mid left' held held' c old new count z bytes Long p took came in

@@ -1,7 +1,7 @@
 -- Scripts: what lines play, how they lie in the bytes taken, and how far a script came.
-use Rattle.std.specs.Prelude.{◌≡◌, ◌⊎◌, ℕ, ◌+◌, ◌<◌, ◌≤◌, Bool, false, ◌||◌, ◌==◌, List, [], ◌∷◌, ◌++◌, length, take, All, IsSome, MatchBool}
+use Rattle.std.specs.Prelude.{◌≡◌, ◌≢◌, ◌⊎◌, ℕ, ◌+◌, ◌<◌, ◌≤◌, Bool, List, [], ◌∷◌, ◌++◌, length, take, All, IsSome}
 use Rattle.std.specs.declared.option.Option.{Option}
-use Rattle.std.specs.List.{flat_map, list_all}
+use Rattle.std.specs.List.{flat_map}
 use Rattle.std.specs.Io.KnownBytes.{Consumes, Appends, IsAtEnd}
 use Rattle.cj_outside.specs.Lines.{IsInLine, line_limit}
 use Rattle.cj_outside.specs.Streams.{most}
@@ -26,13 +26,15 @@ pub record MakesMove (tells : Bool) (names : List (List ℕ)) (c : WorldState) (
   pub causes : HasCauses c z move (given_of made)
   pub gives : written ≡ moved_lines names made
 
--- no byte but spaces and tabs
-abbrev pub is_blank : List ℕ → Bool
-is_blank line = list_all (λ b. b == 32 || b == 9) line
+-- the line is empty, and changes and gives nothing
+pub record SkipsLine (c : WorldState) (line written : List ℕ) (z : WorldState) : Type 0 where
+  pub empty : line ≡ []
+  pub nothing : written ≡ []
+  pub same : z ≡ c
 
--- a blank line is skipped, and another makes its move
+-- an empty line is skipped, and another makes its move
 abbrev pub PlaysLine : Bool → List (List ℕ) → WorldState → List ℕ → List ℕ → WorldState → Type 0
-PlaysLine tells names c line written z = MatchBool (is_blank line) ((written ≡ []) × (z ≡ c)) (MakesMove tells names c line written z)
+PlaysLine tells names c line written z = SkipsLine c line written z ⊎ MakesMove tells names c line written z
 
 -- From the state c the lines play, one after another, to the state z, and this is what they give.
 abbrev pub Plays : Bool → List (List ℕ) → WorldState → List (List ℕ) → List ℕ → WorldState → Type 0
@@ -59,9 +61,9 @@ IsNext left line rest = ((more : List ℕ) × (rest ≡ line ++ 10 ∷ more)) �
 abbrev pub IsNoMove : List (List ℕ) → List ℕ → Type 0
 IsNoMove names line = (m : Move) → MoveLine names line m → ⊥
 
--- the line can't be played: it is too long, or neither blank nor a move's
+-- the line can't be played: it is too long, or neither empty nor a move's
 abbrev pub IsWrong : List (List ℕ) → List ℕ → Type 0
-IsWrong names line = (line_limit < length line) ⊎ ((is_blank line ≡ false) × IsNoMove names line)
+IsWrong names line = (line_limit < length line) ⊎ ((line ≢ []) × IsNoMove names line)
 
 -- ---- how far a script came
 
@@ -74,12 +76,13 @@ pub record Played (tells : Bool) (names : List (List ℕ)) (left left' held held
   pub plays : Plays tells names c lines written z
   pub appended : Appends held held' written
 
--- the source was taken to its end, and all of it was played
+-- the source was taken to its end, as it may be, and all of it was played
 pub record PlayedAll (tells : Bool) (names : List (List ℕ)) (left left' held held' : Option (List ℕ)) (c z : WorldState) : Type 0 where
   pub taken : List ℕ
   pub lines : List (List ℕ)
   pub played : Played tells names left left' held held' c taken lines [] z
   pub at_end : IsAtEnd left'
+  pub few : IsSome left → length taken < most
 
 -- The lines before this one, by its number from 1, were played, and it can't be.
 pub record PlayedTo (tells : Bool) (names : List (List ℕ)) (left left' held held' : Option (List ℕ)) (number : ℕ) (c z : WorldState) : Type 0 where

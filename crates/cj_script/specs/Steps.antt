@@ -1,14 +1,13 @@
 -- The steps of a script: a line is read, and it is played.
-use Rattle.std.specs.Prelude.{◌≡◌, ◌⊎◌, ℕ, ◌≤◌, Bool, false, List, [], Result, Ok, Err, IsErrOf}
+use Rattle.std.specs.Prelude.{◌≡◌, ◌≢◌, ◌⊎◌, ℕ, Bool, List, [], Result, Ok, Err}
 use Rattle.std.specs.declared.option.Option.{Option}
 use Rattle.std.specs.Global.{Vec}
 use Rattle.std.specs.Io.KnownBytes.{Appends}
 use Rattle.cj_outside.specs.declared.lines.Line.TheVariants.{Text, Long, End}
 use Rattle.cj_outside.specs.declared.lines.LineError.TheVariants as errors
-use Rattle.cj_outside.specs.Causes.{Rose}
 use Rattle.cj_outside.specs.Lines.{Reading, GivesLine}
 use Rattle.cj_core.specs.Worlds.{WorldState}
-use Rattle.cj_script.specs.Script.{is_blank, PlaysLine, MakesInPart, IsNoMove}
+use Rattle.cj_script.specs.Script.{PlaysLine, MakesInPart, IsNoMove}
 use Rattle.cj_script.specs.declared.play.ScriptEnd.{ScriptEnd}
 use Rattle.cj_script.specs.declared.play.ScriptEnd.TheVariants.{Done, Line, ReadFault, WriteFault, Spent, NoMemory}
 
@@ -32,9 +31,9 @@ pub record PlaysWritten (tells : Bool) (names : List (List ℕ)) (held held' : O
 abbrev pub Stays : Option (List ℕ) → Option (List ℕ) → WorldState → WorldState → Type 0
 Stays held held' c z = (z ≡ c) × Appends held held' []
 
--- the line is no move's, and it is not blank
+-- the line is no move's, and it is not empty
 pub record RefusesLine (names : List (List ℕ)) (held held' : Option (List ℕ)) (c : WorldState) (line : List ℕ) (z : WorldState) : Type 0 where
-  pub some : is_blank line ≡ false
+  pub some : line ≢ []
   pub none : IsNoMove names line
   pub stays : Stays held held' c z
 
@@ -47,8 +46,3 @@ PlaysOrEnds tells names held held' c line number (Err ReadFault) z = ⊥
 PlaysOrEnds tells names held held' c line number (Err WriteFault) z = MakesInPart tells names held held' c line z
 PlaysOrEnds tells names held held' c line number (Err Spent) z = ⊥
 PlaysOrEnds tells names held held' c line number (Err NoMemory) z = Stays held held' c z ⊎ MakesInPart tells names held held' c line z
-
--- the count of faults doesn't fall, and rises where the script ends with this fault
-pub record HasEndCause {T : Type 0} (fault : ScriptEnd) (before now : ℕ) (result : Result T ScriptEnd) : Type 0 where
-  pub later : before ≤ now
-  pub failed : IsErrOf result fault → Rose before now

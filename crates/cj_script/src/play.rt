@@ -1,13 +1,12 @@
 //! The loop of a script: lines of moves from a source, what they come to into a sink.
 
 ghost use Rattle.std.specs.Prelude.{◌≡◌, ◌≤◌, ◌^◌, ℕ, IfOk, IsErrOf, MatchResult, length};
-ghost use Rattle.cj_outside.specs.Causes.{HasOutCause, Rose};
+ghost use Rattle.cj_outside.specs.Causes.{CountsFault};
 ghost use Rattle.cj_outside.specs.Streams.{most, WritesAll};
 ghost use Rattle.cj_model.specs.Runs.{CanCount};
 ghost use Rattle.cj_model.specs.Scripts.{moved_lines};
 ghost use Rattle.cj_script.specs.Script.{CameTo};
-ghost use Rattle.cj_script.specs.Script as steps;
-ghost use Rattle.cj_script.specs.Steps.{HasEndCause, PlaysOrEnds, ReadsLine};
+ghost use Rattle.cj_script.specs.Steps.{PlaysOrEnds, ReadsLine};
 ghost use Rattle.cj_script.specs.declared.play.ScriptEnd.TheVariants as ends;
 ghost use Rattle.std.specs.declared.result.Result.TheVariants.{Err};
 
@@ -24,7 +23,7 @@ use std::alloc::Global;
 pub enum ScriptEnd {
     /// All lines were played.
     Done,
-    /// This line, counted from 1, is too long, or neither blank nor a move's.
+    /// This line, counted from 1, is too long, or neither empty nor a move's.
     Line(u64),
     /// The source failed.
     ReadFault,
@@ -45,7 +44,7 @@ fn read_line<I: Source>(
 ) -> Result<Vec<u8>, ScriptEnd>
     ensures bytes { ReadsLine (I.left input.old) (I.left input.new) lines.old lines.new number result }
     ensures few { lines.new.taken ≤ most }
-    ensures cause { HasEndCause ends.ReadFault (I.faults input.old) (I.faults input.new) result }
+    ensures cause { CountsFault (IsErrOf result ends.ReadFault) (I.faults input.old) (I.faults input.new) }
 {
     let next = lines.next(alloc, input);
     lines.legal();
@@ -59,13 +58,6 @@ fn read_line<I: Source>(
     }
 }
 
-/// Whether a line has nothing but spaces and tabs.
-fn is_blank(line: &[u8]) -> bool
-    ensures { result ≡ steps.is_blank line.now }
-{
-    line.iter().all(|b| *b == b' ' || *b == b'\t')
-}
-
 /// Writes the lines of what a move came to.
 fn write_made<O: Sink>(
     alloc: Global,
@@ -74,7 +66,7 @@ fn write_made<O: Sink>(
     output: &mut O,
 ) -> Result<(), OutError>
     ensures bytes { WritesAll (O.held output.old) (O.held output.new) (moved_lines names.now made.now) result }
-    ensures cause { HasOutCause (O.faults output.old) (O.faults output.new) result }
+    ensures cause { CountsFault (IsErrOf result OutError.Failed) (O.faults output.old) (O.faults output.new) }
 {
     match print_made(alloc, names, made) {
         Ok(lines) => write_all(output, &lines),
@@ -94,9 +86,9 @@ fn play_line<B: Backend, O: Sink>(
     requires names { length names.now ≡ world.old.core.placement.backends }
     requires count { 2 ≤ length line.now → CanCount world.old.core 1 }
     ensures plays { PlaysOrEnds B.TELLS names.now (O.held output.old) (O.held output.new) world.old line.now number result world.new }
-    ensures cause { HasEndCause ends.WriteFault (O.faults output.old) (O.faults output.new) result }
+    ensures cause { CountsFault (IsErrOf result ends.WriteFault) (O.faults output.old) (O.faults output.new) }
 {
-    if is_blank(line) {
+    if line.is_empty() {
         return Ok(());
     }
     world.legal();
@@ -128,10 +120,8 @@ pub fn script<B: Backend, I: Source, O: Sink>(
     requires names { length names.now ≡ world.old.core.placement.backends }
     requires count { CanCount world.old.core (2 ^ 61) }
     ensures came { CameTo B.TELLS names.now (I.left input.old) (I.left input.new) (O.held output.old) (O.held output.new) world.old result world.new }
-    ensures input { I.faults input.old ≤ I.faults input.new }
-    ensures output { O.faults output.old ≤ O.faults output.new }
-    ensures read_fault { result ≡ ends.ReadFault → Rose (I.faults input.old) (I.faults input.new) }
-    ensures write_fault { result ≡ ends.WriteFault → Rose (O.faults output.old) (O.faults output.new) }
+    ensures input { CountsFault (result ≡ ends.ReadFault) (I.faults input.old) (I.faults input.new) }
+    ensures output { CountsFault (result ≡ ends.WriteFault) (O.faults output.old) (O.faults output.new) }
 {
     let mut lines = Lines::new(alloc);
     let mut number = 0;

@@ -6,14 +6,15 @@ use Rattle.std.specs.Io.KnownBytes.{Appends}
 use Rattle.std.proofs.lemmas.List.{append-nil}
 use Rattle.std.proofs.lemmas.List.Concat.{flat_map-append, flat_map-cons}
 use Rattle.cj_outside.specs.declared.sink.OutError.{OutError}
+use Rattle.cj_outside.specs.declared.sink.OutError.TheVariants.{Failed, NoMemory}
 use Rattle.cj_outside.specs.Streams.{WritesAll}
 use Rattle.cj_outside.proofs.Joined.{appends_none, appends_then}
 use Rattle.cj_model.specs.declared.message.Message.{Message}
 use Rattle.cj_model.specs.declared.answer.Reply.{Reply}
 use Rattle.cj_model.specs.Replies.{reply_bytes}
-use Rattle.cj_model.specs.Session.{Session, fresh, Exchange, Exchanges, is_quit, answered, BeginsReply}
+use Rattle.cj_model.specs.Session.{Session, fresh, Exchange, Exchanges, is_quit, answered, CutsReply, StarvesReply}
 use Rattle.cj_model.proofs.SessionLaws.{AnsweredTo, answered_none, answered_more, answered_on, exchanges_more, take_item, drop_item, front_of_answered, rest_of_answered, answered_at_quit, answered_at_end}
-use Rattle.cj_top.specs.Answers.{Answered, AnsweredInPart}
+use Rattle.cj_top.specs.Answers.{Answered, AnsweredInPart, Answers}
 
 -- the first i messages have their replies, written whole, and the session stands at s
 pub record Answering (held now : Option (List ℕ)) (ms : List Message) (i : ℕ) (s : Session) : Type 0 where
@@ -61,34 +62,52 @@ answering_end a b ms i s le before =
       bytes = before.bytes;
     }
 
-begins_nothing : (s : Session) (ms : List Message) → BeginsReply s ms []
-begins_nothing s [] = refl
-begins_nothing s (m ∷ ms) = inl refl
+-- the next message is among those that are answered
+next_answered : (ms : List Message) (i : ℕ) (m : Message) → i < length ms → m ≡ get_or ms i m → is_quit m ≡ false → AnsweredTo ms i → drop i (answered ms) ≡ m ∷ answered (drop (i + 1) ms)
+next_answered ms i m lt is no_quit to = rest_of_answered ms i to ∙ ap answered (drop_item ms i m lt is) ∙ answered_on m (drop (i + 1) ms) no_quit
 
 -- a reply that could not be made cuts the answers
-pub answering_starved : (a b : Option (List ℕ)) (ms : List Message) (i : ℕ) (s : Session) → Answering a b ms i s → AnsweredInPart a b ms
-answering_starved a b ms i s before =
+pub answering_starved : (a b : Option (List ℕ)) (ms : List Message) (i : ℕ) (m : Message) (s : Session)
+    → i < length ms → m ≡ get_or ms i m → is_quit m ≡ false → Answering a b ms i s → AnsweredInPart StarvesReply a b ms
+answering_starved a b ms i m s lt is no_quit before =
     record {
       count = i;
       replies = before.replies;
       last = s;
       exchanges = subst (λ (xs : List Message). Exchanges fresh xs before.replies s) (sym (front_of_answered ms i before.to)) before.exchanges;
       part = [];
-      begins = begins_nothing s (drop i (answered ms));
+      begins = subst (λ (xs : List Message). StarvesReply s xs []) (sym (next_answered ms i m lt is no_quit before.to)) (inl refl);
       bytes = subst (λ (x : List ℕ). Appends a b x) (sym (append-nil (flat_map reply_bytes before.replies))) before.bytes;
     }
 
+-- a reply that is cut may be cut for want of memory
+cuts_starves : (s : Session) (ms : List Message) (part : List ℕ) → CutsReply s ms part → StarvesReply s ms part
+cuts_starves s [] part cuts = absurd cuts
+cuts_starves s (m ∷ ms) part cuts = inr cuts
+
+-- whichever error cut it
+cut_answers : (a b : Option (List ℕ)) (ms : List Message) (e : OutError) → AnsweredInPart CutsReply a b ms → Answers a b ms (Err e)
+cut_answers a b ms Failed cut = cut
+cut_answers a b ms NoMemory cut = inr (record {
+  count = cut.count;
+  replies = cut.replies;
+  last = cut.last;
+  exchanges = cut.exchanges;
+  part = cut.part;
+  begins = cuts_starves cut.last (drop cut.count (answered ms)) cut.part cut.begins;
+  bytes = cut.bytes;
+})
+
 -- a reply that was not wholly written cuts them too
 pub answering_cut : (a b c : Option (List ℕ)) (ms : List Message) (i : ℕ) (m : Message) (s t : Session) (r : Reply) (e : OutError)
-    → i < length ms → m ≡ get_or ms i m → is_quit m ≡ false → Answering a b ms i s → Exchange s m r t → WritesAll b c (reply_bytes r) (Err e) → AnsweredInPart a c ms
+    → i < length ms → m ≡ get_or ms i m → is_quit m ≡ false → Answering a b ms i s → Exchange s m r t → WritesAll b c (reply_bytes r) (Err e) → Answers a c ms (Err e)
 answering_cut a b c ms i m s t r e lt is no_quit before exchange wrote =
-    let next : drop i (answered ms) ≡ m ∷ answered (drop (i + 1) ms) = rest_of_answered ms i before.to ∙ ap answered (drop_item ms i m lt is) ∙ answered_on m (drop (i + 1) ms) no_quit in
-    record {
+    cut_answers a c ms e (record {
       count = i;
       replies = before.replies;
       last = s;
       exchanges = subst (λ (xs : List Message). Exchanges fresh xs before.replies s) (sym (front_of_answered ms i before.to)) before.exchanges;
       part = take wrote.0 (reply_bytes r);
-      begins = subst (λ (xs : List Message). BeginsReply s xs (take wrote.0 (reply_bytes r))) (sym next) (inr (r, t, exchange, wrote.0, refl));
+      begins = subst (λ (xs : List Message). CutsReply s xs (take wrote.0 (reply_bytes r))) (sym (next_answered ms i m lt is no_quit before.to)) (r, t, exchange, wrote.0, wrote.1, refl);
       bytes = appends_then a b c (flat_map reply_bytes before.replies) (take wrote.0 (reply_bytes r)) before.bytes wrote.2;
-    }
+    })

@@ -4,9 +4,10 @@ use Rattle.std.specs.declared.option.Option.{Option}
 use Rattle.std.specs.Str.{bytes_eq}
 use Rattle.std.specs.Io.KnownBytes.{Consumes, Appends, Keeps, IsAtEnd}
 use Rattle.cj_outside.specs.Streams.{most, TookFewer, TookMost, TookSome}
+use Rattle.cj_model.specs.declared.message.Message.{Message}
 use Rattle.cj_model.specs.declared.session.SessionEnd.{SessionEnd}
 use Rattle.cj_model.specs.declared.session.SessionEnd.TheVariants as end
-use Rattle.cj_model.specs.Session.{Talk, CutTalk}
+use Rattle.cj_model.specs.Session.{Session, Talk, CutTalk, CutsReply, StarvesReply}
 
 -- a word that names a configuration: not empty, and no option
 abbrev pub names_file : List ℕ → Bool
@@ -46,12 +47,12 @@ pub record Talked (left left' held held' : Option (List ℕ)) (ending : SessionE
   pub talk : Talk taken written ending
 
 -- the input was taken to its end, and a front of the talk was written
-pub record TalkedInPart (left left' held held' : Option (List ℕ)) : Type 0 where
+pub record TalkedInPart (IsPart : Session → List Message → List ℕ → Type 0) (left left' held held' : Option (List ℕ)) : Type 0 where
   pub taken : List ℕ
   pub written : List ℕ
   pub took : TookAll left left' taken
   pub wrote : Appends held held' written
-  pub talk : CutTalk taken written
+  pub talk : CutTalk IsPart taken written
 
 -- What a session that ended so took and gave. Where the source or the sink tells nothing, this says nothing of its bytes.
 abbrev pub Piped : (left left' held held' : Option (List ℕ)) → SessionEnd → Type 0
@@ -60,9 +61,9 @@ Piped left left' held held' end.Eof = Talked left left' held held' end.Eof
 Piped left left' held held' end.Cut = Talked left left' held held' end.Cut
 Piped left left' held held' (end.BadFrame fault) = Talked left left' held held' (end.BadFrame fault)
 Piped left left' held held' end.ReadFault = TookFewer left left' × Keeps held held'
-Piped left left' held held' end.WriteFault = TalkedInPart left left' held held'
+Piped left left' held held' end.WriteFault = TalkedInPart CutsReply left left' held held'
 Piped left left' held held' end.Spent = TookMost left left' × Keeps held held'
-Piped left left' held held' end.NoMemory = (TookSome left left' × Keeps held held') ⊎ TalkedInPart left left' held held'
+Piped left left' held held' end.NoMemory = (TookSome left left' × Keeps held held') ⊎ TalkedInPart StarvesReply left left' held held'
 
 -- a run of `pipe` with this status
 pub record Runs (left left' held held' : Option (List ℕ)) (status : ℕ) : Type 0 where

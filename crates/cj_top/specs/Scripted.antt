@@ -1,9 +1,12 @@
 -- The command `script`: how far its script came over two backends, and with which status.
-use Rattle.std.specs.Prelude.{◌≡◌, ◌⊎◌, ℕ, Bool, true, false, ◌&&◌, List, [], ◌∷◌, take, codes}
+use Rattle.std.specs.Prelude.{◌≡◌, ◌⊎◌, ℕ, Bool, true, false, ◌&&◌, List, [], ◌∷◌, codes, Result, IsErrOf}
 use Rattle.std.specs.declared.option.Option.{Option}
 use Rattle.std.specs.Fmt.{decimal}
-use Rattle.std.specs.Io.KnownBytes.{Appends}
 use Rattle.std.specs.Str.{bytes_eq}
+use Rattle.cj_outside.specs.Causes.{CountsFault}
+use Rattle.cj_outside.specs.Streams.{WritesAll}
+use Rattle.cj_outside.specs.declared.sink.OutError.{OutError}
+use Rattle.cj_outside.specs.declared.sink.OutError.TheVariants as out_errors
 use Rattle.cj_model.specs.Cores.{Core}
 use Rattle.cj_model.specs.Scripts.{ended, words}
 use Rattle.cj_core.specs.Starts.{started}
@@ -36,10 +39,16 @@ status_of_script end.NoMemory = 1
 abbrev pub line_text : ℕ → List ℕ
 line_text number = ended (words (codes "line" ∷ decimal number ∷ []))
 
--- Of a line that can't be played a front of its name was written, and of another end nothing.
-abbrev pub NamesLine : Option (List ℕ) → Option (List ℕ) → ScriptEnd → Type 0
-NamesLine errors errors' (end.Line number) = (count : ℕ) × Appends errors errors' (take count (line_text number))
-NamesLine errors errors' ending = errors' ≡ errors
+-- The line's name was written whole, or the errors failed in it, which they counted, or memory was wanting for it.
+pub record WritesName (errors errors' : Option (List ℕ)) (before now number : ℕ) : Type 0 where
+  pub answer : Result (Unit {0}) OutError
+  pub bytes : WritesAll errors errors' (line_text number) answer
+  pub cause : CountsFault (IsErrOf answer out_errors.Failed) before now
+
+-- A line that can't be played is named, and at another end nothing is written; `before` and `now` are the errors' counts of faults.
+abbrev pub NamesLine : (errors errors' : Option (List ℕ)) → (before now : ℕ) → ScriptEnd → Type 0
+NamesLine errors errors' before now (end.Line number) = WritesName errors errors' before now number
+NamesLine errors errors' before now ending = (errors' ≡ errors) × (now ≡ before)
 
 -- From two backends that have taken no entry the script came to this end.
 pub record PlayedOverTwo (left left' held held' : Option (List ℕ)) (ending : ScriptEnd) : Type 0 where
@@ -47,19 +56,20 @@ pub record PlayedOverTwo (left left' held held' : Option (List ℕ)) (ending : S
   pub came : CameTo true backend_names left left' held held' (started 2) ending last
 
 -- the script was played, and ended with this status
-pub record Scripted (left left' held held' errors errors' : Option (List ℕ)) (status : ℕ) : Type 0 where
+pub record Scripted (left left' held held' errors errors' : Option (List ℕ)) (before now status : ℕ) : Type 0 where
   pub ending : ScriptEnd
   pub status_is : status ≡ status_of_script ending
   pub played : PlayedOverTwo left left' held held' ending
-  pub named : NamesLine errors errors' ending
+  pub named : NamesLine errors errors' before now ending
 
 -- memory was wanting before the script began
-pub record Unbegun (left left' held held' errors errors' : Option (List ℕ)) (status : ℕ) : Type 0 where
+pub record Unbegun (left left' held held' errors errors' : Option (List ℕ)) (before now status : ℕ) : Type 0 where
   pub status_is : status ≡ 1
   pub nothing_taken : left' ≡ left
   pub nothing_written : held' ≡ held
-  pub nothing_named : errors' ≡ errors
+  pub nothing_named : (errors' ≡ errors) × (now ≡ before)
 
--- A run of `script` with this status. Where the input or an output tells nothing, this says nothing of its bytes.
-abbrev pub RunsScript : (left left' held held' errors errors' : Option (List ℕ)) → ℕ → Type 0
-RunsScript left left' held held' errors errors' status = Unbegun left left' held held' errors errors' status ⊎ Scripted left left' held held' errors errors' status
+-- A run of `script` with this status; `before` and `now` are the errors' counts of faults. Where the input or an output tells nothing, this says nothing of its bytes.
+abbrev pub RunsScript : (left left' held held' errors errors' : Option (List ℕ)) → (before now : ℕ) → ℕ → Type 0
+RunsScript left left' held held' errors errors' before now status =
+    Unbegun left left' held held' errors errors' before now status ⊎ Scripted left left' held held' errors errors' before now status

@@ -1,8 +1,8 @@
 //! The top call.
 
-ghost use Rattle.std.specs.Prelude.{◌≡◌, ◌≢◌, ◌≤◌, true, false, map, string_bytes};
+ghost use Rattle.std.specs.Prelude.{◌≡◌, ◌↔◌, ◌≢◌, true, false, map, string_bytes};
 ghost use Rattle.std.specs.List.{list_any};
-ghost use Rattle.cj_outside.specs.Causes.{Rose};
+ghost use Rattle.cj_outside.specs.Causes.{CountsFault};
 ghost use Rattle.cj_model.specs.Frames.{fault_of};
 ghost use Rattle.cj_model.specs.Session as session;
 ghost use Rattle.cj_top.specs.Program.{Piped, Runs};
@@ -20,7 +20,9 @@ use std::alloc::Global;
 /// How a session ends whose input was taken to its end, and whose messages were all answered.
 fn end_of(messages: &[Message], rest: &[u8], fault: Option<FrameFault>) -> SessionEnd
     requires { fault ≡ fault_of rest.now }
-    ensures { result ≡ session.end_of messages.now rest.now }
+    ensures end { result ≡ session.end_of messages.now rest.now }
+    ensures read { result ≢ SessionEnd.ReadFault }
+    ensures wrote { result ≢ SessionEnd.WriteFault }
 {
     if quits(messages) {
         return SessionEnd::Quit;
@@ -35,10 +37,8 @@ fn end_of(messages: &[Message], rest: &[u8], fault: Option<FrameFault>) -> Sessi
 /// One session over the input and the output: the input is taken to its end, and then answered.
 pub fn pipe<I: Source, O: Sink>(alloc: Global, input: &mut I, output: &mut O) -> SessionEnd
     ensures talk { Piped (I.left input.old) (I.left input.new) (O.held output.old) (O.held output.new) result }
-    ensures input { I.faults input.old ≤ I.faults input.new }
-    ensures output { O.faults output.old ≤ O.faults output.new }
-    ensures read_fault { result ≡ SessionEnd.ReadFault → Rose (I.faults input.old) (I.faults input.new) }
-    ensures write_fault { result ≡ SessionEnd.WriteFault → Rose (O.faults output.old) (O.faults output.new) }
+    ensures input { CountsFault (result ≡ SessionEnd.ReadFault) (I.faults input.old) (I.faults input.new) }
+    ensures output { CountsFault (result ≡ SessionEnd.WriteFault) (O.faults output.old) (O.faults output.new) }
 {
     let bytes = match read_to_end(alloc, input) {
         Ok(bytes) => bytes,
@@ -57,7 +57,9 @@ pub fn pipe<I: Source, O: Sink>(alloc: Global, input: &mut I, output: &mut O) ->
 }
 
 fn status_of(end: SessionEnd) -> u8
-    ensures { result ≡ top.status_of end }
+    ensures status { result ≡ top.status_of end }
+    ensures read_fault { (result ≡ 5) ↔ (end ≡ SessionEnd.ReadFault) }
+    ensures write_fault { (result ≡ 6) ↔ (end ≡ SessionEnd.WriteFault) }
 {
     match end {
         SessionEnd::Quit | SessionEnd::Eof => 0,
@@ -114,17 +116,14 @@ pub fn run<I: Source, O: Sink, E: Sink>(
     errors: &mut E,
 ) -> u8
     ensures pipe { top.is_pipe (map string_bytes words.now) ≡ true → Runs (I.left input.old) (I.left input.new) (O.held output.old) (O.held output.new) result }
-    ensures script { scripted.is_script (map string_bytes words.now) ≡ true → RunsScript (I.left input.old) (I.left input.new) (O.held output.old) (O.held output.new) (E.held errors.old) (E.held errors.new) result }
+    ensures script { scripted.is_script (map string_bytes words.now) ≡ true → RunsScript (I.left input.old) (I.left input.new) (O.held output.old) (O.held output.new) (E.held errors.old) (E.held errors.new) (E.faults errors.old) (E.faults errors.new) result }
     ensures other { top.is_pipe (map string_bytes words.now) ≡ false → scripted.is_script (map string_bytes words.now) ≡ false → (result ≡ 2) × (input.new ≡ input.old) × (output.new ≡ output.old) }
     ensures errors { scripted.is_script (map string_bytes words.now) ≡ false → errors.new ≡ errors.old }
     ensures quiet { result ≢ 10 → errors.new ≡ errors.old }
 
-    // The counts of faults never fall, and a fault is answered only where its count rose in this call.
-    ensures input { I.faults input.old ≤ I.faults input.new }
-    ensures output { O.faults output.old ≤ O.faults output.new }
-    ensures error_faults { E.faults errors.old ≤ E.faults errors.new }
-    ensures read_fault { result ≡ 5 → Rose (I.faults input.old) (I.faults input.new) }
-    ensures write_fault { result ≡ 6 → Rose (O.faults output.old) (O.faults output.new) }
+    // The input counted a fault exactly where the status is 5, and the output where it is 6. What the errors counted at 10 is in `script`.
+    ensures input { CountsFault (result ≡ 5) (I.faults input.old) (I.faults input.new) }
+    ensures output { CountsFault (result ≡ 6) (O.faults output.old) (O.faults output.new) }
 {
     if is_pipe(words) {
         return status_of(pipe(alloc, input, output));

@@ -1,11 +1,12 @@
 //! A script over two backends in memory.
 
-ghost use Rattle.std.specs.Prelude.{◌≡◌, ◌≢◌, ◌≤◌, [], ◌∷◌, true, IfOk, OnErr, string_bytes};
+ghost use Rattle.std.specs.Prelude.{◌≡◌, ◌↔◌, ◌≢◌, [], ◌∷◌, true, IfOk, IsErrOf, Ok, OnErr, string_bytes};
 ghost use Rattle.cj_flaky.specs.FlakyBackends.{fresh_over};
 ghost use Rattle.cj_mem.specs.MemoryBackends.{fresh_state};
 ghost use Rattle.cj_core.specs.Starts.{started};
 ghost use Rattle.cj_model.specs.Words as words;
-ghost use Rattle.cj_outside.specs.Causes.{Rose};
+ghost use Rattle.cj_outside.specs.Causes.{CountsFault};
+ghost use Rattle.cj_outside.specs.Streams.{WritesAll};
 ghost use Rattle.cj_script.specs.declared.play.ScriptEnd.TheVariants as ends;
 ghost use Rattle.cj_top.specs.Scripted.{NamesLine, PlayedOverTwo, RunsScript, backend_names, line_text};
 ghost use Rattle.cj_top.specs.Scripted as scripted;
@@ -15,7 +16,7 @@ use cj_core::{Backends, World};
 use cj_flaky::Flaky;
 use cj_mem::MemBackend;
 use cj_model::{ListOf, Name, Names, NoMemory};
-use cj_outside::{Sink, Source, write_all};
+use cj_outside::{OutError, Sink, Source, write_all};
 use cj_script::{ScriptEnd, script};
 use std::alloc::Global;
 
@@ -73,10 +74,8 @@ pub fn play<I: Source, O: Sink>(
 ) -> Result<ScriptEnd, NoMemory>
     ensures played { IfOk result (λ end. PlayedOverTwo (I.left input.old) (I.left input.new) (O.held output.old) (O.held output.new) end) }
     ensures unbegun { OnErr result ((input.new ≡ input.old) × (output.new ≡ output.old)) }
-    ensures input { I.faults input.old ≤ I.faults input.new }
-    ensures output { O.faults output.old ≤ O.faults output.new }
-    ensures read_fault { IfOk result (λ end. end ≡ ends.ReadFault → Rose (I.faults input.old) (I.faults input.new)) }
-    ensures write_fault { IfOk result (λ end. end ≡ ends.WriteFault → Rose (O.faults output.old) (O.faults output.new)) }
+    ensures input { CountsFault (result ≡ Ok ends.ReadFault) (I.faults input.old) (I.faults input.new) }
+    ensures output { CountsFault (result ≡ Ok ends.WriteFault) (O.faults output.old) (O.faults output.new) }
 {
     let names = two_names(alloc)?;
     let mut world = two_backend_world(alloc)?;
@@ -89,22 +88,30 @@ fn line_words(alloc: Global, number: u64) -> Result<String, NoMemory>
     Ok(format!(in alloc; "line {number}\n")?)
 }
 
+fn write_name<E: Sink>(alloc: Global, number: u64, errors: &mut E) -> Result<(), OutError>
+    ensures bytes { WritesAll (E.held errors.old) (E.held errors.new) (line_text number) result }
+    ensures cause { CountsFault (IsErrOf result OutError.Failed) (E.faults errors.old) (E.faults errors.new) }
+{
+    match line_words(alloc, number) {
+        Ok(text) => write_all(errors, text.as_bytes()),
+        Err(_) => Err(OutError::NoMemory),
+    }
+}
+
 /// Names the line that can't be played, where the script ended with one. That this fails changes nothing else.
 fn name_line<E: Sink>(alloc: Global, end: ScriptEnd, errors: &mut E)
-    ensures named { NamesLine (E.held errors.old) (E.held errors.new) end }
+    ensures named { NamesLine (E.held errors.old) (E.held errors.new) (E.faults errors.old) (E.faults errors.new) end }
     ensures other { scripted.status_of_script end ≢ 10 → errors.new ≡ errors.old }
-    ensures faults { E.faults errors.old ≤ E.faults errors.new }
 {
-    let ScriptEnd::Line(number) = end else {
-        return;
-    };
-    if let Ok(text) = line_words(alloc, number) {
-        let _ = write_all(errors, text.as_bytes());
+    if let ScriptEnd::Line(number) = end {
+        let _ = write_name(alloc, number, errors);
     }
 }
 
 fn status_of_script(end: ScriptEnd) -> u8
-    ensures { result ≡ scripted.status_of_script end }
+    ensures status { result ≡ scripted.status_of_script end }
+    ensures read_fault { (result ≡ 5) ↔ (end ≡ ends.ReadFault) }
+    ensures write_fault { (result ≡ 6) ↔ (end ≡ ends.WriteFault) }
 {
     match end {
         ScriptEnd::Done => 0,
@@ -123,13 +130,10 @@ pub fn run_script<I: Source, O: Sink, E: Sink>(
     output: &mut O,
     errors: &mut E,
 ) -> u8
-    ensures runs { RunsScript (I.left input.old) (I.left input.new) (O.held output.old) (O.held output.new) (E.held errors.old) (E.held errors.new) result }
+    ensures runs { RunsScript (I.left input.old) (I.left input.new) (O.held output.old) (O.held output.new) (E.held errors.old) (E.held errors.new) (E.faults errors.old) (E.faults errors.new) result }
     ensures quiet { result ≢ 10 → errors.new ≡ errors.old }
-    ensures input { I.faults input.old ≤ I.faults input.new }
-    ensures output { O.faults output.old ≤ O.faults output.new }
-    ensures errors { E.faults errors.old ≤ E.faults errors.new }
-    ensures read_fault { result ≡ 5 → Rose (I.faults input.old) (I.faults input.new) }
-    ensures write_fault { result ≡ 6 → Rose (O.faults output.old) (O.faults output.new) }
+    ensures input { CountsFault (result ≡ 5) (I.faults input.old) (I.faults input.new) }
+    ensures output { CountsFault (result ≡ 6) (O.faults output.old) (O.faults output.new) }
 {
     let Ok(end) = play(alloc, input, output) else {
         return 1;

@@ -1,7 +1,7 @@
 //! Replies on their way to the client.
 
-ghost use Rattle.std.specs.Prelude.{◌≡◌};
-ghost use Rattle.cj_outside.specs.Causes.{HasOutCause};
+ghost use Rattle.std.specs.Prelude.{◌≡◌, IsErrOf};
+ghost use Rattle.cj_outside.specs.Causes.{CountsFault};
 ghost use Rattle.cj_outside.specs.Streams.{WritesAll};
 ghost use Rattle.cj_reply.specs.Encode.{IsSendable};
 ghost use Rattle.cj_model.specs.declared.answer.Reply.TheVariants as replies;
@@ -18,7 +18,7 @@ fn send_rows<O: Sink>(alloc: Global, output: &mut O, reply: &Reply) -> Result<()
     requires sendable { IsSendable reply.now }
     requires rows { (a : Answer) × (reply.now ≡ replies.Rows a) }
     ensures bytes { WritesAll (O.held output.old) (O.held output.new) (reply_bytes (limited reply.now)) result }
-    ensures cause { HasOutCause (O.faults output.old) (O.faults output.new) result }
+    ensures cause { CountsFault (IsErrOf result OutError.Failed) (O.faults output.old) (O.faults output.new) }
 {
     match encode(alloc, reply) {
         Ok(frame) => write_all(output, &frame),
@@ -34,7 +34,7 @@ fn send_rows<O: Sink>(alloc: Global, output: &mut O, reply: &Reply) -> Result<()
 pub fn send<O: Sink>(alloc: Global, output: &mut O, reply: &Reply) -> Result<(), OutError>
     requires { IsSendable reply.now }
     ensures bytes { WritesAll (O.held output.old) (O.held output.new) (reply_bytes (limited reply.now)) result }
-    ensures cause { HasOutCause (O.faults output.old) (O.faults output.new) result }
+    ensures cause { CountsFault (IsErrOf result OutError.Failed) (O.faults output.old) (O.faults output.new) }
 {
     match reply {
         Reply::Done(count) => write_all(output, &encode_done(*count)),

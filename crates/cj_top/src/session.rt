@@ -1,9 +1,9 @@
 //! The answers to a session's messages.
 
-ghost use Rattle.std.specs.Prelude.{◌≡◌, true, false, codes, Ok, Err, IfOk, IfSome, IsSome, MatchResult};
+ghost use Rattle.std.specs.Prelude.{◌≡◌, true, false, codes, Ok, Err, IfOk, IfSome, IsErrOf, IsSome, MatchResult};
 ghost use Rattle.std.specs.List.{list_any};
 ghost use Rattle.std.specs.Option.{option_map};
-ghost use Rattle.cj_outside.specs.Causes.{HasOutCause};
+ghost use Rattle.cj_outside.specs.Causes.{CountsFault};
 ghost use Rattle.cj_backend.specs.Backends.{HasBackendCause};
 ghost use Rattle.cj_model.specs.Outcomes.{IsAsked};
 ghost use Rattle.cj_reply.specs.Encode.{IsSendable};
@@ -236,7 +236,7 @@ pub fn answer_all<O: Sink>(
     output: &mut O,
 ) -> Result<(), OutError>
     ensures answers { Answers (O.held output.old) (O.held output.new) messages.now result }
-    ensures cause { HasOutCause (O.faults output.old) (O.faults output.new) result }
+    ensures cause { CountsFault (IsErrOf result OutError.Failed) (O.faults output.old) (O.faults output.new) }
 {
     let Ok(mut session) = Session::new(alloc) else {
         return Err(OutError::NoMemory);

@@ -619,8 +619,8 @@ fn scripts_give_their_lines(rt: HostRuntime) -> Result<(), Fail> {
         let mut output = Vec::new(alloc);
         for (line, given) in script {
             input.extend_from_slice(line.as_bytes())?;
-            // a blank line is skipped
-            input.extend_from_slice(b"\n \t\n")?;
+            // an empty line is skipped
+            input.extend_from_slice(b"\n\n")?;
             output.extend_from_slice(given.as_bytes())?;
             output.push(b'\n')?;
         }
@@ -633,7 +633,10 @@ fn scripts_give_their_lines(rt: HostRuntime) -> Result<(), Fail> {
 }
 
 /// Lines that are no move's.
-const WRONG: [&str; 19] = [
+const WRONG: [&str; 22] = [
+    " ",
+    "\t",
+    " \t ",
     " open ann",
     "write 1 BEGIN",
     "write 1 DELETE FROM t WHERE k = NOW()",

@@ -17,8 +17,8 @@ loop-line-init g c =
       numbers = omega (arith, zero, ap length none);
       counting = counting_start c.new-lines.result.rest c.new-lines.result.taken c.args.world.now none zero c.requires.count;
       backends = c.requires.names;
-      input = omega arith;
-      output = omega arith;
+      input = refl;
+      output = refl;
     }
 
 pub returns-in-Err-clause-came : goal.returns-in-Err-clause-came
@@ -73,6 +73,6 @@ loop-line-preserved g c =
       backends =
           c.loop-line.invariant.backends
           ∙ sym (ap (λ (p : Placement). p.backends) (played_backends g.B.Backend.TELLS c.args.names.now (held c.loop-line.output) (held c.play_line.new.output) c.loop-line.world c.in-Ok.line.items c.play_line.new.world plays));
-      input = omega (arith, c.loop-line.invariant.input, c.in-Ok.ensures.cause.later);
-      output = omega (arith, c.loop-line.invariant.output, c.play_line.ensures.cause.later);
+      input = c.in-Ok.ensures.cause.uncounted (λ failed. cc) ∙ c.loop-line.invariant.input;
+      output = c.in_default.ensures.cause.uncounted (λ failed. cc) ∙ c.loop-line.invariant.output;
     }

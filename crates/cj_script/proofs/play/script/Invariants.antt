@@ -13,8 +13,8 @@ invariant-loop-line g l =
       numbers : l.number + length l.lines.rest ≤ l.lines.taken;
       counting : Counting (length l.lines.rest) l.lines.taken l.world;
       backends : length l.names ≡ l.world.core.placement.backends;
-      input : g.I.Source.faults l.fn.input ≤ g.I.Source.faults l.input;
-      output : g.O.Sink.faults l.fn.output ≤ g.O.Sink.faults l.output;
+      input : g.I.Source.faults l.input ≡ g.I.Source.faults l.fn.input;
+      output : g.O.Sink.faults l.output ≡ g.O.Sink.faults l.fn.output;
     }
 
 abbrev pub decreases-loop-line : goal.decreases-loop-line

@@ -1,18 +1,14 @@
-use Rattle.std.proofs.Common.{sym, ◌∙◌, arith, refl}
+use Rattle.std.proofs.Common.{sym, ◌∙◌, inr}
 use Rattle.std.proofs.lemmas.Result.{err_from_is_err_and}
-use Rattle.cj_model.specs.Session.{fresh, limited}
-use Rattle.cj_top.proofs.Answering.{answering_more, answering_cut, answering_none, answering_starved}
+use Rattle.cj_model.specs.Session.{limited}
+use Rattle.cj_top.proofs.Answering.{answering_more, answering_cut, answering_starved}
 use Rattle.cj_top.proofs.session.answer_all.Goals as goal
-
-pub returns-in_default-clause-answers : goal.returns-in_default-clause-answers
-returns-in_default-clause-answers g c =
-    let held = g.O.Sink.held c.args.output.now in
-    answering_starved held held c.args.messages.now 0 fresh (answering_none held c.args.messages.now fresh refl)
 
 pub returns-in_default-answer-clause-answers : goal.returns-in_default-answer-clause-answers
 returns-in_default-answer-clause-answers g c =
     let held = g.O.Sink.held in
-    answering_starved (held c.args.output.now) (held c.loop-message.output) c.args.messages.now c.loop-message.message-index c.loop-message.session c.loop-message.invariant.answers
+    inr (answering_starved (held c.args.output.now) (held c.loop-message.output) c.args.messages.now c.loop-message.message-index c.message-item.result c.loop-message.session
+    c.loop-message-test.true c.message-item.is (sym c.is_quit.ensures ∙ c.if-is_quit.false) c.loop-message.invariant.answers)
 
 pub returns-in_err-send-clause-answers : goal.returns-in_err-send-clause-answers
 returns-in_err-send-clause-answers g c =
@@ -29,5 +25,5 @@ loop-message-preserved g c =
       answers = answering_more (held c.args.output.now) (held c.loop-message.output) (held c.send.new.output) c.args.messages.now c.loop-message.message-index c.message-item.result
           c.loop-message.session c.in-Ok-answer.after (limited c.in-Ok-answer.reply) c.loop-message-test.true c.message-item.is (sym c.is_quit.ensures ∙ c.if-is_quit.false)
           c.loop-message.invariant.answers c.in-Ok-answer.ensures.exchange c.in_ok-send.ensures.bytes;
-      later = omega (arith, c.in_ok-send.ensures.cause.later, c.loop-message.invariant.later);
+      faults = c.in_ok-send.ensures.cause.uncounted (λ failed. cc) ∙ c.loop-message.invariant.faults;
     }
