@@ -1,5 +1,5 @@
 -- A book with one more event.
-use Rattle.std.proofs.Common.{◌≡◌, ◌≢◌, ℕ, ◌+◌, ◌-◌, ◌*◌, ◌^◌, ◌%◌, ◌<◌, ◌≤◌, ◌==◌, ◌&&◌, ◌||◌, not, true, false, List, [], ◌∷◌, ◌++◌, length, get_or, slice_get, option_and_then, Option, None, Some, bit_and, bit_or, refl, ap, sym, ◌∙◌, arith, length-append, ⊎_elim}
+use Rattle.std.proofs.Common.{◌≡◌, ◌≢◌, Bool, ℕ, ◌+◌, ◌-◌, ◌*◌, ◌^◌, ◌%◌, ◌<◌, ◌≤◌, ◌==◌, ◌&&◌, ◌||◌, not, true, false, List, [], ◌∷◌, ◌++◌, length, get_or, slice_get, option_and_then, Option, None, Some, bit_and, bit_or, refl, ap, sym, ◌∙◌, arith, length-append, ⊎_elim}
 use Rattle.std.proofs.lemmas.Bool.{cases_eq, eqb-true, eqb-false, and_parts, or_cases}
 use Rattle.std.proofs.lemmas.List.{get_or_append_left}
 use Rattle.std.proofs.lemmas.Option.{slice_get_cases, slice_get_past, slice_get-get_or, option_and_then_some}
@@ -61,9 +61,9 @@ entries_sched h places entries new as_many have i =
 
 -- ---- a book with one more event
 
-module _ (n : ℕ) (h : List Event) (places : List ℕ) (count on cap : ℕ) (k : Keeps n h places count on cap) where
+module _ (n : ℕ) (h : List Event) (places : List ℕ) (count on cap : ℕ) (has_spare : Bool) (k : Keeps n h places count on cap has_spare) where
   -- an entry that is scheduled
-  pub keeps_sched : (e : Entry) (cap' : ℕ) → free h ≡ true → 3 ≤ room h → length (h ++ Sched e ∷ []) + 1 ≤ cap' → Keeps n (h ++ Sched e ∷ []) (places ++ length h ∷ []) count on cap'
+  pub keeps_sched : (e : Entry) (cap' : ℕ) → free h ≡ true → 3 ≤ room h → length (h ++ Sched e ∷ []) + 1 ≤ cap' → Keeps n (h ++ Sched e ∷ []) (places ++ length h ∷ []) count on cap' false
   keeps_sched e cap' fr space spare =
       let at_end : done h ≡ length (log h) = eqb-true _ _ fr in
       let entries : log (h ++ Sched e ∷ []) ≡ log h ++ e ∷ [] = log-sched h e in
@@ -83,11 +83,12 @@ module _ (n : ℕ) (h : List Event) (places : List ℕ) (count on cap : ℕ) (k 
         below = λ b is. k.below b (sym (same b) ∙ is);
         short = omega arith;
         spare = omega arith;
+        more = λ is. absurd (cc is);
       }
 
   -- an event that leaves the log and the ends as they are
   keeps_same : (new : Event) (on' cap' : ℕ) → scheduled new ≡ None → is_ended new ≡ false → 0 < room h → ((b : ℕ) → has on' b ≡ enabled (h ++ new ∷ []) b)
-      → ((b : ℕ) → enabled (h ++ new ∷ []) b ≡ true → b < n) → length (h ++ new ∷ []) + 1 ≤ cap' → Keeps n (h ++ new ∷ []) places count on' cap'
+      → ((b : ℕ) → enabled (h ++ new ∷ []) b ≡ true → b < n) → length (h ++ new ∷ []) + 1 ≤ cap' → Keeps n (h ++ new ∷ []) places count on' cap' false
   keeps_same new on' cap' no_entry no_end space mask below spare =
       let entries : log (h ++ new ∷ []) ≡ log h = log-same h new no_entry in
       let as_many : length (log (h ++ new ∷ [])) ≡ length (log h) = ap length entries in
@@ -105,11 +106,12 @@ module _ (n : ℕ) (h : List Event) (places : List ℕ) (count on cap : ℕ) (k 
         below = below;
         short = omega arith;
         spare = omega arith;
+        more = λ is. absurd (cc is);
       }
 
   -- the end of the open entry
   pub keeps_ended : (f s cap' : ℕ) → on < 2 ^ 32 → f < 2 ^ 32 → s < 2 ^ 32 → free h ≡ false → cap ≤ cap'
-      → Keeps n (h ++ Ended f s ∷ []) places (count + 1) (bit_and on (4294967295 - bit_or f s)) cap'
+      → Keeps n (h ++ Ended f s ∷ []) places (count + 1) (bit_and on (4294967295 - bit_or f s)) cap' false
   keeps_ended f s cap' fits p q fr more =
       let entries : log (h ++ Ended f s ∷ []) ≡ log h = log-same h (Ended f s) refl in
       let as_many : length (log (h ++ Ended f s ∷ [])) ≡ length (log h) = ap length entries in
@@ -131,10 +133,11 @@ module _ (n : ℕ) (h : List Event) (places : List ℕ) (count on cap : ℕ) (k 
         below = λ b is. k.below b (and_parts (enabled h b) (not (has f b || has s b)) (sym (enabled-push h (Ended f s) b) ∙ is)).0;
         short = omega arith;
         spare = omega arith;
+        more = λ is. absurd (cc is);
       }
 
   -- a backend is disabled
-  pub keeps_disabled : (b cap' : ℕ) → on < 2 ^ 32 → b < n → 0 < room h → length (h ++ Disabled b ∷ []) + 1 ≤ cap' → Keeps n (h ++ Disabled b ∷ []) places count (bit_and on (4294967295 - 1 * 2 ^ b % 4294967296)) cap'
+  pub keeps_disabled : (b cap' : ℕ) → on < 2 ^ 32 → b < n → 0 < room h → length (h ++ Disabled b ∷ []) + 1 ≤ cap' → Keeps n (h ++ Disabled b ∷ []) places count (bit_and on (4294967295 - 1 * 2 ^ b % 4294967296)) cap' false
   keeps_disabled b cap' fits lt space spare =
       let few : n ≤ 16 = k.backend_count.1 in
       keeps_same (Disabled b) (bit_and on (4294967295 - 1 * 2 ^ b % 4294967296)) cap' refl refl space
@@ -143,7 +146,7 @@ module _ (n : ℕ) (h : List Event) (places : List ℕ) (count on cap : ℕ) (k 
       spare
 
   -- a backend is enabled
-  pub keeps_enabled : (b cap' : ℕ) → b < n → 0 < room h → length (h ++ Enabled b ∷ []) + 1 ≤ cap' → Keeps n (h ++ Enabled b ∷ []) places count (bit_or on (1 * 2 ^ b % 4294967296)) cap'
+  pub keeps_enabled : (b cap' : ℕ) → b < n → 0 < room h → length (h ++ Enabled b ∷ []) + 1 ≤ cap' → Keeps n (h ++ Enabled b ∷ []) places count (bit_or on (1 * 2 ^ b % 4294967296)) cap' false
   keeps_enabled b cap' lt space spare =
       let few : n ≤ 16 = k.backend_count.1 in
       keeps_same (Enabled b) (bit_or on (1 * 2 ^ b % 4294967296)) cap' refl refl space
@@ -156,7 +159,7 @@ module _ (n : ℕ) (h : List Event) (places : List ℕ) (count on cap : ℕ) (k 
       spare
 
   -- a read failed
-  pub keeps_read_failed : (s q b cap' : ℕ) → 0 < room h → length (h ++ ReadFailed s q b ∷ []) + 1 ≤ cap' → Keeps n (h ++ ReadFailed s q b ∷ []) places count on cap'
+  pub keeps_read_failed : (s q b cap' : ℕ) → 0 < room h → length (h ++ ReadFailed s q b ∷ []) + 1 ≤ cap' → Keeps n (h ++ ReadFailed s q b ∷ []) places count on cap' false
   keeps_read_failed s q b cap' space spare =
       let same : (x : ℕ) → enabled (h ++ ReadFailed s q b ∷ []) x ≡ enabled h x = λ x. enabled-push h (ReadFailed s q b) x in
       keeps_same (ReadFailed s q b) on cap' refl refl space (λ x. k.mask x ∙ sym (same x)) (λ x is. k.below x (sym (same x) ∙ is)) spare

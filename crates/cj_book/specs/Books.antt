@@ -1,6 +1,6 @@
 -- What contracts see of a book, and when an event can't come into it.
-use Rattle.std.specs.Prelude.{◌≡◌, ◌↔◌, ℕ, ◌<◌, ◌≤◌, true, false, List, [], ◌∷◌, ◌++◌, length, Some, Result, Ok, Err, refl}
-use Rattle.std.specs.Coded.{Coded, code_by, coded×, coded_list, coded_ℕ}
+use Rattle.std.specs.Prelude.{◌≡◌, ◌↔◌, ℕ, ◌<◌, ◌≤◌, Bool, true, false, List, [], ◌∷◌, ◌++◌, length, Some, Result, Ok, Err, refl}
+use Rattle.std.specs.Coded.{Coded, code_by, coded×, coded_bool, coded_list, coded_ℕ}
 use Rattle.cj_model.specs.declared.request.Act.{Act}
 use Rattle.cj_model.specs.declared.request.Entry.{Entry}
 use Rattle.cj_model.specs.declared.event.Event.{Event}
@@ -13,19 +13,20 @@ use Rattle.cj_model.specs.Sound.{IsLone}
 use Rattle.cj_book.specs.declared.error.BookError.{BookError}
 use Rattle.cj_book.specs.declared.error.BookError.TheVariants.{InProgress, NoBackend, HistoryFull, NoMemory}
 
--- a history, and the number of the backends
+-- a history, the number of the backends, and whether memory was taken for an event that may come
 pub record BookState : Type 0 where
   pub backends : ℕ
   pub history : List Event
+  pub has_spare : Bool
 
 -- a book is stored as the pair of its fields
 abbrev pub book_code : Coded BookState
 book_code =
-    code_by (ℕ × List Event) (coded× coded_ℕ (coded_list event_type.the_row.coded)) (λ b. (b.backends, b.history)) (λ p. record { backends = p.0; history = p.1 }) (λ _. refl)
+    code_by (ℕ × (List Event × Bool)) (coded× coded_ℕ (coded× (coded_list event_type.the_row.coded) coded_bool)) (λ b. (b.backends, (b.history, b.has_spare))) (λ p. record { backends = p.0; history = p.1.0; has_spare = p.1.1 }) (λ _. refl)
 
--- the book with one more event
+-- the book with one more event, which may have had the memory that was taken
 abbrev pub with_event : BookState → Event → BookState
-with_event b e = record b { history = b.history ++ e ∷ [] }
+with_event b e = record b { history = b.history ++ e ∷ []; has_spare = false }
 
 -- the mask has the targets of the open entry, where that is outside a transaction
 abbrev pub HasTargets : ℕ → BookState → Type 0

@@ -1,5 +1,5 @@
 -- What a book keeps of its history.
-use Rattle.std.specs.Prelude.{◌≡◌, ℕ, ◌+◌, ◌-◌, ◌*◌, ◌^◌, ◌<◌, ◌≤◌, true, List, length, slice_get}
+use Rattle.std.specs.Prelude.{◌≡◌, ℕ, ◌+◌, ◌-◌, ◌*◌, ◌^◌, ◌<◌, ◌≤◌, Bool, true, List, length, slice_get}
 use Rattle.std.specs.declared.option.Option.{Option}
 use Rattle.std.specs.Option.{option_and_then}
 use Rattle.cj_model.specs.declared.request.Entry.{Entry}
@@ -12,7 +12,7 @@ abbrev pub entry_at : List Event → ℕ → Option Entry
 entry_at h place = option_and_then scheduled (slice_get h place)
 
 -- For so many backends and a history whose vector has this capacity: the places of its entries, how many of them ended, and the mask of the enabled backends.
-pub record Keeps (backends : ℕ) (h : List Event) (places : List ℕ) (ended on capacity : ℕ) : Type 0 where
+pub record Keeps (backends : ℕ) (h : List Event) (places : List ℕ) (ended on capacity : ℕ) (has_spare : Bool) : Type 0 where
   pub backend_count : (0 < backends) × (backends ≤ BACKEND_LIMIT)
   pub entry_count : length places ≡ length (log h)
   pub entries : (i : ℕ) → option_and_then (entry_at h) (slice_get places i) ≡ slice_get (log h) i
@@ -23,3 +23,5 @@ pub record Keeps (backends : ℕ) (h : List Event) (places : List ℕ) (ended on
   -- the history has room for the end of an open entry, and so has its vector
   pub short : length h + 2 * (length (log h) - done h) ≤ 2 ^ 62
   pub spare : length h + (length (log h) - done h) ≤ capacity
+  -- and where memory was taken, for one event more and an end
+  pub more : has_spare ≡ true → length h + 2 ≤ capacity

@@ -41,6 +41,8 @@ pub struct Book {
     done: usize,
     /// The mask of the enabled backends.
     enabled: u32,
+    /// Whether memory was taken for an event that may come.
+    has_spare: bool,
 }
 
 impl Model for Book {
@@ -52,10 +54,10 @@ impl Model for Book {
 
     ghost coded = { book_code };
 
-    ghost view = { λ book. record { backends = book.backends; history = book.history.items } };
+    ghost view = { λ book. record { backends = book.backends; history = book.history.items; has_spare = book.has_spare } };
 
     ghost invariant = { λ book. Keeps book.backends book.history.items book.scheduled.items book.done book.enabled
-        (vec_capacity book.history) };
+        (vec_capacity book.history) book.has_spare };
 }
 
 fn entry_at(history: &[Event], place: usize) -> Option<&Entry>
@@ -80,6 +82,7 @@ fn append(history: &mut Vec<Event>, event: Event) -> Result<(), BookError>
     ensures err { OnErr result (history.new.items ≡ history.old.items) }
     ensures capacity { vec_capacity history.old ≤ vec_capacity history.new }
     ensures cause { OnErr result (result ≡ Err BookError.NoMemory) }
+    ensures room { OnErr result (vec_capacity history.old < length history.old.items + 2) }
 {
     history.reserve(2)?;
     history.push_reserved(event);
@@ -91,7 +94,7 @@ impl Book {
     pub fn new(alloc: Global, parts: BookParts) -> Result<Book, NoMemory>
         requires some { 0 < parts.backends }
         requires few { parts.backends ≤ BACKEND_LIMIT }
-        ensures { IfOk result (λ book. book ≡ record { backends = parts.backends; history = [] }) }
+        ensures { IfOk result (λ book. book ≡ record { backends = parts.backends; history = []; has_spare = false }) }
     {
         Ok(Book {
             backends: parts.backends,
@@ -99,6 +102,7 @@ impl Book {
             scheduled: Vec::new(alloc),
             done: 0,
             enabled: 0,
+            has_spare: false,
         })
     }
 
@@ -248,6 +252,7 @@ impl Book {
         let place = self.history.len();
         append(&mut self.history, Event::Sched(e))?;
         self.scheduled.push_reserved(place);
+        self.has_spare = false;
         Ok(self.length())
     }
 
@@ -259,6 +264,7 @@ impl Book {
         self.history.push_reserved(Event::Ended { failed, starved });
         self.done += 1;
         self.enabled &= !(failed | starved);
+        self.has_spare = false;
     }
 
     /// Disables a backend that is enabled, while no entry is open.
@@ -275,6 +281,7 @@ impl Book {
         self.check_room()?;
         append(&mut self.history, Event::Disabled { b })?;
         self.enabled &= !(1 << b);
+        self.has_spare = false;
         Ok(())
     }
 
@@ -292,19 +299,34 @@ impl Book {
         self.check_room()?;
         append(&mut self.history, Event::Enabled { b })?;
         self.enabled |= 1 << b;
+        self.has_spare = false;
         Ok(())
     }
 
-    /// A backend failed in a session's read, also while an entry is open.
+    /// Takes the memory for one event more, so that the next may come without want of memory.
+    pub fn take_spare(&mut self) -> Result<(), NoMemory>
+        ensures ok { OnOk result (self.new ≡ record self.old { has_spare = true }) }
+        ensures err { OnErr result (self.new ≡ self.old) }
+    {
+        if self.history.reserve(2).is_err() {
+            return Err(NoMemory);
+        }
+        self.has_spare = true;
+        Ok(())
+    }
+
+    /// A backend failed in a session's read, also while an entry is open. It takes no memory where that was taken before.
     pub fn read_failed(&mut self, session: u64, seq: u64, b: u8) -> Result<(), BookError>
         ensures ok { OnOk result (self.new ≡ with_event self.old (Event.ReadFailed session seq b)) }
         ensures space { OnOk result (0 < histories.room self.old.history) }
         ensures full { (n : ℕ) → IsErrOf result (BookError.HistoryFull n) ↔ IsFull self.old n }
         ensures want { IfErr result IsWant }
+        ensures spare { self.old.has_spare ≡ true → ¬ IsErrOf result BookError.NoMemory }
         ensures err { OnErr result (self.new ≡ self.old) }
     {
         self.check_room()?;
         append(&mut self.history, Event::ReadFailed { session, seq, b })?;
+        self.has_spare = false;
         Ok(())
     }
 }

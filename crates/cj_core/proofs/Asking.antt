@@ -1,25 +1,31 @@
 -- What a world keeps where a backend is asked, and what it answers.
-use Rattle.std.proofs.Common.{◌≡◌, ℕ, ◌<◌, ◌≤◌, Bool, true, List, length, map, get_or, set, Option, None, Some, IfSome, Result, Ok, Err, IfOk, refl, ap, sym, ◌∙◌, subst}
-use Rattle.std.specs.Prelude.{◌↔◌}
+use Rattle.std.proofs.Common.{◌≡◌, ℕ, ◌<◌, ◌≤◌, Bool, true, false, cond, List, [], ◌∷◌, ◌++◌, length, map, get_or, set, Option, None, Some, IfSome, Result, Ok, Err, IfOk, refl, ap, sym, ◌∙◌, subst, arith, ⊎_elim}
+use Rattle.std.specs.Prelude.{◌↔◌, IsErrOf}
 use Rattle.std.proofs.lemmas.List.{length-map, map-set, set-get_or}
 use Rattle.cj_model.specs.declared.database.Slot.{Slot}
 use Rattle.cj_model.specs.declared.select.Select.{Select}
 use Rattle.cj_model.specs.declared.answer.Asked.{Asked}
 use Rattle.cj_model.specs.declared.answer.Outcome.{Outcome}
 use Rattle.cj_model.specs.declared.event.Event.{Event}
+use Rattle.cj_model.specs.declared.event.Event.TheVariants.{ReadFailed}
 use Rattle.cj_model.specs.declared.moves.OpenSession.{OpenSession}
 use Rattle.cj_model.specs.Queries.{ask}
 use Rattle.cj_model.specs.Placements.{everywhere}
-use Rattle.cj_model.specs.Histories.{log, at}
+use Rattle.cj_model.specs.Histories.{log, room, at}
 use Rattle.cj_model.specs.Cores.{position_at, session_at}
+use Rattle.cj_model.specs.Moves.{read_number}
 use Rattle.cj_model.specs.Sound.{IsSound, Holds}
 use Rattle.cj_model.proofs.Soundness.{no_tx}
+use Rattle.cj_outside.specs.Causes.{CountsFault, next}
+use Rattle.cj_book.specs.Books.{BookState, with_event, IsFull}
 use Rattle.cj_backend.specs.Backends.{IsAsked}
 use Rattle.cj_replica.specs.declared.cell.CellReadError.{CellReadError}
 use Rattle.cj_replica.specs.declared.cell.CellReadError.TheVariants as errors
 use Rattle.cj_replica.specs.Cells.{CellState, SaysAnswer}
 use Rattle.cj_core.specs.Worlds.{core_of, world_of, IsCell}
-use Rattle.cj_core.specs.Effects.{Asks}
+use Rattle.cj_core.specs.declared.cells.AskError.{AskError}
+use Rattle.cj_core.specs.declared.cells.AskError.TheVariants as ask_errors
+use Rattle.cj_core.specs.Effects.{Asks, Notes, asked_core, failed_asked}
 use Rattle.cj_core.specs.Kept.{Kept}
 use Rattle.cj_core.proofs.Keeping.{position_of, position_within, cells_set}
 use Rattle.cj_core.proofs.Catching.{part_all}
@@ -70,9 +76,8 @@ module _ (tells : Bool) (n : ℕ) (h : List Event) (cells : List CellState) (f s
         let below : b < n = subst (λ (m : ℕ). b < m) kept.world.sound.cells (subst (λ (m : ℕ). b < m) (sym (length-map cells (λ (z : CellState). z.position))) lt) in
         subst (λ (q : Option ℕ). Holds tells (everywhere n) b (log h) x.told q) is cell.holds on ∙ ap (λ db. Some db) (part_all n b (at (log h) p) below)
 
-    pub asks : (r : Result (Asked × ℕ) CellReadError) → ((r ≡ Err errors.Out) ↔ (x.position ≡ None)) → ((p : ℕ) → (r ≡ Err (errors.Behind p)) ↔ ((x.position ≡ Some p) × (p < least)))
-        → IfOk r (λ q. SaysAnswer x.told 0 select q.0) → IfOk r (λ q. IsAsked q.0) → IfOk r (λ q. x.position ≡ Some q.1) → IfOk r (λ q. least ≤ q.1) → Asks tells (core_of n h cells f s ss g) number b select r
-    asks (Ok (answer, p)) out behind says possible position owed = (
+    pub answers : (answer : Asked) (p : ℕ) → SaysAnswer x.told 0 select answer → IsAsked answer → x.position ≡ Some p → least ≤ p → Asks tells (core_of n h cells f s ss g) number b select (Ok (answer, p))
+    answers answer p says possible position owed = (
       place ∙ position,
       subst (λ (m : ℕ). m ≤ p) is_least owed,
       position_within (core_of n h cells f s ss g) kept.world.sound b p (place ∙ position),
@@ -81,8 +86,75 @@ module _ (tells : Bool) (n : ℕ) (h : List Event) (cells : List CellState) (f s
           let a : answer ≡ ask (at (log h) p) 0 select = subst (λ (t : Option (List Slot)). IfSome t (λ db. answer ≡ ask db 0 select)) (told p position on) says in
           a ∙ ap (λ tx. ask (at (log h) p) tx select) (sym (no_tx (core_of n h cells f s ss g) number kept.world.sound)),
     )
-    asks (Err errors.Out) out behind says possible position owed = place ∙ out.0 refl
-    asks (Err (errors.Behind p)) out behind says possible position owed =
-        let q = (behind p).0 refl in (place ∙ q.0, subst (λ (m : ℕ). p < m) is_least q.1)
-    asks (Err errors.Failed) out behind says possible position owed = tt
-    asks (Err errors.NoMemory) out behind says possible position owed = tt
+
+    -- or why it did not
+    pub errs : (old new : BookState) (q : ℕ) (d : CellReadError) (e : AskError) → old.history ≡ h → Notes old number q b d e new → (IsErrOf {T = Asked × ℕ} (Err d) errors.Out ↔ (x.position ≡ None))
+        → ((p : ℕ) → IsErrOf {T = Asked × ℕ} (Err d) (errors.Behind p) ↔ ((x.position ≡ Some p) × (p < least))) → Asks tells (core_of n h cells f s ss g) number b select (Err e)
+    errs old new q errors.Out e is notes out behind = subst (λ (d : AskError). Asks tells (core_of n h cells f s ss g) number b select (Err d)) (sym notes.0) (place ∙ out.0 refl)
+    errs old new q (errors.Behind p) e is notes out behind =
+        let early = (behind p).0 refl in
+        subst (λ (d : AskError). Asks tells (core_of n h cells f s ss g) number b select (Err d)) (sym notes.0) (place ∙ early.0, subst (λ (m : ℕ). p < m) is_least early.1)
+    errs old new q errors.NoMemory e is notes out behind = subst (λ (d : AskError). Asks tells (core_of n h cells f s ss g) number b select (Err d)) (sym notes.0) tt
+    errs old new q errors.Failed e is notes out behind =
+        ⊎_elim
+        (λ (came : (e ≡ ask_errors.Failed) × (0 < room old.history) × (new ≡ with_event old (ReadFailed number q b))).
+        subst (λ (d : AskError). Asks tells (core_of n h cells f s ss g) number b select (Err d)) (sym came.0) (subst (λ (l : List Event). 0 < room l) is came.1))
+        (λ (full : (k : ℕ) × (e ≡ ask_errors.Unnoted k) × IsFull old k × (new ≡ old)).
+        let none : room old.history < 1 = full.2.full in
+        let no_room : room old.history ≡ 0 = omega arith in
+        subst (λ (d : AskError). Asks tells (core_of n h cells f s ss g) number b select (Err d)) (sym full.1)
+        (subst (λ (l : List Event). (room l ≡ 0) × (full.0 ≡ length l)) is (no_room, full.2.events)))
+        notes
+
+-- ---- what becomes of the book
+
+-- what holds with and without an event of the failure holds then
+pub noting : (Q : BookState → Type 0) (old new : BookState) (s q b : ℕ) (d : CellReadError) (e : AskError) → Notes old s q b d e new → Q old → (0 < room old.history → Q (with_event old (ReadFailed s q b))) → Q new
+noting Q old new s q b errors.Out e notes same came = subst Q (sym notes.1) same
+noting Q old new s q b (errors.Behind p) e notes same came = subst Q (sym notes.1) same
+noting Q old new s q b errors.NoMemory e notes same came = subst Q (sym notes.1) same
+noting Q old new s q b errors.Failed e notes same came =
+    ⊎_elim
+    (λ (one : (e ≡ ask_errors.Failed) × (0 < room old.history) × (new ≡ with_event old (ReadFailed s q b))). subst Q (sym one.2) (came one.1))
+    (λ (full : (k : ℕ) × (e ≡ ask_errors.Unnoted k) × IsFull old k × (new ≡ old)). subst Q (sym full.3) same)
+    notes
+
+-- and of the core
+pub noted_core : (cells : List CellState) (f t : ℕ) (ss : List OpenSession) (g : ℕ) (old new : BookState) (s q b : ℕ) (d : CellReadError) (e : AskError)
+    → q ≡ read_number (session_at (core_of old.backends old.history cells f t ss g) s) → Notes old s q b d e new
+    → core_of new.backends new.history cells f t ss g ≡ asked_core (core_of old.backends old.history cells f t ss g) s b (Err e)
+noted_core cells f t ss g old new s q b errors.Out e number notes = rw (notes.0, notes.1) refl
+noted_core cells f t ss g old new s q b (errors.Behind p) e number notes = rw (notes.0, notes.1) refl
+noted_core cells f t ss g old new s q b errors.NoMemory e number notes = rw (notes.0, notes.1) refl
+noted_core cells f t ss g old new s q b errors.Failed e number notes =
+    ⊎_elim
+    (λ (one : (e ≡ ask_errors.Failed) × (0 < room old.history) × (new ≡ with_event old (ReadFailed s q b))).
+    rw (one.0, one.2) (ap (λ (m : ℕ). core_of old.backends (old.history ++ ReadFailed s m b ∷ []) cells f t ss g) number))
+    (λ (full : (k : ℕ) × (e ≡ ask_errors.Unnoted k) × IsFull old k × (new ≡ old)). rw (full.1, full.3) refl)
+    notes
+
+-- whose fault was counted
+pub noted_fault : (old new : BookState) (s q b : ℕ) (d : CellReadError) (e : AskError) (before now : ℕ) → Notes old s q b d e new → CountsFault (IsErrOf {T = Asked × ℕ} (Err d) errors.Failed) before now
+    → (failed : Bool) × (failed_asked b (Err e) ≡ cond failed (Some b) None) × (now ≡ cond failed (next before) before)
+noted_fault old new s q b errors.Out e before now notes cause = (false, rw notes.0 refl, cause.uncounted (λ is. cc is))
+noted_fault old new s q b (errors.Behind p) e before now notes cause = (false, rw notes.0 refl, cause.uncounted (λ is. cc is))
+noted_fault old new s q b errors.NoMemory e before now notes cause = (false, rw notes.0 refl, cause.uncounted (λ is. cc is))
+noted_fault old new s q b errors.Failed e before now notes cause = (
+  true,
+  ⊎_elim
+      (λ (one : (e ≡ ask_errors.Failed) × (0 < room old.history) × (new ≡ with_event old (ReadFailed s q b))). rw one.0 refl)
+      (λ (full : (k : ℕ) × (e ≡ ask_errors.Unnoted k) × IsFull old k × (new ≡ old)). rw full.1 refl)
+      notes,
+  cause.counted refl,
+)
+
+-- want of memory is the cell's alone
+pub noted_want : (old new : BookState) (s q b : ℕ) (d : CellReadError) (e : AskError) → Notes old s q b d e new → e ≡ ask_errors.NoMemory → (d ≡ errors.NoMemory) × (new ≡ old)
+noted_want old new s q b errors.Out e notes is = absurd (cc (notes.0, is))
+noted_want old new s q b (errors.Behind p) e notes is = absurd (cc (notes.0, is))
+noted_want old new s q b errors.NoMemory e notes is = (refl, notes.1)
+noted_want old new s q b errors.Failed e notes is =
+    ⊎_elim
+    (λ (one : (e ≡ ask_errors.Failed) × (0 < room old.history) × (new ≡ with_event old (ReadFailed s q b))). absurd (cc (one.0, is)))
+    (λ (full : (k : ℕ) × (e ≡ ask_errors.Unnoted k) × IsFull old k × (new ≡ old)). absurd (cc (full.1, is)))
+    notes

@@ -1,10 +1,10 @@
 -- What a cell that takes its next entry makes of the cells.
-use Rattle.std.proofs.Common.{◌≡◌, ◌≢◌, ℕ, suc, ◌+◌, ◌<◌, ◌≤◌, not, Bool, true, List, [], ◌∷◌, length, map, take, get_or, set, slice_get, All, Option, Some, option_map, IfSome, Result, Ok, Err, refl, ap, sym, ◌∙◌, subst, arith}
+use Rattle.std.proofs.Common.{◌≡◌, ◌≢◌, ℕ, suc, ◌+◌, ◌<◌, ◌≤◌, not, Bool, true, cond, List, [], ◌∷◌, length, map, take, get_or, set, slice_get, All, Option, Some, option_map, IfSome, Result, Ok, Err, refl, ap, sym, ◌∙◌, subst, arith}
 use Rattle.std.proofs.lemmas.Bool.{both_ways}
 use Rattle.std.proofs.lemmas.List.{get_or_default, length-map}
 use Rattle.std.proofs.lemmas.List.Elements.{All-nil, All-cons}
 use Rattle.std.proofs.lemmas.Option.{slice_get_within, get_or_from_slice_get}
-use Rattle.cj_outside.specs.Causes.{Rose}
+use Rattle.cj_outside.specs.Causes.{next}
 use Rattle.cj_model.specs.declared.database.Slot.{Slot}
 use Rattle.cj_model.specs.declared.request.Entry.{Entry}
 use Rattle.cj_model.specs.declared.answer.Outcome.{Outcome}
@@ -29,6 +29,7 @@ use Rattle.cj_replica.specs.declared.cell.CellError.{CellError}
 use Rattle.cj_replica.specs.declared.cell.CellError.TheVariants as errors
 use Rattle.cj_replica.specs.Cells.{CellState, HasCellCause, SaysOutcome, is_concerned, is_skipped, told_after, position_after}
 use Rattle.cj_core.specs.Worlds.{core_of, world_of, IsCell}
+use Rattle.cj_core.specs.Counting.{did_fail}
 use Rattle.cj_core.specs.Kept.{Kept}
 use Rattle.cj_core.specs.Taking.{CanTake, Took, did_of}
 use Rattle.cj_core.proofs.Keeping.{position_of, position_within}
@@ -104,19 +105,19 @@ module _ (tells : Bool) (n : ℕ) (h : List Event) (cells : List CellState) (b :
   does_now (Err errors.Failed) skipped says is f s ss g = is
   does_now (Err errors.Starved) skipped says is f s ss g = is
 
-  failed_of : (r : Result Caught CellError) → did_of r ≡ did.Failed → r ≡ Err errors.Failed
-  failed_of (Ok caught.Skipped) is = absurd (cc is)
-  failed_of (Ok (caught.Did o)) is = absurd (cc is)
-  failed_of (Err errors.Failed) is = refl
-  failed_of (Err errors.Starved) is = absurd (cc is)
+  counted : (r : Result Caught CellError) → HasCellCause x.faults y.faults r → y.faults ≡ cond (did_fail (did_of r)) (next x.faults) x.faults
+  counted (Ok caught.Skipped) cause = cause.uncounted (λ is. cc is)
+  counted (Ok (caught.Did o)) cause = cause.uncounted (λ is. cc is)
+  counted (Err errors.Failed) cause = cause.counted refl
+  counted (Err errors.Starved) cause = cause.uncounted (λ is. cc is)
 
   same_cell : get_or cells b y ≡ x
   same_cell = get_or_default cells b y x can.within ∙ sym there
 
-  pub took : (r : Result Caught CellError) (next : ℕ) (now : List CellState) → next ≡ can.p + 1 → now ≡ set cells b y → is_concerned x e ≡ not (is_skipped r) → SaysOutcome x.told e r
-      → HasCellCause x.faults y.faults r → y.told ≡ told_after x.told e r → y.position ≡ position_after next r → Took tells n h cells b (did_of r) now
-  took r next now is_next is_set skipped says cause told position =
-      let place : y.position ≡ position_after (can.p + 1) r = position ∙ ap (λ m. position_after m r) is_next in
+  pub took : (r : Result Caught CellError) (m : ℕ) (now : List CellState) → m ≡ can.p + 1 → now ≡ set cells b y → is_concerned x e ≡ not (is_skipped r) → SaysOutcome x.told e r
+      → HasCellCause x.faults y.faults r → y.told ≡ told_after x.told e r → y.position ≡ position_after m r → Took tells n h cells b (did_of r) now
+  took r m now is_next is_set skipped says cause told position =
+      let place : y.position ≡ position_after (can.p + 1) r = position ∙ ap (λ k. position_after k r) is_next in
       record {
         cell = y;
         set = is_set;
@@ -130,8 +131,7 @@ module _ (tells : Bool) (n : ℕ) (h : List Event) (cells : List CellState) (b :
               there = entry;
               does = does_now r skipped says place f s ss g;
             };
-        later = subst (λ (z : CellState). z.faults ≤ y.faults) (sym same_cell) cause.later;
-        rose = λ is. subst (λ (z : CellState). Rose z.faults y.faults) (sym same_cell) (cause.failed (failed_of r is));
+        faults = subst (λ (z : CellState). y.faults ≡ cond (did_fail (did_of r)) (next z.faults) z.faults) (sym same_cell) (counted r cause);
       }
 
 -- ---- who can take one

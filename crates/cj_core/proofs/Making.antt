@@ -3,7 +3,6 @@ use Rattle.std.proofs.Common.{◌≡◌, ℕ, ◌+◌, ◌<◌, ◌≤◌, ◌^�
 use mathlib.Core.List.{IsPrefix}
 use Rattle.std.proofs.lemmas.List.{take_more, map_push, length-take-le}
 use Rattle.std.proofs.lemmas.List.Elements.{All-get_or, All-take}
-use Rattle.cj_outside.specs.Causes.{Rose}
 use Rattle.cj_model.specs.declared.moves.Move.{Move}
 use Rattle.cj_model.specs.declared.moves.Move.TheVariants.{Open, Close, Schedule, Apply, End, Read, Arm, Disable, Replay, Enable}
 use Rattle.cj_model.specs.declared.moves.Made.{Made}
@@ -15,51 +14,30 @@ use Rattle.cj_model.specs.Runs.{Runs, IsMove, CanCount}
 use Rattle.cj_model.proofs.Growth.{Grows, can_count, runs_push, runs_grow, runs_sound}
 use Rattle.cj_model.proofs.Chains.{run_chained}
 use Rattle.cj_core.specs.Worlds.{WorldState, IsWorld}
-use Rattle.cj_core.specs.Counting.{HasCauses, faults_at, blamed}
+use Rattle.cj_core.specs.Counting.{HasCauses, faults_of, faults_after, blamed}
 use Rattle.cj_core.specs.Steps.{CanAsk, IsMet}
-use Rattle.cj_core.specs.Played.{given_of, HaveCauses, HasRun, HasRunInPart}
-
--- no count has fallen
-abbrev pub AreLater : WorldState → WorldState → Type 0
-AreLater old new = (b : ℕ) → faults_at old b ≤ faults_at new b
+use Rattle.cj_core.specs.Played.{given_of, faults_over, HaveCauses, HasRun, HasRunInPart}
 
 -- the first n moves were made, with what each came to
 pub record Making (tells : Bool) (old : WorldState) (moves : List Move) (n : ℕ) (came : List Made) (now : WorldState) : Type 0 where
   pub runs : Runs tells old.core (take n moves) (map given_of came) now.core
   pub causes : HaveCauses old now (take n moves) (map given_of came)
-  pub later : AreLater old now
 
 -- ---- causes
 
--- they stand as counts go on
-causes_later : (old mid new : WorldState) (ms : List Move) (gs : List Given) → AreLater mid new → HaveCauses old mid ms gs → HaveCauses old new ms gs
-causes_later old mid new [] [] later h = tt
-causes_later old mid new (m ∷ ms) (g ∷ gs) later h = (λ b is. (let rose : Rose (faults_at old b) (faults_at mid b) = h.0 b is in let le = later b in omega arith), causes_later old mid new ms gs later h.1)
-causes_later old mid new [] (g ∷ gs) later h = absurd h
-causes_later old mid new (m ∷ ms) [] later h = absurd h
-
--- and one move more has its own
-causes_push : (old new : WorldState) (ms : List Move) (gs : List Given) (m : Move) (g : Given) → HaveCauses old new ms gs → ((b : ℕ) → blamed m g ≡ Some b → Rose (faults_at old b) (faults_at new b))
-    → HaveCauses old new (ms ++ m ∷ []) (gs ++ g ∷ [])
-causes_push old new [] [] m g h one = (one, tt)
-causes_push old new (n ∷ ms) (q ∷ gs) m g h one = (h.0, causes_push old new ms gs m g h.1 one)
-causes_push old new [] (q ∷ gs) m g h one = absurd h
-causes_push old new (n ∷ ms) [] m g h one = absurd h
+-- one move more is counted last
+over_push : (tells : Bool) (faults : List ℕ) (c z : Core) (ms : List Move) (gs : List Given) (m : Move) (g : Given) → Runs tells c ms gs z
+    → faults_over faults (ms ++ m ∷ []) (gs ++ g ∷ []) ≡ faults_after (faults_over faults ms gs) (blamed m g)
+over_push tells faults c z [] [] m g runs = refl
+over_push tells faults c z (n ∷ ms) (q ∷ gs) m g runs = over_push tells (faults_after faults (blamed n q)) runs.0 z ms gs m g runs.2
+over_push tells faults c z [] (q ∷ gs) m g runs = absurd runs
+over_push tells faults c z (n ∷ ms) [] m g runs = absurd runs
 
 -- ---- from move to move
 
 -- at first none was made
 pub making_none : (tells : Bool) (old : WorldState) (moves : List Move) → Making tells old moves 0 [] old
-making_none tells old moves = record { runs = refl; causes = tt; later = λ b. omega arith }
-
--- the state stayed, and counts went on
-pub making_same : (tells : Bool) (old : WorldState) (moves : List Move) (n : ℕ) (came : List Made) (mid new : WorldState) → Making tells old moves n came mid → new.core ≡ mid.core → AreLater mid new → Making tells old moves n came new
-making_same tells old moves n came mid new making same later =
-    record {
-      runs = subst (Runs tells old.core (take n moves) (map given_of came)) (sym same) making.runs;
-      causes = causes_later old mid new (take n moves) (map given_of came) later making.causes;
-      later = λ b. (let one = making.later b in let two = later b in omega arith);
-    }
+making_none tells old moves = record { runs = refl; causes = refl }
 
 -- one more was made
 pub making_more : (tells : Bool) (old : WorldState) (moves : List Move) (n : ℕ) (m : Move) (came : List Made) (mid : WorldState) (made : Made) (new : WorldState) → n < length moves → m ≡ get_or moves n m
@@ -67,14 +45,10 @@ pub making_more : (tells : Bool) (old : WorldState) (moves : List Move) (n : ℕ
 making_more tells old moves n m came mid made new lt is making moves_to has =
     let more : take (n + 1) moves ≡ take n moves ++ m ∷ [] = take_more moves n m lt ∙ ap (λ (x : Move). take n moves ++ x ∷ []) (sym is) in
     let pushed = map_push given_of came made in
-    let front = causes_later old mid new (take n moves) (map given_of came) has.later making.causes in
-    let one : (b : ℕ) → blamed m (given_of made) ≡ Some b → Rose (faults_at old b) (faults_at new b) =
-    λ b is. (let rose : Rose (faults_at mid b) (faults_at new b) = has.rose b is in let le = making.later b in omega arith)
-    in
+    let over = over_push tells (faults_of old.cells) old.core mid.core (take n moves) (map given_of came) m (given_of made) making.runs in
     record {
       runs = rw (more, pushed) (runs_push tells old.core (take n moves) (map given_of came) mid.core m (given_of made) new.core making.runs moves_to);
-      causes = rw (more, pushed) (causes_push old new (take n moves) (map given_of came) m (given_of made) front one);
-      later = λ b. (let a = making.later b in let c = has.later b in omega arith);
+      causes = rw (more, pushed) (has ∙ (ap (λ (xs : List ℕ). faults_after xs (blamed m (given_of made))) making.causes ∙ sym over));
     }
 
 -- ---- what holds on the way

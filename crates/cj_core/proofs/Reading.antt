@@ -6,16 +6,19 @@ use Rattle.cj_model.specs.declared.select.Select.{Select}
 use Rattle.cj_model.specs.declared.request.Request.TheVariants as request
 use Rattle.cj_model.specs.declared.answer.Asked.{Asked}
 use Rattle.cj_model.specs.declared.answer.Asked.TheVariants as asked
+use Rattle.cj_model.specs.declared.codes.TheConstants.{READ_FAULT, HISTORY_FULL}
 use Rattle.cj_model.specs.declared.moves.Moved.{Moved}
 use Rattle.cj_model.specs.declared.moves.Moved.TheVariants as moved
 use Rattle.cj_model.specs.declared.moves.MoveError.TheVariants.{NotNow}
 use Rattle.cj_model.specs.declared.moves.OpenRead.{OpenRead}
 use Rattle.cj_model.specs.Answering.{ServesAt}
 use Rattle.cj_model.specs.Cores.{Core, position_at, session_at}
-use Rattle.cj_model.specs.Moves.{Given, place, IsServing, Reaches, ReadsTooEarly, ReadsSame, Reads, ReadsOrWaits, with_read, answered_at, was_answered, still_reading, tried_of}
+use Rattle.cj_model.specs.Moves.{Given, place, IsServing, Reaches, ReadsTooEarly, ReadsSame, Reads, ReadsOrWaits, with_read, answered_at, was_answered, still_reading, tried_of, tried_with}
 use Rattle.cj_model.proofs.Masks.{some_bit}
-use Rattle.cj_replica.specs.declared.cell.CellReadError.TheVariants as errors
-use Rattle.cj_core.specs.Effects.{Asks, IsReadOf, IsReadOther, answer_given}
+use Rattle.cj_backend.specs.Backends.{IsAsked}
+use Rattle.cj_core.specs.declared.cells.AskError.TheVariants as errors
+use Rattle.cj_core.specs.Counting.{tells_fault}
+use Rattle.cj_core.specs.Effects.{Asks, asked_core, IsReadOf, IsReadOther, RefusesOrStays, answer_given}
 
 -- ---- another read
 
@@ -78,3 +81,57 @@ module _ (tells : Bool) (c : Core) (s b : ℕ) (select : Select) (same : ReadsSa
     pub is_behind : (p : ℕ) (mid z : Core) → Asks tells c s b select (Err (errors.Behind p)) → mid ≡ c → z ≡ with_read mid s (still_reading select (tried_of (session_at mid s).reading))
         → ReadsOrWaits tells c s b select (Ok (moved.Behind p)) z
     is_behind p mid z asks same_core after = reads (Ok (moved.Behind p)) z (early (Some p) mid z asks.0 (inr asks.1) same_core after)
+
+    -- it failed, which the history says
+    pub failed : (mid z : Core) (m : Moved) (serving : ℕ) → IsServing c select serving → Asks tells c s b select (Err errors.Failed) → mid ≡ asked_core c s b (Err errors.Failed)
+        → RefusesOrStays mid s select (tried_with c s b) serving m z → ReadsOrWaits tells c s b select (Ok m) z
+    failed mid z m serving is asks noted (inl h) =
+        subst (λ (x : Moved). ReadsOrWaits tells c s b select (Ok x) z) (sym h.1)
+        (reads (Ok (moved.Refused (record { code = READ_FAULT; a = serving; b = 0 }))) z
+        (inr (inr (inr (record {
+          serves = serves;
+          space = asks;
+          all = λ k there. h.0 k ((is k).0 there);
+          mask = serving;
+          serving = is;
+          refused = refl;
+          after = h.2 ∙ ap (λ (x : Core). with_read x s was_answered) noted;
+        })))))
+    failed mid z m serving is asks noted (inr h) =
+        subst (λ (x : Moved). ReadsOrWaits tells c s b select (Ok x) z) (sym h.1)
+        (reads (Ok moved.Failed) z
+        (record {
+          serves = serves;
+          space = asks;
+          more = λ all. h.0 (λ k on. all k ((is k).1 on));
+          after = h.2 ∙ ap (λ (x : Core). with_read x s (still_reading select (tried_with c s b))) noted;
+        }))
+
+    -- it failed, and the history has no room to say so
+    pub unnoted : (n : ℕ) (mid z : Core) (m : Moved) → Asks tells c s b select (Err (errors.Unnoted n)) → mid ≡ c → m ≡ moved.Refused (record { code = HISTORY_FULL; a = n; b = 0 }) → z ≡ with_read mid s was_answered
+        → ReadsOrWaits tells c s b select (Ok m) z
+    unnoted n mid z m asks same_core is after =
+        subst (λ (x : Moved). ReadsOrWaits tells c s b select (Ok x) z) (sym is)
+        (reads (Ok (moved.Refused (record { code = HISTORY_FULL; a = n; b = 0 }))) z
+        (inr (inr (inl (record {
+          serves = serves;
+          full = asks.0;
+          refused = ap (λ (k : ℕ). record { code = HISTORY_FULL; a = k; b = 0 }) asks.1;
+          after = after ∙ ap (λ (x : Core). with_read x s was_answered) same_core;
+        })))))
+
+-- ---- whom it blames
+
+-- an answer blames no backend
+pub answers_blame_none : (a : Asked) → IsAsked a → tells_fault (Ok (answer_given a)) ≡ false
+answers_blame_none (asked.Rows a) is = refl
+answers_blame_none (asked.Refused r) (inl q) = rw q refl
+answers_blame_none (asked.Refused r) (inr (inl q)) = rw q refl
+answers_blame_none (asked.Refused r) (inr (inr (inl q))) = rw q refl
+answers_blame_none (asked.Refused r) (inr (inr (inr (inl q)))) = rw q refl
+answers_blame_none (asked.Refused r) (inr (inr (inr (inr q)))) = rw q refl
+
+-- a failure blames one
+pub failures_blame : (c : Core) (s : ℕ) (select : Select) (tried serving : ℕ) (m : Moved) (z : Core) → RefusesOrStays c s select tried serving m z → tells_fault (Ok m) ≡ true
+failures_blame c s select tried serving m z (inl h) = rw h.1 refl
+failures_blame c s select tried serving m z (inr h) = rw h.1 refl

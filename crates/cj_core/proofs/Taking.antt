@@ -1,5 +1,5 @@
 -- What a world keeps where a backend takes an entry, and where a cell only counts.
-use Rattle.std.proofs.Common.{◌≡◌, ◌≢◌, ℕ, ◌+◌, ◌<◌, ◌≤◌, Bool, true, false, List, length, map, take, get_or, set, slice_get, Option, None, Some, IsSome, Ok, refl, ap, sym, ◌∙◌, subst, arith, ⊎_elim}
+use Rattle.std.proofs.Common.{◌≡◌, ◌≢◌, ℕ, ◌+◌, ◌<◌, ◌≤◌, Bool, true, false, cond, List, length, map, take, get_or, set, slice_get, Option, None, Some, IsSome, Ok, refl, ap, sym, ◌∙◌, subst, arith, ⊎_elim}
 use Rattle.std.proofs.lemmas.Bool.{cases_eq, lt-ltb, both_ways}
 use Rattle.std.proofs.lemmas.List.{get_or-set_same, get_or-set_other, length-map, map-set}
 use Rattle.std.proofs.lemmas.Option.{slice_get_within, get_or_from_slice_get}
@@ -20,11 +20,11 @@ use Rattle.cj_model.specs.Moves.{place, Takes, DoesEntry, Applies, Replays, fail
 use Rattle.cj_model.specs.Sound.{IsSound, IsLone}
 use Rattle.cj_model.proofs.Effects.{sound_applied, sound_replayed, stands_there, is_there}
 use Rattle.cj_replica.specs.Cells.{CellState}
-use Rattle.cj_core.specs.Worlds.{WorldState, core_of, world_of, IsCell, IsWorld}
+use Rattle.cj_core.specs.Worlds.{core_of, world_of, IsCell, IsWorld}
 use Rattle.cj_core.specs.Taking.{Took, heard_after}
-use Rattle.cj_core.specs.Counting.{Counts}
+use Rattle.cj_core.specs.Counting.{did_fail, faults_of, faults_after}
 use Rattle.cj_core.specs.Kept.{Kept}
-use Rattle.cj_core.proofs.Counted.{counts_in}
+use Rattle.cj_core.proofs.Counted.{counts_set}
 use Rattle.cj_core.proofs.Keeping.{cells_set}
 
 -- a backend hosts every table
@@ -171,5 +171,7 @@ module _ (tells : Bool) (n : ℕ) (h : List Event) (cells : List CellState) (f s
   replays = (refl, (took.cell.position, takes, core_now f s))
 
   -- and what it counts
-  pub took_counts : (old new : WorldState) → old.cells ≡ cells → new.cells ≡ now → Counts old new b (d ≡ did.Failed)
-  took_counts old new was is = counts_in old new cells b took.cell (d ≡ did.Failed) was (is ∙ took.set) (rw length-map at within) took.later took.rose
+  pub took_counts : (old : List CellState) → old ≡ cells → faults_of now ≡ faults_after (faults_of old) (cond (did_fail d) (Some b) None)
+  took_counts old was =
+      ap faults_of took.set
+      ∙ (counts_set cells b took.cell (did_fail d) (rw length-map at within) took.faults ∙ ap (λ (xs : List CellState). faults_after (faults_of xs) (cond (did_fail d) (Some b) None)) (sym was))

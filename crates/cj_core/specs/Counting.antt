@@ -1,35 +1,69 @@
--- The faults that backends have counted, and when they rise.
-use Rattle.std.specs.Prelude.{◌≡◌, ℕ, ◌≤◌, ◌||◌, ◌==◌, if◌then◌else◌, map, slice_index_or, Ok}
+-- The faults that backends have counted, and which move says that one was.
+use Rattle.std.specs.Prelude.{◌≡◌, ℕ, Bool, true, false, List, ◌||◌, ◌==◌, if◌then◌else◌, map, slice_index_or, slice_set, Ok, Err}
 use Rattle.std.specs.declared.option.Option.{Option}
 use Rattle.std.specs.declared.option.Option.TheVariants.{None, Some}
-use Rattle.cj_outside.specs.Causes.{Rose}
-use Rattle.cj_model.specs.declared.moves.Move.{Move}
-use Rattle.cj_model.specs.declared.moves.Move.TheVariants.{Apply, Read, Replay}
-use Rattle.cj_model.specs.declared.moves.Moved.TheVariants as moved
+use Rattle.cj_outside.specs.Causes.{next}
+use Rattle.cj_model.specs.declared.moves.Did.{Did}
 use Rattle.cj_model.specs.declared.moves.Did.TheVariants as did
+use Rattle.cj_model.specs.declared.moves.Move.{Move}
+use Rattle.cj_model.specs.declared.moves.Move.TheVariants.{Open, Close, Schedule, Apply, End, Read, Arm, Disable, Replay, Enable}
+use Rattle.cj_model.specs.declared.moves.Moved.TheVariants as moved
+use Rattle.cj_model.specs.declared.moves.MoveError.TheVariants as errors
 use Rattle.cj_model.specs.declared.codes.TheConstants.{READ_FAULT, HISTORY_FULL}
 use Rattle.cj_model.specs.Moves.{Given}
 use Rattle.cj_replica.specs.Cells.{CellState}
 use Rattle.cj_core.specs.Worlds.{WorldState}
 
--- the faults that backend b has counted
-abbrev pub faults_at : WorldState → ℕ → ℕ
-faults_at w b = slice_index_or (map (λ (x : CellState). x.faults) w.cells) b 0
+-- how many faults each backend has counted
+abbrev pub faults_of : List CellState → List ℕ
+faults_of cells = map (λ (x : CellState). x.faults) cells
 
--- no count falls, and that of backend b rose where it failed
-pub record Counts (old new : WorldState) (b : ℕ) (failed : Type 0) : Type 0 where
-  pub later : (k : ℕ) → faults_at old k ≤ faults_at new k
-  pub rose : failed → Rose (faults_at old b) (faults_at new b)
+-- one fault more of the backend that failed, where one did
+abbrev pub faults_after : List ℕ → Option ℕ → List ℕ
+faults_after faults None = faults
+faults_after faults (Some b) = slice_set faults b (next (slice_index_or faults b 0))
 
--- the backend that is said to have failed
+-- ---- which backend is said to have failed
+
+-- the backend failed in the entry
+abbrev pub did_fail : Did → Bool
+did_fail (did.Done o) = false
+did_fail did.Skipped = false
+did_fail did.Failed = true
+did_fail did.Starved = false
+
+-- of a move that asks a backend: what it gave says that the backend failed
+abbrev pub tells_fault : Given → Bool
+tells_fault (Ok (moved.Session n)) = false
+tells_fault (Ok moved.Closed) = false
+tells_fault (Ok (moved.Entry n)) = false
+tells_fault (Ok (moved.Refused r)) = r.code == READ_FAULT || r.code == HISTORY_FULL
+tells_fault (Ok (moved.Applied b d)) = did_fail d
+tells_fault (Ok (moved.Replied s reply)) = false
+tells_fault (Ok (moved.Rows a)) = false
+tells_fault (Ok (moved.Behind p)) = false
+tells_fault (Ok moved.Out) = false
+tells_fault (Ok moved.Failed) = true
+tells_fault (Ok moved.Armed) = false
+tells_fault (Ok moved.Disabled) = false
+tells_fault (Ok moved.Enabled) = false
+tells_fault (Ok (moved.Replayed n d)) = did_fail d
+tells_fault (Err (errors.NotNow why)) = false
+tells_fault (Err errors.NoMemory) = false
+
+-- the backend that a move says failed, which is the one that it asks
 abbrev pub blamed : Move → Given → Option ℕ
-blamed (Apply b) (Ok (moved.Applied n did.Failed)) = Some b
-blamed (Replay b) (Ok (moved.Replayed n did.Failed)) = Some b
-blamed (Read s b select) (Ok moved.Failed) = Some b
-blamed (Read s b select) (Ok (moved.Refused r)) = if r.code == READ_FAULT || r.code == HISTORY_FULL then Some b else None
-blamed m g = None
+blamed (Open user) g = None
+blamed (Close s) g = None
+blamed (Schedule s r) g = None
+blamed (Apply b) g = if tells_fault g then Some b else None
+blamed End g = None
+blamed (Read s b select) g = if tells_fault g then Some b else None
+blamed (Arm b) g = None
+blamed (Disable b) g = None
+blamed (Replay b) g = if tells_fault g then Some b else None
+blamed (Enable b) g = None
 
--- no count falls, and the one of a backend that is said to have failed rose
-pub record HasCauses (old new : WorldState) (m : Move) (g : Given) : Type 0 where
-  pub later : (k : ℕ) → faults_at old k ≤ faults_at new k
-  pub rose : (b : ℕ) → blamed m g ≡ Some b → Rose (faults_at old b) (faults_at new b)
+-- The backend that the move says failed has counted one fault more, and no other count has changed.
+abbrev pub HasCauses : WorldState → WorldState → Move → Given → Type 0
+HasCauses old new m g = faults_of new.cells ≡ faults_after (faults_of old.cells) (blamed m g)

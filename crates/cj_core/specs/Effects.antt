@@ -14,7 +14,7 @@ use Rattle.cj_model.specs.declared.moves.Moved.TheVariants as moved
 use Rattle.cj_model.specs.declared.select.Select.{Select}
 use Rattle.cj_model.specs.declared.event.Event.{Event}
 use Rattle.cj_model.specs.declared.event.Event.TheVariants as event
-use Rattle.cj_model.specs.declared.codes.TheConstants.{UNFINISHED, STARVED_ALL}
+use Rattle.cj_model.specs.declared.codes.TheConstants.{UNFINISHED, READ_FAULT, STARVED_ALL}
 use Rattle.cj_model.specs.declared.moves.OpenRead.{OpenRead}
 use Rattle.cj_model.specs.declared.moves.OpenSession.{OpenSession}
 use Rattle.cj_model.specs.Plain.{request_of}
@@ -22,12 +22,15 @@ use Rattle.cj_model.specs.Queries.{ask}
 use Rattle.cj_model.specs.Histories.{has, log, done, free, opened, room, at}
 use Rattle.cj_model.specs.Answering.{Served, Unserved, AnswersEntry}
 use Rattle.cj_model.specs.Cores.{Core, position_at, session_at, fresh_session, with_session}
-use Rattle.cj_model.specs.Moves.{last_number, open_tx, counted, answered_at, ended}
+use Rattle.cj_model.specs.Moves.{last_number, open_tx, counted, answered_at, ended, read_number, with_read, was_answered, still_reading}
 use Rattle.cj_book.specs.declared.error.BookError.{BookError}
 use Rattle.cj_book.specs.declared.error.BookError.TheVariants.{InProgress, NoBackend, HistoryFull, NoMemory}
 use Rattle.cj_backend.specs.Backends.{IsAsked}
+use Rattle.cj_book.specs.Books.{BookState, with_event, IsFull}
 use Rattle.cj_replica.specs.declared.cell.CellReadError.{CellReadError}
-use Rattle.cj_replica.specs.declared.cell.CellReadError.TheVariants as errors
+use Rattle.cj_replica.specs.declared.cell.CellReadError.TheVariants as cell_errors
+use Rattle.cj_core.specs.declared.cells.AskError.{AskError}
+use Rattle.cj_core.specs.declared.cells.AskError.TheVariants as errors
 use Rattle.cj_core.specs.Worlds.{WorldState}
 
 -- the world with another core
@@ -106,17 +109,50 @@ abbrev pub AnswersOpen : Bool → Core → Reply → Type 0
 AnswersOpen tells c reply = tells ≡ true → (e : Entry) → opened c.history ≡ Some e → AnswersEntry c.placement c.history (ended c) (done c.history) e reply
 
 -- what backend b answered a session's query, or why it did not
-abbrev pub Asks : Bool → Core → ℕ → ℕ → Select → Result (Asked × ℕ) CellReadError → Type 0
+abbrev pub Asks : Bool → Core → ℕ → ℕ → Select → Result (Asked × ℕ) AskError → Type 0
 Asks tells c s b select (Ok (answer, p)) =
     (position_at c b ≡ Some p) × ((session_at c s).least ≤ p) × (p ≤ last_number c) × IsAsked answer × (tells ≡ true → answer ≡ ask (at (log c.history) p) (open_tx c s) select)
 Asks tells c s b select (Err errors.Out) = position_at c b ≡ None
 Asks tells c s b select (Err (errors.Behind p)) = (position_at c b ≡ Some p) × (p < (session_at c s).least)
-Asks tells c s b select (Err errors.Failed) = Unit {0}
+Asks tells c s b select (Err errors.Failed) = 0 < room c.history
+Asks tells c s b select (Err (errors.Unnoted n)) = (room c.history ≡ 0) × (n ≡ length c.history)
 Asks tells c s b select (Err errors.NoMemory) = Unit {0}
+
+-- the core after that: a failure is an event of the history, where that has room
+abbrev pub asked_core : Core → ℕ → ℕ → Result (Asked × ℕ) AskError → Core
+asked_core c s b (Ok answered) = c
+asked_core c s b (Err errors.Out) = c
+asked_core c s b (Err (errors.Behind p)) = c
+asked_core c s b (Err errors.Failed) = happened c (event.ReadFailed s (read_number (session_at c s)) b)
+asked_core c s b (Err (errors.Unnoted n)) = c
+asked_core c s b (Err errors.NoMemory) = c
+
+-- the backend that failed where it was asked
+abbrev pub failed_asked : ℕ → Result (Asked × ℕ) AskError → Option ℕ
+failed_asked b (Ok answered) = None
+failed_asked b (Err errors.Out) = None
+failed_asked b (Err (errors.Behind p)) = None
+failed_asked b (Err errors.Failed) = Some b
+failed_asked b (Err (errors.Unnoted n)) = Some b
+failed_asked b (Err errors.NoMemory) = None
+
+-- what a cell's error comes to, and the book: of a failure it has an event, where there is room
+abbrev pub Notes : BookState → ℕ → ℕ → ℕ → CellReadError → AskError → BookState → Type 0
+Notes old s q b cell_errors.Out error new = (error ≡ errors.Out) × (new ≡ old)
+Notes old s q b (cell_errors.Behind p) error new = (error ≡ errors.Behind p) × (new ≡ old)
+Notes old s q b cell_errors.Failed error new =
+    ((error ≡ errors.Failed) × (0 < room old.history) × (new ≡ with_event old (event.ReadFailed s q b))) ⊎ ((n : ℕ) × (error ≡ errors.Unnoted n) × IsFull old n × (new ≡ old))
+Notes old s q b cell_errors.NoMemory error new = (error ≡ errors.NoMemory) × (new ≡ old)
 
 -- the mask has each backend that another has
 abbrev pub Covers : ℕ → ℕ → Type 0
 Covers mask other = (b : ℕ) → has other b ≡ true → has mask b ≡ true
+
+-- after a failure the read is refused where each backend that serves it has failed in it, and else it stays open
+abbrev pub RefusesOrStays : Core → ℕ → Select → ℕ → ℕ → Moved → Core → Type 0
+RefusesOrStays c s select tried serving m z =
+    (Covers tried serving × (m ≡ moved.Refused (record { code = READ_FAULT; a = serving; b = 0 })) × (z ≡ with_read c s was_answered))
+    ⊎ (¬ Covers tried serving × (m ≡ moved.Failed) × (z ≡ with_read c s (still_reading select tried)))
 
 -- no read is open but of this query
 abbrev pub IsReadOf : Option OpenRead → Select → Type 0

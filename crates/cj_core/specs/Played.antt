@@ -1,7 +1,5 @@
 -- Lists of moves: what each came to, and how far a list came.
 use Rattle.std.specs.Prelude.{◌≡◌, ℕ, ◌≤◌, Bool, true, List, [], ◌∷◌, length, take, Ok, Err}
-use Rattle.std.specs.declared.option.Option.TheVariants.{Some}
-use Rattle.cj_outside.specs.Causes.{Rose}
 use Rattle.cj_model.specs.declared.moves.Move.{Move}
 use Rattle.cj_model.specs.declared.moves.Made.{Made}
 use Rattle.cj_model.specs.declared.moves.Made.TheVariants as made
@@ -10,19 +8,23 @@ use Rattle.cj_model.specs.Moves.{Given}
 use Rattle.cj_model.specs.Turns.{Seen}
 use Rattle.cj_model.specs.Runs.{Runs, IsBetween, IsChained}
 use Rattle.cj_core.specs.Worlds.{WorldState}
-use Rattle.cj_core.specs.Counting.{faults_at, blamed}
+use Rattle.cj_core.specs.Counting.{faults_of, faults_after, blamed}
 
 -- what a move came to is what it gave
 abbrev pub given_of : Made → Given
 given_of (made.Moved m) = Ok m
 given_of (made.NotNow why) = Err (NotNow why)
 
--- each backend that is said to have failed in one of the moves has counted a fault since
+-- the counts after a list of moves: each fault that one of them tells is counted, one after another
+abbrev pub faults_over : List ℕ → List Move → List Given → List ℕ
+faults_over faults [] [] = faults
+faults_over faults (m ∷ ms) (g ∷ gs) = faults_over (faults_after faults (blamed m g)) ms gs
+faults_over faults [] (g ∷ gs) = faults
+faults_over faults (m ∷ ms) [] = faults
+
+-- the backends that the moves say failed have counted that, move by move, and no count has changed otherwise
 abbrev pub HaveCauses : WorldState → WorldState → List Move → List Given → Type 0
-HaveCauses old new [] [] = Unit {0}
-HaveCauses old new (m ∷ ms) (g ∷ gs) = ((b : ℕ) → blamed m g ≡ Some b → Rose (faults_at old b) (faults_at new b)) × HaveCauses old new ms gs
-HaveCauses old new [] (g ∷ gs) = ⊥
-HaveCauses old new (m ∷ ms) [] = ⊥
+HaveCauses old new moves given = faults_of new.cells ≡ faults_over (faults_of old.cells) moves given
 
 -- The moves were made in order, and this is what each gave. Where the backends tell, the replies to each session are a chain of turns from what it had seen.
 pub record HasRun (tells : Bool) (old : WorldState) (moves : List Move) (given : List Given) (new : WorldState) : Type 0 where

@@ -1,10 +1,10 @@
 -- What taking an entry makes of the cells.
-use Rattle.std.specs.Prelude.{◌≡◌, ℕ, ◌<◌, ◌≤◌, ◌^◌, Bool, List, length, slice_index_or, slice_set, All}
+use Rattle.std.specs.Prelude.{◌≡◌, ℕ, ◌<◌, ◌≤◌, ◌^◌, Bool, List, if◌then◌else◌, length, slice_index_or, slice_set, All}
 use Rattle.std.specs.declared.result.Result.{Result}
 use Rattle.std.specs.declared.result.Result.TheVariants.{Ok, Err}
 use Rattle.std.specs.declared.option.Option.{Option}
 use Rattle.std.specs.declared.option.Option.TheVariants.{Some}
-use Rattle.cj_outside.specs.Causes.{Rose}
+use Rattle.cj_outside.specs.Causes.{next}
 use Rattle.cj_model.specs.declared.answer.Outcome.{Outcome}
 use Rattle.cj_model.specs.declared.request.Entry.{Entry}
 use Rattle.cj_model.specs.declared.event.Event.{Event}
@@ -22,6 +22,7 @@ use Rattle.cj_replica.specs.declared.cell.CellError.{CellError}
 use Rattle.cj_replica.specs.declared.cell.CellError.TheVariants as errors
 use Rattle.cj_replica.specs.Cells.{CellState}
 use Rattle.cj_core.specs.Worlds.{core_of, IsCell}
+use Rattle.cj_core.specs.Counting.{did_fail}
 
 -- Backend b, of n, can take the entry at its position.
 pub record CanTake (tells : Bool) (n : ℕ) (h : List Event) (cells : List CellState) (b : ℕ) : Type 0 where
@@ -49,8 +50,7 @@ pub record Took (tells : Bool) (n : ℕ) (h : List Event) (cells : List CellStat
   pub is : IsCell tells n (log h) b cell
   -- whatever else the core is
   pub takes : (failed starved : ℕ) (sessions : List OpenSession) (greatest : ℕ) → Takes tells (core_of n h cells failed starved sessions greatest) b d cell.position
-  pub later : (slice_index_or cells b cell).faults ≤ cell.faults
-  pub rose : d ≡ did.Failed → Rose (slice_index_or cells b cell).faults cell.faults
+  pub faults : cell.faults ≡ (if did_fail d then next (slice_index_or cells b cell).faults else (slice_index_or cells b cell).faults)
 
 -- what the open entry came to, after a backend took it
 abbrev pub heard_after : Option Outcome → Did → Option Outcome

@@ -1,16 +1,46 @@
 //! Cells by the numbers of their backends.
 
-ghost use Rattle.std.specs.Prelude.{◌≡◌, ◌↔◌, ◌<◌, IsTrue};
+ghost use Rattle.std.specs.Prelude.{◌≡◌, ◌↔◌, ◌<◌, IsTrue, true};
 ghost use Rattle.cj_core.specs.Taking.{CanTake, Took};
 ghost use Rattle.cj_core.specs.Taking as taking;
-ghost use Rattle.cj_core.specs.Effects.{Covers};
+ghost use Rattle.cj_core.specs.Effects.{Covers, Notes};
 ghost use Rattle.cj_model.specs.Cores as cores;
 ghost use Rattle.cj_model.specs.Moves as moves;
 
 use cj_backend::Backend;
-use cj_book::Book;
-use cj_model::{Did, Outcome, Text};
-use cj_replica::{Caught, Cell, CellError};
+use cj_book::{Book, BookError};
+use cj_model::{Did, NoMemory, Outcome, Text};
+use cj_replica::{Caught, Cell, CellError, CellReadError};
+use thiserror::Error;
+
+/// Why a backend gave a session no answer.
+#[derive(Clone, Copy, Debug, PartialEq, Eq, Error)]
+pub enum AskError {
+    #[error("the backend is out")]
+    Out,
+    /// The backend stands at this position, below what the session has seen.
+    #[error("the backend is behind")]
+    Behind(u64),
+    /// It failed, and the history says so.
+    #[error("the backend failed")]
+    Failed,
+    /// It failed, and the history of so many events has no room to say so.
+    #[error("the backend failed, and the history of {0} events is full")]
+    Unnoted(u64),
+    #[error("out of memory")]
+    NoMemory,
+}
+
+impl From<NoMemory> for AskError {
+    ghost use Rattle.std.specs.Prelude.{◌≡◌};
+    ghost use Rattle.cj_core.specs.declared.cells.AskError.TheVariants as errors;
+
+    ghost from_gives = { λ _ e. e ≡ errors.NoMemory };
+
+    fn from(_error: NoMemory) -> AskError {
+        AskError::NoMemory
+    }
+}
 
 fn did_of(caught: Result<Caught, CellError>) -> Did
     ensures { result ≡ taking.did_of caught }
@@ -87,4 +117,24 @@ pub fn take<B: Backend>(book: &Book, cells: &mut Vec<Cell<B>>, login: &Text, b: 
         unreachable!()
     };
     did_of(cells[b as usize].catch_up(next, entry, login))
+}
+
+/// Why a backend that was asked gave no answer. Of a failure the history has an event from now on;
+/// the memory for it was taken before.
+pub fn noted(book: &mut Book, session: u64, seq: u64, b: u8, error: CellReadError) -> AskError
+    requires { book.old.has_spare ≡ true }
+    ensures { Notes book.old session seq b error result book.new }
+{
+    match error {
+        CellReadError::Out => AskError::Out,
+        CellReadError::Behind(position) => AskError::Behind(position),
+        CellReadError::NoMemory => AskError::NoMemory,
+        CellReadError::Failed => match book.read_failed(session, seq, b) {
+            Ok(()) => AskError::Failed,
+            Err(BookError::HistoryFull(events)) => AskError::Unnoted(events),
+            Err(BookError::InProgress(_)) => unreachable!(),
+            Err(BookError::NoBackend) => unreachable!(),
+            Err(BookError::NoMemory) => unreachable!(),
+        },
+    }
 }

@@ -1,6 +1,6 @@
 //! The moves.
 
-ghost use Rattle.std.specs.Prelude.{◌≡◌, ◌<◌, ◌≤◌, ◌^◌, length, Some, None, Ok};
+ghost use Rattle.std.specs.Prelude.{◌≡◌, ◌<◌, ◌≤◌, ◌^◌, length, IsErrOf, Some, None, Ok};
 ghost use Rattle.cj_model.specs.declared.request.Request.TheVariants as requests;
 ghost use Rattle.cj_model.specs.Changes as changes;
 ghost use Rattle.cj_model.specs.Plain as plain;
@@ -11,10 +11,10 @@ ghost use Rattle.cj_model.specs.Moves.{Opens, Closes, Schedules, Applies, Ends, 
 ghost use Rattle.cj_model.specs.Answering.{ServesAt};
 ghost use Rattle.cj_model.specs.Runs.{IsLoneWrite};
 ghost use Rattle.cj_core.specs.Counting.{HasCauses};
-ghost use Rattle.cj_core.specs.Effects.{IsChange, answer_given, with_core};
+ghost use Rattle.cj_core.specs.Effects.{IsChange, RefusesOrStays, answer_given, with_core};
 ghost use Rattle.cj_core.specs.Steps.{IsMet};
 
-use crate::cells::covers;
+use crate::cells::{AskError, covers};
 use crate::world::World;
 use cj_backend::Backend;
 use cj_book::BookError;
@@ -22,7 +22,6 @@ use cj_model::{
     Act, Asked, HISTORY_FULL, Move, MoveError, Moved, NO_BACKEND, READ_FAULT, Refusal, Request,
     Select, Text, Why,
 };
-use cj_replica::CellReadError;
 
 /// A refusal whose numbers say nothing.
 fn bare(code: u16) -> Refusal
@@ -52,6 +51,7 @@ impl<B: Backend> World<B> {
         requires { length user ≤ user_limit }
         ensures moves { Opens self.old.core user result self.new.core }
         ensures cells { self.new.cells ≡ self.old.cells }
+        ensures want { IsErrOf result MoveError.NoMemory → self.new ≡ self.old }
     {
         if self.has_no_number() {
             return Ok(Moved::Refused(self.sessions_full()));
@@ -78,6 +78,7 @@ impl<B: Backend> World<B> {
         requires now { not_now self.old.core (Move.Schedule s request) ≡ None }
         ensures moves { Schedules self.old.core s request result self.new.core }
         ensures cells { self.new.cells ≡ self.old.cells }
+        ensures want { IsErrOf result MoveError.NoMemory → self.new ≡ self.old }
     {
         let Ok(entry) = self.next_entry(s, act_of(request)) else {
             return Err(MoveError::NoMemory);
@@ -131,6 +132,7 @@ impl<B: Backend> World<B> {
         requires counts { (session_at self.old.core s).queries < 2 ^ 62 }
         ensures moves { ReadsOrWaits B.TELLS self.old.core s b select result self.new.core }
         ensures causes { HasCauses self.old self.new (Move.Read s b select) result }
+        ensures want { IsErrOf result MoveError.NoMemory → self.new ≡ self.old }
     {
         if self.reads_other(s, &select) {
             return Err(MoveError::NotNow(Why {
@@ -138,7 +140,8 @@ impl<B: Backend> World<B> {
                 value: s,
             }));
         }
-        if self.serving(&select) == 0 {
+        let serving = self.serving(&select);
+        if serving == 0 {
             self.refuse_read(s);
             return Ok(Moved::Refused(bare(NO_BACKEND)));
         }
@@ -148,15 +151,17 @@ impl<B: Backend> World<B> {
                 value: b as u64,
             }));
         }
+        let tried = self.tried_with(s, b);
         match self.ask(s, b, &select) {
             Ok((answer, position)) => Ok(self.answer(s, position, answer)),
-            Err(CellReadError::Failed) => self.fail_read(s, b, select),
-            Err(CellReadError::NoMemory) => Err(MoveError::NoMemory),
-            Err(CellReadError::Out) => {
+            Err(AskError::Failed) => Ok(self.refuse_or_stay(s, select, tried, serving)),
+            Err(AskError::Unnoted(events)) => Ok(self.refuse_unnoted(s, events)),
+            Err(AskError::NoMemory) => Err(MoveError::NoMemory),
+            Err(AskError::Out) => {
                 self.wait(s, select);
                 Ok(Moved::Out)
             }
-            Err(CellReadError::Behind(position)) => {
+            Err(AskError::Behind(position)) => {
                 self.wait(s, select);
                 Ok(Moved::Behind(position))
             }
@@ -186,41 +191,38 @@ impl<B: Backend> World<B> {
         }
     }
 
-    /// The backend failed in the session's read.
-    fn fail_read(&mut self, s: u64, b: u8, select: Select) -> Result<Moved, MoveError>
-        requires within { b < self.old.core.placement.backends }
-        requires counts { (session_at self.old.core s).queries < 2 ^ 62 }
-        requires serves { ServesAt self.old.core.placement self.old.core.history (requests.Select select) b }
-        ensures moves { Reads B.TELLS self.old.core s b select result self.new.core }
+    /// The session's read is refused where each backend that serves it has failed in it, and else it
+    /// stays open.
+    fn refuse_or_stay(&mut self, s: u64, select: Select, tried: u32, serving: u32) -> Moved
+        requires { (session_at self.old.core s).queries < 2 ^ 62 }
+        ensures moves { RefusesOrStays self.old.core s select tried serving result self.new.core }
         ensures cells { self.new.cells ≡ self.old.cells }
     {
-        let number = self.read_number(s);
-        let tried = self.tried_with(s, b);
-        let serving = self.serving(&select);
-        match self.blame(s, number, b) {
-            Ok(()) if covers(tried, serving) => {
-                self.refuse_read(s);
-                Ok(Moved::Refused(Refusal {
-                    code: READ_FAULT,
-                    a: serving as u64,
-                    b: 0,
-                }))
-            }
-            Ok(()) => {
-                self.keep_reading(s, select, tried);
-                Ok(Moved::Failed)
-            }
-            Err(BookError::HistoryFull(events)) => {
-                self.refuse_read(s);
-                Ok(Moved::Refused(Refusal {
-                    code: HISTORY_FULL,
-                    a: events,
-                    b: 0,
-                }))
-            }
-            Err(BookError::NoMemory) => Err(MoveError::NoMemory),
-            Err(BookError::InProgress(_)) | Err(BookError::NoBackend) => unreachable!(),
+        if covers(tried, serving) {
+            self.refuse_read(s);
+            Moved::Refused(Refusal {
+                code: READ_FAULT,
+                a: serving as u64,
+                b: 0,
+            })
+        } else {
+            self.keep_reading(s, select, tried);
+            Moved::Failed
         }
+    }
+
+    /// The session's read is refused, since the history of so many events has no room to note a failure.
+    fn refuse_unnoted(&mut self, s: u64, events: u64) -> Moved
+        requires { (session_at self.old.core s).queries < 2 ^ 62 }
+        ensures moved { result ≡ Moved.Refused (record { code = HISTORY_FULL; a = events; b = 0 }) }
+        ensures ok { self.new ≡ with_core self.old (with_read self.old.core s was_answered) }
+    {
+        self.refuse_read(s);
+        Moved::Refused(Refusal {
+            code: HISTORY_FULL,
+            a: events,
+            b: 0,
+        })
     }
 
     fn arm(&mut self, b: u8) -> Moved
@@ -236,6 +238,7 @@ impl<B: Backend> World<B> {
         requires { not_now self.old.core (Move.Disable b) ≡ None }
         ensures moves { Disables self.old.core b result self.new.core }
         ensures cells { self.new.cells ≡ self.old.cells }
+        ensures want { IsErrOf result MoveError.NoMemory → self.new ≡ self.old }
     {
         match self.switch_off(b) {
             Ok(()) => Ok(Moved::Disabled),
@@ -262,6 +265,7 @@ impl<B: Backend> World<B> {
         requires { not_now self.old.core (Move.Enable b) ≡ None }
         ensures moves { Enables self.old.core b result self.new.core }
         ensures cells { self.new.cells ≡ self.old.cells }
+        ensures want { IsErrOf result MoveError.NoMemory → self.new ≡ self.old }
     {
         match self.switch_on(b) {
             Ok(()) => Ok(Moved::Enabled),
@@ -277,6 +281,7 @@ impl<B: Backend> World<B> {
         requires { IsMet self.old.core m }
         ensures moves { MovesTo B.TELLS self.old.core m result self.new.core }
         ensures causes { HasCauses self.old self.new m result }
+        ensures want { IsErrOf result MoveError.NoMemory → self.new ≡ self.old }
     {
         if let Some(why) = self.not_now(&m) {
             return Err(MoveError::NotNow(why));

@@ -1,11 +1,11 @@
 //! Lists of moves.
 
-ghost use Rattle.std.specs.Prelude.{◌≡◌, ◌≤◌, ℕ, All, MatchResult, map, length};
+ghost use Rattle.std.specs.Prelude.{◌≡◌, All, IfOk, MatchResult, OnErr, map, length};
 ghost use mathlib.Core.List.{IsPrefix};
 ghost use Rattle.cj_model.specs.Legality.{IsLegal};
 ghost use Rattle.cj_model.specs.Moves.{MovesTo};
 ghost use Rattle.cj_model.specs.Runs.{IsMove, CanCount};
-ghost use Rattle.cj_core.specs.Counting.{HasCauses, faults_at};
+ghost use Rattle.cj_core.specs.Counting.{HasCauses};
 ghost use Rattle.cj_core.specs.Played.{given_of, HasRun, HasRunInPart};
 ghost use Rattle.cj_core.specs.Steps.{IsMet};
 
@@ -18,8 +18,9 @@ impl<B: Backend> World<B> {
     /// Makes a move, or answers why it can't be made now. Want of memory changes nothing.
     pub fn make(&mut self, m: Move) -> Result<Made, NoMemory>
         requires { IsMet self.old.core m }
-        ensures made { MatchResult result (λ made. MovesTo B.TELLS self.old.core m (given_of made) self.new.core) (λ _. self.new.core ≡ self.old.core) }
-        ensures causes { MatchResult result (λ made. HasCauses self.old self.new m (given_of made)) (λ _. (b : ℕ) → faults_at self.old b ≤ faults_at self.new b) }
+        ensures made { IfOk result (λ made. MovesTo B.TELLS self.old.core m (given_of made) self.new.core) }
+        ensures causes { IfOk result (λ made. HasCauses self.old self.new m (given_of made)) }
+        ensures want { OnErr result (self.new ≡ self.old) }
     {
         match self.step(m) {
             Ok(moved) => Ok(Made::Moved(moved)),
@@ -31,8 +32,9 @@ impl<B: Backend> World<B> {
     /// The same of a move that stays with its list.
     fn make_copy(&mut self, alloc: Global, m: &Move) -> Result<Made, NoMemory>
         requires { IsMet self.old.core m.now }
-        ensures made { MatchResult result (λ made. MovesTo B.TELLS self.old.core m.now (given_of made) self.new.core) (λ _. self.new.core ≡ self.old.core) }
-        ensures causes { MatchResult result (λ made. HasCauses self.old self.new m.now (given_of made)) (λ _. (b : ℕ) → faults_at self.old b ≤ faults_at self.new b) }
+        ensures made { IfOk result (λ made. MovesTo B.TELLS self.old.core m.now (given_of made) self.new.core) }
+        ensures causes { IfOk result (λ made. HasCauses self.old self.new m.now (given_of made)) }
+        ensures want { OnErr result (self.new ≡ self.old) }
     {
         let m = m.copy(alloc)?;
         self.make(m)
@@ -46,7 +48,6 @@ impl<B: Backend> World<B> {
         ensures runs { MatchResult result (λ made. HasRun B.TELLS self.old moves.now (map given_of made) self.new) (λ _. HasRunInPart B.TELLS self.old moves.now self.new) }
         ensures longer { IsPrefix self.old.core.history self.new.core.history }
         ensures legal { IsLegal self.new.core.history }
-        ensures later { (b : ℕ) → faults_at self.old b ≤ faults_at self.new b }
     {
         self.legal();
         let alloc = self.allocator();

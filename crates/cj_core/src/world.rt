@@ -1,6 +1,6 @@
 //! A world, and the parts of its moves: each a change of its state that keeps it whole.
 
-ghost use Rattle.std.specs.Prelude.{◌≡◌, ◌↔◌, ℕ, ◌+◌, ◌<◌, ◌≤◌, ◌^◌, ◌==◌, true, false, not, [], ◌∷◌, ◌++◌, length, map, filter, is_some, IsTrue, IsNone, IfSome, IfOk, MatchBool, OnOk, OnErr, Some, None, Ok, Err};
+ghost use Rattle.std.specs.Prelude.{◌≡◌, ◌↔◌, ℕ, ◌+◌, ◌<◌, ◌≤◌, ◌^◌, ◌==◌, true, false, not, [], ◌∷◌, ◌++◌, length, map, filter, is_some, IsTrue, IsNone, IfSome, IfOk, IsErrOf, MatchBool, OnOk, OnErr, Some, None, Ok, Err, if◌then◌else◌};
 ghost use Rattle.std.specs.Option.{option_map};
 ghost use Rattle.cj_model.specs.declared.request.Entry.{Entry};
 ghost use Rattle.cj_model.specs.declared.request.Request.TheVariants as request;
@@ -17,10 +17,12 @@ ghost use Rattle.cj_model.specs.Sound.{IsLone};
 ghost use Rattle.cj_replica.specs.Cells.{CellState};
 ghost use Rattle.cj_core.specs.Worlds.{IsWorld};
 ghost use Rattle.cj_core.specs.Starts.{AreEmpty, AreFresh, begun};
-ghost use Rattle.cj_core.specs.Counting.{Counts};
-ghost use Rattle.cj_core.specs.Effects.{AnswersOpen, Asks, IsChange, IsReadOf, IsReadOther, Refuses, with_core, happened, opened_for, closed_for, scheduled_as, ended_for, SchedulesAs, HadRoom};
+ghost use Rattle.cj_core.specs.Counting.{did_fail, faults_after, faults_of};
+ghost use Rattle.cj_core.specs.Effects.{AnswersOpen, Asks, IsChange, asked_core, failed_asked, IsReadOf, IsReadOther, Refuses, with_core, happened, opened_for, closed_for, scheduled_as, ended_for, SchedulesAs, HadRoom};
 
-use crate::cells::{failed_after, heard_after, place, starved_after, take, with_bit};
+use crate::cells::{
+    AskError, failed_after, heard_after, noted, place, starved_after, take, with_bit,
+};
 use crate::emptied::Emptied;
 use crate::sessions::{Sessions, read_number};
 use cj_backend::Backend;
@@ -29,7 +31,7 @@ use cj_model::{
     Act, Asked, Did, Duplicate, Entry, Event, HISTORY_FULL, Move, Moved, NoMemory, OpenRead,
     Outcome, Refusal, Reply, SESSIONS_FULL, STARVED_ALL, Same, Select, Text, UNFINISHED,
 };
-use cj_replica::{Cell, CellReadError};
+use cj_replica::Cell;
 use std::alloc::Global;
 use std::marker::Model;
 
@@ -521,7 +523,7 @@ impl<B: Backend> World<B> {
         requires within { b < self.old.core.placement.backends }
         requires now { not_now self.old.core (Move.Apply b) ≡ None }
         ensures applies { Applies B.TELLS self.old.core b (Ok (Moved.Applied b result)) self.new.core }
-        ensures counts { Counts self.old self.new b (result ≡ Did.Failed) }
+        ensures counts { faults_of self.new.cells ≡ faults_after (faults_of self.old.cells) (if did_fail result then Some b else None) }
     {
         let did = take(&self.book, &mut self.cells, &self.login, b);
         self.failed = failed_after(self.failed, b, did);
@@ -535,26 +537,29 @@ impl<B: Backend> World<B> {
         requires within { b < self.old.core.placement.backends }
         requires now { not_now self.old.core (Move.Replay b) ≡ None }
         ensures replays { Replays B.TELLS self.old.core b (Ok (Moved.Replayed (moves.place (position_at self.old.core b) + 1) result)) self.new.core }
-        ensures counts { Counts self.old self.new b (result ≡ Did.Failed) }
+        ensures counts { faults_of self.new.cells ≡ faults_after (faults_of self.old.cells) (if did_fail result then Some b else None) }
     {
         take(&self.book, &mut self.cells, &self.login, b)
     }
 
-    /// Asks the backend for a session.
-    pub(crate) fn ask(
-        &mut self,
-        s: u64,
-        b: u8,
-        select: &Select,
-    ) -> Result<(Asked, u64), CellReadError>
+    /// Asks the backend for a session, and notes in the history where it failed. The memory to note it
+    /// is taken first, so that want of memory hides no failure.
+    pub(crate) fn ask(&mut self, s: u64, b: u8, select: &Select) -> Result<(Asked, u64), AskError>
         requires within { b < self.old.core.placement.backends }
         requires written { IsWritten (request.Select select.now) }
-        ensures core { self.new.core ≡ self.old.core }
+        requires counts { (session_at self.old.core s).queries < 2 ^ 62 }
+        ensures core { self.new.core ≡ asked_core self.old.core s b result }
         ensures asks { Asks B.TELLS self.old.core s b select.now result }
-        ensures counts { Counts self.old self.new b (result ≡ Err CellReadError.Failed) }
+        ensures counts { faults_of self.new.cells ≡ faults_after (faults_of self.old.cells) (failed_asked b result) }
+        ensures want { IsErrOf result AskError.NoMemory → self.new ≡ self.old }
     {
         let least = self.least(s);
-        self.cells[b as usize].read(&self.login, 0, select, least)
+        let number = self.read_number(s);
+        self.book.take_spare()?;
+        match self.cells[b as usize].read(&self.login, 0, select, least) {
+            Ok(answered) => Ok(answered),
+            Err(error) => Err(noted(&mut self.book, s, number, b, error)),
+        }
     }
 
     pub(crate) fn arm_backend(&mut self, b: u8)
@@ -583,14 +588,5 @@ impl<B: Backend> World<B> {
         ensures err { OnErr result (self.new ≡ self.old) }
     {
         self.book.enable(b)
-    }
-
-    /// Notes that the backend failed in the session's read.
-    pub(crate) fn blame(&mut self, s: u64, number: u64, b: u8) -> Result<(), BookError>
-        ensures room { HadRoom self.old.core result }
-        ensures ok { OnOk result (self.new ≡ with_core self.old (happened self.old.core (Event.ReadFailed s number b))) }
-        ensures err { OnErr result (self.new ≡ self.old) }
-    {
-        self.book.read_failed(s, number, b)
     }
 }

@@ -9,4 +9,4 @@ invariant_of-self-2 c =
     let space : 0 < room c.self.inside.history.items = subst (λ (b : BookState). 0 < room b.history) (sym c.self.view_is) c.in_ok-check_room.ensures in
     let below : c.args.b < c.self.inside.backends = subst (λ (b : BookState). c.args.b < b.backends) (sym c.self.view_is) c.requires.below in
     let spare = rw c.in_ok-append.ensures.ok at c.in_ok-append.ensures.spare in
-    rw c.in_ok-append.ensures.ok (keeps_disabled _ _ _ _ _ _ c.self.invariant c.args.b (vec_capacity c.append.new.history) (search rules) below space spare)
+    rw c.in_ok-append.ensures.ok (keeps_disabled _ _ _ _ _ _ _ c.self.invariant c.args.b (vec_capacity c.append.new.history) (search rules) below space spare)

@@ -8,4 +8,4 @@ pub invariant_of-self : goal.invariant_of-self
 invariant_of-self c =
     let is_open : free c.self.inside.history.items ≡ false = ap (λ (b : BookState). free b.history) c.self.view_is ∙ c.requires in
     rw c.push_reserved.ensures.items
-    (keeps_ended _ _ _ _ _ _ c.self.invariant c.args.failed c.args.starved (vec_capacity c.push_reserved.new.self) (search rules) (search rules) (search rules) is_open (omega arith))
+    (keeps_ended _ _ _ _ _ _ _ c.self.invariant c.args.failed c.args.starved (vec_capacity c.push_reserved.new.self) (search rules) (search rules) (search rules) is_open (omega arith))

@@ -15,4 +15,4 @@ invariant_of-self-2 c =
     c.push_reserved.ensures.items ∙ (ap (λ ps. ps ++ c.len-place.result ∷ []) c.reserve.ensures.items ∙ ap (λ p. c.self.inside.scheduled.items ++ p ∷ []) place) in
     let spare = rw c.in_ok-append.ensures.ok at c.in_ok-append.ensures.spare in
     rw (c.in_ok-append.ensures.ok, places)
-    (keeps_sched _ _ _ _ _ _ c.self.invariant c.args.e (vec_capacity c.append.new.history) is_free (omega arith) spare)
+    (keeps_sched _ _ _ _ _ _ _ c.self.invariant c.args.e (vec_capacity c.append.new.history) is_free (omega arith) spare)

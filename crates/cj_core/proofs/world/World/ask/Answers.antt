@@ -1,44 +1,95 @@
-use Rattle.std.proofs.Common.{◌≡◌, ◌<◌, ◌≤◌, ℕ, List, length, map, get_or, Err, refl, ap, sym, ◌∙◌, subst}
+use Rattle.std.proofs.Common.{◌≡◌, ◌<◌, ℕ, true, false, cond, List, length, map, get_or, set, Ok, Err, None, Some, Option, ap, sym, ◌∙◌, subst}
 use Rattle.std.proofs.lemmas.List.{length-map, get_or_default}
-use Rattle.cj_outside.specs.Causes.{Rose}
+use Rattle.cj_outside.specs.Causes.{next}
 use Rattle.cj_model.specs.Cores.{session_at}
-use Rattle.cj_replica.specs.declared.cell.CellReadError.TheVariants.{Failed}
+use Rattle.cj_model.specs.Moves.{read_number}
+use Rattle.cj_book.specs.Books.{BookState}
 use Rattle.cj_replica.specs.Cells.{CellState}
-use Rattle.cj_core.specs.Worlds.{WorldState}
-use Rattle.cj_core.specs.Effects.{Asks}
-use Rattle.cj_core.proofs.Asking.{kept_asked, same_core, asks}
-use Rattle.cj_core.proofs.Counted.{counts_in}
+use Rattle.cj_core.specs.Worlds.{WorldState, core_of, world_of}
+use Rattle.cj_model.specs.Cores.{Core}
+use Rattle.cj_core.specs.Counting.{faults_of, faults_after}
+use Rattle.cj_core.specs.Effects.{Asks, asked_core, failed_asked}
+use Rattle.cj_core.specs.Kept.{Kept}
+use Rattle.cj_core.proofs.Asking.{kept_asked, same_core, answers, errs, noting, noted_core, noted_fault}
+use Rattle.cj_core.proofs.Keeping.{kept_read_failed}
+use Rattle.cj_core.proofs.Counted.{counts_set}
 use Rattle.cj_core.proofs.world.World.ask.Goals as goal
 
 within : (n b : ℕ) (cells : List CellState) → length (map (λ (x : CellState). x.position) cells) ≡ n → b < n → b < length cells
 within n b cells is lt = subst (λ (m : ℕ). b < m) (sym is ∙ length-map cells (λ (x : CellState). x.position)) lt
 
-pub invariant_of-self : goal.invariant_of-self
-invariant_of-self g c =
+pub invariant_of-self-in-Ok : goal.invariant_of-self-in-Ok
+invariant_of-self-in-Ok g c =
     let w = c.self.inside in
     let lt = within w.book.backends c.args.b w.cells.items c.self.invariant.world.sound.cells (subst (λ (x : WorldState). c.args.b < x.core.placement.backends) (sym c.self.view_is) c.requires.within) in
-    kept_asked g.B.Backend.TELLS w.book.backends w.book.history w.cells.items w.failed w.starved w.sessions w.greatest w.heard c.self.invariant c.args.b lt c.index_mut.result.now c.index_mut.ensures.value c.read.new.self c.read.ensures.same
+    let kept = kept_asked g.B.Backend.TELLS w.book.backends w.book.history w.cells.items w.failed w.starved w.sessions w.greatest w.heard c.self.invariant c.args.b lt c.index_mut.result.now c.index_mut.ensures.value c.read.new.self c.read.ensures.same in
+    let asked = subst (λ (k : BookState). Kept g.B.Backend.TELLS (world_of k.backends k.history (set w.cells.items c.args.b c.read.new.self) w.failed w.starved w.sessions w.greatest) w.heard) (sym c.in_ok-take_spare.ensures.ok) kept in
+    asked
 
-pub returns-clause-core : goal.returns-clause-core
-returns-clause-core g c =
+pub returns-in-Ok-clause-core : goal.returns-in-Ok-clause-core
+returns-in-Ok-clause-core g c =
     let w = c.self.inside in
     let lt = within w.book.backends c.args.b w.cells.items c.self.invariant.world.sound.cells (subst (λ (x : WorldState). c.args.b < x.core.placement.backends) (sym c.self.view_is) c.requires.within) in
-    same_core g.B.Backend.TELLS w.book.backends w.book.history w.cells.items w.failed w.starved w.sessions w.greatest w.heard c.self.invariant c.args.b lt c.index_mut.result.now c.index_mut.ensures.value c.read.new.self c.read.ensures.same ∙ ap (λ (x : WorldState). x.core) c.self.view_is
+    let same = same_core g.B.Backend.TELLS w.book.backends w.book.history w.cells.items w.failed w.starved w.sessions w.greatest w.heard c.self.invariant c.args.b lt c.index_mut.result.now c.index_mut.ensures.value c.read.new.self c.read.ensures.same in
+    let core : core_of c.take_spare.new.self.backends c.take_spare.new.self.history (set w.cells.items c.args.b c.read.new.self) w.failed w.starved w.sessions w.greatest ≡ c.args.self.now.core =
+    ap (λ (k : BookState). core_of k.backends k.history (set w.cells.items c.args.b c.read.new.self) w.failed w.starved w.sessions w.greatest) c.in_ok-take_spare.ensures.ok ∙ (same ∙ ap (λ (x : WorldState). x.core) c.self.view_is)
+    in
+    core
 
-pub returns-clause-asks : goal.returns-clause-asks
-returns-clause-asks g c =
+pub returns-in-Ok-clause-asks : goal.returns-in-Ok-clause-asks
+returns-in-Ok-clause-asks g c =
     let w = c.self.inside in
     let lt = within w.book.backends c.args.b w.cells.items c.self.invariant.world.sound.cells (subst (λ (x : WorldState). c.args.b < x.core.placement.backends) (sym c.self.view_is) c.requires.within) in
     let least = subst (λ (x : WorldState). c.least-least.result ≡ (session_at x.core c.args.s).least) (sym c.self.view_is) c.least-least.ensures in
-    subst (λ (x : WorldState). Asks g.B.Backend.TELLS x.core c.args.s c.args.b c.args.select.now c.read.result) c.self.view_is
-    (asks g.B.Backend.TELLS w.book.backends w.book.history w.cells.items w.failed w.starved w.sessions w.greatest w.heard c.self.invariant c.args.b lt c.index_mut.result.now c.index_mut.ensures.value c.args.s c.args.select.now c.least-least.result least c.read.result c.read.ensures.out c.read.ensures.behind c.read.ensures.answer
-    c.read.ensures.possible c.read.ensures.at c.read.ensures.owed)
+    subst (λ (x : WorldState). Asks g.B.Backend.TELLS x.core c.args.s c.args.b c.args.select.now (Ok c.in-Ok.answered)) c.self.view_is
+    (answers g.B.Backend.TELLS w.book.backends w.book.history w.cells.items w.failed w.starved w.sessions w.greatest w.heard c.self.invariant c.args.b lt c.index_mut.result.now c.index_mut.ensures.value c.args.s c.args.select.now c.least-least.result least c.in-Ok.answered.0 c.in-Ok.answered.1 c.in-Ok.ensures.answer c.in-Ok.ensures.possible c.in-Ok.ensures.at c.in-Ok.ensures.owed)
 
-pub returns-clause-counts : goal.returns-clause-counts
-returns-clause-counts g c =
+pub returns-in-Ok-clause-counts : goal.returns-in-Ok-clause-counts
+returns-in-Ok-clause-counts g c =
     let w = c.self.inside in
     let lt = within w.book.backends c.args.b w.cells.items c.self.invariant.world.sound.cells (subst (λ (x : WorldState). c.args.b < x.core.placement.backends) (sym c.self.view_is) c.requires.within) in
     let is : get_or w.cells.items c.args.b c.read.new.self ≡ c.index_mut.result.now = get_or_default w.cells.items c.args.b c.read.new.self c.index_mut.result.now lt ∙ sym c.index_mut.ensures.value in
-    counts_in c.args.self.now _ w.cells.items c.args.b c.read.new.self (c.read.result ≡ Err Failed) (ap (λ (x : WorldState). x.cells) (sym c.self.view_is)) refl lt
-    (subst (λ (x : CellState). x.faults ≤ c.read.new.self.faults) (sym is) c.read.ensures.cause.later)
-    (λ failed. subst (λ (x : CellState). Rose x.faults c.read.new.self.faults) (sym is) (c.read.ensures.cause.failed failed))
+    let same = subst (λ (x : CellState). c.read.new.self.faults ≡ x.faults) (sym is) (c.in-Ok.ensures.cause.uncounted (λ failed. cc failed)) in
+    counts_set w.cells.items c.args.b c.read.new.self false lt same ∙ ap (λ (x : WorldState). faults_of x.cells) c.self.view_is
+
+pub invariant_of-self-in-Err : goal.invariant_of-self-in-Err
+invariant_of-self-in-Err g c =
+    let w = c.self.inside in
+    let lt = within w.book.backends c.args.b w.cells.items c.self.invariant.world.sound.cells (subst (λ (x : WorldState). c.args.b < x.core.placement.backends) (sym c.self.view_is) c.requires.within) in
+    let kept = kept_asked g.B.Backend.TELLS w.book.backends w.book.history w.cells.items w.failed w.starved w.sessions w.greatest w.heard c.self.invariant c.args.b lt c.index_mut.result.now c.index_mut.ensures.value c.read.new.self c.read.ensures.same in
+    let asked = subst (λ (k : BookState). Kept g.B.Backend.TELLS (world_of k.backends k.history (set w.cells.items c.args.b c.read.new.self) w.failed w.starved w.sessions w.greatest) w.heard) (sym c.in_ok-take_spare.ensures.ok) kept in
+    noting (λ (k : BookState). Kept g.B.Backend.TELLS (world_of k.backends k.history (set w.cells.items c.args.b c.read.new.self) w.failed w.starved w.sessions w.greatest) w.heard)
+    c.take_spare.new.self c.noted.new.book c.args.s c.read_number-number.result c.args.b c.in-Err.error c.noted.result c.noted.ensures asked
+    (λ space. kept_read_failed g.B.Backend.TELLS c.take_spare.new.self.backends c.take_spare.new.self.history (set w.cells.items c.args.b c.read.new.self) w.failed w.starved w.sessions w.greatest w.heard asked c.args.s c.read_number-number.result c.args.b space)
+
+pub returns-in-Err-clause-core : goal.returns-in-Err-clause-core
+returns-in-Err-clause-core g c =
+    let w = c.self.inside in
+    let lt = within w.book.backends c.args.b w.cells.items c.self.invariant.world.sound.cells (subst (λ (x : WorldState). c.args.b < x.core.placement.backends) (sym c.self.view_is) c.requires.within) in
+    let same = same_core g.B.Backend.TELLS w.book.backends w.book.history w.cells.items w.failed w.starved w.sessions w.greatest w.heard c.self.invariant c.args.b lt c.index_mut.result.now c.index_mut.ensures.value c.read.new.self c.read.ensures.same in
+    let core : core_of c.take_spare.new.self.backends c.take_spare.new.self.history (set w.cells.items c.args.b c.read.new.self) w.failed w.starved w.sessions w.greatest ≡ c.args.self.now.core =
+    ap (λ (k : BookState). core_of k.backends k.history (set w.cells.items c.args.b c.read.new.self) w.failed w.starved w.sessions w.greatest) c.in_ok-take_spare.ensures.ok ∙ (same ∙ ap (λ (x : WorldState). x.core) c.self.view_is)
+    in
+    let number = c.read_number-number.ensures ∙ ap (λ (k : Core). read_number (session_at k c.args.s)) (sym core) in
+    noted_core (set w.cells.items c.args.b c.read.new.self) w.failed w.starved w.sessions w.greatest c.take_spare.new.self c.noted.new.book c.args.s c.read_number-number.result c.args.b c.in-Err.error c.noted.result number c.noted.ensures
+    ∙ ap (λ (k : Core). asked_core k c.args.s c.args.b (Err c.noted.result)) core
+
+pub returns-in-Err-clause-asks : goal.returns-in-Err-clause-asks
+returns-in-Err-clause-asks g c =
+    let w = c.self.inside in
+    let lt = within w.book.backends c.args.b w.cells.items c.self.invariant.world.sound.cells (subst (λ (x : WorldState). c.args.b < x.core.placement.backends) (sym c.self.view_is) c.requires.within) in
+    let least = subst (λ (x : WorldState). c.least-least.result ≡ (session_at x.core c.args.s).least) (sym c.self.view_is) c.least-least.ensures in
+    subst (λ (x : WorldState). Asks g.B.Backend.TELLS x.core c.args.s c.args.b c.args.select.now (Err c.noted.result)) c.self.view_is
+    (errs g.B.Backend.TELLS w.book.backends w.book.history w.cells.items w.failed w.starved w.sessions w.greatest w.heard c.self.invariant c.args.b lt c.index_mut.result.now c.index_mut.ensures.value c.args.s c.args.select.now c.least-least.result least c.take_spare.new.self c.noted.new.book c.read_number-number.result c.in-Err.error c.noted.result
+    (ap (λ (k : BookState). k.history) c.in_ok-take_spare.ensures.ok) c.noted.ensures c.in-Err.ensures.out c.in-Err.ensures.behind)
+
+pub returns-in-Err-clause-counts : goal.returns-in-Err-clause-counts
+returns-in-Err-clause-counts g c =
+    let w = c.self.inside in
+    let lt = within w.book.backends c.args.b w.cells.items c.self.invariant.world.sound.cells (subst (λ (x : WorldState). c.args.b < x.core.placement.backends) (sym c.self.view_is) c.requires.within) in
+    let is : get_or w.cells.items c.args.b c.read.new.self ≡ c.index_mut.result.now = get_or_default w.cells.items c.args.b c.read.new.self c.index_mut.result.now lt ∙ sym c.index_mut.ensures.value in
+    let fault = noted_fault c.take_spare.new.self c.noted.new.book c.args.s c.read_number-number.result c.args.b c.in-Err.error c.noted.result c.index_mut.result.now.faults c.read.new.self.faults c.noted.ensures c.in-Err.ensures.cause in
+    let now = subst (λ (x : CellState). c.read.new.self.faults ≡ cond fault.0 (next x.faults) x.faults) (sym is) fault.2 in
+    counts_set w.cells.items c.args.b c.read.new.self fault.0 lt now
+    ∙ (ap (λ (failed : Option ℕ). faults_after (faults_of w.cells.items) failed) (sym fault.1)
+    ∙ ap (λ (x : WorldState). faults_after (faults_of x.cells) (failed_asked c.args.b (Err c.noted.result))) c.self.view_is)

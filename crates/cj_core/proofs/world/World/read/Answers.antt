@@ -1,17 +1,19 @@
-use Rattle.std.proofs.Common.{Err, ap, subst}
+use Rattle.std.proofs.Common.{◌≡◌, ℕ, Bool, true, false, cond, None, Some, Ok, Err, ap, sym, ◌∙◌, subst}
 use Rattle.std.proofs.lemmas.Bool.{both_ways}
+use Rattle.cj_model.specs.declared.moves.Moved.{Moved}
 use Rattle.cj_model.specs.Cores.{session_at}
 use Rattle.cj_model.specs.Moves.{ReadsSame}
-use Rattle.cj_replica.specs.declared.cell.CellReadError.{CellReadError}
+use Rattle.cj_core.specs.declared.cells.AskError.{AskError}
 use Rattle.cj_core.specs.Worlds.{WorldState}
-use Rattle.cj_core.specs.Effects.{Asks}
-use Rattle.cj_core.proofs.Reading.{not_serving, answered, is_out, is_behind}
+use Rattle.cj_core.specs.Counting.{faults_of, faults_after, tells_fault}
+use Rattle.cj_core.specs.Effects.{Asks, asked_core, failed_asked, RefusesOrStays}
+use Rattle.cj_core.proofs.Reading.{not_serving, answered, failed, unnoted, is_out, is_behind, answers_blame_none, failures_blame}
 use Rattle.cj_core.proofs.world.World.read.Goals as goal
 
 pub returns-then-not-serves-clause-moves : goal.returns-then-not-serves-clause-moves
 returns-then-not-serves-clause-moves g c =
     let same : ReadsSame (session_at c.args.self.now.core c.args.s) c.args.select = c.if-reads_other.ensures in
-    not_serving g.B.Backend.TELLS c.args.self.now.core c.args.s c.args.b c.args.select same c.serving.result c.serving.type_inv c.if-serving-eq0.false c.serving.ensures
+    not_serving g.B.Backend.TELLS c.args.self.now.core c.args.s c.args.b c.args.select same c.serving-serving.result c.serving-serving.type_inv c.if-serving-eq0.false c.serving-serving.ensures
     (λ serves. both_ways c.serves.result c.if-not-serves.true (c.serves.ensures.1 serves))
 
 pub returns-in-Ok-clause-moves : goal.returns-in-Ok-clause-moves
@@ -20,16 +22,60 @@ returns-in-Ok-clause-moves g c =
     answered g.B.Backend.TELLS c.args.self.now.core c.args.s c.args.b c.args.select same (c.serves.ensures.0 c.if-not-serves.false) c.in-Ok.answer c.in-Ok.position c.ask.new.self.core c.answer.new.self.core
     c.answer.result c.in-Ok.ensures.asks c.in-Ok.ensures.core (ap (λ (w : WorldState). w.core) c.answer.ensures.ok) c.answer.ensures.moved
 
+pub returns-in-Ok-clause-causes : goal.returns-in-Ok-clause-causes
+returns-in-Ok-clause-causes g c =
+    let blames : tells_fault (Ok c.answer.result) ≡ false = ap (λ (m : Moved). tells_fault (Ok m)) c.answer.ensures.moved ∙ answers_blame_none c.in-Ok.answer c.in-Ok.ensures.asks.3 in
+    ap (λ (w : WorldState). faults_of w.cells) c.answer.ensures.ok ∙ (c.in-Ok.ensures.counts ∙ ap (λ (failed : Bool). faults_after (faults_of c.args.self.now.cells) (cond failed (Some c.args.b) None)) (sym blames))
+
+pub returns-in-Err-Failed-clause-moves : goal.returns-in-Err-Failed-clause-moves
+returns-in-Err-Failed-clause-moves g c =
+    let same : ReadsSame (session_at c.args.self.now.core c.args.s) c.args.select = c.if-reads_other.ensures in
+    let asks = subst (λ (e : AskError). Asks g.B.Backend.TELLS c.args.self.now.core c.args.s c.args.b c.args.select (Err e)) c.in-Err-Failed.field-0-is c.in-Err-Failed.ensures.asks in
+    let core = subst (λ (e : AskError). c.ask.new.self.core ≡ asked_core c.args.self.now.core c.args.s c.args.b (Err e)) c.in-Err-Failed.field-0-is c.in-Err-Failed.ensures.core in
+    failed g.B.Backend.TELLS c.args.self.now.core c.args.s c.args.b c.args.select same (c.serves.ensures.0 c.if-not-serves.false) c.ask.new.self.core c.refuse_or_stay.new.self.core c.refuse_or_stay.result c.serving-serving.result c.serving-serving.ensures asks core
+    (subst (λ (tried : ℕ). RefusesOrStays c.ask.new.self.core c.args.s c.args.select tried c.serving-serving.result c.refuse_or_stay.result c.refuse_or_stay.new.self.core) c.tried_with-tried.ensures c.refuse_or_stay.ensures.moves)
+
+pub returns-in-Err-Failed-clause-causes : goal.returns-in-Err-Failed-clause-causes
+returns-in-Err-Failed-clause-causes g c =
+    let counts = subst (λ (e : AskError). faults_of c.ask.new.self.cells ≡ faults_after (faults_of c.args.self.now.cells) (failed_asked c.args.b (Err e))) c.in-Err-Failed.field-0-is c.in-Err-Failed.ensures.counts in
+    let blames = failures_blame c.ask.new.self.core c.args.s c.args.select c.tried_with-tried.result c.serving-serving.result c.refuse_or_stay.result c.refuse_or_stay.new.self.core c.refuse_or_stay.ensures.moves in
+    ap faults_of c.refuse_or_stay.ensures.cells ∙ (counts ∙ ap (λ (failed : Bool). faults_after (faults_of c.args.self.now.cells) (cond failed (Some c.args.b) None)) (sym blames))
+
+pub returns-in-Err-Unnoted-clause-moves : goal.returns-in-Err-Unnoted-clause-moves
+returns-in-Err-Unnoted-clause-moves g c =
+    let same : ReadsSame (session_at c.args.self.now.core c.args.s) c.args.select = c.if-reads_other.ensures in
+    let asks = subst (λ (e : AskError). Asks g.B.Backend.TELLS c.args.self.now.core c.args.s c.args.b c.args.select (Err e)) c.in-Err-Unnoted.field-0-is c.in-Err-Unnoted.ensures.asks in
+    let core = subst (λ (e : AskError). c.ask.new.self.core ≡ asked_core c.args.self.now.core c.args.s c.args.b (Err e)) c.in-Err-Unnoted.field-0-is c.in-Err-Unnoted.ensures.core in
+    unnoted g.B.Backend.TELLS c.args.self.now.core c.args.s c.args.b c.args.select same (c.serves.ensures.0 c.if-not-serves.false) c.in-Err-Unnoted.events c.ask.new.self.core c.refuse_unnoted.new.self.core c.refuse_unnoted.result asks core c.refuse_unnoted.ensures.moved
+    (ap (λ (w : WorldState). w.core) c.refuse_unnoted.ensures.ok)
+
+pub returns-in-Err-Unnoted-clause-causes : goal.returns-in-Err-Unnoted-clause-causes
+returns-in-Err-Unnoted-clause-causes g c =
+    let counts = subst (λ (e : AskError). faults_of c.ask.new.self.cells ≡ faults_after (faults_of c.args.self.now.cells) (failed_asked c.args.b (Err e))) c.in-Err-Unnoted.field-0-is c.in-Err-Unnoted.ensures.counts in
+    let blames : tells_fault (Ok c.refuse_unnoted.result) ≡ true = ap (λ (m : Moved). tells_fault (Ok m)) c.refuse_unnoted.ensures.moved in
+    ap (λ (w : WorldState). faults_of w.cells) c.refuse_unnoted.ensures.ok ∙ (counts ∙ ap (λ (failed : Bool). faults_after (faults_of c.args.self.now.cells) (cond failed (Some c.args.b) None)) (sym blames))
+
 pub returns-in-Err-Out-clause-moves : goal.returns-in-Err-Out-clause-moves
 returns-in-Err-Out-clause-moves g c =
     let same : ReadsSame (session_at c.args.self.now.core c.args.s) c.args.select = c.if-reads_other.ensures in
-    let asks = subst (λ (e : CellReadError). Asks g.B.Backend.TELLS c.args.self.now.core c.args.s c.args.b c.args.select (Err e)) c.in-Err-Out.field-0-is c.in-Err-Out.ensures.asks in
-    is_out g.B.Backend.TELLS c.args.self.now.core c.args.s c.args.b c.args.select same (c.serves.ensures.0 c.if-not-serves.false) c.ask.new.self.core c.wait.new.self.core asks c.in-Err-Out.ensures.core
-    (ap (λ (w : WorldState). w.core) c.wait.ensures)
+    let asks = subst (λ (e : AskError). Asks g.B.Backend.TELLS c.args.self.now.core c.args.s c.args.b c.args.select (Err e)) c.in-Err-Out.field-0-is c.in-Err-Out.ensures.asks in
+    let core = subst (λ (e : AskError). c.ask.new.self.core ≡ asked_core c.args.self.now.core c.args.s c.args.b (Err e)) c.in-Err-Out.field-0-is c.in-Err-Out.ensures.core in
+    is_out g.B.Backend.TELLS c.args.self.now.core c.args.s c.args.b c.args.select same (c.serves.ensures.0 c.if-not-serves.false) c.ask.new.self.core c.wait.new.self.core asks core (ap (λ (w : WorldState). w.core) c.wait.ensures)
+
+pub returns-in-Err-Out-clause-causes : goal.returns-in-Err-Out-clause-causes
+returns-in-Err-Out-clause-causes g c =
+    let counts = subst (λ (e : AskError). faults_of c.ask.new.self.cells ≡ faults_after (faults_of c.args.self.now.cells) (failed_asked c.args.b (Err e))) c.in-Err-Out.field-0-is c.in-Err-Out.ensures.counts in
+    ap (λ (w : WorldState). faults_of w.cells) c.wait.ensures ∙ counts
 
 pub returns-in-Err-Behind-clause-moves : goal.returns-in-Err-Behind-clause-moves
 returns-in-Err-Behind-clause-moves g c =
     let same : ReadsSame (session_at c.args.self.now.core c.args.s) c.args.select = c.if-reads_other.ensures in
-    let asks = subst (λ (e : CellReadError). Asks g.B.Backend.TELLS c.args.self.now.core c.args.s c.args.b c.args.select (Err e)) c.in-Err-Behind.field-0-is c.in-Err-Behind.ensures.asks in
+    let asks = subst (λ (e : AskError). Asks g.B.Backend.TELLS c.args.self.now.core c.args.s c.args.b c.args.select (Err e)) c.in-Err-Behind.field-0-is c.in-Err-Behind.ensures.asks in
+    let core = subst (λ (e : AskError). c.ask.new.self.core ≡ asked_core c.args.self.now.core c.args.s c.args.b (Err e)) c.in-Err-Behind.field-0-is c.in-Err-Behind.ensures.core in
     is_behind g.B.Backend.TELLS c.args.self.now.core c.args.s c.args.b c.args.select same (c.serves.ensures.0 c.if-not-serves.false) c.in-Err-Behind.position c.ask.new.self.core
-    c.wait-in-Err-Behind.new.self.core asks c.in-Err-Behind.ensures.core (ap (λ (w : WorldState). w.core) c.wait-in-Err-Behind.ensures)
+    c.wait-in-Err-Behind.new.self.core asks core (ap (λ (w : WorldState). w.core) c.wait-in-Err-Behind.ensures)
+
+pub returns-in-Err-Behind-clause-causes : goal.returns-in-Err-Behind-clause-causes
+returns-in-Err-Behind-clause-causes g c =
+    let counts = subst (λ (e : AskError). faults_of c.ask.new.self.cells ≡ faults_after (faults_of c.args.self.now.cells) (failed_asked c.args.b (Err e))) c.in-Err-Behind.field-0-is c.in-Err-Behind.ensures.counts in
+    ap (λ (w : WorldState). faults_of w.cells) c.wait-in-Err-Behind.ensures ∙ counts

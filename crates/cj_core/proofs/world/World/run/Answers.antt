@@ -3,7 +3,7 @@ use Rattle.std.proofs.lemmas.List.{take_all}
 use Rattle.cj_model.specs.declared.moves.Move.{Move}
 use Rattle.cj_model.specs.declared.moves.Made.{Made}
 use Rattle.cj_core.specs.Played.{given_of, HasRun}
-use Rattle.cj_core.proofs.Making.{Making, making_none, making_same, making_more, making_longer, making_legal, making_run, making_part, making_met}
+use Rattle.cj_core.proofs.Making.{Making, making_none, making_more, making_longer, making_legal, making_run, making_part, making_met}
 use Rattle.cj_core.proofs.world.World.run.Goals as goal
 
 pub returns-in_default-clause-runs : goal.returns-in_default-clause-runs
@@ -19,22 +19,19 @@ make_copy-requires g c =
 pub returns-in_default-make_copy-clause-runs : goal.returns-in_default-make_copy-clause-runs
 returns-in_default-make_copy-clause-runs g c =
     let same = ap length c.as_slice-m-items.ensures in
-    let stopped = making_same g.B.Backend.TELLS c.args.self.now c.args.moves.now c.loop-m.m-index c.loop-m.made.items c.loop-m.self c.make_copy.new.self c.loop-m.invariant.making c.in_default-make_copy.ensures.made
-    c.in_default-make_copy.ensures.causes in
+    let stopped = subst (Making g.B.Backend.TELLS c.args.self.now c.args.moves.now c.loop-m.m-index c.loop-m.made.items) (sym c.in_default-make_copy.ensures.want) c.loop-m.invariant.making in
     making_part g.B.Backend.TELLS c.args.self.now c.args.moves.now c.loop-m.m-index c.loop-m.made.items c.make_copy.new.self c.legal.ensures c.requires.are c.requires.count (omega arith) stopped
 
 pub returns-in_default-make_copy-clause-longer : goal.returns-in_default-make_copy-clause-longer
 returns-in_default-make_copy-clause-longer g c =
     let same = ap length c.as_slice-m-items.ensures in
-    let stopped = making_same g.B.Backend.TELLS c.args.self.now c.args.moves.now c.loop-m.m-index c.loop-m.made.items c.loop-m.self c.make_copy.new.self c.loop-m.invariant.making c.in_default-make_copy.ensures.made
-    c.in_default-make_copy.ensures.causes in
+    let stopped = subst (Making g.B.Backend.TELLS c.args.self.now c.args.moves.now c.loop-m.m-index c.loop-m.made.items) (sym c.in_default-make_copy.ensures.want) c.loop-m.invariant.making in
     making_longer g.B.Backend.TELLS c.args.self.now c.args.moves.now c.loop-m.m-index c.loop-m.made.items c.make_copy.new.self c.legal.ensures c.requires.are c.requires.count (omega arith) stopped
 
 pub returns-in_default-make_copy-clause-legal : goal.returns-in_default-make_copy-clause-legal
 returns-in_default-make_copy-clause-legal g c =
     let same = ap length c.as_slice-m-items.ensures in
-    let stopped = making_same g.B.Backend.TELLS c.args.self.now c.args.moves.now c.loop-m.m-index c.loop-m.made.items c.loop-m.self c.make_copy.new.self c.loop-m.invariant.making c.in_default-make_copy.ensures.made
-    c.in_default-make_copy.ensures.causes in
+    let stopped = subst (Making g.B.Backend.TELLS c.args.self.now c.args.moves.now c.loop-m.m-index c.loop-m.made.items) (sym c.in_default-make_copy.ensures.want) c.loop-m.invariant.making in
     making_legal g.B.Backend.TELLS c.args.self.now c.args.moves.now c.loop-m.m-index c.loop-m.made.items c.make_copy.new.self c.legal.ensures c.requires.are c.requires.count (omega arith) stopped
 
 pub returns-clause-longer : goal.returns-clause-longer

@@ -30,4 +30,4 @@ returns-clause-replays g c =
 pub returns-clause-counts : goal.returns-clause-counts
 returns-clause-counts g c =
     let w = c.self.inside in
-    took_counts g.B.Backend.TELLS w.book.backends w.book.history w.cells.items w.failed w.starved w.sessions w.greatest w.heard c.self.invariant c.args.b c.take.result c.take.new.cells.items c.take.ensures c.args.self.now _ (ap (λ (x : WorldState). x.cells) (sym c.self.view_is)) refl
+    took_counts g.B.Backend.TELLS w.book.backends w.book.history w.cells.items w.failed w.starved w.sessions w.greatest w.heard c.self.invariant c.args.b c.take.result c.take.new.cells.items c.take.ensures c.args.self.now.cells (ap (λ (x : WorldState). x.cells) (sym c.self.view_is))
