@@ -1,5 +1,5 @@
 -- What calls of a backend give and leave. What a backend holds is told as `Some` database, or not told.
-use Rattle.std.specs.Prelude.{◌≡◌, ◌⊎◌, ℕ, ◌≤◌, Bool, if◌then◌else◌, not, ◌==◌, List, [], ◌∷◌, ◌++◌, filter, Contains, IfSome, IfOk, IsErrOf}
+use Rattle.std.specs.Prelude.{◌≡◌, ◌⊎◌, ℕ, ◌≤◌, Bool, true, false, if◌then◌else◌, not, ◌==◌, List, [], ◌∷◌, ◌++◌, filter, Contains, IfSome, IfOk, IsErrOf}
 use Rattle.std.specs.declared.option.Option.{Option}
 use Rattle.std.specs.declared.option.Option.TheVariants.{None, Some}
 use Rattle.std.specs.Option.{option_map}
@@ -22,6 +22,28 @@ use Rattle.cj_backend.specs.declared.backend.BackendError.TheVariants as errors
 -- a fault is counted exactly where the backend answers that it failed
 abbrev pub HasBackendCause : {T : Type 0} → ℕ → ℕ → Result T BackendError → Type 0
 HasBackendCause before now result = CountsFault (IsErrOf result errors.Failed) before now
+
+-- ---- arming
+
+pub record Arming : Type 0 where
+  -- the next call that may fail does
+  pub armed : Bool
+  -- how often it was armed, up to the largest `u64`
+  pub times : ℕ
+
+-- armed once more, if it can be
+abbrev pub arming_after : Bool → Arming → Arming
+arming_after true a = record { armed = true; times = next a.times }
+arming_after false a = a
+
+-- no longer armed
+abbrev pub spent : Arming → Arming
+spent a = record a { armed = false }
+
+-- an armed backend answers that it failed, and is no longer armed after a call
+pub record SpendsArming {T : Type 0} (before now : Arming) (result : Result T BackendError) : Type 0 where
+  pub fails : before.armed ≡ true → IsErrOf result errors.Failed
+  pub after : now ≡ spent before
 
 -- ---- asks
 

@@ -52,7 +52,7 @@ pub struct Counts {
 /// no longer tells what it holds. After the next load that is carried out it tells again.
 pub trait Backend {
     ghost use Rattle.cj_model.specs.Outcomes.{IsOutcome, IsAsked};
-    ghost use Rattle.cj_backend.specs.Backends.{HasBackendCause, SaysOutcome, SaysAnswer, told_after, LogsIn, IsBegun, begun_with, begun_without, told_loaded, begun_loaded, asks_after};
+    ghost use Rattle.cj_backend.specs.Backends.{HasBackendCause, SaysOutcome, SaysAnswer, told_after, LogsIn, IsBegun, begun_with, begun_without, told_loaded, begun_loaded, asks_after, Arming, SpendsArming, arming_after};
 
     /// Whether it tells what it holds: at all times but from a change that was not carried out to
     /// the next load that is.
@@ -75,6 +75,12 @@ pub trait Backend {
     /// The login of the last call.
     ghost login: { Self → Option (List ℕ) };
 
+    /// Whether it can be armed.
+    ghost can_be_armed: { Bool };
+
+    /// Whether it is armed, and how often it was.
+    ghost arming: { Self → Arming };
+
     /// Begins transaction `tx`.
     fn begin(&mut self, user: &Text, tx: u64) -> Result<(), BackendError>
         requires { ¬ Contains (begun self.old) tx }
@@ -82,7 +88,8 @@ pub trait Backend {
         ensures cause { HasBackendCause (faults self.old) (faults self.new) result }
         ensures login { LogsIn (login self.old) user.now result (login self.new) }
         ensures begun { begun self.new ≡ begun_with (begun self.old) tx result }
-        ensures asks { asks self.new ≡ asks self.old };
+        ensures asks { asks self.new ≡ asks self.old }
+        ensures arming { SpendsArming (arming self.old) (arming self.new) result };
 
     /// Carries out a write of transaction `tx`, 0 for none.
     fn write(&mut self, user: &Text, tx: u64, write: &Write) -> Result<Outcome, BackendError>
@@ -94,7 +101,8 @@ pub trait Backend {
         ensures cause { HasBackendCause (faults self.old) (faults self.new) result }
         ensures login { LogsIn (login self.old) user.now result (login self.new) }
         ensures begun { begun self.new ≡ begun self.old }
-        ensures asks { asks self.new ≡ asks self.old };
+        ensures asks { asks self.new ≡ asks self.old }
+        ensures arming { SpendsArming (arming self.old) (arming self.new) result };
 
     /// CREATE TABLE, outside of a transaction.
     fn create(&mut self, user: &Text, create: &Create) -> Result<Outcome, BackendError>
@@ -105,7 +113,8 @@ pub trait Backend {
         ensures cause { HasBackendCause (faults self.old) (faults self.new) result }
         ensures login { LogsIn (login self.old) user.now result (login self.new) }
         ensures begun { begun self.new ≡ begun self.old }
-        ensures asks { asks self.new ≡ asks self.old };
+        ensures asks { asks self.new ≡ asks self.old }
+        ensures arming { SpendsArming (arming self.old) (arming self.new) result };
 
     /// DROP TABLE, outside of a transaction.
     fn drop_table(&mut self, user: &Text, table: &Name) -> Result<Outcome, BackendError>
@@ -115,7 +124,8 @@ pub trait Backend {
         ensures cause { HasBackendCause (faults self.old) (faults self.new) result }
         ensures login { LogsIn (login self.old) user.now result (login self.new) }
         ensures begun { begun self.new ≡ begun self.old }
-        ensures asks { asks self.new ≡ asks self.old };
+        ensures asks { asks self.new ≡ asks self.old }
+        ensures arming { SpendsArming (arming self.old) (arming self.new) result };
 
     /// Ends transaction `tx` and keeps its writes.
     fn commit(&mut self, user: &Text, tx: u64) -> Result<(), BackendError>
@@ -124,7 +134,8 @@ pub trait Backend {
         ensures cause { HasBackendCause (faults self.old) (faults self.new) result }
         ensures login { LogsIn (login self.old) user.now result (login self.new) }
         ensures begun { begun self.new ≡ begun_without (begun self.old) tx result }
-        ensures asks { asks self.new ≡ asks self.old };
+        ensures asks { asks self.new ≡ asks self.old }
+        ensures arming { SpendsArming (arming self.old) (arming self.new) result };
 
     /// Ends transaction `tx` and forgets its writes.
     fn abort(&mut self, user: &Text, tx: u64) -> Result<(), BackendError>
@@ -133,7 +144,8 @@ pub trait Backend {
         ensures cause { HasBackendCause (faults self.old) (faults self.new) result }
         ensures login { LogsIn (login self.old) user.now result (login self.new) }
         ensures begun { begun self.new ≡ begun_without (begun self.old) tx result }
-        ensures asks { asks self.new ≡ asks self.old };
+        ensures asks { asks self.new ≡ asks self.old }
+        ensures arming { SpendsArming (arming self.old) (arming self.new) result };
 
     /// Answers a query of transaction `tx`, 0 for none.
     fn ask(&mut self, user: &Text, tx: u64, select: &Select) -> Result<Asked, BackendError>
@@ -144,7 +156,8 @@ pub trait Backend {
         ensures cause { HasBackendCause (faults self.old) (faults self.new) result }
         ensures login { LogsIn (login self.old) user.now result (login self.new) }
         ensures begun { begun self.new ≡ begun self.old }
-        ensures asks { asks self.new ≡ asks_after (asks self.old) result };
+        ensures asks { asks self.new ≡ asks_after (asks self.old) result }
+        ensures arming { SpendsArming (arming self.old) (arming self.new) result };
 
     /// A copy of what it holds, drafts included. Nothing is changed by it.
     fn contents(&mut self) -> Result<Db, BackendError>
@@ -154,7 +167,8 @@ pub trait Backend {
         ensures cause { HasBackendCause (faults self.old) (faults self.new) result }
         ensures login { login self.new ≡ login self.old }
         ensures begun { begun self.new ≡ begun self.old }
-        ensures asks { asks self.new ≡ asks self.old };
+        ensures asks { asks self.new ≡ asks self.old }
+        ensures arming { SpendsArming (arming self.old) (arming self.new) result };
 
     /// Holds this database from now on, whatever it held before. The transactions with a draft in it
     /// are begun.
@@ -164,7 +178,8 @@ pub trait Backend {
         ensures cause { HasBackendCause (faults self.old) (faults self.new) result }
         ensures login { login self.new ≡ login self.old }
         ensures begun { begun self.new ≡ begun_loaded (begun self.old) db result }
-        ensures asks { asks self.new ≡ asks self.old };
+        ensures asks { asks self.new ≡ asks self.old }
+        ensures arming { SpendsArming (arming self.old) (arming self.new) result };
 
     /// What it has counted, which takes no memory.
     fn counts(&self) -> Counts
@@ -176,6 +191,7 @@ pub trait Backend {
 
     /// Asks that the next call that may fail fails. A backend that can't ignores it.
     fn arm(&mut self)
+        ensures arming { arming self.new ≡ arming_after can_be_armed (arming self.old) }
         ensures told { told self.new ≡ told self.old }
         ensures faults { faults self.new ≡ faults self.old }
         ensures login { login self.new ≡ login self.old }

@@ -36,7 +36,7 @@ module _ (tells : Bool) (n : ℕ) (h : List Event) (cells : List CellState) (f s
   place : position_at (core_of n h cells f s ss g) b ≡ x.position
   place = position_of cells b x lt ∙ ap (λ (z : CellState). z.position) (sym there)
 
-  module _ (y : CellState) (same : y ≡ record x { faults = y.faults; asks = y.asks }) where
+  module _ (y : CellState) (same : y ≡ record x { faults = y.faults; asks = y.asks; arming = y.arming }) where
     -- no position changes
     same_places : map (λ (z : CellState). z.position) (set cells b y) ≡ map (λ (z : CellState). z.position) cells
     same_places =

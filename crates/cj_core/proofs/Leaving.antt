@@ -1,5 +1,5 @@
 -- How backends leave their cells, and what they hold then.
-use Rattle.std.proofs.Common.{◌≡◌, ℕ, ◌+◌, ◌<◌, ◌≤◌, Bool, true, List, [], ◌∷◌, ◌++◌, length, map, reverse, get_or, slice_get, Option, None, Some, refl, ap, sym, ◌∙◌, subst, arith, length-append, append-nil, eqb-true}
+use Rattle.std.proofs.Common.{◌≡◌, ℕ, ◌+◌, ◌<◌, ◌≤◌, Bool, true, List, [], ◌∷◌, ◌++◌, length, map, reverse, get_or, slice_get, Option, None, Some, refl, ap, sym, ◌∙◌, subst, arith, length-append, append-nil, eqb-true, false}
 use Rattle.std.proofs.lemmas.List.{reverse-reverse, length-reverse, length-map, get_or-map, nil_from_length, take_all}
 use Rattle.std.proofs.lemmas.Option.{slice_get-get_or}
 use Rattle.cj_model.specs.declared.database.Slot.{Slot}
@@ -59,7 +59,7 @@ module _ {X : Type 0} (told_of : X → Option (List Slot)) (faults_of : X → �
 -- ---- what they hold
 
 some_cell : CellState
-some_cell = record { b = 0; backends = 0; position = None; told = None; faults = 0; asks = 0 }
+some_cell = record { b = 0; backends = 0; position = None; told = None; faults = 0; asks = 0; arming = record { armed = false; times = 0 } }
 
 module _ (tells : Bool) (w : WorldState) (world : IsWorld tells w) (told : List (Option (List Slot))) (is : told ≡ map (λ (x : CellState). x.told) w.cells) where
   pub are_holding : AreHolding tells w.core told

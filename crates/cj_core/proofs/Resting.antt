@@ -28,7 +28,7 @@ use Rattle.cj_core.proofs.Keeping.{position_of}
 -- ---- at rest
 
 some_cell : CellState
-some_cell = record { b = 0; backends = 0; position = None; told = None; faults = 0; asks = 0 }
+some_cell = record { b = 0; backends = 0; position = None; told = None; faults = 0; asks = 0; arming = record { armed = false; times = 0 } }
 
 module _ (n : ℕ) (cells : List CellState) (fresh : AreFresh n cells) where
   as_many : length (map (λ (x : CellState). x.position) cells) ≡ n

@@ -3,6 +3,7 @@ use Rattle.std.proofs.Common.{◌≡◌, ℕ, ◌+◌, ◌<◌, ◌≤◌, List,
 use Rattle.std.proofs.lemmas.Bool.{cases_lt}
 use Rattle.std.proofs.lemmas.List.{map_push, reverse-append, reverse-reverse, get_or_push, get_or_append_left, nil_from_length}
 use Rattle.cj_model.specs.declared.database.Slot.{Slot}
+use Rattle.cj_backend.specs.Backends.{Arming}
 use Rattle.cj_replica.specs.Cells.{CellState}
 use Rattle.cj_core.specs.Starts.{IsFresh, AreFresh}
 
@@ -44,9 +45,9 @@ module _ {X : Type 0} (told_of : X → Option (List Slot)) (faults_of : X → �
         let room : n ≤ capacity = moving.room in
         (omega arith, omega arith)
 
-    pub moving_more : (number asks : ℕ) (y : CellState) (now : List CellState) (capacity_now : ℕ) → number ≡ length cells → y ≡ record { b = number; backends = n; position = Some 0; told = told_of x; faults = faults_of x; asks = asks }
+    pub moving_more : (number asks : ℕ) (arming : Arming) (y : CellState) (now : List CellState) (capacity_now : ℕ) → number ≡ length cells → y ≡ record { b = number; backends = n; position = Some 0; told = told_of x; faults = faults_of x; asks = asks; arming = arming }
         → now ≡ cells ++ y ∷ [] → capacity_now ≡ capacity → Moving told_of faults_of n all left now capacity_now
-    moving_more number asks y now capacity_now numbered made pushed same =
+    moving_more number asks arming y now capacity_now numbered made pushed same =
         let more = length-append cells (y ∷ []) in
         let all_of : length cells + (length left + 1) ≡ n = count in
         rw (pushed, same)

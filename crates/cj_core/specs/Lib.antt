@@ -1,3 +1,4 @@
+pub mod Armings
 pub mod Counting
 pub mod Effects
 pub mod Kept

@@ -9,7 +9,9 @@ ghost use Rattle.cj_model.specs.Moves as moves;
 ghost use Rattle.cj_model.specs.Moves.{Opens, Closes, Schedules, Applies, Ends, Reads, ReadsOrWaits, Arms, Disables, Replays, Enables, MovesTo, not_now, with_read, answered_at, was_answered, still_reading, IsFarEnough};
 ghost use Rattle.cj_model.specs.Answering.{ServesAt};
 ghost use Rattle.cj_model.specs.Runs.{IsLoneWrite};
-ghost use Rattle.cj_core.specs.Counting.{HasCauses};
+ghost use Rattle.cj_replica.specs.Cells.{CellState};
+ghost use Rattle.cj_core.specs.Armings.{ArmsCell, armed_at};
+ghost use Rattle.cj_core.specs.Counting.{HasCauses, faults_of};
 ghost use Rattle.cj_core.specs.Effects.{IsChange, RefusesOrStays, answer_given, with_core};
 ghost use Rattle.cj_core.specs.Steps.{IsMet};
 
@@ -220,7 +222,8 @@ impl<B: Backend> World<B> {
     fn arm(&mut self, b: u8) -> Moved
         requires { b < self.old.core.placement.backends }
         ensures moves { Arms self.old.core (Ok result) self.new.core }
-        ensures cells { self.new.cells ≡ self.old.cells }
+        ensures cells { (d : CellState) → self.new.cells ≡ armed_at B.can_be_armed self.old.cells b d }
+        ensures faults { faults_of self.new.cells ≡ faults_of self.old.cells }
     {
         self.arm_backend(b);
         Moved::Armed
@@ -273,6 +276,7 @@ impl<B: Backend> World<B> {
         requires { IsMet self.old.core m }
         ensures moves { MovesTo B.TELLS self.old.core m result self.new.core }
         ensures causes { HasCauses self.old self.new m result }
+        ensures armed { result ≡ Ok Moved.Armed → ArmsCell B.can_be_armed self.old.cells m self.new.cells }
         ensures want { IsErrOf result MoveError.NoMemory → self.new ≡ self.old }
     {
         if let Some(why) = self.not_now(&m) {

@@ -17,6 +17,7 @@ ghost use Rattle.cj_model.specs.Sound.{IsLone};
 ghost use Rattle.cj_replica.specs.Cells.{CellState};
 ghost use Rattle.cj_core.specs.Worlds.{IsWorld};
 ghost use Rattle.cj_core.specs.Starts.{AreEmpty, AreFresh, begun};
+ghost use Rattle.cj_core.specs.Armings.{armed_at};
 ghost use Rattle.cj_core.specs.Counting.{did_fail, faults_after, faults_of};
 ghost use Rattle.cj_core.specs.Effects.{AnswersOpen, Asks, IsChange, asked_core, failed_asked, IsReadOf, IsReadOther, Refuses, with_core, SchedulesAs, HadRoom};
 
@@ -557,9 +558,12 @@ impl<B: Backend> World<B> {
         }
     }
 
+    /// Arms the backend, if it can be.
     pub(crate) fn arm_backend(&mut self, b: u8)
         requires { b < self.old.core.placement.backends }
-        ensures { self.new ≡ self.old }
+        ensures core { self.new.core ≡ self.old.core }
+        ensures cells { (d : CellState) → self.new.cells ≡ armed_at B.can_be_armed self.old.cells b d }
+        ensures faults { faults_of self.new.cells ≡ faults_of self.old.cells }
     {
         self.cells[b as usize].arm();
     }

@@ -16,7 +16,7 @@ use Rattle.cj_model.specs.Storable.{IsStorable}
 use Rattle.cj_backend.specs.declared.backend.BackendError.{BackendError}
 use Rattle.cj_backend.specs.declared.backend.BackendError.TheVariants.{Failed}
 use Rattle.cj_backend.specs.declared.backend.Backend.{Ghosts}
-use Rattle.cj_backend.specs.Backends.{HasBackendCause, SaysOutcome, SaysAnswer, told_after, told_loaded, LogsIn, begun_with, begun_without, begun_loaded, asks_after}
+use Rattle.cj_backend.specs.Backends.{HasBackendCause, SaysOutcome, SaysAnswer, told_after, told_loaded, LogsIn, begun_with, begun_without, begun_loaded, asks_after, Arming, SpendsArming}
 
 pub record FlakyState (B : Type 0) : Type 0 where
   -- the backend that it passes calls on to
@@ -27,6 +27,8 @@ pub record FlakyState (B : Type 0) : Type 0 where
   pub calls : ℕ
   -- whether the next call fails whatever its number
   pub armed : Bool
+  -- how often it was armed, up to the largest `u64`
+  pub armings : ℕ
   -- whether each change since the last load that was carried out was passed on
   pub passed : Bool
   -- how many calls it failed itself, up to the largest `u64`
@@ -35,7 +37,7 @@ pub record FlakyState (B : Type 0) : Type 0 where
 module _ {B : Type 0} where
   -- over this backend, before any call
   abbrev pub fresh_over : B → List ℕ → FlakyState B
-  fresh_over inner fails = record { inner = inner; fails = fails; calls = 0; armed = false; passed = true; faults = 0 }
+  fresh_over inner fails = record { inner = inner; fails = fails; calls = 0; armed = false; armings = 0; passed = true; faults = 0 }
 
   -- the next call fails: the backend is armed, or the call's number is listed
   abbrev pub IsToFail : FlakyState B → Type 0
@@ -95,6 +97,7 @@ module _ {B : Type 0} (g : Ghosts B) (old : B) where
     pub cause : HasBackendCause (g.faults old) (g.faults new) result
     pub login : LogsIn (g.login old) user result (g.login new)
     pub asks : g.asks new ≡ g.asks old
+    pub arming : SpendsArming (g.arming old) (g.arming new) result
 
   pub record PassesBegin (user : List ℕ) (tx : ℕ) (result : Result Unit BackendError) (new : B) : Type 0 where
     pub change : PassesChange user tx act.Begin result new
@@ -120,6 +123,7 @@ module _ {B : Type 0} (g : Ghosts B) (old : B) where
     pub login : LogsIn (g.login old) user result (g.login new)
     pub begun : g.begun new ≡ g.begun old
     pub asks : g.asks new ≡ asks_after (g.asks old) result
+    pub arming : SpendsArming (g.arming old) (g.arming new) result
 
   pub record PassesContents (result : Result (List Slot) BackendError) (new : B) : Type 0 where
     pub contents : IfOk result (λ db. IfSome (g.told old) (λ held. db ≡ held))
@@ -129,6 +133,7 @@ module _ {B : Type 0} (g : Ghosts B) (old : B) where
     pub login : g.login new ≡ g.login old
     pub begun : g.begun new ≡ g.begun old
     pub asks : g.asks new ≡ g.asks old
+    pub arming : SpendsArming (g.arming old) (g.arming new) result
 
   pub record PassesLoad (db : List Slot) (result : Result Unit BackendError) (new : B) : Type 0 where
     pub told : g.told new ≡ told_loaded g.TELLS db result
@@ -136,6 +141,7 @@ module _ {B : Type 0} (g : Ghosts B) (old : B) where
     pub login : g.login new ≡ g.login old
     pub begun : g.begun new ≡ begun_loaded (g.begun old) db result
     pub asks : g.asks new ≡ g.asks old
+    pub arming : SpendsArming (g.arming old) (g.arming new) result
 
 -- ---- what it tells
 
@@ -145,6 +151,9 @@ told_where true told = told
 told_where false told = None
 
 module _ {B : Type 0} where
+  abbrev pub arming_of : FlakyState B → Arming
+  arming_of s = record { armed = s.armed; times = s.armings }
+
   -- the same of a flaky backend, by what inner backends tell
   abbrev pub told_by : (B → Option (List Slot)) → FlakyState B → Option (List Slot)
   told_by told s = told_where s.passed (told s.inner)

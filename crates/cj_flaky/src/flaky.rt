@@ -21,6 +21,8 @@ pub struct Flaky<B: Backend> {
     fails: ListOf<u64>,
     calls: u64,
     armed: bool,
+    /// How often it was armed, up to 2^64 - 1.
+    armings: u64,
     /// Whether each change since the last load that was carried out was passed on.
     passed: bool,
     /// The calls that failed here, up to 2^64 - 1.
@@ -32,7 +34,7 @@ impl<B: Backend> Model for Flaky<B> {
 
     ghost Value = { FlakyState B };
 
-    ghost view = { λ f. record { inner = f.inner; fails = f.fails; calls = f.calls; armed = f.armed; passed = f.passed; faults = f.faults } };
+    ghost view = { λ f. record { inner = f.inner; fails = f.fails; calls = f.calls; armed = f.armed; armings = f.armings; passed = f.passed; faults = f.faults } };
 }
 
 impl<B: Backend> Flaky<B> {
@@ -47,6 +49,7 @@ impl<B: Backend> Flaky<B> {
             fails,
             calls: 0,
             armed: false,
+            armings: 0,
             passed: true,
             faults: 0,
         }
@@ -104,13 +107,14 @@ impl<B: Backend> Flaky<B> {
 
 impl<B: Backend> Backend for Flaky<B> {
     ghost use Rattle.std.specs.Prelude.{Contains, IfOk, IfSome};
+    ghost use Rattle.cj_outside.specs.Causes.{next};
     ghost use Rattle.cj_model.specs.declared.request.Act.TheVariants as act;
     ghost use Rattle.cj_model.specs.declared.request.Request.TheVariants as request;
     ghost use Rattle.cj_model.specs.Legality.{IsWritten};
     ghost use Rattle.cj_model.specs.Outcomes.{IsOutcome, IsAsked};
     ghost use Rattle.cj_model.specs.Storable.{IsStorable};
-    ghost use Rattle.cj_backend.specs.Backends.{HasBackendCause, SaysOutcome, SaysAnswer, told_after, LogsIn, IsBegun, begun_with, begun_without, told_loaded, begun_loaded, asks_after};
-    ghost use Rattle.cj_flaky.specs.FlakyBackends.{CallsAsListed, ChangesAsListed, LoadsAsListed, PassesAsk, PassesBegin, PassesContents, PassesEnd, PassesLoad, PassesWrite, faults_by, told_by};
+    ghost use Rattle.cj_backend.specs.Backends.{HasBackendCause, SaysOutcome, SaysAnswer, told_after, LogsIn, IsBegun, begun_with, begun_without, told_loaded, begun_loaded, asks_after, SpendsArming};
+    ghost use Rattle.cj_flaky.specs.FlakyBackends.{CallsAsListed, ChangesAsListed, LoadsAsListed, PassesAsk, PassesBegin, PassesContents, PassesEnd, PassesLoad, PassesWrite, arming_of, faults_by, told_by};
 
     const TELLS: bool = B::TELLS;
 
@@ -126,6 +130,10 @@ impl<B: Backend> Backend for Flaky<B> {
 
     ghost login = { λ f. B.login f.inner };
 
+    ghost can_be_armed = { true };
+
+    ghost arming = { λ f. arming_of f };
+
     fn begin(&mut self, user: &Text, tx: u64) -> Result<(), BackendError>
         requires { ¬ Contains (B.begun self.old.inner) tx }
         ensures told { told_by B.told self.new ≡ told_after (told_by B.told self.old) tx act.Begin result }
@@ -133,6 +141,7 @@ impl<B: Backend> Backend for Flaky<B> {
         ensures login { LogsIn (B.login self.old.inner) user.now result (B.login self.new.inner) }
         ensures begun { B.begun self.new.inner ≡ begun_with (B.begun self.old.inner) tx result }
         ensures asks { B.asks self.new.inner ≡ B.asks self.old.inner }
+        ensures arming { SpendsArming (arming_of self.old) (arming_of self.new) result }
         ensures listed { ChangesAsListed self.old result self.new (PassesBegin B.Backend self.old.inner user.now tx result self.new.inner) }
     {
         self.enter_change()?;
@@ -149,6 +158,7 @@ impl<B: Backend> Backend for Flaky<B> {
         ensures login { LogsIn (B.login self.old.inner) user.now result (B.login self.new.inner) }
         ensures begun { B.begun self.new.inner ≡ B.begun self.old.inner }
         ensures asks { B.asks self.new.inner ≡ B.asks self.old.inner }
+        ensures arming { SpendsArming (arming_of self.old) (arming_of self.new) result }
         ensures listed { ChangesAsListed self.old result self.new (PassesWrite B.Backend self.old.inner user.now tx (act.Write write.now) result self.new.inner) }
     {
         self.enter_change()?;
@@ -164,6 +174,7 @@ impl<B: Backend> Backend for Flaky<B> {
         ensures login { LogsIn (B.login self.old.inner) user.now result (B.login self.new.inner) }
         ensures begun { B.begun self.new.inner ≡ B.begun self.old.inner }
         ensures asks { B.asks self.new.inner ≡ B.asks self.old.inner }
+        ensures arming { SpendsArming (arming_of self.old) (arming_of self.new) result }
         ensures listed { ChangesAsListed self.old result self.new (PassesWrite B.Backend self.old.inner user.now 0 (act.Create create.now) result self.new.inner) }
     {
         self.enter_change()?;
@@ -178,6 +189,7 @@ impl<B: Backend> Backend for Flaky<B> {
         ensures login { LogsIn (B.login self.old.inner) user.now result (B.login self.new.inner) }
         ensures begun { B.begun self.new.inner ≡ B.begun self.old.inner }
         ensures asks { B.asks self.new.inner ≡ B.asks self.old.inner }
+        ensures arming { SpendsArming (arming_of self.old) (arming_of self.new) result }
         ensures listed { ChangesAsListed self.old result self.new (PassesWrite B.Backend self.old.inner user.now 0 (act.Drop table.now) result self.new.inner) }
     {
         self.enter_change()?;
@@ -191,6 +203,7 @@ impl<B: Backend> Backend for Flaky<B> {
         ensures login { LogsIn (B.login self.old.inner) user.now result (B.login self.new.inner) }
         ensures begun { B.begun self.new.inner ≡ begun_without (B.begun self.old.inner) tx result }
         ensures asks { B.asks self.new.inner ≡ B.asks self.old.inner }
+        ensures arming { SpendsArming (arming_of self.old) (arming_of self.new) result }
         ensures listed { ChangesAsListed self.old result self.new (PassesEnd B.Backend self.old.inner user.now tx act.Commit result self.new.inner) }
     {
         self.enter_change()?;
@@ -204,6 +217,7 @@ impl<B: Backend> Backend for Flaky<B> {
         ensures login { LogsIn (B.login self.old.inner) user.now result (B.login self.new.inner) }
         ensures begun { B.begun self.new.inner ≡ begun_without (B.begun self.old.inner) tx result }
         ensures asks { B.asks self.new.inner ≡ B.asks self.old.inner }
+        ensures arming { SpendsArming (arming_of self.old) (arming_of self.new) result }
         ensures listed { ChangesAsListed self.old result self.new (PassesEnd B.Backend self.old.inner user.now tx act.Abort result self.new.inner) }
     {
         self.enter_change()?;
@@ -219,6 +233,7 @@ impl<B: Backend> Backend for Flaky<B> {
         ensures login { LogsIn (B.login self.old.inner) user.now result (B.login self.new.inner) }
         ensures begun { B.begun self.new.inner ≡ B.begun self.old.inner }
         ensures asks { B.asks self.new.inner ≡ asks_after (B.asks self.old.inner) result }
+        ensures arming { SpendsArming (arming_of self.old) (arming_of self.new) result }
         ensures listed { CallsAsListed self.old result self.new (PassesAsk B.Backend self.old.inner user.now tx select.now result self.new.inner) }
     {
         self.enter()?;
@@ -233,6 +248,7 @@ impl<B: Backend> Backend for Flaky<B> {
         ensures login { B.login self.new.inner ≡ B.login self.old.inner }
         ensures begun { B.begun self.new.inner ≡ B.begun self.old.inner }
         ensures asks { B.asks self.new.inner ≡ B.asks self.old.inner }
+        ensures arming { SpendsArming (arming_of self.old) (arming_of self.new) result }
         ensures listed { CallsAsListed self.old result self.new (PassesContents B.Backend self.old.inner result self.new.inner) }
     {
         self.enter()?;
@@ -247,6 +263,7 @@ impl<B: Backend> Backend for Flaky<B> {
         ensures login { B.login self.new.inner ≡ B.login self.old.inner }
         ensures begun { B.begun self.new.inner ≡ begun_loaded (B.begun self.old.inner) db result }
         ensures asks { B.asks self.new.inner ≡ B.asks self.old.inner }
+        ensures arming { SpendsArming (arming_of self.old) (arming_of self.new) result }
         ensures listed { LoadsAsListed self.old result self.new (PassesLoad B.Backend self.old.inner db result self.new.inner) }
     {
         self.enter_change()?;
@@ -270,8 +287,9 @@ impl<B: Backend> Backend for Flaky<B> {
 
     /// The next numbered call fails. The inner backend is not armed.
     fn arm(&mut self)
-        ensures { self.new ≡ record self.old { armed = true } }
+        ensures { self.new ≡ record self.old { armed = true; armings = next self.old.armings } }
     {
         self.armed = true;
+        self.armings = self.armings.saturating_add(1);
     }
 }

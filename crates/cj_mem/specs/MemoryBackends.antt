@@ -9,6 +9,7 @@ use Rattle.cj_model.specs.declared.request.Act.{Act}
 use Rattle.cj_model.specs.Steps.{acted}
 use Rattle.cj_backend.specs.declared.backend.BackendError.{BackendError}
 use Rattle.cj_backend.specs.declared.backend.BackendError.TheVariants.{Failed, NoMemory}
+use Rattle.cj_backend.specs.Backends.{Arming}
 
 pub record MemoryState : Type 0 where
   -- what it tells that it holds: nothing from a change that was not carried out to the next load that is
@@ -22,6 +23,10 @@ pub record MemoryState : Type 0 where
 -- an empty database, and nothing counted
 abbrev pub fresh_state : MemoryState
 fresh_state = record { told = Some []; held = []; asks = 0; begun = []; login = None }
+
+-- it can't be armed
+abbrev pub never_armed : Arming
+never_armed = record { armed = false; times = 0 }
 
 -- what is held after an act: the act's database, or after an error what was held before
 abbrev pub held_after : {T : Type 0} → List Slot → ℕ → Act → Result T BackendError → List Slot

@@ -125,15 +125,15 @@ impl MemBackend {
 }
 
 impl Backend for MemBackend {
-    ghost use Rattle.std.specs.Prelude.{true, Contains, IfSome};
+    ghost use Rattle.std.specs.Prelude.{true, false, Contains, IfSome};
     ghost use Rattle.cj_model.specs.declared.request.Act.TheVariants as act;
     ghost use Rattle.cj_model.specs.declared.request.Request.TheVariants as request;
     ghost use Rattle.cj_model.specs.Legality.{IsWritten};
     ghost use Rattle.cj_model.specs.Queries.{ask};
     ghost use Rattle.cj_model.specs.Steps.{acted};
     ghost use Rattle.cj_model.specs.Storable.{IsStorable};
-    ghost use Rattle.cj_backend.specs.Backends.{HasBackendCause, SaysOutcome, SaysAnswer, told_after, LogsIn, IsBegun, begun_with, begun_without, IsOutcome, IsAsked, told_loaded, begun_loaded, asks_after};
-    ghost use Rattle.cj_mem.specs.MemoryBackends.{held_after, held_loaded};
+    ghost use Rattle.cj_backend.specs.Backends.{HasBackendCause, SaysOutcome, SaysAnswer, told_after, LogsIn, IsBegun, begun_with, begun_without, IsOutcome, IsAsked, told_loaded, begun_loaded, asks_after, SpendsArming};
+    ghost use Rattle.cj_mem.specs.MemoryBackends.{held_after, held_loaded, never_armed};
 
     const TELLS: bool = true;
 
@@ -149,11 +149,16 @@ impl Backend for MemBackend {
 
     ghost login = { λ b. b.login };
 
+    ghost can_be_armed = { false };
+
+    ghost arming = { λ _. never_armed };
+
     fn begin(&mut self, user: &Text, tx: u64) -> Result<(), BackendError>
         requires { ¬ Contains self.old.begun tx }
         ensures told { self.new.told ≡ told_after self.old.told tx act.Begin result }
         ensures held { self.new.held ≡ held_after self.old.held tx act.Begin result }
         ensures cause { HasBackendCause 0 0 result }
+        ensures arming { SpendsArming never_armed never_armed result }
         ensures login { LogsIn self.old.login user.now result self.new.login }
         ensures begun { self.new.begun ≡ begun_with self.old.begun tx result }
         ensures asks { self.new.asks ≡ self.old.asks }
@@ -171,6 +176,7 @@ impl Backend for MemBackend {
         ensures told { self.new.told ≡ told_after self.old.told tx (act.Write write.now) result }
         ensures held { self.new.held ≡ held_after self.old.held tx (act.Write write.now) result }
         ensures cause { HasBackendCause 0 0 result }
+        ensures arming { SpendsArming never_armed never_armed result }
         ensures login { LogsIn self.old.login user.now result self.new.login }
         ensures begun { self.new.begun ≡ self.old.begun }
         ensures asks { self.new.asks ≡ self.old.asks }
@@ -191,6 +197,7 @@ impl Backend for MemBackend {
         ensures told { self.new.told ≡ told_after self.old.told 0 (act.Create create.now) result }
         ensures held { self.new.held ≡ held_after self.old.held 0 (act.Create create.now) result }
         ensures cause { HasBackendCause 0 0 result }
+        ensures arming { SpendsArming never_armed never_armed result }
         ensures login { LogsIn self.old.login user.now result self.new.login }
         ensures begun { self.new.begun ≡ self.old.begun }
         ensures asks { self.new.asks ≡ self.old.asks }
@@ -210,6 +217,7 @@ impl Backend for MemBackend {
         ensures told { self.new.told ≡ told_after self.old.told 0 (act.Drop table.now) result }
         ensures held { self.new.held ≡ held_after self.old.held 0 (act.Drop table.now) result }
         ensures cause { HasBackendCause 0 0 result }
+        ensures arming { SpendsArming never_armed never_armed result }
         ensures login { LogsIn self.old.login user.now result self.new.login }
         ensures begun { self.new.begun ≡ self.old.begun }
         ensures asks { self.new.asks ≡ self.old.asks }
@@ -224,6 +232,7 @@ impl Backend for MemBackend {
         ensures told { self.new.told ≡ told_after self.old.told tx act.Commit result }
         ensures held { self.new.held ≡ held_after self.old.held tx act.Commit result }
         ensures cause { HasBackendCause 0 0 result }
+        ensures arming { SpendsArming never_armed never_armed result }
         ensures login { LogsIn self.old.login user.now result self.new.login }
         ensures begun { self.new.begun ≡ begun_without self.old.begun tx result }
         ensures asks { self.new.asks ≡ self.old.asks }
@@ -244,6 +253,7 @@ impl Backend for MemBackend {
         ensures told { self.new.told ≡ told_after self.old.told tx act.Abort result }
         ensures held { self.new.held ≡ held_after self.old.held tx act.Abort result }
         ensures cause { HasBackendCause 0 0 result }
+        ensures arming { SpendsArming never_armed never_armed result }
         ensures login { LogsIn self.old.login user.now result self.new.login }
         ensures begun { self.new.begun ≡ begun_without self.old.begun tx result }
         ensures asks { self.new.asks ≡ self.old.asks }
@@ -260,6 +270,7 @@ impl Backend for MemBackend {
         ensures held_answer { IfOk result (λ answer. answer ≡ ask self.old.held tx query.now) }
         ensures possible { IfOk result IsAsked }
         ensures cause { HasBackendCause 0 0 result }
+        ensures arming { SpendsArming never_armed never_armed result }
         ensures login { LogsIn self.old.login user.now result self.new.login }
         ensures asks { self.new.asks ≡ asks_after self.old.asks result }
         ensures same { self.new ≡ record self.old { login = self.new.login; asks = self.new.asks } }
@@ -276,6 +287,7 @@ impl Backend for MemBackend {
         ensures held_contents { IfOk result (λ db. db ≡ self.old.held) }
         ensures storable { IfOk result IsStorable }
         ensures cause { HasBackendCause 0 0 result }
+        ensures arming { SpendsArming never_armed never_armed result }
         ensures same { self.new ≡ self.old }
     {
         Ok(self.tables.to_db()?)
@@ -287,6 +299,7 @@ impl Backend for MemBackend {
         ensures told { self.new.told ≡ told_loaded true db result }
         ensures held { self.new.held ≡ held_loaded self.old.held db result }
         ensures cause { HasBackendCause 0 0 result }
+        ensures arming { SpendsArming never_armed never_armed result }
         ensures login { self.new.login ≡ self.old.login }
         ensures begun { self.new.begun ≡ begun_loaded self.old.begun db result }
         ensures asks { self.new.asks ≡ self.old.asks }

@@ -1,5 +1,5 @@
 -- What contracts see of a cell, and what its calls give and leave.
-use Rattle.std.specs.Prelude.{◌≡◌, ℕ, ◌+◌, Bool, true, false, List, [], IfSome, IsErrOf}
+use Rattle.std.specs.Prelude.{◌≡◌, ℕ, ◌+◌, Bool, true, false, if◌then◌else◌, List, [], IfSome, IsErrOf}
 use Rattle.std.specs.declared.option.Option.{Option}
 use Rattle.std.specs.declared.option.Option.TheVariants.{None, Some}
 use Rattle.std.specs.Option.{option_map}
@@ -16,6 +16,7 @@ use Rattle.cj_model.specs.Placements.{everywhere, concerns}
 use Rattle.cj_backend.specs.declared.backend.BackendError.{BackendError}
 use Rattle.cj_backend.specs.declared.backend.BackendError.TheVariants as backend_errors
 use Rattle.cj_model.specs.Outcomes.{IsOutcome}
+use Rattle.cj_backend.specs.Backends.{Arming, spent}
 use Rattle.cj_replica.specs.declared.cell.Caught.{Caught}
 use Rattle.cj_replica.specs.declared.cell.Caught.TheVariants.{Skipped, Did}
 use Rattle.cj_replica.specs.declared.cell.CellError.{CellError}
@@ -35,6 +36,8 @@ pub record CellState : Type 0 where
   pub faults : ℕ
   -- how many queries its backend has answered
   pub asks : ℕ
+  -- whether its backend is armed, and how often it was
+  pub arming : Arming
 
 -- ---- taking an entry
 
@@ -79,6 +82,11 @@ IsCaught (Did o) = IsOutcome o
 abbrev pub HasCellCause : ℕ → ℕ → Result Caught CellError → Type 0
 HasCellCause before now result = CountsFault (IsErrOf result errors.Failed) before now
 
+-- where its backend was asked, an armed one failed and is no longer armed; one that was not asked stays as it was
+pub record SpendsArmingIf (asked : Bool) (failed : Type 0) (before now : Arming) : Type 0 where
+  pub fails : asked ≡ true → before.armed ≡ true → failed
+  pub after : now ≡ (if asked then spent before else before)
+
 -- a cell's error from its backend's
 abbrev pub error_of : BackendError → CellError
 error_of backend_errors.Failed = errors.Failed
@@ -93,6 +101,14 @@ SaysAnswer told tx select answer = IfSome told (λ db. answer ≡ ask db tx sele
 -- the same of a read
 abbrev pub HasCellReadCause : ℕ → ℕ → Result (Asked × ℕ) CellReadError → Type 0
 HasCellReadCause before now result = CountsFault (IsErrOf result read_errors.Failed) before now
+
+-- the backend was asked
+abbrev pub is_asked : Result (Asked × ℕ) CellReadError → Bool
+is_asked (Ok answer) = true
+is_asked (Err read_errors.Out) = false
+is_asked (Err (read_errors.Behind p)) = false
+is_asked (Err read_errors.Failed) = true
+is_asked (Err read_errors.NoMemory) = true
 
 abbrev pub read_error_of : BackendError → CellReadError
 read_error_of backend_errors.Failed = read_errors.Failed

@@ -92,15 +92,15 @@ impl<B: Backend> Model for Cell<B> {
 
     ghost Value = { CellState };
 
-    ghost view = { λ c. record { b = c.b; backends = c.backends; position = c.position; told = B.told c.backend; faults = B.faults c.backend; asks = B.asks c.backend } };
+    ghost view = { λ c. record { b = c.b; backends = c.backends; position = c.position; told = B.told c.backend; faults = B.faults c.backend; asks = B.asks c.backend; arming = B.arming c.backend } };
 }
 
 impl<B: Backend> Cell<B> {
-    ghost use Rattle.cj_replica.specs.Cells.{HasCellCause, HasCellReadCause, IsCaught, IsNext, SaysAnswer, SaysOutcome, is_concerned, is_skipped, position_after, told_after};
+    ghost use Rattle.cj_replica.specs.Cells.{HasCellCause, HasCellReadCause, IsCaught, IsNext, SaysAnswer, SaysOutcome, SpendsArmingIf, is_asked, is_concerned, is_skipped, position_after, told_after};
 
     /// Backend `b` of so many, which has taken no entry.
     pub fn new(b: u8, backends: u8, backend: B) -> Cell<B>
-        ensures { result ≡ record { b = b; backends = backends; position = Some 0; told = B.told backend; faults = B.faults backend; asks = B.asks backend } }
+        ensures { result ≡ record { b = b; backends = backends; position = Some 0; told = B.told backend; faults = B.faults backend; asks = B.asks backend; arming = B.arming backend } }
     {
         Cell {
             b,
@@ -121,6 +121,7 @@ impl<B: Backend> Cell<B> {
         ensures possible { IfOk result IsCaught }
         ensures cause { HasCellCause self.old.faults self.new.faults result }
         ensures asks { self.new.asks ≡ self.old.asks }
+        ensures arming { SpendsArmingIf (not (is_skipped result)) (result ≡ Err CellError.Failed) self.old.arming self.new.arming }
 
         ensures told { self.new.told ≡ told_after self.old.told e.now result }
         ensures position { self.new.position ≡ position_after n result }
@@ -156,7 +157,8 @@ impl<B: Backend> Cell<B> {
         ensures owed { IfOk result (λ (answer, at). least ≤ at) }
         ensures cause { HasCellReadCause self.old.faults self.new.faults result }
         ensures asks { self.new.asks ≡ backends.asks_after self.old.asks result }
-        ensures same { self.new ≡ record self.old { faults = self.new.faults; asks = self.new.asks } }
+        ensures arming { SpendsArmingIf (is_asked result) (result ≡ Err CellReadError.Failed) self.old.arming self.new.arming }
+        ensures same { self.new ≡ record self.old { faults = self.new.faults; asks = self.new.asks; arming = self.new.arming } }
     {
         let Some(position) = self.position else {
             return Err(CellReadError::Out);
@@ -180,13 +182,14 @@ impl<B: Backend> Cell<B> {
         ensures told { B.told result.now ≡ self.now.told }
         ensures faults { B.faults result.now ≡ self.now.faults }
         ensures asks { B.asks result.now ≡ self.now.asks }
+        ensures arming { B.arming result.now ≡ self.now.arming }
     {
         &self.backend
     }
 
     /// Asks that the backend's next call fails; one that can't do so ignores it.
     pub fn arm(&mut self)
-        ensures { self.new ≡ self.old }
+        ensures { self.new ≡ record self.old { arming = backends.arming_after B.can_be_armed self.old.arming } }
     {
         self.backend.arm();
     }
@@ -196,6 +199,7 @@ impl<B: Backend> Cell<B> {
         ensures told { B.told result ≡ self.told }
         ensures faults { B.faults result ≡ self.faults }
         ensures asks { B.asks result ≡ self.asks }
+        ensures arming { B.arming result ≡ self.arming }
     {
         let Cell { backend, .. } = self;
         backend
@@ -211,6 +215,7 @@ fn carry_out<B: Backend>(backend: &mut B, e: &Entry, login: &Text) -> Result<Out
     ensures told { B.told backend.new ≡ backends.told_after (B.told backend.old) e.now.tx e.now.act result }
     ensures cause { backends.HasBackendCause (B.faults backend.old) (B.faults backend.new) result }
     ensures asks { B.asks backend.new ≡ B.asks backend.old }
+    ensures arming { backends.SpendsArming (B.arming backend.old) (B.arming backend.new) result }
 {
     match &e.act {
         Act::Write(write) => backend.write(login, e.tx, write),

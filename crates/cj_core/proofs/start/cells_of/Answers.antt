@@ -30,7 +30,7 @@ loop-backend-preserved g c =
     let l = c.loop-backend in
     let pushed = c.push_reserved in
     moving_more g.B.Backend.told g.B.Backend.faults c.args.count (reverse c.reverse.new.self.items) c.pop.new.self.items l.cells.items (vec_capacity l.cells) l.backends.items c.in-Some.backend c.in-Some.ensures.items l.invariant
-    c.len-b.result (g.B.Backend.asks c.in-Some.backend) c.new.result pushed.new.self.items (vec_capacity pushed.new.self) (c.len-b.ensures ∙ l.cells.ok.0) c.new.ensures pushed.ensures.items pushed.ensures.capacity
+    c.len-b.result (g.B.Backend.asks c.in-Some.backend) (g.B.Backend.arming c.in-Some.backend) c.new.result pushed.new.self.items (vec_capacity pushed.new.self) (c.len-b.ensures ∙ l.cells.ok.0) c.new.ensures pushed.ensures.items pushed.ensures.capacity
 
 pub returns-clause-fresh : goal.returns-clause-fresh
 returns-clause-fresh g c =
