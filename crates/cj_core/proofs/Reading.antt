@@ -9,6 +9,7 @@ use Rattle.cj_model.specs.declared.answer.Asked.TheVariants as asked
 use Rattle.cj_model.specs.declared.codes.TheConstants.{READ_FAULT, HISTORY_FULL}
 use Rattle.cj_model.specs.declared.moves.Moved.{Moved}
 use Rattle.cj_model.specs.declared.moves.Moved.TheVariants as moved
+use Rattle.cj_model.specs.declared.moves.Reason.TheVariants as reason
 use Rattle.cj_model.specs.declared.moves.MoveError.TheVariants.{NotNow}
 use Rattle.cj_model.specs.declared.moves.OpenRead.{OpenRead}
 use Rattle.cj_model.specs.Answering.{ServesAt}
@@ -37,10 +38,10 @@ module _ (tells : Bool) (c : Core) (s b : ℕ) (select : Select) (same : ReadsSa
 
   -- some backend serves the query, but not this one
   pub not_serving : (mask : ℕ) → mask < 2 ^ 32 → mask ≢ 0 → IsServing c select mask → (ServesAt c.placement c.history (request.Select select) b → ⊥)
-      → ReadsOrWaits tells c s b select (Err (NotNow (record { number = 11; value = b }))) c
+      → ReadsOrWaits tells c s b select (Err (NotNow (record { reason = reason.NotServing; value = b }))) c
   not_serving mask fits some serving none =
       let bit = some_bit mask some fits in
-      reads (Err (NotNow (record { number = 11; value = b }))) c (refl, λ _. (bit.0, (serving bit.0).1 bit.2), none, refl)
+      reads (Err (NotNow (record { reason = reason.NotServing; value = b }))) c (refl, λ _. (bit.0, (serving bit.0).1 bit.2), none, refl)
 
   module _ (serves : ServesAt c.placement c.history (request.Select select) b) where
     of_answer : (a : Asked) (z : Core) → Reaches tells c s b select a z → Reads tells c s b select (Ok (answer_given a)) z

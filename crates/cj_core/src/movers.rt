@@ -21,7 +21,7 @@ use cj_backend::Backend;
 use cj_book::BookError;
 use cj_model::{
     Act, Asked, HISTORY_FULL, Move, MoveError, Moved, NO_BACKEND, READ_FAULT, REQUEST_LIMIT,
-    Refusal, Request, Select, Text, USER_LIMIT, Why,
+    Reason, Refusal, Request, Select, Text, USER_LIMIT, Why,
 };
 
 /// The act of a change outside transactions.
@@ -130,7 +130,7 @@ impl<B: Backend> World<B> {
     {
         if self.reads_other(s, &select) {
             return Err(MoveError::NotNow(Why {
-                number: 10,
+                reason: Reason::Waiting,
                 value: s,
             }));
         }
@@ -141,7 +141,7 @@ impl<B: Backend> World<B> {
         }
         if !self.serves(b, &select) {
             return Err(MoveError::NotNow(Why {
-                number: 11,
+                reason: Reason::NotServing,
                 value: b as u64,
             }));
         }

@@ -7,12 +7,12 @@ ghost use Rattle.cj_model.specs.Moves as moves;
 
 use crate::world::World;
 use cj_backend::Backend;
-use cj_model::{Move, Why};
+use cj_model::{Move, Reason, Why};
 
-fn why(number: u16, value: u64) -> Option<Why>
-    ensures { result ≡ Some (record { number = number; value = value }) }
+fn why(reason: Reason, value: u64) -> Option<Why>
+    ensures { result ≡ Some (record { reason = reason; value = value }) }
 {
-    Some(Why { number, value })
+    Some(Why { reason, value })
 }
 
 impl<B: Backend> World<B> {
@@ -38,10 +38,10 @@ impl<B: Backend> World<B> {
         ensures { result ≡ moves.not_now self.now.core (Move.Close s) }
     {
         if !self.is_open(s) {
-            return why(9, s);
+            return why(Reason::NoSession, s);
         }
         if self.is_waiting(s) || self.is_reading(s) {
-            return why(10, s);
+            return why(Reason::Waiting, s);
         }
         None
     }
@@ -50,13 +50,13 @@ impl<B: Backend> World<B> {
         ensures { (r : Request) → result ≡ moves.not_now self.now.core (Move.Schedule s r) }
     {
         if !self.is_open(s) {
-            return why(9, s);
+            return why(Reason::NoSession, s);
         }
         if self.is_waiting(s) || self.is_reading(s) {
-            return why(10, s);
+            return why(Reason::Waiting, s);
         }
         if !self.is_free() {
-            return why(1, self.length());
+            return why(Reason::EntryOpen, self.length());
         }
         None
     }
@@ -65,14 +65,14 @@ impl<B: Backend> World<B> {
         ensures { result ≡ moves.not_now self.now.core (Move.Apply b) }
     {
         if self.is_free() {
-            return why(2, 0);
+            return why(Reason::NoEntryOpen, 0);
         }
         if !self.is_enabled(b) {
-            return why(3, b as u64);
+            return why(Reason::NotEnabled, b as u64);
         }
         match self.position(b) {
-            None => why(7, b as u64),
-            Some(position) if position == self.length() => why(5, position),
+            None => why(Reason::Out, b as u64),
+            Some(position) if position == self.length() => why(Reason::AtEnd, position),
             Some(_) => None,
         }
     }
@@ -81,10 +81,10 @@ impl<B: Backend> World<B> {
         ensures { result ≡ moves.not_now self.now.core Move.End }
     {
         if self.is_free() {
-            return why(2, 0);
+            return why(Reason::NoEntryOpen, 0);
         }
         match self.behind() {
-            Some(position) => why(6, position),
+            Some(position) => why(Reason::Behind, position),
             None => None,
         }
     }
@@ -93,10 +93,10 @@ impl<B: Backend> World<B> {
         ensures { (b : ℕ) (select : Select) → result ≡ moves.not_now self.now.core (Move.Read s b select) }
     {
         if !self.is_open(s) {
-            return why(9, s);
+            return why(Reason::NoSession, s);
         }
         if self.is_waiting(s) {
-            return why(10, s);
+            return why(Reason::Waiting, s);
         }
         None
     }
@@ -105,10 +105,10 @@ impl<B: Backend> World<B> {
         ensures { result ≡ moves.not_now self.now.core (Move.Disable b) }
     {
         if !self.is_free() {
-            return why(1, self.length());
+            return why(Reason::EntryOpen, self.length());
         }
         if !self.is_enabled(b) {
-            return why(3, b as u64);
+            return why(Reason::NotEnabled, b as u64);
         }
         None
     }
@@ -117,11 +117,11 @@ impl<B: Backend> World<B> {
         ensures { result ≡ moves.not_now self.now.core (Move.Replay b) }
     {
         if self.is_enabled(b) {
-            return why(4, b as u64);
+            return why(Reason::Enabled, b as u64);
         }
         match self.position(b) {
-            None => why(7, b as u64),
-            Some(position) if position == self.length() => why(5, position),
+            None => why(Reason::Out, b as u64),
+            Some(position) if position == self.length() => why(Reason::AtEnd, position),
             Some(_) => None,
         }
     }
@@ -130,14 +130,14 @@ impl<B: Backend> World<B> {
         ensures { result ≡ moves.not_now self.now.core (Move.Enable b) }
     {
         if !self.is_free() {
-            return why(1, self.length());
+            return why(Reason::EntryOpen, self.length());
         }
         if self.is_enabled(b) {
-            return why(4, b as u64);
+            return why(Reason::Enabled, b as u64);
         }
         match self.position(b) {
-            None => why(7, b as u64),
-            Some(position) if position != self.length() => why(6, position),
+            None => why(Reason::Out, b as u64),
+            Some(position) if position != self.length() => why(Reason::Behind, position),
             Some(_) => None,
         }
     }

@@ -14,6 +14,7 @@ use Rattle.cj_model.specs.declared.event.Event.{Event}
 use Rattle.cj_model.specs.declared.moves.Move.{Move}
 use Rattle.cj_model.specs.declared.moves.Move.TheVariants.{Open, Close, Schedule, Apply, End, Read, Arm, Disable, Replay, Enable}
 use Rattle.cj_model.specs.declared.moves.Moved.TheVariants as moved
+use Rattle.cj_model.specs.declared.moves.Reason.TheVariants as reason
 use Rattle.cj_model.specs.declared.moves.MoveError.TheVariants.{NotNow, NoMemory}
 use Rattle.cj_model.specs.declared.moves.OpenSession.{OpenSession}
 use Rattle.cj_model.specs.Plain.{act_of}
@@ -228,7 +229,7 @@ does_grow tells c (Schedule s r) g z h = grow_schedule c s r (act_of r) g z h
 does_grow tells c (Apply b) g z h = grow_apply tells c b g z h
 does_grow tells c End g z h = grow_end tells c g z h
 does_grow tells c (Read s b select) g z h =
-    ⊎_elim (λ (q : moves.ReadsOther (session_at c s) select × (g ≡ Err (NotNow (record { number = 10; value = s }))) × (z ≡ c)). grows_same 1 c z q.2)
+    ⊎_elim (λ (q : moves.ReadsOther (session_at c s) select × (g ≡ Err (NotNow (record { reason = reason.Waiting; value = s }))) × (z ≡ c)). grows_same 1 c z q.2)
     (λ (q : moves.ReadsSame (session_at c s) select × moves.Reads tells c s b select g z). grow_read tells c s b select g z q.1) h
 does_grow tells c (Arm b) g z h = grow_arm c g z h
 does_grow tells c (Disable b) g z h = grow_disable c b g z h

@@ -4,6 +4,7 @@ use Rattle.std.proofs.lemmas.Bool.{eqb-true, eqb-false, not-false, or_parts, ltb
 use Rattle.cj_model.specs.declared.event.Event.{Event}
 use Rattle.cj_model.specs.declared.request.Request.{Request}
 use Rattle.cj_model.specs.declared.select.Select.{Select}
+use Rattle.cj_model.specs.declared.moves.Reason.{Reason}
 use Rattle.cj_model.specs.declared.moves.Why.{Why}
 use Rattle.cj_model.specs.declared.moves.OpenRead.{OpenRead}
 use Rattle.cj_model.specs.declared.moves.Move.TheVariants.{Close, Schedule, Apply, End, Read, Disable, Replay, Enable}
@@ -12,9 +13,9 @@ use Rattle.cj_model.specs.Cores.{Core, position_at, session_at}
 use Rattle.cj_model.specs.Moves.{because, place, behind, because_behind, not_now, is_open, is_waiting}
 
 -- a reason that is none: the test is false, and no later reason is one
-pub because_none : (t : Bool) (n v : ℕ) (otherwise : Option Why) → because t n v otherwise ≡ None → (t ≡ false) × (otherwise ≡ None)
-because_none true n v otherwise e = absurd (cc e)
-because_none false n v otherwise e = (refl, e)
+pub because_none : (t : Bool) (r : Reason) (v : ℕ) (otherwise : Option Why) → because t r v otherwise ≡ None → (t ≡ false) × (otherwise ≡ None)
+because_none true r v otherwise e = absurd (cc e)
+because_none false r v otherwise e = (refl, e)
 
 -- a backend that is not out stands at its place
 stands_at : (p : Option ℕ) → is_none p ≡ false → p ≡ Some (place p)

@@ -16,6 +16,7 @@ use Rattle.cj_model.specs.declared.event.Event.TheVariants.{Ended, ReadFailed}
 use Rattle.cj_model.specs.declared.moves.Move.{Move}
 use Rattle.cj_model.specs.declared.moves.Move.TheVariants.{Open, Close, Schedule, Apply, End, Read, Arm, Disable, Replay, Enable}
 use Rattle.cj_model.specs.declared.moves.Moved.TheVariants as moved
+use Rattle.cj_model.specs.declared.moves.Reason.TheVariants as reason
 use Rattle.cj_model.specs.declared.moves.MoveError.TheVariants.{NotNow, NoMemory}
 use Rattle.cj_model.specs.declared.moves.Why.{Why}
 use Rattle.cj_model.specs.declared.moves.OpenSession.{OpenSession}
@@ -263,7 +264,7 @@ does_sound tells c (Schedule s r) g z is count w now h = sound_schedule c s r (a
 does_sound tells c (Apply b) g z is count w now h = sound_apply tells c b g z w (can_apply c b now) h
 does_sound tells c End g z is count w now h = sound_end tells c g z w (can_end c now) h
 does_sound tells c (Read s b select) g z is count w now h =
-    ⊎_elim (λ (q : moves.ReadsOther (session_at c s) select × (g ≡ Err (NotNow (record { number = 10; value = s }))) × (z ≡ c)). subst IsSound (sym q.2) w)
+    ⊎_elim (λ (q : moves.ReadsOther (session_at c s) select × (g ≡ Err (NotNow (record { reason = reason.Waiting; value = s }))) × (z ≡ c)). subst IsSound (sym q.2) w)
     (λ (q : moves.ReadsSame (session_at c s) select × moves.Reads tells c s b select g z). sound_read tells c s b select w g z q.1) h
 does_sound tells c (Arm b) g z is count w now h = sound_arm c g z w h
 does_sound tells c (Disable b) g z is count w now h = sound_disable c b g z w (can_disable c b now) h

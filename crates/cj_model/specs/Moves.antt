@@ -19,6 +19,8 @@ use Rattle.cj_model.specs.declared.moves.Did.{Did}
 use Rattle.cj_model.specs.declared.moves.Did.TheVariants as did
 use Rattle.cj_model.specs.declared.moves.Moved.{Moved}
 use Rattle.cj_model.specs.declared.moves.Moved.TheVariants as moved
+use Rattle.cj_model.specs.declared.moves.Reason.{Reason}
+use Rattle.cj_model.specs.declared.moves.Reason.TheVariants as reason
 use Rattle.cj_model.specs.declared.moves.Why.{Why}
 use Rattle.cj_model.specs.declared.moves.MoveError.{MoveError}
 use Rattle.cj_model.specs.declared.moves.MoveError.TheVariants.{NotNow, NoMemory}
@@ -40,9 +42,9 @@ Given = Result Moved MoveError
 
 -- ---- what can't be done now: the first reason in the order of the tests
 
-abbrev pub because : Bool → ℕ → ℕ → Option Why → Option Why
-because true n v otherwise = Some (record { number = n; value = v })
-because false n v otherwise = otherwise
+abbrev pub because : Bool → Reason → ℕ → Option Why → Option Why
+because true r v otherwise = Some (record { reason = r; value = v })
+because false r v otherwise = otherwise
 
 abbrev pub is_open : Core → ℕ → Bool
 is_open c s = is_some (session_of c.sessions s)
@@ -71,39 +73,39 @@ behind h b (Some p ∷ ps) = if enabled h b && nat_lt p (length (log h)) then So
 
 abbrev pub because_behind : Option ℕ → Option Why
 because_behind None = None
-because_behind (Some p) = Some (record { number = 6; value = p })
+because_behind (Some p) = Some (record { reason = reason.Behind; value = p })
 
 abbrev pub not_now : Core → Move → Option Why
 not_now c (Open user) = None
 not_now c (Close s) =
-    because (not (is_open c s)) 9 s
-    (because (is_waiting c s || is_reading (session_at c s)) 10 s None)
+    because (not (is_open c s)) reason.NoSession s
+    (because (is_waiting c s || is_reading (session_at c s)) reason.Waiting s None)
 not_now c (Schedule s r) =
-    because (not (is_open c s)) 9 s
-    (because (is_waiting c s || is_reading (session_at c s)) 10 s
-    (because (not (free c.history)) 1 (last_number c) None))
+    because (not (is_open c s)) reason.NoSession s
+    (because (is_waiting c s || is_reading (session_at c s)) reason.Waiting s
+    (because (not (free c.history)) reason.EntryOpen (last_number c) None))
 not_now c (Apply b) =
-    because (free c.history) 2 0
-    (because (not (enabled c.history b)) 3 b
-    (because (is_none (position_at c b)) 7 b
-    (because (place (position_at c b) == last_number c) 5 (place (position_at c b)) None)))
-not_now c End = because (free c.history) 2 0 (because_behind (behind c.history 0 c.positions))
+    because (free c.history) reason.NoEntryOpen 0
+    (because (not (enabled c.history b)) reason.NotEnabled b
+    (because (is_none (position_at c b)) reason.Out b
+    (because (place (position_at c b) == last_number c) reason.AtEnd (place (position_at c b)) None)))
+not_now c End = because (free c.history) reason.NoEntryOpen 0 (because_behind (behind c.history 0 c.positions))
 not_now c (Read s b select) =
-    because (not (is_open c s)) 9 s
-    (because (is_waiting c s) 10 s None)
+    because (not (is_open c s)) reason.NoSession s
+    (because (is_waiting c s) reason.Waiting s None)
 not_now c (Arm b) = None
 not_now c (Disable b) =
-    because (not (free c.history)) 1 (last_number c)
-    (because (not (enabled c.history b)) 3 b None)
+    because (not (free c.history)) reason.EntryOpen (last_number c)
+    (because (not (enabled c.history b)) reason.NotEnabled b None)
 not_now c (Replay b) =
-    because (enabled c.history b) 4 b
-    (because (is_none (position_at c b)) 7 b
-    (because (place (position_at c b) == last_number c) 5 (place (position_at c b)) None))
+    because (enabled c.history b) reason.Enabled b
+    (because (is_none (position_at c b)) reason.Out b
+    (because (place (position_at c b) == last_number c) reason.AtEnd (place (position_at c b)) None))
 not_now c (Enable b) =
-    because (not (free c.history)) 1 (last_number c)
-    (because (enabled c.history b) 4 b
-    (because (is_none (position_at c b)) 7 b
-    (because (not (place (position_at c b) == last_number c)) 6 (place (position_at c b)) None)))
+    because (not (free c.history)) reason.EntryOpen (last_number c)
+    (because (enabled c.history b) reason.Enabled b
+    (because (is_none (position_at c b)) reason.Out b
+    (because (not (place (position_at c b) == last_number c)) reason.Behind (place (position_at c b)) None)))
 
 -- ---- sessions
 
@@ -370,7 +372,7 @@ Reads tells c s b select (Ok (moved.Behind p)) z = ReadsTooEarly c s b select (S
 Reads tells c s b select (Ok moved.Out) z = ReadsTooEarly c s b select None z
 Reads tells c s b select (Ok moved.Failed) z = ReadsAgain c s b select z
 Reads tells c s b select (Err (NotNow w)) z =
-    (w ≡ record { number = 11; value = b }) × Served c.placement c.history (request.Select select)
+    (w ≡ record { reason = reason.NotServing; value = b }) × Served c.placement c.history (request.Select select)
     × (ServesAt c.placement c.history (request.Select select) b → ⊥) × (z ≡ c)
 Reads tells c s b select (Err NoMemory) z = z ≡ c
 Reads tells c s b select _ z = ⊥
@@ -378,7 +380,7 @@ Reads tells c s b select _ z = ⊥
 -- where another read is open, this one can't be made now
 abbrev pub ReadsOrWaits : Bool → Core → ℕ → ℕ → Select → Given → Core → Type 0
 ReadsOrWaits tells c s b select g z =
-    (ReadsOther (session_at c s) select × (g ≡ Err (NotNow (record { number = 10; value = s }))) × (z ≡ c))
+    (ReadsOther (session_at c s) select × (g ≡ Err (NotNow (record { reason = reason.Waiting; value = s }))) × (z ≡ c))
     ⊎ (ReadsSame (session_at c s) select × Reads tells c s b select g z)
 
 -- ---- backends

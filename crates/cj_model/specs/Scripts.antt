@@ -18,6 +18,8 @@ use Rattle.cj_model.specs.declared.moves.Did.{Did}
 use Rattle.cj_model.specs.declared.moves.Did.TheVariants as did
 use Rattle.cj_model.specs.declared.moves.Moved.{Moved}
 use Rattle.cj_model.specs.declared.moves.Moved.TheVariants as moved
+use Rattle.cj_model.specs.declared.moves.Reason.{Reason}
+use Rattle.cj_model.specs.declared.moves.Reason.TheVariants as reason
 use Rattle.cj_model.specs.declared.moves.Why.{Why}
 use Rattle.cj_model.specs.declared.moves.Made.{Made}
 use Rattle.cj_model.specs.declared.moves.Made.TheVariants as made
@@ -134,9 +136,22 @@ moved_text names moved.Disabled = codes "disabled"
 moved_text names moved.Enabled = codes "enabled"
 moved_text names (moved.Replayed n d) = words (codes "replayed" ∷ decimal n ∷ did_text d ∷ [])
 
+-- the number of a reason
+abbrev pub reason_number : Reason → ℕ
+reason_number reason.EntryOpen = 1
+reason_number reason.NoEntryOpen = 2
+reason_number reason.NotEnabled = 3
+reason_number reason.Enabled = 4
+reason_number reason.AtEnd = 5
+reason_number reason.Behind = 6
+reason_number reason.Out = 7
+reason_number reason.NoSession = 9
+reason_number reason.Waiting = 10
+reason_number reason.NotServing = 11
+
 -- why a move can't be made now
 abbrev pub not_now_text : Why → List ℕ
-not_now_text why = words (codes "not" ∷ codes "now" ∷ decimal why.number ∷ decimal why.value ∷ [])
+not_now_text why = words (codes "not" ∷ codes "now" ∷ decimal (reason_number why.reason) ∷ decimal why.value ∷ [])
 
 -- the literals of a row's values
 abbrev pub row_text : List Value → List ℕ

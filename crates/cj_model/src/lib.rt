@@ -115,6 +115,7 @@ pub use moves::MovedList;
 pub use moves::Moves;
 pub use moves::OpenRead;
 pub use moves::OpenSession;
+pub use moves::Reason;
 pub use moves::Why;
 pub use name::Name;
 pub use name::Names;

@@ -1,5 +1,8 @@
 //! The moves of the core, and what each gives.
 
+ghost use Rattle.std.specs.Prelude.{◌≡◌};
+ghost use Rattle.cj_model.specs.Scripts.{reason_number};
+
 use crate::answer::{Answer, Outcome, Refusal, Reply};
 use crate::list::ListOf;
 use crate::memory::{Duplicate, NoMemory};
@@ -67,10 +70,50 @@ pub enum Moved {
     Replayed { number: u64, did: Did },
 }
 
-/// Why a move can't be made now: its number (docs/SCRIPT.md) and a value that it gives a meaning.
+/// What keeps a move from being made now.
+#[derive(Clone, Copy, Debug, PartialEq, Eq)]
+pub enum Reason {
+    EntryOpen,
+    NoEntryOpen,
+    NotEnabled,
+    Enabled,
+    /// The backend has taken the whole log.
+    AtEnd,
+    /// A backend has not taken the whole log.
+    Behind,
+    /// The backend needs a dump.
+    Out,
+    NoSession,
+    /// The session waits for the answer to another request.
+    Waiting,
+    /// The backend doesn't serve the read, and another does.
+    NotServing,
+}
+
+impl Reason {
+    /// Its number in the text of a script (docs/SCRIPT.md).
+    pub fn number(self) -> u16
+        ensures { result ≡ reason_number self }
+    {
+        match self {
+            Reason::EntryOpen => 1,
+            Reason::NoEntryOpen => 2,
+            Reason::NotEnabled => 3,
+            Reason::Enabled => 4,
+            Reason::AtEnd => 5,
+            Reason::Behind => 6,
+            Reason::Out => 7,
+            Reason::NoSession => 9,
+            Reason::Waiting => 10,
+            Reason::NotServing => 11,
+        }
+    }
+}
+
+/// Why a move can't be made now: the reason, and a value that it gives a meaning.
 #[derive(Clone, Copy, Debug, PartialEq, Eq)]
 pub struct Why {
-    pub number: u16,
+    pub reason: Reason,
     pub value: u64,
 }
 

@@ -136,7 +136,7 @@ fn print_moved(alloc: Global, names: &Names, moved: &Moved) -> Result<Vec<u8>, N
 fn print_not_now(alloc: Global, why: &Why) -> Result<Vec<u8>, NoMemory>
     ensures { IfOk result (λ lines. lines.items ≡ ended (not_now_text why.now)) }
 {
-    let number = why.number;
+    let number = why.reason.number();
     let value = why.value;
     Ok(format!(in alloc; "not now {number} {value}\n")?.into_bytes())
 }
