@@ -8,7 +8,7 @@ use Rattle.cj_model.specs.Turns.{Seen, Chain}
 use Rattle.cj_model.specs.Cores.{Core, session_at}
 use Rattle.cj_model.specs.Moves.{Given, MovesTo}
 use Rattle.cj_model.specs.Sound.{IsSound}
-use Rattle.cj_model.specs.Runs.{Runs, IsMove, CanCount, IsBetween, IsChained, reply_given, call_at, calls_at, seen_at, seen_after}
+use Rattle.cj_model.specs.Runs.{Runs, IsMove, CanCount, IsBetween, AreBetween, IsChained, last_seen, reply_given, call_at, calls_at, seen_at, seen_after}
 use Rattle.cj_model.proofs.Soundness.{moves_sound}
 use Rattle.cj_model.proofs.Growth.{can_count, moves_grow}
 use Rattle.cj_model.proofs.Answered.{After, moves_after}
@@ -53,3 +53,10 @@ run_chained tells c (m ∷ ms) (g ∷ gs) z w are count runs s a j =
     (moves_after tells a c mid s w v j m g runs.1)
 run_chained tells c [] (g ∷ gs) z w are count runs s a j = absurd runs
 run_chained tells c (m ∷ ms) [] z w are count runs s a j = absurd runs
+
+-- So each session stands between two replies after every list of moves, where it did before.
+pub runs_between : (tells : Bool) (c : Core) (ms : List Move) (gs : List Given) (z : Core) → IsSound c → All (IsMove c.placement.backends) ms → CanCount c (length ms) → Runs tells c ms gs z → AreBetween c → AreBetween z
+runs_between tells c ms gs z w are count runs between s =
+    let q = between s in
+    let chained = run_chained tells c ms gs z w are count runs s q.0 q.1 in
+    (last_seen q.0 chained.seen, chained.between)

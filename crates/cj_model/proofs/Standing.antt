@@ -4,19 +4,19 @@ use Rattle.std.proofs.lemmas.Bool.{cases_eq, eqb-true, both_ways}
 use Rattle.cj_model.specs.declared.request.Entry.{Entry}
 use Rattle.cj_model.specs.declared.select.Select.{Select}
 use Rattle.cj_model.specs.declared.event.Event.{Event}
-use Rattle.cj_model.specs.declared.event.Event.TheVariants.{Sched, Ended}
+use Rattle.cj_model.specs.declared.event.Event.TheVariants.{Sched, Ended, ReadFailed}
 use Rattle.cj_model.specs.declared.moves.OpenSession.{OpenSession}
 use Rattle.cj_model.specs.Plain.{request_of}
 use Rattle.cj_model.specs.Histories.{has, scheduled, is_ended, log, free, opened, enabled, enabled_after, room, is_log_fault}
 use Rattle.cj_model.specs.Answering.{Served}
 use Rattle.cj_model.specs.Turns.{Seen}
-use Rattle.cj_model.specs.Cores.{Core, session_of, session_at, fresh_session, with_session, is_by}
-use Rattle.cj_model.specs.Moves.{is_open, counted, answered_at, still_reading, read_number, with_read}
+use Rattle.cj_model.specs.Cores.{Core, with_bit, session_of, session_at, fresh_session, with_session, is_by}
+use Rattle.cj_model.specs.Moves.{is_open, counted, answered_at, still_reading, read_number, tried_of, with_read}
 use Rattle.cj_model.specs.Sound.{IsSound}
-use Rattle.cj_model.specs.Runs.{seen_at, HasFailed, IsBetween, AreBetween}
-use Rattle.cj_model.proofs.Pushed.{prefix_self}
+use Rattle.cj_model.specs.Runs.{seen_at, HasFailed, TriedSince, IsBetween, AreBetween}
+use Rattle.cj_model.proofs.Pushed.{prefix_self, prefix_length}
 use Rattle.cj_model.proofs.Sessions.{session_at-is, session_of-same, session_of-other, is_open-with, without, session_of-without_other}
-use Rattle.cj_model.proofs.Between.{follows_own, follows_rest, follows_opened, between_follows, between_fresh, between_opened, between_closed, seen_event, seen_ended, seen_other, seen_sched, seen_changed, tried_still}
+use Rattle.cj_model.proofs.Between.{follows_own, follows_rest, follows_opened, between_follows, between_fresh, between_opened, between_closed, seen_event, seen_ended, seen_other, seen_sched, seen_changed, tried_none, tried_still, tried_again, prior}
 
 -- ---- where no session is open
 
@@ -128,6 +128,46 @@ module _ (c : Core) (k : ℕ) (f : OpenSession → OpenSession) (keeps : (x : Op
   pub stand_counted : ((x : OpenSession) → (f x).reading ≡ x.reading) → (session_at c k).reading ≡ None → IsSound (with_read c k f) → is_by k (opened c.history) ≡ false → AreBetween (with_read c k f)
   stand_counted same none v idle = stand_fresh v idle (still_none c (with_read c k f) k f keeps refl same none)
 
+-- a session that is not open reads nothing
+shut_reads : (c : Core) (s : ℕ) → is_open c s ≡ false → (session_at c s).reading ≡ None
+shut_reads c s shut = one (session_of c.sessions s) refl shut
+  where
+    one : (o : Option OpenSession) → session_of c.sessions s ≡ o → is_some o ≡ false → (session_at c s).reading ≡ None
+    one None is none = ap (λ (x : OpenSession). x.reading) (session_at-is c s None is)
+    one (Some x) is none = absurd (cc none)
+
+-- what was tried in its read has failed since what it saw last
+tried_since : (c : Core) (s : ℕ) → AreBetween c → (a : Seen) × IsBetween a c s × TriedSince a.front c.history s (session_at c s)
+tried_since c s between = one (is_open c s) refl
+  where
+    one : (o : Bool) → is_open c s ≡ o → (a : Seen) × IsBetween a c s × TriedSince a.front c.history s (session_at c s)
+    one true here = let q = between s in (q.0, q.1, (q.1.here here).reads)
+    one false shut = let q = between s in (q.0, q.1, tried_none q.0.front c.history s (session_at c s) (shut_reads c s shut))
+
+-- the same of the read that is made next
+pub still_tried : (c : Core) (s : ℕ) → AreBetween c
+    → (a : Seen) × IsBetween a c s × ((b : ℕ) → has (tried_of (session_at c s).reading) b ≡ true → HasFailed a.front c.history s (read_number (session_at c s)) b)
+still_tried c s between = let q = tried_since c s between in (q.0, q.1, prior q.0.front c.history s (session_at c s) q.2)
+
+-- and of one backend more, which has just failed
+pub tried_more : (c : Core) (s b n : ℕ) (select : Select) → n ≡ read_number (session_at c s) → AreBetween c
+    → (a : Seen) × IsBetween a (record c { history = c.history ++ ReadFailed s n b ∷ [] }) s
+    × ((k : ℕ) → has (with_bit (tried_of (session_at c s).reading) b) k ≡ true → HasFailed a.front (c.history ++ ReadFailed s n b ∷ []) s (read_number (session_at c s)) k)
+tried_more c s b n select is between =
+    let ev : Event = ReadFailed s n b in
+    let g : List Event = c.history ++ ev ∷ [] in
+    let z : Core = record c { history = g } in
+    let x : OpenSession = session_at c s in
+    let mask : ℕ = with_bit (tried_of x.reading) b in
+    let q = tried_since c s between in
+    let more = tried_again q.0.front c.history s b x select (prefix_length q.0.front c.history q.1.longer) q.2 in (
+      q.0,
+      between_follows q.0 c z g s x q.1
+          (follows_rest c z g s c.placement c.positions c.failed c.starved c.sessions (ev ∷ [], refl) refl refl)
+          (λ y. seen_event c.placement q.0 c.history s x y ev refl refl (λ t i. refl) (λ t i. refl)),
+      λ k t. subst (λ (m : ℕ). HasFailed q.0.front (c.history ++ ReadFailed s m b ∷ []) s (read_number x) k) (sym is) (more (record { select = select; tried = mask }) k refl t),
+    )
+
 -- its read stays open, and each backend that was tried in it has failed since what the session has seen
 pub stand_reading : (c : Core) (k : ℕ) (select : Select) (tried : ℕ) → AreBetween c → is_by k (opened c.history) ≡ false → (a : Seen) → IsBetween a c k
     → ((b : ℕ) → has tried b ≡ true → HasFailed a.front c.history k (read_number (session_at c k)) b) → AreBetween (with_read c k (still_reading select tried))
@@ -197,11 +237,7 @@ stand_ended c z k n f t is v waiting none between s = one (is_by s (opened c.his
 
     reads_none : (b : Bool) → is_open c s ≡ b → is_by s (opened c.history) ≡ true → (session_at c s).reading ≡ None
     reads_none true here own = (((between s).1.here here).waits own).1
-    reads_none false shut own = closed_reads (session_of c.sessions s) refl shut
-      where
-        closed_reads : (o : Option OpenSession) → session_of c.sessions s ≡ o → is_some o ≡ false → (session_at c s).reading ≡ None
-        closed_reads None e shut = ap (λ (x : OpenSession). x.reading) (session_at-is c s None e)
-        closed_reads (Some x) e shut = absurd (cc shut)
+    reads_none false shut own = shut_reads c s shut
 
     one : (b : Bool) → is_by s (opened c.history) ≡ b → (a : Seen) × IsBetween a z s
     one true own =

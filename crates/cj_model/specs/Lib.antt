@@ -2,6 +2,7 @@ pub mod Accounts
 pub mod Answering
 pub mod Balancing
 pub mod Begun
+pub mod BetweenReplies
 pub mod Caching
 pub mod Changes
 pub mod ConditionCode

@@ -79,6 +79,7 @@ pub use database::Table;
 pub use event::Event;
 pub use laws::bytes_have_one_reading;
 pub use laws::frame_faults_stay;
+pub use laws::sessions_stand_between_replies;
 pub use limits::ANSWER_LIMIT;
 pub use limits::BACKEND_LIMIT;
 pub use limits::COLUMN_LIMIT;
