@@ -1,4 +1,6 @@
 pub mod Cutting
+pub mod Filled
+pub mod InTurns
 pub mod MoveLines
 pub mod Moving
 pub mod Numbers

@@ -1,5 +1,5 @@
--- Lines that are moves: what they take at least, and how many can come.
-use Rattle.std.proofs.Common.{◌≡◌, ℕ, ◌+◌, ◌*◌, ◌-◌, ◌≤◌, ◌^◌, Bool, List, [], ◌∷◌, length, Option, inl, inr, refl, sym, ap, subst, arith}
+-- Lines that are moves: how many can come.
+use Rattle.std.proofs.Common.{◌≡◌, ℕ, ◌+◌, ◌*◌, ◌-◌, ◌≤◌, ◌^◌, Bool, List, [], length, Option, inl, inr, refl, sym, ap, subst, arith}
 use Rattle.std.specs.Io.KnownBytes.{Appends}
 use Rattle.cj_outside.specs.Lines.{Reading}
 use Rattle.cj_outside.specs.Streams.{most}
@@ -12,27 +12,10 @@ use Rattle.cj_core.specs.Counting.{HasCauses}
 use Rattle.cj_core.specs.Played.{given_of}
 use Rattle.cj_script.specs.Script.{PlaysLine, MakesMove}
 use Rattle.cj_script.specs.Steps.{PlaysWritten}
+use Rattle.cj_script.proofs.Filled.{move_line_long}
 use Rattle.cj_script.proofs.Playing.{Advances}
 use Rattle.cj_model.specs.declared.moves.Move.{Move}
-use Rattle.cj_model.specs.declared.moves.Move.TheVariants.{Open, Close, Schedule, Apply, End, Read, Arm, Disable, Replay, Enable}
 use Rattle.cj_model.specs.Scripts.{MoveLine, moved_lines}
-
--- a verb and more behind a space
-verb_more : (line more : List ℕ) (v w : ℕ) → line ≡ v ∷ w ∷ more → 2 ≤ length line
-verb_more line more v w is = omega (arith, ap length is)
-
--- a move's line has two bytes at least
-pub move_line_long : (names : List (List ℕ)) (line : List ℕ) (m : Move) → MoveLine names line m → 2 ≤ length line
-move_line_long names line (Open user) (is, e) = verb_more line _ _ _ e
-move_line_long names line (Close s) (number, is, e) = verb_more line _ _ _ e
-move_line_long names line (Schedule s r) (number, sql, is, reads, e) = verb_more line _ _ _ e
-move_line_long names line (Apply b) (name, is, e) = verb_more line _ _ _ e
-move_line_long names line End e = verb_more line _ _ _ e
-move_line_long names line (Read s b select) (number, name, sql, is, named, reads, e) = verb_more line _ _ _ e
-move_line_long names line (Arm b) (name, is, e) = verb_more line _ _ _ e
-move_line_long names line (Disable b) (name, is, e) = verb_more line _ _ _ e
-move_line_long names line (Replay b) (name, is, e) = verb_more line _ _ _ e
-move_line_long names line (Enable b) (name, is, e) = verb_more line _ _ _ e
 
 -- ---- a line that was played
 

@@ -1,5 +1,5 @@
 -- How a script comes from line to line.
-use Rattle.std.proofs.Common.{◌≡◌, ◌≢◌, ◌⊎◌, ℕ, ◌+◌, ◌<◌, ◌≤◌, Bool, List, [], ◌∷◌, ◌++◌, length, Option, Some, None, Ok, Err, inl, inr, refl, sym, ap, subst, ◌∙◌, arith, append_assoc, append-nil, length-append}
+use Rattle.std.proofs.Common.{◌≡◌, ◌≢◌, ◌⊎◌, ℕ, ◌+◌, ◌*◌, ◌<◌, ◌≤◌, Bool, List, [], ◌∷◌, ◌++◌, length, Option, Some, None, Ok, Err, inl, inr, refl, sym, ap, subst, ◌∙◌, arith, append_assoc, append-nil, length-append}
 use Rattle.std.specs.Prelude.{IsSome}
 use Rattle.std.specs.List.{flat_map}
 use Rattle.std.proofs.lemmas.List.Concat.{flat_map-append, flat_map-cons}
@@ -14,8 +14,9 @@ use Rattle.cj_model.specs.Scripts.{ended}
 use Rattle.cj_outside.specs.declared.lines.Line.TheVariants.{Text, Long}
 use Rattle.cj_script.specs.declared.play.ScriptEnd.{ScriptEnd}
 use Rattle.cj_script.specs.declared.play.ScriptEnd.TheVariants.{Done, Line as Line', ReadFault, WriteFault, Spent, NoMemory}
-use Rattle.cj_script.specs.Script.{IsShortLine, PlaysLine, Plays, LieIn, IsNext, Played, PlayedInPart, MakesInPart, CameTo}
+use Rattle.cj_script.specs.Script.{filled, IsShortLine, PlaysLine, Plays, LieIn, IsNext, Played, PlayedInPart, MakesInPart, CameTo}
 use Rattle.cj_script.specs.Steps.{ReadsLine, PlaysWritten, Stays, PlaysOrEnds}
+use Rattle.cj_script.proofs.Filled.{filled_more}
 
 -- ---- lines that play
 
@@ -54,6 +55,8 @@ pub record Playing (tells : Bool) (names : List (List ℕ)) (left left' held hel
   pub played : Played tells names left left' held held' c taken lines rest z
   pub number : count ≡ length lines
   pub told : IsSome left → length taken ≡ bytes
+  -- each line that is not blank took two bytes
+  pub few : 2 * length (filled lines) + length rest ≤ bytes
 
 -- at first none was
 pub playing_none : (tells : Bool) (names : List (List ℕ)) (left held : Option (List ℕ)) (c : WorldState) (rest : List ℕ) (bytes : ℕ) → rest ≡ [] → bytes ≡ 0 → Playing tells names left left held held c rest bytes 0 c
@@ -70,17 +73,18 @@ playing_none tells names left held c rest bytes none zero = record {
   };
   number = refl;
   told = λ _. sym zero;
+  few = omega (arith, zero, ap length none);
 }
 
 -- how lines lie in the bytes where more is taken
-record Longer (left left' : Option (List ℕ)) (taken : List ℕ) (lines : List (List ℕ)) (rest more : List ℕ) : Type 0 where
-  whole : List ℕ
-  consumed : Consumes left left' whole
-  lie : LieIn left' whole lines (rest ++ more)
-  told : IsSome left → length whole ≡ length taken + length more
+pub record Longer (left left' : Option (List ℕ)) (taken : List ℕ) (lines : List (List ℕ)) (rest more : List ℕ) : Type 0 where
+  pub whole : List ℕ
+  pub consumed : Consumes left left' whole
+  pub lie : LieIn left' whole lines (rest ++ more)
+  pub told : IsSome left → length whole ≡ length taken + length more
 
 -- behind a last line without LF nothing comes, where the source tells
-longer : (left mid left' : Option (List ℕ)) (taken : List ℕ) (lines : List (List ℕ)) (rest more : List ℕ) → Consumes left mid taken → LieIn mid taken lines rest → Consumes mid left' more → Longer left left' taken lines rest more
+pub longer : (left mid left' : Option (List ℕ)) (taken : List ℕ) (lines : List (List ℕ)) (rest more : List ℕ) → Consumes left mid taken → LieIn mid taken lines rest → Consumes mid left' more → Longer left left' taken lines rest more
 longer None mid left' taken lines rest more before lie next = record { whole = flat_map ended lines ++ (rest ++ more); consumed = tt; lie = inl refl; told = λ none. absurd (cc none) }
 longer (Some xs) None left' taken lines rest more before lie next = absurd before
 longer (Some xs) (Some ys) None taken lines rest more before lie next = absurd next
@@ -116,6 +120,7 @@ playing_longer tells names left mid left' held held' c rest bytes count z more p
       };
       number = p.number;
       told = λ some. l.told some ∙ ap (λ (n : ℕ). n + length more) (p.told some);
+      few = omega (arith, p.few, length-append rest more);
     }
 
 -- the reader took more
@@ -139,6 +144,7 @@ pub record AtLine (tells : Bool) (names : List (List ℕ)) (left left' held held
   pub inside : IsInLine line
   pub next : IsNext left' line whole
   pub behind : LieIn left' playing.taken (playing.lines ++ line ∷ []) rest
+  pub shorter : length line + length rest ≤ length whole
 
 -- the reader has come behind a line
 pub record Advances (old new : Reading) (line : List ℕ) : Type 0 where
@@ -170,6 +176,7 @@ line_came tells names left mid left' held held' c old new count z bytes line p t
         inside = h.inside;
         next = inl (new.rest, h.parts);
         behind = line_more left' now.taken now.lines (old.rest ++ bytes) h.text new.rest now.played.lie h.parts;
+        shorter = omega (arith, ap length h.parts, length-append h.text (10 ∷ new.rest));
       };
     }
 line_came tells names left mid left' held held' c old new count z bytes line p took (inr h) =
@@ -188,6 +195,7 @@ line_came tells names left mid left' held held' c old new count z bytes line p t
         inside = h.inside;
         next = inr (refl, h.at_end);
         behind = subst (LieIn left' now.taken (now.lines ++ (old.rest ++ bytes) ∷ [])) (sym h.none) (last_more left' now.taken now.lines (old.rest ++ bytes) now.played.lie h.some h.at_end);
+        shorter = omega (arith, ap length h.none);
       };
     }
 
@@ -209,6 +217,7 @@ line_played tells names left left' held held' held'' c line rest bytes count mid
       };
       number = omega (arith, p.number, length-append p.lines (line ∷ []));
       told = p.told;
+      few = filled_more tells names mid p.lines line now.written z (length rest) bytes now.plays (omega (arith, p.few, at.shorter));
     }
 
 -- nothing was done and nothing written

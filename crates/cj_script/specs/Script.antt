@@ -1,5 +1,5 @@
 -- Scripts: what lines play, how they lie in the bytes taken, and how far a script came.
-use Rattle.std.specs.Prelude.{◌≡◌, ◌≢◌, ◌⊎◌, ℕ, ◌+◌, ◌<◌, ◌≤◌, Bool, List, [], ◌∷◌, ◌++◌, length, take, All, IsSome}
+use Rattle.std.specs.Prelude.{◌≡◌, ◌≢◌, ◌⊎◌, ℕ, ◌+◌, ◌<◌, ◌≤◌, Bool, true, false, not, List, [], ◌∷◌, ◌++◌, length, take, map, filter, All, IsSome}
 use Rattle.std.specs.declared.option.Option.{Option}
 use Rattle.std.specs.List.{flat_map}
 use Rattle.std.specs.Io.KnownBytes.{Consumes, Appends, IsAtEnd}
@@ -11,7 +11,7 @@ use Rattle.cj_model.specs.Moves.{MovesTo}
 use Rattle.cj_model.specs.Scripts.{MoveLine, moved_lines, ended}
 use Rattle.cj_core.specs.Worlds.{WorldState}
 use Rattle.cj_core.specs.Counting.{HasCauses}
-use Rattle.cj_core.specs.Played.{given_of}
+use Rattle.cj_core.specs.Played.{given_of, HasRun}
 use Rattle.cj_script.specs.declared.play.ScriptEnd.{ScriptEnd}
 use Rattle.cj_script.specs.declared.play.ScriptEnd.TheVariants.{Done, Line, ReadFault, WriteFault, Spent, NoMemory}
 
@@ -41,6 +41,24 @@ abbrev pub Plays : Bool → List (List ℕ) → WorldState → List (List ℕ) �
 Plays tells names c [] written z = (written ≡ []) × (z ≡ c)
 Plays tells names c (line ∷ lines) written z =
     (mid : WorldState) × (front : List ℕ) × (rest : List ℕ) × PlaysLine tells names c line front mid × Plays tells names mid lines rest z × (written ≡ front ++ rest)
+
+-- ---- the moves of lines
+
+-- no byte is in the line
+abbrev pub is_empty : List ℕ → Bool
+is_empty [] = true
+is_empty (b ∷ bytes) = false
+
+-- the lines that are not empty
+abbrev pub filled : List (List ℕ) → List (List ℕ)
+filled lines = filter (λ line. not (is_empty line)) lines
+
+-- the lines are these moves, one each
+abbrev pub AreMoves : List (List ℕ) → List (List ℕ) → List Move → Type 0
+AreMoves names [] [] = Unit {0}
+AreMoves names (line ∷ lines) (m ∷ moves) = MoveLine names line m × AreMoves names lines moves
+AreMoves names [] (m ∷ moves) = ⊥
+AreMoves names (line ∷ lines) [] = ⊥
 
 -- ---- lines in bytes
 
@@ -141,3 +159,19 @@ CameTo tells names left left' held held' c ReadFault z = PlayedWhole tells names
 CameTo tells names left left' held held' c WriteFault z = PlayedInPart tells names left left' held held' c z
 CameTo tells names left left' held held' c Spent z = PlayedWhole tells names left left' held held' (λ n. n ≡ most) c z
 CameTo tells names left left' held held' c NoMemory z = PlayedSome tells names left left' held held' c z ⊎ PlayedInPart tells names left left' held held' c z
+
+-- ---- what the replies are
+
+-- Of the bytes taken these lines, but for empty ones, made their moves, in which the replies to each session are a chain of turns from what it had seen, and a front of what they gave was written.
+pub record InTurns (tells : Bool) (names : List (List ℕ)) (left left' held held' : Option (List ℕ)) (c z : WorldState) : Type 0 where
+  pub taken : List ℕ
+  pub lines : List (List ℕ)
+  pub rest : List ℕ
+  pub consumed : Consumes left left' taken
+  pub lie : LieIn left' taken lines rest
+  pub moves : List Move
+  pub made : List Made
+  pub are : AreMoves names (filled lines) moves
+  pub count : ℕ
+  pub appended : Appends held held' (take count (flat_map (moved_lines names) made))
+  pub run : HasRun tells c moves (map given_of made) z

@@ -5,7 +5,7 @@ ghost use Rattle.cj_outside.specs.Causes.{CountsFault};
 ghost use Rattle.cj_outside.specs.Streams.{most, WritesAll};
 ghost use Rattle.cj_model.specs.Runs.{CanCount};
 ghost use Rattle.cj_model.specs.Scripts.{moved_lines};
-ghost use Rattle.cj_script.specs.Script.{CameTo};
+ghost use Rattle.cj_script.specs.Script.{CameTo, InTurns};
 ghost use Rattle.cj_script.specs.Steps.{PlaysOrEnds, ReadsLine};
 ghost use Rattle.cj_script.specs.declared.play.ScriptEnd.TheVariants as ends;
 ghost use Rattle.std.specs.declared.result.Result.TheVariants.{Err};
@@ -110,6 +110,7 @@ fn play_line<B: Backend, O: Sink>(
 /// Plays the lines of the source, each a move on the world, and writes what they come to.
 ///
 /// A line that can't be played ends the script, and so do a fault and want of memory. What was played and written until then stays.
+/// The replies to each session are turns of one database, whatever the end.
 pub fn script<B: Backend, I: Source, O: Sink>(
     alloc: Global,
     world: &mut World<B>,
@@ -120,9 +121,11 @@ pub fn script<B: Backend, I: Source, O: Sink>(
     requires names { length names.now ≡ world.old.core.placement.backends }
     requires count { CanCount world.old.core (2 ^ 61) }
     ensures came { CameTo B.TELLS names.now (I.left input.old) (I.left input.new) (O.held output.old) (O.held output.new) world.old result world.new }
+    ensures turns { InTurns B.TELLS names.now (I.left input.old) (I.left input.new) (O.held output.old) (O.held output.new) world.old world.new }
     ensures input { CountsFault (result ≡ ends.ReadFault) (I.faults input.old) (I.faults input.new) }
     ensures output { CountsFault (result ≡ ends.WriteFault) (O.faults output.old) (O.faults output.new) }
 {
+    world.legal();
     let mut lines = Lines::new(alloc);
     let mut number = 0;
     loop {

@@ -2,6 +2,7 @@ use Rattle.std.proofs.Common.{◌+◌, ℕ, List, Err, sym, ap, subst, ◌∙◌
 use Rattle.cj_model.specs.Placements.{Placement}
 use Rattle.cj_script.specs.Steps.{PlaysOrEnds}
 use Rattle.cj_script.proofs.Moving.{counting_start, counting_played, played_backends}
+use Rattle.cj_script.proofs.InTurns.{read_end_turns, play_end_turns}
 use Rattle.cj_script.proofs.Playing.{playing_none, read_end, play_end, text_came, line_played}
 use Rattle.cj_script.proofs.play.script.Goals as goal
 
@@ -39,6 +40,29 @@ returns-in-Err-play_line-clause-came g c =
     play_end g.B.Backend.TELLS c.args.names.now (left c.args.input.now) (left c.read_line.new.input) (held c.args.output.now) (held c.loop-line.output) (held c.play_line.new.output)
     c.args.world.now c.in-Ok.line.items c.read_line.new.lines.rest c.read_line.new.lines.taken c.loop-line.number (c.loop-line.number + 1) c.loop-line.world c.play_line.new.world
     c.in-Err-play_line.end came.at came.short refl
+    (subst (λ (t : List ℕ). PlaysOrEnds g.B.Backend.TELLS c.args.names.now (held c.loop-line.output) (held c.play_line.new.output) c.loop-line.world t (c.loop-line.number + 1) (Err c.in-Err-play_line.end) c.play_line.new.world)
+    c.deref.ensures.value c.in-Err-play_line.ensures.plays)
+
+pub returns-in-Err-clause-turns : goal.returns-in-Err-clause-turns
+returns-in-Err-clause-turns g c =
+    let left = g.I.Source.left in
+    let held = g.O.Sink.held in
+    read_end_turns g.B.Backend.TELLS c.args.names.now c.args.world.now c.legal.ensures c.requires.names c.requires.count (left c.args.input.now) (left c.loop-line.input) (left c.read_line.new.input)
+    (held c.args.output.now) (held c.loop-line.output) c.loop-line.lines c.read_line.new.lines c.loop-line.number (c.loop-line.number + 1) c.loop-line.world c.in-Err.end c.loop-line.invariant.playing
+    c.loop-line.invariant.few c.in-Err.ensures.bytes
+
+pub returns-in-Err-play_line-clause-turns : goal.returns-in-Err-play_line-clause-turns
+returns-in-Err-play_line-clause-turns g c =
+    let left = g.I.Source.left in
+    let held = g.O.Sink.held in
+    let came =
+    text_came g.B.Backend.TELLS c.args.names.now (left c.args.input.now) (left c.loop-line.input) (left c.read_line.new.input) (held c.args.output.now) (held c.loop-line.output)
+    c.args.world.now c.loop-line.lines c.read_line.new.lines c.loop-line.number (c.loop-line.number + 1) c.loop-line.world c.in-Ok.line c.loop-line.invariant.playing c.in-Ok.ensures.bytes
+    in
+    play_end_turns g.B.Backend.TELLS c.args.names.now c.args.world.now c.legal.ensures c.requires.names c.requires.count (left c.args.input.now) (left c.read_line.new.input)
+    (held c.args.output.now) (held c.loop-line.output) (held c.play_line.new.output)
+    c.in-Ok.line.items c.read_line.new.lines.rest c.read_line.new.lines.taken c.loop-line.number (c.loop-line.number + 1) c.loop-line.world c.play_line.new.world
+    c.in-Err-play_line.end came.at c.in-Ok.ensures.few
     (subst (λ (t : List ℕ). PlaysOrEnds g.B.Backend.TELLS c.args.names.now (held c.loop-line.output) (held c.play_line.new.output) c.loop-line.world t (c.loop-line.number + 1) (Err c.in-Err-play_line.end) c.play_line.new.world)
     c.deref.ensures.value c.in-Err-play_line.ensures.plays)
 

@@ -1,0 +1,223 @@
+-- The replies in a script's lines are turns.
+use Rattle.std.proofs.Common.{◌≡◌, ℕ, ◌+◌, ◌<◌, ◌≤◌, ◌^◌, Bool, List, [], ◌∷◌, ◌++◌, length, map, take, drop, All, Option, Err, inl, inr, refl, sym, ap, subst, ◌∙◌, arith, append-nil, codes}
+use Rattle.std.specs.List.{flat_map}
+use Rattle.std.specs.Str.{bytes_eq}
+use Rattle.std.specs.Io.KnownBytes.{Consumes, Appends}
+use Rattle.std.proofs.lemmas.List.{take_all}
+use Rattle.std.proofs.lemmas.List.Concat.{flat_map-cons}
+use Rattle.std.proofs.lemmas.List.Elements.{All-nil, All-cons}
+use Rattle.std.proofs.lemmas.List.Quantifiers.{position-Some}
+use Rattle.std.proofs.Math.Seq.{take-append_seam, drop-append_seam}
+use Rattle.cj_outside.specs.Lines.{Reading}
+use Rattle.cj_outside.specs.Streams.{most}
+use Rattle.cj_outside.proofs.Joined.{appends_then, appends_more}
+use Rattle.cj_model.specs.declared.moves.Move.{Move}
+use Rattle.cj_model.specs.declared.moves.Move.TheVariants.{Open, Close, Schedule, Apply, End, Read, Arm, Disable, Replay, Enable}
+use Rattle.cj_model.specs.declared.moves.Made.{Made}
+use Rattle.cj_model.specs.Cores.{session_at}
+use Rattle.cj_model.specs.Runs.{Runs, IsMove, CanCount}
+use Rattle.cj_model.specs.Scripts.{MoveLine, NamesBackend, moved_lines}
+use Rattle.cj_model.proofs.Chains.{run_chained}
+use Rattle.cj_core.specs.Worlds.{WorldState, IsWorld}
+use Rattle.cj_core.specs.Counting.{faults_of}
+use Rattle.cj_core.specs.Played.{given_of, faults_over, HaveCauses}
+use Rattle.cj_script.specs.declared.play.ScriptEnd.{ScriptEnd}
+use Rattle.cj_script.specs.declared.play.ScriptEnd.TheVariants.{Done, Line as Line', ReadFault, WriteFault, Spent, NoMemory}
+use Rattle.cj_script.specs.Script.{filled, AreMoves, MakesInPart, PlaysLine, Plays, LieIn, InTurns}
+use Rattle.cj_script.specs.Steps.{ReadsLine, Stays, PlaysOrEnds}
+use Rattle.cj_script.proofs.Filled.{filled_empty, filled_move, filled_more}
+use Rattle.cj_script.proofs.Playing.{plays_more, longer, Playing, AtLine}
+
+-- ---- lines as moves
+
+-- what the lines played, as a list of moves
+record MovesOf (tells : Bool) (names : List (List ℕ)) (c : WorldState) (lines : List (List ℕ)) (written : List ℕ) (z : WorldState) : Type 0 where
+  moves : List Move
+  made : List Made
+  are : AreMoves names (filled lines) moves
+  runs : Runs tells c.core moves (map given_of made) z.core
+  causes : HaveCauses c z moves (map given_of made)
+  gives : written ≡ flat_map (moved_lines names) made
+
+-- a line, and those behind it
+moves_on : (tells : Bool) (names : List (List ℕ)) (c : WorldState) (line : List ℕ) (lines : List (List ℕ)) (mid : WorldState) (front rest : List ℕ) (z : WorldState)
+    → PlaysLine tells names c line front mid → MovesOf tells names mid lines rest z → MovesOf tells names c (line ∷ lines) (front ++ rest) z
+moves_on tells names c line lines mid front rest z (inl skips) later = record {
+  moves = later.moves;
+  made = later.made;
+  are = subst (λ (ls : List (List ℕ)). AreMoves names ls later.moves) (sym (filled_empty line lines skips.empty)) later.are;
+  runs = subst (λ (x : WorldState). Runs tells x.core later.moves (map given_of later.made) z.core) skips.same later.runs;
+  causes = subst (λ (x : WorldState). HaveCauses x z later.moves (map given_of later.made)) skips.same later.causes;
+  gives = ap (λ (t : List ℕ). t ++ rest) skips.nothing ∙ later.gives;
+}
+moves_on tells names c line lines mid front rest z (inr makes) later = record {
+  moves = makes.move ∷ later.moves;
+  made = makes.made ∷ later.made;
+  are = subst (λ (ls : List (List ℕ)). AreMoves names ls (makes.move ∷ later.moves)) (sym (filled_move names line lines makes.move makes.reads)) (makes.reads, later.are);
+  runs = (mid.core, makes.moves, later.runs);
+  causes = later.causes ∙ ap (λ (faults : List ℕ). faults_over faults later.moves (map given_of later.made)) makes.causes;
+  gives = ap (λ (t : List ℕ). t ++ rest) makes.gives ∙ ap (λ (t : List ℕ). moved_lines names makes.made ++ t) later.gives ∙ sym (flat_map-cons (moved_lines names) makes.made later.made);
+}
+
+moves_of : (tells : Bool) (names : List (List ℕ)) (c : WorldState) (lines : List (List ℕ)) (written : List ℕ) (z : WorldState) → Plays tells names c lines written z → MovesOf tells names c lines written z
+moves_of tells names c [] written z h = record { moves = []; made = []; are = tt; runs = ap (λ (x : WorldState). x.core) (sym h.1); causes = ap (λ (x : WorldState). faults_of x.cells) h.1; gives = h.0 }
+moves_of tells names c (line ∷ lines) written z (mid, front, rest, first, others, is) =
+    subst (λ (t : List ℕ). MovesOf tells names c (line ∷ lines) t z) (sym is) (moves_on tells names c line lines mid front rest z first (moves_of tells names mid lines rest z others))
+
+-- ---- what the moves ask for
+
+-- a backend that is named is there
+named_within : (names : List (List ℕ)) (n : ℕ) (line verb : List ℕ) (b : ℕ) → length names ≡ n → NamesBackend names line verb b → b < n
+named_within names n line verb b as_many (name, is, e) = subst (λ (k : ℕ). b < k) as_many (position-Some (bytes_eq name) names b [] is.named).0
+
+line_move : (names : List (List ℕ)) (n : ℕ) (line : List ℕ) (m : Move) → length names ≡ n → MoveLine names line m → IsMove n m
+line_move names n line (Open user) as_many (is, e) = is.short
+line_move names n line (Close s) as_many h = tt
+line_move names n line (Schedule s r) as_many (number, sql, is, write, e) = (record { plain = write.sql.plain; text = sql; reads = write.sql.reads }, write.lone)
+line_move names n line (Apply b) as_many h = named_within names n line (codes "apply") b as_many h
+line_move names n line End as_many h = tt
+line_move names n line (Read s b select) as_many (number, name, sql, is, named, reads, e) = (
+  subst (λ (k : ℕ). b < k) as_many (position-Some (bytes_eq name) names b [] named.named).0,
+  record { plain = reads.plain; text = sql; reads = reads.reads },
+)
+line_move names n line (Arm b) as_many h = named_within names n line (codes "arm") b as_many h
+line_move names n line (Disable b) as_many h = named_within names n line (codes "disable") b as_many h
+line_move names n line (Replay b) as_many h = named_within names n line (codes "replay") b as_many h
+line_move names n line (Enable b) as_many h = named_within names n line (codes "enable") b as_many h
+
+lines_move : (names : List (List ℕ)) (n : ℕ) (lines : List (List ℕ)) (moves : List Move) → length names ≡ n → AreMoves names lines moves → All (IsMove n) moves
+lines_move names n [] [] as_many h = All-nil (IsMove n)
+lines_move names n (line ∷ lines) (m ∷ moves) as_many h = All-cons (IsMove n) m moves (line_move names n line m as_many h.0) (lines_move names n lines moves as_many h.1)
+lines_move names n [] (m ∷ moves) as_many h = absurd h
+lines_move names n (line ∷ lines) [] as_many h = absurd h
+
+-- there are as many as lines
+moves_length : (names : List (List ℕ)) (lines : List (List ℕ)) (moves : List Move) → AreMoves names lines moves → length moves ≡ length lines
+moves_length names [] [] h = refl
+moves_length names (line ∷ lines) (m ∷ moves) h = let rest = moves_length names lines moves h.1 in omega arith
+moves_length names [] (m ∷ moves) h = absurd h
+moves_length names (line ∷ lines) [] h = absurd h
+
+-- ---- turns
+
+module _ (tells : Bool) (names : List (List ℕ)) (c : WorldState) (world : IsWorld tells c) (as_many : length names ≡ c.core.placement.backends) (can : CanCount c.core (2 ^ 61)) where
+  -- lines that lie in the bytes taken
+  in_turns : (left left' held held' : Option (List ℕ)) (taken : List ℕ) (lines : List (List ℕ)) (rest written : List ℕ) (count : ℕ) (z : WorldState) → Consumes left left' taken → LieIn left' taken lines rest
+      → Plays tells names c lines written z → length (filled lines) ≤ 2 ^ 61 → Appends held held' (take count written) → InTurns tells names left left' held held' c z
+  in_turns left left' held held' taken lines rest written count z consumed lie plays few appended =
+      let q = moves_of tells names c lines written z plays in
+      let same = moves_length names (filled lines) q.moves q.are in
+      let once : CanCount c.core (length q.moves) = λ s. (let room = can s in let le : (session_at c.core s).queries + length q.moves ≤ 2 ^ 62 = omega arith in le) in
+      record {
+        taken = taken;
+        lines = lines;
+        rest = rest;
+        consumed = consumed;
+        lie = lie;
+        moves = q.moves;
+        made = q.made;
+        are = q.are;
+        count = count;
+        appended = subst (λ (t : List ℕ). Appends held held' (take count t)) q.gives appended;
+        run = record {
+          runs = q.runs;
+          chains = run_chained tells c.core q.moves (map given_of q.made) z.core world.sound (lines_move names c.core.placement.backends (filled lines) q.moves as_many q.are) once q.runs;
+          causes = q.causes;
+        };
+      }
+
+  -- between two lines
+  playing_turns : (left left' held held' : Option (List ℕ)) (rest : List ℕ) (bytes count : ℕ) (z : WorldState) → Playing tells names left left' held held' c rest bytes count z → bytes ≤ most → InTurns tells names left left' held held' c z
+  playing_turns left left' held held' rest bytes count z p le =
+      let few : length (filled p.lines) ≤ 2 ^ 61 = omega (arith, p.few) in
+      let whole : length p.played.written ≤ length p.played.written = omega arith in
+      in_turns left left' held held' p.taken p.lines rest p.played.written (length p.played.written) z p.played.consumed p.played.lie p.played.plays few
+      (subst (Appends held held') (sym (take_all (length p.played.written) p.played.written whole)) p.played.appended)
+
+  -- a line that was made, with what it gives written in part
+  made_turns : (left left' held held' held'' : Option (List ℕ)) (line rest : List ℕ) (bytes count : ℕ) (mid z : WorldState) → AtLine tells names left left' held held' c line rest bytes count mid → bytes ≤ most
+      → MakesInPart tells names held' held'' mid line z → InTurns tells names left left' held held'' c z
+  made_turns left left' held held' held'' line rest bytes count mid z at le makes =
+      let p = at.playing in
+      let first : PlaysLine tells names mid line makes.whole z = inr makes.makes in
+      let more = filled_more tells names mid p.lines line makes.whole z (length rest) bytes first (omega (arith, p.few, at.shorter)) in
+      let few : length (filled (p.lines ++ line ∷ [])) ≤ 2 ^ 61 = omega arith in
+      let n : ℕ = length p.played.written in
+      let text : List ℕ = p.played.written ++ makes.whole in
+      let front : Appends held held' (take n text) = subst (Appends held held') (sym (take-append_seam p.played.written makes.whole)) p.played.appended in
+      let behind : Appends held' held'' (take makes.count (drop n text)) =
+      subst (λ (t : List ℕ). Appends held' held'' (take makes.count t)) (sym (drop-append_seam p.played.written makes.whole)) makes.appended
+      in
+      in_turns left left' held held'' p.taken (p.lines ++ line ∷ []) rest text (n + makes.count) z p.played.consumed at.behind
+      (plays_more tells names c p.lines p.played.written mid line makes.whole z p.played.plays first) few (appends_more held held' held'' n makes.count text front behind)
+
+-- more was taken
+turns_longer : (tells : Bool) (names : List (List ℕ)) (left mid left' held held' : Option (List ℕ)) (c z : WorldState) (more : List ℕ) → InTurns tells names left mid held held' c z → Consumes mid left' more
+    → InTurns tells names left left' held held' c z
+turns_longer tells names left mid left' held held' c z more q next =
+    let l = longer left mid left' q.taken q.lines q.rest more q.consumed q.lie next in
+    record {
+      taken = l.whole;
+      lines = q.lines;
+      rest = q.rest ++ more;
+      consumed = l.consumed;
+      lie = l.lie;
+      moves = q.moves;
+      made = q.made;
+      are = q.are;
+      count = q.count;
+      appended = q.appended;
+      run = q.run;
+    }
+
+-- nothing was done and nothing written
+turns_stay : (tells : Bool) (names : List (List ℕ)) (left left' held held' held'' : Option (List ℕ)) (c mid z : WorldState) → InTurns tells names left left' held held' c mid → Stays held' held'' mid z
+    → InTurns tells names left left' held held'' c z
+turns_stay tells names left left' held held' held'' c mid z q stays =
+    let text : List ℕ = take q.count (flat_map (moved_lines names) q.made) in
+    subst (InTurns tells names left left' held held'' c) (sym stays.0)
+    (record {
+      taken = q.taken;
+      lines = q.lines;
+      rest = q.rest;
+      consumed = q.consumed;
+      lie = q.lie;
+      moves = q.moves;
+      made = q.made;
+      are = q.are;
+      count = q.count;
+      appended = subst (Appends held held'') (append-nil text) (appends_then held held' held'' text [] q.appended stays.1);
+      run = q.run;
+    })
+
+-- ---- ends
+
+-- some bytes were taken in place of a line
+end_takes : (left left' : Option (List ℕ)) (old new : Reading) (number : ℕ) (last : ScriptEnd) → ReadsLine left left' old new number (Err last) → (bytes : List ℕ) × Consumes left left' bytes
+end_takes left left' old new number Done (bytes, took, none) = (bytes, took.consumed)
+end_takes left left' old new number (Line' n) (same, (bytes, took, came)) = (bytes, took.consumed)
+end_takes left left' old new number ReadFault (bytes, took, none) = (bytes, took.consumed)
+end_takes left left' old new number WriteFault none = absurd none
+end_takes left left' old new number Spent (bytes, took, none) = (bytes, took.consumed)
+end_takes left left' old new number NoMemory (bytes, took) = (bytes, took)
+
+module _ (tells : Bool) (names : List (List ℕ)) (c : WorldState) (world : IsWorld tells c) (as_many : length names ≡ c.core.placement.backends) (can : CanCount c.core (2 ^ 61)) where
+  -- in place of a line the script came to its end
+  pub read_end_turns : (left mid left' held held' : Option (List ℕ)) (old new : Reading) (count number : ℕ) (z : WorldState) (last : ScriptEnd) → Playing tells names left mid held held' c old.rest old.taken count z
+      → old.taken ≤ most → ReadsLine mid left' old new number (Err last) → InTurns tells names left left' held held' c z
+  read_end_turns left mid left' held held' old new count number z last p le reads =
+      let more = end_takes mid left' old new number last reads in
+      turns_longer tells names left mid left' held held' c z more.0 (playing_turns tells names c world as_many can left mid held held' old.rest old.taken count z p le) more.1
+
+  -- in a line the script came to its end
+  pub play_end_turns : (left left' held held' held'' : Option (List ℕ)) (line rest : List ℕ) (bytes count number : ℕ) (mid z : WorldState) (last : ScriptEnd) → AtLine tells names left left' held held' c line rest bytes count mid
+      → bytes ≤ most → PlaysOrEnds tells names held' held'' mid line number (Err last) z → InTurns tells names left left' held held'' c z
+  play_end_turns left left' held held' held'' line rest bytes count number mid z Done at le none = absurd none
+  play_end_turns left left' held held' held'' line rest bytes count number mid z (Line' n) at le (same, refuses) =
+      turns_stay tells names left left' held held' held'' c mid z (playing_turns tells names c world as_many can left left' held held' at.whole bytes count mid at.playing le) refuses.stays
+  play_end_turns left left' held held' held'' line rest bytes count number mid z ReadFault at le none = absurd none
+  play_end_turns left left' held held' held'' line rest bytes count number mid z WriteFault at le makes = made_turns tells names c world as_many can left left' held held' held'' line rest bytes count mid z at le makes
+  play_end_turns left left' held held' held'' line rest bytes count number mid z Spent at le none = absurd none
+  play_end_turns left left' held held' held'' line rest bytes count number mid z NoMemory at le (inl stays) =
+      turns_stay tells names left left' held held' held'' c mid z (playing_turns tells names c world as_many can left left' held held' at.whole bytes count mid at.playing le) stays
+  play_end_turns left left' held held' held'' line rest bytes count number mid z NoMemory at le (inr makes) = made_turns tells names c world as_many can left left' held held' held'' line rest bytes count mid z at le makes
