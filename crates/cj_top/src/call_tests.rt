@@ -6,7 +6,7 @@ use cj_auth::Accounts;
 use cj_cache::Cache;
 use cj_expr::{BindError, Scope, bind, bind_expr};
 use cj_model::{
-    Account, Answer, Column, Kind, Level, ListOf, NO_COLUMN, Name, PlaceRow, Request, Schema,
+    Account, Answer, Column, Cond, Kind, Level, ListOf, NO_COLUMN, Name, PlaceRow, Request, Schema,
     Select, TableSet, Text, Value, Write,
 };
 use cj_place::Placement;
@@ -28,6 +28,14 @@ fn select(rt: &impl Abort, alloc: Global, text: &str) -> Select {
     match request(rt, alloc, text) {
         Request::Select(select) => select,
         _ => panic!(rt; "{text}"),
+    }
+}
+
+fn condition(rt: &impl Abort, alloc: Global, text: &str) -> Cond {
+    let Select { cond, .. } = select(rt, alloc, text);
+    match cond {
+        Some(cond) => cond,
+        None => panic!(rt; "{text}"),
     }
 }
 
@@ -93,18 +101,14 @@ fn a_condition_is_bound(rt: HostRuntime) -> Result<(), Fail> {
     let Ok(scope) = Scope::of(alloc, &[&schema(&rt, alloc)?]) else {
         panic!(&rt; "scope")
     };
-    let Some(cond) = select(&rt, alloc, "SELECT * FROM t WHERE v > k AND t.k <> 4").cond else {
-        panic!(&rt; "condition")
-    };
+    let cond = condition(&rt, alloc, "SELECT * FROM t WHERE v > k AND t.k <> 4");
     let Ok(predicate) = bind(alloc, &cond, &scope) else {
         panic!(&rt; "bind")
     };
     for (k, v, holds) in [(3, 5, true), (4, 5, false), (5, 5, false)] {
         assert_eq!(rt; predicate.holds(&[Value::Int(k), Value::Int(v)]), holds);
     }
-    let Some(cond) = select(&rt, alloc, "SELECT * FROM t WHERE w = 1").cond else {
-        panic!(&rt; "condition")
-    };
+    let cond = condition(&rt, alloc, "SELECT * FROM t WHERE w = 1");
     match bind(alloc, &cond, &scope) {
         Err(BindError::Refused(refusal)) => assert_eq!(rt; refusal.code, NO_COLUMN),
         _ => panic!(&rt; "bind"),
