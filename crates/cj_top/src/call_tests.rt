@@ -7,7 +7,7 @@ use cj_cache::Cache;
 use cj_expr::{BindError, Scope, bind, bind_expr};
 use cj_model::{
     Account, Answer, Column, Cond, Kind, Level, ListOf, NO_COLUMN, Name, PlaceRow, Request, Schema,
-    Select, TableSet, Text, Value, Write,
+    Select, TableSet, Text, USER_LIMIT, Value, Write,
 };
 use cj_place::Placement;
 use cj_print::write_sql;
@@ -192,10 +192,10 @@ fn tables_are_placed(rt: HostRuntime) -> Result<(), Fail> {
 
 /// The account of `ann`, whose password is `secret`.
 fn account(rt: &impl Abort, alloc: Global) -> Result<Account, Fail>
-    ensures { IfOk result (λ account. length account.user ≤ 64) }
+    ensures { IfOk result (λ account. length account.user ≤ USER_LIMIT) }
 {
     let user = text(rt, alloc, "ann")?;
-    assert!(rt; user.len() <= 64);
+    assert!(rt; user.len() <= USER_LIMIT);
     Ok(Account {
         user,
         digest: text(
