@@ -13,6 +13,8 @@ pub use scripted::play;
 pub use session::Session;
 
 #[cfg(test)]
+mod call_tests;
+#[cfg(test)]
 mod load_tests;
 #[cfg(test)]
 mod row_limit_tests;
