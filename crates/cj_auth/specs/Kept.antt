@@ -4,7 +4,7 @@ use Rattle.std.specs.declared.result.Result.TheVariants.{Ok}
 use Rattle.hex.specs.Hex.{decode_of}
 use Rattle.cj_model.specs.declared.account.Account.{Account}
 use Rattle.cj_model.specs.Accounts.{has_logins}
-use Rattle.cj_model.specs.Legality.{user_limit}
+use Rattle.cj_model.specs.declared.limits.TheConstants.{USER_LIMIT}
 use Rattle.cj_model.specs.Words.{IsText}
 use Rattle.cj_auth.specs.declared.credentials.Credential.{Credential}
 
@@ -18,7 +18,7 @@ HasKey credential = decode_of credential.account.digest ≡ Ok credential.key
 -- a text that is not too long for a user's name
 pub record IsUserName (user : List ℕ) : Type 0 where
   pub text : IsText user
-  pub short : length user ≤ user_limit
+  pub short : length user ≤ USER_LIMIT
 
 -- each with its key and with a login for each backend, and an empty login for users that have none
 pub record IsKept (credentials : List Credential) (backends : ℕ) (empty : List ℕ) : Type 0 where

@@ -4,12 +4,11 @@ ghost use Rattle.std.specs.Prelude.{◌≡◌, ◌≤◌, ◌&&◌, find, length
 ghost use Rattle.std.specs.List.{list_any};
 ghost use Rattle.std.specs.Str.{bytes_eq};
 ghost use Rattle.cj_model.specs.Accounts.{HasShortUsers, is_of};
-ghost use Rattle.cj_model.specs.Legality.{user_limit};
 ghost use Rattle.cj_auth.specs.Digests.{is_digest};
 ghost use Rattle.cj_auth.specs.Kept.{HasKey, IsUserName, accounts_of};
 
 use crate::digests::{is_same_key, key_of};
-use cj_model::{Account, AccountRows, Duplicate, ListOf, NoMemory};
+use cj_model::{Account, AccountRows, Duplicate, ListOf, NoMemory, USER_LIMIT};
 use std::alloc::Global;
 
 /// An account and the bytes that its digest spells.
@@ -30,7 +29,7 @@ impl Duplicate for Credential {
 
 fn with_key(account: Account) -> Credential
     requires digest { is_digest account.digest ≡ true }
-    requires user { length account.user ≤ user_limit }
+    requires user { length account.user ≤ USER_LIMIT }
     ensures account { result.account ≡ account }
     ensures key { HasKey result }
     ensures user { IsUserName result.account.user }

@@ -132,7 +132,8 @@ impl Backend for MemBackend {
     ghost use Rattle.cj_model.specs.Queries.{ask};
     ghost use Rattle.cj_model.specs.Steps.{acted};
     ghost use Rattle.cj_model.specs.Storable.{IsStorable};
-    ghost use Rattle.cj_backend.specs.Backends.{HasBackendCause, SaysOutcome, SaysAnswer, told_after, LogsIn, IsBegun, begun_with, begun_without, IsOutcome, IsAsked, told_loaded, begun_loaded, asks_after, SpendsArming};
+    ghost use Rattle.cj_model.specs.Outcomes.{IsOutcome, IsAsked};
+    ghost use Rattle.cj_backend.specs.Backends.{HasBackendCause, SaysOutcome, SaysAnswer, told_after, LogsIn, IsBegun, begun_with, begun_without, told_loaded, begun_loaded, asks_after, SpendsArming};
     ghost use Rattle.cj_mem.specs.MemoryBackends.{held_after, held_loaded, never_armed};
 
     const TELLS: bool = true;

@@ -2,7 +2,7 @@ use Rattle.std.proofs.Common.{◌≡◌, ◌≤◌, ◌++◌, List, length, true
 use Rattle.std.specs.Prelude.{All}
 use Rattle.std.proofs.lemmas.List.Elements.{All-push, All-rest}
 use Rattle.cj_model.specs.declared.account.Account.{Account}
-use Rattle.cj_model.specs.Legality.{user_limit}
+use Rattle.cj_model.specs.declared.limits.TheConstants.{USER_LIMIT}
 use Rattle.cj_auth.specs.declared.credentials.Credential.{Credential}
 use Rattle.cj_auth.specs.Digests.{is_digest}
 use Rattle.cj_auth.specs.Kept.{HasKey, IsUserName, accounts_of}
@@ -20,7 +20,7 @@ loop-account-preserved c =
       can_next = tt;
       is_finite = tt;
       digests = All-rest (λ (account : Account). is_digest account.digest ≡ true) c.in-Some.account rest c.loop-account.account-iterator.rest.items c.in-Some.ensures.steps.0 i.digests;
-      short = All-rest (λ (account : Account). length account.user ≤ user_limit) c.in-Some.account rest c.loop-account.account-iterator.rest.items c.in-Some.ensures.steps.0 i.short;
+      short = All-rest (λ (account : Account). length account.user ≤ USER_LIMIT) c.in-Some.account rest c.loop-account.account-iterator.rest.items c.in-Some.ensures.steps.0 i.short;
       keys = subst (All HasKey) (sym c.in_ok-push.ensures.ok) (All-push HasKey made next i.keys c.with_key.ensures.key);
       users = subst (All has_name) (sym c.in_ok-push.ensures.ok) (All-push has_name made next i.users c.with_key.ensures.user);
       all = ap (λ (cs : List Credential). accounts_of cs ++ rest) c.in_ok-push.ensures.ok
