@@ -23,6 +23,7 @@ use Rattle.cj_book.specs.Books.{BookState, with_event, IsFull}
 use Rattle.cj_replica.specs.declared.cell.CellReadError.{CellReadError}
 use Rattle.cj_replica.specs.declared.cell.CellReadError.TheVariants as errors
 use Rattle.cj_replica.specs.Cells.{CellState, SaysAnswer}
+use Rattle.cj_model.proofs.Standing.{stand_rest}
 use Rattle.cj_core.specs.Worlds.{core_of, world_of, IsCell}
 use Rattle.cj_core.specs.declared.cells.AskError.{AskError}
 use Rattle.cj_core.specs.declared.cells.AskError.TheVariants as ask_errors
@@ -62,6 +63,7 @@ module _ (tells : Bool) (n : ℕ) (h : List Event) (cells : List CellState) (f s
                 few = kept.world.few;
                 positions = refl;
                 cells = cells_set tells n (log h) cells b y is_cell kept.world.cells;
+                between = stand_rest (core_of n h cells f s ss g) (map (λ (z : CellState). z.position) (set cells b y)) f s kept.world.between;
               };
           served = kept.served;
           right = kept.right;

@@ -16,6 +16,7 @@ use Rattle.cj_model.specs.Moves.{happened}
 use Rattle.cj_model.specs.Sound.{IsSound, Stands, Holds}
 use Rattle.cj_model.proofs.Masks.{has-zero}
 use Rattle.cj_model.proofs.Pushed.{enabled-push, log-same, done-same}
+use Rattle.cj_model.proofs.Standing.{stand_none}
 use Rattle.cj_book.specs.declared.error.BookError.{BookError}
 use Rattle.cj_book.specs.declared.error.BookError.TheVariants.{HistoryFull}
 use Rattle.cj_replica.specs.Cells.{CellState}
@@ -97,6 +98,7 @@ module _ (n : ℕ) (cells : List CellState) (fresh : AreFresh n cells) where
                     backends = f.backends;
                     holds = subst (λ (p : Option ℕ). Holds tells (everywhere n) b [] x.told p) (sym f.position) (λ on. told b x (get_or-map (λ (z : CellState). z.told) cells b d None lt) (empty on) lt);
                   };
+              between = stand_none (core_of n [] cells 0 0 [] 0) refl;
             };
         served = λ now. absurd (cc now);
         right = λ o is. absurd (cc is);

@@ -21,6 +21,7 @@ use Rattle.cj_model.specs.Moves.{place, Takes, DoesEntry, Applies, Replays, fail
 use Rattle.cj_model.specs.Sound.{IsSound, IsLone}
 use Rattle.cj_model.proofs.Effects.{sound_applied, sound_replayed, stands_there, is_there}
 use Rattle.cj_replica.specs.Cells.{CellState}
+use Rattle.cj_model.proofs.Standing.{stand_rest}
 use Rattle.cj_core.specs.Worlds.{core_of, world_of, IsCell, IsWorld}
 use Rattle.cj_core.specs.Taking.{Took, heard_after}
 use Rattle.cj_core.specs.Counting.{did_fail, faults_of, faults_after}
@@ -82,6 +83,7 @@ module _ (tells : Bool) (n : ℕ) (h : List Event) (cells : List CellState) (f s
         cells =
             subst (λ (xs : List CellState). (k : ℕ) (x : CellState) → k < length xs → IsCell tells n (log h) k (get_or xs k x)) (sym took.set)
             (cells_set tells n (log h) cells b took.cell took.is kept.world.cells);
+        between = stand_rest (core_of n h cells f s ss g) (map (λ (x : CellState). x.position) now) f' s' kept.world.between;
       }
 
   -- another backend stands where it stood

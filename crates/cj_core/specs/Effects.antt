@@ -22,6 +22,8 @@ use Rattle.cj_model.specs.Histories.{has, log, done, free, opened, room, at}
 use Rattle.cj_model.specs.Answering.{Served, Unserved, AnswersEntry}
 use Rattle.cj_model.specs.Cores.{Core, position_at, session_at}
 use Rattle.cj_model.specs.Moves.{last_number, open_tx, ended, happened, IsFarEnough, read_number, with_read, was_answered, still_reading}
+use Rattle.cj_model.specs.Turns.{Seen}
+use Rattle.cj_model.specs.Runs.{HasFailed, IsBetween}
 use Rattle.cj_book.specs.declared.error.BookError.{BookError}
 use Rattle.cj_book.specs.declared.error.BookError.TheVariants.{InProgress, NoBackend, HistoryFull, NoMemory}
 use Rattle.cj_book.specs.Books.{BookState, with_event, IsFull}
@@ -127,3 +129,7 @@ IsReadOther reading select = (r : OpenRead) × (reading ≡ Some r) × (r.select
 abbrev pub answer_given : Asked → Moved
 answer_given (asked.Rows a) = moved.Rows a
 answer_given (asked.Refused r) = moved.Refused r
+
+-- Since some reply of the session, or since it has begun, each backend of the mask has failed in its read.
+abbrev pub HaveFailed : Core → ℕ → ℕ → Type 0
+HaveFailed c s mask = (a : Seen) × IsBetween a c s × ((b : ℕ) → has mask b ≡ true → HasFailed a.front c.history s (read_number (session_at c s)) b)

@@ -8,6 +8,7 @@ use Rattle.cj_model.specs.Placements.{everywhere}
 use Rattle.cj_model.specs.Histories.{log}
 use Rattle.cj_model.specs.Cores.{Core}
 use Rattle.cj_model.specs.Sound.{IsSound, Holds}
+use Rattle.cj_model.specs.Runs.{AreBetween}
 use Rattle.cj_replica.specs.Cells.{CellState}
 
 -- the state that moves change, and the cells of the backends by their numbers
@@ -37,10 +38,11 @@ pub record IsCell (tells : Bool) (n : ℕ) (entries : List Entry) (b : ℕ) (x :
   pub backends : x.backends ≡ n
   pub holds : Holds tells (everywhere n) b entries x.told x.position
 
--- What holds of every world: its core is sound, and cell b is the cell of backend b and stands where the core says.
+-- What holds of every world: its core is sound, cell b is the cell of backend b and stands where the core says, and each session stands between two replies.
 pub record IsWorld (tells : Bool) (w : WorldState) : Type 0 where
   pub sound : IsSound w.core
   pub full : w.core.placement ≡ everywhere w.core.placement.backends
   pub few : w.core.placement.backends ≤ BACKEND_LIMIT
   pub positions : w.core.positions ≡ map (λ (x : CellState). x.position) w.cells
   pub cells : (b : ℕ) (d : CellState) → b < length w.cells → IsCell tells w.core.placement.backends (log w.core.history) b (slice_index_or w.cells b d)
+  pub between : AreBetween w.core

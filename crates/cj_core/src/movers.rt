@@ -1,6 +1,6 @@
 //! The moves.
 
-ghost use Rattle.std.specs.Prelude.{◌≡◌, ◌<◌, ◌≤◌, ◌^◌, length, IsErrOf, Some, None, Ok};
+ghost use Rattle.std.specs.Prelude.{◌≡◌, ◌<◌, ◌≤◌, ◌^◌, length, IsErrOf, Some, None, Ok, false};
 ghost use Rattle.cj_model.specs.declared.request.Request.TheVariants as requests;
 ghost use Rattle.cj_model.specs.Plain as plain;
 ghost use Rattle.cj_model.specs.Legality.{IsWritten};
@@ -12,7 +12,7 @@ ghost use Rattle.cj_model.specs.Runs.{IsLoneWrite};
 ghost use Rattle.cj_replica.specs.Cells.{CellState};
 ghost use Rattle.cj_core.specs.Armings.{ArmsCell, armed_at};
 ghost use Rattle.cj_core.specs.Counting.{HasCauses, faults_of};
-ghost use Rattle.cj_core.specs.Effects.{IsChange, RefusesOrStays, answer_given, with_core};
+ghost use Rattle.cj_core.specs.Effects.{HaveFailed, IsChange, RefusesOrStays, answer_given, with_core};
 ghost use Rattle.cj_core.specs.Steps.{IsMet};
 
 use crate::cells::{AskError, covers};
@@ -122,6 +122,7 @@ impl<B: Backend> World<B> {
     /// One attempt of the session's read.
     fn read(&mut self, s: u64, b: u8, select: Select) -> Result<Moved, MoveError>
         requires within { b < self.old.core.placement.backends }
+        requires now { not_now self.old.core (Move.Read s b select) ≡ None }
         requires written { IsWritten (requests.Select select) }
         requires counts { (session_at self.old.core s).queries < REQUEST_LIMIT }
         ensures moves { ReadsOrWaits B.TELLS self.old.core s b select result self.new.core }
@@ -145,6 +146,7 @@ impl<B: Backend> World<B> {
                 value: b as u64,
             }));
         }
+        self.legal();
         let tried = self.tried_with(s, b);
         match self.ask(s, b, &select) {
             Ok((answer, position)) => Ok(self.answer(s, position, answer)),
@@ -164,9 +166,11 @@ impl<B: Backend> World<B> {
 
     /// The session's read stays open as it is.
     fn wait(&mut self, s: u64, select: Select)
-        requires { (session_at self.old.core s).queries < REQUEST_LIMIT }
+        requires counts { (session_at self.old.core s).queries < REQUEST_LIMIT }
+        requires idle { moves.is_waiting self.old.core s ≡ false }
         ensures { self.new ≡ with_core self.old (with_read self.old.core s (still_reading select (moves.tried_of (session_at self.old.core s).reading))) }
     {
+        self.legal();
         let tried = self.tried(s);
         self.keep_reading(s, select, tried);
     }
@@ -174,6 +178,7 @@ impl<B: Backend> World<B> {
     /// The session's read is answered at a position.
     fn answer(&mut self, s: u64, position: u64, answer: Asked) -> Moved
         requires counts { (session_at self.old.core s).queries < REQUEST_LIMIT }
+        requires idle { moves.is_waiting self.old.core s ≡ false }
         requires within { position ≤ moves.last_number self.old.core }
         ensures moved { result ≡ answer_given answer }
         ensures ok { self.new ≡ with_core self.old (with_read self.old.core s (λ x. answered_at position (was_answered x))) }
@@ -188,7 +193,9 @@ impl<B: Backend> World<B> {
     /// The session's read is refused where each backend that serves it has failed in it, and else it
     /// stays open.
     fn refuse_or_stay(&mut self, s: u64, select: Select, tried: u32, serving: u32) -> Moved
-        requires { (session_at self.old.core s).queries < REQUEST_LIMIT }
+        requires counts { (session_at self.old.core s).queries < REQUEST_LIMIT }
+        requires idle { moves.is_waiting self.old.core s ≡ false }
+        requires since { HaveFailed self.old.core s tried }
         ensures moves { RefusesOrStays self.old.core s select tried serving result self.new.core }
         ensures cells { self.new.cells ≡ self.old.cells }
     {
@@ -207,7 +214,8 @@ impl<B: Backend> World<B> {
 
     /// The session's read is refused, since the history of so many events has no room to note a failure.
     fn refuse_unnoted(&mut self, s: u64, events: u64) -> Moved
-        requires { (session_at self.old.core s).queries < REQUEST_LIMIT }
+        requires counts { (session_at self.old.core s).queries < REQUEST_LIMIT }
+        requires idle { moves.is_waiting self.old.core s ≡ false }
         ensures moved { result ≡ Moved.Refused (record { code = HISTORY_FULL; a = events; b = 0 }) }
         ensures ok { self.new ≡ with_core self.old (with_read self.old.core s was_answered) }
     {

@@ -19,11 +19,9 @@ ghost use Rattle.cj_core.specs.Worlds.{IsWorld};
 ghost use Rattle.cj_core.specs.Starts.{AreEmpty, AreFresh, begun};
 ghost use Rattle.cj_core.specs.Armings.{armed_at};
 ghost use Rattle.cj_core.specs.Counting.{did_fail, faults_after, faults_of};
-ghost use Rattle.cj_core.specs.Effects.{AnswersOpen, Asks, IsChange, asked_core, failed_asked, IsReadOf, IsReadOther, Refuses, with_core, SchedulesAs, HadRoom};
+ghost use Rattle.cj_core.specs.Effects.{AnswersOpen, Asks, IsChange, asked_core, failed_asked, HaveFailed, IsReadOf, IsReadOther, Refuses, with_core, SchedulesAs, HadRoom};
 
-use crate::cells::{
-    AskError, failed_after, heard_after, noted, place, starved_after, take,
-};
+use crate::cells::{AskError, failed_after, heard_after, noted, place, starved_after, take};
 use crate::emptied::Emptied;
 use crate::sessions::{Sessions, read_number};
 use cj_backend::Backend;
@@ -435,7 +433,9 @@ impl<B: Backend> World<B> {
 
     /// The session has made one request more.
     pub(crate) fn count(&mut self, s: u64)
-        requires { (session_at self.old.core s).queries < REQUEST_LIMIT }
+        requires counts { (session_at self.old.core s).queries < REQUEST_LIMIT }
+        requires idle { moves.is_waiting self.old.core s ≡ false }
+        requires no_read { (session_at self.old.core s).reading ≡ None }
         ensures { self.new ≡ with_core self.old (with_counted self.old.core s) }
     {
         self.sessions.count(s);
@@ -443,7 +443,8 @@ impl<B: Backend> World<B> {
 
     /// The session's read was refused.
     pub(crate) fn refuse_read(&mut self, s: u64)
-        requires { (session_at self.old.core s).queries < REQUEST_LIMIT }
+        requires counts { (session_at self.old.core s).queries < REQUEST_LIMIT }
+        requires idle { moves.is_waiting self.old.core s ≡ false }
         ensures { self.new ≡ with_core self.old (with_read self.old.core s was_answered) }
     {
         self.sessions.refuse_read(s);
@@ -453,6 +454,7 @@ impl<B: Backend> World<B> {
     pub(crate) fn answer_read(&mut self, s: u64, position: u64)
         requires counts { (session_at self.old.core s).queries < REQUEST_LIMIT }
         requires within { position ≤ moves.last_number self.old.core }
+        requires idle { moves.is_waiting self.old.core s ≡ false }
         ensures { self.new ≡ with_core self.old (with_read self.old.core s (λ x. answered_at position (was_answered x))) }
     {
         self.sessions.answer_read(s, position);
@@ -460,7 +462,9 @@ impl<B: Backend> World<B> {
 
     /// The session's read stays open, and the backends of the mask have failed in it.
     pub(crate) fn keep_reading(&mut self, s: u64, select: Select, tried: u32)
-        requires { (session_at self.old.core s).queries < REQUEST_LIMIT }
+        requires counts { (session_at self.old.core s).queries < REQUEST_LIMIT }
+        requires idle { moves.is_waiting self.old.core s ≡ false }
+        requires since { HaveFailed self.old.core s tried }
         ensures { self.new ≡ with_core self.old (with_read self.old.core s (still_reading select tried)) }
     {
         self.sessions.keep_reading(s, select, tried);
@@ -470,6 +474,7 @@ impl<B: Backend> World<B> {
     pub(crate) fn schedule_entry(&mut self, s: u64, entry: Entry) -> Result<u64, BookError>
         requires here { moves.is_open self.old.core s ≡ true }
         requires counts { (session_at self.old.core s).queries < REQUEST_LIMIT }
+        requires no_read { (session_at self.old.core s).reading ≡ None }
         requires next { entry ≡ next_entry self.old.core s entry.act }
         requires fits { IsFit (log self.old.core.history) entry }
         requires lone { IsLone entry entry.act }
@@ -503,6 +508,7 @@ impl<B: Backend> World<B> {
     /// Ends the open entry, which is of this session.
     pub(crate) fn end_entry(&mut self, s: u64)
         requires open { free self.old.core.history ≡ false }
+        requires waits { moves.is_waiting self.old.core s ≡ true }
         requires behind { moves.behind self.old.core.history 0 self.old.core.positions ≡ None }
         ensures { self.new ≡ with_core self.old (ended_for self.old.core s) }
     {

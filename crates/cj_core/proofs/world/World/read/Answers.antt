@@ -1,14 +1,53 @@
-use Rattle.std.proofs.Common.{◌≡◌, ℕ, Bool, true, false, cond, None, Some, Ok, Err, ap, sym, ◌∙◌, subst}
+use Rattle.std.proofs.Common.{◌≡◌, ℕ, Bool, true, false, cond, None, Some, Ok, Err, refl, ap, sym, ◌∙◌, subst}
 use Rattle.std.proofs.lemmas.Bool.{both_ways}
 use Rattle.cj_model.specs.declared.moves.Moved.{Moved}
-use Rattle.cj_model.specs.Cores.{session_at}
-use Rattle.cj_model.specs.Moves.{ReadsSame}
+use Rattle.cj_model.specs.Cores.{Core, session_at, is_by}
+use Rattle.cj_model.specs.Moves.{ReadsSame, is_waiting, read_number}
 use Rattle.cj_core.specs.declared.cells.AskError.{AskError}
+use Rattle.cj_model.specs.declared.event.Event.TheVariants.{ReadFailed}
+use Rattle.cj_model.proofs.Now.{can_read}
+use Rattle.cj_model.proofs.Pushed.{opened-same}
+use Rattle.cj_model.proofs.Standing.{tried_more}
 use Rattle.cj_core.specs.Worlds.{WorldState}
 use Rattle.cj_core.specs.Counting.{faults_of, faults_after, tells_fault}
-use Rattle.cj_core.specs.Effects.{Asks, asked_core, failed_asked, RefusesOrStays}
+use Rattle.cj_core.specs.Effects.{Asks, asked_core, failed_asked, HaveFailed, RefusesOrStays}
 use Rattle.cj_core.proofs.Reading.{not_serving, answered, failed, unnoted, is_out, is_behind, answers_blame_none, failures_blame}
 use Rattle.cj_core.proofs.world.World.read.Goals as goal
+
+pub refuse_read-requires-clause-idle : goal.refuse_read-requires-clause-idle
+refuse_read-requires-clause-idle g c = (can_read c.args.self.now.core c.args.s c.args.b c.args.select c.requires.now).idle
+
+pub answer-requires-clause-idle : goal.answer-requires-clause-idle
+answer-requires-clause-idle g c =
+    subst (λ (x : Core). is_waiting x c.args.s ≡ false) (sym c.in-Ok.ensures.core) (can_read c.args.self.now.core c.args.s c.args.b c.args.select c.requires.now).idle
+
+pub refuse_or_stay-requires-clause-idle : goal.refuse_or_stay-requires-clause-idle
+refuse_or_stay-requires-clause-idle g c =
+    let core = subst (λ (e : AskError). c.ask.new.self.core ≡ asked_core c.args.self.now.core c.args.s c.args.b (Err e)) c.in-Err-Failed.field-0-is c.in-Err-Failed.ensures.core in
+    subst (λ (x : Core). is_waiting x c.args.s ≡ false) (sym core)
+    (ap (is_by c.args.s) (opened-same c.args.self.now.core.history (ReadFailed c.args.s (read_number (session_at c.args.self.now.core c.args.s)) c.args.b) refl refl)
+    ∙ (can_read c.args.self.now.core c.args.s c.args.b c.args.select c.requires.now).idle)
+
+pub refuse_or_stay-requires-clause-since : goal.refuse_or_stay-requires-clause-since
+refuse_or_stay-requires-clause-since g c =
+    let core = subst (λ (e : AskError). c.ask.new.self.core ≡ asked_core c.args.self.now.core c.args.s c.args.b (Err e)) c.in-Err-Failed.field-0-is c.in-Err-Failed.ensures.core in
+    subst (λ (x : Core). HaveFailed x c.args.s c.tried_with-tried.result) (sym core)
+    (rw c.tried_with-tried.ensures (tried_more c.args.self.now.core c.args.s c.args.b (read_number (session_at c.args.self.now.core c.args.s)) c.args.select refl c.legal.ensures.between))
+
+pub refuse_unnoted-requires-clause-idle : goal.refuse_unnoted-requires-clause-idle
+refuse_unnoted-requires-clause-idle g c =
+    let core = subst (λ (e : AskError). c.ask.new.self.core ≡ asked_core c.args.self.now.core c.args.s c.args.b (Err e)) c.in-Err-Unnoted.field-0-is c.in-Err-Unnoted.ensures.core in
+    subst (λ (x : Core). is_waiting x c.args.s ≡ false) (sym core) (can_read c.args.self.now.core c.args.s c.args.b c.args.select c.requires.now).idle
+
+pub wait-requires-clause-idle : goal.wait-requires-clause-idle
+wait-requires-clause-idle g c =
+    let core = subst (λ (e : AskError). c.ask.new.self.core ≡ asked_core c.args.self.now.core c.args.s c.args.b (Err e)) c.in-Err-Out.field-0-is c.in-Err-Out.ensures.core in
+    subst (λ (x : Core). is_waiting x c.args.s ≡ false) (sym core) (can_read c.args.self.now.core c.args.s c.args.b c.args.select c.requires.now).idle
+
+pub wait-requires-in-Err-Behind-clause-idle : goal.wait-requires-in-Err-Behind-clause-idle
+wait-requires-in-Err-Behind-clause-idle g c =
+    let core = subst (λ (e : AskError). c.ask.new.self.core ≡ asked_core c.args.self.now.core c.args.s c.args.b (Err e)) c.in-Err-Behind.field-0-is c.in-Err-Behind.ensures.core in
+    subst (λ (x : Core). is_waiting x c.args.s ≡ false) (sym core) (can_read c.args.self.now.core c.args.s c.args.b c.args.select c.requires.now).idle
 
 pub returns-then-not-serves-clause-moves : goal.returns-then-not-serves-clause-moves
 returns-then-not-serves-clause-moves g c =

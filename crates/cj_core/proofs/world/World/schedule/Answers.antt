@@ -1,10 +1,31 @@
-use Rattle.std.proofs.Common.{Err, ap, ◌∙◌, subst}
-use Rattle.cj_model.specs.Moves.{with_counted}
+use Rattle.std.proofs.Common.{◌≡◌, false, None, Err, ap, sym, ◌∙◌, subst}
+use Rattle.cj_model.specs.Cores.{session_at}
+use Rattle.cj_model.specs.Moves.{is_waiting, with_counted}
+use Rattle.cj_model.proofs.Now.{can_schedule}
 use Rattle.cj_book.specs.declared.error.BookError.{BookError}
 use Rattle.cj_core.specs.Worlds.{WorldState}
 use Rattle.cj_core.specs.Effects.{SchedulesAs}
 use Rattle.cj_core.proofs.Scheduling.{gives_entry, gives_full}
 use Rattle.cj_core.proofs.world.World.schedule.Goals as goal
+
+pub schedule_entry-requires-clause-no_read : goal.schedule_entry-requires-clause-no_read
+schedule_entry-requires-clause-no_read g c = (can_schedule c.args.self.now.core c.args.s c.args.request c.requires.now).no_read
+
+pub count-requires-clause-idle : goal.count-requires-clause-idle
+count-requires-clause-idle g c =
+    subst (λ (x : WorldState). is_waiting x.core c.args.s ≡ false) (sym c.in-Err-NoBackend.ensures.err) (can_schedule c.args.self.now.core c.args.s c.args.request c.requires.now).idle
+
+pub count-requires-clause-no_read : goal.count-requires-clause-no_read
+count-requires-clause-no_read g c =
+    subst (λ (x : WorldState). (session_at x.core c.args.s).reading ≡ None) (sym c.in-Err-NoBackend.ensures.err) (can_schedule c.args.self.now.core c.args.s c.args.request c.requires.now).no_read
+
+pub count-requires-in-Err-HistoryFull-clause-idle : goal.count-requires-in-Err-HistoryFull-clause-idle
+count-requires-in-Err-HistoryFull-clause-idle g c =
+    subst (λ (x : WorldState). is_waiting x.core c.args.s ≡ false) (sym c.in-Err-HistoryFull.ensures.err) (can_schedule c.args.self.now.core c.args.s c.args.request c.requires.now).idle
+
+pub count-requires-in-Err-HistoryFull-clause-no_read : goal.count-requires-in-Err-HistoryFull-clause-no_read
+count-requires-in-Err-HistoryFull-clause-no_read g c =
+    subst (λ (x : WorldState). (session_at x.core c.args.s).reading ≡ None) (sym c.in-Err-HistoryFull.ensures.err) (can_schedule c.args.self.now.core c.args.s c.args.request c.requires.now).no_read
 
 pub returns-in-Ok-schedule_entry-clause-moves : goal.returns-in-Ok-schedule_entry-clause-moves
 returns-in-Ok-schedule_entry-clause-moves g c =
