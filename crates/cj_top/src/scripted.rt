@@ -3,6 +3,7 @@
 ghost use Rattle.std.specs.Prelude.{◌≡◌, ◌↔◌, ◌≢◌, [], ◌∷◌, true, IfOk, IsErrOf, Ok, OnErr, string_bytes};
 ghost use Rattle.cj_flaky.specs.FlakyBackends.{fresh_over};
 ghost use Rattle.cj_mem.specs.MemoryBackends.{fresh_state};
+ghost use Rattle.cj_core.specs.Counting.{faults_of};
 ghost use Rattle.cj_core.specs.Starts.{started};
 ghost use Rattle.cj_model.specs.Words as words;
 ghost use Rattle.cj_outside.specs.Causes.{CountsFault};
@@ -58,7 +59,8 @@ fn two_backends(alloc: Global) -> Result<Backends<Flaky<MemBackend>>, NoMemory>
 
 /// A world of two empty backends, of which each hosts every table.
 fn two_backend_world(alloc: Global) -> Result<World<Flaky<MemBackend>>, NoMemory>
-    ensures { IfOk result (λ world. world.core ≡ started 2) }
+    ensures core { IfOk result (λ world. world.core ≡ started 2) }
+    ensures faults { IfOk result (λ world. faults_of world.cells ≡ 0 ∷ 0 ∷ []) }
 {
     let backends = two_backends(alloc)?;
     World::start(alloc, BookParts { backends: 2 }, backends)
@@ -67,6 +69,7 @@ fn two_backend_world(alloc: Global) -> Result<World<Flaky<MemBackend>>, NoMemory
 /// Plays the lines of the input on a world of two backends in memory, `b0` and `b1`, and writes what they come to.
 ///
 /// At `NoMemory` the script has not begun; want of memory in it is an end of its own.
+#[tactic(auto, using(crate::proofs::PlayedOver::played_over_two))]
 pub fn play<I: Source, O: Sink>(
     alloc: Global,
     input: &mut I,
