@@ -7,11 +7,12 @@ use Rattle.cj_outside.specs.Causes.{CountsFault}
 use Rattle.cj_outside.specs.Streams.{WritesAll}
 use Rattle.cj_outside.specs.declared.sink.OutError.{OutError}
 use Rattle.cj_outside.specs.declared.sink.OutError.TheVariants as out_errors
+use Rattle.cj_model.specs.Runs.{IsBetween}
 use Rattle.cj_model.specs.Scripts.{ended, words}
 use Rattle.cj_core.specs.Counting.{faults_of}
 use Rattle.cj_core.specs.Starts.{started}
 use Rattle.cj_core.specs.Worlds.{WorldState}
-use Rattle.cj_script.specs.Script.{CameTo}
+use Rattle.cj_script.specs.Script.{CameTo, InTurns}
 use Rattle.cj_script.specs.declared.play.ScriptEnd.{ScriptEnd}
 use Rattle.cj_script.specs.declared.play.ScriptEnd.TheVariants as end
 use Rattle.cj_top.specs.Program.{names_file}
@@ -51,13 +52,15 @@ abbrev pub NamesLine : (errors errors' : Option (List ℕ)) → (before now : �
 NamesLine errors errors' before now (end.Line number) = WritesName errors errors' before now number
 NamesLine errors errors' before now ending = (errors' ≡ errors) × (now ≡ before)
 
--- From two backends that have taken no entry and counted no fault the script came to this end.
+-- From two backends that have taken no entry and counted no fault the script came to this end. The replies to each session in it are a chain of turns of one database, from where it has seen these backends enabled and needs no entry.
 pub record PlayedOverTwo (left left' held held' : Option (List ℕ)) (ending : ScriptEnd) : Type 0 where
   pub first : WorldState
   pub new : first.core ≡ started 2
   pub faultless : faults_of first.cells ≡ 0 ∷ 0 ∷ []
   pub last : WorldState
   pub came : CameTo true backend_names left left' held held' first ending last
+  pub begins : (s : ℕ) → IsBetween (record { front = first.core.history; least = 0 }) first.core s
+  pub turns : InTurns true backend_names left left' held held' first last
 
 -- the script was played, and ended with this status
 pub record Scripted (left left' held held' errors errors' : Option (List ℕ)) (before now status : ℕ) : Type 0 where

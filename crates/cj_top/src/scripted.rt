@@ -69,6 +69,7 @@ fn two_backend_world(alloc: Global) -> Result<World<Flaky<MemBackend>>, NoMemory
 /// Plays the lines of the input on a world of two backends in memory, `b0` and `b1`, and writes what they come to.
 ///
 /// At `NoMemory` the script has not begun; want of memory in it is an end of its own.
+#[tactic(auto, using(crate::proofs::PlayedOver::played_over_two))]
 pub fn play<I: Source, O: Sink>(
     alloc: Global,
     input: &mut I,

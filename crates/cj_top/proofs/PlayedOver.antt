@@ -1,0 +1,23 @@
+-- A script over two backends that begin.
+use Rattle.std.proofs.Common.{◌≡◌, ℕ, true, List, [], ◌∷◌, Option, ap}
+use Rattle.cj_model.specs.Cores.{Core}
+use Rattle.cj_model.proofs.Standing.{between_none}
+use Rattle.cj_core.specs.Counting.{faults_of}
+use Rattle.cj_core.specs.Starts.{started}
+use Rattle.cj_core.specs.Worlds.{WorldState}
+use Rattle.cj_script.specs.Script.{CameTo, InTurns}
+use Rattle.cj_script.specs.declared.play.ScriptEnd.{ScriptEnd}
+use Rattle.cj_top.specs.Scripted.{backend_names, PlayedOverTwo}
+
+-- what was played from there is what a script promises, and no session has begun there
+pub played_over_two : (left left' held held' : Option (List ℕ)) (ending : ScriptEnd) (first last : WorldState) → first.core ≡ started 2 → faults_of first.cells ≡ 0 ∷ 0 ∷ []
+    → CameTo true backend_names left left' held held' first ending last → InTurns true backend_names left left' held held' first last → PlayedOverTwo left left' held held' ending
+played_over_two left left' held held' ending first last new faultless came turns = record {
+  first = first;
+  new = new;
+  faultless = faultless;
+  last = last;
+  came = came;
+  begins = between_none first.core (ap (λ (c : Core). c.sessions) new);
+  turns = turns;
+}
