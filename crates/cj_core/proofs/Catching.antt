@@ -23,6 +23,7 @@ use Rattle.cj_model.specs.Moves.{DoesEntry}
 use Rattle.cj_model.specs.Sound.{IsLone, Holds}
 use Rattle.cj_model.proofs.Effects.{is_there}
 use Rattle.cj_model.proofs.PartRuns.{at_next}
+use Rattle.cj_backend.specs.Backends.{spent}
 use Rattle.cj_replica.specs.declared.cell.Caught.{Caught}
 use Rattle.cj_replica.specs.declared.cell.Caught.TheVariants as caught
 use Rattle.cj_replica.specs.declared.cell.CellError.{CellError}
@@ -32,6 +33,7 @@ use Rattle.cj_core.specs.Worlds.{core_of, world_of, IsCell}
 use Rattle.cj_core.specs.Counting.{did_fail}
 use Rattle.cj_core.specs.Kept.{Kept}
 use Rattle.cj_core.specs.Taking.{CanTake, Took, did_of}
+use Rattle.cj_core.proofs.Counted.{spent_times}
 use Rattle.cj_core.proofs.Keeping.{position_of, position_within}
 use Rattle.cj_core.proofs.Taking.{hosts_each, concerns_all}
 
@@ -116,8 +118,8 @@ module _ (tells : Bool) (n : ℕ) (h : List Event) (cells : List CellState) (b :
   same_cell = get_or_default cells b y x can.within ∙ sym there
 
   pub took : (r : Result Caught CellError) (m : ℕ) (now : List CellState) → m ≡ can.p + 1 → now ≡ set cells b y → is_concerned x e ≡ not (is_skipped r) → SaysOutcome x.told e r → IfOk r IsCaught
-      → HasCellCause x.faults y.faults r → y.told ≡ told_after x.told e r → y.position ≡ position_after m r → Took tells n h cells b (did_of r) now
-  took r m now is_next is_set skipped says possible cause told position =
+      → HasCellCause x.faults y.faults r → y.arming ≡ cond (not (is_skipped r)) (spent x.arming) x.arming → y.told ≡ told_after x.told e r → y.position ≡ position_after m r → Took tells n h cells b (did_of r) now
+  took r m now is_next is_set skipped says possible cause arming told position =
       let place : y.position ≡ position_after (can.p + 1) r = position ∙ ap (λ k. position_after k r) is_next in
       record {
         cell = y;
@@ -133,6 +135,7 @@ module _ (tells : Bool) (n : ℕ) (h : List Event) (cells : List CellState) (b :
               does = does_now r skipped says possible place f s ss g;
             };
         faults = subst (λ (z : CellState). y.faults ≡ cond (did_fail (did_of r)) (next z.faults) z.faults) (sym same_cell) (counted r cause);
+        armings = spent_times (not (is_skipped r)) x.arming y.arming arming ∙ ap (λ (z : CellState). z.arming.times) (sym same_cell);
       }
 
 -- ---- who can take one

@@ -1,8 +1,10 @@
--- Counts of faults where one cell changes.
+-- Counts of faults and of armings where one cell changes.
 use Rattle.std.proofs.Common.{◌≡◌, ℕ, ◌<◌, Bool, true, false, cond, List, length, map, get_or, set, None, Some, ap, sym, ◌∙◌, subst, refl}
 use Rattle.std.proofs.lemmas.List.{map-set, get_or-map, set-get_or}
 use Rattle.cj_outside.specs.Causes.{next}
+use Rattle.cj_backend.specs.Backends.{Arming, arming_after, spent}
 use Rattle.cj_replica.specs.Cells.{CellState}
+use Rattle.cj_core.specs.Armings.{armings_of, armings_after}
 use Rattle.cj_core.specs.Counting.{faults_of, faults_after}
 
 -- the backend of cell b failed or did not, and this cell alone has changed
@@ -14,3 +16,23 @@ counts_set cells b y true lt counted =
 counts_set cells b y false lt same =
     let was : get_or (faults_of cells) b 0 ≡ (get_or cells b y).faults = get_or-map (λ (x : CellState). x.faults) cells b y 0 lt in
     map-set (λ (x : CellState). x.faults) cells b y ∙ (ap (set (faults_of cells) b) (same ∙ sym was) ∙ set-get_or (faults_of cells) b 0)
+
+-- the backend of cell b was armed or was not, and this cell alone has changed
+pub armings_set : (cells : List CellState) (b : ℕ) (y : CellState) (armed : Bool) → b < length cells → y.arming.times ≡ cond armed (next (get_or cells b y).arming.times) (get_or cells b y).arming.times
+    → armings_of (set cells b y) ≡ armings_after (armings_of cells) (cond armed (Some b) None)
+armings_set cells b y true lt counted =
+    let was : get_or (armings_of cells) b 0 ≡ (get_or cells b y).arming.times = get_or-map (λ (x : CellState). x.arming.times) cells b y 0 lt in
+    map-set (λ (x : CellState). x.arming.times) cells b y ∙ ap (set (armings_of cells) b) (counted ∙ ap next (sym was))
+armings_set cells b y false lt same =
+    let was : get_or (armings_of cells) b 0 ≡ (get_or cells b y).arming.times = get_or-map (λ (x : CellState). x.arming.times) cells b y 0 lt in
+    map-set (λ (x : CellState). x.arming.times) cells b y ∙ (ap (set (armings_of cells) b) (same ∙ sym was) ∙ set-get_or (armings_of cells) b 0)
+
+-- arming counts once, of those that can be armed
+pub armed_times : (can : Bool) (a : Arming) → (arming_after can a).times ≡ cond can (next a.times) a.times
+armed_times true a = refl
+armed_times false a = refl
+
+-- a call arms nothing
+pub spent_times : (asked : Bool) (before now : Arming) → now ≡ cond asked (spent before) before → now.times ≡ before.times
+spent_times true before now is = ap (λ (a : Arming). a.times) is
+spent_times false before now is = ap (λ (a : Arming). a.times) is

@@ -24,9 +24,10 @@ use Rattle.cj_replica.specs.Cells.{CellState}
 use Rattle.cj_model.proofs.Standing.{stand_rest}
 use Rattle.cj_core.specs.Worlds.{core_of, world_of, IsCell, IsWorld}
 use Rattle.cj_core.specs.Taking.{Took, heard_after}
+use Rattle.cj_core.specs.Armings.{armings_of}
 use Rattle.cj_core.specs.Counting.{did_fail, faults_of, faults_after}
 use Rattle.cj_core.specs.Kept.{Kept}
-use Rattle.cj_core.proofs.Counted.{counts_set}
+use Rattle.cj_core.proofs.Counted.{armings_set, counts_set}
 use Rattle.cj_core.proofs.Keeping.{cells_set}
 
 -- a backend hosts every table
@@ -179,3 +180,7 @@ module _ (tells : Bool) (n : ℕ) (h : List Event) (cells : List CellState) (f s
   took_counts old was =
       ap faults_of took.set
       ∙ (counts_set cells b took.cell (did_fail d) (rw length-map at within) took.faults ∙ ap (λ (xs : List CellState). faults_after (faults_of xs) (cond (did_fail d) (Some b) None)) (sym was))
+
+  -- it arms no backend
+  pub took_armings : (old : List CellState) → old ≡ cells → armings_of now ≡ armings_of old
+  took_armings old was = ap armings_of took.set ∙ (armings_set cells b took.cell false (rw length-map at within) took.armings ∙ ap armings_of (sym was))

@@ -1,9 +1,16 @@
--- What arming a backend makes of the cells.
-use Rattle.std.specs.Prelude.{◌≡◌, ℕ, Bool, List, slice_index_or, slice_set}
+-- What arming a backend makes of the cells, and which move arms one.
+use Rattle.std.specs.Prelude.{◌≡◌, ℕ, Bool, true, false, List, ◌&&◌, if◌then◌else◌, map, slice_index_or, slice_set, Ok, Err}
+use Rattle.std.specs.declared.option.Option.{Option}
+use Rattle.std.specs.declared.option.Option.TheVariants.{None, Some}
+use Rattle.cj_outside.specs.Causes.{next}
 use Rattle.cj_model.specs.declared.moves.Move.{Move}
 use Rattle.cj_model.specs.declared.moves.Move.TheVariants.{Open, Close, Schedule, Apply, End, Read, Arm, Disable, Replay, Enable}
+use Rattle.cj_model.specs.declared.moves.Moved.TheVariants as moved
+use Rattle.cj_model.specs.declared.moves.MoveError.TheVariants as errors
+use Rattle.cj_model.specs.Moves.{Given}
 use Rattle.cj_backend.specs.Backends.{arming_after}
 use Rattle.cj_replica.specs.Cells.{CellState}
+use Rattle.cj_core.specs.Worlds.{WorldState}
 
 -- cell b with its backend armed once more, if it can be; the other cells as they were
 abbrev pub armed_at : Bool → List CellState → ℕ → CellState → List CellState
@@ -21,3 +28,50 @@ ArmsCell can old (Read s b select) new = Unit {0}
 ArmsCell can old (Disable b) new = Unit {0}
 ArmsCell can old (Replay b) new = Unit {0}
 ArmsCell can old (Enable b) new = Unit {0}
+
+-- ---- how often backends were armed
+
+-- how often each backend was armed
+abbrev pub armings_of : List CellState → List ℕ
+armings_of cells = map (λ (x : CellState). x.arming.times) cells
+
+-- one arming more of the backend that was armed, where one was
+abbrev pub armings_after : List ℕ → Option ℕ → List ℕ
+armings_after armings None = armings
+armings_after armings (Some b) = slice_set armings b (next (slice_index_or armings b 0))
+
+-- what a move gave says that it armed its backend
+abbrev pub tells_armed : Given → Bool
+tells_armed (Ok (moved.Session n)) = false
+tells_armed (Ok moved.Closed) = false
+tells_armed (Ok (moved.Entry n)) = false
+tells_armed (Ok (moved.Refused r)) = false
+tells_armed (Ok (moved.Applied b d)) = false
+tells_armed (Ok (moved.Replied s reply)) = false
+tells_armed (Ok (moved.Rows a)) = false
+tells_armed (Ok (moved.Behind p)) = false
+tells_armed (Ok moved.Out) = false
+tells_armed (Ok moved.Failed) = false
+tells_armed (Ok moved.Armed) = true
+tells_armed (Ok moved.Disabled) = false
+tells_armed (Ok moved.Enabled) = false
+tells_armed (Ok (moved.Replayed n d)) = false
+tells_armed (Err (errors.NotNow why)) = false
+tells_armed (Err errors.NoMemory) = false
+
+-- the backend that a move armed, where backends can be
+abbrev pub armed_by : Bool → Move → Given → Option ℕ
+armed_by can (Open user) g = None
+armed_by can (Close s) g = None
+armed_by can (Schedule s r) g = None
+armed_by can (Apply b) g = None
+armed_by can End g = None
+armed_by can (Read s b select) g = None
+armed_by can (Arm b) g = if tells_armed g && can then Some b else None
+armed_by can (Disable b) g = None
+armed_by can (Replay b) g = None
+armed_by can (Enable b) g = None
+
+-- The backend that the move armed was so once more, and no other was armed.
+abbrev pub HasArmings : Bool → WorldState → WorldState → Move → Given → Type 0
+HasArmings can old new m g = armings_of new.cells ≡ armings_after (armings_of old.cells) (armed_by can m g)

@@ -52,6 +52,7 @@ pub record Took (tells : Bool) (n : ℕ) (h : List Event) (cells : List CellStat
   -- whatever else the core is
   pub takes : (failed starved : ℕ) (sessions : List OpenSession) (greatest : ℕ) → Takes tells (core_of n h cells failed starved sessions greatest) b d cell.position
   pub faults : cell.faults ≡ (if did_fail d then next (slice_index_or cells b cell).faults else (slice_index_or cells b cell).faults)
+  pub armings : cell.arming.times ≡ (slice_index_or cells b cell).arming.times
 
 -- what the open entry came to, after a backend took it
 abbrev pub heard_after : Option Outcome → Did → Option Outcome

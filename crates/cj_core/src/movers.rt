@@ -10,7 +10,7 @@ ghost use Rattle.cj_model.specs.Moves.{Opens, Closes, Schedules, Applies, Ends, 
 ghost use Rattle.cj_model.specs.Answering.{ServesAt};
 ghost use Rattle.cj_model.specs.Runs.{IsLoneWrite};
 ghost use Rattle.cj_replica.specs.Cells.{CellState};
-ghost use Rattle.cj_core.specs.Armings.{ArmsCell, armed_at};
+ghost use Rattle.cj_core.specs.Armings.{ArmsCell, HasArmings, armed_at, armings_of};
 ghost use Rattle.cj_core.specs.Counting.{HasCauses, faults_of};
 ghost use Rattle.cj_core.specs.Effects.{HaveFailed, IsChange, RefusesOrStays, answer_given, with_core};
 ghost use Rattle.cj_core.specs.Steps.{IsMet};
@@ -101,6 +101,7 @@ impl<B: Backend> World<B> {
         requires now { not_now self.old.core (Move.Apply b) ≡ None }
         ensures moves { Applies B.TELLS self.old.core b (Ok result) self.new.core }
         ensures causes { HasCauses self.old self.new (Move.Apply b) (Ok result) }
+        ensures armings { armings_of self.new.cells ≡ armings_of self.old.cells }
     {
         Moved::Applied {
             b,
@@ -127,6 +128,7 @@ impl<B: Backend> World<B> {
         requires counts { (session_at self.old.core s).queries < REQUEST_LIMIT }
         ensures moves { ReadsOrWaits B.TELLS self.old.core s b select result self.new.core }
         ensures causes { HasCauses self.old self.new (Move.Read s b select) result }
+        ensures armings { armings_of self.new.cells ≡ armings_of self.old.cells }
         ensures want { IsErrOf result MoveError.NoMemory → self.new ≡ self.old }
     {
         if self.reads_other(s, &select) {
@@ -232,6 +234,7 @@ impl<B: Backend> World<B> {
         ensures moves { Arms self.old.core (Ok result) self.new.core }
         ensures cells { (d : CellState) → self.new.cells ≡ armed_at B.can_be_armed self.old.cells b d }
         ensures faults { faults_of self.new.cells ≡ faults_of self.old.cells }
+        ensures armings { HasArmings B.can_be_armed self.old self.new (Move.Arm b) (Ok result) }
     {
         self.arm_backend(b);
         Moved::Armed
@@ -256,6 +259,7 @@ impl<B: Backend> World<B> {
         requires now { not_now self.old.core (Move.Replay b) ≡ None }
         ensures moves { Replays B.TELLS self.old.core b (Ok result) self.new.core }
         ensures causes { HasCauses self.old self.new (Move.Replay b) (Ok result) }
+        ensures armings { armings_of self.new.cells ≡ armings_of self.old.cells }
     {
         let number = self.next_of(b);
         Moved::Replayed {
@@ -284,6 +288,7 @@ impl<B: Backend> World<B> {
         requires { IsMet self.old.core m }
         ensures moves { MovesTo B.TELLS self.old.core m result self.new.core }
         ensures causes { HasCauses self.old self.new m result }
+        ensures armings { HasArmings B.can_be_armed self.old self.new m result }
         ensures armed { result ≡ Ok Moved.Armed → ArmsCell B.can_be_armed self.old.cells m self.new.cells }
         ensures want { IsErrOf result MoveError.NoMemory → self.new ≡ self.old }
     {

@@ -5,6 +5,7 @@ ghost use mathlib.Core.List.{IsPrefix};
 ghost use Rattle.cj_model.specs.Legality.{IsLegal};
 ghost use Rattle.cj_model.specs.Moves.{MovesTo};
 ghost use Rattle.cj_model.specs.Runs.{IsMove, CanCount};
+ghost use Rattle.cj_core.specs.Armings.{HasArmings};
 ghost use Rattle.cj_core.specs.Counting.{HasCauses};
 ghost use Rattle.cj_core.specs.Played.{given_of, HasRun, HasRunInPart};
 ghost use Rattle.cj_core.specs.Steps.{IsMet};
@@ -20,6 +21,7 @@ impl<B: Backend> World<B> {
         requires { IsMet self.old.core m }
         ensures made { IfOk result (λ made. MovesTo B.TELLS self.old.core m (given_of made) self.new.core) }
         ensures causes { IfOk result (λ made. HasCauses self.old self.new m (given_of made)) }
+        ensures armings { IfOk result (λ made. HasArmings B.can_be_armed self.old self.new m (given_of made)) }
         ensures want { OnErr result (self.new ≡ self.old) }
     {
         match self.step(m) {
@@ -34,6 +36,7 @@ impl<B: Backend> World<B> {
         requires { IsMet self.old.core m.now }
         ensures made { IfOk result (λ made. MovesTo B.TELLS self.old.core m.now (given_of made) self.new.core) }
         ensures causes { IfOk result (λ made. HasCauses self.old self.new m.now (given_of made)) }
+        ensures armings { IfOk result (λ made. HasArmings B.can_be_armed self.old self.new m.now (given_of made)) }
         ensures want { OnErr result (self.new ≡ self.old) }
     {
         let m = m.copy(alloc)?;

@@ -17,7 +17,7 @@ ghost use Rattle.cj_model.specs.Sound.{IsLone};
 ghost use Rattle.cj_replica.specs.Cells.{CellState};
 ghost use Rattle.cj_core.specs.Worlds.{IsWorld};
 ghost use Rattle.cj_core.specs.Starts.{AreEmpty, AreFresh, begun};
-ghost use Rattle.cj_core.specs.Armings.{armed_at};
+ghost use Rattle.cj_core.specs.Armings.{armed_at, armings_after, armings_of};
 ghost use Rattle.cj_core.specs.Counting.{did_fail, faults_after, faults_of};
 ghost use Rattle.cj_core.specs.Effects.{AnswersOpen, Asks, IsChange, asked_core, failed_asked, HaveFailed, IsReadOf, IsReadOther, Refuses, with_core, SchedulesAs, HadRoom};
 
@@ -526,6 +526,7 @@ impl<B: Backend> World<B> {
         requires now { not_now self.old.core (Move.Apply b) ≡ None }
         ensures applies { Applies B.TELLS self.old.core b (Ok (Moved.Applied b result)) self.new.core }
         ensures counts { faults_of self.new.cells ≡ faults_after (faults_of self.old.cells) (if did_fail result then Some b else None) }
+        ensures armings { armings_of self.new.cells ≡ armings_of self.old.cells }
     {
         let did = take(&self.book, &mut self.cells, &self.login, b);
         self.failed = failed_after(self.failed, b, did);
@@ -540,6 +541,7 @@ impl<B: Backend> World<B> {
         requires now { not_now self.old.core (Move.Replay b) ≡ None }
         ensures replays { Replays B.TELLS self.old.core b (Ok (Moved.Replayed (moves.place (position_at self.old.core b) + 1) result)) self.new.core }
         ensures counts { faults_of self.new.cells ≡ faults_after (faults_of self.old.cells) (if did_fail result then Some b else None) }
+        ensures armings { armings_of self.new.cells ≡ armings_of self.old.cells }
     {
         take(&self.book, &mut self.cells, &self.login, b)
     }
@@ -553,6 +555,7 @@ impl<B: Backend> World<B> {
         ensures core { self.new.core ≡ asked_core self.old.core s b result }
         ensures asks { Asks B.TELLS self.old.core s b select.now result }
         ensures counts { faults_of self.new.cells ≡ faults_after (faults_of self.old.cells) (failed_asked b result) }
+        ensures armings { armings_of self.new.cells ≡ armings_of self.old.cells }
         ensures want { IsErrOf result AskError.NoMemory → self.new ≡ self.old }
     {
         let least = self.least(s);
@@ -570,6 +573,7 @@ impl<B: Backend> World<B> {
         ensures core { self.new.core ≡ self.old.core }
         ensures cells { (d : CellState) → self.new.cells ≡ armed_at B.can_be_armed self.old.cells b d }
         ensures faults { faults_of self.new.cells ≡ faults_of self.old.cells }
+        ensures armings { armings_of self.new.cells ≡ armings_after (armings_of self.old.cells) (if B.can_be_armed then Some b else None) }
     {
         self.cells[b as usize].arm();
     }

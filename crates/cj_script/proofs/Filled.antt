@@ -38,18 +38,18 @@ filled_move names [] lines m reads = absurd (omega (arith, move_line_long names 
 filled_move names (b ∷ bytes) lines m reads = refl
 
 -- a line that plays has two bytes at least for each that is not empty
-filled_one : (tells : Bool) (names : List (List ℕ)) (c : WorldState) (line written : List ℕ) (z : WorldState) → PlaysLine tells names c line written z → 2 * length (filled (line ∷ [])) ≤ length line
-filled_one tells names c line written z (inl skips) = let none : length (filled (line ∷ [])) ≡ 0 = ap length (filled_empty line [] skips.empty) in omega arith
-filled_one tells names c line written z (inr makes) =
+filled_one : (tells armable : Bool) (names : List (List ℕ)) (c : WorldState) (line written : List ℕ) (z : WorldState) → PlaysLine tells armable names c line written z → 2 * length (filled (line ∷ [])) ≤ length line
+filled_one tells armable names c line written z (inl skips) = let none : length (filled (line ∷ [])) ≡ 0 = ap length (filled_empty line [] skips.empty) in omega arith
+filled_one tells armable names c line written z (inr makes) =
     let one : length (filled (line ∷ [])) ≡ 1 = ap length (filled_move names line [] makes.move makes.reads) in
     let long = move_line_long names line makes.move makes.reads in
     omega arith
 
 -- one more
-pub filled_more : (tells : Bool) (names : List (List ℕ)) (c : WorldState) (lines : List (List ℕ)) (line written : List ℕ) (z : WorldState) (room bytes : ℕ) → PlaysLine tells names c line written z
+pub filled_more : (tells armable : Bool) (names : List (List ℕ)) (c : WorldState) (lines : List (List ℕ)) (line written : List ℕ) (z : WorldState) (room bytes : ℕ) → PlaysLine tells armable names c line written z
     → 2 * length (filled lines) + (length line + room) ≤ bytes → 2 * length (filled (lines ++ line ∷ [])) + room ≤ bytes
-filled_more tells names c lines line written z room bytes h few =
-    let one = filled_one tells names c line written z h in
+filled_more tells armable names c lines line written z room bytes h few =
+    let one = filled_one tells armable names c line written z h in
     let many : length (filled (lines ++ line ∷ [])) ≡ length (filled lines) + length (filled (line ∷ [])) =
     ap length (filter-append (λ (l : List ℕ). not (is_empty l)) lines (line ∷ [])) ∙ length-append (filled lines) (filled (line ∷ []))
     in

@@ -40,9 +40,9 @@ record MovesOf (tells : Bool) (names : List (List ℕ)) (c : WorldState) (lines 
   gives : written ≡ flat_map (moved_lines names) made
 
 -- a line, and those behind it
-moves_on : (tells : Bool) (names : List (List ℕ)) (c : WorldState) (line : List ℕ) (lines : List (List ℕ)) (mid : WorldState) (front rest : List ℕ) (z : WorldState)
-    → PlaysLine tells names c line front mid → MovesOf tells names mid lines rest z → MovesOf tells names c (line ∷ lines) (front ++ rest) z
-moves_on tells names c line lines mid front rest z (inl skips) later = record {
+moves_on : (tells armable : Bool) (names : List (List ℕ)) (c : WorldState) (line : List ℕ) (lines : List (List ℕ)) (mid : WorldState) (front rest : List ℕ) (z : WorldState)
+    → PlaysLine tells armable names c line front mid → MovesOf tells names mid lines rest z → MovesOf tells names c (line ∷ lines) (front ++ rest) z
+moves_on tells armable names c line lines mid front rest z (inl skips) later = record {
   moves = later.moves;
   made = later.made;
   are = subst (λ (ls : List (List ℕ)). AreMoves names ls later.moves) (sym (filled_empty line lines skips.empty)) later.are;
@@ -50,7 +50,7 @@ moves_on tells names c line lines mid front rest z (inl skips) later = record {
   causes = subst (λ (x : WorldState). HaveCauses x z later.moves (map given_of later.made)) skips.same later.causes;
   gives = ap (λ (t : List ℕ). t ++ rest) skips.nothing ∙ later.gives;
 }
-moves_on tells names c line lines mid front rest z (inr makes) later = record {
+moves_on tells armable names c line lines mid front rest z (inr makes) later = record {
   moves = makes.move ∷ later.moves;
   made = makes.made ∷ later.made;
   are = subst (λ (ls : List (List ℕ)). AreMoves names ls (makes.move ∷ later.moves)) (sym (filled_move names line lines makes.move makes.reads)) (makes.reads, later.are);
@@ -59,10 +59,10 @@ moves_on tells names c line lines mid front rest z (inr makes) later = record {
   gives = ap (λ (t : List ℕ). t ++ rest) makes.gives ∙ ap (λ (t : List ℕ). moved_lines names makes.made ++ t) later.gives ∙ sym (flat_map-cons (moved_lines names) makes.made later.made);
 }
 
-moves_of : (tells : Bool) (names : List (List ℕ)) (c : WorldState) (lines : List (List ℕ)) (written : List ℕ) (z : WorldState) → Plays tells names c lines written z → MovesOf tells names c lines written z
-moves_of tells names c [] written z h = record { moves = []; made = []; are = tt; runs = ap (λ (x : WorldState). x.core) (sym h.1); causes = ap (λ (x : WorldState). faults_of x.cells) h.1; gives = h.0 }
-moves_of tells names c (line ∷ lines) written z (mid, front, rest, first, others, is) =
-    subst (λ (t : List ℕ). MovesOf tells names c (line ∷ lines) t z) (sym is) (moves_on tells names c line lines mid front rest z first (moves_of tells names mid lines rest z others))
+moves_of : (tells armable : Bool) (names : List (List ℕ)) (c : WorldState) (lines : List (List ℕ)) (written : List ℕ) (z : WorldState) → Plays tells armable names c lines written z → MovesOf tells names c lines written z
+moves_of tells armable names c [] written z h = record { moves = []; made = []; are = tt; runs = ap (λ (x : WorldState). x.core) (sym h.1); causes = ap (λ (x : WorldState). faults_of x.cells) h.1; gives = h.0 }
+moves_of tells armable names c (line ∷ lines) written z (mid, front, rest, first, others, is) =
+    subst (λ (t : List ℕ). MovesOf tells names c (line ∷ lines) t z) (sym is) (moves_on tells armable names c line lines mid front rest z first (moves_of tells armable names mid lines rest z others))
 
 -- ---- what the moves ask for
 
@@ -100,12 +100,12 @@ moves_length names (line ∷ lines) [] h = absurd h
 
 -- ---- turns
 
-module _ (tells : Bool) (names : List (List ℕ)) (c : WorldState) (world : IsWorld tells c) (as_many : length names ≡ c.core.placement.backends) (can : CanCount c.core (2 ^ 61)) where
+module _ (tells armable : Bool) (names : List (List ℕ)) (c : WorldState) (world : IsWorld tells c) (as_many : length names ≡ c.core.placement.backends) (can : CanCount c.core (2 ^ 61)) where
   -- lines that lie in the bytes taken
   in_turns : (left left' held held' : Option (List ℕ)) (taken : List ℕ) (lines : List (List ℕ)) (rest written : List ℕ) (count : ℕ) (z : WorldState) → Consumes left left' taken → LieIn left' taken lines rest
-      → Plays tells names c lines written z → length (filled lines) ≤ 2 ^ 61 → Appends held held' (take count written) → InTurns tells names left left' held held' c z
+      → Plays tells armable names c lines written z → length (filled lines) ≤ 2 ^ 61 → Appends held held' (take count written) → InTurns tells names left left' held held' c z
   in_turns left left' held held' taken lines rest written count z consumed lie plays few appended =
-      let q = moves_of tells names c lines written z plays in
+      let q = moves_of tells armable names c lines written z plays in
       let same = moves_length names (filled lines) q.moves q.are in
       let once : CanCount c.core (length q.moves) = λ s. (let room = can s in let le : (session_at c.core s).queries + length q.moves ≤ 2 ^ 62 = omega arith in le) in
       record {
@@ -127,7 +127,7 @@ module _ (tells : Bool) (names : List (List ℕ)) (c : WorldState) (world : IsWo
       }
 
   -- between two lines
-  playing_turns : (left left' held held' : Option (List ℕ)) (rest : List ℕ) (bytes count : ℕ) (z : WorldState) → Playing tells names left left' held held' c rest bytes count z → bytes ≤ most → InTurns tells names left left' held held' c z
+  playing_turns : (left left' held held' : Option (List ℕ)) (rest : List ℕ) (bytes count : ℕ) (z : WorldState) → Playing tells armable names left left' held held' c rest bytes count z → bytes ≤ most → InTurns tells names left left' held held' c z
   playing_turns left left' held held' rest bytes count z p le =
       let few : length (filled p.lines) ≤ 2 ^ 61 = omega (arith, p.few) in
       let whole : length p.played.written ≤ length p.played.written = omega arith in
@@ -135,12 +135,12 @@ module _ (tells : Bool) (names : List (List ℕ)) (c : WorldState) (world : IsWo
       (subst (Appends held held') (sym (take_all (length p.played.written) p.played.written whole)) p.played.appended)
 
   -- a line that was made, with what it gives written in part
-  made_turns : (left left' held held' held'' : Option (List ℕ)) (line rest : List ℕ) (bytes count : ℕ) (mid z : WorldState) → AtLine tells names left left' held held' c line rest bytes count mid → bytes ≤ most
-      → MakesInPart tells names held' held'' mid line z → InTurns tells names left left' held held'' c z
+  made_turns : (left left' held held' held'' : Option (List ℕ)) (line rest : List ℕ) (bytes count : ℕ) (mid z : WorldState) → AtLine tells armable names left left' held held' c line rest bytes count mid → bytes ≤ most
+      → MakesInPart tells armable names held' held'' mid line z → InTurns tells names left left' held held'' c z
   made_turns left left' held held' held'' line rest bytes count mid z at le makes =
       let p = at.playing in
-      let first : PlaysLine tells names mid line makes.whole z = inr makes.makes in
-      let more = filled_more tells names mid p.lines line makes.whole z (length rest) bytes first (omega (arith, p.few, at.shorter)) in
+      let first : PlaysLine tells armable names mid line makes.whole z = inr makes.makes in
+      let more = filled_more tells armable names mid p.lines line makes.whole z (length rest) bytes first (omega (arith, p.few, at.shorter)) in
       let few : length (filled (p.lines ++ line ∷ [])) ≤ 2 ^ 61 = omega arith in
       let n : ℕ = length p.played.written in
       let text : List ℕ = p.played.written ++ makes.whole in
@@ -149,7 +149,7 @@ module _ (tells : Bool) (names : List (List ℕ)) (c : WorldState) (world : IsWo
       subst (λ (t : List ℕ). Appends held' held'' (take makes.count t)) (sym (drop-append_seam p.played.written makes.whole)) makes.appended
       in
       in_turns left left' held held'' p.taken (p.lines ++ line ∷ []) rest text (n + makes.count) z p.played.consumed at.behind
-      (plays_more tells names c p.lines p.played.written mid line makes.whole z p.played.plays first) few (appends_more held held' held'' n makes.count text front behind)
+      (plays_more tells armable names c p.lines p.played.written mid line makes.whole z p.played.plays first) few (appends_more held held' held'' n makes.count text front behind)
 
 -- more was taken
 turns_longer : (tells : Bool) (names : List (List ℕ)) (left mid left' held held' : Option (List ℕ)) (c z : WorldState) (more : List ℕ) → InTurns tells names left mid held held' c z → Consumes mid left' more
@@ -201,23 +201,23 @@ end_takes left left' old new number WriteFault none = absurd none
 end_takes left left' old new number Spent (bytes, took, none) = (bytes, took.consumed)
 end_takes left left' old new number NoMemory (bytes, took) = (bytes, took)
 
-module _ (tells : Bool) (names : List (List ℕ)) (c : WorldState) (world : IsWorld tells c) (as_many : length names ≡ c.core.placement.backends) (can : CanCount c.core (2 ^ 61)) where
+module _ (tells armable : Bool) (names : List (List ℕ)) (c : WorldState) (world : IsWorld tells c) (as_many : length names ≡ c.core.placement.backends) (can : CanCount c.core (2 ^ 61)) where
   -- in place of a line the script came to its end
-  pub read_end_turns : (left mid left' held held' : Option (List ℕ)) (old new : Reading) (count number : ℕ) (z : WorldState) (last : ScriptEnd) → Playing tells names left mid held held' c old.rest old.taken count z
+  pub read_end_turns : (left mid left' held held' : Option (List ℕ)) (old new : Reading) (count number : ℕ) (z : WorldState) (last : ScriptEnd) → Playing tells armable names left mid held held' c old.rest old.taken count z
       → old.taken ≤ most → ReadsLine mid left' old new number (Err last) → InTurns tells names left left' held held' c z
   read_end_turns left mid left' held held' old new count number z last p le reads =
       let more = end_takes mid left' old new number last reads in
-      turns_longer tells names left mid left' held held' c z more.0 (playing_turns tells names c world as_many can left mid held held' old.rest old.taken count z p le) more.1
+      turns_longer tells names left mid left' held held' c z more.0 (playing_turns tells armable names c world as_many can left mid held held' old.rest old.taken count z p le) more.1
 
   -- in a line the script came to its end
-  pub play_end_turns : (left left' held held' held'' : Option (List ℕ)) (line rest : List ℕ) (bytes count number : ℕ) (mid z : WorldState) (last : ScriptEnd) → AtLine tells names left left' held held' c line rest bytes count mid
-      → bytes ≤ most → PlaysOrEnds tells names held' held'' mid line number (Err last) z → InTurns tells names left left' held held'' c z
+  pub play_end_turns : (left left' held held' held'' : Option (List ℕ)) (line rest : List ℕ) (bytes count number : ℕ) (mid z : WorldState) (last : ScriptEnd) → AtLine tells armable names left left' held held' c line rest bytes count mid
+      → bytes ≤ most → PlaysOrEnds tells armable names held' held'' mid line number (Err last) z → InTurns tells names left left' held held'' c z
   play_end_turns left left' held held' held'' line rest bytes count number mid z Done at le none = absurd none
   play_end_turns left left' held held' held'' line rest bytes count number mid z (Line' n) at le (same, refuses) =
-      turns_stay tells names left left' held held' held'' c mid z (playing_turns tells names c world as_many can left left' held held' at.whole bytes count mid at.playing le) refuses.stays
+      turns_stay tells names left left' held held' held'' c mid z (playing_turns tells armable names c world as_many can left left' held held' at.whole bytes count mid at.playing le) refuses.stays
   play_end_turns left left' held held' held'' line rest bytes count number mid z ReadFault at le none = absurd none
-  play_end_turns left left' held held' held'' line rest bytes count number mid z WriteFault at le makes = made_turns tells names c world as_many can left left' held held' held'' line rest bytes count mid z at le makes
+  play_end_turns left left' held held' held'' line rest bytes count number mid z WriteFault at le makes = made_turns tells armable names c world as_many can left left' held held' held'' line rest bytes count mid z at le makes
   play_end_turns left left' held held' held'' line rest bytes count number mid z Spent at le none = absurd none
   play_end_turns left left' held held' held'' line rest bytes count number mid z NoMemory at le (inl stays) =
-      turns_stay tells names left left' held held' held'' c mid z (playing_turns tells names c world as_many can left left' held held' at.whole bytes count mid at.playing le) stays
-  play_end_turns left left' held held' held'' line rest bytes count number mid z NoMemory at le (inr makes) = made_turns tells names c world as_many can left left' held held' held'' line rest bytes count mid z at le makes
+      turns_stay tells names left left' held held' held'' c mid z (playing_turns tells armable names c world as_many can left left' held held' at.whole bytes count mid at.playing le) stays
+  play_end_turns left left' held held' held'' line rest bytes count number mid z NoMemory at le (inr makes) = made_turns tells armable names c world as_many can left left' held held' held'' line rest bytes count mid z at le makes

@@ -8,6 +8,7 @@ use Rattle.cj_core.specs.Worlds.{WorldState}
 use Rattle.cj_model.specs.Moves.{MovesTo}
 use Rattle.cj_model.specs.Runs.{CanCount}
 use Rattle.cj_model.proofs.Growth.{moves_grow, can_count}
+use Rattle.cj_core.specs.Armings.{HasArmings}
 use Rattle.cj_core.specs.Counting.{HasCauses}
 use Rattle.cj_core.specs.Played.{given_of}
 use Rattle.cj_script.specs.Script.{PlaysLine, MakesMove}
@@ -20,15 +21,15 @@ use Rattle.cj_model.specs.Scripts.{MoveLine, moved_lines}
 -- ---- a line that was played
 
 -- it was skipped, or it made its move
-pub line_cases : (tells : Bool) (names : List (List ℕ)) (c : WorldState) (line written : List ℕ) (z : WorldState) (P : Type 0) → PlaysLine tells names c line written z → (written ≡ [] → z ≡ c → P) → (MakesMove tells names c line written z → P) → P
-line_cases tells names c line written z P (inl skips) skipped made = skipped skips.nothing skips.same
-line_cases tells names c line written z P (inr makes) skipped made = made makes
+pub line_cases : (tells armable : Bool) (names : List (List ℕ)) (c : WorldState) (line written : List ℕ) (z : WorldState) (P : Type 0) → PlaysLine tells armable names c line written z → (written ≡ [] → z ≡ c → P) → (MakesMove tells armable names c line written z → P) → P
+line_cases tells armable names c line written z P (inl skips) skipped made = skipped skips.nothing skips.same
+line_cases tells armable names c line written z P (inr makes) skipped made = made makes
 
 -- it made its move, and what that came to was written
-pub played_made : (tells : Bool) (names : List (List ℕ)) (held held' : Option (List ℕ)) (c : WorldState) (line : List ℕ) (m : Move) (made : Made) (z : WorldState)
-    → MoveLine names line m → MovesTo tells c.core m (given_of made) z.core → HasCauses c z m (given_of made) → Appends held held' (moved_lines names made) → PlaysWritten tells names held held' c line z
-played_made tells names held held' c line m made z reads moves causes wrote =
-    let makes : MakesMove tells names c line (moved_lines names made) z = record { move = m; reads = reads; made = made; moves = moves; causes = causes; gives = refl } in
+pub played_made : (tells armable : Bool) (names : List (List ℕ)) (held held' : Option (List ℕ)) (c : WorldState) (line : List ℕ) (m : Move) (made : Made) (z : WorldState)
+    → MoveLine names line m → MovesTo tells c.core m (given_of made) z.core → HasCauses c z m (given_of made) → HasArmings armable c z m (given_of made) → Appends held held' (moved_lines names made) → PlaysWritten tells armable names held held' c line z
+played_made tells armable names held held' c line m made z reads moves causes armings wrote =
+    let makes : MakesMove tells armable names c line (moved_lines names made) z = record { move = m; reads = reads; made = made; moves = moves; causes = causes; armings = armings; gives = refl } in
     record {
       written = moved_lines names made;
       plays = inr makes;
@@ -36,9 +37,9 @@ played_made tells names held held' c line m made z reads moves causes wrote =
     }
 
 -- the backends are the same as before it
-pub played_backends : (tells : Bool) (names : List (List ℕ)) (held held' : Option (List ℕ)) (c : WorldState) (line : List ℕ) (z : WorldState) → PlaysWritten tells names held held' c line z → z.core.placement ≡ c.core.placement
-played_backends tells names held held' c line z h =
-    line_cases tells names c line h.written z (z.core.placement ≡ c.core.placement) h.plays (λ none same. ap (λ (x : WorldState). x.core.placement) same)
+pub played_backends : (tells armable : Bool) (names : List (List ℕ)) (held held' : Option (List ℕ)) (c : WorldState) (line : List ℕ) (z : WorldState) → PlaysWritten tells armable names held held' c line z → z.core.placement ≡ c.core.placement
+played_backends tells armable names held held' c line z h =
+    line_cases tells armable names c line h.written z (z.core.placement ≡ c.core.placement) h.plays (λ none same. ap (λ (x : WorldState). x.core.placement) same)
     (λ made. (moves_grow tells c.core made.move (given_of made.made) z.core made.moves).placement)
 
 -- ---- how many can come
@@ -53,10 +54,10 @@ pub counting_start : (rest : List ℕ) (taken : ℕ) (c : WorldState) → rest �
 counting_start rest taken c none zero can = record { more = 2 ^ 61; can = can; room = omega (arith, ap length none, zero) }
 
 -- after a line there is room for those that can still come
-pub counting_played : (tells : Bool) (names : List (List ℕ)) (held held' : Option (List ℕ)) (old new : Reading) (line : List ℕ) (c z : WorldState)
-    → Counting (length old.rest) old.taken c → Advances old new line → new.taken ≤ most → PlaysWritten tells names held held' c line z → Counting (length new.rest) new.taken z
-counting_played tells names held held' old new line c z k a few h =
-    line_cases tells names c line h.written z (Counting (length new.rest) new.taken z) h.plays
+pub counting_played : (tells armable : Bool) (names : List (List ℕ)) (held held' : Option (List ℕ)) (old new : Reading) (line : List ℕ) (c z : WorldState)
+    → Counting (length old.rest) old.taken c → Advances old new line → new.taken ≤ most → PlaysWritten tells armable names held held' c line z → Counting (length new.rest) new.taken z
+counting_played tells armable names held held' old new line c z k a few h =
+    line_cases tells armable names c line h.written z (Counting (length new.rest) new.taken z) h.plays
     (λ none same. subst (Counting (length new.rest) new.taken) (sym same) (record { more = k.more; can = k.can; room = omega (arith, k.room, a.some) }))
     (λ made.
     let long = move_line_long names line made.move made.reads in

@@ -21,12 +21,12 @@ use Rattle.cj_script.proofs.Filled.{filled_more}
 -- ---- lines that play
 
 -- the lines, and one more behind them
-pub plays_more : (tells : Bool) (names : List (List ℕ)) (c : WorldState) (lines : List (List ℕ)) (written : List ℕ) (mid : WorldState) (line more : List ℕ) (z : WorldState)
-    → Plays tells names c lines written mid → PlaysLine tells names mid line more z → Plays tells names c (lines ++ line ∷ []) (written ++ more) z
-plays_more tells names c [] written mid line more z before next =
-    (z, more, [], subst (λ (x : WorldState). PlaysLine tells names x line more z) before.1 next, (refl, refl), ap (λ (t : List ℕ). t ++ more) before.0 ∙ sym (append-nil more))
-plays_more tells names c (l ∷ lines) written mid line more z (d, front, rest, first, others, is) next =
-    (d, front, rest ++ more, first, plays_more tells names d lines rest mid line more z others next, ap (λ (t : List ℕ). t ++ more) is ∙ append_assoc front rest more)
+pub plays_more : (tells armable : Bool) (names : List (List ℕ)) (c : WorldState) (lines : List (List ℕ)) (written : List ℕ) (mid : WorldState) (line more : List ℕ) (z : WorldState)
+    → Plays tells armable names c lines written mid → PlaysLine tells armable names mid line more z → Plays tells armable names c (lines ++ line ∷ []) (written ++ more) z
+plays_more tells armable names c [] written mid line more z before next =
+    (z, more, [], subst (λ (x : WorldState). PlaysLine tells armable names x line more z) before.1 next, (refl, refl), ap (λ (t : List ℕ). t ++ more) before.0 ∙ sym (append-nil more))
+plays_more tells armable names c (l ∷ lines) written mid line more z (d, front, rest, first, others, is) next =
+    (d, front, rest ++ more, first, plays_more tells armable names d lines rest mid line more z others next, ap (λ (t : List ℕ). t ++ more) is ∙ append_assoc front rest more)
 
 -- ---- lines in bytes
 
@@ -49,18 +49,18 @@ last_more left taken lines line (inr h) some end = absurd (some h.1)
 -- ---- between two lines
 
 -- The lines were played that lie in the bytes taken, and so many of them; the reader holds what is left.
-pub record Playing (tells : Bool) (names : List (List ℕ)) (left left' held held' : Option (List ℕ)) (c : WorldState) (rest : List ℕ) (bytes count : ℕ) (z : WorldState) : Type 0 where
+pub record Playing (tells armable : Bool) (names : List (List ℕ)) (left left' held held' : Option (List ℕ)) (c : WorldState) (rest : List ℕ) (bytes count : ℕ) (z : WorldState) : Type 0 where
   pub taken : List ℕ
   pub lines : List (List ℕ)
-  pub played : Played tells names left left' held held' c taken lines rest z
+  pub played : Played tells armable names left left' held held' c taken lines rest z
   pub number : count ≡ length lines
   pub told : IsSome left → length taken ≡ bytes
   -- each line that is not blank took two bytes
   pub few : 2 * length (filled lines) + length rest ≤ bytes
 
 -- at first none was
-pub playing_none : (tells : Bool) (names : List (List ℕ)) (left held : Option (List ℕ)) (c : WorldState) (rest : List ℕ) (bytes : ℕ) → rest ≡ [] → bytes ≡ 0 → Playing tells names left left held held c rest bytes 0 c
-playing_none tells names left held c rest bytes none zero = record {
+pub playing_none : (tells armable : Bool) (names : List (List ℕ)) (left held : Option (List ℕ)) (c : WorldState) (rest : List ℕ) (bytes : ℕ) → rest ≡ [] → bytes ≡ 0 → Playing tells armable names left left held held c rest bytes 0 c
+playing_none tells armable names left held c rest bytes none zero = record {
   taken = [];
   lines = [];
   played = record {
@@ -103,9 +103,9 @@ longer (Some xs) (Some ys) (Some zs) taken lines rest [] before (inr h) next = r
 }
 
 -- more was taken, and the rest is longer by it
-pub playing_longer : (tells : Bool) (names : List (List ℕ)) (left mid left' held held' : Option (List ℕ)) (c : WorldState) (rest : List ℕ) (bytes count : ℕ) (z : WorldState) (more : List ℕ)
-    → Playing tells names left mid held held' c rest bytes count z → Consumes mid left' more → Playing tells names left left' held held' c (rest ++ more) (bytes + length more) count z
-playing_longer tells names left mid left' held held' c rest bytes count z more p next =
+pub playing_longer : (tells armable : Bool) (names : List (List ℕ)) (left mid left' held held' : Option (List ℕ)) (c : WorldState) (rest : List ℕ) (bytes count : ℕ) (z : WorldState) (more : List ℕ)
+    → Playing tells armable names left mid held held' c rest bytes count z → Consumes mid left' more → Playing tells armable names left left' held held' c (rest ++ more) (bytes + length more) count z
+playing_longer tells armable names left mid left' held held' c rest bytes count z more p next =
     let l = longer left mid left' p.taken p.lines rest more p.played.consumed p.played.lie next in
     record {
       taken = l.whole;
@@ -124,11 +124,11 @@ playing_longer tells names left mid left' held held' c rest bytes count z more p
     }
 
 -- the reader took more
-playing_taken : (tells : Bool) (names : List (List ℕ)) (left mid left' held held' : Option (List ℕ)) (c : WorldState) (old new : Reading) (count : ℕ) (z : WorldState) (bytes : List ℕ)
-    → Playing tells names left mid held held' c old.rest old.taken count z → Took mid left' old new bytes → Playing tells names left left' held held' c (old.rest ++ bytes) new.taken count z
-playing_taken tells names left mid left' held held' c old new count z bytes p took =
-    subst (λ (n : ℕ). Playing tells names left left' held held' c (old.rest ++ bytes) n count z) (sym took.count)
-    (playing_longer tells names left mid left' held held' c old.rest old.taken count z bytes p took.consumed)
+playing_taken : (tells armable : Bool) (names : List (List ℕ)) (left mid left' held held' : Option (List ℕ)) (c : WorldState) (old new : Reading) (count : ℕ) (z : WorldState) (bytes : List ℕ)
+    → Playing tells armable names left mid held held' c old.rest old.taken count z → Took mid left' old new bytes → Playing tells armable names left left' held held' c (old.rest ++ bytes) new.taken count z
+playing_taken tells armable names left mid left' held held' c old new count z bytes p took =
+    subst (λ (n : ℕ). Playing tells armable names left left' held held' c (old.rest ++ bytes) n count z) (sym took.count)
+    (playing_longer tells armable names left mid left' held held' c old.rest old.taken count z bytes p took.consumed)
 
 -- ---- a line
 
@@ -138,9 +138,9 @@ not_empty [] some = absurd (some refl)
 not_empty (x ∷ xs) some = omega arith
 
 -- The next line was read, as which `line` stands at the rest's front, and the reader holds the rest behind it.
-pub record AtLine (tells : Bool) (names : List (List ℕ)) (left left' held held' : Option (List ℕ)) (c : WorldState) (line rest : List ℕ) (bytes count : ℕ) (z : WorldState) : Type 0 where
+pub record AtLine (tells armable : Bool) (names : List (List ℕ)) (left left' held held' : Option (List ℕ)) (c : WorldState) (line rest : List ℕ) (bytes count : ℕ) (z : WorldState) : Type 0 where
   pub whole : List ℕ
-  pub playing : Playing tells names left left' held held' c whole bytes count z
+  pub playing : Playing tells armable names left left' held held' c whole bytes count z
   pub inside : IsInLine line
   pub next : IsNext left' line whole
   pub behind : LieIn left' playing.taken (playing.lines ++ line ∷ []) rest
@@ -152,17 +152,17 @@ pub record Advances (old new : Reading) (line : List ℕ) : Type 0 where
   pub some : length new.rest + old.taken < length old.rest + new.taken
 
 -- a line came, whole or too long
-pub record LineCame (tells : Bool) (names : List (List ℕ)) (left left' held held' : Option (List ℕ)) (c : WorldState) (old new : Reading) (count : ℕ) (z : WorldState) (line : Line) : Type 0 where
+pub record LineCame (tells armable : Bool) (names : List (List ℕ)) (left left' held held' : Option (List ℕ)) (c : WorldState) (old new : Reading) (count : ℕ) (z : WorldState) (line : Line) : Type 0 where
   pub text : List ℕ
   pub is : IsLine text line
   pub advances : Advances old new text
-  pub at : AtLine tells names left left' held held' c text new.rest new.taken count z
+  pub at : AtLine tells armable names left left' held held' c text new.rest new.taken count z
 
-pub line_came : (tells : Bool) (names : List (List ℕ)) (left mid left' held held' : Option (List ℕ)) (c : WorldState) (old new : Reading) (count : ℕ) (z : WorldState) (bytes : List ℕ) (line : Line)
-    → Playing tells names left mid held held' c old.rest old.taken count z → Took mid left' old new bytes → EndsLine old new bytes line ⊎ LastLine left' old new bytes line
-    → LineCame tells names left left' held held' c old new count z line
-line_came tells names left mid left' held held' c old new count z bytes line p took (inl h) =
-    let now = playing_taken tells names left mid left' held held' c old new count z bytes p took in
+pub line_came : (tells armable : Bool) (names : List (List ℕ)) (left mid left' held held' : Option (List ℕ)) (c : WorldState) (old new : Reading) (count : ℕ) (z : WorldState) (bytes : List ℕ) (line : Line)
+    → Playing tells armable names left mid held held' c old.rest old.taken count z → Took mid left' old new bytes → EndsLine old new bytes line ⊎ LastLine left' old new bytes line
+    → LineCame tells armable names left left' held held' c old new count z line
+line_came tells armable names left mid left' held held' c old new count z bytes line p took (inl h) =
+    let now = playing_taken tells armable names left mid left' held held' c old new count z bytes p took in
     record {
       text = h.text;
       is = h.is;
@@ -179,8 +179,8 @@ line_came tells names left mid left' held held' c old new count z bytes line p t
         shorter = omega (arith, ap length h.parts, length-append h.text (10 ∷ new.rest));
       };
     }
-line_came tells names left mid left' held held' c old new count z bytes line p took (inr h) =
-    let now = playing_taken tells names left mid left' held held' c old new count z bytes p took in
+line_came tells armable names left mid left' held held' c old new count z bytes line p took (inr h) =
+    let now = playing_taken tells armable names left mid left' held held' c old new count z bytes p took in
     let some = not_empty (old.rest ++ bytes) h.some in
     record {
       text = old.rest ++ bytes;
@@ -200,9 +200,9 @@ line_came tells names left mid left' held held' c old new count z bytes line p t
     }
 
 -- The line was played, and what it gives written.
-pub line_played : (tells : Bool) (names : List (List ℕ)) (left left' held held' held'' : Option (List ℕ)) (c : WorldState) (line rest : List ℕ) (bytes count : ℕ) (mid z : WorldState)
-    → AtLine tells names left left' held held' c line rest bytes count mid → length line ≤ line_limit → PlaysWritten tells names held' held'' mid line z → Playing tells names left left' held held'' c rest bytes (count + 1) z
-line_played tells names left left' held held' held'' c line rest bytes count mid z at short now =
+pub line_played : (tells armable : Bool) (names : List (List ℕ)) (left left' held held' held'' : Option (List ℕ)) (c : WorldState) (line rest : List ℕ) (bytes count : ℕ) (mid z : WorldState)
+    → AtLine tells armable names left left' held held' c line rest bytes count mid → length line ≤ line_limit → PlaysWritten tells armable names held' held'' mid line z → Playing tells armable names left left' held held'' c rest bytes (count + 1) z
+line_played tells armable names left left' held held' held'' c line rest bytes count mid z at short now =
     let p = at.playing in
     record {
       taken = p.taken;
@@ -212,42 +212,42 @@ line_played tells names left left' held held' held'' c line rest bytes count mid
         consumed = p.played.consumed;
         lie = at.behind;
         written = p.played.written ++ now.written;
-        plays = plays_more tells names c p.lines p.played.written mid line now.written z p.played.plays now.plays;
+        plays = plays_more tells armable names c p.lines p.played.written mid line now.written z p.played.plays now.plays;
         appended = appends_then held held' held'' p.played.written now.written p.played.appended now.appended;
       };
       number = omega (arith, p.number, length-append p.lines (line ∷ []));
       told = p.told;
-      few = filled_more tells names mid p.lines line now.written z (length rest) bytes now.plays (omega (arith, p.few, at.shorter));
+      few = filled_more tells armable names mid p.lines line now.written z (length rest) bytes now.plays (omega (arith, p.few, at.shorter));
     }
 
 -- nothing was done and nothing written
-playing_stays : (tells : Bool) (names : List (List ℕ)) (left left' held held' held'' : Option (List ℕ)) (c : WorldState) (taken : List ℕ) (lines : List (List ℕ)) (rest : List ℕ) (mid z : WorldState)
-    → Played tells names left left' held held' c taken lines rest mid → Stays held' held'' mid z → Played tells names left left' held held'' c taken lines rest z
-playing_stays tells names left left' held held' held'' c taken lines rest mid z p stays = record {
+playing_stays : (tells armable : Bool) (names : List (List ℕ)) (left left' held held' held'' : Option (List ℕ)) (c : WorldState) (taken : List ℕ) (lines : List (List ℕ)) (rest : List ℕ) (mid z : WorldState)
+    → Played tells armable names left left' held held' c taken lines rest mid → Stays held' held'' mid z → Played tells armable names left left' held held'' c taken lines rest z
+playing_stays tells armable names left left' held held' held'' c taken lines rest mid z p stays = record {
   lines_are = p.lines_are;
   consumed = p.consumed;
   lie = p.lie;
   written = p.written;
-  plays = subst (Plays tells names c lines p.written) (sym stays.0) p.plays;
+  plays = subst (Plays tells armable names c lines p.written) (sym stays.0) p.plays;
   appended = subst (λ (t : List ℕ). Appends held held'' t) (append-nil p.written) (appends_then held held' held'' p.written [] p.appended stays.1);
 }
 
 -- ---- ends
 
 -- in place of a line the script came to its end
-pub read_end : (tells : Bool) (names : List (List ℕ)) (left mid left' held held' : Option (List ℕ)) (c : WorldState) (old new : Reading) (count number : ℕ) (z : WorldState) (last : ScriptEnd)
-    → Playing tells names left mid held held' c old.rest old.taken count z → number ≡ count + 1 → ReadsLine mid left' old new number (Err last) → CameTo tells names left left' held held' c last z
-read_end tells names left mid left' held held' c old new count number z Done p is (bytes, took, none) =
-    let now = playing_taken tells names left mid left' held held' c old new count z bytes p took in
+pub read_end : (tells armable : Bool) (names : List (List ℕ)) (left mid left' held held' : Option (List ℕ)) (c : WorldState) (old new : Reading) (count number : ℕ) (z : WorldState) (last : ScriptEnd)
+    → Playing tells armable names left mid held held' c old.rest old.taken count z → number ≡ count + 1 → ReadsLine mid left' old new number (Err last) → CameTo tells armable names left left' held held' c last z
+read_end tells armable names left mid left' held held' c old new count number z Done p is (bytes, took, none) =
+    let now = playing_taken tells armable names left mid left' held held' c old new count z bytes p took in
     record {
       taken = now.taken;
       lines = now.lines;
-      played = subst (λ (t : List ℕ). Played tells names left left' held held' c now.taken now.lines t z) none.nothing now.played;
+      played = subst (λ (t : List ℕ). Played tells armable names left left' held held' c now.taken now.lines t z) none.nothing now.played;
       at_end = none.at_end;
       few = λ some. omega (arith, now.told some, none.few);
     }
-read_end tells names left mid left' held held' c old new count number z (Line' n) p is (same, (bytes, took, came)) =
-    let l = line_came tells names left mid left' held held' c old new count z bytes Long p took came in
+read_end tells armable names left mid left' held held' c old new count number z (Line' n) p is (same, (bytes, took, came)) =
+    let l = line_came tells armable names left mid left' held held' c old new count z bytes Long p took came in
     record {
       taken = l.at.playing.taken;
       lines = l.at.playing.lines;
@@ -259,21 +259,21 @@ read_end tells names left mid left' held held' c old new count number z (Line' n
       next = l.at.next;
       wrong = inl l.is;
     }
-read_end tells names left mid left' held held' c old new count number z ReadFault p is (bytes, took, (none, few)) =
-    let now = playing_taken tells names left mid left' held held' c old new count z bytes p took in
+read_end tells armable names left mid left' held held' c old new count number z ReadFault p is (bytes, took, (none, few)) =
+    let now = playing_taken tells armable names left mid left' held held' c old new count z bytes p took in
     record { taken = now.taken; lines = now.lines; rest = old.rest ++ bytes; played = now.played; inside = none.inside; count = λ some. omega (arith, now.told some, few) }
-read_end tells names left mid left' held held' c old new count number z WriteFault p is none = absurd none
-read_end tells names left mid left' held held' c old new count number z Spent p is (bytes, took, (none, all)) =
-    let now = playing_taken tells names left mid left' held held' c old new count z bytes p took in
+read_end tells armable names left mid left' held held' c old new count number z WriteFault p is none = absurd none
+read_end tells armable names left mid left' held held' c old new count number z Spent p is (bytes, took, (none, all)) =
+    let now = playing_taken tells armable names left mid left' held held' c old new count z bytes p took in
     record { taken = now.taken; lines = now.lines; rest = old.rest ++ bytes; played = now.played; inside = none.inside; count = λ some. now.told some ∙ all }
-read_end tells names left mid left' held held' c old new count number z NoMemory p is (bytes, took) =
-    let now = playing_longer tells names left mid left' held held' c old.rest old.taken count z bytes p took in
+read_end tells armable names left mid left' held held' c old new count number z NoMemory p is (bytes, took) =
+    let now = playing_longer tells armable names left mid left' held held' c old.rest old.taken count z bytes p took in
     inl (record { taken = now.taken; lines = now.lines; rest = old.rest ++ bytes; played = now.played })
 
 -- a line that was made, with what it gives written in part
-in_part : (tells : Bool) (names : List (List ℕ)) (left left' held held' held'' : Option (List ℕ)) (c : WorldState) (line rest : List ℕ) (bytes count : ℕ) (mid z : WorldState)
-    → AtLine tells names left left' held held' c line rest bytes count mid → length line ≤ line_limit → MakesInPart tells names held' held'' mid line z → PlayedInPart tells names left left' held held'' c z
-in_part tells names left left' held held' held'' c line rest bytes count mid z at short makes = record {
+in_part : (tells armable : Bool) (names : List (List ℕ)) (left left' held held' held'' : Option (List ℕ)) (c : WorldState) (line rest : List ℕ) (bytes count : ℕ) (mid z : WorldState)
+    → AtLine tells armable names left left' held held' c line rest bytes count mid → length line ≤ line_limit → MakesInPart tells armable names held' held'' mid line z → PlayedInPart tells armable names left left' held held'' c z
+in_part tells armable names left left' held held' held'' c line rest bytes count mid z at short makes = record {
   taken = at.playing.taken;
   lines = at.playing.lines;
   rest = at.whole;
@@ -287,43 +287,43 @@ in_part tells names left left' held held' held'' c line rest bytes count mid z a
 }
 
 -- in a line the script came to its end
-pub play_end : (tells : Bool) (names : List (List ℕ)) (left left' held held' held'' : Option (List ℕ)) (c : WorldState) (line rest : List ℕ) (bytes count number : ℕ) (mid z : WorldState) (last : ScriptEnd)
-    → AtLine tells names left left' held held' c line rest bytes count mid → length line ≤ line_limit → number ≡ count + 1 → PlaysOrEnds tells names held' held'' mid line number (Err last) z → CameTo tells names left left' held held'' c last z
-play_end tells names left left' held held' held'' c line rest bytes count number mid z Done at short is none = absurd none
-play_end tells names left left' held held' held'' c line rest bytes count number mid z (Line' n) at short is (same, refuses) = record {
+pub play_end : (tells armable : Bool) (names : List (List ℕ)) (left left' held held' held'' : Option (List ℕ)) (c : WorldState) (line rest : List ℕ) (bytes count number : ℕ) (mid z : WorldState) (last : ScriptEnd)
+    → AtLine tells armable names left left' held held' c line rest bytes count mid → length line ≤ line_limit → number ≡ count + 1 → PlaysOrEnds tells armable names held' held'' mid line number (Err last) z → CameTo tells armable names left left' held held'' c last z
+play_end tells armable names left left' held held' held'' c line rest bytes count number mid z Done at short is none = absurd none
+play_end tells armable names left left' held held' held'' c line rest bytes count number mid z (Line' n) at short is (same, refuses) = record {
   taken = at.playing.taken;
   lines = at.playing.lines;
   rest = at.whole;
-  played = playing_stays tells names left left' held held' held'' c at.playing.taken at.playing.lines at.whole mid z at.playing.played refuses.stays;
+  played = playing_stays tells armable names left left' held held' held'' c at.playing.taken at.playing.lines at.whole mid z at.playing.played refuses.stays;
   before = same ∙ is ∙ ap (λ (k : ℕ). k + 1) at.playing.number;
   line = line;
   inside = at.inside;
   next = at.next;
   wrong = inr (refuses.some, refuses.none);
 }
-play_end tells names left left' held held' held'' c line rest bytes count number mid z ReadFault at short is none = absurd none
-play_end tells names left left' held held' held'' c line rest bytes count number mid z WriteFault at short is makes = in_part tells names left left' held held' held'' c line rest bytes count mid z at short makes
-play_end tells names left left' held held' held'' c line rest bytes count number mid z Spent at short is none = absurd none
-play_end tells names left left' held held' held'' c line rest bytes count number mid z NoMemory at short is (inl stays) =
+play_end tells armable names left left' held held' held'' c line rest bytes count number mid z ReadFault at short is none = absurd none
+play_end tells armable names left left' held held' held'' c line rest bytes count number mid z WriteFault at short is makes = in_part tells armable names left left' held held' held'' c line rest bytes count mid z at short makes
+play_end tells armable names left left' held held' held'' c line rest bytes count number mid z Spent at short is none = absurd none
+play_end tells armable names left left' held held' held'' c line rest bytes count number mid z NoMemory at short is (inl stays) =
     inl (record {
       taken = at.playing.taken;
       lines = at.playing.lines;
       rest = at.whole;
-      played = playing_stays tells names left left' held held' held'' c at.playing.taken at.playing.lines at.whole mid z at.playing.played stays;
+      played = playing_stays tells armable names left left' held held' held'' c at.playing.taken at.playing.lines at.whole mid z at.playing.played stays;
     })
-play_end tells names left left' held held' held'' c line rest bytes count number mid z NoMemory at short is (inr makes) =
-    inr (in_part tells names left left' held held' held'' c line rest bytes count mid z at short makes)
+play_end tells armable names left left' held held' held'' c line rest bytes count number mid z NoMemory at short is (inr makes) =
+    inr (in_part tells armable names left left' held held' held'' c line rest bytes count mid z at short makes)
 
 -- ---- the next line
 
 -- The next line was read.
-pub record TextCame (tells : Bool) (names : List (List ℕ)) (left left' held held' : Option (List ℕ)) (c : WorldState) (old new : Reading) (count : ℕ) (z : WorldState) (line : List ℕ) : Type 0 where
+pub record TextCame (tells armable : Bool) (names : List (List ℕ)) (left left' held held' : Option (List ℕ)) (c : WorldState) (old new : Reading) (count : ℕ) (z : WorldState) (line : List ℕ) : Type 0 where
   pub advances : Advances old new line
   pub short : length line ≤ line_limit
-  pub at : AtLine tells names left left' held held' c line new.rest new.taken count z
+  pub at : AtLine tells armable names left left' held held' c line new.rest new.taken count z
 
-pub text_came : (tells : Bool) (names : List (List ℕ)) (left mid left' held held' : Option (List ℕ)) (c : WorldState) (old new : Reading) (count number : ℕ) (z : WorldState) (v : Vec ℕ)
-    → Playing tells names left mid held held' c old.rest old.taken count z → ReadsLine mid left' old new number (Ok v) → TextCame tells names left left' held held' c old new count z v.items
-text_came tells names left mid left' held held' c old new count number z v p (bytes, took, came) =
-    let l = line_came tells names left mid left' held held' c old new count z bytes (Text v) p took came in
-    subst (TextCame tells names left left' held held' c old new count z) (sym l.is.0) (record { advances = l.advances; short = l.is.1; at = l.at })
+pub text_came : (tells armable : Bool) (names : List (List ℕ)) (left mid left' held held' : Option (List ℕ)) (c : WorldState) (old new : Reading) (count number : ℕ) (z : WorldState) (v : Vec ℕ)
+    → Playing tells armable names left mid held held' c old.rest old.taken count z → ReadsLine mid left' old new number (Ok v) → TextCame tells armable names left left' held held' c old new count z v.items
+text_came tells armable names left mid left' held held' c old new count number z v p (bytes, took, came) =
+    let l = line_came tells armable names left mid left' held held' c old new count z bytes (Text v) p took came in
+    subst (TextCame tells armable names left left' held held' c old new count z) (sym l.is.0) (record { advances = l.advances; short = l.is.1; at = l.at })

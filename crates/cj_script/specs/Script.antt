@@ -10,6 +10,7 @@ use Rattle.cj_model.specs.declared.moves.Made.{Made}
 use Rattle.cj_model.specs.Moves.{MovesTo}
 use Rattle.cj_model.specs.Scripts.{MoveLine, moved_lines, ended}
 use Rattle.cj_core.specs.Worlds.{WorldState}
+use Rattle.cj_core.specs.Armings.{HasArmings}
 use Rattle.cj_core.specs.Counting.{HasCauses}
 use Rattle.cj_core.specs.Played.{given_of, HasRun}
 use Rattle.cj_script.specs.declared.play.ScriptEnd.{ScriptEnd}
@@ -17,13 +18,14 @@ use Rattle.cj_script.specs.declared.play.ScriptEnd.TheVariants.{Done, Line, Read
 
 -- ---- lines that play
 
--- The line is a move, which leads from c to z with the faults that were counted, and these are the lines of what it came to.
-pub record MakesMove (tells : Bool) (names : List (List ℕ)) (c : WorldState) (line written : List ℕ) (z : WorldState) : Type 0 where
+-- The line is a move, which leads from c to z with the faults that were counted and the backends that were armed, where they can be, and these are the lines of what it came to.
+pub record MakesMove (tells armable : Bool) (names : List (List ℕ)) (c : WorldState) (line written : List ℕ) (z : WorldState) : Type 0 where
   pub move : Move
   pub reads : MoveLine names line move
   pub made : Made
   pub moves : MovesTo tells c.core move (given_of made) z.core
   pub causes : HasCauses c z move (given_of made)
+  pub armings : HasArmings armable c z move (given_of made)
   pub gives : written ≡ moved_lines names made
 
 -- the line is empty, and changes and gives nothing
@@ -33,14 +35,14 @@ pub record SkipsLine (c : WorldState) (line written : List ℕ) (z : WorldState)
   pub same : z ≡ c
 
 -- an empty line is skipped, and another makes its move
-abbrev pub PlaysLine : Bool → List (List ℕ) → WorldState → List ℕ → List ℕ → WorldState → Type 0
-PlaysLine tells names c line written z = SkipsLine c line written z ⊎ MakesMove tells names c line written z
+abbrev pub PlaysLine : (tells armable : Bool) → List (List ℕ) → WorldState → List ℕ → List ℕ → WorldState → Type 0
+PlaysLine tells armable names c line written z = SkipsLine c line written z ⊎ MakesMove tells armable names c line written z
 
 -- From the state c the lines play, one after another, to the state z, and this is what they give.
-abbrev pub Plays : Bool → List (List ℕ) → WorldState → List (List ℕ) → List ℕ → WorldState → Type 0
-Plays tells names c [] written z = (written ≡ []) × (z ≡ c)
-Plays tells names c (line ∷ lines) written z =
-    (mid : WorldState) × (front : List ℕ) × (rest : List ℕ) × PlaysLine tells names c line front mid × Plays tells names mid lines rest z × (written ≡ front ++ rest)
+abbrev pub Plays : (tells armable : Bool) → List (List ℕ) → WorldState → List (List ℕ) → List ℕ → WorldState → Type 0
+Plays tells armable names c [] written z = (written ≡ []) × (z ≡ c)
+Plays tells armable names c (line ∷ lines) written z =
+    (mid : WorldState) × (front : List ℕ) × (rest : List ℕ) × PlaysLine tells armable names c line front mid × Plays tells armable names mid lines rest z × (written ≡ front ++ rest)
 
 -- ---- the moves of lines
 
@@ -86,28 +88,28 @@ IsWrong names line = (line_limit < length line) ⊎ ((line ≢ []) × IsNoMove n
 -- ---- how far a script came
 
 -- Of the bytes taken these lines were played, from c to z, and what they give was written; the rest was not played.
-pub record Played (tells : Bool) (names : List (List ℕ)) (left left' held held' : Option (List ℕ)) (c : WorldState) (taken : List ℕ) (lines : List (List ℕ)) (rest : List ℕ) (z : WorldState) : Type 0 where
+pub record Played (tells armable : Bool) (names : List (List ℕ)) (left left' held held' : Option (List ℕ)) (c : WorldState) (taken : List ℕ) (lines : List (List ℕ)) (rest : List ℕ) (z : WorldState) : Type 0 where
   pub lines_are : All IsShortLine lines
   pub consumed : Consumes left left' taken
   pub lie : LieIn left' taken lines rest
   pub written : List ℕ
-  pub plays : Plays tells names c lines written z
+  pub plays : Plays tells armable names c lines written z
   pub appended : Appends held held' written
 
 -- the source was taken to its end, as it may be, and all of it was played
-pub record PlayedAll (tells : Bool) (names : List (List ℕ)) (left left' held held' : Option (List ℕ)) (c z : WorldState) : Type 0 where
+pub record PlayedAll (tells armable : Bool) (names : List (List ℕ)) (left left' held held' : Option (List ℕ)) (c z : WorldState) : Type 0 where
   pub taken : List ℕ
   pub lines : List (List ℕ)
-  pub played : Played tells names left left' held held' c taken lines [] z
+  pub played : Played tells armable names left left' held held' c taken lines [] z
   pub at_end : IsAtEnd left'
   pub few : IsSome left → length taken < most
 
 -- The lines before this one, by its number from 1, were played, and it can't be.
-pub record PlayedTo (tells : Bool) (names : List (List ℕ)) (left left' held held' : Option (List ℕ)) (number : ℕ) (c z : WorldState) : Type 0 where
+pub record PlayedTo (tells armable : Bool) (names : List (List ℕ)) (left left' held held' : Option (List ℕ)) (number : ℕ) (c z : WorldState) : Type 0 where
   pub taken : List ℕ
   pub lines : List (List ℕ)
   pub rest : List ℕ
-  pub played : Played tells names left left' held held' c taken lines rest z
+  pub played : Played tells armable names left left' held held' c taken lines rest z
   pub before : number ≡ length lines + 1
   pub line : List ℕ
   pub inside : IsInLine line
@@ -115,50 +117,50 @@ pub record PlayedTo (tells : Bool) (names : List (List ℕ)) (left left' held he
   pub wrong : IsWrong names line
 
 -- All whole lines were played, and so many bytes were taken, where the source tells.
-pub record PlayedWhole (tells : Bool) (names : List (List ℕ)) (left left' held held' : Option (List ℕ)) (IsCount : ℕ → Type 0) (c z : WorldState) : Type 0 where
+pub record PlayedWhole (tells armable : Bool) (names : List (List ℕ)) (left left' held held' : Option (List ℕ)) (IsCount : ℕ → Type 0) (c z : WorldState) : Type 0 where
   pub taken : List ℕ
   pub lines : List (List ℕ)
   pub rest : List ℕ
-  pub played : Played tells names left left' held held' c taken lines rest z
+  pub played : Played tells armable names left left' held held' c taken lines rest z
   pub inside : IsInLine rest
   pub count : IsSome left → IsCount (length taken)
 
 -- some lines were played
-pub record PlayedSome (tells : Bool) (names : List (List ℕ)) (left left' held held' : Option (List ℕ)) (c z : WorldState) : Type 0 where
+pub record PlayedSome (tells armable : Bool) (names : List (List ℕ)) (left left' held held' : Option (List ℕ)) (c z : WorldState) : Type 0 where
   pub taken : List ℕ
   pub lines : List (List ℕ)
   pub rest : List ℕ
-  pub played : Played tells names left left' held held' c taken lines rest z
+  pub played : Played tells armable names left left' held held' c taken lines rest z
 
 -- The line makes its move, and of what it gives a front was written, which is not the whole.
-pub record MakesInPart (tells : Bool) (names : List (List ℕ)) (held held' : Option (List ℕ)) (c : WorldState) (line : List ℕ) (z : WorldState) : Type 0 where
+pub record MakesInPart (tells armable : Bool) (names : List (List ℕ)) (held held' : Option (List ℕ)) (c : WorldState) (line : List ℕ) (z : WorldState) : Type 0 where
   pub whole : List ℕ
-  pub makes : MakesMove tells names c line whole z
+  pub makes : MakesMove tells armable names c line whole z
   pub count : ℕ
   pub cut : count < length whole
   pub appended : Appends held held' (take count whole)
 
 -- Some lines were played, and one more made its move, with what it gives written in part.
-pub record PlayedInPart (tells : Bool) (names : List (List ℕ)) (left left' held held' : Option (List ℕ)) (c z : WorldState) : Type 0 where
+pub record PlayedInPart (tells armable : Bool) (names : List (List ℕ)) (left left' held held' : Option (List ℕ)) (c z : WorldState) : Type 0 where
   pub taken : List ℕ
   pub lines : List (List ℕ)
   pub rest : List ℕ
   pub mid : WorldState
   pub between : Option (List ℕ)
-  pub played : Played tells names left left' held between c taken lines rest mid
+  pub played : Played tells armable names left left' held between c taken lines rest mid
   pub line : List ℕ
   pub line_is : IsShortLine line
   pub next : IsNext left' line rest
-  pub makes : MakesInPart tells names between held' mid line z
+  pub makes : MakesInPart tells armable names between held' mid line z
 
 -- How far a script came that ended so. Where the source or the sink tells nothing, this says nothing of its bytes.
-abbrev pub CameTo : Bool → List (List ℕ) → (left left' held held' : Option (List ℕ)) → WorldState → ScriptEnd → WorldState → Type 0
-CameTo tells names left left' held held' c Done z = PlayedAll tells names left left' held held' c z
-CameTo tells names left left' held held' c (Line number) z = PlayedTo tells names left left' held held' number c z
-CameTo tells names left left' held held' c ReadFault z = PlayedWhole tells names left left' held held' (λ n. n < most) c z
-CameTo tells names left left' held held' c WriteFault z = PlayedInPart tells names left left' held held' c z
-CameTo tells names left left' held held' c Spent z = PlayedWhole tells names left left' held held' (λ n. n ≡ most) c z
-CameTo tells names left left' held held' c NoMemory z = PlayedSome tells names left left' held held' c z ⊎ PlayedInPart tells names left left' held held' c z
+abbrev pub CameTo : (tells armable : Bool) → List (List ℕ) → (left left' held held' : Option (List ℕ)) → WorldState → ScriptEnd → WorldState → Type 0
+CameTo tells armable names left left' held held' c Done z = PlayedAll tells armable names left left' held held' c z
+CameTo tells armable names left left' held held' c (Line number) z = PlayedTo tells armable names left left' held held' number c z
+CameTo tells armable names left left' held held' c ReadFault z = PlayedWhole tells armable names left left' held held' (λ n. n < most) c z
+CameTo tells armable names left left' held held' c WriteFault z = PlayedInPart tells armable names left left' held held' c z
+CameTo tells armable names left left' held held' c Spent z = PlayedWhole tells armable names left left' held held' (λ n. n ≡ most) c z
+CameTo tells armable names left left' held held' c NoMemory z = PlayedSome tells armable names left left' held held' c z ⊎ PlayedInPart tells armable names left left' held held' c z
 
 -- ---- what the replies are
 

@@ -22,9 +22,9 @@ ReadsLine left left' old new number (Err Spent) = GivesLine left left' old new (
 ReadsLine left left' old new number (Err NoMemory) = GivesLine left left' old new (Err errors.NoMemory)
 
 -- the line played, and this was written
-pub record PlaysWritten (tells : Bool) (names : List (List ℕ)) (held held' : Option (List ℕ)) (c : WorldState) (line : List ℕ) (z : WorldState) : Type 0 where
+pub record PlaysWritten (tells armable : Bool) (names : List (List ℕ)) (held held' : Option (List ℕ)) (c : WorldState) (line : List ℕ) (z : WorldState) : Type 0 where
   pub written : List ℕ
-  pub plays : PlaysLine tells names c line written z
+  pub plays : PlaysLine tells armable names c line written z
   pub appended : Appends held held' written
 
 -- nothing was done and nothing written
@@ -38,11 +38,11 @@ pub record RefusesLine (names : List (List ℕ)) (held held' : Option (List ℕ)
   pub stays : Stays held held' c z
 
 -- the line played and what it gives was written, or the script ends in it
-abbrev pub PlaysOrEnds : Bool → List (List ℕ) → Option (List ℕ) → Option (List ℕ) → WorldState → List ℕ → ℕ → Result (Unit {0}) ScriptEnd → WorldState → Type 0
-PlaysOrEnds tells names held held' c line number (Ok _) z = PlaysWritten tells names held held' c line z
-PlaysOrEnds tells names held held' c line number (Err Done) z = ⊥
-PlaysOrEnds tells names held held' c line number (Err (Line n)) z = (n ≡ number) × RefusesLine names held held' c line z
-PlaysOrEnds tells names held held' c line number (Err ReadFault) z = ⊥
-PlaysOrEnds tells names held held' c line number (Err WriteFault) z = MakesInPart tells names held held' c line z
-PlaysOrEnds tells names held held' c line number (Err Spent) z = ⊥
-PlaysOrEnds tells names held held' c line number (Err NoMemory) z = Stays held held' c z ⊎ MakesInPart tells names held held' c line z
+abbrev pub PlaysOrEnds : (tells armable : Bool) → List (List ℕ) → Option (List ℕ) → Option (List ℕ) → WorldState → List ℕ → ℕ → Result (Unit {0}) ScriptEnd → WorldState → Type 0
+PlaysOrEnds tells armable names held held' c line number (Ok _) z = PlaysWritten tells armable names held held' c line z
+PlaysOrEnds tells armable names held held' c line number (Err Done) z = ⊥
+PlaysOrEnds tells armable names held held' c line number (Err (Line n)) z = (n ≡ number) × RefusesLine names held held' c line z
+PlaysOrEnds tells armable names held held' c line number (Err ReadFault) z = ⊥
+PlaysOrEnds tells armable names held held' c line number (Err WriteFault) z = MakesInPart tells armable names held held' c line z
+PlaysOrEnds tells armable names held held' c line number (Err Spent) z = ⊥
+PlaysOrEnds tells armable names held held' c line number (Err NoMemory) z = Stays held held' c z ⊎ MakesInPart tells armable names held held' c line z

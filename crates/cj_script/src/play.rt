@@ -85,7 +85,7 @@ fn play_line<B: Backend, O: Sink>(
 ) -> Result<(), ScriptEnd>
     requires names { length names.now ≡ world.old.core.placement.backends }
     requires count { 2 ≤ length line.now → CanCount world.old.core 1 }
-    ensures plays { PlaysOrEnds B.TELLS names.now (O.held output.old) (O.held output.new) world.old line.now number result world.new }
+    ensures plays { PlaysOrEnds B.TELLS B.can_be_armed names.now (O.held output.old) (O.held output.new) world.old line.now number result world.new }
     ensures cause { CountsFault (IsErrOf result ends.WriteFault) (O.faults output.old) (O.faults output.new) }
 {
     if line.is_empty() {
@@ -120,7 +120,7 @@ pub fn script<B: Backend, I: Source, O: Sink>(
 ) -> ScriptEnd
     requires names { length names.now ≡ world.old.core.placement.backends }
     requires count { CanCount world.old.core (2 ^ 61) }
-    ensures came { CameTo B.TELLS names.now (I.left input.old) (I.left input.new) (O.held output.old) (O.held output.new) world.old result world.new }
+    ensures came { CameTo B.TELLS B.can_be_armed names.now (I.left input.old) (I.left input.new) (O.held output.old) (O.held output.new) world.old result world.new }
     ensures turns { InTurns B.TELLS names.now (I.left input.old) (I.left input.new) (O.held output.old) (O.held output.new) world.old world.new }
     ensures input { CountsFault (result ≡ ends.ReadFault) (I.faults input.old) (I.faults input.new) }
     ensures output { CountsFault (result ≡ ends.WriteFault) (O.faults output.old) (O.faults output.new) }

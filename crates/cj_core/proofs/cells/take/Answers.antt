@@ -43,4 +43,4 @@ returns g c =
     rw c.did_of.ensures
     (took g.B.Backend.TELLS c.args.book.now.backends c.args.book.now.history c.args.cells.now.items c.args.b can c.index_mut.result.now c.catch_up.new.self c.index_mut.ensures.value c.in-Some.entry.now entry
     c.catch_up.ensures.b c.catch_up.ensures.backends c.catch_up.result (c.place-next.result + 1) (slice_set c.args.cells.now.items c.args.b c.catch_up.new.self) next refl c.catch_up.ensures.concerned c.catch_up.ensures.outcome c.catch_up.ensures.possible
-    c.catch_up.ensures.cause c.catch_up.ensures.told c.catch_up.ensures.position)
+    c.catch_up.ensures.cause c.catch_up.ensures.arming.after c.catch_up.ensures.told c.catch_up.ensures.position)

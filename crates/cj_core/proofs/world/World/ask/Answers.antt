@@ -4,15 +4,16 @@ use Rattle.cj_outside.specs.Causes.{next}
 use Rattle.cj_model.specs.Cores.{session_at}
 use Rattle.cj_model.specs.Moves.{read_number}
 use Rattle.cj_book.specs.Books.{BookState}
-use Rattle.cj_replica.specs.Cells.{CellState}
+use Rattle.cj_replica.specs.Cells.{CellState, is_asked}
 use Rattle.cj_core.specs.Worlds.{WorldState, core_of, world_of}
 use Rattle.cj_model.specs.Cores.{Core}
+use Rattle.cj_core.specs.Armings.{armings_of}
 use Rattle.cj_core.specs.Counting.{faults_of, faults_after}
 use Rattle.cj_core.specs.Effects.{Asks, asked_core, failed_asked}
 use Rattle.cj_core.specs.Kept.{Kept}
 use Rattle.cj_core.proofs.Asking.{kept_asked, same_core, answers, errs, noting, noted_core, noted_fault}
 use Rattle.cj_core.proofs.Keeping.{kept_read_failed}
-use Rattle.cj_core.proofs.Counted.{counts_set}
+use Rattle.cj_core.proofs.Counted.{armings_set, counts_set, spent_times}
 use Rattle.cj_core.proofs.world.World.ask.Goals as goal
 
 within : (n b : ℕ) (cells : List CellState) → length (map (λ (x : CellState). x.position) cells) ≡ n → b < n → b < length cells
@@ -93,3 +94,19 @@ returns-in-Err-clause-counts g c =
     counts_set w.cells.items c.args.b c.read.new.self fault.0 lt now
     ∙ (ap (λ (failed : Option ℕ). faults_after (faults_of w.cells.items) failed) (sym fault.1)
     ∙ ap (λ (x : WorldState). faults_after (faults_of x.cells) (failed_asked c.args.b (Err c.noted.result))) c.self.view_is)
+
+pub returns-in-Ok-clause-armings : goal.returns-in-Ok-clause-armings
+returns-in-Ok-clause-armings g c =
+    let w = c.self.inside in
+    let lt = within w.book.backends c.args.b w.cells.items c.self.invariant.world.sound.cells (subst (λ (x : WorldState). c.args.b < x.core.placement.backends) (sym c.self.view_is) c.requires.within) in
+    let is : get_or w.cells.items c.args.b c.read.new.self ≡ c.index_mut.result.now = get_or_default w.cells.items c.args.b c.read.new.self c.index_mut.result.now lt ∙ sym c.index_mut.ensures.value in
+    let same = spent_times (is_asked c.read.result) c.index_mut.result.now.arming c.read.new.self.arming c.read.ensures.arming.after ∙ ap (λ (x : CellState). x.arming.times) (sym is) in
+    armings_set w.cells.items c.args.b c.read.new.self false lt same ∙ ap (λ (x : WorldState). armings_of x.cells) c.self.view_is
+
+pub returns-in-Err-clause-armings : goal.returns-in-Err-clause-armings
+returns-in-Err-clause-armings g c =
+    let w = c.self.inside in
+    let lt = within w.book.backends c.args.b w.cells.items c.self.invariant.world.sound.cells (subst (λ (x : WorldState). c.args.b < x.core.placement.backends) (sym c.self.view_is) c.requires.within) in
+    let is : get_or w.cells.items c.args.b c.read.new.self ≡ c.index_mut.result.now = get_or_default w.cells.items c.args.b c.read.new.self c.index_mut.result.now lt ∙ sym c.index_mut.ensures.value in
+    let same = spent_times (is_asked c.read.result) c.index_mut.result.now.arming c.read.new.self.arming c.read.ensures.arming.after ∙ ap (λ (x : CellState). x.arming.times) (sym is) in
+    armings_set w.cells.items c.args.b c.read.new.self false lt same ∙ ap (λ (x : WorldState). armings_of x.cells) c.self.view_is

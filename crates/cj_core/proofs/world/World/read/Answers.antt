@@ -9,6 +9,7 @@ use Rattle.cj_model.proofs.Now.{can_read}
 use Rattle.cj_model.proofs.Pushed.{opened-same}
 use Rattle.cj_model.proofs.Standing.{tried_more}
 use Rattle.cj_core.specs.Worlds.{WorldState}
+use Rattle.cj_core.specs.Armings.{armings_of}
 use Rattle.cj_core.specs.Counting.{faults_of, faults_after, tells_fault}
 use Rattle.cj_core.specs.Effects.{Asks, asked_core, failed_asked, HaveFailed, RefusesOrStays}
 use Rattle.cj_core.proofs.Reading.{not_serving, answered, failed, unnoted, is_out, is_behind, answers_blame_none, failures_blame}
@@ -118,3 +119,18 @@ pub returns-in-Err-Behind-clause-causes : goal.returns-in-Err-Behind-clause-caus
 returns-in-Err-Behind-clause-causes g c =
     let counts = subst (λ (e : AskError). faults_of c.ask.new.self.cells ≡ faults_after (faults_of c.args.self.now.cells) (failed_asked c.args.b (Err e))) c.in-Err-Behind.field-0-is c.in-Err-Behind.ensures.counts in
     ap (λ (w : WorldState). faults_of w.cells) c.wait-in-Err-Behind.ensures ∙ counts
+
+pub returns-in-Ok-clause-armings : goal.returns-in-Ok-clause-armings
+returns-in-Ok-clause-armings g c = ap (λ (w : WorldState). armings_of w.cells) c.answer.ensures.ok ∙ c.ask.ensures.armings
+
+pub returns-in-Err-Failed-clause-armings : goal.returns-in-Err-Failed-clause-armings
+returns-in-Err-Failed-clause-armings g c = ap armings_of c.refuse_or_stay.ensures.cells ∙ c.ask.ensures.armings
+
+pub returns-in-Err-Unnoted-clause-armings : goal.returns-in-Err-Unnoted-clause-armings
+returns-in-Err-Unnoted-clause-armings g c = ap (λ (w : WorldState). armings_of w.cells) c.refuse_unnoted.ensures.ok ∙ c.ask.ensures.armings
+
+pub returns-in-Err-Out-clause-armings : goal.returns-in-Err-Out-clause-armings
+returns-in-Err-Out-clause-armings g c = ap (λ (w : WorldState). armings_of w.cells) c.wait.ensures ∙ c.ask.ensures.armings
+
+pub returns-in-Err-Behind-clause-armings : goal.returns-in-Err-Behind-clause-armings
+returns-in-Err-Behind-clause-armings g c = ap (λ (w : WorldState). armings_of w.cells) c.wait-in-Err-Behind.ensures ∙ c.ask.ensures.armings

@@ -6,7 +6,7 @@ use Rattle.cj_model.specs.Cores.{position_at}
 use Rattle.cj_model.proofs.Now.{CanApply, can_apply}
 use Rattle.cj_core.specs.Worlds.{WorldState, core_of}
 use Rattle.cj_core.proofs.Catching.{can_take}
-use Rattle.cj_core.proofs.Taking.{kept_applied, applies, took_counts}
+use Rattle.cj_core.proofs.Taking.{kept_applied, applies, took_counts, took_armings}
 use Rattle.cj_core.proofs.world.World.take_open.Goals as goal
 
 pub take-did-requires : goal.take-did-requires
@@ -32,3 +32,8 @@ pub returns-clause-counts : goal.returns-clause-counts
 returns-clause-counts g c =
     let w = c.self.inside in
     took_counts g.B.Backend.TELLS w.book.backends w.book.history w.cells.items w.failed w.starved w.sessions w.greatest w.heard c.self.invariant c.args.b c.take-did.result c.take-did.new.cells.items c.take-did.ensures c.args.self.now.cells (ap (λ (x : WorldState). x.cells) (sym c.self.view_is))
+
+pub returns-clause-armings : goal.returns-clause-armings
+returns-clause-armings g c =
+    let w = c.self.inside in
+    took_armings g.B.Backend.TELLS w.book.backends w.book.history w.cells.items w.failed w.starved w.sessions w.greatest w.heard c.self.invariant c.args.b c.take-did.result c.take-did.new.cells.items c.take-did.ensures c.args.self.now.cells (ap (λ (x : WorldState). x.cells) (sym c.self.view_is))
