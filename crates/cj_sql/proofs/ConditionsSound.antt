@@ -1,5 +1,5 @@
 -- What the reader of conditions reads is a condition of the grammar.
-use Rattle.std.proofs.Common.{◌≡◌, ℕ, zero, suc, ◌+◌, ◌-◌, ◌<◌, nat_lt, List, ◌∷◌, Option, None, Some, arith}
+use Rattle.std.proofs.Common.{◌≡◌, ap, ℕ, zero, suc, ◌+◌, ◌-◌, ◌<◌, nat_lt, List, ◌∷◌, drop, Option, None, Some, arith}
 use Rattle.std.proofs.lemmas.Bool.Decides.{nat_tests}
 use Rattle.cj_model.specs.declared.token.Token.{Token}
 use Rattle.cj_model.specs.declared.token.Token.TheVariants as token
@@ -7,15 +7,16 @@ use Rattle.cj_model.specs.declared.token.Keyword.TheVariants as word
 use Rattle.cj_model.specs.declared.token.Symbol.{Symbol}
 use Rattle.cj_model.specs.declared.token.Symbol.TheVariants as symbol
 use Rattle.cj_model.specs.declared.term.Cmp.{Cmp}
-use Rattle.cj_model.specs.Conditions.{Condition, And, Or}
-use Rattle.cj_model.specs.ConditionForms.{CondForm, OrsForm, ConjForm, AndsForm, PrimForm, cmp_token, cond_tokens, ors_tokens, conj_tokens, ands_tokens, prim_tokens, cond_meant, ors_meant, conj_meant, ands_meant, prim_meant, CondNests, OrsNest, ConjNests, AndsNest, PrimNests}
+use Rattle.cj_model.specs.Conditions.{Condition, Test, Not, And, Or}
+use Rattle.cj_model.specs.ConditionForms.{CondForm, OrsForm, ConjForm, AndsForm, PrimForm, cmp_token, cond_tokens, ors_tokens, conj_tokens, ands_tokens, prim_tokens, cond_meant, ors_meant, conj_meant, ands_meant, prim_meant, CondNests, OrsNest, ConjNests, AndsNest, PrimNests, comparisons}
 use Rattle.cj_model.specs.ConditionForms as form
+use Rattle.cj_sql.specs.declared.conditions.Connective.{Connective}
+use Rattle.cj_sql.specs.declared.conditions.Connective.TheVariants as connective
 use Rattle.cj_sql.specs.Reader.{read, sees_word, sees_symbol}
-use Rattle.cj_sql.specs.ConditionReader.{Input, at, after, Conditions, cmp_of, given, comparison, compared, ands, conj, ors, cond, parens, prim}
+use Rattle.cj_sql.specs.ConditionReader.{Input, at, after, Conditions, cmp_of, given, comparison, compared, keyword_of, compound, more_connected, connected, conj, cond, parens, prim}
 use Rattle.cj_sql.proofs.Binds.{branch, holds, fails, part, part_of}
 use Rattle.cj_sql.proofs.Front.{word_seen, symbol_seen, symbol_sound, expect_symbol_sound}
 use Rattle.cj_sql.proofs.TermsRead.{term_read}
-use Rattle.cj_sql.proofs.Counts.{cond_tests, ors_tests, conj_tests, ands_tests, prim_tests}
 
 -- ---- comparisons
 
@@ -46,28 +47,28 @@ comparison_sound ts op rest h = elim (part_of (symbol_sound ts) h) [
 
 -- ---- conditions
 
--- What stood there up to the rest is a form that nests and counts so and means the condition.
-pub record IsPart {F : Type 0} (tokens_of : F → List Token → List Token) (meant : F → Condition) (Nests : F → Type 0) (tests_of : F → ℕ) (i : Input) (c : Condition) (o : Input) : Type 0 where
+-- What stood there up to the rest is a form that nests so and means the condition, whose comparisons but those before it were taken from those that might come.
+pub record IsPart {F : Type 0} (tokens_of : F → List Token → List Token) (meant : F → Condition) (Nests : F → Type 0) (before : ℕ) (i : Input) (c : Condition) (o : Input) : Type 0 where
   pub form : F
   pub tokens_are : i.rest ≡ tokens_of form o.rest
   pub means : meant form ≡ c
   pub nests : Nests form
-  pub counts : i.tests ≡ tests_of form + o.tests
+  pub counts : before + i.tests ≡ comparisons c + o.tests
 
 abbrev IsPrim : ℕ → Input → Condition → Input → Type 0
-IsPrim depth = IsPart prim_tokens prim_meant (PrimNests depth) prim_tests
+IsPrim depth = IsPart prim_tokens prim_meant (PrimNests depth) 0
 
 abbrev IsAnds : ℕ → Condition → Input → Condition → Input → Type 0
-IsAnds depth left = IsPart ands_tokens (ands_meant left) (AndsNest depth) ands_tests
+IsAnds depth left = IsPart ands_tokens (ands_meant left) (AndsNest depth) (comparisons left)
 
 abbrev IsConj : ℕ → Input → Condition → Input → Type 0
-IsConj depth = IsPart conj_tokens conj_meant (ConjNests depth) conj_tests
+IsConj depth = IsPart conj_tokens conj_meant (ConjNests depth) 0
 
 abbrev IsOrs : ℕ → Condition → Input → Condition → Input → Type 0
-IsOrs depth left = IsPart ors_tokens (ors_meant left) (OrsNest depth) ors_tests
+IsOrs depth left = IsPart ors_tokens (ors_meant left) (OrsNest depth) (comparisons left)
 
 abbrev pub IsCond : ℕ → Input → Condition → Input → Type 0
-IsCond depth = IsPart cond_tokens cond_meant (CondNests depth) cond_tests
+IsCond depth = IsPart cond_tokens cond_meant (CondNests depth) 0
 
 test_sound : (depth : ℕ) (i : Input) (c : Condition) (o : Input) → compared i ≡ read c o → IsPrim depth i c o
 unfolding compared
@@ -81,73 +82,76 @@ test_sound depth i c o h = elim (branch (nat_lt 0 i.tests) _ _ _ h) [
                     | part right vs b k ↦
                         let some : 0 < i.tests = grind (arith, nat_tests, e) in
                         let less : i.tests - 1 ≡ o.tests = cc in
-                        record { form = form.test a.form op b.form; tokens_are = cc; means = cc; nests = (a.fits, b.fits); counts = omega (arith, some, less) }
+                        let is : Test op left right ≡ c = cc in
+                        let one = ap comparisons is in
+                        record { form = form.test a.form op b.form; tokens_are = cc; means = cc; nests = (a.fits, b.fits); counts = omega (arith, some, less, one) }
                   ]
             ]
       ]
   | fails e k ↦ absurd (cc)
 ]
 
-module _ (depth : ℕ) (prim : Conditions) (sound : (i : Input) (c : Condition) (o : Input) → prim i ≡ read c o → IsPrim depth i c o) where
-  ands_sound : (turns : ℕ) (left : Condition) (i : Input) (c : Condition) (o : Input) → ands prim turns left i ≡ read c o → IsAnds depth left i c o
-  unfolding ands
-  ands_sound zero left i c o h = elim (branch (sees_word word.And i.rest) _ _ _ h) [
-    | holds e k ↦ absurd (cc)
-    | fails e k ↦ record { form = form.no_and; tokens_are = cc; means = cc; nests = tt; counts = (let same : i.tests ≡ o.tests = cc in omega (arith, same)) }
-  ]
-  ands_sound (suc turns) left i c o h = elim (branch (sees_word word.And i.rest) _ _ _ h) [
+-- What a connective joins: over a sound reader of its sides, where nothing more is a form, one more side and more is one, and so is one side and more.
+module _ (by : Connective) (side : Conditions) (IsSide : Input → Condition → Input → Type 0) (IsMore : Condition → Input → Condition → Input → Type 0)
+    (sound : (i : Input) (c : Condition) (o : Input) → side i ≡ read c o → IsSide i c o)
+    (none : (left : Condition) (i : Input) (c : Condition) (o : Input) → read left i ≡ read c o → IsMore left i c o)
+    (one_more : (left : Condition) (i : Input) (x : Condition) (m : Input) (c : Condition) (o : Input) →
+    i.rest ≡ token.Word (keyword_of by) ∷ drop 1 i.rest → IsSide (after i) x m → IsMore (compound by left x) m c o → IsMore left i c o) where
+  more_connected_sound : (turns : ℕ) (left : Condition) (i : Input) (c : Condition) (o : Input) → more_connected by side turns left i ≡ read c o → IsMore left i c o
+  unfolding more_connected
+  more_connected_sound zero left i c o h = elim (branch (sees_word (keyword_of by) i.rest) _ _ _ h) [ holds e k ↦ absurd (cc) | fails e k ↦ none left i c o k ]
+  more_connected_sound (suc turns) left i c o h = elim (branch (sees_word (keyword_of by) i.rest) _ _ _ h) [
     | holds e k ↦
         elim (part_of (sound (after i)) k) [
-          | part x m a k ↦
-              let b = ands_sound turns (And left x) m c o k in
-              let w = word_seen word.And i.rest e in
-              let p = a.counts in
-              let q = b.counts in
-              record { form = form.and a.form b.form; tokens_are = cc; means = cc; nests = (a.nests, b.nests); counts = omega (arith, p, q) }
+          | part x m a k ↦ one_more left i x m c o (word_seen (keyword_of by) i.rest e) a (more_connected_sound turns (compound by left x) m c o k)
         ]
-    | fails e k ↦ record { form = form.no_and; tokens_are = cc; means = cc; nests = tt; counts = (let same : i.tests ≡ o.tests = cc in omega (arith, same)) }
+    | fails e k ↦ none left i c o k
   ]
 
+  connected_sound : (IsWhole : Input → Condition → Input → Type 0) → ((i : Input) (x : Condition) (m : Input) (c : Condition) (o : Input) → IsSide i x m → IsMore x m c o → IsWhole i c o)
+      → (i : Input) (c : Condition) (o : Input) → connected by side i ≡ read c o → IsWhole i c o
+  unfolding connected
+  connected_sound IsWhole whole i c o h = elim (part_of (sound i) h) [ part x m a k ↦ whole i x m c o a (more_connected_sound m.tests x m c o k) ]
+
+module _ (depth : ℕ) where
+  no_and : (left : Condition) (i : Input) (c : Condition) (o : Input) → read left i ≡ read c o → IsAnds depth left i c o
+  no_and left i c o h = record { form = form.no_and; tokens_are = cc; means = cc; nests = tt; counts = cc }
+
+  and_one : (left : Condition) (i : Input) (x : Condition) (m : Input) (c : Condition) (o : Input) →
+      i.rest ≡ token.Word word.And ∷ drop 1 i.rest → IsPrim depth (after i) x m → IsAnds depth (And left x) m c o → IsAnds depth left i c o
+  and_one left i x m c o w a b =
+      let p = a.counts in
+      let q = b.counts in
+      record { form = form.and a.form b.form; tokens_are = cc; means = cc; nests = (a.nests, b.nests); counts = omega (arith, p, q) }
+
+  all_ands : (i : Input) (x : Condition) (m : Input) (c : Condition) (o : Input) → IsPrim depth i x m → IsAnds depth x m c o → IsConj depth i c o
+  all_ands i x m c o a b =
+      let p = a.counts in
+      let q = b.counts in
+      record { form = form.ands a.form b.form; tokens_are = cc; means = cc; nests = (a.nests, b.nests); counts = omega (arith, p, q) }
+
+  no_or : (left : Condition) (i : Input) (c : Condition) (o : Input) → read left i ≡ read c o → IsOrs depth left i c o
+  no_or left i c o h = record { form = form.no_or; tokens_are = cc; means = cc; nests = tt; counts = cc }
+
+  or_one : (left : Condition) (i : Input) (x : Condition) (m : Input) (c : Condition) (o : Input) →
+      i.rest ≡ token.Word word.Or ∷ drop 1 i.rest → IsConj depth (after i) x m → IsOrs depth (Or left x) m c o → IsOrs depth left i c o
+  or_one left i x m c o w a b =
+      let p = a.counts in
+      let q = b.counts in
+      record { form = form.or a.form b.form; tokens_are = cc; means = cc; nests = (a.nests, b.nests); counts = omega (arith, p, q) }
+
+  all_ors : (i : Input) (x : Condition) (m : Input) (c : Condition) (o : Input) → IsConj depth i x m → IsOrs depth x m c o → IsCond depth i c o
+  all_ors i x m c o a b =
+      let p = a.counts in
+      let q = b.counts in
+      record { form = form.ors a.form b.form; tokens_are = cc; means = cc; nests = (a.nests, b.nests); counts = omega (arith, p, q) }
+
+module _ (depth : ℕ) (prim : Conditions) (sound : (i : Input) (c : Condition) (o : Input) → prim i ≡ read c o → IsPrim depth i c o) where
   conj_sound : (i : Input) (c : Condition) (o : Input) → conj prim i ≡ read c o → IsConj depth i c o
-  unfolding conj
-  conj_sound i c o h =
-      elim (part_of (sound i) h) [
-        | part x m a k ↦
-            let b = ands_sound m.tests x m c o k in
-            let p = a.counts in
-            let q = b.counts in
-            record { form = form.ands a.form b.form; tokens_are = cc; means = cc; nests = (a.nests, b.nests); counts = omega (arith, p, q) }
-      ]
-
-  ors_sound : (turns : ℕ) (left : Condition) (i : Input) (c : Condition) (o : Input) → ors prim turns left i ≡ read c o → IsOrs depth left i c o
-  unfolding ors
-  ors_sound zero left i c o h = elim (branch (sees_word word.Or i.rest) _ _ _ h) [
-    | holds e k ↦ absurd (cc)
-    | fails e k ↦ record { form = form.no_or; tokens_are = cc; means = cc; nests = tt; counts = (let same : i.tests ≡ o.tests = cc in omega (arith, same)) }
-  ]
-  ors_sound (suc turns) left i c o h = elim (branch (sees_word word.Or i.rest) _ _ _ h) [
-    | holds e k ↦
-        elim (part_of (conj_sound (after i)) k) [
-          | part x m a k ↦
-              let b = ors_sound turns (Or left x) m c o k in
-              let w = word_seen word.Or i.rest e in
-              let p = a.counts in
-              let q = b.counts in
-              record { form = form.or a.form b.form; tokens_are = cc; means = cc; nests = (a.nests, b.nests); counts = omega (arith, p, q) }
-        ]
-    | fails e k ↦ record { form = form.no_or; tokens_are = cc; means = cc; nests = tt; counts = (let same : i.tests ≡ o.tests = cc in omega (arith, same)) }
-  ]
+  conj_sound = connected_sound connective.And prim (IsPrim depth) (IsAnds depth) sound (no_and depth) (and_one depth) (IsConj depth) (all_ands depth)
 
   cond_sound_by : (i : Input) (c : Condition) (o : Input) → cond prim i ≡ read c o → IsCond depth i c o
-  unfolding cond
-  cond_sound_by i c o h =
-      elim (part_of (conj_sound i) h) [
-        | part x m a k ↦
-            let b = ors_sound m.tests x m c o k in
-            let p = a.counts in
-            let q = b.counts in
-            record { form = form.ors a.form b.form; tokens_are = cc; means = cc; nests = (a.nests, b.nests); counts = omega (arith, p, q) }
-      ]
+  cond_sound_by = connected_sound connective.Or (conj prim) (IsConj depth) (IsOrs depth) conj_sound (no_or depth) (or_one depth) (IsCond depth) (all_ors depth)
 
   parens_sound : (i : Input) (c : Condition) (o : Input) → parens prim i ≡ read c o → IsCond depth i c (at (token.Symbol symbol.Close ∷ o.rest) o.tests)
   unfolding parens
@@ -158,8 +162,9 @@ module _ (depth : ℕ) (prim : Conditions) (sound : (i : Input) (c : Condition) 
               | part _ rest w k ↦
                   let end : rest ≡ o.rest = cc in
                   let tests : m.tests ≡ o.tests = cc in
+                  let same : comparisons x ≡ comparisons c = cc in
                   let p = a.counts in
-                  record { form = a.form; tokens_are = cc; means = cc; nests = a.nests; counts = omega (arith, tests, p) }
+                  record { form = a.form; tokens_are = cc; means = cc; nests = a.nests; counts = omega (arith, tests, same, p) }
             ]
       ]
 
@@ -172,8 +177,10 @@ prim_sound (suc depth) i c o h = elim (branch (sees_word word.Not i.rest) _ _ _ 
         | part x m a k ↦
             let w = word_seen word.Not i.rest e in
             let tests : m.tests ≡ o.tests = cc in
+            let is : Not x ≡ c = cc in
+            let same = ap comparisons is in
             let p = a.counts in
-            record { form = form.not a.form; tokens_are = cc; means = cc; nests = a.nests; counts = omega (arith, tests, p) }
+            record { form = form.not a.form; tokens_are = cc; means = cc; nests = a.nests; counts = omega (arith, tests, same, p) }
       ]
   | fails e k ↦ elim (branch (sees_symbol symbol.Open i.rest) _ _ _ k) [
     | holds f k ↦
