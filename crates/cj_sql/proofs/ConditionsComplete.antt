@@ -51,6 +51,11 @@ ands_rank : (more : AndsForm) (rest : List Token) → 2 < rank rest → 0 < rank
 ands_rank form.no_and rest e = omega (arith, e)
 ands_rank (form.and p more) rest e = omega arith
 
+-- The reader reads each form that nests so, where what follows is above the level, and takes its comparisons from those that may come.
+abbrev IsComplete : {F : Type 0} → (F → List Token → List Token) → (F → Condition) → (F → Type 0) → ℕ → Conditions → Type 0
+IsComplete {F = F} tokens_of meant Nests level reader =
+    (f : F) (rest : List Token) (n k : ℕ) → Nests f → level < rank rest → n ≡ comparisons (meant f) + k → reader (at (tokens_of f rest) n) ≡ read (meant f) (at rest k)
+
 test_complete : (a : TermForm) (op : Cmp) (b : TermForm) (rest : List Token) (n k : ℕ) → TermFits a → TermFits b → 0 < rank rest → n ≡ 1 + k
     → compared (at (prim_tokens (form.test a op b) rest) n) ≡ read (Test op (term_meant a) (term_meant b)) (at rest k)
 unfolding compared
@@ -72,66 +77,62 @@ seen w = true_same keyword_type.the_type w w refl
 
 -- What a connective joins, over a reader of its sides.
 module _ (by : Connective) (side : Conditions) where
-  -- where its word doesn't follow, the condition ends
-  ends : (turns : ℕ) (left : Condition) (i : Input) → sees_word (keyword_of by) i.rest ≡ false → more_connected by side turns left i ≡ read left i
+  -- after a condition, with comparisons enough and turns for each, the whole is read
+  abbrev GoesOn : Condition → List Token → Condition → List Token → ℕ → Type 0
+  GoesOn left ts whole rest k = (turns n : ℕ) → comparisons left + n ≡ comparisons whole + k → n ≤ turns → more_connected by side turns left (at ts n) ≡ read whole (at rest k)
+
+  -- so it is where the word doesn't follow
+  none : (left : Condition) (rest : List Token) (k : ℕ) → sees_word (keyword_of by) rest ≡ false → GoesOn left rest left rest k
   unfolding more_connected
-  ends zero left i h = rw h refl
-  ends (suc turns) left i h = rw h refl
+  none left rest k unseen zero n h room = let same : n ≡ k = omega (arith, h) in rw (unseen, same) refl
+  none left rest k unseen (suc turns) n h room = let same : n ≡ k = omega (arith, h) in rw (unseen, same) refl
 
-  -- where it does, a side more is read
-  goes_on : (turns : ℕ) (left right : Condition) (i m : Input) → 0 < turns → sees_word (keyword_of by) i.rest ≡ true → side (after i) ≡ read right m
-      → more_connected by side turns left i ≡ more_connected by side (turns - 1) (compound by left right) m
-  unfolding more_connected
-  goes_on zero left right i m some h e = absurd (omega (arith, some))
-  goes_on (suc turns) left right i m some h e = let one : suc turns - 1 ≡ turns = omega arith in rw (h, e, one) refl
+  module _ (right whole : Condition) (ts us rest : List Token) (k : ℕ) (reads : (n m : ℕ) → n ≡ comparisons right + m → side (at ts n) ≡ read right (at us m)) where
+    -- where it does, after a side and what follows
+    more : (left : Condition) → comparisons (compound by left right) ≡ comparisons left + comparisons right → comparisons (compound by left right) ≤ comparisons whole
+        → GoesOn (compound by left right) us whole rest k → GoesOn left (token.Word (keyword_of by) ∷ ts) whole rest k
+    unfolding more_connected
+    more left both fits goes zero n h room = let some = some_comparisons right in absurd (omega (arith, some, both, fits, h, room))
+    more left both fits goes (suc turns) n h room =
+        let some = some_comparisons right in
+        let m = n - comparisons right in
+        rw (seen (keyword_of by), reads n m (omega (arith, both, fits, h))) (goes turns m (omega (arith, both, fits, h)) (omega (arith, some, both, fits, h, room)))
 
-  -- the first side is read
-  begins : (left : Condition) (i m : Input) → side i ≡ read left m → connected by side i ≡ more_connected by side m.tests left m
-  unfolding connected
-  begins left i m e = rw e refl
+    -- and so the first side and what follows are read
+    first : comparisons right ≤ comparisons whole → GoesOn right us whole rest k → (n : ℕ) → n ≡ comparisons whole + k → connected by side (at ts n) ≡ read whole (at rest k)
+    unfolding connected
+    first fits goes n h =
+        let m = n - comparisons right in
+        rw (reads n m (omega (arith, fits, h))) (goes m m (omega (arith, fits, h)) (omega arith))
 
-module _ (depth : ℕ) (prim : Conditions)
-    (complete : (f : PrimForm) (rest : List Token) (n k : ℕ) → PrimNests depth f → 0 < rank rest → n ≡ comparisons (prim_meant f) + k → prim (at (prim_tokens f rest) n) ≡ read (prim_meant f) (at rest k)) where
-  ands_complete : (f : AndsForm) (turns : ℕ) (left : Condition) (rest : List Token) (n k : ℕ) → AndsNest depth f → 2 < rank rest → comparisons left + n ≡ comparisons (ands_meant left f) + k → n ≤ turns
-      → more_connected connective.And prim turns left (at (ands_tokens f rest) n) ≡ read (ands_meant left f) (at rest k)
-  ands_complete form.no_and turns left rest n k nests e h room = let same : n ≡ k = omega (arith, h) in rw same (ends connective.And prim turns left (at rest k) (no_word word.And rest e))
-  ands_complete (form.and p more) turns left rest n k nests e h room =
-      let some = some_comparisons (prim_meant p) in
-      let grow = ands_grow (And left (prim_meant p)) more in
-      let m = n - comparisons (prim_meant p) in
-      let next = complete p (ands_tokens more rest) n m nests.0 (ands_rank more rest e) (omega (arith, grow, h)) in
-      goes_on connective.And prim turns left (prim_meant p) (at (ands_tokens (form.and p more) rest) n) (at (ands_tokens more rest) m) (omega (arith, some, grow, h, room)) (seen word.And) next
-      ∙ ands_complete more (turns - 1) (And left (prim_meant p)) rest m k nests.1 e (omega (arith, grow, h)) (omega (arith, some, grow, h, room))
+module _ (depth : ℕ) (prim : Conditions) (complete : IsComplete prim_tokens prim_meant (PrimNests depth) 0 prim) where
+  ands_complete : (f : AndsForm) (left : Condition) (rest : List Token) (k : ℕ) → AndsNest depth f → 2 < rank rest → GoesOn connective.And prim left (ands_tokens f rest) (ands_meant left f) rest k
+  ands_complete form.no_and left rest k nests e = none connective.And prim left rest k (no_word word.And rest e)
+  ands_complete (form.and p fs) left rest k nests e =
+      let reads = λ (n m : ℕ). complete p (ands_tokens fs rest) n m nests.0 (ands_rank fs rest e) in
+      let goes = ands_complete fs (And left (prim_meant p)) rest k nests.1 e in
+      more connective.And prim _ _ _ _ _ _ reads left refl (ands_grow (And left (prim_meant p)) fs) goes
 
-  conj_complete : (f : ConjForm) (rest : List Token) (n k : ℕ) → ConjNests depth f → 2 < rank rest → n ≡ comparisons (conj_meant f) + k
-      → conj prim (at (conj_tokens f rest) n) ≡ read (conj_meant f) (at rest k)
-  conj_complete (form.ands p more) rest n k nests e h =
-      let grow = ands_grow (prim_meant p) more in
-      let m = n - comparisons (prim_meant p) in
-      let first = complete p (ands_tokens more rest) n m nests.0 (ands_rank more rest e) (omega (arith, grow, h)) in
-      begins connective.And prim (prim_meant p) (at (conj_tokens (form.ands p more) rest) n) (at (ands_tokens more rest) m) first ∙ ands_complete more m (prim_meant p) rest m k nests.1 e (omega (arith, grow, h)) (omega arith)
+  conj_complete : IsComplete conj_tokens conj_meant (ConjNests depth) 2 (conj prim)
+  conj_complete (form.ands p fs) rest n k nests e h =
+      let reads = λ (n m : ℕ). complete p (ands_tokens fs rest) n m nests.0 (ands_rank fs rest e) in
+      let goes = ands_complete fs (prim_meant p) rest k nests.1 e in
+      first connective.And prim _ _ _ _ _ _ reads (ands_grow (prim_meant p) fs) goes n h
 
-  ors_complete : (f : OrsForm) (turns : ℕ) (left : Condition) (rest : List Token) (n k : ℕ) → OrsNest depth f → 3 < rank rest → comparisons left + n ≡ comparisons (ors_meant left f) + k → n ≤ turns
-      → more_connected connective.Or (conj prim) turns left (at (ors_tokens f rest) n) ≡ read (ors_meant left f) (at rest k)
-  ors_complete form.no_or turns left rest n k nests e h room = let same : n ≡ k = omega (arith, h) in rw same (ends connective.Or (conj prim) turns left (at rest k) (no_word word.Or rest e))
-  ors_complete (form.or c more) turns left rest n k nests e h room =
-      let some = some_comparisons (conj_meant c) in
-      let grow = ors_grow (Or left (conj_meant c)) more in
-      let m = n - comparisons (conj_meant c) in
-      let next = conj_complete c (ors_tokens more rest) n m nests.0 (ors_rank more rest e) (omega (arith, grow, h)) in
-      goes_on connective.Or (conj prim) turns left (conj_meant c) (at (ors_tokens (form.or c more) rest) n) (at (ors_tokens more rest) m) (omega (arith, some, grow, h, room)) (seen word.Or) next
-      ∙ ors_complete more (turns - 1) (Or left (conj_meant c)) rest m k nests.1 e (omega (arith, grow, h)) (omega (arith, some, grow, h, room))
+  ors_complete : (f : OrsForm) (left : Condition) (rest : List Token) (k : ℕ) → OrsNest depth f → 3 < rank rest → GoesOn connective.Or (conj prim) left (ors_tokens f rest) (ors_meant left f) rest k
+  ors_complete form.no_or left rest k nests e = none connective.Or (conj prim) left rest k (no_word word.Or rest e)
+  ors_complete (form.or c fs) left rest k nests e =
+      let reads = λ (n m : ℕ). conj_complete c (ors_tokens fs rest) n m nests.0 (ors_rank fs rest e) in
+      let goes = ors_complete fs (Or left (conj_meant c)) rest k nests.1 e in
+      more connective.Or (conj prim) _ _ _ _ _ _ reads left refl (ors_grow (Or left (conj_meant c)) fs) goes
 
-  cond_complete_by : (f : CondForm) (rest : List Token) (n k : ℕ) → CondNests depth f → 3 < rank rest → n ≡ comparisons (cond_meant f) + k
-      → cond prim (at (cond_tokens f rest) n) ≡ read (cond_meant f) (at rest k)
-  cond_complete_by (form.ors c more) rest n k nests e h =
-      let grow = ors_grow (conj_meant c) more in
-      let m = n - comparisons (conj_meant c) in
-      let first = conj_complete c (ors_tokens more rest) n m nests.0 (ors_rank more rest e) (omega (arith, grow, h)) in
-      begins connective.Or (conj prim) (conj_meant c) (at (cond_tokens (form.ors c more) rest) n) (at (ors_tokens more rest) m) first ∙ ors_complete more m (conj_meant c) rest m k nests.1 e (omega (arith, grow, h)) (omega arith)
+  cond_complete_by : IsComplete cond_tokens cond_meant (CondNests depth) 3 (cond prim)
+  cond_complete_by (form.ors c fs) rest n k nests e h =
+      let reads = λ (n m : ℕ). conj_complete c (ors_tokens fs rest) n m nests.0 (ors_rank fs rest e) in
+      let goes = ors_complete fs (conj_meant c) rest k nests.1 e in
+      first connective.Or (conj prim) _ _ _ _ _ _ reads (ors_grow (conj_meant c) fs) goes n h
 
-prim_complete : (depth : ℕ) (f : PrimForm) (rest : List Token) (n k : ℕ) → PrimNests depth f → 0 < rank rest → n ≡ comparisons (prim_meant f) + k
-    → prim depth (at (prim_tokens f rest) n) ≡ read (prim_meant f) (at rest k)
+prim_complete : (depth : ℕ) → IsComplete prim_tokens prim_meant (PrimNests depth) 0 (prim depth)
 unfolding prim parens expect_symbol same_word same_symbol
 prim_complete zero (form.not p) rest n k nests e h = absurd nests
 prim_complete (suc depth) (form.not p) rest n k nests e h = rw (prim_complete depth p rest n k nests e h) refl
@@ -144,6 +145,5 @@ prim_complete (suc depth) (form.test a op b) rest n k nests e h =
     rw (term_no_not a next, term_no_open a next) (test_complete a op b rest n k nests.0 nests.1 e h)
 
 -- a condition is read
-pub cond_complete : (depth : ℕ) (f : CondForm) (rest : List Token) (n k : ℕ) → CondNests depth f → 3 < rank rest → n ≡ comparisons (cond_meant f) + k
-    → cond (prim depth) (at (cond_tokens f rest) n) ≡ read (cond_meant f) (at rest k)
+pub cond_complete : (depth : ℕ) → IsComplete cond_tokens cond_meant (CondNests depth) 3 (cond (prim depth))
 cond_complete depth = cond_complete_by depth (prim depth) (prim_complete depth)

@@ -47,7 +47,15 @@ comparison_sound ts op rest h = elim (part_of (symbol_sound ts) h) [
 
 -- ---- conditions
 
--- What stood there up to the rest is a form that nests so and means the condition, whose comparisons but those before it were taken from those that might come.
+-- a fact of an input, the condition read from it, and what is left
+abbrev Found : Type 1
+Found = Input → Condition → Input → Type 0
+
+-- All that the reader reads is so.
+abbrev Finds : Conditions → Found → Type 0
+Finds reader Fact = (i : Input) (c : Condition) (o : Input) → reader i ≡ read c o → Fact i c o
+
+-- What stood there up to the rest is a form that nests so and means the condition, and its comparisons, but those before it, were taken from those that might come.
 pub record IsPart {F : Type 0} (tokens_of : F → List Token → List Token) (meant : F → Condition) (Nests : F → Type 0) (before : ℕ) (i : Input) (c : Condition) (o : Input) : Type 0 where
   pub form : F
   pub tokens_are : i.rest ≡ tokens_of form o.rest
@@ -55,22 +63,22 @@ pub record IsPart {F : Type 0} (tokens_of : F → List Token → List Token) (me
   pub nests : Nests form
   pub counts : before + i.tests ≡ comparisons c + o.tests
 
-abbrev IsPrim : ℕ → Input → Condition → Input → Type 0
+abbrev IsPrim : ℕ → Found
 IsPrim depth = IsPart prim_tokens prim_meant (PrimNests depth) 0
 
-abbrev IsAnds : ℕ → Condition → Input → Condition → Input → Type 0
+abbrev IsAnds : ℕ → Condition → Found
 IsAnds depth left = IsPart ands_tokens (ands_meant left) (AndsNest depth) (comparisons left)
 
-abbrev IsConj : ℕ → Input → Condition → Input → Type 0
+abbrev IsConj : ℕ → Found
 IsConj depth = IsPart conj_tokens conj_meant (ConjNests depth) 0
 
-abbrev IsOrs : ℕ → Condition → Input → Condition → Input → Type 0
+abbrev IsOrs : ℕ → Condition → Found
 IsOrs depth left = IsPart ors_tokens (ors_meant left) (OrsNest depth) (comparisons left)
 
-abbrev pub IsCond : ℕ → Input → Condition → Input → Type 0
+abbrev pub IsCond : ℕ → Found
 IsCond depth = IsPart cond_tokens cond_meant (CondNests depth) 0
 
-test_sound : (depth : ℕ) (i : Input) (c : Condition) (o : Input) → compared i ≡ read c o → IsPrim depth i c o
+test_sound : (depth : ℕ) → Finds compared (IsPrim depth)
 unfolding compared
 test_sound depth i c o h = elim (branch (nat_lt 0 i.tests) _ _ _ h) [
   | holds e k ↦
@@ -91,67 +99,62 @@ test_sound depth i c o h = elim (branch (nat_lt 0 i.tests) _ _ _ h) [
   | fails e k ↦ absurd (cc)
 ]
 
--- What a connective joins: over a sound reader of its sides, where nothing more is a form, one more side and more is one, and so is one side and more.
-module _ (by : Connective) (side : Conditions) (IsSide : Input → Condition → Input → Type 0) (IsMore : Condition → Input → Condition → Input → Type 0)
-    (sound : (i : Input) (c : Condition) (o : Input) → side i ≡ read c o → IsSide i c o)
-    (none : (left : Condition) (i : Input) (c : Condition) (o : Input) → read left i ≡ read c o → IsMore left i c o)
-    (one_more : (left : Condition) (i : Input) (x : Condition) (m : Input) (c : Condition) (o : Input) →
-    i.rest ≡ token.Word (keyword_of by) ∷ drop 1 i.rest → IsSide (after i) x m → IsMore (compound by left x) m c o → IsMore left i c o) where
-  more_connected_sound : (turns : ℕ) (left : Condition) (i : Input) (c : Condition) (o : Input) → more_connected by side turns left i ≡ read c o → IsMore left i c o
+-- what a connective joins: nothing more after a condition; a side after it, and more; and a first side, and more
+record Joins (by : Connective) (IsSide : Found) (IsMore : Condition → Found) (IsWhole : Found) : Type 0 where
+  none : (left : Condition) → Finds (λ i. read left i) (IsMore left)
+  more : (left : Condition) (i : Input) (x : Condition) (m : Input) (c : Condition) (o : Input) → i.rest ≡ token.Word (keyword_of by) ∷ drop 1 i.rest →
+      IsSide (after i) x m → IsMore (compound by left x) m c o → IsMore left i c o
+  whole : (i : Input) (x : Condition) (m : Input) (c : Condition) (o : Input) → IsSide i x m → IsMore x m c o → IsWhole i c o
+
+module _ (by : Connective) (side : Conditions) (IsSide : Found) (IsMore : Condition → Found) (IsWhole : Found) (joins : Joins by IsSide IsMore IsWhole) (sound : Finds side IsSide) where
+  more_sound : (turns : ℕ) (left : Condition) → Finds (more_connected by side turns left) (IsMore left)
   unfolding more_connected
-  more_connected_sound zero left i c o h = elim (branch (sees_word (keyword_of by) i.rest) _ _ _ h) [ holds e k ↦ absurd (cc) | fails e k ↦ none left i c o k ]
-  more_connected_sound (suc turns) left i c o h = elim (branch (sees_word (keyword_of by) i.rest) _ _ _ h) [
+  more_sound zero left i c o h = elim (branch (sees_word (keyword_of by) i.rest) _ _ _ h) [ holds e k ↦ absurd (cc) | fails e k ↦ joins.none left i c o k ]
+  more_sound (suc turns) left i c o h = elim (branch (sees_word (keyword_of by) i.rest) _ _ _ h) [
     | holds e k ↦
         elim (part_of (sound (after i)) k) [
-          | part x m a k ↦ one_more left i x m c o (word_seen (keyword_of by) i.rest e) a (more_connected_sound turns (compound by left x) m c o k)
+          | part x m a k ↦ joins.more left i x m c o (word_seen (keyword_of by) i.rest e) a (more_sound turns (compound by left x) m c o k)
         ]
-    | fails e k ↦ none left i c o k
+    | fails e k ↦ joins.none left i c o k
   ]
 
-  connected_sound : (IsWhole : Input → Condition → Input → Type 0) → ((i : Input) (x : Condition) (m : Input) (c : Condition) (o : Input) → IsSide i x m → IsMore x m c o → IsWhole i c o)
-      → (i : Input) (c : Condition) (o : Input) → connected by side i ≡ read c o → IsWhole i c o
+  -- What they make is read where each side is.
+  connected_sound : Finds (connected by side) IsWhole
   unfolding connected
-  connected_sound IsWhole whole i c o h = elim (part_of (sound i) h) [ part x m a k ↦ whole i x m c o a (more_connected_sound m.tests x m c o k) ]
+  connected_sound i c o h = elim (part_of (sound i) h) [ part x m a k ↦ joins.whole i x m c o a (more_sound m.tests x m c o k) ]
 
-module _ (depth : ℕ) where
-  no_and : (left : Condition) (i : Input) (c : Condition) (o : Input) → read left i ≡ read c o → IsAnds depth left i c o
-  no_and left i c o h = record { form = form.no_and; tokens_are = cc; means = cc; nests = tt; counts = cc }
-
-  and_one : (left : Condition) (i : Input) (x : Condition) (m : Input) (c : Condition) (o : Input) →
-      i.rest ≡ token.Word word.And ∷ drop 1 i.rest → IsPrim depth (after i) x m → IsAnds depth (And left x) m c o → IsAnds depth left i c o
-  and_one left i x m c o w a b =
+and_joins : (depth : ℕ) → Joins connective.And (IsPrim depth) (IsAnds depth) (IsConj depth)
+and_joins depth = record {
+  none = λ left i c o h. record { form = form.no_and; tokens_are = cc; means = cc; nests = tt; counts = cc };
+  more = λ left i x m c o w a b.
       let p = a.counts in
       let q = b.counts in
-      record { form = form.and a.form b.form; tokens_are = cc; means = cc; nests = (a.nests, b.nests); counts = omega (arith, p, q) }
-
-  all_ands : (i : Input) (x : Condition) (m : Input) (c : Condition) (o : Input) → IsPrim depth i x m → IsAnds depth x m c o → IsConj depth i c o
-  all_ands i x m c o a b =
+      record { form = form.and a.form b.form; tokens_are = cc; means = cc; nests = (a.nests, b.nests); counts = omega (arith, p, q) };
+  whole = λ i x m c o a b.
       let p = a.counts in
       let q = b.counts in
-      record { form = form.ands a.form b.form; tokens_are = cc; means = cc; nests = (a.nests, b.nests); counts = omega (arith, p, q) }
+      record { form = form.ands a.form b.form; tokens_are = cc; means = cc; nests = (a.nests, b.nests); counts = omega (arith, p, q) };
+}
 
-  no_or : (left : Condition) (i : Input) (c : Condition) (o : Input) → read left i ≡ read c o → IsOrs depth left i c o
-  no_or left i c o h = record { form = form.no_or; tokens_are = cc; means = cc; nests = tt; counts = cc }
-
-  or_one : (left : Condition) (i : Input) (x : Condition) (m : Input) (c : Condition) (o : Input) →
-      i.rest ≡ token.Word word.Or ∷ drop 1 i.rest → IsConj depth (after i) x m → IsOrs depth (Or left x) m c o → IsOrs depth left i c o
-  or_one left i x m c o w a b =
+or_joins : (depth : ℕ) → Joins connective.Or (IsConj depth) (IsOrs depth) (IsCond depth)
+or_joins depth = record {
+  none = λ left i c o h. record { form = form.no_or; tokens_are = cc; means = cc; nests = tt; counts = cc };
+  more = λ left i x m c o w a b.
       let p = a.counts in
       let q = b.counts in
-      record { form = form.or a.form b.form; tokens_are = cc; means = cc; nests = (a.nests, b.nests); counts = omega (arith, p, q) }
-
-  all_ors : (i : Input) (x : Condition) (m : Input) (c : Condition) (o : Input) → IsConj depth i x m → IsOrs depth x m c o → IsCond depth i c o
-  all_ors i x m c o a b =
+      record { form = form.or a.form b.form; tokens_are = cc; means = cc; nests = (a.nests, b.nests); counts = omega (arith, p, q) };
+  whole = λ i x m c o a b.
       let p = a.counts in
       let q = b.counts in
-      record { form = form.ors a.form b.form; tokens_are = cc; means = cc; nests = (a.nests, b.nests); counts = omega (arith, p, q) }
+      record { form = form.ors a.form b.form; tokens_are = cc; means = cc; nests = (a.nests, b.nests); counts = omega (arith, p, q) };
+}
 
-module _ (depth : ℕ) (prim : Conditions) (sound : (i : Input) (c : Condition) (o : Input) → prim i ≡ read c o → IsPrim depth i c o) where
-  conj_sound : (i : Input) (c : Condition) (o : Input) → conj prim i ≡ read c o → IsConj depth i c o
-  conj_sound = connected_sound connective.And prim (IsPrim depth) (IsAnds depth) sound (no_and depth) (and_one depth) (IsConj depth) (all_ands depth)
+module _ (depth : ℕ) (prim : Conditions) (sound : Finds prim (IsPrim depth)) where
+  conj_sound : Finds (conj prim) (IsConj depth)
+  conj_sound = connected_sound connective.And prim (IsPrim depth) (IsAnds depth) (IsConj depth) (and_joins depth) sound
 
-  cond_sound_by : (i : Input) (c : Condition) (o : Input) → cond prim i ≡ read c o → IsCond depth i c o
-  cond_sound_by = connected_sound connective.Or (conj prim) (IsConj depth) (IsOrs depth) conj_sound (no_or depth) (or_one depth) (IsCond depth) (all_ors depth)
+  cond_sound_by : Finds (cond prim) (IsCond depth)
+  cond_sound_by = connected_sound connective.Or (conj prim) (IsConj depth) (IsOrs depth) (IsCond depth) (or_joins depth) conj_sound
 
   parens_sound : (i : Input) (c : Condition) (o : Input) → parens prim i ≡ read c o → IsCond depth i c (at (token.Symbol symbol.Close ∷ o.rest) o.tests)
   unfolding parens
@@ -168,7 +171,7 @@ module _ (depth : ℕ) (prim : Conditions) (sound : (i : Input) (c : Condition) 
             ]
       ]
 
-prim_sound : (depth : ℕ) (i : Input) (c : Condition) (o : Input) → prim depth i ≡ read c o → IsPrim depth i c o
+prim_sound : (depth : ℕ) → Finds (prim depth) (IsPrim depth)
 unfolding prim
 prim_sound zero i c o h = test_sound zero i c o h
 prim_sound (suc depth) i c o h = elim (branch (sees_word word.Not i.rest) _ _ _ h) [
@@ -193,5 +196,5 @@ prim_sound (suc depth) i c o h = elim (branch (sees_word word.Not i.rest) _ _ _ 
 ]
 
 -- a condition that was read stood there
-pub cond_sound : (depth : ℕ) (i : Input) (c : Condition) (o : Input) → cond (prim depth) i ≡ read c o → IsCond depth i c o
-cond_sound depth i c o h = cond_sound_by depth (prim depth) (prim_sound depth) i c o h
+pub cond_sound : (depth : ℕ) → Finds (cond (prim depth)) (IsCond depth)
+cond_sound depth = cond_sound_by depth (prim depth) (prim_sound depth)
