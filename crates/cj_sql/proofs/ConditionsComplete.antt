@@ -1,5 +1,5 @@
 -- A condition of the grammar is read.
-use Rattle.std.proofs.Common.{◌≡◌, ◌∙◌, refl, ℕ, zero, suc, ◌+◌, ◌-◌, ◌<◌, ◌≤◌, nat_lt, true, false, List, ◌∷◌, arith}
+use Rattle.std.proofs.Common.{◌≡◌, refl, ℕ, zero, suc, ◌+◌, ◌-◌, ◌<◌, ◌≤◌, nat_lt, true, false, List, ◌∷◌, arith}
 use Rattle.std.proofs.lemmas.Bool.Decides.{nat_tests}
 use denote.Enum.Bare.{true_same}
 use Rattle.cj_model.specs.contracts.token.Keyword as keyword_type
@@ -17,10 +17,10 @@ use Rattle.cj_model.specs.ConditionForms as form
 use Rattle.cj_sql.specs.declared.conditions.Connective.{Connective}
 use Rattle.cj_sql.specs.declared.conditions.Connective.TheVariants as connective
 use Rattle.cj_sql.specs.Reader.{read, same_word, same_symbol, sees_word, symbol_at, expect_symbol}
-use Rattle.cj_sql.specs.ConditionReader.{Input, at, after, Conditions, comparison, compared, keyword_of, compound, more_connected, connected, conj, cond, parens, prim}
+use Rattle.cj_sql.specs.ConditionReader.{at, Conditions, comparison, compared, keyword_of, compound, more_connected, connected, conj, cond, parens, prim}
 use Rattle.cj_sql.proofs.Ranks.{rank, no_word}
 use Rattle.cj_sql.proofs.TermsRead.{term_read, term_no_open, term_no_not}
-use Rattle.cj_sql.proofs.Counts.{some_comparisons, ors_grow, ands_grow}
+use Rattle.cj_sql.proofs.Counts.{some_comparisons, compound_counts, ors_grow, ands_grow}
 
 -- a comparison's symbol is read
 comparison_complete : (op : Cmp) (rest : List Token) → comparison (cmp_token op ∷ rest) ≡ read op rest
@@ -75,31 +75,32 @@ seen : (w : Keyword) → same_word w w ≡ true
 unfolding same_word
 seen w = true_same keyword_type.the_type w w refl
 
--- What a connective joins, over a reader of its sides.
-module _ (by : Connective) (side : Conditions) where
-  -- after a condition, with comparisons enough and turns for each, the whole is read
-  abbrev GoesOn : Condition → List Token → Condition → List Token → ℕ → Type 0
-  GoesOn left ts whole rest k = (turns n : ℕ) → comparisons left + n ≡ comparisons whole + k → n ≤ turns → more_connected by side turns left (at ts n) ≡ read whole (at rest k)
+-- After a condition, with comparisons enough and turns for each, the whole of what a connective joins is read.
+abbrev GoesOn : Connective → Conditions → Condition → List Token → Condition → List Token → ℕ → Type 0
+GoesOn by side left ts whole rest k =
+    (turns n : ℕ) → comparisons left + n ≡ comparisons whole + k → n ≤ turns → more_connected by side turns left (at ts n) ≡ read whole (at rest k)
 
+module _ (by : Connective) (side : Conditions) where
   -- so it is where the word doesn't follow
-  none : (left : Condition) (rest : List Token) (k : ℕ) → sees_word (keyword_of by) rest ≡ false → GoesOn left rest left rest k
+  none : (left : Condition) (rest : List Token) (k : ℕ) → sees_word (keyword_of by) rest ≡ false → GoesOn by side left rest left rest k
   unfolding more_connected
   none left rest k unseen zero n h room = let same : n ≡ k = omega (arith, h) in rw (unseen, same) refl
   none left rest k unseen (suc turns) n h room = let same : n ≡ k = omega (arith, h) in rw (unseen, same) refl
 
-  module _ (right whole : Condition) (ts us rest : List Token) (k : ℕ) (reads : (n m : ℕ) → n ≡ comparisons right + m → side (at ts n) ≡ read right (at us m)) where
+  module _ {right whole : Condition} {ts us rest : List Token} {k : ℕ} (reads : (n m : ℕ) → n ≡ comparisons right + m → side (at ts n) ≡ read right (at us m)) where
     -- where it does, after a side and what follows
-    more : (left : Condition) → comparisons (compound by left right) ≡ comparisons left + comparisons right → comparisons (compound by left right) ≤ comparisons whole
-        → GoesOn (compound by left right) us whole rest k → GoesOn left (token.Word (keyword_of by) ∷ ts) whole rest k
+    more : (left : Condition) → comparisons (compound by left right) ≤ comparisons whole
+        → GoesOn by side (compound by left right) us whole rest k → GoesOn by side left (token.Word (keyword_of by) ∷ ts) whole rest k
     unfolding more_connected
-    more left both fits goes zero n h room = let some = some_comparisons right in absurd (omega (arith, some, both, fits, h, room))
-    more left both fits goes (suc turns) n h room =
+    more left fits goes zero n h room = let some = some_comparisons right in let both = compound_counts by left right in absurd (omega (arith, some, both, fits, h, room))
+    more left fits goes (suc turns) n h room =
         let some = some_comparisons right in
+        let both = compound_counts by left right in
         let m = n - comparisons right in
         rw (seen (keyword_of by), reads n m (omega (arith, both, fits, h))) (goes turns m (omega (arith, both, fits, h)) (omega (arith, some, both, fits, h, room)))
 
     -- and so the first side and what follows are read
-    first : comparisons right ≤ comparisons whole → GoesOn right us whole rest k → (n : ℕ) → n ≡ comparisons whole + k → connected by side (at ts n) ≡ read whole (at rest k)
+    first : comparisons right ≤ comparisons whole → GoesOn by side right us whole rest k → (n : ℕ) → n ≡ comparisons whole + k → connected by side (at ts n) ≡ read whole (at rest k)
     unfolding connected
     first fits goes n h =
         let m = n - comparisons right in
@@ -111,26 +112,26 @@ module _ (depth : ℕ) (prim : Conditions) (complete : IsComplete prim_tokens pr
   ands_complete (form.and p fs) left rest k nests e =
       let reads = λ (n m : ℕ). complete p (ands_tokens fs rest) n m nests.0 (ands_rank fs rest e) in
       let goes = ands_complete fs (And left (prim_meant p)) rest k nests.1 e in
-      more connective.And prim _ _ _ _ _ _ reads left refl (ands_grow (And left (prim_meant p)) fs) goes
+      more connective.And prim reads left (ands_grow (And left (prim_meant p)) fs) goes
 
   conj_complete : IsComplete conj_tokens conj_meant (ConjNests depth) 2 (conj prim)
   conj_complete (form.ands p fs) rest n k nests e h =
       let reads = λ (n m : ℕ). complete p (ands_tokens fs rest) n m nests.0 (ands_rank fs rest e) in
       let goes = ands_complete fs (prim_meant p) rest k nests.1 e in
-      first connective.And prim _ _ _ _ _ _ reads (ands_grow (prim_meant p) fs) goes n h
+      first connective.And prim reads (ands_grow (prim_meant p) fs) goes n h
 
   ors_complete : (f : OrsForm) (left : Condition) (rest : List Token) (k : ℕ) → OrsNest depth f → 3 < rank rest → GoesOn connective.Or (conj prim) left (ors_tokens f rest) (ors_meant left f) rest k
   ors_complete form.no_or left rest k nests e = none connective.Or (conj prim) left rest k (no_word word.Or rest e)
   ors_complete (form.or c fs) left rest k nests e =
       let reads = λ (n m : ℕ). conj_complete c (ors_tokens fs rest) n m nests.0 (ors_rank fs rest e) in
       let goes = ors_complete fs (Or left (conj_meant c)) rest k nests.1 e in
-      more connective.Or (conj prim) _ _ _ _ _ _ reads left refl (ors_grow (Or left (conj_meant c)) fs) goes
+      more connective.Or (conj prim) reads left (ors_grow (Or left (conj_meant c)) fs) goes
 
   cond_complete_by : IsComplete cond_tokens cond_meant (CondNests depth) 3 (cond prim)
   cond_complete_by (form.ors c fs) rest n k nests e h =
       let reads = λ (n m : ℕ). conj_complete c (ors_tokens fs rest) n m nests.0 (ors_rank fs rest e) in
       let goes = ors_complete fs (conj_meant c) rest k nests.1 e in
-      first connective.Or (conj prim) _ _ _ _ _ _ reads (ors_grow (conj_meant c) fs) goes n h
+      first connective.Or (conj prim) reads (ors_grow (conj_meant c) fs) goes n h
 
 prim_complete : (depth : ℕ) → IsComplete prim_tokens prim_meant (PrimNests depth) 0 (prim depth)
 unfolding prim parens expect_symbol same_word same_symbol

@@ -7,7 +7,7 @@ use Rattle.cj_model.specs.declared.token.Keyword.TheVariants as word
 use Rattle.cj_model.specs.declared.token.Symbol.{Symbol}
 use Rattle.cj_model.specs.declared.token.Symbol.TheVariants as symbol
 use Rattle.cj_model.specs.declared.term.Cmp.{Cmp}
-use Rattle.cj_model.specs.Conditions.{Condition, Test, Not, And, Or}
+use Rattle.cj_model.specs.Conditions.{Condition, Test, Not}
 use Rattle.cj_model.specs.ConditionForms.{CondForm, OrsForm, ConjForm, AndsForm, PrimForm, cmp_token, cond_tokens, ors_tokens, conj_tokens, ands_tokens, prim_tokens, cond_meant, ors_meant, conj_meant, ands_meant, prim_meant, CondNests, OrsNest, ConjNests, AndsNest, PrimNests, comparisons}
 use Rattle.cj_model.specs.ConditionForms as form
 use Rattle.cj_sql.specs.declared.conditions.Connective.{Connective}
