@@ -1,16 +1,13 @@
 -- A condition of the grammar is read.
 use Rattle.std.proofs.Common.{◌≡◌, refl, ℕ, zero, suc, ◌+◌, ◌-◌, ◌<◌, ◌≤◌, nat_lt, true, false, List, ◌∷◌, arith}
 use Rattle.std.proofs.lemmas.Bool.Decides.{nat_tests}
-use denote.Enum.Bare.{true_same}
-use Rattle.cj_model.specs.contracts.token.Keyword as keyword_type
 use Rattle.cj_model.specs.declared.token.Token.{Token}
 use Rattle.cj_model.specs.declared.token.Token.TheVariants as token
-use Rattle.cj_model.specs.declared.token.Keyword.{Keyword}
 use Rattle.cj_model.specs.declared.token.Keyword.TheVariants as word
 use Rattle.cj_model.specs.declared.token.Symbol.TheVariants as symbol
 use Rattle.cj_model.specs.declared.term.Cmp.{Cmp}
 use Rattle.cj_model.specs.declared.term.Cmp.TheVariants as cmp
-use Rattle.cj_model.specs.Conditions.{Condition, Test, And, Or}
+use Rattle.cj_model.specs.Conditions.{Condition, Test, Not, And, Or}
 use Rattle.cj_model.specs.TermForms.{TermForm, term_tokens, term_meant, TermFits}
 use Rattle.cj_model.specs.ConditionForms.{CondForm, OrsForm, ConjForm, AndsForm, PrimForm, cmp_token, cond_tokens, ors_tokens, conj_tokens, ands_tokens, prim_tokens, cond_meant, ors_meant, conj_meant, ands_meant, prim_meant, CondNests, OrsNest, ConjNests, AndsNest, PrimNests, comparisons}
 use Rattle.cj_model.specs.ConditionForms as form
@@ -18,9 +15,9 @@ use Rattle.cj_sql.specs.declared.conditions.Connective.{Connective}
 use Rattle.cj_sql.specs.declared.conditions.Connective.TheVariants as connective
 use Rattle.cj_sql.specs.Reader.{read, same_word, same_symbol, sees_word, symbol_at, expect_symbol}
 use Rattle.cj_sql.specs.ConditionReader.{at, Conditions, comparison, compared, keyword_of, compound, more_connected, connected, conj, cond, parens, prim}
+use Rattle.cj_sql.proofs.Front.{word_sees}
 use Rattle.cj_sql.proofs.Ranks.{rank, no_word}
 use Rattle.cj_sql.proofs.TermsRead.{term_read, term_no_open, term_no_not}
-use Rattle.cj_sql.proofs.Counts.{some_comparisons, compound_counts, ors_grow, ands_grow}
 
 -- a comparison's symbol is read
 comparison_complete : (op : Cmp) (rest : List Token) → comparison (cmp_token op ∷ rest) ≡ read op rest
@@ -51,6 +48,28 @@ ands_rank : (more : AndsForm) (rest : List Token) → 2 < rank rest → 0 < rank
 ands_rank form.no_and rest e = omega (arith, e)
 ands_rank (form.and p more) rest e = omega arith
 
+-- there is one comparison at least
+some_comparisons : (c : Condition) → 0 < comparisons c
+some_comparisons (Test op a b) = omega arith
+some_comparisons (Not c) = some_comparisons c
+some_comparisons (And c d) = let e = some_comparisons c in omega (arith, e)
+some_comparisons (Or c d) = let e = some_comparisons c in omega (arith, e)
+
+-- a connective's condition has those of both
+compound_counts : (by : Connective) (c d : Condition) → comparisons (compound by c d) ≡ comparisons c + comparisons d
+compound_counts connective.And c d = refl
+compound_counts connective.Or c d = refl
+
+-- what follows behind ORs adds to those before it
+ors_grow : (left : Condition) (f : OrsForm) → comparisons left ≤ comparisons (ors_meant left f)
+ors_grow left form.no_or = omega arith
+ors_grow left (form.or c more) = let e = ors_grow (Or left (conj_meant c)) more in omega (arith, e)
+
+-- and so does what follows behind ANDs
+ands_grow : (left : Condition) (f : AndsForm) → comparisons left ≤ comparisons (ands_meant left f)
+ands_grow left form.no_and = omega arith
+ands_grow left (form.and p more) = let e = ands_grow (And left (prim_meant p)) more in omega (arith, e)
+
 -- The reader reads each form that nests so, where what follows is above the level, and takes its comparisons from those that may come.
 abbrev IsComplete : {F : Type 0} → (F → List Token → List Token) → (F → Condition) → (F → Type 0) → ℕ → Conditions → Type 0
 IsComplete {F = F} tokens_of meant Nests level reader =
@@ -69,11 +88,6 @@ test_complete a op b rest n k fa fb e h =
       term_read.complete b rest fb e,
       one,
     ) refl
-
--- a word is itself
-seen : (w : Keyword) → same_word w w ≡ true
-unfolding same_word
-seen w = true_same keyword_type.the_type w w refl
 
 -- After a condition, with comparisons enough and turns for each, the whole of what a connective joins is read.
 abbrev GoesOn : Connective → Conditions → Condition → List Token → Condition → List Token → ℕ → Type 0
@@ -97,7 +111,7 @@ module _ (by : Connective) (side : Conditions) where
         let some = some_comparisons right in
         let both = compound_counts by left right in
         let m = n - comparisons right in
-        rw (seen (keyword_of by), reads n m (omega (arith, both, fits, h))) (goes turns m (omega (arith, both, fits, h)) (omega (arith, some, both, fits, h, room)))
+        rw (word_sees (keyword_of by) ts, reads n m (omega (arith, both, fits, h))) (goes turns m (omega (arith, both, fits, h)) (omega (arith, some, both, fits, h, room)))
 
     -- and so the first side and what follows are read
     first : comparisons right ≤ comparisons whole → GoesOn by side right us whole rest k → (n : ℕ) → n ≡ comparisons whole + k → connected by side (at ts n) ≡ read whole (at rest k)
@@ -110,28 +124,22 @@ module _ (depth : ℕ) (prim : Conditions) (complete : IsComplete prim_tokens pr
   ands_complete : (f : AndsForm) (left : Condition) (rest : List Token) (k : ℕ) → AndsNest depth f → 2 < rank rest → GoesOn connective.And prim left (ands_tokens f rest) (ands_meant left f) rest k
   ands_complete form.no_and left rest k nests e = none connective.And prim left rest k (no_word word.And rest e)
   ands_complete (form.and p fs) left rest k nests e =
-      let reads = λ (n m : ℕ). complete p (ands_tokens fs rest) n m nests.0 (ands_rank fs rest e) in
-      let goes = ands_complete fs (And left (prim_meant p)) rest k nests.1 e in
-      more connective.And prim reads left (ands_grow (And left (prim_meant p)) fs) goes
+      more connective.And prim (λ n m. complete p (ands_tokens fs rest) n m nests.0 (ands_rank fs rest e)) left (ands_grow (And left (prim_meant p)) fs)
+      (ands_complete fs (And left (prim_meant p)) rest k nests.1 e)
 
   conj_complete : IsComplete conj_tokens conj_meant (ConjNests depth) 2 (conj prim)
   conj_complete (form.ands p fs) rest n k nests e h =
-      let reads = λ (n m : ℕ). complete p (ands_tokens fs rest) n m nests.0 (ands_rank fs rest e) in
-      let goes = ands_complete fs (prim_meant p) rest k nests.1 e in
-      first connective.And prim reads (ands_grow (prim_meant p) fs) goes n h
+      first connective.And prim (λ n m. complete p (ands_tokens fs rest) n m nests.0 (ands_rank fs rest e)) (ands_grow (prim_meant p) fs) (ands_complete fs (prim_meant p) rest k nests.1 e) n h
 
   ors_complete : (f : OrsForm) (left : Condition) (rest : List Token) (k : ℕ) → OrsNest depth f → 3 < rank rest → GoesOn connective.Or (conj prim) left (ors_tokens f rest) (ors_meant left f) rest k
   ors_complete form.no_or left rest k nests e = none connective.Or (conj prim) left rest k (no_word word.Or rest e)
   ors_complete (form.or c fs) left rest k nests e =
-      let reads = λ (n m : ℕ). conj_complete c (ors_tokens fs rest) n m nests.0 (ors_rank fs rest e) in
-      let goes = ors_complete fs (Or left (conj_meant c)) rest k nests.1 e in
-      more connective.Or (conj prim) reads left (ors_grow (Or left (conj_meant c)) fs) goes
+      more connective.Or (conj prim) (λ n m. conj_complete c (ors_tokens fs rest) n m nests.0 (ors_rank fs rest e)) left (ors_grow (Or left (conj_meant c)) fs)
+      (ors_complete fs (Or left (conj_meant c)) rest k nests.1 e)
 
   cond_complete_by : IsComplete cond_tokens cond_meant (CondNests depth) 3 (cond prim)
   cond_complete_by (form.ors c fs) rest n k nests e h =
-      let reads = λ (n m : ℕ). conj_complete c (ors_tokens fs rest) n m nests.0 (ors_rank fs rest e) in
-      let goes = ors_complete fs (conj_meant c) rest k nests.1 e in
-      first connective.Or (conj prim) reads (ors_grow (conj_meant c) fs) goes n h
+      first connective.Or (conj prim) (λ n m. conj_complete c (ors_tokens fs rest) n m nests.0 (ors_rank fs rest e)) (ors_grow (conj_meant c) fs) (ors_complete fs (conj_meant c) rest k nests.1 e) n h
 
 prim_complete : (depth : ℕ) → IsComplete prim_tokens prim_meant (PrimNests depth) 0 (prim depth)
 unfolding prim parens expect_symbol same_word same_symbol

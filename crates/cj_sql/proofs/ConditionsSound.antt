@@ -92,7 +92,7 @@ test_sound depth i c o h = elim (branch (nat_lt 0 i.tests) _ _ _ h) [
                         let less : i.tests - 1 ≡ o.tests = cc in
                         let is : Test op left right ≡ c = cc in
                         let one = ap comparisons is in
-                        record { form = form.test a.form op b.form; tokens_are = cc; means = cc; nests = (a.fits, b.fits); counts = omega (arith, some, less, one) }
+                        record { form = form.test a.form op b.form; tokens_are = cc; means = cc; nests = (a.fits, b.fits); counts = omega arith }
                   ]
             ]
       ]
@@ -126,27 +126,15 @@ module _ (by : Connective) (side : Conditions) (IsSide : Found) (IsMore : Condit
 and_joins : (depth : ℕ) → Joins connective.And (IsPrim depth) (IsAnds depth) (IsConj depth)
 and_joins depth = record {
   none = λ left i c o h. record { form = form.no_and; tokens_are = cc; means = cc; nests = tt; counts = cc };
-  more = λ left i x m c o w a b.
-      let p = a.counts in
-      let q = b.counts in
-      record { form = form.and a.form b.form; tokens_are = cc; means = cc; nests = (a.nests, b.nests); counts = omega (arith, p, q) };
-  whole = λ i x m c o a b.
-      let p = a.counts in
-      let q = b.counts in
-      record { form = form.ands a.form b.form; tokens_are = cc; means = cc; nests = (a.nests, b.nests); counts = omega (arith, p, q) };
+  more = λ left i x m c o w a b. record { form = form.and a.form b.form; tokens_are = cc; means = cc; nests = (a.nests, b.nests); counts = omega arith };
+  whole = λ i x m c o a b. record { form = form.ands a.form b.form; tokens_are = cc; means = cc; nests = (a.nests, b.nests); counts = omega arith };
 }
 
 or_joins : (depth : ℕ) → Joins connective.Or (IsConj depth) (IsOrs depth) (IsCond depth)
 or_joins depth = record {
   none = λ left i c o h. record { form = form.no_or; tokens_are = cc; means = cc; nests = tt; counts = cc };
-  more = λ left i x m c o w a b.
-      let p = a.counts in
-      let q = b.counts in
-      record { form = form.or a.form b.form; tokens_are = cc; means = cc; nests = (a.nests, b.nests); counts = omega (arith, p, q) };
-  whole = λ i x m c o a b.
-      let p = a.counts in
-      let q = b.counts in
-      record { form = form.ors a.form b.form; tokens_are = cc; means = cc; nests = (a.nests, b.nests); counts = omega (arith, p, q) };
+  more = λ left i x m c o w a b. record { form = form.or a.form b.form; tokens_are = cc; means = cc; nests = (a.nests, b.nests); counts = omega arith };
+  whole = λ i x m c o a b. record { form = form.ors a.form b.form; tokens_are = cc; means = cc; nests = (a.nests, b.nests); counts = omega arith };
 }
 
 module _ (depth : ℕ) (prim : Conditions) (sound : Finds prim (IsPrim depth)) where
@@ -166,8 +154,7 @@ module _ (depth : ℕ) (prim : Conditions) (sound : Finds prim (IsPrim depth)) w
                   let end : rest ≡ o.rest = cc in
                   let tests : m.tests ≡ o.tests = cc in
                   let same : comparisons x ≡ comparisons c = cc in
-                  let p = a.counts in
-                  record { form = a.form; tokens_are = cc; means = cc; nests = a.nests; counts = omega (arith, tests, same, p) }
+                  record { form = a.form; tokens_are = cc; means = cc; nests = a.nests; counts = omega arith }
             ]
       ]
 
@@ -182,15 +169,13 @@ prim_sound (suc depth) i c o h = elim (branch (sees_word word.Not i.rest) _ _ _ 
             let tests : m.tests ≡ o.tests = cc in
             let is : Not x ≡ c = cc in
             let same = ap comparisons is in
-            let p = a.counts in
-            record { form = form.not a.form; tokens_are = cc; means = cc; nests = a.nests; counts = omega (arith, tests, same, p) }
+            record { form = form.not a.form; tokens_are = cc; means = cc; nests = a.nests; counts = omega arith }
       ]
   | fails e k ↦ elim (branch (sees_symbol symbol.Open i.rest) _ _ _ k) [
     | holds f k ↦
         let a = parens_sound depth (prim depth) (prim_sound depth) (after i) c o k in
         let w = symbol_seen symbol.Open i.rest f in
-        let p = a.counts in
-        record { form = form.parens a.form; tokens_are = cc; means = cc; nests = a.nests; counts = omega (arith, p) }
+        record { form = form.parens a.form; tokens_are = cc; means = cc; nests = a.nests; counts = omega arith }
     | fails f k ↦ test_sound (suc depth) i c o k
   ]
 ]
