@@ -1,5 +1,5 @@
 -- What the reader of conditions reads is a condition of the grammar.
-use Rattle.std.proofs.Common.{◌≡◌, ℕ, zero, suc, ◌+◌, ◌-◌, ◌<◌, nat_lt, List, ◌∷◌, Option, None, Some, arith}
+use Rattle.std.proofs.Common.{◌≡◌, ap, ℕ, zero, suc, ◌+◌, ◌-◌, ◌<◌, nat_lt, List, ◌∷◌, drop, Option, None, Some, arith}
 use Rattle.std.proofs.lemmas.Bool.Decides.{nat_tests}
 use Rattle.cj_model.specs.declared.token.Token.{Token}
 use Rattle.cj_model.specs.declared.token.Token.TheVariants as token
@@ -7,15 +7,16 @@ use Rattle.cj_model.specs.declared.token.Keyword.TheVariants as word
 use Rattle.cj_model.specs.declared.token.Symbol.{Symbol}
 use Rattle.cj_model.specs.declared.token.Symbol.TheVariants as symbol
 use Rattle.cj_model.specs.declared.term.Cmp.{Cmp}
-use Rattle.cj_model.specs.Conditions.{Condition, And, Or}
-use Rattle.cj_model.specs.ConditionForms.{CondForm, OrsForm, ConjForm, AndsForm, PrimForm, cmp_token, cond_tokens, ors_tokens, conj_tokens, ands_tokens, prim_tokens, cond_meant, ors_meant, conj_meant, ands_meant, prim_meant, CondNests, OrsNest, ConjNests, AndsNest, PrimNests}
+use Rattle.cj_model.specs.Conditions.{Condition, Test, Not}
+use Rattle.cj_model.specs.ConditionForms.{CondForm, OrsForm, ConjForm, AndsForm, PrimForm, cmp_token, cond_tokens, ors_tokens, conj_tokens, ands_tokens, prim_tokens, cond_meant, ors_meant, conj_meant, ands_meant, prim_meant, CondNests, OrsNest, ConjNests, AndsNest, PrimNests, comparisons}
 use Rattle.cj_model.specs.ConditionForms as form
+use Rattle.cj_sql.specs.declared.conditions.Connective.{Connective}
+use Rattle.cj_sql.specs.declared.conditions.Connective.TheVariants as connective
 use Rattle.cj_sql.specs.Reader.{read, sees_word, sees_symbol}
-use Rattle.cj_sql.specs.ConditionReader.{Input, at, after, Conditions, cmp_of, given, comparison, compared, ands, conj, ors, cond, parens, prim}
+use Rattle.cj_sql.specs.ConditionReader.{Input, at, after, Conditions, cmp_of, given, comparison, compared, keyword_of, compound, more_connected, connected, conj, cond, parens, prim}
 use Rattle.cj_sql.proofs.Binds.{branch, holds, fails, part, part_of}
 use Rattle.cj_sql.proofs.Front.{word_seen, symbol_seen, symbol_sound, expect_symbol_sound}
 use Rattle.cj_sql.proofs.TermsRead.{term_read}
-use Rattle.cj_sql.proofs.Counts.{cond_tests, ors_tests, conj_tests, ands_tests, prim_tests}
 
 -- ---- comparisons
 
@@ -46,30 +47,38 @@ comparison_sound ts op rest h = elim (part_of (symbol_sound ts) h) [
 
 -- ---- conditions
 
--- What stood there up to the rest is a form that nests and counts so and means the condition.
-pub record IsPart {F : Type 0} (tokens_of : F → List Token → List Token) (meant : F → Condition) (Nests : F → Type 0) (tests_of : F → ℕ) (i : Input) (c : Condition) (o : Input) : Type 0 where
+-- a fact of an input, the condition read from it, and what is left
+abbrev Found : Type 1
+Found = Input → Condition → Input → Type 0
+
+-- All that the reader reads is so.
+abbrev Finds : Conditions → Found → Type 0
+Finds reader Fact = (i : Input) (c : Condition) (o : Input) → reader i ≡ read c o → Fact i c o
+
+-- What stood there up to the rest is a form that nests so and means the condition, and its comparisons, but those before it, were taken from those that might come.
+pub record IsPart {F : Type 0} (tokens_of : F → List Token → List Token) (meant : F → Condition) (Nests : F → Type 0) (before : ℕ) (i : Input) (c : Condition) (o : Input) : Type 0 where
   pub form : F
   pub tokens_are : i.rest ≡ tokens_of form o.rest
   pub means : meant form ≡ c
   pub nests : Nests form
-  pub counts : i.tests ≡ tests_of form + o.tests
+  pub counts : before + i.tests ≡ comparisons c + o.tests
 
-abbrev IsPrim : ℕ → Input → Condition → Input → Type 0
-IsPrim depth = IsPart prim_tokens prim_meant (PrimNests depth) prim_tests
+abbrev IsPrim : ℕ → Found
+IsPrim depth = IsPart prim_tokens prim_meant (PrimNests depth) 0
 
-abbrev IsAnds : ℕ → Condition → Input → Condition → Input → Type 0
-IsAnds depth left = IsPart ands_tokens (ands_meant left) (AndsNest depth) ands_tests
+abbrev IsAnds : ℕ → Condition → Found
+IsAnds depth left = IsPart ands_tokens (ands_meant left) (AndsNest depth) (comparisons left)
 
-abbrev IsConj : ℕ → Input → Condition → Input → Type 0
-IsConj depth = IsPart conj_tokens conj_meant (ConjNests depth) conj_tests
+abbrev IsConj : ℕ → Found
+IsConj depth = IsPart conj_tokens conj_meant (ConjNests depth) 0
 
-abbrev IsOrs : ℕ → Condition → Input → Condition → Input → Type 0
-IsOrs depth left = IsPart ors_tokens (ors_meant left) (OrsNest depth) ors_tests
+abbrev IsOrs : ℕ → Condition → Found
+IsOrs depth left = IsPart ors_tokens (ors_meant left) (OrsNest depth) (comparisons left)
 
-abbrev pub IsCond : ℕ → Input → Condition → Input → Type 0
-IsCond depth = IsPart cond_tokens cond_meant (CondNests depth) cond_tests
+abbrev pub IsCond : ℕ → Found
+IsCond depth = IsPart cond_tokens cond_meant (CondNests depth) 0
 
-test_sound : (depth : ℕ) (i : Input) (c : Condition) (o : Input) → compared i ≡ read c o → IsPrim depth i c o
+test_sound : (depth : ℕ) → Finds compared (IsPrim depth)
 unfolding compared
 test_sound depth i c o h = elim (branch (nat_lt 0 i.tests) _ _ _ h) [
   | holds e k ↦
@@ -81,73 +90,59 @@ test_sound depth i c o h = elim (branch (nat_lt 0 i.tests) _ _ _ h) [
                     | part right vs b k ↦
                         let some : 0 < i.tests = grind (arith, nat_tests, e) in
                         let less : i.tests - 1 ≡ o.tests = cc in
-                        record { form = form.test a.form op b.form; tokens_are = cc; means = cc; nests = (a.fits, b.fits); counts = omega (arith, some, less) }
+                        let is : Test op left right ≡ c = cc in
+                        let one = ap comparisons is in
+                        record { form = form.test a.form op b.form; tokens_are = cc; means = cc; nests = (a.fits, b.fits); counts = omega arith }
                   ]
             ]
       ]
   | fails e k ↦ absurd (cc)
 ]
 
-module _ (depth : ℕ) (prim : Conditions) (sound : (i : Input) (c : Condition) (o : Input) → prim i ≡ read c o → IsPrim depth i c o) where
-  ands_sound : (turns : ℕ) (left : Condition) (i : Input) (c : Condition) (o : Input) → ands prim turns left i ≡ read c o → IsAnds depth left i c o
-  unfolding ands
-  ands_sound zero left i c o h = elim (branch (sees_word word.And i.rest) _ _ _ h) [
-    | holds e k ↦ absurd (cc)
-    | fails e k ↦ record { form = form.no_and; tokens_are = cc; means = cc; nests = tt; counts = (let same : i.tests ≡ o.tests = cc in omega (arith, same)) }
-  ]
-  ands_sound (suc turns) left i c o h = elim (branch (sees_word word.And i.rest) _ _ _ h) [
+-- what a connective joins: nothing more after a condition; a side after it, and more; and a first side, and more
+record Joins (by : Connective) (IsSide : Found) (IsMore : Condition → Found) (IsWhole : Found) : Type 0 where
+  none : (left : Condition) → Finds (λ i. read left i) (IsMore left)
+  more : (left : Condition) (i : Input) (x : Condition) (m : Input) (c : Condition) (o : Input) → i.rest ≡ token.Word (keyword_of by) ∷ drop 1 i.rest →
+      IsSide (after i) x m → IsMore (compound by left x) m c o → IsMore left i c o
+  whole : (i : Input) (x : Condition) (m : Input) (c : Condition) (o : Input) → IsSide i x m → IsMore x m c o → IsWhole i c o
+
+module _ (by : Connective) (side : Conditions) (IsSide : Found) (IsMore : Condition → Found) (IsWhole : Found) (joins : Joins by IsSide IsMore IsWhole) (sound : Finds side IsSide) where
+  more_sound : (turns : ℕ) (left : Condition) → Finds (more_connected by side turns left) (IsMore left)
+  unfolding more_connected
+  more_sound zero left i c o h = elim (branch (sees_word (keyword_of by) i.rest) _ _ _ h) [ holds e k ↦ absurd (cc) | fails e k ↦ joins.none left i c o k ]
+  more_sound (suc turns) left i c o h = elim (branch (sees_word (keyword_of by) i.rest) _ _ _ h) [
     | holds e k ↦
         elim (part_of (sound (after i)) k) [
-          | part x m a k ↦
-              let b = ands_sound turns (And left x) m c o k in
-              let w = word_seen word.And i.rest e in
-              let p = a.counts in
-              let q = b.counts in
-              record { form = form.and a.form b.form; tokens_are = cc; means = cc; nests = (a.nests, b.nests); counts = omega (arith, p, q) }
+          | part x m a k ↦ joins.more left i x m c o (word_seen (keyword_of by) i.rest e) a (more_sound turns (compound by left x) m c o k)
         ]
-    | fails e k ↦ record { form = form.no_and; tokens_are = cc; means = cc; nests = tt; counts = (let same : i.tests ≡ o.tests = cc in omega (arith, same)) }
+    | fails e k ↦ joins.none left i c o k
   ]
 
-  conj_sound : (i : Input) (c : Condition) (o : Input) → conj prim i ≡ read c o → IsConj depth i c o
-  unfolding conj
-  conj_sound i c o h =
-      elim (part_of (sound i) h) [
-        | part x m a k ↦
-            let b = ands_sound m.tests x m c o k in
-            let p = a.counts in
-            let q = b.counts in
-            record { form = form.ands a.form b.form; tokens_are = cc; means = cc; nests = (a.nests, b.nests); counts = omega (arith, p, q) }
-      ]
+  -- What they make is read where each side is.
+  connected_sound : Finds (connected by side) IsWhole
+  unfolding connected
+  connected_sound i c o h = elim (part_of (sound i) h) [ part x m a k ↦ joins.whole i x m c o a (more_sound m.tests x m c o k) ]
 
-  ors_sound : (turns : ℕ) (left : Condition) (i : Input) (c : Condition) (o : Input) → ors prim turns left i ≡ read c o → IsOrs depth left i c o
-  unfolding ors
-  ors_sound zero left i c o h = elim (branch (sees_word word.Or i.rest) _ _ _ h) [
-    | holds e k ↦ absurd (cc)
-    | fails e k ↦ record { form = form.no_or; tokens_are = cc; means = cc; nests = tt; counts = (let same : i.tests ≡ o.tests = cc in omega (arith, same)) }
-  ]
-  ors_sound (suc turns) left i c o h = elim (branch (sees_word word.Or i.rest) _ _ _ h) [
-    | holds e k ↦
-        elim (part_of (conj_sound (after i)) k) [
-          | part x m a k ↦
-              let b = ors_sound turns (Or left x) m c o k in
-              let w = word_seen word.Or i.rest e in
-              let p = a.counts in
-              let q = b.counts in
-              record { form = form.or a.form b.form; tokens_are = cc; means = cc; nests = (a.nests, b.nests); counts = omega (arith, p, q) }
-        ]
-    | fails e k ↦ record { form = form.no_or; tokens_are = cc; means = cc; nests = tt; counts = (let same : i.tests ≡ o.tests = cc in omega (arith, same)) }
-  ]
+and_joins : (depth : ℕ) → Joins connective.And (IsPrim depth) (IsAnds depth) (IsConj depth)
+and_joins depth = record {
+  none = λ left i c o h. record { form = form.no_and; tokens_are = cc; means = cc; nests = tt; counts = cc };
+  more = λ left i x m c o w a b. record { form = form.and a.form b.form; tokens_are = cc; means = cc; nests = (a.nests, b.nests); counts = omega arith };
+  whole = λ i x m c o a b. record { form = form.ands a.form b.form; tokens_are = cc; means = cc; nests = (a.nests, b.nests); counts = omega arith };
+}
 
-  cond_sound_by : (i : Input) (c : Condition) (o : Input) → cond prim i ≡ read c o → IsCond depth i c o
-  unfolding cond
-  cond_sound_by i c o h =
-      elim (part_of (conj_sound i) h) [
-        | part x m a k ↦
-            let b = ors_sound m.tests x m c o k in
-            let p = a.counts in
-            let q = b.counts in
-            record { form = form.ors a.form b.form; tokens_are = cc; means = cc; nests = (a.nests, b.nests); counts = omega (arith, p, q) }
-      ]
+or_joins : (depth : ℕ) → Joins connective.Or (IsConj depth) (IsOrs depth) (IsCond depth)
+or_joins depth = record {
+  none = λ left i c o h. record { form = form.no_or; tokens_are = cc; means = cc; nests = tt; counts = cc };
+  more = λ left i x m c o w a b. record { form = form.or a.form b.form; tokens_are = cc; means = cc; nests = (a.nests, b.nests); counts = omega arith };
+  whole = λ i x m c o a b. record { form = form.ors a.form b.form; tokens_are = cc; means = cc; nests = (a.nests, b.nests); counts = omega arith };
+}
+
+module _ (depth : ℕ) (prim : Conditions) (sound : Finds prim (IsPrim depth)) where
+  conj_sound : Finds (conj prim) (IsConj depth)
+  conj_sound = connected_sound connective.And prim (IsPrim depth) (IsAnds depth) (IsConj depth) (and_joins depth) sound
+
+  cond_sound_by : Finds (cond prim) (IsCond depth)
+  cond_sound_by = connected_sound connective.Or (conj prim) (IsConj depth) (IsOrs depth) (IsCond depth) (or_joins depth) conj_sound
 
   parens_sound : (i : Input) (c : Condition) (o : Input) → parens prim i ≡ read c o → IsCond depth i c (at (token.Symbol symbol.Close ∷ o.rest) o.tests)
   unfolding parens
@@ -158,12 +153,12 @@ module _ (depth : ℕ) (prim : Conditions) (sound : (i : Input) (c : Condition) 
               | part _ rest w k ↦
                   let end : rest ≡ o.rest = cc in
                   let tests : m.tests ≡ o.tests = cc in
-                  let p = a.counts in
-                  record { form = a.form; tokens_are = cc; means = cc; nests = a.nests; counts = omega (arith, tests, p) }
+                  let same : comparisons x ≡ comparisons c = cc in
+                  record { form = a.form; tokens_are = cc; means = cc; nests = a.nests; counts = omega arith }
             ]
       ]
 
-prim_sound : (depth : ℕ) (i : Input) (c : Condition) (o : Input) → prim depth i ≡ read c o → IsPrim depth i c o
+prim_sound : (depth : ℕ) → Finds (prim depth) (IsPrim depth)
 unfolding prim
 prim_sound zero i c o h = test_sound zero i c o h
 prim_sound (suc depth) i c o h = elim (branch (sees_word word.Not i.rest) _ _ _ h) [
@@ -172,19 +167,19 @@ prim_sound (suc depth) i c o h = elim (branch (sees_word word.Not i.rest) _ _ _ 
         | part x m a k ↦
             let w = word_seen word.Not i.rest e in
             let tests : m.tests ≡ o.tests = cc in
-            let p = a.counts in
-            record { form = form.not a.form; tokens_are = cc; means = cc; nests = a.nests; counts = omega (arith, tests, p) }
+            let is : Not x ≡ c = cc in
+            let same = ap comparisons is in
+            record { form = form.not a.form; tokens_are = cc; means = cc; nests = a.nests; counts = omega arith }
       ]
   | fails e k ↦ elim (branch (sees_symbol symbol.Open i.rest) _ _ _ k) [
     | holds f k ↦
         let a = parens_sound depth (prim depth) (prim_sound depth) (after i) c o k in
         let w = symbol_seen symbol.Open i.rest f in
-        let p = a.counts in
-        record { form = form.parens a.form; tokens_are = cc; means = cc; nests = a.nests; counts = omega (arith, p) }
+        record { form = form.parens a.form; tokens_are = cc; means = cc; nests = a.nests; counts = omega arith }
     | fails f k ↦ test_sound (suc depth) i c o k
   ]
 ]
 
 -- a condition that was read stood there
-pub cond_sound : (depth : ℕ) (i : Input) (c : Condition) (o : Input) → cond (prim depth) i ≡ read c o → IsCond depth i c o
-cond_sound depth i c o h = cond_sound_by depth (prim depth) (prim_sound depth) i c o h
+pub cond_sound : (depth : ℕ) → Finds (cond (prim depth)) (IsCond depth)
+cond_sound depth = cond_sound_by depth (prim depth) (prim_sound depth)

@@ -1,9 +1,9 @@
 -- The reader of WHERE reads exactly the conditions of the grammar.
-use Rattle.std.proofs.Common.{◌≡◌, refl, ◌-◌, ◌<◌, List, drop, Option, None, Some, arith}
+use Rattle.std.proofs.Common.{◌≡◌, refl, ap, ◌-◌, ◌<◌, List, drop, Option, None, Some, arith}
 use Rattle.cj_model.specs.declared.token.Token.{Token}
 use Rattle.cj_model.specs.declared.token.Keyword.TheVariants as word
 use Rattle.cj_model.specs.Conditions.{Condition}
-use Rattle.cj_model.specs.ConditionForms.{CondForm, cond_tokens, cond_meant, CondFits}
+use Rattle.cj_model.specs.ConditionForms.{CondForm, cond_tokens, cond_meant, comparisons, CondFits}
 use Rattle.cj_model.specs.Grammar.{where_tokens, where_meant, WhereFits}
 use Rattle.cj_sql.specs.Reader.{read, same_word, sees_word}
 use Rattle.cj_sql.specs.ConditionReader.{at, condition, filter}
@@ -11,7 +11,6 @@ use Rattle.cj_sql.proofs.Binds.{branch, holds, fails, part, part_of}
 use Rattle.cj_sql.proofs.Front.{word_seen}
 use Rattle.cj_sql.proofs.Lists.{IsForm, IsReaderOf}
 use Rattle.cj_sql.proofs.Ranks.{rank, no_word}
-use Rattle.cj_sql.proofs.Counts.{cond_tests, cond_counts}
 use Rattle.cj_sql.proofs.ConditionsSound.{cond_sound}
 use Rattle.cj_sql.proofs.ConditionsComplete.{cond_complete}
 
@@ -20,17 +19,16 @@ unfolding condition
 condition_sound ts c rest h =
     elim (part_of (cond_sound 64 (at ts 256)) h) [
       | part x o a k ↦
-          let n = cond_counts a.form in
+          let same = ap comparisons a.means in
           let m = a.counts in
-          record { form = a.form; tokens_are = cc; means = cc; fits = record { nests = a.nests; counts = omega (arith, n, m) } }
+          record { form = a.form; tokens_are = cc; means = cc; fits = record { nests = a.nests; counts = omega (arith, same, m) } }
     ]
 
 condition_complete : (f : CondForm) (rest : List Token) → CondFits f → 3 < rank rest → condition (cond_tokens f rest) ≡ read (cond_meant f) rest
 unfolding condition
 condition_complete f rest fits e =
-    let n = cond_counts f in
     let m = fits.counts in
-    rw (cond_complete f 64 rest 256 (256 - cond_tests f) fits.nests e (omega (arith, n, m))) refl
+    rw (cond_complete 64 f rest 256 (256 - comparisons (cond_meant f)) fits.nests e (omega (arith, m))) refl
 
 -- a WHERE that was read stood there
 filter_sound : (ts : List Token) (x : Option Condition) (rest : List Token) → filter ts ≡ read x rest → IsForm where_tokens where_meant WhereFits ts x rest

@@ -1,6 +1,6 @@
 -- What was read of the token at the front.
 use Rattle.std.proofs.Common.{◌≡◌, refl, ap, ℕ, true, List, [], ◌∷◌, drop, rules}
-use denote.Enum.Bare.{same_true}
+use denote.Enum.Bare.{same_true, true_same}
 use Rattle.cj_model.specs.contracts.token.Keyword as keyword_type
 use Rattle.cj_model.specs.contracts.token.Symbol as symbol_type
 use Rattle.cj_model.specs.declared.token.Keyword.{Keyword}
@@ -16,6 +16,11 @@ unfolding same_word
 word_seen w [] h = absurd (cc)
 word_seen w (token.Word found ∷ ts) h = let e = same_true keyword_type.the_type (search rules) found w h in ap (λ x. token.Word x ∷ ts) e
 word_seen w (_ ∷ ts) h = absurd (cc)
+
+-- and a word that stands there is seen
+pub word_sees : (w : Keyword) (ts : List Token) → sees_word w (token.Word w ∷ ts) ≡ true
+unfolding same_word
+word_sees w ts = true_same keyword_type.the_type w w refl
 
 -- a symbol that is seen stands there
 pub symbol_seen : (s : Symbol) (ts : List Token) → sees_symbol s ts ≡ true → ts ≡ token.Symbol s ∷ drop 1 ts

@@ -1,7 +1,6 @@
 pub mod Binds
 pub mod ConditionsComplete
 pub mod ConditionsSound
-pub mod Counts
 pub mod Filters
 pub mod Front
 pub mod Lists

@@ -3,6 +3,7 @@ use Rattle.std.specs.Prelude.{ℕ, zero, suc, ◌-◌, nat_lt, if◌then◌else�
 use Rattle.std.specs.declared.option.Option.{Option}
 use Rattle.std.specs.declared.option.Option.TheVariants.{None, Some}
 use Rattle.cj_model.specs.declared.token.Token.{Token}
+use Rattle.cj_model.specs.declared.token.Keyword.{Keyword}
 use Rattle.cj_model.specs.declared.token.Keyword.TheVariants as word
 use Rattle.cj_model.specs.declared.token.Symbol.{Symbol}
 use Rattle.cj_model.specs.declared.token.Symbol.TheVariants as symbol
@@ -10,6 +11,8 @@ use Rattle.cj_model.specs.declared.term.Cmp.{Cmp}
 use Rattle.cj_model.specs.declared.term.Cmp.TheVariants as cmp
 use Rattle.cj_model.specs.declared.limits.TheConstants.{DEPTH_LIMIT, TEST_LIMIT}
 use Rattle.cj_model.specs.Conditions.{Condition, Test, Not, And, Or}
+use Rattle.cj_sql.specs.declared.conditions.Connective.{Connective}
+use Rattle.cj_sql.specs.declared.conditions.Connective.TheVariants as connective
 use Rattle.cj_sql.specs.Reader.{Read, refused, read, and_then, Reader, sees_word, sees_symbol, symbol_at, expect_symbol}
 use Rattle.cj_sql.specs.TermReader.{term}
 
@@ -61,28 +64,44 @@ compared i =
     read (Test op left right) (at rest (i.tests - 1)))))
     else refused
 
--- ---- what joins them, over a reader of prim
+-- ---- connectives
 
+-- the word of a connective
+abbrev pub keyword_of : Connective → Keyword
+keyword_of connective.And = word.And
+keyword_of connective.Or = word.Or
+
+-- the condition that it makes of two
+abbrev pub compound : Connective → Condition → Condition → Condition
+compound connective.And = And
+compound connective.Or = Or
+
+-- over a reader of what stands on each side of it
+module _ (by : Connective) (side : Conditions) where
+  -- { keyword side } after a condition, at most so many
+  unfoldable pub more_connected : ℕ → Condition → Conditions
+  more_connected zero left i = if sees_word (keyword_of by) i.rest then refused else read left i
+  more_connected (suc turns) left i =
+      if sees_word (keyword_of by) i.rest then and_then (side (after i)) (λ right o. more_connected turns (compound by left right) o) else read left i
+
+  -- side { keyword side }
+  unfoldable pub connected : Conditions
+  connected i = and_then (side i) (λ left o. more_connected o.tests left o)
+
+-- over a reader of prim
 module _ (prim : Conditions) where
-  -- { AND prim } after a condition, at most so many
-  unfoldable pub ands : ℕ → Condition → Conditions
-  ands zero left i = if sees_word word.And i.rest then refused else read left i
-  ands (suc turns) left i =
-      if sees_word word.And i.rest then and_then (prim (after i)) (λ right o. ands turns (And left right) o) else read left i
+  -- conj = prim { AND prim }
+  abbrev pub conj : Conditions
+  conj = connected connective.And prim
 
-  -- prim { AND prim }
-  unfoldable pub conj : Conditions
-  conj i = and_then (prim i) (λ left o. ands o.tests left o)
+  -- cond = conj { OR conj }
+  abbrev pub cond : Conditions
+  cond = connected connective.Or conj
 
-  -- { OR conj } after a condition, at most so many
-  unfoldable pub ors : ℕ → Condition → Conditions
-  ors zero left i = if sees_word word.Or i.rest then refused else read left i
-  ors (suc turns) left i =
-      if sees_word word.Or i.rest then and_then (conj (after i)) (λ right o. ors turns (Or left right) o) else read left i
-
-  -- conj { OR conj }
-  unfoldable pub cond : Conditions
-  cond i = and_then (conj i) (λ left o. ors o.tests left o)
+  -- what stands on each side of a connective
+  abbrev pub side : Connective → Conditions
+  side connective.And = prim
+  side connective.Or = conj
 
   -- cond ")"
   unfoldable pub parens : Conditions

@@ -20,20 +20,34 @@ fn not(alloc: Global, inner: CondNode) -> Result<CondNode, AllocError>
     Ok(CondNode::Not(Box::new(alloc, inner)?))
 }
 
-fn and(alloc: Global, left: CondNode, right: CondNode) -> Result<CondNode, AllocError>
-    ensures { IfOk result (λ node. shape node ≡ tree.And (shape left) (shape right)) }
-{
-    let left = Box::new(alloc, left)?;
-    let right = Box::new(alloc, right)?;
-    Ok(CondNode::And(left, right))
+/// What joins conditions.
+#[derive(Clone, Copy)]
+enum Connective {
+    And,
+    Or,
 }
 
-fn or(alloc: Global, left: CondNode, right: CondNode) -> Result<CondNode, AllocError>
-    ensures { IfOk result (λ node. shape node ≡ tree.Or (shape left) (shape right)) }
-{
-    let left = Box::new(alloc, left)?;
-    let right = Box::new(alloc, right)?;
-    Ok(CondNode::Or(left, right))
+impl Connective {
+    fn keyword(self) -> Keyword
+        ensures { result ≡ spec.keyword_of self }
+    {
+        match self {
+            Connective::And => Keyword::And,
+            Connective::Or => Keyword::Or,
+        }
+    }
+
+    /// The condition that it makes of two.
+    fn connect(self, alloc: Global, left: CondNode, right: CondNode) -> Result<CondNode, AllocError>
+        ensures { IfOk result (λ node. shape node ≡ spec.compound self (shape left) (shape right)) }
+    {
+        let left = Box::new(alloc, left)?;
+        let right = Box::new(alloc, right)?;
+        match self {
+            Connective::And => Ok(CondNode::And(left, right)),
+            Connective::Or => Ok(CondNode::Or(left, right)),
+        }
+    }
 }
 
 fn cmp_of(symbol: Symbol) -> Option<Cmp>
@@ -100,53 +114,46 @@ fn prim(
     test(tokens, tests)
 }
 
-/// Conditions joined by AND. Each has a comparison, so there are no more of them than may come.
+/// What stands on each side of a connective: AND binds closer than OR.
 #[cycle(cond)]
-#[tactic(auto, unfolding(crate::specs::ConditionReader::conj))]
-fn conj(
+fn side(
     alloc: Global,
     tokens: &mut Tokens,
     tests: &mut usize,
     depth: usize,
+    by: Connective,
 ) -> Result<CondNode, SqlError>
-    ensures { ReadsNode (spec.conj (spec.prim depth)) (at tokens.old tests.old) result (at tokens.new tests.new) }
+    ensures { ReadsNode (spec.side (spec.prim depth) by) (at tokens.old tests.old) result (at tokens.new tests.new) }
 {
-    let mut left = prim(alloc, tokens, tests, depth)?;
-    let turns = *tests;
-    for _turn in 0..turns {
-        if !tokens.eat_word(Keyword::And) {
-            return Ok(left);
-        }
-        let right = prim(alloc, tokens, tests, depth)?;
-        left = and(alloc, left, right)?;
+    match by {
+        Connective::And => prim(alloc, tokens, tests, depth),
+        Connective::Or => connected(alloc, tokens, tests, depth, Connective::And),
     }
-    if tokens.sees_word(Keyword::And) {
-        return Err(SqlError::Syntax);
-    }
-    Ok(left)
 }
 
-/// Conditions joined by OR.
+/// Conditions joined by a connective. Each has a comparison, so there are no more of them than may
+/// come.
 #[cycle(cond)]
-#[tactic(auto, unfolding(crate::specs::ConditionReader::cond))]
-fn cond(
+#[tactic(auto, unfolding(crate::specs::ConditionReader::connected))]
+fn connected(
     alloc: Global,
     tokens: &mut Tokens,
     tests: &mut usize,
     depth: usize,
+    by: Connective,
 ) -> Result<CondNode, SqlError>
-    ensures { ReadsNode (spec.cond (spec.prim depth)) (at tokens.old tests.old) result (at tokens.new tests.new) }
+    ensures { ReadsNode (spec.connected by (spec.side (spec.prim depth) by)) (at tokens.old tests.old) result (at tokens.new tests.new) }
 {
-    let mut left = conj(alloc, tokens, tests, depth)?;
+    let mut left = side(alloc, tokens, tests, depth, by)?;
     let turns = *tests;
     for _turn in 0..turns {
-        if !tokens.eat_word(Keyword::Or) {
+        if !tokens.eat_word(by.keyword()) {
             return Ok(left);
         }
-        let right = conj(alloc, tokens, tests, depth)?;
-        left = or(alloc, left, right)?;
+        let right = side(alloc, tokens, tests, depth, by)?;
+        left = by.connect(alloc, left, right)?;
     }
-    if tokens.sees_word(Keyword::Or) {
+    if tokens.sees_word(by.keyword()) {
         return Err(SqlError::Syntax);
     }
     Ok(left)
@@ -163,7 +170,7 @@ fn parens(
 ) -> Result<CondNode, SqlError>
     ensures { ReadsNode (spec.parens (spec.prim depth)) (at tokens.old tests.old) result (at tokens.new tests.new) }
 {
-    let inner = cond(alloc, tokens, tests, depth)?;
+    let inner = connected(alloc, tokens, tests, depth, Connective::Or)?;
     tokens.expect_symbol(Symbol::Close)?;
     Ok(inner)
 }
@@ -173,7 +180,7 @@ fn condition(alloc: Global, tokens: &mut Tokens) -> Result<Cond, SqlError>
     ensures { Reads spec.condition tokens.old result tokens.new }
 {
     let mut tests = TEST_LIMIT;
-    let root = cond(alloc, tokens, &mut tests, DEPTH_LIMIT)?;
+    let root = connected(alloc, tokens, &mut tests, DEPTH_LIMIT, Connective::Or)?;
     Ok(Cond::of(root))
 }
 

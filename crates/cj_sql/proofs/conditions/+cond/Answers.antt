@@ -1,68 +1,38 @@
 use Rattle.std.proofs.Common.{rules, arith}
 use Rattle.std.proofs.lemmas.Grind.{common_steps}
 use Rattle.cj_model.specs.ConditionShape.{shape}
-use Rattle.cj_sql.specs.ConditionReader.{at, ands, ors, prim}
+use Rattle.cj_sql.specs.ConditionReader.{at, more_connected, side, prim}
 use Rattle.cj_sql.proofs.Turns.{one_more, no_more, deeper}
 use Rattle.cj_sql.proofs.conditions.+cond.Goals as goal
 
-pub conj-returns-then-not-eat_word : goal.conj-returns-then-not-eat_word
-unfolding ands
-conj-returns-then-not-eat_word t c =
-    let e = one_more (λ n. ands (prim c.args.depth) n (shape c.loop-turn.left) (at c.loop-turn.tokens c.loop-turn.tests)) _ c.loop-turn._turn c.loop-turn-test.true c.loop-turn.invariant in
+pub connected-returns-then-not-eat_word : goal.connected-returns-then-not-eat_word
+unfolding more_connected
+connected-returns-then-not-eat_word t c =
+    let e = one_more (λ n. more_connected c.args.by (side (prim c.args.depth) c.args.by) n (shape c.loop-turn.left) (at c.loop-turn.tokens c.loop-turn.tests)) _ c.loop-turn._turn c.loop-turn-test.true c.loop-turn.invariant in
     first_of (search rules, grind (arith, common_steps))
 
-pub conj-returns-in_err-right : goal.conj-returns-in_err-right
-unfolding ands
-conj-returns-in_err-right t c =
-    let e = one_more (λ n. ands (prim c.args.depth) n (shape c.loop-turn.left) (at c.loop-turn.tokens c.loop-turn.tests)) _ c.loop-turn._turn c.loop-turn-test.true c.loop-turn.invariant in
+pub connected-returns-in_err-right : goal.connected-returns-in_err-right
+unfolding more_connected
+connected-returns-in_err-right t c =
+    let e = one_more (λ n. more_connected c.args.by (side (prim c.args.depth) c.args.by) n (shape c.loop-turn.left) (at c.loop-turn.tokens c.loop-turn.tests)) _ c.loop-turn._turn c.loop-turn-test.true c.loop-turn.invariant in
     first_of (search rules, grind (arith, common_steps))
 
-pub conj-loop-turn-preserved : goal.conj-loop-turn-preserved
-unfolding ands
-conj-loop-turn-preserved t c =
-    let e = one_more (λ n. ands (prim c.args.depth) n (shape c.loop-turn.left) (at c.loop-turn.tokens c.loop-turn.tests)) _ c.loop-turn._turn c.loop-turn-test.true c.loop-turn.invariant in
+pub connected-loop-turn-preserved : goal.connected-loop-turn-preserved
+unfolding more_connected
+connected-loop-turn-preserved t c =
+    let e = one_more (λ n. more_connected c.args.by (side (prim c.args.depth) c.args.by) n (shape c.loop-turn.left) (at c.loop-turn.tokens c.loop-turn.tests)) _ c.loop-turn._turn c.loop-turn-test.true c.loop-turn.invariant in
     first_of (search rules, grind (arith, common_steps))
 
-pub conj-returns-then-sees_word : goal.conj-returns-then-sees_word
-unfolding ands
-conj-returns-then-sees_word t c =
-    let e = no_more (λ n. ands (prim c.args.depth) n (shape c.loop-turn.left) (at c.loop-turn.tokens c.loop-turn.tests)) _ c.loop-turn._turn c.loop-turn-test.false c.loop-turn.invariant in
+pub connected-returns-then-sees_word : goal.connected-returns-then-sees_word
+unfolding more_connected
+connected-returns-then-sees_word t c =
+    let e = no_more (λ n. more_connected c.args.by (side (prim c.args.depth) c.args.by) n (shape c.loop-turn.left) (at c.loop-turn.tokens c.loop-turn.tests)) _ c.loop-turn._turn c.loop-turn-test.false c.loop-turn.invariant in
     first_of (search rules, grind (arith, common_steps))
 
-pub conj-returns : goal.conj-returns
-unfolding ands
-conj-returns t c =
-    let e = no_more (λ n. ands (prim c.args.depth) n (shape c.loop-turn.left) (at c.loop-turn.tokens c.loop-turn.tests)) _ c.loop-turn._turn c.loop-turn-test.false c.loop-turn.invariant in
-    first_of (search rules, grind (arith, common_steps))
-
-pub cond-returns-then-not-eat_word : goal.cond-returns-then-not-eat_word
-unfolding ors
-cond-returns-then-not-eat_word t c =
-    let e = one_more (λ n. ors (prim c.args.depth) n (shape c.loop-turn.left) (at c.loop-turn.tokens c.loop-turn.tests)) _ c.loop-turn._turn c.loop-turn-test.true c.loop-turn.invariant in
-    first_of (search rules, grind (arith, common_steps))
-
-pub cond-returns-in_err-right : goal.cond-returns-in_err-right
-unfolding ors
-cond-returns-in_err-right t c =
-    let e = one_more (λ n. ors (prim c.args.depth) n (shape c.loop-turn.left) (at c.loop-turn.tokens c.loop-turn.tests)) _ c.loop-turn._turn c.loop-turn-test.true c.loop-turn.invariant in
-    first_of (search rules, grind (arith, common_steps))
-
-pub cond-loop-turn-preserved : goal.cond-loop-turn-preserved
-unfolding ors
-cond-loop-turn-preserved t c =
-    let e = one_more (λ n. ors (prim c.args.depth) n (shape c.loop-turn.left) (at c.loop-turn.tokens c.loop-turn.tests)) _ c.loop-turn._turn c.loop-turn-test.true c.loop-turn.invariant in
-    first_of (search rules, grind (arith, common_steps))
-
-pub cond-returns-then-sees_word : goal.cond-returns-then-sees_word
-unfolding ors
-cond-returns-then-sees_word t c =
-    let e = no_more (λ n. ors (prim c.args.depth) n (shape c.loop-turn.left) (at c.loop-turn.tokens c.loop-turn.tests)) _ c.loop-turn._turn c.loop-turn-test.false c.loop-turn.invariant in
-    first_of (search rules, grind (arith, common_steps))
-
-pub cond-returns : goal.cond-returns
-unfolding ors
-cond-returns t c =
-    let e = no_more (λ n. ors (prim c.args.depth) n (shape c.loop-turn.left) (at c.loop-turn.tokens c.loop-turn.tests)) _ c.loop-turn._turn c.loop-turn-test.false c.loop-turn.invariant in
+pub connected-returns : goal.connected-returns
+unfolding more_connected
+connected-returns t c =
+    let e = no_more (λ n. more_connected c.args.by (side (prim c.args.depth) c.args.by) n (shape c.loop-turn.left) (at c.loop-turn.tokens c.loop-turn.tests)) _ c.loop-turn._turn c.loop-turn-test.false c.loop-turn.invariant in
     first_of (search rules, grind (arith, common_steps))
 
 pub prim-returns-then-eat_symbol : goal.prim-returns-then-eat_symbol

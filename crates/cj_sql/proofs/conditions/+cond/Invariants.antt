@@ -1,26 +1,30 @@
-use Rattle.std.proofs.Common.{◌≡◌, ◌+◌, ◌-◌, ◌*◌}
+use Rattle.std.proofs.Common.{◌≡◌, ℕ, ◌+◌, ◌-◌, ◌*◌}
 use Rattle.cj_model.specs.ConditionShape.{shape}
+use Rattle.cj_sql.specs.declared.conditions.Connective.{Connective}
+use Rattle.cj_sql.specs.declared.conditions.Connective.TheVariants as connective
 use Rattle.cj_sql.specs.ConditionReader as spec
 use Rattle.cj_sql.specs.ConditionReader.{at}
 use Rattle.cj_sql.proofs.conditions.+cond.Given as goal
 
+-- how loosely a connective binds
+abbrev looseness : Connective → ℕ
+looseness connective.And = 0
+looseness connective.Or = 1
+
 abbrev pub decreases-prim : goal.decreases-prim
-decreases-prim l = 4 * l.depth
+decreases-prim l = 6 * l.depth
 
-abbrev pub decreases-conj : goal.decreases-conj
-decreases-conj l = 4 * l.depth + 1
+abbrev pub decreases-side : goal.decreases-side
+decreases-side l = 6 * l.depth + 2 * looseness l.by + 1
 
-abbrev pub decreases-cond : goal.decreases-cond
-decreases-cond l = 4 * l.depth + 2
+abbrev pub decreases-connected : goal.decreases-connected
+decreases-connected l = 6 * l.depth + 2 * looseness l.by + 2
 
 abbrev pub decreases-parens : goal.decreases-parens
-decreases-parens l = 4 * l.depth + 3
+decreases-parens l = 6 * l.depth + 5
 
 -- what is left to read after the condition so far
-abbrev pub invariant-conj-loop-turn : goal.invariant-conj-loop-turn
-invariant-conj-loop-turn l =
-    spec.conj (spec.prim l.depth) (at l.fn.tokens l.fn.tests) ≡ spec.ands (spec.prim l.depth) (l.turns - l._turn) (shape l.left) (at l.tokens l.tests)
-
-abbrev pub invariant-cond-loop-turn : goal.invariant-cond-loop-turn
-invariant-cond-loop-turn l =
-    spec.cond (spec.prim l.depth) (at l.fn.tokens l.fn.tests) ≡ spec.ors (spec.prim l.depth) (l.turns - l._turn) (shape l.left) (at l.tokens l.tests)
+abbrev pub invariant-connected-loop-turn : goal.invariant-connected-loop-turn
+invariant-connected-loop-turn l =
+    spec.connected l.by (spec.side (spec.prim l.depth) l.by) (at l.fn.tokens l.fn.tests) ≡
+    spec.more_connected l.by (spec.side (spec.prim l.depth) l.by) (l.turns - l._turn) (shape l.left) (at l.tokens l.tests)
