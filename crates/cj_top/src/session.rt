@@ -7,6 +7,7 @@ ghost use Rattle.cj_outside.specs.Causes.{CountsFault};
 ghost use Rattle.cj_backend.specs.Backends.{HasBackendCause};
 ghost use Rattle.cj_model.specs.Outcomes.{IsAsked};
 ghost use Rattle.cj_reply.specs.Encode.{IsSendable};
+ghost use Rattle.cj_model.specs.Replies as replies;
 ghost use Rattle.cj_model.specs.Session as session;
 ghost use Rattle.cj_top.specs.Answers.{Answers, IsReadable, LogsIn};
 
@@ -51,7 +52,7 @@ fn refused(code: u16) -> Reply
 }
 
 fn outcome_reply(outcome: Outcome) -> Reply
-    ensures reply { result ≡ session.outcome_reply outcome }
+    ensures reply { result ≡ replies.outcome_reply outcome }
     ensures sendable { IsSendable result }
 {
     match outcome {
@@ -62,7 +63,7 @@ fn outcome_reply(outcome: Outcome) -> Reply
 
 fn asked_reply(asked: Asked) -> Reply
     requires { IsAsked asked }
-    ensures reply { result ≡ session.asked_reply asked }
+    ensures reply { result ≡ replies.asked_reply asked }
     ensures sendable { IsSendable result }
 {
     match asked {
