@@ -11,7 +11,7 @@ use Rattle.cj_top.specs.Scripted.{backend_names, PlayedOverTwo}
 
 -- what was played from there is what a script promises, and no session has begun there
 pub played_over_two : (left left' held held' : Option (List ℕ)) (ending : ScriptEnd) (first last : WorldState) → first.core ≡ started 2 → faults_of first.cells ≡ 0 ∷ 0 ∷ []
-    → CameTo true false backend_names left left' held held' first ending last → InTurns true backend_names left left' held held' first last → PlayedOverTwo left left' held held' ending
+    → CameTo true true backend_names left left' held held' first ending last → InTurns true backend_names left left' held held' first last → PlayedOverTwo left left' held held' ending
 played_over_two left left' held held' ending first last new faultless came turns = record {
   first = first;
   new = new;

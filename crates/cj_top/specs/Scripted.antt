@@ -58,7 +58,7 @@ pub record PlayedOverTwo (left left' held held' : Option (List ℕ)) (ending : S
   pub new : first.core ≡ started 2
   pub faultless : faults_of first.cells ≡ 0 ∷ 0 ∷ []
   pub last : WorldState
-  pub came : CameTo true false backend_names left left' held held' first ending last
+  pub came : CameTo true true backend_names left left' held held' first ending last
   pub begins : (s : ℕ) → IsBetween (record { front = first.core.history; least = 0 }) first.core s
   pub turns : InTurns true backend_names left left' held held' first last
 
