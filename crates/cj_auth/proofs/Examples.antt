@@ -3,11 +3,11 @@ use Rattle.std.proofs.Common.{◌≡◌, ◌||◌, ℕ, true, false, List, [], �
 use Rattle.sha2.specs.Sha256.{compress, digest_bytes, first_words, hash_after, rounds, schedule, sha256}
 use Rattle.hex.proofs.OnLiterals.{hex_on_literals}
 use Rattle.cj_model.specs.declared.account.Account.{Account}
-use Rattle.cj_model.specs.Accounts.{login_of}
+use Rattle.cj_model.specs.Cluster.Accounts.{login_of}
 use Rattle.cj_auth.specs.declared.error.AuthError.TheVariants.{Twice, BadDigest, LoginCount}
 use Rattle.cj_auth.specs.Admission.{admits}
 use Rattle.cj_auth.specs.Digests.{spells}
-use Rattle.cj_auth.specs.Refusals.{refusal_of}
+use Rattle.cj_auth.specs.Refusals.{refusal_of_accounts}
 
 abbrev ann : Account
 ann = record {
@@ -59,14 +59,14 @@ login_of_others = refl
 abbrev without_digest : Account
 without_digest = record { user = codes "bob"; digest = codes "2bb8"; logins = codes "l0" ∷ [] }
 
-accepted : refusal_of (ann ∷ []) 2 ≡ None
+accepted : refusal_of_accounts (ann ∷ []) 2 ≡ None
 accepted = refl
 
-twice_first : refusal_of (without_digest ∷ ann ∷ ann ∷ []) 2 ≡ Some (Twice (codes "ann"))
+twice_first : refusal_of_accounts (without_digest ∷ ann ∷ ann ∷ []) 2 ≡ Some (Twice (codes "ann"))
 twice_first = refl
 
-digest_next : refusal_of (ann ∷ without_digest ∷ []) 3 ≡ Some (BadDigest (codes "bob"))
+digest_next : refusal_of_accounts (ann ∷ without_digest ∷ []) 3 ≡ Some (BadDigest (codes "bob"))
 digest_next = refl
 
-logins_last : refusal_of (ann ∷ []) 3 ≡ Some (LoginCount (codes "ann"))
+logins_last : refusal_of_accounts (ann ∷ []) 3 ≡ Some (LoginCount (codes "ann"))
 logins_last = refl

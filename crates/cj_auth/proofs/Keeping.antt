@@ -13,14 +13,14 @@ use Rattle.std.proofs.lemmas.List.Elements.{All-cons, All-head, All-nil, All-tai
 use Rattle.std.proofs.lemmas.List.{append_assoc, map-append}
 use Rattle.sha2.specs.Sha256.{sha256}
 use Rattle.cj_model.specs.declared.account.Account.{Account}
-use Rattle.cj_model.specs.Accounts.{has_logins, is_of, login_of, repeated_user, user_where}
+use Rattle.cj_model.specs.Cluster.Accounts.{has_logins, is_account_of, login_of, repeated_user, user_where}
 use Rattle.cj_auth.specs.declared.credentials.Credential.{Credential}
 use Rattle.cj_auth.specs.declared.error.AuthError.{AuthError}
 use Rattle.cj_auth.specs.declared.error.AuthError.TheVariants.{Twice, BadDigest, LoginCount}
 use Rattle.cj_auth.specs.Admission.{admits}
 use Rattle.cj_auth.specs.Digests.{is_digest, reads_as, spells}
 use Rattle.cj_auth.specs.Kept.{HasKey, accounts_of}
-use Rattle.cj_auth.specs.Refusals.{refusal_of}
+use Rattle.cj_auth.specs.Refusals.{refusal_of_accounts}
 
 on_bool : {G : Type 0} (b : Bool) → (b ≡ true → G) → (b ≡ false → G) → G
 on_bool b f g = ⊎_elim (λ (t : b ≡ true). f t) (λ (t : b ≡ false). g t) (cases_Bool b)
@@ -44,7 +44,7 @@ none_fails q (x ∷ rows) h =
     (λ t. All-cons (λ (account : Account). q account ≡ true) x rows t (none_fails q rows (sym (ap found t) ∙ h)))
     (λ f. let e : Some x.user ≡ None = sym (ap found f) ∙ h in cc)
 
-module _ (rows : List Account) (backends : ℕ) (is : refusal_of rows backends ≡ None) where
+module _ (rows : List Account) (backends : ℕ) (is : refusal_of_accounts rows backends ≡ None) where
   later : Option AuthError
   later = option_or (option_map BadDigest (user_where (λ account. not (is_digest account.digest)) rows)) (option_map LoginCount (user_where (λ account. not (has_logins backends account)) rows))
 
@@ -80,20 +80,20 @@ one_more made credential account rest whole is h =
 -- ---- found among them
 
 -- the key and the digest's digits say the same
-pub same_admitted : (credentials : List Credential) (user password : List ℕ) → All HasKey credentials → list_any (λ (credential : Credential). is_of user credential.account && bytes_eq credential.key (sha256 password)) credentials ≡ admits (accounts_of credentials) user password
+pub same_admitted : (credentials : List Credential) (user password : List ℕ) → All HasKey credentials → list_any (λ (credential : Credential). is_account_of user credential.account && bytes_eq credential.key (sha256 password)) credentials ≡ admits (accounts_of credentials) user password
 same_admitted [] user password keys = refl
 same_admitted (c ∷ credentials) user password keys =
-    ap (λ b. (is_of user c.account && b) || list_any (λ (credential : Credential). is_of user credential.account && bytes_eq credential.key (sha256 password)) credentials)
+    ap (λ b. (is_account_of user c.account && b) || list_any (λ (credential : Credential). is_account_of user credential.account && bytes_eq credential.key (sha256 password)) credentials)
     (sym (ap (λ r. reads_as r (sha256 password)) (All-head HasKey c credentials keys)))
-    ∙ ap (λ b. (is_of user c.account && spells c.account.digest (sha256 password)) || b) (same_admitted credentials user password (All-tail HasKey c credentials keys))
+    ∙ ap (λ b. (is_account_of user c.account && spells c.account.digest (sha256 password)) || b) (same_admitted credentials user password (All-tail HasKey c credentials keys))
 
 -- a fact of every user that has an account holds of the one that is let in
-pub admitted_user : (P : List ℕ → Type 0) (is_meant : Credential → Bool) (credentials : List Credential) (user : List ℕ) → All (λ (credential : Credential). P credential.account.user) credentials → list_any (λ (credential : Credential). is_of user credential.account && is_meant credential) credentials ≡ true → P user
+pub admitted_user : (P : List ℕ → Type 0) (is_meant : Credential → Bool) (credentials : List Credential) (user : List ℕ) → All (λ (credential : Credential). P credential.account.user) credentials → list_any (λ (credential : Credential). is_account_of user credential.account && is_meant credential) credentials ≡ true → P user
 admitted_user P is_meant [] user all h = cc
 admitted_user P is_meant (c ∷ credentials) user all h =
-    let rest : Bool = list_any (λ (credential : Credential). is_of user credential.account && is_meant credential) credentials in
-    on_bool (is_of user c.account && is_meant c)
-    (λ t. subst P ((bytes_eq-Decides c.account.user user).0 (and_parts (is_of user c.account) (is_meant c) t).0) (All-head (λ (credential : Credential). P credential.account.user) c credentials all))
+    let rest : Bool = list_any (λ (credential : Credential). is_account_of user credential.account && is_meant credential) credentials in
+    on_bool (is_account_of user c.account && is_meant c)
+    (λ t. subst P ((bytes_eq-Decides c.account.user user).0 (and_parts (is_account_of user c.account) (is_meant c) t).0) (All-head (λ (credential : Credential). P credential.account.user) c credentials all))
     (λ f. admitted_user P is_meant credentials user (All-tail (λ (credential : Credential). P credential.account.user) c credentials all) (sym (ap (λ b. b || rest) f) ∙ h))
 
 -- a fact that follows where the test is passed
@@ -101,15 +101,15 @@ pub on_true : (b : Bool) (P : Type 0) → (b ≡ true → P) → OnTrue b P
 on_true true P f = f refl
 on_true false P f = tt
 
-pub same_login : (credentials : List Credential) (user : List ℕ) (b : ℕ) → login_of (accounts_of credentials) user b ≡ option_map_or (λ (credential : Credential). slice_index_or credential.account.logins b []) (find (λ (credential : Credential). is_of user credential.account) credentials) []
+pub same_login : (credentials : List Credential) (user : List ℕ) (b : ℕ) → login_of (accounts_of credentials) user b ≡ option_map_or (λ (credential : Credential). slice_index_or credential.account.logins b []) (find (λ (credential : Credential). is_account_of user credential.account) credentials) []
 same_login [] user b = refl
 same_login (c ∷ credentials) user b =
-    on_bool (is_of user c.account)
-    (λ t. ap (λ o. option_map_or (λ (account : Account). slice_index_or account.logins b []) (cond o (Some c.account) (find (is_of user) (accounts_of credentials))) []) t
-    ∙ sym (ap (λ o. option_map_or (λ (credential : Credential). slice_index_or credential.account.logins b []) (cond o (Some c) (find (λ (credential : Credential). is_of user credential.account) credentials)) []) t))
-    (λ f. ap (λ o. option_map_or (λ (account : Account). slice_index_or account.logins b []) (cond o (Some c.account) (find (is_of user) (accounts_of credentials))) []) f
+    on_bool (is_account_of user c.account)
+    (λ t. ap (λ o. option_map_or (λ (account : Account). slice_index_or account.logins b []) (cond o (Some c.account) (find (is_account_of user) (accounts_of credentials))) []) t
+    ∙ sym (ap (λ o. option_map_or (λ (credential : Credential). slice_index_or credential.account.logins b []) (cond o (Some c) (find (λ (credential : Credential). is_account_of user credential.account) credentials)) []) t))
+    (λ f. ap (λ o. option_map_or (λ (account : Account). slice_index_or account.logins b []) (cond o (Some c.account) (find (is_account_of user) (accounts_of credentials))) []) f
     ∙ same_login credentials user b
-    ∙ sym (ap (λ o. option_map_or (λ (credential : Credential). slice_index_or credential.account.logins b []) (cond o (Some c) (find (λ (credential : Credential). is_of user credential.account) credentials)) []) f))
+    ∙ sym (ap (λ o. option_map_or (λ (credential : Credential). slice_index_or credential.account.logins b []) (cond o (Some c) (find (λ (credential : Credential). is_account_of user credential.account) credentials)) []) f))
 
 -- what is found passes what all pass
 pub found_passes : {A : Type 0} (P : A → Type 0) (q : A → Bool) (xs : List A) (y : A) → Some y ≡ find q xs → All P xs → P y
@@ -121,7 +121,7 @@ found_passes P q (x ∷ xs) y is all =
 
 module _ (credentials : List Credential) (user : List ℕ) (b : ℕ) where
   abbrev found : Option Credential
-  found = find (λ (credential : Credential). is_of user credential.account) credentials
+  found = find (λ (credential : Credential). is_account_of user credential.account) credentials
 
   abbrev login_in : Option Credential → List ℕ
   login_in o = option_map_or (λ (credential : Credential). slice_index_or credential.account.logins b []) o []
@@ -136,4 +136,4 @@ module _ (credentials : List Credential) (user : List ℕ) (b : ℕ) where
   -- it has a login for each backend where all have
   pub login_count : (backends : ℕ) (credential : Credential) → Some credential ≡ found → All (λ (credential : Credential). has_logins backends credential.account ≡ true) credentials → length credential.account.logins ≡ backends
   login_count backends credential is all =
-      eqb-true _ _ (found_passes (λ (credential : Credential). has_logins backends credential.account ≡ true) (λ (credential : Credential). is_of user credential.account) credentials credential is all)
+      eqb-true _ _ (found_passes (λ (credential : Credential). has_logins backends credential.account ≡ true) (λ (credential : Credential). is_account_of user credential.account) credentials credential is all)

@@ -3,9 +3,9 @@ use Rattle.std.specs.Prelude.{◌≡◌, ◌≤◌, ℕ, true, List, [], length,
 use Rattle.std.specs.declared.result.Result.TheVariants.{Ok}
 use Rattle.hex.specs.Hex.{decode_of}
 use Rattle.cj_model.specs.declared.account.Account.{Account}
-use Rattle.cj_model.specs.Accounts.{has_logins}
+use Rattle.cj_model.specs.Cluster.Accounts.{has_logins}
 use Rattle.cj_model.specs.declared.limits.TheConstants.{USER_LIMIT}
-use Rattle.cj_model.specs.Words.{IsText}
+use Rattle.cj_model.specs.Sql.Names.{IsText}
 use Rattle.cj_auth.specs.declared.credentials.Credential.{Credential}
 
 abbrev pub accounts_of : List Credential → List Account
@@ -21,7 +21,7 @@ pub record IsUserName (user : List ℕ) : Type 0 where
   pub short : length user ≤ USER_LIMIT
 
 -- each with its key and with a login for each backend, and an empty login for users that have none
-pub record IsKept (credentials : List Credential) (backends : ℕ) (empty : List ℕ) : Type 0 where
+pub record AreKeptAccounts (credentials : List Credential) (backends : ℕ) (empty : List ℕ) : Type 0 where
   pub users : All (λ (credential : Credential). IsUserName credential.account.user) credentials
   pub keys : All HasKey credentials
   pub logins : All (λ (credential : Credential). has_logins backends credential.account ≡ true) credentials

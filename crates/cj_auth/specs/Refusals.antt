@@ -3,14 +3,14 @@ use Rattle.std.specs.Prelude.{ℕ, not, List, []}
 use Rattle.std.specs.declared.option.Option.{Option}
 use Rattle.std.specs.Option.{option_map, option_or}
 use Rattle.cj_model.specs.declared.account.Account.{Account}
-use Rattle.cj_model.specs.Accounts.{has_logins, repeated_user, user_where}
+use Rattle.cj_model.specs.Cluster.Accounts.{has_logins, repeated_user, user_where}
 use Rattle.cj_auth.specs.declared.error.AuthError.{AuthError}
 use Rattle.cj_auth.specs.declared.error.AuthError.TheVariants.{Twice, BadDigest, LoginCount}
 use Rattle.cj_auth.specs.Digests.{is_digest}
 
 -- a user that is listed twice; or else one whose digest isn't one; or else one that doesn't have a login for each backend
-abbrev pub refusal_of : List Account → ℕ → Option AuthError
-refusal_of accounts backends =
+abbrev pub refusal_of_accounts : List Account → ℕ → Option AuthError
+refusal_of_accounts accounts backends =
     option_or (option_map Twice (repeated_user [] accounts))
     (option_or (option_map BadDigest (user_where (λ account. not (is_digest account.digest)) accounts))
     (option_map LoginCount (user_where (λ account. not (has_logins backends account)) accounts)))

@@ -2,10 +2,10 @@
 
 ghost use Rattle.std.specs.Prelude.{◌≡◌, ◌⊎◌, ◌<◌, IfErr, IfOk, None, Some};
 ghost use Rattle.std.specs.Bool.{OnTrue};
-ghost use Rattle.cj_model.specs.Accounts.{HasShortUsers, login_of};
+ghost use Rattle.cj_model.specs.Cluster.Accounts.{HasShortUsers, login_of};
 ghost use Rattle.cj_auth.specs.Admission.{admits};
 ghost use Rattle.cj_auth.specs.Kept.{IsUserName};
-ghost use Rattle.cj_auth.specs.Refusals.{refusal_of};
+ghost use Rattle.cj_auth.specs.Refusals.{refusal_of_accounts};
 ghost use Rattle.cj_auth.specs.declared.error.AuthError.TheVariants as error;
 
 use crate::credentials::{Credential, find_user, has_key, with_keys};
@@ -31,11 +31,11 @@ impl Model for Accounts {
 
     ghost Value = { Register };
 
-    ghost use Rattle.cj_auth.specs.Kept.{IsKept, accounts_of};
+    ghost use Rattle.cj_auth.specs.Kept.{AreKeptAccounts, accounts_of};
 
     ghost view = { λ a. record { accounts = accounts_of a.credentials; backends = a.backends } };
 
-    ghost invariant = { λ a. IsKept a.credentials a.backends a.empty };
+    ghost invariant = { λ a. AreKeptAccounts a.credentials a.backends a.empty };
 }
 
 impl Accounts {
@@ -44,8 +44,8 @@ impl Accounts {
         requires { HasShortUsers rows }
         ensures accounts { IfOk result (λ a. a.accounts ≡ rows) }
         ensures backends { IfOk result (λ a. a.backends ≡ backends) }
-        ensures accepted { IfOk result (λ _. refusal_of rows backends ≡ None) }
-        ensures refused { IfErr result (λ e. (e ≡ error.NoMemory) ⊎ (refusal_of rows backends ≡ Some e)) }
+        ensures accepted { IfOk result (λ _. refusal_of_accounts rows backends ≡ None) }
+        ensures refused { IfErr result (λ e. (e ≡ error.NoMemory) ⊎ (refusal_of_accounts rows backends ≡ Some e)) }
     {
         refuse(alloc, rows.as_slice(), backends)?;
         Ok(Accounts {

@@ -3,7 +3,7 @@
 ghost use Rattle.std.specs.Prelude.{◌≡◌, ◌≤◌, ◌&&◌, find, length, option_copied, true, All, IfOk};
 ghost use Rattle.std.specs.List.{list_any};
 ghost use Rattle.std.specs.Str.{bytes_eq};
-ghost use Rattle.cj_model.specs.Accounts.{HasShortUsers, is_of};
+ghost use Rattle.cj_model.specs.Cluster.Accounts.{HasShortUsers, is_account_of};
 ghost use Rattle.cj_auth.specs.Digests.{is_digest};
 ghost use Rattle.cj_auth.specs.Kept.{HasKey, IsUserName, accounts_of};
 
@@ -58,7 +58,7 @@ pub fn with_keys(alloc: Global, accounts: AccountRows) -> Result<ListOf<Credenti
 
 /// Whether an account is the user's and its digest spells the key.
 pub fn has_key(credentials: &[Credential], user: &[u8], key: &[u8; 32]) -> bool
-    ensures { result ≡ list_any (λ credential. is_of user.now credential.account && bytes_eq credential.key key.now) credentials.now }
+    ensures { result ≡ list_any (λ credential. is_account_of user.now credential.account && bytes_eq credential.key key.now) credentials.now }
 {
     credentials.iter().any(|credential| {
         credential.account.user.as_slice() == user && is_same_key(&credential.key, key)
@@ -67,7 +67,7 @@ pub fn has_key(credentials: &[Credential], user: &[u8], key: &[u8; 32]) -> bool
 
 /// The account of the user; none exactly where none is the user's.
 pub fn find_user<'a>(credentials: &'a [Credential], user: &[u8]) -> Option<&'a Credential>
-    ensures { option_copied result ≡ find (λ credential. is_of user.now credential.account) credentials.now }
+    ensures { option_copied result ≡ find (λ credential. is_account_of user.now credential.account) credentials.now }
 {
     credentials
         .iter()

@@ -1,10 +1,10 @@
 //! What is refused as a list of accounts.
 
 ghost use Rattle.std.specs.Prelude.{◌≡◌, ◌⊎◌, [], length, not, option_copied, IfErr, IsOk, None, Some};
-ghost use Rattle.cj_model.specs.Accounts as accounts;
-ghost use Rattle.cj_model.specs.Accounts.{has_logins, user_where};
+ghost use Rattle.cj_model.specs.Cluster.Accounts as accounts;
+ghost use Rattle.cj_model.specs.Cluster.Accounts.{has_logins, user_where};
 ghost use Rattle.cj_auth.specs.Digests.{is_digest};
-ghost use Rattle.cj_auth.specs.Refusals.{refusal_of};
+ghost use Rattle.cj_auth.specs.Refusals.{refusal_of_accounts};
 ghost use Rattle.cj_auth.specs.declared.error.AuthError.TheVariants as error;
 
 use crate::digests;
@@ -51,8 +51,8 @@ fn user_without_logins(rows: &[Account], backends: u8) -> Option<&Text>
 
 /// Passes accounts in which nothing is wrong, and else says what is wrong first.
 pub fn refuse(alloc: Global, rows: &[Account], backends: u8) -> Result<(), AuthError>
-    ensures passed { IsOk result → refusal_of rows.now backends ≡ None }
-    ensures refused { IfErr result (λ e. (e ≡ error.NoMemory) ⊎ (refusal_of rows.now backends ≡ Some e)) }
+    ensures passed { IsOk result → refusal_of_accounts rows.now backends ≡ None }
+    ensures refused { IfErr result (λ e. (e ≡ error.NoMemory) ⊎ (refusal_of_accounts rows.now backends ≡ Some e)) }
 {
     if let Some(user) = repeated_user(rows) {
         return Err(AuthError::Twice(user.copy(alloc)?));

@@ -11,9 +11,9 @@ use Rattle.cj_model.specs.declared.request.Act.{Act}
 use Rattle.cj_model.specs.declared.select.Select.{Select}
 use Rattle.cj_model.specs.declared.answer.Asked.{Asked}
 use Rattle.cj_model.specs.declared.answer.Outcome.{Outcome}
-use Rattle.cj_model.specs.Steps.{acted}
-use Rattle.cj_model.specs.Queries.{ask}
-use Rattle.cj_model.specs.Storable.{writers}
+use Rattle.cj_model.specs.Database.Steps.{acted}
+use Rattle.cj_model.specs.Database.Queries.{ask}
+use Rattle.cj_model.specs.Database.Storable.{writers}
 use Rattle.cj_backend.specs.declared.backend.BackendError.{BackendError}
 use Rattle.cj_backend.specs.declared.backend.BackendError.TheVariants as errors
 

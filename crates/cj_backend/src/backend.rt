@@ -5,8 +5,8 @@ ghost use Rattle.std.specs.declared.option.Option.{Option};
 ghost use Rattle.cj_model.specs.declared.database.Slot.{Slot};
 ghost use Rattle.cj_model.specs.declared.request.Act.TheVariants as act;
 ghost use Rattle.cj_model.specs.declared.request.Request.TheVariants as request;
-ghost use Rattle.cj_model.specs.Legality.{IsWritten};
-ghost use Rattle.cj_model.specs.Storable.{IsStorable};
+ghost use Rattle.cj_model.specs.Cluster.Legality.{IsWritten};
+ghost use Rattle.cj_model.specs.Database.Storable.{IsStorable};
 
 use cj_model::{Asked, Create, Db, Name, NoMemory, Outcome, Select, Text, Write};
 use thiserror::Error;
@@ -51,7 +51,7 @@ pub struct Counts {
 /// `NoMemory` at any time, which counts none; nor does a call that is carried out. After a change that was not carried out, a load among them, the backend
 /// no longer tells what it holds. After the next load that is carried out it tells again.
 pub trait Backend {
-    ghost use Rattle.cj_model.specs.Outcomes.{IsOutcome, IsAsked};
+    ghost use Rattle.cj_model.specs.Database.Outcomes.{IsOutcome, IsAsked};
     ghost use Rattle.cj_backend.specs.Backends.{HasBackendCause, SaysOutcome, SaysAnswer, told_after, LogsIn, IsBegun, begun_with, begun_without, told_loaded, begun_loaded, asks_after, Arming, SpendsArming, arming_after};
 
     /// Whether it tells what it holds: at all times but from a change that was not carried out to

@@ -4,8 +4,8 @@ use Rattle.std.proofs.lemmas.Bool.{both_ways}
 use Rattle.std.proofs.lemmas.Nat.Bits.{bit_at_above}
 use Rattle.cj_model.specs.declared.policy.Policy.{Policy}
 use Rattle.cj_model.specs.declared.policy.Policy.TheVariants.{RoundRobin, Weighted, LeastPending}
-use Rattle.cj_model.specs.Histories.{has}
-use Rattle.cj_model.specs.Balancing.{Standing, Picks, at_rest, is_ahead, picked}
+use Rattle.cj_model.specs.Cluster.Histories.{in_mask}
+use Rattle.cj_model.specs.Cluster.Balancing.{Standing, Picks, at_rest, is_ahead, picked}
 
 -- backend 0 has the weight 2, and each other one 1
 abbrev weights : List ℕ
@@ -17,12 +17,12 @@ ArePicked policy s [] = Unit {0}
 ArePicked policy s (b ∷ bs) = Picks policy weights s 3 b (picked policy s b) × ArePicked policy (picked policy s b) bs
 
 -- the candidates of mask 3
-of_two : (P : ℕ → Type 0) → P 0 → P 1 → (k : ℕ) → has 3 k ≡ true → P k
+of_two : (P : ℕ → Type 0) → P 0 → P 1 → (k : ℕ) → in_mask 3 k ≡ true → P k
 of_two P a b zero h = a
 of_two P a b (suc zero) h = b
 of_two P a b (suc (suc k)) h =
-    let none : has 3 (suc (suc k)) ≡ false = ap (λ n. n == 1) (bit_at_above 3 2 (suc (suc k)) (lit< tt) (omega arith)) in
-    absurd (both_ways (has 3 (suc (suc k))) none h)
+    let none : in_mask 3 (suc (suc k)) ≡ false = ap (λ n. n == 1) (bit_at_above 3 2 (suc (suc k)) (lit< tt) (omega arith)) in
+    absurd (both_ways (in_mask 3 (suc (suc k))) none h)
 
 zero_picked : (policy : Policy) (s : Standing) → is_ahead policy weights s 0 0 ≡ false → is_ahead policy weights s 1 0 ≡ false → Picks policy weights s 3 0 (picked policy s 0)
 zero_picked policy s itself other = record {
@@ -44,7 +44,7 @@ one_picked policy s other itself ahead = record {
   stands = refl;
 }
   where
-    below_one : (P : ℕ → Type 0) → P 0 → (k : ℕ) → k < 1 → has 3 k ≡ true → P k
+    below_one : (P : ℕ → Type 0) → P 0 → (k : ℕ) → k < 1 → in_mask 3 k ≡ true → P k
     below_one P a zero lt here = a
     below_one P a (suc k) lt here = absurd (omega arith)
 

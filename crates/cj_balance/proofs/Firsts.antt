@@ -3,14 +3,14 @@ use Rattle.std.proofs.Common.{◌≡◌, ℕ, ◌+◌, ◌^◌, ◌==◌, ◌<�
 use Rattle.std.proofs.lemmas.Bool.{cases_Bool, cases_lt, both_ways}
 use Rattle.std.proofs.lemmas.Nat.Bits.{bit_at_above}
 use Rattle.cj_model.specs.declared.policy.Policy.{Policy}
-use Rattle.cj_model.specs.Histories.{has}
-use Rattle.cj_model.specs.Balancing.{Standing, IsFirst, is_ahead}
+use Rattle.cj_model.specs.Cluster.Histories.{in_mask}
+use Rattle.cj_model.specs.Cluster.Balancing.{Standing, IsFirst, is_ahead}
 use Rattle.cj_model.proofs.BalanceLaws.{ahead_one_way, ahead_chain, candidates_below}
 use Rattle.cj_model.proofs.Masks.{no_bit}
 use Rattle.cj_balance.specs.Kept.{AreWeights, IsFirstBelow}
 
 -- where number i is a candidate and ahead of the first of those below it, it is ahead of all of them
-ahead_of_all : (policy : Policy) (weights : List ℕ) (s : Standing) (candidates i b : ℕ) → AreWeights weights → i ≤ 16 → IsFirstBelow (is_ahead policy weights s) candidates i b → is_ahead policy weights s i b ≡ true → (k : ℕ) → k < i → has candidates k ≡ true → is_ahead policy weights s i k ≡ true
+ahead_of_all : (policy : Policy) (weights : List ℕ) (s : Standing) (candidates i b : ℕ) → AreWeights weights → i ≤ 16 → IsFirstBelow (is_ahead policy weights s) candidates i b → is_ahead policy weights s i b ≡ true → (k : ℕ) → k < i → in_mask candidates k ≡ true → is_ahead policy weights s i k ≡ true
 ahead_of_all policy weights s candidates i b ok le f h k lt here =
     ⊎_elim
     (λ (yes : is_ahead policy weights s i k ≡ true). yes)
@@ -28,13 +28,13 @@ not_ahead_of_itself policy weights s i =
     (cases_Bool (is_ahead policy weights s i i))
 
 -- and it is then the first up to itself
-pub first_taken : (policy : Policy) (weights : List ℕ) (s : Standing) (candidates i b : ℕ) → AreWeights weights → i < 16 → has candidates i ≡ true → IsFirstBelow (is_ahead policy weights s) candidates i b → is_ahead policy weights s i b ≡ true → IsFirstBelow (is_ahead policy weights s) candidates (i + 1) i
+pub first_taken : (policy : Policy) (weights : List ℕ) (s : Standing) (candidates i b : ℕ) → AreWeights weights → i < 16 → in_mask candidates i ≡ true → IsFirstBelow (is_ahead policy weights s) candidates i b → is_ahead policy weights s i b ≡ true → IsFirstBelow (is_ahead policy weights s) candidates (i + 1) i
 first_taken policy weights s candidates i b ok lt here f h =
     let all = ahead_of_all policy weights s candidates i b ok (omega arith) f h in
     record {
       below = omega arith;
       candidate = here;
-      none_ahead = below_more (λ k. has candidates k ≡ true → is_ahead policy weights s k i ≡ false) i (λ k l y. ahead_one_way policy weights s i k (all k l y)) (λ _. not_ahead_of_itself policy weights s i);
+      none_ahead = below_more (λ k. in_mask candidates k ≡ true → is_ahead policy weights s k i ≡ false) i (λ k l y. ahead_one_way policy weights s i k (all k l y)) (λ _. not_ahead_of_itself policy weights s i);
       lower = all;
     }
 
@@ -47,7 +47,7 @@ first_of_all ahead candidates b fits f = record {
 }
 
 -- a mask with none below 16 is 0
-pub no_candidates : (candidates : ℕ) → candidates < 2 ^ 16 → ((k : ℕ) → k < 16 → has candidates k ≡ false) → candidates ≡ 0
+pub no_candidates : (candidates : ℕ) → candidates < 2 ^ 16 → ((k : ℕ) → k < 16 → in_mask candidates k ≡ false) → candidates ≡ 0
 no_candidates candidates fits none =
     no_bit candidates (omega arith)
     (λ k.

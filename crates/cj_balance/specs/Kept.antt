@@ -1,7 +1,7 @@
 -- What a balancer keeps, and what its search for the first candidate knows.
 use Rattle.std.specs.Prelude.{◌≡◌, ℕ, ◌^◌, ◌<◌, ◌≤◌, Bool, true, false, List, length, slice_index, Option, None, Some, IfSome}
-use Rattle.cj_model.specs.Histories.{has}
-use Rattle.cj_model.specs.Balancing.{Balance, is_ahead}
+use Rattle.cj_model.specs.Cluster.Histories.{in_mask}
+use Rattle.cj_model.specs.Cluster.Balancing.{Balance, is_ahead}
 use Rattle.cj_model.specs.declared.limits.TheConstants.{BACKEND_LIMIT}
 use Rattle.cj_balance.specs.declared.balancer.TheConstants.{MOST_WEIGHT}
 
@@ -14,7 +14,7 @@ abbrev pub AreCounts : List ℕ → Type 0
 AreCounts counts = (length counts ≡ BACKEND_LIMIT) × ((k : ℕ) → k < BACKEND_LIMIT → slice_index counts k < 2 ^ 32)
 
 -- the weights, the last picked backend and both counts are those of 16 backends
-pub record Keeps (weights : List ℕ) (last : Option ℕ) (used pending : List ℕ) : Type 0 where
+pub record KeepsBalance (weights : List ℕ) (last : Option ℕ) (used pending : List ℕ) : Type 0 where
   pub weight_count : length weights ≡ BACKEND_LIMIT
   pub weighted : AreWeights weights
   pub below : IfSome last (λ b. b < BACKEND_LIMIT)
@@ -24,13 +24,13 @@ pub record Keeps (weights : List ℕ) (last : Option ℕ) (used pending : List �
 -- b is the first of the candidates below a limit
 pub record IsFirstBelow (ahead : ℕ → ℕ → Bool) (candidates limit b : ℕ) : Type 0 where
   pub below : b < limit
-  pub candidate : has candidates b ≡ true
-  pub none_ahead : (k : ℕ) → k < limit → has candidates k ≡ true → ahead k b ≡ false
-  pub lower : (k : ℕ) → k < b → has candidates k ≡ true → ahead b k ≡ true
+  pub candidate : in_mask candidates b ≡ true
+  pub none_ahead : (k : ℕ) → k < limit → in_mask candidates k ≡ true → ahead k b ≡ false
+  pub lower : (k : ℕ) → k < b → in_mask candidates k ≡ true → ahead b k ≡ true
 
 -- the first of the candidates below a limit, or none where there are none
 abbrev pub FirstBelow : (ℕ → ℕ → Bool) → ℕ → ℕ → Option ℕ → Type 0
-FirstBelow ahead candidates limit None = (k : ℕ) → k < limit → has candidates k ≡ false
+FirstBelow ahead candidates limit None = (k : ℕ) → k < limit → in_mask candidates k ≡ false
 FirstBelow ahead candidates limit (Some b) = IsFirstBelow ahead candidates limit b
 
 abbrev pub IsFirstOrNone : Balance → ℕ → ℕ → Option ℕ → Type 0

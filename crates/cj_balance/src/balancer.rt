@@ -1,8 +1,8 @@
 //! The balancer, and what it keeps of each backend.
 
 ghost use Rattle.std.specs.Prelude.{◌≡◌, ◌↔◌, ◌+◌, ◌-◌, ◌^◌, ◌<◌, slice_index, IsNone, IfSome};
-ghost use Rattle.cj_model.specs.Balancing as balancing;
-ghost use Rattle.cj_model.specs.Balancing.{Picks, at_rest, one_more, one_less, with_room, used_after, picked};
+ghost use Rattle.cj_model.specs.Cluster.Balancing as balancing;
+ghost use Rattle.cj_model.specs.Cluster.Balancing.{Picks, at_rest, one_more, one_less, with_room, used_after, picked};
 ghost use Rattle.cj_balance.specs.Kept.{AreWeights, IsFirstOrNone};
 
 use cj_model::{BACKEND_LIMIT, Policy, has_bit};
@@ -27,14 +27,14 @@ pub struct Balancer {
 }
 
 impl Model for Balancer {
-    ghost use Rattle.cj_model.specs.Balancing.{Balance};
-    ghost use Rattle.cj_balance.specs.Kept.{Keeps};
+    ghost use Rattle.cj_model.specs.Cluster.Balancing.{Balance};
+    ghost use Rattle.cj_balance.specs.Kept.{KeepsBalance};
 
     ghost Value = { Balance };
 
     ghost view = { λ b. record { policy = b.policy; weights = b.weights; standing = record { last = b.last; used = b.used; pending = b.pending } } };
 
-    ghost invariant = { λ b. Keeps b.weights b.last b.used b.pending };
+    ghost invariant = { λ b. KeepsBalance b.weights b.last b.used b.pending };
 }
 
 /// The steps up from one backend to another, where 0 comes after 15.

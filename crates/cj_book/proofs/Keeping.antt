@@ -6,9 +6,9 @@ use Rattle.std.proofs.lemmas.Option.{slice_get_cases, slice_get_past, slice_get-
 use Rattle.cj_model.specs.declared.request.Entry.{Entry}
 use Rattle.cj_model.specs.declared.event.Event.{Event}
 use Rattle.cj_model.specs.declared.event.Event.TheVariants.{Sched, Ended, ReadFailed, Disabled, Enabled}
-use Rattle.cj_model.specs.Histories.{has, scheduled, is_ended, log, done, free, enabled, room}
+use Rattle.cj_model.specs.Cluster.Histories.{in_mask, scheduled_entry, is_end_event, log, ended_count, is_idle, is_enabled, events_left}
 use Rattle.cj_model.proofs.Pushed.{get_seam, get_left, enabled-push, log-sched, log-same, done-same, done-ended}
-use Rattle.cj_book.specs.Kept.{Keeps, entry_at}
+use Rattle.cj_book.specs.Kept.{KeepsHistory, entry_at}
 use Rattle.cj_model.proofs.MaskBits.{has_without, has_cleared, has_set}
 
 -- ---- the entries at their places
@@ -16,7 +16,7 @@ use Rattle.cj_model.proofs.MaskBits.{has_without, has_cleared, has_set}
 -- one more event leaves the entry at a place
 entry_stays : (h : List Event) (new : Event) (place : Option ℕ) (e : Entry) → option_and_then (entry_at h) place ≡ Some e → option_and_then (entry_at (h ++ new ∷ [])) place ≡ Some e
 entry_stays h new None e is = absurd (cc is)
-entry_stays h new (Some p) e is = option_and_then_some scheduled (slice_get h p) e is (λ d there is_sched. rw (get_left h (new ∷ []) p d there) is_sched)
+entry_stays h new (Some p) e is = option_and_then_some scheduled_entry (slice_get h p) e is (λ d there is_sched. rw (get_left h (new ∷ []) p d there) is_sched)
 
 -- one more place leaves those before it
 place_stays : (places : List ℕ) (new i : ℕ) → i < length places → slice_get (places ++ new ∷ []) i ≡ slice_get places i
@@ -61,18 +61,18 @@ entries_sched h places entries new as_many have i =
 
 -- ---- a book with one more event
 
-module _ (n : ℕ) (h : List Event) (places : List ℕ) (count on cap : ℕ) (has_spare : Bool) (k : Keeps n h places count on cap has_spare) where
+module _ (n : ℕ) (h : List Event) (places : List ℕ) (count on cap : ℕ) (has_spare : Bool) (k : KeepsHistory n h places count on cap has_spare) where
   -- an entry that is scheduled
-  pub keeps_sched : (e : Entry) (cap' : ℕ) → free h ≡ true → 3 ≤ room h → length (h ++ Sched e ∷ []) + 1 ≤ cap' → Keeps n (h ++ Sched e ∷ []) (places ++ length h ∷ []) count on cap' false
+  pub keeps_sched : (e : Entry) (cap' : ℕ) → is_idle h ≡ true → 3 ≤ events_left h → length (h ++ Sched e ∷ []) + 1 ≤ cap' → KeepsHistory n (h ++ Sched e ∷ []) (places ++ length h ∷ []) count on cap' false
   keeps_sched e cap' fr space spare =
-      let at_end : done h ≡ length (log h) = eqb-true _ _ fr in
+      let at_end : ended_count h ≡ length (log h) = eqb-true _ _ fr in
       let entries : log (h ++ Sched e ∷ []) ≡ log h ++ e ∷ [] = log-sched h e in
       let more : length (log (h ++ Sched e ∷ [])) ≡ length (log h) + 1 = ap length entries ∙ length-append (log h) (e ∷ []) in
-      let ends : done (h ++ Sched e ∷ []) ≡ done h = done-same h (Sched e) refl in
+      let ends : ended_count (h ++ Sched e ∷ []) ≡ ended_count h = done-same h (Sched e) refl in
       let places_more = length-append places (length h ∷ []) in
       let events = length-append h (Sched e ∷ []) in
       let as_many : length places ≡ length (log h) = k.entry_count in
-      let same : (b : ℕ) → enabled (h ++ Sched e ∷ []) b ≡ enabled h b = λ b. enabled-push h (Sched e) b in
+      let same : (b : ℕ) → is_enabled (h ++ Sched e ∷ []) b ≡ is_enabled h b = λ b. enabled-push h (Sched e) b in
       record {
         backend_count = k.backend_count;
         entry_count = omega arith;
@@ -87,15 +87,15 @@ module _ (n : ℕ) (h : List Event) (places : List ℕ) (count on cap : ℕ) (ha
       }
 
   -- an event that leaves the log and the ends as they are
-  keeps_same : (new : Event) (on' cap' : ℕ) → scheduled new ≡ None → is_ended new ≡ false → 0 < room h → ((b : ℕ) → has on' b ≡ enabled (h ++ new ∷ []) b)
-      → ((b : ℕ) → enabled (h ++ new ∷ []) b ≡ true → b < n) → length (h ++ new ∷ []) + 1 ≤ cap' → Keeps n (h ++ new ∷ []) places count on' cap' false
+  keeps_same : (new : Event) (on' cap' : ℕ) → scheduled_entry new ≡ None → is_end_event new ≡ false → 0 < events_left h → ((b : ℕ) → in_mask on' b ≡ is_enabled (h ++ new ∷ []) b)
+      → ((b : ℕ) → is_enabled (h ++ new ∷ []) b ≡ true → b < n) → length (h ++ new ∷ []) + 1 ≤ cap' → KeepsHistory n (h ++ new ∷ []) places count on' cap' false
   keeps_same new on' cap' no_entry no_end space mask below spare =
       let entries : log (h ++ new ∷ []) ≡ log h = log-same h new no_entry in
       let as_many : length (log (h ++ new ∷ [])) ≡ length (log h) = ap length entries in
-      let ends : done (h ++ new ∷ []) ≡ done h = done-same h new no_end in
+      let ends : ended_count (h ++ new ∷ []) ≡ ended_count h = done-same h new no_end in
       let events = length-append h (new ∷ []) in
-      let lo : done h ≤ length (log h) = k.one_open.0 in
-      let hi : length (log h) ≤ done h + 1 = k.one_open.1 in
+      let lo : ended_count h ≤ length (log h) = k.one_open.0 in
+      let hi : length (log h) ≤ ended_count h + 1 = k.one_open.1 in
       record {
         backend_count = k.backend_count;
         entry_count = k.entry_count ∙ sym as_many;
@@ -110,56 +110,56 @@ module _ (n : ℕ) (h : List Event) (places : List ℕ) (count on cap : ℕ) (ha
       }
 
   -- the end of the open entry
-  pub keeps_ended : (f s cap' : ℕ) → on < 2 ^ 32 → f < 2 ^ 32 → s < 2 ^ 32 → free h ≡ false → cap ≤ cap'
-      → Keeps n (h ++ Ended f s ∷ []) places (count + 1) (bit_and on (4294967295 - bit_or f s)) cap' false
+  pub keeps_ended : (f s cap' : ℕ) → on < 2 ^ 32 → f < 2 ^ 32 → s < 2 ^ 32 → is_idle h ≡ false → cap ≤ cap'
+      → KeepsHistory n (h ++ Ended f s ∷ []) places (count + 1) (bit_and on (4294967295 - bit_or f s)) cap' false
   keeps_ended f s cap' fits p q fr more =
       let entries : log (h ++ Ended f s ∷ []) ≡ log h = log-same h (Ended f s) refl in
       let as_many : length (log (h ++ Ended f s ∷ [])) ≡ length (log h) = ap length entries in
-      let ends : done (h ++ Ended f s ∷ []) ≡ done h + 1 = done-ended h f s in
+      let ends : ended_count (h ++ Ended f s ∷ []) ≡ ended_count h + 1 = done-ended h f s in
       let events = length-append h (Ended f s ∷ []) in
-      let lo : done h ≤ length (log h) = k.one_open.0 in
-      let hi : length (log h) ≤ done h + 1 = k.one_open.1 in
-      let is_open : done h ≢ length (log h) = eqb-false _ _ fr in
-      let room : length h + 2 * (length (log h) - done h) ≤ 2 ^ 62 = k.short in
-      let spare : length h + (length (log h) - done h) ≤ cap = k.spare in
-      let counted : count ≡ done h = k.ends in
+      let lo : ended_count h ≤ length (log h) = k.one_open.0 in
+      let hi : length (log h) ≤ ended_count h + 1 = k.one_open.1 in
+      let is_open : ended_count h ≢ length (log h) = eqb-false _ _ fr in
+      let events_left : length h + 2 * (length (log h) - ended_count h) ≤ 2 ^ 62 = k.short in
+      let spare : length h + (length (log h) - ended_count h) ≤ cap = k.spare in
+      let counted : count ≡ ended_count h = k.ends in
       record {
         backend_count = k.backend_count;
         entry_count = k.entry_count ∙ sym as_many;
         entries = λ i. rw entries (entries_same h places (log h) (Ended f s) k.entry_count k.entries i);
         ends = omega arith;
         one_open = (omega arith, omega arith);
-        mask = λ b. has_without on f s b fits p q ∙ (ap (λ x. x && not (has f b || has s b)) (k.mask b) ∙ sym (enabled-push h (Ended f s) b));
-        below = λ b is. k.below b (and_parts (enabled h b) (not (has f b || has s b)) (sym (enabled-push h (Ended f s) b) ∙ is)).0;
+        mask = λ b. has_without on f s b fits p q ∙ (ap (λ x. x && not (in_mask f b || in_mask s b)) (k.mask b) ∙ sym (enabled-push h (Ended f s) b));
+        below = λ b is. k.below b (and_parts (is_enabled h b) (not (in_mask f b || in_mask s b)) (sym (enabled-push h (Ended f s) b) ∙ is)).0;
         short = omega arith;
         spare = omega arith;
         more = λ is. absurd (cc is);
       }
 
   -- a backend is disabled
-  pub keeps_disabled : (b cap' : ℕ) → on < 2 ^ 32 → b < n → 0 < room h → length (h ++ Disabled b ∷ []) + 1 ≤ cap' → Keeps n (h ++ Disabled b ∷ []) places count (bit_and on (4294967295 - 1 * 2 ^ b % 4294967296)) cap' false
+  pub keeps_disabled : (b cap' : ℕ) → on < 2 ^ 32 → b < n → 0 < events_left h → length (h ++ Disabled b ∷ []) + 1 ≤ cap' → KeepsHistory n (h ++ Disabled b ∷ []) places count (bit_and on (4294967295 - 1 * 2 ^ b % 4294967296)) cap' false
   keeps_disabled b cap' fits lt space spare =
       let few : n ≤ 16 = k.backend_count.1 in
       keeps_same (Disabled b) (bit_and on (4294967295 - 1 * 2 ^ b % 4294967296)) cap' refl refl space
       (λ x. has_cleared on b x fits (omega arith) ∙ (ap (λ y. y && not (x == b)) (k.mask x) ∙ sym (enabled-push h (Disabled b) x)))
-      (λ x is. k.below x (and_parts (enabled h x) (not (x == b)) (sym (enabled-push h (Disabled b) x) ∙ is)).0)
+      (λ x is. k.below x (and_parts (is_enabled h x) (not (x == b)) (sym (enabled-push h (Disabled b) x) ∙ is)).0)
       spare
 
   -- a backend is enabled
-  pub keeps_enabled : (b cap' : ℕ) → b < n → 0 < room h → length (h ++ Enabled b ∷ []) + 1 ≤ cap' → Keeps n (h ++ Enabled b ∷ []) places count (bit_or on (1 * 2 ^ b % 4294967296)) cap' false
+  pub keeps_enabled : (b cap' : ℕ) → b < n → 0 < events_left h → length (h ++ Enabled b ∷ []) + 1 ≤ cap' → KeepsHistory n (h ++ Enabled b ∷ []) places count (bit_or on (1 * 2 ^ b % 4294967296)) cap' false
   keeps_enabled b cap' lt space spare =
       let few : n ≤ 16 = k.backend_count.1 in
       keeps_same (Enabled b) (bit_or on (1 * 2 ^ b % 4294967296)) cap' refl refl space
       (λ x. has_set on b x (omega arith) ∙ (ap (λ y. y || x == b) (k.mask x) ∙ sym (enabled-push h (Enabled b) x)))
       (λ x is.
       ⊎_elim
-      (λ (was : enabled h x ≡ true). k.below x was)
+      (λ (was : is_enabled h x ≡ true). k.below x was)
       (λ (now : (x == b) ≡ true). let e : x ≡ b = eqb-true x b now in omega arith)
-      (or_cases (enabled h x) (x == b) (sym (enabled-push h (Enabled b) x) ∙ is)))
+      (or_cases (is_enabled h x) (x == b) (sym (enabled-push h (Enabled b) x) ∙ is)))
       spare
 
   -- a read failed
-  pub keeps_read_failed : (s q b cap' : ℕ) → 0 < room h → length (h ++ ReadFailed s q b ∷ []) + 1 ≤ cap' → Keeps n (h ++ ReadFailed s q b ∷ []) places count on cap' false
+  pub keeps_read_failed : (s q b cap' : ℕ) → 0 < events_left h → length (h ++ ReadFailed s q b ∷ []) + 1 ≤ cap' → KeepsHistory n (h ++ ReadFailed s q b ∷ []) places count on cap' false
   keeps_read_failed s q b cap' space spare =
-      let same : (x : ℕ) → enabled (h ++ ReadFailed s q b ∷ []) x ≡ enabled h x = λ x. enabled-push h (ReadFailed s q b) x in
+      let same : (x : ℕ) → is_enabled (h ++ ReadFailed s q b ∷ []) x ≡ is_enabled h x = λ x. enabled-push h (ReadFailed s q b) x in
       keeps_same (ReadFailed s q b) on cap' refl refl space (λ x. k.mask x ∙ sym (same x)) (λ x is. k.below x (sym (same x) ∙ is)) spare

@@ -4,10 +4,10 @@ use Rattle.std.specs.Coded.{Coded, code_by, coded×, coded_bool, coded_list, cod
 use Rattle.cj_model.specs.declared.request.Act.{Act}
 use Rattle.cj_model.specs.declared.event.Event.{Event}
 use Rattle.cj_model.specs.contracts.event.Event as event_type
-use Rattle.cj_model.specs.Plain.{request_of}
-use Rattle.cj_model.specs.Placements.{everywhere}
-use Rattle.cj_model.specs.Histories.{log, free, room}
-use Rattle.cj_model.specs.Answering.{Served, Unserved}
+use Rattle.cj_model.specs.Sql.PlainRequests.{request_of}
+use Rattle.cj_model.specs.Cluster.Placements.{everywhere}
+use Rattle.cj_model.specs.Cluster.Histories.{log, is_idle, events_left}
+use Rattle.cj_model.specs.Cluster.Answering.{HasServer, HasNoServer}
 use Rattle.cj_book.specs.declared.error.BookError.{BookError}
 use Rattle.cj_book.specs.declared.error.BookError.TheVariants.{InProgress, NoBackend, HistoryFull, NoMemory}
 
@@ -28,31 +28,31 @@ with_event b e = record b { history = b.history ++ e ∷ []; has_spare = false }
 
 -- entry n is open
 pub record IsInProgress (b : BookState) (n : ℕ) : Type 0 where
-  pub open_now : free b.history ≡ false
+  pub open_now : is_idle b.history ≡ false
   pub number : n ≡ length (log b.history)
 
 -- no entry is open, and no enabled backend serves the act, which needs one
 pub record HasNoBackend (b : BookState) (a : Act) : Type 0 where
-  pub is_free : free b.history ≡ true
-  pub unserved : Unserved (everywhere b.backends) b.history (request_of a)
+  pub is_free : is_idle b.history ≡ true
+  pub unserved : HasNoServer (everywhere b.backends) b.history (request_of a)
 
 -- the act could be scheduled but for the room in the history of n events
 pub record LacksRoom (b : BookState) (a : Act) (n : ℕ) : Type 0 where
-  pub is_free : free b.history ≡ true
-  pub served : Served (everywhere b.backends) b.history (request_of a)
-  pub full : room b.history < 3
+  pub is_free : is_idle b.history ≡ true
+  pub served : HasServer (everywhere b.backends) b.history (request_of a)
+  pub full : events_left b.history < 3
   pub events : n ≡ length b.history
 
 -- the history of n events has no room for one more
-pub record IsFull (b : BookState) (n : ℕ) : Type 0 where
-  pub full : room b.history < 1
+pub record HasNoRoomForOne (b : BookState) (n : ℕ) : Type 0 where
+  pub full : events_left b.history < 1
   pub events : n ≡ length b.history
 
 -- an entry of this act can be scheduled
 pub record CanSchedule (b : BookState) (a : Act) : Type 0 where
-  pub is_free : free b.history ≡ true
-  pub served : Served (everywhere b.backends) b.history (request_of a)
-  pub space : 3 ≤ room b.history
+  pub is_free : is_idle b.history ≡ true
+  pub served : HasServer (everywhere b.backends) b.history (request_of a)
+  pub space : 3 ≤ events_left b.history
 
 -- whether an entry of this act can be scheduled, or the first reason against it
 abbrev pub Checks : {T : Type 0} → BookState → Act → Result T BookError → Type 0
@@ -64,10 +64,10 @@ Checks b a (Err NoMemory) = ⊥
 
 -- whether there is room for one more event, beside those kept for the end of an open entry
 abbrev pub HasRoom : {T : Type 0} → BookState → Result T BookError → Type 0
-HasRoom b (Ok x) = 0 < room b.history
+HasRoom b (Ok x) = 0 < events_left b.history
 HasRoom b (Err (InProgress n)) = ⊥
 HasRoom b (Err NoBackend) = ⊥
-HasRoom b (Err (HistoryFull n)) = IsFull b n
+HasRoom b (Err (HistoryFull n)) = HasNoRoomForOne b n
 HasRoom b (Err NoMemory) = ⊥
 
 -- want of room in the history, or of memory

@@ -1,13 +1,13 @@
 //! The history, and what is kept of it.
 
 ghost use Rattle.std.specs.Prelude.{◌≡◌, ◌↔◌, ◌+◌, ◌-◌, ◌<◌, ◌≤◌, ℕ, true, false, [], ◌∷◌, ◌++◌, length, slice_get, vec_capacity, option_copied, IsNone, IfSome, IfOk, IfErr, OnOk, OnErr, IsErrOf, IsTrue};
-ghost use Rattle.cj_model.specs.Plain.{request_of};
-ghost use Rattle.cj_model.specs.Placements as placements;
-ghost use Rattle.cj_model.specs.Placements.{everywhere};
-ghost use Rattle.cj_model.specs.Histories as histories;
-ghost use Rattle.cj_model.specs.Histories.{has, log, free};
-ghost use Rattle.cj_model.specs.Answering.{Served, Unserved};
-ghost use Rattle.cj_book.specs.Books.{with_event, IsInProgress, HasNoBackend, LacksRoom, CanSchedule, Checks, IsFull, HasRoom, IsWant};
+ghost use Rattle.cj_model.specs.Sql.PlainRequests.{request_of};
+ghost use Rattle.cj_model.specs.Cluster.Placements as placements;
+ghost use Rattle.cj_model.specs.Cluster.Placements.{everywhere};
+ghost use Rattle.cj_model.specs.Cluster.Histories as histories;
+ghost use Rattle.cj_model.specs.Cluster.Histories.{in_mask, log, is_idle};
+ghost use Rattle.cj_model.specs.Cluster.Answering.{HasServer, HasNoServer};
+ghost use Rattle.cj_book.specs.Books.{with_event, IsInProgress, HasNoBackend, LacksRoom, CanSchedule, Checks, HasNoRoomForOne, HasRoom, IsWant};
 ghost use Rattle.cj_book.specs.Kept as kept;
 
 use crate::error::BookError;
@@ -42,7 +42,7 @@ pub struct Book {
 impl Model for Book {
     ghost use Rattle.std.specs.Prelude.{vec_capacity};
     ghost use Rattle.cj_book.specs.Books.{BookState, book_code};
-    ghost use Rattle.cj_book.specs.Kept.{Keeps};
+    ghost use Rattle.cj_book.specs.Kept.{KeepsHistory};
 
     ghost Value = { BookState };
 
@@ -50,7 +50,7 @@ impl Model for Book {
 
     ghost view = { λ book. record { backends = book.backends; history = book.history.items; has_spare = book.has_spare } };
 
-    ghost invariant = { λ book. Keeps book.backends book.history.items book.scheduled.items book.done book.enabled
+    ghost invariant = { λ book. KeepsHistory book.backends book.history.items book.scheduled.items book.done book.enabled
         (vec_capacity book.history) book.has_spare };
 }
 
@@ -116,14 +116,14 @@ impl Book {
 
     /// Whether no entry is open.
     pub fn is_free(&self) -> bool
-        ensures { result ≡ free self.now.history }
+        ensures { result ≡ is_idle self.now.history }
     {
         self.done == self.scheduled.len()
     }
 
     /// The number of the open entry.
     pub fn open_entry(&self) -> Option<u64>
-        ensures none { IsNone result ↔ (free self.now.history ≡ true) }
+        ensures none { IsNone result ↔ (is_idle self.now.history ≡ true) }
         ensures number { IfSome result (λ n. n ≡ length (log self.now.history)) }
     {
         if self.is_free() {
@@ -142,7 +142,7 @@ impl Book {
 
     /// The open entry.
     pub fn opened(&self) -> Option<&Entry>
-        ensures { option_copied result ≡ histories.opened self.now.history }
+        ensures { option_copied result ≡ histories.entry_in_progress self.now.history }
     {
         self.entry_of(self.done)
     }
@@ -160,29 +160,29 @@ impl Book {
 
     /// Whether the backend is enabled; false of a number that no backend has.
     pub fn is_enabled(&self, b: u8) -> bool
-        ensures { result ≡ histories.enabled self.now.history b }
+        ensures { result ≡ histories.is_enabled self.now.history b }
     {
         b < self.backends && (self.enabled >> b) & 1 == 1
     }
 
     /// The mask of the enabled backends.
     pub fn enabled(&self) -> u32
-        ensures mask { (b : ℕ) → has result b ≡ histories.enabled self.now.history b }
-        ensures below { (b : ℕ) → has result b ≡ true → b < self.now.backends }
+        ensures mask { (b : ℕ) → in_mask result b ≡ histories.is_enabled self.now.history b }
+        ensures below { (b : ℕ) → in_mask result b ≡ true → b < self.now.backends }
     {
         self.enabled
     }
 
     /// The mask of the backends that stay enabled where the open entry ends so.
     pub fn left(&self, failed: u32, starved: u32) -> u32
-        ensures { (b : ℕ) → has result b ≡ histories.enabled (self.now.history ++ Event.Ended failed starved ∷ []) b }
+        ensures { (b : ℕ) → in_mask result b ≡ histories.is_enabled (self.now.history ++ Event.Ended failed starved ∷ []) b }
     {
         self.enabled & !(failed | starved)
     }
 
     /// How many events may still come, beside two that are kept for the end of an open entry.
     pub fn room(&self) -> u64
-        ensures { result ≡ histories.room self.now.history }
+        ensures { result ≡ histories.events_left self.now.history }
     {
         let open = (self.scheduled.len() - self.done) as u64;
         EVENT_LIMIT - (self.events() + 2 * open)
@@ -190,8 +190,8 @@ impl Book {
 
     /// Whether the act needs a backend, and none that serves it is enabled.
     fn is_unserved(&self, act: &Act) -> bool
-        ensures unserved { IsTrue result → Unserved (everywhere self.now.backends) self.now.history (request_of act.now) }
-        ensures served { ¬ IsTrue result → Served (everywhere self.now.backends) self.now.history (request_of act.now) }
+        ensures unserved { IsTrue result → HasNoServer (everywhere self.now.backends) self.now.history (request_of act.now) }
+        ensures served { ¬ IsTrue result → HasServer (everywhere self.now.backends) self.now.history (request_of act.now) }
     {
         self.enabled == 0 && needs_backend(act)
     }
@@ -244,7 +244,7 @@ impl Book {
 
     /// Ends the open entry. It takes no memory.
     pub fn end(&mut self, failed: u32, starved: u32)
-        requires { free self.old.history ≡ false }
+        requires { is_idle self.old.history ≡ false }
         ensures { self.new ≡ with_event self.old (Event.Ended failed starved) }
     {
         self.history.push_reserved(Event::Ended { failed, starved });
@@ -255,12 +255,12 @@ impl Book {
 
     /// Disables a backend that is enabled, while no entry is open.
     pub fn disable(&mut self, b: u8) -> Result<(), BookError>
-        requires is_free { free self.old.history ≡ true }
+        requires is_free { is_idle self.old.history ≡ true }
         requires below { b < self.old.backends }
-        requires is_enabled { histories.enabled self.old.history b ≡ true }
+        requires is_enabled { histories.is_enabled self.old.history b ≡ true }
         ensures ok { OnOk result (self.new ≡ with_event self.old (Event.Disabled b)) }
-        ensures space { OnOk result (0 < histories.room self.old.history) }
-        ensures full { (n : ℕ) → IsErrOf result (BookError.HistoryFull n) ↔ IsFull self.old n }
+        ensures space { OnOk result (0 < histories.events_left self.old.history) }
+        ensures full { (n : ℕ) → IsErrOf result (BookError.HistoryFull n) ↔ HasNoRoomForOne self.old n }
         ensures want { IfErr result IsWant }
         ensures err { OnErr result (self.new ≡ self.old) }
     {
@@ -273,12 +273,12 @@ impl Book {
 
     /// Enables a backend that isn't enabled, while no entry is open.
     pub fn enable(&mut self, b: u8) -> Result<(), BookError>
-        requires is_free { free self.old.history ≡ true }
+        requires is_free { is_idle self.old.history ≡ true }
         requires below { b < self.old.backends }
-        requires is_disabled { histories.enabled self.old.history b ≡ false }
+        requires is_disabled { histories.is_enabled self.old.history b ≡ false }
         ensures ok { OnOk result (self.new ≡ with_event self.old (Event.Enabled b)) }
-        ensures space { OnOk result (0 < histories.room self.old.history) }
-        ensures full { (n : ℕ) → IsErrOf result (BookError.HistoryFull n) ↔ IsFull self.old n }
+        ensures space { OnOk result (0 < histories.events_left self.old.history) }
+        ensures full { (n : ℕ) → IsErrOf result (BookError.HistoryFull n) ↔ HasNoRoomForOne self.old n }
         ensures want { IfErr result IsWant }
         ensures err { OnErr result (self.new ≡ self.old) }
     {
@@ -304,8 +304,8 @@ impl Book {
     /// A backend failed in a session's read, also while an entry is open. It takes no memory where that was taken before.
     pub fn read_failed(&mut self, session: u64, seq: u64, b: u8) -> Result<(), BookError>
         ensures ok { OnOk result (self.new ≡ with_event self.old (Event.ReadFailed session seq b)) }
-        ensures space { OnOk result (0 < histories.room self.old.history) }
-        ensures full { (n : ℕ) → IsErrOf result (BookError.HistoryFull n) ↔ IsFull self.old n }
+        ensures space { OnOk result (0 < histories.events_left self.old.history) }
+        ensures full { (n : ℕ) → IsErrOf result (BookError.HistoryFull n) ↔ HasNoRoomForOne self.old n }
         ensures want { IfErr result IsWant }
         ensures spare { self.old.has_spare ≡ true → ¬ IsErrOf result BookError.NoMemory }
         ensures err { OnErr result (self.new ≡ self.old) }

@@ -7,8 +7,8 @@ use Rattle.cj_model.specs.declared.answer.Answer.{Answer}
 use Rattle.cj_model.specs.declared.cached.Cached.{Cached}
 use Rattle.cj_model.specs.declared.select.Select.{Select}
 use Rattle.cj_model.specs.declared.select.Items.TheVariants as items
-use Rattle.cj_model.specs.Caching.{CacheState, doomed, dropped, empty_cache, kept, looked, put}
-use Rattle.cj_model.specs.Statements.{same_statement, same_statement-Decides}
+use Rattle.cj_model.specs.Cluster.Caching.{CacheState, doomed, without_tables, empty_cache, answer_kept, after_look, after_keep}
+use Rattle.cj_model.specs.Proving.SameStatements.{same_statement, same_statement-Decides}
 
 -- `SELECT *` of the table whose name is this letter
 abbrev all_of : ℕ → Select
@@ -53,40 +53,40 @@ module _ (x y z : Answer) where
   abbrev state : List Cached → ℕ → ℕ → CacheState
   state entries hits misses = record { entries = entries; hits = hits; misses = misses; capacity = 2 }
 
-  keeps_a : put of_a (empty_cache 2) ≡ state (of_a ∷ []) 0 0
+  keeps_a : after_keep of_a (empty_cache 2) ≡ state (of_a ∷ []) 0 0
   keeps_a = refl
 
-  keeps_b : put of_b (state (of_a ∷ []) 0 0) ≡ state (of_b ∷ of_a ∷ []) 0 0
+  keeps_b : after_keep of_b (state (of_a ∷ []) 0 0) ≡ state (of_b ∷ of_a ∷ []) 0 0
   keeps_b = rw b_a refl
 
   -- the answer of a is found and comes to the front
-  finds_a : kept (all_of 97) (state (of_b ∷ of_a ∷ []) 0 0) ≡ Some x
+  finds_a : answer_kept (all_of 97) (state (of_b ∷ of_a ∷ []) 0 0) ≡ Some x
   finds_a = rw (a_b, itself (all_of 97)) refl
 
-  looks_at_a : looked (all_of 97) (state (of_b ∷ of_a ∷ []) 0 0) ≡ state (of_a ∷ of_b ∷ []) 1 0
+  looks_at_a : after_look (all_of 97) (state (of_b ∷ of_a ∷ []) 0 0) ≡ state (of_a ∷ of_b ∷ []) 1 0
   looks_at_a = rw (a_b, itself (all_of 97)) refl
 
   -- the answer of b goes
-  keeps_c : put of_c (state (of_a ∷ of_b ∷ []) 1 0) ≡ state (of_c ∷ of_a ∷ []) 1 0
+  keeps_c : after_keep of_c (state (of_a ∷ of_b ∷ []) 1 0) ≡ state (of_c ∷ of_a ∷ []) 1 0
   keeps_c = rw c_a refl
 
-  lost_b : kept (all_of 98) (state (of_c ∷ of_a ∷ []) 1 0) ≡ None
+  lost_b : answer_kept (all_of 98) (state (of_c ∷ of_a ∷ []) 1 0) ≡ None
   lost_b = rw (b_c, b_a) refl
 
   -- table a changes
   dooms_a : doomed ((97 ∷ []) ∷ []) (state (of_c ∷ of_a ∷ []) 1 0) ≡ all_of 97 ∷ []
   dooms_a = refl
 
-  drops_a : dropped ((97 ∷ []) ∷ []) (state (of_c ∷ of_a ∷ []) 1 0) ≡ state (of_c ∷ []) 1 0
+  drops_a : without_tables ((97 ∷ []) ∷ []) (state (of_c ∷ of_a ∷ []) 1 0) ≡ state (of_c ∷ []) 1 0
   drops_a = refl
 
-  misses_a : looked (all_of 97) (state (of_c ∷ []) 1 0) ≡ state (of_c ∷ []) 1 1
+  misses_a : after_look (all_of 97) (state (of_c ∷ []) 1 0) ≡ state (of_c ∷ []) 1 1
   misses_a = rw a_c refl
 
   -- all at once: one hit, one miss, and the answer of c alone
-  pub worked_out : looked (all_of 97) (dropped ((97 ∷ []) ∷ []) (put of_c (looked (all_of 97) (put of_b (put of_a (empty_cache 2)))))) ≡ state (of_c ∷ []) 1 1
+  pub worked_out : after_look (all_of 97) (without_tables ((97 ∷ []) ∷ []) (after_keep of_c (after_look (all_of 97) (after_keep of_b (after_keep of_a (empty_cache 2)))))) ≡ state (of_c ∷ []) 1 1
   worked_out =
-      ap (λ c. looked (all_of 97) (dropped ((97 ∷ []) ∷ []) (put of_c (looked (all_of 97) c)))) keeps_b
-      ∙ ap (λ c. looked (all_of 97) (dropped ((97 ∷ []) ∷ []) (put of_c c))) looks_at_a
-      ∙ ap (λ c. looked (all_of 97) (dropped ((97 ∷ []) ∷ []) c)) keeps_c
+      ap (λ c. after_look (all_of 97) (without_tables ((97 ∷ []) ∷ []) (after_keep of_c (after_look (all_of 97) c)))) keeps_b
+      ∙ ap (λ c. after_look (all_of 97) (without_tables ((97 ∷ []) ∷ []) (after_keep of_c c))) looks_at_a
+      ∙ ap (λ c. after_look (all_of 97) (without_tables ((97 ∷ []) ∷ []) c)) keeps_c
       ∙ misses_a

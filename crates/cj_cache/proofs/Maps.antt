@@ -11,8 +11,8 @@ use Rattle.std.proofs.lemmas.List.{length-map, take-map, take_all}
 use Rattle.lru.specs.LruCache.{LruCache, promoted, put_entries}
 use Rattle.cj_model.specs.declared.cached.Cached.{Cached}
 use Rattle.cj_model.specs.declared.select.Select.{Select}
-use Rattle.cj_model.specs.Caching.{brought_to_front, entry_of, is_of, needs_one_of, without}
-use Rattle.cj_model.specs.Statements.{same_statement, same_statement-Decides}
+use Rattle.cj_model.specs.Cluster.Caching.{brought_to_front, cached_entry, is_entry_for, needs_one_of, without}
+use Rattle.cj_model.specs.Proving.SameStatements.{same_statement, same_statement-Decides}
 use Rattle.cj_model.proofs.CachingLaws.{none_without}
 use Rattle.cj_model.proofs.FilterLaws.{filter_stays, filter_goes}
 use Rattle.cj_cache.specs.declared.held.Held.{Held}
@@ -27,7 +27,7 @@ cond_entry : (b : Bool) (e : Select × Held) (o : Option (Select × Held)) → c
 cond_entry true e o = refl
 cond_entry false e o = refl
 
-pub entry_shown : (s : Select) (es : Pairs) → entry_of s (map cached es) ≡ option_map cached (lookup_entry (same_statement s) es)
+pub entry_shown : (s : Select) (es : Pairs) → cached_entry s (map cached es) ≡ option_map cached (lookup_entry (same_statement s) es)
 entry_shown s [] = refl
 entry_shown s (e ∷ es) = ap (λ o. cond (same_statement s e.0) (Some (cached e)) o) (entry_shown s es) ∙ cond_entry (same_statement s e.0) e (lookup_entry (same_statement s) es)
 
@@ -39,14 +39,14 @@ value_of_entry : (s : Select) (es : Pairs) → lookup (same_statement s) es ≡ 
 value_of_entry s [] = refl
 value_of_entry s (e ∷ es) = cond_value (same_statement s e.0) e (lookup_entry (same_statement s) es) (lookup (same_statement s) es) (value_of_entry s es)
 
-pub answer_shown : (s : Select) (es : Pairs) → option_map (λ (h : Held). h.answer) (lookup (same_statement s) es) ≡ option_map (λ (e : Cached). e.answer) (entry_of s (map cached es))
+pub answer_shown : (s : Select) (es : Pairs) → option_map (λ (h : Held). h.answer) (lookup (same_statement s) es) ≡ option_map (λ (e : Cached). e.answer) (cached_entry s (map cached es))
 answer_shown s es = ap (option_map (λ (h : Held). h.answer)) (value_of_entry s es) ∙ each (lookup_entry (same_statement s) es) ∙ ap (option_map (λ (e : Cached). e.answer)) (sym (entry_shown s es))
   where
     each : (o : Option (Select × Held)) → option_map (λ (h : Held). h.answer) (option_map (λ (p : Select × Held). p.1) o) ≡ option_map (λ (e : Cached). e.answer) (option_map cached o)
     each None = refl
     each (Some p) = refl
 
-pub some_shown : (s : Select) (es : Pairs) → is_some (lookup (same_statement s) es) ≡ is_some (entry_of s (map cached es))
+pub some_shown : (s : Select) (es : Pairs) → is_some (lookup (same_statement s) es) ≡ is_some (cached_entry s (map cached es))
 some_shown s es = ap is_some (value_of_entry s es) ∙ each (lookup_entry (same_statement s) es) ∙ ap is_some (sym (entry_shown s es))
   where
     each : (o : Option (Select × Held)) → is_some (option_map (λ (p : Select × Held). p.1) o) ≡ is_some (option_map cached o)
@@ -129,7 +129,7 @@ module _ (set : List (List ℕ)) where
   past x [] xs fine = refl
   past x (y ∷ ys) xs fine = ⊎_elim
       (λ (here : needs y ≡ true).
-      let other : is_of y.select x ≡ false = false_from_ne_true (is_of y.select x) (λ same. both_ways (needs x) fine (ap (needs_one_of set) (sym ((same_statement-Decides y.select x.select).0 same)) ∙ here)) in
+      let other : is_entry_for y.select x ≡ false = false_from_ne_true (is_entry_for y.select x) (λ same. both_ways (needs x) fine (ap (needs_one_of set) (sym ((same_statement-Decides y.select x.select).0 same)) ∙ here)) in
       let more : doomed_of (y ∷ ys) ≡ y.select ∷ doomed_of ys = ap (map (λ (e : Cached). e.select)) (filter_stays needs y ys here) in
       ap (λ ss. without_each ss (x ∷ xs)) more
       ∙ ap (λ b. without_each (doomed_of ys) (cond b xs (x ∷ without y.select xs))) other

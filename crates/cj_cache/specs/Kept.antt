@@ -4,8 +4,8 @@ use Rattle.std.specs.Map.{remove_entry}
 use Rattle.lru.specs.LruCache.{LruCache}
 use Rattle.cj_model.specs.declared.cached.Cached.{Cached}
 use Rattle.cj_model.specs.declared.select.Select.{Select}
-use Rattle.cj_model.specs.Caching.{without}
-use Rattle.cj_model.specs.Statements.{same_statement}
+use Rattle.cj_model.specs.Cluster.Caching.{without}
+use Rattle.cj_model.specs.Proving.SameStatements.{same_statement}
 use Rattle.cj_cache.specs.declared.held.Held.{Held}
 
 -- a statement and what is held of it, as an entry
@@ -13,13 +13,13 @@ abbrev pub cached : Select × Held → Cached
 cached p = record { select = p.0; answer = p.1.answer; at = p.1.at }
 
 -- what a map holds, as entries
-abbrev pub shown : LruCache Select Held → List Cached
-shown m = map cached m.entries
+abbrev pub entries_of_map : LruCache Select Held → List Cached
+entries_of_map m = map cached m.entries
 
 -- what a cache holds, where one of capacity 0 has no map
-abbrev pub entries_of : Option (LruCache Select Held) → List Cached
-entries_of None = []
-entries_of (Some m) = shown m
+abbrev pub entries_held : Option (LruCache Select Held) → List Cached
+entries_held None = []
+entries_held (Some m) = entries_of_map m
 
 -- a map of this capacity, or none where it is 0
 abbrev pub HasCapacity : ℕ → Option (LruCache Select Held) → Type 0

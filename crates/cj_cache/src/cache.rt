@@ -1,9 +1,9 @@
 //! The cache.
 
 ghost use Rattle.std.specs.Prelude.{◌≡◌, ℕ, [], ◌∷◌, filter, is_some, map, not, take, option_copied, IfOk, OnOk, OnErr};
-ghost use Rattle.cj_model.specs.Caching.{brought_to_front, counted, dropped, empty_cache, entry_of, has_answer, looked, needs_one_of, put, without};
-ghost use Rattle.cj_model.specs.Caching as caching;
-ghost use Rattle.cj_cache.specs.Kept.{HasCapacity, entries_of, without_each};
+ghost use Rattle.cj_model.specs.Cluster.Caching.{brought_to_front, counted_up, without_tables, empty_cache, cached_entry, has_answer, after_look, needs_one_of, after_keep, without};
+ghost use Rattle.cj_model.specs.Cluster.Caching as caching;
+ghost use Rattle.cj_cache.specs.Kept.{HasCapacity, entries_held, without_each};
 
 use crate::held::{self, Held};
 use cj_model::{Answer, Cached, ListOf, NoMemory, Select, TableSet};
@@ -30,29 +30,29 @@ pub struct Cache {
 }
 
 impl Model for Cache {
-    ghost use Rattle.cj_model.specs.Caching.{CacheState};
-    ghost use Rattle.cj_cache.specs.Kept.{HasCapacity, entries_of};
+    ghost use Rattle.cj_model.specs.Cluster.Caching.{CacheState};
+    ghost use Rattle.cj_cache.specs.Kept.{HasCapacity, entries_held};
 
     ghost Value = { CacheState };
 
-    ghost use Rattle.cj_model.specs.Caching.{coded_cache};
+    ghost use Rattle.cj_model.specs.Cluster.Caching.{coded_cache};
 
     ghost coded = { coded_cache };
 
-    ghost view = { λ c. record { entries = entries_of c.held; hits = c.hits; misses = c.misses; capacity = c.capacity } };
+    ghost view = { λ c. record { entries = entries_held c.held; hits = c.hits; misses = c.misses; capacity = c.capacity } };
 
     ghost invariant = { λ c. HasCapacity c.capacity c.held };
 }
 
 fn count_up(count: &mut u64)
-    ensures { count.new ≡ counted count.old }
+    ensures { count.new ≡ counted_up count.old }
 {
     *count = count.saturating_add(1);
 }
 
 /// A map of this capacity, or none where it is 0.
 fn make_map(alloc: Global, capacity: u32) -> Result<Option<LruCache<Select, Held>>, NoMemory>
-    ensures { IfOk result (λ held. HasCapacity capacity held × (entries_of held ≡ [])) }
+    ensures { IfOk result (λ held. HasCapacity capacity held × (entries_held held ≡ [])) }
 {
     match NonZeroUsize::new(capacity as usize) {
         None => Ok(None),
@@ -61,8 +61,8 @@ fn make_map(alloc: Global, capacity: u32) -> Result<Option<LruCache<Select, Held
 }
 
 fn bring_to_front(held: &mut Option<LruCache<Select, Held>>, select: &Select) -> bool
-    ensures found { result ≡ is_some (entry_of select.now (entries_of held.old)) }
-    ensures entries { entries_of held.new ≡ brought_to_front select.now (entries_of held.old) }
+    ensures found { result ≡ is_some (cached_entry select.now (entries_held held.old)) }
+    ensures entries { entries_held held.new ≡ brought_to_front select.now (entries_held held.old) }
     ensures capacity { (n : ℕ) → HasCapacity n held.old → HasCapacity n held.new }
 {
     match held {
@@ -77,8 +77,8 @@ fn put_front(
     capacity: u32,
 ) -> Result<(), NoMemory>
     requires { HasCapacity capacity held.old }
-    ensures ok { OnOk result (entries_of held.new ≡ take capacity (entry ∷ without entry.select (entries_of held.old))) }
-    ensures err { OnErr result (entries_of held.new ≡ entries_of held.old) }
+    ensures ok { OnOk result (entries_held held.new ≡ take capacity (entry ∷ without entry.select (entries_held held.old))) }
+    ensures err { OnErr result (entries_held held.new ≡ entries_held held.old) }
     ensures capacity { HasCapacity capacity held.new }
 {
     match held {
@@ -88,7 +88,7 @@ fn put_front(
 }
 
 fn drop_each(held: &mut Option<LruCache<Select, Held>>, doomed: &[Select])
-    ensures entries { entries_of held.new ≡ without_each doomed.now (entries_of held.old) }
+    ensures entries { entries_held held.new ≡ without_each doomed.now (entries_held held.old) }
     ensures capacity { (n : ℕ) → HasCapacity n held.old → HasCapacity n held.new }
 {
     match held {
@@ -99,8 +99,8 @@ fn drop_each(held: &mut Option<LruCache<Select, Held>>, doomed: &[Select])
 
 /// Drops the entries that need one of the tables, which are those of the doomed statements.
 fn drop_doomed(held: &mut Option<LruCache<Select, Held>>, set: &TableSet, doomed: &[Select])
-    requires { doomed.now ≡ map (λ e. e.select) (filter (λ e. needs_one_of set.now e.select) (entries_of held.old)) }
-    ensures entries { entries_of held.new ≡ filter (λ e. not (needs_one_of set.now e.select)) (entries_of held.old) }
+    requires { doomed.now ≡ map (λ e. e.select) (filter (λ e. needs_one_of set.now e.select) (entries_held held.old)) }
+    ensures entries { entries_held held.new ≡ filter (λ e. not (needs_one_of set.now e.select)) (entries_held held.old) }
     ensures capacity { (n : ℕ) → HasCapacity n held.old → HasCapacity n held.new }
 {
     drop_each(held, doomed);
@@ -124,7 +124,7 @@ impl Cache {
     /// where none is kept; whether one is. With `kept` behind it, this is a look-up.
     pub fn touch(&mut self, select: &Select) -> bool
         ensures hit { result ≡ has_answer select.now self.old }
-        ensures looked { self.new ≡ looked select.now self.old }
+        ensures looked { self.new ≡ after_look select.now self.old }
     {
         let hit = bring_to_front(&mut self.held, select);
         if hit {
@@ -137,7 +137,7 @@ impl Cache {
 
     /// The kept answer of exactly this statement.
     pub fn kept(&self, select: &Select) -> Option<&Answer>
-        ensures { option_copied result ≡ caching.kept select.now self.now }
+        ensures { option_copied result ≡ caching.answer_kept select.now self.now }
     {
         match &self.held {
             None => None,
@@ -148,7 +148,7 @@ impl Cache {
     /// Keeps an answer in front, in place of the one of the same statement; where there is none,
     /// the least recently used goes from a full cache. Want of memory leaves the cache as it was.
     pub fn keep(&mut self, select: Select, answer: Answer, at: u64) -> Result<(), NoMemory>
-        ensures ok { OnOk result (self.new ≡ put (record { select = select; answer = answer; at = at }) self.old) }
+        ensures ok { OnOk result (self.new ≡ after_keep (record { select = select; answer = answer; at = at }) self.old) }
         ensures err { OnErr result (self.new ≡ self.old) }
     {
         let entry = Cached { select, answer, at };
@@ -169,7 +169,7 @@ impl Cache {
     /// for them now.
     pub fn drop_tables(&mut self, set: &TableSet, doomed: &Selects)
         requires { doomed.now ≡ caching.doomed set.now self.old }
-        ensures { self.new ≡ dropped set.now self.old }
+        ensures { self.new ≡ without_tables set.now self.old }
     {
         drop_doomed(&mut self.held, set, doomed.as_slice());
     }

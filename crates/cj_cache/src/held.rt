@@ -2,9 +2,9 @@
 
 ghost use Rattle.std.specs.Prelude.{◌≡◌, ◌∷◌, filter, is_some, map, option_copied, option_map, take, IfOk, OnOk, OnErr};
 ghost use Rattle.lru.specs.LruCache.{lru_cache};
-ghost use Rattle.cj_model.specs.Caching.{brought_to_front, entry_of, needs_one_of, without};
-ghost use Rattle.cj_model.specs.Caching as caching;
-ghost use Rattle.cj_cache.specs.Kept.{popped_each, shown, without_each};
+ghost use Rattle.cj_model.specs.Cluster.Caching.{brought_to_front, cached_entry, needs_one_of, without};
+ghost use Rattle.cj_model.specs.Cluster.Caching as caching;
+ghost use Rattle.cj_cache.specs.Kept.{popped_each, entries_of_map, without_each};
 
 use cj_model::{Answer, Cached, Duplicate, ListOf, NoMemory, Select, TableSet};
 use lru::LruCache;
@@ -19,7 +19,7 @@ pub struct Held {
 
 /// The answer of a statement.
 pub fn answer_of<'a>(held: &'a LruCache<Select, Held>, select: &Select) -> Option<&'a Answer>
-    ensures { option_copied result ≡ option_map (λ e. e.answer) (entry_of select.now (shown held.now)) }
+    ensures { option_copied result ≡ option_map (λ e. e.answer) (cached_entry select.now (entries_of_map held.now)) }
 {
     match held.peek(select) {
         None => None,
@@ -29,8 +29,8 @@ pub fn answer_of<'a>(held: &'a LruCache<Select, Held>, select: &Select) -> Optio
 
 /// Brings the entry of a statement to the front; whether there is one.
 pub fn bring_to_front(held: &mut LruCache<Select, Held>, select: &Select) -> bool
-    ensures found { result ≡ is_some (entry_of select.now (shown held.old)) }
-    ensures entries { shown held.new ≡ brought_to_front select.now (shown held.old) }
+    ensures found { result ≡ is_some (cached_entry select.now (entries_of_map held.old)) }
+    ensures entries { entries_of_map held.new ≡ brought_to_front select.now (entries_of_map held.old) }
     ensures capacity { held.new.cap ≡ held.old.cap }
 {
     held.promote(select)
@@ -38,7 +38,7 @@ pub fn bring_to_front(held: &mut LruCache<Select, Held>, select: &Select) -> boo
 
 /// Puts an entry in front, in place of the one of its statement or of the last of a full cache.
 pub fn put_front(held: &mut LruCache<Select, Held>, entry: Cached) -> Result<(), NoMemory>
-    ensures ok { OnOk result (shown held.new ≡ take held.old.cap (entry ∷ without entry.select (shown held.old))) }
+    ensures ok { OnOk result (entries_of_map held.new ≡ take held.old.cap (entry ∷ without entry.select (entries_of_map held.old))) }
     ensures err { OnErr result (held.new ≡ held.old) }
     ensures capacity { held.new.cap ≡ held.old.cap }
 {
@@ -64,7 +64,7 @@ pub fn copy_doomed(
     held: &LruCache<Select, Held>,
     set: &TableSet,
 ) -> Result<ListOf<Select>, NoMemory>
-    ensures { IfOk result (λ found. found ≡ map (λ e. e.select) (filter (λ e. caching.needs_one_of set.now e.select) (shown held.now))) }
+    ensures { IfOk result (λ found. found ≡ map (λ e. e.select) (filter (λ e. caching.needs_one_of set.now e.select) (entries_of_map held.now))) }
 {
     let mut found = ListOf::new(alloc);
     for (select, _) in held.iter() {
@@ -85,7 +85,7 @@ fn pop_each(held: &mut LruCache<Select, Held>, doomed: &[Select])
 
 /// Drops the entries of statements.
 pub fn drop_each(held: &mut LruCache<Select, Held>, doomed: &[Select])
-    ensures entries { shown held.new ≡ without_each doomed.now (shown held.old) }
+    ensures entries { entries_of_map held.new ≡ without_each doomed.now (entries_of_map held.old) }
     ensures capacity { held.new.cap ≡ held.old.cap }
 {
     pop_each(held, doomed);

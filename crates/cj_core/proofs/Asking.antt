@@ -10,19 +10,19 @@ use Rattle.cj_model.specs.declared.answer.Outcome.{Outcome}
 use Rattle.cj_model.specs.declared.event.Event.{Event}
 use Rattle.cj_model.specs.declared.event.Event.TheVariants.{ReadFailed}
 use Rattle.cj_model.specs.declared.moves.OpenSession.{OpenSession}
-use Rattle.cj_model.specs.Queries.{ask}
-use Rattle.cj_model.specs.Outcomes.{IsAsked}
-use Rattle.cj_model.specs.Placements.{everywhere}
-use Rattle.cj_model.specs.Histories.{log, room, at}
-use Rattle.cj_model.specs.Cores.{position_at, session_at}
-use Rattle.cj_model.specs.Moves.{read_number, IsFarEnough}
-use Rattle.cj_model.specs.Sound.{IsSound, Holds}
+use Rattle.cj_model.specs.Database.Queries.{ask}
+use Rattle.cj_model.specs.Database.Outcomes.{IsAsked}
+use Rattle.cj_model.specs.Cluster.Placements.{everywhere}
+use Rattle.cj_model.specs.Cluster.Histories.{log, events_left, database_after}
+use Rattle.cj_model.specs.Cluster.Cores.{position_at, session_at}
+use Rattle.cj_model.specs.Cluster.Moves.{read_number, IsFarEnough}
+use Rattle.cj_model.specs.Proving.Invariants.{CoreInvariant, HoldsPart}
 use Rattle.cj_model.proofs.Soundness.{no_tx}
 use Rattle.cj_outside.specs.Causes.{CountsFault, next}
-use Rattle.cj_book.specs.Books.{BookState, with_event, IsFull}
+use Rattle.cj_book.specs.Books.{BookState, with_event, HasNoRoomForOne}
 use Rattle.cj_replica.specs.declared.cell.CellReadError.{CellReadError}
 use Rattle.cj_replica.specs.declared.cell.CellReadError.TheVariants as errors
-use Rattle.cj_replica.specs.Cells.{CellState, SaysAnswer}
+use Rattle.cj_replica.specs.Cells.{CellState, SaysReadAnswer}
 use Rattle.cj_model.proofs.Standing.{stand_rest}
 use Rattle.cj_core.specs.Worlds.{core_of, world_of, IsCell}
 use Rattle.cj_core.specs.declared.cells.AskError.{AskError}
@@ -32,7 +32,7 @@ use Rattle.cj_core.specs.Kept.{Kept}
 use Rattle.cj_core.proofs.Keeping.{position_of, position_within, cells_set}
 use Rattle.cj_core.proofs.Catching.{part_all}
 
-module _ (tells : Bool) (n : ℕ) (h : List Event) (cells : List CellState) (f s : ℕ) (ss : List OpenSession) (g : ℕ) (heard : Option Outcome) (kept : Kept tells (world_of n h cells f s ss g) heard)
+module _ (tells : Bool) (n : ℕ) (h : List Event) (cells : List CellState) (f s : ℕ) (ss : List OpenSession) (g : ℕ) (first_outcome : Option Outcome) (kept : Kept tells (world_of n h cells f s ss g) first_outcome)
     (b : ℕ) (lt : b < length cells) (x : CellState) (there : x ≡ get_or cells b x) where
   place : position_at (core_of n h cells f s ss g) b ≡ x.position
   place = position_of cells b x lt ∙ ap (λ (z : CellState). z.position) (sym there)
@@ -53,12 +53,12 @@ module _ (tells : Bool) (n : ℕ) (h : List Event) (cells : List CellState) (f s
         let was : IsCell tells n (log h) b x = subst (IsCell tells n (log h) b) (sym there) (kept.world.cells b x lt) in
         subst (IsCell tells n (log h) b) (sym same) (record { number = was.number; backends = was.backends; holds = was.holds })
 
-    pub kept_asked : Kept tells (world_of n h (set cells b y) f s ss g) heard
+    pub kept_asked : Kept tells (world_of n h (set cells b y) f s ss g) first_outcome
     kept_asked =
         record {
           world =
               record {
-                sound = subst IsSound (sym same_core) kept.world.sound;
+                sound = subst CoreInvariant (sym same_core) kept.world.sound;
                 full = refl;
                 few = kept.world.few;
                 positions = refl;
@@ -73,11 +73,11 @@ module _ (tells : Bool) (n : ℕ) (h : List Event) (cells : List CellState) (f s
   -- what it answered
   module _ (number : ℕ) (select : Select) (least : ℕ) (is_least : least ≡ (session_at (core_of n h cells f s ss g) number).least) where
     -- what a cell that isn't out tells
-    told : (p : ℕ) → x.position ≡ Some p → tells ≡ true → x.told ≡ Some (at (log h) p)
+    told : (p : ℕ) → x.position ≡ Some p → tells ≡ true → x.told ≡ Some (database_after (log h) p)
     told p is on =
         let cell : IsCell tells n (log h) b x = subst (IsCell tells n (log h) b) (sym there) (kept.world.cells b x lt) in
         let below : b < n = subst (λ (m : ℕ). b < m) kept.world.sound.cells (subst (λ (m : ℕ). b < m) (sym (length-map cells (λ (z : CellState). z.position))) lt) in
-        subst (λ (q : Option ℕ). Holds tells (everywhere n) b (log h) x.told q) is cell.holds on ∙ ap (λ db. Some db) (part_all n b (at (log h) p) below)
+        subst (λ (q : Option ℕ). HoldsPart tells (everywhere n) b (log h) x.told q) is cell.holds on ∙ ap (λ db. Some db) (part_all n b (database_after (log h) p) below)
 
     -- a cell that is neither out nor below what the session has seen
     far_enough : (r : Result (Asked × ℕ) CellReadError) → r ≡ Err errors.Failed → (q : Option ℕ) → x.position ≡ q → ((r ≡ Err errors.Out) ↔ (x.position ≡ None))
@@ -92,15 +92,15 @@ module _ (tells : Bool) (n : ℕ) (h : List Event) (cells : List CellState) (f s
               (λ (le : least ≤ p). subst (λ (m : ℕ). m ≤ p) is_least le) (cases_lt p least);
         }
 
-    pub answers : (answer : Asked) (p : ℕ) → SaysAnswer x.told 0 select answer → IsAsked answer → x.position ≡ Some p → least ≤ p → Asks tells (core_of n h cells f s ss g) number b select (Ok (answer, p))
+    pub answers : (answer : Asked) (p : ℕ) → SaysReadAnswer x.told 0 select answer → IsAsked answer → x.position ≡ Some p → least ≤ p → Asks tells (core_of n h cells f s ss g) number b select (Ok (answer, p))
     answers answer p says possible position owed = (
       place ∙ position,
       subst (λ (m : ℕ). m ≤ p) is_least owed,
       position_within (core_of n h cells f s ss g) kept.world.sound b p (place ∙ position),
       possible,
       λ on.
-          let a : answer ≡ ask (at (log h) p) 0 select = subst (λ (t : Option (List Slot)). IfSome t (λ db. answer ≡ ask db 0 select)) (told p position on) says in
-          a ∙ ap (λ tx. ask (at (log h) p) tx select) (sym (no_tx (core_of n h cells f s ss g) number kept.world.sound)),
+          let a : answer ≡ ask (database_after (log h) p) 0 select = subst (λ (t : Option (List Slot)). IfSome t (λ db. answer ≡ ask db 0 select)) (told p position on) says in
+          a ∙ ap (λ tx. ask (database_after (log h) p) tx select) (sym (no_tx (core_of n h cells f s ss g) number kept.world.sound)),
     )
 
     -- or why it did not
@@ -114,26 +114,26 @@ module _ (tells : Bool) (n : ℕ) (h : List Event) (cells : List CellState) (f s
     errs old new q errors.Failed e is notes out behind =
         let there = far_enough (Err errors.Failed) refl x.position refl out behind in
         ⊎_elim
-        (λ (came : (e ≡ ask_errors.Failed) × (0 < room old.history) × (new ≡ with_event old (ReadFailed number q b))).
-        subst (λ (d : AskError). Asks tells (core_of n h cells f s ss g) number b select (Err d)) (sym came.0) (there, subst (λ (l : List Event). 0 < room l) is came.1))
-        (λ (full : (k : ℕ) × (e ≡ ask_errors.Unnoted k) × IsFull old k × (new ≡ old)).
-        let none : room old.history < 1 = full.2.full in
-        let no_room : room old.history ≡ 0 = omega arith in
+        (λ (came : (e ≡ ask_errors.Failed) × (0 < events_left old.history) × (new ≡ with_event old (ReadFailed number q b))).
+        subst (λ (d : AskError). Asks tells (core_of n h cells f s ss g) number b select (Err d)) (sym came.0) (there, subst (λ (l : List Event). 0 < events_left l) is came.1))
+        (λ (full : (k : ℕ) × (e ≡ ask_errors.Unnoted k) × HasNoRoomForOne old k × (new ≡ old)).
+        let none : events_left old.history < 1 = full.2.full in
+        let no_room : events_left old.history ≡ 0 = omega arith in
         subst (λ (d : AskError). Asks tells (core_of n h cells f s ss g) number b select (Err d)) (sym full.1)
-        (there, subst (λ (l : List Event). room l ≡ 0) is no_room, subst (λ (l : List Event). full.0 ≡ length l) is full.2.events))
+        (there, subst (λ (l : List Event). events_left l ≡ 0) is no_room, subst (λ (l : List Event). full.0 ≡ length l) is full.2.events))
         notes
 
 -- ---- what becomes of the book
 
 -- what holds with and without an event of the failure holds then
-pub noting : (Q : BookState → Type 0) (old new : BookState) (s q b : ℕ) (d : CellReadError) (e : AskError) → Notes old s q b d e new → Q old → (0 < room old.history → Q (with_event old (ReadFailed s q b))) → Q new
+pub noting : (Q : BookState → Type 0) (old new : BookState) (s q b : ℕ) (d : CellReadError) (e : AskError) → Notes old s q b d e new → Q old → (0 < events_left old.history → Q (with_event old (ReadFailed s q b))) → Q new
 noting Q old new s q b errors.Out e notes same came = subst Q (sym notes.1) same
 noting Q old new s q b (errors.Behind p) e notes same came = subst Q (sym notes.1) same
 noting Q old new s q b errors.NoMemory e notes same came = subst Q (sym notes.1) same
 noting Q old new s q b errors.Failed e notes same came =
     ⊎_elim
-    (λ (one : (e ≡ ask_errors.Failed) × (0 < room old.history) × (new ≡ with_event old (ReadFailed s q b))). subst Q (sym one.2) (came one.1))
-    (λ (full : (k : ℕ) × (e ≡ ask_errors.Unnoted k) × IsFull old k × (new ≡ old)). subst Q (sym full.3) same)
+    (λ (one : (e ≡ ask_errors.Failed) × (0 < events_left old.history) × (new ≡ with_event old (ReadFailed s q b))). subst Q (sym one.2) (came one.1))
+    (λ (full : (k : ℕ) × (e ≡ ask_errors.Unnoted k) × HasNoRoomForOne old k × (new ≡ old)). subst Q (sym full.3) same)
     notes
 
 -- and of the core
@@ -145,9 +145,9 @@ noted_core cells f t ss g old new s q b (errors.Behind p) e number notes = rw (n
 noted_core cells f t ss g old new s q b errors.NoMemory e number notes = rw (notes.0, notes.1) refl
 noted_core cells f t ss g old new s q b errors.Failed e number notes =
     ⊎_elim
-    (λ (one : (e ≡ ask_errors.Failed) × (0 < room old.history) × (new ≡ with_event old (ReadFailed s q b))).
+    (λ (one : (e ≡ ask_errors.Failed) × (0 < events_left old.history) × (new ≡ with_event old (ReadFailed s q b))).
     rw (one.0, one.2) (ap (λ (m : ℕ). core_of old.backends (old.history ++ ReadFailed s m b ∷ []) cells f t ss g) number))
-    (λ (full : (k : ℕ) × (e ≡ ask_errors.Unnoted k) × IsFull old k × (new ≡ old)). rw (full.1, full.3) refl)
+    (λ (full : (k : ℕ) × (e ≡ ask_errors.Unnoted k) × HasNoRoomForOne old k × (new ≡ old)). rw (full.1, full.3) refl)
     notes
 
 -- whose fault was counted
@@ -159,8 +159,8 @@ noted_fault old new s q b errors.NoMemory e before now notes cause = (false, rw 
 noted_fault old new s q b errors.Failed e before now notes cause = (
   true,
   ⊎_elim
-      (λ (one : (e ≡ ask_errors.Failed) × (0 < room old.history) × (new ≡ with_event old (ReadFailed s q b))). rw one.0 refl)
-      (λ (full : (k : ℕ) × (e ≡ ask_errors.Unnoted k) × IsFull old k × (new ≡ old)). rw full.1 refl)
+      (λ (one : (e ≡ ask_errors.Failed) × (0 < events_left old.history) × (new ≡ with_event old (ReadFailed s q b))). rw one.0 refl)
+      (λ (full : (k : ℕ) × (e ≡ ask_errors.Unnoted k) × HasNoRoomForOne old k × (new ≡ old)). rw full.1 refl)
       notes,
   cause.counted refl,
 )
@@ -172,6 +172,6 @@ noted_want old new s q b (errors.Behind p) e notes is = absurd (cc (notes.0, is)
 noted_want old new s q b errors.NoMemory e notes is = (refl, notes.1)
 noted_want old new s q b errors.Failed e notes is =
     ⊎_elim
-    (λ (one : (e ≡ ask_errors.Failed) × (0 < room old.history) × (new ≡ with_event old (ReadFailed s q b))). absurd (cc (one.0, is)))
-    (λ (full : (k : ℕ) × (e ≡ ask_errors.Unnoted k) × IsFull old k × (new ≡ old)). absurd (cc (full.1, is)))
+    (λ (one : (e ≡ ask_errors.Failed) × (0 < events_left old.history) × (new ≡ with_event old (ReadFailed s q b))). absurd (cc (one.0, is)))
+    (λ (full : (k : ℕ) × (e ≡ ask_errors.Unnoted k) × HasNoRoomForOne old k × (new ≡ old)). absurd (cc (full.1, is)))
     notes

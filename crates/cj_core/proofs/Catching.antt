@@ -12,15 +12,15 @@ use Rattle.cj_model.specs.declared.event.Event.{Event}
 use Rattle.cj_model.specs.declared.event.Event.TheVariants.{Sched, Ended, ReadFailed, LogFailed, Disabled, Enabled, Marker}
 use Rattle.cj_model.specs.declared.moves.Did.TheVariants as did
 use Rattle.cj_model.specs.declared.moves.OpenSession.{OpenSession}
-use Rattle.cj_model.specs.Plain.{request_of}
-use Rattle.cj_model.specs.Placements.{everywhere, part}
-use Rattle.cj_model.specs.Steps.{step}
-use Rattle.cj_model.specs.Tables.{table_of}
-use Rattle.cj_model.specs.Histories.{log, at}
-use Rattle.cj_model.specs.Legality.{Allowed, IsLegal, IsWritten}
-use Rattle.cj_model.specs.Cores.{position_at}
-use Rattle.cj_model.specs.Moves.{DoesEntry}
-use Rattle.cj_model.specs.Sound.{IsLone, Holds}
+use Rattle.cj_model.specs.Sql.PlainRequests.{request_of}
+use Rattle.cj_model.specs.Cluster.Placements.{everywhere, part}
+use Rattle.cj_model.specs.Database.Steps.{step}
+use Rattle.cj_model.specs.Database.Tables.{table_of}
+use Rattle.cj_model.specs.Cluster.Histories.{log, database_after}
+use Rattle.cj_model.specs.Cluster.Legality.{IsAllowedEvent, IsLegal, IsWritten}
+use Rattle.cj_model.specs.Cluster.Cores.{position_at}
+use Rattle.cj_model.specs.Cluster.Moves.{DoesWithEntry}
+use Rattle.cj_model.specs.Proving.Invariants.{IsLoneEntry, HoldsPart}
 use Rattle.cj_model.proofs.Effects.{is_there}
 use Rattle.cj_model.proofs.PartRuns.{at_next}
 use Rattle.cj_backend.specs.Backends.{spent}
@@ -28,11 +28,11 @@ use Rattle.cj_replica.specs.declared.cell.Caught.{Caught}
 use Rattle.cj_replica.specs.declared.cell.Caught.TheVariants as caught
 use Rattle.cj_replica.specs.declared.cell.CellError.{CellError}
 use Rattle.cj_replica.specs.declared.cell.CellError.TheVariants as errors
-use Rattle.cj_replica.specs.Cells.{CellState, HasCellCause, SaysOutcome, IsCaught, is_concerned, is_skipped, told_after, position_after}
+use Rattle.cj_replica.specs.Cells.{CellState, HasCellCause, SaysEntryOutcome, IsCaught, is_concerned, is_skipped, told_after_entry, position_after}
 use Rattle.cj_core.specs.Worlds.{core_of, world_of, IsCell}
 use Rattle.cj_core.specs.Counting.{did_fail}
 use Rattle.cj_core.specs.Kept.{Kept}
-use Rattle.cj_core.specs.Taking.{CanTake, Took, did_of}
+use Rattle.cj_core.specs.Taking.{CanTake, TookEntry, did_of}
 use Rattle.cj_core.proofs.Counted.{spent_times}
 use Rattle.cj_core.proofs.Keeping.{position_of, position_within}
 use Rattle.cj_core.proofs.Taking.{hosts_each, concerns_all}
@@ -61,7 +61,7 @@ all_scheduled P (Marker name b ∷ h) each = all_scheduled P h (λ k d lt. each 
 pub all_written : (h : List Event) → IsLegal h → All (λ (e : Entry). IsWritten (request_of e.act)) (log h)
 all_written h legal =
     all_scheduled (λ (e : Entry). IsWritten (request_of e.act)) h
-    (λ k d lt e is. let allowed : Allowed (take k h) (Sched e) = subst (Allowed (take k h)) is (legal.each k d lt) in allowed.1.written)
+    (λ k d lt e is. let allowed : IsAllowedEvent (take k h) (Sched e) = subst (IsAllowedEvent (take k h)) is (legal.each k d lt) in allowed.1.written)
 
 -- ---- taking an entry
 
@@ -73,36 +73,36 @@ module _ (tells : Bool) (n : ℕ) (h : List Event) (cells : List CellState) (b :
   stands : x.position ≡ Some can.p
   stands = ap (λ (z : CellState). z.position) there ∙ can.stands x
 
-  lone : IsLone e e.act
-  lone = subst (λ (z : Entry). IsLone z z.act) (get_or_from_slice_get (log h) can.p e e entry) (can.lone can.p e (slice_get_within (log h) can.p e entry))
+  lone : IsLoneEntry e e.act
+  lone = subst (λ (z : Entry). IsLoneEntry z z.act) (get_or_from_slice_get (log h) can.p e e entry) (can.lone can.p e (slice_get_within (log h) can.p e entry))
 
   -- it is concerned
   concerned : is_concerned x e ≡ true
   concerned = rw (cell.number, cell.backends) (concerns_all n b [] e e.act can.below lone)
 
   -- what it tells, where it tells
-  told_now : tells ≡ true → x.told ≡ Some (at (log h) can.p)
-  told_now on = subst (λ (q : Option ℕ). Holds tells (everywhere n) b (log h) x.told q) stands cell.holds on ∙ ap (λ db. Some db) (part_all n b (at (log h) can.p) can.below)
+  told_now : tells ≡ true → x.told ≡ Some (database_after (log h) can.p)
+  told_now on = subst (λ (q : Option ℕ). HoldsPart tells (everywhere n) b (log h) x.told q) stands cell.holds on ∙ ap (λ db. Some db) (part_all n b (database_after (log h) can.p) can.below)
 
   -- it holds its part after it
-  holds_now : (r : Result Caught CellError) → is_concerned x e ≡ not (is_skipped r) → y.told ≡ told_after x.told e r → (q : Option ℕ) → q ≡ position_after (can.p + 1) r → Holds tells (everywhere n) b (log h) y.told q
+  holds_now : (r : Result Caught CellError) → is_concerned x e ≡ not (is_skipped r) → y.told ≡ told_after_entry x.told e r → (q : Option ℕ) → q ≡ position_after (can.p + 1) r → HoldsPart tells (everywhere n) b (log h) y.told q
   holds_now (Ok caught.Skipped) skipped told q is = absurd (both_ways (is_concerned x e) skipped concerned)
   holds_now (Ok (caught.Did o)) skipped told q is =
-      subst (λ (z : Option ℕ). Holds tells (everywhere n) b (log h) y.told z) (sym is)
+      subst (λ (z : Option ℕ). HoldsPart tells (everywhere n) b (log h) y.told z) (sym is)
       (λ on.
       told ∙ (ap (option_map (λ db. (step db e).db)) (told_now on)
-      ∙ (ap (λ db. Some db) (sym (at_next (log h) can.p e entry)) ∙ ap (λ db. Some db) (sym (part_all n b (at (log h) (can.p + 1)) can.below)))))
-  holds_now (Err d) skipped told q is = subst (λ (z : Option ℕ). Holds tells (everywhere n) b (log h) y.told z) (sym is) tt
+      ∙ (ap (λ db. Some db) (sym (at_next (log h) can.p e entry)) ∙ ap (λ db. Some db) (sym (part_all n b (database_after (log h) (can.p + 1)) can.below)))))
+  holds_now (Err d) skipped told q is = subst (λ (z : Option ℕ). HoldsPart tells (everywhere n) b (log h) y.told z) (sym is) tt
 
-  does_now : (r : Result Caught CellError) → is_concerned x e ≡ not (is_skipped r) → SaysOutcome x.told e r → IfOk r IsCaught → y.position ≡ position_after (can.p + 1) r
-      → (f s : ℕ) (ss : List OpenSession) (g : ℕ) → DoesEntry tells (core_of n h cells f s ss g) b can.p e (did_of r) y.position
+  does_now : (r : Result Caught CellError) → is_concerned x e ≡ not (is_skipped r) → SaysEntryOutcome x.told e r → IfOk r IsCaught → y.position ≡ position_after (can.p + 1) r
+      → (f s : ℕ) (ss : List OpenSession) (g : ℕ) → DoesWithEntry tells (core_of n h cells f s ss g) b can.p e (did_of r) y.position
   does_now (Ok caught.Skipped) skipped says possible is f s ss g = absurd (both_ways (is_concerned x e) skipped concerned)
   does_now (Ok (caught.Did o)) skipped says possible is f s ss g = (
     concerns_all n b (take can.p (log h)) e e.act can.below lone,
     possible,
     λ on.
-        let o_is : o ≡ (step (at (log h) can.p) e).outcome = subst (λ (t : Option (List Slot)). IfSome t (λ db. o ≡ (step db e).outcome)) (told_now on) says in
-        ap (option_map (λ (z : Entry). (step (at (log h) can.p) z).outcome)) entry ∙ ap (λ z. Some z) (sym o_is),
+        let o_is : o ≡ (step (database_after (log h) can.p) e).outcome = subst (λ (t : Option (List Slot)). IfSome t (λ db. o ≡ (step db e).outcome)) (told_now on) says in
+        ap (option_map (λ (z : Entry). (step (database_after (log h) can.p) z).outcome)) entry ∙ ap (λ z. Some z) (sym o_is),
     is,
   )
   does_now (Err errors.Failed) skipped says possible is f s ss g = is
@@ -117,8 +117,8 @@ module _ (tells : Bool) (n : ℕ) (h : List Event) (cells : List CellState) (b :
   same_cell : get_or cells b y ≡ x
   same_cell = get_or_default cells b y x can.within ∙ sym there
 
-  pub took : (r : Result Caught CellError) (m : ℕ) (now : List CellState) → m ≡ can.p + 1 → now ≡ set cells b y → is_concerned x e ≡ not (is_skipped r) → SaysOutcome x.told e r → IfOk r IsCaught
-      → HasCellCause x.faults y.faults r → y.arming ≡ cond (not (is_skipped r)) (spent x.arming) x.arming → y.told ≡ told_after x.told e r → y.position ≡ position_after m r → Took tells n h cells b (did_of r) now
+  pub took : (r : Result Caught CellError) (m : ℕ) (now : List CellState) → m ≡ can.p + 1 → now ≡ set cells b y → is_concerned x e ≡ not (is_skipped r) → SaysEntryOutcome x.told e r → IfOk r IsCaught
+      → HasCellCause x.faults y.faults r → y.arming ≡ cond (not (is_skipped r)) (spent x.arming) x.arming → y.told ≡ told_after_entry x.told e r → y.position ≡ position_after m r → TookEntry tells n h cells b (did_of r) now
   took r m now is_next is_set skipped says possible cause arming told position =
       let place : y.position ≡ position_after (can.p + 1) r = position ∙ ap (λ k. position_after k r) is_next in
       record {
@@ -152,9 +152,9 @@ log_length (Enabled b ∷ h) = let le = log_length h in omega arith
 log_length (Marker name b ∷ h) = let le = log_length h in omega arith
 
 -- a backend that stands below the log's end
-pub can_take : (tells : Bool) (n : ℕ) (h : List Event) (cells : List CellState) (f s : ℕ) (ss : List OpenSession) (g : ℕ) (heard : Option Outcome) → Kept tells (world_of n h cells f s ss g) heard
+pub can_take : (tells : Bool) (n : ℕ) (h : List Event) (cells : List CellState) (f s : ℕ) (ss : List OpenSession) (g : ℕ) (first_outcome : Option Outcome) → Kept tells (world_of n h cells f s ss g) first_outcome
     → (b p : ℕ) → position_at (core_of n h cells f s ss g) b ≡ Some p → p ≢ length (log h) → CanTake tells n h cells b
-can_take tells n h cells f s ss g heard kept b p there more =
+can_take tells n h cells f s ss g first_outcome kept b p there more =
     let w = kept.world in
     let within : b < length (map (λ (x : CellState). x.position) cells) = is_there (map (λ (x : CellState). x.position) cells) b p there in
     let lt : b < length cells = rw length-map at within in

@@ -3,10 +3,10 @@ use Rattle.std.proofs.Common.{◌≡◌, ℕ, ◌+◌, ◌<◌, ◌≤◌, Bool,
 use Rattle.std.proofs.lemmas.List.{reverse-reverse, length-reverse, length-map, get_or-map, nil_from_length, take_all}
 use Rattle.std.proofs.lemmas.Option.{slice_get-get_or}
 use Rattle.cj_model.specs.declared.database.Slot.{Slot}
-use Rattle.cj_model.specs.Placements.{everywhere, part}
-use Rattle.cj_model.specs.Histories.{log, done, free, enabled, run, at}
-use Rattle.cj_model.specs.Cores.{position_at}
-use Rattle.cj_model.specs.Sound.{Stands, Holds}
+use Rattle.cj_model.specs.Cluster.Placements.{everywhere, part}
+use Rattle.cj_model.specs.Cluster.Histories.{log, ended_count, is_idle, is_enabled, database_of, database_after}
+use Rattle.cj_model.specs.Cluster.Cores.{position_at}
+use Rattle.cj_model.specs.Proving.Invariants.{BackendStands, HoldsPart}
 use Rattle.cj_model.proofs.Effects.{is_there, no_masks}
 use Rattle.cj_replica.specs.Cells.{CellState}
 use Rattle.cj_core.specs.Worlds.{WorldState, IsWorld, IsCell}
@@ -71,19 +71,19 @@ module _ (tells : Bool) (w : WorldState) (world : IsWorld tells w) (told : List 
       let x : CellState = get_or w.cells b some_cell in
       let cell : IsCell tells n (log w.core.history) b x = world.cells b some_cell lt in
       let place : x.position ≡ Some p = sym (get_or-map (λ (z : CellState). z.position) w.cells b some_cell None lt) ∙ (ap (λ ps. get_or ps b None) (sym world.positions) ∙ at_p) in
-      let held : x.told ≡ Some (part (everywhere n) b (at (log w.core.history) p)) = subst (Holds tells (everywhere n) b (log w.core.history) x.told) place cell.holds on in
+      let held : x.told ≡ Some (part (everywhere n) b (database_after (log w.core.history) p)) = subst (HoldsPart tells (everywhere n) b (log w.core.history) x.told) place cell.holds on in
       let within : b < length (map (λ (z : CellState). z.told) w.cells) = subst (λ m. b < m) (sym (length-map w.cells (λ (z : CellState). z.told))) lt in
       ap (λ l. slice_get l b) is
       ∙ (slice_get-get_or (map (λ (z : CellState). z.told) w.cells) b None within
-      ∙ ap (λ t. Some t) (get_or-map (λ (z : CellState). z.told) w.cells b some_cell None lt ∙ (held ∙ ap (λ q. Some (part q b (at (log w.core.history) p))) (sym world.full))))
+      ∙ ap (λ t. Some t) (get_or-map (λ (z : CellState). z.told) w.cells b some_cell None lt ∙ (held ∙ ap (λ q. Some (part q b (database_after (log w.core.history) p))) (sym world.full))))
 
   -- an enabled backend has taken the whole log, where no entry is open
-  at_end : free w.core.history ≡ true → (b : ℕ) → enabled w.core.history b ≡ true → (p : Option ℕ) → p ≡ position_at w.core b → Stands w.core.history w.core.failed w.core.starved b p
+  at_end : is_idle w.core.history ≡ true → (b : ℕ) → is_enabled w.core.history b ≡ true → (p : Option ℕ) → p ≡ position_at w.core b → BackendStands w.core.history w.core.failed w.core.starved b p
       → position_at w.core b ≡ Some (length (log w.core.history))
   at_end fr b on None is stands = absurd (no_masks w.core world.sound fr b (stands on))
   at_end fr b on (Some p) is stands =
-      let ended : done w.core.history ≡ length (log w.core.history) = eqb-true _ _ fr in
-      let past : done w.core.history ≤ p = stands.1 on in
+      let ended : ended_count w.core.history ≡ length (log w.core.history) = eqb-true _ _ fr in
+      let past : ended_count w.core.history ≤ p = stands.1 on in
       let within : p ≤ length (log w.core.history) = stands.0 in
       let end : p ≡ length (log w.core.history) = omega arith in
       sym is ∙ ap (λ m. Some m) end
@@ -93,4 +93,4 @@ module _ (tells : Bool) (w : WorldState) (world : IsWorld tells w) (told : List 
       let lt : b < length w.core.positions = world.sound.hosts b on in
       let end = at_end fr b on (position_at w.core b) refl (world.sound.stands b lt) in
       let le : length (log w.core.history) ≤ length (log w.core.history) = omega arith in
-      are_holding tells_on b (length (log w.core.history)) end ∙ ap (λ l. Some (Some (part w.core.placement b (run l)))) (take_all (length (log w.core.history)) (log w.core.history) le)
+      are_holding tells_on b (length (log w.core.history)) end ∙ ap (λ l. Some (Some (part w.core.placement b (database_of l)))) (take_all (length (log w.core.history)) (log w.core.history) le)

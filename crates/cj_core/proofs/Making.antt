@@ -6,11 +6,11 @@ use Rattle.std.proofs.lemmas.List.Elements.{All-get_or, All-take}
 use Rattle.cj_model.specs.declared.moves.Move.{Move}
 use Rattle.cj_model.specs.declared.moves.Move.TheVariants.{Open, Close, Schedule, Apply, End, Read, Arm, Disable, Replay, Enable}
 use Rattle.cj_model.specs.declared.moves.Made.{Made}
-use Rattle.cj_model.specs.Placements.{Placement}
-use Rattle.cj_model.specs.Legality.{IsLegal}
-use Rattle.cj_model.specs.Cores.{Core, session_at}
-use Rattle.cj_model.specs.Moves.{Given, MovesTo}
-use Rattle.cj_model.specs.Runs.{Runs, IsMove, CanCount}
+use Rattle.cj_model.specs.Cluster.Placements.{Placement}
+use Rattle.cj_model.specs.Cluster.Legality.{IsLegal}
+use Rattle.cj_model.specs.Cluster.Cores.{Core, session_at}
+use Rattle.cj_model.specs.Cluster.Moves.{MoveResult, MovesTo}
+use Rattle.cj_model.specs.Cluster.Runs.{RunsMoves, IsMoveOfCluster, CanCountRequests}
 use Rattle.cj_model.proofs.Growth.{Grows, can_count, runs_push, runs_grow, runs_sound}
 use Rattle.cj_model.proofs.Chains.{run_chained}
 use Rattle.cj_core.specs.Worlds.{WorldState, IsWorld}
@@ -20,13 +20,13 @@ use Rattle.cj_core.specs.Played.{given_of, faults_over, HaveCauses, HasRun, HasR
 
 -- the first n moves were made, with what each came to
 pub record Making (tells : Bool) (old : WorldState) (moves : List Move) (n : ℕ) (came : List Made) (now : WorldState) : Type 0 where
-  pub runs : Runs tells old.core (take n moves) (map given_of came) now.core
+  pub runs : RunsMoves tells old.core (take n moves) (map given_of came) now.core
   pub causes : HaveCauses old now (take n moves) (map given_of came)
 
 -- ---- causes
 
 -- one move more is counted last
-over_push : (tells : Bool) (faults : List ℕ) (c z : Core) (ms : List Move) (gs : List Given) (m : Move) (g : Given) → Runs tells c ms gs z
+over_push : (tells : Bool) (faults : List ℕ) (c z : Core) (ms : List Move) (gs : List MoveResult) (m : Move) (g : MoveResult) → RunsMoves tells c ms gs z
     → faults_over faults (ms ++ m ∷ []) (gs ++ g ∷ []) ≡ faults_after (faults_over faults ms gs) (blamed m g)
 over_push tells faults c z [] [] m g runs = refl
 over_push tells faults c z (n ∷ ms) (q ∷ gs) m g runs = over_push tells (faults_after faults (blamed n q)) runs.0 z ms gs m g runs.2
@@ -54,7 +54,7 @@ making_more tells old moves n m came mid made new lt is making moves_to has =
 -- ---- what holds on the way
 
 -- a session that can make one request more can make the move
-can_ask : (c : Core) → CanCount c 1 → (m : Move) → CanAsk c m
+can_ask : (c : Core) → CanCountRequests c 1 → (m : Move) → CanAsk c m
 can_ask c can (Open user) = tt
 can_ask c can (Close s) = tt
 can_ask c can (Schedule s r) = let le = can s in omega arith
@@ -67,14 +67,14 @@ can_ask c can (Replay b) = tt
 can_ask c can (Enable b) = tt
 
 module _ (tells : Bool) (old : WorldState) (moves : List Move) (n : ℕ) (came : List Made) (now : WorldState)
-    (world : IsWorld tells old) (are : All (IsMove old.core.placement.backends) moves) (count : CanCount old.core (length moves)) (within : n ≤ length moves) (making : Making tells old moves n came now) where
-  front_are : All (IsMove old.core.placement.backends) (take n moves)
-  front_are = All-take (IsMove old.core.placement.backends) n moves are
+    (world : IsWorld tells old) (are : All (IsMoveOfCluster old.core.placement.backends) moves) (count : CanCountRequests old.core (length moves)) (within : n ≤ length moves) (making : Making tells old moves n came now) where
+  front_are : All (IsMoveOfCluster old.core.placement.backends) (take n moves)
+  front_are = All-take (IsMoveOfCluster old.core.placement.backends) n moves are
 
   front_length : length (take n moves) ≡ n
   front_length = length-take-le n moves within
 
-  front_count : CanCount old.core (length (take n moves))
+  front_count : CanCountRequests old.core (length (take n moves))
   front_count s = let can = count s in let e = front_length in omega arith
 
   grown : Grows (length (take n moves)) old.core now.core
@@ -100,9 +100,9 @@ module _ (tells : Bool) (old : WorldState) (moves : List Move) (n : ℕ) (came :
   -- the next move can be asked for
   pub making_met : (m : Move) → n < length moves → m ≡ get_or moves n m → IsMet now.core m
   making_met m lt is =
-      let room : CanCount old.core (length (take n moves) + 1) = λ s. (let can = count s in let e = front_length in let le : (session_at old.core s).queries + (length (take n moves) + 1) ≤ 2 ^ 62 = omega arith in le) in
-      let here : IsMove old.core.placement.backends m = subst (IsMove old.core.placement.backends) (sym is) (All-get_or (IsMove old.core.placement.backends) moves n m lt are) in
-      (subst (λ (p : Placement). IsMove p.backends m) (sym grown.placement) here, can_ask now.core (can_count (length (take n moves)) 1 old.core now.core grown room) m)
+      let room : CanCountRequests old.core (length (take n moves) + 1) = λ s. (let can = count s in let e = front_length in let le : (session_at old.core s).queries + (length (take n moves) + 1) ≤ 2 ^ 62 = omega arith in le) in
+      let here : IsMoveOfCluster old.core.placement.backends m = subst (IsMoveOfCluster old.core.placement.backends) (sym is) (All-get_or (IsMoveOfCluster old.core.placement.backends) moves n m lt are) in
+      (subst (λ (p : Placement). IsMoveOfCluster p.backends m) (sym grown.placement) here, can_ask now.core (can_count (length (take n moves)) 1 old.core now.core grown room) m)
 
   -- no more of them are
   pub making_part : HasRunInPart tells old moves now

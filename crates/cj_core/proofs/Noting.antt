@@ -7,38 +7,38 @@ use Rattle.cj_model.specs.declared.request.Entry.{Entry}
 use Rattle.cj_model.specs.declared.event.Event.{Event}
 use Rattle.cj_model.specs.declared.event.Event.TheVariants.{Sched}
 use Rattle.cj_model.specs.declared.moves.OpenSession.{OpenSession}
-use Rattle.cj_model.specs.Plain.{request_of}
-use Rattle.cj_model.specs.Placements.{needs_backend}
-use Rattle.cj_model.specs.Histories.{log, enabled, room}
-use Rattle.cj_model.specs.Sound.{IsLone}
+use Rattle.cj_model.specs.Sql.PlainRequests.{request_of}
+use Rattle.cj_model.specs.Cluster.Placements.{needs_backend}
+use Rattle.cj_model.specs.Cluster.Histories.{log, is_enabled, events_left}
+use Rattle.cj_model.specs.Proving.Invariants.{IsLoneEntry}
 use Rattle.cj_model.proofs.Pushed.{log-sched}
 use Rattle.cj_book.specs.declared.error.BookError.{BookError}
 use Rattle.cj_book.specs.declared.error.BookError.TheVariants.{InProgress, NoBackend, HistoryFull, NoMemory}
-use Rattle.cj_book.specs.Books.{BookState, with_event, IsInProgress, HasNoBackend, LacksRoom, IsFull, CanSchedule, IsWant}
+use Rattle.cj_book.specs.Books.{BookState, with_event, IsInProgress, HasNoBackend, LacksRoom, HasNoRoomForOne, CanSchedule, IsWant}
 use Rattle.cj_replica.specs.Cells.{CellState}
 use Rattle.cj_core.specs.Worlds.{core_of}
 use Rattle.cj_core.specs.Effects.{SchedulesAs, HadRoom}
 
 -- an event has come into the book where there was room, or nothing has changed
-pub noted : {T : Type 0} (r : Result T BookError) (old new : BookState) (e : Event) (Q : BookState → Type 0) → OnOk r (new ≡ with_event old e) → OnErr r (new ≡ old) → OnOk r (0 < room old.history)
-    → (0 < room old.history → Q (with_event old e)) → Q old → Q new
+pub noted : {T : Type 0} (r : Result T BookError) (old new : BookState) (e : Event) (Q : BookState → Type 0) → OnOk r (new ≡ with_event old e) → OnErr r (new ≡ old) → OnOk r (0 < events_left old.history)
+    → (0 < events_left old.history → Q (with_event old e)) → Q old → Q new
 noted (Ok x) old new e Q ok err space came same = subst Q (sym ok) (came space)
 noted (Err d) old new e Q ok err space came same = subst Q (sym err) same
 
 -- whether there was room for it
-pub had_room : {T : Type 0} (cells : List CellState) (f s : ℕ) (ss : List OpenSession) (g : ℕ) (b : BookState) (r : Result T BookError) → OnOk r (0 < room b.history) → ((n : ℕ) → r ≡ Err (HistoryFull n) ↔ IsFull b n) → IfErr r IsWant
+pub had_room : {T : Type 0} (cells : List CellState) (f s : ℕ) (ss : List OpenSession) (g : ℕ) (b : BookState) (r : Result T BookError) → OnOk r (0 < events_left b.history) → ((n : ℕ) → r ≡ Err (HistoryFull n) ↔ HasNoRoomForOne b n) → IfErr r IsWant
     → HadRoom (core_of b.backends b.history cells f s ss g) r
 had_room cells f s ss g b (Ok x) space full want = space
 had_room cells f s ss g b (Err (InProgress n)) space full want = want
 had_room cells f s ss g b (Err NoBackend) space full want = want
 had_room cells f s ss g b (Err (HistoryFull n)) space full want =
     let q = (full n).0 refl in
-    let lt : room b.history < 1 = q.full in
+    let lt : events_left b.history < 1 = q.full in
     (omega arith, q.events)
 had_room cells f s ss g b (Err NoMemory) space full want = tt
 
 -- an entry outside transactions needs a backend
-lone_needs : (e : Entry) (a : Act) → IsLone e a → needs_backend (request_of a) ≡ true
+lone_needs : (e : Entry) (a : Act) → IsLoneEntry e a → needs_backend (request_of a) ≡ true
 lone_needs e act.Begin lone = absurd lone
 lone_needs e (act.Write w) lone = refl
 lone_needs e (act.Create c) lone = refl
@@ -47,7 +47,7 @@ lone_needs e act.Commit lone = absurd lone
 lone_needs e act.Abort lone = absurd lone
 
 -- so where it is served, some backend is enabled
-pub served_on : (b : BookState) (e : Entry) → IsLone e e.act → CanSchedule b e.act → (k : ℕ) × (enabled b.history k ≡ true)
+pub served_on : (b : BookState) (e : Entry) → IsLoneEntry e e.act → CanSchedule b e.act → (k : ℕ) × (is_enabled b.history k ≡ true)
 served_on b e lone can = let q = can.served (lone_needs e e.act lone) in (q.0, q.1.0)
 
 module _ (cells : List CellState) (f s : ℕ) (ss : List OpenSession) (g : ℕ) (b : BookState) (e : Entry) where

@@ -12,11 +12,11 @@ use Rattle.cj_model.specs.declared.moves.Moved.TheVariants as moved
 use Rattle.cj_model.specs.declared.moves.Reason.TheVariants as reason
 use Rattle.cj_model.specs.declared.moves.MoveError.TheVariants.{NotNow}
 use Rattle.cj_model.specs.declared.moves.OpenRead.{OpenRead}
-use Rattle.cj_model.specs.Answering.{ServesAt}
-use Rattle.cj_model.specs.Cores.{Core, position_at, session_at}
-use Rattle.cj_model.specs.Moves.{Given, place, IsServing, Reaches, ReadsTooEarly, ReadsSame, Reads, ReadsOrWaits, with_read, answered_at, was_answered, still_reading, tried_of, tried_with}
+use Rattle.cj_model.specs.Cluster.Answering.{CanServe}
+use Rattle.cj_model.specs.Cluster.Cores.{Core, position_at, session_at}
+use Rattle.cj_model.specs.Cluster.Moves.{MoveResult, position_or_zero, IsServingMask, ReadIsAnswered, ReadCameTooEarly, HasNoOtherRead, AttemptsRead, AttemptsReadOrWaits, with_read, answered_at, was_answered, still_reading, tried_of, tried_with}
 use Rattle.cj_model.proofs.Masks.{some_bit}
-use Rattle.cj_model.specs.Outcomes.{IsAsked}
+use Rattle.cj_model.specs.Database.Outcomes.{IsAsked}
 use Rattle.cj_core.specs.declared.cells.AskError.TheVariants as errors
 use Rattle.cj_core.specs.Counting.{tells_fault}
 use Rattle.cj_core.specs.Effects.{Asks, asked_core, IsReadOf, IsReadOther, RefusesOrStays, answer_given}
@@ -32,27 +32,27 @@ no_other_read reading select none q there = absurd (cc (none, there))
 
 -- ---- an attempt
 
-module _ (tells : Bool) (c : Core) (s b : ℕ) (select : Select) (same : ReadsSame (session_at c s) select) where
-  reads : (g : Given) (z : Core) → Reads tells c s b select g z → ReadsOrWaits tells c s b select g z
+module _ (tells : Bool) (c : Core) (s b : ℕ) (select : Select) (same : HasNoOtherRead (session_at c s) select) where
+  reads : (g : MoveResult) (z : Core) → AttemptsRead tells c s b select g z → AttemptsReadOrWaits tells c s b select g z
   reads g z h = inr (same, h)
 
   -- some backend serves the query, but not this one
-  pub not_serving : (mask : ℕ) → mask < 2 ^ 32 → mask ≢ 0 → IsServing c select mask → (ServesAt c.placement c.history (request.Select select) b → ⊥)
-      → ReadsOrWaits tells c s b select (Err (NotNow (record { reason = reason.NotServing; value = b }))) c
+  pub not_serving : (mask : ℕ) → mask < 2 ^ 32 → mask ≢ 0 → IsServingMask c select mask → (CanServe c.placement c.history (request.Select select) b → ⊥)
+      → AttemptsReadOrWaits tells c s b select (Err (NotNow (record { reason = reason.NotServing; value = b }))) c
   not_serving mask fits some serving none =
       let bit = some_bit mask some fits in
       reads (Err (NotNow (record { reason = reason.NotServing; value = b }))) c (refl, λ _. (bit.0, (serving bit.0).1 bit.2), none, refl)
 
-  module _ (serves : ServesAt c.placement c.history (request.Select select) b) where
-    of_answer : (a : Asked) (z : Core) → Reaches tells c s b select a z → Reads tells c s b select (Ok (answer_given a)) z
+  module _ (serves : CanServe c.placement c.history (request.Select select) b) where
+    of_answer : (a : Asked) (z : Core) → ReadIsAnswered tells c s b select a z → AttemptsRead tells c s b select (Ok (answer_given a)) z
     of_answer (asked.Rows a) z h = h
     of_answer (asked.Refused r) z h = inl h
 
     -- it answered
     pub answered : (a : Asked) (p : ℕ) (mid z : Core) (m : Moved) → Asks tells c s b select (Ok (a, p)) → mid ≡ c → z ≡ with_read mid s (λ x. answered_at p (was_answered x)) → m ≡ answer_given a
-        → ReadsOrWaits tells c s b select (Ok m) z
+        → AttemptsReadOrWaits tells c s b select (Ok m) z
     answered a p mid z m asks same_core after is =
-        subst (λ (x : Moved). ReadsOrWaits tells c s b select (Ok x) z) (sym is)
+        subst (λ (x : Moved). AttemptsReadOrWaits tells c s b select (Ok x) z) (sym is)
         (reads (Ok (answer_given a)) z
         (of_answer a z
         (record {
@@ -66,8 +66,8 @@ module _ (tells : Bool) (c : Core) (s b : ℕ) (select : Select) (same : ReadsSa
         })))
 
     -- it is out, or below what the session has seen
-    early : (q : Option ℕ) (mid z : Core) → position_at c b ≡ q → (q ≡ None) ⊎ (place q < (session_at c s).least) → mid ≡ c
-        → z ≡ with_read mid s (still_reading select (tried_of (session_at mid s).reading)) → ReadsTooEarly c s b select q z
+    early : (q : Option ℕ) (mid z : Core) → position_at c b ≡ q → (q ≡ None) ⊎ (position_or_zero q < (session_at c s).least) → mid ≡ c
+        → z ≡ with_read mid s (still_reading select (tried_of (session_at mid s).reading)) → ReadCameTooEarly c s b select q z
     early q mid z stands why same_core after =
         record {
           serves = serves;
@@ -77,18 +77,18 @@ module _ (tells : Bool) (c : Core) (s b : ℕ) (select : Select) (same : ReadsSa
         }
 
     pub is_out : (mid z : Core) → Asks tells c s b select (Err errors.Out) → mid ≡ c → z ≡ with_read mid s (still_reading select (tried_of (session_at mid s).reading))
-        → ReadsOrWaits tells c s b select (Ok moved.Out) z
+        → AttemptsReadOrWaits tells c s b select (Ok moved.Out) z
     is_out mid z asks same_core after = reads (Ok moved.Out) z (early None mid z asks (inl refl) same_core after)
 
     pub is_behind : (p : ℕ) (mid z : Core) → Asks tells c s b select (Err (errors.Behind p)) → mid ≡ c → z ≡ with_read mid s (still_reading select (tried_of (session_at mid s).reading))
-        → ReadsOrWaits tells c s b select (Ok (moved.Behind p)) z
+        → AttemptsReadOrWaits tells c s b select (Ok (moved.Behind p)) z
     is_behind p mid z asks same_core after = reads (Ok (moved.Behind p)) z (early (Some p) mid z asks.0 (inr asks.1) same_core after)
 
     -- it failed, which the history says
-    pub failed : (mid z : Core) (m : Moved) (serving : ℕ) → IsServing c select serving → Asks tells c s b select (Err errors.Failed) → mid ≡ asked_core c s b (Err errors.Failed)
-        → RefusesOrStays mid s select (tried_with c s b) serving m z → ReadsOrWaits tells c s b select (Ok m) z
+    pub failed : (mid z : Core) (m : Moved) (serving : ℕ) → IsServingMask c select serving → Asks tells c s b select (Err errors.Failed) → mid ≡ asked_core c s b (Err errors.Failed)
+        → RefusesOrStays mid s select (tried_with c s b) serving m z → AttemptsReadOrWaits tells c s b select (Ok m) z
     failed mid z m serving is asks noted (inl h) =
-        subst (λ (x : Moved). ReadsOrWaits tells c s b select (Ok x) z) (sym h.1)
+        subst (λ (x : Moved). AttemptsReadOrWaits tells c s b select (Ok x) z) (sym h.1)
         (reads (Ok (moved.Refused (record { code = READ_FAULT; a = serving; b = 0 }))) z
         (inr (inr (inr (record {
           serves = serves;
@@ -101,7 +101,7 @@ module _ (tells : Bool) (c : Core) (s b : ℕ) (select : Select) (same : ReadsSa
           after = h.2 ∙ ap (λ (x : Core). with_read x s was_answered) noted;
         })))))
     failed mid z m serving is asks noted (inr h) =
-        subst (λ (x : Moved). ReadsOrWaits tells c s b select (Ok x) z) (sym h.1)
+        subst (λ (x : Moved). AttemptsReadOrWaits tells c s b select (Ok x) z) (sym h.1)
         (reads (Ok moved.Failed) z
         (record {
           serves = serves;
@@ -113,9 +113,9 @@ module _ (tells : Bool) (c : Core) (s b : ℕ) (select : Select) (same : ReadsSa
 
     -- it failed, and the history has no room to say so
     pub unnoted : (n : ℕ) (mid z : Core) (m : Moved) → Asks tells c s b select (Err (errors.Unnoted n)) → mid ≡ c → m ≡ moved.Refused (record { code = HISTORY_FULL; a = n; b = 0 }) → z ≡ with_read mid s was_answered
-        → ReadsOrWaits tells c s b select (Ok m) z
+        → AttemptsReadOrWaits tells c s b select (Ok m) z
     unnoted n mid z m asks same_core is after =
-        subst (λ (x : Moved). ReadsOrWaits tells c s b select (Ok x) z) (sym is)
+        subst (λ (x : Moved). AttemptsReadOrWaits tells c s b select (Ok x) z) (sym is)
         (reads (Ok (moved.Refused (record { code = HISTORY_FULL; a = n; b = 0 }))) z
         (inr (inr (inl (record {
           serves = serves;

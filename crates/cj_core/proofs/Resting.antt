@@ -9,11 +9,11 @@ use Rattle.cj_model.specs.declared.request.Entry.{Entry}
 use Rattle.cj_model.specs.declared.event.Event.{Event}
 use Rattle.cj_model.specs.declared.event.Event.TheVariants.{Enabled}
 use Rattle.cj_model.specs.declared.limits.TheConstants.{BACKEND_LIMIT}
-use Rattle.cj_model.specs.Placements.{everywhere}
-use Rattle.cj_model.specs.Histories.{has, log, done, free, enabled, room}
-use Rattle.cj_model.specs.Cores.{Core, position_at}
-use Rattle.cj_model.specs.Moves.{happened}
-use Rattle.cj_model.specs.Sound.{IsSound, Stands, Holds}
+use Rattle.cj_model.specs.Cluster.Placements.{everywhere}
+use Rattle.cj_model.specs.Cluster.Histories.{in_mask, log, ended_count, is_idle, is_enabled, events_left}
+use Rattle.cj_model.specs.Cluster.Cores.{Core, position_at}
+use Rattle.cj_model.specs.Cluster.Moves.{happened}
+use Rattle.cj_model.specs.Proving.Invariants.{CoreInvariant, BackendStands, HoldsPart}
 use Rattle.cj_model.proofs.Masks.{has-zero}
 use Rattle.cj_model.proofs.Pushed.{enabled-push, log-same, done-same}
 use Rattle.cj_model.proofs.Standing.{stand_none}
@@ -46,12 +46,12 @@ module _ (n : ℕ) (cells : List CellState) (fresh : AreFresh n cells) where
       ext_get_or None (map (λ (x : CellState). x.position) cells) (replicate n (Some 0)) (as_many ∙ sym (length-replicate n (Some 0)))
       (λ b lt. at_first b lt ∙ sym (get_or-replicate n b (Some 0) None (subst (λ m. b < m) as_many lt)))
 
-  stands : (b : ℕ) (p : Option ℕ) → p ≡ Some 0 → Stands [] 0 0 b p
+  stands : (b : ℕ) (p : Option ℕ) → p ≡ Some 0 → BackendStands [] 0 0 b p
   stands b p is =
       let le : 0 ≤ 0 = omega arith in
-      subst (Stands [] 0 0 b) (sym is) (le, λ _. le, has-zero b, has-zero b)
+      subst (BackendStands [] 0 0 b) (sym is) (le, λ _. le, has-zero b, has-zero b)
 
-  sound_at_rest : IsSound (core_of n [] cells 0 0 [] 0)
+  sound_at_rest : CoreInvariant (core_of n [] cells 0 0 [] 0)
   sound_at_rest =
       record {
         legal = record { short = omega arith; each = λ k d lt. absurd (omega arith) };
@@ -60,7 +60,7 @@ module _ (n : ℕ) (cells : List CellState) (fresh : AreFresh n cells) where
         cells = as_many;
         hosts = λ b on. absurd (cc on);
         stands = λ b lt. stands b (get_or (map (λ (x : CellState). x.position) cells) b None) (at_first b lt);
-        in_masks = λ b. (λ on. absurd (both_ways (has 0 b) (has-zero b) on), λ on. absurd (both_ways (has 0 b) (has-zero b) on));
+        in_masks = λ b. (λ on. absurd (both_ways (in_mask 0 b) (has-zero b) on), λ on. absurd (both_ways (in_mask 0 b) (has-zero b) on));
         clear = λ _. (refl, refl);
         lone = All-nil _;
         sessions = All-nil _;
@@ -96,7 +96,7 @@ module _ (n : ℕ) (cells : List CellState) (fresh : AreFresh n cells) where
                   record {
                     number = f.number;
                     backends = f.backends;
-                    holds = subst (λ (p : Option ℕ). Holds tells (everywhere n) b [] x.told p) (sym f.position) (λ on. told b x (get_or-map (λ (z : CellState). z.told) cells b d None lt) (empty on) lt);
+                    holds = subst (λ (p : Option ℕ). HoldsPart tells (everywhere n) b [] x.told p) (sym f.position) (λ on. told b x (get_or-map (λ (z : CellState). z.told) cells b d None lt) (empty on) lt);
                   };
               between = stand_none (core_of n [] cells 0 0 [] 0) refl;
             };
@@ -119,22 +119,22 @@ log-enables : (k : ℕ) → log (enables k) ≡ []
 log-enables zero = refl
 log-enables (suc k) = step_to (λ h. log h ≡ []) k (log-same (enables k) (Enabled k) refl ∙ log-enables k)
 
-done-enables : (k : ℕ) → done (enables k) ≡ 0
+done-enables : (k : ℕ) → ended_count (enables k) ≡ 0
 done-enables zero = refl
-done-enables (suc k) = step_to (λ h. done h ≡ 0) k (done-same (enables k) (Enabled k) refl ∙ done-enables k)
+done-enables (suc k) = step_to (λ h. ended_count h ≡ 0) k (done-same (enables k) (Enabled k) refl ∙ done-enables k)
 
-pub free-enables : (k : ℕ) → free (enables k) ≡ true
+pub free-enables : (k : ℕ) → is_idle (enables k) ≡ true
 free-enables k = ap (λ m. m == length (log (enables k))) (done-enables k) ∙ ap (λ (l : List Entry). 0 == length l) (log-enables k)
 
 -- those not below k are not enabled
-pub off-enables : (k b : ℕ) → k ≤ b → enabled (enables k) b ≡ false
+pub off-enables : (k b : ℕ) → k ≤ b → is_enabled (enables k) b ≡ false
 off-enables zero b le = refl
 off-enables (suc k) b le =
     let before : k ≤ b = omega arith in
     let ne : b ≢ k = omega arith in
-    step_to (λ h. enabled h b ≡ false) k (enabled-push (enables k) (Enabled k) b ∙ rw (off-enables k b before) (ne_eqb b k ne))
+    step_to (λ h. is_enabled h b ≡ false) k (enabled-push (enables k) (Enabled k) b ∙ rw (off-enables k b before) (ne_eqb b k ne))
 
-pub room-enables : (k : ℕ) → k < 2 ^ 62 → 0 < room (enables k)
+pub room-enables : (k : ℕ) → k < 2 ^ 62 → 0 < events_left (enables k)
 room-enables k few =
     let long : length (enables k) ≡ k = length-map-range_with_len Enabled 0 k in
     let none : length (log (enables k)) ≡ 0 = ap length (log-enables k) in
@@ -151,7 +151,7 @@ happened-begun n k = ap (λ (h : List Event). record (begun n k) { history = h }
 -- there is room for as many as there can be
 pub no_room : (c : Core) (n k m : ℕ) (e : BookError) → c ≡ begun n k → k < n → n ≤ BACKEND_LIMIT → HadRoom {T = Unit {0}} c (Err e) → e ≡ HistoryFull m → ⊥
 no_room c n k m e is lt few had full =
-    let none : room c.history ≡ 0 = (subst (λ (d : BookError). HadRoom {T = Unit {0}} c (Err d)) full had).0 in
-    let begun_none : room (enables k) ≡ 0 = subst (λ (x : Core). room x.history ≡ 0) is none in
+    let none : events_left c.history ≡ 0 = (subst (λ (d : BookError). HadRoom {T = Unit {0}} c (Err d)) full had).0 in
+    let begun_none : events_left (enables k) ≡ 0 = subst (λ (x : Core). events_left x.history ≡ 0) is none in
     let space = room-enables k (omega arith) in
     absurd (omega arith)

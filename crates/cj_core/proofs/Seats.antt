@@ -11,29 +11,29 @@ use Rattle.std.proofs.lemmas.List.Elements.{All-cons, All-head, All-tail, All-we
 use Rattle.std.proofs.lemmas.List.Sorted.{IsNonDecreasingBy-from_default}
 use Rattle.std.proofs.lemmas.Bool.Decides.{nat_tests}
 use Rattle.cj_model.specs.declared.moves.OpenSession.{OpenSession}
-use Rattle.cj_model.specs.Tables.{Rises}
-use Rattle.cj_model.specs.Cores.{session_of, fresh_session, with_session}
-use Rattle.cj_model.specs.Sound.{by_number}
+use Rattle.cj_model.specs.Database.Tables.{Rises}
+use Rattle.cj_model.specs.Cluster.Cores.{find_session, new_session, with_session}
+use Rattle.cj_model.specs.Proving.Invariants.{by_session_number}
 use Rattle.cj_model.proofs.Sessions.{found_itself, found_none, found_number, rises_with, rises_without, without}
 use Rattle.cj_core.specs.Places.{IsPlaceOf}
 
 abbrev nobody : OpenSession
-nobody = fresh_session 0 []
+nobody = new_session 0 []
 
 -- numbers rise along the list
-pub rises_lt : (ss : List OpenSession) → Rises by_number ss → (i j : ℕ) (d : OpenSession) → i < j → j < length ss → (get_or ss i d).number < (get_or ss j d).number
+pub rises_lt : (ss : List OpenSession) → Rises by_session_number ss → (i j : ℕ) (d : OpenSession) → i < j → j < length ss → (get_or ss i d).number < (get_or ss j d).number
 rises_lt [] r i j d lt in_range = absurd (omega arith)
 rises_lt (y ∷ ss) r zero zero d lt in_range = absurd (omega arith)
 rises_lt (y ∷ ss) r zero (suc j) d lt in_range = ranked y.number (get_or ss j d).number Less (sym (r.0 j d (omega arith)))
 rises_lt (y ∷ ss) r (suc i) zero d lt in_range = absurd (omega arith)
 rises_lt (y ∷ ss) r (suc i) (suc j) d lt in_range = rises_lt ss r.1 i j d (omega arith) (omega arith)
 
-rises_le : (ss : List OpenSession) → Rises by_number ss → (i j : ℕ) (d : OpenSession) → i ≤ j → j < length ss → (get_or ss i d).number ≤ (get_or ss j d).number
+rises_le : (ss : List OpenSession) → Rises by_session_number ss → (i j : ℕ) (d : OpenSession) → i ≤ j → j < length ss → (get_or ss i d).number ≤ (get_or ss j d).number
 rises_le ss r i j d le in_range =
     ⊎_elim (λ (lt : i < j). let below = rises_lt ss r i j d lt in_range in omega arith)
     (λ (ge : j ≤ i). let same : i ≡ j = omega arith in let e = ap (λ n. (get_or ss n d).number) same in omega arith) (cases_lt i j)
 
-module _ (ss : List OpenSession) (r : Rises by_number ss) (number : ℕ) where
+module _ (ss : List OpenSession) (r : Rises by_session_number ss) (number : ℕ) where
   -- the comparisons with a number rise along the list, as a binary search asks
   comparisons_rise : IsNonDecreasingBy (λ x. ordering_index (nat_cmp x.number number)) ss
   comparisons_rise = IsNonDecreasingBy-from_default (λ x. ordering_index (nat_cmp x.number number)) ss nobody
@@ -41,11 +41,11 @@ module _ (ss : List OpenSession) (r : Rises by_number ss) (number : ℕ) where
 
   -- a binary search by number finds the session, if it is there
   pub searched : (q : Result ℕ ℕ) → IsSearchInRange q (length ss) → IsBinarySearchResult (λ x. nat_cmp x.number number) ss q
-      → MatchResult q (IsPlaceOf ss number) (λ i. session_of ss number ≡ None)
+      → MatchResult q (IsPlaceOf ss number) (λ i. find_session ss number ≡ None)
   searched (Ok i) in_range equal =
       let is : (get_or ss i nobody).number ≡ number = ranked _ number _ (sym (equal nobody)) in
-      let itself : session_of ss (get_or ss i nobody).number ≡ Some (get_or ss i nobody) = found_itself ss r i nobody in_range in
-      record { within = in_range; found = subst (λ n. session_of ss n ≡ Some (get_or ss i nobody)) is itself ∙ sym (slice_get-get_or ss i nobody in_range) }
+      let itself : find_session ss (get_or ss i nobody).number ≡ Some (get_or ss i nobody) = found_itself ss r i nobody in_range in
+      record { within = in_range; found = subst (λ n. find_session ss n ≡ Some (get_or ss i nobody)) is itself ∙ sym (slice_get-get_or ss i nobody in_range) }
   searched (Err i) in_range parted =
       found_none ss number
       (λ k d lt.
@@ -64,22 +64,22 @@ without_none (y ∷ ss) number all =
     rw (ne_eqb y.number number (All-head (λ (x : OpenSession). x.number ≢ number) y ss all), without_none ss number (All-tail (λ (x : OpenSession). x.number ≢ number) y ss all)) refl
 
 -- those behind a session have other numbers
-others : (y : OpenSession) (ss : List OpenSession) (number : ℕ) → y.number ≡ number → All (λ x. by_number y x ≡ Less) ss → All (λ (x : OpenSession). x.number ≢ number) ss
+others : (y : OpenSession) (ss : List OpenSession) (number : ℕ) → y.number ≡ number → All (λ x. by_session_number y x ≡ Less) ss → All (λ (x : OpenSession). x.number ≢ number) ss
 others y ss number is all =
-    All-weaker (λ x. by_number y x ≡ Less) (λ (x : OpenSession). x.number ≢ number) (λ x less. let lt : y.number < x.number = ranked y.number x.number Less (sym less) in omega arith) ss all
+    All-weaker (λ x. by_session_number y x ≡ Less) (λ (x : OpenSession). x.number ≢ number) (λ x less. let lt : y.number < x.number = ranked y.number x.number Less (sym less) in omega arith) ss all
 
 -- what isn't found has no session
-pub absent : (ss : List OpenSession) (number : ℕ) → session_of ss number ≡ None → All (λ (x : OpenSession). x.number ≢ number) ss
+pub absent : (ss : List OpenSession) (number : ℕ) → find_session ss number ≡ None → All (λ (x : OpenSession). x.number ≢ number) ss
 absent [] number none = λ k d lt. absurd (omega arith)
 absent (y ∷ ss) number none = one (y.number == number) refl none (absent ss number)
   where
-    one : (b : Bool) → (y.number == number) ≡ b → cond b (Some y) (session_of ss number) ≡ None → (session_of ss number ≡ None → All (λ (x : OpenSession). x.number ≢ number) ss)
+    one : (b : Bool) → (y.number == number) ≡ b → cond b (Some y) (find_session ss number) ≡ None → (find_session ss number ≡ None → All (λ (x : OpenSession). x.number ≢ number) ss)
         → All (λ (x : OpenSession). x.number ≢ number) (y ∷ ss)
     one true e is rest = absurd (cc is)
     one false e is rest = All-cons (λ (x : OpenSession). x.number ≢ number) y ss (eqb-false _ _ e) (rest is)
 
 -- a change at a session's place is one by its number
-at_place : (f : OpenSession → OpenSession) (ss : List OpenSession) (number i : ℕ) (x : OpenSession) → Rises by_number ss → slice_get ss i ≡ Some x → x.number ≡ number
+at_place : (f : OpenSession → OpenSession) (ss : List OpenSession) (number i : ℕ) (x : OpenSession) → Rises by_session_number ss → slice_get ss i ≡ Some x → x.number ≡ number
     → set ss i (f x) ≡ with_session ss number f
 at_place f [] number i x r is n = absurd (cc is)
 at_place f (y ∷ ss) number zero x r is n =
@@ -93,7 +93,7 @@ at_place f (y ∷ ss) number (suc i) x r is n =
     let e : (get_or ss i x).number ≡ number = ap (λ (z : OpenSession). z.number) read ∙ n in
     rw (ne_eqb y.number number (omega arith)) (ap (λ l. y ∷ l) (at_place f ss number i x r.1 is n))
 
-removed_at : (ss : List OpenSession) (number i : ℕ) (x : OpenSession) → Rises by_number ss → slice_get ss i ≡ Some x → x.number ≡ number → remove ss i ≡ without number ss
+removed_at : (ss : List OpenSession) (number i : ℕ) (x : OpenSession) → Rises by_session_number ss → slice_get ss i ≡ Some x → x.number ≡ number → remove ss i ≡ without number ss
 removed_at [] number i x r is n = absurd (cc is)
 removed_at (y ∷ ss) number zero x r is n =
     let same : y ≡ x = cc is in
@@ -106,7 +106,7 @@ removed_at (y ∷ ss) number (suc i) x r is n =
     let e : (get_or ss i x).number ≡ number = ap (λ (z : OpenSession). z.number) read ∙ n in
     rw (ne_eqb y.number number (omega arith)) (ap (λ l. y ∷ l) (removed_at ss number i x r.1 is n))
 
-module _ (ss : List OpenSession) (r : Rises by_number ss) (number place : ℕ) (at : IsPlaceOf ss number place) (x : OpenSession) (read : x ≡ get_or ss place x) where
+module _ (ss : List OpenSession) (r : Rises by_session_number ss) (number place : ℕ) (at : IsPlaceOf ss number place) (x : OpenSession) (read : x ≡ get_or ss place x) where
   pub there : slice_get ss place ≡ Some x
   there = slice_get-get_or ss place x at.within ∙ ap (λ y. Some y) (sym read)
 
@@ -117,19 +117,19 @@ module _ (ss : List OpenSession) (r : Rises by_number ss) (number place : ℕ) (
   pub changed : (f : OpenSession → OpenSession) → set ss place (f x) ≡ with_session ss number f
   changed f = at_place f ss number place x r there numbered
 
-  pub changed_rises : (f : OpenSession → OpenSession) → ((y : OpenSession) → (f y).number ≡ y.number) → Rises by_number (set ss place (f x))
-  changed_rises f keeps = subst (Rises by_number) (sym (changed f)) (rises_with f keeps ss number r)
+  pub changed_rises : (f : OpenSession → OpenSession) → ((y : OpenSession) → (f y).number ≡ y.number) → Rises by_session_number (set ss place (f x))
+  changed_rises f keeps = subst (Rises by_session_number) (sym (changed f)) (rises_with f keeps ss number r)
 
   -- and removed
   pub removed : remove ss place ≡ without number ss
   removed = removed_at ss number place x r there numbered
 
-  pub removed_rises : Rises by_number (remove ss place)
-  removed_rises = subst (Rises by_number) (sym removed) (rises_without ss number r)
+  pub removed_rises : Rises by_session_number (remove ss place)
+  removed_rises = subst (Rises by_session_number) (sym removed) (rises_without ss number r)
 
 -- a change or a removal of what isn't there
-pub unchanged : (f : OpenSession → OpenSession) (ss : List OpenSession) (number : ℕ) → session_of ss number ≡ None → ss ≡ with_session ss number f
+pub unchanged : (f : OpenSession → OpenSession) (ss : List OpenSession) (number : ℕ) → find_session ss number ≡ None → ss ≡ with_session ss number f
 unchanged f ss number none = sym (with_none f ss number (absent ss number none))
 
-pub unremoved : (ss : List OpenSession) (number : ℕ) → session_of ss number ≡ None → ss ≡ without number ss
+pub unremoved : (ss : List OpenSession) (number : ℕ) → find_session ss number ≡ None → ss ≡ without number ss
 unremoved ss number none = sym (without_none ss number (absent ss number none))

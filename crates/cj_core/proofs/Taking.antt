@@ -12,18 +12,18 @@ use Rattle.cj_model.specs.declared.moves.Did.{Did}
 use Rattle.cj_model.specs.declared.moves.Did.TheVariants as did
 use Rattle.cj_model.specs.declared.moves.Moved.TheVariants as moved
 use Rattle.cj_model.specs.declared.moves.OpenSession.{OpenSession}
-use Rattle.cj_model.specs.Placements.{everywhere, hosts, concerns}
-use Rattle.cj_model.specs.Steps.{table_written}
-use Rattle.cj_model.specs.Histories.{log, done, free, enabled, said}
-use Rattle.cj_model.specs.Cores.{Core, position_at}
-use Rattle.cj_model.specs.Outcomes.{IsOutcome}
-use Rattle.cj_model.specs.Moves.{place, Takes, DoesEntry, Applies, Replays, failed_after, starved_after}
-use Rattle.cj_model.specs.Sound.{IsSound, IsLone}
+use Rattle.cj_model.specs.Cluster.Placements.{everywhere, hosts, concerns}
+use Rattle.cj_model.specs.Database.Steps.{table_written}
+use Rattle.cj_model.specs.Cluster.Histories.{log, ended_count, is_idle, is_enabled, outcome_of}
+use Rattle.cj_model.specs.Cluster.Cores.{Core, position_at}
+use Rattle.cj_model.specs.Database.Outcomes.{IsOutcome}
+use Rattle.cj_model.specs.Cluster.Moves.{position_or_zero, TakesEntry, DoesWithEntry, Applies, Replays, failed_after, starved_after}
+use Rattle.cj_model.specs.Proving.Invariants.{CoreInvariant, IsLoneEntry}
 use Rattle.cj_model.proofs.Effects.{sound_applied, sound_replayed, stands_there, is_there}
 use Rattle.cj_replica.specs.Cells.{CellState}
 use Rattle.cj_model.proofs.Standing.{stand_rest}
 use Rattle.cj_core.specs.Worlds.{core_of, world_of, IsCell, IsWorld}
-use Rattle.cj_core.specs.Taking.{Took, heard_after}
+use Rattle.cj_core.specs.Taking.{TookEntry, first_outcome_after}
 use Rattle.cj_core.specs.Armings.{armings_of}
 use Rattle.cj_core.specs.Counting.{did_fail, faults_of, faults_after}
 use Rattle.cj_core.specs.Kept.{Kept}
@@ -35,7 +35,7 @@ pub hosts_each : (n b : ℕ) (table : List ℕ) → b < n → hosts (everywhere 
 hosts_each n b table lt = rw (lt-ltb b n lt) refl
 
 -- an entry outside transactions concerns every backend
-pub concerns_all : (n b : ℕ) (before : List Entry) (e : Entry) (a : Act) → b < n → IsLone e a → concerns (everywhere n) b before e.tx a ≡ true
+pub concerns_all : (n b : ℕ) (before : List Entry) (e : Entry) (a : Act) → b < n → IsLoneEntry e a → concerns (everywhere n) b before e.tx a ≡ true
 concerns_all n b before e act.Begin lt lone = absurd lone
 concerns_all n b before e (act.Write w) lt lone = hosts_each n b (table_written w) lt
 concerns_all n b before e (act.Create c) lt lone = hosts_each n b c.table lt
@@ -44,16 +44,16 @@ concerns_all n b before e act.Commit lt lone = absurd lone
 concerns_all n b before e act.Abort lt lone = absurd lone
 
 -- an entry of a sound log is outside transactions
-pub lone_at : (c : Core) → IsSound c → (i : ℕ) (e : Entry) → slice_get (log c.history) i ≡ Some e → IsLone e e.act
+pub lone_at : (c : Core) → CoreInvariant c → (i : ℕ) (e : Entry) → slice_get (log c.history) i ≡ Some e → IsLoneEntry e e.act
 lone_at c w i e is =
-    subst (λ (x : Entry). IsLone x x.act) (get_or_from_slice_get (log c.history) i e e is) (w.lone i e (slice_get_within (log c.history) i e is))
+    subst (λ (x : Entry). IsLoneEntry x x.act) (get_or_from_slice_get (log c.history) i e e is) (w.lone i e (slice_get_within (log c.history) i e is))
 
-module _ (tells : Bool) (n : ℕ) (h : List Event) (cells : List CellState) (f s : ℕ) (ss : List OpenSession) (g : ℕ) (heard : Option Outcome) (kept : Kept tells (world_of n h cells f s ss g) heard)
-    (b : ℕ) (d : Did) (now : List CellState) (took : Took tells n h cells b d now) where
+module _ (tells : Bool) (n : ℕ) (h : List Event) (cells : List CellState) (f s : ℕ) (ss : List OpenSession) (g : ℕ) (first_outcome : Option Outcome) (kept : Kept tells (world_of n h cells f s ss g) first_outcome)
+    (b : ℕ) (d : Did) (now : List CellState) (took : TookEntry tells n h cells b d now) where
   c : Core
   c = core_of n h cells f s ss g
 
-  takes : Takes tells (core_of n h cells f s ss g) b d took.cell.position
+  takes : TakesEntry tells (core_of n h cells f s ss g) b d took.cell.position
   takes = took.takes f s ss g
 
   -- its place alone is another
@@ -66,18 +66,18 @@ module _ (tells : Bool) (n : ℕ) (h : List Event) (cells : List CellState) (f s
   -- no backend passes an entry over
   not_skipped : d ≡ did.Skipped → ⊥
   not_skipped is =
-      let at = subst (λ (x : Did). DoesEntry tells (core_of n h cells f s ss g) b takes.p takes.entry x took.cell.position) is takes.does in
+      let at = subst (λ (x : Did). DoesWithEntry tells (core_of n h cells f s ss g) b takes.p takes.entry x took.cell.position) is takes.does in
       let lone = lone_at (core_of n h cells f s ss g) kept.world.sound takes.p takes.entry takes.there in
       let lt : b < n = subst (λ (m : ℕ). b < m) kept.world.sound.cells within in
       both_ways _ at.0 (concerns_all n b (take takes.p (log h)) takes.entry takes.entry.act lt lone)
 
   -- the state, with the masks that come of it
-  taken_world : (f' s' : ℕ) → IsSound (record (core_of n h cells f s ss g) { positions = set (map (λ (x : CellState). x.position) cells) b took.cell.position; failed = f'; starved = s' })
+  taken_world : (f' s' : ℕ) → CoreInvariant (record (core_of n h cells f s ss g) { positions = set (map (λ (x : CellState). x.position) cells) b took.cell.position; failed = f'; starved = s' })
       → IsWorld tells (world_of n h now f' s' ss g)
   taken_world f' s' sound =
       record {
         sound =
-            subst (λ (ps : List (Option ℕ)). IsSound (record (core_of n h cells f s ss g) { positions = ps; failed = f'; starved = s' })) (sym places) sound;
+            subst (λ (ps : List (Option ℕ)). CoreInvariant (record (core_of n h cells f s ss g) { positions = ps; failed = f'; starved = s' })) (sym places) sound;
         full = refl;
         few = kept.world.few;
         positions = refl;
@@ -94,42 +94,42 @@ module _ (tells : Bool) (n : ℕ) (h : List Event) (cells : List CellState) (f s
   place_same : get_or (map (λ (x : CellState). x.position) now) b None ≡ took.cell.position
   place_same = ap (λ ps. get_or ps b None) places ∙ get_or-set_same (map (λ (x : CellState). x.position) cells) b took.cell.position None within
 
-  module _ (fr : free h ≡ false) (on : enabled h b ≡ true) where
+  module _ (fr : is_idle h ≡ false) (on : is_enabled h b ≡ true) where
     -- the entry is the open one
-    open_there : takes.p ≡ done h
+    open_there : takes.p ≡ ended_count h
     open_there =
         let lt : takes.p < length (log h) = slice_get_within (log h) takes.p takes.entry takes.there in
-        let low : done h ≤ takes.p = (stands_there (core_of n h cells f s ss g) b takes.p kept.world.sound takes.stands).1 on in
-        let hi : length (log h) ≤ done h + 1 = kept.world.sound.one_open.1 in
+        let low : ended_count h ≤ takes.p = (stands_there (core_of n h cells f s ss g) b takes.p kept.world.sound takes.stands).1 on in
+        let hi : length (log h) ≤ ended_count h + 1 = kept.world.sound.one_open.1 in
         omega arith
 
-    heard_right : (d' : Did) → d ≡ d' → (o : Outcome) → heard_after heard d' ≡ Some o → IsOutcome o × (tells ≡ true → said (log h) (done h) ≡ Some o)
+    heard_right : (d' : Did) → d ≡ d' → (o : Outcome) → first_outcome_after first_outcome d' ≡ Some o → IsOutcome o × (tells ≡ true → outcome_of (log h) (ended_count h) ≡ Some o)
     heard_right (did.Done r) is o there =
-        let does = subst (λ (x : Did). DoesEntry tells (core_of n h cells f s ss g) b takes.p takes.entry x took.cell.position) is takes.does in
+        let does = subst (λ (x : Did). DoesWithEntry tells (core_of n h cells f s ss g) b takes.p takes.entry x took.cell.position) is takes.does in
         let same : r ≡ o = cc there in
-        (subst IsOutcome same does.1, λ t. ap (said (log h)) (sym open_there) ∙ (does.2 t ∙ there))
+        (subst IsOutcome same does.1, λ t. ap (outcome_of (log h)) (sym open_there) ∙ (does.2 t ∙ there))
     heard_right did.Skipped is o there = kept.right o there
     heard_right did.Failed is o there = kept.right o there
     heard_right did.Starved is o there = kept.right o there
 
-    heard_here : (d' : Did) → d ≡ d' → took.cell.position ≡ Some (length (log h)) → IsSome (heard_after heard d')
+    heard_here : (d' : Did) → d ≡ d' → took.cell.position ≡ Some (length (log h)) → IsSome (first_outcome_after first_outcome d')
     heard_here (did.Done r) is there = refl
     heard_here did.Skipped is there = absurd (not_skipped is)
     heard_here did.Failed is there =
-        let does = subst (λ (x : Did). DoesEntry tells (core_of n h cells f s ss g) b takes.p takes.entry x took.cell.position) is takes.does in
+        let does = subst (λ (x : Did). DoesWithEntry tells (core_of n h cells f s ss g) b takes.p takes.entry x took.cell.position) is takes.does in
         absurd (cc (does, there))
     heard_here did.Starved is there =
-        let does = subst (λ (x : Did). DoesEntry tells (core_of n h cells f s ss g) b takes.p takes.entry x took.cell.position) is takes.does in
+        let does = subst (λ (x : Did). DoesWithEntry tells (core_of n h cells f s ss g) b takes.p takes.entry x took.cell.position) is takes.does in
         absurd (cc (does, there))
 
-    heard_still : (d' : Did) → IsSome heard → IsSome (heard_after heard d')
+    heard_still : (d' : Did) → IsSome first_outcome → IsSome (first_outcome_after first_outcome d')
     heard_still (did.Done r) some = refl
     heard_still did.Skipped some = some
     heard_still did.Failed some = some
     heard_still did.Starved some = some
 
     -- an enabled backend took the open entry
-    pub kept_applied : Kept tells (world_of n h now (failed_after f b d) (starved_after s b d) ss g) (heard_after heard d)
+    pub kept_applied : Kept tells (world_of n h now (failed_after f b d) (starved_after s b d) ss g) (first_outcome_after first_outcome d)
     kept_applied =
         record {
           world = taken_world (failed_after f b d) (starved_after s b d) (sound_applied tells (core_of n h cells f s ss g) b kept.world.sound fr on d took.cell.position takes);
@@ -143,7 +143,7 @@ module _ (tells : Bool) (n : ℕ) (h : List Event) (cells : List CellState) (f s
         }
 
   -- another backend took the log's next
-  pub kept_replayed : enabled h b ≡ false → Kept tells (world_of n h now f s ss g) heard
+  pub kept_replayed : is_enabled h b ≡ false → Kept tells (world_of n h now f s ss g) first_outcome
   kept_replayed off =
       record {
         world = taken_world f s (sound_replayed tells (core_of n h cells f s ss g) b kept.world.sound off d took.cell.position takes);
@@ -152,7 +152,7 @@ module _ (tells : Bool) (n : ℕ) (h : List Event) (cells : List CellState) (f s
         whole =
             λ fr k now_on there.
             ⊎_elim
-            (λ (e : k ≡ b). absurd (both_ways (enabled h b) off (subst (λ (x : ℕ). enabled h x ≡ true) e now_on)))
+            (λ (e : k ≡ b). absurd (both_ways (is_enabled h b) off (subst (λ (x : ℕ). is_enabled h x ≡ true) e now_on)))
             (λ (ne : k ≡ b → ⊥). kept.whole fr k now_on (sym (place_other k ne) ∙ there)) (cases_eq k b);
       }
 
@@ -172,7 +172,7 @@ module _ (tells : Bool) (n : ℕ) (h : List Event) (cells : List CellState) (f s
     ),
   )
 
-  pub replays : Replays tells (core_of n h cells f s ss g) b (Ok (moved.Replayed (place (position_at (core_of n h cells f s ss g) b) + 1) d)) (core_of n h now f s ss g)
+  pub replays : Replays tells (core_of n h cells f s ss g) b (Ok (moved.Replayed (position_or_zero (position_at (core_of n h cells f s ss g) b) + 1) d)) (core_of n h now f s ss g)
   replays = (refl, (took.cell.position, takes, core_now f s))
 
   -- and what it counts

@@ -7,7 +7,7 @@ use Rattle.cj_model.specs.declared.moves.Move.{Move}
 use Rattle.cj_model.specs.declared.moves.Move.TheVariants.{Open, Close, Schedule, Apply, End, Read, Arm, Disable, Replay, Enable}
 use Rattle.cj_model.specs.declared.moves.Moved.TheVariants as moved
 use Rattle.cj_model.specs.declared.moves.MoveError.TheVariants as errors
-use Rattle.cj_model.specs.Moves.{Given}
+use Rattle.cj_model.specs.Cluster.Moves.{MoveResult}
 use Rattle.cj_backend.specs.Backends.{arming_after}
 use Rattle.cj_replica.specs.Cells.{CellState}
 use Rattle.cj_core.specs.Worlds.{WorldState}
@@ -41,7 +41,7 @@ armings_after armings None = armings
 armings_after armings (Some b) = slice_set armings b (next (slice_index_or armings b 0))
 
 -- what a move gave says that it armed its backend
-abbrev pub tells_armed : Given → Bool
+abbrev pub tells_armed : MoveResult → Bool
 tells_armed (Ok (moved.Session n)) = false
 tells_armed (Ok moved.Closed) = false
 tells_armed (Ok (moved.Entry n)) = false
@@ -60,7 +60,7 @@ tells_armed (Err (errors.NotNow why)) = false
 tells_armed (Err errors.NoMemory) = false
 
 -- the backend that a move armed, where backends can be
-abbrev pub armed_by : Bool → Move → Given → Option ℕ
+abbrev pub armed_by : Bool → Move → MoveResult → Option ℕ
 armed_by can (Open user) g = None
 armed_by can (Close s) g = None
 armed_by can (Schedule s r) g = None
@@ -73,5 +73,5 @@ armed_by can (Replay b) g = None
 armed_by can (Enable b) g = None
 
 -- The backend that the move armed was so once more, and no other was armed.
-abbrev pub HasArmings : Bool → WorldState → WorldState → Move → Given → Type 0
+abbrev pub HasArmings : Bool → WorldState → WorldState → Move → MoveResult → Type 0
 HasArmings can old new m g = armings_of new.cells ≡ armings_after (armings_of old.cells) (armed_by can m g)

@@ -10,7 +10,7 @@ use Rattle.cj_model.specs.declared.moves.Move.TheVariants.{Open, Close, Schedule
 use Rattle.cj_model.specs.declared.moves.Moved.TheVariants as moved
 use Rattle.cj_model.specs.declared.moves.MoveError.TheVariants as errors
 use Rattle.cj_model.specs.declared.codes.TheConstants.{READ_FAULT, HISTORY_FULL}
-use Rattle.cj_model.specs.Moves.{Given}
+use Rattle.cj_model.specs.Cluster.Moves.{MoveResult}
 use Rattle.cj_replica.specs.Cells.{CellState}
 use Rattle.cj_core.specs.Worlds.{WorldState}
 
@@ -33,7 +33,7 @@ did_fail did.Failed = true
 did_fail did.Starved = false
 
 -- of a move that asks a backend: what it gave says that the backend failed
-abbrev pub tells_fault : Given → Bool
+abbrev pub tells_fault : MoveResult → Bool
 tells_fault (Ok (moved.Session n)) = false
 tells_fault (Ok moved.Closed) = false
 tells_fault (Ok (moved.Entry n)) = false
@@ -52,7 +52,7 @@ tells_fault (Err (errors.NotNow why)) = false
 tells_fault (Err errors.NoMemory) = false
 
 -- the backend that a move says failed, which is the one that it asks
-abbrev pub blamed : Move → Given → Option ℕ
+abbrev pub blamed : Move → MoveResult → Option ℕ
 blamed (Open user) g = None
 blamed (Close s) g = None
 blamed (Schedule s r) g = None
@@ -65,5 +65,5 @@ blamed (Replay b) g = if tells_fault g then Some b else None
 blamed (Enable b) g = None
 
 -- The backend that the move says failed has counted one fault more, and no other count has changed.
-abbrev pub HasCauses : WorldState → WorldState → Move → Given → Type 0
+abbrev pub HasCauses : WorldState → WorldState → Move → MoveResult → Type 0
 HasCauses old new m g = faults_of new.cells ≡ faults_after (faults_of old.cells) (blamed m g)

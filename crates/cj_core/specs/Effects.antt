@@ -15,18 +15,18 @@ use Rattle.cj_model.specs.declared.select.Select.{Select}
 use Rattle.cj_model.specs.declared.event.Event.TheVariants as event
 use Rattle.cj_model.specs.declared.codes.TheConstants.{UNFINISHED, READ_FAULT, STARVED_ALL}
 use Rattle.cj_model.specs.declared.moves.OpenRead.{OpenRead}
-use Rattle.cj_model.specs.Outcomes.{IsAsked}
-use Rattle.cj_model.specs.Plain.{request_of}
-use Rattle.cj_model.specs.Queries.{ask}
-use Rattle.cj_model.specs.Histories.{has, log, done, free, opened, room, at}
-use Rattle.cj_model.specs.Answering.{Served, Unserved, AnswersEntry}
-use Rattle.cj_model.specs.Cores.{Core, position_at, session_at}
-use Rattle.cj_model.specs.Moves.{last_number, open_tx, ended, happened, IsFarEnough, read_number, with_read, was_answered, still_reading}
-use Rattle.cj_model.specs.Turns.{Seen}
-use Rattle.cj_model.specs.Runs.{HasFailed, IsBetween}
+use Rattle.cj_model.specs.Database.Outcomes.{IsAsked}
+use Rattle.cj_model.specs.Sql.PlainRequests.{request_of}
+use Rattle.cj_model.specs.Database.Queries.{ask}
+use Rattle.cj_model.specs.Cluster.Histories.{in_mask, log, ended_count, is_idle, entry_in_progress, events_left, database_after}
+use Rattle.cj_model.specs.Cluster.Answering.{HasServer, HasNoServer, AnswersEntry}
+use Rattle.cj_model.specs.Cluster.Cores.{Core, position_at, session_at}
+use Rattle.cj_model.specs.Cluster.Moves.{last_number, open_tx, with_end, happened, IsFarEnough, read_number, with_read, was_answered, still_reading}
+use Rattle.cj_model.specs.Cluster.Turns.{SessionView}
+use Rattle.cj_model.specs.Cluster.Runs.{HasFailedSince, IsBetweenReplies}
 use Rattle.cj_book.specs.declared.error.BookError.{BookError}
 use Rattle.cj_book.specs.declared.error.BookError.TheVariants.{InProgress, NoBackend, HistoryFull, NoMemory}
-use Rattle.cj_book.specs.Books.{BookState, with_event, IsFull}
+use Rattle.cj_book.specs.Books.{BookState, with_event, HasNoRoomForOne}
 use Rattle.cj_replica.specs.declared.cell.CellReadError.{CellReadError}
 use Rattle.cj_replica.specs.declared.cell.CellReadError.TheVariants as cell_errors
 use Rattle.cj_core.specs.declared.cells.AskError.{AskError}
@@ -48,18 +48,18 @@ IsChange act.Abort = ⊥
 
 -- whether the entry was scheduled, or why not
 abbrev pub SchedulesAs : Core → Entry → Result ℕ BookError → Type 0
-SchedulesAs c e (Ok n) = (n ≡ last_number c + 1) × Served c.placement c.history (request_of e.act) × (3 ≤ room c.history)
-SchedulesAs c e (Err (InProgress n)) = free c.history ≡ false
-SchedulesAs c e (Err NoBackend) = Unserved c.placement c.history (request_of e.act)
-SchedulesAs c e (Err (HistoryFull n)) = (n ≡ length c.history) × Served c.placement c.history (request_of e.act) × (room c.history < 3)
+SchedulesAs c e (Ok n) = (n ≡ last_number c + 1) × HasServer c.placement c.history (request_of e.act) × (3 ≤ events_left c.history)
+SchedulesAs c e (Err (InProgress n)) = is_idle c.history ≡ false
+SchedulesAs c e (Err NoBackend) = HasNoServer c.placement c.history (request_of e.act)
+SchedulesAs c e (Err (HistoryFull n)) = (n ≡ length c.history) × HasServer c.placement c.history (request_of e.act) × (events_left c.history < 3)
 SchedulesAs c e (Err NoMemory) = Unit {0}
 
 -- whether one event more could come, or why not
 abbrev pub HadRoom : {T : Type 0} → Core → Result T BookError → Type 0
-HadRoom c (Ok x) = 0 < room c.history
+HadRoom c (Ok x) = 0 < events_left c.history
 HadRoom c (Err (InProgress n)) = ⊥
 HadRoom c (Err NoBackend) = ⊥
-HadRoom c (Err (HistoryFull n)) = (room c.history ≡ 0) × (n ≡ length c.history)
+HadRoom c (Err (HistoryFull n)) = (events_left c.history ≡ 0) × (n ≡ length c.history)
 HadRoom c (Err NoMemory) = Unit {0}
 
 -- the refusal of an entry that no backend finished
@@ -69,16 +69,16 @@ Refuses failed starved refusal =
 
 -- what the open entry is answered
 abbrev pub AnswersOpen : Bool → Core → Reply → Type 0
-AnswersOpen tells c reply = (e : Entry) → opened c.history ≡ Some e → AnswersEntry tells c.placement c.history (ended c) (done c.history) e reply
+AnswersOpen tells c reply = (e : Entry) → entry_in_progress c.history ≡ Some e → AnswersEntry tells c.placement c.history (with_end c) (ended_count c.history) e reply
 
 -- what backend b answered a session's query, or why it did not
 abbrev pub Asks : Bool → Core → ℕ → ℕ → Select → Result (Asked × ℕ) AskError → Type 0
 Asks tells c s b select (Ok (answer, p)) =
-    (position_at c b ≡ Some p) × ((session_at c s).least ≤ p) × (p ≤ last_number c) × IsAsked answer × (tells ≡ true → answer ≡ ask (at (log c.history) p) (open_tx c s) select)
+    (position_at c b ≡ Some p) × ((session_at c s).least ≤ p) × (p ≤ last_number c) × IsAsked answer × (tells ≡ true → answer ≡ ask (database_after (log c.history) p) (open_tx c s) select)
 Asks tells c s b select (Err errors.Out) = position_at c b ≡ None
 Asks tells c s b select (Err (errors.Behind p)) = (position_at c b ≡ Some p) × (p < (session_at c s).least)
-Asks tells c s b select (Err errors.Failed) = IsFarEnough c s b × (0 < room c.history)
-Asks tells c s b select (Err (errors.Unnoted n)) = IsFarEnough c s b × (room c.history ≡ 0) × (n ≡ length c.history)
+Asks tells c s b select (Err errors.Failed) = IsFarEnough c s b × (0 < events_left c.history)
+Asks tells c s b select (Err (errors.Unnoted n)) = IsFarEnough c s b × (events_left c.history ≡ 0) × (n ≡ length c.history)
 Asks tells c s b select (Err errors.NoMemory) = Unit {0}
 
 -- the core after that: a failure is an event of the history, where that has room
@@ -104,12 +104,12 @@ abbrev pub Notes : BookState → ℕ → ℕ → ℕ → CellReadError → AskEr
 Notes old s q b cell_errors.Out error new = (error ≡ errors.Out) × (new ≡ old)
 Notes old s q b (cell_errors.Behind p) error new = (error ≡ errors.Behind p) × (new ≡ old)
 Notes old s q b cell_errors.Failed error new =
-    ((error ≡ errors.Failed) × (0 < room old.history) × (new ≡ with_event old (event.ReadFailed s q b))) ⊎ ((n : ℕ) × (error ≡ errors.Unnoted n) × IsFull old n × (new ≡ old))
+    ((error ≡ errors.Failed) × (0 < events_left old.history) × (new ≡ with_event old (event.ReadFailed s q b))) ⊎ ((n : ℕ) × (error ≡ errors.Unnoted n) × HasNoRoomForOne old n × (new ≡ old))
 Notes old s q b cell_errors.NoMemory error new = (error ≡ errors.NoMemory) × (new ≡ old)
 
 -- the mask has each backend that another has
 abbrev pub Covers : ℕ → ℕ → Type 0
-Covers mask other = (b : ℕ) → has other b ≡ true → has mask b ≡ true
+Covers mask other = (b : ℕ) → in_mask other b ≡ true → in_mask mask b ≡ true
 
 -- after a failure the read is refused where each backend that serves it has failed in it, and else it stays open
 abbrev pub RefusesOrStays : Core → ℕ → Select → ℕ → ℕ → Moved → Core → Type 0
@@ -132,4 +132,4 @@ answer_given (asked.Refused r) = moved.Refused r
 
 -- Since some reply of the session, or since it has begun, each backend of the mask has failed in its read.
 abbrev pub HaveFailed : Core → ℕ → ℕ → Type 0
-HaveFailed c s mask = (a : Seen) × IsBetween a c s × ((b : ℕ) → has mask b ≡ true → HasFailed a.front c.history s (read_number (session_at c s)) b)
+HaveFailed c s mask = (a : SessionView) × IsBetweenReplies a c s × ((b : ℕ) → in_mask mask b ≡ true → HasFailedSince a.front c.history s (read_number (session_at c s)) b)

@@ -4,37 +4,37 @@ use Rattle.cj_model.specs.declared.moves.Move.{Move}
 use Rattle.cj_model.specs.declared.moves.Made.{Made}
 use Rattle.cj_model.specs.declared.moves.Made.TheVariants as made
 use Rattle.cj_model.specs.declared.moves.MoveError.TheVariants.{NotNow}
-use Rattle.cj_model.specs.Moves.{Given}
-use Rattle.cj_model.specs.Turns.{Seen}
-use Rattle.cj_model.specs.Runs.{Runs, IsBetween, IsChained}
+use Rattle.cj_model.specs.Cluster.Moves.{MoveResult}
+use Rattle.cj_model.specs.Cluster.Turns.{SessionView}
+use Rattle.cj_model.specs.Cluster.Runs.{RunsMoves, IsBetweenReplies, IsChained}
 use Rattle.cj_core.specs.Worlds.{WorldState}
 use Rattle.cj_core.specs.Counting.{faults_of, faults_after, blamed}
 
 -- what a move came to is what it gave
-abbrev pub given_of : Made → Given
+abbrev pub given_of : Made → MoveResult
 given_of (made.Moved m) = Ok m
 given_of (made.NotNow why) = Err (NotNow why)
 
 -- the counts after a list of moves: each fault that one of them tells is counted, one after another
-abbrev pub faults_over : List ℕ → List Move → List Given → List ℕ
+abbrev pub faults_over : List ℕ → List Move → List MoveResult → List ℕ
 faults_over faults [] [] = faults
 faults_over faults (m ∷ ms) (g ∷ gs) = faults_over (faults_after faults (blamed m g)) ms gs
 faults_over faults [] (g ∷ gs) = faults
 faults_over faults (m ∷ ms) [] = faults
 
 -- the backends that the moves say failed have counted that, move by move, and no count has changed otherwise
-abbrev pub HaveCauses : WorldState → WorldState → List Move → List Given → Type 0
+abbrev pub HaveCauses : WorldState → WorldState → List Move → List MoveResult → Type 0
 HaveCauses old new moves given = faults_of new.cells ≡ faults_over (faults_of old.cells) moves given
 
 -- The moves were made in order, and this is what each gave. The replies to each session are a chain of turns from what it had seen.
-pub record HasRun (tells : Bool) (old : WorldState) (moves : List Move) (given : List Given) (new : WorldState) : Type 0 where
-  pub runs : Runs tells old.core moves given new.core
-  pub chains : (s : ℕ) (a : Seen) → IsBetween a old.core s → IsChained tells s old.core moves given new.core a
+pub record HasRun (tells : Bool) (old : WorldState) (moves : List Move) (given : List MoveResult) (new : WorldState) : Type 0 where
+  pub runs : RunsMoves tells old.core moves given new.core
+  pub chains : (s : ℕ) (a : SessionView) → IsBetweenReplies a old.core s → IsChained tells s old.core moves given new.core a
   pub causes : HaveCauses old new moves given
 
 -- The first of the moves were made, and no more.
 pub record HasRunInPart (tells : Bool) (old : WorldState) (moves : List Move) (new : WorldState) : Type 0 where
   pub count : ℕ
   pub within : count ≤ length moves
-  pub given : List Given
+  pub given : List MoveResult
   pub run : HasRun tells old (take count moves) given new

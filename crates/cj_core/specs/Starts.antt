@@ -6,9 +6,9 @@ use Rattle.std.specs.List.{range_with_len}
 use Rattle.cj_model.specs.declared.database.Slot.{Slot}
 use Rattle.cj_model.specs.declared.event.Event.{Event}
 use Rattle.cj_model.specs.declared.event.Event.TheVariants.{Enabled}
-use Rattle.cj_model.specs.Placements.{everywhere, part}
-use Rattle.cj_model.specs.Histories.{log, free, enabled, run, at}
-use Rattle.cj_model.specs.Cores.{Core, position_at}
+use Rattle.cj_model.specs.Cluster.Placements.{everywhere, part}
+use Rattle.cj_model.specs.Cluster.Histories.{log, is_idle, is_enabled, database_of, database_after}
+use Rattle.cj_model.specs.Cluster.Cores.{Core, position_at}
 use Rattle.cj_replica.specs.Cells.{CellState}
 
 -- n backends are enabled, in the order of their numbers
@@ -49,9 +49,9 @@ AreEmpty tells told = tells ≡ true → All (λ (t : Option (List Slot)). t ≡
 
 -- each backend that is not out holds its part of the database after the entries that it has taken
 abbrev pub AreHolding : Bool → Core → List (Option (List Slot)) → Type 0
-AreHolding tells c told = tells ≡ true → (b p : ℕ) → position_at c b ≡ Some p → slice_get told b ≡ Some (Some (part c.placement b (at (log c.history) p)))
+AreHolding tells c told = tells ≡ true → (b p : ℕ) → position_at c b ≡ Some p → slice_get told b ≡ Some (Some (part c.placement b (database_after (log c.history) p)))
 
 -- where no entry is open, each enabled backend holds its part of the database after the whole log
 abbrev pub AreCurrent : Bool → Core → List (Option (List Slot)) → Type 0
 AreCurrent tells c told =
-    tells ≡ true → free c.history ≡ true → (b : ℕ) → enabled c.history b ≡ true → slice_get told b ≡ Some (Some (part c.placement b (run (log c.history))))
+    tells ≡ true → is_idle c.history ≡ true → (b : ℕ) → is_enabled c.history b ≡ true → slice_get told b ≡ Some (Some (part c.placement b (database_of (log c.history))))

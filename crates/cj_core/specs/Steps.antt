@@ -3,8 +3,8 @@ use Rattle.std.specs.Prelude.{◌<◌, ◌^◌}
 use Rattle.cj_model.specs.declared.moves.Move.{Move}
 use Rattle.cj_model.specs.declared.moves.Move.TheVariants.{Open, Close, Schedule, Apply, End, Read, Arm, Disable, Replay, Enable}
 use Rattle.cj_model.specs.declared.limits.TheConstants.{REQUEST_LIMIT}
-use Rattle.cj_model.specs.Cores.{Core, session_at}
-use Rattle.cj_model.specs.Runs.{IsMove}
+use Rattle.cj_model.specs.Cluster.Cores.{Core, session_at}
+use Rattle.cj_model.specs.Cluster.Runs.{IsMoveOfCluster}
 
 -- the session of the move can make one request more
 abbrev pub CanAsk : Core → Move → Type 0
@@ -21,4 +21,4 @@ CanAsk c (Enable b) = Unit {0}
 
 -- the move is one of this cluster, and its session can make one request more
 abbrev pub IsMet : Core → Move → Type 0
-IsMet c m = IsMove c.placement.backends m × CanAsk c m
+IsMet c m = IsMoveOfCluster c.placement.backends m × CanAsk c m

@@ -12,11 +12,11 @@ use Rattle.cj_model.specs.declared.moves.Did.{Did}
 use Rattle.cj_model.specs.declared.moves.Did.TheVariants as did
 use Rattle.cj_model.specs.declared.moves.OpenSession.{OpenSession}
 use Rattle.cj_model.specs.declared.limits.TheConstants.{EVENT_LIMIT}
-use Rattle.cj_model.specs.Histories.{log}
-use Rattle.cj_model.specs.Plain.{request_of}
-use Rattle.cj_model.specs.Legality.{IsWritten}
-use Rattle.cj_model.specs.Moves.{Takes}
-use Rattle.cj_model.specs.Sound.{IsLone}
+use Rattle.cj_model.specs.Cluster.Histories.{log}
+use Rattle.cj_model.specs.Sql.PlainRequests.{request_of}
+use Rattle.cj_model.specs.Cluster.Legality.{IsWritten}
+use Rattle.cj_model.specs.Cluster.Moves.{TakesEntry}
+use Rattle.cj_model.specs.Proving.Invariants.{IsLoneEntry}
 use Rattle.cj_replica.specs.declared.cell.Caught.{Caught}
 use Rattle.cj_replica.specs.declared.cell.Caught.TheVariants as caught
 use Rattle.cj_replica.specs.declared.cell.CellError.{CellError}
@@ -35,7 +35,7 @@ pub record CanTake (tells : Bool) (n : ℕ) (h : List Event) (cells : List CellS
   pub more : p < length (log h)
   pub short : length (log h) ≤ EVENT_LIMIT
   pub written : All (λ (e : Entry). IsWritten (request_of e.act)) (log h)
-  pub lone : All (λ (e : Entry). IsLone e e.act) (log h)
+  pub lone : All (λ (e : Entry). IsLoneEntry e e.act) (log h)
 
 -- what a cell did
 abbrev pub did_of : Result Caught CellError → Did
@@ -45,18 +45,18 @@ did_of (Err errors.Failed) = did.Failed
 did_of (Err errors.Starved) = did.Starved
 
 -- Backend b, of n, took the entry at its position, and its cell alone was changed.
-pub record Took (tells : Bool) (n : ℕ) (h : List Event) (cells : List CellState) (b : ℕ) (d : Did) (now : List CellState) : Type 0 where
+pub record TookEntry (tells : Bool) (n : ℕ) (h : List Event) (cells : List CellState) (b : ℕ) (d : Did) (now : List CellState) : Type 0 where
   pub cell : CellState
   pub set : now ≡ slice_set cells b cell
   pub is : IsCell tells n (log h) b cell
   -- whatever else the core is
-  pub takes : (failed starved : ℕ) (sessions : List OpenSession) (greatest : ℕ) → Takes tells (core_of n h cells failed starved sessions greatest) b d cell.position
+  pub takes : (failed starved : ℕ) (sessions : List OpenSession) (greatest : ℕ) → TakesEntry tells (core_of n h cells failed starved sessions greatest) b d cell.position
   pub faults : cell.faults ≡ (if did_fail d then next (slice_index_or cells b cell).faults else (slice_index_or cells b cell).faults)
   pub armings : cell.arming.times ≡ (slice_index_or cells b cell).arming.times
 
 -- what the open entry came to, after a backend took it
-abbrev pub heard_after : Option Outcome → Did → Option Outcome
-heard_after heard (did.Done o) = Some o
-heard_after heard did.Skipped = heard
-heard_after heard did.Failed = heard
-heard_after heard did.Starved = heard
+abbrev pub first_outcome_after : Option Outcome → Did → Option Outcome
+first_outcome_after first_outcome (did.Done o) = Some o
+first_outcome_after first_outcome did.Skipped = first_outcome
+first_outcome_after first_outcome did.Failed = first_outcome
+first_outcome_after first_outcome did.Starved = first_outcome

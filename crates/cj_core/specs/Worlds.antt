@@ -4,11 +4,11 @@ use Rattle.cj_model.specs.declared.request.Entry.{Entry}
 use Rattle.cj_model.specs.declared.event.Event.{Event}
 use Rattle.cj_model.specs.declared.moves.OpenSession.{OpenSession}
 use Rattle.cj_model.specs.declared.limits.TheConstants.{BACKEND_LIMIT}
-use Rattle.cj_model.specs.Placements.{everywhere}
-use Rattle.cj_model.specs.Histories.{log}
-use Rattle.cj_model.specs.Cores.{Core}
-use Rattle.cj_model.specs.Sound.{IsSound, Holds}
-use Rattle.cj_model.specs.Runs.{AreBetween}
+use Rattle.cj_model.specs.Cluster.Placements.{everywhere}
+use Rattle.cj_model.specs.Cluster.Histories.{log}
+use Rattle.cj_model.specs.Cluster.Cores.{Core}
+use Rattle.cj_model.specs.Proving.Invariants.{CoreInvariant, HoldsPart}
+use Rattle.cj_model.specs.Cluster.Runs.{AreBetween}
 use Rattle.cj_replica.specs.Cells.{CellState}
 
 -- the state that moves change, and the cells of the backends by their numbers
@@ -36,11 +36,11 @@ world_of n h cells failed starved sessions greatest = record { core = core_of n 
 pub record IsCell (tells : Bool) (n : ℕ) (entries : List Entry) (b : ℕ) (x : CellState) : Type 0 where
   pub number : x.b ≡ b
   pub backends : x.backends ≡ n
-  pub holds : Holds tells (everywhere n) b entries x.told x.position
+  pub holds : HoldsPart tells (everywhere n) b entries x.told x.position
 
 -- What holds of every world: its core is sound, cell b is the cell of backend b and stands where the core says, and each session stands between two replies.
 pub record IsWorld (tells : Bool) (w : WorldState) : Type 0 where
-  pub sound : IsSound w.core
+  pub sound : CoreInvariant w.core
   pub full : w.core.placement ≡ everywhere w.core.placement.backends
   pub few : w.core.placement.backends ≤ BACKEND_LIMIT
   pub positions : w.core.positions ≡ map (λ (x : CellState). x.position) w.cells

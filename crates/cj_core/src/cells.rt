@@ -1,10 +1,10 @@
 //! Cells by the numbers of their backends.
 
 ghost use Rattle.std.specs.Prelude.{◌≡◌, ◌↔◌, ◌<◌, IsTrue, true};
-ghost use Rattle.cj_core.specs.Taking.{CanTake, Took};
+ghost use Rattle.cj_core.specs.Taking.{CanTake, TookEntry};
 ghost use Rattle.cj_core.specs.Taking as taking;
 ghost use Rattle.cj_core.specs.Effects.{Covers, Notes};
-ghost use Rattle.cj_model.specs.Moves as moves;
+ghost use Rattle.cj_model.specs.Cluster.Moves as moves;
 
 use cj_backend::Backend;
 use cj_book::{Book, BookError};
@@ -82,18 +82,18 @@ pub fn starved_after(mask: u32, b: u8, did: Did) -> u32
 }
 
 /// What the open entry came to, after a backend took it.
-pub fn heard_after(heard: Option<Outcome>, did: Did) -> Option<Outcome>
-    ensures { result ≡ taking.heard_after heard did }
+pub fn first_outcome_after(first_outcome: Option<Outcome>, did: Did) -> Option<Outcome>
+    ensures { result ≡ taking.first_outcome_after first_outcome did }
 {
     match did {
         Did::Done(outcome) => Some(outcome),
-        Did::Skipped | Did::Failed | Did::Starved => heard,
+        Did::Skipped | Did::Failed | Did::Starved => first_outcome,
     }
 }
 
 /// A position, or 0 for none.
 pub fn place(position: Option<u64>) -> u64
-    ensures { result ≡ moves.place position }
+    ensures { result ≡ moves.position_or_zero position }
 {
     position.unwrap_or(0)
 }
@@ -101,7 +101,7 @@ pub fn place(position: Option<u64>) -> u64
 /// Backend `b` takes the entry at its position.
 pub fn take<B: Backend>(book: &Book, cells: &mut Vec<Cell<B>>, login: &Text, b: u8) -> Did
     requires { CanTake B.TELLS book.now.backends book.now.history cells.old.items b }
-    ensures { Took B.TELLS book.now.backends book.now.history cells.old.items b result cells.new.items }
+    ensures { TookEntry B.TELLS book.now.backends book.now.history cells.old.items b result cells.new.items }
 {
     let next = place(cells[b as usize].position()) + 1;
     let Some(entry) = book.entry(next) else {

@@ -2,13 +2,13 @@
 
 ghost use Rattle.std.specs.Prelude.{◌≡◌, ◌<◌, ◌≤◌, ◌^◌, length, IsErrOf, Some, None, Ok, false};
 ghost use Rattle.cj_model.specs.declared.request.Request.TheVariants as requests;
-ghost use Rattle.cj_model.specs.Plain as plain;
-ghost use Rattle.cj_model.specs.Legality.{IsWritten};
-ghost use Rattle.cj_model.specs.Cores.{session_at};
-ghost use Rattle.cj_model.specs.Moves as moves;
-ghost use Rattle.cj_model.specs.Moves.{Opens, Closes, Schedules, Applies, Ends, Reads, ReadsOrWaits, Arms, Disables, Replays, Enables, MovesTo, not_now, with_read, answered_at, was_answered, still_reading, IsFarEnough};
-ghost use Rattle.cj_model.specs.Answering.{ServesAt};
-ghost use Rattle.cj_model.specs.Runs.{IsLoneWrite};
+ghost use Rattle.cj_model.specs.Sql.PlainRequests as plain;
+ghost use Rattle.cj_model.specs.Cluster.Legality.{IsWritten};
+ghost use Rattle.cj_model.specs.Cluster.Cores.{session_at};
+ghost use Rattle.cj_model.specs.Cluster.Moves as moves;
+ghost use Rattle.cj_model.specs.Cluster.Moves.{OpensSession, ClosesSession, SchedulesRequest, Applies, EndsEntry, AttemptsRead, AttemptsReadOrWaits, Arms, Disables, Replays, Enables, MovesTo, not_now, with_read, answered_at, was_answered, still_reading, IsFarEnough};
+ghost use Rattle.cj_model.specs.Cluster.Answering.{CanServe};
+ghost use Rattle.cj_model.specs.Cluster.Runs.{IsOutsideTransaction};
 ghost use Rattle.cj_replica.specs.Cells.{CellState};
 ghost use Rattle.cj_core.specs.Armings.{ArmsCell, HasArmings, armed_at, armings_of};
 ghost use Rattle.cj_core.specs.Counting.{HasCauses, faults_of};
@@ -27,7 +27,7 @@ use cj_model::{
 /// The act of a change outside transactions.
 fn act_of(request: Request) -> Act
     requires written { IsWritten request }
-    requires lone { IsLoneWrite request }
+    requires lone { IsOutsideTransaction request }
     ensures act { plain.act_of request ≡ Some result }
     ensures written { IsWritten (plain.request_of result) }
     ensures change { IsChange result }
@@ -43,7 +43,7 @@ fn act_of(request: Request) -> Act
 impl<B: Backend> World<B> {
     fn open(&mut self, user: Text) -> Result<Moved, MoveError>
         requires { length user ≤ USER_LIMIT }
-        ensures moves { Opens self.old.core user result self.new.core }
+        ensures moves { OpensSession self.old.core user result self.new.core }
         ensures cells { self.new.cells ≡ self.old.cells }
         ensures want { IsErrOf result MoveError.NoMemory → self.new ≡ self.old }
     {
@@ -58,7 +58,7 @@ impl<B: Backend> World<B> {
 
     fn close(&mut self, s: u64) -> Moved
         requires { not_now self.old.core (Move.Close s) ≡ None }
-        ensures moves { Closes self.old.core s (Ok result) self.new.core }
+        ensures moves { ClosesSession self.old.core s (Ok result) self.new.core }
         ensures cells { self.new.cells ≡ self.old.cells }
     {
         self.remove_session(s);
@@ -67,10 +67,10 @@ impl<B: Backend> World<B> {
 
     fn schedule(&mut self, s: u64, request: Request) -> Result<Moved, MoveError>
         requires written { IsWritten request }
-        requires lone { IsLoneWrite request }
+        requires lone { IsOutsideTransaction request }
         requires counts { (session_at self.old.core s).queries < REQUEST_LIMIT }
         requires now { not_now self.old.core (Move.Schedule s request) ≡ None }
-        ensures moves { Schedules self.old.core s request result self.new.core }
+        ensures moves { SchedulesRequest self.old.core s request result self.new.core }
         ensures cells { self.new.cells ≡ self.old.cells }
         ensures want { IsErrOf result MoveError.NoMemory → self.new ≡ self.old }
     {
@@ -81,7 +81,7 @@ impl<B: Backend> World<B> {
             Ok(number) => Ok(Moved::Entry(number)),
             Err(BookError::NoBackend) => {
                 self.count(s);
-                Ok(Moved::Refused(Refusal::bare(NO_BACKEND)))
+                Ok(Moved::Refused(Refusal::of_code(NO_BACKEND)))
             }
             Err(BookError::HistoryFull(events)) => {
                 self.count(s);
@@ -111,7 +111,7 @@ impl<B: Backend> World<B> {
 
     fn end(&mut self) -> Moved
         requires { not_now self.old.core Move.End ≡ None }
-        ensures moves { Ends B.TELLS self.old.core (Ok result) self.new.core }
+        ensures moves { EndsEntry B.TELLS self.old.core (Ok result) self.new.core }
         ensures cells { self.new.cells ≡ self.old.cells }
     {
         let session = self.waiting();
@@ -126,7 +126,7 @@ impl<B: Backend> World<B> {
         requires now { not_now self.old.core (Move.Read s b select) ≡ None }
         requires written { IsWritten (requests.Select select) }
         requires counts { (session_at self.old.core s).queries < REQUEST_LIMIT }
-        ensures moves { ReadsOrWaits B.TELLS self.old.core s b select result self.new.core }
+        ensures moves { AttemptsReadOrWaits B.TELLS self.old.core s b select result self.new.core }
         ensures causes { HasCauses self.old self.new (Move.Read s b select) result }
         ensures armings { armings_of self.new.cells ≡ armings_of self.old.cells }
         ensures want { IsErrOf result MoveError.NoMemory → self.new ≡ self.old }
@@ -140,7 +140,7 @@ impl<B: Backend> World<B> {
         let serving = self.serving(&select);
         if serving == 0 {
             self.refuse_read(s);
-            return Ok(Moved::Refused(Refusal::bare(NO_BACKEND)));
+            return Ok(Moved::Refused(Refusal::of_code(NO_BACKEND)));
         }
         if !self.serves(b, &select) {
             return Err(MoveError::NotNow(Why {

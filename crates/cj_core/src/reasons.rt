@@ -3,7 +3,7 @@
 ghost use Rattle.std.specs.Prelude.{◌≡◌, ◌<◌, ℕ, Some};
 ghost use Rattle.cj_model.specs.declared.request.Request.{Request};
 ghost use Rattle.cj_model.specs.declared.select.Select.{Select};
-ghost use Rattle.cj_model.specs.Moves as moves;
+ghost use Rattle.cj_model.specs.Cluster.Moves as moves;
 
 use crate::world::World;
 use cj_backend::Backend;

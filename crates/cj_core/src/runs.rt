@@ -2,9 +2,9 @@
 
 ghost use Rattle.std.specs.Prelude.{◌≡◌, All, IfOk, MatchResult, OnErr, map, length};
 ghost use mathlib.Core.List.{IsPrefix};
-ghost use Rattle.cj_model.specs.Legality.{IsLegal};
-ghost use Rattle.cj_model.specs.Moves.{MovesTo};
-ghost use Rattle.cj_model.specs.Runs.{IsMove, CanCount};
+ghost use Rattle.cj_model.specs.Cluster.Legality.{IsLegal};
+ghost use Rattle.cj_model.specs.Cluster.Moves.{MovesTo};
+ghost use Rattle.cj_model.specs.Cluster.Runs.{IsMoveOfCluster, CanCountRequests};
 ghost use Rattle.cj_core.specs.Armings.{HasArmings};
 ghost use Rattle.cj_core.specs.Counting.{HasCauses};
 ghost use Rattle.cj_core.specs.Played.{given_of, HasRun, HasRunInPart};
@@ -46,8 +46,8 @@ impl<B: Backend> World<B> {
     /// Makes the moves in order, and answers what each came to; one that can't be made now changes nothing. After want
     /// of memory the first of them were made, and no more.
     pub fn run(&mut self, moves: &Moves) -> Result<MovedList, NoMemory>
-        requires are { All (IsMove self.old.core.placement.backends) moves.now }
-        requires count { CanCount self.old.core (length moves.now) }
+        requires are { All (IsMoveOfCluster self.old.core.placement.backends) moves.now }
+        requires count { CanCountRequests self.old.core (length moves.now) }
         ensures runs { MatchResult result (λ made. HasRun B.TELLS self.old moves.now (map given_of made) self.new) (λ _. HasRunInPart B.TELLS self.old moves.now self.new) }
         ensures longer { IsPrefix self.old.core.history self.new.core.history }
         ensures legal { IsLegal self.new.core.history }

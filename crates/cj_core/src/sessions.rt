@@ -2,9 +2,9 @@
 
 ghost use Rattle.std.specs.Prelude.{◌≡◌, ◌+◌, ◌<◌, ◌^◌, ◌==◌, not, [], ◌∷◌, ◌++◌, length, filter, option_copied, All, IfSome, MatchOption, OnOk, OnErr};
 ghost use Rattle.cj_core.specs.Places.{IsPlaceOf, CanCountOne};
-ghost use Rattle.cj_model.specs.Cores.{session_of, with_session, fresh_session};
-ghost use Rattle.cj_model.specs.Moves as moves;
-ghost use Rattle.cj_model.specs.Moves.{read_number};
+ghost use Rattle.cj_model.specs.Cluster.Cores.{find_session, with_session, new_session};
+ghost use Rattle.cj_model.specs.Cluster.Moves as moves;
+ghost use Rattle.cj_model.specs.Cluster.Moves.{read_number};
 
 use cj_model::{NoMemory, OpenRead, OpenSession, REQUEST_LIMIT, Select, Text};
 use std::alloc::Global;
@@ -19,19 +19,19 @@ pub struct Sessions {
 impl Model for Sessions {
     ghost use Rattle.std.specs.Prelude.{List};
     ghost use Rattle.cj_model.specs.declared.moves.OpenSession.{OpenSession};
-    ghost use Rattle.cj_model.specs.Tables.{Rises};
-    ghost use Rattle.cj_model.specs.Sound.{by_number};
+    ghost use Rattle.cj_model.specs.Database.Tables.{Rises};
+    ghost use Rattle.cj_model.specs.Proving.Invariants.{by_session_number};
 
     ghost Value = { List OpenSession };
 
     ghost use Rattle.std.specs.Coded.{codes};
-    ghost use Rattle.cj_model.specs.ConditionCode.{coded_condition};
+    ghost use Rattle.cj_model.specs.Proving.ConditionCode.{coded_condition};
 
     ghost coded = { Prim.hlevel (codes, coded_condition) };
 
     ghost view = { λ sessions. sessions.open.items };
 
-    ghost invariant = { λ sessions. Rises by_number sessions.open.items };
+    ghost invariant = { λ sessions. Rises by_session_number sessions.open.items };
 }
 
 /// The number of the session's open read, or of the next request.
@@ -80,7 +80,7 @@ impl Sessions {
     }
 
     fn place_of(&self, number: u64) -> Option<usize>
-        ensures { MatchOption result (session_of self.now number ≡ None) (IsPlaceOf self.now number) }
+        ensures { MatchOption result (find_session self.now number ≡ None) (IsPlaceOf self.now number) }
     {
         match self
             .open
@@ -92,7 +92,7 @@ impl Sessions {
     }
 
     pub fn get(&self, number: u64) -> Option<&OpenSession>
-        ensures { option_copied result ≡ session_of self.now number }
+        ensures { option_copied result ≡ find_session self.now number }
     {
         match self.place_of(number) {
             Some(place) => Some(&self.open[place]),
@@ -103,7 +103,7 @@ impl Sessions {
     /// Adds a session of a number above all others.
     pub fn open(&mut self, number: u64, user: Text) -> Result<(), NoMemory>
         requires { All (λ x. x.number < number) self.old }
-        ensures ok { OnOk result (self.new ≡ self.old ++ fresh_session number user ∷ []) }
+        ensures ok { OnOk result (self.new ≡ self.old ++ new_session number user ∷ []) }
         ensures err { OnErr result (self.new ≡ self.old) }
     {
         self.open.push(OpenSession {
@@ -127,7 +127,7 @@ impl Sessions {
     /// The session has made one request more.
     pub fn count(&mut self, number: u64)
         requires { CanCountOne self.old number }
-        ensures { self.new ≡ with_session self.old number moves.counted }
+        ensures { self.new ≡ with_session self.old number moves.with_one_request }
     {
         if let Some(place) = self.place_of(number) {
             let session = &mut self.open[place];

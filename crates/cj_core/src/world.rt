@@ -4,16 +4,16 @@ ghost use Rattle.std.specs.Prelude.{◌≡◌, ◌↔◌, ℕ, ◌+◌, ◌<◌,
 ghost use Rattle.std.specs.Option.{option_map};
 ghost use Rattle.cj_model.specs.declared.request.Entry.{Entry};
 ghost use Rattle.cj_model.specs.declared.request.Request.TheVariants as request;
-ghost use Rattle.cj_model.specs.Plain.{request_of};
-ghost use Rattle.cj_model.specs.Histories as histories;
-ghost use Rattle.cj_model.specs.Histories.{has, log, done, free};
-ghost use Rattle.cj_model.specs.Legality.{IsFit, IsWritten};
-ghost use Rattle.cj_model.specs.Answering.{ServesAt};
-ghost use Rattle.cj_model.specs.Cores as cores;
-ghost use Rattle.cj_model.specs.Cores.{session_at, position_at};
-ghost use Rattle.cj_model.specs.Moves as moves;
-ghost use Rattle.cj_model.specs.Moves.{Applies, Replays, IsServing, ReadsOther, ReadsSame, forbidden_by, next_entry, not_now, ended, with_read, with_counted, happened, opened_for, closed_for, scheduled_as, ended_for, counted, answered_at, was_answered, still_reading};
-ghost use Rattle.cj_model.specs.Sound.{IsLone};
+ghost use Rattle.cj_model.specs.Sql.PlainRequests.{request_of};
+ghost use Rattle.cj_model.specs.Cluster.Histories as histories;
+ghost use Rattle.cj_model.specs.Cluster.Histories.{in_mask, log, ended_count, is_idle};
+ghost use Rattle.cj_model.specs.Cluster.Legality.{IsFitEntry, IsWritten};
+ghost use Rattle.cj_model.specs.Cluster.Answering.{CanServe};
+ghost use Rattle.cj_model.specs.Cluster.Cores as cores;
+ghost use Rattle.cj_model.specs.Cluster.Cores.{session_at, position_at};
+ghost use Rattle.cj_model.specs.Cluster.Moves as moves;
+ghost use Rattle.cj_model.specs.Cluster.Moves.{Applies, Replays, IsServingMask, HasOtherRead, HasNoOtherRead, forbidden_by, next_entry, not_now, with_end, with_read, with_request_counted, happened, opened_for, closed_for, scheduled_as, ended_for, with_one_request, answered_at, was_answered, still_reading};
+ghost use Rattle.cj_model.specs.Proving.Invariants.{IsLoneEntry};
 ghost use Rattle.cj_replica.specs.Cells.{CellState};
 ghost use Rattle.cj_core.specs.Worlds.{IsWorld};
 ghost use Rattle.cj_core.specs.Starts.{AreEmpty, AreFresh, begun};
@@ -21,7 +21,9 @@ ghost use Rattle.cj_core.specs.Armings.{armed_at, armings_after, armings_of};
 ghost use Rattle.cj_core.specs.Counting.{did_fail, faults_after, faults_of};
 ghost use Rattle.cj_core.specs.Effects.{AnswersOpen, Asks, IsChange, asked_core, failed_asked, HaveFailed, IsReadOf, IsReadOther, Refuses, with_core, SchedulesAs, HadRoom};
 
-use crate::cells::{AskError, failed_after, heard_after, noted, place, starved_after, take};
+use crate::cells::{
+    AskError, failed_after, first_outcome_after, noted, place, starved_after, take,
+};
 use crate::emptied::Emptied;
 use crate::sessions::{Sessions, read_number};
 use cj_backend::Backend;
@@ -47,7 +49,7 @@ pub struct World<B: Backend> {
     /// And of those that wanted memory.
     starved: u32,
     /// What the open entry came to, from the first backend that did it.
-    heard: Option<Outcome>,
+    first_outcome: Option<Outcome>,
     sessions: Sessions,
     /// The greatest number that a session was given.
     greatest: u64,
@@ -63,7 +65,7 @@ impl<B: Backend> Model for World<B> {
     ghost Value = { WorldState };
 
     ghost use Rattle.std.specs.Coded.{codes};
-    ghost use Rattle.cj_model.specs.ConditionCode.{coded_condition};
+    ghost use Rattle.cj_model.specs.Proving.ConditionCode.{coded_condition};
 
     ghost coded = { Prim.hlevel (codes, coded_condition) };
 
@@ -71,7 +73,7 @@ impl<B: Backend> Model for World<B> {
 
     ghost view = { λ w. world_of w.book.backends w.book.history w.cells.items w.failed w.starved w.sessions w.greatest };
 
-    ghost invariant = { λ w. Kept B.TELLS (world_of w.book.backends w.book.history w.cells.items w.failed w.starved w.sessions w.greatest) w.heard };
+    ghost invariant = { λ w. Kept B.TELLS (world_of w.book.backends w.book.history w.cells.items w.failed w.starved w.sessions w.greatest) w.first_outcome };
 }
 
 /// The refusal of an entry that no backend finished.
@@ -145,7 +147,7 @@ impl<B: Backend> World<B> {
             cells,
             failed: 0,
             starved: 0,
-            heard: None,
+            first_outcome: None,
             sessions: Sessions::new(alloc),
             greatest: 0,
             login: no_login(alloc),
@@ -187,7 +189,7 @@ impl<B: Backend> World<B> {
 
     /// The number of the open entry.
     pub fn open_entry(&self) -> Option<u64>
-        ensures none { IsNone result ↔ (free self.now.core.history ≡ true) }
+        ensures none { IsNone result ↔ (is_idle self.now.core.history ≡ true) }
         ensures number { IfSome result (λ n. n ≡ moves.last_number self.now.core) }
     {
         self.book.open_entry()
@@ -195,7 +197,7 @@ impl<B: Backend> World<B> {
 
     /// The mask of the enabled backends.
     pub fn enabled(&self) -> u32
-        ensures { (b : ℕ) → has result b ≡ histories.enabled self.now.core.history b }
+        ensures { (b : ℕ) → in_mask result b ≡ histories.is_enabled self.now.core.history b }
     {
         self.book.enabled()
     }
@@ -216,13 +218,13 @@ impl<B: Backend> World<B> {
     }
 
     pub(crate) fn is_free(&self) -> bool
-        ensures { result ≡ free self.now.core.history }
+        ensures { result ≡ is_idle self.now.core.history }
     {
         self.book.is_free()
     }
 
     pub(crate) fn is_enabled(&self, b: u8) -> bool
-        ensures { result ≡ histories.enabled self.now.core.history b }
+        ensures { result ≡ histories.is_enabled self.now.core.history b }
     {
         self.book.is_enabled(b)
     }
@@ -264,7 +266,7 @@ impl<B: Backend> World<B> {
 
     /// The number of the entry that the backend takes next; 1 where it is out.
     pub(crate) fn next_of(&self, b: u8) -> u64
-        ensures { result ≡ moves.place (position_at self.now.core b) + 1 }
+        ensures { result ≡ moves.position_or_zero (position_at self.now.core b) + 1 }
     {
         let _ = &self.book;
         place(self.position(b)) + 1
@@ -277,8 +279,8 @@ impl<B: Backend> World<B> {
         requires written { IsWritten (request_of act) }
         requires change { IsChange act }
         ensures next { IfOk result (λ e. e ≡ next_entry self.now.core s act) }
-        ensures fits { IfOk result (λ e. IsFit (log self.now.core.history) e) }
-        ensures lone { IfOk result (λ e. IsLone e e.act) }
+        ensures fits { IfOk result (λ e. IsFitEntry (log self.now.core.history) e) }
+        ensures lone { IfOk result (λ e. IsLoneEntry e e.act) }
         ensures allowed { forbidden_by (moves.open_tx self.now.core s) act ≡ None }
     {
         match self.sessions.get(s) {
@@ -295,7 +297,7 @@ impl<B: Backend> World<B> {
 
     /// Whether another read of the session is open.
     pub(crate) fn reads_other(&self, s: u64, select: &Select) -> bool
-        ensures { MatchBool result (ReadsOther (session_at self.now.core s) select.now) (ReadsSame (session_at self.now.core s) select.now) }
+        ensures { MatchBool result (HasOtherRead (session_at self.now.core s) select.now) (HasNoOtherRead (session_at self.now.core s) select.now) }
     {
         match self.sessions.get(s) {
             Some(session) => is_other(&session.reading, select),
@@ -335,21 +337,21 @@ impl<B: Backend> World<B> {
 
     /// The mask of the backends that serve the query: each enabled one.
     pub(crate) fn serving(&self, _select: &Select) -> u32
-        ensures { IsServing self.now.core _select.now result }
+        ensures { IsServingMask self.now.core _select.now result }
     {
         self.book.enabled()
     }
 
     /// Whether the backend serves the query.
     pub(crate) fn serves(&self, b: u8, _select: &Select) -> bool
-        ensures { IsTrue result ↔ ServesAt self.now.core.placement self.now.core.history (request.Select _select.now) b }
+        ensures { IsTrue result ↔ CanServe self.now.core.placement self.now.core.history (request.Select _select.now) b }
     {
         self.book.is_enabled(b)
     }
 
     /// The position of the first enabled backend that is neither at the log's end nor out.
     pub(crate) fn behind(&self) -> Option<u64>
-        ensures { result ≡ moves.behind self.now.core.history 0 self.now.core.positions }
+        ensures { result ≡ moves.first_lagging self.now.core.history 0 self.now.core.positions }
     {
         let end = self.book.length();
         for (b, cell) in self.cells.iter().enumerate() {
@@ -391,14 +393,14 @@ impl<B: Backend> World<B> {
 
     /// What the open entry is answered, where no backend is behind.
     pub(crate) fn reply(&self) -> Reply
-        requires open { free self.now.core.history ≡ false }
-        requires behind { moves.behind self.now.core.history 0 self.now.core.positions ≡ None }
+        requires open { is_idle self.now.core.history ≡ false }
+        requires behind { moves.first_lagging self.now.core.history 0 self.now.core.positions ≡ None }
         ensures { AnswersOpen B.TELLS self.now.core result }
     {
         if self.book.left(self.failed, self.starved) == 0 {
             return Reply::Refused(unfinished(self.failed, self.starved));
         }
-        match self.heard {
+        match self.first_outcome {
             Some(Outcome::Done(count)) => Reply::Done(count),
             Some(Outcome::Refused(refusal)) => Reply::Refused(refusal),
             None => unreachable!(),
@@ -436,7 +438,7 @@ impl<B: Backend> World<B> {
         requires counts { (session_at self.old.core s).queries < REQUEST_LIMIT }
         requires idle { moves.is_waiting self.old.core s ≡ false }
         requires no_read { (session_at self.old.core s).reading ≡ None }
-        ensures { self.new ≡ with_core self.old (with_counted self.old.core s) }
+        ensures { self.new ≡ with_core self.old (with_request_counted self.old.core s) }
     {
         self.sessions.count(s);
     }
@@ -476,8 +478,8 @@ impl<B: Backend> World<B> {
         requires counts { (session_at self.old.core s).queries < REQUEST_LIMIT }
         requires no_read { (session_at self.old.core s).reading ≡ None }
         requires next { entry ≡ next_entry self.old.core s entry.act }
-        requires fits { IsFit (log self.old.core.history) entry }
-        requires lone { IsLone entry entry.act }
+        requires fits { IsFitEntry (log self.old.core.history) entry }
+        requires lone { IsLoneEntry entry entry.act }
         ensures scheduled { SchedulesAs self.old.core entry result }
         ensures ok { OnOk result (self.new ≡ with_core self.old (scheduled_as self.old.core s entry)) }
         ensures err { OnErr result (self.new ≡ self.old) }
@@ -487,7 +489,7 @@ impl<B: Backend> World<B> {
                 self.sessions.count(s);
                 self.failed = 0;
                 self.starved = 0;
-                self.heard = None;
+                self.first_outcome = None;
                 Ok(number)
             }
             Err(error) => Err(error),
@@ -496,8 +498,8 @@ impl<B: Backend> World<B> {
 
     /// The session of the open entry.
     pub(crate) fn waiting(&self) -> u64
-        requires { free self.now.core.history ≡ false }
-        ensures { (e : Entry) × (histories.opened self.now.core.history ≡ Some e) × (result ≡ e.session) }
+        requires { is_idle self.now.core.history ≡ false }
+        ensures { (e : Entry) × (histories.entry_in_progress self.now.core.history ≡ Some e) × (result ≡ e.session) }
     {
         match self.book.opened() {
             Some(entry) => entry.session,
@@ -507,9 +509,9 @@ impl<B: Backend> World<B> {
 
     /// Ends the open entry, which is of this session.
     pub(crate) fn end_entry(&mut self, s: u64)
-        requires open { free self.old.core.history ≡ false }
+        requires open { is_idle self.old.core.history ≡ false }
         requires waits { moves.is_waiting self.old.core s ≡ true }
-        requires behind { moves.behind self.old.core.history 0 self.old.core.positions ≡ None }
+        requires behind { moves.first_lagging self.old.core.history 0 self.old.core.positions ≡ None }
         ensures { self.new ≡ with_core self.old (ended_for self.old.core s) }
     {
         let number = self.book.length();
@@ -517,7 +519,7 @@ impl<B: Backend> World<B> {
         self.book.end(self.failed, self.starved);
         self.failed = 0;
         self.starved = 0;
-        self.heard = None;
+        self.first_outcome = None;
     }
 
     /// The backend takes the open entry.
@@ -531,7 +533,7 @@ impl<B: Backend> World<B> {
         let did = take(&self.book, &mut self.cells, &self.login, b);
         self.failed = failed_after(self.failed, b, did);
         self.starved = starved_after(self.starved, b, did);
-        self.heard = heard_after(self.heard, did);
+        self.first_outcome = first_outcome_after(self.first_outcome, did);
         did
     }
 
@@ -539,7 +541,7 @@ impl<B: Backend> World<B> {
     pub(crate) fn take_next(&mut self, b: u8) -> Did
         requires within { b < self.old.core.placement.backends }
         requires now { not_now self.old.core (Move.Replay b) ≡ None }
-        ensures replays { Replays B.TELLS self.old.core b (Ok (Moved.Replayed (moves.place (position_at self.old.core b) + 1) result)) self.new.core }
+        ensures replays { Replays B.TELLS self.old.core b (Ok (Moved.Replayed (moves.position_or_zero (position_at self.old.core b) + 1) result)) self.new.core }
         ensures counts { faults_of self.new.cells ≡ faults_after (faults_of self.old.cells) (if did_fail result then Some b else None) }
         ensures armings { armings_of self.new.cells ≡ armings_of self.old.cells }
     {
@@ -579,8 +581,8 @@ impl<B: Backend> World<B> {
     }
 
     pub(crate) fn switch_off(&mut self, b: u8) -> Result<(), BookError>
-        requires free { free self.old.core.history ≡ true }
-        requires on { histories.enabled self.old.core.history b ≡ true }
+        requires free { is_idle self.old.core.history ≡ true }
+        requires on { histories.is_enabled self.old.core.history b ≡ true }
         ensures room { HadRoom self.old.core result }
         ensures ok { OnOk result (self.new ≡ with_core self.old (happened self.old.core (Event.Disabled b))) }
         ensures err { OnErr result (self.new ≡ self.old) }
@@ -589,8 +591,8 @@ impl<B: Backend> World<B> {
     }
 
     pub(crate) fn switch_on(&mut self, b: u8) -> Result<(), BookError>
-        requires free { free self.old.core.history ≡ true }
-        requires off { histories.enabled self.old.core.history b ≡ false }
+        requires free { is_idle self.old.core.history ≡ true }
+        requires off { histories.is_enabled self.old.core.history b ≡ false }
         requires there { position_at self.old.core b ≡ Some (moves.last_number self.old.core) }
         ensures room { HadRoom self.old.core result }
         ensures ok { OnOk result (self.new ≡ with_core self.old (happened self.old.core (Event.Enabled b))) }

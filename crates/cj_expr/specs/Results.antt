@@ -6,11 +6,11 @@ use Rattle.cj_model.specs.declared.value.Value.{Value}
 use Rattle.cj_model.specs.declared.term.Expr.{Expr}
 use Rattle.cj_model.specs.declared.answer.Refusal.{Refusal}
 use Rattle.cj_model.specs.declared.codes.TheConstants.{NO_COLUMN, WRONG_TYPE}
-use Rattle.cj_model.specs.Conditions.{Condition}
-use Rattle.cj_model.specs.Predicates as by_place
-use Rattle.cj_model.specs.Changes.{bare, unless}
-use Rattle.cj_model.specs.Scopes.{Scope, names_stranger, expr_names_stranger, mixes_kinds, adds_text, predicate_of, formula_of}
-use Rattle.cj_model.specs.Evaluation.{is_outside}
+use Rattle.cj_model.specs.Database.Conditions.{Condition}
+use Rattle.cj_model.specs.Database.Predicates as by_place
+use Rattle.cj_model.specs.Database.Inserts.{refusal_of_code, refuse_if}
+use Rattle.cj_model.specs.Database.Scopes.{Scope, has_unknown_column, expr_has_unknown_column, mixes_kinds, adds_text, predicate_of, formula_of}
+use Rattle.cj_model.specs.Database.Evaluation.{is_out_of_range}
 use Rattle.cj_expr.specs.declared.binding.BindError.{BindError}
 use Rattle.cj_expr.specs.declared.binding.BindError.TheVariants as bind_error
 use Rattle.cj_expr.specs.declared.formula.Formula.{Formula}
@@ -19,17 +19,17 @@ use Rattle.cj_expr.specs.declared.formula.ValueError.TheVariants as value_error
 use Rattle.cj_expr.specs.Shapes.{formula}
 
 -- the condition by places, or the first refusal
-abbrev pub bound : Scope → Condition → Result by_place.Predicate Refusal
-bound scope c =
-    unless (names_stranger scope c) (bare NO_COLUMN)
-    (unless (mixes_kinds scope c) (bare WRONG_TYPE)
+abbrev pub bound_condition : Scope → Condition → Result by_place.Predicate Refusal
+bound_condition scope c =
+    refuse_if (has_unknown_column scope c) (refusal_of_code NO_COLUMN)
+    (refuse_if (mixes_kinds scope c) (refusal_of_code WRONG_TYPE)
     (Ok (predicate_of scope c)))
 
 -- the expression by places, or the first refusal
 abbrev pub bound_expr : Scope → Expr → Result by_place.Formula Refusal
 bound_expr scope e =
-    unless (expr_names_stranger scope e) (bare NO_COLUMN)
-    (unless (adds_text scope e) (bare WRONG_TYPE)
+    refuse_if (expr_has_unknown_column scope e) (refusal_of_code NO_COLUMN)
+    (refuse_if (adds_text scope e) (refusal_of_code WRONG_TYPE)
     (Ok (formula_of scope e)))
 
 -- what is expected is given, seen so; only where nothing is refused may there be no memory for it
@@ -38,14 +38,14 @@ GivesBy sight expected (Ok x) = expected ≡ Ok (sight x)
 GivesBy sight expected (Err (bind_error.Refused r)) = expected ≡ Err r
 GivesBy sight expected (Err bind_error.NoMemory) = IsOk expected
 
-abbrev pub Gives : Result by_place.Predicate Refusal → Result by_place.Predicate BindError → Type 0
-Gives = GivesBy (λ p. p)
+abbrev pub GivesPredicate : Result by_place.Predicate Refusal → Result by_place.Predicate BindError → Type 0
+GivesPredicate = GivesBy (λ p. p)
 
 abbrev pub GivesFormula : Result by_place.Formula Refusal → Result Formula BindError → Type 0
 GivesFormula = GivesBy formula
 
 -- the value, where it lies within 64 bits; there may be no memory for it
 abbrev pub IsValueOf : Value → Result Value ValueError → Type 0
-IsValueOf v (Ok w) = (is_outside v ≡ false) × (w ≡ v)
-IsValueOf v (Err value_error.Overflow) = is_outside v ≡ true
+IsValueOf v (Ok w) = (is_out_of_range v ≡ false) × (w ≡ v)
+IsValueOf v (Err value_error.Overflow) = is_out_of_range v ≡ true
 IsValueOf v (Err value_error.NoMemory) = ⊤

@@ -3,7 +3,7 @@ use Rattle.std.specs.Prelude.{unwrap_or, pos}
 use Rattle.std.specs.declared.option.Option.{Option}
 use Rattle.cj_model.specs.declared.value.Value.{Value}
 use Rattle.cj_model.specs.declared.value.Value.TheVariants.{Int}
-use Rattle.cj_model.specs.Predicates as by_place
+use Rattle.cj_model.specs.Database.Predicates as by_place
 use Rattle.cj_expr.specs.declared.operand.Operand.{Operand}
 use Rattle.cj_expr.specs.declared.operand.Operand.TheVariants.{Constant, Cell}
 use Rattle.cj_expr.specs.declared.formula.Formula.{Formula}
@@ -24,8 +24,8 @@ formula (Just o) = by_place.Just (operand o)
 formula (Sum l r) = by_place.Sum (operand l) (operand r)
 formula (Difference l r) = by_place.Difference (operand l) (operand r)
 
-abbrev pub shape : PredicateNode → by_place.Predicate
-shape (node.Compare cmp l r) = by_place.Compare cmp (operand l) (operand r)
-shape (node.Not' p inner) = by_place.Not (shape inner)
-shape (node.And' p left q right) = by_place.And (shape left) (shape right)
-shape (node.Or' p left q right) = by_place.Or (shape left) (shape right)
+abbrev pub predicate_of_node : PredicateNode → by_place.Predicate
+predicate_of_node (node.Compare cmp l r) = by_place.Compare cmp (operand l) (operand r)
+predicate_of_node (node.Not' p inner) = by_place.Not (predicate_of_node inner)
+predicate_of_node (node.And' p left q right) = by_place.And (predicate_of_node left) (predicate_of_node right)
+predicate_of_node (node.Or' p left q right) = by_place.Or (predicate_of_node left) (predicate_of_node right)

@@ -1,10 +1,10 @@
 //! Names bound to places.
 
 ghost use Rattle.std.specs.Prelude.{◌≡◌, IfOk};
-ghost use Rattle.cj_model.specs.ConditionShape as conditions;
-ghost use Rattle.cj_model.specs.Scopes as scopes;
+ghost use Rattle.cj_model.specs.Proving.ConditionNodes as conditions;
+ghost use Rattle.cj_model.specs.Database.Scopes as scopes;
 ghost use Rattle.cj_expr.specs.Shapes as shapes;
-ghost use Rattle.cj_expr.specs.Results.{Gives, GivesFormula, bound, bound_expr};
+ghost use Rattle.cj_expr.specs.Results.{GivesPredicate, GivesFormula, bound_condition, bound_expr};
 
 use crate::formula::Formula;
 use crate::operand::Operand;
@@ -40,7 +40,7 @@ impl From<NoMemory> for BindError {
 fn refused(code: u16) -> BindError
     ensures { result ≡ BindError.Refused (record { code = code; a = 0; b = 0 }) }
 {
-    BindError::Refused(Refusal::bare(code))
+    BindError::Refused(Refusal::of_code(code))
 }
 
 fn operand_of(alloc: Global, term: &Term, scope: &Scope) -> Result<Operand, NoMemory>
@@ -72,7 +72,7 @@ pub fn formula_of(alloc: Global, expr: &Expr, scope: &Scope) -> Result<Formula, 
 }
 
 fn node_of(alloc: Global, cond: &CondNode, scope: &Scope) -> Result<PredicateNode, NoMemory>
-    ensures { IfOk result (λ node. shapes.shape node ≡ scopes.predicate_of scope.now (conditions.shape cond.now)) }
+    ensures { IfOk result (λ node. shapes.predicate_of_node node ≡ scopes.predicate_of scope.now (conditions.condition_of_node cond.now)) }
 {
     match cond {
         CondNode::Test(cmp, left, right) => Ok(PredicateNode::Compare(
@@ -107,9 +107,9 @@ pub fn predicate_of(alloc: Global, cond: &Cond, scope: &Scope) -> Result<Predica
 /// The condition with its columns by place. Refused with 23 where a column is not there, else with
 /// 28 where the sides of a comparison differ in kind.
 pub fn bind(alloc: Global, cond: &Cond, scope: &Scope) -> Result<Predicate, BindError>
-    ensures { Gives (bound scope.now cond.now) result }
+    ensures { GivesPredicate (bound_condition scope.now cond.now) result }
 {
-    if scope.names_stranger(cond) {
+    if scope.has_unknown_column(cond) {
         return Err(refused(NO_COLUMN));
     }
     if scope.mixes_kinds(cond) {
@@ -123,7 +123,7 @@ pub fn bind(alloc: Global, cond: &Cond, scope: &Scope) -> Result<Predicate, Bind
 pub fn bind_expr(alloc: Global, expr: &Expr, scope: &Scope) -> Result<Formula, BindError>
     ensures { GivesFormula (bound_expr scope.now expr.now) result }
 {
-    if scope.expr_names_stranger(expr) {
+    if scope.expr_has_unknown_column(expr) {
         return Err(refused(NO_COLUMN));
     }
     if scope.adds_text(expr) {

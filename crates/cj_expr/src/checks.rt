@@ -1,9 +1,9 @@
 //! Whether the columns that a statement names are there, and whether its kinds agree.
 
 ghost use Rattle.std.specs.Prelude.{◌≡◌};
-ghost use Rattle.cj_model.specs.ConditionShape.{shape};
-ghost use Rattle.cj_model.specs.Scopes as scopes;
-ghost use Rattle.cj_model.specs.Tables as tables;
+ghost use Rattle.cj_model.specs.Proving.ConditionNodes.{condition_of_node};
+ghost use Rattle.cj_model.specs.Database.Scopes as scopes;
+ghost use Rattle.cj_model.specs.Database.Tables as tables;
 
 use crate::scope::Scope;
 use cj_model::{ColRef, Cond, CondNode, Expr, Kind, Term};
@@ -22,55 +22,55 @@ pub fn same_kind(one: Kind, two: Kind) -> bool
 
 impl Scope {
     /// Whether the reference means no column.
-    pub fn is_stranger(&self, reference: &ColRef) -> bool
-        ensures { result ≡ scopes.is_stranger self.now reference.now }
+    pub fn is_unknown_column(&self, reference: &ColRef) -> bool
+        ensures { result ≡ scopes.is_unknown_column self.now reference.now }
     {
         self.place(reference).is_none()
     }
 
-    fn term_names_stranger(&self, term: &Term) -> bool
-        ensures { result ≡ scopes.term_names_stranger self.now term.now }
+    fn term_has_unknown_column(&self, term: &Term) -> bool
+        ensures { result ≡ scopes.term_has_unknown_column self.now term.now }
     {
         match term {
             Term::Lit(_) => false,
-            Term::Col(reference) => self.is_stranger(reference),
+            Term::Col(reference) => self.is_unknown_column(reference),
             Term::Now => false,
             Term::Rand(_) => false,
         }
     }
 
     /// Whether an expression names a column that is not there.
-    pub fn expr_names_stranger(&self, expr: &Expr) -> bool
-        ensures { result ≡ scopes.expr_names_stranger self.now expr.now }
+    pub fn expr_has_unknown_column(&self, expr: &Expr) -> bool
+        ensures { result ≡ scopes.expr_has_unknown_column self.now expr.now }
     {
         match expr {
-            Expr::One(term) => self.term_names_stranger(term),
-            Expr::Plus(left, right) => self.term_names_stranger(left)
-                || self.term_names_stranger(right),
-            Expr::Minus(left, right) => self.term_names_stranger(left)
-                || self.term_names_stranger(right),
+            Expr::One(term) => self.term_has_unknown_column(term),
+            Expr::Plus(left, right) => self.term_has_unknown_column(left)
+                || self.term_has_unknown_column(right),
+            Expr::Minus(left, right) => self.term_has_unknown_column(left)
+                || self.term_has_unknown_column(right),
         }
     }
 
-    fn node_names_stranger(&self, node: &CondNode) -> bool
-        ensures { result ≡ scopes.names_stranger self.now (shape node.now) }
+    fn node_has_unknown_column(&self, node: &CondNode) -> bool
+        ensures { result ≡ scopes.has_unknown_column self.now (condition_of_node node.now) }
     {
         match node {
-            CondNode::Test(_, left, right) => self.term_names_stranger(left)
-                || self.term_names_stranger(right),
-            CondNode::Not(inner) => self.node_names_stranger(inner),
-            CondNode::And(left, right) => self.node_names_stranger(left)
-                || self.node_names_stranger(right),
-            CondNode::Or(left, right) => self.node_names_stranger(left)
-                || self.node_names_stranger(right),
+            CondNode::Test(_, left, right) => self.term_has_unknown_column(left)
+                || self.term_has_unknown_column(right),
+            CondNode::Not(inner) => self.node_has_unknown_column(inner),
+            CondNode::And(left, right) => self.node_has_unknown_column(left)
+                || self.node_has_unknown_column(right),
+            CondNode::Or(left, right) => self.node_has_unknown_column(left)
+                || self.node_has_unknown_column(right),
         }
     }
 
     /// Whether a condition names a column that is not there.
-    pub fn names_stranger(&self, cond: &Cond) -> bool
-        ensures { result ≡ scopes.names_stranger self.now cond.now }
+    pub fn has_unknown_column(&self, cond: &Cond) -> bool
+        ensures { result ≡ scopes.has_unknown_column self.now cond.now }
     {
-        self.node_names_stranger(cond.root())
+        self.node_has_unknown_column(cond.root())
     }
 
     fn kind_of_term(&self, term: &Term) -> Kind
@@ -96,7 +96,7 @@ impl Scope {
     }
 
     fn is_text(&self, term: &Term) -> bool
-        ensures { result ≡ scopes.is_text self.now term.now }
+        ensures { result ≡ scopes.is_text_term self.now term.now }
     {
         same_kind(self.kind_of_term(term), Kind::Text)
     }
@@ -113,7 +113,7 @@ impl Scope {
     }
 
     fn node_mixes_kinds(&self, node: &CondNode) -> bool
-        ensures { result ≡ scopes.mixes_kinds self.now (shape node.now) }
+        ensures { result ≡ scopes.mixes_kinds self.now (condition_of_node node.now) }
     {
         match node {
             CondNode::Test(_, left, right) => !same_kind(

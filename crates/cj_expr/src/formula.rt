@@ -1,7 +1,7 @@
 //! Expressions with columns by their places.
 
 ghost use Rattle.std.specs.Prelude.{◌≡◌, pos, IfOk};
-ghost use Rattle.cj_model.specs.Evaluation.{worth};
+ghost use Rattle.cj_model.specs.Database.Evaluation.{value_of};
 ghost use Rattle.cj_expr.specs.Shapes.{formula};
 ghost use Rattle.cj_expr.specs.Results.{IsValueOf};
 
@@ -52,7 +52,7 @@ pub fn narrowed(number: i128) -> Result<Value, ValueError>
 impl Formula {
     /// The value in a row; Overflow exactly where it is an INTEGER outside 64 bits.
     pub fn value_in(&self, alloc: Global, row: &[Value]) -> Result<Value, ValueError>
-        ensures { IsValueOf (worth row.now (formula self.now)) result }
+        ensures { IsValueOf (value_of row.now (formula self.now)) result }
     {
         match self {
             Formula::Just(operand) => Ok(operand.value_in(alloc, row)?),

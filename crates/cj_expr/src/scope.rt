@@ -2,8 +2,8 @@
 
 ghost use Rattle.std.specs.Prelude.{◌≡◌, ◌++◌, List, map, IfOk, OnOk};
 ghost use Rattle.std.specs.Map.Iter.{deref};
-ghost use Rattle.cj_model.specs.Scopes.{kind_at, place_of, scope_of};
-ghost use Rattle.cj_model.specs.Scopes as scopes;
+ghost use Rattle.cj_model.specs.Database.Scopes.{column_kind_at, place_of, scope_of};
+ghost use Rattle.cj_model.specs.Database.Scopes as scopes;
 
 use cj_model::{ColRef, Column, Duplicate, Kind, Name, NoMemory, Schema};
 use std::alloc::Global;
@@ -17,7 +17,7 @@ pub struct Scope {
 }
 
 impl Model for Scope {
-    ghost use Rattle.cj_model.specs.Scopes as scopes;
+    ghost use Rattle.cj_model.specs.Database.Scopes as scopes;
 
     ghost Value = { scopes.Scope };
 
@@ -86,7 +86,7 @@ impl Scope {
 
     /// The kind of the column at a place.
     pub fn kind(&self, place: usize) -> Kind
-        ensures { result ≡ kind_at self.now place }
+        ensures { result ≡ column_kind_at self.now place }
     {
         match self.columns.get(place) {
             Some((_, column)) => column.kind,

@@ -11,8 +11,8 @@ use Rattle.cj_model.specs.declared.request.Act.TheVariants as act
 use Rattle.cj_model.specs.declared.select.Select.{Select}
 use Rattle.cj_model.specs.declared.answer.Asked.{Asked}
 use Rattle.cj_model.specs.declared.answer.Outcome.{Outcome}
-use Rattle.cj_model.specs.Outcomes.{IsOutcome, IsAsked}
-use Rattle.cj_model.specs.Storable.{IsStorable}
+use Rattle.cj_model.specs.Database.Outcomes.{IsOutcome, IsAsked}
+use Rattle.cj_model.specs.Database.Storable.{IsStorable}
 use Rattle.cj_backend.specs.declared.backend.BackendError.{BackendError}
 use Rattle.cj_backend.specs.declared.backend.BackendError.TheVariants.{Failed}
 use Rattle.cj_backend.specs.declared.backend.Backend.{Ghosts}
@@ -146,9 +146,9 @@ module _ {B : Type 0} (g : Ghosts B) (old : B) where
 -- ---- what it tells
 
 -- what the inner backend tells, where each change was passed on to it
-abbrev pub told_where : Bool → Option (List Slot) → Option (List Slot)
-told_where true told = told
-told_where false told = None
+abbrev pub told_where_passed : Bool → Option (List Slot) → Option (List Slot)
+told_where_passed true told = told
+told_where_passed false told = None
 
 module _ {B : Type 0} where
   abbrev pub arming_of : FlakyState B → Arming
@@ -156,7 +156,7 @@ module _ {B : Type 0} where
 
   -- the same of a flaky backend, by what inner backends tell
   abbrev pub told_by : (B → Option (List Slot)) → FlakyState B → Option (List Slot)
-  told_by told s = told_where s.passed (told s.inner)
+  told_by told s = told_where_passed s.passed (told s.inner)
 
   -- what was counted here and in the inner backend, up to the largest `u64`
   abbrev pub faults_by : (B → ℕ) → FlakyState B → ℕ

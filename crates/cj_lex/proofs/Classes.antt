@@ -2,14 +2,14 @@
 use Rattle.std.proofs.Common.{◌≡◌, refl, ℕ, true, false, arith}
 use Rattle.std.specs.Char.{is_ascii_digit}
 use Rattle.std.proofs.lemmas.Bool.Decides.{nat_tests}
-use Rattle.cj_model.specs.Lexical.{is_blank, is_letter, is_word}
+use Rattle.cj_model.specs.Sql.Lexical.{is_white_space, is_letter, is_word}
 
 -- a letter is no white space
-pub letter_not_blank : (b : ℕ) → is_letter b ≡ true → is_blank b ≡ false
+pub letter_not_blank : (b : ℕ) → is_letter b ≡ true → is_white_space b ≡ false
 letter_not_blank b h = grind (arith, nat_tests, h)
 
 -- a digit is no white space
-pub digit_not_blank : (b : ℕ) → is_ascii_digit b ≡ true → is_blank b ≡ false
+pub digit_not_blank : (b : ℕ) → is_ascii_digit b ≡ true → is_white_space b ≡ false
 digit_not_blank b h = grind (arith, nat_tests, h)
 
 -- a digit is no letter

@@ -6,9 +6,9 @@ use Rattle.std.proofs.lemmas.List.{take-append-drop}
 use Rattle.std.proofs.Math.Seq.{drop-append_seam}
 use Rattle.cj_model.specs.declared.token.Symbol.{Symbol}
 use Rattle.cj_model.specs.declared.token.Token.{Token}
-use Rattle.cj_model.specs.Lexical.{is_blank, is_letter, Each}
-use Rattle.cj_lex.specs.Cut as reader
-use Rattle.cj_lex.specs.Cut.{finished, bad, cut, Closed, unclosed, closed, count, begins_with, closing}
+use Rattle.cj_model.specs.Sql.Lexical.{is_white_space, is_letter, EachByte}
+use Rattle.cj_lex.specs.Proving.Cut as reader
+use Rattle.cj_lex.specs.Proving.Cut.{finished, bad, cut, Closed, unclosed, closed, count_of_class, begins_with, close_string}
 use Rattle.cj_lex.proofs.Choices.{chosen}
 use Rattle.cj_lex.proofs.Fronts.{front_each, prefix_all}
 
@@ -48,7 +48,7 @@ closed_unfinished (closed x r) = two_ways _ _ _ (cut_unfinished _ _) bad_unfinis
 -- nor a string
 string_unfinished : (z : List ℕ) → ¬ (reader.cut_string z ≡ finished)
 unfolding reader.cut_string
-string_unfinished z = closed_unfinished (closing false z)
+string_unfinished z = closed_unfinished (close_string false z)
 
 -- nor a symbol of one byte
 single_unfinished : (o : Option Symbol) (z : List ℕ) → ¬ (reader.cut_single o z ≡ finished)
@@ -105,19 +105,19 @@ finished_nil (b ∷ z) h =
     ]
 
 -- where nothing is cut, there is white space alone
-pub finished_sound : (z : List ℕ) → reader.first z ≡ finished → Each is_blank z
-unfolding reader.first count
+pub finished_sound : (z : List ℕ) → reader.first_token z ≡ finished → EachByte is_white_space z
+unfolding reader.first_token count_of_class
 finished_sound z h =
-    let n = prefix_len is_blank z in
+    let n = prefix_len is_white_space z in
     let nil : drop n z ≡ [] = finished_nil (drop n z) h in
     let all : take n z ≡ z = sym (append-nil (take n z)) ∙ ap (λ k. take n z ++ k) (sym nil) ∙ take-append-drop n z in
-    subst (Each is_blank) all (front_each is_blank z)
+    subst (EachByte is_white_space) all (front_each is_white_space z)
 
 -- of white space alone nothing is cut
-pub finished_complete : (z : List ℕ) → Each is_blank z → reader.first z ≡ finished
-unfolding reader.first count reader.cut_at
+pub finished_complete : (z : List ℕ) → EachByte is_white_space z → reader.first_token z ≡ finished
+unfolding reader.first_token count_of_class reader.cut_at
 finished_complete z e =
-    let n : prefix_len is_blank (z ++ []) ≡ length z = prefix_all is_blank z [] e tt in
-    let m : prefix_len is_blank z ≡ length z = ap (prefix_len is_blank) (sym (append-nil z)) ∙ n in
+    let n : prefix_len is_white_space (z ++ []) ≡ length z = prefix_all is_white_space z [] e tt in
+    let m : prefix_len is_white_space z ≡ length z = ap (prefix_len is_white_space) (sym (append-nil z)) ∙ n in
     let d : drop (length z) z ≡ [] = ap (drop (length z)) (sym (append-nil z)) ∙ drop-append_seam z [] in
     rw (m, d) refl

@@ -1,7 +1,7 @@
 -- The bytes at the front of a text that pass a test.
 use Rattle.std.proofs.Common.{◌≡◌, refl, ℕ, suc, ◌+◌, Bool, true, false, cond, List, [], ◌∷◌, ◌++◌, length, take, drop, arith}
 use Rattle.std.specs.List.{prefix_len}
-use Rattle.cj_model.specs.Lexical.{Each, EndsBefore}
+use Rattle.cj_model.specs.Sql.Lexical.{EachByte, EndsBefore}
 
 -- the bytes at the front that pass
 abbrev pub front : (ℕ → Bool) → List ℕ → List ℕ
@@ -12,10 +12,10 @@ abbrev pub past : (ℕ → Bool) → List ℕ → List ℕ
 past q z = drop (prefix_len q z) z
 
 -- each of them passes
-pub front_each : (q : ℕ → Bool) (z : List ℕ) → Each q (front q z)
+pub front_each : (q : ℕ → Bool) (z : List ℕ) → EachByte q (front q z)
 front_each q [] = tt
 front_each q (b ∷ z) =
-    elim (q b) as (λ v. q b ≡ v → Each q (take (cond v (1 + prefix_len q z) 0) (b ∷ z))) [
+    elim (q b) as (λ v. q b ≡ v → EachByte q (take (cond v (1 + prefix_len q z) 0) (b ∷ z))) [
       | true ↦ λ e. let one : 1 + prefix_len q z ≡ suc (prefix_len q z) = omega arith in rw one (e, front_each q z)
       | false ↦ λ e. tt
     ] refl
@@ -39,7 +39,7 @@ no_more q [] h = refl
 no_more q (b ∷ z) h = rw h refl
 
 -- bytes that pass are the front, where the next one does not pass
-pub prefix_all : (q : ℕ → Bool) (w rest : List ℕ) → Each q w → EndsBefore q rest → prefix_len q (w ++ rest) ≡ length w
+pub prefix_all : (q : ℕ → Bool) (w rest : List ℕ) → EachByte q w → EndsBefore q rest → prefix_len q (w ++ rest) ≡ length w
 prefix_all q [] rest e h = no_more q rest h
 prefix_all q (b ∷ w) rest e h =
     let ih = prefix_all q w rest e.1 h in

@@ -4,12 +4,12 @@ use Rattle.cj_model.specs.declared.token.Symbol.{Symbol}
 use Rattle.cj_model.specs.declared.token.Symbol.TheVariants as symbol
 use Rattle.cj_model.specs.declared.token.Token.{Token}
 use Rattle.cj_model.specs.declared.token.Token.TheVariants as token
-use Rattle.cj_model.specs.Lexical.{IsSymbol, Spells, Tokens}
+use Rattle.cj_model.specs.Sql.Lexical.{IsSymbol, Spells, Tokens}
 use Rattle.cj_lex.specs.declared.error.SqlError.{SqlError}
 use Rattle.cj_lex.specs.declared.error.SqlError.TheVariants.{Syntax, NoMemory}
 use Rattle.cj_lex.specs.Read.{TokensRead}
-use Rattle.cj_lex.specs.Cut as reader
-use Rattle.cj_lex.specs.Cut.{finished, bad, cut, Closed, unclosed, closed, count, begins_with, closing}
+use Rattle.cj_lex.specs.Proving.Cut as reader
+use Rattle.cj_lex.specs.Proving.Cut.{finished, bad, cut, Closed, unclosed, closed, count_of_class, begins_with, close_string}
 use Rattle.cj_lex.proofs.Sound.{first_sound}
 use Rattle.cj_lex.proofs.Complete.{first_complete}
 use Rattle.cj_lex.proofs.Finished.{finished_sound, finished_complete}
@@ -58,7 +58,7 @@ takes (token.Text x) (b ∷ z) h = omega arith
 takes (token.Symbol x) z h = symbol_takes x z h
 
 -- so the text after a token is shorter
-pub shorter : (z : List ℕ) (t : Token) (rest : List ℕ) → reader.first z ≡ cut t rest → length rest < length z
+pub shorter : (z : List ℕ) (t : Token) (rest : List ℕ) → reader.first_token z ≡ cut t rest → length rest < length z
 shorter z t rest h =
     let f = first_sound z t rest h in
     let some = takes t f.spelling f.spells in
@@ -70,7 +70,7 @@ shorter z t rest h =
 -- ---- one token more
 
 -- with one token more
-rest_more : (found : List Token) (z : List ℕ) (t : Token) (rest : List ℕ) (all more : List Token) → reader.first z ≡ cut t rest → all ≡ found ++ more → Tokens z more
+rest_more : (found : List Token) (z : List ℕ) (t : Token) (rest : List ℕ) (all more : List Token) → reader.first_token z ≡ cut t rest → all ≡ found ++ more → Tokens z more
     → Rest (found ++ t ∷ []) rest all
 rest_more found z t rest all [] h e k = let f = finished_complete z k in absurd (cc)
 rest_more found z t rest all (u ∷ more) h e k =
@@ -81,7 +81,7 @@ rest_more found z t rest all (u ∷ more) h e k =
     record { more = more; is = e ∙ ap (λ x. found ++ x ∷ more) same ∙ sym (append_assoc found (t ∷ []) more); tokens = subst P there k.2 }
 
 -- the same after one token more
-pub leads_more : (text : List ℕ) (found : List Token) (z : List ℕ) (t : Token) (rest : List ℕ) → Leads text found z → reader.first z ≡ cut t rest → Leads text (found ++ t ∷ []) rest
+pub leads_more : (text : List ℕ) (found : List Token) (z : List ℕ) (t : Token) (rest : List ℕ) → Leads text found z → reader.first_token z ≡ cut t rest → Leads text (found ++ t ∷ []) rest
 leads_more text found z t rest l h = record {
   sound = λ more k.
       let P : List Token → Type 0 = Tokens text in
@@ -90,28 +90,28 @@ leads_more text found z t rest l h = record {
 }
 
 -- at the end what was found are the tokens
-pub leads_end : (text : List ℕ) (found : List Token) (z : List ℕ) → Leads text found z → reader.first z ≡ finished → Tokens text found
+pub leads_end : (text : List ℕ) (found : List Token) (z : List ℕ) → Leads text found z → reader.first_token z ≡ finished → Tokens text found
 leads_end text found z l h = let P : List Token → Type 0 = Tokens text in subst P (append-nil found) (l.sound [] (finished_sound z h))
 
 -- and nothing is left
-rest_end : (found : List Token) (z : List ℕ) (all more : List Token) → reader.first z ≡ finished → all ≡ found ++ more → Tokens z more → all ≡ found
+rest_end : (found : List Token) (z : List ℕ) (all more : List Token) → reader.first_token z ≡ finished → all ≡ found ++ more → Tokens z more → all ≡ found
 rest_end found z all [] h e k = e ∙ append-nil found
 rest_end found z all (u ∷ more) h e k = let f = first_complete z u k.0 k.1 in absurd (cc)
 
 -- so they are the only ones
-pub leads_only : (text : List ℕ) (found : List Token) (z : List ℕ) → Leads text found z → reader.first z ≡ finished → (all : List Token) → Tokens text all → all ≡ found
+pub leads_only : (text : List ℕ) (found : List Token) (z : List ℕ) → Leads text found z → reader.first_token z ≡ finished → (all : List Token) → Tokens text all → all ≡ found
 leads_only text found z l h all k = let r = l.complete all k in rest_end found z all r.more h r.is r.tokens
 
 -- what is no token has no tokens
-rest_bad : (z : List ℕ) (more : List Token) → reader.first z ≡ bad → Tokens z more → ⊥
+rest_bad : (z : List ℕ) (more : List Token) → reader.first_token z ≡ bad → Tokens z more → ⊥
 rest_bad z [] h k = let f = finished_complete z k in cc
 rest_bad z (u ∷ more) h k = let f = first_complete z u k.0 k.1 in cc
 
 -- so neither has the whole text
-pub leads_bad : (text : List ℕ) (found : List Token) (z : List ℕ) → Leads text found z → reader.first z ≡ bad → (all : List Token) → Tokens text all → ⊥
+pub leads_bad : (text : List ℕ) (found : List Token) (z : List ℕ) → Leads text found z → reader.first_token z ≡ bad → (all : List Token) → Tokens text all → ⊥
 leads_bad text found z l h all k = let r = l.complete all k in rest_bad z r.more h r.tokens
 
 -- what an error says of the whole text
-pub leads_err : (text : List ℕ) (found : List Token) (z : List ℕ) (e : SqlError) → Leads text found z → reader.Cuts (reader.first z) (Err e) → TokensRead text (Err e)
+pub leads_err : (text : List ℕ) (found : List Token) (z : List ℕ) (e : SqlError) → Leads text found z → reader.AnswersCut (reader.first_token z) (Err e) → TokensRead text (Err e)
 leads_err text found z Syntax l h = leads_bad text found z l h
 leads_err text found z NoMemory l h = tt

@@ -3,13 +3,13 @@ use Rattle.std.proofs.Common.{◌≡◌, refl, ℕ, ◌≤◌, true, nat_le, Lis
 use Rattle.std.specs.declared.option.Option.TheVariants.{Some}
 use Rattle.std.proofs.lemmas.Bool.Decides.{nat_tests}
 use Rattle.std.proofs.lemmas.List.{length-map}
-use Rattle.cj_model.specs.Words.{lower, is_spelled_as_name, is_name, name_of}
-use Rattle.cj_model.specs.Lexical.{IsWord}
+use Rattle.cj_model.specs.Sql.Names.{lower, is_spelled_as_name, is_name, name_of}
+use Rattle.cj_model.specs.Sql.Lexical.{IsWordSpelling}
 use Rattle.cj_model.proofs.Names.{spelled_as_name}
 use Rattle.cj_lex.proofs.Choices.{chosen, both}
 
 -- a word of at most 32 bytes is a name
-pub word_is_name : (z : List ℕ) → IsWord z → length z ≤ 32 → name_of (map lower z) ≡ Some (map lower z)
+pub word_is_name : (z : List ℕ) → IsWordSpelling z → length z ≤ 32 → name_of (map lower z) ≡ Some (map lower z)
 unfolding is_name
 word_is_name z w h =
     let l = length-map z lower in

@@ -1,7 +1,7 @@
 -- A text has one list of tokens.
 use Rattle.std.proofs.Common.{◌≡◌, ℕ, List, [], ◌∷◌, refl, subst}
 use Rattle.cj_model.specs.declared.token.Token.{Token}
-use Rattle.cj_model.specs.Lexical.{Tokens}
+use Rattle.cj_model.specs.Sql.Lexical.{Tokens}
 use Rattle.cj_lex.proofs.Complete.{first_complete}
 use Rattle.cj_lex.proofs.Finished.{finished_complete}
 

@@ -4,15 +4,15 @@ use Rattle.std.specs.List.{prefix_len}
 use Rattle.std.specs.Char.{is_ascii_digit}
 use Rattle.std.proofs.lemmas.Bool.Decides.{nat_tests}
 use Rattle.std.proofs.lemmas.List.{take-append-drop}
-use Rattle.cj_model.specs.Words.{lower, is_text, name_of}
+use Rattle.cj_model.specs.Sql.Names.{lower, is_text, name_of}
 use Rattle.cj_model.specs.declared.token.Symbol.{Symbol}
 use Rattle.cj_model.specs.declared.token.Symbol.TheVariants as symbol
 use Rattle.cj_model.specs.declared.token.Token.{Token}
 use Rattle.cj_model.specs.declared.token.Token.TheVariants as token
-use Rattle.cj_model.specs.Lexical.{is_blank, is_letter, is_word, EndsBefore, IsWord, IsDigits, value, doubled, keyword, Spells, Ends, First}
+use Rattle.cj_model.specs.Sql.Lexical.{is_white_space, is_letter, is_word, EndsBefore, IsWordSpelling, IsDigits, number_spelled, doubled, keyword, Spells, EndsToken, BeginsWithToken}
 use Rattle.cj_lex.specs.declared.bytes.Class.TheVariants as class
-use Rattle.cj_lex.specs.Cut as reader
-use Rattle.cj_lex.specs.Cut.{Cut, finished, bad, cut, Closed, unclosed, closed, count, is_in, begins, begins_with, reserved_or_name, word_token, closing, behind}
+use Rattle.cj_lex.specs.Proving.Cut as reader
+use Rattle.cj_lex.specs.Proving.Cut.{Cut, finished, bad, cut, Closed, unclosed, closed, count_of_class, is_in, begins, begins_with, reserved_or_name, word_token, close_string, with_front}
 use Rattle.cj_lex.proofs.Choices.{chosen, both, equal}
 use Rattle.cj_lex.proofs.Classes.{letter_in_word}
 use Rattle.cj_lex.proofs.Fronts.{front, past, front_each, past_ends, front_first}
@@ -21,7 +21,7 @@ use Rattle.cj_lex.proofs.Names.{name_is, name_is_short}
 -- ---- what stands at the front
 
 -- the letters, digits and `_` after a letter are a word
-word_front : (b : ℕ) (z : List ℕ) → is_letter b ≡ true → IsWord (front is_word (b ∷ z))
+word_front : (b : ℕ) (z : List ℕ) → is_letter b ≡ true → IsWordSpelling (front is_word (b ∷ z))
 word_front b z h = rw (front_first is_word b z (letter_in_word b h)) (h, front_each is_word z)
 
 -- the digits at the front are a number
@@ -55,7 +55,7 @@ pub record Starts (z : List ℕ) (t : Token) (rest : List ℕ) : Type 0 where
   pub spelling : List ℕ
   pub text_is : z ≡ spelling ++ rest
   pub spells : Spells t spelling
-  pub ends : Ends t rest
+  pub ends : EndsToken t rest
 
 -- what is cut is one token and one rest
 moved : (z : List ℕ) (a t : Token) (r rest : List ℕ) → cut a r ≡ cut t rest → Starts z a r → Starts z t rest
@@ -67,7 +67,7 @@ moved z a t r rest h s =
     subst P e (subst Q f s)
 
 -- a word of at most 32 bytes spells its token
-word_spells : (z : List ℕ) → IsWord z → length z ≤ 32 → Spells (word_token (map lower z)) z
+word_spells : (z : List ℕ) → IsWordSpelling z → length z ≤ 32 → Spells (word_token (map lower z)) z
 word_spells z w l =
     elim (keyword (map lower z)) as (λ v. keyword (map lower z) ≡ v → Spells (reserved_or_name v (map lower z)) z) [
       | Some k ↦ λ e. (w, l, e)
@@ -75,8 +75,8 @@ word_spells z w l =
     ] refl
 
 -- its token ends with it
-word_ends : (x : List ℕ) (rest : List ℕ) → EndsBefore is_word rest → Ends (word_token x) rest
-word_ends x rest h = elim (keyword x) as (λ v. Ends (reserved_or_name v x) rest) [ Some k ↦ h | None ↦ h ]
+word_ends : (x : List ℕ) (rest : List ℕ) → EndsBefore is_word rest → EndsToken (word_token x) rest
+word_ends x rest h = elim (keyword x) as (λ v. EndsToken (reserved_or_name v x) rest) [ Some k ↦ h | None ↦ h ]
 
 -- the same, by whether the word is a name
 cut_name_sound : (b : ℕ) (z : List ℕ) (o : Option (List ℕ)) (t : Token) (rest : List ℕ) → is_letter b ≡ true → name_of (map lower (front is_word (b ∷ z))) ≡ o
@@ -94,16 +94,16 @@ cut_name_sound b z (Some name) t rest h e f =
 
 -- a word that is cut stands at the front
 word_sound : (b : ℕ) (z : List ℕ) (t : Token) (rest : List ℕ) → is_letter b ≡ true → reader.cut_word (b ∷ z) ≡ cut t rest → Starts (b ∷ z) t rest
-unfolding reader.cut_word count
+unfolding reader.cut_word count_of_class
 word_sound b z t rest h e = cut_name_sound b z (name_of (map lower (front is_word (b ∷ z)))) t rest h refl e
 
 -- a number that is cut stands at the front
 number_sound : (b : ℕ) (z : List ℕ) (t : Token) (rest : List ℕ) → is_ascii_digit b ≡ true → reader.cut_number (b ∷ z) ≡ cut t rest → Starts (b ∷ z) t rest
-unfolding reader.cut_number count
+unfolding reader.cut_number count_of_class
 number_sound b z t rest h e = elim (chosen (begins class.Word (past is_ascii_digit (b ∷ z))) _ _ _ e) [
   | inl f ↦ absurd (cc)
-  | inr f ↦ elim (chosen (nat_le (value (front is_ascii_digit (b ∷ z))) (2 ^ 63)) _ _ _ f.1) [
-    | inl g ↦ moved (b ∷ z) (token.Number (value (front is_ascii_digit (b ∷ z)))) t (past is_ascii_digit (b ∷ z)) rest g.1 (record {
+  | inr f ↦ elim (chosen (nat_le (number_spelled (front is_ascii_digit (b ∷ z))) (2 ^ 63)) _ _ _ f.1) [
+    | inl g ↦ moved (b ∷ z) (token.Number (number_spelled (front is_ascii_digit (b ∷ z)))) t (past is_ascii_digit (b ∷ z)) rest g.1 (record {
       spelling = front is_ascii_digit (b ∷ z);
       text_is = sym (take-append-drop (prefix_len is_ascii_digit (b ∷ z)) (b ∷ z));
       spells = (digits_front b z h, refl, grind (arith, nat_tests, g.0));
@@ -125,7 +125,7 @@ pub data Behind (front : List ℕ) (c : Closed) (x r : List ℕ) : Type 0 where
   is_behind : (y : List ℕ) → c ≡ closed y r → x ≡ front ++ y → Behind front c x r
 
 -- what is closed behind a front was closed
-behind_is : (front : List ℕ) (c : Closed) (x r : List ℕ) → behind front c ≡ closed x r → Behind front c x r
+behind_is : (front : List ℕ) (c : Closed) (x r : List ℕ) → with_front front c ≡ closed x r → Behind front c x r
 behind_is front unclosed x r h = absurd (cc)
 behind_is front (closed y q) x r h = let e : q ≡ r = cc in is_behind y (ap (λ k. closed y k) e) (cc)
 
@@ -139,19 +139,19 @@ doubled_other : (b : ℕ) (x : List ℕ) → (b == 39) ≡ false → doubled (b 
 doubled_other b x h = rw h refl
 
 -- what stands before the closing quote is the value, each quote twice
-closing_sound : (z : List ℕ) (second : Bool) (x r : List ℕ) → closing second z ≡ closed x r → Quoted (with_quote second z) x r
+closing_sound : (z : List ℕ) (second : Bool) (x r : List ℕ) → close_string second z ≡ closed x r → Quoted (with_quote second z) x r
 closing_sound [] false x r h = absurd (cc)
 closing_sound [] true x r h = let e : [] ≡ x = cc in let f : [] ≡ r = cc in rw (← e, ← f) (record { is = refl; ends = tt })
 closing_sound (b ∷ z) false x r h = elim (chosen (b == 39) _ _ _ h) [
   | inl e ↦ let q = closing_sound z true x r e.1 in record { is = rw (equal b 39 e.0) q.is; ends = q.ends }
-  | inr e ↦ elim (behind_is (b ∷ []) (closing false z) x r e.1) [
+  | inr e ↦ elim (behind_is (b ∷ []) (close_string false z) x r e.1) [
     | is_behind y c f ↦
         let q = closing_sound z false y r c in
         record { is = rw (f, doubled_other b y e.0) (ap (λ k. b ∷ k) q.is); ends = q.ends }
   ]
 ]
 closing_sound (b ∷ z) true x r h = elim (chosen (b == 39) _ _ _ h) [
-  | inl e ↦ elim (behind_is (39 ∷ []) (closing false z) x r e.1) [
+  | inl e ↦ elim (behind_is (39 ∷ []) (close_string false z) x r e.1) [
     | is_behind y c f ↦
         let q = closing_sound z false y r c in
         record { is = rw (f, equal b 39 e.0) (ap (λ k. 39 ∷ 39 ∷ k) q.is); ends = q.ends }
@@ -160,7 +160,7 @@ closing_sound (b ∷ z) true x r h = elim (chosen (b == 39) _ _ _ h) [
 ]
 
 -- where it is a text and not too long, it is a string
-closed_sound : (z : List ℕ) (c : Closed) (t : Token) (rest : List ℕ) → closing false z ≡ c → reader.cut_closed c ≡ cut t rest → Starts (39 ∷ z) t rest
+closed_sound : (z : List ℕ) (c : Closed) (t : Token) (rest : List ℕ) → close_string false z ≡ c → reader.cut_closed c ≡ cut t rest → Starts (39 ∷ z) t rest
 closed_sound z unclosed t rest e h = absurd (cc)
 closed_sound z (closed x r) t rest e h =
     let q = closing_sound z false x r e in
@@ -179,7 +179,7 @@ closed_sound z (closed x r) t rest e h =
 -- a string that is cut stands at the front
 string_sound : (z : List ℕ) (t : Token) (rest : List ℕ) → reader.cut_string z ≡ cut t rest → Starts (39 ∷ z) t rest
 unfolding reader.cut_string
-string_sound z t rest h = closed_sound z (closing false z) t rest refl h
+string_sound z t rest h = closed_sound z (close_string false z) t rest refl h
 
 -- ---- symbols
 
@@ -221,7 +221,7 @@ exclamation_sound z t rest h = elim (chosen (begins_with 61 z) _ _ _ h) [
 -- a symbol of one byte that nothing can follow to make another one
 record Single (b : ℕ) (x : Symbol) : Type 0 where
   spells : Spells (sign x) (b ∷ [])
-  ends : (rest : List ℕ) → Ends (sign x) rest
+  ends : (rest : List ℕ) → EndsToken (sign x) rest
 
 -- the same of the byte and of the symbol that are meant
 byte_is : (b c : ℕ) (x y : Symbol) → (b == c) ≡ true → Some x ≡ Some y → Single c x → Single b y
@@ -321,15 +321,15 @@ cut_at_sound (b ∷ z) t rest h =
     ]
 
 -- the first token that is cut is the first one
-pub first_sound : (z : List ℕ) (t : Token) (rest : List ℕ) → reader.first z ≡ cut t rest → First z t rest
-unfolding reader.first count
+pub first_sound : (z : List ℕ) (t : Token) (rest : List ℕ) → reader.first_token z ≡ cut t rest → BeginsWithToken z t rest
+unfolding reader.first_token count_of_class
 first_sound z t rest h =
-    let s = cut_at_sound (past is_blank z) t rest h in
+    let s = cut_at_sound (past is_white_space z) t rest h in
     record {
-      blanks = front is_blank z;
+      blanks = front is_white_space z;
       spelling = s.spelling;
-      text_is = sym (take-append-drop (prefix_len is_blank z) z) ∙ ap (λ k. front is_blank z ++ k) s.text_is;
-      blank = front_each is_blank z;
+      text_is = sym (take-append-drop (prefix_len is_white_space z) z) ∙ ap (λ k. front is_white_space z ++ k) s.text_is;
+      blank = front_each is_white_space z;
       spells = s.spells;
       ends = s.ends;
     }

@@ -1,2 +1,2 @@
-pub mod Cut
+pub mod Proving
 pub mod Read

@@ -1,7 +1,7 @@
 //! Bytes by their class.
 
 ghost use Rattle.std.specs.Prelude.{◌≡◌, ◌≤◌, length};
-ghost use Rattle.cj_lex.specs.Cut as cut;
+ghost use Rattle.cj_lex.specs.Proving.Cut as cut;
 
 /// What a byte may be part of.
 #[derive(Clone, Copy)]
@@ -36,9 +36,9 @@ pub fn begins(class: Class, text: &[u8]) -> bool
 }
 
 /// How many bytes at the front are of the class.
-#[tactic(auto, unfolding(crate::specs::Cut::count))]
+#[tactic(auto, unfolding(crate::specs::Proving::Cut::count_of_class))]
 pub fn count(class: Class, text: &[u8]) -> usize
-    ensures value { result ≡ cut.count class text.now }
+    ensures value { result ≡ cut.count_of_class class text.now }
     ensures within { result ≤ length text.now }
 {
     text.iter().take_while(|b| is_in(class, **b)).count()

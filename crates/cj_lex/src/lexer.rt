@@ -1,7 +1,7 @@
 //! The token at the front of a text.
 
-ghost use Rattle.cj_lex.specs.Cut as cut;
-ghost use Rattle.cj_lex.specs.Cut.{Cuts};
+ghost use Rattle.cj_lex.specs.Proving.Cut as cut;
+ghost use Rattle.cj_lex.specs.Proving.Cut.{AnswersCut};
 
 use crate::bytes::{Class, count, is_in};
 use crate::error::SqlError;
@@ -13,9 +13,9 @@ use cj_model::Token;
 use std::alloc::Global;
 
 /// The token at the front, where no white space stands; none where the text is empty.
-#[tactic(auto, unfolding(crate::specs::Cut::cut_at))]
+#[tactic(auto, unfolding(crate::specs::Proving::Cut::cut_at))]
 fn cut_at(alloc: Global, text: &[u8]) -> Result<Option<(Token, &[u8])>, SqlError>
-    ensures { Cuts (cut.cut_at text.now) result }
+    ensures { AnswersCut (cut.cut_at text.now) result }
 {
     let [b, rest @ ..] = text else {
         return Ok(None);
@@ -38,9 +38,9 @@ fn cut_at(alloc: Global, text: &[u8]) -> Result<Option<(Token, &[u8])>, SqlError
 }
 
 /// The first token and the text after it; none where there is nothing but white space.
-#[tactic(auto, unfolding(crate::specs::Cut::first))]
+#[tactic(auto, unfolding(crate::specs::Proving::Cut::first_token))]
 pub fn first(alloc: Global, text: &[u8]) -> Result<Option<(Token, &[u8])>, SqlError>
-    ensures { Cuts (cut.first text.now) result }
+    ensures { AnswersCut (cut.first_token text.now) result }
 {
     let n = count(Class::Blank, text);
     cut_at(alloc, &text[n..])

@@ -1,9 +1,9 @@
 //! Numbers.
 
 ghost use Rattle.std.specs.Prelude.{◌≡◌, ◌^◌, ◌-◌, ◌+◌, ◌*◌, min};
-ghost use Rattle.cj_model.specs.Lexical as lexical;
-ghost use Rattle.cj_lex.specs.Cut as cut;
-ghost use Rattle.cj_lex.specs.Cut.{CutsOne};
+ghost use Rattle.cj_model.specs.Sql.Lexical as lexical;
+ghost use Rattle.cj_lex.specs.Proving.Cut as cut;
+ghost use Rattle.cj_lex.specs.Proving.Cut.{CutsOne};
 
 use crate::bytes::{Class, begins, count};
 use crate::error::SqlError;
@@ -21,7 +21,7 @@ fn with_digit(n: u64, digit: u8) -> u64
 
 /// The number of the digits, or the largest `u64` where it is larger.
 fn value(digits: &[u8]) -> u64
-    ensures { result ≡ min (lexical.value digits.now) (2 ^ 64 - 1) }
+    ensures { result ≡ min (lexical.number_spelled digits.now) (2 ^ 64 - 1) }
 {
     let mut n = 0;
     for digit in digits {
@@ -31,7 +31,7 @@ fn value(digits: &[u8]) -> u64
 }
 
 /// The number at the front of the text, which begins with a digit.
-#[tactic(auto, unfolding(crate::specs::Cut::cut_number))]
+#[tactic(auto, unfolding(crate::specs::Proving::Cut::cut_number))]
 pub fn cut_number(text: &[u8]) -> Result<(Token, &[u8]), SqlError>
     ensures { CutsOne (cut.cut_number text.now) result }
 {

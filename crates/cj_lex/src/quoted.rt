@@ -1,8 +1,8 @@
 //! Strings.
 
 ghost use Rattle.std.specs.Prelude.{◌≡◌, IfOk, false};
-ghost use Rattle.cj_lex.specs.Cut as cut;
-ghost use Rattle.cj_lex.specs.Cut.{Closes, CutsOne};
+ghost use Rattle.cj_lex.specs.Proving.Cut as cut;
+ghost use Rattle.cj_lex.specs.Proving.Cut.{AnswersClosed, CutsOne};
 
 use crate::error::SqlError;
 use cj_model::{TEXT_LIMIT, Text, Token};
@@ -13,7 +13,7 @@ type Closed<'a> = Option<(Vec<u8>, &'a [u8])>;
 
 #[tactic(auto, using(crate::proofs::Steps::behind_more))]
 fn closing(alloc: Global, mut text: &[u8]) -> Result<Closed<'_>, AllocError>
-    ensures { IfOk result (Closes (cut.closing false text.entry.now)) }
+    ensures { IfOk result (AnswersClosed (cut.close_string false text.entry.now)) }
 {
     let mut found = Vec::new(alloc);
     let mut after_quote = false;
@@ -37,7 +37,7 @@ fn closing(alloc: Global, mut text: &[u8]) -> Result<Closed<'_>, AllocError>
 }
 
 /// The string whose opening quote stands before this text.
-#[tactic(auto, unfolding(crate::specs::Cut::cut_string))]
+#[tactic(auto, unfolding(crate::specs::Proving::Cut::cut_string))]
 pub fn cut_string(alloc: Global, text: &[u8]) -> Result<(Token, &[u8]), SqlError>
     ensures { CutsOne (cut.cut_string text.now) result }
 {

@@ -1,8 +1,8 @@
 //! Symbols of one or two bytes.
 
 ghost use Rattle.std.specs.Prelude.{◌≡◌};
-ghost use Rattle.cj_lex.specs.Cut as cut;
-ghost use Rattle.cj_lex.specs.Cut.{CutsSymbol};
+ghost use Rattle.cj_lex.specs.Proving.Cut as cut;
+ghost use Rattle.cj_lex.specs.Proving.Cut.{CutsSymbol};
 
 use cj_model::Symbol;
 
@@ -58,7 +58,7 @@ fn exclamation(text: &[u8]) -> Option<(Symbol, &[u8])>
     }
 }
 
-#[tactic(auto, unfolding(crate::specs::Cut::single))]
+#[tactic(auto, unfolding(crate::specs::Proving::Cut::single))]
 fn single(b: u8) -> Option<Symbol>
     ensures { result ≡ cut.single b }
 {
@@ -76,7 +76,7 @@ fn single(b: u8) -> Option<Symbol>
 }
 
 /// The symbol that begins with the byte and may go on in the text.
-#[tactic(auto, unfolding(crate::specs::Cut::cut_symbol))]
+#[tactic(auto, unfolding(crate::specs::Proving::Cut::cut_symbol))]
 pub fn cut_symbol(b: u8, text: &[u8]) -> Option<(Symbol, &[u8])>
     ensures { CutsSymbol (cut.cut_symbol b text.now) result }
 {

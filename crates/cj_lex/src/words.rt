@@ -1,8 +1,8 @@
 //! Words: names and reserved words.
 
 ghost use Rattle.std.specs.Prelude.{◌≡◌};
-ghost use Rattle.cj_lex.specs.Cut as cut;
-ghost use Rattle.cj_lex.specs.Cut.{CutsOne};
+ghost use Rattle.cj_lex.specs.Proving.Cut as cut;
+ghost use Rattle.cj_lex.specs.Proving.Cut.{CutsOne};
 
 use crate::bytes::{Class, count};
 use crate::error::SqlError;
@@ -19,7 +19,7 @@ fn word_token(name: Name) -> Token
 }
 
 /// The word at the front of the text, which begins with a letter. It is put into lower case in place.
-#[tactic(auto, unfolding(crate::specs::Cut::cut_word))]
+#[tactic(auto, unfolding(crate::specs::Proving::Cut::cut_word))]
 pub fn cut_word(text: &[u8]) -> Result<(Token, &[u8]), SqlError>
     ensures { CutsOne (cut.cut_word text.now) result }
 {

@@ -6,7 +6,7 @@ use Rattle.std.proofs.lemmas.Bool.{lt-ltb}
 use Rattle.std.proofs.lemmas.List.{append_assoc, drop_more, drop-set-lt, take_more_set}
 use Rattle.std.proofs.lemmas.List.Sums.{fold-append}
 use Rattle.std.proofs.lemmas.List.Elements.{All-nil, All-cons, All-head, All-tail}
-use Rattle.cj_model.specs.Macros.{draws_from, state_after, front, behind, each_rewritten, IsDrawable}
+use Rattle.cj_model.specs.Sql.Macros.{draws_from, generator_after_draws, draws_for, draws_behind, each_rewritten, IsDrawable}
 use Rattle.cj_macro.specs.Drawable.{are_drawable}
 use Rattle.cj_macro.proofs.RewrittenTerms.{IsSmall}
 
@@ -14,12 +14,12 @@ use Rattle.cj_macro.proofs.RewrittenTerms.{IsSmall}
 
 module _ {S : Type 0} (drawn : S → ℕ → ℕ) (later : S → ℕ → S) where
   -- the first of the draws for two lists of bounds are those for the one
-  pub front_draws : (s : S) (b c : List ℕ) → front b (draws_from drawn later s (b ++ c)) ≡ draws_from drawn later s b
+  pub front_draws : (s : S) (b c : List ℕ) → draws_for b (draws_from drawn later s (b ++ c)) ≡ draws_from drawn later s b
   front_draws s [] c = refl
   front_draws s (n ∷ b) c = ap (λ (ds : List ℕ). drawn s n ∷ ds) (front_draws (later s n) b c)
 
   -- and those behind them are those of the state that comes then, for the other
-  pub behind_draws : (s : S) (b c : List ℕ) → behind b (draws_from drawn later s (b ++ c)) ≡ draws_from drawn later (state_after later s b) c
+  pub behind_draws : (s : S) (b c : List ℕ) → draws_behind b (draws_from drawn later s (b ++ c)) ≡ draws_from drawn later (generator_after_draws later s b) c
   behind_draws s [] c = refl
   behind_draws s (n ∷ b) c = behind_draws (later s n) b c
 
@@ -51,9 +51,9 @@ behind_set items i x = drop-set-lt (i + 1) items i x (omega arith)
 
 -- the state after the draws for the items from an index on is that after the item there, and then for the items behind it
 pub state_step : {S A : Type 0} (later : S → ℕ → S) (bounds_of : A → List ℕ) (s s' last : S) (items : List A) (i : ℕ) (d x : A) → i < length items
-    → s' ≡ state_after later s (bounds_of (get_or items i d))
-    → state_after later s (flat_map bounds_of (drop i items)) ≡ last
-    → state_after later s' (flat_map bounds_of (drop (i + 1) (set items i x))) ≡ last
+    → s' ≡ generator_after_draws later s (bounds_of (get_or items i d))
+    → generator_after_draws later s (flat_map bounds_of (drop i items)) ≡ last
+    → generator_after_draws later s' (flat_map bounds_of (drop (i + 1) (set items i x))) ≡ last
 state_step later bounds_of s s' last items i d x l e before =
     let own = bounds_of (get_or items i d) in
     let more = flat_map bounds_of (drop (i + 1) items) in
@@ -69,14 +69,14 @@ module _ {S A : Type 0} (drawn : S → ℕ → ℕ) (later : S → ℕ → S) (b
   rest_rewritten s items = each_rewritten bounds_of rewritten_item (draws_from drawn later s (flat_map bounds_of items)) items
 
   -- the first item has its own draws, the others those of the state after them
-  rest_more : (s : S) (x : A) (xs : List A) → rest_rewritten s (x ∷ xs) ≡ rewritten_item (draws_from drawn later s (bounds_of x)) x ∷ rest_rewritten (state_after later s (bounds_of x)) xs
+  rest_more : (s : S) (x : A) (xs : List A) → rest_rewritten s (x ∷ xs) ≡ rewritten_item (draws_from drawn later s (bounds_of x)) x ∷ rest_rewritten (generator_after_draws later s (bounds_of x)) xs
   rest_more s x xs =
       rw (front_draws drawn later s (bounds_of x) (flat_map bounds_of xs), behind_draws drawn later s (bounds_of x) (flat_map bounds_of xs)) refl
 
   -- the item at an index is rewritten, and the items behind it are left to be
   pub rest_step : (s s' : S) (items whole : List A) (i : ℕ) (d x : A) → i < length items
       → x ≡ rewritten_item (draws_from drawn later s (bounds_of (get_or items i d))) (get_or items i d)
-      → s' ≡ state_after later s (bounds_of (get_or items i d))
+      → s' ≡ generator_after_draws later s (bounds_of (get_or items i d))
       → take i items ++ rest_rewritten s (drop i items) ≡ whole
       → take (i + 1) (set items i x) ++ rest_rewritten s' (drop (i + 1) (set items i x)) ≡ whole
   rest_step s s' items whole i d x l is e before =

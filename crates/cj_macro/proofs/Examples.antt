@@ -11,8 +11,8 @@ use Rattle.cj_model.specs.declared.select.Items.TheVariants as items
 use Rattle.cj_model.specs.declared.write.Write.TheVariants as write
 use Rattle.cj_model.specs.declared.request.Request.{Request}
 use Rattle.cj_model.specs.declared.request.Request.TheVariants as request
-use Rattle.cj_model.specs.Conditions.{Test, Not, And, Or}
-use Rattle.cj_model.specs.Macros.{bounds, draws_from, state_after, rewritten}
+use Rattle.cj_model.specs.Database.Conditions.{Test, Not, And, Or}
+use Rattle.cj_model.specs.Sql.Macros.{bounds, draws_from, generator_after_draws, rewritten}
 use Rattle.cj_print.specs.Canonical.{canonical}
 
 abbrev col : List ℕ → Term
@@ -87,5 +87,5 @@ a_select_rewritten = refl
 by_list : draws_from of_list (λ (list : List ℕ) n. drop 1 list) (10 ∷ 7 ∷ []) (6 ∷ 5 ∷ 4 ∷ []) ≡ 4 ∷ 2 ∷ 0 ∷ []
 by_list = refl
 
-list_left : state_after (λ (list : List ℕ) n. drop 1 list) (10 ∷ 7 ∷ 3 ∷ []) (6 ∷ 5 ∷ []) ≡ 3 ∷ []
+list_left : generator_after_draws (λ (list : List ℕ) n. drop 1 list) (10 ∷ 7 ∷ 3 ∷ []) (6 ∷ 5 ∷ []) ≡ 3 ∷ []
 list_left = refl

@@ -11,9 +11,9 @@ use Rattle.cj_model.specs.declared.write.Write.{Write}
 use Rattle.cj_model.specs.declared.write.Write.TheVariants as write
 use Rattle.cj_model.specs.declared.request.Request.{Request}
 use Rattle.cj_model.specs.declared.request.Request.TheVariants as request
-use Rattle.cj_model.specs.Conditions.{Condition, Test, Not, And, Or}
-use Rattle.cj_model.specs.Plain.{is_plain_term, is_plain_expr, is_plain_condition, is_plain_where, is_plain_write, is_plain}
-use Rattle.cj_model.specs.Macros.{term_bounds, condition_bounds, tuple_bounds, set_bounds, front, behind, rewritten_term, rewritten_expr, rewritten_condition, rewritten_where, each_rewritten, rewritten_tuple, rewritten_set, rewritten_write, rewritten}
+use Rattle.cj_model.specs.Database.Conditions.{Condition, Test, Not, And, Or}
+use Rattle.cj_model.specs.Sql.PlainRequests.{is_plain_term, is_plain_expr, is_plain_condition, is_plain_where, is_plain_write, is_plain}
+use Rattle.cj_model.specs.Sql.Macros.{term_bounds, condition_bounds, tuple_bounds, set_bounds, draws_for, draws_behind, rewritten_term, rewritten_expr, rewritten_condition, rewritten_where, each_rewritten, rewritten_tuple, rewritten_set, rewritten_write, rewritten}
 
 plain_term : (moment : ℤ) (draws : List ℕ) (t : Term) → is_plain_term (rewritten_term moment draws t) ≡ true
 plain_term moment draws (Lit v) = refl
@@ -23,14 +23,14 @@ plain_term moment draws (Rand n) = refl
 
 plain_expr : (moment : ℤ) (draws : List ℕ) (e : Expr) → is_plain_expr (rewritten_expr moment draws e) ≡ true
 plain_expr moment draws (One t) = plain_term moment draws t
-plain_expr moment draws (Plus l r) = both_true (plain_term moment (front (term_bounds l) draws) l) (plain_term moment (behind (term_bounds l) draws) r)
-plain_expr moment draws (Minus l r) = both_true (plain_term moment (front (term_bounds l) draws) l) (plain_term moment (behind (term_bounds l) draws) r)
+plain_expr moment draws (Plus l r) = both_true (plain_term moment (draws_for (term_bounds l) draws) l) (plain_term moment (draws_behind (term_bounds l) draws) r)
+plain_expr moment draws (Minus l r) = both_true (plain_term moment (draws_for (term_bounds l) draws) l) (plain_term moment (draws_behind (term_bounds l) draws) r)
 
 plain_condition : (moment : ℤ) (draws : List ℕ) (c : Condition) → is_plain_condition (rewritten_condition moment draws c) ≡ true
-plain_condition moment draws (Test cmp l r) = both_true (plain_term moment (front (term_bounds l) draws) l) (plain_term moment (behind (term_bounds l) draws) r)
+plain_condition moment draws (Test cmp l r) = both_true (plain_term moment (draws_for (term_bounds l) draws) l) (plain_term moment (draws_behind (term_bounds l) draws) r)
 plain_condition moment draws (Not c) = plain_condition moment draws c
-plain_condition moment draws (And c d) = both_true (plain_condition moment (front (condition_bounds c) draws) c) (plain_condition moment (behind (condition_bounds c) draws) d)
-plain_condition moment draws (Or c d) = both_true (plain_condition moment (front (condition_bounds c) draws) c) (plain_condition moment (behind (condition_bounds c) draws) d)
+plain_condition moment draws (And c d) = both_true (plain_condition moment (draws_for (condition_bounds c) draws) c) (plain_condition moment (draws_behind (condition_bounds c) draws) d)
+plain_condition moment draws (Or c d) = both_true (plain_condition moment (draws_for (condition_bounds c) draws) c) (plain_condition moment (draws_behind (condition_bounds c) draws) d)
 
 plain_where : (moment : ℤ) (draws : List ℕ) (o : Option Condition) → is_plain_where (rewritten_where moment draws o) ≡ true
 plain_where moment draws None = refl
@@ -40,7 +40,7 @@ plain_where moment draws (Some c) = plain_condition moment draws c
 each_passes : {A : Type 0} (test : A → Bool) (bounds_of : A → List ℕ) (item : List ℕ → A → A) → ((draws : List ℕ) (x : A) → test (item draws x) ≡ true)
     → (draws : List ℕ) (xs : List A) → list_all test (each_rewritten bounds_of item draws xs) ≡ true
 each_passes test bounds_of item k draws [] = refl
-each_passes test bounds_of item k draws (x ∷ xs) = both_true (k (front (bounds_of x) draws) x) (each_passes test bounds_of item k (behind (bounds_of x) draws) xs)
+each_passes test bounds_of item k draws (x ∷ xs) = both_true (k (draws_for (bounds_of x) draws) x) (each_passes test bounds_of item k (draws_behind (bounds_of x) draws) xs)
 
 plain_tuple : (moment : ℤ) (draws : List ℕ) (row : List Term) → list_all is_plain_term (rewritten_tuple moment draws row) ≡ true
 plain_tuple moment draws row = each_passes is_plain_term term_bounds (rewritten_term moment) (plain_term moment) draws row
@@ -52,8 +52,8 @@ plain_write : (moment : ℤ) (draws : List ℕ) (w : Write) → is_plain_write (
 plain_write moment draws (write.Insert table columns rows) = each_passes (λ (row : List Term). list_all is_plain_term row) tuple_bounds (rewritten_tuple moment) (plain_tuple moment) draws rows
 plain_write moment draws (write.Update table sets when) =
     both_true
-    (each_passes (λ (s : Set). is_plain_expr s.value) set_bounds (rewritten_set moment) (plain_set moment) (front (flat_map set_bounds sets) draws) sets)
-    (plain_where moment (behind (flat_map set_bounds sets) draws) when)
+    (each_passes (λ (s : Set). is_plain_expr s.value) set_bounds (rewritten_set moment) (plain_set moment) (draws_for (flat_map set_bounds sets) draws) sets)
+    (plain_where moment (draws_behind (flat_map set_bounds sets) draws) when)
 plain_write moment draws (write.Delete table when) = plain_where moment draws when
 
 pub rewritten_is_plain : (moment : ℤ) (draws : List ℕ) (r : Request) → is_plain (rewritten moment draws r) ≡ true

@@ -3,13 +3,13 @@ use Rattle.std.proofs.Common.{◌≡◌, ◌∙◌, refl, sym, ap, subst, ℕ, �
 use Rattle.std.specs.List.{All}
 use Rattle.std.proofs.lemmas.List.Elements.{All-nil, All-append}
 use Rattle.cj_model.specs.declared.value.Value.TheVariants as value
-use Rattle.cj_model.specs.Conditions.{Condition, Test, Not, And, Or}
-use Rattle.cj_model.specs.Literals.{IsConstant}
-use Rattle.cj_model.specs.TermForms.{TermFits}
-use Rattle.cj_model.specs.ConditionForms as c
-use Rattle.cj_model.specs.ConditionForms.{CondForm, OrsForm, ConjForm, AndsForm, PrimForm, cond_meant, comparisons, CondNests, OrsNest, ConjNests, AndsNest, PrimNests, CondFits}
-use Rattle.cj_model.specs.Grammar.{where_meant, WhereFits}
-use Rattle.cj_model.specs.Macros.{term_bounds, condition_bounds, where_bounds, IsDrawable, front, behind, rewritten_condition, rewritten_where}
+use Rattle.cj_model.specs.Database.Conditions.{Condition, Test, Not, And, Or}
+use Rattle.cj_model.specs.Sql.Literals.{IsConstant}
+use Rattle.cj_model.specs.Sql.TermForms.{TermFits}
+use Rattle.cj_model.specs.Sql.ConditionForms as c
+use Rattle.cj_model.specs.Sql.ConditionForms.{CondForm, OrsForm, ConjForm, AndsForm, PrimForm, cond_meant, comparisons, CondNests, OrsNest, ConjNests, AndsNest, PrimNests, CondFits}
+use Rattle.cj_model.specs.Sql.Grammar.{where_meant, WhereFits}
+use Rattle.cj_model.specs.Sql.Macros.{term_bounds, condition_bounds, where_bounds, IsDrawable, draws_for, draws_behind, rewritten_condition, rewritten_where}
 use Rattle.cj_model.proofs.Spellable.{FineCond, FineWhere}
 use Rattle.cj_print.proofs.Forms.{term_form, or_end, and_end, or_also, and_also, Forms, of_prim, of_conj, of_cond, forms, where_form}
 use Rattle.cj_print.proofs.FewestParentheses.{Meant, forms_mean, or_also_fits, and_also_fits}
@@ -80,34 +80,34 @@ module _ (moment : ℤ) (in_range : IsConstant (value.Int moment)) where
       prim_no_deeper _ _
       (λ d h. let parts = test_parts op (term_form a) (term_form b) d h in
       test_whole op _ _ d (
-        term_fits moment in_range (front (term_bounds a) draws) a (front_small (term_bounds a) draws small) parts.0,
-        term_fits moment in_range (behind (term_bounds a) draws) b (behind_small (term_bounds a) draws small) parts.1,
+        term_fits moment in_range (draws_for (term_bounds a) draws) a (front_small (term_bounds a) draws small) parts.0,
+        term_fits moment in_range (draws_behind (term_bounds a) draws) b (behind_small (term_bounds a) draws small) parts.1,
       ))
   forms_no_deeper draws (Not x) small = prim_no_deeper _ _ (not_deeper (forms x).tight _ (forms_no_deeper draws x small).tight)
   forms_no_deeper draws (And x y) small =
-      let left = forms_no_deeper (front (condition_bounds x) draws) x (front_small (condition_bounds x) draws small) in
-      let right = forms_no_deeper (behind (condition_bounds x) draws) y (behind_small (condition_bounds x) draws small) in
+      let left = forms_no_deeper (draws_for (condition_bounds x) draws) x (front_small (condition_bounds x) draws small) in
+      let right = forms_no_deeper (draws_behind (condition_bounds x) draws) y (behind_small (condition_bounds x) draws small) in
       conj_no_deeper _ _ (λ d h. let parts = and_also_parts (forms x).joined (forms y).tight d h in and_also_fits _ _ d (left.joined d parts.0) (right.tight d parts.1))
   forms_no_deeper draws (Or x y) small =
-      let left = forms_no_deeper (front (condition_bounds x) draws) x (front_small (condition_bounds x) draws small) in
-      let right = forms_no_deeper (behind (condition_bounds x) draws) y (behind_small (condition_bounds x) draws small) in
+      let left = forms_no_deeper (draws_for (condition_bounds x) draws) x (front_small (condition_bounds x) draws small) in
+      let right = forms_no_deeper (draws_behind (condition_bounds x) draws) y (behind_small (condition_bounds x) draws small) in
       cond_no_deeper _ _ (λ d h. let parts = or_also_parts (forms x).alone (forms y).joined d h in or_also_fits _ _ d (left.alone d parts.0) (right.joined d parts.1))
 
   -- ---- spelling
 
   cond_fine : (draws : List ℕ) (x : Condition) → All IsSmall draws → FineCond x → FineCond (rewritten_condition moment draws x)
   cond_fine draws (Test op a b) small h = (
-    term_fine moment in_range (front (term_bounds a) draws) a (front_small (term_bounds a) draws small) h.0,
-    term_fine moment in_range (behind (term_bounds a) draws) b (behind_small (term_bounds a) draws small) h.1,
+    term_fine moment in_range (draws_for (term_bounds a) draws) a (front_small (term_bounds a) draws small) h.0,
+    term_fine moment in_range (draws_behind (term_bounds a) draws) b (behind_small (term_bounds a) draws small) h.1,
   )
   cond_fine draws (Not x) small h = cond_fine draws x small h
   cond_fine draws (And x y) small h = (
-    cond_fine (front (condition_bounds x) draws) x (front_small (condition_bounds x) draws small) h.0,
-    cond_fine (behind (condition_bounds x) draws) y (behind_small (condition_bounds x) draws small) h.1,
+    cond_fine (draws_for (condition_bounds x) draws) x (front_small (condition_bounds x) draws small) h.0,
+    cond_fine (draws_behind (condition_bounds x) draws) y (behind_small (condition_bounds x) draws small) h.1,
   )
   cond_fine draws (Or x y) small h = (
-    cond_fine (front (condition_bounds x) draws) x (front_small (condition_bounds x) draws small) h.0,
-    cond_fine (behind (condition_bounds x) draws) y (behind_small (condition_bounds x) draws small) h.1,
+    cond_fine (draws_for (condition_bounds x) draws) x (front_small (condition_bounds x) draws small) h.0,
+    cond_fine (draws_behind (condition_bounds x) draws) y (behind_small (condition_bounds x) draws small) h.1,
   )
 
   pub where_fine : (draws : List ℕ) (o : Option Condition) → All IsSmall draws → FineWhere o → FineWhere (rewritten_where moment draws o)
@@ -117,10 +117,10 @@ module _ (moment : ℤ) (in_range : IsConstant (value.Int moment)) where
 -- ---- meaning
 
 rewritten_meant : (moment : ℤ) (draws : List ℕ) (x : Condition) → Meant (rewritten_condition moment draws x)
-rewritten_meant moment draws (Test op a b) = (term_means moment (front (term_bounds a) draws) a, term_means moment (behind (term_bounds a) draws) b)
+rewritten_meant moment draws (Test op a b) = (term_means moment (draws_for (term_bounds a) draws) a, term_means moment (draws_behind (term_bounds a) draws) b)
 rewritten_meant moment draws (Not x) = rewritten_meant moment draws x
-rewritten_meant moment draws (And x y) = (rewritten_meant moment (front (condition_bounds x) draws) x, rewritten_meant moment (behind (condition_bounds x) draws) y)
-rewritten_meant moment draws (Or x y) = (rewritten_meant moment (front (condition_bounds x) draws) x, rewritten_meant moment (behind (condition_bounds x) draws) y)
+rewritten_meant moment draws (And x y) = (rewritten_meant moment (draws_for (condition_bounds x) draws) x, rewritten_meant moment (draws_behind (condition_bounds x) draws) y)
+rewritten_meant moment draws (Or x y) = (rewritten_meant moment (draws_for (condition_bounds x) draws) x, rewritten_meant moment (draws_behind (condition_bounds x) draws) y)
 
 rewritten_means : (moment : ℤ) (draws : List ℕ) (x : Condition) → cond_meant (forms (rewritten_condition moment draws x)).alone ≡ rewritten_condition moment draws x
 rewritten_means moment draws x = (forms_mean (rewritten_condition moment draws x) (rewritten_meant moment draws x)).alone
@@ -141,8 +141,8 @@ fine_meant (Or x y) h = (fine_meant x h.0, fine_meant y h.1)
 same_count : (moment : ℤ) (draws : List ℕ) (x : Condition) → comparisons (rewritten_condition moment draws x) ≡ comparisons x
 same_count moment draws (Test op a b) = refl
 same_count moment draws (Not x) = same_count moment draws x
-same_count moment draws (And x y) = rw (same_count moment (front (condition_bounds x) draws) x, same_count moment (behind (condition_bounds x) draws) y) refl
-same_count moment draws (Or x y) = rw (same_count moment (front (condition_bounds x) draws) x, same_count moment (behind (condition_bounds x) draws) y) refl
+same_count moment draws (And x y) = rw (same_count moment (draws_for (condition_bounds x) draws) x, same_count moment (draws_behind (condition_bounds x) draws) y) refl
+same_count moment draws (Or x y) = rw (same_count moment (draws_for (condition_bounds x) draws) x, same_count moment (draws_behind (condition_bounds x) draws) y) refl
 
 pub where_fits : (moment : ℤ) → IsConstant (value.Int moment) → (draws : List ℕ) (o : Option Condition) → All IsSmall draws → FineWhere o → WhereFits (where_form o) → WhereFits (where_form (rewritten_where moment draws o))
 where_fits moment in_range draws None small fine h = tt

@@ -9,9 +9,9 @@ use Rattle.cj_model.specs.declared.term.Term.{Term}
 use Rattle.cj_model.specs.declared.term.Term.TheVariants.{Lit, Col, Now, Rand}
 use Rattle.cj_model.specs.declared.term.Expr.{Expr}
 use Rattle.cj_model.specs.declared.term.Expr.TheVariants.{One, Plus, Minus}
-use Rattle.cj_model.specs.Literals.{form_of, IsConstant}
-use Rattle.cj_model.specs.TermForms.{const_meant, term_meant, expr_meant, ConstFits, TermFits, ExprFits}
-use Rattle.cj_model.specs.Macros.{term_bounds, expr_bounds, IsDrawable, front, behind, first, rewritten_term, rewritten_expr}
+use Rattle.cj_model.specs.Sql.Literals.{form_of, IsConstant}
+use Rattle.cj_model.specs.Sql.TermForms.{const_meant, term_meant, expr_meant, ConstFits, TermFits, ExprFits}
+use Rattle.cj_model.specs.Sql.Macros.{term_bounds, expr_bounds, IsDrawable, draws_for, draws_behind, first_draw, rewritten_term, rewritten_expr}
 use Rattle.cj_model.proofs.Spellable.{FineTerm, FineConst, IsConst, FineExpr}
 use Rattle.cj_print.proofs.Forms.{const_form, term_form, expr_form}
 use Rattle.cj_print.proofs.ReadBack.{literals_read_back}
@@ -23,14 +23,14 @@ use Rattle.cj_print.proofs.StoredWritten.{literal_fine}
 abbrev pub IsSmall : ℕ → Type 0
 IsSmall n = n < 2 ^ 63
 
-pub first_small : (draws : List ℕ) → All IsSmall draws → IsSmall (first draws)
+pub first_small : (draws : List ℕ) → All IsSmall draws → IsSmall (first_draw draws)
 first_small [] h = omega arith
 first_small (d ∷ ds) h = All-head IsSmall d ds h
 
-pub front_small : (bounds draws : List ℕ) → All IsSmall draws → All IsSmall (front bounds draws)
+pub front_small : (bounds draws : List ℕ) → All IsSmall draws → All IsSmall (draws_for bounds draws)
 front_small bounds draws h = All-take IsSmall _ draws h
 
-pub behind_small : (bounds draws : List ℕ) → All IsSmall draws → All IsSmall (behind bounds draws)
+pub behind_small : (bounds draws : List ℕ) → All IsSmall draws → All IsSmall (draws_behind bounds draws)
 behind_small bounds draws h = All-drop IsSmall _ draws h
 
 -- a number of 64 bits with a sign is one that a literal can hold
@@ -61,8 +61,8 @@ const_means moment draws (Rand n) h = refl
 
 pub expr_means : (moment : ℤ) (draws : List ℕ) (e : Expr) → expr_meant (expr_form (rewritten_expr moment draws e)) ≡ rewritten_expr moment draws e
 expr_means moment draws (One a) = let e = term_means moment draws a in cc
-expr_means moment draws (Plus a b) = let e = term_means moment (front (term_bounds a) draws) a in let f = term_means moment (behind (term_bounds a) draws) b in cc
-expr_means moment draws (Minus a b) = let e = term_means moment (front (term_bounds a) draws) a in let f = term_means moment (behind (term_bounds a) draws) b in cc
+expr_means moment draws (Plus a b) = let e = term_means moment (draws_for (term_bounds a) draws) a in let f = term_means moment (draws_behind (term_bounds a) draws) b in cc
+expr_means moment draws (Minus a b) = let e = term_means moment (draws_for (term_bounds a) draws) a in let f = term_means moment (draws_behind (term_bounds a) draws) b in cc
 
 -- so is a term that can be spelled
 pub fine_term_means : (t : Term) → FineTerm t → term_meant (term_form t) ≡ t
@@ -97,20 +97,20 @@ module _ (moment : ℤ) (in_range : IsConstant (value.Int moment)) where
   term_fine draws (Lit v) small h = h
   term_fine draws (Col x) small h = h
   term_fine draws Now small h = literal_fine (value.Int moment) in_range
-  term_fine draws (Rand n) small h = literal_fine (value.Int (pos (first draws))) (first_small draws small)
+  term_fine draws (Rand n) small h = literal_fine (value.Int (pos (first_draw draws))) (first_small draws small)
 
   pub const_fine : (draws : List ℕ) (t : Term) → All IsSmall draws → FineConst t → FineConst (rewritten_term moment draws t)
   const_fine draws (Lit v) small h = h
   const_fine draws (Col x) small h = h
   const_fine draws Now small h = (tt, literal_fine (value.Int moment) in_range)
-  const_fine draws (Rand n) small h = (tt, literal_fine (value.Int (pos (first draws))) (first_small draws small))
+  const_fine draws (Rand n) small h = (tt, literal_fine (value.Int (pos (first_draw draws))) (first_small draws small))
 
   pub expr_fine : (draws : List ℕ) (e : Expr) → All IsSmall draws → FineExpr e → FineExpr (rewritten_expr moment draws e)
   expr_fine draws (One a) small h = term_fine draws a small h
   expr_fine draws (Plus a b) small h =
-      (term_fine (front (term_bounds a) draws) a (front_small (term_bounds a) draws small) h.0, term_fine (behind (term_bounds a) draws) b (behind_small (term_bounds a) draws small) h.1)
+      (term_fine (draws_for (term_bounds a) draws) a (front_small (term_bounds a) draws small) h.0, term_fine (draws_behind (term_bounds a) draws) b (behind_small (term_bounds a) draws small) h.1)
   expr_fine draws (Minus a b) small h =
-      (term_fine (front (term_bounds a) draws) a (front_small (term_bounds a) draws small) h.0, term_fine (behind (term_bounds a) draws) b (behind_small (term_bounds a) draws small) h.1)
+      (term_fine (draws_for (term_bounds a) draws) a (front_small (term_bounds a) draws small) h.0, term_fine (draws_behind (term_bounds a) draws) b (behind_small (term_bounds a) draws small) h.1)
 
   pub term_fits : (draws : List ℕ) (t : Term) → All IsSmall draws → TermFits (term_form t) → TermFits (term_form (rewritten_term moment draws t))
   term_fits draws (Lit v) small h = h
@@ -127,6 +127,6 @@ module _ (moment : ℤ) (in_range : IsConstant (value.Int moment)) where
   pub expr_fits : (draws : List ℕ) (e : Expr) → All IsSmall draws → ExprFits (expr_form e) → ExprFits (expr_form (rewritten_expr moment draws e))
   expr_fits draws (One a) small h = term_fits draws a small h
   expr_fits draws (Plus a b) small h =
-      (term_fits (front (term_bounds a) draws) a (front_small (term_bounds a) draws small) h.0, term_fits (behind (term_bounds a) draws) b (behind_small (term_bounds a) draws small) h.1)
+      (term_fits (draws_for (term_bounds a) draws) a (front_small (term_bounds a) draws small) h.0, term_fits (draws_behind (term_bounds a) draws) b (behind_small (term_bounds a) draws small) h.1)
   expr_fits draws (Minus a b) small h =
-      (term_fits (front (term_bounds a) draws) a (front_small (term_bounds a) draws small) h.0, term_fits (behind (term_bounds a) draws) b (behind_small (term_bounds a) draws small) h.1)
+      (term_fits (draws_for (term_bounds a) draws) a (front_small (term_bounds a) draws small) h.0, term_fits (draws_behind (term_bounds a) draws) b (behind_small (term_bounds a) draws small) h.1)

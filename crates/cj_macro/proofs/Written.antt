@@ -13,13 +13,13 @@ use Rattle.cj_model.specs.declared.write.Write.{Write}
 use Rattle.cj_model.specs.declared.write.Write.TheVariants as write
 use Rattle.cj_model.specs.declared.request.Request.{Request}
 use Rattle.cj_model.specs.declared.request.Request.TheVariants as request
-use Rattle.cj_model.specs.Conditions.{Condition}
-use Rattle.cj_model.specs.Literals.{IsConstant}
-use Rattle.cj_model.specs.TermForms.{EachFits, SomeFit, const_meant, ConstFits}
-use Rattle.cj_model.specs.Grammar as g
-use Rattle.cj_model.specs.Grammar.{set_meant, select_meant, statement_meant, SetFits, StatementFits, TextReads}
-use Rattle.cj_model.specs.Legality.{IsWritten}
-use Rattle.cj_model.specs.Macros.{term_bounds, tuple_bounds, set_bounds, where_bounds, write_bounds, IsDrawable, RandsAreDrawable, front, behind, rewritten_term, each_rewritten, rewritten_tuple, rewritten_set, rewritten_write, rewritten_select, rewritten}
+use Rattle.cj_model.specs.Database.Conditions.{Condition}
+use Rattle.cj_model.specs.Sql.Literals.{IsConstant}
+use Rattle.cj_model.specs.Sql.TermForms.{EachFits, SomeFit, const_meant, ConstFits}
+use Rattle.cj_model.specs.Sql.Grammar as g
+use Rattle.cj_model.specs.Sql.Grammar.{set_meant, select_meant, statement_meant, SetFits, StatementFits, TextReadsAs}
+use Rattle.cj_model.specs.Cluster.Legality.{IsWritten}
+use Rattle.cj_model.specs.Sql.Macros.{term_bounds, tuple_bounds, set_bounds, where_bounds, write_bounds, IsDrawable, RandsAreDrawable, draws_for, draws_behind, rewritten_term, each_rewritten, rewritten_tuple, rewritten_set, rewritten_write, rewritten_select, rewritten}
 use Rattle.cj_model.proofs.Spellable.{FineConst, FineSet, FineWrite, FineRequest, request_fine}
 use Rattle.cj_print.proofs.Forms.{const_form, set_form, direction_form, key_form, select_form, form}
 use Rattle.cj_print.proofs.CanonicalForm.{form_fits}
@@ -36,12 +36,12 @@ module _ {A : Type 0} (bounds_of : A → List ℕ) (item : List ℕ → A → A)
       → (draws : List ℕ) (xs : List A) → All IsSmall draws → EachFits P xs → EachFits P (each_rewritten bounds_of item draws xs)
   each_holds P k draws [] small h = tt
   each_holds P k draws (x ∷ xs) small h =
-      (k (front (bounds_of x) draws) x (front_small (bounds_of x) draws small) h.0, each_holds P k (behind (bounds_of x) draws) xs (behind_small (bounds_of x) draws small) h.1)
+      (k (draws_for (bounds_of x) draws) x (front_small (bounds_of x) draws small) h.0, each_holds P k (draws_behind (bounds_of x) draws) xs (behind_small (bounds_of x) draws small) h.1)
 
   -- there are as many
   length_rewritten : (draws : List ℕ) (xs : List A) → length (each_rewritten bounds_of item draws xs) ≡ length xs
   length_rewritten draws [] = refl
-  length_rewritten draws (x ∷ xs) = ap (λ n. suc n) (length_rewritten (behind (bounds_of x) draws) xs)
+  length_rewritten draws (x ∷ xs) = ap (λ n. suc n) (length_rewritten (draws_behind (bounds_of x) draws) xs)
 
   module _ {F : Type 0} (form_of : A → F) where
     -- the same of their forms
@@ -49,7 +49,7 @@ module _ {A : Type 0} (bounds_of : A → List ℕ) (item : List ℕ → A → A)
         → (draws : List ℕ) (xs : List A) → All IsSmall draws → EachFits P (map form_of xs) → EachFits P (map form_of (each_rewritten bounds_of item draws xs))
     each_fits P k draws [] small h = tt
     each_fits P k draws (x ∷ xs) small h =
-        (k (front (bounds_of x) draws) x (front_small (bounds_of x) draws small) h.0, each_fits P k (behind (bounds_of x) draws) xs (behind_small (bounds_of x) draws small) h.1)
+        (k (draws_for (bounds_of x) draws) x (front_small (bounds_of x) draws small) h.0, each_fits P k (draws_behind (bounds_of x) draws) xs (behind_small (bounds_of x) draws small) h.1)
 
     some_fit : (P : F → Type 0) → ((draws : List ℕ) (x : A) → All IsSmall draws → P (form_of x) → P (form_of (item draws x)))
         → (limit : ℕ) (draws : List ℕ) (xs : List A) → All IsSmall draws → SomeFit P limit (map form_of xs) → SomeFit P limit (map form_of (each_rewritten bounds_of item draws xs))
@@ -64,7 +64,7 @@ module _ {A : Type 0} (bounds_of : A → List ℕ) (item : List ℕ → A → A)
         → (draws : List ℕ) (xs : List A) → EachFits Q xs → map meant (map form_of (each_rewritten bounds_of item draws xs)) ≡ each_rewritten bounds_of item draws xs
     each_means meant Q k draws [] h = refl
     each_means meant Q k draws (x ∷ xs) h =
-        ap₂ (λ y ys. y ∷ ys) (k (front (bounds_of x) draws) x h.0) (each_means meant Q k (behind (bounds_of x) draws) xs h.1)
+        ap₂ (λ y ys. y ∷ ys) (k (draws_for (bounds_of x) draws) x h.0) (each_means meant Q k (draws_behind (bounds_of x) draws) xs h.1)
 
     -- the items' RANDs are drawable, where those of each item that fits are
     each_drawable : (P : F → Type 0) (Q : A → Type 0) → ((x : A) → Q x → P (form_of x) → All IsDrawable (bounds_of x))
@@ -107,8 +107,8 @@ write_means moment draws (write.Insert n names rows) fine =
 write_means moment draws (write.Update n sets o) fine =
     let own = flat_map set_bounds sets in
     ap₂ (λ xs p. request.Write (write.Update n xs p))
-    (each_means set_bounds (rewritten_set moment) set_form set_meant FineSet (λ ds s h. set_means moment ds s) (front own draws) sets fine.1)
-    (where_means moment (behind own draws) o)
+    (each_means set_bounds (rewritten_set moment) set_form set_meant FineSet (λ ds s h. set_means moment ds s) (draws_for own draws) sets fine.1)
+    (where_means moment (draws_behind own draws) o)
 write_means moment draws (write.Delete n o) fine = ap (λ p. request.Write (write.Delete n p)) (where_means moment draws o)
 
 -- a key is what its form means
@@ -142,7 +142,7 @@ module _ (moment : ℤ) (in_range : IsConstant (value.Int moment)) where
   write_fine draws (write.Insert n names rows) small h = (h.0, h.1, each_holds tuple_bounds (rewritten_tuple moment) (EachFits FineConst) (tuple_fine moment in_range) draws rows small h.2)
   write_fine draws (write.Update n sets o) small h =
       let own = flat_map set_bounds sets in
-      (h.0, each_holds set_bounds (rewritten_set moment) FineSet (set_fine moment in_range) (front own draws) sets (front_small own draws small) h.1, where_fine moment in_range (behind own draws) o (behind_small own draws small) h.2)
+      (h.0, each_holds set_bounds (rewritten_set moment) FineSet (set_fine moment in_range) (draws_for own draws) sets (front_small own draws small) h.1, where_fine moment in_range (draws_behind own draws) o (behind_small own draws small) h.2)
   write_fine draws (write.Delete n o) small h = (h.0, where_fine moment in_range draws o small h.1)
 
   -- the rewritten request can be spelled
@@ -161,8 +161,8 @@ module _ (moment : ℤ) (in_range : IsConstant (value.Int moment)) where
       (h.0, some_fit tuple_bounds (rewritten_tuple moment) (map const_form) (SomeFit ConstFits 16) (tuple_fits moment in_range) 4096 draws rows small h.1)
   write_fits draws (write.Update n sets o) small spelled h =
       let own = flat_map set_bounds sets in (
-        some_fit set_bounds (rewritten_set moment) set_form SetFits (set_fits moment in_range) 16 (front own draws) sets (front_small own draws small) h.0,
-        where_fits moment in_range (behind own draws) o (behind_small own draws small) spelled.2 h.1,
+        some_fit set_bounds (rewritten_set moment) set_form SetFits (set_fits moment in_range) 16 (draws_for own draws) sets (front_small own draws small) h.0,
+        where_fits moment in_range (draws_behind own draws) o (behind_small own draws small) spelled.2 h.1,
       )
   write_fits draws (write.Delete n o) small spelled h = where_fits moment in_range draws o small spelled.1 h
 
@@ -188,11 +188,11 @@ module _ (moment : ℤ) (in_range : IsConstant (value.Int moment)) where
 -- ---- texts
 
 -- the canonical form of what some text reads as fits
-text_fits : (text : List ℕ) (r : Request) → TextReads text r → StatementFits (form r)
+text_fits : (text : List ℕ) (r : Request) → TextReadsAs text r → StatementFits (form r)
 text_fits text r h = subst (λ x. StatementFits (form x)) (sym h.reads.meant) (form_fits h.reads.statement h.reads.fits)
 
 -- what some text reads as, some text reads as with values in place of its calls
-pub rewritten_is_written : (moment : ℤ) (draws : List ℕ) → IsConstant (value.Int moment) → All IsSmall draws → (text : List ℕ) (r : Request) → TextReads text r → IsWritten (rewritten moment draws r)
+pub rewritten_is_written : (moment : ℤ) (draws : List ℕ) → IsConstant (value.Int moment) → All IsSmall draws → (text : List ℕ) (r : Request) → TextReadsAs text r → IsWritten (rewritten moment draws r)
 rewritten_is_written moment draws in_range small text r h =
     let spelled = request_fine text r h in
     written_in_canonical
@@ -221,5 +221,5 @@ drawable request.Commit spelled h = All-nil IsDrawable
 drawable request.Rollback spelled h = All-nil IsDrawable
 
 -- what some text reads as has RANDs with numbers of at least 1
-pub text_is_drawable : (text : List ℕ) (r : Request) → TextReads text r → RandsAreDrawable r
+pub text_is_drawable : (text : List ℕ) (r : Request) → TextReadsAs text r → RandsAreDrawable r
 text_is_drawable text r h = drawable r (request_fine text r h) (text_fits text r h)

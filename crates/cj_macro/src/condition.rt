@@ -1,8 +1,8 @@
 //! Conditions.
 
 ghost use Rattle.std.specs.Prelude.{◌≡◌, true};
-ghost use Rattle.cj_model.specs.ConditionShape.{shape};
-ghost use Rattle.cj_model.specs.Macros.{condition_bounds, draws_from, rewritten_condition, rewritten_where, state_after, where_bounds};
+ghost use Rattle.cj_model.specs.Proving.ConditionNodes.{condition_of_node};
+ghost use Rattle.cj_model.specs.Sql.Macros.{condition_bounds, draws_from, rewritten_condition, rewritten_where, generator_after_draws, where_bounds};
 ghost use Rattle.cj_macro.specs.Drawable.{are_drawable};
 
 use crate::part::Part;
@@ -12,9 +12,9 @@ use cj_outside::Draw;
 /// Puts values in place of the calls in a condition's tree.
 #[tactic(auto, using(crate::proofs::Drawing::front_draws, crate::proofs::Drawing::behind_draws))]
 fn rewrite_node<D: Draw>(node: &mut CondNode, now: i64, draw: &mut D)
-    requires { are_drawable (condition_bounds (shape node.old)) ≡ true }
-    ensures rewritten { shape node.new ≡ rewritten_condition now (draws_from D.drawn D.later draw.old (condition_bounds (shape node.old))) (shape node.old) }
-    ensures draw { draw.new ≡ state_after D.later draw.old (condition_bounds (shape node.old)) }
+    requires { are_drawable (condition_bounds (condition_of_node node.old)) ≡ true }
+    ensures rewritten { condition_of_node node.new ≡ rewritten_condition now (draws_from D.drawn D.later draw.old (condition_bounds (condition_of_node node.old))) (condition_of_node node.old) }
+    ensures draw { draw.new ≡ generator_after_draws D.later draw.old (condition_bounds (condition_of_node node.old)) }
 {
     match node {
         CondNode::Test(_, left, right) => {

@@ -1,7 +1,7 @@
 //! Parts of a request.
 
 ghost use Rattle.std.specs.Prelude.{◌≡◌, ℕ, ℤ, List, flat_map, true};
-ghost use Rattle.cj_model.specs.Macros.{
+ghost use Rattle.cj_model.specs.Sql.Macros.{
   draws_from,
   each_rewritten,
   expr_bounds,
@@ -9,7 +9,7 @@ ghost use Rattle.cj_model.specs.Macros.{
   rewritten_set,
   rewritten_term,
   set_bounds,
-  state_after,
+  generator_after_draws,
   term_bounds,
 };
 ghost use Rattle.cj_macro.specs.Drawable.{are_drawable};
@@ -29,7 +29,7 @@ pub trait Part {
     fn rewrite<D: Draw>(&mut self, now: i64, draw: &mut D)
         requires { are_drawable (bounds self.old) ≡ true }
         ensures rewritten { self.new ≡ rewritten now (draws_from D.drawn D.later draw.old (bounds self.old)) self.old }
-        ensures draw { draw.new ≡ state_after D.later draw.old (bounds self.old) };
+        ensures draw { draw.new ≡ generator_after_draws D.later draw.old (bounds self.old) };
 }
 
 impl Part for Term {

@@ -1,18 +1,18 @@
 //! Statements.
 
 ghost use Rattle.std.specs.Prelude.{◌≡◌, ℕ, List, true};
-ghost use Rattle.cj_model.specs.Macros.{
+ghost use Rattle.cj_model.specs.Sql.Macros.{
   bounds,
   draws_from,
   rewritten,
   rewritten_write,
-  state_after,
+  generator_after_draws,
   write_bounds,
   RandsAreDrawable,
 };
-ghost use Rattle.cj_model.specs.Grammar.{TextReads};
-ghost use Rattle.cj_model.specs.Legality.{IsWritten};
-ghost use Rattle.cj_model.specs.Plain.{is_plain};
+ghost use Rattle.cj_model.specs.Sql.Grammar.{TextReadsAs};
+ghost use Rattle.cj_model.specs.Cluster.Legality.{IsWritten};
+ghost use Rattle.cj_model.specs.Sql.PlainRequests.{is_plain};
 
 use crate::part::Part;
 use cj_model::{Request, Write};
@@ -60,9 +60,9 @@ impl Part for Request {
 pub fn rewrite<D: Draw>(mut request: Request, now: i64, draw: &mut D) -> Request
     requires { RandsAreDrawable request }
     ensures rewritten { result ≡ rewritten now (draws_from D.drawn D.later draw.old (bounds request)) request }
-    ensures draw { draw.new ≡ state_after D.later draw.old (bounds request) }
+    ensures draw { draw.new ≡ generator_after_draws D.later draw.old (bounds request) }
     ensures plain { is_plain result ≡ true }
-    ensures written { (text : List ℕ) → TextReads text request → IsWritten result }
+    ensures written { (text : List ℕ) → TextReadsAs text request → IsWritten result }
 {
     request.rewrite(now, draw);
     request

@@ -6,7 +6,7 @@ use Rattle.std.specs.declared.result.Result.{Result}
 use Rattle.std.specs.declared.result.Result.TheVariants.{Ok, Err}
 use Rattle.cj_model.specs.declared.database.Slot.{Slot}
 use Rattle.cj_model.specs.declared.request.Act.{Act}
-use Rattle.cj_model.specs.Steps.{acted}
+use Rattle.cj_model.specs.Database.Steps.{acted}
 use Rattle.cj_backend.specs.declared.backend.BackendError.{BackendError}
 use Rattle.cj_backend.specs.declared.backend.BackendError.TheVariants.{Failed, NoMemory}
 use Rattle.cj_backend.specs.Backends.{Arming}
@@ -39,9 +39,9 @@ held_loaded held db (Ok x) = db
 held_loaded held db (Err e) = held
 
 -- what it holds, where this is known
-abbrev pub told_where : Bool → List Slot → Option (List Slot)
-told_where true db = Some db
-told_where false db = None
+abbrev pub told_where_known : Bool → List Slot → Option (List Slot)
+told_where_known true db = Some db
+told_where_known false db = None
 
 -- a call is entered under this login, or there is no memory for it
 abbrev pub Enters : MemoryState → List ℕ → Result Unit BackendError → MemoryState → Type 0

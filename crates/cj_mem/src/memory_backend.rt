@@ -1,8 +1,8 @@
 //! A database in memory as a backend.
 
 ghost use Rattle.std.specs.Prelude.{◌≡◌, ◌↔◌, ◌==◌, Some, None, IfOk, IsTrue, filter, not};
-ghost use Rattle.cj_model.specs.Storable.{writers};
-ghost use Rattle.cj_model.specs.Tables.{IsDatabase};
+ghost use Rattle.cj_model.specs.Database.Storable.{writers};
+ghost use Rattle.cj_model.specs.Database.Tables.{IsDatabase};
 
 use cj_backend::{Backend, BackendError, Counts};
 use cj_model::{Asked, Create, Db, Duplicate, Name, NoMemory, Outcome, Select, Text, Write};
@@ -27,12 +27,12 @@ pub struct MemBackend {
 }
 
 impl Model for MemBackend {
-    ghost use Rattle.cj_model.specs.Storable.{IsStorable};
-    ghost use Rattle.cj_mem.specs.MemoryBackends.{MemoryState, told_where};
+    ghost use Rattle.cj_model.specs.Database.Storable.{IsStorable};
+    ghost use Rattle.cj_mem.specs.MemoryBackends.{MemoryState, told_where_known};
 
     ghost Value = { MemoryState };
 
-    ghost view = { λ b. record { told = told_where b.known b.tables; held = b.tables; asks = b.asks; begun = b.begun.items; login = b.login } };
+    ghost view = { λ b. record { told = told_where_known b.known b.tables; held = b.tables; asks = b.asks; begun = b.begun.items; login = b.login } };
 
     ghost invariant = { λ b. IsStorable b.tables };
 }
@@ -128,11 +128,11 @@ impl Backend for MemBackend {
     ghost use Rattle.std.specs.Prelude.{true, false, Contains, IfSome};
     ghost use Rattle.cj_model.specs.declared.request.Act.TheVariants as act;
     ghost use Rattle.cj_model.specs.declared.request.Request.TheVariants as request;
-    ghost use Rattle.cj_model.specs.Legality.{IsWritten};
-    ghost use Rattle.cj_model.specs.Queries.{ask};
-    ghost use Rattle.cj_model.specs.Steps.{acted};
-    ghost use Rattle.cj_model.specs.Storable.{IsStorable};
-    ghost use Rattle.cj_model.specs.Outcomes.{IsOutcome, IsAsked};
+    ghost use Rattle.cj_model.specs.Cluster.Legality.{IsWritten};
+    ghost use Rattle.cj_model.specs.Database.Queries.{ask};
+    ghost use Rattle.cj_model.specs.Database.Steps.{acted};
+    ghost use Rattle.cj_model.specs.Database.Storable.{IsStorable};
+    ghost use Rattle.cj_model.specs.Database.Outcomes.{IsOutcome, IsAsked};
     ghost use Rattle.cj_backend.specs.Backends.{HasBackendCause, SaysOutcome, SaysAnswer, told_after, LogsIn, IsBegun, begun_with, begun_without, told_loaded, begun_loaded, asks_after, SpendsArming};
     ghost use Rattle.cj_mem.specs.MemoryBackends.{held_after, held_loaded, never_armed};
 

@@ -4,7 +4,7 @@ use Rattle.cj_model.specs.declared.select.Items.{Items}
 use Rattle.cj_model.specs.declared.select.Items.TheVariants.{All as Whole, Listed}
 use Rattle.cj_model.specs.declared.select.Select.{Select}
 use Rattle.cj_model.specs.declared.request.Request.TheVariants as request
-use Rattle.cj_model.specs.Grammar.{Statement, select, select_meant, statement_meant, StatementFits, ItemsFit, TextReads}
+use Rattle.cj_model.specs.Sql.Grammar.{Statement, select, select_meant, statement_meant, StatementFits, ItemsFit, TextReadsAs}
 use Rattle.cj_model.proofs.QueryLaws.{HasItems, IsAskable}
 
 items_of : (items : Items) → ItemsFit items → HasItems items
@@ -18,5 +18,5 @@ of_statement (select f) s fits e =
 of_statement _ s fits e = absurd (cc)
 
 -- it names tables, and items that are not too many
-pub read_askable : (text : List ℕ) (s : Select) → TextReads text (request.Select s) → IsAskable s
+pub read_askable : (text : List ℕ) (s : Select) → TextReadsAs text (request.Select s) → IsAskable s
 read_askable text s x = of_statement x.reads.statement s x.reads.fits x.reads.meant

@@ -7,8 +7,8 @@ use Rattle.std.proofs.lemmas.Nat.Bits.{bit_at_above}
 use Rattle.cj_model.specs.declared.policy.Policy.{Policy}
 use Rattle.cj_model.specs.declared.policy.Policy.TheVariants.{RoundRobin, Weighted, LeastPending}
 use Rattle.cj_model.specs.declared.limits.TheConstants.{BACKEND_LIMIT}
-use Rattle.cj_model.specs.Histories.{has}
-use Rattle.cj_model.specs.Balancing.{Standing, IsFirst, Picks, is_ahead, picked, steps_from, steps_to}
+use Rattle.cj_model.specs.Cluster.Histories.{in_mask}
+use Rattle.cj_model.specs.Cluster.Balancing.{Standing, IsFirst, Picks, is_ahead, picked, steps_from, steps_to}
 
 -- of two first candidates neither has the lower number
 none_lower : (ahead : ℕ → ℕ → Bool) (candidates b c : ℕ) → IsFirst ahead candidates b → IsFirst ahead candidates c → b < c → ⊥
@@ -53,21 +53,21 @@ steps_in_turn l b k small p q le = (
 )
 
 -- candidates below `BACKEND_LIMIT` have no other number
-pub candidates_below : (candidates k : ℕ) → candidates < 2 ^ BACKEND_LIMIT → has candidates k ≡ true → k < BACKEND_LIMIT
+pub candidates_below : (candidates k : ℕ) → candidates < 2 ^ BACKEND_LIMIT → in_mask candidates k ≡ true → k < BACKEND_LIMIT
 candidates_below candidates k fits here =
     ⊎_elim
     (λ (lt : k < BACKEND_LIMIT). lt)
-    (λ (le : BACKEND_LIMIT ≤ k). let none : has candidates k ≡ false = ap (λ n. n == 1) (bit_at_above candidates BACKEND_LIMIT k fits le) in absurd (both_ways (has candidates k) none here))
+    (λ (le : BACKEND_LIMIT ≤ k). let none : in_mask candidates k ≡ false = ap (λ n. n == 1) (bit_at_above candidates BACKEND_LIMIT k fits le) in absurd (both_ways (in_mask candidates k) none here))
     (cases_lt k BACKEND_LIMIT)
 
 -- the round robin goes on after the last picked: where a candidate is above that one, it picks the lowest such one, and else the lowest of all
-pub next_in_turn : (weights : List ℕ) (s after : Standing) (candidates l b k : ℕ) → s.last ≡ Some l → l < BACKEND_LIMIT → candidates < 2 ^ BACKEND_LIMIT → Picks RoundRobin weights s candidates b after → has candidates k ≡ true → (l < k → (l < b) × (b ≤ k)) × (b ≤ l → b ≤ k)
+pub next_in_turn : (weights : List ℕ) (s after : Standing) (candidates l b k : ℕ) → s.last ≡ Some l → l < BACKEND_LIMIT → candidates < 2 ^ BACKEND_LIMIT → Picks RoundRobin weights s candidates b after → in_mask candidates k ≡ true → (l < k → (l < b) × (b ≤ k)) × (b ≤ l → b ≤ k)
 next_in_turn weights s after candidates l b k e small fits p here =
     let le : steps_to s.last b ≤ steps_to s.last k = ltb-false (steps_to s.last k) (steps_to s.last b) (p.first.none_ahead k here) in
     steps_in_turn l b k small (candidates_below candidates b fits p.first.candidate) (candidates_below candidates k fits here) (rw e at le)
 
 -- and at first it picks the lowest of all
-pub lowest_at_first : (weights : List ℕ) (s after : Standing) (candidates b k : ℕ) → s.last ≡ None → Picks RoundRobin weights s candidates b after → has candidates k ≡ true → b ≤ k
+pub lowest_at_first : (weights : List ℕ) (s after : Standing) (candidates b k : ℕ) → s.last ≡ None → Picks RoundRobin weights s candidates b after → in_mask candidates k ≡ true → b ≤ k
 lowest_at_first weights s after candidates b k e p here =
     let le : steps_to s.last b ≤ steps_to s.last k = ltb-false (steps_to s.last k) (steps_to s.last b) (p.first.none_ahead k here) in
     rw e at le

@@ -11,11 +11,11 @@ use Rattle.cj_model.specs.declared.schema.Create.{Create}
 use Rattle.cj_model.specs.declared.request.Act.{Act}
 use Rattle.cj_model.specs.declared.request.Act.TheVariants as act
 use Rattle.cj_model.specs.declared.request.Entry.{Entry}
-use Rattle.cj_model.specs.Steps.{table_written}
-use Rattle.cj_model.specs.Histories.{tx_of}
-use Rattle.cj_model.specs.Legality.{IsFit, FitsTx, OfSession, OfAdministrator}
-use Rattle.cj_model.specs.Placements.{Placement, hosts, writes_at, wrote_at}
-use Rattle.cj_model.specs.Begun.{AreFit, is_begin, is_end, has_ended, firsts, is_transaction_write, writers_at, begun_at}
+use Rattle.cj_model.specs.Database.Steps.{table_written}
+use Rattle.cj_model.specs.Cluster.Histories.{tx_of}
+use Rattle.cj_model.specs.Cluster.Legality.{IsFitEntry, FitsTx, IsSessionEntry, IsAdministratorEntry}
+use Rattle.cj_model.specs.Cluster.Placements.{Placement, hosts, writes_at, wrote_at}
+use Rattle.cj_model.specs.Cluster.Transactions.{AreFit, is_begin, is_end, has_ended, without_repeats, is_transaction_write, writers_at, begun_at}
 use Rattle.cj_model.proofs.FilterLaws.{filter_stays, filter_goes, filter_twice}
 use Rattle.cj_model.proofs.TransactionLaws.{by_fit_entries, tx_of_begin, tx_of_begin_other, tx_of_end, tx_of_end_other, tx_of_else, tx_of_below}
 use Rattle.cj_model.proofs.DraftLaws.{begins_free, writes_within}
@@ -23,27 +23,27 @@ use Rattle.cj_model.proofs.DraftLaws.{begins_free, writes_within}
 -- ---- numbers, each once
 
 -- as many numbers, and the same ones
-pub firsts_have : (x : ℕ) (xs : List ℕ) → list_any (eqb x) (firsts xs) ≡ list_any (eqb x) xs
+pub firsts_have : (x : ℕ) (xs : List ℕ) → list_any (eqb x) (without_repeats xs) ≡ list_any (eqb x) xs
 firsts_have x [] = refl
 firsts_have x (y ∷ ys) =
-    ⊎_elim (λ (e : eqb x y ≡ true). ap (λ c. c || list_any (eqb x) (filter (λ z. not (y == z)) (firsts ys))) e ∙ sym (ap (λ c. c || list_any (eqb x) ys) e))
-    (λ (e : eqb x y ≡ false). ap (λ c. eqb x y || c) (any-filter_same (eqb x) (λ z. not (y == z)) true (apart e) (firsts ys) ∙ firsts_have x ys)) (cases_Bool (eqb x y))
+    ⊎_elim (λ (e : eqb x y ≡ true). ap (λ c. c || list_any (eqb x) (filter (λ z. not (y == z)) (without_repeats ys))) e ∙ sym (ap (λ c. c || list_any (eqb x) ys) e))
+    (λ (e : eqb x y ≡ false). ap (λ c. eqb x y || c) (any-filter_same (eqb x) (λ z. not (y == z)) true (apart e) (without_repeats ys) ∙ firsts_have x ys)) (cases_Bool (eqb x y))
   where
     apart : eqb x y ≡ false → (z : ℕ) → eqb x z ≡ true → not (y == z) ≡ true
     apart e z t = not_from_false (y == z) (ne_eqb y z (λ same. eqb-false x y e (eqb-true x z t ∙ sym same)))
 
 -- a number that is new comes last
-pub firsts_new : (x : ℕ) (xs : List ℕ) → list_any (eqb x) xs ≡ false → firsts (xs ++ x ∷ []) ≡ firsts xs ++ x ∷ []
+pub firsts_new : (x : ℕ) (xs : List ℕ) → list_any (eqb x) xs ≡ false → without_repeats (xs ++ x ∷ []) ≡ without_repeats xs ++ x ∷ []
 firsts_new x [] none = refl
 firsts_new x (y ∷ ys) none =
     let parts = or_parts (eqb x y) (list_any (eqb x) ys) none in
     let keep : ℕ → Bool = λ z. not (y == z) in
     let stays : keep x ≡ true = not_from_false (y == x) (ne_eqb y x (λ same. eqb-false x y parts.0 (sym same))) in
     ap (λ zs. y ∷ filter keep zs) (firsts_new x ys parts.1)
-    ∙ ap (λ zs. y ∷ zs) (filter-append keep (firsts ys) (x ∷ []) ∙ ap (λ zs. filter keep (firsts ys) ++ zs) (filter_stays keep x [] stays))
+    ∙ ap (λ zs. y ∷ zs) (filter-append keep (without_repeats ys) (x ∷ []) ∙ ap (λ zs. filter keep (without_repeats ys) ++ zs) (filter_stays keep x [] stays))
 
 -- one that is there adds nothing
-pub firsts_again : (x : ℕ) (xs : List ℕ) → list_any (eqb x) xs ≡ true → firsts (xs ++ x ∷ []) ≡ firsts xs
+pub firsts_again : (x : ℕ) (xs : List ℕ) → list_any (eqb x) xs ≡ true → without_repeats (xs ++ x ∷ []) ≡ without_repeats xs
 firsts_again x [] there = absurd (cc there)
 firsts_again x (y ∷ ys) there =
     let keep : ℕ → Bool = λ z. not (y == z) in
@@ -51,13 +51,13 @@ firsts_again x (y ∷ ys) there =
     (λ (f : list_any (eqb x) ys ≡ false). last f (⊎_elim (λ (e : eqb x y ≡ true). e) (λ (t : list_any (eqb x) ys ≡ true). absurd (both_ways (list_any (eqb x) ys) f t)) (or_cases (eqb x y) (list_any (eqb x) ys) there)))
     (cases_Bool (list_any (eqb x) ys))
   where
-    last : list_any (eqb x) ys ≡ false → eqb x y ≡ true → y ∷ filter (λ z. not (y == z)) (firsts (ys ++ x ∷ [])) ≡ y ∷ filter (λ z. not (y == z)) (firsts ys)
+    last : list_any (eqb x) ys ≡ false → eqb x y ≡ true → y ∷ filter (λ z. not (y == z)) (without_repeats (ys ++ x ∷ [])) ≡ y ∷ filter (λ z. not (y == z)) (without_repeats ys)
     last f e =
         let keep : ℕ → Bool = λ z. not (y == z) in
         let goes : keep x ≡ false = not_from_true (y == x) (eq-eqb y x (sym (eqb-true x y e))) in
         ap (λ zs. y ∷ filter keep zs) (firsts_new x ys f)
         ∙ ap (λ zs. y ∷ zs)
-        (filter-append keep (firsts ys) (x ∷ []) ∙ ap (λ zs. filter keep (firsts ys) ++ zs) (filter_goes keep x [] goes) ∙ append-nil (filter keep (firsts ys)))
+        (filter-append keep (without_repeats ys) (x ∷ []) ∙ ap (λ zs. filter keep (without_repeats ys) ++ zs) (filter_goes keep x [] goes) ∙ append-nil (filter keep (without_repeats ys)))
 
 -- a part of numbers that differ
 pub distinct_filter : (keep : ℕ → Bool) (xs : List ℕ) → IsDistinct eqb xs → IsDistinct eqb (filter keep xs)
@@ -71,20 +71,20 @@ distinct_filter keep (x ∷ xs) d =
     (λ (e : keep x ≡ false). subst (IsDistinct eqb) (sym (filter_goes keep x xs e)) (distinct_filter keep xs d.1)) (cases_Bool (keep x))
 
 -- none of them stands twice
-pub firsts_distinct : (xs : List ℕ) → IsDistinct eqb (firsts xs)
+pub firsts_distinct : (xs : List ℕ) → IsDistinct eqb (without_repeats xs)
 unfolding IsDistinct
 firsts_distinct [] = tt
 firsts_distinct (x ∷ xs) =
     let keep : ℕ → Bool = λ y. not (x == y) in (
-      recursion_from_All (λ y. eqb x y ≡ false) (filter keep (firsts xs)) (All-weaker (λ y. keep y ≡ true) (λ y. eqb x y ≡ false) (λ y t. not-true (x == y) t) (filter keep (firsts xs)) (filter_passes keep (firsts xs))),
-      distinct_filter keep (firsts xs) (firsts_distinct xs),
+      recursion_from_All (λ y. eqb x y ≡ false) (filter keep (without_repeats xs)) (All-weaker (λ y. keep y ≡ true) (λ y. eqb x y ≡ false) (λ y t. not-true (x == y) t) (filter keep (without_repeats xs)) (filter_passes keep (without_repeats xs))),
+      distinct_filter keep (without_repeats xs) (firsts_distinct xs),
     )
 
 -- what holds of all holds of each once
-firsts_all : (P : ℕ → Type 0) (xs : List ℕ) → All P xs → All P (firsts xs)
+firsts_all : (P : ℕ → Type 0) (xs : List ℕ) → All P xs → All P (without_repeats xs)
 firsts_all P [] all = All-nil P
 firsts_all P (x ∷ xs) all =
-    All-cons P x (filter (λ y. not (x == y)) (firsts xs)) (All-head P x xs all) (All-filter (λ y. not (x == y)) P (firsts xs) (firsts_all P xs (All-tail P x xs all)))
+    All-cons P x (filter (λ y. not (x == y)) (without_repeats xs)) (All-head P x xs all) (All-filter (λ y. not (x == y)) P (without_repeats xs) (firsts_all P xs (All-tail P x xs all)))
 
 -- ---- what one more entry is
 
@@ -112,8 +112,8 @@ ended_same t before e on =
 
 module _ (before : List Entry) (e : Entry) where
   -- what has ended had a number that came
-  end_within : IsFit before e → is_end e.act ≡ true → e.tx ≤ length before
-  end_within fit ends = ⊎_elim (λ (o : OfSession before e). own e.act refl ends o.tx) (λ (a : OfAdministrator before e). subst (λ n. n ≤ length before) a.is_open (tx_of_below before a.begin.session)) fit.by
+  end_within : IsFitEntry before e → is_end e.act ≡ true → e.tx ≤ length before
+  end_within fit ends = ⊎_elim (λ (o : IsSessionEntry before e). own e.act refl ends o.tx) (λ (a : IsAdministratorEntry before e). subst (λ n. n ≤ length before) a.is_open (tx_of_below before a.begin.session)) fit.by
     where
       own : (a : Act) → e.act ≡ a → is_end a ≡ true → FitsTx (tx_of before e.session) e.tx a → e.tx ≤ length before
       own act.Begin is on h = absurd (cc on)
@@ -143,7 +143,7 @@ open_not_ended =
     by_fit_entries (λ (l : List Entry). (s : ℕ) → tx_of l s ≢ 0 → has_ended (tx_of l s) l ≡ false) (λ s some. refl)
     (λ before e fits fit h s some. one before e fits fit h s some e.act refl)
   where
-    one : (before : List Entry) (e : Entry) → AreFit before → IsFit before e → ((s : ℕ) → tx_of before s ≢ 0 → has_ended (tx_of before s) before ≡ false)
+    one : (before : List Entry) (e : Entry) → AreFit before → IsFitEntry before e → ((s : ℕ) → tx_of before s ≢ 0 → has_ended (tx_of before s) before ≡ false)
         → (s : ℕ) → tx_of (before ++ e ∷ []) s ≢ 0 → (a : Act) → e.act ≡ a → has_ended (tx_of (before ++ e ∷ []) s) (before ++ e ∷ []) ≡ false
     one before e fits fit h s some a is = by_kind (cases_Bool (is_end e.act)) (cases_Bool (is_begin e.act))
       where
@@ -275,7 +275,7 @@ module _ (p : Placement) (b : ℕ) where
       ⊎_elim (λ (now : test e ≡ true). (e.session, writes before e t fit some e.act refl now)) (λ (none : false ≡ true). absurd (cc none)) (or_cases (test e) false new))
       (or_cases (wrote_at p b t before) (list_any test (e ∷ [])) (sym (list_any-append test before (e ∷ [])) ∙ wrote)))
     where
-      stays : (before : List Entry) (e : Entry) (t s : ℕ) → IsFit before e → t ≢ 0 → tx_of before s ≡ t → (e.tx == t && is_end e.act) ≡ false → (a : Act) → e.act ≡ a → tx_of (before ++ e ∷ []) s ≡ tx_of before s
+      stays : (before : List Entry) (e : Entry) (t s : ℕ) → IsFitEntry before e → t ≢ 0 → tx_of before s ≡ t → (e.tx == t && is_end e.act) ≡ false → (a : Act) → e.act ≡ a → tx_of (before ++ e ∷ []) s ≡ tx_of before s
       stays before e t s fit some is runs act.Begin k = tx_of_begin_other before e s k (λ same. some (sym is ∙ (ap (tx_of before) (sym same) ∙ begins_free before e fit k)))
       stays before e t s fit some is runs (act.Write w) k = tx_of_else before e s (ap is_begin k) (ap is_end k)
       stays before e t s fit some is runs (act.Create c) k = tx_of_else before e s (ap is_begin k) (ap is_end k)
@@ -285,7 +285,7 @@ module _ (p : Placement) (b : ℕ) where
       stays before e t s fit some is runs act.Abort k =
           tx_of_end_other before e s (ap is_end k) (λ same. both_ways (e.tx == t && is_end e.act) runs (and_from (e.tx == t) (is_end e.act) (eq-eqb e.tx t (same ∙ is)) (ap is_end k)))
 
-      writes : (before : List Entry) (e : Entry) (t : ℕ) → IsFit before e → t ≢ 0 → (a : Act) → e.act ≡ a → writes_at p b t e.tx a ≡ true → tx_of (before ++ e ∷ []) e.session ≡ t
+      writes : (before : List Entry) (e : Entry) (t : ℕ) → IsFitEntry before e → t ≢ 0 → (a : Act) → e.act ≡ a → writes_at p b t e.tx a ≡ true → tx_of (before ++ e ∷ []) e.session ≡ t
       writes before e t fit some act.Begin k now = absurd (cc now)
       writes before e t fit some (act.Write w) k now =
           let same : e.tx ≡ t = eqb-true e.tx t (and_parts (e.tx == t) (hosts p b (table_written w)) now).0 in
@@ -311,13 +311,13 @@ module _ (p : Placement) (b : ℕ) where
     -- an entry that writes nothing there in a transaction, and ends none, leaves them
     pub begun_kept : is_transaction_write p b e ≡ false → is_end e.act ≡ false → begun_at p b (before ++ e ∷ []) ≡ begun_at p b before
     begun_kept off on =
-        going_on (writers_at p b (before ++ e ∷ [])) on ∙ ap (λ ts. filter (λ t. not (has_ended t before)) (firsts ts)) (writes_same before e off)
+        going_on (writers_at p b (before ++ e ∷ [])) on ∙ ap (λ ts. filter (λ t. not (has_ended t before)) (without_repeats ts)) (writes_same before e off)
 
     -- a write there in a transaction that wrote there already leaves them
     pub begun_again : is_transaction_write p b e ≡ true → is_end e.act ≡ false → e.tx ≢ 0 → wrote_at p b e.tx before ≡ true → begun_at p b (before ++ e ∷ []) ≡ begun_at p b before
     begun_again is on some wrote =
         going_on (writers_at p b (before ++ e ∷ [])) on
-        ∙ ap (λ ts. filter (λ t. not (has_ended t before)) ts) (ap firsts (writes_more before e is) ∙ firsts_again e.tx (writes_of before) (writes_have e.tx some before ∙ wrote))
+        ∙ ap (λ ts. filter (λ t. not (has_ended t before)) ts) (ap without_repeats (writes_more before e is) ∙ firsts_again e.tx (writes_of before) (writes_have e.tx some before ∙ wrote))
 
     -- the first one adds its transaction at the end
     pub begun_first : is_transaction_write p b e ≡ true → is_end e.act ≡ false → e.tx ≢ 0 → wrote_at p b e.tx before ≡ false → has_ended e.tx before ≡ false
@@ -325,14 +325,14 @@ module _ (p : Placement) (b : ℕ) where
     begun_first is on some wrote runs =
         let test : ℕ → Bool = λ t. not (has_ended t before) in
         going_on (writers_at p b (before ++ e ∷ [])) on
-        ∙ ap (filter test) (ap firsts (writes_more before e is) ∙ firsts_new e.tx (writes_of before) (writes_have e.tx some before ∙ wrote))
+        ∙ ap (filter test) (ap without_repeats (writes_more before e is) ∙ firsts_new e.tx (writes_of before) (writes_have e.tx some before ∙ wrote))
         ∙ filter-append test (writers_at p b before) (e.tx ∷ [])
         ∙ ap (λ ts. begun_at p b before ++ ts) (filter_stays test e.tx [] (not_from_false (has_ended e.tx before) runs))
 
     -- COMMIT and ABORT take their transaction out
     pub begun_end : is_end e.act ≡ true → begun_at p b (before ++ e ∷ []) ≡ filter (λ t. not (e.tx == t)) (begun_at p b before)
     begun_end ends =
-        ap (λ ts. filter (λ t. not (has_ended t (before ++ e ∷ []))) (firsts ts)) (writes_same before e (no_write e.act ends))
+        ap (λ ts. filter (λ t. not (has_ended t (before ++ e ∷ []))) (without_repeats ts)) (writes_same before e (no_write e.act ends))
         ∙ filter_agree (λ t. not (has_ended t (before ++ e ∷ []))) (λ t. not (has_ended t before) && not (e.tx == t)) (λ t. ap not (ended-push t before e) ∙ both (has_ended t before) (e.tx == t) (is_end e.act) ends)
         (writers_at p b before)
         ∙ sym (filter_twice (λ t. not (e.tx == t)) (λ t. not (has_ended t before)) (writers_at p b before))
@@ -388,7 +388,7 @@ module _ (p : Placement) (b : ℕ) where
     begun_by_later_write w is some on wrote = begun_again (is_write w is some on) (ap is_end is) some wrote
 
     -- and else adds it at the end, where the entry is fit behind fit ones
-    pub begun_by_first_write : (w : Write) → e.act ≡ act.Write w → e.tx ≢ 0 → hosts p b (table_written w) ≡ true → wrote_at p b e.tx before ≡ false → AreFit before → IsFit before e
+    pub begun_by_first_write : (w : Write) → e.act ≡ act.Write w → e.tx ≢ 0 → hosts p b (table_written w) ≡ true → wrote_at p b e.tx before ≡ false → AreFit before → IsFitEntry before e
         → begun_at p b (before ++ e ∷ []) ≡ begun_at p b before ++ e.tx ∷ []
     begun_by_first_write w is some on wrote fits fit =
         let opened : tx_of before e.session ≡ e.tx = writes_within before e w fit is some in

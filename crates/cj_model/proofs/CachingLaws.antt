@@ -11,9 +11,9 @@ use Rattle.std.proofs.lemmas.Bool.{both_ways, cases_Bool}
 use Rattle.cj_model.specs.declared.answer.Answer.{Answer}
 use Rattle.cj_model.specs.declared.cached.Cached.{Cached}
 use Rattle.cj_model.specs.declared.select.Select.{Select}
-use Rattle.cj_model.specs.Statements.{same_statement-Decides}
+use Rattle.cj_model.specs.Proving.SameStatements.{same_statement-Decides}
 use Rattle.cj_model.proofs.FilterLaws.{find-filter}
-use Rattle.cj_model.specs.Caching.{CacheState, brought_to_front, dropped, entry_of, is_of, kept, looked, needs_one_of, put, without}
+use Rattle.cj_model.specs.Cluster.Caching.{CacheState, brought_to_front, without_tables, cached_entry, is_entry_for, answer_kept, after_look, needs_one_of, after_keep, without}
 
 no : {A : Type 0} → false ≡ true → A
 no e = absurd (both_ways false refl e)
@@ -21,16 +21,16 @@ no e = absurd (both_ways false refl e)
 -- ---- what holds of each entry
 
 -- the entry that is found is one of the statement
-entry_found : (P : Cached → Type 0) (s : Select) (entries : List Cached) → All P entries → IfSome (entry_of s entries) (λ e. (e.select ≡ s) × P e)
+entry_found : (P : Cached → Type 0) (s : Select) (entries : List Cached) → All P entries → IfSome (cached_entry s entries) (λ e. (e.select ≡ s) × P e)
 entry_found P s [] all = tt
 entry_found P s (e ∷ entries) all = ⊎_elim
-    (λ (same : is_of s e ≡ true). subst (λ b. IfSome (cond b (Some e) (entry_of s entries)) (λ (f : Cached). (f.select ≡ s) × P f)) (sym same) (sym ((same_statement-Decides s e.select).0 same), All-head P e entries all))
-    (λ (other : is_of s e ≡ false). subst (λ b. IfSome (cond b (Some e) (entry_of s entries)) (λ (f : Cached). (f.select ≡ s) × P f)) (sym other) (entry_found P s entries (All-tail P e entries all)))
-    (cases_Bool (is_of s e))
+    (λ (same : is_entry_for s e ≡ true). subst (λ b. IfSome (cond b (Some e) (cached_entry s entries)) (λ (f : Cached). (f.select ≡ s) × P f)) (sym same) (sym ((same_statement-Decides s e.select).0 same), All-head P e entries all))
+    (λ (other : is_entry_for s e ≡ false). subst (λ b. IfSome (cond b (Some e) (cached_entry s entries)) (λ (f : Cached). (f.select ≡ s) × P f)) (sym other) (entry_found P s entries (All-tail P e entries all)))
+    (cases_Bool (is_entry_for s e))
 
 -- what holds of each entry holds of the one whose answer is given
-pub kept_answer : (P : Cached → Type 0) (s : Select) (c : CacheState) (a : Answer) → All P c.entries → kept s c ≡ Some a → (e : Cached) × (e.select ≡ s) × (e.answer ≡ a) × P e
-kept_answer P s c a all is = from (entry_of s c.entries) (entry_found P s c.entries all) is
+pub kept_answer : (P : Cached → Type 0) (s : Select) (c : CacheState) (a : Answer) → All P c.entries → answer_kept s c ≡ Some a → (e : Cached) × (e.select ≡ s) × (e.answer ≡ a) × P e
+kept_answer P s c a all is = from (cached_entry s c.entries) (entry_found P s c.entries all) is
   where
     from : (o : Option Cached) → IfSome o (λ e. (e.select ≡ s) × P e) → option_map (λ (e : Cached). e.answer) o ≡ Some a → (e : Cached) × (e.select ≡ s) × (e.answer ≡ a) × P e
     from None h e = cc
@@ -39,76 +39,76 @@ kept_answer P s c a all is = from (entry_of s c.entries) (entry_found P s c.entr
 all_without : (P : Cached → Type 0) (s : Select) (entries : List Cached) → All P entries → All P (without s entries)
 all_without P s [] all = all
 all_without P s (e ∷ entries) all = ⊎_elim
-    (λ (same : is_of s e ≡ true). subst (λ b. All P (cond b entries (e ∷ without s entries))) (sym same) (All-tail P e entries all))
-    (λ (other : is_of s e ≡ false). subst (λ b. All P (cond b entries (e ∷ without s entries))) (sym other) (All-cons P e (without s entries) (All-head P e entries all) (all_without P s entries (All-tail P e entries all))))
-    (cases_Bool (is_of s e))
+    (λ (same : is_entry_for s e ≡ true). subst (λ b. All P (cond b entries (e ∷ without s entries))) (sym same) (All-tail P e entries all))
+    (λ (other : is_entry_for s e ≡ false). subst (λ b. All P (cond b entries (e ∷ without s entries))) (sym other) (All-cons P e (without s entries) (All-head P e entries all) (all_without P s entries (All-tail P e entries all))))
+    (cases_Bool (is_entry_for s e))
 
 -- what holds of each entry still does when one was brought to the front
-pub all_looked : (P : Cached → Type 0) (s : Select) (c : CacheState) → All P c.entries → All P (looked s c).entries
-all_looked P s c all = from (entry_of s c.entries) (entry_found P s c.entries all)
+pub all_looked : (P : Cached → Type 0) (s : Select) (c : CacheState) → All P c.entries → All P (after_look s c).entries
+all_looked P s c all = from (cached_entry s c.entries) (entry_found P s c.entries all)
   where
     from : (o : Option Cached) → IfSome o (λ e. (e.select ≡ s) × P e) → All P (cons_option o (without s c.entries))
     from None h = all_without P s c.entries all
     from (Some e) h = All-cons P e (without s c.entries) h.1 (all_without P s c.entries all)
 
-pub all_put : (P : Cached → Type 0) (e : Cached) (c : CacheState) → P e → All P c.entries → All P (put e c).entries
+pub all_put : (P : Cached → Type 0) (e : Cached) (c : CacheState) → P e → All P c.entries → All P (after_keep e c).entries
 all_put P e c here all = All-take P c.capacity (e ∷ without e.select c.entries) (All-cons P e (without e.select c.entries) here (all_without P e.select c.entries all))
 
 -- behind a change of these tables, what is left needs none of them
-pub all_dropped : (P : Cached → Type 0) (set : List (List ℕ)) (c : CacheState) → All P c.entries → All P (dropped set c).entries
+pub all_dropped : (P : Cached → Type 0) (set : List (List ℕ)) (c : CacheState) → All P c.entries → All P (without_tables set c).entries
 all_dropped P set c all = All-filter (λ (e : Cached). not (needs_one_of set e.select)) P c.entries all
 
-pub none_needs : (set : List (List ℕ)) (c : CacheState) → All (λ (e : Cached). not (needs_one_of set e.select) ≡ true) (dropped set c).entries
+pub none_needs : (set : List (List ℕ)) (c : CacheState) → All (λ (e : Cached). not (needs_one_of set e.select) ≡ true) (without_tables set c).entries
 none_needs set c = filter_passes (λ (e : Cached). not (needs_one_of set e.select)) c.entries
 
 -- ---- which answer is kept
 
-pub none_without : (s : Select) (entries : List Cached) → entry_of s entries ≡ None → without s entries ≡ entries
+pub none_without : (s : Select) (entries : List Cached) → cached_entry s entries ≡ None → without s entries ≡ entries
 none_without s [] is = refl
 none_without s (e ∷ entries) is = ⊎_elim
-    (λ (same : is_of s e ≡ true).
-    let here : entry_of s (e ∷ entries) ≡ Some e = ap (λ b. cond b (Some e) (entry_of s entries)) same in
+    (λ (same : is_entry_for s e ≡ true).
+    let here : cached_entry s (e ∷ entries) ≡ Some e = ap (λ b. cond b (Some e) (cached_entry s entries)) same in
     cc)
-    (λ (other : is_of s e ≡ false).
-    let rest : entry_of s entries ≡ None = sym (ap (λ b. cond b (Some e) (entry_of s entries)) other) ∙ is in
+    (λ (other : is_entry_for s e ≡ false).
+    let rest : cached_entry s entries ≡ None = sym (ap (λ b. cond b (Some e) (cached_entry s entries)) other) ∙ is in
     ap (λ b. cond b entries (e ∷ without s entries)) other ∙ ap (λ (es : List Cached). e ∷ es) (none_without s entries rest))
-    (cases_Bool (is_of s e))
+    (cases_Bool (is_entry_for s e))
 
-found_in_front : (s : Select) (entries : List Cached) → entry_of s (brought_to_front s entries) ≡ entry_of s entries
-found_in_front s entries = from (entry_of s entries) refl (entry_found (λ _. ⊤) s entries (λ k d lt. tt))
+found_in_front : (s : Select) (entries : List Cached) → cached_entry s (brought_to_front s entries) ≡ cached_entry s entries
+found_in_front s entries = from (cached_entry s entries) refl (entry_found (λ _. ⊤) s entries (λ k d lt. tt))
   where
-    from : (o : Option Cached) → entry_of s entries ≡ o → IfSome o (λ e. (e.select ≡ s) × ⊤) → entry_of s (cons_option o (without s entries)) ≡ o
-    from None is h = ap (entry_of s) (none_without s entries is) ∙ is
-    from (Some e) is h = ap (λ b. cond b (Some e) (entry_of s (without s entries))) ((same_statement-Decides s e.select).1 (sym h.0))
+    from : (o : Option Cached) → cached_entry s entries ≡ o → IfSome o (λ e. (e.select ≡ s) × ⊤) → cached_entry s (cons_option o (without s entries)) ≡ o
+    from None is h = ap (cached_entry s) (none_without s entries is) ∙ is
+    from (Some e) is h = ap (λ b. cond b (Some e) (cached_entry s (without s entries))) ((same_statement-Decides s e.select).1 (sym h.0))
 
 -- a look-up keeps the answer that it finds
-pub kept_looked : (s : Select) (c : CacheState) → kept s (looked s c) ≡ kept s c
+pub kept_looked : (s : Select) (c : CacheState) → answer_kept s (after_look s c) ≡ answer_kept s c
 kept_looked s c = ap (option_map (λ (e : Cached). e.answer)) (found_in_front s c.entries)
 
 -- what was put is found, unless nothing may be kept
-pub kept_put : (e : Cached) (c : CacheState) → 0 < c.capacity → kept e.select (put e c) ≡ Some e.answer
+pub kept_put : (e : Cached) (c : CacheState) → 0 < c.capacity → answer_kept e.select (after_keep e c) ≡ Some e.answer
 kept_put e c some = from c.capacity some
   where
-    from : (n : ℕ) → 0 < n → option_map (λ (f : Cached). f.answer) (entry_of e.select (take n (e ∷ without e.select c.entries))) ≡ Some e.answer
+    from : (n : ℕ) → 0 < n → option_map (λ (f : Cached). f.answer) (cached_entry e.select (take n (e ∷ without e.select c.entries))) ≡ Some e.answer
     from zero lt = absurd (omega arith)
-    from (suc n) lt = ap (λ b. option_map (λ (f : Cached). f.answer) (cond b (Some e) (entry_of e.select (take n (without e.select c.entries))))) ((same_statement-Decides e.select e.select).1 refl)
+    from (suc n) lt = ap (λ b. option_map (λ (f : Cached). f.answer) (cond b (Some e) (cached_entry e.select (take n (without e.select c.entries))))) ((same_statement-Decides e.select e.select).1 refl)
 
 -- no more entries are kept than may be
-pub put_within : (e : Cached) (c : CacheState) → length (put e c).entries ≤ c.capacity
+pub put_within : (e : Cached) (c : CacheState) → length (after_keep e c).entries ≤ c.capacity
 put_within e c =
     let few : length (take c.capacity (e ∷ without e.select c.entries)) ≡ min c.capacity (length (e ∷ without e.select c.entries)) = length-take c.capacity (e ∷ without e.select c.entries) in
     omega arith
 
 -- a change of tables drops the answer of each statement that needs one of them
-pub kept_changed : (set : List (List ℕ)) (s : Select) (c : CacheState) → needs_one_of set s ≡ true → kept s (dropped set c) ≡ None
-kept_changed set s c needs = from (entry_of s (dropped set c).entries) (entry_found (λ (e : Cached). not (needs_one_of set e.select) ≡ true) s (dropped set c).entries (none_needs set c))
+pub kept_changed : (set : List (List ℕ)) (s : Select) (c : CacheState) → needs_one_of set s ≡ true → answer_kept s (without_tables set c) ≡ None
+kept_changed set s c needs = from (cached_entry s (without_tables set c).entries) (entry_found (λ (e : Cached). not (needs_one_of set e.select) ≡ true) s (without_tables set c).entries (none_needs set c))
   where
     from : (o : Option Cached) → IfSome o (λ e. (e.select ≡ s) × (not (needs_one_of set e.select) ≡ true)) → option_map (λ (e : Cached). e.answer) o ≡ None
     from None h = refl
     from (Some e) h = no (ap not (sym needs) ∙ ap (λ t. not (needs_one_of set t)) (sym h.0) ∙ h.1)
 
 -- and leaves that of each other statement
-pub kept_unchanged : (set : List (List ℕ)) (s : Select) (c : CacheState) → needs_one_of set s ≡ false → kept s (dropped set c) ≡ kept s c
+pub kept_unchanged : (set : List (List ℕ)) (s : Select) (c : CacheState) → needs_one_of set s ≡ false → answer_kept s (without_tables set c) ≡ answer_kept s c
 kept_unchanged set s c other =
-    let stays : (e : Cached) → is_of s e ≡ true → not (needs_one_of set e.select) ≡ true = λ e same. ap (λ t. not (needs_one_of set t)) (sym ((same_statement-Decides s e.select).0 same)) ∙ ap not other in
-    ap (option_map (λ (e : Cached). e.answer)) (find-filter (λ (e : Cached). not (needs_one_of set e.select)) (is_of s) stays c.entries)
+    let stays : (e : Cached) → is_entry_for s e ≡ true → not (needs_one_of set e.select) ≡ true = λ e same. ap (λ t. not (needs_one_of set t)) (sym ((same_statement-Decides s e.select).0 same)) ∙ ap not other in
+    ap (option_map (λ (e : Cached). e.answer)) (find-filter (λ (e : Cached). not (needs_one_of set e.select)) (is_entry_for s) stays c.entries)

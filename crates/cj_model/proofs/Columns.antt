@@ -3,7 +3,7 @@ use Rattle.std.proofs.Common.{◌≡◌, sym, subst, ℕ, ◌≤◌, List, lengt
 use Rattle.cj_model.specs.declared.schema.Create.{Create}
 use Rattle.cj_model.specs.declared.request.Request.TheVariants as request
 use Rattle.cj_model.specs.declared.limits.TheConstants.{COLUMN_LIMIT}
-use Rattle.cj_model.specs.Grammar.{Statement, create, statement_meant, StatementFits, TextReads}
+use Rattle.cj_model.specs.Sql.Grammar.{Statement, create, statement_meant, StatementFits, TextReadsAs}
 
 of_statement : (s : Statement) (c : Create) → StatementFits s → request.Create c ≡ statement_meant s → length c.columns ≤ COLUMN_LIMIT
 of_statement (create n cs) c fits e =
@@ -13,5 +13,5 @@ of_statement (create n cs) c fits e =
 of_statement _ c fits e = absurd (cc)
 
 -- there are at most 16
-pub read_columns : (text : List ℕ) (c : Create) → TextReads text (request.Create c) → length c.columns ≤ COLUMN_LIMIT
+pub read_columns : (text : List ℕ) (c : Create) → TextReadsAs text (request.Create c) → length c.columns ≤ COLUMN_LIMIT
 read_columns text c x = of_statement x.reads.statement c x.reads.fits x.reads.meant

@@ -21,10 +21,10 @@ use Rattle.cj_model.specs.declared.write.Write.{Write}
 use Rattle.cj_model.specs.declared.request.Act.{Act}
 use Rattle.cj_model.specs.declared.request.Act.TheVariants as act
 use Rattle.cj_model.specs.declared.limits.TheConstants.{COLUMN_LIMIT}
-use Rattle.cj_model.specs.Tables.{IsTable, IsSlot, IsDatabase, by_table, name_cmp, table_of, slot_of, is_distinct, column_names}
-use Rattle.cj_model.specs.Changes.{Changed}
-use Rattle.cj_model.specs.Updates.{change}
-use Rattle.cj_model.specs.Steps.{Stepped, seen_behind, seen, other_writer, with_table, table_written, write_done, write_unless_locked, write_in, written, make_schema, schema_of, empty_slot, created, drop_unless_locked, drop_in, dropped, commit_behind, committed, abort_behind, aborted, acted}
+use Rattle.cj_model.specs.Database.Tables.{IsTable, IsSlot, IsDatabase, by_table, name_cmp, table_of, slot_of, is_distinct, column_names}
+use Rattle.cj_model.specs.Database.Inserts.{Changed}
+use Rattle.cj_model.specs.Database.Updates.{change}
+use Rattle.cj_model.specs.Database.Steps.{Stepped, seen_behind, seen, other_writer, with_table, table_written, write_done, write_unless_locked, write_in, written, make_schema, schema_of, empty_slot, created, drop_unless_locked, drop_in, dropped, commit_behind, committed, abort_behind, aborted, acted}
 use Rattle.cj_model.proofs.RisingLaws.{found_All, all_put, rises_put, rises_filter, rises_map}
 use Rattle.cj_model.proofs.TableLaws.{IsTableWith}
 use Rattle.cj_model.proofs.UpdateLaws.{change_keeps}

@@ -15,15 +15,15 @@ use Rattle.cj_model.specs.declared.write.Write.{Write}
 use Rattle.cj_model.specs.declared.request.Act.{Act}
 use Rattle.cj_model.specs.declared.request.Act.TheVariants as act
 use Rattle.cj_model.specs.declared.request.Entry.{Entry}
-use Rattle.cj_model.specs.Tables.{by_table, table_of, slot_of}
-use Rattle.cj_model.specs.Changes.{Changed}
-use Rattle.cj_model.specs.Updates.{change}
-use Rattle.cj_model.specs.Steps.{Stepped, seen, other_writer, with_table, table_written, write_done, write_unless_locked, write_in, written, make_schema, empty_slot, created, drop_unless_locked, drop_in, commit_behind, committed, abort_behind, aborted, acted, step}
-use Rattle.cj_model.specs.Histories.{run, tx_of}
-use Rattle.cj_model.specs.Legality.{IsFit, FitsTx, OfSession, OfAdministrator}
-use Rattle.cj_model.specs.Placements.{Placement, hosts, part, writes_at, wrote_at}
-use Rattle.cj_model.specs.Begun.{AreFit, is_begin, is_end, is_write_of, has_written}
-use Rattle.cj_model.specs.Storable.{IsStorable}
+use Rattle.cj_model.specs.Database.Tables.{by_table, table_of, slot_of}
+use Rattle.cj_model.specs.Database.Inserts.{Changed}
+use Rattle.cj_model.specs.Database.Updates.{change}
+use Rattle.cj_model.specs.Database.Steps.{Stepped, seen, other_writer, with_table, table_written, write_done, write_unless_locked, write_in, written, make_schema, empty_slot, created, drop_unless_locked, drop_in, commit_behind, committed, abort_behind, aborted, acted, step}
+use Rattle.cj_model.specs.Cluster.Histories.{database_of, tx_of}
+use Rattle.cj_model.specs.Cluster.Legality.{IsFitEntry, FitsTx, IsSessionEntry, IsAdministratorEntry}
+use Rattle.cj_model.specs.Cluster.Placements.{Placement, hosts, part, writes_at, wrote_at}
+use Rattle.cj_model.specs.Cluster.Transactions.{AreFit, is_begin, is_end, is_write_of, has_written}
+use Rattle.cj_model.specs.Database.Storable.{IsStorable}
 use Rattle.cj_model.proofs.StorableLaws.{empty_storable, acted_storable}
 use Rattle.cj_model.proofs.RisingLaws.{all_put, found_All}
 use Rattle.cj_model.proofs.FilterLaws.{map_same}
@@ -44,16 +44,16 @@ IsDrafted entries s = IfSome s.draft (λ (d : Draft). OpenWriter entries (table_
 -- ---- what a fit entry says of transactions
 
 -- a BEGIN comes where the session has no transaction open
-pub begins_free : (before : List Entry) (e : Entry) → IsFit before e → e.act ≡ act.Begin → tx_of before e.session ≡ 0
+pub begins_free : (before : List Entry) (e : Entry) → IsFitEntry before e → e.act ≡ act.Begin → tx_of before e.session ≡ 0
 begins_free before e fit is =
-    ⊎_elim (λ (o : OfSession before e). (subst (FitsTx (tx_of before e.session) e.tx) is o.tx).1)
-    (λ (a : OfAdministrator before e). let bad : act.Begin ≡ act.Abort = sym is ∙ a.aborts in absurd (cc bad)) fit.by
+    ⊎_elim (λ (o : IsSessionEntry before e). (subst (FitsTx (tx_of before e.session) e.tx) is o.tx).1)
+    (λ (a : IsAdministratorEntry before e). let bad : act.Begin ≡ act.Abort = sym is ∙ a.aborts in absurd (cc bad)) fit.by
 
 -- a write within a transaction is within its session's open one
-pub writes_within : (before : List Entry) (e : Entry) (w : Write) → IsFit before e → e.act ≡ act.Write w → e.tx ≢ 0 → tx_of before e.session ≡ e.tx
+pub writes_within : (before : List Entry) (e : Entry) (w : Write) → IsFitEntry before e → e.act ≡ act.Write w → e.tx ≢ 0 → tx_of before e.session ≡ e.tx
 writes_within before e w fit is some =
-    ⊎_elim (λ (o : OfSession before e). ⊎_elim (λ (z : e.tx ≡ 0). absurd (some z)) (λ (same : e.tx ≡ tx_of before e.session). sym same) (subst (FitsTx (tx_of before e.session) e.tx) is o.tx))
-    (λ (a : OfAdministrator before e). let bad : act.Write w ≡ act.Abort = sym is ∙ a.aborts in absurd (cc bad)) fit.by
+    ⊎_elim (λ (o : IsSessionEntry before e). ⊎_elim (λ (z : e.tx ≡ 0). absurd (some z)) (λ (same : e.tx ≡ tx_of before e.session). sym same) (subst (FitsTx (tx_of before e.session) e.tx) is o.tx))
+    (λ (a : IsAdministratorEntry before e). let bad : act.Write w ≡ act.Abort = sym is ∙ a.aborts in absurd (cc bad)) fit.by
 
 module _ (before : List Entry) (e : Entry) where
   -- the entries with this one
@@ -113,7 +113,7 @@ module _ (before : List Entry) (e : Entry) where
         write_in_drafted db (slot_of db (table_written w)) all (found_name db (table_written w)) (found_All (IsDrafted after) (λ s. bytes_eq (table_of s) (table_written w)) db all)
 
   -- the writer itself
-  own_writer : (w : Write) → IsFit before e → e.act ≡ act.Write w → e.tx ≢ 0 → OpenWriter after (table_written w) e.tx
+  own_writer : (w : Write) → IsFitEntry before e → e.act ≡ act.Write w → e.tx ≢ 0 → OpenWriter after (table_written w) e.tx
   own_writer w fit is some =
       let test : Entry → Bool = λ (d : Entry). d.tx == e.tx && is_write_of (table_written w) d.act in
       let here : is_write_of (table_written w) e.act ≡ true = ap (is_write_of (table_written w)) is ∙ (bytes_eq-Decides (table_written w) (table_written w)).1 refl in
@@ -162,7 +162,7 @@ module _ (before : List Entry) (e : Entry) where
   -- ---- any act
 
   -- any act of a fit entry
-  act_drafted : (a : Act) → e.act ≡ a → IsFit before e → (db : List Slot) → All (IsDrafted before) db → All (IsDrafted after) (acted db e.tx a).db
+  act_drafted : (a : Act) → e.act ≡ a → IsFitEntry before e → (db : List Slot) → All (IsDrafted before) db → All (IsDrafted after) (acted db e.tx a).db
   act_drafted act.Begin is fit db all =
       let free : tx_of before e.session ≡ 0 = begins_free before e fit is in
       All-weaker (IsDrafted before) (IsDrafted after)
@@ -180,19 +180,19 @@ module _ (before : List Entry) (e : Entry) where
       (All-weaker (IsDrafted before) (λ s. IsDrafted after (aborted e.tx s)) (λ s h. abort_drafted (ap is_end is) s.base s.draft h) db all)
 
 -- fit entries make a database that can be dumped and loaded
-pub run_storable : (entries : List Entry) → AreFit entries → IsStorable (run entries)
+pub run_storable : (entries : List Entry) → AreFit entries → IsStorable (database_of entries)
 run_storable =
-    by_fit_entries (λ (l : List Entry). IsStorable (run l)) empty_storable
+    by_fit_entries (λ (l : List Entry). IsStorable (database_of l)) empty_storable
     (λ before e fits fit is.
-    subst IsStorable (sym (fold-append (λ (db : List Slot) (d : Entry). (step db d).db) [] before (e ∷ []))) (acted_storable (run before) e.tx e.act is fit.written))
+    subst IsStorable (sym (fold-append (λ (db : List Slot) (d : Entry). (step db d).db) [] before (e ∷ []))) (acted_storable (database_of before) e.tx e.act is fit.written))
 
 -- every draft is of an open transaction that wrote its table
-pub all_drafted : (entries : List Entry) → AreFit entries → All (IsDrafted entries) (run entries)
+pub all_drafted : (entries : List Entry) → AreFit entries → All (IsDrafted entries) (database_of entries)
 all_drafted =
-    by_fit_entries (λ (l : List Entry). All (IsDrafted l) (run l)) (All-nil (IsDrafted []))
+    by_fit_entries (λ (l : List Entry). All (IsDrafted l) (database_of l)) (All-nil (IsDrafted []))
     (λ before e fits fit all.
     subst (All (IsDrafted (before ++ e ∷ []))) (sym (fold-append (λ (db : List Slot) (d : Entry). (step db d).db) [] before (e ∷ [])))
-    (act_drafted before e e.act refl fit (run before) all))
+    (act_drafted before e e.act refl fit (database_of before) all))
 
 -- ---- the end of a transaction that wrote nothing at a backend
 
@@ -235,11 +235,11 @@ aborted_without tx s = one s.base s.draft
 
 module _ (p : Placement) (b tx : ℕ) (entries : List Entry) (fits : AreFit entries) (nothing : wrote_at p b tx entries ≡ false) where
   -- its part has no draft of the transaction
-  without_draft : All (IsWithout tx) (part p b (run entries))
+  without_draft : All (IsWithout tx) (part p b (database_of entries))
   without_draft =
       λ k d lt.
       let hosted : Slot → Bool = λ s. hosts p b (table_of s) in
-      one (get_or (part p b (run entries)) k d) (filter_passes hosted (run entries) k d lt) (All-filter hosted (IsDrafted entries) (run entries) (all_drafted entries fits) k d lt)
+      one (get_or (part p b (database_of entries)) k d) (filter_passes hosted (database_of entries) k d lt) (All-filter hosted (IsDrafted entries) (database_of entries) (all_drafted entries fits) k d lt)
     where
       one : (s : Slot) → hosts p b (table_of s) ≡ true → IsDrafted entries s → IsWithout tx s
       one s on = of_draft s.draft
@@ -252,17 +252,17 @@ module _ (p : Placement) (b tx : ℕ) (entries : List Entry) (fits : AreFit entr
               (subst (λ (t : ℕ). wrote_at p b t entries ≡ true) same (wrote_there p b (table_of s) d.tx entries on h.wrote))
 
   -- so COMMIT does not change it
-  pub committed_nothing : map (committed tx) (part p b (run entries)) ≡ part p b (run entries)
-  committed_nothing = map_same (committed tx) (part p b (run entries)) (All-weaker (IsWithout tx) (λ s. committed tx s ≡ s) (committed_without tx) (part p b (run entries)) without_draft)
+  pub committed_nothing : map (committed tx) (part p b (database_of entries)) ≡ part p b (database_of entries)
+  committed_nothing = map_same (committed tx) (part p b (database_of entries)) (All-weaker (IsWithout tx) (λ s. committed tx s ≡ s) (committed_without tx) (part p b (database_of entries)) without_draft)
 
   -- nor does ROLLBACK change the part
-  pub aborted_nothing : map (aborted tx) (part p b (run entries)) ≡ part p b (run entries)
-  aborted_nothing = map_same (aborted tx) (part p b (run entries)) (All-weaker (IsWithout tx) (λ s. aborted tx s ≡ s) (aborted_without tx) (part p b (run entries)) without_draft)
+  pub aborted_nothing : map (aborted tx) (part p b (database_of entries)) ≡ part p b (database_of entries)
+  aborted_nothing = map_same (aborted tx) (part p b (database_of entries)) (All-weaker (IsWithout tx) (λ s. aborted tx s ≡ s) (aborted_without tx) (part p b (database_of entries)) without_draft)
 
   -- the part of what COMMIT leaves is the part before
-  pub part_committed_nothing : part p b (map (committed tx) (run entries)) ≡ part p b (run entries)
-  part_committed_nothing = committed_part p b (run entries) tx (run_storable entries fits).database ∙ committed_nothing
+  pub part_committed_nothing : part p b (map (committed tx) (database_of entries)) ≡ part p b (database_of entries)
+  part_committed_nothing = committed_part p b (database_of entries) tx (run_storable entries fits).database ∙ committed_nothing
 
   -- and so is the part of what ROLLBACK leaves
-  pub part_aborted_nothing : part p b (map (aborted tx) (run entries)) ≡ part p b (run entries)
-  part_aborted_nothing = aborted_part p b (run entries) tx (run_storable entries fits).database ∙ aborted_nothing
+  pub part_aborted_nothing : part p b (map (aborted tx) (database_of entries)) ≡ part p b (database_of entries)
+  part_aborted_nothing = aborted_part p b (database_of entries) tx (run_storable entries fits).database ∙ aborted_nothing

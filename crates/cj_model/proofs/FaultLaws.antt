@@ -9,7 +9,7 @@ use Rattle.cj_model.specs.declared.message.Message.TheVariants.{Login, Query, St
 use Rattle.cj_model.specs.declared.message.FrameFault.{FrameFault}
 use Rattle.cj_model.specs.declared.message.FrameFault.TheVariants.{LengthZero, LengthOver, Kind, Payload}
 use Rattle.cj_model.specs.declared.limits.TheConstants.{FRAME_LIMIT}
-use Rattle.cj_model.specs.Frames.{message_body, frame, IsFramed, BeginsNoFrame, stated_length, is_client_kind, fault_of, FaultsStay}
+use Rattle.cj_model.specs.Wire.Frames.{message_body, frame, IsFramed, BeginsNoFrame, stated_length, is_client_kind, fault_of, FaultsStay}
 use Rattle.cj_model.proofs.Fields.{wide32}
 
 -- four bytes that say a length that may be

@@ -6,7 +6,7 @@ use Rattle.std.specs.Cmp.{IsTotalOrder}
 use Rattle.std.specs.Ordering.{match_ordering}
 use Rattle.std.proofs.lemmas.Bool.{both_ways, cases_Bool, cond_both, cond-true, cond-false, false_from_ne_true}
 use Rattle.std.proofs.lemmas.List.Elements.{All-cons, All-head, All-tail, All-filter}
-use Rattle.cj_model.specs.Tables.{Rises, put_by}
+use Rattle.cj_model.specs.Database.Tables.{Rises, put_by}
 use Rattle.cj_model.proofs.RisingLaws.{by_order}
 
 -- what is found passes the test

@@ -5,8 +5,8 @@ use Rattle.std.specs.List.{list_all}
 use Rattle.std.proofs.lemmas.Bool.{and_from, lt-leb}
 use Rattle.std.proofs.lemmas.Bool.Decides.{nat_tests}
 use Rattle.cj_model.specs.declared.limits.TheConstants.{NAME_LIMIT}
-use Rattle.cj_model.specs.Words.{lower, begins_name, continues_name, is_spelled_as_name, is_name, name_of}
-use Rattle.cj_model.specs.Lexical.{is_letter, is_word, Each, IsWord}
+use Rattle.cj_model.specs.Sql.Names.{lower, begins_name, continues_name, is_spelled_as_name, is_name, name_of}
+use Rattle.cj_model.specs.Sql.Lexical.{is_letter, is_word, EachByte, IsWordSpelling}
 
 -- what is too long is no name
 pub long_is_no_name : (bytes : List ℕ) → NAME_LIMIT < length bytes → name_of bytes ≡ None
@@ -22,11 +22,11 @@ word_continues : (b : ℕ) → is_word b ≡ true → continues_name (lower b) �
 word_continues b h = grind (arith, nat_tests, h)
 
 -- so do all bytes of a word
-all_continue : (z : List ℕ) → Each is_word z → list_all continues_name (map lower z) ≡ true
+all_continue : (z : List ℕ) → EachByte is_word z → list_all continues_name (map lower z) ≡ true
 all_continue [] h = refl
 all_continue (b ∷ z) h = and_from (continues_name (lower b)) (list_all continues_name (map lower z)) (word_continues b h.0) (all_continue z h.1)
 
 -- a word in lower case is spelled as a name
-pub spelled_as_name : (z : List ℕ) → IsWord z → is_spelled_as_name (map lower z) ≡ true
+pub spelled_as_name : (z : List ℕ) → IsWordSpelling z → is_spelled_as_name (map lower z) ≡ true
 spelled_as_name [] h = absurd h
 spelled_as_name (b ∷ z) h = and_from (begins_name (lower b)) (list_all continues_name (map lower z)) (letter_begins b h.0) (all_continue z h.1)

@@ -8,17 +8,17 @@ use Rattle.cj_model.specs.declared.moves.Reason.{Reason}
 use Rattle.cj_model.specs.declared.moves.Why.{Why}
 use Rattle.cj_model.specs.declared.moves.OpenRead.{OpenRead}
 use Rattle.cj_model.specs.declared.moves.Move.TheVariants.{Close, Schedule, Apply, End, Read, Disable, Replay, Enable}
-use Rattle.cj_model.specs.Histories.{log, free, enabled}
-use Rattle.cj_model.specs.Cores.{Core, position_at, session_at}
-use Rattle.cj_model.specs.Moves.{because, place, behind, because_behind, not_now, is_open, is_waiting}
+use Rattle.cj_model.specs.Cluster.Histories.{log, is_idle, is_enabled}
+use Rattle.cj_model.specs.Cluster.Cores.{Core, position_at, session_at}
+use Rattle.cj_model.specs.Cluster.Moves.{reason_if, position_or_zero, first_lagging, reason_if_lagging, not_now, is_open, is_waiting}
 
 -- a reason that is none: the test is false, and no later reason is one
-pub because_none : (t : Bool) (r : Reason) (v : ℕ) (otherwise : Option Why) → because t r v otherwise ≡ None → (t ≡ false) × (otherwise ≡ None)
+pub because_none : (t : Bool) (r : Reason) (v : ℕ) (otherwise : Option Why) → reason_if t r v otherwise ≡ None → (t ≡ false) × (otherwise ≡ None)
 because_none true r v otherwise e = absurd (cc e)
 because_none false r v otherwise e = (refl, e)
 
 -- a backend that is not out stands at its place
-stands_at : (p : Option ℕ) → is_none p ≡ false → p ≡ Some (place p)
+stands_at : (p : Option ℕ) → is_none p ≡ false → p ≡ Some (position_or_zero p)
 stands_at None e = absurd (cc e)
 stands_at (Some p) e = refl
 
@@ -46,7 +46,7 @@ pub record CanSchedule (c : Core) (s : ℕ) : Type 0 where
   pub here : is_open c s ≡ true
   pub idle : is_waiting c s ≡ false
   pub no_read : (session_at c s).reading ≡ None
-  pub is_free : free c.history ≡ true
+  pub is_free : is_idle c.history ≡ true
 
 -- what a Schedule that can be made now says
 pub can_schedule : (c : Core) (s : ℕ) (r : Request) → not_now c (Schedule s r) ≡ None → CanSchedule c s
@@ -59,10 +59,10 @@ can_schedule c s r e =
 
 -- an entry is open, and the backend is enabled, not out and not yet at the log's end
 pub record CanApply (c : Core) (b : ℕ) : Type 0 where
-  pub is_running : free c.history ≡ false
-  pub on : enabled c.history b ≡ true
-  pub at : position_at c b ≡ Some (place (position_at c b))
-  pub more : place (position_at c b) ≢ length (log c.history)
+  pub is_running : is_idle c.history ≡ false
+  pub on : is_enabled c.history b ≡ true
+  pub at : position_at c b ≡ Some (position_or_zero (position_at c b))
+  pub more : position_or_zero (position_at c b) ≢ length (log c.history)
 
 -- what an Apply that can be made now says
 pub can_apply : (c : Core) (b : ℕ) → not_now c (Apply b) ≡ None → CanApply c b
@@ -75,11 +75,11 @@ can_apply c b e =
 
 -- an entry is open, and no enabled backend is behind
 pub record CanEnd (c : Core) : Type 0 where
-  pub is_running : free c.history ≡ false
-  pub none_behind : behind c.history 0 c.positions ≡ None
+  pub is_running : is_idle c.history ≡ false
+  pub none_behind : first_lagging c.history 0 c.positions ≡ None
 
 -- no reason where no backend is behind
-because_behind_none : (o : Option ℕ) → because_behind o ≡ None → o ≡ None
+because_behind_none : (o : Option ℕ) → reason_if_lagging o ≡ None → o ≡ None
 because_behind_none None e = refl
 because_behind_none (Some p) e = absurd (cc e)
 
@@ -103,8 +103,8 @@ can_read c s b select e =
 
 -- no entry is open, and the backend is enabled
 pub record CanDisable (c : Core) (b : ℕ) : Type 0 where
-  pub is_free : free c.history ≡ true
-  pub on : enabled c.history b ≡ true
+  pub is_free : is_idle c.history ≡ true
+  pub on : is_enabled c.history b ≡ true
 
 -- what a Disable that can be made now says
 pub can_disable : (c : Core) (b : ℕ) → not_now c (Disable b) ≡ None → CanDisable c b
@@ -115,9 +115,9 @@ can_disable c b e =
 
 -- the backend is not enabled, not out and not yet at the log's end
 pub record CanReplay (c : Core) (b : ℕ) : Type 0 where
-  pub off : enabled c.history b ≡ false
-  pub at : position_at c b ≡ Some (place (position_at c b))
-  pub more : place (position_at c b) ≢ length (log c.history)
+  pub off : is_enabled c.history b ≡ false
+  pub at : position_at c b ≡ Some (position_or_zero (position_at c b))
+  pub more : position_or_zero (position_at c b) ≢ length (log c.history)
 
 -- what a Replay that can be made now says
 pub can_replay : (c : Core) (b : ℕ) → not_now c (Replay b) ≡ None → CanReplay c b
@@ -129,8 +129,8 @@ can_replay c b e =
 
 -- no entry is open, and the backend is not enabled, and at the log's end
 pub record CanEnable (c : Core) (b : ℕ) : Type 0 where
-  pub is_free : free c.history ≡ true
-  pub off : enabled c.history b ≡ false
+  pub is_free : is_idle c.history ≡ true
+  pub off : is_enabled c.history b ≡ false
   pub at : position_at c b ≡ Some (length (log c.history))
 
 -- what an Enable that can be made now says
@@ -150,23 +150,23 @@ cond_none true x otherwise e = absurd (cc e)
 cond_none false x otherwise e = (refl, e)
 
 -- Where none of the positions, which are those of the backends from n on, is behind, each enabled backend that is not out is at the log's end.
-pub behind_from : (h : List Event) (n : ℕ) (ps : List (Option ℕ)) → behind h n ps ≡ None
-    → (i q : ℕ) → get_or ps i None ≡ Some q → enabled h (n + i) ≡ true → length (log h) ≤ q
+pub behind_from : (h : List Event) (n : ℕ) (ps : List (Option ℕ)) → first_lagging h n ps ≡ None
+    → (i q : ℕ) → get_or ps i None ≡ Some q → is_enabled h (n + i) ≡ true → length (log h) ≤ q
 behind_from h n [] none i q is on = absurd (cc is)
 behind_from h n (None ∷ ps) none zero q is on = absurd (cc is)
 behind_from h n (None ∷ ps) none (suc i) q is on = behind_from h (n + 1) ps none i q is (let e : n + 1 + i ≡ n + suc i = omega arith in rw e on)
 behind_from h n (Some p ∷ ps) none zero q is on =
     let same : p ≡ q = cc is in
-    let t = (cond_none (enabled h n && nat_lt p (length (log h))) p (behind h (n + 1) ps) none).0 in
+    let t = (cond_none (is_enabled h n && nat_lt p (length (log h))) p (first_lagging h (n + 1) ps) none).0 in
     let e : n + 0 ≡ n = omega arith in
-    let now : enabled h n ≡ true = subst (λ (x : ℕ). enabled h x ≡ true) e on in
-    ⊎_elim (λ (off : enabled h n ≡ false). absurd (both_ways (enabled h n) off now))
+    let now : is_enabled h n ≡ true = subst (λ (x : ℕ). is_enabled h x ≡ true) e on in
+    ⊎_elim (λ (off : is_enabled h n ≡ false). absurd (both_ways (is_enabled h n) off now))
     (λ (ge : nat_lt p (length (log h)) ≡ false). let le : length (log h) ≤ p = ltb-false _ _ ge in omega arith)
     (and_cases _ _ t)
 behind_from h n (Some p ∷ ps) none (suc i) q is on =
-    behind_from h (n + 1) ps (cond_none (enabled h n && nat_lt p (length (log h))) p (behind h (n + 1) ps) none).1 i q is (let e : n + 1 + i ≡ n + suc i = omega arith in rw e on)
+    behind_from h (n + 1) ps (cond_none (is_enabled h n && nat_lt p (length (log h))) p (first_lagging h (n + 1) ps) none).1 i q is (let e : n + 1 + i ≡ n + suc i = omega arith in rw e on)
 
 -- the same of all positions
-pub behind_none : (h : List Event) (ps : List (Option ℕ)) → behind h 0 ps ≡ None
-    → (b q : ℕ) → get_or ps b None ≡ Some q → enabled h b ≡ true → length (log h) ≤ q
+pub behind_none : (h : List Event) (ps : List (Option ℕ)) → first_lagging h 0 ps ≡ None
+    → (b q : ℕ) → get_or ps b None ≡ Some q → is_enabled h b ≡ true → length (log h) ≤ q
 behind_none h ps none b q is on = behind_from h 0 ps none b q is (let e : 0 + b ≡ b = omega arith in rw e on)

@@ -6,8 +6,8 @@ use Rattle.std.proofs.lemmas.List.{append-nil}
 use Rattle.std.proofs.lemmas.List.Concat.{flat_map-cons}
 use Rattle.cj_model.specs.declared.message.Message.{Message}
 use Rattle.cj_model.specs.declared.message.Message.TheVariants.{Login, Query, Stats, Quit}
-use Rattle.cj_model.specs.Fields.{str16}
-use Rattle.cj_model.specs.Frames.{message_body, frame, IsFramed, BeginsNoFrame, Frames, HasTexts}
+use Rattle.cj_model.specs.Wire.Fields.{str16}
+use Rattle.cj_model.specs.Wire.Frames.{message_body, frame, IsFramed, BeginsNoFrame, Frames, HasTexts}
 use Rattle.cj_model.proofs.Fields.{wide16, wide32, text_same}
 
 -- two texts, one after the other, are the same bytes only where they are the same texts

@@ -19,13 +19,13 @@ use Rattle.cj_model.specs.declared.request.Act.{Act}
 use Rattle.cj_model.specs.declared.request.Act.TheVariants as act
 use Rattle.cj_model.specs.declared.select.Select.{Select}
 use Rattle.cj_model.specs.declared.codes.TheConstants.{NO_TABLE, TABLE_EXISTS, BAD_COLUMNS}
-use Rattle.cj_model.specs.Tables.{IsSlot, IsDatabase, by_table, table_of, slot_of, put_by}
-use Rattle.cj_model.specs.Storable.{IsStorableSlot, IsStorable}
-use Rattle.cj_model.specs.Placements.{Placement, hosts, hosts_all, part}
-use Rattle.cj_model.specs.Changes.{Changed, bare, unless}
-use Rattle.cj_model.specs.Updates.{change}
-use Rattle.cj_model.specs.Steps.{Stepped, refuse, seen, other_writer, with_table, table_written, write_done, write_unless_locked, write_in, written, make_schema, empty_slot, created, drop_unless_locked, drop_in, dropped, committed, aborted, acted}
-use Rattle.cj_model.specs.Queries.{answered, tables_seen, asked_by, ask}
+use Rattle.cj_model.specs.Database.Tables.{IsSlot, IsDatabase, by_table, table_of, slot_of, put_by}
+use Rattle.cj_model.specs.Database.Storable.{IsStorableSlot, IsStorable}
+use Rattle.cj_model.specs.Cluster.Placements.{Placement, hosts, hosts_all, part}
+use Rattle.cj_model.specs.Database.Inserts.{Changed, refusal_of_code, refuse_if}
+use Rattle.cj_model.specs.Database.Updates.{change}
+use Rattle.cj_model.specs.Database.Steps.{Stepped, refuse, seen, other_writer, with_table, table_written, write_done, write_unless_locked, write_in, written, make_schema, empty_slot, created, drop_unless_locked, drop_in, dropped, committed, aborted, acted}
+use Rattle.cj_model.specs.Database.Queries.{answer_over, tables_seen, asked_by, ask}
 use Rattle.cj_model.proofs.RisingLaws.{rises_filter}
 use Rattle.cj_model.proofs.FilterLaws.{found_passes, find-filter, filter-map, filter_swap, filter_after, filter-put_goes, filter-put_stays}
 use Rattle.cj_model.proofs.DatabaseLaws.{by_table_total, is_eq-by_table, with_table-name, commit_behind-name, abort_behind-name}
@@ -83,8 +83,8 @@ module _ (p : Placement) (b : ℕ) where
   -- a query over hosted tables is answered as by the whole
   pub ask_part : (db : List Slot) (tx : ℕ) (s : Select) → hosts_all p b s.tables ≡ true → ask (part p b db) tx s ≡ ask db tx s
   ask_part db tx s on =
-      ap (λ c. asked_by (unless c (bare NO_TABLE) (answered (tables_seen (part p b db) tx s.tables) s))) (missing_in_part db s.tables on)
-      ∙ ap (λ ts. asked_by (unless (list_any (λ n. is_none (slot_of db n)) s.tables) (bare NO_TABLE) (answered ts s))) (seen_in_part db tx s.tables on)
+      ap (λ c. asked_by (refuse_if c (refusal_of_code NO_TABLE) (answer_over (tables_seen (part p b db) tx s.tables) s))) (missing_in_part db s.tables on)
+      ∙ ap (λ ts. asked_by (refuse_if (list_any (λ n. is_none (slot_of db n)) s.tables) (refusal_of_code NO_TABLE) (answer_over ts s))) (seen_in_part db tx s.tables on)
 
   -- ---- acts on hosted tables
 
@@ -135,7 +135,7 @@ module _ (p : Placement) (b : ℕ) where
       (same (is_some (slot_of db c.table)) (make_schema c.columns))
     where
       by : List Slot → Bool → Bool → Stepped
-      by x there fits = cond there (refuse x (bare TABLE_EXISTS)) (cond fits (record { db = put_by by_table x (empty_slot c); outcome = Done 0 }) (refuse x (bare BAD_COLUMNS)))
+      by x there fits = cond there (refuse x (refusal_of_code TABLE_EXISTS)) (cond fits (record { db = put_by by_table x (empty_slot c); outcome = Done 0 }) (refuse x (refusal_of_code BAD_COLUMNS)))
 
       same : (there fits : Bool) → SameAtPart (by db there fits) (by (part p b db) there fits)
       same true fits = (refl, refl)

@@ -9,12 +9,12 @@ use Rattle.cj_model.specs.declared.database.Slot.{Slot}
 use Rattle.cj_model.specs.declared.request.Act.{Act}
 use Rattle.cj_model.specs.declared.request.Act.TheVariants as act
 use Rattle.cj_model.specs.declared.request.Entry.{Entry}
-use Rattle.cj_model.specs.Tables.{IsDatabase}
-use Rattle.cj_model.specs.Steps.{acted, step}
-use Rattle.cj_model.specs.Histories.{run, at, tx_of}
-use Rattle.cj_model.specs.Legality.{IsFit, FitsTx, OfSession, OfAdministrator}
-use Rattle.cj_model.specs.Placements.{Placement, part, wrote_at, concerns}
-use Rattle.cj_model.specs.Begun.{AreFit, is_end, begun_at}
+use Rattle.cj_model.specs.Database.Tables.{IsDatabase}
+use Rattle.cj_model.specs.Database.Steps.{acted, step}
+use Rattle.cj_model.specs.Cluster.Histories.{database_of, database_after, tx_of}
+use Rattle.cj_model.specs.Cluster.Legality.{IsFitEntry, FitsTx, IsSessionEntry, IsAdministratorEntry}
+use Rattle.cj_model.specs.Cluster.Placements.{Placement, part, wrote_at, concerns}
+use Rattle.cj_model.specs.Cluster.Transactions.{AreFit, is_end, begun_at}
 use Rattle.cj_model.proofs.FilterLaws.{filter_stays}
 use Rattle.cj_model.proofs.PartLaws.{SameAtPart, acted_hosted, acted_elsewhere}
 use Rattle.cj_model.proofs.TransactionLaws.{fit_take, fit_at}
@@ -28,12 +28,12 @@ take_next xs k x is =
     take_more xs k x lt ∙ ap (λ y. take k xs ++ y ∷ []) (get_or_from_slice_get xs k x x is)
 
 -- the database after one more entry
-pub run-push : (entries : List Entry) (e : Entry) → run (entries ++ e ∷ []) ≡ (step (run entries) e).db
+pub run-push : (entries : List Entry) (e : Entry) → database_of (entries ++ e ∷ []) ≡ (step (database_of entries) e).db
 run-push entries e = fold-append (λ (db : List Slot) (d : Entry). (step db d).db) [] entries (e ∷ [])
 
 -- the same at the next place of a log
-pub at_next : (entries : List Entry) (k : ℕ) (e : Entry) → slice_get entries k ≡ Some e → at entries (k + 1) ≡ (step (at entries k) e).db
-at_next entries k e is = ap run (take_next entries k e is) ∙ run-push (take k entries) e
+pub at_next : (entries : List Entry) (k : ℕ) (e : Entry) → slice_get entries k ≡ Some e → database_after entries (k + 1) ≡ (step (database_after entries k) e).db
+at_next entries k e is = ap database_of (take_next entries k e is) ∙ run-push (take k entries) e
 
 -- a number that is not there is not left out
 filter_absent : (x : ℕ) (xs : List ℕ) → list_any (eqb x) xs ≡ false → filter (λ y. not (x == y)) xs ≡ xs
@@ -43,9 +43,9 @@ filter_absent x (y ∷ ys) none =
     filter_stays (λ z. not (x == z)) y ys (not_from_false (x == y) parts.0) ∙ ap (λ zs. y ∷ zs) (filter_absent x ys parts.1)
 
 -- the transaction of a fit entry is open
-pub fit_open : (before : List Entry) (e : Entry) → IsFit before e → e.tx ≢ 0 → (s : ℕ) × (tx_of before s ≡ e.tx)
+pub fit_open : (before : List Entry) (e : Entry) → IsFitEntry before e → e.tx ≢ 0 → (s : ℕ) × (tx_of before s ≡ e.tx)
 fit_open before e fit some =
-    ⊎_elim (λ (o : OfSession before e). (e.session, own e.act o.tx)) (λ (a : OfAdministrator before e). (a.begin.session, a.is_open)) fit.by
+    ⊎_elim (λ (o : IsSessionEntry before e). (e.session, own e.act o.tx)) (λ (a : IsAdministratorEntry before e). (a.begin.session, a.is_open)) fit.by
   where
     own : (a : Act) → FitsTx (tx_of before e.session) e.tx a → tx_of before e.session ≡ e.tx
     own act.Begin h = absurd (some h.0)
@@ -56,9 +56,9 @@ fit_open before e fit some =
     own act.Abort h = sym h.1
 
 -- what ends a transaction has one
-pub end_has_tx : (before : List Entry) (e : Entry) → IsFit before e → is_end e.act ≡ true → e.tx ≢ 0
+pub end_has_tx : (before : List Entry) (e : Entry) → IsFitEntry before e → is_end e.act ≡ true → e.tx ≢ 0
 end_has_tx before e fit ends =
-    ⊎_elim (λ (o : OfSession before e). own e.act ends o.tx) (λ (a : OfAdministrator before e). let is : e.tx ≡ a.at + 1 = a.tx in (let ne : e.tx ≢ 0 = omega arith in ne)) fit.by
+    ⊎_elim (λ (o : IsSessionEntry before e). own e.act ends o.tx) (λ (a : IsAdministratorEntry before e). let is : e.tx ≡ a.at + 1 = a.tx in (let ne : e.tx ≢ 0 = omega arith in ne)) fit.by
   where
     own : (a : Act) → is_end a ≡ true → FitsTx (tx_of before e.session) e.tx a → e.tx ≢ 0
     own act.Begin is h = absurd (cc is)
@@ -70,40 +70,40 @@ end_has_tx before e fit ends =
 
 module _ (p : Placement) (b : ℕ) (before : List Entry) (fits : AreFit before) (e : Entry) where
   -- an entry that concerns the backend does to its part what it does to the whole
-  pub step_concerned : concerns p b before e.tx e.act ≡ true → SameAtPart p b (step (run before) e) (step (part p b (run before)) e)
+  pub step_concerned : concerns p b before e.tx e.act ≡ true → SameAtPart p b (step (database_of before) e) (step (part p b (database_of before)) e)
   step_concerned = one e.act
     where
-      db : IsDatabase (run before)
+      db : IsDatabase (database_of before)
       db = (run_storable before fits).database
 
-      one : (a : Act) → concerns p b before e.tx a ≡ true → SameAtPart p b (acted (run before) e.tx a) (acted (part p b (run before)) e.tx a)
+      one : (a : Act) → concerns p b before e.tx a ≡ true → SameAtPart p b (acted (database_of before) e.tx a) (acted (part p b (database_of before)) e.tx a)
       one act.Begin on = absurd (cc on)
-      one (act.Write w) on = acted_hosted p b (run before) e.tx (act.Write w) db on
-      one (act.Create c) on = acted_hosted p b (run before) e.tx (act.Create c) db on
-      one (act.Drop name) on = acted_hosted p b (run before) e.tx (act.Drop name) db on
-      one act.Commit on = acted_hosted p b (run before) e.tx act.Commit db tt
-      one act.Abort on = acted_hosted p b (run before) e.tx act.Abort db tt
+      one (act.Write w) on = acted_hosted p b (database_of before) e.tx (act.Write w) db on
+      one (act.Create c) on = acted_hosted p b (database_of before) e.tx (act.Create c) db on
+      one (act.Drop name) on = acted_hosted p b (database_of before) e.tx (act.Drop name) db on
+      one act.Commit on = acted_hosted p b (database_of before) e.tx act.Commit db tt
+      one act.Abort on = acted_hosted p b (database_of before) e.tx act.Abort db tt
 
   -- any other leaves the part
-  pub step_unconcerned : concerns p b before e.tx e.act ≡ false → part p b (step (run before) e).db ≡ part p b (run before)
+  pub step_unconcerned : concerns p b before e.tx e.act ≡ false → part p b (step (database_of before) e).db ≡ part p b (database_of before)
   step_unconcerned = one e.act
     where
-      one : (a : Act) → concerns p b before e.tx a ≡ false → part p b (acted (run before) e.tx a).db ≡ part p b (run before)
+      one : (a : Act) → concerns p b before e.tx a ≡ false → part p b (acted (database_of before) e.tx a).db ≡ part p b (database_of before)
       one act.Begin off = refl
-      one (act.Write w) off = acted_elsewhere p b (run before) e.tx (act.Write w) off
-      one (act.Create c) off = acted_elsewhere p b (run before) e.tx (act.Create c) off
-      one (act.Drop name) off = acted_elsewhere p b (run before) e.tx (act.Drop name) off
+      one (act.Write w) off = acted_elsewhere p b (database_of before) e.tx (act.Write w) off
+      one (act.Create c) off = acted_elsewhere p b (database_of before) e.tx (act.Create c) off
+      one (act.Drop name) off = acted_elsewhere p b (database_of before) e.tx (act.Drop name) off
       one act.Commit off = part_committed_nothing p b e.tx before fits off
       one act.Abort off = part_aborted_nothing p b e.tx before fits off
 
   -- the backend has begun the transaction of a fit entry if it wrote there
-  pub fit_begun : IsFit before e → e.tx ≢ 0 → list_any (eqb e.tx) (begun_at p b before) ≡ wrote_at p b e.tx before
+  pub fit_begun : IsFitEntry before e → e.tx ≢ 0 → list_any (eqb e.tx) (begun_at p b before) ≡ wrote_at p b e.tx before
   fit_begun fit some =
       let is = fit_open before e fit some in
       subst (λ t. list_any (eqb t) (begun_at p b before) ≡ wrote_at p b t before) is.1 (open_begun p b is.0 before fits (λ z. some (sym is.1 ∙ z)))
 
   -- an entry that does not concern the backend leaves the transactions that it has begun
-  pub begun_unconcerned : IsFit before e → concerns p b before e.tx e.act ≡ false → begun_at p b (before ++ e ∷ []) ≡ begun_at p b before
+  pub begun_unconcerned : IsFitEntry before e → concerns p b before e.tx e.act ≡ false → begun_at p b (before ++ e ∷ []) ≡ begun_at p b before
   begun_unconcerned fit = one e.act refl
     where
       ended : is_end e.act ≡ true → wrote_at p b e.tx before ≡ false → begun_at p b (before ++ e ∷ []) ≡ begun_at p b before
@@ -122,13 +122,13 @@ module _ (p : Placement) (b : ℕ) (before : List Entry) (fits : AreFit before) 
 module _ (p : Placement) (b : ℕ) (entries : List Entry) (fits : AreFit entries) (k : ℕ) (e : Entry) (is : slice_get entries k ≡ Some e) where
   -- the part after an entry that concerns the backend
   pub part_at_concerned : concerns p b (take k entries) e.tx e.act ≡ true
-      → (part p b (at entries (k + 1)) ≡ (step (part p b (at entries k)) e).db) × ((step (part p b (at entries k)) e).outcome ≡ (step (at entries k) e).outcome)
+      → (part p b (database_after entries (k + 1)) ≡ (step (part p b (database_after entries k)) e).db) × ((step (part p b (database_after entries k)) e).outcome ≡ (step (database_after entries k) e).outcome)
   part_at_concerned on =
       let same = step_concerned p b (take k entries) (fit_take entries k fits) e on in
       (ap (part p b) (at_next entries k e is) ∙ same.0, same.1)
 
   -- and after any other
-  pub part_at_unconcerned : concerns p b (take k entries) e.tx e.act ≡ false → part p b (at entries (k + 1)) ≡ part p b (at entries k)
+  pub part_at_unconcerned : concerns p b (take k entries) e.tx e.act ≡ false → part p b (database_after entries (k + 1)) ≡ part p b (database_after entries k)
   part_at_unconcerned off = ap (part p b) (at_next entries k e is) ∙ step_unconcerned p b (take k entries) (fit_take entries k fits) e off
 
   -- the transactions that are begun after any other

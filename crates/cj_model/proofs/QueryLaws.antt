@@ -22,13 +22,13 @@ use Rattle.cj_model.specs.declared.answer.Asked.TheVariants.{Rows}
 use Rattle.cj_model.specs.declared.answer.Refusal.{Refusal}
 use Rattle.cj_model.specs.declared.codes.TheConstants.{NO_TABLE, NO_COLUMN, BAD_COLUMNS, OVERFLOW, WRONG_TYPE}
 use Rattle.cj_model.specs.declared.limits.TheConstants.{ANSWER_LIMIT, COLUMN_LIMIT, ITEM_LIMIT, TABLE_LIMIT}
-use Rattle.cj_model.specs.Tables.{IsTable, IsSlot, IsDatabase, slot_of}
-use Rattle.cj_model.specs.Changes.{bare, unless}
-use Rattle.cj_model.specs.Steps.{seen}
-use Rattle.cj_model.specs.Scopes.{Scope, scope_of, is_stranger, where_names_stranger, where_mixes_kinds, predicate_of}
-use Rattle.cj_model.specs.Evaluation.{meets}
-use Rattle.cj_model.specs.Order.{product}
-use Rattle.cj_model.specs.Queries.{listed, columns_named, has_bad_columns, sums_text, groups_answered, row_made, is_sum_outside, names_answered, name_of_item, answer_of, answered, tables_seen, asked_by, ask}
+use Rattle.cj_model.specs.Database.Tables.{IsTable, IsSlot, IsDatabase, slot_of}
+use Rattle.cj_model.specs.Database.Inserts.{refusal_of_code, refuse_if}
+use Rattle.cj_model.specs.Database.Steps.{seen}
+use Rattle.cj_model.specs.Database.Scopes.{Scope, scope_of, is_unknown_column, where_has_unknown_column, where_mixes_kinds, predicate_of}
+use Rattle.cj_model.specs.Database.Evaluation.{satisfies}
+use Rattle.cj_model.specs.Database.Order.{product}
+use Rattle.cj_model.specs.Database.Queries.{items_listed, columns_named, has_bad_columns, sums_text, groups_answered, answer_row, is_sum_out_of_range, names_answered, name_of_item, answer_of, answer_over, tables_seen, asked_by, ask}
 use Rattle.cj_model.proofs.DatabaseLaws.{found_is_slot, seen_is_table}
 use Rattle.cj_model.proofs.TableLaws.{unless_IfOk}
 
@@ -78,21 +78,21 @@ module _ (ts : List Table) (tables : All IsTable ts) (some : 0 < length ts) (few
   names_few (Listed items) h = omega (arith, length-map items name_of_item, h.1)
 
   answer_holds : (s : Select) (groups : List (List (List Value))) → HasItems s.items → IfOk (answer_of scope s groups) HasColumns
-  answer_holds s groups h = by (list_any (λ g. list_any (is_sum_outside scope g) (listed s.items)) groups)
+  answer_holds s groups h = by (list_any (λ g. list_any (is_sum_out_of_range scope g) (items_listed s.items)) groups)
     where
-      by : (b : Bool) → IfOk (unless b (bare OVERFLOW) (Ok (record { columns = names_answered scope s.items; rows = map (row_made scope s.items) groups }))) HasColumns
+      by : (b : Bool) → IfOk (refuse_if b (refusal_of_code OVERFLOW) (Ok (record { columns = names_answered scope s.items; rows = map (answer_row scope s.items) groups }))) HasColumns
       by true = tt
       by false = record { some = names_some s.items h; few = names_few s.items h }
 
-  pub answered_holds : (s : Select) → HasItems s.items → IfOk (answered ts s) HasColumns
+  pub answered_holds : (s : Select) → HasItems s.items → IfOk (answer_over ts s) HasColumns
   answered_holds s h =
-      let rows = filter (meets (option_map (predicate_of scope) s.cond)) (product (map (λ (t : Table). t.rows) ts)) in
+      let rows = filter (satisfies (option_map (predicate_of scope) s.cond)) (product (map (λ (t : Table). t.rows) ts)) in
       let given : Result Answer Refusal = answer_of scope s (groups_answered scope s rows) in
-      let mixed : Bool = where_mixes_kinds scope s.cond || list_any (sums_text scope) (listed s.items) in
-      let unknown : Bool = list_any (is_stranger scope) (columns_named s) || where_names_stranger scope s.cond in
-      unless_IfOk HasColumns unknown (bare NO_COLUMN) (unless (has_bad_columns scope s.items s.order s.group) (bare BAD_COLUMNS) (unless mixed (bare WRONG_TYPE) given)) (λ known.
-      unless_IfOk HasColumns (has_bad_columns scope s.items s.order s.group) (bare BAD_COLUMNS) (unless mixed (bare WRONG_TYPE) given) (λ good.
-      unless_IfOk HasColumns mixed (bare WRONG_TYPE) given (λ even. answer_holds s (groups_answered scope s rows) h)))
+      let mixed : Bool = where_mixes_kinds scope s.cond || list_any (sums_text scope) (items_listed s.items) in
+      let unknown : Bool = list_any (is_unknown_column scope) (columns_named s) || where_has_unknown_column scope s.cond in
+      unless_IfOk HasColumns unknown (refusal_of_code NO_COLUMN) (refuse_if (has_bad_columns scope s.items s.order s.group) (refusal_of_code BAD_COLUMNS) (refuse_if mixed (refusal_of_code WRONG_TYPE) given)) (λ known.
+      unless_IfOk HasColumns (has_bad_columns scope s.items s.order s.group) (refusal_of_code BAD_COLUMNS) (refuse_if mixed (refusal_of_code WRONG_TYPE) given) (λ good.
+      unless_IfOk HasColumns mixed (refusal_of_code WRONG_TYPE) given (λ even. answer_holds s (groups_answered scope s rows) h)))
 
 -- ---- the tables that are seen
 
@@ -128,7 +128,7 @@ module _ (db : List Slot) (tx : ℕ) (is : IsDatabase db) where
   ask_has_columns s a may e =
       let missing : Bool = list_any (λ n. is_none (slot_of db n)) s.tables in
       let ts : List Table = tables_seen db tx s.tables in
-      asked_holds (unless missing (bare NO_TABLE) (answered ts s)) a
-      (unless_IfOk HasColumns missing (bare NO_TABLE) (answered ts s) (λ there.
+      asked_holds (refuse_if missing (refusal_of_code NO_TABLE) (answer_over ts s)) a
+      (unless_IfOk HasColumns missing (refusal_of_code NO_TABLE) (answer_over ts s) (λ there.
       let count : length ts ≡ length s.tables = seen_each s.tables there in
       answered_holds ts (seen_tables s.tables) (omega (arith, count, may.some)) (omega (arith, count, may.few)) s may.items)) e

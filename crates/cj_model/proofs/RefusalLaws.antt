@@ -16,9 +16,9 @@ use Rattle.cj_model.specs.declared.answer.Asked.{Asked}
 use Rattle.cj_model.specs.declared.answer.Asked.TheVariants as asked
 use Rattle.cj_model.specs.declared.answer.Refusal.{Refusal}
 use Rattle.cj_model.specs.declared.codes.TheConstants.{NO_TABLE, NO_COLUMN, BAD_COLUMNS, OVERFLOW, DUPLICATE, WRONG_TYPE, ROWS_FULL}
-use Rattle.cj_model.specs.Changes.{bare, unless, too_many_rows, with_rows, inserted}
-use Rattle.cj_model.specs.Updates.{change}
-use Rattle.cj_model.specs.Queries.{answered, tables_seen, asked_by, ask}
+use Rattle.cj_model.specs.Database.Inserts.{refusal_of_code, refuse_if, too_many_rows, with_rows, inserted}
+use Rattle.cj_model.specs.Database.Updates.{change}
+use Rattle.cj_model.specs.Database.Queries.{answer_over, tables_seen, asked_by, ask}
 
 -- where there is a refusal, P holds of it
 record Refuses {A : Type 0} (P : Refusal → Type 0) (r : Result A Refusal) : Type 0 where
@@ -28,7 +28,7 @@ accepts : {A : Type 0} (P : Refusal → Type 0) (x : A) → Refuses P (Ok x)
 accepts P x = record { holds = tt }
 
 -- one refusal more
-coded : {A : Type 0} (P : Refusal → Type 0) (b : Bool) (r : Refusal) (otherwise : Result A Refusal) → P r → Refuses P otherwise → Refuses P (unless b r otherwise)
+coded : {A : Type 0} (P : Refusal → Type 0) (b : Bool) (r : Refusal) (otherwise : Result A Refusal) → P r → Refuses P otherwise → Refuses P (refuse_if b r otherwise)
 coded P true r otherwise p h = record { holds = p }
 coded P false r otherwise p h = h
 
@@ -37,29 +37,29 @@ coded P false r otherwise p h = h
 abbrev pub IsChangeRefusal : Refusal → Type 0
 IsChangeRefusal r = (NO_TABLE ≤ r.code) × (r.code ≤ ROWS_FULL)
 
-among : (code : ℕ) → NO_TABLE ≤ code → code ≤ ROWS_FULL → IsChangeRefusal (bare code)
+among : (code : ℕ) → NO_TABLE ≤ code → code ≤ ROWS_FULL → IsChangeRefusal (refusal_of_code code)
 among code low high = (low, high)
 
 with_rows_coded : (k : ℕ) (rows new : List (List Value)) → Refuses IsChangeRefusal (with_rows k rows new)
-with_rows_coded k rows new = coded IsChangeRefusal _ (bare DUPLICATE) _ (among DUPLICATE (omega arith) (omega arith)) (coded IsChangeRefusal _ (too_many_rows (length rows + length new)) _ (omega arith, omega arith) (accepts IsChangeRefusal _))
+with_rows_coded k rows new = coded IsChangeRefusal _ (refusal_of_code DUPLICATE) _ (among DUPLICATE (omega arith) (omega arith)) (coded IsChangeRefusal _ (too_many_rows (length rows + length new)) _ (omega arith, omega arith) (accepts IsChangeRefusal _))
 
 inserted_coded : (t : Table) (names : Option (List (List ℕ))) (tuples : List (List Term)) → Refuses IsChangeRefusal (inserted t names tuples)
 inserted_coded t names tuples =
-    coded IsChangeRefusal _ (bare NO_COLUMN) _ (among NO_COLUMN (omega arith) (omega arith))
-    (coded IsChangeRefusal _ (bare BAD_COLUMNS) _ (among BAD_COLUMNS (omega arith) (omega arith))
-    (coded IsChangeRefusal _ (bare WRONG_TYPE) _ (among WRONG_TYPE (omega arith) (omega arith))
+    coded IsChangeRefusal _ (refusal_of_code NO_COLUMN) _ (among NO_COLUMN (omega arith) (omega arith))
+    (coded IsChangeRefusal _ (refusal_of_code BAD_COLUMNS) _ (among BAD_COLUMNS (omega arith) (omega arith))
+    (coded IsChangeRefusal _ (refusal_of_code WRONG_TYPE) _ (among WRONG_TYPE (omega arith) (omega arith))
     (with_rows_coded t.schema.key t.rows _)))
 
 change_coded : (t : Table) (w : Write) → Refuses IsChangeRefusal (change t w)
 change_coded t (Insert name names tuples) = inserted_coded t names tuples
 change_coded t (Update name sets condition) =
-    coded IsChangeRefusal _ (bare NO_COLUMN) _ (among NO_COLUMN (omega arith) (omega arith))
-    (coded IsChangeRefusal _ (bare BAD_COLUMNS) _ (among BAD_COLUMNS (omega arith) (omega arith))
-    (coded IsChangeRefusal _ (bare WRONG_TYPE) _ (among WRONG_TYPE (omega arith) (omega arith))
-    (coded IsChangeRefusal _ (bare OVERFLOW) _ (among OVERFLOW (omega arith) (omega arith)) (accepts IsChangeRefusal _))))
+    coded IsChangeRefusal _ (refusal_of_code NO_COLUMN) _ (among NO_COLUMN (omega arith) (omega arith))
+    (coded IsChangeRefusal _ (refusal_of_code BAD_COLUMNS) _ (among BAD_COLUMNS (omega arith) (omega arith))
+    (coded IsChangeRefusal _ (refusal_of_code WRONG_TYPE) _ (among WRONG_TYPE (omega arith) (omega arith))
+    (coded IsChangeRefusal _ (refusal_of_code OVERFLOW) _ (among OVERFLOW (omega arith) (omega arith)) (accepts IsChangeRefusal _))))
 change_coded t (Delete name condition) =
-    coded IsChangeRefusal _ (bare NO_COLUMN) _ (among NO_COLUMN (omega arith) (omega arith))
-    (coded IsChangeRefusal _ (bare WRONG_TYPE) _ (among WRONG_TYPE (omega arith) (omega arith)) (accepts IsChangeRefusal _))
+    coded IsChangeRefusal _ (refusal_of_code NO_COLUMN) _ (among NO_COLUMN (omega arith) (omega arith))
+    (coded IsChangeRefusal _ (refusal_of_code WRONG_TYPE) _ (among WRONG_TYPE (omega arith) (omega arith)) (accepts IsChangeRefusal _))
 
 pub write_coded : (t : Table) (w : Write) → IfErr (change t w) IsChangeRefusal
 write_coded t w = (change_coded t w).holds
@@ -69,12 +69,12 @@ write_coded t w = (change_coded t w).holds
 abbrev pub IsQueryRefusal : Refusal → Type 0
 IsQueryRefusal r = (r.code ≡ NO_TABLE) ⊎ (r.code ≡ NO_COLUMN) ⊎ (r.code ≡ BAD_COLUMNS) ⊎ (r.code ≡ OVERFLOW) ⊎ (r.code ≡ WRONG_TYPE)
 
-answered_coded : (tables : List Table) (s : Select) → Refuses IsQueryRefusal (answered tables s)
+answered_coded : (tables : List Table) (s : Select) → Refuses IsQueryRefusal (answer_over tables s)
 answered_coded tables s =
-    coded IsQueryRefusal _ (bare NO_COLUMN) _ (inr (inl refl))
-    (coded IsQueryRefusal _ (bare BAD_COLUMNS) _ (inr (inr (inl refl)))
-    (coded IsQueryRefusal _ (bare WRONG_TYPE) _ (inr (inr (inr (inr refl))))
-    (coded IsQueryRefusal _ (bare OVERFLOW) _ (inr (inr (inr (inl refl)))) (accepts IsQueryRefusal _))))
+    coded IsQueryRefusal _ (refusal_of_code NO_COLUMN) _ (inr (inl refl))
+    (coded IsQueryRefusal _ (refusal_of_code BAD_COLUMNS) _ (inr (inr (inl refl)))
+    (coded IsQueryRefusal _ (refusal_of_code WRONG_TYPE) _ (inr (inr (inr (inr refl))))
+    (coded IsQueryRefusal _ (refusal_of_code OVERFLOW) _ (inr (inr (inr (inl refl)))) (accepts IsQueryRefusal _))))
 
 -- an answer, or one of these refusals
 abbrev pub IfRefused : Asked → (Refusal → Type 0) → Type 0
@@ -86,4 +86,4 @@ refused_by (Ok answer) h = tt
 refused_by (Err refusal) h = h.holds
 
 pub ask_coded : (db : List Slot) (tx : ℕ) (s : Select) → IfRefused (ask db tx s) IsQueryRefusal
-ask_coded db tx s = refused_by _ (coded IsQueryRefusal _ (bare NO_TABLE) _ (inl refl) (answered_coded (tables_seen db tx s.tables) s))
+ask_coded db tx s = refused_by _ (coded IsQueryRefusal _ (refusal_of_code NO_TABLE) _ (inl refl) (answered_coded (tables_seen db tx s.tables) s))

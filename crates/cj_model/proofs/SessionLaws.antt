@@ -5,7 +5,7 @@ use Rattle.std.proofs.lemmas.List.{take_more, take_at, drop_at, length-take, app
 use Rattle.std.specs.List.{list_any}
 use Rattle.cj_model.specs.declared.message.Message.{Message}
 use Rattle.cj_model.specs.declared.answer.Reply.{Reply}
-use Rattle.cj_model.specs.Session.{Session, Exchange, Exchanges, is_quit, answered}
+use Rattle.cj_model.specs.Wire.Sessions.{Session, Exchange, Exchanges, is_quit, answered_messages}
 
 -- the next message at the end
 pub exchanges_more : (s t u : Session) (ms : List Message) (rs : List Reply) (m : Message) (r : Reply) → Exchanges s ms rs t → Exchange t m r u → Exchanges s (ms ++ m ∷ []) (rs ++ r ∷ []) u
@@ -25,14 +25,14 @@ take_item xs i x lt is = take_more xs i x lt ∙ ap (λ y. take i xs ++ y ∷ []
 -- where the first i messages are answered: none of them is a Quit
 pub record AnsweredTo (ms : List Message) (i : ℕ) : Type 0 where
   pub within : i ≤ length ms
-  pub parts : answered ms ≡ take i ms ++ answered (drop i ms)
+  pub parts : answered_messages ms ≡ take i ms ++ answered_messages (drop i ms)
   pub quits : list_any is_quit ms ≡ list_any is_quit (drop i ms)
 
 pub answered_none : (ms : List Message) → AnsweredTo ms 0
 answered_none ms = record { within = omega arith; parts = refl; quits = refl }
 
 -- a message that is no Quit is answered
-pub answered_on : (m : Message) (ms : List Message) → is_quit m ≡ false → answered (m ∷ ms) ≡ m ∷ answered ms
+pub answered_on : (m : Message) (ms : List Message) → is_quit m ≡ false → answered_messages (m ∷ ms) ≡ m ∷ answered_messages ms
 answered_on m ms h = rw h refl
 
 quits_on : (m : Message) (ms : List Message) → is_quit m ≡ false → list_any is_quit (m ∷ ms) ≡ list_any is_quit ms
@@ -44,9 +44,9 @@ answered_more ms i m lt is no_quit before =
     let next : drop i ms ≡ m ∷ drop (i + 1) ms = drop_item ms i m lt is in
     record {
       within = omega arith;
-      parts = before.parts ∙ ap (λ (xs : List Message). take i ms ++ xs) (ap answered next ∙ answered_on m (drop (i + 1) ms) no_quit)
-          ∙ sym (append_assoc (take i ms) (m ∷ []) (answered (drop (i + 1) ms)))
-          ∙ ap (λ (xs : List Message). xs ++ answered (drop (i + 1) ms)) (sym (take_item ms i m lt is));
+      parts = before.parts ∙ ap (λ (xs : List Message). take i ms ++ xs) (ap answered_messages next ∙ answered_on m (drop (i + 1) ms) no_quit)
+          ∙ sym (append_assoc (take i ms) (m ∷ []) (answered_messages (drop (i + 1) ms)))
+          ∙ ap (λ (xs : List Message). xs ++ answered_messages (drop (i + 1) ms)) (sym (take_item ms i m lt is));
       quits = before.quits ∙ ap (list_any is_quit) next ∙ quits_on m (drop (i + 1) ms) no_quit;
     }
 
@@ -54,23 +54,23 @@ length_front : (ms : List Message) (i : ℕ) → i ≤ length ms → length (tak
 length_front ms i within = omega (arith, length-take i ms)
 
 -- the answered messages up to there
-pub front_of_answered : (ms : List Message) (i : ℕ) → AnsweredTo ms i → take i (answered ms) ≡ take i ms
-front_of_answered ms i a = ap (take i) a.parts ∙ take_at (take i ms) (answered (drop i ms)) i (length_front ms i a.within)
+pub front_of_answered : (ms : List Message) (i : ℕ) → AnsweredTo ms i → take i (answered_messages ms) ≡ take i ms
+front_of_answered ms i a = ap (take i) a.parts ∙ take_at (take i ms) (answered_messages (drop i ms)) i (length_front ms i a.within)
 
 -- and those after it
-pub rest_of_answered : (ms : List Message) (i : ℕ) → AnsweredTo ms i → drop i (answered ms) ≡ answered (drop i ms)
-rest_of_answered ms i a = ap (drop i) a.parts ∙ drop_at (take i ms) (answered (drop i ms)) i (length_front ms i a.within)
+pub rest_of_answered : (ms : List Message) (i : ℕ) → AnsweredTo ms i → drop i (answered_messages ms) ≡ answered_messages (drop i ms)
+rest_of_answered ms i a = ap (drop i) a.parts ∙ drop_at (take i ms) (answered_messages (drop i ms)) i (length_front ms i a.within)
 
 -- at a Quit the messages before it are those that are answered
-pub answered_at_quit : (ms : List Message) (i : ℕ) (m : Message) → i < length ms → m ≡ get_or ms i m → is_quit m ≡ true → AnsweredTo ms i → (answered ms ≡ take i ms) × (list_any is_quit ms ≡ true)
+pub answered_at_quit : (ms : List Message) (i : ℕ) (m : Message) → i < length ms → m ≡ get_or ms i m → is_quit m ≡ true → AnsweredTo ms i → (answered_messages ms ≡ take i ms) × (list_any is_quit ms ≡ true)
 answered_at_quit ms i m lt is quit a =
     let next : drop i ms ≡ m ∷ drop (i + 1) ms = drop_item ms i m lt is in
-    let none : answered (m ∷ drop (i + 1) ms) ≡ [] = rw quit refl in
+    let none : answered_messages (m ∷ drop (i + 1) ms) ≡ [] = rw quit refl in
     let some : list_any is_quit (m ∷ drop (i + 1) ms) ≡ true = rw quit refl in
-    (a.parts ∙ ap (λ (xs : List Message). take i ms ++ xs) (ap answered next ∙ none) ∙ append-nil (take i ms), a.quits ∙ ap (list_any is_quit) next ∙ some)
+    (a.parts ∙ ap (λ (xs : List Message). take i ms ++ xs) (ap answered_messages next ∙ none) ∙ append-nil (take i ms), a.quits ∙ ap (list_any is_quit) next ∙ some)
 
 -- where no Quit came all are answered
-pub answered_at_end : (ms : List Message) (i : ℕ) → length ms ≤ i → AnsweredTo ms i → (answered ms ≡ take i ms) × (list_any is_quit ms ≡ false)
+pub answered_at_end : (ms : List Message) (i : ℕ) → length ms ≤ i → AnsweredTo ms i → (answered_messages ms ≡ take i ms) × (list_any is_quit ms ≡ false)
 answered_at_end ms i le a =
     let none : drop i ms ≡ [] = drop_all i ms le in
-    (a.parts ∙ ap (λ (xs : List Message). take i ms ++ xs) (ap answered none) ∙ append-nil (take i ms), a.quits ∙ ap (list_any is_quit) none)
+    (a.parts ∙ ap (λ (xs : List Message). take i ms ++ xs) (ap answered_messages none) ∙ append-nil (take i ms), a.quits ∙ ap (list_any is_quit) none)

@@ -26,22 +26,22 @@ use Rattle.cj_model.specs.declared.request.Request.{Request}
 use Rattle.cj_model.specs.declared.request.Request.TheVariants as request
 use Rattle.cj_model.specs.declared.term.Cmp.{Cmp}
 use Rattle.cj_model.specs.declared.limits.TheConstants.{NAME_LIMIT, TEXT_LIMIT}
-use Rattle.cj_model.specs.Conditions.{Condition, Test, Not, And, Or}
-use Rattle.cj_model.specs.Words.{lower, IsText}
-use Rattle.cj_model.specs.Lexical.{is_letter, is_word, Each, IsWord, keyword, Spells, Tokens}
-use Rattle.cj_model.specs.TermForms as t
-use Rattle.cj_model.specs.TermForms.{ConstForm, TermForm, ExprForm, EachFits, commas, const_tokens, const_meant, qualifier_tokens, col_tokens, term_tokens, term_meant, expr_tokens, expr_meant}
-use Rattle.cj_model.specs.ConditionForms as c
-use Rattle.cj_model.specs.ConditionForms.{CondForm, OrsForm, ConjForm, AndsForm, PrimForm, cmp_token, cond_tokens, ors_tokens, conj_tokens, ands_tokens, prim_tokens, cond_meant, ors_meant, conj_meant, ands_meant, prim_meant}
-use Rattle.cj_model.specs.Grammar as g
-use Rattle.cj_model.specs.Grammar.{SetForm, Direction, KeyForm, SelectForm, Statement, name_tokens, kind_token, primary_tokens, coldef_tokens, tuple_tokens, list_tokens, set_tokens, where_tokens, item_tokens, items_tokens, group_tokens, direction_tokens, key_tokens, order_tokens, limit_tokens, statement_tokens, set_meant, where_meant, key_meant, statement_meant, end_tokens, TextReads}
+use Rattle.cj_model.specs.Database.Conditions.{Condition, Test, Not, And, Or}
+use Rattle.cj_model.specs.Sql.Names.{lower, IsText}
+use Rattle.cj_model.specs.Sql.Lexical.{is_letter, is_word, EachByte, IsWordSpelling, keyword, Spells, Tokens}
+use Rattle.cj_model.specs.Sql.TermForms as t
+use Rattle.cj_model.specs.Sql.TermForms.{ConstForm, TermForm, ExprForm, EachFits, commas, const_tokens, const_meant, qualifier_tokens, col_tokens, term_tokens, term_meant, expr_tokens, expr_meant}
+use Rattle.cj_model.specs.Sql.ConditionForms as c
+use Rattle.cj_model.specs.Sql.ConditionForms.{CondForm, OrsForm, ConjForm, AndsForm, PrimForm, cmp_token, cond_tokens, ors_tokens, conj_tokens, ands_tokens, prim_tokens, cond_meant, ors_meant, conj_meant, ands_meant, prim_meant}
+use Rattle.cj_model.specs.Sql.Grammar as g
+use Rattle.cj_model.specs.Sql.Grammar.{SetForm, Direction, KeyForm, SelectForm, Statement, name_tokens, kind_token, primary_tokens, coldef_tokens, tuple_tokens, list_tokens, set_tokens, where_tokens, item_tokens, items_tokens, group_tokens, direction_tokens, key_tokens, order_tokens, limit_tokens, statement_tokens, set_meant, where_meant, key_meant, statement_meant, end_tokens, TextReadsAs}
 
 -- ---- tokens
 
 -- what a token of some text is, with its names in lower case
 abbrev pub IsToken : Token → Type 0
 IsToken (token.Word k) = Unit {0}
-IsToken (token.Name n) = IsWord n × (length n ≤ NAME_LIMIT) × (keyword n ≡ None) × (n ≡ map lower n)
+IsToken (token.Name n) = IsWordSpelling n × (length n ≤ NAME_LIMIT) × (keyword n ≡ None) × (n ≡ map lower n)
 IsToken (token.Number n) = n ≤ 2 ^ 63
 IsToken (token.Text x) = IsText x × (length x ≤ TEXT_LIMIT)
 IsToken (token.Symbol s) = Unit {0}
@@ -57,11 +57,11 @@ letter_lower b h = grind (arith, nat_tests, h)
 word_lower : (b : ℕ) → is_word b ≡ true → is_word (lower b) ≡ true
 word_lower b h = grind (arith, nat_tests, h)
 
-each_lower : (z : List ℕ) → Each is_word z → Each is_word (map lower z)
+each_lower : (z : List ℕ) → EachByte is_word z → EachByte is_word (map lower z)
 each_lower [] h = tt
 each_lower (b ∷ z) h = (word_lower b h.0, each_lower z h.1)
 
-is_word_lower : (z : List ℕ) → IsWord z → IsWord (map lower z)
+is_word_lower : (z : List ℕ) → IsWordSpelling z → IsWordSpelling (map lower z)
 is_word_lower [] h = absurd h
 is_word_lower (b ∷ z) h = (letter_lower b h.0, each_lower z h.1)
 
@@ -69,7 +69,7 @@ lower_again : (z : List ℕ) → map lower (map lower z) ≡ map lower z
 lower_again [] = refl
 lower_again (b ∷ z) = rw (lowercase-lowercase b, lower_again z) refl
 
-spelled_name : (n z : List ℕ) → n ≡ map lower z → IsWord z → length z ≤ NAME_LIMIT → keyword n ≡ None → IsToken (token.Name n)
+spelled_name : (n z : List ℕ) → n ≡ map lower z → IsWordSpelling z → length z ≤ NAME_LIMIT → keyword n ≡ None → IsToken (token.Name n)
 spelled_name n z e w l k =
     let same : length (map lower z) ≡ length z = length-map z lower in
     (rw e (is_word_lower z w), rw e (omega (arith, same, l)), k, rw e (sym (lower_again z)))
@@ -347,7 +347,7 @@ statement_fine g.commit rest h = tt
 statement_fine g.rollback rest h = tt
 
 -- what some text reads as is fine
-pub request_fine : (text : List ℕ) (r : Request) → TextReads text r → FineRequest r
+pub request_fine : (text : List ℕ) (r : Request) → TextReadsAs text r → FineRequest r
 request_fine text r h =
     let s = h.reads.statement in
     let rest = end_tokens h.reads.semicolon in

@@ -29,23 +29,23 @@ use Rattle.cj_model.specs.declared.request.Act.{Act}
 use Rattle.cj_model.specs.declared.request.Act.TheVariants as act
 use Rattle.cj_model.specs.declared.codes.TheConstants.{NO_COLUMN, BAD_COLUMNS, DUPLICATE, OVERFLOW, WRONG_TYPE}
 use Rattle.cj_model.specs.declared.limits.TheConstants.{COLUMN_LIMIT, NAME_LIMIT, ROW_LIMIT}
-use Rattle.cj_model.specs.Words.{is_spelled_as_name, is_name}
-use Rattle.cj_model.specs.Literals.{IsConstant}
-use Rattle.cj_model.specs.Conditions.{Condition}
-use Rattle.cj_model.specs.Predicates.{Predicate}
-use Rattle.cj_model.specs.Tables.{IsSlot, cell, by_key, by_table, table_of, slot_of, put_by, fits_columns}
-use Rattle.cj_model.specs.TermForms as t
-use Rattle.cj_model.specs.TermForms.{ConstForm, TermForm, ExprForm, EachFits, SomeFit, const_meant, term_meant, expr_meant, ConstFits, TermFits, ExprFits}
-use Rattle.cj_model.specs.Grammar as g
-use Rattle.cj_model.specs.Grammar.{Statement, set_meant, where_meant, statement_meant, SetFits, StatementFits}
-use Rattle.cj_model.specs.Changes.{Changed, bare, unless, constant, row_of, lists_stranger, lists_unevenly, has_key, has_key_twice, too_many_rows, inserted}
-use Rattle.cj_model.specs.Scopes.{Scope, scope_of, place, where_mixes_kinds, operand_of, formula_of, predicate_of}
-use Rattle.cj_model.specs.Evaluation.{meets, value_in, worth, is_outside}
-use Rattle.cj_model.specs.Updates.{column_set, sets_twice, sets_key, set_mixes_kinds, Assignment, assignment_of, assigned, overflows, with_new_values, updated, without_rows, deleted, change}
-use Rattle.cj_model.specs.Steps.{Stepped, seen_behind, seen, other_writer, with_table, table_written, write_done, write_unless_locked, write_in, written, make_schema, empty_slot, created, drop_unless_locked, drop_in, dropped, commit_behind, committed, abort_behind, aborted, acted}
-use Rattle.cj_model.specs.Plain.{request_of}
-use Rattle.cj_model.specs.Legality.{IsWritten}
-use Rattle.cj_model.specs.Storable.{IsFreeName, IsStorableTable, IsStorableSlot, IsStorable}
+use Rattle.cj_model.specs.Sql.Names.{is_spelled_as_name, is_name}
+use Rattle.cj_model.specs.Sql.Literals.{IsConstant}
+use Rattle.cj_model.specs.Database.Conditions.{Condition}
+use Rattle.cj_model.specs.Database.Predicates.{Predicate}
+use Rattle.cj_model.specs.Database.Tables.{IsSlot, cell, by_key, by_table, table_of, slot_of, put_by, fits_columns}
+use Rattle.cj_model.specs.Sql.TermForms as t
+use Rattle.cj_model.specs.Sql.TermForms.{ConstForm, TermForm, ExprForm, EachFits, SomeFit, const_meant, term_meant, expr_meant, ConstFits, TermFits, ExprFits}
+use Rattle.cj_model.specs.Sql.Grammar as g
+use Rattle.cj_model.specs.Sql.Grammar.{Statement, set_meant, where_meant, statement_meant, SetFits, StatementFits}
+use Rattle.cj_model.specs.Database.Inserts.{Changed, refusal_of_code, refuse_if, constant_value, row_of, lists_unknown_column, lists_unevenly, has_key, has_key_twice, too_many_rows, inserted}
+use Rattle.cj_model.specs.Database.Scopes.{Scope, scope_of, column_place, where_mixes_kinds, operand_of, formula_of, predicate_of}
+use Rattle.cj_model.specs.Database.Evaluation.{satisfies, operand_value, value_of, is_out_of_range}
+use Rattle.cj_model.specs.Database.Updates.{column_set, sets_twice, sets_key, set_mixes_kinds, Assignment, assignment_of, assigned, overflows, with_new_values, updated, without_rows, deleted, change}
+use Rattle.cj_model.specs.Database.Steps.{Stepped, seen_behind, seen, other_writer, with_table, table_written, write_done, write_unless_locked, write_in, written, make_schema, empty_slot, created, drop_unless_locked, drop_in, dropped, commit_behind, committed, abort_behind, aborted, acted}
+use Rattle.cj_model.specs.Sql.PlainRequests.{request_of}
+use Rattle.cj_model.specs.Cluster.Legality.{IsWritten}
+use Rattle.cj_model.specs.Database.Storable.{IsFreeName, IsStorableTable, IsStorableSlot, IsStorable}
 use Rattle.cj_model.proofs.Columns.{read_columns}
 use Rattle.cj_model.proofs.DatabaseLaws.{written_keeps, created_keeps, dropped_keeps, committed_keeps, aborted_keeps}
 use Rattle.cj_model.proofs.Names.{spelled_as_name}
@@ -69,7 +69,7 @@ abbrev AreConstants : List Value → Type 0
 AreConstants row = All IsConstant row
 
 -- a number that is not outside 64 bits
-within_is_constant : (z : ℤ) → is_outside (Int z) ≡ false → IsConstant (Int z)
+within_is_constant : (z : ℤ) → is_out_of_range (Int z) ≡ false → IsConstant (Int z)
 within_is_constant (pos n) h = omega (arith, ltb-false 9223372036854775807 n h)
 within_is_constant (negsuc n) h = omega (arith, ltb-false 9223372036854775807 n (or_parts (nat_lt 9223372036854775807 n) false h).0)
 
@@ -84,7 +84,7 @@ cell_is_constant row n h = elim (cases_lt n (length row)) [
 
 -- the value of a term is a constant; one that is no literal has the value 0 here
 abbrev IsConstantTerm : Term → Type 0
-IsConstantTerm t = IsConstant (constant t)
+IsConstantTerm t = IsConstant (constant_value t)
 
 -- the value of a written constant
 const_is_constant : (f : ConstForm) → ConstFits f → FineTerm (const_meant f) → IsConstantTerm (const_meant f)
@@ -157,9 +157,9 @@ place_is_constant tuple n h = elim (cases_lt n (length tuple)) [
 ]
 
 row_is_constant : (columns : List Column) (names : Option (List (List ℕ))) (tuple : List Term) → All IsConstantTerm tuple → AreConstants (row_of columns names tuple)
-row_is_constant columns None tuple h = All-map IsConstant constant tuple h
+row_is_constant columns None tuple h = All-map IsConstant constant_value tuple h
 row_is_constant columns (Some names) tuple h =
-    All-map IsConstant (λ (c : Column). constant (slice_index_or tuple (unwrap_or (position (bytes_eq c.name) names) 0) Now)) columns
+    All-map IsConstant (λ (c : Column). constant_value (slice_index_or tuple (unwrap_or (position (bytes_eq c.name) names) 0) Now)) columns
     (λ k d l. place_is_constant tuple _ h)
 
 inserted_constants : (t : Table) (names : Option (List (List ℕ))) (tuples : List (List Term)) → All AreConstants t.rows → All (All IsConstantTerm) tuples → IfOk (inserted t names tuples) MakesConstants
@@ -170,51 +170,51 @@ inserted_constants t names tuples rows h =
     let total : ℕ = length t.rows + length new in
     let fresh : All AreConstants new = All-map AreConstants (row_of columns names) tuples (All-weaker (All IsConstantTerm) (λ u. AreConstants (row_of columns names u)) (row_is_constant columns names) tuples h) in
     let put : Changed = Ok (fold (put_by (by_key key)) t.rows new, length new) in
-    let within : Changed = unless (nat_lt ROW_LIMIT total) (too_many_rows total) put in
-    let single : Changed = unless (list_any (has_key key t.rows) new || has_key_twice key new) (bare DUPLICATE) within in
-    let even : Changed = unless (list_any (λ u. not (fits_columns columns (row_of columns names u))) tuples) (bare WRONG_TYPE) single in
-    let whole : Changed = unless (lists_unevenly columns names || list_any (λ (u : List Term). not (length u == length columns)) tuples) (bare BAD_COLUMNS) even in
-    unless_IfOk MakesConstants (lists_stranger columns names) (bare NO_COLUMN) whole (λ _.
-    unless_IfOk MakesConstants _ (bare BAD_COLUMNS) even (λ _.
-    unless_IfOk MakesConstants _ (bare WRONG_TYPE) single (λ _.
-    unless_IfOk MakesConstants _ (bare DUPLICATE) within (λ _.
+    let within : Changed = refuse_if (nat_lt ROW_LIMIT total) (too_many_rows total) put in
+    let single : Changed = refuse_if (list_any (has_key key t.rows) new || has_key_twice key new) (refusal_of_code DUPLICATE) within in
+    let even : Changed = refuse_if (list_any (λ u. not (fits_columns columns (row_of columns names u))) tuples) (refusal_of_code WRONG_TYPE) single in
+    let whole : Changed = refuse_if (lists_unevenly columns names || list_any (λ (u : List Term). not (length u == length columns)) tuples) (refusal_of_code BAD_COLUMNS) even in
+    unless_IfOk MakesConstants (lists_unknown_column columns names) (refusal_of_code NO_COLUMN) whole (λ _.
+    unless_IfOk MakesConstants _ (refusal_of_code BAD_COLUMNS) even (λ _.
+    unless_IfOk MakesConstants _ (refusal_of_code WRONG_TYPE) single (λ _.
+    unless_IfOk MakesConstants _ (refusal_of_code DUPLICATE) within (λ _.
     unless_IfOk MakesConstants _ (too_many_rows total) put (λ _.
     all_put_each (by_key key) AreConstants t.rows new rows fresh)))))
 
 -- ---- UPDATE
 
-operand_is_constant : (scope : Scope) (row : List Value) (a : Term) → AreConstants row → IsConstantTerm a → IsConstant (value_in row (operand_of scope a))
+operand_is_constant : (scope : Scope) (row : List Value) (a : Term) → AreConstants row → IsConstantTerm a → IsConstant (operand_value row (operand_of scope a))
 operand_is_constant scope row (Lit v) h k = k
-operand_is_constant scope row (Col r) h k = cell_is_constant row (place scope r) h
+operand_is_constant scope row (Col r) h k = cell_is_constant row (column_place scope r) h
 operand_is_constant scope row Now h k = k
 operand_is_constant scope row (Rand n) h k = k
 
-worth_is_constant : (scope : Scope) (row : List Value) (e : Expr) → AreConstants row → IsConstantExpr e → is_outside (worth row (formula_of scope e)) ≡ false → IsConstant (worth row (formula_of scope e))
+worth_is_constant : (scope : Scope) (row : List Value) (e : Expr) → AreConstants row → IsConstantExpr e → is_out_of_range (value_of row (formula_of scope e)) ≡ false → IsConstant (value_of row (formula_of scope e))
 worth_is_constant scope row (One a) h k within = operand_is_constant scope row a h k
 worth_is_constant scope row (Plus a b) h k within = within_is_constant _ within
 worth_is_constant scope row (Minus a b) h k within = within_is_constant _ within
 
 -- new values that are not outside 64 bits
 assigned_constants : (scope : Scope) (sets : List Set) (row new : List Value) → AreConstants row → All (λ (s : Set). IsConstantExpr s.value) sets → overflows (map (assignment_of scope) sets) row ≡ false → AreConstants new
-    → AreConstants (fold (λ new (a : Assignment). slice_set new a.place (worth row a.value)) new (map (assignment_of scope) sets))
+    → AreConstants (fold (λ new (a : Assignment). slice_set new a.place (value_of row a.value)) new (map (assignment_of scope) sets))
 assigned_constants scope [] row new h k within n = n
 assigned_constants scope (s ∷ sets) row new h k within n =
-    let parts = or_parts (is_outside (worth row (formula_of scope s.value))) (overflows (map (assignment_of scope) sets) row) within in
+    let parts = or_parts (is_out_of_range (value_of row (formula_of scope s.value))) (overflows (map (assignment_of scope) sets) row) within in
     let first : IsConstantExpr s.value = All-head (λ (s : Set). IsConstantExpr s.value) s sets k in
-    assigned_constants scope sets row (slice_set new (place scope (column_set s)) (worth row (formula_of scope s.value))) h (All-tail (λ (s : Set). IsConstantExpr s.value) s sets k) parts.1
-    (All-set IsConstant new (place scope (column_set s)) (worth row (formula_of scope s.value)) (worth_is_constant scope row s.value h first parts.0) n)
+    assigned_constants scope sets row (slice_set new (column_place scope (column_set s)) (value_of row (formula_of scope s.value))) h (All-tail (λ (s : Set). IsConstantExpr s.value) s sets k) parts.1
+    (All-set IsConstant new (column_place scope (column_set s)) (value_of row (formula_of scope s.value)) (worth_is_constant scope row s.value h first parts.0) n)
 
 -- the rows that meet the condition with their new values, where none of these is outside 64 bits
 rows_assigned : (scope : Scope) (sets : List Set) (condition : Option Predicate) (rows : List (List Value)) → All (λ (s : Set). IsConstantExpr s.value) sets → All AreConstants rows
-    → list_any (λ r. meets condition r && overflows (map (assignment_of scope) sets) r) rows ≡ false
-    → All AreConstants (map (λ r. cond (meets condition r) (assigned (map (assignment_of scope) sets) r) r) rows)
+    → list_any (λ r. satisfies condition r && overflows (map (assignment_of scope) sets) r) rows ≡ false
+    → All AreConstants (map (λ r. cond (satisfies condition r) (assigned (map (assignment_of scope) sets) r) r) rows)
 rows_assigned scope sets condition [] k h within = All-nil AreConstants
 rows_assigned scope sets condition (r ∷ rows) k h within =
     let assignments : List Assignment = map (assignment_of scope) sets in
-    let parts = or_parts (meets condition r && overflows assignments r) (list_any (λ r. meets condition r && overflows assignments r) rows) within in
+    let parts = or_parts (satisfies condition r && overflows assignments r) (list_any (λ r. satisfies condition r && overflows assignments r) rows) within in
     let first : AreConstants r = All-head AreConstants r rows h in
-    All-cons AreConstants (cond (meets condition r) (assigned assignments r) r) (map (λ r. cond (meets condition r) (assigned assignments r) r) rows)
-    (cond_both (meets condition r) (assigned assignments r) r AreConstants (λ e. assigned_constants scope sets r r first k (subst (λ b. (b && overflows assignments r) ≡ false) e parts.0) first) (λ _. first))
+    All-cons AreConstants (cond (satisfies condition r) (assigned assignments r) r) (map (λ r. cond (satisfies condition r) (assigned assignments r) r) rows)
+    (cond_both (satisfies condition r) (assigned assignments r) r AreConstants (λ e. assigned_constants scope sets r r first k (subst (λ b. (b && overflows assignments r) ≡ false) e parts.0) first) (λ _. first))
     (rows_assigned scope sets condition rows k (All-tail AreConstants r rows h) parts.1)
 
 updated_constants : (t : Table) (sets : List Set) (condition : Option Condition) → All AreConstants t.rows → All (λ (s : Set). IsConstantExpr s.value) sets → IfOk (updated t sets condition) MakesConstants
@@ -223,12 +223,12 @@ updated_constants t sets condition rows h =
     let assignments : List Assignment = map (assignment_of scope) sets in
     let found : Option Predicate = option_map (predicate_of scope) condition in
     let new : Changed = with_new_values t.rows assignments found in
-    let even : Changed = unless (list_any (set_mixes_kinds scope) sets || where_mixes_kinds scope condition) (bare WRONG_TYPE) new in
-    let unkeyed : Changed = unless (sets_twice sets || list_any (sets_key scope t.schema.key) sets) (bare BAD_COLUMNS) even in
-    unless_IfOk MakesConstants _ (bare NO_COLUMN) unkeyed (λ _.
-    unless_IfOk MakesConstants _ (bare BAD_COLUMNS) even (λ _.
-    unless_IfOk MakesConstants _ (bare WRONG_TYPE) new (λ _.
-    unless_IfOk MakesConstants (list_any (λ r. meets found r && overflows assignments r) t.rows) (bare OVERFLOW) (Ok (map (λ r. cond (meets found r) (assigned assignments r) r) t.rows, count_by (meets found) t.rows))
+    let even : Changed = refuse_if (list_any (set_mixes_kinds scope) sets || where_mixes_kinds scope condition) (refusal_of_code WRONG_TYPE) new in
+    let unkeyed : Changed = refuse_if (sets_twice sets || list_any (sets_key scope t.schema.key) sets) (refusal_of_code BAD_COLUMNS) even in
+    unless_IfOk MakesConstants _ (refusal_of_code NO_COLUMN) unkeyed (λ _.
+    unless_IfOk MakesConstants _ (refusal_of_code BAD_COLUMNS) even (λ _.
+    unless_IfOk MakesConstants _ (refusal_of_code WRONG_TYPE) new (λ _.
+    unless_IfOk MakesConstants (list_any (λ r. satisfies found r && overflows assignments r) t.rows) (refusal_of_code OVERFLOW) (Ok (map (λ r. cond (satisfies found r) (assigned assignments r) r) t.rows, count_by (satisfies found) t.rows))
     (λ within. rows_assigned scope sets found t.rows h rows within))))
 
 -- ---- any write to a table
@@ -238,9 +238,9 @@ deleted_constants t condition rows =
     let scope = scope_of (t.schema ∷ []) in
     let found : Option Predicate = option_map (predicate_of scope) condition in
     let rest : Changed = without_rows t.rows found in
-    unless_IfOk MakesConstants _ (bare NO_COLUMN) (unless (where_mixes_kinds scope condition) (bare WRONG_TYPE) rest) (λ _.
-    unless_IfOk MakesConstants _ (bare WRONG_TYPE) rest (λ _.
-    All-filter (λ r. not (meets found r)) AreConstants t.rows rows))
+    unless_IfOk MakesConstants _ (refusal_of_code NO_COLUMN) (refuse_if (where_mixes_kinds scope condition) (refusal_of_code WRONG_TYPE) rest) (λ _.
+    unless_IfOk MakesConstants _ (refusal_of_code WRONG_TYPE) rest (λ _.
+    All-filter (λ r. not (satisfies found r)) AreConstants t.rows rows))
 
 change_constants : (t : Table) (w : Write) → All AreConstants t.rows → PutsConstants w → IfOk (change t w) MakesConstants
 change_constants t (Insert name names tuples) rows h = inserted_constants t names tuples rows h

@@ -18,10 +18,10 @@ use Rattle.cj_model.specs.declared.database.Table.{Table}
 use Rattle.cj_model.specs.declared.answer.Refusal.{Refusal}
 use Rattle.cj_model.specs.declared.codes.TheConstants.{NO_COLUMN, BAD_COLUMNS, DUPLICATE, WRONG_TYPE}
 use Rattle.cj_model.specs.declared.limits.TheConstants.{ROW_LIMIT}
-use Rattle.cj_model.specs.Values.{kind_of, value_total}
-use Rattle.cj_model.specs.Tables.{IsTable, cell, by_key, put_by, fits_columns, column_names, same_kind}
-use Rattle.cj_model.specs.Changes.{Changed, bare, unless, row_of, lists_stranger, lists_unevenly, has_key, has_key_twice, too_many_rows, with_rows, inserted}
-use Rattle.cj_model.specs.Replies.{IsEven}
+use Rattle.cj_model.specs.Database.Values.{kind_of, value_total}
+use Rattle.cj_model.specs.Database.Tables.{IsTable, cell, by_key, put_by, fits_columns, column_names, same_kind}
+use Rattle.cj_model.specs.Database.Inserts.{Changed, refusal_of_code, refuse_if, row_of, lists_unknown_column, lists_unevenly, has_key, has_key_twice, too_many_rows, with_rows, inserted}
+use Rattle.cj_model.specs.Wire.Replies.{IsEven}
 use Rattle.cj_model.proofs.RisingLaws.{all_put_each, length-put_each, rises_put_each}
 
 -- rows have a total order by their keys
@@ -29,7 +29,7 @@ pub by_key_total : (k : ℕ) → IsTotalOrder (by_key k)
 by_key_total k = on_total (λ r. cell r k) value_total
 
 -- what holds where there is no refusal
-pub unless_IfOk : {A : Type 0} (P : A → Type 0) (b : Bool) (r : Refusal) (otherwise : Result A Refusal) → (b ≡ false → IfOk otherwise P) → IfOk (unless b r otherwise) P
+pub unless_IfOk : {A : Type 0} (P : A → Type 0) (b : Bool) (r : Refusal) (otherwise : Result A Refusal) → (b ≡ false → IfOk otherwise P) → IfOk (refuse_if b r otherwise) P
 unless_IfOk P true r otherwise h = tt
 unless_IfOk P false r otherwise h = h refl
 
@@ -56,7 +56,7 @@ pub with_rows_keeps : (t : Table) (new : List (List Value)) → IsTable t → Al
 with_rows_keeps t new is fits =
     let total : ℕ = length t.rows + length new in
     let put : Changed = Ok (fold (put_by (by_key t.schema.key)) t.rows new, length new) in
-    unless_IfOk (IsTableWith t.schema) (list_any (has_key t.schema.key t.rows) new || has_key_twice t.schema.key new) (bare DUPLICATE) (unless (nat_lt ROW_LIMIT total) (too_many_rows total) put) (λ fresh.
+    unless_IfOk (IsTableWith t.schema) (list_any (has_key t.schema.key t.rows) new || has_key_twice t.schema.key new) (refusal_of_code DUPLICATE) (refuse_if (nat_lt ROW_LIMIT total) (too_many_rows total) put) (λ fresh.
     unless_IfOk (IsTableWith t.schema) (nat_lt ROW_LIMIT total) (too_many_rows total) put (λ room. rows_put t new is fits room))
 
 -- where no item fails the test, all that is made of the items passes it
@@ -72,9 +72,9 @@ inserted_keeps t names tuples is =
     let even : Bool = lists_unevenly columns names || list_any (λ (u : List Term). not (length u == length columns)) tuples in
     let misfit : Bool = list_any (λ u. not (fits_columns columns (row_of columns names u))) tuples in
     let put : Changed = with_rows t.schema.key t.rows (map (row_of columns names) tuples) in
-    unless_IfOk (IsTableWith t.schema) (lists_stranger columns names) (bare NO_COLUMN) (unless even (bare BAD_COLUMNS) (unless misfit (bare WRONG_TYPE) put)) (λ known.
-    unless_IfOk (IsTableWith t.schema) even (bare BAD_COLUMNS) (unless misfit (bare WRONG_TYPE) put) (λ whole.
-    unless_IfOk (IsTableWith t.schema) misfit (bare WRONG_TYPE) put (λ fits.
+    unless_IfOk (IsTableWith t.schema) (lists_unknown_column columns names) (refusal_of_code NO_COLUMN) (refuse_if even (refusal_of_code BAD_COLUMNS) (refuse_if misfit (refusal_of_code WRONG_TYPE) put)) (λ known.
+    unless_IfOk (IsTableWith t.schema) even (refusal_of_code BAD_COLUMNS) (refuse_if misfit (refusal_of_code WRONG_TYPE) put) (λ whole.
+    unless_IfOk (IsTableWith t.schema) misfit (refusal_of_code WRONG_TYPE) put (λ fits.
     with_rows_keeps t (map (row_of columns names) tuples) is (all_from_none_fails (fits_columns columns) (row_of columns names) tuples fits))))
 
 -- ---- rows as answers

@@ -9,9 +9,9 @@ use Rattle.cj_model.specs.declared.request.Act.TheVariants as act
 use Rattle.cj_model.specs.declared.request.Entry.{Entry}
 use Rattle.cj_model.specs.declared.event.Event.{Event}
 use Rattle.cj_model.specs.declared.event.Event.TheVariants.{Sched, Ended, ReadFailed, LogFailed, Disabled, Enabled, Marker}
-use Rattle.cj_model.specs.Histories.{scheduled, log, TxState, tx_now, tx_after, tx_of}
-use Rattle.cj_model.specs.Legality.{Allowed, IsLegal, IsFit}
-use Rattle.cj_model.specs.Begun.{AreFitBehind, AreFit, is_begin, is_end}
+use Rattle.cj_model.specs.Cluster.Histories.{scheduled_entry, log, TxState, tx_after_act, tx_state_after, tx_of}
+use Rattle.cj_model.specs.Cluster.Legality.{IsAllowedEvent, IsLegal, IsFitEntry}
+use Rattle.cj_model.specs.Cluster.Transactions.{AreFitBehind, AreFit, is_begin, is_end}
 use Rattle.cj_model.proofs.Pushed.{log-sched, log-same}
 
 -- ---- from entry to entry
@@ -28,12 +28,12 @@ module _ {A : Type 0} (P : List A → Type 0) (none : P []) (more : (before : Li
   by_items xs = from_item [] xs none
 
 -- a fit entry more
-push_behind : (before rest : List Entry) (e : Entry) → AreFitBehind before rest → IsFit (before ++ rest) e → AreFitBehind before (rest ++ e ∷ [])
-push_behind before [] e fits fit = (subst (λ (l : List Entry). IsFit l e) (append-nil before) fit, tt)
-push_behind before (d ∷ rest) e fits fit = (fits.0, push_behind (before ++ d ∷ []) rest e fits.1 (subst (λ (l : List Entry). IsFit l e) (sym (append_assoc before (d ∷ []) rest)) fit))
+push_behind : (before rest : List Entry) (e : Entry) → AreFitBehind before rest → IsFitEntry (before ++ rest) e → AreFitBehind before (rest ++ e ∷ [])
+push_behind before [] e fits fit = (subst (λ (l : List Entry). IsFitEntry l e) (append-nil before) fit, tt)
+push_behind before (d ∷ rest) e fits fit = (fits.0, push_behind (before ++ d ∷ []) rest e fits.1 (subst (λ (l : List Entry). IsFitEntry l e) (sym (append_assoc before (d ∷ []) rest)) fit))
 
 -- so a fit entry more leaves the log fit
-pub fit_push : (entries : List Entry) (e : Entry) → AreFit entries → IsFit entries e → AreFit (entries ++ e ∷ [])
+pub fit_push : (entries : List Entry) (e : Entry) → AreFit entries → IsFitEntry entries e → AreFit (entries ++ e ∷ [])
 fit_push entries e fits fit = push_behind [] entries e fits fit
 
 -- the first entries of fit ones
@@ -47,17 +47,17 @@ pub fit_take : (entries : List Entry) (n : ℕ) → AreFit entries → AreFit (t
 fit_take entries n fits = take_behind [] entries n fits
 
 -- an entry is fit behind the first ones
-get_behind : (before rest : List Entry) (k : ℕ) (d : Entry) → AreFitBehind before rest → k < length rest → IsFit (before ++ take k rest) (get_or rest k d)
+get_behind : (before rest : List Entry) (k : ℕ) (d : Entry) → AreFitBehind before rest → k < length rest → IsFitEntry (before ++ take k rest) (get_or rest k d)
 get_behind before [] k d fits lt = absurd (omega arith)
-get_behind before (e ∷ rest) zero d fits lt = subst (λ (l : List Entry). IsFit l e) (sym (append-nil before)) fits.0
-get_behind before (e ∷ rest) (suc k) d fits lt = subst (λ (l : List Entry). IsFit l (get_or rest k d)) (append_assoc before (e ∷ []) (take k rest)) (get_behind (before ++ e ∷ []) rest k d fits.1 (omega arith))
+get_behind before (e ∷ rest) zero d fits lt = subst (λ (l : List Entry). IsFitEntry l e) (sym (append-nil before)) fits.0
+get_behind before (e ∷ rest) (suc k) d fits lt = subst (λ (l : List Entry). IsFitEntry l (get_or rest k d)) (append_assoc before (e ∷ []) (take k rest)) (get_behind (before ++ e ∷ []) rest k d fits.1 (omega arith))
 
 -- so each entry of a fit log is fit behind those before it
-pub fit_at : (entries : List Entry) (k : ℕ) (e : Entry) → AreFit entries → slice_get entries k ≡ Some e → IsFit (take k entries) e
-fit_at entries k e fits is = subst (λ (d : Entry). IsFit (take k entries) d) (get_or_from_slice_get entries k e e is) (get_behind [] entries k e fits (slice_get_within entries k e is))
+pub fit_at : (entries : List Entry) (k : ℕ) (e : Entry) → AreFit entries → slice_get entries k ≡ Some e → IsFitEntry (take k entries) e
+fit_at entries k e fits is = subst (λ (d : Entry). IsFitEntry (take k entries) d) (get_or_from_slice_get entries k e e is) (get_behind [] entries k e fits (slice_get_within entries k e is))
 
 -- what one more fit entry keeps holds of each log of fit entries
-module _ (P : List Entry → Type 0) (none : P []) (more : (before : List Entry) (e : Entry) → AreFit before → IsFit before e → P before → P (before ++ e ∷ [])) where
+module _ (P : List Entry → Type 0) (none : P []) (more : (before : List Entry) (e : Entry) → AreFit before → IsFitEntry before e → P before → P (before ++ e ∷ [])) where
   -- from any fit entries on
   from_fit : (before rest : List Entry) → AreFit before → AreFitBehind before rest → P before → P (before ++ rest)
   from_fit before [] old fits h = subst P (sym (append-nil before)) h
@@ -71,17 +71,17 @@ module _ (P : List Entry → Type 0) (none : P []) (more : (before : List Entry)
 -- ---- legal histories
 
 -- the entries of events that are each allowed are fit
-fit_behind : (before rest : List Event) → ((k : ℕ) (d : Event) → k < length rest → Allowed (before ++ take k rest) (get_or rest k d)) → AreFitBehind (log before) (log rest)
+fit_behind : (before rest : List Event) → ((k : ℕ) (d : Event) → k < length rest → IsAllowedEvent (before ++ take k rest) (get_or rest k d)) → AreFitBehind (log before) (log rest)
 fit_behind before [] each = tt
-fit_behind before (d ∷ rest) each = one d (subst (λ (l : List Event). Allowed l d) (append-nil before) (each 0 d (omega arith))) (fit_behind (before ++ d ∷ []) rest next)
+fit_behind before (d ∷ rest) each = one d (subst (λ (l : List Event). IsAllowedEvent l d) (append-nil before) (each 0 d (omega arith))) (fit_behind (before ++ d ∷ []) rest next)
   where
-    next : (k : ℕ) (x : Event) → k < length rest → Allowed ((before ++ d ∷ []) ++ take k rest) (get_or rest k x)
-    next k x lt = subst (λ (l : List Event). Allowed l (get_or rest k x)) (sym (append_assoc before (d ∷ []) (take k rest))) (each (suc k) x (omega arith))
+    next : (k : ℕ) (x : Event) → k < length rest → IsAllowedEvent ((before ++ d ∷ []) ++ take k rest) (get_or rest k x)
+    next k x lt = subst (λ (l : List Event). IsAllowedEvent l (get_or rest k x)) (sym (append_assoc before (d ∷ []) (take k rest))) (each (suc k) x (omega arith))
 
-    same : (x : Event) → scheduled x ≡ None → AreFitBehind (log (before ++ x ∷ [])) (log rest) → AreFitBehind (log before) (log rest)
+    same : (x : Event) → scheduled_entry x ≡ None → AreFitBehind (log (before ++ x ∷ [])) (log rest) → AreFitBehind (log before) (log rest)
     same x is fits = subst (λ (l : List Entry). AreFitBehind l (log rest)) (log-same before x is) fits
 
-    one : (x : Event) → Allowed before x → AreFitBehind (log (before ++ x ∷ [])) (log rest) → AreFitBehind (log before) (log (x ∷ rest))
+    one : (x : Event) → IsAllowedEvent before x → AreFitBehind (log (before ++ x ∷ [])) (log rest) → AreFitBehind (log before) (log (x ∷ rest))
     one (Sched e) allowed fits = (allowed.1, subst (λ (l : List Entry). AreFitBehind l (log rest)) (log-sched before e) fits)
     one (Ended f s) allowed fits = same (Ended f s) refl fits
     one (ReadFailed s q b) allowed fits = same (ReadFailed s q b) refl fits
@@ -97,11 +97,11 @@ legal_fit h l = fit_behind [] h l.each
 -- ---- the open transaction behind one more entry
 
 -- as many entries as came
-counted : (s : ℕ) (entries : List Entry) → (fold (tx_after s) (record { count = 0; tx = 0 }) entries).count ≡ length entries
+counted : (s : ℕ) (entries : List Entry) → (fold (tx_state_after s) (record { count = 0; tx = 0 }) entries).count ≡ length entries
 counted s entries =
-    by_items (λ (l : List Entry). (fold (tx_after s) (record { count = 0; tx = 0 }) l).count ≡ length l) refl
+    by_items (λ (l : List Entry). (fold (tx_state_after s) (record { count = 0; tx = 0 }) l).count ≡ length l) refl
     (λ before e h.
-    let now = ap (λ (t : TxState). t.count) (fold-append (tx_after s) (record { count = 0; tx = 0 }) before (e ∷ [])) in
+    let now = ap (λ (t : TxState). t.count) (fold-append (tx_state_after s) (record { count = 0; tx = 0 }) before (e ∷ [])) in
     now ∙ (let n = length-append before (e ∷ []) in omega arith)) entries
 
 -- what is known of a session
@@ -109,24 +109,24 @@ abbrev now : List Entry → ℕ → TxState
 now entries s = record { count = length entries; tx = tx_of entries s }
 
 -- one more entry
-pub tx_of-push : (entries : List Entry) (e : Entry) (s : ℕ) → tx_of (entries ++ e ∷ []) s ≡ tx_now s (now entries s) e e.act
+pub tx_of-push : (entries : List Entry) (e : Entry) (s : ℕ) → tx_of (entries ++ e ∷ []) s ≡ tx_after_act s (now entries s) e e.act
 tx_of-push entries e s =
-    ap (λ (t : TxState). t.tx) (fold-append (tx_after s) (record { count = 0; tx = 0 }) entries (e ∷ []))
-    ∙ ap (λ n. tx_now s (record { count = n; tx = tx_of entries s }) e e.act) (counted s entries)
+    ap (λ (t : TxState). t.tx) (fold-append (tx_state_after s) (record { count = 0; tx = 0 }) entries (e ∷ []))
+    ∙ ap (λ n. tx_after_act s (record { count = n; tx = tx_of entries s }) e e.act) (counted s entries)
 
 -- BEGIN opens a transaction of its session, which has the entry's number
 pub tx_of_begin : (entries : List Entry) (e : Entry) → e.act ≡ act.Begin → tx_of (entries ++ e ∷ []) e.session ≡ length entries + 1
 tx_of_begin entries e is =
-    tx_of-push entries e e.session ∙ ap (tx_now e.session (now entries e.session) e) is
+    tx_of-push entries e e.session ∙ ap (tx_after_act e.session (now entries e.session) e) is
     ∙ cond-true (e.session == e.session) (length entries + 1) (tx_of entries e.session) (eq-eqb e.session e.session refl)
 
 -- and leaves the others
 pub tx_of_begin_other : (entries : List Entry) (e : Entry) (s : ℕ) → e.act ≡ act.Begin → e.session ≢ s → tx_of (entries ++ e ∷ []) s ≡ tx_of entries s
 tx_of_begin_other entries e s is ne =
-    tx_of-push entries e s ∙ ap (tx_now s (now entries s) e) is ∙ cond-false (e.session == s) (length entries + 1) (tx_of entries s) (ne_eqb e.session s ne)
+    tx_of-push entries e s ∙ ap (tx_after_act s (now entries s) e) is ∙ cond-false (e.session == s) (length entries + 1) (tx_of entries s) (ne_eqb e.session s ne)
 
 -- what an end makes of a transaction
-now_end : (s : ℕ) (t : TxState) (e : Entry) (a : Act) → is_end a ≡ true → tx_now s t e a ≡ cond (e.tx == t.tx) 0 t.tx
+now_end : (s : ℕ) (t : TxState) (e : Entry) (a : Act) → is_end a ≡ true → tx_after_act s t e a ≡ cond (e.tx == t.tx) 0 t.tx
 now_end s t e act.Begin is = absurd (cc is)
 now_end s t e (act.Write w) is = absurd (cc is)
 now_end s t e (act.Create c) is = absurd (cc is)
@@ -143,7 +143,7 @@ pub tx_of_end_other : (entries : List Entry) (e : Entry) (s : ℕ) → is_end e.
 tx_of_end_other entries e s is ne = tx_of-push entries e s ∙ now_end s (now entries s) e e.act is ∙ cond-false (e.tx == tx_of entries s) 0 (tx_of entries s) (ne_eqb e.tx (tx_of entries s) ne)
 
 -- what an act that begins and ends nothing makes of it
-now_else : (s : ℕ) (t : TxState) (e : Entry) (a : Act) → is_begin a ≡ false → is_end a ≡ false → tx_now s t e a ≡ t.tx
+now_else : (s : ℕ) (t : TxState) (e : Entry) (a : Act) → is_begin a ≡ false → is_end a ≡ false → tx_after_act s t e a ≡ t.tx
 now_else s t e act.Begin is on = absurd (cc is)
 now_else s t e (act.Write w) is on = refl
 now_else s t e (act.Create c) is on = refl
@@ -158,7 +158,7 @@ tx_of_else entries e s is on = tx_of-push entries e s ∙ now_else s (now entrie
 -- ---- numbers of transactions
 
 -- it is at most the number of entries
-now_below : (s : ℕ) (t : TxState) (e : Entry) (a : Act) → t.tx ≤ t.count → tx_now s t e a ≤ t.count + 1
+now_below : (s : ℕ) (t : TxState) (e : Entry) (a : Act) → t.tx ≤ t.count → tx_after_act s t e a ≤ t.count + 1
 now_below s t e act.Begin le = one (e.session == s)
   where
     one : (c : Bool) → cond c (t.count + 1) t.tx ≤ t.count + 1
@@ -185,7 +185,7 @@ tx_of_below entries s =
     (λ before e h.
     let n = length-append before (e ∷ []) in
     let is = tx_of-push before e s in
-    let le : tx_now s (now before s) e e.act ≤ length before + 1 = now_below s (now before s) e e.act h in
+    let le : tx_after_act s (now before s) e e.act ≤ length before + 1 = now_below s (now before s) e e.act h in
     omega arith) entries
 
 -- two sessions that began, or were as they are
@@ -209,7 +209,7 @@ one_session entries =
     one before e h s u e.act (sym (tx_of-push before e s) ∙ (same ∙ tx_of-push before e u)) (λ z. some (tx_of-push before e s ∙ z))) entries
   where
     one : (before : List Entry) (e : Entry) → ((s u : ℕ) → tx_of before s ≡ tx_of before u → tx_of before s ≢ 0 → s ≡ u) → (s u : ℕ) (a : Act)
-        → tx_now s (now before s) e a ≡ tx_now u (now before u) e a → tx_now s (now before s) e a ≢ 0 → s ≡ u
+        → tx_after_act s (now before s) e a ≡ tx_after_act u (now before u) e a → tx_after_act s (now before s) e a ≢ 0 → s ≡ u
     one before e h s u act.Begin same some =
         ⊎_elim (λ (q : ((e.session == s) ≡ true) × ((e.session == u) ≡ true)). sym (eqb-true e.session s q.0) ∙ eqb-true e.session u q.1)
         (λ (q : (tx_of before s ≡ tx_of before u) × (tx_of before s ≢ 0)). h s u q.0 q.1)

@@ -21,10 +21,10 @@ use Rattle.cj_model.specs.declared.select.Select.{Select}
 use Rattle.cj_model.specs.declared.write.Write.TheVariants.{Update, Delete}
 use Rattle.cj_model.specs.declared.answer.Asked.TheVariants.{Rows, Refused}
 use Rattle.cj_model.specs.declared.codes.TheConstants.{NO_COLUMN, BAD_COLUMNS, OVERFLOW, WRONG_TYPE}
-use Rattle.cj_model.specs.Conditions.{Condition, Test}
-use Rattle.cj_model.specs.Changes.{bare}
-use Rattle.cj_model.specs.Updates.{change}
-use Rattle.cj_model.specs.Queries.{ask}
+use Rattle.cj_model.specs.Database.Conditions.{Condition, Test}
+use Rattle.cj_model.specs.Database.Inserts.{refusal_of_code}
+use Rattle.cj_model.specs.Database.Updates.{change}
+use Rattle.cj_model.specs.Database.Queries.{ask}
 
 abbrev int : ℕ → Value
 int n = Int (pos n)
@@ -78,18 +78,18 @@ joined : ask db 0 (from_both (Listed (item.Col (of (codes "a") (codes "w")) ∷ 
 joined = refl
 
 -- SELECT k FROM a, b: two tables have k
-ambiguous : ask db 0 (from_both (Listed (item.Col (col (codes "k")) ∷ [])) None) ≡ Refused (bare NO_COLUMN)
+ambiguous : ask db 0 (from_both (Listed (item.Col (col (codes "k")) ∷ [])) None) ≡ Refused (refusal_of_code NO_COLUMN)
 ambiguous = refl
 
 -- SELECT SUM(x) FROM b: outside 64 bits, but not with LIMIT 0
-overflown : ask db 0 (record { items = Listed (item.Sum (col (codes "x")) ∷ []); tables = codes "b" ∷ []; cond = None; group = None; order = []; limit = None }) ≡ Refused (bare OVERFLOW)
+overflown : ask db 0 (record { items = Listed (item.Sum (col (codes "x")) ∷ []); tables = codes "b" ∷ []; cond = None; group = None; order = []; limit = None }) ≡ Refused (refusal_of_code OVERFLOW)
 overflown = refl
 
 cut_off : ask db 0 (record { items = Listed (item.Sum (col (codes "x")) ∷ []); tables = codes "b" ∷ []; cond = None; group = None; order = []; limit = Some 0 }) ≡ Rows (record { columns = codes "sum" ∷ []; rows = [] })
 cut_off = refl
 
 -- SELECT k, COUNT(*) FROM a WHERE w = 1: plain columns beside a count come before kinds
-mixed : ask db 0 (from_a (Listed (item.Col (col (codes "k")) ∷ item.Count ∷ [])) (Some (Test Eq (Col (col (codes "w"))) (Lit (int 1)))) None [] None) ≡ Refused (bare BAD_COLUMNS)
+mixed : ask db 0 (from_a (Listed (item.Col (col (codes "k")) ∷ item.Count ∷ [])) (Some (Test Eq (Col (col (codes "w"))) (Lit (int 1)))) None [] None) ≡ Refused (refusal_of_code BAD_COLUMNS)
 mixed = refl
 
 -- UPDATE a SET v = v + k WHERE w >= 'xy': TEXT by bytes
@@ -98,7 +98,7 @@ raised : change a (Update (codes "a") (record { column = codes "v"; value = Plus
 raised = refl
 
 -- UPDATE b SET x = x + 1 WHERE k < 3 lies outside 64 bits, and WHERE k >= 3 does not
-too_far : change b (Update (codes "b") (record { column = codes "x"; value = Plus (Col (col (codes "x"))) (Lit (int 1)) } ∷ []) (Some (Test Lt (Col (col (codes "k"))) (Lit (int 3))))) ≡ Err (bare OVERFLOW)
+too_far : change b (Update (codes "b") (record { column = codes "x"; value = Plus (Col (col (codes "x"))) (Lit (int 1)) } ∷ []) (Some (Test Lt (Col (col (codes "k"))) (Lit (int 3))))) ≡ Err (refusal_of_code OVERFLOW)
 too_far = refl
 
 near : change b (Update (codes "b") (record { column = codes "x"; value = Plus (Col (col (codes "x"))) (Lit (int 1)) } ∷ []) (Some (Test Ge (Col (col (codes "k"))) (Lit (int 3)))))
@@ -106,7 +106,7 @@ near : change b (Update (codes "b") (record { column = codes "x"; value = Plus (
 near = refl
 
 -- UPDATE b SET k = 'x': the key comes before the kind
-keyed : change b (Update (codes "b") (record { column = codes "k"; value = One (Lit (Text (codes "x"))) } ∷ []) None) ≡ Err (bare BAD_COLUMNS)
+keyed : change b (Update (codes "b") (record { column = codes "k"; value = One (Lit (Text (codes "x"))) } ∷ []) None) ≡ Err (refusal_of_code BAD_COLUMNS)
 keyed = refl
 
 -- DELETE FROM a WHERE v = 7
@@ -114,5 +114,5 @@ less : change a (Delete (codes "a") (Some (Test Eq (Col (col (codes "v"))) (Lit 
 less = refl
 
 -- DELETE FROM a WHERE w = 7
-unlike : change a (Delete (codes "a") (Some (Test Eq (Col (col (codes "w"))) (Lit (int 7))))) ≡ Err (bare WRONG_TYPE)
+unlike : change a (Delete (codes "a") (Some (Test Eq (Col (col (codes "w"))) (Lit (int 7))))) ≡ Err (refusal_of_code WRONG_TYPE)
 unlike = refl

@@ -15,11 +15,11 @@ pub struct Refusal {
 
 impl Refusal {
     ghost use Rattle.std.specs.Prelude.{◌≡◌};
-    ghost use Rattle.cj_model.specs.Changes as changes;
+    ghost use Rattle.cj_model.specs.Database.Inserts as inserts;
 
     /// The refusal whose numbers say nothing.
-    pub fn bare(code: u16) -> Refusal
-        ensures { result ≡ changes.bare code }
+    pub fn of_code(code: u16) -> Refusal
+        ensures { result ≡ inserts.refusal_of_code code }
     {
         Refusal { code, a: 0, b: 0 }
     }

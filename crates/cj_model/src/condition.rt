@@ -21,25 +21,25 @@ pub struct Cond {
 }
 
 impl Model for Cond {
-    ghost use Rattle.cj_model.specs.Conditions.{Condition};
-    ghost use Rattle.cj_model.specs.ConditionCode.{coded_condition};
+    ghost use Rattle.cj_model.specs.Database.Conditions.{Condition};
+    ghost use Rattle.cj_model.specs.Proving.ConditionCode.{coded_condition};
 
     ghost Value = { Condition };
 
     ghost coded = { coded_condition };
 
-    ghost use Rattle.cj_model.specs.ConditionShape.{shape};
+    ghost use Rattle.cj_model.specs.Proving.ConditionNodes.{condition_of_node};
 
-    ghost view = { λ cond. shape cond.root };
+    ghost view = { λ cond. condition_of_node cond.root };
 }
 
 impl CondNode {
     ghost use Rattle.std.specs.Prelude.{◌≡◌, IfOk};
-    ghost use Rattle.cj_model.specs.ConditionShape.{shape};
+    ghost use Rattle.cj_model.specs.Proving.ConditionNodes.{condition_of_node};
 
     /// A node of the same tree.
     pub fn copy(&self, alloc: Global) -> Result<CondNode, NoMemory>
-        ensures { IfOk result (λ copy. shape copy ≡ shape self.now) }
+        ensures { IfOk result (λ copy. condition_of_node copy ≡ condition_of_node self.now) }
     {
         match self {
             CondNode::Test(cmp, left, right) => Ok(CondNode::Test(
@@ -68,17 +68,17 @@ impl CondNode {
 impl Cond {
     ghost use Rattle.std.specs.Prelude.{◌≡◌};
     ghost use Rattle.std.specs.Borrow.{sem};
-    ghost use Rattle.cj_model.specs.Lent.{LendsRoot};
-    ghost use Rattle.cj_model.specs.ConditionShape.{shape};
+    ghost use Rattle.cj_model.specs.Proving.Lent.{LendsRoot};
+    ghost use Rattle.cj_model.specs.Proving.ConditionNodes.{condition_of_node};
 
     pub fn of(root: CondNode) -> Cond
-        ensures { result ≡ shape root }
+        ensures { result ≡ condition_of_node root }
     {
         Cond { root }
     }
 
     pub fn root(&self) -> &CondNode
-        ensures { shape result.now ≡ self.now }
+        ensures { condition_of_node result.now ≡ self.now }
     {
         &self.root
     }
@@ -86,7 +86,7 @@ impl Cond {
     /// The tree, to be changed in place.
     pub fn root_mut(&mut self) -> &mut CondNode
         ensures* lends { sem 𝓛 (LendsRoot self.entry result) }
-        ensures root { shape result.now ≡ self.old }
+        ensures root { condition_of_node result.now ≡ self.old }
     {
         &mut self.root
     }

@@ -2,8 +2,8 @@
 
 ghost use Rattle.std.specs.Prelude.{◌≡◌, ◌++◌, fold};
 ghost use Rattle.std.specs.Cmp.{partial_equiv_from_equiv};
-ghost use Rattle.cj_model.specs.ConditionShape.{shape};
-ghost use Rattle.cj_model.specs.Statements.{fed_condition, fed_term, fed_value, fed_where};
+ghost use Rattle.cj_model.specs.Proving.ConditionNodes.{condition_of_node};
+ghost use Rattle.cj_model.specs.Proving.SameStatements.{fed_condition, fed_term, fed_value, fed_where};
 
 use crate::condition::{Cond, CondNode};
 use crate::name::Name;
@@ -42,7 +42,7 @@ fn feed_terms<H: Hasher>(left: &Term, right: &Term, state: &mut H)
 
 /// Feeds the literals of a condition to a hash.
 fn feed_node<H: Hasher>(node: &CondNode, state: &mut H)
-    ensures { state.new ≡ fold H.write state.old (fed_condition (shape node.now)) }
+    ensures { state.new ≡ fold H.write state.old (fed_condition (condition_of_node node.now)) }
 {
     match node {
         CondNode::Test(_, left, right) => feed_terms(left, right, state),
@@ -87,7 +87,7 @@ impl Eq for Name {
 }
 
 impl Hash for Name {
-    ghost use Rattle.cj_model.specs.Statements.{fed_name, names_alike};
+    ghost use Rattle.cj_model.specs.Proving.SameStatements.{fed_name, names_alike};
 
     ghost hash_input = { fed_name };
 
@@ -99,7 +99,7 @@ impl Hash for Name {
 }
 
 impl PartialEq for Select {
-    ghost use Rattle.cj_model.specs.Statements.{same_statement, statement_equiv};
+    ghost use Rattle.cj_model.specs.Proving.SameStatements.{same_statement, statement_equiv};
 
     ghost eq = { same_statement };
 
@@ -111,13 +111,13 @@ impl PartialEq for Select {
 }
 
 impl Eq for Select {
-    ghost use Rattle.cj_model.specs.Statements.{statement_equiv};
+    ghost use Rattle.cj_model.specs.Proving.SameStatements.{statement_equiv};
 
     ghost laws = { statement_equiv };
 }
 
 impl Hash for Select {
-    ghost use Rattle.cj_model.specs.Statements.{fed_statement, statements_alike};
+    ghost use Rattle.cj_model.specs.Proving.SameStatements.{fed_statement, statements_alike};
 
     ghost hash_input = { fed_statement };
 

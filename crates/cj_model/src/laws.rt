@@ -2,8 +2,8 @@
 
 ghost use Rattle.std.specs.Prelude.{◌≡◌, List, ℕ};
 ghost use Rattle.cj_model.specs.declared.message.Message.{Message};
-ghost use Rattle.cj_model.specs.Frames.{Frames, FaultsStay};
-ghost use Rattle.cj_model.specs.BetweenReplies.{BeginsBetween, StaysBetween};
+ghost use Rattle.cj_model.specs.Wire.Frames.{Frames, FaultsStay};
+ghost use Rattle.cj_model.specs.Cluster.BetweenReplies.{BeginsBetween, StaysBetween};
 
 /// Bytes are the frames of one list of messages, and one rest.
 pub fn bytes_have_one_reading()

@@ -25,7 +25,7 @@ impl<T> Model for ListOf<T> {
 
 impl<T> ListOf<T> {
     ghost use Rattle.std.specs.Borrow.{sem};
-    ghost use Rattle.cj_model.specs.Lent.{LendsItems};
+    ghost use Rattle.cj_model.specs.Proving.Lent.{LendsItems};
 
     /// The empty list, which takes no memory.
     pub fn new(alloc: Global) -> Self

@@ -1,13 +1,13 @@
 //! Masks of backends, which have bit b for backend b.
 
 ghost use Rattle.std.specs.Prelude.{◌≡◌, ◌<◌, ◌==◌, ◌||◌, ℕ};
-ghost use Rattle.cj_model.specs.Histories.{has};
-ghost use Rattle.cj_model.specs.Cores as cores;
+ghost use Rattle.cj_model.specs.Cluster.Histories.{in_mask};
+ghost use Rattle.cj_model.specs.Cluster.Cores as cores;
 
 /// Whether the mask has the backend.
 pub fn has_bit(mask: u32, b: u8) -> bool
     requires { b < 32 }
-    ensures { result ≡ has mask b }
+    ensures { result ≡ in_mask mask b }
 {
     (mask >> b) & 1 == 1
 }
@@ -15,8 +15,8 @@ pub fn has_bit(mask: u32, b: u8) -> bool
 /// The mask with the backend.
 pub fn with_bit(mask: u32, b: u8) -> u32
     requires { b < 32 }
-    ensures value { result ≡ cores.with_bit mask b }
-    ensures bits { (c : ℕ) → has result c ≡ (has mask c || c == b) }
+    ensures value { result ≡ cores.with_backend mask b }
+    ensures bits { (c : ℕ) → in_mask result c ≡ (in_mask mask c || c == b) }
 {
     mask | (1 << b)
 }

@@ -48,7 +48,7 @@ impl Duplicate for Message {
 
 impl FrameFault {
     ghost use Rattle.std.specs.Prelude.{◌≡◌};
-    ghost use Rattle.cj_model.specs.Frames.{fault_number};
+    ghost use Rattle.cj_model.specs.Wire.Frames.{fault_number};
 
     /// The number by which a client is told of it.
     pub fn number(self) -> u64

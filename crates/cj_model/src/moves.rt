@@ -1,7 +1,7 @@
 //! The moves of the core, and what each gives.
 
 ghost use Rattle.std.specs.Prelude.{◌≡◌};
-ghost use Rattle.cj_model.specs.Scripts.{reason_number};
+ghost use Rattle.cj_model.specs.Script.Lines.{reason_number};
 
 use crate::answer::{Answer, Outcome, Refusal, Reply};
 use crate::list::ListOf;

@@ -3,8 +3,8 @@
 ghost use Rattle.std.specs.Prelude.{◌≡◌, ◌≤◌, [], length, map, take, true};
 ghost use Rattle.std.specs.List.{list_all};
 ghost use Rattle.std.specs.Str.{bytes_eq};
-ghost use Rattle.cj_model.specs.Words.{lower, name_of, IsNameOrEmpty};
-ghost use Rattle.cj_model.specs.Words as words;
+ghost use Rattle.cj_model.specs.Sql.Names.{lower, name_of, IsNameOrEmpty};
+ghost use Rattle.cj_model.specs.Sql.Names as names;
 
 use crate::limits::NAME_LIMIT;
 use crate::list::ListOf;
@@ -23,7 +23,7 @@ pub struct Name {
 impl Model for Name {
     ghost use Rattle.std.specs.Prelude.{List, ℕ, take, ◌≤◌};
     ghost use Rattle.cj_model.specs.declared.limits.TheConstants.{NAME_LIMIT};
-    ghost use Rattle.cj_model.specs.Words.{IsNameOrEmpty};
+    ghost use Rattle.cj_model.specs.Sql.Names.{IsNameOrEmpty};
 
     ghost Value = { List ℕ };
 
@@ -35,19 +35,19 @@ impl Model for Name {
 pub type Names = ListOf<Name>;
 
 fn begins_name(b: u8) -> bool
-    ensures { result ≡ words.begins_name b }
+    ensures { result ≡ names.begins_name b }
 {
     b.is_ascii_lowercase() || b == b'_'
 }
 
 fn continues_name(b: u8) -> bool
-    ensures { result ≡ words.continues_name b }
+    ensures { result ≡ names.continues_name b }
 {
     begins_name(b) || b.is_ascii_digit()
 }
 
 fn all_continue(mut bytes: &[u8]) -> bool
-    ensures { result ≡ list_all words.continues_name bytes.entry.now }
+    ensures { result ≡ list_all names.continues_name bytes.entry.now }
 {
     while let [b, rest @ ..] = bytes {
         if !continues_name(*b) {
@@ -59,7 +59,7 @@ fn all_continue(mut bytes: &[u8]) -> bool
 }
 
 fn is_spelled_as_name(bytes: &[u8]) -> bool
-    ensures { result ≡ words.is_spelled_as_name bytes.now }
+    ensures { result ≡ names.is_spelled_as_name bytes.now }
 {
     match bytes {
         [] => false,
@@ -67,9 +67,9 @@ fn is_spelled_as_name(bytes: &[u8]) -> bool
     }
 }
 
-#[tactic(auto, unfolding(crate::specs::Words::is_name))]
+#[tactic(auto, unfolding(crate::specs::Sql::Names::is_name))]
 fn is_name(bytes: &[u8]) -> bool
-    ensures name { result ≡ words.is_name bytes.now }
+    ensures name { result ≡ names.is_name bytes.now }
     ensures short { result ≡ true → length bytes.now ≤ NAME_LIMIT }
 {
     bytes.len() <= NAME_LIMIT && is_spelled_as_name(bytes)

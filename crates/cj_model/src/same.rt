@@ -124,11 +124,11 @@ impl Same for Cmp {
 }
 
 impl CondNode {
-    ghost use Rattle.cj_model.specs.ConditionShape.{shape};
+    ghost use Rattle.cj_model.specs.Proving.ConditionNodes.{condition_of_node};
 
     /// Whether the two are nodes of one tree.
     pub fn is_same(&self, other: &CondNode) -> bool
-        ensures { IsTrue result ↔ (shape self.now ≡ shape other.now) }
+        ensures { IsTrue result ↔ (condition_of_node self.now ≡ condition_of_node other.now) }
     {
         match self {
             CondNode::Test(cmp, left, right) => match other {

@@ -3,8 +3,8 @@
 ghost use Rattle.std.specs.Prelude.{◌≡◌, [], length, OnOk, OnErr};
 ghost use Rattle.std.specs.List.{list_any};
 ghost use Rattle.std.specs.Str.{bytes_eq};
-ghost use Rattle.cj_model.specs.Tables.{Rises, name_cmp, put_by};
-ghost use Rattle.cj_model.specs.Gaps.{IsGap};
+ghost use Rattle.cj_model.specs.Database.Tables.{Rises, name_cmp, put_by};
+ghost use Rattle.cj_model.specs.Proving.Gaps.{IsGap};
 
 use crate::list::ListOf;
 use crate::memory::{Duplicate, NoMemory};
@@ -21,7 +21,7 @@ pub struct TableSet {
 
 impl Model for TableSet {
     ghost use Rattle.std.specs.Prelude.{List, ℕ};
-    ghost use Rattle.cj_model.specs.Tables.{Rises, name_cmp};
+    ghost use Rattle.cj_model.specs.Database.Tables.{Rises, name_cmp};
 
     ghost Value = { List (List ℕ) };
 

@@ -3,8 +3,8 @@
 ghost use Rattle.std.specs.Prelude.{◌≡◌, ◌↔◌, ◌==◌, not, [], length, IsTrue};
 ghost use Rattle.std.specs.List.{list_all};
 ghost use Rattle.std.specs.Str as str;
-ghost use Rattle.cj_model.specs.Words.{text_of, IsText};
-ghost use Rattle.cj_model.specs.Words as words;
+ghost use Rattle.cj_model.specs.Sql.Names.{text_of, IsText};
+ghost use Rattle.cj_model.specs.Sql.Names as names;
 
 use crate::memory::{Duplicate, NoMemory};
 use std::alloc::Global;
@@ -18,7 +18,7 @@ pub struct Text {
 
 impl Model for Text {
     ghost use Rattle.std.specs.Prelude.{List, ℕ};
-    ghost use Rattle.cj_model.specs.Words.{IsText};
+    ghost use Rattle.cj_model.specs.Sql.Names.{IsText};
 
     ghost Value = { List ℕ };
 
@@ -48,9 +48,9 @@ fn has_no_zero(mut bytes: &[u8]) -> bool
     true
 }
 
-#[tactic(auto, unfolding(crate::specs::Words::is_text))]
+#[tactic(auto, unfolding(crate::specs::Sql::Names::is_text))]
 fn is_text(bytes: &[u8]) -> bool
-    ensures { result ≡ words.is_text bytes.now }
+    ensures { result ≡ names.is_text bytes.now }
 {
     is_utf8(bytes) && has_no_zero(bytes)
 }

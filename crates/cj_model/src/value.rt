@@ -21,7 +21,7 @@ pub enum Value {
 
 impl Value {
     ghost use Rattle.std.specs.Prelude.{◌≡◌};
-    ghost use Rattle.cj_model.specs.Values.{kind_of};
+    ghost use Rattle.cj_model.specs.Database.Values.{kind_of};
 
     pub fn kind(&self) -> Kind
         ensures { result ≡ kind_of self.now }
@@ -45,7 +45,7 @@ impl Duplicate for Value {
 impl PartialEq for Value {
     ghost use Rattle.std.specs.Ordering.{eq_by_cmp};
     ghost use Rattle.std.specs.Cmp.{partial_equiv_from_equiv, eq_by_cmp_equiv};
-    ghost use Rattle.cj_model.specs.Values.{value_cmp, value_total};
+    ghost use Rattle.cj_model.specs.Database.Values.{value_cmp, value_total};
 
     ghost eq = { λ x y. eq_by_cmp value_cmp x y };
 
@@ -58,7 +58,7 @@ impl PartialEq for Value {
 
 impl Eq for Value {
     ghost use Rattle.std.specs.Cmp.{eq_by_cmp_equiv};
-    ghost use Rattle.cj_model.specs.Values.{value_total};
+    ghost use Rattle.cj_model.specs.Database.Values.{value_total};
 
     ghost laws = { eq_by_cmp_equiv value_total };
 }
@@ -66,7 +66,7 @@ impl Eq for Value {
 impl PartialOrd for Value {
     ghost use Rattle.std.specs.Prelude.{Some, refl};
     ghost use Rattle.std.specs.Cmp.{partial_order_from_agreeing_total};
-    ghost use Rattle.cj_model.specs.Values.{value_cmp, value_total};
+    ghost use Rattle.cj_model.specs.Database.Values.{value_cmp, value_total};
 
     ghost partial_cmp = { λ x y. Some (value_cmp x y) };
 
@@ -79,7 +79,7 @@ impl PartialOrd for Value {
 
 impl Ord for Value {
     ghost use Rattle.std.specs.Prelude.{refl};
-    ghost use Rattle.cj_model.specs.Values.{value_cmp, value_total};
+    ghost use Rattle.cj_model.specs.Database.Values.{value_cmp, value_total};
 
     ghost cmp = { value_cmp };
 

@@ -4,10 +4,10 @@ use Rattle.std.specs.Prelude.{codes}
 use Rattle.std.specs.declared.option.Option.TheVariants.{None, Some}
 use Rattle.cj_model.specs.declared.placement.Level.TheVariants.{Raidb0, Raidb1, Raidb2}
 use Rattle.cj_model.specs.declared.placement.PlaceRow.{PlaceRow}
-use Rattle.cj_model.specs.Placements.{hosts}
+use Rattle.cj_model.specs.Cluster.Placements.{hosts}
 use Rattle.cj_place.specs.declared.error.PlaceError.TheVariants.{BackendCount, Twice, Stranger, NoHost, ManyHosts, NotAll}
 use Rattle.cj_place.specs.Layouts.{layout_of, last_host, placement_of, tables_at}
-use Rattle.cj_place.specs.Refusals.{refusal_of}
+use Rattle.cj_place.specs.Refusals.{refusal_of_placement}
 
 abbrev two : List (List ℕ)
 two = codes "b0" ∷ codes "b1" ∷ []
@@ -16,30 +16,30 @@ abbrev row : List ℕ → List (List ℕ) → PlaceRow
 row table names = record { table = table; hosts = names }
 
 -- a partitioned table on two backends
-many : refusal_of Raidb0 two (row (codes "t") two ∷ []) ≡ Some (ManyHosts (codes "t"))
+many : refusal_of_placement Raidb0 two (row (codes "t") two ∷ []) ≡ Some (ManyHosts (codes "t"))
 many = refl
 
 -- a table on none
-none : refusal_of Raidb0 two (row (codes "t") [] ∷ []) ≡ Some (NoHost (codes "t"))
+none : refusal_of_placement Raidb0 two (row (codes "t") [] ∷ []) ≡ Some (NoHost (codes "t"))
 none = refl
 
 -- no backends
-empty : refusal_of Raidb0 [] [] ≡ Some BackendCount
+empty : refusal_of_placement Raidb0 [] [] ≡ Some BackendCount
 empty = refl
 
 -- a table on one of two backends, under full replication
-lone : refusal_of Raidb1 two (row (codes "t") (codes "b0" ∷ []) ∷ []) ≡ Some (NotAll (codes "t"))
+lone : refusal_of_placement Raidb1 two (row (codes "t") (codes "b0" ∷ []) ∷ []) ≡ Some (NotAll (codes "t"))
 lone = refl
 
 -- a host that is no backend, named twice: that it is named twice counts first
-twice_stranger : refusal_of Raidb2 two (row (codes "t") (codes "b2" ∷ codes "b2" ∷ []) ∷ []) ≡ Some (Twice (codes "b2"))
+twice_stranger : refusal_of_placement Raidb2 two (row (codes "t") (codes "b2" ∷ codes "b2" ∷ []) ∷ []) ≡ Some (Twice (codes "b2"))
 twice_stranger = refl
 
-stranger : refusal_of Raidb2 two (row (codes "t") (codes "b2" ∷ []) ∷ []) ≡ Some (Stranger (codes "b2"))
+stranger : refusal_of_placement Raidb2 two (row (codes "t") (codes "b2" ∷ []) ∷ []) ≡ Some (Stranger (codes "b2"))
 stranger = refl
 
 -- u on the second, t on both
-fine : refusal_of Raidb2 two (row (codes "u") (codes "b1" ∷ []) ∷ row (codes "t") two ∷ []) ≡ None
+fine : refusal_of_placement Raidb2 two (row (codes "u") (codes "b1" ∷ []) ∷ row (codes "t") two ∷ []) ≡ None
 fine = refl
 
 -- the first backend hosts t alone

@@ -4,8 +4,8 @@ use Rattle.std.specs.List.{list_all, range_with_len}
 use Rattle.std.proofs.lemmas.Bool.{and_from, and_left, and_parts, both_ways, cases_eq, cases_lt, eq-eqb, le-ltb, ne_eqb, not-true, true_from_ne_false}
 use Rattle.std.proofs.lemmas.List.FromFn.{get_or-range_with_len, length-range_with_len}
 use Rattle.std.proofs.lemmas.List.Folds.{list_all_at}
-use Rattle.cj_model.specs.Histories.{has}
-use Rattle.cj_model.specs.Placements.{Placement, hosts}
+use Rattle.cj_model.specs.Cluster.Histories.{in_mask}
+use Rattle.cj_model.specs.Cluster.Placements.{Placement, hosts}
 use Rattle.cj_model.proofs.MaskBits.{has-and}
 use Rattle.cj_place.specs.Layouts.{is_last_host}
 
@@ -29,16 +29,16 @@ or_not : (b : Bool) → (b || not b) ≡ true
 or_not true = refl
 or_not false = refl
 
-module _ (p : Placement) (b enabled : ℕ) (table : List ℕ) (m : ℕ) (r : Bool) (within : b < p.backends) (is : (k : ℕ) → has m k ≡ hosts p k table) (lone : (r ≡ true) ↔ ((k : ℕ) → has (bit_and m enabled) k ≡ (k == b))) where
+module _ (p : Placement) (b enabled : ℕ) (table : List ℕ) (m : ℕ) (r : Bool) (within : b < p.backends) (is : (k : ℕ) → in_mask m k ≡ hosts p k table) (lone : (r ≡ true) ↔ ((k : ℕ) → in_mask (bit_and m enabled) k ≡ (k == b))) where
   -- whether a backend is enabled and hosts the table
   abbrev serves : ℕ → Bool
-  serves k = hosts p k table && has enabled k
+  serves k = hosts p k table && in_mask enabled k
 
   abbrev is_other : ℕ → Bool
   is_other k = k == b || not (serves k)
 
-  bits : (k : ℕ) → has (bit_and m enabled) k ≡ serves k
-  bits k = has-and m enabled k ∙ ap (λ x. x && has enabled k) (is k)
+  bits : (k : ℕ) → in_mask (bit_and m enabled) k ≡ serves k
+  bits k = has-and m enabled k ∙ ap (λ x. x && in_mask enabled k) (is k)
 
   there : r ≡ true → is_last_host p b enabled table ≡ true
   there t =
@@ -50,7 +50,7 @@ module _ (p : Placement) (b enabled : ℕ) (table : List ℕ) (m : ℕ) (r : Boo
   none : (k : ℕ) → (k ≡ b → ⊥) → list_all is_other (range_with_len 0 p.backends) ≡ true → serves k ≡ false
   none k ne all = ⊎_elim
       (λ (below : k < p.backends). not-true (serves k) (ap (λ x. x || not (serves k)) (sym (ne_eqb k b ne)) ∙ passes is_other p.backends k all below))
-      (λ (above : p.backends ≤ k). and_left (hosts p k table) (has enabled k) (and_left _ _ (le-ltb k p.backends above)))
+      (λ (above : p.backends ≤ k). and_left (hosts p k table) (in_mask enabled k) (and_left _ _ (le-ltb k p.backends above)))
       (cases_lt k p.backends)
 
   back : is_last_host p b enabled table ≡ true → r ≡ true

@@ -14,14 +14,14 @@ use Rattle.std.proofs.lemmas.List.Elements.{All-head, All-tail}
 use Rattle.std.proofs.lemmas.List.Folds.{list_any-append}
 use Rattle.std.proofs.lemmas.Slice.Eq.{bytes_eq-Decides}
 use Rattle.cj_model.specs.declared.placement.PlaceRow.{PlaceRow}
-use Rattle.cj_model.specs.Histories.{has}
-use Rattle.cj_model.specs.Placements.{Hosting, hosts}
-use Rattle.cj_model.specs.Tables.{Rises, name_cmp, put_by}
+use Rattle.cj_model.specs.Cluster.Histories.{in_mask}
+use Rattle.cj_model.specs.Cluster.Placements.{Hosting, hosts}
+use Rattle.cj_model.specs.Database.Tables.{Rises, name_cmp, put_by}
 use Rattle.cj_model.proofs.Masks.{has-zero}
 use Rattle.cj_model.proofs.RisingLaws.{rises_put_each}
 use Rattle.cj_place.specs.declared.rows.HostRow.{HostRow}
-use Rattle.cj_place.specs.Layouts.{by_row, number_of, placement_of, row_hostings}
-use Rattle.cj_place.specs.Kept.{IsKept, IsMasked, by_given, given_rows, mask_in}
+use Rattle.cj_place.specs.Layouts.{by_row, backend_number, placement_of, row_hostings}
+use Rattle.cj_place.specs.Kept.{IsKeptPlacement, IsMasked, by_given, given_rows, mask_in}
 use Rattle.cj_place.specs.Refusals.{has_count}
 
 -- ---- putting in
@@ -40,7 +40,7 @@ by_row_total : IsTotalOrder by_row
 by_row_total = on_total (λ (row : PlaceRow). row.table) nat_list_cmp_total
 
 -- the rows put in their places, with their masks, are kept
-pub makes_kept : (names : List (List ℕ)) (rows : List PlaceRow) (made : List HostRow) (empty : List ℕ) → has_count names ≡ true → All (IsMasked names) made → given_rows made ≡ fold (put_by by_row) [] rows → empty ≡ [] → IsKept names made empty
+pub makes_kept : (names : List (List ℕ)) (rows : List PlaceRow) (made : List HostRow) (empty : List ℕ) → has_count names ≡ true → All (IsMasked names) made → given_rows made ≡ fold (put_by by_row) [] rows → empty ≡ [] → IsKeptPlacement names made empty
 makes_kept names rows made empty count masks is nameless =
     let counts = and_parts _ _ count in
     record {
@@ -78,7 +78,7 @@ module _ (names : List (List ℕ)) (table : List ℕ) (b : ℕ) where
   is_it h = bytes_eq h.table table && h.backend == b
 
   abbrev has_number : PlaceRow → Bool
-  has_number row = list_any (λ host. number_of names host == b) row.hosts
+  has_number row = list_any (λ host. backend_number names host == b) row.hosts
 
   -- the first row, and those behind it
   one_more : (row : PlaceRow) (rows : List PlaceRow) → list_any is_it (flat_map (row_hostings names) (row ∷ rows)) ≡ ((bytes_eq row.table table && has_number row) || list_any is_it (flat_map (row_hostings names) rows))
@@ -86,8 +86,8 @@ module _ (names : List (List ℕ)) (table : List ℕ) (b : ℕ) where
       ap (list_any is_it) (flat_map-cons (row_hostings names) row rows)
       ∙ list_any-append is_it (row_hostings names row) (flat_map (row_hostings names) rows)
       ∙ ap (λ x. x || list_any is_it (flat_map (row_hostings names) rows))
-      (any_map is_it (λ host. record { table = row.table; backend = number_of names host }) row.hosts
-      ∙ any_and (bytes_eq row.table table) (λ host. number_of names host == b) row.hosts)
+      (any_map is_it (λ host. record { table = row.table; backend = backend_number names host }) row.hosts
+      ∙ any_and (bytes_eq row.table table) (λ host. backend_number names host == b) row.hosts)
 
   -- a row that stands above one of the table isn't of it
   other_table : (r s : PlaceRow) → bytes_eq r.table table ≡ true → by_row r s ≡ Less → bytes_eq s.table table ≡ false
@@ -105,13 +105,13 @@ module _ (names : List (List ℕ)) (table : List ℕ) (b : ℕ) where
       (none_behind r rows t (All-tail (λ s. by_row r s ≡ Less) s rows below))
 
   abbrev Finds : List HostRow → Type 0
-  Finds rows = has (mask_in rows table) b ≡ (nat_lt b (length names) && list_any is_it (flat_map (row_hostings names) (given_rows rows)))
+  Finds rows = in_mask (mask_in rows table) b ≡ (nat_lt b (length names) && list_any is_it (flat_map (row_hostings names) (given_rows rows)))
 
   -- the mask that is found has the hosts that the rows list
   mask_hosts : (rows : List HostRow) → All (IsMasked names) rows → Rises by_row (given_rows rows) → Finds rows
   mask_hosts [] masks rises = has-zero b ∙ sym (and-false (nat_lt b (length names)))
   mask_hosts (r ∷ rows) masks rises =
-      let found : Bool → Bool = λ o. has (option_map_or (λ (row : HostRow). row.mask) (cond o (Some r) (find (λ (row : HostRow). bytes_eq row.given.table table) rows)) 0) b in
+      let found : Bool → Bool = λ o. in_mask (option_map_or (λ (row : HostRow). row.mask) (cond o (Some r) (find (λ (row : HostRow). bytes_eq row.given.table table) rows)) 0) b in
       let rest : Bool = list_any is_it (flat_map (row_hostings names) (given_rows rows)) in
       let lists : Bool → Bool = λ o. nat_lt b (length names) && ((o && has_number r.given) || rest) in
       let listed : (nat_lt b (length names) && list_any is_it (flat_map (row_hostings names) (given_rows (r ∷ rows)))) ≡ lists (bytes_eq r.given.table table) =
@@ -123,6 +123,6 @@ module _ (names : List (List ℕ)) (table : List ℕ) (b : ℕ) where
       (λ f. ap found f ∙ mask_hosts rows (All-tail (IsMasked names) r rows masks) rises.1 ∙ sym (listed ∙ ap lists f))
 
   -- it has the hosts of the table, where not every backend hosts all
-  pub part_hosts : (full : Bool) (rows : List HostRow) → full ≡ false → All (IsMasked names) rows → Rises by_row (given_rows rows) → has (mask_in rows table) b ≡ hosts (placement_of (record { names = names; full = full; rows = given_rows rows })) b table
+  pub part_hosts : (full : Bool) (rows : List HostRow) → full ≡ false → All (IsMasked names) rows → Rises by_row (given_rows rows) → in_mask (mask_in rows table) b ≡ hosts (placement_of (record { names = names; full = full; rows = given_rows rows })) b table
   part_hosts full rows f masks rises =
       mask_hosts rows masks rises ∙ ap (λ k. nat_lt b (length names) && (k || list_any is_it (flat_map (row_hostings names) (given_rows rows)))) (sym f)

@@ -6,14 +6,14 @@ use Rattle.std.specs.declared.cmp.Ordering.{Ordering}
 use Rattle.std.specs.List.{list_any}
 use Rattle.cj_model.specs.declared.placement.PlaceRow.{PlaceRow}
 use Rattle.cj_model.specs.declared.limits.TheConstants.{BACKEND_LIMIT}
-use Rattle.cj_model.specs.Histories.{has}
-use Rattle.cj_model.specs.Tables.{Rises}
+use Rattle.cj_model.specs.Cluster.Histories.{in_mask}
+use Rattle.cj_model.specs.Database.Tables.{Rises}
 use Rattle.cj_place.specs.declared.rows.HostRow.{HostRow}
-use Rattle.cj_place.specs.Layouts.{number_of, by_row}
+use Rattle.cj_place.specs.Layouts.{backend_number, by_row}
 
 -- the mask has the backends that stand among the hosts
 abbrev pub HasMask : List (List ℕ) → List (List ℕ) → ℕ → Type 0
-HasMask names hosts mask = (b : ℕ) → has mask b ≡ (nat_lt b (length names) && list_any (λ host. number_of names host == b) hosts)
+HasMask names hosts mask = (b : ℕ) → in_mask mask b ≡ (nat_lt b (length names) && list_any (λ host. backend_number names host == b) hosts)
 
 -- the row has the mask of its hosts
 abbrev pub IsMasked : List (List ℕ) → HostRow → Type 0
@@ -32,7 +32,7 @@ abbrev pub mask_in : List HostRow → List ℕ → ℕ
 mask_in rows table = option_map_or (λ (row : HostRow). row.mask) (find (λ (row : HostRow). bytes_eq row.given.table table) rows) 0
 
 -- some backends, not too many, the rows in rising name of their table with their masks, and an empty name
-pub record IsKept (names : List (List ℕ)) (rows : List HostRow) (empty : List ℕ) : Type 0 where
+pub record IsKeptPlacement (names : List (List ℕ)) (rows : List HostRow) (empty : List ℕ) : Type 0 where
   pub some : 0 < length names
   pub most : length names ≤ BACKEND_LIMIT
   pub masks : All (IsMasked names) rows

@@ -10,9 +10,9 @@ use Rattle.std.specs.Str.{bytes_eq}
 use Rattle.cj_model.specs.declared.placement.Level.{Level}
 use Rattle.cj_model.specs.declared.placement.Level.TheVariants.{Raidb0, Raidb1, Raidb2}
 use Rattle.cj_model.specs.declared.placement.PlaceRow.{PlaceRow}
-use Rattle.cj_model.specs.Histories.{has}
-use Rattle.cj_model.specs.Placements.{Hosting, Placement, hosts}
-use Rattle.cj_model.specs.Tables.{name_cmp, put_by}
+use Rattle.cj_model.specs.Cluster.Histories.{in_mask}
+use Rattle.cj_model.specs.Cluster.Placements.{Hosting, Placement, hosts}
+use Rattle.cj_model.specs.Database.Tables.{name_cmp, put_by}
 use Rattle.cj_place.specs.declared.error.PlaceError.{PlaceError}
 use Rattle.cj_place.specs.declared.error.PlaceError.TheVariants as error
 
@@ -23,12 +23,12 @@ pub record Layout : Type 0 where
   pub rows : List PlaceRow
 
 -- the number of the backend that has this name
-abbrev pub number_of : List (List ℕ) → List ℕ → ℕ
-number_of names name = position_or_len (λ n. bytes_eq n name) names
+abbrev pub backend_number : List (List ℕ) → List ℕ → ℕ
+backend_number names name = position_or_len (λ n. bytes_eq n name) names
 
 -- a row's table with each of its hosts
 abbrev pub row_hostings : List (List ℕ) → PlaceRow → List Hosting
-row_hostings names row = map (λ host. record { table = row.table; backend = number_of names host }) row.hosts
+row_hostings names row = map (λ host. record { table = row.table; backend = backend_number names host }) row.hosts
 
 -- which backends host which tables
 abbrev pub placement_of : Layout → Placement
@@ -51,10 +51,10 @@ abbrev pub layout_of : Level → List (List ℕ) → List PlaceRow → Layout
 layout_of level names rows = record { names = names; full = is_full level; rows = fold (put_by by_row) [] rows }
 
 -- the refusal, if there is one; otherwise the layout, or want of memory
-abbrev pub Makes : Option PlaceError → Layout → Result Layout PlaceError → Type 0
-Makes (Some refusal) layout result = result ≡ Err refusal
-Makes None layout (Ok made) = made ≡ layout
-Makes None layout (Err e) = e ≡ error.NoMemory
+abbrev pub MakesLayout : Option PlaceError → Layout → Result Layout PlaceError → Type 0
+MakesLayout (Some refusal) layout result = result ≡ Err refusal
+MakesLayout None layout (Ok made) = made ≡ layout
+MakesLayout None layout (Err e) = e ≡ error.NoMemory
 
 -- ---- calls
 
@@ -64,7 +64,7 @@ tables_at l b = filter (hosts (placement_of l) b) (map (λ (row : PlaceRow). row
 
 -- backend b is enabled and hosts the table, and each other backend isn't or doesn't
 abbrev pub is_last_host : Placement → ℕ → ℕ → List ℕ → Bool
-is_last_host p b enabled table = hosts p b table && has enabled b && list_all (λ c. c == b || not (hosts p c table && has enabled c)) (range_with_len 0 p.backends)
+is_last_host p b enabled table = hosts p b table && in_mask enabled b && list_all (λ c. c == b || not (hosts p c table && in_mask enabled c)) (range_with_len 0 p.backends)
 
 -- the first table of the rows whose only enabled host is b; where every backend hosts all tables, the empty name if b alone is enabled
 abbrev pub last_host : Layout → ℕ → ℕ → Option (List ℕ)

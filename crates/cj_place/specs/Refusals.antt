@@ -72,8 +72,8 @@ bad_level Raidb2 backends rows = None
 -- ---- all of them, in order
 
 -- why the rows make no placement of the level over the backends, if they don't
-abbrev pub refusal_of : Level → List (List ℕ) → List PlaceRow → Option PlaceError
-refusal_of level backends rows = first_some (
+abbrev pub refusal_of_placement : Level → List (List ℕ) → List PlaceRow → Option PlaceError
+refusal_of_placement level backends rows = first_some (
     (if has_count backends then None else Some BackendCount)
     ∷ option_map Twice (twice backends rows)
     ∷ option_map Stranger (stranger backends rows)

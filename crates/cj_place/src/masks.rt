@@ -1,14 +1,14 @@
 //! Masks, which have bit b for backend b.
 
 ghost use Rattle.std.specs.Prelude.{◌≡◌, ◌↔◌, ◌≤◌, ◌<◌, ◌==◌, ℕ, nat_lt, IsTrue};
-ghost use Rattle.cj_model.specs.Histories.{has};
+ghost use Rattle.cj_model.specs.Cluster.Histories.{in_mask};
 
 use cj_model::BACKEND_LIMIT;
 
 /// The mask of the first backends.
 pub fn first_bits(count: usize) -> u32
     requires { count ≤ BACKEND_LIMIT }
-    ensures { (c : ℕ) → has result c ≡ nat_lt c count }
+    ensures { (c : ℕ) → in_mask result c ≡ nat_lt c count }
 {
     (1 << count) - 1
 }
@@ -16,7 +16,7 @@ pub fn first_bits(count: usize) -> u32
 /// Whether the mask has the backend alone.
 pub fn is_lone_bit(mask: u32, b: u8) -> bool
     requires { b < 32 }
-    ensures { IsTrue result ↔ ((c : ℕ) → has mask c ≡ (c == b)) }
+    ensures { IsTrue result ↔ ((c : ℕ) → in_mask mask c ≡ (c == b)) }
 {
     mask == 1 << b
 }

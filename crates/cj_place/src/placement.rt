@@ -2,13 +2,13 @@
 
 ghost use Rattle.std.specs.Prelude.{◌≡◌, ◌<◌, ◌≤◌, [], ◌∷◌, ℕ, Some, filter, find, fold, length, map, option_copied, position, slice_get, true, IfOk, OnOk, OnErr};
 ghost use Rattle.std.specs.Str.{bytes_eq};
-ghost use Rattle.cj_model.specs.Histories.{has};
-ghost use Rattle.cj_model.specs.Placements as placements;
-ghost use Rattle.cj_model.specs.Placements.{hosts_all};
-ghost use Rattle.cj_model.specs.Tables.{name_cmp, put_by};
+ghost use Rattle.cj_model.specs.Cluster.Histories.{in_mask};
+ghost use Rattle.cj_model.specs.Cluster.Placements as placements;
+ghost use Rattle.cj_model.specs.Cluster.Placements.{hosts_all};
+ghost use Rattle.cj_model.specs.Database.Tables.{name_cmp, put_by};
 ghost use Rattle.cj_place.specs.Layouts as layouts;
-ghost use Rattle.cj_place.specs.Layouts.{Makes, is_full, layout_of, placement_of, tables_at};
-ghost use Rattle.cj_place.specs.Refusals.{has_count, refusal_of};
+ghost use Rattle.cj_place.specs.Layouts.{MakesLayout, is_full, layout_of, placement_of, tables_at};
+ghost use Rattle.cj_place.specs.Refusals.{has_count, refusal_of_placement};
 
 use crate::error::PlaceError;
 use crate::masks::{first_bits, is_lone_bit};
@@ -38,11 +38,11 @@ impl Model for Placement {
 
     ghost Value = { Layout };
 
-    ghost use Rattle.cj_place.specs.Kept.{IsKept, given_rows};
+    ghost use Rattle.cj_place.specs.Kept.{IsKeptPlacement, given_rows};
 
     ghost view = { λ p. record { names = p.names; full = p.full; rows = given_rows p.rows } };
 
-    ghost invariant = { λ p. IsKept p.names p.rows p.empty };
+    ghost invariant = { λ p. IsKeptPlacement p.names p.rows p.empty };
 }
 
 fn replicates_in_full(level: Level) -> bool
@@ -63,7 +63,7 @@ impl Placement {
         backends: Names,
         rows: PlaceRows,
     ) -> Result<Placement, PlaceError>
-        ensures { Makes (refusal_of level backends rows) (layout_of level backends rows) result }
+        ensures { MakesLayout (refusal_of_placement level backends rows) (layout_of level backends rows) result }
     {
         if let Some(refusal) = refusal(level, backends.as_slice(), rows.as_slice()) {
             return Err(refusal);
@@ -125,7 +125,7 @@ impl Placement {
 
     /// The mask of the backends that host a table.
     pub fn hosts(&self, table: &Name) -> u32
-        ensures { (b : ℕ) → has result b ≡ placements.hosts (placement_of self.now) b table.now }
+        ensures { (b : ℕ) → in_mask result b ≡ placements.hosts (placement_of self.now) b table.now }
     {
         if self.full {
             return first_bits(self.names.len());

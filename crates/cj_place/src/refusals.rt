@@ -3,7 +3,7 @@
 ghost use Rattle.std.specs.Prelude.{◌≡◌, [], find, length, map, not, option_copied, option_map, true};
 ghost use Rattle.std.specs.List.{list_all, list_any};
 ghost use Rattle.std.specs.Str.{bytes_eq};
-ghost use Rattle.cj_place.specs.Refusals.{bad_level, has_count, is_among, refusal_of, some_row};
+ghost use Rattle.cj_place.specs.Refusals.{bad_level, has_count, is_among, refusal_of_placement, some_row};
 ghost use Rattle.cj_place.specs.Refusals as refusals;
 
 use crate::error::PlaceError;
@@ -138,7 +138,7 @@ fn refused_by_level(level: Level, backends: &[Name], rows: &[PlaceRow]) -> Optio
 
 /// Why the rows make no placement, if they don't.
 pub fn refusal(level: Level, backends: &[Name], rows: &[PlaceRow]) -> Option<PlaceError>
-    ensures { result ≡ refusal_of level backends.now rows.now }
+    ensures { result ≡ refusal_of_placement level backends.now rows.now }
 {
     if backends.is_empty() || backends.len() > BACKEND_LIMIT as usize {
         return Some(PlaceError::BackendCount);

@@ -3,9 +3,9 @@
 ghost use Rattle.std.specs.Prelude.{◌≡◌, ◌≤◌, ◌==◌, ◌||◌, ◌&&◌, [], All, ℕ, find, fold, length, map, nat_lt, option_copied, position, IfOk, OnOk};
 ghost use Rattle.std.specs.List.{list_any};
 ghost use Rattle.std.specs.Str.{bytes_eq};
-ghost use Rattle.cj_model.specs.Gaps.{IsPlace};
-ghost use Rattle.cj_model.specs.Histories.{has};
-ghost use Rattle.cj_model.specs.Tables.{Rises, put_by};
+ghost use Rattle.cj_model.specs.Proving.Gaps.{IsPlace};
+ghost use Rattle.cj_model.specs.Cluster.Histories.{in_mask};
+ghost use Rattle.cj_model.specs.Database.Tables.{Rises, put_by};
 ghost use Rattle.cj_place.specs.Layouts.{by_row};
 ghost use Rattle.cj_place.specs.Layouts as layouts;
 ghost use Rattle.cj_place.specs.Kept.{HasMask, IsMasked, by_given, mask_in};
@@ -49,7 +49,7 @@ pub fn number_of(names: &[Name], name: &Name) -> Option<u8>
 
 fn with_host(names: &[Name], mask: u32, host: &Name) -> u32
     requires { length names.now ≤ BACKEND_LIMIT }
-    ensures { (b : ℕ) → has result b ≡ (has mask b || (nat_lt b (length names.now) && layouts.number_of names.now host.now == b)) }
+    ensures { (b : ℕ) → in_mask result b ≡ (in_mask mask b || (nat_lt b (length names.now) && layouts.backend_number names.now host.now == b)) }
 {
     match number_of(names, host) {
         Some(b) => with_bit(mask, b),

@@ -5,8 +5,8 @@ use Rattle.std.specs.declared.option.Option.{Option}
 use Rattle.cj_model.specs.declared.term.Term.{Term}
 use Rattle.cj_model.specs.declared.database.Table.{Table}
 use Rattle.cj_model.specs.declared.codes.TheConstants.{WRONG_TYPE}
-use Rattle.cj_model.specs.Tables.{fits_columns}
-use Rattle.cj_model.specs.Changes.{bare, unless, row_of, lists_stranger, lists_unevenly, with_rows, inserted}
+use Rattle.cj_model.specs.Database.Tables.{fits_columns}
+use Rattle.cj_model.specs.Database.Inserts.{refusal_of_code, refuse_if, row_of, lists_unknown_column, lists_unevenly, with_rows, inserted}
 use Rattle.cj_plan.specs.Inserts.{with_fitting_rows}
 
 -- a test of what items are made into
@@ -15,8 +15,8 @@ list_any-map p f [] = refl
 list_any-map p f (x ∷ xs) = ap (λ b. p (f x) || b) (list_any-map p f xs)
 
 -- what is inserted where the list of columns and the widths are right
-pub inserted_rows : (t : Table) (names : Option (List (List ℕ))) (tuples : List (List Term)) → lists_stranger t.schema.columns names ≡ false → lists_unevenly t.schema.columns names ≡ false → list_any (λ (u : List Term). not (length u == length t.schema.columns)) tuples ≡ false → with_fitting_rows t (map (row_of t.schema.columns names) tuples) ≡ inserted t names tuples
+pub inserted_rows : (t : Table) (names : Option (List (List ℕ))) (tuples : List (List Term)) → lists_unknown_column t.schema.columns names ≡ false → lists_unevenly t.schema.columns names ≡ false → list_any (λ (u : List Term). not (length u == length t.schema.columns)) tuples ≡ false → with_fitting_rows t (map (row_of t.schema.columns names) tuples) ≡ inserted t names tuples
 inserted_rows t names tuples known listed wide =
     rw (known, listed, wide)
-    (ap (λ b. unless b (bare WRONG_TYPE) (with_rows t.schema.key t.rows (map (row_of t.schema.columns names) tuples)))
+    (ap (λ b. refuse_if b (refusal_of_code WRONG_TYPE) (with_rows t.schema.key t.rows (map (row_of t.schema.columns names) tuples)))
     (list_any-map (λ r. not (fits_columns t.schema.columns r)) (row_of t.schema.columns names) tuples))

@@ -16,16 +16,16 @@ use Rattle.std.proofs.lemmas.List.Filters.{length-filter_both}
 use Rattle.std.proofs.lemmas.List.Sums.{length-filter, count_by-le-length}
 use Rattle.cj_model.specs.declared.value.Value.{Value}
 use Rattle.cj_model.specs.declared.database.Table.{Table}
-use Rattle.cj_model.specs.Values.{value_cmp, value_total, value_exact}
-use Rattle.cj_model.specs.Tables.{IsTable, cell, by_key, put_by, Rises}
-use Rattle.cj_model.specs.Changes.{Changed, unless, has_key, has_key_twice}
-use Rattle.cj_model.specs.Predicates.{Predicate}
-use Rattle.cj_model.specs.Evaluation.{meets}
+use Rattle.cj_model.specs.Database.Values.{value_cmp, value_total, value_exact}
+use Rattle.cj_model.specs.Database.Tables.{IsTable, cell, by_key, put_by, Rises}
+use Rattle.cj_model.specs.Database.Inserts.{Changed, refuse_if, has_key, has_key_twice}
+use Rattle.cj_model.specs.Database.Predicates.{Predicate}
+use Rattle.cj_model.specs.Database.Evaluation.{satisfies}
 use Rattle.cj_model.proofs.RisingLaws.{by_order, found_put}
 use Rattle.cj_model.proofs.TableLaws.{by_key_total}
 use Rattle.cj_plan.specs.declared.plan.Plan.{Plan}
 use Rattle.cj_rows.specs.Entries.{KeysRise, at}
-use Rattle.cj_rows.specs.Layers.{merged, listed}
+use Rattle.cj_rows.specs.Layers.{merged, option_as_list}
 use Rattle.cj_rows.specs.Lookups.{row_with_key, IsKeyOf}
 use Rattle.cj_rows.specs.RowEntries.{RowEntries, keyed, puts, removals}
 use Rattle.cj_rows.specs.Stored.{IsChangeOf}
@@ -79,10 +79,10 @@ found_key k rows r =
     ∙ any_same (λ x. is_eq (value_cmp (cell x k) (cell r k))) (λ x. is_eq (by_key k r x)) (λ x. is_eq-flip (cell x k) (cell r k)) rows
 
 module _ (k : ℕ) (v : Value) (c : Option Predicate) (p : IsKeyOf k c v) where
-  fails : (r : List Value) → is_eq (value_cmp (cell r k) v) ≡ false → meets c r ≡ false
+  fails : (r : List Value) → is_eq (value_cmp (cell r k) v) ≡ false → satisfies c r ≡ false
   fails r n = false_from_ne_true _ (λ h. let e : true ≡ false = sym (ap is_eq (tied_itself value_total v)) ∙ ap (λ (w : Value). is_eq (value_cmp w v)) (sym (p.at r h)) ∙ n in cc e)
 
-  none_meet : (r : List Value) → cell r k ≡ v → (rs : List (List Value)) → All (λ s. by_key k r s ≡ Less) rs → filter (meets c) rs ≡ []
+  none_meet : (r : List Value) → cell r k ≡ v → (rs : List (List Value)) → All (λ s. by_key k r s ≡ Less) rs → filter (satisfies c) rs ≡ []
   none_meet r e [] h = refl
   none_meet r e (s ∷ rs) h =
       let l : value_cmp v (cell s k) ≡ Less = ap (λ (w : Value). value_cmp w (cell s k)) (sym e) ∙ All-head (λ s. by_key k r s ≡ Less) s rs h in
@@ -94,12 +94,12 @@ module _ (k : ℕ) (v : Value) (c : Option Predicate) (p : IsKeyOf k c v) where
   equal Greater h = cc h
 
   -- one row at most has the key of all that meet a condition
-  pub pinned_rows : (rs : List (List Value)) → Rises (by_key k) rs → filter (meets c) (listed (row_with_key k rs v)) ≡ filter (meets c) rs
+  pub pinned_rows : (rs : List (List Value)) → Rises (by_key k) rs → filter (satisfies c) (option_as_list (row_with_key k rs v)) ≡ filter (satisfies c) rs
   pinned_rows [] h = refl
   pinned_rows (r ∷ rs) h = ⊎_elim
-      (λ (t : is_eq (value_cmp (cell r k) v) ≡ true). ap (λ o. filter (meets c) (listed o)) (cond-true _ _ _ t)
-      ∙ ap (λ (l : List (List Value)). cond (meets c r) (r ∷ l) l) (sym (none_meet r (value_exact _ _ (equal _ t)) rs h.0)))
-      (λ (f : is_eq (value_cmp (cell r k) v) ≡ false). ap (λ o. filter (meets c) (listed o)) (cond-false _ _ _ f) ∙ pinned_rows rs h.1
+      (λ (t : is_eq (value_cmp (cell r k) v) ≡ true). ap (λ o. filter (satisfies c) (option_as_list o)) (cond-true _ _ _ t)
+      ∙ ap (λ (l : List (List Value)). cond (satisfies c r) (r ∷ l) l) (sym (none_meet r (value_exact _ _ (equal _ t)) rs h.0)))
+      (λ (f : is_eq (value_cmp (cell r k) v) ≡ false). ap (λ o. filter (satisfies c) (option_as_list o)) (cond-false _ _ _ f) ∙ pinned_rows rs h.1
       ∙ sym (cond-false _ _ _ (fails r f)))
       (cases_Bool (is_eq (value_cmp (cell r k) v)))
 
@@ -240,11 +240,11 @@ insert_leaves t is p new there twice e c w = leaves t p (fold (put_by (by_key t.
 
 -- ---- refusals
 
-pub refused : (t : Table) (b : Bool) (r r' : Refusal) (rest : Changed) → b ≡ true → r' ≡ r → Plans t (unless b r rest) (Err r')
+pub refused : (t : Table) (b : Bool) (r r' : Refusal) (rest : Changed) → b ≡ true → r' ≡ r → Plans t (refuse_if b r rest) (Err r')
 refused t true r r' rest h e = e
 refused t false r r' rest h e = cc h
 
-pub past : (t : Table) (b : Bool) (r : Refusal) (rest : Changed) (x : Result Plan Refusal) → b ≡ false → Plans t rest x → Plans t (unless b r rest) x
+pub past : (t : Table) (b : Bool) (r : Refusal) (rest : Changed) (x : Result Plan Refusal) → b ≡ false → Plans t rest x → Plans t (refuse_if b r rest) x
 past t true r rest x h p = cc h
 past t false r rest x h p = p
 

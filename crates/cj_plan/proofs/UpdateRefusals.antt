@@ -10,10 +10,10 @@ use Rattle.cj_model.specs.declared.database.Table.{Table}
 use Rattle.cj_model.specs.declared.write.Set.{Set}
 use Rattle.cj_model.specs.declared.answer.Refusal.{Refusal}
 use Rattle.cj_model.specs.declared.codes.TheConstants.{NO_COLUMN, BAD_COLUMNS, WRONG_TYPE}
-use Rattle.cj_model.specs.Conditions.{Condition}
-use Rattle.cj_model.specs.Changes.{Changed, bare, unless}
-use Rattle.cj_model.specs.Scopes.{Scope, scope_of, where_names_stranger, where_mixes_kinds, predicate_of}
-use Rattle.cj_model.specs.Updates.{set_names_stranger, sets_twice, sets_key, set_mixes_kinds, assignment_of, with_new_values, updated}
+use Rattle.cj_model.specs.Database.Conditions.{Condition}
+use Rattle.cj_model.specs.Database.Inserts.{Changed, refusal_of_code, refuse_if}
+use Rattle.cj_model.specs.Database.Scopes.{Scope, scope_of, where_has_unknown_column, where_mixes_kinds, predicate_of}
+use Rattle.cj_model.specs.Database.Updates.{set_has_unknown_column, sets_twice, sets_key, set_mixes_kinds, assignment_of, with_new_values, updated}
 use Rattle.cj_model.proofs.UpdateLaws.{key_assigned}
 use Rattle.cj_plan.specs.declared.plan.Plan.{Plan}
 use Rattle.cj_plan.specs.Assignments.{KeepsKey}
@@ -21,8 +21,8 @@ use Rattle.cj_plan.specs.Plans.{Plans}
 use Rattle.cj_plan.proofs.PlanLaws.{refused, past}
 
 module _ (t : Table) (sets : List Set) (when : Option Condition) where
-  abbrev stranger : Scope → Bool
-  stranger s = list_any (set_names_stranger s) sets || where_names_stranger s when
+  abbrev unknown : Scope → Bool
+  unknown s = list_any (set_has_unknown_column s) sets || where_has_unknown_column s when
 
   abbrev bad : Scope → Bool
   bad s = sets_twice sets || list_any (sets_key s t.schema.key) sets
@@ -37,24 +37,24 @@ module _ (t : Table) (sets : List Set) (when : Option Condition) where
   own = scope_of (t.schema ∷ [])
 
   abbrev after_columns : Changed
-  after_columns = unless (mixed own) (bare WRONG_TYPE) (made own)
+  after_columns = refuse_if (mixed own) (refusal_of_code WRONG_TYPE) (made own)
 
   abbrev after_names : Changed
-  after_names = unless (bad own) (bare BAD_COLUMNS) after_columns
+  after_names = refuse_if (bad own) (refusal_of_code BAD_COLUMNS) after_columns
 
   module _ (s : Scope) (is : s ≡ own) where
-    pub first_refused : (r : Refusal) → stranger s ≡ true → r ≡ bare NO_COLUMN → Plans t (updated t sets when) (Err r)
-    first_refused r h e = refused t (stranger own) (bare NO_COLUMN) r after_names (ap stranger (sym is) ∙ h) e
+    pub first_refused : (r : Refusal) → unknown s ≡ true → r ≡ refusal_of_code NO_COLUMN → Plans t (updated t sets when) (Err r)
+    first_refused r h e = refused t (unknown own) (refusal_of_code NO_COLUMN) r after_names (ap unknown (sym is) ∙ h) e
 
-    pub second_refused : (r : Refusal) → stranger s ≡ false → bad s ≡ true → r ≡ bare BAD_COLUMNS → Plans t (updated t sets when) (Err r)
-    second_refused r f h e = past t (stranger own) (bare NO_COLUMN) after_names (Err r) (ap stranger (sym is) ∙ f) (refused t (bad own) (bare BAD_COLUMNS) r after_columns (ap bad (sym is) ∙ h) e)
+    pub second_refused : (r : Refusal) → unknown s ≡ false → bad s ≡ true → r ≡ refusal_of_code BAD_COLUMNS → Plans t (updated t sets when) (Err r)
+    second_refused r f h e = past t (unknown own) (refusal_of_code NO_COLUMN) after_names (Err r) (ap unknown (sym is) ∙ f) (refused t (bad own) (refusal_of_code BAD_COLUMNS) r after_columns (ap bad (sym is) ∙ h) e)
 
-    pub third_refused : (r : Refusal) → stranger s ≡ false → bad s ≡ false → mixed s ≡ true → r ≡ bare WRONG_TYPE → Plans t (updated t sets when) (Err r)
-    third_refused r f g h e = past t (stranger own) (bare NO_COLUMN) after_names (Err r) (ap stranger (sym is) ∙ f) (past t (bad own) (bare BAD_COLUMNS) after_columns (Err r) (ap bad (sym is) ∙ g) (refused t (mixed own) (bare WRONG_TYPE) r (made own) (ap mixed (sym is) ∙ h) e))
+    pub third_refused : (r : Refusal) → unknown s ≡ false → bad s ≡ false → mixed s ≡ true → r ≡ refusal_of_code WRONG_TYPE → Plans t (updated t sets when) (Err r)
+    third_refused r f g h e = past t (unknown own) (refusal_of_code NO_COLUMN) after_names (Err r) (ap unknown (sym is) ∙ f) (past t (bad own) (refusal_of_code BAD_COLUMNS) after_columns (Err r) (ap bad (sym is) ∙ g) (refused t (mixed own) (refusal_of_code WRONG_TYPE) r (made own) (ap mixed (sym is) ∙ h) e))
 
-    pub all_past : (x : Result Plan Refusal) → stranger s ≡ false → bad s ≡ false → mixed s ≡ false → Plans t (made s) x → Plans t (updated t sets when) x
+    pub all_past : (x : Result Plan Refusal) → unknown s ≡ false → bad s ≡ false → mixed s ≡ false → Plans t (made s) x → Plans t (updated t sets when) x
     all_past x f g h p =
-        past t (stranger own) (bare NO_COLUMN) after_names x (ap stranger (sym is) ∙ f) (past t (bad own) (bare BAD_COLUMNS) after_columns x (ap bad (sym is) ∙ g) (past t (mixed own) (bare WRONG_TYPE) (made own) x (ap mixed (sym is) ∙ h) (subst (λ s. Plans t (made s) x) is p)))
+        past t (unknown own) (refusal_of_code NO_COLUMN) after_names x (ap unknown (sym is) ∙ f) (past t (bad own) (refusal_of_code BAD_COLUMNS) after_columns x (ap bad (sym is) ∙ g) (past t (mixed own) (refusal_of_code WRONG_TYPE) (made own) x (ap mixed (sym is) ∙ h) (subst (λ s. Plans t (made s) x) is p)))
 
     pub keeps_key : bad s ≡ false → KeepsKey t.schema.key (map (assignment_of s) sets)
     keeps_key g = record { same = λ row. key_assigned t.schema.table t.schema.columns t.schema.key s sets row row (or_parts (sets_twice sets) (list_any (sets_key s t.schema.key) sets) g).1 }

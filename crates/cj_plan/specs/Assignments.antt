@@ -4,18 +4,18 @@ use Rattle.std.specs.List.{list_any}
 use Rattle.std.specs.declared.option.Option.{Option}
 use Rattle.std.specs.declared.option.Option.TheVariants.{None, Some}
 use Rattle.cj_model.specs.declared.value.Value.{Value}
-use Rattle.cj_model.specs.Tables.{cell}
-use Rattle.cj_model.specs.Updates as updates
+use Rattle.cj_model.specs.Database.Tables.{cell}
+use Rattle.cj_model.specs.Database.Updates as updates
 use Rattle.cj_expr.specs.Shapes.{formula}
 use Rattle.cj_plan.specs.declared.update.Assignment.{Assignment}
 use Rattle.cj_rows.specs.RowEntries.{RowEntries, puts}
 
 -- assignments that stand in memory, as the definitions speak of them
-abbrev pub assignment : Assignment → updates.Assignment
-assignment a = record { place = a.place; value = formula a.value }
+abbrev pub assignment_by_place : Assignment → updates.Assignment
+assignment_by_place a = record { place = a.place; value = formula a.value }
 
 abbrev pub assignments : List Assignment → List updates.Assignment
-assignments assigns = map assignment assigns
+assignments assigns = map assignment_by_place assigns
 
 -- no row gets another key
 pub record KeepsKey (k : ℕ) (assigns : List updates.Assignment) : Type 0 where

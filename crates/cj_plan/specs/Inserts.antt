@@ -6,14 +6,14 @@ use Rattle.std.specs.declared.option.Option.TheVariants.{None, Some}
 use Rattle.cj_model.specs.declared.value.Value.{Value}
 use Rattle.cj_model.specs.declared.database.Table.{Table}
 use Rattle.cj_model.specs.declared.codes.TheConstants.{WRONG_TYPE}
-use Rattle.cj_model.specs.Tables.{fits_columns}
-use Rattle.cj_model.specs.Changes.{Changed, bare, unless, with_rows, has_key_twice}
+use Rattle.cj_model.specs.Database.Tables.{fits_columns}
+use Rattle.cj_model.specs.Database.Inserts.{Changed, refusal_of_code, refuse_if, with_rows, has_key_twice}
 use Rattle.cj_rows.specs.RowEntries.{RowEntries, puts}
 
 -- a table's rows with new ones, if these fit its columns
 abbrev pub with_fitting_rows : Table → List (List Value) → Changed
 with_fitting_rows t rows =
-    unless (list_any (λ r. not (fits_columns t.schema.columns r)) rows) (bare WRONG_TYPE)
+    refuse_if (list_any (λ r. not (fits_columns t.schema.columns r)) rows) (refusal_of_code WRONG_TYPE)
     (with_rows t.schema.key t.rows rows)
 
 -- the changes that put these rows; none where two have one key

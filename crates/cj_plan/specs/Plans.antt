@@ -6,7 +6,7 @@ use Rattle.cj_model.specs.declared.value.Value.{Value}
 use Rattle.cj_model.specs.declared.memory.NoMemory.{NoMemory}
 use Rattle.cj_model.specs.declared.database.Table.{Table}
 use Rattle.cj_model.specs.declared.answer.Refusal.{Refusal}
-use Rattle.cj_model.specs.Changes.{Changed}
+use Rattle.cj_model.specs.Database.Inserts.{Changed}
 use Rattle.cj_plan.specs.declared.plan.Plan.{Plan}
 use Rattle.cj_rows.specs.Stored.{IsChangeOf, rows_after}
 

@@ -2,9 +2,9 @@
 
 ghost use Rattle.std.specs.Prelude.{◌≡◌, filter, map, option_map, IfOk, IfSome};
 ghost use Rattle.std.specs.Map.Iter.{deref};
-ghost use Rattle.cj_model.specs.Evaluation as evaluation;
-ghost use Rattle.cj_model.specs.Scopes as scopes;
-ghost use Rattle.cj_rows.specs.Layers.{listed};
+ghost use Rattle.cj_model.specs.Database.Evaluation as evaluation;
+ghost use Rattle.cj_model.specs.Database.Scopes as scopes;
+ghost use Rattle.cj_rows.specs.Layers.{option_as_list};
 ghost use Rattle.cj_rows.specs.Lookups.{row_with_key, IsKeyOf};
 
 use cj_expr::{Predicate, Scope, predicate_of};
@@ -13,12 +13,12 @@ use cj_rows::View;
 use std::alloc::Global;
 
 /// Whether a condition names a column that is not there.
-pub fn names_stranger(scope: &Scope, cond: &Option<Cond>) -> bool
-    ensures { result ≡ scopes.where_names_stranger scope.now cond.now }
+pub fn has_unknown_column(scope: &Scope, cond: &Option<Cond>) -> bool
+    ensures { result ≡ scopes.where_has_unknown_column scope.now cond.now }
 {
     match cond {
         None => false,
-        Some(cond) => scope.names_stranger(cond),
+        Some(cond) => scope.has_unknown_column(cond),
     }
 }
 
@@ -49,8 +49,8 @@ pub fn bound(
     }
 }
 
-fn meets(condition: &Option<Predicate>, row: &Row) -> bool
-    ensures { result ≡ evaluation.meets condition.now row.now }
+fn satisfies(condition: &Option<Predicate>, row: &Row) -> bool
+    ensures { result ≡ evaluation.satisfies condition.now row.now }
 {
     match condition {
         None => true,
@@ -64,11 +64,11 @@ fn scanned<'a>(
     view: &View<'a>,
     condition: &Option<Predicate>,
 ) -> Result<Vec<&'a Row>, NoMemory>
-    ensures { IfOk result (λ rows. map deref rows.items ≡ filter (evaluation.meets condition.now) view.now.rows) }
+    ensures { IfOk result (λ rows. map deref rows.items ≡ filter (evaluation.satisfies condition.now) view.now.rows) }
 {
     let mut rows = Vec::new(alloc);
     for row in view.scan() {
-        if meets(condition, row) {
+        if satisfies(condition, row) {
             rows.push(row)?;
         }
     }
@@ -82,11 +82,11 @@ fn looked_up<'a>(
     condition: &Option<Predicate>,
     key: &Value,
 ) -> Result<Vec<&'a Row>, NoMemory>
-    ensures { IfOk result (λ rows. map deref rows.items ≡ filter (evaluation.meets condition.now) (listed (row_with_key view.now.schema.key view.now.rows key.now))) }
+    ensures { IfOk result (λ rows. map deref rows.items ≡ filter (evaluation.satisfies condition.now) (option_as_list (row_with_key view.now.schema.key view.now.rows key.now))) }
 {
     let mut rows = Vec::new(alloc);
     if let Some(row) = view.find(key) {
-        if meets(condition, row) {
+        if satisfies(condition, row) {
             rows.push(row)?;
         }
     }
@@ -110,7 +110,7 @@ pub fn matching<'a>(
     view: &View<'a>,
     condition: &Option<Predicate>,
 ) -> Result<Vec<&'a Row>, NoMemory>
-    ensures { IfOk result (λ rows. map deref rows.items ≡ filter (evaluation.meets condition.now) view.now.rows) }
+    ensures { IfOk result (λ rows. map deref rows.items ≡ filter (evaluation.satisfies condition.now) view.now.rows) }
 {
     view.legal();
     match pinned_key(condition, view.schema().key as usize) {

@@ -2,12 +2,12 @@
 
 ghost use Rattle.std.specs.Prelude.{◌≡◌, map, option_map, IfOk};
 ghost use Rattle.std.specs.Map.Iter.{deref};
-ghost use Rattle.cj_model.specs.Scopes as scopes;
-ghost use Rattle.cj_model.specs.Updates as updates;
+ghost use Rattle.cj_model.specs.Database.Scopes as scopes;
+ghost use Rattle.cj_model.specs.Database.Updates as updates;
 ghost use Rattle.cj_plan.specs.Plans.{PlansChange};
 ghost use Rattle.cj_rows.specs.RowEntries as entries;
 
-use crate::conditions::{bound, matching, mixes_kinds, names_stranger};
+use crate::conditions::{bound, has_unknown_column, matching, mixes_kinds};
 use crate::plan::{Plan, Planned};
 use cj_expr::{Predicate, Scope};
 use cj_model::{Cond, NO_COLUMN, NoMemory, Refusal, Row, WRONG_TYPE};
@@ -49,11 +49,11 @@ pub fn deleted(alloc: Global, view: &View, cond: &Option<Cond>) -> Result<Planne
     ensures { PlansChange view.now (updates.deleted view.now cond.now) result }
 {
     let scope = Scope::of(alloc, &[view.schema()])?;
-    if names_stranger(&scope, cond) {
-        return Ok(Err(Refusal::bare(NO_COLUMN)));
+    if has_unknown_column(&scope, cond) {
+        return Ok(Err(Refusal::of_code(NO_COLUMN)));
     }
     if mixes_kinds(&scope, cond) {
-        return Ok(Err(Refusal::bare(WRONG_TYPE)));
+        return Ok(Err(Refusal::of_code(WRONG_TYPE)));
     }
     let condition = bound(alloc, &scope, cond)?;
     let planned = without_rows(alloc, view, &condition)?;

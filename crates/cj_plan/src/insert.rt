@@ -3,8 +3,8 @@
 ghost use Rattle.std.specs.Prelude.{◌≡◌, ◌==◌, not, length, map, position, slice_index_or, unwrap_or, IfOk};
 ghost use Rattle.std.specs.List.{list_any};
 ghost use Rattle.std.specs.Str.{bytes_eq};
-ghost use Rattle.cj_model.specs.Changes as changes;
-ghost use Rattle.cj_model.specs.Tables as tables;
+ghost use Rattle.cj_model.specs.Database.Inserts as inserts;
+ghost use Rattle.cj_model.specs.Database.Tables as tables;
 ghost use Rattle.cj_plan.specs.Inserts.{puts_once, with_fitting_rows};
 ghost use Rattle.cj_plan.specs.Plans.{PlansChange};
 
@@ -35,7 +35,7 @@ fn fits_columns(mut columns: &[Column], mut row: &[Value]) -> bool
 
 /// The value of a constant.
 fn constant(alloc: Global, term: &Term) -> Result<Value, NoMemory>
-    ensures { IfOk result (λ value. value ≡ changes.constant term.now) }
+    ensures { IfOk result (λ value. value ≡ inserts.constant_value term.now) }
 {
     match term {
         Term::Lit(value) => value.copy(alloc),
@@ -45,7 +45,7 @@ fn constant(alloc: Global, term: &Term) -> Result<Value, NoMemory>
 
 /// The value of the constant at a place.
 fn constant_at(alloc: Global, tuple: &[Term], place: usize) -> Result<Value, NoMemory>
-    ensures { IfOk result (λ value. value ≡ changes.constant (slice_index_or tuple.now place Term.Now)) }
+    ensures { IfOk result (λ value. value ≡ inserts.constant_value (slice_index_or tuple.now place Term.Now)) }
 {
     match tuple.get(place) {
         Some(term) => constant(alloc, term),
@@ -60,7 +60,7 @@ fn position_of(names: &[Name], name: &Name) -> Option<usize>
 }
 
 fn row_of_all(alloc: Global, tuple: &[Term]) -> Result<Row, NoMemory>
-    ensures { IfOk result (λ row. row ≡ map changes.constant tuple.now) }
+    ensures { IfOk result (λ row. row ≡ map inserts.constant_value tuple.now) }
 {
     let mut row = Row::new(alloc);
     for term in tuple {
@@ -75,7 +75,7 @@ fn row_of_listed(
     names: &Names,
     tuple: &[Term],
 ) -> Result<Row, NoMemory>
-    ensures { IfOk result (λ row. row ≡ changes.row_of columns.now (Some names.now) tuple.now) }
+    ensures { IfOk result (λ row. row ≡ inserts.row_of columns.now (Some names.now) tuple.now) }
 {
     let mut row = Row::new(alloc);
     for column in columns {
@@ -92,7 +92,7 @@ fn row_of(
     names: &Option<Names>,
     tuple: &[Term],
 ) -> Result<Row, NoMemory>
-    ensures { IfOk result (λ row. row ≡ changes.row_of columns.now names.now tuple.now) }
+    ensures { IfOk result (λ row. row ≡ inserts.row_of columns.now names.now tuple.now) }
 {
     match names {
         None => row_of_all(alloc, tuple),
@@ -106,7 +106,7 @@ fn rows_of(
     names: &Option<Names>,
     tuples: &[Tuple],
 ) -> Result<Rows, NoMemory>
-    ensures { IfOk result (λ rows. rows ≡ map (changes.row_of columns.now names.now) tuples.now) }
+    ensures { IfOk result (λ rows. rows ≡ map (inserts.row_of columns.now names.now) tuples.now) }
 {
     let mut rows = Rows::new(alloc);
     for tuple in tuples {
@@ -127,25 +127,25 @@ fn is_column(mut columns: &[Column], name: &Name) -> bool
     false
 }
 
-fn has_stranger(columns: &[Column], names: &[Name]) -> bool
+fn names_unknown_column(columns: &[Column], names: &[Name]) -> bool
     ensures { result ≡ list_any (λ n. not (list_any (bytes_eq n) (tables.column_names columns.now))) names.now }
 {
     names.iter().any(|name| !is_column(columns, name))
 }
 
 /// Whether a listed name is no column.
-fn lists_stranger(columns: &[Column], names: &Option<Names>) -> bool
-    ensures { result ≡ changes.lists_stranger columns.now names.now }
+fn lists_unknown_column(columns: &[Column], names: &Option<Names>) -> bool
+    ensures { result ≡ inserts.lists_unknown_column columns.now names.now }
 {
     match names {
         None => false,
-        Some(names) => has_stranger(columns, names.as_slice()),
+        Some(names) => names_unknown_column(columns, names.as_slice()),
     }
 }
 
 /// Whether the list isn't each column once.
 fn lists_unevenly(columns: &[Column], names: &Option<Names>) -> bool
-    ensures { result ≡ changes.lists_unevenly columns.now names.now }
+    ensures { result ≡ inserts.lists_unevenly columns.now names.now }
 {
     match names {
         None => false,
@@ -170,7 +170,7 @@ fn has_misfit(columns: &[Column], rows: &[Row]) -> bool
 
 /// Whether a row of the table has this row's key.
 fn has_key(view: &View, row: &Row) -> bool
-    ensures { result ≡ changes.has_key view.now.schema.key view.now.rows row.now }
+    ensures { result ≡ inserts.has_key view.now.schema.key view.now.rows row.now }
 {
     let zero = Value::Int(0);
     let key = key_in(row, view.schema().key as usize, &zero);
@@ -179,7 +179,7 @@ fn has_key(view: &View, row: &Row) -> bool
 
 /// Whether a row of the table has the key of one of these.
 fn has_key_of(view: &View, rows: &[Row]) -> bool
-    ensures { result ≡ list_any (changes.has_key view.now.schema.key view.now.rows) rows.now }
+    ensures { result ≡ list_any (inserts.has_key view.now.schema.key view.now.rows) rows.now }
 {
     rows.iter().any(|row| has_key(view, row))
 }
@@ -201,15 +201,15 @@ fn puts(alloc: Global, place: usize, rows: Rows) -> Result<Option<RowMap>, NoMem
 
 /// What puts new rows into a table, all of which must have keys of their own.
 fn with_rows(alloc: Global, view: &View, rows: Rows) -> Result<Planned, NoMemory>
-    ensures { PlansChange view.now (changes.with_rows view.now.schema.key view.now.rows rows) result }
+    ensures { PlansChange view.now (inserts.with_rows view.now.schema.key view.now.rows rows) result }
 {
     view.legal();
     if has_key_of(view, rows.as_slice()) {
-        return Ok(Err(Refusal::bare(DUPLICATE)));
+        return Ok(Err(Refusal::of_code(DUPLICATE)));
     }
     let added = rows.len();
     let Some(changes) = puts(alloc, view.schema().key as usize, rows)? else {
-        return Ok(Err(Refusal::bare(DUPLICATE)));
+        return Ok(Err(Refusal::of_code(DUPLICATE)));
     };
     let count = view.count() + added;
     if count > ROW_LIMIT {
@@ -231,7 +231,7 @@ fn with_fitting_rows(alloc: Global, view: &View, rows: Rows) -> Result<Planned, 
     ensures { PlansChange view.now (with_fitting_rows view.now rows) result }
 {
     if has_misfit(view.schema().columns.as_slice(), rows.as_slice()) {
-        return Ok(Err(Refusal::bare(WRONG_TYPE)));
+        return Ok(Err(Refusal::of_code(WRONG_TYPE)));
     }
     with_rows(alloc, view, rows)
 }
@@ -243,14 +243,14 @@ pub fn inserted(
     names: &Option<Names>,
     tuples: &[Tuple],
 ) -> Result<Planned, NoMemory>
-    ensures { PlansChange view.now (changes.inserted view.now names.now tuples.now) result }
+    ensures { PlansChange view.now (inserts.inserted view.now names.now tuples.now) result }
 {
     let columns = view.schema().columns.as_slice();
-    if lists_stranger(columns, names) {
-        return Ok(Err(Refusal::bare(NO_COLUMN)));
+    if lists_unknown_column(columns, names) {
+        return Ok(Err(Refusal::of_code(NO_COLUMN)));
     }
     if lists_unevenly(columns, names) || has_uneven(columns.len(), tuples) {
-        return Ok(Err(Refusal::bare(BAD_COLUMNS)));
+        return Ok(Err(Refusal::of_code(BAD_COLUMNS)));
     }
     let rows = rows_of(alloc, columns, names, tuples)?;
     let planned = with_fitting_rows(alloc, view, rows)?;

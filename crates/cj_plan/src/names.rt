@@ -3,7 +3,7 @@
 ghost use Rattle.std.specs.Prelude.{◌≡◌};
 ghost use Rattle.std.specs.List.{list_any};
 ghost use Rattle.std.specs.Str.{bytes_eq};
-ghost use Rattle.cj_model.specs.Tables as tables;
+ghost use Rattle.cj_model.specs.Database.Tables as tables;
 
 use cj_model::Name;
 

@@ -1,7 +1,7 @@
 //! What a write is to change of a table.
 
 ghost use Rattle.std.specs.Prelude.{◌≡◌};
-ghost use Rattle.cj_model.specs.Updates.{change};
+ghost use Rattle.cj_model.specs.Database.Updates.{change};
 ghost use Rattle.cj_plan.specs.Plans.{PlansChange};
 
 use crate::delete::deleted;

@@ -3,15 +3,15 @@
 ghost use Rattle.std.specs.Prelude.{◌≡◌, ◌||◌, cond, map, None, Some, option_map, slice_set, IfOk};
 ghost use Rattle.std.specs.List.{list_any};
 ghost use Rattle.std.specs.Map.Iter.{deref};
-ghost use Rattle.cj_model.specs.Evaluation.{is_outside, worth};
-ghost use Rattle.cj_model.specs.Scopes as scopes;
-ghost use Rattle.cj_model.specs.Updates as updates;
+ghost use Rattle.cj_model.specs.Database.Evaluation.{is_out_of_range, value_of};
+ghost use Rattle.cj_model.specs.Database.Scopes as scopes;
+ghost use Rattle.cj_model.specs.Database.Updates as updates;
 ghost use Rattle.cj_expr.specs.Shapes.{formula};
-ghost use Rattle.cj_plan.specs.Assignments.{KeepsKey, assignment, assignments, values_or_none};
+ghost use Rattle.cj_plan.specs.Assignments.{KeepsKey, assignment_by_place, assignments, values_or_none};
 ghost use Rattle.cj_plan.specs.Plans.{PlansChange};
 ghost use Rattle.cj_rows.specs.RowEntries as entries;
 
-use crate::conditions::{bound, matching, mixes_kinds, names_stranger};
+use crate::conditions::{bound, has_unknown_column, matching, mixes_kinds};
 use crate::names::is_distinct;
 use crate::plan::{Plan, Planned};
 use cj_expr::{Formula, Predicate, Scope, ValueError, formula_of};
@@ -39,15 +39,15 @@ fn column_set(set: &Set) -> ColRef
 }
 
 fn place_set(scope: &Scope, set: &Set) -> usize
-    ensures { result ≡ scopes.place scope.now (updates.column_set set.now) }
+    ensures { result ≡ scopes.column_place scope.now (updates.column_set set.now) }
 {
     scope.place(&column_set(set)).unwrap_or(0)
 }
 
-fn set_names_stranger(scope: &Scope, set: &Set) -> bool
-    ensures { result ≡ updates.set_names_stranger scope.now set.now }
+fn set_has_unknown_column(scope: &Scope, set: &Set) -> bool
+    ensures { result ≡ updates.set_has_unknown_column scope.now set.now }
 {
-    scope.is_stranger(&column_set(set)) || scope.expr_names_stranger(&set.value)
+    scope.is_unknown_column(&column_set(set)) || scope.expr_has_unknown_column(&set.value)
 }
 
 fn set_mixes_kinds(scope: &Scope, set: &Set) -> bool
@@ -57,17 +57,17 @@ fn set_mixes_kinds(scope: &Scope, set: &Set) -> bool
         || scope.kind(place_set(scope, set)) != scope.kind_of_expr(&set.value)
 }
 
-fn any_names_stranger(scope: &Scope, sets: &[Set]) -> bool
-    ensures { result ≡ list_any (updates.set_names_stranger scope.now) sets.now }
+fn any_has_unknown_column(scope: &Scope, sets: &[Set]) -> bool
+    ensures { result ≡ list_any (updates.set_has_unknown_column scope.now) sets.now }
 {
-    sets.iter().any(|set| set_names_stranger(scope, set))
+    sets.iter().any(|set| set_has_unknown_column(scope, set))
 }
 
 /// Whether a column that is named is none of the table's.
-fn has_stranger(scope: &Scope, sets: &[Set], when: &Option<Cond>) -> bool
-    ensures { result ≡ (list_any (updates.set_names_stranger scope.now) sets.now || scopes.where_names_stranger scope.now when.now) }
+fn names_unknown_column(scope: &Scope, sets: &[Set], when: &Option<Cond>) -> bool
+    ensures { result ≡ (list_any (updates.set_has_unknown_column scope.now) sets.now || scopes.where_has_unknown_column scope.now when.now) }
 {
-    any_names_stranger(scope, sets) || names_stranger(scope, when)
+    any_has_unknown_column(scope, sets) || has_unknown_column(scope, when)
 }
 
 fn any_sets_key(scope: &Scope, key: usize, sets: &[Set]) -> bool
@@ -108,7 +108,7 @@ fn sets_badly(alloc: Global, scope: &Scope, key: usize, sets: &[Set]) -> Result<
 }
 
 fn assignment_of(alloc: Global, scope: &Scope, set: &Set) -> Result<Assignment, NoMemory>
-    ensures { IfOk result (λ made. assignment made ≡ updates.assignment_of scope.now set.now) }
+    ensures { IfOk result (λ made. assignment_by_place made ≡ updates.assignment_of scope.now set.now) }
 {
     let value = formula_of(alloc, &set.value, scope)?;
     Ok(Assignment {
@@ -129,7 +129,7 @@ fn assignments_of(alloc: Global, scope: &Scope, sets: &[Set]) -> Result<Vec<Assi
 
 /// The value of an expression in a row; none where it lies outside 64 bits.
 fn value_in(alloc: Global, value: &Formula, row: &[Value]) -> Result<Option<Value>, NoMemory>
-    ensures { IfOk result (λ found. found ≡ cond (is_outside (worth row.now (formula value.now))) None (Some (worth row.now (formula value.now)))) }
+    ensures { IfOk result (λ found. found ≡ cond (is_out_of_range (value_of row.now (formula value.now))) None (Some (value_of row.now (formula value.now)))) }
 {
     match value.value_in(alloc, row) {
         Ok(value) => Ok(Some(value)),
@@ -200,7 +200,7 @@ fn with_new_values(
             count: view.count(),
             written: rows.len() as u64,
         })),
-        None => Ok(Err(Refusal::bare(OVERFLOW))),
+        None => Ok(Err(Refusal::of_code(OVERFLOW))),
     }
 }
 
@@ -232,14 +232,14 @@ pub fn updated(
 {
     let schema = view.schema();
     let scope = Scope::of(alloc, &[schema])?;
-    if has_stranger(&scope, sets, when) {
-        return Ok(Err(Refusal::bare(NO_COLUMN)));
+    if names_unknown_column(&scope, sets, when) {
+        return Ok(Err(Refusal::of_code(NO_COLUMN)));
     }
     if sets_badly(alloc, &scope, schema.key as usize, sets)? {
-        return Ok(Err(Refusal::bare(BAD_COLUMNS)));
+        return Ok(Err(Refusal::of_code(BAD_COLUMNS)));
     }
     if has_mixed_kinds(&scope, sets, when) {
-        return Ok(Err(Refusal::bare(WRONG_TYPE)));
+        return Ok(Err(Refusal::of_code(WRONG_TYPE)));
     }
     let planned = with_assignments(alloc, view, &scope, sets, when)?;
     Ok(planned)

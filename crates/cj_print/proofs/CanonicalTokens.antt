@@ -31,13 +31,13 @@ use Rattle.cj_model.specs.declared.write.Write.{Write}
 use Rattle.cj_model.specs.declared.write.Write.TheVariants as write
 use Rattle.cj_model.specs.declared.request.Request.{Request}
 use Rattle.cj_model.specs.declared.request.Request.TheVariants as request
-use Rattle.cj_model.specs.Conditions.{Condition, Test, Not, And, Or}
-use Rattle.cj_model.specs.Lexical.{Tokens}
-use Rattle.cj_model.specs.Literals.{literal, form_of}
-use Rattle.cj_model.specs.TermForms.{EachFits, commas, const_tokens, qualifier_tokens, col_tokens, term_tokens, expr_tokens}
-use Rattle.cj_model.specs.ConditionForms as c
-use Rattle.cj_model.specs.ConditionForms.{CondForm, OrsForm, ConjForm, AndsForm, PrimForm, cmp_token, cond_tokens, ors_tokens, conj_tokens, ands_tokens, prim_tokens}
-use Rattle.cj_model.specs.Grammar.{name_tokens, kind_token, primary_tokens, coldef_tokens, tuple_tokens, list_tokens, set_tokens, where_tokens, item_tokens, items_tokens, group_tokens, direction_tokens, key_tokens, order_tokens, limit_tokens, select_tokens, statement_tokens}
+use Rattle.cj_model.specs.Database.Conditions.{Condition, Test, Not, And, Or}
+use Rattle.cj_model.specs.Sql.Lexical.{Tokens}
+use Rattle.cj_model.specs.Sql.Literals.{literal, form_of}
+use Rattle.cj_model.specs.Sql.TermForms.{EachFits, commas, const_tokens, qualifier_tokens, col_tokens, term_tokens, expr_tokens}
+use Rattle.cj_model.specs.Sql.ConditionForms as c
+use Rattle.cj_model.specs.Sql.ConditionForms.{CondForm, OrsForm, ConjForm, AndsForm, PrimForm, cmp_token, cond_tokens, ors_tokens, conj_tokens, ands_tokens, prim_tokens}
+use Rattle.cj_model.specs.Sql.Grammar.{name_tokens, kind_token, primary_tokens, coldef_tokens, tuple_tokens, list_tokens, set_tokens, where_tokens, item_tokens, items_tokens, group_tokens, direction_tokens, key_tokens, order_tokens, limit_tokens, select_tokens, statement_tokens}
 use Rattle.cj_print.specs.Canonical.{behind_commas, separated, name_text, qualifier_text, col_text, term_text, expr_text, cmp_text, is_and, is_or, bracketed, cond_text, where_text, kind_text, primary_text, coldef_text, tuple_text, list_text, set_text, write_text, item_text, items_text, group_text, direction_text, key_text, order_text, limit_text, select_text, canonical}
 use Rattle.cj_print.proofs.Forms.{const_form, term_form, expr_form, or_end, and_end, or_also, and_also, forms, where_form, set_form, direction_form, key_form, select_form, write_form, form}
 use Rattle.cj_model.proofs.Spellable.{IsToken, FineName, FineTable, FineCol, FineTerm, FineConst, FineExpr, FineCond, FineWhere, FineColDef, FineList, FineSet, FineItem, FineItems, FineGroup, FineKey, FineLimit, FineSelect, FineWrite, FineRequest}

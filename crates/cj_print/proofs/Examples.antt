@@ -13,7 +13,7 @@ use Rattle.cj_model.specs.declared.select.Items.TheVariants as items
 use Rattle.cj_model.specs.declared.write.Write.TheVariants as write
 use Rattle.cj_model.specs.declared.request.Request.{Request}
 use Rattle.cj_model.specs.declared.request.Request.TheVariants as request
-use Rattle.cj_model.specs.Conditions.{Condition, Test, Not, And, Or}
+use Rattle.cj_model.specs.Database.Conditions.{Condition, Test, Not, And, Or}
 use Rattle.cj_print.specs.Canonical.{canonical}
 
 abbrev col : List ℕ → ColRef

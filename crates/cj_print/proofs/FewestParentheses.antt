@@ -1,10 +1,10 @@
 -- The canonical form of a condition means it, and fits wherever another form of it fits.
 use Rattle.std.proofs.Common.{◌≡◌, ◌∙◌, refl, sym, ap, subst, ℕ, zero, suc, ◌≤◌, arith}
-use Rattle.cj_model.specs.Conditions.{Condition, Test, Not, And, Or}
-use Rattle.cj_model.specs.TermForms as t
-use Rattle.cj_model.specs.TermForms.{ConstForm, TermForm, ExprForm, const_meant, term_meant, expr_meant, ConstFits, TermFits, ExprFits}
-use Rattle.cj_model.specs.ConditionForms as c
-use Rattle.cj_model.specs.ConditionForms.{CondForm, OrsForm, ConjForm, AndsForm, PrimForm, cond_meant, ors_meant, conj_meant, ands_meant, prim_meant, comparisons, CondNests, OrsNest, ConjNests, AndsNest, PrimNests, CondFits}
+use Rattle.cj_model.specs.Database.Conditions.{Condition, Test, Not, And, Or}
+use Rattle.cj_model.specs.Sql.TermForms as t
+use Rattle.cj_model.specs.Sql.TermForms.{ConstForm, TermForm, ExprForm, const_meant, term_meant, expr_meant, ConstFits, TermFits, ExprFits}
+use Rattle.cj_model.specs.Sql.ConditionForms as c
+use Rattle.cj_model.specs.Sql.ConditionForms.{CondForm, OrsForm, ConjForm, AndsForm, PrimForm, cond_meant, ors_meant, conj_meant, ands_meant, prim_meant, comparisons, CondNests, OrsNest, ConjNests, AndsNest, PrimNests, CondFits}
 use Rattle.cj_print.proofs.Forms.{const_form, term_form, expr_form, or_end, and_end, or_also, and_also, Forms, forms}
 
 -- ---- terms

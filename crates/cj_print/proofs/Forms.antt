@@ -11,14 +11,14 @@ use Rattle.cj_model.specs.declared.write.Write.{Write}
 use Rattle.cj_model.specs.declared.write.Write.TheVariants as write
 use Rattle.cj_model.specs.declared.request.Request.{Request}
 use Rattle.cj_model.specs.declared.request.Request.TheVariants as request
-use Rattle.cj_model.specs.Conditions.{Condition, Test, Not, And, Or}
-use Rattle.cj_model.specs.Literals.{form_of}
-use Rattle.cj_model.specs.TermForms as t
-use Rattle.cj_model.specs.TermForms.{ConstForm, TermForm, ExprForm}
-use Rattle.cj_model.specs.ConditionForms as c
-use Rattle.cj_model.specs.ConditionForms.{CondForm, OrsForm, ConjForm, AndsForm, PrimForm}
-use Rattle.cj_model.specs.Grammar as g
-use Rattle.cj_model.specs.Grammar.{SetForm, Direction, KeyForm, SelectForm, Statement}
+use Rattle.cj_model.specs.Database.Conditions.{Condition, Test, Not, And, Or}
+use Rattle.cj_model.specs.Sql.Literals.{form_of}
+use Rattle.cj_model.specs.Sql.TermForms as t
+use Rattle.cj_model.specs.Sql.TermForms.{ConstForm, TermForm, ExprForm}
+use Rattle.cj_model.specs.Sql.ConditionForms as c
+use Rattle.cj_model.specs.Sql.ConditionForms.{CondForm, OrsForm, ConjForm, AndsForm, PrimForm}
+use Rattle.cj_model.specs.Sql.Grammar as g
+use Rattle.cj_model.specs.Sql.Grammar.{SetForm, Direction, KeyForm, SelectForm, Statement}
 
 -- ---- terms
 

@@ -9,12 +9,12 @@ use Rattle.cj_model.specs.declared.token.Symbol.TheVariants as symbol
 use Rattle.cj_model.specs.declared.token.Token.{Token}
 use Rattle.cj_model.specs.declared.token.Token.TheVariants as token
 use Rattle.cj_model.specs.declared.value.Value.TheVariants as value
-use Rattle.cj_model.specs.Lexical.{Each, EndsBefore, IsDigits, Spells, Ends, Tokens}
-use Rattle.cj_model.specs.Literals.{literal, LiteralsReadBack}
+use Rattle.cj_model.specs.Sql.Lexical.{EachByte, EndsBefore, IsDigits, Spells, EndsToken, Tokens}
+use Rattle.cj_model.specs.Sql.Literals.{literal, LiteralsReadBack}
 use Rattle.cj_print.proofs.Texts.{numerals}
 
 -- digits, of which there is one at least
-some_digits : (z : List ℕ) → Each is_ascii_digit z → 0 < length z → IsDigits z
+some_digits : (z : List ℕ) → EachByte is_ascii_digit z → 0 < length z → IsDigits z
 some_digits [] h l = absurd (omega arith)
 some_digits (b ∷ z) h l = h
 
@@ -28,7 +28,7 @@ no_hyphen [] h = absurd h
 no_hyphen (b ∷ z) h = let d = h.0 in grind (arith, nat_tests, d)
 
 -- a text that is one token
-alone : (z : List ℕ) (t : Token) → Spells t z → Ends t [] → Tokens z (t ∷ [])
+alone : (z : List ℕ) (t : Token) → Spells t z → EndsToken t [] → Tokens z (t ∷ [])
 alone z t s e = ([], record { blanks = []; spelling = z; text_is = sym (append-nil z); blank = tt; spells = s; ends = e }, tt)
 
 -- the tokens of a printed number

@@ -10,7 +10,7 @@ use Rattle.cj_model.specs.declared.token.Symbol.{Symbol}
 use Rattle.cj_model.specs.declared.token.Symbol.TheVariants as symbol
 use Rattle.cj_model.specs.declared.token.Token.{Token}
 use Rattle.cj_model.specs.declared.token.Token.TheVariants as token
-use Rattle.cj_model.specs.Lexical.{is_word, EndsBefore, IsDigits, doubled, keyword, Spells, Ends, Tokens}
+use Rattle.cj_model.specs.Sql.Lexical.{is_word, EndsBefore, IsDigits, doubled, keyword, Spells, EndsToken, Tokens}
 use Rattle.cj_print.proofs.Texts.{numerals}
 use Rattle.cj_print.proofs.ReadBack.{decimal_digits}
 use Rattle.cj_model.proofs.Spellable.{IsToken}
@@ -151,7 +151,7 @@ pub right : Apart 41
 right = record { word = refl; quote = refl; equals = refl; more = refl; hyphen = refl }
 
 -- each token ends there
-byte_ends : (x : Token) (b : ℕ) (z : List ℕ) → Apart b → Ends x (b ∷ z)
+byte_ends : (x : Token) (b : ℕ) (z : List ℕ) → Apart b → EndsToken x (b ∷ z)
 byte_ends (token.Word w) b z p = p.word
 byte_ends (token.Name w) b z p = p.word
 byte_ends (token.Number w) b z p = p.word
@@ -161,21 +161,21 @@ byte_ends (token.Symbol symbol.Gt) b z p = p.equals
 byte_ends (token.Symbol symbol.Minus) b z p = p.hyphen
 byte_ends (token.Symbol _) b z p = tt
 
-nothing_ends : (x : Token) → Ends x []
+nothing_ends : (x : Token) → EndsToken x []
 nothing_ends (token.Symbol symbol.Lt) = tt
 nothing_ends (token.Symbol symbol.Gt) = tt
 nothing_ends (token.Symbol symbol.Minus) = tt
 nothing_ends (token.Symbol _) = tt
 nothing_ends _ = tt
 
-pub ends : (x : Token) (z : List ℕ) → Starts z → Ends x z
+pub ends : (x : Token) (z : List ℕ) → Starts z → EndsToken x z
 ends x [] h = nothing_ends x
 ends x (b ∷ z) h = byte_ends x b z h
 
 -- ---- one token more in front
 
 -- a token's spelling in front of a text is that token in front of the text's
-pub put : (x : Token) (z rest : List ℕ) (xs : List Token) → Spells x z → Ends x rest → Tokens rest xs → Tokens (z ++ rest) (x ∷ xs)
+pub put : (x : Token) (z rest : List ℕ) (xs : List Token) → Spells x z → EndsToken x rest → Tokens rest xs → Tokens (z ++ rest) (x ∷ xs)
 put x z rest xs s e h = (rest, record { blanks = []; spelling = z; text_is = refl; blank = tt; spells = s; ends = e }, h)
 
 -- a space in front changes nothing
@@ -188,7 +188,7 @@ spaced text (x ∷ xs) h =
 pub put_word : (k : Keyword) (rest : List ℕ) (xs : List Token) → Starts rest → Tokens rest xs → Tokens (capitals k ++ rest) (token.Word k ∷ xs)
 put_word k rest xs p h = put (token.Word k) (capitals k) rest xs (capitals_spell k) (ends (token.Word k) rest p) h
 
-pub put_sign : (s : Symbol) (rest : List ℕ) (xs : List Token) → Ends (token.Symbol s) rest → Tokens rest xs → Tokens (sign s ++ rest) (token.Symbol s ∷ xs)
+pub put_sign : (s : Symbol) (rest : List ℕ) (xs : List Token) → EndsToken (token.Symbol s) rest → Tokens rest xs → Tokens (sign s ++ rest) (token.Symbol s ∷ xs)
 put_sign s rest xs p h = put (token.Symbol s) (sign s) rest xs (sign_spells s) p h
 
 pub put_name : (n rest : List ℕ) (xs : List Token) → IsToken (token.Name n) → Starts rest → Tokens rest xs → Tokens (n ++ rest) (token.Name n ∷ xs)

@@ -19,15 +19,15 @@ use Rattle.cj_model.specs.declared.database.Slot.{Slot}
 use Rattle.cj_model.specs.declared.write.Write.TheVariants.{Insert}
 use Rattle.cj_model.specs.declared.request.Request.{Request}
 use Rattle.cj_model.specs.declared.request.Request.TheVariants as request
-use Rattle.cj_model.specs.Words.{lower, begins_name, continues_name, is_spelled_as_name, is_name}
-use Rattle.cj_model.specs.Lexical.{is_letter, is_word, Each, IsWord, Tokens}
-use Rattle.cj_model.specs.Literals.{form_of, IsConstant}
-use Rattle.cj_model.specs.TermForms.{ConstForm, EachFits, SomeFit, AnyFits, const_meant, ConstFits}
-use Rattle.cj_model.specs.Grammar.{statement_tokens, statement_meant, StatementFits}
-use Rattle.cj_model.specs.Tables.{IsTable, IsSlot, column_names}
-use Rattle.cj_model.specs.Plain.{is_plain, is_plain_term}
-use Rattle.cj_model.specs.Legality.{IsWritten}
-use Rattle.cj_model.specs.Storable.{IsFreeName, IsStorableTable, IsStorableSlot}
+use Rattle.cj_model.specs.Sql.Names.{lower, begins_name, continues_name, is_spelled_as_name, is_name}
+use Rattle.cj_model.specs.Sql.Lexical.{is_letter, is_word, EachByte, IsWordSpelling, Tokens}
+use Rattle.cj_model.specs.Sql.Literals.{form_of, IsConstant}
+use Rattle.cj_model.specs.Sql.TermForms.{ConstForm, EachFits, SomeFit, AnyFits, const_meant, ConstFits}
+use Rattle.cj_model.specs.Sql.Grammar.{statement_tokens, statement_meant, StatementFits}
+use Rattle.cj_model.specs.Database.Tables.{IsTable, IsSlot, column_names}
+use Rattle.cj_model.specs.Sql.PlainRequests.{is_plain, is_plain_term}
+use Rattle.cj_model.specs.Cluster.Legality.{IsWritten}
+use Rattle.cj_model.specs.Database.Storable.{IsFreeName, IsStorableTable, IsStorableSlot}
 use Rattle.cj_model.proofs.Spellable.{FineName, FineTerm, FineConst, FineColDef, FineRequest}
 use Rattle.cj_model.proofs.TableLaws.{table_is_even}
 use Rattle.cj_print.specs.Canonical.{canonical}
@@ -52,7 +52,7 @@ continuation_is_word b h = grind (arith, nat_tests, h)
 continuation_is_lower : (b : ℕ) → continues_name b ≡ true → b ≡ lower b
 continuation_is_lower b h = grind (arith, nat_tests, h)
 
-all_are_words : (z : List ℕ) → list_all continues_name z ≡ true → Each is_word z
+all_are_words : (z : List ℕ) → list_all continues_name z ≡ true → EachByte is_word z
 all_are_words [] h = tt
 all_are_words (b ∷ z) h = let parts = and_parts (continues_name b) (list_all continues_name z) h in (continuation_is_word b parts.0, all_are_words z parts.1)
 
@@ -65,7 +65,7 @@ all_are_lower (b ∷ z) h =
     cc
 
 -- what is spelled as a name is a word
-spelled_is_word : (z : List ℕ) → is_spelled_as_name z ≡ true → IsWord z
+spelled_is_word : (z : List ℕ) → is_spelled_as_name z ≡ true → IsWordSpelling z
 spelled_is_word [] h = cc h
 spelled_is_word (b ∷ z) h = let parts = and_parts (begins_name b) (list_all continues_name z) h in (begin_is_letter b parts.0, all_are_words z parts.1)
 

@@ -14,8 +14,8 @@ use Rattle.std.proofs.lemmas.List.Folds.{list_all-append}
 use Rattle.std.proofs.lemmas.Bool.{and_parts, and_from, le-ltb, cases_lt, cond_both, ne_eqb}
 use Rattle.std.proofs.lemmas.Bool.Decides.{nat_tests}
 use Rattle.std.specs.Prelude.{nat_le}
-use Rattle.cj_model.specs.Words.{begins_name, continues_name, is_name, is_spelled_as_name, IsNameOrEmpty, is_text, IsText, text_of}
-use Rattle.cj_model.specs.Lexical.{Each, value, doubled}
+use Rattle.cj_model.specs.Sql.Names.{begins_name, continues_name, is_name, is_spelled_as_name, IsNameOrEmpty, is_text, IsText, text_of}
+use Rattle.cj_model.specs.Sql.Lexical.{EachByte, number_spelled, doubled}
 use Rattle.cj_print.specs.Ascii.{is_ascii_byte, IsAsciiText}
 
 -- no byte is 0
@@ -94,11 +94,11 @@ name_text (b ∷ z) h = ascii_text (b ∷ z) (spelled_bytes (b ∷ z) (and_parts
 -- ---- digits
 
 -- the tests of digits that the grammar has are std's
-pub numerals : IsNumeralModel (Each is_ascii_digit) value
-numerals = numerals_by_fold (Each is_ascii_digit) (search rules) (λ n ds. fold (λ m b. 10 * m + (b - 48)) n ds) (search rules)
+pub numerals : IsNumeralModel (EachByte is_ascii_digit) number_spelled
+numerals = numerals_by_fold (EachByte is_ascii_digit) (search rules) (λ n ds. fold (λ m b. 10 * m + (b - 48)) n ds) (search rules)
 
 -- no digit is byte 0
-digits_no_zero : (z : List ℕ) → Each is_ascii_digit z → has_no_zero z ≡ true
+digits_no_zero : (z : List ℕ) → EachByte is_ascii_digit z → has_no_zero z ≡ true
 digits_no_zero [] h = refl
 digits_no_zero (b ∷ z) h = let d = h.0 in let e : (b == 0) ≡ false = grind (arith, nat_tests, d) in rw (e, digits_no_zero z h.1) refl
 

@@ -25,9 +25,9 @@ use Rattle.cj_model.specs.declared.write.Write.{Write}
 use Rattle.cj_model.specs.declared.write.Write.TheVariants as write
 use Rattle.cj_model.specs.declared.request.Request.{Request}
 use Rattle.cj_model.specs.declared.request.Request.TheVariants as request
-use Rattle.cj_model.specs.Conditions.{Condition, Test, Not, And, Or}
-use Rattle.cj_model.specs.Literals.{literal}
-use Rattle.cj_model.specs.Grammar.{TextReads}
+use Rattle.cj_model.specs.Database.Conditions.{Condition, Test, Not, And, Or}
+use Rattle.cj_model.specs.Sql.Literals.{literal}
+use Rattle.cj_model.specs.Sql.Grammar.{TextReadsAs}
 
 -- ---- lists
 
@@ -87,17 +87,17 @@ is_or (Not c) = false
 is_or (And a b) = false
 is_or (Or a b) = true
 
-abbrev pub opening : Bool → List ℕ
-opening true = codes "("
-opening false = []
+abbrev pub opening_parenthesis : Bool → List ℕ
+opening_parenthesis true = codes "("
+opening_parenthesis false = []
 
-abbrev pub closing : Bool → List ℕ
-closing true = codes ")"
-closing false = []
+abbrev pub closing_parenthesis : Bool → List ℕ
+closing_parenthesis true = codes ")"
+closing_parenthesis false = []
 
 -- in parentheses, where they are needed
 abbrev pub bracketed : Bool → List ℕ → List ℕ
-bracketed needed text = opening needed ++ text ++ closing needed
+bracketed needed text = opening_parenthesis needed ++ text ++ closing_parenthesis needed
 
 -- Parentheses stand around an OR under AND or NOT, an AND under NOT, an OR that is the right side of OR,
 -- and an AND that is the right side of AND, and nowhere else.
@@ -190,4 +190,4 @@ canonical request.Rollback = codes "ROLLBACK"
 
 -- wherever some text reads as the request, its canonical text reads as it
 abbrev pub CanonicalReadsBack : Type 0
-CanonicalReadsBack = (text : List ℕ) (r : Request) → TextReads text r → TextReads (canonical r) r
+CanonicalReadsBack = (text : List ℕ) (r : Request) → TextReadsAs text r → TextReadsAs (canonical r) r

@@ -15,7 +15,7 @@ pub struct TextBuffer {
 
 impl Model for TextBuffer {
     ghost use Rattle.std.specs.Prelude.{List, ℕ};
-    ghost use Rattle.cj_model.specs.Words.{IsText};
+    ghost use Rattle.cj_model.specs.Sql.Names.{IsText};
 
     ghost Value = { List ℕ };
 

@@ -1,7 +1,7 @@
 //! Conditions, with parentheses where they are needed alone.
 
 ghost use Rattle.std.specs.Prelude.{◌≡◌, ◌++◌, OnOk};
-ghost use Rattle.cj_model.specs.ConditionShape.{shape};
+ghost use Rattle.cj_model.specs.Proving.ConditionNodes.{condition_of_node};
 ghost use Rattle.cj_print.specs.Ascii.{IsAsciiText};
 ghost use Rattle.cj_print.specs.Canonical.{bracketed, cmp_text, cond_text, where_text};
 ghost use Rattle.cj_print.specs.Canonical as texts;
@@ -12,7 +12,7 @@ use cj_model::{Cmp, Cond, CondNode, NoMemory};
 use std::alloc::Global;
 
 fn is_or(node: &CondNode) -> bool
-    ensures { result ≡ texts.is_or (shape node.now) }
+    ensures { result ≡ texts.is_or (condition_of_node node.now) }
 {
     match node {
         CondNode::Test(_, _, _) => false,
@@ -23,7 +23,7 @@ fn is_or(node: &CondNode) -> bool
 }
 
 fn is_and(node: &CondNode) -> bool
-    ensures { result ≡ texts.is_and (shape node.now) }
+    ensures { result ≡ texts.is_and (condition_of_node node.now) }
 {
     match node {
         CondNode::Test(_, _, _) => false,
@@ -48,14 +48,14 @@ fn cmp_words(cmp: Cmp) -> &'static [u8]
 }
 
 fn opening(needed: bool) -> &'static [u8]
-    ensures words { result.now ≡ texts.opening needed }
+    ensures words { result.now ≡ texts.opening_parenthesis needed }
     ensures ascii { IsAsciiText result.now }
 {
     if needed { b"(" } else { b"" }
 }
 
 fn closing(needed: bool) -> &'static [u8]
-    ensures words { result.now ≡ texts.closing needed }
+    ensures words { result.now ≡ texts.closing_parenthesis needed }
     ensures ascii { IsAsciiText result.now }
 {
     if needed { b")" } else { b"" }
@@ -68,7 +68,7 @@ fn append_node(
     node: &CondNode,
     needed: bool,
 ) -> Result<(), NoMemory>
-    ensures { OnOk result (text.new ≡ text.old ++ bracketed needed (cond_text (shape node.now))) }
+    ensures { OnOk result (text.new ≡ text.old ++ bracketed needed (cond_text (condition_of_node node.now))) }
 {
     text.push_ascii(opening(needed))?;
     match node {

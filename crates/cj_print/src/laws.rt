@@ -1,6 +1,6 @@
 //! Laws of canonical SQL, each the contract of a function that does nothing.
 
-ghost use Rattle.cj_model.specs.Literals.{LiteralsReadBack};
+ghost use Rattle.cj_model.specs.Sql.Literals.{LiteralsReadBack};
 ghost use Rattle.cj_print.specs.Canonical.{CanonicalReadsBack};
 ghost use Rattle.cj_print.specs.Stored.{StorableIsWritten};
 

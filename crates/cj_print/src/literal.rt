@@ -2,8 +2,8 @@
 
 ghost use Rattle.std.specs.Prelude.{◌≡◌, [], ◌∷◌, ◌++◌, IfOk, OnOk};
 ghost use Rattle.std.specs.Fmt.{decimal, signed_decimal};
-ghost use Rattle.cj_model.specs.Lexical.{doubled};
-ghost use Rattle.cj_model.specs.Literals.{literal};
+ghost use Rattle.cj_model.specs.Sql.Lexical.{doubled};
+ghost use Rattle.cj_model.specs.Sql.Literals.{literal};
 
 use cj_model::{NoMemory, Text, Value};
 use std::alloc::Global;

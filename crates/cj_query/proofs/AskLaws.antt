@@ -15,12 +15,12 @@ use Rattle.cj_model.specs.declared.select.Select.{Select}
 use Rattle.cj_model.specs.declared.answer.Asked.TheVariants.{Refused}
 use Rattle.cj_model.specs.declared.answer.Refusal.{Refusal}
 use Rattle.cj_model.specs.declared.codes.TheConstants.{NO_TABLE, NO_COLUMN, BAD_COLUMNS, WRONG_TYPE}
-use Rattle.cj_model.specs.Changes.{bare, unless}
-use Rattle.cj_model.specs.Order.{product}
-use Rattle.cj_model.specs.Queries.{answered, ask, asked_by, columns_named, has_bad_columns, listed, sums_text, tables_seen}
-use Rattle.cj_model.specs.Scopes.{is_stranger, predicate_of, scope_of, where_mixes_kinds, where_names_stranger}
-use Rattle.cj_model.specs.Steps.{seen}
-use Rattle.cj_model.specs.Tables.{slot_of}
+use Rattle.cj_model.specs.Database.Inserts.{refusal_of_code, refuse_if}
+use Rattle.cj_model.specs.Database.Order.{product}
+use Rattle.cj_model.specs.Database.Queries.{answer_over, ask, asked_by, columns_named, has_bad_columns, items_listed, sums_text, tables_seen}
+use Rattle.cj_model.specs.Database.Scopes.{is_unknown_column, predicate_of, scope_of, where_mixes_kinds, where_has_unknown_column}
+use Rattle.cj_model.specs.Database.Steps.{seen}
+use Rattle.cj_model.specs.Database.Tables.{slot_of}
 use Rattle.cj_query.specs.Refused.{code_of}
 use Rattle.cj_query.specs.Seen.{answer_from, tables_named}
 use Rattle.cj_query.proofs.JoinLaws.{product_one}
@@ -62,15 +62,15 @@ module _ {A : Type 0} (a b c : Bool) (rest : Result A Refusal) where
   first_code = cond a (Some NO_COLUMN) (cond b (Some BAD_COLUMNS) (cond c (Some WRONG_TYPE) None))
 
   abbrev in_turn : Result A Refusal
-  in_turn = unless a (bare NO_COLUMN) (unless b (bare BAD_COLUMNS) (unless c (bare WRONG_TYPE) rest))
+  in_turn = refuse_if a (refusal_of_code NO_COLUMN) (refuse_if b (refusal_of_code BAD_COLUMNS) (refuse_if c (refusal_of_code WRONG_TYPE) rest))
 
 the_code : (n m : ℕ) → ◌≡◌ {A = Option ℕ} (Some n) (Some m) → m ≡ n
 the_code n m e = sym (ap (λ o. elim o [ None ↦ n | Some k ↦ k ]) e)
 
-refused_first : {A : Type 0} (a b c : Bool) (rest : Result A Refusal) (code : ℕ) → Some code ≡ first_code a b c rest → in_turn a b c rest ≡ Err (bare code)
-refused_first true b c rest code e = ap (λ n. Err (bare n)) (the_code code NO_COLUMN e)
-refused_first false true c rest code e = ap (λ n. Err (bare n)) (the_code code BAD_COLUMNS e)
-refused_first false false true rest code e = ap (λ n. Err (bare n)) (the_code code WRONG_TYPE e)
+refused_first : {A : Type 0} (a b c : Bool) (rest : Result A Refusal) (code : ℕ) → Some code ≡ first_code a b c rest → in_turn a b c rest ≡ Err (refusal_of_code code)
+refused_first true b c rest code e = ap (λ n. Err (refusal_of_code n)) (the_code code NO_COLUMN e)
+refused_first false true c rest code e = ap (λ n. Err (refusal_of_code n)) (the_code code BAD_COLUMNS e)
+refused_first false false true rest code e = ap (λ n. Err (refusal_of_code n)) (the_code code WRONG_TYPE e)
 refused_first false false false rest code e = cc e
 
 accepted : {A : Type 0} (a b c : Bool) (rest : Result A Refusal) → None ≡ first_code a b c rest → in_turn a b c rest ≡ rest
@@ -83,17 +83,17 @@ module _ (tables : List Table) (s : Select) where
   abbrev scope : List (List ℕ × Column)
   scope = scope_of (map (λ (t : Table). t.schema) tables)
 
-  pub refused_is : (code : ℕ) → Some code ≡ code_of scope s → Refused (bare code) ≡ asked_by (answered tables s)
-  refused_is code e = sym (ap asked_by (refused_first (list_any (is_stranger scope) (columns_named s) || where_names_stranger scope s.cond) (has_bad_columns scope s.items s.order s.group) (where_mixes_kinds scope s.cond || list_any (sums_text scope) (listed s.items)) _ code e))
+  pub refused_is : (code : ℕ) → Some code ≡ code_of scope s → Refused (refusal_of_code code) ≡ asked_by (answer_over tables s)
+  refused_is code e = sym (ap asked_by (refused_first (list_any (is_unknown_column scope) (columns_named s) || where_has_unknown_column scope s.cond) (has_bad_columns scope s.items s.order s.group) (where_mixes_kinds scope s.cond || list_any (sums_text scope) (items_listed s.items)) _ code e))
 
-  pub accepted_is : None ≡ code_of scope s → answer_from scope s (option_map (predicate_of scope) s.cond) (product (map (λ (t : Table). t.rows) tables)) ≡ asked_by (answered tables s)
-  accepted_is e = sym (ap asked_by (accepted (list_any (is_stranger scope) (columns_named s) || where_names_stranger scope s.cond) (has_bad_columns scope s.items s.order s.group) (where_mixes_kinds scope s.cond || list_any (sums_text scope) (listed s.items)) _ e))
+  pub accepted_is : None ≡ code_of scope s → answer_from scope s (option_map (predicate_of scope) s.cond) (product (map (λ (t : Table). t.rows) tables)) ≡ asked_by (answer_over tables s)
+  accepted_is e = sym (ap asked_by (accepted (list_any (is_unknown_column scope) (columns_named s) || where_has_unknown_column scope s.cond) (has_bad_columns scope s.items s.order s.group) (where_mixes_kinds scope s.cond || list_any (sums_text scope) (items_listed s.items)) _ e))
 
 -- ---- the whole
 
-named_cases : (b : Bool) (s : Select) (tables : List Table) (o : Option (List Table)) → o ≡ cond b None (Some tables) → (v : List Table) → o ≡ Some v → asked_by (answered v s) ≡ asked_by (unless b (bare NO_TABLE) (answered tables s))
+named_cases : (b : Bool) (s : Select) (tables : List Table) (o : Option (List Table)) → o ≡ cond b None (Some tables) → (v : List Table) → o ≡ Some v → asked_by (answer_over v s) ≡ asked_by (refuse_if b (refusal_of_code NO_TABLE) (answer_over tables s))
 named_cases true s tables o e v f = cc (sym e ∙ f)
-named_cases false s tables o e v f = ap (λ t. asked_by (answered t s)) (ap (λ o. elim o [ None ↦ v | Some t ↦ t ]) (sym f ∙ e))
+named_cases false s tables o e v f = ap (λ t. asked_by (answer_over t s)) (ap (λ o. elim o [ None ↦ v | Some t ↦ t ]) (sym f ∙ e))
 
-pub asked_is : (db : List Slot) (tx : ℕ) (s : Select) (v : List Table) → Some v ≡ tables_named db tx s.tables → asked_by (answered v s) ≡ ask db tx s
+pub asked_is : (db : List Slot) (tx : ℕ) (s : Select) (v : List Table) → Some v ≡ tables_named db tx s.tables → asked_by (answer_over v s) ≡ ask db tx s
 asked_is db tx s v e = named_cases (list_any (λ n. is_none (slot_of db n)) s.tables) s (tables_seen db tx s.tables) (tables_named db tx s.tables) refl v (sym e)

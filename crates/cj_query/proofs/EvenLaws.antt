@@ -20,16 +20,16 @@ use Rattle.cj_model.specs.declared.select.Items.TheVariants as select_items
 use Rattle.cj_model.specs.declared.select.Select.{Select}
 use Rattle.cj_model.specs.declared.answer.Answer.{Answer}
 use Rattle.cj_model.specs.declared.answer.Refusal.{Refusal}
-use Rattle.cj_model.specs.Values.{kind_of}
+use Rattle.cj_model.specs.Database.Values.{kind_of}
 use Rattle.cj_model.specs.declared.answer.Asked.{Asked}
 use Rattle.cj_model.specs.declared.memory.NoMemory.{NoMemory}
 use Rattle.cj_model.specs.declared.codes.TheConstants.{NO_COLUMN, BAD_COLUMNS, OVERFLOW, WRONG_TYPE}
-use Rattle.cj_model.specs.Changes.{bare, unless}
-use Rattle.cj_model.specs.Evaluation.{meets}
-use Rattle.cj_model.specs.Order.{product, before, ordered, put_before, cut}
-use Rattle.cj_model.specs.Queries.{answer_of, answered, asked_by, columns_named, first_of, gathered, groups_answered, has_bad_columns, is_sum_outside, item_of, listed, names_answered, row_made, sort_key_of, sums_text}
-use Rattle.cj_model.specs.Scopes.{Scope, is_stranger, scope_of, predicate_of, where_mixes_kinds, where_names_stranger}
-use Rattle.cj_model.specs.Tables.{IsTable, fits_columns, same_kind}
+use Rattle.cj_model.specs.Database.Inserts.{refusal_of_code, refuse_if}
+use Rattle.cj_model.specs.Database.Evaluation.{satisfies}
+use Rattle.cj_model.specs.Database.Order.{product, sorts_before, sorted_by, insert_before, at_most}
+use Rattle.cj_model.specs.Database.Queries.{answer_of, answer_over, asked_by, columns_named, first_row, gathered, groups_answered, has_bad_columns, is_sum_out_of_range, item_value, items_listed, names_answered, answer_row, sort_key_of, sums_text}
+use Rattle.cj_model.specs.Database.Scopes.{Scope, is_unknown_column, scope_of, predicate_of, where_mixes_kinds, where_has_unknown_column}
+use Rattle.cj_model.specs.Database.Tables.{IsTable, fits_columns, same_kind}
 use Rattle.cj_query.specs.Even.{HasEvenRows}
 
 -- ---- rows of tables
@@ -74,18 +74,18 @@ joined_wide (t ∷ ts) a =
 
 -- ---- groups
 
-All-put_before : {X : Type 0} (P : X → Type 0) (lt : X → X → Bool) (x : X) (ys : List X) → P x → All P ys → All P (put_before lt x ys)
+All-put_before : {X : Type 0} (P : X → Type 0) (lt : X → X → Bool) (x : X) (ys : List X) → P x → All P ys → All P (insert_before lt x ys)
 All-put_before P lt x [] p a = All-cons P x [] p a
-All-put_before P lt x (y ∷ ys) p a = elim (lt y x) as (λ b. All P (cond b (y ∷ put_before lt x ys) (x ∷ y ∷ ys))) [
-  | true ↦ All-cons P y (put_before lt x ys) (All-head P y ys a) (All-put_before P lt x ys p (All-tail P y ys a))
+All-put_before P lt x (y ∷ ys) p a = elim (lt y x) as (λ b. All P (cond b (y ∷ insert_before lt x ys) (x ∷ y ∷ ys))) [
+  | true ↦ All-cons P y (insert_before lt x ys) (All-head P y ys a) (All-put_before P lt x ys p (All-tail P y ys a))
   | false ↦ All-cons P x (y ∷ ys) p a
 ]
 
-All-ordered : {X : Type 0} (P : X → Type 0) (lt : X → X → Bool) (xs : List X) → All P xs → All P (ordered lt xs)
+All-ordered : {X : Type 0} (P : X → Type 0) (lt : X → X → Bool) (xs : List X) → All P xs → All P (sorted_by lt xs)
 All-ordered P lt [] a = a
-All-ordered P lt (x ∷ xs) a = All-put_before P lt x (ordered lt xs) (All-head P x xs a) (All-ordered P lt xs (All-tail P x xs a))
+All-ordered P lt (x ∷ xs) a = All-put_before P lt x (sorted_by lt xs) (All-head P x xs a) (All-ordered P lt xs (All-tail P x xs a))
 
-All-cut : {X : Type 0} (P : X → Type 0) (limit : Option ℕ) (xs : List X) → All P xs → All P (cut limit xs)
+All-cut : {X : Type 0} (P : X → Type 0) (limit : Option ℕ) (xs : List X) → All P xs → All P (at_most limit xs)
 All-cut P None xs a = a
 All-cut P (Some n) xs a = All-take P n xs a
 
@@ -105,46 +105,46 @@ module _ (scope : Scope) (s : Select) where
 
   -- the rows that are made of groups are even
   abbrev MakesEven : List (List (List Value)) → Type 0
-  MakesEven groups = All IsEvenRow (map (row_made scope s.items) groups)
+  MakesEven groups = All IsEvenRow (map (answer_row scope s.items) groups)
 
-  answer_even : (groups : List (List (List Value))) (b : Bool) (refusal : Refusal) → MakesEven groups → HasEvenRows (asked_by (unless b refusal (Ok (record { columns = columns; rows = map (row_made scope s.items) groups }))))
+  answer_even : (groups : List (List (List Value))) (b : Bool) (refusal : Refusal) → MakesEven groups → HasEvenRows (asked_by (refuse_if b refusal (Ok (record { columns = columns; rows = map (answer_row scope s.items) groups }))))
   answer_even groups true refusal a = tt
   answer_even groups false refusal a = a
 
-even_listed : (scope : Scope) (items : List Item) (groups : List (List (List Value))) → All (λ row. length row ≡ length (names_answered scope (select_items.Listed items))) (map (row_made scope (select_items.Listed items)) groups)
-even_listed scope items groups = All-map (λ (row : List Value). length row ≡ length (names_answered scope (select_items.Listed items))) (row_made scope (select_items.Listed items)) groups
-    (always (λ g. length (row_made scope (select_items.Listed items) g) ≡ length (names_answered scope (select_items.Listed items))) (λ g. length-map items (item_of scope g) ∙ sym (length-map items _)) groups)
+even_listed : (scope : Scope) (items : List Item) (groups : List (List (List Value))) → All (λ row. length row ≡ length (names_answered scope (select_items.Listed items))) (map (answer_row scope (select_items.Listed items)) groups)
+even_listed scope items groups = All-map (λ (row : List Value). length row ≡ length (names_answered scope (select_items.Listed items))) (answer_row scope (select_items.Listed items)) groups
+    (always (λ g. length (answer_row scope (select_items.Listed items) g) ≡ length (names_answered scope (select_items.Listed items))) (λ g. length-map items (item_value scope g) ∙ sym (length-map items _)) groups)
 
-even_all : (scope : Scope) (limit : Option ℕ) (lt : List (List Value) → List (List Value) → Bool) (rows : List (List Value)) → All (IsWide (length scope)) rows → All (λ row. length row ≡ length (names_answered scope select_items.All)) (map (row_made scope select_items.All) (cut limit (ordered lt (map (λ r. r ∷ []) rows))))
+even_all : (scope : Scope) (limit : Option ℕ) (lt : List (List Value) → List (List Value) → Bool) (rows : List (List Value)) → All (IsWide (length scope)) rows → All (λ row. length row ≡ length (names_answered scope select_items.All)) (map (answer_row scope select_items.All) (at_most limit (sorted_by lt (map (λ r. r ∷ []) rows))))
 even_all scope limit lt rows a =
-    let P : List (List Value) → Type 0 = λ g. length (first_of g) ≡ length (names_answered scope select_items.All) in
-    All-map (λ (row : List Value). length row ≡ length (names_answered scope select_items.All)) (row_made scope select_items.All) (cut limit (ordered lt (map (λ r. r ∷ []) rows)))
-    (All-cut P limit (ordered lt (map (λ r. r ∷ []) rows)) (All-ordered P lt (map (λ r. r ∷ []) rows) (All-map P (λ r. r ∷ []) rows
+    let P : List (List Value) → Type 0 = λ g. length (first_row g) ≡ length (names_answered scope select_items.All) in
+    All-map (λ (row : List Value). length row ≡ length (names_answered scope select_items.All)) (answer_row scope select_items.All) (at_most limit (sorted_by lt (map (λ r. r ∷ []) rows)))
+    (All-cut P limit (sorted_by lt (map (λ r. r ∷ []) rows)) (All-ordered P lt (map (λ r. r ∷ []) rows) (All-map P (λ r. r ∷ []) rows
     (All-weaker (IsWide (length scope)) (λ r. length r ≡ length (names_answered scope select_items.All)) (λ r e. e ∙ sym (length-map scope _)) rows a))))
 
-refused_even : (b : Bool) (refusal : Refusal) (r : Result Answer Refusal) → (b ≡ false → HasEvenRows (asked_by r)) → HasEvenRows (asked_by (unless b refusal r))
+refused_even : (b : Bool) (refusal : Refusal) (r : Result Answer Refusal) → (b ≡ false → HasEvenRows (asked_by r)) → HasEvenRows (asked_by (refuse_if b refusal r))
 refused_even true refusal r h = tt
 refused_even false refusal r h = h refl
 
 -- whatever the items and the group are
-groups_even : (scope : Scope) (s : Select) (items : Items) (group : Option ColRef) (rows : List (List Value)) (lt : List (List Value) → List (List Value) → Bool) → All (IsWide (length scope)) rows → has_bad_columns scope items s.order group ≡ false → All (λ row. length row ≡ length (names_answered scope items)) (map (row_made scope items) (cut s.limit (ordered lt (gathered scope items group rows))))
+groups_even : (scope : Scope) (s : Select) (items : Items) (group : Option ColRef) (rows : List (List Value)) (lt : List (List Value) → List (List Value) → Bool) → All (IsWide (length scope)) rows → has_bad_columns scope items s.order group ≡ false → All (λ row. length row ≡ length (names_answered scope items)) (map (answer_row scope items) (at_most s.limit (sorted_by lt (gathered scope items group rows))))
 groups_even scope s select_items.All None rows lt a ok = even_all scope s.limit lt rows a
 groups_even scope s select_items.All (Some group) rows lt a ok = cc ok
-groups_even scope s (select_items.Listed items) group rows lt a ok = even_listed scope items (cut s.limit (ordered lt (gathered scope (select_items.Listed items) group rows)))
+groups_even scope s (select_items.Listed items) group rows lt a ok = even_listed scope items (at_most s.limit (sorted_by lt (gathered scope (select_items.Listed items) group rows)))
 
-pub answered_even : (tables : List Table) (s : Select) → All IsTable tables → HasEvenRows (asked_by (answered tables s))
+pub answered_even : (tables : List Table) (s : Select) → All IsTable tables → HasEvenRows (asked_by (answer_over tables s))
 answered_even tables s legal =
     let scope = scope_of (schemas_in tables) in
-    let rows = filter (meets (option_map (predicate_of scope) s.cond)) (product (map (λ (t : Table). t.rows) tables)) in
-    let wide : All (IsWide (length scope)) rows = All-filter (meets (option_map (predicate_of scope) s.cond)) (IsWide (length scope)) (product (map (λ (t : Table). t.rows) tables)) (joined_wide tables legal) in
+    let rows = filter (satisfies (option_map (predicate_of scope) s.cond)) (product (map (λ (t : Table). t.rows) tables)) in
+    let wide : All (IsWide (length scope)) rows = All-filter (satisfies (option_map (predicate_of scope) s.cond)) (IsWide (length scope)) (product (map (λ (t : Table). t.rows) tables)) (joined_wide tables legal) in
     let groups = groups_answered scope s rows in
     let last : Result Answer Refusal = answer_of scope s groups in
-    let mixes = where_mixes_kinds scope s.cond || list_any (sums_text scope) (listed s.items) in
+    let mixes = where_mixes_kinds scope s.cond || list_any (sums_text scope) (items_listed s.items) in
     let bad = has_bad_columns scope s.items s.order s.group in
-    refused_even (list_any (is_stranger scope) (columns_named s) || where_names_stranger scope s.cond) (bare NO_COLUMN) (unless bad (bare BAD_COLUMNS) (unless mixes (bare WRONG_TYPE) last)) (λ known.
-    refused_even bad (bare BAD_COLUMNS) (unless mixes (bare WRONG_TYPE) last) (λ good.
-    refused_even mixes (bare WRONG_TYPE) last (λ kinds.
-    answer_even scope s groups (list_any (λ g. list_any (is_sum_outside scope g) (listed s.items)) groups) (bare OVERFLOW) (groups_even scope s s.items s.group rows (λ g h. before (map (sort_key_of scope) s.order) (first_of g) (first_of h)) wide good))))
+    refused_even (list_any (is_unknown_column scope) (columns_named s) || where_has_unknown_column scope s.cond) (refusal_of_code NO_COLUMN) (refuse_if bad (refusal_of_code BAD_COLUMNS) (refuse_if mixes (refusal_of_code WRONG_TYPE) last)) (λ known.
+    refused_even bad (refusal_of_code BAD_COLUMNS) (refuse_if mixes (refusal_of_code WRONG_TYPE) last) (λ good.
+    refused_even mixes (refusal_of_code WRONG_TYPE) last (λ kinds.
+    answer_even scope s groups (list_any (λ g. list_any (is_sum_out_of_range scope g) (items_listed s.items)) groups) (refusal_of_code OVERFLOW) (groups_even scope s s.items s.group rows (λ g h. sorts_before (map (sort_key_of scope) s.order) (first_row g) (first_row h)) wide good))))
 
 -- an answer of which it is known what it is
 pub known_even : (r : Result Asked NoMemory) (x : Asked) → IfOk r (λ asked. asked ≡ x) → HasEvenRows x → IfOk r HasEvenRows

@@ -10,12 +10,12 @@ use Rattle.std.proofs.lemmas.Cmp.{tied_itself}
 use Rattle.std.proofs.lemmas.Simd.{map-map}
 use Rattle.std.proofs.lemmas.List.Elements.{All-nil, All-cons, All-head, All-tail}
 use Rattle.cj_model.specs.declared.value.Value.{Value}
-use Rattle.cj_model.specs.Values.{value_cmp, value_total, value_exact}
-use Rattle.cj_model.specs.Tables.{cell, by_key, put_by, Rises}
+use Rattle.cj_model.specs.Database.Values.{value_cmp, value_total, value_exact}
+use Rattle.cj_model.specs.Database.Tables.{cell, by_key, put_by, Rises}
 use Rattle.cj_model.specs.declared.term.ColRef.{ColRef}
 use Rattle.cj_model.specs.declared.select.Items.{Items}
-use Rattle.cj_model.specs.Scopes.{Scope, place}
-use Rattle.cj_model.specs.Queries.{first_of, values_met, rows_with, gathered}
+use Rattle.cj_model.specs.Database.Scopes.{Scope, column_place}
+use Rattle.cj_model.specs.Database.Queries.{first_row, distinct_values, rows_with, gathered}
 use Rattle.cj_model.proofs.RisingLaws.{by_order, equal_from, found_above, found_put, rises_put_each}
 use Rattle.cj_query.specs.Gathered.{same_at, run_with, runs, sorted_at, arranged, cut_into}
 use Rattle.cj_query.proofs.KeyLaws.{row_orders}
@@ -99,14 +99,14 @@ found_in_fold n q acc (r ∷ rs) =
     ∙ ap (λ o. cond (met_in n rs q) (Some q) o) (found_put value_cmp value_total q acc (cell r n))
     ∙ cond_found_after (is_eq (value_cmp q (cell r n))) (met_in n rs q) (cell r n) q (find (λ y. is_eq (value_cmp q y)) acc) (equal_is q (cell r n))
 
-found_met : (n : ℕ) (q : Value) (rows : List (List Value)) → find (λ y. is_eq (value_cmp q y)) (values_met n rows) ≡ cond (met_in n rows q) (Some q) None
+found_met : (n : ℕ) (q : Value) (rows : List (List Value)) → find (λ y. is_eq (value_cmp q y)) (distinct_values n rows) ≡ cond (met_in n rows q) (Some q) None
 found_met n q rows = found_in_fold n q [] rows
 
 -- ---- runs
 
 -- the values that runs begin with
 abbrev heads : ℕ → List (List (List Value)) → List Value
-heads n gs = map (λ g. cell (first_of g) n) gs
+heads n gs = map (λ g. cell (first_row g) n) gs
 
 found_run_with : (n : ℕ) (q : Value) (r : List Value) (gs : List (List (List Value))) → find (λ y. is_eq (value_cmp q y)) (heads n (run_with n r gs)) ≡ cond (is_eq (value_cmp q (cell r n))) (Some (cell r n)) (find (λ y. is_eq (value_cmp q y)) (heads n gs))
 found_run_with n q r [] = refl
@@ -114,11 +114,11 @@ found_run_with n q r (g ∷ gs) =
     let joined : Bool → Option Value = λ b. find (λ y. is_eq (value_cmp q y)) (heads n (cond b ((r ∷ g) ∷ gs) ((r ∷ []) ∷ g ∷ gs))) in
     let rest = find (λ y. is_eq (value_cmp q y)) (heads n gs) in
     ⊎_elim
-    (λ (t : same_at n r (first_of g) ≡ true).
-    ap joined t ∙ again (is_eq (value_cmp q (cell r n))) (is_eq (value_cmp q (cell (first_of g) n))) (Some (cell r n)) (Some (cell (first_of g) n)) rest
-    (ap (λ v. is_eq (value_cmp q v)) (equal_is (cell r n) (cell (first_of g) n) t)))
-    (λ (f : same_at n r (first_of g) ≡ false). ap joined f)
-    (cases_Bool (same_at n r (first_of g)))
+    (λ (t : same_at n r (first_row g) ≡ true).
+    ap joined t ∙ again (is_eq (value_cmp q (cell r n))) (is_eq (value_cmp q (cell (first_row g) n))) (Some (cell r n)) (Some (cell (first_row g) n)) rest
+    (ap (λ v. is_eq (value_cmp q v)) (equal_is (cell r n) (cell (first_row g) n) t)))
+    (λ (f : same_at n r (first_row g) ≡ false). ap joined f)
+    (cases_Bool (same_at n r (first_row g)))
 
 found_heads : (n : ℕ) (q : Value) (rows : List (List Value)) → find (λ y. is_eq (value_cmp q y)) (heads n (runs n rows)) ≡ cond (met_in n rows q) (Some q) None
 found_heads n q [] = refl
@@ -140,7 +140,7 @@ not_met n v rows a = from_none (met_in n rows v) v (sym (found_heads n v rows) �
 
 -- a run is all rows with its value
 abbrev IsRunOf : ℕ → List (List Value) → List (List Value) → Type 0
-IsRunOf n rows g = g ≡ rows_with n rows (cell (first_of g) n)
+IsRunOf n rows g = g ≡ rows_with n rows (cell (first_row g) n)
 
 -- runs are all rows with their values, and these rise
 pub record AreGroups (n : ℕ) (rows : List (List Value)) (gs : List (List (List Value))) : Type 0 where
@@ -151,10 +151,10 @@ pub record AreGroups (n : ℕ) (rows : List (List Value)) (gs : List (List (List
 kept_runs : (n : ℕ) (r : List Value) (rs : List (List Value)) (gs : List (List (List Value))) → All (λ z. value_cmp (cell r n) z ≡ Less) (heads n gs) → All (IsRunOf n rs) gs → All (IsRunOf n (r ∷ rs)) gs
 kept_runs n r rs [] a e = All-nil (IsRunOf n (r ∷ rs))
 kept_runs n r rs (g ∷ gs) a e =
-    let least : value_cmp (cell r n) (cell (first_of g) n) ≡ Less = All-head (λ z. value_cmp (cell r n) z ≡ Less) (cell (first_of g) n) (heads n gs) a in
+    let least : value_cmp (cell r n) (cell (first_row g) n) ≡ Less = All-head (λ z. value_cmp (cell r n) z ≡ Less) (cell (first_row g) n) (heads n gs) a in
     All-cons (IsRunOf n (r ∷ rs)) g gs
     (All-head (IsRunOf n rs) g gs e ∙ sym (cond-false _ _ _ (ap is_eq least)))
-    (kept_runs n r rs gs (All-tail (λ z. value_cmp (cell r n) z ≡ Less) (cell (first_of g) n) (heads n gs) a) (All-tail (IsRunOf n rs) g gs e))
+    (kept_runs n r rs gs (All-tail (λ z. value_cmp (cell r n) z ≡ Less) (cell (first_row g) n) (heads n gs) a) (All-tail (IsRunOf n rs) g gs e))
 
 -- the first run begins with the first row
 abbrev BeginsWith : List Value → List (List (List Value)) → Type 0
@@ -162,7 +162,7 @@ BeginsWith r gs = (g : List (List Value)) × (hs : List (List (List Value))) × 
 
 begins : (n : ℕ) (r : List Value) (gs : List (List (List Value))) → BeginsWith r (run_with n r gs)
 begins n r [] = ([], [], refl)
-begins n r (g ∷ gs) = elim (same_at n r (first_of g)) as (λ b. BeginsWith r (cond b ((r ∷ g) ∷ gs) ((r ∷ []) ∷ g ∷ gs))) [
+begins n r (g ∷ gs) = elim (same_at n r (first_row g)) as (λ b. BeginsWith r (cond b ((r ∷ g) ∷ gs) ((r ∷ []) ∷ g ∷ gs))) [
   | true ↦ (g, gs, refl)
   | false ↦ ([], g ∷ gs, refl)
 ]
@@ -226,19 +226,19 @@ with_sorted n rows v = filter-ordered (λ r s. is_lt (by_key n r s)) (λ r. is_e
     ap (λ u. is_lt (value_cmp u (cell s n))) e ∙ ap is_lt (tied_itself value_total (cell s n))) rows
 
 -- the runs of sorted rows are the rows with each value that is met
-pub runs_sorted : (n : ℕ) (rows : List (List Value)) → runs n (sorted_at n rows) ≡ map (rows_with n rows) (values_met n rows)
+pub runs_sorted : (n : ℕ) (rows : List (List Value)) → runs n (sorted_at n rows) ≡ map (rows_with n rows) (distinct_values n rows)
 runs_sorted n rows =
     let lt : List Value → List Value → Bool = λ r s. is_lt (by_key n r s) in
     let sorted = sorted_at n rows in
     let are : AreGroups n sorted (runs n sorted) = are_groups n sorted (ordered_rises lt (row_orders n) rows) in
-    let values : heads n (runs n sorted) ≡ values_met n rows = same_found (heads n (runs n sorted)) (values_met n rows) are.rises (rises_put_each value_cmp value_total [] (map (λ r. cell r n) rows) tt)
+    let values : heads n (runs n sorted) ≡ distinct_values n rows = same_found (heads n (runs n sorted)) (distinct_values n rows) are.rises (rises_put_each value_cmp value_total [] (map (λ r. cell r n) rows) tt)
     (λ q. found_heads n q sorted ∙ ap (λ b. cond b (Some q) None) (list_any-ordered lt (λ r. is_eq (value_cmp q (cell r n))) rows) ∙ sym (found_met n q rows)) in
-    map_same (λ g. rows_with n sorted (cell (first_of g) n)) (runs n sorted) are.each
-    ∙ sym (map-map (rows_with n sorted) (λ g. cell (first_of g) n) (runs n sorted))
+    map_same (λ g. rows_with n sorted (cell (first_row g) n)) (runs n sorted) are.each
+    ∙ sym (map-map (rows_with n sorted) (λ g. cell (first_row g) n) (runs n sorted))
     ∙ ap (map (rows_with n sorted)) values
-    ∙ map_alike (rows_with n sorted) (rows_with n rows) (with_sorted n rows) (values_met n rows)
+    ∙ map_alike (rows_with n sorted) (rows_with n rows) (with_sorted n rows) (distinct_values n rows)
 
 -- what is gathered
 pub gathered_is : (scope : Scope) (items : Items) (group : Option ColRef) (rows : List (List Value)) → cut_into scope items group (arranged scope group rows) ≡ gathered scope items group rows
 gathered_is scope items None rows = refl
-gathered_is scope items (Some group) rows = runs_sorted (place scope group) rows
+gathered_is scope items (Some group) rows = runs_sorted (column_place scope group) rows

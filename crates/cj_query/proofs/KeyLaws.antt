@@ -4,10 +4,10 @@ use Rattle.std.specs.Ordering.{is_lt}
 use Rattle.std.specs.Cmp.{IsStrictWeakOrder, IsTotalOrder, on_total, then_total, back_total}
 use Rattle.std.proofs.lemmas.List.Sorted.{ranks_by}
 use Rattle.cj_model.specs.declared.value.Value.{Value}
-use Rattle.cj_model.specs.Values.{value_total}
-use Rattle.cj_model.specs.Tables.{cell, by_key}
-use Rattle.cj_model.specs.Order.{SortKey, by_sort_key, by_sort_keys, before, ordered}
-use Rattle.cj_model.specs.Queries.{first_of}
+use Rattle.cj_model.specs.Database.Values.{value_total}
+use Rattle.cj_model.specs.Database.Tables.{cell, by_key}
+use Rattle.cj_model.specs.Database.Order.{SortKey, by_sort_key, by_sort_keys, sorts_before, sorted_by}
+use Rattle.cj_model.specs.Database.Queries.{first_row}
 use Rattle.cj_query.proofs.OrderLaws.{ordered_same, in_order_all}
 
 pub by_key_total : (n : ℕ) → IsTotalOrder (by_key n)
@@ -25,8 +25,8 @@ by_sort_keys_total [] = record { antisymm = λ x y. refl; trans = λ x y z p q. 
 by_sort_keys_total (k ∷ ks) = then_total (by_sort_key_total k) (by_sort_keys_total ks)
 
 -- without keys each list is in order
-pub always_in_order : (gs : List (List (List Value))) → ordered (λ g h. before [] (first_of g) (first_of h)) gs ≡ gs
-always_in_order gs = ordered_same (λ g h. before [] (first_of g) (first_of h)) (ranks_by (by_sort_keys_total []) first_of) gs (in_order_all gs)
+pub always_in_order : (gs : List (List (List Value))) → sorted_by (λ g h. sorts_before [] (first_row g) (first_row h)) gs ≡ gs
+always_in_order gs = ordered_same (λ g h. sorts_before [] (first_row g) (first_row h)) (ranks_by (by_sort_keys_total []) first_row) gs (in_order_all gs)
 
 -- rows by a place are in a weak order
 pub row_orders : (n : ℕ) → IsStrictWeakOrder (λ r s. is_lt (by_key n r s))

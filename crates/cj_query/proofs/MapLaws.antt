@@ -4,7 +4,7 @@ use Rattle.std.specs.List.{list_any}
 use Rattle.std.specs.declared.option.Option.{Option}
 use Rattle.std.specs.declared.option.Option.TheVariants.{None, Some}
 use Rattle.std.proofs.lemmas.List.{take-map}
-use Rattle.cj_model.specs.Order.{cut}
+use Rattle.cj_model.specs.Database.Order.{at_most}
 
 pub map_itself : {X : Type 0} (xs : List X) → map (λ x. x) xs ≡ xs
 map_itself [] = refl
@@ -18,6 +18,6 @@ pub any_alike : {X : Type 0} (p q : X → Bool) → ((x : X) → p x ≡ q x) �
 any_alike p q h [] = refl
 any_alike p q h (x ∷ xs) = ap (λ b. b || list_any p xs) (h x) ∙ ap (λ b. q x || b) (any_alike p q h xs)
 
-pub cut-map : {X Y : Type 0} (f : X → Y) (limit : Option ℕ) (xs : List X) → map f (cut limit xs) ≡ cut limit (map f xs)
+pub cut-map : {X Y : Type 0} (f : X → Y) (limit : Option ℕ) (xs : List X) → map f (at_most limit xs) ≡ at_most limit (map f xs)
 cut-map f None xs = refl
 cut-map f (Some n) xs = sym (take-map f n xs)

@@ -6,7 +6,7 @@ use Rattle.std.proofs.lemmas.List.Folds.{list_any-append}
 use Rattle.cj_model.specs.declared.term.ColRef.{ColRef}
 use Rattle.cj_model.specs.declared.select.Key.{Key}
 use Rattle.cj_model.specs.declared.select.Select.{Select}
-use Rattle.cj_model.specs.Queries.{columns_named, columns_of_item, listed}
+use Rattle.cj_model.specs.Database.Queries.{columns_named, columns_of_item, items_listed}
 
 list_any-flat_map : {X Y : Type 0} (p : Y → Bool) (f : X → List Y) (xs : List X) → list_any p (flat_map f xs) ≡ list_any (λ x. list_any p (f x)) xs
 list_any-flat_map p f [] = refl
@@ -21,11 +21,11 @@ or_again true b c = refl
 or_again false b c = refl
 
 -- a test of the items' columns, the group's and the keys'
-pub any_named : (p : ColRef → Bool) (s : Select) → list_any p (columns_named s) ≡ (list_any (λ i. list_any p (columns_of_item i)) (listed s.items) || (list_any p (option_to_list s.group) || list_any (λ (k : Key). p k.col) s.order))
+pub any_named : (p : ColRef → Bool) (s : Select) → list_any p (columns_named s) ≡ (list_any (λ i. list_any p (columns_of_item i)) (items_listed s.items) || (list_any p (option_to_list s.group) || list_any (λ (k : Key). p k.col) s.order))
 any_named p s =
     let keys = list_any (λ (k : Key). p k.col) s.order in
-    list_any-append p (flat_map columns_of_item (listed s.items) ++ option_to_list s.group) (map (λ (k : Key). k.col) s.order)
-    ∙ ap (λ b. list_any p (flat_map columns_of_item (listed s.items) ++ option_to_list s.group) || b) (list_any-map p (λ (k : Key). k.col) s.order)
-    ∙ ap (λ b. b || keys) (list_any-append p (flat_map columns_of_item (listed s.items)) (option_to_list s.group)
-    ∙ ap (λ b. b || list_any p (option_to_list s.group)) (list_any-flat_map p columns_of_item (listed s.items)))
-    ∙ or_again (list_any (λ i. list_any p (columns_of_item i)) (listed s.items)) (list_any p (option_to_list s.group)) keys
+    list_any-append p (flat_map columns_of_item (items_listed s.items) ++ option_to_list s.group) (map (λ (k : Key). k.col) s.order)
+    ∙ ap (λ b. list_any p (flat_map columns_of_item (items_listed s.items) ++ option_to_list s.group) || b) (list_any-map p (λ (k : Key). k.col) s.order)
+    ∙ ap (λ b. b || keys) (list_any-append p (flat_map columns_of_item (items_listed s.items)) (option_to_list s.group)
+    ∙ ap (λ b. b || list_any p (option_to_list s.group)) (list_any-flat_map p columns_of_item (items_listed s.items)))
+    ∙ or_again (list_any (λ i. list_any p (columns_of_item i)) (items_listed s.items)) (list_any p (option_to_list s.group)) keys

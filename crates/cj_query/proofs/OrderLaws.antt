@@ -1,4 +1,4 @@
--- A stable sort gives `ordered`, and a list in order is `ordered` already.
+-- A stable sort gives `sorted_by`, and a list in order is `sorted_by` already.
 use Rattle.std.proofs.Common.{◌≡◌, ℕ, suc, ◌+◌, ◌<◌, Bool, true, false, cond, ◌||◌, List, [], ◌∷◌, length, map, get_or, refl, ap, sym, ◌∙◌, subst, arith, ⊎_elim}
 use Rattle.std.specs.Cmp.{IsStrictWeakOrder}
 use Rattle.std.specs.Prelude.{⊤}
@@ -6,7 +6,7 @@ use Rattle.std.specs.List.{filter, list_any}
 use Rattle.std.specs.List.Sorted.{IsSortedBy, IsStableBy, ties}
 use Rattle.std.proofs.lemmas.Bool.{and_parts, not-true, not_from_false, and_from, cases_Bool, cond-true, cond-false, both_ways}
 use Rattle.std.proofs.lemmas.List.Sorted.{sorted_far}
-use Rattle.cj_model.specs.Order.{put_before, ordered}
+use Rattle.cj_model.specs.Database.Order.{insert_before, sorted_by}
 
 -- none of the list stands before x
 abbrev pub NoneBefore : {X : Type 0} → (X → X → Bool) → X → List X → Type 0
@@ -70,8 +70,8 @@ module _ {X : Type 0} (lt : X → X → Bool) (o : IsStrictWeakOrder lt) where
       let rest : (x : X) → filter (ties lt x) ys ≡ filter (ties lt x) zs = λ x. same_tails (ties lt x y) y _ _ (h x ∙ ap (λ (w : X). cond (ties lt x w) (w ∷ filter (ties lt x) zs) (filter (ties lt x) zs)) (sym e)) in
       ap (λ (w : X). w ∷ ys) e ∙ ap (λ (l : List X). z ∷ l) (unique ys zs p.1 q.1 rest)
 
-  -- `put_before` and `ordered`
-  put_before_stable : (x a : X) (ys : List X) → filter (ties lt x) (put_before lt a ys) ≡ filter (ties lt x) (a ∷ ys)
+  -- `insert_before` and `sorted_by`
+  put_before_stable : (x a : X) (ys : List X) → filter (ties lt x) (insert_before lt a ys) ≡ filter (ties lt x) (a ∷ ys)
   put_before_stable x a [] = refl
   put_before_stable x a (y ∷ ys) =
       ⊎_elim (λ (t : lt y a ≡ true).
@@ -80,7 +80,7 @@ module _ {X : Type 0} (lt : X → X → Bool) (o : IsStrictWeakOrder lt) where
       (λ (f : lt y a ≡ false). ap (filter (ties lt x)) (cond-false _ _ _ f))
       (cases_Bool (lt y a))
 
-  none_before_put : (b a : X) (ys : List X) → lt a b ≡ false → NoneBefore lt b ys → NoneBefore lt b (put_before lt a ys)
+  none_before_put : (b a : X) (ys : List X) → lt a b ≡ false → NoneBefore lt b ys → NoneBefore lt b (insert_before lt a ys)
   none_before_put b a [] h n = (h, n)
   none_before_put b a (y ∷ ys) h n =
       ⊎_elim (λ (t : lt y a ≡ true). subst (NoneBefore lt b) (sym (cond-true _ _ _ t)) (n.0, none_before_put b a ys h n.1))
@@ -91,20 +91,20 @@ module _ {X : Type 0} (lt : X → X → Bool) (o : IsStrictWeakOrder lt) where
   none_chain a y [] h n = n
   none_chain a y (w ∷ ws) h n = (o.chain w y a n.0 h, none_chain a y ws h n.1)
 
-  put_before_rises : (a : X) (ys : List X) → IsInOrder lt ys → IsInOrder lt (put_before lt a ys)
+  put_before_rises : (a : X) (ys : List X) → IsInOrder lt ys → IsInOrder lt (insert_before lt a ys)
   put_before_rises a [] h = (tt, tt)
   put_before_rises a (y ∷ ys) h =
       ⊎_elim (λ (t : lt y a ≡ true). subst (IsInOrder lt) (sym (cond-true _ _ _ t)) (none_before_put y a ys (o.one_way y a t) h.0, put_before_rises a ys h.1))
       (λ (f : lt y a ≡ false). subst (IsInOrder lt) (sym (cond-false _ _ _ f)) ((f, none_chain a y ys f h.0), h))
       (cases_Bool (lt y a))
 
-  pub ordered_stable : (x : X) (xs : List X) → filter (ties lt x) (ordered lt xs) ≡ filter (ties lt x) xs
+  pub ordered_stable : (x : X) (xs : List X) → filter (ties lt x) (sorted_by lt xs) ≡ filter (ties lt x) xs
   ordered_stable x [] = refl
-  ordered_stable x (y ∷ ys) = put_before_stable x y (ordered lt ys) ∙ ap (λ (l : List X). cond (ties lt x y) (y ∷ l) l) (ordered_stable x ys)
+  ordered_stable x (y ∷ ys) = put_before_stable x y (sorted_by lt ys) ∙ ap (λ (l : List X). cond (ties lt x y) (y ∷ l) l) (ordered_stable x ys)
 
-  pub ordered_rises : (xs : List X) → IsInOrder lt (ordered lt xs)
+  pub ordered_rises : (xs : List X) → IsInOrder lt (sorted_by lt xs)
   ordered_rises [] = tt
-  ordered_rises (x ∷ xs) = put_before_rises x (ordered lt xs) (ordered_rises xs)
+  ordered_rises (x ∷ xs) = put_before_rises x (sorted_by lt xs) (ordered_rises xs)
 
   none_from : (x : X) (xs : List X) → ((i : ℕ) → i < length xs → lt (get_or xs i x) x ≡ false) → NoneBefore lt x xs
   none_from x [] h = tt
@@ -117,26 +117,26 @@ module _ {X : Type 0} (lt : X → X → Bool) (o : IsStrictWeakOrder lt) where
       (none_from x xs (λ i l. sorted_far lt o (x ∷ xs) h 0 (suc i) x (omega arith) (omega arith)), rises_from_sorted xs tail)
 
   -- what a stable sort leaves
-  pub ordered_is : (xs ys : List X) → IsSortedBy lt ys → IsStableBy lt xs ys → ys ≡ ordered lt xs
-  ordered_is xs ys up s = unique ys (ordered lt xs) (rises_from_sorted ys up) (ordered_rises xs) (λ x. s x ∙ sym (ordered_stable x xs))
+  pub ordered_is : (xs ys : List X) → IsSortedBy lt ys → IsStableBy lt xs ys → ys ≡ sorted_by lt xs
+  ordered_is xs ys up s = unique ys (sorted_by lt xs) (rises_from_sorted ys up) (ordered_rises xs) (λ x. s x ∙ sym (ordered_stable x xs))
 
   -- a list that is in order already
-  pub ordered_same : (xs : List X) → IsInOrder lt xs → ordered lt xs ≡ xs
-  ordered_same xs h = unique (ordered lt xs) xs (ordered_rises xs) h (λ x. ordered_stable x xs)
+  pub ordered_same : (xs : List X) → IsInOrder lt xs → sorted_by lt xs ≡ xs
+  ordered_same xs h = unique (sorted_by lt xs) xs (ordered_rises xs) h (λ x. ordered_stable x xs)
 
 -- ---- a map, and a part
 
-put_before-map : {X Y : Type 0} (f : X → Y) (lt : Y → Y → Bool) (x : X) (xs : List X) → map f (put_before (λ a b. lt (f a) (f b)) x xs) ≡ put_before lt (f x) (map f xs)
+put_before-map : {X Y : Type 0} (f : X → Y) (lt : Y → Y → Bool) (x : X) (xs : List X) → map f (insert_before (λ a b. lt (f a) (f b)) x xs) ≡ insert_before lt (f x) (map f xs)
 put_before-map f lt x [] = refl
-put_before-map f lt x (y ∷ ys) = elim (lt (f y) (f x)) as (λ b. map f (cond b (y ∷ put_before (λ a b. lt (f a) (f b)) x ys) (x ∷ y ∷ ys)) ≡ cond b (f y ∷ put_before lt (f x) (map f ys)) (f x ∷ f y ∷ map f ys)) [
+put_before-map f lt x (y ∷ ys) = elim (lt (f y) (f x)) as (λ b. map f (cond b (y ∷ insert_before (λ a b. lt (f a) (f b)) x ys) (x ∷ y ∷ ys)) ≡ cond b (f y ∷ insert_before lt (f x) (map f ys)) (f x ∷ f y ∷ map f ys)) [
   | true ↦ ap (λ l. f y ∷ l) (put_before-map f lt x ys)
   | false ↦ refl
 ]
 
 -- a list in the order of what a map gives
-pub ordered-map : {X Y : Type 0} (f : X → Y) (lt : Y → Y → Bool) (xs : List X) → map f (ordered (λ a b. lt (f a) (f b)) xs) ≡ ordered lt (map f xs)
+pub ordered-map : {X Y : Type 0} (f : X → Y) (lt : Y → Y → Bool) (xs : List X) → map f (sorted_by (λ a b. lt (f a) (f b)) xs) ≡ sorted_by lt (map f xs)
 ordered-map f lt [] = refl
-ordered-map f lt (x ∷ xs) = put_before-map f lt x (ordered (λ a b. lt (f a) (f b)) xs) ∙ ap (put_before lt (f x)) (ordered-map f lt xs)
+ordered-map f lt (x ∷ xs) = put_before-map f lt x (sorted_by (λ a b. lt (f a) (f b)) xs) ∙ ap (insert_before lt (f x)) (ordered-map f lt xs)
 
 -- where none stands before another, each list is in order
 none_before_all : {X : Type 0} (x : X) (xs : List X) → NoneBefore (λ a b. false) x xs
@@ -155,19 +155,19 @@ swap_or true false d = refl
 swap_or false true d = refl
 swap_or false false d = refl
 
-list_any-put_before : {X : Type 0} (lt : X → X → Bool) (p : X → Bool) (x : X) (ys : List X) → list_any p (put_before lt x ys) ≡ (p x || list_any p ys)
+list_any-put_before : {X : Type 0} (lt : X → X → Bool) (p : X → Bool) (x : X) (ys : List X) → list_any p (insert_before lt x ys) ≡ (p x || list_any p ys)
 list_any-put_before lt p x [] = refl
-list_any-put_before lt p x (y ∷ ys) = elim (lt y x) as (λ b. list_any p (cond b (y ∷ put_before lt x ys) (x ∷ y ∷ ys)) ≡ (p x || (p y || list_any p ys))) [
+list_any-put_before lt p x (y ∷ ys) = elim (lt y x) as (λ b. list_any p (cond b (y ∷ insert_before lt x ys) (x ∷ y ∷ ys)) ≡ (p x || (p y || list_any p ys))) [
   | true ↦ ap (λ b. p y || b) (list_any-put_before lt p x ys) ∙ swap_or (p y) (p x) (list_any p ys)
   | false ↦ refl
 ]
 
 -- what is in it
-pub list_any-ordered : {X : Type 0} (lt : X → X → Bool) (p : X → Bool) (xs : List X) → list_any p (ordered lt xs) ≡ list_any p xs
+pub list_any-ordered : {X : Type 0} (lt : X → X → Bool) (p : X → Bool) (xs : List X) → list_any p (sorted_by lt xs) ≡ list_any p xs
 list_any-ordered lt p [] = refl
-list_any-ordered lt p (x ∷ xs) = list_any-put_before lt p x (ordered lt xs) ∙ ap (λ b. p x || b) (list_any-ordered lt p xs)
+list_any-ordered lt p (x ∷ xs) = list_any-put_before lt p x (sorted_by lt xs) ∙ ap (λ b. p x || b) (list_any-ordered lt p xs)
 
-filter-put_before : {X : Type 0} (lt : X → X → Bool) (p : X → Bool) → ((x y : X) → p x ≡ true → p y ≡ true → lt x y ≡ false) → (x : X) (ys : List X) → filter p (put_before lt x ys) ≡ filter p (x ∷ ys)
+filter-put_before : {X : Type 0} (lt : X → X → Bool) (p : X → Bool) → ((x y : X) → p x ≡ true → p y ≡ true → lt x y ≡ false) → (x : X) (ys : List X) → filter p (insert_before lt x ys) ≡ filter p (x ∷ ys)
 filter-put_before lt p tied x [] = refl
 filter-put_before lt p tied x (y ∷ ys) =
     ⊎_elim (λ (t : lt y x ≡ true).
@@ -177,6 +177,6 @@ filter-put_before lt p tied x (y ∷ ys) =
     (cases_Bool (lt y x))
 
 -- those that pass a test that parts nothing
-pub filter-ordered : {X : Type 0} (lt : X → X → Bool) (p : X → Bool) → ((x y : X) → p x ≡ true → p y ≡ true → lt x y ≡ false) → (xs : List X) → filter p (ordered lt xs) ≡ filter p xs
+pub filter-ordered : {X : Type 0} (lt : X → X → Bool) (p : X → Bool) → ((x y : X) → p x ≡ true → p y ≡ true → lt x y ≡ false) → (xs : List X) → filter p (sorted_by lt xs) ≡ filter p xs
 filter-ordered lt p tied [] = refl
-filter-ordered lt p tied (x ∷ xs) = filter-put_before lt p tied x (ordered lt xs) ∙ ap (λ l. cond (p x) (x ∷ l) l) (filter-ordered lt p tied xs)
+filter-ordered lt p tied (x ∷ xs) = filter-put_before lt p tied x (sorted_by lt xs) ∙ ap (λ l. cond (p x) (x ∷ l) l) (filter-ordered lt p tied xs)

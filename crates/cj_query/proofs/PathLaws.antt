@@ -13,11 +13,11 @@ use Rattle.cj_model.specs.declared.value.Value.{Value}
 use Rattle.cj_model.specs.declared.select.Key.{Key}
 use Rattle.cj_model.specs.declared.select.Select.{Select}
 use Rattle.cj_model.specs.declared.term.ColRef.{ColRef}
-use Rattle.cj_model.specs.Values.{value_cmp, value_total}
-use Rattle.cj_model.specs.Tables.{Rises, by_key, cell}
-use Rattle.cj_model.specs.Order.{SortKey, before, by_sort_key, by_sort_keys, cut, ordered}
-use Rattle.cj_model.specs.Queries.{aggregates, first_of, gathered, groups_answered, sort_key_of}
-use Rattle.cj_model.specs.Scopes.{Scope, place}
+use Rattle.cj_model.specs.Database.Values.{value_cmp, value_total}
+use Rattle.cj_model.specs.Database.Tables.{Rises, by_key, cell}
+use Rattle.cj_model.specs.Database.Order.{SortKey, sorts_before, by_sort_key, by_sort_keys, at_most, sorted_by}
+use Rattle.cj_model.specs.Database.Queries.{has_aggregate, first_row, gathered, groups_answered, sort_key_of}
+use Rattle.cj_model.specs.Database.Scopes.{Scope, column_place}
 use Rattle.cj_rows.specs.Lookups.{row_with_key}
 use Rattle.cj_query.specs.Paths.{PinsTo, answers_each, falls_by, follows_rows, is_falling_at, is_led_by, is_rising_at, joined_limit, reverses_rows}
 use Rattle.cj_query.proofs.KeyLaws.{by_sort_keys_total, always_in_order}
@@ -60,17 +60,17 @@ same_place : (a b : ℕ) → eqb a b ≡ true → a ≡ b
 same_place a b h = grind arith
 
 -- a row above another is not before it
-not_before_above : (scope : Scope) (n : ℕ) (k : Key) (keys : List SortKey) (r s : List Value) → is_rising_at scope n k ≡ true → by_key n r s ≡ Less → before (sort_key_of scope k ∷ keys) s r ≡ false
+not_before_above : (scope : Scope) (n : ℕ) (k : Key) (keys : List SortKey) (r s : List Value) → is_rising_at scope n k ≡ true → by_key n r s ≡ Less → sorts_before (sort_key_of scope k ∷ keys) s r ≡ false
 not_before_above scope n k keys r s h l =
-    let parts = and_parts (not k.desc) (eqb (place scope k.col) n) h in
+    let parts = and_parts (not k.desc) (eqb (column_place scope k.col) n) h in
     let greater : by_key n s r ≡ Greater = value_total.antisymm (cell s n) (cell r n) ∙ ap ordering_reverse l in
     let first : by_sort_key (sort_key_of scope k) s r ≡ Greater
-    = ap (λ b. cond b (by_key (place scope k.col) r s) (by_key (place scope k.col) s r)) (not-true _ parts.0)
-    ∙ ap (λ m. by_key m s r) (same_place (place scope k.col) n parts.1) ∙ greater in
+    = ap (λ b. cond b (by_key (column_place scope k.col) r s) (by_key (column_place scope k.col) s r)) (not-true _ parts.0)
+    ∙ ap (λ m. by_key m s r) (same_place (column_place scope k.col) n parts.1) ∙ greater in
     ap (λ o. is_lt (ordering_then o (by_sort_keys keys s r))) first
 
 abbrev earlier : Scope → List Key → List (List Value) → List (List Value) → Bool
-earlier scope keys g h = before (map (sort_key_of scope) keys) (first_of g) (first_of h)
+earlier scope keys g h = sorts_before (map (sort_key_of scope) keys) (first_row g) (first_row h)
 
 abbrev alone : List (List Value) → List (List (List Value))
 alone rows = map (λ r. r ∷ []) rows
@@ -86,50 +86,50 @@ rows_in_order : (scope : Scope) (n : ℕ) (k : Key) (keys : List Key) (rows : Li
 rows_in_order scope n k keys [] h r = tt
 rows_in_order scope n k keys (row ∷ rows) h r = (none_before_first scope n k keys row rows h r.0, rows_in_order scope n k keys rows h r.1)
 
-ordered_alone : (scope : Scope) (n : ℕ) (keys : List Key) (rows : List (List Value)) → is_led_by scope n keys ≡ true → Rises (by_key n) rows → ordered (earlier scope keys) (alone rows) ≡ alone rows
+ordered_alone : (scope : Scope) (n : ℕ) (keys : List Key) (rows : List (List Value)) → is_led_by scope n keys ≡ true → Rises (by_key n) rows → sorted_by (earlier scope keys) (alone rows) ≡ alone rows
 ordered_alone scope n [] rows h r = always_in_order (alone rows)
-ordered_alone scope n (k ∷ keys) rows h r = ordered_same (earlier scope (k ∷ keys)) (ranks_by (by_sort_keys_total (map (sort_key_of scope) (k ∷ keys))) first_of) (alone rows) (rows_in_order scope n k keys rows h r)
+ordered_alone scope n (k ∷ keys) rows h r = ordered_same (earlier scope (k ∷ keys)) (ranks_by (by_sort_keys_total (map (sort_key_of scope) (k ∷ keys))) first_row) (alone rows) (rows_in_order scope n k keys rows h r)
 
-gathered_alone : (scope : Scope) (s : Select) (group : Option ColRef) (rows : List (List Value)) → is_none group ≡ true → aggregates s.items ≡ false → gathered scope s.items group rows ≡ map (λ r. r ∷ []) rows
+gathered_alone : (scope : Scope) (s : Select) (group : Option ColRef) (rows : List (List Value)) → is_none group ≡ true → has_aggregate s.items ≡ false → gathered scope s.items group rows ≡ map (λ r. r ∷ []) rows
 gathered_alone scope s None rows g a = cond-false _ _ _ a
 gathered_alone scope s (Some c) rows g a = cc g
 
 each_alone : (scope : Scope) (s : Select) (rows : List (List Value)) → answers_each s ≡ true → gathered scope s.items s.group rows ≡ map (λ r. r ∷ []) rows
 each_alone scope s rows h =
-    let parts = and_parts (is_none s.group) (not (aggregates s.items)) h in
+    let parts = and_parts (is_none s.group) (not (has_aggregate s.items)) h in
     gathered_alone scope s s.group rows parts.0 (not-true _ parts.1)
 
 -- each row is answered by itself, in the order of the rows
-pub groups_alone : (scope : Scope) (s : Select) (n : ℕ) (rows : List (List Value)) → follows_rows scope s n ≡ true → Rises (by_key n) rows → groups_answered scope s rows ≡ map (λ r. r ∷ []) (cut s.limit rows)
+pub groups_alone : (scope : Scope) (s : Select) (n : ℕ) (rows : List (List Value)) → follows_rows scope s n ≡ true → Rises (by_key n) rows → groups_answered scope s rows ≡ map (λ r. r ∷ []) (at_most s.limit rows)
 groups_alone scope s n rows h r =
     let parts = and_parts (answers_each s) (is_led_by scope n s.order) h in
-    ap (λ gs. cut s.limit (ordered (earlier scope s.order) gs)) (each_alone scope s rows parts.0)
-    ∙ ap (cut s.limit) (ordered_alone scope n s.order rows parts.1 r)
+    ap (λ gs. at_most s.limit (sorted_by (earlier scope s.order) gs)) (each_alone scope s rows parts.0)
+    ∙ ap (at_most s.limit) (ordered_alone scope n s.order rows parts.1 r)
     ∙ sym (cut-map (λ r. r ∷ []) s.limit rows)
 
 -- ---- no keys
 
-each_unordered : (scope : Scope) (s : Select) (rows : List (List Value)) → answers_each s ≡ true → s.order ≡ [] → groups_answered scope s rows ≡ alone (cut s.limit rows)
+each_unordered : (scope : Scope) (s : Select) (rows : List (List Value)) → answers_each s ≡ true → s.order ≡ [] → groups_answered scope s rows ≡ alone (at_most s.limit rows)
 each_unordered scope s rows h e =
-    ap (λ gs. cut s.limit (ordered (earlier scope s.order) gs)) (each_alone scope s rows h)
-    ∙ ap (λ ks. cut s.limit (ordered (earlier scope ks) (alone rows))) e
-    ∙ ap (cut s.limit) (always_in_order (alone rows))
+    ap (λ gs. at_most s.limit (sorted_by (earlier scope s.order) gs)) (each_alone scope s rows h)
+    ∙ ap (λ ks. at_most s.limit (sorted_by (earlier scope ks) (alone rows))) e
+    ∙ ap (at_most s.limit) (always_in_order (alone rows))
     ∙ sym (cut-map (λ r. r ∷ []) s.limit rows)
 
 no_keys : (n : ℕ) → eqb n 0 ≡ true → n ≡ 0
 no_keys n h = grind arith
 
 -- so many rows are enough
-pub groups_limited : (scope : Scope) (s : Select) (rows : List (List Value)) → groups_answered scope s (cut (joined_limit s) rows) ≡ groups_answered scope s rows
+pub groups_limited : (scope : Scope) (s : Select) (rows : List (List Value)) → groups_answered scope s (at_most (joined_limit s) rows) ≡ groups_answered scope s rows
 groups_limited scope s rows = ⊎_elim
     (λ (t : (answers_each s && eqb (length s.order) 0) ≡ true).
     let parts = and_parts (answers_each s) (eqb (length s.order) 0) t in
     let none : s.order ≡ [] = nil_from_length s.order (no_keys (length s.order) parts.1) in
-    ap (λ limit. groups_answered scope s (cut limit rows)) (cond-true _ _ _ t)
-    ∙ each_unordered scope s (cut s.limit rows) parts.0 none
+    ap (λ limit. groups_answered scope s (at_most limit rows)) (cond-true _ _ _ t)
+    ∙ each_unordered scope s (at_most s.limit rows) parts.0 none
     ∙ ap alone (cut_twice s.limit rows)
     ∙ sym (each_unordered scope s rows parts.0 none))
-    (λ (f : (answers_each s && eqb (length s.order) 0) ≡ false). ap (λ limit. groups_answered scope s (cut limit rows)) (cond-false _ _ _ f))
+    (λ (f : (answers_each s && eqb (length s.order) 0) ≡ false). ap (λ limit. groups_answered scope s (at_most limit rows)) (cond-false _ _ _ f))
     (cases_Bool (answers_each s && eqb (length s.order) 0))
 
 -- ---- the order of the rows, reversed
@@ -139,12 +139,12 @@ falls_by_first scope n [] k l is = absurd (omega (arith, l))
 falls_by_first scope n (x ∷ keys) k l is = ap (is_falling_at scope n) is
 
 -- a row above another is before it
-before_below : (scope : Scope) (n : ℕ) (k : Key) (keys : List SortKey) (r s : List Value) → is_falling_at scope n k ≡ true → by_key n r s ≡ Less → before (sort_key_of scope k ∷ keys) s r ≡ true
+before_below : (scope : Scope) (n : ℕ) (k : Key) (keys : List SortKey) (r s : List Value) → is_falling_at scope n k ≡ true → by_key n r s ≡ Less → sorts_before (sort_key_of scope k ∷ keys) s r ≡ true
 before_below scope n k keys r s h l =
-    let parts = and_parts k.desc (eqb (place scope k.col) n) h in
+    let parts = and_parts k.desc (eqb (column_place scope k.col) n) h in
     let first : by_sort_key (sort_key_of scope k) s r ≡ Less
-    = ap (λ b. cond b (by_key (place scope k.col) r s) (by_key (place scope k.col) s r)) parts.0
-    ∙ ap (λ m. by_key m r s) (same_place (place scope k.col) n parts.1) ∙ l in
+    = ap (λ b. cond b (by_key (column_place scope k.col) r s) (by_key (column_place scope k.col) s r)) parts.0
+    ∙ ap (λ m. by_key m r s) (same_place (column_place scope k.col) n parts.1) ∙ l in
     ap (λ o. is_lt (ordering_then o (by_sort_keys keys s r))) first
 
 all_before : (scope : Scope) (n : ℕ) (k : Key) (keys : List Key) (r : List Value) (rows : List (List Value)) → is_falling_at scope n k ≡ true → All (λ s. by_key n r s ≡ Less) rows → All (λ g. earlier scope (k ∷ keys) g (r ∷ []) ≡ true) (alone rows)
@@ -157,14 +157,14 @@ rows_fall : (scope : Scope) (n : ℕ) (k : Key) (keys : List Key) (rows : List (
 rows_fall scope n k keys [] h r = tt
 rows_fall scope n k keys (row ∷ rows) h r = (all_before scope n k keys row rows h r.0, rows_fall scope n k keys rows h r.1)
 
-ordered_back : (scope : Scope) (n : ℕ) (keys : List Key) (rows : List (List Value)) → falls_by scope n keys ≡ true → Rises (by_key n) rows → ordered (earlier scope keys) (alone rows) ≡ alone (reverse rows)
+ordered_back : (scope : Scope) (n : ℕ) (keys : List Key) (rows : List (List Value)) → falls_by scope n keys ≡ true → Rises (by_key n) rows → sorted_by (earlier scope keys) (alone rows) ≡ alone (reverse rows)
 ordered_back scope n [] rows h r = cc h
 ordered_back scope n (k ∷ keys) rows h r = ordered_falling (earlier scope (k ∷ keys)) (alone rows) (rows_fall scope n k keys rows h r) ∙ sym (map-reverse (λ r. r ∷ []) rows)
 
 -- each row is answered by itself, from the last row to the first
-pub groups_reversed : (scope : Scope) (s : Select) (n : ℕ) (rows : List (List Value)) → reverses_rows scope s n ≡ true → Rises (by_key n) rows → groups_answered scope s rows ≡ map (λ r. r ∷ []) (cut s.limit (reverse rows))
+pub groups_reversed : (scope : Scope) (s : Select) (n : ℕ) (rows : List (List Value)) → reverses_rows scope s n ≡ true → Rises (by_key n) rows → groups_answered scope s rows ≡ map (λ r. r ∷ []) (at_most s.limit (reverse rows))
 groups_reversed scope s n rows h r =
     let parts = and_parts (answers_each s) (falls_by scope n s.order) h in
-    ap (λ gs. cut s.limit (ordered (earlier scope s.order) gs)) (each_alone scope s rows parts.0)
-    ∙ ap (cut s.limit) (ordered_back scope n s.order rows parts.1 r)
+    ap (λ gs. at_most s.limit (sorted_by (earlier scope s.order) gs)) (each_alone scope s rows parts.0)
+    ∙ ap (at_most s.limit) (ordered_back scope n s.order rows parts.1 r)
     ∙ sym (cut-map (λ r. r ∷ []) s.limit (reverse rows))

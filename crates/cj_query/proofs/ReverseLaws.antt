@@ -4,7 +4,7 @@ use Rattle.std.specs.Prelude.{All, filter, reverse}
 use Rattle.std.proofs.lemmas.Bool.{cond-true}
 use Rattle.std.proofs.lemmas.List.{append-nil, map-append, reverse-append}
 use Rattle.std.proofs.lemmas.List.Elements.{All-nil, All-cons, All-head, All-tail, All-append, filter-append}
-use Rattle.cj_model.specs.Order.{put_before, ordered}
+use Rattle.cj_model.specs.Database.Order.{insert_before, sorted_by}
 
 pub map-reverse : {X Y : Type 0} (f : X → Y) (xs : List X) → map f (reverse xs) ≡ reverse (map f xs)
 map-reverse f [] = refl
@@ -37,15 +37,15 @@ IsFalling before [] = Unit {0}
 IsFalling before (x ∷ xs) = All (λ y. before y x ≡ true) xs × IsFalling before xs
 
 -- what all stand before comes last
-put_last : {X : Type 0} (before : X → X → Bool) (x : X) (ys : List X) → All (λ y. before y x ≡ true) ys → put_before before x ys ≡ ys ++ x ∷ []
+put_last : {X : Type 0} (before : X → X → Bool) (x : X) (ys : List X) → All (λ y. before y x ≡ true) ys → insert_before before x ys ≡ ys ++ x ∷ []
 put_last before x [] a = refl
 put_last before x (y ∷ ys) a =
     cond-true _ _ _ (All-head (λ y. before y x ≡ true) y ys a)
     ∙ ap (λ l. y ∷ l) (put_last before x ys (All-tail (λ y. before y x ≡ true) y ys a))
 
-pub ordered_falling : {X : Type 0} (before : X → X → Bool) (xs : List X) → IsFalling before xs → ordered before xs ≡ reverse xs
+pub ordered_falling : {X : Type 0} (before : X → X → Bool) (xs : List X) → IsFalling before xs → sorted_by before xs ≡ reverse xs
 ordered_falling before [] h = refl
 ordered_falling before (x ∷ xs) h =
-    ap (put_before before x) (ordered_falling before xs h.1)
+    ap (insert_before before x) (ordered_falling before xs h.1)
     ∙ put_last before x (reverse xs) (All-reverse (λ y. before y x ≡ true) xs h.0)
     ∙ sym (reverse-append (x ∷ []) xs)

@@ -4,8 +4,8 @@ use Rattle.std.specs.List.{prefix_len}
 use Rattle.std.proofs.lemmas.Bool.{cases_Bool}
 use Rattle.std.proofs.lemmas.List.{take-map, drop-map, drop_more, take_more, map-append, length-map, length-drop, drop-drop, take_all}
 use Rattle.cj_model.specs.declared.value.Value.{Value}
-use Rattle.cj_model.specs.Values.{value_cmp}
-use Rattle.cj_model.specs.Tables.{cell}
+use Rattle.cj_model.specs.Database.Values.{value_cmp}
+use Rattle.cj_model.specs.Database.Tables.{cell}
 use Rattle.cj_query.specs.Gathered.{same_at, run_with, runs, run_length}
 use Rattle.cj_query.proofs.GroupLaws.{equal_is}
 

@@ -4,8 +4,8 @@ use Rattle.std.specs.List.{list_any}
 use Rattle.std.proofs.lemmas.Bool.{or_left, or_right}
 use Rattle.std.proofs.lemmas.List.Folds.{list_any-append}
 use Rattle.cj_model.specs.declared.value.Value.{Value}
-use Rattle.cj_model.specs.Evaluation.{number}
-use Rattle.cj_model.specs.Tables.{cell}
+use Rattle.cj_model.specs.Database.Evaluation.{integer_of}
+use Rattle.cj_model.specs.Database.Tables.{cell}
 use Rattle.std.proofs.lemmas.List.{take_more, map-append}
 
 -- one more element
@@ -15,9 +15,9 @@ map_next f xs i x lt is =
     ∙ ap (map f) (ap (λ y. take i xs ++ y ∷ []) is ∙ sym (take_more xs i x lt))
 
 -- a sum over what is seen so
-pub sum_seen : {A : Type 0} (h : A → List Value) (n : ℕ) (start : ℤ) (xs : List A) → fold (λ total x. total +ℤ number (cell (h x) n)) start xs ≡ fold (λ total r. total +ℤ number (cell r n)) start (map h xs)
+pub sum_seen : {A : Type 0} (h : A → List Value) (n : ℕ) (start : ℤ) (xs : List A) → fold (λ total x. total +ℤ integer_of (cell (h x) n)) start xs ≡ fold (λ total r. total +ℤ integer_of (cell r n)) start (map h xs)
 sum_seen h n start [] = refl
-sum_seen h n start (x ∷ xs) = sum_seen h n (start +ℤ number (cell (h x) n)) xs
+sum_seen h n start (x ∷ xs) = sum_seen h n (start +ℤ integer_of (cell (h x) n)) xs
 
 -- a test that one of them passes
 pub any_at : {A X : Type 0} (h : A → X) (test : X → Bool) (xs : List A) (i : ℕ) (x : A) → i < length xs → x ≡ get_or xs i x → test (h x) ≡ true → list_any test (map h xs) ≡ true

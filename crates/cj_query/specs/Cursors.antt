@@ -5,6 +5,6 @@ use Rattle.cj_query.specs.declared.cursor.Cursor.{Cursor}
 use Rattle.cj_query.specs.declared.cursor.Cursor.TheVariants.{Rising, Falling}
 
 -- the rows that are left, in the order in which they come
-abbrev pub rows_left : Cursor → List (List Value)
-rows_left (Rising rows) = rows
-rows_left (Falling rows) = rows
+abbrev pub rows_of_cursor : Cursor → List (List Value)
+rows_of_cursor (Rising rows) = rows
+rows_of_cursor (Falling rows) = rows

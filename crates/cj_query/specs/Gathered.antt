@@ -7,10 +7,10 @@ use Rattle.std.specs.Ordering.{is_eq, is_lt}
 use Rattle.cj_model.specs.declared.value.Value.{Value}
 use Rattle.cj_model.specs.declared.term.ColRef.{ColRef}
 use Rattle.cj_model.specs.declared.select.Items.{Items}
-use Rattle.cj_model.specs.Tables.{by_key}
-use Rattle.cj_model.specs.Order.{ordered}
-use Rattle.cj_model.specs.Scopes.{Scope, place}
-use Rattle.cj_model.specs.Queries.{aggregates, first_of}
+use Rattle.cj_model.specs.Database.Tables.{by_key}
+use Rattle.cj_model.specs.Database.Order.{sorted_by}
+use Rattle.cj_model.specs.Database.Scopes.{Scope, column_place}
+use Rattle.cj_model.specs.Database.Queries.{has_aggregate, first_row}
 
 -- two rows have one value at a place
 abbrev pub same_at : ℕ → List Value → List Value → Bool
@@ -19,7 +19,7 @@ same_at n r s = is_eq (by_key n r s)
 -- a row joins the first run if it has its value, and else begins a run
 abbrev pub run_with : ℕ → List Value → List (List (List Value)) → List (List (List Value))
 run_with n r [] = (r ∷ []) ∷ []
-run_with n r (g ∷ gs) = if same_at n r (first_of g) then (r ∷ g) ∷ gs else (r ∷ []) ∷ g ∷ gs
+run_with n r (g ∷ gs) = if same_at n r (first_row g) then (r ∷ g) ∷ gs else (r ∷ []) ∷ g ∷ gs
 
 -- the rows cut where the value at a place changes
 abbrev pub runs : ℕ → List (List Value) → List (List (List Value))
@@ -28,17 +28,17 @@ runs n (r ∷ rs) = run_with n r (runs n rs)
 
 -- the rows in rising order of the value at a place
 abbrev pub sorted_at : ℕ → List (List Value) → List (List Value)
-sorted_at n rows = ordered (λ r s. is_lt (by_key n r s)) rows
+sorted_at n rows = sorted_by (λ r s. is_lt (by_key n r s)) rows
 
 -- rows in the order in which those of one group stand together
 abbrev pub arranged : Scope → Option ColRef → List (List Value) → List (List Value)
 arranged scope None rows = rows
-arranged scope (Some group) rows = sorted_at (place scope group) rows
+arranged scope (Some group) rows = sorted_at (column_place scope group) rows
 
 -- what is gathered of rows of which those of one group stand together
 abbrev pub cut_into : Scope → Items → Option ColRef → List (List Value) → List (List (List Value))
-cut_into scope items None rows = if aggregates items then rows ∷ [] else map (λ r. r ∷ []) rows
-cut_into scope items (Some group) rows = runs (place scope group) rows
+cut_into scope items None rows = if has_aggregate items then rows ∷ [] else map (λ r. r ∷ []) rows
+cut_into scope items (Some group) rows = runs (column_place scope group) rows
 
 -- how many rows at the front have the first one's value at a place
 abbrev pub run_length : ℕ → List (List Value) → ℕ

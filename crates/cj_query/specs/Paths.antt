@@ -10,17 +10,17 @@ use Rattle.cj_model.specs.declared.select.Items.{Items}
 use Rattle.cj_model.specs.declared.select.Items.TheVariants.{All, Listed}
 use Rattle.cj_model.specs.declared.select.Key.{Key}
 use Rattle.cj_model.specs.declared.select.Select.{Select}
-use Rattle.cj_model.specs.Queries.{aggregates}
-use Rattle.cj_model.specs.Scopes.{Scope, place}
-use Rattle.cj_model.specs.Tables.{cell}
+use Rattle.cj_model.specs.Database.Queries.{has_aggregate}
+use Rattle.cj_model.specs.Database.Scopes.{Scope, column_place}
+use Rattle.cj_model.specs.Database.Tables.{cell}
 
 -- each row that passes the test has this value at the place
-pub record PinsTo (place : ℕ) (p : List Value → Bool) (v : Value) : Type 0 where
-  pub at : (row : List Value) → p row ≡ true → cell row place ≡ v
+pub record PinsTo (column_place : ℕ) (p : List Value → Bool) (v : Value) : Type 0 where
+  pub at : (row : List Value) → p row ≡ true → cell row column_place ≡ v
 
 -- the rising key at this place
 abbrev pub is_rising_at : Scope → ℕ → Key → Bool
-is_rising_at scope n k = not k.desc && place scope k.col == n
+is_rising_at scope n k = not k.desc && column_place scope k.col == n
 
 -- no keys, or first the rising one at this place
 abbrev pub is_led_by : Scope → ℕ → List Key → Bool
@@ -29,7 +29,7 @@ is_led_by scope n (k ∷ ks) = is_rising_at scope n k
 
 -- the falling key at this place
 abbrev pub is_falling_at : Scope → ℕ → Key → Bool
-is_falling_at scope n k = k.desc && place scope k.col == n
+is_falling_at scope n k = k.desc && column_place scope k.col == n
 
 -- first the falling key at this place
 abbrev pub falls_by : Scope → ℕ → List Key → Bool
@@ -38,7 +38,7 @@ falls_by scope n (k ∷ ks) = is_falling_at scope n k
 
 -- each row is answered by itself
 abbrev pub answers_each : Select → Bool
-answers_each s = is_none s.group && not (aggregates s.items)
+answers_each s = is_none s.group && not (has_aggregate s.items)
 
 -- each row is answered by itself, in the order of the rows
 abbrev pub follows_rows : Scope → Select → ℕ → Bool

@@ -9,25 +9,25 @@ use Rattle.cj_model.specs.declared.select.Item.{Item}
 use Rattle.cj_model.specs.declared.select.Item.TheVariants as item
 use Rattle.cj_model.specs.declared.select.Items.{Items}
 use Rattle.cj_model.specs.declared.select.Items.TheVariants as select_items
-use Rattle.cj_model.specs.Evaluation.{is_outside}
-use Rattle.cj_model.specs.Queries.{first_of, sum_at}
-use Rattle.cj_model.specs.Scopes.{Scope, place}
-use Rattle.cj_model.specs.Tables.{cell}
+use Rattle.cj_model.specs.Database.Evaluation.{is_out_of_range}
+use Rattle.cj_model.specs.Database.Queries.{first_row, sum_at}
+use Rattle.cj_model.specs.Database.Scopes.{Scope, column_place}
+use Rattle.cj_model.specs.Database.Tables.{cell}
 use Rattle.cj_query.specs.declared.projection.BoundItem.{BoundItem}
 use Rattle.cj_query.specs.declared.projection.BoundItem.TheVariants as bound_item
 use Rattle.cj_query.specs.declared.projection.Projection.{Projection}
 use Rattle.cj_query.specs.declared.projection.Projection.TheVariants as projection
 
 -- an item of a scope
-abbrev pub bound : Scope → Item → BoundItem
-bound scope (item.Col r) = bound_item.Value (place scope r)
-bound scope item.Count = bound_item.Count
-bound scope (item.Sum r) = bound_item.Sum (place scope r)
+abbrev pub bound_item_of : Scope → Item → BoundItem
+bound_item_of scope (item.Col r) = bound_item.Value (column_place scope r)
+bound_item_of scope item.Count = bound_item.Count
+bound_item_of scope (item.Sum r) = bound_item.Sum (column_place scope r)
 
 -- the items of a scope, none for `*`
 abbrev pub bound_items : Scope → Items → Option (List BoundItem)
 bound_items scope select_items.All = None
-bound_items scope (select_items.Listed items) = Some (map (bound scope) items)
+bound_items scope (select_items.Listed items) = Some (map (bound_item_of scope) items)
 
 -- the items of a projection, none for whole rows
 abbrev pub items_of : Projection → Option (List BoundItem)
@@ -35,26 +35,26 @@ items_of projection.All = None
 items_of (projection.Items items) = Some items.items
 
 -- what an item is of the rows that were gathered
-abbrev pub item_of : List (List Value) → BoundItem → Value
-item_of rows (bound_item.Value n) = cell (first_of rows) n
-item_of rows bound_item.Count = Int (pos (length rows))
-item_of rows (bound_item.Sum n) = Int (sum_at n rows)
+abbrev pub bound_item_value : List (List Value) → BoundItem → Value
+bound_item_value rows (bound_item.Value n) = cell (first_row rows) n
+bound_item_value rows bound_item.Count = Int (pos (length rows))
+bound_item_value rows (bound_item.Sum n) = Int (sum_at n rows)
 
 -- a sum outside 64 bits
-abbrev pub is_sum_outside : List (List Value) → BoundItem → Bool
-is_sum_outside rows (bound_item.Value n) = false
-is_sum_outside rows bound_item.Count = false
-is_sum_outside rows (bound_item.Sum n) = is_outside (Int (sum_at n rows))
+abbrev pub is_bound_sum_out_of_range : List (List Value) → BoundItem → Bool
+is_bound_sum_out_of_range rows (bound_item.Value n) = false
+is_bound_sum_out_of_range rows bound_item.Count = false
+is_bound_sum_out_of_range rows (bound_item.Sum n) = is_out_of_range (Int (sum_at n rows))
 
 -- one of the sums of some items lies outside 64 bits
-abbrev pub any_outside : List BoundItem → List (List Value) → Bool
-any_outside items rows = list_any (is_sum_outside rows) items
+abbrev pub has_bound_sum_out_of_range : List BoundItem → List (List Value) → Bool
+has_bound_sum_out_of_range items rows = list_any (is_bound_sum_out_of_range rows) items
 
 -- the same, of a projection
 abbrev pub is_row_outside : Projection → List (List Value) → Bool
 is_row_outside projection.All rows = false
-is_row_outside (projection.Items items) rows = any_outside items.items rows
+is_row_outside (projection.Items items) rows = has_bound_sum_out_of_range items.items rows
 
-abbrev pub row_made : Projection → List (List Value) → List Value
-row_made projection.All rows = first_of rows
-row_made (projection.Items items) rows = map (item_of rows) items.items
+abbrev pub projected_row : Projection → List (List Value) → List Value
+projected_row projection.All rows = first_row rows
+projected_row (projection.Items items) rows = map (bound_item_value rows) items.items

@@ -8,11 +8,11 @@ use Rattle.cj_model.specs.declared.database.Slot.{Slot}
 use Rattle.cj_model.specs.declared.database.Table.{Table}
 use Rattle.cj_model.specs.declared.select.Select.{Select}
 use Rattle.cj_model.specs.declared.answer.Asked.{Asked}
-use Rattle.cj_model.specs.Evaluation.{meets}
-use Rattle.cj_model.specs.Predicates.{Predicate}
-use Rattle.cj_model.specs.Queries.{answer_of, asked_by, groups_answered, tables_seen}
-use Rattle.cj_model.specs.Scopes.{Scope}
-use Rattle.cj_model.specs.Tables.{slot_of}
+use Rattle.cj_model.specs.Database.Evaluation.{satisfies}
+use Rattle.cj_model.specs.Database.Predicates.{Predicate}
+use Rattle.cj_model.specs.Database.Queries.{answer_of, asked_by, groups_answered, tables_seen}
+use Rattle.cj_model.specs.Database.Scopes.{Scope}
+use Rattle.cj_model.specs.Database.Tables.{slot_of}
 
 -- the tables as a transaction sees them, where all are there
 abbrev pub tables_named : List Slot → ℕ → List (List ℕ) → Option (List Table)
@@ -20,4 +20,4 @@ tables_named db tx names = if list_any (λ n. is_none (slot_of db n)) names then
 
 -- the answer to a query without refusals before its rows are looked at
 abbrev pub answer_from : Scope → Select → Option Predicate → List (List Value) → Asked
-answer_from scope s condition rows = asked_by (answer_of scope s (groups_answered scope s (filter (meets condition) rows)))
+answer_from scope s condition rows = asked_by (answer_of scope s (groups_answered scope s (filter (satisfies condition) rows)))

@@ -2,8 +2,8 @@
 
 ghost use Rattle.std.specs.Prelude.{◌≡◌, [], ◌∷◌, map, IfOk};
 ghost use Rattle.std.specs.Map.Iter.{deref};
-ghost use Rattle.cj_model.specs.Order.{cut};
-ghost use Rattle.cj_model.specs.Queries as queries;
+ghost use Rattle.cj_model.specs.Database.Order.{at_most};
+ghost use Rattle.cj_model.specs.Database.Queries as queries;
 ghost use Rattle.cj_query.specs.Counted as counted;
 ghost use Rattle.cj_query.specs.Groups.{rows_in};
 
@@ -17,7 +17,7 @@ use std::alloc::Global;
 
 /// Keeps at most so many groups, from the front.
 fn cut_groups(groups: &mut Vec<&[&Row]>, limit: Option<u64>)
-    ensures { rows_in groups.new.items ≡ cut limit (rows_in groups.old.items) }
+    ensures { rows_in groups.new.items ≡ at_most limit (rows_in groups.old.items) }
 {
     if let Some(most) = limit {
         groups.truncate(most as usize);
@@ -38,7 +38,7 @@ fn answer_groups(
             let columns = names_of(alloc, scope, &select.items)?;
             Ok(Asked::Rows(Answer { columns, rows }))
         }
-        Err(ValueError::Overflow) => Ok(Asked::Refused(Refusal::bare(OVERFLOW))),
+        Err(ValueError::Overflow) => Ok(Asked::Refused(Refusal::of_code(OVERFLOW))),
         Err(ValueError::NoMemory) => Err(NoMemory),
     }
 }
@@ -75,7 +75,7 @@ pub fn answer_each(
 
 /// The rows of the answer to a query for nothing but the number of rows.
 fn count_rows(alloc: Global, select: &Select, count: usize) -> Result<Rows, NoMemory>
-    ensures { IfOk result (λ rows. rows ≡ cut select.now.limit (counted.counts_row (queries.listed select.now.items) count ∷ [])) }
+    ensures { IfOk result (λ rows. rows ≡ at_most select.now.limit (counted.counts_row (queries.items_listed select.now.items) count ∷ [])) }
 {
     let mut rows = Rows::new(alloc);
     if select.limit != Some(0) {

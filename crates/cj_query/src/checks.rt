@@ -3,8 +3,8 @@
 ghost use Rattle.std.specs.Prelude.{◌≡◌, ◌||◌, not, option_to_list};
 ghost use Rattle.std.specs.List.{list_any};
 ghost use Rattle.cj_model.specs.declared.select.Key.{Key};
-ghost use Rattle.cj_model.specs.Queries as queries;
-ghost use Rattle.cj_model.specs.Scopes as scopes;
+ghost use Rattle.cj_model.specs.Database.Queries as queries;
+ghost use Rattle.cj_model.specs.Database.Scopes as scopes;
 ghost use Rattle.cj_query.specs.Refused as refused;
 
 use cj_expr::{Scope, same_kind};
@@ -12,14 +12,14 @@ use cj_model::{BAD_COLUMNS, ColRef, Cond, Item, Items, Key, Kind, NO_COLUMN, Sel
 
 /// The place of a column. One that is not there stands for the first.
 pub fn place_in(scope: &Scope, column: &ColRef) -> usize
-    ensures { result ≡ scopes.place scope.now column.now }
+    ensures { result ≡ scopes.column_place scope.now column.now }
 {
     scope.place(column).unwrap_or(0)
 }
 
 /// The items that are listed, none for `*`.
 pub fn listed(items: &Items) -> &[Item]
-    ensures { result.now ≡ queries.listed items.now }
+    ensures { result.now ≡ queries.items_listed items.now }
 {
     match items {
         Items::All => &[],
@@ -29,70 +29,74 @@ pub fn listed(items: &Items) -> &[Item]
 
 // ---- columns that are not there
 
-fn item_names_stranger(scope: &Scope, item: &Item) -> bool
-    ensures { result ≡ list_any (scopes.is_stranger scope.now) (queries.columns_of_item item.now) }
+fn item_has_unknown_column(scope: &Scope, item: &Item) -> bool
+    ensures { result ≡ list_any (scopes.is_unknown_column scope.now) (queries.columns_of_item item.now) }
 {
     match item {
-        Item::Col(column) => scope.is_stranger(column),
+        Item::Col(column) => scope.is_unknown_column(column),
         Item::Count => false,
-        Item::Sum(column) => scope.is_stranger(column),
+        Item::Sum(column) => scope.is_unknown_column(column),
     }
 }
 
-fn items_name_stranger(scope: &Scope, items: &[Item]) -> bool
-    ensures { result ≡ list_any (λ item. list_any (scopes.is_stranger scope.now) (queries.columns_of_item item)) items.now }
+fn items_have_unknown_column(scope: &Scope, items: &[Item]) -> bool
+    ensures { result ≡ list_any (λ item. list_any (scopes.is_unknown_column scope.now) (queries.columns_of_item item)) items.now }
 {
-    items.iter().any(|item| item_names_stranger(scope, item))
+    items
+        .iter()
+        .any(|item| item_has_unknown_column(scope, item))
 }
 
-fn keys_name_stranger(scope: &Scope, keys: &[Key]) -> bool
-    ensures { result ≡ list_any (λ (key : Key). scopes.is_stranger scope.now key.col) keys.now }
+fn keys_have_unknown_column(scope: &Scope, keys: &[Key]) -> bool
+    ensures { result ≡ list_any (λ (key : Key). scopes.is_unknown_column scope.now key.col) keys.now }
 {
-    keys.iter().any(|key| scope.is_stranger(&key.col))
+    keys.iter().any(|key| scope.is_unknown_column(&key.col))
 }
 
-fn group_names_stranger(scope: &Scope, group: &Option<ColRef>) -> bool
-    ensures { result ≡ list_any (scopes.is_stranger scope.now) (option_to_list group.now) }
+fn group_has_unknown_column(scope: &Scope, group: &Option<ColRef>) -> bool
+    ensures { result ≡ list_any (scopes.is_unknown_column scope.now) (option_to_list group.now) }
 {
     match group {
-        Some(column) => scope.is_stranger(column),
+        Some(column) => scope.is_unknown_column(column),
         None => false,
     }
 }
 
-fn where_names_stranger(scope: &Scope, cond: &Option<Cond>) -> bool
-    ensures { result ≡ scopes.where_names_stranger scope.now cond.now }
+fn where_has_unknown_column(scope: &Scope, cond: &Option<Cond>) -> bool
+    ensures { result ≡ scopes.where_has_unknown_column scope.now cond.now }
 {
     match cond {
-        Some(cond) => scope.names_stranger(cond),
+        Some(cond) => scope.has_unknown_column(cond),
         None => false,
     }
 }
 
-fn keys_or_group_name_stranger(scope: &Scope, select: &Select) -> bool
-    ensures { result ≡ (list_any (scopes.is_stranger scope.now) (option_to_list select.now.group) || list_any (λ (key : Key). scopes.is_stranger scope.now key.col) select.now.order) }
+fn keys_or_group_have_unknown_column(scope: &Scope, select: &Select) -> bool
+    ensures { result ≡ (list_any (scopes.is_unknown_column scope.now) (option_to_list select.now.group) || list_any (λ (key : Key). scopes.is_unknown_column scope.now key.col) select.now.order) }
 {
-    group_names_stranger(scope, &select.group) || keys_name_stranger(scope, select.order.as_slice())
+    group_has_unknown_column(scope, &select.group)
+        || keys_have_unknown_column(scope, select.order.as_slice())
 }
 
 /// Whether the query names a column that is not there, outside its condition.
-fn columns_name_stranger(scope: &Scope, select: &Select) -> bool
-    ensures { result ≡ list_any (scopes.is_stranger scope.now) (queries.columns_named select.now) }
+fn columns_have_unknown_column(scope: &Scope, select: &Select) -> bool
+    ensures { result ≡ list_any (scopes.is_unknown_column scope.now) (queries.columns_named select.now) }
 {
-    items_name_stranger(scope, listed(&select.items)) || keys_or_group_name_stranger(scope, select)
+    items_have_unknown_column(scope, listed(&select.items))
+        || keys_or_group_have_unknown_column(scope, select)
 }
 
 // ---- columns that do not fit each other
 
 fn is_plain(item: &Item) -> bool
-    ensures { result ≡ queries.is_plain item.now }
+    ensures { result ≡ queries.is_plain_item item.now }
 {
     matches!(item, Item::Col(_))
 }
 
 /// Whether the rows are counted or summed.
 pub fn aggregates(items: &Items) -> bool
-    ensures { result ≡ queries.aggregates items.now }
+    ensures { result ≡ queries.has_aggregate items.now }
 {
     listed(items).iter().any(|item| !is_plain(item))
 }
@@ -138,7 +142,7 @@ fn keys_leave_group(scope: &Scope, group: &ColRef, keys: &[Key]) -> bool
 }
 
 fn any_plain(items: &[Item]) -> bool
-    ensures { result ≡ list_any queries.is_plain items.now }
+    ensures { result ≡ list_any queries.is_plain_item items.now }
 {
     items.iter().any(|item| is_plain(item))
 }
@@ -182,7 +186,7 @@ fn where_mixes_kinds(scope: &Scope, cond: &Option<Cond>) -> bool
 }
 
 fn mixes_kinds(scope: &Scope, select: &Select) -> bool
-    ensures { result ≡ (scopes.where_mixes_kinds scope.now select.now.cond || list_any (queries.sums_text scope.now) (queries.listed select.now.items)) }
+    ensures { result ≡ (scopes.where_mixes_kinds scope.now select.now.cond || list_any (queries.sums_text scope.now) (queries.items_listed select.now.items)) }
 {
     where_mixes_kinds(scope, &select.cond) || any_sums_text(scope, listed(&select.items))
 }
@@ -194,7 +198,7 @@ fn mixes_kinds(scope: &Scope, select: &Select) -> bool
 pub fn refusal(scope: &Scope, select: &Select) -> Option<u16>
     ensures { result ≡ refused.code_of scope.now select.now }
 {
-    if columns_name_stranger(scope, select) || where_names_stranger(scope, &select.cond) {
+    if columns_have_unknown_column(scope, select) || where_has_unknown_column(scope, &select.cond) {
         return Some(NO_COLUMN);
     }
     if has_bad_columns(scope, select) {

@@ -1,7 +1,7 @@
 //! The rows of a table, from the first on or from the last.
 
 ghost use Rattle.std.specs.Iterator.{YieldsFirstRef, item_count};
-ghost use Rattle.cj_query.specs.Cursors.{rows_left};
+ghost use Rattle.cj_query.specs.Cursors.{rows_of_cursor};
 
 use cj_model::Row;
 use cj_table::{Scan, ScanBack};
@@ -18,9 +18,9 @@ pub enum Cursor<'a> {
 impl<'a> Iterator for Cursor<'a> {
     type Item = &'a Row;
 
-    ghost next_gives = { YieldsFirstRef rows_left };
+    ghost next_gives = { YieldsFirstRef rows_of_cursor };
 
-    ghost remaining = { item_count rows_left };
+    ghost remaining = { item_count rows_of_cursor };
 
     fn next(&mut self) -> Option<&'a Row> {
         match self {

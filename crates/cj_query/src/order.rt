@@ -3,10 +3,10 @@
 ghost use Rattle.std.specs.Prelude.{◌≡◌, map, IfOk, OnOk};
 ghost use Rattle.std.specs.Map.Iter.{deref};
 ghost use Rattle.std.specs.Ordering.{is_lt};
-ghost use Rattle.cj_model.specs.Order.{before, by_sort_key, by_sort_keys, ordered};
-ghost use Rattle.cj_model.specs.Queries.{first_of};
-ghost use Rattle.cj_model.specs.Queries as queries;
-ghost use Rattle.cj_model.specs.Tables.{by_key};
+ghost use Rattle.cj_model.specs.Database.Order.{sorts_before, by_sort_key, by_sort_keys, sorted_by};
+ghost use Rattle.cj_model.specs.Database.Queries.{first_row};
+ghost use Rattle.cj_model.specs.Database.Queries as queries;
+ghost use Rattle.cj_model.specs.Database.Tables.{by_key};
 ghost use Rattle.cj_query.specs.Gathered.{sorted_at};
 ghost use Rattle.cj_query.specs.Groups.{rows_in};
 
@@ -24,7 +24,7 @@ pub struct SortKey {
 }
 
 impl Model for SortKey {
-    ghost use Rattle.cj_model.specs.Order as order;
+    ghost use Rattle.cj_model.specs.Database.Order as order;
 
     ghost Value = { order.SortKey };
 
@@ -96,7 +96,7 @@ pub fn sort_at(rows: &mut Vec<&Row>, place: usize) -> Result<(), NoMemory>
 
 /// The values of a group's first row, none of an empty group.
 pub fn first_values<'a>(group: &[&'a Row]) -> &'a [Value]
-    ensures { result.now ≡ first_of (map deref group.now) }
+    ensures { result.now ≡ first_row (map deref group.now) }
 {
     match group.first() {
         Some(row) => row.as_slice(),
@@ -106,7 +106,7 @@ pub fn first_values<'a>(group: &[&'a Row]) -> &'a [Value]
 
 /// Puts groups in the order of their first rows by the keys; groups that tie stay as they are.
 pub fn sort_groups(groups: &mut Vec<&[&Row]>, keys: &[SortKey]) -> Result<(), NoMemory>
-    ensures { OnOk result (rows_in groups.new.items ≡ ordered (λ g h. before keys.now (first_of g) (first_of h)) (rows_in groups.old.items)) }
+    ensures { OnOk result (rows_in groups.new.items ≡ sorted_by (λ g h. sorts_before keys.now (first_row g) (first_row h)) (rows_in groups.old.items)) }
 {
     if keys.is_empty() {
         return Ok(());

@@ -27,7 +27,7 @@ pub enum Projection {
 
 /// The item by place. A column that is not there stands for the first.
 fn bound(scope: &Scope, item: &Item) -> BoundItem
-    ensures { result ≡ projections.bound scope.now item.now }
+    ensures { result ≡ projections.bound_item_of scope.now item.now }
 {
     match item {
         Item::Col(column) => BoundItem::Value(place_in(scope, column)),
@@ -37,7 +37,7 @@ fn bound(scope: &Scope, item: &Item) -> BoundItem
 }
 
 fn bound_each(alloc: Global, scope: &Scope, items: &[Item]) -> Result<Vec<BoundItem>, NoMemory>
-    ensures { IfOk result (λ out. out.items ≡ map (projections.bound scope.now) items.now) }
+    ensures { IfOk result (λ out. out.items ≡ map (projections.bound_item_of scope.now) items.now) }
 {
     let mut out = Vec::new(alloc);
     for item in items {

@@ -10,12 +10,12 @@ use Rattle.cj_model.specs.declared.database.Slot.{Slot}
 use Rattle.cj_model.specs.declared.request.Entry.{Entry}
 use Rattle.cj_model.specs.declared.select.Select.{Select}
 use Rattle.cj_model.specs.declared.answer.Asked.{Asked}
-use Rattle.cj_model.specs.Steps.{step}
-use Rattle.cj_model.specs.Queries.{ask}
-use Rattle.cj_model.specs.Placements.{everywhere, concerns}
+use Rattle.cj_model.specs.Database.Steps.{step}
+use Rattle.cj_model.specs.Database.Queries.{ask}
+use Rattle.cj_model.specs.Cluster.Placements.{everywhere, concerns}
 use Rattle.cj_backend.specs.declared.backend.BackendError.{BackendError}
 use Rattle.cj_backend.specs.declared.backend.BackendError.TheVariants as backend_errors
-use Rattle.cj_model.specs.Outcomes.{IsOutcome}
+use Rattle.cj_model.specs.Database.Outcomes.{IsOutcome}
 use Rattle.cj_backend.specs.Backends.{Arming, spent}
 use Rattle.cj_replica.specs.declared.cell.Caught.{Caught}
 use Rattle.cj_replica.specs.declared.cell.Caught.TheVariants.{Skipped, Did}
@@ -42,9 +42,9 @@ pub record CellState : Type 0 where
 -- ---- taking an entry
 
 -- entry n is the one behind this position
-abbrev pub IsNext : Option ℕ → ℕ → Type 0
-IsNext None n = ⊥
-IsNext (Some p) n = n ≡ p + 1
+abbrev pub IsNextEntry : Option ℕ → ℕ → Type 0
+IsNextEntry None n = ⊥
+IsNextEntry (Some p) n = n ≡ p + 1
 
 -- whether an entry outside a transaction concerns the backend, where each hosts every table
 abbrev pub is_concerned : CellState → Entry → Bool
@@ -62,16 +62,16 @@ position_after n (Ok caught) = Some n
 position_after n (Err e) = None
 
 -- the outcome is that of the entry on the database that was told
-abbrev pub SaysOutcome : Option (List Slot) → Entry → Result Caught CellError → Type 0
-SaysOutcome told e (Ok Skipped) = Unit {0}
-SaysOutcome told e (Ok (Did o)) = IfSome told (λ db. o ≡ (step db e).outcome)
-SaysOutcome told e (Err d) = Unit {0}
+abbrev pub SaysEntryOutcome : Option (List Slot) → Entry → Result Caught CellError → Type 0
+SaysEntryOutcome told e (Ok Skipped) = Unit {0}
+SaysEntryOutcome told e (Ok (Did o)) = IfSome told (λ db. o ≡ (step db e).outcome)
+SaysEntryOutcome told e (Err d) = Unit {0}
 
 -- what is told then: the entry's database, where one was told, or as before if the entry was skipped; and after an error nothing
-abbrev pub told_after : Option (List Slot) → Entry → Result Caught CellError → Option (List Slot)
-told_after told e (Ok Skipped) = told
-told_after told e (Ok (Did o)) = option_map (λ db. (step db e).db) told
-told_after told e (Err d) = None
+abbrev pub told_after_entry : Option (List Slot) → Entry → Result Caught CellError → Option (List Slot)
+told_after_entry told e (Ok Skipped) = told
+told_after_entry told e (Ok (Did o)) = option_map (λ db. (step db e).db) told
+told_after_entry told e (Err d) = None
 
 -- what a cell may answer to an entry
 abbrev pub IsCaught : Caught → Type 0
@@ -95,8 +95,8 @@ error_of backend_errors.NoMemory = errors.Starved
 -- ---- reading
 
 -- the answer is that of the query on the database that is told
-abbrev pub SaysAnswer : Option (List Slot) → ℕ → Select → Asked → Type 0
-SaysAnswer told tx select answer = IfSome told (λ db. answer ≡ ask db tx select)
+abbrev pub SaysReadAnswer : Option (List Slot) → ℕ → Select → Asked → Type 0
+SaysReadAnswer told tx select answer = IfSome told (λ db. answer ≡ ask db tx select)
 
 -- the same of a read
 abbrev pub HasCellReadCause : ℕ → ℕ → Result (Asked × ℕ) CellReadError → Type 0

@@ -2,10 +2,10 @@
 
 ghost use Rattle.std.specs.Prelude.{◌≡◌, ◌↔◌, ◌<◌, ◌≤◌, ℕ, not, Some, None, Ok, Err, IfOk};
 ghost use Rattle.cj_model.specs.declared.request.Request.TheVariants as request;
-ghost use Rattle.cj_model.specs.Legality.{IsWritten};
-ghost use Rattle.cj_model.specs.Plain.{request_of};
-ghost use Rattle.cj_model.specs.Sound.{IsLone};
-ghost use Rattle.cj_model.specs.Outcomes.{IsOutcome, IsAsked};
+ghost use Rattle.cj_model.specs.Cluster.Legality.{IsWritten};
+ghost use Rattle.cj_model.specs.Sql.PlainRequests.{request_of};
+ghost use Rattle.cj_model.specs.Proving.Invariants.{IsLoneEntry};
+ghost use Rattle.cj_model.specs.Database.Outcomes.{IsOutcome, IsAsked};
 ghost use Rattle.cj_backend.specs.Backends as backends;
 
 use cj_backend::{Backend, BackendError};
@@ -96,7 +96,7 @@ impl<B: Backend> Model for Cell<B> {
 }
 
 impl<B: Backend> Cell<B> {
-    ghost use Rattle.cj_replica.specs.Cells.{HasCellCause, HasCellReadCause, IsCaught, IsNext, SaysAnswer, SaysOutcome, SpendsArmingIf, is_asked, is_concerned, is_skipped, position_after, told_after};
+    ghost use Rattle.cj_replica.specs.Cells.{HasCellCause, HasCellReadCause, IsCaught, IsNextEntry, SaysReadAnswer, SaysEntryOutcome, SpendsArmingIf, is_asked, is_concerned, is_skipped, position_after, told_after_entry};
 
     /// Backend `b` of so many, which has taken no entry.
     pub fn new(b: u8, backends: u8, backend: B) -> Cell<B>
@@ -112,18 +112,18 @@ impl<B: Backend> Cell<B> {
 
     /// Takes entry `n`, the next, under this login.
     pub fn catch_up(&mut self, n: u64, e: &Entry, login: &Text) -> Result<Caught, CellError>
-        requires next { IsNext self.old.position n }
+        requires next { IsNextEntry self.old.position n }
         requires written { IsWritten (request_of e.now.act) }
-        requires lone { IsLone e.now e.now.act }
+        requires lone { IsLoneEntry e.now e.now.act }
 
         ensures concerned { is_concerned self.old e.now ≡ not (is_skipped result) }
-        ensures outcome { SaysOutcome self.old.told e.now result }
+        ensures outcome { SaysEntryOutcome self.old.told e.now result }
         ensures possible { IfOk result IsCaught }
         ensures cause { HasCellCause self.old.faults self.new.faults result }
         ensures asks { self.new.asks ≡ self.old.asks }
         ensures arming { SpendsArmingIf (not (is_skipped result)) (result ≡ Err CellError.Failed) self.old.arming self.new.arming }
 
-        ensures told { self.new.told ≡ told_after self.old.told e.now result }
+        ensures told { self.new.told ≡ told_after_entry self.old.told e.now result }
         ensures position { self.new.position ≡ position_after n result }
         ensures b { self.new.b ≡ self.old.b }
         ensures backends { self.new.backends ≡ self.old.backends }
@@ -151,7 +151,7 @@ impl<B: Backend> Cell<B> {
         requires { IsWritten (request.Select select.now) }
         ensures out { (result ≡ Err CellReadError.Out) ↔ (self.old.position ≡ None) }
         ensures behind { (p : ℕ) → (result ≡ Err (CellReadError.Behind p)) ↔ ((self.old.position ≡ Some p) × (p < least)) }
-        ensures answer { IfOk result (λ (answer, at). SaysAnswer self.old.told tx select.now answer) }
+        ensures answer { IfOk result (λ (answer, at). SaysReadAnswer self.old.told tx select.now answer) }
         ensures possible { IfOk result (λ (answer, at). IsAsked answer) }
         ensures at { IfOk result (λ (answer, at). self.old.position ≡ Some at) }
         ensures owed { IfOk result (λ (answer, at). least ≤ at) }
@@ -209,7 +209,7 @@ impl<B: Backend> Cell<B> {
 /// Carries out an entry outside a transaction.
 fn carry_out<B: Backend>(backend: &mut B, e: &Entry, login: &Text) -> Result<Outcome, BackendError>
     requires written { IsWritten (request_of e.now.act) }
-    requires lone { IsLone e.now e.now.act }
+    requires lone { IsLoneEntry e.now e.now.act }
     ensures outcome { backends.SaysOutcome (B.told backend.old) e.now.tx e.now.act result }
     ensures possible { IfOk result IsOutcome }
     ensures told { B.told backend.new ≡ backends.told_after (B.told backend.old) e.now.tx e.now.act result }

@@ -8,9 +8,9 @@ use Rattle.cj_model.specs.declared.answer.Answer.{Answer}
 use Rattle.cj_model.specs.declared.answer.Reply.TheVariants.{Rows}
 use Rattle.cj_model.specs.declared.value.Value.{Value}
 use Rattle.cj_model.specs.declared.value.Value.TheVariants.{Int, Text}
-use Rattle.cj_model.specs.Fields.{str16}
-use Rattle.cj_model.specs.Words.{is_name, IsNameOrEmpty}
-use Rattle.cj_model.specs.Replies.{value_bytes, row_bytes, reply_length, IsEven}
+use Rattle.cj_model.specs.Wire.Fields.{str16}
+use Rattle.cj_model.specs.Sql.Names.{is_name, IsNameOrEmpty}
+use Rattle.cj_model.specs.Wire.Replies.{value_bytes, row_bytes, reply_length, IsEven}
 
 -- a part is no longer than all of them
 pub part_within : {X : Type 0} (f : X → List ℕ) (xs : List X) (i most : ℕ) (x : X) → i < length xs → x ≡ get_or xs i x → length (flat_map f xs) ≤ most → length (f x) ≤ most

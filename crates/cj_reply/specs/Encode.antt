@@ -4,7 +4,7 @@ use Rattle.std.specs.Global.{Vec}
 use Rattle.cj_model.specs.declared.answer.Reply.{Reply}
 use Rattle.cj_model.specs.declared.answer.Reply.TheVariants.{Done, Rows, Stats, Refused}
 use Rattle.cj_model.specs.declared.limits.TheConstants.{FRAME_LIMIT}
-use Rattle.cj_model.specs.Replies.{reply_bytes, reply_length, IsEven}
+use Rattle.cj_model.specs.Wire.Replies.{reply_bytes, reply_length, IsEven}
 use Rattle.cj_reply.specs.declared.reply.ReplyError.{ReplyError}
 use Rattle.cj_reply.specs.declared.reply.ReplyError.TheVariants.{TooLarge, NoMemory}
 

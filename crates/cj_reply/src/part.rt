@@ -2,8 +2,8 @@
 
 ghost use Rattle.std.specs.Prelude.{◌≡◌, ◌≤◌, ◌++◌, ℕ, List, length, OnOk};
 ghost use Rattle.std.specs.List.{flat_map};
-ghost use Rattle.cj_model.specs.Fields.{str16};
-ghost use Rattle.cj_model.specs.Replies.{value_bytes};
+ghost use Rattle.cj_model.specs.Wire.Fields.{str16};
+ghost use Rattle.cj_model.specs.Wire.Replies.{value_bytes};
 ghost use Rattle.cj_reply.specs.Encode.{capped};
 
 use cj_model::{FRAME_LIMIT, ListOf, Name, NoMemory, Value};

@@ -1,7 +1,7 @@
 //! Replies as bytes.
 
 ghost use Rattle.std.specs.Prelude.{◌≡◌, ◌≤◌, ◌++◌, IfOk, OnOk};
-ghost use Rattle.cj_model.specs.Replies.{reply_body, reply_bytes, reply_length, IsEven};
+ghost use Rattle.cj_model.specs.Wire.Replies.{reply_body, reply_bytes, reply_length, IsEven};
 ghost use Rattle.cj_model.specs.declared.answer.Reply.TheVariants.{Done, Rows, Stats, Refused};
 ghost use Rattle.cj_reply.specs.Encode.{capped, Encodes, IsSendable};
 

@@ -14,9 +14,9 @@ use Rattle.cj_model.specs.declared.schema.Schema.{Schema}
 use Rattle.cj_model.specs.declared.database.Draft.{Draft}
 use Rattle.cj_model.specs.declared.database.Slot.{Slot}
 use Rattle.cj_model.specs.declared.database.Table.{Table}
-use Rattle.cj_model.specs.Values.{value_cmp, value_total, value_exact}
-use Rattle.cj_model.specs.Tables.{IsSlot, Rises, by_key, cell, put_by}
-use Rattle.cj_model.specs.Steps.{seen, seen_behind}
+use Rattle.cj_model.specs.Database.Values.{value_cmp, value_total, value_exact}
+use Rattle.cj_model.specs.Database.Tables.{IsSlot, Rises, by_key, cell, put_by}
+use Rattle.cj_model.specs.Database.Steps.{seen, seen_behind}
 use Rattle.cj_model.proofs.RisingLaws.{equal_from}
 use Rattle.cj_rows.specs.Entries.{KeysRise, at}
 use Rattle.cj_rows.specs.Layers.{merged}

@@ -11,9 +11,9 @@ use Rattle.std.proofs.lemmas.Bool.{cases_Bool, cond-true, cond-false}
 use Rattle.std.proofs.lemmas.Cmp.{tied_itself}
 use Rattle.std.proofs.lemmas.List.{append-nil, map-append, reverse-append}
 use Rattle.cj_model.specs.declared.value.Value.{Value}
-use Rattle.cj_model.specs.Values.{value_cmp, value_total, value_exact}
+use Rattle.cj_model.specs.Database.Values.{value_cmp, value_total, value_exact}
 use Rattle.cj_rows.specs.Entries as entries
-use Rattle.cj_rows.specs.Layers.{changed, given, kept, listed, merged, onto}
+use Rattle.cj_rows.specs.Layers.{changed, given, kept, option_as_list, merged, onto}
 use Rattle.cj_rows.specs.RowEntries.{RowEntries, Rows, overlaid, turn}
 use Rattle.cj_rows.proofs.EntryLaws.{at_insert, at_merged, eq_true, note_change, pick, remove_absent, rise_insert, rise_kept, rise_merged, same_entries}
 
@@ -159,19 +159,19 @@ Rising es = entries.KeysRise value_cmp es
 abbrev pub back : RowEntries → RowEntries → Rows
 back es cs = reverse (values_of (overlaid es cs))
 
-last_row : (m : List (Value × List Value)) (k : Value) (w : Option (List Value)) → reverse (values_of (m ++ given k w [])) ≡ listed w ++ reverse (values_of m)
+last_row : (m : List (Value × List Value)) (k : Value) (w : Option (List Value)) → reverse (values_of (m ++ given k w [])) ≡ option_as_list w ++ reverse (values_of m)
 last_row m k None = ap (λ (l : List (Value × List Value)). reverse (values_of l)) (append-nil m)
 last_row m k (Some v) = ap reverse (map-append (λ (e : Value × List Value). e.1) m ((k, v) ∷ [])) ∙ reverse-append (values_of m) (v ∷ [])
 
-last_of : (all m : List (Value × List Value)) (k : Value) (w : Option (List Value)) → all ≡ m ++ given k w [] → reverse (values_of all) ≡ listed w ++ reverse (values_of m)
+last_of : (all m : List (Value × List Value)) (k : Value) (w : Option (List Value)) → all ≡ m ++ given k w [] → reverse (values_of all) ≡ option_as_list w ++ reverse (values_of m)
 last_of all m k w e = ap (λ (l : List (Value × List Value)). reverse (values_of l)) e ∙ last_row m k w
 
 -- of a table without changes
-pub kept_back : (es : RowEntries) (k : Value) (w : Option (List Value)) → reverse (values_of (kept (es ++ (k, w) ∷ []))) ≡ listed w ++ reverse (values_of (kept es))
+pub kept_back : (es : RowEntries) (k : Value) (w : Option (List Value)) → reverse (values_of (kept (es ++ (k, w) ∷ []))) ≡ option_as_list w ++ reverse (values_of (kept es))
 kept_back es k w = last_of (kept (es ++ (k, w) ∷ [])) (kept es) k w (kept_last value_cmp es k w)
 
 -- an entry above all changes
-pub entry_back : (es cs : RowEntries) (k : Value) (w : Option (List Value)) → Rising (es ++ (k, w) ∷ []) → Rising cs → KeysBelow value_cmp k cs → back (es ++ (k, w) ∷ []) cs ≡ listed w ++ back es cs
+pub entry_back : (es cs : RowEntries) (k : Value) (w : Option (List Value)) → Rising (es ++ (k, w) ∷ []) → Rising cs → KeysBelow value_cmp k cs → back (es ++ (k, w) ∷ []) cs ≡ option_as_list w ++ back es cs
 entry_back es cs k None u v under = ap (λ (bs : List (Value × List Value)). reverse (values_of (merged value_cmp bs cs))) (kept_last value_cmp es k None ∙ append-nil (kept es))
 entry_back es cs k (Some r) u v under =
     let front : Rising es = rise_front value_cmp es (k, Some r) u in
@@ -180,28 +180,28 @@ entry_back es cs k (Some r) u v under =
     ∙ entry_last value_cmp value_total value_exact (kept es) cs k (rise_kept value_cmp value_total value_exact es front) v (below_kept value_cmp k es (below_last value_cmp es (k, Some r) u)) under r)
 
 -- a change above all entries
-pub change_back : (es cs : RowEntries) (k : Value) (w : Option (List Value)) → Rising es → Rising (cs ++ (k, w) ∷ []) → KeysBelow value_cmp k es → back es (cs ++ (k, w) ∷ []) ≡ listed w ++ back es cs
+pub change_back : (es cs : RowEntries) (k : Value) (w : Option (List Value)) → Rising es → Rising (cs ++ (k, w) ∷ []) → KeysBelow value_cmp k es → back es (cs ++ (k, w) ∷ []) ≡ option_as_list w ++ back es cs
 change_back es cs k w u v low =
     last_of (overlaid es (cs ++ (k, w) ∷ [])) (overlaid es cs) k w
     (change_last value_cmp value_total value_exact (kept es) cs k (rise_kept value_cmp value_total value_exact es u) (rise_front value_cmp cs (k, w) v) (below_kept value_cmp k es low) (below_last value_cmp cs (k, w) v) w)
 
 module _ (es cs : RowEntries) (key at : Value) (row new : Option (List Value)) (u : Rising (es ++ (key, row) ∷ [])) (v : Rising (cs ++ (at, new) ∷ [])) where
   -- the entry's turn, the change's, and that of both
-  pub first_back : (w : Option (List Value)) → w ≡ row → turn w (value_cmp at key) ≡ Less → back (es ++ (key, row) ∷ []) (cs ++ (at, new) ∷ []) ≡ listed row ++ back es (cs ++ (at, new) ∷ [])
-  first_back None e t = subst (λ w. back (es ++ (key, w) ∷ []) (cs ++ (at, new) ∷ []) ≡ listed w ++ back es (cs ++ (at, new) ∷ [])) e
+  pub first_back : (w : Option (List Value)) → w ≡ row → turn w (value_cmp at key) ≡ Less → back (es ++ (key, row) ∷ []) (cs ++ (at, new) ∷ []) ≡ option_as_list row ++ back es (cs ++ (at, new) ∷ [])
+  first_back None e t = subst (λ w. back (es ++ (key, w) ∷ []) (cs ++ (at, new) ∷ []) ≡ option_as_list w ++ back es (cs ++ (at, new) ∷ [])) e
       (ap (λ (bs : List (Value × List Value)). reverse (values_of (merged value_cmp bs (cs ++ (at, new) ∷ [])))) (kept_last value_cmp es key None ∙ append-nil (kept es)))
   first_back (Some r) e t =
       entry_back es (cs ++ (at, new) ∷ []) key row u v
       (below_all value_cmp key cs (at, new) (below_more value_cmp value_total value_exact at key cs t (below_last value_cmp cs (at, new) v)) t)
 
-  pub second_back : (w : Option (List Value)) → turn w (value_cmp at key) ≡ Greater → back (es ++ (key, row) ∷ []) (cs ++ (at, new) ∷ []) ≡ listed new ++ back (es ++ (key, row) ∷ []) cs
+  pub second_back : (w : Option (List Value)) → turn w (value_cmp at key) ≡ Greater → back (es ++ (key, row) ∷ []) (cs ++ (at, new) ∷ []) ≡ option_as_list new ++ back (es ++ (key, row) ∷ []) cs
   second_back None t = cc t
   second_back (Some r) t =
       let less : value_cmp key at ≡ Less = value_total.antisymm key at ∙ ap ordering_reverse t in
       change_back (es ++ (key, row) ∷ []) cs at new u v
       (below_all value_cmp at es (key, row) (below_more value_cmp value_total value_exact key at es less (below_last value_cmp es (key, row) u)) less)
 
-  pub both_back : (w : Option (List Value)) → w ≡ row → turn w (value_cmp at key) ≡ Equal → back (es ++ (key, row) ∷ []) (cs ++ (at, new) ∷ []) ≡ listed new ++ back es cs
+  pub both_back : (w : Option (List Value)) → w ≡ row → turn w (value_cmp at key) ≡ Equal → back (es ++ (key, row) ∷ []) (cs ++ (at, new) ∷ []) ≡ option_as_list new ++ back es cs
   both_back None e t = cc t
   both_back (Some r) e t =
       let same : at ≡ key = value_exact at key t in

@@ -10,7 +10,7 @@ use Rattle.std.specs.BTreeMap.{insert_entry, is_at}
 use Rattle.std.specs.Map.{remove_entry}
 use Rattle.std.proofs.lemmas.List.Elements.{All-nil, All-cons, All-head, All-tail, All-weaker, All-append}
 use Rattle.cj_model.specs.declared.value.Value.{Value}
-use Rattle.cj_model.specs.Values.{value_cmp, value_total, value_exact}
+use Rattle.cj_model.specs.Database.Values.{value_cmp, value_total, value_exact}
 use Rattle.cj_rows.specs.Entries.{KeysRise, KeysAbove, at}
 use Rattle.cj_rows.specs.Layers.{kept, merged, changed}
 use Rattle.cj_rows.specs.RowEntries.{RowEntries, knows, KnowsKeys, overlaid, Extends, HasKeysOf}

@@ -10,8 +10,8 @@ use Rattle.std.proofs.lemmas.Bool.{cases_Bool, cond-true, cond-false}
 use Rattle.std.proofs.lemmas.Cmp.{tied_itself}
 use Rattle.std.proofs.lemmas.List.Elements.{All-nil, All-cons, All-head, All-tail}
 use Rattle.cj_model.specs.declared.value.Value.{Value}
-use Rattle.cj_model.specs.Values.{value_cmp, value_total, value_exact}
-use Rattle.cj_model.specs.Tables.{cell, by_key, put_by, Rises}
+use Rattle.cj_model.specs.Database.Values.{value_cmp, value_total, value_exact}
+use Rattle.cj_model.specs.Database.Tables.{cell, by_key, put_by, Rises}
 use Rattle.cj_model.proofs.RisingLaws.{by_order}
 use Rattle.cj_rows.specs.Entries.{KeysRise, KeysAbove, at}
 use Rattle.cj_rows.specs.Layers.{merged, changed}

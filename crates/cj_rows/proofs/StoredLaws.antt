@@ -11,14 +11,14 @@ use Rattle.cj_model.specs.declared.value.Value.{Value}
 use Rattle.cj_model.specs.declared.schema.Schema.{Schema}
 use Rattle.cj_model.specs.declared.database.Slot.{Slot}
 use Rattle.cj_model.specs.declared.database.Table.{Table}
-use Rattle.cj_model.specs.Values.{value_cmp}
-use Rattle.cj_model.specs.Steps.{seen, other_writer}
+use Rattle.cj_model.specs.Database.Values.{value_cmp}
+use Rattle.cj_model.specs.Database.Steps.{seen, other_writer}
 use Rattle.cj_rows.specs.declared.stored.StoredDraft.{StoredDraft}
 use Rattle.cj_rows.specs.Entries.{KeysRise, at}
 use Rattle.cj_rows.specs.Layers.{kept, merged}
 use Rattle.cj_rows.specs.Lookups.{row_with_key}
 use Rattle.cj_rows.specs.RowEntries.{RowEntries, knows, KnowsKeys, keyed, overlaid, Extends, HasKeysOf}
-use Rattle.cj_rows.specs.Stored.{shown, shown_draft, AreRows, DraftHolds, Holds, rows_after, changed_slot, IsChangeOf}
+use Rattle.cj_rows.specs.Stored.{slot_shown, shown_draft, AreRows, DraftHolds, HoldsTable, rows_after, changed_slot, IsChangeOf}
 use Rattle.cj_rows.proofs.RowLaws.{at_keyed}
 use Rattle.cj_rows.proofs.RowEntryLaws.{known_still}
 
@@ -32,25 +32,25 @@ found_rows k n es v a = ap (at value_cmp v) a.own_keys ∙ at_keyed k v (values_
 
 -- ---- look-ups
 
-module _ (schema : Schema) (base : RowEntries) (n : ℕ) (o : Option StoredDraft) (tx : ℕ) (s : Slot) (e : shown schema base o ≡ s) (h : Holds schema.key base n o) (v : Value) where
+module _ (schema : Schema) (base : RowEntries) (n : ℕ) (o : Option StoredDraft) (tx : ℕ) (s : Slot) (e : slot_shown schema base o ≡ s) (h : HoldsTable schema.key base n o) (v : Value) where
   pub found_own : (d : StoredDraft) → o ≡ Some d → d.tx ≡ tx → at value_cmp v (overlaid base d.changes) ≡ row_with_key s.base.schema.key (seen s tx).rows v
   found_own d i t =
       found_rows schema.key d.count (overlaid base d.changes) v (subst (DraftHolds schema.key base) i h.draft).3
       ∙ ap (λ (u : Table). row_with_key schema.key u.rows v) (sym (cond-true _ _ _ (eq-eqb _ _ t)))
-      ∙ ap (λ (p : Option StoredDraft). row_with_key schema.key (seen (shown schema base p) tx).rows v) (sym i)
+      ∙ ap (λ (p : Option StoredDraft). row_with_key schema.key (seen (slot_shown schema base p) tx).rows v) (sym i)
       ∙ ap (λ (u : Slot). row_with_key u.base.schema.key (seen u tx).rows v) e
 
   pub found_other : (d : StoredDraft) → o ≡ Some d → (d.tx ≡ tx → ⊥) → at value_cmp v (kept base) ≡ row_with_key s.base.schema.key (seen s tx).rows v
   found_other d i t =
       found_rows schema.key n (kept base) v h.rows
       ∙ ap (λ (u : Table). row_with_key schema.key u.rows v) (sym (cond-false _ _ _ (ne_eqb _ _ t)))
-      ∙ ap (λ (p : Option StoredDraft). row_with_key schema.key (seen (shown schema base p) tx).rows v) (sym i)
+      ∙ ap (λ (p : Option StoredDraft). row_with_key schema.key (seen (slot_shown schema base p) tx).rows v) (sym i)
       ∙ ap (λ (u : Slot). row_with_key u.base.schema.key (seen u tx).rows v) e
 
   pub found_base : o ≡ None → at value_cmp v (kept base) ≡ row_with_key s.base.schema.key (seen s tx).rows v
   found_base i =
       found_rows schema.key n (kept base) v h.rows
-      ∙ ap (λ (p : Option StoredDraft). row_with_key schema.key (seen (shown schema base p) tx).rows v) (sym i)
+      ∙ ap (λ (p : Option StoredDraft). row_with_key schema.key (seen (slot_shown schema base p) tx).rows v) (sym i)
       ∙ ap (λ (u : Slot). row_with_key u.base.schema.key (seen u tx).rows v) e
 
 -- ---- a base that knows more keys
@@ -66,14 +66,14 @@ module _ (schema : Schema) (base base' : RowEntries) (n : ℕ) (x : Extends [] b
   prepared_draft None h = tt
   prepared_draft (Some d) h = (h.0, h.1, known_still base base' d.changes x.knows h.2, subst (λ (es : List (Value × List Value)). AreRows schema.key es d.count) (sym (same_overlaid d.changes)) h.3)
 
-  pub prepared_holds : (o : Option StoredDraft) → KeysRise value_cmp base' → Holds schema.key base n o → Holds schema.key base' n o
+  pub prepared_holds : (o : Option StoredDraft) → KeysRise value_cmp base' → HoldsTable schema.key base n o → HoldsTable schema.key base' n o
   prepared_holds o r h = record {
     rises = r;
     rows = subst (λ (es : List (Value × List Value)). AreRows schema.key es n) (sym same_rows) h.rows;
     draft = prepared_draft o h.draft;
   }
 
-  pub prepared_shown : (o : Option StoredDraft) → shown schema base' o ≡ shown schema base o
+  pub prepared_shown : (o : Option StoredDraft) → slot_shown schema base' o ≡ slot_shown schema base o
   prepared_shown None = ap (λ (es : List (Value × List Value)). record { base = record { schema = schema; rows = values_of es }; draft = None }) same_rows
   prepared_shown (Some d) = ap (λ (es : List (Value × List Value)). record { base = record { schema = schema; rows = values_of es }; draft = Some (record { tx = d.tx; table = record { schema = schema; rows = values_of (merged value_cmp es d.changes) } }) }) same_rows
 
@@ -88,8 +88,8 @@ above_zero n h = omega (arith, h)
 
 module _ (schema : Schema) (base : RowEntries) (n tx : ℕ) (changes : RowEntries) (n' : ℕ) where
   -- of the base
-  pub base_holds : (o : Option StoredDraft) → o ≡ None → tx ≡ 0 → Holds schema.key base n o → IsChangeOf schema.key (seen (shown schema base o) tx).rows changes n'
-      → (base' : RowEntries) → kept base' ≡ merged value_cmp (kept base) changes → KeysRise value_cmp base' → Holds schema.key base' n' o
+  pub base_holds : (o : Option StoredDraft) → o ≡ None → tx ≡ 0 → HoldsTable schema.key base n o → IsChangeOf schema.key (seen (slot_shown schema base o) tx).rows changes n'
+      → (base' : RowEntries) → kept base' ≡ merged value_cmp (kept base) changes → KeysRise value_cmp base' → HoldsTable schema.key base' n' o
   base_holds None i z h is base' e r = record {
     rises = r;
     rows = subst (λ (es : List (Value × List Value)). AreRows schema.key es n') (sym (e ∙ shown_keyed schema.key n (kept base) changes h.rows)) is.rows;
@@ -97,8 +97,8 @@ module _ (schema : Schema) (base : RowEntries) (n tx : ℕ) (changes : RowEntrie
   }
   base_holds (Some d) i z h is base' e r = cc i
 
-  pub base_shown : (o : Option StoredDraft) → o ≡ None → tx ≡ 0 → Holds schema.key base n o
-      → (base' : RowEntries) → kept base' ≡ merged value_cmp (kept base) changes → shown schema base' o ≡ changed_slot (shown schema base o) tx changes
+  pub base_shown : (o : Option StoredDraft) → o ≡ None → tx ≡ 0 → HoldsTable schema.key base n o
+      → (base' : RowEntries) → kept base' ≡ merged value_cmp (kept base) changes → slot_shown schema base' o ≡ changed_slot (slot_shown schema base o) tx changes
   base_shown None i z h base' e =
       ap (λ (es : List (Value × List Value)). record { base = record { schema = schema; rows = values_of es }; draft = None }) (e ∙ shown_keyed schema.key n (kept base) changes h.rows)
       ∙ sym (cond-true _ _ _ (eq-eqb _ _ z))
@@ -109,8 +109,8 @@ module _ (schema : Schema) (base : RowEntries) (n tx : ℕ) (changes : RowEntrie
     whole a = same_overlaid schema base base' n x changes ∙ shown_keyed schema.key n (kept base) changes a
 
     -- by a new draft
-    pub opened_holds : (o : Option StoredDraft) → o ≡ None → (tx ≡ 0 → ⊥) → Holds schema.key base n o → IsChangeOf schema.key (seen (shown schema base o) tx).rows changes n'
-        → Holds schema.key base' n (Some (record { tx = tx; changes = changes; count = n' }))
+    pub opened_holds : (o : Option StoredDraft) → o ≡ None → (tx ≡ 0 → ⊥) → HoldsTable schema.key base n o → IsChangeOf schema.key (seen (slot_shown schema base o) tx).rows changes n'
+        → HoldsTable schema.key base' n (Some (record { tx = tx; changes = changes; count = n' }))
     opened_holds None i z h is = record {
       rises = r;
       rows = (prepared_holds schema base base' n x None r h).rows;
@@ -118,8 +118,8 @@ module _ (schema : Schema) (base : RowEntries) (n tx : ℕ) (changes : RowEntrie
     }
     opened_holds (Some d) i z h is = cc i
 
-    pub opened_shown : (o : Option StoredDraft) → o ≡ None → (tx ≡ 0 → ⊥) → Holds schema.key base n o
-        → shown schema base' (Some (record { tx = tx; changes = changes; count = n' })) ≡ changed_slot (shown schema base o) tx changes
+    pub opened_shown : (o : Option StoredDraft) → o ≡ None → (tx ≡ 0 → ⊥) → HoldsTable schema.key base n o
+        → slot_shown schema base' (Some (record { tx = tx; changes = changes; count = n' })) ≡ changed_slot (slot_shown schema base o) tx changes
     opened_shown None i z h =
         ap (λ (es : List (Value × List Value)). record { base = record { schema = schema; rows = values_of es }; draft = Some (record { tx = tx; table = record { schema = schema; rows = values_of (overlaid base' changes) } }) }) (same_rows schema base base' n x)
         ∙ ap (λ (es : List (Value × List Value)). record { base = record { schema = schema; rows = values_of (kept base) }; draft = Some (record { tx = tx; table = record { schema = schema; rows = values_of es } }) }) (whole h.rows)
@@ -131,7 +131,7 @@ module _ (schema : Schema) (base : RowEntries) (n tx : ℕ) (changes : RowEntrie
       known_draft : KnowsKeys base d.changes → KnowsKeys base' d'.changes
       known_draft k = keys.each (knows base') (known_still base base' d.changes x.knows k) known
 
-      with_draft : (o : Option StoredDraft) → o ≡ Some d → Holds schema.key base n o → AreRows schema.key (overlaid base' d'.changes) d'.count → Holds schema.key base' n (Some d')
+      with_draft : (o : Option StoredDraft) → o ≡ Some d → HoldsTable schema.key base n o → AreRows schema.key (overlaid base' d'.changes) d'.count → HoldsTable schema.key base' n (Some d')
       with_draft o i h a =
           let old = subst (DraftHolds schema.key base) i h.draft in
           record {
@@ -141,45 +141,45 @@ module _ (schema : Schema) (base : RowEntries) (n tx : ℕ) (changes : RowEntrie
           }
 
       -- want of memory
-      pub failed_holds : (o : Option StoredDraft) → o ≡ Some d → Holds schema.key base n o → overlaid base' d'.changes ≡ overlaid base' d.changes → d'.count ≡ d.count → Holds schema.key base' n (Some d')
+      pub failed_holds : (o : Option StoredDraft) → o ≡ Some d → HoldsTable schema.key base n o → overlaid base' d'.changes ≡ overlaid base' d.changes → d'.count ≡ d.count → HoldsTable schema.key base' n (Some d')
       failed_holds o i h e c =
           let old = subst (DraftHolds schema.key base) i h.draft in
           with_draft o i h (subst (λ (m : ℕ). AreRows schema.key (overlaid base' d'.changes) m) (sym c)
           (subst (λ (es : List (Value × List Value)). AreRows schema.key es d.count) (sym (e ∙ same_overlaid schema base base' n x d.changes)) old.3))
 
       draft_shown : (l : List (Value × List Value)) → overlaid base' d'.changes ≡ l
-          → shown schema base' (Some d') ≡ record { base = record { schema = schema; rows = values_of (kept base) }; draft = Some (record { tx = d.tx; table = record { schema = schema; rows = values_of l } }) }
+          → slot_shown schema base' (Some d') ≡ record { base = record { schema = schema; rows = values_of (kept base) }; draft = Some (record { tx = d.tx; table = record { schema = schema; rows = values_of l } }) }
       draft_shown l e = λ j. record { base = record { schema = schema; rows = values_of (same_rows schema base base' n x j) }; draft = Some (record { tx = tx_same j; table = record { schema = schema; rows = values_of (e j) } }) }
 
-      pub failed_shown : (o : Option StoredDraft) → o ≡ Some d → overlaid base' d'.changes ≡ overlaid base' d.changes → shown schema base' (Some d') ≡ shown schema base o
-      failed_shown o i e = draft_shown (overlaid base d.changes) (e ∙ same_overlaid schema base base' n x d.changes) ∙ ap (shown schema base) (sym i)
+      pub failed_shown : (o : Option StoredDraft) → o ≡ Some d → overlaid base' d'.changes ≡ overlaid base' d.changes → slot_shown schema base' (Some d') ≡ slot_shown schema base o
+      failed_shown o i e = draft_shown (overlaid base d.changes) (e ∙ same_overlaid schema base base' n x d.changes) ∙ ap (slot_shown schema base) (sym i)
 
       -- the transaction's own
       own : (m : ℕ) → other_writer tx (Some (record { tx = m; table = record { schema = schema; rows = values_of (overlaid base d.changes) } })) ≡ None → m ≡ tx
       own m u = ⊎_elim (λ (t : (m == tx) ≡ true). eqb-true m tx t) (λ (f : (m == tx) ≡ false). cc (sym u ∙ cond-false _ _ _ f)) (cases_Bool (m == tx))
 
-      pub added_holds : (o : Option StoredDraft) → o ≡ Some d → Holds schema.key base n o → other_writer tx (shown_draft schema base o) ≡ None → IsChangeOf schema.key (seen (shown schema base o) tx).rows changes n'
-          → overlaid base' d'.changes ≡ merged value_cmp (overlaid base' d.changes) changes → d'.count ≡ n' → Holds schema.key base' n (Some d')
+      pub added_holds : (o : Option StoredDraft) → o ≡ Some d → HoldsTable schema.key base n o → other_writer tx (shown_draft schema base o) ≡ None → IsChangeOf schema.key (seen (slot_shown schema base o) tx).rows changes n'
+          → overlaid base' d'.changes ≡ merged value_cmp (overlaid base' d.changes) changes → d'.count ≡ n' → HoldsTable schema.key base' n (Some d')
       added_holds None i h u is e c = cc i
       added_holds (Some d₀) i h u is e c =
           let old = subst (DraftHolds schema.key base) i h.draft in
           let t : d.tx ≡ tx = own d.tx (ap (λ p. other_writer tx (shown_draft schema base p)) (sym i) ∙ u) in
-          let rows : (seen (shown schema base (Some d₀)) tx).rows ≡ values_of (overlaid base d.changes) = ap (λ p. (seen (shown schema base p) tx).rows) i ∙ ap (λ (w : Table). w.rows) (cond-true _ _ _ (eq-eqb _ _ t)) in
+          let rows : (seen (slot_shown schema base (Some d₀)) tx).rows ≡ values_of (overlaid base d.changes) = ap (λ p. (seen (slot_shown schema base p) tx).rows) i ∙ ap (λ (w : Table). w.rows) (cond-true _ _ _ (eq-eqb _ _ t)) in
           let es : overlaid base' d'.changes ≡ merged value_cmp (keyed schema.key (values_of (overlaid base d.changes))) changes
           = e ∙ ap (λ (es : List (Value × List Value)). merged value_cmp es changes) (same_overlaid schema base base' n x d.changes) ∙ shown_keyed schema.key d.count (overlaid base d.changes) changes old.3 in
           with_draft (Some d₀) i h (subst (λ (m : ℕ). AreRows schema.key (overlaid base' d'.changes) m) (sym c)
           (subst (λ (l : List (Value × List Value)). AreRows schema.key l n') (sym (es ∙ ap (λ (l : List (List Value)). merged value_cmp (keyed schema.key l) changes) (sym rows))) is.rows))
 
-      pub added_shown : (o : Option StoredDraft) → o ≡ Some d → Holds schema.key base n o → other_writer tx (shown_draft schema base o) ≡ None
-          → overlaid base' d'.changes ≡ merged value_cmp (overlaid base' d.changes) changes → shown schema base' (Some d') ≡ changed_slot (shown schema base o) tx changes
+      pub added_shown : (o : Option StoredDraft) → o ≡ Some d → HoldsTable schema.key base n o → other_writer tx (shown_draft schema base o) ≡ None
+          → overlaid base' d'.changes ≡ merged value_cmp (overlaid base' d.changes) changes → slot_shown schema base' (Some d') ≡ changed_slot (slot_shown schema base o) tx changes
       added_shown None i h u e = cc i
       added_shown (Some d₀) i h u e =
           let old = subst (DraftHolds schema.key base) i h.draft in
           let t : d.tx ≡ tx = own d.tx (ap (λ p. other_writer tx (shown_draft schema base p)) (sym i) ∙ u) in
           let z : tx ≡ 0 → ⊥ = λ q. absurd (omega (arith, old.0, t, q)) in
-          let rows : (seen (shown schema base (Some d₀)) tx).rows ≡ values_of (overlaid base d.changes) = ap (λ p. (seen (shown schema base p) tx).rows) i ∙ ap (λ (w : Table). w.rows) (cond-true _ _ _ (eq-eqb _ _ t)) in
+          let rows : (seen (slot_shown schema base (Some d₀)) tx).rows ≡ values_of (overlaid base d.changes) = ap (λ p. (seen (slot_shown schema base p) tx).rows) i ∙ ap (λ (w : Table). w.rows) (cond-true _ _ _ (eq-eqb _ _ t)) in
           let es : overlaid base' d'.changes ≡ merged value_cmp (keyed schema.key (values_of (overlaid base d.changes))) changes
           = e ∙ ap (λ (es : List (Value × List Value)). merged value_cmp es changes) (same_overlaid schema base base' n x d.changes) ∙ shown_keyed schema.key d.count (overlaid base d.changes) changes old.3 in
-          draft_shown (merged value_cmp (keyed schema.key (seen (shown schema base (Some d₀)) tx).rows) changes) (es ∙ ap (λ (l : List (List Value)). merged value_cmp (keyed schema.key l) changes) (sym rows))
-          ∙ ap (λ (m : ℕ). record { base = record { schema = schema; rows = values_of (kept base) }; draft = Some (record { tx = m; table = record { schema = schema; rows = rows_after schema.key (seen (shown schema base (Some d₀)) tx).rows changes } }) }) t
+          draft_shown (merged value_cmp (keyed schema.key (seen (slot_shown schema base (Some d₀)) tx).rows) changes) (es ∙ ap (λ (l : List (List Value)). merged value_cmp (keyed schema.key l) changes) (sym rows))
+          ∙ ap (λ (m : ℕ). record { base = record { schema = schema; rows = values_of (kept base) }; draft = Some (record { tx = m; table = record { schema = schema; rows = rows_after schema.key (seen (slot_shown schema base (Some d₀)) tx).rows changes } }) }) t
           ∙ sym (cond-false _ _ _ (ne_eqb _ _ z))

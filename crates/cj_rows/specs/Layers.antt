@@ -35,9 +35,9 @@ module _ {K X : Type 0} where
     changed es k (Some v) = insert_entry R es k v
 
 -- what is there, as a list
-abbrev pub listed : {X : Type 0} → Option X → List X
-listed None = []
-listed (Some x) = x ∷ []
+abbrev pub option_as_list : {X : Type 0} → Option X → List X
+option_as_list None = []
+option_as_list (Some x) = x ∷ []
 
 -- what is still to come, where `first` was taken and `rest` is left
 abbrev pub pending : {A X : Type 0} → (A → X) → Option A → List X → List X

@@ -3,10 +3,10 @@ use Rattle.std.specs.Prelude.{◌≡◌, ℕ, true, List, find}
 use Rattle.std.specs.Ordering.{is_eq}
 use Rattle.std.specs.declared.option.Option.{Option}
 use Rattle.cj_model.specs.declared.value.Value.{Value}
-use Rattle.cj_model.specs.Values.{value_cmp}
-use Rattle.cj_model.specs.Tables.{cell}
-use Rattle.cj_model.specs.Predicates.{Predicate}
-use Rattle.cj_model.specs.Evaluation.{meets}
+use Rattle.cj_model.specs.Database.Values.{value_cmp}
+use Rattle.cj_model.specs.Database.Tables.{cell}
+use Rattle.cj_model.specs.Database.Predicates.{Predicate}
+use Rattle.cj_model.specs.Database.Evaluation.{satisfies}
 
 -- the row that has this value in the key's column
 abbrev pub row_with_key : ℕ → List (List Value) → Value → Option (List Value)
@@ -14,4 +14,4 @@ row_with_key k rows v = find (λ r. is_eq (value_cmp (cell r k) v)) rows
 
 -- each row that meets the condition has this key
 pub record IsKeyOf (k : ℕ) (condition : Option Predicate) (v : Value) : Type 0 where
-  pub at : (row : List Value) → meets condition row ≡ true → cell row k ≡ v
+  pub at : (row : List Value) → satisfies condition row ≡ true → cell row k ≡ v

@@ -6,8 +6,8 @@ use Rattle.std.specs.declared.cmp.Ordering.{Ordering}
 use Rattle.std.specs.declared.cmp.Ordering.TheVariants.{Less}
 use Rattle.std.specs.BTreeMap.{insert_entry, is_at}
 use Rattle.cj_model.specs.declared.value.Value.{Value}
-use Rattle.cj_model.specs.Values.{value_cmp}
-use Rattle.cj_model.specs.Tables.{cell}
+use Rattle.cj_model.specs.Database.Values.{value_cmp}
+use Rattle.cj_model.specs.Database.Tables.{cell}
 use Rattle.cj_rows.specs.Entries.{KeysRise, at}
 use Rattle.cj_rows.specs.Layers.{kept, merged}
 

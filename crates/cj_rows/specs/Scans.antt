@@ -5,7 +5,7 @@ use Rattle.std.specs.Borrow.{Bor}
 use Rattle.std.specs.Map.{values_of}
 use Rattle.std.specs.Map.Iter.{deref_pair}
 use Rattle.cj_model.specs.declared.value.Value.{Value}
-use Rattle.cj_model.specs.Values.{value_cmp}
+use Rattle.cj_model.specs.Database.Values.{value_cmp}
 use Rattle.cj_rows.specs.declared.scan.Layered.{Layered}
 use Rattle.cj_rows.specs.declared.scan.Source.{Source}
 use Rattle.cj_rows.specs.declared.scan.Source.TheVariants as source
@@ -13,7 +13,7 @@ use Rattle.cj_rows.specs.declared.scan_back.LayeredBack.{LayeredBack}
 use Rattle.cj_rows.specs.declared.scan_back.SourceBack.{SourceBack}
 use Rattle.cj_rows.specs.declared.scan_back.SourceBack.TheVariants as source_back
 use Rattle.cj_rows.specs.Entries.{KeysRise}
-use Rattle.cj_rows.specs.Layers.{kept, listed, pending, pending_back}
+use Rattle.cj_rows.specs.Layers.{kept, option_as_list, pending, pending_back}
 use Rattle.cj_rows.specs.RowEntries.{RowEntries, Rows, overlaid}
 
 -- the entries that are left, and the changes
@@ -65,5 +65,5 @@ SourceRises (source_back.Layered l) = LayersRise l
 -- ---- steps
 
 -- a row was taken off the rows that are left, or none, where an entry was without one; or nothing was left
-abbrev pub Takes : {S : Type 0} → (S → Rows) → S → Option (Bor (Option (List Value))) → S → Type 0
-Takes rest old taken new = MatchOption taken ((rest old ≡ []) × (rest new ≡ [])) (λ row. rest old ≡ listed row.now ++ rest new)
+abbrev pub TakesRow : {S : Type 0} → (S → Rows) → S → Option (Bor (Option (List Value))) → S → Type 0
+TakesRow rest old taken new = MatchOption taken ((rest old ≡ []) × (rest new ≡ [])) (λ row. rest old ≡ option_as_list row.now ++ rest new)

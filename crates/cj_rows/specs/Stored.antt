@@ -7,8 +7,8 @@ use Rattle.cj_model.specs.declared.value.Value.{Value}
 use Rattle.cj_model.specs.declared.schema.Schema.{Schema}
 use Rattle.cj_model.specs.declared.database.Draft.{Draft}
 use Rattle.cj_model.specs.declared.database.Slot.{Slot}
-use Rattle.cj_model.specs.Values.{value_cmp}
-use Rattle.cj_model.specs.Steps.{seen, with_table}
+use Rattle.cj_model.specs.Database.Values.{value_cmp}
+use Rattle.cj_model.specs.Database.Steps.{seen, with_table}
 use Rattle.cj_rows.specs.declared.stored.StoredDraft.{StoredDraft}
 use Rattle.cj_rows.specs.Entries.{KeysRise}
 use Rattle.cj_rows.specs.Layers.{kept, merged}
@@ -20,8 +20,8 @@ abbrev pub shown_draft : Schema → RowEntries → Option StoredDraft → Option
 shown_draft schema base None = None
 shown_draft schema base (Some d) = Some (record { tx = d.tx; table = record { schema = schema; rows = values_of (overlaid base d.changes) } })
 
-abbrev pub shown : Schema → RowEntries → Option StoredDraft → Slot
-shown schema base draft = record { base = record { schema = schema; rows = values_of (kept base) }; draft = shown_draft schema base draft }
+abbrev pub slot_shown : Schema → RowEntries → Option StoredDraft → Slot
+slot_shown schema base draft = record { base = record { schema = schema; rows = values_of (kept base) }; draft = shown_draft schema base draft }
 
 -- ---- what is kept
 
@@ -35,7 +35,7 @@ abbrev pub DraftHolds : ℕ → RowEntries → Option StoredDraft → Type 0
 DraftHolds k base None = ⊤
 DraftHolds k base (Some d) = (0 < d.tx) × KeysRise value_cmp d.changes × KnowsKeys base d.changes × AreRows k (overlaid base d.changes) d.count
 
-pub record Holds (k : ℕ) (base : RowEntries) (n : ℕ) (d : Option StoredDraft) : Type 0 where
+pub record HoldsTable (k : ℕ) (base : RowEntries) (n : ℕ) (d : Option StoredDraft) : Type 0 where
   pub rises : KeysRise value_cmp base
   pub rows : AreRows k (kept base) n
   pub draft : DraftHolds k base d

@@ -1,7 +1,7 @@
 //! Keys of rows.
 
 ghost use Rattle.std.specs.Prelude.{◌≡◌, pos, IfOk};
-ghost use Rattle.cj_model.specs.Tables.{cell};
+ghost use Rattle.cj_model.specs.Database.Tables.{cell};
 
 use cj_model::{Duplicate, NoMemory, Row, Value};
 use std::alloc::Global;

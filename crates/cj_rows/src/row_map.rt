@@ -4,7 +4,7 @@ ghost use Rattle.std.specs.Prelude.{◌≡◌, ◌↔◌, ◌∷◌, [], true, N
 ghost use Rattle.std.specs.BTreeMap.{insert_entry, is_at};
 ghost use Rattle.std.specs.Map.{remove_entry, values_of};
 ghost use Rattle.std.specs.declared.cmp.Ordering.TheVariants.{Less};
-ghost use Rattle.cj_model.specs.Values.{value_cmp};
+ghost use Rattle.cj_model.specs.Database.Values.{value_cmp};
 ghost use Rattle.cj_rows.specs.Entries.{KeysRise, at};
 ghost use Rattle.cj_rows.specs.Layers.{changed, kept, merged};
 ghost use Rattle.cj_rows.specs.RowEntries as entries;
@@ -25,7 +25,7 @@ pub struct RowMap {
 }
 
 impl Model for RowMap {
-    ghost use Rattle.cj_model.specs.Values.{value_cmp};
+    ghost use Rattle.cj_model.specs.Database.Values.{value_cmp};
     ghost use Rattle.cj_rows.specs.Entries.{KeysRise};
     ghost use Rattle.cj_rows.specs.RowEntries.{RowEntries};
 

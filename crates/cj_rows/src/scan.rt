@@ -6,7 +6,7 @@ ghost use Rattle.std.specs.Map.{values_of};
 ghost use Rattle.cj_rows.specs.Layers.{kept};
 ghost use Rattle.cj_rows.specs.RowEntries.{overlaid};
 ghost use Rattle.cj_rows.specs.RowEntries as row_entries;
-ghost use Rattle.cj_rows.specs.Scans.{Takes, entry_count, rows_shown};
+ghost use Rattle.cj_rows.specs.Scans.{TakesRow, entry_count, rows_shown};
 
 use cj_model::{Row, Value};
 use std::cmp::Ordering;
@@ -76,7 +76,7 @@ impl<'a> Layered<'a> {
 
     /// Takes the first of the entries and changes, which may be without a row.
     fn take(&mut self) -> Option<&'a Option<Row>>
-        ensures shown { Takes rows_shown self.old result self.new }
+        ensures shown { TakesRow rows_shown self.old result self.new }
         ensures fewer { OnSome result (entry_count self.new < entry_count self.old) }
     {
         match (self.entry, self.change) {

@@ -3,11 +3,11 @@
 ghost use Rattle.std.specs.Prelude.{◌≡◌, ◌<◌, reverse, OnSome};
 ghost use Rattle.std.specs.Iterator.{YieldsFirstRef, item_count};
 ghost use Rattle.std.specs.Map.{values_of};
-ghost use Rattle.cj_model.specs.Values.{value_cmp};
+ghost use Rattle.cj_model.specs.Database.Values.{value_cmp};
 ghost use Rattle.cj_rows.specs.Entries.{KeysRise};
 ghost use Rattle.cj_rows.specs.Layers.{kept};
 ghost use Rattle.cj_rows.specs.RowEntries.{overlaid};
-ghost use Rattle.cj_rows.specs.Scans.{LayersRise, Takes, entry_count_back, rows_shown_back};
+ghost use Rattle.cj_rows.specs.Scans.{LayersRise, TakesRow, entry_count_back, rows_shown_back};
 
 use crate::scan::{Entries, Entry, turn};
 use cj_model::Row;
@@ -67,7 +67,7 @@ impl<'a> LayeredBack<'a> {
     /// Takes the last of the entries and changes, which may be without a row.
     fn take(&mut self) -> Option<&'a Option<Row>>
         requires { LayersRise self.old }
-        ensures shown { Takes rows_shown_back self.old result self.new }
+        ensures shown { TakesRow rows_shown_back self.old result self.new }
         ensures fewer { OnSome result (entry_count_back self.new < entry_count_back self.old) }
         ensures rises { LayersRise self.new }
     {

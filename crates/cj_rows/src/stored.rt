@@ -1,9 +1,9 @@
 //! A table as it is kept: its rows by their keys, and what a transaction has changed.
 
 ghost use Rattle.std.specs.Prelude.{◌≡◌, [], None, length, option_copied, option_map, reverse, OnOk, OnErr};
-ghost use Rattle.cj_model.specs.Steps.{aborted, committed, seen};
-ghost use Rattle.cj_model.specs.Steps as steps;
-ghost use Rattle.cj_model.specs.Values.{value_cmp};
+ghost use Rattle.cj_model.specs.Database.Steps.{aborted, committed, seen};
+ghost use Rattle.cj_model.specs.Database.Steps as steps;
+ghost use Rattle.cj_model.specs.Database.Values.{value_cmp};
 ghost use Rattle.cj_rows.specs.Entries.{KeysRise};
 ghost use Rattle.cj_rows.specs.Layers.{merged};
 ghost use Rattle.cj_rows.specs.Lookups.{row_with_key};
@@ -40,13 +40,13 @@ pub struct StoredTable {
 
 impl Model for StoredTable {
     ghost use Rattle.cj_model.specs.declared.database.Slot.{Slot};
-    ghost use Rattle.cj_rows.specs.Stored.{Holds, shown};
+    ghost use Rattle.cj_rows.specs.Stored.{HoldsTable, slot_shown};
 
     ghost Value = { Slot };
 
-    ghost view = { λ table. shown table.schema table.base table.draft };
+    ghost view = { λ table. slot_shown table.schema table.base table.draft };
 
-    ghost invariant = { λ table. Holds table.schema.key table.base table.count table.draft };
+    ghost invariant = { λ table. HoldsTable table.schema.key table.base table.count table.draft };
 }
 
 impl StoredDraft {

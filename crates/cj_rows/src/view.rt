@@ -1,8 +1,8 @@
 //! Tables as a transaction sees them.
 
 ghost use Rattle.std.specs.Prelude.{◌≡◌, length, option_copied, reverse};
-ghost use Rattle.cj_model.specs.Steps.{seen};
-ghost use Rattle.cj_model.specs.Tables.{IsSlot, IsTable};
+ghost use Rattle.cj_model.specs.Database.Steps.{seen};
+ghost use Rattle.cj_model.specs.Database.Tables.{IsSlot, IsTable};
 ghost use Rattle.cj_rows.specs.Lookups.{row_with_key};
 
 use crate::scan::Scan;
@@ -21,8 +21,8 @@ pub struct View<'a> {
 impl<'a> Model for View<'a> {
     ghost use Rattle.std.specs.Prelude.{◌≡◌};
     ghost use Rattle.cj_model.specs.declared.database.Table.{Table};
-    ghost use Rattle.cj_model.specs.Steps.{seen};
-    ghost use Rattle.cj_model.specs.Tables.{IsTable};
+    ghost use Rattle.cj_model.specs.Database.Steps.{seen};
+    ghost use Rattle.cj_model.specs.Database.Tables.{IsTable};
 
     ghost Value = { Table };
 

@@ -3,7 +3,7 @@ use Rattle.std.proofs.Common.{◌≡◌, ℕ, ◌+◌, ◌*◌, ◌≤◌, Bool,
 use Rattle.std.proofs.lemmas.List.Elements.{filter-append}
 use Rattle.cj_model.specs.declared.moves.Move.{Move}
 use Rattle.cj_model.specs.declared.moves.Move.TheVariants.{Open, Close, Schedule, Apply, End, Read, Arm, Disable, Replay, Enable}
-use Rattle.cj_model.specs.Scripts.{MoveLine}
+use Rattle.cj_model.specs.Script.Lines.{MoveLine}
 use Rattle.cj_core.specs.Worlds.{WorldState}
 use Rattle.cj_script.specs.Script.{is_empty, filled, PlaysLine}
 

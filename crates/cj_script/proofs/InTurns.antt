@@ -14,9 +14,9 @@ use Rattle.cj_outside.proofs.Joined.{appends_then, appends_more}
 use Rattle.cj_model.specs.declared.moves.Move.{Move}
 use Rattle.cj_model.specs.declared.moves.Move.TheVariants.{Open, Close, Schedule, Apply, End, Read, Arm, Disable, Replay, Enable}
 use Rattle.cj_model.specs.declared.moves.Made.{Made}
-use Rattle.cj_model.specs.Cores.{session_at}
-use Rattle.cj_model.specs.Runs.{Runs, IsMove, CanCount}
-use Rattle.cj_model.specs.Scripts.{MoveLine, NamesBackend, moved_lines}
+use Rattle.cj_model.specs.Cluster.Cores.{session_at}
+use Rattle.cj_model.specs.Cluster.Runs.{RunsMoves, IsMoveOfCluster, CanCountRequests}
+use Rattle.cj_model.specs.Script.Lines.{MoveLine, NamesBackend, moved_lines}
 use Rattle.cj_model.proofs.Chains.{run_chained}
 use Rattle.cj_core.specs.Worlds.{WorldState, IsWorld}
 use Rattle.cj_core.specs.Counting.{faults_of}
@@ -35,7 +35,7 @@ record MovesOf (tells : Bool) (names : List (List ℕ)) (c : WorldState) (lines 
   moves : List Move
   made : List Made
   are : AreMoves names (filled lines) moves
-  runs : Runs tells c.core moves (map given_of made) z.core
+  runs : RunsMoves tells c.core moves (map given_of made) z.core
   causes : HaveCauses c z moves (map given_of made)
   gives : written ≡ flat_map (moved_lines names) made
 
@@ -46,7 +46,7 @@ moves_on tells armable names c line lines mid front rest z (inl skips) later = r
   moves = later.moves;
   made = later.made;
   are = subst (λ (ls : List (List ℕ)). AreMoves names ls later.moves) (sym (filled_empty line lines skips.empty)) later.are;
-  runs = subst (λ (x : WorldState). Runs tells x.core later.moves (map given_of later.made) z.core) skips.same later.runs;
+  runs = subst (λ (x : WorldState). RunsMoves tells x.core later.moves (map given_of later.made) z.core) skips.same later.runs;
   causes = subst (λ (x : WorldState). HaveCauses x z later.moves (map given_of later.made)) skips.same later.causes;
   gives = ap (λ (t : List ℕ). t ++ rest) skips.nothing ∙ later.gives;
 }
@@ -70,7 +70,7 @@ moves_of tells armable names c (line ∷ lines) written z (mid, front, rest, fir
 named_within : (names : List (List ℕ)) (n : ℕ) (line verb : List ℕ) (b : ℕ) → length names ≡ n → NamesBackend names line verb b → b < n
 named_within names n line verb b as_many (name, is, e) = subst (λ (k : ℕ). b < k) as_many (position-Some (bytes_eq name) names b [] is.named).0
 
-line_move : (names : List (List ℕ)) (n : ℕ) (line : List ℕ) (m : Move) → length names ≡ n → MoveLine names line m → IsMove n m
+line_move : (names : List (List ℕ)) (n : ℕ) (line : List ℕ) (m : Move) → length names ≡ n → MoveLine names line m → IsMoveOfCluster n m
 line_move names n line (Open user) as_many (is, e) = is.short
 line_move names n line (Close s) as_many h = tt
 line_move names n line (Schedule s r) as_many (number, sql, is, write, e) = (record { plain = write.sql.plain; text = sql; reads = write.sql.reads }, write.lone)
@@ -85,9 +85,9 @@ line_move names n line (Disable b) as_many h = named_within names n line (codes 
 line_move names n line (Replay b) as_many h = named_within names n line (codes "replay") b as_many h
 line_move names n line (Enable b) as_many h = named_within names n line (codes "enable") b as_many h
 
-lines_move : (names : List (List ℕ)) (n : ℕ) (lines : List (List ℕ)) (moves : List Move) → length names ≡ n → AreMoves names lines moves → All (IsMove n) moves
-lines_move names n [] [] as_many h = All-nil (IsMove n)
-lines_move names n (line ∷ lines) (m ∷ moves) as_many h = All-cons (IsMove n) m moves (line_move names n line m as_many h.0) (lines_move names n lines moves as_many h.1)
+lines_move : (names : List (List ℕ)) (n : ℕ) (lines : List (List ℕ)) (moves : List Move) → length names ≡ n → AreMoves names lines moves → All (IsMoveOfCluster n) moves
+lines_move names n [] [] as_many h = All-nil (IsMoveOfCluster n)
+lines_move names n (line ∷ lines) (m ∷ moves) as_many h = All-cons (IsMoveOfCluster n) m moves (line_move names n line m as_many h.0) (lines_move names n lines moves as_many h.1)
 lines_move names n [] (m ∷ moves) as_many h = absurd h
 lines_move names n (line ∷ lines) [] as_many h = absurd h
 
@@ -100,14 +100,14 @@ moves_length names (line ∷ lines) [] h = absurd h
 
 -- ---- turns
 
-module _ (tells armable : Bool) (names : List (List ℕ)) (c : WorldState) (world : IsWorld tells c) (as_many : length names ≡ c.core.placement.backends) (can : CanCount c.core (2 ^ 61)) where
+module _ (tells armable : Bool) (names : List (List ℕ)) (c : WorldState) (world : IsWorld tells c) (as_many : length names ≡ c.core.placement.backends) (can : CanCountRequests c.core (2 ^ 61)) where
   -- lines that lie in the bytes taken
   in_turns : (left left' held held' : Option (List ℕ)) (taken : List ℕ) (lines : List (List ℕ)) (rest written : List ℕ) (count : ℕ) (z : WorldState) → Consumes left left' taken → LieIn left' taken lines rest
       → Plays tells armable names c lines written z → length (filled lines) ≤ 2 ^ 61 → Appends held held' (take count written) → InTurns tells names left left' held held' c z
   in_turns left left' held held' taken lines rest written count z consumed lie plays few appended =
       let q = moves_of tells armable names c lines written z plays in
       let same = moves_length names (filled lines) q.moves q.are in
-      let once : CanCount c.core (length q.moves) = λ s. (let room = can s in let le : (session_at c.core s).queries + length q.moves ≤ 2 ^ 62 = omega arith in le) in
+      let once : CanCountRequests c.core (length q.moves) = λ s. (let room = can s in let le : (session_at c.core s).queries + length q.moves ≤ 2 ^ 62 = omega arith in le) in
       record {
         taken = taken;
         lines = lines;
@@ -201,7 +201,7 @@ end_takes left left' old new number WriteFault none = absurd none
 end_takes left left' old new number Spent (bytes, took, none) = (bytes, took.consumed)
 end_takes left left' old new number NoMemory (bytes, took) = (bytes, took)
 
-module _ (tells armable : Bool) (names : List (List ℕ)) (c : WorldState) (world : IsWorld tells c) (as_many : length names ≡ c.core.placement.backends) (can : CanCount c.core (2 ^ 61)) where
+module _ (tells armable : Bool) (names : List (List ℕ)) (c : WorldState) (world : IsWorld tells c) (as_many : length names ≡ c.core.placement.backends) (can : CanCountRequests c.core (2 ^ 61)) where
   -- in place of a line the script came to its end
   pub read_end_turns : (left mid left' held held' : Option (List ℕ)) (old new : Reading) (count number : ℕ) (z : WorldState) (last : ScriptEnd) → Playing tells armable names left mid held held' c old.rest old.taken count z
       → old.taken ≤ most → ReadsLine mid left' old new number (Err last) → InTurns tells names left left' held held' c z

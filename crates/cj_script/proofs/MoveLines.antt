@@ -5,11 +5,11 @@ use Rattle.std.proofs.lemmas.Slice.Eq.{bytes_eq-Decides}
 use Rattle.std.specs.Str.{bytes_eq}
 use Rattle.cj_model.specs.declared.moves.Move.{Move}
 use Rattle.cj_model.specs.declared.moves.Move.TheVariants as move
-use Rattle.cj_model.specs.Scripts.{IsWord, MoveLine}
+use Rattle.cj_model.specs.Script.Lines.{HasNoSpace, MoveLine}
 use Rattle.cj_script.specs.declared.verb.Verb.{Verb}
 use Rattle.cj_script.specs.declared.verb.Verb.TheVariants.{Open, Close, Write, Apply, End, Read, Arm, Disable, Replay, Enable}
 use Rattle.cj_script.specs.declared.verb.TheConstants.{VERBS}
-use Rattle.cj_script.specs.Reading.{Finds, lookup, verb_of, word_of, Cuts, Arguments}
+use Rattle.cj_script.specs.Reading.{Finds, find_verb, verb_of, word_of, CutsWord, Arguments}
 use Rattle.cj_script.proofs.Cutting.{no_space, cut_one}
 
 -- ---- words of verbs
@@ -29,7 +29,7 @@ verb_of-word_of Replay = refl
 verb_of-word_of Enable = refl
 
 -- each is a word
-word_of_verb : (v : Verb) → IsWord (word_of v)
+word_of_verb : (v : Verb) → HasNoSpace (word_of v)
 word_of_verb Open = refl
 word_of_verb Close = refl
 word_of_verb Write = refl
@@ -47,7 +47,7 @@ Agrees [] = Unit {0}
 Agrees (k ∷ ks) = (k.0 ≡ word_of k.1) × Agrees ks
 
 -- so does what is found in it
-lookup_word : (table : List (List ℕ × Verb)) (word : List ℕ) (v : Verb) → Agrees table → lookup table word ≡ Some v → word ≡ word_of v
+lookup_word : (table : List (List ℕ × Verb)) (word : List ℕ) (v : Verb) → Agrees table → find_verb table word ≡ Some v → word ≡ word_of v
 unfolding Agrees
 lookup_word [] word v a e = absurd (cc)
 lookup_word (k ∷ ks) word v a e = elim (cases_Bool (bytes_eq k.0 word)) [
@@ -121,9 +121,9 @@ parts_line names line rest Enable m e a = subst (MoveLine names line) (sym a.2) 
 -- ---- what a line that was cut is
 
 -- behind its first word a line has the arguments of a move exactly where it is that move's
-arguments_of : (names : List (List ℕ)) (line word rest : List ℕ) (v : Verb) (m : Move) → Cuts line word (Some rest) → verb_of word ≡ Some v → MoveLine names line m → Arguments names v rest m
+arguments_of : (names : List (List ℕ)) (line word rest : List ℕ) (v : Verb) (m : Move) → CutsWord line word (Some rest) → verb_of word ≡ Some v → MoveLine names line m → Arguments names v rest m
 arguments_of names line word rest v m c e h = elim (line_parts names line m h) [
-  | lone is last ↦ absurd (no_space word rest (subst IsWord (sym is ∙ c.1) refl))
+  | lone is last ↦ absurd (no_space word rest (subst HasNoSpace (sym is ∙ c.1) refl))
   | behind u z is a ↦
       let k = cut_one line word rest (word_of u) z c (word_of_verb u) is in
       let verb : Some u ≡ Some v = sym (verb_of-word_of u) ∙ ap verb_of (sym k.0) ∙ e in
@@ -134,16 +134,16 @@ arguments_of names line word rest v m c e h = elim (line_parts names line m h) [
 ]
 
 -- a line with a verb and more
-found_behind : (names : List (List ℕ)) (line word rest : List ℕ) (v : Verb) (o : Option Move) → Cuts line word (Some rest) → verb_of word ≡ Some v → Finds (Arguments names v rest) o → Finds (MoveLine names line) o
+found_behind : (names : List (List ℕ)) (line word rest : List ℕ) (v : Verb) (o : Option Move) → CutsWord line word (Some rest) → verb_of word ≡ Some v → Finds (Arguments names v rest) o → Finds (MoveLine names line) o
 found_behind names line word rest v None c e f = λ m h. f m (arguments_of names line word rest v m c e h)
 found_behind names line word rest v (Some x) c e f =
     let spelled : line ≡ word_of v ++ 32 ∷ rest = c.1 ∙ ap (λ (w : List ℕ). w ++ 32 ∷ rest) (found_word word v e) in
     (parts_line names line rest v x spelled f.0, λ m h. f.1 m (arguments_of names line word rest v m c e h))
 
 -- a line that begins with no verb
-pub no_verb : (names : List (List ℕ)) (line word rest : List ℕ) → Cuts line word (Some rest) → verb_of word ≡ None → (m : Move) → MoveLine names line m → ⊥
+pub no_verb : (names : List (List ℕ)) (line word rest : List ℕ) → CutsWord line word (Some rest) → verb_of word ≡ None → (m : Move) → MoveLine names line m → ⊥
 no_verb names line word rest c e m h = elim (line_parts names line m h) [
-  | lone is last ↦ no_space word rest (subst IsWord (sym is ∙ c.1) refl)
+  | lone is last ↦ no_space word rest (subst HasNoSpace (sym is ∙ c.1) refl)
   | behind u z is a ↦
       let k = cut_one line word rest (word_of u) z c (word_of_verb u) is in
       let verb : Some u ≡ None = sym (verb_of-word_of u) ∙ ap verb_of (sym k.0) ∙ e in
@@ -151,6 +151,6 @@ no_verb names line word rest c e m h = elim (line_parts names line m h) [
 ]
 
 -- the same of what parsing answers
-pub read_behind : {E : Type 0} (names : List (List ℕ)) (line word rest : List ℕ) (v : Verb) (r : Result (Option Move) E) → Cuts line word (Some rest) → verb_of word ≡ Some v → IfOk r (Finds (Arguments names v rest)) → IfOk r (Finds (MoveLine names line))
+pub read_behind : {E : Type 0} (names : List (List ℕ)) (line word rest : List ℕ) (v : Verb) (r : Result (Option Move) E) → CutsWord line word (Some rest) → verb_of word ≡ Some v → IfOk r (Finds (Arguments names v rest)) → IfOk r (Finds (MoveLine names line))
 read_behind names line word rest v (Ok o) c e f = found_behind names line word rest v o c e f
 read_behind names line word rest v (Err x) c e f = tt

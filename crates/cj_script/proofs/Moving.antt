@@ -5,8 +5,8 @@ use Rattle.cj_outside.specs.Lines.{Reading}
 use Rattle.cj_outside.specs.Streams.{most}
 use Rattle.cj_model.specs.declared.moves.Made.{Made}
 use Rattle.cj_core.specs.Worlds.{WorldState}
-use Rattle.cj_model.specs.Moves.{MovesTo}
-use Rattle.cj_model.specs.Runs.{CanCount}
+use Rattle.cj_model.specs.Cluster.Moves.{MovesTo}
+use Rattle.cj_model.specs.Cluster.Runs.{CanCountRequests}
 use Rattle.cj_model.proofs.Growth.{moves_grow, can_count}
 use Rattle.cj_core.specs.Armings.{HasArmings}
 use Rattle.cj_core.specs.Counting.{HasCauses}
@@ -16,7 +16,7 @@ use Rattle.cj_script.specs.Steps.{PlaysWritten}
 use Rattle.cj_script.proofs.Filled.{move_line_long}
 use Rattle.cj_script.proofs.Playing.{Advances}
 use Rattle.cj_model.specs.declared.moves.Move.{Move}
-use Rattle.cj_model.specs.Scripts.{MoveLine, moved_lines}
+use Rattle.cj_model.specs.Script.Lines.{MoveLine, moved_lines}
 
 -- ---- a line that was played
 
@@ -47,10 +47,10 @@ played_backends tells armable names held held' c line z h =
 -- each session can make as many requests more as lines can come
 pub record Counting (rest taken : ℕ) (z : WorldState) : Type 0 where
   pub more : ℕ
-  pub can : CanCount z.core more
+  pub can : CanCountRequests z.core more
   pub room : most + rest ≤ 2 * more + taken
 
-pub counting_start : (rest : List ℕ) (taken : ℕ) (c : WorldState) → rest ≡ [] → taken ≡ 0 → CanCount c.core (2 ^ 61) → Counting (length rest) taken c
+pub counting_start : (rest : List ℕ) (taken : ℕ) (c : WorldState) → rest ≡ [] → taken ≡ 0 → CanCountRequests c.core (2 ^ 61) → Counting (length rest) taken c
 counting_start rest taken c none zero can = record { more = 2 ^ 61; can = can; room = omega (arith, ap length none, zero) }
 
 -- after a line there is room for those that can still come
@@ -64,6 +64,6 @@ counting_played tells armable names held held' old new line c z k a few h =
     let some : 1 + (k.more - 1) ≡ k.more = omega (arith, k.room, a.by) in
     record {
       more = k.more - 1;
-      can = can_count 1 (k.more - 1) c.core z.core (moves_grow tells c.core made.move (given_of made.made) z.core made.moves) (subst (CanCount c.core) (sym some) k.can);
+      can = can_count 1 (k.more - 1) c.core z.core (moves_grow tells c.core made.move (given_of made.made) z.core made.moves) (subst (CanCountRequests c.core) (sym some) k.can);
       room = omega (arith, k.room, a.by, some, long);
     })

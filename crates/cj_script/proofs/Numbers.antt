@@ -11,7 +11,7 @@ use Rattle.std.proofs.lemmas.Str.Parse.{IsNumeralModel, numerals_by_value, parse
 use Rattle.std.specs.Str.Parse.{digits_value}
 use Rattle.std.proofs.lemmas.Bool.{and_parts, and_from, or_cases, not-true, eqb-false, ne_eqb, false≢true}
 use Rattle.std.proofs.lemmas.Bool.Decides.{nat_tests}
-use Rattle.cj_model.specs.Scripts.{IsNumber, IsWord}
+use Rattle.cj_model.specs.Script.Lines.{IsNumber, HasNoSpace}
 use Rattle.cj_script.specs.Reading.{begins_number, is_numeral}
 
 -- the digits of the words are std's
@@ -66,7 +66,7 @@ numeral_number E z n r h e p =
     record { spelled = sym (decimal-digits_value numerals z parts.1 begins.0 begins.1 k.0.1) ∙ ap decimal (sym k.1); fits = omega (arith, k.1, k.0.1) }
 
 -- digits hold no space
-digits_word : (z : List ℕ) → list_all is_ascii_digit z ≡ true → IsWord z
+digits_word : (z : List ℕ) → list_all is_ascii_digit z ≡ true → HasNoSpace z
 digits_word [] h = refl
 digits_word (b ∷ z) h =
     let parts = and_parts (is_ascii_digit b) (list_all is_ascii_digit z) h in
@@ -75,5 +75,5 @@ digits_word (b ∷ z) h =
     rw (e, digits_word z parts.1) refl
 
 -- nor does a number's word
-pub number_word : (z : List ℕ) (n : ℕ) → IsNumber z n → IsWord z
-number_word z n i = subst IsWord (sym i.spelled) (digits_word (decimal n) (digits_decimal numerals n i.fits))
+pub number_word : (z : List ℕ) (n : ℕ) → IsNumber z n → HasNoSpace z
+number_word z n i = subst HasNoSpace (sym i.spelled) (digits_word (decimal n) (digits_decimal numerals n i.fits))

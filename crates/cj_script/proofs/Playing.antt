@@ -7,14 +7,14 @@ use Rattle.std.proofs.lemmas.List.Elements.{All-push, All-nil}
 use Rattle.std.specs.Global.{Vec}
 use Rattle.std.specs.Io.KnownBytes.{Consumes, Appends, IsAtEnd}
 use Rattle.cj_outside.specs.declared.lines.Line.{Line}
-use Rattle.cj_outside.specs.Lines.{line_limit, Reading, IsInLine, IsLine, EndsLine, LastLine, Took}
+use Rattle.cj_outside.specs.Lines.{line_limit, Reading, IsInLine, IsLine, EndsLine, LastLine, TookBytes}
 use Rattle.cj_outside.proofs.Joined.{consumes_then, consumes_none, appends_then, appends_none}
 use Rattle.cj_core.specs.Worlds.{WorldState}
-use Rattle.cj_model.specs.Scripts.{ended}
+use Rattle.cj_model.specs.Script.Lines.{with_line_feed}
 use Rattle.cj_outside.specs.declared.lines.Line.TheVariants.{Text, Long}
 use Rattle.cj_script.specs.declared.play.ScriptEnd.{ScriptEnd}
 use Rattle.cj_script.specs.declared.play.ScriptEnd.TheVariants.{Done, Line as Line', ReadFault, WriteFault, Spent, NoMemory}
-use Rattle.cj_script.specs.Script.{filled, IsShortLine, PlaysLine, Plays, LieIn, IsNext, Played, PlayedInPart, MakesInPart, CameTo}
+use Rattle.cj_script.specs.Script.{filled, IsShortLine, PlaysLine, Plays, LieIn, IsNextLine, Played, PlayedInPart, MakesInPart, CameTo}
 use Rattle.cj_script.specs.Steps.{ReadsLine, PlaysWritten, Stays, PlaysOrEnds}
 use Rattle.cj_script.proofs.Filled.{filled_more}
 
@@ -31,19 +31,19 @@ plays_more tells armable names c (l ∷ lines) written mid line more z (d, front
 -- ---- lines in bytes
 
 -- the bytes of the lines, and of one more
-bytes_more : (lines : List (List ℕ)) (line : List ℕ) → flat_map ended (lines ++ line ∷ []) ≡ flat_map ended lines ++ ended line
-bytes_more lines line = flat_map-append ended lines (line ∷ []) ∙ ap (λ (t : List ℕ). flat_map ended lines ++ t) (flat_map-cons ended line [] ∙ append-nil (ended line))
+bytes_more : (lines : List (List ℕ)) (line : List ℕ) → flat_map with_line_feed (lines ++ line ∷ []) ≡ flat_map with_line_feed lines ++ with_line_feed line
+bytes_more lines line = flat_map-append with_line_feed lines (line ∷ []) ∙ ap (λ (t : List ℕ). flat_map with_line_feed lines ++ t) (flat_map-cons with_line_feed line [] ∙ append-nil (with_line_feed line))
 
 -- a line with its LF is taken off the rest
 line_more : (left : Option (List ℕ)) (taken : List ℕ) (lines : List (List ℕ)) (rest line more : List ℕ) → LieIn left taken lines rest → rest ≡ line ++ 10 ∷ more → LieIn left taken (lines ++ line ∷ []) more
 line_more left taken lines rest line more (inl is) parts =
-    inl (is ∙ ap (λ (t : List ℕ). flat_map ended lines ++ t) (parts ∙ sym (append_assoc line (10 ∷ []) more)) ∙ sym (append_assoc (flat_map ended lines) (ended line) more) ∙ ap (λ (t : List ℕ). t ++ more) (sym (bytes_more lines line)))
+    inl (is ∙ ap (λ (t : List ℕ). flat_map with_line_feed lines ++ t) (parts ∙ sym (append_assoc line (10 ∷ []) more)) ∙ sym (append_assoc (flat_map with_line_feed lines) (with_line_feed line) more) ∙ ap (λ (t : List ℕ). t ++ more) (sym (bytes_more lines line)))
 line_more left taken lines rest line more (inr h) parts = absurd (omega (arith, ap length (sym h.1 ∙ parts), length-append line (10 ∷ more)))
 
 -- the rest is a last line without LF
 last_more : (left : Option (List ℕ)) (taken : List ℕ) (lines : List (List ℕ)) (line : List ℕ) → LieIn left taken lines line → line ≢ [] → IsAtEnd left → LieIn left taken (lines ++ line ∷ []) []
 last_more left taken lines line (inl is) some end =
-    inr (ap (λ (t : List ℕ). t ++ 10 ∷ []) is ∙ append_assoc (flat_map ended lines) line (10 ∷ []) ∙ sym (bytes_more lines line), refl, end)
+    inr (ap (λ (t : List ℕ). t ++ 10 ∷ []) is ∙ append_assoc (flat_map with_line_feed lines) line (10 ∷ []) ∙ sym (bytes_more lines line), refl, end)
 last_more left taken lines line (inr h) some end = absurd (some h.1)
 
 -- ---- between two lines
@@ -85,13 +85,13 @@ pub record Longer (left left' : Option (List ℕ)) (taken : List ℕ) (lines : L
 
 -- behind a last line without LF nothing comes, where the source tells
 pub longer : (left mid left' : Option (List ℕ)) (taken : List ℕ) (lines : List (List ℕ)) (rest more : List ℕ) → Consumes left mid taken → LieIn mid taken lines rest → Consumes mid left' more → Longer left left' taken lines rest more
-longer None mid left' taken lines rest more before lie next = record { whole = flat_map ended lines ++ (rest ++ more); consumed = tt; lie = inl refl; told = λ none. absurd (cc none) }
+longer None mid left' taken lines rest more before lie next = record { whole = flat_map with_line_feed lines ++ (rest ++ more); consumed = tt; lie = inl refl; told = λ none. absurd (cc none) }
 longer (Some xs) None left' taken lines rest more before lie next = absurd before
 longer (Some xs) (Some ys) None taken lines rest more before lie next = absurd next
 longer (Some xs) (Some ys) (Some zs) taken lines rest more before (inl is) next = record {
   whole = taken ++ more;
   consumed = consumes_then (Some xs) (Some ys) (Some zs) taken more before next;
-  lie = inl (ap (λ (t : List ℕ). t ++ more) is ∙ append_assoc (flat_map ended lines) rest more);
+  lie = inl (ap (λ (t : List ℕ). t ++ more) is ∙ append_assoc (flat_map with_line_feed lines) rest more);
   told = λ _. length-append taken more;
 }
 longer (Some xs) (Some ys) (Some zs) taken lines rest (m ∷ more) before (inr h) next = absurd (omega (arith, ap length (sym h.2 ∙ next)))
@@ -125,7 +125,7 @@ playing_longer tells armable names left mid left' held held' c rest bytes count 
 
 -- the reader took more
 playing_taken : (tells armable : Bool) (names : List (List ℕ)) (left mid left' held held' : Option (List ℕ)) (c : WorldState) (old new : Reading) (count : ℕ) (z : WorldState) (bytes : List ℕ)
-    → Playing tells armable names left mid held held' c old.rest old.taken count z → Took mid left' old new bytes → Playing tells armable names left left' held held' c (old.rest ++ bytes) new.taken count z
+    → Playing tells armable names left mid held held' c old.rest old.taken count z → TookBytes mid left' old new bytes → Playing tells armable names left left' held held' c (old.rest ++ bytes) new.taken count z
 playing_taken tells armable names left mid left' held held' c old new count z bytes p took =
     subst (λ (n : ℕ). Playing tells armable names left left' held held' c (old.rest ++ bytes) n count z) (sym took.count)
     (playing_longer tells armable names left mid left' held held' c old.rest old.taken count z bytes p took.consumed)
@@ -142,7 +142,7 @@ pub record AtLine (tells armable : Bool) (names : List (List ℕ)) (left left' h
   pub whole : List ℕ
   pub playing : Playing tells armable names left left' held held' c whole bytes count z
   pub inside : IsInLine line
-  pub next : IsNext left' line whole
+  pub next : IsNextLine left' line whole
   pub behind : LieIn left' playing.taken (playing.lines ++ line ∷ []) rest
   pub shorter : length line + length rest ≤ length whole
 
@@ -159,7 +159,7 @@ pub record LineCame (tells armable : Bool) (names : List (List ℕ)) (left left'
   pub at : AtLine tells armable names left left' held held' c text new.rest new.taken count z
 
 pub line_came : (tells armable : Bool) (names : List (List ℕ)) (left mid left' held held' : Option (List ℕ)) (c : WorldState) (old new : Reading) (count : ℕ) (z : WorldState) (bytes : List ℕ) (line : Line)
-    → Playing tells armable names left mid held held' c old.rest old.taken count z → Took mid left' old new bytes → EndsLine old new bytes line ⊎ LastLine left' old new bytes line
+    → Playing tells armable names left mid held held' c old.rest old.taken count z → TookBytes mid left' old new bytes → EndsLine old new bytes line ⊎ LastLine left' old new bytes line
     → LineCame tells armable names left left' held held' c old new count z line
 line_came tells armable names left mid left' held held' c old new count z bytes line p took (inl h) =
     let now = playing_taken tells armable names left mid left' held held' c old new count z bytes p took in

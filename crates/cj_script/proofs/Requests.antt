@@ -6,22 +6,22 @@ use Rattle.cj_model.specs.declared.request.Request.TheVariants as request
 use Rattle.cj_model.specs.declared.select.Select.{Select}
 use Rattle.cj_model.specs.declared.moves.Move.{Move}
 use Rattle.cj_model.specs.declared.moves.Move.TheVariants as move
-use Rattle.cj_model.specs.Plain.{is_plain}
-use Rattle.cj_model.specs.Scripts.{IsPlainSql, IsWrite}
+use Rattle.cj_model.specs.Sql.PlainRequests.{is_plain}
+use Rattle.cj_model.specs.Script.Lines.{IsPlainSql, IsWrite}
 use Rattle.cj_script.specs.Reading.{IsNumbered, IsNamed, Writes, Queries, IsQuery, Finds}
 use Rattle.cj_script.proofs.Cutting.{numbered_one, named_one}
-use Rattle.cj_model.specs.Grammar.{TextReads, ReadsNothing}
+use Rattle.cj_model.specs.Sql.Grammar.{TextReadsAs, ReadsAsNothing}
 
 -- the one request that the text reads as is plain
-pub plain_found : (text : List ℕ) (r : Request) → TextReads text r → ((s : Request) → TextReads text s → s ≡ r) → is_plain r ≡ true → IsPlainSql text r × ((s : Request) → IsPlainSql text s → s ≡ r)
+pub plain_found : (text : List ℕ) (r : Request) → TextReadsAs text r → ((s : Request) → TextReadsAs text s → s ≡ r) → is_plain r ≡ true → IsPlainSql text r × ((s : Request) → IsPlainSql text s → s ≡ r)
 plain_found text r reads one plain = (record { reads = reads; plain = plain }, λ s i. one s i.reads)
 
 -- or it isn't
-pub plain_not : (text : List ℕ) (r : Request) → ((s : Request) → TextReads text s → s ≡ r) → is_plain r ≡ false → (s : Request) → IsPlainSql text s → ⊥
+pub plain_not : (text : List ℕ) (r : Request) → ((s : Request) → TextReadsAs text s → s ≡ r) → is_plain r ≡ false → (s : Request) → IsPlainSql text s → ⊥
 plain_not text r one other s i = false≢true (sym other ∙ ap is_plain (sym (one s i.reads)) ∙ i.plain)
 
 -- what reads as nothing reads as no plain request
-pub plain_nothing : (text : List ℕ) → ReadsNothing text → (s : Request) → IsPlainSql text s → ⊥
+pub plain_nothing : (text : List ℕ) → ReadsAsNothing text → (s : Request) → IsPlainSql text s → ⊥
 plain_nothing text none s i = none s i.reads
 
 -- ---- writes

@@ -10,8 +10,8 @@ use Rattle.cj_model.specs.declared.request.Request.TheVariants as request
 use Rattle.cj_model.specs.declared.select.Select.{Select}
 use Rattle.cj_model.specs.declared.moves.Move.{Move}
 use Rattle.cj_model.specs.declared.moves.Move.TheVariants as move
-use Rattle.cj_model.specs.Words.{is_nothing}
-use Rattle.cj_model.specs.Scripts.{IsWord, IsUser, IsNumber, IsBackend, IsPlainSql, IsWrite}
+use Rattle.cj_model.specs.Sql.Names.{is_nothing}
+use Rattle.cj_model.specs.Script.Lines.{HasNoSpace, IsUser, IsNumber, IsBackend, IsPlainSql, IsWrite}
 use Rattle.cj_script.specs.declared.verb.Verb.{Verb}
 use Rattle.cj_script.specs.declared.verb.Verb.TheVariants.{Open, Close, Write, Apply, End, Read, Arm, Disable, Replay, Enable}
 use Rattle.cj_script.specs.declared.verb.TheConstants.{VERBS}
@@ -23,13 +23,13 @@ Finds {A} P (Some y) = P y × ((x : A) → P x → x ≡ y)
 
 -- ---- verbs
 
-abbrev pub lookup : List (List ℕ × Verb) → List ℕ → Option Verb
-lookup [] word = None
-lookup (v ∷ vs) word = if bytes_eq v.0 word then Some v.1 else lookup vs word
+abbrev pub find_verb : List (List ℕ × Verb) → List ℕ → Option Verb
+find_verb [] word = None
+find_verb (v ∷ vs) word = if bytes_eq v.0 word then Some v.1 else find_verb vs word
 
 -- the verb that the word is
 unfoldable pub verb_of : List ℕ → Option Verb
-verb_of = lookup (map (λ v. (v.0.now, v.1)) VERBS)
+verb_of = find_verb (map (λ v. (v.0.now, v.1)) VERBS)
 
 -- the word of a verb
 abbrev pub word_of : Verb → List ℕ
@@ -47,15 +47,15 @@ word_of Enable = codes "enable"
 -- ---- words
 
 -- the first word of a line, and what follows the space behind it, where one is there
-abbrev pub Cuts : List ℕ → List ℕ → Option (List ℕ) → Type 0
-Cuts line word None = IsWord line × (word ≡ line)
-Cuts line word (Some rest) = IsWord word × (line ≡ word ++ 32 ∷ rest)
+abbrev pub CutsWord : List ℕ → List ℕ → Option (List ℕ) → Type 0
+CutsWord line word None = HasNoSpace line × (word ≡ line)
+CutsWord line word (Some rest) = HasNoSpace word × (line ≡ word ++ 32 ∷ rest)
 
 -- the first space stands here
 pub record IsFirstSpace (bytes : List ℕ) (at : ℕ) : Type 0 where
   pub within : at < length bytes
   pub space : slice_index bytes at ≡ 32
-  pub word : IsWord (take at bytes)
+  pub word : HasNoSpace (take at bytes)
 
 -- the first is no 0, unless it stands alone
 abbrev pub begins_number : List ℕ → Bool
@@ -80,11 +80,11 @@ pub record IsNamed (names : List (List ℕ)) (rest : List ℕ) (b : ℕ) (more :
 
 -- ---- what follows a verb
 
-abbrev pub Opens : List ℕ → Move → Type 0
-Opens rest m = IsUser rest × (m ≡ move.Open rest)
+abbrev pub ReadsOpen : List ℕ → Move → Type 0
+ReadsOpen rest m = IsUser rest × (m ≡ move.Open rest)
 
-abbrev pub Closes : List ℕ → Move → Type 0
-Closes rest m = (s : ℕ) × IsNumber rest s × (m ≡ move.Close s)
+abbrev pub ReadsClose : List ℕ → Move → Type 0
+ReadsClose rest m = (s : ℕ) × IsNumber rest s × (m ≡ move.Close s)
 
 -- a session's number and a write
 pub record Writes (rest : List ℕ) (m : Move) : Type 0 where
@@ -118,8 +118,8 @@ Names names make rest m = (b : ℕ) × IsBackend names rest b × (m ≡ make b)
 
 -- behind this verb and a space these are the arguments of the move
 abbrev pub Arguments : List (List ℕ) → Verb → List ℕ → Move → Type 0
-Arguments names Open rest m = Opens rest m
-Arguments names Close rest m = Closes rest m
+Arguments names Open rest m = ReadsOpen rest m
+Arguments names Close rest m = ReadsClose rest m
 Arguments names Write rest m = Writes rest m
 Arguments names Apply rest m = Names names move.Apply rest m
 Arguments names End rest m = ⊥
@@ -130,5 +130,5 @@ Arguments names Replay rest m = Names names move.Replay rest m
 Arguments names Enable rest m = Names names move.Enable rest m
 
 -- the move of a line that is one word
-abbrev pub IsLone : List ℕ → Move → Type 0
-IsLone word m = (word ≡ codes "end") × (m ≡ move.End)
+abbrev pub IsOneWordMove : List ℕ → Move → Type 0
+IsOneWordMove word m = (word ≡ codes "end") × (m ≡ move.End)

@@ -7,8 +7,8 @@ use Rattle.cj_outside.specs.Lines.{IsInLine, line_limit}
 use Rattle.cj_outside.specs.Streams.{most}
 use Rattle.cj_model.specs.declared.moves.Move.{Move}
 use Rattle.cj_model.specs.declared.moves.Made.{Made}
-use Rattle.cj_model.specs.Moves.{MovesTo}
-use Rattle.cj_model.specs.Scripts.{MoveLine, moved_lines, ended}
+use Rattle.cj_model.specs.Cluster.Moves.{MovesTo}
+use Rattle.cj_model.specs.Script.Lines.{MoveLine, moved_lines, with_line_feed}
 use Rattle.cj_core.specs.Worlds.{WorldState}
 use Rattle.cj_core.specs.Armings.{HasArmings}
 use Rattle.cj_core.specs.Counting.{HasCauses}
@@ -66,7 +66,7 @@ AreMoves names (line ∷ lines) [] = ⊥
 
 -- The bytes are these lines, each with its LF, and a rest; or the last line ends with the bytes, where the source has ended.
 abbrev pub LieIn : Option (List ℕ) → List ℕ → List (List ℕ) → List ℕ → Type 0
-LieIn left bytes lines rest = (bytes ≡ flat_map ended lines ++ rest) ⊎ ((bytes ++ 10 ∷ [] ≡ flat_map ended lines) × (rest ≡ []) × IsAtEnd left)
+LieIn left bytes lines rest = (bytes ≡ flat_map with_line_feed lines ++ rest) ⊎ ((bytes ++ 10 ∷ [] ≡ flat_map with_line_feed lines) × (rest ≡ []) × IsAtEnd left)
 
 -- a line that may be played: no LF is in it, and it is not too long
 pub record IsShortLine (line : List ℕ) : Type 0 where
@@ -74,8 +74,8 @@ pub record IsShortLine (line : List ℕ) : Type 0 where
   pub short : length line ≤ line_limit
 
 -- the rest begins with the line
-abbrev pub IsNext : Option (List ℕ) → List ℕ → List ℕ → Type 0
-IsNext left line rest = ((more : List ℕ) × (rest ≡ line ++ 10 ∷ more)) ⊎ ((rest ≡ line) × IsAtEnd left)
+abbrev pub IsNextLine : Option (List ℕ) → List ℕ → List ℕ → Type 0
+IsNextLine left line rest = ((more : List ℕ) × (rest ≡ line ++ 10 ∷ more)) ⊎ ((rest ≡ line) × IsAtEnd left)
 
 -- the line is no move's
 abbrev pub IsNoMove : List (List ℕ) → List ℕ → Type 0
@@ -113,7 +113,7 @@ pub record PlayedTo (tells armable : Bool) (names : List (List ℕ)) (left left'
   pub before : number ≡ length lines + 1
   pub line : List ℕ
   pub inside : IsInLine line
-  pub next : IsNext left' line rest
+  pub next : IsNextLine left' line rest
   pub wrong : IsWrong names line
 
 -- All whole lines were played, and so many bytes were taken, where the source tells.
@@ -150,7 +150,7 @@ pub record PlayedInPart (tells armable : Bool) (names : List (List ℕ)) (left l
   pub played : Played tells armable names left left' held between c taken lines rest mid
   pub line : List ℕ
   pub line_is : IsShortLine line
-  pub next : IsNext left' line rest
+  pub next : IsNextLine left' line rest
   pub makes : MakesInPart tells armable names between held' mid line z
 
 -- How far a script came that ended so. Where the source or the sink tells nothing, this says nothing of its bytes.

@@ -1,9 +1,9 @@
 //! What follows the first word of a line.
 
 ghost use Rattle.std.specs.Prelude.{◌≡◌, ◌≤◌, ◌<◌, ◌↔◌, length, IfOk, IsTrue, MatchBool};
-ghost use Rattle.cj_model.specs.Runs.{IsLoneWrite};
-ghost use Rattle.cj_model.specs.Scripts.{IsPlainSql, IsUser, IsWrite};
-ghost use Rattle.cj_script.specs.Reading.{Arguments, Closes, Finds, IsQuery, Opens, Queries, Writes};
+ghost use Rattle.cj_model.specs.Cluster.Runs.{IsOutsideTransaction};
+ghost use Rattle.cj_model.specs.Script.Lines.{IsPlainSql, IsUser, IsWrite};
+ghost use Rattle.cj_script.specs.Reading.{Arguments, ReadsClose, Finds, IsQuery, ReadsOpen, Queries, Writes};
 
 use crate::verb::Verb;
 use crate::words::{backend, is_word, named, number, numbered};
@@ -19,7 +19,7 @@ fn is_short(word: &[u8]) -> bool
 
 /// "open USER"
 fn open(alloc: Global, rest: &[u8]) -> Result<Option<Move>, NoMemory>
-    ensures { IfOk result (Finds (Opens rest.now)) }
+    ensures { IfOk result (Finds (ReadsOpen rest.now)) }
 {
     if !is_short(rest) || !is_word(rest) {
         return Ok(None);
@@ -32,7 +32,7 @@ fn open(alloc: Global, rest: &[u8]) -> Result<Option<Move>, NoMemory>
 
 /// "close S"
 fn close(rest: &[u8]) -> Option<Move>
-    ensures { Finds (Closes rest.now) result }
+    ensures { Finds (ReadsClose rest.now) result }
 {
     match number(rest) {
         Some(session) => Some(Move::Close { session }),
@@ -59,7 +59,7 @@ fn plain_request(alloc: Global, sql: &[u8]) -> Result<Option<Request>, NoMemory>
 
 /// Whether the request can be scheduled so far: it is no query, and outside transactions.
 fn is_write(request: &Request) -> bool
-    ensures { MatchBool result (IsLoneWrite request.now) (IsLoneWrite request.now → ⊥) }
+    ensures { MatchBool result (IsOutsideTransaction request.now) (IsOutsideTransaction request.now → ⊥) }
 {
     match request {
         Request::Write(_) => true,

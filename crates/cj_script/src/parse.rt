@@ -1,8 +1,8 @@
 //! Lines as moves.
 
 ghost use Rattle.std.specs.Prelude.{◌≤◌, length, IfOk};
-ghost use Rattle.cj_model.specs.Scripts.{MoveLine};
-ghost use Rattle.cj_script.specs.Reading.{Finds, IsLone};
+ghost use Rattle.cj_model.specs.Script.Lines.{MoveLine};
+ghost use Rattle.cj_script.specs.Reading.{Finds, IsOneWordMove};
 
 use crate::arguments::arguments;
 use crate::verb::verb_of;
@@ -12,7 +12,7 @@ use std::alloc::Global;
 
 /// The move of a line that is one word.
 fn lone(word: &[u8]) -> Option<Move>
-    ensures { Finds (IsLone word.now) result }
+    ensures { Finds (IsOneWordMove word.now) result }
 {
     if word == b"end".as_slice() {
         Some(Move::End)

@@ -3,8 +3,8 @@
 ghost use Rattle.std.specs.Prelude.{◌≡◌, ◌≤◌, ◌^◌, ℕ, IfOk, IsErrOf, MatchResult, length};
 ghost use Rattle.cj_outside.specs.Causes.{CountsFault};
 ghost use Rattle.cj_outside.specs.Streams.{most, WritesAll};
-ghost use Rattle.cj_model.specs.Runs.{CanCount};
-ghost use Rattle.cj_model.specs.Scripts.{moved_lines};
+ghost use Rattle.cj_model.specs.Cluster.Runs.{CanCountRequests};
+ghost use Rattle.cj_model.specs.Script.Lines.{moved_lines};
 ghost use Rattle.cj_script.specs.Script.{CameTo, InTurns};
 ghost use Rattle.cj_script.specs.Steps.{PlaysOrEnds, ReadsLine};
 ghost use Rattle.cj_script.specs.declared.play.ScriptEnd.TheVariants as ends;
@@ -84,7 +84,7 @@ fn play_line<B: Backend, O: Sink>(
     output: &mut O,
 ) -> Result<(), ScriptEnd>
     requires names { length names.now ≡ world.old.core.placement.backends }
-    requires count { 2 ≤ length line.now → CanCount world.old.core 1 }
+    requires count { 2 ≤ length line.now → CanCountRequests world.old.core 1 }
     ensures plays { PlaysOrEnds B.TELLS B.can_be_armed names.now (O.held output.old) (O.held output.new) world.old line.now number result world.new }
     ensures cause { CountsFault (IsErrOf result ends.WriteFault) (O.faults output.old) (O.faults output.new) }
 {
@@ -119,7 +119,7 @@ pub fn script<B: Backend, I: Source, O: Sink>(
     output: &mut O,
 ) -> ScriptEnd
     requires names { length names.now ≡ world.old.core.placement.backends }
-    requires count { CanCount world.old.core (2 ^ 61) }
+    requires count { CanCountRequests world.old.core (2 ^ 61) }
     ensures came { CameTo B.TELLS B.can_be_armed names.now (I.left input.old) (I.left input.new) (O.held output.old) (O.held output.new) world.old result world.new }
     ensures turns { InTurns B.TELLS names.now (I.left input.old) (I.left input.new) (O.held output.old) (O.held output.new) world.old world.new }
     ensures input { CountsFault (result ≡ ends.ReadFault) (I.faults input.old) (I.faults input.new) }

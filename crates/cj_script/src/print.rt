@@ -2,8 +2,8 @@
 
 ghost use Rattle.std.specs.Prelude.{◌≡◌, [], ◌∷◌, ◌++◌, IfOk, OnOk, string_bytes};
 ghost use Rattle.std.specs.List.{flat_map};
-ghost use Rattle.cj_model.specs.Scripts.{did_text, ended, moved_lines, moved_text, not_now_text, refusal_text, reply_text, row_text, rows_under};
-ghost use Rattle.cj_model.specs.Scripts as scripts;
+ghost use Rattle.cj_model.specs.Script.Lines.{did_text, with_line_feed, moved_lines, moved_text, not_now_text, refusal_text, reply_text, row_text, rows_under};
+ghost use Rattle.cj_model.specs.Script.Lines as lines;
 
 use cj_model::{
     Answer, Did, Made, Moved, Names, NoMemory, Outcome, Refusal, Reply, Row, Value, Why,
@@ -48,7 +48,7 @@ fn reply_words(alloc: Global, reply: &Reply) -> Result<String, NoMemory>
 
 /// The name of backend b; none where there is no such backend.
 fn name_at(names: &Names, b: u8) -> &[u8]
-    ensures { result.now ≡ scripts.name_at names.now b }
+    ensures { result.now ≡ lines.name_at names.now b }
 {
     match names.as_slice().get(b as usize) {
         Some(name) => name.as_slice(),
@@ -112,7 +112,7 @@ fn append_row(alloc: Global, lines: &mut Vec<u8>, mut values: &[Value]) -> Resul
 
 /// Adds a line for each of the rows.
 fn append_rows(alloc: Global, lines: &mut Vec<u8>, mut rows: &[Row]) -> Result<(), NoMemory>
-    ensures { OnOk result (lines.new.items ≡ lines.old.items ++ flat_map (λ row. ended (row_text row)) rows.entry.now) }
+    ensures { OnOk result (lines.new.items ≡ lines.old.items ++ flat_map (λ row. with_line_feed (row_text row)) rows.entry.now) }
 {
     while let [row, rest @ ..] = rows {
         append_row(alloc, lines, row.as_slice())?;
@@ -123,7 +123,7 @@ fn append_rows(alloc: Global, lines: &mut Vec<u8>, mut rows: &[Row]) -> Result<(
 }
 
 fn print_moved(alloc: Global, names: &Names, moved: &Moved) -> Result<Vec<u8>, NoMemory>
-    ensures { IfOk result (λ lines. lines.items ≡ ended (moved_text names.now moved.now) ++ rows_under moved.now) }
+    ensures { IfOk result (λ lines. lines.items ≡ with_line_feed (moved_text names.now moved.now) ++ rows_under moved.now) }
 {
     let mut lines = moved_words(alloc, names, moved)?;
     lines.push(b'\n')?;
@@ -134,7 +134,7 @@ fn print_moved(alloc: Global, names: &Names, moved: &Moved) -> Result<Vec<u8>, N
 }
 
 fn print_not_now(alloc: Global, why: &Why) -> Result<Vec<u8>, NoMemory>
-    ensures { IfOk result (λ lines. lines.items ≡ ended (not_now_text why.now)) }
+    ensures { IfOk result (λ lines. lines.items ≡ with_line_feed (not_now_text why.now)) }
 {
     let number = why.reason.number();
     let value = why.value;

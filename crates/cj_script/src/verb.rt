@@ -33,7 +33,7 @@ pub const VERBS: [(&[u8], Verb); 10] = [
 ];
 
 fn lookup(mut table: &[(&[u8], Verb)], word: &[u8]) -> Option<Verb>
-    ensures { result ≡ spec.lookup (map (λ entry. (entry.0.now, entry.1)) table.entry.now) word.now }
+    ensures { result ≡ spec.find_verb (map (λ entry. (entry.0.now, entry.1)) table.entry.now) word.now }
 {
     while let [entry, rest @ ..] = table {
         if entry.0 == word {

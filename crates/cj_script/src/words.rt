@@ -5,15 +5,15 @@ ghost use Rattle.std.specs.Char.{is_ascii_digit};
 ghost use Rattle.std.specs.List.{list_all};
 ghost use Rattle.std.specs.Str.{bytes_eq};
 ghost use Rattle.std.specs.Option.{option_copied};
-ghost use Rattle.cj_model.specs.Scripts.{IsBackend, IsNumber, IsWord};
-ghost use Rattle.cj_script.specs.Reading.{Cuts, Finds, IsFirstSpace, IsNamed, IsNumbered};
+ghost use Rattle.cj_model.specs.Script.Lines.{IsBackend, IsNumber, HasNoSpace};
+ghost use Rattle.cj_script.specs.Reading.{CutsWord, Finds, IsFirstSpace, IsNamed, IsNumbered};
 ghost use Rattle.cj_script.specs.Reading as spec;
 
 use cj_model::{BACKEND_LIMIT, Name, Names};
 
 /// The place of the first space.
 fn first_space(bytes: &[u8]) -> Option<usize>
-    ensures { MatchOption result (IsWord bytes.now) (λ at. IsFirstSpace bytes.now at) }
+    ensures { MatchOption result (HasNoSpace bytes.now) (λ at. IsFirstSpace bytes.now at) }
 {
     for (i, b) in bytes.iter().enumerate() {
         if *b == b' ' {
@@ -25,14 +25,14 @@ fn first_space(bytes: &[u8]) -> Option<usize>
 
 /// Whether the bytes are without a space.
 pub fn is_word(bytes: &[u8]) -> bool
-    ensures { IsTrue result ↔ IsWord bytes.now }
+    ensures { IsTrue result ↔ HasNoSpace bytes.now }
 {
     first_space(bytes).is_none()
 }
 
 /// The first word, and what follows the space behind it.
 pub fn cut(line: &[u8]) -> (&[u8], Option<&[u8]>)
-    ensures { Cuts line.now result.0.now (option_copied result.1) }
+    ensures { CutsWord line.now result.0.now (option_copied result.1) }
 {
     match first_space(line) {
         Some(at) => {

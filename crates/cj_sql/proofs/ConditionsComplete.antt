@@ -7,14 +7,14 @@ use Rattle.cj_model.specs.declared.token.Keyword.TheVariants as word
 use Rattle.cj_model.specs.declared.token.Symbol.TheVariants as symbol
 use Rattle.cj_model.specs.declared.term.Cmp.{Cmp}
 use Rattle.cj_model.specs.declared.term.Cmp.TheVariants as cmp
-use Rattle.cj_model.specs.Conditions.{Condition, Test, Not, And, Or}
-use Rattle.cj_model.specs.TermForms.{TermForm, term_tokens, term_meant, TermFits}
-use Rattle.cj_model.specs.ConditionForms.{CondForm, OrsForm, ConjForm, AndsForm, PrimForm, cmp_token, cond_tokens, ors_tokens, conj_tokens, ands_tokens, prim_tokens, cond_meant, ors_meant, conj_meant, ands_meant, prim_meant, CondNests, OrsNest, ConjNests, AndsNest, PrimNests, comparisons}
-use Rattle.cj_model.specs.ConditionForms as form
+use Rattle.cj_model.specs.Database.Conditions.{Condition, Test, Not, And, Or}
+use Rattle.cj_model.specs.Sql.TermForms.{TermForm, term_tokens, term_meant, TermFits}
+use Rattle.cj_model.specs.Sql.ConditionForms.{CondForm, OrsForm, ConjForm, AndsForm, PrimForm, cmp_token, cond_tokens, ors_tokens, conj_tokens, ands_tokens, prim_tokens, cond_meant, ors_meant, conj_meant, ands_meant, prim_meant, CondNests, OrsNest, ConjNests, AndsNest, PrimNests, comparisons}
+use Rattle.cj_model.specs.Sql.ConditionForms as form
 use Rattle.cj_sql.specs.declared.conditions.Connective.{Connective}
 use Rattle.cj_sql.specs.declared.conditions.Connective.TheVariants as connective
-use Rattle.cj_sql.specs.Reader.{read, same_word, same_symbol, sees_word, symbol_at, expect_symbol}
-use Rattle.cj_sql.specs.ConditionReader.{at, Conditions, comparison, compared, keyword_of, compound, more_connected, connected, conj, cond, parens, prim}
+use Rattle.cj_sql.specs.Proving.Reader.{read, same_word, same_symbol, sees_word, symbol_at, expect_symbol}
+use Rattle.cj_sql.specs.Proving.ConditionReader.{input_at, Conditions, comparison, compared, keyword_of, compound, more_connected, connected, conj, cond, parens, prim}
 use Rattle.cj_sql.proofs.Front.{word_sees}
 use Rattle.cj_sql.proofs.Ranks.{rank, no_word}
 use Rattle.cj_sql.proofs.TermsRead.{term_read, term_no_open, term_no_not}
@@ -73,10 +73,10 @@ ands_grow left (form.and p more) = let e = ands_grow (And left (prim_meant p)) m
 -- The reader reads each form that nests so, where what follows is above the level, and takes its comparisons from those that may come.
 abbrev IsComplete : {F : Type 0} → (F → List Token → List Token) → (F → Condition) → (F → Type 0) → ℕ → Conditions → Type 0
 IsComplete {F = F} tokens_of meant Nests level reader =
-    (f : F) (rest : List Token) (n k : ℕ) → Nests f → level < rank rest → n ≡ comparisons (meant f) + k → reader (at (tokens_of f rest) n) ≡ read (meant f) (at rest k)
+    (f : F) (rest : List Token) (n k : ℕ) → Nests f → level < rank rest → n ≡ comparisons (meant f) + k → reader (input_at (tokens_of f rest) n) ≡ read (meant f) (input_at rest k)
 
 test_complete : (a : TermForm) (op : Cmp) (b : TermForm) (rest : List Token) (n k : ℕ) → TermFits a → TermFits b → 0 < rank rest → n ≡ 1 + k
-    → compared (at (prim_tokens (form.test a op b) rest) n) ≡ read (Test op (term_meant a) (term_meant b)) (at rest k)
+    → compared (input_at (prim_tokens (form.test a op b) rest) n) ≡ read (Test op (term_meant a) (term_meant b)) (input_at rest k)
 unfolding compared
 test_complete a op b rest n k fa fb e h =
     let some : nat_lt 0 n ≡ true = grind (arith, nat_tests, h) in
@@ -92,7 +92,7 @@ test_complete a op b rest n k fa fb e h =
 -- After a condition, with comparisons enough and turns for each, the whole of what a connective joins is read.
 abbrev GoesOn : Connective → Conditions → Condition → List Token → Condition → List Token → ℕ → Type 0
 GoesOn by side left ts whole rest k =
-    (turns n : ℕ) → comparisons left + n ≡ comparisons whole + k → n ≤ turns → more_connected by side turns left (at ts n) ≡ read whole (at rest k)
+    (turns n : ℕ) → comparisons left + n ≡ comparisons whole + k → n ≤ turns → more_connected by side turns left (input_at ts n) ≡ read whole (input_at rest k)
 
 module _ (by : Connective) (side : Conditions) where
   -- so it is where the word doesn't follow
@@ -101,7 +101,7 @@ module _ (by : Connective) (side : Conditions) where
   none left rest k unseen zero n h room = let same : n ≡ k = omega (arith, h) in rw (unseen, same) refl
   none left rest k unseen (suc turns) n h room = let same : n ≡ k = omega (arith, h) in rw (unseen, same) refl
 
-  module _ {right whole : Condition} {ts us rest : List Token} {k : ℕ} (reads : (n m : ℕ) → n ≡ comparisons right + m → side (at ts n) ≡ read right (at us m)) where
+  module _ {right whole : Condition} {ts us rest : List Token} {k : ℕ} (reads : (n m : ℕ) → n ≡ comparisons right + m → side (input_at ts n) ≡ read right (input_at us m)) where
     -- where it does, after a side and what follows
     more : (left : Condition) → comparisons (compound by left right) ≤ comparisons whole
         → GoesOn by side (compound by left right) us whole rest k → GoesOn by side left (token.Word (keyword_of by) ∷ ts) whole rest k
@@ -114,7 +114,7 @@ module _ (by : Connective) (side : Conditions) where
         rw (word_sees (keyword_of by) ts, reads n m (omega (arith, both, fits, h))) (goes turns m (omega (arith, both, fits, h)) (omega (arith, some, both, fits, h, room)))
 
     -- and so the first side and what follows are read
-    first : comparisons right ≤ comparisons whole → GoesOn by side right us whole rest k → (n : ℕ) → n ≡ comparisons whole + k → connected by side (at ts n) ≡ read whole (at rest k)
+    first : comparisons right ≤ comparisons whole → GoesOn by side right us whole rest k → (n : ℕ) → n ≡ comparisons whole + k → connected by side (input_at ts n) ≡ read whole (input_at rest k)
     unfolding connected
     first fits goes n h =
         let m = n - comparisons right in

@@ -7,13 +7,13 @@ use Rattle.cj_model.specs.declared.token.Keyword.TheVariants as word
 use Rattle.cj_model.specs.declared.token.Symbol.{Symbol}
 use Rattle.cj_model.specs.declared.token.Symbol.TheVariants as symbol
 use Rattle.cj_model.specs.declared.term.Cmp.{Cmp}
-use Rattle.cj_model.specs.Conditions.{Condition, Test, Not}
-use Rattle.cj_model.specs.ConditionForms.{CondForm, OrsForm, ConjForm, AndsForm, PrimForm, cmp_token, cond_tokens, ors_tokens, conj_tokens, ands_tokens, prim_tokens, cond_meant, ors_meant, conj_meant, ands_meant, prim_meant, CondNests, OrsNest, ConjNests, AndsNest, PrimNests, comparisons}
-use Rattle.cj_model.specs.ConditionForms as form
+use Rattle.cj_model.specs.Database.Conditions.{Condition, Test, Not}
+use Rattle.cj_model.specs.Sql.ConditionForms.{CondForm, OrsForm, ConjForm, AndsForm, PrimForm, cmp_token, cond_tokens, ors_tokens, conj_tokens, ands_tokens, prim_tokens, cond_meant, ors_meant, conj_meant, ands_meant, prim_meant, CondNests, OrsNest, ConjNests, AndsNest, PrimNests, comparisons}
+use Rattle.cj_model.specs.Sql.ConditionForms as form
 use Rattle.cj_sql.specs.declared.conditions.Connective.{Connective}
 use Rattle.cj_sql.specs.declared.conditions.Connective.TheVariants as connective
-use Rattle.cj_sql.specs.Reader.{read, sees_word, sees_symbol}
-use Rattle.cj_sql.specs.ConditionReader.{Input, at, after, Conditions, cmp_of, given, comparison, compared, keyword_of, compound, more_connected, connected, conj, cond, parens, prim}
+use Rattle.cj_sql.specs.Proving.Reader.{read, sees_word, sees_symbol}
+use Rattle.cj_sql.specs.Proving.ConditionReader.{Input, input_at, input_after, Conditions, cmp_of, given, comparison, compared, keyword_of, compound, more_connected, connected, conj, cond, parens, prim}
 use Rattle.cj_sql.proofs.Binds.{branch, holds, fails, part, part_of}
 use Rattle.cj_sql.proofs.Front.{word_seen, symbol_seen, symbol_sound, expect_symbol_sound}
 use Rattle.cj_sql.proofs.TermsRead.{term_read}
@@ -103,7 +103,7 @@ test_sound depth i c o h = elim (branch (nat_lt 0 i.tests) _ _ _ h) [
 record Joins (by : Connective) (IsSide : Found) (IsMore : Condition → Found) (IsWhole : Found) : Type 0 where
   none : (left : Condition) → Finds (λ i. read left i) (IsMore left)
   more : (left : Condition) (i : Input) (x : Condition) (m : Input) (c : Condition) (o : Input) → i.rest ≡ token.Word (keyword_of by) ∷ drop 1 i.rest →
-      IsSide (after i) x m → IsMore (compound by left x) m c o → IsMore left i c o
+      IsSide (input_after i) x m → IsMore (compound by left x) m c o → IsMore left i c o
   whole : (i : Input) (x : Condition) (m : Input) (c : Condition) (o : Input) → IsSide i x m → IsMore x m c o → IsWhole i c o
 
 module _ (by : Connective) (side : Conditions) (IsSide : Found) (IsMore : Condition → Found) (IsWhole : Found) (joins : Joins by IsSide IsMore IsWhole) (sound : Finds side IsSide) where
@@ -112,7 +112,7 @@ module _ (by : Connective) (side : Conditions) (IsSide : Found) (IsMore : Condit
   more_sound zero left i c o h = elim (branch (sees_word (keyword_of by) i.rest) _ _ _ h) [ holds e k ↦ absurd (cc) | fails e k ↦ joins.none left i c o k ]
   more_sound (suc turns) left i c o h = elim (branch (sees_word (keyword_of by) i.rest) _ _ _ h) [
     | holds e k ↦
-        elim (part_of (sound (after i)) k) [
+        elim (part_of (sound (input_after i)) k) [
           | part x m a k ↦ joins.more left i x m c o (word_seen (keyword_of by) i.rest e) a (more_sound turns (compound by left x) m c o k)
         ]
     | fails e k ↦ joins.none left i c o k
@@ -144,7 +144,7 @@ module _ (depth : ℕ) (prim : Conditions) (sound : Finds prim (IsPrim depth)) w
   cond_sound_by : Finds (cond prim) (IsCond depth)
   cond_sound_by = connected_sound connective.Or (conj prim) (IsConj depth) (IsOrs depth) (IsCond depth) (or_joins depth) conj_sound
 
-  parens_sound : (i : Input) (c : Condition) (o : Input) → parens prim i ≡ read c o → IsCond depth i c (at (token.Symbol symbol.Close ∷ o.rest) o.tests)
+  parens_sound : (i : Input) (c : Condition) (o : Input) → parens prim i ≡ read c o → IsCond depth i c (input_at (token.Symbol symbol.Close ∷ o.rest) o.tests)
   unfolding parens
   parens_sound i c o h =
       elim (part_of (cond_sound_by i) h) [
@@ -163,7 +163,7 @@ unfolding prim
 prim_sound zero i c o h = test_sound zero i c o h
 prim_sound (suc depth) i c o h = elim (branch (sees_word word.Not i.rest) _ _ _ h) [
   | holds e k ↦
-      elim (part_of (prim_sound depth (after i)) k) [
+      elim (part_of (prim_sound depth (input_after i)) k) [
         | part x m a k ↦
             let w = word_seen word.Not i.rest e in
             let tests : m.tests ≡ o.tests = cc in
@@ -173,7 +173,7 @@ prim_sound (suc depth) i c o h = elim (branch (sees_word word.Not i.rest) _ _ _ 
       ]
   | fails e k ↦ elim (branch (sees_symbol symbol.Open i.rest) _ _ _ k) [
     | holds f k ↦
-        let a = parens_sound depth (prim depth) (prim_sound depth) (after i) c o k in
+        let a = parens_sound depth (prim depth) (prim_sound depth) (input_after i) c o k in
         let w = symbol_seen symbol.Open i.rest f in
         record { form = form.parens a.form; tokens_are = cc; means = cc; nests = a.nests; counts = omega arith }
     | fails f k ↦ test_sound (suc depth) i c o k

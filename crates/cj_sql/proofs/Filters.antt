@@ -2,11 +2,11 @@
 use Rattle.std.proofs.Common.{◌≡◌, refl, ap, ◌-◌, ◌<◌, List, drop, Option, None, Some, arith}
 use Rattle.cj_model.specs.declared.token.Token.{Token}
 use Rattle.cj_model.specs.declared.token.Keyword.TheVariants as word
-use Rattle.cj_model.specs.Conditions.{Condition}
-use Rattle.cj_model.specs.ConditionForms.{CondForm, cond_tokens, cond_meant, comparisons, CondFits}
-use Rattle.cj_model.specs.Grammar.{where_tokens, where_meant, WhereFits}
-use Rattle.cj_sql.specs.Reader.{read, same_word, sees_word}
-use Rattle.cj_sql.specs.ConditionReader.{at, condition, filter}
+use Rattle.cj_model.specs.Database.Conditions.{Condition}
+use Rattle.cj_model.specs.Sql.ConditionForms.{CondForm, cond_tokens, cond_meant, comparisons, CondFits}
+use Rattle.cj_model.specs.Sql.Grammar.{where_tokens, where_meant, WhereFits}
+use Rattle.cj_sql.specs.Proving.Reader.{read, same_word, sees_word}
+use Rattle.cj_sql.specs.Proving.ConditionReader.{input_at, condition, filter}
 use Rattle.cj_sql.proofs.Binds.{branch, holds, fails, part, part_of}
 use Rattle.cj_sql.proofs.Front.{word_seen}
 use Rattle.cj_sql.proofs.Lists.{IsForm, IsReaderOf}
@@ -17,7 +17,7 @@ use Rattle.cj_sql.proofs.ConditionsComplete.{cond_complete}
 condition_sound : (ts : List Token) (c : Condition) (rest : List Token) → condition ts ≡ read c rest → IsForm cond_tokens cond_meant CondFits ts c rest
 unfolding condition
 condition_sound ts c rest h =
-    elim (part_of (cond_sound 64 (at ts 256)) h) [
+    elim (part_of (cond_sound 64 (input_at ts 256)) h) [
       | part x o a k ↦
           let same = ap comparisons a.means in
           let m = a.counts in

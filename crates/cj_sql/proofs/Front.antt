@@ -7,7 +7,7 @@ use Rattle.cj_model.specs.declared.token.Keyword.{Keyword}
 use Rattle.cj_model.specs.declared.token.Symbol.{Symbol}
 use Rattle.cj_model.specs.declared.token.Token.{Token}
 use Rattle.cj_model.specs.declared.token.Token.TheVariants as token
-use Rattle.cj_sql.specs.Reader.{read, same_word, same_symbol, sees_word, sees_symbol, sees_end, name, number, text, symbol_at, expect_word, expect_symbol}
+use Rattle.cj_sql.specs.Proving.Reader.{read, same_word, same_symbol, sees_word, sees_symbol, sees_end, expect_name, expect_number, expect_text, symbol_at, expect_word, expect_symbol}
 use Rattle.cj_sql.proofs.Binds.{branch, holds, fails}
 
 -- a word that is seen stands there
@@ -35,22 +35,22 @@ end_seen [] h = refl
 end_seen (t ∷ ts) h = absurd (cc)
 
 -- a name that was read stood there
-pub name_sound : (ts : List Token) (n : List ℕ) (rest : List Token) → name ts ≡ read n rest → ts ≡ token.Name n ∷ rest
-unfolding name
+pub name_sound : (ts : List Token) (n : List ℕ) (rest : List Token) → expect_name ts ≡ read n rest → ts ≡ token.Name n ∷ rest
+unfolding expect_name
 name_sound [] n rest h = absurd (cc)
 name_sound (token.Name m ∷ ts) n rest h = cc
 name_sound (_ ∷ ts) n rest h = absurd (cc)
 
 -- a number that was read stood there
-pub number_sound : (ts : List Token) (n : ℕ) (rest : List Token) → number ts ≡ read n rest → ts ≡ token.Number n ∷ rest
-unfolding number
+pub number_sound : (ts : List Token) (n : ℕ) (rest : List Token) → expect_number ts ≡ read n rest → ts ≡ token.Number n ∷ rest
+unfolding expect_number
 number_sound [] n rest h = absurd (cc)
 number_sound (token.Number m ∷ ts) n rest h = cc
 number_sound (_ ∷ ts) n rest h = absurd (cc)
 
 -- a string that was read stood there
-pub text_sound : (ts : List Token) (x : List ℕ) (rest : List Token) → text ts ≡ read x rest → ts ≡ token.Text x ∷ rest
-unfolding text
+pub text_sound : (ts : List Token) (x : List ℕ) (rest : List Token) → expect_text ts ≡ read x rest → ts ≡ token.Text x ∷ rest
+unfolding expect_text
 text_sound [] x rest h = absurd (cc)
 text_sound (token.Text y ∷ ts) x rest h = cc
 text_sound (_ ∷ ts) x rest h = absurd (cc)

@@ -3,8 +3,8 @@ use Rattle.std.proofs.Common.{◌≡◌, ◌∙◌, refl, sym, ap, ℕ, zero, su
 use Rattle.cj_model.specs.declared.token.Token.{Token}
 use Rattle.cj_model.specs.declared.token.Token.TheVariants as token
 use Rattle.cj_model.specs.declared.token.Symbol.TheVariants as symbol
-use Rattle.cj_model.specs.TermForms.{commas, SomeFit}
-use Rattle.cj_sql.specs.Reader.{read, Reader, same_symbol, sees_symbol, items_from, items}
+use Rattle.cj_model.specs.Sql.TermForms.{commas, SomeFit}
+use Rattle.cj_sql.specs.Proving.Reader.{read, Reader, same_symbol, sees_symbol, items_from, items}
 use Rattle.cj_sql.proofs.Binds.{branch, holds, fails, part, part_of}
 use Rattle.cj_sql.proofs.Front.{symbol_seen}
 use Rattle.cj_sql.proofs.Ranks.{rank, no_symbol}

@@ -3,7 +3,7 @@ use Rattle.std.proofs.Common.{◌≡◌, refl, ℕ, ◌-◌, ◌≤◌, Bool, tr
 use Rattle.std.proofs.lemmas.List.{take_all}
 use Rattle.std.specs.List.{list_any}
 use Rattle.std.specs.Str.{bytes_eq}
-use Rattle.cj_model.specs.Tables.{is_distinct}
+use Rattle.cj_model.specs.Database.Tables.{is_distinct}
 
 -- what a slice gives as the rest after its first
 abbrev after_first : List (List ℕ) → List (List ℕ)

@@ -6,7 +6,7 @@ use Rattle.cj_model.specs.declared.token.Symbol.{Symbol}
 use Rattle.cj_model.specs.declared.token.Symbol.TheVariants as symbol
 use Rattle.cj_model.specs.declared.token.Token.{Token}
 use Rattle.cj_model.specs.declared.token.Token.TheVariants as token
-use Rattle.cj_sql.specs.Reader.{sees_word, sees_symbol}
+use Rattle.cj_sql.specs.Proving.Reader.{sees_word, sees_symbol}
 use Rattle.cj_sql.proofs.Front.{word_seen, symbol_seen}
 
 -- The larger, the larger the part that ends before it: 1 ends a column, 2 an expression, a key or a column's definition,

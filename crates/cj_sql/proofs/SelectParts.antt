@@ -11,11 +11,11 @@ use Rattle.cj_model.specs.declared.select.Item.TheVariants as item_of
 use Rattle.cj_model.specs.declared.select.Items.{Items}
 use Rattle.cj_model.specs.declared.select.Items.TheVariants as items_of
 use Rattle.cj_model.specs.declared.select.Key.{Key}
-use Rattle.cj_model.specs.TermForms.{commas, SomeFit, EachFits, AnyFits}
-use Rattle.cj_model.specs.Grammar.{Direction, KeyForm, item_tokens, items_tokens, group_tokens, direction_tokens, key_tokens, order_tokens, limit_tokens, descends, key_meant, ItemsFit, LimitFits}
-use Rattle.cj_model.specs.Grammar as grammar
-use Rattle.cj_sql.specs.Reader.{read, same_word, same_symbol, sees_word, sees_symbol, number, expect_word, expect_symbol, items}
-use Rattle.cj_sql.specs.SelectReader.{count, sum, item, listed, group, direction, key, order, limit}
+use Rattle.cj_model.specs.Sql.TermForms.{commas, SomeFit, EachFits, AnyFits}
+use Rattle.cj_model.specs.Sql.Grammar.{Direction, KeyForm, item_tokens, items_tokens, group_tokens, direction_tokens, key_tokens, order_tokens, limit_tokens, descends, key_meant, ItemsFit, LimitFits}
+use Rattle.cj_model.specs.Sql.Grammar as grammar
+use Rattle.cj_sql.specs.Proving.Reader.{read, same_word, same_symbol, sees_word, sees_symbol, expect_number, expect_word, expect_symbol, items}
+use Rattle.cj_sql.specs.Proving.SelectReader.{count_item, sum, item, select_items, group, direction, key, order, limit}
 use Rattle.cj_sql.proofs.Binds.{branch, holds, fails, part, part_of}
 use Rattle.cj_sql.proofs.Front.{word_seen, symbol_seen, number_sound, expect_word_sound, expect_symbol_sound}
 use Rattle.cj_sql.proofs.Lists.{IsForm, IsReaderOf, items_read, themselves_read}
@@ -25,8 +25,8 @@ use Rattle.cj_sql.proofs.TermsRead.{column_read, col_no_word, col_no_symbol}
 -- ---- items
 
 -- what was read after COUNT is an item with it
-count_sound : (ts us : List Token) (x : Item) (rest : List Token) → count us ≡ read x rest → ts ≡ token.Word word.Count ∷ us → IsForm item_tokens (λ i. i) AnyFits ts x rest
-unfolding count
+count_sound : (ts us : List Token) (x : Item) (rest : List Token) → count_item us ≡ read x rest → ts ≡ token.Word word.Count ∷ us → IsForm item_tokens (λ i. i) AnyFits ts x rest
+unfolding count_item
 count_sound ts us x rest h w =
     elim (part_of (expect_symbol_sound symbol.Open us) h) [
       | part _ ts1 a1 k1 ↦
@@ -61,7 +61,7 @@ item_sound ts x rest h = elim (branch (sees_word word.Count ts) _ _ _ h) [
 
 -- an item is read
 item_complete : (x : Item) (rest : List Token) → AnyFits x → 0 < rank rest → item (item_tokens x rest) ≡ read x rest
-unfolding item count sum expect_symbol same_word same_symbol
+unfolding item count_item sum expect_symbol same_word same_symbol
 item_complete (item_of.Col c) rest fits e =
     rw (col_no_word word.Count c.table c.column rest, col_no_word word.Sum c.table c.column rest, column_read.complete c rest tt e) refl
 item_complete item_of.Count rest fits e = refl
@@ -84,20 +84,20 @@ items_no_star (x ∷ []) rest some = item_no_star x rest
 items_no_star (x ∷ y ∷ more) rest some = item_no_star x (token.Symbol symbol.Comma ∷ commas item_tokens (y ∷ more) rest)
 
 -- what SELECT lists and was read stood there
-listed_sound : (ts : List Token) (x : Items) (rest : List Token) → listed ts ≡ read x rest → IsForm items_tokens (λ i. i) ItemsFit ts x rest
-unfolding listed
+listed_sound : (ts : List Token) (x : Items) (rest : List Token) → select_items ts ≡ read x rest → IsForm items_tokens (λ i. i) ItemsFit ts x rest
+unfolding select_items
 listed_sound ts x rest h = elim (branch (sees_symbol symbol.Star ts) _ _ _ h) [
   | holds e k ↦ let star = symbol_seen symbol.Star ts e in record { form = items_of.All; tokens_are = cc; means = cc; fits = tt }
   | fails e k ↦ elim (part_of (listed_items_read.sound ts) k) [ part xs us a k ↦ record { form = items_of.Listed a.form; tokens_are = cc; means = cc; fits = a.fits } ]
 ]
 
 -- what SELECT lists is read
-listed_complete : (x : Items) (rest : List Token) → ItemsFit x → 4 < rank rest → listed (items_tokens x rest) ≡ read x rest
-unfolding listed same_symbol
+listed_complete : (x : Items) (rest : List Token) → ItemsFit x → 4 < rank rest → select_items (items_tokens x rest) ≡ read x rest
+unfolding select_items same_symbol
 listed_complete items_of.All rest fits e = refl
 listed_complete (items_of.Listed xs) rest fits e = rw (items_no_star xs rest fits.0, listed_items_read.complete xs rest fits e) refl
 
-pub listed_read : IsReaderOf items_tokens (λ i. i) ItemsFit 4 listed
+pub listed_read : IsReaderOf items_tokens (λ i. i) ItemsFit 4 select_items
 listed_read = record { sound = listed_sound; complete = listed_complete }
 
 -- ---- GROUP BY
@@ -218,7 +218,7 @@ limit_sound ts x rest h = elim (branch (sees_word word.Limit ts) _ _ _ h) [
 ]
 
 limit_complete : (x : Option ℕ) (rest : List Token) → LimitFits x → 8 < rank rest → limit (limit_tokens x rest) ≡ read x rest
-unfolding limit number same_word
+unfolding limit expect_number same_word
 limit_complete None rest fits e = rw (no_word word.Limit rest e) refl
 limit_complete (Some n) rest fits e = let small : nat_lt n (2 ^ 63) ≡ true = grind (arith, nat_tests, fits) in rw small refl
 

@@ -8,12 +8,12 @@ use Rattle.cj_model.specs.declared.token.Keyword.TheVariants as word
 use Rattle.cj_model.specs.declared.term.ColRef.{ColRef}
 use Rattle.cj_model.specs.declared.request.Request.{Request}
 use Rattle.cj_model.specs.declared.request.Request.TheVariants as request
-use Rattle.cj_model.specs.Tables.{is_distinct}
-use Rattle.cj_model.specs.TermForms.{commas, SomeFit, AnyFits}
-use Rattle.cj_model.specs.ConditionForms.{CondForm}
-use Rattle.cj_model.specs.Grammar.{SelectForm, KeyForm, name_tokens, where_tokens, group_tokens, order_tokens, limit_tokens, select_tokens, select_meant, aggregates, SelectFits}
-use Rattle.cj_sql.specs.Reader.{read, same_word, name, expect_word, items}
-use Rattle.cj_sql.specs.SelectReader.{is_allowed, select}
+use Rattle.cj_model.specs.Database.Tables.{is_distinct}
+use Rattle.cj_model.specs.Sql.TermForms.{commas, SomeFit, AnyFits}
+use Rattle.cj_model.specs.Sql.ConditionForms.{CondForm}
+use Rattle.cj_model.specs.Sql.Grammar.{SelectForm, KeyForm, name_tokens, where_tokens, group_tokens, order_tokens, limit_tokens, select_tokens, select_meant, is_aggregate_query, SelectFits}
+use Rattle.cj_sql.specs.Proving.Reader.{read, same_word, expect_name, expect_word, items}
+use Rattle.cj_sql.specs.Proving.SelectReader.{is_allowed_select, select}
 use Rattle.cj_sql.proofs.Binds.{branch, holds, fails, part, part_of}
 use Rattle.cj_sql.proofs.Front.{name_sound, expect_word_sound}
 use Rattle.cj_sql.proofs.Lists.{IsForm, IsReaderOf, themselves_read}
@@ -23,14 +23,14 @@ use Rattle.cj_sql.proofs.SelectParts.{listed_read, group_read, order_read, limit
 
 -- ---- names
 
-name_complete : (n : List ℕ) (rest : List Token) → AnyFits n → 0 < rank rest → name (name_tokens n rest) ≡ read n rest
-unfolding name
+name_complete : (n : List ℕ) (rest : List Token) → AnyFits n → 0 < rank rest → expect_name (name_tokens n rest) ≡ read n rest
+unfolding expect_name
 name_complete n rest fits e = refl
 
 -- lists of names
-pub names_read : (limit : ℕ) → IsReaderOf (commas name_tokens) (λ ns. ns) (SomeFit AnyFits limit) 4 (items name limit)
+pub names_read : (limit : ℕ) → IsReaderOf (commas name_tokens) (λ ns. ns) (SomeFit AnyFits limit) 4 (items expect_name limit)
 names_read limit =
-    themselves_read name_tokens AnyFits 0 name limit (omega arith)
+    themselves_read name_tokens AnyFits 0 expect_name limit (omega arith)
     (record { sound = λ ts n rest h. record { form = n; tokens_are = name_sound ts n rest h; means = refl; fits = tt }; complete = name_complete })
 
 -- ---- the tables
@@ -48,8 +48,8 @@ has_one several n h e =
     ]
     refl h
 
-allowed : (s : SelectForm) → SelectFits s → is_allowed s.items s.tables s.group ≡ true
-allowed s fits = and_from _ _ fits.different (needs_one (aggregates s.items s.group) (length s.tables) fits.alone)
+allowed : (s : SelectForm) → SelectFits s → is_allowed_select s.items s.tables s.group ≡ true
+allowed s fits = and_from _ _ fits.different (needs_one (is_aggregate_query s.items s.group) (length s.tables) fits.alone)
 
 -- ---- what follows each clause ends the one before
 
@@ -93,11 +93,11 @@ select_sound ts us r rest h w =
                                     | part o ts6 a6 k6 ↦
                                         elim (part_of (limit_read.sound ts6) k6) [
                                           | part l ts7 a7 k7 ↦
-                                              elim (branch (is_allowed xs tables g) _ _ _ k7) [
+                                              elim (branch (is_allowed_select xs tables g) _ _ _ k7) [
                                                 | holds e k8 ↦
                                                     let f : SelectForm = record { items = a1.form; tables = a3.form; cond = a4.form; group = a5.form; order = a6.form; limit = a7.form } in
-                                                    let same : is_allowed a1.form a3.form a5.form ≡ true = cc in
-                                                    let both = and_parts (is_distinct a3.form) ((length a3.form == 1) || not (aggregates a1.form a5.form)) same in
+                                                    let same : is_allowed_select a1.form a3.form a5.form ≡ true = cc in
+                                                    let both = and_parts (is_distinct a3.form) ((length a3.form == 1) || not (is_aggregate_query a1.form a5.form)) same in
                                                     record {
                                                       form = f;
                                                       tokens_are = cc;
@@ -110,7 +110,7 @@ select_sound ts us r rest h w =
                                                             cond = a4.fits;
                                                             order = a6.fits;
                                                             limit = a7.fits;
-                                                            alone = has_one (aggregates a1.form a5.form) (length a3.form) both.1;
+                                                            alone = has_one (is_aggregate_query a1.form a5.form) (length a3.form) both.1;
                                                           };
                                                     }
                                                 | fails e k8 ↦ absurd (cc)

@@ -9,11 +9,11 @@ use Rattle.cj_model.specs.declared.value.Kind.TheVariants as kind
 use Rattle.cj_model.specs.declared.term.Term.{Term}
 use Rattle.cj_model.specs.declared.schema.ColDef.{ColDef}
 use Rattle.cj_model.specs.declared.write.Set.{Set}
-use Rattle.cj_model.specs.TermForms.{ConstForm, commas, SomeFit, AnyFits, const_tokens, const_meant, ConstFits}
-use Rattle.cj_model.specs.Grammar.{SetForm, kind_token, primary_tokens, coldef_tokens, tuple_tokens, list_tokens, set_tokens, set_meant, ListFits, SetFits}
-use Rattle.cj_sql.specs.Reader.{read, same_word, same_symbol, sees_word, sees_symbol, name, expect_word, expect_symbol, items}
-use Rattle.cj_sql.specs.TermReader.{constant}
-use Rattle.cj_sql.specs.StatementReader.{kind_of, primary, coldef, tuple, columns, assignment}
+use Rattle.cj_model.specs.Sql.TermForms.{ConstForm, commas, SomeFit, AnyFits, const_tokens, const_meant, ConstFits}
+use Rattle.cj_model.specs.Sql.Grammar.{SetForm, kind_token, primary_tokens, coldef_tokens, tuple_tokens, list_tokens, set_tokens, set_meant, ListFits, SetFits}
+use Rattle.cj_sql.specs.Proving.Reader.{read, same_word, same_symbol, sees_word, sees_symbol, expect_name, expect_word, expect_symbol, items}
+use Rattle.cj_sql.specs.Proving.TermReader.{const_term}
+use Rattle.cj_sql.specs.Proving.StatementReader.{column_kind, primary, coldef, tuple, columns, set_clause}
 use Rattle.cj_sql.proofs.Binds.{branch, holds, fails, part, part_of}
 use Rattle.cj_sql.proofs.Front.{word_seen, symbol_seen, name_sound, expect_word_sound, expect_symbol_sound}
 use Rattle.cj_sql.proofs.Lists.{IsForm, IsReaderOf, items_read, themselves_read}
@@ -24,8 +24,8 @@ use Rattle.cj_sql.proofs.Selects.{names_read}
 -- ---- columns
 
 -- a kind that was read stood there
-kind_sound : (ts : List Token) (k : Kind) (rest : List Token) → kind_of ts ≡ read k rest → ts ≡ kind_token k ∷ rest
-unfolding kind_of
+kind_sound : (ts : List Token) (k : Kind) (rest : List Token) → column_kind ts ≡ read k rest → ts ≡ kind_token k ∷ rest
+unfolding column_kind
 kind_sound ts k rest h = elim (branch (sees_word word.Integer ts) _ _ _ h) [
   | holds e g ↦ let w = word_seen word.Integer ts e in cc
   | fails e g ↦ elim (part_of (expect_word_sound word.Text ts) g) [ part u us w g ↦ cc ]
@@ -57,7 +57,7 @@ coldef_sound ts c rest h =
 -- a column is read, by its parts
 coldef_of : (n : List ℕ) (k : Kind) (b : Bool) (rest : List Token) → 1 < rank rest
     → coldef (token.Name n ∷ kind_token k ∷ primary_tokens b rest) ≡ read (record { name = n; kind = k; key = b }) rest
-unfolding coldef kind_of primary name expect_word same_word
+unfolding coldef column_kind primary expect_name expect_word same_word
 coldef_of n kind.Integer true rest e = refl
 coldef_of n kind.Integer false rest e = rw (no_word word.Primary rest e) refl
 coldef_of n kind.Text true rest e = refl
@@ -71,8 +71,8 @@ coldefs_read =
 -- ---- tuples
 
 -- lists of constants
-constants_read : IsReaderOf (commas const_tokens) (map const_meant) (SomeFit ConstFits 16) 4 (items constant 16)
-constants_read = items_read const_tokens const_meant ConstFits 0 constant 16 (omega arith) constant_read
+constants_read : IsReaderOf (commas const_tokens) (map const_meant) (SomeFit ConstFits 16) 4 (items const_term 16)
+constants_read = items_read const_tokens const_meant ConstFits 0 const_term 16 (omega arith) constant_read
 
 -- a tuple that was read stood there
 tuple_sound : (ts : List Token) (xs : List Term) (rest : List Token) → tuple ts ≡ read xs rest → IsForm tuple_tokens (map const_meant) (SomeFit ConstFits 16) ts xs rest
@@ -122,8 +122,8 @@ columns_complete (Some ns) rest fits = rw ((names_read 16).complete ns (token.Sy
 -- ---- assignments
 
 -- an assignment that was read stood there
-set_sound : (ts : List Token) (x : Set) (rest : List Token) → assignment ts ≡ read x rest → IsForm set_tokens set_meant SetFits ts x rest
-unfolding assignment
+set_sound : (ts : List Token) (x : Set) (rest : List Token) → set_clause ts ≡ read x rest → IsForm set_tokens set_meant SetFits ts x rest
+unfolding set_clause
 set_sound ts x rest h =
     elim (part_of (name_sound ts) h) [
       | part n ts1 a1 k1 ↦
@@ -137,10 +137,10 @@ set_sound ts x rest h =
     ]
 
 -- an assignment is read
-set_complete : (s : SetForm) (rest : List Token) → SetFits s → 1 < rank rest → assignment (set_tokens s rest) ≡ read (set_meant s) rest
-unfolding assignment name expect_symbol same_symbol
+set_complete : (s : SetForm) (rest : List Token) → SetFits s → 1 < rank rest → set_clause (set_tokens s rest) ≡ read (set_meant s) rest
+unfolding set_clause expect_name expect_symbol same_symbol
 set_complete s rest fits e = rw (expr_read.complete s.value rest fits e) refl
 
 -- lists of assignments
-pub sets_read : IsReaderOf (commas set_tokens) (map set_meant) (SomeFit SetFits 16) 4 (items assignment 16)
-sets_read = items_read set_tokens set_meant SetFits 1 assignment 16 (omega arith) (record { sound = set_sound; complete = set_complete })
+pub sets_read : IsReaderOf (commas set_tokens) (map set_meant) (SomeFit SetFits 16) 4 (items set_clause 16)
+sets_read = items_read set_tokens set_meant SetFits 1 set_clause 16 (omega arith) (record { sound = set_sound; complete = set_complete })

@@ -5,12 +5,12 @@ use Rattle.cj_model.specs.declared.token.Token.TheVariants as token
 use Rattle.cj_model.specs.declared.token.Keyword.TheVariants as word
 use Rattle.cj_model.specs.declared.token.Symbol.TheVariants as symbol
 use Rattle.cj_model.specs.declared.request.Request.{Request}
-use Rattle.cj_model.specs.TermForms.{commas}
-use Rattle.cj_model.specs.Grammar.{SetForm, Statement, tuple_tokens, where_tokens, statement_tokens, statement_meant, StatementFits, end_tokens, Reads}
-use Rattle.cj_model.specs.Grammar as grammar
-use Rattle.cj_sql.specs.Reader.{read, same_word, same_symbol, sees_word, sees_symbol, sees_end, name, expect_word, expect_symbol}
-use Rattle.cj_sql.specs.SelectReader.{select}
-use Rattle.cj_sql.specs.StatementReader.{create, drop_table, insert, update, delete, statement, past_semicolon, whole}
+use Rattle.cj_model.specs.Sql.TermForms.{commas}
+use Rattle.cj_model.specs.Sql.Grammar.{SetForm, Statement, tuple_tokens, where_tokens, statement_tokens, statement_meant, StatementFits, end_tokens, TokensReadAs}
+use Rattle.cj_model.specs.Sql.Grammar as grammar
+use Rattle.cj_sql.specs.Proving.Reader.{read, same_word, same_symbol, sees_word, sees_symbol, sees_end, expect_name, expect_word, expect_symbol}
+use Rattle.cj_sql.specs.Proving.SelectReader.{select}
+use Rattle.cj_sql.specs.Proving.StatementReader.{create, drop_table, insert, update, delete, statement, past_semicolon, whole}
 use Rattle.cj_sql.proofs.Binds.{branch, holds, fails, part, part_of}
 use Rattle.cj_sql.proofs.Front.{word_seen, symbol_seen, end_seen, name_sound, expect_word_sound, expect_symbol_sound}
 use Rattle.cj_sql.proofs.Lists.{IsForm}
@@ -135,7 +135,7 @@ statement_sound ts r rest h = elim (branch (sees_word word.Create ts) _ _ _ h) [
 
 -- a statement is read before what ends each of its parts
 statement_complete : (form : Statement) (rest : List Token) → StatementFits form → 8 < rank rest → statement (statement_tokens form rest) ≡ read (statement_meant form) rest
-unfolding statement create drop_table insert update delete expect_word expect_symbol name same_word same_symbol
+unfolding statement create drop_table insert update delete expect_word expect_symbol expect_name same_word same_symbol
 statement_complete (grammar.create n cs) rest fits e = rw (coldefs_read.complete cs (token.Symbol symbol.Close ∷ rest) fits (omega arith)) refl
 statement_complete (grammar.drop n) rest fits e = refl
 statement_complete (grammar.insert n names rows) rest fits e =
@@ -152,9 +152,9 @@ statement_complete grammar.rollback rest fits e = refl
 -- ---- requests
 
 -- a statement with nothing after it but a semicolon is a request
-ended : (ts : List Token) (r : Request) (rest : List Token) → IsStatement ts r rest → sees_end (past_semicolon rest) ≡ true → Reads ts r
+ended : (ts : List Token) (r : Request) (rest : List Token) → IsStatement ts r rest → sees_end (past_semicolon rest) ≡ true → TokensReadAs ts r
 ended ts r rest a e =
-    elim (sees_symbol symbol.Semi rest) as (λ v. sees_symbol symbol.Semi rest ≡ v → sees_end (cond v (drop 1 rest) rest) ≡ true → Reads ts r) [
+    elim (sees_symbol symbol.Semi rest) as (λ v. sees_symbol symbol.Semi rest ≡ v → sees_end (cond v (drop 1 rest) rest) ≡ true → TokensReadAs ts r) [
       | true ↦ λ f g.
           let last = symbol_seen symbol.Semi rest f ∙ ap (λ us. token.Symbol symbol.Semi ∷ us) (end_seen (drop 1 rest) g) in
           record { statement = a.form; semicolon = true; tokens_are = a.tokens_are ∙ ap (statement_tokens a.form) last; fits = a.fits; meant = sym a.means }
@@ -164,7 +164,7 @@ ended ts r rest a e =
     refl e
 
 -- what is read is what the tokens read as
-pub whole_sound : (ts : List Token) (r : Request) (rest : List Token) → whole ts ≡ read r rest → Reads ts r
+pub whole_sound : (ts : List Token) (r : Request) (rest : List Token) → whole ts ≡ read r rest → TokensReadAs ts r
 unfolding whole
 whole_sound ts r rest h =
     elim (part_of (statement_sound ts) h) [
@@ -172,7 +172,7 @@ whole_sound ts r rest h =
           elim (branch (sees_end (past_semicolon us)) _ _ _ k) [
             | holds e k ↦
                 let same : x ≡ r = cc in
-                let P : Request → Type 0 = λ y. Reads ts y in
+                let P : Request → Type 0 = λ y. TokensReadAs ts y in
                 subst P same (ended ts x us a e)
             | fails e k ↦ absurd (cc)
           ]
@@ -191,7 +191,7 @@ with_end form true h = rw h refl
 with_end form false h = rw h refl
 
 -- what the tokens read as is read
-pub whole_complete : (ts : List Token) (r : Request) → Reads ts r → whole ts ≡ read r []
+pub whole_complete : (ts : List Token) (r : Request) → TokensReadAs ts r → whole ts ≡ read r []
 whole_complete ts r x =
     let a = with_end x.statement x.semicolon (statement_complete x.statement (end_tokens x.semicolon) x.fits (end_rank x.semicolon)) in
     rw (x.tokens_are, x.meant) a

@@ -11,10 +11,10 @@ use Rattle.cj_model.specs.declared.token.Symbol.TheVariants as symbol
 use Rattle.cj_model.specs.declared.term.ColRef.{ColRef}
 use Rattle.cj_model.specs.declared.term.Term.{Term}
 use Rattle.cj_model.specs.declared.term.Expr.{Expr}
-use Rattle.cj_model.specs.TermForms.{AnyFits, ConstForm, TermForm, ExprForm, const_tokens, const_meant, ConstFits, qualifier_tokens, col_tokens, term_tokens, term_meant, TermFits, expr_tokens, expr_meant, ExprFits}
-use Rattle.cj_model.specs.TermForms as form
-use Rattle.cj_sql.specs.Reader.{read, same_word, same_symbol, sees_word, sees_symbol, sees_number, sees_name, name, number, text, expect_symbol}
-use Rattle.cj_sql.specs.TermReader.{positive, negative, string, now, rand, constant, qualified, column, term, combined, expr}
+use Rattle.cj_model.specs.Sql.TermForms.{AnyFits, ConstForm, TermForm, ExprForm, const_tokens, const_meant, ConstFits, qualifier_tokens, col_tokens, term_tokens, term_meant, TermFits, expr_tokens, expr_meant, ExprFits}
+use Rattle.cj_model.specs.Sql.TermForms as form
+use Rattle.cj_sql.specs.Proving.Reader.{read, same_word, same_symbol, sees_word, sees_symbol, sees_number, sees_name, expect_name, expect_number, expect_text, expect_symbol}
+use Rattle.cj_sql.specs.Proving.TermReader.{positive, negative, string, now, rand, const_term, qualified, column, term, combined, expr}
 use Rattle.cj_sql.proofs.Binds.{branch, holds, fails, part, part_of}
 use Rattle.cj_sql.proofs.Front.{word_seen, symbol_seen, name_sound, number_sound, text_sound, expect_symbol_sound}
 use Rattle.cj_sql.proofs.Lists.{IsForm, IsReaderOf}
@@ -84,8 +84,8 @@ rand_sound ts x rest h =
     ]
 
 -- a constant that was read stood there
-constant_sound : (ts : List Token) (x : Term) (rest : List Token) → constant ts ≡ read x rest → IsConstant ts x rest
-unfolding constant
+constant_sound : (ts : List Token) (x : Term) (rest : List Token) → const_term ts ≡ read x rest → IsConstant ts x rest
+unfolding const_term
 constant_sound ts x rest h =
     let P : List Token → Type 0 = λ us. IsConstant us x rest in
     elim (branch (sees_symbol symbol.Minus ts) _ _ _ h) [
@@ -103,8 +103,8 @@ constant_sound ts x rest h =
     ]
 
 -- a constant is read
-constant_complete : (f : ConstForm) (rest : List Token) → ConstFits f → 0 < rank rest → constant (const_tokens f rest) ≡ read (const_meant f) rest
-unfolding constant positive negative string now rand expect_symbol number text same_word same_symbol
+constant_complete : (f : ConstForm) (rest : List Token) → ConstFits f → 0 < rank rest → const_term (const_tokens f rest) ≡ read (const_meant f) rest
+unfolding const_term positive negative string now rand expect_symbol expect_number expect_text same_word same_symbol
 constant_complete (form.number n) rest fits e = grind (arith, nat_tests, fits)
 constant_complete (form.minus n) rest fits e = grind (arith, nat_tests, fits)
 constant_complete (form.string x) rest fits e = refl
@@ -116,7 +116,7 @@ constant_complete (form.rand n) rest fits e =
     let small : nat_lt n (2 ^ 63) ≡ true = grind (arith, nat_tests, high) in
     rw (some, small) refl
 
-pub constant_read : IsReaderOf const_tokens const_meant ConstFits 0 constant
+pub constant_read : IsReaderOf const_tokens const_meant ConstFits 0 const_term
 constant_read = record { sound = constant_sound; complete = constant_complete }
 
 -- no constant begins with a name
@@ -146,7 +146,7 @@ column_sound ts c rest h =
 -- a column is read, by its parts
 column_of : (table : Option (List ℕ)) (n : List ℕ) (rest : List Token) → 0 < rank rest
     → column (qualifier_tokens table (token.Name n ∷ rest)) ≡ read (record { table = table; column = n }) rest
-unfolding column qualified name same_symbol
+unfolding column qualified expect_name same_symbol
 column_of None n rest e = rw (no_symbol symbol.Dot rest e) refl
 column_of (Some t) n rest e = refl
 

@@ -1,7 +1,2 @@
-pub mod ConditionReader
-pub mod Cursor
+pub mod Proving
 pub mod Read
-pub mod Reader
-pub mod SelectReader
-pub mod StatementReader
-pub mod TermReader

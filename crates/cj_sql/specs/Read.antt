@@ -1,12 +1,12 @@
 -- What reading the text of a request answers.
 use Rattle.std.specs.Prelude.{◌≡◌, ℕ, List, Result, Ok, Err}
 use Rattle.cj_model.specs.declared.request.Request.{Request}
-use Rattle.cj_model.specs.Grammar.{TextReads, ReadsNothing}
+use Rattle.cj_model.specs.Sql.Grammar.{TextReadsAs, ReadsAsNothing}
 use Rattle.cj_lex.specs.declared.error.SqlError.{SqlError}
 use Rattle.cj_lex.specs.declared.error.SqlError.TheVariants.{Syntax, NoMemory}
 
 -- the one request that the text reads as; or it reads as none; or there was no memory
 abbrev pub IsRead : List ℕ → Result Request SqlError → Type 0
-IsRead text (Ok r) = TextReads text r × ((other : Request) → TextReads text other → other ≡ r)
-IsRead text (Err Syntax) = ReadsNothing text
+IsRead text (Ok r) = TextReadsAs text r × ((other : Request) → TextReadsAs text other → other ≡ r)
+IsRead text (Err Syntax) = ReadsAsNothing text
 IsRead text (Err NoMemory) = Unit {0}

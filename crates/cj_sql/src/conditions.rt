@@ -2,11 +2,11 @@
 //! than `DEPTH_LIMIT` NOTs and parentheses, so neither reading nor dropping one goes deep.
 
 ghost use Rattle.std.specs.Prelude.{◌≡◌, IfOk};
-ghost use Rattle.cj_model.specs.ConditionShape.{shape};
-ghost use Rattle.cj_model.specs.Conditions as tree;
-ghost use Rattle.cj_sql.specs.Cursor.{Reads, ReadsNode};
-ghost use Rattle.cj_sql.specs.ConditionReader as spec;
-ghost use Rattle.cj_sql.specs.ConditionReader.{at};
+ghost use Rattle.cj_model.specs.Proving.ConditionNodes.{condition_of_node};
+ghost use Rattle.cj_model.specs.Database.Conditions as tree;
+ghost use Rattle.cj_sql.specs.Proving.Cursor.{ReadsAs, ReadsNode};
+ghost use Rattle.cj_sql.specs.Proving.ConditionReader as spec;
+ghost use Rattle.cj_sql.specs.Proving.ConditionReader.{input_at};
 
 use crate::terms::term;
 use crate::tokens::Tokens;
@@ -15,7 +15,7 @@ use cj_model::{Cmp, Cond, CondNode, DEPTH_LIMIT, Keyword, Symbol, TEST_LIMIT};
 use std::alloc::{AllocError, Global};
 
 fn not(alloc: Global, inner: CondNode) -> Result<CondNode, AllocError>
-    ensures { IfOk result (λ node. shape node ≡ tree.Not (shape inner)) }
+    ensures { IfOk result (λ node. condition_of_node node ≡ tree.Not (condition_of_node inner)) }
 {
     Ok(CondNode::Not(Box::new(alloc, inner)?))
 }
@@ -39,7 +39,7 @@ impl Connective {
 
     /// The condition that it makes of two.
     fn connect(self, alloc: Global, left: CondNode, right: CondNode) -> Result<CondNode, AllocError>
-        ensures { IfOk result (λ node. shape node ≡ spec.compound self (shape left) (shape right)) }
+        ensures { IfOk result (λ node. condition_of_node node ≡ spec.compound self (condition_of_node left) (condition_of_node right)) }
     {
         let left = Box::new(alloc, left)?;
         let right = Box::new(alloc, right)?;
@@ -64,9 +64,9 @@ fn cmp_of(symbol: Symbol) -> Option<Cmp>
     }
 }
 
-#[tactic(auto, unfolding(crate::specs::ConditionReader::comparison))]
+#[tactic(auto, unfolding(crate::specs::Proving::ConditionReader::comparison))]
 fn comparison(tokens: &mut Tokens) -> Result<Cmp, SqlError>
-    ensures { Reads spec.comparison tokens.old result tokens.new }
+    ensures { ReadsAs spec.comparison tokens.old result tokens.new }
 {
     let symbol = tokens.symbol()?;
     match cmp_of(symbol) {
@@ -76,9 +76,9 @@ fn comparison(tokens: &mut Tokens) -> Result<Cmp, SqlError>
 }
 
 /// Two terms with a comparison between them, which is one of those that may still come.
-#[tactic(auto, unfolding(crate::specs::ConditionReader::compared))]
+#[tactic(auto, unfolding(crate::specs::Proving::ConditionReader::compared))]
 fn test(tokens: &mut Tokens, tests: &mut usize) -> Result<CondNode, SqlError>
-    ensures { ReadsNode spec.compared (at tokens.old tests.old) result (at tokens.new tests.new) }
+    ensures { ReadsNode spec.compared (input_at tokens.old tests.old) result (input_at tokens.new tests.new) }
 {
     if *tests == 0 {
         return Err(SqlError::Syntax);
@@ -92,14 +92,14 @@ fn test(tokens: &mut Tokens, tests: &mut usize) -> Result<CondNode, SqlError>
 
 /// A comparison, or a condition behind NOT or in parentheses, within `depth` of those more.
 #[cycle(cond)]
-#[tactic(auto, unfolding(crate::specs::ConditionReader::prim))]
+#[tactic(auto, unfolding(crate::specs::Proving::ConditionReader::prim))]
 fn prim(
     alloc: Global,
     tokens: &mut Tokens,
     tests: &mut usize,
     depth: usize,
 ) -> Result<CondNode, SqlError>
-    ensures { ReadsNode (spec.prim depth) (at tokens.old tests.old) result (at tokens.new tests.new) }
+    ensures { ReadsNode (spec.prim depth) (input_at tokens.old tests.old) result (input_at tokens.new tests.new) }
 {
     if depth == 0 {
         return test(tokens, tests);
@@ -123,7 +123,7 @@ fn side(
     depth: usize,
     by: Connective,
 ) -> Result<CondNode, SqlError>
-    ensures { ReadsNode (spec.side (spec.prim depth) by) (at tokens.old tests.old) result (at tokens.new tests.new) }
+    ensures { ReadsNode (spec.side (spec.prim depth) by) (input_at tokens.old tests.old) result (input_at tokens.new tests.new) }
 {
     match by {
         Connective::And => prim(alloc, tokens, tests, depth),
@@ -134,7 +134,7 @@ fn side(
 /// Conditions joined by a connective. Each has a comparison, so there are no more of them than may
 /// come.
 #[cycle(cond)]
-#[tactic(auto, unfolding(crate::specs::ConditionReader::connected))]
+#[tactic(auto, unfolding(crate::specs::Proving::ConditionReader::connected))]
 fn connected(
     alloc: Global,
     tokens: &mut Tokens,
@@ -142,7 +142,7 @@ fn connected(
     depth: usize,
     by: Connective,
 ) -> Result<CondNode, SqlError>
-    ensures { ReadsNode (spec.connected by (spec.side (spec.prim depth) by)) (at tokens.old tests.old) result (at tokens.new tests.new) }
+    ensures { ReadsNode (spec.connected by (spec.side (spec.prim depth) by)) (input_at tokens.old tests.old) result (input_at tokens.new tests.new) }
 {
     let mut left = side(alloc, tokens, tests, depth, by)?;
     let turns = *tests;
@@ -161,23 +161,23 @@ fn connected(
 
 /// The rest of a condition in parentheses.
 #[cycle(cond)]
-#[tactic(auto, unfolding(crate::specs::ConditionReader::parens))]
+#[tactic(auto, unfolding(crate::specs::Proving::ConditionReader::parens))]
 fn parens(
     alloc: Global,
     tokens: &mut Tokens,
     tests: &mut usize,
     depth: usize,
 ) -> Result<CondNode, SqlError>
-    ensures { ReadsNode (spec.parens (spec.prim depth)) (at tokens.old tests.old) result (at tokens.new tests.new) }
+    ensures { ReadsNode (spec.parens (spec.prim depth)) (input_at tokens.old tests.old) result (input_at tokens.new tests.new) }
 {
     let inner = connected(alloc, tokens, tests, depth, Connective::Or)?;
     tokens.expect_symbol(Symbol::Close)?;
     Ok(inner)
 }
 
-#[tactic(auto, unfolding(crate::specs::ConditionReader::condition))]
+#[tactic(auto, unfolding(crate::specs::Proving::ConditionReader::condition))]
 fn condition(alloc: Global, tokens: &mut Tokens) -> Result<Cond, SqlError>
-    ensures { Reads spec.condition tokens.old result tokens.new }
+    ensures { ReadsAs spec.condition tokens.old result tokens.new }
 {
     let mut tests = TEST_LIMIT;
     let root = connected(alloc, tokens, &mut tests, DEPTH_LIMIT, Connective::Or)?;
@@ -185,9 +185,9 @@ fn condition(alloc: Global, tokens: &mut Tokens) -> Result<Cond, SqlError>
 }
 
 /// The condition of WHERE, if there is one.
-#[tactic(auto, unfolding(crate::specs::ConditionReader::filter))]
+#[tactic(auto, unfolding(crate::specs::Proving::ConditionReader::filter))]
 pub fn filter(alloc: Global, tokens: &mut Tokens) -> Result<Option<Cond>, SqlError>
-    ensures { Reads spec.filter tokens.old result tokens.new }
+    ensures { ReadsAs spec.filter tokens.old result tokens.new }
 {
     if !tokens.eat_word(Keyword::Where) {
         return Ok(None);

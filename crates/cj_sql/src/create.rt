@@ -1,7 +1,7 @@
 //! CREATE TABLE and DROP TABLE.
 
-ghost use Rattle.cj_sql.specs.Cursor.{Reads};
-ghost use Rattle.cj_sql.specs.StatementReader as spec;
+ghost use Rattle.cj_sql.specs.Proving.Cursor.{ReadsAs};
+ghost use Rattle.cj_sql.specs.Proving.StatementReader as spec;
 
 use crate::list::{Element, items};
 use crate::tokens::Tokens;
@@ -9,9 +9,9 @@ use cj_lex::SqlError;
 use cj_model::{COLUMN_LIMIT, ColDef, Create, Keyword, Kind, Request, Symbol};
 use std::alloc::Global;
 
-#[tactic(auto, unfolding(crate::specs::StatementReader::kind_of))]
+#[tactic(auto, unfolding(crate::specs::Proving::StatementReader::column_kind))]
 fn kind(tokens: &mut Tokens) -> Result<Kind, SqlError>
-    ensures { Reads spec.kind_of tokens.old result tokens.new }
+    ensures { ReadsAs spec.column_kind tokens.old result tokens.new }
 {
     if tokens.eat_word(Keyword::Integer) {
         return Ok(Kind::Integer);
@@ -21,9 +21,9 @@ fn kind(tokens: &mut Tokens) -> Result<Kind, SqlError>
 }
 
 /// Whether PRIMARY KEY stands here.
-#[tactic(auto, unfolding(crate::specs::StatementReader::primary))]
+#[tactic(auto, unfolding(crate::specs::Proving::StatementReader::primary))]
 fn primary(tokens: &mut Tokens) -> Result<bool, SqlError>
-    ensures { Reads spec.primary tokens.old result tokens.new }
+    ensures { ReadsAs spec.primary tokens.old result tokens.new }
 {
     if !tokens.eat_word(Keyword::Primary) {
         return Ok(false);
@@ -33,11 +33,11 @@ fn primary(tokens: &mut Tokens) -> Result<bool, SqlError>
 }
 
 impl Element for ColDef {
-    ghost use Rattle.cj_sql.specs.StatementReader.{coldef};
+    ghost use Rattle.cj_sql.specs.Proving.StatementReader.{coldef};
 
     ghost reader = { coldef };
 
-    #[tactic(auto, unfolding(crate::specs::StatementReader::coldef))]
+    #[tactic(auto, unfolding(crate::specs::Proving::StatementReader::coldef))]
     fn read(_alloc: Global, tokens: &mut Tokens) -> Result<ColDef, SqlError> {
         let name = tokens.name()?;
         let kind = kind(tokens)?;
@@ -47,9 +47,9 @@ impl Element for ColDef {
 }
 
 /// What follows CREATE.
-#[tactic(auto, unfolding(crate::specs::StatementReader::create))]
+#[tactic(auto, unfolding(crate::specs::Proving::StatementReader::create))]
 pub fn create(alloc: Global, tokens: &mut Tokens) -> Result<Request, SqlError>
-    ensures { Reads spec.create tokens.old result tokens.new }
+    ensures { ReadsAs spec.create tokens.old result tokens.new }
 {
     tokens.expect_word(Keyword::Table)?;
     let table = tokens.name()?;
@@ -60,9 +60,9 @@ pub fn create(alloc: Global, tokens: &mut Tokens) -> Result<Request, SqlError>
 }
 
 /// What follows DROP.
-#[tactic(auto, unfolding(crate::specs::StatementReader::drop_table))]
+#[tactic(auto, unfolding(crate::specs::Proving::StatementReader::drop_table))]
 pub fn drop_table(tokens: &mut Tokens) -> Result<Request, SqlError>
-    ensures { Reads spec.drop_table tokens.old result tokens.new }
+    ensures { ReadsAs spec.drop_table tokens.old result tokens.new }
 {
     tokens.expect_word(Keyword::Table)?;
     let table = tokens.name()?;

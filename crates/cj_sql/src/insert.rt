@@ -1,7 +1,7 @@
 //! INSERT.
 
-ghost use Rattle.cj_sql.specs.Cursor.{Reads};
-ghost use Rattle.cj_sql.specs.StatementReader as spec;
+ghost use Rattle.cj_sql.specs.Proving.Cursor.{ReadsAs};
+ghost use Rattle.cj_sql.specs.Proving.StatementReader as spec;
 
 use crate::list::{Element, items};
 use crate::tokens::Tokens;
@@ -12,11 +12,11 @@ use cj_model::{
 use std::alloc::Global;
 
 impl Element for Tuple {
-    ghost use Rattle.cj_sql.specs.StatementReader.{tuple};
+    ghost use Rattle.cj_sql.specs.Proving.StatementReader.{tuple};
 
     ghost reader = { tuple };
 
-    #[tactic(auto, unfolding(crate::specs::StatementReader::tuple))]
+    #[tactic(auto, unfolding(crate::specs::Proving::StatementReader::tuple))]
     fn read(alloc: Global, tokens: &mut Tokens) -> Result<Tuple, SqlError> {
         tokens.expect_symbol(Symbol::Open)?;
         let constants = items::<Term>(alloc, tokens, COLUMN_LIMIT)?;
@@ -26,9 +26,9 @@ impl Element for Tuple {
 }
 
 /// The list of columns, if there is one.
-#[tactic(auto, unfolding(crate::specs::StatementReader::columns))]
+#[tactic(auto, unfolding(crate::specs::Proving::StatementReader::columns))]
 fn columns(alloc: Global, tokens: &mut Tokens) -> Result<Option<Names>, SqlError>
-    ensures { Reads spec.columns tokens.old result tokens.new }
+    ensures { ReadsAs spec.columns tokens.old result tokens.new }
 {
     if !tokens.eat_symbol(Symbol::Open) {
         return Ok(None);
@@ -39,9 +39,9 @@ fn columns(alloc: Global, tokens: &mut Tokens) -> Result<Option<Names>, SqlError
 }
 
 /// What follows INSERT.
-#[tactic(auto, unfolding(crate::specs::StatementReader::insert))]
+#[tactic(auto, unfolding(crate::specs::Proving::StatementReader::insert))]
 pub fn insert(alloc: Global, tokens: &mut Tokens) -> Result<Request, SqlError>
-    ensures { Reads spec.insert tokens.old result tokens.new }
+    ensures { ReadsAs spec.insert tokens.old result tokens.new }
 {
     tokens.expect_word(Keyword::Into)?;
     let table = tokens.name()?;

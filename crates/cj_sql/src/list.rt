@@ -1,7 +1,7 @@
 //! Lists with commas.
 
-ghost use Rattle.cj_sql.specs.Cursor.{Reads};
-ghost use Rattle.cj_sql.specs.Reader as spec;
+ghost use Rattle.cj_sql.specs.Proving.Cursor.{ReadsAs};
+ghost use Rattle.cj_sql.specs.Proving.Reader as spec;
 
 use crate::tokens::Tokens;
 use cj_lex::SqlError;
@@ -12,19 +12,19 @@ use std::alloc::Global;
 pub trait Element: Drop {
     ghost use Rattle.std.specs.Prelude.{List};
     ghost use Rattle.cj_model.specs.declared.token.Token.{Token};
-    ghost use Rattle.cj_sql.specs.Reader.{Read};
+    ghost use Rattle.cj_sql.specs.Proving.Reader.{ReadResult};
 
     /// How one is read.
-    ghost reader: { List Token → Read Self (List Token) };
+    ghost reader: { List Token → ReadResult Self (List Token) };
 
     fn read(alloc: Global, tokens: &mut Tokens) -> Result<Self, SqlError>
-        ensures { Reads reader tokens.old result tokens.new };
+        ensures { ReadsAs reader tokens.old result tokens.new };
 }
 
 impl Element for Name {
-    ghost use Rattle.cj_sql.specs.Reader.{name};
+    ghost use Rattle.cj_sql.specs.Proving.Reader.{expect_name};
 
-    ghost reader = { name };
+    ghost reader = { expect_name };
 
     fn read(_alloc: Global, tokens: &mut Tokens) -> Result<Name, SqlError> {
         tokens.name()
@@ -32,13 +32,13 @@ impl Element for Name {
 }
 
 /// One item or more with commas between them, at most `limit`.
-#[tactic(auto, unfolding(crate::specs::Reader::items))]
+#[tactic(auto, unfolding(crate::specs::Proving::Reader::items))]
 pub fn items<T: Element>(
     alloc: Global,
     tokens: &mut Tokens,
     limit: usize,
 ) -> Result<ListOf<T>, SqlError>
-    ensures { Reads (spec.items T.reader limit) tokens.old result tokens.new }
+    ensures { ReadsAs (spec.items T.reader limit) tokens.old result tokens.new }
 {
     let mut found = ListOf::new(alloc);
     for _turn in 0..limit {

@@ -2,8 +2,8 @@
 
 ghost use Rattle.std.specs.Prelude.{◌≡◌};
 ghost use Rattle.std.specs.List.{list_all};
-ghost use Rattle.cj_model.specs.Plain as plain;
-ghost use Rattle.cj_model.specs.ConditionShape.{shape};
+ghost use Rattle.cj_model.specs.Sql.PlainRequests as plain;
+ghost use Rattle.cj_model.specs.Proving.ConditionNodes.{condition_of_node};
 
 use cj_model::{Cond, CondNode, Expr, Request, Sets, Term, Tuple, Tuples, Write};
 
@@ -29,7 +29,7 @@ fn is_plain_expr(expr: &Expr) -> bool
 }
 
 fn is_plain_node(node: &CondNode) -> bool
-    ensures { result ≡ plain.is_plain_condition (shape node.now) }
+    ensures { result ≡ plain.is_plain_condition (condition_of_node node.now) }
 {
     match node {
         CondNode::Test(_, left, right) => is_plain_term(left) && is_plain_term(right),

@@ -1,8 +1,8 @@
 //! Whole requests.
 
-ghost use Rattle.cj_sql.specs.Cursor.{Reads};
+ghost use Rattle.cj_sql.specs.Proving.Cursor.{ReadsAs};
 ghost use Rattle.cj_sql.specs.Read.{IsRead};
-ghost use Rattle.cj_sql.specs.StatementReader as spec;
+ghost use Rattle.cj_sql.specs.Proving.StatementReader as spec;
 
 use crate::create::{create, drop_table};
 use crate::insert::insert;
@@ -13,9 +13,9 @@ use cj_lex::{SqlError, read_tokens};
 use cj_model::{Keyword, Request, Symbol};
 use std::alloc::Global;
 
-#[tactic(auto, unfolding(crate::specs::StatementReader::statement))]
+#[tactic(auto, unfolding(crate::specs::Proving::StatementReader::statement))]
 fn statement(alloc: Global, tokens: &mut Tokens) -> Result<Request, SqlError>
-    ensures { Reads spec.statement tokens.old result tokens.new }
+    ensures { ReadsAs spec.statement tokens.old result tokens.new }
 {
     if tokens.eat_word(Keyword::Create) {
         return create(alloc, tokens);
@@ -46,9 +46,9 @@ fn statement(alloc: Global, tokens: &mut Tokens) -> Result<Request, SqlError>
 }
 
 /// A statement, maybe with a semicolon, and nothing after it.
-#[tactic(auto, unfolding(crate::specs::StatementReader::whole))]
+#[tactic(auto, unfolding(crate::specs::Proving::StatementReader::whole))]
 fn whole(alloc: Global, tokens: &mut Tokens) -> Result<Request, SqlError>
-    ensures { Reads spec.whole tokens.old result tokens.new }
+    ensures { ReadsAs spec.whole tokens.old result tokens.new }
 {
     let request = statement(alloc, tokens)?;
     tokens.eat_symbol(Symbol::Semi);

@@ -3,10 +3,10 @@
 ghost use Rattle.std.specs.Prelude.{◌≡◌};
 ghost use Rattle.std.specs.List.{list_all, list_any};
 ghost use Rattle.std.specs.Str.{bytes_eq};
-ghost use Rattle.cj_model.specs.Grammar as grammar;
-ghost use Rattle.cj_model.specs.Tables as tables;
-ghost use Rattle.cj_sql.specs.Cursor.{Reads};
-ghost use Rattle.cj_sql.specs.SelectReader as spec;
+ghost use Rattle.cj_model.specs.Sql.Grammar as grammar;
+ghost use Rattle.cj_model.specs.Database.Tables as tables;
+ghost use Rattle.cj_sql.specs.Proving.Cursor.{ReadsAs};
+ghost use Rattle.cj_sql.specs.Proving.SelectReader as spec;
 
 use crate::conditions::filter;
 use crate::list::{Element, items};
@@ -20,9 +20,9 @@ use cj_model::{
 use std::alloc::Global;
 
 /// What follows COUNT.
-#[tactic(auto, unfolding(crate::specs::SelectReader::count))]
+#[tactic(auto, unfolding(crate::specs::Proving::SelectReader::count_item))]
 fn count(tokens: &mut Tokens) -> Result<Item, SqlError>
-    ensures { Reads spec.count tokens.old result tokens.new }
+    ensures { ReadsAs spec.count_item tokens.old result tokens.new }
 {
     tokens.expect_symbol(Symbol::Open)?;
     tokens.expect_symbol(Symbol::Star)?;
@@ -31,9 +31,9 @@ fn count(tokens: &mut Tokens) -> Result<Item, SqlError>
 }
 
 /// What follows SUM.
-#[tactic(auto, unfolding(crate::specs::SelectReader::sum))]
+#[tactic(auto, unfolding(crate::specs::Proving::SelectReader::sum))]
 fn sum(tokens: &mut Tokens) -> Result<Item, SqlError>
-    ensures { Reads spec.sum tokens.old result tokens.new }
+    ensures { ReadsAs spec.sum tokens.old result tokens.new }
 {
     tokens.expect_symbol(Symbol::Open)?;
     let column = column(tokens)?;
@@ -42,11 +42,11 @@ fn sum(tokens: &mut Tokens) -> Result<Item, SqlError>
 }
 
 impl Element for Item {
-    ghost use Rattle.cj_sql.specs.SelectReader.{item};
+    ghost use Rattle.cj_sql.specs.Proving.SelectReader.{item};
 
     ghost reader = { item };
 
-    #[tactic(auto, unfolding(crate::specs::SelectReader::item))]
+    #[tactic(auto, unfolding(crate::specs::Proving::SelectReader::item))]
     fn read(_alloc: Global, tokens: &mut Tokens) -> Result<Item, SqlError> {
         if tokens.eat_word(Keyword::Count) {
             return count(tokens);
@@ -59,9 +59,9 @@ impl Element for Item {
     }
 }
 
-#[tactic(auto, unfolding(crate::specs::SelectReader::listed))]
+#[tactic(auto, unfolding(crate::specs::Proving::SelectReader::select_items))]
 fn listed(alloc: Global, tokens: &mut Tokens) -> Result<Items, SqlError>
-    ensures { Reads spec.listed tokens.old result tokens.new }
+    ensures { ReadsAs spec.select_items tokens.old result tokens.new }
 {
     if tokens.eat_symbol(Symbol::Star) {
         return Ok(Items::All);
@@ -71,9 +71,9 @@ fn listed(alloc: Global, tokens: &mut Tokens) -> Result<Items, SqlError>
 }
 
 /// The column of GROUP BY, if there is one.
-#[tactic(auto, unfolding(crate::specs::SelectReader::group))]
+#[tactic(auto, unfolding(crate::specs::Proving::SelectReader::group))]
 fn group(tokens: &mut Tokens) -> Result<Option<ColRef>, SqlError>
-    ensures { Reads spec.group tokens.old result tokens.new }
+    ensures { ReadsAs spec.group tokens.old result tokens.new }
 {
     if !tokens.eat_word(Keyword::Group) {
         return Ok(None);
@@ -84,9 +84,9 @@ fn group(tokens: &mut Tokens) -> Result<Option<ColRef>, SqlError>
 }
 
 /// Whether the order of a key descends.
-#[tactic(auto, unfolding(crate::specs::SelectReader::direction))]
+#[tactic(auto, unfolding(crate::specs::Proving::SelectReader::direction))]
 fn direction(tokens: &mut Tokens) -> Result<bool, SqlError>
-    ensures { Reads spec.direction tokens.old result tokens.new }
+    ensures { ReadsAs spec.direction tokens.old result tokens.new }
 {
     if tokens.eat_word(Keyword::Desc) {
         return Ok(true);
@@ -96,11 +96,11 @@ fn direction(tokens: &mut Tokens) -> Result<bool, SqlError>
 }
 
 impl Element for Key {
-    ghost use Rattle.cj_sql.specs.SelectReader.{key};
+    ghost use Rattle.cj_sql.specs.Proving.SelectReader.{key};
 
     ghost reader = { key };
 
-    #[tactic(auto, unfolding(crate::specs::SelectReader::key))]
+    #[tactic(auto, unfolding(crate::specs::Proving::SelectReader::key))]
     fn read(_alloc: Global, tokens: &mut Tokens) -> Result<Key, SqlError> {
         let col = column(tokens)?;
         let desc = direction(tokens)?;
@@ -109,9 +109,9 @@ impl Element for Key {
 }
 
 /// The keys of ORDER BY, if there are any.
-#[tactic(auto, unfolding(crate::specs::SelectReader::order))]
+#[tactic(auto, unfolding(crate::specs::Proving::SelectReader::order))]
 fn order(alloc: Global, tokens: &mut Tokens) -> Result<Keys, SqlError>
-    ensures { Reads spec.order tokens.old result tokens.new }
+    ensures { ReadsAs spec.order tokens.old result tokens.new }
 {
     if !tokens.eat_word(Keyword::Order) {
         return Ok(ListOf::new(alloc));
@@ -121,9 +121,9 @@ fn order(alloc: Global, tokens: &mut Tokens) -> Result<Keys, SqlError>
 }
 
 /// The number of LIMIT, if there is one.
-#[tactic(auto, unfolding(crate::specs::SelectReader::limit))]
+#[tactic(auto, unfolding(crate::specs::Proving::SelectReader::limit))]
 fn limit(tokens: &mut Tokens) -> Result<Option<u64>, SqlError>
-    ensures { Reads spec.limit tokens.old result tokens.new }
+    ensures { ReadsAs spec.limit tokens.old result tokens.new }
 {
     if !tokens.eat_word(Keyword::Limit) {
         return Ok(None);
@@ -178,15 +178,15 @@ fn are_columns(items: &Items) -> bool
 
 /// Whether the tables differ, and COUNT, SUM and GROUP BY stand only with one.
 fn is_allowed(items: &Items, tables: &[Name], group: &Option<ColRef>) -> bool
-    ensures { result ≡ spec.is_allowed items.now tables.now group.now }
+    ensures { result ≡ spec.is_allowed_select items.now tables.now group.now }
 {
     is_distinct(tables) && (tables.len() == 1 || (are_columns(items) && group.is_none()))
 }
 
 /// What follows SELECT.
-#[tactic(auto, unfolding(crate::specs::SelectReader::select))]
+#[tactic(auto, unfolding(crate::specs::Proving::SelectReader::select))]
 pub fn select(alloc: Global, tokens: &mut Tokens) -> Result<Request, SqlError>
-    ensures { Reads spec.select tokens.old result tokens.new }
+    ensures { ReadsAs spec.select tokens.old result tokens.new }
 {
     let listed = listed(alloc, tokens)?;
     tokens.expect_word(Keyword::From)?;

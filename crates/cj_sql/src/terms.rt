@@ -1,7 +1,7 @@
 //! Constants, columns, terms and expressions.
 
-ghost use Rattle.cj_sql.specs.Cursor.{Reads};
-ghost use Rattle.cj_sql.specs.TermReader as spec;
+ghost use Rattle.cj_sql.specs.Proving.Cursor.{ReadsAs};
+ghost use Rattle.cj_sql.specs.Proving.TermReader as spec;
 
 use crate::list::Element;
 use crate::tokens::Tokens;
@@ -9,9 +9,9 @@ use cj_lex::SqlError;
 use cj_model::{ColRef, Expr, Keyword, Name, Symbol, Term, Value};
 use std::alloc::Global;
 
-#[tactic(auto, unfolding(crate::specs::TermReader::positive))]
+#[tactic(auto, unfolding(crate::specs::Proving::TermReader::positive))]
 fn positive(tokens: &mut Tokens) -> Result<Term, SqlError>
-    ensures { Reads spec.positive tokens.old result tokens.new }
+    ensures { ReadsAs spec.positive tokens.old result tokens.new }
 {
     let number = tokens.number()?;
     match i64::try_from(number) {
@@ -21,9 +21,9 @@ fn positive(tokens: &mut Tokens) -> Result<Term, SqlError>
 }
 
 /// A number after a minus.
-#[tactic(auto, unfolding(crate::specs::TermReader::negative))]
+#[tactic(auto, unfolding(crate::specs::Proving::TermReader::negative))]
 fn negative(tokens: &mut Tokens) -> Result<Term, SqlError>
-    ensures { Reads spec.negative tokens.old result tokens.new }
+    ensures { ReadsAs spec.negative tokens.old result tokens.new }
 {
     let number = tokens.number()?;
     if number < 1 << 63 {
@@ -35,18 +35,18 @@ fn negative(tokens: &mut Tokens) -> Result<Term, SqlError>
     }
 }
 
-#[tactic(auto, unfolding(crate::specs::TermReader::string))]
+#[tactic(auto, unfolding(crate::specs::Proving::TermReader::string))]
 fn string(tokens: &mut Tokens) -> Result<Term, SqlError>
-    ensures { Reads spec.string tokens.old result tokens.new }
+    ensures { ReadsAs spec.string tokens.old result tokens.new }
 {
     let text = tokens.text()?;
     Ok(Term::Lit(Value::Text(text)))
 }
 
 /// What follows NOW.
-#[tactic(auto, unfolding(crate::specs::TermReader::now))]
+#[tactic(auto, unfolding(crate::specs::Proving::TermReader::now))]
 fn now(tokens: &mut Tokens) -> Result<Term, SqlError>
-    ensures { Reads spec.now tokens.old result tokens.new }
+    ensures { ReadsAs spec.now tokens.old result tokens.new }
 {
     tokens.expect_symbol(Symbol::Open)?;
     tokens.expect_symbol(Symbol::Close)?;
@@ -54,9 +54,9 @@ fn now(tokens: &mut Tokens) -> Result<Term, SqlError>
 }
 
 /// What follows RAND.
-#[tactic(auto, unfolding(crate::specs::TermReader::rand))]
+#[tactic(auto, unfolding(crate::specs::Proving::TermReader::rand))]
 fn rand(tokens: &mut Tokens) -> Result<Term, SqlError>
-    ensures { Reads spec.rand tokens.old result tokens.new }
+    ensures { ReadsAs spec.rand tokens.old result tokens.new }
 {
     tokens.expect_symbol(Symbol::Open)?;
     let bound = tokens.number()?;
@@ -68,9 +68,9 @@ fn rand(tokens: &mut Tokens) -> Result<Term, SqlError>
     }
 }
 
-#[tactic(auto, unfolding(crate::specs::TermReader::constant))]
+#[tactic(auto, unfolding(crate::specs::Proving::TermReader::const_term))]
 fn constant(tokens: &mut Tokens) -> Result<Term, SqlError>
-    ensures { Reads spec.constant tokens.old result tokens.new }
+    ensures { ReadsAs spec.const_term tokens.old result tokens.new }
 {
     if tokens.eat_symbol(Symbol::Minus) {
         return negative(tokens);
@@ -89,9 +89,9 @@ fn constant(tokens: &mut Tokens) -> Result<Term, SqlError>
 
 /// A list of terms is a tuple's, which has constants alone.
 impl Element for Term {
-    ghost use Rattle.cj_sql.specs.TermReader.{constant};
+    ghost use Rattle.cj_sql.specs.Proving.TermReader.{const_term};
 
-    ghost reader = { constant };
+    ghost reader = { const_term };
 
     fn read(_alloc: Global, tokens: &mut Tokens) -> Result<Term, SqlError> {
         constant(tokens)
@@ -99,9 +99,9 @@ impl Element for Term {
 }
 
 /// The rest of a column, after its first name.
-#[tactic(auto, unfolding(crate::specs::TermReader::qualified))]
+#[tactic(auto, unfolding(crate::specs::Proving::TermReader::qualified))]
 fn qualified(tokens: &mut Tokens, first: Name) -> Result<ColRef, SqlError>
-    ensures { Reads (spec.qualified first) tokens.old result tokens.new }
+    ensures { ReadsAs (spec.qualified first) tokens.old result tokens.new }
 {
     if !tokens.eat_symbol(Symbol::Dot) {
         return Ok(ColRef {
@@ -117,18 +117,18 @@ fn qualified(tokens: &mut Tokens, first: Name) -> Result<ColRef, SqlError>
 }
 
 /// A column, qualified by its table or not.
-#[tactic(auto, unfolding(crate::specs::TermReader::column))]
+#[tactic(auto, unfolding(crate::specs::Proving::TermReader::column))]
 pub fn column(tokens: &mut Tokens) -> Result<ColRef, SqlError>
-    ensures { Reads spec.column tokens.old result tokens.new }
+    ensures { ReadsAs spec.column tokens.old result tokens.new }
 {
     let first = tokens.name()?;
     qualified(tokens, first)
 }
 
 /// A constant or a column.
-#[tactic(auto, unfolding(crate::specs::TermReader::term))]
+#[tactic(auto, unfolding(crate::specs::Proving::TermReader::term))]
 pub fn term(tokens: &mut Tokens) -> Result<Term, SqlError>
-    ensures { Reads spec.term tokens.old result tokens.new }
+    ensures { ReadsAs spec.term tokens.old result tokens.new }
 {
     if tokens.sees_name() {
         let column = column(tokens)?;
@@ -139,9 +139,9 @@ pub fn term(tokens: &mut Tokens) -> Result<Term, SqlError>
 }
 
 /// The rest of an expression, after its first term.
-#[tactic(auto, unfolding(crate::specs::TermReader::combined))]
+#[tactic(auto, unfolding(crate::specs::Proving::TermReader::combined))]
 fn combined(tokens: &mut Tokens, left: Term) -> Result<Expr, SqlError>
-    ensures { Reads (spec.combined left) tokens.old result tokens.new }
+    ensures { ReadsAs (spec.combined left) tokens.old result tokens.new }
 {
     if tokens.eat_symbol(Symbol::Plus) {
         let right = term(tokens)?;
@@ -155,9 +155,9 @@ fn combined(tokens: &mut Tokens, left: Term) -> Result<Expr, SqlError>
 }
 
 /// A term, or two with a plus or a minus between them.
-#[tactic(auto, unfolding(crate::specs::TermReader::expr))]
+#[tactic(auto, unfolding(crate::specs::Proving::TermReader::expr))]
 pub fn expr(tokens: &mut Tokens) -> Result<Expr, SqlError>
-    ensures { Reads spec.expr tokens.old result tokens.new }
+    ensures { ReadsAs spec.expr tokens.old result tokens.new }
 {
     let left = term(tokens)?;
     combined(tokens, left)

@@ -1,8 +1,8 @@
 //! What is left of a text's tokens.
 
 ghost use Rattle.std.specs.Prelude.{◌≡◌, drop, if◌then◌else◌};
-ghost use Rattle.cj_sql.specs.Cursor.{Shows, Takes, Reads};
-ghost use Rattle.cj_sql.specs.Reader as spec;
+ghost use Rattle.cj_sql.specs.Proving.Cursor.{Shows, TakesToken, ReadsAs};
+ghost use Rattle.cj_sql.specs.Proving.Reader as spec;
 
 use cj_lex::SqlError;
 use cj_model::{Keyword, Name, Symbol, Text, Token};
@@ -24,14 +24,14 @@ impl Model for Tokens {
     ghost view = { λ tokens. tokens.rest.items };
 }
 
-#[tactic(auto, unfolding(crate::specs::Reader::same_word))]
+#[tactic(auto, unfolding(crate::specs::Proving::Reader::same_word))]
 fn same_word(a: Keyword, b: Keyword) -> bool
     ensures { result ≡ spec.same_word a b }
 {
     a == b
 }
 
-#[tactic(auto, unfolding(crate::specs::Reader::same_symbol))]
+#[tactic(auto, unfolding(crate::specs::Proving::Reader::same_symbol))]
 fn same_symbol(a: Symbol, b: Symbol) -> bool
     ensures { result ≡ spec.same_symbol a b }
 {
@@ -55,7 +55,7 @@ impl Tokens {
 
     /// Takes the token at the front.
     fn take(&mut self) -> Option<Token>
-        ensures { Takes result self.old self.new }
+        ensures { TakesToken result self.old self.new }
     {
         self.rest.pop_front()
     }
@@ -126,9 +126,9 @@ impl Tokens {
     }
 
     /// Takes a name; `Syntax` where none stands at the front.
-    #[tactic(auto, unfolding(crate::specs::Reader::name))]
+    #[tactic(auto, unfolding(crate::specs::Proving::Reader::expect_name))]
     pub fn name(&mut self) -> Result<Name, SqlError>
-        ensures { Reads spec.name self.old result self.new }
+        ensures { ReadsAs spec.expect_name self.old result self.new }
     {
         match self.take() {
             Some(Token::Name(name)) => Ok(name),
@@ -138,9 +138,9 @@ impl Tokens {
     }
 
     /// Takes a number; `Syntax` where none stands at the front.
-    #[tactic(auto, unfolding(crate::specs::Reader::number))]
+    #[tactic(auto, unfolding(crate::specs::Proving::Reader::expect_number))]
     pub fn number(&mut self) -> Result<u64, SqlError>
-        ensures { Reads spec.number self.old result self.new }
+        ensures { ReadsAs spec.expect_number self.old result self.new }
     {
         match self.take() {
             Some(Token::Number(number)) => Ok(number),
@@ -150,9 +150,9 @@ impl Tokens {
     }
 
     /// Takes a string's value; `Syntax` where none stands at the front.
-    #[tactic(auto, unfolding(crate::specs::Reader::text))]
+    #[tactic(auto, unfolding(crate::specs::Proving::Reader::expect_text))]
     pub fn text(&mut self) -> Result<Text, SqlError>
-        ensures { Reads spec.text self.old result self.new }
+        ensures { ReadsAs spec.expect_text self.old result self.new }
     {
         match self.take() {
             Some(Token::Text(text)) => Ok(text),
@@ -162,9 +162,9 @@ impl Tokens {
     }
 
     /// Takes a symbol; `Syntax` where none stands at the front.
-    #[tactic(auto, unfolding(crate::specs::Reader::symbol_at))]
+    #[tactic(auto, unfolding(crate::specs::Proving::Reader::symbol_at))]
     pub fn symbol(&mut self) -> Result<Symbol, SqlError>
-        ensures { Reads spec.symbol_at self.old result self.new }
+        ensures { ReadsAs spec.symbol_at self.old result self.new }
     {
         match self.take() {
             Some(Token::Symbol(symbol)) => Ok(symbol),
@@ -174,9 +174,9 @@ impl Tokens {
     }
 
     /// Takes the word; `Syntax` where it does not stand at the front.
-    #[tactic(auto, unfolding(crate::specs::Reader::expect_word))]
+    #[tactic(auto, unfolding(crate::specs::Proving::Reader::expect_word))]
     pub fn expect_word(&mut self, word: Keyword) -> Result<(), SqlError>
-        ensures { Reads (spec.expect_word word) self.old result self.new }
+        ensures { ReadsAs (spec.expect_word word) self.old result self.new }
     {
         if self.eat_word(word) {
             Ok(())
@@ -186,9 +186,9 @@ impl Tokens {
     }
 
     /// Takes the symbol; `Syntax` where it does not stand at the front.
-    #[tactic(auto, unfolding(crate::specs::Reader::expect_symbol))]
+    #[tactic(auto, unfolding(crate::specs::Proving::Reader::expect_symbol))]
     pub fn expect_symbol(&mut self, symbol: Symbol) -> Result<(), SqlError>
-        ensures { Reads (spec.expect_symbol symbol) self.old result self.new }
+        ensures { ReadsAs (spec.expect_symbol symbol) self.old result self.new }
     {
         if self.eat_symbol(symbol) {
             Ok(())

@@ -1,7 +1,7 @@
 //! UPDATE and DELETE.
 
-ghost use Rattle.cj_sql.specs.Cursor.{Reads};
-ghost use Rattle.cj_sql.specs.StatementReader as spec;
+ghost use Rattle.cj_sql.specs.Proving.Cursor.{ReadsAs};
+ghost use Rattle.cj_sql.specs.Proving.StatementReader as spec;
 
 use crate::conditions::filter;
 use crate::list::{Element, items};
@@ -12,11 +12,11 @@ use cj_model::{COLUMN_LIMIT, Keyword, Request, Set, Symbol, Write};
 use std::alloc::Global;
 
 impl Element for Set {
-    ghost use Rattle.cj_sql.specs.StatementReader.{assignment};
+    ghost use Rattle.cj_sql.specs.Proving.StatementReader.{set_clause};
 
-    ghost reader = { assignment };
+    ghost reader = { set_clause };
 
-    #[tactic(auto, unfolding(crate::specs::StatementReader::assignment))]
+    #[tactic(auto, unfolding(crate::specs::Proving::StatementReader::set_clause))]
     fn read(_alloc: Global, tokens: &mut Tokens) -> Result<Set, SqlError> {
         let column = tokens.name()?;
         tokens.expect_symbol(Symbol::Eq)?;
@@ -26,9 +26,9 @@ impl Element for Set {
 }
 
 /// What follows UPDATE.
-#[tactic(auto, unfolding(crate::specs::StatementReader::update))]
+#[tactic(auto, unfolding(crate::specs::Proving::StatementReader::update))]
 pub fn update(alloc: Global, tokens: &mut Tokens) -> Result<Request, SqlError>
-    ensures { Reads spec.update tokens.old result tokens.new }
+    ensures { ReadsAs spec.update tokens.old result tokens.new }
 {
     let table = tokens.name()?;
     tokens.expect_word(Keyword::Set)?;
@@ -38,9 +38,9 @@ pub fn update(alloc: Global, tokens: &mut Tokens) -> Result<Request, SqlError>
 }
 
 /// What follows DELETE.
-#[tactic(auto, unfolding(crate::specs::StatementReader::delete))]
+#[tactic(auto, unfolding(crate::specs::Proving::StatementReader::delete))]
 pub fn delete(alloc: Global, tokens: &mut Tokens) -> Result<Request, SqlError>
-    ensures { Reads spec.delete tokens.old result tokens.new }
+    ensures { ReadsAs spec.delete tokens.old result tokens.new }
 {
     tokens.expect_word(Keyword::From)?;
     let table = tokens.name()?;

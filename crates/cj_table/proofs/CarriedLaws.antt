@@ -5,8 +5,8 @@ use Rattle.std.specs.declared.result.Result.TheVariants.{Ok, Err}
 use Rattle.cj_model.specs.declared.memory.NoMemory.{NoMemory}
 use Rattle.cj_model.specs.declared.database.Slot.{Slot}
 use Rattle.cj_model.specs.declared.answer.Outcome.{Outcome}
-use Rattle.cj_model.specs.Tables.{IsDatabase}
-use Rattle.cj_model.specs.Steps.{Stepped}
+use Rattle.cj_model.specs.Database.Tables.{IsDatabase}
+use Rattle.cj_model.specs.Database.Steps.{Stepped}
 use Rattle.cj_table.specs.Carried.{Carries}
 
 -- the step's database, or the old one

@@ -19,10 +19,10 @@ use Rattle.cj_model.specs.declared.database.Table.{Table}
 use Rattle.cj_model.specs.declared.write.Write.{Write}
 use Rattle.cj_model.specs.declared.answer.Outcome.{Outcome}
 use Rattle.cj_model.specs.declared.codes.TheConstants.{NO_TABLE}
-use Rattle.cj_model.specs.Tables.{IsDatabase, put_by, by_table, name_cmp, table_of, slot_of}
-use Rattle.cj_model.specs.Changes.{Changed, bare}
-use Rattle.cj_model.specs.Updates.{change}
-use Rattle.cj_model.specs.Steps.{refuse, seen, other_writer, with_table, table_written, write_done, write_unless_locked, write_in, written}
+use Rattle.cj_model.specs.Database.Tables.{IsDatabase, put_by, by_table, name_cmp, table_of, slot_of}
+use Rattle.cj_model.specs.Database.Inserts.{Changed, refusal_of_code}
+use Rattle.cj_model.specs.Database.Updates.{change}
+use Rattle.cj_model.specs.Database.Steps.{refuse, seen, other_writer, with_table, table_written, write_done, write_unless_locked, write_in, written}
 use Rattle.cj_model.proofs.RisingLaws.{put_equal}
 use Rattle.cj_model.proofs.DatabaseLaws.{by_table_total, with_table-name}
 use Rattle.cj_table.specs.Carried.{Carries, CarriesSlot, change_unless_locked, change_of}
@@ -41,7 +41,7 @@ find_some p xs i d e =
     find_at p xs ∙ ap (slice_get xs) parts.1 ∙ slice_get-get_or xs i d (position-Some p xs i d e).0
 
 -- a write of no table
-pub written_missing : (db : List Slot) (tx : ℕ) (w : Write) → position (λ s. bytes_eq (table_of s) (table_written w)) db ≡ None → written db tx w ≡ refuse db (bare NO_TABLE)
+pub written_missing : (db : List Slot) (tx : ℕ) (w : Write) → position (λ s. bytes_eq (table_of s) (table_written w)) db ≡ None → written db tx w ≡ refuse db (refusal_of_code NO_TABLE)
 written_missing db tx w e = ap (write_in db tx w) (find_none (λ s. bytes_eq (table_of s) (table_written w)) db e)
 
 module _ (db : List Slot) (is : IsDatabase db) (i : ℕ) (s : Slot) (within : i < length db) (here : s ≡ get_or db i s) where

@@ -11,9 +11,9 @@ use Rattle.cj_model.specs.declared.answer.Outcome.{Outcome}
 use Rattle.cj_model.specs.declared.answer.Outcome.TheVariants.{Done}
 use Rattle.cj_model.specs.declared.answer.Outcome.TheVariants as outcome
 use Rattle.cj_model.specs.declared.codes.TheConstants.{LOCKED}
-use Rattle.cj_model.specs.Changes.{Changed}
-use Rattle.cj_model.specs.Updates.{change}
-use Rattle.cj_model.specs.Steps.{Stepped, seen, other_writer, with_table}
+use Rattle.cj_model.specs.Database.Inserts.{Changed}
+use Rattle.cj_model.specs.Database.Updates.{change}
+use Rattle.cj_model.specs.Database.Steps.{Stepped, seen, other_writer, with_table}
 
 -- ---- calls
 

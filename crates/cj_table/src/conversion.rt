@@ -1,7 +1,7 @@
 //! Databases as the vocabulary has them, made trees, and trees made such databases.
 
 ghost use Rattle.std.specs.Prelude.{◌≡◌, All, None, Some, IfOk, OnOk};
-ghost use Rattle.cj_model.specs.Tables.{IsSlot, IsTable, Rises, by_key};
+ghost use Rattle.cj_model.specs.Database.Tables.{IsSlot, IsTable, Rises, by_key};
 ghost use Rattle.cj_rows.specs.RowEntries.{Turns};
 ghost use Rattle.cj_rows.specs.RowEntries as entries;
 

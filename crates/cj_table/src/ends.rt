@@ -2,8 +2,8 @@
 
 ghost use Rattle.std.specs.Prelude.{◌≡◌, filter, map, not};
 ghost use Rattle.std.specs.Str.{bytes_eq};
-ghost use Rattle.cj_model.specs.Steps.{aborted, committed, dropped};
-ghost use Rattle.cj_model.specs.Tables.{table_of};
+ghost use Rattle.cj_model.specs.Database.Steps.{aborted, committed, dropped};
+ghost use Rattle.cj_model.specs.Database.Tables.{table_of};
 
 use crate::slots::find;
 use cj_model::{LOCKED, NO_TABLE, Name, Outcome, Refusal};
@@ -22,7 +22,7 @@ pub fn drop_slot(slots: &mut Vec<StoredTable>, name: &Name) -> Outcome
     ensures slots { slots.new.items ≡ (dropped slots.old.items name.now).db }
 {
     match find(slots, name) {
-        None => Outcome::Refused(Refusal::bare(NO_TABLE)),
+        None => Outcome::Refused(Refusal::of_code(NO_TABLE)),
         Some(slot) => match slot.writer() {
             Some(tx) => Outcome::Refused(Refusal {
                 code: LOCKED,

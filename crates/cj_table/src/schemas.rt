@@ -1,7 +1,7 @@
 //! The tables that CREATE TABLE makes.
 
 ghost use Rattle.std.specs.Prelude.{◌≡◌, ◌<◌, ◌≤◌, ◌==◌, count_by, length, map, position, unwrap_or, IfOk};
-ghost use Rattle.cj_model.specs.Steps as steps;
+ghost use Rattle.cj_model.specs.Database.Steps as steps;
 
 use cj_model::{COLUMN_LIMIT, ColDef, Column, Columns, Create, Names, NoMemory, Schema};
 use cj_plan::is_distinct;

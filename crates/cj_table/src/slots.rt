@@ -2,11 +2,11 @@
 
 ghost use Rattle.std.specs.Prelude.{◌≡◌, ◌≤◌, is_some, length, option_copied, position, OnOk, OnErr};
 ghost use Rattle.std.specs.Str.{bytes_eq};
-ghost use Rattle.cj_model.specs.Gaps.{IsPlace};
-ghost use Rattle.cj_model.specs.Steps as steps;
-ghost use Rattle.cj_model.specs.Steps.{written};
-ghost use Rattle.cj_model.specs.Updates.{change};
-ghost use Rattle.cj_model.specs.Tables.{IsDatabase, IsSlot, by_table, put_by, slot_of, table_of};
+ghost use Rattle.cj_model.specs.Proving.Gaps.{IsPlace};
+ghost use Rattle.cj_model.specs.Database.Steps as steps;
+ghost use Rattle.cj_model.specs.Database.Steps.{written};
+ghost use Rattle.cj_model.specs.Database.Updates.{change};
+ghost use Rattle.cj_model.specs.Database.Tables.{IsDatabase, IsSlot, by_table, put_by, slot_of, table_of};
 ghost use Rattle.cj_table.specs.Carried.{Carries, CarriesSlot, change_of};
 ghost use Rattle.cj_plan.specs.Plans.{PlansChange};
 
@@ -93,7 +93,7 @@ pub fn write_slots(
     ensures { Carries slots.old.items (written slots.old.items tx write.now) result slots.new.items }
 {
     match position_of(slots, table_written(write)) {
-        None => Ok(Outcome::Refused(Refusal::bare(NO_TABLE))),
+        None => Ok(Outcome::Refused(Refusal::of_code(NO_TABLE))),
         Some(place) => {
             let slot = &mut slots[place];
             write_slot(alloc, slot, tx, write)
@@ -143,10 +143,10 @@ pub fn create_slot(
     ensures { Carries slots.old.items (steps.created slots.old.items create.now) result slots.new.items }
 {
     if has_table(slots, &create.table) {
-        return Ok(Outcome::Refused(Refusal::bare(TABLE_EXISTS)));
+        return Ok(Outcome::Refused(Refusal::of_code(TABLE_EXISTS)));
     }
     if !makes_schema(alloc, create.columns.as_slice())? {
-        return Ok(Outcome::Refused(Refusal::bare(BAD_COLUMNS)));
+        return Ok(Outcome::Refused(Refusal::of_code(BAD_COLUMNS)));
     }
     let slot = empty_table(alloc, create)?;
     put_slot(slots, slot)?;

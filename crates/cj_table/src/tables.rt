@@ -1,9 +1,9 @@
 //! The database.
 
 ghost use Rattle.std.specs.Prelude.{◌≡◌, ◌≤◌, [], length, map, option_map, IfOk, OnOk, OnErr};
-ghost use Rattle.cj_model.specs.Storable.{writers};
-ghost use Rattle.cj_model.specs.Steps.{aborted, committed, created, dropped, seen, written};
-ghost use Rattle.cj_model.specs.Tables.{IsDatabase, slot_of};
+ghost use Rattle.cj_model.specs.Database.Storable.{writers};
+ghost use Rattle.cj_model.specs.Database.Steps.{aborted, committed, created, dropped, seen, written};
+ghost use Rattle.cj_model.specs.Database.Tables.{IsDatabase, slot_of};
 ghost use Rattle.cj_table.specs.Carried.{Carries};
 
 use crate::conversion::{copied_slots, stored_slots};
@@ -26,7 +26,7 @@ pub struct Tables {
 impl Model for Tables {
     ghost use Rattle.std.specs.Prelude.{List};
     ghost use Rattle.cj_model.specs.declared.database.Slot.{Slot};
-    ghost use Rattle.cj_model.specs.Tables.{IsDatabase};
+    ghost use Rattle.cj_model.specs.Database.Tables.{IsDatabase};
 
     ghost Value = { List Slot };
 

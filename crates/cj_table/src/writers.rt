@@ -2,9 +2,9 @@
 
 ghost use Rattle.std.specs.Prelude.{◌≡◌, fold, option_map, option_to_list, IfOk, OnOk};
 ghost use Rattle.std.specs.Ordering.{nat_cmp};
-ghost use Rattle.cj_model.specs.Storable.{writers};
-ghost use Rattle.cj_model.specs.Tables.{put_by};
-ghost use Rattle.cj_model.specs.Gaps.{IsGap};
+ghost use Rattle.cj_model.specs.Database.Storable.{writers};
+ghost use Rattle.cj_model.specs.Database.Tables.{put_by};
+ghost use Rattle.cj_model.specs.Proving.Gaps.{IsGap};
 
 use cj_model::NoMemory;
 use cj_rows::StoredTable;

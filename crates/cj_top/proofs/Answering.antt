@@ -11,8 +11,8 @@ use Rattle.cj_outside.specs.Streams.{WritesAll}
 use Rattle.cj_outside.proofs.Joined.{appends_none, appends_then}
 use Rattle.cj_model.specs.declared.message.Message.{Message}
 use Rattle.cj_model.specs.declared.answer.Reply.{Reply}
-use Rattle.cj_model.specs.Replies.{reply_bytes}
-use Rattle.cj_model.specs.Session.{Session, fresh, Exchange, Exchanges, is_quit, answered, CutsReply, StarvesReply}
+use Rattle.cj_model.specs.Wire.Replies.{reply_bytes}
+use Rattle.cj_model.specs.Wire.Sessions.{Session, initial_session, Exchange, Exchanges, is_quit, answered_messages, CutsReply, StarvesReply}
 use Rattle.cj_model.proofs.SessionLaws.{AnsweredTo, answered_none, answered_more, answered_on, exchanges_more, take_item, drop_item, front_of_answered, rest_of_answered, answered_at_quit, answered_at_end}
 use Rattle.cj_top.specs.Answers.{Answered, AnsweredInPart, Answers}
 
@@ -20,10 +20,10 @@ use Rattle.cj_top.specs.Answers.{Answered, AnsweredInPart, Answers}
 pub record Answering (held now : Option (List ℕ)) (ms : List Message) (i : ℕ) (s : Session) : Type 0 where
   pub to : AnsweredTo ms i
   pub replies : List Reply
-  pub exchanges : Exchanges fresh (take i ms) replies s
+  pub exchanges : Exchanges initial_session (take i ms) replies s
   pub bytes : Appends held now (flat_map reply_bytes replies)
 
-pub answering_none : (a : Option (List ℕ)) (ms : List Message) (s : Session) → s ≡ fresh → Answering a a ms 0 s
+pub answering_none : (a : Option (List ℕ)) (ms : List Message) (s : Session) → s ≡ initial_session → Answering a a ms 0 s
 answering_none a ms s start = record { to = answered_none ms; replies = []; exchanges = start; bytes = appends_none a }
 
 -- one reply more at the end
@@ -37,7 +37,7 @@ answering_more a b c ms i m s t r lt is no_quit before exchange wrote =
     record {
       to = answered_more ms i m lt is no_quit before.to;
       replies = before.replies ++ r ∷ [];
-      exchanges = subst (λ (xs : List Message). Exchanges fresh xs (before.replies ++ r ∷ []) t) (sym (take_item ms i m lt is)) (exchanges_more fresh s t (take i ms) before.replies m r before.exchanges exchange);
+      exchanges = subst (λ (xs : List Message). Exchanges initial_session xs (before.replies ++ r ∷ []) t) (sym (take_item ms i m lt is)) (exchanges_more initial_session s t (take i ms) before.replies m r before.exchanges exchange);
       bytes = subst (λ (x : List ℕ). Appends a c x) (sym (bytes_more before.replies r)) (appends_then a b c (flat_map reply_bytes before.replies) (reply_bytes r) before.bytes wrote);
     }
 
@@ -48,7 +48,7 @@ answering_quit a b ms i m s lt is quit before =
     record {
       replies = before.replies;
       last = s;
-      exchanges = subst (λ (xs : List Message). Exchanges fresh xs before.replies s) (sym (answered_at_quit ms i m lt is quit before.to).0) before.exchanges;
+      exchanges = subst (λ (xs : List Message). Exchanges initial_session xs before.replies s) (sym (answered_at_quit ms i m lt is quit before.to).0) before.exchanges;
       bytes = before.bytes;
     }
 
@@ -58,13 +58,13 @@ answering_end a b ms i s le before =
     record {
       replies = before.replies;
       last = s;
-      exchanges = subst (λ (xs : List Message). Exchanges fresh xs before.replies s) (sym (answered_at_end ms i le before.to).0) before.exchanges;
+      exchanges = subst (λ (xs : List Message). Exchanges initial_session xs before.replies s) (sym (answered_at_end ms i le before.to).0) before.exchanges;
       bytes = before.bytes;
     }
 
 -- the next message is among those that are answered
-next_answered : (ms : List Message) (i : ℕ) (m : Message) → i < length ms → m ≡ get_or ms i m → is_quit m ≡ false → AnsweredTo ms i → drop i (answered ms) ≡ m ∷ answered (drop (i + 1) ms)
-next_answered ms i m lt is no_quit to = rest_of_answered ms i to ∙ ap answered (drop_item ms i m lt is) ∙ answered_on m (drop (i + 1) ms) no_quit
+next_answered : (ms : List Message) (i : ℕ) (m : Message) → i < length ms → m ≡ get_or ms i m → is_quit m ≡ false → AnsweredTo ms i → drop i (answered_messages ms) ≡ m ∷ answered_messages (drop (i + 1) ms)
+next_answered ms i m lt is no_quit to = rest_of_answered ms i to ∙ ap answered_messages (drop_item ms i m lt is) ∙ answered_on m (drop (i + 1) ms) no_quit
 
 -- a reply that could not be made cuts the answers
 pub answering_starved : (a b : Option (List ℕ)) (ms : List Message) (i : ℕ) (m : Message) (s : Session)
@@ -74,7 +74,7 @@ answering_starved a b ms i m s lt is no_quit before =
       count = i;
       replies = before.replies;
       last = s;
-      exchanges = subst (λ (xs : List Message). Exchanges fresh xs before.replies s) (sym (front_of_answered ms i before.to)) before.exchanges;
+      exchanges = subst (λ (xs : List Message). Exchanges initial_session xs before.replies s) (sym (front_of_answered ms i before.to)) before.exchanges;
       part = [];
       begins = subst (λ (xs : List Message). StarvesReply s xs []) (sym (next_answered ms i m lt is no_quit before.to)) (inl refl);
       bytes = subst (λ (x : List ℕ). Appends a b x) (sym (append-nil (flat_map reply_bytes before.replies))) before.bytes;
@@ -94,7 +94,7 @@ cut_answers a b ms NoMemory cut = inr (record {
   last = cut.last;
   exchanges = cut.exchanges;
   part = cut.part;
-  begins = cuts_starves cut.last (drop cut.count (answered ms)) cut.part cut.begins;
+  begins = cuts_starves cut.last (drop cut.count (answered_messages ms)) cut.part cut.begins;
   bytes = cut.bytes;
 })
 
@@ -106,7 +106,7 @@ answering_cut a b c ms i m s t r e lt is no_quit before exchange wrote =
       count = i;
       replies = before.replies;
       last = s;
-      exchanges = subst (λ (xs : List Message). Exchanges fresh xs before.replies s) (sym (front_of_answered ms i before.to)) before.exchanges;
+      exchanges = subst (λ (xs : List Message). Exchanges initial_session xs before.replies s) (sym (front_of_answered ms i before.to)) before.exchanges;
       part = take wrote.0 (reply_bytes r);
       begins = subst (λ (xs : List Message). CutsReply s xs (take wrote.0 (reply_bytes r))) (sym (next_answered ms i m lt is no_quit before.to)) (r, t, exchange, wrote.0, wrote.1, refl);
       bytes = appends_then a b c (flat_map reply_bytes before.replies) (take wrote.0 (reply_bytes r)) before.bytes wrote.2;

@@ -2,6 +2,6 @@ pub mod Answering
 pub mod BackendNames
 pub mod Limits
 pub mod Logins
-pub mod OneTalk
+pub mod OneTranscript
 pub mod PlayedOver
 pub mod Querying

@@ -3,7 +3,7 @@ use Rattle.std.proofs.Common.{◌≡◌, ℕ, zero, suc, Bool, true, not, ◌&&�
 use Rattle.std.specs.List.{list_all}
 use Rattle.std.specs.Str.{IsAscii}
 use Rattle.std.proofs.lemmas.Str.{IsUtf8-from_ascii, is_utf8-from_IsUtf8}
-use Rattle.cj_model.specs.Words.{is_text}
+use Rattle.cj_model.specs.Sql.Names.{is_text}
 
 is_ascii : IsAscii (codes "ann")
 is_ascii zero = omega arith

@@ -1,6 +1,6 @@
 -- A script over two backends that begin.
 use Rattle.std.proofs.Common.{◌≡◌, ℕ, true, List, [], ◌∷◌, Option, ap}
-use Rattle.cj_model.specs.Cores.{Core}
+use Rattle.cj_model.specs.Cluster.Cores.{Core}
 use Rattle.cj_model.proofs.Standing.{between_none}
 use Rattle.cj_core.specs.Counting.{faults_of}
 use Rattle.cj_core.specs.Starts.{started}

@@ -9,24 +9,24 @@ use Rattle.cj_model.specs.declared.message.Message.{Message}
 use Rattle.cj_model.specs.declared.message.Message.TheVariants.{Login}
 use Rattle.cj_model.specs.declared.answer.Reply.{Reply}
 use Rattle.cj_model.specs.declared.request.Request.{Request}
-use Rattle.cj_model.specs.Grammar.{TextReads}
-use Rattle.cj_model.specs.Replies.{reply_bytes}
-use Rattle.cj_model.specs.Session.{Session, fresh, Exchange, Exchanges, answered, limited, CutsReply, StarvesReply}
+use Rattle.cj_model.specs.Sql.Grammar.{TextReadsAs}
+use Rattle.cj_model.specs.Wire.Replies.{reply_bytes}
+use Rattle.cj_model.specs.Wire.Sessions.{Session, initial_session, Exchange, Exchanges, answered_messages, within_limit, CutsReply, StarvesReply}
 
 -- some text reads as the request
 pub record IsReadable (request : Request) : Type 0 where
   pub text : List ℕ
-  pub reads : TextReads text request
+  pub reads : TextReadsAs text request
 
 -- the exchange of a Login
-abbrev pub LogsIn : Session → List ℕ → List ℕ → Reply → Session → Type 0
-LogsIn s user password reply t = Exchange s (Login user password) (limited reply) t
+abbrev pub AnswersLogin : Session → List ℕ → List ℕ → Reply → Session → Type 0
+AnswersLogin s user password reply t = Exchange s (Login user password) (within_limit reply) t
 
 -- each message before the first Quit has its reply, in order
 pub record Answered (held held' : Option (List ℕ)) (messages : List Message) : Type 0 where
   pub replies : List Reply
   pub last : Session
-  pub exchanges : Exchanges fresh (answered messages) replies last
+  pub exchanges : Exchanges initial_session (answered_messages messages) replies last
   pub bytes : Appends held held' (flat_map reply_bytes replies)
 
 -- the first messages have their replies, and of the next one's this part was written
@@ -34,9 +34,9 @@ pub record AnsweredInPart (IsPart : Session → List Message → List ℕ → Ty
   pub count : ℕ
   pub replies : List Reply
   pub last : Session
-  pub exchanges : Exchanges fresh (take count (answered messages)) replies last
+  pub exchanges : Exchanges initial_session (take count (answered_messages messages)) replies last
   pub part : List ℕ
-  pub begins : IsPart last (drop count (answered messages)) part
+  pub begins : IsPart last (drop count (answered_messages messages)) part
   pub bytes : Appends held held' (flat_map reply_bytes replies ++ part)
 
 -- All were answered; or the sink failed within a reply; or memory was wanting, before the session began or for a reply.

@@ -7,7 +7,7 @@ use Rattle.cj_outside.specs.Streams.{most, TookFewer, TookMost, TookSome}
 use Rattle.cj_model.specs.declared.message.Message.{Message}
 use Rattle.cj_model.specs.declared.session.SessionEnd.{SessionEnd}
 use Rattle.cj_model.specs.declared.session.SessionEnd.TheVariants as end
-use Rattle.cj_model.specs.Session.{Session, Talk, CutTalk, CutsReply, StarvesReply}
+use Rattle.cj_model.specs.Wire.Sessions.{Session, Transcript, PartialTranscript, CutsReply, StarvesReply}
 
 -- a word that names a configuration: not empty, and no option
 abbrev pub names_file : List ℕ → Bool
@@ -38,35 +38,35 @@ pub record TookAll (left left' : Option (List ℕ)) (taken : List ℕ) : Type 0 
   pub end : IsAtEnd left'
   pub few : length taken < most
 
--- the input was taken to its end, and the whole talk over it was written
-pub record Talked (left left' held held' : Option (List ℕ)) (ending : SessionEnd) : Type 0 where
+-- the input was taken to its end, and the whole transcript of it was written
+pub record HasTranscript (left left' held held' : Option (List ℕ)) (ending : SessionEnd) : Type 0 where
   pub taken : List ℕ
   pub written : List ℕ
   pub took : TookAll left left' taken
   pub wrote : Appends held held' written
-  pub talk : Talk taken written ending
+  pub transcript : Transcript taken written ending
 
--- the input was taken to its end, and a front of the talk was written
-pub record TalkedInPart (IsPart : Session → List Message → List ℕ → Type 0) (left left' held held' : Option (List ℕ)) : Type 0 where
+-- the input was taken to its end, and a front of the transcript was written
+pub record HasPartialTranscript (IsPart : Session → List Message → List ℕ → Type 0) (left left' held held' : Option (List ℕ)) : Type 0 where
   pub taken : List ℕ
   pub written : List ℕ
   pub took : TookAll left left' taken
   pub wrote : Appends held held' written
-  pub talk : CutTalk IsPart taken written
+  pub transcript : PartialTranscript IsPart taken written
 
 -- What a session that ended so took and gave. Where the source or the sink tells nothing, this says nothing of its bytes.
 abbrev pub Piped : (left left' held held' : Option (List ℕ)) → SessionEnd → Type 0
-Piped left left' held held' end.Quit = Talked left left' held held' end.Quit
-Piped left left' held held' end.Eof = Talked left left' held held' end.Eof
-Piped left left' held held' end.Cut = Talked left left' held held' end.Cut
-Piped left left' held held' (end.BadFrame fault) = Talked left left' held held' (end.BadFrame fault)
+Piped left left' held held' end.Quit = HasTranscript left left' held held' end.Quit
+Piped left left' held held' end.Eof = HasTranscript left left' held held' end.Eof
+Piped left left' held held' end.Cut = HasTranscript left left' held held' end.Cut
+Piped left left' held held' (end.BadFrame fault) = HasTranscript left left' held held' (end.BadFrame fault)
 Piped left left' held held' end.ReadFault = TookFewer left left' × Keeps held held'
-Piped left left' held held' end.WriteFault = TalkedInPart CutsReply left left' held held'
+Piped left left' held held' end.WriteFault = HasPartialTranscript CutsReply left left' held held'
 Piped left left' held held' end.Spent = TookMost left left' × Keeps held held'
-Piped left left' held held' end.NoMemory = (TookSome left left' × Keeps held held') ⊎ TalkedInPart StarvesReply left left' held held'
+Piped left left' held held' end.NoMemory = (TookSome left left' × Keeps held held') ⊎ HasPartialTranscript StarvesReply left left' held held'
 
 -- a run of `pipe` with this status
-pub record Runs (left left' held held' : Option (List ℕ)) (status : ℕ) : Type 0 where
+pub record RunsPipe (left left' held held' : Option (List ℕ)) (status : ℕ) : Type 0 where
   pub ending : SessionEnd
   pub status_is : status ≡ status_of ending
   pub piped : Piped left left' held held' ending

@@ -7,8 +7,8 @@ use Rattle.cj_outside.specs.Causes.{CountsFault}
 use Rattle.cj_outside.specs.Streams.{WritesAll}
 use Rattle.cj_outside.specs.declared.sink.OutError.{OutError}
 use Rattle.cj_outside.specs.declared.sink.OutError.TheVariants as out_errors
-use Rattle.cj_model.specs.Runs.{IsBetween}
-use Rattle.cj_model.specs.Scripts.{ended, words}
+use Rattle.cj_model.specs.Cluster.Runs.{IsBetweenReplies}
+use Rattle.cj_model.specs.Script.Lines.{with_line_feed, words}
 use Rattle.cj_core.specs.Counting.{faults_of}
 use Rattle.cj_core.specs.Starts.{started}
 use Rattle.cj_core.specs.Worlds.{WorldState}
@@ -39,7 +39,7 @@ status_of_script end.NoMemory = 1
 
 -- the line that names a line of the script
 abbrev pub line_text : ℕ → List ℕ
-line_text number = ended (words (codes "line" ∷ decimal number ∷ []))
+line_text number = with_line_feed (words (codes "line" ∷ decimal number ∷ []))
 
 -- The line's name was written whole, or the errors failed in it, which they counted, or memory was wanting for it.
 pub record WritesName (errors errors' : Option (List ℕ)) (before now number : ℕ) : Type 0 where
@@ -59,7 +59,7 @@ pub record PlayedOverTwo (left left' held held' : Option (List ℕ)) (ending : S
   pub faultless : faults_of first.cells ≡ 0 ∷ 0 ∷ []
   pub last : WorldState
   pub came : CameTo true true backend_names left left' held held' first ending last
-  pub begins : (s : ℕ) → IsBetween (record { front = first.core.history; least = 0 }) first.core s
+  pub begins : (s : ℕ) → IsBetweenReplies (record { front = first.core.history; least = 0 }) first.core s
   pub turns : InTurns true backend_names left left' held held' first last
 
 -- the script was played, and ended with this status

@@ -2,9 +2,9 @@
 
 ghost use Rattle.std.specs.Prelude.{◌≡◌, List, ℕ};
 ghost use Rattle.cj_model.specs.declared.session.SessionEnd.{SessionEnd};
-ghost use Rattle.cj_model.specs.Session.{Talk};
+ghost use Rattle.cj_model.specs.Wire.Sessions.{Transcript};
 
 /// The bytes that a session takes fix the bytes that it writes, and how it ends.
-pub fn bytes_have_one_talk()
-    ensures { (taken written other : List ℕ) (ending last : SessionEnd) → Talk taken written ending → Talk taken other last → (written ≡ other) × (ending ≡ last) }
+pub fn bytes_have_one_transcript()
+    ensures { (taken written other : List ℕ) (ending last : SessionEnd) → Transcript taken written ending → Transcript taken other last → (written ≡ other) × (ending ≡ last) }
 {}

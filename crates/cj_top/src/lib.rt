@@ -7,7 +7,7 @@ mod scripted;
 mod send;
 mod session;
 
-pub use laws::bytes_have_one_talk;
+pub use laws::bytes_have_one_transcript;
 pub use program::{pipe, run};
 pub use scripted::play;
 pub use session::Session;

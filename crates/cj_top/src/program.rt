@@ -3,9 +3,9 @@
 ghost use Rattle.std.specs.Prelude.{◌≡◌, ◌↔◌, ◌≢◌, true, false, map, string_bytes};
 ghost use Rattle.std.specs.List.{list_any};
 ghost use Rattle.cj_outside.specs.Causes.{CountsFault};
-ghost use Rattle.cj_model.specs.Frames.{fault_of};
-ghost use Rattle.cj_model.specs.Session as session;
-ghost use Rattle.cj_top.specs.Program.{Piped, Runs};
+ghost use Rattle.cj_model.specs.Wire.Frames.{fault_of};
+ghost use Rattle.cj_model.specs.Wire.Sessions as session;
+ghost use Rattle.cj_top.specs.Program.{Piped, RunsPipe};
 ghost use Rattle.cj_top.specs.Program as top;
 ghost use Rattle.cj_top.specs.Scripted.{RunsScript};
 ghost use Rattle.cj_top.specs.Scripted as scripted;
@@ -115,7 +115,7 @@ pub fn run<I: Source, O: Sink, E: Sink>(
     output: &mut O,
     errors: &mut E,
 ) -> u8
-    ensures pipe { top.is_pipe (map string_bytes words.now) ≡ true → Runs (I.left input.old) (I.left input.new) (O.held output.old) (O.held output.new) result }
+    ensures pipe { top.is_pipe (map string_bytes words.now) ≡ true → RunsPipe (I.left input.old) (I.left input.new) (O.held output.old) (O.held output.new) result }
     ensures script { scripted.is_script (map string_bytes words.now) ≡ true → RunsScript (I.left input.old) (I.left input.new) (O.held output.old) (O.held output.new) (E.held errors.old) (E.held errors.new) (E.faults errors.old) (E.faults errors.new) result }
     ensures other { top.is_pipe (map string_bytes words.now) ≡ false → scripted.is_script (map string_bytes words.now) ≡ false → (result ≡ 2) × (input.new ≡ input.old) × (output.new ≡ output.old) }
     ensures errors { scripted.is_script (map string_bytes words.now) ≡ false → errors.new ≡ errors.old }

@@ -5,7 +5,7 @@ ghost use Rattle.cj_flaky.specs.FlakyBackends.{fresh_over};
 ghost use Rattle.cj_mem.specs.MemoryBackends.{fresh_state};
 ghost use Rattle.cj_core.specs.Counting.{faults_of};
 ghost use Rattle.cj_core.specs.Starts.{started};
-ghost use Rattle.cj_model.specs.Words as words;
+ghost use Rattle.cj_model.specs.Sql.Names as names;
 ghost use Rattle.cj_outside.specs.Causes.{CountsFault};
 ghost use Rattle.cj_outside.specs.Streams.{WritesAll};
 ghost use Rattle.cj_script.specs.declared.play.ScriptEnd.TheVariants as ends;
@@ -22,7 +22,7 @@ use cj_script::{ScriptEnd, script};
 use std::alloc::Global;
 
 fn name(bytes: &[u8]) -> Name
-    requires { words.is_name bytes.now ≡ true }
+    requires { names.is_name bytes.now ≡ true }
     ensures { result ≡ bytes.now }
 {
     match Name::of(bytes) {

@@ -5,11 +5,11 @@ ghost use Rattle.std.specs.List.{list_any};
 ghost use Rattle.std.specs.Option.{option_map};
 ghost use Rattle.cj_outside.specs.Causes.{CountsFault};
 ghost use Rattle.cj_backend.specs.Backends.{HasBackendCause};
-ghost use Rattle.cj_model.specs.Outcomes.{IsAsked};
+ghost use Rattle.cj_model.specs.Database.Outcomes.{IsAsked};
 ghost use Rattle.cj_reply.specs.Encode.{IsSendable};
-ghost use Rattle.cj_model.specs.Replies as replies;
-ghost use Rattle.cj_model.specs.Session as session;
-ghost use Rattle.cj_top.specs.Answers.{Answers, IsReadable, LogsIn};
+ghost use Rattle.cj_model.specs.Wire.Replies as replies;
+ghost use Rattle.cj_model.specs.Wire.Sessions as session;
+ghost use Rattle.cj_top.specs.Answers.{Answers, IsReadable, AnswersLogin};
 
 use crate::send::send;
 use cj_backend::{Backend, BackendError};
@@ -35,7 +35,7 @@ pub struct Session {
 impl Model for Session {
     ghost use Rattle.std.specs.Prelude.{[], IsSome};
     ghost use Rattle.std.specs.Option.{unwrap_or};
-    ghost use Rattle.cj_model.specs.Session.{Session};
+    ghost use Rattle.cj_model.specs.Wire.Sessions.{Session};
 
     ghost Value = { Session };
 
@@ -46,9 +46,9 @@ impl Model for Session {
 }
 
 fn refused(code: u16) -> Reply
-    ensures { result ≡ session.refused code }
+    ensures { result ≡ session.refused_reply code }
 {
-    Reply::Refused(Refusal::bare(code))
+    Reply::Refused(Refusal::of_code(code))
 }
 
 fn outcome_reply(outcome: Outcome) -> Reply
@@ -152,7 +152,7 @@ fn reply_of(backend: &mut MemBackend, login: &Text, request: &Request) -> Result
 impl Session {
     /// A session before its Login, over an empty database.
     pub fn new(alloc: Global) -> Result<Session, NoMemory>
-        ensures { IfOk result (λ s. s ≡ session.fresh) }
+        ensures { IfOk result (λ s. s ≡ session.initial_session) }
     {
         Ok(Session {
             logged_in: false,
@@ -162,7 +162,7 @@ impl Session {
     }
 
     fn log_in(mut self, user: &[u8], password: &[u8]) -> (Session, Reply)
-        ensures exchange { LogsIn self user.now password.now result.1 result.0 }
+        ensures exchange { AnswersLogin self user.now password.now result.1 result.0 }
         ensures sendable { IsSendable result.1 }
     {
         let accepted = is_account(user, password);
@@ -199,7 +199,7 @@ impl Session {
     }
 
     fn query(self, alloc: Global, text: &[u8]) -> Result<(Session, Reply), NoMemory>
-        ensures exchange { IfOk result (λ (after, reply). session.QueryExchange self.logged_in self text.now (session.limited reply) after) }
+        ensures exchange { IfOk result (λ (after, reply). session.QueryExchange self.logged_in self text.now (session.within_limit reply) after) }
         ensures sendable { IfOk result (λ (after, reply). IsSendable reply) }
     {
         if !self.logged_in {
@@ -215,7 +215,7 @@ impl Session {
     /// The reply to a message; what is sent of it is `limited`. Want of memory ends the session.
     pub fn answer(self, alloc: Global, message: &Message) -> Result<(Session, Reply), NoMemory>
         requires { session.is_quit message.now ≡ false }
-        ensures exchange { IfOk result (λ (after, reply). session.Exchange self message.now (session.limited reply) after) }
+        ensures exchange { IfOk result (λ (after, reply). session.Exchange self message.now (session.within_limit reply) after) }
         ensures sendable { IfOk result (λ (after, reply). IsSendable reply) }
     {
         match message {

@@ -4,7 +4,7 @@ use Rattle.std.specs.declared.option.Option.{Option}
 use Rattle.std.specs.declared.option.Option.TheVariants.{None, Some}
 use Rattle.cj_model.specs.declared.request.Act.{Act}
 use Rattle.cj_model.specs.declared.request.Act.TheVariants as act
-use Rattle.cj_model.specs.Steps.{table_written}
+use Rattle.cj_model.specs.Database.Steps.{table_written}
 
 -- the table that a write, CREATE or DROP is of
 abbrev pub table_changed : Act → Option (List ℕ)

@@ -1,9 +1,9 @@
 //! The tables of requests and of entries.
 
 ghost use Rattle.std.specs.Prelude.{◌≡◌, [], fold, option_copied, IfOk};
-ghost use Rattle.cj_model.specs.Placements as placements;
-ghost use Rattle.cj_model.specs.Steps as steps;
-ghost use Rattle.cj_model.specs.Tables.{name_cmp, put_by};
+ghost use Rattle.cj_model.specs.Cluster.Placements as placements;
+ghost use Rattle.cj_model.specs.Database.Steps as steps;
+ghost use Rattle.cj_model.specs.Database.Tables.{name_cmp, put_by};
 ghost use Rattle.cj_usage.specs.Changed.{table_changed};
 
 use cj_model::{Act, Name, NoMemory, Request, TableSet, Write};

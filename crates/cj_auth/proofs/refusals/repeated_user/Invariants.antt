@@ -1,5 +1,5 @@
 use Rattle.std.proofs.Common.{◌≡◌, [], take, drop}
-use Rattle.cj_model.specs.Accounts as accounts
+use Rattle.cj_model.specs.Cluster.Accounts as accounts
 use Rattle.cj_auth.proofs.refusals.repeated_user.Given as goal
 
 abbrev pub invariant-loop-i : goal.invariant-loop-i

@@ -1,5 +1,5 @@
 use Rattle.std.proofs.Common.{ap, ◌∙◌}
-use Rattle.cj_cache.specs.Kept.{shown}
+use Rattle.cj_cache.specs.Kept.{entries_of_map}
 use Rattle.cj_cache.proofs.Maps.{brought_shown, some_shown}
 use Rattle.cj_cache.proofs.held.bring_to_front.Goals as goal
 
@@ -7,4 +7,4 @@ pub returns-clause-found : goal.returns-clause-found
 returns-clause-found c = c.promote.ensures.value ∙ some_shown c.args.select.now c.args.held.now.entries
 
 pub returns-clause-entries : goal.returns-clause-entries
-returns-clause-entries c = ap shown c.promote.ensures.entries ∙ brought_shown c.args.select.now c.args.held.now.entries
+returns-clause-entries c = ap entries_of_map c.promote.ensures.entries ∙ brought_shown c.args.select.now c.args.held.now.entries

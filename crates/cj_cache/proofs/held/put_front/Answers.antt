@@ -1,7 +1,7 @@
 use Rattle.std.proofs.Common.{rules, ◌≡◌, ap, ◌∙◌}
 use Rattle.lru.specs.LruCache.{lru_cache, put_entries}
-use Rattle.cj_model.specs.Statements.{same_statement}
-use Rattle.cj_cache.specs.Kept.{shown}
+use Rattle.cj_model.specs.Proving.SameStatements.{same_statement}
+use Rattle.cj_cache.specs.Kept.{entries_of_map}
 use Rattle.cj_cache.proofs.Maps.{put_shown}
 use Rattle.cj_cache.proofs.held.put_front.Goals as goal
 
@@ -10,4 +10,4 @@ returns-clause-ok c =
     let held = c.args.held.now in
     let entry = c.args.entry in
     let put : c.put.new.self ≡ lru_cache (put_entries same_statement held entry.select (record { answer = entry.answer; at = entry.at })) held.cap = search rules in
-    ap shown put ∙ put_shown held entry.select (record { answer = entry.answer; at = entry.at }) c.len-len.ensures.valid.1 c.len-len.ensures.valid.2
+    ap entries_of_map put ∙ put_shown held entry.select (record { answer = entry.answer; at = entry.at }) c.len-len.ensures.valid.1 c.len-len.ensures.valid.2

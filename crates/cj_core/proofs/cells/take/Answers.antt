@@ -1,11 +1,11 @@
 use Rattle.std.proofs.Common.{◌≡◌, ◌+◌, ◌-◌, List, All, slice_get, slice_set, Some, ℕ, refl, sym, ap, ◌∙◌, subst, arith}
 use Rattle.std.proofs.lemmas.Option.{slice_get_within, get_or_from_slice_get}
 use Rattle.cj_model.specs.declared.request.Entry.{Entry}
-use Rattle.cj_model.specs.Plain.{request_of}
-use Rattle.cj_model.specs.Histories.{log}
-use Rattle.cj_model.specs.Legality.{IsWritten}
-use Rattle.cj_model.specs.Moves.{place}
-use Rattle.cj_model.specs.Sound.{IsLone}
+use Rattle.cj_model.specs.Sql.PlainRequests.{request_of}
+use Rattle.cj_model.specs.Cluster.Histories.{log}
+use Rattle.cj_model.specs.Cluster.Legality.{IsWritten}
+use Rattle.cj_model.specs.Cluster.Moves.{position_or_zero}
+use Rattle.cj_model.specs.Proving.Invariants.{IsLoneEntry}
 use Rattle.cj_replica.specs.Cells.{CellState}
 use Rattle.cj_core.proofs.Catching.{took}
 use Rattle.cj_core.proofs.cells.take.Goals as goal
@@ -22,7 +22,7 @@ pub catch_up-requires-clause-written : goal.catch_up-requires-clause-written
 catch_up-requires-clause-written g c =
     let can = c.requires in
     let at : c.position.result ≡ Some can.p = c.position.ensures ∙ (ap (λ (x : CellState). x.position) c.index.ensures ∙ can.stands c.index.result.now) in
-    let next : c.place-next.result + 1 ≡ can.p + 1 = ap (λ q. q + 1) (c.place-next.ensures ∙ ap place at) in
+    let next : c.place-next.result + 1 ≡ can.p + 1 = ap (λ q. q + 1) (c.place-next.ensures ∙ ap position_or_zero at) in
     at_entry (λ (e : Entry). IsWritten (request_of e.act)) (log c.args.book.now.history) can.p c.in-Some.entry.now can.written
     (found (log c.args.book.now.history) can.p (c.place-next.result + 1) c.in-Some.entry.now next (c.in-Some.ensures.numbered (omega arith)))
 
@@ -30,15 +30,15 @@ pub catch_up-requires-clause-lone : goal.catch_up-requires-clause-lone
 catch_up-requires-clause-lone g c =
     let can = c.requires in
     let at : c.position.result ≡ Some can.p = c.position.ensures ∙ (ap (λ (x : CellState). x.position) c.index.ensures ∙ can.stands c.index.result.now) in
-    let next : c.place-next.result + 1 ≡ can.p + 1 = ap (λ q. q + 1) (c.place-next.ensures ∙ ap place at) in
-    at_entry (λ (e : Entry). IsLone e e.act) (log c.args.book.now.history) can.p c.in-Some.entry.now can.lone
+    let next : c.place-next.result + 1 ≡ can.p + 1 = ap (λ q. q + 1) (c.place-next.ensures ∙ ap position_or_zero at) in
+    at_entry (λ (e : Entry). IsLoneEntry e e.act) (log c.args.book.now.history) can.p c.in-Some.entry.now can.lone
     (found (log c.args.book.now.history) can.p (c.place-next.result + 1) c.in-Some.entry.now next (c.in-Some.ensures.numbered (omega arith)))
 
 pub returns : goal.returns
 returns g c =
     let can = c.requires in
     let at : c.position.result ≡ Some can.p = c.position.ensures ∙ (ap (λ (x : CellState). x.position) c.index.ensures ∙ can.stands c.index.result.now) in
-    let next : c.place-next.result + 1 ≡ can.p + 1 = ap (λ q. q + 1) (c.place-next.ensures ∙ ap place at) in
+    let next : c.place-next.result + 1 ≡ can.p + 1 = ap (λ q. q + 1) (c.place-next.ensures ∙ ap position_or_zero at) in
     let entry = found (log c.args.book.now.history) can.p (c.place-next.result + 1) c.in-Some.entry.now next (c.in-Some.ensures.numbered (omega arith)) in
     rw c.did_of.ensures
     (took g.B.Backend.TELLS c.args.book.now.backends c.args.book.now.history c.args.cells.now.items c.args.b can c.index_mut.result.now c.catch_up.new.self c.index_mut.ensures.value c.in-Some.entry.now entry

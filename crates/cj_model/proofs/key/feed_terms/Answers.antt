@@ -1,5 +1,5 @@
 use Rattle.std.specs.Hash.{fed_then}
-use Rattle.cj_model.specs.Statements.{fed_term}
+use Rattle.cj_model.specs.Proving.SameStatements.{fed_term}
 use Rattle.cj_model.proofs.key.feed_terms.Goals as goal
 
 pub returns : goal.returns

@@ -1,6 +1,6 @@
 use Rattle.std.proofs.Common.{◌≡◌, length}
 use Rattle.std.specs.List.{list_all}
-use Rattle.cj_model.specs.Words.{continues_name}
+use Rattle.cj_model.specs.Sql.Names.{continues_name}
 use Rattle.cj_model.proofs.name.all_continue.Given as goal
 
 abbrev pub invariant-loop-bytes : goal.invariant-loop-bytes

@@ -1,5 +1,5 @@
 use Rattle.std.proofs.Common.{◌≡◌, map, take, length}
-use Rattle.cj_model.specs.Words.{lower}
+use Rattle.cj_model.specs.Sql.Names.{lower}
 use Rattle.cj_model.proofs.name.lowered.Given as goal
 
 abbrev pub invariant-loop-i : goal.invariant-loop-i

@@ -1,7 +1,7 @@
 use Rattle.std.proofs.Common.{◌≡◌, get_or, set, Equal, sym, ap, ◌∙◌}
 use Rattle.std.proofs.lemmas.List.{set-get_or}
 use Rattle.std.proofs.lemmas.Map.Lookups.{exact_bytes}
-use Rattle.cj_model.specs.Tables.{name_cmp}
+use Rattle.cj_model.specs.Database.Tables.{name_cmp}
 use Rattle.cj_model.proofs.RisingLaws.{put_over}
 use Rattle.cj_model.proofs.table_set.gap_for.Goals as goal
 

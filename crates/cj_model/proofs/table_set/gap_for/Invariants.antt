@@ -1,5 +1,5 @@
 use Rattle.std.proofs.Common.{◌≡◌, ◌++◌, take, drop}
-use Rattle.cj_model.specs.Tables.{name_cmp, put_by}
+use Rattle.cj_model.specs.Database.Tables.{name_cmp, put_by}
 use Rattle.cj_model.proofs.table_set.gap_for.Given as goal
 
 abbrev pub invariant-loop-i : goal.invariant-loop-i

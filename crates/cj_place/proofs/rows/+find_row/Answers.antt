@@ -3,7 +3,7 @@ use Rattle.std.specs.Prelude.{find}
 use Rattle.std.specs.Str.{bytes_eq}
 use Rattle.std.proofs.lemmas.Bool.{eqb-false}
 use Rattle.std.proofs.lemmas.List.{length-take-le, take_all}
-use Rattle.cj_model.specs.Tables.{Rises, name_cmp}
+use Rattle.cj_model.specs.Database.Tables.{Rises, name_cmp}
 use Rattle.cj_place.specs.declared.rows.HostRow.{HostRow}
 use Rattle.cj_place.specs.Layouts.{by_row}
 use Rattle.cj_place.specs.Kept.{given_rows}

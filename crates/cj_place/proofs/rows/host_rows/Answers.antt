@@ -1,7 +1,7 @@
 use Rattle.std.proofs.Common.{◌∙◌, List, sym, ap, subst}
 use Rattle.std.specs.Prelude.{All, fold}
 use Rattle.cj_model.specs.declared.placement.PlaceRow.{PlaceRow}
-use Rattle.cj_model.specs.Tables.{put_by}
+use Rattle.cj_model.specs.Database.Tables.{put_by}
 use Rattle.cj_model.proofs.RisingLaws.{all_put}
 use Rattle.cj_place.specs.declared.rows.HostRow.{HostRow}
 use Rattle.cj_place.specs.Layouts.{by_row}

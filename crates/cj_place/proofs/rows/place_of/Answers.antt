@@ -1,5 +1,5 @@
 use Rattle.std.proofs.Common.{◌≡◌, Equal, sym, ap, ◌∙◌}
-use Rattle.cj_model.specs.Tables.{name_cmp}
+use Rattle.cj_model.specs.Database.Tables.{name_cmp}
 use Rattle.cj_model.proofs.RisingLaws.{put_over}
 use Rattle.cj_place.specs.Kept.{by_given}
 use Rattle.cj_place.proofs.rows.place_of.Goals as goal

@@ -1,8 +1,8 @@
 use Rattle.std.proofs.Common.{◌≡◌, ◌++◌, map}
 use Rattle.std.specs.Prelude.{filter}
 use Rattle.std.specs.Map.Iter.{deref}
-use Rattle.cj_model.specs.Evaluation.{meets}
+use Rattle.cj_model.specs.Database.Evaluation.{satisfies}
 use Rattle.cj_plan.proofs.conditions.scanned.Given as goal
 
 abbrev pub invariant-loop-row : goal.invariant-loop-row
-invariant-loop-row l = map deref l.rows.items ++ filter (meets l.condition) l.row-iterator ≡ filter (meets l.condition) l.view.rows
+invariant-loop-row l = map deref l.rows.items ++ filter (satisfies l.condition) l.row-iterator ≡ filter (satisfies l.condition) l.view.rows

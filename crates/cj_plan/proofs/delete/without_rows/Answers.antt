@@ -3,7 +3,7 @@ use Rattle.std.specs.Prelude.{filter}
 use Rattle.std.specs.Map.Iter.{deref}
 use Rattle.std.proofs.lemmas.List.{length-map}
 use Rattle.cj_model.specs.declared.schema.Schema.{Schema}
-use Rattle.cj_model.specs.Evaluation.{meets}
+use Rattle.cj_model.specs.Database.Evaluation.{satisfies}
 use Rattle.cj_rows.specs.RowEntries as entries
 use Rattle.cj_plan.proofs.PlanLaws.{part-le, delete_leaves}
 use Rattle.cj_plan.proofs.delete.without_rows.Goals as goal
@@ -11,13 +11,13 @@ use Rattle.cj_plan.proofs.delete.without_rows.Goals as goal
 pub overflow_sub-result : goal.overflow_sub-result
 overflow_sub-result c =
     let rows = c.in_ok-rows.rows in
-    let size : length rows.items ≡ length (filter (meets c.args.condition.now) c.args.view.now.rows) = sym (length-map rows.items deref) ∙ ap length c.in_ok-rows.ensures in
-    omega (arith, c.len.ensures, c.count.ensures, size, part-le (meets c.args.condition.now) c.args.view.now.rows)
+    let size : length rows.items ≡ length (filter (satisfies c.args.condition.now) c.args.view.now.rows) = sym (length-map rows.items deref) ∙ ap length c.in_ok-rows.ensures in
+    omega (arith, c.len.ensures, c.count.ensures, size, part-le (satisfies c.args.condition.now) c.args.view.now.rows)
 
 pub returns : goal.returns
 returns c =
     let t = c.args.view.now in
-    let test = meets c.args.condition.now in
+    let test = satisfies c.args.condition.now in
     let rows = c.in_ok-rows.rows in
     let size : length rows.items ≡ length (filter test t.rows) = sym (length-map rows.items deref) ∙ ap length c.in_ok-rows.ensures in
     delete_leaves t c.legal.ensures _ test

@@ -1,5 +1,5 @@
 use Rattle.std.proofs.Common.{◌≡◌, length}
-use Rattle.cj_model.specs.Tables as tables
+use Rattle.cj_model.specs.Database.Tables as tables
 use Rattle.cj_plan.proofs.insert.fits_columns.Given as goal
 
 abbrev pub invariant-loop-columns : goal.invariant-loop-columns

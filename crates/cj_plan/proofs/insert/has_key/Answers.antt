@@ -3,7 +3,7 @@ use Rattle.std.specs.Prelude.{is_some}
 use Rattle.cj_rows.specs.Lookups.{row_with_key}
 use Rattle.cj_model.specs.declared.value.Value.{Value}
 use Rattle.cj_model.specs.declared.schema.Schema.{Schema}
-use Rattle.cj_model.specs.Tables.{cell}
+use Rattle.cj_model.specs.Database.Tables.{cell}
 use Rattle.cj_plan.proofs.PlanLaws.{is_some-copied, found_key}
 use Rattle.cj_plan.proofs.insert.has_key.Goals as goal
 

@@ -1,7 +1,7 @@
 use Rattle.std.proofs.Common.{◌≡◌, false, not, ◌==◌, List, length, map, subst, sym, ap, ◌∙◌}
 use Rattle.std.specs.List.{list_any}
 use Rattle.cj_model.specs.declared.term.Term.{Term}
-use Rattle.cj_model.specs.Changes.{Changed, row_of, lists_stranger, lists_unevenly}
+use Rattle.cj_model.specs.Database.Inserts.{Changed, row_of, lists_unknown_column, lists_unevenly}
 use Rattle.cj_model.specs.declared.schema.Schema.{Schema}
 use Rattle.cj_plan.specs.Inserts.{with_fitting_rows}
 use Rattle.cj_plan.specs.Plans.{Plans}
@@ -14,7 +14,7 @@ returns c =
     let names = c.args.names.now in
     let tuples = c.args.tuples.now in
     let columns = c.as_slice-columns.ensures ∙ ap (λ (s : Schema). s.columns) c.schema.ensures in
-    let known : lists_stranger t.schema.columns names ≡ false = ap (λ cs. lists_stranger cs names) (sym columns) ∙ sym c.lists_stranger.ensures ∙ c.if-lists_stranger.false in
+    let known : lists_unknown_column t.schema.columns names ≡ false = ap (λ cs. lists_unknown_column cs names) (sym columns) ∙ sym c.lists_unknown_column.ensures ∙ c.if-lists_unknown_column.false in
     let listed : lists_unevenly t.schema.columns names ≡ false = ap (λ cs. lists_unevenly cs names) (sym columns) ∙ sym c.lists_unevenly.ensures ∙ c.if-lists_unevenly.false in
     let wide : list_any (λ (u : List Term). not (length u == length t.schema.columns)) tuples ≡ false =
     ap (λ cs. list_any (λ (u : List Term). not (length u == length cs)) tuples) (sym columns) ∙ sym c.has_uneven.ensures ∙ c.if-has_uneven.false in

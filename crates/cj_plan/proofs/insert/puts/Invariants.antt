@@ -1,5 +1,5 @@
 use Rattle.std.proofs.Common.{◌≡◌, ◌++◌, false}
-use Rattle.cj_model.specs.Changes.{has_key_twice}
+use Rattle.cj_model.specs.Database.Inserts.{has_key_twice}
 use Rattle.cj_rows.specs.RowEntries as entries
 use Rattle.cj_plan.proofs.insert.puts.Given as goal
 

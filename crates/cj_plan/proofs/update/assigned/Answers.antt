@@ -1,13 +1,13 @@
 use Rattle.std.proofs.Common.{◌≡◌, true, ap, sym, ◌∙◌}
 use Rattle.std.proofs.lemmas.Bool.{cond-true}
-use Rattle.cj_model.specs.Evaluation.{is_outside, worth}
-use Rattle.cj_model.specs.Updates.{Assignment}
+use Rattle.cj_model.specs.Database.Evaluation.{is_out_of_range, value_of}
+use Rattle.cj_model.specs.Database.Updates.{Assignment}
 use Rattle.cj_expr.specs.Shapes.{formula}
-use Rattle.cj_plan.specs.Assignments.{assignment}
+use Rattle.cj_plan.specs.Assignments.{assignment_by_place}
 use Rattle.cj_plan.proofs.PlanLaws.{any_at, from_none}
 use Rattle.cj_plan.proofs.update.assigned.Goals as goal
 
 pub returns-in-None : goal.returns-in-None
 returns-in-None c =
-    let outside : is_outside (worth c.args.row.now (formula c.assign-item.result.value)) ≡ true = ap (λ row. is_outside (worth row (formula c.assign-item.result.value))) (sym c.as_slice.ensures) ∙ from_none _ _ (sym c.in-None.is ∙ c.in_ok-value.ensures) in
-    sym (cond-true _ _ _ (any_at assignment (λ (a : Assignment). is_outside (worth c.args.row.now a.value)) c.args.assigns.now c.loop-assign.assign-index c.assign-item.result c.loop-assign-test.true c.assign-item.is outside))
+    let outside : is_out_of_range (value_of c.args.row.now (formula c.assign-item.result.value)) ≡ true = ap (λ row. is_out_of_range (value_of row (formula c.assign-item.result.value))) (sym c.as_slice.ensures) ∙ from_none _ _ (sym c.in-None.is ∙ c.in_ok-value.ensures) in
+    sym (cond-true _ _ _ (any_at assignment_by_place (λ (a : Assignment). is_out_of_range (value_of c.args.row.now a.value)) c.args.assigns.now c.loop-assign.assign-index c.assign-item.result c.loop-assign-test.true c.assign-item.is outside))

@@ -1,5 +1,5 @@
 use Rattle.std.proofs.Common.{◌≡◌, take, false}
-use Rattle.cj_model.specs.Updates as updates
+use Rattle.cj_model.specs.Database.Updates as updates
 use Rattle.cj_plan.specs.Assignments.{assignments}
 use Rattle.cj_plan.proofs.update.assigned.Given as goal
 

@@ -2,33 +2,33 @@ use Rattle.std.proofs.Common.{◌∷◌, [], sym, ap, ◌∙◌}
 use Rattle.cj_model.specs.declared.schema.Schema.{Schema}
 use Rattle.std.specs.Prelude.{◌||◌}
 use Rattle.std.specs.List.{list_any}
-use Rattle.cj_model.specs.Scopes.{scope_of}
-use Rattle.cj_model.specs.Updates.{sets_twice, sets_key}
+use Rattle.cj_model.specs.Database.Scopes.{scope_of}
+use Rattle.cj_model.specs.Database.Updates.{sets_twice, sets_key}
 use Rattle.cj_plan.proofs.UpdateRefusals.{keeps_key, first_refused, second_refused, third_refused, all_past}
 use Rattle.cj_plan.proofs.update.updated.Goals as goal
 
-pub returns-then-has_stranger : goal.returns-then-has_stranger
-returns-then-has_stranger c =
+pub returns-then-names_unknown_column : goal.returns-then-names_unknown_column
+returns-then-names_unknown_column c =
     let is = c.in_ok-scope.ensures ∙ ap (λ (s : Schema). scope_of (s ∷ [])) c.schema-schema.ensures in
-    first_refused c.args.view.now c.args.sets.now c.args.when.now c.in_ok-scope.scope is c.bare.result (sym c.has_stranger.ensures ∙ c.if-has_stranger.true) c.bare.ensures
+    first_refused c.args.view.now c.args.sets.now c.args.when.now c.in_ok-scope.scope is c.of_code.result (sym c.names_unknown_column.ensures ∙ c.if-names_unknown_column.true) c.of_code.ensures
 
 pub returns-then-branch : goal.returns-then-branch
 returns-then-branch c =
     let t = c.args.view.now in
     let sets = c.args.sets.now in
     let is = c.in_ok-scope.ensures ∙ ap (λ (s : Schema). scope_of (s ∷ [])) c.schema-schema.ensures in
-    let named = sym c.has_stranger.ensures ∙ c.if-has_stranger.false in
+    let named = sym c.names_unknown_column.ensures ∙ c.if-names_unknown_column.false in
     let set = ap (λ (s : Schema). sets_twice sets || list_any (sets_key c.in_ok-scope.scope s.key) sets) (sym c.schema-schema.ensures) ∙ sym c.in_ok-sets_badly.ensures in
-    second_refused t sets c.args.when.now c.in_ok-scope.scope is c.bare-then-branch.result named (set ∙ c.if-branch.true) c.bare-then-branch.ensures
+    second_refused t sets c.args.when.now c.in_ok-scope.scope is c.of_code-then-branch.result named (set ∙ c.if-branch.true) c.of_code-then-branch.ensures
 
 pub returns-then-has_mixed_kinds : goal.returns-then-has_mixed_kinds
 returns-then-has_mixed_kinds c =
     let t = c.args.view.now in
     let sets = c.args.sets.now in
     let is = c.in_ok-scope.ensures ∙ ap (λ (s : Schema). scope_of (s ∷ [])) c.schema-schema.ensures in
-    let named = sym c.has_stranger.ensures ∙ c.if-has_stranger.false in
+    let named = sym c.names_unknown_column.ensures ∙ c.if-names_unknown_column.false in
     let set = ap (λ (s : Schema). sets_twice sets || list_any (sets_key c.in_ok-scope.scope s.key) sets) (sym c.schema-schema.ensures) ∙ sym c.in_ok-sets_badly.ensures in
-    third_refused t sets c.args.when.now c.in_ok-scope.scope is c.bare-then-has_mixed_kinds.result named (set ∙ c.if-branch.false) (sym c.has_mixed_kinds.ensures ∙ c.if-has_mixed_kinds.true) c.bare-then-has_mixed_kinds.ensures
+    third_refused t sets c.args.when.now c.in_ok-scope.scope is c.of_code-then-has_mixed_kinds.result named (set ∙ c.if-branch.false) (sym c.has_mixed_kinds.ensures ∙ c.if-has_mixed_kinds.true) c.of_code-then-has_mixed_kinds.ensures
 
 pub with_assignments-requires : goal.with_assignments-requires
 with_assignments-requires c =
@@ -43,6 +43,6 @@ returns c =
     let t = c.args.view.now in
     let sets = c.args.sets.now in
     let is = c.in_ok-scope.ensures ∙ ap (λ (s : Schema). scope_of (s ∷ [])) c.schema-schema.ensures in
-    let named = sym c.has_stranger.ensures ∙ c.if-has_stranger.false in
+    let named = sym c.names_unknown_column.ensures ∙ c.if-names_unknown_column.false in
     let set = ap (λ (s : Schema). sets_twice sets || list_any (sets_key c.in_ok-scope.scope s.key) sets) (sym c.schema-schema.ensures) ∙ sym c.in_ok-sets_badly.ensures in
     all_past t sets c.args.when.now c.in_ok-scope.scope is c.in_ok-planned.planned named (set ∙ c.if-branch.false) (sym c.has_mixed_kinds.ensures ∙ c.if-has_mixed_kinds.false) c.in_ok-planned.ensures

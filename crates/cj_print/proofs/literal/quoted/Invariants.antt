@@ -1,5 +1,5 @@
 use Rattle.std.proofs.Common.{◌≡◌, ◌∷◌, take}
-use Rattle.cj_model.specs.Lexical.{doubled}
+use Rattle.cj_model.specs.Sql.Lexical.{doubled}
 use Rattle.cj_print.proofs.literal.quoted.Given as goal
 
 -- what has been written is a quote and the bytes so far

@@ -1,8 +1,8 @@
 use Rattle.std.proofs.Common.{map, sym, ap, ◌∙◌}
 use Rattle.std.proofs.lemmas.List.{take-map}
-use Rattle.cj_model.specs.Order.{cut}
+use Rattle.cj_model.specs.Database.Order.{at_most}
 use Rattle.cj_query.specs.Groups.{rows_of, rows_in}
 use Rattle.cj_query.proofs.answer.cut_groups.Goals as goal
 
 pub returns-in-Some : goal.returns-in-Some
-returns-in-Some c = ap (map rows_of) c.truncate.ensures.items ∙ sym (take-map rows_of c.in-Some.most c.args.groups.now.items) ∙ ap (λ o. cut o (rows_in c.args.groups.now.items)) (sym c.in-Some.is)
+returns-in-Some c = ap (map rows_of) c.truncate.ensures.items ∙ sym (take-map rows_of c.in-Some.most c.args.groups.now.items) ∙ ap (λ o. at_most o (rows_in c.args.groups.now.items)) (sym c.in-Some.is)

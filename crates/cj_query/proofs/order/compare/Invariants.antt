@@ -1,5 +1,5 @@
 use Rattle.std.proofs.Common.{◌≡◌, drop}
-use Rattle.cj_model.specs.Order.{by_sort_keys}
+use Rattle.cj_model.specs.Database.Order.{by_sort_keys}
 use Rattle.cj_query.proofs.order.compare.Given as goal
 
 abbrev pub invariant-loop-key : goal.invariant-loop-key

@@ -3,7 +3,7 @@ use Rattle.std.specs.Map.Iter.{deref}
 use Rattle.std.specs.Ordering.{is_lt}
 use Rattle.std.proofs.lemmas.List.Sorted.{ranks_by}
 use Rattle.std.proofs.lemmas.Fn.{always_returns_same}
-use Rattle.cj_model.specs.Tables.{by_key}
+use Rattle.cj_model.specs.Database.Tables.{by_key}
 use Rattle.cj_query.proofs.OrderLaws.{ordered_is, ordered-map}
 use Rattle.cj_query.proofs.KeyLaws.{by_key_total}
 use Rattle.cj_query.proofs.order.sort_at.Goals as goal

@@ -2,8 +2,8 @@ use Rattle.std.proofs.Common.{rules, ◌≡◌, [], List, map, ap, sym, subst, �
 use Rattle.std.proofs.lemmas.List.{nil_from_length}
 use Rattle.std.proofs.lemmas.List.Sorted.{ranks_by}
 use Rattle.std.proofs.lemmas.Fn.{always_returns_same}
-use Rattle.cj_model.specs.Order.{SortKey, before, ordered}
-use Rattle.cj_model.specs.Queries.{first_of}
+use Rattle.cj_model.specs.Database.Order.{SortKey, sorts_before, sorted_by}
+use Rattle.cj_model.specs.Database.Queries.{first_row}
 use Rattle.cj_query.specs.Groups.{rows_of, rows_in}
 use Rattle.cj_query.proofs.OrderLaws.{ordered_is, ordered-map}
 use Rattle.cj_query.proofs.KeyLaws.{by_sort_keys_total, always_in_order}
@@ -12,11 +12,11 @@ use Rattle.cj_query.proofs.order.sort_groups.Goals as goal
 pub returns-then-is_empty : goal.returns-then-is_empty
 returns-then-is_empty c =
     let e : c.args.keys.now ≡ [] = nil_from_length _ (search rules) in
-    subst (λ (ks : List SortKey). rows_in c.args.groups.now.items ≡ ordered (λ g h. before ks (first_of g) (first_of h)) (rows_in c.args.groups.now.items)) (sym e)
+    subst (λ (ks : List SortKey). rows_in c.args.groups.now.items ≡ sorted_by (λ g h. sorts_before ks (first_row g) (first_row h)) (rows_in c.args.groups.now.items)) (sym e)
     (sym (always_in_order (rows_in c.args.groups.now.items)))
 
 pub returns : goal.returns
 returns c =
-    let o = ranks_by (by_sort_keys_total c.args.keys.now) (λ g. first_of (rows_of g)) in
+    let o = ranks_by (by_sort_keys_total c.args.keys.now) (λ g. first_row (rows_of g)) in
     ap (map rows_of) (ordered_is _ o c.args.groups.now.items c.sort_by.new.self.items (c.in_ok-sort_by.ensures.sorted _ o (always_returns_same _ _ _ (λ a r f k. (search rules, search rules)))) (c.sort_by.ensures.stable _ o (always_returns_same _ _ _ (λ a r f k. (search rules, search rules)))))
-    ∙ ordered-map rows_of (λ g h. before c.args.keys.now (first_of g) (first_of h)) c.args.groups.now.items
+    ∙ ordered-map rows_of (λ g h. sorts_before c.args.keys.now (first_row g) (first_row h)) c.args.groups.now.items

@@ -1,6 +1,6 @@
 use Rattle.std.proofs.Common.{List, [], ◌∷◌, ◌++◌, ap, ◌∙◌}
-use Rattle.cj_model.specs.Order.{SortKey}
-use Rattle.cj_model.specs.Queries.{sort_key_of}
+use Rattle.cj_model.specs.Database.Order.{SortKey}
+use Rattle.cj_model.specs.Database.Queries.{sort_key_of}
 use Rattle.cj_query.proofs.WalkLaws.{map_next}
 use Rattle.cj_query.proofs.order.sort_keys.Goals as goal
 

@@ -2,8 +2,8 @@ use Rattle.std.proofs.Common.{◌≡◌, ℕ, List, sym, ap, subst, ◌∙◌}
 use Rattle.std.specs.Prelude.{IfOk, filter, option_copied, option_to_list}
 use Rattle.cj_model.specs.declared.value.Value.{Value}
 use Rattle.cj_model.specs.declared.answer.Asked.{Asked}
-use Rattle.cj_model.specs.Evaluation.{meets}
-use Rattle.cj_model.specs.Queries.{answer_of, asked_by, groups_answered}
+use Rattle.cj_model.specs.Database.Evaluation.{satisfies}
+use Rattle.cj_model.specs.Database.Queries.{answer_of, asked_by, groups_answered}
 use Rattle.cj_query.specs.Counted as counted
 use Rattle.cj_query.specs.Paths.{PinsTo}
 use Rattle.cj_query.proofs.CountLaws.{counted_is}
@@ -19,7 +19,7 @@ pub returns-in-Some : goal.returns-in-Some
 returns-in-Some c =
     let scope = c.args.scope.now in
     let s = c.args.select.now in
-    let p = meets c.args.cond.now in
+    let p = satisfies c.args.cond.now in
     let table = c.args.view.now in
     let key : c.from.result ≡ table.schema.key = c.from.ensures ∙ ap (λ s. s.key) c.schema.ensures in
     let rows : filter p (option_to_list (option_copied c.find.result)) ≡ filter p table.rows

@@ -2,10 +2,10 @@ use Rattle.std.proofs.Common.{◌≡◌, [], ◌∷◌, List, map, sym, ap, subs
 use Rattle.std.specs.Prelude.{IfOk, filter, reverse}
 use Rattle.std.specs.Map.Iter.{deref}
 use Rattle.cj_model.specs.declared.value.Value.{Value}
-use Rattle.cj_model.specs.Evaluation.{meets}
-use Rattle.cj_model.specs.Order.{cut}
-use Rattle.cj_model.specs.Queries.{answer_of, asked_by, groups_answered}
-use Rattle.cj_model.specs.Tables.{by_key}
+use Rattle.cj_model.specs.Database.Evaluation.{satisfies}
+use Rattle.cj_model.specs.Database.Order.{at_most}
+use Rattle.cj_model.specs.Database.Queries.{answer_of, asked_by, groups_answered}
+use Rattle.cj_model.specs.Database.Tables.{by_key}
 use Rattle.cj_model.proofs.RisingLaws.{rises_filter}
 use Rattle.cj_query.specs.Paths.{follows_rows, reverses_rows}
 use Rattle.cj_query.proofs.PathLaws.{groups_alone, groups_reversed}
@@ -16,12 +16,12 @@ pub returns-then-follows_rows : goal.returns-then-follows_rows
 returns-then-follows_rows c =
     let scope = c.args.scope.now in
     let s = c.args.select.now in
-    let p = meets c.args.cond.now in
+    let p = satisfies c.args.cond.now in
     let table = c.args.view.now in
     let key : c.from-key.result ≡ table.schema.key = c.from-key.ensures ∙ ap (λ s. s.key) c.schema.ensures in
-    let found : map deref c.deref.result.now ≡ cut s.limit (filter p table.rows)
-    = ap (map deref) c.deref.ensures.value ∙ c.in_ok-rows.ensures ∙ ap (λ rs. cut s.limit (filter p rs)) c.scan.ensures in
-    let groups : groups_answered scope s (filter p table.rows) ≡ map (λ r. r ∷ []) (cut s.limit (filter p table.rows))
+    let found : map deref c.deref.result.now ≡ at_most s.limit (filter p table.rows)
+    = ap (map deref) c.deref.ensures.value ∙ c.in_ok-rows.ensures ∙ ap (λ rs. at_most s.limit (filter p rs)) c.scan.ensures in
+    let groups : groups_answered scope s (filter p table.rows) ≡ map (λ r. r ∷ []) (at_most s.limit (filter p table.rows))
     = groups_alone scope s table.schema.key (filter p table.rows) (ap (follows_rows scope s) (sym key) ∙ sym c.follows_rows.ensures ∙ c.if-follows_rows.true) (rises_filter (by_key table.schema.key) p table.rows c.legal.ensures.rises) in
     subst (λ (gs : List (List (List Value))). IfOk c.answer_each.result (λ asked. asked ≡ asked_by (answer_of scope s gs)))
     (ap (map (λ r. r ∷ [])) found ∙ sym groups) c.answer_each.ensures
@@ -30,13 +30,13 @@ pub returns-then-reverses_rows : goal.returns-then-reverses_rows
 returns-then-reverses_rows c =
     let scope = c.args.scope.now in
     let s = c.args.select.now in
-    let p = meets c.args.cond.now in
+    let p = satisfies c.args.cond.now in
     let table = c.args.view.now in
     let key : c.from-key.result ≡ table.schema.key = c.from-key.ensures ∙ ap (λ s. s.key) c.schema.ensures in
-    let found : map deref c.deref-then-reverses_rows.result.now ≡ cut s.limit (reverse (filter p table.rows))
+    let found : map deref c.deref-then-reverses_rows.result.now ≡ at_most s.limit (reverse (filter p table.rows))
     = ap (map deref) c.deref-then-reverses_rows.ensures.value ∙ c.in_ok-rows-2.ensures
-    ∙ ap (cut s.limit) (ap (filter p) c.scan_back.ensures ∙ filter-reverse p table.rows) in
-    let groups : groups_answered scope s (filter p table.rows) ≡ map (λ r. r ∷ []) (cut s.limit (reverse (filter p table.rows)))
+    ∙ ap (at_most s.limit) (ap (filter p) c.scan_back.ensures ∙ filter-reverse p table.rows) in
+    let groups : groups_answered scope s (filter p table.rows) ≡ map (λ r. r ∷ []) (at_most s.limit (reverse (filter p table.rows)))
     = groups_reversed scope s table.schema.key (filter p table.rows) (ap (reverses_rows scope s) (sym key) ∙ sym c.reverses_rows.ensures ∙ c.if-reverses_rows.true) (rises_filter (by_key table.schema.key) p table.rows c.legal.ensures.rises) in
     subst (λ (gs : List (List (List Value))). IfOk c.answer_each-then-reverses_rows.result (λ asked. asked ≡ asked_by (answer_of scope s gs)))
     (ap (map (λ r. r ∷ [])) found ∙ sym groups) c.answer_each-then-reverses_rows.ensures

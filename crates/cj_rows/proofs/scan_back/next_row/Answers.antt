@@ -3,7 +3,7 @@ use Rattle.std.specs.Prelude.{reverse}
 use Rattle.std.specs.declared.option.Option.{Option}
 use Rattle.std.specs.Map.{values_of}
 use Rattle.cj_model.specs.declared.value.Value.{Value}
-use Rattle.cj_rows.specs.Layers.{kept, listed}
+use Rattle.cj_rows.specs.Layers.{kept, option_as_list}
 use Rattle.cj_rows.specs.RowEntries.{RowEntries}
 use Rattle.cj_rows.proofs.LastLaws.{kept_back}
 use Rattle.cj_rows.proofs.scan_back.next_row.Goals as goal
@@ -13,7 +13,7 @@ returns-in-Some-row c =
     let rest : RowEntries = c.next_back.new.self in
     sym c.loop-row.invariant ∙ ap (λ (es : RowEntries). reverse (values_of (kept es))) c.in-Some.ensures.steps
     ∙ kept_back rest c.in-Some.field-0-0.now c.in-Some.row.now
-    ∙ ap (λ (w : Option (List Value)). listed w ++ reverse (values_of (kept rest))) c.in-Some-row.is
+    ∙ ap (λ (w : Option (List Value)). option_as_list w ++ reverse (values_of (kept rest))) c.in-Some-row.is
 
 pub loop-row-preserved : goal.loop-row-preserved
 loop-row-preserved c =
@@ -21,5 +21,5 @@ loop-row-preserved c =
     let passed : reverse (values_of (kept c.loop-row.entries)) ≡ reverse (values_of (kept rest)) =
     ap (λ (es : RowEntries). reverse (values_of (kept es))) c.in-Some.ensures.steps
     ∙ kept_back rest c.in-Some.field-0-0.now c.in-Some.row.now
-    ∙ ap (λ (w : Option (List Value)). listed w ++ reverse (values_of (kept rest))) c.in_default-row.is in
+    ∙ ap (λ (w : Option (List Value)). option_as_list w ++ reverse (values_of (kept rest))) c.in_default-row.is in
     sym passed ∙ c.loop-row.invariant

@@ -1,5 +1,5 @@
 use Rattle.std.proofs.Common.{◌+◌, ℕ, List, Err, sym, ap, subst, ◌∙◌, refl, length, arith}
-use Rattle.cj_model.specs.Placements.{Placement}
+use Rattle.cj_model.specs.Cluster.Placements.{Placement}
 use Rattle.cj_script.specs.Steps.{PlaysOrEnds}
 use Rattle.cj_script.proofs.Moving.{counting_start, counting_played, played_backends}
 use Rattle.cj_script.proofs.InTurns.{read_end_turns, play_end_turns}

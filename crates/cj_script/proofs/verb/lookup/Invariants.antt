@@ -1,10 +1,10 @@
 use Rattle.std.proofs.Common.{◌≡◌, length, map}
-use Rattle.cj_script.specs.Reading.{lookup}
+use Rattle.cj_script.specs.Reading.{find_verb}
 use Rattle.cj_script.proofs.verb.lookup.Given as goal
 
 -- the verb is found in what is left exactly as in the whole table
 abbrev pub invariant-loop-table : goal.invariant-loop-table
-invariant-loop-table l = lookup (map (λ v. (v.0.now, v.1)) l.table) l.word ≡ lookup (map (λ v. (v.0.now, v.1)) l.initial.table) l.word
+invariant-loop-table l = find_verb (map (λ v. (v.0.now, v.1)) l.table) l.word ≡ find_verb (map (λ v. (v.0.now, v.1)) l.initial.table) l.word
 
 abbrev pub decreases-loop-table : goal.decreases-loop-table
 decreases-loop-table l = length l.table

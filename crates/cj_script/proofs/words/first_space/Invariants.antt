@@ -1,7 +1,7 @@
 use Rattle.std.proofs.Common.{take}
-use Rattle.cj_model.specs.Scripts.{IsWord}
+use Rattle.cj_model.specs.Script.Lines.{HasNoSpace}
 use Rattle.cj_script.proofs.words.first_space.Given as goal
 
 -- no space was passed
 abbrev pub invariant-loop-i : goal.invariant-loop-i
-invariant-loop-i l = IsWord (take l.i l.bytes)
+invariant-loop-i l = HasNoSpace (take l.i l.bytes)

@@ -1,9 +1,9 @@
 use Rattle.std.proofs.Common.{◌≡◌, ℕ, ◌+◌, ◌-◌, ◌*◌}
-use Rattle.cj_model.specs.ConditionShape.{shape}
+use Rattle.cj_model.specs.Proving.ConditionNodes.{condition_of_node}
 use Rattle.cj_sql.specs.declared.conditions.Connective.{Connective}
 use Rattle.cj_sql.specs.declared.conditions.Connective.TheVariants as connective
-use Rattle.cj_sql.specs.ConditionReader as spec
-use Rattle.cj_sql.specs.ConditionReader.{at}
+use Rattle.cj_sql.specs.Proving.ConditionReader as spec
+use Rattle.cj_sql.specs.Proving.ConditionReader.{input_at}
 use Rattle.cj_sql.proofs.conditions.+cond.Given as goal
 
 -- how loosely a connective binds
@@ -26,5 +26,5 @@ decreases-parens l = 6 * l.depth + 5
 -- what is left to read after the condition so far
 abbrev pub invariant-connected-loop-turn : goal.invariant-connected-loop-turn
 invariant-connected-loop-turn l =
-    spec.connected l.by (spec.side (spec.prim l.depth) l.by) (at l.fn.tokens l.fn.tests) ≡
-    spec.more_connected l.by (spec.side (spec.prim l.depth) l.by) (l.turns - l._turn) (shape l.left) (at l.tokens l.tests)
+    spec.connected l.by (spec.side (spec.prim l.depth) l.by) (input_at l.fn.tokens l.fn.tests) ≡
+    spec.more_connected l.by (spec.side (spec.prim l.depth) l.by) (l.turns - l._turn) (condition_of_node l.left) (input_at l.tokens l.tests)

@@ -1,6 +1,6 @@
 use Rattle.std.proofs.Common.{rules, arith}
 use Rattle.std.proofs.lemmas.Grind.{common_steps}
-use Rattle.cj_sql.specs.Reader.{items_from}
+use Rattle.cj_sql.specs.Proving.Reader.{items_from}
 use Rattle.cj_sql.proofs.Turns.{one_more, no_more}
 use Rattle.cj_sql.proofs.list.items.Goals as goal
 

@@ -1,5 +1,5 @@
 use Rattle.std.proofs.Common.{◌≡◌, ◌-◌}
-use Rattle.cj_sql.specs.Reader as spec
+use Rattle.cj_sql.specs.Proving.Reader as spec
 use Rattle.cj_sql.proofs.list.items.Given as goal
 
 -- what is left to read after the items found so far

@@ -1,5 +1,5 @@
 use Rattle.std.proofs.Common.{◌≡◌, length}
-use Rattle.cj_model.specs.Tables as tables
+use Rattle.cj_model.specs.Database.Tables as tables
 use Rattle.cj_sql.proofs.select.is_distinct.Given as goal
 
 -- the names that are left decide

@@ -1,6 +1,6 @@
 use Rattle.std.proofs.Common.{◌≡◌, ◌++◌, map}
 use Rattle.std.specs.Map.Iter.{deref}
-use Rattle.cj_model.specs.Values.{value_cmp}
+use Rattle.cj_model.specs.Database.Values.{value_cmp}
 use Rattle.cj_rows.specs.Entries.{KeysRise}
 use Rattle.cj_rows.specs.RowEntries as entries
 use Rattle.cj_rows.proofs.ConversionLaws.{Turned}

@@ -3,7 +3,7 @@ use Rattle.std.specs.Prelude.{OnOk}
 use Rattle.cj_model.specs.declared.value.Value.{Value}
 use Rattle.cj_model.specs.declared.schema.Schema.{Schema}
 use Rattle.cj_model.specs.declared.database.Slot.{Slot}
-use Rattle.cj_model.specs.Steps.{seen}
+use Rattle.cj_model.specs.Database.Steps.{seen}
 use Rattle.cj_rows.specs.RowEntries.{Turns}
 use Rattle.cj_rows.proofs.ConversionLaws.{draft_put}
 use Rattle.cj_plan.proofs.PlanLaws.{change_into}

@@ -3,7 +3,7 @@ use Rattle.std.specs.Prelude.{All}
 use Rattle.std.proofs.lemmas.List.{append_assoc}
 use Rattle.std.proofs.lemmas.List.Elements.{All-tail}
 use Rattle.cj_model.specs.declared.database.Slot.{Slot}
-use Rattle.cj_model.specs.Tables.{IsSlot}
+use Rattle.cj_model.specs.Database.Tables.{IsSlot}
 use Rattle.cj_table.proofs.conversion.stored_slots.Goals as goal
 
 pub loop-slot-preserved : goal.loop-slot-preserved

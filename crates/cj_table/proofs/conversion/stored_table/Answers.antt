@@ -1,7 +1,7 @@
 use Rattle.std.proofs.Common.{◌∙◌, [], sym, ap, subst}
 use Rattle.std.specs.declared.option.Option.TheVariants.{None}
 use Rattle.cj_model.specs.declared.database.Slot.{Slot}
-use Rattle.cj_model.specs.Steps.{seen}
+use Rattle.cj_model.specs.Database.Steps.{seen}
 use Rattle.cj_rows.specs.RowEntries.{RowEntries, puts}
 use Rattle.cj_rows.specs.Stored.{IsChangeOf, changed_slot}
 use Rattle.cj_rows.proofs.ConversionLaws.{filled, puts_rise, table_filled}

@@ -1,5 +1,5 @@
 use Rattle.std.proofs.Common.{◌≡◌, ◌++◌, map, take, drop}
-use Rattle.cj_model.specs.Steps.{aborted}
+use Rattle.cj_model.specs.Database.Steps.{aborted}
 use Rattle.cj_table.proofs.ends.abort_slots.Given as goal
 
 abbrev pub invariant-loop-slot : goal.invariant-loop-slot

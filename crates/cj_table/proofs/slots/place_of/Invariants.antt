@@ -1,5 +1,5 @@
 use Rattle.std.proofs.Common.{◌≡◌, ◌++◌, take, drop}
-use Rattle.cj_model.specs.Tables.{by_table, put_by}
+use Rattle.cj_model.specs.Database.Tables.{by_table, put_by}
 use Rattle.cj_table.proofs.slots.place_of.Given as goal
 
 abbrev pub invariant-loop-i : goal.invariant-loop-i

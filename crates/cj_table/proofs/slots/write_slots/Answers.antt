@@ -3,8 +3,8 @@ use Rattle.std.specs.Prelude.{position}
 use Rattle.std.specs.Str.{bytes_eq}
 use Rattle.std.specs.declared.option.Option.TheVariants.{None, Some}
 use Rattle.cj_model.specs.declared.answer.Outcome.TheVariants.{Refused}
-use Rattle.cj_model.specs.Tables.{table_of}
-use Rattle.cj_model.specs.Steps.{table_written}
+use Rattle.cj_model.specs.Database.Tables.{table_of}
+use Rattle.cj_model.specs.Database.Steps.{table_written}
 use Rattle.cj_table.proofs.WrittenLaws.{written_missing, write_carries}
 use Rattle.cj_table.proofs.slots.write_slots.Goals as goal
 
@@ -15,7 +15,7 @@ returns-in-None c =
     ap (λ n. position (λ s. bytes_eq (table_of s) n) db) (sym c.table_written.ensures)
     ∙ ap (λ xs. position (λ s. bytes_eq (table_of s) c.table_written.result.now) xs) (sym c.deref.ensures.value) ∙ sym c.in-None.ensures in
     let refused = written_missing db c.args.tx c.args.write.now none in
-    (ap Refused c.bare.ensures ∙ sym (ap (λ s. s.outcome) refused), sym (ap (λ s. s.db) refused))
+    (ap Refused c.of_code.ensures ∙ sym (ap (λ s. s.outcome) refused), sym (ap (λ s. s.db) refused))
 
 pub returns-in-Some : goal.returns-in-Some
 returns-in-Some c =

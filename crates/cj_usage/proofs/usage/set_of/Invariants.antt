@@ -1,6 +1,6 @@
 use Rattle.std.proofs.Common.{◌≡◌, [], drop}
 use Rattle.std.specs.Prelude.{fold}
-use Rattle.cj_model.specs.Tables.{name_cmp, put_by}
+use Rattle.cj_model.specs.Database.Tables.{name_cmp, put_by}
 use Rattle.cj_usage.proofs.usage.set_of.Given as goal
 
 abbrev pub invariant-loop-name : goal.invariant-loop-name

@@ -2,7 +2,7 @@ use Rattle.std.proofs.Common.{◌&&◌, Bool, ap, sym, ◌∙◌}
 use Rattle.std.specs.List.{list_any}
 use Rattle.std.specs.Str.{bytes_eq}
 use Rattle.sha2.specs.Sha256.{sha256}
-use Rattle.cj_model.specs.Accounts.{is_of}
+use Rattle.cj_model.specs.Cluster.Accounts.{is_account_of}
 use Rattle.cj_auth.specs.declared.credentials.Credential.{Credential}
 use Rattle.cj_auth.specs.Admission.{Register, admits}
 use Rattle.cj_auth.specs.Kept.{IsUserName}
@@ -14,8 +14,8 @@ returns-clause-admitted c =
     let user = c.args.user.now in
     let password = c.args.password.now in
     c.has_key.ensures
-    ∙ ap (λ key. list_any (λ (credential : Credential). is_of user credential.account && bytes_eq credential.key key) c.as_slice.result.now) c.digest.ensures
-    ∙ ap (list_any (λ (credential : Credential). is_of user credential.account && bytes_eq credential.key (sha256 password))) c.as_slice.ensures
+    ∙ ap (λ key. list_any (λ (credential : Credential). is_account_of user credential.account && bytes_eq credential.key key) c.as_slice.result.now) c.digest.ensures
+    ∙ ap (list_any (λ (credential : Credential). is_account_of user credential.account && bytes_eq credential.key (sha256 password))) c.as_slice.ensures
     ∙ same_admitted c.self.inside.credentials user password c.self.invariant.keys
     ∙ ap (λ (r : Register). admits r.accounts user password) c.self.view_is
 
@@ -26,4 +26,4 @@ returns-clause-user c =
     let is_meant : Credential → Bool = λ credential. bytes_eq credential.key c.digest.result in
     on_true _ _
     (λ h. admitted_user IsUserName is_meant kept user c.self.invariant.users
-    (ap (list_any (λ (credential : Credential). is_of user credential.account && is_meant credential)) (sym c.as_slice.ensures) ∙ sym c.has_key.ensures ∙ h))
+    (ap (list_any (λ (credential : Credential). is_account_of user credential.account && is_meant credential)) (sym c.as_slice.ensures) ∙ sym c.has_key.ensures ∙ h))

@@ -1,16 +1,16 @@
 use Rattle.std.proofs.Common.{◌≡◌, ℕ, length, List, [], ap, sym, ◌∙◌, arith}
 use Rattle.std.specs.Prelude.{find, slice_index_or}
 use Rattle.std.proofs.lemmas.List.{get_or_read_under}
-use Rattle.cj_model.specs.Accounts.{is_of, login_of}
+use Rattle.cj_model.specs.Cluster.Accounts.{is_account_of, login_of}
 use Rattle.cj_auth.specs.declared.credentials.Credential.{Credential}
 use Rattle.cj_auth.specs.Admission.{Register}
 use Rattle.cj_auth.proofs.Keeping.{login_count, login_found, login_missing}
 use Rattle.cj_auth.proofs.accounts.Accounts.mapped.Goals as goal
 
-same_find : (credentials kept : List Credential) (name user : List ℕ) → credentials ≡ kept → name ≡ user → find (λ (credential : Credential). is_of name credential.account) credentials ≡ find (λ (credential : Credential). is_of user credential.account) kept
+same_find : (credentials kept : List Credential) (name user : List ℕ) → credentials ≡ kept → name ≡ user → find (λ (credential : Credential). is_account_of name credential.account) credentials ≡ find (λ (credential : Credential). is_account_of user credential.account) kept
 same_find credentials kept name user is named =
-    ap (λ (n : List ℕ). find (λ (credential : Credential). is_of n credential.account) credentials) named
-    ∙ ap (find (λ (credential : Credential). is_of user credential.account)) is
+    ap (λ (n : List ℕ). find (λ (credential : Credential). is_account_of n credential.account) credentials) named
+    ∙ ap (find (λ (credential : Credential). is_account_of user credential.account)) is
 
 pub bounds-as_slice-b : goal.bounds-as_slice-b
 bounds-as_slice-b c =

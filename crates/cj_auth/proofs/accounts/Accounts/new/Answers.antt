@@ -4,14 +4,14 @@ use Rattle.std.specs.Option.{is_some}
 use Rattle.std.specs.declared.option.Option.TheVariants.{Some}
 use Rattle.std.proofs.lemmas.Str.{IsUtf8-nil, is_utf8-from_IsUtf8}
 use Rattle.cj_model.specs.declared.account.Account.{Account}
-use Rattle.cj_model.specs.Accounts.{has_logins}
-use Rattle.cj_model.specs.Words.{is_text, text_of}
-use Rattle.cj_auth.specs.Refusals.{refusal_of}
+use Rattle.cj_model.specs.Cluster.Accounts.{has_logins}
+use Rattle.cj_model.specs.Sql.Names.{is_text, text_of}
+use Rattle.cj_auth.specs.Refusals.{refusal_of_accounts}
 use Rattle.cj_auth.proofs.Keeping.{all_credentials, have_digests, have_logins}
 use Rattle.cj_auth.proofs.accounts.Accounts.new.Goals as goal
 
 pub with_keys-requires-clause-digests : goal.with_keys-requires-clause-digests
-with_keys-requires-clause-digests c = have_digests c.args.rows c.args.backends (ap (λ (rows : List Account). refusal_of rows c.args.backends) (sym c.as_slice.ensures) ∙ c.in_ok-refuse.ensures.passed refl)
+with_keys-requires-clause-digests c = have_digests c.args.rows c.args.backends (ap (λ (rows : List Account). refusal_of_accounts rows c.args.backends) (sym c.as_slice.ensures) ∙ c.in_ok-refuse.ensures.passed refl)
 
 no_bytes : is_text [] ≡ true
 unfolding is_text
@@ -27,7 +27,7 @@ unwrap-requires c = ap is_some (c.of.ensures ∙ ap text_of c.new.ensures.items 
 pub invariant_of-result : goal.invariant_of-result
 invariant_of-result c =
     let backends = c.args.backends in
-    let passes = have_logins c.args.rows backends (ap (λ (rows : List Account). refusal_of rows backends) (sym c.as_slice.ensures) ∙ c.in_ok-refuse.ensures.passed refl) in
+    let passes = have_logins c.args.rows backends (ap (λ (rows : List Account). refusal_of_accounts rows backends) (sym c.as_slice.ensures) ∙ c.in_ok-refuse.ensures.passed refl) in
     record {
       users = c.in_ok-with_keys.ensures.users;
       keys = c.in_ok-with_keys.ensures.keys;

@@ -1,12 +1,12 @@
 use Rattle.std.proofs.Common.{◌<◌, sym, subst, vec_capacity}
-use Rattle.cj_model.specs.Histories.{room}
+use Rattle.cj_model.specs.Cluster.Histories.{events_left}
 use Rattle.cj_book.specs.Books.{BookState}
 use Rattle.cj_book.proofs.Keeping.{keeps_enabled}
 use Rattle.cj_book.proofs.book.Book.enable.Goals as goal
 
 pub invariant_of-self-2 : goal.invariant_of-self-2
 invariant_of-self-2 c =
-    let space : 0 < room c.self.inside.history.items = subst (λ (b : BookState). 0 < room b.history) (sym c.self.view_is) c.in_ok-check_room.ensures in
+    let space : 0 < events_left c.self.inside.history.items = subst (λ (b : BookState). 0 < events_left b.history) (sym c.self.view_is) c.in_ok-check_room.ensures in
     let below : c.args.b < c.self.inside.backends = subst (λ (b : BookState). c.args.b < b.backends) (sym c.self.view_is) c.requires.below in
     let spare = rw c.in_ok-append.ensures.ok at c.in_ok-append.ensures.spare in
     rw c.in_ok-append.ensures.ok (keeps_enabled _ _ _ _ _ _ _ c.self.invariant c.args.b (vec_capacity c.append.new.history) below space spare)

@@ -1,6 +1,6 @@
 use Rattle.std.proofs.Common.{◌&&◌, ◌||◌, not, ap, sym, ◌∙◌, rules}
 use Rattle.cj_model.specs.declared.event.Event.TheVariants.{Ended}
-use Rattle.cj_model.specs.Histories.{has}
+use Rattle.cj_model.specs.Cluster.Histories.{in_mask}
 use Rattle.cj_model.proofs.Pushed.{enabled-push}
 use Rattle.cj_model.proofs.MaskBits.{has_without}
 use Rattle.cj_book.proofs.book.Book.left.Goals as goal
@@ -10,5 +10,5 @@ returns c =
     λ b.
     let left = has_without c.self.inside.enabled c.args.failed c.args.starved b (search rules) (search rules) (search rules) in
     rw (← c.self.view_is)
-    (left ∙ (ap (λ x. x && not (has c.args.failed b || has c.args.starved b)) (c.self.invariant.mask b)
+    (left ∙ (ap (λ x. x && not (in_mask c.args.failed b || in_mask c.args.starved b)) (c.self.invariant.mask b)
     ∙ sym (enabled-push c.self.inside.history.items (Ended c.args.failed c.args.starved) b)))

@@ -1,6 +1,6 @@
 use Rattle.std.proofs.Common.{List, refl, sym, subst}
 use Rattle.cj_model.specs.declared.moves.OpenSession.{OpenSession}
-use Rattle.cj_model.specs.Moves.{counted}
+use Rattle.cj_model.specs.Cluster.Moves.{with_one_request}
 use Rattle.cj_core.specs.Places.{IsPlaceOf}
 use Rattle.cj_core.proofs.Seats.{changed, changed_rises, unchanged}
 use Rattle.cj_core.proofs.sessions.Sessions.count.Goals as goal
@@ -8,12 +8,12 @@ use Rattle.cj_core.proofs.sessions.Sessions.count.Goals as goal
 pub invariant_of-self : goal.invariant_of-self
 invariant_of-self c =
     let at = subst (λ (ss : List OpenSession). IsPlaceOf ss c.args.number c.in-Some.place) (sym c.self.view_is) c.in-Some.ensures in
-    changed_rises c.self.inside.open.items c.self.invariant c.args.number c.in-Some.place at c.index_mut-session.result.now c.index_mut-session.ensures.value counted (λ y. refl)
+    changed_rises c.self.inside.open.items c.self.invariant c.args.number c.in-Some.place at c.index_mut-session.result.now c.index_mut-session.ensures.value with_one_request (λ y. refl)
 
 pub returns-in-Some : goal.returns-in-Some
 returns-in-Some c =
     let at = subst (λ (ss : List OpenSession). IsPlaceOf ss c.args.number c.in-Some.place) (sym c.self.view_is) c.in-Some.ensures in
-    rw (← c.self.view_is) (changed c.self.inside.open.items c.self.invariant c.args.number c.in-Some.place at c.index_mut-session.result.now c.index_mut-session.ensures.value counted)
+    rw (← c.self.view_is) (changed c.self.inside.open.items c.self.invariant c.args.number c.in-Some.place at c.index_mut-session.result.now c.index_mut-session.ensures.value with_one_request)
 
 pub returns-in_default : goal.returns-in_default
-returns-in_default c = unchanged counted c.args.self.now c.args.number c.in_default.ensures
+returns-in_default c = unchanged with_one_request c.args.self.now c.args.number c.in_default.ensures

@@ -1,5 +1,5 @@
 use Rattle.std.proofs.Common.{◌≡◌, false, sym, subst}
-use Rattle.cj_model.specs.Moves.{has_no_number}
+use Rattle.cj_model.specs.Cluster.Moves.{has_no_number}
 use Rattle.cj_core.specs.Worlds.{WorldState}
 use Rattle.cj_core.proofs.Keeping.{kept_opened}
 use Rattle.cj_core.proofs.world.World.add_session.Goals as goal
@@ -8,4 +8,4 @@ pub invariant_of-self-2 : goal.invariant_of-self-2
 invariant_of-self-2 g c =
     let w = c.self.inside in
     let number = subst (λ (x : WorldState). has_no_number x.core ≡ false) (sym c.self.view_is) c.requires.number in
-    rw c.in_ok-open.ensures.ok (kept_opened g.B.Backend.TELLS w.book.backends w.book.history w.cells.items w.failed w.starved w.sessions w.greatest w.heard c.self.invariant c.args.user number c.requires.user)
+    rw c.in_ok-open.ensures.ok (kept_opened g.B.Backend.TELLS w.book.backends w.book.history w.cells.items w.failed w.starved w.sessions w.greatest w.first_outcome c.self.invariant c.args.user number c.requires.user)

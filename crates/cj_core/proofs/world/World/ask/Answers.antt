@@ -1,12 +1,12 @@
 use Rattle.std.proofs.Common.{◌≡◌, ◌<◌, ℕ, true, false, cond, List, length, map, get_or, set, Ok, Err, None, Some, Option, ap, sym, ◌∙◌, subst}
 use Rattle.std.proofs.lemmas.List.{length-map, get_or_default}
 use Rattle.cj_outside.specs.Causes.{next}
-use Rattle.cj_model.specs.Cores.{session_at}
-use Rattle.cj_model.specs.Moves.{read_number}
+use Rattle.cj_model.specs.Cluster.Cores.{session_at}
+use Rattle.cj_model.specs.Cluster.Moves.{read_number}
 use Rattle.cj_book.specs.Books.{BookState}
 use Rattle.cj_replica.specs.Cells.{CellState, is_asked}
 use Rattle.cj_core.specs.Worlds.{WorldState, core_of, world_of}
-use Rattle.cj_model.specs.Cores.{Core}
+use Rattle.cj_model.specs.Cluster.Cores.{Core}
 use Rattle.cj_core.specs.Armings.{armings_of}
 use Rattle.cj_core.specs.Counting.{faults_of, faults_after}
 use Rattle.cj_core.specs.Effects.{Asks, asked_core, failed_asked}
@@ -23,15 +23,15 @@ pub invariant_of-self-in-Ok : goal.invariant_of-self-in-Ok
 invariant_of-self-in-Ok g c =
     let w = c.self.inside in
     let lt = within w.book.backends c.args.b w.cells.items c.self.invariant.world.sound.cells (subst (λ (x : WorldState). c.args.b < x.core.placement.backends) (sym c.self.view_is) c.requires.within) in
-    let kept = kept_asked g.B.Backend.TELLS w.book.backends w.book.history w.cells.items w.failed w.starved w.sessions w.greatest w.heard c.self.invariant c.args.b lt c.index_mut.result.now c.index_mut.ensures.value c.read.new.self c.read.ensures.same in
-    let asked = subst (λ (k : BookState). Kept g.B.Backend.TELLS (world_of k.backends k.history (set w.cells.items c.args.b c.read.new.self) w.failed w.starved w.sessions w.greatest) w.heard) (sym c.in_ok-take_spare.ensures.ok) kept in
+    let kept = kept_asked g.B.Backend.TELLS w.book.backends w.book.history w.cells.items w.failed w.starved w.sessions w.greatest w.first_outcome c.self.invariant c.args.b lt c.index_mut.result.now c.index_mut.ensures.value c.read.new.self c.read.ensures.same in
+    let asked = subst (λ (k : BookState). Kept g.B.Backend.TELLS (world_of k.backends k.history (set w.cells.items c.args.b c.read.new.self) w.failed w.starved w.sessions w.greatest) w.first_outcome) (sym c.in_ok-take_spare.ensures.ok) kept in
     asked
 
 pub returns-in-Ok-clause-core : goal.returns-in-Ok-clause-core
 returns-in-Ok-clause-core g c =
     let w = c.self.inside in
     let lt = within w.book.backends c.args.b w.cells.items c.self.invariant.world.sound.cells (subst (λ (x : WorldState). c.args.b < x.core.placement.backends) (sym c.self.view_is) c.requires.within) in
-    let same = same_core g.B.Backend.TELLS w.book.backends w.book.history w.cells.items w.failed w.starved w.sessions w.greatest w.heard c.self.invariant c.args.b lt c.index_mut.result.now c.index_mut.ensures.value c.read.new.self c.read.ensures.same in
+    let same = same_core g.B.Backend.TELLS w.book.backends w.book.history w.cells.items w.failed w.starved w.sessions w.greatest w.first_outcome c.self.invariant c.args.b lt c.index_mut.result.now c.index_mut.ensures.value c.read.new.self c.read.ensures.same in
     let core : core_of c.take_spare.new.self.backends c.take_spare.new.self.history (set w.cells.items c.args.b c.read.new.self) w.failed w.starved w.sessions w.greatest ≡ c.args.self.now.core =
     ap (λ (k : BookState). core_of k.backends k.history (set w.cells.items c.args.b c.read.new.self) w.failed w.starved w.sessions w.greatest) c.in_ok-take_spare.ensures.ok ∙ (same ∙ ap (λ (x : WorldState). x.core) c.self.view_is)
     in
@@ -43,7 +43,7 @@ returns-in-Ok-clause-asks g c =
     let lt = within w.book.backends c.args.b w.cells.items c.self.invariant.world.sound.cells (subst (λ (x : WorldState). c.args.b < x.core.placement.backends) (sym c.self.view_is) c.requires.within) in
     let least = subst (λ (x : WorldState). c.least-least.result ≡ (session_at x.core c.args.s).least) (sym c.self.view_is) c.least-least.ensures in
     subst (λ (x : WorldState). Asks g.B.Backend.TELLS x.core c.args.s c.args.b c.args.select.now (Ok c.in-Ok.answered)) c.self.view_is
-    (answers g.B.Backend.TELLS w.book.backends w.book.history w.cells.items w.failed w.starved w.sessions w.greatest w.heard c.self.invariant c.args.b lt c.index_mut.result.now c.index_mut.ensures.value c.args.s c.args.select.now c.least-least.result least c.in-Ok.answered.0 c.in-Ok.answered.1 c.in-Ok.ensures.answer c.in-Ok.ensures.possible c.in-Ok.ensures.at c.in-Ok.ensures.owed)
+    (answers g.B.Backend.TELLS w.book.backends w.book.history w.cells.items w.failed w.starved w.sessions w.greatest w.first_outcome c.self.invariant c.args.b lt c.index_mut.result.now c.index_mut.ensures.value c.args.s c.args.select.now c.least-least.result least c.in-Ok.answered.0 c.in-Ok.answered.1 c.in-Ok.ensures.answer c.in-Ok.ensures.possible c.in-Ok.ensures.at c.in-Ok.ensures.owed)
 
 pub returns-in-Ok-clause-counts : goal.returns-in-Ok-clause-counts
 returns-in-Ok-clause-counts g c =
@@ -57,17 +57,17 @@ pub invariant_of-self-in-Err : goal.invariant_of-self-in-Err
 invariant_of-self-in-Err g c =
     let w = c.self.inside in
     let lt = within w.book.backends c.args.b w.cells.items c.self.invariant.world.sound.cells (subst (λ (x : WorldState). c.args.b < x.core.placement.backends) (sym c.self.view_is) c.requires.within) in
-    let kept = kept_asked g.B.Backend.TELLS w.book.backends w.book.history w.cells.items w.failed w.starved w.sessions w.greatest w.heard c.self.invariant c.args.b lt c.index_mut.result.now c.index_mut.ensures.value c.read.new.self c.read.ensures.same in
-    let asked = subst (λ (k : BookState). Kept g.B.Backend.TELLS (world_of k.backends k.history (set w.cells.items c.args.b c.read.new.self) w.failed w.starved w.sessions w.greatest) w.heard) (sym c.in_ok-take_spare.ensures.ok) kept in
-    noting (λ (k : BookState). Kept g.B.Backend.TELLS (world_of k.backends k.history (set w.cells.items c.args.b c.read.new.self) w.failed w.starved w.sessions w.greatest) w.heard)
+    let kept = kept_asked g.B.Backend.TELLS w.book.backends w.book.history w.cells.items w.failed w.starved w.sessions w.greatest w.first_outcome c.self.invariant c.args.b lt c.index_mut.result.now c.index_mut.ensures.value c.read.new.self c.read.ensures.same in
+    let asked = subst (λ (k : BookState). Kept g.B.Backend.TELLS (world_of k.backends k.history (set w.cells.items c.args.b c.read.new.self) w.failed w.starved w.sessions w.greatest) w.first_outcome) (sym c.in_ok-take_spare.ensures.ok) kept in
+    noting (λ (k : BookState). Kept g.B.Backend.TELLS (world_of k.backends k.history (set w.cells.items c.args.b c.read.new.self) w.failed w.starved w.sessions w.greatest) w.first_outcome)
     c.take_spare.new.self c.noted.new.book c.args.s c.read_number-number.result c.args.b c.in-Err.error c.noted.result c.noted.ensures asked
-    (λ space. kept_read_failed g.B.Backend.TELLS c.take_spare.new.self.backends c.take_spare.new.self.history (set w.cells.items c.args.b c.read.new.self) w.failed w.starved w.sessions w.greatest w.heard asked c.args.s c.read_number-number.result c.args.b space)
+    (λ space. kept_read_failed g.B.Backend.TELLS c.take_spare.new.self.backends c.take_spare.new.self.history (set w.cells.items c.args.b c.read.new.self) w.failed w.starved w.sessions w.greatest w.first_outcome asked c.args.s c.read_number-number.result c.args.b space)
 
 pub returns-in-Err-clause-core : goal.returns-in-Err-clause-core
 returns-in-Err-clause-core g c =
     let w = c.self.inside in
     let lt = within w.book.backends c.args.b w.cells.items c.self.invariant.world.sound.cells (subst (λ (x : WorldState). c.args.b < x.core.placement.backends) (sym c.self.view_is) c.requires.within) in
-    let same = same_core g.B.Backend.TELLS w.book.backends w.book.history w.cells.items w.failed w.starved w.sessions w.greatest w.heard c.self.invariant c.args.b lt c.index_mut.result.now c.index_mut.ensures.value c.read.new.self c.read.ensures.same in
+    let same = same_core g.B.Backend.TELLS w.book.backends w.book.history w.cells.items w.failed w.starved w.sessions w.greatest w.first_outcome c.self.invariant c.args.b lt c.index_mut.result.now c.index_mut.ensures.value c.read.new.self c.read.ensures.same in
     let core : core_of c.take_spare.new.self.backends c.take_spare.new.self.history (set w.cells.items c.args.b c.read.new.self) w.failed w.starved w.sessions w.greatest ≡ c.args.self.now.core =
     ap (λ (k : BookState). core_of k.backends k.history (set w.cells.items c.args.b c.read.new.self) w.failed w.starved w.sessions w.greatest) c.in_ok-take_spare.ensures.ok ∙ (same ∙ ap (λ (x : WorldState). x.core) c.self.view_is)
     in
@@ -81,7 +81,7 @@ returns-in-Err-clause-asks g c =
     let lt = within w.book.backends c.args.b w.cells.items c.self.invariant.world.sound.cells (subst (λ (x : WorldState). c.args.b < x.core.placement.backends) (sym c.self.view_is) c.requires.within) in
     let least = subst (λ (x : WorldState). c.least-least.result ≡ (session_at x.core c.args.s).least) (sym c.self.view_is) c.least-least.ensures in
     subst (λ (x : WorldState). Asks g.B.Backend.TELLS x.core c.args.s c.args.b c.args.select.now (Err c.noted.result)) c.self.view_is
-    (errs g.B.Backend.TELLS w.book.backends w.book.history w.cells.items w.failed w.starved w.sessions w.greatest w.heard c.self.invariant c.args.b lt c.index_mut.result.now c.index_mut.ensures.value c.args.s c.args.select.now c.least-least.result least c.take_spare.new.self c.noted.new.book c.read_number-number.result c.in-Err.error c.noted.result
+    (errs g.B.Backend.TELLS w.book.backends w.book.history w.cells.items w.failed w.starved w.sessions w.greatest w.first_outcome c.self.invariant c.args.b lt c.index_mut.result.now c.index_mut.ensures.value c.args.s c.args.select.now c.least-least.result least c.take_spare.new.self c.noted.new.book c.read_number-number.result c.in-Err.error c.noted.result
     (ap (λ (k : BookState). k.history) c.in_ok-take_spare.ensures.ok) c.noted.ensures c.in-Err.ensures.out c.in-Err.ensures.behind)
 
 pub returns-in-Err-clause-counts : goal.returns-in-Err-clause-counts

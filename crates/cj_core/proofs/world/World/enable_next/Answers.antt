@@ -1,19 +1,19 @@
 use Rattle.std.proofs.Common.{◌≡◌, ◌≤◌, true, false, sym, ap, ◌∙◌, subst, arith}
-use Rattle.cj_model.specs.Histories.{free, enabled}
-use Rattle.cj_model.specs.Cores.{Core}
-use Rattle.cj_model.specs.Moves.{happened}
+use Rattle.cj_model.specs.Cluster.Histories.{is_idle, is_enabled}
+use Rattle.cj_model.specs.Cluster.Cores.{Core}
+use Rattle.cj_model.specs.Cluster.Moves.{happened}
 use Rattle.cj_model.specs.declared.event.Event.TheVariants.{Enabled}
 use Rattle.cj_core.specs.Worlds.{WorldState}
 use Rattle.cj_core.proofs.Resting.{free-enables, off-enables, happened-begun, no_room}
 use Rattle.cj_core.proofs.world.World.enable_next.Goals as goal
 
 pub switch_on-requires-clause-free : goal.switch_on-requires-clause-free
-switch_on-requires-clause-free g c = subst (λ (x : Core). free x.history ≡ true) (sym c.requires.begun) (free-enables c.args.b)
+switch_on-requires-clause-free g c = subst (λ (x : Core). is_idle x.history ≡ true) (sym c.requires.begun) (free-enables c.args.b)
 
 pub switch_on-requires-clause-off : goal.switch_on-requires-clause-off
 switch_on-requires-clause-off g c =
     let le : c.args.b ≤ c.args.b = omega arith in
-    subst (λ (x : Core). enabled x.history c.args.b ≡ false) (sym c.requires.begun) (off-enables c.args.b c.args.b le)
+    subst (λ (x : Core). is_enabled x.history c.args.b ≡ false) (sym c.requires.begun) (off-enables c.args.b c.args.b le)
 
 pub unreachable-requires-in-Err-HistoryFull : goal.unreachable-requires-in-Err-HistoryFull
 unreachable-requires-in-Err-HistoryFull g c =

@@ -1,11 +1,11 @@
 use Rattle.std.proofs.Common.{ap, sym, ◌∙◌}
 use Rattle.std.proofs.lemmas.Bool.{eq-eqb}
-use Rattle.cj_model.specs.Cores.{is_by}
+use Rattle.cj_model.specs.Cluster.Cores.{is_entry_of}
 use Rattle.cj_core.specs.Worlds.{WorldState}
 use Rattle.cj_core.proofs.world.World.end.Goals as goal
 
 pub end_entry-requires-clause-waits : goal.end_entry-requires-clause-waits
-end_entry-requires-clause-waits g c = let e = c.waiting-session.ensures in ap (is_by c.waiting-session.result) e.1 ∙ eq-eqb e.0.session c.waiting-session.result (sym e.2)
+end_entry-requires-clause-waits g c = let e = c.waiting-session.ensures in ap (is_entry_of c.waiting-session.result) e.1 ∙ eq-eqb e.0.session c.waiting-session.result (sym e.2)
 
 pub returns-clause-moves : goal.returns-clause-moves
 returns-clause-moves g c =

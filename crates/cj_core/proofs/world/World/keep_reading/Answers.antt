@@ -1,5 +1,5 @@
 use Rattle.std.proofs.Common.{◌≡◌, false, sym, subst}
-use Rattle.cj_model.specs.Moves.{is_waiting}
+use Rattle.cj_model.specs.Cluster.Moves.{is_waiting}
 use Rattle.cj_core.specs.Worlds.{WorldState}
 use Rattle.cj_core.specs.Effects.{HaveFailed}
 use Rattle.cj_core.proofs.Keeping.{kept_reading}
@@ -10,4 +10,4 @@ invariant_of-self g c =
     let w = c.self.inside in
     let idle = subst (λ (x : WorldState). is_waiting x.core c.args.s ≡ false) (sym c.self.view_is) c.requires.idle in
     let since = subst (λ (x : WorldState). HaveFailed x.core c.args.s c.args.tried) (sym c.self.view_is) c.requires.since in
-    rw c.keep_reading.ensures (kept_reading g.B.Backend.TELLS w.book.backends w.book.history w.cells.items w.failed w.starved w.sessions w.greatest w.heard c.self.invariant c.args.s c.args.select c.args.tried idle since)
+    rw c.keep_reading.ensures (kept_reading g.B.Backend.TELLS w.book.backends w.book.history w.cells.items w.failed w.starved w.sessions w.greatest w.first_outcome c.self.invariant c.args.s c.args.select c.args.tried idle since)

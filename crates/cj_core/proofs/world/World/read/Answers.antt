@@ -1,8 +1,8 @@
 use Rattle.std.proofs.Common.{◌≡◌, ℕ, Bool, true, false, cond, None, Some, Ok, Err, refl, ap, sym, ◌∙◌, subst}
 use Rattle.std.proofs.lemmas.Bool.{both_ways}
 use Rattle.cj_model.specs.declared.moves.Moved.{Moved}
-use Rattle.cj_model.specs.Cores.{Core, session_at, is_by}
-use Rattle.cj_model.specs.Moves.{ReadsSame, is_waiting, read_number}
+use Rattle.cj_model.specs.Cluster.Cores.{Core, session_at, is_entry_of}
+use Rattle.cj_model.specs.Cluster.Moves.{HasNoOtherRead, is_waiting, read_number}
 use Rattle.cj_core.specs.declared.cells.AskError.{AskError}
 use Rattle.cj_model.specs.declared.event.Event.TheVariants.{ReadFailed}
 use Rattle.cj_model.proofs.Now.{can_read}
@@ -26,7 +26,7 @@ pub refuse_or_stay-requires-clause-idle : goal.refuse_or_stay-requires-clause-id
 refuse_or_stay-requires-clause-idle g c =
     let core = subst (λ (e : AskError). c.ask.new.self.core ≡ asked_core c.args.self.now.core c.args.s c.args.b (Err e)) c.in-Err-Failed.field-0-is c.in-Err-Failed.ensures.core in
     subst (λ (x : Core). is_waiting x c.args.s ≡ false) (sym core)
-    (ap (is_by c.args.s) (opened-same c.args.self.now.core.history (ReadFailed c.args.s (read_number (session_at c.args.self.now.core c.args.s)) c.args.b) refl refl)
+    (ap (is_entry_of c.args.s) (opened-same c.args.self.now.core.history (ReadFailed c.args.s (read_number (session_at c.args.self.now.core c.args.s)) c.args.b) refl refl)
     ∙ (can_read c.args.self.now.core c.args.s c.args.b c.args.select c.requires.now).idle)
 
 pub refuse_or_stay-requires-clause-since : goal.refuse_or_stay-requires-clause-since
@@ -52,13 +52,13 @@ wait-requires-in-Err-Behind-clause-idle g c =
 
 pub returns-then-not-serves-clause-moves : goal.returns-then-not-serves-clause-moves
 returns-then-not-serves-clause-moves g c =
-    let same : ReadsSame (session_at c.args.self.now.core c.args.s) c.args.select = c.if-reads_other.ensures in
+    let same : HasNoOtherRead (session_at c.args.self.now.core c.args.s) c.args.select = c.if-reads_other.ensures in
     not_serving g.B.Backend.TELLS c.args.self.now.core c.args.s c.args.b c.args.select same c.serving-serving.result c.serving-serving.type_inv c.if-serving-eq0.false c.serving-serving.ensures
     (λ serves. both_ways c.serves.result c.if-not-serves.true (c.serves.ensures.1 serves))
 
 pub returns-in-Ok-clause-moves : goal.returns-in-Ok-clause-moves
 returns-in-Ok-clause-moves g c =
-    let same : ReadsSame (session_at c.args.self.now.core c.args.s) c.args.select = c.if-reads_other.ensures in
+    let same : HasNoOtherRead (session_at c.args.self.now.core c.args.s) c.args.select = c.if-reads_other.ensures in
     answered g.B.Backend.TELLS c.args.self.now.core c.args.s c.args.b c.args.select same (c.serves.ensures.0 c.if-not-serves.false) c.in-Ok.answer c.in-Ok.position c.ask.new.self.core c.answer.new.self.core
     c.answer.result c.in-Ok.ensures.asks c.in-Ok.ensures.core (ap (λ (w : WorldState). w.core) c.answer.ensures.ok) c.answer.ensures.moved
 
@@ -69,7 +69,7 @@ returns-in-Ok-clause-causes g c =
 
 pub returns-in-Err-Failed-clause-moves : goal.returns-in-Err-Failed-clause-moves
 returns-in-Err-Failed-clause-moves g c =
-    let same : ReadsSame (session_at c.args.self.now.core c.args.s) c.args.select = c.if-reads_other.ensures in
+    let same : HasNoOtherRead (session_at c.args.self.now.core c.args.s) c.args.select = c.if-reads_other.ensures in
     let asks = subst (λ (e : AskError). Asks g.B.Backend.TELLS c.args.self.now.core c.args.s c.args.b c.args.select (Err e)) c.in-Err-Failed.field-0-is c.in-Err-Failed.ensures.asks in
     let core = subst (λ (e : AskError). c.ask.new.self.core ≡ asked_core c.args.self.now.core c.args.s c.args.b (Err e)) c.in-Err-Failed.field-0-is c.in-Err-Failed.ensures.core in
     failed g.B.Backend.TELLS c.args.self.now.core c.args.s c.args.b c.args.select same (c.serves.ensures.0 c.if-not-serves.false) c.ask.new.self.core c.refuse_or_stay.new.self.core c.refuse_or_stay.result c.serving-serving.result c.serving-serving.ensures asks core
@@ -83,7 +83,7 @@ returns-in-Err-Failed-clause-causes g c =
 
 pub returns-in-Err-Unnoted-clause-moves : goal.returns-in-Err-Unnoted-clause-moves
 returns-in-Err-Unnoted-clause-moves g c =
-    let same : ReadsSame (session_at c.args.self.now.core c.args.s) c.args.select = c.if-reads_other.ensures in
+    let same : HasNoOtherRead (session_at c.args.self.now.core c.args.s) c.args.select = c.if-reads_other.ensures in
     let asks = subst (λ (e : AskError). Asks g.B.Backend.TELLS c.args.self.now.core c.args.s c.args.b c.args.select (Err e)) c.in-Err-Unnoted.field-0-is c.in-Err-Unnoted.ensures.asks in
     let core = subst (λ (e : AskError). c.ask.new.self.core ≡ asked_core c.args.self.now.core c.args.s c.args.b (Err e)) c.in-Err-Unnoted.field-0-is c.in-Err-Unnoted.ensures.core in
     unnoted g.B.Backend.TELLS c.args.self.now.core c.args.s c.args.b c.args.select same (c.serves.ensures.0 c.if-not-serves.false) c.in-Err-Unnoted.events c.ask.new.self.core c.refuse_unnoted.new.self.core c.refuse_unnoted.result asks core c.refuse_unnoted.ensures.moved
@@ -97,7 +97,7 @@ returns-in-Err-Unnoted-clause-causes g c =
 
 pub returns-in-Err-Out-clause-moves : goal.returns-in-Err-Out-clause-moves
 returns-in-Err-Out-clause-moves g c =
-    let same : ReadsSame (session_at c.args.self.now.core c.args.s) c.args.select = c.if-reads_other.ensures in
+    let same : HasNoOtherRead (session_at c.args.self.now.core c.args.s) c.args.select = c.if-reads_other.ensures in
     let asks = subst (λ (e : AskError). Asks g.B.Backend.TELLS c.args.self.now.core c.args.s c.args.b c.args.select (Err e)) c.in-Err-Out.field-0-is c.in-Err-Out.ensures.asks in
     let core = subst (λ (e : AskError). c.ask.new.self.core ≡ asked_core c.args.self.now.core c.args.s c.args.b (Err e)) c.in-Err-Out.field-0-is c.in-Err-Out.ensures.core in
     is_out g.B.Backend.TELLS c.args.self.now.core c.args.s c.args.b c.args.select same (c.serves.ensures.0 c.if-not-serves.false) c.ask.new.self.core c.wait.new.self.core asks core (ap (λ (w : WorldState). w.core) c.wait.ensures)
@@ -109,7 +109,7 @@ returns-in-Err-Out-clause-causes g c =
 
 pub returns-in-Err-Behind-clause-moves : goal.returns-in-Err-Behind-clause-moves
 returns-in-Err-Behind-clause-moves g c =
-    let same : ReadsSame (session_at c.args.self.now.core c.args.s) c.args.select = c.if-reads_other.ensures in
+    let same : HasNoOtherRead (session_at c.args.self.now.core c.args.s) c.args.select = c.if-reads_other.ensures in
     let asks = subst (λ (e : AskError). Asks g.B.Backend.TELLS c.args.self.now.core c.args.s c.args.b c.args.select (Err e)) c.in-Err-Behind.field-0-is c.in-Err-Behind.ensures.asks in
     let core = subst (λ (e : AskError). c.ask.new.self.core ≡ asked_core c.args.self.now.core c.args.s c.args.b (Err e)) c.in-Err-Behind.field-0-is c.in-Err-Behind.ensures.core in
     is_behind g.B.Backend.TELLS c.args.self.now.core c.args.s c.args.b c.args.select same (c.serves.ensures.0 c.if-not-serves.false) c.in-Err-Behind.position c.ask.new.self.core

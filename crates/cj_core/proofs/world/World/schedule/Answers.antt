@@ -1,6 +1,6 @@
 use Rattle.std.proofs.Common.{◌≡◌, false, None, Err, ap, sym, ◌∙◌, subst}
-use Rattle.cj_model.specs.Cores.{session_at}
-use Rattle.cj_model.specs.Moves.{is_waiting, with_counted}
+use Rattle.cj_model.specs.Cluster.Cores.{session_at}
+use Rattle.cj_model.specs.Cluster.Moves.{is_waiting, with_request_counted}
 use Rattle.cj_model.proofs.Now.{can_schedule}
 use Rattle.cj_book.specs.declared.error.BookError.{BookError}
 use Rattle.cj_core.specs.Worlds.{WorldState}
@@ -37,4 +37,4 @@ returns-in-Err-HistoryFull-clause-moves g c =
     let full = subst (λ (e : BookError). SchedulesAs c.args.self.now.core c.in-Ok.entry (Err e)) c.in-Err-HistoryFull.field-0-is c.in-Err-HistoryFull.ensures.scheduled in
     gives_full c.args.self.now.core c.args.s c.args.request c.act_of.result c.in-Ok.entry c.act_of.ensures.act c.in-Ok.ensures.next c.in-Ok.ensures.allowed c.in-Err-HistoryFull.events
     c.count-in-Err-HistoryFull.new.self.core full
-    (ap (λ (w : WorldState). w.core) c.count-in-Err-HistoryFull.ensures ∙ ap (λ (w : WorldState). with_counted w.core c.args.s) c.in-Err-HistoryFull.ensures.err)
+    (ap (λ (w : WorldState). w.core) c.count-in-Err-HistoryFull.ensures ∙ ap (λ (w : WorldState). with_request_counted w.core c.args.s) c.in-Err-HistoryFull.ensures.err)

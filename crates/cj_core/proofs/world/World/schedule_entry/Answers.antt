@@ -1,8 +1,8 @@
 use Rattle.std.proofs.Common.{◌≡◌, Ok, Err, None, true, sym, subst}
-use Rattle.cj_model.specs.Histories.{log}
-use Rattle.cj_model.specs.Legality.{IsFit}
-use Rattle.cj_model.specs.Cores.{session_at}
-use Rattle.cj_model.specs.Moves.{is_open, next_entry}
+use Rattle.cj_model.specs.Cluster.Histories.{log}
+use Rattle.cj_model.specs.Cluster.Legality.{IsFitEntry}
+use Rattle.cj_model.specs.Cluster.Cores.{session_at}
+use Rattle.cj_model.specs.Cluster.Moves.{is_open, next_entry}
 use Rattle.cj_core.specs.Worlds.{WorldState}
 use Rattle.cj_core.specs.Effects.{SchedulesAs}
 use Rattle.cj_core.proofs.Keeping.{kept_scheduled}
@@ -14,12 +14,12 @@ invariant_of-self g c =
     let w = c.self.inside in
     let here = subst (λ (x : WorldState). is_open x.core c.args.s ≡ true) (sym c.self.view_is) c.requires.here in
     let next = subst (λ (x : WorldState). c.args.entry ≡ next_entry x.core c.args.s c.args.entry.act) (sym c.self.view_is) c.requires.next in
-    let fits = subst (λ (x : WorldState). IsFit (log x.core.history) c.args.entry) (sym c.self.view_is) c.requires.fits in
+    let fits = subst (λ (x : WorldState). IsFitEntry (log x.core.history) c.args.entry) (sym c.self.view_is) c.requires.fits in
     let no_read = subst (λ (x : WorldState). (session_at x.core c.args.s).reading ≡ None) (sym c.self.view_is) c.requires.no_read in
     let ready = c.in-Ok.ensures.ready in
     let on = served_on w.book c.args.entry c.requires.lone ready in
     rw (c.in-Ok.ensures.ok, c.count.ensures)
-    (kept_scheduled g.B.Backend.TELLS w.book.backends w.book.history w.cells.items w.failed w.starved w.sessions w.greatest w.heard c.self.invariant c.args.s c.args.entry here next ready.is_free fits c.requires.lone ready.space on.0 on.1 no_read ready.served)
+    (kept_scheduled g.B.Backend.TELLS w.book.backends w.book.history w.cells.items w.failed w.starved w.sessions w.greatest w.first_outcome c.self.invariant c.args.s c.args.entry here next ready.is_free fits c.requires.lone ready.space on.0 on.1 no_read ready.served)
 
 pub returns-in-Ok-clause-scheduled : goal.returns-in-Ok-clause-scheduled
 returns-in-Ok-clause-scheduled g c =

@@ -1,6 +1,6 @@
 use Rattle.std.proofs.Common.{◌≡◌, true, sym, subst}
 use Rattle.cj_model.specs.declared.event.Event.TheVariants.{Disabled}
-use Rattle.cj_model.specs.Histories.{free, enabled}
+use Rattle.cj_model.specs.Cluster.Histories.{is_idle, is_enabled}
 use Rattle.cj_book.specs.Books.{BookState}
 use Rattle.cj_core.specs.Worlds.{WorldState, world_of}
 use Rattle.cj_core.specs.Effects.{HadRoom}
@@ -12,10 +12,10 @@ use Rattle.cj_core.proofs.world.World.switch_off.Goals as goal
 pub invariant_of-self : goal.invariant_of-self
 invariant_of-self g c =
     let w = c.self.inside in
-    let fr = subst (λ (x : WorldState). free x.core.history ≡ true) (sym c.self.view_is) c.requires.free in
-    let on = subst (λ (x : WorldState). enabled x.core.history c.args.b ≡ true) (sym c.self.view_is) c.requires.on in
-    noted c.disable.result w.book c.disable.new.self (Disabled c.args.b) (λ (b : BookState). Kept g.B.Backend.TELLS (world_of b.backends b.history w.cells.items w.failed w.starved w.sessions w.greatest) w.heard) c.disable.ensures.ok c.disable.ensures.err c.disable.ensures.space
-    (λ space. kept_disabled g.B.Backend.TELLS w.book.backends w.book.history w.cells.items w.failed w.starved w.sessions w.greatest w.heard c.self.invariant c.args.b fr on space) c.self.invariant
+    let fr = subst (λ (x : WorldState). is_idle x.core.history ≡ true) (sym c.self.view_is) c.requires.free in
+    let on = subst (λ (x : WorldState). is_enabled x.core.history c.args.b ≡ true) (sym c.self.view_is) c.requires.on in
+    noted c.disable.result w.book c.disable.new.self (Disabled c.args.b) (λ (b : BookState). Kept g.B.Backend.TELLS (world_of b.backends b.history w.cells.items w.failed w.starved w.sessions w.greatest) w.first_outcome) c.disable.ensures.ok c.disable.ensures.err c.disable.ensures.space
+    (λ space. kept_disabled g.B.Backend.TELLS w.book.backends w.book.history w.cells.items w.failed w.starved w.sessions w.greatest w.first_outcome c.self.invariant c.args.b fr on space) c.self.invariant
 
 pub returns-clause-room : goal.returns-clause-room
 returns-clause-room g c =

@@ -1,7 +1,7 @@
 use Rattle.std.proofs.Common.{◌≡◌, true, false, Some, length, sym, subst}
 use Rattle.cj_model.specs.declared.event.Event.TheVariants.{Enabled}
-use Rattle.cj_model.specs.Histories.{log, free, enabled}
-use Rattle.cj_model.specs.Cores.{position_at}
+use Rattle.cj_model.specs.Cluster.Histories.{log, is_idle, is_enabled}
+use Rattle.cj_model.specs.Cluster.Cores.{position_at}
 use Rattle.cj_book.specs.Books.{BookState}
 use Rattle.cj_core.specs.Worlds.{WorldState, world_of}
 use Rattle.cj_core.specs.Effects.{HadRoom}
@@ -13,11 +13,11 @@ use Rattle.cj_core.proofs.world.World.switch_on.Goals as goal
 pub invariant_of-self : goal.invariant_of-self
 invariant_of-self g c =
     let w = c.self.inside in
-    let fr = subst (λ (x : WorldState). free x.core.history ≡ true) (sym c.self.view_is) c.requires.free in
-    let off = subst (λ (x : WorldState). enabled x.core.history c.args.b ≡ false) (sym c.self.view_is) c.requires.off in
+    let fr = subst (λ (x : WorldState). is_idle x.core.history ≡ true) (sym c.self.view_is) c.requires.free in
+    let off = subst (λ (x : WorldState). is_enabled x.core.history c.args.b ≡ false) (sym c.self.view_is) c.requires.off in
     let there = subst (λ (x : WorldState). position_at x.core c.args.b ≡ Some (length (log x.core.history))) (sym c.self.view_is) c.requires.there in
-    noted c.enable.result w.book c.enable.new.self (Enabled c.args.b) (λ (b : BookState). Kept g.B.Backend.TELLS (world_of b.backends b.history w.cells.items w.failed w.starved w.sessions w.greatest) w.heard) c.enable.ensures.ok c.enable.ensures.err c.enable.ensures.space
-    (λ space. kept_enabled g.B.Backend.TELLS w.book.backends w.book.history w.cells.items w.failed w.starved w.sessions w.greatest w.heard c.self.invariant c.args.b fr off there space) c.self.invariant
+    noted c.enable.result w.book c.enable.new.self (Enabled c.args.b) (λ (b : BookState). Kept g.B.Backend.TELLS (world_of b.backends b.history w.cells.items w.failed w.starved w.sessions w.greatest) w.first_outcome) c.enable.ensures.ok c.enable.ensures.err c.enable.ensures.space
+    (λ space. kept_enabled g.B.Backend.TELLS w.book.backends w.book.history w.cells.items w.failed w.starved w.sessions w.greatest w.first_outcome c.self.invariant c.args.b fr off there space) c.self.invariant
 
 pub returns-clause-room : goal.returns-clause-room
 returns-clause-room g c =

@@ -1,8 +1,8 @@
 use Rattle.std.proofs.Common.{◌≡◌, ◌+◌, None, Ok, refl, ap, sym, subst}
 use Rattle.cj_model.specs.declared.moves.Move.TheVariants.{Replay}
 use Rattle.cj_model.specs.declared.moves.Moved.TheVariants.{Replayed}
-use Rattle.cj_model.specs.Moves.{place, not_now, Replays}
-use Rattle.cj_model.specs.Cores.{position_at}
+use Rattle.cj_model.specs.Cluster.Moves.{position_or_zero, not_now, Replays}
+use Rattle.cj_model.specs.Cluster.Cores.{position_at}
 use Rattle.cj_model.proofs.Now.{CanReplay, can_replay}
 use Rattle.cj_core.specs.Worlds.{WorldState, core_of}
 use Rattle.cj_core.proofs.Catching.{can_take}
@@ -13,26 +13,26 @@ pub take-requires : goal.take-requires
 take-requires g c =
     let w = c.self.inside in
     let can : CanReplay (core_of w.book.backends w.book.history w.cells.items w.failed w.starved w.sessions w.greatest) c.args.b = can_replay _ c.args.b (subst (λ (x : WorldState). not_now x.core (Replay c.args.b) ≡ None) (sym c.self.view_is) c.requires.now) in
-    can_take g.B.Backend.TELLS w.book.backends w.book.history w.cells.items w.failed w.starved w.sessions w.greatest w.heard c.self.invariant c.args.b (place (position_at (core_of w.book.backends w.book.history w.cells.items w.failed w.starved w.sessions w.greatest) c.args.b)) can.at can.more
+    can_take g.B.Backend.TELLS w.book.backends w.book.history w.cells.items w.failed w.starved w.sessions w.greatest w.first_outcome c.self.invariant c.args.b (position_or_zero (position_at (core_of w.book.backends w.book.history w.cells.items w.failed w.starved w.sessions w.greatest) c.args.b)) can.at can.more
 
 pub invariant_of-self : goal.invariant_of-self
 invariant_of-self g c =
     let w = c.self.inside in
     let can : CanReplay (core_of w.book.backends w.book.history w.cells.items w.failed w.starved w.sessions w.greatest) c.args.b = can_replay _ c.args.b (subst (λ (x : WorldState). not_now x.core (Replay c.args.b) ≡ None) (sym c.self.view_is) c.requires.now) in
-    kept_replayed g.B.Backend.TELLS w.book.backends w.book.history w.cells.items w.failed w.starved w.sessions w.greatest w.heard c.self.invariant c.args.b c.take.result c.take.new.cells.items c.take.ensures can.off
+    kept_replayed g.B.Backend.TELLS w.book.backends w.book.history w.cells.items w.failed w.starved w.sessions w.greatest w.first_outcome c.self.invariant c.args.b c.take.result c.take.new.cells.items c.take.ensures can.off
 
 pub returns-clause-replays : goal.returns-clause-replays
 returns-clause-replays g c =
     let w = c.self.inside in
-    subst (λ (x : WorldState). Replays g.B.Backend.TELLS x.core c.args.b (Ok (Replayed (place (position_at x.core c.args.b) + 1) c.take.result)) (core_of w.book.backends w.book.history c.take.new.cells.items w.failed w.starved w.sessions w.greatest)) c.self.view_is
-    (replays g.B.Backend.TELLS w.book.backends w.book.history w.cells.items w.failed w.starved w.sessions w.greatest w.heard c.self.invariant c.args.b c.take.result c.take.new.cells.items c.take.ensures)
+    subst (λ (x : WorldState). Replays g.B.Backend.TELLS x.core c.args.b (Ok (Replayed (position_or_zero (position_at x.core c.args.b) + 1) c.take.result)) (core_of w.book.backends w.book.history c.take.new.cells.items w.failed w.starved w.sessions w.greatest)) c.self.view_is
+    (replays g.B.Backend.TELLS w.book.backends w.book.history w.cells.items w.failed w.starved w.sessions w.greatest w.first_outcome c.self.invariant c.args.b c.take.result c.take.new.cells.items c.take.ensures)
 
 pub returns-clause-counts : goal.returns-clause-counts
 returns-clause-counts g c =
     let w = c.self.inside in
-    took_counts g.B.Backend.TELLS w.book.backends w.book.history w.cells.items w.failed w.starved w.sessions w.greatest w.heard c.self.invariant c.args.b c.take.result c.take.new.cells.items c.take.ensures c.args.self.now.cells (ap (λ (x : WorldState). x.cells) (sym c.self.view_is))
+    took_counts g.B.Backend.TELLS w.book.backends w.book.history w.cells.items w.failed w.starved w.sessions w.greatest w.first_outcome c.self.invariant c.args.b c.take.result c.take.new.cells.items c.take.ensures c.args.self.now.cells (ap (λ (x : WorldState). x.cells) (sym c.self.view_is))
 
 pub returns-clause-armings : goal.returns-clause-armings
 returns-clause-armings g c =
     let w = c.self.inside in
-    took_armings g.B.Backend.TELLS w.book.backends w.book.history w.cells.items w.failed w.starved w.sessions w.greatest w.heard c.self.invariant c.args.b c.take.result c.take.new.cells.items c.take.ensures c.args.self.now.cells (ap (λ (x : WorldState). x.cells) (sym c.self.view_is))
+    took_armings g.B.Backend.TELLS w.book.backends w.book.history w.cells.items w.failed w.starved w.sessions w.greatest w.first_outcome c.self.invariant c.args.b c.take.result c.take.new.cells.items c.take.ensures c.args.self.now.cells (ap (λ (x : WorldState). x.cells) (sym c.self.view_is))

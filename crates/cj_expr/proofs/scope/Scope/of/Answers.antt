@@ -2,7 +2,7 @@ use Rattle.std.proofs.Common.{◌++◌, ◌∙◌, ap, map}
 use Rattle.std.specs.Map.Iter.{deref}
 use Rattle.cj_model.specs.declared.schema.Column.{Column}
 use Rattle.cj_model.specs.declared.schema.Schema.{Schema}
-use Rattle.cj_model.specs.Scopes.{Scope}
+use Rattle.cj_model.specs.Database.Scopes.{Scope}
 use Rattle.cj_expr.proofs.WalkLaws.{flat_map_next}
 use Rattle.cj_expr.proofs.scope.Scope.of.Goals as goal
 

@@ -1,6 +1,6 @@
 use Rattle.std.proofs.Common.{◌≡◌, true, ◌++◌, take, drop}
 use Rattle.std.specs.List.{flat_map}
-use Rattle.cj_model.specs.Macros.{state_after}
+use Rattle.cj_model.specs.Sql.Macros.{generator_after_draws}
 use Rattle.cj_macro.specs.Drawable.{are_drawable}
 use Rattle.cj_macro.proofs.Drawing.{rest_rewritten}
 use Rattle.cj_macro.proofs.part.ListOfPart.rewrite.Given as goal
@@ -10,6 +10,6 @@ invariant-loop-item g l =
     let rest = rest_rewritten g.D.Draw.drawn g.D.Draw.later g.T.Part.bounds (g.T.Part.rewritten l.now) in
     record {
       items : take l.item-index l.item-items ++ rest l.draw (drop l.item-index l.item-items) ≡ rest l.fn.draw l.fn.self;
-      state : state_after g.D.Draw.later l.draw (flat_map g.T.Part.bounds (drop l.item-index l.item-items)) ≡ state_after g.D.Draw.later l.fn.draw (flat_map g.T.Part.bounds l.fn.self);
+      state : generator_after_draws g.D.Draw.later l.draw (flat_map g.T.Part.bounds (drop l.item-index l.item-items)) ≡ generator_after_draws g.D.Draw.later l.fn.draw (flat_map g.T.Part.bounds l.fn.self);
       drawable : are_drawable (flat_map g.T.Part.bounds (drop l.item-index l.item-items)) ≡ true;
     }

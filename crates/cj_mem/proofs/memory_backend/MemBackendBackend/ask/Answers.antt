@@ -1,6 +1,6 @@
 use Rattle.std.proofs.Common.{◌≡◌, List, ap, ◌∙◌}
 use Rattle.cj_model.specs.declared.database.Slot.{Slot}
-use Rattle.cj_model.specs.Queries.{ask}
+use Rattle.cj_model.specs.Database.Queries.{ask}
 use Rattle.cj_model.proofs.Askable.{read_askable}
 use Rattle.cj_mem.specs.MemoryBackends.{MemoryState}
 use Rattle.cj_mem.proofs.Promised.{asked_is}

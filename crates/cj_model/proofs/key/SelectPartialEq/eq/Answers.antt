@@ -1,5 +1,5 @@
 use Rattle.std.specs.Bool.{one_answer}
-use Rattle.cj_model.specs.Statements.{same_statement, same_statement-Decides}
+use Rattle.cj_model.specs.Proving.SameStatements.{same_statement, same_statement-Decides}
 use Rattle.cj_model.proofs.key.SelectPartialEq.eq.Goals as goal
 
 pub returns : goal.returns

@@ -1,6 +1,6 @@
 use Rattle.std.proofs.Common.{map, sym, arith}
 use Rattle.std.proofs.lemmas.List.{length-map}
-use Rattle.cj_model.specs.Words.{lower}
+use Rattle.cj_model.specs.Sql.Names.{lower}
 use Rattle.cj_model.proofs.Names.{long_is_no_name}
 use Rattle.cj_model.proofs.name.Name.lower.Goals as goal
 

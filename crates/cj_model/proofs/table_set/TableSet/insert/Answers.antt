@@ -4,7 +4,7 @@ use Rattle.std.specs.declared.result.Result.TheVariants.{Ok, Err}
 use Rattle.std.specs.Prelude.{OnOk, OnErr}
 use Rattle.std.proofs.lemmas.Cmp.{nat_list_cmp_total}
 use Rattle.cj_model.specs.declared.memory.NoMemory.{NoMemory}
-use Rattle.cj_model.specs.Tables.{Rises, name_cmp, put_by}
+use Rattle.cj_model.specs.Database.Tables.{Rises, name_cmp, put_by}
 use Rattle.cj_model.proofs.RisingLaws.{rises_put}
 use Rattle.cj_model.proofs.table_set.TableSet.insert.Goals as goal
 

@@ -1,7 +1,7 @@
 use Rattle.std.proofs.Common.{◌≡◌, [], drop, map}
 use Rattle.std.specs.Prelude.{filter, fold}
-use Rattle.cj_model.specs.Placements.{hosts}
-use Rattle.cj_model.specs.Tables.{name_cmp, put_by}
+use Rattle.cj_model.specs.Cluster.Placements.{hosts}
+use Rattle.cj_model.specs.Database.Tables.{name_cmp, put_by}
 use Rattle.cj_place.specs.declared.rows.HostRow.{HostRow}
 use Rattle.cj_place.specs.Layouts.{placement_of}
 use Rattle.cj_place.proofs.placement.Placement.hosted_of.Given as goal

@@ -1,5 +1,5 @@
 use Rattle.std.proofs.Common.{subst, sym}
-use Rattle.cj_model.specs.Words.{IsText}
+use Rattle.cj_model.specs.Sql.Names.{IsText}
 use Rattle.cj_print.proofs.Texts.{ascii_text, joined_text}
 use Rattle.cj_print.proofs.buffer.TextBuffer.push_ascii.Goals as goal
 

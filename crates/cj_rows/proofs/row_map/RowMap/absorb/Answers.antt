@@ -1,6 +1,6 @@
 use Rattle.std.proofs.Common.{◌≡◌, ◌∙◌, ◌++◌, [], ◌∷◌, sym, ap, subst}
 use Rattle.std.proofs.lemmas.List.{append_assoc}
-use Rattle.cj_model.specs.Values.{value_cmp}
+use Rattle.cj_model.specs.Database.Values.{value_cmp}
 use Rattle.cj_rows.specs.Entries.{KeysRise}
 use Rattle.cj_rows.specs.Layers.{merged}
 use Rattle.cj_rows.specs.RowEntries.{RowEntries, KnowsKeys, overlaid}

@@ -1,5 +1,5 @@
 use Rattle.std.proofs.Common.{◌≡◌, ◌++◌}
-use Rattle.cj_model.specs.Values.{value_cmp}
+use Rattle.cj_model.specs.Database.Values.{value_cmp}
 use Rattle.cj_rows.specs.Entries.{KeysRise}
 use Rattle.cj_rows.specs.Layers.{merged}
 use Rattle.cj_rows.specs.RowEntries.{KnowsKeys, HasKeysOf, overlaid}

@@ -1,6 +1,6 @@
 use Rattle.std.proofs.Common.{◌≡◌, ◌++◌, map}
 use Rattle.std.specs.Map.Iter.{deref_pair}
-use Rattle.cj_model.specs.Values.{value_cmp}
+use Rattle.cj_model.specs.Database.Values.{value_cmp}
 use Rattle.cj_rows.specs.Entries.{KeysRise}
 use Rattle.cj_rows.specs.RowEntries.{KnowsKeys, Extends, HasKeysOf}
 use Rattle.cj_rows.proofs.row_map.RowMap.prepare.Given as goal

@@ -2,7 +2,7 @@ use Rattle.std.proofs.Common.{◌≡◌, ◌∙◌, [], ◌∷◌, sym, ap, subs
 use Rattle.std.specs.declared.option.Option.TheVariants.{None}
 use Rattle.std.specs.BTreeMap.{insert_entry}
 use Rattle.cj_model.specs.declared.value.Value.{Value}
-use Rattle.cj_model.specs.Values.{value_cmp, value_total, value_exact}
+use Rattle.cj_model.specs.Database.Values.{value_cmp, value_total, value_exact}
 use Rattle.cj_rows.specs.Entries.{at}
 use Rattle.cj_rows.specs.RowEntries.{RowEntries, knows, Extends, HasKeysOf}
 use Rattle.cj_rows.proofs.EntryLaws.{known_itself}

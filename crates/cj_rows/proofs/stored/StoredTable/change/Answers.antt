@@ -1,8 +1,8 @@
 use Rattle.std.proofs.Common.{◌≡◌, List, sym, ap, ◌∙◌, subst}
 use Rattle.cj_model.specs.declared.database.Slot.{Slot}
-use Rattle.cj_model.specs.Steps.{seen, other_writer}
+use Rattle.cj_model.specs.Database.Steps.{seen, other_writer}
 use Rattle.cj_model.specs.declared.value.Value.{Value}
-use Rattle.cj_model.specs.Values.{value_cmp}
+use Rattle.cj_model.specs.Database.Values.{value_cmp}
 use Rattle.cj_rows.specs.Layers.{merged}
 use Rattle.cj_rows.specs.RowEntries.{RowEntries, Extends, overlaid}
 use Rattle.cj_rows.specs.Stored.{IsChangeOf, changed_slot}

@@ -1,0 +1,2 @@
+-- Scripts: the lines that are moves, and the lines that they give.
+pub mod Lines
