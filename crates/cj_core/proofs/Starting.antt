@@ -15,15 +15,16 @@ moved_on f g all left x moved y same was =
     ∙ (append_assoc (map f moved) (f y ∷ []) (map g (reverse left)) ∙ (ap (λ z. map f moved ++ z ∷ map g (reverse left)) same ∙ (ap (λ l. map f moved ++ map g l) (sym (reverse-append left (x ∷ []))) ∙ was)))
 
 -- The backends left, last first, and those that have moved into cells by their numbers, are all.
-pub record Moving {X : Type 0} (told_of : X → Option (List Slot)) (faults_of : X → ℕ) (n : ℕ) (all left : List X) (cells : List CellState) (capacity : ℕ) : Type 0 where
+pub record Moving {X : Type 0} (told_of : X → Option (List Slot)) (faults_of : X → ℕ) (arming_of : X → Arming) (n : ℕ) (all left : List X) (cells : List CellState) (capacity : ℕ) : Type 0 where
   pub as_many : length cells + length left ≡ n
   pub each : (b : ℕ) (d : CellState) → b < length cells → IsFresh n b (get_or cells b d)
   pub told : map (λ (x : CellState). x.told) cells ++ map told_of (reverse left) ≡ map told_of all
   pub faults : map (λ (x : CellState). x.faults) cells ++ map faults_of (reverse left) ≡ map faults_of all
+  pub arming : map (λ (x : CellState). x.arming) cells ++ map arming_of (reverse left) ≡ map arming_of all
   pub room : n ≤ capacity
 
-module _ {X : Type 0} (told_of : X → Option (List Slot)) (faults_of : X → ℕ) (n : ℕ) (all left : List X) (cells : List CellState) (capacity : ℕ) where
-  pub moving_first : length left ≡ n → all ≡ reverse left → cells ≡ [] → n ≤ capacity → Moving told_of faults_of n all left cells capacity
+module _ {X : Type 0} (told_of : X → Option (List Slot)) (faults_of : X → ℕ) (arming_of : X → Arming) (n : ℕ) (all left : List X) (cells : List CellState) (capacity : ℕ) where
+  pub moving_first : length left ≡ n → all ≡ reverse left → cells ≡ [] → n ≤ capacity → Moving told_of faults_of arming_of n all left cells capacity
   moving_first count whole none room =
       let no_cells : length cells ≡ 0 = ap length none in
       record {
@@ -31,11 +32,12 @@ module _ {X : Type 0} (told_of : X → Option (List Slot)) (faults_of : X → �
         each = λ b d lt. absurd (omega arith);
         told = rw (none, whole) refl;
         faults = rw (none, whole) refl;
+        arming = rw (none, whole) refl;
         room = room;
       }
 
   -- the last of those left moves into a cell
-  module _ (before : List X) (x : X) (is : before ≡ left ++ x ∷ []) (moving : Moving told_of faults_of n all before cells capacity) where
+  module _ (before : List X) (x : X) (is : before ≡ left ++ x ∷ []) (moving : Moving told_of faults_of arming_of n all before cells capacity) where
     count : length cells + (length left + 1) ≡ n
     count = ap (λ m. length cells + m) (sym (ap length is ∙ length-append left (x ∷ []))) ∙ moving.as_many
 
@@ -45,9 +47,9 @@ module _ {X : Type 0} (told_of : X → Option (List Slot)) (faults_of : X → �
         let room : n ≤ capacity = moving.room in
         (omega arith, omega arith)
 
-    pub moving_more : (number asks : ℕ) (arming : Arming) (y : CellState) (now : List CellState) (capacity_now : ℕ) → number ≡ length cells → y ≡ record { b = number; backends = n; position = Some 0; told = told_of x; faults = faults_of x; asks = asks; arming = arming }
-        → now ≡ cells ++ y ∷ [] → capacity_now ≡ capacity → Moving told_of faults_of n all left now capacity_now
-    moving_more number asks arming y now capacity_now numbered made pushed same =
+    pub moving_more : (number asks : ℕ) (y : CellState) (now : List CellState) (capacity_now : ℕ) → number ≡ length cells → y ≡ record { b = number; backends = n; position = Some 0; told = told_of x; faults = faults_of x; asks = asks; arming = arming_of x }
+        → now ≡ cells ++ y ∷ [] → capacity_now ≡ capacity → Moving told_of faults_of arming_of n all left now capacity_now
+    moving_more number asks y now capacity_now numbered made pushed same =
         let more = length-append cells (y ∷ []) in
         let all_of : length cells + (length left + 1) ≡ n = count in
         rw (pushed, same)
@@ -63,6 +65,7 @@ module _ {X : Type 0} (told_of : X → Option (List Slot)) (faults_of : X → �
               (cases_lt k (length cells));
           told = moved_on (λ (z : CellState). z.told) told_of all left x cells y (ap (λ (z : CellState). z.told) made) (subst (λ l. map (λ (z : CellState). z.told) cells ++ map told_of (reverse l) ≡ map told_of all) is moving.told);
           faults = moved_on (λ (z : CellState). z.faults) faults_of all left x cells y (ap (λ (z : CellState). z.faults) made) (subst (λ l. map (λ (z : CellState). z.faults) cells ++ map faults_of (reverse l) ≡ map faults_of all) is moving.faults);
+          arming = moved_on (λ (z : CellState). z.arming) arming_of all left x cells y (ap (λ (z : CellState). z.arming) made) (subst (λ l. map (λ (z : CellState). z.arming) cells ++ map arming_of (reverse l) ≡ map arming_of all) is moving.arming);
           room = moving.room;
         })
 
@@ -71,8 +74,9 @@ module _ {X : Type 0} (told_of : X → Option (List Slot)) (faults_of : X → �
     pub fresh : AreFresh n cells
     pub told : map (λ (x : CellState). x.told) cells ≡ map told_of list
     pub faults : map (λ (x : CellState). x.faults) cells ≡ map faults_of list
+    pub arming : map (λ (x : CellState). x.arming) cells ≡ map arming_of list
 
-  pub moving_last : (list reversed : List X) → reversed ≡ reverse list → all ≡ reverse reversed → length left ≡ 0 → Moving told_of faults_of n all left cells capacity → Moved list
+  pub moving_last : (list reversed : List X) → reversed ≡ reverse list → all ≡ reverse reversed → length left ≡ 0 → Moving told_of faults_of arming_of n all left cells capacity → Moved list
   moving_last list reversed back again empty moving =
       let as_many : length cells + length left ≡ n = moving.as_many in
       let none : left ≡ [] = nil_from_length left empty in
@@ -84,4 +88,7 @@ module _ {X : Type 0} (told_of : X → Option (List Slot)) (faults_of : X → �
         faults =
             sym (append-nil (map (λ (x : CellState). x.faults) cells))
             ∙ (ap (λ l. map (λ (x : CellState). x.faults) cells ++ map faults_of (reverse l)) (sym none) ∙ (moving.faults ∙ ap (map faults_of) whole));
+        arming =
+            sym (append-nil (map (λ (x : CellState). x.arming) cells))
+            ∙ (ap (λ l. map (λ (x : CellState). x.arming) cells ++ map arming_of (reverse l)) (sym none) ∙ (moving.arming ∙ ap (map arming_of) whole));
       }

@@ -8,7 +8,7 @@ use Rattle.cj_model.specs.declared.moves.Move.TheVariants.{Open, Close, Schedule
 use Rattle.cj_model.specs.declared.moves.Moved.TheVariants as moved
 use Rattle.cj_model.specs.declared.moves.MoveError.TheVariants as errors
 use Rattle.cj_model.specs.Cluster.Moves.{MoveResult}
-use Rattle.cj_backend.specs.Backends.{arming_after}
+use Rattle.cj_backend.specs.Backends.{Arming, arming_after}
 use Rattle.cj_replica.specs.Cells.{CellState}
 use Rattle.cj_core.specs.Worlds.{WorldState}
 
@@ -28,6 +28,10 @@ ArmsCell can old (Read s b select) new = Unit {0}
 ArmsCell can old (Disable b) new = Unit {0}
 ArmsCell can old (Replay b) new = Unit {0}
 ArmsCell can old (Enable b) new = Unit {0}
+
+-- whether each backend is armed, and how often it was
+abbrev pub each_arming : List CellState → List Arming
+each_arming cells = map (λ (x : CellState). x.arming) cells
 
 -- ---- how often backends were armed
 

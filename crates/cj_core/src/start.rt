@@ -2,6 +2,7 @@
 
 ghost use Rattle.std.specs.Prelude.{◌≡◌, ◌+◌, ◌<◌, ◌≤◌, [], length, map, vec_capacity, IfOk, OnOk};
 ghost use Rattle.cj_replica.specs.Cells.{CellState};
+ghost use Rattle.cj_core.specs.Armings.{each_arming};
 ghost use Rattle.cj_core.specs.Starts.{AreEmpty, AreFresh, AreHolding, AreCurrent, begun, started};
 
 use crate::emptied::Emptied;
@@ -26,6 +27,7 @@ fn cells_of<B: Backend + Drop>(
     ensures fresh { IfOk result (λ cells. AreFresh count cells.items) }
     ensures told { IfOk result (λ cells. map (λ (x : CellState). x.told) cells.items ≡ map B.told backends.old.items) }
     ensures faults { IfOk result (λ cells. map (λ (x : CellState). x.faults) cells.items ≡ map B.faults backends.old.items) }
+    ensures arming { IfOk result (λ cells. each_arming cells.items ≡ map B.arming backends.old.items) }
 {
     let mut cells = Vec::with_capacity(alloc, count as usize)?;
     backends.reverse();
@@ -65,6 +67,7 @@ impl<B: Backend + Drop> World<B> {
         ensures core { IfOk result (λ world. world.core ≡ started parts.backends) }
         ensures told { IfOk result (λ world. map (λ (x : CellState). x.told) world.cells ≡ map B.told backends) }
         ensures faults { IfOk result (λ world. map (λ (x : CellState). x.faults) world.cells ≡ map B.faults backends) }
+        ensures arming { IfOk result (λ world. each_arming world.cells ≡ map B.arming backends) }
     {
         let mut list = backends.into_vec();
         let cells = cells_of(alloc, parts.backends, &mut list)?;

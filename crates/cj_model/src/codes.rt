@@ -38,7 +38,7 @@ pub const WRONG_TYPE: u16 = 28;
 pub const ROWS_FULL: u16 = 29;
 /// The answer's frame would have `a` bytes, more than it may.
 pub const TOO_LARGE: u16 = 30;
-/// No backend finished the entry: those of mask `a` failed, those of mask `b` wanted memory.
+/// No target finished the entry: those of mask `a` failed, those of mask `b` wanted memory.
 pub const UNFINISHED: u16 = 40;
 /// Each backend of mask `a`, all that serve the read, failed in it.
 pub const READ_FAULT: u16 = 41;
@@ -46,7 +46,7 @@ pub const READ_FAULT: u16 = 41;
 pub const LOG_FAULT: u16 = 42;
 /// Want of memory; nothing is scheduled.
 pub const NO_MEMORY: u16 = 43;
-/// Each backend of mask `b` wanted memory in the entry, which is scheduled.
+/// Each target, those of mask `b`, wanted memory in the entry, which is scheduled.
 pub const STARVED_ALL: u16 = 44;
 /// The history of `a` events has no room.
 pub const HISTORY_FULL: u16 = 45;

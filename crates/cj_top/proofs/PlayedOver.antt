@@ -2,6 +2,8 @@
 use Rattle.std.proofs.Common.{◌≡◌, ℕ, true, List, [], ◌∷◌, Option, ap}
 use Rattle.cj_model.specs.Cluster.Cores.{Core}
 use Rattle.cj_model.proofs.Standing.{between_none}
+use Rattle.cj_mem.specs.MemoryBackends.{never_armed}
+use Rattle.cj_core.specs.Armings.{each_arming}
 use Rattle.cj_core.specs.Counting.{faults_of}
 use Rattle.cj_core.specs.Starts.{started}
 use Rattle.cj_core.specs.Worlds.{WorldState}
@@ -10,12 +12,13 @@ use Rattle.cj_script.specs.declared.play.ScriptEnd.{ScriptEnd}
 use Rattle.cj_top.specs.Scripted.{backend_names, PlayedOverTwo}
 
 -- what was played from there is what a script promises, and no session has begun there
-pub played_over_two : (left left' held held' : Option (List ℕ)) (ending : ScriptEnd) (first last : WorldState) → first.core ≡ started 2 → faults_of first.cells ≡ 0 ∷ 0 ∷ []
+pub played_over_two : (left left' held held' : Option (List ℕ)) (ending : ScriptEnd) (first last : WorldState) → first.core ≡ started 2 → faults_of first.cells ≡ 0 ∷ 0 ∷ [] → each_arming first.cells ≡ never_armed ∷ never_armed ∷ []
     → CameTo true true backend_names left left' held held' first ending last → InTurns true backend_names left left' held held' first last → PlayedOverTwo left left' held held' ending
-played_over_two left left' held held' ending first last new faultless came turns = record {
+played_over_two left left' held held' ending first last new faultless unarmed came turns = record {
   first = first;
   new = new;
   faultless = faultless;
+  unarmed = unarmed;
   last = last;
   came = came;
   begins = between_none first.core (ap (λ (c : Core). c.sessions) new);

@@ -9,6 +9,8 @@ use Rattle.cj_outside.specs.declared.sink.OutError.{OutError}
 use Rattle.cj_outside.specs.declared.sink.OutError.TheVariants as out_errors
 use Rattle.cj_model.specs.Cluster.Runs.{IsBetweenReplies}
 use Rattle.cj_model.specs.Script.Lines.{with_line_feed, words}
+use Rattle.cj_mem.specs.MemoryBackends.{never_armed}
+use Rattle.cj_core.specs.Armings.{each_arming}
 use Rattle.cj_core.specs.Counting.{faults_of}
 use Rattle.cj_core.specs.Starts.{started}
 use Rattle.cj_core.specs.Worlds.{WorldState}
@@ -52,11 +54,12 @@ abbrev pub NamesLine : (errors errors' : Option (List ℕ)) → (before now : �
 NamesLine errors errors' before now (end.Line number) = WritesName errors errors' before now number
 NamesLine errors errors' before now ending = (errors' ≡ errors) × (now ≡ before)
 
--- From two backends that have taken no entry and counted no fault the script came to this end. The replies to each session in it are a chain of turns of one database, from where it has seen these backends enabled and needs no entry.
+-- From two backends that have taken no entry, counted no fault and were never armed the script came to this end. The replies to each session in it are a chain of turns of one database, from where it has seen these backends enabled and needs no entry.
 pub record PlayedOverTwo (left left' held held' : Option (List ℕ)) (ending : ScriptEnd) : Type 0 where
   pub first : WorldState
   pub new : first.core ≡ started 2
   pub faultless : faults_of first.cells ≡ 0 ∷ 0 ∷ []
+  pub unarmed : each_arming first.cells ≡ never_armed ∷ never_armed ∷ []
   pub last : WorldState
   pub came : CameTo true true backend_names left left' held held' first ending last
   pub begins : (s : ℕ) → IsBetweenReplies (record { front = first.core.history; least = 0 }) first.core s

@@ -91,7 +91,9 @@ fn begin_first<B: Backend>(rt: &impl Abort, backend: &mut B, login: &Text)
 }
 
 /// A backend with three rows, of which transaction 7 has changed one and deleted another.
-fn with_draft(rt: &impl Abort, alloc: Global, login: &Text) -> MemBackend {
+fn with_draft(rt: &impl Abort, alloc: Global, login: &Text) -> MemBackend
+    ensures { result.begun ≡ 7 ∷ [] }
+{
     let mut backend = MemBackend::new(alloc);
     change(
         rt,
@@ -150,6 +152,31 @@ fn what_is_loaded_is_what_was_held(rt: HostRuntime) -> Result<(), Fail> {
         let wanted = Vec::from_array(alloc, [Value::Int(count), Value::Int(sum)])?;
         assert!(rt; totals(&rt, alloc, &mut held, &login, tx)? == wanted);
         assert!(rt; totals(&rt, alloc, &mut loaded, &login, tx)? == wanted);
+    }
+    Ok(())
+}
+
+/// Ends transaction 7, by a commit or by an abort.
+fn end_first<B: Backend>(rt: &impl Abort, backend: &mut B, login: &Text, commits: bool)
+    requires { Contains (B.begun backend.old) 7 }
+{
+    let given = if commits {
+        backend.commit(login, 7)
+    } else {
+        backend.abort(login, 7)
+    };
+    assert!(rt; given.is_ok(), "the end");
+}
+
+#[test]
+fn a_draft_is_committed_or_forgotten(rt: HostRuntime) -> Result<(), Fail> {
+    let alloc = rt.alloc();
+    let login = Text::of(Vec::new(alloc)).unwrap_or_else(|| panic!(&rt; "a text"));
+    for (commits, count, sum) in [(true, 2, 112), (false, 3, 21)] {
+        let mut held = with_draft(&rt, alloc, &login);
+        end_first(&rt, &mut held, &login, commits);
+        let wanted = Vec::from_array(alloc, [Value::Int(count), Value::Int(sum)])?;
+        assert!(rt; totals(&rt, alloc, &mut held, &login, 0)? == wanted);
     }
     Ok(())
 }

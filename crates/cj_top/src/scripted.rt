@@ -2,7 +2,8 @@
 
 ghost use Rattle.std.specs.Prelude.{◌≡◌, ◌↔◌, ◌≢◌, [], ◌∷◌, true, IfOk, IsErrOf, Ok, OnErr, string_bytes};
 ghost use Rattle.cj_flaky.specs.FlakyBackends.{fresh_over};
-ghost use Rattle.cj_mem.specs.MemoryBackends.{fresh_state};
+ghost use Rattle.cj_mem.specs.MemoryBackends.{fresh_state, never_armed};
+ghost use Rattle.cj_core.specs.Armings.{each_arming};
 ghost use Rattle.cj_core.specs.Counting.{faults_of};
 ghost use Rattle.cj_core.specs.Starts.{started};
 ghost use Rattle.cj_model.specs.Sql.Names as names;
@@ -61,6 +62,7 @@ fn two_backends(alloc: Global) -> Result<Backends<Flaky<MemBackend>>, NoMemory>
 fn two_backend_world(alloc: Global) -> Result<World<Flaky<MemBackend>>, NoMemory>
     ensures core { IfOk result (λ world. world.core ≡ started 2) }
     ensures faults { IfOk result (λ world. faults_of world.cells ≡ 0 ∷ 0 ∷ []) }
+    ensures arming { IfOk result (λ world. each_arming world.cells ≡ never_armed ∷ never_armed ∷ []) }
 {
     let backends = two_backends(alloc)?;
     World::start(alloc, BookParts { backends: 2 }, backends)
