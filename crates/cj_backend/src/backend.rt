@@ -5,7 +5,7 @@ ghost use Rattle.std.specs.declared.option.Option.{Option};
 ghost use Rattle.cj_model.specs.declared.database.Slot.{Slot};
 ghost use Rattle.cj_model.specs.declared.request.Act.TheVariants as act;
 ghost use Rattle.cj_model.specs.declared.request.Request.TheVariants as request;
-ghost use Rattle.cj_model.specs.Cluster.Legality.{IsWritten};
+ghost use Rattle.cj_model.specs.Sql.WrittenRequests.{IsWritten};
 ghost use Rattle.cj_model.specs.Database.Storable.{IsStorable};
 
 use cj_model::{Asked, Create, Db, Name, NoMemory, Outcome, Select, Text, Write};

@@ -3,7 +3,7 @@ use Rattle.std.proofs.Common.{◌≡◌, ℕ, ◌+◌, ◌^◌, ◌==◌, ◌<�
 use Rattle.std.proofs.lemmas.Bool.{cases_Bool, cases_lt, both_ways}
 use Rattle.std.proofs.lemmas.Nat.Bits.{bit_at_above}
 use Rattle.cj_model.specs.declared.policy.Policy.{Policy}
-use Rattle.cj_model.specs.Cluster.Histories.{in_mask}
+use Rattle.cj_model.specs.Cluster.Masks.{in_mask}
 use Rattle.cj_model.specs.Cluster.Balancing.{Standing, IsFirst, is_ahead}
 use Rattle.cj_model.proofs.BalanceLaws.{ahead_one_way, ahead_chain, candidates_below}
 use Rattle.cj_model.proofs.Masks.{no_bit}

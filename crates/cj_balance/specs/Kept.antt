@@ -1,6 +1,6 @@
 -- What a balancer keeps, and what its search for the first candidate knows.
 use Rattle.std.specs.Prelude.{◌≡◌, ℕ, ◌^◌, ◌<◌, ◌≤◌, Bool, true, false, List, length, slice_index, Option, None, Some, IfSome}
-use Rattle.cj_model.specs.Cluster.Histories.{in_mask}
+use Rattle.cj_model.specs.Cluster.Masks.{in_mask}
 use Rattle.cj_model.specs.Cluster.Balancing.{Balance, is_ahead}
 use Rattle.cj_model.specs.declared.limits.TheConstants.{BACKEND_LIMIT}
 use Rattle.cj_balance.specs.declared.balancer.TheConstants.{MOST_WEIGHT}

@@ -4,10 +4,11 @@ use Rattle.std.proofs.lemmas.Bool.{cases_eq, eqb-true, eqb-false, and_parts, or_
 use Rattle.std.proofs.lemmas.List.{get_or_append_left}
 use Rattle.std.proofs.lemmas.Option.{slice_get_cases, slice_get_past, slice_get-get_or, option_and_then_some}
 use Rattle.cj_model.specs.declared.request.Entry.{Entry}
-use Rattle.cj_model.specs.declared.event.Event.{Event}
-use Rattle.cj_model.specs.declared.event.Event.TheVariants.{Sched, Ended, ReadFailed, Disabled, Enabled}
-use Rattle.cj_model.specs.Cluster.Histories.{in_mask, scheduled_entry, is_end_event, log, ended_count, is_idle, is_enabled, events_left}
-use Rattle.cj_model.proofs.Pushed.{get_seam, get_left, enabled-push, log-sched, log-same, done-same, done-ended}
+use Rattle.cj_cluster.specs.declared.event.Event.{Event}
+use Rattle.cj_cluster.specs.declared.event.Event.TheVariants.{Sched, Ended, ReadFailed, Disabled, Enabled}
+use Rattle.cj_cluster.specs.History.Histories.{scheduled_entry, is_end_event, log, ended_count, is_idle, is_enabled, events_left}
+use Rattle.cj_model.specs.Cluster.Masks.{in_mask}
+use Rattle.cj_cluster.proofs.Pushed.{get_seam, get_left, enabled-push, log-sched, log-same, done-same, done-ended}
 use Rattle.cj_book.specs.Kept.{KeepsHistory, entry_at}
 use Rattle.cj_model.proofs.MaskBits.{has_without, has_cleared, has_set}
 

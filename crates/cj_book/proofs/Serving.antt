@@ -1,11 +1,12 @@
 -- Who serves a request where each backend hosts every table.
 use Rattle.std.proofs.Common.{◌≡◌, ◌≢◌, ℕ, ◌<◌, ◌^◌, true, List, [], ◌∷◌, refl, ◌∙◌, sym}
 use Rattle.std.proofs.lemmas.Bool.{lt-ltb}
-use Rattle.cj_model.specs.declared.event.Event.{Event}
+use Rattle.cj_cluster.specs.declared.event.Event.{Event}
 use Rattle.cj_model.specs.declared.request.Request.{Request}
 use Rattle.cj_model.specs.Cluster.Placements.{everywhere, hosts, hosts_all, needs}
-use Rattle.cj_model.specs.Cluster.Histories.{in_mask, is_enabled}
-use Rattle.cj_model.specs.Cluster.Answering.{HasServer}
+use Rattle.cj_cluster.specs.History.Histories.{is_enabled}
+use Rattle.cj_model.specs.Cluster.Masks.{in_mask}
+use Rattle.cj_cluster.specs.History.Answering.{HasServer}
 use Rattle.cj_model.proofs.Masks.{some_bit}
 
 -- a backend hosts every table

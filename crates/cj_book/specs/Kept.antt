@@ -3,8 +3,9 @@ use Rattle.std.specs.Prelude.{◌≡◌, ℕ, ◌+◌, ◌-◌, ◌*◌, ◌^◌
 use Rattle.std.specs.declared.option.Option.{Option}
 use Rattle.std.specs.Option.{option_and_then}
 use Rattle.cj_model.specs.declared.request.Entry.{Entry}
-use Rattle.cj_model.specs.declared.event.Event.{Event}
-use Rattle.cj_model.specs.Cluster.Histories.{in_mask, scheduled_entry, log, ended_count, is_enabled}
+use Rattle.cj_cluster.specs.declared.event.Event.{Event}
+use Rattle.cj_cluster.specs.History.Histories.{scheduled_entry, log, ended_count, is_enabled}
+use Rattle.cj_model.specs.Cluster.Masks.{in_mask}
 use Rattle.cj_model.specs.declared.limits.TheConstants.{BACKEND_LIMIT, EVENT_LIMIT}
 
 -- the entry that the event at a place scheduled

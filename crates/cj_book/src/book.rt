@@ -4,14 +4,16 @@ ghost use Rattle.std.specs.Prelude.{◌≡◌, ◌↔◌, ◌+◌, ◌-◌, ◌<
 ghost use Rattle.cj_model.specs.Sql.PlainRequests.{request_of};
 ghost use Rattle.cj_model.specs.Cluster.Placements as placements;
 ghost use Rattle.cj_model.specs.Cluster.Placements.{everywhere};
-ghost use Rattle.cj_model.specs.Cluster.Histories as histories;
-ghost use Rattle.cj_model.specs.Cluster.Histories.{in_mask, log, is_idle};
-ghost use Rattle.cj_model.specs.Cluster.Answering.{HasServer, HasNoServer};
+ghost use Rattle.cj_cluster.specs.History.Histories as histories;
+ghost use Rattle.cj_cluster.specs.History.Histories.{log, is_idle};
+ghost use Rattle.cj_model.specs.Cluster.Masks.{in_mask};
+ghost use Rattle.cj_cluster.specs.History.Answering.{HasServer, HasNoServer};
 ghost use Rattle.cj_book.specs.Books.{with_event, IsInProgress, HasNoBackend, LacksRoom, CanSchedule, Checks, HasNoRoomForOne, HasRoom, IsWant};
 ghost use Rattle.cj_book.specs.Kept as kept;
 
 use crate::error::BookError;
-use cj_model::{Act, BACKEND_LIMIT, EVENT_LIMIT, Entry, Event, NoMemory};
+use cj_cluster::Event;
+use cj_model::{Act, BACKEND_LIMIT, EVENT_LIMIT, Entry, NoMemory};
 use std::alloc::Global;
 use std::marker::Model;
 

@@ -7,23 +7,23 @@ use Rattle.cj_model.specs.declared.database.Slot.{Slot}
 use Rattle.cj_model.specs.declared.select.Select.{Select}
 use Rattle.cj_model.specs.declared.answer.Asked.{Asked}
 use Rattle.cj_model.specs.declared.answer.Outcome.{Outcome}
-use Rattle.cj_model.specs.declared.event.Event.{Event}
-use Rattle.cj_model.specs.declared.event.Event.TheVariants.{ReadFailed}
-use Rattle.cj_model.specs.declared.moves.OpenSession.{OpenSession}
+use Rattle.cj_cluster.specs.declared.event.Event.{Event}
+use Rattle.cj_cluster.specs.declared.event.Event.TheVariants.{ReadFailed}
+use Rattle.cj_cluster.specs.declared.moves.OpenSession.{OpenSession}
 use Rattle.cj_model.specs.Database.Queries.{ask}
 use Rattle.cj_model.specs.Database.Outcomes.{IsAsked}
 use Rattle.cj_model.specs.Cluster.Placements.{everywhere}
-use Rattle.cj_model.specs.Cluster.Histories.{log, events_left, database_after}
-use Rattle.cj_model.specs.Cluster.Cores.{position_at, session_at}
-use Rattle.cj_model.specs.Cluster.Moves.{read_number, IsFarEnough}
-use Rattle.cj_model.specs.Proving.Invariants.{CoreInvariant, HoldsPart}
-use Rattle.cj_model.proofs.Soundness.{no_tx}
+use Rattle.cj_cluster.specs.History.Histories.{log, events_left, database_after}
+use Rattle.cj_cluster.specs.Moves.Cores.{position_at, session_at}
+use Rattle.cj_cluster.specs.Moves.Moves.{read_number, IsFarEnough}
+use Rattle.cj_cluster.specs.Proving.Invariants.{CoreInvariant, HoldsPart}
+use Rattle.cj_cluster.proofs.Soundness.{no_tx}
 use Rattle.cj_outside.specs.Causes.{CountsFault, next}
 use Rattle.cj_book.specs.Books.{BookState, with_event, HasNoRoomForOne}
 use Rattle.cj_replica.specs.declared.cell.CellReadError.{CellReadError}
 use Rattle.cj_replica.specs.declared.cell.CellReadError.TheVariants as errors
 use Rattle.cj_replica.specs.Cells.{CellState, SaysReadAnswer}
-use Rattle.cj_model.proofs.Standing.{stand_rest}
+use Rattle.cj_cluster.proofs.Standing.{stand_rest}
 use Rattle.cj_core.specs.Worlds.{core_of, world_of, IsCell}
 use Rattle.cj_core.specs.declared.cells.AskError.{AskError}
 use Rattle.cj_core.specs.declared.cells.AskError.TheVariants as ask_errors

@@ -8,21 +8,22 @@ use Rattle.cj_outside.specs.Causes.{next}
 use Rattle.cj_model.specs.declared.database.Slot.{Slot}
 use Rattle.cj_model.specs.declared.request.Entry.{Entry}
 use Rattle.cj_model.specs.declared.answer.Outcome.{Outcome}
-use Rattle.cj_model.specs.declared.event.Event.{Event}
-use Rattle.cj_model.specs.declared.event.Event.TheVariants.{Sched, Ended, ReadFailed, LogFailed, Disabled, Enabled, Marker}
-use Rattle.cj_model.specs.declared.moves.Did.TheVariants as did
-use Rattle.cj_model.specs.declared.moves.OpenSession.{OpenSession}
+use Rattle.cj_cluster.specs.declared.event.Event.{Event}
+use Rattle.cj_cluster.specs.declared.event.Event.TheVariants.{Sched, Ended, ReadFailed, LogFailed, Disabled, Enabled, Marker}
+use Rattle.cj_cluster.specs.declared.moves.Did.TheVariants as did
+use Rattle.cj_cluster.specs.declared.moves.OpenSession.{OpenSession}
 use Rattle.cj_model.specs.Sql.PlainRequests.{request_of}
 use Rattle.cj_model.specs.Cluster.Placements.{everywhere, part}
 use Rattle.cj_model.specs.Database.Steps.{step}
 use Rattle.cj_model.specs.Database.Tables.{table_of}
-use Rattle.cj_model.specs.Cluster.Histories.{log, database_after}
-use Rattle.cj_model.specs.Cluster.Legality.{IsAllowedEvent, IsLegal, IsWritten}
-use Rattle.cj_model.specs.Cluster.Cores.{position_at}
-use Rattle.cj_model.specs.Cluster.Moves.{DoesWithEntry}
-use Rattle.cj_model.specs.Proving.Invariants.{IsLoneEntry, HoldsPart}
-use Rattle.cj_model.proofs.Effects.{is_there}
-use Rattle.cj_model.proofs.PartRuns.{at_next}
+use Rattle.cj_cluster.specs.History.Histories.{log, database_after}
+use Rattle.cj_cluster.specs.History.Legality.{IsAllowedEvent, IsLegal}
+use Rattle.cj_model.specs.Sql.WrittenRequests.{IsWritten}
+use Rattle.cj_cluster.specs.Moves.Cores.{position_at}
+use Rattle.cj_cluster.specs.Moves.Moves.{DoesWithEntry}
+use Rattle.cj_cluster.specs.Proving.Invariants.{IsLoneEntry, HoldsPart}
+use Rattle.cj_cluster.proofs.Effects.{is_there}
+use Rattle.cj_cluster.proofs.PartRuns.{at_next}
 use Rattle.cj_backend.specs.Backends.{spent}
 use Rattle.cj_replica.specs.declared.cell.Caught.{Caught}
 use Rattle.cj_replica.specs.declared.cell.Caught.TheVariants as caught

@@ -5,20 +5,21 @@ use Rattle.cj_model.specs.declared.request.Entry.{Entry}
 use Rattle.cj_model.specs.declared.answer.Outcome.{Outcome}
 use Rattle.cj_model.specs.declared.answer.Refusal.{Refusal}
 use Rattle.cj_model.specs.declared.answer.Reply.TheVariants as reply
-use Rattle.cj_model.specs.declared.event.Event.{Event}
-use Rattle.cj_model.specs.declared.event.Event.TheVariants.{Ended}
-use Rattle.cj_model.specs.declared.moves.OpenSession.{OpenSession}
+use Rattle.cj_cluster.specs.declared.event.Event.{Event}
+use Rattle.cj_cluster.specs.declared.event.Event.TheVariants.{Ended}
+use Rattle.cj_cluster.specs.declared.moves.OpenSession.{OpenSession}
 use Rattle.cj_model.specs.declared.codes.TheConstants.{UNFINISHED, STARVED_ALL}
 use Rattle.cj_model.specs.Cluster.Placements.{everywhere}
-use Rattle.cj_model.specs.Cluster.Histories.{in_mask, log, ended_count, is_idle, entry_in_progress, is_enabled}
+use Rattle.cj_cluster.specs.History.Histories.{log, ended_count, is_idle, entry_in_progress, is_enabled}
+use Rattle.cj_model.specs.Cluster.Masks.{in_mask}
 use Rattle.cj_model.specs.Wire.Replies.{outcome_reply}
-use Rattle.cj_model.specs.Cluster.Answering.{IsTarget, AnswersEntry}
-use Rattle.cj_model.specs.Cluster.Cores.{position_at}
-use Rattle.cj_model.specs.Cluster.Moves.{first_lagging}
-use Rattle.cj_model.specs.Proving.Invariants.{BackendStands}
-use Rattle.cj_model.proofs.Pushed.{enabled-push, ends-last, log-same}
+use Rattle.cj_cluster.specs.History.Answering.{IsTarget, AnswersEntry}
+use Rattle.cj_cluster.specs.Moves.Cores.{position_at}
+use Rattle.cj_cluster.specs.Moves.Moves.{first_lagging}
+use Rattle.cj_cluster.specs.Proving.Invariants.{BackendStands}
+use Rattle.cj_cluster.proofs.Pushed.{enabled-push, ends-last, log-same}
 use Rattle.cj_model.proofs.Masks.{has-zero, some_bit}
-use Rattle.cj_model.proofs.Now.{behind_none}
+use Rattle.cj_cluster.proofs.Now.{behind_none}
 use Rattle.cj_replica.specs.Cells.{CellState}
 use Rattle.cj_core.specs.Worlds.{core_of, world_of}
 use Rattle.cj_core.specs.Effects.{Refuses}

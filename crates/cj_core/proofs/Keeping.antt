@@ -4,27 +4,27 @@ use Rattle.std.proofs.lemmas.Bool.{cases_eq, both_ways, or_parts, leb-false}
 use Rattle.std.proofs.lemmas.List.{get_or-set_same, get_or-set_other, length-set, get_or-map, take-append-le}
 use Rattle.cj_model.specs.declared.request.Entry.{Entry}
 use Rattle.cj_model.specs.declared.answer.Outcome.{Outcome}
-use Rattle.cj_model.specs.declared.event.Event.{Event}
-use Rattle.cj_model.specs.declared.event.Event.TheVariants.{Sched, Ended, ReadFailed, Disabled, Enabled}
-use Rattle.cj_model.specs.declared.moves.OpenSession.{OpenSession}
+use Rattle.cj_cluster.specs.declared.event.Event.{Event}
+use Rattle.cj_cluster.specs.declared.event.Event.TheVariants.{Sched, Ended, ReadFailed, Disabled, Enabled}
+use Rattle.cj_cluster.specs.declared.moves.OpenSession.{OpenSession}
 use Rattle.cj_model.specs.declared.database.Slot.{Slot}
 use Rattle.cj_model.specs.declared.select.Select.{Select}
 use Rattle.cj_model.specs.declared.limits.TheConstants.{SESSION_LIMIT, SESSION_NUMBER_LIMIT, USER_LIMIT}
 use Rattle.cj_model.specs.Cluster.Placements.{Placement, everywhere, part}
-use Rattle.cj_model.specs.Cluster.Histories.{scheduled_entry, is_end_event, log, ended_count, is_idle, entry_in_progress, is_enabled, events_left, database_of, outcome_of}
+use Rattle.cj_cluster.specs.History.Histories.{scheduled_entry, is_end_event, log, ended_count, is_idle, entry_in_progress, is_enabled, events_left, database_of, outcome_of}
 use Rattle.cj_model.specs.Sql.PlainRequests.{request_of}
-use Rattle.cj_model.specs.Cluster.Legality.{IsFitEntry}
-use Rattle.cj_model.specs.Cluster.Answering.{HasServer}
-use Rattle.cj_model.specs.Cluster.Cores.{Core, position_at, session_at, new_session, with_session, is_entry_of}
-use Rattle.cj_model.specs.Cluster.Moves.{first_lagging, is_open, has_no_number, next_entry, with_one_request, answered_at, was_answered, still_reading}
-use Rattle.cj_model.specs.Proving.Invariants.{CoreInvariant, IsLoneEntry, HoldsPart}
-use Rattle.cj_model.specs.Cluster.Runs.{AreBetween}
-use Rattle.cj_model.proofs.Pushed.{enabled-push, log-sched, log-same, log_faults-same, done-same, opened-same, opened-free, opened-ended, free-same, free-ended}
-use Rattle.cj_model.proofs.Sessions.{found_open, without}
-use Rattle.cj_model.proofs.Effects.{SessionsAre, KeepsSession, sessions_are, are_opened, are_closed, are_with, are_kept, are_sched, sound_sessions, sound_sched, sound_ended, sound_read_failed, sound_disabled, sound_enabled, stands_there, is_there}
-use Rattle.cj_model.proofs.Soundness.{session_sound, keeps_counted, keeps_answered, keeps_was_answered, keeps_reached, keeps_still_reading}
-use Rattle.cj_model.proofs.Now.{behind_none}
-use Rattle.cj_model.proofs.Standing.{stand_event, stand_opened, stand_closed, stand_answered, stand_counted, stand_reading, stand_sched, stand_ended}
+use Rattle.cj_cluster.specs.History.Legality.{IsFitEntry}
+use Rattle.cj_cluster.specs.History.Answering.{HasServer}
+use Rattle.cj_cluster.specs.Moves.Cores.{Core, position_at, session_at, new_session, with_session, is_entry_of}
+use Rattle.cj_cluster.specs.Moves.Moves.{first_lagging, is_open, has_no_number, next_entry, with_one_request, answered_at, was_answered, still_reading}
+use Rattle.cj_cluster.specs.Proving.Invariants.{CoreInvariant, IsLoneEntry, HoldsPart}
+use Rattle.cj_cluster.specs.Moves.Runs.{AreBetween}
+use Rattle.cj_cluster.proofs.Pushed.{enabled-push, log-sched, log-same, log_faults-same, done-same, opened-same, opened-free, opened-ended, free-same, free-ended}
+use Rattle.cj_cluster.proofs.Sessions.{found_open, without}
+use Rattle.cj_cluster.proofs.Effects.{SessionsAre, KeepsSession, sessions_are, are_opened, are_closed, are_with, are_kept, are_sched, sound_sessions, sound_sched, sound_ended, sound_read_failed, sound_disabled, sound_enabled, stands_there, is_there}
+use Rattle.cj_cluster.proofs.Soundness.{session_sound, keeps_counted, keeps_answered, keeps_was_answered, keeps_reached, keeps_still_reading}
+use Rattle.cj_cluster.proofs.Now.{behind_none}
+use Rattle.cj_cluster.proofs.Standing.{stand_event, stand_opened, stand_closed, stand_answered, stand_counted, stand_reading, stand_sched, stand_ended}
 use Rattle.cj_replica.specs.Cells.{CellState}
 use Rattle.cj_core.specs.Worlds.{core_of, world_of, IsCell}
 use Rattle.cj_core.specs.Effects.{HaveFailed}

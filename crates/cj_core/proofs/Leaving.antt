@@ -4,10 +4,10 @@ use Rattle.std.proofs.lemmas.List.{reverse-reverse, length-reverse, length-map, 
 use Rattle.std.proofs.lemmas.Option.{slice_get-get_or}
 use Rattle.cj_model.specs.declared.database.Slot.{Slot}
 use Rattle.cj_model.specs.Cluster.Placements.{everywhere, part}
-use Rattle.cj_model.specs.Cluster.Histories.{log, ended_count, is_idle, is_enabled, database_of, database_after}
-use Rattle.cj_model.specs.Cluster.Cores.{position_at}
-use Rattle.cj_model.specs.Proving.Invariants.{BackendStands, HoldsPart}
-use Rattle.cj_model.proofs.Effects.{is_there, no_masks}
+use Rattle.cj_cluster.specs.History.Histories.{log, ended_count, is_idle, is_enabled, database_of, database_after}
+use Rattle.cj_cluster.specs.Moves.Cores.{position_at}
+use Rattle.cj_cluster.specs.Proving.Invariants.{BackendStands, HoldsPart}
+use Rattle.cj_cluster.proofs.Effects.{is_there, no_masks}
 use Rattle.cj_replica.specs.Cells.{CellState}
 use Rattle.cj_core.specs.Worlds.{WorldState, IsWorld, IsCell}
 use Rattle.cj_core.specs.Starts.{AreHolding, AreCurrent}

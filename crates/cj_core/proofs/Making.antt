@@ -3,16 +3,16 @@ use Rattle.std.proofs.Common.{◌≡◌, ℕ, ◌+◌, ◌<◌, ◌≤◌, ◌^�
 use mathlib.Core.List.{IsPrefix}
 use Rattle.std.proofs.lemmas.List.{take_more, map_push, length-take-le}
 use Rattle.std.proofs.lemmas.List.Elements.{All-get_or, All-take}
-use Rattle.cj_model.specs.declared.moves.Move.{Move}
-use Rattle.cj_model.specs.declared.moves.Move.TheVariants.{Open, Close, Schedule, Apply, End, Read, Arm, Disable, Replay, Enable}
-use Rattle.cj_model.specs.declared.moves.Made.{Made}
+use Rattle.cj_cluster.specs.declared.moves.Move.{Move}
+use Rattle.cj_cluster.specs.declared.moves.Move.TheVariants.{Open, Close, Schedule, Apply, End, Read, Arm, Disable, Replay, Enable}
+use Rattle.cj_cluster.specs.declared.moves.Made.{Made}
 use Rattle.cj_model.specs.Cluster.Placements.{Placement}
-use Rattle.cj_model.specs.Cluster.Legality.{IsLegal}
-use Rattle.cj_model.specs.Cluster.Cores.{Core, session_at}
-use Rattle.cj_model.specs.Cluster.Moves.{MoveResult, MovesTo}
-use Rattle.cj_model.specs.Cluster.Runs.{RunsMoves, IsMoveOfCluster, CanCountRequests}
-use Rattle.cj_model.proofs.Growth.{Grows, can_count, runs_push, runs_grow, runs_sound}
-use Rattle.cj_model.proofs.Chains.{run_chained}
+use Rattle.cj_cluster.specs.History.Legality.{IsLegal}
+use Rattle.cj_cluster.specs.Moves.Cores.{Core, session_at}
+use Rattle.cj_cluster.specs.Moves.Moves.{MoveResult, MovesTo}
+use Rattle.cj_cluster.specs.Moves.Runs.{RunsMoves, IsMoveOfCluster, CanCountRequests}
+use Rattle.cj_cluster.proofs.Growth.{Grows, can_count, runs_push, runs_grow, runs_sound}
+use Rattle.cj_cluster.proofs.Chains.{run_chained}
 use Rattle.cj_core.specs.Worlds.{WorldState, IsWorld}
 use Rattle.cj_core.specs.Counting.{HasCauses, faults_of, faults_after, blamed}
 use Rattle.cj_core.specs.Steps.{CanAsk, IsMet}

@@ -4,14 +4,14 @@ use Rattle.std.specs.Prelude.{IfErr, ◌↔◌}
 use Rattle.cj_model.specs.declared.request.Act.{Act}
 use Rattle.cj_model.specs.declared.request.Act.TheVariants as act
 use Rattle.cj_model.specs.declared.request.Entry.{Entry}
-use Rattle.cj_model.specs.declared.event.Event.{Event}
-use Rattle.cj_model.specs.declared.event.Event.TheVariants.{Sched}
-use Rattle.cj_model.specs.declared.moves.OpenSession.{OpenSession}
+use Rattle.cj_cluster.specs.declared.event.Event.{Event}
+use Rattle.cj_cluster.specs.declared.event.Event.TheVariants.{Sched}
+use Rattle.cj_cluster.specs.declared.moves.OpenSession.{OpenSession}
 use Rattle.cj_model.specs.Sql.PlainRequests.{request_of}
 use Rattle.cj_model.specs.Cluster.Placements.{needs_backend}
-use Rattle.cj_model.specs.Cluster.Histories.{log, is_enabled, events_left}
-use Rattle.cj_model.specs.Proving.Invariants.{IsLoneEntry}
-use Rattle.cj_model.proofs.Pushed.{log-sched}
+use Rattle.cj_cluster.specs.History.Histories.{log, is_enabled, events_left}
+use Rattle.cj_cluster.specs.Proving.Invariants.{IsLoneEntry}
+use Rattle.cj_cluster.proofs.Pushed.{log-sched}
 use Rattle.cj_book.specs.declared.error.BookError.{BookError}
 use Rattle.cj_book.specs.declared.error.BookError.TheVariants.{InProgress, NoBackend, HistoryFull, NoMemory}
 use Rattle.cj_book.specs.Books.{BookState, with_event, IsInProgress, HasNoBackend, LacksRoom, HasNoRoomForOne, CanSchedule, IsWant}

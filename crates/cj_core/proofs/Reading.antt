@@ -7,14 +7,14 @@ use Rattle.cj_model.specs.declared.request.Request.TheVariants as request
 use Rattle.cj_model.specs.declared.answer.Asked.{Asked}
 use Rattle.cj_model.specs.declared.answer.Asked.TheVariants as asked
 use Rattle.cj_model.specs.declared.codes.TheConstants.{READ_FAULT, HISTORY_FULL}
-use Rattle.cj_model.specs.declared.moves.Moved.{Moved}
-use Rattle.cj_model.specs.declared.moves.Moved.TheVariants as moved
-use Rattle.cj_model.specs.declared.moves.Reason.TheVariants as reason
-use Rattle.cj_model.specs.declared.moves.MoveError.TheVariants.{NotNow}
-use Rattle.cj_model.specs.declared.moves.OpenRead.{OpenRead}
-use Rattle.cj_model.specs.Cluster.Answering.{CanServe}
-use Rattle.cj_model.specs.Cluster.Cores.{Core, position_at, session_at}
-use Rattle.cj_model.specs.Cluster.Moves.{MoveResult, position_or_zero, IsServingMask, ReadIsAnswered, ReadCameTooEarly, HasNoOtherRead, AttemptsRead, AttemptsReadOrWaits, with_read, answered_at, was_answered, still_reading, tried_of, tried_with}
+use Rattle.cj_cluster.specs.declared.moves.Moved.{Moved}
+use Rattle.cj_cluster.specs.declared.moves.Moved.TheVariants as moved
+use Rattle.cj_cluster.specs.declared.moves.Reason.TheVariants as reason
+use Rattle.cj_cluster.specs.declared.moves.MoveError.TheVariants.{NotNow}
+use Rattle.cj_cluster.specs.declared.moves.OpenRead.{OpenRead}
+use Rattle.cj_cluster.specs.History.Answering.{CanServe}
+use Rattle.cj_cluster.specs.Moves.Cores.{Core, position_at, session_at}
+use Rattle.cj_cluster.specs.Moves.Moves.{MoveResult, position_or_zero, IsServingMask, ReadIsAnswered, ReadCameTooEarly, HasNoOtherRead, AttemptsRead, AttemptsReadOrWaits, with_read, answered_at, was_answered, still_reading, tried_of, tried_with}
 use Rattle.cj_model.proofs.Masks.{some_bit}
 use Rattle.cj_model.specs.Database.Outcomes.{IsAsked}
 use Rattle.cj_core.specs.declared.cells.AskError.TheVariants as errors

@@ -6,17 +6,18 @@ use Rattle.std.proofs.lemmas.List.Elements.{All-nil, All-get_or}
 use Rattle.std.proofs.lemmas.List.FromFn.{map-range_with_len_more, length-map-range_with_len}
 use Rattle.cj_model.specs.declared.database.Slot.{Slot}
 use Rattle.cj_model.specs.declared.request.Entry.{Entry}
-use Rattle.cj_model.specs.declared.event.Event.{Event}
-use Rattle.cj_model.specs.declared.event.Event.TheVariants.{Enabled}
+use Rattle.cj_cluster.specs.declared.event.Event.{Event}
+use Rattle.cj_cluster.specs.declared.event.Event.TheVariants.{Enabled}
 use Rattle.cj_model.specs.declared.limits.TheConstants.{BACKEND_LIMIT}
 use Rattle.cj_model.specs.Cluster.Placements.{everywhere}
-use Rattle.cj_model.specs.Cluster.Histories.{in_mask, log, ended_count, is_idle, is_enabled, events_left}
-use Rattle.cj_model.specs.Cluster.Cores.{Core, position_at}
-use Rattle.cj_model.specs.Cluster.Moves.{happened}
-use Rattle.cj_model.specs.Proving.Invariants.{CoreInvariant, BackendStands, HoldsPart}
+use Rattle.cj_cluster.specs.History.Histories.{log, ended_count, is_idle, is_enabled, events_left}
+use Rattle.cj_model.specs.Cluster.Masks.{in_mask}
+use Rattle.cj_cluster.specs.Moves.Cores.{Core, position_at}
+use Rattle.cj_cluster.specs.Moves.Moves.{happened}
+use Rattle.cj_cluster.specs.Proving.Invariants.{CoreInvariant, BackendStands, HoldsPart}
 use Rattle.cj_model.proofs.Masks.{has-zero}
-use Rattle.cj_model.proofs.Pushed.{enabled-push, log-same, done-same}
-use Rattle.cj_model.proofs.Standing.{stand_none}
+use Rattle.cj_cluster.proofs.Pushed.{enabled-push, log-same, done-same}
+use Rattle.cj_cluster.proofs.Standing.{stand_none}
 use Rattle.cj_book.specs.declared.error.BookError.{BookError}
 use Rattle.cj_book.specs.declared.error.BookError.TheVariants.{HistoryFull}
 use Rattle.cj_replica.specs.Cells.{CellState}

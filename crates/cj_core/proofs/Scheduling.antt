@@ -5,19 +5,20 @@ use Rattle.cj_model.specs.declared.request.Act.TheVariants as act
 use Rattle.cj_model.specs.declared.request.Request.{Request}
 use Rattle.cj_model.specs.declared.request.Entry.{Entry}
 use Rattle.cj_model.specs.declared.codes.TheConstants.{NO_BACKEND, HISTORY_FULL}
-use Rattle.cj_model.specs.declared.moves.Moved.TheVariants as moved
-use Rattle.cj_model.specs.declared.moves.OpenSession.{OpenSession}
+use Rattle.cj_cluster.specs.declared.moves.Moved.TheVariants as moved
+use Rattle.cj_cluster.specs.declared.moves.OpenSession.{OpenSession}
 use Rattle.cj_model.specs.declared.limits.TheConstants.{REQUEST_LIMIT}
 use Rattle.cj_model.specs.Database.Inserts.{refusal_of_code}
 use Rattle.cj_model.specs.Sql.PlainRequests.{act_of, request_of}
-use Rattle.cj_model.specs.Cluster.Histories.{log}
-use Rattle.cj_model.specs.Cluster.Legality.{IsWritten, IsFitEntry, FitsTx}
-use Rattle.cj_model.specs.Cluster.Answering.{HasServer, HasNoServer}
-use Rattle.cj_model.specs.Cluster.Cores.{Core, session_at, find_session}
-use Rattle.cj_model.specs.Cluster.Moves.{MoveResult, is_open, forbidden_by, tx_of_act, open_tx, next_entry, SchedulesAct, SchedulesAnyAct, SchedulesRequest, scheduled_as, with_request_counted}
-use Rattle.cj_model.specs.Proving.Invariants.{CoreInvariant, IsLoneEntry}
-use Rattle.cj_model.proofs.Sessions.{session_at-is}
-use Rattle.cj_model.proofs.Soundness.{entry_fits, no_tx, request_of-act}
+use Rattle.cj_cluster.specs.History.Histories.{log}
+use Rattle.cj_cluster.specs.History.Legality.{IsFitEntry, FitsTx}
+use Rattle.cj_model.specs.Sql.WrittenRequests.{IsWritten}
+use Rattle.cj_cluster.specs.History.Answering.{HasServer, HasNoServer}
+use Rattle.cj_cluster.specs.Moves.Cores.{Core, session_at, find_session}
+use Rattle.cj_cluster.specs.Moves.Moves.{MoveResult, is_open, forbidden_by, tx_of_act, open_tx, next_entry, SchedulesAct, SchedulesAnyAct, SchedulesRequest, scheduled_as, with_request_counted}
+use Rattle.cj_cluster.specs.Proving.Invariants.{CoreInvariant, IsLoneEntry}
+use Rattle.cj_cluster.proofs.Sessions.{session_at-is}
+use Rattle.cj_cluster.proofs.Soundness.{entry_fits, no_tx, request_of-act}
 use Rattle.cj_book.specs.declared.error.BookError.TheVariants.{NoBackend, HistoryFull}
 use Rattle.cj_core.specs.Effects.{IsChange, SchedulesAs}
 

@@ -6,8 +6,9 @@ use Rattle.std.proofs.lemmas.Nat.{and_le_l}
 use Rattle.std.proofs.lemmas.Bool.{eqb-true, eq-eqb, both_ways, and_cases, not-false}
 use Rattle.cj_model.specs.declared.request.Request.{Request}
 use Rattle.cj_model.specs.Cluster.Placements.{Placement, everywhere, hosts_all, needs}
-use Rattle.cj_model.specs.Cluster.Histories.{in_mask, is_enabled}
-use Rattle.cj_model.specs.Cluster.Answering.{CanServe}
+use Rattle.cj_cluster.specs.History.Histories.{is_enabled}
+use Rattle.cj_model.specs.Cluster.Masks.{in_mask}
+use Rattle.cj_cluster.specs.History.Answering.{CanServe}
 use Rattle.cj_model.proofs.Masks.{has-zero, no_bit}
 use Rattle.cj_model.proofs.MaskBits.{has_without}
 use Rattle.cj_core.specs.Worlds.{WorldState, IsWorld}

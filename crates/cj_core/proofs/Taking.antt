@@ -7,21 +7,21 @@ use Rattle.cj_model.specs.declared.request.Act.{Act}
 use Rattle.cj_model.specs.declared.request.Act.TheVariants as act
 use Rattle.cj_model.specs.declared.request.Entry.{Entry}
 use Rattle.cj_model.specs.declared.answer.Outcome.{Outcome}
-use Rattle.cj_model.specs.declared.event.Event.{Event}
-use Rattle.cj_model.specs.declared.moves.Did.{Did}
-use Rattle.cj_model.specs.declared.moves.Did.TheVariants as did
-use Rattle.cj_model.specs.declared.moves.Moved.TheVariants as moved
-use Rattle.cj_model.specs.declared.moves.OpenSession.{OpenSession}
+use Rattle.cj_cluster.specs.declared.event.Event.{Event}
+use Rattle.cj_cluster.specs.declared.moves.Did.{Did}
+use Rattle.cj_cluster.specs.declared.moves.Did.TheVariants as did
+use Rattle.cj_cluster.specs.declared.moves.Moved.TheVariants as moved
+use Rattle.cj_cluster.specs.declared.moves.OpenSession.{OpenSession}
 use Rattle.cj_model.specs.Cluster.Placements.{everywhere, hosts, concerns}
 use Rattle.cj_model.specs.Database.Steps.{table_written}
-use Rattle.cj_model.specs.Cluster.Histories.{log, ended_count, is_idle, is_enabled, outcome_of}
-use Rattle.cj_model.specs.Cluster.Cores.{Core, position_at}
+use Rattle.cj_cluster.specs.History.Histories.{log, ended_count, is_idle, is_enabled, outcome_of}
+use Rattle.cj_cluster.specs.Moves.Cores.{Core, position_at}
 use Rattle.cj_model.specs.Database.Outcomes.{IsOutcome}
-use Rattle.cj_model.specs.Cluster.Moves.{position_or_zero, TakesEntry, DoesWithEntry, Applies, Replays, failed_after, starved_after}
-use Rattle.cj_model.specs.Proving.Invariants.{CoreInvariant, IsLoneEntry}
-use Rattle.cj_model.proofs.Effects.{sound_applied, sound_replayed, stands_there, is_there}
+use Rattle.cj_cluster.specs.Moves.Moves.{position_or_zero, TakesEntry, DoesWithEntry, Applies, Replays, failed_after, starved_after}
+use Rattle.cj_cluster.specs.Proving.Invariants.{CoreInvariant, IsLoneEntry}
+use Rattle.cj_cluster.proofs.Effects.{sound_applied, sound_replayed, stands_there, is_there}
 use Rattle.cj_replica.specs.Cells.{CellState}
-use Rattle.cj_model.proofs.Standing.{stand_rest}
+use Rattle.cj_cluster.proofs.Standing.{stand_rest}
 use Rattle.cj_core.specs.Worlds.{core_of, world_of, IsCell, IsWorld}
 use Rattle.cj_core.specs.Taking.{TookEntry, first_outcome_after}
 use Rattle.cj_core.specs.Armings.{armings_of}

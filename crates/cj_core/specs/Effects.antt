@@ -9,21 +9,22 @@ use Rattle.cj_model.specs.declared.answer.Refusal.{Refusal}
 use Rattle.cj_model.specs.declared.answer.Reply.{Reply}
 use Rattle.cj_model.specs.declared.answer.Asked.{Asked}
 use Rattle.cj_model.specs.declared.answer.Asked.TheVariants as asked
-use Rattle.cj_model.specs.declared.moves.Moved.{Moved}
-use Rattle.cj_model.specs.declared.moves.Moved.TheVariants as moved
+use Rattle.cj_cluster.specs.declared.moves.Moved.{Moved}
+use Rattle.cj_cluster.specs.declared.moves.Moved.TheVariants as moved
 use Rattle.cj_model.specs.declared.select.Select.{Select}
-use Rattle.cj_model.specs.declared.event.Event.TheVariants as event
+use Rattle.cj_cluster.specs.declared.event.Event.TheVariants as event
 use Rattle.cj_model.specs.declared.codes.TheConstants.{UNFINISHED, READ_FAULT, STARVED_ALL}
-use Rattle.cj_model.specs.declared.moves.OpenRead.{OpenRead}
+use Rattle.cj_cluster.specs.declared.moves.OpenRead.{OpenRead}
 use Rattle.cj_model.specs.Database.Outcomes.{IsAsked}
 use Rattle.cj_model.specs.Sql.PlainRequests.{request_of}
 use Rattle.cj_model.specs.Database.Queries.{ask}
-use Rattle.cj_model.specs.Cluster.Histories.{in_mask, log, ended_count, is_idle, entry_in_progress, events_left, database_after}
-use Rattle.cj_model.specs.Cluster.Answering.{HasServer, HasNoServer, AnswersEntry}
-use Rattle.cj_model.specs.Cluster.Cores.{Core, position_at, session_at}
-use Rattle.cj_model.specs.Cluster.Moves.{last_number, open_tx, with_end, happened, IsFarEnough, read_number, with_read, was_answered, still_reading}
-use Rattle.cj_model.specs.Cluster.Turns.{SessionView}
-use Rattle.cj_model.specs.Cluster.Runs.{HasFailedSince, IsBetweenReplies}
+use Rattle.cj_cluster.specs.History.Histories.{log, ended_count, is_idle, entry_in_progress, events_left, database_after}
+use Rattle.cj_model.specs.Cluster.Masks.{in_mask}
+use Rattle.cj_cluster.specs.History.Answering.{HasServer, HasNoServer, AnswersEntry}
+use Rattle.cj_cluster.specs.Moves.Cores.{Core, position_at, session_at}
+use Rattle.cj_cluster.specs.Moves.Moves.{last_number, open_tx, with_end, happened, IsFarEnough, read_number, with_read, was_answered, still_reading}
+use Rattle.cj_cluster.specs.History.Turns.{SessionView}
+use Rattle.cj_cluster.specs.Moves.Runs.{HasFailedSince, IsBetweenReplies}
 use Rattle.cj_book.specs.declared.error.BookError.{BookError}
 use Rattle.cj_book.specs.declared.error.BookError.TheVariants.{InProgress, NoBackend, HistoryFull, NoMemory}
 use Rattle.cj_book.specs.Books.{BookState, with_event, HasNoRoomForOne}

@@ -3,9 +3,9 @@ use Rattle.std.specs.Prelude.{◌≡◌, ℕ, Bool, true, false, length, IsSome}
 use Rattle.std.specs.declared.option.Option.{Option}
 use Rattle.std.specs.declared.option.Option.TheVariants.{Some}
 use Rattle.cj_model.specs.declared.answer.Outcome.{Outcome}
-use Rattle.cj_model.specs.Cluster.Histories.{log, ended_count, is_idle, is_enabled, outcome_of}
+use Rattle.cj_cluster.specs.History.Histories.{log, ended_count, is_idle, is_enabled, outcome_of}
 use Rattle.cj_model.specs.Database.Outcomes.{IsOutcome}
-use Rattle.cj_model.specs.Cluster.Cores.{position_at}
+use Rattle.cj_cluster.specs.Moves.Cores.{position_at}
 use Rattle.cj_core.specs.Worlds.{WorldState, IsWorld}
 
 -- `first_outcome` is what the open entry came to, from the first cell that did it

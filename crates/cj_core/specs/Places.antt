@@ -1,8 +1,8 @@
 -- Places of open sessions.
 use Rattle.std.specs.Prelude.{◌≡◌, ℕ, ◌<◌, ◌^◌, List, length, slice_get, IfSome}
-use Rattle.cj_model.specs.declared.moves.OpenSession.{OpenSession}
+use Rattle.cj_cluster.specs.declared.moves.OpenSession.{OpenSession}
 use Rattle.cj_model.specs.declared.limits.TheConstants.{REQUEST_LIMIT}
-use Rattle.cj_model.specs.Cluster.Cores.{find_session}
+use Rattle.cj_cluster.specs.Moves.Cores.{find_session}
 
 -- the session of this number stands at this place
 pub record IsPlaceOf (sessions : List OpenSession) (number place : ℕ) : Type 0 where

@@ -1,12 +1,12 @@
 -- Lists of moves: what each came to, and how far a list came.
 use Rattle.std.specs.Prelude.{◌≡◌, ℕ, ◌≤◌, Bool, List, [], ◌∷◌, length, take, Ok, Err}
-use Rattle.cj_model.specs.declared.moves.Move.{Move}
-use Rattle.cj_model.specs.declared.moves.Made.{Made}
-use Rattle.cj_model.specs.declared.moves.Made.TheVariants as made
-use Rattle.cj_model.specs.declared.moves.MoveError.TheVariants.{NotNow}
-use Rattle.cj_model.specs.Cluster.Moves.{MoveResult}
-use Rattle.cj_model.specs.Cluster.Turns.{SessionView}
-use Rattle.cj_model.specs.Cluster.Runs.{RunsMoves, IsBetweenReplies, IsChained}
+use Rattle.cj_cluster.specs.declared.moves.Move.{Move}
+use Rattle.cj_cluster.specs.declared.moves.Made.{Made}
+use Rattle.cj_cluster.specs.declared.moves.Made.TheVariants as made
+use Rattle.cj_cluster.specs.declared.moves.MoveError.TheVariants.{NotNow}
+use Rattle.cj_cluster.specs.Moves.Moves.{MoveResult}
+use Rattle.cj_cluster.specs.History.Turns.{SessionView}
+use Rattle.cj_cluster.specs.Moves.Runs.{RunsMoves, IsBetweenReplies, IsChained}
 use Rattle.cj_core.specs.Worlds.{WorldState}
 use Rattle.cj_core.specs.Counting.{faults_of, faults_after, blamed}
 

@@ -4,11 +4,11 @@ use Rattle.std.specs.declared.option.Option.{Option}
 use Rattle.std.specs.declared.option.Option.TheVariants.{Some}
 use Rattle.std.specs.List.{range_with_len}
 use Rattle.cj_model.specs.declared.database.Slot.{Slot}
-use Rattle.cj_model.specs.declared.event.Event.{Event}
-use Rattle.cj_model.specs.declared.event.Event.TheVariants.{Enabled}
+use Rattle.cj_cluster.specs.declared.event.Event.{Event}
+use Rattle.cj_cluster.specs.declared.event.Event.TheVariants.{Enabled}
 use Rattle.cj_model.specs.Cluster.Placements.{everywhere, part}
-use Rattle.cj_model.specs.Cluster.Histories.{log, is_idle, is_enabled, database_of, database_after}
-use Rattle.cj_model.specs.Cluster.Cores.{Core, position_at}
+use Rattle.cj_cluster.specs.History.Histories.{log, is_idle, is_enabled, database_of, database_after}
+use Rattle.cj_cluster.specs.Moves.Cores.{Core, position_at}
 use Rattle.cj_replica.specs.Cells.{CellState}
 
 -- n backends are enabled, in the order of their numbers

@@ -1,10 +1,10 @@
 -- When a move may be asked for.
 use Rattle.std.specs.Prelude.{◌<◌, ◌^◌}
-use Rattle.cj_model.specs.declared.moves.Move.{Move}
-use Rattle.cj_model.specs.declared.moves.Move.TheVariants.{Open, Close, Schedule, Apply, End, Read, Arm, Disable, Replay, Enable}
+use Rattle.cj_cluster.specs.declared.moves.Move.{Move}
+use Rattle.cj_cluster.specs.declared.moves.Move.TheVariants.{Open, Close, Schedule, Apply, End, Read, Arm, Disable, Replay, Enable}
 use Rattle.cj_model.specs.declared.limits.TheConstants.{REQUEST_LIMIT}
-use Rattle.cj_model.specs.Cluster.Cores.{Core, session_at}
-use Rattle.cj_model.specs.Cluster.Runs.{IsMoveOfCluster}
+use Rattle.cj_cluster.specs.Moves.Cores.{Core, session_at}
+use Rattle.cj_cluster.specs.Moves.Runs.{IsMoveOfCluster}
 
 -- the session of the move can make one request more
 abbrev pub CanAsk : Core → Move → Type 0

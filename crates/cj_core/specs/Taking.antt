@@ -7,16 +7,16 @@ use Rattle.std.specs.declared.option.Option.TheVariants.{Some}
 use Rattle.cj_outside.specs.Causes.{next}
 use Rattle.cj_model.specs.declared.answer.Outcome.{Outcome}
 use Rattle.cj_model.specs.declared.request.Entry.{Entry}
-use Rattle.cj_model.specs.declared.event.Event.{Event}
-use Rattle.cj_model.specs.declared.moves.Did.{Did}
-use Rattle.cj_model.specs.declared.moves.Did.TheVariants as did
-use Rattle.cj_model.specs.declared.moves.OpenSession.{OpenSession}
+use Rattle.cj_cluster.specs.declared.event.Event.{Event}
+use Rattle.cj_cluster.specs.declared.moves.Did.{Did}
+use Rattle.cj_cluster.specs.declared.moves.Did.TheVariants as did
+use Rattle.cj_cluster.specs.declared.moves.OpenSession.{OpenSession}
 use Rattle.cj_model.specs.declared.limits.TheConstants.{EVENT_LIMIT}
-use Rattle.cj_model.specs.Cluster.Histories.{log}
+use Rattle.cj_cluster.specs.History.Histories.{log}
 use Rattle.cj_model.specs.Sql.PlainRequests.{request_of}
-use Rattle.cj_model.specs.Cluster.Legality.{IsWritten}
-use Rattle.cj_model.specs.Cluster.Moves.{TakesEntry}
-use Rattle.cj_model.specs.Proving.Invariants.{IsLoneEntry}
+use Rattle.cj_model.specs.Sql.WrittenRequests.{IsWritten}
+use Rattle.cj_cluster.specs.Moves.Moves.{TakesEntry}
+use Rattle.cj_cluster.specs.Proving.Invariants.{IsLoneEntry}
 use Rattle.cj_replica.specs.declared.cell.Caught.{Caught}
 use Rattle.cj_replica.specs.declared.cell.Caught.TheVariants as caught
 use Rattle.cj_replica.specs.declared.cell.CellError.{CellError}

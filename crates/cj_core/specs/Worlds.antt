@@ -1,14 +1,14 @@
 -- What contracts see of a world, and what holds of every one.
 use Rattle.std.specs.Prelude.{◌≡◌, ℕ, ◌<◌, ◌≤◌, Bool, List, length, map, slice_index_or}
 use Rattle.cj_model.specs.declared.request.Entry.{Entry}
-use Rattle.cj_model.specs.declared.event.Event.{Event}
-use Rattle.cj_model.specs.declared.moves.OpenSession.{OpenSession}
+use Rattle.cj_cluster.specs.declared.event.Event.{Event}
+use Rattle.cj_cluster.specs.declared.moves.OpenSession.{OpenSession}
 use Rattle.cj_model.specs.declared.limits.TheConstants.{BACKEND_LIMIT}
 use Rattle.cj_model.specs.Cluster.Placements.{everywhere}
-use Rattle.cj_model.specs.Cluster.Histories.{log}
-use Rattle.cj_model.specs.Cluster.Cores.{Core}
-use Rattle.cj_model.specs.Proving.Invariants.{CoreInvariant, HoldsPart}
-use Rattle.cj_model.specs.Cluster.Runs.{AreBetween}
+use Rattle.cj_cluster.specs.History.Histories.{log}
+use Rattle.cj_cluster.specs.Moves.Cores.{Core}
+use Rattle.cj_cluster.specs.Proving.Invariants.{CoreInvariant, HoldsPart}
+use Rattle.cj_cluster.specs.Moves.Runs.{AreBetween}
 use Rattle.cj_replica.specs.Cells.{CellState}
 
 -- the state that moves change, and the cells of the backends by their numbers

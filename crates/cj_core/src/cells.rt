@@ -4,11 +4,12 @@ ghost use Rattle.std.specs.Prelude.{◌≡◌, ◌↔◌, ◌<◌, IsTrue, true}
 ghost use Rattle.cj_core.specs.Taking.{CanTake, TookEntry};
 ghost use Rattle.cj_core.specs.Taking as taking;
 ghost use Rattle.cj_core.specs.Effects.{Covers, Notes};
-ghost use Rattle.cj_model.specs.Cluster.Moves as moves;
+ghost use Rattle.cj_cluster.specs.Moves.Moves as moves;
 
 use cj_backend::Backend;
 use cj_book::{Book, BookError};
-use cj_model::{Did, NoMemory, Outcome, Text, with_bit};
+use cj_cluster::Did;
+use cj_model::{NoMemory, Outcome, Text, with_bit};
 use cj_replica::{Caught, Cell, CellError, CellReadError};
 use thiserror::Error;
 

@@ -3,12 +3,12 @@
 ghost use Rattle.std.specs.Prelude.{◌≡◌, ◌<◌, ◌≤◌, ◌^◌, length, IsErrOf, Some, None, Ok, false};
 ghost use Rattle.cj_model.specs.declared.request.Request.TheVariants as requests;
 ghost use Rattle.cj_model.specs.Sql.PlainRequests as plain;
-ghost use Rattle.cj_model.specs.Cluster.Legality.{IsWritten};
-ghost use Rattle.cj_model.specs.Cluster.Cores.{session_at};
-ghost use Rattle.cj_model.specs.Cluster.Moves as moves;
-ghost use Rattle.cj_model.specs.Cluster.Moves.{OpensSession, ClosesSession, SchedulesRequest, Applies, EndsEntry, AttemptsRead, AttemptsReadOrWaits, Arms, Disables, Replays, Enables, MovesTo, not_now, with_read, answered_at, was_answered, still_reading, IsFarEnough};
-ghost use Rattle.cj_model.specs.Cluster.Answering.{CanServe};
-ghost use Rattle.cj_model.specs.Cluster.Runs.{IsOutsideTransaction};
+ghost use Rattle.cj_model.specs.Sql.WrittenRequests.{IsWritten};
+ghost use Rattle.cj_cluster.specs.Moves.Cores.{session_at};
+ghost use Rattle.cj_cluster.specs.Moves.Moves as moves;
+ghost use Rattle.cj_cluster.specs.Moves.Moves.{OpensSession, ClosesSession, SchedulesRequest, Applies, EndsEntry, AttemptsRead, AttemptsReadOrWaits, Arms, Disables, Replays, Enables, MovesTo, not_now, with_read, answered_at, was_answered, still_reading, IsFarEnough};
+ghost use Rattle.cj_cluster.specs.History.Answering.{CanServe};
+ghost use Rattle.cj_cluster.specs.Moves.Runs.{IsOutsideTransaction};
 ghost use Rattle.cj_replica.specs.Cells.{CellState};
 ghost use Rattle.cj_core.specs.Armings.{ArmsCell, HasArmings, armed_at, armings_of};
 ghost use Rattle.cj_core.specs.Counting.{HasCauses, faults_of};
@@ -19,9 +19,10 @@ use crate::cells::{AskError, covers};
 use crate::world::World;
 use cj_backend::Backend;
 use cj_book::BookError;
+use cj_cluster::{Move, MoveError, Moved, Reason, Why};
 use cj_model::{
-    Act, Asked, HISTORY_FULL, Move, MoveError, Moved, NO_BACKEND, READ_FAULT, REQUEST_LIMIT,
-    Reason, Refusal, Request, Select, Text, USER_LIMIT, Why,
+    Act, Asked, HISTORY_FULL, NO_BACKEND, READ_FAULT, REQUEST_LIMIT, Refusal, Request, Select,
+    Text, USER_LIMIT,
 };
 
 /// The act of a change outside transactions.

@@ -3,11 +3,11 @@
 ghost use Rattle.std.specs.Prelude.{◌≡◌, ◌<◌, ℕ, Some};
 ghost use Rattle.cj_model.specs.declared.request.Request.{Request};
 ghost use Rattle.cj_model.specs.declared.select.Select.{Select};
-ghost use Rattle.cj_model.specs.Cluster.Moves as moves;
+ghost use Rattle.cj_cluster.specs.Moves.Moves as moves;
 
 use crate::world::World;
 use cj_backend::Backend;
-use cj_model::{Move, Reason, Why};
+use cj_cluster::{Move, Reason, Why};
 
 fn why(reason: Reason, value: u64) -> Option<Why>
     ensures { result ≡ Some (record { reason = reason; value = value }) }

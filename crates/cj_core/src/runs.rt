@@ -2,9 +2,9 @@
 
 ghost use Rattle.std.specs.Prelude.{◌≡◌, All, IfOk, MatchResult, OnErr, map, length};
 ghost use mathlib.Core.List.{IsPrefix};
-ghost use Rattle.cj_model.specs.Cluster.Legality.{IsLegal};
-ghost use Rattle.cj_model.specs.Cluster.Moves.{MovesTo};
-ghost use Rattle.cj_model.specs.Cluster.Runs.{IsMoveOfCluster, CanCountRequests};
+ghost use Rattle.cj_cluster.specs.History.Legality.{IsLegal};
+ghost use Rattle.cj_cluster.specs.Moves.Moves.{MovesTo};
+ghost use Rattle.cj_cluster.specs.Moves.Runs.{IsMoveOfCluster, CanCountRequests};
 ghost use Rattle.cj_core.specs.Armings.{HasArmings};
 ghost use Rattle.cj_core.specs.Counting.{HasCauses};
 ghost use Rattle.cj_core.specs.Played.{given_of, HasRun, HasRunInPart};
@@ -12,7 +12,8 @@ ghost use Rattle.cj_core.specs.Steps.{IsMet};
 
 use crate::world::World;
 use cj_backend::Backend;
-use cj_model::{Duplicate, Made, Move, MoveError, MovedList, Moves, NoMemory};
+use cj_cluster::{Made, Move, MoveError, MovedList, Moves};
+use cj_model::{Duplicate, NoMemory};
 use std::alloc::Global;
 
 impl<B: Backend> World<B> {

@@ -2,11 +2,12 @@
 
 ghost use Rattle.std.specs.Prelude.{◌≡◌, ◌+◌, ◌<◌, ◌^◌, ◌==◌, not, [], ◌∷◌, ◌++◌, length, filter, option_copied, All, IfSome, MatchOption, OnOk, OnErr};
 ghost use Rattle.cj_core.specs.Places.{IsPlaceOf, CanCountOne};
-ghost use Rattle.cj_model.specs.Cluster.Cores.{find_session, with_session, new_session};
-ghost use Rattle.cj_model.specs.Cluster.Moves as moves;
-ghost use Rattle.cj_model.specs.Cluster.Moves.{read_number};
+ghost use Rattle.cj_cluster.specs.Moves.Cores.{find_session, with_session, new_session};
+ghost use Rattle.cj_cluster.specs.Moves.Moves as moves;
+ghost use Rattle.cj_cluster.specs.Moves.Moves.{read_number};
 
-use cj_model::{NoMemory, OpenRead, OpenSession, REQUEST_LIMIT, Select, Text};
+use cj_cluster::{OpenRead, OpenSession};
+use cj_model::{NoMemory, REQUEST_LIMIT, Select, Text};
 use std::alloc::Global;
 use std::marker::Model;
 
@@ -18,9 +19,9 @@ pub struct Sessions {
 
 impl Model for Sessions {
     ghost use Rattle.std.specs.Prelude.{List};
-    ghost use Rattle.cj_model.specs.declared.moves.OpenSession.{OpenSession};
+    ghost use Rattle.cj_cluster.specs.declared.moves.OpenSession.{OpenSession};
     ghost use Rattle.cj_model.specs.Database.Tables.{Rises};
-    ghost use Rattle.cj_model.specs.Proving.Invariants.{by_session_number};
+    ghost use Rattle.cj_cluster.specs.Proving.Invariants.{by_session_number};
 
     ghost Value = { List OpenSession };
 

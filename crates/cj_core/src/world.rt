@@ -5,15 +5,17 @@ ghost use Rattle.std.specs.Option.{option_map};
 ghost use Rattle.cj_model.specs.declared.request.Entry.{Entry};
 ghost use Rattle.cj_model.specs.declared.request.Request.TheVariants as request;
 ghost use Rattle.cj_model.specs.Sql.PlainRequests.{request_of};
-ghost use Rattle.cj_model.specs.Cluster.Histories as histories;
-ghost use Rattle.cj_model.specs.Cluster.Histories.{in_mask, log, ended_count, is_idle};
-ghost use Rattle.cj_model.specs.Cluster.Legality.{IsFitEntry, IsWritten};
-ghost use Rattle.cj_model.specs.Cluster.Answering.{CanServe};
-ghost use Rattle.cj_model.specs.Cluster.Cores as cores;
-ghost use Rattle.cj_model.specs.Cluster.Cores.{session_at, position_at};
-ghost use Rattle.cj_model.specs.Cluster.Moves as moves;
-ghost use Rattle.cj_model.specs.Cluster.Moves.{Applies, Replays, IsServingMask, HasOtherRead, HasNoOtherRead, forbidden_by, next_entry, not_now, with_end, with_read, with_request_counted, happened, opened_for, closed_for, scheduled_as, ended_for, with_one_request, answered_at, was_answered, still_reading};
-ghost use Rattle.cj_model.specs.Proving.Invariants.{IsLoneEntry};
+ghost use Rattle.cj_cluster.specs.History.Histories as histories;
+ghost use Rattle.cj_cluster.specs.History.Histories.{log, ended_count, is_idle};
+ghost use Rattle.cj_model.specs.Cluster.Masks.{in_mask};
+ghost use Rattle.cj_cluster.specs.History.Legality.{IsFitEntry};
+ghost use Rattle.cj_model.specs.Sql.WrittenRequests.{IsWritten};
+ghost use Rattle.cj_cluster.specs.History.Answering.{CanServe};
+ghost use Rattle.cj_cluster.specs.Moves.Cores as cores;
+ghost use Rattle.cj_cluster.specs.Moves.Cores.{session_at, position_at};
+ghost use Rattle.cj_cluster.specs.Moves.Moves as moves;
+ghost use Rattle.cj_cluster.specs.Moves.Moves.{Applies, Replays, IsServingMask, HasOtherRead, HasNoOtherRead, forbidden_by, next_entry, not_now, with_end, with_read, with_request_counted, happened, opened_for, closed_for, scheduled_as, ended_for, with_one_request, answered_at, was_answered, still_reading};
+ghost use Rattle.cj_cluster.specs.Proving.Invariants.{IsLoneEntry};
 ghost use Rattle.cj_replica.specs.Cells.{CellState};
 ghost use Rattle.cj_core.specs.Worlds.{IsWorld};
 ghost use Rattle.cj_core.specs.Starts.{AreEmpty, AreFresh, begun};
@@ -28,10 +30,11 @@ use crate::emptied::Emptied;
 use crate::sessions::{Sessions, read_number};
 use cj_backend::Backend;
 use cj_book::{Book, BookError};
+use cj_cluster::{Did, Event, Move, Moved, OpenRead};
 use cj_model::{
-    Act, Asked, BACKEND_LIMIT, Did, Duplicate, Entry, Event, HISTORY_FULL, Move, Moved, NoMemory,
-    OpenRead, Outcome, REQUEST_LIMIT, Refusal, Reply, SESSION_LIMIT, SESSION_NUMBER_LIMIT,
-    SESSIONS_FULL, STARVED_ALL, Same, Select, Text, UNFINISHED, USER_LIMIT, with_bit,
+    Act, Asked, BACKEND_LIMIT, Duplicate, Entry, HISTORY_FULL, NoMemory, Outcome, REQUEST_LIMIT,
+    Refusal, Reply, SESSION_LIMIT, SESSION_NUMBER_LIMIT, SESSIONS_FULL, STARVED_ALL, Same, Select,
+    Text, UNFINISHED, USER_LIMIT, with_bit,
 };
 use cj_replica::Cell;
 use std::alloc::Global;

@@ -110,7 +110,7 @@ impl<B: Backend> Backend for Flaky<B> {
     ghost use Rattle.cj_outside.specs.Causes.{next};
     ghost use Rattle.cj_model.specs.declared.request.Act.TheVariants as act;
     ghost use Rattle.cj_model.specs.declared.request.Request.TheVariants as request;
-    ghost use Rattle.cj_model.specs.Cluster.Legality.{IsWritten};
+    ghost use Rattle.cj_model.specs.Sql.WrittenRequests.{IsWritten};
     ghost use Rattle.cj_model.specs.Database.Outcomes.{IsOutcome, IsAsked};
     ghost use Rattle.cj_model.specs.Database.Storable.{IsStorable};
     ghost use Rattle.cj_backend.specs.Backends.{HasBackendCause, SaysOutcome, SaysAnswer, told_after, LogsIn, IsBegun, begun_with, begun_without, told_loaded, begun_loaded, asks_after, SpendsArming};

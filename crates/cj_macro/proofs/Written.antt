@@ -18,7 +18,7 @@ use Rattle.cj_model.specs.Sql.Literals.{IsConstant}
 use Rattle.cj_model.specs.Sql.TermForms.{EachFits, SomeFit, const_meant, ConstFits}
 use Rattle.cj_model.specs.Sql.Grammar as g
 use Rattle.cj_model.specs.Sql.Grammar.{set_meant, select_meant, statement_meant, SetFits, StatementFits, TextReadsAs}
-use Rattle.cj_model.specs.Cluster.Legality.{IsWritten}
+use Rattle.cj_model.specs.Sql.WrittenRequests.{IsWritten}
 use Rattle.cj_model.specs.Sql.Macros.{term_bounds, tuple_bounds, set_bounds, where_bounds, write_bounds, IsDrawable, RandsAreDrawable, draws_for, draws_behind, rewritten_term, each_rewritten, rewritten_tuple, rewritten_set, rewritten_write, rewritten_select, rewritten}
 use Rattle.cj_model.proofs.Spellable.{FineConst, FineSet, FineWrite, FineRequest, request_fine}
 use Rattle.cj_print.proofs.Forms.{const_form, set_form, direction_form, key_form, select_form, form}

@@ -11,7 +11,7 @@ ghost use Rattle.cj_model.specs.Sql.Macros.{
   RandsAreDrawable,
 };
 ghost use Rattle.cj_model.specs.Sql.Grammar.{TextReadsAs};
-ghost use Rattle.cj_model.specs.Cluster.Legality.{IsWritten};
+ghost use Rattle.cj_model.specs.Sql.WrittenRequests.{IsWritten};
 ghost use Rattle.cj_model.specs.Sql.PlainRequests.{is_plain};
 
 use crate::part::Part;

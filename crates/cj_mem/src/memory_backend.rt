@@ -128,7 +128,7 @@ impl Backend for MemBackend {
     ghost use Rattle.std.specs.Prelude.{true, false, Contains, IfSome};
     ghost use Rattle.cj_model.specs.declared.request.Act.TheVariants as act;
     ghost use Rattle.cj_model.specs.declared.request.Request.TheVariants as request;
-    ghost use Rattle.cj_model.specs.Cluster.Legality.{IsWritten};
+    ghost use Rattle.cj_model.specs.Sql.WrittenRequests.{IsWritten};
     ghost use Rattle.cj_model.specs.Database.Queries.{ask};
     ghost use Rattle.cj_model.specs.Database.Steps.{acted};
     ghost use Rattle.cj_model.specs.Database.Storable.{IsStorable};

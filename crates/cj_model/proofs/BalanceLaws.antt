@@ -7,7 +7,7 @@ use Rattle.std.proofs.lemmas.Nat.Bits.{bit_at_above}
 use Rattle.cj_model.specs.declared.policy.Policy.{Policy}
 use Rattle.cj_model.specs.declared.policy.Policy.TheVariants.{RoundRobin, Weighted, LeastPending}
 use Rattle.cj_model.specs.declared.limits.TheConstants.{BACKEND_LIMIT}
-use Rattle.cj_model.specs.Cluster.Histories.{in_mask}
+use Rattle.cj_model.specs.Cluster.Masks.{in_mask}
 use Rattle.cj_model.specs.Cluster.Balancing.{Standing, IsFirst, Picks, is_ahead, picked, steps_from, steps_to}
 
 -- of two first candidates neither has the lower number

@@ -4,8 +4,7 @@ use Rattle.std.specs.Int.{bit_at, trailing_zeros}
 use Rattle.std.specs.Prelude.{bit_or}
 use Rattle.std.proofs.lemmas.Bool.{cases_eq, both_ways}
 use Rattle.std.proofs.lemmas.Nat.Bits.{bit_at-zero, bit_at_or, bit_at-pow_same, bit_at-pow_other, bit_at-lt, bit_at-trailing_zeros}
-use Rattle.cj_model.specs.Cluster.Histories.{in_mask}
-use Rattle.cj_model.specs.Cluster.Cores.{with_backend}
+use Rattle.cj_model.specs.Cluster.Masks.{in_mask, with_backend}
 
 -- the empty mask has no backend
 pub has-zero : (b : ℕ) → in_mask 0 b ≡ false

@@ -44,7 +44,7 @@ use Rattle.cj_model.specs.Database.Evaluation.{satisfies, operand_value, value_o
 use Rattle.cj_model.specs.Database.Updates.{column_set, sets_twice, sets_key, set_mixes_kinds, Assignment, assignment_of, assigned, overflows, with_new_values, updated, without_rows, deleted, change}
 use Rattle.cj_model.specs.Database.Steps.{Stepped, seen_behind, seen, other_writer, with_table, table_written, write_done, write_unless_locked, write_in, written, make_schema, empty_slot, created, drop_unless_locked, drop_in, dropped, commit_behind, committed, abort_behind, aborted, acted}
 use Rattle.cj_model.specs.Sql.PlainRequests.{request_of}
-use Rattle.cj_model.specs.Cluster.Legality.{IsWritten}
+use Rattle.cj_model.specs.Sql.WrittenRequests.{IsWritten}
 use Rattle.cj_model.specs.Database.Storable.{IsFreeName, IsStorableTable, IsStorableSlot, IsStorable}
 use Rattle.cj_model.proofs.Columns.{read_columns}
 use Rattle.cj_model.proofs.DatabaseLaws.{written_keeps, created_keeps, dropped_keeps, committed_keeps, aborted_keeps}

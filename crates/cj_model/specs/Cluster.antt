@@ -1,14 +1,6 @@
--- Several databases as one: placements, histories, what is answered, and the moves of the controller.
+-- The parts of a cluster: masks and placements of backends, balancing, the result cache, accounts.
 pub mod Accounts
-pub mod Answering
 pub mod Balancing
-pub mod BetweenReplies
 pub mod Caching
-pub mod Cores
-pub mod Histories
-pub mod Legality
-pub mod Moves
+pub mod Masks
 pub mod Placements
-pub mod Runs
-pub mod Transactions
-pub mod Turns

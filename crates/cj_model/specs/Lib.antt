@@ -1,6 +1,5 @@
 pub mod Cluster
 pub mod Database
 pub mod Proving
-pub mod Script
 pub mod Sql
 pub mod Wire

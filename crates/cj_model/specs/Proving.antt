@@ -2,7 +2,6 @@
 pub mod ConditionCode
 pub mod ConditionNodes
 pub mod Gaps
-pub mod Invariants
 pub mod Lent
 pub mod PredicateCode
 pub mod SameStatements

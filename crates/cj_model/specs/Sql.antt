@@ -7,3 +7,4 @@ pub mod Macros
 pub mod Names
 pub mod PlainRequests
 pub mod TermForms
+pub mod WrittenRequests

@@ -1,5 +1,4 @@
--- What clients send and are sent: frames, replies, and whole sessions.
+-- What clients send and are sent: frames and replies.
 pub mod Fields
 pub mod Frames
 pub mod Replies
-pub mod Sessions

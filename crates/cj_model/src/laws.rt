@@ -3,7 +3,6 @@
 ghost use Rattle.std.specs.Prelude.{◌≡◌, List, ℕ};
 ghost use Rattle.cj_model.specs.declared.message.Message.{Message};
 ghost use Rattle.cj_model.specs.Wire.Frames.{Frames, FaultsStay};
-ghost use Rattle.cj_model.specs.Cluster.BetweenReplies.{BeginsBetween, StaysBetween};
 
 /// Bytes are the frames of one list of messages, and one rest.
 pub fn bytes_have_one_reading()
@@ -13,11 +12,4 @@ pub fn bytes_have_one_reading()
 /// A faulty rest has its fault whatever comes after it, and never becomes a frame.
 pub fn frame_faults_stay()
     ensures { FaultsStay }
-{}
-
-/// Each session stands between two replies, or has not begun: at the start, and after every run of moves. So its next
-/// replies are a chain of turns wherever a list of moves begins.
-pub fn sessions_stand_between_replies()
-    ensures begin { BeginsBetween }
-    ensures stay { StaysBetween }
 {}

@@ -1,8 +1,7 @@
 //! Masks of backends, which have bit b for backend b.
 
 ghost use Rattle.std.specs.Prelude.{◌≡◌, ◌<◌, ◌==◌, ◌||◌, ℕ};
-ghost use Rattle.cj_model.specs.Cluster.Histories.{in_mask};
-ghost use Rattle.cj_model.specs.Cluster.Cores as cores;
+ghost use Rattle.cj_model.specs.Cluster.Masks.{in_mask, with_backend};
 
 /// Whether the mask has the backend.
 pub fn has_bit(mask: u32, b: u8) -> bool
@@ -15,7 +14,7 @@ pub fn has_bit(mask: u32, b: u8) -> bool
 /// The mask with the backend.
 pub fn with_bit(mask: u32, b: u8) -> u32
     requires { b < 32 }
-    ensures value { result ≡ cores.with_backend mask b }
+    ensures value { result ≡ with_backend mask b }
     ensures bits { (c : ℕ) → in_mask result c ≡ (in_mask mask c || c == b) }
 {
     mask | (1 << b)

@@ -4,7 +4,7 @@ use Rattle.std.specs.Int.{bit_at}
 use Rattle.std.proofs.lemmas.Bool.{cases_lt, cases_eq, eq-eqb, eqb-true, lt-ltb, le-ltb}
 use Rattle.std.proofs.lemmas.Nat.Bits.{bit_at-lt, bit_at_ones, bit_at_ones_above, same_from_bits}
 use Rattle.cj_model.specs.declared.limits.TheConstants.{BACKEND_LIMIT}
-use Rattle.cj_model.specs.Cluster.Histories.{in_mask}
+use Rattle.cj_model.specs.Cluster.Masks.{in_mask}
 use Rattle.cj_model.proofs.MaskBits.{has-shifted, shifted_one}
 
 -- the ones below a place

@@ -6,7 +6,7 @@ use Rattle.std.specs.declared.cmp.Ordering.{Ordering}
 use Rattle.std.specs.List.{list_any}
 use Rattle.cj_model.specs.declared.placement.PlaceRow.{PlaceRow}
 use Rattle.cj_model.specs.declared.limits.TheConstants.{BACKEND_LIMIT}
-use Rattle.cj_model.specs.Cluster.Histories.{in_mask}
+use Rattle.cj_model.specs.Cluster.Masks.{in_mask}
 use Rattle.cj_model.specs.Database.Tables.{Rises}
 use Rattle.cj_place.specs.declared.rows.HostRow.{HostRow}
 use Rattle.cj_place.specs.Layouts.{backend_number, by_row}

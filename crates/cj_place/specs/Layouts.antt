@@ -10,7 +10,7 @@ use Rattle.std.specs.Str.{bytes_eq}
 use Rattle.cj_model.specs.declared.placement.Level.{Level}
 use Rattle.cj_model.specs.declared.placement.Level.TheVariants.{Raidb0, Raidb1, Raidb2}
 use Rattle.cj_model.specs.declared.placement.PlaceRow.{PlaceRow}
-use Rattle.cj_model.specs.Cluster.Histories.{in_mask}
+use Rattle.cj_model.specs.Cluster.Masks.{in_mask}
 use Rattle.cj_model.specs.Cluster.Placements.{Hosting, Placement, hosts}
 use Rattle.cj_model.specs.Database.Tables.{name_cmp, put_by}
 use Rattle.cj_place.specs.declared.error.PlaceError.{PlaceError}

@@ -1,7 +1,7 @@
 //! Masks, which have bit b for backend b.
 
 ghost use Rattle.std.specs.Prelude.{◌≡◌, ◌↔◌, ◌≤◌, ◌<◌, ◌==◌, ℕ, nat_lt, IsTrue};
-ghost use Rattle.cj_model.specs.Cluster.Histories.{in_mask};
+ghost use Rattle.cj_model.specs.Cluster.Masks.{in_mask};
 
 use cj_model::BACKEND_LIMIT;
 

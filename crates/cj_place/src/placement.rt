@@ -2,7 +2,7 @@
 
 ghost use Rattle.std.specs.Prelude.{◌≡◌, ◌<◌, ◌≤◌, [], ◌∷◌, ℕ, Some, filter, find, fold, length, map, option_copied, position, slice_get, true, IfOk, OnOk, OnErr};
 ghost use Rattle.std.specs.Str.{bytes_eq};
-ghost use Rattle.cj_model.specs.Cluster.Histories.{in_mask};
+ghost use Rattle.cj_model.specs.Cluster.Masks.{in_mask};
 ghost use Rattle.cj_model.specs.Cluster.Placements as placements;
 ghost use Rattle.cj_model.specs.Cluster.Placements.{hosts_all};
 ghost use Rattle.cj_model.specs.Database.Tables.{name_cmp, put_by};

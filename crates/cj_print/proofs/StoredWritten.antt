@@ -26,7 +26,7 @@ use Rattle.cj_model.specs.Sql.TermForms.{ConstForm, EachFits, SomeFit, AnyFits, 
 use Rattle.cj_model.specs.Sql.Grammar.{statement_tokens, statement_meant, StatementFits}
 use Rattle.cj_model.specs.Database.Tables.{IsTable, IsSlot, column_names}
 use Rattle.cj_model.specs.Sql.PlainRequests.{is_plain, is_plain_term}
-use Rattle.cj_model.specs.Cluster.Legality.{IsWritten}
+use Rattle.cj_model.specs.Sql.WrittenRequests.{IsWritten}
 use Rattle.cj_model.specs.Database.Storable.{IsFreeName, IsStorableTable, IsStorableSlot}
 use Rattle.cj_model.proofs.Spellable.{FineName, FineTerm, FineConst, FineColDef, FineRequest}
 use Rattle.cj_model.proofs.TableLaws.{table_is_even}

@@ -14,7 +14,7 @@ use Rattle.cj_model.specs.declared.database.Slot.{Slot}
 use Rattle.cj_model.specs.declared.write.Write.{Write}
 use Rattle.cj_model.specs.declared.write.Write.TheVariants.{Insert}
 use Rattle.cj_model.specs.declared.request.Request.TheVariants as request
-use Rattle.cj_model.specs.Cluster.Legality.{IsWritten}
+use Rattle.cj_model.specs.Sql.WrittenRequests.{IsWritten}
 use Rattle.cj_model.specs.Database.Storable.{IsStorable}
 
 -- a column with its place, as CREATE has it: the one at the key's place is the primary key

@@ -2,9 +2,9 @@
 
 ghost use Rattle.std.specs.Prelude.{◌≡◌, ◌↔◌, ◌<◌, ◌≤◌, ℕ, not, Some, None, Ok, Err, IfOk};
 ghost use Rattle.cj_model.specs.declared.request.Request.TheVariants as request;
-ghost use Rattle.cj_model.specs.Cluster.Legality.{IsWritten};
+ghost use Rattle.cj_model.specs.Sql.WrittenRequests.{IsWritten};
 ghost use Rattle.cj_model.specs.Sql.PlainRequests.{request_of};
-ghost use Rattle.cj_model.specs.Proving.Invariants.{IsLoneEntry};
+ghost use Rattle.cj_cluster.specs.Proving.Invariants.{IsLoneEntry};
 ghost use Rattle.cj_model.specs.Database.Outcomes.{IsOutcome, IsAsked};
 ghost use Rattle.cj_backend.specs.Backends as backends;
 

@@ -3,7 +3,7 @@ use Rattle.std.proofs.Common.{◌≡◌, ◌∙◌, refl, sym, ap, subst, ℕ, n
 use Rattle.std.specs.List.{list_all, position}
 use Rattle.std.specs.Str.{bytes_eq}
 use Rattle.std.proofs.lemmas.Bool.{and_parts, false≢true}
-use Rattle.cj_model.specs.Script.Lines.{IsNumber, IsBackend, HasNoSpace}
+use Rattle.cj_cluster.specs.Script.Lines.{IsNumber, IsBackend, HasNoSpace}
 use Rattle.cj_script.specs.Reading.{CutsWord, IsNumbered, IsNamed}
 use Rattle.cj_script.proofs.Numbers.{number_word, number_one}
 

@@ -11,13 +11,13 @@ use Rattle.std.proofs.Math.Seq.{take-append_seam, drop-append_seam}
 use Rattle.cj_outside.specs.Lines.{Reading}
 use Rattle.cj_outside.specs.Streams.{most}
 use Rattle.cj_outside.proofs.Joined.{appends_then, appends_more}
-use Rattle.cj_model.specs.declared.moves.Move.{Move}
-use Rattle.cj_model.specs.declared.moves.Move.TheVariants.{Open, Close, Schedule, Apply, End, Read, Arm, Disable, Replay, Enable}
-use Rattle.cj_model.specs.declared.moves.Made.{Made}
-use Rattle.cj_model.specs.Cluster.Cores.{session_at}
-use Rattle.cj_model.specs.Cluster.Runs.{RunsMoves, IsMoveOfCluster, CanCountRequests}
-use Rattle.cj_model.specs.Script.Lines.{MoveLine, NamesBackend, moved_lines}
-use Rattle.cj_model.proofs.Chains.{run_chained}
+use Rattle.cj_cluster.specs.declared.moves.Move.{Move}
+use Rattle.cj_cluster.specs.declared.moves.Move.TheVariants.{Open, Close, Schedule, Apply, End, Read, Arm, Disable, Replay, Enable}
+use Rattle.cj_cluster.specs.declared.moves.Made.{Made}
+use Rattle.cj_cluster.specs.Moves.Cores.{session_at}
+use Rattle.cj_cluster.specs.Moves.Runs.{RunsMoves, IsMoveOfCluster, CanCountRequests}
+use Rattle.cj_cluster.specs.Script.Lines.{MoveLine, NamesBackend, moved_lines}
+use Rattle.cj_cluster.proofs.Chains.{run_chained}
 use Rattle.cj_core.specs.Worlds.{WorldState, IsWorld}
 use Rattle.cj_core.specs.Counting.{faults_of}
 use Rattle.cj_core.specs.Played.{given_of, faults_over, HaveCauses}

@@ -3,9 +3,9 @@ use Rattle.std.proofs.Common.{◌≡◌, ◌∙◌, refl, sym, ap, subst, ℕ, L
 use Rattle.std.proofs.lemmas.Bool.{cases_Bool}
 use Rattle.std.proofs.lemmas.Slice.Eq.{bytes_eq-Decides}
 use Rattle.std.specs.Str.{bytes_eq}
-use Rattle.cj_model.specs.declared.moves.Move.{Move}
-use Rattle.cj_model.specs.declared.moves.Move.TheVariants as move
-use Rattle.cj_model.specs.Script.Lines.{HasNoSpace, MoveLine}
+use Rattle.cj_cluster.specs.declared.moves.Move.{Move}
+use Rattle.cj_cluster.specs.declared.moves.Move.TheVariants as move
+use Rattle.cj_cluster.specs.Script.Lines.{HasNoSpace, MoveLine}
 use Rattle.cj_script.specs.declared.verb.Verb.{Verb}
 use Rattle.cj_script.specs.declared.verb.Verb.TheVariants.{Open, Close, Write, Apply, End, Read, Arm, Disable, Replay, Enable}
 use Rattle.cj_script.specs.declared.verb.TheConstants.{VERBS}

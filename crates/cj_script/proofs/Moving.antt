@@ -3,11 +3,11 @@ use Rattle.std.proofs.Common.{◌≡◌, ℕ, ◌+◌, ◌*◌, ◌-◌, ◌≤�
 use Rattle.std.specs.Io.KnownBytes.{Appends}
 use Rattle.cj_outside.specs.Lines.{Reading}
 use Rattle.cj_outside.specs.Streams.{most}
-use Rattle.cj_model.specs.declared.moves.Made.{Made}
+use Rattle.cj_cluster.specs.declared.moves.Made.{Made}
 use Rattle.cj_core.specs.Worlds.{WorldState}
-use Rattle.cj_model.specs.Cluster.Moves.{MovesTo}
-use Rattle.cj_model.specs.Cluster.Runs.{CanCountRequests}
-use Rattle.cj_model.proofs.Growth.{moves_grow, can_count}
+use Rattle.cj_cluster.specs.Moves.Moves.{MovesTo}
+use Rattle.cj_cluster.specs.Moves.Runs.{CanCountRequests}
+use Rattle.cj_cluster.proofs.Growth.{moves_grow, can_count}
 use Rattle.cj_core.specs.Armings.{HasArmings}
 use Rattle.cj_core.specs.Counting.{HasCauses}
 use Rattle.cj_core.specs.Played.{given_of}
@@ -15,8 +15,8 @@ use Rattle.cj_script.specs.Script.{PlaysLine, MakesMove}
 use Rattle.cj_script.specs.Steps.{PlaysWritten}
 use Rattle.cj_script.proofs.Filled.{move_line_long}
 use Rattle.cj_script.proofs.Playing.{Advances}
-use Rattle.cj_model.specs.declared.moves.Move.{Move}
-use Rattle.cj_model.specs.Script.Lines.{MoveLine, moved_lines}
+use Rattle.cj_cluster.specs.declared.moves.Move.{Move}
+use Rattle.cj_cluster.specs.Script.Lines.{MoveLine, moved_lines}
 
 -- ---- a line that was played
 

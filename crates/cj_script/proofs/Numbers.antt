@@ -11,7 +11,7 @@ use Rattle.std.proofs.lemmas.Str.Parse.{IsNumeralModel, numerals_by_value, parse
 use Rattle.std.specs.Str.Parse.{digits_value}
 use Rattle.std.proofs.lemmas.Bool.{and_parts, and_from, or_cases, not-true, eqb-false, ne_eqb, false≢true}
 use Rattle.std.proofs.lemmas.Bool.Decides.{nat_tests}
-use Rattle.cj_model.specs.Script.Lines.{IsNumber, HasNoSpace}
+use Rattle.cj_cluster.specs.Script.Lines.{IsNumber, HasNoSpace}
 use Rattle.cj_script.specs.Reading.{begins_number, is_numeral}
 
 -- the digits of the words are std's

@@ -4,10 +4,10 @@ use Rattle.std.proofs.lemmas.Bool.{false≢true}
 use Rattle.cj_model.specs.declared.request.Request.{Request}
 use Rattle.cj_model.specs.declared.request.Request.TheVariants as request
 use Rattle.cj_model.specs.declared.select.Select.{Select}
-use Rattle.cj_model.specs.declared.moves.Move.{Move}
-use Rattle.cj_model.specs.declared.moves.Move.TheVariants as move
+use Rattle.cj_cluster.specs.declared.moves.Move.{Move}
+use Rattle.cj_cluster.specs.declared.moves.Move.TheVariants as move
 use Rattle.cj_model.specs.Sql.PlainRequests.{is_plain}
-use Rattle.cj_model.specs.Script.Lines.{IsPlainSql, IsWrite}
+use Rattle.cj_cluster.specs.Script.Lines.{IsPlainSql, IsWrite}
 use Rattle.cj_script.specs.Reading.{IsNumbered, IsNamed, Writes, Queries, IsQuery, Finds}
 use Rattle.cj_script.proofs.Cutting.{numbered_one, named_one}
 use Rattle.cj_model.specs.Sql.Grammar.{TextReadsAs, ReadsAsNothing}

@@ -5,10 +5,10 @@ use Rattle.std.specs.List.{flat_map}
 use Rattle.std.specs.Io.KnownBytes.{Consumes, Appends, IsAtEnd}
 use Rattle.cj_outside.specs.Lines.{IsInLine, line_limit}
 use Rattle.cj_outside.specs.Streams.{most}
-use Rattle.cj_model.specs.declared.moves.Move.{Move}
-use Rattle.cj_model.specs.declared.moves.Made.{Made}
-use Rattle.cj_model.specs.Cluster.Moves.{MovesTo}
-use Rattle.cj_model.specs.Script.Lines.{MoveLine, moved_lines, with_line_feed}
+use Rattle.cj_cluster.specs.declared.moves.Move.{Move}
+use Rattle.cj_cluster.specs.declared.moves.Made.{Made}
+use Rattle.cj_cluster.specs.Moves.Moves.{MovesTo}
+use Rattle.cj_cluster.specs.Script.Lines.{MoveLine, moved_lines, with_line_feed}
 use Rattle.cj_core.specs.Worlds.{WorldState}
 use Rattle.cj_core.specs.Armings.{HasArmings}
 use Rattle.cj_core.specs.Counting.{HasCauses}

@@ -1,13 +1,14 @@
 //! What follows the first word of a line.
 
 ghost use Rattle.std.specs.Prelude.{◌≡◌, ◌≤◌, ◌<◌, ◌↔◌, length, IfOk, IsTrue, MatchBool};
-ghost use Rattle.cj_model.specs.Cluster.Runs.{IsOutsideTransaction};
-ghost use Rattle.cj_model.specs.Script.Lines.{IsPlainSql, IsUser, IsWrite};
+ghost use Rattle.cj_cluster.specs.Moves.Runs.{IsOutsideTransaction};
+ghost use Rattle.cj_cluster.specs.Script.Lines.{IsPlainSql, IsUser, IsWrite};
 ghost use Rattle.cj_script.specs.Reading.{Arguments, ReadsClose, Finds, IsQuery, ReadsOpen, Queries, Writes};
 
 use crate::verb::Verb;
 use crate::words::{backend, is_word, named, number, numbered};
-use cj_model::{BACKEND_LIMIT, Move, Names, NoMemory, Request, Select, Text, USER_LIMIT};
+use cj_cluster::Move;
+use cj_model::{BACKEND_LIMIT, Names, NoMemory, Request, Select, Text, USER_LIMIT};
 use cj_sql::{SqlError, is_plain, read};
 use std::alloc::Global;
 

@@ -1,13 +1,14 @@
 //! Lines as moves.
 
 ghost use Rattle.std.specs.Prelude.{◌≤◌, length, IfOk};
-ghost use Rattle.cj_model.specs.Script.Lines.{MoveLine};
+ghost use Rattle.cj_cluster.specs.Script.Lines.{MoveLine};
 ghost use Rattle.cj_script.specs.Reading.{Finds, IsOneWordMove};
 
 use crate::arguments::arguments;
 use crate::verb::verb_of;
 use crate::words::cut;
-use cj_model::{BACKEND_LIMIT, Move, Names, NoMemory};
+use cj_cluster::Move;
+use cj_model::{BACKEND_LIMIT, Names, NoMemory};
 use std::alloc::Global;
 
 /// The move of a line that is one word.

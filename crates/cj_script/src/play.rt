@@ -3,8 +3,8 @@
 ghost use Rattle.std.specs.Prelude.{◌≡◌, ◌≤◌, ◌^◌, ℕ, IfOk, IsErrOf, MatchResult, length};
 ghost use Rattle.cj_outside.specs.Causes.{CountsFault};
 ghost use Rattle.cj_outside.specs.Streams.{most, WritesAll};
-ghost use Rattle.cj_model.specs.Cluster.Runs.{CanCountRequests};
-ghost use Rattle.cj_model.specs.Script.Lines.{moved_lines};
+ghost use Rattle.cj_cluster.specs.Moves.Runs.{CanCountRequests};
+ghost use Rattle.cj_cluster.specs.Script.Lines.{moved_lines};
 ghost use Rattle.cj_script.specs.Script.{CameTo, InTurns};
 ghost use Rattle.cj_script.specs.Steps.{PlaysOrEnds, ReadsLine};
 ghost use Rattle.cj_script.specs.declared.play.ScriptEnd.TheVariants as ends;
@@ -13,8 +13,9 @@ ghost use Rattle.std.specs.declared.result.Result.TheVariants.{Err};
 use crate::parse::parse_move;
 use crate::print::print_made;
 use cj_backend::Backend;
+use cj_cluster::Made;
 use cj_core::World;
-use cj_model::{Made, Names};
+use cj_model::Names;
 use cj_outside::{Line, LineError, Lines, OutError, Sink, Source, write_all};
 use std::alloc::Global;
 

@@ -2,12 +2,11 @@
 
 ghost use Rattle.std.specs.Prelude.{◌≡◌, [], ◌∷◌, ◌++◌, IfOk, OnOk, string_bytes};
 ghost use Rattle.std.specs.List.{flat_map};
-ghost use Rattle.cj_model.specs.Script.Lines.{did_text, with_line_feed, moved_lines, moved_text, not_now_text, refusal_text, reply_text, row_text, rows_under};
-ghost use Rattle.cj_model.specs.Script.Lines as lines;
+ghost use Rattle.cj_cluster.specs.Script.Lines.{did_text, with_line_feed, moved_lines, moved_text, not_now_text, refusal_text, reply_text, row_text, rows_under};
+ghost use Rattle.cj_cluster.specs.Script.Lines as lines;
 
-use cj_model::{
-    Answer, Did, Made, Moved, Names, NoMemory, Outcome, Refusal, Reply, Row, Value, Why,
-};
+use cj_cluster::{Did, Made, Moved, Why};
+use cj_model::{Answer, Names, NoMemory, Outcome, Refusal, Reply, Row, Value};
 use cj_print::write_value;
 use std::alloc::Global;
 

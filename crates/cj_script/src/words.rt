@@ -5,7 +5,7 @@ ghost use Rattle.std.specs.Char.{is_ascii_digit};
 ghost use Rattle.std.specs.List.{list_all};
 ghost use Rattle.std.specs.Str.{bytes_eq};
 ghost use Rattle.std.specs.Option.{option_copied};
-ghost use Rattle.cj_model.specs.Script.Lines.{IsBackend, IsNumber, HasNoSpace};
+ghost use Rattle.cj_cluster.specs.Script.Lines.{IsBackend, IsNumber, HasNoSpace};
 ghost use Rattle.cj_script.specs.Reading.{CutsWord, Finds, IsFirstSpace, IsNamed, IsNumbered};
 ghost use Rattle.cj_script.specs.Reading as spec;
 

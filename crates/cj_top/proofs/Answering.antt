@@ -12,8 +12,8 @@ use Rattle.cj_outside.proofs.Joined.{appends_none, appends_then}
 use Rattle.cj_model.specs.declared.message.Message.{Message}
 use Rattle.cj_model.specs.declared.answer.Reply.{Reply}
 use Rattle.cj_model.specs.Wire.Replies.{reply_bytes}
-use Rattle.cj_model.specs.Wire.Sessions.{Session, initial_session, Exchange, Exchanges, is_quit, answered_messages, CutsReply, StarvesReply}
-use Rattle.cj_model.proofs.SessionLaws.{AnsweredTo, answered_none, answered_more, answered_on, exchanges_more, take_item, drop_item, front_of_answered, rest_of_answered, answered_at_quit, answered_at_end}
+use Rattle.cj_cluster.specs.Wire.Sessions.{Session, initial_session, Exchange, Exchanges, is_quit, answered_messages, CutsReply, StarvesReply}
+use Rattle.cj_cluster.proofs.SessionLaws.{AnsweredTo, answered_none, answered_more, answered_on, exchanges_more, take_item, drop_item, front_of_answered, rest_of_answered, answered_at_quit, answered_at_end}
 use Rattle.cj_top.specs.Answers.{Answered, AnsweredInPart, Answers}
 
 -- the first i messages have their replies, written whole, and the session stands at s

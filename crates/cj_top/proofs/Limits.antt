@@ -7,7 +7,7 @@ use Rattle.cj_model.specs.declared.answer.Reply.TheVariants.{Rows}
 use Rattle.cj_model.specs.declared.codes.TheConstants.{NOT_BUILT}
 use Rattle.cj_model.specs.declared.limits.TheConstants.{FRAME_LIMIT}
 use Rattle.cj_model.specs.Wire.Replies.{reply_length}
-use Rattle.cj_model.specs.Wire.Sessions.{within_limit, refused_reply}
+use Rattle.cj_cluster.specs.Wire.Sessions.{within_limit, refused_reply}
 
 pub too_long : (r : Reply) (a : Answer) → r ≡ Rows a → FRAME_LIMIT < reply_length r → within_limit r ≡ refused_reply NOT_BUILT
 too_long r a is long =

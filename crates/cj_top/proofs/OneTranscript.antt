@@ -3,11 +3,11 @@ use Rattle.std.proofs.Common.{◌≡◌, ℕ, Bool, true, false, List, [], ◌�
 use Rattle.std.specs.List.{flat_map}
 use Rattle.cj_model.specs.declared.message.Message.{Message}
 use Rattle.cj_model.specs.declared.message.Message.TheVariants as message
-use Rattle.cj_model.specs.declared.session.SessionEnd.{SessionEnd}
+use Rattle.cj_cluster.specs.declared.session.SessionEnd.{SessionEnd}
 use Rattle.cj_model.specs.declared.request.Request.{Request}
 use Rattle.cj_model.specs.declared.answer.Reply.{Reply}
 use Rattle.cj_model.specs.Wire.Replies.{reply_bytes}
-use Rattle.cj_model.specs.Wire.Sessions.{Session, initial_session, IsRequest, QueryExchange, Exchange, Exchanges, request_reply, request_after, within_limit, answered_messages, end_of, Transcript}
+use Rattle.cj_cluster.specs.Wire.Sessions.{Session, initial_session, IsRequest, QueryExchange, Exchange, Exchanges, request_reply, request_after, within_limit, answered_messages, end_of, Transcript}
 use Rattle.cj_model.proofs.OneReading.{one_reading}
 use Rattle.cj_sql.proofs.OneReading.{text_one}
 

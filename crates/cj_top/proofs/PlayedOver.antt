@@ -1,7 +1,7 @@
 -- A script over two backends that begin.
 use Rattle.std.proofs.Common.{◌≡◌, ℕ, true, List, [], ◌∷◌, Option, ap}
-use Rattle.cj_model.specs.Cluster.Cores.{Core}
-use Rattle.cj_model.proofs.Standing.{between_none}
+use Rattle.cj_cluster.specs.Moves.Cores.{Core}
+use Rattle.cj_cluster.proofs.Standing.{between_none}
 use Rattle.cj_mem.specs.MemoryBackends.{never_armed}
 use Rattle.cj_core.specs.Armings.{each_arming}
 use Rattle.cj_core.specs.Counting.{faults_of}

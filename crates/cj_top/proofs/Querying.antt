@@ -3,7 +3,7 @@ use Rattle.std.proofs.Common.{◌≡◌, true, List, ℕ, Result, Ok, Err, IfOk,
 use Rattle.cj_model.specs.declared.answer.Reply.{Reply}
 use Rattle.cj_model.specs.declared.request.Request.{Request}
 use Rattle.cj_model.specs.Sql.Grammar.{TextReadsAs}
-use Rattle.cj_model.specs.Wire.Sessions.{Session, QueryExchange, within_limit, request_after, request_reply}
+use Rattle.cj_cluster.specs.Wire.Sessions.{Session, QueryExchange, within_limit, request_after, request_reply}
 
 -- a request that was carried out is the exchange of a text that reads as it
 pub query_carried : {E : Type 0} (s : Session) (text : List ℕ) (r : Request) (given : Result (Session × Reply) E) → s.logged_in ≡ true → TextReadsAs text r

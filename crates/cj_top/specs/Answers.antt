@@ -11,7 +11,7 @@ use Rattle.cj_model.specs.declared.answer.Reply.{Reply}
 use Rattle.cj_model.specs.declared.request.Request.{Request}
 use Rattle.cj_model.specs.Sql.Grammar.{TextReadsAs}
 use Rattle.cj_model.specs.Wire.Replies.{reply_bytes}
-use Rattle.cj_model.specs.Wire.Sessions.{Session, initial_session, Exchange, Exchanges, answered_messages, within_limit, CutsReply, StarvesReply}
+use Rattle.cj_cluster.specs.Wire.Sessions.{Session, initial_session, Exchange, Exchanges, answered_messages, within_limit, CutsReply, StarvesReply}
 
 -- some text reads as the request
 pub record IsReadable (request : Request) : Type 0 where

@@ -5,9 +5,9 @@ use Rattle.std.specs.Str.{bytes_eq}
 use Rattle.std.specs.Io.KnownBytes.{Consumes, Appends, Keeps, IsAtEnd}
 use Rattle.cj_outside.specs.Streams.{most, TookFewer, TookMost, TookSome}
 use Rattle.cj_model.specs.declared.message.Message.{Message}
-use Rattle.cj_model.specs.declared.session.SessionEnd.{SessionEnd}
-use Rattle.cj_model.specs.declared.session.SessionEnd.TheVariants as end
-use Rattle.cj_model.specs.Wire.Sessions.{Session, Transcript, PartialTranscript, CutsReply, StarvesReply}
+use Rattle.cj_cluster.specs.declared.session.SessionEnd.{SessionEnd}
+use Rattle.cj_cluster.specs.declared.session.SessionEnd.TheVariants as end
+use Rattle.cj_cluster.specs.Wire.Sessions.{Session, Transcript, PartialTranscript, CutsReply, StarvesReply}
 
 -- a word that names a configuration: not empty, and no option
 abbrev pub names_file : List ℕ → Bool

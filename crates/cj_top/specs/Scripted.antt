@@ -7,8 +7,8 @@ use Rattle.cj_outside.specs.Causes.{CountsFault}
 use Rattle.cj_outside.specs.Streams.{WritesAll}
 use Rattle.cj_outside.specs.declared.sink.OutError.{OutError}
 use Rattle.cj_outside.specs.declared.sink.OutError.TheVariants as out_errors
-use Rattle.cj_model.specs.Cluster.Runs.{IsBetweenReplies}
-use Rattle.cj_model.specs.Script.Lines.{with_line_feed, words}
+use Rattle.cj_cluster.specs.Moves.Runs.{IsBetweenReplies}
+use Rattle.cj_cluster.specs.Script.Lines.{with_line_feed, words}
 use Rattle.cj_mem.specs.MemoryBackends.{never_armed}
 use Rattle.cj_core.specs.Armings.{each_arming}
 use Rattle.cj_core.specs.Counting.{faults_of}

@@ -1,8 +1,8 @@
 //! What follows for every list of bytes.
 
 ghost use Rattle.std.specs.Prelude.{◌≡◌, List, ℕ};
-ghost use Rattle.cj_model.specs.declared.session.SessionEnd.{SessionEnd};
-ghost use Rattle.cj_model.specs.Wire.Sessions.{Transcript};
+ghost use Rattle.cj_cluster.specs.declared.session.SessionEnd.{SessionEnd};
+ghost use Rattle.cj_cluster.specs.Wire.Sessions.{Transcript};
 
 /// The bytes that a session takes fix the bytes that it writes, and how it ends.
 pub fn bytes_have_one_transcript()

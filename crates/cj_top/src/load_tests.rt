@@ -1,7 +1,7 @@
 //! Backends that are dumped, and what is loaded of that.
 
 ghost use Rattle.std.specs.Prelude.{◌≡◌, [], ◌∷◌, Contains};
-ghost use Rattle.cj_model.specs.Cluster.Legality.{IsWritten};
+ghost use Rattle.cj_model.specs.Sql.WrittenRequests.{IsWritten};
 
 use cj_backend::{Backend, BackendError};
 use cj_flaky::Flaky;

@@ -4,7 +4,7 @@ ghost use Rattle.std.specs.Prelude.{◌≡◌, ◌↔◌, ◌≢◌, true, false
 ghost use Rattle.std.specs.List.{list_any};
 ghost use Rattle.cj_outside.specs.Causes.{CountsFault};
 ghost use Rattle.cj_model.specs.Wire.Frames.{fault_of};
-ghost use Rattle.cj_model.specs.Wire.Sessions as session;
+ghost use Rattle.cj_cluster.specs.Wire.Sessions as session;
 ghost use Rattle.cj_top.specs.Program.{Piped, RunsPipe};
 ghost use Rattle.cj_top.specs.Program as top;
 ghost use Rattle.cj_top.specs.Scripted.{RunsScript};
@@ -12,8 +12,9 @@ ghost use Rattle.cj_top.specs.Scripted as scripted;
 
 use crate::scripted::run_script;
 use crate::session::{answer_all, quits};
+use cj_cluster::SessionEnd;
 use cj_frame::read_frames;
-use cj_model::{FrameFault, Message, SessionEnd};
+use cj_model::{FrameFault, Message};
 use cj_outside::{OutError, ReadError, Sink, Source, read_to_end};
 use std::alloc::Global;
 

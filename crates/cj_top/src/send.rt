@@ -7,7 +7,7 @@ ghost use Rattle.cj_reply.specs.Encode.{IsSendable};
 ghost use Rattle.cj_model.specs.declared.answer.Reply.TheVariants as replies;
 ghost use Rattle.cj_model.specs.declared.answer.Answer.{Answer};
 ghost use Rattle.cj_model.specs.Wire.Replies.{reply_bytes};
-ghost use Rattle.cj_model.specs.Wire.Sessions.{within_limit, refused_reply};
+ghost use Rattle.cj_cluster.specs.Wire.Sessions.{within_limit, refused_reply};
 
 use cj_model::{NOT_BUILT, Refusal, Reply};
 use cj_outside::{OutError, Sink, write_all};

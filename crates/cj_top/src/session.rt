@@ -8,7 +8,7 @@ ghost use Rattle.cj_backend.specs.Backends.{HasBackendCause};
 ghost use Rattle.cj_model.specs.Database.Outcomes.{IsAsked};
 ghost use Rattle.cj_reply.specs.Encode.{IsSendable};
 ghost use Rattle.cj_model.specs.Wire.Replies as replies;
-ghost use Rattle.cj_model.specs.Wire.Sessions as session;
+ghost use Rattle.cj_cluster.specs.Wire.Sessions as session;
 ghost use Rattle.cj_top.specs.Answers.{Answers, IsReadable, AnswersLogin};
 
 use crate::send::send;
@@ -35,7 +35,7 @@ pub struct Session {
 impl Model for Session {
     ghost use Rattle.std.specs.Prelude.{[], IsSome};
     ghost use Rattle.std.specs.Option.{unwrap_or};
-    ghost use Rattle.cj_model.specs.Wire.Sessions.{Session};
+    ghost use Rattle.cj_cluster.specs.Wire.Sessions.{Session};
 
     ghost Value = { Session };
 

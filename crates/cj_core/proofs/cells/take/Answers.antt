@@ -2,10 +2,10 @@ use Rattle.std.proofs.Common.{◌≡◌, ◌+◌, ◌-◌, List, All, slice_get,
 use Rattle.std.proofs.lemmas.Option.{slice_get_within, get_or_from_slice_get}
 use Rattle.cj_model.specs.declared.request.Entry.{Entry}
 use Rattle.cj_model.specs.Sql.PlainRequests.{request_of}
-use Rattle.cj_model.specs.Cluster.Histories.{log}
-use Rattle.cj_model.specs.Cluster.Legality.{IsWritten}
-use Rattle.cj_model.specs.Cluster.Moves.{position_or_zero}
-use Rattle.cj_model.specs.Proving.Invariants.{IsLoneEntry}
+use Rattle.cj_cluster.specs.History.Histories.{log}
+use Rattle.cj_model.specs.Sql.WrittenRequests.{IsWritten}
+use Rattle.cj_cluster.specs.Moves.Moves.{position_or_zero}
+use Rattle.cj_cluster.specs.Proving.Invariants.{IsLoneEntry}
 use Rattle.cj_replica.specs.Cells.{CellState}
 use Rattle.cj_core.proofs.Catching.{took}
 use Rattle.cj_core.proofs.cells.take.Goals as goal

@@ -1,5 +1,5 @@
 use Rattle.std.proofs.Common.{◌≡◌, ◌++◌, length}
-use Rattle.cj_model.specs.Script.Lines.{row_text}
+use Rattle.cj_cluster.specs.Script.Lines.{row_text}
 use Rattle.cj_script.proofs.print.append_row.Given as goal
 
 -- what is there and what is to come are the row's text

@@ -1,5 +1,5 @@
 use Rattle.std.proofs.Common.{take}
-use Rattle.cj_model.specs.Script.Lines.{HasNoSpace}
+use Rattle.cj_cluster.specs.Script.Lines.{HasNoSpace}
 use Rattle.cj_script.proofs.words.first_space.Given as goal
 
 -- no space was passed

@@ -2,7 +2,7 @@ use Rattle.std.proofs.Common.{ℕ, List, sym, ap, subst, ◌∙◌}
 use Rattle.cj_outside.specs.Streams.{WritesAll}
 use Rattle.cj_model.specs.declared.answer.Reply.{Reply}
 use Rattle.cj_model.specs.Wire.Replies.{reply_bytes}
-use Rattle.cj_model.specs.Wire.Sessions.{within_limit}
+use Rattle.cj_cluster.specs.Wire.Sessions.{within_limit}
 use Rattle.cj_top.proofs.send.send.Goals as goal
 
 pub returns-in-Done-clause-bytes : goal.returns-in-Done-clause-bytes

@@ -1,6 +1,6 @@
 use Rattle.std.proofs.Common.{sym, ◌∙◌, inr}
 use Rattle.std.proofs.lemmas.Result.{err_from_is_err_and}
-use Rattle.cj_model.specs.Wire.Sessions.{within_limit}
+use Rattle.cj_cluster.specs.Wire.Sessions.{within_limit}
 use Rattle.cj_top.proofs.Answering.{answering_more, answering_cut, answering_starved}
 use Rattle.cj_top.proofs.session.answer_all.Goals as goal
 

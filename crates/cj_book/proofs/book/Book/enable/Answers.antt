@@ -1,5 +1,5 @@
 use Rattle.std.proofs.Common.{◌<◌, sym, subst, vec_capacity}
-use Rattle.cj_model.specs.Cluster.Histories.{events_left}
+use Rattle.cj_cluster.specs.History.Histories.{events_left}
 use Rattle.cj_book.specs.Books.{BookState}
 use Rattle.cj_book.proofs.Keeping.{keeps_enabled}
 use Rattle.cj_book.proofs.book.Book.enable.Goals as goal

@@ -1,5 +1,5 @@
 use Rattle.std.proofs.Common.{◌≡◌, vec_capacity, false, ap, ◌∙◌, arith, rules}
-use Rattle.cj_model.specs.Cluster.Histories.{is_idle}
+use Rattle.cj_cluster.specs.History.Histories.{is_idle}
 use Rattle.cj_book.specs.Books.{BookState}
 use Rattle.cj_book.proofs.Keeping.{keeps_ended}
 use Rattle.cj_book.proofs.book.Book.end.Goals as goal

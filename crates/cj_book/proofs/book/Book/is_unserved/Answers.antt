@@ -1,7 +1,7 @@
 use Rattle.std.proofs.Common.{◌≢◌, subst, rules}
 use Rattle.cj_model.specs.Sql.PlainRequests.{request_of}
 use Rattle.cj_model.specs.Cluster.Placements.{everywhere}
-use Rattle.cj_model.specs.Cluster.Answering.{HasServer}
+use Rattle.cj_cluster.specs.History.Answering.{HasServer}
 use Rattle.cj_book.specs.Books.{BookState}
 use Rattle.cj_book.proofs.Serving.{served_by_some}
 use Rattle.cj_book.proofs.book.Book.is_unserved.Goals as goal

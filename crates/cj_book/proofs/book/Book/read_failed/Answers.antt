@@ -1,5 +1,5 @@
 use Rattle.std.proofs.Common.{◌≡◌, ◌+◌, ◌<◌, ◌≤◌, true, length, sym, ap, ◌∙◌, subst, vec_capacity, arith}
-use Rattle.cj_model.specs.Cluster.Histories.{events_left}
+use Rattle.cj_cluster.specs.History.Histories.{events_left}
 use Rattle.cj_book.specs.Books.{BookState}
 use Rattle.cj_book.proofs.Keeping.{keeps_read_failed}
 use Rattle.cj_book.proofs.book.Book.read_failed.Goals as goal

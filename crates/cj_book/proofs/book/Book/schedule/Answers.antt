@@ -1,5 +1,5 @@
 use Rattle.std.proofs.Common.{◌≡◌, ◌≤◌, ◌++◌, ◌∷◌, [], length, vec_capacity, true, ap, ◌∙◌, arith}
-use Rattle.cj_model.specs.Cluster.Histories.{is_idle, events_left}
+use Rattle.cj_cluster.specs.History.Histories.{is_idle, events_left}
 use Rattle.cj_book.specs.Books.{BookState}
 use Rattle.cj_book.proofs.Keeping.{keeps_sched}
 use Rattle.cj_book.proofs.book.Book.schedule.Goals as goal

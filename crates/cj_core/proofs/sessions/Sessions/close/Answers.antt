@@ -1,5 +1,5 @@
 use Rattle.std.proofs.Common.{List, sym, ◌∙◌, subst}
-use Rattle.cj_model.specs.declared.moves.OpenSession.{OpenSession}
+use Rattle.cj_cluster.specs.declared.moves.OpenSession.{OpenSession}
 use Rattle.cj_core.specs.Places.{IsPlaceOf}
 use Rattle.cj_core.proofs.Seats.{removed, removed_rises, unremoved}
 use Rattle.cj_core.proofs.sessions.Sessions.close.Goals as goal

@@ -1,6 +1,6 @@
 use Rattle.std.proofs.Common.{List, refl, sym, subst}
-use Rattle.cj_model.specs.declared.moves.OpenSession.{OpenSession}
-use Rattle.cj_model.specs.Cluster.Moves.{still_reading}
+use Rattle.cj_cluster.specs.declared.moves.OpenSession.{OpenSession}
+use Rattle.cj_cluster.specs.Moves.Moves.{still_reading}
 use Rattle.cj_core.specs.Places.{IsPlaceOf}
 use Rattle.cj_core.proofs.Seats.{changed, changed_rises, unchanged}
 use Rattle.cj_core.proofs.sessions.Sessions.keep_reading.Goals as goal

@@ -1,4 +1,4 @@
-use Rattle.cj_model.proofs.Sessions.{rises_push}
+use Rattle.cj_cluster.proofs.Sessions.{rises_push}
 use Rattle.cj_core.proofs.sessions.Sessions.open.Goals as goal
 
 pub invariant_of-self-2 : goal.invariant_of-self-2

@@ -1,5 +1,5 @@
 use Rattle.std.proofs.Common.{◌≡◌, false, sym, subst}
-use Rattle.cj_model.specs.Cluster.Moves.{has_no_number}
+use Rattle.cj_cluster.specs.Moves.Moves.{has_no_number}
 use Rattle.cj_core.specs.Worlds.{WorldState}
 use Rattle.cj_core.proofs.Keeping.{kept_opened}
 use Rattle.cj_core.proofs.world.World.add_session.Goals as goal

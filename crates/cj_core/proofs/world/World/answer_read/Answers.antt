@@ -1,6 +1,6 @@
 use Rattle.std.proofs.Common.{◌≡◌, ◌≤◌, false, length, sym, subst}
-use Rattle.cj_model.specs.Cluster.Histories.{log}
-use Rattle.cj_model.specs.Cluster.Moves.{is_waiting}
+use Rattle.cj_cluster.specs.History.Histories.{log}
+use Rattle.cj_cluster.specs.Moves.Moves.{is_waiting}
 use Rattle.cj_core.specs.Worlds.{WorldState}
 use Rattle.cj_core.proofs.Keeping.{kept_reached}
 use Rattle.cj_core.proofs.world.World.answer_read.Goals as goal

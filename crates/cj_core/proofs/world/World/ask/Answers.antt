@@ -1,12 +1,12 @@
 use Rattle.std.proofs.Common.{◌≡◌, ◌<◌, ℕ, true, false, cond, List, length, map, get_or, set, Ok, Err, None, Some, Option, ap, sym, ◌∙◌, subst}
 use Rattle.std.proofs.lemmas.List.{length-map, get_or_default}
 use Rattle.cj_outside.specs.Causes.{next}
-use Rattle.cj_model.specs.Cluster.Cores.{session_at}
-use Rattle.cj_model.specs.Cluster.Moves.{read_number}
+use Rattle.cj_cluster.specs.Moves.Cores.{session_at}
+use Rattle.cj_cluster.specs.Moves.Moves.{read_number}
 use Rattle.cj_book.specs.Books.{BookState}
 use Rattle.cj_replica.specs.Cells.{CellState, is_asked}
 use Rattle.cj_core.specs.Worlds.{WorldState, core_of, world_of}
-use Rattle.cj_model.specs.Cluster.Cores.{Core}
+use Rattle.cj_cluster.specs.Moves.Cores.{Core}
 use Rattle.cj_core.specs.Armings.{armings_of}
 use Rattle.cj_core.specs.Counting.{faults_of, faults_after}
 use Rattle.cj_core.specs.Effects.{Asks, asked_core, failed_asked}

@@ -1,5 +1,5 @@
 use Rattle.std.proofs.Common.{◌≡◌, map, drop}
-use Rattle.cj_model.specs.Cluster.Moves.{first_lagging}
+use Rattle.cj_cluster.specs.Moves.Moves.{first_lagging}
 use Rattle.cj_replica.specs.Cells.{CellState}
 use Rattle.cj_core.proofs.world.World.behind.Given as goal
 

@@ -1,6 +1,6 @@
 use Rattle.std.proofs.Common.{◌≡◌, None, false, sym, subst}
-use Rattle.cj_model.specs.Cluster.Cores.{session_at}
-use Rattle.cj_model.specs.Cluster.Moves.{is_waiting}
+use Rattle.cj_cluster.specs.Moves.Cores.{session_at}
+use Rattle.cj_cluster.specs.Moves.Moves.{is_waiting}
 use Rattle.cj_core.specs.Worlds.{WorldState}
 use Rattle.cj_core.proofs.Keeping.{kept_counted}
 use Rattle.cj_core.proofs.world.World.count.Goals as goal

@@ -1,8 +1,8 @@
 use Rattle.std.proofs.Common.{◌≡◌, ◌≤◌, true, false, sym, ap, ◌∙◌, subst, arith}
-use Rattle.cj_model.specs.Cluster.Histories.{is_idle, is_enabled}
-use Rattle.cj_model.specs.Cluster.Cores.{Core}
-use Rattle.cj_model.specs.Cluster.Moves.{happened}
-use Rattle.cj_model.specs.declared.event.Event.TheVariants.{Enabled}
+use Rattle.cj_cluster.specs.History.Histories.{is_idle, is_enabled}
+use Rattle.cj_cluster.specs.Moves.Cores.{Core}
+use Rattle.cj_cluster.specs.Moves.Moves.{happened}
+use Rattle.cj_cluster.specs.declared.event.Event.TheVariants.{Enabled}
 use Rattle.cj_core.specs.Worlds.{WorldState}
 use Rattle.cj_core.proofs.Resting.{free-enables, off-enables, happened-begun, no_room}
 use Rattle.cj_core.proofs.world.World.enable_next.Goals as goal

@@ -1,6 +1,6 @@
 use Rattle.std.proofs.Common.{ap, sym, ◌∙◌}
 use Rattle.std.proofs.lemmas.Bool.{eq-eqb}
-use Rattle.cj_model.specs.Cluster.Cores.{is_entry_of}
+use Rattle.cj_cluster.specs.Moves.Cores.{is_entry_of}
 use Rattle.cj_core.specs.Worlds.{WorldState}
 use Rattle.cj_core.proofs.world.World.end.Goals as goal
 

@@ -1,6 +1,6 @@
 use Rattle.std.proofs.Common.{◌≡◌, true, false, None, sym, subst}
-use Rattle.cj_model.specs.Cluster.Histories.{is_idle}
-use Rattle.cj_model.specs.Cluster.Moves.{first_lagging, is_waiting}
+use Rattle.cj_cluster.specs.History.Histories.{is_idle}
+use Rattle.cj_cluster.specs.Moves.Moves.{first_lagging, is_waiting}
 use Rattle.cj_core.specs.Worlds.{WorldState}
 use Rattle.cj_core.proofs.Keeping.{kept_answered}
 use Rattle.cj_core.proofs.world.World.end_entry.Goals as goal

@@ -1,9 +1,9 @@
 use Rattle.std.proofs.Common.{◌≡◌, ◌+◌, Some, ℕ, List, sym, ap, ◌∙◌, subst}
-use Rattle.cj_model.specs.Cluster.Histories.{log}
-use Rattle.cj_model.specs.Cluster.Legality.{IsFitEntry}
-use Rattle.cj_model.specs.Cluster.Cores.{find_session}
-use Rattle.cj_model.specs.Cluster.Moves.{next_entry}
-use Rattle.cj_model.specs.Proving.Invariants.{CoreInvariant}
+use Rattle.cj_cluster.specs.History.Histories.{log}
+use Rattle.cj_cluster.specs.History.Legality.{IsFitEntry}
+use Rattle.cj_cluster.specs.Moves.Cores.{find_session}
+use Rattle.cj_cluster.specs.Moves.Moves.{next_entry}
+use Rattle.cj_cluster.specs.Proving.Invariants.{CoreInvariant}
 use Rattle.cj_core.specs.Worlds.{WorldState}
 use Rattle.cj_core.proofs.Scheduling.{next_is, change_allowed, change_fits}
 use Rattle.cj_core.proofs.world.World.next_entry.Goals as goal

@@ -1,13 +1,13 @@
 use Rattle.std.proofs.Common.{◌≡◌, ℕ, Bool, true, false, cond, None, Some, Ok, Err, refl, ap, sym, ◌∙◌, subst}
 use Rattle.std.proofs.lemmas.Bool.{both_ways}
-use Rattle.cj_model.specs.declared.moves.Moved.{Moved}
-use Rattle.cj_model.specs.Cluster.Cores.{Core, session_at, is_entry_of}
-use Rattle.cj_model.specs.Cluster.Moves.{HasNoOtherRead, is_waiting, read_number}
+use Rattle.cj_cluster.specs.declared.moves.Moved.{Moved}
+use Rattle.cj_cluster.specs.Moves.Cores.{Core, session_at, is_entry_of}
+use Rattle.cj_cluster.specs.Moves.Moves.{HasNoOtherRead, is_waiting, read_number}
 use Rattle.cj_core.specs.declared.cells.AskError.{AskError}
-use Rattle.cj_model.specs.declared.event.Event.TheVariants.{ReadFailed}
-use Rattle.cj_model.proofs.Now.{can_read}
-use Rattle.cj_model.proofs.Pushed.{opened-same}
-use Rattle.cj_model.proofs.Standing.{tried_more}
+use Rattle.cj_cluster.specs.declared.event.Event.TheVariants.{ReadFailed}
+use Rattle.cj_cluster.proofs.Now.{can_read}
+use Rattle.cj_cluster.proofs.Pushed.{opened-same}
+use Rattle.cj_cluster.proofs.Standing.{tried_more}
 use Rattle.cj_core.specs.Worlds.{WorldState}
 use Rattle.cj_core.specs.Armings.{armings_of}
 use Rattle.cj_core.specs.Counting.{faults_of, faults_after, tells_fault}

@@ -1,5 +1,5 @@
 use Rattle.std.proofs.Common.{◌≡◌, false, sym, subst}
-use Rattle.cj_model.specs.Cluster.Moves.{is_waiting}
+use Rattle.cj_cluster.specs.Moves.Moves.{is_waiting}
 use Rattle.cj_core.specs.Worlds.{WorldState}
 use Rattle.cj_core.proofs.Keeping.{kept_refused}
 use Rattle.cj_core.proofs.world.World.refuse_read.Goals as goal

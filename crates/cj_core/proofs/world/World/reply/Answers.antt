@@ -1,8 +1,8 @@
 use Rattle.std.proofs.Common.{◌≡◌, false, None, sym, subst, rules}
 use Rattle.cj_model.specs.declared.answer.Outcome.TheVariants as outcome
 use Rattle.cj_model.specs.declared.answer.Reply.TheVariants as reply
-use Rattle.cj_model.specs.Cluster.Histories.{is_idle}
-use Rattle.cj_model.specs.Cluster.Moves.{first_lagging}
+use Rattle.cj_cluster.specs.History.Histories.{is_idle}
+use Rattle.cj_cluster.specs.Moves.Moves.{first_lagging}
 use Rattle.cj_core.specs.Worlds.{WorldState}
 use Rattle.cj_core.specs.Effects.{AnswersOpen}
 use Rattle.cj_core.proofs.Ending.{unfinished, finished, was_heard}

@@ -1,7 +1,7 @@
 use Rattle.std.proofs.Common.{◌≡◌, ◌+◌, ℕ, List, [], ◌∷◌, length, length-append, take, get_or, map, sym, ap, ◌∙◌, subst, arith}
 use Rattle.std.proofs.lemmas.List.{take_all}
-use Rattle.cj_model.specs.declared.moves.Move.{Move}
-use Rattle.cj_model.specs.declared.moves.Made.{Made}
+use Rattle.cj_cluster.specs.declared.moves.Move.{Move}
+use Rattle.cj_cluster.specs.declared.moves.Made.{Made}
 use Rattle.cj_core.specs.Played.{given_of, HasRun}
 use Rattle.cj_core.proofs.Making.{Making, making_none, making_more, making_longer, making_legal, making_run, making_part, making_met}
 use Rattle.cj_core.proofs.world.World.run.Goals as goal

@@ -1,7 +1,7 @@
 use Rattle.std.proofs.Common.{◌≡◌, false, None, Err, ap, sym, ◌∙◌, subst}
-use Rattle.cj_model.specs.Cluster.Cores.{session_at}
-use Rattle.cj_model.specs.Cluster.Moves.{is_waiting, with_request_counted}
-use Rattle.cj_model.proofs.Now.{can_schedule}
+use Rattle.cj_cluster.specs.Moves.Cores.{session_at}
+use Rattle.cj_cluster.specs.Moves.Moves.{is_waiting, with_request_counted}
+use Rattle.cj_cluster.proofs.Now.{can_schedule}
 use Rattle.cj_book.specs.declared.error.BookError.{BookError}
 use Rattle.cj_core.specs.Worlds.{WorldState}
 use Rattle.cj_core.specs.Effects.{SchedulesAs}

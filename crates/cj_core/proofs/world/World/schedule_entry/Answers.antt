@@ -1,8 +1,8 @@
 use Rattle.std.proofs.Common.{◌≡◌, Ok, Err, None, true, sym, subst}
-use Rattle.cj_model.specs.Cluster.Histories.{log}
-use Rattle.cj_model.specs.Cluster.Legality.{IsFitEntry}
-use Rattle.cj_model.specs.Cluster.Cores.{session_at}
-use Rattle.cj_model.specs.Cluster.Moves.{is_open, next_entry}
+use Rattle.cj_cluster.specs.History.Histories.{log}
+use Rattle.cj_cluster.specs.History.Legality.{IsFitEntry}
+use Rattle.cj_cluster.specs.Moves.Cores.{session_at}
+use Rattle.cj_cluster.specs.Moves.Moves.{is_open, next_entry}
 use Rattle.cj_core.specs.Worlds.{WorldState}
 use Rattle.cj_core.specs.Effects.{SchedulesAs}
 use Rattle.cj_core.proofs.Keeping.{kept_scheduled}

@@ -1,6 +1,6 @@
 use Rattle.std.proofs.Common.{◌≡◌, ◌∙◌, sym, subst}
 use Rattle.cj_model.specs.declared.request.Request.TheVariants as request
-use Rattle.cj_model.specs.Cluster.Histories.{is_enabled}
+use Rattle.cj_cluster.specs.History.Histories.{is_enabled}
 use Rattle.cj_core.specs.Worlds.{WorldState, IsWorld}
 use Rattle.cj_core.proofs.Serving.{serves_at}
 use Rattle.cj_core.proofs.world.World.serves.Goals as goal

@@ -1,6 +1,7 @@
 use Rattle.std.proofs.Common.{◌≡◌, ◌∙◌, ℕ, sym, subst}
 use Rattle.cj_model.specs.declared.request.Request.TheVariants as request
-use Rattle.cj_model.specs.Cluster.Histories.{in_mask, is_enabled}
+use Rattle.cj_cluster.specs.History.Histories.{is_enabled}
+use Rattle.cj_model.specs.Cluster.Masks.{in_mask}
 use Rattle.cj_core.specs.Worlds.{WorldState, IsWorld}
 use Rattle.cj_core.proofs.Serving.{serves_at}
 use Rattle.cj_core.proofs.world.World.serving.Goals as goal

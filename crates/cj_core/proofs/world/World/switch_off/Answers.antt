@@ -1,6 +1,6 @@
 use Rattle.std.proofs.Common.{◌≡◌, true, sym, subst}
-use Rattle.cj_model.specs.declared.event.Event.TheVariants.{Disabled}
-use Rattle.cj_model.specs.Cluster.Histories.{is_idle, is_enabled}
+use Rattle.cj_cluster.specs.declared.event.Event.TheVariants.{Disabled}
+use Rattle.cj_cluster.specs.History.Histories.{is_idle, is_enabled}
 use Rattle.cj_book.specs.Books.{BookState}
 use Rattle.cj_core.specs.Worlds.{WorldState, world_of}
 use Rattle.cj_core.specs.Effects.{HadRoom}

@@ -1,7 +1,7 @@
 use Rattle.std.proofs.Common.{◌≡◌, true, false, Some, length, sym, subst}
-use Rattle.cj_model.specs.declared.event.Event.TheVariants.{Enabled}
-use Rattle.cj_model.specs.Cluster.Histories.{log, is_idle, is_enabled}
-use Rattle.cj_model.specs.Cluster.Cores.{position_at}
+use Rattle.cj_cluster.specs.declared.event.Event.TheVariants.{Enabled}
+use Rattle.cj_cluster.specs.History.Histories.{log, is_idle, is_enabled}
+use Rattle.cj_cluster.specs.Moves.Cores.{position_at}
 use Rattle.cj_book.specs.Books.{BookState}
 use Rattle.cj_core.specs.Worlds.{WorldState, world_of}
 use Rattle.cj_core.specs.Effects.{HadRoom}

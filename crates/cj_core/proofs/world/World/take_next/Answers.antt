@@ -1,9 +1,9 @@
 use Rattle.std.proofs.Common.{◌≡◌, ◌+◌, None, Ok, refl, ap, sym, subst}
-use Rattle.cj_model.specs.declared.moves.Move.TheVariants.{Replay}
-use Rattle.cj_model.specs.declared.moves.Moved.TheVariants.{Replayed}
-use Rattle.cj_model.specs.Cluster.Moves.{position_or_zero, not_now, Replays}
-use Rattle.cj_model.specs.Cluster.Cores.{position_at}
-use Rattle.cj_model.proofs.Now.{CanReplay, can_replay}
+use Rattle.cj_cluster.specs.declared.moves.Move.TheVariants.{Replay}
+use Rattle.cj_cluster.specs.declared.moves.Moved.TheVariants.{Replayed}
+use Rattle.cj_cluster.specs.Moves.Moves.{position_or_zero, not_now, Replays}
+use Rattle.cj_cluster.specs.Moves.Cores.{position_at}
+use Rattle.cj_cluster.proofs.Now.{CanReplay, can_replay}
 use Rattle.cj_core.specs.Worlds.{WorldState, core_of}
 use Rattle.cj_core.proofs.Catching.{can_take}
 use Rattle.cj_core.proofs.Taking.{kept_replayed, replays, took_counts, took_armings}

@@ -1,9 +1,9 @@
 use Rattle.std.proofs.Common.{◌≡◌, None, Ok, refl, ap, sym, subst}
-use Rattle.cj_model.specs.declared.moves.Move.TheVariants.{Apply}
-use Rattle.cj_model.specs.declared.moves.Moved.TheVariants.{Applied}
-use Rattle.cj_model.specs.Cluster.Moves.{position_or_zero, not_now, Applies}
-use Rattle.cj_model.specs.Cluster.Cores.{position_at}
-use Rattle.cj_model.proofs.Now.{CanApply, can_apply}
+use Rattle.cj_cluster.specs.declared.moves.Move.TheVariants.{Apply}
+use Rattle.cj_cluster.specs.declared.moves.Moved.TheVariants.{Applied}
+use Rattle.cj_cluster.specs.Moves.Moves.{position_or_zero, not_now, Applies}
+use Rattle.cj_cluster.specs.Moves.Cores.{position_at}
+use Rattle.cj_cluster.proofs.Now.{CanApply, can_apply}
 use Rattle.cj_core.specs.Worlds.{WorldState, core_of}
 use Rattle.cj_core.proofs.Catching.{can_take}
 use Rattle.cj_core.proofs.Taking.{kept_applied, applies, took_counts, took_armings}

@@ -1,5 +1,5 @@
 use Rattle.std.proofs.Common.{ℕ, sym, subst}
-use Rattle.cj_model.proofs.Standing.{still_tried}
+use Rattle.cj_cluster.proofs.Standing.{still_tried}
 use Rattle.cj_core.specs.Effects.{HaveFailed}
 use Rattle.cj_core.proofs.world.World.wait.Goals as goal
 

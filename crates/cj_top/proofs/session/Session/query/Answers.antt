@@ -1,6 +1,6 @@
 use Rattle.std.proofs.Common.{sym, ◌∙◌, ap}
 use Rattle.std.proofs.lemmas.Bool.{not-false}
-use Rattle.cj_model.specs.Wire.Sessions.{Session}
+use Rattle.cj_cluster.specs.Wire.Sessions.{Session}
 use Rattle.cj_top.proofs.Querying.{query_carried}
 use Rattle.cj_top.proofs.session.Session.query.Goals as goal
 

@@ -1,0 +1,16 @@
+pub mod Answered
+pub mod BegunLaws
+pub mod Between
+pub mod Chains
+pub mod DraftLaws
+pub mod Effects
+pub mod Growth
+pub mod Now
+pub mod PartRuns
+pub mod Pushed
+pub mod SessionLaws
+pub mod Sessions
+pub mod Soundness
+pub mod Standing
+pub mod TransactionLaws
+pub mod TurnCases

@@ -1,0 +1,172 @@
+-- What holds where a move can be made now.
+use Rattle.std.proofs.Common.{◌≡◌, ◌≢◌, ℕ, zero, suc, ◌+◌, ◌≤◌, ◌&&◌, cond, Bool, true, false, nat_lt, List, [], ◌∷◌, length, get_or, Option, None, Some, is_some, is_none, refl, ap, ◌∙◌, subst, arith, ⊎_elim}
+use Rattle.std.proofs.lemmas.Bool.{eqb-true, eqb-false, not-false, or_parts, ltb-false, and_cases, both_ways}
+use Rattle.cj_cluster.specs.declared.event.Event.{Event}
+use Rattle.cj_model.specs.declared.request.Request.{Request}
+use Rattle.cj_model.specs.declared.select.Select.{Select}
+use Rattle.cj_cluster.specs.declared.moves.Reason.{Reason}
+use Rattle.cj_cluster.specs.declared.moves.Why.{Why}
+use Rattle.cj_cluster.specs.declared.moves.OpenRead.{OpenRead}
+use Rattle.cj_cluster.specs.declared.moves.Move.TheVariants.{Close, Schedule, Apply, End, Read, Disable, Replay, Enable}
+use Rattle.cj_cluster.specs.History.Histories.{log, is_idle, is_enabled}
+use Rattle.cj_cluster.specs.Moves.Cores.{Core, position_at, session_at}
+use Rattle.cj_cluster.specs.Moves.Moves.{reason_if, position_or_zero, first_lagging, reason_if_lagging, not_now, is_open, is_waiting}
+
+-- a reason that is none: the test is false, and no later reason is one
+pub because_none : (t : Bool) (r : Reason) (v : ℕ) (otherwise : Option Why) → reason_if t r v otherwise ≡ None → (t ≡ false) × (otherwise ≡ None)
+because_none true r v otherwise e = absurd (cc e)
+because_none false r v otherwise e = (refl, e)
+
+-- a backend that is not out stands at its place
+stands_at : (p : Option ℕ) → is_none p ≡ false → p ≡ Some (position_or_zero p)
+stands_at None e = absurd (cc e)
+stands_at (Some p) e = refl
+
+-- a session that reads nothing has no open read
+no_read : (r : Option OpenRead) → is_some r ≡ false → r ≡ None
+no_read None e = refl
+no_read (Some r) e = absurd (cc e)
+
+-- the session is open, and waits for no reply
+pub record CanClose (c : Core) (s : ℕ) : Type 0 where
+  pub here : is_open c s ≡ true
+  pub idle : is_waiting c s ≡ false
+  pub no_read : (session_at c s).reading ≡ None
+
+-- what a Close that can be made now says
+pub can_close : (c : Core) (s : ℕ) → not_now c (Close s) ≡ None → CanClose c s
+can_close c s e =
+    let p = because_none _ _ _ _ e in
+    let q = because_none _ _ _ _ p.1 in
+    let o = or_parts _ _ q.0 in
+    record { here = not-false _ p.0; idle = o.0; no_read = no_read _ o.1 }
+
+-- the session is open and waits for no reply, and no entry is open
+pub record CanSchedule (c : Core) (s : ℕ) : Type 0 where
+  pub here : is_open c s ≡ true
+  pub idle : is_waiting c s ≡ false
+  pub no_read : (session_at c s).reading ≡ None
+  pub is_free : is_idle c.history ≡ true
+
+-- what a Schedule that can be made now says
+pub can_schedule : (c : Core) (s : ℕ) (r : Request) → not_now c (Schedule s r) ≡ None → CanSchedule c s
+can_schedule c s r e =
+    let p = because_none _ _ _ _ e in
+    let q = because_none _ _ _ _ p.1 in
+    let f = because_none _ _ _ _ q.1 in
+    let o = or_parts _ _ q.0 in
+    record { here = not-false _ p.0; idle = o.0; no_read = no_read _ o.1; is_free = not-false _ f.0 }
+
+-- an entry is open, and the backend is enabled, not out and not yet at the log's end
+pub record CanApply (c : Core) (b : ℕ) : Type 0 where
+  pub is_running : is_idle c.history ≡ false
+  pub on : is_enabled c.history b ≡ true
+  pub at : position_at c b ≡ Some (position_or_zero (position_at c b))
+  pub more : position_or_zero (position_at c b) ≢ length (log c.history)
+
+-- what an Apply that can be made now says
+pub can_apply : (c : Core) (b : ℕ) → not_now c (Apply b) ≡ None → CanApply c b
+can_apply c b e =
+    let p = because_none _ _ _ _ e in
+    let q = because_none _ _ _ _ p.1 in
+    let r = because_none _ _ _ _ q.1 in
+    let s = because_none _ _ _ _ r.1 in
+    record { is_running = p.0; on = not-false _ q.0; at = stands_at _ r.0; more = eqb-false _ _ s.0 }
+
+-- an entry is open, and no enabled backend is behind
+pub record CanEnd (c : Core) : Type 0 where
+  pub is_running : is_idle c.history ≡ false
+  pub none_behind : first_lagging c.history 0 c.positions ≡ None
+
+-- no reason where no backend is behind
+because_behind_none : (o : Option ℕ) → reason_if_lagging o ≡ None → o ≡ None
+because_behind_none None e = refl
+because_behind_none (Some p) e = absurd (cc e)
+
+-- what an End that can be made now says
+pub can_end : (c : Core) → not_now c End ≡ None → CanEnd c
+can_end c e =
+    let p = because_none _ _ _ _ e in
+    record { is_running = p.0; none_behind = because_behind_none _ p.1 }
+
+-- the session is open, and its own entry is not
+pub record CanRead (c : Core) (s : ℕ) : Type 0 where
+  pub here : is_open c s ≡ true
+  pub idle : is_waiting c s ≡ false
+
+-- what a Read that can be made now says
+pub can_read : (c : Core) (s b : ℕ) (select : Select) → not_now c (Read s b select) ≡ None → CanRead c s
+can_read c s b select e =
+    let p = because_none _ _ _ _ e in
+    let q = because_none _ _ _ _ p.1 in
+    record { here = not-false _ p.0; idle = q.0 }
+
+-- no entry is open, and the backend is enabled
+pub record CanDisable (c : Core) (b : ℕ) : Type 0 where
+  pub is_free : is_idle c.history ≡ true
+  pub on : is_enabled c.history b ≡ true
+
+-- what a Disable that can be made now says
+pub can_disable : (c : Core) (b : ℕ) → not_now c (Disable b) ≡ None → CanDisable c b
+can_disable c b e =
+    let p = because_none _ _ _ _ e in
+    let q = because_none _ _ _ _ p.1 in
+    record { is_free = not-false _ p.0; on = not-false _ q.0 }
+
+-- the backend is not enabled, not out and not yet at the log's end
+pub record CanReplay (c : Core) (b : ℕ) : Type 0 where
+  pub off : is_enabled c.history b ≡ false
+  pub at : position_at c b ≡ Some (position_or_zero (position_at c b))
+  pub more : position_or_zero (position_at c b) ≢ length (log c.history)
+
+-- what a Replay that can be made now says
+pub can_replay : (c : Core) (b : ℕ) → not_now c (Replay b) ≡ None → CanReplay c b
+can_replay c b e =
+    let p = because_none _ _ _ _ e in
+    let q = because_none _ _ _ _ p.1 in
+    let r = because_none _ _ _ _ q.1 in
+    record { off = p.0; at = stands_at _ q.0; more = eqb-false _ _ r.0 }
+
+-- no entry is open, and the backend is not enabled, and at the log's end
+pub record CanEnable (c : Core) (b : ℕ) : Type 0 where
+  pub is_free : is_idle c.history ≡ true
+  pub off : is_enabled c.history b ≡ false
+  pub at : position_at c b ≡ Some (length (log c.history))
+
+-- what an Enable that can be made now says
+pub can_enable : (c : Core) (b : ℕ) → not_now c (Enable b) ≡ None → CanEnable c b
+can_enable c b e =
+    let p = because_none _ _ _ _ e in
+    let q = because_none _ _ _ _ p.1 in
+    let r = because_none _ _ _ _ q.1 in
+    let s = because_none _ _ _ _ r.1 in
+    record { is_free = not-false _ p.0; off = q.0; at = stands_at _ r.0 ∙ ap (λ x. Some x) (eqb-true _ _ (not-false _ s.0)) }
+
+-- ---- nobody is behind
+
+-- a choice that gives nothing: the test is false, and the other branch gives nothing
+cond_none : (t : Bool) (x : ℕ) (otherwise : Option ℕ) → cond t (Some x) otherwise ≡ None → (t ≡ false) × (otherwise ≡ None)
+cond_none true x otherwise e = absurd (cc e)
+cond_none false x otherwise e = (refl, e)
+
+-- Where none of the positions, which are those of the backends from n on, is behind, each enabled backend that is not out is at the log's end.
+pub behind_from : (h : List Event) (n : ℕ) (ps : List (Option ℕ)) → first_lagging h n ps ≡ None
+    → (i q : ℕ) → get_or ps i None ≡ Some q → is_enabled h (n + i) ≡ true → length (log h) ≤ q
+behind_from h n [] none i q is on = absurd (cc is)
+behind_from h n (None ∷ ps) none zero q is on = absurd (cc is)
+behind_from h n (None ∷ ps) none (suc i) q is on = behind_from h (n + 1) ps none i q is (let e : n + 1 + i ≡ n + suc i = omega arith in rw e on)
+behind_from h n (Some p ∷ ps) none zero q is on =
+    let same : p ≡ q = cc is in
+    let t = (cond_none (is_enabled h n && nat_lt p (length (log h))) p (first_lagging h (n + 1) ps) none).0 in
+    let e : n + 0 ≡ n = omega arith in
+    let now : is_enabled h n ≡ true = subst (λ (x : ℕ). is_enabled h x ≡ true) e on in
+    ⊎_elim (λ (off : is_enabled h n ≡ false). absurd (both_ways (is_enabled h n) off now))
+    (λ (ge : nat_lt p (length (log h)) ≡ false). let le : length (log h) ≤ p = ltb-false _ _ ge in omega arith)
+    (and_cases _ _ t)
+behind_from h n (Some p ∷ ps) none (suc i) q is on =
+    behind_from h (n + 1) ps (cond_none (is_enabled h n && nat_lt p (length (log h))) p (first_lagging h (n + 1) ps) none).1 i q is (let e : n + 1 + i ≡ n + suc i = omega arith in rw e on)
+
+-- the same of all positions
+pub behind_none : (h : List Event) (ps : List (Option ℕ)) → first_lagging h 0 ps ≡ None
+    → (b q : ℕ) → get_or ps b None ≡ Some q → is_enabled h b ≡ true → length (log h) ≤ q
+behind_none h ps none b q is on = behind_from h 0 ps none b q is (let e : 0 + b ≡ b = omega arith in rw e on)

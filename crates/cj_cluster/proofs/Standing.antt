@@ -1,0 +1,256 @@
+-- Each session stands between two replies: how what moves change keeps that, whatever the backends tell.
+use Rattle.std.proofs.Common.{◌≡◌, ℕ, ◌+◌, ◌≤◌, Bool, true, false, List, [], ◌∷◌, ◌++◌, length, Option, option_map, None, Some, is_some, refl, ap, sym, ◌∙◌, subst, arith, ⊎_elim}
+use Rattle.std.proofs.lemmas.Bool.{cases_eq, eqb-true, both_ways}
+use Rattle.cj_model.specs.declared.request.Entry.{Entry}
+use Rattle.cj_model.specs.declared.select.Select.{Select}
+use Rattle.cj_cluster.specs.declared.event.Event.{Event}
+use Rattle.cj_cluster.specs.declared.event.Event.TheVariants.{Sched, Ended, ReadFailed}
+use Rattle.cj_cluster.specs.declared.moves.OpenSession.{OpenSession}
+use Rattle.cj_model.specs.Sql.PlainRequests.{request_of}
+use Rattle.cj_cluster.specs.History.Histories.{scheduled_entry, is_end_event, log, is_idle, entry_in_progress, is_enabled, enabled_after_event, events_left, is_log_fault}
+use Rattle.cj_model.specs.Cluster.Masks.{in_mask, with_backend}
+use Rattle.cj_cluster.specs.History.Answering.{HasServer}
+use Rattle.cj_cluster.specs.History.Turns.{SessionView}
+use Rattle.cj_cluster.specs.Moves.Cores.{Core, find_session, session_at, new_session, with_session, is_entry_of}
+use Rattle.cj_cluster.specs.Moves.Moves.{is_open, with_one_request, answered_at, still_reading, read_number, tried_of, with_read}
+use Rattle.cj_cluster.specs.Proving.Invariants.{CoreInvariant}
+use Rattle.cj_cluster.specs.Moves.Runs.{seen_at, HasFailedSince, TriedSince, IsBetweenReplies, AreBetween}
+use Rattle.cj_cluster.proofs.Pushed.{prefix_self, prefix_length}
+use Rattle.cj_cluster.proofs.Sessions.{session_at-is, session_of-same, session_of-other, is_open-with, without, session_of-without_other}
+use Rattle.cj_cluster.proofs.Between.{follows_own, follows_rest, follows_opened, between_follows, between_fresh, between_opened, between_closed, seen_event, seen_ended, seen_other, seen_sched, seen_changed, tried_none, tried_still, tried_again, prior}
+
+-- ---- where no session is open
+
+-- each session has seen what has happened, and needs no position
+pub between_none : (c : Core) → c.sessions ≡ [] → (s : ℕ) → IsBetweenReplies (record { front = c.history; least = 0 }) c s
+between_none c none s =
+    record {
+      longer = prefix_self c.history;
+      owes = (let le : 0 ≤ length (log c.history) = omega arith in le);
+      here = λ t. absurd (both_ways (is_open c s) (ap (λ ss. is_some (find_session ss s)) none) t);
+      later = λ lt. refl;
+    }
+
+pub stand_none : (c : Core) → c.sessions ≡ [] → AreBetween c
+stand_none c none s = (record { front = c.history; least = 0 }, between_none c none s)
+
+-- ---- what changes no session
+
+-- backends and masks change
+pub stand_rest : (c : Core) (ps : List (Option ℕ)) (f t : ℕ) → AreBetween c → AreBetween (record c { positions = ps; failed = f; starved = t })
+stand_rest c ps f t between s =
+    let q = between s in
+    let z : Core = record c { positions = ps; failed = f; starved = t } in
+    (q.0, between_follows q.0 c z c.history s (session_at c s) q.1 (follows_rest c z c.history s c.placement ps f t c.sessions (prefix_self c.history) refl refl) (λ x. x))
+
+-- an event that schedules nothing and ends nothing, and enables or disables nothing while an entry is open
+pub stand_event : (c : Core) (ev : Event) → scheduled_entry ev ≡ None → is_end_event ev ≡ false → ((t q : ℕ) → is_log_fault t q ev ≡ false)
+    → ((s : ℕ) → is_entry_of s (entry_in_progress c.history) ≡ true → (b : ℕ) → enabled_after_event b (is_enabled c.history b) ev ≡ is_enabled c.history b) → AreBetween c → AreBetween (record c { history = c.history ++ ev ∷ [] })
+stand_event c ev none stays no_fault same between s =
+    let q = between s in
+    let z : Core = record c { history = c.history ++ ev ∷ [] } in (
+      q.0,
+      between_follows q.0 c z (c.history ++ ev ∷ []) s (session_at c s) q.1
+          (follows_rest c z (c.history ++ ev ∷ []) s c.placement c.positions c.failed c.starved c.sessions (ev ∷ [], refl) refl refl)
+          (λ x. seen_event c.placement q.0 c.history s (session_at c s) x ev none stays no_fault (same s)),
+    )
+
+-- ---- sessions that open and close
+
+pub stand_opened : (c : Core) (user : List ℕ) → CoreInvariant c → AreBetween c → AreBetween (record c { sessions = c.sessions ++ new_session (c.greatest + 1) user ∷ []; greatest = c.greatest + 1 })
+stand_opened c user w between s =
+    let n : ℕ = c.greatest + 1 in
+    let z : Core = record c { sessions = c.sessions ++ new_session n user ∷ []; greatest = n } in
+    let q = between s in
+    let stood : IsBetweenReplies q.0 z s =
+    ⊎_elim
+    (λ (e : s ≡ n). between_opened q.0 c z s user w q.1 e (subst (λ (k : ℕ). z ≡ record c { sessions = c.sessions ++ new_session k user ∷ []; greatest = k }) (sym e) refl))
+    (λ (e : s ≡ n → ⊥). between_follows q.0 c z c.history s (session_at c s) q.1 (follows_opened c z s n user e refl refl) (λ x. x))
+    (cases_eq s n)
+    in
+    (q.0, stood)
+
+pub stand_closed : (c : Core) (k : ℕ) → AreBetween c → AreBetween (record c { sessions = without k c.sessions })
+stand_closed c k between s =
+    let z : Core = record c { sessions = without k c.sessions } in
+    let q = between s in
+    let stood : IsBetweenReplies q.0 z s =
+    ⊎_elim
+    (λ (e : s ≡ k). between_closed q.0 c z s q.1 (subst (λ (n : ℕ). z ≡ record c { sessions = without n c.sessions }) (sym e) refl))
+    (λ (e : s ≡ k → ⊥).
+    between_follows q.0 c z c.history s (session_at c s) q.1
+    (follows_rest c z c.history s c.placement c.positions c.failed c.starved (without k c.sessions) (prefix_self c.history) refl (session_of-without_other c.sessions k s e)) (λ x. x))
+    (cases_eq s k)
+    in
+    (q.0, stood)
+
+-- ---- a session changes
+
+module _ (c z : Core) (k : ℕ) (f : OpenSession → OpenSession) (keeps : (x : OpenSession) → (f x).number ≡ x.number) (is : z.sessions ≡ with_session c.sessions k f) where
+  -- what is found of it then
+  found_changed : (o : Option OpenSession) → find_session c.sessions k ≡ o → find_session z.sessions k ≡ option_map f o
+  found_changed o e = ap (λ ss. find_session ss k) is ∙ (session_of-same f keeps c.sessions k ∙ ap (option_map f) e)
+
+  -- it reads nothing, where the change leaves no read open
+  pub none_reading : ((x : OpenSession) → find_session c.sessions k ≡ Some x → (f x).reading ≡ None) → (session_at z k).reading ≡ None
+  none_reading none = one (find_session c.sessions k) refl
+    where
+      one : (o : Option OpenSession) → find_session c.sessions k ≡ o → (session_at z k).reading ≡ None
+      one None e = ap (λ (x : OpenSession). x.reading) (session_at-is z k None (found_changed None e))
+      one (Some x) e = ap (λ (y : OpenSession). y.reading) (session_at-is z k (Some (f x)) (found_changed (Some x) e)) ∙ none x e
+
+  -- and nothing where it read nothing before, and the change leaves its read as it is
+  pub still_none : ((x : OpenSession) → (f x).reading ≡ x.reading) → (session_at c k).reading ≡ None → (session_at z k).reading ≡ None
+  still_none same none = none_reading (λ x e. same x ∙ (sym (ap (λ (y : OpenSession). y.reading) (session_at-is c k (Some x) e)) ∙ none))
+
+module _ (c : Core) (k : ℕ) (f : OpenSession → OpenSession) (keeps : (x : OpenSession) → (f x).number ≡ x.number) (between : AreBetween c) where
+  -- no other session changes
+  stand_with : (a : SessionView) → IsBetweenReplies a (with_read c k f) k → AreBetween (with_read c k f)
+  stand_with a own s =
+      let z : Core = with_read c k f in
+      ⊎_elim (λ (e : s ≡ k). subst (λ (n : ℕ). (b : SessionView) × IsBetweenReplies b z n) (sym e) (a, own))
+      (λ (e : s ≡ k → ⊥).
+      let q = between s in (
+        q.0,
+        between_follows q.0 c z c.history s (session_at c s) q.1
+            (follows_rest c z c.history s c.placement c.positions c.failed c.starved (with_session c.sessions k f) (prefix_self c.history) refl (session_of-other f keeps c.sessions k s e)) (λ x. x),
+      ))
+      (cases_eq s k)
+
+  -- it reads nothing then, and no entry of its own is open
+  stand_fresh : CoreInvariant (with_read c k f) → is_entry_of k (entry_in_progress c.history) ≡ false → (session_at (with_read c k f) k).reading ≡ None → AreBetween (with_read c k f)
+  stand_fresh v idle none = stand_with (seen_at (with_read c k f) k) (between_fresh (with_read c k f) k v idle none)
+
+  -- its read was answered
+  pub stand_answered : ((x : OpenSession) → (f x).reading ≡ None) → CoreInvariant (with_read c k f) → is_entry_of k (entry_in_progress c.history) ≡ false → AreBetween (with_read c k f)
+  stand_answered none v idle = stand_fresh v idle (none_reading c (with_read c k f) k f keeps refl (λ x e. none x))
+
+  -- it read nothing, and reads nothing still
+  pub stand_counted : ((x : OpenSession) → (f x).reading ≡ x.reading) → (session_at c k).reading ≡ None → CoreInvariant (with_read c k f) → is_entry_of k (entry_in_progress c.history) ≡ false → AreBetween (with_read c k f)
+  stand_counted same none v idle = stand_fresh v idle (still_none c (with_read c k f) k f keeps refl same none)
+
+-- a session that is not open reads nothing
+shut_reads : (c : Core) (s : ℕ) → is_open c s ≡ false → (session_at c s).reading ≡ None
+shut_reads c s shut = one (find_session c.sessions s) refl shut
+  where
+    one : (o : Option OpenSession) → find_session c.sessions s ≡ o → is_some o ≡ false → (session_at c s).reading ≡ None
+    one None is none = ap (λ (x : OpenSession). x.reading) (session_at-is c s None is)
+    one (Some x) is none = absurd (cc none)
+
+-- what was tried in its read has failed since what it saw last
+tried_since : (c : Core) (s : ℕ) → AreBetween c → (a : SessionView) × IsBetweenReplies a c s × TriedSince a.front c.history s (session_at c s)
+tried_since c s between = one (is_open c s) refl
+  where
+    one : (o : Bool) → is_open c s ≡ o → (a : SessionView) × IsBetweenReplies a c s × TriedSince a.front c.history s (session_at c s)
+    one true here = let q = between s in (q.0, q.1, (q.1.here here).reads)
+    one false shut = let q = between s in (q.0, q.1, tried_none q.0.front c.history s (session_at c s) (shut_reads c s shut))
+
+-- the same of the read that is made next
+pub still_tried : (c : Core) (s : ℕ) → AreBetween c
+    → (a : SessionView) × IsBetweenReplies a c s × ((b : ℕ) → in_mask (tried_of (session_at c s).reading) b ≡ true → HasFailedSince a.front c.history s (read_number (session_at c s)) b)
+still_tried c s between = let q = tried_since c s between in (q.0, q.1, prior q.0.front c.history s (session_at c s) q.2)
+
+-- and of one backend more, which has just failed
+pub tried_more : (c : Core) (s b n : ℕ) (select : Select) → n ≡ read_number (session_at c s) → AreBetween c
+    → (a : SessionView) × IsBetweenReplies a (record c { history = c.history ++ ReadFailed s n b ∷ [] }) s
+    × ((k : ℕ) → in_mask (with_backend (tried_of (session_at c s).reading) b) k ≡ true → HasFailedSince a.front (c.history ++ ReadFailed s n b ∷ []) s (read_number (session_at c s)) k)
+tried_more c s b n select is between =
+    let ev : Event = ReadFailed s n b in
+    let g : List Event = c.history ++ ev ∷ [] in
+    let z : Core = record c { history = g } in
+    let x : OpenSession = session_at c s in
+    let mask : ℕ = with_backend (tried_of x.reading) b in
+    let q = tried_since c s between in
+    let more = tried_again q.0.front c.history s b x select (prefix_length q.0.front c.history q.1.longer) q.2 in (
+      q.0,
+      between_follows q.0 c z g s x q.1
+          (follows_rest c z g s c.placement c.positions c.failed c.starved c.sessions (ev ∷ [], refl) refl refl)
+          (λ y. seen_event c.placement q.0 c.history s x y ev refl refl (λ t i. refl) (λ t i. refl)),
+      λ k t. subst (λ (m : ℕ). HasFailedSince q.0.front (c.history ++ ReadFailed s m b ∷ []) s (read_number x) k) (sym is) (more (record { select = select; tried = mask }) k refl t),
+    )
+
+-- its read stays open, and each backend that was tried in it has failed since what the session has seen
+pub stand_reading : (c : Core) (k : ℕ) (select : Select) (tried : ℕ) → AreBetween c → is_entry_of k (entry_in_progress c.history) ≡ false → (a : SessionView) → IsBetweenReplies a c k
+    → ((b : ℕ) → in_mask tried b ≡ true → HasFailedSince a.front c.history k (read_number (session_at c k)) b) → AreBetween (with_read c k (still_reading select tried))
+stand_reading c k select tried between idle a j each =
+    stand_with c k f (λ x. refl) between a (one (is_open c k) refl)
+  where
+    f : OpenSession → OpenSession
+    f = still_reading select tried
+
+    z : Core
+    z = with_read c k f
+
+    one : (b : Bool) → is_open c k ≡ b → IsBetweenReplies a z k
+    one true here =
+        between_follows a c z c.history k (f (session_at c k)) j
+        (follows_own c z c.history k c.placement c.positions c.failed c.starved (with_session c.sessions k f) (prefix_self c.history) refl f (λ x. refl) refl here)
+        (λ q. seen_changed c.placement a c.history k (session_at c k) q (f (session_at c k)) idle refl (tried_still a.front c.history k (session_at c k) select tried each))
+    one false shut =
+        record {
+          longer = j.longer;
+          owes = j.owes;
+          here = λ t. absurd (both_ways (is_open z k) (is_open-with f (λ x. refl) c.sessions k k ∙ shut) t);
+          later = j.later;
+        }
+
+-- ---- entries
+
+-- an entry of a session is scheduled, which reads nothing
+pub stand_sched : (c : Core) (k : ℕ) (e : Entry) → is_idle c.history ≡ true → e.session ≡ k → is_open c k ≡ true → (session_at c k).reading ≡ None → HasServer c.placement c.history (request_of e.act) → 3 ≤ events_left c.history
+    → AreBetween c
+    → AreBetween (record { placement = c.placement; history = c.history ++ Sched e ∷ []; positions = c.positions; failed = 0; starved = 0; sessions = with_session c.sessions k with_one_request; greatest = c.greatest })
+stand_sched c k e fr own here none served space between s =
+    let ss : List OpenSession = with_session c.sessions k with_one_request in
+    let g : List Event = c.history ++ Sched e ∷ [] in
+    let z : Core = record { placement = c.placement; history = g; positions = c.positions; failed = 0; starved = 0; sessions = ss; greatest = c.greatest } in
+    let q = between s in
+    let mine = between k in
+    ⊎_elim
+    (λ (is : s ≡ k).
+    subst (λ (n : ℕ). (b : SessionView) × IsBetweenReplies b z n) (sym is) (
+      mine.0,
+      between_follows mine.0 c z g k (with_one_request (session_at c k)) mine.1 (follows_own c z g k c.placement c.positions 0 0 ss (Sched e ∷ [], refl) refl with_one_request (λ x. refl) refl here)
+          (λ x. seen_sched c.placement mine.0 c.history k (session_at c k) x e (with_one_request (session_at c k)) fr own served space mine.1.longer refl none),
+    ))
+    (λ (is : s ≡ k → ⊥). (
+      q.0,
+      between_follows q.0 c z g s (session_at c s) q.1
+          (follows_rest c z g s c.placement c.positions 0 0 ss (Sched e ∷ [], refl) refl (session_of-other with_one_request (λ x. refl) c.sessions k s is))
+          (λ x. seen_other c.placement q.0 c.history s (session_at c s) x e fr (λ i. is (sym i ∙ own))),
+    ))
+    (cases_eq s k)
+
+-- The open entry ends, and its session is answered.
+pub stand_ended : (c z : Core) (k n f t : ℕ) → z ≡ record { placement = c.placement; history = c.history ++ Ended f t ∷ []; positions = c.positions; failed = 0; starved = 0; sessions = with_session c.sessions k (answered_at n); greatest = c.greatest }
+    → CoreInvariant z → is_entry_of k (entry_in_progress c.history) ≡ true → entry_in_progress (c.history ++ Ended f t ∷ []) ≡ None → AreBetween c → AreBetween z
+stand_ended c z k n f t is v waiting none between s = one (is_entry_of s (entry_in_progress c.history)) refl
+  where
+    g : List Event
+    g = c.history ++ Ended f t ∷ []
+
+    ss : List OpenSession
+    ss = with_session c.sessions k (answered_at n)
+
+    alone : (o : Option Entry) → is_entry_of s o ≡ true → is_entry_of k o ≡ true → s ≡ k
+    alone None a b = absurd (cc a)
+    alone (Some e) a b = sym (eqb-true e.session s a) ∙ eqb-true e.session k b
+
+    reads_none : (b : Bool) → is_open c s ≡ b → is_entry_of s (entry_in_progress c.history) ≡ true → (session_at c s).reading ≡ None
+    reads_none true here own = (((between s).1.here here).waits own).1
+    reads_none false shut own = shut_reads c s shut
+
+    one : (b : Bool) → is_entry_of s (entry_in_progress c.history) ≡ b → (a : SessionView) × IsBetweenReplies a z s
+    one true own =
+        let same : s ≡ k = alone (entry_in_progress c.history) own waiting in
+        let ended_now : is_entry_of s (entry_in_progress z.history) ≡ false = ap (λ (x : Core). is_entry_of s (entry_in_progress x.history)) is ∙ ap (is_entry_of s) none in
+        let changed : z.sessions ≡ with_session c.sessions s (answered_at n) = ap (λ (x : Core). x.sessions) is ∙ ap (λ (i : ℕ). with_session c.sessions i (answered_at n)) (sym same) in
+        (seen_at z s, between_fresh z s v ended_now (still_none c z s (answered_at n) (λ x. refl) changed (λ x. refl) (reads_none (is_open c s) refl own)))
+    one false other =
+        let q = between s in
+        let differs : s ≡ k → ⊥ = λ e. both_ways (is_entry_of s (entry_in_progress c.history)) other (subst (λ (i : ℕ). is_entry_of i (entry_in_progress c.history) ≡ true) (sym e) waiting) in (
+          q.0,
+          between_follows q.0 c z g s (session_at c s) q.1
+              (follows_rest c z g s c.placement c.positions 0 0 ss (Ended f t ∷ [], refl) is (session_of-other (answered_at n) (λ x. refl) c.sessions k s differs))
+              (λ x. seen_ended c.placement q.0 c.history s (session_at c s) x f t other none),
+        )

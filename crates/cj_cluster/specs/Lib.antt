@@ -1,0 +1,5 @@
+pub mod History
+pub mod Moves
+pub mod Proving
+pub mod Script
+pub mod Wire

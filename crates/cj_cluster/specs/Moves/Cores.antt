@@ -1,0 +1,50 @@
+-- The state of the core that moves change.
+use Rattle.std.specs.Prelude.{ℕ, Bool, false, ◌==◌, List, [], find, map, slice_index_or, if◌then◌else◌}
+use Rattle.std.specs.declared.option.Option.{Option}
+use Rattle.std.specs.declared.option.Option.TheVariants.{None, Some}
+use Rattle.cj_model.specs.declared.request.Entry.{Entry}
+use Rattle.cj_cluster.specs.declared.event.Event.{Event}
+use Rattle.cj_cluster.specs.declared.moves.OpenSession.{OpenSession}
+use Rattle.cj_model.specs.Cluster.Placements.{Placement}
+
+pub record Core : Type 0 where
+  pub placement : Placement
+  pub history : List Event
+  -- of each backend: how many entries it has taken, or none where it is out
+  pub positions : List (Option ℕ)
+  -- while an entry is open: the backends that failed in it, and those that wanted memory
+  pub failed : ℕ
+  pub starved : ℕ
+  pub sessions : List OpenSession
+  -- the greatest session number given
+  pub greatest : ℕ
+
+-- ---- backends
+
+abbrev pub position_at : Core → ℕ → Option ℕ
+position_at c b = slice_index_or c.positions b None
+
+-- ---- sessions
+
+abbrev pub find_session : List OpenSession → ℕ → Option OpenSession
+find_session sessions s = find (λ (x : OpenSession). x.number == s) sessions
+
+-- a session that has just begun
+abbrev pub new_session : ℕ → List ℕ → OpenSession
+new_session n user = record { number = n; user = user; queries = 0; least = 0; reading = None }
+
+-- the session with this number, where it is open
+abbrev pub session_at : Core → ℕ → OpenSession
+session_at c s = unwrap (find_session c.sessions s)
+  where
+    unwrap : Option OpenSession → OpenSession
+    unwrap None = new_session s []
+    unwrap (Some x) = x
+
+-- each session is as before, but that the one of this number is changed
+abbrev pub with_session : List OpenSession → ℕ → (OpenSession → OpenSession) → List OpenSession
+with_session sessions s f = map (λ (x : OpenSession). if x.number == s then f x else x) sessions
+
+abbrev pub is_entry_of : ℕ → Option Entry → Bool
+is_entry_of s None = false
+is_entry_of s (Some e) = e.session == s

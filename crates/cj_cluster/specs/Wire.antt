@@ -1,0 +1,2 @@
+-- What clients are answered: whole sessions.
+pub mod Sessions

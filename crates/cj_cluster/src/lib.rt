@@ -1,0 +1,15 @@
+//! What the cluster does as a whole: the types of events and moves, the definitions of histories, turns, moves, sessions and
+//! scripts (`specs/`), with their laws (`proofs/`).
+#![tactic(auto)]
+
+mod event;
+mod laws;
+mod moves;
+mod session;
+
+pub use event::Event;
+pub use laws::sessions_stand_between_replies;
+pub use moves::{
+    Did, Made, Move, MoveError, Moved, MovedList, Moves, OpenRead, OpenSession, Reason, Why,
+};
+pub use session::SessionEnd;

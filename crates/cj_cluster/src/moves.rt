@@ -1,0 +1,236 @@
+//! The moves of the core, and what each gives.
+
+ghost use Rattle.std.specs.Prelude.{◌≡◌};
+ghost use Rattle.cj_cluster.specs.Script.Lines.{reason_number};
+
+use cj_model::{
+    Answer, Duplicate, ListOf, NoMemory, Outcome, Refusal, Reply, Request, Select, Text,
+};
+use std::alloc::Global;
+use thiserror::Error;
+
+/// One move of the core. Backends go by their number, from 0.
+#[derive(Drop)]
+pub enum Move {
+    /// Opens a session of the user, a text of at most 64 bytes.
+    Open { user: Text },
+    Close { session: u64 },
+    /// Schedules a request that is no SELECT.
+    Schedule { session: u64, request: Request },
+    /// The backend takes the open entry.
+    Apply { b: u8 },
+    /// Ends the open entry and answers its session.
+    End,
+    /// Asks the backend.
+    Read { session: u64, b: u8, select: Select },
+    /// The backend's next call fails, where it can.
+    Arm { b: u8 },
+    Disable { b: u8 },
+    /// A backend that isn't enabled takes the next entry of the log.
+    Replay { b: u8 },
+    Enable { b: u8 },
+}
+
+pub type Moves = ListOf<Move>;
+
+/// What a backend did with an entry.
+#[derive(Clone, Copy, Debug, PartialEq, Eq)]
+pub enum Did {
+    Done(Outcome),
+    /// The entry concerns no table that it hosts.
+    Skipped,
+    Failed,
+    /// It wanted memory.
+    Starved,
+}
+
+/// What a move that was made gave.
+#[derive(Drop)]
+pub enum Moved {
+    /// The number of the session that was opened.
+    Session(u64),
+    Closed,
+    /// The number of the entry that was scheduled.
+    Entry(u64),
+    Refused(Refusal),
+    Applied { b: u8, did: Did },
+    Replied { session: u64, reply: Reply },
+    Rows(Answer),
+    /// The backend stands at this position, below what the session has seen.
+    Behind(u64),
+    /// The backend is out: it needs a dump.
+    Out,
+    Failed,
+    Armed,
+    Disabled,
+    Enabled,
+    Replayed { number: u64, did: Did },
+}
+
+/// What keeps a move from being made now.
+#[derive(Clone, Copy, Debug, PartialEq, Eq)]
+pub enum Reason {
+    EntryOpen,
+    NoEntryOpen,
+    NotEnabled,
+    Enabled,
+    /// The backend has taken the whole log.
+    AtEnd,
+    /// A backend has not taken the whole log.
+    Behind,
+    /// The backend needs a dump.
+    Out,
+    NoSession,
+    /// The session waits for the answer to another request.
+    Waiting,
+    /// The backend doesn't serve the read, and another does.
+    NotServing,
+}
+
+impl Reason {
+    /// Its number in the text of a script (docs/SCRIPT.md).
+    pub fn number(self) -> u16
+        ensures { result ≡ reason_number self }
+    {
+        match self {
+            Reason::EntryOpen => 1,
+            Reason::NoEntryOpen => 2,
+            Reason::NotEnabled => 3,
+            Reason::Enabled => 4,
+            Reason::AtEnd => 5,
+            Reason::Behind => 6,
+            Reason::Out => 7,
+            Reason::NoSession => 9,
+            Reason::Waiting => 10,
+            Reason::NotServing => 11,
+        }
+    }
+}
+
+/// Why a move can't be made now: the reason, and a value that it gives a meaning.
+#[derive(Clone, Copy, Debug, PartialEq, Eq)]
+pub struct Why {
+    pub reason: Reason,
+    pub value: u64,
+}
+
+/// Why a move was not made.
+#[derive(Clone, Copy, Debug, Error)]
+pub enum MoveError {
+    #[error("not now")]
+    NotNow(Why),
+    #[error("out of memory")]
+    NoMemory,
+}
+
+/// What one move of a list came to.
+#[derive(Drop)]
+pub enum Made {
+    Moved(Moved),
+    NotNow(Why),
+}
+
+pub type MovedList = ListOf<Made>;
+
+/// A session's read that isn't answered yet.
+#[derive(Drop)]
+pub struct OpenRead {
+    pub select: Select,
+    /// The backends that failed in it.
+    pub tried: u32,
+}
+
+/// An open session.
+#[derive(Drop)]
+pub struct OpenSession {
+    pub number: u64,
+    pub user: Text,
+    /// How many requests it has made.
+    pub queries: u64,
+    /// The position that its reads need at least.
+    pub least: u64,
+    pub reading: Option<OpenRead>,
+}
+
+impl Duplicate for Move {
+    fn copy(&self, alloc: Global) -> Result<Move, NoMemory> {
+        match self {
+            Move::Open { user } => Ok(Move::Open {
+                user: user.copy(alloc)?,
+            }),
+            Move::Close { session } => Ok(Move::Close { session: *session }),
+            Move::Schedule { session, request } => Ok(Move::Schedule {
+                session: *session,
+                request: request.copy(alloc)?,
+            }),
+            Move::Apply { b } => Ok(Move::Apply { b: *b }),
+            Move::End => Ok(Move::End),
+            Move::Read { session, b, select } => Ok(Move::Read {
+                session: *session,
+                b: *b,
+                select: select.copy(alloc)?,
+            }),
+            Move::Arm { b } => Ok(Move::Arm { b: *b }),
+            Move::Disable { b } => Ok(Move::Disable { b: *b }),
+            Move::Replay { b } => Ok(Move::Replay { b: *b }),
+            Move::Enable { b } => Ok(Move::Enable { b: *b }),
+        }
+    }
+}
+
+impl Duplicate for Moved {
+    fn copy(&self, alloc: Global) -> Result<Moved, NoMemory> {
+        match self {
+            Moved::Session(number) => Ok(Moved::Session(*number)),
+            Moved::Closed => Ok(Moved::Closed),
+            Moved::Entry(number) => Ok(Moved::Entry(*number)),
+            Moved::Refused(refusal) => Ok(Moved::Refused(*refusal)),
+            Moved::Applied { b, did } => Ok(Moved::Applied { b: *b, did: *did }),
+            Moved::Replied { session, reply } => Ok(Moved::Replied {
+                session: *session,
+                reply: reply.copy(alloc)?,
+            }),
+            Moved::Rows(answer) => Ok(Moved::Rows(answer.copy(alloc)?)),
+            Moved::Behind(position) => Ok(Moved::Behind(*position)),
+            Moved::Out => Ok(Moved::Out),
+            Moved::Failed => Ok(Moved::Failed),
+            Moved::Armed => Ok(Moved::Armed),
+            Moved::Disabled => Ok(Moved::Disabled),
+            Moved::Enabled => Ok(Moved::Enabled),
+            Moved::Replayed { number, did } => Ok(Moved::Replayed {
+                number: *number,
+                did: *did,
+            }),
+        }
+    }
+}
+
+impl Duplicate for Made {
+    fn copy(&self, alloc: Global) -> Result<Made, NoMemory> {
+        match self {
+            Made::Moved(moved) => Ok(Made::Moved(moved.copy(alloc)?)),
+            Made::NotNow(why) => Ok(Made::NotNow(*why)),
+        }
+    }
+}
+
+impl Duplicate for OpenRead {
+    fn copy(&self, alloc: Global) -> Result<OpenRead, NoMemory> {
+        Ok(OpenRead {
+            select: self.select.copy(alloc)?,
+            tried: self.tried,
+        })
+    }
+}
+
+impl Duplicate for OpenSession {
+    fn copy(&self, alloc: Global) -> Result<OpenSession, NoMemory> {
+        Ok(OpenSession {
+            number: self.number,
+            user: self.user.copy(alloc)?,
+            queries: self.queries,
+            least: self.least,
+            reading: self.reading.copy(alloc)?,
+        })
+    }
+}
