@@ -10,7 +10,9 @@ use crate::formula::Formula;
 use crate::operand::Operand;
 use crate::predicate::{Predicate, PredicateNode};
 use crate::scope::Scope;
-use cj_model::{Cond, CondNode, Duplicate, Expr, NO_COLUMN, NoMemory, Refusal, Term, Value, WRONG_TYPE};
+use cj_model::{
+    Cond, CondNode, Duplicate, Expr, NO_COLUMN, NoMemory, Refusal, Term, Value, WRONG_TYPE,
+};
 use std::alloc::Global;
 use thiserror::Error;
 

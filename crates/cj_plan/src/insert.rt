@@ -10,7 +10,10 @@ ghost use Rattle.cj_plan.specs.Plans.{PlansChange};
 
 use crate::names::is_distinct;
 use crate::plan::{Plan, Planned};
-use cj_model::{BAD_COLUMNS, Column, DUPLICATE, Duplicate, NO_COLUMN, Name, Names, NoMemory, ROW_LIMIT, ROWS_FULL, Refusal, Row, Rows, Term, Tuple, Value, WRONG_TYPE};
+use cj_model::{
+    BAD_COLUMNS, Column, DUPLICATE, Duplicate, NO_COLUMN, Name, Names, NoMemory, ROW_LIMIT,
+    ROWS_FULL, Refusal, Row, Rows, Term, Tuple, Value, WRONG_TYPE,
+};
 use cj_rows::{RowMap, View, key_in, key_of};
 use std::alloc::Global;
 

@@ -15,7 +15,10 @@ use crate::conditions::{bound, has_unknown_column, matching, mixes_kinds};
 use crate::names::is_distinct;
 use crate::plan::{Plan, Planned};
 use cj_expr::{Formula, Predicate, Scope, ValueError, formula_of};
-use cj_model::{BAD_COLUMNS, ColRef, Cond, Duplicate, NO_COLUMN, Names, NoMemory, OVERFLOW, Refusal, Row, Set, Value, WRONG_TYPE};
+use cj_model::{
+    BAD_COLUMNS, ColRef, Cond, Duplicate, NO_COLUMN, Names, NoMemory, OVERFLOW, Refusal, Row, Set,
+    Value, WRONG_TYPE,
+};
 use cj_rows::{RowMap, View, key_of};
 use std::alloc::Global;
 

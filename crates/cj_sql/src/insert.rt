@@ -6,7 +6,9 @@ ghost use Rattle.cj_sql.specs.Proving.StatementReader as spec;
 use crate::list::{Element, items};
 use crate::tokens::Tokens;
 use cj_lex::SqlError;
-use cj_model::{COLUMN_LIMIT, Keyword, Name, Names, Request, Symbol, TUPLE_LIMIT, Term, Tuple, Write};
+use cj_model::{
+    COLUMN_LIMIT, Keyword, Name, Names, Request, Symbol, TUPLE_LIMIT, Term, Tuple, Write,
+};
 use std::alloc::Global;
 
 impl Element for Tuple {

@@ -13,7 +13,10 @@ use crate::list::{Element, items};
 use crate::terms::column;
 use crate::tokens::Tokens;
 use cj_lex::SqlError;
-use cj_model::{ColRef, ITEM_LIMIT, Item, Items, KEY_LIMIT, Key, Keys, Keyword, ListOf, Name, Request, Select, Symbol, TABLE_LIMIT};
+use cj_model::{
+    ColRef, ITEM_LIMIT, Item, Items, KEY_LIMIT, Key, Keys, Keyword, ListOf, Name, Request, Select,
+    Symbol, TABLE_LIMIT,
+};
 use std::alloc::Global;
 
 /// What follows COUNT.

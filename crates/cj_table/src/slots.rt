@@ -11,7 +11,10 @@ ghost use Rattle.cj_table.specs.Carried.{Carries, CarriesSlot, change_of};
 ghost use Rattle.cj_plan.specs.Plans.{PlansChange};
 
 use crate::schemas::{empty_table, makes_schema};
-use cj_model::{BAD_COLUMNS, COLUMN_LIMIT, Create, LOCKED, NO_TABLE, Name, NoMemory, Outcome, Refusal, TABLE_EXISTS, Write};
+use cj_model::{
+    BAD_COLUMNS, COLUMN_LIMIT, Create, LOCKED, NO_TABLE, Name, NoMemory, Outcome, Refusal,
+    TABLE_EXISTS, Write,
+};
 use cj_plan::{Planned, planned};
 use cj_rows::{StoredTable, View};
 use std::alloc::Global;
