@@ -1,5 +1,5 @@
 -- What each move leaves a session: a turn where it answers it, and else what stood between two replies.
-use Rattle.std.proofs.Common.{◌≡◌, ◌≢◌, ℕ, ◌<◌, ◌≤◌, ◌==◌, ◌&&◌, Bool, true, false, cond, List, [], ◌∷◌, ◌++◌, length, Option, None, Some, Ok, Err, is_none, refl, ap, sym, ◌∙◌, subst, arith, ⊎_elim}
+use Rattle.std.proofs.Common.{◌≡◌, ◌≢◌, ◌⊎◌, inl, inr, ℕ, ◌<◌, ◌≤◌, ◌==◌, ◌&&◌, Bool, true, false, cond, List, [], ◌∷◌, ◌++◌, length, Option, None, Some, Ok, Err, is_none, refl, ap, sym, ◌∙◌, subst, arith, ⊎_elim}
 use mathlib.Core.List.{IsPrefix}
 use Rattle.std.specs.Option.{MatchOption}
 use Rattle.std.proofs.lemmas.Bool.{cases_eq, eqb-true, eqb-false, eq-eqb, ne_eqb, both_ways, cond_both, and_parts}
@@ -16,7 +16,7 @@ use Rattle.cj_model.specs.declared.answer.Reply.TheVariants.{Rows, Refused}
 use Rattle.cj_cluster.specs.declared.event.Event.{Event}
 use Rattle.cj_cluster.specs.declared.event.Event.TheVariants as event
 use Rattle.cj_cluster.specs.declared.moves.Move.{Move}
-use Rattle.cj_cluster.specs.declared.moves.Move.TheVariants.{Open, Close, Schedule, Apply, End, Read, Arm, Disable, Replay, Enable}
+use Rattle.cj_cluster.specs.declared.moves.Move.TheVariants.{Open, Close, Schedule, Abort, Apply, End, Read, Arm, Disable, Replay, Enable}
 use Rattle.cj_cluster.specs.declared.moves.Moved.TheVariants as moved
 use Rattle.cj_cluster.specs.declared.moves.Why.{Why}
 use Rattle.cj_cluster.specs.declared.moves.MoveError.TheVariants.{NotNow, NoMemory}
@@ -24,35 +24,36 @@ use Rattle.cj_cluster.specs.declared.moves.OpenSession.{OpenSession}
 use Rattle.cj_model.specs.Sql.PlainRequests.{act_of}
 use Rattle.cj_model.specs.Cluster.Placements.{Placement}
 use Rattle.cj_cluster.specs.History.Histories.{scheduled_entry, is_end_event, log, ended_count, is_idle, entry_in_progress, events_left, is_log_fault, log_faults_of, tx_of}
-use Rattle.cj_cluster.specs.History.Legality.{IsLegal}
+use Rattle.cj_cluster.specs.History.Legality.{IsFitEntry, IsLegal}
 use Rattle.cj_cluster.specs.History.Answering.{HasServer, AnswersEntry}
 use Rattle.cj_model.specs.Wire.Replies.{asked_reply}
 use Rattle.cj_cluster.specs.History.Turns.{SessionView, Call, HasNoRoomFor, Turn}
 use Rattle.cj_cluster.specs.Moves.Cores.{Core, session_at, new_session, with_session, is_entry_of}
-use Rattle.cj_cluster.specs.Moves.Moves.{MoveResult, MovesTo, is_open, DoesMove, OpensSession, ClosesSession, SchedulesRequest, SchedulesAnyAct, SchedulesAct, RefusesSchedule, Applies, Replays, EndsEntry, AttemptsRead, AttemptsReadOrWaits, ReadIsAnswered, ReadHasNoBackend, ReadHasNoRoom, ReadFailedEverywhere, ReadFailedHere, ReadCameTooEarly, Arms, Disables, Enables, not_now, forbidden_by, tx_of_act, open_tx, next_entry, last_number, with_one_request, answered_at, was_answered, still_reading, read_number, tried_of, tried_with, with_end}
-use Rattle.cj_cluster.specs.Proving.Invariants.{BackendStands, IsLoneEntry, CoreInvariant}
+use Rattle.cj_cluster.specs.Moves.Moves.{MoveResult, MovesTo, is_open, DoesMove, OpensSession, ClosesSession, SchedulesRequest, SchedulesAnyAct, SchedulesAct, ScheduleIsForbidden, ScheduleHasNoBackend, ScheduleHasNoRoom, RefusesSchedule, AbortsOrphan, Applies, Replays, EndsEntry, AttemptsRead, AttemptsReadOrWaits, ReadIsAnswered, ReadHasNoBackend, ReadHasNoRoom, ReadFailedEverywhere, ReadFailedHere, ReadCameTooEarly, Arms, Disables, Enables, not_now, forbidden_by, tx_of_act, open_tx, next_entry, last_number, with_one_request, with_request_counted, abort_entry, answered_at, was_answered, still_reading, read_number, tried_of, tried_with, with_end}
+use Rattle.cj_cluster.specs.Proving.Invariants.{BackendStands, CoreInvariant}
 use Rattle.cj_cluster.specs.Moves.Runs.{reply_given, is_allowed_by_transaction, call_of_entry, call_of_act, call_at, seen_at, AwaitsEnd, StandsSince, IsBetweenReplies}
-use Rattle.cj_cluster.proofs.Pushed.{all_begin, prefix_self, prefix_length, opened-same, opened-free, opened-last, opened-ended}
+use Rattle.cj_cluster.proofs.Pushed.{prefix_self, prefix_length, opened-same, opened-free, opened-last, opened-ended}
 use Rattle.cj_cluster.proofs.Sessions.{without, session_of-other, session_of-without_other}
-use Rattle.cj_cluster.proofs.Now.{CanSchedule, can_schedule, CanEnd, can_end, CanRead, can_read, CanDisable, can_disable, CanEnable, can_enable}
-use Rattle.cj_cluster.proofs.Effects.{lone_no_tx}
-use Rattle.cj_cluster.proofs.Soundness.{no_tx, request_of-act}
-use Rattle.cj_cluster.proofs.TurnCases.{Rests, turn_end, turn_unserved, turn_full, turn_read, turn_fault}
-use Rattle.cj_cluster.proofs.Between.{Follows, follows_own, follows_rest, follows_opened, between_follows, between_fresh, between_opened, between_closed, seen_event, seen_ended, seen_other, seen_sched, seen_changed, tried_none, tried_still, tried_again, prior, with_cases, opened_all}
+use Rattle.cj_cluster.proofs.Now.{CanSchedule, can_schedule, CanAbort, can_abort, CanEnd, can_end, CanRead, can_read, CanDisable, can_disable, CanEnable, can_enable}
+use Rattle.cj_cluster.proofs.Soundness.{request_of-act}
+use Rattle.cj_cluster.proofs.OwnTransactions.{session_fit, tx_of_other}
+use Rattle.cj_cluster.proofs.TurnCases.{fit_last, Rests, turn_end, turn_unserved, turn_full, turn_read, turn_fault}
+use Rattle.cj_cluster.proofs.Between.{Follows, follows_own, follows_rest, follows_opened, between_while_open, between_follows, between_fresh, between_opened, between_closed, seen_event, seen_ended, seen_other, seen_sched, seen_changed, tried_none, tried_still, tried_again, prior, with_cases}
+use Rattle.cj_cluster.proofs.Standing.{open_above, orphan_leaves}
 
 -- what a move leaves session s that has seen a, where it gave it this reply
 abbrev pub After : Bool → SessionView → Core → ℕ → Move → Core → Option Reply → Type 0
 After tells a c s m z None = IsBetweenReplies a z s
 After tells a c s m z (Some reply) = Turn tells c.placement s a (call_at c s m reply) (seen_at z s) × IsBetweenReplies (seen_at z s) z s
 
--- an act where the session has no transaction has none
-tx_none : (a : Act) → tx_of_act 0 a ≡ 0
-tx_none act.Begin = refl
-tx_none (act.Write w) = refl
-tx_none (act.Create c) = refl
-tx_none (act.Drop table) = refl
-tx_none act.Commit = refl
-tx_none act.Abort = refl
+-- an act has no transaction, or the one that its session is in
+tx_of_act_own : (tx : ℕ) (a : Act) → (tx_of_act tx a ≡ 0) ⊎ (tx_of_act tx a ≡ tx)
+tx_of_act_own tx act.Begin = inl refl
+tx_of_act_own tx (act.Write w) = inr refl
+tx_of_act_own tx (act.Create c) = inl refl
+tx_of_act_own tx (act.Drop table) = inl refl
+tx_of_act_own tx act.Commit = inr refl
+tx_of_act_own tx act.Abort = inr refl
 
 -- ---- replies
 
@@ -76,31 +77,21 @@ replied tells p a c z h s x call n v f idle none least turn =
 
 -- ---- moves
 
-module _ (tells : Bool) (a : SessionView) (c z : Core) (s : ℕ) (w : CoreInvariant c) (v : CoreInvariant z) (j : IsBetweenReplies a c s) where
-  -- it has no transaction
-  outside : open_tx c s ≡ 0
-  outside = no_tx c s w
-
-  -- nor had it one when it saw a
-  tx_stays : tx_of (log c.history) s ≡ tx_of (log a.front) s
-  tx_stays = outside ∙ sym (lone_no_tx (log a.front) s (all_begin (λ (e : Entry). IsLoneEntry e e.act) a.front c.history j.longer w.lone))
-
+module _ (tells : Bool) (a : SessionView) (c z : Core) (s : ℕ) (some : 0 < s) (w : CoreInvariant c) (v : CoreInvariant z) (j : IsBetweenReplies a c s) where
   -- nothing changes
   same : z ≡ c → IsBetweenReplies a z s
   same e = subst (λ (x : Core). IsBetweenReplies a x s) (sym e) j
 
-  -- backends and masks change
-  rest : (ps : List (Option ℕ)) (failed starved : ℕ)
-      → z ≡ record { placement = c.placement; history = c.history; positions = ps; failed = failed; starved = starved; sessions = c.sessions; greatest = c.greatest } → IsBetweenReplies a z s
-  rest ps failed starved is =
-      between_follows a c z c.history s (session_at c s) j (follows_rest c z c.history s c.placement ps failed starved c.sessions (prefix_self c.history) is refl) (λ q. q)
+  -- the history and the session stay
+  stays : Follows c z c.history s (session_at c s) → IsBetweenReplies a z s
+  stays f = between_follows a c z c.history s (session_at c s) j f (λ q. q)
 
   -- a session opens
   opens : (user : List ℕ) (g : MoveResult) → OpensSession c user g z → After tells a c s (Open user) z (reply_given c s (Open user) g)
   opens user (Ok (moved.Session n)) h =
       ⊎_elim
       (λ (e : s ≡ n). between_opened a c z s user w j (e ∙ h.1) (subst (λ (k : ℕ). z ≡ record c { sessions = c.sessions ++ new_session k user ∷ []; greatest = k }) (sym (e ∙ h.1)) h.2))
-      (λ (e : s ≡ n → ⊥). between_follows a c z c.history s (session_at c s) j (follows_opened c z s n user e h.1 (subst (λ (k : ℕ). z ≡ record c { sessions = c.sessions ++ new_session k user ∷ []; greatest = k }) (sym h.1) h.2)) (λ q. q))
+      (λ (e : s ≡ n → ⊥). stays (follows_opened c z s n user e h.1 (subst (λ (k : ℕ). z ≡ record c { sessions = c.sessions ++ new_session k user ∷ []; greatest = k }) (sym h.1) h.2)))
       (cases_eq s n)
   opens user (Ok (moved.Refused r)) h = same h.2
   opens user (Err NoMemory) h = same h
@@ -111,19 +102,18 @@ module _ (tells : Bool) (a : SessionView) (c z : Core) (s : ℕ) (w : CoreInvari
   closes k (Ok moved.Closed) h =
       ⊎_elim
       (λ (e : s ≡ k). between_closed a c z s j (subst (λ (n : ℕ). z ≡ record c { sessions = without n c.sessions }) (sym e) h))
-      (λ (e : s ≡ k → ⊥).
-      between_follows a c z c.history s (session_at c s) j (follows_rest c z c.history s c.placement c.positions c.failed c.starved (without k c.sessions) (prefix_self c.history) h (session_of-without_other c.sessions k s e)) (λ q. q))
+      (λ (e : s ≡ k → ⊥). stays (follows_rest c z s h refl (prefix_self c.history) refl (session_of-without_other c.sessions k s e)))
       (cases_eq s k)
   closes k _ h = absurd h
 
   -- a backend takes the open entry
   applies : (b : ℕ) (g : MoveResult) → Applies tells c b g z → After tells a c s (Apply b) z (reply_given c s (Apply b) g)
-  applies b (Ok (moved.Applied n d)) h = rest _ _ _ h.1.2
+  applies b (Ok (moved.Applied n d)) h = stays (follows_rest c z s h.1.2 refl (prefix_self c.history) refl refl)
   applies b _ h = absurd h
 
   -- a backend that is not enabled takes an entry
   replays : (b : ℕ) (g : MoveResult) → Replays tells c b g z → After tells a c s (Replay b) z (reply_given c s (Replay b) g)
-  replays b (Ok (moved.Replayed n d)) h = rest _ _ _ h.1.2
+  replays b (Ok (moved.Replayed n d)) h = stays (follows_rest c z s h.1.2 refl (prefix_self c.history) refl refl)
   replays b _ h = absurd h
 
   -- a backend's next call is to fail
@@ -134,8 +124,7 @@ module _ (tells : Bool) (a : SessionView) (c z : Core) (s : ℕ) (w : CoreInvari
   -- an event while no entry is open, which is no fault of the log's store
   while_free : (ev : Event) → scheduled_entry ev ≡ None → is_end_event ev ≡ false → ((t q : ℕ) → is_log_fault t q ev ≡ false) → is_idle c.history ≡ true → z ≡ record c { history = c.history ++ ev ∷ [] } → IsBetweenReplies a z s
   while_free ev none stays no_fault fr is =
-      between_follows a c z (c.history ++ ev ∷ []) s (session_at c s) j
-      (follows_rest c z (c.history ++ ev ∷ []) s c.placement c.positions c.failed c.starved c.sessions (ev ∷ [], refl) is refl)
+      between_follows a c z (c.history ++ ev ∷ []) s (session_at c s) j (follows_rest c z s is refl (ev ∷ [], refl) refl refl)
       (λ q. seen_event c.placement a c.history s (session_at c s) q ev none stays no_fault (λ t. absurd (both_ways (is_entry_of s (entry_in_progress c.history)) (ap (is_entry_of s) (opened-free c.history fr)) t)))
 
   -- a backend is disabled
@@ -152,20 +141,24 @@ module _ (tells : Bool) (a : SessionView) (c z : Core) (s : ℕ) (w : CoreInvari
   enables b (Err NoMemory) can h = same h
   enables b _ can h = absurd h
 
+  -- the session of the open entry is open, where it is this one
+  waiting_open : (e : Entry) → entry_in_progress c.history ≡ Some e → s ≡ e.session → is_open c s ≡ true
+  waiting_open e is own =
+      ⊎_elim (λ (none : e.session ≡ 0). absurd (omega (arith, own, none, some))) (λ (here : is_open c e.session ≡ true). subst (λ (k : ℕ). is_open c k ≡ true) (sym own) here) (w.waits e is)
+
   -- the end of the session's own entry
   ends_own : (e : Entry) (reply : Reply) → CanEnd c → entry_in_progress c.history ≡ Some e → s ≡ e.session
       → Follows c z (with_end c) s (answered_at (last_number c) (session_at c s)) → AnswersEntry tells c.placement c.history (with_end c) (ended_count c.history) e reply
       → After tells a c s End z (Some reply)
   ends_own e reply can is own f answer =
-      let here : is_open c s ≡ true = subst (λ (k : ℕ). is_open c k ≡ true) (sym own) (w.waits e is) in
+      let here : is_open c s ≡ true = waiting_open e is own in
       let waiting : is_entry_of s (entry_in_progress c.history) ≡ true = ap (is_entry_of s) is ∙ eq-eqb e.session s (sym own) in
       let seen_so : StandsSince c.placement a c.history s (session_at c s) = j.here here in
       let q = seen_so.waits waiting in
       let last = opened-last c.history e w.one_open.1 is in
       let legal : IsLegal (with_end c) = subst IsLegal f.history v.legal in
       let turn : Turn tells c.placement e.session a (call_of_entry (Some e) reply) (record { front = with_end c; least = length (log c.history) }) =
-      turn_end tells c.placement a c.history c.failed c.starved e reply legal j.longer j.owes (subst (AwaitsEnd c.placement a.front c.history) own q.0) is (opened_all (λ (x : Entry). IsLoneEntry x x.act) c.history e w.lone is) last.1
-      (subst (λ (k : ℕ). tx_of (log c.history) k ≡ tx_of (log a.front) k) own tx_stays)
+      turn_end tells c.placement a c.history c.failed c.starved e reply legal j.longer j.owes (subst (AwaitsEnd c.placement a.front c.history) own q.0) is (omega (arith, own, some)) last.1
       (subst (λ (k : ℕ). (i : ℕ) → log_faults_of k i c.history ≡ log_faults_of k i a.front) own seen_so.log_faults) answer
       in
       let mine : Turn tells c.placement s a (call_of_entry (entry_in_progress c.history) reply) (record { front = with_end c; least = length (log c.history) }) =
@@ -180,20 +173,18 @@ module _ (tells : Bool) (a : SessionView) (c z : Core) (s : ℕ) (w : CoreInvari
   ends (Ok (moved.Replied t reply)) can h =
       let e : Entry = h.0 in
       let longer : IsPrefix c.history (with_end c) = (event.Ended c.failed c.starved ∷ [], refl) in
-      let ss : List OpenSession = with_session c.sessions t (answered_at (last_number c)) in
       cond_both (t == s) (Some reply) None (After tells a c s End z)
       (λ is.
       let own : s ≡ e.session = sym (eqb-true t s is) ∙ h.2 in
-      let here : is_open c s ≡ true = subst (λ (k : ℕ). is_open c k ≡ true) (sym own) (w.waits e h.1) in
+      let here : is_open c s ≡ true = waiting_open e h.1 own in
       ends_own e reply can h.1 own
-      (follows_own c z (with_end c) s c.placement c.positions 0 0 ss longer h.4 (answered_at (last_number c)) (λ x. refl) (ap (λ (k : ℕ). with_session c.sessions k (answered_at (last_number c))) (eqb-true t s is)) here)
+      (follows_own c z s h.4 refl longer refl (answered_at (last_number c)) (λ x. refl) (ap (λ (k : ℕ). with_session c.sessions k (answered_at (last_number c))) (eqb-true t s is)) here)
       h.3)
       (λ is.
       let other : s ≢ t = λ q. eqb-false t s is (sym q) in
       let not_own : is_entry_of s (entry_in_progress c.history) ≡ false = ap (is_entry_of s) h.1 ∙ ne_eqb e.session s (λ q. other (sym (h.2 ∙ q))) in
       let none : entry_in_progress (with_end c) ≡ None = opened-ended c.history c.failed c.starved can.is_running w.one_open.0 w.one_open.1 in
-      between_follows a c z (with_end c) s (session_at c s) j
-      (follows_rest c z (with_end c) s c.placement c.positions 0 0 ss longer h.4 (session_of-other (answered_at (last_number c)) (λ x. refl) c.sessions t s other))
+      between_follows a c z (with_end c) s (session_at c s) j (follows_rest c z s h.4 refl longer refl (session_of-other (answered_at (last_number c)) (λ x. refl) c.sessions t s other))
       (λ q. seen_ended c.placement a c.history s (session_at c s) q c.failed c.starved not_own none))
   ends _ can h = absurd h
 
@@ -201,28 +192,36 @@ module _ (tells : Bool) (a : SessionView) (c z : Core) (s : ℕ) (w : CoreInvari
 
   -- no entry was scheduled since the session's last reply, and the log's store did not fail
   rested : is_open c s ≡ true → is_entry_of s (entry_in_progress c.history) ≡ false → Rests s a c.history
-  rested here idle = record { entries = (j.here here).rests idle; tx = tx_stays; log_faults = (j.here here).log_faults }
+  rested here idle = let q = (j.here here).rests idle in record { entries = q.0; tx = q.1; log_faults = (j.here here).log_faults }
 
   -- what the session owes is what it has seen
   owes_same : is_open c s ≡ true → (session_at c s).least ≡ a.least
   owes_same here = (j.here here).least
 
   module _ (r : Request) (act : Act) (is : act_of r ≡ Some act) where
+    -- where it was refused its session has counted it
+    refused_after : (k : ℕ) (refusal : Refusal) → RefusesSchedule c k r act refusal z → z ≡ with_request_counted c k
+    refused_after k refusal h =
+        ⊎_elim (λ (x : ScheduleIsForbidden c k act refusal z). x.after)
+        (⊎_elim (λ (x : ScheduleHasNoBackend c k r act refusal z). x.after) (λ (x : ScheduleHasNoRoom c k r act refusal z). x.after))
+        h
+
     -- the session's own request, which its transaction's state allows
-    own_refused : (refusal : Refusal) → CanSchedule c s → is_allowed_by_transaction c s (act_of r) ≡ true → RefusesSchedule c s r act refusal → Follows c z c.history s (with_one_request (session_at c s))
+    own_refused : (refusal : Refusal) → CanSchedule c s → is_allowed_by_transaction c s (act_of r) ≡ true → RefusesSchedule c s r act refusal z → Follows c z c.history s (with_one_request (session_at c s))
         → After tells a c s (Schedule s r) z (Some (Refused refusal))
     own_refused refusal can allowed refuses f =
         let call : Option Act → Call = λ o. call_of_act c s r o (Refused refusal) in
         let rests = rested can.here can.idle in
-        let tx : tx_of_act (open_tx c s) act ≡ 0 = ap (λ t. tx_of_act t act) outside ∙ tx_none act in
+        let t : ℕ = tx_of_act (open_tx c s) act in
+        let tx : (t ≡ 0) ⊎ (t ≡ tx_of (log a.front) s) = subst (λ (n : ℕ). (t ≡ 0) ⊎ (t ≡ n)) rests.tx (tx_of_act_own (open_tx c s) act) in
         let free_of : is_none (forbidden_by (open_tx c s) act) ≡ true = sym (ap (is_allowed_by_transaction c s) is) ∙ allowed in
         let turn : Turn tells c.placement s a (call (Some act)) (record { front = c.history; least = a.least }) =
-        ⊎_elim (λ (x : _). absurd (both_ways (is_none (forbidden_by (open_tx c s) act)) (ap is_none x) free_of))
-        (λ (y : _).
-        ⊎_elim
-        (λ (x : _). turn_unserved tells c.placement s a c.history w.legal j.longer j.owes rests (call (Some act)) tx (ap (λ o. Refused o) x.1) x.2)
-        (λ (x : _). turn_full tells c.placement s a c.history w.legal j.longer j.owes rests (call (Some act)) tx (ap (λ o. Refused o) x.1) x.2 (subst (HasNoRoomFor c.history) (sym is) (can.is_free, x.3)))
-        y)
+        ⊎_elim (λ (x : ScheduleIsForbidden c s act refusal z). absurd (both_ways (is_none (forbidden_by (open_tx c s) act)) (ap is_none x.forbidden) free_of))
+        (⊎_elim
+        (λ (x : ScheduleHasNoBackend c s r act refusal z).
+        turn_unserved tells c.placement s a c.history w.legal j.longer j.owes rests (call (Some act)) tx (ap (λ o. Refused o) x.refused) x.none)
+        (λ (x : ScheduleHasNoRoom c s r act refusal z).
+        turn_full tells c.placement s a c.history w.legal j.longer j.owes rests (call (Some act)) tx (ap (λ o. Refused o) x.refused) x.served (subst (HasNoRoomFor c.history) (sym is) (can.is_free, x.full))))
         refuses
         in
         replied tells c.placement a c z c.history s (with_one_request (session_at c s)) (call (act_of r)) a.least v f can.idle can.no_read (owes_same can.here)
@@ -232,15 +231,13 @@ module _ (tells : Bool) (a : SessionView) (c z : Core) (s : ℕ) (w : CoreInvari
     own_act : (g : MoveResult) → CanSchedule c s → SchedulesAct c s r act g z → After tells a c s (Schedule s r) z (reply_given c s (Schedule s r) g)
     own_act (Ok (moved.Entry n)) can h =
         let e : Entry = next_entry c s act in
-        let g : List Event = c.history ++ event.Sched e ∷ [] in
-        between_follows a c z g s (with_one_request (session_at c s)) j
-        (follows_own c z g s c.placement c.positions 0 0 (with_session c.sessions s with_one_request) (event.Sched e ∷ [], refl) h.4 with_one_request (λ x. refl) refl can.here)
+        between_follows a c z (c.history ++ event.Sched e ∷ []) s (with_one_request (session_at c s)) j (follows_own c z s h.4 refl (event.Sched e ∷ [], refl) refl with_one_request (λ x. refl) refl can.here)
         (λ q.
         seen_sched c.placement a c.history s (session_at c s) q e (with_one_request (session_at c s)) can.is_free refl (subst (HasServer c.placement c.history) (sym (request_of-act r act is)) h.1) h.2 j.longer refl can.no_read)
     own_act (Ok (moved.Refused refusal)) can h =
-        let f = follows_own c z c.history s c.placement c.positions c.failed c.starved (with_session c.sessions s with_one_request) (prefix_self c.history) h.1 with_one_request (λ x. refl) refl can.here in
+        let f = follows_own c z s (refused_after s refusal h) refl (prefix_self c.history) refl with_one_request (λ x. refl) refl can.here in
         cond_both ((s == s) && is_allowed_by_transaction c s (act_of r)) (Some (Refused refusal)) None (After tells a c s (Schedule s r) z)
-        (λ t. own_refused refusal can (and_parts _ _ t).1 h.0 f)
+        (λ t. own_refused refusal can (and_parts _ _ t).1 h f)
         (λ t.
         between_follows a c z c.history s (with_one_request (session_at c s)) j f
         (λ q. seen_changed c.placement a c.history s (session_at c s) q (with_one_request (session_at c s)) can.idle refl (tried_none a.front c.history s (with_one_request (session_at c s)) can.no_read)))
@@ -251,16 +248,15 @@ module _ (tells : Bool) (a : SessionView) (c z : Core) (s : ℕ) (w : CoreInvari
     other_act : (k : ℕ) (g : MoveResult) → s ≢ k → CanSchedule c k → SchedulesAct c k r act g z → After tells a c s (Schedule k r) z (reply_given c s (Schedule k r) g)
     other_act k (Ok (moved.Entry n)) other can h =
         let e : Entry = next_entry c k act in
-        let g : List Event = c.history ++ event.Sched e ∷ [] in
-        between_follows a c z g s (session_at c s) j
-        (follows_rest c z g s c.placement c.positions 0 0 (with_session c.sessions k with_one_request) (event.Sched e ∷ [], refl) h.4 (session_of-other with_one_request (λ x. refl) c.sessions k s other))
-        (λ q. seen_other c.placement a c.history s (session_at c s) q e can.is_free (λ i. other (sym i)))
+        let ne : k ≢ s = λ i. other (sym i) in
+        let fit : IsFitEntry (log c.history) e = fit_last c.history e (subst (λ (x : Core). IsLegal x.history) h.4 v.legal) in
+        let leaves = tx_of_other (log c.history) e s (session_fit (log c.history) e fit (open_above c k w can.here)).tx ne in
+        between_follows a c z (c.history ++ event.Sched e ∷ []) s (session_at c s) j (follows_rest c z s h.4 refl (event.Sched e ∷ [], refl) refl (session_of-other with_one_request (λ x. refl) c.sessions k s other))
+        (λ q. seen_other c.placement a c.history s (session_at c s) q e can.is_free ne leaves)
     other_act k (Ok (moved.Refused refusal)) other can h =
         cond_both ((k == s) && is_allowed_by_transaction c s (act_of r)) (Some (Refused refusal)) None (After tells a c s (Schedule k r) z)
         (λ t. absurd (other (sym (eqb-true k s (and_parts _ _ t).0))))
-        (λ t.
-        between_follows a c z c.history s (session_at c s) j
-        (follows_rest c z c.history s c.placement c.positions c.failed c.starved (with_session c.sessions k with_one_request) (prefix_self c.history) h.1 (session_of-other with_one_request (λ x. refl) c.sessions k s other)) (λ q. q))
+        (λ t. stays (follows_rest c z s (refused_after k refusal h) refl (prefix_self c.history) refl (session_of-other with_one_request (λ x. refl) c.sessions k s other)))
     other_act k (Err NoMemory) other can h = same h
     other_act k _ other can h = absurd h
 
@@ -281,6 +277,16 @@ module _ (tells : Bool) (a : SessionView) (c z : Core) (s : ℕ) (w : CoreInvari
       of None is t = absurd t
       of (Some act) is t = schedules_act r act is k g can t
 
+  -- the administrator ends an orphan, which is no open session's transaction
+  aborts : (tx : ℕ) (g : MoveResult) → CanAbort c tx → AbortsOrphan c tx g z → After tells a c s (Abort tx) z (reply_given c s (Abort tx) g)
+  aborts tx (Ok (moved.Entry n)) can h =
+      let e : Entry = abort_entry c tx in
+      between_while_open a c z (c.history ++ event.Sched e ∷ []) s (session_at c s) j (follows_rest c z s h.2 refl (event.Sched e ∷ [], refl) refl refl)
+      (λ here q. seen_other c.placement a c.history s (session_at c s) q e can.is_free (λ none. absurd (omega (arith, none, some))) (orphan_leaves c tx s can here))
+  aborts tx (Ok (moved.Refused r)) can h = same h.2
+  aborts tx (Err NoMemory) can h = same h
+  aborts tx _ can h = absurd h
+
   -- ---- reads
 
   -- the session's own read, at backend b
@@ -288,12 +294,16 @@ module _ (tells : Bool) (a : SessionView) (c z : Core) (s : ℕ) (w : CoreInvari
     -- the history stays
     follows_read : (f : OpenSession → OpenSession) → ((x : OpenSession) → (f x).number ≡ x.number) → z ≡ record c { sessions = with_session c.sessions s f }
         → Follows c z c.history s (f (session_at c s))
-    follows_read f keeps is = follows_own c z c.history s c.placement c.positions c.failed c.starved (with_session c.sessions s f) (prefix_self c.history) is f keeps refl can.here
+    follows_read f keeps is = follows_own c z s is refl (prefix_self c.history) refl f keeps refl can.here
 
     -- the failed attempt is the next event
     follows_failed : (ev : Event) (f : OpenSession → OpenSession) → ((x : OpenSession) → (f x).number ≡ x.number) → z ≡ record c { history = c.history ++ ev ∷ []; sessions = with_session c.sessions s f }
         → Follows c z (c.history ++ ev ∷ []) s (f (session_at c s))
-    follows_failed ev f keeps is = follows_own c z (c.history ++ ev ∷ []) s c.placement c.positions c.failed c.starved (with_session c.sessions s f) (ev ∷ [], refl) is f keeps refl can.here
+    follows_failed ev f keeps is = follows_own c z s is refl (ev ∷ [], refl) refl f keeps refl can.here
+
+    -- the read is made in the transaction that the session was in
+    in_own : (open_tx c s ≡ 0) ⊎ (open_tx c s ≡ tx_of (log a.front) s)
+    in_own = inr (rested can.here can.idle).tx
 
     -- the backend answered
     reaches : (answer : Asked) → ReadIsAnswered tells c s b select answer z → After tells a c s (Read s b select) z (Some (asked_reply answer))
@@ -304,14 +314,14 @@ module _ (tells : Bool) (a : SessionView) (c z : Core) (s : ℕ) (w : CoreInvari
         let least : (session_at c s).least ≡ a.least = owes_same can.here in
         let owed : (session_at c s).least ≤ p = h.owed in
         replied tells c.placement a c z c.history s (answered_at p (was_answered (session_at c s))) call p v (follows_read (λ x. answered_at p (was_answered x)) (λ x. refl) h.after) can.idle refl refl
-        (turn_read tells c.placement s a c.history w.legal j.longer j.owes (rested can.here can.idle) call select p answer outside refl refl h.possible h.says (λ t. (b, h.serves)) (omega arith) (stands.1 h.serves.0) stands.0)
+        (turn_read tells c.placement s a c.history w.legal j.longer j.owes (rested can.here can.idle) call select p answer in_own refl refl h.possible h.says (λ t. (b, h.serves)) (omega arith) (stands.1 h.serves.0) stands.0)
 
     -- no backend serves the read
     reads_nowhere : (refusal : Refusal) → ReadHasNoBackend c s b select refusal z → After tells a c s (Read s b select) z (Some (Refused refusal))
     reads_nowhere refusal h =
         let call : Call = call_at c s (Read s b select) (Refused refusal) in
         replied tells c.placement a c z c.history s (was_answered (session_at c s)) call a.least v (follows_read was_answered (λ x. refl) h.after) can.idle refl (owes_same can.here)
-        (turn_unserved tells c.placement s a c.history w.legal j.longer j.owes (rested can.here can.idle) call outside (ap (λ o. Refused o) h.refused) h.none)
+        (turn_unserved tells c.placement s a c.history w.legal j.longer j.owes (rested can.here can.idle) call in_own (ap (λ o. Refused o) h.refused) h.none)
 
     -- the history has no room for the failed attempt
     reads_full : (refusal : Refusal) → ReadHasNoRoom c s b select refusal z → After tells a c s (Read s b select) z (Some (Refused refusal))
@@ -320,7 +330,7 @@ module _ (tells : Bool) (a : SessionView) (c z : Core) (s : ℕ) (w : CoreInvari
         let none : events_left c.history ≡ 0 = h.full in
         let full : events_left c.history < 1 = omega arith in
         replied tells c.placement a c z c.history s (was_answered (session_at c s)) call a.least v (follows_read was_answered (λ x. refl) h.after) can.idle refl (owes_same can.here)
-        (turn_full tells c.placement s a c.history w.legal j.longer j.owes (rested can.here can.idle) call outside (ap (λ o. Refused o) h.refused) (λ t. (b, h.serves)) full)
+        (turn_full tells c.placement s a c.history w.legal j.longer j.owes (rested can.here can.idle) call in_own (ap (λ o. Refused o) h.refused) (λ t. (b, h.serves)) full)
 
     -- each backend that serves the read failed
     reads_in_vain : (refusal : Refusal) → ReadFailedEverywhere c s b select refusal z → After tells a c s (Read s b select) z (Some (Refused refusal))
@@ -332,7 +342,7 @@ module _ (tells : Bool) (a : SessionView) (c z : Core) (s : ℕ) (w : CoreInvari
         let f : Follows c z g s (was_answered x) = follows_failed ev was_answered (λ y. refl) h.after in
         let idle : is_entry_of s (entry_in_progress g) ≡ false = ap (is_entry_of s) (opened-same c.history ev refl refl) ∙ can.idle in
         replied tells c.placement a c z g s (was_answered x) call a.least v f idle refl (owes_same can.here)
-        (turn_fault tells c.placement s a c.history b call select h.mask (tried_of x.reading) (subst IsLegal f.history v.legal) j.longer j.owes (rested can.here can.idle) outside refl (ap (λ o. Refused o) h.refused)
+        (turn_fault tells c.placement s a c.history b call select h.mask (tried_of x.reading) (subst IsLegal f.history v.legal) j.longer j.owes (rested can.here can.idle) in_own refl (ap (λ o. Refused o) h.refused)
         (prior a.front c.history s x (j.here can.here).reads) h.serving
         (λ k serves. with_cases (tried_of x.reading) b k (h.all k serves)) h.serves)
 
@@ -374,17 +384,14 @@ module _ (tells : Bool) (a : SessionView) (c z : Core) (s : ℕ) (w : CoreInvari
   module _ (k b : ℕ) (select : Select) (other : s ≢ k) where
     -- the history stays
     other_read : (f : OpenSession → OpenSession) → ((x : OpenSession) → (f x).number ≡ x.number) → z ≡ record c { sessions = with_session c.sessions k f } → IsBetweenReplies a z s
-    other_read f keeps is =
-        between_follows a c z c.history s (session_at c s) j
-        (follows_rest c z c.history s c.placement c.positions c.failed c.starved (with_session c.sessions k f) (prefix_self c.history) is (session_of-other f keeps c.sessions k s other)) (λ q. q)
+    other_read f keeps is = stays (follows_rest c z s is refl (prefix_self c.history) refl (session_of-other f keeps c.sessions k s other))
 
     -- the failed attempt is the next event
     other_failed : (q : ℕ) (f : OpenSession → OpenSession) → ((x : OpenSession) → (f x).number ≡ x.number)
         → z ≡ record c { history = c.history ++ event.ReadFailed k q b ∷ []; sessions = with_session c.sessions k f } → IsBetweenReplies a z s
     other_failed q f keeps is =
         let ev : Event = event.ReadFailed k q b in
-        between_follows a c z (c.history ++ ev ∷ []) s (session_at c s) j
-        (follows_rest c z (c.history ++ ev ∷ []) s c.placement c.positions c.failed c.starved (with_session c.sessions k f) (ev ∷ [], refl) is (session_of-other f keeps c.sessions k s other))
+        between_follows a c z (c.history ++ ev ∷ []) s (session_at c s) j (follows_rest c z s is refl (ev ∷ [], refl) refl (session_of-other f keeps c.sessions k s other))
         (λ x. seen_event c.placement a c.history s (session_at c s) x ev refl refl (λ t i. refl) (λ t i. refl))
 
     -- the backend answered
@@ -430,6 +437,7 @@ module _ (tells : Bool) (a : SessionView) (c z : Core) (s : ℕ) (w : CoreInvari
   does (Open user) g now h = opens user g h
   does (Close k) g now h = closes k g h
   does (Schedule k r) g now h = schedules k r g (can_schedule c k r now) h
+  does (Abort tx) g now h = aborts tx g (can_abort c tx now) h
   does (Apply b) g now h = applies b g h
   does End g now h = ends g (can_end c now) h
   does (Read k b select) g now h = reads k b select g (can_read c k b select now) h

@@ -14,7 +14,7 @@ use Rattle.cj_cluster.specs.declared.moves.OpenRead.{OpenRead}
 use Rattle.cj_cluster.specs.declared.moves.OpenSession.{OpenSession}
 use Rattle.cj_model.specs.Sql.PlainRequests.{request_of}
 use Rattle.cj_model.specs.Cluster.Placements.{Placement}
-use Rattle.cj_cluster.specs.History.Histories.{scheduled_entry, is_end_event, log, ended_count, is_idle, entry_in_progress, is_enabled, enabled_after_event, events_left, is_log_fault, log_faults_of}
+use Rattle.cj_cluster.specs.History.Histories.{scheduled_entry, is_end_event, log, ended_count, is_idle, entry_in_progress, is_enabled, enabled_after_event, events_left, is_log_fault, log_faults_of, tx_of}
 use Rattle.cj_model.specs.Cluster.Masks.{in_mask, with_backend}
 use Rattle.cj_cluster.specs.History.Answering.{HasServer}
 use Rattle.cj_cluster.specs.History.Turns.{SessionView, entry_count_of}
@@ -22,9 +22,10 @@ use Rattle.cj_cluster.specs.Moves.Cores.{Core, find_session, session_at, new_ses
 use Rattle.cj_cluster.specs.Moves.Moves.{is_open, read_number, tried_of, still_reading}
 use Rattle.cj_cluster.specs.Proving.Invariants.{IsSoundSession, CoreInvariant}
 use Rattle.cj_cluster.specs.Moves.Runs.{seen_at, AwaitsEnd, HasFailedSince, TriedSince, StandsSince, IsBetweenReplies}
-use Rattle.cj_cluster.proofs.Pushed.{log_faults-same, log_faults-begin, all_begin, get_seam, get_left, prefix_self, prefix_trans, prefix_length, enabled-push, log-same, done-same, opened-sched, opened-same, opened-free}
+use Rattle.cj_cluster.proofs.Pushed.{log_faults-same, log_faults-begin, all_begin, get_seam, get_left, prefix_self, prefix_trans, prefix_length, enabled-push, log-sched, log-same, done-same, opened-sched, opened-same, opened-free}
 use Rattle.cj_model.proofs.Masks.{has-zero, has-with_other}
 use Rattle.cj_cluster.proofs.Sessions.{session_at-is, found_all, found_none, session_of-push_same, session_of-push_other, without, session_of-without_same, session_at-same, session_at-other}
+use Rattle.cj_cluster.proofs.OwnTransactions.{tx_of_unknown, tx_of_unknown_begin}
 use Rattle.cj_cluster.proofs.TurnCases.{entries-same, entries-sched}
 
 -- ---- a read's failed attempts
@@ -68,6 +69,16 @@ faults_push : (front h : List Event) (ev : Event) (s : ℕ) → ((t q : ℕ) →
     → (q : ℕ) → log_faults_of s q (h ++ ev ∷ []) ≡ log_faults_of s q front
 faults_push front h ev s none was q = log_faults-same h ev none s q ∙ was q
 
+-- Of session s there are the entries that there were in the front, and it is in the same transaction.
+abbrev IsAsIn : List Event → List Event → ℕ → Type 0
+IsAsIn front h s = (entry_count_of s h ≡ entry_count_of s front) × (tx_of (log h) s ≡ tx_of (log front) s)
+
+-- an event that schedules nothing leaves that
+as_in_push : (front h : List Event) (ev : Event) (s : ℕ) → scheduled_entry ev ≡ None → IsAsIn front h s → IsAsIn front (h ++ ev ∷ []) s
+as_in_push front h ev s none was =
+    let same : log (h ++ ev ∷ []) ≡ log h = log-same h ev none in
+    (entries-same s h (h ++ ev ∷ []) same ∙ was.0, ap (λ l. tx_of l s) same ∙ was.1)
+
 -- an event that schedules nothing, ends nothing, and enables or disables nothing
 unanswered_push : (p : Placement) (front h : List Event) (ev : Event) (s : ℕ) → scheduled_entry ev ≡ None → is_end_event ev ≡ false → ((b : ℕ) → enabled_after_event b (is_enabled h b) ev ≡ is_enabled h b)
     → AwaitsEnd p front h s → AwaitsEnd p front (h ++ ev ∷ []) s
@@ -88,6 +99,7 @@ unanswered_push p front h ev s none stays same o =
       number = ap (λ x. length (log x)) part ∙ (o.number ∙ sym (done-same h ev stays));
       same = λ b. ap (λ x. is_enabled x b) part ∙ (o.same b ∙ (sym (same b) ∙ sym (enabled-push h ev b)));
       entries = entries-same s h (h ++ ev ∷ []) (log-same h ev none) ∙ o.entries;
+      in_tx = ap (λ x. tx_of (log x) s) part ∙ o.in_tx;
     }
 
 module _ (p : Placement) (a : SessionView) (h : List Event) (s : ℕ) (x : OpenSession) (w : StandsSince p a h s x) where
@@ -103,7 +115,7 @@ module _ (p : Placement) (a : SessionView) (h : List Event) (s : ℕ) (x : OpenS
             let was : is_entry_of s (entry_in_progress h) ≡ true = ap (is_entry_of s) (sym op) ∙ t in
             let q = w.waits was in
             (unanswered_push p a.front h ev s none stays (same was) q.0, q.1);
-        rests = λ t. entries-same s h (h ++ ev ∷ []) (log-same h ev none) ∙ w.rests (ap (is_entry_of s) (sym op) ∙ t);
+        rests = λ t. as_in_push a.front h ev s none (w.rests (ap (is_entry_of s) (sym op) ∙ t));
         reads = tried_push a.front h ev s x w.reads;
         log_faults = faults_push a.front h ev s no_fault w.log_faults;
       }
@@ -115,22 +127,22 @@ module _ (p : Placement) (a : SessionView) (h : List Event) (s : ℕ) (x : OpenS
       record {
         least = w.least;
         waits = λ t. absurd (both_ways (is_entry_of s (entry_in_progress (h ++ ev ∷ []))) (ap (is_entry_of s) none) t);
-        rests = λ t. entries-same s h (h ++ ev ∷ []) (log-same h ev refl) ∙ w.rests other;
+        rests = λ t. as_in_push a.front h ev s refl (w.rests other);
         reads = tried_push a.front h ev s x w.reads;
         log_faults = faults_push a.front h ev s (λ t q. refl) w.log_faults;
       }
 
-  -- another session's entry
-  pub seen_other : (e : Entry) → is_idle h ≡ true → e.session ≢ s → StandsSince p a (h ++ Sched e ∷ []) s x
-  seen_other e fr other =
+  -- an entry that is not the session's, and leaves its transaction
+  pub seen_other : (e : Entry) → is_idle h ≡ true → e.session ≢ s → tx_of (log h ++ e ∷ []) s ≡ tx_of (log h) s → StandsSince p a (h ++ Sched e ∷ []) s x
+  seen_other e fr other leaves =
       let not_own : (e.session == s) ≡ false = ne_eqb e.session s other in
       let op : is_entry_of s (entry_in_progress (h ++ Sched e ∷ [])) ≡ false = ap (is_entry_of s) (opened-sched h e fr) ∙ not_own in
-      let was : entry_count_of s h ≡ entry_count_of s a.front = w.rests (ap (is_entry_of s) (opened-free h fr)) in
+      let was : IsAsIn a.front h s = w.rests (ap (is_entry_of s) (opened-free h fr)) in
       let more : entry_count_of s (h ++ Sched e ∷ []) ≡ entry_count_of s h + 0 = entries-sched s h e ∙ rw not_own refl in
       record {
         least = w.least;
         waits = λ t. absurd (both_ways (is_entry_of s (entry_in_progress (h ++ Sched e ∷ []))) op t);
-        rests = λ t. omega (arith, more, was);
+        rests = λ t. ((let n = was.0 in omega (arith, more, n)), ap (λ l. tx_of l s) (log-sched h e) ∙ (leaves ∙ was.1));
         reads = tried_push a.front h (Sched e) s x w.reads;
         log_faults = faults_push a.front h (Sched e) s (λ t q. refl) w.log_faults;
       }
@@ -142,7 +154,7 @@ module _ (p : Placement) (a : SessionView) (h : List Event) (s : ℕ) (x : OpenS
       let g : List Event = h ++ Sched e ∷ [] in
       let its : (e.session == s) ≡ true = eq-eqb e.session s own in
       let op : is_entry_of s (entry_in_progress g) ≡ true = ap (is_entry_of s) (opened-sched h e fr) ∙ its in
-      let was : entry_count_of s h ≡ entry_count_of s a.front = w.rests (ap (is_entry_of s) (opened-free h fr)) in
+      let was : IsAsIn a.front h s = w.rests (ap (is_entry_of s) (opened-free h fr)) in
       let more : entry_count_of s g ≡ entry_count_of s h + 1 = entries-sched s h e ∙ rw its refl in
       let low : length a.front ≤ length h = prefix_length a.front h longer in
       let many : length g ≡ length h + 1 = length-append h (Sched e ∷ []) in
@@ -163,7 +175,8 @@ module _ (p : Placement) (a : SessionView) (h : List Event) (s : ℕ) (x : OpenS
                 next = get_seam h [] (Sched e);
                 number = ap (λ z. length (log z)) part ∙ (sym (eqb-true _ _ fr) ∙ sym (done-same h (Sched e) refl));
                 same = λ b. ap (λ z. is_enabled z b) part ∙ sym (enabled-push h (Sched e) b);
-                entries = omega (arith, more, was);
+                entries = (let n = was.0 in omega (arith, more, n));
+                in_tx = ap (λ z. tx_of (log z) s) part ∙ was.1;
               },
               none,
             );
@@ -189,7 +202,7 @@ seen_fresh p h s x idle none =
     record {
       least = refl;
       waits = λ t. absurd (both_ways (is_entry_of s (entry_in_progress h)) idle t);
-      rests = λ t. refl;
+      rests = λ t. (refl, refl);
       reads = tried_none h h s x none;
       log_faults = λ q. refl;
     }
@@ -222,43 +235,42 @@ pub record Follows (c z : Core) (h : List Event) (s : ℕ) (x : OpenSession) : T
   pub was_open : is_open z s ≡ true → is_open c s ≡ true
   pub session : session_at z s ≡ x
 
-module _ (c z : Core) (h : List Event) (s : ℕ) (p : Placement) (ps : List (Option ℕ)) (failed starved : ℕ) (ss : List OpenSession) (longer : IsPrefix c.history h)
-    (is : z ≡ record { placement = c.placement; history = h; positions = ps; failed = failed; starved = starved; sessions = ss; greatest = c.greatest }) where
-  -- the open sessions, as they are given
-  sessions_are : z.sessions ≡ ss
-  sessions_are = ap (λ (x : Core). x.sessions) is
+-- z is y, a state that goes on from c
+module _ (c z : Core) {y : Core} (s : ℕ) (is : z ≡ y) (placement : y.placement ≡ c.placement) (longer : IsPrefix c.history y.history) (greatest : y.greatest ≡ c.greatest) where
+  -- the greatest number given is as before
+  no_less : c.greatest ≤ z.greatest
+  no_less = let n : z.greatest ≡ c.greatest = ap (λ (x : Core). x.greatest) is ∙ greatest in omega arith
 
   -- the session itself changes
-  pub follows_own : (f : OpenSession → OpenSession) → ((x : OpenSession) → (f x).number ≡ x.number) → ss ≡ with_session c.sessions s f → is_open c s ≡ true → Follows c z h s (f (session_at c s))
+  pub follows_own : (f : OpenSession → OpenSession) → ((x : OpenSession) → (f x).number ≡ x.number) → y.sessions ≡ with_session c.sessions s f → is_open c s ≡ true
+      → Follows c z y.history s (f (session_at c s))
   follows_own f keeps changed here =
-      let n : z.greatest ≡ c.greatest = ap (λ (x : Core). x.greatest) is in
       record {
-        placement = ap (λ (x : Core). x.placement) is;
+        placement = ap (λ (x : Core). x.placement) is ∙ placement;
         history = ap (λ (x : Core). x.history) is;
         longer = longer;
-        greatest = omega arith;
+        greatest = no_less;
         was_open = λ t. here;
-        session = session_at-same c z s f keeps (sessions_are ∙ changed) here;
+        session = session_at-same c z s f keeps (ap (λ (x : Core). x.sessions) is ∙ changed) here;
       }
 
   -- it is found as before
-  pub follows_rest : find_session ss s ≡ find_session c.sessions s → Follows c z h s (session_at c s)
+  pub follows_rest : find_session y.sessions s ≡ find_session c.sessions s → Follows c z y.history s (session_at c s)
   follows_rest same =
-      let n : z.greatest ≡ c.greatest = ap (λ (x : Core). x.greatest) is in
-      let found : find_session z.sessions s ≡ find_session c.sessions s = ap (λ x. find_session x s) sessions_are ∙ same in
+      let found : find_session z.sessions s ≡ find_session c.sessions s = ap (λ (x : Core). find_session x.sessions s) is ∙ same in
       record {
-        placement = ap (λ (x : Core). x.placement) is;
+        placement = ap (λ (x : Core). x.placement) is ∙ placement;
         history = ap (λ (x : Core). x.history) is;
         longer = longer;
-        greatest = omega arith;
+        greatest = no_less;
         was_open = λ t. sym (ap is_some found) ∙ t;
         session = session_at-other c z s found;
       }
 
--- what stood between two replies stands still, where it does over the session's own change
-pub between_follows : (a : SessionView) (c z : Core) (h : List Event) (s : ℕ) (x : OpenSession) → IsBetweenReplies a c s → Follows c z h s x
-    → (StandsSince c.placement a c.history s (session_at c s) → StandsSince c.placement a h s x) → IsBetweenReplies a z s
-between_follows a c z h s x j f step =
+-- what stood between two replies stands still, where it does over what changes while the session is open
+pub between_while_open : (a : SessionView) (c z : Core) (h : List Event) (s : ℕ) (x : OpenSession) → IsBetweenReplies a c s → Follows c z h s x
+    → (is_open c s ≡ true → StandsSince c.placement a c.history s (session_at c s) → StandsSince c.placement a h s x) → IsBetweenReplies a z s
+between_while_open a c z h s x j f step =
     let n : c.greatest ≤ z.greatest = f.greatest in
     record {
       longer = prefix_trans a.front c.history z.history j.longer (subst (λ (g : List Event). IsPrefix c.history g) (sym f.history) f.longer);
@@ -267,9 +279,14 @@ between_follows a c z h s x j f step =
           λ t.
           subst (λ (p : Placement). StandsSince p a z.history s (session_at z s)) (sym f.placement)
           (subst (λ (g : List Event). StandsSince c.placement a g s (session_at z s)) (sym f.history)
-          (subst (λ (y : OpenSession). StandsSince c.placement a h s y) (sym f.session) (step (j.here (f.was_open t)))));
+          (subst (λ (y : OpenSession). StandsSince c.placement a h s y) (sym f.session) (step (f.was_open t) (j.here (f.was_open t)))));
       later = λ lt. j.later (omega arith);
     }
+
+-- and where it does over what changes in any case
+pub between_follows : (a : SessionView) (c z : Core) (h : List Event) (s : ℕ) (x : OpenSession) → IsBetweenReplies a c s → Follows c z h s x
+    → (StandsSince c.placement a c.history s (session_at c s) → StandsSince c.placement a h s x) → IsBetweenReplies a z s
+between_follows a c z h s x j f step = between_while_open a c z h s x j f (λ here. step)
 
 -- ---- after a reply
 
@@ -356,7 +373,11 @@ between_opened a c z s user w j new is =
     record {
       least = sym owes;
       waits = λ t. absurd (both_ways (is_entry_of s (entry_in_progress c.history)) idle t);
-      rests = λ t. entries_none s (log c.history) younger ∙ sym (entries_begin s a.front c.history j.longer younger);
+      rests =
+          λ t. (
+            entries_none s (log c.history) younger ∙ sym (entries_begin s a.front c.history j.longer younger),
+            tx_of_unknown s (log c.history) younger ∙ sym (tx_of_unknown_begin s a.front c.history j.longer younger),
+          );
       reads = tried_none a.front c.history s x refl;
       log_faults = λ q. let none = w.log_faults s q (omega arith) in none ∙ sym (log_faults-begin a.front c.history s q j.longer none);
     }

@@ -1,5 +1,5 @@
 -- The replies to a session in a list of moves are a chain of turns.
-use Rattle.std.proofs.Common.{◌≡◌, ℕ, ◌+◌, ◌≤◌, ◌^◌, Bool, List, [], ◌∷◌, ◌++◌, length, Option, None, Some, All, refl, ap, sym, subst, arith}
+use Rattle.std.proofs.Common.{◌≡◌, ℕ, ◌+◌, ◌<◌, ◌≤◌, ◌^◌, Bool, List, [], ◌∷◌, ◌++◌, length, Option, None, Some, All, refl, ap, sym, subst, arith}
 use Rattle.std.proofs.lemmas.List.Elements.{All-head, All-tail}
 use Rattle.cj_model.specs.declared.answer.Reply.{Reply}
 use Rattle.cj_cluster.specs.declared.moves.Move.{Move}
@@ -37,10 +37,10 @@ chain_on tells s c mid z m g ms gs a moves same next (Some reply) is after =
 
 -- Each session is answered by a chain of turns in every list of moves, from what it has seen and wherever the list begins and ends within its calls.
 pub run_chained : (tells : Bool) (c : Core) (ms : List Move) (gs : List MoveResult) (z : Core) → CoreInvariant c → All (IsMoveOfCluster c.placement.backends) ms → CanCountRequests c (length ms) → RunsMoves tells c ms gs z
-    → (s : ℕ) (a : SessionView) → IsBetweenReplies a c s → IsChained tells s c ms gs z a
-run_chained tells c [] [] z w are count runs s a j =
+    → (s : ℕ) (a : SessionView) → 0 < s → IsBetweenReplies a c s → IsChained tells s c ms gs z a
+run_chained tells c [] [] z w are count runs s a some j =
     record { calls = []; seen = []; runs = (runs, refl, refl); chain = tt; between = subst (λ (x : Core). IsBetweenReplies a x s) runs j }
-run_chained tells c (m ∷ ms) (g ∷ gs) z w are count runs s a j =
+run_chained tells c (m ∷ ms) (g ∷ gs) z w are count runs s a some j =
     let mid : Core = runs.0 in
     let grows = moves_grow tells c m g mid runs.1 in
     let once : CanCountRequests c 1 = λ k. (let can = count k in let le : (session_at c k).queries + 1 ≤ 2 ^ 62 = omega arith in le) in
@@ -49,14 +49,14 @@ run_chained tells c (m ∷ ms) (g ∷ gs) z w are count runs s a j =
     let rest : All (IsMoveOfCluster mid.placement.backends) ms =
     subst (λ (p : Placement). All (IsMoveOfCluster p.backends) ms) (sym grows.placement) (All-tail (IsMoveOfCluster c.placement.backends) m ms are)
     in
-    chain_on tells s c mid z m g ms gs a runs.1 grows.placement (λ b i. run_chained tells mid ms gs z v rest (can_count 1 (length ms) c mid grows more) runs.2 s b i) (reply_given c s m g) refl
-    (moves_after tells a c mid s w v j m g runs.1)
-run_chained tells c [] (g ∷ gs) z w are count runs s a j = absurd runs
-run_chained tells c (m ∷ ms) [] z w are count runs s a j = absurd runs
+    chain_on tells s c mid z m g ms gs a runs.1 grows.placement (λ b i. run_chained tells mid ms gs z v rest (can_count 1 (length ms) c mid grows more) runs.2 s b some i) (reply_given c s m g) refl
+    (moves_after tells a c mid s some w v j m g runs.1)
+run_chained tells c [] (g ∷ gs) z w are count runs s a some j = absurd runs
+run_chained tells c (m ∷ ms) [] z w are count runs s a some j = absurd runs
 
 -- So each session stands between two replies after every list of moves, where it did before.
 pub runs_between : (tells : Bool) (c : Core) (ms : List Move) (gs : List MoveResult) (z : Core) → CoreInvariant c → All (IsMoveOfCluster c.placement.backends) ms → CanCountRequests c (length ms) → RunsMoves tells c ms gs z → AreBetween c → AreBetween z
-runs_between tells c ms gs z w are count runs between s =
-    let q = between s in
-    let chained = run_chained tells c ms gs z w are count runs s q.0 q.1 in
+runs_between tells c ms gs z w are count runs between s some =
+    let q = between s some in
+    let chained = run_chained tells c ms gs z w are count runs s q.0 some q.1 in
     (last_seen q.0 chained.seen, chained.between)

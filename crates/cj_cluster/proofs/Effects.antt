@@ -1,27 +1,31 @@
 -- Each change that a move makes keeps the state sound.
-use Rattle.std.proofs.Common.{◌≡◌, ◌≢◌, ◌⊎◌, inl, inr, ℕ, ◌+◌, ◌-◌, ◌*◌, ◌^◌, ◌<◌, ◌≤◌, ◌==◌, not, Bool, true, false, List, [], ◌∷◌, ◌++◌, length, get_or, set, fold, All, Option, None, Some, is_some, refl, ap, sym, ◌∙◌, subst, arith, length-append, ⊎_elim}
+use Rattle.std.proofs.Common.{◌≡◌, ◌≢◌, ◌⊎◌, inl, inr, ℕ, ◌+◌, ◌-◌, ◌*◌, ◌^◌, ◌<◌, ◌≤◌, ◌==◌, not, Bool, true, false, List, [], ◌∷◌, ◌++◌, length, get_or, set, All, Option, IfSome, None, Some, is_some, refl, ap, sym, ◌∙◌, subst, arith, length-append, ⊎_elim}
 use Rattle.std.proofs.lemmas.Bool.{cases_eq, cases_lt, eqb-true, eqb-false, and_parts, or_cases, both_ways, not-true, or_parts}
 use Rattle.std.proofs.lemmas.List.{get_or-set_same, get_or-set_other, get_or_past, length-set}
 use Rattle.std.proofs.lemmas.Option.{slice_get_within}
-use Rattle.std.proofs.lemmas.List.Elements.{All-nil, All-push, All-filter, All-weaker, All-head, All-tail}
-use Rattle.cj_model.specs.declared.request.Act.{Act}
-use Rattle.cj_model.specs.declared.request.Act.TheVariants as act
+use Rattle.std.proofs.lemmas.List.Elements.{All-nil, All-push, All-filter, All-weaker}
+use Rattle.cj_model.specs.declared.database.Slot.{Slot}
+use Rattle.cj_model.specs.declared.database.Draft.{Draft}
 use Rattle.cj_model.specs.declared.request.Entry.{Entry}
+use Rattle.cj_model.specs.declared.answer.Outcome.{Outcome}
 use Rattle.cj_cluster.specs.declared.event.Event.{Event}
 use Rattle.cj_cluster.specs.declared.event.Event.TheVariants.{Sched, Ended, ReadFailed, Disabled, Enabled}
 use Rattle.cj_cluster.specs.declared.moves.OpenSession.{OpenSession}
 use Rattle.cj_model.specs.Database.Tables.{Rises}
-use Rattle.cj_model.specs.Cluster.Placements.{Placement}
-use Rattle.cj_cluster.specs.History.Histories.{scheduled_entry, is_end_event, log, ended_count, is_idle, entry_in_progress, is_enabled, events_left, is_log_fault, log_faults_of, TxState, tx_after_act, tx_state_after, tx_of}
+use Rattle.cj_model.specs.Cluster.Placements.{Placement, part}
+use Rattle.cj_cluster.specs.History.Histories.{scheduled_entry, is_end_event, log, ended_count, is_idle, entry_in_progress, is_enabled, events_left, is_log_fault, log_faults_of, database_after}
+use Rattle.cj_cluster.specs.History.Transactions.{has_begun, begun_after}
 use Rattle.cj_model.specs.Cluster.Masks.{in_mask, with_backend}
 use Rattle.cj_cluster.specs.History.Legality.{IsAllowedEvent, IsFitEntry}
-use Rattle.cj_cluster.specs.Moves.Cores.{Core, position_at, find_session, new_session, with_session, is_entry_of}
+use Rattle.cj_cluster.specs.Moves.Cores.{Core, position_at, begun_at, find_session, new_session, with_session, is_entry_of}
 use Rattle.cj_cluster.specs.declared.moves.Did.{Did}
 use Rattle.cj_cluster.specs.declared.moves.Did.TheVariants as did
 use Rattle.cj_model.specs.declared.limits.TheConstants.{SESSION_LIMIT, USER_LIMIT}
-use Rattle.cj_cluster.specs.Moves.Moves.{with_one_request, TakesEntry, failed_after, starved_after}
-use Rattle.cj_cluster.specs.Proving.Invariants.{CoreInvariant, IsSoundSession, IsLoneEntry, BackendStands, by_session_number}
-use Rattle.cj_cluster.proofs.Pushed.{SameFaults, log_faults-same, enabled-push, log-sched, log-same, done-same, done-ended, opened-sched, opened-same, legal_push}
+use Rattle.cj_cluster.specs.Moves.Moves.{with_one_request, with_entry, Stance, out, TakesEntry, with_stance, failed_after, starved_after}
+use Rattle.cj_cluster.specs.Proving.Invariants.{CoreInvariant, IsSoundSession, BackendStands, CoversDrafts, by_session_number}
+use Rattle.cj_cluster.proofs.Pushed.{SameFaults, log_faults-same, enabled-push, log-sched, log-same, done-same, done-ended, opened-sched, opened-same, at-prefix, legal_push}
+use Rattle.cj_cluster.proofs.TransactionLaws.{legal_fit}
+use Rattle.cj_cluster.proofs.PartRuns.{covers_at_taken, covers_at_passed}
 use Rattle.cj_model.proofs.Masks.{has-zero, has-with_same, has-with_other}
 use Rattle.cj_cluster.proofs.Sessions.{found_itself, is_open-with, is_open-push, all_with, length_with, rises_with, rises_push, without, session_of-without_other, rises_without, length_without}
 
@@ -35,7 +39,7 @@ pub record SessionsAre (h : List Event) (greatest : ℕ) (ss : List OpenSession)
   pub numbers : greatest ≤ 2 ^ 62
   pub known : All (λ (e : Entry). e.session ≤ greatest) (log h)
   pub log_faults : (s q : ℕ) → greatest < s → log_faults_of s q h ≡ 0
-  pub waits : (e : Entry) → entry_in_progress h ≡ Some e → is_some (find_session ss e.session) ≡ true
+  pub waits : (e : Entry) → entry_in_progress h ≡ Some e → (e.session ≡ 0) ⊎ (is_some (find_session ss e.session) ≡ true)
 
 -- the sessions of a sound state
 pub sessions_are : (c : Core) → CoreInvariant c → SessionsAre c.history c.greatest c.sessions
@@ -71,7 +75,9 @@ are_opened h g ss user a few lt fits =
       numbers = omega arith;
       known = All-weaker (λ (e : Entry). e.session ≤ g) (λ (e : Entry). e.session ≤ g + 1) (λ e le. omega arith) (log h) a.known;
       log_faults = λ t q lt. a.log_faults t q (omega arith);
-      waits = λ e is. is_open-push ss (new_session (g + 1) user) e.session (a.waits e is);
+      waits =
+          λ e is.
+          ⊎_elim (λ (z : e.session ≡ 0). inl z) (λ (here : is_some (find_session ss e.session) ≡ true). inr (is_open-push ss (new_session (g + 1) user) e.session here)) (a.waits e is);
     }
 
 -- a session whose own entry is not open is removed
@@ -89,7 +95,7 @@ are_closed h g ss s a idle =
       waits =
           λ e is.
           let ne : e.session ≢ s = eqb-false _ _ (subst (λ (o : Option Entry). is_entry_of s o ≡ false) is idle) in
-          rw (session_of-without_other ss s e.session ne) (a.waits e is);
+          ⊎_elim (λ (z : e.session ≡ 0). inl z) (λ (here : is_some (find_session ss e.session) ≡ true). inr (rw (session_of-without_other ss s e.session ne) here)) (a.waits e is);
     }
 
 -- a session is changed, at a history with the same log and faults of its store
@@ -103,7 +109,9 @@ are_with h h' g ss s f a k same faults was =
       numbers = a.numbers;
       known = subst (All (λ (e : Entry). e.session ≤ g)) (sym same) a.known;
       log_faults = λ t q lt. faults t q ∙ a.log_faults t q lt;
-      waits = λ e is. is_open-with f k.number ss s e.session ∙ a.waits e (was e is);
+      waits =
+          λ e is.
+          ⊎_elim (λ (z : e.session ≡ 0). inl z) (λ (here : is_some (find_session ss e.session) ≡ true). inr (is_open-with f k.number ss s e.session ∙ here)) (a.waits e (was e is));
     }
   where
     there : (x : OpenSession) → x.number ≢ s → IsSoundSession h g x → IsSoundSession h' g x
@@ -163,7 +171,7 @@ are_sched h g ss s e x a found fr by seq le =
       waits =
           λ d is.
           let same : e ≡ d = cc (sym (opened-sched h e fr) ∙ is) in
-          is_open-with with_one_request (λ y. refl) ss s d.session ∙ (rw (← same, by, found) refl);
+          inr (is_open-with with_one_request (λ y. refl) ss s d.session ∙ (rw (← same, by, found) refl));
     }
   where
     Before : OpenSession → Type 0
@@ -198,33 +206,55 @@ are_sched h g ss s e x a found fr by seq le =
               (λ is. last));
         }
 
--- ---- outside transactions
+-- the administrator's next entry is scheduled
+pub are_sched_without : (h : List Event) (g : ℕ) (ss : List OpenSession) (e : Entry) → SessionsAre h g ss → is_idle h ≡ true → e.session ≡ 0 → SessionsAre (h ++ Sched e ∷ []) g ss
+are_sched_without h g ss e a fr by =
+    record {
+      sessions = All-weaker (IsSoundSession h g) (IsSoundSession (h ++ Sched e ∷ []) g) again ss a.sessions;
+      rises = a.rises;
+      few = a.few;
+      numbers = a.numbers;
+      known = subst (All (λ (d : Entry). d.session ≤ g)) (sym (log-sched h e)) (All-push (λ (d : Entry). d.session ≤ g) (log h) e a.known (omega arith));
+      log_faults = λ t q lt. log_faults-same h (Sched e) (λ i j. refl) t q ∙ a.log_faults t q lt;
+      waits = λ d is. let same : e ≡ d = cc (sym (opened-sched h e fr) ∙ is) in inl (subst (λ (x : Entry). x.session ≡ 0) same by);
+    }
+  where
+    longer : length (log (h ++ Sched e ∷ [])) ≡ length (log h) + 1
+    longer = ap length (log-sched h e) ∙ length-append (log h) (e ∷ [])
 
--- an act outside transactions leaves the session's transaction
-lone_step : (s : ℕ) (t : TxState) (e : Entry) (a : Act) → IsLoneEntry e a → tx_after_act s t e a ≡ t.tx
-lone_step s t e act.Begin l = absurd l
-lone_step s t e (act.Write w) l = refl
-lone_step s t e (act.Create c) l = refl
-lone_step s t e (act.Drop table) l = refl
-lone_step s t e act.Commit l = absurd l
-lone_step s t e act.Abort l = absurd l
+    again : (x : OpenSession) → IsSoundSession h g x → IsSoundSession (h ++ Sched e ∷ []) g x
+    again x i =
+        record {
+          number = i.number;
+          user = i.user;
+          owes = let le = i.owes in omega (arith, longer);
+          entries =
+              subst (All (λ (d : Entry). d.session ≡ x.number → d.seq ≤ x.queries)) (sym (log-sched h e))
+              (All-push (λ (d : Entry). d.session ≡ x.number → d.seq ≤ x.queries) (log h) e i.entries (λ is. let some : 0 < x.number = i.number.0 in absurd (omega arith)));
+        }
 
--- and so do entries of them, from any transaction
-lone_from : (s : ℕ) (t : TxState) (es : List Entry) → All (λ (e : Entry). IsLoneEntry e e.act) es → (fold (tx_state_after s) t es).tx ≡ t.tx
-lone_from s t [] all = refl
-lone_from s t (e ∷ es) all =
-    lone_from s (tx_state_after s t e) es (All-tail (λ (d : Entry). IsLoneEntry d d.act) e es all) ∙ lone_step s t e e.act (All-head (λ (d : Entry). IsLoneEntry d d.act) e es all)
+-- ---- the transactions that backends have begun
 
--- entries outside transactions leave none open
-pub lone_no_tx : (es : List Entry) (s : ℕ) → All (λ (e : Entry). IsLoneEntry e e.act) es → tx_of es s ≡ 0
-lone_no_tx es s all = lone_from s (record { count = 0; tx = 0 }) es all
+-- backend b, which stands so, has begun the transactions of the drafts in its part
+abbrev pub CoversAt : Placement → ℕ → List Entry → Option ℕ → List ℕ → Type 0
+CoversAt p b entries position begun = (n : ℕ) → position ≡ Some n → CoversDrafts begun (part p b (database_after entries n))
 
 -- ---- states
 
+-- a backend that stands somewhere is there
+pub is_there : (ps : List (Option ℕ)) (b p : ℕ) → get_or ps b None ≡ Some p → b < length ps
+is_there ps b p is =
+    ⊎_elim (λ (lt : b < length ps). lt) (λ (ge : length ps ≤ b). let e : get_or ps b None ≡ None = get_or_past ps b None ge in absurd (cc (e, is))) (cases_lt b (length ps))
+
+-- where a backend stands that is not out
+pub stands_there : (c : Core) (b p : ℕ) → CoreInvariant c → position_at c b ≡ Some p → BackendStands c.history c.failed c.starved b (Some p)
+stands_there c b p s is = subst (λ (x : Option ℕ). BackendStands c.history c.failed c.starved b x) is (s.stands b (is_there c.positions b p is))
+
 -- nothing has happened, and each backend has taken no entry, or is out
-pub sound_start : (placement : Placement) (positions : List (Option ℕ)) → length positions ≡ placement.backends → ((b q : ℕ) → get_or positions b None ≡ Some q → q ≡ 0)
-    → CoreInvariant (record { placement = placement; history = []; positions = positions; failed = 0; starved = 0; sessions = []; greatest = 0 })
-sound_start placement positions cells begin =
+pub sound_start : (placement : Placement) (positions : List (Option ℕ)) (begun : List (List ℕ)) → length positions ≡ placement.backends → length begun ≡ placement.backends
+    → ((b q : ℕ) → get_or positions b None ≡ Some q → q ≡ 0)
+    → CoreInvariant (record { placement = placement; history = []; positions = positions; begun = begun; failed = 0; starved = 0; sessions = []; greatest = 0 })
+sound_start placement positions begun cells begun_cells begin =
     record {
       legal = record { short = omega arith; each = λ k d lt. absurd (omega arith) };
       short = omega arith;
@@ -234,7 +264,11 @@ sound_start placement positions cells begin =
       stands = λ b lt. one b (get_or positions b None) (begin b);
       in_masks = λ b. (λ t. absurd (both_ways (in_mask 0 b) (has-zero b) t), λ t. absurd (both_ways (in_mask 0 b) (has-zero b) t));
       clear = λ _. (refl, refl);
-      lone = All-nil (λ (e : Entry). IsLoneEntry e e.act);
+      begun_cells = begun_cells;
+      covers =
+          λ b n is.
+          subst (λ (q : ℕ). CoversDrafts (get_or begun b []) (part placement b (database_after [] q))) (sym (begin b n is))
+          (All-nil (λ (s : Slot). IfSome s.draft (λ (d : Draft). has_begun (get_or begun b []) d.tx ≡ true)));
       sessions = All-nil (IsSoundSession [] 0);
       rises = tt;
       few = omega arith;
@@ -260,7 +294,8 @@ sound_sessions c ss g s a =
       stands = s.stands;
       in_masks = s.in_masks;
       clear = s.clear;
-      lone = s.lone;
+      begun_cells = s.begun_cells;
+      covers = s.covers;
       sessions = a.sessions;
       rises = a.rises;
       few = a.few;
@@ -283,10 +318,10 @@ sched_stands h e f s b None f0 s0 st =
     (⊎_elim (λ (t : in_mask f b ≡ true). both_ways (in_mask f b) (ap (λ m. in_mask m b) f0 ∙ has-zero b) t) (λ (t : in_mask s b ≡ true). both_ways (in_mask s b) (ap (λ m. in_mask m b) s0 ∙ has-zero b) t) q)
 
 -- an entry is scheduled
-pub sound_sched : (c : Core) (e : Entry) (ss : List OpenSession) → CoreInvariant c → is_idle c.history ≡ true → IsFitEntry (log c.history) e → IsLoneEntry e e.act → 3 ≤ events_left c.history
+pub sound_sched : (c : Core) (e : Entry) (ss : List OpenSession) → CoreInvariant c → is_idle c.history ≡ true → IsFitEntry (log c.history) e → 3 ≤ events_left c.history
     → SessionsAre (c.history ++ Sched e ∷ []) c.greatest ss
-    → CoreInvariant (record { placement = c.placement; history = c.history ++ Sched e ∷ []; positions = c.positions; failed = 0; starved = 0; sessions = ss; greatest = c.greatest })
-sound_sched c e ss s fr fit lone space a =
+    → CoreInvariant (record (with_entry c e) { sessions = ss })
+sound_sched c e ss s fr fit space a =
     let l : length (log (c.history ++ Sched e ∷ [])) ≡ length (log c.history) + 1 = ap length (log-sched c.history e) ∙ length-append (log c.history) (e ∷ []) in
     let d : ended_count (c.history ++ Sched e ∷ []) ≡ ended_count c.history = done-same c.history (Sched e) refl in
     let n : length (c.history ++ Sched e ∷ []) ≡ length c.history + 1 = length-append c.history (Sched e ∷ []) in
@@ -300,7 +335,11 @@ sound_sched c e ss s fr fit lone space a =
       stands = λ b lt. sched_stands c.history e c.failed c.starved b (position_at c b) (s.clear fr).0 (s.clear fr).1 (s.stands b lt);
       in_masks = λ b. (λ t. absurd (both_ways (in_mask 0 b) (has-zero b) t), λ t. absurd (both_ways (in_mask 0 b) (has-zero b) t));
       clear = λ _. (refl, refl);
-      lone = subst (All (λ (x : Entry). IsLoneEntry x x.act)) (sym (log-sched c.history e)) (All-push (λ (x : Entry). IsLoneEntry x x.act) (log c.history) e s.lone lone);
+      begun_cells = s.begun_cells;
+      covers =
+          λ b n is.
+          let le : n ≤ length (log c.history) = (stands_there c b n s is).0 in
+          subst (λ (db : List Slot). CoversDrafts (begun_at c b) (part c.placement b db)) (sym (at-prefix (log c.history) (log (c.history ++ Sched e ∷ [])) n (e ∷ [], sym (log-sched c.history e)) le)) (s.covers b n is);
       sessions = a.sessions;
       rises = a.rises;
       few = a.few;
@@ -336,7 +375,7 @@ ended_stands h f s b None fr lo hi all st =
 pub sound_ended : (c : Core) (ss : List OpenSession) → CoreInvariant c → is_idle c.history ≡ false
     → ((b q : ℕ) → position_at c b ≡ Some q → is_enabled c.history b ≡ true → length (log c.history) ≤ q)
     → SessionsAre (c.history ++ Ended c.failed c.starved ∷ []) c.greatest ss
-    → CoreInvariant (record { placement = c.placement; history = c.history ++ Ended c.failed c.starved ∷ []; positions = c.positions; failed = 0; starved = 0; sessions = ss; greatest = c.greatest })
+    → CoreInvariant (record c { history = c.history ++ Ended c.failed c.starved ∷ []; failed = 0; starved = 0; sessions = ss })
 sound_ended c ss s fr all a =
     let same : log (c.history ++ Ended c.failed c.starved ∷ []) ≡ log c.history = log-same c.history (Ended c.failed c.starved) refl in
     let l : length (log (c.history ++ Ended c.failed c.starved ∷ [])) ≡ length (log c.history) = ap length same in
@@ -355,7 +394,8 @@ sound_ended c ss s fr all a =
       stands = λ b lt. ended_stands c.history c.failed c.starved b (position_at c b) fr lo hi (λ q is on. all b q is on) (s.stands b lt);
       in_masks = λ b. (λ t. absurd (both_ways (in_mask 0 b) (has-zero b) t), λ t. absurd (both_ways (in_mask 0 b) (has-zero b) t));
       clear = λ _. (refl, refl);
-      lone = subst (All (λ (x : Entry). IsLoneEntry x x.act)) (sym same) s.lone;
+      begun_cells = s.begun_cells;
+      covers = λ b n is. subst (λ (l : List Entry). CoversDrafts (begun_at c b) (part c.placement b (database_after l n))) (sym same) (s.covers b n is);
       sessions = a.sessions;
       rises = a.rises;
       few = a.few;
@@ -410,7 +450,8 @@ sound_same c e ss s allowed is stays space on keeps a =
       in_masks = λ b. (λ t. (keeps b (inl t), ((s.in_masks b).0 t).1), λ t. keeps b (inr t));
       clear =
           λ fr. s.clear (subst (λ (x : ℕ). (x == length (log c.history)) ≡ true) d (subst (λ (x : List Entry). (ended_count (c.history ++ e ∷ []) == length x) ≡ true) same fr));
-      lone = subst (All (λ (x : Entry). IsLoneEntry x x.act)) (sym same) s.lone;
+      begun_cells = s.begun_cells;
+      covers = λ b n is. subst (λ (l : List Entry). CoversDrafts (begun_at c b) (part c.placement b (database_after l n))) (sym same) (s.covers b n is);
       sessions = a.sessions;
       rises = a.rises;
       few = a.few;
@@ -457,15 +498,6 @@ sound_enabled c b s fr off lt at_end space =
 
 -- ---- a backend takes an entry
 
--- a backend that stands somewhere is there
-pub is_there : (ps : List (Option ℕ)) (b p : ℕ) → get_or ps b None ≡ Some p → b < length ps
-is_there ps b p is =
-    ⊎_elim (λ (lt : b < length ps). lt) (λ (ge : length ps ≤ b). let e : get_or ps b None ≡ None = get_or_past ps b None ge in absurd (cc (e, is))) (cases_lt b (length ps))
-
--- where a backend stands that is not out
-pub stands_there : (c : Core) (b p : ℕ) → CoreInvariant c → position_at c b ≡ Some p → BackendStands c.history c.failed c.starved b (Some p)
-stands_there c b p s is = subst (λ (x : Option ℕ). BackendStands c.history c.failed c.starved b x) is (s.stands b (is_there c.positions b p is))
-
 -- what stands at k does not change where a mask gains another backend
 other_stands : (h : List Event) (f s f' s' k : ℕ) (p : Option ℕ) → in_mask f' k ≡ in_mask f k → in_mask s' k ≡ in_mask s k → BackendStands h f s k p → BackendStands h f' s' k p
 other_stands h f s f' s' k (Some p) fe se st = (st.0, st.1, fe ∙ st.2, se ∙ st.3)
@@ -476,15 +508,14 @@ abbrev pub FitsMasks : List Event → ℕ → ℕ → ℕ → Type 0
 FitsMasks h f s k = (in_mask f k ≡ true → (is_enabled h k ≡ true) × (in_mask s k ≡ false)) × (in_mask s k ≡ true → is_enabled h k ≡ true)
 
 -- backend b comes to stand elsewhere, and maybe into a mask
-pub sound_moved : (c : Core) (b f s : ℕ) (p : Option ℕ) → CoreInvariant c → b < length c.positions → BackendStands c.history f s b p → FitsMasks c.history f s b
+pub sound_moved : (c : Core) (b f s : ℕ) (now : Stance) → CoreInvariant c → b < length c.positions → BackendStands c.history f s b now.position → CoversAt c.placement b (log c.history) now.position now.begun → FitsMasks c.history f s b
     → ((k : ℕ) → k ≢ b → (in_mask f k ≡ in_mask c.failed k) × (in_mask s k ≡ in_mask c.starved k)) → (is_idle c.history ≡ true → (f ≡ 0) × (s ≡ 0))
-    → CoreInvariant (record c { positions = set c.positions b p; failed = f; starved = s })
-sound_moved c b f s p w lt now masks others clear =
+    → CoreInvariant (record (with_stance c b now) { failed = f; starved = s })
+sound_moved c b f s now w lt stands covers masks others clear =
     record {
       legal = w.legal;
       short = w.short;
       one_open = w.one_open;
-      lone = w.lone;
       sessions = w.sessions;
       rises = w.rises;
       few = w.few;
@@ -492,14 +523,14 @@ sound_moved c b f s p w lt now masks others clear =
       known = w.known;
       log_faults = w.log_faults;
       waits = w.waits;
-      cells = length-set c.positions b p ∙ w.cells;
-      hosts = λ k on. subst (λ (n : ℕ). k < n) (sym (length-set c.positions b p)) (w.hosts k on);
+      cells = length-set c.positions b now.position ∙ w.cells;
+      hosts = λ k on. subst (λ (n : ℕ). k < n) (sym (length-set c.positions b now.position)) (w.hosts k on);
       stands =
           λ k klt.
-          ⊎_elim (λ (e : k ≡ b). subst (λ (x : ℕ). BackendStands c.history f s x (get_or (set c.positions b p) x None)) (sym e) (rw get_or-set_same now))
+          ⊎_elim (λ (e : k ≡ b). subst (λ (x : ℕ). BackendStands c.history f s x (get_or (set c.positions b now.position) x None)) (sym e) (rw get_or-set_same stands))
           (λ (e : k ≡ b → ⊥).
           let ne : k ≢ b = e in
-          rw get_or-set_other (other_stands c.history c.failed c.starved f s k (position_at c k) (others k ne).0 (others k ne).1 (w.stands k (subst (λ (n : ℕ). k < n) (length-set c.positions b p) klt))))
+          rw get_or-set_other (other_stands c.history c.failed c.starved f s k (position_at c k) (others k ne).0 (others k ne).1 (w.stands k (subst (λ (n : ℕ). k < n) (length-set c.positions b now.position) klt))))
           (cases_eq k b);
       in_masks =
           λ k.
@@ -511,7 +542,29 @@ sound_moved c b f s p w lt now masks others clear =
           ))
           (cases_eq k b);
       clear = clear;
+      begun_cells = length-set c.begun b now.begun ∙ w.begun_cells;
+      covers =
+          λ k.
+          ⊎_elim (λ (e : k ≡ b). subst (λ (x : ℕ). CoversAt c.placement x (log c.history) (get_or (set c.positions b now.position) x None) (get_or (set c.begun b now.begun) x [])) (sym e) here)
+          (λ (e : k ≡ b → ⊥). there k e) (cases_eq k b);
     }
+  where
+    begun_lt : b < length c.begun
+    begun_lt = subst (λ (n : ℕ). b < n) (w.cells ∙ sym w.begun_cells) lt
+
+    here : CoversAt c.placement b (log c.history) (get_or (set c.positions b now.position) b None) (get_or (set c.begun b now.begun) b [])
+    here =
+        subst (λ (o : Option ℕ). CoversAt c.placement b (log c.history) o (get_or (set c.begun b now.begun) b [])) (sym (get_or-set_same c.positions b now.position None lt))
+        (subst (CoversAt c.placement b (log c.history) now.position) (sym (get_or-set_same c.begun b now.begun [] begun_lt)) covers)
+
+    there : (k : ℕ) → k ≢ b → CoversAt c.placement k (log c.history) (get_or (set c.positions b now.position) k None) (get_or (set c.begun b now.begun) k [])
+    there k ne =
+        subst (λ (o : Option ℕ). CoversAt c.placement k (log c.history) o (get_or (set c.begun b now.begun) k [])) (sym (get_or-set_other c.positions b k now.position None ne))
+        (subst (CoversAt c.placement k (log c.history) (position_at c k)) (sym (get_or-set_other c.begun b k now.begun [] ne)) (w.covers k))
+
+-- one that is out holds no part
+covers_out : (p : Placement) (b : ℕ) (entries : List Entry) → CoversAt p b entries None []
+covers_out p b entries n is = absurd (cc is)
 
 module _ (c : Core) (b p : ℕ) (w : CoreInvariant c) (is : position_at c b ≡ Some p) where
   -- it is within the positions
@@ -522,48 +575,61 @@ module _ (c : Core) (b p : ℕ) (w : CoreInvariant c) (is : position_at c b ≡ 
   was : BackendStands c.history c.failed c.starved b (Some p)
   was = stands_there c b p w is
 
-  -- it has taken the entry
-  pub sound_next : p < length (log c.history) → CoreInvariant (record c { positions = set c.positions b (Some (p + 1)) })
-  sound_next more =
+  -- it has taken the entry, and has begun these transactions
+  pub sound_next : (begun : List ℕ) → p < length (log c.history) → CoversDrafts begun (part c.placement b (database_after (log c.history) (p + 1)))
+      → CoreInvariant (with_stance c b (record { position = Some (p + 1); begun = begun }))
+  sound_next begun more covers =
       let now : BackendStands c.history c.failed c.starved b (Some (p + 1)) = (omega arith, λ on. let g : ended_count c.history ≤ p = was.1 on in omega arith, was.2, was.3) in
-      sound_moved c b c.failed c.starved (Some (p + 1)) w lt now (w.in_masks b) (λ k ne. (refl, refl)) w.clear
+      sound_moved c b c.failed c.starved (record { position = Some (p + 1); begun = begun }) w lt now
+      (λ n at. let same : p + 1 ≡ n = cc at in subst (λ (q : ℕ). CoversDrafts begun (part c.placement b (database_after (log c.history) q))) same covers) (w.in_masks b) (λ k ne. (refl, refl)) w.clear
 
   -- it failed in the open entry
-  pub sound_failed : is_idle c.history ≡ false → is_enabled c.history b ≡ true → CoreInvariant (record c { positions = set c.positions b None; failed = with_backend c.failed b })
+  pub sound_failed : is_idle c.history ≡ false → is_enabled c.history b ≡ true → CoreInvariant (record (with_stance c b out) { failed = with_backend c.failed b })
   sound_failed fr on =
-      sound_moved c b (with_backend c.failed b) c.starved None w lt (λ _. inl (has-with_same c.failed b)) (λ _. (on, was.3), λ _. on) (λ k ne. (has-with_other c.failed b k ne, refl))
-      (λ t. absurd (both_ways (is_idle c.history) fr t))
+      sound_moved c b (with_backend c.failed b) c.starved out w lt (λ _. inl (has-with_same c.failed b)) (covers_out c.placement b (log c.history)) (λ _. (on, was.3), λ _. on)
+      (λ k ne. (has-with_other c.failed b k ne, refl)) (λ t. absurd (both_ways (is_idle c.history) fr t))
 
   -- it wanted memory in the open entry
-  pub sound_starved : is_idle c.history ≡ false → is_enabled c.history b ≡ true → CoreInvariant (record c { positions = set c.positions b None; starved = with_backend c.starved b })
+  pub sound_starved : is_idle c.history ≡ false → is_enabled c.history b ≡ true → CoreInvariant (record (with_stance c b out) { starved = with_backend c.starved b })
   sound_starved fr on =
-      sound_moved c b c.failed (with_backend c.starved b) None w lt (λ _. inr (has-with_same c.starved b)) (λ t. absurd (both_ways (in_mask c.failed b) was.2 t), λ _. on)
-      (λ k ne. (refl, has-with_other c.starved b k ne)) (λ t. absurd (both_ways (is_idle c.history) fr t))
+      sound_moved c b c.failed (with_backend c.starved b) out w lt (λ _. inr (has-with_same c.starved b)) (covers_out c.placement b (log c.history))
+      (λ t. absurd (both_ways (in_mask c.failed b) was.2 t), λ _. on) (λ k ne. (refl, has-with_other c.starved b k ne)) (λ t. absurd (both_ways (is_idle c.history) fr t))
 
   -- it is out, and was not enabled
-  pub sound_dropped : is_enabled c.history b ≡ false → CoreInvariant (record c { positions = set c.positions b None })
-  sound_dropped off = sound_moved c b c.failed c.starved None w lt (λ on. absurd (both_ways (is_enabled c.history b) off on)) (w.in_masks b) (λ k ne. (refl, refl)) w.clear
+  pub sound_dropped : is_enabled c.history b ≡ false → CoreInvariant (with_stance c b out)
+  sound_dropped off =
+      sound_moved c b c.failed c.starved out w lt (λ on. absurd (both_ways (is_enabled c.history b) off on)) (covers_out c.placement b (log c.history)) (w.in_masks b) (λ k ne. (refl, refl)) w.clear
 
 -- what a backend does with an entry
 module _ (tells : Bool) (c : Core) (b : ℕ) (w : CoreInvariant c) where
   -- the state after it, with the masks that come of it
-  abbrev pub taken : ℕ → ℕ → Option ℕ → Core
-  taken f s p = record c { positions = set c.positions b p; failed = f; starved = s }
+  abbrev pub taken : ℕ → ℕ → Stance → Core
+  taken f s now = record (with_stance c b now) { failed = f; starved = s }
 
-  -- it has taken the entry
-  next : (d : Did) (p : Option ℕ) (t : TakesEntry tells c b d p) → p ≡ Some (t.p + 1) → CoreInvariant (taken c.failed c.starved p)
-  next d p t is = subst (λ (x : Option ℕ). CoreInvariant (taken c.failed c.starved x)) (sym is) (sound_next c b t.p w t.stands (slice_get_within (log c.history) t.p t.entry t.there))
+  -- it took part in the entry
+  done : (o : Outcome) (now : Stance) (t : TakesEntry tells c b (did.Done o) now) → CoreInvariant (taken c.failed c.starved now)
+  done o now t =
+      subst (λ (x : Stance). CoreInvariant (taken c.failed c.starved x)) (sym t.does.3)
+      (sound_next c b t.p w t.stands (begun_after (begun_at c b) t.entry.tx t.entry.act) (slice_get_within (log c.history) t.p t.entry t.there)
+      (covers_at_taken c.placement b (begun_at c b) (log c.history) (legal_fit c.history w.legal) t.p (w.covers b t.p t.stands) t.entry t.there t.does.0))
+
+  -- it passed the entry over
+  skipped : (now : Stance) (t : TakesEntry tells c b did.Skipped now) → CoreInvariant (taken c.failed c.starved now)
+  skipped now t =
+      subst (λ (x : Stance). CoreInvariant (taken c.failed c.starved x)) (sym t.does.1)
+      (sound_next c b t.p w t.stands (begun_at c b) (slice_get_within (log c.history) t.p t.entry t.there)
+      (covers_at_passed c.placement b (begun_at c b) (log c.history) (legal_fit c.history w.legal) t.p (w.covers b t.p t.stands) t.entry t.there t.does.0))
 
   -- an enabled backend takes the open entry
-  pub sound_applied : is_idle c.history ≡ false → is_enabled c.history b ≡ true → (d : Did) (p : Option ℕ) → TakesEntry tells c b d p → CoreInvariant (taken (failed_after c.failed b d) (starved_after c.starved b d) p)
-  sound_applied fr on (did.Done o) p t = next (did.Done o) p t t.does.3
-  sound_applied fr on did.Skipped p t = next did.Skipped p t t.does.1
-  sound_applied fr on did.Failed p t = subst (λ (x : Option ℕ). CoreInvariant (taken (with_backend c.failed b) c.starved x)) (sym t.does) (sound_failed c b t.p w t.stands fr on)
-  sound_applied fr on did.Starved p t = subst (λ (x : Option ℕ). CoreInvariant (taken c.failed (with_backend c.starved b) x)) (sym t.does) (sound_starved c b t.p w t.stands fr on)
+  pub sound_applied : is_idle c.history ≡ false → is_enabled c.history b ≡ true → (d : Did) (now : Stance) → TakesEntry tells c b d now → CoreInvariant (taken (failed_after c.failed b d) (starved_after c.starved b d) now)
+  sound_applied fr on (did.Done o) now t = done o now t
+  sound_applied fr on did.Skipped now t = skipped now t
+  sound_applied fr on did.Failed now t = subst (λ (x : Stance). CoreInvariant (taken (with_backend c.failed b) c.starved x)) (sym t.does.1) (sound_failed c b t.p w t.stands fr on)
+  sound_applied fr on did.Starved now t = subst (λ (x : Stance). CoreInvariant (taken c.failed (with_backend c.starved b) x)) (sym t.does.1) (sound_starved c b t.p w t.stands fr on)
 
   -- one that is not enabled takes the log's next
-  pub sound_replayed : is_enabled c.history b ≡ false → (d : Did) (p : Option ℕ) → TakesEntry tells c b d p → CoreInvariant (taken c.failed c.starved p)
-  sound_replayed off (did.Done o) p t = next (did.Done o) p t t.does.3
-  sound_replayed off did.Skipped p t = next did.Skipped p t t.does.1
-  sound_replayed off did.Failed p t = subst (λ (x : Option ℕ). CoreInvariant (taken c.failed c.starved x)) (sym t.does) (sound_dropped c b t.p w t.stands off)
-  sound_replayed off did.Starved p t = subst (λ (x : Option ℕ). CoreInvariant (taken c.failed c.starved x)) (sym t.does) (sound_dropped c b t.p w t.stands off)
+  pub sound_replayed : is_enabled c.history b ≡ false → (d : Did) (now : Stance) → TakesEntry tells c b d now → CoreInvariant (with_stance c b now)
+  sound_replayed off (did.Done o) now t = done o now t
+  sound_replayed off did.Skipped now t = skipped now t
+  sound_replayed off did.Failed now t = subst (λ (x : Stance). CoreInvariant (with_stance c b x)) (sym t.does.1) (sound_dropped c b t.p w t.stands off)
+  sound_replayed off did.Starved now t = subst (λ (x : Stance). CoreInvariant (with_stance c b x)) (sym t.does.1) (sound_dropped c b t.p w t.stands off)

@@ -12,7 +12,7 @@ use Rattle.cj_model.specs.declared.select.Select.{Select}
 use Rattle.cj_model.specs.declared.answer.Asked.{Asked}
 use Rattle.cj_cluster.specs.declared.event.Event.{Event}
 use Rattle.cj_cluster.specs.declared.moves.Move.{Move}
-use Rattle.cj_cluster.specs.declared.moves.Move.TheVariants.{Open, Close, Schedule, Apply, End, Read, Arm, Disable, Replay, Enable}
+use Rattle.cj_cluster.specs.declared.moves.Move.TheVariants.{Open, Close, Schedule, Abort, Apply, End, Read, Arm, Disable, Replay, Enable}
 use Rattle.cj_cluster.specs.declared.moves.Moved.TheVariants as moved
 use Rattle.cj_cluster.specs.declared.moves.Reason.TheVariants as reason
 use Rattle.cj_cluster.specs.declared.moves.MoveError.TheVariants.{NotNow, NoMemory}
@@ -21,7 +21,7 @@ use Rattle.cj_model.specs.Sql.PlainRequests.{act_of}
 use Rattle.cj_model.specs.Cluster.Placements.{Placement}
 use Rattle.cj_cluster.specs.Moves.Cores.{Core, find_session, session_at, new_session, with_session}
 use Rattle.cj_cluster.specs.Moves.Moves as moves
-use Rattle.cj_cluster.specs.Moves.Moves.{MoveResult, MovesTo, DoesMove, not_now, with_one_request, answered_at, was_answered, still_reading, with_read, read_failed, tried_of, tried_with}
+use Rattle.cj_cluster.specs.Moves.Moves.{MoveResult, MovesTo, DoesMove, not_now, Stance, with_stance, with_one_request, answered_at, was_answered, still_reading, with_read, read_failed, tried_of, tried_with}
 use Rattle.cj_cluster.specs.Proving.Invariants.{CoreInvariant}
 use Rattle.cj_cluster.specs.Moves.Runs.{RunsMoves, IsMoveOfCluster, CanCountRequests}
 use Rattle.cj_cluster.proofs.Pushed.{prefix_self, prefix_trans}
@@ -117,9 +117,10 @@ module _ (c z : Core) where
   grows_in : (ss : List OpenSession) (g : ℕ) → CountsBy 1 ss c.sessions → c.greatest ≤ g → z ≡ record c { sessions = ss; greatest = g } → Grows 1 c z
   grows_in ss g counts greatest e = subst (Grows 1 c) (sym e) (record { longer = prefix_self c.history; placement = refl; cells = refl; counts = counts; greatest = greatest })
 
-  -- a backend's position alone has changed, and the masks
-  grows_at : (b : ℕ) (p : Option ℕ) (f s : ℕ) → z ≡ record c { positions = set c.positions b p; failed = f; starved = s } → Grows 1 c z
-  grows_at b p f s e = subst (Grows 1 c) (sym e) (record { longer = prefix_self c.history; placement = refl; cells = length-set c.positions b p; counts = counts_same c.sessions; greatest = omega arith })
+  -- how a backend stands alone has changed, and the masks
+  grows_at : (b : ℕ) (now : Stance) (f s : ℕ) → z ≡ record (with_stance c b now) { failed = f; starved = s } → Grows 1 c z
+  grows_at b now f s e =
+      subst (Grows 1 c) (sym e) (record { longer = prefix_self c.history; placement = refl; cells = length-set c.positions b now.position; counts = counts_same c.sessions; greatest = omega arith })
 
 -- a request counts once
 counted_once : (x : OpenSession) → (with_one_request x).queries ≤ x.queries + 1
@@ -141,7 +142,13 @@ grow_close c s _ z h = absurd h
 -- an act is scheduled, or refused
 grow_act : (c : Core) (s : ℕ) (r : Request) (a : Act) (g : MoveResult) (z : Core) → moves.SchedulesAct c s r a g z → Grows 1 c z
 grow_act c s r a (Ok (moved.Entry n)) z h = grows_to c z _ 0 0 (with_session c.sessions s with_one_request) (counts_with c.sessions s with_one_request (λ x. refl) counted_once) h.4
-grow_act c s r a (Ok (moved.Refused refusal)) z h = grows_in c z (with_session c.sessions s with_one_request) c.greatest (counts_with c.sessions s with_one_request (λ x. refl) counted_once) (omega arith) h.1
+grow_act c s r a (Ok (moved.Refused refusal)) z h =
+    ⊎_elim (λ (q : moves.ScheduleIsForbidden c s a refusal z). counted q.after)
+    (λ (q : moves.ScheduleHasNoBackend c s r a refusal z ⊎ moves.ScheduleHasNoRoom c s r a refusal z).
+    ⊎_elim (λ (n : moves.ScheduleHasNoBackend c s r a refusal z). counted n.after) (λ (n : moves.ScheduleHasNoRoom c s r a refusal z). counted n.after) q) h
+  where
+    counted : z ≡ moves.with_request_counted c s → Grows 1 c z
+    counted = grows_in c z (with_session c.sessions s with_one_request) c.greatest (counts_with c.sessions s with_one_request (λ x. refl) counted_once) (omega arith)
 grow_act c s r a (Err NoMemory) z h = grows_same 1 c z h
 grow_act c s r a _ z h = absurd h
 
@@ -149,6 +156,13 @@ grow_act c s r a _ z h = absurd h
 grow_schedule : (c : Core) (s : ℕ) (r : Request) (o : Option Act) (g : MoveResult) (z : Core) → moves.SchedulesAnyAct c s r o g z → Grows 1 c z
 grow_schedule c s r None g z h = absurd h
 grow_schedule c s r (Some a) g z h = grow_act c s r a g z h
+
+-- the end of an orphan is scheduled, or the history is full
+grow_abort : (c : Core) (tx : ℕ) (g : MoveResult) (z : Core) → moves.AbortsOrphan c tx g z → Grows 1 c z
+grow_abort c tx (Ok (moved.Entry n)) z h = grows_to c z _ 0 0 c.sessions (counts_same c.sessions) h.2
+grow_abort c tx (Ok (moved.Refused refusal)) z h = grows_same 1 c z h.2
+grow_abort c tx (Err NoMemory) z h = grows_same 1 c z h
+grow_abort c tx _ z h = absurd h
 
 -- a backend takes the open entry
 grow_apply : (tells : Bool) (c : Core) (b : ℕ) (g : MoveResult) (z : Core) → moves.Applies tells c b g z → Grows 1 c z
@@ -226,6 +240,7 @@ does_grow : (tells : Bool) (c : Core) (m : Move) (g : MoveResult) (z : Core) →
 does_grow tells c (Open user) g z h = grow_open c user g z h
 does_grow tells c (Close s) g z h = grow_close c s g z h
 does_grow tells c (Schedule s r) g z h = grow_schedule c s r (act_of r) g z h
+does_grow tells c (Abort tx) g z h = grow_abort c tx g z h
 does_grow tells c (Apply b) g z h = grow_apply tells c b g z h
 does_grow tells c End g z h = grow_end tells c g z h
 does_grow tells c (Read s b select) g z h =

@@ -1,16 +1,17 @@
 -- What holds where a move can be made now.
-use Rattle.std.proofs.Common.{◌≡◌, ◌≢◌, ℕ, zero, suc, ◌+◌, ◌≤◌, ◌&&◌, cond, Bool, true, false, nat_lt, List, [], ◌∷◌, length, get_or, Option, None, Some, is_some, is_none, refl, ap, ◌∙◌, subst, arith, ⊎_elim}
-use Rattle.std.proofs.lemmas.Bool.{eqb-true, eqb-false, not-false, or_parts, ltb-false, and_cases, both_ways}
+use Rattle.std.proofs.Common.{◌≡◌, ◌≢◌, ℕ, zero, suc, ◌+◌, ◌-◌, ◌≤◌, ◌==◌, ◌&&◌, cond, Bool, true, false, nat_lt, List, [], ◌∷◌, length, get_or, slice_get, Option, None, Some, is_some, is_none, refl, ap, sym, ◌∙◌, subst, arith, ⊎_elim}
+use Rattle.std.proofs.lemmas.Bool.{eqb-true, eqb-false, cases_Bool, cond-true, cond-false, not-true, not-false, and_parts, or_parts, ltb-false, and_cases, both_ways}
+use Rattle.cj_model.specs.declared.request.Entry.{Entry}
 use Rattle.cj_cluster.specs.declared.event.Event.{Event}
 use Rattle.cj_model.specs.declared.request.Request.{Request}
 use Rattle.cj_model.specs.declared.select.Select.{Select}
 use Rattle.cj_cluster.specs.declared.moves.Reason.{Reason}
 use Rattle.cj_cluster.specs.declared.moves.Why.{Why}
 use Rattle.cj_cluster.specs.declared.moves.OpenRead.{OpenRead}
-use Rattle.cj_cluster.specs.declared.moves.Move.TheVariants.{Close, Schedule, Apply, End, Read, Disable, Replay, Enable}
-use Rattle.cj_cluster.specs.History.Histories.{log, is_idle, is_enabled}
+use Rattle.cj_cluster.specs.declared.moves.Move.TheVariants.{Close, Schedule, Abort, Apply, End, Read, Disable, Replay, Enable}
+use Rattle.cj_cluster.specs.History.Histories.{log, is_idle, is_enabled, tx_of}
 use Rattle.cj_cluster.specs.Moves.Cores.{Core, position_at, session_at}
-use Rattle.cj_cluster.specs.Moves.Moves.{reason_if, position_or_zero, first_lagging, reason_if_lagging, not_now, is_open, is_waiting}
+use Rattle.cj_cluster.specs.Moves.Moves.{reason_if, position_or_zero, first_lagging, reason_if_lagging, entry_numbered, is_orphan_of, is_orphan, not_now, is_open, is_waiting}
 
 -- a reason that is none: the test is false, and no later reason is one
 pub because_none : (t : Bool) (r : Reason) (v : ℕ) (otherwise : Option Why) → reason_if t r v otherwise ≡ None → (t ≡ false) × (otherwise ≡ None)
@@ -56,6 +57,43 @@ can_schedule c s r e =
     let f = because_none _ _ _ _ q.1 in
     let o = or_parts _ _ q.0 in
     record { here = not-false _ p.0; idle = o.0; no_read = no_read _ o.1; is_free = not-false _ f.0 }
+
+-- an entry that has a number stands at the place before it
+pub numbered_at : (entries : List Entry) (n : ℕ) (e : Entry) → entry_numbered entries n ≡ Some e → (n ≢ 0) × (slice_get entries (n - 1) ≡ Some e)
+numbered_at entries n e is =
+    ⊎_elim (λ (z : (n == 0) ≡ true). absurd (cc (sym (cond-true (n == 0) None (slice_get entries (n - 1)) z) ∙ is)))
+    (λ (some : (n == 0) ≡ false). (eqb-false n 0 some, sym (cond-false (n == 0) None (slice_get entries (n - 1)) some) ∙ is)) (cases_Bool (n == 0))
+
+-- an orphan's first entry
+pub record Orphan (c : Core) (tx : ℕ) (o : Option Entry) : Type 0 where
+  pub begin : Entry
+  pub is : o ≡ Some begin
+  pub of_session : tx_of (log c.history) begin.session ≡ tx
+  pub gone : is_open c begin.session ≡ false
+
+pub orphan_of : (c : Core) (tx : ℕ) (o : Option Entry) → is_orphan_of c tx o ≡ true → Orphan c tx o
+orphan_of c tx None t = absurd (cc t)
+orphan_of c tx (Some begin) t = let both = and_parts _ _ t in record { begin = begin; is = refl; of_session = eqb-true _ _ both.0; gone = not-true _ both.1 }
+
+-- the transaction that an entry began is open, its session isn't, and no entry is open
+pub record CanAbort (c : Core) (tx : ℕ) : Type 0 where
+  pub orphan : is_orphan c tx ≡ true
+  pub begin : Entry
+  pub numbered : entry_numbered (log c.history) tx ≡ Some begin
+  pub some : tx ≢ 0
+  pub began : slice_get (log c.history) (tx - 1) ≡ Some begin
+  pub of_session : tx_of (log c.history) begin.session ≡ tx
+  pub gone : is_open c begin.session ≡ false
+  pub is_free : is_idle c.history ≡ true
+
+-- what an Abort that can be made now says
+pub can_abort : (c : Core) (tx : ℕ) → not_now c (Abort tx) ≡ None → CanAbort c tx
+can_abort c tx e =
+    let p = because_none _ _ _ _ e in
+    let q = because_none _ _ _ _ p.1 in
+    let o = orphan_of c tx (entry_numbered (log c.history) tx) (not-false _ p.0) in
+    let at = numbered_at (log c.history) tx o.begin o.is in
+    record { orphan = not-false _ p.0; begin = o.begin; numbered = o.is; some = at.0; began = at.1; of_session = o.of_session; gone = o.gone; is_free = not-false _ q.0 }
 
 -- an entry is open, and the backend is enabled, not out and not yet at the log's end
 pub record CanApply (c : Core) (b : ℕ) : Type 0 where

@@ -1,25 +1,27 @@
--- What a backend holds after one more entry of a log, and the transactions that it has begun there.
-use Rattle.std.proofs.Common.{◌≡◌, ◌≢◌, ℕ, ◌+◌, ◌<◌, ◌==◌, eqb, not, true, false, List, [], ◌∷◌, ◌++◌, length, take, filter, slice_get, Some, refl, ap, sym, ◌∙◌, subst, arith, ⊎_elim}
+-- What a backend holds after one more entry of a log, and that it has begun the transactions whose drafts it holds.
+use Rattle.std.proofs.Common.{◌≡◌, ◌≢◌, ℕ, ◌+◌, ◌<◌, ◌==◌, ◌||◌, not, true, false, List, [], ◌∷◌, ◌++◌, length, take, filter, slice_get, All, Some, refl, ap, sym, ◌∙◌, subst, ⊎_elim}
 use Rattle.std.specs.List.{list_any}
-use Rattle.std.proofs.lemmas.Bool.{not_from_false, or_parts}
+use Rattle.std.proofs.lemmas.Bool.{both_ways, cond_both, not_from_false, eqb-true, eq-eqb, ne_eqb, or_cases, or_left, or_right}
 use Rattle.std.proofs.lemmas.Grind.{fold-append}
 use Rattle.std.proofs.lemmas.List.{take_more}
+use Rattle.std.proofs.lemmas.List.Folds.{list_any-append}
+use Rattle.std.proofs.lemmas.Map.Views.{any-filter_same}
 use Rattle.std.proofs.lemmas.Option.{slice_get_within, get_or_from_slice_get}
 use Rattle.cj_model.specs.declared.database.Slot.{Slot}
+use Rattle.cj_model.specs.declared.write.Write.{Write}
 use Rattle.cj_model.specs.declared.request.Act.{Act}
 use Rattle.cj_model.specs.declared.request.Act.TheVariants as act
 use Rattle.cj_model.specs.declared.request.Entry.{Entry}
 use Rattle.cj_model.specs.Database.Tables.{IsDatabase}
 use Rattle.cj_model.specs.Database.Steps.{acted, step}
-use Rattle.cj_cluster.specs.History.Histories.{database_of, database_after, tx_of}
-use Rattle.cj_cluster.specs.History.Legality.{IsFitEntry, FitsTx, IsSessionEntry, IsAdministratorEntry}
-use Rattle.cj_model.specs.Cluster.Placements.{Placement, part, wrote_at, concerns}
-use Rattle.cj_cluster.specs.History.Transactions.{AreFit, is_end, begun_at}
-use Rattle.cj_model.proofs.FilterLaws.{filter_stays}
-use Rattle.cj_model.proofs.PartLaws.{SameAtPart, acted_hosted, acted_elsewhere}
-use Rattle.cj_cluster.proofs.TransactionLaws.{fit_take, fit_at}
-use Rattle.cj_cluster.proofs.DraftLaws.{run_storable, part_committed_nothing, part_aborted_nothing}
-use Rattle.cj_cluster.proofs.BegunLaws.{open_begun, begun_end, begun_by_begin, begun_by_create, begun_by_drop, begun_by_write_elsewhere}
+use Rattle.cj_model.specs.Cluster.Placements.{Placement, part}
+use Rattle.cj_cluster.specs.History.Histories.{database_of, database_after}
+use Rattle.cj_cluster.specs.History.Transactions.{AreFit, has_begun, takes_part, begun_after}
+use Rattle.cj_cluster.specs.Proving.Invariants.{CoversDrafts}
+use Rattle.cj_model.proofs.PartLaws.{SameAtPart, acted_hosted, acted_elsewhere, committed_part, aborted_part}
+use Rattle.cj_cluster.proofs.StepDrafts.{HasDraftBy, drafts_weaker, written_drafts, created_drafts, dropped_drafts, committed_drafts, aborted_drafts, IsOther, committed_other, aborted_other}
+use Rattle.cj_cluster.proofs.TransactionLaws.{fit_take}
+use Rattle.cj_cluster.proofs.DraftLaws.{run_storable}
 
 -- the first items, with the one at the next place
 pub take_next : {A : Type 0} (xs : List A) (k : ℕ) (x : A) → slice_get xs k ≡ Some x → take (k + 1) xs ≡ take k xs ++ x ∷ []
@@ -35,102 +37,107 @@ run-push entries e = fold-append (λ (db : List Slot) (d : Entry). (step db d).d
 pub at_next : (entries : List Entry) (k : ℕ) (e : Entry) → slice_get entries k ≡ Some e → database_after entries (k + 1) ≡ (step (database_after entries k) e).db
 at_next entries k e is = ap database_of (take_next entries k e is) ∙ run-push (take k entries) e
 
--- a number that is not there is not left out
-filter_absent : (x : ℕ) (xs : List ℕ) → list_any (eqb x) xs ≡ false → filter (λ y. not (x == y)) xs ≡ xs
-filter_absent x [] none = refl
-filter_absent x (y ∷ ys) none =
-    let parts = or_parts (eqb x y) (list_any (eqb x) ys) none in
-    filter_stays (λ z. not (x == z)) y ys (not_from_false (x == y) parts.0) ∙ ap (λ zs. y ∷ zs) (filter_absent x ys parts.1)
+-- ---- the transactions that are begun
 
--- the transaction of a fit entry is open
-pub fit_open : (before : List Entry) (e : Entry) → IsFitEntry before e → e.tx ≢ 0 → (s : ℕ) × (tx_of before s ≡ e.tx)
-fit_open before e fit some =
-    ⊎_elim (λ (o : IsSessionEntry before e). (e.session, own e.act o.tx)) (λ (a : IsAdministratorEntry before e). (a.begin.session, a.is_open)) fit.by
-  where
-    own : (a : Act) → FitsTx (tx_of before e.session) e.tx a → tx_of before e.session ≡ e.tx
-    own act.Begin h = absurd (some h.0)
-    own (act.Write w) h = ⊎_elim (λ (z : e.tx ≡ 0). absurd (some z)) (λ (same : e.tx ≡ tx_of before e.session). sym same) h
-    own (act.Create c) h = absurd (some h)
-    own (act.Drop name) h = absurd (some h)
-    own act.Commit h = sym h.1
-    own act.Abort h = sym h.1
+-- a write begins its transaction, and leaves the others
+begun_write : (begun : List ℕ) (tx : ℕ) (w : Write) → tx ≢ 0 → has_begun (begun_after begun tx (act.Write w)) tx ≡ true
+begun_write begun tx w some =
+    cond_both (tx == 0 || has_begun begun tx) begun (begun ++ tx ∷ []) (λ ts. has_begun ts tx ≡ true)
+    (λ there. ⊎_elim (λ (z : (tx == 0) ≡ true). absurd (some (eqb-true tx 0 z))) (λ (h : has_begun begun tx ≡ true). h) (or_cases (tx == 0) (has_begun begun tx) there))
+    (λ _.
+    list_any-append (λ t. t == tx) begun (tx ∷ [])
+    ∙ or_right (has_begun begun tx) (list_any (λ t. t == tx) (tx ∷ [])) (or_left (tx == tx) false (eq-eqb tx tx refl)))
 
--- what ends a transaction has one
-pub end_has_tx : (before : List Entry) (e : Entry) → IsFitEntry before e → is_end e.act ≡ true → e.tx ≢ 0
-end_has_tx before e fit ends =
-    ⊎_elim (λ (o : IsSessionEntry before e). own e.act ends o.tx) (λ (a : IsAdministratorEntry before e). let is : e.tx ≡ a.at + 1 = a.tx in (let ne : e.tx ≢ 0 = omega arith in ne)) fit.by
-  where
-    own : (a : Act) → is_end a ≡ true → FitsTx (tx_of before e.session) e.tx a → e.tx ≢ 0
-    own act.Begin is h = absurd (cc is)
-    own (act.Write w) is h = absurd (cc is)
-    own (act.Create c) is h = absurd (cc is)
-    own (act.Drop name) is h = absurd (cc is)
-    own act.Commit is h = h.0
-    own act.Abort is h = h.0
+begun_write_others : (begun : List ℕ) (tx : ℕ) (w : Write) (t : ℕ) → has_begun begun t ≡ true → has_begun (begun_after begun tx (act.Write w)) t ≡ true
+begun_write_others begun tx w t there =
+    cond_both (tx == 0 || has_begun begun tx) begun (begun ++ tx ∷ []) (λ ts. has_begun ts t ≡ true) (λ _. there)
+    (λ _. list_any-append (λ u. u == t) begun (tx ∷ []) ∙ or_left (has_begun begun t) (list_any (λ u. u == t) (tx ∷ [])) there)
 
-module _ (p : Placement) (b : ℕ) (before : List Entry) (fits : AreFit before) (e : Entry) where
-  -- an entry that concerns the backend does to its part what it does to the whole
-  pub step_concerned : concerns p b before e.tx e.act ≡ true → SameAtPart p b (step (database_of before) e) (step (part p b (database_of before)) e)
-  step_concerned = one e.act
-    where
-      db : IsDatabase (database_of before)
-      db = (run_storable before fits).database
+-- the end of a transaction leaves the others
+begun_end_others : (begun : List ℕ) (tx t : ℕ) → has_begun begun t ≡ true → t ≢ tx → has_begun (filter (λ u. not (u == tx)) begun) t ≡ true
+begun_end_others begun tx t there ne =
+    any-filter_same (λ u. u == t) (λ u. not (u == tx)) true (λ u same. not_from_false (u == tx) (ne_eqb u tx (λ is. ne (sym (eqb-true u t same) ∙ is)))) begun ∙ there
 
-      one : (a : Act) → concerns p b before e.tx a ≡ true → SameAtPart p b (acted (database_of before) e.tx a) (acted (part p b (database_of before)) e.tx a)
-      one act.Begin on = absurd (cc on)
-      one (act.Write w) on = acted_hosted p b (database_of before) e.tx (act.Write w) db on
-      one (act.Create c) on = acted_hosted p b (database_of before) e.tx (act.Create c) db on
-      one (act.Drop name) on = acted_hosted p b (database_of before) e.tx (act.Drop name) db on
-      one act.Commit on = acted_hosted p b (database_of before) e.tx act.Commit db tt
-      one act.Abort on = acted_hosted p b (database_of before) e.tx act.Abort db tt
+-- ---- one step
 
-  -- any other leaves the part
-  pub step_unconcerned : concerns p b before e.tx e.act ≡ false → part p b (step (database_of before) e).db ≡ part p b (database_of before)
-  step_unconcerned = one e.act
-    where
-      one : (a : Act) → concerns p b before e.tx a ≡ false → part p b (acted (database_of before) e.tx a).db ≡ part p b (database_of before)
-      one act.Begin off = refl
-      one (act.Write w) off = acted_elsewhere p b (database_of before) e.tx (act.Write w) off
-      one (act.Create c) off = acted_elsewhere p b (database_of before) e.tx (act.Create c) off
-      one (act.Drop name) off = acted_elsewhere p b (database_of before) e.tx (act.Drop name) off
-      one act.Commit off = part_committed_nothing p b e.tx before fits off
-      one act.Abort off = part_aborted_nothing p b e.tx before fits off
+-- where a backend holds its part of a database, and has begun the transactions whose drafts it holds
+module _ (p : Placement) (b : ℕ) (begun : List ℕ) (db : List Slot) (is : IsDatabase db) (covers : CoversDrafts begun (part p b db)) (tx : ℕ) where
+  -- the transactions of drafts
+  abbrev Begun : List ℕ → List ℕ → ℕ → Type 0
+  Begun ts table t = has_begun ts t ≡ true
 
-  -- the backend has begun the transaction of a fit entry if it wrote there
-  pub fit_begun : IsFitEntry before e → e.tx ≢ 0 → list_any (eqb e.tx) (begun_at p b before) ≡ wrote_at p b e.tx before
-  fit_begun fit some =
-      let is = fit_open before e fit some in
-      subst (λ t. list_any (eqb t) (begun_at p b before) ≡ wrote_at p b t before) is.1 (open_begun p b is.0 before fits (λ z. some (sym is.1 ∙ z)))
+  -- an act in which it takes part does to the part what it does to the whole
+  act_taken : (a : Act) → takes_part p b begun tx a ≡ true → SameAtPart p b (acted db tx a) (acted (part p b db) tx a)
+  act_taken act.Begin on = absurd (cc on)
+  act_taken (act.Write w) on = acted_hosted p b db tx (act.Write w) is on
+  act_taken (act.Create c) on = acted_hosted p b db tx (act.Create c) is on
+  act_taken (act.Drop name) on = acted_hosted p b db tx (act.Drop name) is on
+  act_taken act.Commit on = acted_hosted p b db tx act.Commit is tt
+  act_taken act.Abort on = acted_hosted p b db tx act.Abort is tt
 
-  -- an entry that does not concern the backend leaves the transactions that it has begun
-  pub begun_unconcerned : IsFitEntry before e → concerns p b before e.tx e.act ≡ false → begun_at p b (before ++ e ∷ []) ≡ begun_at p b before
-  begun_unconcerned fit = one e.act refl
-    where
-      ended : is_end e.act ≡ true → wrote_at p b e.tx before ≡ false → begun_at p b (before ++ e ∷ []) ≡ begun_at p b before
-      ended ends off = begun_end p b before e ends ∙ filter_absent e.tx (begun_at p b before) (fit_begun fit (end_has_tx before e fit ends) ∙ off)
+  -- and leaves drafts of transactions that it has begun then
+  act_covered : (a : Act) → takes_part p b begun tx a ≡ true → CoversDrafts (begun_after begun tx a) (acted (part p b db) tx a).db
+  act_covered act.Begin on = absurd (cc on)
+  act_covered (act.Write w) on =
+      let after : List ℕ = begun_after begun tx (act.Write w) in
+      written_drafts (Begun after) tx w (begun_write begun tx w) (part p b db) (drafts_weaker (Begun begun) (Begun after) (λ table t h. begun_write_others begun tx w t h) (part p b db) covers)
+  act_covered (act.Create c) on = created_drafts (Begun begun) (part p b db) c covers
+  act_covered (act.Drop name) on = dropped_drafts (Begun begun) (part p b db) name covers
+  act_covered act.Commit on = committed_drafts (Begun begun) (Begun (begun_after begun tx act.Commit)) tx (λ table t h ne. begun_end_others begun tx t h ne) (part p b db) covers
+  act_covered act.Abort on = aborted_drafts (Begun begun) (Begun (begun_after begun tx act.Abort)) tx (λ table t h ne. begun_end_others begun tx t h ne) (part p b db) covers
 
-      one : (a : Act) → e.act ≡ a → concerns p b before e.tx a ≡ false → begun_at p b (before ++ e ∷ []) ≡ begun_at p b before
-      one act.Begin is off = begun_by_begin p b before e is
-      one (act.Write w) is off = begun_by_write_elsewhere p b before e w is off
-      one (act.Create c) is off = begun_by_create p b before e c is
-      one (act.Drop name) is off = begun_by_drop p b before e name is
-      one act.Commit is off = ended (ap is_end is) off
-      one act.Abort is off = ended (ap is_end is) off
+  -- of a transaction that it has not begun it holds no draft
+  others : has_begun begun tx ≡ false → All (HasDraftBy (IsOther tx)) (part p b db)
+  others off = drafts_weaker (Begun begun) (IsOther tx) (λ table t h same. both_ways (has_begun begun tx) off (subst (λ u. has_begun begun u ≡ true) same h)) (part p b db) covers
+
+  -- so any other act leaves the part
+  act_passed : (a : Act) → takes_part p b begun tx a ≡ false → part p b (acted db tx a).db ≡ part p b db
+  act_passed act.Begin off = refl
+  act_passed (act.Write w) off = acted_elsewhere p b db tx (act.Write w) off
+  act_passed (act.Create c) off = acted_elsewhere p b db tx (act.Create c) off
+  act_passed (act.Drop name) off = acted_elsewhere p b db tx (act.Drop name) off
+  act_passed act.Commit off = committed_part p b db tx is ∙ committed_other tx (part p b db) (others off)
+  act_passed act.Abort off = aborted_part p b db tx is ∙ aborted_other tx (part p b db) (others off)
+
+module _ (p : Placement) (b : ℕ) (begun : List ℕ) (db : List Slot) (is : IsDatabase db) (covers : CoversDrafts begun (part p b db)) (e : Entry) where
+  -- the step that an entry is for the part, where the backend takes part in it
+  pub step_taken : takes_part p b begun e.tx e.act ≡ true → SameAtPart p b (step db e) (step (part p b db) e)
+  step_taken on = act_taken p b begun db is covers e.tx e.act on
+
+  -- the transactions that it has begun then
+  pub step_covered : takes_part p b begun e.tx e.act ≡ true → CoversDrafts (begun_after begun e.tx e.act) (part p b (step db e).db)
+  step_covered on = subst (CoversDrafts (begun_after begun e.tx e.act)) (sym (step_taken on).0) (act_covered p b begun db is covers e.tx e.act on)
+
+  -- any other entry leaves the part
+  pub step_passed : takes_part p b begun e.tx e.act ≡ false → part p b (step db e).db ≡ part p b db
+  step_passed off = act_passed p b begun db is covers e.tx e.act off
+
+  -- and the transactions
+  pub step_passed_covered : takes_part p b begun e.tx e.act ≡ false → CoversDrafts begun (part p b (step db e).db)
+  step_passed_covered off = subst (CoversDrafts begun) (sym (step_passed off)) covers
 
 -- ---- at the next place of a log
 
-module _ (p : Placement) (b : ℕ) (entries : List Entry) (fits : AreFit entries) (k : ℕ) (e : Entry) (is : slice_get entries k ≡ Some e) where
-  -- the part after an entry that concerns the backend
-  pub part_at_concerned : concerns p b (take k entries) e.tx e.act ≡ true
+module _ (p : Placement) (b : ℕ) (begun : List ℕ) (entries : List Entry) (fits : AreFit entries) (k : ℕ) (covers : CoversDrafts begun (part p b (database_after entries k))) (e : Entry)
+    (is : slice_get entries k ≡ Some e) where
+  db : IsDatabase (database_after entries k)
+  db = (run_storable (take k entries) (fit_take entries k fits)).database
+
+  -- the part after an entry in which the backend takes part
+  pub part_at_taken : takes_part p b begun e.tx e.act ≡ true
       → (part p b (database_after entries (k + 1)) ≡ (step (part p b (database_after entries k)) e).db) × ((step (part p b (database_after entries k)) e).outcome ≡ (step (database_after entries k) e).outcome)
-  part_at_concerned on =
-      let same = step_concerned p b (take k entries) (fit_take entries k fits) e on in
+  part_at_taken on =
+      let same = step_taken p b begun (database_after entries k) db covers e on in
       (ap (part p b) (at_next entries k e is) ∙ same.0, same.1)
 
-  -- and after any other
-  pub part_at_unconcerned : concerns p b (take k entries) e.tx e.act ≡ false → part p b (database_after entries (k + 1)) ≡ part p b (database_after entries k)
-  part_at_unconcerned off = ap (part p b) (at_next entries k e is) ∙ step_unconcerned p b (take k entries) (fit_take entries k fits) e off
+  -- and what it has begun then
+  pub covers_at_taken : takes_part p b begun e.tx e.act ≡ true → CoversDrafts (begun_after begun e.tx e.act) (part p b (database_after entries (k + 1)))
+  covers_at_taken on = subst (λ x. CoversDrafts (begun_after begun e.tx e.act) (part p b x)) (sym (at_next entries k e is)) (step_covered p b begun (database_after entries k) db covers e on)
 
-  -- the transactions that are begun after any other
-  pub begun_at_unconcerned : concerns p b (take k entries) e.tx e.act ≡ false → begun_at p b (take (k + 1) entries) ≡ begun_at p b (take k entries)
-  begun_at_unconcerned off = ap (begun_at p b) (take_next entries k e is) ∙ begun_unconcerned p b (take k entries) (fit_take entries k fits) e (fit_at entries k e fits is) off
+  -- the part after any other
+  pub part_at_passed : takes_part p b begun e.tx e.act ≡ false → part p b (database_after entries (k + 1)) ≡ part p b (database_after entries k)
+  part_at_passed off = ap (part p b) (at_next entries k e is) ∙ step_passed p b begun (database_after entries k) db covers e off
+
+  -- and what it has begun then
+  pub covers_at_passed : takes_part p b begun e.tx e.act ≡ false → CoversDrafts begun (part p b (database_after entries (k + 1)))
+  covers_at_passed off = subst (λ x. CoversDrafts begun (part p b x)) (sym (at_next entries k e is)) (step_passed_covered p b begun (database_after entries k) db covers e off)

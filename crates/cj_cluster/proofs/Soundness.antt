@@ -1,20 +1,19 @@
 -- Every move keeps the state sound.
-use Rattle.std.proofs.Common.{◌≡◌, ◌⊎◌, inl, ℕ, ◌+◌, ◌<◌, ◌≤◌, Bool, true, false, cond, List, [], ◌∷◌, ◌++◌, length, Option, None, Some, Ok, Err, refl, sym, ◌∙◌, subst, arith, ⊎_elim, MatchOption}
-use Rattle.std.proofs.lemmas.Bool.{or_parts, leb-false}
+use Rattle.std.proofs.Common.{◌≡◌, ◌≢◌, ◌⊎◌, inl, inr, ℕ, ◌+◌, ◌-◌, ◌<◌, ◌≤◌, ◌==◌, Bool, true, false, cond, List, [], ◌∷◌, ◌++◌, length, take, Option, None, Some, Ok, Err, refl, ap, sym, ◌∙◌, subst, arith, ⊎_elim, MatchOption}
+use Rattle.std.proofs.lemmas.Bool.{eqb-true, eqb-false, or_parts, leb-false}
 use Rattle.std.proofs.lemmas.List.Elements.{All-weaker}
 use Rattle.cj_model.specs.declared.request.Act.{Act}
 use Rattle.cj_model.specs.declared.request.Act.TheVariants as act
 use Rattle.cj_model.specs.declared.request.Request.{Request}
 use Rattle.cj_model.specs.declared.request.Request.TheVariants as request
 use Rattle.cj_model.specs.declared.request.Entry.{Entry}
-use Rattle.cj_model.specs.declared.write.Write.{Write}
-use Rattle.cj_model.specs.declared.schema.Create.{Create}
 use Rattle.cj_model.specs.declared.select.Select.{Select}
 use Rattle.cj_model.specs.declared.answer.Asked.{Asked}
+use Rattle.cj_model.specs.declared.answer.Refusal.{Refusal}
 use Rattle.cj_cluster.specs.declared.event.Event.{Event}
 use Rattle.cj_cluster.specs.declared.event.Event.TheVariants.{Ended, ReadFailed}
 use Rattle.cj_cluster.specs.declared.moves.Move.{Move}
-use Rattle.cj_cluster.specs.declared.moves.Move.TheVariants.{Open, Close, Schedule, Apply, End, Read, Arm, Disable, Replay, Enable}
+use Rattle.cj_cluster.specs.declared.moves.Move.TheVariants.{Open, Close, Schedule, Abort, Apply, End, Read, Arm, Disable, Replay, Enable}
 use Rattle.cj_cluster.specs.declared.moves.Moved.TheVariants as moved
 use Rattle.cj_cluster.specs.declared.moves.Reason.TheVariants as reason
 use Rattle.cj_cluster.specs.declared.moves.MoveError.TheVariants.{NotNow, NoMemory}
@@ -27,13 +26,15 @@ use Rattle.cj_cluster.specs.History.Legality.{IsFitEntry, FitsTx}
 use Rattle.cj_model.specs.Sql.WrittenRequests.{IsWritten}
 use Rattle.cj_cluster.specs.Moves.Cores.{Core, session_at, new_session, with_session}
 use Rattle.cj_cluster.specs.Moves.Moves as moves
-use Rattle.cj_cluster.specs.Moves.Moves.{MoveResult, MovesTo, DoesMove, not_now, is_open, is_reading, read_number, next_entry, open_tx, tx_of_act, with_one_request, answered_at, was_answered, still_reading, last_number, with_read, read_failed, with_end, tried_of, tried_with}
-use Rattle.cj_cluster.specs.Proving.Invariants.{CoreInvariant, IsSoundSession, IsLoneEntry}
-use Rattle.cj_cluster.specs.Moves.Runs.{IsMoveOfCluster, IsOutsideTransaction, CanCountRequests}
+use Rattle.cj_cluster.specs.Moves.Moves.{MoveResult, MovesTo, DoesMove, not_now, is_open, is_reading, read_number, next_entry, abort_entry, entry_numbered, user_of, is_orphan, open_tx, forbidden_by, tx_of_act, with_one_request, answered_at, was_answered, still_reading, last_number, with_read, read_failed, with_end, tried_of, tried_with}
+use Rattle.cj_cluster.specs.Proving.Invariants.{CoreInvariant, IsSoundSession}
+use Rattle.cj_cluster.specs.Moves.Runs.{IsMoveOfCluster, CanCountRequests}
+use Rattle.cj_cluster.proofs.WrittenRollback.{rollback_written}
+use Rattle.cj_cluster.proofs.TransactionLaws.{fit_at, legal_fit}
 use Rattle.cj_cluster.proofs.Pushed.{log-same, log_faults-same, opened-ended, opened-same}
 use Rattle.cj_cluster.proofs.Sessions.{found_open, found_all, found_number, without}
-use Rattle.cj_cluster.proofs.Effects.{sessions_are, KeepsSession, are_opened, are_closed, are_with, are_sched, lone_no_tx, sound_sessions, sound_sched, sound_ended, sound_read_failed, sound_disabled, sound_enabled, sound_applied, sound_replayed, is_there, stands_there}
-use Rattle.cj_cluster.proofs.Now.{CanClose, can_close, CanSchedule, can_schedule, CanApply, can_apply, CanEnd, can_end, CanDisable, can_disable, CanReplay, can_replay, CanEnable, can_enable, behind_none}
+use Rattle.cj_cluster.proofs.Effects.{sessions_are, KeepsSession, are_opened, are_closed, are_with, are_sched, are_sched_without, sound_sessions, sound_sched, sound_ended, sound_read_failed, sound_disabled, sound_enabled, sound_applied, sound_replayed, is_there, stands_there}
+use Rattle.cj_cluster.proofs.Now.{numbered_at, orphan_of, CanClose, can_close, CanSchedule, can_schedule, CanAbort, can_abort, CanApply, can_apply, CanEnd, can_end, CanDisable, can_disable, CanReplay, can_replay, CanEnable, can_enable, behind_none}
 
 -- ---- sessions
 
@@ -61,16 +62,6 @@ with_sound c s f z w keeps is =
 
 -- ---- entries
 
--- what holds of each act that can be scheduled so far
-by_lone : (P : Act → Type 0) → ((w : Write) → P (act.Write w)) → ((c : Create) → P (act.Create c)) → ((t : List ℕ) → P (act.Drop t)) → (r : Request) (a : Act) → act_of r ≡ Some a → IsOutsideTransaction r → P a
-by_lone P write create drop (request.Select s) a is lone = absurd lone
-by_lone P write create drop (request.Write w) a is lone = let same : act.Write w ≡ a = cc is in subst P same (write w)
-by_lone P write create drop (request.Create c) a is lone = let same : act.Create c ≡ a = cc is in subst P same (create c)
-by_lone P write create drop (request.Drop t) a is lone = let same : act.Drop t ≡ a = cc is in subst P same (drop t)
-by_lone P write create drop request.Begin a is lone = absurd lone
-by_lone P write create drop request.Commit a is lone = absurd lone
-by_lone P write create drop request.Rollback a is lone = absurd lone
-
 -- the request of an act is the one that it came from
 pub request_of-act : (r : Request) (a : Act) → act_of r ≡ Some a → request_of a ≡ r
 request_of-act (request.Select s) a is = absurd (cc is)
@@ -87,9 +78,23 @@ session_sound c s w here =
     let found = found_open c s here in
     (found_all (IsSoundSession c.history c.greatest) c.sessions s (session_at c s) w.sessions found, found_number c.sessions s (session_at c s) found)
 
--- no session has a transaction
-pub no_tx : (c : Core) (s : ℕ) → CoreInvariant c → open_tx c s ≡ 0
-no_tx c s w = lone_no_tx (log c.history) s w.lone
+-- where the one branch of a test refuses, the other was taken
+allowed_then : (t : Bool) (refusal : Refusal) → cond t None (Some refusal) ≡ None → t ≡ true
+allowed_then true refusal e = refl
+allowed_then false refusal e = absurd (cc e)
+
+allowed_else : (t : Bool) (refusal : Refusal) → cond t (Some refusal) None ≡ None → t ≡ false
+allowed_else true refusal e = absurd (cc e)
+allowed_else false refusal e = refl
+
+-- an act that the state of the session's transaction does not forbid is of a transaction that it may have
+pub allowed_tx : (tx : ℕ) (a : Act) → forbidden_by tx a ≡ None → FitsTx tx (tx_of_act tx a) a
+allowed_tx tx act.Begin allowed = (refl, eqb-true tx 0 (allowed_then (tx == 0) _ allowed))
+allowed_tx tx (act.Write w) allowed = inr refl
+allowed_tx tx (act.Create c) allowed = refl
+allowed_tx tx (act.Drop table) allowed = refl
+allowed_tx tx act.Commit allowed = (eqb-false tx 0 (allowed_else (tx == 0) _ allowed), refl)
+allowed_tx tx act.Abort allowed = (eqb-false tx 0 (allowed_else (tx == 0) _ allowed), refl)
 
 -- the next entry of an open session may be scheduled, where its act is written and of a transaction that it may have
 pub entry_fits : (c : Core) (s : ℕ) (a : Act) → IsWritten (request_of a) → FitsTx (open_tx c s) (tx_of_act (open_tx c s) a) a → (session_at c s).queries < REQUEST_LIMIT → CoreInvariant c → is_open c s ≡ true
@@ -117,39 +122,76 @@ entry_fits c s a written tx count w here =
     }
 
 -- and so the act of a request
-next_fits : (c : Core) (s : ℕ) (r : Request) (a : Act) → act_of r ≡ Some a → IsWritten r → IsOutsideTransaction r → CanCountRequests c 1 → CoreInvariant c → is_open c s ≡ true → IsFitEntry (log c.history) (next_entry c s a)
-next_fits c s r a is written lone count w here =
+next_fits : (c : Core) (s : ℕ) (r : Request) (a : Act) → act_of r ≡ Some a → IsWritten r → forbidden_by (open_tx c s) a ≡ None → CanCountRequests c 1 → CoreInvariant c → is_open c s ≡ true
+    → IsFitEntry (log c.history) (next_entry c s a)
+next_fits c s r a is written allowed count w here =
     let more : (session_at c s).queries + 1 ≤ REQUEST_LIMIT = count s in
-    entry_fits c s a (subst IsWritten (sym (request_of-act r a is)) written)
-    (by_lone (λ b. FitsTx (open_tx c s) (tx_of_act (open_tx c s) b) b) (λ q. inl (no_tx c s w)) (λ q. refl) (λ q. refl) r a is lone) (omega arith) w here
-
--- and is outside transactions
-next_lone : (c : Core) (s : ℕ) (r : Request) (a : Act) → act_of r ≡ Some a → IsOutsideTransaction r → CoreInvariant c → IsLoneEntry (next_entry c s a) a
-next_lone c s r a is lone w = by_lone (λ b. IsLoneEntry (next_entry c s b) b) (λ q. no_tx c s w) (λ q. refl) (λ q. refl) r a is lone
+    entry_fits c s a (subst IsWritten (sym (request_of-act r a is)) written) (allowed_tx (open_tx c s) a allowed) (omega arith) w here
 
 -- a request more
 pub keeps_counted : (n : ℕ) → KeepsSession n with_one_request
 keeps_counted n = record { number = λ x. refl; user = λ x. refl; queries = λ x. (let le : x.queries ≤ x.queries + 1 = omega arith in le); least = λ x le. le }
 
 -- an act is scheduled, or refused
-sound_act : (c : Core) (s : ℕ) (r : Request) (a : Act) (g : MoveResult) (z : Core) → act_of r ≡ Some a → IsWritten r → IsOutsideTransaction r → CanCountRequests c 1 → CoreInvariant c → CanSchedule c s
+sound_act : (c : Core) (s : ℕ) (r : Request) (a : Act) (g : MoveResult) (z : Core) → act_of r ≡ Some a → IsWritten r → CanCountRequests c 1 → CoreInvariant c → CanSchedule c s
     → moves.SchedulesAct c s r a g z → CoreInvariant z
-sound_act c s r a (Ok (moved.Entry n)) z is written lone count w can h =
+sound_act c s r a (Ok (moved.Entry n)) z is written count w can h =
     let x = session_sound c s w can.here in
     let high : (session_at c s).number ≤ c.greatest = x.0.number.1 in
     let number : (session_at c s).number ≡ s = x.1 in
     subst CoreInvariant (sym h.4)
-    (sound_sched c (next_entry c s a) (with_session c.sessions s with_one_request) w can.is_free (next_fits c s r a is written lone count w can.here) (next_lone c s r a is lone w) h.2
+    (sound_sched c (next_entry c s a) (with_session c.sessions s with_one_request) w can.is_free (next_fits c s r a is written h.0 count w can.here) h.2
     (are_sched c.history c.greatest c.sessions s (next_entry c s a) (session_at c s) (sessions_are c w) (found_open c s can.here) can.is_free refl refl (omega arith)))
-sound_act c s r a (Ok (moved.Refused refusal)) z is written lone count w can h = with_sound c s with_one_request z w (keeps_counted (length (log c.history))) h.1
-sound_act c s r a (Err NoMemory) z is written lone count w can h = subst CoreInvariant (sym h) w
-sound_act c s r a _ z is written lone count w can h = absurd h
+sound_act c s r a (Ok (moved.Refused refusal)) z is written count w can h =
+    ⊎_elim (λ (q : moves.ScheduleIsForbidden c s a refusal z). counted q.after)
+    (λ (q : moves.ScheduleHasNoBackend c s r a refusal z ⊎ moves.ScheduleHasNoRoom c s r a refusal z).
+    ⊎_elim (λ (n : moves.ScheduleHasNoBackend c s r a refusal z). counted n.after) (λ (n : moves.ScheduleHasNoRoom c s r a refusal z). counted n.after) q) h
+  where
+    counted : z ≡ moves.with_request_counted c s → CoreInvariant z
+    counted = with_sound c s with_one_request z w (keeps_counted (length (log c.history)))
+sound_act c s r a (Err NoMemory) z is written count w can h = subst CoreInvariant (sym h) w
+sound_act c s r a _ z is written count w can h = absurd h
 
 -- a request is scheduled, or refused
-sound_schedule : (c : Core) (s : ℕ) (r : Request) (o : Option Act) (g : MoveResult) (z : Core) → act_of r ≡ o → IsWritten r → IsOutsideTransaction r → CanCountRequests c 1 → CoreInvariant c → CanSchedule c s
+sound_schedule : (c : Core) (s : ℕ) (r : Request) (o : Option Act) (g : MoveResult) (z : Core) → act_of r ≡ o → IsWritten r → CanCountRequests c 1 → CoreInvariant c → CanSchedule c s
     → moves.SchedulesAnyAct c s r o g z → CoreInvariant z
-sound_schedule c s r None g z is written lone count w can h = absurd h
-sound_schedule c s r (Some a) g z is written lone count w can h = sound_act c s r a g z is written lone count w can h
+sound_schedule c s r None g z is written count w can h = absurd h
+sound_schedule c s r (Some a) g z is written count w can h = sound_act c s r a g z is written count w can h
+
+-- the administrator's end of an orphan may be scheduled
+pub abort_fits : (c : Core) (tx : ℕ) → CoreInvariant c → is_orphan c tx ≡ true → IsFitEntry (log c.history) (abort_entry c tx)
+abort_fits c tx w is =
+    let o = orphan_of c tx (entry_numbered (log c.history) tx) is in
+    let at = numbered_at (log c.history) tx o.begin o.is in
+    let user : user_of (entry_numbered (log c.history) tx) ≡ o.begin.user = ap user_of o.is in
+    let begins : IsFitEntry (take (tx - 1) (log c.history)) o.begin = fit_at (log c.history) (tx - 1) o.begin (legal_fit c.history w.legal) at.1 in
+    let some : tx ≢ 0 = at.0 in
+    record {
+      written = rollback_written;
+      user = subst (λ (u : List ℕ). length u ≤ USER_LIMIT) (sym user) begins.user;
+      by =
+          inr
+          record {
+            session = refl;
+            seq = refl;
+            aborts = refl;
+            begin = o.begin;
+            at = tx - 1;
+            tx = omega arith;
+            began = at.1;
+            is_open = o.of_session;
+            user = user;
+          };
+    }
+
+-- the end of an orphan is scheduled, or the history is full
+sound_abort : (c : Core) (tx : ℕ) (g : MoveResult) (z : Core) → CoreInvariant c → CanAbort c tx → moves.AbortsOrphan c tx g z → CoreInvariant z
+sound_abort c tx (Ok (moved.Entry n)) z w can h =
+    subst CoreInvariant (sym h.2)
+    (sound_sched c (abort_entry c tx) c.sessions w can.is_free (abort_fits c tx w can.orphan) h.0 (are_sched_without c.history c.greatest c.sessions (abort_entry c tx) (sessions_are c w) can.is_free refl))
+sound_abort c tx (Ok (moved.Refused refusal)) z w can h = subst CoreInvariant (sym h.2) w
+sound_abort c tx (Err NoMemory) z w can h = subst CoreInvariant (sym h) w
+sound_abort c tx _ z w can h = absurd h
 
 -- ---- backends take entries, and entries end
 
@@ -261,7 +303,8 @@ sound_enable c b _ z w can h = absurd h
 does_sound : (tells : Bool) (c : Core) (m : Move) (g : MoveResult) (z : Core) → IsMoveOfCluster c.placement.backends m → CanCountRequests c 1 → CoreInvariant c → not_now c m ≡ None → DoesMove tells c m g z → CoreInvariant z
 does_sound tells c (Open user) g z is count w now h = sound_open c user g z is w h
 does_sound tells c (Close s) g z is count w now h = sound_close c s g z w (can_close c s now) h
-does_sound tells c (Schedule s r) g z is count w now h = sound_schedule c s r (act_of r) g z refl is.0 is.1 count w (can_schedule c s r now) h
+does_sound tells c (Schedule s r) g z is count w now h = sound_schedule c s r (act_of r) g z refl is.0 count w (can_schedule c s r now) h
+does_sound tells c (Abort tx) g z is count w now h = sound_abort c tx g z w (can_abort c tx now) h
 does_sound tells c (Apply b) g z is count w now h = sound_apply tells c b g z w (can_apply c b now) h
 does_sound tells c End g z is count w now h = sound_end tells c g z w (can_end c now) h
 does_sound tells c (Read s b select) g z is count w now h =

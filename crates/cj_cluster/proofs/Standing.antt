@@ -1,5 +1,5 @@
 -- Each session stands between two replies: how what moves change keeps that, whatever the backends tell.
-use Rattle.std.proofs.Common.{◌≡◌, ℕ, ◌+◌, ◌≤◌, Bool, true, false, List, [], ◌∷◌, ◌++◌, length, Option, option_map, None, Some, is_some, refl, ap, sym, ◌∙◌, subst, arith, ⊎_elim}
+use Rattle.std.proofs.Common.{◌≡◌, ◌≢◌, ℕ, ◌+◌, ◌<◌, ◌≤◌, Bool, true, false, List, [], ◌∷◌, ◌++◌, length, Option, option_map, None, Some, is_some, refl, ap, sym, ◌∙◌, subst, arith, ⊎_elim}
 use Rattle.std.proofs.lemmas.Bool.{cases_eq, eqb-true, both_ways}
 use Rattle.cj_model.specs.declared.request.Entry.{Entry}
 use Rattle.cj_model.specs.declared.select.Select.{Select}
@@ -7,17 +7,20 @@ use Rattle.cj_cluster.specs.declared.event.Event.{Event}
 use Rattle.cj_cluster.specs.declared.event.Event.TheVariants.{Sched, Ended, ReadFailed}
 use Rattle.cj_cluster.specs.declared.moves.OpenSession.{OpenSession}
 use Rattle.cj_model.specs.Sql.PlainRequests.{request_of}
-use Rattle.cj_cluster.specs.History.Histories.{scheduled_entry, is_end_event, log, is_idle, entry_in_progress, is_enabled, enabled_after_event, events_left, is_log_fault}
+use Rattle.cj_cluster.specs.History.Histories.{scheduled_entry, is_end_event, log, is_idle, entry_in_progress, is_enabled, enabled_after_event, events_left, is_log_fault, tx_of}
+use Rattle.cj_cluster.specs.History.Legality.{IsFitEntry}
 use Rattle.cj_model.specs.Cluster.Masks.{in_mask, with_backend}
 use Rattle.cj_cluster.specs.History.Answering.{HasServer}
 use Rattle.cj_cluster.specs.History.Turns.{SessionView}
 use Rattle.cj_cluster.specs.Moves.Cores.{Core, find_session, session_at, new_session, with_session, is_entry_of}
-use Rattle.cj_cluster.specs.Moves.Moves.{is_open, with_one_request, answered_at, still_reading, read_number, tried_of, with_read}
-use Rattle.cj_cluster.specs.Proving.Invariants.{CoreInvariant}
+use Rattle.cj_cluster.specs.Moves.Moves.{is_open, with_one_request, with_entry, scheduled_as, abort_entry, answered_at, still_reading, read_number, tried_of, with_read}
+use Rattle.cj_cluster.specs.Proving.Invariants.{IsSoundSession, CoreInvariant}
 use Rattle.cj_cluster.specs.Moves.Runs.{seen_at, HasFailedSince, TriedSince, IsBetweenReplies, AreBetween}
 use Rattle.cj_cluster.proofs.Pushed.{prefix_self, prefix_length}
-use Rattle.cj_cluster.proofs.Sessions.{session_at-is, session_of-same, session_of-other, is_open-with, without, session_of-without_other}
-use Rattle.cj_cluster.proofs.Between.{follows_own, follows_rest, follows_opened, between_follows, between_fresh, between_opened, between_closed, seen_event, seen_ended, seen_other, seen_sched, seen_changed, tried_none, tried_still, tried_again, prior}
+use Rattle.cj_cluster.proofs.Sessions.{session_at-is, found_number, found_all, found_open, session_of-same, session_of-other, is_open-with, without, session_of-without_other}
+use Rattle.cj_cluster.proofs.Now.{CanAbort}
+use Rattle.cj_cluster.proofs.OwnTransactions.{session_fit, tx_of_end_of, tx_of_other}
+use Rattle.cj_cluster.proofs.Between.{follows_own, follows_rest, follows_opened, between_while_open, between_follows, between_fresh, between_opened, between_closed, seen_event, seen_ended, seen_other, seen_sched, seen_changed, tried_none, tried_still, tried_again, prior}
 
 -- ---- where no session is open
 
@@ -32,36 +35,36 @@ between_none c none s =
     }
 
 pub stand_none : (c : Core) → c.sessions ≡ [] → AreBetween c
-stand_none c none s = (record { front = c.history; least = 0 }, between_none c none s)
+stand_none c none s some = (record { front = c.history; least = 0 }, between_none c none s)
 
 -- ---- what changes no session
 
 -- backends and masks change
-pub stand_rest : (c : Core) (ps : List (Option ℕ)) (f t : ℕ) → AreBetween c → AreBetween (record c { positions = ps; failed = f; starved = t })
-stand_rest c ps f t between s =
-    let q = between s in
-    let z : Core = record c { positions = ps; failed = f; starved = t } in
-    (q.0, between_follows q.0 c z c.history s (session_at c s) q.1 (follows_rest c z c.history s c.placement ps f t c.sessions (prefix_self c.history) refl refl) (λ x. x))
+pub stand_rest : (c : Core) (ps : List (Option ℕ)) (begun : List (List ℕ)) (f t : ℕ) → AreBetween c → AreBetween (record c { positions = ps; begun = begun; failed = f; starved = t })
+stand_rest c ps begun f t between s some =
+    let q = between s some in
+    let z : Core = record c { positions = ps; begun = begun; failed = f; starved = t } in
+    (q.0, between_follows q.0 c z c.history s (session_at c s) q.1 (follows_rest c z s refl refl (prefix_self c.history) refl refl) (λ x. x))
 
 -- an event that schedules nothing and ends nothing, and enables or disables nothing while an entry is open
 pub stand_event : (c : Core) (ev : Event) → scheduled_entry ev ≡ None → is_end_event ev ≡ false → ((t q : ℕ) → is_log_fault t q ev ≡ false)
     → ((s : ℕ) → is_entry_of s (entry_in_progress c.history) ≡ true → (b : ℕ) → enabled_after_event b (is_enabled c.history b) ev ≡ is_enabled c.history b) → AreBetween c → AreBetween (record c { history = c.history ++ ev ∷ [] })
-stand_event c ev none stays no_fault same between s =
-    let q = between s in
+stand_event c ev none stays no_fault same between s some =
+    let q = between s some in
     let z : Core = record c { history = c.history ++ ev ∷ [] } in (
       q.0,
       between_follows q.0 c z (c.history ++ ev ∷ []) s (session_at c s) q.1
-          (follows_rest c z (c.history ++ ev ∷ []) s c.placement c.positions c.failed c.starved c.sessions (ev ∷ [], refl) refl refl)
+          (follows_rest c z s refl refl (ev ∷ [], refl) refl refl)
           (λ x. seen_event c.placement q.0 c.history s (session_at c s) x ev none stays no_fault (same s)),
     )
 
 -- ---- sessions that open and close
 
 pub stand_opened : (c : Core) (user : List ℕ) → CoreInvariant c → AreBetween c → AreBetween (record c { sessions = c.sessions ++ new_session (c.greatest + 1) user ∷ []; greatest = c.greatest + 1 })
-stand_opened c user w between s =
+stand_opened c user w between s some =
     let n : ℕ = c.greatest + 1 in
     let z : Core = record c { sessions = c.sessions ++ new_session n user ∷ []; greatest = n } in
-    let q = between s in
+    let q = between s some in
     let stood : IsBetweenReplies q.0 z s =
     ⊎_elim
     (λ (e : s ≡ n). between_opened q.0 c z s user w q.1 e (subst (λ (k : ℕ). z ≡ record c { sessions = c.sessions ++ new_session k user ∷ []; greatest = k }) (sym e) refl))
@@ -71,15 +74,14 @@ stand_opened c user w between s =
     (q.0, stood)
 
 pub stand_closed : (c : Core) (k : ℕ) → AreBetween c → AreBetween (record c { sessions = without k c.sessions })
-stand_closed c k between s =
+stand_closed c k between s some =
     let z : Core = record c { sessions = without k c.sessions } in
-    let q = between s in
+    let q = between s some in
     let stood : IsBetweenReplies q.0 z s =
     ⊎_elim
     (λ (e : s ≡ k). between_closed q.0 c z s q.1 (subst (λ (n : ℕ). z ≡ record c { sessions = without n c.sessions }) (sym e) refl))
     (λ (e : s ≡ k → ⊥).
-    between_follows q.0 c z c.history s (session_at c s) q.1
-    (follows_rest c z c.history s c.placement c.positions c.failed c.starved (without k c.sessions) (prefix_self c.history) refl (session_of-without_other c.sessions k s e)) (λ x. x))
+    between_follows q.0 c z c.history s (session_at c s) q.1 (follows_rest c z s refl refl (prefix_self c.history) refl (session_of-without_other c.sessions k s e)) (λ x. x))
     (cases_eq s k)
     in
     (q.0, stood)
@@ -106,15 +108,12 @@ module _ (c z : Core) (k : ℕ) (f : OpenSession → OpenSession) (keeps : (x : 
 module _ (c : Core) (k : ℕ) (f : OpenSession → OpenSession) (keeps : (x : OpenSession) → (f x).number ≡ x.number) (between : AreBetween c) where
   -- no other session changes
   stand_with : (a : SessionView) → IsBetweenReplies a (with_read c k f) k → AreBetween (with_read c k f)
-  stand_with a own s =
+  stand_with a own s some =
       let z : Core = with_read c k f in
       ⊎_elim (λ (e : s ≡ k). subst (λ (n : ℕ). (b : SessionView) × IsBetweenReplies b z n) (sym e) (a, own))
       (λ (e : s ≡ k → ⊥).
-      let q = between s in (
-        q.0,
-        between_follows q.0 c z c.history s (session_at c s) q.1
-            (follows_rest c z c.history s c.placement c.positions c.failed c.starved (with_session c.sessions k f) (prefix_self c.history) refl (session_of-other f keeps c.sessions k s e)) (λ x. x),
-      ))
+      let q = between s some in
+      (q.0, between_follows q.0 c z c.history s (session_at c s) q.1 (follows_rest c z s refl refl (prefix_self c.history) refl (session_of-other f keeps c.sessions k s e)) (λ x. x)))
       (cases_eq s k)
 
   -- it reads nothing then, and no entry of its own is open
@@ -129,6 +128,13 @@ module _ (c : Core) (k : ℕ) (f : OpenSession → OpenSession) (keeps : (x : Op
   pub stand_counted : ((x : OpenSession) → (f x).reading ≡ x.reading) → (session_at c k).reading ≡ None → CoreInvariant (with_read c k f) → is_entry_of k (entry_in_progress c.history) ≡ false → AreBetween (with_read c k f)
   stand_counted same none v idle = stand_fresh v idle (still_none c (with_read c k f) k f keeps refl same none)
 
+-- an open session's number is above 0
+pub open_above : (c : Core) (s : ℕ) → CoreInvariant c → is_open c s ≡ true → 0 < s
+open_above c s w here =
+    let found = found_open c s here in
+    let sound : IsSoundSession c.history c.greatest (session_at c s) = found_all (IsSoundSession c.history c.greatest) c.sessions s (session_at c s) w.sessions found in
+    subst (λ (n : ℕ). 0 < n) (found_number c.sessions s (session_at c s) found) sound.number.0
+
 -- a session that is not open reads nothing
 shut_reads : (c : Core) (s : ℕ) → is_open c s ≡ false → (session_at c s).reading ≡ None
 shut_reads c s shut = one (find_session c.sessions s) refl shut
@@ -138,33 +144,33 @@ shut_reads c s shut = one (find_session c.sessions s) refl shut
     one (Some x) is none = absurd (cc none)
 
 -- what was tried in its read has failed since what it saw last
-tried_since : (c : Core) (s : ℕ) → AreBetween c → (a : SessionView) × IsBetweenReplies a c s × TriedSince a.front c.history s (session_at c s)
-tried_since c s between = one (is_open c s) refl
+tried_since : (c : Core) (s : ℕ) → 0 < s → AreBetween c → (a : SessionView) × IsBetweenReplies a c s × TriedSince a.front c.history s (session_at c s)
+tried_since c s some between = one (is_open c s) refl
   where
     one : (o : Bool) → is_open c s ≡ o → (a : SessionView) × IsBetweenReplies a c s × TriedSince a.front c.history s (session_at c s)
-    one true here = let q = between s in (q.0, q.1, (q.1.here here).reads)
-    one false shut = let q = between s in (q.0, q.1, tried_none q.0.front c.history s (session_at c s) (shut_reads c s shut))
+    one true here = let q = between s some in (q.0, q.1, (q.1.here here).reads)
+    one false shut = let q = between s some in (q.0, q.1, tried_none q.0.front c.history s (session_at c s) (shut_reads c s shut))
 
 -- the same of the read that is made next
-pub still_tried : (c : Core) (s : ℕ) → AreBetween c
+pub still_tried : (c : Core) (s : ℕ) → 0 < s → AreBetween c
     → (a : SessionView) × IsBetweenReplies a c s × ((b : ℕ) → in_mask (tried_of (session_at c s).reading) b ≡ true → HasFailedSince a.front c.history s (read_number (session_at c s)) b)
-still_tried c s between = let q = tried_since c s between in (q.0, q.1, prior q.0.front c.history s (session_at c s) q.2)
+still_tried c s some between = let q = tried_since c s some between in (q.0, q.1, prior q.0.front c.history s (session_at c s) q.2)
 
 -- and of one backend more, which has just failed
-pub tried_more : (c : Core) (s b n : ℕ) (select : Select) → n ≡ read_number (session_at c s) → AreBetween c
+pub tried_more : (c : Core) (s b n : ℕ) (select : Select) → 0 < s → n ≡ read_number (session_at c s) → AreBetween c
     → (a : SessionView) × IsBetweenReplies a (record c { history = c.history ++ ReadFailed s n b ∷ [] }) s
     × ((k : ℕ) → in_mask (with_backend (tried_of (session_at c s).reading) b) k ≡ true → HasFailedSince a.front (c.history ++ ReadFailed s n b ∷ []) s (read_number (session_at c s)) k)
-tried_more c s b n select is between =
+tried_more c s b n select some is between =
     let ev : Event = ReadFailed s n b in
     let g : List Event = c.history ++ ev ∷ [] in
     let z : Core = record c { history = g } in
     let x : OpenSession = session_at c s in
     let mask : ℕ = with_backend (tried_of x.reading) b in
-    let q = tried_since c s between in
+    let q = tried_since c s some between in
     let more = tried_again q.0.front c.history s b x select (prefix_length q.0.front c.history q.1.longer) q.2 in (
       q.0,
       between_follows q.0 c z g s x q.1
-          (follows_rest c z g s c.placement c.positions c.failed c.starved c.sessions (ev ∷ [], refl) refl refl)
+          (follows_rest c z s refl refl (ev ∷ [], refl) refl refl)
           (λ y. seen_event c.placement q.0 c.history s x y ev refl refl (λ t i. refl) (λ t i. refl)),
       λ k t. subst (λ (m : ℕ). HasFailedSince q.0.front (c.history ++ ReadFailed s m b ∷ []) s (read_number x) k) (sym is) (more (record { select = select; tried = mask }) k refl t),
     )
@@ -184,7 +190,7 @@ stand_reading c k select tried between idle a j each =
     one : (b : Bool) → is_open c k ≡ b → IsBetweenReplies a z k
     one true here =
         between_follows a c z c.history k (f (session_at c k)) j
-        (follows_own c z c.history k c.placement c.positions c.failed c.starved (with_session c.sessions k f) (prefix_self c.history) refl f (λ x. refl) refl here)
+        (follows_own c z k refl refl (prefix_self c.history) refl f (λ x. refl) refl here)
         (λ q. seen_changed c.placement a c.history k (session_at c k) q (f (session_at c k)) idle refl (tried_still a.front c.history k (session_at c k) select tried each))
     one false shut =
         record {
@@ -197,47 +203,61 @@ stand_reading c k select tried between idle a j each =
 -- ---- entries
 
 -- an entry of a session is scheduled, which reads nothing
-pub stand_sched : (c : Core) (k : ℕ) (e : Entry) → is_idle c.history ≡ true → e.session ≡ k → is_open c k ≡ true → (session_at c k).reading ≡ None → HasServer c.placement c.history (request_of e.act) → 3 ≤ events_left c.history
-    → AreBetween c
-    → AreBetween (record { placement = c.placement; history = c.history ++ Sched e ∷ []; positions = c.positions; failed = 0; starved = 0; sessions = with_session c.sessions k with_one_request; greatest = c.greatest })
-stand_sched c k e fr own here none served space between s =
-    let ss : List OpenSession = with_session c.sessions k with_one_request in
+pub stand_sched : (c : Core) (k : ℕ) (e : Entry) → CoreInvariant c → is_idle c.history ≡ true → IsFitEntry (log c.history) e → e.session ≡ k → is_open c k ≡ true → (session_at c k).reading ≡ None
+    → HasServer c.placement c.history (request_of e.act) → 3 ≤ events_left c.history → AreBetween c → AreBetween (scheduled_as c k e)
+stand_sched c k e w fr fit own here none served space between s some =
     let g : List Event = c.history ++ Sched e ∷ [] in
-    let z : Core = record { placement = c.placement; history = g; positions = c.positions; failed = 0; starved = 0; sessions = ss; greatest = c.greatest } in
-    let q = between s in
-    let mine = between k in
+    let z : Core = scheduled_as c k e in
+    let q = between s some in
+    let above : 0 < k = open_above c k w here in
     ⊎_elim
     (λ (is : s ≡ k).
     subst (λ (n : ℕ). (b : SessionView) × IsBetweenReplies b z n) (sym is) (
+    let mine = between k above in (
       mine.0,
-      between_follows mine.0 c z g k (with_one_request (session_at c k)) mine.1 (follows_own c z g k c.placement c.positions 0 0 ss (Sched e ∷ [], refl) refl with_one_request (λ x. refl) refl here)
+      between_follows mine.0 c z g k (with_one_request (session_at c k)) mine.1 (follows_own c z k refl refl (Sched e ∷ [], refl) refl with_one_request (λ x. refl) refl here)
           (λ x. seen_sched c.placement mine.0 c.history k (session_at c k) x e (with_one_request (session_at c k)) fr own served space mine.1.longer refl none),
+    )
     ))
     (λ (is : s ≡ k → ⊥). (
       q.0,
-      between_follows q.0 c z g s (session_at c s) q.1
-          (follows_rest c z g s c.placement c.positions 0 0 ss (Sched e ∷ [], refl) refl (session_of-other with_one_request (λ x. refl) c.sessions k s is))
-          (λ x. seen_other c.placement q.0 c.history s (session_at c s) x e fr (λ i. is (sym i ∙ own))),
+      between_follows q.0 c z g s (session_at c s) q.1 (follows_rest c z s refl refl (Sched e ∷ [], refl) refl (session_of-other with_one_request (λ x. refl) c.sessions k s is))
+          (λ x.
+          let other : e.session ≢ s = λ i. is (sym i ∙ own) in
+          seen_other c.placement q.0 c.history s (session_at c s) x e fr other (tx_of_other (log c.history) e s (session_fit (log c.history) e fit (omega (arith, own, above))).tx other)),
     ))
     (cases_eq s k)
 
--- The open entry ends, and its session is answered.
-pub stand_ended : (c z : Core) (k n f t : ℕ) → z ≡ record { placement = c.placement; history = c.history ++ Ended f t ∷ []; positions = c.positions; failed = 0; starved = 0; sessions = with_session c.sessions k (answered_at n); greatest = c.greatest }
+-- the administrator's end of an orphan leaves the transaction of each session that is open
+pub orphan_leaves : (c : Core) (tx s : ℕ) → CanAbort c tx → is_open c s ≡ true → tx_of (log c.history ++ abort_entry c tx ∷ []) s ≡ tx_of (log c.history) s
+orphan_leaves c tx s can here =
+    tx_of_end_of (log c.history) (abort_entry c tx) can.begin.session s refl can.some (sym can.of_session) (λ same. both_ways (is_open c can.begin.session) can.gone (ap (is_open c) same ∙ here))
+
+-- the end of an orphan is scheduled
+pub stand_aborted : (c : Core) (tx : ℕ) → CanAbort c tx → AreBetween c → AreBetween (with_entry c (abort_entry c tx))
+stand_aborted c tx can between s some =
+    let e : Entry = abort_entry c tx in
+    let z : Core = with_entry c e in
+    let q = between s some in (
+      q.0,
+      between_while_open q.0 c z (c.history ++ Sched e ∷ []) s (session_at c s) q.1 (follows_rest c z s refl refl (Sched e ∷ [], refl) refl refl)
+          (λ here x. seen_other c.placement q.0 c.history s (session_at c s) x e can.is_free (λ none. absurd (omega (arith, none, some))) (orphan_leaves c tx s can here)),
+    )
+
+-- The open entry ends, and its session is answered, where it has one.
+pub stand_ended : (c z : Core) (k n f t : ℕ) → z ≡ record c { history = c.history ++ Ended f t ∷ []; failed = 0; starved = 0; sessions = with_session c.sessions k (answered_at n) }
     → CoreInvariant z → is_entry_of k (entry_in_progress c.history) ≡ true → entry_in_progress (c.history ++ Ended f t ∷ []) ≡ None → AreBetween c → AreBetween z
-stand_ended c z k n f t is v waiting none between s = one (is_entry_of s (entry_in_progress c.history)) refl
+stand_ended c z k n f t is v waiting none between s some = one (is_entry_of s (entry_in_progress c.history)) refl
   where
     g : List Event
     g = c.history ++ Ended f t ∷ []
-
-    ss : List OpenSession
-    ss = with_session c.sessions k (answered_at n)
 
     alone : (o : Option Entry) → is_entry_of s o ≡ true → is_entry_of k o ≡ true → s ≡ k
     alone None a b = absurd (cc a)
     alone (Some e) a b = sym (eqb-true e.session s a) ∙ eqb-true e.session k b
 
     reads_none : (b : Bool) → is_open c s ≡ b → is_entry_of s (entry_in_progress c.history) ≡ true → (session_at c s).reading ≡ None
-    reads_none true here own = (((between s).1.here here).waits own).1
+    reads_none true here own = (((between s some).1.here here).waits own).1
     reads_none false shut own = shut_reads c s shut
 
     one : (b : Bool) → is_entry_of s (entry_in_progress c.history) ≡ b → (a : SessionView) × IsBetweenReplies a z s
@@ -247,10 +267,10 @@ stand_ended c z k n f t is v waiting none between s = one (is_entry_of s (entry_
         let changed : z.sessions ≡ with_session c.sessions s (answered_at n) = ap (λ (x : Core). x.sessions) is ∙ ap (λ (i : ℕ). with_session c.sessions i (answered_at n)) (sym same) in
         (seen_at z s, between_fresh z s v ended_now (still_none c z s (answered_at n) (λ x. refl) changed (λ x. refl) (reads_none (is_open c s) refl own)))
     one false other =
-        let q = between s in
+        let q = between s some in
         let differs : s ≡ k → ⊥ = λ e. both_ways (is_entry_of s (entry_in_progress c.history)) other (subst (λ (i : ℕ). is_entry_of i (entry_in_progress c.history) ≡ true) (sym e) waiting) in (
           q.0,
           between_follows q.0 c z g s (session_at c s) q.1
-              (follows_rest c z g s c.placement c.positions 0 0 ss (Ended f t ∷ [], refl) is (session_of-other (answered_at n) (λ x. refl) c.sessions k s differs))
+              (follows_rest c z s is refl (Ended f t ∷ [], refl) refl (session_of-other (answered_at n) (λ x. refl) c.sessions k s differs))
               (λ x. seen_ended c.placement q.0 c.history s (session_at c s) x f t other none),
         )

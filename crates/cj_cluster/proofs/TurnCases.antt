@@ -1,9 +1,12 @@
 -- The turn of each kind of reply, over plain values.
-use Rattle.std.proofs.Common.{◌≡◌, ℕ, ◌+◌, ◌<◌, ◌≤◌, ◌==◌, ◌⊎◌, inl, inr, Bool, true, cond, List, [], ◌∷◌, ◌++◌, length, take, slice_get, Some, refl, ap, sym, ◌∙◌, subst, arith, ⊎_elim, length-append}
+use Rattle.std.proofs.Common.{◌≡◌, ℕ, ◌+◌, ◌<◌, ◌≤◌, ◌==◌, ◌||◌, ◌⊎◌, inl, inr, Bool, true, false, cond, List, [], ◌∷◌, ◌++◌, length, take, slice_get, Some, refl, ap, sym, ◌∙◌, subst, arith, ⊎_elim, length-append}
 use mathlib.Core.List.{IsPrefix}
 use Rattle.std.proofs.lemmas.Grind.{fold-append}
 use Rattle.std.proofs.lemmas.Bool.{both_ways}
-use Rattle.std.proofs.lemmas.List.{take-append-le}
+use Rattle.std.proofs.lemmas.List.{take-append-le, take_more}
+use Rattle.std.proofs.lemmas.List.Folds.{list_any-append}
+use Rattle.std.proofs.Math.Seq.{take-append_seam}
+use Rattle.std.proofs.lemmas.Option.{slice_get_within, get_or_from_slice_get}
 use Rattle.cj_model.specs.declared.request.Request.TheVariants as request
 use Rattle.cj_model.specs.declared.request.Act.{Act}
 use Rattle.cj_model.specs.declared.request.Act.TheVariants as act
@@ -18,18 +21,18 @@ use Rattle.cj_model.specs.declared.codes.TheConstants.{NO_BACKEND, READ_FAULT, H
 use Rattle.cj_model.specs.Database.Inserts.{refusal_of_code}
 use Rattle.cj_model.specs.Database.Queries.{ask}
 use Rattle.cj_model.specs.Sql.PlainRequests.{act_of, request_of}
-use Rattle.cj_model.specs.Cluster.Placements.{Placement, concerns}
+use Rattle.cj_model.specs.Cluster.Placements.{Placement, writes_at, wrote_at, concerns}
 use Rattle.cj_cluster.specs.History.Histories.{log, ended_count, is_idle, entry_in_progress, is_enabled, events_left, database_after, log_faults_of, tx_of}
 use Rattle.cj_model.specs.Cluster.Masks.{in_mask}
-use Rattle.cj_cluster.specs.History.Legality.{IsLegal}
+use Rattle.cj_cluster.specs.History.Legality.{FitsTx, IsFitEntry, IsAllowedEvent, IsLegal}
 use Rattle.cj_model.specs.Database.Outcomes.{IsAsked}
 use Rattle.cj_cluster.specs.History.Answering.{CanServe, HasServer, HasNoServer, IsTarget, Finished, Unfinished, AnswersEntry}
 use Rattle.cj_model.specs.Wire.Replies.{asked_reply}
 use Rattle.cj_cluster.specs.History.Turns.{SessionView, Call, IsMomentBetween, HasNoRoomFor, scheduled, no_backend, read, read_fault, full, entry_count_of, tx_after_entry, Turn}
-use Rattle.cj_cluster.specs.Proving.Invariants.{IsLoneEntry}
 use Rattle.cj_cluster.specs.Moves.Runs.{AwaitsEnd, HasFailedSince, call_of_entry}
 use Rattle.cj_model.proofs.Masks.{has-zero}
-use Rattle.cj_cluster.proofs.Pushed.{get_seam, get_left, prefix_self, prefix_push, prefix_length, take_whole, enabled-push, log-sched, log-same, log_faults-same}
+use Rattle.cj_cluster.proofs.OwnTransactions.{session_fit, own_tx, tx_of_own}
+use Rattle.cj_cluster.proofs.Pushed.{get_seam, get_left, prefix_self, prefix_push, prefix_take, prefix_length, take_whole, log-prefix, enabled-push, log-sched, log-same, log_faults-same}
 
 -- ---- requests and acts
 
@@ -42,43 +45,36 @@ act_of_request (act.Drop table) = refl
 act_of_request act.Commit = refl
 act_of_request act.Abort = refl
 
--- what concerns an act outside a transaction does not hang on the entries before it
-concerns_lone : (p : Placement) (b : ℕ) (xs ys : List Entry) (e : Entry) (a : Act) → IsLoneEntry e a → concerns p b xs e.tx a ≡ concerns p b ys e.tx a
-concerns_lone p b xs ys e act.Begin lone = absurd lone
-concerns_lone p b xs ys e (act.Write w) lone = refl
-concerns_lone p b xs ys e (act.Create c) lone = refl
-concerns_lone p b xs ys e (act.Drop table) lone = refl
-concerns_lone p b xs ys e act.Commit lone = absurd lone
-concerns_lone p b xs ys e act.Abort lone = absurd lone
+-- an entry that the transaction does not write in leaves whether it wrote at a backend
+wrote_at-push : (p : Placement) (b tx : ℕ) (before : List Entry) (e : Entry) → writes_at p b tx e.tx e.act ≡ false → wrote_at p b tx (before ++ e ∷ []) ≡ wrote_at p b tx before
+wrote_at-push p b tx before e none =
+    list_any-append (λ (x : Entry). writes_at p b tx x.tx x.act) before (e ∷ []) ∙ rw none (or_false (wrote_at p b tx before))
+  where
+    or_false : (o : Bool) → (o || false) ≡ o
+    or_false true = refl
+    or_false false = refl
 
--- an act outside a transaction has none
-pub lone_tx : (e : Entry) (a : Act) → IsLoneEntry e a → e.tx ≡ 0
-lone_tx e act.Begin lone = absurd lone
-lone_tx e (act.Write w) lone = lone
-lone_tx e (act.Create c) lone = lone
-lone_tx e (act.Drop table) lone = lone
-lone_tx e act.Commit lone = absurd lone
-lone_tx e act.Abort lone = absurd lone
+-- An entry that ends a transaction writes nothing, and what it concerns hangs on the writes before it: so it concerns the same backends with itself in the log.
+concerns-push : (p : Placement) (b : ℕ) (before : List Entry) (e : Entry) (a : Act) → e.act ≡ a → concerns p b (before ++ e ∷ []) e.tx a ≡ concerns p b before e.tx a
+concerns-push p b before e act.Begin is = refl
+concerns-push p b before e (act.Write w) is = refl
+concerns-push p b before e (act.Create c) is = refl
+concerns-push p b before e (act.Drop table) is = refl
+concerns-push p b before e act.Commit is = wrote_at-push p b e.tx before e (ap (writes_at p b e.tx e.tx) is)
+concerns-push p b before e act.Abort is = wrote_at-push p b e.tx before e (ap (writes_at p b e.tx e.tx) is)
 
--- and leaves its session in the one that it was in
-next_tx_lone : (n tx : ℕ) (e : Entry) (a : Act) → IsLoneEntry e a → tx_after_entry n tx a ≡ tx
-next_tx_lone n tx e act.Begin lone = absurd lone
-next_tx_lone n tx e (act.Write w) lone = refl
-next_tx_lone n tx e (act.Create c) lone = refl
-next_tx_lone n tx e (act.Drop table) lone = refl
-next_tx_lone n tx e act.Commit lone = absurd lone
-next_tx_lone n tx e act.Abort lone = absurd lone
+-- so its targets are the same at the history with it as at that before it, if the same backends are enabled
+targets_then : (p : Placement) (g h : List Event) (e : Entry) → log h ≡ log g ++ e ∷ [] → ((b : ℕ) → is_enabled g b ≡ is_enabled h b) → (b : ℕ) → (IsTarget p g e b → IsTarget p h e b) × (IsTarget p h e b → IsTarget p g e b)
+targets_then p g h e more same b =
+    let alike : concerns p b (log h) e.tx e.act ≡ concerns p b (log g) e.tx e.act = ap (λ (l : List Entry). concerns p b l e.tx e.act) more ∙ concerns-push p b (log g) e e.act refl in
+    ((λ t. (sym (same b) ∙ t.0, alike ∙ t.1)), λ t. (same b ∙ t.0, sym alike ∙ t.1))
 
--- the targets of an act outside a transaction are the enabled backends that it concerns
-target_at : (p : Placement) (g h : List Event) (e : Entry) → IsLoneEntry e e.act → ((b : ℕ) → is_enabled g b ≡ is_enabled h b) → (b : ℕ) → IsTarget p g e b → IsTarget p h e b
-target_at p g h e lone same b t = (sym (same b) ∙ t.0, concerns_lone p b (log h) (log g) e e.act lone ∙ t.1)
-
--- so it is answered by the history at which it was scheduled as by one with the same enabled backends
-answers_then : (tells : Bool) (p : Placement) (g h now : List Event) (i : ℕ) (e : Entry) (r : Reply) → IsLoneEntry e e.act → ((b : ℕ) → is_enabled g b ≡ is_enabled h b)
+-- and it is answered so
+answers_then : (tells : Bool) (p : Placement) (g h now : List Event) (i : ℕ) (e : Entry) (r : Reply) → log h ≡ log g ++ e ∷ [] → ((b : ℕ) → is_enabled g b ≡ is_enabled h b)
     → AnswersEntry tells p h now i e r → AnswersEntry tells p g now i e r
-answers_then tells p g h now i e r lone same answer =
-    let forth = target_at p g h e lone same in
-    let back = target_at p h g e lone (λ b. sym (same b)) in
+answers_then tells p g h now i e r more same answer =
+    let forth : (b : ℕ) → IsTarget p g e b → IsTarget p h e b = λ b. (targets_then p g h e more same b).0 in
+    let back : (b : ℕ) → IsTarget p h e b → IsTarget p g e b = λ b. (targets_then p g h e more same b).1 in
     ⊎_elim
     (λ (x : Finished tells p h now i e r).
     inl record {
@@ -102,6 +98,30 @@ answers_then tells p g h now i e r lone same answer =
     })
     answer
 
+-- ---- the log since an entry was scheduled
+
+-- a beginning that is as long as the list is the list
+prefix_whole : {A : Type 0} (xs ys : List A) → IsPrefix xs ys → length xs ≡ length ys → xs ≡ ys
+prefix_whole xs ys p same = sym (take_whole xs ys p) ∙ (ap (λ n. take n ys) same ∙ take_whole ys ys (prefix_self ys))
+
+-- the log behind an entry that was scheduled as the last one
+log_since : (h : List Event) (m : ℕ) (e : Entry) → slice_get h m ≡ Some (Sched e) → length (log h) ≡ length (log (take m h)) + 1 → log h ≡ log (take m h) ++ e ∷ []
+log_since h m e next one_more =
+    let then : log (take (m + 1) h) ≡ log (take m h) ++ e ∷ [] =
+    ap log (take_more h m (Sched e) (slice_get_within h m (Sched e) next) ∙ ap (λ (x : Event). take m h ++ x ∷ []) (get_or_from_slice_get h m (Sched e) (Sched e) next)) ∙ log-sched (take m h) e
+    in
+    let many : length (log (take (m + 1) h)) ≡ length (log (take m h)) + 1 = ap length then ∙ length-append (log (take m h)) (e ∷ []) in
+    sym (prefix_whole (log (take (m + 1) h)) (log h) (log-prefix (take (m + 1) h) h (prefix_take (m + 1) h)) (omega arith)) ∙ then
+
+-- an entry of a legal history is fit behind the log before it
+fit_then : (h : List Event) (m : ℕ) (e : Entry) → IsLegal h → slice_get h m ≡ Some (Sched e) → IsFitEntry (log (take m h)) e
+fit_then h m e legal next =
+    (subst (IsAllowedEvent (take m h)) (get_or_from_slice_get h m (Sched e) (Sched e) next) (legal.each m (Sched e) (slice_get_within h m (Sched e) next))).1
+
+-- and so is the last one behind all before it
+pub fit_last : (h : List Event) (e : Entry) → IsLegal (h ++ Sched e ∷ []) → IsFitEntry (log h) e
+fit_last h e legal = subst (λ (x : List Event). IsFitEntry (log x) e) (take-append_seam h (Sched e ∷ [])) (fit_then (h ++ Sched e ∷ []) (length h) e legal (get_seam h [] (Sched e)))
+
 -- ---- the number of a session's entries
 
 -- an event that leaves the log leaves the number
@@ -123,11 +143,11 @@ pub record Rests (s : ℕ) (a : SessionView) (h : List Event) : Type 0 where
 -- the end of an entry answers its session
 pub turn_end : (tells : Bool) (p : Placement) (a : SessionView) (h : List Event) (failed starved : ℕ) (e : Entry) (r : Reply)
     → IsLegal (h ++ Ended failed starved ∷ []) → IsPrefix a.front h → a.least ≤ length (log a.front) → AwaitsEnd p a.front h e.session
-    → entry_in_progress h ≡ Some e → IsLoneEntry e e.act → length (log h) ≡ ended_count h + 1
-    → tx_of (log h) e.session ≡ tx_of (log a.front) e.session → ((q : ℕ) → log_faults_of e.session q h ≡ log_faults_of e.session q a.front)
+    → entry_in_progress h ≡ Some e → 0 < e.session → length (log h) ≡ ended_count h + 1
+    → ((q : ℕ) → log_faults_of e.session q h ≡ log_faults_of e.session q a.front)
     → AnswersEntry tells p h (h ++ Ended failed starved ∷ []) (ended_count h) e r
     → Turn tells p e.session a (call_of_entry (Some e) r) (record { front = h ++ Ended failed starved ∷ []; least = length (log h) })
-turn_end tells p a h failed starved e r legal longer owes o is lone one_open in_tx faults answer =
+turn_end tells p a h failed starved e r legal longer owes o is some one_open faults answer =
     let ev : Event = Ended failed starved in
     let g : List Event = h ++ ev ∷ [] in
     let m : ℕ = o.m in
@@ -135,16 +155,20 @@ turn_end tells p a h failed starved e r legal longer owes o is lone one_open in_
     let its : o.e ≡ e = cc (o.is, is) in
     let part : take m g ≡ take m h = take-append-le m h (ev ∷ []) (omega arith) in
     let number : length (log (take m g)) ≡ ended_count h = ap (λ x. length (log x)) part ∙ o.number in
-    let next : slice_get g m ≡ Some (Sched e) = get_left h (ev ∷ []) m (Sched o.e) o.next ∙ ap (λ x. Some (Sched x)) its in
+    let was_next : slice_get h m ≡ Some (Sched e) = o.next ∙ ap (λ x. Some (Sched x)) its in
+    let next : slice_get g m ≡ Some (Sched e) = get_left h (ev ∷ []) m (Sched e) was_next in
     let many : length g ≡ length h + 1 = length-append h (ev ∷ []) in
     let low : length a.front ≤ m = o.low in
     let same_log : log g ≡ log h = log-same h ev refl in
     let served : HasServer p (take m h) (request_of e.act) = subst (λ (x : Entry). HasServer p (take m h) (request_of x.act)) its o.served in
+    let then : List Entry = log (take m h) in
+    let more : log h ≡ then ++ e ∷ [] = log_since h m e was_next (one_open ∙ ap (λ n. n + 1) (sym o.number)) in
+    let fits : FitsTx (tx_of then e.session) e.tx e.act = subst (λ (x : List Event). FitsTx (tx_of (log x) e.session) e.tx e.act) part (session_fit (log (take m g)) e (fit_then g m e legal next) some).tx in
     record {
       legal = legal;
       longer = prefix_push a.front h ev longer;
       owes = owes;
-      tx = inl (lone_tx e e.act lone);
+      tx = ⊎_elim (λ (x : e.tx ≡ 0). inl x) (λ (x : e.tx ≡ tx_of then e.session). inr (x ∙ o.in_tx)) (own_tx (tx_of then e.session) e.tx e.act fits);
       case =
           scheduled
           record {
@@ -158,13 +182,13 @@ turn_end tells p a h failed starved e r legal longer owes o is lone one_open in_
             next = next;
             answer =
                 subst (λ (i : ℕ). AnswersEntry tells p (take m g) g i e r) (sym number)
-                (subst (λ (x : List Event). AnswersEntry tells p x g (ended_count h) e r) (sym part) (answers_then tells p (take m h) h g (ended_count h) e r lone o.same answer));
+                (subst (λ (x : List Event). AnswersEntry tells p x g (ended_count h) e r) (sym part) (answers_then tells p (take m h) h g (ended_count h) e r more o.same answer));
             least = one_open ∙ ap (λ n. n + 1) (sym number);
           };
       entries = entries-same e.session h g same_log ∙ o.entries;
       tx_after =
-          ap (λ (l : List Entry). tx_of l e.session) same_log
-          ∙ (in_tx ∙ sym (next_tx_lone (length (log (take m g)) + 1) (tx_of (log a.front) e.session) e e.act lone));
+          ap (λ (l : List Entry). tx_of l e.session) (same_log ∙ more)
+          ∙ (tx_of_own then e fits ∙ (ap (λ (x : List Event). tx_after_entry (length (log x) + 1) (tx_of then e.session) e.act) (sym part) ∙ ap (λ t. tx_after_entry (length (log (take m g)) + 1) t e.act) o.in_tx));
       log_faults = let n = log_faults-same h ev (λ t q. refl) e.session e.seq ∙ faults e.seq in omega (arith, n);
     }
 
@@ -187,13 +211,13 @@ module _ (tells : Bool) (p : Placement) (s : ℕ) (a : SessionView) (h : List Ev
   no_fault q = let n = rests.log_faults q in omega (arith, n)
 
   -- no backend serves the request
-  pub turn_unserved : (c : Call) → c.tx ≡ 0 → c.reply ≡ Refused (refusal_of_code NO_BACKEND) → HasNoServer p h c.request → Turn tells p s a c (record { front = h; least = a.least })
+  pub turn_unserved : (c : Call) → (c.tx ≡ 0) ⊎ (c.tx ≡ tx_of (log a.front) s) → c.reply ≡ Refused (refusal_of_code NO_BACKEND) → HasNoServer p h c.request → Turn tells p s a c (record { front = h; least = a.least })
   turn_unserved c tx replied none =
       record {
         legal = legal;
         longer = longer;
         owes = owes;
-        tx = inl tx;
+        tx = tx;
         case = no_backend record { m = length h; moment = now; none = subst (λ (x : List Event). HasNoServer p x c.request) (sym (whole)) none; replied = replied; least = refl };
         entries = none_more;
         tx_after = rests.tx;
@@ -201,14 +225,14 @@ module _ (tells : Bool) (p : Placement) (s : ℕ) (a : SessionView) (h : List Ev
       }
 
   -- the history has no room
-  pub turn_full : (c : Call) → c.tx ≡ 0 → c.reply ≡ Refused (record { code = HISTORY_FULL; a = length h; b = 0 }) → HasServer p h c.request → HasNoRoomFor h (act_of c.request)
+  pub turn_full : (c : Call) → (c.tx ≡ 0) ⊎ (c.tx ≡ tx_of (log a.front) s) → c.reply ≡ Refused (record { code = HISTORY_FULL; a = length h; b = 0 }) → HasServer p h c.request → HasNoRoomFor h (act_of c.request)
       → Turn tells p s a c (record { front = h; least = a.least })
   turn_full c tx replied served small =
       record {
         legal = legal;
         longer = longer;
         owes = owes;
-        tx = inl tx;
+        tx = tx;
         case =
             full
             record {
@@ -225,14 +249,14 @@ module _ (tells : Bool) (p : Placement) (s : ℕ) (a : SessionView) (h : List Ev
       }
 
   -- a read that was answered at a position that the session owes and that no ended entry is past
-  pub turn_read : (c : Call) (select : Select) (n : ℕ) (answer : Asked) → c.tx ≡ 0 → c.request ≡ request.Select select → c.reply ≡ asked_reply answer
+  pub turn_read : (c : Call) (select : Select) (n : ℕ) (answer : Asked) → (c.tx ≡ 0) ⊎ (c.tx ≡ tx_of (log a.front) s) → c.request ≡ request.Select select → c.reply ≡ asked_reply answer
       → IsAsked answer → (tells ≡ true → answer ≡ ask (database_after (log h) n) c.tx select) → HasServer p h c.request → a.least ≤ n → ended_count h ≤ n → n ≤ length (log h) → Turn tells p s a c (record { front = h; least = n })
   turn_read c select n answer tx is replied possible says served owed past within =
       record {
         legal = legal;
         longer = longer;
         owes = owes;
-        tx = inl tx;
+        tx = tx;
         case =
             read
             record {
@@ -257,7 +281,7 @@ module _ (tells : Bool) (p : Placement) (s : ℕ) (a : SessionView) (h : List Ev
 -- a read in which the last backend that serves it failed now, and the others since the session saw a
 pub turn_fault : (tells : Bool) (p : Placement) (s : ℕ) (a : SessionView) (h : List Event) (b : ℕ) (c : Call) (select : Select) (mask tried : ℕ)
     → IsLegal (h ++ ReadFailed s c.number b ∷ []) → IsPrefix a.front h → a.least ≤ length (log a.front) → Rests s a h
-    → c.tx ≡ 0 → c.request ≡ request.Select select → c.reply ≡ Refused (record { code = READ_FAULT; a = mask; b = 0 })
+    → (c.tx ≡ 0) ⊎ (c.tx ≡ tx_of (log a.front) s) → c.request ≡ request.Select select → c.reply ≡ Refused (record { code = READ_FAULT; a = mask; b = 0 })
     → ((k : ℕ) → in_mask tried k ≡ true → HasFailedSince a.front h s c.number k)
     → ((k : ℕ) → (CanServe p h c.request k → in_mask mask k ≡ true) × (in_mask mask k ≡ true → CanServe p h c.request k))
     → ((k : ℕ) → CanServe p h c.request k → (k ≡ b) ⊎ (in_mask tried k ≡ true)) → CanServe p h c.request b
@@ -281,7 +305,7 @@ turn_fault tells p s a h b c select mask tried legal longer owes rests tx is rep
       legal = legal;
       longer = prefix_push a.front h ev longer;
       owes = owes;
-      tx = inl tx;
+      tx = tx;
       case =
           read_fault
           record {

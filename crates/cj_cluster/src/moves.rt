@@ -17,6 +17,8 @@ pub enum Move {
     Close { session: u64 },
     /// Schedules a request that is no SELECT.
     Schedule { session: u64, request: Request },
+    /// Schedules the end of an orphan: a transaction that is open while its session isn't.
+    Abort { tx: u64 },
     /// The backend takes the open entry.
     Apply { b: u8 },
     /// Ends the open entry and answers its session.
@@ -85,6 +87,8 @@ pub enum Reason {
     Waiting,
     /// The backend doesn't serve the read, and another does.
     NotServing,
+    /// The transaction isn't open, or its session is.
+    NotOrphan,
 }
 
 impl Reason {
@@ -103,6 +107,7 @@ impl Reason {
             Reason::NoSession => 9,
             Reason::Waiting => 10,
             Reason::NotServing => 11,
+            Reason::NotOrphan => 14,
         }
     }
 }
@@ -163,6 +168,7 @@ impl Duplicate for Move {
                 session: *session,
                 request: request.copy(alloc)?,
             }),
+            Move::Abort { tx } => Ok(Move::Abort { tx: *tx }),
             Move::Apply { b } => Ok(Move::Apply { b: *b }),
             Move::End => Ok(Move::End),
             Move::Read { session, b, select } => Ok(Move::Read {

@@ -1,12 +1,12 @@
 -- Logs of fit entries, and the transactions that a backend has begun.
-use Rattle.std.specs.Prelude.{ℕ, Bool, true, false, not, ◌&&◌, ◌==◌, List, [], ◌∷◌, ◌++◌, map, filter}
+use Rattle.std.specs.Prelude.{ℕ, Bool, true, false, not, ◌&&◌, ◌||◌, ◌==◌, List, [], ◌∷◌, ◌++◌, filter, if◌then◌else◌}
 use Rattle.std.specs.List.{list_any}
 use Rattle.std.specs.Str.{bytes_eq}
 use Rattle.cj_model.specs.declared.request.Act.{Act}
 use Rattle.cj_model.specs.declared.request.Act.TheVariants as act
 use Rattle.cj_model.specs.declared.request.Entry.{Entry}
 use Rattle.cj_cluster.specs.History.Legality.{IsFitEntry}
-use Rattle.cj_model.specs.Cluster.Placements.{Placement, writes_at}
+use Rattle.cj_model.specs.Cluster.Placements.{Placement, hosts}
 use Rattle.cj_model.specs.Database.Steps.{table_written}
 
 -- ---- fit entries
@@ -54,23 +54,26 @@ is_write_of table act.Abort = false
 abbrev pub has_written : List ℕ → ℕ → List Entry → Bool
 has_written table tx log = list_any (λ (e : Entry). e.tx == tx && is_write_of table e.act) log
 
--- one of these entries is its COMMIT or ABORT
-abbrev pub has_ended : ℕ → List Entry → Bool
-has_ended tx log = list_any (λ (e : Entry). e.tx == tx && is_end e.act) log
+-- ---- what a backend has begun
 
--- the numbers, each once, in the order of their first places
-abbrev pub without_repeats : List ℕ → List ℕ
-without_repeats [] = []
-without_repeats (x ∷ xs) = x ∷ filter (λ y. not (x == y)) (without_repeats xs)
+-- whether the transaction is one of these
+abbrev pub has_begun : List ℕ → ℕ → Bool
+has_begun begun tx = list_any (λ t. t == tx) begun
 
--- a write of a transaction to a table that backend b hosts
-abbrev pub is_transaction_write : Placement → ℕ → Entry → Bool
-is_transaction_write p b e = not (e.tx == 0) && writes_at p b e.tx e.tx e.act
+-- Whether backend b, which has begun these transactions, takes part in an act: it hosts the table, or has begun the transaction that ends.
+abbrev pub takes_part : Placement → ℕ → List ℕ → ℕ → Act → Bool
+takes_part p b begun tx act.Begin = false
+takes_part p b begun tx (act.Write w) = hosts p b (table_written w)
+takes_part p b begun tx (act.Create c) = hosts p b c.table
+takes_part p b begun tx (act.Drop table) = hosts p b table
+takes_part p b begun tx act.Commit = has_begun begun tx
+takes_part p b begun tx act.Abort = has_begun begun tx
 
--- the transactions that wrote at backend b, in the order of their first writes there
-abbrev pub writers_at : Placement → ℕ → List Entry → List ℕ
-writers_at p b log = without_repeats (map (λ (e : Entry). e.tx) (filter (is_transaction_write p b) log))
-
--- the transactions that backend b has begun and not ended when it took these entries
-abbrev pub begun_at : Placement → ℕ → List Entry → List ℕ
-begun_at p b log = filter (λ tx. not (has_ended tx log)) (writers_at p b log)
+-- The transactions that the backend has begun after an act that it takes part in: a transaction begins with its first write there, and is no longer one of them once it ended.
+abbrev pub begun_after : List ℕ → ℕ → Act → List ℕ
+begun_after begun tx act.Begin = begun
+begun_after begun tx (act.Write w) = if tx == 0 || has_begun begun tx then begun else begun ++ tx ∷ []
+begun_after begun tx (act.Create c) = begun
+begun_after begun tx (act.Drop table) = begun
+begun_after begun tx act.Commit = filter (λ t. not (t == tx)) begun
+begun_after begun tx act.Abort = filter (λ t. not (t == tx)) begun

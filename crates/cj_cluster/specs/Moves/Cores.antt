@@ -12,6 +12,8 @@ pub record Core : Type 0 where
   pub history : List Event
   -- of each backend: how many entries it has taken, or none where it is out
   pub positions : List (Option ℕ)
+  -- and the transactions that it has begun and not ended; none where it is out
+  pub begun : List (List ℕ)
   -- while an entry is open: the backends that failed in it, and those that wanted memory
   pub failed : ℕ
   pub starved : ℕ
@@ -23,6 +25,9 @@ pub record Core : Type 0 where
 
 abbrev pub position_at : Core → ℕ → Option ℕ
 position_at c b = slice_index_or c.positions b None
+
+abbrev pub begun_at : Core → ℕ → List ℕ
+begun_at c b = slice_index_or c.begun b []
 
 -- ---- sessions
 

@@ -1,5 +1,5 @@
 -- What a move may give, and what it changes.
-use Rattle.std.specs.Prelude.{◌≡◌, ◌≢◌, ◌⊎◌, ℕ, ◌+◌, ◌<◌, ◌≤◌, ◌^◌, Bool, true, false, not, ◌&&◌, ◌||◌, ◌==◌, nat_lt, nat_le, is_some, is_none, if◌then◌else◌, List, [], ◌∷◌, ◌++◌, length, filter, MatchOption, Result, Ok, Err, slice_set, slice_get, take}
+use Rattle.std.specs.Prelude.{◌≡◌, ◌≢◌, ◌⊎◌, ℕ, ◌+◌, ◌-◌, ◌<◌, ◌≤◌, ◌^◌, Bool, true, false, not, ◌&&◌, ◌||◌, ◌==◌, nat_lt, nat_le, is_some, is_none, if◌then◌else◌, List, [], ◌∷◌, ◌++◌, length, filter, MatchOption, Result, Ok, Err, slice_set, slice_get, take}
 use Rattle.std.specs.declared.option.Option.{Option}
 use Rattle.std.specs.declared.option.Option.TheVariants.{None, Some}
 use Rattle.cj_model.specs.declared.request.Request.{Request}
@@ -14,7 +14,7 @@ use Rattle.cj_model.specs.declared.answer.Refusal.{Refusal}
 use Rattle.cj_cluster.specs.declared.event.Event.{Event}
 use Rattle.cj_cluster.specs.declared.event.Event.TheVariants as event
 use Rattle.cj_cluster.specs.declared.moves.Move.{Move}
-use Rattle.cj_cluster.specs.declared.moves.Move.TheVariants.{Open, Close, Schedule, Apply, End, Read, Arm, Disable, Replay, Enable}
+use Rattle.cj_cluster.specs.declared.moves.Move.TheVariants.{Open, Close, Schedule, Abort, Apply, End, Read, Arm, Disable, Replay, Enable}
 use Rattle.cj_cluster.specs.declared.moves.Did.{Did}
 use Rattle.cj_cluster.specs.declared.moves.Did.TheVariants as did
 use Rattle.cj_cluster.specs.declared.moves.Moved.{Moved}
@@ -32,11 +32,11 @@ use Rattle.cj_model.specs.Database.Inserts.{refusal_of_code}
 use Rattle.cj_model.specs.Database.Queries.{ask}
 use Rattle.cj_model.specs.Database.Outcomes.{IsOutcome, IsAsked}
 use Rattle.cj_model.specs.Sql.PlainRequests.{act_of}
-use Rattle.cj_model.specs.Cluster.Placements.{concerns}
+use Rattle.cj_cluster.specs.History.Transactions.{takes_part, begun_after}
 use Rattle.cj_cluster.specs.History.Histories.{log, ended_count, is_idle, entry_in_progress, is_enabled, events_left, database_after, outcome_of, tx_of}
 use Rattle.cj_model.specs.Cluster.Masks.{in_mask, with_backend}
 use Rattle.cj_cluster.specs.History.Answering.{CanServe, HasServer, HasNoServer, AnswersEntry}
-use Rattle.cj_cluster.specs.Moves.Cores.{Core, position_at, find_session, session_at, new_session, with_session, is_entry_of}
+use Rattle.cj_cluster.specs.Moves.Cores.{Core, position_at, begun_at, find_session, session_at, new_session, with_session, is_entry_of}
 
 abbrev pub MoveResult : Type 0
 MoveResult = Result Moved MoveError
@@ -76,6 +76,19 @@ abbrev pub reason_if_lagging : Option ℕ → Option Why
 reason_if_lagging None = None
 reason_if_lagging (Some p) = Some (record { reason = reason.Behind; value = p })
 
+-- the entry of this number, where there is one
+abbrev pub entry_numbered : List Entry → ℕ → Option Entry
+entry_numbered entries n = if n == 0 then None else slice_get entries (n - 1)
+
+-- the transaction that this entry began is open, and its session isn't
+abbrev pub is_orphan_of : Core → ℕ → Option Entry → Bool
+is_orphan_of c tx None = false
+is_orphan_of c tx (Some begin) = tx_of (log c.history) begin.session == tx && not (is_open c begin.session)
+
+-- an open transaction whose session isn't open
+abbrev pub is_orphan : Core → ℕ → Bool
+is_orphan c tx = is_orphan_of c tx (entry_numbered (log c.history) tx)
+
 abbrev pub not_now : Core → Move → Option Why
 not_now c (Open user) = None
 not_now c (Close s) =
@@ -85,6 +98,9 @@ not_now c (Schedule s r) =
     reason_if (not (is_open c s)) reason.NoSession s
     (reason_if (is_waiting c s || is_reading (session_at c s)) reason.Waiting s
     (reason_if (not (is_idle c.history)) reason.EntryOpen (last_number c) None))
+not_now c (Abort tx) =
+    reason_if (not (is_orphan c tx)) reason.NotOrphan tx
+    (reason_if (not (is_idle c.history)) reason.EntryOpen (last_number c) None)
 not_now c (Apply b) =
     reason_if (is_idle c.history) reason.NoEntryOpen 0
     (reason_if (not (is_enabled c.history b)) reason.NotEnabled b
@@ -169,25 +185,46 @@ with_one_request x = record x { queries = x.queries + 1 }
 abbrev pub with_request_counted : Core → ℕ → Core
 with_request_counted c s = record c { sessions = with_session c.sessions s with_one_request }
 
--- the entry is open, and its session has counted it
+-- the entry is open
+abbrev pub with_entry : Core → Entry → Core
+with_entry c e = record c { history = c.history ++ event.Sched e ∷ []; failed = 0; starved = 0 }
+
+-- and its session has counted it
 abbrev pub scheduled_as : Core → ℕ → Entry → Core
-scheduled_as c s e = record c { history = c.history ++ event.Sched e ∷ []; failed = 0; starved = 0; sessions = with_session c.sessions s with_one_request }
+scheduled_as c s e = record (with_entry c e) { sessions = with_session c.sessions s with_one_request }
 
 abbrev pub history_full : Core → Refusal
 history_full c = record { code = HISTORY_FULL; a = length c.history; b = 0 }
 
+-- what the state of the session's transaction forbids
+pub record ScheduleIsForbidden (c : Core) (s : ℕ) (a : Act) (refusal : Refusal) (z : Core) : Type 0 where
+  pub forbidden : forbidden_by (open_tx c s) a ≡ Some refusal
+  pub after : z ≡ with_request_counted c s
+
+-- no backend serves the request
+pub record ScheduleHasNoBackend (c : Core) (s : ℕ) (r : Request) (a : Act) (refusal : Refusal) (z : Core) : Type 0 where
+  pub allowed : forbidden_by (open_tx c s) a ≡ None
+  pub none : HasNoServer c.placement c.history r
+  pub refused : refusal ≡ refusal_of_code NO_BACKEND
+  pub after : z ≡ with_request_counted c s
+
+-- the history has no room for an entry and its end
+pub record ScheduleHasNoRoom (c : Core) (s : ℕ) (r : Request) (a : Act) (refusal : Refusal) (z : Core) : Type 0 where
+  pub allowed : forbidden_by (open_tx c s) a ≡ None
+  pub served : HasServer c.placement c.history r
+  pub full : events_left c.history < 3
+  pub refused : refusal ≡ history_full c
+  pub after : z ≡ with_request_counted c s
+
 -- why nothing was scheduled
-abbrev pub RefusesSchedule : Core → ℕ → Request → Act → Refusal → Type 0
-RefusesSchedule c s r a refusal =
-    (forbidden_by (open_tx c s) a ≡ Some refusal)
-    ⊎ ((forbidden_by (open_tx c s) a ≡ None) × (refusal ≡ refusal_of_code NO_BACKEND) × HasNoServer c.placement c.history r)
-    ⊎ ((forbidden_by (open_tx c s) a ≡ None) × (refusal ≡ history_full c) × HasServer c.placement c.history r × (events_left c.history < 3))
+abbrev pub RefusesSchedule : Core → ℕ → Request → Act → Refusal → Core → Type 0
+RefusesSchedule c s r a refusal z = ScheduleIsForbidden c s a refusal z ⊎ ScheduleHasNoBackend c s r a refusal z ⊎ ScheduleHasNoRoom c s r a refusal z
 
 abbrev pub SchedulesAct : Core → ℕ → Request → Act → MoveResult → Core → Type 0
 SchedulesAct c s r a (Ok (moved.Entry n)) z =
     (forbidden_by (open_tx c s) a ≡ None) × HasServer c.placement c.history r × (3 ≤ events_left c.history) × (n ≡ last_number c + 1)
     × (z ≡ scheduled_as c s (next_entry c s a))
-SchedulesAct c s r a (Ok (moved.Refused refusal)) z = RefusesSchedule c s r a refusal × (z ≡ with_request_counted c s)
+SchedulesAct c s r a (Ok (moved.Refused refusal)) z = RefusesSchedule c s r a refusal z
 SchedulesAct c s r a (Err NoMemory) z = z ≡ c
 SchedulesAct c s r a _ z = ⊥
 
@@ -199,23 +236,58 @@ SchedulesAnyAct c s r (Some a) g z = SchedulesAct c s r a g z
 abbrev pub SchedulesRequest : Core → ℕ → Request → MoveResult → Core → Type 0
 SchedulesRequest c s r g z = SchedulesAnyAct c s r (act_of r) g z
 
+-- ---- the administrator's entries
+
+-- the user of an entry
+abbrev pub user_of : Option Entry → List ℕ
+user_of None = []
+user_of (Some e) = e.user
+
+-- the administrator's end of a transaction, for the user who began it
+abbrev pub abort_entry : Core → ℕ → Entry
+abort_entry c tx = record { session = 0; seq = 0; tx = tx; user = user_of (entry_numbered (log c.history) tx); act = act.Abort }
+
+abbrev pub AbortsOrphan : Core → ℕ → MoveResult → Core → Type 0
+AbortsOrphan c tx (Ok (moved.Entry n)) z = (3 ≤ events_left c.history) × (n ≡ last_number c + 1) × (z ≡ with_entry c (abort_entry c tx))
+AbortsOrphan c tx (Ok (moved.Refused refusal)) z = (events_left c.history < 3) × (refusal ≡ history_full c) × (z ≡ c)
+AbortsOrphan c tx (Err NoMemory) z = z ≡ c
+AbortsOrphan c tx _ z = ⊥
+
 -- ---- backends take entries
 
--- What backend b does with the entry at its position, and where it stands then. `tells`: the backends tell what they hold.
-abbrev pub DoesWithEntry : Bool → Core → ℕ → ℕ → Entry → Did → Option ℕ → Type 0
-DoesWithEntry tells c b p e (did.Done o) position =
-    (concerns c.placement b (take p (log c.history)) e.tx e.act ≡ true) × IsOutcome o × (tells ≡ true → outcome_of (log c.history) p ≡ Some o) × (position ≡ Some (p + 1))
-DoesWithEntry tells c b p e did.Skipped position = (concerns c.placement b (take p (log c.history)) e.tx e.act ≡ false) × (position ≡ Some (p + 1))
-DoesWithEntry tells c b p e did.Failed position = position ≡ None
-DoesWithEntry tells c b p e did.Starved position = position ≡ None
+-- where a backend stands, and the transactions that it has begun
+pub record Stance : Type 0 where
+  pub position : Option ℕ
+  pub begun : List ℕ
+
+-- it has missed an entry
+abbrev pub out : Stance
+out = record { position = None; begun = [] }
+
+-- whether backend b takes part in the entry
+abbrev pub takes_part_in : Core → ℕ → Entry → Bool
+takes_part_in c b e = takes_part c.placement b (begun_at c b) e.tx e.act
+
+-- What backend b does with the entry at its position, and how it stands then. One that has no part in it skips it, which can't fail. `tells`: the backends tell what they hold.
+abbrev pub DoesWithEntry : Bool → Core → ℕ → ℕ → Entry → Did → Stance → Type 0
+DoesWithEntry tells c b p e (did.Done o) now =
+    (takes_part_in c b e ≡ true) × IsOutcome o × (tells ≡ true → outcome_of (log c.history) p ≡ Some o)
+    × (now ≡ record { position = Some (p + 1); begun = begun_after (begun_at c b) e.tx e.act })
+DoesWithEntry tells c b p e did.Skipped now = (takes_part_in c b e ≡ false) × (now ≡ record { position = Some (p + 1); begun = begun_at c b })
+DoesWithEntry tells c b p e did.Failed now = (takes_part_in c b e ≡ true) × (now ≡ out)
+DoesWithEntry tells c b p e did.Starved now = (takes_part_in c b e ≡ true) × (now ≡ out)
 
 -- backend b stands at a position within the log, and takes the entry there
-pub record TakesEntry (tells : Bool) (c : Core) (b : ℕ) (d : Did) (position : Option ℕ) : Type 0 where
+pub record TakesEntry (tells : Bool) (c : Core) (b : ℕ) (d : Did) (now : Stance) : Type 0 where
   pub p : ℕ
   pub stands : position_at c b ≡ Some p
   pub entry : Entry
   pub there : slice_get (log c.history) p ≡ Some entry
-  pub does : DoesWithEntry tells c b p entry d position
+  pub does : DoesWithEntry tells c b p entry d now
+
+-- backend b stands so from now on
+abbrev pub with_stance : Core → ℕ → Stance → Core
+with_stance c b now = record c { positions = slice_set c.positions b now.position; begun = slice_set c.begun b now.begun }
 
 -- the masks of the open entry after backend b took it
 abbrev pub failed_after : ℕ → ℕ → Did → ℕ
@@ -232,13 +304,13 @@ starved_after mask b did.Starved = with_backend mask b
 
 abbrev pub Applies : Bool → Core → ℕ → MoveResult → Core → Type 0
 Applies tells c b (Ok (moved.Applied n d)) z =
-    (n ≡ b) × ((position : Option ℕ) × TakesEntry tells c b d position
-    × (z ≡ record c { positions = slice_set c.positions b position; failed = failed_after c.failed b d; starved = starved_after c.starved b d }))
+    (n ≡ b) × ((now : Stance) × TakesEntry tells c b d now
+    × (z ≡ record (with_stance c b now) { failed = failed_after c.failed b d; starved = starved_after c.starved b d }))
 Applies tells c b _ z = ⊥
 
 abbrev pub Replays : Bool → Core → ℕ → MoveResult → Core → Type 0
 Replays tells c b (Ok (moved.Replayed n d)) z =
-    (n ≡ position_or_zero (position_at c b) + 1) × ((position : Option ℕ) × TakesEntry tells c b d position × (z ≡ record c { positions = slice_set c.positions b position }))
+    (n ≡ position_or_zero (position_at c b) + 1) × ((now : Stance) × TakesEntry tells c b d now × (z ≡ with_stance c b now))
 Replays tells c b _ z = ⊥
 
 -- ---- the end of an entry
@@ -412,6 +484,7 @@ abbrev pub DoesMove : Bool → Core → Move → MoveResult → Core → Type 0
 DoesMove tells c (Open user) g z = OpensSession c user g z
 DoesMove tells c (Close s) g z = ClosesSession c s g z
 DoesMove tells c (Schedule s r) g z = SchedulesRequest c s r g z
+DoesMove tells c (Abort tx) g z = AbortsOrphan c tx g z
 DoesMove tells c (Apply b) g z = Applies tells c b g z
 DoesMove tells c End g z = EndsEntry tells c g z
 DoesMove tells c (Read s b select) g z = AttemptsReadOrWaits tells c s b select g z

@@ -1,5 +1,5 @@
 -- Lists of moves, the calls of a session in them, and the chain of turns that these are.
-use Rattle.std.specs.Prelude.{◌≡◌, ℕ, ◌+◌, ◌<◌, ◌≤◌, ◌^◌, Bool, true, false, ◌&&◌, ◌==◌, is_none, if◌then◌else◌, List, [], ◌∷◌, ◌++◌, length, take, slice_get, Ok, Err}
+use Rattle.std.specs.Prelude.{◌≡◌, ℕ, ◌+◌, ◌<◌, ◌≤◌, ◌^◌, Bool, true, false, ◌&&◌, ◌==◌, is_none, is_some, if◌then◌else◌, List, [], ◌∷◌, ◌++◌, length, take, slice_get, Ok, Err}
 use Rattle.std.specs.declared.option.Option.{Option}
 use Rattle.std.specs.declared.option.Option.TheVariants.{None, Some}
 use mathlib.Core.List.{IsPrefix}
@@ -12,14 +12,14 @@ use Rattle.cj_model.specs.declared.answer.Reply.TheVariants.{Rows, Refused}
 use Rattle.cj_cluster.specs.declared.event.Event.{Event}
 use Rattle.cj_cluster.specs.declared.event.Event.TheVariants.{Sched, ReadFailed}
 use Rattle.cj_cluster.specs.declared.moves.Move.{Move}
-use Rattle.cj_cluster.specs.declared.moves.Move.TheVariants.{Open, Close, Schedule, Apply, End, Read, Arm, Disable, Replay, Enable}
+use Rattle.cj_cluster.specs.declared.moves.Move.TheVariants.{Open, Close, Schedule, Abort, Apply, End, Read, Arm, Disable, Replay, Enable}
 use Rattle.cj_cluster.specs.declared.moves.Moved.{Moved}
 use Rattle.cj_cluster.specs.declared.moves.Moved.TheVariants as moved
 use Rattle.cj_cluster.specs.declared.moves.OpenRead.{OpenRead}
 use Rattle.cj_cluster.specs.declared.moves.OpenSession.{OpenSession}
 use Rattle.cj_model.specs.declared.limits.TheConstants.{REQUEST_LIMIT, USER_LIMIT}
 use Rattle.cj_model.specs.Sql.PlainRequests.{act_of, request_of}
-use Rattle.cj_cluster.specs.History.Histories.{log, ended_count, is_idle, entry_in_progress, is_enabled, events_left, log_faults_of}
+use Rattle.cj_cluster.specs.History.Histories.{log, ended_count, is_idle, entry_in_progress, is_enabled, events_left, log_faults_of, tx_of}
 use Rattle.cj_model.specs.Cluster.Masks.{in_mask}
 use Rattle.cj_model.specs.Sql.WrittenRequests.{IsWritten}
 use Rattle.cj_cluster.specs.History.Answering.{HasServer}
@@ -37,21 +37,16 @@ RunsMoves tells c (m ∷ ms) (g ∷ gs) z = (mid : Core) × MovesTo tells c m g 
 RunsMoves tells c [] (g ∷ gs) z = ⊥
 RunsMoves tells c (m ∷ ms) [] z = ⊥
 
--- a request that can be scheduled so far
-abbrev pub IsOutsideTransaction : Request → Type 0
-IsOutsideTransaction (request.Select s) = ⊥
-IsOutsideTransaction (request.Write w) = Unit {0}
-IsOutsideTransaction (request.Create c) = Unit {0}
-IsOutsideTransaction (request.Drop table) = Unit {0}
-IsOutsideTransaction request.Begin = ⊥
-IsOutsideTransaction request.Commit = ⊥
-IsOutsideTransaction request.Rollback = ⊥
+-- a request that becomes an entry of the log: any but a SELECT
+abbrev pub IsForLog : Request → Type 0
+IsForLog r = is_some (act_of r) ≡ true
 
 -- What a move asks for: a backend that is there, a request that some text reads as, a user whose name is not too long.
 abbrev pub IsMoveOfCluster : ℕ → Move → Type 0
 IsMoveOfCluster backends (Open user) = length user ≤ USER_LIMIT
 IsMoveOfCluster backends (Close s) = Unit {0}
-IsMoveOfCluster backends (Schedule s r) = IsWritten r × IsOutsideTransaction r
+IsMoveOfCluster backends (Schedule s r) = IsWritten r × IsForLog r
+IsMoveOfCluster backends (Abort tx) = Unit {0}
 IsMoveOfCluster backends (Apply b) = b < backends
 IsMoveOfCluster backends End = Unit {0}
 IsMoveOfCluster backends (Read s b select) = (b < backends) × IsWritten (request.Select select)
@@ -128,7 +123,7 @@ last_seen a (b ∷ bs) = last_seen b bs
 
 -- ---- between two replies
 
--- The session's own entry is open: it was scheduled since, as its only one, and nothing was enabled or disabled after it.
+-- The session's own entry is open: it was scheduled since, as its only one, in the transaction that the session was in, and nothing was enabled or disabled after it.
 pub record AwaitsEnd (p : Placement) (front h : List Event) (s : ℕ) : Type 0 where
   pub e : Entry
   pub is : entry_in_progress h ≡ Some e
@@ -142,6 +137,7 @@ pub record AwaitsEnd (p : Placement) (front h : List Event) (s : ℕ) : Type 0 w
   pub number : length (log (take m h)) ≡ ended_count h
   pub same : (b : ℕ) → is_enabled (take m h) b ≡ is_enabled h b
   pub entries : entry_count_of s h ≡ entry_count_of s front + 1
+  pub in_tx : tx_of (log (take m h)) s ≡ tx_of (log front) s
 
 -- Backend b has failed since in the read of session s that has number q.
 pub record HasFailedSince (front h : List Event) (s q b : ℕ) : Type 0 where
@@ -159,8 +155,8 @@ pub record StandsSince (p : Placement) (a : SessionView) (h : List Event) (s : �
   pub least : x.least ≡ a.least
   -- its own entry is open, and no read
   pub waits : is_entry_of s (entry_in_progress h) ≡ true → AwaitsEnd p a.front h s × (x.reading ≡ None)
-  -- no entry of its own is open, and it has no new one
-  pub rests : is_entry_of s (entry_in_progress h) ≡ false → entry_count_of s h ≡ entry_count_of s a.front
+  -- no entry of its own is open: it has no new one, and is in the transaction that it was in
+  pub rests : is_entry_of s (entry_in_progress h) ≡ false → (entry_count_of s h ≡ entry_count_of s a.front) × (tx_of (log h) s ≡ tx_of (log a.front) s)
   pub reads : TriedSince a.front h s x
   -- the log's store failed in none of its requests
   pub log_faults : (q : ℕ) → log_faults_of s q h ≡ log_faults_of s q a.front
@@ -172,9 +168,9 @@ pub record IsBetweenReplies (a : SessionView) (c : Core) (s : ℕ) : Type 0 wher
   pub here : is_open c s ≡ true → StandsSince c.placement a c.history s (session_at c s)
   pub later : c.greatest < s → a.least ≡ 0
 
--- Each session stands between two replies, or has not begun: there is what it has seen at its last one.
+-- Each session stands between two replies, or has not begun: there is what it has seen at its last one. Number 0 is the administrator's, who has no session.
 abbrev pub AreBetween : Core → Type 0
-AreBetween c = (s : ℕ) → (a : SessionView) × IsBetweenReplies a c s
+AreBetween c = (s : ℕ) → 0 < s → (a : SessionView) × IsBetweenReplies a c s
 
 -- The replies to session s in a run are a chain of turns from what it has seen, wherever the run begins and ends within its calls. Each turn ends in the state that gave its reply.
 pub record IsChained (tells : Bool) (s : ℕ) (c : Core) (ms : List Move) (gs : List MoveResult) (z : Core) (a : SessionView) : Type 0 where

@@ -1,12 +1,11 @@
 -- What holds of every state that moves lead to.
-use Rattle.std.specs.Prelude.{◌≡◌, ◌⊎◌, ℕ, ◌+◌, ◌-◌, ◌*◌, ◌^◌, ◌<◌, ◌≤◌, Bool, true, false, List, length, All, is_some}
+use Rattle.std.specs.Prelude.{◌≡◌, ◌⊎◌, ℕ, ◌+◌, ◌-◌, ◌*◌, ◌^◌, ◌<◌, ◌≤◌, Bool, true, false, List, length, All, IfSome, is_some}
 use Rattle.std.specs.declared.option.Option.{Option}
 use Rattle.std.specs.declared.option.Option.TheVariants.{None, Some}
 use Rattle.std.specs.Ordering.{nat_cmp}
 use Rattle.std.specs.declared.cmp.Ordering.{Ordering}
 use Rattle.cj_model.specs.declared.database.Slot.{Slot}
-use Rattle.cj_model.specs.declared.request.Act.{Act}
-use Rattle.cj_model.specs.declared.request.Act.TheVariants as act
+use Rattle.cj_model.specs.declared.database.Draft.{Draft}
 use Rattle.cj_model.specs.declared.request.Entry.{Entry}
 use Rattle.cj_cluster.specs.declared.event.Event.{Event}
 use Rattle.cj_cluster.specs.declared.moves.OpenSession.{OpenSession}
@@ -16,7 +15,8 @@ use Rattle.cj_model.specs.Cluster.Placements.{Placement, part}
 use Rattle.cj_cluster.specs.History.Histories.{log, ended_count, is_idle, entry_in_progress, is_enabled, log_faults_of, database_after}
 use Rattle.cj_model.specs.Cluster.Masks.{in_mask}
 use Rattle.cj_cluster.specs.History.Legality.{IsLegal}
-use Rattle.cj_cluster.specs.Moves.Cores.{Core, position_at, find_session}
+use Rattle.cj_cluster.specs.Moves.Cores.{Core, position_at, begun_at, find_session}
+use Rattle.cj_cluster.specs.History.Transactions.{has_begun}
 
 -- Where a backend stands: within the log, past each entry that ended where it is enabled, and in no mask. Or out, and then in a mask where it is enabled.
 abbrev pub BackendStands : List Event → ℕ → ℕ → ℕ → Option ℕ → Type 0
@@ -24,14 +24,9 @@ BackendStands h failed starved b (Some p) =
     (p ≤ length (log h)) × (is_enabled h b ≡ true → ended_count h ≤ p) × (in_mask failed b ≡ false) × (in_mask starved b ≡ false)
 BackendStands h failed starved b None = is_enabled h b ≡ true → (in_mask failed b ≡ true) ⊎ (in_mask starved b ≡ true)
 
--- the acts that can be scheduled so far: outside a transaction
-abbrev pub IsLoneEntry : Entry → Act → Type 0
-IsLoneEntry e act.Begin = ⊥
-IsLoneEntry e (act.Write w) = e.tx ≡ 0
-IsLoneEntry e (act.Create c) = e.tx ≡ 0
-IsLoneEntry e (act.Drop table) = e.tx ≡ 0
-IsLoneEntry e act.Commit = ⊥
-IsLoneEntry e act.Abort = ⊥
+-- each draft of the database is of one of these transactions
+abbrev pub CoversDrafts : List ℕ → List Slot → Type 0
+CoversDrafts begun db = All (λ (s : Slot). IfSome s.draft (λ (d : Draft). has_begun begun d.tx ≡ true)) db
 
 abbrev pub by_session_number : OpenSession → OpenSession → Ordering
 by_session_number x y = nat_cmp x.number y.number
@@ -53,7 +48,9 @@ pub record CoreInvariant (c : Core) : Type 0 where
   pub stands : (b : ℕ) → b < length c.positions → BackendStands c.history c.failed c.starved b (position_at c b)
   pub in_masks : (b : ℕ) → (in_mask c.failed b ≡ true → (is_enabled c.history b ≡ true) × (in_mask c.starved b ≡ false)) × (in_mask c.starved b ≡ true → is_enabled c.history b ≡ true)
   pub clear : is_idle c.history ≡ true → (c.failed ≡ 0) × (c.starved ≡ 0)
-  pub lone : All (λ (e : Entry). IsLoneEntry e e.act) (log c.history)
+  -- a backend has begun each transaction of which it holds a draft
+  pub begun_cells : length c.begun ≡ c.placement.backends
+  pub covers : (b n : ℕ) → position_at c b ≡ Some n → CoversDrafts (begun_at c b) (part c.placement b (database_after (log c.history) n))
   pub sessions : All (IsSoundSession c.history c.greatest) c.sessions
   pub rises : Rises by_session_number c.sessions
   pub few : length c.sessions ≤ SESSION_LIMIT
@@ -61,8 +58,8 @@ pub record CoreInvariant (c : Core) : Type 0 where
   pub known : All (λ (e : Entry). e.session ≤ c.greatest) (log c.history)
   -- the log's store failed for no session that has no number yet
   pub log_faults : (s q : ℕ) → c.greatest < s → log_faults_of s q c.history ≡ 0
-  -- the session of the open entry is open
-  pub waits : (e : Entry) → entry_in_progress c.history ≡ Some e → is_some (find_session c.sessions e.session) ≡ true
+  -- the session of the open entry is open, unless it is the administrator's
+  pub waits : (e : Entry) → entry_in_progress c.history ≡ Some e → (e.session ≡ 0) ⊎ (is_some (find_session c.sessions e.session) ≡ true)
 
 -- A backend that tells and is not out holds its part of the database after the entries that it has taken.
 abbrev pub HoldsPart : Bool → Placement → ℕ → List Entry → Option (List Slot) → Option ℕ → Type 0

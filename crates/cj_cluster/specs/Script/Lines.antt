@@ -13,7 +13,7 @@ use Rattle.cj_model.specs.declared.answer.Refusal.{Refusal}
 use Rattle.cj_model.specs.declared.answer.Reply.{Reply}
 use Rattle.cj_model.specs.declared.answer.Reply.TheVariants as reply
 use Rattle.cj_cluster.specs.declared.moves.Move.{Move}
-use Rattle.cj_cluster.specs.declared.moves.Move.TheVariants.{Open, Close, Schedule, Apply, End, Read, Arm, Disable, Replay, Enable}
+use Rattle.cj_cluster.specs.declared.moves.Move.TheVariants.{Open, Close, Schedule, Abort, Apply, End, Read, Arm, Disable, Replay, Enable}
 use Rattle.cj_cluster.specs.declared.moves.Did.{Did}
 use Rattle.cj_cluster.specs.declared.moves.Did.TheVariants as did
 use Rattle.cj_cluster.specs.declared.moves.Moved.{Moved}
@@ -27,7 +27,7 @@ use Rattle.cj_model.specs.declared.limits.TheConstants.{USER_LIMIT}
 use Rattle.cj_model.specs.Sql.Names.{IsText}
 use Rattle.cj_model.specs.Sql.Grammar.{TextReadsAs}
 use Rattle.cj_model.specs.Sql.PlainRequests.{is_plain}
-use Rattle.cj_cluster.specs.Moves.Runs.{IsOutsideTransaction}
+use Rattle.cj_cluster.specs.Moves.Runs.{IsForLog}
 use Rattle.cj_model.specs.Sql.Literals.{literal}
 
 -- these words, with one space between each two
@@ -62,10 +62,10 @@ pub record IsPlainSql (text : List ℕ) (r : Request) : Type 0 where
   pub reads : TextReadsAs text r
   pub plain : is_plain r ≡ true
 
--- the text reads as such a request that can be scheduled so far
+-- the text reads as such a request that becomes an entry of the log
 pub record IsWrite (text : List ℕ) (r : Request) : Type 0 where
   pub sql : IsPlainSql text r
-  pub lone : IsOutsideTransaction r
+  pub for_log : IsForLog r
 
 -- the line "VERB B"
 abbrev pub NamesBackend : List (List ℕ) → List ℕ → List ℕ → ℕ → Type 0
@@ -77,6 +77,7 @@ MoveLine names line (Open user) = IsUser user × (line ≡ words (codes "open" �
 MoveLine names line (Close s) = (number : List ℕ) × IsNumber number s × (line ≡ words (codes "close" ∷ number ∷ []))
 MoveLine names line (Schedule s r) =
     (number : List ℕ) × (sql : List ℕ) × IsNumber number s × IsWrite sql r × (line ≡ words (codes "write" ∷ number ∷ sql ∷ []))
+MoveLine names line (Abort tx) = (number : List ℕ) × IsNumber number tx × (line ≡ words (codes "abort" ∷ number ∷ []))
 MoveLine names line (Apply b) = NamesBackend names line (codes "apply") b
 MoveLine names line End = line ≡ codes "end"
 MoveLine names line (Read s b select) =
@@ -148,6 +149,7 @@ reason_number reason.Out = 7
 reason_number reason.NoSession = 9
 reason_number reason.Waiting = 10
 reason_number reason.NotServing = 11
+reason_number reason.NotOrphan = 14
 
 -- why a move can't be made now
 abbrev pub not_now_text : Why → List ℕ
