@@ -79,6 +79,12 @@ abbrev pub LogsIn : {T : Type 0} → Option (List ℕ) → List ℕ → Result T
 LogsIn before given (Ok x) now = now ≡ Some given
 LogsIn before given (Err e) now = (now ≡ Some given) ⊎ (now ≡ before)
 
+-- the same of a query: want of memory leaves the login that was
+abbrev pub LogsInToAsk : {T : Type 0} → Option (List ℕ) → List ℕ → Result T BackendError → Option (List ℕ) → Type 0
+LogsInToAsk before given (Ok x) now = now ≡ Some given
+LogsInToAsk before given (Err errors.Failed) now = (now ≡ Some given) ⊎ (now ≡ before)
+LogsInToAsk before given (Err errors.NoMemory) now = now ≡ before
+
 -- no transaction, or one of those begun
 abbrev pub IsBegun : List ℕ → ℕ → Type 0
 IsBegun begun tx = (tx ≡ 0) ⊎ Contains begun tx

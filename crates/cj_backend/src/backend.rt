@@ -52,7 +52,7 @@ pub struct Counts {
 /// no longer tells what it holds. After the next load that is carried out it tells again.
 pub trait Backend {
     ghost use Rattle.cj_model.specs.Database.Outcomes.{IsOutcome, IsAsked};
-    ghost use Rattle.cj_backend.specs.Backends.{HasBackendCause, SaysOutcome, SaysAnswer, told_after, LogsIn, IsBegun, begun_with, begun_without, told_loaded, begun_loaded, asks_after, Arming, SpendsArming, arming_after};
+    ghost use Rattle.cj_backend.specs.Backends.{HasBackendCause, SaysOutcome, SaysAnswer, told_after, LogsIn, LogsInToAsk, IsBegun, begun_with, begun_without, told_loaded, begun_loaded, asks_after, Arming, SpendsArming, arming_after};
 
     /// Whether it tells what it holds: at all times but from a change that was not carried out to
     /// the next load that is.
@@ -147,14 +147,14 @@ pub trait Backend {
         ensures asks { asks self.new ≡ asks self.old }
         ensures arming { SpendsArming (arming self.old) (arming self.new) result };
 
-    /// Answers a query of transaction `tx`, 0 for none.
+    /// Answers a query of transaction `tx`, 0 for none. Want of memory changes nothing.
     fn ask(&mut self, user: &Text, tx: u64, select: &Select) -> Result<Asked, BackendError>
         requires { IsWritten (request.Select select.now) }
         ensures answer { SaysAnswer (told self.old) tx select.now result }
         ensures possible { IfOk result IsAsked }
         ensures told { told self.new ≡ told self.old }
         ensures cause { HasBackendCause (faults self.old) (faults self.new) result }
-        ensures login { LogsIn (login self.old) user.now result (login self.new) }
+        ensures login { LogsInToAsk (login self.old) user.now result (login self.new) }
         ensures begun { begun self.new ≡ begun self.old }
         ensures asks { asks self.new ≡ asks_after (asks self.old) result }
         ensures arming { SpendsArming (arming self.old) (arming self.new) result };

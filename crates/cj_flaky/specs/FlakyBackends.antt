@@ -16,7 +16,7 @@ use Rattle.cj_model.specs.Database.Storable.{IsStorable}
 use Rattle.cj_backend.specs.declared.backend.BackendError.{BackendError}
 use Rattle.cj_backend.specs.declared.backend.BackendError.TheVariants.{Failed}
 use Rattle.cj_backend.specs.declared.backend.Backend.{Ghosts}
-use Rattle.cj_backend.specs.Backends.{HasBackendCause, SaysOutcome, SaysAnswer, told_after, told_loaded, LogsIn, begun_with, begun_without, begun_loaded, asks_after, Arming, SpendsArming}
+use Rattle.cj_backend.specs.Backends.{HasBackendCause, SaysOutcome, SaysAnswer, told_after, told_loaded, LogsIn, LogsInToAsk, begun_with, begun_without, begun_loaded, asks_after, Arming, SpendsArming}
 
 pub record FlakyState (B : Type 0) : Type 0 where
   -- the backend that it passes calls on to
@@ -120,7 +120,7 @@ module _ {B : Type 0} (g : Ghosts B) (old : B) where
     pub possible : IfOk result IsAsked
     pub told : g.told new ≡ g.told old
     pub cause : HasBackendCause (g.faults old) (g.faults new) result
-    pub login : LogsIn (g.login old) user result (g.login new)
+    pub login : LogsInToAsk (g.login old) user result (g.login new)
     pub begun : g.begun new ≡ g.begun old
     pub asks : g.asks new ≡ asks_after (g.asks old) result
     pub arming : SpendsArming (g.arming old) (g.arming new) result

@@ -113,7 +113,7 @@ impl<B: Backend> Backend for Flaky<B> {
     ghost use Rattle.cj_model.specs.Sql.WrittenRequests.{IsWritten};
     ghost use Rattle.cj_model.specs.Database.Outcomes.{IsOutcome, IsAsked};
     ghost use Rattle.cj_model.specs.Database.Storable.{IsStorable};
-    ghost use Rattle.cj_backend.specs.Backends.{HasBackendCause, SaysOutcome, SaysAnswer, told_after, LogsIn, IsBegun, begun_with, begun_without, told_loaded, begun_loaded, asks_after, SpendsArming};
+    ghost use Rattle.cj_backend.specs.Backends.{HasBackendCause, SaysOutcome, SaysAnswer, told_after, LogsIn, LogsInToAsk, IsBegun, begun_with, begun_without, told_loaded, begun_loaded, asks_after, SpendsArming};
     ghost use Rattle.cj_flaky.specs.FlakyBackends.{CallsAsListed, ChangesAsListed, LoadsAsListed, PassesAsk, PassesBegin, PassesContents, PassesEnd, PassesLoad, PassesWrite, arming_of, faults_by, told_by};
 
     const TELLS: bool = B::TELLS;
@@ -230,7 +230,7 @@ impl<B: Backend> Backend for Flaky<B> {
         ensures possible { IfOk result IsAsked }
         ensures told { told_by B.told self.new ≡ told_by B.told self.old }
         ensures cause { HasBackendCause (faults_by B.faults self.old) (faults_by B.faults self.new) result }
-        ensures login { LogsIn (B.login self.old.inner) user.now result (B.login self.new.inner) }
+        ensures login { LogsInToAsk (B.login self.old.inner) user.now result (B.login self.new.inner) }
         ensures begun { B.begun self.new.inner ≡ B.begun self.old.inner }
         ensures asks { B.asks self.new.inner ≡ asks_after (B.asks self.old.inner) result }
         ensures arming { SpendsArming (arming_of self.old) (arming_of self.new) result }

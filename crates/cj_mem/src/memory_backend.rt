@@ -133,7 +133,7 @@ impl Backend for MemBackend {
     ghost use Rattle.cj_model.specs.Database.Steps.{acted};
     ghost use Rattle.cj_model.specs.Database.Storable.{IsStorable};
     ghost use Rattle.cj_model.specs.Database.Outcomes.{IsOutcome, IsAsked};
-    ghost use Rattle.cj_backend.specs.Backends.{HasBackendCause, SaysOutcome, SaysAnswer, told_after, LogsIn, IsBegun, begun_with, begun_without, told_loaded, begun_loaded, asks_after, SpendsArming};
+    ghost use Rattle.cj_backend.specs.Backends.{HasBackendCause, SaysOutcome, SaysAnswer, told_after, LogsIn, LogsInToAsk, IsBegun, begun_with, begun_without, told_loaded, begun_loaded, asks_after, SpendsArming};
     ghost use Rattle.cj_mem.specs.MemoryBackends.{held_after, held_loaded, never_armed};
 
     const TELLS: bool = true;
@@ -272,13 +272,13 @@ impl Backend for MemBackend {
         ensures possible { IfOk result IsAsked }
         ensures cause { HasBackendCause 0 0 result }
         ensures arming { SpendsArming never_armed never_armed result }
-        ensures login { LogsIn self.old.login user.now result self.new.login }
+        ensures login { LogsInToAsk self.old.login user.now result self.new.login }
         ensures asks { self.new.asks ≡ asks_after self.old.asks result }
         ensures same { self.new ≡ record self.old { login = self.new.login; asks = self.new.asks } }
     {
-        self.enter(user)?;
         self.tables.legal();
         let answer = select(self.alloc, query, &self.tables, tx)?;
+        self.enter(user)?;
         self.asks = self.asks.saturating_add(1);
         Ok(answer)
     }
