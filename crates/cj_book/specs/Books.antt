@@ -1,30 +1,104 @@
 -- What contracts see of a book, and when an event can't come into it.
-use Rattle.std.specs.Prelude.{◌≡◌, ℕ, ◌<◌, ◌≤◌, Bool, true, false, List, [], ◌∷◌, ◌++◌, length, Result, Ok, Err, refl}
-use Rattle.std.specs.Coded.{Coded, code_by, coded×, coded_bool, coded_list, coded_ℕ}
+use Rattle.std.specs.Prelude.{◌≡◌, ◌⊎◌, ℕ, ◌+◌, ◌^◌, ◌<◌, ◌≤◌, ◌==◌, ◌&&◌, ◌||◌, not, Bool, true, false, List, [], ◌∷◌, ◌++◌, length, filter, nat_le, slice_index, if◌then◌else◌, Result, Ok, Err}
+use Rattle.std.specs.List.{list_any}
+use Rattle.std.specs.declared.option.Option.{Option}
+use Rattle.std.specs.declared.option.Option.TheVariants.{None, Some}
+use Rattle.cj_model.specs.declared.limits.TheConstants.{SESSION_LIMIT, SESSION_NUMBER_LIMIT}
 use Rattle.cj_model.specs.declared.request.Act.{Act}
+use Rattle.cj_model.specs.declared.request.Entry.{Entry}
 use Rattle.cj_cluster.specs.declared.event.Event.{Event}
-use Rattle.cj_cluster.specs.contracts.event.Event as event_type
 use Rattle.cj_model.specs.Sql.PlainRequests.{request_of}
-use Rattle.cj_model.specs.Cluster.Placements.{everywhere}
-use Rattle.cj_cluster.specs.History.Histories.{log, is_idle, events_left}
+use Rattle.cj_model.specs.Cluster.Balancing.{Balance, IsFirst, is_ahead, one_more, picked}
+use Rattle.cj_model.specs.Cluster.Placements.{Placement, hosts_all, concerns}
+use Rattle.cj_cluster.specs.History.Histories.{log, is_idle, is_enabled, events_left, tx_of}
 use Rattle.cj_cluster.specs.History.Answering.{HasServer, HasNoServer}
+use Rattle.cj_cluster.specs.Moves.Moves.{entry_numbered}
+use Rattle.cj_place.specs.Layouts.{Layout, placement_of}
 use Rattle.cj_book.specs.declared.error.BookError.{BookError}
 use Rattle.cj_book.specs.declared.error.BookError.TheVariants.{InProgress, NoBackend, HistoryFull, NoMemory}
 
--- a history, the number of the backends, and whether memory was taken for an event that may come
+-- What contracts see of a book.
 pub record BookState : Type 0 where
-  pub backends : ℕ
+  -- the backends' names, and which tables they host
+  pub layout : Layout
   pub history : List Event
+  -- the numbers of the open sessions, rising
+  pub sessions : List ℕ
+  -- the greatest session number given
+  pub greatest : ℕ
+  pub balance : Balance
+  -- whether memory was taken for an event that may come
   pub has_spare : Bool
 
--- a book is stored as the pair of its fields
-abbrev pub book_code : Coded BookState
-book_code =
-    code_by (ℕ × (List Event × Bool)) (coded× coded_ℕ (coded× (coded_list event_type.the_row.coded) coded_bool)) (λ b. (b.backends, (b.history, b.has_spare))) (λ p. record { backends = p.0; history = p.1.0; has_spare = p.1.1 }) (λ _. refl)
+-- which backends host which tables
+abbrev pub placement_at : BookState → Placement
+placement_at b = placement_of b.layout
 
 -- the book with one more event, which may have had the memory that was taken
 abbrev pub with_event : BookState → Event → BookState
 with_event b e = record b { history = b.history ++ e ∷ []; has_spare = false }
+
+-- ---- sessions and transactions
+
+-- the session is open
+abbrev pub has_session : BookState → ℕ → Bool
+has_session b s = list_any (λ n. n == s) b.sessions
+
+-- no session more can be opened
+abbrev pub has_no_number : BookState → Bool
+has_no_number b = nat_le SESSION_LIMIT (length b.sessions) || nat_le SESSION_NUMBER_LIMIT b.greatest
+
+-- a session with the next number is open
+abbrev pub with_session : BookState → BookState
+with_session b = record b { sessions = b.sessions ++ (b.greatest + 1) ∷ []; greatest = b.greatest + 1 }
+
+-- the session is closed
+abbrev pub without_session : BookState → ℕ → BookState
+without_session b s = record b { sessions = filter (λ n. not (n == s)) b.sessions }
+
+-- the transaction that this entry began is open, and its session isn't
+abbrev pub is_orphan_of : BookState → ℕ → Option Entry → Bool
+is_orphan_of b tx None = false
+is_orphan_of b tx (Some begin) = tx_of (log b.history) begin.session == tx && not (has_session b begin.session)
+
+-- an open transaction whose session isn't open
+abbrev pub is_orphan : BookState → ℕ → Bool
+is_orphan b tx = is_orphan_of b tx (entry_numbered (log b.history) tx)
+
+-- the entry is of a session that is open, or ends an orphan
+abbrev pub IsOfKnown : BookState → Entry → Type 0
+IsOfKnown b e = (has_session b e.session ≡ true) ⊎ ((e.session ≡ 0) × (is_orphan b e.tx ≡ true))
+
+-- ---- backends
+
+-- whether backend b is enabled and hosts each of the tables
+abbrev pub is_candidate : BookState → List (List ℕ) → ℕ → Bool
+is_candidate b tables k = is_enabled b.history k && hosts_all (placement_at b) k tables
+
+-- whether backend k is a target of the entry, by the history that ends in it
+abbrev pub is_target_at : Placement → List Event → Option Entry → ℕ → Bool
+is_target_at p h None k = false
+is_target_at p h (Some e) k = is_enabled h k && concerns p k (log h) e.tx e.act
+
+abbrev pub is_target : BookState → Option Entry → ℕ → Bool
+is_target b e k = is_target_at (placement_at b) b.history e k
+
+-- ---- reads
+
+-- one more read is pending at b, as far as 32 bits count
+abbrev pub with_read : List ℕ → ℕ → List ℕ
+with_read pending b = if slice_index pending b + 1 == 2 ^ 32 then pending else one_more pending b
+
+-- backend b was picked, and a read began there
+abbrev pub read_at : Balance → ℕ → Balance
+read_at balance b = record balance { standing = record (picked balance.policy balance.standing b) { pending = with_read balance.standing.pending b } }
+
+-- the balancer picks b of the candidates, and a read begins there
+pub record PicksOf (old new : BookState) (candidates b : ℕ) : Type 0 where
+  pub first : IsFirst (is_ahead old.balance.policy old.balance.weights old.balance.standing) candidates b
+  pub stands : new ≡ record old { balance = read_at old.balance b }
+
+-- ---- why an event can't come
 
 -- entry n is open
 pub record IsInProgress (b : BookState) (n : ℕ) : Type 0 where
@@ -34,12 +108,12 @@ pub record IsInProgress (b : BookState) (n : ℕ) : Type 0 where
 -- no entry is open, and no enabled backend serves the act, which needs one
 pub record HasNoBackend (b : BookState) (a : Act) : Type 0 where
   pub is_free : is_idle b.history ≡ true
-  pub unserved : HasNoServer (everywhere b.backends) b.history (request_of a)
+  pub unserved : HasNoServer (placement_at b) b.history (request_of a)
 
 -- the act could be scheduled but for the room in the history of n events
 pub record LacksRoom (b : BookState) (a : Act) (n : ℕ) : Type 0 where
   pub is_free : is_idle b.history ≡ true
-  pub served : HasServer (everywhere b.backends) b.history (request_of a)
+  pub served : HasServer (placement_at b) b.history (request_of a)
   pub full : events_left b.history < 3
   pub events : n ≡ length b.history
 
@@ -51,7 +125,7 @@ pub record HasNoRoomForOne (b : BookState) (n : ℕ) : Type 0 where
 -- an entry of this act can be scheduled
 pub record CanSchedule (b : BookState) (a : Act) : Type 0 where
   pub is_free : is_idle b.history ≡ true
-  pub served : HasServer (everywhere b.backends) b.history (request_of a)
+  pub served : HasServer (placement_at b) b.history (request_of a)
   pub space : 3 ≤ events_left b.history
 
 -- whether an entry of this act can be scheduled, or the first reason against it

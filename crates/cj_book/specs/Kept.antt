@@ -1,12 +1,21 @@
 -- What a book keeps of its history.
-use Rattle.std.specs.Prelude.{◌≡◌, ℕ, ◌+◌, ◌-◌, ◌*◌, ◌^◌, ◌<◌, ◌≤◌, Bool, true, List, length, slice_get}
+use Rattle.std.specs.Prelude.{◌≡◌, ◌≢◌, ℕ, ◌+◌, ◌-◌, ◌*◌, ◌<◌, ◌≤◌, ◌==◌, Bool, true, List, length, slice_get, All}
+use Rattle.std.specs.List.{list_any}
 use Rattle.std.specs.declared.option.Option.{Option}
 use Rattle.std.specs.Option.{option_and_then}
 use Rattle.cj_model.specs.declared.request.Entry.{Entry}
 use Rattle.cj_cluster.specs.declared.event.Event.{Event}
-use Rattle.cj_cluster.specs.History.Histories.{scheduled_entry, log, ended_count, is_enabled}
+use Rattle.cj_cluster.specs.History.Histories.{scheduled_entry, log, ended_count, entry_in_progress, is_enabled, tx_of}
+use Rattle.cj_cluster.specs.History.Legality.{IsLegal}
 use Rattle.cj_model.specs.Cluster.Masks.{in_mask}
-use Rattle.cj_model.specs.declared.limits.TheConstants.{BACKEND_LIMIT, EVENT_LIMIT}
+use Rattle.cj_model.specs.Cluster.Placements.{Placement, wrote_at}
+use Rattle.cj_place.specs.Layouts.{Layout, placement_of}
+use Rattle.cj_book.specs.Books.{is_target_at}
+use Rattle.cj_book.specs.Lists.{by_number, session_number, tx_number}
+use Rattle.cj_book.specs.declared.sessions.BookSession.{BookSession}
+use Rattle.cj_book.specs.declared.transactions.OpenTransaction.{OpenTransaction}
+use Rattle.cj_model.specs.declared.limits.TheConstants.{BACKEND_LIMIT, EVENT_LIMIT, SESSION_LIMIT}
+use Rattle.cj_model.specs.Database.Tables.{Rises}
 
 -- the entry that the event at a place scheduled
 abbrev pub entry_at : List Event → ℕ → Option Entry
@@ -26,3 +35,46 @@ pub record KeepsHistory (backends : ℕ) (h : List Event) (places : List ℕ) (e
   pub spare : length h + (length (log h) - ended_count h) ≤ capacity
   -- and where memory was taken, for one event more and an end
   pub more : has_spare ≡ true → length h + 2 ≤ capacity
+
+-- an open session's number was given, and its transaction is the log's
+pub record IsKeptSession (entries : List Entry) (greatest : ℕ) (s : BookSession) : Type 0 where
+  pub number : (0 < s.number) × (s.number ≤ greatest)
+  pub tx : s.tx ≡ tx_of entries s.number
+
+-- no entry is of a session whose number was not given yet
+pub record KeepsSessions (entries : List Entry) (greatest : ℕ) (ss : List BookSession) : Type 0 where
+  pub each : All (IsKeptSession entries greatest) ss
+  pub known : All (λ (e : Entry). e.session ≤ greatest) entries
+
+-- a transaction of the list is open in its session, with the mask of the backends at which it wrote
+pub record IsKeptTransaction (p : Placement) (entries : List Entry) (t : OpenTransaction) : Type 0 where
+  pub number : 0 < t.number
+  pub is_open : tx_of entries t.session ≡ t.number
+  pub wrote : (b : ℕ) → in_mask t.wrote b ≡ wrote_at p b t.number entries
+
+-- each transaction that is open is one of the list
+pub record KeepsTransactions (p : Placement) (entries : List Entry) (ts : List OpenTransaction) : Type 0 where
+  pub each : All (IsKeptTransaction p entries) ts
+  pub complete : (s : ℕ) → tx_of entries s ≢ 0 → list_any (λ t. tx_number t == tx_of entries s) ts ≡ true
+
+-- the mask of the targets of the open entry
+abbrev pub KeepsTargets : Placement → List Event → ℕ → Type 0
+KeepsTargets p h targets = (b : ℕ) → in_mask targets b ≡ is_target_at p h (entry_in_progress h) b
+
+-- what follows from the history
+pub record Follows (layout : Layout) (h : List Event) (greatest mask : ℕ) (ss : List BookSession) (ts : List OpenTransaction) : Type 0 where
+  pub legal : IsLegal h
+  pub sessions : KeepsSessions (log h) greatest ss
+  pub transactions : KeepsTransactions (placement_of layout) (log h) ts
+  pub targets : KeepsTargets (placement_of layout) h mask
+
+-- sessions with rising numbers, in a vector of this capacity
+pub record KeepsRoom (ss : List BookSession) (capacity : ℕ) : Type 0 where
+  pub rises : Rises (by_number session_number) ss
+  pub room : SESSION_LIMIT ≤ capacity
+
+-- what a book keeps beside what contracts see of it
+pub record IsKeptBook (layout : Layout) (backends : ℕ) (h : List Event) (places : List ℕ) (ended on capacity : ℕ) (has_spare : Bool) (greatest targets : ℕ) (ss : List BookSession) (ts : List OpenTransaction) : Type 0 where
+  pub count : backends ≡ length layout.names
+  pub history : KeepsHistory backends h places ended on capacity has_spare
+  pub follows : Follows layout h greatest targets ss ts

@@ -1,35 +1,49 @@
 //! The history, and what is kept of it.
 
-ghost use Rattle.std.specs.Prelude.{◌≡◌, ◌↔◌, ◌+◌, ◌-◌, ◌<◌, ◌≤◌, ℕ, true, false, [], ◌∷◌, ◌++◌, length, slice_get, vec_capacity, option_copied, IsNone, IfSome, IfOk, IfErr, OnOk, OnErr, IsErrOf, IsTrue};
+ghost use Rattle.std.specs.Prelude.{◌≡◌, ◌↔◌, ◌+◌, ◌-◌, ◌^◌, ◌<◌, ◌≤◌, ◌&&◌, ℕ, true, false, [], ◌∷◌, ◌++◌, length, slice_get, slice_index, vec_capacity, option_copied, IsNone, IfSome, IfOk, IfErr, OnOk, OnErr, IsErr, IsErrOf, IsTrue};
 ghost use Rattle.cj_model.specs.Sql.PlainRequests.{request_of};
+ghost use Rattle.cj_model.specs.Cluster.Balancing.{one_less};
 ghost use Rattle.cj_model.specs.Cluster.Placements as placements;
-ghost use Rattle.cj_model.specs.Cluster.Placements.{everywhere};
+ghost use Rattle.cj_model.specs.Cluster.Placements.{concerns, hosts_all, needs};
 ghost use Rattle.cj_cluster.specs.History.Histories as histories;
-ghost use Rattle.cj_cluster.specs.History.Histories.{log, is_idle};
+ghost use Rattle.cj_cluster.specs.History.Histories.{log, is_idle, tx_of};
+ghost use Rattle.cj_cluster.specs.History.Legality.{AreFitMasks, IsFitEntry, IsLegal};
 ghost use Rattle.cj_model.specs.Cluster.Masks.{in_mask};
 ghost use Rattle.cj_cluster.specs.History.Answering.{HasServer, HasNoServer};
-ghost use Rattle.cj_book.specs.Books.{with_event, IsInProgress, HasNoBackend, LacksRoom, CanSchedule, Checks, HasNoRoomForOne, HasRoom, IsWant};
+ghost use Rattle.cj_book.specs.Books as books;
+ghost use Rattle.cj_book.specs.Books.{placement_at, with_event, has_session, has_no_number, is_candidate, is_target, IsOfKnown, IsInProgress, HasNoBackend, LacksRoom, CanSchedule, Checks, HasNoRoomForOne, HasRoom, IsWant, PicksOf};
 ghost use Rattle.cj_book.specs.Kept as kept;
 
-use crate::error::BookError;
+use crate::error::{BookError, SessionsFull};
+use crate::sessions::BookSessions;
+use crate::transactions::OpenTransactions;
+use cj_balance::Balancer;
 use cj_cluster::Event;
-use cj_model::{Act, BACKEND_LIMIT, EVENT_LIMIT, Entry, NoMemory};
+use cj_model::{
+    Act, BACKEND_LIMIT, EVENT_LIMIT, Entry, Name, NoMemory, SESSION_LIMIT, SESSION_NUMBER_LIMIT,
+    has_bit,
+};
+use cj_place::Placement;
+use cj_usage::written;
 use std::alloc::Global;
 use std::marker::Model;
 
 /// What a book is made of.
-#[derive(Clone, Copy, Debug)]
+#[derive(Drop)]
 pub struct BookParts {
-    /// How many backends there are, from 1 to `BACKEND_LIMIT`; their numbers begin with 0.
-    pub backends: u8,
+    pub placement: Placement,
+    pub balancer: Balancer,
 }
 
-/// A history, which contracts see with the number of its backends.
+/// A history, and what follows from it: its open sessions, their transactions, which backends are enabled.
 ///
-/// It keeps what follows from the history, so that no call walks over it. A mask has bit b for backend b. Entries are numbered from 1.
+/// It keeps these at hand, so that no call walks over the history. A mask has bit b for backend b. Entries are numbered from 1.
 #[derive(Drop)]
 pub struct Book {
+    placement: Placement,
+    /// How many backends there are.
     backends: u8,
+    balancer: Balancer,
     history: Vec<Event>,
     /// The places of the entries in the history.
     scheduled: Vec<usize>,
@@ -37,23 +51,33 @@ pub struct Book {
     done: usize,
     /// The mask of the enabled backends.
     enabled: u32,
+    /// The mask of the targets of the open entry; 0 where none is open.
+    targets: u32,
+    sessions: BookSessions,
+    /// The greatest session number given.
+    greatest: u64,
+    transactions: OpenTransactions,
     /// Whether memory was taken for an event that may come.
     has_spare: bool,
 }
 
 impl Model for Book {
-    ghost use Rattle.std.specs.Prelude.{vec_capacity};
-    ghost use Rattle.cj_book.specs.Books.{BookState, book_code};
-    ghost use Rattle.cj_book.specs.Kept.{KeepsHistory};
+    ghost use Rattle.std.specs.Prelude.{map, vec_capacity};
+    ghost use Rattle.cj_book.specs.Books.{BookState};
+    ghost use Rattle.cj_book.specs.Kept.{IsKeptBook};
+    ghost use Rattle.cj_book.specs.Lists.{session_number};
 
     ghost Value = { BookState };
 
-    ghost coded = { book_code };
+    ghost use Rattle.std.specs.Coded.{codes};
+    ghost use Rattle.cj_model.specs.Proving.ConditionCode.{coded_condition};
 
-    ghost view = { λ book. record { backends = book.backends; history = book.history.items; has_spare = book.has_spare } };
+    ghost coded = { Prim.hlevel (codes, coded_condition) };
 
-    ghost invariant = { λ book. KeepsHistory book.backends book.history.items book.scheduled.items book.done book.enabled
-        (vec_capacity book.history) book.has_spare };
+    ghost view = { λ book. record { layout = book.placement; history = book.history.items; sessions = map session_number book.sessions; greatest = book.greatest; balance = book.balancer; has_spare = book.has_spare } };
+
+    ghost invariant = { λ book. IsKeptBook book.placement book.backends book.history.items book.scheduled.items book.done book.enabled
+        (vec_capacity book.history) book.has_spare book.greatest book.targets book.sessions book.transactions };
 }
 
 fn entry_at(history: &[Event], place: usize) -> Option<&Entry>
@@ -85,21 +109,50 @@ fn append(history: &mut Vec<Event>, event: Event) -> Result<(), BookError>
     Ok(())
 }
 
+/// A read begins at the backend.
+fn begin_read(balancer: &mut Balancer, b: u8)
+    requires { b < BACKEND_LIMIT }
+    ensures { balancer.new ≡ record balancer.old { standing = record balancer.old.standing { pending = books.with_read balancer.old.standing.pending b } } }
+{
+    if balancer.pending(b) < u32::MAX {
+        balancer.began(b);
+    }
+}
+
 impl Book {
-    /// An empty history.
+    /// A book with no event and no session.
     pub fn new(alloc: Global, parts: BookParts) -> Result<Book, NoMemory>
-        requires some { 0 < parts.backends }
-        requires few { parts.backends ≤ BACKEND_LIMIT }
-        ensures { IfOk result (λ book. book ≡ record { backends = parts.backends; history = []; has_spare = false }) }
+        ensures { IfOk result (λ book. book ≡ record { layout = parts.placement; history = []; sessions = []; greatest = 0; balance = parts.balancer; has_spare = false }) }
     {
+        let sessions = BookSessions::new(alloc)?;
         Ok(Book {
-            backends: parts.backends,
+            backends: parts.placement.count(),
+            placement: parts.placement,
+            balancer: parts.balancer,
             history: Vec::new(alloc),
             scheduled: Vec::new(alloc),
             done: 0,
             enabled: 0,
+            targets: 0,
+            sessions,
+            greatest: 0,
+            transactions: OpenTransactions::new(alloc),
             has_spare: false,
         })
+    }
+
+    /// Which backends host which tables.
+    pub fn placement(&self) -> &Placement
+        ensures { result.now ≡ self.now.layout }
+    {
+        &self.placement
+    }
+
+    /// Whether the history is one that can be.
+    pub fn legal(&self)
+        ensures { IsLegal self.now.history }
+    {
+        let _ = &self.history;
     }
 
     /// How many events there are.
@@ -164,13 +217,13 @@ impl Book {
     pub fn is_enabled(&self, b: u8) -> bool
         ensures { result ≡ histories.is_enabled self.now.history b }
     {
-        b < self.backends && (self.enabled >> b) & 1 == 1
+        b < self.backends && has_bit(self.enabled, b)
     }
 
     /// The mask of the enabled backends.
     pub fn enabled(&self) -> u32
         ensures mask { (b : ℕ) → in_mask result b ≡ histories.is_enabled self.now.history b }
-        ensures below { (b : ℕ) → in_mask result b ≡ true → b < self.now.backends }
+        ensures below { (b : ℕ) → in_mask result b ≡ true → b < length self.now.layout.names }
     {
         self.enabled
     }
@@ -190,12 +243,52 @@ impl Book {
         EVENT_LIMIT - (self.events() + 2 * open)
     }
 
+    /// The mask of the enabled backends that host the table that an act is of, or of all enabled ones.
+    fn servers(&self, act: &Act) -> u32
+        ensures { (b : ℕ) → in_mask result b ≡ (histories.is_enabled self.now.history b && hosts_all (placement_at self.now) b (needs (request_of act.now))) }
+    {
+        match written(act) {
+            Some(table) => self.enabled & self.placement.hosts(table),
+            None => self.enabled,
+        }
+    }
+
     /// Whether the act needs a backend, and none that serves it is enabled.
     fn is_unserved(&self, act: &Act) -> bool
-        ensures unserved { IsTrue result → HasNoServer (everywhere self.now.backends) self.now.history (request_of act.now) }
-        ensures served { ¬ IsTrue result → HasServer (everywhere self.now.backends) self.now.history (request_of act.now) }
+        ensures unserved { IsTrue result → HasNoServer (placement_at self.now) self.now.history (request_of act.now) }
+        ensures served { ¬ IsTrue result → HasServer (placement_at self.now) self.now.history (request_of act.now) }
     {
-        self.enabled == 0 && needs_backend(act)
+        self.servers(act) == 0 && needs_backend(act)
+    }
+
+    /// The mask of the backends that an entry concerns which may come next.
+    fn concerned(&self, e: &Entry) -> u32
+        requires { IsFitEntry (log self.now.history) e.now }
+        ensures { (b : ℕ) → in_mask result b ≡ concerns (placement_at self.now) b (log self.now.history) e.now.tx e.now.act }
+    {
+        match written(&e.act) {
+            Some(table) => self.placement.hosts(table),
+            None => self.transactions.wrote(e.tx),
+        }
+    }
+
+    /// The mask of the enabled backends that host each of the tables.
+    pub fn candidates(&self, tables: &[Name]) -> u32
+        ensures hosts { (b : ℕ) → in_mask result b ≡ is_candidate self.now tables.now b }
+        ensures below { result < 2 ^ BACKEND_LIMIT }
+    {
+        let mut mask = self.enabled;
+        for table in tables {
+            mask &= self.placement.hosts(table);
+        }
+        mask
+    }
+
+    /// The mask of the backends that the open entry is for, which are enabled; 0 where no entry is open.
+    pub fn targets(&self) -> u32
+        ensures { (b : ℕ) → in_mask result b ≡ is_target self.now (histories.entry_in_progress self.now.history) b }
+    {
+        self.targets
     }
 
     fn check_schedule(&self, act: &Act) -> Result<(), BookError>
@@ -226,6 +319,8 @@ impl Book {
     ///
     /// Where it is refused for several reasons, the error is the first of them in the order of the variants.
     pub fn schedule(&mut self, e: Entry) -> Result<u64, BookError>
+        requires fit { is_idle self.old.history ≡ true → IsFitEntry (log self.old.history) e }
+        requires known { IsOfKnown self.old e }
         ensures ok { OnOk result (self.new ≡ with_event self.old (Event.Sched e)) }
         ensures number { IfOk result (λ n. n ≡ length (log self.new.history)) }
         ensures ready { OnOk result (CanSchedule self.old e.act) }
@@ -236,21 +331,29 @@ impl Book {
         ensures err { OnErr result (self.new ≡ self.old) }
     {
         self.check_schedule(&e.act)?;
-        self.scheduled.reserve(1)?;
+        let hosts = self.concerned(&e);
+        let number = self.length() + 1;
         let place = self.history.len();
-        append(&mut self.history, Event::Sched(e))?;
+        self.scheduled.reserve(1)?;
+        self.history.reserve(2)?;
+        self.transactions.follow(number, &e, hosts)?;
+        self.sessions.follow(number, &e);
         self.scheduled.push_reserved(place);
+        self.history.push_reserved(Event::Sched(e));
+        self.targets = self.enabled & hosts;
         self.has_spare = false;
-        Ok(self.length())
+        Ok(number)
     }
 
     /// Ends the open entry. It takes no memory.
     pub fn end(&mut self, failed: u32, starved: u32)
-        requires { is_idle self.old.history ≡ false }
+        requires open { is_idle self.old.history ≡ false }
+        requires masks { AreFitMasks self.old.history failed starved }
         ensures { self.new ≡ with_event self.old (Event.Ended failed starved) }
     {
         self.history.push_reserved(Event::Ended { failed, starved });
         self.done += 1;
+        self.targets = 0;
         self.enabled &= !(failed | starved);
         self.has_spare = false;
     }
@@ -258,7 +361,7 @@ impl Book {
     /// Disables a backend that is enabled, while no entry is open.
     pub fn disable(&mut self, b: u8) -> Result<(), BookError>
         requires is_free { is_idle self.old.history ≡ true }
-        requires below { b < self.old.backends }
+        requires below { b < length self.old.layout.names }
         requires is_enabled { histories.is_enabled self.old.history b ≡ true }
         ensures ok { OnOk result (self.new ≡ with_event self.old (Event.Disabled b)) }
         ensures space { OnOk result (0 < histories.events_left self.old.history) }
@@ -276,7 +379,7 @@ impl Book {
     /// Enables a backend that isn't enabled, while no entry is open.
     pub fn enable(&mut self, b: u8) -> Result<(), BookError>
         requires is_free { is_idle self.old.history ≡ true }
-        requires below { b < self.old.backends }
+        requires below { b < length self.old.layout.names }
         requires is_disabled { histories.is_enabled self.old.history b ≡ false }
         ensures ok { OnOk result (self.new ≡ with_event self.old (Event.Enabled b)) }
         ensures space { OnOk result (0 < histories.events_left self.old.history) }
@@ -316,5 +419,94 @@ impl Book {
         append(&mut self.history, Event::ReadFailed { session, seq, b })?;
         self.has_spare = false;
         Ok(())
+    }
+
+    /// How many sessions are open.
+    pub fn session_count(&self) -> u64
+        ensures { result ≡ length self.now.sessions }
+    {
+        self.sessions.len() as u64
+    }
+
+    /// The greatest session number given.
+    pub fn greatest(&self) -> u64
+        ensures { result ≡ self.now.greatest }
+    {
+        self.greatest
+    }
+
+    pub fn is_session_open(&self, session: u64) -> bool
+        ensures { result ≡ has_session self.now session }
+    {
+        self.sessions.find(session).is_some()
+    }
+
+    /// Opens a session of the next number. It takes no memory.
+    pub fn open_session(&mut self) -> Result<u64, SessionsFull>
+        ensures ok { OnOk result (self.new ≡ books.with_session self.old) }
+        ensures number { IfOk result (λ n. n ≡ self.old.greatest + 1) }
+        ensures full { IsErr result ↔ (has_no_number self.old ≡ true) }
+        ensures count { IfErr result (λ e. e.sessions ≡ length self.old.sessions) }
+        ensures err { OnErr result (self.new ≡ self.old) }
+    {
+        let open = self.sessions.len();
+        if open >= SESSION_LIMIT || self.greatest >= SESSION_NUMBER_LIMIT {
+            return Err(SessionsFull {
+                sessions: open as u64,
+            });
+        }
+        self.greatest += 1;
+        self.sessions.add(self.greatest);
+        Ok(self.greatest)
+    }
+
+    /// Closes a session; a transaction that it has open is then an orphan.
+    pub fn close_session(&mut self, session: u64)
+        ensures { self.new ≡ books.without_session self.old session }
+    {
+        self.sessions.remove(session);
+    }
+
+    /// The open transaction of a session, or 0.
+    pub fn open_tx(&self, session: u64) -> u64
+        requires { has_session self.now session ≡ true }
+        ensures { result ≡ tx_of (log self.now.history) session }
+    {
+        match self.sessions.find(session) {
+            Some(open) => open.tx,
+            None => 0,
+        }
+    }
+
+    /// Whether the transaction is open and its session isn't.
+    pub fn is_orphan(&self, tx: u64) -> bool
+        ensures { result ≡ books.is_orphan self.now tx }
+    {
+        match self.transactions.find(tx) {
+            Some(open) => self.sessions.find(open.session).is_none(),
+            None => false,
+        }
+    }
+
+    /// Picks the backend of the next read among the candidates, which are all below `BACKEND_LIMIT`; None exactly where there are none.
+    /// The read is pending there until it `ended`.
+    pub fn pick(&mut self, candidates: u32) -> Option<u8>
+        requires { candidates < 2 ^ BACKEND_LIMIT }
+        ensures none { IsNone result ↔ (candidates ≡ 0) }
+        ensures same { IsNone result → self.new ≡ self.old }
+        ensures some { IfSome result (λ b. PicksOf self.old self.new candidates b) }
+    {
+        let b = self.balancer.pick(candidates)?;
+        begin_read(&mut self.balancer, b);
+        Some(b)
+    }
+
+    /// A read ended at the backend, which has some pending.
+    pub fn ended(&mut self, b: u8)
+        requires below { b < BACKEND_LIMIT }
+        requires some { 0 < slice_index self.old.balance.standing.pending b }
+        ensures { self.new ≡ record self.old { balance = record self.old.balance { standing = record self.old.balance.standing { pending = one_less self.old.balance.standing.pending b } } } }
+    {
+        self.balancer.ended(b);
     }
 }

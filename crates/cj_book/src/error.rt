@@ -1,5 +1,6 @@
 //! Why an event didn't come into the history.
 
+use cj_model::NoMemory;
 use std::alloc::AllocError;
 use thiserror::Error;
 
@@ -28,4 +29,22 @@ impl From<AllocError> for BookError {
     fn from(_error: AllocError) -> BookError {
         BookError::NoMemory
     }
+}
+
+impl From<NoMemory> for BookError {
+    ghost use Rattle.std.specs.Prelude.{◌≡◌};
+    ghost use Rattle.cj_book.specs.declared.error.BookError.TheVariants.{NoMemory};
+
+    ghost from_gives = { λ _ e. e ≡ NoMemory };
+
+    fn from(_error: NoMemory) -> BookError {
+        BookError::NoMemory
+    }
+}
+
+/// No session more can be opened: so many are open, or the last number was given.
+#[derive(Clone, Copy, Debug, PartialEq, Eq, Error)]
+#[error("no session more can be opened")]
+pub struct SessionsFull {
+    pub sessions: u64,
 }

@@ -1,10 +1,13 @@
-//! The history of a cluster: what was scheduled, how it ended, and which backends are enabled.
+//! The history of a cluster and what follows from it: which entry is open and for which backends, which backends are enabled,
+//! which sessions are open and their transactions; with the placement of tables and the balancer of reads.
 //!
-//! Each backend has every table. A `Book` takes the events one by one, and refuses what can't be scheduled.
+//! A `Book` takes the events one by one, and refuses what can't be scheduled.
 #![tactic(auto)]
 
 mod book;
 mod error;
+mod sessions;
+mod transactions;
 
 pub use book::{Book, BookParts};
-pub use error::BookError;
+pub use error::{BookError, SessionsFull};

@@ -101,6 +101,13 @@ impl Placement {
         self.names.len() as u8
     }
 
+    /// The names of the backends.
+    pub fn names(&self) -> &Names
+        ensures { result.now ≡ self.now.names }
+    {
+        &self.names
+    }
+
     /// The name of a backend.
     pub fn name(&self, b: u8) -> &Name
         requires { b < length self.now.names }

@@ -1,12 +1,21 @@
-use Rattle.std.proofs.Common.{◌<◌, sym, subst, vec_capacity}
-use Rattle.cj_cluster.specs.History.Histories.{events_left}
+use Rattle.std.proofs.Common.{◌≡◌, ◌<◌, true, false, length, sym, subst, arith, vec_capacity}
+use Rattle.cj_cluster.specs.History.Histories.{events_left, is_enabled, is_idle}
 use Rattle.cj_book.specs.Books.{BookState}
 use Rattle.cj_book.proofs.Keeping.{keeps_enabled}
+use Rattle.cj_book.proofs.Following.{follows_enabled}
 use Rattle.cj_book.proofs.book.Book.enable.Goals as goal
 
 pub invariant_of-self-2 : goal.invariant_of-self-2
 invariant_of-self-2 c =
+    let k = c.self.invariant in
     let space : 0 < events_left c.self.inside.history.items = subst (λ (b : BookState). 0 < events_left b.history) (sym c.self.view_is) c.in_ok-check_room.ensures in
-    let below : c.args.b < c.self.inside.backends = subst (λ (b : BookState). c.args.b < b.backends) (sym c.self.view_is) c.requires.below in
+    let idle : is_idle c.self.inside.history.items ≡ true = subst (λ (b : BookState). is_idle b.history ≡ true) (sym c.self.view_is) c.requires.is_free in
+    let was : is_enabled c.self.inside.history.items c.args.b ≡ false = subst (λ (b : BookState). is_enabled b.history c.args.b ≡ false) (sym c.self.view_is) c.requires.is_disabled in
+    let named : c.args.b < length c.self.inside.placement.names = subst (λ (b : BookState). c.args.b < length b.layout.names) (sym c.self.view_is) c.requires.below in
+    let below : c.args.b < c.self.inside.backends = omega (arith, k.count) in
     let spare = rw c.in_ok-append.ensures.ok at c.in_ok-append.ensures.spare in
-    rw c.in_ok-append.ensures.ok (keeps_enabled _ _ _ _ _ _ _ c.self.invariant c.args.b (vec_capacity c.append.new.history) below space spare)
+    record {
+      count = k.count;
+      history = rw c.in_ok-append.ensures.ok (keeps_enabled _ _ _ _ _ _ _ k.history c.args.b (vec_capacity c.append.new.history) below space spare);
+      follows = rw c.in_ok-append.ensures.ok (follows_enabled _ _ _ _ _ _ k.follows c.args.b space idle was);
+    }

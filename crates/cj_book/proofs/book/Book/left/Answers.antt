@@ -10,5 +10,5 @@ returns c =
     λ b.
     let left = has_without c.self.inside.enabled c.args.failed c.args.starved b (search rules) (search rules) (search rules) in
     rw (← c.self.view_is)
-    (left ∙ (ap (λ x. x && not (in_mask c.args.failed b || in_mask c.args.starved b)) (c.self.invariant.mask b)
+    (left ∙ (ap (λ x. x && not (in_mask c.args.failed b || in_mask c.args.starved b)) (c.self.invariant.history.mask b)
     ∙ sym (enabled-push c.self.inside.history.items (Ended c.args.failed c.args.starved) b)))

@@ -1,0 +1,122 @@
+//! The open transactions.
+
+ghost use Rattle.std.specs.Prelude.{◌≡◌, ◌<◌, [], ◌∷◌, ◌++◌, All, MatchOption, None, OnOk, OnErr};
+ghost use Rattle.cj_book.specs.Lists.{IsPlaceOf, new_tx, numbered, tx_number, with_wrote, without, wrote_of};
+ghost use Rattle.cj_book.specs.Lists as lists;
+
+use cj_model::{Act, Entry, NoMemory};
+use std::alloc::Global;
+use std::marker::Model;
+
+/// An open transaction, also one whose session isn't open any more.
+#[derive(Clone, Copy)]
+pub struct OpenTransaction {
+    /// The number of its BEGIN entry.
+    pub number: u64,
+    pub session: u64,
+    /// The mask of the backends that host a table which it wrote.
+    pub wrote: u32,
+}
+
+/// The open transactions in rising number, which contracts see as a list.
+#[derive(Drop)]
+pub struct OpenTransactions {
+    open: Vec<OpenTransaction>,
+}
+
+impl Model for OpenTransactions {
+    ghost use Rattle.std.specs.Prelude.{List};
+    ghost use Rattle.cj_model.specs.Database.Tables.{Rises};
+    ghost use Rattle.cj_book.specs.declared.transactions.OpenTransaction.{OpenTransaction};
+    ghost use Rattle.cj_book.specs.Lists.{by_number, tx_number};
+
+    ghost Value = { List OpenTransaction };
+
+    ghost view = { λ transactions. transactions.open.items };
+
+    ghost invariant = { λ transactions. Rises (by_number tx_number) transactions.open.items };
+}
+
+impl OpenTransactions {
+    /// No transactions, which take no memory.
+    pub fn new(alloc: Global) -> Self
+        ensures { result ≡ [] }
+    {
+        OpenTransactions {
+            open: Vec::new(alloc),
+        }
+    }
+
+    fn place_of(&self, number: u64) -> Option<usize>
+        ensures { MatchOption result (numbered tx_number self.now number ≡ None) (IsPlaceOf tx_number self.now number) }
+    {
+        match self.open.binary_search_by_key(&number, |t| t.number) {
+            Ok(place) => Some(place),
+            Err(_) => None,
+        }
+    }
+
+    /// The transaction of a number.
+    pub fn find(&self, number: u64) -> Option<OpenTransaction>
+        ensures { result ≡ numbered tx_number self.now number }
+    {
+        match self.place_of(number) {
+            Some(place) => Some(self.open[place]),
+            None => None,
+        }
+    }
+
+    /// The mask of the backends at which the transaction of a number wrote, or 0.
+    pub fn wrote(&self, number: u64) -> u32
+        ensures { result ≡ wrote_of (numbered tx_number self.now number) }
+    {
+        match self.find(number) {
+            Some(transaction) => transaction.wrote,
+            None => 0,
+        }
+    }
+
+    fn begin(&mut self, number: u64, session: u64) -> Result<(), NoMemory>
+        requires { All (λ t. tx_number t < number) self.old }
+        ensures ok { OnOk result (self.new ≡ self.old ++ new_tx number session ∷ []) }
+        ensures err { OnErr result (self.new ≡ self.old) }
+    {
+        self.open.push(OpenTransaction {
+            number,
+            session,
+            wrote: 0,
+        })?;
+        Ok(())
+    }
+
+    fn add_hosts(&mut self, number: u64, hosts: u32)
+        ensures { self.new ≡ with_wrote number hosts self.old }
+    {
+        if let Some(place) = self.place_of(number) {
+            self.open[place].wrote |= hosts;
+        }
+    }
+
+    fn end(&mut self, number: u64)
+        ensures { self.new ≡ without tx_number number self.old }
+    {
+        if let Some(place) = self.place_of(number) {
+            self.open.remove(place);
+        }
+    }
+
+    /// Entry `number` of the log is scheduled, which concerns these backends. Only a BEGIN takes memory.
+    pub fn follow(&mut self, number: u64, e: &Entry, hosts: u32) -> Result<(), NoMemory>
+        requires { All (λ t. tx_number t < number) self.old }
+        ensures ok { OnOk result (self.new ≡ lists.transactions_after self.old number hosts e.now e.now.act) }
+        ensures err { OnErr result (self.new ≡ self.old) }
+    {
+        match &e.act {
+            Act::Begin => self.begin(number, e.session)?,
+            Act::Write(_) => self.add_hosts(e.tx, hosts),
+            Act::Create(_) | Act::Drop(_) => {}
+            Act::Commit | Act::Abort => self.end(e.tx),
+        }
+        Ok(())
+    }
+}
