@@ -1,5 +1,5 @@
 -- What contracts see of a cell, and what its calls give and leave.
-use Rattle.std.specs.Prelude.{◌≡◌, ℕ, ◌+◌, Bool, true, false, if◌then◌else◌, List, [], IfSome, IsErrOf}
+use Rattle.std.specs.Prelude.{◌≡◌, ◌⊎◌, ℕ, ◌+◌, Bool, true, false, if◌then◌else◌, List, [], IfSome, IsErrOf}
 use Rattle.std.specs.declared.option.Option.{Option}
 use Rattle.std.specs.declared.option.Option.TheVariants.{None, Some}
 use Rattle.std.specs.Option.{option_map}
@@ -12,10 +12,11 @@ use Rattle.cj_model.specs.declared.select.Select.{Select}
 use Rattle.cj_model.specs.declared.answer.Asked.{Asked}
 use Rattle.cj_model.specs.Database.Steps.{step}
 use Rattle.cj_model.specs.Database.Queries.{ask}
-use Rattle.cj_model.specs.Cluster.Placements.{everywhere, concerns}
+use Rattle.cj_model.specs.Database.Outcomes.{IsOutcome}
+use Rattle.cj_model.specs.Cluster.Placements.{Placement}
+use Rattle.cj_cluster.specs.History.Transactions.{takes_part, begun_after}
 use Rattle.cj_backend.specs.declared.backend.BackendError.{BackendError}
 use Rattle.cj_backend.specs.declared.backend.BackendError.TheVariants as backend_errors
-use Rattle.cj_model.specs.Database.Outcomes.{IsOutcome}
 use Rattle.cj_backend.specs.Backends.{Arming, spent}
 use Rattle.cj_replica.specs.declared.cell.Caught.{Caught}
 use Rattle.cj_replica.specs.declared.cell.Caught.TheVariants.{Skipped, Did}
@@ -24,12 +25,16 @@ use Rattle.cj_replica.specs.declared.cell.CellError.TheVariants as errors
 use Rattle.cj_replica.specs.declared.cell.CellReadError.{CellReadError}
 use Rattle.cj_replica.specs.declared.cell.CellReadError.TheVariants as read_errors
 
--- backend b of so many
+-- backend b of a placement
 pub record CellState : Type 0 where
   pub b : ℕ
-  pub backends : ℕ
+  pub placement : Placement
   -- how many entries of the log it has taken, or none where it is out
   pub position : Option ℕ
+  -- the transactions that it has begun and not ended; none where it is out
+  pub begun : List ℕ
+  -- the login of its backend's last call
+  pub login : Option (List ℕ)
   -- what its backend holds, where that is told
   pub told : Option (List Slot)
   -- how many faults its backend has counted
@@ -46,9 +51,21 @@ abbrev pub IsNextEntry : Option ℕ → ℕ → Type 0
 IsNextEntry None n = ⊥
 IsNextEntry (Some p) n = n ≡ p + 1
 
--- whether an entry outside a transaction concerns the backend, where each hosts every table
-abbrev pub is_concerned : CellState → Entry → Bool
-is_concerned s e = concerns (everywhere s.backends) s.b [] e.tx e.act
+-- whether the backend takes part in an entry
+abbrev pub takes_part_in_entry : CellState → Entry → Bool
+takes_part_in_entry s e = takes_part s.placement s.b s.begun e.tx e.act
+
+-- the transactions that it has begun then; after an error it is out, and none
+abbrev pub begun_after_entry : List ℕ → Entry → Result Caught CellError → List ℕ
+begun_after_entry begun e (Ok Skipped) = begun
+begun_after_entry begun e (Ok (Did o)) = begun_after begun e.tx e.act
+begun_after_entry begun e (Err d) = []
+
+-- where its backend was called, the login of the last call is the one given, or after an error maybe the one before
+abbrev pub LogsInForEntry : Option (List ℕ) → List ℕ → Result Caught CellError → Option (List ℕ) → Type 0
+LogsInForEntry before given (Ok Skipped) now = now ≡ before
+LogsInForEntry before given (Ok (Did o)) now = now ≡ Some given
+LogsInForEntry before given (Err d) now = (now ≡ Some given) ⊎ (now ≡ before)
 
 -- the entry was skipped
 abbrev pub is_skipped : Result Caught CellError → Bool
@@ -67,11 +84,12 @@ SaysEntryOutcome told e (Ok Skipped) = Unit {0}
 SaysEntryOutcome told e (Ok (Did o)) = IfSome told (λ db. o ≡ (step db e).outcome)
 SaysEntryOutcome told e (Err d) = Unit {0}
 
--- what is told then: the entry's database, where one was told, or as before if the entry was skipped; and after an error nothing
-abbrev pub told_after_entry : Option (List Slot) → Entry → Result Caught CellError → Option (List Slot)
-told_after_entry told e (Ok Skipped) = told
-told_after_entry told e (Ok (Did o)) = option_map (λ db. (step db e).db) told
-told_after_entry told e (Err d) = None
+-- what is told then: the entry's database, where one was told, or as before if the entry was skipped; and after an error nothing, or after want of memory maybe as before
+abbrev pub TellsAfterEntry : Option (List Slot) → Entry → Result Caught CellError → Option (List Slot) → Type 0
+TellsAfterEntry before e (Ok Skipped) now = now ≡ before
+TellsAfterEntry before e (Ok (Did o)) now = now ≡ option_map (λ db. (step db e).db) before
+TellsAfterEntry before e (Err errors.Failed) now = now ≡ None
+TellsAfterEntry before e (Err errors.Starved) now = (now ≡ None) ⊎ (now ≡ before)
 
 -- what a cell may answer to an entry
 abbrev pub IsCaught : Caught → Type 0
@@ -79,7 +97,7 @@ IsCaught Skipped = Unit {0}
 IsCaught (Did o) = IsOutcome o
 
 -- a fault is counted exactly where the cell answers that its backend failed
-abbrev pub HasCellCause : ℕ → ℕ → Result Caught CellError → Type 0
+abbrev pub HasCellCause : {T : Type 0} → ℕ → ℕ → Result T CellError → Type 0
 HasCellCause before now result = CountsFault (IsErrOf result errors.Failed) before now
 
 -- where its backend was asked, an armed one failed and is no longer armed; one that was not asked stays as it was
@@ -91,6 +109,11 @@ pub record SpendsArmingIf (asked : Bool) (failed : Type 0) (before now : Arming)
 abbrev pub error_of : BackendError → CellError
 error_of backend_errors.Failed = errors.Failed
 error_of backend_errors.NoMemory = errors.Starved
+
+-- what a cell keeps of the transactions begun is what its backend has begun, unless the cell is out: then it keeps none
+abbrev pub KeepsBegun : Option ℕ → List ℕ → List ℕ → Type 0
+KeepsBegun None kept begun = kept ≡ []
+KeepsBegun (Some p) kept begun = begun ≡ kept
 
 -- ---- reading
 
@@ -109,6 +132,14 @@ is_asked (Err read_errors.Out) = false
 is_asked (Err (read_errors.Behind p)) = false
 is_asked (Err read_errors.Failed) = true
 is_asked (Err read_errors.NoMemory) = true
+
+-- where its backend answered, the login of the last call is the one given, and where it failed maybe the one before; else it is as before
+abbrev pub LogsInForRead : Option (List ℕ) → List ℕ → Result (Asked × ℕ) CellReadError → Option (List ℕ) → Type 0
+LogsInForRead before given (Ok answer) now = now ≡ Some given
+LogsInForRead before given (Err read_errors.Out) now = now ≡ before
+LogsInForRead before given (Err (read_errors.Behind p)) now = now ≡ before
+LogsInForRead before given (Err read_errors.Failed) now = (now ≡ Some given) ⊎ (now ≡ before)
+LogsInForRead before given (Err read_errors.NoMemory) now = now ≡ before
 
 abbrev pub read_error_of : BackendError → CellReadError
 read_error_of backend_errors.Failed = read_errors.Failed

@@ -1,22 +1,31 @@
 //! A backend with its place among the backends and its position of the log.
 
-ghost use Rattle.std.specs.Prelude.{◌≡◌, ◌↔◌, ◌<◌, ◌≤◌, ℕ, not, Some, None, Ok, Err, IfOk};
+ghost use Rattle.std.specs.Prelude.{◌≡◌, ◌⊎◌, ◌↔◌, ◌<◌, ◌≤◌, ◌==◌, ℕ, [], not, true, false, filter, Some, None, Ok, Err, IfOk, IfSome, OnOk, is_err};
+ghost use Rattle.cj_model.specs.declared.request.Act.TheVariants as act;
 ghost use Rattle.cj_model.specs.declared.request.Request.TheVariants as request;
+ghost use Rattle.cj_model.specs.Cluster.Placements as placements;
+ghost use Rattle.cj_model.specs.Database.Storable.{IsStorable};
 ghost use Rattle.cj_model.specs.Sql.WrittenRequests.{IsWritten};
 ghost use Rattle.cj_model.specs.Sql.PlainRequests.{request_of};
-ghost use Rattle.cj_cluster.specs.Proving.Invariants.{IsLoneEntry};
 ghost use Rattle.cj_model.specs.Database.Outcomes.{IsOutcome, IsAsked};
+ghost use Rattle.cj_cluster.specs.History.Transactions.{has_begun, begun_after};
+ghost use Rattle.cj_replica.specs.Calls.{CanCarryOut, LogsInAt, SaysCarried, TellsAfter, TellsCarried, begun_at_write};
+ghost use Rattle.cj_replica.specs.Cells.{HasCellCause, SpendsArmingIf};
 ghost use Rattle.cj_backend.specs.Backends as backends;
 
 use cj_backend::{Backend, BackendError};
-use cj_model::{Act, Asked, Entry, Outcome, Select, Text};
+use cj_model::{Act, Asked, Db, Entry, Name, Outcome, Select, Text, Write, has_bit};
+use cj_place::Placement;
+use cj_usage::written;
+use std::alloc::Global;
 use std::marker::Model;
+use std::mem;
 use thiserror::Error;
 
 /// What a cell did with an entry.
 #[derive(Clone, Copy, Debug, PartialEq, Eq)]
 pub enum Caught {
-    /// Its backend hosts no table that the entry concerns.
+    /// Its backend has no part in the entry.
     Skipped,
     /// Its backend carried the entry out.
     Did(Outcome),
@@ -27,7 +36,7 @@ pub enum Caught {
 pub enum CellError {
     #[error("the backend failed")]
     Failed,
-    /// The backend wanted memory.
+    /// The backend wanted memory, or the cell did to begin a transaction.
     #[error("out of memory")]
     Starved,
 }
@@ -81,62 +90,101 @@ impl From<BackendError> for CellReadError {
 pub struct Cell<B: Backend> {
     /// The backend's number.
     b: u8,
-    /// How many backends there are.
-    backends: u8,
+    placement: Placement,
     position: Option<u64>,
+    /// The transactions that the backend has begun and not ended; none where it is out.
+    begun: Vec<u64>,
     backend: B,
 }
 
 impl<B: Backend> Model for Cell<B> {
-    ghost use Rattle.cj_replica.specs.Cells.{CellState};
+    ghost use Rattle.cj_replica.specs.Cells.{CellState, KeepsBegun};
+    ghost use Rattle.cj_place.specs.Layouts.{placement_of};
 
     ghost Value = { CellState };
 
-    ghost view = { λ c. record { b = c.b; backends = c.backends; position = c.position; told = B.told c.backend; faults = B.faults c.backend; asks = B.asks c.backend; arming = B.arming c.backend } };
+    ghost view = { λ c. record { b = c.b; placement = placement_of c.placement; position = c.position; begun = c.begun.items; login = B.login c.backend; told = B.told c.backend; faults = B.faults c.backend; asks = B.asks c.backend; arming = B.arming c.backend } };
+
+    ghost invariant = { λ c. KeepsBegun c.position c.begun.items (B.begun c.backend) };
 }
 
 impl<B: Backend> Cell<B> {
-    ghost use Rattle.cj_replica.specs.Cells.{HasCellCause, HasCellReadCause, IsCaught, IsNextEntry, SaysReadAnswer, SaysEntryOutcome, SpendsArmingIf, is_asked, is_concerned, is_skipped, position_after, told_after_entry};
+    ghost use Rattle.cj_replica.specs.Cells.{HasCellReadCause, IsCaught, IsNextEntry, KeepsBegun, LogsInForEntry, LogsInForRead, SaysReadAnswer, SaysEntryOutcome, TellsAfterEntry, begun_after_entry, is_asked, is_skipped, position_after, takes_part_in_entry};
+    ghost use Rattle.cj_place.specs.Layouts.{placement_of};
 
-    /// Backend `b` of so many, which has taken no entry.
-    pub fn new(b: u8, backends: u8, backend: B) -> Cell<B>
-        ensures { result ≡ record { b = b; backends = backends; position = Some 0; told = B.told backend; faults = B.faults backend; asks = B.asks backend; arming = B.arming backend } }
+    /// Backend `b` of the placement, which has taken no entry.
+    pub fn new(alloc: Global, b: u8, placement: Placement, backend: B) -> Cell<B>
+        requires { B.begun backend ≡ [] }
+        ensures { result ≡ record { b = b; placement = placement_of placement; position = Some 0; begun = []; login = B.login backend; told = B.told backend; faults = B.faults backend; asks = B.asks backend; arming = B.arming backend } }
     {
         Cell {
             b,
-            backends,
+            placement,
             position: Some(0),
+            begun: Vec::new(alloc),
             backend,
         }
     }
 
-    /// Takes entry `n`, the next, under this login.
+    fn hosts(&self, table: &Name) -> bool
+        ensures { result ≡ placements.hosts self.now.placement self.now.b table.now }
+    {
+        self.b < self.placement.count() && has_bit(self.placement.hosts(table), self.b)
+    }
+
+    fn takes_part(&self, e: &Entry) -> bool
+        ensures { result ≡ takes_part_in_entry self.now e.now }
+    {
+        match written(&e.act) {
+            Some(table) => self.hosts(table),
+            None => !matches!(e.act, Act::Begin) && is_begun(self.begun.as_slice(), e.tx),
+        }
+    }
+
+    /// Takes entry `n`, the next, under this login. An entry in which its backend has no part is
+    /// skipped, and takes no memory. A transaction begins there with its first write of a table that
+    /// the backend hosts.
     pub fn catch_up(&mut self, n: u64, e: &Entry, login: &Text) -> Result<Caught, CellError>
         requires next { IsNextEntry self.old.position n }
         requires written { IsWritten (request_of e.now.act) }
-        requires lone { IsLoneEntry e.now e.now.act }
 
-        ensures concerned { is_concerned self.old e.now ≡ not (is_skipped result) }
+        ensures part { takes_part_in_entry self.old e.now ≡ not (is_skipped result) }
         ensures outcome { SaysEntryOutcome self.old.told e.now result }
         ensures possible { IfOk result IsCaught }
         ensures cause { HasCellCause self.old.faults self.new.faults result }
         ensures asks { self.new.asks ≡ self.old.asks }
         ensures arming { SpendsArmingIf (not (is_skipped result)) (result ≡ Err CellError.Failed) self.old.arming self.new.arming }
+        ensures login { LogsInForEntry self.old.login login.now result self.new.login }
+        ensures begun { self.new.begun ≡ begun_after_entry self.old.begun e.now result }
 
-        ensures told { self.new.told ≡ told_after_entry self.old.told e.now result }
+        ensures told { TellsAfterEntry self.old.told e.now result self.new.told }
         ensures position { self.new.position ≡ position_after n result }
         ensures b { self.new.b ≡ self.old.b }
-        ensures backends { self.new.backends ≡ self.old.backends }
+        ensures placement { self.new.placement ≡ self.old.placement }
     {
-        if self.b >= self.backends {
+        if !self.takes_part(e) {
             self.position = Some(n);
             return Ok(Caught::Skipped);
         }
-        // It is out until its backend has carried the entry out.
+        // It is out, and has begun nothing, until its backend has carried the entry out.
         self.position = None;
-        let outcome = carry_out(&mut self.backend, e, login)?;
+        let none = Vec::new(*self.begun.allocator());
+        let mut begun = mem::replace(&mut self.begun, none);
+        let outcome = carry_out(&mut self.backend, &mut begun, e, login)?;
+        self.begun = begun;
         self.position = Some(n);
         Ok(Caught::Did(outcome))
+    }
+
+    /// What its backend holds, drafts included. Nothing is changed by it.
+    pub fn contents(&mut self) -> Result<Db, CellError>
+        ensures contents { IfOk result (λ db. IfSome self.old.told (λ held. db ≡ held)) }
+        ensures storable { IfOk result IsStorable }
+        ensures cause { HasCellCause self.old.faults self.new.faults result }
+        ensures arming { SpendsArmingIf true (result ≡ Err CellError.Failed) self.old.arming self.new.arming }
+        ensures same { self.new ≡ record self.old { faults = self.new.faults; arming = self.new.arming } }
+    {
+        Ok(self.backend.contents()?)
     }
 
     /// Answers a query of transaction `tx`, 0 for none, at a position not below `least`, and says
@@ -158,7 +206,8 @@ impl<B: Backend> Cell<B> {
         ensures cause { HasCellReadCause self.old.faults self.new.faults result }
         ensures asks { self.new.asks ≡ backends.asks_after self.old.asks result }
         ensures arming { SpendsArmingIf (is_asked result) (result ≡ Err CellReadError.Failed) self.old.arming self.new.arming }
-        ensures same { self.new ≡ record self.old { faults = self.new.faults; asks = self.new.asks; arming = self.new.arming } }
+        ensures login { LogsInForRead self.old.login login.now result self.new.login }
+        ensures same { self.new ≡ record self.old { login = self.new.login; faults = self.new.faults; asks = self.new.asks; arming = self.new.arming } }
     {
         let Some(position) = self.position else {
             return Err(CellReadError::Out);
@@ -183,6 +232,8 @@ impl<B: Backend> Cell<B> {
         ensures faults { B.faults result.now ≡ self.now.faults }
         ensures asks { B.asks result.now ≡ self.now.asks }
         ensures arming { B.arming result.now ≡ self.now.arming }
+        ensures login { B.login result.now ≡ self.now.login }
+        ensures begun { KeepsBegun self.now.position self.now.begun (B.begun result.now) }
     {
         &self.backend
     }
@@ -200,29 +251,114 @@ impl<B: Backend> Cell<B> {
         ensures faults { B.faults result ≡ self.faults }
         ensures asks { B.asks result ≡ self.asks }
         ensures arming { B.arming result ≡ self.arming }
+        ensures login { B.login result ≡ self.login }
+        ensures begun { KeepsBegun self.position self.begun (B.begun result) }
     {
         let Cell { backend, .. } = self;
         backend
     }
 }
 
-/// Carries out an entry outside a transaction.
-fn carry_out<B: Backend>(backend: &mut B, e: &Entry, login: &Text) -> Result<Outcome, BackendError>
-    requires written { IsWritten (request_of e.now.act) }
-    requires lone { IsLoneEntry e.now e.now.act }
-    ensures outcome { backends.SaysOutcome (B.told backend.old) e.now.tx e.now.act result }
-    ensures possible { IfOk result IsOutcome }
-    ensures told { B.told backend.new ≡ backends.told_after (B.told backend.old) e.now.tx e.now.act result }
-    ensures cause { backends.HasBackendCause (B.faults backend.old) (B.faults backend.new) result }
+fn is_begun(begun: &[u64], tx: u64) -> bool
+    ensures { result ≡ has_begun begun.now tx }
+{
+    begun.iter().any(|other| *other == tx)
+}
+
+fn forget(begun: &mut Vec<u64>, tx: u64)
+    ensures { begun.new.items ≡ filter (λ t. not (t == tx)) begun.old.items }
+{
+    begun.retain(|other| *other != tx);
+}
+
+/// Begins a transaction at its backend, unless it is none or has begun there.
+#[tactic(auto, using(crate::proofs::Begun::contains_begun))]
+fn begin_once<B: Backend>(
+    backend: &mut B,
+    begun: &mut Vec<u64>,
+    tx: u64,
+    login: &Text,
+) -> Result<(), CellError>
+    requires kept { B.begun backend.old ≡ begun.old.items }
+    ensures begun { OnOk result (begun.new.items ≡ begun_at_write begun.old.items tx) }
+    ensures kept { OnOk result (B.begun backend.new ≡ begun.new.items) }
+    ensures ready { OnOk result (backends.IsBegun (B.begun backend.new) tx) }
+    ensures told { TellsAfter (B.told backend.old) (B.told backend.old) result (B.told backend.new) }
+    ensures cause { HasCellCause (B.faults backend.old) (B.faults backend.new) result }
     ensures asks { B.asks backend.new ≡ B.asks backend.old }
-    ensures arming { backends.SpendsArming (B.arming backend.old) (B.arming backend.new) result }
+    ensures arming { SpendsArmingIf (is_err result) (result ≡ Err CellError.Failed) (B.arming backend.old) (B.arming backend.new) }
+    ensures login { (B.login backend.new ≡ Some login.now) ⊎ (B.login backend.new ≡ B.login backend.old) }
+{
+    if tx == 0 || is_begun(begun.as_slice(), tx) {
+        return Ok(());
+    }
+    // The backend comes before the list: an armed one fails, also where memory is wanting.
+    backend.begin(login, tx)?;
+    match begun.push(tx) {
+        Ok(()) => Ok(()),
+        Err(_) => Err(CellError::Starved),
+    }
+}
+
+/// Carries out a write, with which its transaction begins if it has not begun there.
+fn write_at<B: Backend>(
+    backend: &mut B,
+    begun: &mut Vec<u64>,
+    tx: u64,
+    write: &Write,
+    login: &Text,
+) -> Result<Outcome, CellError>
+    requires kept { B.begun backend.old ≡ begun.old.items }
+    requires written { IsWritten (request.Write write.now) }
+    ensures begun { OnOk result (begun.new.items ≡ begun_at_write begun.old.items tx) }
+    ensures kept { OnOk result (B.begun backend.new ≡ begun.new.items) }
+    ensures outcome { SaysCarried (B.told backend.old) tx (act.Write write.now) result }
+    ensures possible { IfOk result IsOutcome }
+    ensures told { TellsCarried (B.told backend.old) tx (act.Write write.now) result (B.told backend.new) }
+    ensures cause { HasCellCause (B.faults backend.old) (B.faults backend.new) result }
+    ensures asks { B.asks backend.new ≡ B.asks backend.old }
+    ensures arming { SpendsArmingIf true (result ≡ Err CellError.Failed) (B.arming backend.old) (B.arming backend.new) }
+    ensures login { LogsInAt (B.login backend.old) login.now result (B.login backend.new) }
+{
+    begin_once(backend, begun, tx, login)?;
+    Ok(backend.write(login, tx, write)?)
+}
+
+/// Carries out the act of an entry that its backend takes part in.
+#[tactic(auto, using(crate::proofs::Begun::contains_begun))]
+fn carry_out<B: Backend>(
+    backend: &mut B,
+    begun: &mut Vec<u64>,
+    e: &Entry,
+    login: &Text,
+) -> Result<Outcome, CellError>
+    requires kept { B.begun backend.old ≡ begun.old.items }
+    requires part { CanCarryOut begun.old.items e.now.tx e.now.act }
+    requires written { IsWritten (request_of e.now.act) }
+    ensures begun { OnOk result (begun.new.items ≡ begun_after begun.old.items e.now.tx e.now.act) }
+    ensures kept { OnOk result (B.begun backend.new ≡ begun.new.items) }
+    ensures outcome { SaysCarried (B.told backend.old) e.now.tx e.now.act result }
+    ensures possible { IfOk result IsOutcome }
+    ensures told { TellsCarried (B.told backend.old) e.now.tx e.now.act result (B.told backend.new) }
+    ensures cause { HasCellCause (B.faults backend.old) (B.faults backend.new) result }
+    ensures asks { B.asks backend.new ≡ B.asks backend.old }
+    ensures arming { SpendsArmingIf true (result ≡ Err CellError.Failed) (B.arming backend.old) (B.arming backend.new) }
+    ensures login { LogsInAt (B.login backend.old) login.now result (B.login backend.new) }
 {
     match &e.act {
-        Act::Write(write) => backend.write(login, e.tx, write),
-        Act::Create(create) => backend.create(login, create),
-        Act::Drop(table) => backend.drop_table(login, table),
+        Act::Write(write) => write_at(backend, begun, e.tx, write, login),
+        Act::Create(create) => Ok(backend.create(login, create)?),
+        Act::Drop(table) => Ok(backend.drop_table(login, table)?),
+        Act::Commit => {
+            backend.commit(login, e.tx)?;
+            forget(begun, e.tx);
+            Ok(Outcome::Done(0))
+        }
+        Act::Abort => {
+            backend.abort(login, e.tx)?;
+            forget(begun, e.tx);
+            Ok(Outcome::Done(0))
+        }
         Act::Begin => unreachable!(),
-        Act::Commit => unreachable!(),
-        Act::Abort => unreachable!(),
     }
 }
