@@ -12,76 +12,90 @@ use Rattle.cj_cluster.specs.declared.event.Event.TheVariants.{ReadFailed}
 use Rattle.cj_cluster.specs.declared.moves.OpenSession.{OpenSession}
 use Rattle.cj_model.specs.Database.Queries.{ask}
 use Rattle.cj_model.specs.Database.Outcomes.{IsAsked}
-use Rattle.cj_model.specs.Cluster.Placements.{everywhere}
+use Rattle.cj_model.specs.Cluster.Placements.{part, hosts_all}
 use Rattle.cj_cluster.specs.History.Histories.{log, events_left, database_after}
 use Rattle.cj_cluster.specs.Moves.Cores.{position_at, session_at}
-use Rattle.cj_cluster.specs.Moves.Moves.{read_number, IsFarEnough}
+use Rattle.cj_cluster.specs.Moves.Moves.{open_tx, read_number, IsFarEnough}
 use Rattle.cj_cluster.specs.Proving.Invariants.{CoreInvariant, HoldsPart}
-use Rattle.cj_cluster.proofs.Soundness.{no_tx}
+use Rattle.cj_model.proofs.PartLaws.{ask_part}
 use Rattle.cj_outside.specs.Causes.{CountsFault, next}
 use Rattle.cj_book.specs.Books.{BookState, with_event, HasNoRoomForOne}
+use Rattle.cj_place.specs.Layouts.{Layout, placement_of}
 use Rattle.cj_replica.specs.declared.cell.CellReadError.{CellReadError}
 use Rattle.cj_replica.specs.declared.cell.CellReadError.TheVariants as errors
-use Rattle.cj_replica.specs.Cells.{CellState, SaysReadAnswer}
+use Rattle.cj_backend.specs.Backends.{asks_after, spent}
+use Rattle.cj_replica.specs.Cells.{CellState, SaysReadAnswer, HasCellReadCause, SpendsArmingIf, is_asked, LogsInForRead}
 use Rattle.cj_cluster.proofs.Standing.{stand_rest}
 use Rattle.cj_core.specs.Worlds.{core_of, world_of, IsCell}
 use Rattle.cj_core.specs.declared.cells.AskError.{AskError}
 use Rattle.cj_core.specs.declared.cells.AskError.TheVariants as ask_errors
 use Rattle.cj_core.specs.Effects.{Asks, Notes, asked_core, failed_asked}
 use Rattle.cj_core.specs.Kept.{Kept}
-use Rattle.cj_core.proofs.Keeping.{position_of, position_within, cells_set}
-use Rattle.cj_core.proofs.Catching.{part_all}
+use Rattle.cj_core.proofs.CellsKept.{position_of, begun_of, position_within, cells_set}
 
-module _ (tells : Bool) (n : ℕ) (h : List Event) (cells : List CellState) (f s : ℕ) (ss : List OpenSession) (g : ℕ) (first_outcome : Option Outcome) (kept : Kept tells (world_of n h cells f s ss g) first_outcome)
+module _ (tells : Bool) (l : Layout) (h : List Event) (cells : List CellState) (f s : ℕ) (ss : List OpenSession) (g : ℕ) (numbers : List ℕ) (first_outcome : Option Outcome) (kept : Kept tells (world_of l h cells f s ss g) numbers first_outcome)
     (b : ℕ) (lt : b < length cells) (x : CellState) (there : x ≡ get_or cells b x) where
-  place : position_at (core_of n h cells f s ss g) b ≡ x.position
+  place : position_at (core_of l h cells f s ss g) b ≡ x.position
   place = position_of cells b x lt ∙ ap (λ (z : CellState). z.position) (sym there)
 
-  module _ (y : CellState) (same : y ≡ record x { faults = y.faults; asks = y.asks; arming = y.arming }) where
+  begins : get_or (map (λ (z : CellState). z.begun) cells) b [] ≡ x.begun
+  begins = begun_of cells b x lt ∙ ap (λ (z : CellState). z.begun) (sym there)
+
+  module _ (y : CellState) (same : y ≡ record x { login = y.login; faults = y.faults; asks = y.asks; arming = y.arming }) where
     -- no position changes
     same_places : map (λ (z : CellState). z.position) (set cells b y) ≡ map (λ (z : CellState). z.position) cells
     same_places =
         map-set (λ (z : CellState). z.position) cells b y
         ∙ (ap (set (map (λ (z : CellState). z.position) cells) b) (ap (λ (z : CellState). z.position) same ∙ sym place) ∙ set-get_or (map (λ (z : CellState). z.position) cells) b None)
 
-    -- nor anything of the core
-    pub same_core : core_of n h (set cells b y) f s ss g ≡ core_of n h cells f s ss g
-    same_core = ap (λ (ps : List (Option ℕ)). record (core_of n h cells f s ss g) { positions = ps }) same_places
+    -- and no transaction begins or ends
+    same_begun : map (λ (z : CellState). z.begun) (set cells b y) ≡ map (λ (z : CellState). z.begun) cells
+    same_begun =
+        map-set (λ (z : CellState). z.begun) cells b y
+        ∙ (ap (set (map (λ (z : CellState). z.begun) cells) b) (ap (λ (z : CellState). z.begun) same ∙ sym begins) ∙ set-get_or (map (λ (z : CellState). z.begun) cells) b [])
 
-    is_cell : IsCell tells n (log h) b y
+    -- so nothing changes of the core
+    pub same_core : core_of l h (set cells b y) f s ss g ≡ core_of l h cells f s ss g
+    same_core =
+        ap (λ (ps : List (Option ℕ)). record (core_of l h cells f s ss g) { positions = ps; begun = map (λ (z : CellState). z.begun) (set cells b y) }) same_places
+        ∙ ap (λ (ts : List (List ℕ)). record (core_of l h cells f s ss g) { begun = ts }) same_begun
+
+    is_cell : IsCell tells (placement_of l) (log h) b y
     is_cell =
-        let was : IsCell tells n (log h) b x = subst (IsCell tells n (log h) b) (sym there) (kept.world.cells b x lt) in
-        subst (IsCell tells n (log h) b) (sym same) (record { number = was.number; backends = was.backends; holds = was.holds })
+        let was : IsCell tells (placement_of l) (log h) b x = subst (IsCell tells (placement_of l) (log h) b) (sym there) (kept.world.cells b x lt) in
+        subst (IsCell tells (placement_of l) (log h) b) (sym same) (record { number = was.number; placement = was.placement; holds = was.holds })
 
-    pub kept_asked : Kept tells (world_of n h (set cells b y) f s ss g) first_outcome
+    pub kept_asked : Kept tells (world_of l h (set cells b y) f s ss g) numbers first_outcome
     kept_asked =
         record {
           world =
               record {
                 sound = subst CoreInvariant (sym same_core) kept.world.sound;
-                full = refl;
+                named = kept.world.named;
                 few = kept.world.few;
                 positions = refl;
-                cells = cells_set tells n (log h) cells b y is_cell kept.world.cells;
-                between = stand_rest (core_of n h cells f s ss g) (map (λ (z : CellState). z.position) (set cells b y)) f s kept.world.between;
+                begun = refl;
+                cells = cells_set tells (placement_of l) (log h) cells b y is_cell kept.world.cells;
+                between =
+                    stand_rest (core_of l h cells f s ss g) (map (λ (z : CellState). z.position) (set cells b y)) (map (λ (z : CellState). z.begun) (set cells b y)) f s kept.world.between;
               };
+          numbers_are = kept.numbers_are;
           served = kept.served;
           right = kept.right;
-          whole = λ fr k on end. kept.whole fr k on (ap (λ ps. get_or ps k None) (sym same_places) ∙ end);
+          whole = λ e k running part on end. kept.whole e k running part on (ap (λ ps. get_or ps k None) (sym same_places) ∙ end);
         }
 
   -- what it answered
-  module _ (number : ℕ) (select : Select) (least : ℕ) (is_least : least ≡ (session_at (core_of n h cells f s ss g) number).least) where
+  module _ (number : ℕ) (select : Select) (least : ℕ) (is_least : least ≡ (session_at (core_of l h cells f s ss g) number).least) where
     -- what a cell that isn't out tells
-    told : (p : ℕ) → x.position ≡ Some p → tells ≡ true → x.told ≡ Some (database_after (log h) p)
-    told p is on =
-        let cell : IsCell tells n (log h) b x = subst (IsCell tells n (log h) b) (sym there) (kept.world.cells b x lt) in
-        let below : b < n = subst (λ (m : ℕ). b < m) kept.world.sound.cells (subst (λ (m : ℕ). b < m) (sym (length-map cells (λ (z : CellState). z.position))) lt) in
-        subst (λ (q : Option ℕ). HoldsPart tells (everywhere n) b (log h) x.told q) is cell.holds on ∙ ap (λ db. Some db) (part_all n b (database_after (log h) p) below)
+    told : (p : ℕ) → x.position ≡ Some p → tells ≡ true → x.told ≡ Some (part (placement_of l) b (database_after (log h) p))
+    told p is =
+        let cell : IsCell tells (placement_of l) (log h) b x = subst (IsCell tells (placement_of l) (log h) b) (sym there) (kept.world.cells b x lt) in
+        subst (λ (q : Option ℕ). HoldsPart tells (placement_of l) b (log h) x.told q) is cell.holds
 
     -- a cell that is neither out nor below what the session has seen
     far_enough : (r : Result (Asked × ℕ) CellReadError) → r ≡ Err errors.Failed → (q : Option ℕ) → x.position ≡ q → ((r ≡ Err errors.Out) ↔ (x.position ≡ None))
-        → ((p : ℕ) → (r ≡ Err (errors.Behind p)) ↔ ((x.position ≡ Some p) × (p < least))) → IsFarEnough (core_of n h cells f s ss g) number b
+        → ((p : ℕ) → (r ≡ Err (errors.Behind p)) ↔ ((x.position ≡ Some p) × (p < least))) → IsFarEnough (core_of l h cells f s ss g) number b
     far_enough r failed None is out behind = let e = out.1 is in absurd (cc (failed, e))
     far_enough r failed (Some p) is out behind =
         record {
@@ -92,34 +106,36 @@ module _ (tells : Bool) (n : ℕ) (h : List Event) (cells : List CellState) (f s
               (λ (le : least ≤ p). subst (λ (m : ℕ). m ≤ p) is_least le) (cases_lt p least);
         }
 
-    pub answers : (answer : Asked) (p : ℕ) → SaysReadAnswer x.told 0 select answer → IsAsked answer → x.position ≡ Some p → least ≤ p → Asks tells (core_of n h cells f s ss g) number b select (Ok (answer, p))
-    answers answer p says possible position owed = (
+    -- the session's query, of which it hosts each table
+    pub answers : (tx : ℕ) → tx ≡ open_tx (core_of l h cells f s ss g) number → hosts_all (placement_of l) b select.tables ≡ true → (answer : Asked) (p : ℕ) → SaysReadAnswer x.told tx select answer → IsAsked answer
+        → x.position ≡ Some p → least ≤ p → Asks tells (core_of l h cells f s ss g) number b select (Ok (answer, p))
+    answers tx is_tx hosts answer p says possible position owed = (
       place ∙ position,
       subst (λ (m : ℕ). m ≤ p) is_least owed,
-      position_within (core_of n h cells f s ss g) kept.world.sound b p (place ∙ position),
+      position_within (core_of l h cells f s ss g) kept.world.sound b p (place ∙ position),
       possible,
       λ on.
-          let a : answer ≡ ask (database_after (log h) p) 0 select = subst (λ (t : Option (List Slot)). IfSome t (λ db. answer ≡ ask db 0 select)) (told p position on) says in
-          a ∙ ap (λ tx. ask (database_after (log h) p) tx select) (sym (no_tx (core_of n h cells f s ss g) number kept.world.sound)),
+          let a : answer ≡ ask (part (placement_of l) b (database_after (log h) p)) tx select = subst (λ (t : Option (List Slot)). IfSome t (λ db. answer ≡ ask db tx select)) (told p position on) says in
+          a ∙ (ask_part (placement_of l) b (database_after (log h) p) tx select hosts ∙ ap (λ t. ask (database_after (log h) p) t select) is_tx),
     )
 
     -- or why it did not
     pub errs : (old new : BookState) (q : ℕ) (d : CellReadError) (e : AskError) → old.history ≡ h → Notes old number q b d e new → (IsErrOf {T = Asked × ℕ} (Err d) errors.Out ↔ (x.position ≡ None))
-        → ((p : ℕ) → IsErrOf {T = Asked × ℕ} (Err d) (errors.Behind p) ↔ ((x.position ≡ Some p) × (p < least))) → Asks tells (core_of n h cells f s ss g) number b select (Err e)
-    errs old new q errors.Out e is notes out behind = subst (λ (d : AskError). Asks tells (core_of n h cells f s ss g) number b select (Err d)) (sym notes.0) (place ∙ out.0 refl)
+        → ((p : ℕ) → IsErrOf {T = Asked × ℕ} (Err d) (errors.Behind p) ↔ ((x.position ≡ Some p) × (p < least))) → Asks tells (core_of l h cells f s ss g) number b select (Err e)
+    errs old new q errors.Out e is notes out behind = subst (λ (d : AskError). Asks tells (core_of l h cells f s ss g) number b select (Err d)) (sym notes.0) (place ∙ out.0 refl)
     errs old new q (errors.Behind p) e is notes out behind =
         let early = (behind p).0 refl in
-        subst (λ (d : AskError). Asks tells (core_of n h cells f s ss g) number b select (Err d)) (sym notes.0) (place ∙ early.0, subst (λ (m : ℕ). p < m) is_least early.1)
-    errs old new q errors.NoMemory e is notes out behind = subst (λ (d : AskError). Asks tells (core_of n h cells f s ss g) number b select (Err d)) (sym notes.0) tt
+        subst (λ (d : AskError). Asks tells (core_of l h cells f s ss g) number b select (Err d)) (sym notes.0) (place ∙ early.0, subst (λ (m : ℕ). p < m) is_least early.1)
+    errs old new q errors.NoMemory e is notes out behind = subst (λ (d : AskError). Asks tells (core_of l h cells f s ss g) number b select (Err d)) (sym notes.0) tt
     errs old new q errors.Failed e is notes out behind =
         let there = far_enough (Err errors.Failed) refl x.position refl out behind in
         ⊎_elim
         (λ (came : (e ≡ ask_errors.Failed) × (0 < events_left old.history) × (new ≡ with_event old (ReadFailed number q b))).
-        subst (λ (d : AskError). Asks tells (core_of n h cells f s ss g) number b select (Err d)) (sym came.0) (there, subst (λ (l : List Event). 0 < events_left l) is came.1))
+        subst (λ (d : AskError). Asks tells (core_of l h cells f s ss g) number b select (Err d)) (sym came.0) (there, subst (λ (l : List Event). 0 < events_left l) is came.1))
         (λ (full : (k : ℕ) × (e ≡ ask_errors.Unnoted k) × HasNoRoomForOne old k × (new ≡ old)).
         let none : events_left old.history < 1 = full.2.full in
         let no_room : events_left old.history ≡ 0 = omega arith in
-        subst (λ (d : AskError). Asks tells (core_of n h cells f s ss g) number b select (Err d)) (sym full.1)
+        subst (λ (d : AskError). Asks tells (core_of l h cells f s ss g) number b select (Err d)) (sym full.1)
         (there, subst (λ (l : List Event). events_left l ≡ 0) is no_room, subst (λ (l : List Event). full.0 ≡ length l) is full.2.events))
         notes
 
@@ -137,16 +153,16 @@ noting Q old new s q b errors.Failed e notes same came =
     notes
 
 -- and of the core
-pub noted_core : (cells : List CellState) (f t : ℕ) (ss : List OpenSession) (g : ℕ) (old new : BookState) (s q b : ℕ) (d : CellReadError) (e : AskError)
-    → q ≡ read_number (session_at (core_of old.backends old.history cells f t ss g) s) → Notes old s q b d e new
-    → core_of new.backends new.history cells f t ss g ≡ asked_core (core_of old.backends old.history cells f t ss g) s b (Err e)
-noted_core cells f t ss g old new s q b errors.Out e number notes = rw (notes.0, notes.1) refl
-noted_core cells f t ss g old new s q b (errors.Behind p) e number notes = rw (notes.0, notes.1) refl
-noted_core cells f t ss g old new s q b errors.NoMemory e number notes = rw (notes.0, notes.1) refl
-noted_core cells f t ss g old new s q b errors.Failed e number notes =
+pub noted_core : (cells : List CellState) (f t : ℕ) (ss : List OpenSession) (old new : BookState) (s q b : ℕ) (d : CellReadError) (e : AskError)
+    → q ≡ read_number (session_at (core_of old.layout old.history cells f t ss old.greatest) s) → Notes old s q b d e new
+    → core_of new.layout new.history cells f t ss new.greatest ≡ asked_core (core_of old.layout old.history cells f t ss old.greatest) s b (Err e)
+noted_core cells f t ss old new s q b errors.Out e number notes = rw (notes.0, notes.1) refl
+noted_core cells f t ss old new s q b (errors.Behind p) e number notes = rw (notes.0, notes.1) refl
+noted_core cells f t ss old new s q b errors.NoMemory e number notes = rw (notes.0, notes.1) refl
+noted_core cells f t ss old new s q b errors.Failed e number notes =
     ⊎_elim
     (λ (one : (e ≡ ask_errors.Failed) × (0 < events_left old.history) × (new ≡ with_event old (ReadFailed s q b))).
-    rw (one.0, one.2) (ap (λ (m : ℕ). core_of old.backends (old.history ++ ReadFailed s m b ∷ []) cells f t ss g) number))
+    rw (one.0, one.2) (ap (λ (m : ℕ). core_of old.layout (old.history ++ ReadFailed s m b ∷ []) cells f t ss old.greatest) number))
     (λ (full : (k : ℕ) × (e ≡ ask_errors.Unnoted k) × HasNoRoomForOne old k × (new ≡ old)). rw (full.1, full.3) refl)
     notes
 
@@ -175,3 +191,19 @@ noted_want old new s q b errors.Failed e notes is =
     (λ (one : (e ≡ ask_errors.Failed) × (0 < events_left old.history) × (new ≡ with_event old (ReadFailed s q b))). absurd (cc (one.0, is)))
     (λ (full : (k : ℕ) × (e ≡ ask_errors.Unnoted k) × HasNoRoomForOne old k × (new ≡ old)). absurd (cc (full.1, is)))
     notes
+
+-- then the cell is as before
+pub wanted : (x y : CellState) (r : Result (Asked × ℕ) CellReadError) → r ≡ Err errors.NoMemory → y ≡ record x { login = y.login; faults = y.faults; asks = y.asks; arming = y.arming } → HasCellReadCause x.faults y.faults r
+    → y.asks ≡ asks_after x.asks r → SpendsArmingIf (is_asked r) (r ≡ Err errors.Failed) x.arming y.arming → (given : List ℕ) → LogsInForRead x.login given r y.login → y ≡ x
+wanted x y r is same cause asks arming given logs =
+    let faults : y.faults ≡ x.faults = cause.uncounted (λ failed. cc (is, failed)) in
+    let asked : y.asks ≡ x.asks = asks ∙ ap (asks_after x.asks) is in
+    let spent_now : y.arming ≡ spent x.arming = arming.after ∙ ap (λ (q : Result (Asked × ℕ) CellReadError). cond (is_asked q) (spent x.arming) x.arming) is in
+    let unarmed : x.arming.armed ≡ false = not_armed x.arming.armed (λ on. let failed = arming.fails (ap is_asked is) on in cc (is, failed)) in
+    let armed : y.arming ≡ x.arming = spent_now ∙ ap (λ (a : Bool). record x.arming { armed = a }) (sym unarmed) in
+    let login : y.login ≡ x.login = subst (λ (q : Result (Asked × ℕ) CellReadError). LogsInForRead x.login given q y.login) is logs in
+    same ∙ (rw (faults, asked, armed, login) refl)
+  where
+    not_armed : (a : Bool) → (a ≡ true → ⊥) → a ≡ false
+    not_armed true never = absurd (never refl)
+    not_armed false never = refl

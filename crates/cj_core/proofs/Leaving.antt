@@ -59,23 +59,22 @@ module _ {X : Type 0} (told_of : X → Option (List Slot)) (faults_of : X → �
 -- ---- what they hold
 
 some_cell : CellState
-some_cell = record { b = 0; backends = 0; position = None; told = None; faults = 0; asks = 0; arming = record { armed = false; times = 0 } }
+some_cell = record { b = 0; placement = everywhere 0; position = None; begun = []; login = None; told = None; faults = 0; asks = 0; arming = record { armed = false; times = 0 } }
 
 module _ (tells : Bool) (w : WorldState) (world : IsWorld tells w) (told : List (Option (List Slot))) (is : told ≡ map (λ (x : CellState). x.told) w.cells) where
   pub are_holding : AreHolding tells w.core told
   are_holding on b p at_p =
-      let n = w.core.placement.backends in
       let there = is_there w.core.positions b p at_p in
       let long : length w.core.positions ≡ length w.cells = ap length world.positions ∙ length-map w.cells (λ (x : CellState). x.position) in
       let lt : b < length w.cells = omega arith in
       let x : CellState = get_or w.cells b some_cell in
-      let cell : IsCell tells n (log w.core.history) b x = world.cells b some_cell lt in
+      let cell : IsCell tells w.core.placement (log w.core.history) b x = world.cells b some_cell lt in
       let place : x.position ≡ Some p = sym (get_or-map (λ (z : CellState). z.position) w.cells b some_cell None lt) ∙ (ap (λ ps. get_or ps b None) (sym world.positions) ∙ at_p) in
-      let held : x.told ≡ Some (part (everywhere n) b (database_after (log w.core.history) p)) = subst (HoldsPart tells (everywhere n) b (log w.core.history) x.told) place cell.holds on in
+      let held : x.told ≡ Some (part w.core.placement b (database_after (log w.core.history) p)) = subst (HoldsPart tells w.core.placement b (log w.core.history) x.told) place cell.holds on in
       let within : b < length (map (λ (z : CellState). z.told) w.cells) = subst (λ m. b < m) (sym (length-map w.cells (λ (z : CellState). z.told))) lt in
       ap (λ l. slice_get l b) is
       ∙ (slice_get-get_or (map (λ (z : CellState). z.told) w.cells) b None within
-      ∙ ap (λ t. Some t) (get_or-map (λ (z : CellState). z.told) w.cells b some_cell None lt ∙ (held ∙ ap (λ q. Some (part q b (database_after (log w.core.history) p))) (sym world.full))))
+      ∙ ap (λ t. Some t) (get_or-map (λ (z : CellState). z.told) w.cells b some_cell None lt ∙ held))
 
   -- an enabled backend has taken the whole log, where no entry is open
   at_end : is_idle w.core.history ≡ true → (b : ℕ) → is_enabled w.core.history b ≡ true → (p : Option ℕ) → p ≡ position_at w.core b → BackendStands w.core.history w.core.failed w.core.starved b p

@@ -1,11 +1,15 @@
 pub mod Asking
 pub mod Catching
+pub mod CellsKept
 pub mod Counted
 pub mod Ending
+pub mod Giving
 pub mod Keeping
+pub mod KeepingEvents
 pub mod Leaving
 pub mod Making
 pub mod Noting
+pub mod OpenNumbers
 pub mod Reading
 pub mod Resting
 pub mod Scheduling

@@ -4,7 +4,7 @@ use mathlib.Core.List.{IsPrefix}
 use Rattle.std.proofs.lemmas.List.{take_more, map_push, length-take-le}
 use Rattle.std.proofs.lemmas.List.Elements.{All-get_or, All-take}
 use Rattle.cj_cluster.specs.declared.moves.Move.{Move}
-use Rattle.cj_cluster.specs.declared.moves.Move.TheVariants.{Open, Close, Schedule, Apply, End, Read, Arm, Disable, Replay, Enable}
+use Rattle.cj_cluster.specs.declared.moves.Move.TheVariants.{Open, Close, Schedule, Abort, Apply, End, Read, Arm, Disable, Replay, Enable}
 use Rattle.cj_cluster.specs.declared.moves.Made.{Made}
 use Rattle.cj_model.specs.Cluster.Placements.{Placement}
 use Rattle.cj_cluster.specs.History.Legality.{IsLegal}
@@ -58,6 +58,7 @@ can_ask : (c : Core) → CanCountRequests c 1 → (m : Move) → CanAsk c m
 can_ask c can (Open user) = tt
 can_ask c can (Close s) = tt
 can_ask c can (Schedule s r) = let le = can s in omega arith
+can_ask c can (Abort tx) = tt
 can_ask c can (Apply b) = tt
 can_ask c can End = tt
 can_ask c can (Read s b select) = let le = can s in omega arith

@@ -1,5 +1,5 @@
 -- What a read gives.
-use Rattle.std.proofs.Common.{◌≡◌, ◌≢◌, ◌⊎◌, inl, inr, ℕ, ◌<◌, ◌^◌, Bool, true, false, not, Option, None, Some, Ok, Err, MatchBool, refl, ap, sym, ◌∙◌, subst}
+use Rattle.std.proofs.Common.{◌≡◌, ◌≢◌, ◌⊎◌, inl, inr, ℕ, ◌<◌, ◌≤◌, ◌^◌, Bool, true, false, not, length, Option, None, Some, is_some, Ok, Err, MatchBool, refl, ap, sym, ◌∙◌, subst, arith}
 use Rattle.std.specs.Prelude.{IsTrue, ◌↔◌}
 use Rattle.std.proofs.lemmas.Bool.{both_ways}
 use Rattle.cj_model.specs.declared.select.Select.{Select}
@@ -7,28 +7,54 @@ use Rattle.cj_model.specs.declared.request.Request.TheVariants as request
 use Rattle.cj_model.specs.declared.answer.Asked.{Asked}
 use Rattle.cj_model.specs.declared.answer.Asked.TheVariants as asked
 use Rattle.cj_model.specs.declared.codes.TheConstants.{READ_FAULT, HISTORY_FULL}
+use Rattle.cj_model.specs.Cluster.Masks.{in_mask}
 use Rattle.cj_cluster.specs.declared.moves.Moved.{Moved}
 use Rattle.cj_cluster.specs.declared.moves.Moved.TheVariants as moved
 use Rattle.cj_cluster.specs.declared.moves.Reason.TheVariants as reason
 use Rattle.cj_cluster.specs.declared.moves.MoveError.TheVariants.{NotNow}
 use Rattle.cj_cluster.specs.declared.moves.OpenRead.{OpenRead}
+use Rattle.cj_cluster.specs.declared.moves.OpenSession.{OpenSession}
+use Rattle.cj_cluster.specs.History.Histories.{log}
 use Rattle.cj_cluster.specs.History.Answering.{CanServe}
-use Rattle.cj_cluster.specs.Moves.Cores.{Core, position_at, session_at}
-use Rattle.cj_cluster.specs.Moves.Moves.{MoveResult, position_or_zero, IsServingMask, ReadIsAnswered, ReadCameTooEarly, HasNoOtherRead, AttemptsRead, AttemptsReadOrWaits, with_read, answered_at, was_answered, still_reading, tried_of, tried_with}
-use Rattle.cj_model.proofs.Masks.{some_bit}
+use Rattle.cj_cluster.specs.Moves.Cores.{Core, position_at, find_session, session_at}
+use Rattle.cj_cluster.specs.Moves.Runs.{AreBetween}
+use Rattle.cj_cluster.specs.Proving.Invariants.{CoreInvariant}
+use Rattle.cj_cluster.proofs.Pushed.{prefix_self}
+use Rattle.cj_cluster.proofs.Sessions.{session_at-is}
+use Rattle.cj_cluster.proofs.Standing.{open_above, still_tried}
+use Rattle.cj_cluster.specs.Moves.Moves.{MoveResult, is_open, position_or_zero, IsServingMask, ReadIsAnswered, ReadCameTooEarly, HasOtherRead, HasNoOtherRead, AttemptsRead, AttemptsReadOrWaits, with_read, answered_at, was_answered, still_reading, tried_of, tried_with}
+use Rattle.cj_model.proofs.Masks.{has-zero, some_bit}
 use Rattle.cj_model.specs.Database.Outcomes.{IsAsked}
 use Rattle.cj_core.specs.declared.cells.AskError.TheVariants as errors
 use Rattle.cj_core.specs.Counting.{tells_fault}
-use Rattle.cj_core.specs.Effects.{Asks, asked_core, IsReadOf, IsReadOther, RefusesOrStays, answer_given}
+use Rattle.cj_core.specs.Effects.{Asks, asked_core, HaveFailed, RefusesOrStays, answer_given}
 
 -- ---- another read
 
-pub other_read : (r : OpenRead) (reading : Option OpenRead) (select : Select) (same : Bool) → reading ≡ Some r → IsTrue same ↔ (r.select ≡ select) → MatchBool (not same) (IsReadOther reading select) (IsReadOf reading select)
-other_read r reading select true is e = λ q there. (let one : r ≡ q = cc (is, there) in ap (λ (z : OpenRead). z.select) (sym one) ∙ e.0 refl)
-other_read r reading select false is e = (r, is, λ same. both_ways false refl (e.1 same))
+pub other_read : (r : OpenRead) (x : OpenSession) (select : Select) (same : Bool) → x.reading ≡ Some r → IsTrue same ↔ (r.select ≡ select) → MatchBool (not same) (HasOtherRead x select) (HasNoOtherRead x select)
+other_read r x select true is e = λ q there. (let one : r ≡ q = cc (is, there) in ap (λ (z : OpenRead). z.select) (sym one) ∙ e.0 refl)
+other_read r x select false is e = (r, is, λ same. both_ways false refl (e.1 same))
 
-pub no_other_read : (reading : Option OpenRead) (select : Select) → reading ≡ None → IsReadOf reading select
-no_other_read reading select none q there = absurd (cc (none, there))
+-- ---- what was tried
+
+-- the backends that were tried in the session's read have failed in it, and in that of no session none was tried
+pub tried_failed : (c : Core) (s : ℕ) → CoreInvariant c → AreBetween c → HaveFailed c s (tried_of (session_at c s).reading)
+tried_failed c s w between = one (find_session c.sessions s) refl
+  where
+    one : (o : Option OpenSession) → find_session c.sessions s ≡ o → HaveFailed c s (tried_of (session_at c s).reading)
+    one None is =
+        let shut : is_open c s ≡ false = ap (λ (x : Option OpenSession). is_some x) is in
+        let none : tried_of (session_at c s).reading ≡ 0 = ap (λ (x : OpenSession). tried_of x.reading) (session_at-is c s None is) in (
+          record { front = c.history; least = 0 },
+          record {
+            longer = prefix_self c.history;
+            owes = (let le : 0 ≤ length (log c.history) = omega arith in le);
+            here = λ t. absurd (both_ways (is_open c s) shut t);
+            later = λ lt. refl;
+          },
+          λ b there. absurd (both_ways (in_mask (tried_of (session_at c s).reading) b) (ap (λ m. in_mask m b) none ∙ has-zero b) there),
+        )
+    one (Some x) is = still_tried c s (open_above c s w (ap (λ (o : Option OpenSession). is_some o) is)) between
 
 -- ---- an attempt
 

@@ -1,40 +1,40 @@
 -- A world of which no backend has taken an entry, and how its backends are enabled one after another.
 use Rattle.std.proofs.Common.{◌≡◌, ◌≢◌, ℕ, zero, suc, ◌+◌, ◌^◌, ◌<◌, ◌≤◌, Bool, true, false, ◌==◌, List, [], ◌∷◌, ◌++◌, length, map, replicate, get_or, All, Option, None, Some, Err, refl, ap, sym, ◌∙◌, subst, arith, ne_eqb}
-use Rattle.std.proofs.lemmas.Bool.{both_ways}
 use Rattle.std.proofs.lemmas.List.{length-map, get_or-map, get_or-replicate, length-replicate, ext_get_or}
-use Rattle.std.proofs.lemmas.List.Elements.{All-nil, All-get_or}
+use Rattle.std.proofs.lemmas.List.Elements.{All-get_or}
 use Rattle.std.proofs.lemmas.List.FromFn.{map-range_with_len_more, length-map-range_with_len}
 use Rattle.cj_model.specs.declared.database.Slot.{Slot}
 use Rattle.cj_model.specs.declared.request.Entry.{Entry}
 use Rattle.cj_cluster.specs.declared.event.Event.{Event}
 use Rattle.cj_cluster.specs.declared.event.Event.TheVariants.{Enabled}
 use Rattle.cj_model.specs.declared.limits.TheConstants.{BACKEND_LIMIT}
-use Rattle.cj_model.specs.Cluster.Placements.{everywhere}
+use Rattle.cj_model.specs.Cluster.Placements.{Placement, everywhere}
 use Rattle.cj_cluster.specs.History.Histories.{log, ended_count, is_idle, is_enabled, events_left}
-use Rattle.cj_model.specs.Cluster.Masks.{in_mask}
 use Rattle.cj_cluster.specs.Moves.Cores.{Core, position_at}
 use Rattle.cj_cluster.specs.Moves.Moves.{happened}
-use Rattle.cj_cluster.specs.Proving.Invariants.{CoreInvariant, BackendStands, HoldsPart}
-use Rattle.cj_model.proofs.Masks.{has-zero}
+use Rattle.cj_cluster.specs.Proving.Invariants.{CoreInvariant, HoldsPart}
+use Rattle.cj_cluster.proofs.Effects.{is_there, sound_start}
 use Rattle.cj_cluster.proofs.Pushed.{enabled-push, log-same, done-same}
 use Rattle.cj_cluster.proofs.Standing.{stand_none}
 use Rattle.cj_book.specs.declared.error.BookError.{BookError}
 use Rattle.cj_book.specs.declared.error.BookError.TheVariants.{HistoryFull}
+use Rattle.cj_place.specs.Layouts.{Layout, placement_of}
 use Rattle.cj_replica.specs.Cells.{CellState}
 use Rattle.cj_core.specs.Worlds.{core_of, world_of}
 use Rattle.cj_core.specs.Effects.{HadRoom}
 use Rattle.cj_core.specs.Kept.{Kept}
-use Rattle.cj_core.specs.Starts.{IsFresh, AreFresh, AreEmpty, enables, begun}
-use Rattle.cj_core.proofs.Keeping.{position_of}
+use Rattle.cj_core.specs.Starts.{IsFresh, AreFresh, AreEmpty, enables, started, started_to}
+use Rattle.cj_core.proofs.CellsKept.{position_of, begun_of}
 
 -- ---- at rest
 
 some_cell : CellState
-some_cell = record { b = 0; backends = 0; position = None; told = None; faults = 0; asks = 0; arming = record { armed = false; times = 0 } }
+some_cell =
+    record { b = 0; placement = everywhere 0; position = None; begun = []; login = None; told = None; faults = 0; asks = 0; arming = record { armed = false; times = 0 } }
 
-module _ (n : ℕ) (cells : List CellState) (fresh : AreFresh n cells) where
-  as_many : length (map (λ (x : CellState). x.position) cells) ≡ n
-  as_many = length-map cells (λ (x : CellState). x.position) ∙ fresh.as_many
+module _ (l : Layout) (cells : List CellState) (fresh : AreFresh (placement_of l) cells) where
+  as_many : {A : Type 0} (of : CellState → A) → length (map of cells) ≡ length l.names
+  as_many of = length-map cells of ∙ fresh.as_many
 
   -- each stands before the first entry
   at_first : (b : ℕ) → b < length (map (λ (x : CellState). x.position) cells) → get_or (map (λ (x : CellState). x.position) cells) b None ≡ Some 0
@@ -42,68 +42,64 @@ module _ (n : ℕ) (cells : List CellState) (fresh : AreFresh n cells) where
       let below : b < length cells = subst (λ m. b < m) (length-map cells (λ (x : CellState). x.position)) lt in
       position_of cells b some_cell below ∙ (fresh.each b some_cell below).position
 
-  pub positions_at_rest : map (λ (x : CellState). x.position) cells ≡ replicate n (Some 0)
+  pub positions_at_rest : map (λ (x : CellState). x.position) cells ≡ replicate (length l.names) (Some 0)
   positions_at_rest =
-      ext_get_or None (map (λ (x : CellState). x.position) cells) (replicate n (Some 0)) (as_many ∙ sym (length-replicate n (Some 0)))
-      (λ b lt. at_first b lt ∙ sym (get_or-replicate n b (Some 0) None (subst (λ m. b < m) as_many lt)))
+      let count = as_many (λ (x : CellState). x.position) in
+      ext_get_or None (map (λ (x : CellState). x.position) cells) (replicate (length l.names) (Some 0)) (count ∙ sym (length-replicate (length l.names) (Some 0)))
+      (λ b lt. at_first b lt ∙ sym (get_or-replicate (length l.names) b (Some 0) None (subst (λ m. b < m) count lt)))
 
-  stands : (b : ℕ) (p : Option ℕ) → p ≡ Some 0 → BackendStands [] 0 0 b p
-  stands b p is =
-      let le : 0 ≤ 0 = omega arith in
-      subst (BackendStands [] 0 0 b) (sym is) (le, λ _. le, has-zero b, has-zero b)
+  -- and has begun no transaction
+  none_begun : (b : ℕ) → b < length (map (λ (x : CellState). x.begun) cells) → get_or (map (λ (x : CellState). x.begun) cells) b [] ≡ []
+  none_begun b lt =
+      let below : b < length cells = subst (λ m. b < m) (length-map cells (λ (x : CellState). x.begun)) lt in
+      begun_of cells b some_cell below ∙ (fresh.each b some_cell below).begun
 
-  sound_at_rest : CoreInvariant (core_of n [] cells 0 0 [] 0)
+  begun_at_rest : map (λ (x : CellState). x.begun) cells ≡ replicate (length l.names) []
+  begun_at_rest =
+      let count = as_many (λ (x : CellState). x.begun) in
+      ext_get_or [] (map (λ (x : CellState). x.begun) cells) (replicate (length l.names) []) (count ∙ sym (length-replicate (length l.names) []))
+      (λ b lt. none_begun b lt ∙ sym (get_or-replicate (length l.names) b [] [] (subst (λ m. b < m) count lt)))
+
+  sound_at_rest : CoreInvariant (core_of l [] cells 0 0 [] 0)
   sound_at_rest =
-      record {
-        legal = record { short = omega arith; each = λ k d lt. absurd (omega arith) };
-        short = omega arith;
-        one_open = (omega arith, omega arith);
-        cells = as_many;
-        hosts = λ b on. absurd (cc on);
-        stands = λ b lt. stands b (get_or (map (λ (x : CellState). x.position) cells) b None) (at_first b lt);
-        in_masks = λ b. (λ on. absurd (both_ways (in_mask 0 b) (has-zero b) on), λ on. absurd (both_ways (in_mask 0 b) (has-zero b) on));
-        clear = λ _. (refl, refl);
-        lone = All-nil _;
-        sessions = All-nil _;
-        rises = tt;
-        few = omega arith;
-        numbers = omega arith;
-        known = All-nil _;
-        log_faults = λ s q lt. refl;
-        waits = λ e is. absurd (cc is);
-      }
+      sound_start (placement_of l) (map (λ (x : CellState). x.position) cells) (map (λ (x : CellState). x.begun) cells) (as_many (λ (x : CellState). x.position)) (as_many (λ (x : CellState). x.begun))
+      (λ b q is. let at : get_or (map (λ (x : CellState). x.position) cells) b None ≡ Some 0 = at_first b (is_there (map (λ (x : CellState). x.position) cells) b q is) in cc (sym is ∙ at))
 
   told : (b : ℕ) (x : CellState) → get_or (map (λ (z : CellState). z.told) cells) b None ≡ x.told → All (λ (t : Option (List Slot)). t ≡ Some []) (map (λ (z : CellState). z.told) cells) → b < length cells → x.told ≡ Some []
   told b x is empty lt =
       let long = length-map cells (λ (z : CellState). z.told) in
       sym is ∙ All-get_or (λ (t : Option (List Slot)). t ≡ Some []) (map (λ (z : CellState). z.told) cells) b None (omega arith) empty
 
-  pub core_at_rest : core_of n [] cells 0 0 [] 0 ≡ begun n 0
-  core_at_rest = ap (λ (ps : List (Option ℕ)). record (begun n 0) { positions = ps }) positions_at_rest
+  pub core_at_rest : core_of l [] cells 0 0 [] 0 ≡ started_to (placement_of l) 0
+  core_at_rest =
+      ap (λ (ps : List (Option ℕ)). record (started_to (placement_of l) 0) { positions = ps; begun = map (λ (x : CellState). x.begun) cells }) positions_at_rest
+      ∙ ap (λ (ts : List (List ℕ)). record (started_to (placement_of l) 0) { begun = ts }) begun_at_rest
 
-  pub kept_at_rest : (tells : Bool) → n ≤ BACKEND_LIMIT → AreEmpty tells (map (λ (x : CellState). x.told) cells) → Kept tells (world_of n [] cells 0 0 [] 0) None
+  pub kept_at_rest : (tells : Bool) → length l.names ≤ BACKEND_LIMIT → AreEmpty tells (map (λ (x : CellState). x.told) cells) → Kept tells (world_of l [] cells 0 0 [] 0) [] None
   kept_at_rest tells few empty =
       record {
         world =
             record {
               sound = sound_at_rest;
-              full = refl;
+              named = refl;
               few = few;
               positions = refl;
+              begun = refl;
               cells =
                   λ b d lt.
                   let x : CellState = get_or cells b d in
-                  let f : IsFresh n b x = fresh.each b d lt in
+                  let f : IsFresh (placement_of l) b x = fresh.each b d lt in
                   record {
                     number = f.number;
-                    backends = f.backends;
-                    holds = subst (λ (p : Option ℕ). HoldsPart tells (everywhere n) b [] x.told p) (sym f.position) (λ on. told b x (get_or-map (λ (z : CellState). z.told) cells b d None lt) (empty on) lt);
+                    placement = f.placement;
+                    holds = subst (λ (p : Option ℕ). HoldsPart tells (placement_of l) b [] x.told p) (sym f.position) (λ on. told b x (get_or-map (λ (z : CellState). z.told) cells b d None lt) (empty on) lt);
                   };
-              between = stand_none (core_of n [] cells 0 0 [] 0) refl;
+              between = stand_none (core_of l [] cells 0 0 [] 0) refl;
             };
-        served = λ now. absurd (cc now);
+        numbers_are = refl;
+        served = λ e is. absurd (cc is);
         right = λ o is. absurd (cc is);
-        whole = λ now. absurd (cc now);
+        whole = λ e b is. absurd (cc is);
       }
 
 -- ---- one after another
@@ -142,16 +138,16 @@ room-enables k few =
     omega arith
 
 -- each backend has taken the whole log
-pub there-enables : (n k b : ℕ) → b < n → position_at (begun n k) b ≡ Some (length (log (enables k)))
-there-enables n k b lt = get_or-replicate n b (Some 0) None lt ∙ ap (λ (l : List Entry). Some (length l)) (sym (log-enables k))
+pub there-enables : (p : Placement) (k b : ℕ) → b < p.backends → position_at (started_to p k) b ≡ Some (length (log (enables k)))
+there-enables p k b lt = get_or-replicate p.backends b (Some 0) None lt ∙ ap (λ (l : List Entry). Some (length l)) (sym (log-enables k))
 
 -- one more is enabled
-pub happened-begun : (n k : ℕ) → happened (begun n k) (Enabled k) ≡ begun n (k + 1)
-happened-begun n k = ap (λ (h : List Event). record (begun n k) { history = h }) (sym (enables-more k))
+pub happened-started : (p : Placement) (k : ℕ) → happened (started_to p k) (Enabled k) ≡ started_to p (k + 1)
+happened-started p k = ap (λ (h : List Event). record (started p) { history = h }) (sym (enables-more k))
 
 -- there is room for as many as there can be
-pub no_room : (c : Core) (n k m : ℕ) (e : BookError) → c ≡ begun n k → k < n → n ≤ BACKEND_LIMIT → HadRoom {T = Unit {0}} c (Err e) → e ≡ HistoryFull m → ⊥
-no_room c n k m e is lt few had full =
+pub no_room : (c : Core) (p : Placement) (k m : ℕ) (e : BookError) → c ≡ started_to p k → k < p.backends → p.backends ≤ BACKEND_LIMIT → HadRoom {T = Unit {0}} c (Err e) → e ≡ HistoryFull m → ⊥
+no_room c p k m e is lt few had full =
     let none : events_left c.history ≡ 0 = (subst (λ (d : BookError). HadRoom {T = Unit {0}} c (Err d)) full had).0 in
     let begun_none : events_left (enables k) ≡ 0 = subst (λ (x : Core). events_left x.history ≡ 0) is none in
     let space = room-enables k (omega arith) in

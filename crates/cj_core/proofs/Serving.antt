@@ -1,24 +1,19 @@
 -- Who serves a query, and masks that cover one another.
-use Rattle.std.proofs.Common.{◌≡◌, ℕ, ◌-◌, ◌<◌, ◌^◌, ◌==◌, ◌&&◌, ◌||◌, not, Bool, true, false, List, [], ◌∷◌, bit_and, refl, ap, sym, ◌∙◌, subst, arith, ⊎_elim}
+use Rattle.std.proofs.Common.{◌≡◌, ℕ, ◌-◌, ◌<◌, ◌^◌, ◌==◌, ◌&&◌, ◌||◌, not, Bool, true, false, bit_and, refl, ap, sym, ◌∙◌, arith, ⊎_elim}
 use Rattle.std.specs.Prelude.{IsTrue, ◌↔◌}
 use Rattle.std.specs.Int.Bits.{or_zero_r}
 use Rattle.std.proofs.lemmas.Nat.{and_le_l}
-use Rattle.std.proofs.lemmas.Bool.{eqb-true, eq-eqb, both_ways, and_cases, not-false}
-use Rattle.cj_model.specs.declared.request.Request.{Request}
-use Rattle.cj_model.specs.Cluster.Placements.{Placement, everywhere, hosts_all, needs}
-use Rattle.cj_cluster.specs.History.Histories.{is_enabled}
+use Rattle.std.proofs.lemmas.Bool.{eqb-true, eq-eqb, both_ways, and_parts, and_cases, not-false}
+use Rattle.cj_model.specs.declared.select.Select.{Select}
+use Rattle.cj_model.specs.Cluster.Placements.{hosts_all}
 use Rattle.cj_model.specs.Cluster.Masks.{in_mask}
-use Rattle.cj_cluster.specs.History.Answering.{CanServe}
+use Rattle.cj_cluster.specs.History.Histories.{is_enabled}
+use Rattle.cj_cluster.specs.Moves.Cores.{Core}
+use Rattle.cj_cluster.specs.Moves.Moves.{IsServingMask}
 use Rattle.cj_model.proofs.Masks.{has-zero, no_bit}
 use Rattle.cj_model.proofs.MaskBits.{has_without}
-use Rattle.cj_core.specs.Worlds.{WorldState, IsWorld}
+use Rattle.cj_book.specs.Books.{BookState, placement_at, is_candidate}
 use Rattle.cj_core.specs.Effects.{Covers}
-use Rattle.cj_core.proofs.Taking.{hosts_each}
-
--- a backend hosts all tables
-hosts_all-everywhere : (n b : ℕ) (tables : List (List ℕ)) → b < n → hosts_all (everywhere n) b tables ≡ true
-hosts_all-everywhere n b [] lt = refl
-hosts_all-everywhere n b (t ∷ tables) lt = rw (hosts_each n b t lt) (hosts_all-everywhere n b tables lt)
 
 -- what is left of a mask without another
 has-and_not : (m k b : ℕ) → m < 2 ^ 32 → k < 2 ^ 32 → in_mask (bit_and m (4294967295 - k)) b ≡ (in_mask m b && not (in_mask k b))
@@ -30,11 +25,12 @@ has-and_not m k b fits lt =
     or-false true = refl
     or-false false = refl
 
--- an enabled backend serves every request
-pub serves_at : (tells : Bool) (w : WorldState) → IsWorld tells w → (r : Request) (b : ℕ) → is_enabled w.core.history b ≡ true → CanServe w.core.placement w.core.history r b
-serves_at tells w is r b on =
-    let lt : b < w.core.placement.backends = subst (λ (m : ℕ). b < m) is.sound.cells (is.sound.hosts b on) in
-    subst (λ (p : Placement). CanServe p w.core.history r b) (sym is.full) (on, hosts_all-everywhere w.core.placement.backends b (needs r) lt)
+-- the candidates of the book are the backends that serve the query
+pub candidates_serve : (c : Core) (book : BookState) (select : Select) (mask : ℕ) → c.placement ≡ placement_at book → c.history ≡ book.history
+    → ((b : ℕ) → in_mask mask b ≡ is_candidate book select.tables b) → IsServingMask c select mask
+candidates_serve c book select mask placed same is b =
+    let q : in_mask mask b ≡ (is_enabled c.history b && hosts_all c.placement b select.tables) = rw (placed, same) (is b) in
+    (λ serves. q ∙ rw (serves.0, serves.1) refl, λ on. and_parts _ _ (sym q ∙ on))
 
 -- what is left of a mask without another is nothing exactly where that covers it
 pub covers_is : (mask other : ℕ) → mask < 2 ^ 32 → other < 2 ^ 32 → IsTrue (bit_and other (4294967295 - mask) == 0) ↔ Covers mask other

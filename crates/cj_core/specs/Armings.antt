@@ -4,7 +4,7 @@ use Rattle.std.specs.declared.option.Option.{Option}
 use Rattle.std.specs.declared.option.Option.TheVariants.{None, Some}
 use Rattle.cj_outside.specs.Causes.{next}
 use Rattle.cj_cluster.specs.declared.moves.Move.{Move}
-use Rattle.cj_cluster.specs.declared.moves.Move.TheVariants.{Open, Close, Schedule, Apply, End, Read, Arm, Disable, Replay, Enable}
+use Rattle.cj_cluster.specs.declared.moves.Move.TheVariants.{Open, Close, Schedule, Abort, Apply, End, Read, Arm, Disable, Replay, Enable}
 use Rattle.cj_cluster.specs.declared.moves.Moved.TheVariants as moved
 use Rattle.cj_cluster.specs.declared.moves.MoveError.TheVariants as errors
 use Rattle.cj_cluster.specs.Moves.Moves.{MoveResult}
@@ -22,6 +22,7 @@ ArmsCell can old (Arm b) new = (d : CellState) → new ≡ armed_at can old b d
 ArmsCell can old (Open user) new = Unit {0}
 ArmsCell can old (Close s) new = Unit {0}
 ArmsCell can old (Schedule s r) new = Unit {0}
+ArmsCell can old (Abort tx) new = Unit {0}
 ArmsCell can old (Apply b) new = Unit {0}
 ArmsCell can old End new = Unit {0}
 ArmsCell can old (Read s b select) new = Unit {0}
@@ -68,6 +69,7 @@ abbrev pub armed_by : Bool → Move → MoveResult → Option ℕ
 armed_by can (Open user) g = None
 armed_by can (Close s) g = None
 armed_by can (Schedule s r) g = None
+armed_by can (Abort tx) g = None
 armed_by can (Apply b) g = None
 armed_by can End g = None
 armed_by can (Read s b select) g = None

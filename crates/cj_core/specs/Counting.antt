@@ -6,7 +6,7 @@ use Rattle.cj_outside.specs.Causes.{next}
 use Rattle.cj_cluster.specs.declared.moves.Did.{Did}
 use Rattle.cj_cluster.specs.declared.moves.Did.TheVariants as did
 use Rattle.cj_cluster.specs.declared.moves.Move.{Move}
-use Rattle.cj_cluster.specs.declared.moves.Move.TheVariants.{Open, Close, Schedule, Apply, End, Read, Arm, Disable, Replay, Enable}
+use Rattle.cj_cluster.specs.declared.moves.Move.TheVariants.{Open, Close, Schedule, Abort, Apply, End, Read, Arm, Disable, Replay, Enable}
 use Rattle.cj_cluster.specs.declared.moves.Moved.TheVariants as moved
 use Rattle.cj_cluster.specs.declared.moves.MoveError.TheVariants as errors
 use Rattle.cj_model.specs.declared.codes.TheConstants.{READ_FAULT, HISTORY_FULL}
@@ -56,6 +56,7 @@ abbrev pub blamed : Move → MoveResult → Option ℕ
 blamed (Open user) g = None
 blamed (Close s) g = None
 blamed (Schedule s r) g = None
+blamed (Abort tx) g = None
 blamed (Apply b) g = if tells_fault g then Some b else None
 blamed End g = None
 blamed (Read s b select) g = if tells_fault g then Some b else None

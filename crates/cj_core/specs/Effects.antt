@@ -2,8 +2,6 @@
 use Rattle.std.specs.Prelude.{◌≡◌, ◌≢◌, ◌⊎◌, ℕ, ◌+◌, ◌<◌, ◌≤◌, Bool, true, false, length, Result, Ok, Err}
 use Rattle.std.specs.declared.option.Option.{Option}
 use Rattle.std.specs.declared.option.Option.TheVariants.{None, Some}
-use Rattle.cj_model.specs.declared.request.Act.{Act}
-use Rattle.cj_model.specs.declared.request.Act.TheVariants as act
 use Rattle.cj_model.specs.declared.request.Entry.{Entry}
 use Rattle.cj_model.specs.declared.answer.Refusal.{Refusal}
 use Rattle.cj_model.specs.declared.answer.Reply.{Reply}
@@ -14,7 +12,6 @@ use Rattle.cj_cluster.specs.declared.moves.Moved.TheVariants as moved
 use Rattle.cj_model.specs.declared.select.Select.{Select}
 use Rattle.cj_cluster.specs.declared.event.Event.TheVariants as event
 use Rattle.cj_model.specs.declared.codes.TheConstants.{UNFINISHED, READ_FAULT, STARVED_ALL}
-use Rattle.cj_cluster.specs.declared.moves.OpenRead.{OpenRead}
 use Rattle.cj_model.specs.Database.Outcomes.{IsAsked}
 use Rattle.cj_model.specs.Sql.PlainRequests.{request_of}
 use Rattle.cj_model.specs.Database.Queries.{ask}
@@ -37,15 +34,6 @@ use Rattle.cj_core.specs.Worlds.{WorldState}
 -- the world with another core
 abbrev pub with_core : WorldState → Core → WorldState
 with_core w c = record w { core = c }
-
--- an act that is scheduled outside transactions
-abbrev pub IsChange : Act → Type 0
-IsChange act.Begin = ⊥
-IsChange (act.Write w) = Unit {0}
-IsChange (act.Create c) = Unit {0}
-IsChange (act.Drop table) = Unit {0}
-IsChange act.Commit = ⊥
-IsChange act.Abort = ⊥
 
 -- whether the entry was scheduled, or why not
 abbrev pub SchedulesAs : Core → Entry → Result ℕ BookError → Type 0
@@ -117,14 +105,6 @@ abbrev pub RefusesOrStays : Core → ℕ → Select → ℕ → ℕ → Moved �
 RefusesOrStays c s select tried serving m z =
     (Covers tried serving × (m ≡ moved.Refused (record { code = READ_FAULT; a = serving; b = 0 })) × (z ≡ with_read c s was_answered))
     ⊎ (¬ Covers tried serving × (m ≡ moved.Failed) × (z ≡ with_read c s (still_reading select tried)))
-
--- no read is open but of this query
-abbrev pub IsReadOf : Option OpenRead → Select → Type 0
-IsReadOf reading select = (r : OpenRead) → reading ≡ Some r → r.select ≡ select
-
--- a read of another query is open
-abbrev pub IsReadOther : Option OpenRead → Select → Type 0
-IsReadOther reading select = (r : OpenRead) × (reading ≡ Some r) × (r.select ≢ select)
 
 -- a backend's answer, as what a move gave
 abbrev pub answer_given : Asked → Moved

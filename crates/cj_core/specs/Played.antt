@@ -1,5 +1,5 @@
 -- Lists of moves: what each came to, and how far a list came.
-use Rattle.std.specs.Prelude.{◌≡◌, ℕ, ◌≤◌, Bool, List, [], ◌∷◌, length, take, Ok, Err}
+use Rattle.std.specs.Prelude.{◌≡◌, ℕ, ◌<◌, ◌≤◌, Bool, List, [], ◌∷◌, length, take, Ok, Err}
 use Rattle.cj_cluster.specs.declared.moves.Move.{Move}
 use Rattle.cj_cluster.specs.declared.moves.Made.{Made}
 use Rattle.cj_cluster.specs.declared.moves.Made.TheVariants as made
@@ -29,7 +29,7 @@ HaveCauses old new moves given = faults_of new.cells ≡ faults_over (faults_of 
 -- The moves were made in order, and this is what each gave. The replies to each session are a chain of turns from what it had seen.
 pub record HasRun (tells : Bool) (old : WorldState) (moves : List Move) (given : List MoveResult) (new : WorldState) : Type 0 where
   pub runs : RunsMoves tells old.core moves given new.core
-  pub chains : (s : ℕ) (a : SessionView) → IsBetweenReplies a old.core s → IsChained tells s old.core moves given new.core a
+  pub chains : (s : ℕ) (a : SessionView) → 0 < s → IsBetweenReplies a old.core s → IsChained tells s old.core moves given new.core a
   pub causes : HaveCauses old new moves given
 
 -- The first of the moves were made, and no more.

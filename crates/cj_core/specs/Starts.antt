@@ -6,7 +6,7 @@ use Rattle.std.specs.List.{range_with_len}
 use Rattle.cj_model.specs.declared.database.Slot.{Slot}
 use Rattle.cj_cluster.specs.declared.event.Event.{Event}
 use Rattle.cj_cluster.specs.declared.event.Event.TheVariants.{Enabled}
-use Rattle.cj_model.specs.Cluster.Placements.{everywhere, part}
+use Rattle.cj_model.specs.Cluster.Placements.{Placement, part}
 use Rattle.cj_cluster.specs.History.Histories.{log, is_idle, is_enabled, database_of, database_after}
 use Rattle.cj_cluster.specs.Moves.Cores.{Core, position_at}
 use Rattle.cj_replica.specs.Cells.{CellState}
@@ -15,33 +15,39 @@ use Rattle.cj_replica.specs.Cells.{CellState}
 abbrev pub enables : ℕ → List Event
 enables n = map Enabled (range_with_len 0 n)
 
--- n backends are enabled and have taken no entry, and no session was opened
-abbrev pub started : ℕ → Core
-started n =
+-- the backends of a placement are enabled and have taken no entry, and no session was opened
+abbrev pub started : Placement → Core
+started p =
     record {
-      placement = everywhere n;
-      history = enables n;
-      positions = replicate n (Some 0);
+      placement = p;
+      history = enables p.backends;
+      positions = replicate p.backends (Some 0);
+      begun = replicate p.backends [];
       failed = 0;
       starved = 0;
       sessions = [];
       greatest = 0;
     }
 
--- of n backends the first k are enabled, in the order of their numbers; else as above
-abbrev pub begun : ℕ → ℕ → Core
-begun n k = record (started n) { history = enables k }
+-- of these backends the first k are enabled, in the order of their numbers; else as above
+abbrev pub started_to : Placement → ℕ → Core
+started_to p k = record (started p) { history = enables k }
 
--- the cell of backend b, of n, which has taken no entry
-pub record IsFresh (n b : ℕ) (x : CellState) : Type 0 where
+-- the cell of backend b, which has taken no entry
+pub record IsFresh (p : Placement) (b : ℕ) (x : CellState) : Type 0 where
   pub number : x.b ≡ b
-  pub backends : x.backends ≡ n
+  pub placement : x.placement ≡ p
   pub position : x.position ≡ Some 0
+  pub begun : x.begun ≡ []
 
--- the cells of n backends by their numbers, none of which has taken an entry
-pub record AreFresh (n : ℕ) (cells : List CellState) : Type 0 where
-  pub as_many : length cells ≡ n
-  pub each : (b : ℕ) (d : CellState) → b < length cells → IsFresh n b (slice_index_or cells b d)
+-- the cells of the backends by their numbers, none of which has taken an entry
+pub record AreFresh (p : Placement) (cells : List CellState) : Type 0 where
+  pub as_many : length cells ≡ p.backends
+  pub each : (b : ℕ) (d : CellState) → b < length cells → IsFresh p b (slice_index_or cells b d)
+
+-- no backend has begun a transaction
+abbrev pub HaveBegunNone : List (List ℕ) → Type 0
+HaveBegunNone begun = All (λ (b : List ℕ). b ≡ []) begun
 
 -- backends that tell what they hold tell that they are empty
 abbrev pub AreEmpty : Bool → List (Option (List Slot)) → Type 0

@@ -1,7 +1,7 @@
 -- When a move may be asked for.
 use Rattle.std.specs.Prelude.{◌<◌, ◌^◌}
 use Rattle.cj_cluster.specs.declared.moves.Move.{Move}
-use Rattle.cj_cluster.specs.declared.moves.Move.TheVariants.{Open, Close, Schedule, Apply, End, Read, Arm, Disable, Replay, Enable}
+use Rattle.cj_cluster.specs.declared.moves.Move.TheVariants.{Open, Close, Schedule, Abort, Apply, End, Read, Arm, Disable, Replay, Enable}
 use Rattle.cj_model.specs.declared.limits.TheConstants.{REQUEST_LIMIT}
 use Rattle.cj_cluster.specs.Moves.Cores.{Core, session_at}
 use Rattle.cj_cluster.specs.Moves.Runs.{IsMoveOfCluster}
@@ -11,6 +11,7 @@ abbrev pub CanAsk : Core → Move → Type 0
 CanAsk c (Open user) = Unit {0}
 CanAsk c (Close s) = Unit {0}
 CanAsk c (Schedule s r) = (session_at c s).queries < REQUEST_LIMIT
+CanAsk c (Abort tx) = Unit {0}
 CanAsk c (Apply b) = Unit {0}
 CanAsk c End = Unit {0}
 CanAsk c (Read s b select) = (session_at c s).queries < REQUEST_LIMIT

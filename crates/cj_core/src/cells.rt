@@ -101,8 +101,8 @@ pub fn place(position: Option<u64>) -> u64
 
 /// Backend `b` takes the entry at its position.
 pub fn take<B: Backend>(book: &Book, cells: &mut Vec<Cell<B>>, login: &Text, b: u8) -> Did
-    requires { CanTake B.TELLS book.now.backends book.now.history cells.old.items b }
-    ensures { TookEntry B.TELLS book.now.backends book.now.history cells.old.items b result cells.new.items }
+    requires { CanTake B.TELLS book.now.layout book.now.history cells.old.items b }
+    ensures { TookEntry B.TELLS book.now.layout book.now.history cells.old.items b result cells.new.items }
 {
     let next = place(cells[b as usize].position()) + 1;
     let Some(entry) = book.entry(next) else {

@@ -9,6 +9,7 @@ mod reasons;
 mod runs;
 mod sessions;
 mod start;
+mod transactions;
 mod world;
 
 pub use start::Backends;

@@ -6,38 +6,41 @@ ghost use Rattle.cj_model.specs.Sql.PlainRequests as plain;
 ghost use Rattle.cj_model.specs.Sql.WrittenRequests.{IsWritten};
 ghost use Rattle.cj_cluster.specs.Moves.Cores.{session_at};
 ghost use Rattle.cj_cluster.specs.Moves.Moves as moves;
-ghost use Rattle.cj_cluster.specs.Moves.Moves.{OpensSession, ClosesSession, SchedulesRequest, Applies, EndsEntry, AttemptsRead, AttemptsReadOrWaits, Arms, Disables, Replays, Enables, MovesTo, not_now, with_read, answered_at, was_answered, still_reading, IsFarEnough};
+ghost use Rattle.cj_cluster.specs.Moves.Moves.{OpensSession, ClosesSession, SchedulesRequest, AbortsOrphan, Applies, EndsEntry, AttemptsRead, AttemptsReadOrWaits, Arms, Disables, Replays, Enables, MovesTo, not_now, with_read, answered_at, was_answered, still_reading, IsFarEnough};
 ghost use Rattle.cj_cluster.specs.History.Answering.{CanServe};
-ghost use Rattle.cj_cluster.specs.Moves.Runs.{IsOutsideTransaction};
+ghost use Rattle.cj_cluster.specs.Moves.Runs.{IsForLog};
 ghost use Rattle.cj_replica.specs.Cells.{CellState};
 ghost use Rattle.cj_core.specs.Armings.{ArmsCell, HasArmings, armed_at, armings_of};
 ghost use Rattle.cj_core.specs.Counting.{HasCauses, faults_of};
-ghost use Rattle.cj_core.specs.Effects.{HaveFailed, IsChange, RefusesOrStays, answer_given, with_core};
+ghost use Rattle.cj_core.specs.Effects.{HaveFailed, RefusesOrStays, answer_given, with_core};
 ghost use Rattle.cj_core.specs.Steps.{IsMet};
 
 use crate::cells::{AskError, covers};
+use crate::transactions::forbidden_by;
 use crate::world::World;
 use cj_backend::Backend;
 use cj_book::BookError;
 use cj_cluster::{Move, MoveError, Moved, Reason, Why};
 use cj_model::{
     Act, Asked, HISTORY_FULL, NO_BACKEND, READ_FAULT, REQUEST_LIMIT, Refusal, Request, Select,
-    Text, USER_LIMIT,
+    Text, USER_LIMIT, has_bit,
 };
 
-/// The act of a change outside transactions.
+/// The act of a request that is no query.
 fn act_of(request: Request) -> Act
     requires written { IsWritten request }
-    requires lone { IsOutsideTransaction request }
+    requires for_log { IsForLog request }
     ensures act { plain.act_of request ≡ Some result }
     ensures written { IsWritten (plain.request_of result) }
-    ensures change { IsChange result }
 {
     match request {
         Request::Write(write) => Act::Write(write),
         Request::Create(create) => Act::Create(create),
         Request::Drop(table) => Act::Drop(table),
-        Request::Select(_) | Request::Begin | Request::Commit | Request::Rollback => unreachable!(),
+        Request::Begin => Act::Begin,
+        Request::Commit => Act::Commit,
+        Request::Rollback => Act::Abort,
+        Request::Select(_) => unreachable!(),
     }
 }
 
@@ -47,6 +50,7 @@ impl<B: Backend> World<B> {
         ensures moves { OpensSession self.old.core user result self.new.core }
         ensures cells { self.new.cells ≡ self.old.cells }
         ensures want { IsErrOf result MoveError.NoMemory → self.new ≡ self.old }
+        ensures names { self.new.names ≡ self.old.names }
     {
         if self.has_no_number() {
             return Ok(Moved::Refused(self.sessions_full()));
@@ -61,6 +65,7 @@ impl<B: Backend> World<B> {
         requires { not_now self.old.core (Move.Close s) ≡ None }
         ensures moves { ClosesSession self.old.core s (Ok result) self.new.core }
         ensures cells { self.new.cells ≡ self.old.cells }
+        ensures names { self.new.names ≡ self.old.names }
     {
         self.remove_session(s);
         Moved::Closed
@@ -68,14 +73,20 @@ impl<B: Backend> World<B> {
 
     fn schedule(&mut self, s: u64, request: Request) -> Result<Moved, MoveError>
         requires written { IsWritten request }
-        requires lone { IsOutsideTransaction request }
+        requires for_log { IsForLog request }
         requires counts { (session_at self.old.core s).queries < REQUEST_LIMIT }
         requires now { not_now self.old.core (Move.Schedule s request) ≡ None }
         ensures moves { SchedulesRequest self.old.core s request result self.new.core }
         ensures cells { self.new.cells ≡ self.old.cells }
         ensures want { IsErrOf result MoveError.NoMemory → self.new ≡ self.old }
+        ensures names { self.new.names ≡ self.old.names }
     {
-        let Ok(entry) = self.next_entry(s, act_of(request)) else {
+        let act = act_of(request);
+        if let Some(refusal) = forbidden_by(self.open_tx(s), &act) {
+            self.count(s);
+            return Ok(Moved::Refused(refusal));
+        }
+        let Ok(entry) = self.next_entry(s, act) else {
             return Err(MoveError::NoMemory);
         };
         match self.schedule_entry(s, entry) {
@@ -97,12 +108,31 @@ impl<B: Backend> World<B> {
         }
     }
 
+    fn abort(&mut self, tx: u64) -> Result<Moved, MoveError>
+        requires { not_now self.old.core (Move.Abort tx) ≡ None }
+        ensures moves { AbortsOrphan self.old.core tx result self.new.core }
+        ensures cells { self.new.cells ≡ self.old.cells }
+        ensures want { IsErrOf result MoveError.NoMemory → self.new ≡ self.old }
+        ensures names { self.new.names ≡ self.old.names }
+    {
+        let Ok(entry) = self.abort_entry(tx) else {
+            return Err(MoveError::NoMemory);
+        };
+        match self.schedule_abort(entry) {
+            Ok(number) => Ok(Moved::Entry(number)),
+            Err(BookError::HistoryFull(_)) => Ok(Moved::Refused(self.history_full())),
+            Err(BookError::NoMemory) => Err(MoveError::NoMemory),
+            Err(BookError::InProgress(_)) | Err(BookError::NoBackend) => unreachable!(),
+        }
+    }
+
     fn apply(&mut self, b: u8) -> Moved
         requires within { b < self.old.core.placement.backends }
         requires now { not_now self.old.core (Move.Apply b) ≡ None }
         ensures moves { Applies B.TELLS self.old.core b (Ok result) self.new.core }
         ensures causes { HasCauses self.old self.new (Move.Apply b) (Ok result) }
         ensures armings { armings_of self.new.cells ≡ armings_of self.old.cells }
+        ensures names { self.new.names ≡ self.old.names }
     {
         Moved::Applied {
             b,
@@ -114,6 +144,7 @@ impl<B: Backend> World<B> {
         requires { not_now self.old.core Move.End ≡ None }
         ensures moves { EndsEntry B.TELLS self.old.core (Ok result) self.new.core }
         ensures cells { self.new.cells ≡ self.old.cells }
+        ensures names { self.new.names ≡ self.old.names }
     {
         let session = self.waiting();
         let reply = self.reply();
@@ -131,7 +162,9 @@ impl<B: Backend> World<B> {
         ensures causes { HasCauses self.old self.new (Move.Read s b select) result }
         ensures armings { armings_of self.new.cells ≡ armings_of self.old.cells }
         ensures want { IsErrOf result MoveError.NoMemory → self.new ≡ self.old }
+        ensures names { self.new.names ≡ self.old.names }
     {
+        self.legal();
         if self.reads_other(s, &select) {
             return Err(MoveError::NotNow(Why {
                 reason: Reason::Waiting,
@@ -143,13 +176,12 @@ impl<B: Backend> World<B> {
             self.refuse_read(s);
             return Ok(Moved::Refused(Refusal::of_code(NO_BACKEND)));
         }
-        if !self.serves(b, &select) {
+        if !has_bit(serving, b) {
             return Err(MoveError::NotNow(Why {
                 reason: Reason::NotServing,
                 value: b as u64,
             }));
         }
-        self.legal();
         let tried = self.tried_with(s, b);
         match self.ask(s, b, &select) {
             Ok((answer, position)) => Ok(self.answer(s, position, answer)),
@@ -201,6 +233,7 @@ impl<B: Backend> World<B> {
         requires since { HaveFailed self.old.core s tried }
         ensures moves { RefusesOrStays self.old.core s select tried serving result self.new.core }
         ensures cells { self.new.cells ≡ self.old.cells }
+        ensures names { self.new.names ≡ self.old.names }
     {
         if covers(tried, serving) {
             self.refuse_read(s);
@@ -236,6 +269,7 @@ impl<B: Backend> World<B> {
         ensures cells { (d : CellState) → self.new.cells ≡ armed_at B.can_be_armed self.old.cells b d }
         ensures faults { faults_of self.new.cells ≡ faults_of self.old.cells }
         ensures armings { HasArmings B.can_be_armed self.old self.new (Move.Arm b) (Ok result) }
+        ensures names { self.new.names ≡ self.old.names }
     {
         self.arm_backend(b);
         Moved::Armed
@@ -246,6 +280,7 @@ impl<B: Backend> World<B> {
         ensures moves { Disables self.old.core b result self.new.core }
         ensures cells { self.new.cells ≡ self.old.cells }
         ensures want { IsErrOf result MoveError.NoMemory → self.new ≡ self.old }
+        ensures names { self.new.names ≡ self.old.names }
     {
         match self.switch_off(b) {
             Ok(()) => Ok(Moved::Disabled),
@@ -261,6 +296,7 @@ impl<B: Backend> World<B> {
         ensures moves { Replays B.TELLS self.old.core b (Ok result) self.new.core }
         ensures causes { HasCauses self.old self.new (Move.Replay b) (Ok result) }
         ensures armings { armings_of self.new.cells ≡ armings_of self.old.cells }
+        ensures names { self.new.names ≡ self.old.names }
     {
         let number = self.next_of(b);
         Moved::Replayed {
@@ -274,6 +310,7 @@ impl<B: Backend> World<B> {
         ensures moves { Enables self.old.core b result self.new.core }
         ensures cells { self.new.cells ≡ self.old.cells }
         ensures want { IsErrOf result MoveError.NoMemory → self.new ≡ self.old }
+        ensures names { self.new.names ≡ self.old.names }
     {
         match self.switch_on(b) {
             Ok(()) => Ok(Moved::Enabled),
@@ -292,6 +329,7 @@ impl<B: Backend> World<B> {
         ensures armings { HasArmings B.can_be_armed self.old self.new m result }
         ensures armed { result ≡ Ok Moved.Armed → ArmsCell B.can_be_armed self.old.cells m self.new.cells }
         ensures want { IsErrOf result MoveError.NoMemory → self.new ≡ self.old }
+        ensures names { self.new.names ≡ self.old.names }
     {
         if let Some(why) = self.not_now(&m) {
             return Err(MoveError::NotNow(why));
@@ -300,6 +338,7 @@ impl<B: Backend> World<B> {
             Move::Open { user } => self.open(user),
             Move::Close { session } => Ok(self.close(session)),
             Move::Schedule { session, request } => self.schedule(session, request),
+            Move::Abort { tx } => self.abort(tx),
             Move::Apply { b } => Ok(self.apply(b)),
             Move::End => Ok(self.end()),
             Move::Read { session, b, select } => self.read(session, b, select),

@@ -25,6 +25,7 @@ impl<B: Backend> World<B> {
             Move::Open { .. } | Move::Arm { .. } => None,
             Move::Close { session } => self.not_now_close(*session),
             Move::Schedule { session, .. } => self.not_now_schedule(*session),
+            Move::Abort { tx } => self.not_now_abort(*tx),
             Move::Apply { b } => self.not_now_apply(*b),
             Move::End => self.not_now_end(),
             Move::Read { session, .. } => self.not_now_read(*session),
@@ -54,6 +55,18 @@ impl<B: Backend> World<B> {
         }
         if self.is_waiting(s) || self.is_reading(s) {
             return why(Reason::Waiting, s);
+        }
+        if !self.is_free() {
+            return why(Reason::EntryOpen, self.length());
+        }
+        None
+    }
+
+    fn not_now_abort(&self, tx: u64) -> Option<Why>
+        ensures { result ≡ moves.not_now self.now.core (Move.Abort tx) }
+    {
+        if !self.is_orphan(tx) {
+            return why(Reason::NotOrphan, tx);
         }
         if !self.is_free() {
             return why(Reason::EntryOpen, self.length());

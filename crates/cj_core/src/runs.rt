@@ -24,6 +24,7 @@ impl<B: Backend> World<B> {
         ensures causes { IfOk result (λ made. HasCauses self.old self.new m (given_of made)) }
         ensures armings { IfOk result (λ made. HasArmings B.can_be_armed self.old self.new m (given_of made)) }
         ensures want { OnErr result (self.new ≡ self.old) }
+        ensures names { self.new.names ≡ self.old.names }
     {
         match self.step(m) {
             Ok(moved) => Ok(Made::Moved(moved)),
@@ -39,6 +40,7 @@ impl<B: Backend> World<B> {
         ensures causes { IfOk result (λ made. HasCauses self.old self.new m.now (given_of made)) }
         ensures armings { IfOk result (λ made. HasArmings B.can_be_armed self.old self.new m.now (given_of made)) }
         ensures want { OnErr result (self.new ≡ self.old) }
+        ensures names { self.new.names ≡ self.old.names }
     {
         let m = m.copy(alloc)?;
         self.make(m)
@@ -52,6 +54,7 @@ impl<B: Backend> World<B> {
         ensures runs { MatchResult result (λ made. HasRun B.TELLS self.old moves.now (map given_of made) self.new) (λ _. HasRunInPart B.TELLS self.old moves.now self.new) }
         ensures longer { IsPrefix self.old.core.history self.new.core.history }
         ensures legal { IsLegal self.new.core.history }
+        ensures names { self.new.names ≡ self.old.names }
     {
         self.legal();
         let alloc = self.allocator();

@@ -3,37 +3,41 @@
 ghost use Rattle.std.specs.Prelude.{◌≡◌, ◌+◌, ◌<◌, ◌≤◌, [], length, map, vec_capacity, IfOk, OnOk};
 ghost use Rattle.cj_replica.specs.Cells.{CellState};
 ghost use Rattle.cj_core.specs.Armings.{each_arming};
-ghost use Rattle.cj_core.specs.Starts.{AreEmpty, AreFresh, AreHolding, AreCurrent, begun, started};
+ghost use Rattle.cj_core.specs.Starts.{AreEmpty, AreFresh, AreHolding, AreCurrent, HaveBegunNone, started, started_to};
+ghost use Rattle.cj_place.specs.Layouts.{placement_of};
 
 use crate::emptied::Emptied;
 use crate::world::World;
 use cj_backend::Backend;
 use cj_book::{Book, BookError, BookParts};
-use cj_model::{BACKEND_LIMIT, ListOf, NoMemory};
+use cj_model::{Duplicate, ListOf, NoMemory};
+use cj_place::Placement;
 use cj_replica::Cell;
 use std::alloc::Global;
 
 /// Backends in the order of their numbers.
 pub type Backends<B> = ListOf<B>;
 
-/// Moves the backends, `count` of them, into cells by their numbers, which leaves their list empty.
+/// Moves the backends into cells by their numbers, which leaves their list empty.
 fn cells_of<B: Backend + Drop>(
     alloc: Global,
-    count: u8,
+    placement: &Placement,
     backends: &mut Vec<B>,
 ) -> Result<Vec<Cell<B>>, NoMemory>
-    requires { length backends.old.items ≡ count }
+    requires as_many { length backends.old.items ≡ length placement.now.names }
+    requires none { HaveBegunNone (map B.begun backends.old.items) }
     ensures empty { OnOk result (backends.new.items ≡ []) }
-    ensures fresh { IfOk result (λ cells. AreFresh count cells.items) }
+    ensures fresh { IfOk result (λ cells. AreFresh (placement_of placement.now) cells.items) }
     ensures told { IfOk result (λ cells. map (λ (x : CellState). x.told) cells.items ≡ map B.told backends.old.items) }
     ensures faults { IfOk result (λ cells. map (λ (x : CellState). x.faults) cells.items ≡ map B.faults backends.old.items) }
     ensures arming { IfOk result (λ cells. each_arming cells.items ≡ map B.arming backends.old.items) }
 {
-    let mut cells = Vec::with_capacity(alloc, count as usize)?;
+    let mut cells = Vec::with_capacity(alloc, placement.count() as usize)?;
     backends.reverse();
     while let Some(backend) = backends.pop() {
         let b = cells.len() as u8;
-        cells.push_reserved(Cell::new(b, count, backend));
+        let placement = placement.copy(alloc)?;
+        cells.push_reserved(Cell::new(alloc, b, placement, backend));
     }
     Ok(cells)
 }
@@ -60,20 +64,21 @@ impl<B: Backend + Drop> World<B> {
         parts: BookParts,
         backends: Backends<B>,
     ) -> Result<World<B>, NoMemory>
-        requires some { 0 < parts.backends }
-        requires few { parts.backends ≤ BACKEND_LIMIT }
-        requires as_many { length backends ≡ parts.backends }
+        requires as_many { length backends ≡ length parts.placement.names }
         requires empty { AreEmpty B.TELLS (map B.told backends) }
-        ensures core { IfOk result (λ world. world.core ≡ started parts.backends) }
+        requires none { HaveBegunNone (map B.begun backends) }
+        ensures core { IfOk result (λ world. world.core ≡ started (placement_of parts.placement)) }
+        ensures names { IfOk result (λ world. world.names ≡ parts.placement.names) }
         ensures told { IfOk result (λ world. map (λ (x : CellState). x.told) world.cells ≡ map B.told backends) }
         ensures faults { IfOk result (λ world. map (λ (x : CellState). x.faults) world.cells ≡ map B.faults backends) }
         ensures arming { IfOk result (λ world. each_arming world.cells ≡ map B.arming backends) }
     {
         let mut list = backends.into_vec();
-        let cells = cells_of(alloc, parts.backends, &mut list)?;
+        let count = parts.placement.count();
+        let cells = cells_of(alloc, &parts.placement, &mut list)?;
         let book = Book::new(alloc, parts)?;
         let mut world = World::at_rest(alloc, book, cells, Emptied::new(list)?);
-        world.enable_all(parts.backends)?;
+        world.enable_all(count)?;
         Ok(world)
     }
 
@@ -90,27 +95,29 @@ impl<B: Backend + Drop> World<B> {
 
     /// Enables each backend, in the order of numbers.
     fn enable_all(&mut self, count: u8) -> Result<(), NoMemory>
-        requires rest { self.old.core ≡ begun count 0 }
-        requires few { count ≤ BACKEND_LIMIT }
-        ensures core { OnOk result (self.new.core ≡ started count) }
+        requires rest { self.old.core ≡ started_to self.old.core.placement 0 }
+        requires all { count ≡ self.old.core.placement.backends }
+        ensures core { OnOk result (self.new.core ≡ started self.old.core.placement) }
         ensures cells { self.new.cells ≡ self.old.cells }
+        ensures names { self.new.names ≡ self.old.names }
     {
         let mut b = 0;
         while b < count {
-            self.enable_next(b, count)?;
+            self.enable_next(b)?;
             b += 1;
         }
         Ok(())
     }
 
     /// Enables backend `b`, where those before it are enabled.
-    fn enable_next(&mut self, b: u8, count: u8) -> Result<(), NoMemory>
-        requires begun { self.old.core ≡ begun count b }
-        requires within { b < count }
-        requires few { count ≤ BACKEND_LIMIT }
-        ensures core { OnOk result (self.new.core ≡ begun count (b + 1)) }
+    fn enable_next(&mut self, b: u8) -> Result<(), NoMemory>
+        requires begun { self.old.core ≡ started_to self.old.core.placement b }
+        requires within { b < self.old.core.placement.backends }
+        ensures core { OnOk result (self.new.core ≡ started_to self.old.core.placement (b + 1)) }
         ensures cells { self.new.cells ≡ self.old.cells }
+        ensures names { self.new.names ≡ self.old.names }
     {
+        self.legal();
         match self.switch_on(b) {
             Ok(()) => Ok(()),
             Err(BookError::NoMemory) => Err(NoMemory),

@@ -15,27 +15,29 @@ ghost use Rattle.cj_cluster.specs.Moves.Cores as cores;
 ghost use Rattle.cj_cluster.specs.Moves.Cores.{session_at, position_at};
 ghost use Rattle.cj_cluster.specs.Moves.Moves as moves;
 ghost use Rattle.cj_cluster.specs.Moves.Moves.{Applies, Replays, IsServingMask, HasOtherRead, HasNoOtherRead, forbidden_by, next_entry, not_now, with_end, with_read, with_request_counted, happened, opened_for, closed_for, scheduled_as, ended_for, with_one_request, answered_at, was_answered, still_reading};
-ghost use Rattle.cj_cluster.specs.Proving.Invariants.{IsLoneEntry};
 ghost use Rattle.cj_replica.specs.Cells.{CellState};
 ghost use Rattle.cj_core.specs.Worlds.{IsWorld};
-ghost use Rattle.cj_core.specs.Starts.{AreEmpty, AreFresh, begun};
+ghost use Rattle.cj_place.specs.Layouts.{placement_of};
+ghost use Rattle.cj_core.specs.Starts.{AreEmpty, AreFresh, started_to};
 ghost use Rattle.cj_core.specs.Armings.{armed_at, armings_after, armings_of};
 ghost use Rattle.cj_core.specs.Counting.{did_fail, faults_after, faults_of};
-ghost use Rattle.cj_core.specs.Effects.{AnswersOpen, Asks, IsChange, asked_core, failed_asked, HaveFailed, IsReadOf, IsReadOther, Refuses, with_core, SchedulesAs, HadRoom};
+ghost use Rattle.cj_core.specs.Effects.{AnswersOpen, Asks, asked_core, failed_asked, HaveFailed, Refuses, with_core, SchedulesAs, HadRoom};
 
 use crate::cells::{
     AskError, failed_after, first_outcome_after, noted, place, starved_after, take,
 };
 use crate::emptied::Emptied;
 use crate::sessions::{Sessions, read_number};
+use crate::transactions::tx_of_act;
 use cj_backend::Backend;
 use cj_book::{Book, BookError};
-use cj_cluster::{Did, Event, Move, Moved, OpenRead};
+use cj_cluster::{Did, Event, Move, Moved, OpenRead, OpenSession};
 use cj_model::{
     Act, Asked, BACKEND_LIMIT, Duplicate, Entry, HISTORY_FULL, NoMemory, Outcome, REQUEST_LIMIT,
     Refusal, Reply, SESSION_LIMIT, SESSION_NUMBER_LIMIT, SESSIONS_FULL, STARVED_ALL, Same, Select,
     Text, UNFINISHED, USER_LIMIT, with_bit,
 };
+use cj_place::Placement;
 use cj_replica::Cell;
 use std::alloc::Global;
 use std::marker::Model;
@@ -54,8 +56,6 @@ pub struct World<B: Backend> {
     /// What the open entry came to, from the first backend that did it.
     first_outcome: Option<Outcome>,
     sessions: Sessions,
-    /// The greatest number that a session was given.
-    greatest: u64,
     /// The login of all calls of backends.
     login: Text,
     /// The list that the backends came in, and are given up in.
@@ -74,9 +74,9 @@ impl<B: Backend> Model for World<B> {
 
     ghost use Rattle.cj_core.specs.Kept.{Kept};
 
-    ghost view = { λ w. world_of w.book.backends w.book.history w.cells.items w.failed w.starved w.sessions w.greatest };
+    ghost view = { λ w. world_of w.book.layout w.book.history w.cells.items w.failed w.starved w.sessions w.book.greatest };
 
-    ghost invariant = { λ w. Kept B.TELLS (world_of w.book.backends w.book.history w.cells.items w.failed w.starved w.sessions w.greatest) w.first_outcome };
+    ghost invariant = { λ w. Kept B.TELLS (world_of w.book.layout w.book.history w.cells.items w.failed w.starved w.sessions w.book.greatest) w.book.sessions w.first_outcome };
 }
 
 /// The refusal of an entry that no backend finished.
@@ -98,11 +98,11 @@ fn unfinished(failed: u32, starved: u32) -> Refusal
     }
 }
 
-/// Whether a read is open that is not of this query.
-fn is_other(reading: &Option<OpenRead>, select: &Select) -> bool
-    ensures { MatchBool result (IsReadOther reading.now select.now) (IsReadOf reading.now select.now) }
+/// Whether a read of the session is open that is not of this query.
+fn is_other(session: &OpenSession, select: &Select) -> bool
+    ensures { MatchBool result (HasOtherRead session.now select.now) (HasNoOtherRead session.now select.now) }
 {
-    match reading {
+    match &session.reading {
         Some(read) => !read.select.is_same(select),
         None => false,
     }
@@ -137,12 +137,15 @@ impl<B: Backend> World<B> {
         cells: Vec<Cell<B>>,
         emptied: Emptied<B>,
     ) -> World<B>
-        requires book { book.history ≡ [] }
-        requires few { book.backends ≤ BACKEND_LIMIT }
-        requires fresh { AreFresh book.backends cells.items }
+        requires history { book.history ≡ [] }
+        requires sessions { book.sessions ≡ [] }
+        requires greatest { book.greatest ≡ 0 }
+        requires few { length book.layout.names ≤ BACKEND_LIMIT }
+        requires fresh { AreFresh (placement_of book.layout) cells.items }
         requires empty { AreEmpty B.TELLS (map (λ (x : CellState). x.told) cells.items) }
-        ensures core { result.core ≡ begun book.backends 0 }
+        ensures core { result.core ≡ started_to (placement_of book.layout) 0 }
         ensures cells { result.cells ≡ cells.items }
+        ensures names { result.names ≡ book.layout.names }
     {
         World {
             alloc,
@@ -152,7 +155,6 @@ impl<B: Backend> World<B> {
             starved: 0,
             first_outcome: None,
             sessions: Sessions::new(alloc),
-            greatest: 0,
             login: no_login(alloc),
             emptied,
         }
@@ -215,6 +217,14 @@ impl<B: Backend> World<B> {
         }
     }
 
+    /// Which backends host which tables, and what they are called.
+    pub fn placement(&self) -> &Placement
+        ensures placement { placement_of result.now ≡ self.now.core.placement }
+        ensures names { result.now.names ≡ self.now.names }
+    {
+        self.book.placement()
+    }
+
     /// Where it takes its memory from.
     pub(crate) fn allocator(&self) -> Global {
         self.alloc
@@ -275,24 +285,55 @@ impl<B: Backend> World<B> {
         place(self.position(b)) + 1
     }
 
+    /// The session's open transaction, or 0.
+    pub(crate) fn open_tx(&self, s: u64) -> u64
+        requires { moves.is_open self.now.core s ≡ true }
+        ensures { result ≡ moves.open_tx self.now.core s }
+    {
+        self.book.open_tx(s)
+    }
+
+    /// Whether the transaction is open, and its session isn't.
+    pub(crate) fn is_orphan(&self, tx: u64) -> bool
+        ensures { result ≡ moves.is_orphan self.now.core tx }
+    {
+        self.book.is_orphan(tx)
+    }
+
     /// The session's next entry.
     pub(crate) fn next_entry(&self, s: u64, act: Act) -> Result<Entry, NoMemory>
         requires here { moves.is_open self.now.core s ≡ true }
         requires counts { (session_at self.now.core s).queries < REQUEST_LIMIT }
         requires written { IsWritten (request_of act) }
-        requires change { IsChange act }
+        requires allowed { forbidden_by (moves.open_tx self.now.core s) act ≡ None }
         ensures next { IfOk result (λ e. e ≡ next_entry self.now.core s act) }
         ensures fits { IfOk result (λ e. IsFitEntry (log self.now.core.history) e) }
-        ensures lone { IfOk result (λ e. IsLoneEntry e e.act) }
-        ensures allowed { forbidden_by (moves.open_tx self.now.core s) act ≡ None }
     {
         match self.sessions.get(s) {
             Some(session) => Ok(Entry {
                 session: s,
                 seq: session.queries + 1,
-                tx: 0,
+                tx: tx_of_act(self.book.open_tx(s), &act),
                 user: session.user.copy(self.alloc)?,
                 act,
+            }),
+            None => unreachable!(),
+        }
+    }
+
+    /// The administrator's end of an orphan, for the user who began it.
+    pub(crate) fn abort_entry(&self, tx: u64) -> Result<Entry, NoMemory>
+        requires { moves.is_orphan self.now.core tx ≡ true }
+        ensures is { IfOk result (λ e. e ≡ moves.abort_entry self.now.core tx) }
+        ensures fits { IfOk result (λ e. IsFitEntry (log self.now.core.history) e) }
+    {
+        match self.book.entry(tx) {
+            Some(begin) => Ok(Entry {
+                session: 0,
+                seq: 0,
+                tx,
+                user: begin.user.copy(self.alloc)?,
+                act: Act::Abort,
             }),
             None => unreachable!(),
         }
@@ -303,7 +344,7 @@ impl<B: Backend> World<B> {
         ensures { MatchBool result (HasOtherRead (session_at self.now.core s) select.now) (HasNoOtherRead (session_at self.now.core s) select.now) }
     {
         match self.sessions.get(s) {
-            Some(session) => is_other(&session.reading, select),
+            Some(session) => is_other(session, select),
             None => false,
         }
     }
@@ -338,18 +379,11 @@ impl<B: Backend> World<B> {
         with_bit(self.tried(s), b)
     }
 
-    /// The mask of the backends that serve the query: each enabled one.
-    pub(crate) fn serving(&self, _select: &Select) -> u32
-        ensures { IsServingMask self.now.core _select.now result }
+    /// The mask of the backends that serve the query.
+    pub(crate) fn serving(&self, select: &Select) -> u32
+        ensures { IsServingMask self.now.core select.now result }
     {
-        self.book.enabled()
-    }
-
-    /// Whether the backend serves the query.
-    pub(crate) fn serves(&self, b: u8, _select: &Select) -> bool
-        ensures { IsTrue result ↔ CanServe self.now.core.placement self.now.core.history (request.Select _select.now) b }
-    {
-        self.book.is_enabled(b)
+        self.book.candidates(select.tables.as_slice())
     }
 
     /// The position of the first enabled backend that is neither at the log's end nor out.
@@ -371,7 +405,7 @@ impl<B: Backend> World<B> {
     pub(crate) fn has_no_number(&self) -> bool
         ensures { result ≡ moves.has_no_number self.now.core }
     {
-        self.sessions.len() >= SESSION_LIMIT || self.greatest >= SESSION_NUMBER_LIMIT
+        self.sessions.len() >= SESSION_LIMIT || self.book.greatest() >= SESSION_NUMBER_LIMIT
     }
 
     pub(crate) fn sessions_full(&self) -> Refusal
@@ -400,13 +434,16 @@ impl<B: Backend> World<B> {
         requires behind { moves.first_lagging self.now.core.history 0 self.now.core.positions ≡ None }
         ensures { AnswersOpen B.TELLS self.now.core result }
     {
-        if self.book.left(self.failed, self.starved) == 0 {
+        let targets = self.book.targets();
+        let left = self.book.left(self.failed, self.starved);
+        if targets != 0 && targets & left == 0 {
             return Reply::Refused(unfinished(self.failed, self.starved));
         }
         match self.first_outcome {
             Some(Outcome::Done(count)) => Reply::Done(count),
             Some(Outcome::Refused(refusal)) => Reply::Refused(refusal),
-            None => unreachable!(),
+            // No backend had a part in it: it begins or ends a transaction.
+            None => Reply::Done(0),
         }
     }
 }
@@ -422,10 +459,12 @@ impl<B: Backend> World<B> {
         ensures ok { OnOk result (self.new ≡ with_core self.old (opened_for self.old.core user)) }
         ensures err { OnErr result (self.new ≡ self.old) }
     {
-        let number = self.greatest + 1;
+        let number = self.book.greatest() + 1;
         self.sessions.open(number, user)?;
-        self.greatest = number;
-        Ok(number)
+        match self.book.open_session() {
+            Ok(_) => Ok(number),
+            Err(_) => unreachable!(),
+        }
     }
 
     /// Closes a session whose own entry is not open.
@@ -434,6 +473,7 @@ impl<B: Backend> World<B> {
         ensures { self.new ≡ with_core self.old (closed_for self.old.core s) }
     {
         self.sessions.close(s);
+        self.book.close_session(s);
     }
 
     /// The session has made one request more.
@@ -482,7 +522,6 @@ impl<B: Backend> World<B> {
         requires no_read { (session_at self.old.core s).reading ≡ None }
         requires next { entry ≡ next_entry self.old.core s entry.act }
         requires fits { IsFitEntry (log self.old.core.history) entry }
-        requires lone { IsLoneEntry entry entry.act }
         ensures scheduled { SchedulesAs self.old.core entry result }
         ensures ok { OnOk result (self.new ≡ with_core self.old (scheduled_as self.old.core s entry)) }
         ensures err { OnErr result (self.new ≡ self.old) }
@@ -490,6 +529,26 @@ impl<B: Backend> World<B> {
         match self.book.schedule(entry) {
             Ok(number) => {
                 self.sessions.count(s);
+                self.failed = 0;
+                self.starved = 0;
+                self.first_outcome = None;
+                Ok(number)
+            }
+            Err(error) => Err(error),
+        }
+    }
+
+    /// Schedules the administrator's end of an orphan.
+    pub(crate) fn schedule_abort(&mut self, entry: Entry) -> Result<u64, BookError>
+        requires orphan { moves.is_orphan self.old.core entry.tx ≡ true }
+        requires is { entry ≡ moves.abort_entry self.old.core entry.tx }
+        requires fits { IsFitEntry (log self.old.core.history) entry }
+        ensures scheduled { SchedulesAs self.old.core entry result }
+        ensures ok { OnOk result (self.new ≡ with_core self.old (moves.with_entry self.old.core entry)) }
+        ensures err { OnErr result (self.new ≡ self.old) }
+    {
+        match self.book.schedule(entry) {
+            Ok(number) => {
                 self.failed = 0;
                 self.starved = 0;
                 self.first_outcome = None;
@@ -532,6 +591,7 @@ impl<B: Backend> World<B> {
         ensures applies { Applies B.TELLS self.old.core b (Ok (Moved.Applied b result)) self.new.core }
         ensures counts { faults_of self.new.cells ≡ faults_after (faults_of self.old.cells) (if did_fail result then Some b else None) }
         ensures armings { armings_of self.new.cells ≡ armings_of self.old.cells }
+        ensures names { self.new.names ≡ self.old.names }
     {
         let did = take(&self.book, &mut self.cells, &self.login, b);
         self.failed = failed_after(self.failed, b, did);
@@ -547,6 +607,7 @@ impl<B: Backend> World<B> {
         ensures replays { Replays B.TELLS self.old.core b (Ok (Moved.Replayed (moves.position_or_zero (position_at self.old.core b) + 1) result)) self.new.core }
         ensures counts { faults_of self.new.cells ≡ faults_after (faults_of self.old.cells) (if did_fail result then Some b else None) }
         ensures armings { armings_of self.new.cells ≡ armings_of self.old.cells }
+        ensures names { self.new.names ≡ self.old.names }
     {
         take(&self.book, &mut self.cells, &self.login, b)
     }
@@ -555,6 +616,8 @@ impl<B: Backend> World<B> {
     /// is taken first, so that want of memory hides no failure.
     pub(crate) fn ask(&mut self, s: u64, b: u8, select: &Select) -> Result<(Asked, u64), AskError>
         requires within { b < self.old.core.placement.backends }
+        requires here { moves.is_open self.old.core s ≡ true }
+        requires serves { CanServe self.old.core.placement self.old.core.history (request.Select select.now) b }
         requires written { IsWritten (request.Select select.now) }
         requires counts { (session_at self.old.core s).queries < REQUEST_LIMIT }
         ensures core { self.new.core ≡ asked_core self.old.core s b result }
@@ -562,11 +625,13 @@ impl<B: Backend> World<B> {
         ensures counts { faults_of self.new.cells ≡ faults_after (faults_of self.old.cells) (failed_asked b result) }
         ensures armings { armings_of self.new.cells ≡ armings_of self.old.cells }
         ensures want { IsErrOf result AskError.NoMemory → self.new ≡ self.old }
+        ensures names { self.new.names ≡ self.old.names }
     {
         let least = self.least(s);
         let number = self.read_number(s);
+        let tx = self.open_tx(s);
         self.book.take_spare()?;
-        match self.cells[b as usize].read(&self.login, 0, select, least) {
+        match self.cells[b as usize].read(&self.login, tx, select, least) {
             Ok(answered) => Ok(answered),
             Err(error) => Err(noted(&mut self.book, s, number, b, error)),
         }
@@ -579,6 +644,7 @@ impl<B: Backend> World<B> {
         ensures cells { (d : CellState) → self.new.cells ≡ armed_at B.can_be_armed self.old.cells b d }
         ensures faults { faults_of self.new.cells ≡ faults_of self.old.cells }
         ensures armings { armings_of self.new.cells ≡ armings_after (armings_of self.old.cells) (if B.can_be_armed then Some b else None) }
+        ensures names { self.new.names ≡ self.old.names }
     {
         self.cells[b as usize].arm();
     }

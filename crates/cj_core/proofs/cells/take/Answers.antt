@@ -1,11 +1,7 @@
-use Rattle.std.proofs.Common.{◌≡◌, ◌+◌, ◌-◌, List, All, slice_get, slice_set, Some, ℕ, refl, sym, ap, ◌∙◌, subst, arith}
-use Rattle.std.proofs.lemmas.Option.{slice_get_within, get_or_from_slice_get}
-use Rattle.cj_model.specs.declared.request.Entry.{Entry}
-use Rattle.cj_model.specs.Sql.PlainRequests.{request_of}
+use Rattle.std.proofs.Common.{◌≡◌, ◌+◌, ◌-◌, List, slice_get, slice_set, Some, ℕ, refl, sym, ap, ◌∙◌, arith}
 use Rattle.cj_cluster.specs.History.Histories.{log}
-use Rattle.cj_model.specs.Sql.WrittenRequests.{IsWritten}
 use Rattle.cj_cluster.specs.Moves.Moves.{position_or_zero}
-use Rattle.cj_cluster.specs.Proving.Invariants.{IsLoneEntry}
+use Rattle.cj_cluster.proofs.TransactionLaws.{fit_at}
 use Rattle.cj_replica.specs.Cells.{CellState}
 use Rattle.cj_core.proofs.Catching.{took}
 use Rattle.cj_core.proofs.cells.take.Goals as goal
@@ -14,25 +10,12 @@ use Rattle.cj_core.proofs.cells.take.Goals as goal
 found : {A : Type 0} (xs : List A) (p next : ℕ) (x : A) → next ≡ p + 1 → Some x ≡ slice_get xs (next - 1) → slice_get xs p ≡ Some x
 found xs p next x is read = let e : next - 1 ≡ p = omega arith in ap (slice_get xs) (sym e) ∙ sym read
 
--- what holds of all entries holds of it
-at_entry : (P : Entry → Type 0) (xs : List Entry) (p : ℕ) (e : Entry) → All P xs → slice_get xs p ≡ Some e → P e
-at_entry P xs p e all is = subst P (get_or_from_slice_get xs p e e is) (all p e (slice_get_within xs p e is))
-
 pub catch_up-requires-clause-written : goal.catch_up-requires-clause-written
 catch_up-requires-clause-written g c =
     let can = c.requires in
     let at : c.position.result ≡ Some can.p = c.position.ensures ∙ (ap (λ (x : CellState). x.position) c.index.ensures ∙ can.stands c.index.result.now) in
     let next : c.place-next.result + 1 ≡ can.p + 1 = ap (λ q. q + 1) (c.place-next.ensures ∙ ap position_or_zero at) in
-    at_entry (λ (e : Entry). IsWritten (request_of e.act)) (log c.args.book.now.history) can.p c.in-Some.entry.now can.written
-    (found (log c.args.book.now.history) can.p (c.place-next.result + 1) c.in-Some.entry.now next (c.in-Some.ensures.numbered (omega arith)))
-
-pub catch_up-requires-clause-lone : goal.catch_up-requires-clause-lone
-catch_up-requires-clause-lone g c =
-    let can = c.requires in
-    let at : c.position.result ≡ Some can.p = c.position.ensures ∙ (ap (λ (x : CellState). x.position) c.index.ensures ∙ can.stands c.index.result.now) in
-    let next : c.place-next.result + 1 ≡ can.p + 1 = ap (λ q. q + 1) (c.place-next.ensures ∙ ap position_or_zero at) in
-    at_entry (λ (e : Entry). IsLoneEntry e e.act) (log c.args.book.now.history) can.p c.in-Some.entry.now can.lone
-    (found (log c.args.book.now.history) can.p (c.place-next.result + 1) c.in-Some.entry.now next (c.in-Some.ensures.numbered (omega arith)))
+    (fit_at (log c.args.book.now.history) can.p c.in-Some.entry.now can.fits (found (log c.args.book.now.history) can.p (c.place-next.result + 1) c.in-Some.entry.now next (c.in-Some.ensures.numbered (omega arith)))).written
 
 pub returns : goal.returns
 returns g c =
@@ -41,6 +24,6 @@ returns g c =
     let next : c.place-next.result + 1 ≡ can.p + 1 = ap (λ q. q + 1) (c.place-next.ensures ∙ ap position_or_zero at) in
     let entry = found (log c.args.book.now.history) can.p (c.place-next.result + 1) c.in-Some.entry.now next (c.in-Some.ensures.numbered (omega arith)) in
     rw c.did_of.ensures
-    (took g.B.Backend.TELLS c.args.book.now.backends c.args.book.now.history c.args.cells.now.items c.args.b can c.index_mut.result.now c.catch_up.new.self c.index_mut.ensures.value c.in-Some.entry.now entry
-    c.catch_up.ensures.b c.catch_up.ensures.backends c.catch_up.result (c.place-next.result + 1) (slice_set c.args.cells.now.items c.args.b c.catch_up.new.self) next refl c.catch_up.ensures.concerned c.catch_up.ensures.outcome c.catch_up.ensures.possible
-    c.catch_up.ensures.cause c.catch_up.ensures.arming.after c.catch_up.ensures.told c.catch_up.ensures.position)
+    (took g.B.Backend.TELLS c.args.book.now.layout c.args.book.now.history c.args.cells.now.items c.args.b can c.index_mut.result.now c.catch_up.new.self c.index_mut.ensures.value c.in-Some.entry.now entry
+    c.catch_up.ensures.b c.catch_up.ensures.placement c.catch_up.result (c.place-next.result + 1) (slice_set c.args.cells.now.items c.args.b c.catch_up.new.self) next refl c.catch_up.ensures.part c.catch_up.ensures.outcome c.catch_up.ensures.possible
+    c.catch_up.ensures.cause c.catch_up.ensures.arming.after c.catch_up.ensures.told c.catch_up.ensures.position c.catch_up.ensures.begun)

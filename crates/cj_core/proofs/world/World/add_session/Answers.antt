@@ -8,4 +8,5 @@ pub invariant_of-self-2 : goal.invariant_of-self-2
 invariant_of-self-2 g c =
     let w = c.self.inside in
     let number = subst (λ (x : WorldState). has_no_number x.core ≡ false) (sym c.self.view_is) c.requires.number in
-    rw c.in_ok-open.ensures.ok (kept_opened g.B.Backend.TELLS w.book.backends w.book.history w.cells.items w.failed w.starved w.sessions w.greatest w.first_outcome c.self.invariant c.args.user number c.requires.user)
+    rw (c.in-Ok.ensures.ok, c.in_ok-open.ensures.ok, c.greatest-number.ensures)
+    (kept_opened g.B.Backend.TELLS w.book.layout w.book.history w.cells.items w.failed w.starved w.sessions w.book.greatest w.book.sessions w.first_outcome c.self.invariant c.args.user number c.requires.user)

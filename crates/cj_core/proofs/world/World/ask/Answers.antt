@@ -1,9 +1,12 @@
 use Rattle.std.proofs.Common.{◌≡◌, ◌<◌, ℕ, true, false, cond, List, length, map, get_or, set, Ok, Err, None, Some, Option, ap, sym, ◌∙◌, subst}
-use Rattle.std.proofs.lemmas.List.{length-map, get_or_default}
+use Rattle.std.proofs.lemmas.List.{length-map, get_or_default, set-get_or}
 use Rattle.cj_outside.specs.Causes.{next}
+use Rattle.cj_model.specs.Cluster.Placements.{hosts_all}
 use Rattle.cj_cluster.specs.Moves.Cores.{session_at}
-use Rattle.cj_cluster.specs.Moves.Moves.{read_number}
+use Rattle.cj_cluster.specs.Moves.Moves.{open_tx, read_number}
 use Rattle.cj_book.specs.Books.{BookState}
+use Rattle.cj_replica.specs.declared.cell.CellReadError.{CellReadError}
+use Rattle.cj_replica.specs.declared.cell.CellReadError.TheVariants as read_errors
 use Rattle.cj_replica.specs.Cells.{CellState, is_asked}
 use Rattle.cj_core.specs.Worlds.{WorldState, core_of, world_of}
 use Rattle.cj_cluster.specs.Moves.Cores.{Core}
@@ -11,8 +14,8 @@ use Rattle.cj_core.specs.Armings.{armings_of}
 use Rattle.cj_core.specs.Counting.{faults_of, faults_after}
 use Rattle.cj_core.specs.Effects.{Asks, asked_core, failed_asked}
 use Rattle.cj_core.specs.Kept.{Kept}
-use Rattle.cj_core.proofs.Asking.{kept_asked, same_core, answers, errs, noting, noted_core, noted_fault}
-use Rattle.cj_core.proofs.Keeping.{kept_read_failed}
+use Rattle.cj_core.proofs.Asking.{kept_asked, same_core, answers, errs, noting, noted_core, noted_fault, noted_want, wanted}
+use Rattle.cj_core.proofs.KeepingEvents.{kept_read_failed}
 use Rattle.cj_core.proofs.Counted.{armings_set, counts_set, spent_times}
 use Rattle.cj_core.proofs.world.World.ask.Goals as goal
 
@@ -22,33 +25,35 @@ within n b cells is lt = subst (λ (m : ℕ). b < m) (sym is ∙ length-map cell
 pub invariant_of-self-in-Ok : goal.invariant_of-self-in-Ok
 invariant_of-self-in-Ok g c =
     let w = c.self.inside in
-    let lt = within w.book.backends c.args.b w.cells.items c.self.invariant.world.sound.cells (subst (λ (x : WorldState). c.args.b < x.core.placement.backends) (sym c.self.view_is) c.requires.within) in
-    let kept = kept_asked g.B.Backend.TELLS w.book.backends w.book.history w.cells.items w.failed w.starved w.sessions w.greatest w.first_outcome c.self.invariant c.args.b lt c.index_mut.result.now c.index_mut.ensures.value c.read.new.self c.read.ensures.same in
-    let asked = subst (λ (k : BookState). Kept g.B.Backend.TELLS (world_of k.backends k.history (set w.cells.items c.args.b c.read.new.self) w.failed w.starved w.sessions w.greatest) w.first_outcome) (sym c.in_ok-take_spare.ensures.ok) kept in
+    let lt = within (length w.book.layout.names) c.args.b w.cells.items c.self.invariant.world.sound.cells (subst (λ (x : WorldState). c.args.b < x.core.placement.backends) (sym c.self.view_is) c.requires.within) in
+    let kept = kept_asked g.B.Backend.TELLS w.book.layout w.book.history w.cells.items w.failed w.starved w.sessions w.book.greatest w.book.sessions w.first_outcome c.self.invariant c.args.b lt c.index_mut.result.now c.index_mut.ensures.value c.read.new.self c.read.ensures.same in
+    let asked = subst (λ (k : BookState). Kept g.B.Backend.TELLS (world_of k.layout k.history (set w.cells.items c.args.b c.read.new.self) w.failed w.starved w.sessions k.greatest) k.sessions w.first_outcome) (sym c.in_ok-take_spare.ensures.ok) kept in
     asked
 
 pub returns-in-Ok-clause-core : goal.returns-in-Ok-clause-core
 returns-in-Ok-clause-core g c =
     let w = c.self.inside in
-    let lt = within w.book.backends c.args.b w.cells.items c.self.invariant.world.sound.cells (subst (λ (x : WorldState). c.args.b < x.core.placement.backends) (sym c.self.view_is) c.requires.within) in
-    let same = same_core g.B.Backend.TELLS w.book.backends w.book.history w.cells.items w.failed w.starved w.sessions w.greatest w.first_outcome c.self.invariant c.args.b lt c.index_mut.result.now c.index_mut.ensures.value c.read.new.self c.read.ensures.same in
-    let core : core_of c.take_spare.new.self.backends c.take_spare.new.self.history (set w.cells.items c.args.b c.read.new.self) w.failed w.starved w.sessions w.greatest ≡ c.args.self.now.core =
-    ap (λ (k : BookState). core_of k.backends k.history (set w.cells.items c.args.b c.read.new.self) w.failed w.starved w.sessions w.greatest) c.in_ok-take_spare.ensures.ok ∙ (same ∙ ap (λ (x : WorldState). x.core) c.self.view_is)
+    let lt = within (length w.book.layout.names) c.args.b w.cells.items c.self.invariant.world.sound.cells (subst (λ (x : WorldState). c.args.b < x.core.placement.backends) (sym c.self.view_is) c.requires.within) in
+    let same = same_core g.B.Backend.TELLS w.book.layout w.book.history w.cells.items w.failed w.starved w.sessions w.book.greatest w.book.sessions w.first_outcome c.self.invariant c.args.b lt c.index_mut.result.now c.index_mut.ensures.value c.read.new.self c.read.ensures.same in
+    let core : core_of c.take_spare.new.self.layout c.take_spare.new.self.history (set w.cells.items c.args.b c.read.new.self) w.failed w.starved w.sessions c.take_spare.new.self.greatest ≡ c.args.self.now.core =
+    ap (λ (k : BookState). core_of k.layout k.history (set w.cells.items c.args.b c.read.new.self) w.failed w.starved w.sessions k.greatest) c.in_ok-take_spare.ensures.ok ∙ (same ∙ ap (λ (x : WorldState). x.core) c.self.view_is)
     in
     core
 
 pub returns-in-Ok-clause-asks : goal.returns-in-Ok-clause-asks
 returns-in-Ok-clause-asks g c =
     let w = c.self.inside in
-    let lt = within w.book.backends c.args.b w.cells.items c.self.invariant.world.sound.cells (subst (λ (x : WorldState). c.args.b < x.core.placement.backends) (sym c.self.view_is) c.requires.within) in
+    let lt = within (length w.book.layout.names) c.args.b w.cells.items c.self.invariant.world.sound.cells (subst (λ (x : WorldState). c.args.b < x.core.placement.backends) (sym c.self.view_is) c.requires.within) in
     let least = subst (λ (x : WorldState). c.least-least.result ≡ (session_at x.core c.args.s).least) (sym c.self.view_is) c.least-least.ensures in
+    let tx = subst (λ (x : WorldState). c.open_tx-tx.result ≡ open_tx x.core c.args.s) (sym c.self.view_is) c.open_tx-tx.ensures in
+    let serves = subst (λ (x : WorldState). hosts_all x.core.placement c.args.b c.args.select.now.tables ≡ true) (sym c.self.view_is) c.requires.serves.1 in
     subst (λ (x : WorldState). Asks g.B.Backend.TELLS x.core c.args.s c.args.b c.args.select.now (Ok c.in-Ok.answered)) c.self.view_is
-    (answers g.B.Backend.TELLS w.book.backends w.book.history w.cells.items w.failed w.starved w.sessions w.greatest w.first_outcome c.self.invariant c.args.b lt c.index_mut.result.now c.index_mut.ensures.value c.args.s c.args.select.now c.least-least.result least c.in-Ok.answered.0 c.in-Ok.answered.1 c.in-Ok.ensures.answer c.in-Ok.ensures.possible c.in-Ok.ensures.at c.in-Ok.ensures.owed)
+    (answers g.B.Backend.TELLS w.book.layout w.book.history w.cells.items w.failed w.starved w.sessions w.book.greatest w.book.sessions w.first_outcome c.self.invariant c.args.b lt c.index_mut.result.now c.index_mut.ensures.value c.args.s c.args.select.now c.least-least.result least c.open_tx-tx.result tx serves c.in-Ok.answered.0 c.in-Ok.answered.1 c.in-Ok.ensures.answer c.in-Ok.ensures.possible c.in-Ok.ensures.at c.in-Ok.ensures.owed)
 
 pub returns-in-Ok-clause-counts : goal.returns-in-Ok-clause-counts
 returns-in-Ok-clause-counts g c =
     let w = c.self.inside in
-    let lt = within w.book.backends c.args.b w.cells.items c.self.invariant.world.sound.cells (subst (λ (x : WorldState). c.args.b < x.core.placement.backends) (sym c.self.view_is) c.requires.within) in
+    let lt = within (length w.book.layout.names) c.args.b w.cells.items c.self.invariant.world.sound.cells (subst (λ (x : WorldState). c.args.b < x.core.placement.backends) (sym c.self.view_is) c.requires.within) in
     let is : get_or w.cells.items c.args.b c.read.new.self ≡ c.index_mut.result.now = get_or_default w.cells.items c.args.b c.read.new.self c.index_mut.result.now lt ∙ sym c.index_mut.ensures.value in
     let same = subst (λ (x : CellState). c.read.new.self.faults ≡ x.faults) (sym is) (c.in-Ok.ensures.cause.uncounted (λ failed. cc failed)) in
     counts_set w.cells.items c.args.b c.read.new.self false lt same ∙ ap (λ (x : WorldState). faults_of x.cells) c.self.view_is
@@ -56,38 +61,38 @@ returns-in-Ok-clause-counts g c =
 pub invariant_of-self-in-Err : goal.invariant_of-self-in-Err
 invariant_of-self-in-Err g c =
     let w = c.self.inside in
-    let lt = within w.book.backends c.args.b w.cells.items c.self.invariant.world.sound.cells (subst (λ (x : WorldState). c.args.b < x.core.placement.backends) (sym c.self.view_is) c.requires.within) in
-    let kept = kept_asked g.B.Backend.TELLS w.book.backends w.book.history w.cells.items w.failed w.starved w.sessions w.greatest w.first_outcome c.self.invariant c.args.b lt c.index_mut.result.now c.index_mut.ensures.value c.read.new.self c.read.ensures.same in
-    let asked = subst (λ (k : BookState). Kept g.B.Backend.TELLS (world_of k.backends k.history (set w.cells.items c.args.b c.read.new.self) w.failed w.starved w.sessions w.greatest) w.first_outcome) (sym c.in_ok-take_spare.ensures.ok) kept in
-    noting (λ (k : BookState). Kept g.B.Backend.TELLS (world_of k.backends k.history (set w.cells.items c.args.b c.read.new.self) w.failed w.starved w.sessions w.greatest) w.first_outcome)
+    let lt = within (length w.book.layout.names) c.args.b w.cells.items c.self.invariant.world.sound.cells (subst (λ (x : WorldState). c.args.b < x.core.placement.backends) (sym c.self.view_is) c.requires.within) in
+    let kept = kept_asked g.B.Backend.TELLS w.book.layout w.book.history w.cells.items w.failed w.starved w.sessions w.book.greatest w.book.sessions w.first_outcome c.self.invariant c.args.b lt c.index_mut.result.now c.index_mut.ensures.value c.read.new.self c.read.ensures.same in
+    let asked = subst (λ (k : BookState). Kept g.B.Backend.TELLS (world_of k.layout k.history (set w.cells.items c.args.b c.read.new.self) w.failed w.starved w.sessions k.greatest) k.sessions w.first_outcome) (sym c.in_ok-take_spare.ensures.ok) kept in
+    noting (λ (k : BookState). Kept g.B.Backend.TELLS (world_of k.layout k.history (set w.cells.items c.args.b c.read.new.self) w.failed w.starved w.sessions k.greatest) k.sessions w.first_outcome)
     c.take_spare.new.self c.noted.new.book c.args.s c.read_number-number.result c.args.b c.in-Err.error c.noted.result c.noted.ensures asked
-    (λ space. kept_read_failed g.B.Backend.TELLS c.take_spare.new.self.backends c.take_spare.new.self.history (set w.cells.items c.args.b c.read.new.self) w.failed w.starved w.sessions w.greatest w.first_outcome asked c.args.s c.read_number-number.result c.args.b space)
+    (λ space. kept_read_failed g.B.Backend.TELLS c.take_spare.new.self.layout c.take_spare.new.self.history (set w.cells.items c.args.b c.read.new.self) w.failed w.starved w.sessions c.take_spare.new.self.greatest c.take_spare.new.self.sessions w.first_outcome asked c.args.s c.read_number-number.result c.args.b space)
 
 pub returns-in-Err-clause-core : goal.returns-in-Err-clause-core
 returns-in-Err-clause-core g c =
     let w = c.self.inside in
-    let lt = within w.book.backends c.args.b w.cells.items c.self.invariant.world.sound.cells (subst (λ (x : WorldState). c.args.b < x.core.placement.backends) (sym c.self.view_is) c.requires.within) in
-    let same = same_core g.B.Backend.TELLS w.book.backends w.book.history w.cells.items w.failed w.starved w.sessions w.greatest w.first_outcome c.self.invariant c.args.b lt c.index_mut.result.now c.index_mut.ensures.value c.read.new.self c.read.ensures.same in
-    let core : core_of c.take_spare.new.self.backends c.take_spare.new.self.history (set w.cells.items c.args.b c.read.new.self) w.failed w.starved w.sessions w.greatest ≡ c.args.self.now.core =
-    ap (λ (k : BookState). core_of k.backends k.history (set w.cells.items c.args.b c.read.new.self) w.failed w.starved w.sessions w.greatest) c.in_ok-take_spare.ensures.ok ∙ (same ∙ ap (λ (x : WorldState). x.core) c.self.view_is)
+    let lt = within (length w.book.layout.names) c.args.b w.cells.items c.self.invariant.world.sound.cells (subst (λ (x : WorldState). c.args.b < x.core.placement.backends) (sym c.self.view_is) c.requires.within) in
+    let same = same_core g.B.Backend.TELLS w.book.layout w.book.history w.cells.items w.failed w.starved w.sessions w.book.greatest w.book.sessions w.first_outcome c.self.invariant c.args.b lt c.index_mut.result.now c.index_mut.ensures.value c.read.new.self c.read.ensures.same in
+    let core : core_of c.take_spare.new.self.layout c.take_spare.new.self.history (set w.cells.items c.args.b c.read.new.self) w.failed w.starved w.sessions c.take_spare.new.self.greatest ≡ c.args.self.now.core =
+    ap (λ (k : BookState). core_of k.layout k.history (set w.cells.items c.args.b c.read.new.self) w.failed w.starved w.sessions k.greatest) c.in_ok-take_spare.ensures.ok ∙ (same ∙ ap (λ (x : WorldState). x.core) c.self.view_is)
     in
     let number = c.read_number-number.ensures ∙ ap (λ (k : Core). read_number (session_at k c.args.s)) (sym core) in
-    noted_core (set w.cells.items c.args.b c.read.new.self) w.failed w.starved w.sessions w.greatest c.take_spare.new.self c.noted.new.book c.args.s c.read_number-number.result c.args.b c.in-Err.error c.noted.result number c.noted.ensures
+    noted_core (set w.cells.items c.args.b c.read.new.self) w.failed w.starved w.sessions c.take_spare.new.self c.noted.new.book c.args.s c.read_number-number.result c.args.b c.in-Err.error c.noted.result number c.noted.ensures
     ∙ ap (λ (k : Core). asked_core k c.args.s c.args.b (Err c.noted.result)) core
 
 pub returns-in-Err-clause-asks : goal.returns-in-Err-clause-asks
 returns-in-Err-clause-asks g c =
     let w = c.self.inside in
-    let lt = within w.book.backends c.args.b w.cells.items c.self.invariant.world.sound.cells (subst (λ (x : WorldState). c.args.b < x.core.placement.backends) (sym c.self.view_is) c.requires.within) in
+    let lt = within (length w.book.layout.names) c.args.b w.cells.items c.self.invariant.world.sound.cells (subst (λ (x : WorldState). c.args.b < x.core.placement.backends) (sym c.self.view_is) c.requires.within) in
     let least = subst (λ (x : WorldState). c.least-least.result ≡ (session_at x.core c.args.s).least) (sym c.self.view_is) c.least-least.ensures in
     subst (λ (x : WorldState). Asks g.B.Backend.TELLS x.core c.args.s c.args.b c.args.select.now (Err c.noted.result)) c.self.view_is
-    (errs g.B.Backend.TELLS w.book.backends w.book.history w.cells.items w.failed w.starved w.sessions w.greatest w.first_outcome c.self.invariant c.args.b lt c.index_mut.result.now c.index_mut.ensures.value c.args.s c.args.select.now c.least-least.result least c.take_spare.new.self c.noted.new.book c.read_number-number.result c.in-Err.error c.noted.result
+    (errs g.B.Backend.TELLS w.book.layout w.book.history w.cells.items w.failed w.starved w.sessions w.book.greatest w.book.sessions w.first_outcome c.self.invariant c.args.b lt c.index_mut.result.now c.index_mut.ensures.value c.args.s c.args.select.now c.least-least.result least c.take_spare.new.self c.noted.new.book c.read_number-number.result c.in-Err.error c.noted.result
     (ap (λ (k : BookState). k.history) c.in_ok-take_spare.ensures.ok) c.noted.ensures c.in-Err.ensures.out c.in-Err.ensures.behind)
 
 pub returns-in-Err-clause-counts : goal.returns-in-Err-clause-counts
 returns-in-Err-clause-counts g c =
     let w = c.self.inside in
-    let lt = within w.book.backends c.args.b w.cells.items c.self.invariant.world.sound.cells (subst (λ (x : WorldState). c.args.b < x.core.placement.backends) (sym c.self.view_is) c.requires.within) in
+    let lt = within (length w.book.layout.names) c.args.b w.cells.items c.self.invariant.world.sound.cells (subst (λ (x : WorldState). c.args.b < x.core.placement.backends) (sym c.self.view_is) c.requires.within) in
     let is : get_or w.cells.items c.args.b c.read.new.self ≡ c.index_mut.result.now = get_or_default w.cells.items c.args.b c.read.new.self c.index_mut.result.now lt ∙ sym c.index_mut.ensures.value in
     let fault = noted_fault c.take_spare.new.self c.noted.new.book c.args.s c.read_number-number.result c.args.b c.in-Err.error c.noted.result c.index_mut.result.now.faults c.read.new.self.faults c.noted.ensures c.in-Err.ensures.cause in
     let now = subst (λ (x : CellState). c.read.new.self.faults ≡ cond fault.0 (next x.faults) x.faults) (sym is) fault.2 in
@@ -98,7 +103,7 @@ returns-in-Err-clause-counts g c =
 pub returns-in-Ok-clause-armings : goal.returns-in-Ok-clause-armings
 returns-in-Ok-clause-armings g c =
     let w = c.self.inside in
-    let lt = within w.book.backends c.args.b w.cells.items c.self.invariant.world.sound.cells (subst (λ (x : WorldState). c.args.b < x.core.placement.backends) (sym c.self.view_is) c.requires.within) in
+    let lt = within (length w.book.layout.names) c.args.b w.cells.items c.self.invariant.world.sound.cells (subst (λ (x : WorldState). c.args.b < x.core.placement.backends) (sym c.self.view_is) c.requires.within) in
     let is : get_or w.cells.items c.args.b c.read.new.self ≡ c.index_mut.result.now = get_or_default w.cells.items c.args.b c.read.new.self c.index_mut.result.now lt ∙ sym c.index_mut.ensures.value in
     let same = spent_times (is_asked c.read.result) c.index_mut.result.now.arming c.read.new.self.arming c.read.ensures.arming.after ∙ ap (λ (x : CellState). x.arming.times) (sym is) in
     armings_set w.cells.items c.args.b c.read.new.self false lt same ∙ ap (λ (x : WorldState). armings_of x.cells) c.self.view_is
@@ -106,7 +111,20 @@ returns-in-Ok-clause-armings g c =
 pub returns-in-Err-clause-armings : goal.returns-in-Err-clause-armings
 returns-in-Err-clause-armings g c =
     let w = c.self.inside in
-    let lt = within w.book.backends c.args.b w.cells.items c.self.invariant.world.sound.cells (subst (λ (x : WorldState). c.args.b < x.core.placement.backends) (sym c.self.view_is) c.requires.within) in
+    let lt = within (length w.book.layout.names) c.args.b w.cells.items c.self.invariant.world.sound.cells (subst (λ (x : WorldState). c.args.b < x.core.placement.backends) (sym c.self.view_is) c.requires.within) in
     let is : get_or w.cells.items c.args.b c.read.new.self ≡ c.index_mut.result.now = get_or_default w.cells.items c.args.b c.read.new.self c.index_mut.result.now lt ∙ sym c.index_mut.ensures.value in
     let same = spent_times (is_asked c.read.result) c.index_mut.result.now.arming c.read.new.self.arming c.read.ensures.arming.after ∙ ap (λ (x : CellState). x.arming.times) (sym is) in
     armings_set w.cells.items c.args.b c.read.new.self false lt same ∙ ap (λ (x : WorldState). armings_of x.cells) c.self.view_is
+
+pub returns-in-Err-clause-want : goal.returns-in-Err-clause-want
+returns-in-Err-clause-want g c want =
+    let w = c.self.inside in
+    let lt = within (length w.book.layout.names) c.args.b w.cells.items c.self.invariant.world.sound.cells (subst (λ (x : WorldState). c.args.b < x.core.placement.backends) (sym c.self.view_is) c.requires.within) in
+    let starved = noted_want c.take_spare.new.self c.noted.new.book c.args.s c.read_number-number.result c.args.b c.in-Err.error c.noted.result c.noted.ensures (cc want) in
+    let is : c.read.result ≡ Err read_errors.NoMemory = c.in-Err.is ∙ ap (λ (d : CellReadError). Err d) starved.0 in
+    let cell : c.read.new.self ≡ c.index_mut.result.now = wanted c.index_mut.result.now c.read.new.self c.read.result is c.read.ensures.same c.read.ensures.cause c.read.ensures.asks c.read.ensures.arming w.login c.read.ensures.login in
+    let there : c.index_mut.result.now ≡ get_or w.cells.items c.args.b c.index_mut.result.now = c.index_mut.ensures.value in
+    let cells : set w.cells.items c.args.b c.read.new.self ≡ w.cells.items = ap (set w.cells.items c.args.b) (cell ∙ there) ∙ set-get_or w.cells.items c.args.b c.index_mut.result.now in
+    let book : c.noted.new.book ≡ record w.book { has_spare = true } = starved.1 ∙ c.in_ok-take_spare.ensures.ok in
+    ap (λ (k : BookState). world_of k.layout k.history (set w.cells.items c.args.b c.read.new.self) w.failed w.starved w.sessions k.greatest) book
+    ∙ (ap (λ (xs : List CellState). world_of w.book.layout w.book.history xs w.failed w.starved w.sessions w.book.greatest) cells ∙ c.self.view_is)

@@ -1,10 +1,10 @@
-use Rattle.std.proofs.Common.{◌≡◌, ◌≤◌, true, false, sym, ap, ◌∙◌, subst, arith}
+use Rattle.std.proofs.Common.{◌≡◌, ◌≤◌, Some, true, false, sym, ap, ◌∙◌, subst, arith}
 use Rattle.cj_cluster.specs.History.Histories.{is_idle, is_enabled}
-use Rattle.cj_cluster.specs.Moves.Cores.{Core}
-use Rattle.cj_cluster.specs.Moves.Moves.{happened}
+use Rattle.cj_cluster.specs.Moves.Cores.{Core, position_at}
+use Rattle.cj_cluster.specs.Moves.Moves.{happened, last_number}
 use Rattle.cj_cluster.specs.declared.event.Event.TheVariants.{Enabled}
 use Rattle.cj_core.specs.Worlds.{WorldState}
-use Rattle.cj_core.proofs.Resting.{free-enables, off-enables, happened-begun, no_room}
+use Rattle.cj_core.proofs.Resting.{free-enables, off-enables, there-enables, happened-started, no_room}
 use Rattle.cj_core.proofs.world.World.enable_next.Goals as goal
 
 pub switch_on-requires-clause-free : goal.switch_on-requires-clause-free
@@ -15,10 +15,15 @@ switch_on-requires-clause-off g c =
     let le : c.args.b ≤ c.args.b = omega arith in
     subst (λ (x : Core). is_enabled x.history c.args.b ≡ false) (sym c.requires.begun) (off-enables c.args.b c.args.b le)
 
+pub switch_on-requires-clause-there : goal.switch_on-requires-clause-there
+switch_on-requires-clause-there g c =
+    subst (λ (x : Core). position_at x c.args.b ≡ Some (last_number x)) (sym c.requires.begun) (there-enables c.args.self.now.core.placement c.args.b c.args.b c.requires.within)
+
 pub unreachable-requires-in-Err-HistoryFull : goal.unreachable-requires-in-Err-HistoryFull
 unreachable-requires-in-Err-HistoryFull g c =
     let full = c.in-Err-HistoryFull in
-    no_room c.args.self.now.core c.args.count c.args.b full.field-0-0 full.field-0 c.requires.begun c.requires.within c.requires.few full.ensures.room full.field-0-is
+    no_room c.args.self.now.core c.args.self.now.core.placement c.args.b full.field-0-0 full.field-0 c.requires.begun c.requires.within c.legal.ensures.few full.ensures.room full.field-0-is
 
 pub returns-in-Ok-clause-core : goal.returns-in-Ok-clause-core
-returns-in-Ok-clause-core g c = ap (λ (x : WorldState). x.core) c.in-Ok.ensures.ok ∙ (ap (λ (x : Core). happened x (Enabled c.args.b)) c.requires.begun ∙ happened-begun c.args.count c.args.b)
+returns-in-Ok-clause-core g c =
+    ap (λ (x : WorldState). x.core) c.in-Ok.ensures.ok ∙ (ap (λ (x : Core). happened x (Enabled c.args.b)) c.requires.begun ∙ happened-started c.args.self.now.core.placement c.args.b)

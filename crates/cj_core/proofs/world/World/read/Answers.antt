@@ -1,4 +1,4 @@
-use Rattle.std.proofs.Common.{◌≡◌, ℕ, Bool, true, false, cond, None, Some, Ok, Err, refl, ap, sym, ◌∙◌, subst}
+use Rattle.std.proofs.Common.{◌≡◌, ℕ, Bool, true, false, cond, None, Some, Ok, Err, refl, ap, sym, ◌∙◌, subst, arith}
 use Rattle.std.proofs.lemmas.Bool.{both_ways}
 use Rattle.cj_cluster.specs.declared.moves.Moved.{Moved}
 use Rattle.cj_cluster.specs.Moves.Cores.{Core, session_at, is_entry_of}
@@ -7,13 +7,19 @@ use Rattle.cj_core.specs.declared.cells.AskError.{AskError}
 use Rattle.cj_cluster.specs.declared.event.Event.TheVariants.{ReadFailed}
 use Rattle.cj_cluster.proofs.Now.{can_read}
 use Rattle.cj_cluster.proofs.Pushed.{opened-same}
-use Rattle.cj_cluster.proofs.Standing.{tried_more}
+use Rattle.cj_cluster.proofs.Standing.{open_above, tried_more}
 use Rattle.cj_core.specs.Worlds.{WorldState}
 use Rattle.cj_core.specs.Armings.{armings_of}
 use Rattle.cj_core.specs.Counting.{faults_of, faults_after, tells_fault}
 use Rattle.cj_core.specs.Effects.{Asks, asked_core, failed_asked, HaveFailed, RefusesOrStays}
 use Rattle.cj_core.proofs.Reading.{not_serving, answered, failed, unnoted, is_out, is_behind, answers_blame_none, failures_blame}
 use Rattle.cj_core.proofs.world.World.read.Goals as goal
+
+pub has_bit-requires : goal.has_bit-requires
+has_bit-requires g c =
+    let few = c.legal.ensures.few in
+    let within = c.requires.within in
+    omega arith
 
 pub refuse_read-requires-clause-idle : goal.refuse_read-requires-clause-idle
 refuse_read-requires-clause-idle g c = (can_read c.args.self.now.core c.args.s c.args.b c.args.select c.requires.now).idle
@@ -32,8 +38,9 @@ refuse_or_stay-requires-clause-idle g c =
 pub refuse_or_stay-requires-clause-since : goal.refuse_or_stay-requires-clause-since
 refuse_or_stay-requires-clause-since g c =
     let core = subst (λ (e : AskError). c.ask.new.self.core ≡ asked_core c.args.self.now.core c.args.s c.args.b (Err e)) c.in-Err-Failed.field-0-is c.in-Err-Failed.ensures.core in
+    let above = open_above c.args.self.now.core c.args.s c.legal.ensures.sound (can_read c.args.self.now.core c.args.s c.args.b c.args.select c.requires.now).here in
     subst (λ (x : Core). HaveFailed x c.args.s c.tried_with-tried.result) (sym core)
-    (rw c.tried_with-tried.ensures (tried_more c.args.self.now.core c.args.s c.args.b (read_number (session_at c.args.self.now.core c.args.s)) c.args.select refl c.legal.ensures.between))
+    (rw c.tried_with-tried.ensures (tried_more c.args.self.now.core c.args.s c.args.b (read_number (session_at c.args.self.now.core c.args.s)) c.args.select above refl c.legal.ensures.between))
 
 pub refuse_unnoted-requires-clause-idle : goal.refuse_unnoted-requires-clause-idle
 refuse_unnoted-requires-clause-idle g c =
@@ -50,16 +57,16 @@ wait-requires-in-Err-Behind-clause-idle g c =
     let core = subst (λ (e : AskError). c.ask.new.self.core ≡ asked_core c.args.self.now.core c.args.s c.args.b (Err e)) c.in-Err-Behind.field-0-is c.in-Err-Behind.ensures.core in
     subst (λ (x : Core). is_waiting x c.args.s ≡ false) (sym core) (can_read c.args.self.now.core c.args.s c.args.b c.args.select c.requires.now).idle
 
-pub returns-then-not-serves-clause-moves : goal.returns-then-not-serves-clause-moves
-returns-then-not-serves-clause-moves g c =
+pub returns-then-not-has_bit-clause-moves : goal.returns-then-not-has_bit-clause-moves
+returns-then-not-has_bit-clause-moves g c =
     let same : HasNoOtherRead (session_at c.args.self.now.core c.args.s) c.args.select = c.if-reads_other.ensures in
     not_serving g.B.Backend.TELLS c.args.self.now.core c.args.s c.args.b c.args.select same c.serving-serving.result c.serving-serving.type_inv c.if-serving-eq0.false c.serving-serving.ensures
-    (λ serves. both_ways c.serves.result c.if-not-serves.true (c.serves.ensures.1 serves))
+    (λ serves. both_ways c.has_bit.result c.if-not-has_bit.true (c.has_bit.ensures ∙ (c.serving-serving.ensures c.args.b).0 serves))
 
 pub returns-in-Ok-clause-moves : goal.returns-in-Ok-clause-moves
 returns-in-Ok-clause-moves g c =
     let same : HasNoOtherRead (session_at c.args.self.now.core c.args.s) c.args.select = c.if-reads_other.ensures in
-    answered g.B.Backend.TELLS c.args.self.now.core c.args.s c.args.b c.args.select same (c.serves.ensures.0 c.if-not-serves.false) c.in-Ok.answer c.in-Ok.position c.ask.new.self.core c.answer.new.self.core
+    answered g.B.Backend.TELLS c.args.self.now.core c.args.s c.args.b c.args.select same ((c.serving-serving.ensures c.args.b).1 (sym c.has_bit.ensures ∙ c.if-not-has_bit.false)) c.in-Ok.answer c.in-Ok.position c.ask.new.self.core c.answer.new.self.core
     c.answer.result c.in-Ok.ensures.asks c.in-Ok.ensures.core (ap (λ (w : WorldState). w.core) c.answer.ensures.ok) c.answer.ensures.moved
 
 pub returns-in-Ok-clause-causes : goal.returns-in-Ok-clause-causes
@@ -72,7 +79,7 @@ returns-in-Err-Failed-clause-moves g c =
     let same : HasNoOtherRead (session_at c.args.self.now.core c.args.s) c.args.select = c.if-reads_other.ensures in
     let asks = subst (λ (e : AskError). Asks g.B.Backend.TELLS c.args.self.now.core c.args.s c.args.b c.args.select (Err e)) c.in-Err-Failed.field-0-is c.in-Err-Failed.ensures.asks in
     let core = subst (λ (e : AskError). c.ask.new.self.core ≡ asked_core c.args.self.now.core c.args.s c.args.b (Err e)) c.in-Err-Failed.field-0-is c.in-Err-Failed.ensures.core in
-    failed g.B.Backend.TELLS c.args.self.now.core c.args.s c.args.b c.args.select same (c.serves.ensures.0 c.if-not-serves.false) c.ask.new.self.core c.refuse_or_stay.new.self.core c.refuse_or_stay.result c.serving-serving.result c.serving-serving.ensures asks core
+    failed g.B.Backend.TELLS c.args.self.now.core c.args.s c.args.b c.args.select same ((c.serving-serving.ensures c.args.b).1 (sym c.has_bit.ensures ∙ c.if-not-has_bit.false)) c.ask.new.self.core c.refuse_or_stay.new.self.core c.refuse_or_stay.result c.serving-serving.result c.serving-serving.ensures asks core
     (subst (λ (tried : ℕ). RefusesOrStays c.ask.new.self.core c.args.s c.args.select tried c.serving-serving.result c.refuse_or_stay.result c.refuse_or_stay.new.self.core) c.tried_with-tried.ensures c.refuse_or_stay.ensures.moves)
 
 pub returns-in-Err-Failed-clause-causes : goal.returns-in-Err-Failed-clause-causes
@@ -86,7 +93,7 @@ returns-in-Err-Unnoted-clause-moves g c =
     let same : HasNoOtherRead (session_at c.args.self.now.core c.args.s) c.args.select = c.if-reads_other.ensures in
     let asks = subst (λ (e : AskError). Asks g.B.Backend.TELLS c.args.self.now.core c.args.s c.args.b c.args.select (Err e)) c.in-Err-Unnoted.field-0-is c.in-Err-Unnoted.ensures.asks in
     let core = subst (λ (e : AskError). c.ask.new.self.core ≡ asked_core c.args.self.now.core c.args.s c.args.b (Err e)) c.in-Err-Unnoted.field-0-is c.in-Err-Unnoted.ensures.core in
-    unnoted g.B.Backend.TELLS c.args.self.now.core c.args.s c.args.b c.args.select same (c.serves.ensures.0 c.if-not-serves.false) c.in-Err-Unnoted.events c.ask.new.self.core c.refuse_unnoted.new.self.core c.refuse_unnoted.result asks core c.refuse_unnoted.ensures.moved
+    unnoted g.B.Backend.TELLS c.args.self.now.core c.args.s c.args.b c.args.select same ((c.serving-serving.ensures c.args.b).1 (sym c.has_bit.ensures ∙ c.if-not-has_bit.false)) c.in-Err-Unnoted.events c.ask.new.self.core c.refuse_unnoted.new.self.core c.refuse_unnoted.result asks core c.refuse_unnoted.ensures.moved
     (ap (λ (w : WorldState). w.core) c.refuse_unnoted.ensures.ok)
 
 pub returns-in-Err-Unnoted-clause-causes : goal.returns-in-Err-Unnoted-clause-causes
@@ -100,7 +107,7 @@ returns-in-Err-Out-clause-moves g c =
     let same : HasNoOtherRead (session_at c.args.self.now.core c.args.s) c.args.select = c.if-reads_other.ensures in
     let asks = subst (λ (e : AskError). Asks g.B.Backend.TELLS c.args.self.now.core c.args.s c.args.b c.args.select (Err e)) c.in-Err-Out.field-0-is c.in-Err-Out.ensures.asks in
     let core = subst (λ (e : AskError). c.ask.new.self.core ≡ asked_core c.args.self.now.core c.args.s c.args.b (Err e)) c.in-Err-Out.field-0-is c.in-Err-Out.ensures.core in
-    is_out g.B.Backend.TELLS c.args.self.now.core c.args.s c.args.b c.args.select same (c.serves.ensures.0 c.if-not-serves.false) c.ask.new.self.core c.wait.new.self.core asks core (ap (λ (w : WorldState). w.core) c.wait.ensures)
+    is_out g.B.Backend.TELLS c.args.self.now.core c.args.s c.args.b c.args.select same ((c.serving-serving.ensures c.args.b).1 (sym c.has_bit.ensures ∙ c.if-not-has_bit.false)) c.ask.new.self.core c.wait.new.self.core asks core (ap (λ (w : WorldState). w.core) c.wait.ensures)
 
 pub returns-in-Err-Out-clause-causes : goal.returns-in-Err-Out-clause-causes
 returns-in-Err-Out-clause-causes g c =
@@ -112,7 +119,7 @@ returns-in-Err-Behind-clause-moves g c =
     let same : HasNoOtherRead (session_at c.args.self.now.core c.args.s) c.args.select = c.if-reads_other.ensures in
     let asks = subst (λ (e : AskError). Asks g.B.Backend.TELLS c.args.self.now.core c.args.s c.args.b c.args.select (Err e)) c.in-Err-Behind.field-0-is c.in-Err-Behind.ensures.asks in
     let core = subst (λ (e : AskError). c.ask.new.self.core ≡ asked_core c.args.self.now.core c.args.s c.args.b (Err e)) c.in-Err-Behind.field-0-is c.in-Err-Behind.ensures.core in
-    is_behind g.B.Backend.TELLS c.args.self.now.core c.args.s c.args.b c.args.select same (c.serves.ensures.0 c.if-not-serves.false) c.in-Err-Behind.position c.ask.new.self.core
+    is_behind g.B.Backend.TELLS c.args.self.now.core c.args.s c.args.b c.args.select same ((c.serving-serving.ensures c.args.b).1 (sym c.has_bit.ensures ∙ c.if-not-has_bit.false)) c.in-Err-Behind.position c.ask.new.self.core
     c.wait-in-Err-Behind.new.self.core asks core (ap (λ (w : WorldState). w.core) c.wait-in-Err-Behind.ensures)
 
 pub returns-in-Err-Behind-clause-causes : goal.returns-in-Err-Behind-clause-causes

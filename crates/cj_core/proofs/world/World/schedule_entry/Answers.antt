@@ -1,13 +1,23 @@
-use Rattle.std.proofs.Common.{◌≡◌, Ok, Err, None, true, sym, subst}
+use Rattle.std.proofs.Common.{◌≡◌, inl, Ok, Err, None, true, ap, sym, ◌∙◌, subst}
+use Rattle.cj_model.specs.declared.request.Entry.{Entry}
 use Rattle.cj_cluster.specs.History.Histories.{log}
 use Rattle.cj_cluster.specs.History.Legality.{IsFitEntry}
 use Rattle.cj_cluster.specs.Moves.Cores.{session_at}
 use Rattle.cj_cluster.specs.Moves.Moves.{is_open, next_entry}
+use Rattle.cj_book.specs.Books.{has_session}
 use Rattle.cj_core.specs.Worlds.{WorldState}
 use Rattle.cj_core.specs.Effects.{SchedulesAs}
 use Rattle.cj_core.proofs.Keeping.{kept_scheduled}
-use Rattle.cj_core.proofs.Noting.{served_on, scheduled_as, not_scheduled}
+use Rattle.cj_core.proofs.OpenNumbers.{open_is}
+use Rattle.cj_core.proofs.Noting.{scheduled_as, not_scheduled}
 use Rattle.cj_core.proofs.world.World.schedule_entry.Goals as goal
+
+pub schedule-requires-clause-known : goal.schedule-requires-clause-known
+schedule-requires-clause-known g c =
+    let w = c.self.inside in
+    let here = subst (λ (x : WorldState). is_open x.core c.args.s ≡ true) (sym c.self.view_is) c.requires.here in
+    let next = subst (λ (x : WorldState). c.args.entry ≡ next_entry x.core c.args.s c.args.entry.act) (sym c.self.view_is) c.requires.next in
+    inl (ap (has_session w.book) (ap (λ (e : Entry). e.session) next) ∙ (open_is w.book w.cells.items w.failed w.starved w.sessions c.self.invariant.numbers_are c.args.s ∙ here))
 
 pub invariant_of-self : goal.invariant_of-self
 invariant_of-self g c =
@@ -17,19 +27,19 @@ invariant_of-self g c =
     let fits = subst (λ (x : WorldState). IsFitEntry (log x.core.history) c.args.entry) (sym c.self.view_is) c.requires.fits in
     let no_read = subst (λ (x : WorldState). (session_at x.core c.args.s).reading ≡ None) (sym c.self.view_is) c.requires.no_read in
     let ready = c.in-Ok.ensures.ready in
-    let on = served_on w.book c.args.entry c.requires.lone ready in
     rw (c.in-Ok.ensures.ok, c.count.ensures)
-    (kept_scheduled g.B.Backend.TELLS w.book.backends w.book.history w.cells.items w.failed w.starved w.sessions w.greatest w.first_outcome c.self.invariant c.args.s c.args.entry here next ready.is_free fits c.requires.lone ready.space on.0 on.1 no_read ready.served)
+    (kept_scheduled g.B.Backend.TELLS w.book.layout w.book.history w.cells.items w.failed w.starved w.sessions w.book.greatest w.book.sessions w.first_outcome c.self.invariant c.args.s c.args.entry here next ready.is_free fits
+    ready.space no_read ready.served)
 
 pub returns-in-Ok-clause-scheduled : goal.returns-in-Ok-clause-scheduled
 returns-in-Ok-clause-scheduled g c =
     let w = c.self.inside in
     subst (λ (x : WorldState). SchedulesAs x.core c.args.entry (Ok c.in-Ok.number)) c.self.view_is
-    (scheduled_as w.cells.items w.failed w.starved w.sessions w.greatest w.book c.args.entry c.schedule.new.self c.in-Ok.number c.in-Ok.ensures.ok c.in-Ok.ensures.number c.in-Ok.ensures.ready)
+    (scheduled_as w.cells.items w.failed w.starved w.sessions w.book.greatest w.book c.args.entry c.schedule.new.self c.in-Ok.number c.in-Ok.ensures.ok c.in-Ok.ensures.number c.in-Ok.ensures.ready)
 
 pub returns-in-Err-clause-scheduled : goal.returns-in-Err-clause-scheduled
 returns-in-Err-clause-scheduled g c =
     let w = c.self.inside in
     subst (λ (x : WorldState). SchedulesAs x.core c.args.entry (Err c.in-Err.error)) c.self.view_is
-    (not_scheduled w.cells.items w.failed w.starved w.sessions w.greatest w.book c.args.entry c.schedule.result c.in-Err.error c.in-Err.is
+    (not_scheduled w.cells.items w.failed w.starved w.sessions w.book.greatest w.book c.args.entry c.schedule.result c.in-Err.error c.in-Err.is
     c.schedule.ensures.in_progress c.schedule.ensures.no_backend c.schedule.ensures.full)

@@ -1,13 +1,11 @@
-use Rattle.std.proofs.Common.{◌≡◌, ◌∙◌, ℕ, sym, subst}
-use Rattle.cj_model.specs.declared.request.Request.TheVariants as request
-use Rattle.cj_cluster.specs.History.Histories.{is_enabled}
-use Rattle.cj_model.specs.Cluster.Masks.{in_mask}
-use Rattle.cj_core.specs.Worlds.{WorldState, IsWorld}
-use Rattle.cj_core.proofs.Serving.{serves_at}
+use Rattle.std.proofs.Common.{List, sym, ap, ◌∙◌, ℕ}
+use Rattle.cj_book.specs.Books.{is_candidate}
+use Rattle.cj_core.specs.Worlds.{WorldState}
+use Rattle.cj_core.proofs.Serving.{candidates_serve}
 use Rattle.cj_core.proofs.world.World.serving.Goals as goal
 
 pub returns : goal.returns
 returns g c =
-    let is = subst (IsWorld g.B.Backend.TELLS) c.self.view_is c.self.invariant.world in
-    let same = subst (λ (x : WorldState). (b : ℕ) → in_mask c.enabled.result b ≡ is_enabled x.core.history b) c.self.view_is c.enabled.ensures.mask in
-    λ b. (λ serves. same b ∙ serves.0, λ on. serves_at g.B.Backend.TELLS c.args.self.now is (request.Select c.args._select.now) b (sym (same b) ∙ on))
+    let same = sym c.self.view_is in
+    candidates_serve c.args.self.now.core c.self.inside.book c.args.select.now c.candidates.result (ap (λ (w : WorldState). w.core.placement) same) (ap (λ (w : WorldState). w.core.history) same)
+    (λ b. c.candidates.ensures.hosts b ∙ ap (λ (tables : List (List ℕ)). is_candidate c.self.inside.book tables b) c.as_slice.ensures)
