@@ -2,7 +2,7 @@
 use Rattle.std.proofs.Common.{◌≡◌, ℕ, ◌+◌, ◌*◌, ◌≤◌, Bool, not, List, [], ◌∷◌, ◌++◌, length, inl, inr, refl, ap, ◌∙◌, arith, length-append}
 use Rattle.std.proofs.lemmas.List.Elements.{filter-append}
 use Rattle.cj_cluster.specs.declared.moves.Move.{Move}
-use Rattle.cj_cluster.specs.declared.moves.Move.TheVariants.{Open, Close, Schedule, Apply, End, Read, Arm, Disable, Replay, Enable}
+use Rattle.cj_cluster.specs.declared.moves.Move.TheVariants.{Open, Close, Schedule, Abort, Apply, End, Read, Arm, Disable, Replay, Enable}
 use Rattle.cj_cluster.specs.Script.Lines.{MoveLine}
 use Rattle.cj_core.specs.Worlds.{WorldState}
 use Rattle.cj_script.specs.Script.{is_empty, filled, PlaysLine}
@@ -18,6 +18,7 @@ pub move_line_long : (names : List (List ℕ)) (line : List ℕ) (m : Move) → 
 move_line_long names line (Open user) (is, e) = verb_more line _ _ _ e
 move_line_long names line (Close s) (number, is, e) = verb_more line _ _ _ e
 move_line_long names line (Schedule s r) (number, sql, is, reads, e) = verb_more line _ _ _ e
+move_line_long names line (Abort tx) (number, is, e) = verb_more line _ _ _ e
 move_line_long names line (Apply b) (name, is, e) = verb_more line _ _ _ e
 move_line_long names line End e = verb_more line _ _ _ e
 move_line_long names line (Read s b select) (number, name, sql, is, named, reads, e) = verb_more line _ _ _ e

@@ -12,7 +12,7 @@ use Rattle.cj_outside.specs.Lines.{Reading}
 use Rattle.cj_outside.specs.Streams.{most}
 use Rattle.cj_outside.proofs.Joined.{appends_then, appends_more}
 use Rattle.cj_cluster.specs.declared.moves.Move.{Move}
-use Rattle.cj_cluster.specs.declared.moves.Move.TheVariants.{Open, Close, Schedule, Apply, End, Read, Arm, Disable, Replay, Enable}
+use Rattle.cj_cluster.specs.declared.moves.Move.TheVariants.{Open, Close, Schedule, Abort, Apply, End, Read, Arm, Disable, Replay, Enable}
 use Rattle.cj_cluster.specs.declared.moves.Made.{Made}
 use Rattle.cj_cluster.specs.Moves.Cores.{session_at}
 use Rattle.cj_cluster.specs.Moves.Runs.{RunsMoves, IsMoveOfCluster, CanCountRequests}
@@ -73,7 +73,8 @@ named_within names n line verb b as_many (name, is, e) = subst (λ (k : ℕ). b 
 line_move : (names : List (List ℕ)) (n : ℕ) (line : List ℕ) (m : Move) → length names ≡ n → MoveLine names line m → IsMoveOfCluster n m
 line_move names n line (Open user) as_many (is, e) = is.short
 line_move names n line (Close s) as_many h = tt
-line_move names n line (Schedule s r) as_many (number, sql, is, write, e) = (record { plain = write.sql.plain; text = sql; reads = write.sql.reads }, write.lone)
+line_move names n line (Schedule s r) as_many (number, sql, is, write, e) = (record { plain = write.sql.plain; text = sql; reads = write.sql.reads }, write.for_log)
+line_move names n line (Abort tx) as_many h = tt
 line_move names n line (Apply b) as_many h = named_within names n line (codes "apply") b as_many h
 line_move names n line End as_many h = tt
 line_move names n line (Read s b select) as_many (number, name, sql, is, named, reads, e) = (

@@ -7,7 +7,7 @@ use Rattle.cj_cluster.specs.declared.moves.Move.{Move}
 use Rattle.cj_cluster.specs.declared.moves.Move.TheVariants as move
 use Rattle.cj_cluster.specs.Script.Lines.{HasNoSpace, MoveLine}
 use Rattle.cj_script.specs.declared.verb.Verb.{Verb}
-use Rattle.cj_script.specs.declared.verb.Verb.TheVariants.{Open, Close, Write, Apply, End, Read, Arm, Disable, Replay, Enable}
+use Rattle.cj_script.specs.declared.verb.Verb.TheVariants.{Open, Close, Write, Abort, Apply, End, Read, Arm, Disable, Replay, Enable}
 use Rattle.cj_script.specs.declared.verb.TheConstants.{VERBS}
 use Rattle.cj_script.specs.Reading.{Finds, find_verb, verb_of, word_of, CutsWord, Arguments}
 use Rattle.cj_script.proofs.Cutting.{no_space, cut_one}
@@ -20,6 +20,7 @@ unfolding verb_of
 verb_of-word_of Open = refl
 verb_of-word_of Close = refl
 verb_of-word_of Write = refl
+verb_of-word_of Abort = refl
 verb_of-word_of Apply = refl
 verb_of-word_of End = refl
 verb_of-word_of Read = refl
@@ -33,6 +34,7 @@ word_of_verb : (v : Verb) → HasNoSpace (word_of v)
 word_of_verb Open = refl
 word_of_verb Close = refl
 word_of_verb Write = refl
+word_of_verb Abort = refl
 word_of_verb Apply = refl
 word_of_verb End = refl
 word_of_verb Read = refl
@@ -61,7 +63,7 @@ lookup_word (k ∷ ks) word v a e = elim (cases_Bool (bytes_eq k.0 word)) [
 
 found_word : (word : List ℕ) (v : Verb) → verb_of word ≡ Some v → word ≡ word_of v
 unfolding verb_of Agrees
-found_word word v e = lookup_word (map (λ v. (v.0.now, v.1)) VERBS) word v (refl, (refl, (refl, (refl, (refl, (refl, (refl, (refl, (refl, (refl, tt)))))))))) e
+found_word word v e = lookup_word (map (λ v. (v.0.now, v.1)) VERBS) word v (refl, (refl, (refl, (refl, (refl, (refl, (refl, (refl, (refl, (refl, (refl, tt))))))))))) e
 
 -- ---- parts
 
@@ -75,6 +77,7 @@ line_parts names line (move.Open user) h = behind Open user h.1 (h.0, refl)
 line_parts names line (move.Close s) h = behind Close h.0 h.2 (s, h.1, refl)
 line_parts names line (move.Schedule s r) h =
     behind Write (h.0 ++ 32 ∷ h.1) h.4 (record { session = s; sql = h.1; numbered = record { word = h.0; number = h.2; parts = refl }; request = r; reads = h.3; is = refl })
+line_parts names line (move.Abort tx) h = behind Abort h.0 h.2 (tx, h.1, refl)
 line_parts names line (move.Apply b) h = behind Apply h.0 h.2 (b, h.1, refl)
 line_parts names line move.End h = lone h refl
 line_parts names line (move.Read s b select) h =
@@ -101,6 +104,7 @@ parts_line names line rest Open m e a = subst (MoveLine names line) (sym a.1) (a
 parts_line names line rest Close m e a = subst (MoveLine names line) (sym a.2) (rest, a.1, e)
 parts_line names line rest Write m e a =
     subst (MoveLine names line) (sym a.is) (a.numbered.word, a.sql, a.numbered.number, a.reads, e ∙ ap (λ (z : List ℕ). word_of Write ++ 32 ∷ z) a.numbered.parts)
+parts_line names line rest Abort m e a = subst (MoveLine names line) (sym a.2) (rest, a.1, e)
 parts_line names line rest Apply m e a = subst (MoveLine names line) (sym a.2) (rest, a.1, e)
 parts_line names line rest End m e a = absurd a
 parts_line names line rest Read m e a =

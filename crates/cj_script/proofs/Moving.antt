@@ -1,22 +1,16 @@
 -- Lines that are moves: how many can come.
-use Rattle.std.proofs.Common.{◌≡◌, ℕ, ◌+◌, ◌*◌, ◌-◌, ◌≤◌, ◌^◌, Bool, List, [], length, Option, inl, inr, refl, sym, ap, subst, arith}
-use Rattle.std.specs.Io.KnownBytes.{Appends}
+use Rattle.std.proofs.Common.{◌≡◌, ℕ, ◌+◌, ◌*◌, ◌-◌, ◌≤◌, ◌^◌, Bool, List, [], length, Option, Result, inl, inr, sym, ap, subst, arith}
 use Rattle.cj_outside.specs.Lines.{Reading}
 use Rattle.cj_outside.specs.Streams.{most}
-use Rattle.cj_cluster.specs.declared.moves.Made.{Made}
 use Rattle.cj_core.specs.Worlds.{WorldState}
-use Rattle.cj_cluster.specs.Moves.Moves.{MovesTo}
 use Rattle.cj_cluster.specs.Moves.Runs.{CanCountRequests}
 use Rattle.cj_cluster.proofs.Growth.{moves_grow, can_count}
-use Rattle.cj_core.specs.Armings.{HasArmings}
-use Rattle.cj_core.specs.Counting.{HasCauses}
 use Rattle.cj_core.specs.Played.{given_of}
 use Rattle.cj_script.specs.Script.{PlaysLine, MakesMove}
-use Rattle.cj_script.specs.Steps.{PlaysWritten}
+use Rattle.cj_script.specs.declared.play.ScriptEnd.{ScriptEnd}
+use Rattle.cj_script.specs.Steps.{PlaysWritten, PlaysOrEnds}
 use Rattle.cj_script.proofs.Filled.{move_line_long}
 use Rattle.cj_script.proofs.Playing.{Advances}
-use Rattle.cj_cluster.specs.declared.moves.Move.{Move}
-use Rattle.cj_cluster.specs.Script.Lines.{MoveLine, moved_lines}
 
 -- ---- a line that was played
 
@@ -25,22 +19,12 @@ pub line_cases : (tells armable : Bool) (names : List (List ℕ)) (c : WorldStat
 line_cases tells armable names c line written z P (inl skips) skipped made = skipped skips.nothing skips.same
 line_cases tells armable names c line written z P (inr makes) skipped made = made makes
 
--- it made its move, and what that came to was written
-pub played_made : (tells armable : Bool) (names : List (List ℕ)) (held held' : Option (List ℕ)) (c : WorldState) (line : List ℕ) (m : Move) (made : Made) (z : WorldState)
-    → MoveLine names line m → MovesTo tells c.core m (given_of made) z.core → HasCauses c z m (given_of made) → HasArmings armable c z m (given_of made) → Appends held held' (moved_lines names made) → PlaysWritten tells armable names held held' c line z
-played_made tells armable names held held' c line m made z reads moves causes armings wrote =
-    let makes : MakesMove tells armable names c line (moved_lines names made) z = record { move = m; reads = reads; made = made; moves = moves; causes = causes; armings = armings; gives = refl } in
-    record {
-      written = moved_lines names made;
-      plays = inr makes;
-      appended = wrote;
-    }
-
--- the backends are the same as before it
-pub played_backends : (tells armable : Bool) (names : List (List ℕ)) (held held' : Option (List ℕ)) (c : WorldState) (line : List ℕ) (z : WorldState) → PlaysWritten tells armable names held held' c line z → z.core.placement ≡ c.core.placement
-played_backends tells armable names held held' c line z h =
-    line_cases tells armable names c line h.written z (z.core.placement ≡ c.core.placement) h.plays (λ none same. ap (λ (x : WorldState). x.core.placement) same)
-    (λ made. (moves_grow tells c.core made.move (given_of made.made) z.core made.moves).placement)
+-- what a line comes to is the same under equal names, and of an equal line
+pub plays_as : (tells armable : Bool) (names names' : List (List ℕ)) (held held' : Option (List ℕ)) (c : WorldState) (line line' : List ℕ) (number : ℕ) (result : Result (Unit {0}) ScriptEnd) (z : WorldState)
+    → names ≡ names' → line ≡ line' → PlaysOrEnds tells armable names held held' c line number result z → PlaysOrEnds tells armable names' held held' c line' number result z
+plays_as tells armable names names' held held' c line line' number result z same_names same h =
+    subst (λ (t : List ℕ). PlaysOrEnds tells armable names' held held' c t number result z) same
+    (subst (λ (ns : List (List ℕ)). PlaysOrEnds tells armable ns held held' c line number result z) same_names h)
 
 -- ---- how many can come
 

@@ -13,7 +13,7 @@ use Rattle.cj_cluster.specs.declared.moves.Move.TheVariants as move
 use Rattle.cj_model.specs.Sql.Names.{is_nothing}
 use Rattle.cj_cluster.specs.Script.Lines.{HasNoSpace, IsUser, IsNumber, IsBackend, IsPlainSql, IsWrite}
 use Rattle.cj_script.specs.declared.verb.Verb.{Verb}
-use Rattle.cj_script.specs.declared.verb.Verb.TheVariants.{Open, Close, Write, Apply, End, Read, Arm, Disable, Replay, Enable}
+use Rattle.cj_script.specs.declared.verb.Verb.TheVariants.{Open, Close, Write, Abort, Apply, End, Read, Arm, Disable, Replay, Enable}
 use Rattle.cj_script.specs.declared.verb.TheConstants.{VERBS}
 
 -- one value, and no other, is as the fact says; or none is
@@ -36,6 +36,7 @@ abbrev pub word_of : Verb → List ℕ
 word_of Open = codes "open"
 word_of Close = codes "close"
 word_of Write = codes "write"
+word_of Abort = codes "abort"
 word_of Apply = codes "apply"
 word_of End = codes "end"
 word_of Read = codes "read"
@@ -95,6 +96,9 @@ pub record Writes (rest : List ℕ) (m : Move) : Type 0 where
   pub reads : IsWrite sql request
   pub is : m ≡ move.Schedule session request
 
+abbrev pub ReadsAbort : List ℕ → Move → Type 0
+ReadsAbort rest m = (tx : ℕ) × IsNumber rest tx × (m ≡ move.Abort tx)
+
 -- a session's number, a backend's name and a query
 pub record Queries (names : List (List ℕ)) (rest : List ℕ) (m : Move) : Type 0 where
   pub session : ℕ
@@ -121,6 +125,7 @@ abbrev pub Arguments : List (List ℕ) → Verb → List ℕ → Move → Type 0
 Arguments names Open rest m = ReadsOpen rest m
 Arguments names Close rest m = ReadsClose rest m
 Arguments names Write rest m = Writes rest m
+Arguments names Abort rest m = ReadsAbort rest m
 Arguments names Apply rest m = Names names move.Apply rest m
 Arguments names End rest m = ⊥
 Arguments names Read rest m = Queries names rest m

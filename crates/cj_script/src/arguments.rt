@@ -1,9 +1,9 @@
 //! What follows the first word of a line.
 
-ghost use Rattle.std.specs.Prelude.{◌≡◌, ◌≤◌, ◌<◌, ◌↔◌, length, IfOk, IsTrue, MatchBool};
-ghost use Rattle.cj_cluster.specs.Moves.Runs.{IsOutsideTransaction};
+ghost use Rattle.std.specs.Prelude.{◌≡◌, ◌≤◌, ◌<◌, ◌↔◌, length, IfOk, IsTrue, is_some};
+ghost use Rattle.cj_model.specs.Sql.PlainRequests.{act_of};
 ghost use Rattle.cj_cluster.specs.Script.Lines.{IsPlainSql, IsUser, IsWrite};
-ghost use Rattle.cj_script.specs.Reading.{Arguments, ReadsClose, Finds, IsQuery, ReadsOpen, Queries, Writes};
+ghost use Rattle.cj_script.specs.Reading.{Arguments, ReadsAbort, ReadsClose, Finds, IsQuery, ReadsOpen, Queries, Writes};
 
 use crate::verb::Verb;
 use crate::words::{backend, is_word, named, number, numbered};
@@ -58,18 +58,14 @@ fn plain_request(alloc: Global, sql: &[u8]) -> Result<Option<Request>, NoMemory>
     }
 }
 
-/// Whether the request can be scheduled so far: it is no query, and outside transactions.
-fn is_write(request: &Request) -> bool
-    ensures { MatchBool result (IsOutsideTransaction request.now) (IsOutsideTransaction request.now → ⊥) }
+/// Whether the request becomes an entry of the log, as any but a query does.
+fn is_for_log(request: &Request) -> bool
+    ensures { result ≡ is_some (act_of request.now) }
 {
     match request {
-        Request::Write(_) => true,
-        Request::Create(_) => true,
-        Request::Drop(_) => true,
         Request::Select(_) => false,
-        Request::Begin => false,
-        Request::Commit => false,
-        Request::Rollback => false,
+        Request::Write(_) | Request::Create(_) | Request::Drop(_) => true,
+        Request::Begin | Request::Commit | Request::Rollback => true,
     }
 }
 
@@ -78,7 +74,7 @@ fn plain_write(alloc: Global, sql: &[u8]) -> Result<Option<Request>, NoMemory>
 {
     match plain_request(alloc, sql)? {
         Some(request) => {
-            if is_write(&request) {
+            if is_for_log(&request) {
                 Ok(Some(request))
             } else {
                 Ok(None)
@@ -98,6 +94,16 @@ fn write(alloc: Global, rest: &[u8]) -> Result<Option<Move>, NoMemory>
     match plain_write(alloc, sql)? {
         Some(request) => Ok(Some(Move::Schedule { session, request })),
         None => Ok(None),
+    }
+}
+
+/// "abort TX"
+fn abort(rest: &[u8]) -> Option<Move>
+    ensures { Finds (ReadsAbort rest.now) result }
+{
+    match number(rest) {
+        Some(tx) => Some(Move::Abort { tx }),
+        None => None,
     }
 }
 
@@ -151,6 +157,7 @@ pub fn arguments(
         Verb::Open => open(alloc, rest),
         Verb::Close => Ok(close(rest)),
         Verb::Write => write(alloc, rest),
+        Verb::Abort => Ok(abort(rest)),
         Verb::Apply => Ok(backend(names, rest).map(|b| Move::Apply { b })),
         Verb::End => Ok(None),
         Verb::Read => query(alloc, names, rest),

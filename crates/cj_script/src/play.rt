@@ -79,21 +79,20 @@ fn write_made<O: Sink>(
 fn play_line<B: Backend, O: Sink>(
     alloc: Global,
     world: &mut World<B>,
-    names: &Names,
     number: u64,
     line: &[u8],
     output: &mut O,
 ) -> Result<(), ScriptEnd>
-    requires names { length names.now ≡ world.old.core.placement.backends }
-    requires count { 2 ≤ length line.now → CanCountRequests world.old.core 1 }
-    ensures plays { PlaysOrEnds B.TELLS B.can_be_armed names.now (O.held output.old) (O.held output.new) world.old line.now number result world.new }
+    requires { 2 ≤ length line.now → CanCountRequests world.old.core 1 }
+    ensures plays { PlaysOrEnds B.TELLS B.can_be_armed world.old.names (O.held output.old) (O.held output.new) world.old line.now number result world.new }
+    ensures names { world.new.names ≡ world.old.names }
     ensures cause { CountsFault (IsErrOf result ends.WriteFault) (O.faults output.old) (O.faults output.new) }
 {
     if line.is_empty() {
         return Ok(());
     }
     world.legal();
-    let m = match parse_move(alloc, names, line) {
+    let m = match parse_move(alloc, world.placement().names(), line) {
         Ok(Some(m)) => m,
         Ok(None) => return Err(ScriptEnd::Line(number)),
         Err(_) => return Err(ScriptEnd::NoMemory),
@@ -101,28 +100,28 @@ fn play_line<B: Backend, O: Sink>(
     let Ok(made) = world.make(m) else {
         return Err(ScriptEnd::NoMemory);
     };
-    match write_made(alloc, names, &made, output) {
+    match write_made(alloc, world.placement().names(), &made, output) {
         Ok(()) => Ok(()),
         Err(OutError::Failed) => Err(ScriptEnd::WriteFault),
         Err(OutError::NoMemory) => Err(ScriptEnd::NoMemory),
     }
 }
 
-/// Plays the lines of the source, each a move on the world, and writes what they come to.
+/// Plays the lines of the source, each a move on the world, and writes what they come to. Backends go by the names that the
+/// world has for them.
 ///
 /// A line that can't be played ends the script, and so do a fault and want of memory. What was played and written until then stays.
 /// The replies to each session are turns of one database, whatever the end.
 pub fn script<B: Backend, I: Source, O: Sink>(
     alloc: Global,
     world: &mut World<B>,
-    names: &Names,
     input: &mut I,
     output: &mut O,
 ) -> ScriptEnd
-    requires names { length names.now ≡ world.old.core.placement.backends }
-    requires count { CanCountRequests world.old.core (2 ^ 61) }
-    ensures came { CameTo B.TELLS B.can_be_armed names.now (I.left input.old) (I.left input.new) (O.held output.old) (O.held output.new) world.old result world.new }
-    ensures turns { InTurns B.TELLS names.now (I.left input.old) (I.left input.new) (O.held output.old) (O.held output.new) world.old world.new }
+    requires { CanCountRequests world.old.core (2 ^ 61) }
+    ensures came { CameTo B.TELLS B.can_be_armed world.old.names (I.left input.old) (I.left input.new) (O.held output.old) (O.held output.new) world.old result world.new }
+    ensures turns { InTurns B.TELLS world.old.names (I.left input.old) (I.left input.new) (O.held output.old) (O.held output.new) world.old world.new }
+    ensures names { world.new.names ≡ world.old.names }
     ensures input { CountsFault (result ≡ ends.ReadFault) (I.faults input.old) (I.faults input.new) }
     ensures output { CountsFault (result ≡ ends.WriteFault) (O.faults output.old) (O.faults output.new) }
 {
@@ -135,7 +134,7 @@ pub fn script<B: Backend, I: Source, O: Sink>(
             Ok(line) => line,
             Err(end) => return end,
         };
-        if let Err(end) = play_line(alloc, world, names, number, &line, output) {
+        if let Err(end) = play_line(alloc, world, number, &line, output) {
             return end;
         }
     }

@@ -9,6 +9,7 @@ pub enum Verb {
     Open,
     Close,
     Write,
+    Abort,
     Apply,
     End,
     Read,
@@ -19,10 +20,11 @@ pub enum Verb {
 }
 
 /// The words of the verbs.
-pub const VERBS: [(&[u8], Verb); 10] = [
+pub const VERBS: [(&[u8], Verb); 11] = [
     (b"open", Verb::Open),
     (b"close", Verb::Close),
     (b"write", Verb::Write),
+    (b"abort", Verb::Abort),
     (b"apply", Verb::Apply),
     (b"end", Verb::End),
     (b"read", Verb::Read),

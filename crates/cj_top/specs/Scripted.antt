@@ -1,5 +1,5 @@
 -- The command `script`: how far its script came over two backends, and with which status.
-use Rattle.std.specs.Prelude.{◌≡◌, ◌⊎◌, ℕ, Bool, true, false, ◌&&◌, List, [], ◌∷◌, codes, Result, IsErrOf}
+use Rattle.std.specs.Prelude.{◌≡◌, ◌⊎◌, ℕ, ◌<◌, Bool, true, false, ◌&&◌, List, [], ◌∷◌, codes, Result, IsErrOf}
 use Rattle.std.specs.declared.option.Option.{Option}
 use Rattle.std.specs.Fmt.{decimal}
 use Rattle.std.specs.Str.{bytes_eq}
@@ -10,6 +10,7 @@ use Rattle.cj_outside.specs.declared.sink.OutError.TheVariants as out_errors
 use Rattle.cj_cluster.specs.Moves.Runs.{IsBetweenReplies}
 use Rattle.cj_cluster.specs.Script.Lines.{with_line_feed, words}
 use Rattle.cj_mem.specs.MemoryBackends.{never_armed}
+use Rattle.cj_model.specs.Cluster.Placements.{everywhere}
 use Rattle.cj_core.specs.Armings.{each_arming}
 use Rattle.cj_core.specs.Counting.{faults_of}
 use Rattle.cj_core.specs.Starts.{started}
@@ -54,15 +55,16 @@ abbrev pub NamesLine : (errors errors' : Option (List ℕ)) → (before now : �
 NamesLine errors errors' before now (end.Line number) = WritesName errors errors' before now number
 NamesLine errors errors' before now ending = (errors' ≡ errors) × (now ≡ before)
 
--- From two backends that have taken no entry, counted no fault and were never armed the script came to this end. The replies to each session in it are a chain of turns of one database, from where it has seen these backends enabled and needs no entry.
+-- From two backends that each host every table, have taken no entry, counted no fault and were never armed the script came to this end. The replies to each session in it are a chain of turns of one database, from where it has seen these backends enabled and needs no entry.
 pub record PlayedOverTwo (left left' held held' : Option (List ℕ)) (ending : ScriptEnd) : Type 0 where
   pub first : WorldState
-  pub new : first.core ≡ started 2
+  pub new : first.core ≡ started (everywhere 2)
+  pub named : first.names ≡ backend_names
   pub faultless : faults_of first.cells ≡ 0 ∷ 0 ∷ []
   pub unarmed : each_arming first.cells ≡ never_armed ∷ never_armed ∷ []
   pub last : WorldState
   pub came : CameTo true true backend_names left left' held held' first ending last
-  pub begins : (s : ℕ) → IsBetweenReplies (record { front = first.core.history; least = 0 }) first.core s
+  pub begins : (s : ℕ) → 0 < s → IsBetweenReplies (record { front = first.core.history; least = 0 }) first.core s
   pub turns : InTurns true backend_names left left' held held' first last
 
 -- the script was played, and ended with this status

@@ -17,6 +17,8 @@ mod call_tests;
 #[cfg(test)]
 mod load_tests;
 #[cfg(test)]
+mod placement_tests;
+#[cfg(test)]
 mod row_limit_tests;
 #[cfg(test)]
 mod sql_tests;

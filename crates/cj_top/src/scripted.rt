@@ -3,6 +3,8 @@
 ghost use Rattle.std.specs.Prelude.{◌≡◌, ◌↔◌, ◌≢◌, [], ◌∷◌, true, IfOk, IsErrOf, Ok, OnErr, string_bytes};
 ghost use Rattle.cj_flaky.specs.FlakyBackends.{fresh_over};
 ghost use Rattle.cj_mem.specs.MemoryBackends.{fresh_state, never_armed};
+ghost use Rattle.cj_model.specs.Cluster.Placements.{everywhere};
+ghost use Rattle.cj_place.specs.Layouts.{placement_of};
 ghost use Rattle.cj_core.specs.Armings.{each_arming};
 ghost use Rattle.cj_core.specs.Counting.{faults_of};
 ghost use Rattle.cj_core.specs.Starts.{started};
@@ -13,12 +15,14 @@ ghost use Rattle.cj_script.specs.declared.play.ScriptEnd.TheVariants as ends;
 ghost use Rattle.cj_top.specs.Scripted.{NamesLine, PlayedOverTwo, RunsScript, backend_names, line_text};
 ghost use Rattle.cj_top.specs.Scripted as scripted;
 
+use cj_balance::Balancer;
 use cj_book::BookParts;
 use cj_core::{Backends, World};
 use cj_flaky::Flaky;
 use cj_mem::MemBackend;
-use cj_model::{ListOf, Name, Names, NoMemory};
+use cj_model::{BACKEND_LIMIT, Level, ListOf, Name, Names, NoMemory, PlaceRows, Policy};
 use cj_outside::{OutError, Sink, Source, write_all};
+use cj_place::{PlaceError, Placement};
 use cj_script::{ScriptEnd, script};
 use std::alloc::Global;
 
@@ -42,6 +46,19 @@ fn two_names(alloc: Global) -> Result<Names, NoMemory>
     Ok(names)
 }
 
+/// Both backends host every table.
+fn full_placement(alloc: Global) -> Result<Placement, NoMemory>
+    ensures names { IfOk result (λ placement. placement.names ≡ backend_names) }
+    ensures everywhere { IfOk result (λ placement. placement_of placement ≡ everywhere 2) }
+{
+    let names = two_names(alloc)?;
+    match Placement::new(alloc, Level::Raidb1, names, PlaceRows::new(alloc)) {
+        Ok(placement) => Ok(placement),
+        Err(PlaceError::NoMemory) => Err(NoMemory),
+        Err(_) => unreachable!(),
+    }
+}
+
 /// An empty backend in memory, which can be armed.
 fn backend(alloc: Global) -> Flaky<MemBackend>
     ensures { result ≡ fresh_over fresh_state [] }
@@ -60,12 +77,17 @@ fn two_backends(alloc: Global) -> Result<Backends<Flaky<MemBackend>>, NoMemory>
 
 /// A world of two empty backends, of which each hosts every table.
 fn two_backend_world(alloc: Global) -> Result<World<Flaky<MemBackend>>, NoMemory>
-    ensures core { IfOk result (λ world. world.core ≡ started 2) }
+    ensures core { IfOk result (λ world. world.core ≡ started (everywhere 2)) }
+    ensures names { IfOk result (λ world. world.names ≡ backend_names) }
     ensures faults { IfOk result (λ world. faults_of world.cells ≡ 0 ∷ 0 ∷ []) }
     ensures arming { IfOk result (λ world. each_arming world.cells ≡ never_armed ∷ never_armed ∷ []) }
 {
+    let parts = BookParts {
+        placement: full_placement(alloc)?,
+        balancer: Balancer::new(Policy::RoundRobin, [1; BACKEND_LIMIT as usize]),
+    };
     let backends = two_backends(alloc)?;
-    World::start(alloc, BookParts { backends: 2 }, backends)
+    World::start(alloc, parts, backends)
 }
 
 /// Plays the lines of the input on a world of two backends in memory, `b0` and `b1`, and writes what they come to.
@@ -82,9 +104,8 @@ pub fn play<I: Source, O: Sink>(
     ensures input { CountsFault (result ≡ Ok ends.ReadFault) (I.faults input.old) (I.faults input.new) }
     ensures output { CountsFault (result ≡ Ok ends.WriteFault) (O.faults output.old) (O.faults output.new) }
 {
-    let names = two_names(alloc)?;
     let mut world = two_backend_world(alloc)?;
-    Ok(script(alloc, &mut world, &names, input, output))
+    Ok(script(alloc, &mut world, input, output))
 }
 
 fn line_words(alloc: Global, number: u64) -> Result<String, NoMemory>

@@ -460,7 +460,7 @@ const READ_B0: &str = "read 1 b0 SELECT * FROM t";
 const READ_B1: &str = "read 1 b1 SELECT * FROM t";
 
 /// Lines, and what each gives.
-const SCRIPTS: [&[(&str, &str)]; 5] = [
+const SCRIPTS: [&[(&str, &str)]; 8] = [
     // a read sees an entry as soon as its backend has it, and the session then needs it everywhere
     &[
         ("open ann", "session 1"),
@@ -609,21 +609,95 @@ const SCRIPTS: [&[(&str, &str)]; 5] = [
         (READ_B0, "refused 20 0 0"),
         ("close 1", "closed"),
     ],
+    // a transaction is seen by its own session, and by others once it is committed; they can't write to its table before
+    &[
+        ("open ann", "session 1"),
+        ("open bob", "session 2"),
+        (
+            "write 1 CREATE TABLE t (k INTEGER PRIMARY KEY, v INTEGER)",
+            "entry 1",
+        ),
+        ("apply b0", "b0 done 0"),
+        ("apply b1", "b1 done 0"),
+        ("end", "reply 1 done 0"),
+        ("write 1 INSERT INTO t VALUES (1, 5)", "entry 2"),
+        ("apply b0", "b0 done 1"),
+        ("apply b1", "b1 done 1"),
+        ("end", "reply 1 done 1"),
+        ("write 1 BEGIN", "entry 3"),
+        ("apply b0", "b0 skipped"),
+        ("apply b1", "b1 skipped"),
+        ("end", "reply 1 done 0"),
+        ("write 1 UPDATE t SET v = 6", "entry 4"),
+        ("apply b0", "b0 done 1"),
+        ("apply b1", "b1 done 1"),
+        ("end", "reply 1 done 1"),
+        ("read 1 b0 SELECT v FROM t", "rows 1\n6"),
+        ("read 2 b0 SELECT v FROM t", "rows 1\n5"),
+        ("write 2 UPDATE t SET v = 7", "entry 5"),
+        ("apply b0", "b0 refused 25 3 0"),
+        ("apply b1", "b1 refused 25 3 0"),
+        ("end", "reply 2 refused 25 3 0"),
+        ("write 1 COMMIT", "entry 6"),
+        ("apply b0", "b0 done 0"),
+        ("apply b1", "b1 done 0"),
+        ("end", "reply 1 done 0"),
+        ("read 2 b1 SELECT v FROM t", "rows 1\n6"),
+    ],
+    // the end of an orphan, which a transaction is only while it is open and its session isn't
+    &[
+        ("open ann", "session 1"),
+        ("abort 1", "not now 14 1"),
+        ("write 1 BEGIN", "entry 1"),
+        ("apply b0", "b0 skipped"),
+        ("apply b1", "b1 skipped"),
+        ("end", "reply 1 done 0"),
+        ("abort 1", "not now 14 1"),
+        ("close 1", "closed"),
+        ("abort 0", "not now 14 0"),
+        ("abort 1", "entry 2"),
+        ("apply b0", "b0 skipped"),
+        ("apply b1", "b1 skipped"),
+        ("end", "reply 0 done 0"),
+        ("abort 1", "not now 14 1"),
+    ],
+    // what is refused inside and outside a transaction, with no entry
+    &[
+        ("open ann", "session 1"),
+        ("write 1 COMMIT", "refused 12 0 0"),
+        ("write 1 ROLLBACK", "refused 12 0 0"),
+        ("write 1 BEGIN", "entry 1"),
+        ("apply b0", "b0 skipped"),
+        ("apply b1", "b1 skipped"),
+        ("end", "reply 1 done 0"),
+        ("write 1 BEGIN", "refused 11 1 0"),
+        (WRITE_T, "refused 13 1 0"),
+        ("write 1 DROP TABLE t", "refused 13 1 0"),
+        ("write 1 ROLLBACK", "entry 2"),
+        ("apply b0", "b0 skipped"),
+        ("apply b1", "b1 skipped"),
+        ("end", "reply 1 done 0"),
+    ],
 ];
+
+/// The input of a script, with an empty line behind each line, and its output.
+pub(crate) fn spelled(alloc: Global, script: &[(&str, &str)]) -> Result<(Vec<u8>, Vec<u8>), Fail> {
+    let mut input = Vec::new(alloc);
+    let mut output = Vec::new(alloc);
+    for (line, given) in script {
+        input.extend_from_slice(line.as_bytes())?;
+        input.extend_from_slice(b"\n\n")?;
+        output.extend_from_slice(given.as_bytes())?;
+        output.push(b'\n')?;
+    }
+    Ok((input, output))
+}
 
 #[test]
 fn scripts_give_their_lines(rt: HostRuntime) -> Result<(), Fail> {
     let alloc = rt.alloc();
     for script in SCRIPTS {
-        let mut input = Vec::new(alloc);
-        let mut output = Vec::new(alloc);
-        for (line, given) in script {
-            input.extend_from_slice(line.as_bytes())?;
-            // an empty line is skipped
-            input.extend_from_slice(b"\n\n")?;
-            output.extend_from_slice(given.as_bytes())?;
-            output.push(b'\n')?;
-        }
+        let (input, output) = spelled(alloc, script)?;
         let (status, written, errors) = scripted(alloc, &input, &[], &[], &[])?;
         assert_eq!(rt; written.as_slice(), output.as_slice());
         assert_eq!(rt; status, 0);
@@ -633,12 +707,11 @@ fn scripts_give_their_lines(rt: HostRuntime) -> Result<(), Fail> {
 }
 
 /// Lines that are no move's.
-const WRONG: [&str; 22] = [
+const WRONG: [&str; 23] = [
     " ",
     "\t",
     " \t ",
     " open ann",
-    "write 1 BEGIN",
     "write 1 DELETE FROM t WHERE k = NOW()",
     "begin",
     "End",
@@ -649,6 +722,8 @@ const WRONG: [&str; 22] = [
     "open ann smith",
     "close 01",
     "close 18446744073709551616",
+    "abort",
+    "abort b0",
     "apply b2",
     "apply B0",
     "apply b0\r",

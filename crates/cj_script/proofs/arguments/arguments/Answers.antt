@@ -4,3 +4,6 @@ use Rattle.cj_script.proofs.arguments.arguments.Goals as goal
 
 pub returns-in-Close : goal.returns-in-Close
 returns-in-Close c = subst (λ v. Finds (Arguments c.args.names.now v c.args.rest.now) c.close.result) (sym c.in-Close.is) c.close.ensures
+
+pub returns-in-Abort : goal.returns-in-Abort
+returns-in-Abort c = subst (λ v. Finds (Arguments c.args.names.now v c.args.rest.now) c.abort.result) (sym c.in-Abort.is) c.abort.ensures
