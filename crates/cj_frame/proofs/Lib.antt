@@ -1,4 +1,5 @@
 pub mod Again
+pub mod Fed
 pub mod Faults
 pub mod Taken
 pub mod Told

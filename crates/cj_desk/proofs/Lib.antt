@@ -1,0 +1,5 @@
+pub mod AnsweredLaws
+pub mod DeskChainLaws
+pub mod KeptCountLaws
+pub mod MoveTurns
+pub mod TurnReplies

@@ -1,0 +1,52 @@
+-- What is sent of a reply.
+use Rattle.std.proofs.Common.{◌≡◌, Bool, arith, ℕ, ◌≤◌, List, Result, Err, Option, refl, sym, ap, subst, inl, inr}
+use Rattle.cj_outside.specs.declared.sink.OutError.{OutError}
+use Rattle.cj_outside.specs.Streams.{WritesAll}
+use Rattle.cj_model.specs.declared.answer.Answer.{Answer}
+use Rattle.cj_model.specs.declared.answer.Reply.{Reply}
+use Rattle.cj_model.specs.declared.answer.Reply.TheVariants.{Done, Rows, Stats, Refused}
+use Rattle.cj_model.specs.declared.codes.TheConstants.{TOO_LARGE}
+use Rattle.cj_model.specs.declared.limits.TheConstants.{FRAME_LIMIT}
+use Rattle.cj_model.specs.Database.Outcomes.{IsAnswer}
+use Rattle.cj_cluster.specs.History.Turns.{Call}
+use Rattle.cj_model.specs.Wire.Replies.{reply_length, reply_bytes}
+use Rattle.cj_reply.specs.declared.reply.ReplyError.{ReplyError}
+use Rattle.cj_reply.specs.declared.reply.ReplyError.TheVariants as errors
+use Rattle.cj_reply.specs.Encode.{Encodes, IsSendable}
+use Rattle.cj_model.specs.declared.answer.Refusal.{Refusal}
+use Rattle.cj_desk.specs.DeskStates.{DeskState, turn_taken, DeskSteps}
+use Rattle.cj_desk.specs.SessionTranscripts.{SendsReply}
+use Rattle.cj_desk.proofs.TurnReplies.{turn_rows}
+use Rattle.cj_session.specs.Proving.Points.{SendsReplyTo, refusal_in_place}
+
+pub sends_to : (held held' : Option (List ℕ)) (r sent : Reply) (bytes : List ℕ) (result : Result (Unit {0}) OutError) → SendsReply r sent → bytes ≡ reply_bytes sent → WritesAll held held' bytes result → SendsReplyTo held held' r result
+sends_to held held' r sent bytes result stands is wrote = record { sent = sent; stands = stands; wrote = subst (λ (t : List ℕ). WritesAll held held' t result) is wrote }
+
+-- what is no answer is sent as it is
+pub sends_same : (r sent : Reply) → r ≡ sent → SendsReply sent sent → SendsReply r sent
+sends_same r sent is same = subst (λ (x : Reply). SendsReply x sent) (sym is) same
+
+pub sends_rows : (r : Reply) (a : Answer) → r ≡ Rows a → reply_length r ≤ FRAME_LIMIT → SendsReply r r
+sends_rows r a is = subst (λ (x : Reply). reply_length x ≤ FRAME_LIMIT → SendsReply x x) (sym is) (λ (h : reply_length (Rows a) ≤ FRAME_LIMIT). inl (h, refl))
+
+-- what is sent where rows have no frame
+in_place : (a : Answer) (e : ReplyError) → Encodes (Rows a) (Err e) → SendsReply (Rows a) (Refused (refusal_in_place e))
+in_place a (errors.TooLarge size) large = inr (inl (large.0, ap (λ (n : ℕ). Refused (record { code = TOO_LARGE; a = n; b = 0 })) large.1))
+in_place a errors.NoMemory starved = inr (inr refl)
+
+pub sends_in_place : (held held' : Option (List ℕ)) (r : Reply) (e : ReplyError) (refusal : Refusal) (result : Result (Unit {0}) OutError) → (a : Answer) × (r ≡ Rows a) → Encodes r (Err e)
+    → refusal ≡ refusal_in_place e → WritesAll held held' (reply_bytes (Refused refusal)) result → SendsReplyTo held held' r result
+sends_in_place held held' r e refusal result (a, is) encodes said wrote =
+    let stands : SendsReply (Rows a) (Refused refusal) = subst (λ (x : Refusal). SendsReply (Rows a) (Refused x)) (sym said) (in_place a e (subst (λ (x : Reply). Encodes x (Err e)) is encodes)) in
+    record { sent = Refused refusal; stands = subst (λ (x : Reply). SendsReply x (Refused refusal)) (sym is) stands; wrote = wrote }
+
+-- a reply whose rows are an answer's can be sent
+answer_sendable : (r : Reply) → ((a : Answer) → r ≡ Rows a → IsAnswer a) → IsSendable r
+answer_sendable (Done count) rows = tt
+answer_sendable (Rows a) rows = let is = rows a refl in record { some = is.some; most = omega (arith, is.few); each = is.each }
+answer_sendable (Stats hits misses) rows = tt
+answer_sendable (Refused refusal) rows = tt
+
+-- so can what a desk answers a write or a read
+pub turn_sendable : (tells : Bool) (a z : DeskState) (c : Call) → DeskSteps tells a (turn_taken c) z → IsSendable c.reply
+turn_sendable tells a z c t = answer_sendable c.reply (turn_rows tells a.placement a.session a.seen c z.seen t.turn)

@@ -1,0 +1,4 @@
+-- How far serving has come, and what the code makes of requests: for proofs alone.
+pub mod Points
+pub mod StarvedDesks
+pub mod Works

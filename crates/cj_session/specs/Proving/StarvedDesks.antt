@@ -1,0 +1,17 @@
+-- A desk for tests, which wants memory for all that it is asked.
+use Rattle.std.specs.Prelude.{ℕ, [], ◌&&◌, List, length, nat_le}
+use Rattle.std.specs.Str.{bytes_eq}
+use Rattle.cj_model.specs.declared.limits.TheConstants.{USER_LIMIT}
+use Rattle.cj_model.specs.Cluster.Placements.{everywhere}
+use Rattle.cj_desk.specs.DeskStates.{DeskState}
+
+-- its state: one user, whatever the password, in session 1, which has seen nothing
+abbrev pub starved_desk : List ℕ → ℕ → DeskState
+starved_desk user queries =
+    record {
+      placement = everywhere 1;
+      admits = λ other password. nat_le (length other) USER_LIMIT && bytes_eq other user;
+      session = 1;
+      seen = record { front = []; least = 0 };
+      queries = queries;
+    }
