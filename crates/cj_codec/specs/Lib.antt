@@ -1,0 +1,5 @@
+pub mod Fields
+pub mod Formats
+pub mod Readings
+pub mod Writings
+pub mod Laws

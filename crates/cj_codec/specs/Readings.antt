@@ -1,0 +1,37 @@
+-- What reading a field comes to.
+use Rattle.std.specs.Prelude.{◌≡◌, ℕ, ◌-◌, List, length, Result, Ok, Err}
+use Rattle.cj_codec.specs.declared.error.CodecError.{CodecError}
+use Rattle.cj_codec.specs.declared.error.CodecError.TheVariants as errors
+use Rattle.cj_codec.specs.declared.error.Fault.{Fault}
+use Rattle.cj_codec.specs.declared.error.Fault.TheVariants as faults
+use Rattle.cj_codec.specs.declared.error.Stop.{Stop}
+use Rattle.cj_codec.specs.declared.error.Stop.TheVariants as stops
+use Rattle.cj_codec.specs.Formats.{Format}
+
+-- what a step returned, seen by a view, is what reading gives, unless memory ran out
+abbrev pub GivesReading : {X Y : Type 0} → (X → Y) → Result X Stop → Result Y Fault → Type 0
+GivesReading view (Ok x) read = read ≡ Ok (view x)
+GivesReading view (Err (stops.Fault fault)) read = read ≡ Err fault
+GivesReading view (Err stops.NoMemory) read = Unit {0}
+
+-- how far a reader is: the bytes that are left, of so many
+pub record Place : Type 0 where
+  pub rest : List ℕ
+  pub size : ℕ
+
+-- how many bytes are taken
+abbrev pub offset : Place → ℕ
+offset place = place.size - length place.rest
+
+-- why a field that begins there was not read
+abbrev pub stopped_at : ℕ → Stop → CodecError
+stopped_at n (stops.Fault faults.Cut) = errors.Cut n
+stopped_at n (stops.Fault faults.BadField) = errors.BadField n
+stopped_at n stops.NoMemory = errors.NoMemory
+
+-- A field was taken off, or the reader is where it was: the bytes end inside the field, or it isn't allowed, or memory ran out.
+abbrev pub ReadsField : {X Y : Type 0} → Format Y → (X → Y) → Place → Place → Result X CodecError → Type 0
+ReadsField f view old new (Ok x) = (f.reads old.rest ≡ Ok (view x, new.rest)) × (new.size ≡ old.size)
+ReadsField f view old new (Err (errors.Cut n)) = (f.reads old.rest ≡ Err faults.Cut) × (n ≡ offset old) × (new ≡ old)
+ReadsField f view old new (Err (errors.BadField n)) = (f.reads old.rest ≡ Err faults.BadField) × (n ≡ offset old) × (new ≡ old)
+ReadsField f view old new (Err errors.NoMemory) = new ≡ old
