@@ -1,6 +1,6 @@
 -- What holds where a move can be made now.
-use Rattle.std.proofs.Common.{◌≡◌, ◌≢◌, ℕ, zero, suc, ◌+◌, ◌-◌, ◌≤◌, ◌==◌, ◌&&◌, cond, Bool, true, false, nat_lt, List, [], ◌∷◌, length, get_or, slice_get, Option, None, Some, is_some, is_none, refl, ap, sym, ◌∙◌, subst, arith, ⊎_elim}
-use Rattle.std.proofs.lemmas.Bool.{eqb-true, eqb-false, cases_Bool, cond-true, cond-false, not-true, not-false, and_parts, or_parts, ltb-false, and_cases, both_ways}
+use Rattle.std.proofs.Common.{◌≡◌, ◌≢◌, ℕ, zero, suc, ◌+◌, ◌-◌, ◌<◌, ◌≤◌, ◌==◌, ◌&&◌, cond, Bool, true, false, nat_lt, List, [], ◌∷◌, length, get_or, slice_get, Option, None, Some, is_some, is_none, refl, ap, sym, ◌∙◌, subst, arith, ⊎_elim}
+use Rattle.std.proofs.lemmas.Bool.{eqb-true, eqb-false, cases_Bool, cond-true, cond-false, cond_both, not-true, not-false, and_parts, or_parts, ltb-true, ltb-false, and_cases, both_ways}
 use Rattle.cj_model.specs.declared.request.Entry.{Entry}
 use Rattle.cj_cluster.specs.declared.event.Event.{Event}
 use Rattle.cj_model.specs.declared.request.Request.{Request}
@@ -208,3 +208,18 @@ behind_from h n (Some p ∷ ps) none (suc i) q is on =
 pub behind_none : (h : List Event) (ps : List (Option ℕ)) → first_lagging h 0 ps ≡ None
     → (b q : ℕ) → get_or ps b None ≡ Some q → is_enabled h b ≡ true → length (log h) ≤ q
 behind_none h ps none b q is on = behind_from h 0 ps none b q is (let e : 0 + b ≡ b = omega arith in rw e on)
+
+-- And where each enabled backend that is not out, of those from n on, is at the log's end, none of these positions is behind.
+pub all_at_end : (h : List Event) (n : ℕ) (ps : List (Option ℕ)) → ((i q : ℕ) → get_or ps i None ≡ Some q → is_enabled h (n + i) ≡ true → q ≡ length (log h)) → first_lagging h n ps ≡ None
+all_at_end h n [] at_end = refl
+all_at_end h n (None ∷ ps) at_end = all_at_end h (n + 1) ps (λ i q is on. at_end (suc i) q is (let e : n + suc i ≡ n + 1 + i = omega arith in rw e on))
+all_at_end h n (Some p ∷ ps) at_end =
+    let rest : first_lagging h (n + 1) ps ≡ None = all_at_end h (n + 1) ps (λ i q is on. at_end (suc i) q is (let e : n + suc i ≡ n + 1 + i = omega arith in rw e on)) in
+    cond_both (is_enabled h n && nat_lt p (length (log h))) (Some p) (first_lagging h (n + 1) ps) (λ o. o ≡ None)
+    (λ t.
+    let both = and_parts (is_enabled h n) (nat_lt p (length (log h))) t in
+    let e : n + 0 ≡ n = omega arith in
+    let same : p ≡ length (log h) = at_end 0 p refl (rw e both.0) in
+    let lt : p < length (log h) = ltb-true p (length (log h)) both.1 in
+    absurd (omega arith))
+    (λ f. rest)

@@ -96,10 +96,10 @@ allowed_tx tx (act.Drop table) allowed = refl
 allowed_tx tx act.Commit allowed = (eqb-false tx 0 (allowed_else (tx == 0) _ allowed), refl)
 allowed_tx tx act.Abort allowed = (eqb-false tx 0 (allowed_else (tx == 0) _ allowed), refl)
 
--- the next entry of an open session may be scheduled, where its act is written and of a transaction that it may have
-pub entry_fits : (c : Core) (s : ℕ) (a : Act) → IsWritten (request_of a) → FitsTx (open_tx c s) (tx_of_act (open_tx c s) a) a → (session_at c s).queries < REQUEST_LIMIT → CoreInvariant c → is_open c s ≡ true
-    → IsFitEntry (log c.history) (next_entry c s a)
-entry_fits c s a written tx count w here =
+-- an entry of an open session may be scheduled, where it is of the session's next request, its act is written and of a transaction that it may have
+pub session_entry_fits : (c : Core) (s : ℕ) (e : Entry) → e.session ≡ s → e.seq ≡ (session_at c s).queries + 1 → IsWritten (request_of e.act) → length e.user ≤ USER_LIMIT → FitsTx (open_tx c s) e.tx e.act
+    → (session_at c s).queries < REQUEST_LIMIT → CoreInvariant c → is_open c s ≡ true → IsFitEntry (log c.history) e
+session_entry_fits c s e session seq written user tx count w here =
     let x = session_sound c s w here in
     let i = x.0 in
     let number : (session_at c s).number ≡ s = x.1 in
@@ -108,18 +108,23 @@ entry_fits c s a written tx count w here =
     let limit = w.numbers in
     record {
       written = written;
-      user = i.user;
+      user = user;
       by =
           inl
           record {
             session = (omega arith, omega arith);
             limit = omega arith;
             newer =
-                All-weaker (λ (d : Entry). d.session ≡ (session_at c s).number → d.seq ≤ (session_at c s).queries) (λ (d : Entry). d.session ≡ s → d.seq < (session_at c s).queries + 1)
-                (λ d old by. let le = old (by ∙ sym number) in omega arith) (log c.history) i.entries;
-            tx = tx;
+                All-weaker (λ (d : Entry). d.session ≡ (session_at c s).number → d.seq ≤ (session_at c s).queries) (λ (d : Entry). d.session ≡ e.session → d.seq < e.seq)
+                (λ d old by. let le = old (by ∙ (session ∙ sym number)) in omega arith) (log c.history) i.entries;
+            tx = subst (λ (k : ℕ). FitsTx (open_tx c k) e.tx e.act) (sym session) tx;
           };
     }
+
+-- and so its next entry
+pub entry_fits : (c : Core) (s : ℕ) (a : Act) → IsWritten (request_of a) → FitsTx (open_tx c s) (tx_of_act (open_tx c s) a) a → (session_at c s).queries < REQUEST_LIMIT → CoreInvariant c → is_open c s ≡ true
+    → IsFitEntry (log c.history) (next_entry c s a)
+entry_fits c s a written tx count w here = session_entry_fits c s (next_entry c s a) refl refl written (session_sound c s w here).0.user tx count w here
 
 -- and so the act of a request
 next_fits : (c : Core) (s : ℕ) (r : Request) (a : Act) → act_of r ≡ Some a → IsWritten r → forbidden_by (open_tx c s) a ≡ None → CanCountRequests c 1 → CoreInvariant c → is_open c s ≡ true

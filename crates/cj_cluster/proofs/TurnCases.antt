@@ -1,5 +1,5 @@
 -- The turn of each kind of reply, over plain values.
-use Rattle.std.proofs.Common.{◌≡◌, ℕ, ◌+◌, ◌<◌, ◌≤◌, ◌==◌, ◌||◌, ◌⊎◌, inl, inr, Bool, true, false, cond, List, [], ◌∷◌, ◌++◌, length, take, slice_get, Some, refl, ap, sym, ◌∙◌, subst, arith, ⊎_elim, length-append}
+use Rattle.std.proofs.Common.{◌≡◌, ◌≢◌, ℕ, ◌+◌, ◌<◌, ◌≤◌, ◌==◌, ◌||◌, ◌⊎◌, inl, inr, Bool, true, false, cond, List, [], ◌∷◌, ◌++◌, length, take, slice_get, Some, refl, ap, sym, ◌∙◌, subst, arith, ⊎_elim, length-append}
 use mathlib.Core.List.{IsPrefix}
 use Rattle.std.proofs.lemmas.Grind.{fold-append}
 use Rattle.std.proofs.lemmas.Bool.{both_ways}
@@ -17,7 +17,7 @@ use Rattle.cj_model.specs.declared.answer.Reply.{Reply}
 use Rattle.cj_model.specs.declared.answer.Reply.TheVariants.{Refused}
 use Rattle.cj_cluster.specs.declared.event.Event.{Event}
 use Rattle.cj_cluster.specs.declared.event.Event.TheVariants.{Sched, Ended, ReadFailed}
-use Rattle.cj_model.specs.declared.codes.TheConstants.{NO_BACKEND, READ_FAULT, HISTORY_FULL}
+use Rattle.cj_model.specs.declared.codes.TheConstants.{NO_BACKEND, READ_FAULT, NO_MEMORY, HISTORY_FULL}
 use Rattle.cj_model.specs.Database.Inserts.{refusal_of_code}
 use Rattle.cj_model.specs.Database.Queries.{ask}
 use Rattle.cj_model.specs.Sql.PlainRequests.{act_of, request_of}
@@ -28,7 +28,7 @@ use Rattle.cj_cluster.specs.History.Legality.{FitsTx, IsFitEntry, IsAllowedEvent
 use Rattle.cj_model.specs.Database.Outcomes.{IsAsked}
 use Rattle.cj_cluster.specs.History.Answering.{CanServe, HasServer, HasNoServer, IsTarget, Finished, Unfinished, AnswersEntry}
 use Rattle.cj_model.specs.Wire.Replies.{asked_reply}
-use Rattle.cj_cluster.specs.History.Turns.{SessionView, Call, IsMomentBetween, HasNoRoomFor, scheduled, no_backend, read, read_fault, full, entry_count_of, tx_after_entry, Turn}
+use Rattle.cj_cluster.specs.History.Turns.{SessionView, Call, IsMomentBetween, HasNoRoomFor, scheduled, no_backend, read, read_fault, full, starved, entry_count_of, tx_after_entry, Turn}
 use Rattle.cj_cluster.specs.Moves.Runs.{AwaitsEnd, HasFailedSince, call_of_entry}
 use Rattle.cj_model.proofs.Masks.{has-zero}
 use Rattle.cj_cluster.proofs.OwnTransactions.{session_fit, own_tx, tx_of_own}
@@ -141,14 +141,14 @@ pub record Rests (s : ℕ) (a : SessionView) (h : List Event) : Type 0 where
   pub log_faults : (q : ℕ) → log_faults_of s q h ≡ log_faults_of s q a.front
 
 -- the end of an entry answers its session
-pub turn_end : (tells : Bool) (p : Placement) (a : SessionView) (h : List Event) (failed starved : ℕ) (e : Entry) (r : Reply)
-    → IsLegal (h ++ Ended failed starved ∷ []) → IsPrefix a.front h → a.least ≤ length (log a.front) → AwaitsEnd p a.front h e.session
+pub turn_end : (tells : Bool) (p : Placement) (a : SessionView) (h : List Event) (failed starving : ℕ) (e : Entry) (r : Reply)
+    → IsLegal (h ++ Ended failed starving ∷ []) → IsPrefix a.front h → a.least ≤ length (log a.front) → AwaitsEnd p a.front h e.session
     → entry_in_progress h ≡ Some e → 0 < e.session → length (log h) ≡ ended_count h + 1
     → ((q : ℕ) → log_faults_of e.session q h ≡ log_faults_of e.session q a.front)
-    → AnswersEntry tells p h (h ++ Ended failed starved ∷ []) (ended_count h) e r
-    → Turn tells p e.session a (call_of_entry (Some e) r) (record { front = h ++ Ended failed starved ∷ []; least = length (log h) })
-turn_end tells p a h failed starved e r legal longer owes o is some one_open faults answer =
-    let ev : Event = Ended failed starved in
+    → AnswersEntry tells p h (h ++ Ended failed starving ∷ []) (ended_count h) e r
+    → Turn tells p e.session a (call_of_entry (Some e) r) (record { front = h ++ Ended failed starving ∷ []; least = length (log h) })
+turn_end tells p a h failed starving e r legal longer owes o is some one_open faults answer =
+    let ev : Event = Ended failed starving in
     let g : List Event = h ++ ev ∷ [] in
     let m : ℕ = o.m in
     let high : m < length h = o.high in
@@ -272,6 +272,49 @@ module _ (tells : Bool) (p : Placement) (s : ℕ) (a : SessionView) (h : List Ev
               possible = possible;
               says = says;
               replied = replied;
+            };
+        entries = none_more;
+        tx_after = rests.tx;
+        log_faults = no_fault c.number;
+      }
+
+  -- memory is wanting
+  pub turn_starved : (c : Call) → (c.tx ≡ 0) ⊎ (c.tx ≡ tx_of (log a.front) s) → c.reply ≡ Refused (refusal_of_code NO_MEMORY) → Turn tells p s a c (record { front = h; least = a.least })
+  turn_starved c tx replied =
+      record {
+        legal = legal;
+        longer = longer;
+        owes = owes;
+        tx = tx;
+        case = starved record { replied = replied; least = refl };
+        entries = none_more;
+        tx_after = rests.tx;
+        log_faults = no_fault c.number;
+      }
+
+  -- a read in which each backend that serves it has failed since the session saw a
+  pub turn_in_vain : (c : Call) (select : Select) (mask : ℕ) → (c.tx ≡ 0) ⊎ (c.tx ≡ tx_of (log a.front) s) → c.request ≡ request.Select select → c.reply ≡ Refused (record { code = READ_FAULT; a = mask; b = 0 }) → mask ≢ 0
+      → ((k : ℕ) → (CanServe p h c.request k → in_mask mask k ≡ true) × (in_mask mask k ≡ true → CanServe p h c.request k)) → ((k : ℕ) → in_mask mask k ≡ true → HasFailedSince a.front h s c.number k)
+      → Turn tells p s a c (record { front = h; least = a.least })
+  turn_in_vain c select mask tx is replied some serving failed =
+      record {
+        legal = legal;
+        longer = longer;
+        owes = owes;
+        tx = tx;
+        case =
+            read_fault
+            record {
+              m = length h;
+              moment = now;
+              select = select;
+              is = is;
+              mask = mask;
+              some = some;
+              all = λ k. subst (λ (x : List Event). (CanServe p x c.request k → in_mask mask k ≡ true) × (in_mask mask k ≡ true → CanServe p x c.request k)) (sym (whole)) (serving k);
+              failed = λ k t. let x = failed k t in (x.k, x.low, x.high, x.is);
+              replied = replied;
+              least = refl;
             };
         entries = none_more;
         tx_after = rests.tx;

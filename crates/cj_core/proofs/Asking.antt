@@ -15,11 +15,12 @@ use Rattle.cj_model.specs.Database.Outcomes.{IsAsked}
 use Rattle.cj_model.specs.Cluster.Placements.{part, hosts_all}
 use Rattle.cj_cluster.specs.History.Histories.{log, events_left, database_after}
 use Rattle.cj_cluster.specs.Moves.Cores.{position_at, session_at}
-use Rattle.cj_cluster.specs.Moves.Moves.{open_tx, read_number, IsFarEnough}
+use Rattle.cj_cluster.specs.Moves.Moves.{read_number, IsFarEnough}
 use Rattle.cj_cluster.specs.Proving.Invariants.{CoreInvariant, HoldsPart}
 use Rattle.cj_model.proofs.PartLaws.{ask_part}
 use Rattle.cj_outside.specs.Causes.{CountsFault, next}
 use Rattle.cj_book.specs.Books.{BookState, with_event, HasNoRoomForOne}
+use Rattle.cj_auth.specs.Admission.{Register}
 use Rattle.cj_place.specs.Layouts.{Layout, placement_of}
 use Rattle.cj_replica.specs.declared.cell.CellReadError.{CellReadError}
 use Rattle.cj_replica.specs.declared.cell.CellReadError.TheVariants as errors
@@ -33,7 +34,7 @@ use Rattle.cj_core.specs.Effects.{Asks, Notes, asked_core, failed_asked}
 use Rattle.cj_core.specs.Kept.{Kept}
 use Rattle.cj_core.proofs.CellsKept.{position_of, begun_of, position_within, cells_set}
 
-module _ (tells : Bool) (l : Layout) (h : List Event) (cells : List CellState) (f s : ℕ) (ss : List OpenSession) (g : ℕ) (numbers : List ℕ) (first_outcome : Option Outcome) (kept : Kept tells (world_of l h cells f s ss g) numbers first_outcome)
+module _ (tells : Bool) (reg : Register) (l : Layout) (h : List Event) (cells : List CellState) (f s : ℕ) (ss : List OpenSession) (g : ℕ) (numbers : List ℕ) (first_outcome : Option Outcome) (kept : Kept tells (world_of reg l h cells f s ss g) numbers first_outcome)
     (b : ℕ) (lt : b < length cells) (x : CellState) (there : x ≡ get_or cells b x) where
   place : position_at (core_of l h cells f s ss g) b ≡ x.position
   place = position_of cells b x lt ∙ ap (λ (z : CellState). z.position) (sym there)
@@ -65,13 +66,14 @@ module _ (tells : Bool) (l : Layout) (h : List Event) (cells : List CellState) (
         let was : IsCell tells (placement_of l) (log h) b x = subst (IsCell tells (placement_of l) (log h) b) (sym there) (kept.world.cells b x lt) in
         subst (IsCell tells (placement_of l) (log h) b) (sym same) (record { number = was.number; placement = was.placement; holds = was.holds })
 
-    pub kept_asked : Kept tells (world_of l h (set cells b y) f s ss g) numbers first_outcome
+    pub kept_asked : Kept tells (world_of reg l h (set cells b y) f s ss g) numbers first_outcome
     kept_asked =
         record {
           world =
               record {
                 sound = subst CoreInvariant (sym same_core) kept.world.sound;
                 named = kept.world.named;
+                registered = kept.world.registered;
                 few = kept.world.few;
                 positions = refl;
                 begun = refl;
@@ -86,7 +88,7 @@ module _ (tells : Bool) (l : Layout) (h : List Event) (cells : List CellState) (
         }
 
   -- what it answered
-  module _ (number : ℕ) (select : Select) (least : ℕ) (is_least : least ≡ (session_at (core_of l h cells f s ss g) number).least) where
+  module _ (number tx : ℕ) (select : Select) (least : ℕ) (is_least : least ≡ (session_at (core_of l h cells f s ss g) number).least) where
     -- what a cell that isn't out tells
     told : (p : ℕ) → x.position ≡ Some p → tells ≡ true → x.told ≡ Some (part (placement_of l) b (database_after (log h) p))
     told p is =
@@ -107,35 +109,35 @@ module _ (tells : Bool) (l : Layout) (h : List Event) (cells : List CellState) (
         }
 
     -- the session's query, of which it hosts each table
-    pub answers : (tx : ℕ) → tx ≡ open_tx (core_of l h cells f s ss g) number → hosts_all (placement_of l) b select.tables ≡ true → (answer : Asked) (p : ℕ) → SaysReadAnswer x.told tx select answer → IsAsked answer
-        → x.position ≡ Some p → least ≤ p → Asks tells (core_of l h cells f s ss g) number b select (Ok (answer, p))
-    answers tx is_tx hosts answer p says possible position owed = (
+    pub answers : hosts_all (placement_of l) b select.tables ≡ true → (answer : Asked) (p : ℕ) → SaysReadAnswer x.told tx select answer → IsAsked answer
+        → x.position ≡ Some p → least ≤ p → Asks tells (core_of l h cells f s ss g) number b tx select (Ok (answer, p))
+    answers hosts answer p says possible position owed = (
       place ∙ position,
       subst (λ (m : ℕ). m ≤ p) is_least owed,
       position_within (core_of l h cells f s ss g) kept.world.sound b p (place ∙ position),
       possible,
       λ on.
           let a : answer ≡ ask (part (placement_of l) b (database_after (log h) p)) tx select = subst (λ (t : Option (List Slot)). IfSome t (λ db. answer ≡ ask db tx select)) (told p position on) says in
-          a ∙ (ask_part (placement_of l) b (database_after (log h) p) tx select hosts ∙ ap (λ t. ask (database_after (log h) p) t select) is_tx),
+          a ∙ ask_part (placement_of l) b (database_after (log h) p) tx select hosts,
     )
 
     -- or why it did not
     pub errs : (old new : BookState) (q : ℕ) (d : CellReadError) (e : AskError) → old.history ≡ h → Notes old number q b d e new → (IsErrOf {T = Asked × ℕ} (Err d) errors.Out ↔ (x.position ≡ None))
-        → ((p : ℕ) → IsErrOf {T = Asked × ℕ} (Err d) (errors.Behind p) ↔ ((x.position ≡ Some p) × (p < least))) → Asks tells (core_of l h cells f s ss g) number b select (Err e)
-    errs old new q errors.Out e is notes out behind = subst (λ (d : AskError). Asks tells (core_of l h cells f s ss g) number b select (Err d)) (sym notes.0) (place ∙ out.0 refl)
+        → ((p : ℕ) → IsErrOf {T = Asked × ℕ} (Err d) (errors.Behind p) ↔ ((x.position ≡ Some p) × (p < least))) → Asks tells (core_of l h cells f s ss g) number b tx select (Err e)
+    errs old new q errors.Out e is notes out behind = subst (λ (d : AskError). Asks tells (core_of l h cells f s ss g) number b tx select (Err d)) (sym notes.0) (place ∙ out.0 refl)
     errs old new q (errors.Behind p) e is notes out behind =
         let early = (behind p).0 refl in
-        subst (λ (d : AskError). Asks tells (core_of l h cells f s ss g) number b select (Err d)) (sym notes.0) (place ∙ early.0, subst (λ (m : ℕ). p < m) is_least early.1)
-    errs old new q errors.NoMemory e is notes out behind = subst (λ (d : AskError). Asks tells (core_of l h cells f s ss g) number b select (Err d)) (sym notes.0) tt
+        subst (λ (d : AskError). Asks tells (core_of l h cells f s ss g) number b tx select (Err d)) (sym notes.0) (place ∙ early.0, subst (λ (m : ℕ). p < m) is_least early.1)
+    errs old new q errors.NoMemory e is notes out behind = subst (λ (d : AskError). Asks tells (core_of l h cells f s ss g) number b tx select (Err d)) (sym notes.0) tt
     errs old new q errors.Failed e is notes out behind =
         let there = far_enough (Err errors.Failed) refl x.position refl out behind in
         ⊎_elim
         (λ (came : (e ≡ ask_errors.Failed) × (0 < events_left old.history) × (new ≡ with_event old (ReadFailed number q b))).
-        subst (λ (d : AskError). Asks tells (core_of l h cells f s ss g) number b select (Err d)) (sym came.0) (there, subst (λ (l : List Event). 0 < events_left l) is came.1))
+        subst (λ (d : AskError). Asks tells (core_of l h cells f s ss g) number b tx select (Err d)) (sym came.0) (there, subst (λ (l : List Event). 0 < events_left l) is came.1))
         (λ (full : (k : ℕ) × (e ≡ ask_errors.Unnoted k) × HasNoRoomForOne old k × (new ≡ old)).
         let none : events_left old.history < 1 = full.2.full in
         let no_room : events_left old.history ≡ 0 = omega arith in
-        subst (λ (d : AskError). Asks tells (core_of l h cells f s ss g) number b select (Err d)) (sym full.1)
+        subst (λ (d : AskError). Asks tells (core_of l h cells f s ss g) number b tx select (Err d)) (sym full.1)
         (there, subst (λ (l : List Event). events_left l ≡ 0) is no_room, subst (λ (l : List Event). full.0 ≡ length l) is full.2.events))
         notes
 

@@ -3,6 +3,7 @@ use Rattle.std.proofs.Common.{◌≡◌, ◌≢◌, ℕ, ◌+◌, ◌<◌, ◌�
 use Rattle.std.proofs.lemmas.List.{get_or_default, length-map}
 use Rattle.cj_outside.specs.Causes.{next}
 use Rattle.cj_model.specs.declared.database.Slot.{Slot}
+use Rattle.cj_model.specs.declared.account.Account.{Account}
 use Rattle.cj_model.specs.declared.request.Entry.{Entry}
 use Rattle.cj_model.specs.declared.answer.Outcome.{Outcome}
 use Rattle.cj_cluster.specs.declared.event.Event.{Event}
@@ -19,6 +20,7 @@ use Rattle.cj_cluster.proofs.Effects.{is_there}
 use Rattle.cj_cluster.proofs.PartRuns.{part_at_taken, part_at_passed}
 use Rattle.cj_cluster.proofs.TransactionLaws.{legal_fit}
 use Rattle.cj_backend.specs.Backends.{spent}
+use Rattle.cj_auth.specs.Admission.{Register}
 use Rattle.cj_place.specs.Layouts.{Layout, placement_of}
 use Rattle.cj_replica.specs.declared.cell.Caught.{Caught}
 use Rattle.cj_replica.specs.declared.cell.Caught.TheVariants as caught
@@ -34,7 +36,7 @@ use Rattle.cj_core.proofs.CellsKept.{position_of, begun_of, position_within}
 
 -- ---- taking an entry
 
-module _ (tells : Bool) (l : Layout) (h : List Event) (cells : List CellState) (b : ℕ) (can : CanTake tells l h cells b) (x y : CellState) (there : x ≡ get_or cells b x) (e : Entry) (entry : slice_get (log h) can.p ≡ Some e)
+module _ (tells : Bool) (accounts : List Account) (l : Layout) (h : List Event) (cells : List CellState) (b : ℕ) (can : CanTake tells l h cells b) (x y : CellState) (there : x ≡ get_or cells b x) (e : Entry) (entry : slice_get (log h) can.p ≡ Some e)
     (number : y.b ≡ x.b) (placement : y.placement ≡ x.placement) where
   cell : IsCell tells (placement_of l) (log h) b x
   cell = subst (IsCell tells (placement_of l) (log h) b) (sym there) (can.is x)
@@ -104,7 +106,7 @@ module _ (tells : Bool) (l : Layout) (h : List Event) (cells : List CellState) (
 
   pub took : (r : Result Caught CellError) (m : ℕ) (now : List CellState) → m ≡ can.p + 1 → now ≡ set cells b y → takes_part_in_entry x e ≡ not (is_skipped r) → SaysEntryOutcome x.told e r → IfOk r IsCaught
       → HasCellCause x.faults y.faults r → y.arming ≡ cond (not (is_skipped r)) (spent x.arming) x.arming → TellsAfterEntry x.told e r y.told → y.position ≡ position_after m r → y.begun ≡ begun_after_entry x.begun e r
-      → TookEntry tells l h cells b (did_of r) now
+      → TookEntry tells accounts l h cells b (did_of r) now
   took r m now is_next is_set skipped says possible cause arming told position begun =
       let place : y.position ≡ position_after (can.p + 1) r = position ∙ ap (λ k. position_after k r) is_next in
       record {
@@ -138,9 +140,9 @@ log_length (Enabled b ∷ h) = let le = log_length h in omega arith
 log_length (Marker name b ∷ h) = let le = log_length h in omega arith
 
 -- a backend that stands below the log's end
-pub can_take : (tells : Bool) (l : Layout) (h : List Event) (cells : List CellState) (f s : ℕ) (ss : List OpenSession) (g : ℕ) (numbers : List ℕ) (first_outcome : Option Outcome)
-    → Kept tells (world_of l h cells f s ss g) numbers first_outcome → (b p : ℕ) → position_at (core_of l h cells f s ss g) b ≡ Some p → p ≢ length (log h) → CanTake tells l h cells b
-can_take tells l h cells f s ss g numbers first_outcome kept b p there more =
+pub can_take : (tells : Bool) (reg : Register) (l : Layout) (h : List Event) (cells : List CellState) (f s : ℕ) (ss : List OpenSession) (g : ℕ) (numbers : List ℕ) (first_outcome : Option Outcome)
+    → Kept tells (world_of reg l h cells f s ss g) numbers first_outcome → (b p : ℕ) → position_at (core_of l h cells f s ss g) b ≡ Some p → p ≢ length (log h) → CanTake tells l h cells b
+can_take tells reg l h cells f s ss g numbers first_outcome kept b p there more =
     let w = kept.world in
     let within : b < length (map (λ (x : CellState). x.position) cells) = is_there (map (λ (x : CellState). x.position) cells) b p there in
     let lt : b < length cells = rw length-map at within in

@@ -31,13 +31,14 @@ use Rattle.cj_model.proofs.Masks.{has-zero, some_bit}
 use Rattle.cj_model.proofs.MaskBits.{has-and}
 use Rattle.cj_cluster.proofs.Now.{behind_none}
 use Rattle.cj_book.specs.Books.{is_target_at}
+use Rattle.cj_auth.specs.Admission.{Register}
 use Rattle.cj_place.specs.Layouts.{Layout, placement_of}
 use Rattle.cj_replica.specs.Cells.{CellState}
 use Rattle.cj_core.specs.Worlds.{core_of, world_of}
 use Rattle.cj_core.specs.Effects.{Refuses}
 use Rattle.cj_core.specs.Kept.{Kept}
 
-module _ (tells : Bool) (l : Layout) (h : List Event) (cells : List CellState) (f s : ℕ) (ss : List OpenSession) (g : ℕ) (numbers : List ℕ) (first_outcome : Option Outcome) (kept : Kept tells (world_of l h cells f s ss g) numbers first_outcome)
+module _ (tells : Bool) (reg : Register) (l : Layout) (h : List Event) (cells : List CellState) (f s : ℕ) (ss : List OpenSession) (g : ℕ) (numbers : List ℕ) (first_outcome : Option Outcome) (kept : Kept tells (world_of reg l h cells f s ss g) numbers first_outcome)
     (targets left : ℕ) (are : (b : ℕ) → in_mask targets b ≡ is_target_at (placement_of l) h (entry_in_progress h) b) (rest : (b : ℕ) → in_mask left b ≡ is_enabled (h ++ Ended f s ∷ []) b)
     (fits : targets < 2 ^ 32) (e : Entry) (is : entry_in_progress h ≡ Some e) where
   left_is : (b : ℕ) → in_mask left b ≡ (is_enabled h b && not (in_mask f b || in_mask s b))

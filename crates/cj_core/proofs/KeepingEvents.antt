@@ -13,16 +13,17 @@ use Rattle.cj_cluster.specs.Moves.Runs.{AreBetween}
 use Rattle.cj_cluster.proofs.Pushed.{enabled-push, log-same, log_faults-same, done-same, opened-same, opened-free}
 use Rattle.cj_cluster.proofs.Effects.{sessions_are, are_kept, sound_read_failed, sound_disabled, sound_enabled, is_there}
 use Rattle.cj_cluster.proofs.Standing.{stand_event}
+use Rattle.cj_auth.specs.Admission.{Register}
 use Rattle.cj_place.specs.Layouts.{Layout, placement_of}
 use Rattle.cj_replica.specs.Cells.{CellState}
 use Rattle.cj_core.specs.Worlds.{core_of, world_of, IsCell}
 use Rattle.cj_core.specs.Kept.{Kept}
 
-module _ (tells : Bool) (l : Layout) (h : List Event) (cells : List CellState) (f s : ℕ) (ss : List OpenSession) (g : ℕ) (numbers : List ℕ) (first_outcome : Option Outcome) (kept : Kept tells (world_of l h cells f s ss g) numbers first_outcome) where
+module _ (tells : Bool) (reg : Register) (l : Layout) (h : List Event) (cells : List CellState) (f s : ℕ) (ss : List OpenSession) (g : ℕ) (numbers : List ℕ) (first_outcome : Option Outcome) (kept : Kept tells (world_of reg l h cells f s ss g) numbers first_outcome) where
   -- an event comes that leaves the log and the ends, where the state stays sound
   kept_same : (e : Event) → scheduled_entry e ≡ None → is_end_event e ≡ false → CoreInvariant (core_of l (h ++ e ∷ []) cells f s ss g)
       → ((d : Entry) → entry_in_progress h ≡ Some d → (b : ℕ) → is_enabled (h ++ e ∷ []) b ≡ is_enabled h b) → AreBetween (core_of l (h ++ e ∷ []) cells f s ss g)
-      → Kept tells (world_of l (h ++ e ∷ []) cells f s ss g) numbers first_outcome
+      → Kept tells (world_of reg l (h ++ e ∷ []) cells f s ss g) numbers first_outcome
   kept_same e is stays sound keeps stand =
       let w = kept.world in
       let same : log (h ++ e ∷ []) ≡ log h = log-same h e is in
@@ -33,6 +34,7 @@ module _ (tells : Bool) (l : Layout) (h : List Event) (cells : List CellState) (
             record {
               sound = sound;
               named = w.named;
+              registered = w.registered;
               few = w.few;
               positions = refl;
               begun = refl;
@@ -55,7 +57,7 @@ module _ (tells : Bool) (l : Layout) (h : List Event) (cells : List CellState) (
   none_waits fr i own = both_ways (is_entry_of i (entry_in_progress h)) (ap (is_entry_of i) (opened-free h fr)) own
 
   -- a backend failed in a read
-  pub kept_read_failed : (t q b : ℕ) → 0 < events_left h → Kept tells (world_of l (h ++ ReadFailed t q b ∷ []) cells f s ss g) numbers first_outcome
+  pub kept_read_failed : (t q b : ℕ) → 0 < events_left h → Kept tells (world_of reg l (h ++ ReadFailed t q b ∷ []) cells f s ss g) numbers first_outcome
   kept_read_failed t q b space =
       let e : Event = ReadFailed t q b in
       kept_same (ReadFailed t q b) refl refl
@@ -64,13 +66,13 @@ module _ (tells : Bool) (l : Layout) (h : List Event) (cells : List CellState) (
       (λ _ _ k. enabled-push h (ReadFailed t q b) k)
       (stand_event (core_of l h cells f s ss g) e refl refl (λ i j. refl) (λ i own k. refl) kept.world.between)
 
-  pub kept_disabled : (b : ℕ) → is_idle h ≡ true → is_enabled h b ≡ true → 0 < events_left h → Kept tells (world_of l (h ++ Disabled b ∷ []) cells f s ss g) numbers first_outcome
+  pub kept_disabled : (b : ℕ) → is_idle h ≡ true → is_enabled h b ≡ true → 0 < events_left h → Kept tells (world_of reg l (h ++ Disabled b ∷ []) cells f s ss g) numbers first_outcome
   kept_disabled b fr on space =
       kept_same (Disabled b) refl refl (sound_disabled (core_of l h cells f s ss g) b kept.world.sound fr on space) (λ d now. absurd (none_open fr d now))
       (stand_event (core_of l h cells f s ss g) (Disabled b) refl refl (λ i j. refl) (λ i own. absurd (none_waits fr i own)) kept.world.between)
 
   pub kept_enabled : (b : ℕ) → is_idle h ≡ true → is_enabled h b ≡ false → position_at (core_of l h cells f s ss g) b ≡ Some (length (log h)) → 0 < events_left h
-      → Kept tells (world_of l (h ++ Enabled b ∷ []) cells f s ss g) numbers first_outcome
+      → Kept tells (world_of reg l (h ++ Enabled b ∷ []) cells f s ss g) numbers first_outcome
   kept_enabled b fr off there space =
       kept_same (Enabled b) refl refl
       (sound_enabled (core_of l h cells f s ss g) b kept.world.sound fr off (is_there (map (λ (x : CellState). x.position) cells) b (length (log h)) there) there space)

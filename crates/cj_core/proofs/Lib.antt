@@ -15,5 +15,11 @@ pub mod Resting
 pub mod Scheduling
 pub mod Seats
 pub mod Serving
+pub mod SoloLogins
+pub mod SoloMoves
+pub mod SoloReads
+pub mod SoloTaking
+pub mod SoloTurns
+pub mod SoloWrites
 pub mod Starting
 pub mod Taking

@@ -22,7 +22,7 @@ use Rattle.cj_cluster.specs.Proving.Invariants.{CoreInvariant}
 use Rattle.cj_cluster.proofs.Pushed.{prefix_self}
 use Rattle.cj_cluster.proofs.Sessions.{session_at-is}
 use Rattle.cj_cluster.proofs.Standing.{open_above, still_tried}
-use Rattle.cj_cluster.specs.Moves.Moves.{MoveResult, is_open, position_or_zero, IsServingMask, ReadIsAnswered, ReadCameTooEarly, HasOtherRead, HasNoOtherRead, AttemptsRead, AttemptsReadOrWaits, with_read, answered_at, was_answered, still_reading, tried_of, tried_with}
+use Rattle.cj_cluster.specs.Moves.Moves.{MoveResult, is_open, open_tx, position_or_zero, IsServingMask, ReadIsAnswered, ReadCameTooEarly, HasOtherRead, HasNoOtherRead, AttemptsRead, AttemptsReadOrWaits, with_read, answered_at, was_answered, still_reading, tried_of, tried_with}
 use Rattle.cj_model.proofs.Masks.{has-zero, some_bit}
 use Rattle.cj_model.specs.Database.Outcomes.{IsAsked}
 use Rattle.cj_core.specs.declared.cells.AskError.TheVariants as errors
@@ -75,7 +75,7 @@ module _ (tells : Bool) (c : Core) (s b : ℕ) (select : Select) (same : HasNoOt
     of_answer (asked.Refused r) z h = inl h
 
     -- it answered
-    pub answered : (a : Asked) (p : ℕ) (mid z : Core) (m : Moved) → Asks tells c s b select (Ok (a, p)) → mid ≡ c → z ≡ with_read mid s (λ x. answered_at p (was_answered x)) → m ≡ answer_given a
+    pub answered : (a : Asked) (p : ℕ) (mid z : Core) (m : Moved) → Asks tells c s b (open_tx c s) select (Ok (a, p)) → mid ≡ c → z ≡ with_read mid s (λ x. answered_at p (was_answered x)) → m ≡ answer_given a
         → AttemptsReadOrWaits tells c s b select (Ok m) z
     answered a p mid z m asks same_core after is =
         subst (λ (x : Moved). AttemptsReadOrWaits tells c s b select (Ok x) z) (sym is)
@@ -102,16 +102,16 @@ module _ (tells : Bool) (c : Core) (s b : ℕ) (select : Select) (same : HasNoOt
           after = after ∙ ap (λ (x : Core). with_read x s (still_reading select (tried_of (session_at x s).reading))) same_core;
         }
 
-    pub is_out : (mid z : Core) → Asks tells c s b select (Err errors.Out) → mid ≡ c → z ≡ with_read mid s (still_reading select (tried_of (session_at mid s).reading))
+    pub is_out : (mid z : Core) → Asks tells c s b (open_tx c s) select (Err errors.Out) → mid ≡ c → z ≡ with_read mid s (still_reading select (tried_of (session_at mid s).reading))
         → AttemptsReadOrWaits tells c s b select (Ok moved.Out) z
     is_out mid z asks same_core after = reads (Ok moved.Out) z (early None mid z asks (inl refl) same_core after)
 
-    pub is_behind : (p : ℕ) (mid z : Core) → Asks tells c s b select (Err (errors.Behind p)) → mid ≡ c → z ≡ with_read mid s (still_reading select (tried_of (session_at mid s).reading))
+    pub is_behind : (p : ℕ) (mid z : Core) → Asks tells c s b (open_tx c s) select (Err (errors.Behind p)) → mid ≡ c → z ≡ with_read mid s (still_reading select (tried_of (session_at mid s).reading))
         → AttemptsReadOrWaits tells c s b select (Ok (moved.Behind p)) z
     is_behind p mid z asks same_core after = reads (Ok (moved.Behind p)) z (early (Some p) mid z asks.0 (inr asks.1) same_core after)
 
     -- it failed, which the history says
-    pub failed : (mid z : Core) (m : Moved) (serving : ℕ) → IsServingMask c select serving → Asks tells c s b select (Err errors.Failed) → mid ≡ asked_core c s b (Err errors.Failed)
+    pub failed : (mid z : Core) (m : Moved) (serving : ℕ) → IsServingMask c select serving → Asks tells c s b (open_tx c s) select (Err errors.Failed) → mid ≡ asked_core c s b (Err errors.Failed)
         → RefusesOrStays mid s select (tried_with c s b) serving m z → AttemptsReadOrWaits tells c s b select (Ok m) z
     failed mid z m serving is asks noted (inl h) =
         subst (λ (x : Moved). AttemptsReadOrWaits tells c s b select (Ok x) z) (sym h.1)
@@ -138,7 +138,7 @@ module _ (tells : Bool) (c : Core) (s b : ℕ) (select : Select) (same : HasNoOt
         }))
 
     -- it failed, and the history has no room to say so
-    pub unnoted : (n : ℕ) (mid z : Core) (m : Moved) → Asks tells c s b select (Err (errors.Unnoted n)) → mid ≡ c → m ≡ moved.Refused (record { code = HISTORY_FULL; a = n; b = 0 }) → z ≡ with_read mid s was_answered
+    pub unnoted : (n : ℕ) (mid z : Core) (m : Moved) → Asks tells c s b (open_tx c s) select (Err (errors.Unnoted n)) → mid ≡ c → m ≡ moved.Refused (record { code = HISTORY_FULL; a = n; b = 0 }) → z ≡ with_read mid s was_answered
         → AttemptsReadOrWaits tells c s b select (Ok m) z
     unnoted n mid z m asks same_core is after =
         subst (λ (x : Moved). AttemptsReadOrWaits tells c s b select (Ok x) z) (sym is)

@@ -18,6 +18,7 @@ use Rattle.cj_cluster.proofs.Pushed.{enabled-push, log-same, done-same}
 use Rattle.cj_cluster.proofs.Standing.{stand_none}
 use Rattle.cj_book.specs.declared.error.BookError.{BookError}
 use Rattle.cj_book.specs.declared.error.BookError.TheVariants.{HistoryFull}
+use Rattle.cj_auth.specs.Admission.{Register}
 use Rattle.cj_place.specs.Layouts.{Layout, placement_of}
 use Rattle.cj_replica.specs.Cells.{CellState}
 use Rattle.cj_core.specs.Worlds.{core_of, world_of}
@@ -75,13 +76,14 @@ module _ (l : Layout) (cells : List CellState) (fresh : AreFresh (placement_of l
       ap (λ (ps : List (Option ℕ)). record (started_to (placement_of l) 0) { positions = ps; begun = map (λ (x : CellState). x.begun) cells }) positions_at_rest
       ∙ ap (λ (ts : List (List ℕ)). record (started_to (placement_of l) 0) { begun = ts }) begun_at_rest
 
-  pub kept_at_rest : (tells : Bool) → length l.names ≤ BACKEND_LIMIT → AreEmpty tells (map (λ (x : CellState). x.told) cells) → Kept tells (world_of l [] cells 0 0 [] 0) [] None
-  kept_at_rest tells few empty =
+  pub kept_at_rest : (tells : Bool) (reg : Register) → reg.backends ≡ length l.names → length l.names ≤ BACKEND_LIMIT → AreEmpty tells (map (λ (x : CellState). x.told) cells) → Kept tells (world_of reg l [] cells 0 0 [] 0) [] None
+  kept_at_rest tells reg registered few empty =
       record {
         world =
             record {
               sound = sound_at_rest;
               named = refl;
+              registered = registered;
               few = few;
               positions = refl;
               begun = refl;

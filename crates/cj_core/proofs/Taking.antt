@@ -21,6 +21,7 @@ use Rattle.cj_cluster.specs.Moves.Moves.{Stance, position_or_zero, TakesEntry, D
 use Rattle.cj_cluster.specs.Proving.Invariants.{CoreInvariant}
 use Rattle.cj_cluster.proofs.Effects.{sound_applied, sound_replayed, stands_there, is_there}
 use Rattle.cj_cluster.proofs.Standing.{stand_rest}
+use Rattle.cj_auth.specs.Admission.{Register}
 use Rattle.cj_place.specs.Layouts.{Layout, placement_of}
 use Rattle.cj_replica.specs.Cells.{CellState}
 use Rattle.cj_core.specs.Worlds.{core_of, world_of, IsCell, IsWorld}
@@ -40,8 +41,8 @@ takes_more p b begun tx (act.Drop table) part = part
 takes_more p b begun tx act.Commit part = absurd (cc part)
 takes_more p b begun tx act.Abort part = absurd (cc part)
 
-module _ (tells : Bool) (l : Layout) (h : List Event) (cells : List CellState) (f s : ℕ) (ss : List OpenSession) (g : ℕ) (numbers : List ℕ) (first_outcome : Option Outcome) (kept : Kept tells (world_of l h cells f s ss g) numbers first_outcome)
-    (b : ℕ) (d : Did) (now : List CellState) (took : TookEntry tells l h cells b d now) where
+module _ (tells : Bool) (reg : Register) (l : Layout) (h : List Event) (cells : List CellState) (f s : ℕ) (ss : List OpenSession) (g : ℕ) (numbers : List ℕ) (first_outcome : Option Outcome) (kept : Kept tells (world_of reg l h cells f s ss g) numbers first_outcome)
+    (b : ℕ) (d : Did) (now : List CellState) (took : TookEntry tells reg.accounts l h cells b d now) where
   -- how it stands then
   abbrev stance : Stance
   stance = record { position = took.cell.position; begun = took.cell.begun }
@@ -67,11 +68,12 @@ module _ (tells : Bool) (l : Layout) (h : List Event) (cells : List CellState) (
       ∙ ap (λ (ts : List (List ℕ)). record (core_of l h cells f s ss g) { positions = set (map (λ (x : CellState). x.position) cells) b took.cell.position; begun = ts; failed = f'; starved = s' }) begins
 
   taken_world : (f' s' : ℕ) → CoreInvariant (record (with_stance (core_of l h cells f s ss g) b stance) { failed = f'; starved = s' })
-      → IsWorld tells (world_of l h now f' s' ss g)
+      → IsWorld tells (world_of reg l h now f' s' ss g)
   taken_world f' s' sound =
       record {
         sound = subst CoreInvariant (sym (core_now f' s')) sound;
         named = kept.world.named;
+        registered = kept.world.registered;
         few = kept.world.few;
         positions = refl;
         begun = refl;
@@ -130,7 +132,7 @@ module _ (tells : Bool) (l : Layout) (h : List Event) (cells : List CellState) (
     heard_still did.Starved some = some
 
     -- an enabled backend took the open entry
-    pub kept_applied : Kept tells (world_of l h now (failed_after f b d) (starved_after s b d) ss g) numbers (first_outcome_after first_outcome d)
+    pub kept_applied : Kept tells (world_of reg l h now (failed_after f b d) (starved_after s b d) ss g) numbers (first_outcome_after first_outcome d)
     kept_applied =
         record {
           world = taken_world (failed_after f b d) (starved_after s b d) (sound_applied tells (core_of l h cells f s ss g) b kept.world.sound fr on d stance takes);
@@ -147,7 +149,7 @@ module _ (tells : Bool) (l : Layout) (h : List Event) (cells : List CellState) (
         }
 
   -- another backend took the log's next
-  pub kept_replayed : is_enabled h b ≡ false → Kept tells (world_of l h now f s ss g) numbers first_outcome
+  pub kept_replayed : is_enabled h b ≡ false → Kept tells (world_of reg l h now f s ss g) numbers first_outcome
   kept_replayed off =
       record {
         world = taken_world f s (sound_replayed tells (core_of l h cells f s ss g) b kept.world.sound off d stance takes);

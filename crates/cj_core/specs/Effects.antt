@@ -19,7 +19,7 @@ use Rattle.cj_cluster.specs.History.Histories.{log, ended_count, is_idle, entry_
 use Rattle.cj_model.specs.Cluster.Masks.{in_mask}
 use Rattle.cj_cluster.specs.History.Answering.{HasServer, HasNoServer, AnswersEntry}
 use Rattle.cj_cluster.specs.Moves.Cores.{Core, position_at, session_at}
-use Rattle.cj_cluster.specs.Moves.Moves.{last_number, open_tx, with_end, happened, IsFarEnough, read_number, with_read, was_answered, still_reading}
+use Rattle.cj_cluster.specs.Moves.Moves.{last_number, with_end, happened, IsFarEnough, read_number, with_read, was_answered, still_reading}
 use Rattle.cj_cluster.specs.History.Turns.{SessionView}
 use Rattle.cj_cluster.specs.Moves.Runs.{HasFailedSince, IsBetweenReplies}
 use Rattle.cj_book.specs.declared.error.BookError.{BookError}
@@ -60,15 +60,15 @@ Refuses failed starved refusal =
 abbrev pub AnswersOpen : Bool → Core → Reply → Type 0
 AnswersOpen tells c reply = (e : Entry) → entry_in_progress c.history ≡ Some e → AnswersEntry tells c.placement c.history (with_end c) (ended_count c.history) e reply
 
--- what backend b answered a session's query, or why it did not
-abbrev pub Asks : Bool → Core → ℕ → ℕ → Select → Result (Asked × ℕ) AskError → Type 0
-Asks tells c s b select (Ok (answer, p)) =
-    (position_at c b ≡ Some p) × ((session_at c s).least ≤ p) × (p ≤ last_number c) × IsAsked answer × (tells ≡ true → answer ≡ ask (database_after (log c.history) p) (open_tx c s) select)
-Asks tells c s b select (Err errors.Out) = position_at c b ≡ None
-Asks tells c s b select (Err (errors.Behind p)) = (position_at c b ≡ Some p) × (p < (session_at c s).least)
-Asks tells c s b select (Err errors.Failed) = IsFarEnough c s b × (0 < events_left c.history)
-Asks tells c s b select (Err (errors.Unnoted n)) = IsFarEnough c s b × (events_left c.history ≡ 0) × (n ≡ length c.history)
-Asks tells c s b select (Err errors.NoMemory) = Unit {0}
+-- what backend b answered a session's query of transaction tx, or why it did not
+abbrev pub Asks : Bool → Core → ℕ → ℕ → ℕ → Select → Result (Asked × ℕ) AskError → Type 0
+Asks tells c s b tx select (Ok (answer, p)) =
+    (position_at c b ≡ Some p) × ((session_at c s).least ≤ p) × (p ≤ last_number c) × IsAsked answer × (tells ≡ true → answer ≡ ask (database_after (log c.history) p) tx select)
+Asks tells c s b tx select (Err errors.Out) = position_at c b ≡ None
+Asks tells c s b tx select (Err (errors.Behind p)) = (position_at c b ≡ Some p) × (p < (session_at c s).least)
+Asks tells c s b tx select (Err errors.Failed) = IsFarEnough c s b × (0 < events_left c.history)
+Asks tells c s b tx select (Err (errors.Unnoted n)) = IsFarEnough c s b × (events_left c.history ≡ 0) × (n ≡ length c.history)
+Asks tells c s b tx select (Err errors.NoMemory) = Unit {0}
 
 -- the core after that: a failure is an event of the history, where that has room
 abbrev pub asked_core : Core → ℕ → ℕ → Result (Asked × ℕ) AskError → Core

@@ -2,8 +2,10 @@ pub mod Armings
 pub mod Counting
 pub mod Effects
 pub mod Kept
+pub mod Logins
 pub mod Places
 pub mod Played
+pub mod Solos
 pub mod Starts
 pub mod Steps
 pub mod Taking

@@ -1,8 +1,10 @@
 -- Places of open sessions.
-use Rattle.std.specs.Prelude.{◌≡◌, ℕ, ◌<◌, List, length, slice_get, IfSome}
+use Rattle.std.specs.Prelude.{◌≡◌, ℕ, ◌<◌, ◌≤◌, List, length, slice_get, IfSome}
 use Rattle.cj_cluster.specs.declared.moves.OpenSession.{OpenSession}
-use Rattle.cj_model.specs.declared.limits.TheConstants.{REQUEST_LIMIT}
+use Rattle.cj_model.specs.declared.limits.TheConstants.{REQUEST_LIMIT, SESSION_LIMIT}
+use Rattle.cj_model.specs.Database.Tables.{Rises}
 use Rattle.cj_cluster.specs.Moves.Cores.{find_session}
+use Rattle.cj_cluster.specs.Proving.Invariants.{by_session_number}
 
 -- the session of this number stands at this place
 pub record IsPlaceOf (sessions : List OpenSession) (number place : ℕ) : Type 0 where
@@ -12,3 +14,8 @@ pub record IsPlaceOf (sessions : List OpenSession) (number place : ℕ) : Type 0
 -- the session of this number, where it is open, can make one request more
 abbrev pub CanCountOne : List OpenSession → ℕ → Type 0
 CanCountOne sessions number = IfSome (find_session sessions number) (λ x. x.queries < REQUEST_LIMIT)
+
+-- the sessions rise in number, and there is room for as many as there can be
+pub record KeepsRoom (sessions : List OpenSession) (capacity : ℕ) : Type 0 where
+  pub rises : Rises by_session_number sessions
+  pub room : SESSION_LIMIT ≤ capacity

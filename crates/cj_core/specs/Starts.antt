@@ -1,5 +1,5 @@
 -- How a world begins, and what its backends hold when it is given up.
-use Rattle.std.specs.Prelude.{◌≡◌, ℕ, ◌<◌, Bool, true, List, [], All, length, map, replicate, slice_get, slice_index_or}
+use Rattle.std.specs.Prelude.{◌≡◌, ℕ, ◌<◌, Bool, true, List, [], ◌∷◌, All, length, map, replicate, slice_get, slice_index_or}
 use Rattle.std.specs.declared.option.Option.{Option}
 use Rattle.std.specs.declared.option.Option.TheVariants.{Some}
 use Rattle.std.specs.List.{range_with_len}
@@ -9,7 +9,8 @@ use Rattle.cj_cluster.specs.declared.event.Event.TheVariants.{Enabled}
 use Rattle.cj_model.specs.Cluster.Placements.{Placement, part}
 use Rattle.cj_cluster.specs.History.Histories.{log, is_idle, is_enabled, database_of, database_after}
 use Rattle.cj_cluster.specs.Moves.Cores.{Core, position_at}
-use Rattle.cj_replica.specs.Cells.{CellState}
+use Rattle.cj_backend.specs.Backends.{Arming}
+use Rattle.cj_replica.specs.Cells.{CellState, KeepsBegun}
 
 -- n backends are enabled, in the order of their numbers
 abbrev pub enables : ℕ → List Event
@@ -44,6 +45,29 @@ pub record IsFresh (p : Placement) (b : ℕ) (x : CellState) : Type 0 where
 pub record AreFresh (p : Placement) (cells : List CellState) : Type 0 where
   pub as_many : length cells ≡ p.backends
   pub each : (b : ℕ) (d : CellState) → b < length cells → IsFresh p b (slice_index_or cells b d)
+
+-- what is seen of a backend, but for the transactions that it has begun
+pub record BackendState : Type 0 where
+  pub told : Option (List Slot)
+  pub faults : ℕ
+  pub asks : ℕ
+  pub login : Option (List ℕ)
+  pub arming : Arming
+
+-- of backends of a kind
+abbrev pub state_by : {X : Type 0} → (X → Option (List Slot)) → (X → ℕ) → (X → ℕ) → (X → Option (List ℕ)) → (X → Arming) → X → BackendState
+state_by told faults asks login arming x = record { told = told x; faults = faults x; asks = asks x; login = login x; arming = arming x }
+
+-- of the backend of a cell
+abbrev pub backend_of : CellState → BackendState
+backend_of x = record { told = x.told; faults = x.faults; asks = x.asks; login = x.login; arming = x.arming }
+
+-- each backend that is not out has begun what its cell says
+abbrev pub KeepEachBegun : List CellState → List (List ℕ) → Type 0
+KeepEachBegun [] [] = Unit {0}
+KeepEachBegun (x ∷ cells) (begun ∷ others) = KeepsBegun x.position x.begun begun × KeepEachBegun cells others
+KeepEachBegun [] (begun ∷ others) = ⊥
+KeepEachBegun (x ∷ cells) [] = ⊥
 
 -- no backend has begun a transaction
 abbrev pub HaveBegunNone : List (List ℕ) → Type 0

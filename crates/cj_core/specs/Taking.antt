@@ -23,7 +23,10 @@ use Rattle.cj_replica.specs.declared.cell.CellError.{CellError}
 use Rattle.cj_replica.specs.declared.cell.CellError.TheVariants as errors
 use Rattle.cj_replica.specs.Cells.{CellState}
 use Rattle.cj_core.specs.Worlds.{core_of, IsCell}
+use Rattle.cj_model.specs.declared.account.Account.{Account}
+use Rattle.cj_model.specs.Cluster.Accounts.{login_of}
 use Rattle.cj_core.specs.Counting.{did_fail}
+use Rattle.cj_core.specs.Logins.{logins_of, next_user, LogsInToTake}
 
 -- Backend b can take the entry at its position.
 pub record CanTake (tells : Bool) (l : Layout) (h : List Event) (cells : List CellState) (b : ℕ) : Type 0 where
@@ -45,7 +48,7 @@ did_of (Err errors.Failed) = did.Failed
 did_of (Err errors.Starved) = did.Starved
 
 -- Backend b took the entry at its position, and its cell alone was changed.
-pub record TookEntry (tells : Bool) (l : Layout) (h : List Event) (cells : List CellState) (b : ℕ) (d : Did) (now : List CellState) : Type 0 where
+pub record TookEntry (tells : Bool) (accounts : List Account) (l : Layout) (h : List Event) (cells : List CellState) (b : ℕ) (d : Did) (now : List CellState) : Type 0 where
   pub cell : CellState
   pub set : now ≡ slice_set cells b cell
   pub is : IsCell tells (placement_of l) (log h) b cell
@@ -53,6 +56,7 @@ pub record TookEntry (tells : Bool) (l : Layout) (h : List Event) (cells : List 
   pub takes : (failed starved : ℕ) (sessions : List OpenSession) (greatest : ℕ) → TakesEntry tells (core_of l h cells failed starved sessions greatest) b d (record { position = cell.position; begun = cell.begun })
   pub faults : cell.faults ≡ (if did_fail d then next (slice_index_or cells b cell).faults else (slice_index_or cells b cell).faults)
   pub armings : cell.arming.times ≡ (slice_index_or cells b cell).arming.times
+  pub logins : LogsInToTake b (login_of accounts (next_user (log h) (slice_index_or cells b cell).position) b) d (logins_of cells) (logins_of now)
 
 -- what the open entry came to, after a backend took it
 abbrev pub first_outcome_after : Option Outcome → Did → Option Outcome

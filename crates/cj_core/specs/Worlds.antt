@@ -1,5 +1,6 @@
 -- What contracts see of a world, and what holds of every one.
 use Rattle.std.specs.Prelude.{◌≡◌, ℕ, ◌<◌, ◌≤◌, Bool, List, length, map, slice_index_or}
+use Rattle.cj_model.specs.declared.account.Account.{Account}
 use Rattle.cj_model.specs.declared.request.Entry.{Entry}
 use Rattle.cj_cluster.specs.declared.event.Event.{Event}
 use Rattle.cj_cluster.specs.declared.moves.OpenSession.{OpenSession}
@@ -9,14 +10,24 @@ use Rattle.cj_cluster.specs.History.Histories.{log}
 use Rattle.cj_cluster.specs.Moves.Cores.{Core}
 use Rattle.cj_cluster.specs.Proving.Invariants.{CoreInvariant, HoldsPart}
 use Rattle.cj_cluster.specs.Moves.Runs.{AreBetween}
+use Rattle.cj_auth.specs.Admission.{Register}
 use Rattle.cj_place.specs.Layouts.{Layout, placement_of}
 use Rattle.cj_replica.specs.Cells.{CellState}
 
--- the state that moves change, the cells of the backends by their numbers, and what they are called
+-- what no move changes: what the backends are called, and the accounts of the users
+pub record Setup : Type 0 where
+  pub names : List (List ℕ)
+  pub register : Register
+
+-- the state that moves change, the cells of the backends by their numbers, and what no move changes
 pub record WorldState : Type 0 where
   pub core : Core
   pub cells : List CellState
-  pub names : List (List ℕ)
+  pub setup : Setup
+
+-- the accounts of the users
+abbrev pub accounts_of : WorldState → List Account
+accounts_of w = w.setup.register.accounts
 
 -- the state of a core over these cells, of backends laid out so
 abbrev pub core_of : Layout → List Event → List CellState → ℕ → ℕ → List OpenSession → ℕ → Core
@@ -32,8 +43,9 @@ core_of l h cells failed starved sessions greatest =
       greatest = greatest;
     }
 
-abbrev pub world_of : Layout → List Event → List CellState → ℕ → ℕ → List OpenSession → ℕ → WorldState
-world_of l h cells failed starved sessions greatest = record { core = core_of l h cells failed starved sessions greatest; cells = cells; names = l.names }
+abbrev pub world_of : Register → Layout → List Event → List CellState → ℕ → ℕ → List OpenSession → ℕ → WorldState
+world_of register l h cells failed starved sessions greatest =
+    record { core = core_of l h cells failed starved sessions greatest; cells = cells; setup = record { names = l.names; register = register } }
 
 -- the cell of backend b that holds its part of the database after the entries that it has taken
 pub record IsCell (tells : Bool) (p : Placement) (entries : List Entry) (b : ℕ) (x : CellState) : Type 0 where
@@ -44,7 +56,9 @@ pub record IsCell (tells : Bool) (p : Placement) (entries : List Entry) (b : ℕ
 -- What holds of every world: its core is sound, cell b is the cell of backend b and stands where the core says, and each session stands between two replies.
 pub record IsWorld (tells : Bool) (w : WorldState) : Type 0 where
   pub sound : CoreInvariant w.core
-  pub named : length w.names ≡ w.core.placement.backends
+  pub named : length w.setup.names ≡ w.core.placement.backends
+  -- each account has a login at each backend
+  pub registered : w.setup.register.backends ≡ w.core.placement.backends
   pub few : w.core.placement.backends ≤ BACKEND_LIMIT
   pub positions : w.core.positions ≡ map (λ (x : CellState). x.position) w.cells
   pub begun : w.core.begun ≡ map (λ (x : CellState). x.begun) w.cells

@@ -1,15 +1,17 @@
 //! Cells by the numbers of their backends.
 
-ghost use Rattle.std.specs.Prelude.{◌≡◌, ◌↔◌, ◌<◌, IsTrue, true};
+ghost use Rattle.std.specs.Prelude.{◌≡◌, ◌↔◌, ◌<◌, ◌==◌, ◌&&◌, ℕ, IsTrue, not, true};
+ghost use Rattle.cj_model.specs.Cluster.Masks.{in_mask};
 ghost use Rattle.cj_core.specs.Taking.{CanTake, TookEntry};
 ghost use Rattle.cj_core.specs.Taking as taking;
 ghost use Rattle.cj_core.specs.Effects.{Covers, Notes};
 ghost use Rattle.cj_cluster.specs.Moves.Moves as moves;
 
+use cj_auth::Accounts;
 use cj_backend::Backend;
 use cj_book::{Book, BookError};
 use cj_cluster::Did;
-use cj_model::{NoMemory, Outcome, Text, with_bit};
+use cj_model::{NoMemory, Outcome, with_bit};
 use cj_replica::{Caught, Cell, CellError, CellReadError};
 use thiserror::Error;
 
@@ -60,6 +62,16 @@ pub fn covers(mask: u32, other: u32) -> bool
     other & !mask == 0
 }
 
+/// The mask without one of its backends.
+pub fn without_bit(mask: u32, b: u8) -> u32
+    requires within { b < 32 }
+    requires has { in_mask mask b ≡ true }
+    ensures less { result < mask }
+    ensures bits { (k : ℕ) → in_mask result k ≡ (in_mask mask k && not (k == b)) }
+{
+    mask & !(1 << b)
+}
+
 /// The mask of those that failed in the open entry, after a backend took it.
 pub fn failed_after(mask: u32, b: u8, did: Did) -> u32
     requires { b < 32 }
@@ -99,15 +111,17 @@ pub fn place(position: Option<u64>) -> u64
     position.unwrap_or(0)
 }
 
-/// Backend `b` takes the entry at its position.
-pub fn take<B: Backend>(book: &Book, cells: &mut Vec<Cell<B>>, login: &Text, b: u8) -> Did
-    requires { CanTake B.TELLS book.now.layout book.now.history cells.old.items b }
-    ensures { TookEntry B.TELLS book.now.layout book.now.history cells.old.items b result cells.new.items }
+/// Backend `b` takes the entry at its position, under the login of the entry's user.
+pub fn take<B: Backend>(book: &Book, cells: &mut Vec<Cell<B>>, accounts: &Accounts, b: u8) -> Did
+    requires can { CanTake B.TELLS book.now.layout book.now.history cells.old.items b }
+    requires registered { b < accounts.now.backends }
+    ensures { TookEntry B.TELLS accounts.now.accounts book.now.layout book.now.history cells.old.items b result cells.new.items }
 {
     let next = place(cells[b as usize].position()) + 1;
     let Some(entry) = book.entry(next) else {
         unreachable!()
     };
+    let login = accounts.mapped(&entry.user, b);
     did_of(cells[b as usize].catch_up(next, entry, login))
 }
 

@@ -8,9 +8,13 @@ mod movers;
 mod reasons;
 mod runs;
 mod sessions;
+mod solo;
+mod solo_read;
+mod solo_write;
 mod start;
 mod transactions;
 mod world;
 
-pub use start::Backends;
+pub use solo::Solo;
+pub use start::{Backends, Parts};
 pub use world::World;

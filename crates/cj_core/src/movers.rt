@@ -12,6 +12,7 @@ ghost use Rattle.cj_cluster.specs.Moves.Runs.{IsForLog};
 ghost use Rattle.cj_replica.specs.Cells.{CellState};
 ghost use Rattle.cj_core.specs.Armings.{ArmsCell, HasArmings, armed_at, armings_of};
 ghost use Rattle.cj_core.specs.Counting.{HasCauses, faults_of};
+ghost use Rattle.cj_core.specs.Logins.{HasLogins, logins_of};
 ghost use Rattle.cj_core.specs.Effects.{HaveFailed, RefusesOrStays, answer_given, with_core};
 ghost use Rattle.cj_core.specs.Steps.{IsMet};
 
@@ -45,27 +46,23 @@ fn act_of(request: Request) -> Act
 }
 
 impl<B: Backend> World<B> {
-    fn open(&mut self, user: Text) -> Result<Moved, MoveError>
+    fn open(&mut self, user: Text) -> Moved
         requires { length user ≤ USER_LIMIT }
-        ensures moves { OpensSession self.old.core user result self.new.core }
+        ensures moves { OpensSession self.old.core user (Ok result) self.new.core }
         ensures cells { self.new.cells ≡ self.old.cells }
-        ensures want { IsErrOf result MoveError.NoMemory → self.new ≡ self.old }
-        ensures names { self.new.names ≡ self.old.names }
+        ensures setup { self.new.setup ≡ self.old.setup }
     {
         if self.has_no_number() {
-            return Ok(Moved::Refused(self.sessions_full()));
+            return Moved::Refused(self.sessions_full());
         }
-        match self.add_session(user) {
-            Ok(number) => Ok(Moved::Session(number)),
-            Err(_) => Err(MoveError::NoMemory),
-        }
+        Moved::Session(self.add_session(user))
     }
 
     fn close(&mut self, s: u64) -> Moved
         requires { not_now self.old.core (Move.Close s) ≡ None }
         ensures moves { ClosesSession self.old.core s (Ok result) self.new.core }
         ensures cells { self.new.cells ≡ self.old.cells }
-        ensures names { self.new.names ≡ self.old.names }
+        ensures setup { self.new.setup ≡ self.old.setup }
     {
         self.remove_session(s);
         Moved::Closed
@@ -79,7 +76,7 @@ impl<B: Backend> World<B> {
         ensures moves { SchedulesRequest self.old.core s request result self.new.core }
         ensures cells { self.new.cells ≡ self.old.cells }
         ensures want { IsErrOf result MoveError.NoMemory → self.new ≡ self.old }
-        ensures names { self.new.names ≡ self.old.names }
+        ensures setup { self.new.setup ≡ self.old.setup }
     {
         let act = act_of(request);
         if let Some(refusal) = forbidden_by(self.open_tx(s), &act) {
@@ -113,7 +110,7 @@ impl<B: Backend> World<B> {
         ensures moves { AbortsOrphan self.old.core tx result self.new.core }
         ensures cells { self.new.cells ≡ self.old.cells }
         ensures want { IsErrOf result MoveError.NoMemory → self.new ≡ self.old }
-        ensures names { self.new.names ≡ self.old.names }
+        ensures setup { self.new.setup ≡ self.old.setup }
     {
         let Ok(entry) = self.abort_entry(tx) else {
             return Err(MoveError::NoMemory);
@@ -131,8 +128,9 @@ impl<B: Backend> World<B> {
         requires now { not_now self.old.core (Move.Apply b) ≡ None }
         ensures moves { Applies B.TELLS self.old.core b (Ok result) self.new.core }
         ensures causes { HasCauses self.old self.new (Move.Apply b) (Ok result) }
+        ensures logins { HasLogins self.old self.new (Move.Apply b) (Ok result) }
         ensures armings { armings_of self.new.cells ≡ armings_of self.old.cells }
-        ensures names { self.new.names ≡ self.old.names }
+        ensures setup { self.new.setup ≡ self.old.setup }
     {
         Moved::Applied {
             b,
@@ -144,7 +142,7 @@ impl<B: Backend> World<B> {
         requires { not_now self.old.core Move.End ≡ None }
         ensures moves { EndsEntry B.TELLS self.old.core (Ok result) self.new.core }
         ensures cells { self.new.cells ≡ self.old.cells }
-        ensures names { self.new.names ≡ self.old.names }
+        ensures setup { self.new.setup ≡ self.old.setup }
     {
         let session = self.waiting();
         let reply = self.reply();
@@ -160,9 +158,10 @@ impl<B: Backend> World<B> {
         requires counts { (session_at self.old.core s).queries < REQUEST_LIMIT }
         ensures moves { AttemptsReadOrWaits B.TELLS self.old.core s b select result self.new.core }
         ensures causes { HasCauses self.old self.new (Move.Read s b select) result }
+        ensures logins { HasLogins self.old self.new (Move.Read s b select) result }
         ensures armings { armings_of self.new.cells ≡ armings_of self.old.cells }
         ensures want { IsErrOf result MoveError.NoMemory → self.new ≡ self.old }
-        ensures names { self.new.names ≡ self.old.names }
+        ensures setup { self.new.setup ≡ self.old.setup }
     {
         self.legal();
         if self.reads_other(s, &select) {
@@ -183,7 +182,8 @@ impl<B: Backend> World<B> {
             }));
         }
         let tried = self.tried_with(s, b);
-        match self.ask(s, b, &select) {
+        let tx = self.open_tx(s);
+        match self.ask(s, b, None, tx, &select) {
             Ok((answer, position)) => Ok(self.answer(s, position, answer)),
             Err(AskError::Failed) => Ok(self.refuse_or_stay(s, select, tried, serving)),
             Err(AskError::Unnoted(events)) => Ok(self.refuse_unnoted(s, events)),
@@ -233,7 +233,7 @@ impl<B: Backend> World<B> {
         requires since { HaveFailed self.old.core s tried }
         ensures moves { RefusesOrStays self.old.core s select tried serving result self.new.core }
         ensures cells { self.new.cells ≡ self.old.cells }
-        ensures names { self.new.names ≡ self.old.names }
+        ensures setup { self.new.setup ≡ self.old.setup }
     {
         if covers(tried, serving) {
             self.refuse_read(s);
@@ -269,7 +269,8 @@ impl<B: Backend> World<B> {
         ensures cells { (d : CellState) → self.new.cells ≡ armed_at B.can_be_armed self.old.cells b d }
         ensures faults { faults_of self.new.cells ≡ faults_of self.old.cells }
         ensures armings { HasArmings B.can_be_armed self.old self.new (Move.Arm b) (Ok result) }
-        ensures names { self.new.names ≡ self.old.names }
+        ensures logins { logins_of self.new.cells ≡ logins_of self.old.cells }
+        ensures setup { self.new.setup ≡ self.old.setup }
     {
         self.arm_backend(b);
         Moved::Armed
@@ -280,7 +281,7 @@ impl<B: Backend> World<B> {
         ensures moves { Disables self.old.core b result self.new.core }
         ensures cells { self.new.cells ≡ self.old.cells }
         ensures want { IsErrOf result MoveError.NoMemory → self.new ≡ self.old }
-        ensures names { self.new.names ≡ self.old.names }
+        ensures setup { self.new.setup ≡ self.old.setup }
     {
         match self.switch_off(b) {
             Ok(()) => Ok(Moved::Disabled),
@@ -295,8 +296,9 @@ impl<B: Backend> World<B> {
         requires now { not_now self.old.core (Move.Replay b) ≡ None }
         ensures moves { Replays B.TELLS self.old.core b (Ok result) self.new.core }
         ensures causes { HasCauses self.old self.new (Move.Replay b) (Ok result) }
+        ensures logins { HasLogins self.old self.new (Move.Replay b) (Ok result) }
         ensures armings { armings_of self.new.cells ≡ armings_of self.old.cells }
-        ensures names { self.new.names ≡ self.old.names }
+        ensures setup { self.new.setup ≡ self.old.setup }
     {
         let number = self.next_of(b);
         Moved::Replayed {
@@ -310,7 +312,7 @@ impl<B: Backend> World<B> {
         ensures moves { Enables self.old.core b result self.new.core }
         ensures cells { self.new.cells ≡ self.old.cells }
         ensures want { IsErrOf result MoveError.NoMemory → self.new ≡ self.old }
-        ensures names { self.new.names ≡ self.old.names }
+        ensures setup { self.new.setup ≡ self.old.setup }
     {
         match self.switch_on(b) {
             Ok(()) => Ok(Moved::Enabled),
@@ -327,15 +329,16 @@ impl<B: Backend> World<B> {
         ensures moves { MovesTo B.TELLS self.old.core m result self.new.core }
         ensures causes { HasCauses self.old self.new m result }
         ensures armings { HasArmings B.can_be_armed self.old self.new m result }
+        ensures logins { HasLogins self.old self.new m result }
         ensures armed { result ≡ Ok Moved.Armed → ArmsCell B.can_be_armed self.old.cells m self.new.cells }
         ensures want { IsErrOf result MoveError.NoMemory → self.new ≡ self.old }
-        ensures names { self.new.names ≡ self.old.names }
+        ensures setup { self.new.setup ≡ self.old.setup }
     {
         if let Some(why) = self.not_now(&m) {
             return Err(MoveError::NotNow(why));
         }
         match m {
-            Move::Open { user } => self.open(user),
+            Move::Open { user } => Ok(self.open(user)),
             Move::Close { session } => Ok(self.close(session)),
             Move::Schedule { session, request } => self.schedule(session, request),
             Move::Abort { tx } => self.abort(tx),

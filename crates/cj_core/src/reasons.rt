@@ -74,7 +74,7 @@ impl<B: Backend> World<B> {
         None
     }
 
-    fn not_now_apply(&self, b: u8) -> Option<Why>
+    pub(crate) fn not_now_apply(&self, b: u8) -> Option<Why>
         ensures { result ≡ moves.not_now self.now.core (Move.Apply b) }
     {
         if self.is_free() {

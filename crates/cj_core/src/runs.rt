@@ -7,6 +7,7 @@ ghost use Rattle.cj_cluster.specs.Moves.Moves.{MovesTo};
 ghost use Rattle.cj_cluster.specs.Moves.Runs.{IsMoveOfCluster, CanCountRequests};
 ghost use Rattle.cj_core.specs.Armings.{HasArmings};
 ghost use Rattle.cj_core.specs.Counting.{HasCauses};
+ghost use Rattle.cj_core.specs.Logins.{HasLogins};
 ghost use Rattle.cj_core.specs.Played.{given_of, HasRun, HasRunInPart};
 ghost use Rattle.cj_core.specs.Steps.{IsMet};
 
@@ -23,8 +24,9 @@ impl<B: Backend> World<B> {
         ensures made { IfOk result (λ made. MovesTo B.TELLS self.old.core m (given_of made) self.new.core) }
         ensures causes { IfOk result (λ made. HasCauses self.old self.new m (given_of made)) }
         ensures armings { IfOk result (λ made. HasArmings B.can_be_armed self.old self.new m (given_of made)) }
+        ensures logins { IfOk result (λ made. HasLogins self.old self.new m (given_of made)) }
         ensures want { OnErr result (self.new ≡ self.old) }
-        ensures names { self.new.names ≡ self.old.names }
+        ensures setup { self.new.setup ≡ self.old.setup }
     {
         match self.step(m) {
             Ok(moved) => Ok(Made::Moved(moved)),
@@ -40,7 +42,7 @@ impl<B: Backend> World<B> {
         ensures causes { IfOk result (λ made. HasCauses self.old self.new m.now (given_of made)) }
         ensures armings { IfOk result (λ made. HasArmings B.can_be_armed self.old self.new m.now (given_of made)) }
         ensures want { OnErr result (self.new ≡ self.old) }
-        ensures names { self.new.names ≡ self.old.names }
+        ensures setup { self.new.setup ≡ self.old.setup }
     {
         let m = m.copy(alloc)?;
         self.make(m)
@@ -54,7 +56,7 @@ impl<B: Backend> World<B> {
         ensures runs { MatchResult result (λ made. HasRun B.TELLS self.old moves.now (map given_of made) self.new) (λ _. HasRunInPart B.TELLS self.old moves.now self.new) }
         ensures longer { IsPrefix self.old.core.history self.new.core.history }
         ensures legal { IsLegal self.new.core.history }
-        ensures names { self.new.names ≡ self.old.names }
+        ensures setup { self.new.setup ≡ self.old.setup }
     {
         self.legal();
         let alloc = self.allocator();

@@ -1,17 +1,17 @@
 //! The open sessions.
 
-ghost use Rattle.std.specs.Prelude.{◌≡◌, ◌+◌, ◌<◌, ◌^◌, ◌==◌, not, [], ◌∷◌, ◌++◌, length, filter, option_copied, All, IfSome, MatchOption, OnOk, OnErr};
+ghost use Rattle.std.specs.Prelude.{◌≡◌, ◌+◌, ◌<◌, ◌^◌, ◌==◌, not, [], ◌∷◌, ◌++◌, length, filter, option_copied, All, IfOk, IfSome, MatchOption};
 ghost use Rattle.cj_core.specs.Places.{IsPlaceOf, CanCountOne};
 ghost use Rattle.cj_cluster.specs.Moves.Cores.{find_session, with_session, new_session};
 ghost use Rattle.cj_cluster.specs.Moves.Moves as moves;
 ghost use Rattle.cj_cluster.specs.Moves.Moves.{read_number};
 
 use cj_cluster::{OpenRead, OpenSession};
-use cj_model::{NoMemory, REQUEST_LIMIT, Select, Text};
+use cj_model::{NoMemory, REQUEST_LIMIT, SESSION_LIMIT, Select, Text};
 use std::alloc::Global;
 use std::marker::Model;
 
-/// Open sessions in rising number, which contracts see as a list.
+/// Open sessions in rising number, which contracts see as a list. There is room for as many as there can be.
 #[derive(Drop)]
 pub struct Sessions {
     open: Vec<OpenSession>,
@@ -20,8 +20,8 @@ pub struct Sessions {
 impl Model for Sessions {
     ghost use Rattle.std.specs.Prelude.{List};
     ghost use Rattle.cj_cluster.specs.declared.moves.OpenSession.{OpenSession};
-    ghost use Rattle.cj_model.specs.Database.Tables.{Rises};
-    ghost use Rattle.cj_cluster.specs.Proving.Invariants.{by_session_number};
+    ghost use Rattle.std.specs.Prelude.{vec_capacity};
+    ghost use Rattle.cj_core.specs.Places.{KeepsRoom};
 
     ghost Value = { List OpenSession };
 
@@ -32,7 +32,7 @@ impl Model for Sessions {
 
     ghost view = { λ sessions. sessions.open.items };
 
-    ghost invariant = { λ sessions. Rises by_session_number sessions.open.items };
+    ghost invariant = { λ sessions. KeepsRoom sessions.open.items (vec_capacity sessions.open) };
 }
 
 /// The number of the session's open read, or of the next request.
@@ -66,12 +66,13 @@ fn put_read(session: &mut OpenSession, select: Select, tried: u32)
 }
 
 impl Sessions {
-    pub fn new(alloc: Global) -> Self
-        ensures { result ≡ [] }
+    /// No sessions.
+    pub fn new(alloc: Global) -> Result<Self, NoMemory>
+        ensures { IfOk result (λ made. made ≡ []) }
     {
-        Sessions {
-            open: Vec::new(alloc),
-        }
+        Ok(Sessions {
+            open: Vec::with_capacity(alloc, SESSION_LIMIT)?,
+        })
     }
 
     pub fn len(&self) -> usize
@@ -101,20 +102,19 @@ impl Sessions {
         }
     }
 
-    /// Adds a session of a number above all others.
-    pub fn open(&mut self, number: u64, user: Text) -> Result<(), NoMemory>
-        requires { All (λ x. x.number < number) self.old }
-        ensures ok { OnOk result (self.new ≡ self.old ++ new_session number user ∷ []) }
-        ensures err { OnErr result (self.new ≡ self.old) }
+    /// Adds a session of a number above all others. It takes no memory.
+    pub fn open(&mut self, number: u64, user: Text)
+        requires few { length self.old < SESSION_LIMIT }
+        requires above { All (λ x. x.number < number) self.old }
+        ensures { self.new ≡ self.old ++ new_session number user ∷ [] }
     {
-        self.open.push(OpenSession {
+        self.open.push_reserved(OpenSession {
             number,
             user,
             queries: 0,
             least: 0,
             reading: None,
-        })?;
-        Ok(())
+        });
     }
 
     pub fn close(&mut self, number: u64)

@@ -2,18 +2,26 @@
 
 ghost use Rattle.std.specs.Prelude.{◌≡◌, ◌+◌, ◌<◌, ◌≤◌, [], length, map, vec_capacity, IfOk, OnOk};
 ghost use Rattle.cj_replica.specs.Cells.{CellState};
-ghost use Rattle.cj_core.specs.Armings.{each_arming};
-ghost use Rattle.cj_core.specs.Starts.{AreEmpty, AreFresh, AreHolding, AreCurrent, HaveBegunNone, started, started_to};
+ghost use Rattle.cj_core.specs.Starts.{backend_of, state_by, KeepEachBegun, AreEmpty, AreFresh, AreHolding, AreCurrent, HaveBegunNone, started, started_to};
 ghost use Rattle.cj_place.specs.Layouts.{placement_of};
 
 use crate::emptied::Emptied;
+use crate::sessions::Sessions;
 use crate::world::World;
+use cj_auth::Accounts;
 use cj_backend::Backend;
 use cj_book::{Book, BookError, BookParts};
 use cj_model::{Duplicate, ListOf, NoMemory};
 use cj_place::Placement;
 use cj_replica::Cell;
 use std::alloc::Global;
+
+/// What a world is made of beside its backends. Each account has a login at each of them.
+#[derive(Drop)]
+pub struct Parts {
+    pub book: BookParts,
+    pub accounts: Accounts,
+}
 
 /// Backends in the order of their numbers.
 pub type Backends<B> = ListOf<B>;
@@ -28,9 +36,7 @@ fn cells_of<B: Backend + Drop>(
     requires none { HaveBegunNone (map B.begun backends.old.items) }
     ensures empty { OnOk result (backends.new.items ≡ []) }
     ensures fresh { IfOk result (λ cells. AreFresh (placement_of placement.now) cells.items) }
-    ensures told { IfOk result (λ cells. map (λ (x : CellState). x.told) cells.items ≡ map B.told backends.old.items) }
-    ensures faults { IfOk result (λ cells. map (λ (x : CellState). x.faults) cells.items ≡ map B.faults backends.old.items) }
-    ensures arming { IfOk result (λ cells. each_arming cells.items ≡ map B.arming backends.old.items) }
+    ensures same { IfOk result (λ cells. map backend_of cells.items ≡ map (state_by B.told B.faults B.asks B.login B.arming) backends.old.items) }
 {
     let mut cells = Vec::with_capacity(alloc, placement.count() as usize)?;
     backends.reverse();
@@ -46,8 +52,8 @@ fn cells_of<B: Backend + Drop>(
 fn backends_of<B: Backend + Drop>(mut cells: Vec<Cell<B>>, mut backends: Vec<B>) -> Vec<B>
     requires empty { backends.items ≡ [] }
     requires room { length cells.items ≤ vec_capacity backends }
-    ensures told { map B.told result.items ≡ map (λ (x : CellState). x.told) cells.items }
-    ensures faults { map B.faults result.items ≡ map (λ (x : CellState). x.faults) cells.items }
+    ensures same { map (state_by B.told B.faults B.asks B.login B.arming) result.items ≡ map backend_of cells.items }
+    ensures begun { KeepEachBegun cells.items (map B.begun result.items) }
 {
     cells.reverse();
     while let Some(cell) = cells.pop() {
@@ -61,31 +67,33 @@ impl<B: Backend + Drop> World<B> {
     /// no memory for it, the backends are dropped.
     pub fn start(
         alloc: Global,
-        parts: BookParts,
+        parts: Parts,
         backends: Backends<B>,
     ) -> Result<World<B>, NoMemory>
-        requires as_many { length backends ≡ length parts.placement.names }
+        requires as_many { length backends ≡ length parts.book.placement.names }
+        requires registered { parts.accounts.backends ≡ length parts.book.placement.names }
         requires empty { AreEmpty B.TELLS (map B.told backends) }
         requires none { HaveBegunNone (map B.begun backends) }
-        ensures core { IfOk result (λ world. world.core ≡ started (placement_of parts.placement)) }
-        ensures names { IfOk result (λ world. world.names ≡ parts.placement.names) }
-        ensures told { IfOk result (λ world. map (λ (x : CellState). x.told) world.cells ≡ map B.told backends) }
-        ensures faults { IfOk result (λ world. map (λ (x : CellState). x.faults) world.cells ≡ map B.faults backends) }
-        ensures arming { IfOk result (λ world. each_arming world.cells ≡ map B.arming backends) }
+        ensures core { IfOk result (λ world. world.core ≡ started (placement_of parts.book.placement)) }
+        ensures setup { IfOk result (λ world. world.setup ≡ record { names = parts.book.placement.names; register = parts.accounts }) }
+        ensures same { IfOk result (λ world. map backend_of world.cells ≡ map (state_by B.told B.faults B.asks B.login B.arming) backends) }
     {
+        let Parts { book, accounts } = parts;
         let mut list = backends.into_vec();
-        let count = parts.placement.count();
-        let cells = cells_of(alloc, &parts.placement, &mut list)?;
-        let book = Book::new(alloc, parts)?;
-        let mut world = World::at_rest(alloc, book, cells, Emptied::new(list)?);
+        let count = book.placement.count();
+        let cells = cells_of(alloc, &book.placement, &mut list)?;
+        let book = Book::new(alloc, book)?;
+        let sessions = Sessions::new(alloc)?;
+        let emptied = Emptied::new(list)?;
+        let mut world = World::at_rest(alloc, book, cells, sessions, accounts, emptied);
         world.enable_all(count)?;
         Ok(world)
     }
 
     /// The backends in the order of their numbers, as they stand. It takes no memory.
     pub fn into_backends(self) -> Backends<B>
-        ensures told { map B.told result ≡ map (λ (x : CellState). x.told) self.cells }
-        ensures faults { map B.faults result ≡ map (λ (x : CellState). x.faults) self.cells }
+        ensures same { map (state_by B.told B.faults B.asks B.login B.arming) result ≡ map backend_of self.cells }
+        ensures begun { KeepEachBegun self.cells (map B.begun result) }
         ensures holding { AreHolding B.TELLS self.core (map B.told result) }
         ensures current { AreCurrent B.TELLS self.core (map B.told result) }
     {
@@ -99,7 +107,7 @@ impl<B: Backend + Drop> World<B> {
         requires all { count ≡ self.old.core.placement.backends }
         ensures core { OnOk result (self.new.core ≡ started self.old.core.placement) }
         ensures cells { self.new.cells ≡ self.old.cells }
-        ensures names { self.new.names ≡ self.old.names }
+        ensures setup { self.new.setup ≡ self.old.setup }
     {
         let mut b = 0;
         while b < count {
@@ -115,7 +123,7 @@ impl<B: Backend + Drop> World<B> {
         requires within { b < self.old.core.placement.backends }
         ensures core { OnOk result (self.new.core ≡ started_to self.old.core.placement (b + 1)) }
         ensures cells { self.new.cells ≡ self.old.cells }
-        ensures names { self.new.names ≡ self.old.names }
+        ensures setup { self.new.setup ≡ self.old.setup }
     {
         self.legal();
         match self.switch_on(b) {

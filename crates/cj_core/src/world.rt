@@ -1,6 +1,6 @@
 //! A world, and the parts of its moves: each a change of its state that keeps it whole.
 
-ghost use Rattle.std.specs.Prelude.{◌≡◌, ◌↔◌, ℕ, ◌+◌, ◌<◌, ◌≤◌, ◌^◌, ◌==◌, true, false, not, [], ◌∷◌, ◌++◌, length, map, filter, is_some, IsTrue, IsNone, IfSome, IfOk, IsErrOf, MatchBool, OnOk, OnErr, Some, None, Ok, Err, if◌then◌else◌};
+ghost use Rattle.std.specs.Prelude.{option_copied, ◌≡◌, ◌↔◌, ℕ, ◌+◌, ◌<◌, ◌≤◌, ◌^◌, ◌==◌, true, false, not, [], ◌∷◌, ◌++◌, length, map, filter, is_some, IsTrue, IsNone, IfSome, IfOk, IsErrOf, MatchBool, OnOk, OnErr, Some, None, Ok, Err, if◌then◌else◌};
 ghost use Rattle.std.specs.Option.{option_map};
 ghost use Rattle.cj_model.specs.declared.request.Entry.{Entry};
 ghost use Rattle.cj_model.specs.declared.request.Request.TheVariants as request;
@@ -8,18 +8,24 @@ ghost use Rattle.cj_model.specs.Sql.PlainRequests.{request_of};
 ghost use Rattle.cj_cluster.specs.History.Histories as histories;
 ghost use Rattle.cj_cluster.specs.History.Histories.{log, ended_count, is_idle};
 ghost use Rattle.cj_model.specs.Cluster.Masks.{in_mask};
-ghost use Rattle.cj_cluster.specs.History.Legality.{IsFitEntry};
+ghost use Rattle.cj_cluster.specs.History.Legality.{FitsTx, IsFitEntry};
 ghost use Rattle.cj_model.specs.Sql.WrittenRequests.{IsWritten};
 ghost use Rattle.cj_cluster.specs.History.Answering.{CanServe};
 ghost use Rattle.cj_cluster.specs.Moves.Cores as cores;
-ghost use Rattle.cj_cluster.specs.Moves.Cores.{session_at, position_at};
+ghost use Rattle.cj_cluster.specs.Moves.Cores.{find_session, session_at, position_at};
+ghost use Rattle.cj_model.specs.Cluster.Accounts.{login_of};
 ghost use Rattle.cj_cluster.specs.Moves.Moves as moves;
 ghost use Rattle.cj_cluster.specs.Moves.Moves.{Applies, Replays, IsServingMask, HasOtherRead, HasNoOtherRead, forbidden_by, next_entry, not_now, with_end, with_read, with_request_counted, happened, opened_for, closed_for, scheduled_as, ended_for, with_one_request, answered_at, was_answered, still_reading};
+ghost use Rattle.std.specs.Bool.{OnTrue};
+ghost use Rattle.cj_auth.specs.Admission.{admits};
+ghost use Rattle.cj_auth.specs.Kept.{IsUserName};
 ghost use Rattle.cj_replica.specs.Cells.{CellState};
-ghost use Rattle.cj_core.specs.Worlds.{IsWorld};
+ghost use Rattle.cj_core.specs.Worlds.{accounts_of, IsWorld};
 ghost use Rattle.cj_place.specs.Layouts.{placement_of};
 ghost use Rattle.cj_core.specs.Starts.{AreEmpty, AreFresh, started_to};
 ghost use Rattle.cj_core.specs.Armings.{armed_at, armings_after, armings_of};
+ghost use Rattle.cj_core.specs.Logins.{asked_for, login_to_take, logins_of, LogsInToAsk, LogsInToTake};
+ghost use Rattle.cj_core.specs.Solos.{own_entry};
 ghost use Rattle.cj_core.specs.Counting.{did_fail, faults_after, faults_of};
 ghost use Rattle.cj_core.specs.Effects.{AnswersOpen, Asks, asked_core, failed_asked, HaveFailed, Refuses, with_core, SchedulesAs, HadRoom};
 
@@ -29,6 +35,7 @@ use crate::cells::{
 use crate::emptied::Emptied;
 use crate::sessions::{Sessions, read_number};
 use crate::transactions::tx_of_act;
+use cj_auth::Accounts;
 use cj_backend::Backend;
 use cj_book::{Book, BookError};
 use cj_cluster::{Did, Event, Move, Moved, OpenRead, OpenSession};
@@ -56,8 +63,7 @@ pub struct World<B: Backend> {
     /// What the open entry came to, from the first backend that did it.
     first_outcome: Option<Outcome>,
     sessions: Sessions,
-    /// The login of all calls of backends.
-    login: Text,
+    accounts: Accounts,
     /// The list that the backends came in, and are given up in.
     emptied: Emptied<B>,
 }
@@ -74,9 +80,9 @@ impl<B: Backend> Model for World<B> {
 
     ghost use Rattle.cj_core.specs.Kept.{Kept};
 
-    ghost view = { λ w. world_of w.book.layout w.book.history w.cells.items w.failed w.starved w.sessions w.book.greatest };
+    ghost view = { λ w. world_of w.accounts w.book.layout w.book.history w.cells.items w.failed w.starved w.sessions w.book.greatest };
 
-    ghost invariant = { λ w. Kept B.TELLS (world_of w.book.layout w.book.history w.cells.items w.failed w.starved w.sessions w.book.greatest) w.book.sessions w.first_outcome };
+    ghost invariant = { λ w. Kept B.TELLS (world_of w.accounts w.book.layout w.book.history w.cells.items w.failed w.starved w.sessions w.book.greatest) w.book.sessions w.first_outcome };
 }
 
 /// The refusal of an entry that no backend finished.
@@ -117,8 +123,22 @@ fn tried_of(reading: &Option<OpenRead>) -> u32
     }
 }
 
-/// The login of all calls of backends.
-fn no_login(alloc: Global) -> Text
+/// Whom a session asks for: this user, or its own.
+fn asking_user<'a>(sessions: &'a Sessions, s: u64, user: Option<&'a Text>) -> &'a Text
+    requires { is_some (find_session sessions.now s) ≡ true }
+    ensures { result.now ≡ asked_for sessions.now s (option_copied user.entry) }
+{
+    match user {
+        Some(user) => user,
+        None => match sessions.get(s) {
+            Some(session) => &session.user,
+            None => unreachable!(),
+        },
+    }
+}
+
+/// The empty text.
+pub(crate) fn empty_text(alloc: Global) -> Text
     ensures { result ≡ [] }
 {
     match Text::of(Vec::new(alloc)) {
@@ -135,17 +155,21 @@ impl<B: Backend> World<B> {
         alloc: Global,
         book: Book,
         cells: Vec<Cell<B>>,
+        sessions: Sessions,
+        accounts: Accounts,
         emptied: Emptied<B>,
     ) -> World<B>
         requires history { book.history ≡ [] }
-        requires sessions { book.sessions ≡ [] }
+        requires numbers { book.sessions ≡ [] }
+        requires sessions { sessions ≡ [] }
         requires greatest { book.greatest ≡ 0 }
         requires few { length book.layout.names ≤ BACKEND_LIMIT }
+        requires registered { accounts.backends ≡ length book.layout.names }
         requires fresh { AreFresh (placement_of book.layout) cells.items }
         requires empty { AreEmpty B.TELLS (map (λ (x : CellState). x.told) cells.items) }
         ensures core { result.core ≡ started_to (placement_of book.layout) 0 }
         ensures cells { result.cells ≡ cells.items }
-        ensures names { result.names ≡ book.layout.names }
+        ensures setup { result.setup ≡ record { names = book.layout.names; register = accounts } }
     {
         World {
             alloc,
@@ -154,8 +178,8 @@ impl<B: Backend> World<B> {
             failed: 0,
             starved: 0,
             first_outcome: None,
-            sessions: Sessions::new(alloc),
-            login: no_login(alloc),
+            sessions,
+            accounts,
             emptied,
         }
     }
@@ -220,9 +244,17 @@ impl<B: Backend> World<B> {
     /// Which backends host which tables, and what they are called.
     pub fn placement(&self) -> &Placement
         ensures placement { placement_of result.now ≡ self.now.core.placement }
-        ensures names { result.now.names ≡ self.now.names }
+        ensures names { result.now.names ≡ self.now.setup.names }
     {
         self.book.placement()
+    }
+
+    /// Whether an account has this user and this password. Such a user is a text of at most 64 bytes.
+    pub(crate) fn admits(&self, user: &[u8], password: &[u8]) -> bool
+        ensures admitted { result ≡ admits (accounts_of self.now) user.now password.now }
+        ensures user { OnTrue result (IsUserName user.now) }
+    {
+        self.accounts.check(user, password)
     }
 
     /// Where it takes its memory from.
@@ -264,6 +296,16 @@ impl<B: Backend> World<B> {
         match self.sessions.get(s) {
             Some(session) => session.reading.is_some(),
             None => false,
+        }
+    }
+
+    /// How many requests the session has made.
+    fn queries(&self, s: u64) -> u64
+        ensures { result ≡ (session_at self.now.core s).queries }
+    {
+        match self.sessions.get(s) {
+            Some(session) => session.queries,
+            None => 0,
         }
     }
 
@@ -319,6 +361,31 @@ impl<B: Backend> World<B> {
             }),
             None => unreachable!(),
         }
+    }
+
+    /// The entry of the session's next request, for this user and in this transaction, 0 for none.
+    pub(crate) fn entry_for(
+        &self,
+        s: u64,
+        user: &Text,
+        tx: u64,
+        act: Act,
+    ) -> Result<Entry, NoMemory>
+        requires here { moves.is_open self.now.core s ≡ true }
+        requires counts { (session_at self.now.core s).queries < REQUEST_LIMIT }
+        requires short { length user.now ≤ USER_LIMIT }
+        requires written { IsWritten (request_of act) }
+        requires allowed { FitsTx (moves.open_tx self.now.core s) tx act }
+        ensures is { IfOk result (λ e. e ≡ own_entry self.now.core s tx user.now act) }
+        ensures fits { IfOk result (λ e. IsFitEntry (log self.now.core.history) e) }
+    {
+        Ok(Entry {
+            session: s,
+            seq: self.queries(s) + 1,
+            tx,
+            user: user.copy(self.alloc)?,
+            act,
+        })
     }
 
     /// The administrator's end of an orphan, for the user who began it.
@@ -381,7 +448,8 @@ impl<B: Backend> World<B> {
 
     /// The mask of the backends that serve the query.
     pub(crate) fn serving(&self, select: &Select) -> u32
-        ensures { IsServingMask self.now.core select.now result }
+        ensures mask { IsServingMask self.now.core select.now result }
+        ensures below { result < 2 ^ BACKEND_LIMIT }
     {
         self.book.candidates(select.tables.as_slice())
     }
@@ -408,12 +476,19 @@ impl<B: Backend> World<B> {
         self.sessions.len() >= SESSION_LIMIT || self.book.greatest() >= SESSION_NUMBER_LIMIT
     }
 
+    /// How many sessions are open.
+    pub(crate) fn session_count(&self) -> u64
+        ensures { result ≡ length self.now.core.sessions }
+    {
+        self.sessions.len() as u64
+    }
+
     pub(crate) fn sessions_full(&self) -> Refusal
         ensures { result ≡ moves.sessions_full self.now.core }
     {
         Refusal {
             code: SESSIONS_FULL,
-            a: self.sessions.len() as u64,
+            a: self.session_count(),
             b: 0,
         }
     }
@@ -451,18 +526,17 @@ impl<B: Backend> World<B> {
 // ---- what moves change
 
 impl<B: Backend> World<B> {
-    /// Opens a session of the next number.
-    pub(crate) fn add_session(&mut self, user: Text) -> Result<u64, NoMemory>
+    /// Opens a session of the next number. It takes no memory.
+    pub(crate) fn add_session(&mut self, user: Text) -> u64
         requires number { moves.has_no_number self.old.core ≡ false }
         requires user { length user ≤ USER_LIMIT }
-        ensures number { IfOk result (λ n. n ≡ self.old.core.greatest + 1) }
-        ensures ok { OnOk result (self.new ≡ with_core self.old (opened_for self.old.core user)) }
-        ensures err { OnErr result (self.new ≡ self.old) }
+        ensures number { result ≡ self.old.core.greatest + 1 }
+        ensures opened { self.new ≡ with_core self.old (opened_for self.old.core user) }
     {
         let number = self.book.greatest() + 1;
-        self.sessions.open(number, user)?;
+        self.sessions.open(number, user);
         match self.book.open_session() {
-            Ok(_) => Ok(number),
+            Ok(_) => number,
             Err(_) => unreachable!(),
         }
     }
@@ -484,6 +558,19 @@ impl<B: Backend> World<B> {
         ensures { self.new ≡ with_core self.old (with_request_counted self.old.core s) }
     {
         self.sessions.count(s);
+    }
+
+    /// Picks the backend of a read among the candidates; none exactly where there are none. The read is over before
+    /// another is picked, so it is pending at none of the picks.
+    pub(crate) fn pick(&mut self, candidates: u32) -> Option<u8>
+        requires { candidates < 2 ^ BACKEND_LIMIT }
+        ensures none { IsNone result ↔ (candidates ≡ 0) }
+        ensures some { IfSome result (λ b. in_mask candidates b ≡ true) }
+        ensures same { self.new ≡ self.old }
+    {
+        let b = self.book.pick(candidates)?;
+        self.book.ended(b);
+        Some(b)
     }
 
     /// The session's read was refused.
@@ -520,7 +607,8 @@ impl<B: Backend> World<B> {
         requires here { moves.is_open self.old.core s ≡ true }
         requires counts { (session_at self.old.core s).queries < REQUEST_LIMIT }
         requires no_read { (session_at self.old.core s).reading ≡ None }
-        requires next { entry ≡ next_entry self.old.core s entry.act }
+        requires session { entry.session ≡ s }
+        requires number { entry.seq ≡ (session_at self.old.core s).queries + 1 }
         requires fits { IsFitEntry (log self.old.core.history) entry }
         ensures scheduled { SchedulesAs self.old.core entry result }
         ensures ok { OnOk result (self.new ≡ with_core self.old (scheduled_as self.old.core s entry)) }
@@ -591,9 +679,10 @@ impl<B: Backend> World<B> {
         ensures applies { Applies B.TELLS self.old.core b (Ok (Moved.Applied b result)) self.new.core }
         ensures counts { faults_of self.new.cells ≡ faults_after (faults_of self.old.cells) (if did_fail result then Some b else None) }
         ensures armings { armings_of self.new.cells ≡ armings_of self.old.cells }
-        ensures names { self.new.names ≡ self.old.names }
+        ensures logins { LogsInToTake b (login_to_take self.old b) result (logins_of self.old.cells) (logins_of self.new.cells) }
+        ensures setup { self.new.setup ≡ self.old.setup }
     {
-        let did = take(&self.book, &mut self.cells, &self.login, b);
+        let did = take(&self.book, &mut self.cells, &self.accounts, b);
         self.failed = failed_after(self.failed, b, did);
         self.starved = starved_after(self.starved, b, did);
         self.first_outcome = first_outcome_after(self.first_outcome, did);
@@ -607,31 +696,41 @@ impl<B: Backend> World<B> {
         ensures replays { Replays B.TELLS self.old.core b (Ok (Moved.Replayed (moves.position_or_zero (position_at self.old.core b) + 1) result)) self.new.core }
         ensures counts { faults_of self.new.cells ≡ faults_after (faults_of self.old.cells) (if did_fail result then Some b else None) }
         ensures armings { armings_of self.new.cells ≡ armings_of self.old.cells }
-        ensures names { self.new.names ≡ self.old.names }
+        ensures logins { LogsInToTake b (login_to_take self.old b) result (logins_of self.old.cells) (logins_of self.new.cells) }
+        ensures setup { self.new.setup ≡ self.old.setup }
     {
-        take(&self.book, &mut self.cells, &self.login, b)
+        take(&self.book, &mut self.cells, &self.accounts, b)
     }
 
-    /// Asks the backend for a session, and notes in the history where it failed. The memory to note it
-    /// is taken first, so that want of memory hides no failure.
-    pub(crate) fn ask(&mut self, s: u64, b: u8, select: &Select) -> Result<(Asked, u64), AskError>
+    /// Asks the backend for a session in transaction `tx`, 0 for none, and notes in the history where
+    /// it failed. It asks for this user, or for the session's own. The memory to note a failure is
+    /// taken first, so that want of memory hides none.
+    pub(crate) fn ask(
+        &mut self,
+        s: u64,
+        b: u8,
+        user: Option<&Text>,
+        tx: u64,
+        select: &Select,
+    ) -> Result<(Asked, u64), AskError>
         requires within { b < self.old.core.placement.backends }
         requires here { moves.is_open self.old.core s ≡ true }
         requires serves { CanServe self.old.core.placement self.old.core.history (request.Select select.now) b }
         requires written { IsWritten (request.Select select.now) }
         requires counts { (session_at self.old.core s).queries < REQUEST_LIMIT }
         ensures core { self.new.core ≡ asked_core self.old.core s b result }
-        ensures asks { Asks B.TELLS self.old.core s b select.now result }
+        ensures asks { Asks B.TELLS self.old.core s b tx select.now result }
         ensures counts { faults_of self.new.cells ≡ faults_after (faults_of self.old.cells) (failed_asked b result) }
         ensures armings { armings_of self.new.cells ≡ armings_of self.old.cells }
+        ensures logins { LogsInToAsk b (login_of (accounts_of self.old) (asked_for self.old.core.sessions s (option_copied user.entry)) b) result (logins_of self.old.cells) (logins_of self.new.cells) }
         ensures want { IsErrOf result AskError.NoMemory → self.new ≡ self.old }
-        ensures names { self.new.names ≡ self.old.names }
+        ensures setup { self.new.setup ≡ self.old.setup }
     {
         let least = self.least(s);
         let number = self.read_number(s);
-        let tx = self.open_tx(s);
         self.book.take_spare()?;
-        match self.cells[b as usize].read(&self.login, tx, select, least) {
+        let login = self.accounts.mapped(asking_user(&self.sessions, s, user), b);
+        match self.cells[b as usize].read(login, tx, select, least) {
             Ok(answered) => Ok(answered),
             Err(error) => Err(noted(&mut self.book, s, number, b, error)),
         }
@@ -644,7 +743,8 @@ impl<B: Backend> World<B> {
         ensures cells { (d : CellState) → self.new.cells ≡ armed_at B.can_be_armed self.old.cells b d }
         ensures faults { faults_of self.new.cells ≡ faults_of self.old.cells }
         ensures armings { armings_of self.new.cells ≡ armings_after (armings_of self.old.cells) (if B.can_be_armed then Some b else None) }
-        ensures names { self.new.names ≡ self.old.names }
+        ensures logins { logins_of self.new.cells ≡ logins_of self.old.cells }
+        ensures setup { self.new.setup ≡ self.old.setup }
     {
         self.cells[b as usize].arm();
     }

@@ -4,9 +4,9 @@ use Rattle.cj_core.specs.Worlds.{WorldState}
 use Rattle.cj_core.proofs.Keeping.{kept_opened}
 use Rattle.cj_core.proofs.world.World.add_session.Goals as goal
 
-pub invariant_of-self-2 : goal.invariant_of-self-2
-invariant_of-self-2 g c =
+pub invariant_of-self : goal.invariant_of-self
+invariant_of-self g c =
     let w = c.self.inside in
     let number = subst (λ (x : WorldState). has_no_number x.core ≡ false) (sym c.self.view_is) c.requires.number in
-    rw (c.in-Ok.ensures.ok, c.in_ok-open.ensures.ok, c.greatest-number.ensures)
-    (kept_opened g.B.Backend.TELLS w.book.layout w.book.history w.cells.items w.failed w.starved w.sessions w.book.greatest w.book.sessions w.first_outcome c.self.invariant c.args.user number c.requires.user)
+    rw (c.in-Ok.ensures.ok, c.open.ensures, c.greatest-number.ensures)
+    (kept_opened g.B.Backend.TELLS w.accounts w.book.layout w.book.history w.cells.items w.failed w.starved w.sessions w.book.greatest w.book.sessions w.first_outcome c.self.invariant c.args.user number c.requires.user)

@@ -3,7 +3,7 @@ use Rattle.std.proofs.lemmas.List.{length-map, get_or_default, set-get_or}
 use Rattle.cj_outside.specs.Causes.{next}
 use Rattle.cj_model.specs.Cluster.Placements.{hosts_all}
 use Rattle.cj_cluster.specs.Moves.Cores.{session_at}
-use Rattle.cj_cluster.specs.Moves.Moves.{open_tx, read_number}
+use Rattle.cj_cluster.specs.Moves.Moves.{read_number}
 use Rattle.cj_book.specs.Books.{BookState}
 use Rattle.cj_replica.specs.declared.cell.CellReadError.{CellReadError}
 use Rattle.cj_replica.specs.declared.cell.CellReadError.TheVariants as read_errors
@@ -26,15 +26,15 @@ pub invariant_of-self-in-Ok : goal.invariant_of-self-in-Ok
 invariant_of-self-in-Ok g c =
     let w = c.self.inside in
     let lt = within (length w.book.layout.names) c.args.b w.cells.items c.self.invariant.world.sound.cells (subst (λ (x : WorldState). c.args.b < x.core.placement.backends) (sym c.self.view_is) c.requires.within) in
-    let kept = kept_asked g.B.Backend.TELLS w.book.layout w.book.history w.cells.items w.failed w.starved w.sessions w.book.greatest w.book.sessions w.first_outcome c.self.invariant c.args.b lt c.index_mut.result.now c.index_mut.ensures.value c.read.new.self c.read.ensures.same in
-    let asked = subst (λ (k : BookState). Kept g.B.Backend.TELLS (world_of k.layout k.history (set w.cells.items c.args.b c.read.new.self) w.failed w.starved w.sessions k.greatest) k.sessions w.first_outcome) (sym c.in_ok-take_spare.ensures.ok) kept in
+    let kept = kept_asked g.B.Backend.TELLS w.accounts w.book.layout w.book.history w.cells.items w.failed w.starved w.sessions w.book.greatest w.book.sessions w.first_outcome c.self.invariant c.args.b lt c.index_mut.result.now c.index_mut.ensures.value c.read.new.self c.read.ensures.same in
+    let asked = subst (λ (k : BookState). Kept g.B.Backend.TELLS (world_of w.accounts k.layout k.history (set w.cells.items c.args.b c.read.new.self) w.failed w.starved w.sessions k.greatest) k.sessions w.first_outcome) (sym c.in_ok-take_spare.ensures.ok) kept in
     asked
 
 pub returns-in-Ok-clause-core : goal.returns-in-Ok-clause-core
 returns-in-Ok-clause-core g c =
     let w = c.self.inside in
     let lt = within (length w.book.layout.names) c.args.b w.cells.items c.self.invariant.world.sound.cells (subst (λ (x : WorldState). c.args.b < x.core.placement.backends) (sym c.self.view_is) c.requires.within) in
-    let same = same_core g.B.Backend.TELLS w.book.layout w.book.history w.cells.items w.failed w.starved w.sessions w.book.greatest w.book.sessions w.first_outcome c.self.invariant c.args.b lt c.index_mut.result.now c.index_mut.ensures.value c.read.new.self c.read.ensures.same in
+    let same = same_core g.B.Backend.TELLS w.accounts w.book.layout w.book.history w.cells.items w.failed w.starved w.sessions w.book.greatest w.book.sessions w.first_outcome c.self.invariant c.args.b lt c.index_mut.result.now c.index_mut.ensures.value c.read.new.self c.read.ensures.same in
     let core : core_of c.take_spare.new.self.layout c.take_spare.new.self.history (set w.cells.items c.args.b c.read.new.self) w.failed w.starved w.sessions c.take_spare.new.self.greatest ≡ c.args.self.now.core =
     ap (λ (k : BookState). core_of k.layout k.history (set w.cells.items c.args.b c.read.new.self) w.failed w.starved w.sessions k.greatest) c.in_ok-take_spare.ensures.ok ∙ (same ∙ ap (λ (x : WorldState). x.core) c.self.view_is)
     in
@@ -45,10 +45,9 @@ returns-in-Ok-clause-asks g c =
     let w = c.self.inside in
     let lt = within (length w.book.layout.names) c.args.b w.cells.items c.self.invariant.world.sound.cells (subst (λ (x : WorldState). c.args.b < x.core.placement.backends) (sym c.self.view_is) c.requires.within) in
     let least = subst (λ (x : WorldState). c.least-least.result ≡ (session_at x.core c.args.s).least) (sym c.self.view_is) c.least-least.ensures in
-    let tx = subst (λ (x : WorldState). c.open_tx-tx.result ≡ open_tx x.core c.args.s) (sym c.self.view_is) c.open_tx-tx.ensures in
     let serves = subst (λ (x : WorldState). hosts_all x.core.placement c.args.b c.args.select.now.tables ≡ true) (sym c.self.view_is) c.requires.serves.1 in
-    subst (λ (x : WorldState). Asks g.B.Backend.TELLS x.core c.args.s c.args.b c.args.select.now (Ok c.in-Ok.answered)) c.self.view_is
-    (answers g.B.Backend.TELLS w.book.layout w.book.history w.cells.items w.failed w.starved w.sessions w.book.greatest w.book.sessions w.first_outcome c.self.invariant c.args.b lt c.index_mut.result.now c.index_mut.ensures.value c.args.s c.args.select.now c.least-least.result least c.open_tx-tx.result tx serves c.in-Ok.answered.0 c.in-Ok.answered.1 c.in-Ok.ensures.answer c.in-Ok.ensures.possible c.in-Ok.ensures.at c.in-Ok.ensures.owed)
+    subst (λ (x : WorldState). Asks g.B.Backend.TELLS x.core c.args.s c.args.b c.args.tx c.args.select.now (Ok c.in-Ok.answered)) c.self.view_is
+    (answers g.B.Backend.TELLS w.accounts w.book.layout w.book.history w.cells.items w.failed w.starved w.sessions w.book.greatest w.book.sessions w.first_outcome c.self.invariant c.args.b lt c.index_mut.result.now c.index_mut.ensures.value c.args.s c.args.tx c.args.select.now c.least-least.result least serves c.in-Ok.answered.0 c.in-Ok.answered.1 c.in-Ok.ensures.answer c.in-Ok.ensures.possible c.in-Ok.ensures.at c.in-Ok.ensures.owed)
 
 pub returns-in-Ok-clause-counts : goal.returns-in-Ok-clause-counts
 returns-in-Ok-clause-counts g c =
@@ -62,9 +61,9 @@ pub invariant_of-self-in-Err : goal.invariant_of-self-in-Err
 invariant_of-self-in-Err g c =
     let w = c.self.inside in
     let lt = within (length w.book.layout.names) c.args.b w.cells.items c.self.invariant.world.sound.cells (subst (λ (x : WorldState). c.args.b < x.core.placement.backends) (sym c.self.view_is) c.requires.within) in
-    let kept = kept_asked g.B.Backend.TELLS w.book.layout w.book.history w.cells.items w.failed w.starved w.sessions w.book.greatest w.book.sessions w.first_outcome c.self.invariant c.args.b lt c.index_mut.result.now c.index_mut.ensures.value c.read.new.self c.read.ensures.same in
-    let asked = subst (λ (k : BookState). Kept g.B.Backend.TELLS (world_of k.layout k.history (set w.cells.items c.args.b c.read.new.self) w.failed w.starved w.sessions k.greatest) k.sessions w.first_outcome) (sym c.in_ok-take_spare.ensures.ok) kept in
-    noting (λ (k : BookState). Kept g.B.Backend.TELLS (world_of k.layout k.history (set w.cells.items c.args.b c.read.new.self) w.failed w.starved w.sessions k.greatest) k.sessions w.first_outcome)
+    let kept = kept_asked g.B.Backend.TELLS w.accounts w.book.layout w.book.history w.cells.items w.failed w.starved w.sessions w.book.greatest w.book.sessions w.first_outcome c.self.invariant c.args.b lt c.index_mut.result.now c.index_mut.ensures.value c.read.new.self c.read.ensures.same in
+    let asked = subst (λ (k : BookState). Kept g.B.Backend.TELLS (world_of w.accounts k.layout k.history (set w.cells.items c.args.b c.read.new.self) w.failed w.starved w.sessions k.greatest) k.sessions w.first_outcome) (sym c.in_ok-take_spare.ensures.ok) kept in
+    noting (λ (k : BookState). Kept g.B.Backend.TELLS (world_of w.accounts k.layout k.history (set w.cells.items c.args.b c.read.new.self) w.failed w.starved w.sessions k.greatest) k.sessions w.first_outcome)
     c.take_spare.new.self c.noted.new.book c.args.s c.read_number-number.result c.args.b c.in-Err.error c.noted.result c.noted.ensures asked
     (λ space. kept_read_failed g.B.Backend.TELLS c.take_spare.new.self.layout c.take_spare.new.self.history (set w.cells.items c.args.b c.read.new.self) w.failed w.starved w.sessions c.take_spare.new.self.greatest c.take_spare.new.self.sessions w.first_outcome asked c.args.s c.read_number-number.result c.args.b space)
 
@@ -72,7 +71,7 @@ pub returns-in-Err-clause-core : goal.returns-in-Err-clause-core
 returns-in-Err-clause-core g c =
     let w = c.self.inside in
     let lt = within (length w.book.layout.names) c.args.b w.cells.items c.self.invariant.world.sound.cells (subst (λ (x : WorldState). c.args.b < x.core.placement.backends) (sym c.self.view_is) c.requires.within) in
-    let same = same_core g.B.Backend.TELLS w.book.layout w.book.history w.cells.items w.failed w.starved w.sessions w.book.greatest w.book.sessions w.first_outcome c.self.invariant c.args.b lt c.index_mut.result.now c.index_mut.ensures.value c.read.new.self c.read.ensures.same in
+    let same = same_core g.B.Backend.TELLS w.accounts w.book.layout w.book.history w.cells.items w.failed w.starved w.sessions w.book.greatest w.book.sessions w.first_outcome c.self.invariant c.args.b lt c.index_mut.result.now c.index_mut.ensures.value c.read.new.self c.read.ensures.same in
     let core : core_of c.take_spare.new.self.layout c.take_spare.new.self.history (set w.cells.items c.args.b c.read.new.self) w.failed w.starved w.sessions c.take_spare.new.self.greatest ≡ c.args.self.now.core =
     ap (λ (k : BookState). core_of k.layout k.history (set w.cells.items c.args.b c.read.new.self) w.failed w.starved w.sessions k.greatest) c.in_ok-take_spare.ensures.ok ∙ (same ∙ ap (λ (x : WorldState). x.core) c.self.view_is)
     in
@@ -85,8 +84,8 @@ returns-in-Err-clause-asks g c =
     let w = c.self.inside in
     let lt = within (length w.book.layout.names) c.args.b w.cells.items c.self.invariant.world.sound.cells (subst (λ (x : WorldState). c.args.b < x.core.placement.backends) (sym c.self.view_is) c.requires.within) in
     let least = subst (λ (x : WorldState). c.least-least.result ≡ (session_at x.core c.args.s).least) (sym c.self.view_is) c.least-least.ensures in
-    subst (λ (x : WorldState). Asks g.B.Backend.TELLS x.core c.args.s c.args.b c.args.select.now (Err c.noted.result)) c.self.view_is
-    (errs g.B.Backend.TELLS w.book.layout w.book.history w.cells.items w.failed w.starved w.sessions w.book.greatest w.book.sessions w.first_outcome c.self.invariant c.args.b lt c.index_mut.result.now c.index_mut.ensures.value c.args.s c.args.select.now c.least-least.result least c.take_spare.new.self c.noted.new.book c.read_number-number.result c.in-Err.error c.noted.result
+    subst (λ (x : WorldState). Asks g.B.Backend.TELLS x.core c.args.s c.args.b c.args.tx c.args.select.now (Err c.noted.result)) c.self.view_is
+    (errs g.B.Backend.TELLS w.accounts w.book.layout w.book.history w.cells.items w.failed w.starved w.sessions w.book.greatest w.book.sessions w.first_outcome c.self.invariant c.args.b lt c.index_mut.result.now c.index_mut.ensures.value c.args.s c.args.tx c.args.select.now c.least-least.result least c.take_spare.new.self c.noted.new.book c.read_number-number.result c.in-Err.error c.noted.result
     (ap (λ (k : BookState). k.history) c.in_ok-take_spare.ensures.ok) c.noted.ensures c.in-Err.ensures.out c.in-Err.ensures.behind)
 
 pub returns-in-Err-clause-counts : goal.returns-in-Err-clause-counts
@@ -126,5 +125,5 @@ returns-in-Err-clause-want g c want =
     let there : c.index_mut.result.now ≡ get_or w.cells.items c.args.b c.index_mut.result.now = c.index_mut.ensures.value in
     let cells : set w.cells.items c.args.b c.read.new.self ≡ w.cells.items = ap (set w.cells.items c.args.b) (cell ∙ there) ∙ set-get_or w.cells.items c.args.b c.index_mut.result.now in
     let book : c.noted.new.book ≡ record w.book { has_spare = true } = starved.1 ∙ c.in_ok-take_spare.ensures.ok in
-    ap (λ (k : BookState). world_of k.layout k.history (set w.cells.items c.args.b c.read.new.self) w.failed w.starved w.sessions k.greatest) book
-    ∙ (ap (λ (xs : List CellState). world_of w.book.layout w.book.history xs w.failed w.starved w.sessions w.book.greatest) cells ∙ c.self.view_is)
+    ap (λ (k : BookState). world_of w.accounts k.layout k.history (set w.cells.items c.args.b c.read.new.self) w.failed w.starved w.sessions k.greatest) book
+    ∙ (ap (λ (xs : List CellState). world_of w.accounts w.book.layout w.book.history xs w.failed w.starved w.sessions w.book.greatest) cells ∙ c.self.view_is)

@@ -2,7 +2,7 @@ use Rattle.std.proofs.Common.{◌≡◌, ℕ, Bool, true, false, cond, None, Som
 use Rattle.std.proofs.lemmas.Bool.{both_ways}
 use Rattle.cj_cluster.specs.declared.moves.Moved.{Moved}
 use Rattle.cj_cluster.specs.Moves.Cores.{Core, session_at, is_entry_of}
-use Rattle.cj_cluster.specs.Moves.Moves.{HasNoOtherRead, is_waiting, read_number}
+use Rattle.cj_cluster.specs.Moves.Moves.{HasNoOtherRead, is_waiting, open_tx, read_number}
 use Rattle.cj_core.specs.declared.cells.AskError.{AskError}
 use Rattle.cj_cluster.specs.declared.event.Event.TheVariants.{ReadFailed}
 use Rattle.cj_cluster.proofs.Now.{can_read}
@@ -60,14 +60,14 @@ wait-requires-in-Err-Behind-clause-idle g c =
 pub returns-then-not-has_bit-clause-moves : goal.returns-then-not-has_bit-clause-moves
 returns-then-not-has_bit-clause-moves g c =
     let same : HasNoOtherRead (session_at c.args.self.now.core c.args.s) c.args.select = c.if-reads_other.ensures in
-    not_serving g.B.Backend.TELLS c.args.self.now.core c.args.s c.args.b c.args.select same c.serving-serving.result c.serving-serving.type_inv c.if-serving-eq0.false c.serving-serving.ensures
-    (λ serves. both_ways c.has_bit.result c.if-not-has_bit.true (c.has_bit.ensures ∙ (c.serving-serving.ensures c.args.b).0 serves))
+    not_serving g.B.Backend.TELLS c.args.self.now.core c.args.s c.args.b c.args.select same c.serving-serving.result c.serving-serving.type_inv c.if-serving-eq0.false c.serving-serving.ensures.mask
+    (λ serves. both_ways c.has_bit.result c.if-not-has_bit.true (c.has_bit.ensures ∙ (c.serving-serving.ensures.mask c.args.b).0 serves))
 
 pub returns-in-Ok-clause-moves : goal.returns-in-Ok-clause-moves
 returns-in-Ok-clause-moves g c =
     let same : HasNoOtherRead (session_at c.args.self.now.core c.args.s) c.args.select = c.if-reads_other.ensures in
-    answered g.B.Backend.TELLS c.args.self.now.core c.args.s c.args.b c.args.select same ((c.serving-serving.ensures c.args.b).1 (sym c.has_bit.ensures ∙ c.if-not-has_bit.false)) c.in-Ok.answer c.in-Ok.position c.ask.new.self.core c.answer.new.self.core
-    c.answer.result c.in-Ok.ensures.asks c.in-Ok.ensures.core (ap (λ (w : WorldState). w.core) c.answer.ensures.ok) c.answer.ensures.moved
+    answered g.B.Backend.TELLS c.args.self.now.core c.args.s c.args.b c.args.select same ((c.serving-serving.ensures.mask c.args.b).1 (sym c.has_bit.ensures ∙ c.if-not-has_bit.false)) c.in-Ok.answer c.in-Ok.position c.ask.new.self.core c.answer.new.self.core
+    c.answer.result (subst (λ (t : ℕ). Asks g.B.Backend.TELLS c.args.self.now.core c.args.s c.args.b t c.args.select (Ok (c.in-Ok.answer, c.in-Ok.position))) c.open_tx-tx.ensures c.in-Ok.ensures.asks) c.in-Ok.ensures.core (ap (λ (w : WorldState). w.core) c.answer.ensures.ok) c.answer.ensures.moved
 
 pub returns-in-Ok-clause-causes : goal.returns-in-Ok-clause-causes
 returns-in-Ok-clause-causes g c =
@@ -77,9 +77,9 @@ returns-in-Ok-clause-causes g c =
 pub returns-in-Err-Failed-clause-moves : goal.returns-in-Err-Failed-clause-moves
 returns-in-Err-Failed-clause-moves g c =
     let same : HasNoOtherRead (session_at c.args.self.now.core c.args.s) c.args.select = c.if-reads_other.ensures in
-    let asks = subst (λ (e : AskError). Asks g.B.Backend.TELLS c.args.self.now.core c.args.s c.args.b c.args.select (Err e)) c.in-Err-Failed.field-0-is c.in-Err-Failed.ensures.asks in
+    let asks = subst (λ (e : AskError). Asks g.B.Backend.TELLS c.args.self.now.core c.args.s c.args.b (open_tx c.args.self.now.core c.args.s) c.args.select (Err e)) c.in-Err-Failed.field-0-is (subst (λ (t : ℕ). Asks g.B.Backend.TELLS c.args.self.now.core c.args.s c.args.b t c.args.select (Err c.in-Err.error)) c.open_tx-tx.ensures c.in-Err-Failed.ensures.asks) in
     let core = subst (λ (e : AskError). c.ask.new.self.core ≡ asked_core c.args.self.now.core c.args.s c.args.b (Err e)) c.in-Err-Failed.field-0-is c.in-Err-Failed.ensures.core in
-    failed g.B.Backend.TELLS c.args.self.now.core c.args.s c.args.b c.args.select same ((c.serving-serving.ensures c.args.b).1 (sym c.has_bit.ensures ∙ c.if-not-has_bit.false)) c.ask.new.self.core c.refuse_or_stay.new.self.core c.refuse_or_stay.result c.serving-serving.result c.serving-serving.ensures asks core
+    failed g.B.Backend.TELLS c.args.self.now.core c.args.s c.args.b c.args.select same ((c.serving-serving.ensures.mask c.args.b).1 (sym c.has_bit.ensures ∙ c.if-not-has_bit.false)) c.ask.new.self.core c.refuse_or_stay.new.self.core c.refuse_or_stay.result c.serving-serving.result c.serving-serving.ensures.mask asks core
     (subst (λ (tried : ℕ). RefusesOrStays c.ask.new.self.core c.args.s c.args.select tried c.serving-serving.result c.refuse_or_stay.result c.refuse_or_stay.new.self.core) c.tried_with-tried.ensures c.refuse_or_stay.ensures.moves)
 
 pub returns-in-Err-Failed-clause-causes : goal.returns-in-Err-Failed-clause-causes
@@ -91,9 +91,9 @@ returns-in-Err-Failed-clause-causes g c =
 pub returns-in-Err-Unnoted-clause-moves : goal.returns-in-Err-Unnoted-clause-moves
 returns-in-Err-Unnoted-clause-moves g c =
     let same : HasNoOtherRead (session_at c.args.self.now.core c.args.s) c.args.select = c.if-reads_other.ensures in
-    let asks = subst (λ (e : AskError). Asks g.B.Backend.TELLS c.args.self.now.core c.args.s c.args.b c.args.select (Err e)) c.in-Err-Unnoted.field-0-is c.in-Err-Unnoted.ensures.asks in
+    let asks = subst (λ (e : AskError). Asks g.B.Backend.TELLS c.args.self.now.core c.args.s c.args.b (open_tx c.args.self.now.core c.args.s) c.args.select (Err e)) c.in-Err-Unnoted.field-0-is (subst (λ (t : ℕ). Asks g.B.Backend.TELLS c.args.self.now.core c.args.s c.args.b t c.args.select (Err c.in-Err.error)) c.open_tx-tx.ensures c.in-Err-Unnoted.ensures.asks) in
     let core = subst (λ (e : AskError). c.ask.new.self.core ≡ asked_core c.args.self.now.core c.args.s c.args.b (Err e)) c.in-Err-Unnoted.field-0-is c.in-Err-Unnoted.ensures.core in
-    unnoted g.B.Backend.TELLS c.args.self.now.core c.args.s c.args.b c.args.select same ((c.serving-serving.ensures c.args.b).1 (sym c.has_bit.ensures ∙ c.if-not-has_bit.false)) c.in-Err-Unnoted.events c.ask.new.self.core c.refuse_unnoted.new.self.core c.refuse_unnoted.result asks core c.refuse_unnoted.ensures.moved
+    unnoted g.B.Backend.TELLS c.args.self.now.core c.args.s c.args.b c.args.select same ((c.serving-serving.ensures.mask c.args.b).1 (sym c.has_bit.ensures ∙ c.if-not-has_bit.false)) c.in-Err-Unnoted.events c.ask.new.self.core c.refuse_unnoted.new.self.core c.refuse_unnoted.result asks core c.refuse_unnoted.ensures.moved
     (ap (λ (w : WorldState). w.core) c.refuse_unnoted.ensures.ok)
 
 pub returns-in-Err-Unnoted-clause-causes : goal.returns-in-Err-Unnoted-clause-causes
@@ -105,9 +105,9 @@ returns-in-Err-Unnoted-clause-causes g c =
 pub returns-in-Err-Out-clause-moves : goal.returns-in-Err-Out-clause-moves
 returns-in-Err-Out-clause-moves g c =
     let same : HasNoOtherRead (session_at c.args.self.now.core c.args.s) c.args.select = c.if-reads_other.ensures in
-    let asks = subst (λ (e : AskError). Asks g.B.Backend.TELLS c.args.self.now.core c.args.s c.args.b c.args.select (Err e)) c.in-Err-Out.field-0-is c.in-Err-Out.ensures.asks in
+    let asks = subst (λ (e : AskError). Asks g.B.Backend.TELLS c.args.self.now.core c.args.s c.args.b (open_tx c.args.self.now.core c.args.s) c.args.select (Err e)) c.in-Err-Out.field-0-is (subst (λ (t : ℕ). Asks g.B.Backend.TELLS c.args.self.now.core c.args.s c.args.b t c.args.select (Err c.in-Err.error)) c.open_tx-tx.ensures c.in-Err-Out.ensures.asks) in
     let core = subst (λ (e : AskError). c.ask.new.self.core ≡ asked_core c.args.self.now.core c.args.s c.args.b (Err e)) c.in-Err-Out.field-0-is c.in-Err-Out.ensures.core in
-    is_out g.B.Backend.TELLS c.args.self.now.core c.args.s c.args.b c.args.select same ((c.serving-serving.ensures c.args.b).1 (sym c.has_bit.ensures ∙ c.if-not-has_bit.false)) c.ask.new.self.core c.wait.new.self.core asks core (ap (λ (w : WorldState). w.core) c.wait.ensures)
+    is_out g.B.Backend.TELLS c.args.self.now.core c.args.s c.args.b c.args.select same ((c.serving-serving.ensures.mask c.args.b).1 (sym c.has_bit.ensures ∙ c.if-not-has_bit.false)) c.ask.new.self.core c.wait.new.self.core asks core (ap (λ (w : WorldState). w.core) c.wait.ensures)
 
 pub returns-in-Err-Out-clause-causes : goal.returns-in-Err-Out-clause-causes
 returns-in-Err-Out-clause-causes g c =
@@ -117,9 +117,9 @@ returns-in-Err-Out-clause-causes g c =
 pub returns-in-Err-Behind-clause-moves : goal.returns-in-Err-Behind-clause-moves
 returns-in-Err-Behind-clause-moves g c =
     let same : HasNoOtherRead (session_at c.args.self.now.core c.args.s) c.args.select = c.if-reads_other.ensures in
-    let asks = subst (λ (e : AskError). Asks g.B.Backend.TELLS c.args.self.now.core c.args.s c.args.b c.args.select (Err e)) c.in-Err-Behind.field-0-is c.in-Err-Behind.ensures.asks in
+    let asks = subst (λ (e : AskError). Asks g.B.Backend.TELLS c.args.self.now.core c.args.s c.args.b (open_tx c.args.self.now.core c.args.s) c.args.select (Err e)) c.in-Err-Behind.field-0-is (subst (λ (t : ℕ). Asks g.B.Backend.TELLS c.args.self.now.core c.args.s c.args.b t c.args.select (Err c.in-Err.error)) c.open_tx-tx.ensures c.in-Err-Behind.ensures.asks) in
     let core = subst (λ (e : AskError). c.ask.new.self.core ≡ asked_core c.args.self.now.core c.args.s c.args.b (Err e)) c.in-Err-Behind.field-0-is c.in-Err-Behind.ensures.core in
-    is_behind g.B.Backend.TELLS c.args.self.now.core c.args.s c.args.b c.args.select same ((c.serving-serving.ensures c.args.b).1 (sym c.has_bit.ensures ∙ c.if-not-has_bit.false)) c.in-Err-Behind.position c.ask.new.self.core
+    is_behind g.B.Backend.TELLS c.args.self.now.core c.args.s c.args.b c.args.select same ((c.serving-serving.ensures.mask c.args.b).1 (sym c.has_bit.ensures ∙ c.if-not-has_bit.false)) c.in-Err-Behind.position c.ask.new.self.core
     c.wait-in-Err-Behind.new.self.core asks core (ap (λ (w : WorldState). w.core) c.wait-in-Err-Behind.ensures)
 
 pub returns-in-Err-Behind-clause-causes : goal.returns-in-Err-Behind-clause-causes

@@ -34,8 +34,8 @@ returns-in_default-make_copy-clause-legal g c =
     let stopped = subst (Making g.B.Backend.TELLS c.args.self.now c.args.moves.now c.loop-m.m-index c.loop-m.made.items) (sym c.in_default-make_copy.ensures.want) c.loop-m.invariant.making in
     making_legal g.B.Backend.TELLS c.args.self.now c.args.moves.now c.loop-m.m-index c.loop-m.made.items c.make_copy.new.self c.legal.ensures c.requires.are c.requires.count (omega arith) stopped
 
-pub returns-in_default-make_copy-clause-names : goal.returns-in_default-make_copy-clause-names
-returns-in_default-make_copy-clause-names g c = c.make_copy.ensures.names ∙ c.loop-m.invariant.names
+pub returns-in_default-make_copy-clause-setup : goal.returns-in_default-make_copy-clause-setup
+returns-in_default-make_copy-clause-setup g c = c.make_copy.ensures.setup ∙ c.loop-m.invariant.setup
 
 pub returns-clause-longer : goal.returns-clause-longer
 returns-clause-longer g c =
@@ -68,5 +68,5 @@ loop-m-preserved g c =
           subst (λ (came : List Made). Making g.B.Backend.TELLS c.args.self.now c.args.moves.now (c.loop-m.m-index + 1) came c.make_copy.new.self) (sym c.push_reserved.ensures.items) more;
       as_many = ap length c.push_reserved.ensures.items ∙ length-append c.loop-m.made.items (c.in-Ok-make_copy.came ∷ []) ∙ ap (λ (n : ℕ). n + 1) c.loop-m.invariant.as_many;
       room = omega (arith, c.loop-m.invariant.room, c.push_reserved.ensures.capacity);
-      names = c.make_copy.ensures.names ∙ c.loop-m.invariant.names;
+      setup = c.make_copy.ensures.setup ∙ c.loop-m.invariant.setup;
     }

@@ -9,5 +9,5 @@ invariant-loop-m g l =
       making : Making g.B.Backend.TELLS l.fn.self l.fn.moves l.m-index l.made.items l.self;
       as_many : length l.made.items ≡ l.m-index;
       room : length l.fn.moves ≤ vec_capacity l.made;
-      names : l.self.names ≡ l.fn.self.names;
+      setup : l.self.setup ≡ l.fn.self.setup;
     }

@@ -24,7 +24,7 @@ invariant_of-self g c =
     let fits = subst (λ (x : WorldState). IsFitEntry (log x.core.history) c.args.entry) (sym c.self.view_is) c.requires.fits in
     let ready = c.in-Ok.ensures.ready in
     rw (c.in-Ok.ensures.ok)
-    (kept_aborted g.B.Backend.TELLS w.book.layout w.book.history w.cells.items w.failed w.starved w.sessions w.book.greatest w.book.sessions w.first_outcome c.self.invariant c.args.entry orphan is ready.is_free fits ready.space ready.served)
+    (kept_aborted g.B.Backend.TELLS w.accounts w.book.layout w.book.history w.cells.items w.failed w.starved w.sessions w.book.greatest w.book.sessions w.first_outcome c.self.invariant c.args.entry orphan is ready.is_free fits ready.space ready.served)
 
 pub returns-in-Ok-clause-scheduled : goal.returns-in-Ok-clause-scheduled
 returns-in-Ok-clause-scheduled g c =

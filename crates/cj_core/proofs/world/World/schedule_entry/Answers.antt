@@ -1,9 +1,8 @@
-use Rattle.std.proofs.Common.{◌≡◌, inl, Ok, Err, None, true, ap, sym, ◌∙◌, subst}
-use Rattle.cj_model.specs.declared.request.Entry.{Entry}
+use Rattle.std.proofs.Common.{◌≡◌, ◌+◌, inl, Ok, Err, None, true, ap, sym, ◌∙◌, subst}
 use Rattle.cj_cluster.specs.History.Histories.{log}
 use Rattle.cj_cluster.specs.History.Legality.{IsFitEntry}
 use Rattle.cj_cluster.specs.Moves.Cores.{session_at}
-use Rattle.cj_cluster.specs.Moves.Moves.{is_open, next_entry}
+use Rattle.cj_cluster.specs.Moves.Moves.{is_open}
 use Rattle.cj_book.specs.Books.{has_session}
 use Rattle.cj_core.specs.Worlds.{WorldState}
 use Rattle.cj_core.specs.Effects.{SchedulesAs}
@@ -16,19 +15,18 @@ pub schedule-requires-clause-known : goal.schedule-requires-clause-known
 schedule-requires-clause-known g c =
     let w = c.self.inside in
     let here = subst (λ (x : WorldState). is_open x.core c.args.s ≡ true) (sym c.self.view_is) c.requires.here in
-    let next = subst (λ (x : WorldState). c.args.entry ≡ next_entry x.core c.args.s c.args.entry.act) (sym c.self.view_is) c.requires.next in
-    inl (ap (has_session w.book) (ap (λ (e : Entry). e.session) next) ∙ (open_is w.book w.cells.items w.failed w.starved w.sessions c.self.invariant.numbers_are c.args.s ∙ here))
+    inl (ap (has_session w.book) c.requires.session ∙ (open_is w.book w.cells.items w.failed w.starved w.sessions c.self.invariant.numbers_are c.args.s ∙ here))
 
 pub invariant_of-self : goal.invariant_of-self
 invariant_of-self g c =
     let w = c.self.inside in
     let here = subst (λ (x : WorldState). is_open x.core c.args.s ≡ true) (sym c.self.view_is) c.requires.here in
-    let next = subst (λ (x : WorldState). c.args.entry ≡ next_entry x.core c.args.s c.args.entry.act) (sym c.self.view_is) c.requires.next in
+    let number = subst (λ (x : WorldState). c.args.entry.seq ≡ (session_at x.core c.args.s).queries + 1) (sym c.self.view_is) c.requires.number in
     let fits = subst (λ (x : WorldState). IsFitEntry (log x.core.history) c.args.entry) (sym c.self.view_is) c.requires.fits in
     let no_read = subst (λ (x : WorldState). (session_at x.core c.args.s).reading ≡ None) (sym c.self.view_is) c.requires.no_read in
     let ready = c.in-Ok.ensures.ready in
     rw (c.in-Ok.ensures.ok, c.count.ensures)
-    (kept_scheduled g.B.Backend.TELLS w.book.layout w.book.history w.cells.items w.failed w.starved w.sessions w.book.greatest w.book.sessions w.first_outcome c.self.invariant c.args.s c.args.entry here next ready.is_free fits
+    (kept_scheduled g.B.Backend.TELLS w.accounts w.book.layout w.book.history w.cells.items w.failed w.starved w.sessions w.book.greatest w.book.sessions w.first_outcome c.self.invariant c.args.s c.args.entry here c.requires.session number ready.is_free fits
     ready.space no_read ready.served)
 
 pub returns-in-Ok-clause-scheduled : goal.returns-in-Ok-clause-scheduled

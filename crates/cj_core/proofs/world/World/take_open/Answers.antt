@@ -13,27 +13,27 @@ pub take-did-requires : goal.take-did-requires
 take-did-requires g c =
     let w = c.self.inside in
     let can : CanApply (core_of w.book.layout w.book.history w.cells.items w.failed w.starved w.sessions w.book.greatest) c.args.b = can_apply _ c.args.b (subst (λ (x : WorldState). not_now x.core (Apply c.args.b) ≡ None) (sym c.self.view_is) c.requires.now) in
-    can_take g.B.Backend.TELLS w.book.layout w.book.history w.cells.items w.failed w.starved w.sessions w.book.greatest w.book.sessions w.first_outcome c.self.invariant c.args.b (position_or_zero (position_at (core_of w.book.layout w.book.history w.cells.items w.failed w.starved w.sessions w.book.greatest) c.args.b)) can.at can.more
+    can_take g.B.Backend.TELLS w.accounts w.book.layout w.book.history w.cells.items w.failed w.starved w.sessions w.book.greatest w.book.sessions w.first_outcome c.self.invariant c.args.b (position_or_zero (position_at (core_of w.book.layout w.book.history w.cells.items w.failed w.starved w.sessions w.book.greatest) c.args.b)) can.at can.more
 
 pub invariant_of-self : goal.invariant_of-self
 invariant_of-self g c =
     let w = c.self.inside in
     let can : CanApply (core_of w.book.layout w.book.history w.cells.items w.failed w.starved w.sessions w.book.greatest) c.args.b = can_apply _ c.args.b (subst (λ (x : WorldState). not_now x.core (Apply c.args.b) ≡ None) (sym c.self.view_is) c.requires.now) in
     rw (c.failed_after-self-inside.ensures, c.starved_after-self-inside.ensures, c.first_outcome_after-self-inside.ensures)
-    (kept_applied g.B.Backend.TELLS w.book.layout w.book.history w.cells.items w.failed w.starved w.sessions w.book.greatest w.book.sessions w.first_outcome c.self.invariant c.args.b c.take-did.result c.take-did.new.cells.items c.take-did.ensures can.is_running can.on)
+    (kept_applied g.B.Backend.TELLS w.accounts w.book.layout w.book.history w.cells.items w.failed w.starved w.sessions w.book.greatest w.book.sessions w.first_outcome c.self.invariant c.args.b c.take-did.result c.take-did.new.cells.items c.take-did.ensures can.is_running can.on)
 
 pub returns-clause-applies : goal.returns-clause-applies
 returns-clause-applies g c =
     let w = c.self.inside in
     subst (λ (x : WorldState). Applies g.B.Backend.TELLS x.core c.args.b (Ok (Applied c.args.b c.take-did.result)) (core_of w.book.layout w.book.history c.take-did.new.cells.items c.failed_after-self-inside.result c.starved_after-self-inside.result w.sessions w.book.greatest)) c.self.view_is
-    (applies g.B.Backend.TELLS w.book.layout w.book.history w.cells.items w.failed w.starved w.sessions w.book.greatest w.book.sessions w.first_outcome c.self.invariant c.args.b c.take-did.result c.take-did.new.cells.items c.take-did.ensures c.failed_after-self-inside.result c.starved_after-self-inside.result c.failed_after-self-inside.ensures c.starved_after-self-inside.ensures)
+    (applies g.B.Backend.TELLS w.accounts w.book.layout w.book.history w.cells.items w.failed w.starved w.sessions w.book.greatest w.book.sessions w.first_outcome c.self.invariant c.args.b c.take-did.result c.take-did.new.cells.items c.take-did.ensures c.failed_after-self-inside.result c.starved_after-self-inside.result c.failed_after-self-inside.ensures c.starved_after-self-inside.ensures)
 
 pub returns-clause-counts : goal.returns-clause-counts
 returns-clause-counts g c =
     let w = c.self.inside in
-    took_counts g.B.Backend.TELLS w.book.layout w.book.history w.cells.items w.failed w.starved w.sessions w.book.greatest w.book.sessions w.first_outcome c.self.invariant c.args.b c.take-did.result c.take-did.new.cells.items c.take-did.ensures c.args.self.now.cells (ap (λ (x : WorldState). x.cells) (sym c.self.view_is))
+    took_counts g.B.Backend.TELLS w.accounts w.book.layout w.book.history w.cells.items w.failed w.starved w.sessions w.book.greatest w.book.sessions w.first_outcome c.self.invariant c.args.b c.take-did.result c.take-did.new.cells.items c.take-did.ensures c.args.self.now.cells (ap (λ (x : WorldState). x.cells) (sym c.self.view_is))
 
 pub returns-clause-armings : goal.returns-clause-armings
 returns-clause-armings g c =
     let w = c.self.inside in
-    took_armings g.B.Backend.TELLS w.book.layout w.book.history w.cells.items w.failed w.starved w.sessions w.book.greatest w.book.sessions w.first_outcome c.self.invariant c.args.b c.take-did.result c.take-did.new.cells.items c.take-did.ensures c.args.self.now.cells (ap (λ (x : WorldState). x.cells) (sym c.self.view_is))
+    took_armings g.B.Backend.TELLS w.accounts w.book.layout w.book.history w.cells.items w.failed w.starved w.sessions w.book.greatest w.book.sessions w.first_outcome c.self.invariant c.args.b c.take-did.result c.take-did.new.cells.items c.take-did.ensures c.args.self.now.cells (ap (λ (x : WorldState). x.cells) (sym c.self.view_is))

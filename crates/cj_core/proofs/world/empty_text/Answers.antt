@@ -2,7 +2,7 @@ use Rattle.std.proofs.Common.{◌≡◌, ◌&&◌, [], ◌==◌, not, Bool, true
 use Rattle.std.specs.List.{list_all}
 use Rattle.std.proofs.lemmas.Str.{IsUtf8-nil, is_utf8-from_IsUtf8}
 use Rattle.cj_model.specs.Sql.Names.{is_text, text_of}
-use Rattle.cj_core.proofs.world.no_login.Goals as goal
+use Rattle.cj_core.proofs.world.empty_text.Goals as goal
 
 no_bytes : is_text [] ≡ true
 unfolding is_text

@@ -1,0 +1,86 @@
+-- A move of no session leaves a session between its calls.
+use Rattle.std.proofs.Common.{◌≡◌, ◌≢◌, ℕ, ◌+◌, ◌<◌, ◌≤◌, Bool, true, false, List, [], ◌∷◌, ◌++◌, Option, None, Some, Ok, Err, refl, ap, sym, ◌∙◌, subst, arith}
+use Rattle.std.proofs.lemmas.Bool.{both_ways}
+use Rattle.cj_cluster.specs.declared.event.Event.{Event}
+use Rattle.cj_cluster.specs.declared.event.Event.TheVariants as event
+use Rattle.cj_cluster.specs.declared.moves.Move.{Move}
+use Rattle.cj_cluster.specs.declared.moves.Move.TheVariants.{Open, Close, Schedule, Abort, Apply, End, Read, Arm, Disable, Replay, Enable}
+use Rattle.cj_cluster.specs.declared.moves.Moved.TheVariants as moved
+use Rattle.cj_cluster.specs.declared.moves.MoveError.TheVariants.{NotNow, NoMemory}
+use Rattle.cj_cluster.specs.declared.moves.OpenSession.{OpenSession}
+use Rattle.cj_cluster.specs.History.Histories.{scheduled_entry, is_end_event, is_idle}
+use Rattle.cj_cluster.specs.Moves.Cores.{Core, find_session, session_at, new_session}
+use Rattle.cj_cluster.specs.Moves.Moves.{MoveResult, MovesTo, DoesMove, OpensSession, Arms, Disables, Enables, Replays, happened, is_open, not_now, opened_for}
+use Rattle.cj_cluster.specs.Proving.Invariants.{CoreInvariant}
+use Rattle.cj_cluster.proofs.Now.{can_apply, can_end}
+use Rattle.cj_cluster.proofs.Pushed.{free-same}
+use Rattle.cj_cluster.proofs.Sessions.{session_at-is, is_open-push, session_of-push_other}
+use Rattle.cj_cluster.proofs.Soundness.{session_sound, by_reason}
+use Rattle.cj_core.specs.Solos.{IsMoveOfNoSession, StandsBetweenCalls}
+
+module _ (tells : Bool) (c z : Core) (s : ℕ) (w : CoreInvariant c) (stands : StandsBetweenCalls c s) where
+  -- nothing changes
+  as_it_was : z ≡ c → StandsBetweenCalls z s
+  as_it_was is = subst (λ (x : Core). StandsBetweenCalls x s) (sym is) stands
+
+  -- an event that schedules nothing and ends nothing
+  with_one_event : (ev : Event) → scheduled_entry ev ≡ None → is_end_event ev ≡ false → z ≡ happened c ev → StandsBetweenCalls z s
+  with_one_event ev none stays is =
+      subst (λ (x : Core). StandsBetweenCalls x s) (sym is) (record { idle = free-same c.history ev none stays ∙ stands.idle; here = stands.here; no_read = stands.no_read })
+
+  -- another session opens
+  with_one_session : (user : List ℕ) → z ≡ opened_for c user → StandsBetweenCalls z s
+  with_one_session user is =
+      let sound = session_sound c s w stands.here in
+      let high : (session_at c s).number ≤ c.greatest = sound.0.number.1 in
+      let number : (session_at c s).number ≡ s = sound.1 in
+      let other : s ≢ c.greatest + 1 = λ e. absurd (omega (arith, e, high, number)) in
+      let y : OpenSession = new_session (c.greatest + 1) user in
+      let found : find_session (opened_for c user).sessions s ≡ find_session c.sessions s = session_of-push_other c.sessions y s other in
+      let same : session_at (opened_for c user) s ≡ session_at c s = session_at-is (opened_for c user) s (find_session c.sessions s) found ∙ sym (session_at-is c s (find_session c.sessions s) refl) in
+      subst (λ (x : Core). StandsBetweenCalls x s) (sym is)
+      (record { idle = stands.idle; here = is_open-push c.sessions y s stands.here; no_read = ap (λ (x : OpenSession). x.reading) same ∙ stands.no_read })
+
+  opens : (user : List ℕ) (g : MoveResult) → OpensSession c user g z → StandsBetweenCalls z s
+  opens user (Ok (moved.Session n)) h = with_one_session user h.2
+  opens user (Ok (moved.Refused r)) h = as_it_was h.2
+  opens user (Err NoMemory) h = as_it_was h
+  opens user _ h = absurd h
+
+  arms : (g : MoveResult) → Arms c g z → StandsBetweenCalls z s
+  arms (Ok moved.Armed) h = as_it_was h
+  arms _ h = absurd h
+
+  disables : (b : ℕ) (g : MoveResult) → Disables c b g z → StandsBetweenCalls z s
+  disables b (Ok moved.Disabled) h = with_one_event (event.Disabled b) refl refl h.1
+  disables b (Ok (moved.Refused r)) h = as_it_was h.2
+  disables b (Err NoMemory) h = as_it_was h
+  disables b _ h = absurd h
+
+  enables : (b : ℕ) (g : MoveResult) → Enables c b g z → StandsBetweenCalls z s
+  enables b (Ok moved.Enabled) h = with_one_event (event.Enabled b) refl refl h.1
+  enables b (Ok (moved.Refused r)) h = as_it_was h.2
+  enables b (Err NoMemory) h = as_it_was h
+  enables b _ h = absurd h
+
+  replays : (b : ℕ) (g : MoveResult) → Replays tells c b g z → StandsBetweenCalls z s
+  replays b (Ok (moved.Replayed n d)) h = subst (λ (x : Core). StandsBetweenCalls x s) (sym h.1.2) (record { idle = stands.idle; here = stands.here; no_read = stands.no_read })
+  replays b _ h = absurd h
+
+  -- a move that can be made
+  does : (m : Move) (g : MoveResult) → IsMoveOfNoSession m → not_now c m ≡ None → DoesMove tells c m g z → StandsBetweenCalls z s
+  does (Open user) g none now h = opens user g h
+  does (Close k) g none now h = absurd none
+  does (Schedule k r) g none now h = absurd none
+  does (Abort tx) g none now h = absurd none
+  does (Apply b) g none now h = absurd (both_ways (is_idle c.history) (can_apply c b now).is_running stands.idle)
+  does End g none now h = absurd (both_ways (is_idle c.history) (can_end c now).is_running stands.idle)
+  does (Read k b select) g none now h = absurd none
+  does (Arm b) g none now h = arms g h
+  does (Disable b) g none now h = disables b g h
+  does (Replay b) g none now h = replays b g h
+  does (Enable b) g none now h = enables b g h
+
+  -- any move
+  pub stands_moved : (m : Move) (g : MoveResult) → IsMoveOfNoSession m → MovesTo tells c m g z → StandsBetweenCalls z s
+  stands_moved m g none h = by_reason (not_now c m) (DoesMove tells c m g z) (StandsBetweenCalls z s) g c z h (λ now t. does m g none now t) (λ why is same. as_it_was same)

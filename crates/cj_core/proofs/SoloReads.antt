@@ -1,0 +1,221 @@
+-- A session's read over a whole world, as backend after backend fails in it.
+use Rattle.std.proofs.Common.{◌≡◌, ◌≢◌, ◌⊎◌, inl, inr, ℕ, ◌+◌, ◌<◌, ◌≤◌, ◌==◌, ◌&&◌, not, Bool, true, List, [], ◌∷◌, ◌++◌, length, map, None, Some, refl, ap, sym, ◌∙◌, subst, arith, ⊎_elim, append_assoc}
+use Rattle.std.proofs.lemmas.Bool.{and_parts, both_ways, cases_eq, ne_eqb}
+use Rattle.std.proofs.lemmas.List.{append-nil, map-append}
+use Rattle.std.proofs.lemmas.Grind.{fold-append}
+use Rattle.cj_model.specs.declared.request.Entry.{Entry}
+use Rattle.cj_model.specs.declared.request.Request.TheVariants as request
+use Rattle.cj_model.specs.declared.select.Select.{Select}
+use Rattle.cj_model.specs.declared.answer.Reply.{Reply}
+use Rattle.cj_model.specs.declared.answer.Reply.TheVariants.{Refused}
+use Rattle.cj_model.specs.declared.codes.TheConstants.{NO_MEMORY, READ_FAULT}
+use Rattle.cj_model.specs.Database.Inserts.{refusal_of_code}
+use Rattle.cj_model.specs.Database.Queries.{ask}
+use Rattle.cj_model.specs.Cluster.Masks.{in_mask}
+use Rattle.cj_model.proofs.Masks.{has-zero}
+use Rattle.cj_cluster.specs.declared.event.Event.{Event}
+use Rattle.cj_cluster.specs.declared.event.Event.TheVariants.{ReadFailed}
+use Rattle.cj_cluster.specs.declared.moves.OpenSession.{OpenSession}
+use Rattle.cj_cluster.specs.History.Answering.{CanServe}
+use Rattle.cj_cluster.specs.History.Histories.{log, is_idle, is_enabled, events_left, database_of, log_faults_of, tx_of}
+use Rattle.cj_cluster.specs.History.Turns.{SessionView, Call, Turn}
+use Rattle.cj_cluster.specs.Moves.Cores.{Core, session_at, with_session}
+use Rattle.cj_cluster.specs.Moves.Moves.{IsServingMask, is_open, open_tx}
+use Rattle.cj_cluster.specs.Moves.Runs.{seen_at, HasFailedSince}
+use Rattle.cj_cluster.specs.Proving.Invariants.{CoreInvariant}
+use Rattle.cj_cluster.proofs.Between.{follows_own, session_owes}
+use Rattle.cj_cluster.proofs.Pushed.{prefix_length, prefix_self, take_whole, log_faults-same}
+use Rattle.cj_cluster.proofs.Sessions.{is_open-with}
+use Rattle.cj_cluster.proofs.TurnCases.{Rests, entries-same, turn_read, turn_full, turn_starved, turn_in_vain}
+use Rattle.cj_core.specs.Counting.{faults_of, faults_after}
+use Rattle.cj_core.specs.Solos.{QueryAnswered, QueryUnnoted, QueryFailed, WorldTurn, AddsOwnEvents, IsReadAtEnd, StandsBetweenCalls, call_of, faults_counted}
+use Rattle.cj_core.specs.Worlds.{WorldState}
+use Rattle.cj_core.proofs.SoloTurns.{failed_before, failed_now, failures_keep, idle_failures, log_failures, enabled_failures}
+
+-- the history with the failures of the session's next read
+abbrev pub with_failures : Core → ℕ → List ℕ → List Event
+with_failures c s failed = c.history ++ map (ReadFailed s ((session_at c s).queries + 1)) failed
+
+-- Of the backends that serve the read, each that is left out of a mask has failed in it, and else nothing was changed.
+pub record QuerySoFar (s : ℕ) (old : WorldState) (serving left : ℕ) (now : WorldState) : Type 0 where
+  pub failed : List ℕ
+  pub core : now.core ≡ record old.core { history = with_failures old.core s failed }
+  pub setup : now.setup ≡ old.setup
+  pub faults : faults_of now.cells ≡ faults_counted (faults_of old.cells) failed
+  pub tried : (b : ℕ) → in_mask serving b ≡ true → (in_mask left b ≡ true) ⊎ HasFailedSince old.core.history now.core.history s ((session_at old.core s).queries + 1) b
+  pub within : (b : ℕ) → in_mask left b ≡ true → in_mask serving b ≡ true
+  pub sound : CoreInvariant now.core
+
+-- before the first attempt
+pub query_begins : (s : ℕ) (old : WorldState) (serving : ℕ) → CoreInvariant old.core → QuerySoFar s old serving serving old
+query_begins s old serving w =
+    record {
+      failed = [];
+      core = ap (λ (h : List Event). record old.core { history = h }) (sym (append-nil old.core.history));
+      setup = refl;
+      faults = refl;
+      tried = λ b t. inl t;
+      within = λ b t. t;
+      sound = w;
+    }
+
+-- the session still stands between its calls
+pub query_stands : (s : ℕ) (old now : WorldState) (serving left : ℕ) → StandsBetweenCalls old.core s → QuerySoFar s old serving left now → StandsBetweenCalls now.core s
+query_stands s old now serving left stands so_far =
+    subst (λ (c : Core). StandsBetweenCalls c s) (sym so_far.core)
+    (record { idle = idle_failures s ((session_at old.core s).queries + 1) old.core.history so_far.failed ∙ stands.idle; here = stands.here; no_read = stands.no_read })
+
+-- one backend more has failed
+pub query_goes_on : (s : ℕ) (old now new : WorldState) (serving left less b : ℕ) → QuerySoFar s old serving left now → QueryFailed s b now new → new.setup ≡ now.setup
+    → ((k : ℕ) → in_mask less k ≡ (in_mask left k && not (k == b))) → in_mask left b ≡ true → QuerySoFar s old serving less new
+query_goes_on s old now new serving left less b so_far fails names bits there =
+    let q : ℕ = (session_at old.core s).queries + 1 in
+    let ev : Event = ReadFailed s q b in
+    let same : (session_at now.core s).queries + 1 ≡ q = ap (λ (c : Core). (session_at c s).queries + 1) so_far.core in
+    let grew : new.core ≡ record now.core { history = now.core.history ++ ev ∷ [] } =
+    fails.after ∙ ap (λ (n : ℕ). record now.core { history = now.core.history ++ ReadFailed s n b ∷ [] }) same
+    in
+    let history : new.core.history ≡ now.core.history ++ ev ∷ [] = ap (λ (c : Core). c.history) grew in
+    let more : with_failures old.core s (so_far.failed ++ b ∷ []) ≡ with_failures old.core s so_far.failed ++ ev ∷ [] =
+    ap (λ (es : List Event). old.core.history ++ es) (map-append (ReadFailed s q) so_far.failed (b ∷ [])) ∙ sym (append_assoc old.core.history (map (ReadFailed s q) so_far.failed) (ev ∷ []))
+    in
+    let low : length old.core.history ≤ length now.core.history =
+    prefix_length old.core.history now.core.history (map (ReadFailed s q) so_far.failed, sym (ap (λ (c : Core). c.history) so_far.core))
+    in
+    record {
+      failed = so_far.failed ++ b ∷ [];
+      core =
+          grew
+          ∙ (ap (λ (c : Core). record c { history = c.history ++ ev ∷ [] }) so_far.core ∙ ap (λ (h : List Event). record old.core { history = h }) (sym more));
+      setup = setup ∙ so_far.setup;
+      faults =
+          fails.faults
+          ∙ (ap (λ (counts : List ℕ). faults_after counts (Some b)) so_far.faults ∙ sym (fold-append (λ (counts : List ℕ) (k : ℕ). faults_after counts (Some k)) (faults_of old.cells) so_far.failed (b ∷ [])));
+      tried =
+          λ k t.
+          subst (λ (h : List Event). (in_mask less k ≡ true) ⊎ HasFailedSince old.core.history h s q k) (sym history)
+          (⊎_elim
+          (λ (e : k ≡ b). inr (subst (λ (i : ℕ). HasFailedSince old.core.history (now.core.history ++ ev ∷ []) s q i) (sym e) (failed_now old.core.history now.core.history s q b low)))
+          (λ (ne : k ≡ b → ⊥).
+          ⊎_elim (λ (on : in_mask left k ≡ true). inl (bits k ∙ rw (on, ne_eqb k b ne) refl))
+          (λ (was : HasFailedSince old.core.history now.core.history s q k). inr (failed_before old.core.history now.core.history s q b k was)) (so_far.tried k t))
+          (cases_eq k b));
+      within = λ k t. so_far.within k ((and_parts (in_mask left k) (not (k == b)) (sym (bits k) ∙ t)).0);
+      sound = fails.is_sound;
+    }
+
+-- ---- what the read comes to
+
+-- a turn of a session that has seen the state before its read, with its reads at the log's end
+abbrev pub ReadsTo : Bool → ℕ → Core → Call → SessionView → Type 0
+ReadsTo tells s c call z = (t : Turn tells c.placement s (seen_at c s) call z) × IsReadAtEnd t.case
+
+module _ (tells : Bool) (s tx : ℕ) (user : List ℕ) (select : Select) (old now : WorldState) (serving left : ℕ) (w : CoreInvariant old.core) (in_own : (tx ≡ 0) ⊎ (tx ≡ open_tx old.core s)) (serves : IsServingMask old.core select serving)
+    (so_far : QuerySoFar s old serving left now) where
+  pub call : Reply → Call
+  call reply = call_of old.core s tx user (request.Select select) reply
+
+  grown : now.core.history ≡ with_failures old.core s so_far.failed
+  grown = ap (λ (c : Core). c.history) so_far.core
+
+  -- the failures leave the log, and what follows from it
+  same_log : log now.core.history ≡ log old.core.history
+  same_log = ap log grown ∙ log_failures s ((session_at old.core s).queries + 1) old.core.history so_far.failed
+
+  -- nothing was scheduled for the session, and the log's store did not fail
+  rested : Rests s (seen_at old.core s) now.core.history
+  rested =
+      record {
+        entries = entries-same s old.core.history now.core.history same_log;
+        tx = ap (λ (l : List Entry). tx_of l s) same_log;
+        log_faults =
+            λ k.
+            ap (log_faults_of s k) grown
+            ∙ failures_keep (log_faults_of s k) s ((session_at old.core s).queries + 1) (λ h b. log_faults-same h (ReadFailed s ((session_at old.core s).queries + 1) b) (λ t i. refl) s k) old.core.history so_far.failed;
+      }
+
+  -- the backends that serve the query are those that did
+  still_serves : (k : ℕ) → CanServe old.core.placement now.core.history (request.Select select) k → CanServe old.core.placement old.core.history (request.Select select) k
+  still_serves k on = (sym (enabled_failures s ((session_at old.core s).queries + 1) old.core.history so_far.failed k) ∙ (sym (ap (λ h. is_enabled h k) grown) ∙ on.0), on.1)
+
+  serves_still : (k : ℕ) → CanServe old.core.placement old.core.history (request.Select select) k → CanServe old.core.placement now.core.history (request.Select select) k
+  serves_still k on = (ap (λ h. is_enabled h k) grown ∙ (enabled_failures s ((session_at old.core s).queries + 1) old.core.history so_far.failed k ∙ on.0), on.1)
+
+  -- memory is wanting
+  pub starves : (reply : Reply) → reply ≡ Refused (refusal_of_code NO_MEMORY) → ReadsTo tells s old.core (call reply) (record { front = now.core.history; least = (session_at old.core s).least })
+  starves reply is = (turn_starved tells old.core.placement s (seen_at old.core s) now.core.history so_far.sound.legal (map (ReadFailed s ((session_at old.core s).queries + 1)) so_far.failed, sym grown) (session_owes old.core s w) rested (call reply) in_own is, tt)
+
+  -- each backend that serves it failed
+  pub in_vain : (reply : Reply) → left ≡ 0 → serving ≢ 0 → reply ≡ Refused (record { code = READ_FAULT; a = serving; b = 0 })
+      → ReadsTo tells s old.core (call reply) (record { front = now.core.history; least = (session_at old.core s).least })
+  in_vain reply none some is = (
+    turn_in_vain tells old.core.placement s (seen_at old.core s) now.core.history so_far.sound.legal (map (ReadFailed s ((session_at old.core s).queries + 1)) so_far.failed, sym grown) (session_owes old.core s w) rested (call reply) select serving in_own
+        refl is some (λ k. ((λ on. (serves k).0 (still_serves k on)), λ t. serves_still k ((serves k).1 t)))
+        (λ k t. ⊎_elim (λ (on : in_mask left k ≡ true). absurd (both_ways (in_mask left k) (ap (λ (m : ℕ). in_mask m k) none ∙ has-zero k) on)) (λ (failed : HasFailedSince old.core.history now.core.history s ((session_at old.core s).queries + 1) k). failed) (so_far.tried k t)),
+    tt,
+  )
+
+  -- a backend that serves it answered, at the log's end
+  pub answers : (b : ℕ) (reply : Reply) (new : WorldState) → in_mask serving b ≡ true → QueryAnswered tells s tx select now reply new
+      → ReadsTo tells s old.core (call reply) (record { front = now.core.history; least = length (log now.core.history) })
+  answers b reply new there answered =
+      let owed : (session_at old.core s).least ≤ length (log old.core.history) = session_owes old.core s w in
+      let same : length (log now.core.history) ≡ length (log old.core.history) = ap length same_log in
+      let past = so_far.sound.one_open.0 in (
+        turn_read tells old.core.placement s (seen_at old.core s) now.core.history so_far.sound.legal (map (ReadFailed s ((session_at old.core s).queries + 1)) so_far.failed, sym grown) (session_owes old.core s w) rested (call reply) select
+            (length (log now.core.history)) answered.answer in_own refl answered.replied answered.possible
+            (λ on. answered.says on ∙ ap (λ (l : List Entry). ask (database_of l) tx select) (sym (take_whole (log now.core.history) (log now.core.history) (prefix_self (log now.core.history)))))
+            (λ t. (b, serves_still b ((serves b).1 there))) (omega arith) past (omega arith),
+        refl,
+      )
+
+  -- it failed, and the history has no room to say so
+  pub unnoted : (b : ℕ) (reply : Reply) (new : WorldState) → in_mask serving b ≡ true → QueryUnnoted s b now reply new
+      → ReadsTo tells s old.core (call reply) (record { front = now.core.history; least = (session_at old.core s).least })
+  unnoted b reply new there full =
+      let none : events_left now.core.history ≡ 0 = full.full in
+      let small : events_left now.core.history < 1 = omega arith in (
+        turn_full tells old.core.placement s (seen_at old.core s) now.core.history so_far.sound.legal (map (ReadFailed s ((session_at old.core s).queries + 1)) so_far.failed, sym grown) (session_owes old.core s w) rested (call reply) in_own
+            full.replied (λ t. (b, serves_still b ((serves b).1 there))) small,
+        tt,
+      )
+
+  -- ---- the world that the read leads to
+
+  -- the session was changed, which is its answer
+  module _ (new : WorldState) (change : OpenSession → OpenSession) (keeps : (x : OpenSession) → (change x).number ≡ x.number) (after : new.core ≡ record now.core { sessions = with_session now.core.sessions s change })
+      (least : ℕ) (needs : (change (session_at now.core s)).least ≡ least) (counted : (change (session_at now.core s)).queries ≡ (session_at now.core s).queries + 1) (closed : (change (session_at now.core s)).reading ≡ None)
+      (stands : StandsBetweenCalls now.core s) where
+    new_session_is : session_at new.core s ≡ change (session_at now.core s)
+    new_session_is = (follows_own now.core new.core s after refl (prefix_self now.core.history) refl change keeps refl stands.here).session
+
+    same_history : new.core.history ≡ now.core.history
+    same_history = ap (λ (c : Core). c.history) after
+
+    seen : record { front = now.core.history; least = least } ≡ seen_at new.core s
+    seen =
+        ap (λ (h : List Event). record { front = h; least = least }) (sym same_history)
+        ∙ ap (λ (n : ℕ). record { front = new.core.history; least = n }) (sym (ap (λ (x : OpenSession). x.least) new_session_is ∙ needs))
+
+    -- with these failures, of which the history tells
+    pub read_is_turn : (reply : Reply) (failed : List ℕ) → ReadsTo tells s old.core (call reply) (record { front = now.core.history; least = least }) → new.setup ≡ now.setup
+        → AddsOwnEvents s (call reply) None failed old.core.history new.core.history → faults_of new.cells ≡ faults_counted (faults_of old.cells) failed → WorldTurn tells s old (call reply) new
+    read_is_turn reply failed reads names events faults =
+        let turn : ReadsTo tells s old.core (call reply) (seen_at new.core s) = subst (ReadsTo tells s old.core (call reply)) seen reads in
+        record {
+          placement = ap (λ (c : Core). c.placement) after ∙ ap (λ (c : Core). c.placement) so_far.core;
+          setup = setup ∙ so_far.setup;
+          number = refl;
+          queries = ap (λ (x : OpenSession). x.queries) new_session_is ∙ (counted ∙ ap (λ (c : Core). (session_at c s).queries + 1) so_far.core);
+          turn = turn.0;
+          at_end = turn.1;
+          stands =
+              record {
+                idle = ap is_idle same_history ∙ stands.idle;
+                here = subst (λ (c : Core). is_open c s ≡ true) (sym after) (is_open-with change keeps now.core.sessions s s ∙ stands.here);
+                no_read = ap (λ (x : OpenSession). x.reading) new_session_is ∙ closed;
+              };
+          failed = failed;
+          events = events;
+          faults = faults;
+        }

@@ -1,0 +1,142 @@
+-- The open entry is taken by one backend after another.
+use Rattle.std.proofs.Common.{◌≡◌, ◌≢◌, ℕ, ◌+◌, ◌<◌, ◌≤◌, ◌==◌, Bool, true, false, cond, List, [], ◌∷◌, ◌++◌, length, get_or, set, Option, None, Some, is_some, Ok, refl, ap, sym, ◌∙◌, subst, arith, ⊎_elim}
+use Rattle.std.proofs.lemmas.Bool.{cases_lt, eqb-true}
+use Rattle.std.proofs.lemmas.Grind.{fold-append}
+use Rattle.std.proofs.lemmas.List.{get_or-set_same, get_or-set_other}
+use Rattle.std.proofs.lemmas.Option.{slice_get_within}
+use Rattle.cj_model.specs.declared.request.Entry.{Entry}
+use Rattle.cj_model.specs.Cluster.Masks.{with_backend}
+use Rattle.cj_cluster.specs.declared.moves.Did.{Did}
+use Rattle.cj_cluster.specs.declared.moves.Did.TheVariants as did
+use Rattle.cj_cluster.specs.declared.moves.Move.TheVariants.{Apply}
+use Rattle.cj_cluster.specs.declared.moves.Moved.TheVariants.{Applied}
+use Rattle.cj_cluster.specs.declared.moves.Reason.{Reason}
+use Rattle.cj_cluster.specs.declared.moves.Reason.TheVariants.{AtEnd}
+use Rattle.cj_cluster.specs.History.Histories.{log, ended_count, is_idle, is_enabled}
+use Rattle.cj_cluster.specs.Moves.Cores.{Core, position_at}
+use Rattle.cj_cluster.specs.Moves.Moves.{Applies, DoesWithEntry, Stance, failed_after, first_lagging, last_number, not_now, reason_if}
+use Rattle.cj_cluster.specs.Proving.Invariants.{BackendStands, CoreInvariant}
+use Rattle.cj_cluster.proofs.Now.{all_at_end}
+use Rattle.cj_core.specs.Counting.{did_fail, faults_of, faults_after}
+use Rattle.cj_core.specs.Solos.{EntryTaken, HasTakenEntry, faults_counted, mask_with}
+use Rattle.cj_core.specs.Worlds.{WorldState}
+
+-- ---- one backend
+
+-- it failed, or none did
+abbrev failed_in : ℕ → Did → List ℕ
+failed_in b d = cond (did_fail d) (b ∷ []) []
+
+mask_after : (mask b : ℕ) (d : Did) → failed_after mask b d ≡ mask_with mask (failed_in b d)
+mask_after mask b (did.Done o) = refl
+mask_after mask b did.Skipped = refl
+mask_after mask b did.Failed = refl
+mask_after mask b did.Starved = refl
+
+counts_after : (faults : List ℕ) (b : ℕ) (d : Did) → faults_after faults (cond (did_fail d) (Some b) None) ≡ faults_counted faults (failed_in b d)
+counts_after faults b (did.Done o) = refl
+counts_after faults b did.Skipped = refl
+counts_after faults b did.Failed = refl
+counts_after faults b did.Starved = refl
+
+module _ (tells : Bool) (old new : WorldState) (b : ℕ) (d : Did) (applies : Applies tells old.core b (Ok (Applied b d)) new.core) where
+  pub took : faults_of new.cells ≡ faults_after (faults_of old.cells) (cond (did_fail d) (Some b) None) → new.setup ≡ old.setup → EntryTaken old new
+  took counts setup =
+      record {
+        core = applies.1.2 ∙ sym (ap (λ (k : Core). record old.core { positions = k.positions; begun = k.begun; failed = k.failed; starved = k.starved }) applies.1.2);
+        setup = setup;
+        failed = failed_in b d;
+        mask = ap (λ (k : Core). k.failed) applies.1.2 ∙ mask_after old.core.failed b d;
+        faults = counts ∙ counts_after (faults_of old.cells) b d;
+      }
+
+  -- the other backends stand as they did
+  pub took_alone : (k : ℕ) → k ≢ b → position_at new.core k ≡ position_at old.core k
+  took_alone k ne = ap (λ (c : Core). position_at c k) applies.1.2 ∙ get_or-set_other old.core.positions b k applies.1.0.position None ne
+
+-- how far it stands then
+stands_after : (tells : Bool) (c : Core) (b p : ℕ) (e : Entry) (d : Did) (now : Stance) (q : ℕ) → DoesWithEntry tells c b p e d now → now.position ≡ Some q → q ≡ p + 1
+stands_after tells c b p e (did.Done o) now q does is = let at = ap (λ (x : Stance). x.position) does.3 in cc (at, is)
+stands_after tells c b p e did.Skipped now q does is = let at = ap (λ (x : Stance). x.position) does.1 in cc (at, is)
+stands_after tells c b p e did.Failed now q does is = let at = ap (λ (x : Stance). x.position) does.1 in absurd (cc (at, is))
+stands_after tells c b p e did.Starved now q does is = let at = ap (λ (x : Stance). x.position) does.1 in absurd (cc (at, is))
+
+-- which is the log's end, where it is enabled
+pub took_to_end : (tells : Bool) (old new : WorldState) (b : ℕ) (d : Did) → CoreInvariant old.core → b < old.core.placement.backends → Applies tells old.core b (Ok (Applied b d)) new.core → HasTakenEntry new.core b
+took_to_end tells old new b d w within applies q on at =
+    let c : Core = old.core in
+    let now : Stance = applies.1.0 in
+    let takes = applies.1.1 in
+    let cells : length c.positions ≡ c.placement.backends = w.cells in
+    let lt : b < length c.positions = omega arith in
+    let set_to : position_at new.core b ≡ now.position = ap (λ (k : Core). position_at k b) applies.1.2 ∙ get_or-set_same c.positions b now.position None lt in
+    let next : q ≡ takes.p + 1 = stands_after tells c b takes.p takes.entry d now q takes.does (sym set_to ∙ at) in
+    let more : takes.p < length (log c.history) = slice_get_within (log c.history) takes.p takes.entry takes.there in
+    let history = ap (λ (k : Core). k.history) applies.1.2 in
+    let enabled : is_enabled c.history b ≡ true = sym (ap (λ h. is_enabled h b) history) ∙ on in
+    let stands : BackendStands c.history c.failed c.starved b (Some takes.p) = subst (BackendStands c.history c.failed c.starved b) takes.stands (w.stands b lt) in
+    let past : ended_count c.history ≤ takes.p = stands.1 enabled in
+    let one : length (log c.history) ≤ ended_count c.history + 1 = w.one_open.1 in
+    let end : q ≡ length (log c.history) = omega arith in
+    end ∙ sym (ap (λ h. length (log h)) history)
+
+-- a reason that there is
+some_reason : (t : Bool) (r : Reason) (v : ℕ) → is_some (reason_if t r v None) ≡ true → t ≡ true
+some_reason true r v some = refl
+some_reason false r v some = absurd (cc some)
+
+-- one that can't take the entry now is not enabled, or out, or has taken it
+pub not_due : (c : Core) (b : ℕ) → is_idle c.history ≡ false → is_some (not_now c (Apply b)) ≡ true → HasTakenEntry c b
+not_due c b running some q on at =
+    let last : is_some (reason_if (q == last_number c) AtEnd q None) ≡ true = rw (running, on, at) at some in
+    eqb-true q (last_number c) (some_reason (q == last_number c) AtEnd q last)
+
+-- ---- all of them
+
+-- nothing was taken yet
+pub taken_none : (w : WorldState) → EntryTaken w w
+taken_none w = record { core = refl; setup = refl; failed = []; mask = refl; faults = refl }
+
+pub taken_then : (old mid new : WorldState) → EntryTaken old mid → EntryTaken mid new → EntryTaken old new
+taken_then old mid new x y =
+    record {
+      core = y.core ∙ ap (λ (k : Core). record k { positions = new.core.positions; begun = new.core.begun; failed = new.core.failed; starved = new.core.starved }) x.core;
+      setup = y.setup ∙ x.setup;
+      failed = x.failed ++ y.failed;
+      mask = y.mask ∙ (ap (λ (m : ℕ). mask_with m y.failed) x.mask ∙ sym (fold-append with_backend old.core.failed x.failed y.failed));
+      faults =
+          y.faults
+          ∙ (ap (λ (counts : List ℕ). faults_counted counts y.failed) x.faults ∙ sym (fold-append (λ (counts : List ℕ) (k : ℕ). faults_after counts (Some k)) (faults_of old.cells) x.failed y.failed));
+    }
+
+-- The backends before i have taken the open entry.
+pub record TakenTo (old now : WorldState) (i : ℕ) : Type 0 where
+  pub taken : EntryTaken old now
+  pub at_end : (b : ℕ) → b < i → HasTakenEntry now.core b
+
+pub taken_to_none : (w : WorldState) → TakenTo w w 0
+taken_to_none w = record { taken = taken_none w; at_end = λ b lt. absurd (omega arith) }
+
+-- and so has backend i
+pub taken_to_next : (old now new : WorldState) (i : ℕ) → TakenTo old now i → EntryTaken now new → HasTakenEntry new.core i → ((k : ℕ) → k ≢ i → position_at new.core k ≡ position_at now.core k) → TakenTo old new (i + 1)
+taken_to_next old now new i to takes there others =
+    let history = ap (λ (c : Core). c.history) takes.core in
+    record {
+      taken = taken_then old now new to.taken takes;
+      at_end =
+          λ b lt.
+          ⊎_elim
+          (λ (before : b < i). λ q on at.
+          to.at_end b before q (sym (ap (λ h. is_enabled h b) history) ∙ on) (sym (others b (λ e. absurd (omega (arith, e)))) ∙ at) ∙ sym (ap (λ h. length (log h)) history))
+          (λ (last : i ≤ b). let e : i ≡ b = omega arith in subst (HasTakenEntry new.core) e there) (cases_lt b i);
+    }
+
+-- where all have, nobody lags behind
+pub taken_everywhere : (old now : WorldState) (i : ℕ) → CoreInvariant now.core → now.core.placement.backends ≤ i → TakenTo old now i → first_lagging now.core.history 0 now.core.positions ≡ None
+taken_everywhere old now i w all to =
+    all_at_end now.core.history 0 now.core.positions
+    (λ b q at on.
+    let enabled : is_enabled now.core.history b ≡ true = (let e : 0 + b ≡ b = omega arith in subst (λ (k : ℕ). is_enabled now.core.history k ≡ true) e on) in
+    let lt : b < length now.core.positions = w.hosts b enabled in
+    let cells : length now.core.positions ≡ now.core.placement.backends = w.cells in
+    to.at_end b (omega arith) q enabled at)

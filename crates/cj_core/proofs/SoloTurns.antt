@@ -1,0 +1,170 @@
+-- A session's calls over a whole world are turns of its desk.
+use Rattle.std.proofs.Common.{◌≡◌, ◌⊎◌, inl, inr, ℕ, zero, suc, ◌+◌, ◌<◌, ◌≤◌, ◌==◌, Bool, true, false, cond, List, [], ◌∷◌, ◌++◌, length, map, slice_get, Option, None, Some, Ok, Err, refl, ap, sym, ◌∙◌, subst, arith, ⊎_elim, append_assoc, length-append}
+use Rattle.std.specs.Option.{MatchOption}
+use Rattle.std.proofs.lemmas.Bool.{eq-eqb}
+use Rattle.std.proofs.lemmas.List.{append-nil}
+use Rattle.cj_model.specs.declared.request.Act.{Act}
+use Rattle.cj_model.specs.declared.request.Entry.{Entry}
+use Rattle.cj_model.specs.declared.answer.Reply.{Reply}
+use Rattle.cj_model.specs.Sql.PlainRequests.{request_of}
+use Rattle.cj_auth.specs.Admission.{admits}
+use Rattle.cj_cluster.specs.declared.event.Event.{Event}
+use Rattle.cj_cluster.specs.declared.event.Event.TheVariants.{Sched, Ended, ReadFailed}
+use Rattle.cj_cluster.specs.declared.moves.Move.TheVariants.{End}
+use Rattle.cj_cluster.specs.declared.moves.Moved.TheVariants.{Replied}
+use Rattle.cj_cluster.specs.declared.moves.MoveError.TheVariants.{NotNow}
+use Rattle.cj_cluster.specs.declared.moves.OpenSession.{OpenSession}
+use Rattle.cj_cluster.specs.declared.moves.Why.{Why}
+use Rattle.cj_cluster.specs.History.Answering.{HasServer, AnswersEntry}
+use Rattle.cj_cluster.specs.History.Histories.{log, ended_count, is_idle, is_enabled, entry_in_progress, events_left, tx_of}
+use Rattle.cj_cluster.specs.History.Legality.{FitsTx}
+use Rattle.cj_cluster.specs.History.Turns.{SessionView, Call, Turn, entry_of_call, entry_count_of, tx_after_entry}
+use Rattle.cj_cluster.specs.Moves.Cores.{Core, session_at, is_entry_of}
+use Rattle.cj_cluster.specs.Moves.Moves.{MovesTo, EndsEntry, is_open, is_waiting, not_now, first_lagging, scheduled_as, ended_for, with_end, with_one_request, with_request_counted}
+use Rattle.cj_cluster.specs.Moves.Runs.{call_of_entry, reply_given, seen_at, HasFailedSince, IsBetweenReplies}
+use Rattle.cj_cluster.specs.Proving.Invariants.{CoreInvariant}
+use Rattle.cj_cluster.proofs.Answered.{After, moves_after}
+use Rattle.cj_cluster.proofs.Between.{follows_own, follows_rest, between_follows, between_fresh, seen_sched}
+use Rattle.cj_cluster.proofs.OwnTransactions.{tx_of_own}
+use Rattle.cj_cluster.proofs.Pushed.{prefix_self, enabled-push, log-sched, log-same, opened-free, free-same, get_left, get_seam}
+use Rattle.cj_cluster.proofs.TurnCases.{entries-same, entries-sched}
+use Rattle.cj_desk.specs.DeskStates.{DeskCall, turn_taken, query_skipped, cache_counted, tx_after_write, DeskSteps, IsEntryNumber}
+use Rattle.cj_core.specs.Effects.{with_core}
+use Rattle.cj_core.specs.Worlds.{WorldState, Setup}
+use Rattle.cj_core.specs.Solos.{SoloState, SoloSteps, StandsBetweenCalls, WorldTurn, AddsEntry, EntryTaken, desk_of, mask_with}
+
+-- ---- each call steps as every desk does, and what it does besides
+
+-- between its calls no entry of the session is open
+pub stands_idle : (c : Core) (s : ℕ) → StandsBetweenCalls c s → is_waiting c s ≡ false
+stands_idle c s stands = ap (is_entry_of s) (opened-free c.history stands.idle)
+
+-- a request counted leaves all but the count of the session
+pub counted_session : (c : Core) (s : ℕ) → is_open c s ≡ true → session_at (with_request_counted c s) s ≡ with_one_request (session_at c s)
+counted_session c s here = (follows_own c (with_request_counted c s) s refl refl (prefix_self c.history) refl with_one_request (λ x. refl) refl here).session
+
+-- a turn
+pub solo_turned : (tells : Bool) (a z : SoloState) (c : Call) → z.session ≡ a.session → WorldTurn tells a.session a.world c z.world → SoloSteps tells a (turn_taken c) z
+solo_turned tells a z c session h = (
+  record {
+    placement = h.placement;
+    admits = ap (λ (s : Setup). admits s.register.accounts) h.setup;
+    session = session;
+    queries = subst (λ (s : ℕ). (session_at z.world.core s).queries ≡ (session_at a.world.core a.session).queries + 1) (sym session) h.queries;
+    number = h.number;
+    turn = subst (λ (s : ℕ). Turn tells a.world.core.placement a.session (seen_at a.world.core a.session) c (seen_at z.world.core s)) (sym session) h.turn;
+  },
+  (session, h),
+)
+
+-- a query that never reached it
+pub solo_skipped : (tells : Bool) (a z : SoloState) → is_open a.world.core a.session ≡ true → z ≡ record a { world = with_core a.world (with_request_counted a.world.core a.session) } → SoloSteps tells a query_skipped z
+solo_skipped tells a z here is =
+    let counted = counted_session a.world.core a.session here in
+    (ap desk_of is ∙ ap (λ (x : OpenSession). record (desk_of a) { seen = record { front = a.world.core.history; least = x.least }; queries = x.queries }) counted, is)
+
+-- Stats
+pub solo_counted : (tells : Bool) (a : SoloState) → SoloSteps tells a (cache_counted 0 0) a
+solo_counted tells a = (refl, (refl, (refl, refl)))
+
+-- ---- a write
+
+-- its entry is scheduled
+pub between_scheduled : (c z : Core) (s : ℕ) (e : Entry) → CoreInvariant c → StandsBetweenCalls c s → e.session ≡ s → HasServer c.placement c.history (request_of e.act) → 3 ≤ events_left c.history → z ≡ scheduled_as c s e
+    → IsBetweenReplies (seen_at c s) z s
+between_scheduled c z s e w stands own served space is =
+    let idle : is_entry_of s (entry_in_progress c.history) ≡ false = stands_idle c s stands in
+    between_follows (seen_at c s) c z (c.history ++ Sched e ∷ []) s (with_one_request (session_at c s)) (between_fresh c s w idle stands.no_read)
+    (follows_own c z s is refl (Sched e ∷ [], refl) refl with_one_request (λ x. refl) refl stands.here)
+    (λ q. seen_sched c.placement (seen_at c s) c.history s (session_at c s) q e (with_one_request (session_at c s)) stands.idle own served space (prefix_self c.history) refl stands.no_read)
+
+-- backends take it
+pub between_taken : (a : SessionView) (old mid : WorldState) (s : ℕ) (user : List ℕ) → EntryTaken user old mid → IsBetweenReplies a old.core s → IsBetweenReplies a mid.core s
+between_taken a old mid s user t j =
+    between_follows a old.core mid.core old.core.history s (session_at old.core s) j (follows_rest old.core mid.core s t.core refl (prefix_self old.core.history) refl refl) (λ x. x)
+
+-- and it ends, which is the turn
+pub turn_ended : (tells : Bool) (a : SessionView) (c z : Core) (s : ℕ) (e : Entry) (reply : Reply) → 0 < s → CoreInvariant c → CoreInvariant z → IsBetweenReplies a c s → is_idle c.history ≡ false
+    → first_lagging c.history 0 c.positions ≡ None → entry_in_progress c.history ≡ Some e → e.session ≡ s → AnswersEntry tells c.placement c.history (with_end c) (ended_count c.history) e reply → z ≡ ended_for c s
+    → Turn tells c.placement s a (call_of_entry (Some e) reply) (seen_at z s)
+turn_ended tells a c z s e reply some w v j running everywhere is own answer after =
+    let now : not_now c End ≡ None = rw (running, everywhere) refl in
+    let ends : MovesTo tells c End (Ok (Replied s reply)) z =
+    subst (λ (o : Option Why). MatchOption o (EndsEntry tells c (Ok (Replied s reply)) z) (λ (why : Why). (Ok (Replied s reply) ≡ Err (NotNow why)) × (z ≡ c))) (sym now) (e, is, sym own, answer, after)
+    in
+    let given : reply_given c s End (Ok (Replied s reply)) ≡ Some reply = rw (eq-eqb s s refl) refl in
+    let left : After tells a c s End z (Some reply) = subst (After tells a c s End z) given (moves_after tells a c z s some w v j End (Ok (Replied s reply)) ends) in
+    subst (λ (o : Option Entry). Turn tells c.placement s a (call_of_entry o reply) (seen_at z s)) is left.0
+
+-- what the history is then
+module _ (s : ℕ) (h g : List Event) (e : Entry) (failed starved : ℕ) (own : e.session ≡ s) (is : g ≡ h ++ Sched e ∷ Ended failed starved ∷ []) where
+  pub log_ended : log g ≡ log h ++ e ∷ []
+  log_ended = ap log (is ∙ sym (append_assoc h (Sched e ∷ []) (Ended failed starved ∷ []))) ∙ (log-same (h ++ Sched e ∷ []) (Ended failed starved) refl ∙ log-sched h e)
+
+  -- the entry is the log's next
+  pub entry_there : slice_get (log g) (length (log h)) ≡ Some e
+  entry_there = ap (λ (l : List Entry). slice_get l (length (log h))) log_ended ∙ get_seam (log h) [] e
+
+  -- the session has one entry more
+  pub one_more_entry : entry_count_of s g ≡ entry_count_of s h + 1
+  one_more_entry = entries-same s (h ++ Sched e ∷ []) g (log_ended ∙ sym (log-sched h e)) ∙ (entries-sched s h e ∙ ap (λ (t : Bool). entry_count_of s h + cond t 1 0) (eq-eqb e.session s own))
+
+  -- and is in the transaction that it leaves it in
+  pub tx_ended : FitsTx (tx_of (log h) s) e.tx e.act → tx_of (log g) s ≡ tx_after_entry (length (log h) + 1) (tx_of (log h) s) e.act
+  tx_ended fits =
+      subst (λ (k : ℕ). FitsTx (tx_of (log h) k) e.tx e.act → tx_of (log g) k ≡ tx_after_entry (length (log h) + 1) (tx_of (log h) k) e.act) own
+      (λ f. ap (λ (l : List Entry). tx_of l e.session) log_ended ∙ tx_of_own (log h) e f) fits
+
+-- ---- a read
+
+-- the failures of a read of session s leave what each one of them leaves
+pub failures_keep : {T : Type 0} (part : List Event → T) (s q : ℕ) → ((h : List Event) (b : ℕ) → part (h ++ ReadFailed s q b ∷ []) ≡ part h) → (h : List Event) (failed : List ℕ) → part (h ++ map (ReadFailed s q) failed) ≡ part h
+failures_keep part s q each h [] = ap part (append-nil h)
+failures_keep part s q each h (b ∷ failed) =
+    ap part (sym (append_assoc h (ReadFailed s q b ∷ []) (map (ReadFailed s q) failed))) ∙ (failures_keep part s q each (h ++ ReadFailed s q b ∷ []) failed ∙ each h b)
+
+-- the log
+pub log_failures : (s q : ℕ) (h : List Event) (failed : List ℕ) → log (h ++ map (ReadFailed s q) failed) ≡ log h
+log_failures s q h failed = failures_keep log s q (λ g b. log-same g (ReadFailed s q b) refl) h failed
+
+-- whether an entry is open
+pub idle_failures : (s q : ℕ) (h : List Event) (failed : List ℕ) → is_idle (h ++ map (ReadFailed s q) failed) ≡ is_idle h
+idle_failures s q h failed = failures_keep is_idle s q (λ g b. free-same g (ReadFailed s q b) refl refl) h failed
+
+-- which backends are enabled
+pub enabled_failures : (s q : ℕ) (h : List Event) (failed : List ℕ) (k : ℕ) → is_enabled (h ++ map (ReadFailed s q) failed) k ≡ is_enabled h k
+enabled_failures s q h failed k = failures_keep (λ (g : List Event). is_enabled g k) s q (λ g b. enabled-push g (ReadFailed s q b) k) h failed
+
+-- what failed has failed after one more failure
+pub failed_before : (front h : List Event) (s q b k : ℕ) → HasFailedSince front h s q k → HasFailedSince front (h ++ ReadFailed s q b ∷ []) s q k
+failed_before front h s q b k x =
+    let high : x.k < length h = x.high in
+    let many : length (h ++ ReadFailed s q b ∷ []) ≡ length h + 1 = length-append h (ReadFailed s q b ∷ []) in
+    record { k = x.k; low = x.low; high = omega arith; is = get_left h (ReadFailed s q b ∷ []) x.k (ReadFailed s q k) x.is }
+
+-- and so has the one that failed now
+pub failed_now : (front h : List Event) (s q b : ℕ) → length front ≤ length h → HasFailedSince front (h ++ ReadFailed s q b ∷ []) s q b
+failed_now front h s q b low =
+    let many : length (h ++ ReadFailed s q b ∷ []) ≡ length h + 1 = length-append h (ReadFailed s q b ∷ []) in
+    record { k = length h; low = low; high = omega arith; is = get_seam h [] (ReadFailed s q b) }
+
+-- ---- what a desk says of a write
+
+-- the transaction that the session is in then
+pub tx_after_adding : (s number : ℕ) (c : Call) (act : Act) (failed : List ℕ) (h g : List Event) → FitsTx (tx_of (log h) s) c.tx act → AddsEntry number s c act failed h g → tx_of (log g) s ≡ tx_after_write number act (tx_of (log h) s)
+tx_after_adding s zero c act failed h g fits adds = ap (λ (x : List Event). tx_of (log x) s) adds.0
+tx_after_adding s (suc n) c act failed h g fits adds =
+    let next : length (log h) + 1 ≡ suc n = (let same = adds.0 in omega (arith, same)) in
+    tx_ended s h g (entry_of_call s c act) (mask_with 0 failed) adds.1.0 refl adds.1.1 fits ∙ ap (λ (k : ℕ). tx_after_entry k (tx_of (log h) s) act) next
+
+-- and the number of its entry
+pub number_added : (a z : SoloState) (number : ℕ) (c : Call) (act : Act) (failed : List ℕ) → z.session ≡ a.session → AddsEntry number a.session c act failed a.world.core.history z.world.core.history
+    → IsEntryNumber number act (desk_of a) c (desk_of z)
+number_added a z zero c act failed session adds = ap (entry_count_of a.session) adds.0
+number_added a z (suc n) c act failed session adds =
+    let e : Entry = entry_of_call a.session c act in
+    let h : List Event = a.world.core.history in
+    let g : List Event = z.world.core.history in (
+      subst (λ (k : ℕ). slice_get (log g) k ≡ Some e) (sym adds.0) (entry_there a.session h g e (mask_with 0 failed) adds.1.0 refl adds.1.1),
+      one_more_entry a.session h g e (mask_with 0 failed) adds.1.0 refl adds.1.1,
+    )

@@ -1,0 +1,191 @@
+-- A session's write over a whole world, from its entry to the end of that.
+use Rattle.std.proofs.Common.{◌≡◌, ◌⊎◌, ℕ, suc, ◌+◌, ◌<◌, ◌≤◌, Bool, true, false, List, [], ◌∷◌, ◌++◌, length, Option, None, Some, Ok, Err, refl, ap, sym, ◌∙◌, subst, ⊎_elim, append_assoc}
+use Rattle.cj_model.specs.declared.request.Act.{Act}
+use Rattle.cj_model.specs.declared.request.Entry.{Entry}
+use Rattle.cj_model.specs.declared.answer.Refusal.{Refusal}
+use Rattle.cj_model.specs.declared.answer.Reply.{Reply}
+use Rattle.cj_model.specs.declared.answer.Reply.TheVariants.{Refused}
+use Rattle.cj_model.specs.declared.codes.TheConstants.{NO_BACKEND, NO_MEMORY}
+use Rattle.cj_model.specs.Database.Inserts.{refusal_of_code}
+use Rattle.cj_model.specs.Cluster.Placements.{Placement}
+use Rattle.cj_model.specs.Sql.PlainRequests.{act_of, request_of}
+use Rattle.cj_cluster.specs.declared.event.Event.{Event}
+use Rattle.cj_cluster.specs.declared.event.Event.TheVariants.{Sched, Ended}
+use Rattle.cj_cluster.specs.declared.moves.OpenSession.{OpenSession}
+use Rattle.cj_cluster.specs.History.Histories.{log, is_idle, entry_in_progress, events_left}
+use Rattle.cj_cluster.specs.History.Answering.{HasServer, HasNoServer}
+use Rattle.cj_cluster.specs.History.Legality.{FitsTx}
+use Rattle.cj_cluster.specs.History.Turns.{SessionView, Call, HasNoRoomFor, Turn, TurnCase, entry_of_call, scheduled, no_backend, read, read_fault, log_fault, full, starved}
+use Rattle.cj_cluster.specs.Moves.Cores.{Core, session_at}
+use Rattle.cj_cluster.specs.Moves.Moves.{is_open, history_full, open_tx, scheduled_as, with_request_counted, ended_for, with_one_request, answered_at, last_number}
+use Rattle.cj_cluster.specs.Moves.Runs.{seen_at}
+use Rattle.cj_cluster.specs.Proving.Invariants.{CoreInvariant}
+use Rattle.cj_cluster.proofs.Between.{follows_own, follows_rest, session_owes}
+use Rattle.cj_cluster.proofs.OwnTransactions.{own_tx}
+use Rattle.cj_cluster.proofs.Pushed.{prefix_self, free-ended, free-sched, opened-sched}
+use Rattle.cj_cluster.proofs.Sessions.{is_open-with}
+use Rattle.cj_cluster.proofs.Standing.{open_above}
+use Rattle.cj_cluster.proofs.TurnCases.{Rests, act_of_request, turn_unserved, turn_full, turn_starved}
+use Rattle.cj_core.specs.Counting.{faults_of}
+use Rattle.cj_core.specs.Effects.{SchedulesAs, with_core}
+use Rattle.cj_core.specs.Solos.{StandsBetweenCalls, EntryEnded, WorldTurn, AddsEntry, AddsOwnEvents, IsReadAtEnd, SchedulesOrRefuses, call_of, own_entry, faults_counted, mask_with}
+use Rattle.cj_core.specs.Worlds.{WorldState}
+use Rattle.cj_core.proofs.SoloTurns.{between_scheduled, between_taken, turn_ended}
+
+-- a turn of another request than a query reads nothing
+pub reads_nothing : {tells : Bool} {p : Placement} {s : ℕ} {a : SessionView} {c : Call} {z : SessionView} (act : Act) → act_of c.request ≡ Some act → (case : TurnCase tells p s a c z) → IsReadAtEnd case
+reads_nothing act is (scheduled x) = tt
+reads_nothing act is (no_backend x) = tt
+reads_nothing {c = c} act is (read x) = let none : act_of c.request ≡ None = ap act_of x.is in absurd (cc (none, is))
+reads_nothing act is (read_fault x) = tt
+reads_nothing act is (log_fault x) = tt
+reads_nothing act is (full x) = tt
+reads_nothing act is (starved x) = tt
+
+-- From `old` the entry was scheduled, which led to `begun`, and from there it ended.
+module _ (tells : Bool) (s tx : ℕ) (user : List ℕ) (act : Act) (reply : Reply) (old begun new : WorldState) (n : ℕ) (w : CoreInvariant old.core) (stands : StandsBetweenCalls old.core s) (ended : EntryEnded tells s begun reply new) where
+  call : Call
+  call = call_of old.core s tx user (request_of act) reply
+
+  entry : Entry
+  entry = entry_of_call s call act
+
+  module _ (did : SchedulesAs old.core entry (Ok n)) (after : begun ≡ with_core old (scheduled_as old.core s entry)) where
+    begun_core : begun.core ≡ scheduled_as old.core s entry
+    begun_core = ap (λ (x : WorldState). x.core) after
+
+    new_core : new.core ≡ ended_for ended.mid.core s
+    new_core = ap (λ (x : WorldState). x.core) ended.ended
+
+    placed : ended.mid.core.placement ≡ old.core.placement
+    placed = ap (λ (c : Core). c.placement) ended.taken.core ∙ ap (λ (c : Core). c.placement) begun_core
+
+    -- the history from the entry to its end
+    mid_history : ended.mid.core.history ≡ old.core.history ++ Sched entry ∷ []
+    mid_history = ap (λ (c : Core). c.history) ended.taken.core ∙ ap (λ (c : Core). c.history) begun_core
+
+    running : is_idle ended.mid.core.history ≡ false
+    running = ap is_idle mid_history ∙ free-sched old.core.history entry stands.idle
+
+    in_progress : entry_in_progress ended.mid.core.history ≡ Some entry
+    in_progress = ap entry_in_progress mid_history ∙ opened-sched old.core.history entry stands.idle
+
+    -- the session, as it stands then
+    mid_open : is_open ended.mid.core s ≡ true
+    mid_open =
+        subst (λ (c : Core). is_open c s ≡ true) (sym ended.taken.core)
+        (subst (λ (c : Core). is_open c s ≡ true) (sym begun_core) (is_open-with with_one_request (λ x. refl) old.core.sessions s s ∙ stands.here))
+
+    mid_session : session_at ended.mid.core s ≡ with_one_request (session_at old.core s)
+    mid_session =
+        (follows_rest begun.core ended.mid.core s ended.taken.core refl (prefix_self begun.core.history) refl refl).session
+        ∙ (follows_own old.core begun.core s begun_core refl (Sched entry ∷ [], refl) refl with_one_request (λ x. refl) refl stands.here).session
+
+    new_session_is : session_at new.core s ≡ answered_at (last_number ended.mid.core) (with_one_request (session_at old.core s))
+    new_session_is =
+        (follows_own ended.mid.core new.core s new_core refl (Ended ended.mid.core.failed ended.mid.core.starved ∷ [], refl) refl (answered_at (last_number ended.mid.core)) (λ x. refl) refl mid_open).session
+        ∙ ap (answered_at (last_number ended.mid.core)) mid_session
+
+    still_stands : StandsBetweenCalls new.core s
+    still_stands =
+        let one = ended.was_sound.one_open in
+        record {
+          idle = ap (λ (c : Core). is_idle c.history) new_core ∙ free-ended ended.mid.core.history ended.mid.core.failed ended.mid.core.starved running one.0 one.1;
+          here =
+              subst (λ (c : Core). is_open c s ≡ true) (sym new_core)
+              (is_open-with (answered_at (last_number ended.mid.core)) (λ x. refl) ended.mid.core.sessions s s ∙ mid_open);
+          no_read = ap (λ (x : OpenSession). x.reading) new_session_is ∙ stands.no_read;
+        }
+
+    turn : Turn tells old.core.placement s (seen_at old.core s) call (seen_at new.core s)
+    turn =
+        subst (λ (p : Placement). Turn tells p s (seen_at old.core s) call (seen_at new.core s)) placed
+        (turn_ended tells (seen_at old.core s) ended.mid.core new.core s entry reply (open_above old.core s w stands.here) ended.was_sound ended.is_sound
+        (between_taken (seen_at old.core s) begun ended.mid s ended.taken (between_scheduled old.core begun.core s entry w stands refl did.1 did.2 begun_core)) running ended.everywhere in_progress refl (ended.answer entry in_progress) new_core)
+
+    -- the masks begin empty
+    failed_mask : ended.mid.core.failed ≡ mask_with 0 ended.taken.failed
+    failed_mask = ended.taken.mask ∙ ap (λ (c : Core). mask_with c.failed ended.taken.failed) begun_core
+
+    pub entry_added : AddsEntry (suc (length (log old.core.history))) s call act ended.taken.failed old.core.history new.core.history
+    entry_added = (
+      refl,
+      ended.mid.core.starved,
+      ap (λ (c : Core). c.history) new_core
+          ∙ (ap (λ (h : List Event). h ++ Ended ended.mid.core.failed ended.mid.core.starved ∷ []) mid_history
+          ∙ (append_assoc old.core.history (Sched entry ∷ []) (Ended ended.mid.core.failed ended.mid.core.starved ∷ [])
+          ∙ ap (λ (m : ℕ). old.core.history ++ Sched entry ∷ Ended m ended.mid.core.starved ∷ []) failed_mask)),
+    )
+
+    pub wrote : WorldTurn tells s old call new
+    wrote =
+        record {
+          placement = ap (λ (c : Core). c.placement) new_core ∙ placed;
+          setup = ap (λ (x : WorldState). x.setup) ended.ended ∙ (ended.taken.setup ∙ ap (λ (x : WorldState). x.setup) after);
+          number = refl;
+          queries = ap (λ (x : OpenSession). x.queries) new_session_is;
+          turn = turn;
+          at_end = reads_nothing act (act_of_request act) turn.case;
+          stands = still_stands;
+          failed = ended.taken.failed;
+          events =
+              subst (λ (o : Option Act). AddsOwnEvents s call o ended.taken.failed old.core.history new.core.history) (sym (act_of_request act))
+              (suc (length (log old.core.history)), entry_added);
+          faults = ap (λ (x : WorldState). faults_of x.cells) ended.ended ∙ (ended.taken.faults ∙ ap (λ (x : WorldState). faults_counted (faults_of x.cells) ended.taken.failed) after);
+        }
+
+-- Nothing was scheduled, and the session counted its request.
+module _ (tells : Bool) (s tx : ℕ) (user : List ℕ) (act : Act) (old new : WorldState) (refusal : Refusal) (w : CoreInvariant old.core) (stands : StandsBetweenCalls old.core s) (fits : FitsTx (open_tx old.core s) tx act)
+    (why : SchedulesOrRefuses old.core (own_entry old.core s tx user act) (Err refusal)) (after : new ≡ with_core old (with_request_counted old.core s)) where
+  refusing : Call
+  refusing = call_of old.core s tx user (request_of act) (Refused refusal)
+
+  refused_core : new.core ≡ with_request_counted old.core s
+  refused_core = ap (λ (x : WorldState). x.core) after
+
+  refused_session : session_at new.core s ≡ with_one_request (session_at old.core s)
+  refused_session = (follows_own old.core new.core s refused_core refl (prefix_self old.core.history) refl with_one_request (λ x. refl) refl stands.here).session
+
+  -- the session has seen all that there is
+  nothing_more : Rests s (seen_at old.core s) old.core.history
+  nothing_more = record { entries = refl; tx = refl; log_faults = λ q. refl }
+
+  refused_turn : Turn tells old.core.placement s (seen_at old.core s) refusing (seen_at old.core s)
+  refused_turn =
+      let own : (tx ≡ 0) ⊎ (tx ≡ open_tx old.core s) = own_tx (open_tx old.core s) tx act fits in
+      let owes = session_owes old.core s w in
+      let whole = prefix_self old.core.history in
+      ⊎_elim
+      (λ (none : HasNoServer old.core.placement old.core.history (request_of act) × (refusal ≡ refusal_of_code NO_BACKEND)).
+      turn_unserved tells old.core.placement s (seen_at old.core s) old.core.history w.legal whole owes nothing_more refusing own (ap (λ r. Refused r) none.1) none.0)
+      (⊎_elim
+      (λ (full : HasServer old.core.placement old.core.history (request_of act) × (events_left old.core.history < 3) × (refusal ≡ history_full old.core)).
+      turn_full tells old.core.placement s (seen_at old.core s) old.core.history w.legal whole owes nothing_more refusing own (ap (λ r. Refused r) full.2) full.0
+      (subst (HasNoRoomFor old.core.history) (sym (act_of_request act)) (stands.idle, full.1)))
+      (λ (want : refusal ≡ refusal_of_code NO_MEMORY).
+      turn_starved tells old.core.placement s (seen_at old.core s) old.core.history w.legal whole owes nothing_more refusing own (ap (λ r. Refused r) want)))
+      why
+
+  pub refused : WorldTurn tells s old refusing new
+  refused =
+      let seen : seen_at old.core s ≡ seen_at new.core s =
+      sym (ap (λ (c : Core). record { front = c.history; least = (session_at new.core s).least }) refused_core ∙ ap (λ (x : OpenSession). record { front = old.core.history; least = x.least }) refused_session)
+      in
+      let turn : Turn tells old.core.placement s (seen_at old.core s) refusing (seen_at new.core s) = subst (Turn tells old.core.placement s (seen_at old.core s) refusing) seen refused_turn in
+      record {
+        placement = ap (λ (c : Core). c.placement) refused_core;
+        setup = ap (λ (x : WorldState). x.setup) after;
+        number = refl;
+        queries = ap (λ (x : OpenSession). x.queries) refused_session;
+        turn = turn;
+        at_end = reads_nothing act (act_of_request act) turn.case;
+        stands =
+            record {
+              idle = ap (λ (c : Core). is_idle c.history) refused_core ∙ stands.idle;
+              here = subst (λ (c : Core). is_open c s ≡ true) (sym refused_core) (is_open-with with_one_request (λ x. refl) old.core.sessions s s ∙ stands.here);
+              no_read = ap (λ (x : OpenSession). x.reading) refused_session ∙ stands.no_read;
+            };
+        failed = [];
+        events = subst (λ (o : Option Act). AddsOwnEvents s refusing o [] old.core.history new.core.history) (sym (act_of_request act)) (0, ap (λ (c : Core). c.history) refused_core, refl);
+        faults = ap (λ (x : WorldState). faults_of x.cells) after;
+      }
