@@ -4,6 +4,7 @@
 //! it would pass the most bytes of a store; it then changes nothing, and counts one fault, up to 2^64 - 1 of them.
 
 ghost use Rattle.std.specs.Prelude.{◌≡◌, ◌+◌, ◌-◌, ◌<◌, ◌≤◌, min, true, false, List, ℕ, length, drop, IfOk, OnOk, OnErr, IsErr, IsErrOf};
+ghost use Rattle.std.specs.Io.{ReadsAtMost};
 ghost use Rattle.cj_outside.specs.Causes.{CountsFault};
 ghost use Rattle.cj_outside.specs.Memory.{FailsAsListed, FailsAsListedOr};
 ghost use Rattle.cj_outside.specs.Streams.{most};
@@ -111,7 +112,7 @@ impl Store for MemStore {
 
     /// Reads as many bytes as are left and fit, or fails where the call is listed.
     fn read_at(&mut self, at: u64, buf: &mut [u8]) -> Result<usize, Failed>
-        ensures bound { IfOk result (λ count. count ≤ length buf.new) }
+        ensures bound { ReadsAtMost result buf.new }
         ensures read { true ≡ true → IfOk result (λ count. ReadsAt self.old.bytes at buf.new count) }
         ensures bytes { true ≡ true → self.new.bytes ≡ self.old.bytes }
         ensures cause { CountsFault (IsErr result) self.old.faults self.new.faults }

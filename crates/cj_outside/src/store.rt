@@ -1,6 +1,7 @@
 //! Bytes that are read and written at any place.
 
 ghost use Rattle.std.specs.Prelude.{◌≡◌, ◌↔◌, ◌+◌, ◌<◌, ◌≤◌, ℕ, Bool, true, List, length, IfOk, OnOk, IsErr, IsErrOf, IsTrue};
+ghost use Rattle.std.specs.Io.{ReadsAtMost};
 ghost use Rattle.cj_outside.specs.Causes.{CountsFault};
 ghost use Rattle.cj_outside.specs.Streams.{most};
 ghost use Rattle.cj_outside.specs.Stores.{Stays, Steps};
@@ -54,7 +55,7 @@ pub trait Store {
     ///
     /// 0 with room in `buf` is the end, and comes exactly where no byte stands at `at`, if the object tells.
     fn read_at(&mut self, at: u64, buf: &mut [u8]) -> Result<usize, Failed>
-        ensures bound { IfOk result (λ count. count ≤ length buf.new) }
+        ensures bound { ReadsAtMost result buf.new }
         ensures read { TELLS ≡ true → IfOk result (λ count. ReadsAt (held self.old) at buf.new count) }
         ensures bytes { TELLS ≡ true → held self.new ≡ held self.old }
         ensures cause { CountsFault (IsErr result) (faults self.old) (faults self.new) }
