@@ -1,8 +1,12 @@
-//! What a program takes from its host: the standard streams as a source and sinks, and the words of its command.
+//! What a program takes from its host: the standard streams as a source and sinks, files as stores, the clock, and the words of its command.
 #![tactic(auto)]
 
 mod adapters;
 mod command;
+mod file_store;
+mod system_clock;
 
 pub use adapters::{StdSink, StdSource};
 pub use command::{WordsError, words};
+pub use file_store::FileStore;
+pub use system_clock::SystemClock;

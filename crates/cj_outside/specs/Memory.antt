@@ -1,5 +1,5 @@
--- What contracts see of a source and a sink in memory.
-use Rattle.std.specs.Prelude.{ℕ, List, Result, Contains, ◌↔◌, ◌≡◌}
+-- What contracts see of a source, a sink and a store in memory.
+use Rattle.std.specs.Prelude.{ℕ, List, Result, Contains, ◌↔◌, ◌≡◌, ◌⊎◌}
 use Rattle.cj_outside.specs.Causes.{next}
 
 -- the bytes left or held, the numbers of the calls that are to fail, the calls so far and the faults so far
@@ -14,3 +14,9 @@ pub record FailsAsListed {T E : Type 0} (IsFault : Result T E → Type 0) (old n
   pub list : new.fails ≡ old.fails
   pub number : new.calls ≡ next old.calls
   pub listed : IsFault result ↔ Contains old.fails new.calls
+
+-- the same of a call that fails too where it would pass a limit
+pub record FailsAsListedOr {T E : Type 0} (Passes : Type 0) (IsFault : Result T E → Type 0) (old new : State) (result : Result T E) : Type 0 where
+  pub list : new.fails ≡ old.fails
+  pub number : new.calls ≡ next old.calls
+  pub listed : IsFault result ↔ Contains old.fails new.calls ⊎ Passes

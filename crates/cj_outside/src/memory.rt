@@ -3,7 +3,7 @@
 //! Calls of `take` and of `put` are numbered from 1, up to 2^64 - 1, where the number stays. A call answers `Failed` exactly
 //! where its number is listed; it then moves no byte, and counts one fault, up to 2^64 - 1 of them.
 
-ghost use Rattle.std.specs.Prelude.{◌≡◌, ◌↔◌, ◌≤◌, ◌+◌, ◌++◌, min, Some, IfOk, IsErr, IsErrOf, IsTrue, Contains, take, drop, length};
+ghost use Rattle.std.specs.Prelude.{◌≡◌, ◌↔◌, ◌⊎◌, ◌≤◌, ◌+◌, ◌++◌, min, Some, IfOk, IsErr, IsErrOf, IsTrue, Contains, take, drop, length};
 ghost use Rattle.std.specs.Io.{ReadsAtMost, WritesAtMost};
 ghost use Rattle.std.specs.Io.KnownBytes.{ReadConsumes, WriteAppends};
 ghost use Rattle.cj_outside.specs.Bytes.{TakesSome, TellsEnd};
@@ -16,16 +16,16 @@ use std::marker::Model;
 
 /// Which calls are to fail, how many there were, and how many of them failed.
 #[derive(Drop)]
-struct Schedule {
-    fails: Vec<u64>,
-    calls: u64,
-    faults: u64,
+pub(crate) struct Schedule {
+    pub(crate) fails: Vec<u64>,
+    pub(crate) calls: u64,
+    pub(crate) faults: u64,
 }
 
 impl Schedule {
     ghost use Rattle.cj_outside.specs.Causes.{next};
 
-    fn new(fails: Vec<u64>) -> Self
+    pub(crate) fn new(fails: Vec<u64>) -> Self
         ensures { result ≡ record { fails = fails; calls = 0; faults = 0 } }
     {
         Schedule {
@@ -36,14 +36,24 @@ impl Schedule {
     }
 
     /// Numbers the next call and answers whether it fails, which it counts.
-    fn fails_next(&mut self) -> bool
+    pub(crate) fn fails_next(&mut self) -> bool
         ensures list { self.new.fails ≡ self.old.fails }
         ensures number { self.new.calls ≡ next self.old.calls }
         ensures listed { IsTrue result ↔ Contains self.old.fails.items self.new.calls }
         ensures counted { CountsFault (IsTrue result) self.old.faults self.new.faults }
     {
+        self.fails_next_or(false)
+    }
+
+    /// The same of a call that fails too where it `passes` a limit.
+    pub(crate) fn fails_next_or(&mut self, passes: bool) -> bool
+        ensures list { self.new.fails ≡ self.old.fails }
+        ensures number { self.new.calls ≡ next self.old.calls }
+        ensures listed { IsTrue result ↔ Contains self.old.fails.items self.new.calls ⊎ IsTrue passes }
+        ensures counted { CountsFault (IsTrue result) self.old.faults self.new.faults }
+    {
         self.calls = self.calls.saturating_add(1);
-        let fails = self.fails.contains(&self.calls);
+        let fails = passes || self.fails.contains(&self.calls);
         if fails {
             self.faults = self.faults.saturating_add(1);
         }
@@ -52,7 +62,7 @@ impl Schedule {
 }
 
 /// Copies as many bytes of `content` from `at` on as fit into the front of `buf`, and answers how many.
-fn fill(buf: &mut [u8], content: &[u8], at: usize) -> usize
+pub(crate) fn fill(buf: &mut [u8], content: &[u8], at: usize) -> usize
     requires { at ≤ length content.now }
     ensures count { result ≡ min (length (drop at content.now)) (length buf.old) }
     ensures moved { drop at content.now ≡ take result buf.new ++ drop (at + result) content.now }
