@@ -1,0 +1,7 @@
+//! Audits: lines that say what backends hold.
+#![tactic(auto)]
+
+mod pieces;
+mod rows;
+
+
