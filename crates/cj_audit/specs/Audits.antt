@@ -28,10 +28,12 @@ row_text = separated literal
 abbrev pub row_lines : List (List Value) → List ℕ
 row_lines = flat_map (λ row. with_line_feed (row_text row))
 
--- the names of the backend and the table, the state in which the table stands there, how many rows it has, and then the rows
+-- the names of the backend and the table, the state in which the table stands there, and how many rows it has
+abbrev pub table_head : List ℕ → List ℕ → Table → List ℕ
+table_head name state t = words (name ∷ t.schema.table ∷ state ∷ decimal (length t.rows) ∷ [])
+
 abbrev pub table_lines : List ℕ → List ℕ → Table → List ℕ
-table_lines name state t =
-    with_line_feed (words (name ∷ t.schema.table ∷ state ∷ decimal (length t.rows) ∷ [])) ++ row_lines t.rows
+table_lines name state t = with_line_feed (table_head name state t) ++ row_lines t.rows
 
 -- what transaction tx has made of a table is its draft
 abbrev pub draft_state : ℕ → List ℕ

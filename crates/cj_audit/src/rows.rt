@@ -35,7 +35,7 @@ fn append_row(text: &mut Vec<u8>, values: &[Value]) -> Result<(), NoMemory>
 }
 
 /// Adds a line for each of the rows.
-fn append_rows(text: &mut Vec<u8>, rows: &[Row]) -> Result<(), NoMemory>
+pub fn append_rows(text: &mut Vec<u8>, rows: &[Row]) -> Result<(), NoMemory>
     ensures ok { OnOk result (text.new.items ≡ text.old.items ++ row_lines rows.now) }
     ensures text { OnOk result (StaysText text.old.items text.new.items) }
 {
