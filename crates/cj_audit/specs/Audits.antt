@@ -1,15 +1,17 @@
 -- Audits: the lines that say what a backend holds.
-use Rattle.std.specs.Prelude.{ℕ, List, [], ◌∷◌, ◌++◌, length, codes}
+use Rattle.std.specs.Prelude.{ℕ, ◌<◌, ◌^◌, List, [], ◌∷◌, ◌++◌, length, codes, All, IfSome, FitsSigned}
+use Rattle.std.specs.Int.{w64}
 use Rattle.std.specs.declared.option.Option.{Option}
 use Rattle.std.specs.declared.option.Option.TheVariants.{None, Some}
 use Rattle.std.specs.List.{join_with_byte, flat_map}
 use Rattle.std.specs.Fmt.{decimal}
 use Rattle.cj_model.specs.declared.value.Value.{Value}
+use Rattle.cj_model.specs.declared.value.Value.TheVariants as value
 use Rattle.cj_model.specs.declared.database.Table.{Table}
 use Rattle.cj_model.specs.declared.database.Draft.{Draft}
 use Rattle.cj_model.specs.declared.database.Slot.{Slot}
 use Rattle.cj_model.specs.Sql.Literals.{literal}
-use Rattle.cj_model.specs.Sql.Names.{IsText}
+use Rattle.cj_model.specs.Sql.Names.{IsNameOrEmpty, IsText}
 use Rattle.cj_print.specs.Canonical.{separated}
 
 -- these words, with one space between each two
@@ -51,6 +53,27 @@ slot_lines name s = table_lines name (codes "base") s.base ++ draft_lines name s
 abbrev pub backend_lines : List ℕ → List Slot → List ℕ
 backend_lines name database = flat_map (slot_lines name) database
 
+-- ---- an audit is a text
+
 -- what was a text is still one
 abbrev pub StaysText : List ℕ → List ℕ → Type 0
 StaysText old new = IsText old → IsText new
+
+-- a number of 64 bits with a sign, or a text, as the type of values has it
+abbrev pub IsTypedValue : Value → Type 0
+IsTypedValue (value.Int n) = FitsSigned w64 n
+IsTypedValue (value.Text t) = IsText t
+
+-- a name and such values, and as many rows as 64 bits can count
+pub record IsTypedTable (t : Table) : Type 0 where
+  pub name : IsNameOrEmpty t.schema.table
+  pub count : length t.rows < 2 ^ 64
+  pub values : All (λ row. All IsTypedValue row) t.rows
+
+pub record IsTypedSlot (s : Slot) : Type 0 where
+  pub base : IsTypedTable s.base
+  pub draft : IfSome s.draft (λ (d : Draft). (d.tx < 2 ^ 64) × IsTypedTable d.table)
+
+-- what an audit says of a backend is a text, as the backend's name and all that it holds are of their types
+abbrev pub AuditsAreTexts : Type 0
+AuditsAreTexts = (name : List ℕ) (database : List Slot) → IsNameOrEmpty name → All IsTypedSlot database → IsText (backend_lines name database)

@@ -2,8 +2,10 @@
 #![tactic(auto)]
 
 mod backend;
+mod laws;
 mod pieces;
 mod rows;
 mod tables;
 
 pub use backend::{append_backend, into_text};
+pub use laws::audits_are_texts;

@@ -11,12 +11,7 @@ use cj_model::{Draft, Name, NoMemory, Slot, Table};
 use std::alloc::Global;
 
 /// Adds the words that the line above a table's rows has, without its LF.
-fn append_head(
-    text: &mut Vec<u8>,
-    name: &Name,
-    state: &[u8],
-    table: &Table,
-) -> Result<(), NoMemory>
+fn append_head(text: &mut Vec<u8>, name: &Name, state: &[u8], table: &Table) -> Result<(), NoMemory>
     requires { IsText state.now }
     ensures ok { OnOk result (text.new.items ≡ text.old.items ++ table_head name.now state.now table.now) }
     ensures text { OnOk result (StaysText text.old.items text.new.items) }
