@@ -12,7 +12,8 @@ use Rattle.cj_model.specs.declared.database.Draft.{Draft}
 use Rattle.cj_model.specs.declared.database.Slot.{Slot}
 use Rattle.cj_model.specs.Sql.Literals.{literal}
 use Rattle.cj_model.specs.Sql.Names.{IsText}
-use Rattle.cj_print.proofs.Texts.{ascii_text, count_text, empty_text, joined_text, name_text, number_text, quoted_text}
+pub use Rattle.cj_print.proofs.Texts.{empty_text}
+use Rattle.cj_print.proofs.Texts.{ascii_text, count_text, joined_text, name_text, number_text, quoted_text}
 use Rattle.cj_audit.specs.Audits.{AuditsAreTexts, IsTypedSlot, IsTypedTable, IsTypedValue, draft_lines, draft_state, row_lines, row_text, slot_lines, table_head, table_lines, with_line_feed}
 
 -- the texts of items one after another are a text

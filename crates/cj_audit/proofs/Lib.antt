@@ -1,1 +1,2 @@
 pub mod AuditTexts
+pub mod Examples

@@ -9,3 +9,4 @@ mod tables;
 
 pub use backend::{append_backend, into_text};
 pub use laws::audits_are_texts;
+pub use rows::append_rows;
