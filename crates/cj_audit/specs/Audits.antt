@@ -34,13 +34,15 @@ row_lines = flat_map (λ row. with_line_feed (row_text row))
 abbrev pub table_head : List ℕ → List ℕ → Table → List ℕ
 table_head name state t = words (name ∷ t.schema.table ∷ state ∷ decimal (length t.rows) ∷ [])
 
+-- and under that line its rows
 abbrev pub table_lines : List ℕ → List ℕ → Table → List ℕ
 table_lines name state t = with_line_feed (table_head name state t) ++ row_lines t.rows
 
--- what transaction tx has made of a table is its draft
+-- the state of a draft: that it is one, and of which transaction
 abbrev pub draft_state : ℕ → List ℕ
 draft_state tx = words (codes "draft" ∷ decimal tx ∷ [])
 
+-- a draft that nobody has made takes no line
 abbrev pub draft_lines : List ℕ → Option Draft → List ℕ
 draft_lines name None = []
 draft_lines name (Some d) = table_lines name (draft_state d.tx) d.table
@@ -49,7 +51,7 @@ draft_lines name (Some d) = table_lines name (draft_state d.tx) d.table
 abbrev pub slot_lines : List ℕ → Slot → List ℕ
 slot_lines name s = table_lines name (codes "base") s.base ++ draft_lines name s.draft
 
--- the lines of the database at the backend of this name, table after table
+-- the lines of the database that the backend of this name holds, table after table
 abbrev pub backend_lines : List ℕ → List Slot → List ℕ
 backend_lines name database = flat_map (slot_lines name) database
 
@@ -59,12 +61,12 @@ backend_lines name database = flat_map (slot_lines name) database
 abbrev pub StaysText : List ℕ → List ℕ → Type 0
 StaysText old new = IsText old → IsText new
 
--- a number of 64 bits with a sign, or a text, as the type of values has it
+-- what the types of the program allow: a number of 64 bits with a sign, or a text
 abbrev pub IsTypedValue : Value → Type 0
 IsTypedValue (value.Int n) = FitsSigned w64 n
 IsTypedValue (value.Text t) = IsText t
 
--- a name and such values, and as many rows as 64 bits can count
+-- a name, such values, and no more rows than 64 bits can count
 pub record IsTypedTable (t : Table) : Type 0 where
   pub name : IsNameOrEmpty t.schema.table
   pub count : length t.rows < 2 ^ 64
@@ -74,6 +76,6 @@ pub record IsTypedSlot (s : Slot) : Type 0 where
   pub base : IsTypedTable s.base
   pub draft : IfSome s.draft (λ (d : Draft). (d.tx < 2 ^ 64) × IsTypedTable d.table)
 
--- what an audit says of a backend is a text, as the backend's name and all that it holds are of their types
+-- what an audit says of a backend is a text, where its name and all that it holds are what their types allow
 abbrev pub AuditsAreTexts : Type 0
 AuditsAreTexts = (name : List ℕ) (database : List Slot) → IsNameOrEmpty name → All IsTypedSlot database → IsText (backend_lines name database)
