@@ -1,0 +1,2 @@
+pub mod AuditTexts
+pub mod Examples

@@ -1,0 +1,81 @@
+-- Audits: the lines that say what a backend holds.
+use Rattle.std.specs.Prelude.{ℕ, ◌<◌, ◌^◌, List, [], ◌∷◌, ◌++◌, length, codes, All, IfSome, FitsSigned}
+use Rattle.std.specs.Int.{w64}
+use Rattle.std.specs.declared.option.Option.{Option}
+use Rattle.std.specs.declared.option.Option.TheVariants.{None, Some}
+use Rattle.std.specs.List.{join_with_byte, flat_map}
+use Rattle.std.specs.Fmt.{decimal}
+use Rattle.cj_model.specs.declared.value.Value.{Value}
+use Rattle.cj_model.specs.declared.value.Value.TheVariants as value
+use Rattle.cj_model.specs.declared.database.Table.{Table}
+use Rattle.cj_model.specs.declared.database.Draft.{Draft}
+use Rattle.cj_model.specs.declared.database.Slot.{Slot}
+use Rattle.cj_model.specs.Sql.Literals.{literal}
+use Rattle.cj_model.specs.Sql.Names.{IsNameOrEmpty, IsText}
+use Rattle.cj_print.specs.Canonical.{separated}
+
+-- these words, with one space between each two
+abbrev pub words : List (List ℕ) → List ℕ
+words = join_with_byte 32
+
+-- a line with its LF
+abbrev pub with_line_feed : List ℕ → List ℕ
+with_line_feed line = line ++ 10 ∷ []
+
+-- the literals of a row's values, with a comma and a space between each two
+abbrev pub row_text : List Value → List ℕ
+row_text = separated literal
+
+-- a line for each row
+abbrev pub row_lines : List (List Value) → List ℕ
+row_lines = flat_map (λ row. with_line_feed (row_text row))
+
+-- the names of the backend and the table, the state in which the table stands there, and how many rows it has
+abbrev pub table_head : List ℕ → List ℕ → Table → List ℕ
+table_head name state t = words (name ∷ t.schema.table ∷ state ∷ decimal (length t.rows) ∷ [])
+
+-- and under that line its rows
+abbrev pub table_lines : List ℕ → List ℕ → Table → List ℕ
+table_lines name state t = with_line_feed (table_head name state t) ++ row_lines t.rows
+
+-- the state of a draft: that it is one, and of which transaction
+abbrev pub draft_state : ℕ → List ℕ
+draft_state tx = words (codes "draft" ∷ decimal tx ∷ [])
+
+-- a draft that nobody has made takes no line
+abbrev pub draft_lines : List ℕ → Option Draft → List ℕ
+draft_lines name None = []
+draft_lines name (Some d) = table_lines name (draft_state d.tx) d.table
+
+-- a table as committed, and then its draft where there is one
+abbrev pub slot_lines : List ℕ → Slot → List ℕ
+slot_lines name s = table_lines name (codes "base") s.base ++ draft_lines name s.draft
+
+-- the lines of the database that the backend of this name holds, table after table
+abbrev pub backend_lines : List ℕ → List Slot → List ℕ
+backend_lines name database = flat_map (slot_lines name) database
+
+-- ---- an audit is a text
+
+-- what was a text is still one
+abbrev pub StaysText : List ℕ → List ℕ → Type 0
+StaysText old new = IsText old → IsText new
+
+-- what the types of the program allow: a number of 64 bits with a sign, or a text
+abbrev pub IsTypedValue : Value → Type 0
+IsTypedValue (value.Int n) = FitsSigned w64 n
+IsTypedValue (value.Text t) = IsText t
+
+-- a name, such values, and no more rows than 64 bits can count
+pub record IsTypedTable (t : Table) : Type 0 where
+  pub name : IsNameOrEmpty t.schema.table
+  pub count : length t.rows < 2 ^ 64
+  pub values : All (λ row. All IsTypedValue row) t.rows
+
+pub record IsTypedSlot (s : Slot) : Type 0 where
+  pub base : IsTypedTable s.base
+  pub draft : IfSome s.draft (λ (d : Draft). (d.tx < 2 ^ 64) × IsTypedTable d.table)
+
+-- what an audit says of a backend is a text, where its name and all that it holds are what their types allow
+abbrev pub AuditsAreTexts : Type 0
+AuditsAreTexts = (name : List ℕ) (database : List Slot) → IsNameOrEmpty name → All IsTypedSlot database → IsText (backend_lines name database)
