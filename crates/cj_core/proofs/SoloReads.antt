@@ -1,43 +1,61 @@
 -- A session's read over a whole world, as backend after backend fails in it.
-use Rattle.std.proofs.Common.{◌≡◌, ◌≢◌, ◌⊎◌, inl, inr, ℕ, ◌+◌, ◌<◌, ◌≤◌, ◌==◌, ◌&&◌, not, Bool, true, List, [], ◌∷◌, ◌++◌, length, map, None, Some, refl, ap, sym, ◌∙◌, subst, arith, ⊎_elim, append_assoc}
-use Rattle.std.proofs.lemmas.Bool.{and_parts, both_ways, cases_eq, ne_eqb}
+use Rattle.std.proofs.Common.{Option, Ok, Err, ◌≡◌, ◌≢◌, ◌⊎◌, inl, inr, ℕ, ◌+◌, ◌<◌, ◌≤◌, ◌==◌, ◌&&◌, not, Bool, true, false, List, [], ◌∷◌, ◌++◌, length, map, None, Some, refl, ap, sym, ◌∙◌, subst, arith, ⊎_elim, append_assoc}
+use Rattle.std.proofs.lemmas.Bool.{eqb-true, and_parts, both_ways, cases_eq, ne_eqb}
 use Rattle.std.proofs.lemmas.List.{append-nil, map-append}
 use Rattle.std.proofs.lemmas.Grind.{fold-append}
 use Rattle.cj_model.specs.declared.request.Entry.{Entry}
 use Rattle.cj_model.specs.declared.request.Request.TheVariants as request
 use Rattle.cj_model.specs.declared.select.Select.{Select}
+use Rattle.cj_model.specs.declared.answer.Asked.{Asked}
+use Rattle.cj_model.specs.declared.answer.Asked.TheVariants as asked
+use Rattle.cj_model.specs.declared.answer.Refusal.{Refusal}
 use Rattle.cj_model.specs.declared.answer.Reply.{Reply}
 use Rattle.cj_model.specs.declared.answer.Reply.TheVariants.{Refused}
-use Rattle.cj_model.specs.declared.codes.TheConstants.{NO_MEMORY, READ_FAULT}
+use Rattle.cj_model.specs.declared.codes.TheConstants.{NO_BACKEND, NO_MEMORY, NO_TABLE, READ_FAULT, HISTORY_FULL, WRONG_TYPE}
 use Rattle.cj_model.specs.Database.Inserts.{refusal_of_code}
+use Rattle.cj_model.specs.Database.Outcomes.{IsAsked, IsQueryCode}
 use Rattle.cj_model.specs.Database.Queries.{ask}
+use Rattle.cj_model.specs.Cluster.Placements.{hosts_all, needs}
+use Rattle.cj_model.specs.Wire.Replies.{asked_reply}
 use Rattle.cj_model.specs.Cluster.Masks.{in_mask}
 use Rattle.cj_model.proofs.Masks.{has-zero}
 use Rattle.cj_cluster.specs.declared.event.Event.{Event}
 use Rattle.cj_cluster.specs.declared.event.Event.TheVariants.{ReadFailed}
 use Rattle.cj_cluster.specs.declared.moves.OpenSession.{OpenSession}
 use Rattle.cj_cluster.specs.History.Answering.{CanServe}
-use Rattle.cj_cluster.specs.History.Histories.{log, is_idle, is_enabled, events_left, database_of, log_faults_of, tx_of}
+use Rattle.cj_cluster.specs.History.Histories.{log, ended_count, is_idle, is_enabled, events_left, database_after, database_of, log_faults_of, tx_of}
 use Rattle.cj_cluster.specs.History.Turns.{SessionView, Call, Turn}
-use Rattle.cj_cluster.specs.Moves.Cores.{Core, session_at, with_session}
-use Rattle.cj_cluster.specs.Moves.Moves.{IsServingMask, is_open, open_tx}
+use Rattle.cj_cluster.specs.Moves.Cores.{Core, position_at, session_at, with_session}
+use Rattle.cj_cluster.specs.Moves.Moves.{IsServingMask, with_one_request, with_request_counted, answered_at, is_open, last_number, open_tx, was_answered, with_read}
 use Rattle.cj_cluster.specs.Moves.Runs.{seen_at, HasFailedSince}
-use Rattle.cj_cluster.specs.Proving.Invariants.{CoreInvariant}
+use Rattle.cj_cluster.specs.Proving.Invariants.{BackendStands, CoreInvariant}
 use Rattle.cj_cluster.proofs.Between.{follows_own, session_owes}
 use Rattle.cj_cluster.proofs.Pushed.{prefix_length, prefix_self, take_whole, log_faults-same}
 use Rattle.cj_cluster.proofs.Sessions.{is_open-with}
-use Rattle.cj_cluster.proofs.TurnCases.{Rests, entries-same, turn_read, turn_full, turn_starved, turn_in_vain}
+use Rattle.cj_cluster.proofs.TurnCases.{Rests, entries-same, turn_unserved, turn_read, turn_full, turn_starved, turn_in_vain}
+use Rattle.cj_cluster.proofs.Effects.{no_masks}
+use Rattle.cj_core.specs.declared.cells.AskError.TheVariants as errors
+use Rattle.cj_core.specs.Effects.{Asks, with_core}
 use Rattle.cj_core.specs.Counting.{faults_of, faults_after}
-use Rattle.cj_core.specs.Solos.{QueryAnswered, QueryUnnoted, QueryFailed, WorldTurn, AddsOwnEvents, IsReadAtEnd, StandsBetweenCalls, call_of, faults_counted}
-use Rattle.cj_core.specs.Worlds.{WorldState}
+use Rattle.cj_core.specs.Solos.{AreCalledFor, AttemptsQuery, QueryAnswered, QueryUnnoted, QueryStarved, QueryFailed, WorldTurn, AddsOwnEvents, IsReadAtEnd, StandsBetweenCalls, call_of, faults_counted}
+use Rattle.cj_core.specs.Logins.{logins_of}
+use Rattle.cj_core.specs.Worlds.{WorldState, Setup, accounts_of}
+use Rattle.cj_core.proofs.SoloLogins.{called_none, called_then}
 use Rattle.cj_core.proofs.SoloTurns.{failed_before, failed_now, failures_keep, idle_failures, log_failures, enabled_failures}
 
 -- the history with the failures of the session's next read
 abbrev pub with_failures : Core → ℕ → List ℕ → List Event
 with_failures c s failed = c.history ++ map (ReadFailed s ((session_at c s).queries + 1)) failed
 
+-- what holds of the accounts of a world holds of those of a later one
+called_since : (old now : WorldState) (logins : List (Option (List ℕ))) (user : List ℕ) → now.setup ≡ old.setup → AreCalledFor (accounts_of old) user (logins_of old.cells) (logins_of now.cells)
+    → AreCalledFor (accounts_of now) user (logins_of now.cells) logins → AreCalledFor (accounts_of old) user (logins_of old.cells) logins
+called_since old now logins user same was calls =
+    called_then (accounts_of old) user (logins_of old.cells) (logins_of now.cells) logins was
+    (subst (λ (s : Setup). AreCalledFor s.register.accounts user (logins_of now.cells) logins) same calls)
+
 -- Of the backends that serve the read, each that is left out of a mask has failed in it, and else nothing was changed.
-pub record QuerySoFar (s : ℕ) (old : WorldState) (serving left : ℕ) (now : WorldState) : Type 0 where
+pub record QuerySoFar (s : ℕ) (user : List ℕ) (old : WorldState) (serving left : ℕ) (now : WorldState) : Type 0 where
   pub failed : List ℕ
   pub core : now.core ≡ record old.core { history = with_failures old.core s failed }
   pub setup : now.setup ≡ old.setup
@@ -45,10 +63,11 @@ pub record QuerySoFar (s : ℕ) (old : WorldState) (serving left : ℕ) (now : W
   pub tried : (b : ℕ) → in_mask serving b ≡ true → (in_mask left b ≡ true) ⊎ HasFailedSince old.core.history now.core.history s ((session_at old.core s).queries + 1) b
   pub within : (b : ℕ) → in_mask left b ≡ true → in_mask serving b ≡ true
   pub sound : CoreInvariant now.core
+  pub logins : AreCalledFor (accounts_of old) user (logins_of old.cells) (logins_of now.cells)
 
 -- before the first attempt
-pub query_begins : (s : ℕ) (old : WorldState) (serving : ℕ) → CoreInvariant old.core → QuerySoFar s old serving serving old
-query_begins s old serving w =
+pub query_begins : (s : ℕ) (user : List ℕ) (old : WorldState) (serving : ℕ) → CoreInvariant old.core → QuerySoFar s user old serving serving old
+query_begins s user old serving w =
     record {
       failed = [];
       core = ap (λ (h : List Event). record old.core { history = h }) (sym (append-nil old.core.history));
@@ -57,18 +76,20 @@ query_begins s old serving w =
       tried = λ b t. inl t;
       within = λ b t. t;
       sound = w;
+      logins = called_none (accounts_of old) user (logins_of old.cells) (logins_of old.cells) refl;
     }
 
 -- the session still stands between its calls
-pub query_stands : (s : ℕ) (old now : WorldState) (serving left : ℕ) → StandsBetweenCalls old.core s → QuerySoFar s old serving left now → StandsBetweenCalls now.core s
-query_stands s old now serving left stands so_far =
+pub query_stands : (s : ℕ) (user : List ℕ) (old now : WorldState) (serving left : ℕ) → StandsBetweenCalls old.core s → QuerySoFar s user old serving left now → StandsBetweenCalls now.core s
+query_stands s user old now serving left stands so_far =
     subst (λ (c : Core). StandsBetweenCalls c s) (sym so_far.core)
     (record { idle = idle_failures s ((session_at old.core s).queries + 1) old.core.history so_far.failed ∙ stands.idle; here = stands.here; no_read = stands.no_read })
 
 -- one backend more has failed
-pub query_goes_on : (s : ℕ) (old now new : WorldState) (serving left less b : ℕ) → QuerySoFar s old serving left now → QueryFailed s b now new → new.setup ≡ now.setup
-    → ((k : ℕ) → in_mask less k ≡ (in_mask left k && not (k == b))) → in_mask left b ≡ true → QuerySoFar s old serving less new
-query_goes_on s old now new serving left less b so_far fails names bits there =
+pub query_goes_on : (s : ℕ) (user : List ℕ) (old now new : WorldState) (serving left less b : ℕ) → QuerySoFar s user old serving left now → QueryFailed s b now new → new.setup ≡ now.setup
+    → AreCalledFor (accounts_of now) user (logins_of now.cells) (logins_of new.cells)
+    → ((k : ℕ) → in_mask less k ≡ (in_mask left k && not (k == b))) → in_mask left b ≡ true → QuerySoFar s user old serving less new
+query_goes_on s user old now new serving left less b so_far fails setup logins bits there =
     let q : ℕ = (session_at old.core s).queries + 1 in
     let ev : Event = ReadFailed s q b in
     let same : (session_at now.core s).queries + 1 ≡ q = ap (λ (c : Core). (session_at c s).queries + 1) so_far.core in
@@ -102,17 +123,35 @@ query_goes_on s old now new serving left less b so_far fails names bits there =
           (cases_eq k b));
       within = λ k t. so_far.within k ((and_parts (in_mask left k) (not (k == b)) (sym (bits k) ∙ t)).0);
       sound = fails.is_sound;
+      logins = called_since old now (logins_of new.cells) user so_far.setup so_far.logins logins;
     }
 
 -- ---- what the read comes to
 
 -- a turn of a session that has seen the state before its read, with its reads at the log's end
 abbrev pub ReadsTo : Bool → ℕ → Core → Call → SessionView → Type 0
-ReadsTo tells s c call z = (t : Turn tells c.placement s (seen_at c s) call z) × IsReadAtEnd t.case
+ReadsTo tells s c call z = Turn tells c.placement s (seen_at c s) call z × IsReadAtEnd call z
+
+never_true : (t : Bool) → (t ≡ true → ⊥) → t ≡ false
+never_true true never = absurd (never refl)
+never_true false never = refl
+
+-- a refusal that is no backend's is no answer
+no_answer : (c : Call) (z : SessionView) (r : Refusal) → c.reply ≡ Refused r → (IsQueryCode r.code → ⊥) → IsReadAtEnd c z
+no_answer c z r is never none (asked.Rows a) possible same = absurd (cc (is, same))
+no_answer c z r is never none (asked.Refused q) possible same = let e : q ≡ r = cc (is, same) in absurd (never (subst (λ (x : Refusal). IsQueryCode x.code) e possible))
+
+-- nor has it a code of a query's refusals
+no_code : (n : ℕ) → (n < NO_TABLE) ⊎ (WRONG_TYPE < n) → IsQueryCode n → ⊥
+no_code n out (inl q) = ⊎_elim (λ (lt : n < NO_TABLE). absurd (omega (arith, q))) (λ (gt : WRONG_TYPE < n). absurd (omega (arith, q))) out
+no_code n out (inr (inl q)) = ⊎_elim (λ (lt : n < NO_TABLE). absurd (omega (arith, q))) (λ (gt : WRONG_TYPE < n). absurd (omega (arith, q))) out
+no_code n out (inr (inr (inl q))) = ⊎_elim (λ (lt : n < NO_TABLE). absurd (omega (arith, q))) (λ (gt : WRONG_TYPE < n). absurd (omega (arith, q))) out
+no_code n out (inr (inr (inr (inl q)))) = ⊎_elim (λ (lt : n < NO_TABLE). absurd (omega (arith, q))) (λ (gt : WRONG_TYPE < n). absurd (omega (arith, q))) out
+no_code n out (inr (inr (inr (inr q)))) = ⊎_elim (λ (lt : n < NO_TABLE). absurd (omega (arith, q))) (λ (gt : WRONG_TYPE < n). absurd (omega (arith, q))) out
 
 module _ (tells : Bool) (s tx : ℕ) (user : List ℕ) (select : Select) (old now : WorldState) (serving left : ℕ) (w : CoreInvariant old.core) (in_own : (tx ≡ 0) ⊎ (tx ≡ open_tx old.core s)) (serves : IsServingMask old.core select serving)
-    (so_far : QuerySoFar s old serving left now) where
-  pub call : Reply → Call
+    (so_far : QuerySoFar s user old serving left now) where
+  abbrev pub call : Reply → Call
   call reply = call_of old.core s tx user (request.Select select) reply
 
   grown : now.core.history ≡ with_failures old.core s so_far.failed
@@ -135,15 +174,27 @@ module _ (tells : Bool) (s tx : ℕ) (user : List ℕ) (select : Select) (old no
       }
 
   -- the backends that serve the query are those that did
-  still_serves : (k : ℕ) → CanServe old.core.placement now.core.history (request.Select select) k → CanServe old.core.placement old.core.history (request.Select select) k
+  pub still_serves : (k : ℕ) → CanServe old.core.placement now.core.history (request.Select select) k → CanServe old.core.placement old.core.history (request.Select select) k
   still_serves k on = (sym (enabled_failures s ((session_at old.core s).queries + 1) old.core.history so_far.failed k) ∙ (sym (ap (λ h. is_enabled h k) grown) ∙ on.0), on.1)
 
-  serves_still : (k : ℕ) → CanServe old.core.placement old.core.history (request.Select select) k → CanServe old.core.placement now.core.history (request.Select select) k
+  pub serves_still : (k : ℕ) → CanServe old.core.placement old.core.history (request.Select select) k → CanServe old.core.placement now.core.history (request.Select select) k
   serves_still k on = (ap (λ h. is_enabled h k) grown ∙ (enabled_failures s ((session_at old.core s).queries + 1) old.core.history so_far.failed k ∙ on.0), on.1)
 
   -- memory is wanting
   pub starves : (reply : Reply) → reply ≡ Refused (refusal_of_code NO_MEMORY) → ReadsTo tells s old.core (call reply) (record { front = now.core.history; least = (session_at old.core s).least })
-  starves reply is = (turn_starved tells old.core.placement s (seen_at old.core s) now.core.history so_far.sound.legal (map (ReadFailed s ((session_at old.core s).queries + 1)) so_far.failed, sym grown) (session_owes old.core s w) rested (call reply) in_own is, tt)
+  starves reply is = (turn_starved tells old.core.placement s (seen_at old.core s) now.core.history so_far.sound.legal (map (ReadFailed s ((session_at old.core s).queries + 1)) so_far.failed, sym grown) (session_owes old.core s w) rested (call reply) in_own is, no_answer (call reply) (record { front = now.core.history; least = (session_at old.core s).least }) (refusal_of_code NO_MEMORY) is (no_code NO_MEMORY (inr (omega arith))))
+
+  -- no backend serves it
+  pub unserved : (reply : Reply) → serving ≡ 0 → reply ≡ Refused (refusal_of_code NO_BACKEND) → ReadsTo tells s old.core (call reply) (record { front = now.core.history; least = (session_at old.core s).least })
+  unserved reply none is =
+      let serves_none : (b : ℕ) → CanServe old.core.placement old.core.history (request.Select select) b → ⊥ =
+      λ b can. both_ways (in_mask serving b) (ap (λ (m : ℕ). in_mask m b) none ∙ has-zero b) ((serves b).0 can)
+      in
+      (
+        turn_unserved tells old.core.placement s (seen_at old.core s) now.core.history so_far.sound.legal (map (ReadFailed s ((session_at old.core s).queries + 1)) so_far.failed, sym grown) (session_owes old.core s w) rested (call reply) in_own is
+            (refl, λ b on. never_true (hosts_all old.core.placement b (needs (request.Select select))) (λ hosts. serves_none b (still_serves b (on, hosts)))),
+        no_answer (call reply) (record { front = now.core.history; least = (session_at old.core s).least }) (refusal_of_code NO_BACKEND) is (no_code NO_BACKEND (inl (omega arith))),
+      )
 
   -- each backend that serves it failed
   pub in_vain : (reply : Reply) → left ≡ 0 → serving ≢ 0 → reply ≡ Refused (record { code = READ_FAULT; a = serving; b = 0 })
@@ -152,7 +203,7 @@ module _ (tells : Bool) (s tx : ℕ) (user : List ℕ) (select : Select) (old no
     turn_in_vain tells old.core.placement s (seen_at old.core s) now.core.history so_far.sound.legal (map (ReadFailed s ((session_at old.core s).queries + 1)) so_far.failed, sym grown) (session_owes old.core s w) rested (call reply) select serving in_own
         refl is some (λ k. ((λ on. (serves k).0 (still_serves k on)), λ t. serves_still k ((serves k).1 t)))
         (λ k t. ⊎_elim (λ (on : in_mask left k ≡ true). absurd (both_ways (in_mask left k) (ap (λ (m : ℕ). in_mask m k) none ∙ has-zero k) on)) (λ (failed : HasFailedSince old.core.history now.core.history s ((session_at old.core s).queries + 1) k). failed) (so_far.tried k t)),
-    tt,
+    no_answer (call reply) (record { front = now.core.history; least = (session_at old.core s).least }) (record { code = READ_FAULT; a = serving; b = 0 }) is (no_code READ_FAULT (inr (omega arith))),
   )
 
   -- a backend that serves it answered, at the log's end
@@ -166,7 +217,7 @@ module _ (tells : Bool) (s tx : ℕ) (user : List ℕ) (select : Select) (old no
             (length (log now.core.history)) answered.answer in_own refl answered.replied answered.possible
             (λ on. answered.says on ∙ ap (λ (l : List Entry). ask (database_of l) tx select) (sym (take_whole (log now.core.history) (log now.core.history) (prefix_self (log now.core.history)))))
             (λ t. (b, serves_still b ((serves b).1 there))) (omega arith) past (omega arith),
-        refl,
+        λ none answer possible same. refl,
       )
 
   -- it failed, and the history has no room to say so
@@ -177,7 +228,7 @@ module _ (tells : Bool) (s tx : ℕ) (user : List ℕ) (select : Select) (old no
       let small : events_left now.core.history < 1 = omega arith in (
         turn_full tells old.core.placement s (seen_at old.core s) now.core.history so_far.sound.legal (map (ReadFailed s ((session_at old.core s).queries + 1)) so_far.failed, sym grown) (session_owes old.core s w) rested (call reply) in_own
             full.replied (λ t. (b, serves_still b ((serves b).1 there))) small,
-        tt,
+        no_answer (call reply) (record { front = now.core.history; least = (session_at old.core s).least }) (record { code = HISTORY_FULL; a = length now.core.history; b = 0 }) full.replied (no_code HISTORY_FULL (inr (omega arith))),
       )
 
   -- ---- the world that the read leads to
@@ -199,8 +250,9 @@ module _ (tells : Bool) (s tx : ℕ) (user : List ℕ) (select : Select) (old no
 
     -- with these failures, of which the history tells
     pub read_is_turn : (reply : Reply) (failed : List ℕ) → ReadsTo tells s old.core (call reply) (record { front = now.core.history; least = least }) → new.setup ≡ now.setup
+        → AreCalledFor (accounts_of now) user (logins_of now.cells) (logins_of new.cells)
         → AddsOwnEvents s (call reply) None failed old.core.history new.core.history → faults_of new.cells ≡ faults_counted (faults_of old.cells) failed → WorldTurn tells s old (call reply) new
-    read_is_turn reply failed reads names events faults =
+    read_is_turn reply failed reads setup logins events faults =
         let turn : ReadsTo tells s old.core (call reply) (seen_at new.core s) = subst (ReadsTo tells s old.core (call reply)) seen reads in
         record {
           placement = ap (λ (c : Core). c.placement) after ∙ ap (λ (c : Core). c.placement) so_far.core;
@@ -218,4 +270,99 @@ module _ (tells : Bool) (s tx : ℕ) (user : List ℕ) (select : Select) (old no
           failed = failed;
           events = events;
           faults = faults;
+          logins = called_since old now (logins_of new.cells) user so_far.setup so_far.logins logins;
         }
+
+  -- ---- each way that the read ends
+
+  module _ (stands : StandsBetweenCalls now.core s) (new : WorldState) (setup : new.setup ≡ now.setup) (logins : AreCalledFor (accounts_of now) user (logins_of now.cells) (logins_of new.cells)) (reply : Reply) where
+    -- the failures so far are what the history grew by
+    noted : new.core.history ≡ now.core.history → AddsOwnEvents s (call reply) None so_far.failed old.core.history new.core.history
+    noted same = inl (same ∙ grown)
+
+    -- it is refused
+    pub refused_turn : new.core ≡ with_request_counted now.core s → faults_of new.cells ≡ faults_of now.cells
+        → ReadsTo tells s old.core (call reply) (record { front = now.core.history; least = (session_at old.core s).least }) → WorldTurn tells s old (call reply) new
+    refused_turn after counts reads =
+        read_is_turn new with_one_request (λ x. refl) after (session_at old.core s).least (ap (λ (c : Core). (session_at c s).least) so_far.core) refl stands.no_read stands reply so_far.failed reads setup logins
+        (noted (ap (λ (c : Core). c.history) after)) (counts ∙ so_far.faults)
+
+    -- a backend answers it
+    pub answered_turn : (b : ℕ) → in_mask serving b ≡ true → QueryAnswered tells s tx select now reply new → WorldTurn tells s old (call reply) new
+    answered_turn b there answered =
+        read_is_turn new (λ x. answered_at (last_number now.core) (was_answered x)) (λ x. refl) answered.after (last_number now.core) refl (rw stands.no_read refl) refl stands reply so_far.failed
+        (answers b reply new there answered) setup logins (noted (ap (λ (c : Core). c.history) answered.after)) (answered.faults ∙ so_far.faults)
+
+    -- one fails, and the history has no room to say so
+    pub unnoted_turn : (b : ℕ) → in_mask serving b ≡ true → QueryUnnoted s b now reply new → WorldTurn tells s old (call reply) new
+    unnoted_turn b there full =
+        let same : new.core.history ≡ now.core.history = ap (λ (c : Core). c.history) full.after in
+        read_is_turn new with_one_request (λ x. refl) full.after (session_at old.core s).least (ap (λ (c : Core). (session_at c s).least) so_far.core) refl stands.no_read stands reply (so_far.failed ++ b ∷ [])
+        (unnoted b reply new there full) setup logins
+        (inr (record { noted = so_far.failed; last = b; is = refl; grew = same ∙ grown; full = ap events_left same ∙ full.full }))
+        (full.faults
+        ∙ (ap (λ (counts : List ℕ). faults_after counts (Some b)) so_far.faults ∙ sym (fold-append (λ (counts : List ℕ) (k : ℕ). faults_after counts (Some k)) (faults_of old.cells) so_far.failed (b ∷ []))))
+
+    -- whatever an attempt came to
+    pub attempted_turn : (b : ℕ) → in_mask serving b ≡ true → AttemptsQuery tells s b tx select now (Some reply) new → WorldTurn tells s old (call reply) new
+    attempted_turn b there came =
+        ⊎_elim (answered_turn b there)
+        (⊎_elim (unnoted_turn b there) (λ (starved : QueryStarved s now reply new). refused_turn starved.after starved.faults (starves reply starved.replied)))
+        came
+
+  -- the session's request was counted, and else nothing was changed
+  pub counted_turn : StandsBetweenCalls now.core s → (new : WorldState) (reply : Reply) → new ≡ with_core now (with_request_counted now.core s)
+      → ReadsTo tells s old.core (call reply) (record { front = now.core.history; least = (session_at old.core s).least }) → WorldTurn tells s old (call reply) new
+  counted_turn stands new reply after reads =
+      refused_turn stands new (ap (λ (w : WorldState). w.setup) after)
+      (called_none (accounts_of now) user (logins_of now.cells) (logins_of new.cells) (ap (λ (w : WorldState). logins_of w.cells) after)) reply (ap (λ (w : WorldState). w.core) after)
+      (ap (λ (w : WorldState). faults_of w.cells) after) reads
+
+-- ---- one attempt
+
+-- while no entry is open, an enabled backend stands at the log's end
+module _ (c : Core) (w : CoreInvariant c) (idle : is_idle c.history ≡ true) (b : ℕ) (on : is_enabled c.history b ≡ true) where
+  stands_at : (p : Option ℕ) → p ≡ position_at c b → BackendStands c.history c.failed c.starved b p → position_at c b ≡ Some (last_number c)
+  stands_at None is stands = absurd (no_masks c w idle b (stands on))
+  stands_at (Some p) is stands =
+      let ended : ended_count c.history ≡ length (log c.history) = eqb-true _ _ idle in
+      let past : ended_count c.history ≤ p = stands.1 on in
+      let within : p ≤ length (log c.history) = stands.0 in
+      let end : p ≡ length (log c.history) = omega arith in
+      sym is ∙ ap (λ (m : ℕ). Some m) end
+
+  pub at_log_end : position_at c b ≡ Some (last_number c)
+  at_log_end = stands_at (position_at c b) refl (w.stands b (w.hosts b on))
+
+module _ (tells : Bool) (s b tx : ℕ) (select : Select) (old : WorldState) (w : CoreInvariant old.core) (stands : StandsBetweenCalls old.core s) (serves : CanServe old.core.placement old.core.history (request.Select select) b) where
+  there : position_at old.core b ≡ Some (last_number old.core)
+  there = at_log_end old.core w stands.idle b serves.0
+
+  pub not_out : Asks tells old.core s b tx select (Err errors.Out) → ⊥
+  not_out none = cc (there, none)
+
+  pub not_behind : (p : ℕ) → Asks tells old.core s b tx select (Err (errors.Behind p)) → ⊥
+  not_behind p early =
+      let same : last_number old.core ≡ p = cc (there, early.0) in
+      let owes : (session_at old.core s).least ≤ last_number old.core = session_owes old.core s w in
+      let low : p < (session_at old.core s).least = early.1 in
+      absurd (omega arith)
+
+  -- it answered, at the log's end
+  pub query_answered : (answer : Asked) (p : ℕ) (mid new : WorldState) (reply : Reply) → Asks tells old.core s b tx select (Ok (answer, p)) → mid.core ≡ old.core → faults_of mid.cells ≡ faults_of old.cells → reply ≡ asked_reply answer
+      → new ≡ with_core mid (with_read mid.core s (λ x. answered_at p (was_answered x))) → QueryAnswered tells s tx select old reply new
+  query_answered answer p mid new reply asks same counts is after =
+      let last : p ≡ last_number old.core = cc (there, asks.0) in
+      record {
+        answer = answer;
+        possible = asks.3;
+        says =
+            λ on.
+            asks.4 on ∙ (ap (λ (n : ℕ). ask (database_after (log old.core.history) n) tx select) last
+            ∙ ap (λ (l : List Entry). ask (database_of l) tx select) (take_whole (log old.core.history) (log old.core.history) (prefix_self (log old.core.history))));
+        replied = is;
+        after =
+            ap (λ (x : WorldState). x.core) after
+            ∙ (ap (λ (c : Core). with_read c s (λ x. answered_at p (was_answered x))) same ∙ ap (λ (n : ℕ). with_read old.core s (λ x. answered_at n (was_answered x))) last);
+        faults = ap (λ (x : WorldState). faults_of x.cells) after ∙ counts;
+      }

@@ -28,7 +28,7 @@ use Rattle.cj_cluster.specs.declared.moves.Move.{Move}
 use Rattle.cj_cluster.specs.declared.moves.Move.TheVariants.{Open, Close, Schedule, Abort, Apply, End, Read, Arm, Disable, Replay, Enable}
 use Rattle.cj_cluster.specs.History.Histories.{log, is_idle, is_enabled, entry_in_progress, events_left, database_of}
 use Rattle.cj_cluster.specs.History.Answering.{HasServer, HasNoServer}
-use Rattle.cj_cluster.specs.History.Turns.{SessionView, Call, Turn, TurnCase, entry_of_call, scheduled, no_backend, read, read_fault, log_fault, full, starved}
+use Rattle.cj_cluster.specs.History.Turns.{SessionView, Call, Turn, entry_of_call}
 use Rattle.cj_cluster.specs.Moves.Cores.{Core, position_at, session_at}
 use Rattle.cj_cluster.specs.Moves.Moves.{is_open, last_number, history_full, first_lagging, with_request_counted, with_read, answered_at, was_answered, happened, ended_for}
 use Rattle.cj_cluster.specs.Moves.Runs.{seen_at}
@@ -94,15 +94,9 @@ abbrev pub AddsOwnEvents : ℕ → Call → Option Act → List ℕ → List Eve
 AddsOwnEvents s c None failed h g = (g ≡ h ++ map (ReadFailed s c.number) failed) ⊎ LacksLast s c.number failed h g
 AddsOwnEvents s c (Some act) failed h g = (number : ℕ) × AddsEntry number s c act failed h g
 
--- a read is answered at the log's end
-abbrev pub IsReadAtEnd : {tells : Bool} {p : Placement} {s : ℕ} {a : SessionView} {c : Call} {z : SessionView} → TurnCase tells p s a c z → Type 0
-IsReadAtEnd (scheduled x) = Unit {0}
-IsReadAtEnd (no_backend x) = Unit {0}
-IsReadAtEnd {z = z} (read x) = z.least ≡ length (log z.front)
-IsReadAtEnd (read_fault x) = Unit {0}
-IsReadAtEnd (log_fault x) = Unit {0}
-IsReadAtEnd (full x) = Unit {0}
-IsReadAtEnd (starved x) = Unit {0}
+-- what a backend may answer to a query was answered at the log's end
+abbrev pub IsReadAtEnd : Call → SessionView → Type 0
+IsReadAtEnd c z = act_of c.request ≡ None → (answer : Asked) → IsAsked answer → c.reply ≡ asked_reply answer → z.least ≡ length (log z.front)
 
 -- A call of session s leads a world to another.
 pub record WorldTurn (tells : Bool) (s : ℕ) (old : WorldState) (c : Call) (new : WorldState) : Type 0 where
@@ -111,7 +105,7 @@ pub record WorldTurn (tells : Bool) (s : ℕ) (old : WorldState) (c : Call) (new
   pub number : c.number ≡ (session_at old.core s).queries + 1
   pub queries : (session_at new.core s).queries ≡ (session_at old.core s).queries + 1
   pub turn : Turn tells old.core.placement s (seen_at old.core s) c (seen_at new.core s)
-  pub at_end : IsReadAtEnd turn.case
+  pub at_end : IsReadAtEnd c (seen_at new.core s)
   pub stands : StandsBetweenCalls new.core s
   -- the backends that failed in it, each as often as it did
   pub failed : List ℕ

@@ -68,7 +68,8 @@ impl<B: Backend> World<B> {
                 },
             )),
             Err(AskError::NoMemory) => Some(self.refuse(s, Refusal::of_code(NO_MEMORY))),
-            Err(AskError::Out) | Err(AskError::Behind(_)) => unreachable!(),
+            Err(AskError::Out) => unreachable!(),
+            Err(AskError::Behind(_)) => unreachable!(),
         }
     }
 

@@ -6,7 +6,7 @@ use Rattle.cj_core.proofs.world.World.serve_read.Given as goal
 abbrev pub invariant-loop-b : goal.invariant-loop-b
 invariant-loop-b g l =
     record {
-      so_far : QuerySoFar l.fn.s l.fn.self l.serving l.left l.self;
+      so_far : QuerySoFar l.fn.s l.fn.user l.fn.self l.serving l.left l.self;
       below : l.left < 2 ^ BACKEND_LIMIT;
     }
 
