@@ -1,5 +1,5 @@
 -- What a cell that takes its next entry makes of the cells.
-use Rattle.std.proofs.Common.{◌≡◌, ◌≢◌, ◌⊎◌, inl, inr, ℕ, ◌+◌, ◌<◌, ◌≤◌, not, Bool, true, false, cond, List, [], ◌∷◌, length, map, get_or, set, slice_get, Option, Some, option_map, IfSome, IfOk, Result, Ok, Err, refl, ap, sym, ◌∙◌, subst, arith, ⊎_elim}
+use Rattle.std.proofs.Common.{◌≡◌, ◌≢◌, ◌⊎◌, inl, inr, ℕ, ◌+◌, ◌<◌, ◌≤◌, not, Bool, true, cond, List, [], ◌∷◌, length, map, get_or, set, slice_get, Option, Some, option_map, IfSome, IfOk, Result, Ok, Err, refl, ap, sym, ◌∙◌, subst, arith, ⊎_elim}
 use Rattle.std.specs.Option.{option_map_or}
 use Rattle.std.proofs.lemmas.List.{get_or_default, length-map}
 use Rattle.cj_outside.specs.Causes.{next}
@@ -14,8 +14,8 @@ use Rattle.cj_model.specs.Cluster.Accounts.{login_of}
 use Rattle.cj_model.specs.Cluster.Placements.{part}
 use Rattle.cj_model.specs.Database.Steps.{step}
 use Rattle.cj_cluster.specs.History.Histories.{log, database_after}
-use Rattle.cj_cluster.specs.History.Transactions.{takes_part, begun_after}
-use Rattle.cj_cluster.specs.Moves.Cores.{position_at, begun_at}
+use Rattle.cj_cluster.specs.History.Transactions.{takes_part}
+use Rattle.cj_cluster.specs.Moves.Cores.{position_at}
 use Rattle.cj_cluster.specs.Moves.Moves.{DoesWithEntry}
 use Rattle.cj_cluster.specs.Proving.Invariants.{HoldsPart, CoversDrafts}
 use Rattle.cj_cluster.proofs.Effects.{is_there}

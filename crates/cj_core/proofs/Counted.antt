@@ -1,5 +1,5 @@
 -- Counts of faults and of armings, and logins, where one cell changes.
-use Rattle.std.proofs.Common.{◌≡◌, ◌⊎◌, inl, inr, ℕ, ◌<◌, Bool, true, false, cond, List, length, map, get_or, set, None, Some, ap, sym, ◌∙◌, subst, refl, ⊎_elim}
+use Rattle.std.proofs.Common.{◌≡◌, ◌⊎◌, inl, inr, ℕ, ◌<◌, Bool, true, false, cond, List, length, get_or, set, None, Some, ap, sym, ◌∙◌, refl, ⊎_elim}
 use Rattle.std.proofs.lemmas.List.{map-set, get_or-map, set-get_or}
 use Rattle.cj_outside.specs.Causes.{next}
 use Rattle.cj_backend.specs.Backends.{Arming, arming_after, spent}

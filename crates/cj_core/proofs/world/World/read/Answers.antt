@@ -1,4 +1,4 @@
-use Rattle.std.proofs.Common.{◌≡◌, ℕ, List, Option, Bool, true, false, cond, None, Some, Ok, Err, refl, ap, sym, ◌∙◌, subst, arith}
+use Rattle.std.proofs.Common.{◌≡◌, ℕ, Bool, true, false, cond, None, Some, Ok, Err, refl, ap, sym, ◌∙◌, subst, arith}
 use Rattle.std.proofs.lemmas.Bool.{both_ways}
 use Rattle.cj_cluster.specs.declared.moves.Moved.{Moved}
 use Rattle.cj_cluster.specs.Moves.Cores.{Core, session_at, is_entry_of}
@@ -9,7 +9,7 @@ use Rattle.cj_cluster.proofs.Now.{can_read}
 use Rattle.cj_cluster.proofs.Pushed.{opened-same}
 use Rattle.cj_cluster.proofs.Standing.{open_above, tried_more}
 use Rattle.cj_core.specs.Worlds.{WorldState}
-use Rattle.cj_core.specs.Logins.{logins_of, login_to_ask, LogsInByMove, LogsInToAsk}
+use Rattle.cj_core.specs.Logins.{logins_of, login_to_ask, LogsInToAsk}
 use Rattle.cj_core.specs.Armings.{armings_of}
 use Rattle.cj_core.specs.Counting.{faults_of, faults_after, tells_fault}
 use Rattle.cj_core.specs.Effects.{Asks, asked_core, failed_asked, HaveFailed, RefusesOrStays}

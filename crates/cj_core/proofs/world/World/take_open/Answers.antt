@@ -1,4 +1,4 @@
-use Rattle.std.proofs.Common.{◌≡◌, ℕ, ◌<◌, None, Ok, refl, ap, sym, subst}
+use Rattle.std.proofs.Common.{◌≡◌, ℕ, ◌<◌, None, Ok, ap, sym, subst}
 use Rattle.cj_cluster.specs.declared.moves.Move.TheVariants.{Apply}
 use Rattle.cj_cluster.specs.declared.moves.Moved.TheVariants.{Applied}
 use Rattle.cj_cluster.specs.Moves.Moves.{position_or_zero, not_now, Applies}
