@@ -1,8 +1,8 @@
 -- What a world keeps where a backend is asked, and what it answers.
-use Rattle.std.proofs.Common.{◌≡◌, ℕ, ◌<◌, ◌≤◌, Bool, true, false, cond, List, [], ◌∷◌, ◌++◌, length, map, get_or, set, Option, None, Some, IfSome, Result, Ok, Err, IfOk, refl, ap, sym, ◌∙◌, subst, arith, ⊎_elim}
+use Rattle.std.proofs.Common.{◌≡◌, ℕ, ◌<◌, ◌≤◌, Bool, true, false, cond, List, [], ◌∷◌, ◌++◌, length, map, get_or, set, Option, None, Some, IfSome, Result, Ok, Err, refl, ap, sym, ◌∙◌, subst, arith, ⊎_elim}
 use Rattle.std.specs.Prelude.{◌↔◌, IsErrOf}
 use Rattle.std.proofs.lemmas.Bool.{cases_lt}
-use Rattle.std.proofs.lemmas.List.{length-map, map-set, set-get_or}
+use Rattle.std.proofs.lemmas.List.{map-set, set-get_or}
 use Rattle.cj_model.specs.declared.database.Slot.{Slot}
 use Rattle.cj_model.specs.declared.select.Select.{Select}
 use Rattle.cj_model.specs.declared.answer.Asked.{Asked}
@@ -32,7 +32,9 @@ use Rattle.cj_core.specs.declared.cells.AskError.{AskError}
 use Rattle.cj_core.specs.declared.cells.AskError.TheVariants as ask_errors
 use Rattle.cj_core.specs.Effects.{Asks, Notes, asked_core, failed_asked}
 use Rattle.cj_core.specs.Kept.{Kept}
+use Rattle.cj_core.specs.Logins.{logins_of, LogsInToAsk}
 use Rattle.cj_core.proofs.CellsKept.{position_of, begun_of, position_within, cells_set}
+use Rattle.cj_core.proofs.Counted.{logins_may, logins_same}
 
 module _ (tells : Bool) (reg : Register) (l : Layout) (h : List Event) (cells : List CellState) (f s : ℕ) (ss : List OpenSession) (g : ℕ) (numbers : List ℕ) (first_outcome : Option Outcome) (kept : Kept tells (world_of reg l h cells f s ss g) numbers first_outcome)
     (b : ℕ) (lt : b < length cells) (x : CellState) (there : x ≡ get_or cells b x) where
@@ -192,6 +194,24 @@ noted_want old new s q b errors.Failed e notes is =
     ⊎_elim
     (λ (one : (e ≡ ask_errors.Failed) × (0 < events_left old.history) × (new ≡ with_event old (ReadFailed s q b))). absurd (cc (one.0, is)))
     (λ (full : (k : ℕ) × (e ≡ ask_errors.Unnoted k) × HasNoRoomForOne old k × (new ≡ old)). absurd (cc (full.1, is)))
+    notes
+
+-- under which login the backend was asked
+pub noted_logins : (old new : BookState) (s q b : ℕ) (d : CellReadError) (e : AskError) (cells : List CellState) (y : CellState) (given : List ℕ) → b < length cells → Notes old s q b d e new
+    → LogsInForRead (get_or cells b y).login given (Err d) y.login → LogsInToAsk b given (Err e) (logins_of cells) (logins_of (set cells b y))
+noted_logins old new s q b errors.Out e cells y given lt notes same =
+    subst (λ (k : AskError). LogsInToAsk b given (Err k) (logins_of cells) (logins_of (set cells b y))) (sym notes.0) (logins_same cells b y lt same)
+noted_logins old new s q b (errors.Behind p) e cells y given lt notes same =
+    subst (λ (k : AskError). LogsInToAsk b given (Err k) (logins_of cells) (logins_of (set cells b y))) (sym notes.0) (logins_same cells b y lt same)
+noted_logins old new s q b errors.NoMemory e cells y given lt notes same =
+    subst (λ (k : AskError). LogsInToAsk b given (Err k) (logins_of cells) (logins_of (set cells b y))) (sym notes.0) (logins_same cells b y lt same)
+noted_logins old new s q b errors.Failed e cells y given lt notes called =
+    let may = logins_may cells b y given lt called in
+    ⊎_elim
+    (λ (one : (e ≡ ask_errors.Failed) × (0 < events_left old.history) × (new ≡ with_event old (ReadFailed s q b))).
+    subst (λ (k : AskError). LogsInToAsk b given (Err k) (logins_of cells) (logins_of (set cells b y))) (sym one.0) may)
+    (λ (full : (k : ℕ) × (e ≡ ask_errors.Unnoted k) × HasNoRoomForOne old k × (new ≡ old)).
+    subst (λ (k : AskError). LogsInToAsk b given (Err k) (logins_of cells) (logins_of (set cells b y))) (sym full.1) may)
     notes
 
 -- then the cell is as before

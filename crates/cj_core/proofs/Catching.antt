@@ -1,5 +1,6 @@
 -- What a cell that takes its next entry makes of the cells.
-use Rattle.std.proofs.Common.{◌≡◌, ◌≢◌, ℕ, ◌+◌, ◌<◌, ◌≤◌, not, Bool, true, false, cond, List, [], ◌∷◌, length, map, get_or, set, slice_get, Option, Some, option_map, IfSome, IfOk, Result, Ok, Err, refl, ap, sym, ◌∙◌, subst, arith}
+use Rattle.std.proofs.Common.{◌≡◌, ◌≢◌, ◌⊎◌, inl, inr, ℕ, ◌+◌, ◌<◌, ◌≤◌, not, Bool, true, cond, List, [], ◌∷◌, length, map, get_or, set, slice_get, Option, Some, option_map, IfSome, IfOk, Result, Ok, Err, refl, ap, sym, ◌∙◌, subst, arith, ⊎_elim}
+use Rattle.std.specs.Option.{option_map_or}
 use Rattle.std.proofs.lemmas.List.{get_or_default, length-map}
 use Rattle.cj_outside.specs.Causes.{next}
 use Rattle.cj_model.specs.declared.database.Slot.{Slot}
@@ -9,11 +10,12 @@ use Rattle.cj_model.specs.declared.answer.Outcome.{Outcome}
 use Rattle.cj_cluster.specs.declared.event.Event.{Event}
 use Rattle.cj_cluster.specs.declared.event.Event.TheVariants.{Sched, Ended, ReadFailed, LogFailed, Disabled, Enabled, Marker}
 use Rattle.cj_cluster.specs.declared.moves.OpenSession.{OpenSession}
+use Rattle.cj_model.specs.Cluster.Accounts.{login_of}
 use Rattle.cj_model.specs.Cluster.Placements.{part}
 use Rattle.cj_model.specs.Database.Steps.{step}
 use Rattle.cj_cluster.specs.History.Histories.{log, database_after}
-use Rattle.cj_cluster.specs.History.Transactions.{takes_part, begun_after}
-use Rattle.cj_cluster.specs.Moves.Cores.{position_at, begun_at}
+use Rattle.cj_cluster.specs.History.Transactions.{takes_part}
+use Rattle.cj_cluster.specs.Moves.Cores.{position_at}
 use Rattle.cj_cluster.specs.Moves.Moves.{DoesWithEntry}
 use Rattle.cj_cluster.specs.Proving.Invariants.{HoldsPart, CoversDrafts}
 use Rattle.cj_cluster.proofs.Effects.{is_there}
@@ -26,12 +28,13 @@ use Rattle.cj_replica.specs.declared.cell.Caught.{Caught}
 use Rattle.cj_replica.specs.declared.cell.Caught.TheVariants as caught
 use Rattle.cj_replica.specs.declared.cell.CellError.{CellError}
 use Rattle.cj_replica.specs.declared.cell.CellError.TheVariants as errors
-use Rattle.cj_replica.specs.Cells.{CellState, HasCellCause, SaysEntryOutcome, TellsAfterEntry, IsCaught, takes_part_in_entry, begun_after_entry, is_skipped, position_after}
+use Rattle.cj_replica.specs.Cells.{CellState, HasCellCause, LogsInForEntry, SaysEntryOutcome, TellsAfterEntry, IsCaught, takes_part_in_entry, begun_after_entry, is_skipped, position_after}
 use Rattle.cj_core.specs.Worlds.{core_of, world_of, IsCell}
 use Rattle.cj_core.specs.Counting.{did_fail}
 use Rattle.cj_core.specs.Kept.{Kept}
+use Rattle.cj_core.specs.Logins.{logins_of, next_user, LogsInToTake, MayCallUnder}
 use Rattle.cj_core.specs.Taking.{CanTake, TookEntry, did_of}
-use Rattle.cj_core.proofs.Counted.{spent_times}
+use Rattle.cj_core.proofs.Counted.{logins_may, logins_same, logins_set, spent_times}
 use Rattle.cj_core.proofs.CellsKept.{position_of, begun_of, position_within}
 
 -- ---- taking an entry
@@ -104,10 +107,26 @@ module _ (tells : Bool) (accounts : List Account) (l : Layout) (h : List Event) 
   same_cell : get_or cells b y ≡ x
   same_cell = get_or_default cells b y x can.within ∙ sym there
 
+  -- whose login it was given
+  user_is : next_user (log h) (get_or cells b y).position ≡ e.user
+  user_is = ap (next_user (log h)) (can.stands y) ∙ ap (λ (o : Option Entry). option_map_or (λ (z : Entry). z.user) o []) entry
+
+  same_login : y.login ≡ x.login → y.login ≡ (get_or cells b y).login
+  same_login same = same ∙ ap (λ (z : CellState). z.login) (sym same_cell)
+
+  may_log_in : (given : List ℕ) → (y.login ≡ Some given) ⊎ (y.login ≡ x.login) → MayCallUnder b given (logins_of cells) (logins_of (set cells b y))
+  may_log_in given called = logins_may cells b y given can.within (⊎_elim (λ is. inl is) (λ same. inr (same_login same)) called)
+
+  logs_in : (r : Result Caught CellError) (given : List ℕ) → LogsInForEntry x.login given r y.login → LogsInToTake b given (did_of r) (logins_of cells) (logins_of (set cells b y))
+  logs_in (Ok caught.Skipped) given same = logins_same cells b y can.within (same_login same)
+  logs_in (Ok (caught.Did o)) given is = logins_set cells b y given is
+  logs_in (Err errors.Failed) given called = may_log_in given called
+  logs_in (Err errors.Starved) given called = may_log_in given called
+
   pub took : (r : Result Caught CellError) (m : ℕ) (now : List CellState) → m ≡ can.p + 1 → now ≡ set cells b y → takes_part_in_entry x e ≡ not (is_skipped r) → SaysEntryOutcome x.told e r → IfOk r IsCaught
       → HasCellCause x.faults y.faults r → y.arming ≡ cond (not (is_skipped r)) (spent x.arming) x.arming → TellsAfterEntry x.told e r y.told → y.position ≡ position_after m r → y.begun ≡ begun_after_entry x.begun e r
-      → TookEntry tells accounts l h cells b (did_of r) now
-  took r m now is_next is_set skipped says possible cause arming told position begun =
+      → (given : List ℕ) → given ≡ login_of accounts e.user b → LogsInForEntry x.login given r y.login → TookEntry tells accounts l h cells b (did_of r) now
+  took r m now is_next is_set skipped says possible cause arming told position begun given is_given login =
       let place : y.position ≡ position_after (can.p + 1) r = position ∙ ap (λ k. position_after k r) is_next in
       record {
         cell = y;
@@ -124,6 +143,9 @@ module _ (tells : Bool) (accounts : List Account) (l : Layout) (h : List Event) 
             };
         faults = subst (λ (z : CellState). y.faults ≡ cond (did_fail (did_of r)) (next z.faults) z.faults) (sym same_cell) (counted r cause);
         armings = spent_times (not (is_skipped r)) x.arming y.arming arming ∙ ap (λ (z : CellState). z.arming.times) (sym same_cell);
+        logins =
+            subst (λ (k : List ℕ). LogsInToTake b k (did_of r) (logins_of cells) (logins_of now)) (is_given ∙ ap (λ (u : List ℕ). login_of accounts u b) (sym user_is))
+            (subst (λ (xs : List CellState). LogsInToTake b given (did_of r) (logins_of cells) (logins_of xs)) (sym is_set) (logs_in r given login));
       }
 
 -- ---- who can take one

@@ -1,11 +1,12 @@
--- Counts of faults and of armings where one cell changes.
-use Rattle.std.proofs.Common.{◌≡◌, ℕ, ◌<◌, Bool, true, false, cond, List, length, map, get_or, set, None, Some, ap, sym, ◌∙◌, subst, refl}
+-- Counts of faults and of armings, and logins, where one cell changes.
+use Rattle.std.proofs.Common.{◌≡◌, ◌⊎◌, inl, inr, ℕ, ◌<◌, Bool, true, false, cond, List, length, get_or, set, None, Some, ap, sym, ◌∙◌, refl, ⊎_elim}
 use Rattle.std.proofs.lemmas.List.{map-set, get_or-map, set-get_or}
 use Rattle.cj_outside.specs.Causes.{next}
 use Rattle.cj_backend.specs.Backends.{Arming, arming_after, spent}
 use Rattle.cj_replica.specs.Cells.{CellState}
 use Rattle.cj_core.specs.Armings.{armings_of, armings_after}
 use Rattle.cj_core.specs.Counting.{faults_of, faults_after}
+use Rattle.cj_core.specs.Logins.{CallsUnder, MayCallUnder, logins_of}
 
 -- the backend of cell b failed or did not, and this cell alone has changed
 pub counts_set : (cells : List CellState) (b : ℕ) (y : CellState) (failed : Bool) → b < length cells → y.faults ≡ cond failed (next (get_or cells b y).faults) (get_or cells b y).faults
@@ -36,3 +37,20 @@ armed_times false a = refl
 pub spent_times : (asked : Bool) (before now : Arming) → now ≡ cond asked (spent before) before → now.times ≡ before.times
 spent_times true before now is = ap (λ (a : Arming). a.times) is
 spent_times false before now is = ap (λ (a : Arming). a.times) is
+
+-- ---- logins
+
+-- the backend of cell b was called under this login, and this cell alone has changed
+pub logins_set : (cells : List CellState) (b : ℕ) (y : CellState) (login : List ℕ) → y.login ≡ Some login → CallsUnder b login (logins_of cells) (logins_of (set cells b y))
+logins_set cells b y login is = map-set (λ (x : CellState). x.login) cells b y ∙ ap (set (logins_of cells) b) is
+
+-- its last call is the one before
+pub logins_same : (cells : List CellState) (b : ℕ) (y : CellState) → b < length cells → y.login ≡ (get_or cells b y).login → logins_of (set cells b y) ≡ logins_of cells
+logins_same cells b y lt same =
+    let was : get_or (logins_of cells) b None ≡ (get_or cells b y).login = get_or-map (λ (x : CellState). x.login) cells b y None lt in
+    map-set (λ (x : CellState). x.login) cells b y ∙ (ap (set (logins_of cells) b) (same ∙ sym was) ∙ set-get_or (logins_of cells) b None)
+
+-- one or the other
+pub logins_may : (cells : List CellState) (b : ℕ) (y : CellState) (login : List ℕ) → b < length cells → (y.login ≡ Some login) ⊎ (y.login ≡ (get_or cells b y).login)
+    → MayCallUnder b login (logins_of cells) (logins_of (set cells b y))
+logins_may cells b y login lt called = ⊎_elim (λ is. inr (logins_set cells b y login is)) (λ same. inl (logins_same cells b y lt same)) called

@@ -1,5 +1,5 @@
 -- How a list of moves comes from move to move.
-use Rattle.std.proofs.Common.{◌≡◌, ℕ, ◌+◌, ◌<◌, ◌≤◌, ◌^◌, Bool, List, [], ◌∷◌, ◌++◌, length, map, take, get_or, All, refl, ap, sym, ◌∙◌, subst, arith, Some}
+use Rattle.std.proofs.Common.{◌≡◌, ℕ, ◌+◌, ◌<◌, ◌≤◌, ◌^◌, Bool, List, [], ◌∷◌, ◌++◌, length, map, take, get_or, All, refl, ap, sym, ◌∙◌, subst, arith}
 use mathlib.Core.List.{IsPrefix}
 use Rattle.std.proofs.lemmas.List.{take_more, map_push, length-take-le}
 use Rattle.std.proofs.lemmas.List.Elements.{All-get_or, All-take}

@@ -1,5 +1,5 @@
 -- What a read gives.
-use Rattle.std.proofs.Common.{◌≡◌, ◌≢◌, ◌⊎◌, inl, inr, ℕ, ◌<◌, ◌≤◌, ◌^◌, Bool, true, false, not, length, Option, None, Some, is_some, Ok, Err, MatchBool, refl, ap, sym, ◌∙◌, subst, arith}
+use Rattle.std.proofs.Common.{◌≡◌, ◌≢◌, ◌⊎◌, inl, inr, ℕ, ◌<◌, ◌≤◌, ◌^◌, Bool, true, false, not, List, length, Option, None, Some, is_some, Ok, Err, MatchBool, refl, ap, sym, ◌∙◌, subst, arith}
 use Rattle.std.specs.Prelude.{IsTrue, ◌↔◌}
 use Rattle.std.proofs.lemmas.Bool.{both_ways}
 use Rattle.cj_model.specs.declared.select.Select.{Select}
@@ -25,9 +25,11 @@ use Rattle.cj_cluster.proofs.Standing.{open_above, still_tried}
 use Rattle.cj_cluster.specs.Moves.Moves.{MoveResult, is_open, open_tx, position_or_zero, IsServingMask, ReadIsAnswered, ReadCameTooEarly, HasOtherRead, HasNoOtherRead, AttemptsRead, AttemptsReadOrWaits, with_read, answered_at, was_answered, still_reading, tried_of, tried_with}
 use Rattle.cj_model.proofs.Masks.{has-zero, some_bit}
 use Rattle.cj_model.specs.Database.Outcomes.{IsAsked}
+use Rattle.cj_core.specs.declared.cells.AskError.{AskError}
 use Rattle.cj_core.specs.declared.cells.AskError.TheVariants as errors
 use Rattle.cj_core.specs.Counting.{tells_fault}
 use Rattle.cj_core.specs.Effects.{Asks, asked_core, HaveFailed, RefusesOrStays, answer_given}
+use Rattle.cj_core.specs.Logins.{CallsUnder, MayCallUnder, LogsInByMove}
 
 -- ---- another read
 
@@ -151,6 +153,10 @@ module _ (tells : Bool) (c : Core) (s b : ℕ) (select : Select) (same : HasNoOt
           after = after ∙ ap (λ (x : Core). with_read x s was_answered) same_core;
         })))))
 
+-- what was asked of this transaction, and why there was no answer
+pub asks_same : (tells : Bool) (c : Core) (s b : ℕ) (select : Select) (t u : ℕ) (e d : AskError) → t ≡ u → e ≡ d → Asks tells c s b t select (Err e) → Asks tells c s b u select (Err d)
+asks_same tells c s b select t u e d same is asks = subst (λ (k : ℕ). Asks tells c s b k select (Err d)) same (subst (λ (k : AskError). Asks tells c s b t select (Err k)) is asks)
+
 -- ---- whom it blames
 
 -- an answer blames no backend
@@ -166,3 +172,16 @@ answers_blame_none (asked.Refused r) (inr (inr (inr (inr q)))) = rw q refl
 pub failures_blame : (c : Core) (s : ℕ) (select : Select) (tried serving : ℕ) (m : Moved) (z : Core) → RefusesOrStays c s select tried serving m z → tells_fault (Ok m) ≡ true
 failures_blame c s select tried serving m z (inl h) = rw h.1 refl
 failures_blame c s select tried serving m z (inr h) = rw h.1 refl
+
+-- ---- under which login it called one
+
+-- a backend that answers was called
+pub answers_log_in : (b : ℕ) (login : List ℕ) (a : Asked) (old new : List (Option (List ℕ))) → CallsUnder b login old new → LogsInByMove b login (Ok (answer_given a)) old new
+answers_log_in b login (asked.Rows a) old new called = called
+answers_log_in b login (asked.Refused r) old new called = inr called
+
+-- one that failed may have been
+pub failures_log_in : (b : ℕ) (login : List ℕ) (c : Core) (s : ℕ) (select : Select) (tried serving : ℕ) (m : Moved) (z : Core) (old new : List (Option (List ℕ))) → RefusesOrStays c s select tried serving m z
+    → MayCallUnder b login old new → LogsInByMove b login (Ok m) old new
+failures_log_in b login c s select tried serving m z old new (inl h) called = subst (λ (k : Moved). LogsInByMove b login (Ok k) old new) (sym h.1) called
+failures_log_in b login c s select tried serving m z old new (inr h) called = subst (λ (k : Moved). LogsInByMove b login (Ok k) old new) (sym h.1) called

@@ -7,6 +7,7 @@ use Rattle.cj_model.specs.declared.request.Act.{Act}
 use Rattle.cj_model.specs.declared.request.Act.TheVariants as act
 use Rattle.cj_model.specs.declared.request.Entry.{Entry}
 use Rattle.cj_model.specs.declared.answer.Outcome.{Outcome}
+use Rattle.cj_model.specs.Cluster.Accounts.{login_of}
 use Rattle.cj_cluster.specs.declared.event.Event.{Event}
 use Rattle.cj_cluster.specs.declared.moves.Did.{Did}
 use Rattle.cj_cluster.specs.declared.moves.Did.TheVariants as did
@@ -24,13 +25,14 @@ use Rattle.cj_cluster.proofs.Standing.{stand_rest}
 use Rattle.cj_auth.specs.Admission.{Register}
 use Rattle.cj_place.specs.Layouts.{Layout, placement_of}
 use Rattle.cj_replica.specs.Cells.{CellState}
-use Rattle.cj_core.specs.Worlds.{core_of, world_of, IsCell, IsWorld}
+use Rattle.cj_core.specs.Worlds.{WorldState, core_of, world_of, IsCell, IsWorld}
 use Rattle.cj_core.specs.Taking.{TookEntry, first_outcome_after}
 use Rattle.cj_core.specs.Armings.{armings_of}
 use Rattle.cj_core.specs.Counting.{did_fail, faults_of, faults_after}
 use Rattle.cj_core.specs.Kept.{Kept}
+use Rattle.cj_core.specs.Logins.{logins_of, login_to_take, next_user, LogsInToTake}
 use Rattle.cj_core.proofs.Counted.{armings_set, counts_set}
-use Rattle.cj_core.proofs.CellsKept.{cells_set}
+use Rattle.cj_core.proofs.CellsKept.{cells_set, position_of}
 
 -- who takes part in an act with no transaction begun does so with any
 takes_more : (p : Placement) (b : ℕ) (begun : List ℕ) (tx : ℕ) (a : Act) → takes_part p b [] tx a ≡ true → takes_part p b begun tx a ≡ true
@@ -188,3 +190,10 @@ module _ (tells : Bool) (reg : Register) (l : Layout) (h : List Event) (cells : 
   -- it arms no backend
   pub took_armings : (old : List CellState) → old ≡ cells → armings_of now ≡ armings_of old
   took_armings old was = ap armings_of took.set ∙ (armings_set cells b took.cell false (rw length-map at within) took.armings ∙ ap armings_of (sym was))
+
+  -- it is called under the login of the entry's user
+  pub took_logins : (old : WorldState) → world_of reg l h cells f s ss g ≡ old → LogsInToTake b (login_to_take old b) d (logins_of old.cells) (logins_of now)
+  took_logins old was =
+      let place : position_at (core_of l h cells f s ss g) b ≡ (get_or cells b took.cell).position = position_of cells b took.cell (rw length-map at within) in
+      subst (λ (x : WorldState). LogsInToTake b (login_to_take x b) d (logins_of x.cells) (logins_of now)) was
+      (subst (λ (q : Option ℕ). LogsInToTake b (login_of reg.accounts (next_user (log h) q) b) d (logins_of cells) (logins_of now)) (sym place) took.logins)

@@ -26,4 +26,5 @@ returns g c =
     rw c.did_of.ensures
     (took g.B.Backend.TELLS c.args.accounts.now.accounts c.args.book.now.layout c.args.book.now.history c.args.cells.now.items c.args.b can c.index_mut.result.now c.catch_up.new.self c.index_mut.ensures.value c.in-Some.entry.now entry
     c.catch_up.ensures.b c.catch_up.ensures.placement c.catch_up.result (c.place-next.result + 1) (slice_set c.args.cells.now.items c.args.b c.catch_up.new.self) next refl c.catch_up.ensures.part c.catch_up.ensures.outcome c.catch_up.ensures.possible
-    c.catch_up.ensures.cause c.catch_up.ensures.arming.after c.catch_up.ensures.told c.catch_up.ensures.position c.catch_up.ensures.begun)
+    c.catch_up.ensures.cause c.catch_up.ensures.arming.after c.catch_up.ensures.told c.catch_up.ensures.position c.catch_up.ensures.begun
+    c.mapped-login.result.now c.mapped-login.ensures c.catch_up.ensures.login)

@@ -1,22 +1,25 @@
-use Rattle.std.proofs.Common.{◌≡◌, ◌<◌, ℕ, true, false, cond, List, length, map, get_or, set, Ok, Err, None, Some, Option, ap, sym, ◌∙◌, subst}
+use Rattle.std.specs.Prelude.{option_copied}
+use Rattle.std.proofs.Common.{◌≡◌, ◌<◌, ℕ, true, false, cond, List, length, map, get_or, set, Ok, Err, Some, Option, ap, sym, ◌∙◌, subst}
 use Rattle.std.proofs.lemmas.List.{length-map, get_or_default, set-get_or}
 use Rattle.cj_outside.specs.Causes.{next}
+use Rattle.cj_model.specs.Cluster.Accounts.{login_of}
 use Rattle.cj_model.specs.Cluster.Placements.{hosts_all}
 use Rattle.cj_cluster.specs.Moves.Cores.{session_at}
 use Rattle.cj_cluster.specs.Moves.Moves.{read_number}
 use Rattle.cj_book.specs.Books.{BookState}
 use Rattle.cj_replica.specs.declared.cell.CellReadError.{CellReadError}
 use Rattle.cj_replica.specs.declared.cell.CellReadError.TheVariants as read_errors
-use Rattle.cj_replica.specs.Cells.{CellState, is_asked}
-use Rattle.cj_core.specs.Worlds.{WorldState, core_of, world_of}
+use Rattle.cj_replica.specs.Cells.{CellState, is_asked, LogsInForRead}
+use Rattle.cj_core.specs.Worlds.{WorldState, accounts_of, core_of, world_of}
 use Rattle.cj_cluster.specs.Moves.Cores.{Core}
 use Rattle.cj_core.specs.Armings.{armings_of}
 use Rattle.cj_core.specs.Counting.{faults_of, faults_after}
 use Rattle.cj_core.specs.Effects.{Asks, asked_core, failed_asked}
 use Rattle.cj_core.specs.Kept.{Kept}
-use Rattle.cj_core.proofs.Asking.{kept_asked, same_core, answers, errs, noting, noted_core, noted_fault, noted_want, wanted}
+use Rattle.cj_core.specs.Logins.{asked_for, logins_of, LogsInToAsk}
+use Rattle.cj_core.proofs.Asking.{kept_asked, same_core, answers, errs, noting, noted_core, noted_fault, noted_logins, noted_want, wanted}
 use Rattle.cj_core.proofs.KeepingEvents.{kept_read_failed}
-use Rattle.cj_core.proofs.Counted.{armings_set, counts_set, spent_times}
+use Rattle.cj_core.proofs.Counted.{armings_set, counts_set, logins_set, spent_times}
 use Rattle.cj_core.proofs.world.World.ask.Goals as goal
 
 within : (n b : ℕ) (cells : List CellState) → length (map (λ (x : CellState). x.position) cells) ≡ n → b < n → b < length cells
@@ -65,7 +68,7 @@ invariant_of-self-in-Err g c =
     let asked = subst (λ (k : BookState). Kept g.B.Backend.TELLS (world_of w.accounts k.layout k.history (set w.cells.items c.args.b c.read.new.self) w.failed w.starved w.sessions k.greatest) k.sessions w.first_outcome) (sym c.in_ok-take_spare.ensures.ok) kept in
     noting (λ (k : BookState). Kept g.B.Backend.TELLS (world_of w.accounts k.layout k.history (set w.cells.items c.args.b c.read.new.self) w.failed w.starved w.sessions k.greatest) k.sessions w.first_outcome)
     c.take_spare.new.self c.noted.new.book c.args.s c.read_number-number.result c.args.b c.in-Err.error c.noted.result c.noted.ensures asked
-    (λ space. kept_read_failed g.B.Backend.TELLS c.take_spare.new.self.layout c.take_spare.new.self.history (set w.cells.items c.args.b c.read.new.self) w.failed w.starved w.sessions c.take_spare.new.self.greatest c.take_spare.new.self.sessions w.first_outcome asked c.args.s c.read_number-number.result c.args.b space)
+    (λ space. kept_read_failed g.B.Backend.TELLS w.accounts c.take_spare.new.self.layout c.take_spare.new.self.history (set w.cells.items c.args.b c.read.new.self) w.failed w.starved w.sessions c.take_spare.new.self.greatest c.take_spare.new.self.sessions w.first_outcome asked c.args.s c.read_number-number.result c.args.b space)
 
 pub returns-in-Err-clause-core : goal.returns-in-Err-clause-core
 returns-in-Err-clause-core g c =
@@ -121,9 +124,35 @@ returns-in-Err-clause-want g c want =
     let lt = within (length w.book.layout.names) c.args.b w.cells.items c.self.invariant.world.sound.cells (subst (λ (x : WorldState). c.args.b < x.core.placement.backends) (sym c.self.view_is) c.requires.within) in
     let starved = noted_want c.take_spare.new.self c.noted.new.book c.args.s c.read_number-number.result c.args.b c.in-Err.error c.noted.result c.noted.ensures (cc want) in
     let is : c.read.result ≡ Err read_errors.NoMemory = c.in-Err.is ∙ ap (λ (d : CellReadError). Err d) starved.0 in
-    let cell : c.read.new.self ≡ c.index_mut.result.now = wanted c.index_mut.result.now c.read.new.self c.read.result is c.read.ensures.same c.read.ensures.cause c.read.ensures.asks c.read.ensures.arming w.login c.read.ensures.login in
+    let cell : c.read.new.self ≡ c.index_mut.result.now = wanted c.index_mut.result.now c.read.new.self c.read.result is c.read.ensures.same c.read.ensures.cause c.read.ensures.asks c.read.ensures.arming c.mapped-login.result.now c.read.ensures.login in
     let there : c.index_mut.result.now ≡ get_or w.cells.items c.args.b c.index_mut.result.now = c.index_mut.ensures.value in
     let cells : set w.cells.items c.args.b c.read.new.self ≡ w.cells.items = ap (set w.cells.items c.args.b) (cell ∙ there) ∙ set-get_or w.cells.items c.args.b c.index_mut.result.now in
     let book : c.noted.new.book ≡ record w.book { has_spare = true } = starved.1 ∙ c.in_ok-take_spare.ensures.ok in
     ap (λ (k : BookState). world_of w.accounts k.layout k.history (set w.cells.items c.args.b c.read.new.self) w.failed w.starved w.sessions k.greatest) book
     ∙ (ap (λ (xs : List CellState). world_of w.accounts w.book.layout w.book.history xs w.failed w.starved w.sessions w.book.greatest) cells ∙ c.self.view_is)
+
+pub mapped-login-requires : goal.mapped-login-requires
+mapped-login-requires g c =
+    subst (λ (m : ℕ). c.args.b < m) (sym c.self.invariant.world.registered) (subst (λ (x : WorldState). c.args.b < x.core.placement.backends) (sym c.self.view_is) c.requires.within)
+
+pub returns-in-Ok-clause-logins : goal.returns-in-Ok-clause-logins
+returns-in-Ok-clause-logins g c =
+    let w = c.self.inside in
+    let given : c.mapped-login.result.now ≡ login_of w.accounts.accounts (asked_for w.sessions c.args.s (option_copied c.args.user)) c.args.b =
+    c.mapped-login.ensures ∙ ap (λ (user : List ℕ). login_of w.accounts.accounts user c.args.b) c.asking_user.ensures
+    in
+    subst (λ (x : WorldState). LogsInToAsk c.args.b (login_of (accounts_of x) (asked_for x.core.sessions c.args.s (option_copied c.args.user)) c.args.b) (Ok c.in-Ok.answered) (logins_of x.cells) (logins_of (set w.cells.items c.args.b c.read.new.self))) c.self.view_is
+    (logins_set w.cells.items c.args.b c.read.new.self _ (c.in-Ok.ensures.login ∙ ap (λ (login : List ℕ). Some login) given))
+
+pub returns-in-Err-clause-logins : goal.returns-in-Err-clause-logins
+returns-in-Err-clause-logins g c =
+    let w = c.self.inside in
+    let lt = within (length w.book.layout.names) c.args.b w.cells.items c.self.invariant.world.sound.cells (subst (λ (x : WorldState). c.args.b < x.core.placement.backends) (sym c.self.view_is) c.requires.within) in
+    let is : get_or w.cells.items c.args.b c.read.new.self ≡ c.index_mut.result.now = get_or_default w.cells.items c.args.b c.read.new.self c.index_mut.result.now lt ∙ sym c.index_mut.ensures.value in
+    let given : c.mapped-login.result.now ≡ login_of w.accounts.accounts (asked_for w.sessions c.args.s (option_copied c.args.user)) c.args.b =
+    c.mapped-login.ensures ∙ ap (λ (user : List ℕ). login_of w.accounts.accounts user c.args.b) c.asking_user.ensures
+    in
+    let called = subst (λ (x : CellState). LogsInForRead x.login c.mapped-login.result.now (Err c.in-Err.error) c.read.new.self.login) (sym is) c.in-Err.ensures.login in
+    let asked = noted_logins c.take_spare.new.self c.noted.new.book c.args.s c.read_number-number.result c.args.b c.in-Err.error c.noted.result w.cells.items c.read.new.self c.mapped-login.result.now lt c.noted.ensures called in
+    subst (λ (x : WorldState). LogsInToAsk c.args.b (login_of (accounts_of x) (asked_for x.core.sessions c.args.s (option_copied c.args.user)) c.args.b) (Err c.noted.result) (logins_of x.cells) (logins_of (set w.cells.items c.args.b c.read.new.self))) c.self.view_is
+    (subst (λ (login : List ℕ). LogsInToAsk c.args.b login (Err c.noted.result) (logins_of w.cells.items) (logins_of (set w.cells.items c.args.b c.read.new.self))) given asked)

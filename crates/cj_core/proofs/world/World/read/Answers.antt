@@ -9,10 +9,11 @@ use Rattle.cj_cluster.proofs.Now.{can_read}
 use Rattle.cj_cluster.proofs.Pushed.{opened-same}
 use Rattle.cj_cluster.proofs.Standing.{open_above, tried_more}
 use Rattle.cj_core.specs.Worlds.{WorldState}
+use Rattle.cj_core.specs.Logins.{logins_of, login_to_ask, LogsInToAsk}
 use Rattle.cj_core.specs.Armings.{armings_of}
 use Rattle.cj_core.specs.Counting.{faults_of, faults_after, tells_fault}
 use Rattle.cj_core.specs.Effects.{Asks, asked_core, failed_asked, HaveFailed, RefusesOrStays}
-use Rattle.cj_core.proofs.Reading.{not_serving, answered, failed, unnoted, is_out, is_behind, answers_blame_none, failures_blame}
+use Rattle.cj_core.proofs.Reading.{not_serving, answered, failed, unnoted, is_out, is_behind, answers_blame_none, answers_log_in, asks_same, failures_blame, failures_log_in}
 use Rattle.cj_core.proofs.world.World.read.Goals as goal
 
 pub has_bit-requires : goal.has_bit-requires
@@ -77,7 +78,7 @@ returns-in-Ok-clause-causes g c =
 pub returns-in-Err-Failed-clause-moves : goal.returns-in-Err-Failed-clause-moves
 returns-in-Err-Failed-clause-moves g c =
     let same : HasNoOtherRead (session_at c.args.self.now.core c.args.s) c.args.select = c.if-reads_other.ensures in
-    let asks = subst (λ (e : AskError). Asks g.B.Backend.TELLS c.args.self.now.core c.args.s c.args.b (open_tx c.args.self.now.core c.args.s) c.args.select (Err e)) c.in-Err-Failed.field-0-is (subst (λ (t : ℕ). Asks g.B.Backend.TELLS c.args.self.now.core c.args.s c.args.b t c.args.select (Err c.in-Err.error)) c.open_tx-tx.ensures c.in-Err-Failed.ensures.asks) in
+    let asks = asks_same g.B.Backend.TELLS c.args.self.now.core c.args.s c.args.b c.args.select c.open_tx-tx.result (open_tx c.args.self.now.core c.args.s) _ _ c.open_tx-tx.ensures c.in-Err-Failed.field-0-is c.in-Err-Failed.ensures.asks in
     let core = subst (λ (e : AskError). c.ask.new.self.core ≡ asked_core c.args.self.now.core c.args.s c.args.b (Err e)) c.in-Err-Failed.field-0-is c.in-Err-Failed.ensures.core in
     failed g.B.Backend.TELLS c.args.self.now.core c.args.s c.args.b c.args.select same ((c.serving-serving.ensures.mask c.args.b).1 (sym c.has_bit.ensures ∙ c.if-not-has_bit.false)) c.ask.new.self.core c.refuse_or_stay.new.self.core c.refuse_or_stay.result c.serving-serving.result c.serving-serving.ensures.mask asks core
     (subst (λ (tried : ℕ). RefusesOrStays c.ask.new.self.core c.args.s c.args.select tried c.serving-serving.result c.refuse_or_stay.result c.refuse_or_stay.new.self.core) c.tried_with-tried.ensures c.refuse_or_stay.ensures.moves)
@@ -91,7 +92,7 @@ returns-in-Err-Failed-clause-causes g c =
 pub returns-in-Err-Unnoted-clause-moves : goal.returns-in-Err-Unnoted-clause-moves
 returns-in-Err-Unnoted-clause-moves g c =
     let same : HasNoOtherRead (session_at c.args.self.now.core c.args.s) c.args.select = c.if-reads_other.ensures in
-    let asks = subst (λ (e : AskError). Asks g.B.Backend.TELLS c.args.self.now.core c.args.s c.args.b (open_tx c.args.self.now.core c.args.s) c.args.select (Err e)) c.in-Err-Unnoted.field-0-is (subst (λ (t : ℕ). Asks g.B.Backend.TELLS c.args.self.now.core c.args.s c.args.b t c.args.select (Err c.in-Err.error)) c.open_tx-tx.ensures c.in-Err-Unnoted.ensures.asks) in
+    let asks = asks_same g.B.Backend.TELLS c.args.self.now.core c.args.s c.args.b c.args.select c.open_tx-tx.result (open_tx c.args.self.now.core c.args.s) _ _ c.open_tx-tx.ensures c.in-Err-Unnoted.field-0-is c.in-Err-Unnoted.ensures.asks in
     let core = subst (λ (e : AskError). c.ask.new.self.core ≡ asked_core c.args.self.now.core c.args.s c.args.b (Err e)) c.in-Err-Unnoted.field-0-is c.in-Err-Unnoted.ensures.core in
     unnoted g.B.Backend.TELLS c.args.self.now.core c.args.s c.args.b c.args.select same ((c.serving-serving.ensures.mask c.args.b).1 (sym c.has_bit.ensures ∙ c.if-not-has_bit.false)) c.in-Err-Unnoted.events c.ask.new.self.core c.refuse_unnoted.new.self.core c.refuse_unnoted.result asks core c.refuse_unnoted.ensures.moved
     (ap (λ (w : WorldState). w.core) c.refuse_unnoted.ensures.ok)
@@ -105,7 +106,7 @@ returns-in-Err-Unnoted-clause-causes g c =
 pub returns-in-Err-Out-clause-moves : goal.returns-in-Err-Out-clause-moves
 returns-in-Err-Out-clause-moves g c =
     let same : HasNoOtherRead (session_at c.args.self.now.core c.args.s) c.args.select = c.if-reads_other.ensures in
-    let asks = subst (λ (e : AskError). Asks g.B.Backend.TELLS c.args.self.now.core c.args.s c.args.b (open_tx c.args.self.now.core c.args.s) c.args.select (Err e)) c.in-Err-Out.field-0-is (subst (λ (t : ℕ). Asks g.B.Backend.TELLS c.args.self.now.core c.args.s c.args.b t c.args.select (Err c.in-Err.error)) c.open_tx-tx.ensures c.in-Err-Out.ensures.asks) in
+    let asks = asks_same g.B.Backend.TELLS c.args.self.now.core c.args.s c.args.b c.args.select c.open_tx-tx.result (open_tx c.args.self.now.core c.args.s) _ _ c.open_tx-tx.ensures c.in-Err-Out.field-0-is c.in-Err-Out.ensures.asks in
     let core = subst (λ (e : AskError). c.ask.new.self.core ≡ asked_core c.args.self.now.core c.args.s c.args.b (Err e)) c.in-Err-Out.field-0-is c.in-Err-Out.ensures.core in
     is_out g.B.Backend.TELLS c.args.self.now.core c.args.s c.args.b c.args.select same ((c.serving-serving.ensures.mask c.args.b).1 (sym c.has_bit.ensures ∙ c.if-not-has_bit.false)) c.ask.new.self.core c.wait.new.self.core asks core (ap (λ (w : WorldState). w.core) c.wait.ensures)
 
@@ -117,7 +118,7 @@ returns-in-Err-Out-clause-causes g c =
 pub returns-in-Err-Behind-clause-moves : goal.returns-in-Err-Behind-clause-moves
 returns-in-Err-Behind-clause-moves g c =
     let same : HasNoOtherRead (session_at c.args.self.now.core c.args.s) c.args.select = c.if-reads_other.ensures in
-    let asks = subst (λ (e : AskError). Asks g.B.Backend.TELLS c.args.self.now.core c.args.s c.args.b (open_tx c.args.self.now.core c.args.s) c.args.select (Err e)) c.in-Err-Behind.field-0-is (subst (λ (t : ℕ). Asks g.B.Backend.TELLS c.args.self.now.core c.args.s c.args.b t c.args.select (Err c.in-Err.error)) c.open_tx-tx.ensures c.in-Err-Behind.ensures.asks) in
+    let asks = asks_same g.B.Backend.TELLS c.args.self.now.core c.args.s c.args.b c.args.select c.open_tx-tx.result (open_tx c.args.self.now.core c.args.s) _ _ c.open_tx-tx.ensures c.in-Err-Behind.field-0-is c.in-Err-Behind.ensures.asks in
     let core = subst (λ (e : AskError). c.ask.new.self.core ≡ asked_core c.args.self.now.core c.args.s c.args.b (Err e)) c.in-Err-Behind.field-0-is c.in-Err-Behind.ensures.core in
     is_behind g.B.Backend.TELLS c.args.self.now.core c.args.s c.args.b c.args.select same ((c.serving-serving.ensures.mask c.args.b).1 (sym c.has_bit.ensures ∙ c.if-not-has_bit.false)) c.in-Err-Behind.position c.ask.new.self.core
     c.wait-in-Err-Behind.new.self.core asks core (ap (λ (w : WorldState). w.core) c.wait-in-Err-Behind.ensures)
@@ -141,3 +142,32 @@ returns-in-Err-Out-clause-armings g c = ap (λ (w : WorldState). armings_of w.ce
 
 pub returns-in-Err-Behind-clause-armings : goal.returns-in-Err-Behind-clause-armings
 returns-in-Err-Behind-clause-armings g c = ap (λ (w : WorldState). armings_of w.cells) c.wait-in-Err-Behind.ensures ∙ c.ask.ensures.armings
+
+pub returns-in-Ok-clause-logins : goal.returns-in-Ok-clause-logins
+returns-in-Ok-clause-logins g c =
+    let same : logins_of c.answer.new.self.cells ≡ logins_of c.ask.new.self.cells = ap (λ (w : WorldState). logins_of w.cells) c.answer.ensures.ok in
+    rw (same, c.answer.ensures.moved)
+    (answers_log_in c.args.b (login_to_ask c.args.self.now c.args.s c.args.b) c.in-Ok.answer (logins_of c.args.self.now.cells) (logins_of c.ask.new.self.cells) c.in-Ok.ensures.logins)
+
+pub returns-in-Err-Failed-clause-logins : goal.returns-in-Err-Failed-clause-logins
+returns-in-Err-Failed-clause-logins g c =
+    let logs = subst (λ (e : AskError). LogsInToAsk c.args.b (login_to_ask c.args.self.now c.args.s c.args.b) (Err e) (logins_of c.args.self.now.cells) (logins_of c.ask.new.self.cells)) c.in-Err-Failed.field-0-is c.in-Err-Failed.ensures.logins in
+    rw c.refuse_or_stay.ensures.cells
+    (failures_log_in c.args.b (login_to_ask c.args.self.now c.args.s c.args.b) c.ask.new.self.core c.args.s c.args.select c.tried_with-tried.result c.serving-serving.result c.refuse_or_stay.result c.refuse_or_stay.new.self.core
+    (logins_of c.args.self.now.cells) (logins_of c.ask.new.self.cells) c.refuse_or_stay.ensures.moves logs)
+
+pub returns-in-Err-Unnoted-clause-logins : goal.returns-in-Err-Unnoted-clause-logins
+returns-in-Err-Unnoted-clause-logins g c =
+    let logs = subst (λ (e : AskError). LogsInToAsk c.args.b (login_to_ask c.args.self.now c.args.s c.args.b) (Err e) (logins_of c.args.self.now.cells) (logins_of c.ask.new.self.cells)) c.in-Err-Unnoted.field-0-is c.in-Err-Unnoted.ensures.logins in
+    let same : logins_of c.refuse_unnoted.new.self.cells ≡ logins_of c.ask.new.self.cells = ap (λ (w : WorldState). logins_of w.cells) c.refuse_unnoted.ensures.ok in
+    rw (same, c.refuse_unnoted.ensures.moved) logs
+
+pub returns-in-Err-Out-clause-logins : goal.returns-in-Err-Out-clause-logins
+returns-in-Err-Out-clause-logins g c =
+    let logs = subst (λ (e : AskError). LogsInToAsk c.args.b (login_to_ask c.args.self.now c.args.s c.args.b) (Err e) (logins_of c.args.self.now.cells) (logins_of c.ask.new.self.cells)) c.in-Err-Out.field-0-is c.in-Err-Out.ensures.logins in
+    ap (λ (w : WorldState). logins_of w.cells) c.wait.ensures ∙ logs
+
+pub returns-in-Err-Behind-clause-logins : goal.returns-in-Err-Behind-clause-logins
+returns-in-Err-Behind-clause-logins g c =
+    let logs = subst (λ (e : AskError). LogsInToAsk c.args.b (login_to_ask c.args.self.now c.args.s c.args.b) (Err e) (logins_of c.args.self.now.cells) (logins_of c.ask.new.self.cells)) c.in-Err-Behind.field-0-is c.in-Err-Behind.ensures.logins in
+    ap (λ (w : WorldState). logins_of w.cells) c.wait-in-Err-Behind.ensures ∙ logs

@@ -1,4 +1,4 @@
-use Rattle.std.proofs.Common.{◌≡◌, ◌+◌, None, Ok, refl, ap, sym, subst}
+use Rattle.std.proofs.Common.{◌≡◌, ℕ, ◌<◌, ◌+◌, None, Ok, ap, sym, subst}
 use Rattle.cj_cluster.specs.declared.moves.Move.TheVariants.{Replay}
 use Rattle.cj_cluster.specs.declared.moves.Moved.TheVariants.{Replayed}
 use Rattle.cj_cluster.specs.Moves.Moves.{position_or_zero, not_now, Replays}
@@ -6,11 +6,15 @@ use Rattle.cj_cluster.specs.Moves.Cores.{position_at}
 use Rattle.cj_cluster.proofs.Now.{CanReplay, can_replay}
 use Rattle.cj_core.specs.Worlds.{WorldState, core_of}
 use Rattle.cj_core.proofs.Catching.{can_take}
-use Rattle.cj_core.proofs.Taking.{kept_replayed, replays, took_counts, took_armings}
+use Rattle.cj_core.proofs.Taking.{kept_replayed, replays, took_counts, took_armings, took_logins}
 use Rattle.cj_core.proofs.world.World.take_next.Goals as goal
 
-pub take-requires : goal.take-requires
-take-requires g c =
+pub take-requires-clause-registered : goal.take-requires-clause-registered
+take-requires-clause-registered g c =
+    subst (λ (m : ℕ). c.args.b < m) (sym c.self.invariant.world.registered) (subst (λ (x : WorldState). c.args.b < x.core.placement.backends) (sym c.self.view_is) c.requires.within)
+
+pub take-requires-clause-can : goal.take-requires-clause-can
+take-requires-clause-can g c =
     let w = c.self.inside in
     let can : CanReplay (core_of w.book.layout w.book.history w.cells.items w.failed w.starved w.sessions w.book.greatest) c.args.b = can_replay _ c.args.b (subst (λ (x : WorldState). not_now x.core (Replay c.args.b) ≡ None) (sym c.self.view_is) c.requires.now) in
     can_take g.B.Backend.TELLS w.accounts w.book.layout w.book.history w.cells.items w.failed w.starved w.sessions w.book.greatest w.book.sessions w.first_outcome c.self.invariant c.args.b (position_or_zero (position_at (core_of w.book.layout w.book.history w.cells.items w.failed w.starved w.sessions w.book.greatest) c.args.b)) can.at can.more
@@ -36,3 +40,8 @@ pub returns-clause-armings : goal.returns-clause-armings
 returns-clause-armings g c =
     let w = c.self.inside in
     took_armings g.B.Backend.TELLS w.accounts w.book.layout w.book.history w.cells.items w.failed w.starved w.sessions w.book.greatest w.book.sessions w.first_outcome c.self.invariant c.args.b c.take.result c.take.new.cells.items c.take.ensures c.args.self.now.cells (ap (λ (x : WorldState). x.cells) (sym c.self.view_is))
+
+pub returns-clause-logins : goal.returns-clause-logins
+returns-clause-logins g c =
+    let w = c.self.inside in
+    took_logins g.B.Backend.TELLS w.accounts w.book.layout w.book.history w.cells.items w.failed w.starved w.sessions w.book.greatest w.book.sessions w.first_outcome c.self.invariant c.args.b c.take.result c.take.new.cells.items c.take.ensures c.args.self.now c.self.view_is

@@ -1,4 +1,4 @@
-use Rattle.std.proofs.Common.{◌≡◌, None, Ok, refl, ap, sym, subst}
+use Rattle.std.proofs.Common.{◌≡◌, ℕ, ◌<◌, None, Ok, ap, sym, subst}
 use Rattle.cj_cluster.specs.declared.moves.Move.TheVariants.{Apply}
 use Rattle.cj_cluster.specs.declared.moves.Moved.TheVariants.{Applied}
 use Rattle.cj_cluster.specs.Moves.Moves.{position_or_zero, not_now, Applies}
@@ -6,11 +6,15 @@ use Rattle.cj_cluster.specs.Moves.Cores.{position_at}
 use Rattle.cj_cluster.proofs.Now.{CanApply, can_apply}
 use Rattle.cj_core.specs.Worlds.{WorldState, core_of}
 use Rattle.cj_core.proofs.Catching.{can_take}
-use Rattle.cj_core.proofs.Taking.{kept_applied, applies, took_counts, took_armings}
+use Rattle.cj_core.proofs.Taking.{kept_applied, applies, took_counts, took_armings, took_logins}
 use Rattle.cj_core.proofs.world.World.take_open.Goals as goal
 
-pub take-did-requires : goal.take-did-requires
-take-did-requires g c =
+pub take-did-requires-clause-registered : goal.take-did-requires-clause-registered
+take-did-requires-clause-registered g c =
+    subst (λ (m : ℕ). c.args.b < m) (sym c.self.invariant.world.registered) (subst (λ (x : WorldState). c.args.b < x.core.placement.backends) (sym c.self.view_is) c.requires.within)
+
+pub take-did-requires-clause-can : goal.take-did-requires-clause-can
+take-did-requires-clause-can g c =
     let w = c.self.inside in
     let can : CanApply (core_of w.book.layout w.book.history w.cells.items w.failed w.starved w.sessions w.book.greatest) c.args.b = can_apply _ c.args.b (subst (λ (x : WorldState). not_now x.core (Apply c.args.b) ≡ None) (sym c.self.view_is) c.requires.now) in
     can_take g.B.Backend.TELLS w.accounts w.book.layout w.book.history w.cells.items w.failed w.starved w.sessions w.book.greatest w.book.sessions w.first_outcome c.self.invariant c.args.b (position_or_zero (position_at (core_of w.book.layout w.book.history w.cells.items w.failed w.starved w.sessions w.book.greatest) c.args.b)) can.at can.more
@@ -37,3 +41,8 @@ pub returns-clause-armings : goal.returns-clause-armings
 returns-clause-armings g c =
     let w = c.self.inside in
     took_armings g.B.Backend.TELLS w.accounts w.book.layout w.book.history w.cells.items w.failed w.starved w.sessions w.book.greatest w.book.sessions w.first_outcome c.self.invariant c.args.b c.take-did.result c.take-did.new.cells.items c.take-did.ensures c.args.self.now.cells (ap (λ (x : WorldState). x.cells) (sym c.self.view_is))
+
+pub returns-clause-logins : goal.returns-clause-logins
+returns-clause-logins g c =
+    let w = c.self.inside in
+    took_logins g.B.Backend.TELLS w.accounts w.book.layout w.book.history w.cells.items w.failed w.starved w.sessions w.book.greatest w.book.sessions w.first_outcome c.self.invariant c.args.b c.take-did.result c.take-did.new.cells.items c.take-did.ensures c.args.self.now c.self.view_is
