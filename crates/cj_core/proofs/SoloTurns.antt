@@ -65,7 +65,7 @@ solo_skipped tells a z here is =
 
 -- Stats
 pub solo_counted : (tells : Bool) (a : SoloState) → SoloSteps tells a (cache_counted 0 0) a
-solo_counted tells a = (refl, (refl, (refl, refl)))
+solo_counted tells a = (refl, (refl, refl, refl))
 
 -- ---- a write
 
