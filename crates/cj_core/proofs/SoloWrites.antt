@@ -17,7 +17,7 @@ use Rattle.cj_cluster.specs.declared.moves.OpenSession.{OpenSession}
 use Rattle.cj_cluster.specs.History.Histories.{log, is_idle, entry_in_progress, events_left}
 use Rattle.cj_cluster.specs.History.Answering.{HasServer, HasNoServer}
 use Rattle.cj_cluster.specs.History.Legality.{FitsTx}
-use Rattle.cj_cluster.specs.History.Turns.{SessionView, Call, HasNoRoomFor, Turn, TurnCase, entry_of_call, scheduled, no_backend, read, read_fault, log_fault, full, starved}
+use Rattle.cj_cluster.specs.History.Turns.{SessionView, Call, HasNoRoomFor, Turn, entry_of_call}
 use Rattle.cj_cluster.specs.Moves.Cores.{Core, is_entry_of, session_at}
 use Rattle.cj_cluster.specs.Moves.Moves.{is_open, is_waiting, history_full, open_tx, scheduled_as, with_request_counted, ended_for, with_one_request, answered_at, last_number}
 use Rattle.cj_cluster.specs.Moves.Runs.{seen_at}
@@ -36,15 +36,9 @@ use Rattle.cj_core.specs.Worlds.{WorldState, accounts_of}
 use Rattle.cj_core.proofs.SoloLogins.{called_none}
 use Rattle.cj_core.proofs.SoloTurns.{between_scheduled, between_taken, turn_ended}
 
--- a turn of another request than a query reads nothing
-pub reads_nothing : {tells : Bool} {p : Placement} {s : ℕ} {a : SessionView} {c : Call} {z : SessionView} (act : Act) → act_of c.request ≡ Some act → (case : TurnCase tells p s a c z) → IsReadAtEnd case
-reads_nothing act is (scheduled x) = tt
-reads_nothing act is (no_backend x) = tt
-reads_nothing {c = c} act is (read x) = let none : act_of c.request ≡ None = ap act_of x.is in absurd (cc (none, is))
-reads_nothing act is (read_fault x) = tt
-reads_nothing act is (log_fault x) = tt
-reads_nothing act is (full x) = tt
-reads_nothing act is (starved x) = tt
+-- a request that is an act reads nothing
+pub reads_nothing : (c : Call) (z : SessionView) (act : Act) → act_of c.request ≡ Some act → IsReadAtEnd c z
+reads_nothing c z act is = λ none answer possible replied. absurd (cc (none, is))
 
 -- The entry was scheduled, so it is the open one.
 module _ (s : ℕ) (entry : Entry) (old begun : WorldState) (idle : is_idle old.core.history ≡ true) (after : begun ≡ with_core old (scheduled_as old.core s entry)) where
@@ -148,7 +142,7 @@ module _ (tells : Bool) (s tx : ℕ) (user : List ℕ) (act : Act) (reply : Repl
           number = refl;
           queries = ap (λ (x : OpenSession). x.queries) new_session_is;
           turn = turn;
-          at_end = reads_nothing act (act_of_request act) turn.case;
+          at_end = reads_nothing call (seen_at new.core s) act (act_of_request act);
           stands = still_stands;
           failed = ended.taken.failed;
           events =
@@ -204,7 +198,7 @@ module _ (tells : Bool) (s tx : ℕ) (user : List ℕ) (act : Act) (old new : Wo
         number = refl;
         queries = ap (λ (x : OpenSession). x.queries) refused_session;
         turn = turn;
-        at_end = reads_nothing act (act_of_request act) turn.case;
+        at_end = reads_nothing refusing (seen_at new.core s) act (act_of_request act);
         stands =
             record {
               idle = ap (λ (c : Core). is_idle c.history) refused_core ∙ stands.idle;
