@@ -1,11 +1,9 @@
 use Rattle.std.proofs.Common.{List, ℕ, refl, ap, ◌∙◌, subst}
-use Rattle.cj_model.specs.declared.answer.Reply.{Reply}
 use Rattle.cj_model.specs.declared.request.Entry.{Entry}
-use Rattle.cj_model.specs.Sql.PlainRequests.{request_of}
 use Rattle.cj_cluster.specs.Moves.Moves.{with_request_counted}
 use Rattle.cj_core.specs.Effects.{with_core}
 use Rattle.cj_core.specs.Worlds.{WorldState}
-use Rattle.cj_core.specs.Solos.{EntryEnded, WorldTurn, call_of, own_entry}
+use Rattle.cj_core.specs.Solos.{EntryEnded, own_entry}
 use Rattle.cj_core.proofs.SoloWrites.{begun_running, begun_user, begun_waits, refused, wrote}
 use Rattle.cj_core.proofs.world.World.serve_write.Goals as goal
 
