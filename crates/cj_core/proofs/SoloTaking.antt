@@ -1,10 +1,11 @@
 -- The open entry is taken by one backend after another.
-use Rattle.std.proofs.Common.{◌≡◌, ◌≢◌, ℕ, ◌+◌, ◌<◌, ◌≤◌, ◌==◌, Bool, true, false, cond, List, [], ◌∷◌, ◌++◌, length, get_or, set, Option, None, Some, is_some, Ok, refl, ap, sym, ◌∙◌, subst, arith, ⊎_elim}
+use Rattle.std.proofs.Common.{◌≡◌, ◌≢◌, ℕ, ◌+◌, ◌<◌, ◌≤◌, ◌==◌, Bool, true, false, cond, List, [], ◌∷◌, ◌++◌, length, Option, None, Some, is_some, Ok, refl, ap, sym, ◌∙◌, subst, arith, ⊎_elim}
 use Rattle.std.proofs.lemmas.Bool.{cases_lt, eqb-true}
 use Rattle.std.proofs.lemmas.Grind.{fold-append}
 use Rattle.std.proofs.lemmas.List.{get_or-set_same, get_or-set_other}
 use Rattle.std.proofs.lemmas.Option.{slice_get_within}
 use Rattle.cj_model.specs.declared.request.Entry.{Entry}
+use Rattle.cj_model.specs.Cluster.Accounts.{login_of}
 use Rattle.cj_model.specs.Cluster.Masks.{with_backend}
 use Rattle.cj_cluster.specs.declared.moves.Did.{Did}
 use Rattle.cj_cluster.specs.declared.moves.Did.TheVariants as did
@@ -14,12 +15,14 @@ use Rattle.cj_cluster.specs.declared.moves.Reason.{Reason}
 use Rattle.cj_cluster.specs.declared.moves.Reason.TheVariants.{AtEnd}
 use Rattle.cj_cluster.specs.History.Histories.{log, ended_count, is_idle, is_enabled}
 use Rattle.cj_cluster.specs.Moves.Cores.{Core, position_at}
-use Rattle.cj_cluster.specs.Moves.Moves.{Applies, DoesWithEntry, Stance, failed_after, first_lagging, last_number, not_now, reason_if}
+use Rattle.cj_cluster.specs.Moves.Moves.{Applies, DoesWithEntry, Stance, failed_after, first_lagging, last_number, not_now, position_or_zero, reason_if}
 use Rattle.cj_cluster.specs.Proving.Invariants.{BackendStands, CoreInvariant}
-use Rattle.cj_cluster.proofs.Now.{all_at_end}
+use Rattle.cj_cluster.proofs.Now.{CanApply, all_at_end, can_apply}
 use Rattle.cj_core.specs.Counting.{did_fail, faults_of, faults_after}
-use Rattle.cj_core.specs.Solos.{EntryTaken, HasTakenEntry, faults_counted, mask_with}
-use Rattle.cj_core.specs.Worlds.{WorldState}
+use Rattle.cj_core.specs.Logins.{LogsInToTake, login_to_take, logins_of, next_user}
+use Rattle.cj_core.specs.Solos.{AreCalledFor, EntryTaken, HasTakenEntry, faults_counted, mask_with, open_user}
+use Rattle.cj_core.specs.Worlds.{Setup, WorldState, accounts_of}
+use Rattle.cj_core.proofs.SoloLogins.{called_none, called_then, called_to_take}
 
 -- ---- one backend
 
@@ -39,15 +42,33 @@ counts_after faults b did.Skipped = refl
 counts_after faults b did.Failed = refl
 counts_after faults b did.Starved = refl
 
+-- a backend that may take the open entry stands before it, so it is called for the user of that
+login_to_take_open : (w : WorldState) (b : ℕ) → CoreInvariant w.core → b < w.core.placement.backends → CanApply w.core b → login_to_take w b ≡ login_of (accounts_of w) (open_user w.core) b
+login_to_take_open w b sound within can =
+    let c : Core = w.core in
+    let p : ℕ = position_or_zero (position_at c b) in
+    let cells : length c.positions ≡ c.placement.backends = sound.cells in
+    let lt : b < length c.positions = omega arith in
+    let stands : BackendStands c.history c.failed c.starved b (Some p) = subst (BackendStands c.history c.failed c.starved b) can.at (sound.stands b lt) in
+    let most : p ≤ length (log c.history) = stands.0 in
+    let past : ended_count c.history ≤ p = stands.1 can.on in
+    let more : p ≢ length (log c.history) = can.more in
+    let one : length (log c.history) ≤ ended_count c.history + 1 = sound.one_open.1 in
+    let here : p ≡ ended_count c.history = omega (arith, more) in
+    ap (λ (o : Option ℕ). login_of (accounts_of w) (next_user (log c.history) o) b) (can.at ∙ ap (λ (n : ℕ). Some n) here)
+
 module _ (tells : Bool) (old new : WorldState) (b : ℕ) (d : Did) (applies : Applies tells old.core b (Ok (Applied b d)) new.core) where
-  pub took : faults_of new.cells ≡ faults_after (faults_of old.cells) (cond (did_fail d) (Some b) None) → new.setup ≡ old.setup → EntryTaken old new
-  took counts setup =
+  pub took : CoreInvariant old.core → b < old.core.placement.backends → not_now old.core (Apply b) ≡ None → faults_of new.cells ≡ faults_after (faults_of old.cells) (cond (did_fail d) (Some b) None)
+      → LogsInToTake b (login_to_take old b) d (logins_of old.cells) (logins_of new.cells) → new.setup ≡ old.setup → EntryTaken (open_user old.core) old new
+  took sound within now counts logs setup =
+      let login = login_to_take_open old b sound within (can_apply old.core b now) in
       record {
         core = applies.1.2 ∙ sym (ap (λ (k : Core). record old.core { positions = k.positions; begun = k.begun; failed = k.failed; starved = k.starved }) applies.1.2);
         setup = setup;
         failed = failed_in b d;
         mask = ap (λ (k : Core). k.failed) applies.1.2 ∙ mask_after old.core.failed b d;
         faults = counts ∙ counts_after (faults_of old.cells) b d;
+        logins = called_to_take (accounts_of old) (open_user old.core) b d (logins_of old.cells) (logins_of new.cells) (subst (λ (name : List ℕ). LogsInToTake b name d (logins_of old.cells) (logins_of new.cells)) login logs);
       }
 
   -- the other backends stand as they did
@@ -94,11 +115,11 @@ not_due c b running some q on at =
 -- ---- all of them
 
 -- nothing was taken yet
-pub taken_none : (w : WorldState) → EntryTaken w w
-taken_none w = record { core = refl; setup = refl; failed = []; mask = refl; faults = refl }
+pub taken_none : (w : WorldState) (user : List ℕ) → EntryTaken user w w
+taken_none w user = record { core = refl; setup = refl; failed = []; mask = refl; faults = refl; logins = called_none (accounts_of w) user (logins_of w.cells) (logins_of w.cells) refl }
 
-pub taken_then : (old mid new : WorldState) → EntryTaken old mid → EntryTaken mid new → EntryTaken old new
-taken_then old mid new x y =
+pub taken_then : (old mid new : WorldState) (user : List ℕ) → EntryTaken user old mid → EntryTaken user mid new → EntryTaken user old new
+taken_then old mid new user x y =
     record {
       core = y.core ∙ ap (λ (k : Core). record k { positions = new.core.positions; begun = new.core.begun; failed = new.core.failed; starved = new.core.starved }) x.core;
       setup = y.setup ∙ x.setup;
@@ -107,22 +128,27 @@ taken_then old mid new x y =
       faults =
           y.faults
           ∙ (ap (λ (counts : List ℕ). faults_counted counts y.failed) x.faults ∙ sym (fold-append (λ (counts : List ℕ) (k : ℕ). faults_after counts (Some k)) (faults_of old.cells) x.failed y.failed));
+      logins =
+          called_then (accounts_of old) user (logins_of old.cells) (logins_of mid.cells) (logins_of new.cells) x.logins
+          (subst (λ (setup : Setup). AreCalledFor setup.register.accounts user (logins_of mid.cells) (logins_of new.cells)) x.setup y.logins);
     }
 
 -- The backends before i have taken the open entry.
 pub record TakenTo (old now : WorldState) (i : ℕ) : Type 0 where
-  pub taken : EntryTaken old now
+  pub taken : EntryTaken (open_user old.core) old now
   pub at_end : (b : ℕ) → b < i → HasTakenEntry now.core b
 
 pub taken_to_none : (w : WorldState) → TakenTo w w 0
-taken_to_none w = record { taken = taken_none w; at_end = λ b lt. absurd (omega arith) }
+taken_to_none w = record { taken = taken_none w (open_user w.core); at_end = λ b lt. absurd (omega arith) }
 
 -- and so has backend i
-pub taken_to_next : (old now new : WorldState) (i : ℕ) → TakenTo old now i → EntryTaken now new → HasTakenEntry new.core i → ((k : ℕ) → k ≢ i → position_at new.core k ≡ position_at now.core k) → TakenTo old new (i + 1)
+pub taken_to_next : (old now new : WorldState) (i : ℕ) → TakenTo old now i → EntryTaken (open_user now.core) now new → HasTakenEntry new.core i
+    → ((k : ℕ) → k ≢ i → position_at new.core k ≡ position_at now.core k) → TakenTo old new (i + 1)
 taken_to_next old now new i to takes there others =
     let history = ap (λ (c : Core). c.history) takes.core in
+    let same : open_user now.core ≡ open_user old.core = ap open_user to.taken.core in
     record {
-      taken = taken_then old now new to.taken takes;
+      taken = taken_then old now new (open_user old.core) to.taken (subst (λ (user : List ℕ). EntryTaken user now new) same takes);
       at_end =
           λ b lt.
           ⊎_elim

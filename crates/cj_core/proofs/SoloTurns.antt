@@ -1,5 +1,5 @@
 -- A session's calls over a whole world are turns of its desk.
-use Rattle.std.proofs.Common.{◌≡◌, ◌⊎◌, inl, inr, ℕ, zero, suc, ◌+◌, ◌<◌, ◌≤◌, ◌==◌, Bool, true, false, cond, List, [], ◌∷◌, ◌++◌, length, map, slice_get, Option, None, Some, Ok, Err, refl, ap, sym, ◌∙◌, subst, arith, ⊎_elim, append_assoc, length-append}
+use Rattle.std.proofs.Common.{◌≡◌, ℕ, zero, suc, ◌+◌, ◌<◌, ◌≤◌, Bool, true, false, cond, List, [], ◌∷◌, ◌++◌, length, map, slice_get, Option, None, Some, Ok, Err, refl, ap, sym, ◌∙◌, subst, arith, append_assoc, length-append}
 use Rattle.std.specs.Option.{MatchOption}
 use Rattle.std.proofs.lemmas.Bool.{eq-eqb}
 use Rattle.std.proofs.lemmas.List.{append-nil}
@@ -28,7 +28,7 @@ use Rattle.cj_cluster.proofs.Between.{follows_own, follows_rest, between_follows
 use Rattle.cj_cluster.proofs.OwnTransactions.{tx_of_own}
 use Rattle.cj_cluster.proofs.Pushed.{prefix_self, enabled-push, log-sched, log-same, opened-free, free-same, get_left, get_seam}
 use Rattle.cj_cluster.proofs.TurnCases.{entries-same, entries-sched}
-use Rattle.cj_desk.specs.DeskStates.{DeskCall, turn_taken, query_skipped, cache_counted, tx_after_write, DeskSteps, IsEntryNumber}
+use Rattle.cj_desk.specs.DeskStates.{turn_taken, query_skipped, cache_counted, tx_after_write, IsEntryNumber}
 use Rattle.cj_core.specs.Effects.{with_core}
 use Rattle.cj_core.specs.Worlds.{WorldState, Setup}
 use Rattle.cj_core.specs.Solos.{SoloState, SoloSteps, StandsBetweenCalls, WorldTurn, AddsEntry, EntryTaken, desk_of, mask_with}

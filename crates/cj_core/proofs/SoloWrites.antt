@@ -1,5 +1,7 @@
 -- A session's write over a whole world, from its entry to the end of that.
-use Rattle.std.proofs.Common.{◌≡◌, ◌⊎◌, ℕ, suc, ◌+◌, ◌<◌, ◌≤◌, Bool, true, false, List, [], ◌∷◌, ◌++◌, length, Option, None, Some, Ok, Err, refl, ap, sym, ◌∙◌, subst, ⊎_elim, append_assoc}
+use Rattle.std.proofs.Common.{◌≡◌, ◌⊎◌, ℕ, suc, ◌<◌, Bool, true, false, List, [], ◌∷◌, ◌++◌, length, Option, Some, Ok, Err, refl, ap, sym, ◌∙◌, subst, ⊎_elim, append_assoc}
+use Rattle.std.specs.Option.{option_map_or}
+use Rattle.std.proofs.lemmas.Bool.{eq-eqb}
 use Rattle.cj_model.specs.declared.request.Act.{Act}
 use Rattle.cj_model.specs.declared.request.Entry.{Entry}
 use Rattle.cj_model.specs.declared.answer.Refusal.{Refusal}
@@ -15,9 +17,9 @@ use Rattle.cj_cluster.specs.declared.moves.OpenSession.{OpenSession}
 use Rattle.cj_cluster.specs.History.Histories.{log, is_idle, entry_in_progress, events_left}
 use Rattle.cj_cluster.specs.History.Answering.{HasServer, HasNoServer}
 use Rattle.cj_cluster.specs.History.Legality.{FitsTx}
-use Rattle.cj_cluster.specs.History.Turns.{SessionView, Call, HasNoRoomFor, Turn, TurnCase, entry_of_call, scheduled, no_backend, read, read_fault, log_fault, full, starved}
-use Rattle.cj_cluster.specs.Moves.Cores.{Core, session_at}
-use Rattle.cj_cluster.specs.Moves.Moves.{is_open, history_full, open_tx, scheduled_as, with_request_counted, ended_for, with_one_request, answered_at, last_number}
+use Rattle.cj_cluster.specs.History.Turns.{SessionView, Call, HasNoRoomFor, Turn, entry_of_call}
+use Rattle.cj_cluster.specs.Moves.Cores.{Core, is_entry_of, session_at}
+use Rattle.cj_cluster.specs.Moves.Moves.{is_open, is_waiting, history_full, open_tx, scheduled_as, with_request_counted, ended_for, with_one_request, answered_at, last_number}
 use Rattle.cj_cluster.specs.Moves.Runs.{seen_at}
 use Rattle.cj_cluster.specs.Proving.Invariants.{CoreInvariant}
 use Rattle.cj_cluster.proofs.Between.{follows_own, follows_rest, session_owes}
@@ -28,26 +30,39 @@ use Rattle.cj_cluster.proofs.Standing.{open_above}
 use Rattle.cj_cluster.proofs.TurnCases.{Rests, act_of_request, turn_unserved, turn_full, turn_starved}
 use Rattle.cj_core.specs.Counting.{faults_of}
 use Rattle.cj_core.specs.Effects.{SchedulesAs, with_core}
-use Rattle.cj_core.specs.Solos.{StandsBetweenCalls, EntryEnded, WorldTurn, AddsEntry, AddsOwnEvents, IsReadAtEnd, SchedulesOrRefuses, call_of, own_entry, faults_counted, mask_with}
-use Rattle.cj_core.specs.Worlds.{WorldState}
+use Rattle.cj_core.specs.Logins.{logins_of}
+use Rattle.cj_core.specs.Solos.{AreCalledFor, StandsBetweenCalls, EntryEnded, WorldTurn, AddsEntry, AddsOwnEvents, IsReadAtEnd, SchedulesOrRefuses, call_of, open_user, own_entry, faults_counted, mask_with}
+use Rattle.cj_core.specs.Worlds.{WorldState, accounts_of}
+use Rattle.cj_core.proofs.SoloLogins.{called_none}
 use Rattle.cj_core.proofs.SoloTurns.{between_scheduled, between_taken, turn_ended}
 
--- a turn of another request than a query reads nothing
-pub reads_nothing : {tells : Bool} {p : Placement} {s : ℕ} {a : SessionView} {c : Call} {z : SessionView} (act : Act) → act_of c.request ≡ Some act → (case : TurnCase tells p s a c z) → IsReadAtEnd case
-reads_nothing act is (scheduled x) = tt
-reads_nothing act is (no_backend x) = tt
-reads_nothing {c = c} act is (read x) = let none : act_of c.request ≡ None = ap act_of x.is in absurd (cc (none, is))
-reads_nothing act is (read_fault x) = tt
-reads_nothing act is (log_fault x) = tt
-reads_nothing act is (full x) = tt
-reads_nothing act is (starved x) = tt
+-- a request that is an act reads nothing
+pub reads_nothing : (c : Call) (z : SessionView) (act : Act) → act_of c.request ≡ Some act → IsReadAtEnd c z
+reads_nothing c z act is = λ none answer possible replied. absurd (cc (none, is))
+
+-- The entry was scheduled, so it is the open one.
+module _ (s : ℕ) (entry : Entry) (old begun : WorldState) (idle : is_idle old.core.history ≡ true) (after : begun ≡ with_core old (scheduled_as old.core s entry)) where
+  begun_history : begun.core.history ≡ old.core.history ++ Sched entry ∷ []
+  begun_history = ap (λ (x : WorldState). x.core.history) after
+
+  opened : entry_in_progress begun.core.history ≡ Some entry
+  opened = ap entry_in_progress begun_history ∙ opened-sched old.core.history entry idle
+
+  pub begun_running : is_idle begun.core.history ≡ false
+  begun_running = ap is_idle begun_history ∙ free-sched old.core.history entry idle
+
+  pub begun_waits : entry.session ≡ s → is_waiting begun.core s ≡ true
+  begun_waits own = ap (is_entry_of s) opened ∙ eq-eqb entry.session s own
+
+  pub begun_user : open_user begun.core ≡ entry.user
+  begun_user = ap (λ (o : Option Entry). option_map_or (λ (e : Entry). e.user) o []) opened
 
 -- From `old` the entry was scheduled, which led to `begun`, and from there it ended.
-module _ (tells : Bool) (s tx : ℕ) (user : List ℕ) (act : Act) (reply : Reply) (old begun new : WorldState) (n : ℕ) (w : CoreInvariant old.core) (stands : StandsBetweenCalls old.core s) (ended : EntryEnded tells s begun reply new) where
-  call : Call
+module _ (tells : Bool) (s tx : ℕ) (user : List ℕ) (act : Act) (reply : Reply) (old begun new : WorldState) (n : ℕ) (w : CoreInvariant old.core) (stands : StandsBetweenCalls old.core s) (ended : EntryEnded tells s user begun reply new) where
+  abbrev pub call : Call
   call = call_of old.core s tx user (request_of act) reply
 
-  entry : Entry
+  abbrev pub entry : Entry
   entry = entry_of_call s call act
 
   module _ (did : SchedulesAs old.core entry (Ok n)) (after : begun ≡ with_core old (scheduled_as old.core s entry)) where
@@ -101,7 +116,7 @@ module _ (tells : Bool) (s tx : ℕ) (user : List ℕ) (act : Act) (reply : Repl
     turn =
         subst (λ (p : Placement). Turn tells p s (seen_at old.core s) call (seen_at new.core s)) placed
         (turn_ended tells (seen_at old.core s) ended.mid.core new.core s entry reply (open_above old.core s w stands.here) ended.was_sound ended.is_sound
-        (between_taken (seen_at old.core s) begun ended.mid s ended.taken (between_scheduled old.core begun.core s entry w stands refl did.1 did.2 begun_core)) running ended.everywhere in_progress refl (ended.answer entry in_progress) new_core)
+        (between_taken (seen_at old.core s) begun ended.mid s user ended.taken (between_scheduled old.core begun.core s entry w stands refl did.1 did.2 begun_core)) running ended.everywhere in_progress refl (ended.answer entry in_progress) new_core)
 
     -- the masks begin empty
     failed_mask : ended.mid.core.failed ≡ mask_with 0 ended.taken.failed
@@ -110,11 +125,13 @@ module _ (tells : Bool) (s tx : ℕ) (user : List ℕ) (act : Act) (reply : Repl
     pub entry_added : AddsEntry (suc (length (log old.core.history))) s call act ended.taken.failed old.core.history new.core.history
     entry_added = (
       refl,
-      ended.mid.core.starved,
-      ap (λ (c : Core). c.history) new_core
-          ∙ (ap (λ (h : List Event). h ++ Ended ended.mid.core.failed ended.mid.core.starved ∷ []) mid_history
-          ∙ (append_assoc old.core.history (Sched entry ∷ []) (Ended ended.mid.core.failed ended.mid.core.starved ∷ [])
-          ∙ ap (λ (m : ℕ). old.core.history ++ Sched entry ∷ Ended m ended.mid.core.starved ∷ []) failed_mask)),
+      (
+        ended.mid.core.starved,
+        ap (λ (c : Core). c.history) new_core
+            ∙ (ap (λ (h : List Event). h ++ Ended ended.mid.core.failed ended.mid.core.starved ∷ []) mid_history
+            ∙ (append_assoc old.core.history (Sched entry ∷ []) (Ended ended.mid.core.failed ended.mid.core.starved ∷ [])
+            ∙ ap (λ (m : ℕ). old.core.history ++ Sched entry ∷ Ended m ended.mid.core.starved ∷ []) failed_mask)),
+      ),
     )
 
     pub wrote : WorldTurn tells s old call new
@@ -125,19 +142,22 @@ module _ (tells : Bool) (s tx : ℕ) (user : List ℕ) (act : Act) (reply : Repl
           number = refl;
           queries = ap (λ (x : OpenSession). x.queries) new_session_is;
           turn = turn;
-          at_end = reads_nothing act (act_of_request act) turn.case;
+          at_end = reads_nothing call (seen_at new.core s) act (act_of_request act);
           stands = still_stands;
           failed = ended.taken.failed;
           events =
               subst (λ (o : Option Act). AddsOwnEvents s call o ended.taken.failed old.core.history new.core.history) (sym (act_of_request act))
               (suc (length (log old.core.history)), entry_added);
           faults = ap (λ (x : WorldState). faults_of x.cells) ended.ended ∙ (ended.taken.faults ∙ ap (λ (x : WorldState). faults_counted (faults_of x.cells) ended.taken.failed) after);
+          logins =
+              subst (λ (x : WorldState). AreCalledFor (accounts_of old) user (logins_of old.cells) (logins_of x.cells)) (sym ended.ended)
+              (subst (λ (x : WorldState). AreCalledFor (accounts_of x) user (logins_of x.cells) (logins_of ended.mid.cells)) after ended.taken.logins);
         }
 
 -- Nothing was scheduled, and the session counted its request.
 module _ (tells : Bool) (s tx : ℕ) (user : List ℕ) (act : Act) (old new : WorldState) (refusal : Refusal) (w : CoreInvariant old.core) (stands : StandsBetweenCalls old.core s) (fits : FitsTx (open_tx old.core s) tx act)
     (why : SchedulesOrRefuses old.core (own_entry old.core s tx user act) (Err refusal)) (after : new ≡ with_core old (with_request_counted old.core s)) where
-  refusing : Call
+  abbrev pub refusing : Call
   refusing = call_of old.core s tx user (request_of act) (Refused refusal)
 
   refused_core : new.core ≡ with_request_counted old.core s
@@ -178,7 +198,7 @@ module _ (tells : Bool) (s tx : ℕ) (user : List ℕ) (act : Act) (old new : Wo
         number = refl;
         queries = ap (λ (x : OpenSession). x.queries) refused_session;
         turn = turn;
-        at_end = reads_nothing act (act_of_request act) turn.case;
+        at_end = reads_nothing refusing (seen_at new.core s) act (act_of_request act);
         stands =
             record {
               idle = ap (λ (c : Core). is_idle c.history) refused_core ∙ stands.idle;
@@ -186,6 +206,7 @@ module _ (tells : Bool) (s tx : ℕ) (user : List ℕ) (act : Act) (old new : Wo
               no_read = ap (λ (x : OpenSession). x.reading) refused_session ∙ stands.no_read;
             };
         failed = [];
-        events = subst (λ (o : Option Act). AddsOwnEvents s refusing o [] old.core.history new.core.history) (sym (act_of_request act)) (0, ap (λ (c : Core). c.history) refused_core, refl);
+        events = subst (λ (o : Option Act). AddsOwnEvents s refusing o [] old.core.history new.core.history) (sym (act_of_request act)) (0, (ap (λ (c : Core). c.history) refused_core, refl));
         faults = ap (λ (x : WorldState). faults_of x.cells) after;
+        logins = called_none (accounts_of old) user (logins_of old.cells) (logins_of new.cells) (ap (λ (x : WorldState). logins_of x.cells) after);
       }
