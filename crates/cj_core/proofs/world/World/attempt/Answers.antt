@@ -10,7 +10,8 @@ use Rattle.cj_core.proofs.world.World.attempt.Goals as goal
 
 pub unreachable-requires : goal.unreachable-requires
 unreachable-requires g c =
-    not_out g.B.Backend.TELLS c.args.s c.args.b c.args.tx c.args.select.now c.args.self.now c.legal.ensures.sound c.requires.stands c.requires.serves c.in-Err-Out.ensures.asks
+    not_out g.B.Backend.TELLS c.args.s c.args.b c.args.tx c.args.select.now c.args.self.now c.legal.ensures.sound c.requires.stands c.requires.serves
+    (subst (λ (e : AskError). Asks g.B.Backend.TELLS c.args.self.now.core c.args.s c.args.b c.args.tx c.args.select.now (Err e)) c.in-Err-Out.field-0-is c.in-Err-Out.ensures.asks)
 
 pub unreachable-requires-in-Err-Behind : goal.unreachable-requires-in-Err-Behind
 unreachable-requires-in-Err-Behind g c =

@@ -81,4 +81,4 @@ returns g c =
     counted_turn g.B.Backend.TELLS c.args.s c.args.tx c.args.user.now c.args.select.now old now c.serving-serving.result c.loop-b.left c.legal.ensures.sound c.requires.tx c.serving-serving.ensures.mask so_far
     (query_stands c.args.s c.args.user.now old now c.serving-serving.result c.loop-b.left c.requires.stands so_far) c.refuse-2.new.self c.refuse-2.result c.refuse-2.ensures.counted
     (in_vain g.B.Backend.TELLS c.args.s c.args.tx c.args.user.now c.args.select.now old now c.serving-serving.result c.loop-b.left c.legal.ensures.sound c.requires.tx c.serving-serving.ensures.mask so_far
-    c.refuse-2.result ? c.if-serving-eq0.false c.refuse-2.ensures.reply)
+    c.refuse-2.result (c.in_default.ensures.none.0 refl) c.if-serving-eq0.false c.refuse-2.ensures.reply)
