@@ -1,0 +1,5 @@
+pub mod Fields
+pub mod Keys
+pub mod Refusals
+pub mod Rows
+pub mod Weights
