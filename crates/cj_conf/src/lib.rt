@@ -7,6 +7,7 @@ mod error;
 mod fields;
 mod key;
 mod rows;
+mod settings;
 
 pub use backend::BackendKind;
 pub use error::ConfError;
