@@ -1,3 +1,4 @@
+pub mod Confs
 pub mod Fields
 pub mod Keys
 pub mod Refusals

@@ -3,6 +3,7 @@
 #![tactic(auto)]
 
 mod backend;
+mod conf;
 mod error;
 mod fields;
 mod key;
@@ -10,6 +11,10 @@ mod rows;
 mod settings;
 
 pub use backend::BackendKind;
+pub use conf::Conf;
+pub use conf::Kinds;
+pub use conf::Weights;
+pub use conf::read_conf;
 pub use error::ConfError;
 pub use error::UnknownKey;
 pub use key::Key;
