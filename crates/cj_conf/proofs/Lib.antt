@@ -1,3 +1,4 @@
 pub mod Documents
 pub mod Making
+pub mod Plain
 pub mod Reading

@@ -25,7 +25,7 @@ use Rattle.cj_conf.specs.declared.error.ConfError.{ConfError}
 use Rattle.cj_conf.specs.declared.error.ConfError.TheVariants.{NotToml, Place, Auth}
 use Rattle.cj_conf.specs.declared.settings.Settings.{Settings}
 use Rattle.cj_conf.specs.declared.settings.TheConstants.{CACHE_MOST}
-use Rattle.cj_conf.specs.Fields.{and_then}
+use Rattle.cj_conf.specs.Fields.{and_then, unless}
 use Rattle.cj_conf.specs.Settings.{settings_of}
 
 -- ---- parts of it
@@ -43,11 +43,6 @@ weight_at backends b = option_map_or (λ (backend : Backend). backend.weight) (s
 -- the weights of as many backends as there may be
 abbrev pub weights_of : List Backend → List ℕ
 weights_of backends = map (weight_at backends) (range_with_len 0 BACKEND_LIMIT)
-
--- what is made, unless it is refused
-abbrev pub unless : {A E : Type 0} → (E → ConfError) → Option E → A → Result A ConfError
-unless refuse None made = Ok made
-unless refuse (Some e) made = Err (refuse e)
 
 -- the placement of the tables on the backends
 abbrev pub placement_from : Level → List Backend → List PlaceRow → Result Layout ConfError

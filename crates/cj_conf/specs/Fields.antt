@@ -28,6 +28,11 @@ abbrev pub and_then : {A B : Type 0} → Result A ConfError → (A → Result B 
 and_then (Ok a) next = next a
 and_then (Err e) next = Err e
 
+-- what was read, unless there is something wrong with it
+abbrev pub unless : {A E : Type 0} → (E → ConfError) → Option E → A → Result A ConfError
+unless refuse None read = Ok read
+unless refuse (Some e) read = Err (refuse e)
+
 -- the value at a key of a table
 abbrev pub at : Key → Members → Option Data
 at k ms = get_member (key_name k) ms
@@ -132,10 +137,6 @@ abbrev pub first_unknown : List Key → Members → Option (List ℕ)
 first_unknown known no_members = None
 first_unknown known (member k d ms) = if is_known known k then first_unknown known ms else Some k
 
--- a table with no other keys than the known ones gives the value
+-- what was read, unless another key than the known ones stands in the table
 abbrev pub with_only : {A : Type 0} → List Key → Members → A → Result A ConfError
-with_only known ms a = no_other (first_unknown known ms) a
-  where
-    no_other : {A : Type 0} → Option (List ℕ) → A → Result A ConfError
-    no_other None a = Ok a
-    no_other (Some k) a = Err (Unknown k)
+with_only known ms read = unless Unknown (first_unknown known ms) read

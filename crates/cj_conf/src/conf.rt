@@ -7,7 +7,8 @@ ghost use Rattle.cj_model.specs.Cluster.Accounts.{HasShortUsers};
 ghost use Rattle.cj_model.specs.declared.limits.TheConstants.{BACKEND_LIMIT};
 ghost use Rattle.cj_conf.specs.Confs.{IsUsable, accounts_from, conf_from, conf_of, document_of};
 ghost use Rattle.cj_conf.specs.Confs as confs;
-ghost use Rattle.cj_conf.specs.Refusals.{Gives};
+ghost use Rattle.cj_conf.specs.Fields.{unless};
+ghost use Rattle.cj_conf.specs.Refusals.{Gives, TellsMemoryPlainly};
 ghost use Rattle.cj_conf.specs.Weights.{IsWeighted};
 ghost use Rattle.cj_conf.specs.declared.error.ConfError.TheVariants as error;
 ghost use Rattle.cj_conf.specs.declared.settings.TheConstants.{CACHE_MOST};
@@ -95,7 +96,7 @@ fn placement_of(
     names: Names,
     tables: PlaceRows,
 ) -> Result<Placement, ConfError>
-    ensures placement { Gives (confs.unless error.Place (refusal_of_placement level names tables) (layout_of level names tables)) result }
+    ensures placement { Gives (unless error.Place (refusal_of_placement level names tables) (layout_of level names tables)) result }
     ensures names { IfOk result (λ placement. placement.names ≡ names) }
 {
     match Placement::new(alloc, level, names, tables) {
@@ -180,6 +181,7 @@ fn document_of(alloc: Global, bytes: &[u8]) -> Result<Table, ConfError>
 pub fn read_conf(alloc: Global, bytes: &[u8]) -> Result<Conf, ConfError>
     ensures conf { Gives (conf_of bytes.now) result }
     ensures usable { IfOk result IsUsable }
+    ensures memory { IfErr result TellsMemoryPlainly }
 {
     let table = document_of(alloc, bytes)?;
     let settings = settings_of(alloc, &table)?;
