@@ -1,7 +1,6 @@
 -- What a configuration is made of.
-use Rattle.std.proofs.Common.{◌≡◌, ◌∙◌, ℕ, ◌<◌, ◌≤◌, List, length, map, refl, sym, ap, subst, arith, get_or, ⊎_elim}
+use Rattle.std.proofs.Common.{◌≡◌, ℕ, ◌<◌, ◌≤◌, List, length, sym, ap, subst, arith, get_or, ⊎_elim}
 use Rattle.std.specs.Prelude.{All, slice_get}
-use Rattle.std.specs.declared.option.Option.{Option}
 use Rattle.std.specs.declared.option.Option.TheVariants.{None, Some}
 use Rattle.std.specs.Option.{option_map_or}
 use Rattle.std.proofs.lemmas.List.{length-map}
@@ -23,7 +22,6 @@ kind_count backends = length-map backends _
 
 abbrev pub IsWeight : ℕ → Type 0
 IsWeight n = (0 < n) × (n ≤ MOST_WEIGHT)
-
 
 is_weight : (backends : List Backend) (b : ℕ) → All IsWeighted backends → IsWeight (weight_at backends b)
 is_weight backends b all =

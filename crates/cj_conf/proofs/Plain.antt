@@ -1,18 +1,16 @@
 -- A configuration's refusal never hides want of memory in the refusal of a placement or of accounts.
-use Rattle.std.proofs.Common.{◌≡◌, ◌⊎◌, ℕ, Bool, true, false, cond, List, [], ◌∷◌, refl, sym, subst, ⊎_elim}
-use Rattle.std.specs.Prelude.{ℤ, pos, negsuc, IfErr, IfSome, ⊤}
+use Rattle.std.proofs.Common.{◌≡◌, ℕ, Bool, true, false, cond, List, [], ◌∷◌, sym, subst, ⊎_elim}
+use Rattle.std.specs.Prelude.{ℤ, pos, negsuc, IfErr}
 use Rattle.std.specs.declared.option.Option.{Option}
 use Rattle.std.specs.declared.option.Option.TheVariants.{None, Some}
 use Rattle.std.specs.declared.result.Result.{Result}
 use Rattle.std.specs.declared.result.Result.TheVariants.{Ok, Err}
 use Rattle.toml.specs.Data.{Data, Items, no_items, item, Members, as_array, as_integer, as_str, as_table}
 use Rattle.cj_model.specs.declared.policy.Policy.TheVariants.{RoundRobin}
-use Rattle.cj_balance.specs.declared.balancer.TheConstants.{MOST_WEIGHT}
 use Rattle.cj_conf.specs.declared.error.ConfError.{ConfError}
 use Rattle.cj_conf.specs.declared.error.ConfError.TheVariants as error
 use Rattle.cj_conf.specs.declared.key.Key.{Key}
 use Rattle.cj_conf.specs.declared.key.Key.TheVariants as key
-use Rattle.cj_conf.specs.declared.settings.TheConstants.{CACHE_ABSENT, CACHE_MOST, NUMBER_MOST}
 use Rattle.cj_conf.specs.Fields.{and_then, at, digest_at, in_range, kind_at, level_at, name_at, number_at, number_within, optional, policy_at, policy_named, required, text_as, unless, user_at}
 use Rattle.cj_conf.specs.Refusals.{Gives, TellsMemoryPlainly}
 use Rattle.cj_conf.specs.Rows.{account_of, backend_of, backends_at, each, each_of, hosts_at, is_table, is_text, logins_at, placed_of, row_of, rows_of, tables_at, texts_of, users_at}
@@ -86,7 +84,7 @@ plain_backend : (ms : Members) → IsPlain (backend_of ms)
 plain_backend ms =
     plain_then (name_at ms) _ (plain_word_at key.Name _ ms) (λ name.
     plain_then (kind_at ms) _ (plain_word_at key.Kind _ ms) (λ kind.
-    plain_then (number_at key.Weight 1 MOST_WEIGHT 1 ms) _ (plain_number_at key.Weight 1 MOST_WEIGHT 1 ms) (λ weight.
+    plain_then (number_at key.Weight 1 1000 1 ms) _ (plain_number_at key.Weight 1 1000 1 ms) (λ weight.
     plain_unknown _ _)))
 
 plain_placed : (ms : Members) → IsPlain (placed_of ms)
@@ -106,9 +104,9 @@ plain_settings : (ms : Members) → IsPlain (settings_of ms)
 plain_settings ms =
     plain_then (level_at ms) _ (plain_word_at key.Level _ ms) (λ level.
     plain_then (policy_at ms) _ (plain_optional RoundRobin _ (at key.Policy ms) (λ d. plain_text key.Policy policy_named (as_str d))) (λ policy.
-    plain_then (number_at key.Cache 0 CACHE_MOST CACHE_ABSENT ms) _ (plain_number_at key.Cache 0 CACHE_MOST CACHE_ABSENT ms) (λ cache.
-    plain_then (number_at key.Seed 0 NUMBER_MOST 0 ms) _ (plain_number_at key.Seed 0 NUMBER_MOST 0 ms) (λ seed.
-    plain_then (number_at key.Connections 0 NUMBER_MOST 0 ms) _ (plain_number_at key.Connections 0 NUMBER_MOST 0 ms) (λ connections.
+    plain_then (number_at key.Cache 0 65536 64 ms) _ (plain_number_at key.Cache 0 65536 64 ms) (λ cache.
+    plain_then (number_at key.Seed 0 9223372036854775807 0 ms) _ (plain_number_at key.Seed 0 9223372036854775807 0 ms) (λ seed.
+    plain_then (number_at key.Connections 0 9223372036854775807 0 ms) _ (plain_number_at key.Connections 0 9223372036854775807 0 ms) (λ connections.
     plain_then (backends_at ms) _ (plain_required key.Backends _ (at key.Backends ms) (λ d. plain_rows key.Backends backend_of d plain_backend)) (λ backends.
     plain_then (tables_at ms) _ (plain_optional [] _ (at key.Tables ms) (λ d. plain_rows key.Tables placed_of d plain_placed)) (λ tables.
     plain_then (users_at ms) _ (plain_required key.Users _ (at key.Users ms) (λ d. plain_rows key.Users account_of d plain_account)) (λ users.

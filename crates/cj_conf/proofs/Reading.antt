@@ -1,11 +1,9 @@
 -- How lists are read item by item.
-use Rattle.std.proofs.Common.{◌≡◌, ◌∙◌, List, [], ◌∷◌, ◌++◌, refl, sym, ap, append_assoc}
+use Rattle.std.proofs.Common.{◌≡◌, List, [], ◌∷◌, ◌++◌, refl, sym, ap, append_assoc}
 use Rattle.std.specs.declared.result.Result.{Result}
 use Rattle.std.specs.declared.result.Result.TheVariants.{Ok, Err}
-use Rattle.toml.specs.Data.{Data, Items, no_items, item}
 use Rattle.cj_conf.specs.declared.error.ConfError.{ConfError}
 use Rattle.cj_conf.specs.Fields.{and_then}
-use Rattle.cj_conf.specs.Rows.{each}
 
 -- the items that were read, and those that are read after them
 abbrev pub onto : {A : Type 0} → List A → Result (List A) ConfError → Result (List A) ConfError

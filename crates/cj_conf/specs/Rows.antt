@@ -8,7 +8,6 @@ use Rattle.std.specs.Option.{is_some}
 use Rattle.toml.specs.Data.{Data, Items, no_items, item, Members, as_str, as_array, as_table}
 use Rattle.cj_model.specs.declared.account.Account.{Account}
 use Rattle.cj_model.specs.declared.placement.PlaceRow.{PlaceRow}
-use Rattle.cj_balance.specs.declared.balancer.TheConstants.{MOST_WEIGHT}
 use Rattle.cj_conf.specs.declared.backend.Backend.{Backend}
 use Rattle.cj_conf.specs.declared.key.Key.{Key}
 use Rattle.cj_conf.specs.declared.key.Key.TheVariants as key
@@ -54,25 +53,30 @@ rows_of k read d = each_of k is_table (λ row. row_of k read (as_table row)) (as
 
 -- ---- rows
 
+-- a backend: its name, what holds its tables, its weight
 abbrev pub backend_of : Members → Result Backend ConfError
 backend_of ms =
     and_then (name_at ms) (λ name.
     and_then (kind_at ms) (λ kind.
-    and_then (number_at key.Weight 1 MOST_WEIGHT 1 ms) (λ weight.
+    and_then (number_at key.Weight 1 1000 1 ms) (λ weight.
     with_only (key.Name ∷ key.Kind ∷ key.Weight ∷ []) ms (record { name = name; kind = kind; weight = weight }))))
 
+-- the names of the backends that host a table
 abbrev pub hosts_at : Members → Result (List (List ℕ)) ConfError
 hosts_at ms = required key.Hosts (texts_of key.Hosts (name_in key.Hosts)) (at key.Hosts ms)
 
+-- a table and its hosts
 abbrev pub placed_of : Members → Result PlaceRow ConfError
 placed_of ms =
     and_then (name_at ms) (λ table.
     and_then (hosts_at ms) (λ hosts.
     with_only (key.Name ∷ key.Hosts ∷ []) ms (record { table = table; hosts = hosts })))
 
+-- the login of a user at each backend
 abbrev pub logins_at : Members → Result (List (List ℕ)) ConfError
 logins_at ms = required key.Logins (texts_of key.Logins (text_in key.Logins)) (at key.Logins ms)
 
+-- a user, the SHA-256 of its password, and its logins
 abbrev pub account_of : Members → Result Account ConfError
 account_of ms =
     and_then (user_at ms) (λ user.

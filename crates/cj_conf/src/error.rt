@@ -48,6 +48,43 @@ impl fmt::Display for UnknownKey {
     }
 }
 
+/// The name that a refusal is about, for its message; no bytes where it is about none.
+#[derive(Clone, Copy)]
+struct Subject<'a>(&'a [u8]);
+
+impl Subject<'_> {
+    fn of_place(error: &PlaceError) -> Subject<'_> {
+        match error {
+            PlaceError::BackendCount => Subject(b""),
+            PlaceError::Twice(name) => Subject(name.as_slice()),
+            PlaceError::Stranger(name) => Subject(name.as_slice()),
+            PlaceError::NoHost(name) => Subject(name.as_slice()),
+            PlaceError::ManyHosts(name) => Subject(name.as_slice()),
+            PlaceError::NotAll(name) => Subject(name.as_slice()),
+            PlaceError::NoMemory => Subject(b""),
+        }
+    }
+
+    fn of_auth(error: &AuthError) -> Subject<'_> {
+        match error {
+            AuthError::Twice(user) => Subject(user.as_slice()),
+            AuthError::BadDigest(user) => Subject(user.as_slice()),
+            AuthError::LoginCount(user) => Subject(user.as_slice()),
+            AuthError::NoMemory => Subject(b""),
+        }
+    }
+}
+
+impl fmt::Display for Subject<'_> {
+    fn fmt<W: fmt::Write>(&self, f: &mut fmt::Formatter<W>) -> fmt::Result {
+        match std::str::from_utf8(self.0) {
+            Ok("") => Ok(()),
+            Ok(name) => write!(f, ": `{name}`"),
+            Err(_) => Ok(()),
+        }
+    }
+}
+
 /// Why a configuration is refused.
 #[derive(Debug, Drop, Error)]
 pub enum ConfError {
@@ -62,9 +99,9 @@ pub enum ConfError {
     Range(Key),
     #[error("`{0}` is no key here: remove it, or look for a mistake in its spelling")]
     Unknown(UnknownKey),
-    #[error("the tables can't be placed: {0}")]
+    #[error("the tables can't be placed: {}{}", .0, Subject::of_place(.0))]
     Place(PlaceError),
-    #[error("the users can't be admitted: {0}")]
+    #[error("the users can't be admitted: {}{}", .0, Subject::of_auth(.0))]
     Auth(AuthError),
     #[error("out of memory")]
     NoMemory,

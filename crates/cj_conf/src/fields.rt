@@ -155,7 +155,9 @@ fn user_in(alloc: Global, value: &Value) -> Result<Text, ConfError>
 {
     match value.as_str() {
         None => Err(ConfError::WrongType(Key::Name)),
-        Some(text) if text.is_empty() || text.len() > USER_LIMIT => Err(ConfError::Range(Key::Name)),
+        Some(text) if text.is_empty() || text.len() > USER_LIMIT => Err(ConfError::Range(
+            Key::Name,
+        )),
         Some(text) => own_text(alloc, text.as_bytes(), Key::Name),
     }
 }

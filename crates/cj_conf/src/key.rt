@@ -45,7 +45,7 @@ impl Key {
         }
     }
 
-    /// What a value of the key is, in plain words.
+    /// Which values the key takes, in plain words.
     pub fn expected(self) -> &'static str {
         match self {
             Key::Level => "\"raidb0\", \"raidb1\" or \"raidb2\"",
@@ -53,14 +53,16 @@ impl Key {
             Key::Cache => "an integer from 0 to 65536",
             Key::Seed => "an integer from 0 to 9223372036854775807",
             Key::Connections => "an integer from 0 to 9223372036854775807",
-            Key::Backends => "a list of tables, each with a name, a kind and maybe a weight",
-            Key::Tables => "a list of tables, each with a name and its hosts",
-            Key::Users => "a list of tables, each with a name, a sha256 and its logins",
-            Key::Name => "1 to 32 small letters, digits or _ that don't begin with a digit; for a user 1 to 64 bytes",
+            Key::Backends => "a list of tables, each with name, kind and maybe weight",
+            Key::Tables => "a list of tables, each with name and hosts",
+            Key::Users => "a list of tables, each with name, sha256 and logins",
+            Key::Name => {
+                "1 to 32 of a-z, 0-9 and _, no digit first (backend or table); a text of 1 to 64 bytes (user)"
+            }
             Key::Kind => "\"memory\" or \"sqlite\"",
             Key::Weight => "an integer from 1 to 1000",
             Key::Hosts => "a list of names of backends",
-            Key::Sha256 => "the SHA-256 of the password, in hexadecimal digits",
+            Key::Sha256 => "the SHA-256 of the password, as 64 hexadecimal digits",
             Key::Logins => "a list of texts, one for each backend",
         }
     }

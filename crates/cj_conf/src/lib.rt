@@ -11,10 +11,6 @@ mod rows;
 mod settings;
 
 pub use backend::BackendKind;
-pub use conf::Conf;
-pub use conf::Kinds;
-pub use conf::Weights;
-pub use conf::read_conf;
-pub use error::ConfError;
-pub use error::UnknownKey;
+pub use conf::{Conf, Kinds, Weights, read_conf};
+pub use error::{ConfError, UnknownKey};
 pub use key::Key;
