@@ -1,0 +1,5 @@
+pub mod Documents
+pub mod Examples
+pub mod Making
+pub mod Plain
+pub mod Reading

@@ -1,0 +1,7 @@
+use Rattle.std.proofs.Common.{◌≡◌, drop}
+use Rattle.toml.specs.View.{array_view, items_view}
+use Rattle.cj_conf.specs.Rows.{all_items, is_table}
+use Rattle.cj_conf.proofs.rows.are_tables.Given as goal
+
+abbrev pub invariant-loop-value : goal.invariant-loop-value
+invariant-loop-value l = all_items is_table (array_view l.array) ≡ all_items is_table (items_view (drop l.value-index l.value-items))

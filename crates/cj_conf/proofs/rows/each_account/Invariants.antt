@@ -1,0 +1,14 @@
+use Rattle.std.proofs.Common.{◌≡◌, drop}
+use Rattle.toml.specs.Data.{as_table}
+use Rattle.toml.specs.View.{array_view, items_view}
+use Rattle.cj_model.specs.Cluster.Accounts.{HasShortUsers}
+use Rattle.cj_conf.specs.Rows.{account_of, each, row_of}
+use Rattle.cj_conf.specs.declared.key.Key.TheVariants.{Users}
+use Rattle.cj_conf.proofs.Reading.{onto}
+use Rattle.cj_conf.proofs.rows.each_account.Given as goal
+
+abbrev pub invariant-loop-value : goal.invariant-loop-value
+invariant-loop-value l =
+    (each (λ row. row_of Users account_of (as_table row)) (array_view l.array)
+    ≡ onto l.accounts (each (λ row. row_of Users account_of (as_table row)) (items_view (drop l.value-index l.value-items))))
+    × HasShortUsers l.accounts

@@ -1,0 +1,15 @@
+use Rattle.std.proofs.Common.{◌≡◌, drop}
+use Rattle.std.specs.Prelude.{All}
+use Rattle.toml.specs.Data.{as_table}
+use Rattle.toml.specs.View.{array_view, items_view}
+use Rattle.cj_conf.specs.Rows.{backend_of, each, row_of}
+use Rattle.cj_conf.specs.Weights.{IsWeighted}
+use Rattle.cj_conf.specs.declared.key.Key.TheVariants.{Backends}
+use Rattle.cj_conf.proofs.Reading.{onto}
+use Rattle.cj_conf.proofs.rows.each_backend.Given as goal
+
+abbrev pub invariant-loop-value : goal.invariant-loop-value
+invariant-loop-value l =
+    (each (λ row. row_of Backends backend_of (as_table row)) (array_view l.array)
+    ≡ onto l.backends (each (λ row. row_of Backends backend_of (as_table row)) (items_view (drop l.value-index l.value-items))))
+    × All IsWeighted l.backends

@@ -1,0 +1,12 @@
+use Rattle.std.proofs.Common.{◌≡◌, drop}
+use Rattle.toml.specs.Data.{as_table}
+use Rattle.toml.specs.View.{array_view, items_view}
+use Rattle.cj_conf.specs.Rows.{each, placed_of, row_of}
+use Rattle.cj_conf.specs.declared.key.Key.TheVariants.{Tables}
+use Rattle.cj_conf.proofs.Reading.{onto}
+use Rattle.cj_conf.proofs.rows.each_placed.Given as goal
+
+abbrev pub invariant-loop-value : goal.invariant-loop-value
+invariant-loop-value l =
+    each (λ row. row_of Tables placed_of (as_table row)) (array_view l.array)
+    ≡ onto l.tables (each (λ row. row_of Tables placed_of (as_table row)) (items_view (drop l.value-index l.value-items)))

@@ -1,0 +1,10 @@
+use Rattle.std.proofs.Common.{◌≡◌, drop}
+use Rattle.toml.specs.View.{array_view, items_view}
+use Rattle.cj_conf.specs.Fields.{name_in}
+use Rattle.cj_conf.specs.Rows.{each}
+use Rattle.cj_conf.specs.declared.key.Key.TheVariants.{Hosts}
+use Rattle.cj_conf.proofs.Reading.{onto}
+use Rattle.cj_conf.proofs.rows.names_of.Given as goal
+
+abbrev pub invariant-loop-value : goal.invariant-loop-value
+invariant-loop-value l = each (name_in Hosts) (array_view l.array) ≡ onto l.names (each (name_in Hosts) (items_view (drop l.value-index l.value-items)))
