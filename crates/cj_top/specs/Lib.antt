@@ -1,3 +1,5 @@
-pub mod Answers
+pub mod Configured
+pub mod Piped
 pub mod Program
+pub mod Runs
 pub mod Scripted

@@ -1,72 +1,53 @@
--- The command words, the status, and the bytes that a run takes and gives.
-use Rattle.std.specs.Prelude.{◌≡◌, ◌<◌, ◌⊎◌, ℕ, Bool, false, not, ◌&&◌, ◌==◌, List, [], ◌∷◌, length, codes}
+-- The words of commands, and the statuses that all of them share.
+use Rattle.std.specs.Prelude.{◌≡◌, ℕ, Bool, false, not, ◌&&◌, ◌==◌, List, [], ◌∷◌, codes}
 use Rattle.std.specs.declared.option.Option.{Option}
+use Rattle.std.specs.declared.option.Option.TheVariants.{None, Some}
 use Rattle.std.specs.Str.{bytes_eq}
-use Rattle.std.specs.Io.KnownBytes.{Consumes, Appends, Keeps, IsAtEnd}
-use Rattle.cj_outside.specs.Streams.{most, TookFewer, TookMost, TookSome}
-use Rattle.cj_model.specs.declared.message.Message.{Message}
 use Rattle.cj_cluster.specs.declared.session.SessionEnd.{SessionEnd}
 use Rattle.cj_cluster.specs.declared.session.SessionEnd.TheVariants as end
-use Rattle.cj_cluster.specs.Wire.Sessions.{Session, Transcript, PartialTranscript, CutsReply, StarvesReply}
+use Rattle.cj_script.specs.declared.play.ScriptEnd.{ScriptEnd}
+use Rattle.cj_script.specs.declared.play.ScriptEnd.TheVariants as script_end
+
+-- ---- words
 
 -- a word that names a configuration: not empty, and no option
 abbrev pub names_file : List ℕ → Bool
 names_file [] = false
 names_file (first ∷ rest) = not (first == 45)
 
+-- the command of this name, with the file of its configuration
+abbrev pub is_command : List ℕ → List (List ℕ) → Bool
+is_command name [] = false
+is_command name (command ∷ []) = false
+is_command name (command ∷ conf ∷ []) = bytes_eq command name && names_file conf
+is_command name (command ∷ conf ∷ more ∷ words) = false
+
 -- `pipe CONF`
 abbrev pub is_pipe : List (List ℕ) → Bool
-is_pipe [] = false
-is_pipe (command ∷ []) = false
-is_pipe (command ∷ conf ∷ []) = bytes_eq command (codes "pipe") && names_file conf
-is_pipe (command ∷ conf ∷ more ∷ words) = false
+is_pipe words = is_command (codes "pipe") words
 
--- the exit status of a session's end
-abbrev pub status_of : SessionEnd → ℕ
-status_of end.Quit = 0
-status_of end.Eof = 0
-status_of end.NoMemory = 1
-status_of end.Cut = 4
-status_of (end.BadFrame fault) = 4
-status_of end.ReadFault = 5
-status_of end.WriteFault = 6
-status_of end.Spent = 11
+-- `script CONF`
+abbrev pub is_script : List (List ℕ) → Bool
+is_script words = is_command (codes "script") words
 
--- the input was taken to its end
-pub record TookAll (left left' : Option (List ℕ)) (taken : List ℕ) : Type 0 where
-  pub bytes : Consumes left left' taken
-  pub end : IsAtEnd left'
-  pub few : length taken < most
+-- ---- statuses
 
--- the input was taken to its end, and the whole transcript of it was written
-pub record HasTranscript (left left' held held' : Option (List ℕ)) (ending : SessionEnd) : Type 0 where
-  pub taken : List ℕ
-  pub written : List ℕ
-  pub took : TookAll left left' taken
-  pub wrote : Appends held held' written
-  pub transcript : Transcript taken written ending
+-- of a session's end
+abbrev pub status_of_session : SessionEnd → ℕ
+status_of_session end.Quit = 0
+status_of_session end.Eof = 0
+status_of_session end.NoMemory = 1
+status_of_session end.Cut = 4
+status_of_session (end.BadFrame fault) = 4
+status_of_session end.ReadFault = 5
+status_of_session end.WriteFault = 6
+status_of_session end.Spent = 11
 
--- the input was taken to its end, and a front of the transcript was written
-pub record HasPartialTranscript (IsPart : Session → List Message → List ℕ → Type 0) (left left' held held' : Option (List ℕ)) : Type 0 where
-  pub taken : List ℕ
-  pub written : List ℕ
-  pub took : TookAll left left' taken
-  pub wrote : Appends held held' written
-  pub transcript : PartialTranscript IsPart taken written
-
--- What a session that ended so took and gave. Where the source or the sink tells nothing, this says nothing of its bytes.
-abbrev pub Piped : (left left' held held' : Option (List ℕ)) → SessionEnd → Type 0
-Piped left left' held held' end.Quit = HasTranscript left left' held held' end.Quit
-Piped left left' held held' end.Eof = HasTranscript left left' held held' end.Eof
-Piped left left' held held' end.Cut = HasTranscript left left' held held' end.Cut
-Piped left left' held held' (end.BadFrame fault) = HasTranscript left left' held held' (end.BadFrame fault)
-Piped left left' held held' end.ReadFault = TookFewer left left' × Keeps held held'
-Piped left left' held held' end.WriteFault = HasPartialTranscript CutsReply left left' held held'
-Piped left left' held held' end.Spent = TookMost left left' × Keeps held held'
-Piped left left' held held' end.NoMemory = (TookSome left left' × Keeps held held') ⊎ HasPartialTranscript StarvesReply left left' held held'
-
--- a run of `pipe` with this status
-pub record RunsPipe (left left' held held' : Option (List ℕ)) (status : ℕ) : Type 0 where
-  pub ending : SessionEnd
-  pub status_is : status ≡ status_of ending
-  pub piped : Piped left left' held held' ending
+-- of a script's end
+abbrev pub status_of_script : ScriptEnd → ℕ
+status_of_script script_end.Done = 0
+status_of_script (script_end.Line number) = 10
+status_of_script script_end.ReadFault = 5
+status_of_script script_end.WriteFault = 6
+status_of_script script_end.Spent = 11
+status_of_script script_end.NoMemory = 1

@@ -1,16 +1,15 @@
 //! The program as one call over what it is handed.
 #![tactic(auto)]
 
-mod laws;
+mod configured;
+mod piped;
 mod program;
 mod scripted;
-mod send;
-mod session;
+mod words;
 
-pub use laws::bytes_have_one_transcript;
-pub use program::{pipe, run};
+pub use piped::pipe;
+pub use program::run;
 pub use scripted::play;
-pub use session::Session;
 
 #[cfg(test)]
 mod call_tests;

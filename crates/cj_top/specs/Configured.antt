@@ -1,0 +1,63 @@
+-- What a command is configured with, and how it is refused.
+use Rattle.std.specs.Prelude.{◌≡◌, ◌⊎◌, ℕ, Bool, true, false, List, [], ◌∷◌, ◌++◌, length, map, replicate, codes, if◌then◌else◌, Result, Ok, Err, IsErrOf}
+use Rattle.std.specs.declared.option.Option.{Option}
+use Rattle.std.specs.declared.option.Option.TheVariants.{None, Some}
+use Rattle.std.specs.List.{list_any}
+use Rattle.std.specs.Fmt.{decimal}
+use Rattle.cj_outside.specs.Causes.{CountsFault}
+use Rattle.cj_outside.specs.Streams.{WritesAll}
+use Rattle.cj_outside.specs.declared.sink.OutError.{OutError}
+use Rattle.cj_outside.specs.declared.sink.OutError.TheVariants as out_errors
+use Rattle.cj_cluster.specs.Script.Lines.{with_line_feed, words}
+use Rattle.cj_place.specs.Layouts.{placement_of}
+use Rattle.cj_mem.specs.MemoryBackends.{never_armed}
+use Rattle.cj_conf.specs.declared.backend.BackendKind.{BackendKind}
+use Rattle.cj_conf.specs.declared.backend.BackendKind.TheVariants.{Memory, Sqlite}
+use Rattle.cj_conf.specs.declared.conf.Conf.{Conf}
+use Rattle.cj_conf.specs.declared.error.ConfError.{ConfError}
+use Rattle.cj_conf.specs.declared.error.ConfError.TheVariants.{Range}
+use Rattle.cj_conf.specs.declared.key.Key.TheVariants.{Kind}
+use Rattle.cj_conf.specs.Refusals.{error_number, key_text}
+use Rattle.cj_core.specs.Starts.{BackendState, backend_of, started}
+use Rattle.cj_core.specs.Worlds.{WorldState}
+
+-- ---- the configuration that is run
+
+abbrev pub is_sqlite : BackendKind → Bool
+is_sqlite Memory = false
+is_sqlite Sqlite = true
+
+-- the configuration, which is refused where a backend is of a kind that isn't served yet
+abbrev pub served_conf : Result Conf ConfError → Result Conf ConfError
+served_conf (Ok c) = if list_any is_sqlite c.kinds then Err (Range Kind) else Ok c
+served_conf (Err e) = Err e
+
+-- ---- the world that it makes
+
+-- a backend in memory that was not called yet
+abbrev pub new_backend : BackendState
+new_backend = record { told = Some []; faults = 0; asks = 0; login = None; arming = never_armed }
+
+-- The world that a configuration makes of new backends in memory: all are enabled, and no session was opened.
+pub record BeginsAsConfigured (c : Conf) (w : WorldState) : Type 0 where
+  pub core : w.core ≡ started (placement_of c.placement)
+  pub setup : w.setup ≡ record { names = c.placement.names; register = c.accounts }
+  pub backends : map backend_of w.cells ≡ replicate (length c.placement.names) new_backend
+
+-- ---- refusals
+
+-- the key as the last word, where there is one
+abbrev pub key_words : List ℕ → List (List ℕ)
+key_words [] = []
+key_words (first ∷ rest) = (first ∷ rest) ∷ []
+
+-- the line that tells a refusal by its number and key
+abbrev pub refusal_line : ConfError → List ℕ
+refusal_line e = with_line_feed (words (codes "configuration" ∷ codes "refused:" ∷ decimal (error_number e) ∷ key_words (key_text e)))
+
+-- That line was written, and behind it an explanation; or the errors failed in it, which they counted, or memory was wanting. `before` and `now` are the errors' counts of faults.
+pub record WritesRefusal (errors errors' : Option (List ℕ)) (before now : ℕ) (e : ConfError) : Type 0 where
+  pub explanation : List ℕ
+  pub answer : Result (Unit {0}) OutError
+  pub bytes : WritesAll errors errors' (refusal_line e ++ explanation) answer
+  pub cause : CountsFault (IsErrOf answer out_errors.Failed) before now

@@ -1,0 +1,48 @@
+-- The command `pipe`: one session at a world of its own.
+use Rattle.std.specs.Prelude.{◌≡◌, ℕ, ℤ, ◌+◌, ◌%◌, ◌^◌, Bool, true, List, []}
+use Rattle.std.specs.declared.option.Option.{Option}
+use Rattle.std.specs.declared.option.Option.TheVariants.{None, Some}
+use Rattle.rand_pcg.specs.Lcg.{Lcg}
+use Rattle.cj_outside.specs.Draws.{seeded, of_generator, generator_after}
+use Rattle.cj_cluster.specs.declared.session.SessionEnd.{SessionEnd}
+use Rattle.cj_cluster.specs.Moves.Moves.{opened_for, closed_for}
+use Rattle.cj_conf.specs.declared.conf.Conf.{Conf}
+use Rattle.cj_core.specs.Effects.{with_core}
+use Rattle.cj_core.specs.Solos.{SoloState, SoloSteps, desk_of}
+use Rattle.cj_core.specs.Worlds.{WorldState}
+use Rattle.cj_desk.specs.DeskChains.{IsDeskChain}
+use Rattle.cj_desk.specs.SessionTranscripts.{SessionSetting, setting, client_state}
+use Rattle.cj_session.specs.Serving.{ServesSession}
+use Rattle.cj_top.specs.Configured.{BeginsAsConfigured}
+use Rattle.cj_top.specs.Program.{status_of_session}
+
+-- the session is served at its own world, with a generator of random numbers and a clock
+abbrev pub solo_setting : Bool → Option ℤ → SessionSetting SoloState Lcg
+solo_setting tells moment = setting desk_of (SoloSteps tells) of_generator (λ generator n. generator_after generator) moment
+
+-- the session that is opened at this world
+abbrev pub opened_at : WorldState → SoloState
+opened_at w = record { world = with_core w (opened_for w.core []); session = w.core.greatest + 1 }
+
+-- the generator of a session, by the seed of the configuration and the session's number
+abbrev pub generator_of : ℕ → ℕ → Lcg
+generator_of seed session = seeded ((seed + session) % 2 ^ 64)
+
+-- From a world one session was opened, served to this end and closed, which led to another world.
+pub record ServesOneSession (tells : Bool) (seed : ℕ) (moment : Option ℤ) (left left' held held' : Option (List ℕ)) (first : WorldState) (ending : SessionEnd) (last : WorldState) : Type 0 where
+  pub desk : SoloState
+  pub draws : Lcg
+  -- what was written is the transcript of what was taken, in which each request leads the world as `SoloSteps` says
+  pub served : ServesSession (solo_setting tells moment) left left' held held' (client_state None (opened_at first) (generator_of seed (first.core.greatest + 1))) ending desk draws
+  -- its calls are a chain of turns: each reply is that of one database run on the history that the world has then
+  pub turns : IsDeskChain tells (desk_of (opened_at first)) (desk_of desk)
+  pub closed : last ≡ with_core desk.world (closed_for desk.world.core desk.session)
+
+-- A session over new backends in memory, as the configuration has them, ended with this status.
+pub record RunsPipe (c : Conf) (moment : Option ℤ) (left left' held held' : Option (List ℕ)) (status : ℕ) : Type 0 where
+  pub first : WorldState
+  pub begins : BeginsAsConfigured c first
+  pub ending : SessionEnd
+  pub last : WorldState
+  pub serves : ServesOneSession true c.seed moment left left' held held' first ending last
+  pub status_is : status ≡ status_of_session ending

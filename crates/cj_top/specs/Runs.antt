@@ -1,0 +1,35 @@
+-- How a command that reads a configuration comes to its status.
+use Rattle.std.specs.Prelude.{◌≡◌, ◌⊎◌, ℕ, ◌≤◌, Bool, true, List, length, Ok, Err}
+use Rattle.cj_outside.specs.Streams.{most}
+use Rattle.cj_conf.specs.declared.conf.Conf.{Conf}
+use Rattle.cj_conf.specs.declared.error.ConfError.{ConfError}
+use Rattle.cj_conf.specs.Confs.{conf_of}
+use Rattle.cj_top.specs.Configured.{served_conf}
+
+-- the bytes are those of the configuration's store, where it tells them
+pub record AreConfBytes (tells : Bool) (held bytes : List ℕ) : Type 0 where
+  pub whole : tells ≡ true → bytes ≡ held
+  pub limit : length bytes ≤ most
+
+-- the configuration was refused; `Tells` says what the errors were told
+pub record RefusesConf (tells : Bool) (held : List ℕ) (Tells : ConfError → Type 0) (Idle : Type 0) (status : ℕ) : Type 0 where
+  pub bytes : List ℕ
+  pub are : AreConfBytes tells held bytes
+  pub error : ConfError
+  pub refused : served_conf (conf_of bytes) ≡ Err error
+  pub told : Tells error
+  pub idle : Idle
+  pub status_is : status ≡ 3
+
+-- the configuration was accepted, and the command ran with it
+pub record RunsConfigured (tells : Bool) (held : List ℕ) (Runs : Conf → Type 0) : Type 0 where
+  pub bytes : List ℕ
+  pub are : AreConfBytes tells held bytes
+  pub conf : Conf
+  pub accepted : served_conf (conf_of bytes) ≡ Ok conf
+  pub runs : Runs conf
+
+-- The configuration's store failed or memory was wanting, and nothing else was touched (`Quiet`); or the configuration was refused, and the input and the output were not touched (`Idle`); or the command ran.
+abbrev pub RunsCommand : Bool → List ℕ → (ConfError → Type 0) → Type 0 → Type 0 → (Conf → Type 0) → ℕ → Type 0
+RunsCommand tells held Tells Idle Quiet Runs status =
+    (((status ≡ 7) ⊎ (status ≡ 1)) × Quiet) ⊎ RefusesConf tells held Tells Idle status ⊎ RunsConfigured tells held Runs

@@ -1,0 +1,163 @@
+//! What a command is configured with.
+
+ghost use Rattle.std.specs.Prelude.{◌≡◌, ◌++◌, ◌≤◌, ℕ, List, true, length, map, replicate, IfErr, IfOk, IsErrOf, Ok, Err};
+ghost use Rattle.cj_outside.specs.Causes.{CountsFault};
+ghost use Rattle.cj_flaky.specs.FlakyBackends.{fresh_over};
+ghost use Rattle.cj_mem.specs.MemoryBackends.{fresh_state};
+ghost use Rattle.cj_conf.specs.Confs.{IsUsable, conf_of};
+ghost use Rattle.cj_conf.specs.Refusals.{Gives, TellsMemoryPlainly};
+ghost use Rattle.cj_conf.specs.declared.error.ConfError.{ConfError};
+ghost use Rattle.cj_top.specs.Configured as configured;
+ghost use Rattle.cj_top.specs.Configured.{WritesRefusal, refusal_line, served_conf};
+ghost use Rattle.cj_top.specs.Runs.{AreConfBytes};
+ghost use Rattle.cj_top.specs.declared.configured.Unconfigured.TheVariants as unconfigured;
+
+use cj_balance::Balancer;
+use cj_book::BookParts;
+use cj_conf::{BackendKind, Conf, ConfError, Key, read_conf};
+use cj_core::{Backends, Parts};
+use cj_flaky::Flaky;
+use cj_mem::MemBackend;
+use cj_model::{ListOf, NoMemory};
+use cj_outside::{OutError, Sink, Store, StoreReadError, read_store, write_all};
+use std::alloc::Global;
+
+/// Why there is no configuration.
+#[derive(Drop)]
+pub enum Unconfigured {
+    /// Its store failed.
+    Failed,
+    Refused(ConfError),
+    NoMemory,
+}
+
+fn is_sqlite(kind: &BackendKind) -> bool
+    ensures { result ≡ configured.is_sqlite kind.now }
+{
+    matches!(kind, BackendKind::Sqlite)
+}
+
+/// The configuration that the bytes give. One with a backend of the kind `sqlite` is refused, which isn't served yet.
+fn conf_in(alloc: Global, bytes: &[u8]) -> Result<Conf, ConfError>
+    ensures conf { Gives (served_conf (conf_of bytes.now)) result }
+    ensures usable { IfOk result IsUsable }
+{
+    let conf = read_conf(alloc, bytes)?;
+    if conf.kinds.as_slice().iter().any(is_sqlite) {
+        return Err(ConfError::Range(Key::Kind));
+    }
+    Ok(conf)
+}
+
+/// The configuration that the store holds.
+pub fn conf_of<F: Store>(alloc: Global, store: &mut F) -> Result<Conf, Unconfigured>
+    ensures accepted { IfOk result (λ conf. (bytes : List ℕ) × AreConfBytes F.TELLS (F.held store.old) bytes × (served_conf (conf_of bytes) ≡ Ok conf)) }
+    ensures refused { (e : ConfError) → IsErrOf result (unconfigured.Refused e) → (bytes : List ℕ) × AreConfBytes F.TELLS (F.held store.old) bytes × (served_conf (conf_of bytes) ≡ Err e) }
+    ensures usable { IfOk result IsUsable }
+    ensures cause { CountsFault (IsErrOf result unconfigured.Failed) (F.faults store.old) (F.faults store.new) }
+{
+    let bytes = match read_store(alloc, store) {
+        Ok(bytes) => bytes,
+        Err(StoreReadError::Failed) => return Err(Unconfigured::Failed),
+        Err(StoreReadError::NoMemory) => return Err(Unconfigured::NoMemory),
+    };
+    match conf_in(alloc, &bytes) {
+        Ok(conf) => Ok(conf),
+        Err(ConfError::NoMemory) => Err(Unconfigured::NoMemory),
+        Err(error) => Err(Unconfigured::Refused(error)),
+    }
+}
+
+// ---- what is made of it
+
+/// What a world is made of, as the configuration has it.
+pub fn parts_of(conf: Conf) -> Parts
+    requires { IsUsable conf }
+    ensures placement { result.book.placement ≡ conf.placement }
+    ensures accounts { result.accounts ≡ conf.accounts }
+{
+    let Conf {
+        placement,
+        accounts,
+        policy,
+        weights,
+        ..
+    } = conf;
+    Parts {
+        book: BookParts {
+            placement,
+            balancer: Balancer::new(policy, weights),
+        },
+        accounts,
+    }
+}
+
+/// So many empty backends in memory.
+pub fn memory_backends(alloc: Global, count: u8) -> Result<Backends<MemBackend>, NoMemory>
+    ensures { IfOk result (λ backends. backends ≡ replicate count fresh_state) }
+{
+    let mut backends = Backends::new(alloc);
+    for _ in 0..count {
+        backends.push(MemBackend::new(alloc))?;
+    }
+    Ok(backends)
+}
+
+/// So many empty backends in memory that can be armed.
+pub fn flaky_backends(alloc: Global, count: u8) -> Result<Backends<Flaky<MemBackend>>, NoMemory>
+    ensures { IfOk result (λ backends. backends ≡ replicate count (fresh_over fresh_state [])) }
+{
+    let mut backends = Backends::new(alloc);
+    for _ in 0..count {
+        backends.push(Flaky::new(MemBackend::new(alloc), ListOf::new(alloc)))?;
+    }
+    Ok(backends)
+}
+
+// ---- how it is refused
+
+/// The line that tells the refusal by its number and key.
+fn first_line(alloc: Global, error: &ConfError) -> Result<Vec<u8>, NoMemory>
+    ensures { IfOk result (λ line. line.items ≡ refusal_line error.now) }
+{
+    let mut line = Vec::new(alloc);
+    line.extend_from_slice(b"configuration refused: ")?;
+    line.push(b'0' + error.number())?;
+    let key = error.key();
+    if !key.is_empty() {
+        line.push(b' ')?;
+        line.extend_from_slice(key)?;
+    }
+    line.push(b'\n')?;
+    Ok(line)
+}
+
+/// That line, and one that says in plain words what is wrong.
+fn explained(alloc: Global, error: &ConfError) -> Result<Vec<u8>, NoMemory>
+    ensures { IfOk result (λ text. (explanation : List ℕ) × (text.items ≡ refusal_line error.now ++ explanation)) }
+{
+    let mut text = first_line(alloc, error)?;
+    let explanation = format!(in alloc; "{error}\n")?;
+    text.extend_from_slice(explanation.as_bytes())?;
+    Ok(text)
+}
+
+fn write_refusal<E: Sink>(
+    alloc: Global,
+    error: &ConfError,
+    errors: &mut E,
+) -> Result<(), OutError>
+    ensures { WritesRefusal (E.held errors.old) (E.held errors.new) (E.faults errors.old) (E.faults errors.new) error.now }
+{
+    match explained(alloc, error) {
+        Ok(text) => write_all(errors, &text),
+        Err(_) => Err(OutError::NoMemory),
+    }
+}
+
+/// Tells the refusal. That this fails changes nothing else.
+pub fn tell_refusal<E: Sink>(alloc: Global, error: &ConfError, errors: &mut E)
+    ensures { WritesRefusal (E.held errors.old) (E.held errors.new) (E.faults errors.old) (E.faults errors.new) error.now }
+{
+    let _ = write_refusal(alloc, error, errors);
+}
