@@ -55,6 +55,7 @@ impl<B: Backend> World<B> {
         ensures full { IfErr result (λ (full, world). (moves.has_no_number self.core ≡ true) × (full.sessions ≡ length self.core.sessions) × (world ≡ self)) }
     {
         let mut world = self;
+        world.legal();
         if world.has_no_number() {
             let sessions = world.session_count();
             return Err((SessionsFull { sessions }, world));
