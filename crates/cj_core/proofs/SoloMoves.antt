@@ -1,4 +1,4 @@
--- A move of no session leaves a session between its calls.
+-- What leaves a session between its calls: a move of no session, and a request counted; and how it begins.
 use Rattle.std.proofs.Common.{◌≡◌, ◌≢◌, ℕ, ◌+◌, ◌<◌, ◌≤◌, Bool, true, false, List, [], ◌∷◌, ◌++◌, All, Option, None, Some, is_some, Ok, Err, refl, ap, sym, ◌∙◌, subst, arith}
 use Rattle.std.proofs.lemmas.Bool.{both_ways}
 use Rattle.std.proofs.lemmas.List.Elements.{All-weaker}
@@ -11,13 +11,14 @@ use Rattle.cj_cluster.specs.declared.moves.MoveError.TheVariants.{NotNow, NoMemo
 use Rattle.cj_cluster.specs.declared.moves.OpenSession.{OpenSession}
 use Rattle.cj_cluster.specs.History.Histories.{scheduled_entry, is_end_event, is_idle}
 use Rattle.cj_cluster.specs.Moves.Cores.{Core, find_session, session_at, new_session}
-use Rattle.cj_cluster.specs.Moves.Moves.{MoveResult, MovesTo, DoesMove, OpensSession, Arms, Disables, Enables, Replays, happened, is_open, not_now, opened_for}
+use Rattle.cj_cluster.specs.Moves.Moves.{MoveResult, MovesTo, DoesMove, OpensSession, Arms, Disables, Enables, Replays, happened, is_open, not_now, opened_for, with_one_request, with_request_counted}
 use Rattle.cj_cluster.specs.Proving.Invariants.{CoreInvariant, IsSoundSession}
 use Rattle.cj_cluster.proofs.Now.{can_apply, can_end}
 use Rattle.cj_cluster.proofs.Pushed.{free-same}
-use Rattle.cj_cluster.proofs.Sessions.{session_at-is, is_open-push, session_of-push_other, session_of-push_same}
+use Rattle.cj_cluster.proofs.Sessions.{session_at-is, is_open-push, is_open-with, session_of-push_other, session_of-push_same}
 use Rattle.cj_cluster.proofs.Soundness.{session_sound, by_reason}
 use Rattle.cj_core.specs.Solos.{IsMoveOfNoSession, StandsBetweenCalls}
+use Rattle.cj_core.proofs.SoloTurns.{counted_session}
 
 module _ (tells : Bool) (c z : Core) (s : ℕ) (w : CoreInvariant c) (stands : StandsBetweenCalls c s) where
   -- nothing changes
@@ -100,4 +101,15 @@ stands_opened c user w idle =
       idle = idle;
       here = ap is_some found;
       no_read = ap (λ (x : OpenSession). x.reading) (session_at-is (opened_for c user) (c.greatest + 1) (Some y) found);
+    }
+
+-- ---- a request counted
+
+-- it stands so after a request was counted
+pub stands_counted : (c : Core) (s : ℕ) → StandsBetweenCalls c s → StandsBetweenCalls (with_request_counted c s) s
+stands_counted c s stands =
+    record {
+      idle = stands.idle;
+      here = is_open-with with_one_request (λ x. refl) c.sessions s s ∙ stands.here;
+      no_read = ap (λ (x : OpenSession). x.reading) (counted_session c s stands.here) ∙ stands.no_read;
     }
