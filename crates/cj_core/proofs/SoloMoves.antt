@@ -1,5 +1,5 @@
 -- What leaves a session between its calls: a move of no session, and a request counted; and how it begins.
-use Rattle.std.proofs.Common.{◌≡◌, ◌≢◌, ℕ, ◌+◌, ◌<◌, ◌≤◌, Bool, true, false, List, [], ◌∷◌, ◌++◌, All, Option, None, Some, is_some, Ok, Err, refl, ap, sym, ◌∙◌, subst, arith}
+use Rattle.std.proofs.Common.{◌≡◌, ◌≢◌, ℕ, ◌+◌, ◌<◌, ◌≤◌, Bool, true, false, List, All, None, Some, is_some, Ok, Err, refl, ap, sym, ◌∙◌, subst, arith}
 use Rattle.std.proofs.lemmas.Bool.{both_ways}
 use Rattle.std.proofs.lemmas.List.Elements.{All-weaker}
 use Rattle.cj_cluster.specs.declared.event.Event.{Event}
@@ -7,11 +7,11 @@ use Rattle.cj_cluster.specs.declared.event.Event.TheVariants as event
 use Rattle.cj_cluster.specs.declared.moves.Move.{Move}
 use Rattle.cj_cluster.specs.declared.moves.Move.TheVariants.{Open, Close, Schedule, Abort, Apply, End, Read, Arm, Disable, Replay, Enable}
 use Rattle.cj_cluster.specs.declared.moves.Moved.TheVariants as moved
-use Rattle.cj_cluster.specs.declared.moves.MoveError.TheVariants.{NotNow, NoMemory}
+use Rattle.cj_cluster.specs.declared.moves.MoveError.TheVariants.{NoMemory}
 use Rattle.cj_cluster.specs.declared.moves.OpenSession.{OpenSession}
 use Rattle.cj_cluster.specs.History.Histories.{scheduled_entry, is_end_event, is_idle}
 use Rattle.cj_cluster.specs.Moves.Cores.{Core, find_session, session_at, new_session}
-use Rattle.cj_cluster.specs.Moves.Moves.{MoveResult, MovesTo, DoesMove, OpensSession, Arms, Disables, Enables, Replays, happened, is_open, not_now, opened_for, with_one_request, with_request_counted}
+use Rattle.cj_cluster.specs.Moves.Moves.{MoveResult, MovesTo, DoesMove, OpensSession, Arms, Disables, Enables, Replays, happened, not_now, opened_for, with_one_request, with_request_counted}
 use Rattle.cj_cluster.specs.Proving.Invariants.{CoreInvariant, IsSoundSession}
 use Rattle.cj_cluster.proofs.Now.{can_apply, can_end}
 use Rattle.cj_cluster.proofs.Pushed.{free-same}

@@ -40,7 +40,7 @@ module _ (cells : List CellState) (seen : List BackendState) (same : map backend
 
 -- the same is seen of the backends by themselves
 module _ {X : Type 0} (told : X → Option (List Slot)) (faults asks : X → ℕ) (login : X → Option (List ℕ)) (arming : X → Arming) (backends : List X) (cells : List CellState)
-  (same : map (state_by told faults asks login arming) backends ≡ map backend_of cells) where
+    (same : map (state_by told faults asks login arming) backends ≡ map backend_of cells) where
   part_of_backends : {T : Type 0} (part : BackendState → T) → map (λ (x : X). part (state_by told faults asks login arming x)) backends ≡ map (λ (x : CellState). part (backend_of x)) cells
   part_of_backends part = same_part (state_by told faults asks login arming) backend_of part backends cells same
 

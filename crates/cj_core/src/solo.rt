@@ -32,7 +32,7 @@ pub struct Solo<B: Backend> {
 
 impl<B: Backend> Model for Solo<B> {
     ghost use Rattle.cj_core.specs.Logins.{HasLogins};
-ghost use Rattle.cj_core.specs.Solos.{SoloState, StandsBetweenCalls};
+    ghost use Rattle.cj_core.specs.Solos.{SoloState, StandsBetweenCalls};
 
     ghost Value = { SoloState };
 
@@ -96,7 +96,6 @@ impl<B: Backend> Solo<B> {
     }
 
     /// Makes a move of no session, as the world does.
-    #[tactic(auto, using(crate::proofs::SoloMoves::stands_moved))]
     pub fn step(&mut self, m: Move) -> Result<Moved, MoveError>
         requires met { IsMet self.old.world.core m }
         requires sessions { IsMoveOfNoSession m }

@@ -1,5 +1,5 @@
 use Rattle.std.proofs.Common.{◌≡◌, ◌<◌, vec_capacity, sym, ◌∙◌, subst}
-use Rattle.cj_core.specs.Starts.{BackendState, backend_of, state_by}
+use Rattle.cj_core.specs.Starts.{backend_of, state_by}
 use Rattle.cj_core.proofs.Leaving.{left_seen, leaving_first, leaving_room, leaving_more, leaving_last}
 use Rattle.cj_core.proofs.start.backends_of.Goals as goal
 

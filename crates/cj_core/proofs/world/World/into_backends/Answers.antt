@@ -1,4 +1,4 @@
-use Rattle.std.proofs.Common.{◌≡◌, map, ap, ◌∙◌}
+use Rattle.std.proofs.Common.{map, ap, ◌∙◌}
 use Rattle.cj_core.specs.Starts.{backend_of, state_by}
 use Rattle.cj_core.proofs.Leaving.{are_holding, are_current}
 use Rattle.cj_core.proofs.Starting.{told_of_backends}
