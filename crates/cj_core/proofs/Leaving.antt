@@ -1,6 +1,6 @@
 -- How backends leave their cells, and what they hold then.
-use Rattle.std.proofs.Common.{◌≡◌, ℕ, ◌+◌, ◌<◌, ◌≤◌, Bool, true, List, [], ◌∷◌, ◌++◌, length, map, reverse, get_or, slice_get, Option, None, Some, refl, ap, sym, ◌∙◌, subst, arith, length-append, append-nil, eqb-true, false}
-use Rattle.std.proofs.lemmas.List.{reverse-reverse, length-reverse, length-map, get_or-map, nil_from_length, take_all}
+use Rattle.std.proofs.Common.{◌≡◌, ℕ, ◌+◌, ◌<◌, ◌≤◌, Bool, true, List, [], ◌∷◌, ◌++◌, length, map, reverse, get_or, slice_get, Option, None, Some, refl, ap, sym, ◌∙◌, subst, arith, length-append, append_assoc, append-nil, eqb-true, false}
+use Rattle.std.proofs.lemmas.List.{map_push, reverse-append, reverse-reverse, length-reverse, length-map, get_or-map, nil_from_length, take_all}
 use Rattle.std.proofs.lemmas.Option.{slice_get-get_or}
 use Rattle.cj_model.specs.declared.database.Slot.{Slot}
 use Rattle.cj_model.specs.Cluster.Placements.{everywhere, part}
@@ -8,53 +8,65 @@ use Rattle.cj_cluster.specs.History.Histories.{log, ended_count, is_idle, is_ena
 use Rattle.cj_cluster.specs.Moves.Cores.{position_at}
 use Rattle.cj_cluster.specs.Proving.Invariants.{BackendStands, HoldsPart}
 use Rattle.cj_cluster.proofs.Effects.{is_there, no_masks}
-use Rattle.cj_replica.specs.Cells.{CellState}
+use Rattle.cj_replica.specs.Cells.{CellState, KeepsBegun}
 use Rattle.cj_core.specs.Worlds.{WorldState, IsWorld, IsCell}
-use Rattle.cj_core.specs.Starts.{AreHolding, AreCurrent}
-use Rattle.cj_core.proofs.Starting.{moved_on}
+use Rattle.cj_core.specs.Starts.{BackendState, KeepEachBegun, AreHolding, AreCurrent, backend_of}
 
 -- ---- out of the cells
 
--- The cells left, last first, and the backends that have left theirs, are all; and there is room for the others.
-pub record Leaving {X : Type 0} (told_of : X → Option (List Slot)) (faults_of : X → ℕ) (all left : List CellState) (backends : List X) (capacity : ℕ) : Type 0 where
-  pub told : map told_of backends ++ map (λ (x : CellState). x.told) (reverse left) ≡ map (λ (x : CellState). x.told) all
-  pub faults : map faults_of backends ++ map (λ (x : CellState). x.faults) (reverse left) ≡ map (λ (x : CellState). x.faults) all
+-- one pair more, at the end
+keep_pushed : (cells : List CellState) (begun : List (List ℕ)) (x : CellState) (b : List ℕ) → KeepEachBegun cells begun → KeepsBegun x.position x.begun b → KeepEachBegun (cells ++ x ∷ []) (begun ++ b ∷ [])
+keep_pushed [] [] x b all one = (one, tt)
+keep_pushed [] (a ∷ begun) x b all one = absurd all
+keep_pushed (y ∷ cells) [] x b all one = absurd all
+keep_pushed (y ∷ cells) (a ∷ begun) x b all one = (all.0, keep_pushed cells begun x b all.1 one)
+
+-- what is seen of a backend that left its cell, part by part
+pub left_seen : (s : BackendState) (x : CellState) → s.told ≡ x.told → s.faults ≡ x.faults → s.asks ≡ x.asks → s.login ≡ x.login → s.arming ≡ x.arming → s ≡ backend_of x
+left_seen s x told faults asks login arming = rw (sym told, sym faults, sym asks, sym login, sym arming) refl
+
+-- The cells that were left already, and those that are left, last first, are all; each backend that left its cell is as that says, and there is room for the others.
+pub record Leaving {X : Type 0} (state_of : X → BackendState) (begun_of : X → List ℕ) (all left : List CellState) (backends : List X) (capacity : ℕ) : Type 0 where
+  pub moved : List CellState
+  pub whole : moved ++ reverse left ≡ all
+  pub shown : map state_of backends ≡ map backend_of moved
+  pub begun : KeepEachBegun moved (map begun_of backends)
   pub room : length backends + length left ≤ capacity
 
-module _ {X : Type 0} (told_of : X → Option (List Slot)) (faults_of : X → ℕ) (all left : List CellState) (backends : List X) (capacity : ℕ) where
-  pub leaving_first : left ≡ reverse all → backends ≡ [] → length all ≤ capacity → Leaving told_of faults_of all left backends capacity
-  leaving_first back none room =
+module _ {X : Type 0} {state_of : X → BackendState} {begun_of : X → List ℕ} {all : List CellState} where
+  pub leaving_first : (left : List CellState) (backends : List X) {capacity : ℕ} → left ≡ reverse all → backends ≡ [] → length all ≤ capacity → Leaving state_of begun_of all left backends capacity
+  leaving_first left backends back none room =
       let again : reverse left ≡ all = ap reverse back ∙ reverse-reverse all in
       let long : length left ≡ length all = ap length back ∙ length-reverse all in
       let empty : length backends ≡ 0 = ap length none in
-      record { told = rw (none, again) refl; faults = rw (none, again) refl; room = omega arith }
+      record { moved = []; whole = again; shown = ap (map state_of) none; begun = subst (λ (bs : List X). KeepEachBegun [] (map begun_of bs)) (sym none) tt; room = omega arith }
 
-  module _ (before : List CellState) (x : CellState) (is : before ≡ left ++ x ∷ []) (leaving : Leaving told_of faults_of all before backends capacity) where
+  module _ {before : List CellState} {backends : List X} {capacity : ℕ} (left : List CellState) (x : CellState) (is : before ≡ left ++ x ∷ []) (leaving : Leaving state_of begun_of all before backends capacity) where
     count : length backends + (length left + 1) ≤ capacity
     count = subst (λ m. length backends + m ≤ capacity) (ap length is ∙ length-append left (x ∷ [])) leaving.room
 
     pub leaving_room : length backends < capacity
     leaving_room = let all_of : length backends + (length left + 1) ≤ capacity = count in omega arith
 
-    pub leaving_more : (y : X) (now : List X) (capacity_now : ℕ) → told_of y ≡ x.told → faults_of y ≡ x.faults → now ≡ backends ++ y ∷ [] → capacity_now ≡ capacity → Leaving told_of faults_of all left now capacity_now
-    leaving_more y now capacity_now told faults pushed same =
+    pub leaving_more : (y : X) (now : List X) (capacity_now : ℕ) → state_of y ≡ backend_of x → KeepsBegun x.position x.begun (begun_of y) → now ≡ backends ++ y ∷ [] → capacity_now ≡ capacity → Leaving state_of begun_of all left now capacity_now
+    leaving_more y now capacity_now seen kept pushed same =
         let more = length-append backends (y ∷ []) in
         let all_of : length backends + (length left + 1) ≤ capacity = count in
         rw (pushed, same)
         (record {
-          told = moved_on told_of (λ (z : CellState). z.told) all left x backends y told (subst (λ l. map told_of backends ++ map (λ (z : CellState). z.told) (reverse l) ≡ map (λ (z : CellState). z.told) all) is leaving.told);
-          faults = moved_on faults_of (λ (z : CellState). z.faults) all left x backends y faults (subst (λ l. map faults_of backends ++ map (λ (z : CellState). z.faults) (reverse l) ≡ map (λ (z : CellState). z.faults) all) is leaving.faults);
+          moved = leaving.moved ++ x ∷ [];
+          whole = append_assoc leaving.moved (x ∷ []) (reverse left) ∙ (ap (λ l. leaving.moved ++ l) (sym (ap reverse is ∙ reverse-append left (x ∷ []))) ∙ leaving.whole);
+          shown = map_push state_of backends y ∙ (ap (λ l. l ++ state_of y ∷ []) leaving.shown ∙ (ap (λ s. map backend_of leaving.moved ++ s ∷ []) seen ∙ sym (map_push backend_of leaving.moved x)));
+          begun = subst (KeepEachBegun (leaving.moved ++ x ∷ [])) (sym (map_push begun_of backends y)) (keep_pushed leaving.moved (map begun_of backends) x (begun_of y) leaving.begun kept);
           room = omega arith;
         })
 
   -- where none is left, all backends have left
-  pub leaving_last : length left ≡ 0 → Leaving told_of faults_of all left backends capacity
-      → (map told_of backends ≡ map (λ (x : CellState). x.told) all) × (map faults_of backends ≡ map (λ (x : CellState). x.faults) all)
-  leaving_last empty leaving =
-      let none : left ≡ [] = nil_from_length left empty in (
-        sym (append-nil (map told_of backends)) ∙ (ap (λ l. map told_of backends ++ map (λ (x : CellState). x.told) (reverse l)) (sym none) ∙ leaving.told),
-        sym (append-nil (map faults_of backends)) ∙ (ap (λ l. map faults_of backends ++ map (λ (x : CellState). x.faults) (reverse l)) (sym none) ∙ leaving.faults),
-      )
+  pub leaving_last : {left : List CellState} {backends : List X} {capacity : ℕ} → length left ≡ 0 → Leaving state_of begun_of all left backends capacity → (map state_of backends ≡ map backend_of all) × KeepEachBegun all (map begun_of backends)
+  leaving_last {left} {backends} empty leaving =
+      let none : left ≡ [] = nil_from_length left empty in
+      let every : leaving.moved ≡ all = sym (append-nil leaving.moved) ∙ (ap (λ l. leaving.moved ++ reverse l) (sym none) ∙ leaving.whole) in
+      (leaving.shown ∙ ap (map backend_of) every, subst (λ (cells : List CellState). KeepEachBegun cells (map begun_of backends)) every leaving.begun)
 
 -- ---- what they hold
 

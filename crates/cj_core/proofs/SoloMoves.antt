@@ -1,22 +1,24 @@
--- A move of no session leaves a session between its calls.
-use Rattle.std.proofs.Common.{◌≡◌, ◌≢◌, ℕ, ◌+◌, ◌<◌, ◌≤◌, Bool, true, false, List, [], ◌∷◌, ◌++◌, Option, None, Some, Ok, Err, refl, ap, sym, ◌∙◌, subst, arith}
+-- What leaves a session between its calls: a move of no session, and a request counted; and how it begins.
+use Rattle.std.proofs.Common.{◌≡◌, ◌≢◌, ℕ, ◌+◌, ◌<◌, ◌≤◌, Bool, true, false, List, All, None, Some, is_some, Ok, Err, refl, ap, sym, ◌∙◌, subst, arith}
 use Rattle.std.proofs.lemmas.Bool.{both_ways}
+use Rattle.std.proofs.lemmas.List.Elements.{All-weaker}
 use Rattle.cj_cluster.specs.declared.event.Event.{Event}
 use Rattle.cj_cluster.specs.declared.event.Event.TheVariants as event
 use Rattle.cj_cluster.specs.declared.moves.Move.{Move}
 use Rattle.cj_cluster.specs.declared.moves.Move.TheVariants.{Open, Close, Schedule, Abort, Apply, End, Read, Arm, Disable, Replay, Enable}
 use Rattle.cj_cluster.specs.declared.moves.Moved.TheVariants as moved
-use Rattle.cj_cluster.specs.declared.moves.MoveError.TheVariants.{NotNow, NoMemory}
+use Rattle.cj_cluster.specs.declared.moves.MoveError.TheVariants.{NoMemory}
 use Rattle.cj_cluster.specs.declared.moves.OpenSession.{OpenSession}
 use Rattle.cj_cluster.specs.History.Histories.{scheduled_entry, is_end_event, is_idle}
 use Rattle.cj_cluster.specs.Moves.Cores.{Core, find_session, session_at, new_session}
-use Rattle.cj_cluster.specs.Moves.Moves.{MoveResult, MovesTo, DoesMove, OpensSession, Arms, Disables, Enables, Replays, happened, is_open, not_now, opened_for}
-use Rattle.cj_cluster.specs.Proving.Invariants.{CoreInvariant}
+use Rattle.cj_cluster.specs.Moves.Moves.{MoveResult, MovesTo, DoesMove, OpensSession, Arms, Disables, Enables, Replays, happened, not_now, opened_for, with_one_request, with_request_counted}
+use Rattle.cj_cluster.specs.Proving.Invariants.{CoreInvariant, IsSoundSession}
 use Rattle.cj_cluster.proofs.Now.{can_apply, can_end}
 use Rattle.cj_cluster.proofs.Pushed.{free-same}
-use Rattle.cj_cluster.proofs.Sessions.{session_at-is, is_open-push, session_of-push_other}
+use Rattle.cj_cluster.proofs.Sessions.{session_at-is, is_open-push, is_open-with, session_of-push_other, session_of-push_same}
 use Rattle.cj_cluster.proofs.Soundness.{session_sound, by_reason}
 use Rattle.cj_core.specs.Solos.{IsMoveOfNoSession, StandsBetweenCalls}
+use Rattle.cj_core.proofs.SoloTurns.{counted_session}
 
 module _ (tells : Bool) (c z : Core) (s : ℕ) (w : CoreInvariant c) (stands : StandsBetweenCalls c s) where
   -- nothing changes
@@ -84,3 +86,30 @@ module _ (tells : Bool) (c z : Core) (s : ℕ) (w : CoreInvariant c) (stands : S
   -- any move
   pub stands_moved : (m : Move) (g : MoveResult) → IsMoveOfNoSession m → MovesTo tells c m g z → StandsBetweenCalls z s
   stands_moved m g none h = by_reason (not_now c m) (DoesMove tells c m g z) (StandsBetweenCalls z s) g c z h (λ now t. does m g none now t) (λ why is same. as_it_was same)
+
+-- ---- how it begins
+
+-- the session that was opened last stands between its calls, where no entry is open
+pub stands_opened : (c : Core) (user : List ℕ) → CoreInvariant c → is_idle c.history ≡ true → StandsBetweenCalls (opened_for c user) (c.greatest + 1)
+stands_opened c user w idle =
+    let y : OpenSession = new_session (c.greatest + 1) user in
+    let below : All (λ (x : OpenSession). x.number < y.number) c.sessions =
+    All-weaker (IsSoundSession c.history c.greatest) (λ (x : OpenSession). x.number < c.greatest + 1) (λ x q. let le : x.number ≤ c.greatest = q.number.1 in omega arith) c.sessions w.sessions
+    in
+    let found : find_session (opened_for c user).sessions (c.greatest + 1) ≡ Some y = session_of-push_same c.sessions y below in
+    record {
+      idle = idle;
+      here = ap is_some found;
+      no_read = ap (λ (x : OpenSession). x.reading) (session_at-is (opened_for c user) (c.greatest + 1) (Some y) found);
+    }
+
+-- ---- a request counted
+
+-- it stands so after a request was counted
+pub stands_counted : (c : Core) (s : ℕ) → StandsBetweenCalls c s → StandsBetweenCalls (with_request_counted c s) s
+stands_counted c s stands =
+    record {
+      idle = stands.idle;
+      here = is_open-with with_one_request (λ x. refl) c.sessions s s ∙ stands.here;
+      no_read = ap (λ (x : OpenSession). x.reading) (counted_session c s stands.here) ∙ stands.no_read;
+    }

@@ -1,15 +1,68 @@
--- How backends move into cells, and cells into a world.
+-- How backends move into cells, and what is seen of both.
 use Rattle.std.proofs.Common.{◌≡◌, ℕ, suc, ◌+◌, ◌<◌, ◌≤◌, List, [], ◌∷◌, ◌++◌, length, map, reverse, get_or, All, Option, Some, refl, ap, sym, ◌∙◌, subst, arith, length-append, append_assoc, append-nil, ⊎_elim}
 use Rattle.std.proofs.lemmas.Bool.{cases_lt}
-use Rattle.std.proofs.lemmas.List.{map_push, reverse-append, reverse-reverse, get_or_push, get_or_append_left, nil_from_length}
+use Rattle.std.proofs.lemmas.List.{map_push, reverse-append, reverse-reverse, length-reverse, get_or_push, get_or_append_left, nil_from_length}
+use Rattle.std.proofs.lemmas.Simd.{map-map}
 use Rattle.cj_model.specs.declared.database.Slot.{Slot}
 use Rattle.cj_model.specs.Cluster.Placements.{Placement}
 use Rattle.cj_backend.specs.Backends.{Arming}
 use Rattle.cj_replica.specs.Cells.{CellState}
-use Rattle.cj_core.specs.Starts.{IsFresh, AreFresh, HaveBegunNone}
+use Rattle.cj_core.specs.Armings.{each_arming}
+use Rattle.cj_core.specs.Counting.{faults_of}
+use Rattle.cj_core.specs.Logins.{logins_of}
+use Rattle.cj_core.specs.Starts.{BackendState, IsFresh, AreFresh, HaveBegunNone, backend_of, state_by}
+
+-- ---- what is seen of backends in their cells
+
+-- two lists of which the same is seen, of each item, agree in each part of it
+same_part : {A B S T : Type 0} (f : A → S) (g : B → S) (part : S → T) (xs : List A) (ys : List B) → map f xs ≡ map g ys → map (λ x. part (f x)) xs ≡ map (λ y. part (g y)) ys
+same_part f g part xs ys same = sym (map-map part f xs) ∙ (ap (map part) same ∙ map-map part g ys)
+
+-- of the backends in the cells this is seen
+module _ (cells : List CellState) (seen : List BackendState) (same : map backend_of cells ≡ seen) where
+  part_of_cells : {T : Type 0} (part : BackendState → T) → map (λ (x : CellState). part (backend_of x)) cells ≡ map part seen
+  part_of_cells part = sym (map-map part backend_of cells) ∙ ap (map part) same
+
+  pub told_of_cells : map (λ (x : CellState). x.told) cells ≡ map (λ (s : BackendState). s.told) seen
+  told_of_cells = part_of_cells (λ (s : BackendState). s.told)
+
+  pub faults_of_cells : faults_of cells ≡ map (λ (s : BackendState). s.faults) seen
+  faults_of_cells = part_of_cells (λ (s : BackendState). s.faults)
+
+  pub asks_of_cells : map (λ (x : CellState). x.asks) cells ≡ map (λ (s : BackendState). s.asks) seen
+  asks_of_cells = part_of_cells (λ (s : BackendState). s.asks)
+
+  pub logins_of_cells : logins_of cells ≡ map (λ (s : BackendState). s.login) seen
+  logins_of_cells = part_of_cells (λ (s : BackendState). s.login)
+
+  pub armings_of_cells : each_arming cells ≡ map (λ (s : BackendState). s.arming) seen
+  armings_of_cells = part_of_cells (λ (s : BackendState). s.arming)
+
+-- the same is seen of the backends by themselves
+module _ {X : Type 0} (told : X → Option (List Slot)) (faults asks : X → ℕ) (login : X → Option (List ℕ)) (arming : X → Arming) (backends : List X) (cells : List CellState)
+    (same : map (state_by told faults asks login arming) backends ≡ map backend_of cells) where
+  part_of_backends : {T : Type 0} (part : BackendState → T) → map (λ (x : X). part (state_by told faults asks login arming x)) backends ≡ map (λ (x : CellState). part (backend_of x)) cells
+  part_of_backends part = same_part (state_by told faults asks login arming) backend_of part backends cells same
+
+  pub told_of_backends : map told backends ≡ map (λ (x : CellState). x.told) cells
+  told_of_backends = part_of_backends (λ (s : BackendState). s.told)
+
+  pub faults_of_backends : map faults backends ≡ faults_of cells
+  faults_of_backends = part_of_backends (λ (s : BackendState). s.faults)
+
+  pub asks_of_backends : map asks backends ≡ map (λ (x : CellState). x.asks) cells
+  asks_of_backends = part_of_backends (λ (s : BackendState). s.asks)
+
+  pub logins_of_backends : map login backends ≡ logins_of cells
+  logins_of_backends = part_of_backends (λ (s : BackendState). s.login)
+
+  pub armings_of_backends : map arming backends ≡ each_arming cells
+  armings_of_backends = part_of_backends (λ (s : BackendState). s.arming)
+
+-- ---- into the cells
 
 -- what was moved and what is left, last first, are all; so too after one more
-pub moved_on : {A X Y : Type 0} (f : Y → A) (g : X → A) (all left : List X) (x : X) (moved : List Y) (y : Y) → f y ≡ g x → map f moved ++ map g (reverse (left ++ x ∷ [])) ≡ map g all
+moved_on : {A X Y : Type 0} (f : Y → A) (g : X → A) (all left : List X) (x : X) (moved : List Y) (y : Y) → f y ≡ g x → map f moved ++ map g (reverse (left ++ x ∷ [])) ≡ map g all
     → map f (moved ++ y ∷ []) ++ map g (reverse left) ≡ map g all
 moved_on f g all left x moved y same was =
     ap (λ l. l ++ map g (reverse left)) (map_push f moved y)
@@ -19,32 +72,35 @@ moved_on f g all left x moved y same was =
 all_first : {A : Type 0} (P : A → Type 0) (x : A) (xs : List A) → All P (x ∷ xs) → P x × All P xs
 all_first P x xs all = (all 0 x (omega arith), λ k d lt. all (suc k) d (omega arith))
 
+-- what moves into a cell: what is seen of the backend stays, and the cell has taken no entry
+pub made_fresh : (number : ℕ) (p : Placement) (s : BackendState) (y : CellState)
+    → y ≡ record { b = number; placement = p; position = Some 0; begun = []; login = s.login; told = s.told; faults = s.faults; asks = s.asks; arming = s.arming } → IsFresh p number y × (backend_of y ≡ s)
+made_fresh number p s y made = (rw made (record { number = refl; placement = refl; position = refl; begun = refl }), ap backend_of made)
+
 -- The backends left, last first, and those that have moved into cells by their numbers, are all. Those left have begun no transaction.
-pub record Moving {X : Type 0} (told_of : X → Option (List Slot)) (faults_of : X → ℕ) (arming_of : X → Arming) (begun_of : X → List ℕ) (p : Placement) (all left : List X) (cells : List CellState) (capacity : ℕ) : Type 0 where
+pub record Moving {X : Type 0} (state_of : X → BackendState) (begun_of : X → List ℕ) (p : Placement) (all left : List X) (cells : List CellState) (capacity : ℕ) : Type 0 where
   pub as_many : length cells + length left ≡ p.backends
   pub none : HaveBegunNone (map begun_of (reverse left))
   pub each : (b : ℕ) (d : CellState) → b < length cells → IsFresh p b (get_or cells b d)
-  pub told : map (λ (x : CellState). x.told) cells ++ map told_of (reverse left) ≡ map told_of all
-  pub faults : map (λ (x : CellState). x.faults) cells ++ map faults_of (reverse left) ≡ map faults_of all
-  pub arming : map (λ (x : CellState). x.arming) cells ++ map arming_of (reverse left) ≡ map arming_of all
+  pub shown : map backend_of cells ++ map state_of (reverse left) ≡ map state_of all
   pub room : p.backends ≤ capacity
 
-module _ {X : Type 0} (told_of : X → Option (List Slot)) (faults_of : X → ℕ) (arming_of : X → Arming) (begun_of : X → List ℕ) (p : Placement) (all left : List X) (cells : List CellState) (capacity : ℕ) where
-  pub moving_first : length left ≡ p.backends → all ≡ reverse left → cells ≡ [] → p.backends ≤ capacity → HaveBegunNone (map begun_of all) → Moving told_of faults_of arming_of begun_of p all left cells capacity
-  moving_first count whole none room begun =
+module _ {X : Type 0} {state_of : X → BackendState} {begun_of : X → List ℕ} {p : Placement} {all : List X} {cells : List CellState} {capacity : ℕ} where
+  pub moving_first : (left : List X) → left ≡ reverse all → length all ≡ p.backends → cells ≡ [] → p.backends ≤ capacity → HaveBegunNone (map begun_of all) → Moving state_of begun_of p all left cells capacity
+  moving_first left back count none room begun =
       let no_cells : length cells ≡ 0 = ap length none in
+      let whole : reverse left ≡ all = ap reverse back ∙ reverse-reverse all in
+      let long : length left ≡ length all = ap length back ∙ length-reverse all in
       record {
         as_many = omega arith;
-        none = subst (λ (xs : List X). HaveBegunNone (map begun_of xs)) whole begun;
+        none = subst (λ (xs : List X). HaveBegunNone (map begun_of xs)) (sym whole) begun;
         each = λ b d lt. absurd (omega arith);
-        told = rw (none, whole) refl;
-        faults = rw (none, whole) refl;
-        arming = rw (none, whole) refl;
+        shown = rw (none, whole) refl;
         room = room;
       }
 
   -- the last of those left moves into a cell
-  module _ (before : List X) (x : X) (is : before ≡ left ++ x ∷ []) (moving : Moving told_of faults_of arming_of begun_of p all before cells capacity) where
+  module _ {before : List X} (left : List X) (x : X) (is : before ≡ left ++ x ∷ []) (moving : Moving state_of begun_of p all before cells capacity) where
     count : length cells + (length left + 1) ≡ p.backends
     count = ap (λ m. length cells + m) (sym (ap length is ∙ length-append left (x ∷ []))) ∙ moving.as_many
 
@@ -61,10 +117,9 @@ module _ {X : Type 0} (told_of : X → Option (List Slot)) (faults_of : X → �
         let room : p.backends ≤ capacity = moving.room in
         (omega arith, omega arith)
 
-    pub moving_more : (number asks : ℕ) (login : Option (List ℕ)) (y : CellState) (now : List CellState) (capacity_now : ℕ) → number ≡ length cells
-        → y ≡ record { b = number; placement = p; position = Some 0; begun = []; login = login; told = told_of x; faults = faults_of x; asks = asks; arming = arming_of x }
-        → now ≡ cells ++ y ∷ [] → capacity_now ≡ capacity → Moving told_of faults_of arming_of begun_of p all left now capacity_now
-    moving_more number asks login y now capacity_now numbered made pushed same =
+    pub moving_more : (y : CellState) (now : List CellState) (capacity_now : ℕ) → IsFresh p (length cells) y × (backend_of y ≡ state_of x) → now ≡ cells ++ y ∷ [] → capacity_now ≡ capacity
+        → Moving state_of begun_of p all left now capacity_now
+    moving_more y now capacity_now made pushed same =
         let more = length-append cells (y ∷ []) in
         let all_of : length cells + (length left + 1) ≡ p.backends = count in
         rw (pushed, same)
@@ -76,35 +131,17 @@ module _ {X : Type 0} (told_of : X → Option (List Slot)) (faults_of : X → �
               ⊎_elim (λ (c : k < length cells). subst (IsFresh p k) (sym (get_or_append_left cells (y ∷ []) d k c)) (moving.each k d c))
               (λ (c : length cells ≤ k).
               let e : length cells ≡ k = omega arith in
-              subst (IsFresh p k) (sym (get_or_push cells y d k e))
-              (record { number = ap (λ (z : CellState). z.b) made ∙ (numbered ∙ e); placement = ap (λ (z : CellState). z.placement) made; position = ap (λ (z : CellState). z.position) made; begun = ap (λ (z : CellState). z.begun) made }))
+              subst (IsFresh p k) (sym (get_or_push cells y d k e)) (subst (λ (n : ℕ). IsFresh p n y) e made.0))
               (cases_lt k (length cells));
-          told = moved_on (λ (z : CellState). z.told) told_of all left x cells y (ap (λ (z : CellState). z.told) made) (subst (λ l. map (λ (z : CellState). z.told) cells ++ map told_of (reverse l) ≡ map told_of all) is moving.told);
-          faults = moved_on (λ (z : CellState). z.faults) faults_of all left x cells y (ap (λ (z : CellState). z.faults) made) (subst (λ l. map (λ (z : CellState). z.faults) cells ++ map faults_of (reverse l) ≡ map faults_of all) is moving.faults);
-          arming = moved_on (λ (z : CellState). z.arming) arming_of all left x cells y (ap (λ (z : CellState). z.arming) made) (subst (λ l. map (λ (z : CellState). z.arming) cells ++ map arming_of (reverse l) ≡ map arming_of all) is moving.arming);
+          shown = moved_on backend_of state_of all left x cells y made.1 (subst (λ l. map backend_of cells ++ map state_of (reverse l) ≡ map state_of all) is moving.shown);
           room = moving.room;
         })
 
-  -- each backend of the list, which was reversed, has its cell
-  pub record Moved (list : List X) : Type 0 where
-    pub fresh : AreFresh p cells
-    pub told : map (λ (x : CellState). x.told) cells ≡ map told_of list
-    pub faults : map (λ (x : CellState). x.faults) cells ≡ map faults_of list
-    pub arming : map (λ (x : CellState). x.arming) cells ≡ map arming_of list
-
-  pub moving_last : (list reversed : List X) → reversed ≡ reverse list → all ≡ reverse reversed → length left ≡ 0 → Moving told_of faults_of arming_of begun_of p all left cells capacity → Moved list
-  moving_last list reversed back again empty moving =
+  -- each backend has its cell
+  pub moving_last : {left : List X} → length left ≡ 0 → Moving state_of begun_of p all left cells capacity → AreFresh p cells × (map backend_of cells ≡ map state_of all)
+  moving_last {left} empty moving =
       let as_many : length cells + length left ≡ p.backends = moving.as_many in
-      let none : left ≡ [] = nil_from_length left empty in
-      let whole : all ≡ list = again ∙ (ap reverse back ∙ reverse-reverse list) in
-      record {
-        fresh = record { as_many = omega arith; each = moving.each };
-        told =
-            sym (append-nil (map (λ (x : CellState). x.told) cells)) ∙ (ap (λ l. map (λ (x : CellState). x.told) cells ++ map told_of (reverse l)) (sym none) ∙ (moving.told ∙ ap (map told_of) whole));
-        faults =
-            sym (append-nil (map (λ (x : CellState). x.faults) cells))
-            ∙ (ap (λ l. map (λ (x : CellState). x.faults) cells ++ map faults_of (reverse l)) (sym none) ∙ (moving.faults ∙ ap (map faults_of) whole));
-        arming =
-            sym (append-nil (map (λ (x : CellState). x.arming) cells))
-            ∙ (ap (λ l. map (λ (x : CellState). x.arming) cells ++ map arming_of (reverse l)) (sym none) ∙ (moving.arming ∙ ap (map arming_of) whole));
-      }
+      let none : left ≡ [] = nil_from_length left empty in (
+        record { as_many = omega arith; each = moving.each },
+        sym (append-nil (map backend_of cells)) ∙ (ap (λ l. map backend_of cells ++ map state_of (reverse l)) (sym none) ∙ moving.shown),
+      )

@@ -32,7 +32,7 @@ pub struct Solo<B: Backend> {
 
 impl<B: Backend> Model for Solo<B> {
     ghost use Rattle.cj_core.specs.Logins.{HasLogins};
-ghost use Rattle.cj_core.specs.Solos.{SoloState, StandsBetweenCalls};
+    ghost use Rattle.cj_core.specs.Solos.{SoloState, StandsBetweenCalls};
 
     ghost Value = { SoloState };
 
@@ -55,6 +55,7 @@ impl<B: Backend> World<B> {
         ensures full { IfErr result (λ (full, world). (moves.has_no_number self.core ≡ true) × (full.sessions ≡ length self.core.sessions) × (world ≡ self)) }
     {
         let mut world = self;
+        world.legal();
         if world.has_no_number() {
             let sessions = world.session_count();
             return Err((SessionsFull { sessions }, world));
@@ -95,7 +96,6 @@ impl<B: Backend> Solo<B> {
     }
 
     /// Makes a move of no session, as the world does.
-    #[tactic(auto, using(crate::proofs::SoloMoves::stands_moved))]
     pub fn step(&mut self, m: Move) -> Result<Moved, MoveError>
         requires met { IsMet self.old.world.core m }
         requires sessions { IsMoveOfNoSession m }

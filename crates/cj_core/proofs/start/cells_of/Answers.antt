@@ -1,64 +1,47 @@
-use Rattle.std.proofs.Common.{◌≡◌, ◌<◌, ◌≤◌, [], Some, length, map, reverse, vec_capacity, refl, sym, ap, ◌∙◌, subst, arith}
-use Rattle.std.proofs.lemmas.List.{length-reverse, reverse-reverse}
+use Rattle.std.proofs.Common.{◌≡◌, ◌<◌, ◌≤◌, [], Some, length, vec_capacity, sym, ◌∙◌, subst, arith}
 use Rattle.cj_model.specs.declared.limits.TheConstants.{BACKEND_LIMIT}
 use Rattle.cj_place.specs.Layouts.{Layout, placement_of}
-use Rattle.cj_core.specs.Starts.{HaveBegunNone}
-use Rattle.cj_core.proofs.Starting.{moving_first, moving_more, moving_room, moving_none, moving_last}
+use Rattle.cj_core.specs.Starts.{IsFresh, backend_of, state_by}
+use Rattle.cj_core.proofs.Starting.{made_fresh, moving_first, moving_more, moving_room, moving_none, moving_last}
 use Rattle.cj_core.proofs.start.cells_of.Goals as goal
 
 pub loop-backend-init : goal.loop-backend-init
 loop-backend-init g c =
     let made = c.in_ok-cells.ensures in
-    let left = c.reverse.new.self.items in
-    let count : length left ≡ length c.args.placement.now.names = ap length c.reverse.ensures.items ∙ (length-reverse c.args.backends.now.items ∙ c.requires.as_many) in
-    let whole : reverse left ≡ c.args.backends.now.items = ap reverse c.reverse.ensures.items ∙ reverse-reverse c.args.backends.now.items in
-    moving_first g.B.Backend.told g.B.Backend.faults g.B.Backend.arming g.B.Backend.begun (placement_of c.args.placement.now) (reverse left) left c.in_ok-cells.cells.items (vec_capacity c.in_ok-cells.cells) count refl made.items (subst (λ m. m ≤ vec_capacity c.in_ok-cells.cells) c.count.ensures.count made.capacity) (subst (λ xs. HaveBegunNone (map g.B.Backend.begun xs)) (sym whole) c.requires.none)
+    moving_first c.reverse.new.self.items c.reverse.ensures.items c.requires.as_many made.items (subst (λ m. m ≤ vec_capacity c.in_ok-cells.cells) c.count.ensures.count made.capacity) c.requires.none
 
 pub overflow_cast-b : goal.overflow_cast-b
 overflow_cast-b g c =
     let l = c.loop-backend in
-    let room = moving_room g.B.Backend.told g.B.Backend.faults g.B.Backend.arming g.B.Backend.begun (placement_of c.args.placement.now) (reverse c.reverse.new.self.items) c.pop.new.self.items l.cells.items (vec_capacity l.cells) l.backends.items c.in-Some.backend c.in-Some.ensures.items l.invariant in
+    let room = moving_room c.pop.new.self.items c.in-Some.backend c.in-Some.ensures.items l.invariant in
     let is : c.len-b.result ≡ length l.cells.items = c.len-b.ensures ∙ l.cells.ok.0 in
     let lt : length l.cells.items < length c.args.placement.now.names = room.0 in
     let few : length c.args.placement.now.names ≤ BACKEND_LIMIT = subst (λ m. m ≤ BACKEND_LIMIT) c.count.ensures.count c.count.ensures.most in
     omega arith
 
+pub new-requires : goal.new-requires
+new-requires g c = moving_none c.pop.new.self.items c.in-Some.backend c.in-Some.ensures.items c.loop-backend.invariant
+
 pub push_reserved-requires : goal.push_reserved-requires
 push_reserved-requires g c =
     let l = c.loop-backend in
-    let room = moving_room g.B.Backend.told g.B.Backend.faults g.B.Backend.arming g.B.Backend.begun (placement_of c.args.placement.now) (reverse c.reverse.new.self.items) c.pop.new.self.items l.cells.items (vec_capacity l.cells) l.backends.items c.in-Some.backend c.in-Some.ensures.items l.invariant in
-    subst (λ m. m < vec_capacity l.cells) (sym l.cells.ok.0) room.1
+    subst (λ m. m < vec_capacity l.cells) (sym l.cells.ok.0) (moving_room c.pop.new.self.items c.in-Some.backend c.in-Some.ensures.items l.invariant).1
 
 pub loop-backend-preserved : goal.loop-backend-preserved
 loop-backend-preserved g c =
     let l = c.loop-backend in
-    let pushed = c.push_reserved in
-    moving_more g.B.Backend.told g.B.Backend.faults g.B.Backend.arming g.B.Backend.begun (placement_of c.args.placement.now) (reverse c.reverse.new.self.items) c.pop.new.self.items l.cells.items (vec_capacity l.cells) l.backends.items c.in-Some.backend c.in-Some.ensures.items l.invariant
-    c.len-b.result (g.B.Backend.asks c.in-Some.backend) (g.B.Backend.login c.in-Some.backend) c.new.result pushed.new.self.items (vec_capacity pushed.new.self) (c.len-b.ensures ∙ l.cells.ok.0)
-    (subst (λ (q : Layout). c.new.result ≡ record { b = c.len-b.result; placement = placement_of q; position = Some 0; begun = []; login = g.B.Backend.login c.in-Some.backend; told = g.B.Backend.told c.in-Some.backend; faults = g.B.Backend.faults c.in-Some.backend; asks = g.B.Backend.asks c.in-Some.backend; arming = g.B.Backend.arming c.in-Some.backend }) c.in_ok-placement.ensures c.new.ensures)
-    pushed.ensures.items pushed.ensures.capacity
+    let x = c.in-Some.backend in
+    let y = c.new.result in
+    let seen = state_by g.B.Backend.told g.B.Backend.faults g.B.Backend.asks g.B.Backend.login g.B.Backend.arming x in
+    let p = placement_of c.args.placement.now in
+    let made : y ≡ record { b = c.len-b.result; placement = p; position = Some 0; begun = []; login = seen.login; told = seen.told; faults = seen.faults; asks = seen.asks; arming = seen.arming } =
+    subst (λ (q : Layout). y ≡ record { b = c.len-b.result; placement = placement_of q; position = Some 0; begun = []; login = seen.login; told = seen.told; faults = seen.faults; asks = seen.asks; arming = seen.arming }) c.in_ok-placement.ensures c.new.ensures
+    in
+    moving_more c.pop.new.self.items x c.in-Some.ensures.items l.invariant y c.push_reserved.new.self.items (vec_capacity c.push_reserved.new.self)
+    (subst (λ n. IsFresh p n y × (backend_of y ≡ seen)) (c.len-b.ensures ∙ l.cells.ok.0) (made_fresh c.len-b.result p seen y made)) c.push_reserved.ensures.items c.push_reserved.ensures.capacity
 
 pub returns-clause-fresh : goal.returns-clause-fresh
-returns-clause-fresh g c =
-    let l = c.loop-backend in
-    (moving_last g.B.Backend.told g.B.Backend.faults g.B.Backend.arming g.B.Backend.begun (placement_of c.args.placement.now) (reverse c.reverse.new.self.items) l.backends.items l.cells.items (vec_capacity l.cells) c.args.backends.now.items c.reverse.new.self.items c.reverse.ensures.items refl (sym l.backends.ok.0 ∙ c.in_default.ensures.cases.0) l.invariant).fresh
+returns-clause-fresh g c = (moving_last (sym c.loop-backend.backends.ok.0 ∙ c.in_default.ensures.cases.0) c.loop-backend.invariant).0
 
-pub returns-clause-told : goal.returns-clause-told
-returns-clause-told g c =
-    let l = c.loop-backend in
-    (moving_last g.B.Backend.told g.B.Backend.faults g.B.Backend.arming g.B.Backend.begun (placement_of c.args.placement.now) (reverse c.reverse.new.self.items) l.backends.items l.cells.items (vec_capacity l.cells) c.args.backends.now.items c.reverse.new.self.items c.reverse.ensures.items refl (sym l.backends.ok.0 ∙ c.in_default.ensures.cases.0) l.invariant).told
-
-pub returns-clause-faults : goal.returns-clause-faults
-returns-clause-faults g c =
-    let l = c.loop-backend in
-    (moving_last g.B.Backend.told g.B.Backend.faults g.B.Backend.arming g.B.Backend.begun (placement_of c.args.placement.now) (reverse c.reverse.new.self.items) l.backends.items l.cells.items (vec_capacity l.cells) c.args.backends.now.items c.reverse.new.self.items c.reverse.ensures.items refl (sym l.backends.ok.0 ∙ c.in_default.ensures.cases.0) l.invariant).faults
-
-pub returns-clause-arming : goal.returns-clause-arming
-returns-clause-arming g c =
-    let l = c.loop-backend in
-    (moving_last g.B.Backend.told g.B.Backend.faults g.B.Backend.arming g.B.Backend.begun (placement_of c.args.placement.now) (reverse c.reverse.new.self.items) l.backends.items l.cells.items (vec_capacity l.cells) c.args.backends.now.items c.reverse.new.self.items c.reverse.ensures.items refl (sym l.backends.ok.0 ∙ c.in_default.ensures.cases.0) l.invariant).arming
-
-pub new-requires : goal.new-requires
-new-requires g c =
-    let l = c.loop-backend in
-    moving_none g.B.Backend.told g.B.Backend.faults g.B.Backend.arming g.B.Backend.begun (placement_of c.args.placement.now) (reverse c.reverse.new.self.items) c.pop.new.self.items l.cells.items (vec_capacity l.cells) l.backends.items c.in-Some.backend c.in-Some.ensures.items l.invariant
+pub returns-clause-same : goal.returns-clause-same
+returns-clause-same g c = (moving_last (sym c.loop-backend.backends.ok.0 ∙ c.in_default.ensures.cases.0) c.loop-backend.invariant).1

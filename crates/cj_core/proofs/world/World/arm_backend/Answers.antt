@@ -1,10 +1,12 @@
 use Rattle.std.proofs.Common.{◌≡◌, ◌<◌, ℕ, false, cond, None, Some, List, length, map, get_or, set, refl, ap, sym, ◌∙◌, subst}
 use Rattle.std.proofs.lemmas.List.{length-map, get_or_default}
+use Rattle.std.proofs.Math.Seq.{map-set_same}
 use Rattle.cj_outside.specs.Causes.{next}
 use Rattle.cj_backend.specs.Backends.{arming_after}
 use Rattle.cj_replica.specs.Cells.{CellState}
 use Rattle.cj_core.specs.Worlds.{WorldState}
 use Rattle.cj_core.specs.Counting.{faults_of}
+use Rattle.cj_core.specs.Logins.{logins_of}
 use Rattle.cj_core.specs.Armings.{armed_at, armings_of, armings_after}
 use Rattle.cj_core.proofs.Asking.{kept_asked, same_core}
 use Rattle.cj_core.proofs.Counted.{armed_times, armings_set, counts_set}
@@ -62,3 +64,13 @@ returns-clause-armings g c =
     let counted = ap (λ (z : CellState). z.arming.times) c.arm.ensures ∙ (armed_times can x.arming ∙ ap (λ (z : CellState). cond can (next z.arming.times) z.arming.times) there) in
     subst (λ (z : WorldState). armings_of (set w.cells.items c.args.b y) ≡ armings_after (armings_of z.cells) (cond can (Some c.args.b) None)) c.self.view_is
     (armings_set w.cells.items c.args.b y can lt counted)
+
+pub returns-clause-logins : goal.returns-clause-logins
+returns-clause-logins g c =
+    let w = c.self.inside in
+    let lt = within (length w.book.layout.names) c.args.b w.cells.items c.self.invariant.world.sound.cells (subst (λ (x : WorldState). c.args.b < x.core.placement.backends) (sym c.self.view_is) c.requires) in
+    let x : CellState = c.index_mut.result.now in
+    let y : CellState = c.arm.new.self in
+    let there : x ≡ get_or w.cells.items c.args.b y = c.index_mut.ensures.value ∙ get_or_default w.cells.items c.args.b x y lt in
+    subst (λ (z : WorldState). logins_of (set w.cells.items c.args.b y) ≡ logins_of z.cells) c.self.view_is
+    (map-set_same (λ (z : CellState). z.login) w.cells.items c.args.b y y (ap (λ (z : CellState). z.login) c.arm.ensures ∙ ap (λ (z : CellState). z.login) there))
