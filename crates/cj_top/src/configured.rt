@@ -1,11 +1,11 @@
 //! What a command is configured with.
 
-ghost use Rattle.std.specs.Prelude.{◌≡◌, ◌++◌, ◌≤◌, ℕ, List, true, length, map, replicate, IfErr, IfOk, IsErrOf, Ok, Err};
+ghost use Rattle.std.specs.Prelude.{◌≡◌, ◌++◌, ℕ, List, [], replicate, IfOk, IsErrOf, Ok, Err};
 ghost use Rattle.cj_outside.specs.Causes.{CountsFault};
 ghost use Rattle.cj_flaky.specs.FlakyBackends.{fresh_over};
 ghost use Rattle.cj_mem.specs.MemoryBackends.{fresh_state};
 ghost use Rattle.cj_conf.specs.Confs.{IsUsable, conf_of};
-ghost use Rattle.cj_conf.specs.Refusals.{Gives, TellsMemoryPlainly};
+ghost use Rattle.cj_conf.specs.Refusals.{Gives};
 ghost use Rattle.cj_conf.specs.declared.error.ConfError.{ConfError};
 ghost use Rattle.cj_top.specs.Configured as configured;
 ghost use Rattle.cj_top.specs.Configured.{WritesRefusal, refusal_line, served_conf};

@@ -1,7 +1,8 @@
 //! One session over a world of its own.
 
-ghost use Rattle.std.specs.Prelude.{◌≡◌, ◌↔◌, ◌≢◌, length, map, IfOk, OnErr, IsErrOf, Some, None, Ok};
+ghost use Rattle.std.specs.Prelude.{◌≡◌, ◌↔◌, true, [], length, map, IfOk, OnErr, Ok};
 ghost use Rattle.cj_outside.specs.Causes.{CountsFault};
+ghost use Rattle.cj_cluster.specs.History.Histories.{is_idle, log};
 ghost use Rattle.cj_cluster.specs.declared.session.SessionEnd.TheVariants as ends;
 ghost use Rattle.cj_conf.specs.Confs.{IsUsable};
 ghost use Rattle.cj_core.specs.Starts.{AreEmpty, HaveBegunNone, backend_of, started, state_by};
