@@ -202,7 +202,8 @@ impl Balancer {
     pub fn began(&mut self, b: u8)
         requires below { b < BACKEND_LIMIT }
         requires room { slice_index self.old.standing.pending b < 2 ^ 32 - 1 }
-        ensures { self.new ≡ record self.old { standing = record self.old.standing { pending = one_more self.old.standing.pending b } } }
+        ensures one_more { self.new ≡ record self.old { standing = record self.old.standing { pending = one_more self.old.standing.pending b } } }
+        ensures pending { 0 < slice_index self.new.standing.pending b }
     {
         count_up(&mut self.pending, b);
     }

@@ -112,7 +112,8 @@ fn append(history: &mut Vec<Event>, event: Event) -> Result<(), BookError>
 /// A read begins at the backend.
 fn begin_read(balancer: &mut Balancer, b: u8)
     requires { b < BACKEND_LIMIT }
-    ensures { balancer.new ≡ record balancer.old { standing = record balancer.old.standing { pending = books.with_read balancer.old.standing.pending b } } }
+    ensures one_more { balancer.new ≡ record balancer.old { standing = record balancer.old.standing { pending = books.with_read balancer.old.standing.pending b } } }
+    ensures pending { 0 < slice_index balancer.new.standing.pending b }
 {
     if balancer.pending(b) < u32::MAX {
         balancer.began(b);
@@ -495,6 +496,7 @@ impl Book {
         ensures none { IsNone result ↔ (candidates ≡ 0) }
         ensures same { IsNone result → self.new ≡ self.old }
         ensures some { IfSome result (λ b. PicksOf self.old self.new candidates b) }
+        ensures pending { IfSome result (λ b. 0 < slice_index self.new.balance.standing.pending b) }
     {
         let b = self.balancer.pick(candidates)?;
         begin_read(&mut self.balancer, b);
