@@ -63,7 +63,7 @@ impl Key {
             Key::Weight => "an integer from 1 to 1000",
             Key::Hosts => "a list of names of backends",
             Key::Sha256 => "the SHA-256 of the password, as 64 hexadecimal digits",
-            Key::Logins => "a list of texts, one for each backend",
+            Key::Logins => "a list of texts without byte 0, one for each backend",
         }
     }
 }
