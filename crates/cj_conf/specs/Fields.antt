@@ -61,12 +61,12 @@ number_at k least most absent ms = optional absent (λ d. number_within k least 
 
 -- ---- texts
 
--- a text that is taken, or else is out of its range
+-- what a text is read as; one that isn't read is out of its range
 abbrev pub in_range : {A : Type 0} → Key → Option A → Result A ConfError
 in_range k None = Err (Range k)
 in_range k (Some a) = Ok a
 
--- a text, of which no other is taken than those that the test gives a value
+-- the value has to be a text, and is what the text is read as
 abbrev pub text_as : {A : Type 0} → Key → (List ℕ → Option A) → Option (List ℕ) → Result A ConfError
 text_as k read None = Err (WrongType k)
 text_as k read (Some s) = in_range k (read s)
@@ -79,13 +79,15 @@ name_in k d = text_as k names.name_of (as_str d)
 abbrev pub text_in : Key → Data → Result (List ℕ) ConfError
 text_in k d = text_as k names.text_of (as_str d)
 
--- a user's name of 1 to 64 bytes
+-- 1 to 64 bytes, as a user's name has
 abbrev pub is_user : List ℕ → Bool
 is_user s = nat_le 1 (length s) && nat_le (length s) USER_LIMIT
 
+-- a text without byte 0 that is a user's name
 abbrev pub user_of : List ℕ → Option (List ℕ)
 user_of s = if is_user s then names.text_of s else None
 
+-- the levels, policies and kinds by their words
 abbrev pub level_named : List ℕ → Option Level
 level_named s =
     if bytes_eq s (codes "raidb0") then Some Raidb0

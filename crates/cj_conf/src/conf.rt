@@ -5,6 +5,8 @@ ghost use Rattle.toml.specs.View.{table_view};
 ghost use Rattle.cj_balance.specs.Kept.{AreWeights};
 ghost use Rattle.cj_model.specs.Cluster.Accounts.{HasShortUsers};
 ghost use Rattle.cj_model.specs.declared.limits.TheConstants.{BACKEND_LIMIT};
+ghost use Rattle.cj_place.specs.Layouts.{layout_of};
+ghost use Rattle.cj_place.specs.Refusals.{refusal_of_placement};
 ghost use Rattle.cj_conf.specs.Confs.{IsUsable, accounts_from, conf_from, conf_of, document_of};
 ghost use Rattle.cj_conf.specs.Confs as confs;
 ghost use Rattle.cj_conf.specs.Fields.{unless};
@@ -12,8 +14,6 @@ ghost use Rattle.cj_conf.specs.Refusals.{Gives, TellsMemoryPlainly};
 ghost use Rattle.cj_conf.specs.Weights.{IsWeighted};
 ghost use Rattle.cj_conf.specs.declared.error.ConfError.TheVariants as error;
 ghost use Rattle.cj_conf.specs.declared.settings.TheConstants.{CACHE_MOST};
-ghost use Rattle.cj_place.specs.Layouts.{layout_of};
-ghost use Rattle.cj_place.specs.Refusals.{refusal_of_placement};
 
 use crate::backend::{Backend, BackendKind};
 use crate::error::ConfError;

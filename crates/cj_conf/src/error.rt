@@ -89,7 +89,7 @@ impl fmt::Display for Subject<'_> {
 #[derive(Debug, Drop, Error)]
 pub enum ConfError {
     /// The bytes are no TOML document.
-    #[error("this is no TOML document: give lines of the form `key = value`, each key once")]
+    #[error("this is no TOML document in UTF-8: give lines of the form `key = value`, each key once")]
     NotToml,
     #[error("`{}` is missing: give {}", .0.name(), .0.expected())]
     Missing(Key),

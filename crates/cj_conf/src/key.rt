@@ -53,9 +53,10 @@ impl Key {
             Key::Cache => "an integer from 0 to 65536",
             Key::Seed => "an integer from 0 to 9223372036854775807",
             Key::Connections => "an integer from 0 to 9223372036854775807",
-            Key::Backends => "a list of tables, each with name, kind and maybe weight",
-            Key::Tables => "a list of tables, each with name and hosts",
-            Key::Users => "a list of tables, each with name, sha256 and logins",
+            Key::Backends => "a list of rows as { name = \"b0\", kind = \"memory\" }",
+            Key::Tables => "a list of rows as { name = \"t\", hosts = [\"b0\"] }",
+            Key::Users =>
+                "a list of rows as { name = \"ann\", sha256 = \"..\", logins = [\"l0\"] }",
             Key::Name => {
                 "1 to 32 of a-z, 0-9 and _, no digit first (backend or table); a text of 1 to 64 bytes (user)"
             }
@@ -63,7 +64,7 @@ impl Key {
             Key::Weight => "an integer from 1 to 1000",
             Key::Hosts => "a list of names of backends",
             Key::Sha256 => "the SHA-256 of the password, as 64 hexadecimal digits",
-            Key::Logins => "a list of texts, one for each backend",
+            Key::Logins => "a list of texts without byte 0, one for each backend",
         }
     }
 }
