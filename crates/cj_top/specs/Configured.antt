@@ -47,13 +47,13 @@ pub record BeginsAsConfigured (c : Conf) (w : WorldState) : Type 0 where
 -- ---- refusals
 
 -- the key as the last word, where there is one
-abbrev pub key_words : List ℕ → List (List ℕ)
-key_words [] = []
-key_words (first ∷ rest) = (first ∷ rest) ∷ []
+abbrev pub last_word : List ℕ → List ℕ
+last_word [] = []
+last_word (first ∷ rest) = 32 ∷ first ∷ rest
 
--- the line that tells a refusal by its number and key
+-- the line that tells a refusal by its number and key: "configuration refused: N KEY"
 abbrev pub refusal_line : ConfError → List ℕ
-refusal_line e = with_line_feed (words (codes "configuration" ∷ codes "refused:" ∷ decimal (error_number e) ∷ key_words (key_text e)))
+refusal_line e = with_line_feed (words (codes "configuration" ∷ codes "refused:" ∷ decimal (error_number e) ∷ []) ++ last_word (key_text e))
 
 -- That line was written, and behind it an explanation; or the errors failed in it, which they counted, or memory was wanting. `before` and `now` are the errors' counts of faults.
 pub record WritesRefusal (errors errors' : Option (List ℕ)) (before now : ℕ) (e : ConfError) : Type 0 where

@@ -1,6 +1,9 @@
 //! What a command is configured with.
 
-ghost use Rattle.std.specs.Prelude.{◌≡◌, ◌++◌, ℕ, List, [], replicate, IfOk, IsErrOf, Ok, Err};
+ghost use Rattle.std.specs.Prelude.{◌≡◌, ◌++◌, ◌∷◌, ℕ, List, [], codes, string_bytes, replicate, IfOk, IsErrOf, Ok, Err};
+ghost use Rattle.std.specs.Fmt.{decimal};
+ghost use Rattle.std.specs.List.{list_any};
+ghost use Rattle.cj_cluster.specs.Script.Lines.{words};
 ghost use Rattle.cj_outside.specs.Causes.{CountsFault};
 ghost use Rattle.cj_flaky.specs.FlakyBackends.{fresh_over};
 ghost use Rattle.cj_mem.specs.MemoryBackends.{fresh_state};
@@ -31,10 +34,10 @@ pub enum Unconfigured {
     NoMemory,
 }
 
-fn is_sqlite(kind: &BackendKind) -> bool
-    ensures { result ≡ configured.is_sqlite kind.now }
+fn has_sqlite(kinds: &[BackendKind]) -> bool
+    ensures { result ≡ list_any configured.is_sqlite kinds.now }
 {
-    matches!(kind, BackendKind::Sqlite)
+    kinds.iter().any(|kind| matches!(kind, BackendKind::Sqlite))
 }
 
 /// The configuration that the bytes give. One with a backend of the kind `sqlite` is refused, which isn't served yet.
@@ -43,7 +46,7 @@ fn conf_in(alloc: Global, bytes: &[u8]) -> Result<Conf, ConfError>
     ensures usable { IfOk result IsUsable }
 {
     let conf = read_conf(alloc, bytes)?;
-    if conf.kinds.as_slice().iter().any(is_sqlite) {
+    if has_sqlite(conf.kinds.as_slice()) {
         return Err(ConfError::Range(Key::Kind));
     }
     Ok(conf)
@@ -116,13 +119,18 @@ pub fn flaky_backends(alloc: Global, count: u8) -> Result<Backends<Flaky<MemBack
 
 // ---- how it is refused
 
+/// The words that tell the refusal by its number.
+fn first_words(alloc: Global, number: u8) -> Result<String, NoMemory>
+    ensures { IfOk result (λ text. string_bytes text ≡ words (codes "configuration" ∷ codes "refused:" ∷ decimal number ∷ [])) }
+{
+    Ok(format!(in alloc; "configuration refused: {number}")?)
+}
+
 /// The line that tells the refusal by its number and key.
 fn first_line(alloc: Global, error: &ConfError) -> Result<Vec<u8>, NoMemory>
     ensures { IfOk result (λ line. line.items ≡ refusal_line error.now) }
 {
-    let mut line = Vec::new(alloc);
-    line.extend_from_slice(b"configuration refused: ")?;
-    line.push(b'0' + error.number())?;
+    let mut line = first_words(alloc, error.number())?.into_bytes();
     let key = error.key();
     if !key.is_empty() {
         line.push(b' ')?;

@@ -22,7 +22,7 @@ use cj_session::serve_session;
 use std::alloc::Global;
 
 /// Serves one session at the world, and closes it. It takes no memory of its own.
-fn serve_one<B: Backend, I: Source, O: Sink, C: Clock>(
+fn serve_one<B: Backend + Drop, I: Source, O: Sink, C: Clock>(
     alloc: Global,
     world: World<B>,
     seed: u64,
