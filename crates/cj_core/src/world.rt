@@ -729,7 +729,9 @@ impl<B: Backend> World<B> {
         let least = self.least(s);
         let number = self.read_number(s);
         self.book.take_spare()?;
-        let login = self.accounts.mapped(asking_user(&self.sessions, s, user), b);
+        let login = self
+            .accounts
+            .mapped(asking_user(&self.sessions, s, user), b);
         match self.cells[b as usize].read(login, tx, select, least) {
             Ok(answered) => Ok(answered),
             Err(error) => Err(noted(&mut self.book, s, number, b, error)),
