@@ -1,6 +1,6 @@
 //! A session's read over a whole world.
 
-ghost use Rattle.std.specs.Prelude.{◌≡◌, ◌⊎◌, ◌<◌, ℕ, List};
+ghost use Rattle.std.specs.Prelude.{◌≡◌, ◌⊎◌, ◌<◌};
 ghost use Rattle.cj_model.specs.declared.limits.TheConstants.{REQUEST_LIMIT};
 ghost use Rattle.cj_model.specs.declared.request.Request.TheVariants as requests;
 ghost use Rattle.cj_model.specs.Wire.Replies.{asked_reply};

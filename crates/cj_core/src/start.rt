@@ -1,7 +1,6 @@
 //! How a world begins, and how it is given up.
 
 ghost use Rattle.std.specs.Prelude.{◌≡◌, ◌+◌, ◌<◌, ◌≤◌, [], length, map, vec_capacity, IfOk, OnOk};
-ghost use Rattle.cj_replica.specs.Cells.{CellState};
 ghost use Rattle.cj_core.specs.Starts.{backend_of, state_by, KeepEachBegun, AreEmpty, AreFresh, AreHolding, AreCurrent, HaveBegunNone, started, started_to};
 ghost use Rattle.cj_place.specs.Layouts.{placement_of};
 
