@@ -1,16 +1,16 @@
 -- How backends leave their cells, and what they hold then.
-use Rattle.std.proofs.Common.{◌≡◌, ℕ, ◌+◌, ◌<◌, ◌≤◌, Bool, true, List, [], ◌∷◌, ◌++◌, length, map, reverse, get_or, slice_get, Option, None, Some, refl, ap, sym, ◌∙◌, subst, arith, length-append, append_assoc, append-nil, eqb-true, false}
+use Rattle.std.proofs.Common.{◌≡◌, ℕ, ◌+◌, ◌<◌, ◌≤◌, Bool, List, [], ◌∷◌, ◌++◌, length, map, reverse, get_or, slice_get, Option, None, Some, refl, ap, sym, ◌∙◌, subst, arith, length-append, append_assoc, append-nil, false}
 use Rattle.std.proofs.lemmas.List.{map_push, reverse-append, reverse-reverse, length-reverse, length-map, get_or-map, nil_from_length, take_all}
 use Rattle.std.proofs.lemmas.Option.{slice_get-get_or}
 use Rattle.cj_model.specs.declared.database.Slot.{Slot}
 use Rattle.cj_model.specs.Cluster.Placements.{everywhere, part}
-use Rattle.cj_cluster.specs.History.Histories.{log, ended_count, is_idle, is_enabled, database_of, database_after}
-use Rattle.cj_cluster.specs.Moves.Cores.{position_at}
-use Rattle.cj_cluster.specs.Proving.Invariants.{BackendStands, HoldsPart}
-use Rattle.cj_cluster.proofs.Effects.{is_there, no_masks}
+use Rattle.cj_cluster.specs.History.Histories.{log, database_of, database_after}
+use Rattle.cj_cluster.specs.Proving.Invariants.{HoldsPart}
+use Rattle.cj_cluster.proofs.Effects.{is_there}
 use Rattle.cj_replica.specs.Cells.{CellState, KeepsBegun}
 use Rattle.cj_core.specs.Worlds.{WorldState, IsWorld, IsCell}
 use Rattle.cj_core.specs.Starts.{BackendState, KeepEachBegun, AreHolding, AreCurrent, backend_of}
+use Rattle.cj_core.proofs.CellsKept.{at_log_end}
 
 -- ---- out of the cells
 
@@ -88,20 +88,8 @@ module _ (tells : Bool) (w : WorldState) (world : IsWorld tells w) (told : List 
       ∙ (slice_get-get_or (map (λ (z : CellState). z.told) w.cells) b None within
       ∙ ap (λ t. Some t) (get_or-map (λ (z : CellState). z.told) w.cells b some_cell None lt ∙ held))
 
-  -- an enabled backend has taken the whole log, where no entry is open
-  at_end : is_idle w.core.history ≡ true → (b : ℕ) → is_enabled w.core.history b ≡ true → (p : Option ℕ) → p ≡ position_at w.core b → BackendStands w.core.history w.core.failed w.core.starved b p
-      → position_at w.core b ≡ Some (length (log w.core.history))
-  at_end fr b on None is stands = absurd (no_masks w.core world.sound fr b (stands on))
-  at_end fr b on (Some p) is stands =
-      let ended : ended_count w.core.history ≡ length (log w.core.history) = eqb-true _ _ fr in
-      let past : ended_count w.core.history ≤ p = stands.1 on in
-      let within : p ≤ length (log w.core.history) = stands.0 in
-      let end : p ≡ length (log w.core.history) = omega arith in
-      sym is ∙ ap (λ m. Some m) end
-
   pub are_current : AreCurrent tells w.core told
   are_current tells_on fr b on =
-      let lt : b < length w.core.positions = world.sound.hosts b on in
-      let end = at_end fr b on (position_at w.core b) refl (world.sound.stands b lt) in
+      let end = at_log_end w.core world.sound fr b on in
       let le : length (log w.core.history) ≤ length (log w.core.history) = omega arith in
       are_holding tells_on b (length (log w.core.history)) end ∙ ap (λ l. Some (Some (part w.core.placement b (database_of l)))) (take_all (length (log w.core.history)) (log w.core.history) le)

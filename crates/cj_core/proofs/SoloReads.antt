@@ -1,6 +1,6 @@
 -- A session's read over a whole world, as backend after backend fails in it.
 use Rattle.std.proofs.Common.{Option, Ok, Err, ◌≡◌, ◌≢◌, ◌⊎◌, inl, inr, ℕ, ◌+◌, ◌<◌, ◌≤◌, ◌==◌, ◌&&◌, not, Bool, true, false, List, [], ◌∷◌, ◌++◌, length, map, None, Some, refl, ap, sym, ◌∙◌, subst, arith, ⊎_elim, append_assoc}
-use Rattle.std.proofs.lemmas.Bool.{eqb-true, and_parts, both_ways, cases_eq, ne_eqb}
+use Rattle.std.proofs.lemmas.Bool.{and_parts, both_ways, cases_eq, ne_eqb}
 use Rattle.std.proofs.lemmas.List.{append-nil, map-append}
 use Rattle.std.proofs.lemmas.Grind.{fold-append}
 use Rattle.cj_model.specs.declared.request.Entry.{Entry}
@@ -13,7 +13,7 @@ use Rattle.cj_model.specs.declared.answer.Reply.{Reply}
 use Rattle.cj_model.specs.declared.answer.Reply.TheVariants.{Refused}
 use Rattle.cj_model.specs.declared.codes.TheConstants.{NO_BACKEND, NO_MEMORY, NO_TABLE, READ_FAULT, HISTORY_FULL, WRONG_TYPE}
 use Rattle.cj_model.specs.Database.Inserts.{refusal_of_code}
-use Rattle.cj_model.specs.Database.Outcomes.{IsAsked, IsQueryCode}
+use Rattle.cj_model.specs.Database.Outcomes.{IsQueryCode}
 use Rattle.cj_model.specs.Database.Queries.{ask}
 use Rattle.cj_model.specs.Cluster.Placements.{hosts_all, needs}
 use Rattle.cj_model.specs.Wire.Replies.{asked_reply}
@@ -23,23 +23,23 @@ use Rattle.cj_cluster.specs.declared.event.Event.{Event}
 use Rattle.cj_cluster.specs.declared.event.Event.TheVariants.{ReadFailed}
 use Rattle.cj_cluster.specs.declared.moves.OpenSession.{OpenSession}
 use Rattle.cj_cluster.specs.History.Answering.{CanServe}
-use Rattle.cj_cluster.specs.History.Histories.{log, ended_count, is_idle, is_enabled, events_left, database_after, database_of, log_faults_of, tx_of}
+use Rattle.cj_cluster.specs.History.Histories.{log, is_idle, is_enabled, events_left, database_after, database_of, log_faults_of, tx_of}
 use Rattle.cj_cluster.specs.History.Turns.{SessionView, Call, Turn}
 use Rattle.cj_cluster.specs.Moves.Cores.{Core, position_at, session_at, with_session}
 use Rattle.cj_cluster.specs.Moves.Moves.{IsServingMask, with_one_request, with_request_counted, answered_at, is_open, last_number, open_tx, was_answered, with_read}
 use Rattle.cj_cluster.specs.Moves.Runs.{seen_at, HasFailedSince}
-use Rattle.cj_cluster.specs.Proving.Invariants.{BackendStands, CoreInvariant}
+use Rattle.cj_cluster.specs.Proving.Invariants.{CoreInvariant}
 use Rattle.cj_cluster.proofs.Between.{follows_own, session_owes}
 use Rattle.cj_cluster.proofs.Pushed.{prefix_length, prefix_self, take_whole, log_faults-same}
 use Rattle.cj_cluster.proofs.Sessions.{is_open-with}
 use Rattle.cj_cluster.proofs.TurnCases.{Rests, entries-same, turn_unserved, turn_read, turn_full, turn_starved, turn_in_vain}
-use Rattle.cj_cluster.proofs.Effects.{no_masks}
 use Rattle.cj_core.specs.declared.cells.AskError.TheVariants as errors
 use Rattle.cj_core.specs.Effects.{Asks, with_core}
 use Rattle.cj_core.specs.Counting.{faults_of, faults_after}
 use Rattle.cj_core.specs.Solos.{AreCalledFor, AttemptsQuery, QueryAnswered, QueryUnnoted, QueryStarved, QueryFailed, WorldTurn, AddsOwnEvents, IsReadAtEnd, StandsBetweenCalls, call_of, faults_counted}
 use Rattle.cj_core.specs.Logins.{logins_of}
 use Rattle.cj_core.specs.Worlds.{WorldState, Setup, accounts_of}
+use Rattle.cj_core.proofs.CellsKept.{at_log_end}
 use Rattle.cj_core.proofs.SoloLogins.{called_none, called_then}
 use Rattle.cj_core.proofs.SoloTurns.{failed_before, failed_now, failures_keep, idle_failures, log_failures, enabled_failures}
 
@@ -189,8 +189,7 @@ module _ (tells : Bool) (s tx : ℕ) (user : List ℕ) (select : Select) (old no
   unserved reply none is =
       let serves_none : (b : ℕ) → CanServe old.core.placement old.core.history (request.Select select) b → ⊥ =
       λ b can. both_ways (in_mask serving b) (ap (λ (m : ℕ). in_mask m b) none ∙ has-zero b) ((serves b).0 can)
-      in
-      (
+      in (
         turn_unserved tells old.core.placement s (seen_at old.core s) now.core.history so_far.sound.legal (map (ReadFailed s ((session_at old.core s).queries + 1)) so_far.failed, sym grown) (session_owes old.core s w) rested (call reply) in_own is
             (refl, λ b on. never_true (hosts_all old.core.placement b (needs (request.Select select))) (λ hosts. serves_none b (still_serves b (on, hosts)))),
         no_answer (call reply) (record { front = now.core.history; least = (session_at old.core s).least }) (refusal_of_code NO_BACKEND) is (no_code NO_BACKEND (inl (omega arith))),
@@ -319,20 +318,6 @@ module _ (tells : Bool) (s tx : ℕ) (user : List ℕ) (select : Select) (old no
       (ap (λ (w : WorldState). faults_of w.cells) after) reads
 
 -- ---- one attempt
-
--- while no entry is open, an enabled backend stands at the log's end
-module _ (c : Core) (w : CoreInvariant c) (idle : is_idle c.history ≡ true) (b : ℕ) (on : is_enabled c.history b ≡ true) where
-  stands_at : (p : Option ℕ) → p ≡ position_at c b → BackendStands c.history c.failed c.starved b p → position_at c b ≡ Some (last_number c)
-  stands_at None is stands = absurd (no_masks c w idle b (stands on))
-  stands_at (Some p) is stands =
-      let ended : ended_count c.history ≡ length (log c.history) = eqb-true _ _ idle in
-      let past : ended_count c.history ≤ p = stands.1 on in
-      let within : p ≤ length (log c.history) = stands.0 in
-      let end : p ≡ length (log c.history) = omega arith in
-      sym is ∙ ap (λ (m : ℕ). Some m) end
-
-  pub at_log_end : position_at c b ≡ Some (last_number c)
-  at_log_end = stands_at (position_at c b) refl (w.stands b (w.hosts b on))
 
 module _ (tells : Bool) (s b tx : ℕ) (select : Select) (old : WorldState) (w : CoreInvariant old.core) (stands : StandsBetweenCalls old.core s) (serves : CanServe old.core.placement old.core.history (request.Select select) b) where
   there : position_at old.core b ≡ Some (last_number old.core)

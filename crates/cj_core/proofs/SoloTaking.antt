@@ -1,28 +1,23 @@
 -- The open entry is taken by one backend after another.
-use Rattle.std.proofs.Common.{◌≡◌, ◌≢◌, ℕ, ◌+◌, ◌<◌, ◌≤◌, ◌==◌, Bool, true, false, cond, List, [], ◌∷◌, ◌++◌, length, Option, None, Some, is_some, Ok, refl, ap, sym, ◌∙◌, subst, arith, ⊎_elim}
-use Rattle.std.proofs.lemmas.Bool.{cases_lt, eqb-true}
+use Rattle.std.proofs.Common.{◌≡◌, ◌≢◌, ℕ, ◌+◌, ◌<◌, ◌≤◌, Bool, true, cond, List, [], ◌∷◌, ◌++◌, length, Option, None, Some, Ok, refl, ap, sym, ◌∙◌, subst, arith, ⊎_elim}
+use Rattle.std.proofs.lemmas.Bool.{cases_lt}
 use Rattle.std.proofs.lemmas.Grind.{fold-append}
-use Rattle.std.proofs.lemmas.List.{get_or-set_same, get_or-set_other}
-use Rattle.std.proofs.lemmas.Option.{slice_get_within}
-use Rattle.cj_model.specs.declared.request.Entry.{Entry}
 use Rattle.cj_model.specs.Cluster.Accounts.{login_of}
 use Rattle.cj_model.specs.Cluster.Masks.{with_backend}
 use Rattle.cj_cluster.specs.declared.moves.Did.{Did}
 use Rattle.cj_cluster.specs.declared.moves.Did.TheVariants as did
 use Rattle.cj_cluster.specs.declared.moves.Move.TheVariants.{Apply}
 use Rattle.cj_cluster.specs.declared.moves.Moved.TheVariants.{Applied}
-use Rattle.cj_cluster.specs.declared.moves.Reason.{Reason}
-use Rattle.cj_cluster.specs.declared.moves.Reason.TheVariants.{AtEnd}
-use Rattle.cj_cluster.specs.History.Histories.{log, ended_count, is_idle, is_enabled}
+use Rattle.cj_cluster.specs.History.Histories.{log, ended_count, is_enabled}
 use Rattle.cj_cluster.specs.Moves.Cores.{Core, position_at}
-use Rattle.cj_cluster.specs.Moves.Moves.{Applies, DoesWithEntry, Stance, failed_after, first_lagging, last_number, not_now, position_or_zero, reason_if}
+use Rattle.cj_cluster.specs.Moves.Moves.{Applies, failed_after, first_lagging, not_now, position_or_zero}
 use Rattle.cj_cluster.specs.Proving.Invariants.{BackendStands, CoreInvariant}
 use Rattle.cj_cluster.proofs.Now.{CanApply, all_at_end, can_apply}
 use Rattle.cj_core.specs.Counting.{did_fail, faults_of, faults_after}
 use Rattle.cj_core.specs.Logins.{LogsInToTake, login_to_take, logins_of, next_user}
 use Rattle.cj_core.specs.Solos.{AreCalledFor, EntryTaken, HasTakenEntry, faults_counted, mask_with, open_user}
 use Rattle.cj_core.specs.Worlds.{Setup, WorldState, accounts_of}
-use Rattle.cj_core.proofs.SoloLogins.{called_none, called_then, called_to_take}
+use Rattle.cj_core.proofs.SoloLogins.{called_then, called_to_take}
 
 -- ---- one backend
 
@@ -71,53 +66,9 @@ module _ (tells : Bool) (old new : WorldState) (b : ℕ) (d : Did) (applies : Ap
         logins = called_to_take (accounts_of old) (open_user old.core) b d (logins_of old.cells) (logins_of new.cells) (subst (λ (name : List ℕ). LogsInToTake b name d (logins_of old.cells) (logins_of new.cells)) login logs);
       }
 
-  -- the other backends stand as they did
-  pub took_alone : (k : ℕ) → k ≢ b → position_at new.core k ≡ position_at old.core k
-  took_alone k ne = ap (λ (c : Core). position_at c k) applies.1.2 ∙ get_or-set_other old.core.positions b k applies.1.0.position None ne
-
--- how far it stands then
-stands_after : (tells : Bool) (c : Core) (b p : ℕ) (e : Entry) (d : Did) (now : Stance) (q : ℕ) → DoesWithEntry tells c b p e d now → now.position ≡ Some q → q ≡ p + 1
-stands_after tells c b p e (did.Done o) now q does is = let at = ap (λ (x : Stance). x.position) does.3 in cc (at, is)
-stands_after tells c b p e did.Skipped now q does is = let at = ap (λ (x : Stance). x.position) does.1 in cc (at, is)
-stands_after tells c b p e did.Failed now q does is = let at = ap (λ (x : Stance). x.position) does.1 in absurd (cc (at, is))
-stands_after tells c b p e did.Starved now q does is = let at = ap (λ (x : Stance). x.position) does.1 in absurd (cc (at, is))
-
--- which is the log's end, where it is enabled
-pub took_to_end : (tells : Bool) (old new : WorldState) (b : ℕ) (d : Did) → CoreInvariant old.core → b < old.core.placement.backends → Applies tells old.core b (Ok (Applied b d)) new.core → HasTakenEntry new.core b
-took_to_end tells old new b d w within applies q on at =
-    let c : Core = old.core in
-    let now : Stance = applies.1.0 in
-    let takes = applies.1.1 in
-    let cells : length c.positions ≡ c.placement.backends = w.cells in
-    let lt : b < length c.positions = omega arith in
-    let set_to : position_at new.core b ≡ now.position = ap (λ (k : Core). position_at k b) applies.1.2 ∙ get_or-set_same c.positions b now.position None lt in
-    let next : q ≡ takes.p + 1 = stands_after tells c b takes.p takes.entry d now q takes.does (sym set_to ∙ at) in
-    let more : takes.p < length (log c.history) = slice_get_within (log c.history) takes.p takes.entry takes.there in
-    let history = ap (λ (k : Core). k.history) applies.1.2 in
-    let enabled : is_enabled c.history b ≡ true = sym (ap (λ h. is_enabled h b) history) ∙ on in
-    let stands : BackendStands c.history c.failed c.starved b (Some takes.p) = subst (BackendStands c.history c.failed c.starved b) takes.stands (w.stands b lt) in
-    let past : ended_count c.history ≤ takes.p = stands.1 enabled in
-    let one : length (log c.history) ≤ ended_count c.history + 1 = w.one_open.1 in
-    let end : q ≡ length (log c.history) = omega arith in
-    end ∙ sym (ap (λ h. length (log h)) history)
-
--- a reason that there is
-some_reason : (t : Bool) (r : Reason) (v : ℕ) → is_some (reason_if t r v None) ≡ true → t ≡ true
-some_reason true r v some = refl
-some_reason false r v some = absurd (cc some)
-
--- one that can't take the entry now is not enabled, or out, or has taken it
-pub not_due : (c : Core) (b : ℕ) → is_idle c.history ≡ false → is_some (not_now c (Apply b)) ≡ true → HasTakenEntry c b
-not_due c b running some q on at =
-    let last : is_some (reason_if (q == last_number c) AtEnd q None) ≡ true = rw (running, on, at) at some in
-    eqb-true q (last_number c) (some_reason (q == last_number c) AtEnd q last)
-
 -- ---- all of them
 
--- nothing was taken yet
-pub taken_none : (w : WorldState) (user : List ℕ) → EntryTaken user w w
-taken_none w user = record { core = refl; setup = refl; failed = []; mask = refl; faults = refl; logins = called_none (accounts_of w) user (logins_of w.cells) (logins_of w.cells) refl }
-
+-- backends took the entry, and then others did
 pub taken_then : (old mid new : WorldState) (user : List ℕ) → EntryTaken user old mid → EntryTaken user mid new → EntryTaken user old new
 taken_then old mid new user x y =
     record {
@@ -137,9 +88,6 @@ taken_then old mid new user x y =
 pub record TakenTo (old now : WorldState) (i : ℕ) : Type 0 where
   pub taken : EntryTaken (open_user old.core) old now
   pub at_end : (b : ℕ) → b < i → HasTakenEntry now.core b
-
-pub taken_to_none : (w : WorldState) → TakenTo w w 0
-taken_to_none w = record { taken = taken_none w (open_user w.core); at_end = λ b lt. absurd (omega arith) }
 
 -- and so has backend i
 pub taken_to_next : (old now new : WorldState) (i : ℕ) → TakenTo old now i → EntryTaken (open_user now.core) now new → HasTakenEntry new.core i

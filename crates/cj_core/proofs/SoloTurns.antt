@@ -7,7 +7,6 @@ use Rattle.cj_model.specs.declared.request.Act.{Act}
 use Rattle.cj_model.specs.declared.request.Entry.{Entry}
 use Rattle.cj_model.specs.declared.answer.Reply.{Reply}
 use Rattle.cj_model.specs.Sql.PlainRequests.{request_of}
-use Rattle.cj_auth.specs.Admission.{admits}
 use Rattle.cj_cluster.specs.declared.event.Event.{Event}
 use Rattle.cj_cluster.specs.declared.event.Event.TheVariants.{Sched, Ended, ReadFailed}
 use Rattle.cj_cluster.specs.declared.moves.Move.TheVariants.{End}
@@ -28,10 +27,10 @@ use Rattle.cj_cluster.proofs.Between.{follows_own, follows_rest, between_follows
 use Rattle.cj_cluster.proofs.OwnTransactions.{tx_of_own}
 use Rattle.cj_cluster.proofs.Pushed.{prefix_self, enabled-push, log-sched, log-same, opened-free, free-same, get_left, get_seam}
 use Rattle.cj_cluster.proofs.TurnCases.{entries-same, entries-sched}
-use Rattle.cj_desk.specs.DeskStates.{turn_taken, query_skipped, cache_counted, tx_after_write, IsEntryNumber}
+use Rattle.cj_desk.specs.DeskStates.{query_skipped, tx_after_write, IsEntryNumber}
 use Rattle.cj_core.specs.Effects.{with_core}
-use Rattle.cj_core.specs.Worlds.{WorldState, Setup}
-use Rattle.cj_core.specs.Solos.{SoloState, SoloSteps, StandsBetweenCalls, WorldTurn, AddsEntry, EntryTaken, desk_of, mask_with}
+use Rattle.cj_core.specs.Worlds.{WorldState}
+use Rattle.cj_core.specs.Solos.{SoloState, SoloSteps, StandsBetweenCalls, AddsEntry, EntryTaken, desk_of, mask_with}
 
 -- ---- each call steps as every desk does, and what it does besides
 
@@ -43,29 +42,11 @@ stands_idle c s stands = ap (is_entry_of s) (opened-free c.history stands.idle)
 pub counted_session : (c : Core) (s : ℕ) → is_open c s ≡ true → session_at (with_request_counted c s) s ≡ with_one_request (session_at c s)
 counted_session c s here = (follows_own c (with_request_counted c s) s refl refl (prefix_self c.history) refl with_one_request (λ x. refl) refl here).session
 
--- a turn
-pub solo_turned : (tells : Bool) (a z : SoloState) (c : Call) → z.session ≡ a.session → WorldTurn tells a.session a.world c z.world → SoloSteps tells a (turn_taken c) z
-solo_turned tells a z c session h = (
-  record {
-    placement = h.placement;
-    admits = ap (λ (s : Setup). admits s.register.accounts) h.setup;
-    session = session;
-    queries = subst (λ (s : ℕ). (session_at z.world.core s).queries ≡ (session_at a.world.core a.session).queries + 1) (sym session) h.queries;
-    number = h.number;
-    turn = subst (λ (s : ℕ). Turn tells a.world.core.placement a.session (seen_at a.world.core a.session) c (seen_at z.world.core s)) (sym session) h.turn;
-  },
-  (session, h),
-)
-
 -- a query that never reached it
 pub solo_skipped : (tells : Bool) (a z : SoloState) → is_open a.world.core a.session ≡ true → z ≡ record a { world = with_core a.world (with_request_counted a.world.core a.session) } → SoloSteps tells a query_skipped z
 solo_skipped tells a z here is =
     let counted = counted_session a.world.core a.session here in
     (ap desk_of is ∙ ap (λ (x : OpenSession). record (desk_of a) { seen = record { front = a.world.core.history; least = x.least }; queries = x.queries }) counted, is)
-
--- Stats
-pub solo_counted : (tells : Bool) (a : SoloState) → SoloSteps tells a (cache_counted 0 0) a
-solo_counted tells a = (refl, (refl, refl, refl))
 
 -- ---- a write
 

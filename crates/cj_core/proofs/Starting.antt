@@ -7,9 +7,6 @@ use Rattle.cj_model.specs.declared.database.Slot.{Slot}
 use Rattle.cj_model.specs.Cluster.Placements.{Placement}
 use Rattle.cj_backend.specs.Backends.{Arming}
 use Rattle.cj_replica.specs.Cells.{CellState}
-use Rattle.cj_core.specs.Armings.{each_arming}
-use Rattle.cj_core.specs.Counting.{faults_of}
-use Rattle.cj_core.specs.Logins.{logins_of}
 use Rattle.cj_core.specs.Starts.{BackendState, IsFresh, AreFresh, HaveBegunNone, backend_of, state_by}
 
 -- ---- what is seen of backends in their cells
@@ -18,46 +15,10 @@ use Rattle.cj_core.specs.Starts.{BackendState, IsFresh, AreFresh, HaveBegunNone,
 same_part : {A B S T : Type 0} (f : A → S) (g : B → S) (part : S → T) (xs : List A) (ys : List B) → map f xs ≡ map g ys → map (λ x. part (f x)) xs ≡ map (λ y. part (g y)) ys
 same_part f g part xs ys same = sym (map-map part f xs) ∙ (ap (map part) same ∙ map-map part g ys)
 
--- of the backends in the cells this is seen
-module _ (cells : List CellState) (seen : List BackendState) (same : map backend_of cells ≡ seen) where
-  part_of_cells : {T : Type 0} (part : BackendState → T) → map (λ (x : CellState). part (backend_of x)) cells ≡ map part seen
-  part_of_cells part = sym (map-map part backend_of cells) ∙ ap (map part) same
-
-  pub told_of_cells : map (λ (x : CellState). x.told) cells ≡ map (λ (s : BackendState). s.told) seen
-  told_of_cells = part_of_cells (λ (s : BackendState). s.told)
-
-  pub faults_of_cells : faults_of cells ≡ map (λ (s : BackendState). s.faults) seen
-  faults_of_cells = part_of_cells (λ (s : BackendState). s.faults)
-
-  pub asks_of_cells : map (λ (x : CellState). x.asks) cells ≡ map (λ (s : BackendState). s.asks) seen
-  asks_of_cells = part_of_cells (λ (s : BackendState). s.asks)
-
-  pub logins_of_cells : logins_of cells ≡ map (λ (s : BackendState). s.login) seen
-  logins_of_cells = part_of_cells (λ (s : BackendState). s.login)
-
-  pub armings_of_cells : each_arming cells ≡ map (λ (s : BackendState). s.arming) seen
-  armings_of_cells = part_of_cells (λ (s : BackendState). s.arming)
-
--- the same is seen of the backends by themselves
-module _ {X : Type 0} (told : X → Option (List Slot)) (faults asks : X → ℕ) (login : X → Option (List ℕ)) (arming : X → Arming) (backends : List X) (cells : List CellState)
-    (same : map (state_by told faults asks login arming) backends ≡ map backend_of cells) where
-  part_of_backends : {T : Type 0} (part : BackendState → T) → map (λ (x : X). part (state_by told faults asks login arming x)) backends ≡ map (λ (x : CellState). part (backend_of x)) cells
-  part_of_backends part = same_part (state_by told faults asks login arming) backend_of part backends cells same
-
-  pub told_of_backends : map told backends ≡ map (λ (x : CellState). x.told) cells
-  told_of_backends = part_of_backends (λ (s : BackendState). s.told)
-
-  pub faults_of_backends : map faults backends ≡ faults_of cells
-  faults_of_backends = part_of_backends (λ (s : BackendState). s.faults)
-
-  pub asks_of_backends : map asks backends ≡ map (λ (x : CellState). x.asks) cells
-  asks_of_backends = part_of_backends (λ (s : BackendState). s.asks)
-
-  pub logins_of_backends : map login backends ≡ logins_of cells
-  logins_of_backends = part_of_backends (λ (s : BackendState). s.login)
-
-  pub armings_of_backends : map arming backends ≡ each_arming cells
-  armings_of_backends = part_of_backends (λ (s : BackendState). s.arming)
+-- so do backends and their cells in what is told
+pub told_of_backends : {X : Type 0} (told : X → Option (List Slot)) (faults asks : X → ℕ) (login : X → Option (List ℕ)) (arming : X → Arming) (backends : List X) (cells : List CellState)
+    → map (state_by told faults asks login arming) backends ≡ map backend_of cells → map told backends ≡ map (λ (x : CellState). x.told) cells
+told_of_backends told faults asks login arming backends cells = same_part (state_by told faults asks login arming) backend_of (λ (s : BackendState). s.told) backends cells
 
 -- ---- into the cells
 

@@ -1,5 +1,5 @@
 -- A session over a whole world: what contracts see of it, and where its calls lead.
-use Rattle.std.specs.Prelude.{◌≡◌, ◌⊎◌, ℕ, zero, suc, ◌+◌, ◌<◌, ◌≤◌, Bool, true, List, [], ◌∷◌, ◌++◌, length, map, fold, slice_get, Result, Ok, Err}
+use Rattle.std.specs.Prelude.{◌≡◌, ◌⊎◌, ℕ, zero, suc, ◌+◌, ◌<◌, Bool, true, List, [], ◌∷◌, ◌++◌, length, map, fold, slice_get, Result, Ok, Err}
 use Rattle.std.specs.Option.{option_map_or}
 use Rattle.std.specs.declared.option.Option.{Option}
 use Rattle.std.specs.declared.option.Option.TheVariants.{None, Some}
@@ -19,7 +19,6 @@ use Rattle.cj_model.specs.Database.Queries.{ask}
 use Rattle.cj_model.specs.Wire.Replies.{asked_reply}
 use Rattle.cj_model.specs.Sql.PlainRequests.{act_of, request_of}
 use Rattle.cj_model.specs.Cluster.Accounts.{login_of}
-use Rattle.cj_model.specs.Cluster.Placements.{Placement}
 use Rattle.cj_model.specs.Cluster.Masks.{with_backend}
 use Rattle.cj_auth.specs.Admission.{admits}
 use Rattle.cj_cluster.specs.declared.event.Event.{Event}

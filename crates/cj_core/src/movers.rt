@@ -1,13 +1,12 @@
 //! The moves.
 
-ghost use Rattle.std.specs.Prelude.{◌≡◌, ◌<◌, ◌≤◌, ◌^◌, length, IsErrOf, Some, None, Ok, false};
+ghost use Rattle.std.specs.Prelude.{◌≡◌, ◌<◌, ◌≤◌, length, IsErrOf, Some, None, Ok, false};
 ghost use Rattle.cj_model.specs.declared.request.Request.TheVariants as requests;
 ghost use Rattle.cj_model.specs.Sql.PlainRequests as plain;
 ghost use Rattle.cj_model.specs.Sql.WrittenRequests.{IsWritten};
 ghost use Rattle.cj_cluster.specs.Moves.Cores.{session_at};
 ghost use Rattle.cj_cluster.specs.Moves.Moves as moves;
-ghost use Rattle.cj_cluster.specs.Moves.Moves.{OpensSession, ClosesSession, SchedulesRequest, AbortsOrphan, Applies, EndsEntry, AttemptsRead, AttemptsReadOrWaits, Arms, Disables, Replays, Enables, MovesTo, not_now, with_read, answered_at, was_answered, still_reading, IsFarEnough};
-ghost use Rattle.cj_cluster.specs.History.Answering.{CanServe};
+ghost use Rattle.cj_cluster.specs.Moves.Moves.{OpensSession, ClosesSession, SchedulesRequest, AbortsOrphan, Applies, EndsEntry, AttemptsReadOrWaits, Arms, Disables, Replays, Enables, MovesTo, not_now, with_read, answered_at, was_answered, still_reading};
 ghost use Rattle.cj_cluster.specs.Moves.Runs.{IsForLog};
 ghost use Rattle.cj_replica.specs.Cells.{CellState};
 ghost use Rattle.cj_core.specs.Armings.{ArmsCell, HasArmings, armed_at, armings_of};

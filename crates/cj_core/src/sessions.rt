@@ -1,6 +1,6 @@
 //! The open sessions.
 
-ghost use Rattle.std.specs.Prelude.{◌≡◌, ◌+◌, ◌<◌, ◌^◌, ◌==◌, not, [], ◌∷◌, ◌++◌, length, filter, option_copied, All, IfOk, IfSome, MatchOption};
+ghost use Rattle.std.specs.Prelude.{◌≡◌, ◌+◌, ◌<◌, ◌==◌, not, [], ◌∷◌, ◌++◌, length, filter, option_copied, All, IfOk, MatchOption};
 ghost use Rattle.cj_core.specs.Places.{IsPlaceOf, CanCountOne};
 ghost use Rattle.cj_cluster.specs.Moves.Cores.{find_session, with_session, new_session};
 ghost use Rattle.cj_cluster.specs.Moves.Moves as moves;

@@ -1,21 +1,19 @@
 //! A world, and the parts of its moves: each a change of its state that keeps it whole.
 
-ghost use Rattle.std.specs.Prelude.{option_copied, ◌≡◌, ◌↔◌, ℕ, ◌+◌, ◌<◌, ◌≤◌, ◌^◌, ◌==◌, true, false, not, [], ◌∷◌, ◌++◌, length, map, filter, is_some, IsTrue, IsNone, IfSome, IfOk, IsErrOf, MatchBool, OnOk, OnErr, Some, None, Ok, Err, if◌then◌else◌};
-ghost use Rattle.std.specs.Option.{option_map};
+ghost use Rattle.std.specs.Prelude.{option_copied, ◌≡◌, ◌↔◌, ℕ, ◌+◌, ◌<◌, ◌≤◌, ◌^◌, ◌==◌, true, false, [], length, map, is_some, IsNone, IfSome, IfOk, IsErrOf, MatchBool, OnOk, OnErr, Some, None, Ok, Err, if◌then◌else◌};
 ghost use Rattle.cj_model.specs.declared.request.Entry.{Entry};
 ghost use Rattle.cj_model.specs.declared.request.Request.TheVariants as request;
 ghost use Rattle.cj_model.specs.Sql.PlainRequests.{request_of};
 ghost use Rattle.cj_cluster.specs.History.Histories as histories;
-ghost use Rattle.cj_cluster.specs.History.Histories.{log, ended_count, is_idle};
+ghost use Rattle.cj_cluster.specs.History.Histories.{log, is_idle};
 ghost use Rattle.cj_model.specs.Cluster.Masks.{in_mask};
 ghost use Rattle.cj_cluster.specs.History.Legality.{FitsTx, IsFitEntry};
 ghost use Rattle.cj_model.specs.Sql.WrittenRequests.{IsWritten};
 ghost use Rattle.cj_cluster.specs.History.Answering.{CanServe};
-ghost use Rattle.cj_cluster.specs.Moves.Cores as cores;
 ghost use Rattle.cj_cluster.specs.Moves.Cores.{find_session, session_at, position_at};
 ghost use Rattle.cj_model.specs.Cluster.Accounts.{login_of};
 ghost use Rattle.cj_cluster.specs.Moves.Moves as moves;
-ghost use Rattle.cj_cluster.specs.Moves.Moves.{Applies, Replays, IsServingMask, HasOtherRead, HasNoOtherRead, forbidden_by, next_entry, not_now, with_end, with_read, with_request_counted, happened, opened_for, closed_for, scheduled_as, ended_for, with_one_request, answered_at, was_answered, still_reading};
+ghost use Rattle.cj_cluster.specs.Moves.Moves.{Applies, Replays, IsServingMask, HasOtherRead, HasNoOtherRead, forbidden_by, next_entry, not_now, with_read, with_request_counted, happened, opened_for, closed_for, scheduled_as, ended_for, answered_at, was_answered, still_reading};
 ghost use Rattle.std.specs.Bool.{OnTrue};
 ghost use Rattle.cj_auth.specs.Admission.{admits};
 ghost use Rattle.cj_auth.specs.Kept.{IsUserName};
@@ -729,7 +727,9 @@ impl<B: Backend> World<B> {
         let least = self.least(s);
         let number = self.read_number(s);
         self.book.take_spare()?;
-        let login = self.accounts.mapped(asking_user(&self.sessions, s, user), b);
+        let login = self
+            .accounts
+            .mapped(asking_user(&self.sessions, s, user), b);
         match self.cells[b as usize].read(login, tx, select, least) {
             Ok(answered) => Ok(answered),
             Err(error) => Err(noted(&mut self.book, s, number, b, error)),

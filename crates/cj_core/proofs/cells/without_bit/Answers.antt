@@ -1,4 +1,4 @@
-use Rattle.std.proofs.Common.{◌≡◌, ◌<◌, ◌≤◌, ◌-◌, ◌*◌, ◌%◌, ◌^◌, ◌==◌, ◌&&◌, not, ℕ, true, false, bit_and, ap, sym, ◌∙◌, arith, ⊎_elim, refl}
+use Rattle.std.proofs.Common.{◌≡◌, ◌<◌, ◌≤◌, ◌-◌, ◌*◌, ◌%◌, ◌^◌, ◌&&◌, not, ℕ, false, bit_and, ap, sym, ◌∙◌, arith, ⊎_elim, refl}
 use Rattle.std.proofs.lemmas.Bool.{both_ways, cases_lt, eq-eqb}
 use Rattle.std.proofs.lemmas.Nat.{and_le_l}
 use Rattle.cj_model.specs.Cluster.Masks.{in_mask}

@@ -1,4 +1,4 @@
-use Rattle.std.proofs.Common.{◌≡◌, ◌<◌, ℕ, true, refl, ap, sym, ◌∙◌, subst, arith}
+use Rattle.std.proofs.Common.{◌≡◌, true, refl, ap, sym, ◌∙◌, subst, arith}
 use Rattle.cj_model.specs.declared.request.Request.TheVariants as requests
 use Rattle.cj_model.specs.declared.answer.Refusal.{Refusal}
 use Rattle.cj_model.specs.declared.answer.Reply.TheVariants.{Refused}
@@ -7,7 +7,7 @@ use Rattle.cj_cluster.specs.History.Answering.{CanServe}
 use Rattle.cj_cluster.specs.Moves.Cores.{Core}
 use Rattle.cj_core.specs.Worlds.{WorldState}
 use Rattle.cj_core.specs.Solos.{StandsBetweenCalls}
-use Rattle.cj_core.proofs.SoloReads.{QuerySoFar, query_begins, query_goes_on, query_stands, still_serves, serves_still, unserved, in_vain, attempted_turn, counted_turn}
+use Rattle.cj_core.proofs.SoloReads.{QuerySoFar, query_begins, query_goes_on, query_stands, serves_still, unserved, in_vain, attempted_turn, counted_turn}
 use Rattle.cj_core.proofs.world.World.serve_read.Goals as goal
 
 pub returns-then-serving-eq0 : goal.returns-then-serving-eq0
