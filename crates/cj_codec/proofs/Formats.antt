@@ -143,7 +143,8 @@ items_cut {A} f law (suc n) bytes (inr h) =
     ∙ ap (λ (r : Reading A). r >>= λ y. repeated_at f n y.1 >>= λ ys. Ok (y.0 ∷ ys.0, ys.1)) (law.again h.0 h.1 h.3)
     ∙ ap (λ (r : Reading (List A)). r >>= λ ys. Ok (h.0 ∷ ys.0, ys.1)) (items_cut f law n h.1 h.4)
 
-repeated_law : {A : Type 0} (f : Format A) → IsFormat f → (n : ℕ) → IsFormat (repeated f n)
+-- so many values, one after another
+pub repeated_law : {A : Type 0} (f : Format A) → IsFormat f → (n : ℕ) → IsFormat (repeated f n)
 repeated_law f law n = record { again = items_again f law n; whole = items_whole f law n; inside = items_inside f law n; cut = items_cut f law n }
 
 -- lists behind their number

@@ -1,3 +1,4 @@
 pub mod Formats
 pub mod Fields
 pub mod Written
+pub mod Taken
