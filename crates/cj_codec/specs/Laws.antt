@@ -1,6 +1,8 @@
 -- What holds of the fields.
-use Rattle.std.specs.Prelude.{◌≡◌, ℕ, List}
+use Rattle.std.specs.Prelude.{◌≡◌, ◌↔◌, true, ℕ, List}
 use Rattle.cj_model.specs.declared.value.Value.{Value}
+use Rattle.cj_model.specs.Sql.Literals.{IsConstant}
+use Rattle.cj_model.specs.Sql.Names.{is_name}
 use Rattle.cj_model.specs.Wire.Fields.{str16, str32}
 use Rattle.cj_model.specs.Wire.Replies.{value_bytes}
 use Rattle.cj_codec.specs.Formats.{IsFormat, HasOneReading}
@@ -34,3 +36,7 @@ pub record FieldsAreSpelled : Type 0 where
   pub of_string64 : (bytes : List ℕ) → string64.bytes bytes ≡ str64 bytes
   pub of_name : (bytes : List ℕ) → name.bytes bytes ≡ str16 bytes
   pub of_value : (v : Value) → value.bytes v ≡ value_bytes v
+
+pub record FieldsHold : Type 0 where
+  pub of_name : (bytes : List ℕ) → name.fits bytes ↔ (is_name bytes ≡ true)
+  pub of_value : (v : Value) → value.fits v ↔ IsConstant v

@@ -14,6 +14,9 @@ mod write;
 
 pub use error::CodecError;
 pub use field::{Field, NameField, Repeated, ValueField, read_whole};
-pub use laws::{fields_are_formats, fields_are_spelled, fields_have_one_reading};
+pub use laws::{
+    fields_are_formats, fields_are_spelled, fields_have_one_reading,
+    fields_hold_names_and_constants,
+};
 pub use reader::Reader;
 pub use write::{put_str16, put_str32, put_str64, put_u8, put_u16, put_u32, put_u64, put_value};
