@@ -21,12 +21,15 @@ pub trait Field {
 }
 
 /// A name behind its number of two bytes.
+#[derive(Clone, Copy, Debug)]
 pub struct NameField;
 
 /// A value behind its tag.
+#[derive(Clone, Copy, Debug)]
 pub struct ValueField;
 
 /// So many fields of one format, one after another.
+#[derive(Clone, Copy, Debug)]
 pub struct Repeated<F> {
     pub field: F,
     pub count: u64,

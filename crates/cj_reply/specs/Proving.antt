@@ -1,0 +1,2 @@
+pub mod ReplyFormats
+pub mod Decoding
