@@ -26,7 +26,8 @@ fn send_rows<O: Sink>(alloc: Global, output: &mut O, reply: &Reply) -> Result<()
             output,
             &encode_refused(Refusal::of_code(NOT_BUILT)),
         ),
-        Err(ReplyError::NoMemory) => Err(OutError::NoMemory),
+        // No reply is malformed: that error is one of decoding.
+        Err(ReplyError::Malformed | ReplyError::NoMemory) => Err(OutError::NoMemory),
     }
 }
 
