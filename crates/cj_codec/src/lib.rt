@@ -1,5 +1,5 @@
-//! The one codec of binary formats: numbers, byte strings and values, written at the end of bytes and read field by field from the
-//! front of bytes.
+//! The one codec of binary formats: numbers, byte strings, names, values and lists, written at the end of bytes and read field by field
+//! from the front of bytes.
 //!
 //! Numbers have their most significant byte first. A format (`specs/Formats`) says the bytes of each value, which values a field may
 //! hold, where bytes end inside a field, and how it is read; formats are made of formats, and one law holds of each.

@@ -16,7 +16,7 @@ use Rattle.cj_reply.specs.declared.reply.ReplyError.TheVariants as errors
 use Rattle.cj_reply.specs.Decode.{IsReplyFrame, Decodes}
 use Rattle.cj_reply.specs.Laws.{FramesHaveOneReply, EncodedRepliesAreDecoded}
 use Rattle.cj_reply.specs.Proving.Decoding.{HoldsBody, reply_error}
-use Rattle.cj_reply.specs.Proving.ReplyFormats.{reply}
+use Rattle.cj_reply.specs.Proving.ReplyFormats.{reply_field}
 use Rattle.cj_reply.proofs.ReplyFormats.{reply_law, body_same, wire_held, held_wire}
 
 pub string32_law : IsFormat string32
@@ -31,7 +31,7 @@ one_body bytes one other p q =
 pub frame_holds : (bytes : List ℕ) (r : Reply) → IsReplyFrame bytes r → HoldsBody bytes (reply_body r)
 frame_holds bytes r is = record { spelled = is.spelled; size = is.size }
 
-pub frame_read : (bytes body : List ℕ) (r : Reply) → HoldsBody bytes body → (body ≡ reply.bytes r) × reply.fits r → IsReplyFrame bytes r
+pub frame_read : (bytes body : List ℕ) (r : Reply) → HoldsBody bytes body → (body ≡ reply_field.bytes r) × reply_field.fits r → IsReplyFrame bytes r
 frame_read bytes body r holds read =
     let is : body ≡ reply_body r = read.0 ∙ body_same r in
     record {
@@ -41,11 +41,11 @@ frame_read bytes body r holds read =
     }
 
 -- a body that no reply has is in no reply's frame
-no_frame : (bytes body : List ℕ) → HoldsBody bytes body → IsNoField reply body → (r : Reply) → ¬ IsReplyFrame bytes r
+no_frame : (bytes body : List ℕ) → HoldsBody bytes body → IsNoField reply_field body → (r : Reply) → ¬ IsReplyFrame bytes r
 no_frame bytes body holds none r is =
     none r (wire_held r is.fields is.size) (one_body bytes body (reply_body r) holds (frame_holds bytes r is) ∙ sym (body_same r))
 
-pub none_read : (bytes body : List ℕ) (error : CodecError) (result : Result Reply ReplyError) → HoldsBody bytes body → ReadsWhole reply body (Err error) → result ≡ Err (reply_error error) → Decodes bytes result
+pub none_read : (bytes body : List ℕ) (error : CodecError) (result : Result Reply ReplyError) → HoldsBody bytes body → ReadsWhole reply_field body (Err error) → result ≡ Err (reply_error error) → Decodes bytes result
 none_read bytes body (codec.Cut n) result holds none is = subst (Decodes bytes) (sym is) (no_frame bytes body holds none)
 none_read bytes body (codec.BadField n) result holds none is = subst (Decodes bytes) (sym is) (no_frame bytes body holds none)
 none_read bytes body codec.NoMemory result holds none is = subst (Decodes bytes) (sym is) tt
@@ -55,8 +55,8 @@ none_read bytes body codec.NoMemory result holds none is = subst (Decodes bytes)
 pub frames_once : FramesHaveOneReply
 frames_once bytes one other p q =
     let bodies : reply_body one ≡ reply_body other = one_body bytes (reply_body one) (reply_body other) (frame_holds bytes one p) (frame_holds bytes other q) in
-    let same : reply.bytes one ≡ reply.bytes other = body_same one ∙ bodies ∙ sym (body_same other) in
-    (one_reading reply reply_law one other [] [] (wire_held one p.fields p.size) (wire_held other q.fields q.size) (ap (λ (t : List ℕ). t ++ []) same)).0
+    let same : reply_field.bytes one ≡ reply_field.bytes other = body_same one ∙ bodies ∙ sym (body_same other) in
+    (one_reading reply_field reply_law one other [] [] (wire_held one p.fields p.size) (wire_held other q.fields q.size) (ap (λ (t : List ℕ). t ++ []) same)).0
 
 pub encoded_decoded : EncodedRepliesAreDecoded
 encoded_decoded r frame (Ok other) fields encodes decodes =

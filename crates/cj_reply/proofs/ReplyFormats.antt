@@ -1,5 +1,5 @@
 -- The formats of replies are formats: their bytes are those of replies, and they hold the replies that can be on the wire.
-use Rattle.std.proofs.Common.{◌≡◌, ◌==◌, ℕ, ◌^◌, ◌<◌, ◌≤◌, Bool, true, false, cond, nat_lt, List, ◌∷◌, length, ◌++◌, get_or, refl, sym, ap, ◌∙◌, append_assoc, arith}
+use Rattle.std.proofs.Common.{◌≡◌, ◌==◌, ℕ, ◌^◌, ◌<◌, ◌≤◌, nat_lt, List, ◌∷◌, length, ◌++◌, get_or, refl, sym, ap, ◌∙◌, append_assoc, arith}
 use Rattle.std.specs.List.{flat_map}
 use Rattle.std.specs.Int.{w16, w32, to_be_bytes}
 use Rattle.std.proofs.lemmas.Bool.{eqb-true, ltb-true, lt-ltb}
@@ -12,12 +12,12 @@ use Rattle.cj_model.specs.declared.value.Value.{Value}
 use Rattle.cj_model.specs.Wire.Fields.{str16}
 use Rattle.cj_model.specs.Wire.Replies.{reply_body, reply_length}
 use Rattle.cj_codec.specs.Fields.{byte, number16, number32, number64, name, value}
-use Rattle.cj_codec.specs.Formats.{Format, IsFormat, nothing, repeated, list}
+use Rattle.cj_codec.specs.Formats.{IsFormat, pair, nothing, repeated, list}
 use Rattle.cj_codec.proofs.Fields.{byte_law, number16_law, number32_law, number64_law, name_law, value_law, value_same}
-use Rattle.cj_codec.proofs.Formats.{behind_law, mapped_law, such_that_law, nothing_law, repeated_law, list_law}
+use Rattle.cj_codec.proofs.Formats.{behind_law, mapped_law, pair_law, such_that_law, choice_law, choice_holds, nothing_law, repeated_law, list_law}
 use Rattle.cj_codec.proofs.Held.{fields_hold}
 use Rattle.cj_reply.specs.Decode.{IsWireAnswer, HasWireFields}
-use Rattle.cj_reply.specs.Proving.ReplyFormats.{columns, rows, answer_of, answer, count_in, answer_in, hits_in, misses_in, code_in, first_in, second_in, done_payload, rows_payload, misses_payload, stats_payload, second_payload, first_payload, refused_payload, kind_of, payload_of, reply}
+use Rattle.cj_reply.specs.Proving.ReplyFormats.{columns, rows, answer_of, answer, count_in, answer_in, stats_in, refusal_in, done_payload, rows_payload, stats_payload, refused_payload, kind_of, payload_of, reply_field}
 use Rattle.cj_reply.proofs.Parts.{answer_parts, rows_within}
 
 -- ---- the law of formats
@@ -40,50 +40,33 @@ done_law = mapped_law Done count_in number64 number64_law (λ n fits. refl)
 rows_payload_law : IsFormat rows_payload
 rows_payload_law = mapped_law Rows answer_in answer answer_law (λ a fits. refl)
 
-misses_law : (hits : ℕ) → IsFormat (misses_payload hits)
-misses_law hits = mapped_law (Stats hits) misses_in number64 number64_law (λ n fits. refl)
-
 stats_law : IsFormat stats_payload
-stats_law = behind_law number64 hits_in misses_payload number64_law misses_law (λ hits r fits. ap hits_in (sym fits.1))
-
-second_law : (code a : ℕ) → IsFormat (second_payload code a)
-second_law code a = mapped_law (λ b. Refused (record { code = code; a = a; b = b })) second_in number64 number64_law (λ n fits. refl)
-
-first_law : (code : ℕ) → IsFormat (first_payload code)
-first_law code = behind_law number64 first_in (second_payload code) number64_law (second_law code) (λ a r fits. ap first_in (sym fits.1))
+stats_law = mapped_law (λ p. Stats p.0 p.1) stats_in (pair number64 number64) (pair_law number64 number64 number64_law number64_law) (λ p fits. refl)
 
 refused_law : IsFormat refused_payload
-refused_law = behind_law number16 code_in first_payload number16_law first_law (λ code r fits. ap code_in (sym fits.1.1))
-
--- one of two formats
-choice_law : {A : Type 0} (b : Bool) (f g : Format A) → IsFormat f → IsFormat g → IsFormat (cond b f g)
-choice_law true f g p q = p
-choice_law false f g p q = q
+refused_law =
+    mapped_law (λ p. Refused (record { code = p.0; a = p.1.0; b = p.1.1 })) refusal_in (pair number16 (pair number64 number64))
+    (pair_law number16 (pair number64 number64) number16_law (pair_law number64 number64 number64_law number64_law)) (λ p fits. refl)
 
 payload_law : (kind : ℕ) → IsFormat (payload_of kind)
 unfolding payload_of
 payload_law kind =
     choice_law (kind == 129) done_payload _ done_law (choice_law (kind == 130) rows_payload _ rows_payload_law (choice_law (kind == 131) stats_payload _ stats_law (choice_law (kind == 143) refused_payload nothing refused_law nothing_law)))
 
--- what the one or the other holds is of the kind
-choice_kind : (b : Bool) (f g : Format Reply) (kind : ℕ) (r : Reply) → (b ≡ true → f.fits r → kind_of r ≡ kind) → (g.fits r → kind_of r ≡ kind) → (cond b f g).fits r → kind_of r ≡ kind
-choice_kind true f g kind r one other fits = one refl fits
-choice_kind false f g kind r one other fits = other fits
-
 payload_kind : (kind : ℕ) (r : Reply) → (payload_of kind).fits r → kind_of r ≡ kind
 unfolding payload_of
 payload_kind kind r =
-    choice_kind (kind == 129) done_payload _ kind r (λ is fits. ap kind_of (sym fits.1) ∙ sym (eqb-true kind 129 is))
-    (choice_kind (kind == 130) rows_payload _ kind r (λ is fits. ap kind_of (sym fits.1) ∙ sym (eqb-true kind 130 is))
-    (choice_kind (kind == 131) stats_payload _ kind r (λ is fits. ap kind_of (sym fits.1.1) ∙ sym (eqb-true kind 131 is))
-    (choice_kind (kind == 143) refused_payload nothing kind r (λ is fits. ap kind_of (sym fits.1.1.1) ∙ sym (eqb-true kind 143 is)) (λ never. absurd never))))
+    choice_holds (kind == 129) done_payload _ r (λ is fits. ap kind_of (sym fits.1) ∙ sym (eqb-true kind 129 is))
+    (λ other. choice_holds (kind == 130) rows_payload _ r (λ is fits. ap kind_of (sym fits.1) ∙ sym (eqb-true kind 130 is))
+    (λ other. choice_holds (kind == 131) stats_payload _ r (λ is fits. ap kind_of (sym fits.1) ∙ sym (eqb-true kind 131 is))
+    (λ other. choice_holds (kind == 143) refused_payload nothing r (λ is fits. ap kind_of (sym fits.1) ∙ sym (eqb-true kind 143 is)) (λ other never. absurd never))))
 
-pub reply_law : IsFormat reply
+pub reply_law : IsFormat reply_field
 reply_law = behind_law byte kind_of payload_of byte_law payload_law payload_kind
 
 -- ---- the bytes
 
-pub body_same : (r : Reply) → reply.bytes r ≡ reply_body r
+pub body_same : (r : Reply) → reply_field.bytes r ≡ reply_body r
 unfolding payload_of
 body_same (Done count) = refl
 body_same (Rows a) =
@@ -112,18 +95,18 @@ held_answer a held =
       values = λ k d l i e m. (fields_hold.of_value (get_or (get_or a.rows k d) i e)).0 (All-from_recursion value.fits (get_or a.rows k d) (each k d l).1 i e m);
     }
 
-pub wire_held : (r : Reply) → HasWireFields r → reply_length r ≤ FRAME_LIMIT → reply.fits r
+pub wire_held : (r : Reply) → HasWireFields r → reply_length r ≤ FRAME_LIMIT → reply_field.fits r
 unfolding payload_of
 wire_held (Done count) is size = (omega arith, (is, refl))
 wire_held (Rows a) is size =
     let few = rows_within a FRAME_LIMIT is.even (answer_parts a FRAME_LIMIT size).1 in
     (omega arith, (answer_held a is (omega (arith, few)), refl))
-wire_held (Stats hits misses) is size = (omega arith, (is.0, (is.1, refl)))
-wire_held (Refused r) is size = (omega arith, (is.0, (is.1, (is.2, refl))))
+wire_held (Stats hits misses) is size = (omega arith, ((is.0, (is.1, refl)), refl))
+wire_held (Refused r) is size = (omega arith, ((is.0, ((is.1, (is.2, refl)), refl)), refl))
 
-pub held_wire : (r : Reply) → reply.fits r → HasWireFields r
+pub held_wire : (r : Reply) → reply_field.fits r → HasWireFields r
 unfolding payload_of
 held_wire (Done count) held = held.1.0
 held_wire (Rows a) held = held_answer a held.1.0
-held_wire (Stats hits misses) held = (held.1.0, held.1.1.0)
-held_wire (Refused r) held = (held.1.0, held.1.1.0, held.1.1.1.0)
+held_wire (Stats hits misses) held = (held.1.0.0, held.1.0.1.0)
+held_wire (Refused r) held = (held.1.0.0, held.1.0.1.0.0, held.1.0.1.0.1.0)

@@ -97,7 +97,7 @@ struct ReplyField;
 impl Field for ReplyField {
     type Item = Reply;
 
-    ghost format = { λ _. formats.reply };
+    ghost format = { λ _. formats.reply_field };
 
     fn take(&self, reader: &mut Reader<'_>, alloc: Global) -> Result<Reply, CodecError> {
         let kind = reader.u8()?;

@@ -5,7 +5,7 @@ use Rattle.cj_model.specs.declared.answer.Reply.{Reply}
 use Rattle.cj_model.specs.declared.answer.Reply.TheVariants.{Done, Rows, Stats, Refused}
 use Rattle.cj_model.specs.declared.value.Value.{Value}
 use Rattle.cj_codec.specs.Fields.{byte, number16, number32, number64, name, value}
-use Rattle.cj_codec.specs.Formats.{Format, behind, mapped, such_that, nothing, repeated, list}
+use Rattle.cj_codec.specs.Formats.{Format, behind, mapped, pair, such_that, nothing, repeated, list}
 
 -- ---- answers
 
@@ -24,72 +24,35 @@ answer_of names = mapped (λ values. record { columns = names; rows = values }) 
 abbrev pub answer : Format Answer
 answer = behind columns (λ a. a.columns) answer_of
 
--- ---- the parts of a reply that is of a kind
+-- ---- payloads, and what is in them of a reply that is of their kind
 
 abbrev pub count_in : Reply → ℕ
 count_in (Done count) = count
-count_in (Rows a) = 0
-count_in (Stats hits misses) = 0
-count_in (Refused r) = 0
-
-abbrev pub answer_in : Reply → Answer
-answer_in (Done count) = record { columns = []; rows = [] }
-answer_in (Rows a) = a
-answer_in (Stats hits misses) = record { columns = []; rows = [] }
-answer_in (Refused r) = record { columns = []; rows = [] }
-
-abbrev pub hits_in : Reply → ℕ
-hits_in (Done count) = 0
-hits_in (Rows a) = 0
-hits_in (Stats hits misses) = hits
-hits_in (Refused r) = 0
-
-abbrev pub misses_in : Reply → ℕ
-misses_in (Done count) = 0
-misses_in (Rows a) = 0
-misses_in (Stats hits misses) = misses
-misses_in (Refused r) = 0
-
-abbrev pub code_in : Reply → ℕ
-code_in (Done count) = 0
-code_in (Rows a) = 0
-code_in (Stats hits misses) = 0
-code_in (Refused r) = r.code
-
-abbrev pub first_in : Reply → ℕ
-first_in (Done count) = 0
-first_in (Rows a) = 0
-first_in (Stats hits misses) = 0
-first_in (Refused r) = r.a
-
-abbrev pub second_in : Reply → ℕ
-second_in (Done count) = 0
-second_in (Rows a) = 0
-second_in (Stats hits misses) = 0
-second_in (Refused r) = r.b
-
--- ---- payloads
+count_in reply = 0
 
 abbrev pub done_payload : Format Reply
 done_payload = mapped Done count_in number64
 
+abbrev pub answer_in : Reply → Answer
+answer_in (Rows a) = a
+answer_in reply = record { columns = []; rows = [] }
+
 abbrev pub rows_payload : Format Reply
 rows_payload = mapped Rows answer_in answer
 
-abbrev pub misses_payload : ℕ → Format Reply
-misses_payload hits = mapped (Stats hits) misses_in number64
+abbrev pub stats_in : Reply → ℕ × ℕ
+stats_in (Stats hits misses) = (hits, misses)
+stats_in reply = (0, 0)
 
 abbrev pub stats_payload : Format Reply
-stats_payload = behind number64 hits_in misses_payload
+stats_payload = mapped (λ p. Stats p.0 p.1) stats_in (pair number64 number64)
 
-abbrev pub second_payload : ℕ → ℕ → Format Reply
-second_payload code a = mapped (λ b. Refused (record { code = code; a = a; b = b })) second_in number64
-
-abbrev pub first_payload : ℕ → Format Reply
-first_payload code = behind number64 first_in (second_payload code)
+abbrev pub refusal_in : Reply → ℕ × (ℕ × ℕ)
+refusal_in (Refused r) = (r.code, (r.a, r.b))
+refusal_in reply = (0, (0, 0))
 
 abbrev pub refused_payload : Format Reply
-refused_payload = behind number16 code_in first_payload
+refused_payload = mapped (λ p. Refused (record { code = p.0; a = p.1.0; b = p.1.1 })) refusal_in (pair number16 (pair number64 number64))
 
 -- ---- kind and payload
 
@@ -102,5 +65,5 @@ kind_of (Refused r) = 143
 unfoldable pub payload_of : ℕ → Format Reply
 payload_of kind = cond (kind == 129) done_payload (cond (kind == 130) rows_payload (cond (kind == 131) stats_payload (cond (kind == 143) refused_payload nothing)))
 
-abbrev pub reply : Format Reply
-reply = behind byte kind_of payload_of
+abbrev pub reply_field : Format Reply
+reply_field = behind byte kind_of payload_of
