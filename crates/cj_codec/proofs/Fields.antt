@@ -9,7 +9,8 @@ use Rattle.cj_model.proofs.Fields.{guard_err, ok_is, IsWide, wide16, wide32, wid
 use Rattle.cj_codec.specs.declared.error.Fault.{Fault}
 use Rattle.cj_codec.specs.declared.error.Fault.TheVariants.{Cut}
 use Rattle.cj_codec.specs.Formats.{Format, AreBytes, IsFormat}
-use Rattle.cj_codec.specs.Fields.{byte_at, byte, number, number16, number32, number64, block, string, string16, string32, string64, is_stored_text, stored_text, integer, int_in, text_in, tag_of, value_of_tag, value}
+use Rattle.cj_codec.specs.Fields.{byte_at, byte, number, number16, number32, number64, block, string, string16, string32, string64, name, is_stored_text, stored_text, integer, int_in, text_in, tag_of, value_of_tag, value}
+use Rattle.cj_model.specs.Sql.Names.{is_name}
 use Rattle.cj_model.specs.Wire.Replies.{value_bytes}
 use Rattle.cj_codec.specs.Laws.{FieldsAreFormats, FieldsHaveOneReading, FieldsAreSpelled}
 use Rattle.cj_codec.proofs.Formats.{one_reading, behind_law, mapped_law, such_that_law, nothing_law}
@@ -63,6 +64,9 @@ number64_law = number_law w64 (2 ^ 64) wide64
 pub string_law : (count : Format ℕ) → IsFormat count → IsFormat (string count)
 string_law count law = behind_law count length block law block_law (λ n x fits. fits)
 
+pub name_law : IsFormat name
+name_law = such_that_law is_name string16 (string_law number16 number16_law)
+
 pub stored_text_law : IsFormat stored_text
 stored_text_law = such_that_law is_stored_text string32 (string_law number32 number32_law)
 
@@ -95,6 +99,7 @@ fields_law = record {
   of_string16 = string_law number16 number16_law;
   of_string32 = string_law number32 number32_law;
   of_string64 = string_law number64 number64_law;
+  of_name = name_law;
   of_value = value_law;
 }
 
@@ -107,12 +112,13 @@ fields_once = record {
   of_string16 = one_reading string16 (string_law number16 number16_law);
   of_string32 = one_reading string32 (string_law number32 number32_law);
   of_string64 = one_reading string64 (string_law number64 number64_law);
+  of_name = one_reading name name_law;
   of_value = one_reading value value_law;
 }
 
-value_same : (v : Value) → value.bytes v ≡ value_bytes v
+pub value_same : (v : Value) → value.bytes v ≡ value_bytes v
 value_same (Int n) = refl
 value_same (Text t) = refl
 
 pub fields_spelled : FieldsAreSpelled
-fields_spelled = record { of_string16 = λ bytes. refl; of_string32 = λ bytes. refl; of_string64 = λ bytes. refl; of_value = value_same }
+fields_spelled = record { of_string16 = λ bytes. refl; of_string32 = λ bytes. refl; of_string64 = λ bytes. refl; of_name = λ bytes. refl; of_value = value_same }

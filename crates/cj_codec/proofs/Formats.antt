@@ -1,5 +1,5 @@
 -- Laws of formats, each for every format.
-use Rattle.std.proofs.Common.{◌≡◌, ℕ, zero, suc, Bool, true, cond, List, [], ◌∷◌, ◌++◌, length, drop, Ok, Err, refl, sym, ap, subst, ◌∙◌, append_assoc, arith, inl, inr}
+use Rattle.std.proofs.Common.{◌≡◌, ℕ, zero, suc, Bool, true, false, cond, List, [], ◌∷◌, ◌++◌, length, drop, Ok, Err, refl, sym, ap, subst, ◌∙◌, append_assoc, arith, inl, inr}
 use Rattle.std.specs.List.{flat_map, AllByRecursion}
 use Rattle.std.proofs.lemmas.List.{drop_at}
 use Rattle.std.proofs.lemmas.List.Concat.{flat_map-cons}
@@ -7,7 +7,7 @@ use Rattle.cj_model.specs.Wire.Fields.{◌>>=◌}
 use Rattle.cj_model.proofs.Fields.{bind_ok, bind_err, guard_else, guard_else_err, ok_is, done, IsBytes_drop}
 use Rattle.cj_codec.specs.declared.error.Fault.{Fault}
 use Rattle.cj_codec.specs.declared.error.Fault.TheVariants.{Cut, BadField}
-use Rattle.cj_codec.specs.Formats.{Reading, Format, AreBytes, IsFormat, HasOneReading, behind, mapped, such_that, nothing, repeated_at, repeated_partial, repeated, list}
+use Rattle.cj_codec.specs.Formats.{Reading, Format, AreBytes, IsFormat, HasOneReading, behind, mapped, pair, such_that, nothing, repeated_at, repeated_partial, repeated, list}
 
 -- bytes have one reading
 pub one_reading : {A : Type 0} (f : Format A) → IsFormat f → HasOneReading f
@@ -69,6 +69,12 @@ mapped_law {A} {B} make parts f law back = record {
   cut = λ bytes part. ap (λ (r : Reading A). r >>= λ x. Ok (make x.0, x.1)) (law.cut bytes part);
 }
 
+-- two fields, the one after the other
+pub pair_law : {A B : Type 0} (f : Format A) (g : Format B) → IsFormat f → IsFormat g → IsFormat (pair f g)
+pair_law {A} {B} f g first second =
+    behind_law f (λ (p : A × B). p.0) (λ x. mapped (λ y. (x, y)) (λ p. p.1) g) first (λ x. mapped_law (λ y. (x, y)) (λ p. p.1) g second (λ y fits. refl))
+    (λ x p fits. ap (λ (q : A × B). q.0) (sym fits.1))
+
 -- values for which a test holds
 pub such_that_law : {A : Type 0} (test : A → Bool) (f : Format A) → IsFormat f → IsFormat (such_that test f)
 such_that_law {A} test f law = record {
@@ -95,6 +101,16 @@ nothing_law {A} = record {
   inside = λ bytes are e. absurd cc;
   cut = λ bytes part. absurd part;
 }
+
+-- one of two formats, by a test
+pub choice_law : {A : Type 0} (b : Bool) (f g : Format A) → IsFormat f → IsFormat g → IsFormat (cond b f g)
+choice_law true f g first second = first
+choice_law false f g first second = second
+
+-- what follows from a value that the one or the other holds
+pub choice_holds : {A P : Type 0} (b : Bool) (f g : Format A) (x : A) → (b ≡ true → f.fits x → P) → (b ≡ false → g.fits x → P) → (cond b f g).fits x → P
+choice_holds true f g x first second fits = first refl fits
+choice_holds false f g x first second fits = second refl fits
 
 -- ---- lists
 
@@ -143,7 +159,8 @@ items_cut {A} f law (suc n) bytes (inr h) =
     ∙ ap (λ (r : Reading A). r >>= λ y. repeated_at f n y.1 >>= λ ys. Ok (y.0 ∷ ys.0, ys.1)) (law.again h.0 h.1 h.3)
     ∙ ap (λ (r : Reading (List A)). r >>= λ ys. Ok (h.0 ∷ ys.0, ys.1)) (items_cut f law n h.1 h.4)
 
-repeated_law : {A : Type 0} (f : Format A) → IsFormat f → (n : ℕ) → IsFormat (repeated f n)
+-- so many values, one after another
+pub repeated_law : {A : Type 0} (f : Format A) → IsFormat f → (n : ℕ) → IsFormat (repeated f n)
 repeated_law f law n = record { again = items_again f law n; whole = items_whole f law n; inside = items_inside f law n; cut = items_cut f law n }
 
 -- lists behind their number

@@ -1,3 +1,5 @@
 pub mod Formats
 pub mod Fields
 pub mod Written
+pub mod Taken
+pub mod Held

@@ -5,7 +5,7 @@ use Rattle.cj_model.specs.declared.value.Value.{Value}
 use Rattle.cj_model.specs.declared.value.Value.TheVariants.{Int, Text}
 use Rattle.cj_model.specs.declared.limits.TheConstants.{TEXT_LIMIT}
 use Rattle.cj_model.specs.Wire.Fields.{number_at, bytes_at}
-use Rattle.cj_model.specs.Sql.Names.{is_text}
+use Rattle.cj_model.specs.Sql.Names.{is_name, is_text}
 use Rattle.cj_codec.specs.declared.error.Fault.TheVariants.{Cut}
 use Rattle.cj_codec.specs.Formats.{Reading, Format, behind, mapped, such_that, nothing}
 
@@ -46,6 +46,10 @@ string32 = string number32
 
 abbrev pub string64 : Format (List ℕ)
 string64 = string number64
+
+-- a name behind its length of two bytes
+abbrev pub name : Format (List ℕ)
+name = such_that is_name string16
 
 -- UTF-8 without byte 0, no longer than the texts of a table
 abbrev pub is_stored_text : List ℕ → Bool

@@ -51,6 +51,10 @@ mapped make parts f = record {
   reads = λ bytes. f.reads bytes >>= λ x. Ok (make x.0, x.1);
 }
 
+-- two fields, the one after the other
+abbrev pub pair : {A B : Type 0} → Format A → Format B → Format (A × B)
+pair {A} {B} f g = behind f (λ p. p.0) (λ x. mapped (λ y. (x, y)) (λ p. p.1) g)
+
 -- the values for which a test holds
 abbrev pub such_that : {A : Type 0} → (A → Bool) → Format A → Format A
 such_that test f = record {

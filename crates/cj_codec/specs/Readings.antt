@@ -1,5 +1,5 @@
 -- What reading a field comes to.
-use Rattle.std.specs.Prelude.{◌≡◌, ℕ, ◌-◌, List, length, Result, Ok, Err}
+use Rattle.std.specs.Prelude.{◌≡◌, ◌≢◌, ℕ, ◌-◌, List, length, Result, Ok, Err}
 use Rattle.cj_codec.specs.declared.error.CodecError.{CodecError}
 use Rattle.cj_codec.specs.declared.error.CodecError.TheVariants as errors
 use Rattle.cj_codec.specs.declared.error.Fault.{Fault}
@@ -35,3 +35,21 @@ ReadsField f view old new (Ok x) = (f.reads old.rest ≡ Ok (view x, new.rest)) 
 ReadsField f view old new (Err (errors.Cut n)) = (f.reads old.rest ≡ Err faults.Cut) × (n ≡ offset old) × (new ≡ old)
 ReadsField f view old new (Err (errors.BadField n)) = (f.reads old.rest ≡ Err faults.BadField) × (n ≡ offset old) × (new ≡ old)
 ReadsField f view old new (Err errors.NoMemory) = new ≡ old
+
+-- The fields of a format were taken off, one after another; or the bytes end inside one of them, or one isn't allowed, or memory ran out. After an error nothing is said of the reader.
+abbrev pub ReadsFields : {Y : Type 0} → Format Y → Place → Place → Result Y CodecError → Type 0
+ReadsFields f old new (Ok x) = (f.reads old.rest ≡ Ok (x, new.rest)) × (new.size ≡ old.size)
+ReadsFields f old new (Err (errors.Cut n)) = f.reads old.rest ≡ Err faults.Cut
+ReadsFields f old new (Err (errors.BadField n)) = f.reads old.rest ≡ Err faults.BadField
+ReadsFields f old new (Err errors.NoMemory) = Unit {0}
+
+-- no value that the format may hold has these bytes
+abbrev pub IsNoField : {Y : Type 0} → Format Y → List ℕ → Type 0
+IsNoField {Y} f bytes = (x : Y) → f.fits x → bytes ≢ f.bytes x
+
+-- all of the bytes are those of a value that the format may hold, or of none, unless memory ran out
+abbrev pub ReadsWhole : {Y : Type 0} → Format Y → List ℕ → Result Y CodecError → Type 0
+ReadsWhole f bytes (Ok x) = (bytes ≡ f.bytes x) × f.fits x
+ReadsWhole f bytes (Err (errors.Cut n)) = IsNoField f bytes
+ReadsWhole f bytes (Err (errors.BadField n)) = IsNoField f bytes
+ReadsWhole f bytes (Err errors.NoMemory) = Unit {0}

@@ -2,6 +2,7 @@
 
 ghost use Rattle.std.specs.Prelude.{◌≡◌};
 
+use cj_model::NoMemory;
 use std::alloc::AllocError;
 use thiserror::Error;
 
@@ -16,6 +17,16 @@ pub enum CodecError {
     BadField(u64),
     #[error("out of memory")]
     NoMemory,
+}
+
+impl From<NoMemory> for CodecError {
+    ghost use Rattle.cj_codec.specs.declared.error.CodecError.TheVariants as errors;
+
+    ghost from_gives = { λ _ error. error ≡ errors.NoMemory };
+
+    fn from(_error: NoMemory) -> CodecError {
+        CodecError::NoMemory
+    }
 }
 
 /// What is wrong with the bytes of a field.

@@ -1,6 +1,6 @@
 //! Laws of the definitions, each the contract of a function that does nothing.
 
-ghost use Rattle.cj_codec.specs.Laws.{FieldsAreFormats, FieldsHaveOneReading, FieldsAreSpelled};
+ghost use Rattle.cj_codec.specs.Laws.{FieldsAreFormats, FieldsHaveOneReading, FieldsAreSpelled, FieldsHold};
 
 /// What is written is read back, whatever follows it; what is read was written; and bytes are cut exactly where they end inside a
 /// field. With each format this holds of one behind another, of those values for which a test holds, and of lists behind their
@@ -20,4 +20,10 @@ pub fn fields_have_one_reading()
 #[tactic(auto, using(crate::proofs::Fields::fields_spelled))]
 pub fn fields_are_spelled()
     ensures { FieldsAreSpelled }
+{}
+
+/// A name's field holds the names, and a value's field the values that are constants.
+#[tactic(auto, using(crate::proofs::Held::fields_hold))]
+pub fn fields_hold_names_and_constants()
+    ensures { FieldsHold }
 {}

@@ -1,10 +1,10 @@
 //! Fields from the front of bytes: each with the bytes after it.
 
-ghost use Rattle.cj_codec.specs.Fields.{byte, number16, number32, number64, block, string16, string32, string64, integer, stored_text, value};
+ghost use Rattle.cj_codec.specs.Fields.{byte, number16, number32, number64, block, string16, string32, string64, name, integer, stored_text, value};
 ghost use Rattle.cj_codec.specs.Readings.{GivesReading};
 
 use crate::error::{Fault, Stop};
-use cj_model::{TEXT_LIMIT, Text, Value};
+use cj_model::{Name, TEXT_LIMIT, Text, Value};
 use std::alloc::Global;
 
 /// The first `count` bytes.
@@ -79,6 +79,17 @@ pub fn str64_of(bytes: &[u8]) -> Result<(&[u8], &[u8]), Stop>
 {
     let (count, rest) = u64_of(bytes)?;
     block_of(rest, count)
+}
+
+/// The name behind a length of two bytes.
+pub fn name_of(bytes: &[u8]) -> Result<(Name, &[u8]), Stop>
+    ensures { GivesReading (λ x. (x.0, x.1.now)) result (name.reads bytes.now) }
+{
+    let (word, rest) = str16_of(bytes)?;
+    match Name::of(word) {
+        Some(name) => Ok((name, rest)),
+        None => Err(Stop::Fault(Fault::BadField)),
+    }
 }
 
 /// A number in two's complement.

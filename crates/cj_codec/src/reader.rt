@@ -1,12 +1,12 @@
 //! Bytes that are read field by field.
 
 ghost use Rattle.std.specs.Prelude.{◌≡◌, ◌↔◌, [], length, IsTrue};
-ghost use Rattle.cj_codec.specs.Fields.{byte, number16, number32, number64, string16, string32, string64, value};
+ghost use Rattle.cj_codec.specs.Fields.{byte, number16, number32, number64, string16, string32, string64, name, value};
 ghost use Rattle.cj_codec.specs.Readings.{ReadsField, offset, stopped_at};
 
 use crate::error::{CodecError, Fault, Stop};
 use crate::read;
-use cj_model::Value;
+use cj_model::{Name, Value};
 use std::alloc::Global;
 use std::marker::Model;
 
@@ -152,6 +152,20 @@ impl<'a> Reader<'a> {
     {
         let rest = self.rest;
         match read::str64_of(rest) {
+            Ok((field, rest)) => {
+                self.rest = rest;
+                Ok(field)
+            }
+            Err(stop) => Err(self.stopped(stop)),
+        }
+    }
+
+    /// Takes a name behind its number of two bytes. Bytes that are no name are a `BadField`.
+    pub fn name(&mut self) -> Result<Name, CodecError>
+        ensures { ReadsField name (λ x. x) self.old self.new result }
+    {
+        let rest = self.rest;
+        match read::name_of(rest) {
             Ok((field, rest)) => {
                 self.rest = rest;
                 Ok(field)

@@ -76,6 +76,7 @@ pub fn put_str64(out: &mut Vec<u8>, bytes: &[u8]) -> Result<(), NoMemory>
 }
 
 /// Adds a value: 01 and eight bytes of two's complement, or 02 and its text behind four bytes of length; want of memory as for `put_u8`.
+/// A text of more than `TEXT_LIMIT` bytes isn't read again.
 pub fn put_value(out: &mut Vec<u8>, value: &Value) -> Result<(), NoMemory>
     requires { HasShortText value.now }
     ensures { Appends (value_bytes value.now) out.old.items out.new.items result }

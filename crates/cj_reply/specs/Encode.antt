@@ -6,7 +6,7 @@ use Rattle.cj_model.specs.declared.answer.Reply.TheVariants.{Done, Rows, Stats, 
 use Rattle.cj_model.specs.declared.limits.TheConstants.{FRAME_LIMIT}
 use Rattle.cj_model.specs.Wire.Replies.{reply_bytes, reply_length, IsEven}
 use Rattle.cj_reply.specs.declared.reply.ReplyError.{ReplyError}
-use Rattle.cj_reply.specs.declared.reply.ReplyError.TheVariants.{TooLarge, NoMemory}
+use Rattle.cj_reply.specs.declared.reply.ReplyError.TheVariants.{TooLarge, Malformed, NoMemory}
 
 -- a number as a u64 that stays at its largest
 abbrev pub capped : ℕ → ℕ
@@ -23,4 +23,5 @@ IsSendable (Refused r) = Unit {0}
 abbrev pub Encodes : Reply → Result (Vec ℕ) ReplyError → Type 0
 Encodes reply (Ok frame) = (frame.items ≡ reply_bytes reply) × (reply_length reply ≤ FRAME_LIMIT)
 Encodes reply (Err (TooLarge n)) = (FRAME_LIMIT < reply_length reply) × (n ≡ capped (reply_length reply))
+Encodes reply (Err Malformed) = ⊥
 Encodes reply (Err NoMemory) = reply_length reply ≤ FRAME_LIMIT

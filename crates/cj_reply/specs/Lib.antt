@@ -1,1 +1,4 @@
 pub mod Encode
+pub mod Decode
+pub mod Laws
+pub mod Proving

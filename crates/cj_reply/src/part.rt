@@ -6,6 +6,7 @@ ghost use Rattle.cj_model.specs.Wire.Fields.{str16};
 ghost use Rattle.cj_model.specs.Wire.Replies.{value_bytes};
 ghost use Rattle.cj_reply.specs.Encode.{capped};
 
+use cj_codec::{put_str16, put_value};
 use cj_model::{FRAME_LIMIT, ListOf, Name, NoMemory, Value};
 
 /// A part of a payload: a name behind its length, a value behind its kind, or a list of such parts.
@@ -30,10 +31,7 @@ impl Part for Name {
     }
 
     fn append(&self, frame: &mut Vec<u8>) -> Result<(), NoMemory> {
-        let name = self.as_slice();
-        frame.extend_from_slice(&(name.len() as u16).to_be_bytes())?;
-        frame.extend_from_slice(name)?;
-        Ok(())
+        put_str16(frame, self.as_slice())
     }
 }
 
@@ -48,18 +46,7 @@ impl Part for Value {
     }
 
     fn append(&self, frame: &mut Vec<u8>) -> Result<(), NoMemory> {
-        match self {
-            Value::Int(number) => {
-                frame.push(1)?;
-                frame.extend_from_slice(&number.to_be_bytes())?;
-            }
-            Value::Text(text) => {
-                frame.push(2)?;
-                frame.extend_from_slice(&(text.len() as u32).to_be_bytes())?;
-                frame.extend_from_slice(text.as_slice())?;
-            }
-        }
-        Ok(())
+        put_value(frame, self)
     }
 }
 

@@ -6,16 +6,20 @@ ghost use Rattle.cj_model.specs.declared.answer.Reply.TheVariants.{Done, Rows, S
 ghost use Rattle.cj_reply.specs.Encode.{capped, Encodes, IsSendable};
 
 use crate::part::Part;
+use cj_codec::{put_u8, put_u16, put_u32};
 use cj_model::{Answer, FRAME_LIMIT, NoMemory, Refusal, Reply};
 use std::alloc::Global;
 use thiserror::Error;
 
-/// Why a reply has no frame.
+/// Why a reply has no frame, or bytes are no reply's.
 #[derive(Clone, Copy, Debug, PartialEq, Eq, Error)]
 pub enum ReplyError {
     /// Kind and payload have so many bytes, or 2^64-1 where there are more.
     #[error("a reply of {0} bytes")]
     TooLarge(u64),
+    /// The bytes are not the frame of a reply.
+    #[error("no frame of a reply")]
+    Malformed,
     #[error("out of memory")]
     NoMemory,
 }
@@ -84,12 +88,11 @@ fn append_answer(frame: &mut Vec<u8>, answer: &Answer) -> Result<(), NoMemory>
     requires size { reply_length (Rows answer.now) ≤ FRAME_LIMIT }
     ensures { OnOk result (frame.new.items ≡ frame.old.items ++ reply_body (Rows answer.now)) }
 {
-    frame.push(0x82)?;
-    frame.extend_from_slice(&(answer.columns.len() as u16).to_be_bytes())?;
+    put_u8(frame, 0x82)?;
+    put_u16(frame, answer.columns.len() as u16)?;
     answer.columns.append(frame)?;
-    frame.extend_from_slice(&(answer.rows.len() as u32).to_be_bytes())?;
-    answer.rows.append(frame)?;
-    Ok(())
+    put_u32(frame, answer.rows.len() as u32)?;
+    answer.rows.append(frame)
 }
 
 /// The frame of an answer that has so many bytes of kind and payload.
@@ -100,7 +103,7 @@ fn answer_frame(alloc: Global, answer: &Answer, size: u32) -> Result<Vec<u8>, No
     ensures { IfOk result (λ frame. frame.items ≡ reply_bytes (Rows answer.now)) }
 {
     let mut frame = Vec::with_capacity(alloc, 4 + size as usize)?;
-    frame.extend_from_slice(&size.to_be_bytes())?;
+    put_u32(&mut frame, size)?;
     append_answer(&mut frame, answer)?;
     Ok(frame)
 }

@@ -32,6 +32,7 @@ sends_rows r a is = subst (λ (x : Reply). reply_length x ≤ FRAME_LIMIT → Se
 -- what is sent where rows have no frame
 in_place : (a : Answer) (e : ReplyError) → Encodes (Rows a) (Err e) → SendsReply (Rows a) (Refused (refusal_in_place e))
 in_place a (errors.TooLarge size) large = inr (inl (large.0, ap (λ (n : ℕ). Refused (record { code = TOO_LARGE; a = n; b = 0 })) large.1))
+in_place a errors.Malformed never = absurd never
 in_place a errors.NoMemory starved = inr (inr refl)
 
 pub sends_in_place : (held held' : Option (List ℕ)) (r : Reply) (e : ReplyError) (refusal : Refusal) (result : Result (Unit {0}) OutError) → (a : Answer) × (r ≡ Rows a) → Encodes r (Err e)

@@ -27,7 +27,8 @@ fn refusal_in_place(error: ReplyError) -> Refusal
             a: size,
             b: 0,
         },
-        ReplyError::NoMemory => Refusal::of_code(NO_MEMORY),
+        // No reply is malformed: that error is one of decoding.
+        ReplyError::Malformed | ReplyError::NoMemory => Refusal::of_code(NO_MEMORY),
     }
 }
 

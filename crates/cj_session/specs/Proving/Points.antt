@@ -25,6 +25,7 @@ use Rattle.cj_session.specs.Serving.{ReachesEnd}
 -- what stands in the place of a reply that has no frame
 abbrev pub refusal_in_place : ReplyError → Refusal
 refusal_in_place (errors.TooLarge size) = record { code = TOO_LARGE; a = size; b = 0 }
+refusal_in_place errors.Malformed = refusal_of_code NO_MEMORY
 refusal_in_place errors.NoMemory = refusal_of_code NO_MEMORY
 
 -- what stands for the reply was written whole, or at an error a front of it
