@@ -41,9 +41,9 @@ use cj_backend::Backend;
 use cj_book::{Book, BookError};
 use cj_cluster::{Did, Event, Move, Moved, OpenRead, OpenSession};
 use cj_model::{
-    Act, Asked, BACKEND_LIMIT, Db, Duplicate, Entry, HISTORY_FULL, NoMemory, Outcome, REQUEST_LIMIT,
-    Refusal, Reply, SESSION_LIMIT, SESSION_NUMBER_LIMIT, SESSIONS_FULL, STARVED_ALL, Same, Select,
-    Text, UNFINISHED, USER_LIMIT, with_bit,
+    Act, Asked, BACKEND_LIMIT, Db, Duplicate, Entry, HISTORY_FULL, NoMemory, Outcome,
+    REQUEST_LIMIT, Refusal, Reply, SESSION_LIMIT, SESSION_NUMBER_LIMIT, SESSIONS_FULL, STARVED_ALL,
+    Same, Select, Text, UNFINISHED, USER_LIMIT, with_bit,
 };
 use cj_place::Placement;
 use cj_replica::{Cell, CellError};
@@ -730,7 +730,9 @@ impl<B: Backend> World<B> {
         let least = self.least(s);
         let number = self.read_number(s);
         self.book.take_spare()?;
-        let login = self.accounts.mapped(asking_user(&self.sessions, s, user), b);
+        let login = self
+            .accounts
+            .mapped(asking_user(&self.sessions, s, user), b);
         match self.cells[b as usize].read(login, tx, select, least) {
             Ok(answered) => Ok(answered),
             Err(error) => Err(noted(&mut self.book, s, number, b, error)),

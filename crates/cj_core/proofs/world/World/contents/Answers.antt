@@ -19,6 +19,9 @@ within n b cells is lt = subst (λ (m : ℕ). b < m) (sym is ∙ length-map cell
 asked_alike : (x y : CellState) → y ≡ record x { faults = y.faults; arming = y.arming } → y ≡ record x { login = y.login; faults = y.faults; asks = y.asks; arming = y.arming }
 asked_alike x y is = subst (λ (z : CellState). z ≡ record x { login = z.login; faults = z.faults; asks = z.asks; arming = z.arming }) (sym is) refl
 
+same_login : (x y : CellState) → y ≡ record x { faults = y.faults; arming = y.arming } → y.login ≡ x.login
+same_login x y is = ap (λ (z : CellState). z.login) is
+
 pub invariant_of-self : goal.invariant_of-self
 invariant_of-self g c =
     let w = c.self.inside in
@@ -66,5 +69,5 @@ returns-clause-logins g c =
     let x : CellState = c.index_mut.result.now in
     let y : CellState = c.contents.new.self in
     let is : get_or w.cells.items c.args.b y ≡ x = get_or_default w.cells.items c.args.b y x lt ∙ sym c.index_mut.ensures.value in
-    let same = ap (λ (z : CellState). z.login) c.contents.ensures.same ∙ ap (λ (z : CellState). z.login) (sym is) in
+    let same = same_login x y c.contents.ensures.same ∙ ap (λ (z : CellState). z.login) (sym is) in
     logins_same w.cells.items c.args.b y lt same ∙ ap (λ (z : WorldState). logins_of z.cells) c.self.view_is
