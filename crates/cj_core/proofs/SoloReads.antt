@@ -189,7 +189,8 @@ module _ (tells : Bool) (s tx : ℕ) (user : List ℕ) (select : Select) (old no
   unserved reply none is =
       let serves_none : (b : ℕ) → CanServe old.core.placement old.core.history (request.Select select) b → ⊥ =
       λ b can. both_ways (in_mask serving b) (ap (λ (m : ℕ). in_mask m b) none ∙ has-zero b) ((serves b).0 can)
-      in (
+      in
+      (
         turn_unserved tells old.core.placement s (seen_at old.core s) now.core.history so_far.sound.legal (map (ReadFailed s ((session_at old.core s).queries + 1)) so_far.failed, sym grown) (session_owes old.core s w) rested (call reply) in_own is
             (refl, λ b on. never_true (hosts_all old.core.placement b (needs (request.Select select))) (λ hosts. serves_none b (still_serves b (on, hosts)))),
         no_answer (call reply) (record { front = now.core.history; least = (session_at old.core s).least }) (refusal_of_code NO_BACKEND) is (no_code NO_BACKEND (inl (omega arith))),

@@ -32,7 +32,14 @@ fn reply_of(answer: Asked) -> Reply
 impl<B: Backend> World<B> {
     /// Asks one backend. None where it failed, so that another may be asked.
     #[tactic(auto, using(crate::proofs::SoloTurns::stands_idle))]
-    fn attempt(&mut self, s: u64, b: u8, user: &Text, tx: u64, select: &Select) -> Option<Reply>
+    fn attempt(
+        &mut self,
+        s: u64,
+        b: u8,
+        user: &Text,
+        tx: u64,
+        select: &Select,
+    ) -> Option<Reply>
         requires within { b < self.old.core.placement.backends }
         requires stands { StandsBetweenCalls self.old.core s }
         requires serves { CanServe self.old.core.placement self.old.core.history (requests.Select select.now) b }

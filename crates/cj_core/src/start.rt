@@ -65,7 +65,11 @@ fn backends_of<B: Backend + Drop>(mut cells: Vec<Cell<B>>, mut backends: Vec<B>)
 impl<B: Backend + Drop> World<B> {
     /// The core over these backends, which are all enabled, with no session open. Where there is
     /// no memory for it, the backends are dropped.
-    pub fn start(alloc: Global, parts: Parts, backends: Backends<B>) -> Result<World<B>, NoMemory>
+    pub fn start(
+        alloc: Global,
+        parts: Parts,
+        backends: Backends<B>,
+    ) -> Result<World<B>, NoMemory>
         requires as_many { length backends ≡ length parts.book.placement.names }
         requires registered { parts.accounts.backends ≡ length parts.book.placement.names }
         requires empty { AreEmpty B.TELLS (map B.told backends) }
