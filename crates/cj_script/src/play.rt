@@ -84,8 +84,8 @@ fn play_line<B: Backend, O: Sink>(
     output: &mut O,
 ) -> Result<(), ScriptEnd>
     requires { 2 ≤ length line.now → CanCountRequests world.old.core 1 }
-    ensures plays { PlaysOrEnds B.TELLS B.can_be_armed world.old.names (O.held output.old) (O.held output.new) world.old line.now number result world.new }
-    ensures names { world.new.names ≡ world.old.names }
+    ensures plays { PlaysOrEnds B.TELLS B.can_be_armed world.old.setup.names (O.held output.old) (O.held output.new) world.old line.now number result world.new }
+    ensures setup { world.new.setup ≡ world.old.setup }
     ensures cause { CountsFault (IsErrOf result ends.WriteFault) (O.faults output.old) (O.faults output.new) }
 {
     if line.is_empty() {
@@ -119,9 +119,9 @@ pub fn script<B: Backend, I: Source, O: Sink>(
     output: &mut O,
 ) -> ScriptEnd
     requires { CanCountRequests world.old.core (2 ^ 61) }
-    ensures came { CameTo B.TELLS B.can_be_armed world.old.names (I.left input.old) (I.left input.new) (O.held output.old) (O.held output.new) world.old result world.new }
-    ensures turns { InTurns B.TELLS world.old.names (I.left input.old) (I.left input.new) (O.held output.old) (O.held output.new) world.old world.new }
-    ensures names { world.new.names ≡ world.old.names }
+    ensures came { CameTo B.TELLS B.can_be_armed world.old.setup.names (I.left input.old) (I.left input.new) (O.held output.old) (O.held output.new) world.old result world.new }
+    ensures turns { InTurns B.TELLS world.old.setup.names (I.left input.old) (I.left input.new) (O.held output.old) (O.held output.new) world.old world.new }
+    ensures setup { world.new.setup ≡ world.old.setup }
     ensures input { CountsFault (result ≡ ends.ReadFault) (I.faults input.old) (I.faults input.new) }
     ensures output { CountsFault (result ≡ ends.WriteFault) (O.faults output.old) (O.faults output.new) }
 {
