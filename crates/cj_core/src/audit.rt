@@ -1,6 +1,6 @@
 //! The audit of a world: what its enabled backends hold.
 
-ghost use Rattle.std.specs.Prelude.{◌≡◌, ◌<◌, ◌++◌, ℕ, true, IfOk, IsErrOf, OnOk};
+ghost use Rattle.std.specs.Prelude.{◌≡◌, ◌<◌, ◌++◌, ℕ, true, IfOk, IsErrOf, None, OnOk};
 ghost use Rattle.cj_audit.specs.Audits.{StaysText};
 ghost use Rattle.cj_cluster.specs.History.Histories as histories;
 ghost use Rattle.cj_cluster.specs.History.Histories.{is_idle};
@@ -54,6 +54,7 @@ impl<B: Backend> World<B> {
         requires idle { is_idle self.old.core.history ≡ true }
         ensures lines { OnOk result (B.TELLS ≡ true → text.new.items ≡ text.old.items ++ lines_at self.old.setup.names self.old.core b) }
         ensures text { OnOk result (StaysText text.old.items text.new.items) }
+        ensures same { failed_audit result ≡ None → self.new ≡ self.old }
         ensures faults { faults_of self.new.cells ≡ faults_after (faults_of self.old.cells) (failed_audit result) }
         ensures enabled { (k : ℕ) → IsErrOf result (AuditError.Fault k) → histories.is_enabled self.old.core.history k ≡ true }
         ensures core { self.new.core ≡ self.old.core }
@@ -79,6 +80,7 @@ impl<B: Backend> World<B> {
     pub fn audit(&mut self) -> Result<Text, AuditError>
         requires { is_idle self.old.core.history ≡ true }
         ensures text { IfOk result (λ text. B.TELLS ≡ true → text ≡ audit_text self.old.setup.names self.old.core) }
+        ensures same { failed_audit result ≡ None → self.new ≡ self.old }
         ensures faults { faults_of self.new.cells ≡ faults_after (faults_of self.old.cells) (failed_audit result) }
         ensures enabled { (b : ℕ) → IsErrOf result (AuditError.Fault b) → histories.is_enabled self.old.core.history b ≡ true }
         ensures core { self.new.core ≡ self.old.core }

@@ -730,9 +730,7 @@ impl<B: Backend> World<B> {
         let least = self.least(s);
         let number = self.read_number(s);
         self.book.take_spare()?;
-        let login = self
-            .accounts
-            .mapped(asking_user(&self.sessions, s, user), b);
+        let login = self.accounts.mapped(asking_user(&self.sessions, s, user), b);
         match self.cells[b as usize].read(login, tx, select, least) {
             Ok(answered) => Ok(answered),
             Err(error) => Err(noted(&mut self.book, s, number, b, error)),
@@ -744,6 +742,7 @@ impl<B: Backend> World<B> {
     pub(crate) fn contents(&mut self, b: u8) -> Result<Db, CellError>
         requires { b < self.old.core.placement.backends }
         ensures held { IfOk result (IsHeld B.TELLS self.old.core b) }
+        ensures same { failed_contents b result ≡ None → self.new ≡ self.old }
         ensures core { self.new.core ≡ self.old.core }
         ensures faults { faults_of self.new.cells ≡ faults_after (faults_of self.old.cells) (failed_contents b result) }
         ensures armings { armings_of self.new.cells ≡ armings_of self.old.cells }

@@ -7,6 +7,7 @@ use Rattle.cj_core.proofs.world.World.audit.Goals as goal
 pub loop-b-init : goal.loop-b-init
 loop-b-init g c =
     record {
+      same = refl;
       core = refl;
       setup = refl;
       faults = refl;
@@ -21,6 +22,7 @@ loop-b-preserved g c =
     let before = c.loop-b.invariant in
     let added = c.in_ok-audit_backend.ensures in
     record {
+      same = added.same refl ∙ before.same;
       core = added.core ∙ before.core;
       setup = added.setup ∙ before.setup;
       faults = added.faults ∙ before.faults;

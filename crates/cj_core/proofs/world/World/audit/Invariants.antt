@@ -10,6 +10,7 @@ use Rattle.cj_core.proofs.world.World.audit.Given as goal
 abbrev pub invariant-loop-b : goal.invariant-loop-b
 invariant-loop-b g l =
     record {
+      same : l.self ≡ l.fn.self;
       core : l.self.core ≡ l.fn.self.core;
       setup : l.self.setup ≡ l.fn.self.setup;
       faults : faults_of l.self.cells ≡ faults_of l.fn.self.cells;

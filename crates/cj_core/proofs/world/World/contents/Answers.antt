@@ -1,14 +1,14 @@
-use Rattle.std.proofs.Common.{◌≡◌, ◌<◌, ℕ, true, false, cond, Option, List, length, map, get_or, ap, sym, refl, ◌∙◌, subst}
-use Rattle.std.proofs.lemmas.List.{length-map, get_or_default}
+use Rattle.std.proofs.Common.{◌≡◌, ◌<◌, ℕ, true, false, cond, Option, List, length, map, get_or, set, ap, sym, refl, ◌∙◌, subst}
+use Rattle.std.proofs.lemmas.List.{length-map, get_or_default, set-get_or}
 use Rattle.cj_outside.specs.Causes.{next}
 use Rattle.cj_replica.specs.Cells.{CellState}
-use Rattle.cj_core.specs.Worlds.{WorldState}
+use Rattle.cj_core.specs.Worlds.{WorldState, world_of}
 use Rattle.cj_core.specs.Counting.{faults_of, faults_after}
 use Rattle.cj_core.specs.Logins.{logins_of}
 use Rattle.cj_core.specs.Armings.{armings_of}
 use Rattle.cj_core.specs.Audits.{failed_contents}
 use Rattle.cj_core.proofs.Asking.{kept_asked, same_core}
-use Rattle.cj_core.proofs.Auditing.{contents_fault}
+use Rattle.cj_core.proofs.Auditing.{contents_fault, contents_same}
 use Rattle.cj_core.proofs.Counted.{armings_set, counts_set, logins_same, spent_times}
 use Rattle.cj_core.proofs.world.World.contents.Goals as goal
 
@@ -71,3 +71,12 @@ returns-clause-logins g c =
     let is : get_or w.cells.items c.args.b y ≡ x = get_or_default w.cells.items c.args.b y x lt ∙ sym c.index_mut.ensures.value in
     let same = same_login x y c.contents.ensures.same ∙ ap (λ (z : CellState). z.login) (sym is) in
     logins_same w.cells.items c.args.b y lt same ∙ ap (λ (z : WorldState). logins_of z.cells) c.self.view_is
+
+pub returns-clause-same : goal.returns-clause-same
+returns-clause-same g c none =
+    let w = c.self.inside in
+    let x : CellState = c.index_mut.result.now in
+    let y : CellState = c.contents.new.self in
+    let cell : y ≡ x = contents_same c.args.b c.contents.result x y none c.contents.ensures.cause c.contents.ensures.arming c.contents.ensures.same in
+    let cells : set w.cells.items c.args.b y ≡ w.cells.items = ap (set w.cells.items c.args.b) (cell ∙ c.index_mut.ensures.value) ∙ set-get_or w.cells.items c.args.b x in
+    ap (λ (xs : List CellState). world_of w.accounts w.book.layout w.book.history xs w.failed w.starved w.sessions w.book.greatest) cells ∙ c.self.view_is
