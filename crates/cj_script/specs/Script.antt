@@ -19,6 +19,7 @@ use Rattle.cj_core.specs.Worlds.{WorldState}
 use Rattle.cj_core.specs.Armings.{HasArmings, armings_of}
 use Rattle.cj_core.specs.Audits.{audit_text}
 use Rattle.cj_core.specs.Counting.{HasCauses, blamed, faults_after, faults_of}
+use Rattle.cj_core.specs.Logins.{logins_of}
 use Rattle.cj_core.specs.Played.{given_of}
 use Rattle.cj_script.specs.declared.play.ScriptEnd.{ScriptEnd}
 use Rattle.cj_script.specs.declared.play.ScriptEnd.TheVariants.{Done, Line, ReadFault, WriteFault, Spent, NoMemory}
@@ -52,12 +53,14 @@ abbrev pub GivesAudit : Bool → List (List ℕ) → Core → Option ℕ → Lis
 GivesAudit tells names c None written = tells ≡ true → written ≡ audit_text names c
 GivesAudit tells names c (Some b) written = (is_enabled c.history b ≡ true) × (written ≡ with_line_feed (codes "failed"))
 
--- No entry is open: the enabled backends are asked what they hold, until one fails, which it counts. Else nothing is done.
+-- No entry is open: the enabled backends are asked what they hold, until one fails, which it counts. No login is used, no backend is armed, and where none fails nothing is done.
 pub record AuditsNow (tells : Bool) (names : List (List ℕ)) (c : WorldState) (failed : Option ℕ) (written : List ℕ) (z : WorldState) : Type 0 where
   pub idle : is_idle c.core.history ≡ true
   pub core : z.core ≡ c.core
   pub faults : faults_of z.cells ≡ faults_after (faults_of c.cells) failed
+  pub logins : logins_of z.cells ≡ logins_of c.cells
   pub armings : armings_of z.cells ≡ armings_of c.cells
+  pub same : failed ≡ None → z ≡ c
   pub gives : GivesAudit tells names c.core failed written
 
 -- the line asks for an audit, and this is what it gives, now or not now

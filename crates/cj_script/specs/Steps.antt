@@ -49,7 +49,8 @@ PlaysOrEnds tells armable names held held' c line number (Err WriteFault) z = Ma
 PlaysOrEnds tells armable names held held' c line number (Err Spent) z = ⊥
 PlaysOrEnds tells armable names held held' c line number (Err NoMemory) z = Stays held held' c z ⊎ MakesInPart tells armable names held held' c line z
 
--- the end of a script where what a step gives could not be written
-abbrev pub end_of : OutError → ScriptEnd
-end_of out_errors.Failed = WriteFault
-end_of out_errors.NoMemory = NoMemory
+-- the lines that a line gives were written, or the script ends where they were not
+abbrev pub written_or_end : Result (Unit {0}) OutError → Result (Unit {0}) ScriptEnd
+written_or_end (Ok _) = Ok tt
+written_or_end (Err out_errors.Failed) = Err WriteFault
+written_or_end (Err out_errors.NoMemory) = Err NoMemory

@@ -76,13 +76,14 @@ fn write_made<O: Sink>(
     }
 }
 
-/// How a script ends where the lines of a step could not be written.
-fn end_of(error: OutError) -> ScriptEnd
-    ensures { result ≡ steps.end_of error }
+/// How a line ends of which the lines that it gives were written, or were not.
+fn written_or_end(written: Result<(), OutError>) -> Result<(), ScriptEnd>
+    ensures { result ≡ steps.written_or_end written }
 {
-    match error {
-        OutError::Failed => ScriptEnd::WriteFault,
-        OutError::NoMemory => ScriptEnd::NoMemory,
+    match written {
+        Ok(()) => Ok(()),
+        Err(OutError::Failed) => Err(ScriptEnd::WriteFault),
+        Err(OutError::NoMemory) => Err(ScriptEnd::NoMemory),
     }
 }
 
@@ -101,19 +102,13 @@ fn play_audit<B: Backend, O: Sink>(
             reason: Reason::EntryOpen,
             value: number,
         };
-        return match write_made(alloc, world.placement().names(), &Made::NotNow(why), output) {
-            Ok(()) => Ok(()),
-            Err(error) => Err(end_of(error)),
-        };
+        let made = Made::NotNow(why);
+        return written_or_end(write_made(alloc, world.placement().names(), &made, output));
     }
-    let written = match world.audit() {
-        Ok(text) => write_all(output, text.as_slice()),
-        Err(AuditError::Fault(_)) => write_all(output, b"failed\n"),
-        Err(AuditError::NoMemory) => return Err(ScriptEnd::NoMemory),
-    };
-    match written {
-        Ok(()) => Ok(()),
-        Err(error) => Err(end_of(error)),
+    match world.audit() {
+        Ok(text) => written_or_end(write_all(output, text.as_slice())),
+        Err(AuditError::Fault(_)) => written_or_end(write_all(output, b"failed\n")),
+        Err(AuditError::NoMemory) => Err(ScriptEnd::NoMemory),
     }
 }
 
@@ -145,10 +140,7 @@ fn play_line<B: Backend, O: Sink>(
     let Ok(made) = world.make(m) else {
         return Err(ScriptEnd::NoMemory);
     };
-    match write_made(alloc, world.placement().names(), &made, output) {
-        Ok(()) => Ok(()),
-        Err(error) => Err(end_of(error)),
-    }
+    written_or_end(write_made(alloc, world.placement().names(), &made, output))
 }
 
 /// Plays the lines of the source, each a move on the world or an audit of it, and writes what they come to. Backends go by the names that the
