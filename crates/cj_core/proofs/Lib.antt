@@ -1,4 +1,5 @@
 pub mod Asking
+pub mod Auditing
 pub mod Catching
 pub mod CellsKept
 pub mod Counted

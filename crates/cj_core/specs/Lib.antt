@@ -1,4 +1,5 @@
 pub mod Armings
+pub mod Audits
 pub mod Counting
 pub mod Effects
 pub mod Kept

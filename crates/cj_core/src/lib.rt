@@ -2,6 +2,7 @@
 //! every list of moves.
 #![tactic(auto)]
 
+mod audit;
 mod cells;
 mod emptied;
 mod movers;
@@ -15,6 +16,7 @@ mod start;
 mod transactions;
 mod world;
 
+pub use audit::AuditError;
 pub use solo::Solo;
 pub use start::{Backends, Parts};
 pub use world::World;

@@ -22,6 +22,7 @@ ghost use Rattle.cj_core.specs.Worlds.{accounts_of, IsWorld};
 ghost use Rattle.cj_place.specs.Layouts.{placement_of};
 ghost use Rattle.cj_core.specs.Starts.{AreEmpty, AreFresh, started_to};
 ghost use Rattle.cj_core.specs.Armings.{armed_at, armings_after, armings_of};
+ghost use Rattle.cj_core.specs.Audits.{failed_contents, IsHeld};
 ghost use Rattle.cj_core.specs.Logins.{asked_for, login_to_take, logins_of, LogsInToAsk, LogsInToTake};
 ghost use Rattle.cj_core.specs.Solos.{own_entry};
 ghost use Rattle.cj_core.specs.Counting.{did_fail, faults_after, faults_of};
@@ -38,12 +39,12 @@ use cj_backend::Backend;
 use cj_book::{Book, BookError};
 use cj_cluster::{Did, Event, Move, Moved, OpenRead, OpenSession};
 use cj_model::{
-    Act, Asked, BACKEND_LIMIT, Duplicate, Entry, HISTORY_FULL, NoMemory, Outcome, REQUEST_LIMIT,
-    Refusal, Reply, SESSION_LIMIT, SESSION_NUMBER_LIMIT, SESSIONS_FULL, STARVED_ALL, Same, Select,
-    Text, UNFINISHED, USER_LIMIT, with_bit,
+    Act, Asked, BACKEND_LIMIT, Db, Duplicate, Entry, HISTORY_FULL, NoMemory, Outcome,
+    REQUEST_LIMIT, Refusal, Reply, SESSION_LIMIT, SESSION_NUMBER_LIMIT, SESSIONS_FULL, STARVED_ALL,
+    Same, Select, Text, UNFINISHED, USER_LIMIT, with_bit,
 };
 use cj_place::Placement;
-use cj_replica::Cell;
+use cj_replica::{Cell, CellError};
 use std::alloc::Global;
 use std::marker::Model;
 
@@ -734,6 +735,21 @@ impl<B: Backend> World<B> {
             Ok(answered) => Ok(answered),
             Err(error) => Err(noted(&mut self.book, s, number, b, error)),
         }
+    }
+
+    /// What the backend holds, drafts included, as it says where it is asked. Nothing is changed by it but
+    /// its faults and its arming.
+    pub(crate) fn contents(&mut self, b: u8) -> Result<Db, CellError>
+        requires { b < self.old.core.placement.backends }
+        ensures held { IfOk result (IsHeld B.TELLS self.old.core b) }
+        ensures same { failed_contents b result ≡ None → self.new ≡ self.old }
+        ensures core { self.new.core ≡ self.old.core }
+        ensures faults { faults_of self.new.cells ≡ faults_after (faults_of self.old.cells) (failed_contents b result) }
+        ensures armings { armings_of self.new.cells ≡ armings_of self.old.cells }
+        ensures logins { logins_of self.new.cells ≡ logins_of self.old.cells }
+        ensures setup { self.new.setup ≡ self.old.setup }
+    {
+        self.cells[b as usize].contents()
     }
 
     /// Arms the backend, if it can be.

@@ -1,11 +1,11 @@
 -- Lines that are not empty: what a move's line is like, and how many there are.
-use Rattle.std.proofs.Common.{◌≡◌, ℕ, ◌+◌, ◌*◌, ◌≤◌, Bool, not, List, [], ◌∷◌, ◌++◌, length, inl, inr, refl, ap, ◌∙◌, arith, length-append}
+use Rattle.std.proofs.Common.{◌≡◌, ℕ, ◌+◌, ◌*◌, ◌≤◌, Bool, not, List, [], ◌∷◌, ◌++◌, length, inl, inr, refl, ap, sym, subst, ◌∙◌, arith, length-append}
 use Rattle.std.proofs.lemmas.List.Elements.{filter-append}
 use Rattle.cj_cluster.specs.declared.moves.Move.{Move}
 use Rattle.cj_cluster.specs.declared.moves.Move.TheVariants.{Open, Close, Schedule, Abort, Apply, End, Read, Arm, Disable, Replay, Enable}
 use Rattle.cj_cluster.specs.Script.Lines.{MoveLine}
 use Rattle.cj_core.specs.Worlds.{WorldState}
-use Rattle.cj_script.specs.Script.{is_empty, filled, PlaysLine}
+use Rattle.cj_script.specs.Script.{audit_line, is_empty, filled, PlaysLine}
 
 -- ---- the line of a move
 
@@ -38,10 +38,18 @@ pub filled_move : (names : List (List ℕ)) (line : List ℕ) (lines : List (Lis
 filled_move names [] lines m reads = absurd (omega (arith, move_line_long names [] m reads))
 filled_move names (b ∷ bytes) lines m reads = refl
 
+-- nor is an audit's
+pub filled_audit : (line : List ℕ) (lines : List (List ℕ)) → line ≡ audit_line → filled (line ∷ lines) ≡ line ∷ filled lines
+filled_audit line lines is = subst (λ (l : List ℕ). filled (l ∷ lines) ≡ l ∷ filled lines) (sym is) refl
+
 -- a line that plays has two bytes at least for each that is not empty
 filled_one : (tells armable : Bool) (names : List (List ℕ)) (c : WorldState) (line written : List ℕ) (z : WorldState) → PlaysLine tells armable names c line written z → 2 * length (filled (line ∷ [])) ≤ length line
 filled_one tells armable names c line written z (inl skips) = let none : length (filled (line ∷ [])) ≡ 0 = ap length (filled_empty line [] skips.empty) in omega arith
-filled_one tells armable names c line written z (inr makes) =
+filled_one tells armable names c line written z (inr (inr (is, audits))) =
+    let one : length (filled (line ∷ [])) ≡ 1 = ap length (filled_audit line [] is) in
+    let long = verb_more line _ _ _ is in
+    omega arith
+filled_one tells armable names c line written z (inr (inl makes)) =
     let one : length (filled (line ∷ [])) ≡ 1 = ap length (filled_move names line [] makes.move makes.reads) in
     let long = move_line_long names line makes.move makes.reads in
     omega arith

@@ -1,5 +1,5 @@
 -- The replies in a script's lines are turns.
-use Rattle.std.proofs.Common.{◌≡◌, ℕ, ◌+◌, ◌<◌, ◌≤◌, ◌^◌, Bool, List, [], ◌∷◌, ◌++◌, length, map, take, drop, All, Option, Err, inl, inr, refl, sym, ap, subst, ◌∙◌, arith, append-nil, codes}
+use Rattle.std.proofs.Common.{◌≡◌, ℕ, ◌+◌, ◌<◌, ◌≤◌, ◌^◌, Bool, List, [], ◌∷◌, ◌++◌, length, take, drop, All, Option, None, Err, inl, inr, sym, ap, subst, ◌∙◌, arith, append-nil, codes}
 use Rattle.std.specs.List.{flat_map}
 use Rattle.std.specs.Str.{bytes_eq}
 use Rattle.std.specs.Io.KnownBytes.{Consumes, Appends}
@@ -13,56 +13,69 @@ use Rattle.cj_outside.specs.Streams.{most}
 use Rattle.cj_outside.proofs.Joined.{appends_then, appends_more}
 use Rattle.cj_cluster.specs.declared.moves.Move.{Move}
 use Rattle.cj_cluster.specs.declared.moves.Move.TheVariants.{Open, Close, Schedule, Abort, Apply, End, Read, Arm, Disable, Replay, Enable}
-use Rattle.cj_cluster.specs.declared.moves.Made.{Made}
-use Rattle.cj_cluster.specs.Moves.Cores.{session_at}
+use Rattle.cj_cluster.specs.Moves.Cores.{Core, session_at}
 use Rattle.cj_cluster.specs.Moves.Runs.{RunsMoves, IsMoveOfCluster, CanCountRequests}
 use Rattle.cj_cluster.specs.Script.Lines.{MoveLine, NamesBackend, moved_lines}
 use Rattle.cj_cluster.proofs.Chains.{run_chained}
 use Rattle.cj_core.specs.Worlds.{WorldState, IsWorld}
-use Rattle.cj_core.specs.Counting.{faults_of}
-use Rattle.cj_core.specs.Played.{given_of, faults_over, HaveCauses}
+use Rattle.cj_core.specs.Counting.{faults_after, faults_of}
 use Rattle.cj_script.specs.declared.play.ScriptEnd.{ScriptEnd}
 use Rattle.cj_script.specs.declared.play.ScriptEnd.TheVariants.{Done, Line as Line', ReadFault, WriteFault, Spent, NoMemory}
-use Rattle.cj_script.specs.Script.{filled, AreMoves, MakesInPart, PlaysLine, Plays, LieIn, InTurns}
+use Rattle.cj_script.specs.Script.{audit_line, filled, moves_in, given_in, step_lines, faults_through, AreSteps, MakesInPart, PlaysLine, Plays, LieIn, InTurns, Step}
+use Rattle.cj_script.specs.Script.Step.{Moves, Audits}
 use Rattle.cj_script.specs.Steps.{ReadsLine, Stays, PlaysOrEnds}
-use Rattle.cj_script.proofs.Filled.{filled_empty, filled_move, filled_more}
+use Rattle.cj_script.proofs.Filled.{filled_audit, filled_empty, filled_move, filled_more}
 use Rattle.cj_script.proofs.Playing.{plays_more, longer, Playing, AtLine}
 
--- ---- lines as moves
+-- ---- lines as steps
 
--- what the lines played, as a list of moves
-record MovesOf (tells : Bool) (names : List (List ℕ)) (c : WorldState) (lines : List (List ℕ)) (written : List ℕ) (z : WorldState) : Type 0 where
-  moves : List Move
-  made : List Made
-  are : AreMoves names (filled lines) moves
-  runs : RunsMoves tells c.core moves (map given_of made) z.core
-  causes : HaveCauses c z moves (map given_of made)
-  gives : written ≡ flat_map (moved_lines names) made
+-- what the lines played, as a list of steps
+record StepsOf (tells : Bool) (names : List (List ℕ)) (c : WorldState) (lines : List (List ℕ)) (written : List ℕ) (z : WorldState) : Type 0 where
+  steps : List Step
+  are : AreSteps names (filled lines) steps
+  runs : RunsMoves tells c.core (moves_in steps) (given_in steps) z.core
+  causes : faults_of z.cells ≡ faults_through (faults_of c.cells) steps
+  gives : written ≡ flat_map (step_lines names) steps
+
+-- an audit, which left the core as it was, and the lines behind it
+audit_on : (tells : Bool) (names : List (List ℕ)) (c : WorldState) (line : List ℕ) (lines : List (List ℕ)) (mid : WorldState) (front rest : List ℕ) (z : WorldState) (failed : Option ℕ)
+    → line ≡ audit_line → mid.core ≡ c.core → faults_of mid.cells ≡ faults_after (faults_of c.cells) failed → StepsOf tells names mid lines rest z → StepsOf tells names c (line ∷ lines) (front ++ rest) z
+audit_on tells names c line lines mid front rest z failed is core faults later = record {
+  steps = Audits failed front ∷ later.steps;
+  are = subst (λ (ls : List (List ℕ)). AreSteps names ls (Audits failed front ∷ later.steps)) (sym (filled_audit line lines is)) (is, later.are);
+  runs = subst (λ (x : Core). RunsMoves tells x (moves_in later.steps) (given_in later.steps) z.core) core later.runs;
+  causes = later.causes ∙ ap (λ (counts : List ℕ). faults_through counts later.steps) faults;
+  gives = ap (λ (t : List ℕ). front ++ t) later.gives ∙ sym (flat_map-cons (step_lines names) (Audits failed front) later.steps);
+}
 
 -- a line, and those behind it
-moves_on : (tells armable : Bool) (names : List (List ℕ)) (c : WorldState) (line : List ℕ) (lines : List (List ℕ)) (mid : WorldState) (front rest : List ℕ) (z : WorldState)
-    → PlaysLine tells armable names c line front mid → MovesOf tells names mid lines rest z → MovesOf tells names c (line ∷ lines) (front ++ rest) z
-moves_on tells armable names c line lines mid front rest z (inl skips) later = record {
-  moves = later.moves;
-  made = later.made;
-  are = subst (λ (ls : List (List ℕ)). AreMoves names ls later.moves) (sym (filled_empty line lines skips.empty)) later.are;
-  runs = subst (λ (x : WorldState). RunsMoves tells x.core later.moves (map given_of later.made) z.core) skips.same later.runs;
-  causes = subst (λ (x : WorldState). HaveCauses x z later.moves (map given_of later.made)) skips.same later.causes;
+steps_on : (tells armable : Bool) (names : List (List ℕ)) (c : WorldState) (line : List ℕ) (lines : List (List ℕ)) (mid : WorldState) (front rest : List ℕ) (z : WorldState)
+    → PlaysLine tells armable names c line front mid → StepsOf tells names mid lines rest z → StepsOf tells names c (line ∷ lines) (front ++ rest) z
+steps_on tells armable names c line lines mid front rest z (inl skips) later = record {
+  steps = later.steps;
+  are = subst (λ (ls : List (List ℕ)). AreSteps names ls later.steps) (sym (filled_empty line lines skips.empty)) later.are;
+  runs = subst (λ (x : WorldState). RunsMoves tells x.core (moves_in later.steps) (given_in later.steps) z.core) skips.same later.runs;
+  causes = later.causes ∙ ap (λ (x : WorldState). faults_through (faults_of x.cells) later.steps) skips.same;
   gives = ap (λ (t : List ℕ). t ++ rest) skips.nothing ∙ later.gives;
 }
-moves_on tells armable names c line lines mid front rest z (inr makes) later = record {
-  moves = makes.move ∷ later.moves;
-  made = makes.made ∷ later.made;
-  are = subst (λ (ls : List (List ℕ)). AreMoves names ls (makes.move ∷ later.moves)) (sym (filled_move names line lines makes.move makes.reads)) (makes.reads, later.are);
+steps_on tells armable names c line lines mid front rest z (inr (inl makes)) later = record {
+  steps = Moves makes.move makes.made ∷ later.steps;
+  are = subst (λ (ls : List (List ℕ)). AreSteps names ls (Moves makes.move makes.made ∷ later.steps)) (sym (filled_move names line lines makes.move makes.reads)) (makes.reads, later.are);
   runs = (mid.core, makes.moves, later.runs);
-  causes = later.causes ∙ ap (λ (faults : List ℕ). faults_over faults later.moves (map given_of later.made)) makes.causes;
-  gives = ap (λ (t : List ℕ). t ++ rest) makes.gives ∙ ap (λ (t : List ℕ). moved_lines names makes.made ++ t) later.gives ∙ sym (flat_map-cons (moved_lines names) makes.made later.made);
+  causes = later.causes ∙ ap (λ (faults : List ℕ). faults_through faults later.steps) makes.causes;
+  gives =
+      ap (λ (t : List ℕ). t ++ rest) makes.gives
+      ∙ ap (λ (t : List ℕ). moved_lines names makes.made ++ t) later.gives ∙ sym (flat_map-cons (step_lines names) (Moves makes.move makes.made) later.steps);
 }
+steps_on tells armable names c line lines mid front rest z (inr (inr (is, inl later_on))) later =
+    audit_on tells names c line lines mid front rest z None is (ap (λ (x : WorldState). x.core) later_on.same) (ap (λ (x : WorldState). faults_of x.cells) later_on.same) later
+steps_on tells armable names c line lines mid front rest z (inr (inr (is, inr (failed, now)))) later =
+    audit_on tells names c line lines mid front rest z failed is now.core now.faults later
 
-moves_of : (tells armable : Bool) (names : List (List ℕ)) (c : WorldState) (lines : List (List ℕ)) (written : List ℕ) (z : WorldState) → Plays tells armable names c lines written z → MovesOf tells names c lines written z
-moves_of tells armable names c [] written z h = record { moves = []; made = []; are = tt; runs = ap (λ (x : WorldState). x.core) (sym h.1); causes = ap (λ (x : WorldState). faults_of x.cells) h.1; gives = h.0 }
-moves_of tells armable names c (line ∷ lines) written z (mid, front, rest, first, others, is) =
-    subst (λ (t : List ℕ). MovesOf tells names c (line ∷ lines) t z) (sym is) (moves_on tells armable names c line lines mid front rest z first (moves_of tells armable names mid lines rest z others))
+steps_of : (tells armable : Bool) (names : List (List ℕ)) (c : WorldState) (lines : List (List ℕ)) (written : List ℕ) (z : WorldState) → Plays tells armable names c lines written z → StepsOf tells names c lines written z
+steps_of tells armable names c [] written z h = record { steps = []; are = tt; runs = ap (λ (x : WorldState). x.core) (sym h.1); causes = ap (λ (x : WorldState). faults_of x.cells) h.1; gives = h.0 }
+steps_of tells armable names c (line ∷ lines) written z (mid, front, rest, first, others, is) =
+    subst (λ (t : List ℕ). StepsOf tells names c (line ∷ lines) t z) (sym is) (steps_on tells armable names c line lines mid front rest z first (steps_of tells armable names mid lines rest z others))
 
 -- ---- what the moves ask for
 
@@ -86,17 +99,20 @@ line_move names n line (Disable b) as_many h = named_within names n line (codes 
 line_move names n line (Replay b) as_many h = named_within names n line (codes "replay") b as_many h
 line_move names n line (Enable b) as_many h = named_within names n line (codes "enable") b as_many h
 
-lines_move : (names : List (List ℕ)) (n : ℕ) (lines : List (List ℕ)) (moves : List Move) → length names ≡ n → AreMoves names lines moves → All (IsMoveOfCluster n) moves
+lines_move : (names : List (List ℕ)) (n : ℕ) (lines : List (List ℕ)) (steps : List Step) → length names ≡ n → AreSteps names lines steps → All (IsMoveOfCluster n) (moves_in steps)
 lines_move names n [] [] as_many h = All-nil (IsMoveOfCluster n)
-lines_move names n (line ∷ lines) (m ∷ moves) as_many h = All-cons (IsMoveOfCluster n) m moves (line_move names n line m as_many h.0) (lines_move names n lines moves as_many h.1)
-lines_move names n [] (m ∷ moves) as_many h = absurd h
+lines_move names n (line ∷ lines) (Moves m made ∷ steps) as_many h =
+    All-cons (IsMoveOfCluster n) m (moves_in steps) (line_move names n line m as_many h.0) (lines_move names n lines steps as_many h.1)
+lines_move names n (line ∷ lines) (Audits failed text ∷ steps) as_many h = lines_move names n lines steps as_many h.1
+lines_move names n [] (step ∷ steps) as_many h = absurd h
 lines_move names n (line ∷ lines) [] as_many h = absurd h
 
--- there are as many as lines
-moves_length : (names : List (List ℕ)) (lines : List (List ℕ)) (moves : List Move) → AreMoves names lines moves → length moves ≡ length lines
-moves_length names [] [] h = refl
-moves_length names (line ∷ lines) (m ∷ moves) h = let rest = moves_length names lines moves h.1 in omega arith
-moves_length names [] (m ∷ moves) h = absurd h
+-- there are at most as many as lines
+moves_length : (names : List (List ℕ)) (lines : List (List ℕ)) (steps : List Step) → AreSteps names lines steps → length (moves_in steps) ≤ length lines
+moves_length names [] [] h = omega arith
+moves_length names (line ∷ lines) (Moves m made ∷ steps) h = let rest = moves_length names lines steps h.1 in omega arith
+moves_length names (line ∷ lines) (Audits failed text ∷ steps) h = let rest = moves_length names lines steps h.1 in omega arith
+moves_length names [] (step ∷ steps) h = absurd h
 moves_length names (line ∷ lines) [] h = absurd h
 
 -- ---- turns
@@ -106,25 +122,22 @@ module _ (tells armable : Bool) (names : List (List ℕ)) (c : WorldState) (worl
   in_turns : (left left' held held' : Option (List ℕ)) (taken : List ℕ) (lines : List (List ℕ)) (rest written : List ℕ) (count : ℕ) (z : WorldState) → Consumes left left' taken → LieIn left' taken lines rest
       → Plays tells armable names c lines written z → length (filled lines) ≤ 2 ^ 61 → Appends held held' (take count written) → InTurns tells names left left' held held' c z
   in_turns left left' held held' taken lines rest written count z consumed lie plays few appended =
-      let q = moves_of tells armable names c lines written z plays in
-      let same = moves_length names (filled lines) q.moves q.are in
-      let once : CanCountRequests c.core (length q.moves) = λ s. (let room = can s in let le : (session_at c.core s).queries + length q.moves ≤ 2 ^ 62 = omega arith in le) in
+      let q = steps_of tells armable names c lines written z plays in
+      let same = moves_length names (filled lines) q.steps q.are in
+      let once : CanCountRequests c.core (length (moves_in q.steps)) = λ s. (let room = can s in let le : (session_at c.core s).queries + length (moves_in q.steps) ≤ 2 ^ 62 = omega arith in le) in
       record {
         taken = taken;
         lines = lines;
         rest = rest;
         consumed = consumed;
         lie = lie;
-        moves = q.moves;
-        made = q.made;
+        steps = q.steps;
         are = q.are;
         count = count;
         appended = subst (λ (t : List ℕ). Appends held held' (take count t)) q.gives appended;
-        run = record {
-          runs = q.runs;
-          chains = run_chained tells c.core q.moves (map given_of q.made) z.core world.sound (lines_move names c.core.placement.backends (filled lines) q.moves as_many q.are) once q.runs;
-          causes = q.causes;
-        };
+        runs = q.runs;
+        chains = run_chained tells c.core (moves_in q.steps) (given_in q.steps) z.core world.sound (lines_move names c.core.placement.backends (filled lines) q.steps as_many q.are) once q.runs;
+        causes = q.causes;
       }
 
   -- between two lines
@@ -163,19 +176,20 @@ turns_longer tells names left mid left' held held' c z more q next =
       rest = q.rest ++ more;
       consumed = l.consumed;
       lie = l.lie;
-      moves = q.moves;
-      made = q.made;
+      steps = q.steps;
       are = q.are;
       count = q.count;
       appended = q.appended;
-      run = q.run;
+      runs = q.runs;
+      chains = q.chains;
+      causes = q.causes;
     }
 
 -- nothing was done and nothing written
 turns_stay : (tells : Bool) (names : List (List ℕ)) (left left' held held' held'' : Option (List ℕ)) (c mid z : WorldState) → InTurns tells names left left' held held' c mid → Stays held' held'' mid z
     → InTurns tells names left left' held held'' c z
 turns_stay tells names left left' held held' held'' c mid z q stays =
-    let text : List ℕ = take q.count (flat_map (moved_lines names) q.made) in
+    let text : List ℕ = take q.count (flat_map (step_lines names) q.steps) in
     subst (InTurns tells names left left' held held'' c) (sym stays.0)
     (record {
       taken = q.taken;
@@ -183,12 +197,13 @@ turns_stay tells names left left' held held' held'' c mid z q stays =
       rest = q.rest;
       consumed = q.consumed;
       lie = q.lie;
-      moves = q.moves;
-      made = q.made;
+      steps = q.steps;
       are = q.are;
       count = q.count;
       appended = subst (Appends held held'') (append-nil text) (appends_then held held' held'' text [] q.appended stays.1);
-      run = q.run;
+      runs = q.runs;
+      chains = q.chains;
+      causes = q.causes;
     })
 
 -- ---- ends

@@ -1,3 +1,4 @@
+pub mod Auditing
 pub mod Cutting
 pub mod Filled
 pub mod InTurns

@@ -2,6 +2,7 @@
 use Rattle.std.proofs.Common.{◌≡◌, ℕ, ◌+◌, ◌*◌, ◌-◌, ◌≤◌, ◌^◌, Bool, List, [], length, Option, Result, inl, inr, sym, ap, subst, arith}
 use Rattle.cj_outside.specs.Lines.{Reading}
 use Rattle.cj_outside.specs.Streams.{most}
+use Rattle.cj_cluster.specs.Moves.Cores.{Core}
 use Rattle.cj_core.specs.Worlds.{WorldState}
 use Rattle.cj_cluster.specs.Moves.Runs.{CanCountRequests}
 use Rattle.cj_cluster.proofs.Growth.{moves_grow, can_count}
@@ -14,10 +15,12 @@ use Rattle.cj_script.proofs.Playing.{Advances}
 
 -- ---- a line that was played
 
--- it was skipped, or it made its move
-pub line_cases : (tells armable : Bool) (names : List (List ℕ)) (c : WorldState) (line written : List ℕ) (z : WorldState) (P : Type 0) → PlaysLine tells armable names c line written z → (written ≡ [] → z ≡ c → P) → (MakesMove tells armable names c line written z → P) → P
-line_cases tells armable names c line written z P (inl skips) skipped made = skipped skips.nothing skips.same
-line_cases tells armable names c line written z P (inr makes) skipped made = made makes
+-- it left the core as it was, or it made its move
+pub line_cases : (tells armable : Bool) (names : List (List ℕ)) (c : WorldState) (line written : List ℕ) (z : WorldState) (P : Type 0) → PlaysLine tells armable names c line written z → (z.core ≡ c.core → P) → (MakesMove tells armable names c line written z → P) → P
+line_cases tells armable names c line written z P (inl skips) same made = same (ap (λ (x : WorldState). x.core) skips.same)
+line_cases tells armable names c line written z P (inr (inl makes)) same made = made makes
+line_cases tells armable names c line written z P (inr (inr (is, inl later))) same made = same (ap (λ (x : WorldState). x.core) later.same)
+line_cases tells armable names c line written z P (inr (inr (is, inr (failed, now)))) same made = same now.core
 
 -- what a line comes to is the same under equal names, and of an equal line
 pub plays_as : (tells armable : Bool) (names names' : List (List ℕ)) (held held' : Option (List ℕ)) (c : WorldState) (line line' : List ℕ) (number : ℕ) (result : Result (Unit {0}) ScriptEnd) (z : WorldState)
@@ -42,7 +45,7 @@ pub counting_played : (tells armable : Bool) (names : List (List ℕ)) (held hel
     → Counting (length old.rest) old.taken c → Advances old new line → new.taken ≤ most → PlaysWritten tells armable names held held' c line z → Counting (length new.rest) new.taken z
 counting_played tells armable names held held' old new line c z k a few h =
     line_cases tells armable names c line h.written z (Counting (length new.rest) new.taken z) h.plays
-    (λ none same. subst (Counting (length new.rest) new.taken) (sym same) (record { more = k.more; can = k.can; room = omega (arith, k.room, a.some) }))
+    (λ same. record { more = k.more; can = subst (λ (d : Core). CanCountRequests d k.more) (sym same) k.can; room = omega (arith, k.room, a.some) })
     (λ made.
     let long = move_line_long names line made.move made.reads in
     let some : 1 + (k.more - 1) ≡ k.more = omega (arith, k.room, a.by) in

@@ -1,18 +1,26 @@
 -- Scripts: what lines play, how they lie in the bytes taken, and how far a script came.
-use Rattle.std.specs.Prelude.{◌≡◌, ◌≢◌, ◌⊎◌, ℕ, ◌+◌, ◌<◌, ◌≤◌, Bool, true, false, not, List, [], ◌∷◌, ◌++◌, length, take, map, filter, All, IsSome}
+use Rattle.std.specs.Prelude.{◌≡◌, ◌≢◌, ◌⊎◌, ℕ, ◌+◌, ◌<◌, ◌≤◌, Bool, true, false, not, List, [], ◌∷◌, ◌++◌, length, take, codes, filter, All, IsSome}
 use Rattle.std.specs.declared.option.Option.{Option}
+use Rattle.std.specs.declared.option.Option.TheVariants.{None, Some}
 use Rattle.std.specs.List.{flat_map}
 use Rattle.std.specs.Io.KnownBytes.{Consumes, Appends, IsAtEnd}
 use Rattle.cj_outside.specs.Lines.{IsInLine, line_limit}
 use Rattle.cj_outside.specs.Streams.{most}
 use Rattle.cj_cluster.specs.declared.moves.Move.{Move}
 use Rattle.cj_cluster.specs.declared.moves.Made.{Made}
-use Rattle.cj_cluster.specs.Moves.Moves.{MovesTo}
-use Rattle.cj_cluster.specs.Script.Lines.{MoveLine, moved_lines, with_line_feed}
+use Rattle.cj_cluster.specs.declared.moves.Reason.TheVariants.{EntryOpen}
+use Rattle.cj_cluster.specs.History.Histories.{is_idle, is_enabled}
+use Rattle.cj_cluster.specs.History.Turns.{SessionView}
+use Rattle.cj_cluster.specs.Moves.Cores.{Core}
+use Rattle.cj_cluster.specs.Moves.Moves.{MoveResult, MovesTo, last_number}
+use Rattle.cj_cluster.specs.Moves.Runs.{RunsMoves, IsBetweenReplies, IsChained}
+use Rattle.cj_cluster.specs.Script.Lines.{MoveLine, moved_lines, not_now_text, with_line_feed}
 use Rattle.cj_core.specs.Worlds.{WorldState}
-use Rattle.cj_core.specs.Armings.{HasArmings}
-use Rattle.cj_core.specs.Counting.{HasCauses}
-use Rattle.cj_core.specs.Played.{given_of, HasRun}
+use Rattle.cj_core.specs.Armings.{HasArmings, armings_of}
+use Rattle.cj_core.specs.Audits.{audit_text}
+use Rattle.cj_core.specs.Counting.{HasCauses, blamed, faults_after, faults_of}
+use Rattle.cj_core.specs.Logins.{logins_of}
+use Rattle.cj_core.specs.Played.{given_of}
 use Rattle.cj_script.specs.declared.play.ScriptEnd.{ScriptEnd}
 use Rattle.cj_script.specs.declared.play.ScriptEnd.TheVariants.{Done, Line, ReadFault, WriteFault, Spent, NoMemory}
 
@@ -28,15 +36,52 @@ pub record MakesMove (tells armable : Bool) (names : List (List ℕ)) (c : World
   pub armings : HasArmings armable c z move (given_of made)
   pub gives : written ≡ moved_lines names made
 
+-- ---- an audit
+
+-- the line that asks for an audit
+abbrev pub audit_line : List ℕ
+audit_line = codes "audit"
+
+-- An entry is open: nothing is done, and its number is given.
+pub record AuditsLater (c : WorldState) (written : List ℕ) (z : WorldState) : Type 0 where
+  pub runs : is_idle c.core.history ≡ false
+  pub same : z ≡ c
+  pub gives : written ≡ with_line_feed (not_now_text (record { reason = EntryOpen; value = last_number c.core }))
+
+-- what is given where no backend failed: what they hold, where that is told; or where this one did
+abbrev pub GivesAudit : Bool → List (List ℕ) → Core → Option ℕ → List ℕ → Type 0
+GivesAudit tells names c None written = tells ≡ true → written ≡ audit_text names c
+GivesAudit tells names c (Some b) written = (is_enabled c.history b ≡ true) × (written ≡ with_line_feed (codes "failed"))
+
+-- No entry is open: the enabled backends are asked what they hold, until one fails, which it counts. No login is used, no backend is armed, and where none fails nothing is done.
+pub record AuditsNow (tells : Bool) (names : List (List ℕ)) (c : WorldState) (failed : Option ℕ) (written : List ℕ) (z : WorldState) : Type 0 where
+  pub idle : is_idle c.core.history ≡ true
+  pub core : z.core ≡ c.core
+  pub faults : faults_of z.cells ≡ faults_after (faults_of c.cells) failed
+  pub logins : logins_of z.cells ≡ logins_of c.cells
+  pub armings : armings_of z.cells ≡ armings_of c.cells
+  pub same : failed ≡ None → z ≡ c
+  pub gives : GivesAudit tells names c.core failed written
+
+-- the line asks for an audit, and this is what it gives, now or not now
+abbrev pub MakesAudit : Bool → List (List ℕ) → WorldState → List ℕ → List ℕ → WorldState → Type 0
+MakesAudit tells names c line written z = (line ≡ audit_line) × (AuditsLater c written z ⊎ ((failed : Option ℕ) × AuditsNow tells names c failed written z))
+
+-- ---- a line
+
+-- the line makes its move, or it is an audit
+abbrev pub DoesLine : (tells armable : Bool) → List (List ℕ) → WorldState → List ℕ → List ℕ → WorldState → Type 0
+DoesLine tells armable names c line written z = MakesMove tells armable names c line written z ⊎ MakesAudit tells names c line written z
+
 -- the line is empty, and changes and gives nothing
 pub record SkipsLine (c : WorldState) (line written : List ℕ) (z : WorldState) : Type 0 where
   pub empty : line ≡ []
   pub nothing : written ≡ []
   pub same : z ≡ c
 
--- an empty line is skipped, and another makes its move
+-- an empty line is skipped, and another makes its move or is an audit
 abbrev pub PlaysLine : (tells armable : Bool) → List (List ℕ) → WorldState → List ℕ → List ℕ → WorldState → Type 0
-PlaysLine tells armable names c line written z = SkipsLine c line written z ⊎ MakesMove tells armable names c line written z
+PlaysLine tells armable names c line written z = SkipsLine c line written z ⊎ DoesLine tells armable names c line written z
 
 -- From the state c the lines play, one after another, to the state z, and this is what they give.
 abbrev pub Plays : (tells armable : Bool) → List (List ℕ) → WorldState → List (List ℕ) → List ℕ → WorldState → Type 0
@@ -44,7 +89,7 @@ Plays tells armable names c [] written z = (written ≡ []) × (z ≡ c)
 Plays tells armable names c (line ∷ lines) written z =
     (mid : WorldState) × (front : List ℕ) × (rest : List ℕ) × PlaysLine tells armable names c line front mid × Plays tells armable names mid lines rest z × (written ≡ front ++ rest)
 
--- ---- the moves of lines
+-- ---- the steps of lines
 
 -- no byte is in the line
 abbrev pub is_empty : List ℕ → Bool
@@ -55,12 +100,41 @@ is_empty (b ∷ bytes) = false
 abbrev pub filled : List (List ℕ) → List (List ℕ)
 filled lines = filter (λ line. not (is_empty line)) lines
 
--- the lines are these moves, one each
-abbrev pub AreMoves : List (List ℕ) → List (List ℕ) → List Move → Type 0
-AreMoves names [] [] = Unit {0}
-AreMoves names (line ∷ lines) (m ∷ moves) = MoveLine names line m × AreMoves names lines moves
-AreMoves names [] (m ∷ moves) = ⊥
-AreMoves names (line ∷ lines) [] = ⊥
+-- what a line did: a move, and what it came to; or an audit, the backend that failed in it, and what it gave
+pub data Step : Type 0 where
+  Moves : Move → Made → Step
+  Audits : Option ℕ → List ℕ → Step
+
+-- the lines ask for these steps, one each
+abbrev pub AreSteps : List (List ℕ) → List (List ℕ) → List Step → Type 0
+AreSteps names [] [] = Unit {0}
+AreSteps names (line ∷ lines) (Moves m made ∷ steps) = MoveLine names line m × AreSteps names lines steps
+AreSteps names (line ∷ lines) (Audits failed text ∷ steps) = (line ≡ audit_line) × AreSteps names lines steps
+AreSteps names [] (step ∷ steps) = ⊥
+AreSteps names (line ∷ lines) [] = ⊥
+
+-- those that are moves
+abbrev pub moves_in : List Step → List Move
+moves_in [] = []
+moves_in (Moves m made ∷ steps) = m ∷ moves_in steps
+moves_in (Audits failed text ∷ steps) = moves_in steps
+
+-- and what these gave
+abbrev pub given_in : List Step → List MoveResult
+given_in [] = []
+given_in (Moves m made ∷ steps) = given_of made ∷ given_in steps
+given_in (Audits failed text ∷ steps) = given_in steps
+
+-- the lines that a step gives
+abbrev pub step_lines : List (List ℕ) → Step → List ℕ
+step_lines names (Moves m made) = moved_lines names made
+step_lines names (Audits failed text) = text
+
+-- the counts after the steps: each fault that one of them tells is counted, one after another
+abbrev pub faults_through : List ℕ → List Step → List ℕ
+faults_through faults [] = faults
+faults_through faults (Moves m made ∷ steps) = faults_through (faults_after faults (blamed m (given_of made))) steps
+faults_through faults (Audits failed text ∷ steps) = faults_through (faults_after faults failed) steps
 
 -- ---- lines in bytes
 
@@ -77,11 +151,11 @@ pub record IsShortLine (line : List ℕ) : Type 0 where
 abbrev pub IsNextLine : Option (List ℕ) → List ℕ → List ℕ → Type 0
 IsNextLine left line rest = ((more : List ℕ) × (rest ≡ line ++ 10 ∷ more)) ⊎ ((rest ≡ line) × IsAtEnd left)
 
--- the line is no move's
+-- the line is no move's, and no audit
 abbrev pub IsNoMove : List (List ℕ) → List ℕ → Type 0
-IsNoMove names line = (m : Move) → MoveLine names line m → ⊥
+IsNoMove names line = ((m : Move) → MoveLine names line m → ⊥) × (line ≢ audit_line)
 
--- the line can't be played: it is too long, or neither empty nor a move's
+-- the line can't be played: it is too long, or neither empty nor a move's nor an audit
 abbrev pub IsWrong : List (List ℕ) → List ℕ → Type 0
 IsWrong names line = (line_limit < length line) ⊎ ((line ≢ []) × IsNoMove names line)
 
@@ -132,15 +206,15 @@ pub record PlayedSome (tells armable : Bool) (names : List (List ℕ)) (left lef
   pub rest : List ℕ
   pub played : Played tells armable names left left' held held' c taken lines rest z
 
--- The line makes its move, and of what it gives a front was written, which is not the whole.
+-- The line makes its move or is an audit, and of what it gives a front was written, which is not the whole.
 pub record MakesInPart (tells armable : Bool) (names : List (List ℕ)) (held held' : Option (List ℕ)) (c : WorldState) (line : List ℕ) (z : WorldState) : Type 0 where
   pub whole : List ℕ
-  pub makes : MakesMove tells armable names c line whole z
+  pub makes : DoesLine tells armable names c line whole z
   pub count : ℕ
   pub cut : count < length whole
   pub appended : Appends held held' (take count whole)
 
--- Some lines were played, and one more made its move, with what it gives written in part.
+-- Some lines were played, and one more made its move or was an audit, with what it gives written in part.
 pub record PlayedInPart (tells armable : Bool) (names : List (List ℕ)) (left left' held held' : Option (List ℕ)) (c z : WorldState) : Type 0 where
   pub taken : List ℕ
   pub lines : List (List ℕ)
@@ -164,16 +238,17 @@ CameTo tells armable names left left' held held' c NoMemory z = PlayedSome tells
 
 -- ---- what the replies are
 
--- Of the bytes taken these lines, but for empty ones, made their moves, in which the replies to each session are a chain of turns from what it had seen, and a front of what they gave was written.
+-- Of the bytes taken these lines, but for empty ones, took these steps, and a front of what they gave was written. The replies to each session in the moves among them are a chain of turns from what it had seen.
 pub record InTurns (tells : Bool) (names : List (List ℕ)) (left left' held held' : Option (List ℕ)) (c z : WorldState) : Type 0 where
   pub taken : List ℕ
   pub lines : List (List ℕ)
   pub rest : List ℕ
   pub consumed : Consumes left left' taken
   pub lie : LieIn left' taken lines rest
-  pub moves : List Move
-  pub made : List Made
-  pub are : AreMoves names (filled lines) moves
+  pub steps : List Step
+  pub are : AreSteps names (filled lines) steps
   pub count : ℕ
-  pub appended : Appends held held' (take count (flat_map (moved_lines names) made))
-  pub run : HasRun tells c moves (map given_of made) z
+  pub appended : Appends held held' (take count (flat_map (step_lines names) steps))
+  pub runs : RunsMoves tells c.core (moves_in steps) (given_in steps) z.core
+  pub chains : (s : ℕ) (a : SessionView) → 0 < s → IsBetweenReplies a c.core s → IsChained tells s c.core (moves_in steps) (given_in steps) z.core a
+  pub causes : faults_of z.cells ≡ faults_through (faults_of c.cells) steps

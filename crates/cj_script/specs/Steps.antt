@@ -5,6 +5,8 @@ use Rattle.std.specs.Global.{Vec}
 use Rattle.std.specs.Io.KnownBytes.{Appends}
 use Rattle.cj_outside.specs.declared.lines.Line.TheVariants.{Text, Long, End}
 use Rattle.cj_outside.specs.declared.lines.LineError.TheVariants as errors
+use Rattle.cj_outside.specs.declared.sink.OutError.{OutError}
+use Rattle.cj_outside.specs.declared.sink.OutError.TheVariants as out_errors
 use Rattle.cj_outside.specs.Lines.{Reading, GivesLine}
 use Rattle.cj_core.specs.Worlds.{WorldState}
 use Rattle.cj_script.specs.Script.{PlaysLine, MakesInPart, IsNoMove}
@@ -31,7 +33,7 @@ pub record PlaysWritten (tells armable : Bool) (names : List (List ℕ)) (held h
 abbrev pub Stays : Option (List ℕ) → Option (List ℕ) → WorldState → WorldState → Type 0
 Stays held held' c z = (z ≡ c) × Appends held held' []
 
--- the line is no move's, and it is not empty
+-- the line is no move's and no audit, and it is not empty
 pub record RefusesLine (names : List (List ℕ)) (held held' : Option (List ℕ)) (c : WorldState) (line : List ℕ) (z : WorldState) : Type 0 where
   pub some : line ≢ []
   pub none : IsNoMove names line
@@ -46,3 +48,9 @@ PlaysOrEnds tells armable names held held' c line number (Err ReadFault) z = ⊥
 PlaysOrEnds tells armable names held held' c line number (Err WriteFault) z = MakesInPart tells armable names held held' c line z
 PlaysOrEnds tells armable names held held' c line number (Err Spent) z = ⊥
 PlaysOrEnds tells armable names held held' c line number (Err NoMemory) z = Stays held held' c z ⊎ MakesInPart tells armable names held held' c line z
+
+-- the lines that a line gives were written, or the script ends where they were not
+abbrev pub written_or_end : Result (Unit {0}) OutError → Result (Unit {0}) ScriptEnd
+written_or_end (Ok _) = Ok tt
+written_or_end (Err out_errors.Failed) = Err WriteFault
+written_or_end (Err out_errors.NoMemory) = Err NoMemory

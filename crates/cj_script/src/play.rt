@@ -5,7 +5,8 @@ ghost use Rattle.cj_outside.specs.Causes.{CountsFault};
 ghost use Rattle.cj_outside.specs.Streams.{most, WritesAll};
 ghost use Rattle.cj_cluster.specs.Moves.Runs.{CanCountRequests};
 ghost use Rattle.cj_cluster.specs.Script.Lines.{moved_lines};
-ghost use Rattle.cj_script.specs.Script.{CameTo, InTurns};
+ghost use Rattle.cj_script.specs.Script.{CameTo, InTurns, audit_line};
+ghost use Rattle.cj_script.specs.Steps as steps;
 ghost use Rattle.cj_script.specs.Steps.{PlaysOrEnds, ReadsLine};
 ghost use Rattle.cj_script.specs.declared.play.ScriptEnd.TheVariants as ends;
 ghost use Rattle.std.specs.declared.result.Result.TheVariants.{Err};
@@ -13,8 +14,8 @@ ghost use Rattle.std.specs.declared.result.Result.TheVariants.{Err};
 use crate::parse::parse_move;
 use crate::print::print_made;
 use cj_backend::Backend;
-use cj_cluster::Made;
-use cj_core::World;
+use cj_cluster::{Made, Reason, Why};
+use cj_core::{AuditError, World};
 use cj_model::Names;
 use cj_outside::{Line, LineError, Lines, OutError, Sink, Source, write_all};
 use std::alloc::Global;
@@ -24,7 +25,7 @@ use std::alloc::Global;
 pub enum ScriptEnd {
     /// All lines were played.
     Done,
-    /// This line, counted from 1, is too long, or neither empty nor a move's.
+    /// This line, counted from 1, is too long, or neither empty nor a move's nor an audit.
     Line(u64),
     /// The source failed.
     ReadFault,
@@ -75,6 +76,42 @@ fn write_made<O: Sink>(
     }
 }
 
+/// How a line ends of which the lines that it gives were written, or were not.
+fn written_or_end(written: Result<(), OutError>) -> Result<(), ScriptEnd>
+    ensures { result ≡ steps.written_or_end written }
+{
+    match written {
+        Ok(()) => Ok(()),
+        Err(OutError::Failed) => Err(ScriptEnd::WriteFault),
+        Err(OutError::NoMemory) => Err(ScriptEnd::NoMemory),
+    }
+}
+
+/// Asks the enabled backends what they hold, and writes it; or writes that an entry is open, or that a backend failed.
+fn play_audit<B: Backend, O: Sink>(
+    alloc: Global,
+    world: &mut World<B>,
+    output: &mut O,
+) -> Result<(), ScriptEnd>
+    ensures plays { (number : ℕ) → PlaysOrEnds B.TELLS B.can_be_armed world.old.setup.names (O.held output.old) (O.held output.new) world.old audit_line number result world.new }
+    ensures setup { world.new.setup ≡ world.old.setup }
+    ensures cause { CountsFault (IsErrOf result ends.WriteFault) (O.faults output.old) (O.faults output.new) }
+{
+    if let Some(number) = world.open_entry() {
+        let why = Why {
+            reason: Reason::EntryOpen,
+            value: number,
+        };
+        let made = Made::NotNow(why);
+        return written_or_end(write_made(alloc, world.placement().names(), &made, output));
+    }
+    match world.audit() {
+        Ok(text) => written_or_end(write_all(output, text.as_slice())),
+        Err(AuditError::Fault(_)) => written_or_end(write_all(output, b"failed\n")),
+        Err(AuditError::NoMemory) => Err(ScriptEnd::NoMemory),
+    }
+}
+
 /// Plays a line, or answers how the script ends in it.
 fn play_line<B: Backend, O: Sink>(
     alloc: Global,
@@ -91,6 +128,9 @@ fn play_line<B: Backend, O: Sink>(
     if line.is_empty() {
         return Ok(());
     }
+    if line == b"audit".as_slice() {
+        return play_audit(alloc, world, output);
+    }
     world.legal();
     let m = match parse_move(alloc, world.placement().names(), line) {
         Ok(Some(m)) => m,
@@ -100,14 +140,10 @@ fn play_line<B: Backend, O: Sink>(
     let Ok(made) = world.make(m) else {
         return Err(ScriptEnd::NoMemory);
     };
-    match write_made(alloc, world.placement().names(), &made, output) {
-        Ok(()) => Ok(()),
-        Err(OutError::Failed) => Err(ScriptEnd::WriteFault),
-        Err(OutError::NoMemory) => Err(ScriptEnd::NoMemory),
-    }
+    written_or_end(write_made(alloc, world.placement().names(), &made, output))
 }
 
-/// Plays the lines of the source, each a move on the world, and writes what they come to. Backends go by the names that the
+/// Plays the lines of the source, each a move on the world or an audit of it, and writes what they come to. Backends go by the names that the
 /// world has for them.
 ///
 /// A line that can't be played ends the script, and so do a fault and want of memory. What was played and written until then stays.

@@ -1,0 +1,97 @@
+//! The audit of a world: what its enabled backends hold.
+
+ghost use Rattle.std.specs.Prelude.{◌≡◌, ◌<◌, ◌++◌, ℕ, true, IfOk, IsErrOf, None, OnOk};
+ghost use Rattle.cj_audit.specs.Audits.{StaysText};
+ghost use Rattle.cj_cluster.specs.History.Histories as histories;
+ghost use Rattle.cj_cluster.specs.History.Histories.{is_idle};
+ghost use Rattle.cj_core.specs.Armings.{armings_of};
+ghost use Rattle.cj_core.specs.Audits as audits;
+ghost use Rattle.cj_core.specs.Audits.{audit_text, failed_audit, lines_at};
+ghost use Rattle.cj_core.specs.Counting.{faults_after, faults_of};
+ghost use Rattle.cj_core.specs.Logins.{logins_of};
+
+use crate::world::World;
+use cj_audit::{append_backend, into_text};
+use cj_backend::Backend;
+use cj_model::{NoMemory, Text};
+use cj_replica::CellError;
+use thiserror::Error;
+
+/// Why there is no audit.
+#[derive(Clone, Copy, Debug, PartialEq, Eq, Error)]
+pub enum AuditError {
+    /// This backend failed.
+    #[error("backend {0} failed")]
+    Fault(u8),
+    #[error("out of memory")]
+    NoMemory,
+}
+
+impl From<NoMemory> for AuditError {
+    ghost use Rattle.std.specs.Prelude.{◌≡◌};
+    ghost use Rattle.cj_core.specs.declared.audit.AuditError.TheVariants as errors;
+
+    ghost from_gives = { λ _ e. e ≡ errors.NoMemory };
+
+    fn from(_error: NoMemory) -> AuditError {
+        AuditError::NoMemory
+    }
+}
+
+fn audit_error(b: u8, error: CellError) -> AuditError
+    ensures { result ≡ audits.audit_error b error }
+{
+    match error {
+        CellError::Failed => AuditError::Fault(b),
+        CellError::Starved => AuditError::NoMemory,
+    }
+}
+
+impl<B: Backend> World<B> {
+    /// Adds the lines of one backend, which is asked for its contents where it is enabled.
+    fn audit_backend(&mut self, text: &mut Vec<u8>, b: u8) -> Result<(), AuditError>
+        requires within { b < self.old.core.placement.backends }
+        requires idle { is_idle self.old.core.history ≡ true }
+        ensures lines { OnOk result (B.TELLS ≡ true → text.new.items ≡ text.old.items ++ lines_at self.old.setup.names self.old.core b) }
+        ensures text { OnOk result (StaysText text.old.items text.new.items) }
+        ensures same { failed_audit result ≡ None → self.new ≡ self.old }
+        ensures faults { faults_of self.new.cells ≡ faults_after (faults_of self.old.cells) (failed_audit result) }
+        ensures enabled { (k : ℕ) → IsErrOf result (AuditError.Fault k) → histories.is_enabled self.old.core.history k ≡ true }
+        ensures core { self.new.core ≡ self.old.core }
+        ensures setup { self.new.setup ≡ self.old.setup }
+        ensures logins { logins_of self.new.cells ≡ logins_of self.old.cells }
+        ensures armings { armings_of self.new.cells ≡ armings_of self.old.cells }
+    {
+        if !self.is_enabled(b) {
+            return Ok(());
+        }
+        self.legal();
+        match self.contents(b) {
+            Ok(database) => {
+                append_backend(text, self.placement().name(b), &database)?;
+                Ok(())
+            }
+            Err(error) => Err(audit_error(b, error)),
+        }
+    }
+
+    /// What the enabled backends hold, in the order of their numbers: a line for each table with its number of
+    /// rows, and one for each row. Asks each enabled backend for its contents, and stops at the first that fails.
+    pub fn audit(&mut self) -> Result<Text, AuditError>
+        requires { is_idle self.old.core.history ≡ true }
+        ensures text { IfOk result (λ text. B.TELLS ≡ true → text ≡ audit_text self.old.setup.names self.old.core) }
+        ensures same { failed_audit result ≡ None → self.new ≡ self.old }
+        ensures faults { faults_of self.new.cells ≡ faults_after (faults_of self.old.cells) (failed_audit result) }
+        ensures enabled { (b : ℕ) → IsErrOf result (AuditError.Fault b) → histories.is_enabled self.old.core.history b ≡ true }
+        ensures core { self.new.core ≡ self.old.core }
+        ensures setup { self.new.setup ≡ self.old.setup }
+        ensures logins { logins_of self.new.cells ≡ logins_of self.old.cells }
+        ensures armings { armings_of self.new.cells ≡ armings_of self.old.cells }
+    {
+        let mut text = Vec::new(self.allocator());
+        for b in 0..self.placement().count() {
+            self.audit_backend(&mut text, b)?;
+        }
+        Ok(into_text(text))
+    }
+}
