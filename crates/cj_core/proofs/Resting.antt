@@ -114,7 +114,7 @@ step_to : (P : List Event → Type 0) (k : ℕ) → P (enables k ++ Enabled k �
 step_to P k p = let more : k + 1 ≡ suc k = omega arith in subst (λ m. P (enables m)) more (subst P (sym (enables-more k)) p)
 
 -- no entry is scheduled
-log-enables : (k : ℕ) → log (enables k) ≡ []
+pub log-enables : (k : ℕ) → log (enables k) ≡ []
 log-enables zero = refl
 log-enables (suc k) = step_to (λ h. log h ≡ []) k (log-same (enables k) (Enabled k) refl ∙ log-enables k)
 

@@ -1,1 +1,2 @@
+pub mod NewBackends
 pub mod PlayedOver

@@ -1,6 +1,7 @@
 //! One session over a world of its own.
 
 ghost use Rattle.std.specs.Prelude.{◌≡◌, ◌↔◌, true, [], length, map, IfOk, OnErr, Ok};
+ghost use Rattle.std.specs.Result.{IsOkAnd};
 ghost use Rattle.cj_outside.specs.Causes.{CountsFault};
 ghost use Rattle.cj_cluster.specs.History.Histories.{is_idle, log};
 ghost use Rattle.cj_cluster.specs.declared.session.SessionEnd.TheVariants as ends;
@@ -65,8 +66,8 @@ pub fn pipe<B: Backend + Drop, I: Source, O: Sink, C: Clock>(
         × (map backend_of first.cells ≡ map (state_by B.told B.faults B.asks B.login B.arming) backends)
         × ServesOneSession B.TELLS conf.seed (C.moment clock.now) (I.left input.old) (I.left input.new) (O.held output.old) (O.held output.new) first ending last) }
     ensures unserved { OnErr result ((input.new ≡ input.old) × (output.new ≡ output.old)) }
-    ensures input { CountsFault (IfOk result (λ (ending, _). ending ≡ ends.ReadFault)) (I.faults input.old) (I.faults input.new) }
-    ensures output { CountsFault (IfOk result (λ (ending, _). ending ≡ ends.WriteFault)) (O.faults output.old) (O.faults output.new) }
+    ensures input { CountsFault (IsOkAnd result (λ (ending, _). ending ≡ ends.ReadFault)) (I.faults input.old) (I.faults input.new) }
+    ensures output { CountsFault (IsOkAnd result (λ (ending, _). ending ≡ ends.WriteFault)) (O.faults output.old) (O.faults output.new) }
 {
     let seed = conf.seed;
     let world = World::start(alloc, parts_of(conf), backends)?;

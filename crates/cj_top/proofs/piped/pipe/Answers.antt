@@ -1,27 +1,13 @@
-use Rattle.std.proofs.Common.{rules, ◌≡◌, ◌↔◌, true, [], length, map, IfOk, OnErr, Ok, ℕ, ◌+◌, ◌-◌, ◌*◌, ◌<◌, ◌≤◌, ◌/◌, ◌%◌, Bool, false, nat_eq, nat_lt, List, ◌∷◌, ◌++◌, slice_index_or, slice_set, bit_and, bit_or, Fits, w8, w32, w64, Bor, MutBor}
-use Rattle.cj_outside.specs.Causes.{CountsFault}
+use Rattle.std.proofs.Common.{◌≡◌, [], true, sym, subst}
 use Rattle.cj_cluster.specs.History.Histories.{is_idle, log}
-use Rattle.cj_cluster.specs.declared.session.SessionEnd.TheVariants as ends
-use Rattle.cj_conf.specs.Confs.{IsUsable}
-use Rattle.cj_core.specs.Starts.{AreEmpty, HaveBegunNone, backend_of, started, state_by}
-use Rattle.cj_core.specs.Worlds.{WorldState}
+use Rattle.cj_cluster.specs.Moves.Cores.{Core}
 use Rattle.cj_place.specs.Layouts.{placement_of}
-use Rattle.cj_top.specs.Piped.{RunsPipe, ServesOneSession}
-use Rattle.cj_top.specs.Program as top
+use Rattle.cj_core.proofs.Resting.{free-enables, log-enables}
 use Rattle.cj_top.proofs.piped.pipe.Goals as goal
 
--- src/piped.rt:72:17
-pub returns-in_err-world-clause-input : goal.returns-in_err-world-clause-input
-returns-in_err-world-clause-input g c = ?
-
--- src/piped.rt:72:17
-pub returns-in_err-world-clause-output : goal.returns-in_err-world-clause-output
-returns-in_err-world-clause-output g c = ?
-
--- src/piped.rt:73:8
 pub serve_one-requires-clause-idle : goal.serve_one-requires-clause-idle
-serve_one-requires-clause-idle g c = ?
+serve_one-requires-clause-idle g c =
+    subst (λ (x : Core). is_idle x.history ≡ true) (sym c.in_ok-world.ensures.core) (free-enables (placement_of c.args.conf.placement).backends)
 
--- src/piped.rt:73:8
 pub serve_one-requires-clause-empty : goal.serve_one-requires-clause-empty
-serve_one-requires-clause-empty g c = ?
+serve_one-requires-clause-empty g c = subst (λ (x : Core). log x.history ≡ []) (sym c.in_ok-world.ensures.core) (log-enables (placement_of c.args.conf.placement).backends)

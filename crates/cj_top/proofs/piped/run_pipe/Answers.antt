@@ -1,23 +1,28 @@
-use Rattle.std.proofs.Common.{rules, ◌≡◌, ◌↔◌, true, [], length, map, IfOk, OnErr, Ok, ℕ, ◌+◌, ◌-◌, ◌*◌, ◌<◌, ◌≤◌, ◌/◌, ◌%◌, Bool, false, nat_eq, nat_lt, List, ◌∷◌, ◌++◌, slice_index_or, slice_set, bit_and, bit_or, Fits, w8, w32, w64, Bor, MutBor}
-use Rattle.cj_outside.specs.Causes.{CountsFault}
-use Rattle.cj_cluster.specs.History.Histories.{is_idle, log}
-use Rattle.cj_cluster.specs.declared.session.SessionEnd.TheVariants as ends
-use Rattle.cj_conf.specs.Confs.{IsUsable}
-use Rattle.cj_core.specs.Starts.{AreEmpty, HaveBegunNone, backend_of, started, state_by}
-use Rattle.cj_core.specs.Worlds.{WorldState}
-use Rattle.cj_place.specs.Layouts.{placement_of}
-use Rattle.cj_top.specs.Piped.{RunsPipe, ServesOneSession}
-use Rattle.cj_top.specs.Program as top
+use Rattle.std.proofs.Common.{◌≡◌, [], List, ℕ, Option, Some, refl, ap, ◌∙◌}
+use Rattle.cj_model.specs.declared.database.Slot.{Slot}
+use Rattle.cj_mem.specs.MemoryBackends.{MemoryState, fresh_state, never_armed}
+use Rattle.cj_core.specs.Starts.{state_by}
+use Rattle.cj_top.proofs.NewBackends.{all_alike, seen_alike}
 use Rattle.cj_top.proofs.piped.run_pipe.Goals as goal
 
--- src/piped.rt:106:25
 pub pipe-requires-clause-empty : goal.pipe-requires-clause-empty
-pipe-requires-clause-empty g c = ?
+pipe-requires-clause-empty g c = λ tells. all_alike (λ (t : Option (List Slot)). t ≡ Some []) (λ (s : MemoryState). s.told) c.count.result fresh_state c.in_ok-backends.backends c.in_ok-backends.ensures refl
 
--- src/piped.rt:106:25
 pub pipe-requires-clause-none : goal.pipe-requires-clause-none
-pipe-requires-clause-none g c = ?
+pipe-requires-clause-none g c = all_alike (λ (ts : List ℕ). ts ≡ []) (λ (s : MemoryState). s.begun) c.count.result fresh_state c.in_ok-backends.backends c.in_ok-backends.ensures refl
 
--- src/piped.rt:92:1
 pub returns-clause-runs : goal.returns-clause-runs
-returns-clause-runs g c = ?
+returns-clause-runs g c =
+    let served = c.in_ok-end.ensures.served in
+    record {
+      first = served.0;
+      begins = record {
+        core = served.1;
+        setup = served.2;
+        backends = served.3 ∙ seen_alike _ c.count.result _ fresh_state c.in_ok-backends.backends c.in_ok-backends.ensures c.count.ensures.count;
+      };
+      ending = c.in_ok-end.end;
+      last = c.in_ok-end._world;
+      serves = served.4;
+      status_is = c.status_of_session.ensures.status;
+    }
