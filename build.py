@@ -9,6 +9,7 @@ import time
 ROOT = os.path.dirname(os.path.abspath(__file__))
 CRATE = os.path.join(ROOT, "crates", "cjc")
 PROGRAM = os.path.join(CRATE, "out", "cjc")
+CONF = os.path.join(ROOT, "example", "c1.toml")
 # After so many seconds with no news the time is shown.
 PATIENCE = 30
 # So many lines of rt are shown where it fails.
@@ -56,7 +57,7 @@ def program():
 
     say(f"proving and building the program, {len(names)} crates; the first time this takes many minutes")
     try:
-        rt = subprocess.Popen(["rt", "run", "--", "pipe", "c1.toml"], cwd=CRATE, stdin=subprocess.DEVNULL,
+        rt = subprocess.Popen(["rt", "run", "--", "pipe", CONF], cwd=CRATE, stdin=subprocess.DEVNULL,
                               stdout=subprocess.PIPE, stderr=subprocess.STDOUT)
     except FileNotFoundError:
         sys.exit("no command `rt` on the PATH: it comes with the Rattle kit, in its folder bin/")

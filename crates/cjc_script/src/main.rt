@@ -1,7 +1,7 @@
 //! The same program, run as `cjc script CONF`: lines of moves on standard input, what they give on standard output.
 #![tactic(auto)]
 
-use cj_edge::{StdSink, StdSource, WordsError, words};
+use cj_edge::{FileStore, StdSink, StdSource, SystemClock, WordsError, words};
 use cj_top::run;
 use std::process::ExitCode;
 
@@ -12,8 +12,23 @@ fn main(rt: HostRuntime) -> ExitCode {
         // A word that isn't UTF-8 is a faulty command line.
         Err(WordsError::NotUtf8) => return ExitCode::from(2),
     };
+    // Of other commands the second word names no configuration, and `run` reads none.
+    let conf_path = words.get(1).map_or("", |word| word.as_str());
+    let Ok(conf_path) = String::from_str(rt.alloc(), conf_path) else {
+        return ExitCode::from(1);
+    };
+    let mut conf = FileStore::open_to_read(rt, conf_path);
     let mut input = StdSource::new(rt.reader());
     let mut output = StdSink::new(rt.stdout());
     let mut errors = StdSink::new(rt.stderr());
-    ExitCode::from(run(rt.alloc(), &words, &mut input, &mut output, &mut errors))
+    let clock = SystemClock::new(rt);
+    ExitCode::from(run(
+        rt.alloc(),
+        &words,
+        &mut conf,
+        &mut input,
+        &mut output,
+        &mut errors,
+        &clock,
+    ))
 }
