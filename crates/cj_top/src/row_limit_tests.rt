@@ -1,22 +1,15 @@
 //! The most rows of a table, by a script of one session over two backends.
 
-use super::run;
-use cj_outside::{MemSink, MemSource};
+use crate::tests::{C1, Handed};
 use std::alloc::Global;
 use std::process::Abort;
 use std::test::Fail;
 
 /// What `script` writes where its input is this.
 fn played(alloc: Global, script: &str) -> Result<Vec<u8>, Fail> {
-    let mut source = MemSource::new(script.as_bytes().to_vec(alloc)?, Vec::new(alloc));
-    let mut sink = MemSink::new(Vec::new(alloc), Vec::new(alloc));
-    let mut errors = MemSink::new(Vec::new(alloc), Vec::new(alloc));
-    let mut words = Vec::new(alloc);
-    for word in ["script", "c1.toml"] {
-        words.push(String::from_str(alloc, word)?)?;
-    }
-    let _status = run(alloc, &words, &mut source, &mut sink, &mut errors);
-    Ok(sink.content().to_vec(alloc)?)
+    let mut handed = Handed::of(alloc, C1, script.as_bytes())?;
+    let _status = handed.run(alloc, "script c1.toml")?;
+    Ok(handed.output().to_vec(alloc)?)
 }
 
 fn is_query(statement: &str) -> bool {
