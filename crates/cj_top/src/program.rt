@@ -62,10 +62,14 @@ pub fn run<F: Store, I: Source, O: Sink, E: Sink, C: Clock>(
             return 3;
         }
     };
-    let status = if pipes {
-        run_pipe(alloc, configured, input, output, clock)
-    } else {
-        run_script(alloc, configured, input, output, errors)
-    };
-    status.unwrap_or(1)
+    if pipes {
+        return match run_pipe(alloc, configured, input, output, clock) {
+            Ok(status) => status,
+            Err(_) => 1,
+        };
+    }
+    match run_script(alloc, configured, input, output, errors) {
+        Ok(status) => status,
+        Err(_) => 1,
+    }
 }
