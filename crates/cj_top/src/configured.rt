@@ -150,11 +150,7 @@ fn explained(alloc: Global, error: &ConfError) -> Result<Vec<u8>, NoMemory>
     Ok(text)
 }
 
-fn write_refusal<E: Sink>(
-    alloc: Global,
-    error: &ConfError,
-    errors: &mut E,
-) -> Result<(), OutError>
+fn write_refusal<E: Sink>(alloc: Global, error: &ConfError, errors: &mut E) -> Result<(), OutError>
     ensures { WritesRefusal (E.held errors.old) (E.held errors.new) (E.faults errors.old) (E.faults errors.new) error.now }
 {
     match explained(alloc, error) {
