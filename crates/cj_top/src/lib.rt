@@ -2,14 +2,17 @@
 #![tactic(auto)]
 
 mod configured;
+mod files;
 mod piped;
 mod program;
 mod scripted;
 mod words;
 
+pub use files::Paths;
 pub use piped::pipe;
 pub use program::run;
 pub use scripted::play;
+pub use words::paths;
 
 #[cfg(test)]
 mod call_tests;

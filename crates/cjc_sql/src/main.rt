@@ -2,7 +2,7 @@
 #![tactic(auto)]
 
 use cj_edge::{FileStore, StdSink, StdSource, SystemClock, WordsError, words};
-use cj_top::run;
+use cj_top::{paths, run};
 use std::process::ExitCode;
 
 fn main(rt: HostRuntime) -> ExitCode {
@@ -12,8 +12,8 @@ fn main(rt: HostRuntime) -> ExitCode {
         // A word that isn't UTF-8 is a faulty command line.
         Err(WordsError::NotUtf8) => return ExitCode::from(2),
     };
-    // Of other commands the second word names no configuration, and `run` reads none.
-    let conf_path = words.get(1).map_or("", |word| word.as_str());
+    // Where the words are no command `run` reads no configuration.
+    let conf_path = paths(&words).map_or("", |paths| paths.conf);
     let Ok(conf_path) = String::from_str(rt.alloc(), conf_path) else {
         return ExitCode::from(1);
     };
