@@ -11,9 +11,10 @@ use Rattle.cj_records.specs.declared.place.Place.{Place}
 use Rattle.cj_records.specs.declared.error.RecordsError.{RecordsError}
 use Rattle.cj_records.specs.Refusals.{of_out}
 use Rattle.cj_records.specs.RecordFiles.{record_bytes}
-use Rattle.cj_records.specs.Parts.{KeepsFront, SameButGate, ShutsGate, WritesRecord}
-use Rattle.cj_records.specs.Places.{body_at, bodies_at, AllWithin, Reaches}
-use Rattle.cj_records.specs.Records.{body_behind, RecordList, Laid, AgreesWithStore, ShowsPart, Appends, Refuses}
+use Rattle.cj_records.specs.Proving.Parts.{KeepsFront, SameButGate, ShutsGate, WritesRecord}
+use Rattle.cj_records.specs.Proving.Places.{body_at, bodies_at, AllWithin, Reaches}
+use Rattle.cj_records.specs.Records.{RecordList, Appends, Refuses}
+use Rattle.cj_records.specs.Proving.Keeping.{body_behind, Laid, AgreesWithStore, ShowsPart}
 use Rattle.cj_records.proofs.Reach.{reaches_more, bodies_same, bodies_more, within_more, length-record}
 
 -- the records stay where the bytes before the gate stay

@@ -3,9 +3,10 @@ use Rattle.std.proofs.Common.{◌≡◌, ◌⊎◌, inl, inr, ⊎_elim, ℕ, ◌
 use Rattle.cj_outside.specs.declared.sink.OutError.{OutError}
 use Rattle.cj_outside.specs.Stores.{Torn, Only, Stepped, Steps, LeavesOnly, overwritten}
 use Rattle.cj_records.specs.declared.place.Place.{Place}
-use Rattle.cj_records.specs.Parts.{SameButGate, RecordStep, RecordSince, RecordImages}
-use Rattle.cj_records.specs.Places.{bodies_at}
-use Rattle.cj_records.specs.Records.{Laid, HasRecordBehind, body_behind, SurvivesStop, IsBeforeOrAfter}
+use Rattle.cj_records.specs.Proving.Parts.{SameButGate, RecordStep, RecordSince, RecordImages}
+use Rattle.cj_records.specs.Proving.Places.{bodies_at}
+use Rattle.cj_records.specs.Records.{IsBeforeOrAfter}
+use Rattle.cj_records.specs.Proving.Keeping.{Laid, HasRecordBehind, body_behind, SurvivesStop}
 use Rattle.cj_records.proofs.Begun.{laid_finds}
 use Rattle.cj_records.proofs.Appended.{kept_at}
 use Rattle.cj_records.proofs.Safe.{torn_same, same_trans, same_back, staged_same, staged_is, gate_cases, behind_laid, Behind}

@@ -5,7 +5,7 @@ use Rattle.std.proofs.lemmas.List.{take-append-drop, drop-drop}
 use Rattle.cj_codec.specs.Fields.{str64}
 use Rattle.cj_model.proofs.Fields.{IsBytes, wide64}
 use Rattle.cj_records.specs.declared.gate.Gate.TheVariants.{Open}
-use Rattle.cj_records.specs.Places.{StandsAt}
+use Rattle.cj_records.specs.Proving.Places.{StandsAt}
 
 -- an open gate with a whole record behind it
 pub whole_stands : (size behind : List ℕ) (n : ℕ) → IsBytes size → size ≡ take 8 behind → 8 ≤ length size → n ≡ from_be_bytes w64 size → 9 + n ≤ suc (length behind) → StandsAt (1 ∷ behind) (Open n)

@@ -6,7 +6,7 @@ use Rattle.std.proofs.lemmas.List.{take-append-drop, take_at, take-take, drop-ta
 use Rattle.std.proofs.Math.Seq.{take-add}
 use Rattle.cj_records.specs.declared.place.Place.{Place}
 use Rattle.cj_records.specs.RecordFiles.{record_bytes, front_bytes, HasLength, StartsWithRecords}
-use Rattle.cj_records.specs.Places.{body_at, bodies_at, end_of, AllWithin, Reaches}
+use Rattle.cj_records.specs.Proving.Places.{body_at, bodies_at, end_of, AllWithin, Reaches}
 
 pub length-record : (body : List ℕ) → length (record_bytes body) ≡ 9 + length body
 length-record body = omega (arith, length-append (to_be_bytes w64 (length body)) body)

@@ -7,9 +7,9 @@ use Rattle.cj_outside.specs.Stores.{Torn, overwritten}
 use Rattle.cj_codec.specs.Fields.{str64}
 use Rattle.cj_model.proofs.Fields.{wide64}
 use Rattle.cj_records.specs.RecordFiles.{record_bytes, HasLength, IsClosed, Finds}
-use Rattle.cj_records.specs.Parts.{SameButGate}
-use Rattle.cj_records.specs.Places.{Reaches}
-use Rattle.cj_records.specs.Records.{Laid, HasRecordBehind, body_behind}
+use Rattle.cj_records.specs.Proving.Parts.{SameButGate}
+use Rattle.cj_records.specs.Proving.Places.{Reaches}
+use Rattle.cj_records.specs.Proving.Keeping.{Laid, HasRecordBehind, body_behind}
 use Rattle.cj_records.proofs.Reach.{reaches_more, length-record}
 use Rattle.cj_records.proofs.Begun.{walked_finds}
 use Rattle.cj_records.proofs.Appended.{laid_front}

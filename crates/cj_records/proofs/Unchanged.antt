@@ -6,8 +6,9 @@ use Rattle.std.proofs.lemmas.List.{length-map}
 use Rattle.cj_records.specs.declared.place.Place.{Place}
 use Rattle.cj_records.specs.declared.error.RecordsError.{RecordsError}
 use Rattle.cj_records.specs.declared.error.RecordsError.TheVariants as errors
-use Rattle.cj_records.specs.Places.{body_at, bodies_at, end_of, AllWithin}
-use Rattle.cj_records.specs.Records.{RecordList, Laid, body_behind, SameRecords, Reads, ReadsPart}
+use Rattle.cj_records.specs.Proving.Places.{body_at, bodies_at, end_of, AllWithin}
+use Rattle.cj_records.specs.Records.{RecordList, SameRecords, Reads}
+use Rattle.cj_records.specs.Proving.Keeping.{Laid, body_behind, ReadsPart}
 use Rattle.cj_records.proofs.Appended.{kept_at}
 
 pub same_then : {S : Type 0} (tells : Bool) (held : S → List ℕ) (a b c : RecordList S) → SameRecords tells held a b → SameRecords tells held b c → SameRecords tells held a c

@@ -1,19 +1,12 @@
--- A list of byte strings in a store: what holds of it, and what its calls do.
-use Rattle.std.specs.Prelude.{◌≡◌, ◌≢◌, ◌⊎◌, ℕ, ◌+◌, ◌<◌, ◌≤◌, Bool, true, false, if◌then◌else◌, nat_le, List, [], ◌∷◌, ◌++◌, length, take, drop, slice_index_or, slice_get, Result, Ok, Err, Some}
+-- What contracts see of a list of byte strings in a store, and what its calls do.
+use Rattle.std.specs.Prelude.{◌≡◌, ◌⊎◌, ℕ, ◌+◌, ◌<◌, ◌≤◌, Bool, true, false, if◌then◌else◌, nat_le, List, [], ◌∷◌, ◌++◌, length, slice_get, Result, Ok, Err, Some}
 use Rattle.std.specs.Global.{Vec}
 use Rattle.cj_outside.specs.Causes.{next}
-use Rattle.cj_outside.specs.Streams.{most}
 use Rattle.cj_records.specs.declared.error.RecordsError.{RecordsError}
 use Rattle.cj_records.specs.declared.error.RecordsError.TheVariants as errors
-use Rattle.cj_records.specs.declared.place.Place.{Place}
-use Rattle.std.specs.Int.{w64, from_be_bytes}
-use Rattle.cj_codec.specs.Fields.{str64}
-use Rattle.cj_records.specs.RecordFiles.{HasLength, Finds}
-use Rattle.cj_records.specs.Parts.{SameButGate}
-use Rattle.cj_records.specs.Places.{body_at, bodies_at, AllWithin, Reaches}
+use Rattle.cj_records.specs.RecordFiles.{Finds}
 
--- What contracts see of records: their store, their magic, the list of their bodies, the offset of the gate behind them, whether that gate is torn, since
--- an append was refused while it was opened, and the body that was refused then.
+-- The store and its magic, the list of bodies, the offset of the gate behind them, whether that gate is torn (it may stand open, since an append failed while it was opened), and the body that was refused then.
 pub record RecordList (S : Type 0) : Type 0 where
   pub store : S
   pub magic : List ℕ
@@ -21,43 +14,6 @@ pub record RecordList (S : Type 0) : Type 0 where
   pub end : ℕ
   pub torn : Bool
   pub refused : List ℕ
-
--- the bytes are the magic, these records and a gate, which is closed unless it is torn
-pub record Laid (magic held : List ℕ) (bodies : List (List ℕ)) (end : ℕ) (torn : Bool) : Type 0 where
-  pub reaches : Reaches magic held bodies end
-  pub gate : end < length held
-  pub closed : torn ≡ false → slice_index_or held end 1 ≢ 1
-
--- the window shows what the store holds there
-abbrev pub ShowsPart : List ℕ → ℕ → List ℕ → Type 0
-ShowsPart held from shown = shown ≡ take (length shown) (drop from held)
-
--- what holds of the fields of records
-pub record AgreesWithStore (tells : Bool) (held magic : List ℕ) (places : List Place) (end : ℕ) (torn : Bool) (from : ℕ) (part : List ℕ) : Type 0 where
-  pub limit : end ≤ most
-  pub within : AllWithin end places
-  pub laid : tells ≡ true → Laid magic held (bodies_at held places) end torn
-  pub shown : tells ≡ true → ShowsPart held from part
-
--- ---- what a stop may leave
-
--- the body behind the gate, by the length that stands there
-abbrev pub body_behind : List ℕ → ℕ → List ℕ
-body_behind held end = take (from_be_bytes w64 (take 8 (drop (end + 1) held))) (drop (end + 9) held)
-
--- behind the gate stands a whole record with this body, and a closed gate
-pub record HasRecordBehind (held : List ℕ) (end : ℕ) (body : List ℕ) : Type 0 where
-  pub later : List ℕ
-  pub behind : drop (end + 1) held ≡ str64 body ++ 0 ∷ later
-  pub small : HasLength body
-
--- A stop leaves these records and a closed gate. While the gate is torn, it leaves the bytes as they are, but for that gate, and behind it stands the record that was refused.
-pub record SurvivesStop (tells : Bool) (held : List ℕ) (may : List ℕ → Type 0) (magic : List ℕ) (places : List Place) (end : ℕ) (torn : Bool) : Type 0 where
-  pub shut : tells ≡ true → torn ≡ false → (image : List ℕ) → may image → Laid magic image (bodies_at held places) end false
-  pub may_be_open : tells ≡ true → torn ≡ true → (image : List ℕ) → may image → SameButGate end held image
-  pub stands : tells ≡ true → torn ≡ true → HasRecordBehind held end (body_behind held end)
-
--- ---- calls
 
 -- opening counts a fault exactly where it answers that the store failed
 abbrev pub CountsOpenFault : {S : Type 0} → (S → ℕ) → ℕ → Result (RecordList S) (RecordsError × S) → Type 0
@@ -82,7 +38,7 @@ Opens held magic old (Err (errors.Failed, store)) = WritesOnlyNew old (held stor
 Opens held magic old (Err (errors.NoMemory, store)) = WritesOnlyNew old (held store)
 Opens held magic old (Err (errors.BadRecord offset, store)) = Finds magic old (Err offset) × (held store ≡ old)
 
--- an append adds the body at the end and tells the offset of its record; refused, it leaves the list and the offset of the next record
+-- an append adds the body at the end; refused, it leaves the list, and tells want of memory only before it opens the gate
 abbrev pub Appends : {S : Type 0} → RecordList S → List ℕ → RecordList S → Result ℕ RecordsError → Type 0
 Appends old body new (Ok offset) = (new.list ≡ old.list ++ body ∷ []) × (new.torn ≡ false)
 Appends old body new (Err errors.Failed) = new.list ≡ old.list
@@ -102,7 +58,7 @@ Refuses old body new (Err _) = new.torn ≡ true → (new.refused ≡ body) ⊎ 
 abbrev pub LeavesList : (List ℕ → Type 0) → List ℕ → List (List ℕ) → Type 0
 LeavesList may magic list = (image : List ℕ) → may image → Finds magic image (Ok list)
 
--- whatever the store tells: the number of records, and the offset
+-- Whatever the store tells, an append answers the offset of its record and makes one record more; refused, it leaves their number and the offset of the next one.
 abbrev pub CountsRecords : {S : Type 0} → RecordList S → ℕ → RecordList S → Result ℕ RecordsError → Type 0
 CountsRecords old len new (Ok offset) = (length new.list ≡ length old.list + 1) × (offset ≡ old.end) × (new.end ≡ old.end + 9 + len)
 CountsRecords old len new (Err errors.Failed) = (length new.list ≡ length old.list) × (new.end ≡ old.end)
@@ -118,13 +74,6 @@ pub record SameRecords {S : Type 0} (tells : Bool) (held : S → List ℕ) (old 
   pub torn : new.torn ≡ old.torn
   pub bytes : tells ≡ true → held new.store ≡ held old.store
   pub refused : tells ≡ true → new.refused ≡ old.refused
-
--- what reading a body at a place gives
-abbrev pub ReadsPart : List ℕ → Place → Result (Vec ℕ) RecordsError → Type 0
-ReadsPart held place (Ok body) = body.items ≡ body_at held place
-ReadsPart held place (Err errors.Failed) = Unit {0}
-ReadsPart held place (Err errors.NoMemory) = Unit {0}
-ReadsPart held place (Err (errors.BadRecord _)) = length (body_at held place) < place.len
 
 -- what reading gives
 abbrev pub Reads : {S : Type 0} → RecordList S → ℕ → Result (Vec ℕ) RecordsError → Type 0

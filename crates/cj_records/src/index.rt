@@ -4,9 +4,9 @@ ghost use Rattle.std.specs.Prelude.{◌≡◌, ◌+◌, ◌<◌, ◌≤◌, [], 
 ghost use Rattle.cj_outside.specs.Causes.{CountsFault};
 ghost use Rattle.cj_outside.specs.Streams.{most};
 ghost use Rattle.cj_outside.specs.Stores.{Stays, Torn, Steps, Only};
-ghost use Rattle.cj_records.specs.Places.{AllWithin};
-ghost use Rattle.cj_records.specs.Records.{ShowsPart};
-ghost use Rattle.cj_records.specs.Indexes.{Begins, Walks, Indexes};
+ghost use Rattle.cj_records.specs.Proving.Places.{AllWithin};
+ghost use Rattle.cj_records.specs.Proving.Keeping.{ShowsPart};
+ghost use Rattle.cj_records.specs.Proving.Indexes.{Begins, Walks, Indexes};
 
 use crate::error::RecordsError;
 use crate::gate::{Gate, gate_of};

@@ -4,7 +4,7 @@ ghost use Rattle.std.specs.Prelude.{◌≡◌, ◌+◌, ◌^◌, ◌<◌, ◌≤
 ghost use Rattle.cj_outside.specs.Causes.{CountsFault};
 ghost use Rattle.cj_outside.specs.Streams.{most};
 ghost use Rattle.cj_outside.specs.Stores.{KeepsLimit, Writes, Torn, Stays, Only, Steps};
-ghost use Rattle.cj_records.specs.Parts.{Fills, ShutsGate, WritesRecord, RecordImages, RecordSince};
+ghost use Rattle.cj_records.specs.Proving.Parts.{Fills, ShutsGate, WritesRecord, RecordImages, RecordSince};
 
 use cj_outside::{Failed, OutError, Store};
 

@@ -5,8 +5,9 @@ ghost use Rattle.cj_outside.specs.Causes.{CountsFault};
 ghost use Rattle.cj_outside.specs.Streams.{most};
 ghost use Rattle.cj_codec.specs.Fields.{str64};
 ghost use Rattle.cj_records.specs.RecordFiles.{Finds, front_bytes};
-ghost use Rattle.cj_records.specs.Places.{body_at, end_of};
-ghost use Rattle.cj_records.specs.Records.{CountsOpenFault, Opens, Appends, CountsRecords, SameRecords, Reads, ReadsPart, IsBeforeOrAfter, Refuses, LeavesList};
+ghost use Rattle.cj_records.specs.Proving.Places.{body_at, end_of};
+ghost use Rattle.cj_records.specs.Records.{CountsOpenFault, Opens, Appends, CountsRecords, SameRecords, Reads, IsBeforeOrAfter, Refuses, LeavesList};
+ghost use Rattle.cj_records.specs.Proving.Keeping.{ReadsPart};
 ghost use Rattle.cj_outside.specs.Stores.{Only, Stays, Steps, LeavesOnly};
 
 use crate::error::RecordsError;
@@ -37,8 +38,9 @@ pub struct Records<S: Store> {
 }
 
 impl<S: Store> Model for Records<S> {
-    ghost use Rattle.cj_records.specs.Places.{bodies_at};
-    ghost use Rattle.cj_records.specs.Records.{RecordList, AgreesWithStore, SurvivesStop, body_behind};
+    ghost use Rattle.cj_records.specs.Proving.Places.{bodies_at};
+    ghost use Rattle.cj_records.specs.Records.{RecordList};
+    ghost use Rattle.cj_records.specs.Proving.Keeping.{AgreesWithStore, SurvivesStop, body_behind};
 
     ghost Value = { RecordList S };
 

@@ -4,7 +4,7 @@ ghost use Rattle.std.specs.Prelude.{◌≡◌, ◌+◌, ◌-◌, ◌<◌, ◌≤
 ghost use Rattle.cj_outside.specs.Causes.{CountsFault};
 ghost use Rattle.cj_outside.specs.Streams.{most};
 ghost use Rattle.cj_outside.specs.Stores.{Stays, Steps};
-ghost use Rattle.cj_records.specs.Records.{ShowsPart};
+ghost use Rattle.cj_records.specs.Proving.Keeping.{ShowsPart};
 
 use crate::parts::fill;
 use cj_outside::{Failed, Store};
@@ -24,7 +24,7 @@ pub struct Window {
 
 impl Model for Window {
     ghost use Rattle.std.specs.Prelude.{◌≡◌, ◌≤◌, take, length};
-    ghost use Rattle.cj_records.specs.Windows.{WindowView};
+    ghost use Rattle.cj_records.specs.Proving.Windows.{WindowView};
     ghost use Rattle.cj_outside.specs.Streams.{most};
 
     ghost Value = { WindowView };

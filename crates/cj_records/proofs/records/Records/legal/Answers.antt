@@ -3,7 +3,7 @@ use Rattle.cj_records.specs.RecordFiles.{Finds}
 use Rattle.cj_records.specs.Records.{RecordList, LeavesList, IsBeforeOrAfter}
 use Rattle.cj_outside.specs.Stores.{LeavesOnly}
 use Rattle.cj_records.proofs.Crash.{started, safe_tells}
-use Rattle.cj_records.specs.Places.{bodies_at}
+use Rattle.cj_records.specs.Proving.Places.{bodies_at}
 use Rattle.cj_records.proofs.Begun.{laid_finds}
 use Rattle.cj_records.proofs.records.Records.legal.Goals as goal
 

@@ -1,7 +1,8 @@
 use Rattle.std.proofs.Common.{◌≡◌, ◌<◌, length, ap, sym, subst, arith}
 use Rattle.std.proofs.lemmas.List.{length-map}
-use Rattle.cj_records.specs.Places.{body_at, bodies_at}
-use Rattle.cj_records.specs.Records.{RecordList, ReadsPart}
+use Rattle.cj_records.specs.Proving.Places.{body_at, bodies_at}
+use Rattle.cj_records.specs.Records.{RecordList}
+use Rattle.cj_records.specs.Proving.Keeping.{ReadsPart}
 use Rattle.cj_records.proofs.Unchanged.{reads}
 use Rattle.cj_records.proofs.records.Records.read.Goals as goal
 

@@ -4,8 +4,9 @@ use Rattle.cj_records.specs.declared.index.Index.{Index}
 use Rattle.cj_records.specs.declared.error.RecordsError.{RecordsError}
 use Rattle.cj_records.specs.declared.error.RecordsError.TheVariants as errors
 use Rattle.cj_records.specs.RecordFiles.{IsClosed, Breaks, Finds}
-use Rattle.cj_records.specs.Places.{bodies_at, Reaches}
-use Rattle.cj_records.specs.Records.{Laid, begun, WritesOnlyNew}
+use Rattle.cj_records.specs.Proving.Places.{bodies_at, Reaches}
+use Rattle.cj_records.specs.Records.{begun, WritesOnlyNew}
+use Rattle.cj_records.specs.Proving.Keeping.{Laid}
 
 -- a new file was written
 abbrev pub Begins : {E : Type 0} → List ℕ → List ℕ → Result Unit E → Type 0
