@@ -1,0 +1,3 @@
+pub mod ItemFormats
+pub mod Listed
+pub mod Stops
