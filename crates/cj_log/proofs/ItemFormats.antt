@@ -1,8 +1,8 @@
 -- The body of an item is a format: its bytes are those of items, and it holds the items.
-use Rattle.std.proofs.Common.{◌≡◌, ◌≢◌, ◌⊎◌, ◌==◌, ℕ, ◌^◌, ◌<◌, ◌≤◌, Bool, true, false, cond, nat_le, List, [], ◌∷◌, ◌++◌, length, Option, Some, None, Result, Ok, Err, refl, sym, ap, subst, ◌∙◌, arith, inl, inr}
+use Rattle.std.proofs.Common.{◌≡◌, ◌==◌, ℕ, ◌^◌, ◌<◌, false, nat_le, List, [], ◌∷◌, ◌++◌, length, Option, Some, None, Result, Err, refl, sym, ap, subst, ◌∙◌, arith, inl, inr}
 use Rattle.std.proofs.lemmas.Bool.{cases_eq, eqb-true, ne_eqb, leb-true, le-leb, and_parts, and_from}
 use Rattle.cj_model.specs.declared.limits.TheConstants.{USER_LIMIT}
-use Rattle.cj_model.specs.Sql.Names.{is_text, is_name, IsNameOrEmpty}
+use Rattle.cj_model.specs.Sql.Names.{is_text, IsNameOrEmpty}
 use Rattle.cj_codec.specs.declared.error.CodecError.{CodecError}
 use Rattle.cj_codec.specs.declared.error.CodecError.TheVariants as codec
 use Rattle.cj_codec.specs.Fields.{byte, number64, string16, string64, name}
@@ -16,7 +16,7 @@ use Rattle.cj_log.specs.declared.error.ItemError.{ItemError}
 use Rattle.cj_log.specs.declared.item.LogItem.{LogItem}
 use Rattle.cj_log.specs.declared.item.LogItem.TheVariants.{Entry, Marker}
 use Rattle.cj_log.specs.Items.{backend_byte, item_bytes, IsBackend, IsItem, IsNoItem, BodiesFixItems}
-use Rattle.cj_log.specs.Proving.ItemFormats.{is_user, user, text, backend_of, backend, EntryFields, entry_from, entry_in, entry, MarkerFields, marker_from, marker_in, marker, kind_of, fields_of, item, item_error, FindsItem}
+use Rattle.cj_log.specs.Proving.ItemFormats.{is_user, user, text, backend_of, backend, entry_from, entry_in, entry, marker_from, marker_in, marker, kind_of, fields_of, item, item_error, FindsItem}
 
 -- ---- the law of formats
 

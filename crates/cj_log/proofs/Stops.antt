@@ -26,7 +26,8 @@ leaves_map moment since a b P Q s so = record {
 abbrev pub logged_at : {S : Type 0} → RecordList S → List LogItem → LogState S
 logged_at kept items = record { store = kept.store; items = items; torn = kept.torn; refused = kept.refused }
 
-keeps : (image magic : List ℕ) (list : List (List ℕ)) (items : List LogItem) → magic ≡ log_magic → list ≡ bodies_of items → AllByRecursion IsItem items → Finds magic image (Ok list) → KeepsItems image items
+-- what these records keep are the items
+pub keeps : (image magic : List ℕ) (list : List (List ℕ)) (items : List LogItem) → magic ≡ log_magic → list ≡ bodies_of items → AllByRecursion IsItem items → Finds magic image (Ok list) → KeepsItems image items
 keeps image magic list items is same all f = record {
   found = subst (λ (xs : List (List ℕ)). Finds log_magic image (Ok xs)) same (subst (λ (m : List ℕ). Finds m image (Ok list)) is f);
   each = all;

@@ -5,10 +5,10 @@ mod decode;
 mod encode;
 mod error;
 mod item;
-mod law;
+mod laws;
 mod log;
 
 pub use error::LogError;
 pub use item::{LogEntry, LogItem, LogMarker};
-pub use law::bodies_fix_items;
+pub use laws::bodies_fix_items;
 pub use log::Log;

@@ -6,7 +6,7 @@ ghost use Rattle.cj_outside.specs.Causes.{CountsFault};
 ghost use Rattle.cj_outside.specs.Stores.{Only, LeavesOnly};
 ghost use Rattle.cj_records.specs.Records.{SameRecords};
 ghost use Rattle.cj_log.specs.Items.{IsItem, CanAppend};
-ghost use Rattle.cj_log.specs.Logs.{log_magic, Adds, marker_of};
+ghost use Rattle.cj_log.specs.Logs.{log_magic, Adds, KeepsItems, marker_of};
 ghost use Rattle.cj_log.specs.Logs as log;
 ghost use Rattle.cj_log.specs.Proving.Keeping.{ItemsOf, log_error_of};
 
@@ -20,8 +20,8 @@ use cj_records::{Records, RecordsError};
 use std::alloc::Global;
 use std::marker::Model;
 
-/// The magic of a log, `CJL1`.
-const MAGIC: [u8; 4] = [67, 74, 76, 49];
+/// The magic of a log.
+const MAGIC: [u8; 4] = *b"CJL1";
 
 /// The items of all records, in order.
 fn read_items<S: Store>(
@@ -109,6 +109,7 @@ impl<S: Store> Log<S> {
     pub fn open(alloc: Global, store: S) -> Result<Log<S>, (RecordsError, S)>
         requires { S.TELLS ≡ true → Only (S.held store) (S.may store) }
         ensures bytes { S.TELLS ≡ true → log.Opens S.held (S.held store) result }
+        ensures shut { IfOk result (λ log. log.torn ≡ false) }
         ensures cause { log.CountsOpenFault S.faults (S.faults store) result }
     {
         let mut records = match Records::open(alloc, store, MAGIC) {
@@ -156,9 +157,20 @@ impl<S: Store> Log<S> {
         }
     }
 
-    /// The items, in order.
+    /// Shows what holds of all logs: the bytes, and what a stop leaves of them, keep these items, as
+    /// long as no append was refused while it opened a gate.
+    pub fn legal(&self)
+        ensures each { AllByRecursion IsItem self.now.items }
+        ensures items { S.TELLS ≡ true → self.now.torn ≡ false → KeepsItems (S.held self.now.store) self.now.items }
+        ensures safe { S.TELLS ≡ true → self.now.torn ≡ false → log.LeavesItems (S.may self.now.store) self.now.items }
+    {
+        self.records.legal();
+    }
+
+    /// The items, in order. They are fewer than 2^59.
     pub fn items(&self) -> &[LogItem]
-        ensures { result.now ≡ self.now.items }
+        ensures items { result.now ≡ self.now.items }
+        ensures few { length result.now < 2 ^ 59 }
     {
         &self.items
     }

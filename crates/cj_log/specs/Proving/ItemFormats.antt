@@ -10,8 +10,6 @@ use Rattle.cj_codec.specs.declared.error.CodecError.{CodecError}
 use Rattle.cj_codec.specs.declared.error.CodecError.TheVariants as codec
 use Rattle.cj_log.specs.declared.error.ItemError.{ItemError}
 use Rattle.cj_log.specs.declared.error.ItemError.TheVariants as errors
-use Rattle.cj_log.specs.declared.item.LogEntry.{LogEntry}
-use Rattle.cj_log.specs.declared.item.LogMarker.{LogMarker}
 use Rattle.cj_log.specs.declared.item.LogItem.{LogItem}
 use Rattle.cj_log.specs.declared.item.LogItem.TheVariants.{Entry, Marker}
 use Rattle.cj_log.specs.Items.{backend_byte, item_bytes, IsItem, IsNoItem}

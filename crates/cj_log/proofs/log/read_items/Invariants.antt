@@ -1,4 +1,4 @@
-use Rattle.std.proofs.Common.{◌≡◌, ◌≤◌, true, length, take}
+use Rattle.std.proofs.Common.{◌≡◌, true, length, take}
 use Rattle.std.specs.List.{AllByRecursion}
 use Rattle.cj_records.specs.RecordFiles.{front_bytes}
 use Rattle.cj_records.specs.Records.{SameRecords}
