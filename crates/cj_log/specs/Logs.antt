@@ -84,3 +84,7 @@ abbrev pub marker_of : List ℕ → List LogItem → Option ℕ
 marker_of name [] = None
 marker_of name (Entry e ∷ items) = marker_of name items
 marker_of name (Marker m ∷ items) = if bytes_eq m.name name then Some m.after else marker_of name items
+
+-- the bytes of a log fix its items
+abbrev pub BytesFixItems : Type 0
+BytesFixItems = (bytes : List ℕ) (a b : List LogItem) → KeepsItems bytes a → KeepsItems bytes b → a ≡ b

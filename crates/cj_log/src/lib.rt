@@ -10,5 +10,5 @@ mod log;
 
 pub use error::LogError;
 pub use item::{LogEntry, LogItem, LogMarker};
-pub use laws::bodies_fix_items;
+pub use laws::{bodies_fix_items, bytes_fix_items};
 pub use log::Log;
