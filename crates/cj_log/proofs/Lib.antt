@@ -1,0 +1,4 @@
+pub mod ItemFormats
+pub mod Listed
+pub mod OneLog
+pub mod Stops

@@ -1,0 +1,68 @@
+-- What a stop leaves of a log.
+use Rattle.std.proofs.Common.{◌≡◌, ◌⊎◌, inl, inr, ⊎_elim, ℕ, Bool, true, List, [], ◌∷◌, ◌++◌, ◌-◌, length, take, Ok, Err, refl, sym, ap, subst, ◌∙◌, arith, length-append}
+use Rattle.std.specs.List.{AllByRecursion}
+use Rattle.std.proofs.lemmas.List.{map-append, take_at}
+use Rattle.cj_outside.specs.Stores.{LeavesOnly}
+use Rattle.cj_records.specs.RecordFiles.{Finds}
+use Rattle.cj_records.specs.declared.error.RecordsError.{RecordsError}
+use Rattle.cj_records.specs.declared.error.RecordsError.TheVariants as errors
+use Rattle.cj_records.specs.Records.{RecordList}
+use Rattle.cj_records.specs.Records as records
+use Rattle.cj_log.specs.declared.item.LogItem.{LogItem}
+use Rattle.cj_log.specs.Items.{item_bytes, IsItem}
+use Rattle.cj_log.specs.Logs.{LogState, log_magic, bodies_of, KeepsItems, IsBeforeOrAfter}
+use Rattle.cj_log.specs.Proving.Keeping.{IsBody, AgreesWithRecords}
+use Rattle.cj_log.proofs.Listed.{each_more}
+
+-- what follows from what a stop leaves
+pub leaves_map : {D : Type 0} (moment : D → ℕ) (since : D → ℕ → List ℕ → Type 0) (a b : D) (P Q : List ℕ → Type 0) → LeavesOnly moment since a b P → ((image : List ℕ) → P image → Q image) → LeavesOnly moment since a b Q
+leaves_map moment since a b P Q s so = record {
+  later = s.later;
+  each = λ image left. so image (s.each image left);
+  before = λ t image le left. ⊎_elim (λ was. inl was) (λ p. inr (so image p)) (s.before t image le left);
+}
+
+-- what contracts see of a log with these fields
+abbrev pub logged_at : {S : Type 0} → RecordList S → List LogItem → LogState S
+logged_at kept items = record { store = kept.store; items = items; torn = kept.torn; refused = kept.refused }
+
+-- what these records keep are the items
+pub keeps : (image magic : List ℕ) (list : List (List ℕ)) (items : List LogItem) → magic ≡ log_magic → list ≡ bodies_of items → AllByRecursion IsItem items → Finds magic image (Ok list) → KeepsItems image items
+keeps image magic list items is same all f = record {
+  found = subst (λ (xs : List (List ℕ)). Finds log_magic image (Ok xs)) same (subst (λ (m : List ℕ). Finds m image (Ok list)) is f);
+  each = all;
+}
+
+more : (list : List (List ℕ)) (items : List LogItem) (item : LogItem) (body : List ℕ) → list ≡ bodies_of items → item_bytes item ≡ body → list ++ body ∷ [] ≡ bodies_of (items ++ item ∷ [])
+more list items item body same is = ap (λ (xs : List (List ℕ)). xs ++ body ∷ []) same ∙ ap (λ (b : List ℕ). bodies_of items ++ b ∷ []) (sym is) ∙ sym (map-append item_bytes items (item ∷ []))
+
+pub items_of : {S : Type 0} (tells : Bool) (kept : RecordList S) (items : List LogItem) (item : LogItem) (body image : List ℕ) → tells ≡ true → AgreesWithRecords tells kept items → IsItem item → item_bytes item ≡ body → records.IsBeforeOrAfter kept body image → IsBeforeOrAfter (logged_at kept items) item image
+items_of tells kept items item body image t l is its (inl f) = inl (keeps image kept.magic kept.list items l.magic (l.bodies t) l.each f)
+items_of tells kept items item body image t l is its (inr (inl f)) = inr (inl (keeps image kept.magic (kept.list ++ body ∷ []) (items ++ item ∷ []) l.magic (more kept.list items item body (l.bodies t) its) (each_more items item l.each is) f))
+items_of tells kept items item body image t l is its (inr (inr (up, f))) =
+    let r = l.refused t up in
+    inr (inr (r.0, up, r.2, keeps image kept.magic (kept.list ++ kept.refused ∷ []) (items ++ r.0 ∷ []) l.magic (more kept.list items r.0 kept.refused (l.bodies t) r.2) (each_more items r.0 l.each r.1) f))
+
+-- ---- what holds of the fields after a refused append
+
+pub list_stays : {S : Type 0} (old new : RecordList S) (body : List ℕ) (e : RecordsError) → records.Appends old body new (Err e) → new.list ≡ old.list
+list_stays old new body errors.Failed a = a
+list_stays old new body errors.NoMemory a = a.0
+list_stays old new body (errors.BadRecord offset) a = absurd a
+
+pub log_refused : {S : Type 0} (tells : Bool) (old new : RecordList S) (items items' : List LogItem) (item : LogItem) (body : List ℕ) (e : RecordsError) → AgreesWithRecords tells old items → items' ≡ items → new.magic ≡ old.magic → (tells ≡ true → records.Appends old body new (Err e)) → IsItem item → item_bytes item ≡ body
+    → (tells ≡ true → new.torn ≡ true → (new.refused ≡ body) ⊎ (old.torn ≡ true) × (new.refused ≡ old.refused)) → AgreesWithRecords tells new items'
+log_refused tells old new items items' item body e l same magic list is its refused = record {
+  magic = magic ∙ l.magic;
+  bodies = λ t. list_stays old new body e (list t) ∙ l.bodies t ∙ ap bodies_of (sym same);
+  each = subst (λ (xs : List LogItem). AllByRecursion IsItem xs) (sym same) l.each;
+  refused = λ t up. ⊎_elim
+      (λ now. subst IsBody (sym now) (item, is, its))
+      (λ was. subst IsBody (sym was.1) (l.refused t was.0)) (refused t up);
+}
+
+-- without the last item
+pub without_last : (before : List LogItem) (item : LogItem) (all left : List LogItem) → all ≡ before ++ item ∷ [] → left ≡ take (length all - 1) all → left ≡ before
+without_last before item all left is rest =
+    let size : length all - 1 ≡ length before = omega (arith, ap length is, length-append before (item ∷ [])) in
+    rest ∙ ap (λ (k : ℕ). take k all) size ∙ ap (take (length before)) is ∙ take_at before (item ∷ []) (length before) refl

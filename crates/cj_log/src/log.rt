@@ -1,0 +1,192 @@
+//! The log over its store.
+
+ghost use Rattle.std.specs.Prelude.{◌≡◌, List, ◌+◌, ◌<◌, ◌≤◌, ◌^◌, [], ◌∷◌, ◌++◌, true, false, length, IfOk, OnOk, IsErrOf};
+ghost use Rattle.std.specs.List.{AllByRecursion};
+ghost use Rattle.cj_outside.specs.Causes.{CountsFault};
+ghost use Rattle.cj_outside.specs.Stores.{Only, LeavesOnly};
+ghost use Rattle.cj_records.specs.Records.{SameRecords};
+ghost use Rattle.cj_log.specs.Items.{IsItem, CanAppend};
+ghost use Rattle.cj_log.specs.Logs.{log_magic, Adds, KeepsItems, marker_of};
+ghost use Rattle.cj_log.specs.Logs as log;
+ghost use Rattle.cj_log.specs.Proving.Keeping.{ItemsOf, log_error_of};
+
+use crate::decode::item_of;
+use crate::encode::{bytes_of, legal_item};
+use crate::error::{ItemError, LogError};
+use crate::item::LogItem;
+use cj_model::Name;
+use cj_outside::Store;
+use cj_records::{Records, RecordsError};
+use std::alloc::Global;
+use std::marker::Model;
+
+/// The magic of a log.
+const MAGIC: [u8; 4] = *b"CJL1";
+
+/// The items of all records, in order.
+fn read_items<S: Store>(
+    alloc: Global,
+    records: &mut Records<S>,
+) -> Result<Vec<LogItem>, RecordsError>
+    requires { records.old.magic ≡ log_magic }
+    ensures items { S.TELLS ≡ true → ItemsOf records.old.list result }
+    ensures each { IfOk result (λ items. AllByRecursion IsItem items.items) }
+    ensures same { SameRecords S.TELLS S.held records.old records.new }
+    ensures cause { CountsFault (IsErrOf result RecordsError.Failed) (S.faults records.old.store) (S.faults records.new.store) }
+{
+    records.legal();
+    let mut items = Vec::new(alloc);
+    let mut at: u64 = 4;
+    for n in 0..records.count() {
+        let body = records.read(n)?;
+        match item_of(alloc, &body) {
+            Ok(item) => items.push(item)?,
+            Err(ItemError::NoItem) => return Err(RecordsError::BadRecord(at)),
+            Err(ItemError::NoMemory) => return Err(RecordsError::NoMemory),
+        }
+        at = at.saturating_add(9 + body.len() as u64);
+    }
+    Ok(items)
+}
+
+/// How many entries stand before the first marker of a name, or none where no marker has it.
+fn marker_in(mut items: &[LogItem], name: &Name) -> Option<u64>
+    ensures { result ≡ marker_of name.now items.entry.now }
+{
+    while let [item, rest @ ..] = items {
+        if let LogItem::Marker(marker) = item {
+            if marker.name.is(name) {
+                return Some(marker.after);
+            }
+        }
+        items = rest;
+    }
+    None
+}
+
+/// Drops the item that was pushed last.
+fn drop_last(items: &mut Vec<LogItem>)
+    ensures { (before : List LogItem) (item : LogItem) → items.old.items ≡ before ++ item ∷ [] → items.new.items ≡ before }
+{
+    let _item = items.pop();
+}
+
+/// The refusal of an append, as the log tells it.
+fn log_error(error: RecordsError) -> LogError
+    ensures { result ≡ log_error_of error }
+{
+    match error {
+        RecordsError::NoMemory => LogError::NoMemory,
+        RecordsError::Failed | RecordsError::BadRecord(_) => LogError::Failed,
+    }
+}
+
+/// The recovery log: entries and markers in the order in which they were appended.
+#[derive(Drop)]
+pub struct Log<S: Store> {
+    alloc: Global,
+    records: Records<S>,
+    items: Vec<LogItem>,
+}
+
+impl<S: Store> Model for Log<S> {
+    ghost use Rattle.cj_log.specs.Logs.{LogState};
+    ghost use Rattle.cj_log.specs.Proving.Keeping.{AgreesWithRecords};
+
+    ghost Value = { LogState S };
+
+    ghost view = { λ log. record { store = log.records.store; items = log.items.items; torn = log.records.torn; refused = log.records.refused } };
+
+    ghost invariant = { λ log. AgreesWithRecords S.TELLS log.records log.items.items };
+}
+
+impl<S: Store> Log<S> {
+    /// Opens the log of a store, which is begun where it is new.
+    ///
+    /// All gates are looked at first, and then the bodies in order. `BadRecord` comes exactly where
+    /// the bytes are no log. Refused, it hands the store back, in which nothing was written but the
+    /// bytes of a new file.
+    pub fn open(alloc: Global, store: S) -> Result<Log<S>, (RecordsError, S)>
+        requires { S.TELLS ≡ true → Only (S.held store) (S.may store) }
+        ensures bytes { S.TELLS ≡ true → log.Opens S.held (S.held store) result }
+        ensures shut { IfOk result (λ log. log.torn ≡ false) }
+        ensures cause { log.CountsOpenFault S.faults (S.faults store) result }
+    {
+        let mut records = match Records::open(alloc, store, MAGIC) {
+            Ok(records) => records,
+            Err(refused) => return Err(refused),
+        };
+        match read_items(alloc, &mut records) {
+            Ok(items) => Ok(Log {
+                alloc,
+                records,
+                items,
+            }),
+            Err(error) => Err((error, records.into_store())),
+        }
+    }
+
+    /// Adds an item at the end. Refused, it leaves the list; `NoMemory` comes only before the gate
+    /// of the item is opened.
+    pub fn append(&mut self, item: LogItem) -> Result<(), LogError>
+        requires { CanAppend item }
+        ensures items { Adds self.old.items item self.new.items result }
+        ensures memory { S.TELLS ≡ true → IsErrOf result LogError.NoMemory → self.new.torn ≡ true → self.old.torn ≡ true }
+        ensures cause { CountsFault (IsErrOf result LogError.Failed) (S.faults self.old.store) (S.faults self.new.store) }
+
+        // A stop at any moment of the call leaves the items from before it, or one more; after `Ok` a stop
+        // leaves the new list.
+        ensures any_moment { S.TELLS ≡ true → LeavesOnly S.moment S.since self.old.store self.new.store (log.IsBeforeOrAfter self.old item) }
+        ensures refused { S.TELLS ≡ true → log.Refuses self.old item self.new result }
+        ensures safe { S.TELLS ≡ true → OnOk result (log.LeavesItems (S.may self.new.store) self.new.items) }
+    {
+        self.records.legal();
+        legal_item(&item);
+        let Ok(body) = bytes_of(self.alloc, &item) else {
+            return Err(LogError::NoMemory);
+        };
+        if self.items.push(item).is_err() {
+            return Err(LogError::NoMemory);
+        }
+        match self.records.append(&body) {
+            Ok(_) => Ok(()),
+            Err(error) => {
+                drop_last(&mut self.items);
+                Err(log_error(error))
+            }
+        }
+    }
+
+    /// Shows what holds of all logs: the bytes, and what a stop leaves of them, keep these items, as
+    /// long as no append was refused while it opened a gate.
+    pub fn legal(&self)
+        ensures each { AllByRecursion IsItem self.now.items }
+        ensures items { S.TELLS ≡ true → self.now.torn ≡ false → KeepsItems (S.held self.now.store) self.now.items }
+        ensures safe { S.TELLS ≡ true → self.now.torn ≡ false → log.LeavesItems (S.may self.now.store) self.now.items }
+    {
+        self.records.legal();
+    }
+
+    /// The items, in order. They are fewer than 2^59.
+    pub fn items(&self) -> &[LogItem]
+        ensures items { result.now ≡ self.now.items }
+        ensures few { length result.now < 2 ^ 59 }
+    {
+        &self.items
+    }
+
+    /// How many entries stand before the marker of a name, or none where there is none.
+    pub fn marker(&self, name: &Name) -> Option<u64>
+        ensures { result ≡ marker_of name.now self.now.items }
+    {
+        marker_in(&self.items, name)
+    }
+
+    /// The store, as it is.
+    pub fn into_store(self) -> S
+        ensures { result ≡ self.store }
+    {
+        let Log { records, .. } = self;
+        records.into_store()
+    }
+}

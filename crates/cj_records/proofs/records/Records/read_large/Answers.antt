@@ -1,0 +1,12 @@
+use Rattle.std.proofs.Common.{subst}
+use Rattle.cj_records.specs.Records.{RecordList, SameRecords}
+use Rattle.cj_records.proofs.Appended.{kept_at}
+use Rattle.cj_records.proofs.Unchanged.{kept_same}
+use Rattle.cj_records.proofs.records.Records.read_large.Goals as goal
+
+pub returns-then-count-place-clause-same : goal.returns-then-count-place-clause-same
+returns-then-count-place-clause-same g c =
+    let s = g.S.Store in
+    let r = c.self.inside in
+    subst (λ (v : RecordList g.row.S.Denot). SameRecords s.TELLS s.held v (kept_at s.held c.fill.new.store r.magic r.places.items r.end r.torn)) c.self.view_is
+    (kept_same s.TELLS s.held r.store c.fill.new.store r.magic r.places.items r.end r.torn c.fill.ensures.bytes)

@@ -1,0 +1,203 @@
+//! A list of byte strings in a store.
+
+ghost use Rattle.std.specs.Prelude.{◌≡◌, ℕ, List, ◌+◌, ◌^◌, ◌<◌, ◌≤◌, [], ◌∷◌, ◌++◌, true, false, length, take, drop, IfOk, OnOk, IsErr, IsErrOf};
+ghost use Rattle.cj_outside.specs.Causes.{CountsFault};
+ghost use Rattle.cj_outside.specs.Streams.{most};
+ghost use Rattle.cj_codec.specs.Fields.{str64};
+ghost use Rattle.cj_records.specs.RecordFiles.{Finds, front_bytes};
+ghost use Rattle.cj_records.specs.Proving.Places.{body_at, end_of};
+ghost use Rattle.cj_records.specs.Records.{CountsOpenFault, Opens, Appends, CountsRecords, SameRecords, Reads, IsBeforeOrAfter, Refuses, LeavesList};
+ghost use Rattle.cj_records.specs.Proving.Keeping.{ReadsPart};
+ghost use Rattle.cj_outside.specs.Stores.{Only, Stays, Steps, LeavesOnly};
+
+use crate::error::RecordsError;
+use crate::index::read_index;
+use crate::parts::{fill, shut_gate, write_record};
+use crate::place::Place;
+use crate::window::{PIECE, Window};
+use cj_outside::Store;
+use std::alloc::{AllocError, Global};
+use std::marker::Model;
+
+/// A list of byte strings, kept in a store as a record file.
+///
+/// Each body stands behind a gate and its length, and behind the last one stands a closed gate. A
+/// body is written whole, and made safe, before its gate is opened.
+#[derive(Drop)]
+pub struct Records<S: Store> {
+    alloc: Global,
+    store: S,
+    window: Window,
+    magic: [u8; 4],
+    /// Where the records stand.
+    places: Vec<Place>,
+    /// The offset of the gate behind the last of them.
+    end: u64,
+    /// Whether that gate may stand open, since an append failed while it was opened.
+    torn: bool,
+}
+
+impl<S: Store> Model for Records<S> {
+    ghost use Rattle.cj_records.specs.Proving.Places.{bodies_at};
+    ghost use Rattle.cj_records.specs.Records.{RecordList};
+    ghost use Rattle.cj_records.specs.Proving.Keeping.{AgreesWithStore, SurvivesStop, body_behind};
+
+    ghost Value = { RecordList S };
+
+    ghost view = { λ r. record { store = r.store; magic = r.magic; list = bodies_at (S.held r.store) r.places.items; end = r.end; torn = r.torn; refused = body_behind (S.held r.store) r.end } };
+
+    ghost invariant = { λ r. AgreesWithStore S.TELLS (S.held r.store) r.magic r.places.items r.end r.torn r.window.from r.window.bytes × SurvivesStop S.TELLS (S.held r.store) (S.may r.store) r.magic r.places.items r.end r.torn };
+}
+
+/// What stands behind the gate of a record: the length of the body, the body, and a closed gate.
+fn tail_of(alloc: Global, body: &[u8]) -> Result<Vec<u8>, AllocError>
+    ensures tail { IfOk result (λ tail. tail.items ≡ str64 body.now ++ 0 ∷ []) }
+    ensures len { length body.now < 2 ^ 64 }
+{
+    let mut tail = Vec::from_slice(alloc, &(body.len() as u64).to_be_bytes())?;
+    tail.extend_from_slice(body)?;
+    tail.push(0)?;
+    Ok(tail)
+}
+
+impl<S: Store> Records<S> {
+    /// Opens the records of a store, which is begun where it is new.
+    ///
+    /// Refused, it hands the store back, in which nothing was written but the bytes of a new file.
+    /// `BadRecord` comes exactly where the bytes are no record file with this magic.
+    pub fn open(alloc: Global, store: S, magic: [u8; 4]) -> Result<Records<S>, (RecordsError, S)>
+        requires { S.TELLS ≡ true → Only (S.held store) (S.may store) }
+        ensures bytes { S.TELLS ≡ true → Opens S.held magic (S.held store) result }
+        ensures magic { IfOk result (λ records. records.magic ≡ magic) }
+        ensures shut { IfOk result (λ records. records.torn ≡ false) }
+        ensures cause { CountsOpenFault S.faults (S.faults store) result }
+    {
+        let mut store = store;
+        let mut window = match Window::new(alloc) {
+            Ok(window) => window,
+            Err(_) => return Err((RecordsError::NoMemory, store)),
+        };
+        match read_index(alloc, &mut store, &mut window, &magic) {
+            Ok(index) => Ok(Records {
+                alloc,
+                store,
+                window,
+                magic,
+                places: index.places,
+                end: index.end,
+                torn: false,
+            }),
+            Err(error) => Err((error, store)),
+        }
+    }
+
+    /// Shows what holds of all records: their bytes are a record file with this list, as long as no
+    /// append was refused while it opened a gate.
+    pub fn legal(&self)
+        ensures list { S.TELLS ≡ true → self.now.torn ≡ false → Finds self.now.magic (S.held self.now.store) (Ok self.now.list) }
+        ensures end { S.TELLS ≡ true → self.now.end ≡ length (front_bytes self.now.magic self.now.list) }
+        ensures limit { self.now.end ≤ most }
+        ensures safe { S.TELLS ≡ true → self.now.torn ≡ false → LeavesList (S.may self.now.store) self.now.magic self.now.list }
+
+        // Between two calls a stop leaves this list, whatever is appended next, or it with the body that was
+        // refused.
+        ensures now { S.TELLS ≡ true → (body : List ℕ) → LeavesOnly S.moment S.since self.now.store self.now.store (IsBeforeOrAfter self.now body) }
+    {
+        let _ = &self.store;
+    }
+
+    /// How many records there are.
+    pub fn count(&self) -> u64
+        ensures { result ≡ length self.now.list }
+    {
+        self.places.len() as u64
+    }
+
+    /// Reads a body of at most a piece by the window.
+    fn read_small(&mut self, place: Place) -> Result<Vec<u8>, RecordsError>
+        requires piece { place.len ≤ PIECE }
+        requires end { end_of place ≤ most }
+        ensures body { S.TELLS ≡ true → ReadsPart (S.held self.old.store) place result }
+        ensures same { SameRecords S.TELLS S.held self.old self.new }
+        ensures cause { CountsFault (IsErrOf result RecordsError.Failed) (S.faults self.old.store) (S.faults self.new.store) }
+        ensures disk { Steps S.moment S.may S.since Stays self.old.store self.new.store }
+    {
+        let at = place.at + 9;
+        self.window.show(&mut self.store, at, place.len as usize)?;
+        let part = self.window.part(at, place.len as usize);
+        if part.len() as u64 != place.len {
+            return Err(RecordsError::BadRecord(place.at));
+        }
+        Ok(Vec::from_slice(self.alloc, part)?)
+    }
+
+    /// Reads a long body past the window.
+    fn read_large(&mut self, place: Place) -> Result<Vec<u8>, RecordsError>
+        requires end { end_of place ≤ most }
+        ensures body { S.TELLS ≡ true → ReadsPart (S.held self.old.store) place result }
+        ensures same { SameRecords S.TELLS S.held self.old self.new }
+        ensures cause { CountsFault (IsErrOf result RecordsError.Failed) (S.faults self.old.store) (S.faults self.new.store) }
+        ensures disk { Steps S.moment S.may S.since Stays self.old.store self.new.store }
+    {
+        let mut body = vec![in self.alloc; 0u8; place.len as usize]?;
+        let count = fill(&mut self.store, place.at + 9, &mut body)?;
+        if count as u64 != place.len {
+            return Err(RecordsError::BadRecord(place.at));
+        }
+        Ok(body)
+    }
+
+    /// The body of record `n`, counted from 0.
+    ///
+    /// `BadRecord` comes only over a store that tells nothing, where fewer bytes came back.
+    pub fn read(&mut self, n: u64) -> Result<Vec<u8>, RecordsError>
+        requires { n < length self.old.list }
+        ensures body { S.TELLS ≡ true → Reads self.old n result }
+        ensures same { SameRecords S.TELLS S.held self.old self.new }
+        ensures cause { CountsFault (IsErrOf result RecordsError.Failed) (S.faults self.old.store) (S.faults self.new.store) }
+        ensures disk { Steps S.moment S.may S.since Stays self.old.store self.new.store }
+    {
+        let place = self.places[n as usize];
+        if place.len <= PIECE as u64 {
+            self.read_small(place)
+        } else {
+            self.read_large(place)
+        }
+    }
+
+    /// Adds a record with this body at the end, and answers the offset of its gate.
+    ///
+    /// Refused, it leaves the list and the offset of the next record. `NoMemory` comes only before
+    /// the gate is opened.
+    pub fn append(&mut self, body: &[u8]) -> Result<u64, RecordsError>
+        ensures list { S.TELLS ≡ true → Appends self.old body.now self.new result }
+        ensures counts { CountsRecords self.old (length body.now) self.new result }
+        ensures magic { self.new.magic ≡ self.old.magic }
+        ensures cause { CountsFault (IsErrOf result RecordsError.Failed) (S.faults self.old.store) (S.faults self.new.store) }
+
+        // A stop at any moment of the call leaves the list from before it, or one body more; after `Ok` a
+        // stop leaves the new list.
+        ensures any_moment { S.TELLS ≡ true → LeavesOnly S.moment S.since self.old.store self.new.store (IsBeforeOrAfter self.old body.now) }
+        ensures safe { S.TELLS ≡ true → OnOk result (LeavesList (S.may self.new.store) self.new.magic self.new.list) }
+        ensures refused { S.TELLS ≡ true → Refuses self.old body.now self.new result }
+    {
+        let tail = tail_of(self.alloc, body)?;
+        self.places.reserve(1)?;
+        self.window.shut();
+        shut_gate(&mut self.store, self.end, &mut self.torn)?;
+        write_record(&mut self.store, self.end, &tail, &mut self.torn)?;
+        let at = self.end;
+        let len = body.len() as u64;
+        self.places.push_reserved(Place { at, len });
+        self.end = at + 9 + len;
+        Ok(at)
+    }
+
+    /// The store, as it is.
+    pub fn into_store(self) -> S
+        ensures { result ≡ self.store }
+    {
+        let Records { store, .. } = self;
+        store
+    }
+}
