@@ -11,6 +11,7 @@ pub mod Leaving
 pub mod Making
 pub mod Noting
 pub mod OpenNumbers
+pub mod QuietCalls
 pub mod Reading
 pub mod Resting
 pub mod Scheduling
