@@ -12,6 +12,7 @@ pub mod Making
 pub mod Noting
 pub mod OpenNumbers
 pub mod QuietCalls
+pub mod QuietSessions
 pub mod Reading
 pub mod Resting
 pub mod Scheduling

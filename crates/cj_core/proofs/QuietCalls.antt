@@ -57,27 +57,27 @@ one_more_fault low k b counts small above =
     (cases_eq k b)
 
 -- and so do as many as there are
-more_faults : (low k : ℕ) (counts failed : List ℕ) → low < 2 ^ 64 - 1 → low < get_or counts k 0 → low < get_or (faults_counted counts failed) k 0
+pub more_faults : (low k : ℕ) (counts failed : List ℕ) → low < 2 ^ 64 - 1 → low < get_or counts k 0 → low < get_or (faults_counted counts failed) k 0
 more_faults low k counts [] small above = above
 more_faults low k counts (b ∷ failed) small above = more_faults low k (faults_after counts (Some b)) failed small (one_more_fault low k b counts small above)
 
--- where the counts are as before, no backend failed
-nobody_failed : (counts failed : List ℕ) → CanCountMore counts → All (λ (b : ℕ). b < length counts) failed → faults_counted counts failed ≡ counts → failed ≡ []
-nobody_failed counts [] small each same = refl
-nobody_failed counts (b ∷ failed) small each same =
+-- where no count rose, no backend failed
+nobody_failed : (counts failed : List ℕ) → CanCountMore counts → All (λ (b : ℕ). b < length counts) failed → ((k : ℕ) → get_or (faults_counted counts failed) k 0 ≤ get_or counts k 0) → failed ≡ []
+nobody_failed counts [] small each low = refl
+nobody_failed counts (b ∷ failed) small each no_more =
     let within : b < length counts = All-head (λ (k : ℕ). k < length counts) b failed each in
     let low : get_or counts b 0 < 2 ^ 64 - 1 = small b 0 within in
     let counted : get_or (faults_after counts (Some b)) b 0 ≡ next (get_or counts b 0) = get_or-set_same counts b (next (get_or counts b 0)) 0 within in
     let more : get_or counts b 0 < next (get_or counts b 0) = omega (arith, low) in
     let first : get_or counts b 0 < get_or (faults_after counts (Some b)) b 0 = subst (λ (n : ℕ). get_or counts b 0 < n) (sym counted) more in
     let last : get_or counts b 0 < get_or (faults_counted (faults_after counts (Some b)) failed) b 0 = more_faults (get_or counts b 0) b (faults_after counts (Some b)) failed low first in
-    let is : get_or (faults_counted (faults_after counts (Some b)) failed) b 0 ≡ get_or counts b 0 = ap (λ (xs : List ℕ). get_or xs b 0) same in
+    let is : get_or (faults_counted (faults_after counts (Some b)) failed) b 0 ≤ get_or counts b 0 = no_more b in
     absurd (omega (arith, last, is))
 
 -- ---- replies
 
 -- a refusal by another code
-other_code : (reply : Reply) (r : Refusal) → reply ≡ Refused r → r.code ≢ READ_FAULT → r.code ≢ UNFINISHED → BlamesNobody reply
+pub other_code : (reply : Reply) (r : Refusal) → reply ≡ Refused r → r.code ≢ READ_FAULT → r.code ≢ UNFINISHED → BlamesNobody reply
 other_code reply r is no_fault finished q same = let e : r ≡ q = cc (is, same) in subst (λ (x : Refusal). (x.code ≢ READ_FAULT) × (x.code ≢ UNFINISHED)) e (no_fault, finished)
 
 -- what a change came to
@@ -185,11 +185,11 @@ module _ (tells : Bool) (p : Placement) (s : ℕ) (a : SessionView) (c : Call) (
 
 -- ---- a call
 
-pub quiet_turn : (tells : Bool) (s : ℕ) (old new : WorldState) (c : Call) → WorldTurn tells s old c new → faults_of new.cells ≡ faults_of old.cells → CanCountMore (faults_of old.cells) → BlamesNobody c.reply
-quiet_turn tells s old new c t same small =
+pub quiet_turn : (tells : Bool) (s : ℕ) (old new : WorldState) (c : Call) → WorldTurn tells s old c new → ((k : ℕ) → get_or (faults_of new.cells) k 0 ≤ get_or (faults_of old.cells) k 0) → CanCountMore (faults_of old.cells) → BlamesNobody c.reply
+quiet_turn tells s old new c t no_more small =
     let cells : length (faults_of old.cells) ≡ length old.cells = length-map old.cells (λ (x : CellState). x.faults) in
     let within : All (λ (b : ℕ). b < length (faults_of old.cells)) t.failed = subst (λ (n : ℕ). All (λ (b : ℕ). b < n) t.failed) (sym cells) t.backends in
-    let none : t.failed ≡ [] = nobody_failed (faults_of old.cells) t.failed small within (sym t.faults ∙ same) in
+    let none : t.failed ≡ [] = nobody_failed (faults_of old.cells) t.failed small within (subst (λ (counts : List ℕ). (k : ℕ) → get_or counts k 0 ≤ get_or (faults_of old.cells) k 0) t.faults no_more) in
     let events : AddsOwnEvents s c (act_of c.request) [] old.core.history new.core.history =
     subst (λ (failed : List ℕ). AddsOwnEvents s c (act_of c.request) failed old.core.history new.core.history) none t.events
     in

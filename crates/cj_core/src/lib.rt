@@ -18,7 +18,7 @@ mod transactions;
 mod world;
 
 pub use audit::AuditError;
-pub use laws::quiet_calls_blame_nobody;
+pub use laws::{quiet_calls_blame_nobody, quiet_sessions_blame_nobody};
 pub use solo::Solo;
 pub use start::{Backends, Parts};
 pub use world::World;
