@@ -1,7 +1,9 @@
--- Over a session over which no backend counted a fault, each reply blames nobody.
-use Rattle.std.proofs.Common.{◌≡◌, inl, inr, ℕ, ℤ, ◌-◌, ◌^◌, ◌<◌, ◌≤◌, ◌==◌, Bool, true, false, if◌then◌else◌, List, [], ◌∷◌, length, get_or, All, Option, None, Some, refl, ap, sym, subst, arith, ⊎_elim}
+-- Each reply of a session over which no backend counted a fault blames nobody.
+use Rattle.std.proofs.Common.{◌≡◌, inl, inr, ℕ, zero, suc, ℤ, ◌-◌, ◌^◌, ◌<◌, ◌≤◌, ◌==◌, Bool, true, false, if◌then◌else◌, List, [], ◌∷◌, length, get_or, All, Option, None, Some, refl, ap, sym, subst, arith, ⊎_elim}
 use Rattle.std.proofs.lemmas.Bool.{cases_lt}
 use Rattle.std.proofs.lemmas.List.{get_or_past, get_or_default}
+use Rattle.std.specs.List.{sum}
+use Rattle.std.proofs.lemmas.List.Sums.{sum_by-cons}
 use Rattle.std.proofs.lemmas.List.Elements.{All-cons, All-nil}
 use Rattle.cj_model.specs.declared.answer.Answer.{Answer}
 use Rattle.cj_model.specs.declared.answer.Refusal.{Refusal}
@@ -24,6 +26,39 @@ use Rattle.cj_core.specs.QuietCalls.{BlamesNobody, CanCountMore}
 use Rattle.cj_core.specs.Solos.{SoloState, SoloSteps, WorldTurn, desk_of}
 use Rattle.cj_core.proofs.QuietCalls.{more_faults, other_code, quiet_turn}
 
+-- ---- lists of counts, which are 0 past their end
+
+-- where no count is greater, the sum isn't
+sums_below : (xs ys : List ℕ) → ((k : ℕ) → get_or xs k 0 ≤ get_or ys k 0) → sum xs ≤ sum ys
+sums_below [] ys below = omega arith
+sums_below (x ∷ xs) [] below =
+    let head = below 0 in
+    let rest = sums_below xs [] (λ k. below (suc k)) in
+    let adds = sum_by-cons (λ (n : ℕ). n) x xs in
+    omega (arith, head, rest, adds)
+sums_below (x ∷ xs) (y ∷ ys) below =
+    let head = below 0 in
+    let rest = sums_below xs ys (λ k. below (suc k)) in
+    let adds = sum_by-cons (λ (n : ℕ). n) x xs in
+    let adds_too = sum_by-cons (λ (n : ℕ). n) y ys in
+    omega (arith, head, rest, adds, adds_too)
+
+-- where no count fell and the sum did not rise, no count rose
+none_rose : (xs ys : List ℕ) → ((k : ℕ) → get_or xs k 0 ≤ get_or ys k 0) → sum ys ≤ sum xs → (k : ℕ) → get_or ys k 0 ≤ get_or xs k 0
+none_rose xs [] below sums k = omega arith
+none_rose [] (y ∷ ys) below sums zero = let adds = sum_by-cons (λ (n : ℕ). n) y ys in omega (arith, adds, sums)
+none_rose [] (y ∷ ys) below sums (suc k) = let adds = sum_by-cons (λ (n : ℕ). n) y ys in none_rose [] ys (λ i. omega arith) (omega (arith, adds, sums)) k
+none_rose (x ∷ xs) (y ∷ ys) below sums zero =
+    let rest = sums_below xs ys (λ i. below (suc i)) in
+    let adds = sum_by-cons (λ (n : ℕ). n) x xs in
+    let adds_too = sum_by-cons (λ (n : ℕ). n) y ys in
+    omega (arith, rest, adds, adds_too, sums)
+none_rose (x ∷ xs) (y ∷ ys) below sums (suc k) =
+    let head = below 0 in
+    let adds = sum_by-cons (λ (n : ℕ). n) x xs in
+    let adds_too = sum_by-cons (λ (n : ℕ). n) y ys in
+    none_rose xs ys (λ i. below (suc i)) (omega (arith, head, adds, adds_too, sums)) k
+
 -- ---- counts
 
 -- how many faults backend k has counted
@@ -45,22 +80,30 @@ record IsQuiet (a z : SoloState) : Type 0 where
   no_more : (k : ℕ) → count_at z k ≤ count_at a k
   small : CanCountMore (faults_of a.world.cells)
 
--- where the counts at the end are those at the beginning, no call between them raised one
-module _ (begin a z end : SoloState) (first : Grows begin a) (call : Grows a z) (last : Grows z end) (same : faults_of end.world.cells ≡ faults_of begin.world.cells) (small : CanCountMore (faults_of begin.world.cells)) where
-  counted_at_end : (k : ℕ) → count_at end k ≡ count_at begin k
-  counted_at_end k = ap (λ (counts : List ℕ). get_or counts k 0) same
+-- each count stands below the type's end
+all_low : (a : SoloState) → CanCountMore (faults_of a.world.cells) → (k : ℕ) → count_at a k < 2 ^ 64 - 1
+all_low a small k =
+    ⊎_elim (λ (within : k < length (faults_of a.world.cells)). small k 0 within)
+    (λ (past : length (faults_of a.world.cells) ≤ k). let none : count_at a k ≡ 0 = get_or_past (faults_of a.world.cells) k 0 past in omega (arith, none)) (cases_lt k (length (faults_of a.world.cells)))
 
-  begins_low : (k : ℕ) → count_at begin k < 2 ^ 64 - 1
-  begins_low k =
-      ⊎_elim (λ (within : k < length (faults_of begin.world.cells)). small k 0 within)
-      (λ (past : length (faults_of begin.world.cells) ≤ k). let none : count_at begin k ≡ 0 = get_or_past (faults_of begin.world.cells) k 0 past in omega (arith, none)) (cases_lt k (length (faults_of begin.world.cells)))
+-- so none falls
+none_falls : (a z : SoloState) → CanCountMore (faults_of a.world.cells) → Grows a z → (k : ℕ) → count_at a k ≤ count_at z k
+none_falls a z small grows k =
+    ⊎_elim
+    (λ (fell : count_at z k < count_at a k).
+    let top = all_low a small k in
+    let again : count_at z k < count_at z k = grows (count_at z k) k (omega (arith, fell, top)) fell in
+    absurd (omega (arith, again)))
+    (λ (le : count_at a k ≤ count_at z k). le) (cases_lt (count_at z k) (count_at a k))
 
+-- where no count is greater at the end than at the beginning, no call between them raised one
+module _ (begin a z end : SoloState) (first : Grows begin a) (call : Grows a z) (last : Grows z end) (kept : (k : ℕ) → count_at end k ≤ count_at begin k) (small : CanCountMore (faults_of begin.world.cells)) where
   not_above : (k : ℕ) → count_at a k ≤ count_at begin k
   not_above k =
       ⊎_elim
       (λ (above : count_at begin k < count_at a k).
-      let at_end : count_at begin k < count_at end k = last (count_at begin k) k (begins_low k) (call (count_at begin k) k (begins_low k) above) in
-      let is = counted_at_end k in
+      let at_end : count_at begin k < count_at end k = last (count_at begin k) k (all_low begin small k) (call (count_at begin k) k (all_low begin small k) above) in
+      let is = kept k in
       absurd (omega (arith, at_end, is)))
       (λ (le : count_at a k ≤ count_at begin k). le) (cases_lt (count_at begin k) (count_at a k))
 
@@ -69,10 +112,10 @@ module _ (begin a z end : SoloState) (first : Grows begin a) (call : Grows a z) 
       ⊎_elim
       (λ (raised : count_at a k < count_at z k).
       let low = not_above k in
-      let top = begins_low k in
+      let top = all_low begin small k in
       let below : count_at a k < 2 ^ 64 - 1 = omega (arith, low, top) in
       let at_end : count_at a k < count_at end k = last (count_at a k) k below raised in
-      let is = counted_at_end k in
+      let is = kept k in
       let at_begin : count_at a k < count_at begin k = omega (arith, at_end, is) in
       let again : count_at a k < count_at a k = first (count_at a k) k below at_begin in
       absurd (omega (arith, again)))
@@ -85,7 +128,7 @@ module _ (begin a z end : SoloState) (first : Grows begin a) (call : Grows a z) 
         small =
             λ k d within.
             let low = not_above k in
-            let top = begins_low k in
+            let top = all_low begin small k in
             let same_at : get_or (faults_of a.world.cells) k d ≡ count_at a k = get_or_default (faults_of a.world.cells) k d 0 within in
             omega (arith, low, top, same_at);
       }
@@ -214,7 +257,7 @@ module _ {D : Type 0} (tells : Bool) (drawn : D → ℕ → ℕ) (later : D → 
   answer_quiet message.Stats a z r x quiet = stats_quiet a.user a.desk z.desk r x.0
   answer_quiet message.Quit a z r x quiet = absurd x
 
-  module _ (begin end : SoloState) (same : faults_of end.world.cells ≡ faults_of begin.world.cells) (small : CanCountMore (faults_of begin.world.cells)) where
+  module _ (begin end : SoloState) (kept : (k : ℕ) → count_at end k ≤ count_at begin k) (small : CanCountMore (faults_of begin.world.cells)) where
     exchanges_quiet : (ms : List Message) (rs : List Reply) (a z : ClientState SoloState D) → MessageExchanges w a ms rs z → Grows begin a.desk → Grows z.desk end → All BlamesNobody rs
     exchanges_quiet [] [] a z h first last = All-nil BlamesNobody
     exchanges_quiet [] (r ∷ rs) a z never first last = absurd never
@@ -222,11 +265,16 @@ module _ {D : Type 0} (tells : Bool) (drawn : D → ℕ → ℕ) (later : D → 
     exchanges_quiet (m ∷ ms) (r ∷ rs) a z h first last =
         let call : Grows a.desk h.0.desk = exchange_grows m a h.0 r h.1 in
         let rest : Grows h.0.desk end = grows_then h.0.desk z.desk end (exchanges_grow ms rs h.0 z h.2) last in
-        let quiet : IsQuiet a.desk h.0.desk = quiet_between begin a.desk h.0.desk end first call rest same small in
+        let quiet : IsQuiet a.desk h.0.desk = quiet_between begin a.desk h.0.desk end first call rest kept small in
         All-cons BlamesNobody r rs (sent_blames_nobody h.1.answer r h.1.sends (answer_quiet m a h.0 h.1.answer h.1.answers quiet))
         (exchanges_quiet ms rs h.0 z h.2 (grows_then begin a.desk h.0.desk first call) last)
 
   pub quiet_session : (a : ClientState SoloState D) (taken written : List ℕ) (ending : SessionEnd) (desk : SoloState) (draws : D) (t : SessionTranscript w a taken written ending desk draws)
-      → faults_of desk.world.cells ≡ faults_of a.desk.world.cells → CanCountMore (faults_of a.desk.world.cells) → All BlamesNobody t.replies
+      → sum (faults_of desk.world.cells) ≡ sum (faults_of a.desk.world.cells) → CanCountMore (faults_of a.desk.world.cells) → All BlamesNobody t.replies
   quiet_session a taken written ending desk draws t same small =
-      exchanges_quiet a.desk desk same small t.so_far.messages t.replies a t.last t.so_far.exchanges (grows_same a.desk a.desk refl) (leaves_grow t.last.user t.last.desk desk t.leaves)
+      let leaves : Grows t.last.desk desk = leaves_grow t.last.user t.last.desk desk t.leaves in
+      let whole : Grows a.desk desk = grows_then a.desk t.last.desk desk (exchanges_grow t.so_far.messages t.replies a t.last t.so_far.exchanges) leaves in
+      let kept : (k : ℕ) → count_at desk k ≤ count_at a.desk k =
+      none_rose (faults_of a.desk.world.cells) (faults_of desk.world.cells) (none_falls a.desk desk small whole) (omega (arith, same))
+      in
+      exchanges_quiet a.desk desk kept small t.so_far.messages t.replies a t.last t.so_far.exchanges (grows_same a.desk a.desk refl) leaves
