@@ -11,6 +11,8 @@ pub mod Leaving
 pub mod Making
 pub mod Noting
 pub mod OpenNumbers
+pub mod QuietCalls
+pub mod QuietSessions
 pub mod Reading
 pub mod Resting
 pub mod Scheduling

@@ -2,6 +2,7 @@
 use Rattle.std.proofs.Common.{Option, Ok, Err, ◌≡◌, ◌≢◌, ◌⊎◌, inl, inr, ℕ, ◌+◌, ◌<◌, ◌≤◌, ◌==◌, ◌&&◌, not, Bool, true, false, List, [], ◌∷◌, ◌++◌, length, map, None, Some, refl, ap, sym, ◌∙◌, subst, arith, ⊎_elim, append_assoc}
 use Rattle.std.proofs.lemmas.Bool.{and_parts, both_ways, cases_eq, ne_eqb}
 use Rattle.std.proofs.lemmas.List.{append-nil, map-append}
+use Rattle.std.proofs.lemmas.List.Elements.{All-append, All-cons, All-nil}
 use Rattle.std.proofs.lemmas.Grind.{fold-append}
 use Rattle.cj_model.specs.declared.request.Entry.{Entry}
 use Rattle.cj_model.specs.declared.request.Request.TheVariants as request
@@ -36,11 +37,12 @@ use Rattle.cj_cluster.proofs.TurnCases.{Rests, entries-same, turn_unserved, turn
 use Rattle.cj_core.specs.declared.cells.AskError.TheVariants as errors
 use Rattle.cj_core.specs.Effects.{Asks, with_core}
 use Rattle.cj_core.specs.Counting.{faults_of, faults_after}
-use Rattle.cj_core.specs.Solos.{AreCalledFor, AttemptsQuery, QueryAnswered, QueryUnnoted, QueryStarved, QueryFailed, WorldTurn, AddsOwnEvents, IsReadAtEnd, StandsBetweenCalls, call_of, faults_counted}
+use Rattle.cj_core.specs.Solos.{AreBackendsOf, AreCalledFor, AttemptsQuery, QueryAnswered, QueryUnnoted, QueryStarved, QueryFailed, WorldTurn, AddsOwnEvents, IsReadAtEnd, StandsBetweenCalls, call_of, faults_counted}
 use Rattle.cj_core.specs.Logins.{logins_of}
-use Rattle.cj_core.specs.Worlds.{WorldState, Setup, accounts_of}
+use Rattle.cj_core.specs.Worlds.{IsWorld, WorldState, Setup, accounts_of}
 use Rattle.cj_core.proofs.CellsKept.{at_log_end}
 use Rattle.cj_core.proofs.SoloLogins.{called_none, called_then}
+use Rattle.cj_core.proofs.SoloTaking.{cells_count}
 use Rattle.cj_core.proofs.SoloTurns.{failed_before, failed_now, failures_keep, idle_failures, log_failures, enabled_failures}
 
 -- the history with the failures of the session's next read
@@ -54,9 +56,23 @@ called_since old now logins user same was calls =
     called_then (accounts_of old) user (logins_of old.cells) (logins_of now.cells) logins was
     (subst (λ (s : Setup). AreCalledFor s.register.accounts user (logins_of now.cells) logins) same calls)
 
+-- one backend more
+one_more : (w : WorldState) (failed : List ℕ) (b : ℕ) → AreBackendsOf w failed → b < length w.cells → AreBackendsOf w (failed ++ b ∷ [])
+one_more w failed b each within =
+    All-append (λ (k : ℕ). k < length w.cells) failed (b ∷ []) each (All-cons (λ (k : ℕ). k < length w.cells) b [] within (All-nil (λ (k : ℕ). k < length w.cells)))
+
+-- one that serves the read is a backend
+pub serving_is_backend : (tells : Bool) (w : WorldState) (select : Select) (serving b : ℕ) → IsWorld tells w → IsServingMask w.core select serving → in_mask serving b ≡ true → b < length w.cells
+serving_is_backend tells w select serving b world serves there =
+    let lt : b < length w.core.positions = world.sound.hosts b ((serves b).1 there).0 in
+    let cells : length w.cells ≡ w.core.placement.backends = cells_count tells w world in
+    let places : length w.core.positions ≡ w.core.placement.backends = world.sound.cells in
+    omega arith
+
 -- Of the backends that serve the read, each that is left out of a mask has failed in it, and else nothing was changed.
 pub record QuerySoFar (s : ℕ) (user : List ℕ) (old : WorldState) (serving left : ℕ) (now : WorldState) : Type 0 where
   pub failed : List ℕ
+  pub backends : AreBackendsOf old failed
   pub core : now.core ≡ record old.core { history = with_failures old.core s failed }
   pub setup : now.setup ≡ old.setup
   pub faults : faults_of now.cells ≡ faults_counted (faults_of old.cells) failed
@@ -70,6 +86,7 @@ pub query_begins : (s : ℕ) (user : List ℕ) (old : WorldState) (serving : ℕ
 query_begins s user old serving w =
     record {
       failed = [];
+      backends = All-nil (λ (b : ℕ). b < length old.cells);
       core = ap (λ (h : List Event). record old.core { history = h }) (sym (append-nil old.core.history));
       setup = refl;
       faults = refl;
@@ -86,10 +103,10 @@ query_stands s user old now serving left stands so_far =
     (record { idle = idle_failures s ((session_at old.core s).queries + 1) old.core.history so_far.failed ∙ stands.idle; here = stands.here; no_read = stands.no_read })
 
 -- one backend more has failed
-pub query_goes_on : (s : ℕ) (user : List ℕ) (old now new : WorldState) (serving left less b : ℕ) → QuerySoFar s user old serving left now → QueryFailed s b now new → new.setup ≡ now.setup
+pub query_goes_on : (s : ℕ) (user : List ℕ) (old now new : WorldState) (serving left less b : ℕ) → b < length old.cells → QuerySoFar s user old serving left now → QueryFailed s b now new → new.setup ≡ now.setup
     → AreCalledFor (accounts_of now) user (logins_of now.cells) (logins_of new.cells)
     → ((k : ℕ) → in_mask less k ≡ (in_mask left k && not (k == b))) → in_mask left b ≡ true → QuerySoFar s user old serving less new
-query_goes_on s user old now new serving left less b so_far fails setup logins bits there =
+query_goes_on s user old now new serving left less b place so_far fails setup logins bits there =
     let q : ℕ = (session_at old.core s).queries + 1 in
     let ev : Event = ReadFailed s q b in
     let same : (session_at now.core s).queries + 1 ≡ q = ap (λ (c : Core). (session_at c s).queries + 1) so_far.core in
@@ -105,6 +122,7 @@ query_goes_on s user old now new serving left less b so_far fails setup logins b
     in
     record {
       failed = so_far.failed ++ b ∷ [];
+      backends = one_more old so_far.failed b so_far.backends place;
       core =
           grew
           ∙ (ap (λ (c : Core). record c { history = c.history ++ ev ∷ [] }) so_far.core ∙ ap (λ (h : List Event). record old.core { history = h }) (sym more));
@@ -142,7 +160,7 @@ no_answer c z r is never none (asked.Rows a) possible same = absurd (cc (is, sam
 no_answer c z r is never none (asked.Refused q) possible same = let e : q ≡ r = cc (is, same) in absurd (never (subst (λ (x : Refusal). IsQueryCode x.code) e possible))
 
 -- nor has it a code of a query's refusals
-no_code : (n : ℕ) → (n < NO_TABLE) ⊎ (WRONG_TYPE < n) → IsQueryCode n → ⊥
+pub no_code : (n : ℕ) → (n < NO_TABLE) ⊎ (WRONG_TYPE < n) → IsQueryCode n → ⊥
 no_code n out (inl q) = ⊎_elim (λ (lt : n < NO_TABLE). absurd (omega (arith, q))) (λ (gt : WRONG_TYPE < n). absurd (omega (arith, q))) out
 no_code n out (inr (inl q)) = ⊎_elim (λ (lt : n < NO_TABLE). absurd (omega (arith, q))) (λ (gt : WRONG_TYPE < n). absurd (omega (arith, q))) out
 no_code n out (inr (inr (inl q))) = ⊎_elim (λ (lt : n < NO_TABLE). absurd (omega (arith, q))) (λ (gt : WRONG_TYPE < n). absurd (omega (arith, q))) out
@@ -248,10 +266,10 @@ module _ (tells : Bool) (s tx : ℕ) (user : List ℕ) (select : Select) (old no
         ∙ ap (λ (n : ℕ). record { front = new.core.history; least = n }) (sym (ap (λ (x : OpenSession). x.least) new_session_is ∙ needs))
 
     -- with these failures, of which the history tells
-    pub read_is_turn : (reply : Reply) (failed : List ℕ) → ReadsTo tells s old.core (call reply) (record { front = now.core.history; least = least }) → new.setup ≡ now.setup
+    pub read_is_turn : (reply : Reply) (failed : List ℕ) → AreBackendsOf old failed → ReadsTo tells s old.core (call reply) (record { front = now.core.history; least = least }) → new.setup ≡ now.setup
         → AreCalledFor (accounts_of now) user (logins_of now.cells) (logins_of new.cells)
         → AddsOwnEvents s (call reply) None failed old.core.history new.core.history → faults_of new.cells ≡ faults_counted (faults_of old.cells) failed → WorldTurn tells s old (call reply) new
-    read_is_turn reply failed reads setup logins events faults =
+    read_is_turn reply failed backends reads setup logins events faults =
         let turn : ReadsTo tells s old.core (call reply) (seen_at new.core s) = subst (ReadsTo tells s old.core (call reply)) seen reads in
         record {
           placement = ap (λ (c : Core). c.placement) after ∙ ap (λ (c : Core). c.placement) so_far.core;
@@ -267,6 +285,7 @@ module _ (tells : Bool) (s tx : ℕ) (user : List ℕ) (select : Select) (old no
                 no_read = ap (λ (x : OpenSession). x.reading) new_session_is ∙ closed;
               };
           failed = failed;
+          backends = backends;
           events = events;
           faults = faults;
           logins = called_since old now (logins_of new.cells) user so_far.setup so_far.logins logins;
@@ -283,30 +302,30 @@ module _ (tells : Bool) (s tx : ℕ) (user : List ℕ) (select : Select) (old no
     pub refused_turn : new.core ≡ with_request_counted now.core s → faults_of new.cells ≡ faults_of now.cells
         → ReadsTo tells s old.core (call reply) (record { front = now.core.history; least = (session_at old.core s).least }) → WorldTurn tells s old (call reply) new
     refused_turn after counts reads =
-        read_is_turn new with_one_request (λ x. refl) after (session_at old.core s).least (ap (λ (c : Core). (session_at c s).least) so_far.core) refl stands.no_read stands reply so_far.failed reads setup logins
+        read_is_turn new with_one_request (λ x. refl) after (session_at old.core s).least (ap (λ (c : Core). (session_at c s).least) so_far.core) refl stands.no_read stands reply so_far.failed so_far.backends reads setup logins
         (noted (ap (λ (c : Core). c.history) after)) (counts ∙ so_far.faults)
 
     -- a backend answers it
     pub answered_turn : (b : ℕ) → in_mask serving b ≡ true → QueryAnswered tells s tx select now reply new → WorldTurn tells s old (call reply) new
     answered_turn b there answered =
-        read_is_turn new (λ x. answered_at (last_number now.core) (was_answered x)) (λ x. refl) answered.after (last_number now.core) refl (rw stands.no_read refl) refl stands reply so_far.failed
+        read_is_turn new (λ x. answered_at (last_number now.core) (was_answered x)) (λ x. refl) answered.after (last_number now.core) refl (rw stands.no_read refl) refl stands reply so_far.failed so_far.backends
         (answers b reply new there answered) setup logins (noted (ap (λ (c : Core). c.history) answered.after)) (answered.faults ∙ so_far.faults)
 
     -- one fails, and the history has no room to say so
-    pub unnoted_turn : (b : ℕ) → in_mask serving b ≡ true → QueryUnnoted s b now reply new → WorldTurn tells s old (call reply) new
-    unnoted_turn b there full =
+    pub unnoted_turn : (b : ℕ) → b < length old.cells → in_mask serving b ≡ true → QueryUnnoted s b now reply new → WorldTurn tells s old (call reply) new
+    unnoted_turn b place there full =
         let same : new.core.history ≡ now.core.history = ap (λ (c : Core). c.history) full.after in
         read_is_turn new with_one_request (λ x. refl) full.after (session_at old.core s).least (ap (λ (c : Core). (session_at c s).least) so_far.core) refl stands.no_read stands reply (so_far.failed ++ b ∷ [])
-        (unnoted b reply new there full) setup logins
+        (one_more old so_far.failed b so_far.backends place) (unnoted b reply new there full) setup logins
         (inr (record { noted = so_far.failed; last = b; is = refl; grew = same ∙ grown; full = ap events_left same ∙ full.full }))
         (full.faults
         ∙ (ap (λ (counts : List ℕ). faults_after counts (Some b)) so_far.faults ∙ sym (fold-append (λ (counts : List ℕ) (k : ℕ). faults_after counts (Some k)) (faults_of old.cells) so_far.failed (b ∷ []))))
 
     -- whatever an attempt came to
-    pub attempted_turn : (b : ℕ) → in_mask serving b ≡ true → AttemptsQuery tells s b tx select now (Some reply) new → WorldTurn tells s old (call reply) new
-    attempted_turn b there came =
+    pub attempted_turn : (b : ℕ) → b < length old.cells → in_mask serving b ≡ true → AttemptsQuery tells s b tx select now (Some reply) new → WorldTurn tells s old (call reply) new
+    attempted_turn b place there came =
         ⊎_elim (answered_turn b there)
-        (⊎_elim (unnoted_turn b there) (λ (starved : QueryStarved s now reply new). refused_turn starved.after starved.faults (starves reply starved.replied)))
+        (⊎_elim (unnoted_turn b place there) (λ (starved : QueryStarved s now reply new). refused_turn starved.after starved.faults (starves reply starved.replied)))
         came
 
   -- the session's request was counted, and else nothing was changed

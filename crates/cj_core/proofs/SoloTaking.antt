@@ -1,6 +1,8 @@
 -- The open entry is taken by one backend after another.
-use Rattle.std.proofs.Common.{◌≡◌, ◌≢◌, ℕ, ◌+◌, ◌<◌, ◌≤◌, Bool, true, cond, List, [], ◌∷◌, ◌++◌, length, Option, None, Some, Ok, refl, ap, sym, ◌∙◌, subst, arith, ⊎_elim}
+use Rattle.std.proofs.Common.{◌≡◌, ◌≢◌, ℕ, ◌+◌, ◌<◌, ◌≤◌, Bool, true, cond, List, [], ◌∷◌, ◌++◌, length, All, Option, None, Some, Ok, refl, ap, sym, ◌∙◌, subst, arith, ⊎_elim}
 use Rattle.std.proofs.lemmas.Bool.{cases_lt}
+use Rattle.std.proofs.lemmas.List.{length-map, length-set}
+use Rattle.std.proofs.lemmas.List.Elements.{All-append, All-cons, All-nil}
 use Rattle.std.proofs.lemmas.Grind.{fold-append}
 use Rattle.cj_model.specs.Cluster.Accounts.{login_of}
 use Rattle.cj_model.specs.Cluster.Masks.{with_backend}
@@ -13,10 +15,11 @@ use Rattle.cj_cluster.specs.Moves.Cores.{Core, position_at}
 use Rattle.cj_cluster.specs.Moves.Moves.{Applies, failed_after, first_lagging, not_now, position_or_zero}
 use Rattle.cj_cluster.specs.Proving.Invariants.{BackendStands, CoreInvariant}
 use Rattle.cj_cluster.proofs.Now.{CanApply, all_at_end, can_apply}
+use Rattle.cj_replica.specs.Cells.{CellState}
 use Rattle.cj_core.specs.Counting.{did_fail, faults_of, faults_after}
 use Rattle.cj_core.specs.Logins.{LogsInToTake, login_to_take, logins_of, next_user}
-use Rattle.cj_core.specs.Solos.{AreCalledFor, EntryTaken, HasTakenEntry, faults_counted, mask_with, open_user}
-use Rattle.cj_core.specs.Worlds.{Setup, WorldState, accounts_of}
+use Rattle.cj_core.specs.Solos.{AreBackendsOf, AreCalledFor, EntryTaken, HasTakenEntry, faults_counted, mask_with, open_user}
+use Rattle.cj_core.specs.Worlds.{IsWorld, Setup, WorldState, accounts_of}
 use Rattle.cj_core.proofs.SoloLogins.{called_then, called_to_take}
 
 -- ---- one backend
@@ -52,15 +55,40 @@ login_to_take_open w b sound within can =
     let here : p ≡ ended_count c.history = omega (arith, more) in
     ap (λ (o : Option ℕ). login_of (accounts_of w) (next_user (log c.history) o) b) (can.at ∙ ap (λ (n : ℕ). Some n) here)
 
+-- there are as many cells as backends
+pub cells_count : (tells : Bool) (w : WorldState) → IsWorld tells w → length w.cells ≡ w.core.placement.backends
+cells_count tells w world = sym (length-map w.cells (λ (x : CellState). x.position)) ∙ (ap length (sym world.positions) ∙ world.sound.cells)
+
+-- the one that failed is a backend
+failed_is_backend : (w : WorldState) (b : ℕ) (d : Did) → b < length w.cells → AreBackendsOf w (failed_in b d)
+failed_is_backend w b (did.Done o) within = All-nil (λ (k : ℕ). k < length w.cells)
+failed_is_backend w b did.Skipped within = All-nil (λ (k : ℕ). k < length w.cells)
+failed_is_backend w b did.Failed within = All-cons (λ (k : ℕ). k < length w.cells) b [] within (All-nil (λ (k : ℕ). k < length w.cells))
+failed_is_backend w b did.Starved within = All-nil (λ (k : ℕ). k < length w.cells)
+
+-- what is counted leaves how many counts there are
+counts_length : (counts failed : List ℕ) → length (faults_counted counts failed) ≡ length counts
+counts_length counts [] = refl
+counts_length counts (b ∷ failed) = counts_length (faults_after counts (Some b)) failed ∙ length-set counts b _
+
+-- so there are as many backends later
+same_backends : (old mid : WorldState) (failed : List ℕ) → faults_of mid.cells ≡ faults_counted (faults_of old.cells) failed → length mid.cells ≡ length old.cells
+same_backends old mid failed counted =
+    sym (length-map mid.cells (λ (x : CellState). x.faults)) ∙ (ap length counted ∙ (counts_length (faults_of old.cells) failed ∙ length-map old.cells (λ (x : CellState). x.faults)))
+
+backends_since : (old mid : WorldState) (failed more : List ℕ) → faults_of mid.cells ≡ faults_counted (faults_of old.cells) failed → AreBackendsOf mid more → AreBackendsOf old more
+backends_since old mid failed more counted each = subst (λ (n : ℕ). All (λ (b : ℕ). b < n) more) (same_backends old mid failed counted) each
+
 module _ (tells : Bool) (old new : WorldState) (b : ℕ) (d : Did) (applies : Applies tells old.core b (Ok (Applied b d)) new.core) where
-  pub took : CoreInvariant old.core → b < old.core.placement.backends → not_now old.core (Apply b) ≡ None → faults_of new.cells ≡ faults_after (faults_of old.cells) (cond (did_fail d) (Some b) None)
+  pub took : IsWorld tells old → b < old.core.placement.backends → not_now old.core (Apply b) ≡ None → faults_of new.cells ≡ faults_after (faults_of old.cells) (cond (did_fail d) (Some b) None)
       → LogsInToTake b (login_to_take old b) d (logins_of old.cells) (logins_of new.cells) → new.setup ≡ old.setup → EntryTaken (open_user old.core) old new
-  took sound within now counts logs setup =
-      let login = login_to_take_open old b sound within (can_apply old.core b now) in
+  took world within now counts logs setup =
+      let login = login_to_take_open old b world.sound within (can_apply old.core b now) in
       record {
         core = applies.1.2 ∙ sym (ap (λ (k : Core). record old.core { positions = k.positions; begun = k.begun; failed = k.failed; starved = k.starved }) applies.1.2);
         setup = setup;
         failed = failed_in b d;
+        backends = failed_is_backend old b d (rw (cells_count tells old world) within);
         mask = ap (λ (k : Core). k.failed) applies.1.2 ∙ mask_after old.core.failed b d;
         faults = counts ∙ counts_after (faults_of old.cells) b d;
         logins = called_to_take (accounts_of old) (open_user old.core) b d (logins_of old.cells) (logins_of new.cells) (subst (λ (name : List ℕ). LogsInToTake b name d (logins_of old.cells) (logins_of new.cells)) login logs);
@@ -75,6 +103,7 @@ taken_then old mid new user x y =
       core = y.core ∙ ap (λ (k : Core). record k { positions = new.core.positions; begun = new.core.begun; failed = new.core.failed; starved = new.core.starved }) x.core;
       setup = y.setup ∙ x.setup;
       failed = x.failed ++ y.failed;
+      backends = All-append (λ (b : ℕ). b < length old.cells) x.failed y.failed x.backends (backends_since old mid x.failed y.failed x.faults y.backends);
       mask = y.mask ∙ (ap (λ (m : ℕ). mask_with m y.failed) x.mask ∙ sym (fold-append with_backend old.core.failed x.failed y.failed));
       faults =
           y.faults

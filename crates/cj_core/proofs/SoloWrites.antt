@@ -2,6 +2,7 @@
 use Rattle.std.proofs.Common.{◌≡◌, ◌⊎◌, ℕ, suc, ◌<◌, Bool, true, false, List, [], ◌∷◌, ◌++◌, length, Option, Some, Ok, Err, refl, ap, sym, ◌∙◌, subst, ⊎_elim, append_assoc}
 use Rattle.std.specs.Option.{option_map_or}
 use Rattle.std.proofs.lemmas.Bool.{eq-eqb}
+use Rattle.std.proofs.lemmas.List.Elements.{All-nil}
 use Rattle.cj_model.specs.declared.request.Act.{Act}
 use Rattle.cj_model.specs.declared.request.Entry.{Entry}
 use Rattle.cj_model.specs.declared.answer.Refusal.{Refusal}
@@ -31,7 +32,7 @@ use Rattle.cj_cluster.proofs.TurnCases.{Rests, act_of_request, turn_unserved, tu
 use Rattle.cj_core.specs.Counting.{faults_of}
 use Rattle.cj_core.specs.Effects.{SchedulesAs, with_core}
 use Rattle.cj_core.specs.Logins.{logins_of}
-use Rattle.cj_core.specs.Solos.{AreCalledFor, StandsBetweenCalls, EntryEnded, WorldTurn, AddsEntry, AddsOwnEvents, IsReadAtEnd, SchedulesOrRefuses, call_of, open_user, own_entry, faults_counted, mask_with}
+use Rattle.cj_core.specs.Solos.{AreBackendsOf, AreCalledFor, StandsBetweenCalls, EntryEnded, WorldTurn, AddsEntry, AddsOwnEvents, IsReadAtEnd, SchedulesOrRefuses, call_of, open_user, own_entry, faults_counted, mask_with}
 use Rattle.cj_core.specs.Worlds.{WorldState, accounts_of}
 use Rattle.cj_core.proofs.SoloLogins.{called_none}
 use Rattle.cj_core.proofs.SoloTurns.{between_scheduled, between_taken, turn_ended}
@@ -145,6 +146,7 @@ module _ (tells : Bool) (s tx : ℕ) (user : List ℕ) (act : Act) (reply : Repl
           at_end = reads_nothing call (seen_at new.core s) act (act_of_request act);
           stands = still_stands;
           failed = ended.taken.failed;
+          backends = subst (λ (x : WorldState). AreBackendsOf x ended.taken.failed) after ended.taken.backends;
           events =
               subst (λ (o : Option Act). AddsOwnEvents s call o ended.taken.failed old.core.history new.core.history) (sym (act_of_request act))
               (suc (length (log old.core.history)), entry_added);
@@ -206,6 +208,7 @@ module _ (tells : Bool) (s tx : ℕ) (user : List ℕ) (act : Act) (old new : Wo
               no_read = ap (λ (x : OpenSession). x.reading) refused_session ∙ stands.no_read;
             };
         failed = [];
+        backends = All-nil (λ (b : ℕ). b < length old.cells);
         events = subst (λ (o : Option Act). AddsOwnEvents s refusing o [] old.core.history new.core.history) (sym (act_of_request act)) (0, (ap (λ (c : Core). c.history) refused_core, refl));
         faults = ap (λ (x : WorldState). faults_of x.cells) after;
         logins = called_none (accounts_of old) user (logins_of old.cells) (logins_of new.cells) (ap (λ (x : WorldState). logins_of x.cells) after);

@@ -6,6 +6,7 @@ pub mod Kept
 pub mod Logins
 pub mod Places
 pub mod Played
+pub mod QuietCalls
 pub mod Solos
 pub mod Starts
 pub mod Steps

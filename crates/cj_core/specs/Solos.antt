@@ -1,5 +1,5 @@
 -- A session over a whole world: what contracts see of it, and where its calls lead.
-use Rattle.std.specs.Prelude.{◌≡◌, ◌⊎◌, ℕ, zero, suc, ◌+◌, ◌<◌, Bool, true, List, [], ◌∷◌, ◌++◌, length, map, fold, slice_get, Result, Ok, Err}
+use Rattle.std.specs.Prelude.{◌≡◌, ◌⊎◌, ℕ, zero, suc, ◌+◌, ◌<◌, Bool, true, List, [], ◌∷◌, ◌++◌, length, map, fold, slice_get, All, Result, Ok, Err}
 use Rattle.std.specs.Option.{option_map_or}
 use Rattle.std.specs.declared.option.Option.{Option}
 use Rattle.std.specs.declared.option.Option.TheVariants.{None, Some}
@@ -66,6 +66,10 @@ pub record StandsBetweenCalls (c : Core) (s : ℕ) : Type 0 where
 abbrev pub AreCalledFor : List Account → List ℕ → List (Option (List ℕ)) → List (Option (List ℕ)) → Type 0
 AreCalledFor accounts user old new = (b : ℕ) → (slice_get new b ≡ slice_get old b) ⊎ (slice_get new b ≡ Some (Some (login_of accounts user b)))
 
+-- these are numbers of backends of this world
+abbrev pub AreBackendsOf : WorldState → List ℕ → Type 0
+AreBackendsOf w failed = All (λ (b : ℕ). b < length w.cells) failed
+
 -- each of these backends has counted one fault more, one after another
 abbrev pub faults_counted : List ℕ → List ℕ → List ℕ
 faults_counted faults failed = fold (λ (counts : List ℕ) (b : ℕ). faults_after counts (Some b)) faults failed
@@ -108,6 +112,7 @@ pub record WorldTurn (tells : Bool) (s : ℕ) (old : WorldState) (c : Call) (new
   pub stands : StandsBetweenCalls new.core s
   -- the backends that failed in it, each as often as it did
   pub failed : List ℕ
+  pub backends : AreBackendsOf old failed
   pub events : AddsOwnEvents s c (act_of c.request) failed old.core.history new.core.history
   pub faults : faults_of new.cells ≡ faults_counted (faults_of old.cells) failed
   pub logins : AreCalledFor (accounts_of old) c.user (logins_of old.cells) (logins_of new.cells)
@@ -149,6 +154,7 @@ pub record EntryTaken (user : List ℕ) (old new : WorldState) : Type 0 where
   pub core : new.core ≡ record old.core { positions = new.core.positions; begun = new.core.begun; failed = new.core.failed; starved = new.core.starved }
   pub setup : new.setup ≡ old.setup
   pub failed : List ℕ
+  pub backends : AreBackendsOf old failed
   pub mask : new.core.failed ≡ mask_with old.core.failed failed
   pub faults : faults_of new.cells ≡ faults_counted (faults_of old.cells) failed
   pub logins : AreCalledFor (accounts_of old) user (logins_of old.cells) (logins_of new.cells)

@@ -5,6 +5,7 @@
 mod audit;
 mod cells;
 mod emptied;
+mod laws;
 mod movers;
 mod reasons;
 mod runs;
@@ -17,6 +18,7 @@ mod transactions;
 mod world;
 
 pub use audit::AuditError;
+pub use laws::{quiet_calls_blame_nobody, quiet_sessions_blame_nobody};
 pub use solo::Solo;
 pub use start::{Backends, Parts};
 pub use world::World;

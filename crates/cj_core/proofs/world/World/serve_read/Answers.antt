@@ -7,7 +7,7 @@ use Rattle.cj_cluster.specs.History.Answering.{CanServe}
 use Rattle.cj_cluster.specs.Moves.Cores.{Core}
 use Rattle.cj_core.specs.Worlds.{WorldState}
 use Rattle.cj_core.specs.Solos.{StandsBetweenCalls}
-use Rattle.cj_core.proofs.SoloReads.{QuerySoFar, query_begins, query_goes_on, query_stands, serves_still, unserved, in_vain, attempted_turn, counted_turn}
+use Rattle.cj_core.proofs.SoloReads.{QuerySoFar, query_begins, query_goes_on, query_stands, serves_still, serving_is_backend, unserved, in_vain, attempted_turn, counted_turn}
 use Rattle.cj_core.proofs.world.World.serve_read.Goals as goal
 
 pub returns-then-serving-eq0 : goal.returns-then-serving-eq0
@@ -46,9 +46,10 @@ returns-in-Some-attempt g c =
     let so_far : QuerySoFar c.args.s c.args.user.now old c.serving-serving.result c.loop-b.left now =
     subst (QuerySoFar c.args.s c.args.user.now old c.serving-serving.result c.loop-b.left) (sym c.pick.ensures.same) c.loop-b.invariant.so_far
     in
+    let there : in_mask c.serving-serving.result c.in-Some.b ≡ true = so_far.within c.in-Some.b c.in-Some.ensures.some in
     attempted_turn g.B.Backend.TELLS c.args.s c.args.tx c.args.user.now c.args.select.now old now c.serving-serving.result c.loop-b.left c.legal.ensures.sound c.requires.tx c.serving-serving.ensures.mask so_far
     (query_stands c.args.s c.args.user.now old now c.serving-serving.result c.loop-b.left c.requires.stands so_far) c.attempt.new.self c.attempt.ensures.setup c.attempt.ensures.logins c.in-Some-attempt.reply c.in-Some.b
-    (so_far.within c.in-Some.b c.in-Some.ensures.some) c.in-Some-attempt.ensures.came
+    (serving_is_backend g.B.Backend.TELLS old c.args.select.now c.serving-serving.result c.in-Some.b c.legal.ensures c.serving-serving.ensures.mask there) there c.in-Some-attempt.ensures.came
 
 pub loop-b-preserved : goal.loop-b-preserved
 loop-b-preserved g c =
@@ -61,7 +62,8 @@ loop-b-preserved g c =
     let below = c.loop-b.invariant.below in
     record {
       so_far =
-          query_goes_on c.args.s c.args.user.now old now c.attempt.new.self c.serving-serving.result c.loop-b.left c.without_bit-left.result c.in-Some.b so_far c.in_default-attempt.ensures.came c.attempt.ensures.setup
+          query_goes_on c.args.s c.args.user.now old now c.attempt.new.self c.serving-serving.result c.loop-b.left c.without_bit-left.result c.in-Some.b
+          (serving_is_backend g.B.Backend.TELLS old c.args.select.now c.serving-serving.result c.in-Some.b c.legal.ensures c.serving-serving.ensures.mask (so_far.within c.in-Some.b c.in-Some.ensures.some)) so_far c.in_default-attempt.ensures.came c.attempt.ensures.setup
           c.attempt.ensures.logins c.without_bit-left.ensures.bits c.in-Some.ensures.some;
       below = omega (arith, less, below);
     }

@@ -1,0 +1,196 @@
+-- A call over which no backend counted a fault blames nobody.
+use Rattle.std.proofs.Common.{◌≡◌, ◌≢◌, inl, inr, ℕ, zero, suc, ◌+◌, ◌-◌, ◌==◌, ◌/◌, ◌%◌, ◌^◌, ◌<◌, ◌≤◌, Bool, true, List, [], ◌∷◌, ◌++◌, length, take, get_or, set, slice_get, All, Option, None, Some, refl, ap, sym, ◌∙◌, subst, arith, ⊎_elim, length-append}
+use mathlib.Core.List.{IsPrefix}
+use Rattle.std.proofs.lemmas.Bool.{cases_eq, cases_lt, eqb-true}
+use Rattle.std.proofs.lemmas.List.{append-nil, get_or-set_same, get_or-set_other, get_or_past, length-map}
+use Rattle.std.proofs.lemmas.List.Elements.{All-head, filter_map-append}
+use Rattle.std.proofs.lemmas.Nat.Bits.{bit_at_lowest, bit_at-suc}
+use Rattle.std.proofs.lemmas.Option.{slice_get_within}
+use Rattle.cj_outside.specs.Causes.{next}
+use Rattle.cj_model.specs.declared.answer.Asked.{Asked}
+use Rattle.cj_model.specs.declared.answer.Asked.TheVariants as asked
+use Rattle.cj_model.specs.declared.answer.Outcome.{Outcome}
+use Rattle.cj_model.specs.declared.answer.Outcome.TheVariants as outcome
+use Rattle.cj_model.specs.declared.answer.Refusal.{Refusal}
+use Rattle.cj_model.specs.declared.answer.Reply.{Reply}
+use Rattle.cj_model.specs.declared.answer.Reply.TheVariants.{Refused}
+use Rattle.cj_model.specs.declared.codes.TheConstants.{HISTORY_FULL, LOG_FAULT, NO_BACKEND, NO_MEMORY, READ_FAULT, STARVED_ALL, UNFINISHED}
+use Rattle.cj_model.specs.declared.request.Act.{Act}
+use Rattle.cj_model.specs.Cluster.Masks.{in_mask}
+use Rattle.cj_model.specs.Cluster.Placements.{Placement}
+use Rattle.cj_model.specs.Database.Inserts.{refusal_of_code}
+use Rattle.cj_model.specs.Database.Outcomes.{IsAsked, IsOutcome, IsQueryCode}
+use Rattle.cj_model.specs.Sql.PlainRequests.{act_of}
+use Rattle.cj_model.specs.Wire.Replies.{asked_reply, outcome_reply}
+use Rattle.cj_cluster.specs.declared.event.Event.{Event}
+use Rattle.cj_cluster.specs.declared.event.Event.TheVariants.{Sched, Ended}
+use Rattle.cj_cluster.specs.History.Answering.{AnswersEntry}
+use Rattle.cj_cluster.specs.History.Histories.{log, ended_count, is_idle, masks_of_end, masks_of_ends}
+use Rattle.cj_cluster.specs.History.Turns.{SessionView, Call, TurnCase, ScheduledTurn, ReadFaultTurn, scheduled, no_backend, read, read_fault, log_fault, full, starved, entry_of_call}
+use Rattle.cj_cluster.specs.Moves.Runs.{seen_at}
+use Rattle.cj_cluster.proofs.Pushed.{ends-prefix, length-ends, prefix_length}
+use Rattle.cj_replica.specs.Cells.{CellState}
+use Rattle.cj_core.specs.Counting.{faults_of, faults_after}
+use Rattle.cj_core.specs.QuietCalls.{BlamesNobody, CanCountMore}
+use Rattle.cj_core.specs.Solos.{AddsEntry, AddsOwnEvents, WorldTurn, faults_counted}
+use Rattle.cj_core.specs.Worlds.{WorldState}
+use Rattle.cj_core.proofs.SoloReads.{no_code}
+
+-- ---- counts
+
+-- one fault more leaves a count above what it was above
+one_more_fault : (low k b : ℕ) (counts : List ℕ) → low < 2 ^ 64 - 1 → low < get_or counts k 0 → low < get_or (faults_after counts (Some b)) k 0
+one_more_fault low k b counts small above =
+    ⊎_elim
+    (λ (same : k ≡ b).
+    ⊎_elim
+    (λ (within : b < length counts).
+    let counted : get_or (set counts b (next (get_or counts b 0))) b 0 ≡ next (get_or counts b 0) = get_or-set_same counts b (next (get_or counts b 0)) 0 within in
+    let above_there : low < get_or counts b 0 = subst (λ (i : ℕ). low < get_or counts i 0) same above in
+    let more : low < next (get_or counts b 0) = omega (arith, above_there, small) in
+    subst (λ (i : ℕ). low < get_or (set counts b (next (get_or counts b 0))) i 0) (sym same) (subst (λ (n : ℕ). low < n) (sym counted) more))
+    (λ (past : length counts ≤ b).
+    let none : get_or counts k 0 ≡ 0 = get_or_past counts k 0 (omega (arith, same, past)) in
+    absurd (omega (arith, above, none)))
+    (cases_lt b (length counts)))
+    (λ (other : k ≡ b → ⊥). subst (λ (n : ℕ). low < n) (sym (get_or-set_other counts b k (next (get_or counts b 0)) 0 other)) above)
+    (cases_eq k b)
+
+-- and so do as many as there are
+pub more_faults : (low k : ℕ) (counts failed : List ℕ) → low < 2 ^ 64 - 1 → low < get_or counts k 0 → low < get_or (faults_counted counts failed) k 0
+more_faults low k counts [] small above = above
+more_faults low k counts (b ∷ failed) small above = more_faults low k (faults_after counts (Some b)) failed small (one_more_fault low k b counts small above)
+
+-- where no count rose, no backend failed
+nobody_failed : (counts failed : List ℕ) → CanCountMore counts → All (λ (b : ℕ). b < length counts) failed → ((k : ℕ) → get_or (faults_counted counts failed) k 0 ≤ get_or counts k 0) → failed ≡ []
+nobody_failed counts [] small each low = refl
+nobody_failed counts (b ∷ failed) small each no_more =
+    let within : b < length counts = All-head (λ (k : ℕ). k < length counts) b failed each in
+    let low : get_or counts b 0 < 2 ^ 64 - 1 = small b 0 within in
+    let counted : get_or (faults_after counts (Some b)) b 0 ≡ next (get_or counts b 0) = get_or-set_same counts b (next (get_or counts b 0)) 0 within in
+    let more : get_or counts b 0 < next (get_or counts b 0) = omega (arith, low) in
+    let first : get_or counts b 0 < get_or (faults_after counts (Some b)) b 0 = subst (λ (n : ℕ). get_or counts b 0 < n) (sym counted) more in
+    let last : get_or counts b 0 < get_or (faults_counted (faults_after counts (Some b)) failed) b 0 = more_faults (get_or counts b 0) b (faults_after counts (Some b)) failed low first in
+    let is : get_or (faults_counted (faults_after counts (Some b)) failed) b 0 ≤ get_or counts b 0 = no_more b in
+    absurd (omega (arith, last, is))
+
+-- ---- replies
+
+-- a refusal by another code
+pub other_code : (reply : Reply) (r : Refusal) → reply ≡ Refused r → r.code ≢ READ_FAULT → r.code ≢ UNFINISHED → BlamesNobody reply
+other_code reply r is no_fault finished q same = let e : r ≡ q = cc (is, same) in subst (λ (x : Refusal). (x.code ≢ READ_FAULT) × (x.code ≢ UNFINISHED)) e (no_fault, finished)
+
+-- what a change came to
+outcome_blames_nobody : (reply : Reply) (o : Outcome) → IsOutcome o → reply ≡ outcome_reply o → BlamesNobody reply
+outcome_blames_nobody reply (outcome.Done n) possible is = λ q same. absurd (cc (is, same))
+outcome_blames_nobody reply (outcome.Refused r) possible is =
+    other_code reply r is (λ e. let most = possible.1 in absurd (omega (arith, most, e))) (λ e. let most = possible.1 in absurd (omega (arith, most, e)))
+
+-- what a query came to
+asked_blames_nobody : (reply : Reply) (a : Asked) → IsAsked a → reply ≡ asked_reply a → BlamesNobody reply
+asked_blames_nobody reply (asked.Rows rows) possible is = λ q same. absurd (cc (is, same))
+asked_blames_nobody reply (asked.Refused r) possible is =
+    other_code reply r is (λ e. no_code READ_FAULT (inr (omega arith)) (subst IsQueryCode e possible)) (λ e. no_code UNFINISHED (inr (omega arith)) (subst IsQueryCode e possible))
+
+-- ---- masks
+
+-- a mask that is not 0 has a backend
+some_backend : (most mask : ℕ) → mask ≤ most → mask ≢ 0 → (b : ℕ) × (in_mask mask b ≡ true)
+some_backend zero mask le some = absurd (some (omega (arith, le)))
+some_backend (suc most) mask le some =
+    ⊎_elim
+    (λ (odd : mask % 2 ≡ 1). (0, ap (λ (n : ℕ). n == 1) (bit_at_lowest mask ∙ odd)))
+    (λ (even : mask % 2 ≡ 1 → ⊥).
+    let half : mask / 2 ≢ 0 = λ e. some (omega (arith, even, e)) in
+    let less : mask / 2 ≤ most = omega (arith, le, some) in
+    let there = some_backend most (mask / 2) less half in
+    (suc there.0, ap (λ (n : ℕ). n == 1) (bit_at-suc mask there.0) ∙ there.1))
+    (cases_eq (mask % 2) 1)
+
+-- what stands behind a list's beginning is what was put there
+put_last : {A : Type 0} (xs : List A) (y z : A) (i : ℕ) → length xs ≤ i → slice_get (xs ++ y ∷ []) i ≡ Some z → z ≡ y
+put_last [] y z zero le is = cc is
+put_last [] y z (suc i) le is = absurd (cc is)
+put_last (x ∷ xs) y z zero le is = absurd (omega (arith, le))
+put_last (x ∷ xs) y z (suc i) le is = put_last xs y z i (omega (arith, le)) is
+
+-- what is taken beyond a list's beginning begins with it
+take_beyond : {A : Type 0} (f r : List A) (n : ℕ) → length f ≤ n → take n (f ++ r) ≡ f ++ take (n - length f) r
+take_beyond [] r n le = let e : n ≡ n - 0 = omega arith in ap (λ (k : ℕ). take k r) e
+take_beyond (x ∷ f) r zero le = absurd (omega (arith, le))
+take_beyond (x ∷ f) r (suc n) le =
+    let e : n - length f ≡ suc n - suc (length f) = omega arith in
+    ap (λ xs. x ∷ xs) (take_beyond f r n (omega (arith, le))) ∙ ap (λ (k : ℕ). x ∷ (f ++ take k r)) e
+
+prefix_beyond : {A : Type 0} (f h : List A) (n : ℕ) → IsPrefix f h → length f ≤ n → IsPrefix f (take n h)
+prefix_beyond f h n p le = (take (n - length f) p.0, sym (take_beyond f p.0 n le) ∙ ap (take n) p.1)
+
+-- the entry that the history grew by has ended with no failed backend
+no_failed_mask : (number s : ℕ) (c : Call) (act : Act) (h g : List Event) (m failed wanting : ℕ) → AddsEntry number s c act [] h g → length h ≤ m → m < length g → is_idle (take m g) ≡ true
+    → slice_get (masks_of_ends g) (length (log (take m g))) ≡ Some (failed, wanting) → failed ≡ 0
+no_failed_mask zero s c act h g m failed wanting adds low high idle masks = let same : length g ≡ length h = ap length adds.0 in absurd (omega (arith, low, high, same))
+no_failed_mask (suc n) s c act h g m failed wanting adds low high idle masks =
+    let is : g ≡ h ++ Sched (entry_of_call s c act) ∷ Ended 0 adds.1.0 ∷ [] = adds.1.1 in
+    let before : IsPrefix h (take m g) = prefix_beyond h g m (Sched (entry_of_call s c act) ∷ Ended 0 adds.1.0 ∷ [], sym is) low in
+    let fewer : length (masks_of_ends h) ≤ length (masks_of_ends (take m g)) = prefix_length (masks_of_ends h) (masks_of_ends (take m g)) (ends-prefix h (take m g) before) in
+    let ends : length (masks_of_ends (take m g)) ≡ ended_count (take m g) = length-ends (take m g) in
+    let all : ended_count (take m g) ≡ length (log (take m g)) = eqb-true _ _ idle in
+    let made : masks_of_ends g ≡ masks_of_ends h ++ (0, adds.1.0) ∷ [] = ap masks_of_ends is ∙ filter_map-append masks_of_end h (Sched (entry_of_call s c act) ∷ Ended 0 adds.1.0 ∷ []) in
+    let there : slice_get (masks_of_ends h ++ (0, adds.1.0) ∷ []) (length (log (take m g))) ≡ Some (failed, wanting) = ap (λ ms. slice_get ms (length (log (take m g)))) (sym made) ∙ masks in
+    let last : (failed, wanting) ≡ (0, adds.1.0) = put_last (masks_of_ends h) (0, adds.1.0) (failed, wanting) (length (log (take m g))) (omega (arith, fewer, ends, all)) there in
+    ap (λ (x : ℕ × ℕ). x.0) last
+
+-- ---- the cases of a turn in which no backend failed
+
+-- a read left the history as it was
+read_adds_nothing : (s : ℕ) (c : Call) (h g : List Event) → AddsOwnEvents s c None [] h g → length g ≡ length h
+read_adds_nothing s c h g (inl e) = ap length (e ∙ append-nil h)
+read_adds_nothing s c h g (inr lacks) =
+    let none : 0 ≡ length (lacks.noted ++ lacks.last ∷ []) = ap length lacks.is in
+    let some : length (lacks.noted ++ lacks.last ∷ []) ≡ length lacks.noted + 1 = length-append lacks.noted (lacks.last ∷ []) in
+    absurd (omega (arith, none, some))
+
+module _ (tells : Bool) (p : Placement) (s : ℕ) (a : SessionView) (c : Call) (z : SessionView) (events : AddsOwnEvents s c (act_of c.request) [] a.front z.front) where
+  entry_blames_nobody : (x : ScheduledTurn tells p s a c z) → AnswersEntry tells p (take x.m z.front) z.front (length (log (take x.m z.front))) (entry_of_call s c x.act) c.reply → BlamesNobody c.reply
+  entry_blames_nobody x (inl finished) = outcome_blames_nobody c.reply finished.outcome finished.possible finished.replied
+  entry_blames_nobody x (inr unfinished) =
+      let adds = subst (λ (o : Option Act). AddsOwnEvents s c o [] a.front z.front) x.is events in
+      let none : unfinished.failed ≡ 0 =
+      no_failed_mask adds.0 s c x.act a.front z.front x.m unfinished.failed unfinished.starved adds.1 x.moment.low (slice_get_within z.front x.m (Sched (entry_of_call s c x.act)) x.next) x.was_free unfinished.masks
+      in
+      ⊎_elim
+      (λ (some : (unfinished.failed ≢ 0) × (c.reply ≡ Refused (record { code = UNFINISHED; a = unfinished.failed; b = unfinished.starved }))). absurd (some.0 none))
+      (λ (want : (unfinished.failed ≡ 0) × (c.reply ≡ Refused (record { code = STARVED_ALL; a = 0; b = unfinished.starved }))).
+      other_code c.reply (record { code = STARVED_ALL; a = 0; b = unfinished.starved }) want.1 (λ e. absurd (omega (arith, e))) (λ e. absurd (omega (arith, e))))
+      unfinished.replied
+
+  no_read_fault : ReadFaultTurn p s a c z → ⊥
+  no_read_fault x =
+      let b = some_backend x.mask x.mask (omega arith) x.some in
+      let f = x.failed b.0 b.1 in
+      let low : length a.front ≤ f.0 = f.1 in
+      let high : f.0 < x.m = f.2 in
+      let within : x.m ≤ length z.front = x.moment.high in
+      let same : length z.front ≡ length a.front = read_adds_nothing s c a.front z.front (subst (λ (o : Option Act). AddsOwnEvents s c o [] a.front z.front) (ap act_of x.is) events) in
+      omega (arith, low, high, within, same)
+
+  case_blames_nobody : TurnCase tells p s a c z → BlamesNobody c.reply
+  case_blames_nobody (scheduled x) = entry_blames_nobody x x.answer
+  case_blames_nobody (no_backend x) = other_code c.reply (refusal_of_code NO_BACKEND) x.replied (λ e. absurd (omega (arith, e))) (λ e. absurd (omega (arith, e)))
+  case_blames_nobody (read x) = asked_blames_nobody c.reply x.answer x.possible x.replied
+  case_blames_nobody (read_fault x) = absurd (no_read_fault x)
+  case_blames_nobody (log_fault x) = other_code c.reply (refusal_of_code LOG_FAULT) x.replied (λ e. absurd (omega (arith, e))) (λ e. absurd (omega (arith, e)))
+  case_blames_nobody (full x) = other_code c.reply (record { code = HISTORY_FULL; a = x.m; b = 0 }) x.replied (λ e. absurd (omega (arith, e))) (λ e. absurd (omega (arith, e)))
+  case_blames_nobody (starved x) = other_code c.reply (refusal_of_code NO_MEMORY) x.replied (λ e. absurd (omega (arith, e))) (λ e. absurd (omega (arith, e)))
+
+-- ---- a call
+
+pub quiet_turn : (tells : Bool) (s : ℕ) (old new : WorldState) (c : Call) → WorldTurn tells s old c new → ((k : ℕ) → get_or (faults_of new.cells) k 0 ≤ get_or (faults_of old.cells) k 0) → CanCountMore (faults_of old.cells) → BlamesNobody c.reply
+quiet_turn tells s old new c t no_more small =
+    let cells : length (faults_of old.cells) ≡ length old.cells = length-map old.cells (λ (x : CellState). x.faults) in
+    let within : All (λ (b : ℕ). b < length (faults_of old.cells)) t.failed = subst (λ (n : ℕ). All (λ (b : ℕ). b < n) t.failed) (sym cells) t.backends in
+    let none : t.failed ≡ [] = nobody_failed (faults_of old.cells) t.failed small within (subst (λ (counts : List ℕ). (k : ℕ) → get_or counts k 0 ≤ get_or (faults_of old.cells) k 0) t.faults no_more) in
+    let events : AddsOwnEvents s c (act_of c.request) [] old.core.history new.core.history =
+    subst (λ (failed : List ℕ). AddsOwnEvents s c (act_of c.request) failed old.core.history new.core.history) none t.events
+    in
+    case_blames_nobody tells old.core.placement s (seen_at old.core s) c (seen_at new.core s) events t.turn.case

@@ -1,0 +1,14 @@
+-- Calls over which no backend counted a fault.
+use Rattle.std.specs.Prelude.{◌≡◌, ◌≢◌, ℕ, ◌-◌, ◌^◌, ◌<◌, List, All}
+use Rattle.cj_model.specs.declared.answer.Refusal.{Refusal}
+use Rattle.cj_model.specs.declared.answer.Reply.{Reply}
+use Rattle.cj_model.specs.declared.answer.Reply.TheVariants.{Refused}
+use Rattle.cj_model.specs.declared.codes.TheConstants.{READ_FAULT, UNFINISHED}
+
+-- no count stands at the largest `u64`, where it would stay
+abbrev pub CanCountMore : List ℕ → Type 0
+CanCountMore faults = All (λ (n : ℕ). n < 2 ^ 64 - 1) faults
+
+-- the reply doesn't say that backends failed
+abbrev pub BlamesNobody : Reply → Type 0
+BlamesNobody reply = (r : Refusal) → reply ≡ Refused r → (r.code ≢ READ_FAULT) × (r.code ≢ UNFINISHED)
