@@ -1,5 +1,5 @@
 -- The command `pipe`: one session at a world of its own.
-use Rattle.std.specs.Prelude.{◌≡◌, ℕ, ℤ, ◌+◌, ◌%◌, ◌^◌, Bool, true, List, []}
+use Rattle.std.specs.Prelude.{◌≡◌, ℕ, ℤ, ◌+◌, ◌%◌, ◌^◌, Bool, true, List, [], All, sum}
 use Rattle.std.specs.declared.option.Option.{Option}
 use Rattle.std.specs.declared.option.Option.TheVariants.{None, Some}
 use Rattle.rand_pcg.specs.Lcg.{Lcg}
@@ -7,7 +7,9 @@ use Rattle.cj_outside.specs.Draws.{seeded, of_generator, generator_after}
 use Rattle.cj_cluster.specs.declared.session.SessionEnd.{SessionEnd}
 use Rattle.cj_cluster.specs.Moves.Moves.{opened_for, closed_for}
 use Rattle.cj_conf.specs.declared.conf.Conf.{Conf}
+use Rattle.cj_core.specs.Counting.{faults_of}
 use Rattle.cj_core.specs.Effects.{with_core}
+use Rattle.cj_core.specs.QuietCalls.{BlamesNobody, CanCountMore}
 use Rattle.cj_core.specs.Solos.{SoloState, SoloSteps, desk_of}
 use Rattle.cj_core.specs.Worlds.{WorldState}
 use Rattle.cj_desk.specs.DeskChains.{IsDeskChain}
@@ -36,6 +38,8 @@ pub record ServesOneSession (tells : Bool) (seed : ℕ) (moment : Option ℤ) (l
   pub served : ServesSession (solo_setting tells moment) left left' held held' (client_state None (opened_at first) (generator_of seed (first.core.greatest + 1))) ending desk draws
   -- its calls are a chain of turns: each reply is that of one database run on the history that the world has then
   pub turns : IsDeskChain tells (desk_of (opened_at first)) (desk_of desk)
+  -- where the backends have counted no fault, no reply says that backends failed
+  pub blameless : sum (faults_of last.cells) ≡ sum (faults_of first.cells) → CanCountMore (faults_of first.cells) → All BlamesNobody served.transcript.replies
   pub closed : last ≡ with_core desk.world (closed_for desk.world.core desk.session)
 
 -- A session over new backends in memory, as the configuration has them, ended with this status.

@@ -1,7 +1,10 @@
-use Rattle.std.proofs.Common.{◌≡◌, ◌+◌, ◌%◌, ◌^◌, ℕ, None, ap, sym, ◌∙◌, subst, arith}
+use Rattle.std.proofs.Common.{◌≡◌, ◌+◌, ◌%◌, ◌^◌, ℕ, None, sum, ap, sym, ◌∙◌, subst, arith}
 use Rattle.rand_pcg.specs.Lcg.{Lcg}
-use Rattle.cj_outside.specs.Draws.{seeded}
+use Rattle.cj_outside.specs.Draws.{seeded, of_generator, generator_after}
+use Rattle.cj_core.specs.Counting.{faults_of}
 use Rattle.cj_core.specs.Solos.{SoloState}
+use Rattle.cj_core.specs.Worlds.{WorldState}
+use Rattle.cj_core.proofs.QuietSessions.{quiet_session}
 use Rattle.cj_desk.specs.SessionTranscripts.{client_state}
 use Rattle.cj_desk.proofs.DeskChainLaws.{transcript_chained}
 use Rattle.cj_session.specs.Serving.{ServesSession}
@@ -32,5 +35,9 @@ returns-clause-serves g c =
       turns =
           transcript_chained (solo_setting tells moment) tells (λ a x z h. h.0) (client_state None (opened_at c.args.world) (generator_of c.args.seed (c.args.world.core.greatest + 1))) served.taken served.written end.result
           end.new.desk end.new.draw served.transcript;
+      blameless =
+          λ same small.
+          quiet_session tells of_generator (λ generator n. generator_after generator) moment (client_state None (opened_at c.args.world) (generator_of c.args.seed (c.args.world.core.greatest + 1))) served.taken
+          served.written end.result end.new.desk end.new.draw served.transcript (sym (ap (λ (w : WorldState). sum (faults_of w.cells)) c.close.ensures) ∙ same) small;
       closed = c.close.ensures;
     }
