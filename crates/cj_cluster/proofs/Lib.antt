@@ -8,7 +8,6 @@ pub mod Now
 pub mod OwnTransactions
 pub mod PartRuns
 pub mod Pushed
-pub mod SessionLaws
 pub mod Sessions
 pub mod Soundness
 pub mod Standing

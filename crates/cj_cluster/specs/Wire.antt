@@ -1,2 +1,2 @@
--- What clients are answered: whole sessions.
+-- What clients are answered.
 pub mod Sessions

@@ -52,5 +52,3 @@ pub const STARVED_ALL: u16 = 44;
 pub const HISTORY_FULL: u16 = 45;
 /// No more sessions can be opened; `a` are open.
 pub const SESSIONS_FULL: u16 = 46;
-/// Not yet built.
-pub const NOT_BUILT: u16 = 90;

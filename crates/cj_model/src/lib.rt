@@ -52,7 +52,6 @@ pub use codes::NO_COLUMN;
 pub use codes::NO_MEMORY;
 pub use codes::NO_TABLE;
 pub use codes::NO_TRANSACTION;
-pub use codes::NOT_BUILT;
 pub use codes::NOT_LOGGED_IN;
 pub use codes::OVERFLOW;
 pub use codes::READ_FAULT;

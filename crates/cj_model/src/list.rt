@@ -1,6 +1,6 @@
 //! The one list type behind all lists of the vocabulary.
 
-ghost use Rattle.std.specs.Prelude.{◌≡◌, ◌↔◌, ◌≤◌, [], ◌∷◌, ◌++◌, insert, length, IsTrue, OnOk, OnErr};
+ghost use Rattle.std.specs.Prelude.{◌≡◌, ◌↔◌, ◌≤◌, List, [], ◌∷◌, ◌++◌, insert, length, IsTrue, OnOk, OnErr, Some, None};
 
 use crate::memory::{Duplicate, NoMemory};
 use std::alloc::Global;
@@ -95,6 +95,14 @@ impl<T: Drop> ListOf<T> {
     {
         self.items.insert(place, item)?;
         Ok(())
+    }
+
+    /// Takes the last item off, if there is one.
+    pub fn pop(&mut self) -> Option<T>
+        ensures some { (before : List T) (item : T) → self.old ≡ before ++ item ∷ [] → (self.new ≡ before) × (result ≡ Some item) }
+        ensures none { self.old ≡ [] → (self.new ≡ []) × (result ≡ None) }
+    {
+        self.items.pop()
     }
 }
 
