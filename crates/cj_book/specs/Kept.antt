@@ -74,7 +74,6 @@ pub record KeepsRoom (ss : List BookSession) (capacity : ℕ) : Type 0 where
   pub room : SESSION_LIMIT ≤ capacity
 
 -- what a book keeps beside what contracts see of it
-pub record IsKeptBook (layout : Layout) (backends : ℕ) (h : List Event) (places : List ℕ) (ended on capacity : ℕ) (has_spare : Bool) (greatest targets : ℕ) (ss : List BookSession) (ts : List OpenTransaction) : Type 0 where
-  pub count : backends ≡ length layout.names
-  pub history : KeepsHistory backends h places ended on capacity has_spare
+pub record IsKeptBook (layout : Layout) (h : List Event) (places : List ℕ) (ended on capacity : ℕ) (has_spare : Bool) (greatest targets : ℕ) (ss : List BookSession) (ts : List OpenTransaction) : Type 0 where
+  pub history : KeepsHistory (length layout.names) h places ended on capacity has_spare
   pub follows : Follows layout h greatest targets ss ts

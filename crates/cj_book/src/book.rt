@@ -41,8 +41,6 @@ pub struct BookParts {
 #[derive(Drop)]
 pub struct Book {
     placement: Placement,
-    /// How many backends there are.
-    backends: u8,
     balancer: Balancer,
     history: Vec<Event>,
     /// The places of the entries in the history.
@@ -76,7 +74,7 @@ impl Model for Book {
 
     ghost view = { λ book. record { layout = book.placement; history = book.history.items; sessions = map session_number book.sessions; greatest = book.greatest; balance = book.balancer; has_spare = book.has_spare } };
 
-    ghost invariant = { λ book. IsKeptBook book.placement book.backends book.history.items book.scheduled.items book.done book.enabled
+    ghost invariant = { λ book. IsKeptBook book.placement book.history.items book.scheduled.items book.done book.enabled
         (vec_capacity book.history) book.has_spare book.greatest book.targets book.sessions book.transactions };
 }
 
@@ -126,8 +124,9 @@ impl Book {
         ensures { IfOk result (λ book. book ≡ record { layout = parts.placement; history = []; sessions = []; greatest = 0; balance = parts.balancer; has_spare = false }) }
     {
         let sessions = BookSessions::new(alloc)?;
+        // There are some backends, and not too many.
+        let _ = parts.placement.count();
         Ok(Book {
-            backends: parts.placement.count(),
             placement: parts.placement,
             balancer: parts.balancer,
             history: Vec::new(alloc),
@@ -218,7 +217,7 @@ impl Book {
     pub fn is_enabled(&self, b: u8) -> bool
         ensures { result ≡ histories.is_enabled self.now.history b }
     {
-        b < self.backends && has_bit(self.enabled, b)
+        b < self.placement.count() && has_bit(self.enabled, b)
     }
 
     /// The mask of the enabled backends.

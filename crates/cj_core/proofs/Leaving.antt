@@ -8,9 +8,9 @@ use Rattle.cj_cluster.specs.History.Histories.{log, database_of, database_after}
 use Rattle.cj_cluster.specs.Proving.Invariants.{HoldsPart}
 use Rattle.cj_cluster.proofs.Effects.{is_there}
 use Rattle.cj_replica.specs.Cells.{CellState, KeepsBegun}
-use Rattle.cj_core.specs.Worlds.{WorldState, IsWorld, IsCell}
+use Rattle.cj_state.specs.Worlds.{WorldState, IsWorld, IsCell}
 use Rattle.cj_core.specs.Starts.{BackendState, KeepEachBegun, AreHolding, AreCurrent, backend_of}
-use Rattle.cj_core.proofs.CellsKept.{at_log_end}
+use Rattle.cj_state.proofs.CellsKept.{at_log_end}
 
 -- ---- out of the cells
 

@@ -9,17 +9,19 @@ use Rattle.cj_cluster.specs.declared.moves.Made.{Made}
 use Rattle.cj_model.specs.Cluster.Placements.{Placement}
 use Rattle.cj_cluster.specs.History.Legality.{IsLegal}
 use Rattle.cj_cluster.specs.Moves.Cores.{Core, session_at}
-use Rattle.cj_cluster.specs.Moves.Moves.{MoveResult, MovesTo}
+use Rattle.cj_cluster.specs.Moves.Moves.{MoveResult}
 use Rattle.cj_cluster.specs.Moves.Runs.{RunsMoves, IsMoveOfCluster, CanCountRequests}
 use Rattle.cj_cluster.proofs.Growth.{Grows, can_count, runs_push, runs_grow, runs_sound}
 use Rattle.cj_cluster.proofs.Chains.{run_chained}
-use Rattle.cj_core.specs.Worlds.{WorldState, IsWorld}
-use Rattle.cj_core.specs.Counting.{HasCauses, faults_of, faults_after, blamed}
-use Rattle.cj_core.specs.Steps.{CanAsk, IsMet}
-use Rattle.cj_core.specs.Played.{given_of, faults_over, HaveCauses, HasRun, HasRunInPart}
+use Rattle.cj_state.specs.Worlds.{WorldState, IsWorld}
+use Rattle.cj_moves.specs.Counting.{blamed}
+use Rattle.cj_state.specs.Faults.{faults_of, faults_after}
+use Rattle.cj_moves.specs.Steps.{CanAsk, IsMet}
+use Rattle.cj_core.specs.Played.{given_of, faults_over, HaveCauses, MovesWorld, RunsWorld, HasRun, HasRunInPart}
 
 -- the first n moves were made, with what each came to
-pub record Making (tells : Bool) (old : WorldState) (moves : List Move) (n : ℕ) (came : List Made) (now : WorldState) : Type 0 where
+pub record Making (tells armable : Bool) (old : WorldState) (moves : List Move) (n : ℕ) (came : List Made) (now : WorldState) : Type 0 where
+  pub steps : RunsWorld tells armable old (take n moves) (map given_of came) now
   pub runs : RunsMoves tells old.core (take n moves) (map given_of came) now.core
   pub causes : HaveCauses old now (take n moves) (map given_of came)
 
@@ -35,20 +37,29 @@ over_push tells faults c z (n ∷ ms) [] m g runs = absurd runs
 
 -- ---- from move to move
 
+-- one move more is made last
+steps_push : (tells armable : Bool) (old : WorldState) (ms : List Move) (gs : List MoveResult) (mid : WorldState) (m : Move) (g : MoveResult) (new : WorldState) → RunsWorld tells armable old ms gs mid → MovesWorld tells armable mid m g new
+    → RunsWorld tells armable old (ms ++ m ∷ []) (gs ++ g ∷ []) new
+steps_push tells armable old [] [] mid m g new same next = (new, subst (λ (w : WorldState). MovesWorld tells armable w m g new) same next, refl)
+steps_push tells armable old (n ∷ ms) (q ∷ gs) mid m g new (first, one, more) next = (first, one, steps_push tells armable first ms gs mid m g new more next)
+steps_push tells armable old [] (q ∷ gs) mid m g new none next = absurd none
+steps_push tells armable old (n ∷ ms) [] mid m g new none next = absurd none
+
 -- at first none was made
-pub making_none : (tells : Bool) (old : WorldState) (moves : List Move) → Making tells old moves 0 [] old
-making_none tells old moves = record { runs = refl; causes = refl }
+pub making_none : (tells armable : Bool) (old : WorldState) (moves : List Move) → Making tells armable old moves 0 [] old
+making_none tells armable old moves = record { steps = refl; runs = refl; causes = refl }
 
 -- one more was made
-pub making_more : (tells : Bool) (old : WorldState) (moves : List Move) (n : ℕ) (m : Move) (came : List Made) (mid : WorldState) (made : Made) (new : WorldState) → n < length moves → m ≡ get_or moves n m
-    → Making tells old moves n came mid → MovesTo tells mid.core m (given_of made) new.core → HasCauses mid new m (given_of made) → Making tells old moves (n + 1) (came ++ made ∷ []) new
-making_more tells old moves n m came mid made new lt is making moves_to has =
+pub making_more : (tells armable : Bool) (old : WorldState) (moves : List Move) (n : ℕ) (m : Move) (came : List Made) (mid : WorldState) (made : Made) (new : WorldState) → n < length moves → m ≡ get_or moves n m
+    → Making tells armable old moves n came mid → MovesWorld tells armable mid m (given_of made) new → Making tells armable old moves (n + 1) (came ++ made ∷ []) new
+making_more tells armable old moves n m came mid made new lt is making next =
     let more : take (n + 1) moves ≡ take n moves ++ m ∷ [] = take_more moves n m lt ∙ ap (λ (x : Move). take n moves ++ x ∷ []) (sym is) in
     let pushed = map_push given_of came made in
     let over = over_push tells (faults_of old.cells) old.core mid.core (take n moves) (map given_of came) m (given_of made) making.runs in
     record {
-      runs = rw (more, pushed) (runs_push tells old.core (take n moves) (map given_of came) mid.core m (given_of made) new.core making.runs moves_to);
-      causes = rw (more, pushed) (has ∙ (ap (λ (xs : List ℕ). faults_after xs (blamed m (given_of made))) making.causes ∙ sym over));
+      steps = rw (more, pushed) (steps_push tells armable old (take n moves) (map given_of came) mid m (given_of made) new making.steps next);
+      runs = rw (more, pushed) (runs_push tells old.core (take n moves) (map given_of came) mid.core m (given_of made) new.core making.runs next.moves);
+      causes = rw (more, pushed) (next.causes ∙ (ap (λ (xs : List ℕ). faults_after xs (blamed m (given_of made))) making.causes ∙ sym over));
     }
 
 -- ---- what holds on the way
@@ -67,8 +78,8 @@ can_ask c can (Disable b) = tt
 can_ask c can (Replay b) = tt
 can_ask c can (Enable b) = tt
 
-module _ (tells : Bool) (old : WorldState) (moves : List Move) (n : ℕ) (came : List Made) (now : WorldState)
-    (world : IsWorld tells old) (are : All (IsMoveOfCluster old.core.placement.backends) moves) (count : CanCountRequests old.core (length moves)) (within : n ≤ length moves) (making : Making tells old moves n came now) where
+module _ (tells armable : Bool) (old : WorldState) (moves : List Move) (n : ℕ) (came : List Made) (now : WorldState)
+    (world : IsWorld tells old) (are : All (IsMoveOfCluster old.core.placement.backends) moves) (count : CanCountRequests old.core (length moves)) (within : n ≤ length moves) (making : Making tells armable old moves n came now) where
   front_are : All (IsMoveOfCluster old.core.placement.backends) (take n moves)
   front_are = All-take (IsMoveOfCluster old.core.placement.backends) n moves are
 
@@ -90,9 +101,10 @@ module _ (tells : Bool) (old : WorldState) (moves : List Move) (n : ℕ) (came :
   making_legal = (runs_sound tells old.core (take n moves) (map given_of came) now.core front_are front_count world.sound making.runs).legal
 
   -- the moves were made, and the replies to each session are a chain of turns
-  pub making_run : HasRun tells old (take n moves) (map given_of came) now
+  pub making_run : HasRun tells armable old (take n moves) (map given_of came) now
   making_run =
       record {
+        steps = making.steps;
         runs = making.runs;
         chains = run_chained tells old.core (take n moves) (map given_of came) now.core world.sound front_are front_count making.runs;
         causes = making.causes;
@@ -106,5 +118,5 @@ module _ (tells : Bool) (old : WorldState) (moves : List Move) (n : ℕ) (came :
       (subst (λ (p : Placement). IsMoveOfCluster p.backends m) (sym grown.placement) here, can_ask now.core (can_count (length (take n moves)) 1 old.core now.core grown room) m)
 
   -- no more of them are
-  pub making_part : HasRunInPart tells old moves now
+  pub making_part : HasRunInPart tells armable old moves now
   making_part = record { count = n; within = within; given = map given_of came; run = making_run }

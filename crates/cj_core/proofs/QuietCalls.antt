@@ -30,10 +30,10 @@ use Rattle.cj_cluster.specs.History.Turns.{SessionView, Call, TurnCase, Schedule
 use Rattle.cj_cluster.specs.Moves.Runs.{seen_at}
 use Rattle.cj_cluster.proofs.Pushed.{ends-prefix, length-ends, prefix_length}
 use Rattle.cj_replica.specs.Cells.{CellState}
-use Rattle.cj_core.specs.Counting.{faults_of, faults_after}
+use Rattle.cj_state.specs.Faults.{faults_of, faults_after}
 use Rattle.cj_core.specs.QuietCalls.{BlamesNobody, CanCountMore}
 use Rattle.cj_core.specs.Solos.{AddsEntry, AddsOwnEvents, WorldTurn, faults_counted}
-use Rattle.cj_core.specs.Worlds.{WorldState}
+use Rattle.cj_state.specs.Worlds.{WorldState}
 use Rattle.cj_core.proofs.SoloReads.{no_code}
 
 -- ---- counts

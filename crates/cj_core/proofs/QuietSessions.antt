@@ -21,7 +21,7 @@ use Rattle.cj_cluster.specs.Moves.Moves.{forbidden_by}
 use Rattle.cj_model.specs.Sql.PlainRequests.{act_of}
 use Rattle.cj_desk.specs.DeskStates.{DeskCall, desk_tx, turn_taken, query_skipped, cache_counted}
 use Rattle.cj_desk.specs.SessionTranscripts.{SessionSetting, setting, ClientState, AnswersStats, AnswersQuery, AnswersMessage, LeavesDesk, MessageExchange, MessageExchanges, SendsReply, SendsRows, SessionTranscript, login_reply, refusal_by_transaction, too_large_reply}
-use Rattle.cj_core.specs.Counting.{faults_of}
+use Rattle.cj_state.specs.Faults.{faults_of}
 use Rattle.cj_core.specs.QuietCalls.{BlamesNobody, CanCountMore}
 use Rattle.cj_core.specs.Solos.{SoloState, SoloSteps, WorldTurn, desk_of}
 use Rattle.cj_core.proofs.QuietCalls.{more_faults, other_code, quiet_turn}

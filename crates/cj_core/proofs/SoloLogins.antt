@@ -5,9 +5,9 @@ use Rattle.cj_model.specs.declared.answer.Asked.{Asked}
 use Rattle.cj_model.specs.Cluster.Accounts.{login_of}
 use Rattle.cj_cluster.specs.declared.moves.Did.{Did}
 use Rattle.cj_cluster.specs.declared.moves.Did.TheVariants as did
-use Rattle.cj_core.specs.declared.cells.AskError.{AskError}
-use Rattle.cj_core.specs.declared.cells.AskError.TheVariants as errors
-use Rattle.cj_core.specs.Logins.{CallsUnder, MayCallUnder, LogsInToTake, LogsInToAsk}
+use Rattle.cj_state.specs.declared.cells.AskError.{AskError}
+use Rattle.cj_state.specs.declared.cells.AskError.TheVariants as errors
+use Rattle.cj_state.specs.CalledLogins.{CallsUnder, MayCallUnder, LogsInToTake, LogsInToAsk}
 use Rattle.cj_core.specs.Solos.{AreCalledFor}
 
 -- a place of a list is as before, or it is the one that was set

@@ -34,13 +34,14 @@ use Rattle.cj_cluster.proofs.Between.{follows_own, session_owes}
 use Rattle.cj_cluster.proofs.Pushed.{prefix_length, prefix_self, take_whole, log_faults-same}
 use Rattle.cj_cluster.proofs.Sessions.{is_open-with}
 use Rattle.cj_cluster.proofs.TurnCases.{Rests, entries-same, turn_unserved, turn_read, turn_full, turn_starved, turn_in_vain}
-use Rattle.cj_core.specs.declared.cells.AskError.TheVariants as errors
-use Rattle.cj_core.specs.Effects.{Asks, with_core}
-use Rattle.cj_core.specs.Counting.{faults_of, faults_after}
-use Rattle.cj_core.specs.Solos.{AreBackendsOf, AreCalledFor, AttemptsQuery, QueryAnswered, QueryUnnoted, QueryStarved, QueryFailed, WorldTurn, AddsOwnEvents, IsReadAtEnd, StandsBetweenCalls, call_of, faults_counted}
-use Rattle.cj_core.specs.Logins.{logins_of}
-use Rattle.cj_core.specs.Worlds.{IsWorld, WorldState, Setup, accounts_of}
-use Rattle.cj_core.proofs.CellsKept.{at_log_end}
+use Rattle.cj_state.specs.declared.cells.AskError.TheVariants as errors
+use Rattle.cj_state.specs.Effects.{Asks, with_core}
+use Rattle.cj_state.specs.Faults.{faults_of, faults_after}
+use Rattle.cj_core.specs.Solos.{AreBackendsOf, AreCalledFor, WorldTurn, AddsOwnEvents, IsReadAtEnd, StandsBetweenCalls, faults_counted}
+use Rattle.cj_core.specs.Proving.SoloParts.{AttemptsQuery, QueryAnswered, QueryUnnoted, QueryStarved, QueryFailed, call_of}
+use Rattle.cj_state.specs.CalledLogins.{logins_of}
+use Rattle.cj_state.specs.Worlds.{IsWorld, WorldState, Setup, accounts_of}
+use Rattle.cj_state.proofs.CellsKept.{at_log_end}
 use Rattle.cj_core.proofs.SoloLogins.{called_none, called_then}
 use Rattle.cj_core.proofs.SoloTaking.{cells_count}
 use Rattle.cj_core.proofs.SoloTurns.{failed_before, failed_now, failures_keep, idle_failures, log_failures, enabled_failures}

@@ -16,10 +16,11 @@ use Rattle.cj_cluster.specs.Moves.Moves.{Applies, failed_after, first_lagging, n
 use Rattle.cj_cluster.specs.Proving.Invariants.{BackendStands, CoreInvariant}
 use Rattle.cj_cluster.proofs.Now.{CanApply, all_at_end, can_apply}
 use Rattle.cj_replica.specs.Cells.{CellState}
-use Rattle.cj_core.specs.Counting.{did_fail, faults_of, faults_after}
-use Rattle.cj_core.specs.Logins.{LogsInToTake, login_to_take, logins_of, next_user}
-use Rattle.cj_core.specs.Solos.{AreBackendsOf, AreCalledFor, EntryTaken, HasTakenEntry, faults_counted, mask_with, open_user}
-use Rattle.cj_core.specs.Worlds.{IsWorld, Setup, WorldState, accounts_of}
+use Rattle.cj_state.specs.Faults.{did_fail, faults_of, faults_after}
+use Rattle.cj_state.specs.CalledLogins.{LogsInToTake, login_to_take, logins_of, next_user}
+use Rattle.cj_core.specs.Solos.{AreBackendsOf, AreCalledFor, faults_counted, mask_with}
+use Rattle.cj_core.specs.Proving.SoloParts.{EntryTaken, HasTakenEntry, open_user}
+use Rattle.cj_state.specs.Worlds.{IsWorld, Setup, WorldState, accounts_of}
 use Rattle.cj_core.proofs.SoloLogins.{called_then, called_to_take}
 
 -- ---- one backend

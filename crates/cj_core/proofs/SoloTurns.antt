@@ -28,9 +28,10 @@ use Rattle.cj_cluster.proofs.OwnTransactions.{tx_of_own}
 use Rattle.cj_cluster.proofs.Pushed.{prefix_self, enabled-push, log-sched, log-same, opened-free, free-same, get_left, get_seam}
 use Rattle.cj_cluster.proofs.TurnCases.{entries-same, entries-sched}
 use Rattle.cj_desk.specs.DeskStates.{query_skipped, tx_after_write, IsEntryNumber}
-use Rattle.cj_core.specs.Effects.{with_core}
-use Rattle.cj_core.specs.Worlds.{WorldState}
-use Rattle.cj_core.specs.Solos.{SoloState, SoloSteps, StandsBetweenCalls, AddsEntry, EntryTaken, desk_of, mask_with}
+use Rattle.cj_state.specs.Effects.{with_core}
+use Rattle.cj_state.specs.Worlds.{WorldState}
+use Rattle.cj_core.specs.Solos.{SoloState, SoloSteps, StandsBetweenCalls, AddsEntry, desk_of, mask_with}
+use Rattle.cj_core.specs.Proving.SoloParts.{EntryTaken}
 
 -- ---- each call steps as every desk does, and what it does besides
 

@@ -29,11 +29,13 @@ use Rattle.cj_cluster.proofs.Pushed.{prefix_self, free-ended, free-sched, opened
 use Rattle.cj_cluster.proofs.Sessions.{is_open-with}
 use Rattle.cj_cluster.proofs.Standing.{open_above}
 use Rattle.cj_cluster.proofs.TurnCases.{Rests, act_of_request, turn_unserved, turn_full, turn_starved}
-use Rattle.cj_core.specs.Counting.{faults_of}
-use Rattle.cj_core.specs.Effects.{SchedulesAs, with_core}
-use Rattle.cj_core.specs.Logins.{logins_of}
-use Rattle.cj_core.specs.Solos.{AreBackendsOf, AreCalledFor, StandsBetweenCalls, EntryEnded, WorldTurn, AddsEntry, AddsOwnEvents, IsReadAtEnd, SchedulesOrRefuses, call_of, open_user, own_entry, faults_counted, mask_with}
-use Rattle.cj_core.specs.Worlds.{WorldState, accounts_of}
+use Rattle.cj_state.specs.Faults.{faults_of}
+use Rattle.cj_state.specs.Effects.{SchedulesAs, with_core}
+use Rattle.cj_state.specs.CalledLogins.{logins_of}
+use Rattle.cj_core.specs.Solos.{AreBackendsOf, AreCalledFor, StandsBetweenCalls, WorldTurn, AddsEntry, AddsOwnEvents, IsReadAtEnd, faults_counted, mask_with}
+use Rattle.cj_core.specs.Proving.SoloParts.{EntryEnded, SchedulesOrRefuses, call_of, open_user}
+use Rattle.cj_state.specs.Effects.{own_entry}
+use Rattle.cj_state.specs.Worlds.{WorldState, accounts_of}
 use Rattle.cj_core.proofs.SoloLogins.{called_none}
 use Rattle.cj_core.proofs.SoloTurns.{between_scheduled, between_taken, turn_ended}
 

@@ -7,7 +7,8 @@ use Rattle.cj_model.specs.declared.database.Slot.{Slot}
 use Rattle.cj_model.specs.Cluster.Placements.{Placement}
 use Rattle.cj_backend.specs.Backends.{Arming}
 use Rattle.cj_replica.specs.Cells.{CellState}
-use Rattle.cj_core.specs.Starts.{BackendState, IsFresh, AreFresh, HaveBegunNone, backend_of, state_by}
+use Rattle.cj_core.specs.Starts.{BackendState, HaveBegunNone, backend_of, state_by}
+use Rattle.cj_state.specs.Beginnings.{IsFresh, AreFresh}
 
 -- ---- what is seen of backends in their cells
 

@@ -1,16 +1,14 @@
 -- The audit of a world: what its enabled backends hold.
-use Rattle.std.specs.Prelude.{ℕ, Bool, List, [], if◌then◌else◌, slice_index_or}
+use Rattle.std.specs.Prelude.{ℕ, List, [], if◌then◌else◌, slice_index_or}
 use Rattle.std.specs.declared.option.Option.{Option}
 use Rattle.std.specs.declared.option.Option.TheVariants.{None, Some}
 use Rattle.std.specs.declared.result.Result.{Result}
 use Rattle.std.specs.declared.result.Result.TheVariants.{Ok, Err}
 use Rattle.std.specs.List.{flat_map, range_with_len}
-use Rattle.cj_model.specs.declared.database.Slot.{Slot}
 use Rattle.cj_model.specs.Cluster.Placements.{part}
 use Rattle.cj_audit.specs.Audits.{backend_lines}
 use Rattle.cj_cluster.specs.History.Histories.{log, is_enabled, database_of}
-use Rattle.cj_cluster.specs.Moves.Cores.{Core, position_at}
-use Rattle.cj_cluster.specs.Proving.Invariants.{HoldsPart}
+use Rattle.cj_cluster.specs.Moves.Cores.{Core}
 use Rattle.cj_replica.specs.declared.cell.CellError.{CellError}
 use Rattle.cj_replica.specs.declared.cell.CellError.TheVariants as cell_errors
 use Rattle.cj_core.specs.declared.audit.AuditError.{AuditError}
@@ -29,18 +27,6 @@ abbrev pub failed_audit : {T : Type 0} → Result T AuditError → Option ℕ
 failed_audit (Ok audited) = None
 failed_audit (Err (errors.Fault b)) = Some b
 failed_audit (Err errors.NoMemory) = None
-
--- ---- one backend
-
--- the database is what backend b holds: where it isn't out, its part of the database after the entries that it has taken
-abbrev pub IsHeld : Bool → Core → ℕ → List Slot → Type 0
-IsHeld tells c b database = HoldsPart tells c.placement b (log c.history) (Some database) (position_at c b)
-
--- backend b, where it failed when it was asked
-abbrev pub failed_contents : {T : Type 0} → ℕ → Result T CellError → Option ℕ
-failed_contents b (Ok database) = None
-failed_contents b (Err cell_errors.Failed) = Some b
-failed_contents b (Err cell_errors.Starved) = None
 
 -- what that comes to in an audit
 abbrev pub audit_error : ℕ → CellError → AuditError

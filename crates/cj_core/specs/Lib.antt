@@ -1,14 +1,6 @@
-pub mod Armings
 pub mod Audits
-pub mod Counting
-pub mod Effects
-pub mod Kept
-pub mod Logins
-pub mod Places
 pub mod Played
+pub mod Proving
 pub mod QuietCalls
 pub mod Solos
 pub mod Starts
-pub mod Steps
-pub mod Taking
-pub mod Worlds

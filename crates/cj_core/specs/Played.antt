@@ -4,11 +4,14 @@ use Rattle.cj_cluster.specs.declared.moves.Move.{Move}
 use Rattle.cj_cluster.specs.declared.moves.Made.{Made}
 use Rattle.cj_cluster.specs.declared.moves.Made.TheVariants as made
 use Rattle.cj_cluster.specs.declared.moves.MoveError.TheVariants.{NotNow}
-use Rattle.cj_cluster.specs.Moves.Moves.{MoveResult}
+use Rattle.cj_cluster.specs.Moves.Moves.{MoveResult, MovesTo}
 use Rattle.cj_cluster.specs.History.Turns.{SessionView}
 use Rattle.cj_cluster.specs.Moves.Runs.{RunsMoves, IsBetweenReplies, IsChained}
-use Rattle.cj_core.specs.Worlds.{WorldState}
-use Rattle.cj_core.specs.Counting.{faults_of, faults_after, blamed}
+use Rattle.cj_state.specs.Worlds.{WorldState}
+use Rattle.cj_state.specs.Faults.{faults_of, faults_after}
+use Rattle.cj_moves.specs.Armings.{HasArmings}
+use Rattle.cj_moves.specs.Counting.{HasCauses, blamed}
+use Rattle.cj_moves.specs.Logins.{HasLogins}
 
 -- what a move came to is what it gave
 abbrev pub given_of : Made → MoveResult
@@ -26,15 +29,31 @@ faults_over faults (m ∷ ms) [] = faults
 abbrev pub HaveCauses : WorldState → WorldState → List Move → List MoveResult → Type 0
 HaveCauses old new moves given = faults_of new.cells ≡ faults_over (faults_of old.cells) moves given
 
+-- A move leads the world to another and gives this: the state as the moves say, with the faults that were counted, the backends that were armed, where they can be, and the logins under which backends were called.
+pub record MovesWorld (tells armable : Bool) (old : WorldState) (m : Move) (given : MoveResult) (new : WorldState) : Type 0 where
+  pub moves : MovesTo tells old.core m given new.core
+  pub causes : HasCauses old new m given
+  pub armings : HasArmings armable old new m given
+  pub logins : HasLogins old new m given
+  pub setup : new.setup ≡ old.setup
+
+-- the moves do so, one after another
+abbrev pub RunsWorld : (tells armable : Bool) → WorldState → List Move → List MoveResult → WorldState → Type 0
+RunsWorld tells armable old [] [] new = new ≡ old
+RunsWorld tells armable old (m ∷ ms) (g ∷ gs) new = (mid : WorldState) × MovesWorld tells armable old m g mid × RunsWorld tells armable mid ms gs new
+RunsWorld tells armable old [] (g ∷ gs) new = ⊥
+RunsWorld tells armable old (m ∷ ms) [] new = ⊥
+
 -- The moves were made in order, and this is what each gave. The replies to each session are a chain of turns from what it had seen.
-pub record HasRun (tells : Bool) (old : WorldState) (moves : List Move) (given : List MoveResult) (new : WorldState) : Type 0 where
+pub record HasRun (tells armable : Bool) (old : WorldState) (moves : List Move) (given : List MoveResult) (new : WorldState) : Type 0 where
+  pub steps : RunsWorld tells armable old moves given new
   pub runs : RunsMoves tells old.core moves given new.core
   pub chains : (s : ℕ) (a : SessionView) → 0 < s → IsBetweenReplies a old.core s → IsChained tells s old.core moves given new.core a
   pub causes : HaveCauses old new moves given
 
 -- The first of the moves were made, and no more.
-pub record HasRunInPart (tells : Bool) (old : WorldState) (moves : List Move) (new : WorldState) : Type 0 where
+pub record HasRunInPart (tells armable : Bool) (old : WorldState) (moves : List Move) (new : WorldState) : Type 0 where
   pub count : ℕ
   pub within : count ≤ length moves
   pub given : List MoveResult
-  pub run : HasRun tells old (take count moves) given new
+  pub run : HasRun tells armable old (take count moves) given new

@@ -1,23 +1,13 @@
 -- A session over a whole world: what contracts see of it, and where its calls lead.
-use Rattle.std.specs.Prelude.{◌≡◌, ◌⊎◌, ℕ, zero, suc, ◌+◌, ◌<◌, Bool, true, List, [], ◌∷◌, ◌++◌, length, map, fold, slice_get, All, Result, Ok, Err}
-use Rattle.std.specs.Option.{option_map_or}
+use Rattle.std.specs.Prelude.{◌≡◌, ◌⊎◌, ℕ, zero, suc, ◌+◌, ◌<◌, Bool, true, List, [], ◌∷◌, ◌++◌, length, map, fold, slice_get, All}
 use Rattle.std.specs.declared.option.Option.{Option}
 use Rattle.std.specs.declared.option.Option.TheVariants.{None, Some}
 use Rattle.cj_model.specs.declared.account.Account.{Account}
 use Rattle.cj_model.specs.declared.request.Act.{Act}
-use Rattle.cj_model.specs.declared.request.Request.{Request}
-use Rattle.cj_model.specs.declared.request.Entry.{Entry}
-use Rattle.cj_model.specs.declared.answer.Refusal.{Refusal}
-use Rattle.cj_model.specs.declared.select.Select.{Select}
 use Rattle.cj_model.specs.declared.answer.Asked.{Asked}
-use Rattle.cj_model.specs.declared.answer.Reply.{Reply}
-use Rattle.cj_model.specs.declared.answer.Reply.TheVariants.{Refused}
-use Rattle.cj_model.specs.declared.codes.TheConstants.{HISTORY_FULL, NO_BACKEND, NO_MEMORY}
-use Rattle.cj_model.specs.Database.Inserts.{refusal_of_code}
 use Rattle.cj_model.specs.Database.Outcomes.{IsAsked}
-use Rattle.cj_model.specs.Database.Queries.{ask}
 use Rattle.cj_model.specs.Wire.Replies.{asked_reply}
-use Rattle.cj_model.specs.Sql.PlainRequests.{act_of, request_of}
+use Rattle.cj_model.specs.Sql.PlainRequests.{act_of}
 use Rattle.cj_model.specs.Cluster.Accounts.{login_of}
 use Rattle.cj_model.specs.Cluster.Masks.{with_backend}
 use Rattle.cj_auth.specs.Admission.{admits}
@@ -25,20 +15,18 @@ use Rattle.cj_cluster.specs.declared.event.Event.{Event}
 use Rattle.cj_cluster.specs.declared.event.Event.TheVariants.{Sched, Ended, ReadFailed}
 use Rattle.cj_cluster.specs.declared.moves.Move.{Move}
 use Rattle.cj_cluster.specs.declared.moves.Move.TheVariants.{Open, Close, Schedule, Abort, Apply, End, Read, Arm, Disable, Replay, Enable}
-use Rattle.cj_cluster.specs.History.Histories.{log, is_idle, is_enabled, entry_in_progress, events_left, database_of}
-use Rattle.cj_cluster.specs.History.Answering.{HasServer, HasNoServer}
+use Rattle.cj_cluster.specs.History.Histories.{log, is_idle, events_left}
 use Rattle.cj_cluster.specs.History.Turns.{SessionView, Call, Turn, entry_of_call}
-use Rattle.cj_cluster.specs.Moves.Cores.{Core, position_at, session_at}
-use Rattle.cj_cluster.specs.Moves.Moves.{is_open, last_number, history_full, first_lagging, with_request_counted, with_read, answered_at, was_answered, happened, ended_for}
+use Rattle.cj_cluster.specs.Moves.Cores.{Core, session_at}
+use Rattle.cj_cluster.specs.Moves.Moves.{is_open, with_request_counted}
 use Rattle.cj_cluster.specs.Moves.Runs.{seen_at}
-use Rattle.cj_cluster.specs.Proving.Invariants.{CoreInvariant}
 use Rattle.cj_desk.specs.DeskStates.{DeskState, DeskCall, DeskSteps, turn_taken, query_skipped, cache_counted}
-use Rattle.cj_core.specs.Logins.{logins_of}
-use Rattle.cj_core.specs.Worlds.{WorldState, accounts_of}
-use Rattle.cj_core.specs.Counting.{faults_of, faults_after}
-use Rattle.cj_core.specs.Effects.{with_core, AnswersOpen, SchedulesAs}
+use Rattle.cj_state.specs.CalledLogins.{logins_of}
+use Rattle.cj_state.specs.Worlds.{WorldState, accounts_of}
+use Rattle.cj_state.specs.Faults.{faults_of, faults_after}
+use Rattle.cj_state.specs.Effects.{with_core}
 
--- a world that one session is served at, with the accounts of its users
+-- a world, and the session that is served at it
 pub record SoloState : Type 0 where
   pub world : WorldState
   pub session : ℕ
@@ -126,86 +114,6 @@ DoesBesides tells a (cache_counted hits misses) z = (z ≡ a) × (hits ≡ 0) ×
 -- the call leads the session from a to z
 abbrev pub SoloSteps : Bool → SoloState → DeskCall → SoloState → Type 0
 SoloSteps tells a x z = DeskSteps tells (desk_of a) x (desk_of z) × DoesBesides tells a x z
-
--- ---- the parts of a call
-
--- the session's next request
-abbrev pub call_of : Core → ℕ → ℕ → List ℕ → Request → Reply → Call
-call_of c s tx user request reply = record { number = (session_at c s).queries + 1; tx = tx; user = user; request = request; reply = reply }
-
--- the entry of that, where it is an act
-abbrev pub own_entry : Core → ℕ → ℕ → List ℕ → Act → Entry
-own_entry c s tx user act = record { session = s; seq = (session_at c s).queries + 1; tx = tx; user = user; act = act }
-
--- the entry was scheduled, or the refusal that says why not
-abbrev pub SchedulesOrRefuses : Core → Entry → Result ℕ Refusal → Type 0
-SchedulesOrRefuses c e (Ok n) = SchedulesAs c e (Ok n)
-SchedulesOrRefuses c e (Err r) =
-    (HasNoServer c.placement c.history (request_of e.act) × (r ≡ refusal_of_code NO_BACKEND))
-    ⊎ (HasServer c.placement c.history (request_of e.act) × (events_left c.history < 3) × (r ≡ history_full c))
-    ⊎ (r ≡ refusal_of_code NO_MEMORY)
-
--- the user of the open entry
-abbrev pub open_user : Core → List ℕ
-open_user c = option_map_or (λ (e : Entry). e.user) (entry_in_progress c.history) []
-
--- Backends have taken the open entry, which is this user's, and of them these failed. Else nothing was changed.
-pub record EntryTaken (user : List ℕ) (old new : WorldState) : Type 0 where
-  pub core : new.core ≡ record old.core { positions = new.core.positions; begun = new.core.begun; failed = new.core.failed; starved = new.core.starved }
-  pub setup : new.setup ≡ old.setup
-  pub failed : List ℕ
-  pub backends : AreBackendsOf old failed
-  pub mask : new.core.failed ≡ mask_with old.core.failed failed
-  pub faults : faults_of new.cells ≡ faults_counted (faults_of old.cells) failed
-  pub logins : AreCalledFor (accounts_of old) user (logins_of old.cells) (logins_of new.cells)
-
--- the backend stands at the log's end, where it is enabled and not out
-abbrev pub HasTakenEntry : Core → ℕ → Type 0
-HasTakenEntry c b = (p : ℕ) → is_enabled c.history b ≡ true → position_at c b ≡ Some p → p ≡ last_number c
-
--- The open entry, of session s and this user, was taken by each enabled backend, and has ended.
-pub record EntryEnded (tells : Bool) (s : ℕ) (user : List ℕ) (old : WorldState) (reply : Reply) (new : WorldState) : Type 0 where
-  pub mid : WorldState
-  pub taken : EntryTaken user old mid
-  pub everywhere : first_lagging mid.core.history 0 mid.core.positions ≡ None
-  pub answer : AnswersOpen tells mid.core reply
-  pub ended : new ≡ with_core mid (ended_for mid.core s)
-  pub was_sound : CoreInvariant mid.core
-  pub is_sound : CoreInvariant new.core
-
--- the backend answered, at the log's end
-pub record QueryAnswered (tells : Bool) (s tx : ℕ) (select : Select) (old : WorldState) (reply : Reply) (new : WorldState) : Type 0 where
-  pub answer : Asked
-  pub possible : IsAsked answer
-  pub says : tells ≡ true → answer ≡ ask (database_of (log old.core.history)) tx select
-  pub replied : reply ≡ asked_reply answer
-  pub after : new.core ≡ with_read old.core s (λ x. answered_at (last_number old.core) (was_answered x))
-  pub faults : faults_of new.cells ≡ faults_of old.cells
-
--- the backend failed, and the history has no room to say so
-pub record QueryUnnoted (s b : ℕ) (old : WorldState) (reply : Reply) (new : WorldState) : Type 0 where
-  pub full : events_left old.core.history ≡ 0
-  pub replied : reply ≡ Refused (record { code = HISTORY_FULL; a = length old.core.history; b = 0 })
-  pub after : new.core ≡ with_request_counted old.core s
-  pub faults : faults_of new.cells ≡ faults_after (faults_of old.cells) (Some b)
-
--- memory is wanting
-pub record QueryStarved (s : ℕ) (old : WorldState) (reply : Reply) (new : WorldState) : Type 0 where
-  pub replied : reply ≡ Refused (refusal_of_code NO_MEMORY)
-  pub after : new.core ≡ with_request_counted old.core s
-  pub faults : faults_of new.cells ≡ faults_of old.cells
-
--- the backend failed, which the history says
-pub record QueryFailed (s b : ℕ) (old new : WorldState) : Type 0 where
-  pub room : 0 < events_left old.core.history
-  pub after : new.core ≡ happened old.core (ReadFailed s ((session_at old.core s).queries + 1) b)
-  pub is_sound : CoreInvariant new.core
-  pub faults : faults_of new.cells ≡ faults_after (faults_of old.cells) (Some b)
-
--- what backend b was asked by session s came to: an answer or a refusal, or none where it failed
-abbrev pub AttemptsQuery : Bool → ℕ → ℕ → ℕ → Select → WorldState → Option Reply → WorldState → Type 0
-AttemptsQuery tells s b tx select old (Some reply) new = QueryAnswered tells s tx select old reply new ⊎ QueryUnnoted s b old reply new ⊎ QueryStarved s old reply new
-AttemptsQuery tells s b tx select old None new = QueryFailed s b old new
 
 -- ---- moves of no session
 

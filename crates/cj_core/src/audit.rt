@@ -4,17 +4,17 @@ ghost use Rattle.std.specs.Prelude.{◌≡◌, ◌<◌, ◌++◌, ℕ, true, IfO
 ghost use Rattle.cj_audit.specs.Audits.{StaysText};
 ghost use Rattle.cj_cluster.specs.History.Histories as histories;
 ghost use Rattle.cj_cluster.specs.History.Histories.{is_idle};
-ghost use Rattle.cj_core.specs.Armings.{armings_of};
+ghost use Rattle.cj_state.specs.ArmedCells.{armings_of};
 ghost use Rattle.cj_core.specs.Audits as audits;
 ghost use Rattle.cj_core.specs.Audits.{audit_text, failed_audit, lines_at};
-ghost use Rattle.cj_core.specs.Counting.{faults_after, faults_of};
-ghost use Rattle.cj_core.specs.Logins.{logins_of};
+ghost use Rattle.cj_state.specs.Faults.{faults_after, faults_of};
+ghost use Rattle.cj_state.specs.CalledLogins.{logins_of};
 
-use crate::world::World;
 use cj_audit::{append_backend, into_text};
 use cj_backend::Backend;
 use cj_model::{NoMemory, Text};
 use cj_replica::CellError;
+use cj_state::State;
 use thiserror::Error;
 
 /// Why there is no audit.
@@ -47,51 +47,53 @@ fn audit_error(b: u8, error: CellError) -> AuditError
     }
 }
 
-impl<B: Backend> World<B> {
-    /// Adds the lines of one backend, which is asked for its contents where it is enabled.
-    fn audit_backend(&mut self, text: &mut Vec<u8>, b: u8) -> Result<(), AuditError>
-        requires within { b < self.old.core.placement.backends }
-        requires idle { is_idle self.old.core.history ≡ true }
-        ensures lines { OnOk result (B.TELLS ≡ true → text.new.items ≡ text.old.items ++ lines_at self.old.setup.names self.old.core b) }
-        ensures text { OnOk result (StaysText text.old.items text.new.items) }
-        ensures same { failed_audit result ≡ None → self.new ≡ self.old }
-        ensures faults { faults_of self.new.cells ≡ faults_after (faults_of self.old.cells) (failed_audit result) }
-        ensures enabled { (k : ℕ) → IsErrOf result (AuditError.Fault k) → histories.is_enabled self.old.core.history k ≡ true }
-        ensures core { self.new.core ≡ self.old.core }
-        ensures setup { self.new.setup ≡ self.old.setup }
-        ensures logins { logins_of self.new.cells ≡ logins_of self.old.cells }
-        ensures armings { armings_of self.new.cells ≡ armings_of self.old.cells }
-    {
-        if !self.is_enabled(b) {
-            return Ok(());
-        }
-        self.legal();
-        match self.contents(b) {
-            Ok(database) => {
-                append_backend(text, self.placement().name(b), &database)?;
-                Ok(())
-            }
-            Err(error) => Err(audit_error(b, error)),
-        }
+/// Adds the lines of one backend, which is asked for its contents where it is enabled.
+fn audit_backend<B: Backend>(
+    state: &mut State<B>,
+    text: &mut Vec<u8>,
+    b: u8,
+) -> Result<(), AuditError>
+    requires within { b < state.old.core.placement.backends }
+    requires idle { is_idle state.old.core.history ≡ true }
+    ensures lines { OnOk result (B.TELLS ≡ true → text.new.items ≡ text.old.items ++ lines_at state.old.setup.names state.old.core b) }
+    ensures text { OnOk result (StaysText text.old.items text.new.items) }
+    ensures same { failed_audit result ≡ None → state.new ≡ state.old }
+    ensures faults { faults_of state.new.cells ≡ faults_after (faults_of state.old.cells) (failed_audit result) }
+    ensures enabled { (k : ℕ) → IsErrOf result (AuditError.Fault k) → histories.is_enabled state.old.core.history k ≡ true }
+    ensures core { state.new.core ≡ state.old.core }
+    ensures setup { state.new.setup ≡ state.old.setup }
+    ensures logins { logins_of state.new.cells ≡ logins_of state.old.cells }
+    ensures armings { armings_of state.new.cells ≡ armings_of state.old.cells }
+{
+    if !state.is_enabled(b) {
+        return Ok(());
     }
+    state.legal();
+    match state.contents(b) {
+        Ok(database) => {
+            append_backend(text, state.placement().name(b), &database)?;
+            Ok(())
+        }
+        Err(error) => Err(audit_error(b, error)),
+    }
+}
 
-    /// What the enabled backends hold, in the order of their numbers: a line for each table with its number of
-    /// rows, and one for each row. Asks each enabled backend for its contents, and stops at the first that fails.
-    pub fn audit(&mut self) -> Result<Text, AuditError>
-        requires { is_idle self.old.core.history ≡ true }
-        ensures text { IfOk result (λ text. B.TELLS ≡ true → text ≡ audit_text self.old.setup.names self.old.core) }
-        ensures same { failed_audit result ≡ None → self.new ≡ self.old }
-        ensures faults { faults_of self.new.cells ≡ faults_after (faults_of self.old.cells) (failed_audit result) }
-        ensures enabled { (b : ℕ) → IsErrOf result (AuditError.Fault b) → histories.is_enabled self.old.core.history b ≡ true }
-        ensures core { self.new.core ≡ self.old.core }
-        ensures setup { self.new.setup ≡ self.old.setup }
-        ensures logins { logins_of self.new.cells ≡ logins_of self.old.cells }
-        ensures armings { armings_of self.new.cells ≡ armings_of self.old.cells }
-    {
-        let mut text = Vec::new(self.allocator());
-        for b in 0..self.placement().count() {
-            self.audit_backend(&mut text, b)?;
-        }
-        Ok(into_text(text))
+/// What the enabled backends hold, in the order of their numbers: a line for each table with its number of
+/// rows, and one for each row. Asks each enabled backend for its contents, and stops at the first that fails.
+pub fn audit<B: Backend>(state: &mut State<B>) -> Result<Text, AuditError>
+    requires { is_idle state.old.core.history ≡ true }
+    ensures text { IfOk result (λ text. B.TELLS ≡ true → text ≡ audit_text state.old.setup.names state.old.core) }
+    ensures same { failed_audit result ≡ None → state.new ≡ state.old }
+    ensures faults { faults_of state.new.cells ≡ faults_after (faults_of state.old.cells) (failed_audit result) }
+    ensures enabled { (b : ℕ) → IsErrOf result (AuditError.Fault b) → histories.is_enabled state.old.core.history b ≡ true }
+    ensures core { state.new.core ≡ state.old.core }
+    ensures setup { state.new.setup ≡ state.old.setup }
+    ensures logins { logins_of state.new.cells ≡ logins_of state.old.cells }
+    ensures armings { armings_of state.new.cells ≡ armings_of state.old.cells }
+{
+    let mut text = Vec::new(state.allocator());
+    for b in 0..state.placement().count() {
+        audit_backend(state, &mut text, b)?;
     }
+    Ok(into_text(text))
 }

@@ -5,10 +5,10 @@ ghost use Rattle.std.specs.declared.option.Option.{Option};
 ghost use Rattle.cj_cluster.specs.declared.session.SessionEnd.{SessionEnd};
 ghost use Rattle.cj_cluster.specs.History.Turns.{Call};
 ghost use Rattle.cj_desk.specs.SessionTranscripts.{setting, ClientState, SessionTranscript};
-ghost use Rattle.cj_core.specs.Counting.{faults_of};
+ghost use Rattle.cj_state.specs.Faults.{faults_of};
 ghost use Rattle.cj_core.specs.QuietCalls.{BlamesNobody, CanCountMore};
 ghost use Rattle.cj_core.specs.Solos.{SoloState, SoloSteps, WorldTurn, desk_of};
-ghost use Rattle.cj_core.specs.Worlds.{WorldState};
+ghost use Rattle.cj_state.specs.Worlds.{WorldState};
 
 /// A call over which no backend counted a fault isn't answered that backends failed.
 pub fn quiet_calls_blame_nobody()

@@ -3,18 +3,13 @@
 #![tactic(auto)]
 
 mod audit;
-mod cells;
 mod emptied;
 mod laws;
-mod movers;
-mod reasons;
 mod runs;
-mod sessions;
 mod solo;
 mod solo_read;
 mod solo_write;
 mod start;
-mod transactions;
 mod world;
 
 pub use audit::AuditError;

@@ -5,70 +5,70 @@ ghost use mathlib.Core.List.{IsPrefix};
 ghost use Rattle.cj_cluster.specs.History.Legality.{IsLegal};
 ghost use Rattle.cj_cluster.specs.Moves.Moves.{MovesTo};
 ghost use Rattle.cj_cluster.specs.Moves.Runs.{IsMoveOfCluster, CanCountRequests};
-ghost use Rattle.cj_core.specs.Armings.{HasArmings};
-ghost use Rattle.cj_core.specs.Counting.{HasCauses};
-ghost use Rattle.cj_core.specs.Logins.{HasLogins};
+ghost use Rattle.cj_moves.specs.Armings.{HasArmings};
+ghost use Rattle.cj_moves.specs.Counting.{HasCauses};
+ghost use Rattle.cj_moves.specs.Logins.{HasLogins};
 ghost use Rattle.cj_core.specs.Played.{given_of, HasRun, HasRunInPart};
-ghost use Rattle.cj_core.specs.Steps.{IsMet};
+ghost use Rattle.cj_moves.specs.Steps.{IsMet};
 
-use crate::world::World;
 use cj_backend::Backend;
 use cj_cluster::{Made, Move, MoveError, MovedList, Moves};
 use cj_model::{Duplicate, NoMemory};
+use cj_moves::step;
+use cj_state::State;
 use std::alloc::Global;
 
-impl<B: Backend> World<B> {
-    /// Makes a move, or answers why it can't be made now. Want of memory changes nothing.
-    pub fn make(&mut self, m: Move) -> Result<Made, NoMemory>
-        requires { IsMet self.old.core m }
-        ensures made { IfOk result (λ made. MovesTo B.TELLS self.old.core m (given_of made) self.new.core) }
-        ensures causes { IfOk result (λ made. HasCauses self.old self.new m (given_of made)) }
-        ensures armings { IfOk result (λ made. HasArmings B.can_be_armed self.old self.new m (given_of made)) }
-        ensures logins { IfOk result (λ made. HasLogins self.old self.new m (given_of made)) }
-        ensures want { OnErr result (self.new ≡ self.old) }
-        ensures setup { self.new.setup ≡ self.old.setup }
-    {
-        match self.step(m) {
-            Ok(moved) => Ok(Made::Moved(moved)),
-            Err(MoveError::NotNow(why)) => Ok(Made::NotNow(why)),
-            Err(MoveError::NoMemory) => Err(NoMemory),
-        }
+/// Makes a move, or answers why it can't be made now. Want of memory changes nothing.
+pub fn make<B: Backend>(state: &mut State<B>, m: Move) -> Result<Made, NoMemory>
+    requires { IsMet state.old.core m }
+    ensures made { IfOk result (λ made. MovesTo B.TELLS state.old.core m (given_of made) state.new.core) }
+    ensures causes { IfOk result (λ made. HasCauses state.old state.new m (given_of made)) }
+    ensures armings { IfOk result (λ made. HasArmings B.can_be_armed state.old state.new m (given_of made)) }
+    ensures logins { IfOk result (λ made. HasLogins state.old state.new m (given_of made)) }
+    ensures want { OnErr result (state.new ≡ state.old) }
+    ensures setup { state.new.setup ≡ state.old.setup }
+{
+    match step(state, m) {
+        Ok(moved) => Ok(Made::Moved(moved)),
+        Err(MoveError::NotNow(why)) => Ok(Made::NotNow(why)),
+        Err(MoveError::NoMemory) => Err(NoMemory),
     }
+}
 
-    /// The same of a move that stays with its list.
-    fn make_copy(&mut self, alloc: Global, m: &Move) -> Result<Made, NoMemory>
-        requires { IsMet self.old.core m.now }
-        ensures made { IfOk result (λ made. MovesTo B.TELLS self.old.core m.now (given_of made) self.new.core) }
-        ensures causes { IfOk result (λ made. HasCauses self.old self.new m.now (given_of made)) }
-        ensures armings { IfOk result (λ made. HasArmings B.can_be_armed self.old self.new m.now (given_of made)) }
-        ensures want { OnErr result (self.new ≡ self.old) }
-        ensures setup { self.new.setup ≡ self.old.setup }
-    {
-        let m = m.copy(alloc)?;
-        self.make(m)
-    }
+/// The same of a move that stays with its list.
+fn make_copy<B: Backend>(state: &mut State<B>, alloc: Global, m: &Move) -> Result<Made, NoMemory>
+    requires { IsMet state.old.core m.now }
+    ensures made { IfOk result (λ made. MovesTo B.TELLS state.old.core m.now (given_of made) state.new.core) }
+    ensures causes { IfOk result (λ made. HasCauses state.old state.new m.now (given_of made)) }
+    ensures armings { IfOk result (λ made. HasArmings B.can_be_armed state.old state.new m.now (given_of made)) }
+    ensures logins { IfOk result (λ made. HasLogins state.old state.new m.now (given_of made)) }
+    ensures want { OnErr result (state.new ≡ state.old) }
+    ensures setup { state.new.setup ≡ state.old.setup }
+{
+    let m = m.copy(alloc)?;
+    make(state, m)
+}
 
-    /// Makes the moves in order, and answers what each came to; one that can't be made now changes nothing. After want
-    /// of memory the first of them were made, and no more.
-    pub fn run(&mut self, moves: &Moves) -> Result<MovedList, NoMemory>
-        requires are { All (IsMoveOfCluster self.old.core.placement.backends) moves.now }
-        requires count { CanCountRequests self.old.core (length moves.now) }
-        ensures runs { MatchResult result (λ made. HasRun B.TELLS self.old moves.now (map given_of made) self.new) (λ _. HasRunInPart B.TELLS self.old moves.now self.new) }
-        ensures longer { IsPrefix self.old.core.history self.new.core.history }
-        ensures legal { IsLegal self.new.core.history }
-        ensures setup { self.new.setup ≡ self.old.setup }
-    {
-        self.legal();
-        let alloc = self.allocator();
-        let Ok(mut made) = Vec::with_capacity(alloc, moves.len()) else {
+/// Makes the moves in order, and answers what each came to; one that can't be made now changes nothing. After want
+/// of memory the first of them were made, and no more.
+pub fn run<B: Backend>(state: &mut State<B>, moves: &Moves) -> Result<MovedList, NoMemory>
+    requires are { All (IsMoveOfCluster state.old.core.placement.backends) moves.now }
+    requires count { CanCountRequests state.old.core (length moves.now) }
+    ensures runs { MatchResult result (λ made. HasRun B.TELLS B.can_be_armed state.old moves.now (map given_of made) state.new) (λ _. HasRunInPart B.TELLS B.can_be_armed state.old moves.now state.new) }
+    ensures longer { IsPrefix state.old.core.history state.new.core.history }
+    ensures legal { IsLegal state.new.core.history }
+    ensures setup { state.new.setup ≡ state.old.setup }
+{
+    state.legal();
+    let alloc = state.allocator();
+    let Ok(mut made) = Vec::with_capacity(alloc, moves.len()) else {
+        return Err(NoMemory);
+    };
+    for m in moves.as_slice() {
+        let Ok(came) = make_copy(state, alloc, m) else {
             return Err(NoMemory);
         };
-        for m in moves.as_slice() {
-            let Ok(came) = self.make_copy(alloc, m) else {
-                return Err(NoMemory);
-            };
-            made.push_reserved(came);
-        }
-        Ok(MovedList::from_vec(made))
+        made.push_reserved(came);
     }
+    Ok(MovedList::from_vec(made))
 }

@@ -1,26 +1,48 @@
 //! A session over a whole world.
 
-ghost use Rattle.std.specs.Prelude.{◌≡◌, ◌+◌, ◌<◌, [], length, false, true, IfErr, IfOk, IsErrOf};
+ghost use Rattle.std.specs.Prelude.{◌≡◌, ◌⊎◌, ◌+◌, ◌<◌, ◌≤◌, ℕ, List, [], length, false, true, IfErr, IfOk, IsErrOf, None};
+ghost use Rattle.std.specs.Bool.{OnTrue};
+ghost use Rattle.cj_auth.specs.Admission.{admits};
+ghost use Rattle.cj_auth.specs.Kept.{IsUserName};
+ghost use Rattle.cj_model.specs.declared.request.Request.TheVariants as requests;
+ghost use Rattle.cj_model.specs.Sql.PlainRequests.{request_of};
+ghost use Rattle.cj_model.specs.Sql.WrittenRequests.{IsWritten};
+ghost use Rattle.cj_cluster.specs.History.Legality.{FitsTx};
 ghost use Rattle.cj_model.specs.declared.answer.Reply.TheVariants as replies;
-ghost use Rattle.cj_model.specs.declared.limits.TheConstants.{REQUEST_LIMIT};
+ghost use Rattle.cj_model.specs.declared.limits.TheConstants.{REQUEST_LIMIT, USER_LIMIT};
 ghost use Rattle.cj_cluster.specs.History.Histories.{is_idle};
 ghost use Rattle.cj_cluster.specs.Moves.Cores.{session_at};
 ghost use Rattle.cj_cluster.specs.Moves.Moves as moves;
 ghost use Rattle.cj_cluster.specs.Moves.Moves.{opened_for, closed_for, with_request_counted, MovesTo};
-ghost use Rattle.cj_core.specs.Armings.{HasArmings};
-ghost use Rattle.cj_core.specs.Counting.{HasCauses};
-ghost use Rattle.cj_core.specs.Effects.{with_core};
-ghost use Rattle.cj_core.specs.Logins.{HasLogins};
-ghost use Rattle.cj_core.specs.Solos.{desk_of, IsMoveOfNoSession, SoloSteps, StandsBetweenCalls};
-ghost use Rattle.cj_core.specs.Steps.{IsMet};
+ghost use Rattle.cj_moves.specs.Armings.{HasArmings};
+ghost use Rattle.cj_moves.specs.Counting.{HasCauses};
+ghost use Rattle.cj_state.specs.Effects.{with_core};
+ghost use Rattle.cj_state.specs.Worlds.{accounts_of};
+ghost use Rattle.cj_moves.specs.Logins.{HasLogins};
+ghost use Rattle.cj_core.specs.Proving.SoloParts.{call_of};
+ghost use Rattle.cj_core.specs.Solos.{desk_of, AddsEntry, IsMoveOfNoSession, SoloSteps, StandsBetweenCalls, WorldTurn};
+ghost use Rattle.cj_moves.specs.Steps.{IsMet};
 
-use crate::world::{World, empty_text};
+use crate::solo_read::serve_read;
+use crate::solo_write::serve_write;
+use crate::world::World;
 use cj_backend::Backend;
 use cj_book::SessionsFull;
 use cj_cluster::{Move, MoveError, Moved};
 use cj_desk::{Desk, Written};
 use cj_model::{Act, Refusal, Reply, Select, Text};
+use std::alloc::Global;
 use std::marker::Model;
+
+/// The empty text.
+fn empty_text(alloc: Global) -> Text
+    ensures { result ≡ [] }
+{
+    match Text::of(Vec::new(alloc)) {
+        Some(text) => text,
+        None => unreachable!(),
+    }
+}
 
 /// A desk that owns its world, at which one session is served. It sees the whole history; between two
 /// of its calls no entry is open.
@@ -31,7 +53,7 @@ pub struct Solo<B: Backend> {
 }
 
 impl<B: Backend> Model for Solo<B> {
-    ghost use Rattle.cj_core.specs.Logins.{HasLogins};
+    ghost use Rattle.cj_moves.specs.Logins.{HasLogins};
     ghost use Rattle.cj_core.specs.Solos.{SoloState, StandsBetweenCalls};
 
     ghost Value = { SoloState };
@@ -54,26 +76,57 @@ impl<B: Backend> World<B> {
         ensures free { IfOk result (λ _. moves.has_no_number self.core ≡ false) }
         ensures full { IfErr result (λ (full, world). (moves.has_no_number self.core ≡ true) × (full.sessions ≡ length self.core.sessions) × (world ≡ self)) }
     {
-        let mut world = self;
-        world.legal();
-        if world.has_no_number() {
-            let sessions = world.session_count();
-            return Err((SessionsFull { sessions }, world));
+        let World { mut state, emptied } = self;
+        state.legal();
+        if state.has_no_number() {
+            let sessions = state.session_count();
+            return Err((SessionsFull { sessions }, World { state, emptied }));
         }
-        let session = world.add_session(empty_text(world.allocator()));
+        let session = state.add_session(empty_text(state.allocator()));
+        let world = World { state, emptied };
         Ok(Solo { world, session })
     }
+}
 
-    /// Counts a request of the session that is refused.
-    #[tactic(auto, using(crate::proofs::SoloTurns::stands_idle))]
-    pub(crate) fn refuse(&mut self, s: u64, refusal: Refusal) -> Reply
+// ---- what a session asks of the world
+
+impl<B: Backend> World<B> {
+    fn admits(&self, user: &[u8], password: &[u8]) -> bool
+        ensures admitted { result ≡ admits (accounts_of self.now) user.now password.now }
+        ensures user { OnTrue result (IsUserName user.now) }
+    {
+        self.state.admits(user, password)
+    }
+
+    fn count(&mut self, s: u64)
+        requires counts { (session_at self.old.core s).queries < REQUEST_LIMIT }
+        requires idle { moves.is_waiting self.old.core s ≡ false }
+        requires no_read { (session_at self.old.core s).reading ≡ None }
+        ensures { self.new ≡ with_core self.old (with_request_counted self.old.core s) }
+    {
+        self.state.count(s);
+    }
+
+    fn serve_write(&mut self, s: u64, user: &Text, tx: u64, act: Act) -> Written
         requires stands { StandsBetweenCalls self.old.core s }
         requires counts { (session_at self.old.core s).queries < REQUEST_LIMIT }
-        ensures reply { result ≡ replies.Refused refusal }
-        ensures counted { self.new ≡ with_core self.old (with_request_counted self.old.core s) }
+        requires short { length user.now ≤ USER_LIMIT }
+        requires written { IsWritten (request_of act) }
+        requires fits { FitsTx (moves.open_tx self.old.core s) tx act }
+        ensures turn { WorldTurn B.TELLS s self.old (call_of self.old.core s tx user.now (request_of act) result.reply) self.new }
+        ensures entry { (failed : List ℕ) × AddsEntry result.number s (call_of self.old.core s tx user.now (request_of act) result.reply) act failed self.old.core.history self.new.core.history }
     {
-        self.count(s);
-        Reply::Refused(refusal)
+        serve_write(&mut self.state, s, user, tx, act)
+    }
+
+    fn serve_read(&mut self, s: u64, user: &Text, tx: u64, select: &Select) -> Reply
+        requires stands { StandsBetweenCalls self.old.core s }
+        requires counts { (session_at self.old.core s).queries < REQUEST_LIMIT }
+        requires written { IsWritten (requests.Select select.now) }
+        requires tx { (tx ≡ 0) ⊎ (tx ≡ moves.open_tx self.old.core s) }
+        ensures { WorldTurn B.TELLS s self.old (call_of self.old.core s tx user.now (requests.Select select.now) result) self.new }
+    {
+        serve_read(&mut self.state, s, user, tx, select)
     }
 }
 
@@ -90,9 +143,10 @@ impl<B: Backend> Solo<B> {
     pub fn close(self) -> World<B>
         ensures { result ≡ with_core self.world (closed_for self.world.core self.session) }
     {
-        let Solo { mut world, session } = self;
-        world.remove_session(session);
-        world
+        let Solo { world, session } = self;
+        let World { mut state, emptied } = world;
+        state.remove_session(session);
+        World { state, emptied }
     }
 
     /// Makes a move of no session, as the world does.

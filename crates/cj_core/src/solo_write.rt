@@ -9,105 +9,131 @@ ghost use Rattle.cj_cluster.specs.History.Legality.{FitsTx};
 ghost use Rattle.cj_cluster.specs.Moves.Cores.{position_at, session_at};
 ghost use Rattle.cj_cluster.specs.Moves.Moves as moves;
 ghost use Rattle.cj_cluster.specs.Proving.Invariants.{CoreInvariant};
-ghost use Rattle.cj_cluster.specs.Moves.Moves.{scheduled_as};
-ghost use Rattle.cj_core.specs.Effects.{with_core};
-ghost use Rattle.cj_core.specs.Solos.{open_user, call_of, own_entry, AddsEntry, EntryEnded, EntryTaken, HasTakenEntry, SchedulesOrRefuses, StandsBetweenCalls, WorldTurn};
+ghost use Rattle.cj_cluster.specs.Moves.Moves.{scheduled_as, with_request_counted};
+ghost use Rattle.cj_model.specs.declared.answer.Reply.TheVariants as replies;
+ghost use Rattle.cj_state.specs.Effects.{with_core};
+ghost use Rattle.cj_core.specs.Proving.SoloParts.{open_user, call_of, EntryEnded, EntryTaken, HasTakenEntry, SchedulesOrRefuses};
+ghost use Rattle.cj_state.specs.Effects.{own_entry};
+ghost use Rattle.cj_core.specs.Solos.{AddsEntry, StandsBetweenCalls, WorldTurn};
 
-use crate::world::World;
 use cj_backend::Backend;
 use cj_book::BookError;
 use cj_desk::Written;
 use cj_model::{Act, HISTORY_FULL, NO_BACKEND, NO_MEMORY, Refusal, Reply, Text};
+use cj_moves::not_now_apply;
+use cj_state::State;
 
-impl<B: Backend> World<B> {
-    /// The backend takes the open entry, where it is enabled and hasn't taken it.
-    fn take_if_due(&mut self, b: u8)
-        requires open { is_idle self.old.core.history ≡ false }
-        requires within { b < self.old.core.placement.backends }
-        ensures taken { EntryTaken (open_user self.old.core) self.old self.new }
-        ensures at_end { HasTakenEntry self.new.core b }
-        ensures others { (k : ℕ) → k ≢ b → position_at self.new.core k ≡ position_at self.old.core k }
-    {
-        self.legal();
-        if self.not_now_apply(b).is_none() {
-            self.take_open(b);
-        }
+/// Counts a request of the session that is refused.
+#[tactic(auto, using(crate::proofs::SoloTurns::stands_idle))]
+pub fn refuse<B: Backend>(state: &mut State<B>, s: u64, refusal: Refusal) -> Reply
+    requires stands { StandsBetweenCalls state.old.core s }
+    requires counts { (session_at state.old.core s).queries < REQUEST_LIMIT }
+    ensures reply { result ≡ replies.Refused refusal }
+    ensures counted { state.new ≡ with_core state.old (with_request_counted state.old.core s) }
+{
+    state.count(s);
+    Reply::Refused(refusal)
+}
+
+/// The backend takes the open entry, where it is enabled and hasn't taken it.
+fn take_if_due<B: Backend>(state: &mut State<B>, b: u8)
+    requires open { is_idle state.old.core.history ≡ false }
+    requires within { b < state.old.core.placement.backends }
+    ensures taken { EntryTaken (open_user state.old.core) state.old state.new }
+    ensures at_end { HasTakenEntry state.new.core b }
+    ensures others { (k : ℕ) → k ≢ b → position_at state.new.core k ≡ position_at state.old.core k }
+{
+    state.legal();
+    if not_now_apply(state, b).is_none() {
+        state.take_open(b);
     }
+}
 
-    /// Each enabled backend takes the open entry.
-    fn take_everywhere(&mut self)
-        requires open { is_idle self.old.core.history ≡ false }
-        ensures taken { EntryTaken (open_user self.old.core) self.old self.new }
-        ensures at_end { moves.first_lagging self.new.core.history 0 self.new.core.positions ≡ None }
-        ensures sound { CoreInvariant self.new.core }
-    {
-        for b in 0..self.placement().count() {
-            self.take_if_due(b);
-        }
-        self.legal();
+/// Each enabled backend takes the open entry.
+fn take_everywhere<B: Backend>(state: &mut State<B>)
+    requires open { is_idle state.old.core.history ≡ false }
+    ensures taken { EntryTaken (open_user state.old.core) state.old state.new }
+    ensures at_end { moves.first_lagging state.new.core.history 0 state.new.core.positions ≡ None }
+    ensures sound { CoreInvariant state.new.core }
+{
+    for b in 0..state.placement().count() {
+        take_if_due(state, b);
     }
+    state.legal();
+}
 
-    /// Ends the open entry, which is of this session, once each enabled backend has taken it.
-    fn finish(&mut self, s: u64) -> Reply
-        requires open { is_idle self.old.core.history ≡ false }
-        requires waits { moves.is_waiting self.old.core s ≡ true }
-        ensures { EntryEnded B.TELLS s (open_user self.old.core) self.old result self.new }
-    {
-        self.take_everywhere();
-        let reply = self.reply();
-        self.end_entry(s);
-        self.legal();
-        reply
+/// Ends the open entry, which is of this session, once each enabled backend has taken it.
+fn finish<B: Backend>(state: &mut State<B>, s: u64) -> Reply
+    requires open { is_idle state.old.core.history ≡ false }
+    requires waits { moves.is_waiting state.old.core s ≡ true }
+    ensures { EntryEnded B.TELLS s (open_user state.old.core) state.old result state.new }
+{
+    take_everywhere(state);
+    let reply = state.reply();
+    state.end_entry(s);
+    state.legal();
+    reply
+}
+
+/// Schedules the act as the session's next entry, in transaction `tx`, 0 for none, or says why it can't.
+fn schedule_for<B: Backend>(
+    state: &mut State<B>,
+    s: u64,
+    user: &Text,
+    tx: u64,
+    act: Act,
+) -> Result<u64, Refusal>
+    requires stands { StandsBetweenCalls state.old.core s }
+    requires counts { (session_at state.old.core s).queries < REQUEST_LIMIT }
+    requires short { length user.now ≤ USER_LIMIT }
+    requires written { IsWritten (request_of act) }
+    requires fits { FitsTx (moves.open_tx state.old.core s) tx act }
+    ensures scheduled { SchedulesOrRefuses state.old.core (own_entry state.old.core s tx user.now act) result }
+    ensures ok { OnOk result (state.new ≡ with_core state.old (scheduled_as state.old.core s (own_entry state.old.core s tx user.now act))) }
+    ensures err { OnErr result (state.new ≡ state.old) }
+{
+    let Ok(entry) = state.entry_for(s, user, tx, act) else {
+        return Err(Refusal::of_code(NO_MEMORY));
+    };
+    match state.schedule_entry(s, entry) {
+        Ok(number) => Ok(number),
+        Err(BookError::NoBackend) => Err(Refusal::of_code(NO_BACKEND)),
+        Err(BookError::HistoryFull(events)) => Err(Refusal {
+            code: HISTORY_FULL,
+            a: events,
+            b: 0,
+        }),
+        Err(BookError::NoMemory) => Err(Refusal::of_code(NO_MEMORY)),
+        Err(BookError::InProgress(_)) => unreachable!(),
     }
+}
 
-    /// Schedules the act as the session's next entry, in transaction `tx`, 0 for none, or says why it can't.
-    fn schedule_for(&mut self, s: u64, user: &Text, tx: u64, act: Act) -> Result<u64, Refusal>
-        requires stands { StandsBetweenCalls self.old.core s }
-        requires counts { (session_at self.old.core s).queries < REQUEST_LIMIT }
-        requires short { length user.now ≤ USER_LIMIT }
-        requires written { IsWritten (request_of act) }
-        requires fits { FitsTx (moves.open_tx self.old.core s) tx act }
-        ensures scheduled { SchedulesOrRefuses self.old.core (own_entry self.old.core s tx user.now act) result }
-        ensures ok { OnOk result (self.new ≡ with_core self.old (scheduled_as self.old.core s (own_entry self.old.core s tx user.now act))) }
-        ensures err { OnErr result (self.new ≡ self.old) }
-    {
-        let Ok(entry) = self.entry_for(s, user, tx, act) else {
-            return Err(Refusal::of_code(NO_MEMORY));
-        };
-        match self.schedule_entry(s, entry) {
-            Ok(number) => Ok(number),
-            Err(BookError::NoBackend) => Err(Refusal::of_code(NO_BACKEND)),
-            Err(BookError::HistoryFull(events)) => Err(Refusal {
-                code: HISTORY_FULL,
-                a: events,
-                b: 0,
-            }),
-            Err(BookError::NoMemory) => Err(Refusal::of_code(NO_MEMORY)),
-            Err(BookError::InProgress(_)) => unreachable!(),
-        }
-    }
-
-    /// Schedules the act as the session's next entry, in transaction `tx`, 0 for none, and answers it
-    /// once it has ended.
-    pub(crate) fn serve_write(&mut self, s: u64, user: &Text, tx: u64, act: Act) -> Written
-        requires stands { StandsBetweenCalls self.old.core s }
-        requires counts { (session_at self.old.core s).queries < REQUEST_LIMIT }
-        requires short { length user.now ≤ USER_LIMIT }
-        requires written { IsWritten (request_of act) }
-        requires fits { FitsTx (moves.open_tx self.old.core s) tx act }
-        ensures turn { WorldTurn B.TELLS s self.old (call_of self.old.core s tx user.now (request_of act) result.reply) self.new }
-        ensures entry { (failed : List ℕ) × AddsEntry result.number s (call_of self.old.core s tx user.now (request_of act) result.reply) act failed self.old.core.history self.new.core.history }
-    {
-        self.legal();
-        match self.schedule_for(s, user, tx, act) {
-            Ok(number) => Written {
-                number,
-                reply: self.finish(s),
-            },
-            Err(refusal) => Written {
-                number: 0,
-                reply: self.refuse(s, refusal),
-            },
-        }
+/// Schedules the act as the session's next entry, in transaction `tx`, 0 for none, and answers it
+/// once it has ended.
+pub fn serve_write<B: Backend>(
+    state: &mut State<B>,
+    s: u64,
+    user: &Text,
+    tx: u64,
+    act: Act,
+) -> Written
+    requires stands { StandsBetweenCalls state.old.core s }
+    requires counts { (session_at state.old.core s).queries < REQUEST_LIMIT }
+    requires short { length user.now ≤ USER_LIMIT }
+    requires written { IsWritten (request_of act) }
+    requires fits { FitsTx (moves.open_tx state.old.core s) tx act }
+    ensures turn { WorldTurn B.TELLS s state.old (call_of state.old.core s tx user.now (request_of act) result.reply) state.new }
+    ensures entry { (failed : List ℕ) × AddsEntry result.number s (call_of state.old.core s tx user.now (request_of act) result.reply) act failed state.old.core.history state.new.core.history }
+{
+    state.legal();
+    match schedule_for(state, s, user, tx, act) {
+        Ok(number) => Written {
+            number,
+            reply: finish(state, s),
+        },
+        Err(refusal) => Written {
+            number: 0,
+            reply: refuse(state, s, refusal),
+        },
     }
 }

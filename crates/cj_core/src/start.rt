@@ -1,11 +1,11 @@
 //! How a world begins, and how it is given up.
 
 ghost use Rattle.std.specs.Prelude.{◌≡◌, ◌+◌, ◌<◌, ◌≤◌, [], length, map, vec_capacity, IfOk, OnOk};
-ghost use Rattle.cj_core.specs.Starts.{backend_of, state_by, KeepEachBegun, AreEmpty, AreFresh, AreHolding, AreCurrent, HaveBegunNone, started, started_to};
+ghost use Rattle.cj_core.specs.Starts.{backend_of, state_by, KeepEachBegun, AreHolding, AreCurrent, HaveBegunNone};
+ghost use Rattle.cj_state.specs.Beginnings.{AreEmpty, AreFresh, started, started_to};
 ghost use Rattle.cj_place.specs.Layouts.{placement_of};
 
 use crate::emptied::Emptied;
-use crate::sessions::Sessions;
 use crate::world::World;
 use cj_auth::Accounts;
 use cj_backend::Backend;
@@ -13,6 +13,7 @@ use cj_book::{Book, BookError, BookParts};
 use cj_model::{Duplicate, ListOf, NoMemory};
 use cj_place::Placement;
 use cj_replica::Cell;
+use cj_state::State;
 use std::alloc::Global;
 
 /// What a world is made of beside its backends. Each account has a login at each of them.
@@ -61,6 +62,40 @@ fn backends_of<B: Backend + Drop>(mut cells: Vec<Cell<B>>, mut backends: Vec<B>)
     backends
 }
 
+/// Enables each backend, in the order of numbers.
+fn enable_all<B: Backend>(state: &mut State<B>, count: u8) -> Result<(), NoMemory>
+    requires rest { state.old.core ≡ started_to state.old.core.placement 0 }
+    requires all { count ≡ state.old.core.placement.backends }
+    ensures core { OnOk result (state.new.core ≡ started state.old.core.placement) }
+    ensures cells { state.new.cells ≡ state.old.cells }
+    ensures setup { state.new.setup ≡ state.old.setup }
+{
+    let mut b = 0;
+    while b < count {
+        enable_next(state, b)?;
+        b += 1;
+    }
+    Ok(())
+}
+
+/// Enables backend `b`, where those before it are enabled.
+fn enable_next<B: Backend>(state: &mut State<B>, b: u8) -> Result<(), NoMemory>
+    requires begun { state.old.core ≡ started_to state.old.core.placement b }
+    requires within { b < state.old.core.placement.backends }
+    ensures core { OnOk result (state.new.core ≡ started_to state.old.core.placement (b + 1)) }
+    ensures cells { state.new.cells ≡ state.old.cells }
+    ensures setup { state.new.setup ≡ state.old.setup }
+{
+    state.legal();
+    match state.switch_on(b) {
+        Ok(()) => Ok(()),
+        Err(BookError::NoMemory) => Err(NoMemory),
+        Err(BookError::InProgress(_)) => unreachable!(),
+        Err(BookError::NoBackend) => unreachable!(),
+        Err(BookError::HistoryFull(_)) => unreachable!(),
+    }
+}
+
 impl<B: Backend + Drop> World<B> {
     /// The core over these backends, which are all enabled, with no session open. Where there is
     /// no memory for it, the backends are dropped.
@@ -78,11 +113,10 @@ impl<B: Backend + Drop> World<B> {
         let count = book.placement.count();
         let cells = cells_of(alloc, &book.placement, &mut list)?;
         let book = Book::new(alloc, book)?;
-        let sessions = Sessions::new(alloc)?;
         let emptied = Emptied::new(list)?;
-        let mut world = World::at_rest(alloc, book, cells, sessions, accounts, emptied);
-        world.enable_all(count)?;
-        Ok(world)
+        let mut state = State::new(alloc, book, cells, accounts)?;
+        enable_all(&mut state, count)?;
+        Ok(World { state, emptied })
     }
 
     /// The backends in the order of their numbers, as they stand. It takes no memory.
@@ -92,41 +126,7 @@ impl<B: Backend + Drop> World<B> {
         ensures holding { AreHolding B.TELLS self.core (map B.told result) }
         ensures current { AreCurrent B.TELLS self.core (map B.told result) }
     {
-        let (cells, emptied) = self.into_parts();
-        ListOf::from_vec(backends_of(cells, emptied.into_vec()))
-    }
-
-    /// Enables each backend, in the order of numbers.
-    fn enable_all(&mut self, count: u8) -> Result<(), NoMemory>
-        requires rest { self.old.core ≡ started_to self.old.core.placement 0 }
-        requires all { count ≡ self.old.core.placement.backends }
-        ensures core { OnOk result (self.new.core ≡ started self.old.core.placement) }
-        ensures cells { self.new.cells ≡ self.old.cells }
-        ensures setup { self.new.setup ≡ self.old.setup }
-    {
-        let mut b = 0;
-        while b < count {
-            self.enable_next(b)?;
-            b += 1;
-        }
-        Ok(())
-    }
-
-    /// Enables backend `b`, where those before it are enabled.
-    fn enable_next(&mut self, b: u8) -> Result<(), NoMemory>
-        requires begun { self.old.core ≡ started_to self.old.core.placement b }
-        requires within { b < self.old.core.placement.backends }
-        ensures core { OnOk result (self.new.core ≡ started_to self.old.core.placement (b + 1)) }
-        ensures cells { self.new.cells ≡ self.old.cells }
-        ensures setup { self.new.setup ≡ self.old.setup }
-    {
-        self.legal();
-        match self.switch_on(b) {
-            Ok(()) => Ok(()),
-            Err(BookError::NoMemory) => Err(NoMemory),
-            Err(BookError::InProgress(_)) => unreachable!(),
-            Err(BookError::NoBackend) => unreachable!(),
-            Err(BookError::HistoryFull(_)) => unreachable!(),
-        }
+        let World { state, emptied } = self;
+        ListOf::from_vec(backends_of(state.into_cells(), emptied.into_vec()))
     }
 }

@@ -4,7 +4,7 @@ use Rattle.std.specs.Prelude.{◌↔◌, IsNone}
 use Rattle.cj_outside.specs.declared.sink.OutError.{OutError}
 use Rattle.cj_outside.specs.declared.sink.OutError.TheVariants as out_errors
 use Rattle.cj_outside.specs.Streams.{WritesAll}
-use Rattle.cj_core.specs.Worlds.{WorldState}
+use Rattle.cj_state.specs.Worlds.{WorldState}
 use Rattle.cj_script.specs.Script.{DoesLine}
 use Rattle.cj_script.specs.Steps.{PlaysOrEnds, written_or_end}
 

@@ -17,8 +17,8 @@ use Rattle.cj_cluster.specs.Moves.Cores.{Core, session_at}
 use Rattle.cj_cluster.specs.Moves.Runs.{RunsMoves, IsMoveOfCluster, CanCountRequests}
 use Rattle.cj_cluster.specs.Script.Lines.{MoveLine, NamesBackend, moved_lines}
 use Rattle.cj_cluster.proofs.Chains.{run_chained}
-use Rattle.cj_core.specs.Worlds.{WorldState, IsWorld}
-use Rattle.cj_core.specs.Counting.{faults_after, faults_of}
+use Rattle.cj_state.specs.Worlds.{WorldState, IsWorld}
+use Rattle.cj_state.specs.Faults.{faults_after, faults_of}
 use Rattle.cj_script.specs.declared.play.ScriptEnd.{ScriptEnd}
 use Rattle.cj_script.specs.declared.play.ScriptEnd.TheVariants.{Done, Line as Line', ReadFault, WriteFault, Spent, NoMemory}
 use Rattle.cj_script.specs.Script.{audit_line, filled, moves_in, given_in, step_lines, faults_through, AreSteps, MakesInPart, PlaysLine, Plays, LieIn, InTurns, Step}

@@ -3,7 +3,7 @@ use Rattle.std.proofs.Common.{◌≡◌, ℕ, ◌+◌, ◌*◌, ◌-◌, ◌≤�
 use Rattle.cj_outside.specs.Lines.{Reading}
 use Rattle.cj_outside.specs.Streams.{most}
 use Rattle.cj_cluster.specs.Moves.Cores.{Core}
-use Rattle.cj_core.specs.Worlds.{WorldState}
+use Rattle.cj_state.specs.Worlds.{WorldState}
 use Rattle.cj_cluster.specs.Moves.Runs.{CanCountRequests}
 use Rattle.cj_cluster.proofs.Growth.{moves_grow, can_count}
 use Rattle.cj_core.specs.Played.{given_of}

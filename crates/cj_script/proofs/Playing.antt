@@ -9,7 +9,7 @@ use Rattle.std.specs.Io.KnownBytes.{Consumes, Appends, IsAtEnd}
 use Rattle.cj_outside.specs.declared.lines.Line.{Line}
 use Rattle.cj_outside.specs.Lines.{line_limit, Reading, IsInLine, IsLine, EndsLine, LastLine, TookBytes}
 use Rattle.cj_outside.proofs.Joined.{consumes_then, consumes_none, appends_then, appends_none}
-use Rattle.cj_core.specs.Worlds.{WorldState}
+use Rattle.cj_state.specs.Worlds.{WorldState}
 use Rattle.cj_cluster.specs.Script.Lines.{with_line_feed}
 use Rattle.cj_outside.specs.declared.lines.Line.TheVariants.{Text, Long}
 use Rattle.cj_script.specs.declared.play.ScriptEnd.{ScriptEnd}

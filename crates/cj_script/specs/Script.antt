@@ -15,18 +15,21 @@ use Rattle.cj_cluster.specs.Moves.Cores.{Core}
 use Rattle.cj_cluster.specs.Moves.Moves.{MoveResult, MovesTo, last_number}
 use Rattle.cj_cluster.specs.Moves.Runs.{RunsMoves, IsBetweenReplies, IsChained}
 use Rattle.cj_cluster.specs.Script.Lines.{MoveLine, moved_lines, not_now_text, with_line_feed}
-use Rattle.cj_core.specs.Worlds.{WorldState}
-use Rattle.cj_core.specs.Armings.{HasArmings, armings_of}
+use Rattle.cj_state.specs.Worlds.{WorldState}
+use Rattle.cj_moves.specs.Armings.{HasArmings}
+use Rattle.cj_state.specs.ArmedCells.{armings_of}
 use Rattle.cj_core.specs.Audits.{audit_text}
-use Rattle.cj_core.specs.Counting.{HasCauses, blamed, faults_after, faults_of}
-use Rattle.cj_core.specs.Logins.{logins_of}
+use Rattle.cj_moves.specs.Counting.{HasCauses, blamed}
+use Rattle.cj_state.specs.Faults.{faults_after, faults_of}
+use Rattle.cj_state.specs.CalledLogins.{logins_of}
+use Rattle.cj_moves.specs.Logins.{HasLogins}
 use Rattle.cj_core.specs.Played.{given_of}
 use Rattle.cj_script.specs.declared.play.ScriptEnd.{ScriptEnd}
 use Rattle.cj_script.specs.declared.play.ScriptEnd.TheVariants.{Done, Line, ReadFault, WriteFault, Spent, NoMemory}
 
 -- ---- lines that play
 
--- The line is a move, which leads from c to z with the faults that were counted and the backends that were armed, where they can be, and these are the lines of what it came to.
+-- The line is a move, which leads from c to z with the faults that were counted, the backends that were armed, where they can be, and the logins under which backends were called; and these are the lines of what it came to.
 pub record MakesMove (tells armable : Bool) (names : List (List ℕ)) (c : WorldState) (line written : List ℕ) (z : WorldState) : Type 0 where
   pub move : Move
   pub reads : MoveLine names line move
@@ -34,6 +37,7 @@ pub record MakesMove (tells armable : Bool) (names : List (List ℕ)) (c : World
   pub moves : MovesTo tells c.core move (given_of made) z.core
   pub causes : HasCauses c z move (given_of made)
   pub armings : HasArmings armable c z move (given_of made)
+  pub logins : HasLogins c z move (given_of made)
   pub gives : written ≡ moved_lines names made
 
 -- ---- an audit

@@ -8,7 +8,7 @@ use Rattle.cj_outside.specs.declared.lines.LineError.TheVariants as errors
 use Rattle.cj_outside.specs.declared.sink.OutError.{OutError}
 use Rattle.cj_outside.specs.declared.sink.OutError.TheVariants as out_errors
 use Rattle.cj_outside.specs.Lines.{Reading, GivesLine}
-use Rattle.cj_core.specs.Worlds.{WorldState}
+use Rattle.cj_state.specs.Worlds.{WorldState}
 use Rattle.cj_script.specs.Script.{PlaysLine, MakesInPart, IsNoMove}
 use Rattle.cj_script.specs.declared.play.ScriptEnd.{ScriptEnd}
 use Rattle.cj_script.specs.declared.play.ScriptEnd.TheVariants.{Done, Line, ReadFault, WriteFault, Spent, NoMemory}

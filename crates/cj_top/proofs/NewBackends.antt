@@ -4,8 +4,9 @@ use Rattle.std.proofs.lemmas.List.Elements.{All-replicate}
 use Rattle.cj_model.specs.declared.memory.NoMemory.{NoMemory}
 use Rattle.cj_conf.specs.declared.conf.Conf.{Conf}
 use Rattle.cj_place.specs.Layouts.{placement_of}
-use Rattle.cj_core.specs.Starts.{BackendState, backend_of, started}
-use Rattle.cj_core.specs.Worlds.{WorldState}
+use Rattle.cj_core.specs.Starts.{BackendState, backend_of}
+use Rattle.cj_state.specs.Beginnings.{started}
+use Rattle.cj_state.specs.Worlds.{WorldState}
 use Rattle.cj_top.specs.Configured.{BeginsAsConfigured, new_backend}
 
 -- alike before, alike after

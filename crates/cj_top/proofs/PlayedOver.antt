@@ -3,7 +3,7 @@ use Rattle.std.proofs.Common.{◌≡◌, ℕ, true, List, Option, ap, subst}
 use Rattle.cj_cluster.specs.Moves.Cores.{Core}
 use Rattle.cj_cluster.proofs.Standing.{between_none}
 use Rattle.cj_conf.specs.declared.conf.Conf.{Conf}
-use Rattle.cj_core.specs.Worlds.{WorldState, Setup}
+use Rattle.cj_state.specs.Worlds.{WorldState, Setup}
 use Rattle.cj_script.specs.Script.{CameTo, InTurns}
 use Rattle.cj_script.specs.declared.play.ScriptEnd.{ScriptEnd}
 use Rattle.cj_top.specs.Configured.{BeginsAsConfigured}

@@ -18,8 +18,9 @@ use Rattle.cj_conf.specs.declared.error.ConfError.{ConfError}
 use Rattle.cj_conf.specs.declared.error.ConfError.TheVariants.{Range}
 use Rattle.cj_conf.specs.declared.key.Key.TheVariants.{Kind}
 use Rattle.cj_conf.specs.Refusals.{error_number, key_text}
-use Rattle.cj_core.specs.Starts.{BackendState, backend_of, started}
-use Rattle.cj_core.specs.Worlds.{WorldState}
+use Rattle.cj_core.specs.Starts.{BackendState, backend_of}
+use Rattle.cj_state.specs.Beginnings.{started}
+use Rattle.cj_state.specs.Worlds.{WorldState}
 
 -- ---- the configuration that is run
 

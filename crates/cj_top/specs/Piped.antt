@@ -7,11 +7,11 @@ use Rattle.cj_outside.specs.Draws.{seeded, of_generator, generator_after}
 use Rattle.cj_cluster.specs.declared.session.SessionEnd.{SessionEnd}
 use Rattle.cj_cluster.specs.Moves.Moves.{opened_for, closed_for}
 use Rattle.cj_conf.specs.declared.conf.Conf.{Conf}
-use Rattle.cj_core.specs.Counting.{faults_of}
-use Rattle.cj_core.specs.Effects.{with_core}
+use Rattle.cj_state.specs.Faults.{faults_of}
+use Rattle.cj_state.specs.Effects.{with_core}
 use Rattle.cj_core.specs.QuietCalls.{BlamesNobody, CanCountMore}
 use Rattle.cj_core.specs.Solos.{SoloState, SoloSteps, desk_of}
-use Rattle.cj_core.specs.Worlds.{WorldState}
+use Rattle.cj_state.specs.Worlds.{WorldState}
 use Rattle.cj_desk.specs.DeskChains.{IsDeskChain}
 use Rattle.cj_desk.specs.SessionTranscripts.{SessionSetting, setting, client_state}
 use Rattle.cj_session.specs.Serving.{ServesSession}

@@ -9,7 +9,7 @@ use Rattle.cj_outside.specs.declared.sink.OutError.TheVariants as out_errors
 use Rattle.cj_cluster.specs.Moves.Runs.{IsBetweenReplies}
 use Rattle.cj_cluster.specs.Script.Lines.{with_line_feed, words}
 use Rattle.cj_conf.specs.declared.conf.Conf.{Conf}
-use Rattle.cj_core.specs.Worlds.{WorldState}
+use Rattle.cj_state.specs.Worlds.{WorldState}
 use Rattle.cj_script.specs.Script.{CameTo, InTurns}
 use Rattle.cj_script.specs.declared.play.ScriptEnd.{ScriptEnd}
 use Rattle.cj_script.specs.declared.play.ScriptEnd.TheVariants as end

@@ -1,7 +1,8 @@
 use Rattle.std.proofs.Common.{◌≡◌, ◌<◌, ◌≤◌, [], Some, length, vec_capacity, sym, ◌∙◌, subst, arith}
 use Rattle.cj_model.specs.declared.limits.TheConstants.{BACKEND_LIMIT}
 use Rattle.cj_place.specs.Layouts.{Layout, placement_of}
-use Rattle.cj_core.specs.Starts.{IsFresh, backend_of, state_by}
+use Rattle.cj_state.specs.Beginnings.{IsFresh}
+use Rattle.cj_core.specs.Starts.{backend_of, state_by}
 use Rattle.cj_core.proofs.Starting.{made_fresh, moving_first, moving_more, moving_room, moving_none, moving_last}
 use Rattle.cj_core.proofs.start.cells_of.Goals as goal
 

@@ -1,6 +1,6 @@
 use Rattle.std.proofs.Common.{◌≡◌, ℕ, List, Result, inl, sym, ap, subst, ◌∙◌}
 use Rattle.cj_cluster.specs.Script.Lines.{MoveLine, moved_lines}
-use Rattle.cj_core.specs.Worlds.{Setup}
+use Rattle.cj_state.specs.Worlds.{Setup}
 use Rattle.cj_script.specs.declared.play.ScriptEnd.{ScriptEnd}
 use Rattle.cj_script.specs.Reading.{Finds}
 use Rattle.cj_script.specs.Script.{DoesLine}
@@ -27,6 +27,7 @@ returns-clause-plays g c =
       moves = c.in-Ok.ensures.made;
       causes = c.in-Ok.ensures.causes;
       armings = c.in-Ok.ensures.armings;
+      logins = c.in-Ok.ensures.logins;
       gives = ap (λ (names : List (List ℕ)). moved_lines names c.in-Ok.made) same;
     })
     in

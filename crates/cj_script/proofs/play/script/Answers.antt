@@ -1,5 +1,5 @@
 use Rattle.std.proofs.Common.{◌+◌, Ok, Err, ap, ◌∙◌, refl, length, arith}
-use Rattle.cj_core.specs.Worlds.{Setup}
+use Rattle.cj_state.specs.Worlds.{Setup}
 use Rattle.cj_script.proofs.Moving.{counting_start, counting_played, plays_as}
 use Rattle.cj_script.proofs.InTurns.{read_end_turns, play_end_turns}
 use Rattle.cj_script.proofs.Playing.{playing_none, read_end, play_end, text_came, line_played}

@@ -2,7 +2,7 @@ use Rattle.std.proofs.Common.{◌≡◌, [], true, sym, subst}
 use Rattle.cj_cluster.specs.History.Histories.{is_idle, log}
 use Rattle.cj_cluster.specs.Moves.Cores.{Core}
 use Rattle.cj_place.specs.Layouts.{placement_of}
-use Rattle.cj_core.proofs.Resting.{free-enables, log-enables}
+use Rattle.cj_state.proofs.Resting.{free-enables, log-enables}
 use Rattle.cj_top.proofs.piped.pipe.Goals as goal
 
 pub serve_one-requires-clause-idle : goal.serve_one-requires-clause-idle

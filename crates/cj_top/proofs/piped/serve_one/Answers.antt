@@ -1,9 +1,9 @@
 use Rattle.std.proofs.Common.{◌≡◌, ◌+◌, ◌%◌, ◌^◌, ℕ, None, sum, ap, sym, ◌∙◌, subst, arith}
 use Rattle.rand_pcg.specs.Lcg.{Lcg}
 use Rattle.cj_outside.specs.Draws.{seeded, of_generator, generator_after}
-use Rattle.cj_core.specs.Counting.{faults_of}
+use Rattle.cj_state.specs.Faults.{faults_of}
 use Rattle.cj_core.specs.Solos.{SoloState}
-use Rattle.cj_core.specs.Worlds.{WorldState}
+use Rattle.cj_state.specs.Worlds.{WorldState}
 use Rattle.cj_core.proofs.QuietSessions.{quiet_session}
 use Rattle.cj_desk.specs.SessionTranscripts.{client_state}
 use Rattle.cj_desk.proofs.DeskChainLaws.{transcript_chained}

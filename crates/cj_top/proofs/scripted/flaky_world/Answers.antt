@@ -4,8 +4,8 @@ use Rattle.cj_flaky.specs.FlakyBackends.{FlakyState, fresh_over, told_by}
 use Rattle.cj_mem.specs.MemoryBackends.{MemoryState, fresh_state}
 use Rattle.cj_place.specs.Layouts.{Layout, placement_of}
 use Rattle.cj_auth.specs.Admission.{Register}
-use Rattle.cj_core.specs.Starts.{started}
-use Rattle.cj_core.specs.Worlds.{WorldState}
+use Rattle.cj_state.specs.Beginnings.{started}
+use Rattle.cj_state.specs.Worlds.{WorldState}
 use Rattle.cj_top.proofs.NewBackends.{all_alike, seen_alike, seen_where, begins}
 use Rattle.cj_top.proofs.scripted.flaky_world.Goals as goal
 

@@ -1,4 +1,4 @@
-use Rattle.std.proofs.Common.{◌≡◌, ◌<◌, true, sym, subst, ◌∙◌, arith, rules}
+use Rattle.std.proofs.Common.{◌≡◌, ◌<◌, true, length, sym, subst, ◌∙◌, arith, rules}
 use Rattle.std.proofs.lemmas.Bool.{and_parts}
 use Rattle.cj_model.specs.Cluster.Masks.{in_mask}
 use Rattle.cj_model.specs.Cluster.Placements.{hosts}
@@ -17,5 +17,5 @@ pub returns-clause-below : goal.returns-clause-below
 returns-clause-below c =
     mask_below c.loop-table.mask (λ b there.
     let on : is_enabled c.args.self.now.history b ≡ true = (and_parts (is_enabled c.args.self.now.history b) _ (sym (c.loop-table.invariant b) ∙ there)).0 in
-    let below : b < c.self.inside.backends = c.self.invariant.history.below b (subst (λ (s : BookState). is_enabled s.history b ≡ true) (sym c.self.view_is) on) in
+    let below : b < length c.self.inside.placement.names = c.self.invariant.history.below b (subst (λ (s : BookState). is_enabled s.history b ≡ true) (sym c.self.view_is) on) in
     omega (arith, c.self.invariant.history.backend_count))

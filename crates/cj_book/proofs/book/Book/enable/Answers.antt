@@ -12,10 +12,8 @@ invariant_of-self-2 c =
     let idle : is_idle c.self.inside.history.items ≡ true = subst (λ (b : BookState). is_idle b.history ≡ true) (sym c.self.view_is) c.requires.is_free in
     let was : is_enabled c.self.inside.history.items c.args.b ≡ false = subst (λ (b : BookState). is_enabled b.history c.args.b ≡ false) (sym c.self.view_is) c.requires.is_disabled in
     let named : c.args.b < length c.self.inside.placement.names = subst (λ (b : BookState). c.args.b < length b.layout.names) (sym c.self.view_is) c.requires.below in
-    let below : c.args.b < c.self.inside.backends = omega (arith, k.count) in
     let spare = rw c.in_ok-append.ensures.ok at c.in_ok-append.ensures.spare in
     record {
-      count = k.count;
-      history = rw c.in_ok-append.ensures.ok (keeps_enabled _ _ _ _ _ _ _ k.history c.args.b (vec_capacity c.append.new.history) below space spare);
+      history = rw c.in_ok-append.ensures.ok (keeps_enabled _ _ _ _ _ _ _ k.history c.args.b (vec_capacity c.append.new.history) named space spare);
       follows = rw c.in_ok-append.ensures.ok (follows_enabled _ _ _ _ _ _ k.follows c.args.b space idle was);
     }

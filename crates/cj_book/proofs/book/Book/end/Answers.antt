@@ -12,7 +12,6 @@ invariant_of-self c =
     let is_open : is_idle c.self.inside.history.items ≡ false = subst (λ (b : BookState). is_idle b.history ≡ false) (sym c.self.view_is) c.requires.«open» in
     let masks = subst (λ (b : BookState). AreFitMasks b.history c.args.failed c.args.starved) (sym c.self.view_is) c.requires.masks in
     record {
-      count = k.count;
       history = rw c.push_reserved.ensures.items
           (keeps_ended _ _ _ _ _ _ _ k.history c.args.failed c.args.starved (vec_capacity c.push_reserved.new.self) (search rules) (search rules) (search rules) is_open (omega arith));
       follows = rw c.push_reserved.ensures.items (follows_ended _ _ _ _ _ _ k.follows c.args.failed c.args.starved k.history.short is_open k.history.one_open masks);

@@ -11,7 +11,6 @@ invariant_of-self-2 c =
     let space : 0 < events_left c.self.inside.history.items = subst (λ (b : BookState). 0 < events_left b.history) (sym c.self.view_is) c.in_ok-check_room.ensures in
     let spare = rw c.in_ok-append.ensures.ok at c.in_ok-append.ensures.spare in
     record {
-      count = k.count;
       history = rw c.in_ok-append.ensures.ok (keeps_read_failed _ _ _ _ _ _ _ k.history c.args.session c.args.seq c.args.b (vec_capacity c.append.new.history) space spare);
       follows = rw c.in_ok-append.ensures.ok (follows_read_failed _ _ _ _ _ _ k.follows c.args.session c.args.seq c.args.b space);
     }

@@ -44,7 +44,6 @@ invariant_of-self-2 c =
     c.in_ok-follow.ensures.ok ∙ ap (λ n. transactions_after c.self.inside.transactions (n + 1) hosts e e.act) count in
     let spare : length (h ++ Sched e ∷ []) + 1 ≤ vec_capacity c.push_reserved-2.new.self = omega (arith, length-append h (Sched e ∷ []), c.in_ok-reserve-2.ensures.ok) in
     record {
-      count = k.count;
       history = rw (events, places) (keeps_sched _ _ _ _ _ _ _ k.history e (vec_capacity c.push_reserved-2.new.self) idle space spare);
       follows = rw (events, sessions, transactions)
           (follows_sched _ _ _ _ _ _ k.follows c.self.inside.balancer c.self.inside.has_spare e hosts c.self.inside.enabled fit known idle (omega arith) concerned k.history.mask);

@@ -1,0 +1,23 @@
+use Rattle.std.proofs.Common.{◌≡◌, ◌≤◌, ap, sym, ◌∙◌, subst, ℕ}
+use Rattle.cj_model.specs.Cluster.Placements.{Placement}
+use Rattle.cj_cluster.specs.Moves.Cores.{Core}
+use Rattle.cj_cluster.specs.History.Histories.{is_idle}
+use Rattle.cj_core.proofs.SoloTaking.{taken_to_next, taken_everywhere}
+use Rattle.cj_core.proofs.solo_write.take_everywhere.Goals as goal
+
+pub loop-b-preserved : goal.loop-b-preserved
+loop-b-preserved g c =
+    let before = c.loop-b.invariant in
+    let takes = c.take_if_due.ensures in
+    record {
+      to = taken_to_next c.args.state.now c.loop-b.state c.take_if_due.new.state c.loop-b.b before.to takes.taken takes.at_end takes.others;
+      running = ap (λ (k : Core). is_idle k.history) takes.taken.core ∙ before.running;
+      placement = ap (λ (k : Core). k.placement) takes.taken.core ∙ before.placement;
+    }
+
+pub returns-clause-at_end : goal.returns-clause-at_end
+returns-clause-at_end g c =
+    let here : c.count-b-end.result ≡ c.loop-b.state.core.placement.backends =
+    c.count-b-end.ensures.count ∙ (ap (λ (p : Placement). p.backends) c.placement.ensures.placement ∙ sym (ap (λ (p : Placement). p.backends) c.loop-b.invariant.placement))
+    in
+    taken_everywhere c.args.state.now c.loop-b.state c.loop-b.b c.legal.ensures.sound (subst (λ (n : ℕ). n ≤ c.loop-b.b) here c.loop-b-test.false) c.loop-b.invariant.to

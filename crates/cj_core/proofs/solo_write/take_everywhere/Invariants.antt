@@ -1,0 +1,12 @@
+use Rattle.std.proofs.Common.{◌≡◌, false}
+use Rattle.cj_cluster.specs.History.Histories.{is_idle}
+use Rattle.cj_core.proofs.SoloTaking.{TakenTo}
+use Rattle.cj_core.proofs.solo_write.take_everywhere.Given as goal
+
+abbrev pub invariant-loop-b : goal.invariant-loop-b
+invariant-loop-b g l =
+    record {
+      to : TakenTo l.fn.state l.state l.b;
+      running : is_idle l.state.core.history ≡ false;
+      placement : l.state.core.placement ≡ l.fn.state.core.placement;
+    }

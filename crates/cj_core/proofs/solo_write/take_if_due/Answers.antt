@@ -1,0 +1,11 @@
+use Rattle.std.proofs.Common.{◌≡◌, None, rules}
+use Rattle.cj_cluster.specs.declared.moves.Move.TheVariants.{Apply}
+use Rattle.cj_cluster.specs.Moves.Moves.{not_now}
+use Rattle.cj_core.proofs.SoloTaking.{took}
+use Rattle.cj_core.proofs.solo_write.take_if_due.Goals as goal
+
+pub returns-then-is_none-clause-taken : goal.returns-then-is_none-clause-taken
+returns-then-is_none-clause-taken g c =
+    let now : not_now c.args.state.now.core (Apply c.args.b) ≡ None = search rules in
+    let took_open = c.take_open.ensures in
+    took g.B.Backend.TELLS c.args.state.now c.take_open.new.self c.args.b c.take_open.result took_open.applies c.legal.ensures c.requires.within now took_open.counts took_open.logins took_open.setup

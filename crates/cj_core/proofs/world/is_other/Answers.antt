@@ -1,5 +1,0 @@
-use Rattle.cj_core.proofs.Reading.{other_read}
-use Rattle.cj_core.proofs.world.is_other.Goals as goal
-
-pub returns-in-Some : goal.returns-in-Some
-returns-in-Some c = other_read c.in-Some.read c.args.session.now c.args.select.now c.is_same.result c.in-Some.is c.is_same.ensures

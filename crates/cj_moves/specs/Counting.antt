@@ -1,0 +1,49 @@
+-- The faults that backends have counted, and which move says that one was.
+use Rattle.std.specs.Prelude.{◌≡◌, ℕ, Bool, true, false, ◌||◌, ◌==◌, if◌then◌else◌, Ok, Err}
+use Rattle.std.specs.declared.option.Option.{Option}
+use Rattle.std.specs.declared.option.Option.TheVariants.{None, Some}
+use Rattle.cj_cluster.specs.declared.moves.Move.{Move}
+use Rattle.cj_cluster.specs.declared.moves.Move.TheVariants.{Open, Close, Schedule, Abort, Apply, End, Read, Arm, Disable, Replay, Enable}
+use Rattle.cj_cluster.specs.declared.moves.Moved.TheVariants as moved
+use Rattle.cj_cluster.specs.declared.moves.MoveError.TheVariants as errors
+use Rattle.cj_model.specs.declared.codes.TheConstants.{READ_FAULT, HISTORY_FULL}
+use Rattle.cj_cluster.specs.Moves.Moves.{MoveResult}
+use Rattle.cj_state.specs.Worlds.{WorldState}
+use Rattle.cj_state.specs.Faults.{did_fail, faults_after, faults_of}
+
+-- of a move that asks a backend: what it gave says that the backend failed
+abbrev pub tells_fault : MoveResult → Bool
+tells_fault (Ok (moved.Session n)) = false
+tells_fault (Ok moved.Closed) = false
+tells_fault (Ok (moved.Entry n)) = false
+tells_fault (Ok (moved.Refused r)) = r.code == READ_FAULT || r.code == HISTORY_FULL
+tells_fault (Ok (moved.Applied b d)) = did_fail d
+tells_fault (Ok (moved.Replied s reply)) = false
+tells_fault (Ok (moved.Rows a)) = false
+tells_fault (Ok (moved.Behind p)) = false
+tells_fault (Ok moved.Out) = false
+tells_fault (Ok moved.Failed) = true
+tells_fault (Ok moved.Armed) = false
+tells_fault (Ok moved.Disabled) = false
+tells_fault (Ok moved.Enabled) = false
+tells_fault (Ok (moved.Replayed n d)) = did_fail d
+tells_fault (Err (errors.NotNow why)) = false
+tells_fault (Err errors.NoMemory) = false
+
+-- the backend that a move says failed, which is the one that it asks
+abbrev pub blamed : Move → MoveResult → Option ℕ
+blamed (Open user) g = None
+blamed (Close s) g = None
+blamed (Schedule s r) g = None
+blamed (Abort tx) g = None
+blamed (Apply b) g = if tells_fault g then Some b else None
+blamed End g = None
+blamed (Read s b select) g = if tells_fault g then Some b else None
+blamed (Arm b) g = None
+blamed (Disable b) g = None
+blamed (Replay b) g = if tells_fault g then Some b else None
+blamed (Enable b) g = None
+
+-- The backend that the move says failed has counted one fault more, and no other count has changed.
+abbrev pub HasCauses : WorldState → WorldState → Move → MoveResult → Type 0
+HasCauses old new m g = faults_of new.cells ≡ faults_after (faults_of old.cells) (blamed m g)

@@ -1,0 +1,2 @@
+-- The contracts of parts of moves, for proofs alone.
+pub mod ReadParts

@@ -1,0 +1,41 @@
+//! An orphan is ended.
+
+ghost use Rattle.std.specs.Prelude.{◌≡◌, ◌<◌, ◌≤◌, length, IsErrOf, None, Ok};
+ghost use Rattle.cj_cluster.specs.Moves.Moves as moves;
+ghost use Rattle.cj_cluster.specs.Moves.Moves.{AbortsOrphan, not_now};
+
+use crate::reason::why;
+use cj_backend::Backend;
+use cj_book::BookError;
+use cj_cluster::{Move, MoveError, Moved, Reason, Why};
+use cj_state::State;
+
+pub fn not_now_abort<B: Backend>(state: &State<B>, tx: u64) -> Option<Why>
+    ensures { result ≡ moves.not_now state.now.core (Move.Abort tx) }
+{
+    if !state.is_orphan(tx) {
+        return why(Reason::NotOrphan, tx);
+    }
+    if !state.is_free() {
+        return why(Reason::EntryOpen, state.length());
+    }
+    None
+}
+
+pub fn abort<B: Backend>(state: &mut State<B>, tx: u64) -> Result<Moved, MoveError>
+    requires { not_now state.old.core (Move.Abort tx) ≡ None }
+    ensures moves { AbortsOrphan state.old.core tx result state.new.core }
+    ensures cells { state.new.cells ≡ state.old.cells }
+    ensures want { IsErrOf result MoveError.NoMemory → state.new ≡ state.old }
+    ensures setup { state.new.setup ≡ state.old.setup }
+{
+    let Ok(entry) = state.abort_entry(tx) else {
+        return Err(MoveError::NoMemory);
+    };
+    match state.schedule_abort(entry) {
+        Ok(number) => Ok(Moved::Entry(number)),
+        Err(BookError::HistoryFull(_)) => Ok(Moved::Refused(state.history_full())),
+        Err(BookError::NoMemory) => Err(MoveError::NoMemory),
+        Err(BookError::InProgress(_)) | Err(BookError::NoBackend) => unreachable!(),
+    }
+}

@@ -1,0 +1,73 @@
+//! A move, by its kind.
+
+ghost use Rattle.std.specs.Prelude.{◌≡◌, ◌<◌, ◌≤◌, IsErrOf, Some, None, Ok};
+ghost use Rattle.cj_cluster.specs.Moves.Moves as moves;
+ghost use Rattle.cj_cluster.specs.Moves.Moves.{MovesTo};
+ghost use Rattle.cj_moves.specs.Armings.{ArmsCell, HasArmings};
+ghost use Rattle.cj_moves.specs.Counting.{HasCauses};
+ghost use Rattle.cj_moves.specs.Logins.{HasLogins};
+ghost use Rattle.cj_moves.specs.Steps.{IsMet};
+
+use crate::abort::{abort, not_now_abort};
+use crate::apply::{apply, not_now_apply};
+use crate::arm::arm;
+use crate::close::{close, not_now_close};
+use crate::disable::{disable, not_now_disable};
+use crate::enable::{enable, not_now_enable};
+use crate::end::{end, not_now_end};
+use crate::open::open;
+use crate::read::{not_now_read, read};
+use crate::replay::{not_now_replay, replay};
+use crate::schedule::{not_now_schedule, schedule};
+use cj_backend::Backend;
+use cj_cluster::{Move, MoveError, Moved, Why};
+use cj_state::State;
+
+/// The first reason, in the order of their tests. That another read is open, and that the
+/// backend does not serve it, is found where the read is made.
+fn why_not_now<B: Backend>(state: &State<B>, m: &Move) -> Option<Why>
+    ensures { result ≡ moves.not_now state.now.core m.now }
+{
+    match m {
+        Move::Open { .. } | Move::Arm { .. } => None,
+        Move::Close { session } => not_now_close(state, *session),
+        Move::Schedule { session, .. } => not_now_schedule(state, *session),
+        Move::Abort { tx } => not_now_abort(state, *tx),
+        Move::Apply { b } => not_now_apply(state, *b),
+        Move::End => not_now_end(state),
+        Move::Read { session, .. } => not_now_read(state, *session),
+        Move::Disable { b } => not_now_disable(state, *b),
+        Move::Replay { b } => not_now_replay(state, *b),
+        Move::Enable { b } => not_now_enable(state, *b),
+    }
+}
+
+/// Makes a move, or says why it can't be made now. Want of memory changes nothing; where it is
+/// the backend's that takes an entry, the move says so and the backend is out.
+pub fn step<B: Backend>(state: &mut State<B>, m: Move) -> Result<Moved, MoveError>
+    requires { IsMet state.old.core m }
+    ensures moves { MovesTo B.TELLS state.old.core m result state.new.core }
+    ensures causes { HasCauses state.old state.new m result }
+    ensures armings { HasArmings B.can_be_armed state.old state.new m result }
+    ensures logins { HasLogins state.old state.new m result }
+    ensures armed { result ≡ Ok Moved.Armed → ArmsCell B.can_be_armed state.old.cells m state.new.cells }
+    ensures want { IsErrOf result MoveError.NoMemory → state.new ≡ state.old }
+    ensures setup { state.new.setup ≡ state.old.setup }
+{
+    if let Some(why) = why_not_now(state, &m) {
+        return Err(MoveError::NotNow(why));
+    }
+    match m {
+        Move::Open { user } => Ok(open(state, user)),
+        Move::Close { session } => Ok(close(state, session)),
+        Move::Schedule { session, request } => schedule(state, session, request),
+        Move::Abort { tx } => abort(state, tx),
+        Move::Apply { b } => Ok(apply(state, b)),
+        Move::End => Ok(end(state)),
+        Move::Read { session, b, select } => read(state, session, b, select),
+        Move::Arm { b } => Ok(arm(state, b)),
+        Move::Disable { b } => disable(state, b),
+        Move::Replay { b } => Ok(replay(state, b)),
+        Move::Enable { b } => enable(state, b),
+    }
+}

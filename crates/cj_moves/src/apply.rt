@@ -1,0 +1,44 @@
+//! An enabled backend takes the open entry.
+
+ghost use Rattle.std.specs.Prelude.{◌≡◌, ◌<◌, ◌≤◌, length, Some, None, Ok};
+ghost use Rattle.cj_cluster.specs.Moves.Moves as moves;
+ghost use Rattle.cj_cluster.specs.Moves.Moves.{Applies, not_now};
+ghost use Rattle.cj_state.specs.ArmedCells.{armings_of};
+ghost use Rattle.cj_moves.specs.Counting.{HasCauses};
+ghost use Rattle.cj_moves.specs.Logins.{HasLogins};
+
+use crate::reason::why;
+use cj_backend::Backend;
+use cj_cluster::{Move, Moved, Reason, Why};
+use cj_state::State;
+
+pub fn not_now_apply<B: Backend>(state: &State<B>, b: u8) -> Option<Why>
+    ensures { result ≡ moves.not_now state.now.core (Move.Apply b) }
+{
+    if state.is_free() {
+        return why(Reason::NoEntryOpen, 0);
+    }
+    if !state.is_enabled(b) {
+        return why(Reason::NotEnabled, b as u64);
+    }
+    match state.position(b) {
+        None => why(Reason::Out, b as u64),
+        Some(position) if position == state.length() => why(Reason::AtEnd, position),
+        Some(_) => None,
+    }
+}
+
+pub fn apply<B: Backend>(state: &mut State<B>, b: u8) -> Moved
+    requires within { b < state.old.core.placement.backends }
+    requires now { not_now state.old.core (Move.Apply b) ≡ None }
+    ensures moves { Applies B.TELLS state.old.core b (Ok result) state.new.core }
+    ensures causes { HasCauses state.old state.new (Move.Apply b) (Ok result) }
+    ensures logins { HasLogins state.old state.new (Move.Apply b) (Ok result) }
+    ensures armings { armings_of state.new.cells ≡ armings_of state.old.cells }
+    ensures setup { state.new.setup ≡ state.old.setup }
+{
+    Moved::Applied {
+        b,
+        did: state.take_open(b),
+    }
+}

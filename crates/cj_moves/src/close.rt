@@ -1,0 +1,32 @@
+//! A session is closed.
+
+ghost use Rattle.std.specs.Prelude.{◌≡◌, ◌<◌, ◌≤◌, None, Ok};
+ghost use Rattle.cj_cluster.specs.Moves.Moves as moves;
+ghost use Rattle.cj_cluster.specs.Moves.Moves.{ClosesSession, not_now};
+
+use crate::reason::why;
+use cj_backend::Backend;
+use cj_cluster::{Move, Moved, Reason, Why};
+use cj_state::State;
+
+pub fn not_now_close<B: Backend>(state: &State<B>, s: u64) -> Option<Why>
+    ensures { result ≡ moves.not_now state.now.core (Move.Close s) }
+{
+    if !state.is_open(s) {
+        return why(Reason::NoSession, s);
+    }
+    if state.is_waiting(s) || state.is_reading(s) {
+        return why(Reason::Waiting, s);
+    }
+    None
+}
+
+pub fn close<B: Backend>(state: &mut State<B>, s: u64) -> Moved
+    requires { not_now state.old.core (Move.Close s) ≡ None }
+    ensures moves { ClosesSession state.old.core s (Ok result) state.new.core }
+    ensures cells { state.new.cells ≡ state.old.cells }
+    ensures setup { state.new.setup ≡ state.old.setup }
+{
+    state.remove_session(s);
+    Moved::Closed
+}

@@ -1,0 +1,42 @@
+//! A backend is enabled.
+
+ghost use Rattle.std.specs.Prelude.{◌≡◌, ◌<◌, ◌≤◌, length, IsErrOf, Some, None, Ok};
+ghost use Rattle.cj_cluster.specs.Moves.Moves as moves;
+ghost use Rattle.cj_cluster.specs.Moves.Moves.{Enables, not_now};
+
+use crate::reason::why;
+use cj_backend::Backend;
+use cj_book::BookError;
+use cj_cluster::{Move, MoveError, Moved, Reason, Why};
+use cj_state::State;
+
+pub fn not_now_enable<B: Backend>(state: &State<B>, b: u8) -> Option<Why>
+    ensures { result ≡ moves.not_now state.now.core (Move.Enable b) }
+{
+    if !state.is_free() {
+        return why(Reason::EntryOpen, state.length());
+    }
+    if state.is_enabled(b) {
+        return why(Reason::Enabled, b as u64);
+    }
+    match state.position(b) {
+        None => why(Reason::Out, b as u64),
+        Some(position) if position != state.length() => why(Reason::Behind, position),
+        Some(_) => None,
+    }
+}
+
+pub fn enable<B: Backend>(state: &mut State<B>, b: u8) -> Result<Moved, MoveError>
+    requires { not_now state.old.core (Move.Enable b) ≡ None }
+    ensures moves { Enables state.old.core b result state.new.core }
+    ensures cells { state.new.cells ≡ state.old.cells }
+    ensures want { IsErrOf result MoveError.NoMemory → state.new ≡ state.old }
+    ensures setup { state.new.setup ≡ state.old.setup }
+{
+    match state.switch_on(b) {
+        Ok(()) => Ok(Moved::Enabled),
+        Err(BookError::HistoryFull(_)) => Ok(Moved::Refused(state.history_full())),
+        Err(BookError::NoMemory) => Err(MoveError::NoMemory),
+        Err(BookError::InProgress(_)) | Err(BookError::NoBackend) => unreachable!(),
+    }
+}

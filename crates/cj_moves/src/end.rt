@@ -1,0 +1,34 @@
+//! The open entry ends.
+
+ghost use Rattle.std.specs.Prelude.{◌≡◌, ◌<◌, ◌≤◌, Some, None, Ok};
+ghost use Rattle.cj_cluster.specs.Moves.Moves as moves;
+ghost use Rattle.cj_cluster.specs.Moves.Moves.{EndsEntry, not_now};
+
+use crate::reason::why;
+use cj_backend::Backend;
+use cj_cluster::{Move, Moved, Reason, Why};
+use cj_state::State;
+
+pub fn not_now_end<B: Backend>(state: &State<B>) -> Option<Why>
+    ensures { result ≡ moves.not_now state.now.core Move.End }
+{
+    if state.is_free() {
+        return why(Reason::NoEntryOpen, 0);
+    }
+    match state.behind() {
+        Some(position) => why(Reason::Behind, position),
+        None => None,
+    }
+}
+
+pub fn end<B: Backend>(state: &mut State<B>) -> Moved
+    requires { not_now state.old.core Move.End ≡ None }
+    ensures moves { EndsEntry B.TELLS state.old.core (Ok result) state.new.core }
+    ensures cells { state.new.cells ≡ state.old.cells }
+    ensures setup { state.new.setup ≡ state.old.setup }
+{
+    let session = state.waiting();
+    let reply = state.reply();
+    state.end_entry(session);
+    Moved::Replied { session, reply }
+}

@@ -1,0 +1,22 @@
+//! A session is opened.
+
+ghost use Rattle.std.specs.Prelude.{◌≡◌, ◌<◌, ◌≤◌, length, Ok};
+ghost use Rattle.cj_cluster.specs.Moves.Moves as moves;
+ghost use Rattle.cj_cluster.specs.Moves.Moves.{OpensSession};
+
+use cj_backend::Backend;
+use cj_cluster::Moved;
+use cj_model::{Text, USER_LIMIT};
+use cj_state::State;
+
+pub fn open<B: Backend>(state: &mut State<B>, user: Text) -> Moved
+    requires { length user ≤ USER_LIMIT }
+    ensures moves { OpensSession state.old.core user (Ok result) state.new.core }
+    ensures cells { state.new.cells ≡ state.old.cells }
+    ensures setup { state.new.setup ≡ state.old.setup }
+{
+    if state.has_no_number() {
+        return Moved::Refused(state.sessions_full());
+    }
+    Moved::Session(state.add_session(user))
+}

@@ -1,0 +1,11 @@
+//! Why a move can't be made now.
+
+ghost use Rattle.std.specs.Prelude.{◌≡◌, Some};
+
+use cj_cluster::{Reason, Why};
+
+pub fn why(reason: Reason, value: u64) -> Option<Why>
+    ensures { result ≡ Some (record { reason = reason; value = value }) }
+{
+    Some(Why { reason, value })
+}

@@ -1,0 +1,42 @@
+//! A backend that is not enabled takes the next entry of the log.
+
+ghost use Rattle.std.specs.Prelude.{◌≡◌, ◌<◌, ◌≤◌, length, Some, None, Ok};
+ghost use Rattle.cj_cluster.specs.Moves.Moves as moves;
+ghost use Rattle.cj_cluster.specs.Moves.Moves.{Replays, not_now};
+ghost use Rattle.cj_state.specs.ArmedCells.{armings_of};
+ghost use Rattle.cj_moves.specs.Counting.{HasCauses};
+ghost use Rattle.cj_moves.specs.Logins.{HasLogins};
+
+use crate::reason::why;
+use cj_backend::Backend;
+use cj_cluster::{Move, Moved, Reason, Why};
+use cj_state::State;
+
+pub fn not_now_replay<B: Backend>(state: &State<B>, b: u8) -> Option<Why>
+    ensures { result ≡ moves.not_now state.now.core (Move.Replay b) }
+{
+    if state.is_enabled(b) {
+        return why(Reason::Enabled, b as u64);
+    }
+    match state.position(b) {
+        None => why(Reason::Out, b as u64),
+        Some(position) if position == state.length() => why(Reason::AtEnd, position),
+        Some(_) => None,
+    }
+}
+
+pub fn replay<B: Backend>(state: &mut State<B>, b: u8) -> Moved
+    requires within { b < state.old.core.placement.backends }
+    requires now { not_now state.old.core (Move.Replay b) ≡ None }
+    ensures moves { Replays B.TELLS state.old.core b (Ok result) state.new.core }
+    ensures causes { HasCauses state.old state.new (Move.Replay b) (Ok result) }
+    ensures logins { HasLogins state.old state.new (Move.Replay b) (Ok result) }
+    ensures armings { armings_of state.new.cells ≡ armings_of state.old.cells }
+    ensures setup { state.new.setup ≡ state.old.setup }
+{
+    let number = state.next_of(b);
+    Moved::Replayed {
+        number,
+        did: state.take_next(b),
+    }
+}

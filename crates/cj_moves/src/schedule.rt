@@ -1,0 +1,93 @@
+//! A request of a session is scheduled.
+
+ghost use Rattle.std.specs.Prelude.{◌≡◌, ◌<◌, ◌≤◌, length, IsErrOf, Some, None, Ok};
+ghost use Rattle.cj_model.specs.Sql.PlainRequests as plain;
+ghost use Rattle.cj_model.specs.Sql.WrittenRequests.{IsWritten};
+ghost use Rattle.cj_model.specs.declared.request.Request.{Request};
+ghost use Rattle.cj_model.specs.declared.select.Select.{Select};
+ghost use Rattle.cj_cluster.specs.Moves.Moves as moves;
+ghost use Rattle.cj_cluster.specs.Moves.Cores.{session_at};
+ghost use Rattle.cj_cluster.specs.Moves.Moves.{SchedulesRequest, not_now};
+ghost use Rattle.cj_cluster.specs.Moves.Runs.{IsForLog};
+
+use crate::reason::why;
+use cj_backend::Backend;
+use cj_book::BookError;
+use cj_cluster::{Move, MoveError, Moved, Reason, Why};
+use cj_model::{Act, HISTORY_FULL, NO_BACKEND, REQUEST_LIMIT, Refusal, Request, Select};
+use cj_open_sessions::forbidden_by;
+use cj_state::State;
+
+/// The act of a request that is no query.
+fn act_of(request: Request) -> Act
+    requires written { IsWritten request }
+    requires for_log { IsForLog request }
+    ensures act { plain.act_of request ≡ Some result }
+    ensures written { IsWritten (plain.request_of result) }
+{
+    match request {
+        Request::Write(write) => Act::Write(write),
+        Request::Create(create) => Act::Create(create),
+        Request::Drop(table) => Act::Drop(table),
+        Request::Begin => Act::Begin,
+        Request::Commit => Act::Commit,
+        Request::Rollback => Act::Abort,
+        Request::Select(_) => unreachable!(),
+    }
+}
+
+pub fn not_now_schedule<B: Backend>(state: &State<B>, s: u64) -> Option<Why>
+    ensures { (r : Request) → result ≡ moves.not_now state.now.core (Move.Schedule s r) }
+{
+    if !state.is_open(s) {
+        return why(Reason::NoSession, s);
+    }
+    if state.is_waiting(s) || state.is_reading(s) {
+        return why(Reason::Waiting, s);
+    }
+    if !state.is_free() {
+        return why(Reason::EntryOpen, state.length());
+    }
+    None
+}
+
+pub fn schedule<B: Backend>(
+    state: &mut State<B>,
+    s: u64,
+    request: Request,
+) -> Result<Moved, MoveError>
+    requires written { IsWritten request }
+    requires for_log { IsForLog request }
+    requires counts { (session_at state.old.core s).queries < REQUEST_LIMIT }
+    requires now { not_now state.old.core (Move.Schedule s request) ≡ None }
+    ensures moves { SchedulesRequest state.old.core s request result state.new.core }
+    ensures cells { state.new.cells ≡ state.old.cells }
+    ensures want { IsErrOf result MoveError.NoMemory → state.new ≡ state.old }
+    ensures setup { state.new.setup ≡ state.old.setup }
+{
+    let act = act_of(request);
+    if let Some(refusal) = forbidden_by(state.open_tx(s), &act) {
+        state.count(s);
+        return Ok(Moved::Refused(refusal));
+    }
+    let Ok(entry) = state.next_entry(s, act) else {
+        return Err(MoveError::NoMemory);
+    };
+    match state.schedule_entry(s, entry) {
+        Ok(number) => Ok(Moved::Entry(number)),
+        Err(BookError::NoBackend) => {
+            state.count(s);
+            Ok(Moved::Refused(Refusal::of_code(NO_BACKEND)))
+        }
+        Err(BookError::HistoryFull(events)) => {
+            state.count(s);
+            Ok(Moved::Refused(Refusal {
+                code: HISTORY_FULL,
+                a: events,
+                b: 0,
+            }))
+        }
+        Err(BookError::NoMemory) => Err(MoveError::NoMemory),
+        Err(BookError::InProgress(_)) => unreachable!(),
+    }
+}

@@ -1,0 +1,19 @@
+use Rattle.std.proofs.Common.{List, refl, sym, subst, arith}
+use Rattle.cj_cluster.specs.declared.moves.OpenSession.{OpenSession}
+use Rattle.cj_cluster.specs.Moves.Moves.{answered_at}
+use Rattle.cj_open_sessions.specs.Places.{IsPlaceOf}
+use Rattle.cj_open_sessions.proofs.Seats.{changed, changed_rises, unchanged}
+use Rattle.cj_open_sessions.proofs.sessions.Sessions.answer.Goals as goal
+
+pub invariant_of-self : goal.invariant_of-self
+invariant_of-self c =
+    let at = subst (λ (ss : List OpenSession). IsPlaceOf ss c.args.number c.in-Some.place) (sym c.self.view_is) c.in-Some.ensures in
+    record { rises = changed_rises c.self.inside.open.items c.self.invariant.rises c.args.number c.in-Some.place at c.index_mut-session.result.now c.index_mut-session.ensures.value (answered_at c.args.position) (λ y. refl); room = omega (arith, c.self.invariant.room) }
+
+pub returns-in-Some : goal.returns-in-Some
+returns-in-Some c =
+    let at = subst (λ (ss : List OpenSession). IsPlaceOf ss c.args.number c.in-Some.place) (sym c.self.view_is) c.in-Some.ensures in
+    rw (← c.self.view_is) (changed c.self.inside.open.items c.self.invariant.rises c.args.number c.in-Some.place at c.index_mut-session.result.now c.index_mut-session.ensures.value (answered_at c.args.position))
+
+pub returns-in_default : goal.returns-in_default
+returns-in_default c = unchanged (answered_at c.args.position) c.args.self.now c.args.number c.in_default.ensures

@@ -1,0 +1,180 @@
+//! The open sessions.
+
+ghost use Rattle.std.specs.Prelude.{◌≡◌, ◌+◌, ◌<◌, ◌==◌, not, [], ◌∷◌, ◌++◌, length, filter, option_copied, All, IfOk, MatchOption};
+ghost use Rattle.cj_open_sessions.specs.Places.{IsPlaceOf, CanCountOne};
+ghost use Rattle.cj_cluster.specs.Moves.Cores.{find_session, with_session, new_session};
+ghost use Rattle.cj_cluster.specs.Moves.Moves as moves;
+ghost use Rattle.cj_cluster.specs.Moves.Moves.{read_number};
+
+use cj_cluster::{OpenRead, OpenSession};
+use cj_model::{NoMemory, REQUEST_LIMIT, SESSION_LIMIT, Select, Text};
+use std::alloc::Global;
+use std::marker::Model;
+
+/// Open sessions in rising number, which contracts see as a list. There is room for as many as there can be.
+#[derive(Drop)]
+pub struct Sessions {
+    open: Vec<OpenSession>,
+}
+
+impl Model for Sessions {
+    ghost use Rattle.std.specs.Prelude.{List};
+    ghost use Rattle.cj_cluster.specs.declared.moves.OpenSession.{OpenSession};
+    ghost use Rattle.std.specs.Prelude.{vec_capacity};
+    ghost use Rattle.cj_open_sessions.specs.Places.{KeepsRoom};
+
+    ghost Value = { List OpenSession };
+
+    ghost use Rattle.std.specs.Coded.{codes};
+    ghost use Rattle.cj_model.specs.Proving.ConditionCode.{coded_condition};
+
+    ghost coded = { Prim.hlevel (codes, coded_condition) };
+
+    ghost view = { λ sessions. sessions.open.items };
+
+    ghost invariant = { λ sessions. KeepsRoom sessions.open.items (vec_capacity sessions.open) };
+}
+
+/// The number of the session's open read, or of the next request.
+pub fn read_number(session: &OpenSession) -> u64
+    requires { session.now.queries < REQUEST_LIMIT }
+    ensures { result ≡ moves.read_number session.now }
+{
+    if session.reading.is_some() {
+        session.queries
+    } else {
+        session.queries + 1
+    }
+}
+
+/// Closes the session's read.
+fn close_read(session: &mut OpenSession)
+    requires { session.old.queries < REQUEST_LIMIT }
+    ensures { session.new ≡ moves.was_answered session.old }
+{
+    session.queries = read_number(session);
+    session.reading = None;
+}
+
+/// Keeps the session's read open.
+fn put_read(session: &mut OpenSession, select: Select, tried: u32)
+    requires { session.old.queries < REQUEST_LIMIT }
+    ensures { session.new ≡ moves.still_reading select tried session.old }
+{
+    session.queries = read_number(session);
+    session.reading = Some(OpenRead { select, tried });
+}
+
+impl Sessions {
+    /// No sessions.
+    pub fn new(alloc: Global) -> Result<Self, NoMemory>
+        ensures { IfOk result (λ made. made ≡ []) }
+    {
+        Ok(Sessions {
+            open: Vec::with_capacity(alloc, SESSION_LIMIT)?,
+        })
+    }
+
+    pub fn len(&self) -> usize
+        ensures { result ≡ length self.now }
+    {
+        self.open.len()
+    }
+
+    fn place_of(&self, number: u64) -> Option<usize>
+        ensures { MatchOption result (find_session self.now number ≡ None) (IsPlaceOf self.now number) }
+    {
+        match self
+            .open
+            .binary_search_by_key(&number, |session| session.number)
+        {
+            Ok(place) => Some(place),
+            Err(_) => None,
+        }
+    }
+
+    pub fn get(&self, number: u64) -> Option<&OpenSession>
+        ensures { option_copied result ≡ find_session self.now number }
+    {
+        match self.place_of(number) {
+            Some(place) => Some(&self.open[place]),
+            None => None,
+        }
+    }
+
+    /// Adds a session of a number above all others. It takes no memory.
+    pub fn open(&mut self, number: u64, user: Text)
+        requires few { length self.old < SESSION_LIMIT }
+        requires above { All (λ x. x.number < number) self.old }
+        ensures { self.new ≡ self.old ++ new_session number user ∷ [] }
+    {
+        self.open.push_reserved(OpenSession {
+            number,
+            user,
+            queries: 0,
+            least: 0,
+            reading: None,
+        });
+    }
+
+    pub fn close(&mut self, number: u64)
+        ensures { self.new ≡ filter (λ x. not (x.number == number)) self.old }
+    {
+        if let Some(place) = self.place_of(number) {
+            drop(self.open.remove(place));
+        }
+    }
+
+    /// The session has made one request more.
+    pub fn count(&mut self, number: u64)
+        requires { CanCountOne self.old number }
+        ensures { self.new ≡ with_session self.old number moves.with_one_request }
+    {
+        if let Some(place) = self.place_of(number) {
+            let session = &mut self.open[place];
+            session.queries += 1;
+        }
+    }
+
+    /// The session was answered at a position.
+    pub fn answer(&mut self, number: u64, position: u64)
+        ensures { self.new ≡ with_session self.old number (moves.answered_at position) }
+    {
+        if let Some(place) = self.place_of(number) {
+            let session = &mut self.open[place];
+            session.least = position;
+        }
+    }
+
+    /// The session's read was refused.
+    pub fn refuse_read(&mut self, number: u64)
+        requires { CanCountOne self.old number }
+        ensures { self.new ≡ with_session self.old number moves.was_answered }
+    {
+        if let Some(place) = self.place_of(number) {
+            close_read(&mut self.open[place]);
+        }
+    }
+
+    /// The session's read was answered at a position.
+    pub fn answer_read(&mut self, number: u64, position: u64)
+        requires { CanCountOne self.old number }
+        ensures { self.new ≡ with_session self.old number (λ x. moves.answered_at position (moves.was_answered x)) }
+    {
+        if let Some(place) = self.place_of(number) {
+            let session = &mut self.open[place];
+            close_read(session);
+            session.least = position;
+        }
+    }
+
+    /// The session's read is still open, and the backends of a mask have failed in it.
+    pub fn keep_reading(&mut self, number: u64, select: Select, tried: u32)
+        requires { CanCountOne self.old number }
+        ensures { self.new ≡ with_session self.old number (moves.still_reading select tried) }
+    {
+        if let Some(place) = self.place_of(number) {
+            put_read(&mut self.open[place], select, tried);
+        }
+    }
+}

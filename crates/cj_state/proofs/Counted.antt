@@ -1,0 +1,56 @@
+-- Counts of faults and of armings, and logins, where one cell changes.
+use Rattle.std.proofs.Common.{◌≡◌, ◌⊎◌, inl, inr, ℕ, ◌<◌, Bool, true, false, cond, List, length, get_or, set, None, Some, ap, sym, ◌∙◌, refl, ⊎_elim}
+use Rattle.std.proofs.lemmas.List.{map-set, get_or-map, set-get_or}
+use Rattle.cj_outside.specs.Causes.{next}
+use Rattle.cj_backend.specs.Backends.{Arming, arming_after, spent}
+use Rattle.cj_replica.specs.Cells.{CellState}
+use Rattle.cj_state.specs.ArmedCells.{armings_of, armings_after}
+use Rattle.cj_state.specs.Faults.{faults_of, faults_after}
+use Rattle.cj_state.specs.CalledLogins.{CallsUnder, MayCallUnder, logins_of}
+
+-- the backend of cell b failed or did not, and this cell alone has changed
+pub counts_set : (cells : List CellState) (b : ℕ) (y : CellState) (failed : Bool) → b < length cells → y.faults ≡ cond failed (next (get_or cells b y).faults) (get_or cells b y).faults
+    → faults_of (set cells b y) ≡ faults_after (faults_of cells) (cond failed (Some b) None)
+counts_set cells b y true lt counted =
+    let was : get_or (faults_of cells) b 0 ≡ (get_or cells b y).faults = get_or-map (λ (x : CellState). x.faults) cells b y 0 lt in
+    map-set (λ (x : CellState). x.faults) cells b y ∙ ap (set (faults_of cells) b) (counted ∙ ap next (sym was))
+counts_set cells b y false lt same =
+    let was : get_or (faults_of cells) b 0 ≡ (get_or cells b y).faults = get_or-map (λ (x : CellState). x.faults) cells b y 0 lt in
+    map-set (λ (x : CellState). x.faults) cells b y ∙ (ap (set (faults_of cells) b) (same ∙ sym was) ∙ set-get_or (faults_of cells) b 0)
+
+-- the backend of cell b was armed or was not, and this cell alone has changed
+pub armings_set : (cells : List CellState) (b : ℕ) (y : CellState) (armed : Bool) → b < length cells → y.arming.times ≡ cond armed (next (get_or cells b y).arming.times) (get_or cells b y).arming.times
+    → armings_of (set cells b y) ≡ armings_after (armings_of cells) (cond armed (Some b) None)
+armings_set cells b y true lt counted =
+    let was : get_or (armings_of cells) b 0 ≡ (get_or cells b y).arming.times = get_or-map (λ (x : CellState). x.arming.times) cells b y 0 lt in
+    map-set (λ (x : CellState). x.arming.times) cells b y ∙ ap (set (armings_of cells) b) (counted ∙ ap next (sym was))
+armings_set cells b y false lt same =
+    let was : get_or (armings_of cells) b 0 ≡ (get_or cells b y).arming.times = get_or-map (λ (x : CellState). x.arming.times) cells b y 0 lt in
+    map-set (λ (x : CellState). x.arming.times) cells b y ∙ (ap (set (armings_of cells) b) (same ∙ sym was) ∙ set-get_or (armings_of cells) b 0)
+
+-- arming counts once, of those that can be armed
+pub armed_times : (can : Bool) (a : Arming) → (arming_after can a).times ≡ cond can (next a.times) a.times
+armed_times true a = refl
+armed_times false a = refl
+
+-- a call arms nothing
+pub spent_times : (asked : Bool) (before now : Arming) → now ≡ cond asked (spent before) before → now.times ≡ before.times
+spent_times true before now is = ap (λ (a : Arming). a.times) is
+spent_times false before now is = ap (λ (a : Arming). a.times) is
+
+-- ---- logins
+
+-- the backend of cell b was called under this login, and this cell alone has changed
+pub logins_set : (cells : List CellState) (b : ℕ) (y : CellState) (login : List ℕ) → y.login ≡ Some login → CallsUnder b login (logins_of cells) (logins_of (set cells b y))
+logins_set cells b y login is = map-set (λ (x : CellState). x.login) cells b y ∙ ap (set (logins_of cells) b) is
+
+-- its last call is the one before
+pub logins_same : (cells : List CellState) (b : ℕ) (y : CellState) → b < length cells → y.login ≡ (get_or cells b y).login → logins_of (set cells b y) ≡ logins_of cells
+logins_same cells b y lt same =
+    let was : get_or (logins_of cells) b None ≡ (get_or cells b y).login = get_or-map (λ (x : CellState). x.login) cells b y None lt in
+    map-set (λ (x : CellState). x.login) cells b y ∙ (ap (set (logins_of cells) b) (same ∙ sym was) ∙ set-get_or (logins_of cells) b None)
+
+-- one or the other
+pub logins_may : (cells : List CellState) (b : ℕ) (y : CellState) (login : List ℕ) → b < length cells → (y.login ≡ Some login) ⊎ (y.login ≡ (get_or cells b y).login)
+    → MayCallUnder b login (logins_of cells) (logins_of (set cells b y))
+logins_may cells b y login lt called = ⊎_elim (λ is. inr (logins_set cells b y login is)) (λ same. inl (logins_same cells b y lt same)) called

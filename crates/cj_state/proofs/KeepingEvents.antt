@@ -1,0 +1,80 @@
+-- What a world keeps where an event comes that schedules nothing and ends nothing.
+use Rattle.std.proofs.Common.{◌≡◌, ℕ, ◌<◌, Bool, true, false, List, [], ◌∷◌, ◌++◌, length, map, get_or, Option, None, Some, refl, ap, sym, ◌∙◌, subst}
+use Rattle.std.proofs.lemmas.Bool.{both_ways}
+use Rattle.cj_model.specs.declared.request.Entry.{Entry}
+use Rattle.cj_model.specs.declared.answer.Outcome.{Outcome}
+use Rattle.cj_cluster.specs.declared.event.Event.{Event}
+use Rattle.cj_cluster.specs.declared.event.Event.TheVariants.{ReadFailed, Disabled, Enabled}
+use Rattle.cj_cluster.specs.declared.moves.OpenSession.{OpenSession}
+use Rattle.cj_cluster.specs.History.Histories.{scheduled_entry, is_end_event, log, ended_count, is_idle, entry_in_progress, is_enabled, events_left, outcome_of}
+use Rattle.cj_cluster.specs.Moves.Cores.{position_at, is_entry_of}
+use Rattle.cj_cluster.specs.Proving.Invariants.{CoreInvariant}
+use Rattle.cj_cluster.specs.Moves.Runs.{AreBetween}
+use Rattle.cj_cluster.proofs.Pushed.{enabled-push, log-same, log_faults-same, done-same, opened-same, opened-free}
+use Rattle.cj_cluster.proofs.Effects.{sessions_are, are_kept, sound_read_failed, sound_disabled, sound_enabled, is_there}
+use Rattle.cj_cluster.proofs.Standing.{stand_event}
+use Rattle.cj_auth.specs.Admission.{Register}
+use Rattle.cj_place.specs.Layouts.{Layout, placement_of}
+use Rattle.cj_replica.specs.Cells.{CellState}
+use Rattle.cj_state.specs.Worlds.{core_of, world_of, IsCell}
+use Rattle.cj_state.specs.Proving.Kept.{Kept}
+
+module _ (tells : Bool) (reg : Register) (l : Layout) (h : List Event) (cells : List CellState) (f s : ℕ) (ss : List OpenSession) (g : ℕ) (numbers : List ℕ) (first_outcome : Option Outcome) (kept : Kept tells (world_of reg l h cells f s ss g) numbers first_outcome) where
+  -- an event comes that leaves the log and the ends, where the state stays sound
+  kept_same : (e : Event) → scheduled_entry e ≡ None → is_end_event e ≡ false → CoreInvariant (core_of l (h ++ e ∷ []) cells f s ss g)
+      → ((d : Entry) → entry_in_progress h ≡ Some d → (b : ℕ) → is_enabled (h ++ e ∷ []) b ≡ is_enabled h b) → AreBetween (core_of l (h ++ e ∷ []) cells f s ss g)
+      → Kept tells (world_of reg l (h ++ e ∷ []) cells f s ss g) numbers first_outcome
+  kept_same e is stays sound keeps stand =
+      let w = kept.world in
+      let same : log (h ++ e ∷ []) ≡ log h = log-same h e is in
+      let was : ended_count (h ++ e ∷ []) ≡ ended_count h = done-same h e stays in
+      let still : entry_in_progress (h ++ e ∷ []) ≡ entry_in_progress h = opened-same h e is stays in
+      record {
+        world =
+            record {
+              sound = sound;
+              named = w.named;
+              registered = w.registered;
+              few = w.few;
+              positions = refl;
+              begun = refl;
+              cells = λ k d lt. subst (λ (entries : List Entry). IsCell tells (placement_of l) entries k (get_or cells k d)) (sym same) (w.cells k d lt);
+              between = stand;
+            };
+        numbers_are = kept.numbers_are;
+        served = λ d on needs. (let o = kept.served d (sym still ∙ on) needs in (o.0, (keeps d (sym still ∙ on) o.0 ∙ o.1.0, o.1.1)));
+        right = λ o there. (let q = kept.right o there in (q.0, λ on. ap (λ entries. outcome_of entries (ended_count (h ++ e ∷ []))) same ∙ (ap (outcome_of (log h)) was ∙ q.1 on)));
+        whole =
+            λ d b on part now there. kept.whole d b (sym still ∙ on) part (sym (keeps d (sym still ∙ on) b) ∙ now) (there ∙ ap (λ entries. Some (length entries)) same);
+      }
+
+  -- no entry is open
+  none_open : is_idle h ≡ true → (d : Entry) → entry_in_progress h ≡ Some d → ⊥
+  none_open fr d on = cc (sym (opened-free h fr) ∙ on)
+
+  -- nor that of a session
+  none_waits : is_idle h ≡ true → (i : ℕ) → is_entry_of i (entry_in_progress h) ≡ true → ⊥
+  none_waits fr i own = both_ways (is_entry_of i (entry_in_progress h)) (ap (is_entry_of i) (opened-free h fr)) own
+
+  -- a backend failed in a read
+  pub kept_read_failed : (t q b : ℕ) → 0 < events_left h → Kept tells (world_of reg l (h ++ ReadFailed t q b ∷ []) cells f s ss g) numbers first_outcome
+  kept_read_failed t q b space =
+      let e : Event = ReadFailed t q b in
+      kept_same (ReadFailed t q b) refl refl
+      (sound_read_failed (core_of l h cells f s ss g) t q b ss kept.world.sound space
+      (are_kept h (h ++ e ∷ []) g ss (sessions_are (core_of l h cells f s ss g) kept.world.sound) (log-same h e refl) (log_faults-same h e (λ i j. refl)) (λ d on. sym (opened-same h e refl refl) ∙ on)))
+      (λ _ _ k. enabled-push h (ReadFailed t q b) k)
+      (stand_event (core_of l h cells f s ss g) e refl refl (λ i j. refl) (λ i own k. refl) kept.world.between)
+
+  pub kept_disabled : (b : ℕ) → is_idle h ≡ true → is_enabled h b ≡ true → 0 < events_left h → Kept tells (world_of reg l (h ++ Disabled b ∷ []) cells f s ss g) numbers first_outcome
+  kept_disabled b fr on space =
+      kept_same (Disabled b) refl refl (sound_disabled (core_of l h cells f s ss g) b kept.world.sound fr on space) (λ d now. absurd (none_open fr d now))
+      (stand_event (core_of l h cells f s ss g) (Disabled b) refl refl (λ i j. refl) (λ i own. absurd (none_waits fr i own)) kept.world.between)
+
+  pub kept_enabled : (b : ℕ) → is_idle h ≡ true → is_enabled h b ≡ false → position_at (core_of l h cells f s ss g) b ≡ Some (length (log h)) → 0 < events_left h
+      → Kept tells (world_of reg l (h ++ Enabled b ∷ []) cells f s ss g) numbers first_outcome
+  kept_enabled b fr off there space =
+      kept_same (Enabled b) refl refl
+      (sound_enabled (core_of l h cells f s ss g) b kept.world.sound fr off (is_there (map (λ (x : CellState). x.position) cells) b (length (log h)) there) there space)
+      (λ d now. absurd (none_open fr d now))
+      (stand_event (core_of l h cells f s ss g) (Enabled b) refl refl (λ i j. refl) (λ i own. absurd (none_waits fr i own)) kept.world.between)

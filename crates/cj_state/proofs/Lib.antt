@@ -1,0 +1,15 @@
+pub mod Asking
+pub mod Catching
+pub mod CellsKept
+pub mod Contents
+pub mod Counted
+pub mod Ending
+pub mod Keeping
+pub mod KeepingEvents
+pub mod Noting
+pub mod OpenNumbers
+pub mod OtherReads
+pub mod Resting
+pub mod Scheduling
+pub mod Serving
+pub mod Taking

@@ -1,0 +1,199 @@
+-- What a world keeps where a backend takes an entry.
+use Rattle.std.proofs.Common.{◌≡◌, ◌≢◌, ℕ, ◌+◌, ◌<◌, ◌≤◌, Bool, true, false, cond, List, [], length, map, get_or, set, slice_get, Option, None, Some, IsSome, Ok, refl, ap, sym, ◌∙◌, subst, arith, ⊎_elim}
+use Rattle.std.proofs.lemmas.Bool.{cases_eq, both_ways}
+use Rattle.std.proofs.lemmas.List.{get_or-set_same, get_or-set_other, length-map, map-set}
+use Rattle.std.proofs.lemmas.Option.{slice_get_within}
+use Rattle.cj_model.specs.declared.request.Act.{Act}
+use Rattle.cj_model.specs.declared.request.Act.TheVariants as act
+use Rattle.cj_model.specs.declared.request.Entry.{Entry}
+use Rattle.cj_model.specs.declared.answer.Outcome.{Outcome}
+use Rattle.cj_model.specs.Cluster.Accounts.{login_of}
+use Rattle.cj_cluster.specs.declared.event.Event.{Event}
+use Rattle.cj_cluster.specs.declared.moves.Did.{Did}
+use Rattle.cj_cluster.specs.declared.moves.Did.TheVariants as did
+use Rattle.cj_cluster.specs.declared.moves.Moved.TheVariants as moved
+use Rattle.cj_cluster.specs.declared.moves.OpenSession.{OpenSession}
+use Rattle.cj_model.specs.Cluster.Placements.{Placement}
+use Rattle.cj_cluster.specs.History.Histories.{log, ended_count, is_idle, entry_in_progress, is_enabled, outcome_of}
+use Rattle.cj_cluster.specs.History.Transactions.{takes_part}
+use Rattle.cj_cluster.specs.Moves.Cores.{position_at, begun_at}
+use Rattle.cj_model.specs.Database.Outcomes.{IsOutcome}
+use Rattle.cj_cluster.specs.Moves.Moves.{Stance, position_or_zero, TakesEntry, DoesWithEntry, with_stance, Applies, Replays, failed_after, starved_after}
+use Rattle.cj_cluster.specs.Proving.Invariants.{CoreInvariant}
+use Rattle.cj_cluster.proofs.Effects.{sound_applied, sound_replayed, stands_there, is_there}
+use Rattle.cj_cluster.proofs.Standing.{stand_rest}
+use Rattle.cj_auth.specs.Admission.{Register}
+use Rattle.cj_place.specs.Layouts.{Layout, placement_of}
+use Rattle.cj_replica.specs.Cells.{CellState}
+use Rattle.cj_state.specs.Worlds.{WorldState, core_of, world_of, IsCell, IsWorld}
+use Rattle.cj_state.specs.Proving.Taking.{TookEntry, first_outcome_after}
+use Rattle.cj_state.specs.ArmedCells.{armings_of}
+use Rattle.cj_state.specs.Faults.{did_fail, faults_of, faults_after}
+use Rattle.cj_state.specs.Proving.Kept.{Kept}
+use Rattle.cj_state.specs.CalledLogins.{logins_of, login_to_take, next_user, LogsInToTake}
+use Rattle.cj_state.proofs.Counted.{armings_set, counts_set}
+use Rattle.cj_state.proofs.CellsKept.{cells_set, position_of}
+
+-- who takes part in an act with no transaction begun does so with any
+takes_more : (p : Placement) (b : ℕ) (begun : List ℕ) (tx : ℕ) (a : Act) → takes_part p b [] tx a ≡ true → takes_part p b begun tx a ≡ true
+takes_more p b begun tx act.Begin part = absurd (cc part)
+takes_more p b begun tx (act.Write w) part = part
+takes_more p b begun tx (act.Create c) part = part
+takes_more p b begun tx (act.Drop table) part = part
+takes_more p b begun tx act.Commit part = absurd (cc part)
+takes_more p b begun tx act.Abort part = absurd (cc part)
+
+module _ (tells : Bool) (reg : Register) (l : Layout) (h : List Event) (cells : List CellState) (f s : ℕ) (ss : List OpenSession) (g : ℕ) (numbers : List ℕ) (first_outcome : Option Outcome) (kept : Kept tells (world_of reg l h cells f s ss g) numbers first_outcome)
+    (b : ℕ) (d : Did) (now : List CellState) (took : TookEntry tells reg.accounts l h cells b d now) where
+  -- how it stands then
+  abbrev stance : Stance
+  stance = record { position = took.cell.position; begun = took.cell.begun }
+
+  takes : TakesEntry tells (core_of l h cells f s ss g) b d stance
+  takes = took.takes f s ss g
+
+  -- its place alone is another
+  places : map (λ (x : CellState). x.position) now ≡ set (map (λ (x : CellState). x.position) cells) b took.cell.position
+  places = ap (map (λ (x : CellState). x.position)) took.set ∙ map-set (λ (x : CellState). x.position) cells b took.cell
+
+  -- and so are the transactions that it has begun
+  begins : map (λ (x : CellState). x.begun) now ≡ set (map (λ (x : CellState). x.begun) cells) b took.cell.begun
+  begins = ap (map (λ (x : CellState). x.begun)) took.set ∙ map-set (λ (x : CellState). x.begun) cells b took.cell
+
+  within : b < length (map (λ (x : CellState). x.position) cells)
+  within = is_there (map (λ (x : CellState). x.position) cells) b takes.p takes.stands
+
+  -- the state after it, with the masks that come of it
+  core_now : (f' s' : ℕ) → core_of l h now f' s' ss g ≡ record (with_stance (core_of l h cells f s ss g) b stance) { failed = f'; starved = s' }
+  core_now f' s' =
+      ap (λ (ps : List (Option ℕ)). record (core_of l h cells f s ss g) { positions = ps; begun = map (λ (x : CellState). x.begun) now; failed = f'; starved = s' }) places
+      ∙ ap (λ (ts : List (List ℕ)). record (core_of l h cells f s ss g) { positions = set (map (λ (x : CellState). x.position) cells) b took.cell.position; begun = ts; failed = f'; starved = s' }) begins
+
+  taken_world : (f' s' : ℕ) → CoreInvariant (record (with_stance (core_of l h cells f s ss g) b stance) { failed = f'; starved = s' })
+      → IsWorld tells (world_of reg l h now f' s' ss g)
+  taken_world f' s' sound =
+      record {
+        sound = subst CoreInvariant (sym (core_now f' s')) sound;
+        named = kept.world.named;
+        registered = kept.world.registered;
+        few = kept.world.few;
+        positions = refl;
+        begun = refl;
+        cells =
+            subst (λ (xs : List CellState). (k : ℕ) (x : CellState) → k < length xs → IsCell tells (placement_of l) (log h) k (get_or xs k x)) (sym took.set)
+            (cells_set tells (placement_of l) (log h) cells b took.cell took.is kept.world.cells);
+        between = stand_rest (core_of l h cells f s ss g) (map (λ (x : CellState). x.position) now) (map (λ (x : CellState). x.begun) now) f' s' kept.world.between;
+      }
+
+  -- another backend stands where it stood
+  place_other : (k : ℕ) → k ≢ b → get_or (map (λ (x : CellState). x.position) now) k None ≡ get_or (map (λ (x : CellState). x.position) cells) k None
+  place_other k ne = ap (λ ps. get_or ps k None) places ∙ get_or-set_other (map (λ (x : CellState). x.position) cells) b k took.cell.position None ne
+
+  place_same : get_or (map (λ (x : CellState). x.position) now) b None ≡ took.cell.position
+  place_same = ap (λ ps. get_or ps b None) places ∙ get_or-set_same (map (λ (x : CellState). x.position) cells) b took.cell.position None within
+
+  -- what it did, where that is known
+  does : (d' : Did) → d ≡ d' → DoesWithEntry tells (core_of l h cells f s ss g) b takes.p takes.entry d' stance
+  does d' is = subst (λ (x : Did). DoesWithEntry tells (core_of l h cells f s ss g) b takes.p takes.entry x stance) is takes.does
+
+  module _ (fr : is_idle h ≡ false) (on : is_enabled h b ≡ true) where
+    -- the entry is the open one
+    open_there : takes.p ≡ ended_count h
+    open_there =
+        let lt : takes.p < length (log h) = slice_get_within (log h) takes.p takes.entry takes.there in
+        let low : ended_count h ≤ takes.p = (stands_there (core_of l h cells f s ss g) b takes.p kept.world.sound takes.stands).1 on in
+        let hi : length (log h) ≤ ended_count h + 1 = kept.world.sound.one_open.1 in
+        omega arith
+
+    is_open : (e : Entry) → entry_in_progress h ≡ Some e → takes.entry ≡ e
+    is_open e running = cc (sym takes.there ∙ (ap (slice_get (log h)) open_there ∙ running))
+
+    heard_right : (d' : Did) → d ≡ d' → (o : Outcome) → first_outcome_after first_outcome d' ≡ Some o → IsOutcome o × (tells ≡ true → outcome_of (log h) (ended_count h) ≡ Some o)
+    heard_right (did.Done r) is o there =
+        let did_so = does (did.Done r) is in
+        let same : r ≡ o = cc there in
+        (subst IsOutcome same did_so.1, λ t. ap (outcome_of (log h)) (sym open_there) ∙ (did_so.2 t ∙ there))
+    heard_right did.Skipped is o there = kept.right o there
+    heard_right did.Failed is o there = kept.right o there
+    heard_right did.Starved is o there = kept.right o there
+
+    -- one that hosts the table of the entry, and is not out then, did it
+    heard_here : (d' : Did) → d ≡ d' → (e : Entry) → entry_in_progress h ≡ Some e → takes_part (placement_of l) b [] e.tx e.act ≡ true → took.cell.position ≡ Some (length (log h)) → IsSome (first_outcome_after first_outcome d')
+    heard_here (did.Done r) is e running part there = refl
+    heard_here did.Skipped is e running part there =
+        let begun : List ℕ = begun_at (core_of l h cells f s ss g) b in
+        let mine : takes_part (placement_of l) b [] takes.entry.tx takes.entry.act ≡ true = subst (λ (x : Entry). takes_part (placement_of l) b [] x.tx x.act ≡ true) (sym (is_open e running)) part in
+        absurd (both_ways (takes_part (placement_of l) b begun takes.entry.tx takes.entry.act) (does did.Skipped is).0 (takes_more (placement_of l) b begun takes.entry.tx takes.entry.act mine))
+    heard_here did.Failed is e running part there = let gone = ap (λ (x : Stance). x.position) (does did.Failed is).1 in absurd (cc (gone, there))
+    heard_here did.Starved is e running part there = let gone = ap (λ (x : Stance). x.position) (does did.Starved is).1 in absurd (cc (gone, there))
+
+    heard_still : (d' : Did) → IsSome first_outcome → IsSome (first_outcome_after first_outcome d')
+    heard_still (did.Done r) some = refl
+    heard_still did.Skipped some = some
+    heard_still did.Failed some = some
+    heard_still did.Starved some = some
+
+    -- an enabled backend took the open entry
+    pub kept_applied : Kept tells (world_of reg l h now (failed_after f b d) (starved_after s b d) ss g) numbers (first_outcome_after first_outcome d)
+    kept_applied =
+        record {
+          world = taken_world (failed_after f b d) (starved_after s b d) (sound_applied tells (core_of l h cells f s ss g) b kept.world.sound fr on d stance takes);
+          numbers_are = kept.numbers_are;
+          served = kept.served;
+          right = heard_right d refl;
+          whole =
+              λ e k running part now_on there.
+              ⊎_elim
+              (λ (same : k ≡ b).
+              heard_here d refl e running (subst (λ (x : ℕ). takes_part (placement_of l) x [] e.tx e.act ≡ true) same part)
+              (sym place_same ∙ (ap (λ (x : ℕ). get_or (map (λ (y : CellState). y.position) now) x None) (sym same) ∙ there)))
+              (λ (ne : k ≡ b → ⊥). heard_still d (kept.whole e k running part now_on (sym (place_other k ne) ∙ there))) (cases_eq k b);
+        }
+
+  -- another backend took the log's next
+  pub kept_replayed : is_enabled h b ≡ false → Kept tells (world_of reg l h now f s ss g) numbers first_outcome
+  kept_replayed off =
+      record {
+        world = taken_world f s (sound_replayed tells (core_of l h cells f s ss g) b kept.world.sound off d stance takes);
+        numbers_are = kept.numbers_are;
+        served = kept.served;
+        right = kept.right;
+        whole =
+            λ e k running part now_on there.
+            ⊎_elim
+            (λ (same : k ≡ b). absurd (both_ways (is_enabled h b) off (subst (λ (x : ℕ). is_enabled h x ≡ true) same now_on)))
+            (λ (ne : k ≡ b → ⊥). kept.whole e k running part now_on (sym (place_other k ne) ∙ there)) (cases_eq k b);
+      }
+
+  -- what the move gives and leaves
+  pub applies : (f' s' : ℕ) → f' ≡ failed_after f b d → s' ≡ starved_after s b d → Applies tells (core_of l h cells f s ss g) b (Ok (moved.Applied b d)) (core_of l h now f' s' ss g)
+  applies f' s' fe se = (
+    refl,
+    (
+      stance,
+      takes,
+      core_now f' s'
+          ∙ (ap (λ q. record (with_stance (core_of l h cells f s ss g) b stance) { failed = q; starved = s' }) fe
+          ∙ ap (λ q. record (with_stance (core_of l h cells f s ss g) b stance) { failed = failed_after f b d; starved = q }) se),
+    ),
+  )
+
+  pub replays : Replays tells (core_of l h cells f s ss g) b (Ok (moved.Replayed (position_or_zero (position_at (core_of l h cells f s ss g) b) + 1) d)) (core_of l h now f s ss g)
+  replays = (refl, (stance, takes, core_now f s))
+
+  -- and what it counts
+  pub took_counts : (old : List CellState) → old ≡ cells → faults_of now ≡ faults_after (faults_of old) (cond (did_fail d) (Some b) None)
+  took_counts old was =
+      ap faults_of took.set
+      ∙ (counts_set cells b took.cell (did_fail d) (rw length-map at within) took.faults ∙ ap (λ (xs : List CellState). faults_after (faults_of xs) (cond (did_fail d) (Some b) None)) (sym was))
+
+  -- it arms no backend
+  pub took_armings : (old : List CellState) → old ≡ cells → armings_of now ≡ armings_of old
+  took_armings old was = ap armings_of took.set ∙ (armings_set cells b took.cell false (rw length-map at within) took.armings ∙ ap armings_of (sym was))
+
+  -- it is called under the login of the entry's user
+  pub took_logins : (old : WorldState) → world_of reg l h cells f s ss g ≡ old → LogsInToTake b (login_to_take old b) d (logins_of old.cells) (logins_of now)
+  took_logins old was =
+      let place : position_at (core_of l h cells f s ss g) b ≡ (get_or cells b took.cell).position = position_of cells b took.cell (rw length-map at within) in
+      subst (λ (x : WorldState). LogsInToTake b (login_to_take x b) d (logins_of x.cells) (logins_of now)) was
+      (subst (λ (q : Option ℕ). LogsInToTake b (login_of reg.accounts (next_user (log h) q) b) d (logins_of cells) (logins_of now)) (sym place) took.logins)

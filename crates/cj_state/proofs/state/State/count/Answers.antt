@@ -1,0 +1,13 @@
+use Rattle.std.proofs.Common.{◌≡◌, None, false, sym, subst}
+use Rattle.cj_cluster.specs.Moves.Cores.{session_at}
+use Rattle.cj_cluster.specs.Moves.Moves.{is_waiting}
+use Rattle.cj_state.specs.Worlds.{WorldState}
+use Rattle.cj_state.proofs.Keeping.{kept_counted}
+use Rattle.cj_state.proofs.state.State.count.Goals as goal
+
+pub invariant_of-self : goal.invariant_of-self
+invariant_of-self g c =
+    let w = c.self.inside in
+    let idle = subst (λ (x : WorldState). is_waiting x.core c.args.s ≡ false) (sym c.self.view_is) c.requires.idle in
+    let none = subst (λ (x : WorldState). (session_at x.core c.args.s).reading ≡ None) (sym c.self.view_is) c.requires.no_read in
+    rw c.count.ensures (kept_counted g.B.Backend.TELLS w.accounts w.book.layout w.book.history w.cells.items w.failed w.starved w.sessions w.book.greatest w.book.sessions w.first_outcome c.self.invariant c.args.s none idle)

@@ -1,0 +1,11 @@
+use Rattle.std.proofs.Common.{ap, ◌∙◌}
+use Rattle.cj_cluster.specs.Moves.Moves.{is_orphan}
+use Rattle.cj_state.specs.Worlds.{WorldState}
+use Rattle.cj_state.proofs.OpenNumbers.{orphan_is}
+use Rattle.cj_state.proofs.state.State.is_orphan.Goals as goal
+
+pub returns : goal.returns
+returns g c =
+    let w = c.self.inside in
+    c.is_orphan.ensures
+    ∙ (orphan_is w.book w.cells.items w.failed w.starved w.sessions c.self.invariant.numbers_are c.args.tx ∙ ap (λ (x : WorldState). is_orphan x.core c.args.tx) c.self.view_is)

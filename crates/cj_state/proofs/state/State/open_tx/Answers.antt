@@ -1,0 +1,10 @@
+use Rattle.std.proofs.Common.{◌≡◌, true, sym, ◌∙◌, subst}
+use Rattle.cj_cluster.specs.Moves.Moves.{is_open}
+use Rattle.cj_state.specs.Worlds.{WorldState}
+use Rattle.cj_state.proofs.OpenNumbers.{open_is}
+use Rattle.cj_state.proofs.state.State.open_tx.Goals as goal
+
+pub open_tx-requires : goal.open_tx-requires
+open_tx-requires g c =
+    let w = c.self.inside in
+    open_is w.book w.cells.items w.failed w.starved w.sessions c.self.invariant.numbers_are c.args.s ∙ subst (λ (x : WorldState). is_open x.core c.args.s ≡ true) (sym c.self.view_is) c.requires

@@ -1,0 +1,40 @@
+use Rattle.std.proofs.Common.{◌≡◌, inr, Ok, Err, true, ap, sym, ◌∙◌, subst}
+use Rattle.cj_model.specs.declared.request.Entry.{Entry}
+use Rattle.cj_cluster.specs.History.Histories.{log}
+use Rattle.cj_cluster.specs.History.Legality.{IsFitEntry}
+use Rattle.cj_cluster.specs.Moves.Moves.{is_orphan, abort_entry}
+use Rattle.cj_state.specs.Worlds.{WorldState}
+use Rattle.cj_state.specs.Effects.{SchedulesAs}
+use Rattle.cj_state.proofs.Keeping.{kept_aborted}
+use Rattle.cj_state.proofs.OpenNumbers.{orphan_is}
+use Rattle.cj_state.proofs.Noting.{scheduled_as, not_scheduled}
+use Rattle.cj_state.proofs.state.State.schedule_abort.Goals as goal
+
+pub schedule-requires-clause-known : goal.schedule-requires-clause-known
+schedule-requires-clause-known g c =
+    let w = c.self.inside in
+    let orphan = subst (λ (x : WorldState). is_orphan x.core c.args.entry.tx ≡ true) (sym c.self.view_is) c.requires.orphan in
+    inr (ap (λ (e : Entry). e.session) c.requires.is, orphan_is w.book w.cells.items w.failed w.starved w.sessions c.self.invariant.numbers_are c.args.entry.tx ∙ orphan)
+
+pub invariant_of-self : goal.invariant_of-self
+invariant_of-self g c =
+    let w = c.self.inside in
+    let orphan = subst (λ (x : WorldState). is_orphan x.core c.args.entry.tx ≡ true) (sym c.self.view_is) c.requires.orphan in
+    let is = subst (λ (x : WorldState). c.args.entry ≡ abort_entry x.core c.args.entry.tx) (sym c.self.view_is) c.requires.is in
+    let fits = subst (λ (x : WorldState). IsFitEntry (log x.core.history) c.args.entry) (sym c.self.view_is) c.requires.fits in
+    let ready = c.in-Ok.ensures.ready in
+    rw (c.in-Ok.ensures.ok)
+    (kept_aborted g.B.Backend.TELLS w.accounts w.book.layout w.book.history w.cells.items w.failed w.starved w.sessions w.book.greatest w.book.sessions w.first_outcome c.self.invariant c.args.entry orphan is ready.is_free fits ready.space ready.served)
+
+pub returns-in-Ok-clause-scheduled : goal.returns-in-Ok-clause-scheduled
+returns-in-Ok-clause-scheduled g c =
+    let w = c.self.inside in
+    subst (λ (x : WorldState). SchedulesAs x.core c.args.entry (Ok c.in-Ok.number)) c.self.view_is
+    (scheduled_as w.cells.items w.failed w.starved w.sessions w.book.greatest w.book c.args.entry c.schedule.new.self c.in-Ok.number c.in-Ok.ensures.ok c.in-Ok.ensures.number c.in-Ok.ensures.ready)
+
+pub returns-in-Err-clause-scheduled : goal.returns-in-Err-clause-scheduled
+returns-in-Err-clause-scheduled g c =
+    let w = c.self.inside in
+    subst (λ (x : WorldState). SchedulesAs x.core c.args.entry (Err c.in-Err.error)) c.self.view_is
+    (not_scheduled w.cells.items w.failed w.starved w.sessions w.book.greatest w.book c.args.entry c.schedule.result c.in-Err.error c.in-Err.is
+    c.schedule.ensures.in_progress c.schedule.ensures.no_backend c.schedule.ensures.full)

@@ -1,0 +1,43 @@
+use Rattle.std.proofs.Common.{◌≡◌, ◌+◌, inl, Ok, Err, None, true, ap, sym, ◌∙◌, subst}
+use Rattle.cj_cluster.specs.History.Histories.{log}
+use Rattle.cj_cluster.specs.History.Legality.{IsFitEntry}
+use Rattle.cj_cluster.specs.Moves.Cores.{session_at}
+use Rattle.cj_cluster.specs.Moves.Moves.{is_open}
+use Rattle.cj_book.specs.Books.{has_session}
+use Rattle.cj_state.specs.Worlds.{WorldState}
+use Rattle.cj_state.specs.Effects.{SchedulesAs}
+use Rattle.cj_state.proofs.Keeping.{kept_scheduled}
+use Rattle.cj_state.proofs.OpenNumbers.{open_is}
+use Rattle.cj_state.proofs.Noting.{scheduled_as, not_scheduled}
+use Rattle.cj_state.proofs.state.State.schedule_entry.Goals as goal
+
+pub schedule-requires-clause-known : goal.schedule-requires-clause-known
+schedule-requires-clause-known g c =
+    let w = c.self.inside in
+    let here = subst (λ (x : WorldState). is_open x.core c.args.s ≡ true) (sym c.self.view_is) c.requires.here in
+    inl (ap (has_session w.book) c.requires.session ∙ (open_is w.book w.cells.items w.failed w.starved w.sessions c.self.invariant.numbers_are c.args.s ∙ here))
+
+pub invariant_of-self : goal.invariant_of-self
+invariant_of-self g c =
+    let w = c.self.inside in
+    let here = subst (λ (x : WorldState). is_open x.core c.args.s ≡ true) (sym c.self.view_is) c.requires.here in
+    let number = subst (λ (x : WorldState). c.args.entry.seq ≡ (session_at x.core c.args.s).queries + 1) (sym c.self.view_is) c.requires.number in
+    let fits = subst (λ (x : WorldState). IsFitEntry (log x.core.history) c.args.entry) (sym c.self.view_is) c.requires.fits in
+    let no_read = subst (λ (x : WorldState). (session_at x.core c.args.s).reading ≡ None) (sym c.self.view_is) c.requires.no_read in
+    let ready = c.in-Ok.ensures.ready in
+    rw (c.in-Ok.ensures.ok, c.count.ensures)
+    (kept_scheduled g.B.Backend.TELLS w.accounts w.book.layout w.book.history w.cells.items w.failed w.starved w.sessions w.book.greatest w.book.sessions w.first_outcome c.self.invariant c.args.s c.args.entry here c.requires.session number ready.is_free fits
+    ready.space no_read ready.served)
+
+pub returns-in-Ok-clause-scheduled : goal.returns-in-Ok-clause-scheduled
+returns-in-Ok-clause-scheduled g c =
+    let w = c.self.inside in
+    subst (λ (x : WorldState). SchedulesAs x.core c.args.entry (Ok c.in-Ok.number)) c.self.view_is
+    (scheduled_as w.cells.items w.failed w.starved w.sessions w.book.greatest w.book c.args.entry c.schedule.new.self c.in-Ok.number c.in-Ok.ensures.ok c.in-Ok.ensures.number c.in-Ok.ensures.ready)
+
+pub returns-in-Err-clause-scheduled : goal.returns-in-Err-clause-scheduled
+returns-in-Err-clause-scheduled g c =
+    let w = c.self.inside in
+    subst (λ (x : WorldState). SchedulesAs x.core c.args.entry (Err c.in-Err.error)) c.self.view_is
+    (not_scheduled w.cells.items w.failed w.starved w.sessions w.book.greatest w.book c.args.entry c.schedule.result c.in-Err.error c.in-Err.is
+    c.schedule.ensures.in_progress c.schedule.ensures.no_backend c.schedule.ensures.full)

@@ -1,0 +1,48 @@
+use Rattle.std.proofs.Common.{◌≡◌, ℕ, ◌<◌, None, Ok, ap, sym, subst}
+use Rattle.cj_cluster.specs.declared.moves.Move.TheVariants.{Apply}
+use Rattle.cj_cluster.specs.declared.moves.Moved.TheVariants.{Applied}
+use Rattle.cj_cluster.specs.Moves.Moves.{position_or_zero, not_now, Applies}
+use Rattle.cj_cluster.specs.Moves.Cores.{position_at}
+use Rattle.cj_cluster.proofs.Now.{CanApply, can_apply}
+use Rattle.cj_state.specs.Worlds.{WorldState, core_of}
+use Rattle.cj_state.proofs.Catching.{can_take}
+use Rattle.cj_state.proofs.Taking.{kept_applied, applies, took_counts, took_armings, took_logins}
+use Rattle.cj_state.proofs.state.State.take_open.Goals as goal
+
+pub take-did-requires-clause-registered : goal.take-did-requires-clause-registered
+take-did-requires-clause-registered g c =
+    subst (λ (m : ℕ). c.args.b < m) (sym c.self.invariant.world.registered) (subst (λ (x : WorldState). c.args.b < x.core.placement.backends) (sym c.self.view_is) c.requires.within)
+
+pub take-did-requires-clause-can : goal.take-did-requires-clause-can
+take-did-requires-clause-can g c =
+    let w = c.self.inside in
+    let can : CanApply (core_of w.book.layout w.book.history w.cells.items w.failed w.starved w.sessions w.book.greatest) c.args.b = can_apply _ c.args.b (subst (λ (x : WorldState). not_now x.core (Apply c.args.b) ≡ None) (sym c.self.view_is) c.requires.now) in
+    can_take g.B.Backend.TELLS w.accounts w.book.layout w.book.history w.cells.items w.failed w.starved w.sessions w.book.greatest w.book.sessions w.first_outcome c.self.invariant c.args.b (position_or_zero (position_at (core_of w.book.layout w.book.history w.cells.items w.failed w.starved w.sessions w.book.greatest) c.args.b)) can.at can.more
+
+pub invariant_of-self : goal.invariant_of-self
+invariant_of-self g c =
+    let w = c.self.inside in
+    let can : CanApply (core_of w.book.layout w.book.history w.cells.items w.failed w.starved w.sessions w.book.greatest) c.args.b = can_apply _ c.args.b (subst (λ (x : WorldState). not_now x.core (Apply c.args.b) ≡ None) (sym c.self.view_is) c.requires.now) in
+    rw (c.failed_after-self-inside.ensures, c.starved_after-self-inside.ensures, c.first_outcome_after-self-inside.ensures)
+    (kept_applied g.B.Backend.TELLS w.accounts w.book.layout w.book.history w.cells.items w.failed w.starved w.sessions w.book.greatest w.book.sessions w.first_outcome c.self.invariant c.args.b c.take-did.result c.take-did.new.cells.items c.take-did.ensures can.is_running can.on)
+
+pub returns-clause-applies : goal.returns-clause-applies
+returns-clause-applies g c =
+    let w = c.self.inside in
+    subst (λ (x : WorldState). Applies g.B.Backend.TELLS x.core c.args.b (Ok (Applied c.args.b c.take-did.result)) (core_of w.book.layout w.book.history c.take-did.new.cells.items c.failed_after-self-inside.result c.starved_after-self-inside.result w.sessions w.book.greatest)) c.self.view_is
+    (applies g.B.Backend.TELLS w.accounts w.book.layout w.book.history w.cells.items w.failed w.starved w.sessions w.book.greatest w.book.sessions w.first_outcome c.self.invariant c.args.b c.take-did.result c.take-did.new.cells.items c.take-did.ensures c.failed_after-self-inside.result c.starved_after-self-inside.result c.failed_after-self-inside.ensures c.starved_after-self-inside.ensures)
+
+pub returns-clause-counts : goal.returns-clause-counts
+returns-clause-counts g c =
+    let w = c.self.inside in
+    took_counts g.B.Backend.TELLS w.accounts w.book.layout w.book.history w.cells.items w.failed w.starved w.sessions w.book.greatest w.book.sessions w.first_outcome c.self.invariant c.args.b c.take-did.result c.take-did.new.cells.items c.take-did.ensures c.args.self.now.cells (ap (λ (x : WorldState). x.cells) (sym c.self.view_is))
+
+pub returns-clause-armings : goal.returns-clause-armings
+returns-clause-armings g c =
+    let w = c.self.inside in
+    took_armings g.B.Backend.TELLS w.accounts w.book.layout w.book.history w.cells.items w.failed w.starved w.sessions w.book.greatest w.book.sessions w.first_outcome c.self.invariant c.args.b c.take-did.result c.take-did.new.cells.items c.take-did.ensures c.args.self.now.cells (ap (λ (x : WorldState). x.cells) (sym c.self.view_is))
+
+pub returns-clause-logins : goal.returns-clause-logins
+returns-clause-logins g c =
+    let w = c.self.inside in
+    took_logins g.B.Backend.TELLS w.accounts w.book.layout w.book.history w.cells.items w.failed w.starved w.sessions w.book.greatest w.book.sessions w.first_outcome c.self.invariant c.args.b c.take-did.result c.take-did.new.cells.items c.take-did.ensures c.args.self.now c.self.view_is

@@ -1,0 +1,107 @@
+-- What the parts of moves make of a world.
+use Rattle.std.specs.Prelude.{◌≡◌, ◌≢◌, ◌⊎◌, ℕ, ◌+◌, ◌<◌, ◌≤◌, Bool, true, false, List, length, Result, Ok, Err}
+use Rattle.std.specs.declared.option.Option.{Option}
+use Rattle.std.specs.declared.option.Option.TheVariants.{None, Some}
+use Rattle.cj_model.specs.declared.request.Act.{Act}
+use Rattle.cj_model.specs.declared.request.Entry.{Entry}
+use Rattle.cj_model.specs.declared.answer.Refusal.{Refusal}
+use Rattle.cj_model.specs.declared.answer.Reply.{Reply}
+use Rattle.cj_model.specs.declared.answer.Asked.{Asked}
+use Rattle.cj_model.specs.declared.select.Select.{Select}
+use Rattle.cj_cluster.specs.declared.event.Event.TheVariants as event
+use Rattle.cj_model.specs.declared.codes.TheConstants.{UNFINISHED, STARVED_ALL}
+use Rattle.cj_model.specs.Database.Outcomes.{IsAsked}
+use Rattle.cj_model.specs.Sql.PlainRequests.{request_of}
+use Rattle.cj_model.specs.Database.Queries.{ask}
+use Rattle.cj_cluster.specs.History.Histories.{log, ended_count, is_idle, entry_in_progress, events_left, database_after}
+use Rattle.cj_model.specs.Cluster.Masks.{in_mask}
+use Rattle.cj_cluster.specs.History.Answering.{HasServer, HasNoServer, AnswersEntry}
+use Rattle.cj_cluster.specs.Moves.Cores.{Core, position_at, session_at}
+use Rattle.cj_cluster.specs.Moves.Moves.{last_number, with_end, happened, IsFarEnough, read_number}
+use Rattle.cj_cluster.specs.History.Turns.{SessionView}
+use Rattle.cj_cluster.specs.Moves.Runs.{HasFailedSince, IsBetweenReplies}
+use Rattle.cj_book.specs.declared.error.BookError.{BookError}
+use Rattle.cj_book.specs.declared.error.BookError.TheVariants.{InProgress, NoBackend, HistoryFull, NoMemory}
+use Rattle.cj_book.specs.Books.{BookState, with_event, HasNoRoomForOne}
+use Rattle.cj_replica.specs.declared.cell.CellReadError.{CellReadError}
+use Rattle.cj_replica.specs.declared.cell.CellReadError.TheVariants as cell_errors
+use Rattle.cj_state.specs.declared.cells.AskError.{AskError}
+use Rattle.cj_state.specs.declared.cells.AskError.TheVariants as errors
+use Rattle.cj_state.specs.Worlds.{WorldState}
+
+-- the world with another core
+abbrev pub with_core : WorldState → Core → WorldState
+with_core w c = record w { core = c }
+
+-- whether the entry was scheduled, or why not
+abbrev pub SchedulesAs : Core → Entry → Result ℕ BookError → Type 0
+SchedulesAs c e (Ok n) = (n ≡ last_number c + 1) × HasServer c.placement c.history (request_of e.act) × (3 ≤ events_left c.history)
+SchedulesAs c e (Err (InProgress n)) = is_idle c.history ≡ false
+SchedulesAs c e (Err NoBackend) = HasNoServer c.placement c.history (request_of e.act)
+SchedulesAs c e (Err (HistoryFull n)) = (n ≡ length c.history) × HasServer c.placement c.history (request_of e.act) × (events_left c.history < 3)
+SchedulesAs c e (Err NoMemory) = Unit {0}
+
+-- whether one event more could come, or why not
+abbrev pub HadRoom : {T : Type 0} → Core → Result T BookError → Type 0
+HadRoom c (Ok x) = 0 < events_left c.history
+HadRoom c (Err (InProgress n)) = ⊥
+HadRoom c (Err NoBackend) = ⊥
+HadRoom c (Err (HistoryFull n)) = (events_left c.history ≡ 0) × (n ≡ length c.history)
+HadRoom c (Err NoMemory) = Unit {0}
+
+-- the refusal of an entry that no backend finished
+abbrev pub Refuses : ℕ → ℕ → Refusal → Type 0
+Refuses failed starved refusal =
+    ((failed ≢ 0) × (refusal ≡ record { code = UNFINISHED; a = failed; b = starved })) ⊎ ((failed ≡ 0) × (refusal ≡ record { code = STARVED_ALL; a = 0; b = starved }))
+
+-- what the open entry is answered
+abbrev pub AnswersOpen : Bool → Core → Reply → Type 0
+AnswersOpen tells c reply = (e : Entry) → entry_in_progress c.history ≡ Some e → AnswersEntry tells c.placement c.history (with_end c) (ended_count c.history) e reply
+
+-- what backend b answered a session's query of transaction tx, or why it did not
+abbrev pub Asks : Bool → Core → ℕ → ℕ → ℕ → Select → Result (Asked × ℕ) AskError → Type 0
+Asks tells c s b tx select (Ok (answer, p)) =
+    (position_at c b ≡ Some p) × ((session_at c s).least ≤ p) × (p ≤ last_number c) × IsAsked answer × (tells ≡ true → answer ≡ ask (database_after (log c.history) p) tx select)
+Asks tells c s b tx select (Err errors.Out) = position_at c b ≡ None
+Asks tells c s b tx select (Err (errors.Behind p)) = (position_at c b ≡ Some p) × (p < (session_at c s).least)
+Asks tells c s b tx select (Err errors.Failed) = IsFarEnough c s b × (0 < events_left c.history)
+Asks tells c s b tx select (Err (errors.Unnoted n)) = IsFarEnough c s b × (events_left c.history ≡ 0) × (n ≡ length c.history)
+Asks tells c s b tx select (Err errors.NoMemory) = Unit {0}
+
+-- the core after that: a failure is an event of the history, where that has room
+abbrev pub asked_core : Core → ℕ → ℕ → Result (Asked × ℕ) AskError → Core
+asked_core c s b (Ok answered) = c
+asked_core c s b (Err errors.Out) = c
+asked_core c s b (Err (errors.Behind p)) = c
+asked_core c s b (Err errors.Failed) = happened c (event.ReadFailed s (read_number (session_at c s)) b)
+asked_core c s b (Err (errors.Unnoted n)) = c
+asked_core c s b (Err errors.NoMemory) = c
+
+-- the backend that failed where it was asked
+abbrev pub failed_asked : ℕ → Result (Asked × ℕ) AskError → Option ℕ
+failed_asked b (Ok answered) = None
+failed_asked b (Err errors.Out) = None
+failed_asked b (Err (errors.Behind p)) = None
+failed_asked b (Err errors.Failed) = Some b
+failed_asked b (Err (errors.Unnoted n)) = Some b
+failed_asked b (Err errors.NoMemory) = None
+
+-- what a cell's error comes to, and the book: of a failure it has an event, where there is room
+abbrev pub Notes : BookState → ℕ → ℕ → ℕ → CellReadError → AskError → BookState → Type 0
+Notes old s q b cell_errors.Out error new = (error ≡ errors.Out) × (new ≡ old)
+Notes old s q b (cell_errors.Behind p) error new = (error ≡ errors.Behind p) × (new ≡ old)
+Notes old s q b cell_errors.Failed error new =
+    ((error ≡ errors.Failed) × (0 < events_left old.history) × (new ≡ with_event old (event.ReadFailed s q b))) ⊎ ((n : ℕ) × (error ≡ errors.Unnoted n) × HasNoRoomForOne old n × (new ≡ old))
+Notes old s q b cell_errors.NoMemory error new = (error ≡ errors.NoMemory) × (new ≡ old)
+
+-- the mask has each backend that another has
+abbrev pub Covers : ℕ → ℕ → Type 0
+Covers mask other = (b : ℕ) → in_mask other b ≡ true → in_mask mask b ≡ true
+
+-- Since some reply of the session, or since it has begun, each backend of the mask has failed in its read.
+abbrev pub HaveFailed : Core → ℕ → ℕ → Type 0
+HaveFailed c s mask = (a : SessionView) × IsBetweenReplies a c s × ((b : ℕ) → in_mask mask b ≡ true → HasFailedSince a.front c.history s (read_number (session_at c s)) b)
+
+-- the entry of that, where it is an act
+abbrev pub own_entry : Core → ℕ → ℕ → List ℕ → Act → Entry
+own_entry c s tx user act = record { session = s; seq = (session_at c s).queries + 1; tx = tx; user = user; act = act }

@@ -1,0 +1,3 @@
+-- What the public clauses do not name, for proofs alone.
+pub mod Kept
+pub mod Taking

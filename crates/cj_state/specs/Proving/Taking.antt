@@ -1,0 +1,66 @@
+-- What taking an entry makes of the cells.
+use Rattle.std.specs.Prelude.{◌≡◌, ℕ, ◌<◌, ◌≤◌, Bool, List, if◌then◌else◌, length, slice_index_or, slice_set}
+use Rattle.std.specs.declared.result.Result.{Result}
+use Rattle.std.specs.declared.result.Result.TheVariants.{Ok, Err}
+use Rattle.std.specs.declared.option.Option.{Option}
+use Rattle.std.specs.declared.option.Option.TheVariants.{Some}
+use Rattle.cj_outside.specs.Causes.{next}
+use Rattle.cj_model.specs.declared.answer.Outcome.{Outcome}
+use Rattle.cj_cluster.specs.declared.event.Event.{Event}
+use Rattle.cj_cluster.specs.declared.moves.Did.{Did}
+use Rattle.cj_cluster.specs.declared.moves.Did.TheVariants as did
+use Rattle.cj_cluster.specs.declared.moves.OpenSession.{OpenSession}
+use Rattle.cj_model.specs.declared.limits.TheConstants.{EVENT_LIMIT}
+use Rattle.cj_cluster.specs.History.Histories.{log, database_after}
+use Rattle.cj_cluster.specs.History.Transactions.{AreFit}
+use Rattle.cj_cluster.specs.Moves.Moves.{TakesEntry}
+use Rattle.cj_cluster.specs.Proving.Invariants.{CoversDrafts}
+use Rattle.cj_model.specs.Cluster.Placements.{part}
+use Rattle.cj_place.specs.Layouts.{Layout, placement_of}
+use Rattle.cj_replica.specs.declared.cell.Caught.{Caught}
+use Rattle.cj_replica.specs.declared.cell.Caught.TheVariants as caught
+use Rattle.cj_replica.specs.declared.cell.CellError.{CellError}
+use Rattle.cj_replica.specs.declared.cell.CellError.TheVariants as errors
+use Rattle.cj_replica.specs.Cells.{CellState}
+use Rattle.cj_state.specs.Worlds.{core_of, IsCell}
+use Rattle.cj_model.specs.declared.account.Account.{Account}
+use Rattle.cj_model.specs.Cluster.Accounts.{login_of}
+use Rattle.cj_state.specs.Faults.{did_fail}
+use Rattle.cj_state.specs.CalledLogins.{logins_of, next_user, LogsInToTake}
+
+-- Backend b can take the entry at its position.
+pub record CanTake (tells : Bool) (l : Layout) (h : List Event) (cells : List CellState) (b : ℕ) : Type 0 where
+  pub within : b < length cells
+  pub is : (d : CellState) → IsCell tells (placement_of l) (log h) b (slice_index_or cells b d)
+  pub p : ℕ
+  pub stands : (d : CellState) → (slice_index_or cells b d).position ≡ Some p
+  pub more : p < length (log h)
+  pub short : length (log h) ≤ EVENT_LIMIT
+  pub fits : AreFit (log h)
+  -- it has begun each transaction of which it holds a draft
+  pub covers : (d : CellState) → CoversDrafts (slice_index_or cells b d).begun (part (placement_of l) b (database_after (log h) p))
+
+-- what a cell did
+abbrev pub did_of : Result Caught CellError → Did
+did_of (Ok caught.Skipped) = did.Skipped
+did_of (Ok (caught.Did o)) = did.Done o
+did_of (Err errors.Failed) = did.Failed
+did_of (Err errors.Starved) = did.Starved
+
+-- Backend b took the entry at its position, and its cell alone was changed.
+pub record TookEntry (tells : Bool) (accounts : List Account) (l : Layout) (h : List Event) (cells : List CellState) (b : ℕ) (d : Did) (now : List CellState) : Type 0 where
+  pub cell : CellState
+  pub set : now ≡ slice_set cells b cell
+  pub is : IsCell tells (placement_of l) (log h) b cell
+  -- whatever else the core is
+  pub takes : (failed starved : ℕ) (sessions : List OpenSession) (greatest : ℕ) → TakesEntry tells (core_of l h cells failed starved sessions greatest) b d (record { position = cell.position; begun = cell.begun })
+  pub faults : cell.faults ≡ (if did_fail d then next (slice_index_or cells b cell).faults else (slice_index_or cells b cell).faults)
+  pub armings : cell.arming.times ≡ (slice_index_or cells b cell).arming.times
+  pub logins : LogsInToTake b (login_of accounts (next_user (log h) (slice_index_or cells b cell).position) b) d (logins_of cells) (logins_of now)
+
+-- what the open entry came to, after a backend took it
+abbrev pub first_outcome_after : Option Outcome → Did → Option Outcome
+first_outcome_after first_outcome (did.Done o) = Some o
+first_outcome_after first_outcome did.Skipped = first_outcome
+first_outcome_after first_outcome did.Failed = first_outcome
+first_outcome_after first_outcome did.Starved = first_outcome

@@ -1,0 +1,765 @@
+//! The state of a world, and the parts of moves: each a change of it that keeps it whole.
+
+ghost use Rattle.std.specs.Prelude.{option_copied, ◌≡◌, ◌↔◌, ℕ, ◌+◌, ◌<◌, ◌≤◌, ◌^◌, ◌==◌, true, false, [], length, map, is_some, IsNone, IfSome, IfOk, IsErrOf, MatchBool, OnOk, OnErr, Some, None, Ok, Err, if◌then◌else◌};
+ghost use Rattle.cj_model.specs.declared.request.Entry.{Entry};
+ghost use Rattle.cj_model.specs.declared.request.Request.TheVariants as request;
+ghost use Rattle.cj_model.specs.Sql.PlainRequests.{request_of};
+ghost use Rattle.cj_cluster.specs.History.Histories as histories;
+ghost use Rattle.cj_cluster.specs.History.Histories.{log, is_idle};
+ghost use Rattle.cj_model.specs.Cluster.Masks.{in_mask};
+ghost use Rattle.cj_cluster.specs.History.Legality.{FitsTx, IsFitEntry};
+ghost use Rattle.cj_model.specs.Sql.WrittenRequests.{IsWritten};
+ghost use Rattle.cj_cluster.specs.History.Answering.{CanServe};
+ghost use Rattle.cj_cluster.specs.Moves.Cores.{find_session, session_at, position_at};
+ghost use Rattle.cj_model.specs.Cluster.Accounts.{login_of};
+ghost use Rattle.cj_cluster.specs.Moves.Moves as moves;
+ghost use Rattle.cj_cluster.specs.Moves.Moves.{Applies, Replays, IsServingMask, HasOtherRead, HasNoOtherRead, forbidden_by, next_entry, not_now, with_read, with_request_counted, happened, opened_for, closed_for, scheduled_as, ended_for, answered_at, was_answered, still_reading};
+ghost use Rattle.std.specs.Bool.{OnTrue};
+ghost use Rattle.cj_auth.specs.Admission.{admits};
+ghost use Rattle.cj_auth.specs.Kept.{IsUserName};
+ghost use Rattle.cj_replica.specs.Cells.{CellState};
+ghost use Rattle.cj_state.specs.Worlds.{accounts_of, IsWorld};
+ghost use Rattle.cj_place.specs.Layouts.{placement_of};
+ghost use Rattle.cj_state.specs.Beginnings.{AreEmpty, AreFresh, started_to};
+ghost use Rattle.cj_state.specs.ArmedCells.{armed_at, armings_after, armings_of};
+ghost use Rattle.cj_state.specs.Held.{failed_contents, IsHeld};
+ghost use Rattle.cj_state.specs.CalledLogins.{asked_for, login_to_take, logins_of, LogsInToAsk, LogsInToTake};
+ghost use Rattle.cj_state.specs.Effects.{own_entry};
+ghost use Rattle.cj_state.specs.Faults.{did_fail, faults_after, faults_of};
+ghost use Rattle.cj_state.specs.Effects.{AnswersOpen, Asks, asked_core, failed_asked, HaveFailed, Refuses, with_core, SchedulesAs, HadRoom};
+
+use crate::cells::{
+    AskError, failed_after, first_outcome_after, noted, place, starved_after, take,
+};
+use cj_auth::Accounts;
+use cj_backend::Backend;
+use cj_book::{Book, BookError};
+use cj_cluster::{Did, Event, Move, Moved, OpenRead, OpenSession};
+use cj_model::{
+    Act, Asked, BACKEND_LIMIT, Db, Duplicate, Entry, HISTORY_FULL, NoMemory, Outcome,
+    REQUEST_LIMIT, Refusal, Reply, SESSION_LIMIT, SESSION_NUMBER_LIMIT, SESSIONS_FULL, STARVED_ALL,
+    Same, Select, Text, UNFINISHED, USER_LIMIT, with_bit,
+};
+use cj_open_sessions::{Sessions, read_number, tx_of_act};
+use cj_place::Placement;
+use cj_replica::{Cell, CellError};
+use std::alloc::Global;
+use std::marker::Model;
+
+/// The history, the cells of the backends, the open sessions and the accounts.
+#[derive(Drop)]
+pub struct State<B: Backend> {
+    alloc: Global,
+    book: Book,
+    /// By the numbers of their backends.
+    cells: Vec<Cell<B>>,
+    /// While an entry is open, the mask of the backends that failed in it.
+    failed: u32,
+    /// And of those that wanted memory.
+    starved: u32,
+    /// What the open entry came to, from the first backend that did it.
+    first_outcome: Option<Outcome>,
+    sessions: Sessions,
+    accounts: Accounts,
+}
+
+impl<B: Backend> Model for State<B> {
+    ghost use Rattle.cj_state.specs.Worlds.{WorldState, world_of};
+
+    ghost Value = { WorldState };
+
+    ghost use Rattle.std.specs.Coded.{codes};
+    ghost use Rattle.cj_model.specs.Proving.ConditionCode.{coded_condition};
+
+    ghost coded = { Prim.hlevel (codes, coded_condition) };
+
+    ghost use Rattle.cj_state.specs.Proving.Kept.{Kept};
+
+    ghost view = { λ w. world_of w.accounts w.book.layout w.book.history w.cells.items w.failed w.starved w.sessions w.book.greatest };
+
+    ghost invariant = { λ w. Kept B.TELLS (world_of w.accounts w.book.layout w.book.history w.cells.items w.failed w.starved w.sessions w.book.greatest) w.book.sessions w.first_outcome };
+}
+
+/// The refusal of an entry that no backend finished.
+fn unfinished(failed: u32, starved: u32) -> Refusal
+    ensures { Refuses failed starved result }
+{
+    if failed != 0 {
+        Refusal {
+            code: UNFINISHED,
+            a: failed as u64,
+            b: starved as u64,
+        }
+    } else {
+        Refusal {
+            code: STARVED_ALL,
+            a: 0,
+            b: starved as u64,
+        }
+    }
+}
+
+/// Whether a read of the session is open that is not of this query.
+fn is_other(session: &OpenSession, select: &Select) -> bool
+    ensures { MatchBool result (HasOtherRead session.now select.now) (HasNoOtherRead session.now select.now) }
+{
+    match &session.reading {
+        Some(read) => !read.select.is_same(select),
+        None => false,
+    }
+}
+
+fn tried_of(reading: &Option<OpenRead>) -> u32
+    ensures { result ≡ moves.tried_of reading.now }
+{
+    match reading {
+        Some(read) => read.tried,
+        None => 0,
+    }
+}
+
+/// Whom a session asks for: this user, or its own.
+fn asking_user<'a>(sessions: &'a Sessions, s: u64, user: Option<&'a Text>) -> &'a Text
+    requires { is_some (find_session sessions.now s) ≡ true }
+    ensures { result.now ≡ asked_for sessions.now s (option_copied user.entry) }
+{
+    match user {
+        Some(user) => user,
+        None => match sessions.get(s) {
+            Some(session) => &session.user,
+            None => unreachable!(),
+        },
+    }
+}
+
+// ---- how it is made
+
+impl<B: Backend + Drop> State<B> {
+    /// The state over these cells, of which none has taken an entry, with no backend enabled and no
+    /// session open.
+    pub fn new(
+        alloc: Global,
+        book: Book,
+        cells: Vec<Cell<B>>,
+        accounts: Accounts,
+    ) -> Result<State<B>, NoMemory>
+        requires history { book.history ≡ [] }
+        requires numbers { book.sessions ≡ [] }
+        requires greatest { book.greatest ≡ 0 }
+        requires few { length book.layout.names ≤ BACKEND_LIMIT }
+        requires registered { accounts.backends ≡ length book.layout.names }
+        requires fresh { AreFresh (placement_of book.layout) cells.items }
+        requires empty { AreEmpty B.TELLS (map (λ (x : CellState). x.told) cells.items) }
+        ensures core { IfOk result (λ state. state.core ≡ started_to (placement_of book.layout) 0) }
+        ensures cells { IfOk result (λ state. state.cells ≡ cells.items) }
+        ensures setup { IfOk result (λ state. state.setup ≡ record { names = book.layout.names; register = accounts }) }
+    {
+        Ok(State {
+            alloc,
+            book,
+            cells,
+            failed: 0,
+            starved: 0,
+            first_outcome: None,
+            sessions: Sessions::new(alloc)?,
+            accounts,
+        })
+    }
+}
+
+// ---- how it is given up
+
+impl<B: Backend + Drop> State<B> {
+    /// Its cells.
+    pub fn into_cells(self) -> Vec<Cell<B>>
+        ensures cells { result.items ≡ self.cells }
+        ensures few { length self.cells ≤ BACKEND_LIMIT }
+        ensures legal { IsWorld B.TELLS self }
+    {
+        let State { cells, .. } = self;
+        cells
+    }
+}
+
+// ---- what moves read
+
+impl<B: Backend> State<B> {
+    /// Shows what holds of every world.
+    pub fn legal(&self)
+        ensures { IsWorld B.TELLS self.now }
+    {
+        let _ = &self.book;
+    }
+
+    /// How many entries there are, which is the number of the last one.
+    pub fn length(&self) -> u64
+        ensures { result ≡ moves.last_number self.now.core }
+    {
+        self.book.length()
+    }
+
+    /// The number of the open entry.
+    pub fn open_entry(&self) -> Option<u64>
+        ensures none { IsNone result ↔ (is_idle self.now.core.history ≡ true) }
+        ensures number { IfSome result (λ n. n ≡ moves.last_number self.now.core) }
+    {
+        self.book.open_entry()
+    }
+
+    /// The mask of the enabled backends.
+    pub fn enabled(&self) -> u32
+        ensures { (b : ℕ) → in_mask result b ≡ histories.is_enabled self.now.core.history b }
+    {
+        self.book.enabled()
+    }
+
+    /// How many entries the backend has taken; none where it is out.
+    pub fn position(&self, b: u8) -> Option<u64>
+        ensures { result ≡ position_at self.now.core b }
+    {
+        match self.cells.get(b as usize) {
+            Some(cell) => cell.position(),
+            None => None,
+        }
+    }
+
+    /// Which backends host which tables, and what they are called.
+    pub fn placement(&self) -> &Placement
+        ensures placement { placement_of result.now ≡ self.now.core.placement }
+        ensures names { result.now.names ≡ self.now.setup.names }
+    {
+        self.book.placement()
+    }
+
+    /// Whether an account has this user and this password. Such a user is a text of at most 64 bytes.
+    pub fn admits(&self, user: &[u8], password: &[u8]) -> bool
+        ensures admitted { result ≡ admits (accounts_of self.now) user.now password.now }
+        ensures user { OnTrue result (IsUserName user.now) }
+    {
+        self.accounts.check(user, password)
+    }
+
+    /// Where it takes its memory from.
+    pub fn allocator(&self) -> Global {
+        self.alloc
+    }
+
+    pub fn is_free(&self) -> bool
+        ensures { result ≡ is_idle self.now.core.history }
+    {
+        self.book.is_free()
+    }
+
+    pub fn is_enabled(&self, b: u8) -> bool
+        ensures { result ≡ histories.is_enabled self.now.core.history b }
+    {
+        self.book.is_enabled(b)
+    }
+
+    pub fn is_open(&self, s: u64) -> bool
+        ensures { result ≡ moves.is_open self.now.core s }
+    {
+        self.sessions.get(s).is_some()
+    }
+
+    /// Whether the session's own entry is open.
+    pub fn is_waiting(&self, s: u64) -> bool
+        ensures { result ≡ moves.is_waiting self.now.core s }
+    {
+        match self.book.opened() {
+            Some(entry) => entry.session == s,
+            None => false,
+        }
+    }
+
+    pub fn is_reading(&self, s: u64) -> bool
+        ensures { result ≡ moves.is_reading (session_at self.now.core s) }
+    {
+        match self.sessions.get(s) {
+            Some(session) => session.reading.is_some(),
+            None => false,
+        }
+    }
+
+    /// How many requests the session has made.
+    fn queries(&self, s: u64) -> u64
+        ensures { result ≡ (session_at self.now.core s).queries }
+    {
+        match self.sessions.get(s) {
+            Some(session) => session.queries,
+            None => 0,
+        }
+    }
+
+    /// The position that the session's reads need at least.
+    fn least(&self, s: u64) -> u64
+        ensures { result ≡ (session_at self.now.core s).least }
+    {
+        match self.sessions.get(s) {
+            Some(session) => session.least,
+            None => 0,
+        }
+    }
+
+    /// The number of the entry that the backend takes next; 1 where it is out.
+    pub fn next_of(&self, b: u8) -> u64
+        ensures { result ≡ moves.position_or_zero (position_at self.now.core b) + 1 }
+    {
+        let _ = &self.book;
+        place(self.position(b)) + 1
+    }
+
+    /// The session's open transaction, or 0.
+    pub fn open_tx(&self, s: u64) -> u64
+        requires { moves.is_open self.now.core s ≡ true }
+        ensures { result ≡ moves.open_tx self.now.core s }
+    {
+        self.book.open_tx(s)
+    }
+
+    /// Whether the transaction is open, and its session isn't.
+    pub fn is_orphan(&self, tx: u64) -> bool
+        ensures { result ≡ moves.is_orphan self.now.core tx }
+    {
+        self.book.is_orphan(tx)
+    }
+
+    /// The session's next entry.
+    pub fn next_entry(&self, s: u64, act: Act) -> Result<Entry, NoMemory>
+        requires here { moves.is_open self.now.core s ≡ true }
+        requires counts { (session_at self.now.core s).queries < REQUEST_LIMIT }
+        requires written { IsWritten (request_of act) }
+        requires allowed { forbidden_by (moves.open_tx self.now.core s) act ≡ None }
+        ensures next { IfOk result (λ e. e ≡ next_entry self.now.core s act) }
+        ensures fits { IfOk result (λ e. IsFitEntry (log self.now.core.history) e) }
+    {
+        match self.sessions.get(s) {
+            Some(session) => Ok(Entry {
+                session: s,
+                seq: session.queries + 1,
+                tx: tx_of_act(self.book.open_tx(s), &act),
+                user: session.user.copy(self.alloc)?,
+                act,
+            }),
+            None => unreachable!(),
+        }
+    }
+
+    /// The entry of the session's next request, for this user and in this transaction, 0 for none.
+    pub fn entry_for(&self, s: u64, user: &Text, tx: u64, act: Act) -> Result<Entry, NoMemory>
+        requires here { moves.is_open self.now.core s ≡ true }
+        requires counts { (session_at self.now.core s).queries < REQUEST_LIMIT }
+        requires short { length user.now ≤ USER_LIMIT }
+        requires written { IsWritten (request_of act) }
+        requires allowed { FitsTx (moves.open_tx self.now.core s) tx act }
+        ensures is { IfOk result (λ e. e ≡ own_entry self.now.core s tx user.now act) }
+        ensures fits { IfOk result (λ e. IsFitEntry (log self.now.core.history) e) }
+    {
+        Ok(Entry {
+            session: s,
+            seq: self.queries(s) + 1,
+            tx,
+            user: user.copy(self.alloc)?,
+            act,
+        })
+    }
+
+    /// The administrator's end of an orphan, for the user who began it.
+    pub fn abort_entry(&self, tx: u64) -> Result<Entry, NoMemory>
+        requires { moves.is_orphan self.now.core tx ≡ true }
+        ensures is { IfOk result (λ e. e ≡ moves.abort_entry self.now.core tx) }
+        ensures fits { IfOk result (λ e. IsFitEntry (log self.now.core.history) e) }
+    {
+        match self.book.entry(tx) {
+            Some(begin) => Ok(Entry {
+                session: 0,
+                seq: 0,
+                tx,
+                user: begin.user.copy(self.alloc)?,
+                act: Act::Abort,
+            }),
+            None => unreachable!(),
+        }
+    }
+
+    /// Whether another read of the session is open.
+    pub fn reads_other(&self, s: u64, select: &Select) -> bool
+        ensures { MatchBool result (HasOtherRead (session_at self.now.core s) select.now) (HasNoOtherRead (session_at self.now.core s) select.now) }
+    {
+        match self.sessions.get(s) {
+            Some(session) => is_other(session, select),
+            None => false,
+        }
+    }
+
+    /// The number of the session's read.
+    pub fn read_number(&self, s: u64) -> u64
+        requires { (session_at self.now.core s).queries < REQUEST_LIMIT }
+        ensures { result ≡ moves.read_number (session_at self.now.core s) }
+    {
+        match self.sessions.get(s) {
+            Some(session) => read_number(session),
+            None => 1,
+        }
+    }
+
+    /// The mask of the backends that failed in the session's read.
+    pub fn tried(&self, s: u64) -> u32
+        ensures { result ≡ moves.tried_of (session_at self.now.core s).reading }
+    {
+        match self.sessions.get(s) {
+            Some(session) => tried_of(&session.reading),
+            None => 0,
+        }
+    }
+
+    /// That mask with one more backend.
+    pub fn tried_with(&self, s: u64, b: u8) -> u32
+        requires { b < self.now.core.placement.backends }
+        ensures { result ≡ moves.tried_with self.now.core s b }
+    {
+        let _ = &self.book;
+        with_bit(self.tried(s), b)
+    }
+
+    /// The mask of the backends that serve the query.
+    pub fn serving(&self, select: &Select) -> u32
+        ensures mask { IsServingMask self.now.core select.now result }
+        ensures below { result < 2 ^ BACKEND_LIMIT }
+    {
+        self.book.candidates(select.tables.as_slice())
+    }
+
+    /// The position of the first enabled backend that is neither at the log's end nor out.
+    pub fn behind(&self) -> Option<u64>
+        ensures { result ≡ moves.first_lagging self.now.core.history 0 self.now.core.positions }
+    {
+        let end = self.book.length();
+        for (b, cell) in self.cells.iter().enumerate() {
+            if let Some(position) = cell.position() {
+                if self.book.is_enabled(b as u8) && position < end {
+                    return Some(position);
+                }
+            }
+        }
+        None
+    }
+
+    /// Whether no session more can be opened.
+    pub fn has_no_number(&self) -> bool
+        ensures { result ≡ moves.has_no_number self.now.core }
+    {
+        self.sessions.len() >= SESSION_LIMIT || self.book.greatest() >= SESSION_NUMBER_LIMIT
+    }
+
+    /// How many sessions are open.
+    pub fn session_count(&self) -> u64
+        ensures { result ≡ length self.now.core.sessions }
+    {
+        self.sessions.len() as u64
+    }
+
+    pub fn sessions_full(&self) -> Refusal
+        ensures { result ≡ moves.sessions_full self.now.core }
+    {
+        Refusal {
+            code: SESSIONS_FULL,
+            a: self.session_count(),
+            b: 0,
+        }
+    }
+
+    pub fn history_full(&self) -> Refusal
+        ensures { result ≡ moves.history_full self.now.core }
+    {
+        Refusal {
+            code: HISTORY_FULL,
+            a: self.book.events(),
+            b: 0,
+        }
+    }
+
+    /// What the open entry is answered, where no backend is behind.
+    pub fn reply(&self) -> Reply
+        requires open { is_idle self.now.core.history ≡ false }
+        requires behind { moves.first_lagging self.now.core.history 0 self.now.core.positions ≡ None }
+        ensures { AnswersOpen B.TELLS self.now.core result }
+    {
+        let targets = self.book.targets();
+        let left = self.book.left(self.failed, self.starved);
+        if targets != 0 && targets & left == 0 {
+            return Reply::Refused(unfinished(self.failed, self.starved));
+        }
+        match self.first_outcome {
+            Some(Outcome::Done(count)) => Reply::Done(count),
+            Some(Outcome::Refused(refusal)) => Reply::Refused(refusal),
+            // No backend had a part in it: it begins or ends a transaction.
+            None => Reply::Done(0),
+        }
+    }
+}
+
+// ---- what moves change
+
+impl<B: Backend> State<B> {
+    /// Opens a session of the next number. It takes no memory.
+    pub fn add_session(&mut self, user: Text) -> u64
+        requires number { moves.has_no_number self.old.core ≡ false }
+        requires user { length user ≤ USER_LIMIT }
+        ensures number { result ≡ self.old.core.greatest + 1 }
+        ensures opened { self.new ≡ with_core self.old (opened_for self.old.core user) }
+    {
+        let number = self.book.greatest() + 1;
+        self.sessions.open(number, user);
+        match self.book.open_session() {
+            Ok(_) => number,
+            Err(_) => unreachable!(),
+        }
+    }
+
+    /// Closes a session whose own entry is not open.
+    pub fn remove_session(&mut self, s: u64)
+        requires { moves.is_waiting self.old.core s ≡ false }
+        ensures { self.new ≡ with_core self.old (closed_for self.old.core s) }
+    {
+        self.sessions.close(s);
+        self.book.close_session(s);
+    }
+
+    /// The session has made one request more.
+    pub fn count(&mut self, s: u64)
+        requires counts { (session_at self.old.core s).queries < REQUEST_LIMIT }
+        requires idle { moves.is_waiting self.old.core s ≡ false }
+        requires no_read { (session_at self.old.core s).reading ≡ None }
+        ensures { self.new ≡ with_core self.old (with_request_counted self.old.core s) }
+    {
+        self.sessions.count(s);
+    }
+
+    /// Picks the backend of a read among the candidates; none exactly where there are none. The read is over before
+    /// another is picked, so it is pending at none of the picks.
+    pub fn pick(&mut self, candidates: u32) -> Option<u8>
+        requires { candidates < 2 ^ BACKEND_LIMIT }
+        ensures none { IsNone result ↔ (candidates ≡ 0) }
+        ensures some { IfSome result (λ b. in_mask candidates b ≡ true) }
+        ensures same { self.new ≡ self.old }
+    {
+        let b = self.book.pick(candidates)?;
+        self.book.ended(b);
+        Some(b)
+    }
+
+    /// The session's read was refused.
+    pub fn refuse_read(&mut self, s: u64)
+        requires counts { (session_at self.old.core s).queries < REQUEST_LIMIT }
+        requires idle { moves.is_waiting self.old.core s ≡ false }
+        ensures { self.new ≡ with_core self.old (with_read self.old.core s was_answered) }
+    {
+        self.sessions.refuse_read(s);
+    }
+
+    /// The session's read was answered at a position.
+    pub fn answer_read(&mut self, s: u64, position: u64)
+        requires counts { (session_at self.old.core s).queries < REQUEST_LIMIT }
+        requires within { position ≤ moves.last_number self.old.core }
+        requires idle { moves.is_waiting self.old.core s ≡ false }
+        ensures { self.new ≡ with_core self.old (with_read self.old.core s (λ x. answered_at position (was_answered x))) }
+    {
+        self.sessions.answer_read(s, position);
+    }
+
+    /// The session's read stays open, and the backends of the mask have failed in it.
+    pub fn keep_reading(&mut self, s: u64, select: Select, tried: u32)
+        requires counts { (session_at self.old.core s).queries < REQUEST_LIMIT }
+        requires idle { moves.is_waiting self.old.core s ≡ false }
+        requires since { HaveFailed self.old.core s tried }
+        ensures { self.new ≡ with_core self.old (with_read self.old.core s (still_reading select tried)) }
+    {
+        self.sessions.keep_reading(s, select, tried);
+    }
+
+    /// Schedules an entry of the session.
+    pub fn schedule_entry(&mut self, s: u64, entry: Entry) -> Result<u64, BookError>
+        requires here { moves.is_open self.old.core s ≡ true }
+        requires counts { (session_at self.old.core s).queries < REQUEST_LIMIT }
+        requires no_read { (session_at self.old.core s).reading ≡ None }
+        requires session { entry.session ≡ s }
+        requires number { entry.seq ≡ (session_at self.old.core s).queries + 1 }
+        requires fits { IsFitEntry (log self.old.core.history) entry }
+        ensures scheduled { SchedulesAs self.old.core entry result }
+        ensures ok { OnOk result (self.new ≡ with_core self.old (scheduled_as self.old.core s entry)) }
+        ensures err { OnErr result (self.new ≡ self.old) }
+    {
+        match self.book.schedule(entry) {
+            Ok(number) => {
+                self.sessions.count(s);
+                self.failed = 0;
+                self.starved = 0;
+                self.first_outcome = None;
+                Ok(number)
+            }
+            Err(error) => Err(error),
+        }
+    }
+
+    /// Schedules the administrator's end of an orphan.
+    pub fn schedule_abort(&mut self, entry: Entry) -> Result<u64, BookError>
+        requires orphan { moves.is_orphan self.old.core entry.tx ≡ true }
+        requires is { entry ≡ moves.abort_entry self.old.core entry.tx }
+        requires fits { IsFitEntry (log self.old.core.history) entry }
+        ensures scheduled { SchedulesAs self.old.core entry result }
+        ensures ok { OnOk result (self.new ≡ with_core self.old (moves.with_entry self.old.core entry)) }
+        ensures err { OnErr result (self.new ≡ self.old) }
+    {
+        match self.book.schedule(entry) {
+            Ok(number) => {
+                self.failed = 0;
+                self.starved = 0;
+                self.first_outcome = None;
+                Ok(number)
+            }
+            Err(error) => Err(error),
+        }
+    }
+
+    /// The session of the open entry.
+    pub fn waiting(&self) -> u64
+        requires { is_idle self.now.core.history ≡ false }
+        ensures { (e : Entry) × (histories.entry_in_progress self.now.core.history ≡ Some e) × (result ≡ e.session) }
+    {
+        match self.book.opened() {
+            Some(entry) => entry.session,
+            None => unreachable!(),
+        }
+    }
+
+    /// Ends the open entry, which is of this session.
+    pub fn end_entry(&mut self, s: u64)
+        requires open { is_idle self.old.core.history ≡ false }
+        requires waits { moves.is_waiting self.old.core s ≡ true }
+        requires behind { moves.first_lagging self.old.core.history 0 self.old.core.positions ≡ None }
+        ensures { self.new ≡ with_core self.old (ended_for self.old.core s) }
+    {
+        let number = self.book.length();
+        self.sessions.answer(s, number);
+        self.book.end(self.failed, self.starved);
+        self.failed = 0;
+        self.starved = 0;
+        self.first_outcome = None;
+    }
+
+    /// The backend takes the open entry.
+    pub fn take_open(&mut self, b: u8) -> Did
+        requires within { b < self.old.core.placement.backends }
+        requires now { not_now self.old.core (Move.Apply b) ≡ None }
+        ensures applies { Applies B.TELLS self.old.core b (Ok (Moved.Applied b result)) self.new.core }
+        ensures counts { faults_of self.new.cells ≡ faults_after (faults_of self.old.cells) (if did_fail result then Some b else None) }
+        ensures armings { armings_of self.new.cells ≡ armings_of self.old.cells }
+        ensures logins { LogsInToTake b (login_to_take self.old b) result (logins_of self.old.cells) (logins_of self.new.cells) }
+        ensures setup { self.new.setup ≡ self.old.setup }
+    {
+        let did = take(&self.book, &mut self.cells, &self.accounts, b);
+        self.failed = failed_after(self.failed, b, did);
+        self.starved = starved_after(self.starved, b, did);
+        self.first_outcome = first_outcome_after(self.first_outcome, did);
+        did
+    }
+
+    /// A backend that isn't enabled takes the log's next entry.
+    pub fn take_next(&mut self, b: u8) -> Did
+        requires within { b < self.old.core.placement.backends }
+        requires now { not_now self.old.core (Move.Replay b) ≡ None }
+        ensures replays { Replays B.TELLS self.old.core b (Ok (Moved.Replayed (moves.position_or_zero (position_at self.old.core b) + 1) result)) self.new.core }
+        ensures counts { faults_of self.new.cells ≡ faults_after (faults_of self.old.cells) (if did_fail result then Some b else None) }
+        ensures armings { armings_of self.new.cells ≡ armings_of self.old.cells }
+        ensures logins { LogsInToTake b (login_to_take self.old b) result (logins_of self.old.cells) (logins_of self.new.cells) }
+        ensures setup { self.new.setup ≡ self.old.setup }
+    {
+        take(&self.book, &mut self.cells, &self.accounts, b)
+    }
+
+    /// Asks the backend for a session in transaction `tx`, 0 for none, and notes in the history where
+    /// it failed. It asks for this user, or for the session's own. The memory to note a failure is
+    /// taken first, so that want of memory hides none.
+    pub fn ask(
+        &mut self,
+        s: u64,
+        b: u8,
+        user: Option<&Text>,
+        tx: u64,
+        select: &Select,
+    ) -> Result<(Asked, u64), AskError>
+        requires within { b < self.old.core.placement.backends }
+        requires here { moves.is_open self.old.core s ≡ true }
+        requires serves { CanServe self.old.core.placement self.old.core.history (request.Select select.now) b }
+        requires written { IsWritten (request.Select select.now) }
+        requires counts { (session_at self.old.core s).queries < REQUEST_LIMIT }
+        ensures core { self.new.core ≡ asked_core self.old.core s b result }
+        ensures asks { Asks B.TELLS self.old.core s b tx select.now result }
+        ensures counts { faults_of self.new.cells ≡ faults_after (faults_of self.old.cells) (failed_asked b result) }
+        ensures armings { armings_of self.new.cells ≡ armings_of self.old.cells }
+        ensures logins { LogsInToAsk b (login_of (accounts_of self.old) (asked_for self.old.core.sessions s (option_copied user.entry)) b) result (logins_of self.old.cells) (logins_of self.new.cells) }
+        ensures want { IsErrOf result AskError.NoMemory → self.new ≡ self.old }
+        ensures setup { self.new.setup ≡ self.old.setup }
+    {
+        let least = self.least(s);
+        let number = self.read_number(s);
+        self.book.take_spare()?;
+        let login = self
+            .accounts
+            .mapped(asking_user(&self.sessions, s, user), b);
+        match self.cells[b as usize].read(login, tx, select, least) {
+            Ok(answered) => Ok(answered),
+            Err(error) => Err(noted(&mut self.book, s, number, b, error)),
+        }
+    }
+
+    /// What the backend holds, drafts included, as it says where it is asked. Nothing is changed by it but
+    /// its faults and its arming.
+    pub fn contents(&mut self, b: u8) -> Result<Db, CellError>
+        requires { b < self.old.core.placement.backends }
+        ensures held { IfOk result (IsHeld B.TELLS self.old.core b) }
+        ensures same { failed_contents b result ≡ None → self.new ≡ self.old }
+        ensures core { self.new.core ≡ self.old.core }
+        ensures faults { faults_of self.new.cells ≡ faults_after (faults_of self.old.cells) (failed_contents b result) }
+        ensures armings { armings_of self.new.cells ≡ armings_of self.old.cells }
+        ensures logins { logins_of self.new.cells ≡ logins_of self.old.cells }
+        ensures setup { self.new.setup ≡ self.old.setup }
+    {
+        self.cells[b as usize].contents()
+    }
+
+    /// Arms the backend, if it can be.
+    pub fn arm_backend(&mut self, b: u8)
+        requires { b < self.old.core.placement.backends }
+        ensures core { self.new.core ≡ self.old.core }
+        ensures cells { (d : CellState) → self.new.cells ≡ armed_at B.can_be_armed self.old.cells b d }
+        ensures faults { faults_of self.new.cells ≡ faults_of self.old.cells }
+        ensures armings { armings_of self.new.cells ≡ armings_after (armings_of self.old.cells) (if B.can_be_armed then Some b else None) }
+        ensures logins { logins_of self.new.cells ≡ logins_of self.old.cells }
+        ensures setup { self.new.setup ≡ self.old.setup }
+    {
+        self.cells[b as usize].arm();
+    }
+
+    pub fn switch_off(&mut self, b: u8) -> Result<(), BookError>
+        requires free { is_idle self.old.core.history ≡ true }
+        requires on { histories.is_enabled self.old.core.history b ≡ true }
+        ensures room { HadRoom self.old.core result }
+        ensures ok { OnOk result (self.new ≡ with_core self.old (happened self.old.core (Event.Disabled b))) }
+        ensures err { OnErr result (self.new ≡ self.old) }
+    {
+        self.book.disable(b)
+    }
+
+    pub fn switch_on(&mut self, b: u8) -> Result<(), BookError>
+        requires free { is_idle self.old.core.history ≡ true }
+        requires off { histories.is_enabled self.old.core.history b ≡ false }
+        requires there { position_at self.old.core b ≡ Some (moves.last_number self.old.core) }
+        ensures room { HadRoom self.old.core result }
+        ensures ok { OnOk result (self.new ≡ with_core self.old (happened self.old.core (Event.Enabled b))) }
+        ensures err { OnErr result (self.new ≡ self.old) }
+    {
+        self.book.enable(b)
+    }
+}
