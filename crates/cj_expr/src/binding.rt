@@ -2,6 +2,7 @@
 
 ghost use Rattle.std.specs.Prelude.{◌≡◌, IfOk};
 ghost use Rattle.cj_model.specs.Proving.ConditionNodes as conditions;
+ghost use Rattle.cj_model.specs.Database.Conditions as tree;
 ghost use Rattle.cj_model.specs.Database.Scopes as scopes;
 ghost use Rattle.cj_expr.specs.Shapes as shapes;
 ghost use Rattle.cj_expr.specs.Results.{GivesPredicate, GivesFormula, bound_condition, bound_expr};
@@ -11,7 +12,7 @@ use crate::operand::Operand;
 use crate::predicate::{Predicate, PredicateNode};
 use crate::scope::Scope;
 use cj_model::{
-    Cond, CondNode, Duplicate, Expr, NO_COLUMN, NoMemory, Refusal, Term, Value, WRONG_TYPE,
+    Cmp, Cond, CondNode, Duplicate, Expr, NO_COLUMN, NoMemory, Refusal, Term, Value, WRONG_TYPE,
 };
 use std::alloc::Global;
 use thiserror::Error;
@@ -71,28 +72,45 @@ pub fn formula_of(alloc: Global, expr: &Expr, scope: &Scope) -> Result<Formula, 
     }
 }
 
-fn node_of(alloc: Global, cond: &CondNode, scope: &Scope) -> Result<PredicateNode, NoMemory>
-    ensures { IfOk result (λ node. shapes.predicate_of_node node ≡ scopes.predicate_of scope.now (conditions.condition_of_node cond.now)) }
+fn boxed(alloc: Global, node: PredicateNode) -> Result<Box<PredicateNode>, NoMemory>
+    ensures { IfOk result (λ boxed. boxed.value ≡ node) }
+{
+    Ok(Box::new(alloc, node)?)
+}
+
+fn compare_of(
+    alloc: Global,
+    cmp: Cmp,
+    left: &Term,
+    right: &Term,
+    scope: &Scope,
+) -> Result<Box<PredicateNode>, NoMemory>
+    ensures { IfOk result (λ node. shapes.predicate_of_node node.value ≡ scopes.predicate_of scope.now (tree.Test cmp left.now right.now)) }
+{
+    let left = operand_of(alloc, left, scope)?;
+    let right = operand_of(alloc, right, scope)?;
+    boxed(alloc, PredicateNode::Compare(cmp, left, right))
+}
+
+/// The node in its box, so that a level of the recursion takes little of the stack.
+fn node_of(alloc: Global, cond: &CondNode, scope: &Scope) -> Result<Box<PredicateNode>, NoMemory>
+    ensures { IfOk result (λ node. shapes.predicate_of_node node.value ≡ scopes.predicate_of scope.now (conditions.condition_of_node cond.now)) }
 {
     match cond {
-        CondNode::Test(cmp, left, right) => Ok(PredicateNode::Compare(
-            *cmp,
-            operand_of(alloc, left, scope)?,
-            operand_of(alloc, right, scope)?,
-        )),
+        CondNode::Test(cmp, left, right) => compare_of(alloc, *cmp, left, right, scope),
         CondNode::Not(inner) => {
             let inner = node_of(alloc, inner, scope)?;
-            Ok(PredicateNode::Not(Box::new(alloc, inner)?))
+            boxed(alloc, PredicateNode::Not(inner))
         }
         CondNode::And(left, right) => {
-            let left = Box::new(alloc, node_of(alloc, left, scope)?)?;
-            let right = Box::new(alloc, node_of(alloc, right, scope)?)?;
-            Ok(PredicateNode::And(left, right))
+            let left = node_of(alloc, left, scope)?;
+            let right = node_of(alloc, right, scope)?;
+            boxed(alloc, PredicateNode::And(left, right))
         }
         CondNode::Or(left, right) => {
-            let left = Box::new(alloc, node_of(alloc, left, scope)?)?;
-            let right = Box::new(alloc, node_of(alloc, right, scope)?)?;
-            Ok(PredicateNode::Or(left, right))
+            let left = node_of(alloc, left, scope)?;
+            let right = node_of(alloc, right, scope)?;
+            boxed(alloc, PredicateNode::Or(left, right))
         }
     }
 }
@@ -101,7 +119,8 @@ fn node_of(alloc: Global, cond: &CondNode, scope: &Scope) -> Result<PredicateNod
 pub fn predicate_of(alloc: Global, cond: &Cond, scope: &Scope) -> Result<Predicate, NoMemory>
     ensures { IfOk result (λ predicate. predicate ≡ scopes.predicate_of scope.now cond.now) }
 {
-    Ok(Predicate::of(node_of(alloc, cond.root(), scope)?))
+    let root = node_of(alloc, cond.root(), scope)?;
+    Ok(Predicate::of(Box::into_inner(root)))
 }
 
 /// The condition with its columns by place. Refused with 23 where a column is not there, else with

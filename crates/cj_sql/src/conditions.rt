@@ -1,5 +1,6 @@
 //! Conditions. A condition has at most `TEST_LIMIT` comparisons, and none of its places lies in more
-//! than `DEPTH_LIMIT` NOTs and parentheses, so neither reading nor dropping one goes deep.
+//! than `DEPTH_LIMIT` NOTs and parentheses, so neither reading nor dropping one goes deep. What reads
+//! a part of one hands it on in its box, so that a level of the recursion takes little of the stack.
 
 ghost use Rattle.std.specs.Prelude.{◌≡◌, IfOk};
 ghost use Rattle.cj_model.specs.Proving.ConditionNodes.{condition_of_node};
@@ -14,10 +15,10 @@ use cj_lex::SqlError;
 use cj_model::{Cmp, Cond, CondNode, DEPTH_LIMIT, Keyword, Symbol, TEST_LIMIT};
 use std::alloc::{AllocError, Global};
 
-fn not(alloc: Global, inner: CondNode) -> Result<CondNode, AllocError>
-    ensures { IfOk result (λ node. condition_of_node node ≡ tree.Not (condition_of_node inner)) }
+fn not(alloc: Global, inner: Box<CondNode>) -> Result<Box<CondNode>, AllocError>
+    ensures { IfOk result (λ node. condition_of_node node.value ≡ tree.Not (condition_of_node inner.value)) }
 {
-    Ok(CondNode::Not(Box::new(alloc, inner)?))
+    Ok(Box::new(alloc, CondNode::Not(inner))?)
 }
 
 /// What joins conditions.
@@ -38,15 +39,19 @@ impl Connective {
     }
 
     /// The condition that it makes of two.
-    fn connect(self, alloc: Global, left: CondNode, right: CondNode) -> Result<CondNode, AllocError>
-        ensures { IfOk result (λ node. condition_of_node node ≡ spec.compound self (condition_of_node left) (condition_of_node right)) }
+    fn connect(
+        self,
+        alloc: Global,
+        left: Box<CondNode>,
+        right: Box<CondNode>,
+    ) -> Result<Box<CondNode>, AllocError>
+        ensures { IfOk result (λ node. condition_of_node node.value ≡ spec.compound self (condition_of_node left.value) (condition_of_node right.value)) }
     {
-        let left = Box::new(alloc, left)?;
-        let right = Box::new(alloc, right)?;
-        match self {
-            Connective::And => Ok(CondNode::And(left, right)),
-            Connective::Or => Ok(CondNode::Or(left, right)),
-        }
+        let node = match self {
+            Connective::And => CondNode::And(left, right),
+            Connective::Or => CondNode::Or(left, right),
+        };
+        Ok(Box::new(alloc, node)?)
     }
 }
 
@@ -77,7 +82,7 @@ fn comparison(tokens: &mut Tokens) -> Result<Cmp, SqlError>
 
 /// Two terms with a comparison between them, which is one of those that may still come.
 #[tactic(auto, unfolding(crate::specs::Proving::ConditionReader::compared))]
-fn test(tokens: &mut Tokens, tests: &mut usize) -> Result<CondNode, SqlError>
+fn test(alloc: Global, tokens: &mut Tokens, tests: &mut usize) -> Result<Box<CondNode>, SqlError>
     ensures { ReadsNode spec.compared (input_at tokens.old tests.old) result (input_at tokens.new tests.new) }
 {
     if *tests == 0 {
@@ -87,7 +92,7 @@ fn test(tokens: &mut Tokens, tests: &mut usize) -> Result<CondNode, SqlError>
     let cmp = comparison(tokens)?;
     let right = term(tokens)?;
     *tests -= 1;
-    Ok(CondNode::Test(cmp, left, right))
+    Ok(Box::new(alloc, CondNode::Test(cmp, left, right))?)
 }
 
 /// A comparison, or a condition behind NOT or in parentheses, within `depth` of those more.
@@ -98,11 +103,11 @@ fn prim(
     tokens: &mut Tokens,
     tests: &mut usize,
     depth: usize,
-) -> Result<CondNode, SqlError>
+) -> Result<Box<CondNode>, SqlError>
     ensures { ReadsNode (spec.prim depth) (input_at tokens.old tests.old) result (input_at tokens.new tests.new) }
 {
     if depth == 0 {
-        return test(tokens, tests);
+        return test(alloc, tokens, tests);
     }
     if tokens.eat_word(Keyword::Not) {
         let inner = prim(alloc, tokens, tests, depth - 1)?;
@@ -111,7 +116,7 @@ fn prim(
     if tokens.eat_symbol(Symbol::Open) {
         return parens(alloc, tokens, tests, depth - 1);
     }
-    test(tokens, tests)
+    test(alloc, tokens, tests)
 }
 
 /// What stands on each side of a connective: AND binds closer than OR.
@@ -122,7 +127,7 @@ fn side(
     tests: &mut usize,
     depth: usize,
     by: Connective,
-) -> Result<CondNode, SqlError>
+) -> Result<Box<CondNode>, SqlError>
     ensures { ReadsNode (spec.side (spec.prim depth) by) (input_at tokens.old tests.old) result (input_at tokens.new tests.new) }
 {
     match by {
@@ -141,7 +146,7 @@ fn connected(
     tests: &mut usize,
     depth: usize,
     by: Connective,
-) -> Result<CondNode, SqlError>
+) -> Result<Box<CondNode>, SqlError>
     ensures { ReadsNode (spec.connected by (spec.side (spec.prim depth) by)) (input_at tokens.old tests.old) result (input_at tokens.new tests.new) }
 {
     let mut left = side(alloc, tokens, tests, depth, by)?;
@@ -167,7 +172,7 @@ fn parens(
     tokens: &mut Tokens,
     tests: &mut usize,
     depth: usize,
-) -> Result<CondNode, SqlError>
+) -> Result<Box<CondNode>, SqlError>
     ensures { ReadsNode (spec.parens (spec.prim depth)) (input_at tokens.old tests.old) result (input_at tokens.new tests.new) }
 {
     let inner = connected(alloc, tokens, tests, depth, Connective::Or)?;
@@ -181,7 +186,7 @@ fn condition(alloc: Global, tokens: &mut Tokens) -> Result<Cond, SqlError>
 {
     let mut tests = TEST_LIMIT;
     let root = connected(alloc, tokens, &mut tests, DEPTH_LIMIT, Connective::Or)?;
-    Ok(Cond::of(root))
+    Ok(Cond::of(Box::into_inner(root)))
 }
 
 /// The condition of WHERE, if there is one.

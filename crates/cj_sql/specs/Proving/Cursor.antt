@@ -3,6 +3,7 @@ use Rattle.std.specs.Prelude.{◌≡◌, List, [], ◌∷◌, drop, Result, Ok, 
 use Rattle.std.specs.declared.option.Option.{Option}
 use Rattle.std.specs.declared.option.Option.TheVariants.{None, Some}
 use Rattle.std.specs.Borrow.{Bor}
+use Rattle.std.specs.Global.{Box}
 use Rattle.cj_model.specs.declared.token.Token.{Token}
 use Rattle.cj_model.specs.declared.condition.CondNode.{CondNode}
 use Rattle.cj_model.specs.Database.Conditions.{Condition}
@@ -27,8 +28,8 @@ ReadsAs reader old (Ok x) new = reader old ≡ read x new
 ReadsAs reader old (Err Syntax) new = reader old ≡ refused
 ReadsAs reader old (Err NoMemory) new = Unit {0}
 
--- So does one that reads a node of a condition's tree.
-abbrev pub ReadsNode : {S T : Type 0} → (S → ReadResult Condition T) → S → Result CondNode SqlError → T → Type 0
-ReadsNode reader old (Ok node) new = reader old ≡ read (condition_of_node node) new
+-- So does one that reads a node of a condition's tree, in its box.
+abbrev pub ReadsNode : {S T : Type 0} → (S → ReadResult Condition T) → S → Result (Box CondNode) SqlError → T → Type 0
+ReadsNode reader old (Ok node) new = reader old ≡ read (condition_of_node node.value) new
 ReadsNode reader old (Err Syntax) new = reader old ≡ refused
 ReadsNode reader old (Err NoMemory) new = Unit {0}

@@ -27,4 +27,4 @@ decreases-parens l = 6 * l.depth + 5
 abbrev pub invariant-connected-loop-turn : goal.invariant-connected-loop-turn
 invariant-connected-loop-turn l =
     spec.connected l.by (spec.side (spec.prim l.depth) l.by) (input_at l.fn.tokens l.fn.tests) ≡
-    spec.more_connected l.by (spec.side (spec.prim l.depth) l.by) (l.turns - l._turn) (condition_of_node l.left) (input_at l.tokens l.tests)
+    spec.more_connected l.by (spec.side (spec.prim l.depth) l.by) (l.turns - l._turn) (condition_of_node l.left.value) (input_at l.tokens l.tests)
