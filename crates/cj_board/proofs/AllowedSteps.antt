@@ -18,10 +18,10 @@ use Rattle.cj_board.specs.declared.view.SeatView.{SeatView}
 use Rattle.cj_board.specs.declared.view.Role.{Role}
 use Rattle.cj_board.specs.declared.view.Role.TheVariants.{Book, Cell, Pass}
 use Rattle.cj_board.specs.Counting.{event_count_of}
-use Rattle.cj_board.specs.Points.{AtEachSeat, position_word, fault_word, last_word, tokens_of, HasSeat, BeginsHistory, IsInLog, KnowsPosition, IsPositionNote, IsFaultNote, KnowsFaults, IsCountNote, CountsSessions, OwnPassesCount, IsKept, IsKeptBoard}
-use Rattle.cj_board.specs.Steps.{HasPositionNotes, HasFaultTokens, HasCountNotes, after_append, at_position, with_faults, after_look, after_count, after_split, one_fault_more, longer, after_join, after_learning, after_making_cell, after_opening, after_closing}
-use Rattle.cj_board.specs.Views.{IsBook, IsCell, IsPass, IsNotBook, role_position, cells_made, book_with_cells, empty_pass, position_note_of, fault_note_of, count_note_of, pass_of, pass_without_tokens, pass_without_notes, own_pass_of, next_cell_of}
-use Rattle.cj_board.specs.Proving.Told.{Appends, Advances, StoresPosition, LoadsPosition, StoresFaults, LoadsFaults, ComparesFronts, ChecksFaultNotes, CountsUp, ChecksCount}
+use Rattle.cj_board.specs.Points.{AtEachSeat, position_word, fault_word, max_word, fault_tokens_of, HasSeat, BeginsHistory, IsInLog, KnowsPosition, IsPositionNote, IsFaultNote, KnowsFaults, IsCountNote, CountsSessions, OwnPassesCount, IsKept, IsKeptBoard}
+use Rattle.cj_board.specs.Steps.{HasPositionNotes, HasFaultTokens, HasCountNotes, after_append, at_position, with_faults, after_looking, after_count, after_split, one_fault_more, longer_of, after_join, after_learning, after_making_cell, after_opening, after_closing}
+use Rattle.cj_board.specs.Views.{IsBook, IsCellOf, IsPass, IsNotBook, role_position, cells_made, book_with_cells, empty_pass, position_note_of, fault_note_of, count_note_of, pass_of, pass_without_tokens, pass_without_notes, own_pass_of, next_cell_of}
+use Rattle.cj_board.specs.Proving.Told.{ToldAppend, ToldAdvance, ToldStoredPosition, ToldPosition, ToldStoredFaults, ToldFaults, ToldFronts, ToldFaultNotes, ToldCountUp, ToldCount}
 use Rattle.cj_board.proofs.Counts.{counts_of_prefix}
 use Rattle.cj_board.proofs.FaultPoint.{tokens-append}
 use Rattle.cj_board.proofs.Histories.{log_bound, log_of_prefix, longer_begins}
@@ -35,7 +35,7 @@ M = Me Event SeatView
 pub pass_not_book : (r : Role) → IsPass r → IsNotBook r
 pass_not_book r e m f = cc
 
-pub cell_not_book : (b : ℕ) (r : Role) → IsCell b r → IsNotBook r
+pub cell_not_book : (b : ℕ) (r : Role) → IsCellOf b r → IsNotBook r
 cell_not_book b r e m f = cc
 
 -- the fit of a view in the state
@@ -56,7 +56,7 @@ loads n s k id i c v w at f same counts = record {
   who = k.who;
   history = k.history;
   kept = subst (λ (z : List ℕ). IsKept n k.made k.who k.history z (set s.views id w)) (sym (set-get_or s.words i 0))
-      (stands_set n k.made k.who k.history s.words s.views id v w k.kept at f (λ b. let t : tokens_of b w.fault_tokens ≡ tokens_of b v.fault_tokens = ap (tokens_of b) same in omega arith) counts);
+      (stands_set n k.made k.who k.history s.words s.views id v w k.kept at f (λ b. let t : fault_tokens_of b w.fault_tokens ≡ fault_tokens_of b v.fault_tokens = ap (fault_tokens_of b) same in omega arith) counts);
 }
 
 -- ---- the first state
@@ -110,7 +110,7 @@ opens n = let ws : List ℕ = replicate (2 * n + 1) 0 in record {
 -- ---- the book appends
 
 pub append_allowed : (n slots id d : ℕ) (me : M) (e : Event) → IsBook me.0.role → d ≡ length me.0.front → IsLegal (me.0.front ++ e ∷ []) → HasPositionNotes me.0.front me.0.position_notes e → HasFaultTokens me.0.fault_tokens e
-    → HasCountNotes me.0.given me.0.front me.0.count_notes e → Allows (IsKeptBoard n) slots id me 0 (λ x. either (eqb x d) (d + 1) x) (Appends (step slots 0 d (d + 1) (some e)) me)
+    → HasCountNotes me.0.given me.0.front me.0.count_notes e → Allows (IsKeptBoard n) slots id me 0 (λ x. either (eqb x d) (d + 1) x) (ToldAppend (step slots 0 d (d + 1) (some e)) me)
 append_allowed n slots id d me e book len legal notes tokens counts s k _ at _ =
     let f = fit_at n s k id me.0 at in
     let seat : HasSeat n k.made k.who k.history id (Book (cells_made me.0.role)) me.0.front = subst (λ (r : Role). HasSeat n k.made k.who k.history id r me.0.front) book f.seat in
@@ -134,8 +134,8 @@ append_allowed n slots id d me e book len legal notes tokens counts s k _ at _ =
 
 -- ---- a cell's position
 
-advances : (n slots id b : ℕ) (me : M) → IsCell b me.0.role → role_position me.0.role < length (log me.0.front)
-    → Allows (IsKeptBoard n) slots id me (2 * b + 1) (λ x. (x + 1) % 2 ^ 64) (Advances (step slots (2 * b + 1) 1 0 none) me)
+advances : (n slots id b : ℕ) (me : M) → IsCellOf b me.0.role → role_position me.0.role < length (log me.0.front)
+    → Allows (IsKeptBoard n) slots id me (2 * b + 1) (λ x. (x + 1) % 2 ^ 64) (ToldAdvance (step slots (2 * b + 1) 1 0 none) me)
 advances n slots id b me cell lt s k _ at _ =
     let f = fit_at n s k id me.0 at in
     let h = k.history in
@@ -160,20 +160,20 @@ advances n slots id b me cell lt s k _ at _ =
       (refl, sym x_is, small),
     )
 
-pub advance_allowed : (n slots id b i : ℕ) (me : M) → i ≡ 2 * b + 1 → IsCell b me.0.role → role_position me.0.role < length (log me.0.front)
-    → Allows (IsKeptBoard n) slots id me i (λ x. (x + 1) % 2 ^ 64) (Advances (step slots i 1 0 none) me)
-advance_allowed n slots id b i me e cell lt = subst (λ (z : ℕ). Allows (IsKeptBoard n) slots id me z (λ x. (x + 1) % 2 ^ 64) (Advances (step slots z 1 0 none) me)) (sym e) (advances n slots id b me cell lt)
+pub advance_allowed : (n slots id b i : ℕ) (me : M) → i ≡ 2 * b + 1 → IsCellOf b me.0.role → role_position me.0.role < length (log me.0.front)
+    → Allows (IsKeptBoard n) slots id me i (λ x. (x + 1) % 2 ^ 64) (ToldAdvance (step slots i 1 0 none) me)
+advance_allowed n slots id b i me e cell lt = subst (λ (z : ℕ). Allows (IsKeptBoard n) slots id me z (λ x. (x + 1) % 2 ^ 64) (ToldAdvance (step slots z 1 0 none) me)) (sym e) (advances n slots id b me cell lt)
 
 -- a position that is not at the end of the log becomes q
-places : (n slots id b q : ℕ) (me : M) → IsCell b me.0.role → IsInLog q me.0.front → (role_position me.0.role < length (log me.0.front)) ⊎ (role_position me.0.role ≡ last_word)
-    → Allows (IsKeptBoard n) slots id me (2 * b + 1) (λ _. q) (λ _. StoresPosition (step slots (2 * b + 1) q 0 none) me q)
+places : (n slots id b q : ℕ) (me : M) → IsCellOf b me.0.role → IsInLog q me.0.front → (role_position me.0.role < length (log me.0.front)) ⊎ (role_position me.0.role ≡ max_word)
+    → Allows (IsKeptBoard n) slots id me (2 * b + 1) (λ _. q) (λ _. ToldStoredPosition (step slots (2 * b + 1) q 0 none) me q)
 places n slots id b q me cell seen from s k _ at _ =
     let f = fit_at n s k id me.0 at in
     let h = k.history in
     let p : ℕ = role_position me.0.role in
     let top = log_bound h k.kept.begin.legal in
     let grows = log_of_prefix me.0.front h f.begins.0 in
-    let off : p ≢ length (log h) = λ e. ⊎_elim (λ (lt : p < length (log me.0.front)). omega arith) (λ (o : p ≡ last_word). omega arith) from in (
+    let off : p ≢ length (log h) = λ e. ⊎_elim (λ (lt : p < length (log me.0.front)). omega arith) (λ (o : p ≡ max_word). omega arith) from in (
       at_position q me.0,
       keeps,
       tt,
@@ -186,18 +186,18 @@ places n slots id b q me cell seen from s k _ at _ =
       refl,
     )
 
-pub place_allowed : (n slots id b i q : ℕ) (me : M) → i ≡ 2 * b + 1 → IsCell b me.0.role → IsInLog q me.0.front → (role_position me.0.role < length (log me.0.front)) ⊎ (role_position me.0.role ≡ last_word)
-    → Allows (IsKeptBoard n) slots id me i (λ _. q) (λ _. StoresPosition (step slots i q 0 none) me q)
-place_allowed n slots id b i q me e cell seen from = subst (λ (z : ℕ). Allows (IsKeptBoard n) slots id me z (λ _. q) (λ _. StoresPosition (step slots z q 0 none) me q)) (sym e) (places n slots id b q me cell seen from)
+pub place_allowed : (n slots id b i q : ℕ) (me : M) → i ≡ 2 * b + 1 → IsCellOf b me.0.role → IsInLog q me.0.front → (role_position me.0.role < length (log me.0.front)) ⊎ (role_position me.0.role ≡ max_word)
+    → Allows (IsKeptBoard n) slots id me i (λ _. q) (λ _. ToldStoredPosition (step slots i q 0 none) me q)
+place_allowed n slots id b i q me e cell seen from = subst (λ (z : ℕ). Allows (IsKeptBoard n) slots id me z (λ _. q) (λ _. ToldStoredPosition (step slots z q 0 none) me q)) (sym e) (places n slots id b q me cell seen from)
 
-looks : (n slots id b : ℕ) (me : M) → Allows (IsKeptBoard n) slots id me (2 * b + 1) (λ x. x) (LoadsPosition (step slots (2 * b + 1) 0 0 none) me)
+looks : (n slots id b : ℕ) (me : M) → Allows (IsKeptBoard n) slots id me (2 * b + 1) (λ x. x) (ToldPosition (step slots (2 * b + 1) 0 0 none) me)
 looks n slots id b me s k _ at _ =
     let f = fit_at n s k id me.0 at in
     let x : ℕ = get_or s.words (2 * b + 1) 0 in
     let top = log_bound k.history k.kept.begin.legal in
     let inside = k.kept.positions.in_log b in
-    let w : ℕ → SeatView = λ c. after_look c x me.0 in
-    let within : x ≢ last_word → x ≤ 4611686018427387904 = λ ne. let i = inside ne in omega arith in (
+    let w : ℕ → SeatView = λ c. after_looking c x me.0 in
+    let within : x ≢ max_word → x ≤ 4611686018427387904 = λ ne. let i = inside ne in omega arith in (
       w b,
       keeps,
       tt,
@@ -205,19 +205,19 @@ looks n slots id b me s k _ at _ =
       λ c e. (ap (λ (z : ℕ). let m : M = (w z, me.1) in m) (let same : b ≡ c = omega arith in same), within),
     )
 
-pub look_allowed : (n slots id b i : ℕ) (me : M) → i ≡ 2 * b + 1 → Allows (IsKeptBoard n) slots id me i (λ x. x) (LoadsPosition (step slots i 0 0 none) me)
-look_allowed n slots id b i me e = subst (λ (z : ℕ). Allows (IsKeptBoard n) slots id me z (λ x. x) (LoadsPosition (step slots z 0 0 none) me)) (sym e) (looks n slots id b me)
+pub look_allowed : (n slots id b i : ℕ) (me : M) → i ≡ 2 * b + 1 → Allows (IsKeptBoard n) slots id me i (λ x. x) (ToldPosition (step slots i 0 0 none) me)
+look_allowed n slots id b i me e = subst (λ (z : ℕ). Allows (IsKeptBoard n) slots id me z (λ x. x) (ToldPosition (step slots z 0 0 none) me)) (sym e) (looks n slots id b me)
 
 -- ---- a cell's faults
 
-pub store_faults_allowed : (n slots id b i f : ℕ) (me : M) → i ≡ 2 * b + 2 → IsCell b me.0.role → (me.0.faults < last_word → f ≡ me.0.faults + 1) → (last_word ≤ me.0.faults → f ≡ me.0.faults) → f ≤ last_word
-    → Allows (IsKeptBoard n) slots id me i (λ _. f) (λ _. StoresFaults (step slots i f 0 none) me f)
-store_faults_allowed n slots id b i f me e cell more full fit = subst (λ (z : ℕ). Allows (IsKeptBoard n) slots id me z (λ _. f) (λ _. StoresFaults (step slots z f 0 none) me f)) (sym e) (λ s k _ at _.
+pub store_faults_allowed : (n slots id b i f : ℕ) (me : M) → i ≡ 2 * b + 2 → IsCellOf b me.0.role → (me.0.faults < max_word → f ≡ me.0.faults + 1) → (max_word ≤ me.0.faults → f ≡ me.0.faults) → f ≤ max_word
+    → Allows (IsKeptBoard n) slots id me i (λ _. f) (λ _. ToldStoredFaults (step slots i f 0 none) me f)
+store_faults_allowed n slots id b i f me e cell more full fit = subst (λ (z : ℕ). Allows (IsKeptBoard n) slots id me z (λ _. f) (λ _. ToldStoredFaults (step slots z f 0 none) me f)) (sym e) (λ s k _ at _.
     let g = fit_at n s k id me.0 at in
     let h = k.history in
     let knows : KnowsFaults s.words (Cell b (role_position me.0.role)) me.0.faults = subst (λ (r : Role). KnowsFaults s.words r me.0.faults) cell g.fault in
-    let less : fault_word s.words b ≤ f = ⊎_elim (λ (lt : me.0.faults < last_word). let m = more lt in omega arith) (λ (le : last_word ≤ me.0.faults). let m = full le in omega arith) (lt_or_le me.0.faults last_word) in
-    let next : f ≢ last_word → f ≡ fault_word s.words b + 1 = λ ne. ⊎_elim (λ (lt : me.0.faults < last_word). let m = more lt in omega arith) (λ (le : last_word ≤ me.0.faults). let m = full le in absurd (omega arith)) (lt_or_le me.0.faults last_word) in (
+    let less : fault_word s.words b ≤ f = ⊎_elim (λ (lt : me.0.faults < max_word). let m = more lt in omega arith) (λ (le : max_word ≤ me.0.faults). let m = full le in omega arith) (lt_or_le me.0.faults max_word) in
+    let next : f ≢ max_word → f ≡ fault_word s.words b + 1 = λ ne. ⊎_elim (λ (lt : me.0.faults < max_word). let m = more lt in omega arith) (λ (le : max_word ≤ me.0.faults). let m = full le in absurd (omega arith)) (lt_or_le me.0.faults max_word) in (
       with_faults b f me.0,
       keeps,
       tt,
@@ -228,34 +228,34 @@ store_faults_allowed n slots id b i f me e cell more full fit = subst (λ (z : �
     lt_or_le : (x y : ℕ) → (x < y) ⊎ (y ≤ x)
     lt_or_le x y = dite (dec_le y x) (λ le. inr le) (λ no. inl (omega arith))
 
-pub load_faults_allowed : (n slots id b i : ℕ) (me : M) → i ≡ 2 * b + 2 → IsCell b me.0.role → Allows (IsKeptBoard n) slots id me i (λ x. x) (LoadsFaults (step slots i 0 0 none) me)
-load_faults_allowed n slots id b i me e cell = subst (λ (z : ℕ). Allows (IsKeptBoard n) slots id me z (λ x. x) (LoadsFaults (step slots z 0 0 none) me)) (sym e) (λ s k _ at _.
+pub load_faults_allowed : (n slots id b i : ℕ) (me : M) → i ≡ 2 * b + 2 → IsCellOf b me.0.role → Allows (IsKeptBoard n) slots id me i (λ x. x) (ToldFaults (step slots i 0 0 none) me)
+load_faults_allowed n slots id b i me e cell = subst (λ (z : ℕ). Allows (IsKeptBoard n) slots id me z (λ x. x) (ToldFaults (step slots z 0 0 none) me)) (sym e) (λ s k _ at _.
     let g = fit_at n s k id me.0 at in
     let knows : KnowsFaults s.words (Cell b (role_position me.0.role)) me.0.faults = subst (λ (r : Role). KnowsFaults s.words r me.0.faults) cell g.fault in
     (me.0, keeps, tt, loads n s k id (2 * b + 2) me.1 me.0 me.0 at g refl (same_all me.0), (refl, sym knows)))
 
-pub check_faults_allowed : (n slots id : ℕ) (me : M) → Allows (IsKeptBoard n) slots id me 0 (λ x. x) (ChecksFaultNotes (step slots 0 0 0 none) me)
+pub check_faults_allowed : (n slots id : ℕ) (me : M) → Allows (IsKeptBoard n) slots id me 0 (λ x. x) (ToldFaultNotes (step slots 0 0 0 none) me)
 check_faults_allowed n slots id me s k _ at _ =
     let g = fit_at n s k id me.0 at in
-    let noted : (b m : ℕ) → IsCell b me.0.role → Contains me.0.fault_notes (b, m) → m ≤ me.0.faults = λ b m cell c.
-        let knows : KnowsFaults s.words (Cell b (role_position me.0.role)) me.0.faults = subst (λ (r : Role). KnowsFaults s.words r me.0.faults) cell g.fault in
-        let note = All-contains (IsFaultNote s.words) me.0.fault_notes (b, m) g.faults c in omega arith in
+    let noted : (b m : ℕ) → IsCellOf b me.0.role → Contains me.0.fault_notes (b, m) → m ≤ me.0.faults = λ b m cell c.
+    let knows : KnowsFaults s.words (Cell b (role_position me.0.role)) me.0.faults = subst (λ (r : Role). KnowsFaults s.words r me.0.faults) cell g.fault in
+    let note = All-contains (IsFaultNote s.words) me.0.fault_notes (b, m) g.faults c in omega arith in
     (me.0, keeps, tt, loads n s k id 0 me.1 me.0 me.0 at g refl (same_all me.0), (refl, noted))
 
 -- one more, by a sum that stops at the last word
-pub sum_is : (n f : ℕ) → (n < last_word → f ≡ n + 1) → (last_word ≤ n → f ≡ n) → f ≡ one_fault_more n
-sum_is n f more full = by_test (leb last_word n) refl
+pub sum_is : (n f : ℕ) → (n < max_word → f ≡ n + 1) → (max_word ≤ n → f ≡ n) → f ≡ one_fault_more n
+sum_is n f more full = by_test (leb max_word n) refl
   where
-    by_test : (t : Bool) → leb last_word n ≡ t → f ≡ cond t n (n + 1)
-    by_test true e = full (leb-true last_word n e)
-    by_test false e = more (leb-false last_word n e)
+    by_test : (t : Bool) → leb max_word n ≡ t → f ≡ cond t n (n + 1)
+    by_test true e = full (leb-true max_word n e)
+    by_test false e = more (leb-false max_word n e)
 
 -- ---- loads that tell what the rule says of a view
 
-pub compare_allowed : (n slots id : ℕ) (me : M) → Allows (IsKeptBoard n) slots id me 0 (λ x. x) (ComparesFronts (step slots 0 0 0 none) me)
+pub compare_allowed : (n slots id : ℕ) (me : M) → Allows (IsKeptBoard n) slots id me 0 (λ x. x) (ToldFronts (step slots 0 0 0 none) me)
 compare_allowed n slots id me s k _ at _ = let f = fit_at n s k id me.0 at in (me.0, keeps, tt, loads n s k id 0 me.1 me.0 me.0 at f refl (same_all me.0), (refl, f.begins.1, f.begins.2))
 
-pub count_allowed : (n slots id : ℕ) (me : M) → 0 < me.0.own_session → Allows (IsKeptBoard n) slots id me 0 (λ x. x) (CountsUp (step slots 0 0 0 none) me)
+pub count_allowed : (n slots id : ℕ) (me : M) → 0 < me.0.own_session → Allows (IsKeptBoard n) slots id me 0 (λ x. x) (ToldCountUp (step slots 0 0 0 none) me)
 count_allowed n slots id me lt s k _ at _ = (
   after_count me.0,
   keeps,
@@ -269,16 +269,16 @@ count_allowed n slots id me lt s k _ at _ = (
   refl,
 )
 
-pub check_count_allowed : (n slots id : ℕ) (me : M) → Allows (IsKeptBoard n) slots id me 0 (λ x. x) (ChecksCount (step slots 0 0 0 none) me)
+pub check_count_allowed : (n slots id : ℕ) (me : M) → Allows (IsKeptBoard n) slots id me 0 (λ x. x) (ToldCount (step slots 0 0 0 none) me)
 check_count_allowed n slots id me s k _ at _ =
     let f = fit_at n s k id me.0 at in
     let counts = k.kept.counts in
     let mine = counts.seats id me.0 at in
     let within : 0 < me.0.own_session → event_count_of me.0.own_session me.0.front ≤ me.0.count = λ lt.
-        let o = mine.own lt in
-        let top = counts.counted me.0.own_session o.2 in
-        let less = counts_of_prefix me.0.own_session me.0.front k.history f.begins.0 in
-        let is = o.1 in omega arith in
+    let o = mine.own lt in
+    let top = counts.counted me.0.own_session o.2 in
+    let less = counts_of_prefix me.0.own_session me.0.front k.history f.begins.0 in
+    let is = o.1 in omega arith in
     (me.0, keeps, tt, loads n s k id 0 me.1 me.0 me.0 at f refl (same_all me.0), (refl, within))
 
 -- ---- views cut in two
@@ -290,7 +290,7 @@ keeping ts v = record v { fault_tokens = ts }
 -- a pass that has seen no more than the seat
 cuts_off : (n id : ℕ) (v w : SeatView) (ts : List ℕ) → w.role ≡ Pass → w.front ≡ v.front → w.front_before ≡ [] → w.front_joined ≡ []
     → ((s : State Event SeatView) (k : IsKeptBoard n s) → get_elem? s.views id ≡ some v → All (IsPositionNote k.history s.words) w.position_notes × All (IsFaultNote s.words) w.fault_notes)
-    → ((b : ℕ) → tokens_of b ts + tokens_of b w.fault_tokens ≤ tokens_of b v.fault_tokens) → w.own_session ≡ 0 → (w.count_notes ≡ v.count_notes ++ count_note_of v.own_session v.count) ⊎ (w.count_notes ≡ [])
+    → ((b : ℕ) → fault_tokens_of b ts + fault_tokens_of b w.fault_tokens ≤ fault_tokens_of b v.fault_tokens) → w.own_session ≡ 0 → (w.count_notes ≡ v.count_notes ++ count_note_of v.own_session v.count) ⊎ (w.count_notes ≡ [])
     → Splits (IsKeptBoard n) id v (keeping ts v) w
 cuts_off n id v w ts role front before joined noted less own counts s k at =
     let f = fit_at n s k id v at in
@@ -321,11 +321,11 @@ all_one P x p (suc k) d lt = absurd (omega arith)
 -- what a cell notes of its own position
 own_position : (n : ℕ) (s : State Event SeatView) (k : IsKeptBoard n s) (role : Role) (front : List Event) → KnowsPosition s.words role front → ((b : ℕ) → IsInLog (position_word s.words b) k.history) → All (IsPositionNote k.history s.words) (position_note_of role)
 own_position n s k (Book m) front knows within = All-nil (IsPositionNote k.history s.words)
-own_position n s k (Cell b p) front knows within = by_test (leb last_word p) refl
+own_position n s k (Cell b p) front knows within = by_test (leb max_word p) refl
   where
-    by_test : (t : Bool) → leb last_word p ≡ t → All (IsPositionNote k.history s.words) (cond t [] ((b, p) ∷ []))
+    by_test : (t : Bool) → leb max_word p ≡ t → All (IsPositionNote k.history s.words) (cond t [] ((b, p) ∷ []))
     by_test true e = All-nil (IsPositionNote k.history s.words)
-    by_test false e = let lt = leb-false last_word p e in let at = knows.0 in let le = within b (λ z. omega arith) in all_one (IsPositionNote k.history s.words) (b, p) (omega arith, λ _. sym at)
+    by_test false e = let lt = leb-false max_word p e in let at = knows.0 in let le = within b (λ z. omega arith) in all_one (IsPositionNote k.history s.words) (b, p) (omega arith, λ _. sym at)
 own_position n s k Pass front knows within = All-nil (IsPositionNote k.history s.words)
 
 -- and of its faults
@@ -396,7 +396,7 @@ takes n s k id other v w both at apart there f ts counts = record {
   history = k.history;
   kept = stands_join n k.made k.who k.history s.words s.views id other v w both empty_pass k.kept at apart there f
       record { seat = tt; begins = ((k.history, refl), ([], refl), ([], refl)); position = tt; positions = All-nil (IsPositionNote k.history s.words); faults = All-nil (IsFaultNote s.words); fault = tt }
-      (λ b. let t : tokens_of b both.fault_tokens ≡ tokens_of b (v.fault_tokens ++ w.fault_tokens) = ap (tokens_of b) ts in let a = tokens-append b v.fault_tokens w.fault_tokens in omega arith) counts;
+      (λ b. let t : fault_tokens_of b both.fault_tokens ≡ fault_tokens_of b (v.fault_tokens ++ w.fault_tokens) = ap (fault_tokens_of b) ts in let a = tokens-append b v.fault_tokens w.fault_tokens in omega arith) counts;
 }
 
 pub join_allowed : (n id other : ℕ) (v w : SeatView) → IsNotBook v.role → Joins (IsKeptBoard n) id v other w (after_join v w) empty_pass
@@ -406,14 +406,14 @@ join_allowed n id other v w not s k at apart there =
     let g = fit_at n s k other w was in
     let b = longer_begins v.front w.front k.history f.begins.0 g.begins.0 in
     takes n s k id other v w (after_join v w) at apart was
-        record {
-          seat = seat_more n k.made k.who k.history id v.role v.front (longer v.front w.front) not f.seat;
-          begins = b;
-          position = knows_more s.words v.role v.front (longer v.front w.front) (log_of_prefix v.front (longer v.front w.front) b.1) f.position;
-          positions = All-append (IsPositionNote k.history s.words) v.position_notes w.position_notes f.positions g.positions;
-          faults = All-append (IsFaultNote s.words) v.fault_notes w.fault_notes f.faults g.faults;
-          fault = f.fault;
-        } refl (counts_join k.history s.views id other v w (after_join v w) empty_pass k.kept.counts at was refl refl refl refl refl refl pass_is_none refl refl)
+    record {
+      seat = seat_more n k.made k.who k.history id v.role v.front (longer_of v.front w.front) not f.seat;
+      begins = b;
+      position = knows_more s.words v.role v.front (longer_of v.front w.front) (log_of_prefix v.front (longer_of v.front w.front) b.1) f.position;
+      positions = All-append (IsPositionNote k.history s.words) v.position_notes w.position_notes f.positions g.positions;
+      faults = All-append (IsFaultNote s.words) v.fault_notes w.fault_notes f.faults g.faults;
+      fault = f.fault;
+    } refl (counts_join k.history s.views id other v w (after_join v w) empty_pass k.kept.counts at was refl refl refl refl refl refl pass_is_none refl refl)
 
 -- the book takes in a view, and has the whole history already
 book_fits : (n : ℕ) (s : State Event SeatView) (k : IsKeptBoard n s) (id other : ℕ) (v w : SeatView) → IsBook v.role → Fit n s k id v → Fit n s k other w → Fit n s k id (after_learning v w)
@@ -434,7 +434,7 @@ join_to_book_allowed n id other v w book s k at apart there =
     let was = sym (set_else s.views id other (after_learning v w) apart) ∙ there in
     let g = fit_at n s k other w was in
     takes n s k id other v w (after_learning v w) at apart was (book_fits n s k id other v w book f g) refl
-        (counts_join k.history s.views id other v w (after_learning v w) empty_pass k.kept.counts at was refl refl refl refl refl refl pass_is_none refl refl)
+    (counts_join k.history s.views id other v w (after_learning v w) empty_pass k.kept.counts at was refl refl refl refl refl refl pass_is_none refl refl)
 
 pub close_allowed : (n id other : ℕ) (v w : SeatView) → IsBook v.role → v.own_session ≡ 0 → 0 < w.own_session → Joins (IsKeptBoard n) id v other w (after_closing v w) empty_pass
 close_allowed n id other v w book own is_own s k at apart there =
@@ -444,4 +444,4 @@ close_allowed n id other v w book own is_own s k at apart there =
     let l = book_fits n s k id other v w book f g in
     let seat : HasSeat n k.made k.who k.history id (Book (cells_made v.role)) v.front = subst (λ (r : Role). HasSeat n k.made k.who k.history id r v.front) book f.seat in
     takes n s k id other v w (after_closing v w) at apart was record { seat = l.seat; begins = l.begins; position = l.position; positions = l.positions; faults = l.faults; fault = l.fault } refl
-        (counts_close n k.made k.who k.history s.words s.views id other v w (after_closing v w) empty_pass k.kept.known seat.0 k.kept.counts at was apart book is_own refl own refl refl refl pass_is_none refl refl)
+    (counts_close n k.made k.who k.history s.words s.views id other v w (after_closing v w) empty_pass k.kept.known seat.0 k.kept.counts at was apart book is_own refl own refl refl refl pass_is_none refl refl)

@@ -12,7 +12,7 @@ use Rattle.cj_cluster.specs.History.Turns.{entry_count_of}
 use Rattle.cj_cluster.specs.Moves.Cores.{is_entry_of}
 use Rattle.cj_cluster.specs.Moves.Moves.{entry_numbered}
 use Rattle.cj_cluster.proofs.Pushed.{log-prefix, prefix_get}
-use Rattle.cj_board.specs.Counting.{ends_transaction_of, session_of_log_failure, log_failures, event_count_of, sessions_in, greatest, session_after}
+use Rattle.cj_board.specs.Counting.{ends_transaction_of, log_failure_session, log_failure_sessions, event_count_of, sessions_in, greatest_of, session_after}
 
 -- ---- lists
 
@@ -56,26 +56,26 @@ and_weaker false x y f is = is
 pub counts_of_prefix : (s : ℕ) (g h : List Event) → IsPrefix g h → event_count_of s g ≤ event_count_of s h
 counts_of_prefix s g h p =
     let logs = log-prefix g h p in
-    let faults : IsPrefix (log_failures g) (log_failures h) = (log_failures p.0, sym (filter_map-append session_of_log_failure g p.0) ∙ ap log_failures p.1) in
+    let faults : IsPrefix (log_failure_sessions g) (log_failure_sessions h) = (log_failure_sessions p.0, sym (filter_map-append log_failure_session g p.0) ∙ ap log_failure_sessions p.1) in
     let a : entry_count_of s g ≤ entry_count_of s h = count_prefix (λ (e : Entry). e.session == s) (log g) (log h) logs in
     let b = count_weaker (ends_transaction_of s (log g)) (ends_transaction_of s (log h)) (log g)
-        (λ e. and_weaker (e.session == 0) (is_entry_of s (entry_numbered (log g) e.tx)) (is_entry_of s (entry_numbered (log h) e.tx)) (entry_of_prefix s e.tx (log g) (log h) logs)) in
+    (λ e. and_weaker (e.session == 0) (is_entry_of s (entry_numbered (log g) e.tx)) (is_entry_of s (entry_numbered (log h) e.tx)) (entry_of_prefix s e.tx (log g) (log h) logs)) in
     let c = count_prefix (ends_transaction_of s (log h)) (log g) (log h) logs in
-    let d = count_prefix (λ t. t == s) (log_failures g) (log_failures h) faults in
+    let d = count_prefix (λ t. t == s) (log_failure_sessions g) (log_failure_sessions h) faults in
     omega arith
 
 -- ---- the next session
 
-all_below : (s : ℕ) (xs : List ℕ) → greatest xs < s → All (λ x. x == s ≡ false) xs
+all_below : (s : ℕ) (xs : List ℕ) → greatest_of xs < s → All (λ x. x == s ≡ false) xs
 all_below s [] lt k d le = absurd (omega arith)
 all_below s (x ∷ xs) lt zero d le = ne_eqb x s (λ e. omega arith)
 all_below s (x ∷ xs) lt (suc k) d le = all_below s xs (omega arith) k d (omega arith)
 
-greatest-append : (xs ys : List ℕ) → greatest (xs ++ ys) ≡ max (greatest xs) (greatest ys)
+greatest-append : (xs ys : List ℕ) → greatest_of (xs ++ ys) ≡ max (greatest_of xs) (greatest_of ys)
 greatest-append [] ys = omega arith
 greatest-append (x ∷ xs) ys = let i = greatest-append xs ys in omega arith
 
-no_entry : (s : ℕ) (xs : List Entry) → greatest (map (λ (e : Entry). e.session) xs) < s → All (λ (e : Entry). e.session == s ≡ false) xs
+no_entry : (s : ℕ) (xs : List Entry) → greatest_of (map (λ (e : Entry). e.session) xs) < s → All (λ (e : Entry). e.session == s ≡ false) xs
 no_entry s [] lt k d le = absurd (omega arith)
 no_entry s (x ∷ xs) lt zero d le = ne_eqb x.session s (λ e. omega arith)
 no_entry s (x ∷ xs) lt (suc k) d le = no_entry s xs (omega arith) k d (omega arith)
@@ -99,9 +99,9 @@ and_false false x e = refl
 -- no event is of a session above all
 pub next_has_none : (last s : ℕ) (h : List Event) → s ≡ session_after last h → event_count_of s h ≡ 0
 next_has_none last s h is =
-    let top = greatest-append (map (λ (e : Entry). e.session) (log h)) (log_failures h) in
+    let top = greatest-append (map (λ (e : Entry). e.session) (log h)) (log_failure_sessions h) in
     let entries = no_entry s (log h) (omega arith) in
     let a : entry_count_of s h ≡ 0 = count_none (λ (e : Entry). e.session == s) (log h) entries in
     let b = count_none (ends_transaction_of s (log h)) (log h) (λ k d lt. let e : Entry = get_or (log h) k d in and_false (e.session == 0) (is_entry_of s (entry_numbered (log h) e.tx)) (none_numbered s e.tx (log h) entries)) in
-    let c = count_none (λ t. t == s) (log_failures h) (all_below s (log_failures h) (omega arith)) in
+    let c = count_none (λ t. t == s) (log_failure_sessions h) (all_below s (log_failure_sessions h) (omega arith)) in
     omega arith

@@ -38,8 +38,8 @@ enabled_append h ws x (LogFailed s q) notes all hold legal has idle b on = quiet
 enabled_append h ws x (Disabled c) notes all hold legal has idle b on = quiet h ws x (Disabled c) refl refl (λ z is. and_left (is_enabled h z) (not (z == c)) is) all idle b on
 enabled_append h ws x (Enabled c) notes all hold legal has idle b on =
     let there : position_word ws b ≡ length (log h) = dite (ℕ_discrete b c)
-        (λ e. ap (position_word ws) e ∙ noted_there h ws notes c hold has)
-        (λ ne. all (sym (free-same h (Enabled c) refl refl) ∙ idle) b (or_off (is_enabled h b) (b == c) (ne_eqb b c ne) (sym (enabled-push h (Enabled c) b) ∙ on))) in
+    (λ e. ap (position_word ws) e ∙ noted_there h ws notes c hold has)
+    (λ ne. all (sym (free-same h (Enabled c) refl refl) ∙ idle) b (or_off (is_enabled h b) (b == c) (ne_eqb b c ne) (sym (enabled-push h (Enabled c) b) ∙ on))) in
     position_first ws x b ∙ (there ∙ sym (ap length (log-same h (Enabled c) refl)))
 enabled_append h ws x (Marker name c) notes all hold legal has idle b on = quiet h ws x (Marker name c) refl refl (λ z is. is) all idle b on
 

@@ -17,12 +17,11 @@ pub fronts_append : (h : List Event) (ws : List ℕ) (vs : List SeatView) (i x :
 fronts_append h ws vs i x e v o some_word is legal whole mine = record {
   count = length-append h (e ∷ []) ∙ sym is ∙ sym (get_or-set_same ws 0 x 0 some_word);
   legal = legal;
-  fronts = each_set (λ j u. BeginsHistory h u) (λ j u. BeginsHistory (h ++ e ∷ []) u) vs i (after_append e v) o.fronts (λ j u ne b. begins_longer h e u b)
-      (
-        subst (λ (l : List Event). IsPrefix (l ++ e ∷ []) (h ++ e ∷ [])) (sym whole) (prefix_self (h ++ e ∷ [])),
-        prefix_push v.front_before v.front e mine.1,
-        prefix_push v.front_joined v.front e mine.2,
-      );
+  fronts = each_set (λ j u. BeginsHistory h u) (λ j u. BeginsHistory (h ++ e ∷ []) u) vs i (after_append e v) o.fronts (λ j u ne b. begins_longer h e u b) (
+    subst (λ (l : List Event). IsPrefix (l ++ e ∷ []) (h ++ e ∷ [])) (sym whole) (prefix_self (h ++ e ∷ [])),
+    prefix_push v.front_before v.front e mine.1,
+    prefix_push v.front_joined v.front e mine.2,
+  );
 }
 
 -- another word than the first is set

@@ -8,7 +8,7 @@ use Rattle.cj_cluster.specs.declared.event.Event.TheVariants.{Sched, Ended, Read
 use Rattle.cj_cluster.specs.History.Histories.{log}
 use Rattle.cj_cluster.specs.History.Legality.{IsAllowedEvent, IsLegal}
 use Rattle.cj_cluster.proofs.Pushed.{log-prefix, prefix_length, prefix_self}
-use Rattle.cj_board.specs.Steps.{longer}
+use Rattle.cj_board.specs.Steps.{longer_of}
 
 -- of two beginnings of one list the shorter begins the longer
 prefix_shorter : {A : Type 0} (xs ys zs : List A) → IsPrefix xs zs → IsPrefix ys zs → length xs ≤ length ys → IsPrefix xs ys
@@ -20,18 +20,18 @@ prefix_shorter (x ∷ xs) (y ∷ ys) (z ∷ zs) p q le =
     let rest = prefix_shorter xs ys zs (p.0, cc (p.1)) (q.0, cc (q.1)) (omega arith) in
     (rest.0, cc (heads, rest.1))
 
-longer_is : (g h : List Event) → (longer g h ≡ g) × (length h ≤ length g) ⊎ (longer g h ≡ h) × (length g ≤ length h)
+longer_is : (g h : List Event) → (longer_of g h ≡ g) × (length h ≤ length g) ⊎ (longer_of g h ≡ h) × (length g ≤ length h)
 longer_is g h = by_test (leb (length g) (length h)) refl
   where
-    by_test : (b : Bool) → leb (length g) (length h) ≡ b → (longer g h ≡ g) × (length h ≤ length g) ⊎ (longer g h ≡ h) × (length g ≤ length h)
+    by_test : (b : Bool) → leb (length g) (length h) ≡ b → (longer_of g h ≡ g) × (length h ≤ length g) ⊎ (longer_of g h ≡ h) × (length g ≤ length h)
     by_test true e = inr (ap (λ b. cond b h g) e, leb-true (length g) (length h) e)
     by_test false e = let lt = leb-false (length g) (length h) e in inl (ap (λ b. cond b h g) e, omega arith)
 
 -- of two beginnings of one list the longer begins it, and each of them begins the longer
-pub longer_begins : (g h all : List Event) → IsPrefix g all → IsPrefix h all → IsPrefix (longer g h) all × IsPrefix g (longer g h) × IsPrefix h (longer g h)
+pub longer_begins : (g h all : List Event) → IsPrefix g all → IsPrefix h all → IsPrefix (longer_of g h) all × IsPrefix g (longer_of g h) × IsPrefix h (longer_of g h)
 longer_begins g h all p q = ⊎_elim
-    (λ (t : (longer g h ≡ g) × (length h ≤ length g)). subst (λ (l : List Event). IsPrefix l all × IsPrefix g l × IsPrefix h l) (sym t.0) (p, prefix_self g, prefix_shorter h g all q p t.1))
-    (λ (t : (longer g h ≡ h) × (length g ≤ length h)). subst (λ (l : List Event). IsPrefix l all × IsPrefix g l × IsPrefix h l) (sym t.0) (q, prefix_shorter g h all p q t.1, prefix_self h))
+    (λ (t : (longer_of g h ≡ g) × (length h ≤ length g)). subst (λ (l : List Event). IsPrefix l all × IsPrefix g l × IsPrefix h l) (sym t.0) (p, prefix_self g, prefix_shorter h g all q p t.1))
+    (λ (t : (longer_of g h ≡ h) × (length g ≤ length h)). subst (λ (l : List Event). IsPrefix l all × IsPrefix g l × IsPrefix h l) (sym t.0) (q, prefix_shorter g h all p q t.1, prefix_self h))
     (longer_is g h)
 
 -- a log is no shorter than that of a beginning

@@ -9,7 +9,7 @@ use Rattle.cj_cluster.specs.History.Legality.{IsLegal}
 use Rattle.cj_board.specs.declared.view.SeatView.{SeatView}
 use Rattle.cj_board.specs.declared.view.Role.{Role}
 use Rattle.cj_board.specs.declared.view.Role.TheVariants.{Book, Cell, Pass}
-use Rattle.cj_board.specs.Points.{AtEachSeat, position_word, fault_word, last_word, HasSeat, BeginsHistory, IsInLog, KnowsPosition, IsPositionNote, IsFaultNote, KnowsFaults, KnowsGiven, tokens_of, OwnPassesCount, IsKept}
+use Rattle.cj_board.specs.Points.{AtEachSeat, position_word, fault_word, max_word, HasSeat, BeginsHistory, IsInLog, KnowsPosition, IsPositionNote, IsFaultNote, KnowsFaults, KnowsGiven, fault_tokens_of, OwnPassesCount, IsKept}
 use Rattle.cj_board.specs.Steps.{HasPositionNotes, HasFaultTokens, HasCountNotes, after_append, with_position, at_position, with_faults, after_count, after_making_cell, one_cell_more}
 use Rattle.cj_board.specs.Views.{cells_made, next_cell, next_cell_of}
 use Rattle.cj_board.proofs.KnownSeats.{known_append, known_move, known_fault, known_set, known_more, known_cell, put}
@@ -78,7 +78,7 @@ module _ (n made : ℕ) (who : ℕ → ℕ) (h : List Event) (ws : List ℕ) (vs
         counts = counts_set h vs i v w s.counts at record { books = λ g l k. subst (λ (r : Role). KnowsGiven g l r v.given v.last_given) (sym role') tt; own = refl; count = refl; notes = refl };
       }
 
-  pub stands_fault : (i b p f : ℕ) (v : SeatView) → IsKept n made who h ws vs → get_elem? vs i ≡ some v → v.role ≡ Cell b p → fault_word ws b ≤ f → (f ≢ last_word → f ≡ fault_word ws b + 1) → f ≤ last_word
+  pub stands_fault : (i b p f : ℕ) (v : SeatView) → IsKept n made who h ws vs → get_elem? vs i ≡ some v → v.role ≡ Cell b p → fault_word ws b ≤ f → (f ≢ max_word → f ≡ fault_word ws b + 1) → f ≤ max_word
       → IsKept n made who h (set ws (2 * b + 2) f) (set vs i (with_faults b f v))
   stands_fault i b p f v s at role up next fit =
       let g = fits i v s at in
@@ -95,7 +95,7 @@ module _ (n made : ℕ) (who : ℕ → ℕ) (h : List Event) (ws : List ℕ) (vs
       }
 
   -- the words stay
-  pub stands_set : (i : ℕ) (v w : SeatView) → IsKept n made who h ws vs → get_elem? vs i ≡ some v → Fits n made who h ws i w → ((b : ℕ) → tokens_of b w.fault_tokens ≤ tokens_of b v.fault_tokens) → SameCounts v w → IsKept n made who h ws (set vs i w)
+  pub stands_set : (i : ℕ) (v w : SeatView) → IsKept n made who h ws vs → get_elem? vs i ≡ some v → Fits n made who h ws i w → ((b : ℕ) → fault_tokens_of b w.fault_tokens ≤ fault_tokens_of b v.fault_tokens) → SameCounts v w → IsKept n made who h ws (set vs i w)
   stands_set i v w s at f less same = record {
     known = known_set n made who h ws vs i w s.known f.seat;
     begin = fronts_set h ws vs i w s.begin f.begins;
@@ -108,7 +108,7 @@ module _ (n made : ℕ) (who : ℕ → ℕ) (h : List Event) (ws : List ℕ) (vs
 
   -- a view is cut in two
   pub stands_split : (i : ℕ) (v w u : SeatView) → IsKept n made who h ws vs → get_elem? vs i ≡ some v → Fits n made who h ws i w → Fits n made who h ws (length (set vs i w)) u
-      → ((b : ℕ) → tokens_of b w.fault_tokens + tokens_of b u.fault_tokens ≤ tokens_of b v.fault_tokens) → OwnPassesCount h (set vs i w ++ u ∷ []) → IsKept n made who h ws (set vs i w ++ u ∷ [])
+      → ((b : ℕ) → fault_tokens_of b w.fault_tokens + fault_tokens_of b u.fault_tokens ≤ fault_tokens_of b v.fault_tokens) → OwnPassesCount h (set vs i w ++ u ∷ []) → IsKept n made who h ws (set vs i w ++ u ∷ [])
   stands_split i v w u s at f g less counts = record {
     known = known_more n made who h ws (set vs i w) u (known_set n made who h ws vs i w s.known f.seat) g.seat;
     begin = fronts_more h ws (set vs i w) u (fronts_set h ws vs i w s.begin f.begins) g.begins;
@@ -121,7 +121,7 @@ module _ (n made : ℕ) (who : ℕ → ℕ) (h : List Event) (ws : List ℕ) (vs
 
   -- two views are put together, and one is spent
   pub stands_join : (i k : ℕ) (v w both spent : SeatView) → IsKept n made who h ws vs → get_elem? vs i ≡ some v → k ≢ i → get_elem? vs k ≡ some w → Fits n made who h ws i both → Fits n made who h ws k spent
-      → ((b : ℕ) → tokens_of b both.fault_tokens + tokens_of b spent.fault_tokens ≤ tokens_of b v.fault_tokens + tokens_of b w.fault_tokens) → OwnPassesCount h (set (set vs i both) k spent) → IsKept n made who h ws (set (set vs i both) k spent)
+      → ((b : ℕ) → fault_tokens_of b both.fault_tokens + fault_tokens_of b spent.fault_tokens ≤ fault_tokens_of b v.fault_tokens + fault_tokens_of b w.fault_tokens) → OwnPassesCount h (set (set vs i both) k spent) → IsKept n made who h ws (set (set vs i both) k spent)
   stands_join i k v w both spent s at apart there f g less counts = record {
     known = known_set n made who h ws (set vs i both) k spent (known_set n made who h ws vs i both s.known f.seat) g.seat;
     begin = fronts_set h ws (set vs i both) k spent (fronts_set h ws vs i both s.begin f.begins) g.begins;

@@ -99,8 +99,8 @@ module _ (n made : ℕ) (who : ℕ → ℕ) (h : List Event) where
         faults = λ b le. s.faults b (omega arith);
         seats = each_more F F (set vs i w) u
             (each_set (λ j v. HasSeat n made who h j v.role v.front) F vs i w s.seats
-                (λ j v ne y. seat_before end j v.role v.front (not_book i j v.role v.front at ne y) y)
-                (subst (λ (r : Role). HasSeat n (suc made) who' h i r w.front) (sym role) (at ∙ sym (put_else who (suc made) end 0 (λ e. omega arith)), refl, front)))
+            (λ j v ne y. seat_before end j v.role v.front (not_book i j v.role v.front at ne y) y)
+            (subst (λ (r : Role). HasSeat n (suc made) who' h i r w.front) (sym role) (at ∙ sym (put_else who (suc made) end 0 (λ e. omega arith)), refl, front)))
             (λ j v ne y. y)
             (subst (λ (r : Role). HasSeat n (suc made) who' h end r u.front) (sym new) (sym (put_here who (suc made) end), omega arith, lt));
       }

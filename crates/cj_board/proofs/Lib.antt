@@ -12,3 +12,4 @@ pub mod SessionPoint
 pub mod KeptSteps
 pub mod AllowedSteps
 pub mod NewCells
+pub mod Reports

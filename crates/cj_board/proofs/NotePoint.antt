@@ -15,10 +15,10 @@ all_notes g h ws us xs f a k d lt = f (get_or xs k d) (a k d lt)
 
 pub notes_append : (h : List Event) (ws : List ℕ) (vs : List SeatView) (i x : ℕ) (e : Event) (w : SeatView) → PositionNotesHold h ws vs → All (IsPositionNote h ws) w.position_notes → PositionNotesHold (h ++ e ∷ []) (set ws 0 x) (set vs i w)
 notes_append h ws vs i x e w all mine = each_set (λ j v. All (IsPositionNote h ws) v.position_notes) (λ j v. All (IsPositionNote (h ++ e ∷ []) (set ws 0 x)) v.position_notes) vs i w all
-    (λ j v _ a. all_notes h (h ++ e ∷ []) ws (set ws 0 x) v.position_notes longer a) (all_notes h (h ++ e ∷ []) ws (set ws 0 x) w.position_notes longer mine)
+    (λ j v _ a. all_notes h (h ++ e ∷ []) ws (set ws 0 x) v.position_notes still a) (all_notes h (h ++ e ∷ []) ws (set ws 0 x) w.position_notes still mine)
   where
-    longer : (y : ℕ × ℕ) → IsPositionNote h ws y → IsPositionNote (h ++ e ∷ []) (set ws 0 x) y
-    longer y n = let g = log_grows h e in let le = n.0 in (omega arith, λ s. position_first ws x y.0 ∙ n.1 (omega arith))
+    still : (y : ℕ × ℕ) → IsPositionNote h ws y → IsPositionNote (h ++ e ∷ []) (set ws 0 x) y
+    still y n = let g = log_grows h e in let le = n.0 in (omega arith, λ s. position_first ws x y.0 ∙ n.1 (omega arith))
 
 -- a backend that was not at the end of the log moves
 pub notes_move : (h : List Event) (ws : List ℕ) (vs : List SeatView) (i b q : ℕ) (w : SeatView) → PositionNotesHold h ws vs → All (IsPositionNote h ws) w.position_notes → position_word ws b ≢ length (log h) → PositionNotesHold h (set ws (2 * b + 1) q) (set vs i w)

@@ -46,7 +46,7 @@ module _ (given : List ℕ) (last : ℕ) (holder count_of : ℕ → ℕ) where
   own_note own k members owns = dite (ℕ_discrete own 0)
       (λ e. subst (λ (b : Bool). All (IsCountNote last count_of) (cond b [] ((own, k) ∷ []))) (sym (eq-eqb own 0 e)) (All-nil (IsCountNote last count_of)))
       (λ ne. subst (λ (b : Bool). All (IsCountNote last count_of) (cond b [] ((own, k) ∷ []))) (sym (ne_eqb own 0 ne))
-          (let o = owns (omega arith) in let same = o.0 in let top = All-contains (λ s. s ≤ last) given own members o.1 in All-cons (IsCountNote last count_of) (own, k) [] (omega arith, top) (All-nil (IsCountNote last count_of))))
+      (let o = owns (omega arith) in let same = o.0 in let top = All-contains (λ s. s ≤ last) given own members o.1 in All-cons (IsCountNote last count_of) (own, k) [] (omega arith, top) (All-nil (IsCountNote last count_of))))
 
   -- the notes of a view, and that of its own pass
   all_notes : (j : ℕ) (v : SeatView) → All (λ s. s ≤ last) given → CountsSessions given last holder count_of j v → All (IsCountNote last count_of) (v.count_notes ++ count_note_of v.own_session v.count)
@@ -100,9 +100,9 @@ module _ (h : List Event) (vs : List SeatView) where
         count_of = p.count_of;
         seats = each_more F F (set vs i w) u (each_set F F vs i w p.seats (λ j z _ x. x) (counts_same p.given p.last p.holder p.count_of i v w same mine)) (λ j z _ x. x)
             (counts_nothing p.given p.last p.holder p.count_of (length (set vs i w)) u not none (⊎_elim
-                (λ (e : u.count_notes ≡ v.count_notes ++ count_note_of v.own_session v.count). subst (λ (xs : List (ℕ × ℕ)). All G xs) (sym e) (all_notes p.given p.last p.holder p.count_of i v p.members mine))
-                (λ (e : u.count_notes ≡ []). subst (λ (xs : List (ℕ × ℕ)). All G xs) (sym e) (All-nil G))
-                notes));
+            (λ (e : u.count_notes ≡ v.count_notes ++ count_note_of v.own_session v.count). subst (λ (xs : List (ℕ × ℕ)). All G xs) (sym e) (all_notes p.given p.last p.holder p.count_of i v p.members mine))
+            (λ (e : u.count_notes ≡ []). subst (λ (xs : List (ℕ × ℕ)). All G xs) (sym e) (All-nil G))
+            notes));
         counted = p.counted;
         members = p.members;
       }
@@ -143,8 +143,8 @@ module _ (h : List Event) (vs : List SeatView) where
       let F = CountsSessions p.given p.last p.holder p.count_of in
       let G = CountsSessions p.given p.last p.holder count' in
       let up : (t : ℕ) → p.count_of t ≤ count' t = λ t. dite (ℕ_discrete t s)
-          (λ e. let a : count' t ≡ n = ap count' e ∙ put_here p.count_of s n in let b : p.count_of t ≡ v.count = ap p.count_of e ∙ sym o.1 in omega arith)
-          (λ ne. let a = put_else p.count_of s n t ne in omega arith) in
+      (λ e. let a : count' t ≡ n = ap count' e ∙ put_here p.count_of s n in let b : p.count_of t ≡ v.count = ap p.count_of e ∙ sym o.1 in omega arith)
+      (λ ne. let a = put_else p.count_of s n t ne in omega arith) in
       let raise : (xs : List (ℕ × ℕ)) → All (IsCountNote p.last p.count_of) xs → All (IsCountNote p.last count') xs = λ xs a k d lt. let x = a k d lt in let y = up (get_or xs k d).0 in (omega arith, x.1) in
       record {
         given = p.given;
@@ -213,8 +213,8 @@ module _ (n made : ℕ) (who : ℕ → ℕ) (h : List Event) (ws : List ℕ) (vs
       let older : (t : ℕ) → t ≤ p.last → t ≢ s = λ t le e. omega arith in
       let kept : (xs : List (ℕ × ℕ)) → All (IsCountNote p.last p.count_of) xs → All (IsCountNote s count') xs = λ xs a k d lt. let y = a k d lt in let le = y.1 in let same = put_else p.count_of s 0 (get_or xs k d).0 (older (get_or xs k d).0 le) in let up = y.0 in (omega arith, omega arith) in
       let owned : (j : ℕ) (z : SeatView) → CountsSessions p.given p.last p.holder p.count_of j z → 0 < z.own_session → (j ≡ holder' z.own_session) × (z.count ≡ count' z.own_session) × Contains given' z.own_session = λ j z y lt.
-          let o = y.own lt in let le = All-contains (λ t. t ≤ p.last) p.given z.own_session p.members o.2 in let ne = older z.own_session le in
-          (o.0 ∙ sym (put_else p.holder s end z.own_session ne), o.1 ∙ sym (put_else p.count_of s 0 z.own_session ne), cons_in s z.own_session p.given o.2) in
+      let o = y.own lt in let le = All-contains (λ t. t ≤ p.last) p.given z.own_session p.members o.2 in let ne = older z.own_session le in
+      (o.0 ∙ sym (put_else p.holder s end z.own_session ne), o.1 ∙ sym (put_else p.count_of s 0 z.own_session ne), cons_in s z.own_session p.given o.2) in
       record {
         given = given';
         last = s;
@@ -222,12 +222,12 @@ module _ (n made : ℕ) (who : ℕ → ℕ) (h : List Event) (ws : List ℕ) (vs
         count_of = count';
         seats = each_more G G (set vs i w) u
             (each_set F G vs i w (λ j z e. (known.seats j z e, p.seats j z e))
-                (λ j z ne y. record { book = other_given p.given given' p.last s z.role z.given z.last_given (not_book n made who h i j z.role z.front mine ne y.0) y.1.book; own = owned j z y.1; notes = kept z.count_notes y.1.notes })
-                record {
-                  book = subst (λ (r : Role). KnowsGiven given' s r w.given w.last_given) (sym (role ∙ book)) (given ∙ ap (λ (g : List ℕ). s ∷ g) knows.0, last);
-                  own = subst (λ (z : ℕ × ℕ). 0 < z.0 → (i ≡ holder' z.0) × (z.1 ≡ count' z.0) × Contains given' z.0) (λ k. (sym own k, sym count k)) (owned i v x);
-                  notes = subst (λ (xs : List (ℕ × ℕ)). All (IsCountNote s count') xs) (sym notes) (kept v.count_notes x.notes);
-                })
+            (λ j z ne y. record { book = other_given p.given given' p.last s z.role z.given z.last_given (not_book n made who h i j z.role z.front mine ne y.0) y.1.book; own = owned j z y.1; notes = kept z.count_notes y.1.notes })
+            record {
+              book = subst (λ (r : Role). KnowsGiven given' s r w.given w.last_given) (sym (role ∙ book)) (given ∙ ap (λ (g : List ℕ). s ∷ g) knows.0, last);
+              own = subst (λ (z : ℕ × ℕ). 0 < z.0 → (i ≡ holder' z.0) × (z.1 ≡ count' z.0) × Contains given' z.0) (λ k. (sym own k, sym count k)) (owned i v x);
+              notes = subst (λ (xs : List (ℕ × ℕ)). All (IsCountNote s count') xs) (sym notes) (kept v.count_notes x.notes);
+            })
             (λ j z _ y. y)
             record {
               book = subst (λ (r : Role). KnowsGiven given' s r u.given u.last_given) (sym urole) tt;
@@ -264,16 +264,16 @@ module _ (n made : ℕ) (who : ℕ → ℕ) (h : List Event) (ws : List ℕ) (vs
         count_of = p.count_of;
         seats = each_set G H (set vs i both) k spent
             (each_set F G vs i both (λ j z e. (known.seats j z e, p.seats j z e))
-                (λ j z ne t off. record {
-                  book = other_given p.given given' p.last p.last z.role z.given z.last_given (not_book n made who h i j z.role z.front mine ne t.0) t.1.book;
-                  own = λ lt. let o = t.1.own lt in (o.0, o.1, in_others s z.own_session p.given o.2 (λ e. off (o.0 ∙ (ap p.holder e ∙ sym (y.own is_own).0))));
-                  notes = t.1.notes;
-                })
-                (λ off. record {
-                  book = subst (λ (r : Role). KnowsGiven given' p.last r both.given both.last_given) (sym (role ∙ book)) (given ∙ ap (others s) knows.0, last ∙ knows.1);
-                  own = λ lt. absurd (omega arith);
-                  notes = subst (λ (xs : List (ℕ × ℕ)). All N xs) (sym notes) (All-append N v.count_notes w.count_notes x.notes y.notes);
-                }))
+            (λ j z ne t off. record {
+              book = other_given p.given given' p.last p.last z.role z.given z.last_given (not_book n made who h i j z.role z.front mine ne t.0) t.1.book;
+              own = λ lt. let o = t.1.own lt in (o.0, o.1, in_others s z.own_session p.given o.2 (λ e. off (o.0 ∙ (ap p.holder e ∙ sym (y.own is_own).0))));
+              notes = t.1.notes;
+            })
+            (λ off. record {
+              book = subst (λ (r : Role). KnowsGiven given' p.last r both.given both.last_given) (sym (role ∙ book)) (given ∙ ap (others s) knows.0, last ∙ knows.1);
+              own = λ lt. absurd (omega arith);
+              notes = subst (λ (xs : List (ℕ × ℕ)). All N xs) (sym notes) (All-append N v.count_notes w.count_notes x.notes y.notes);
+            }))
             (λ j z ne t. t ne) (counts_nothing given' p.last p.holder p.count_of k spent other none (subst (λ (xs : List (ℕ × ℕ)). All N xs) (sym no_notes) (All-nil N)));
         counted = λ t c. p.counted t (All-contains (Contains p.given) given' t (others_in s p.given) c);
         members = All-filter (λ t. not (t == s)) (λ t. t ≤ p.last) p.given p.members;

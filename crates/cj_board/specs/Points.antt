@@ -15,8 +15,8 @@ use Rattle.cj_board.specs.declared.view.Role.TheVariants.{Book, Cell, Pass}
 use Rattle.cj_board.specs.Counting.{event_count_of}
 
 -- the position word of a backend that is out, and the fault word that rises no more
-abbrev pub last_word : ℕ
-last_word = 18446744073709551615
+abbrev pub max_word : ℕ
+max_word = 18446744073709551615
 
 abbrev pub position_word : List ℕ → ℕ → ℕ
 position_word ws b = slice_index ws (2 * b + 1)
@@ -58,7 +58,7 @@ pub record FrontsBeginHistory (h : List Event) (ws : List ℕ) (vs : List SeatVi
 -- ---- positions are in the log
 
 abbrev pub IsInLog : ℕ → List Event → Type 0
-IsInLog p h = p ≢ last_word → p ≤ length (log h)
+IsInLog p h = p ≢ max_word → p ≤ length (log h)
 
 -- a cell knows its position, which is in the log that it has seen
 abbrev pub KnowsPosition : List ℕ → Role → List Event → Type 0
@@ -100,17 +100,17 @@ KnowsFaults ws (Cell b p) faults = faults ≡ fault_word ws b
 KnowsFaults ws Pass faults = Unit {0}
 
 -- how many tokens are of backend b
-abbrev pub tokens_of : ℕ → List ℕ → ℕ
-tokens_of b tokens = count_by (λ t. t == b) tokens
+abbrev pub fault_tokens_of : ℕ → List ℕ → ℕ
+fault_tokens_of b tokens = count_by (λ t. t == b) tokens
 
-abbrev pub tokens_of_all : ℕ → List SeatView → ℕ
-tokens_of_all b vs = sum_by (λ (v : SeatView). tokens_of b v.fault_tokens) vs
+abbrev pub all_fault_tokens_of : ℕ → List SeatView → ℕ
+all_fault_tokens_of b vs = sum_by (λ (v : SeatView). fault_tokens_of b v.fault_tokens) vs
 
 -- Each note of faults holds; and unless its fault word is full, a backend had a fault of its own for each failure that the history notes of it, and for each token.
 pub record FailuresHaveFaults (h : List Event) (ws : List ℕ) (vs : List SeatView) : Type 0 where
   pub notes : AtEachSeat vs (λ j v. All (IsFaultNote ws) v.fault_notes)
   pub known : AtEachSeat vs (λ j v. KnowsFaults ws v.role v.faults)
-  pub covered : (b : ℕ) → fault_word ws b ≢ last_word → failures_noted h b + tokens_of_all b vs ≤ fault_word ws b
+  pub covered : (b : ℕ) → fault_word ws b ≢ max_word → failures_noted h b + all_fault_tokens_of b vs ≤ fault_word ws b
 
 -- ---- own passes count their sessions' events
 

@@ -9,7 +9,7 @@ use Rattle.cj_board.specs.declared.view.SeatView.{SeatView}
 use Rattle.cj_board.specs.declared.view.Role.{Role}
 use Rattle.cj_board.specs.declared.view.Role.TheVariants.{Book, Cell, Pass}
 use Rattle.cj_board.specs.Counting.{event_count_of}
-use Rattle.cj_board.specs.Points.{last_word, tokens_of}
+use Rattle.cj_board.specs.Points.{max_word, fault_tokens_of}
 use Rattle.cj_board.specs.Views.{next_session}
 
 -- ---- to append an event
@@ -26,7 +26,7 @@ HasPositionNotes h notes (Marker name b) = Unit {0}
 
 -- there is a fault token of each backend that is said to have failed
 abbrev pub HasFaultTokens : List ℕ → Event → Type 0
-HasFaultTokens tokens e = (b : ℕ) → notes_failure b e ≡ true → 0 < tokens_of b tokens
+HasFaultTokens tokens e = (b : ℕ) → notes_failure b e ≡ true → 0 < fault_tokens_of b tokens
 
 -- where a session with an own pass has one event more, that is counted
 abbrev pub HasCountNotes : List ℕ → List Event → List (ℕ × ℕ) → Event → Type 0
@@ -52,7 +52,7 @@ at_position p v = record v { role = with_position p v.role }
 
 -- one more, unless the word is full
 abbrev pub one_fault_more : ℕ → ℕ
-one_fault_more n = cond (leb last_word n) n (n + 1)
+one_fault_more n = cond (leb max_word n) n (n + 1)
 
 abbrev pub with_faults : ℕ → ℕ → SeatView → SeatView
 with_faults b n v = record v { faults = n; fault_tokens = b ∷ v.fault_tokens }
@@ -63,13 +63,13 @@ after_fault b v = with_faults b (one_fault_more v.faults) v
 
 -- ---- at a pass
 
-abbrev pub after_look : ℕ → ℕ → SeatView → SeatView
-after_look b n v = record v { looks = v.looks ++ (b, n) ∷ [] }
+abbrev pub after_looking : ℕ → ℕ → SeatView → SeatView
+after_looking b n v = record v { looks = v.looks ++ (b, n) ∷ [] }
 
 -- the word that is looked at
-abbrev pub word_seen : Option ℕ → ℕ
-word_seen None = last_word
-word_seen (Some p) = p
+abbrev pub word_of_position : Option ℕ → ℕ
+word_of_position None = max_word
+word_of_position (Some p) = p
 
 abbrev pub after_count : SeatView → SeatView
 after_count v = record v { count = v.count + 1 }
@@ -80,8 +80,8 @@ after_split v = record v { fault_tokens = [] }
 
 -- ---- where another seat is joined
 
-abbrev pub longer : List Event → List Event → List Event
-longer g h = cond (leb (length g) (length h)) h g
+abbrev pub longer_of : List Event → List Event → List Event
+longer_of g h = cond (leb (length g) (length h)) h g
 
 -- the notes and tokens of both
 abbrev pub with_notes : SeatView → SeatView → SeatView
@@ -96,7 +96,7 @@ with_notes v w = record v {
 
 -- and the longer front
 abbrev pub after_join : SeatView → SeatView → SeatView
-after_join v w = record (with_notes v w) { front = longer v.front w.front }
+after_join v w = record (with_notes v w) { front = longer_of v.front w.front }
 
 -- the book keeps its front, which is the history
 abbrev pub after_learning : SeatView → SeatView → SeatView

@@ -4,7 +4,7 @@ use Rattle.cj_board.specs.declared.view.SeatView.{SeatView}
 use Rattle.cj_board.specs.declared.view.Role.{Role}
 use Rattle.cj_board.specs.declared.view.Role.TheVariants.{Book, Cell, Pass}
 use Rattle.cj_board.specs.Counting.{session_after}
-use Rattle.cj_board.specs.Points.{last_word}
+use Rattle.cj_board.specs.Points.{max_word}
 
 -- ---- roles
 
@@ -23,8 +23,8 @@ cells_made Pass = 0
 abbrev pub IsBook : Role → Type 0
 IsBook r = r ≡ Book (cells_made r)
 
-abbrev pub IsCell : ℕ → Role → Type 0
-IsCell b r = r ≡ Cell b (role_position r)
+abbrev pub IsCellOf : ℕ → Role → Type 0
+IsCellOf b r = r ≡ Cell b (role_position r)
 
 abbrev pub IsPass : Role → Type 0
 IsPass r = r ≡ Pass
@@ -73,7 +73,7 @@ next_cell_of v = new_view (next_cell v.role)
 -- what a cell notes of its position, unless it is out
 abbrev pub position_note_of : Role → List (ℕ × ℕ)
 position_note_of (Book m) = []
-position_note_of (Cell b p) = cond (leb last_word p) [] ((b, p) ∷ [])
+position_note_of (Cell b p) = cond (leb max_word p) [] ((b, p) ∷ [])
 position_note_of Pass = []
 
 -- what a cell notes of its faults

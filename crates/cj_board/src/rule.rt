@@ -1,6 +1,6 @@
 // The rule of the board, and the kinds of step.
 ghost use Rattle.cj_board.specs.Points.{IsKeptBoard};
-ghost use Rattle.cj_board.specs.Proving.Told.{Appends, Advances, StoresPosition, StoresFaults, LoadsFaults, LoadsPosition, ComparesFronts, ChecksFaultNotes, CountsUp, ChecksCount};
+ghost use Rattle.cj_board.specs.Proving.Told.{ToldAppend, ToldAdvance, ToldStoredPosition, ToldStoredFaults, ToldFaults, ToldPosition, ToldFronts, ToldFaultNotes, ToldCountUp, ToldCount};
 ghost use Rattle.cj_board.specs.Views.{book_with_cells, empty_pass, pass_of, pass_without_tokens, pass_without_notes, own_pass_of, next_cell_of};
 ghost use Rattle.cj_board.specs.Steps.{after_split, after_making_cell, after_join, after_learning, after_opening, after_closing};
 
@@ -19,61 +19,61 @@ impl TableRule<Event, SeatView, u64> for BoardRule {
 pub struct AppendEvent;
 
 impl Play<Event, SeatView> for AppendEvent {
-    ghost then = { Appends };
+    ghost then = { ToldAppend };
 }
 
 pub struct AdvancePosition;
 
 impl Play<Event, SeatView> for AdvancePosition {
-    ghost then = { Advances };
+    ghost then = { ToldAdvance };
 }
 
 pub struct StorePosition;
 
 impl Play<Event, SeatView> for StorePosition {
-    ghost then = { StoresPosition };
+    ghost then = { ToldStoredPosition };
 }
 
 pub struct LoadPosition;
 
 impl Play<Event, SeatView> for LoadPosition {
-    ghost then = { LoadsPosition };
+    ghost then = { ToldPosition };
 }
 
 pub struct StoreFaults;
 
 impl Play<Event, SeatView> for StoreFaults {
-    ghost then = { StoresFaults };
+    ghost then = { ToldStoredFaults };
 }
 
 pub struct LoadFaults;
 
 impl Play<Event, SeatView> for LoadFaults {
-    ghost then = { LoadsFaults };
+    ghost then = { ToldFaults };
 }
 
 pub struct CompareFronts;
 
 impl Play<Event, SeatView> for CompareFronts {
-    ghost then = { ComparesFronts };
+    ghost then = { ToldFronts };
 }
 
 pub struct CheckFaultNotes;
 
 impl Play<Event, SeatView> for CheckFaultNotes {
-    ghost then = { ChecksFaultNotes };
+    ghost then = { ToldFaultNotes };
 }
 
 pub struct CountUp;
 
 impl Play<Event, SeatView> for CountUp {
-    ghost then = { CountsUp };
+    ghost then = { ToldCountUp };
 }
 
 pub struct CheckCount;
 
 impl Play<Event, SeatView> for CheckCount {
-    ghost then = { ChecksCount };
+    ghost then = { ToldCount };
 }
 
 /// A pass with the front, the notes and the tokens.

@@ -2,10 +2,10 @@
 ghost use Rattle.std.specs.Prelude.{◌≡◌, ◌≢◌, ℕ, ◌+◌, ◌*◌, ◌<◌, ◌≤◌, [], Contains};
 ghost use mathlib.Core.List.{IsPrefix};
 ghost use Rattle.cj_model.specs.declared.limits.TheConstants.{EVENT_LIMIT};
-ghost use Rattle.cj_board.specs.Points.{last_word};
+ghost use Rattle.cj_board.specs.Points.{max_word};
 ghost use Rattle.cj_board.specs.Seats.{board_id};
-ghost use Rattle.cj_board.specs.Steps.{after_fault, after_join, after_learning, after_look, after_split};
-ghost use Rattle.cj_board.specs.Views.{IsBook, IsCell, IsNotBook, pass_of, pass_without_notes, pass_without_tokens};
+ghost use Rattle.cj_board.specs.Steps.{after_fault, after_join, after_learning, after_looking, after_split};
+ghost use Rattle.cj_board.specs.Views.{IsBook, IsCellOf, IsNotBook, pass_of, pass_without_notes, pass_without_tokens};
 
 use crate::rule::{
     CheckFaultNotes, CompareFronts, JoinPass, JoinToBook, LoadFaults, LoadPosition, SplitPass,
@@ -77,8 +77,8 @@ impl Board {
     pub(crate) fn load_position(&self, seat: &mut Seat<Event, SeatView>, b: u8) -> u64
         requires board { seat.old.table_id ≡ board_id self.now }
         requires backend { b < self.now.backends }
-        ensures view { (seat.new.table_id ≡ seat.old.table_id) × (seat.new.me ≡ (after_look b result seat.old.me.0, seat.old.me.1)) }
-        ensures within { result ≢ last_word → result ≤ EVENT_LIMIT }
+        ensures view { (seat.new.table_id ≡ seat.old.table_id) × (seat.new.me ≡ (after_looking b result seat.old.me.0, seat.old.me.1)) }
+        ensures within { result ≢ max_word → result ≤ EVENT_LIMIT }
     {
         let word = 2 * usize::from(b) + 1;
         self.table.shared.load::<LoadPosition>(seat, word)
@@ -87,7 +87,7 @@ impl Board {
     // One fault more of the cell's backend. The cell alone writes the word, so a load and a store are one step.
     pub(crate) fn add_fault(&self, seat: &mut Seat<Event, SeatView>, b: u8)
         requires board { seat.old.table_id ≡ board_id self.now }
-        requires cell { IsCell b seat.old.me.0.role × (2 * b + 1 < seat.old.table_id.words) }
+        requires cell { IsCellOf b seat.old.me.0.role × (2 * b + 1 < seat.old.table_id.words) }
         ensures { (seat.new.table_id ≡ seat.old.table_id) × (seat.new.me ≡ (after_fault b seat.old.me.0, seat.old.me.1)) }
     {
         let word = 2 * usize::from(b) + 2;
@@ -100,7 +100,7 @@ impl Board {
     pub(crate) fn check_faults(&self, seat: &mut Seat<Event, SeatView>)
         requires board { seat.old.table_id ≡ board_id self.now }
         ensures same { (seat.new.table_id ≡ seat.old.table_id) × (seat.new.me ≡ seat.old.me) }
-        ensures noted { (b n : ℕ) → IsCell b seat.old.me.0.role → Contains seat.old.me.0.fault_notes (b, n) → n ≤ seat.old.me.0.faults }
+        ensures noted { (b n : ℕ) → IsCellOf b seat.old.me.0.role → Contains seat.old.me.0.fault_notes (b, n) → n ≤ seat.old.me.0.faults }
     {
         self.table.shared.load::<CheckFaultNotes>(seat, 0);
     }

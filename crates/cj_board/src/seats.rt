@@ -2,7 +2,7 @@
 
 ghost use Rattle.std.specs.Prelude.{◌≡◌, ◌+◌, ◌*◌, ◌<◌, ◌≤◌, [], length};
 ghost use Rattle.cj_model.specs.declared.limits.TheConstants.{BACKEND_LIMIT};
-ghost use Rattle.cj_board.specs.Views.{IsBook, IsCell, IsPass};
+ghost use Rattle.cj_board.specs.Views.{IsBook, IsCellOf, IsPass};
 
 use crate::rule::BoardRule;
 use crate::view::SeatView;
@@ -35,7 +35,7 @@ pub struct BookSeat {
 pub struct CellSeat {
     pub(crate) b: u8,
     pub(crate) seat: Seat<Event, SeatView>,
-    ghost is_cell: { IsCell b seat.me.0.role },
+    ghost is_cell: { IsCellOf b seat.me.0.role },
     ghost inside: { 2 * b + 1 < seat.table_id.words },
     ghost known: { b < BACKEND_LIMIT },
 }

@@ -5,9 +5,9 @@ ghost use Rattle.cj_model.specs.declared.limits.TheConstants.{EVENT_LIMIT};
 ghost use Rattle.cj_cluster.specs.History.Histories.{log};
 ghost use Rattle.cj_cluster.specs.History.Legality.{IsLegal};
 ghost use Rattle.cj_board.specs.Counting.{event_count_of};
-ghost use Rattle.cj_board.specs.Points.{last_word};
+ghost use Rattle.cj_board.specs.Points.{max_word};
 ghost use Rattle.cj_board.specs.Seats.{board_id, book_board, cell_board, pass_board, book_view, cell_view, pass_view, history, seen, front, position};
-ghost use Rattle.cj_board.specs.Steps.{HasPositionNotes, HasFaultTokens, HasCountNotes, after_append, at_position, after_fault, after_look, word_seen, after_count, after_split, after_join, after_learning, after_opening, after_closing};
+ghost use Rattle.cj_board.specs.Steps.{HasPositionNotes, HasFaultTokens, HasCountNotes, after_append, at_position, after_fault, after_looking, word_of_position, after_count, after_split, after_join, after_learning, after_opening, after_closing};
 ghost use Rattle.cj_board.specs.Views.{role_position, pass_of, pass_without_tokens, pass_without_notes, own_pass_of, next_session};
 
 use crate::rule::{
@@ -71,10 +71,7 @@ impl Board {
         ensures pass { pass_view result ≡ own_pass_of (book_view s.old) }
         ensures session { (pass_view result).own_session ≡ session }
     {
-        let seat = self
-            .table
-            .shared
-            .split_seat::<SplitOwnPass>(&mut s.seat);
+        let seat = self.table.shared.split_seat::<SplitOwnPass>(&mut s.seat);
         Pass { seat }
     }
 
@@ -113,7 +110,7 @@ impl Board {
         requires board { cell_board c.old ≡ board_id self.now }
         requires below { position c.old < length (log (seen c.old)) }
         ensures board { (cell_board c.new ≡ cell_board c.old) × (c.new.b ≡ c.old.b) }
-        ensures cell { cell_view c.new ≡ at_position last_word (cell_view c.old) }
+        ensures cell { cell_view c.new ≡ at_position max_word (cell_view c.old) }
     {
         let word = 2 * usize::from(c.b) + 1;
         self.table
@@ -124,7 +121,7 @@ impl Board {
     /// A backend that is out stands at the position from now on.
     pub fn settle(&self, c: &mut CellSeat, position: u64)
         requires board { cell_board c.old ≡ board_id self.now }
-        requires out { role_position (cell_view c.old).role ≡ last_word }
+        requires out { role_position (cell_view c.old).role ≡ max_word }
         requires within { position ≤ length (log (seen c.old)) }
         ensures board { (cell_board c.new ≡ cell_board c.old) × (c.new.b ≡ c.old.b) }
         ensures cell { cell_view c.new ≡ at_position position (cell_view c.old) }
@@ -165,6 +162,8 @@ impl Board {
         ensures board { (cell_board c.new ≡ cell_board c.old) × (c.new.b ≡ c.old.b) × (pass_board p.new ≡ pass_board p.old) }
         ensures cell { cell_view c.new ≡ after_split (cell_view c.old) }
         ensures pass { pass_view p.new ≡ after_join (pass_view p.old) (pass_of (cell_view c.old)) }
+        ensures position { position c.old < max_word → Contains (pass_view p.new).position_notes (c.old.b, position c.old) }
+        ensures faults { Contains (pass_view p.new).fault_notes (c.old.b, (cell_view c.old).faults) }
         ensures seen { IsPrefix (seen c.old) (front p.new) }
         ensures longer { IsPrefix (front p.old) (front p.new) }
     {
@@ -202,7 +201,7 @@ impl Board {
         requires board { pass_board p.old ≡ board_id self.now }
         requires backend { b < self.now.backends }
         ensures board { pass_board p.new ≡ pass_board p.old }
-        ensures pass { pass_view p.new ≡ after_look b (word_seen result) (pass_view p.old) }
+        ensures pass { pass_view p.new ≡ after_looking b (word_of_position result) (pass_view p.old) }
         ensures within { IfSome result (λ position. position ≤ EVENT_LIMIT) }
     {
         let found = self.load_position(&mut p.seat, b);
