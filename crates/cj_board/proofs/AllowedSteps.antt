@@ -1,14 +1,14 @@
 -- What the table asks of each step.
 use Rattle.std.proofs.Common.{◌≡◌, ◌≢◌, ℕ, zero, suc, ◌+◌, ◌*◌, ◌%◌, ◌^◌, ◌<◌, ◌≤◌, eqb, leb, cond, List, [], ◌∷◌, ◌++◌, length, get_or, set, ◌⊎◌, inl, inr, ⊎_elim, refl, sym, ap, ◌∙◌, subst, arith, eq-eqb, replicate, Bool, true, false, leb-true, leb-false, All, Contains}
 use mathlib.Core.Logic.{dite}
-use mathlib.Core.Option.{Option, none, some, some-injective, some-ne-none}
+use mathlib.Core.Option.{none, some, some-injective, some-ne-none}
 use mathlib.Core.List.{IsPrefix}
 use native.Mathlib.Decide.{dec_le}
 use lib.ListN.{get_elem?, length-replicate}
 use lib.Seq.{set-get_or}
 use prog.Atomic.{either}
 use Rattle.std.proofs.lemmas.List.Elements.{All-append, All-nil, All-contains}
-use Rattle.atomic_table.specs.Table.{State, Me, step, Act, keeps, stepped, Allows, Splits, Joins, opening}
+use Rattle.atomic_table.specs.Table.{State, Me, step, keeps, stepped, Allows, Splits, Joins, opening}
 use Rattle.atomic_table.proofs.Lists.{set_else}
 use Rattle.cj_cluster.specs.declared.event.Event.{Event}
 use Rattle.cj_cluster.specs.History.Histories.{log}

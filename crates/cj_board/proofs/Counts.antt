@@ -1,9 +1,7 @@
 -- How many events a session has, in a beginning and in the whole, and that the next session has none.
-use Rattle.std.proofs.Common.{◌≡◌, ◌≢◌, ℕ, zero, suc, ◌+◌, ◌-◌, ◌*◌, ◌<◌, ◌≤◌, max, ◌==◌, ◌&&◌, eqb, Bool, true, false, cond, List, [], ◌∷◌, ◌++◌, map, length, get_or, slice_get, All, count_by, sum_by, Some, None, Option, refl, sym, ap, ◌∙◌, subst, arith, ne_eqb, eqb-true}
+use Rattle.std.proofs.Common.{◌≡◌, ℕ, zero, suc, ◌+◌, ◌-◌, ◌<◌, ◌≤◌, max, ◌==◌, ◌&&◌, Bool, true, false, cond, List, [], ◌∷◌, ◌++◌, map, get_or, slice_get, All, count_by, Some, None, Option, refl, sym, ap, ◌∙◌, arith, ne_eqb}
 use mathlib.Core.List.{IsPrefix}
-use mathlib.Core.Logic.{dite}
-use native.Mathlib.Decide.{ℕ_discrete}
-use Rattle.std.proofs.lemmas.List.Elements.{filter_map-append, All-head, All-tail, All-get_or}
+use Rattle.std.proofs.lemmas.List.Elements.{filter_map-append, All-head, All-tail}
 use Rattle.std.proofs.lemmas.List.Sums.{sum_by-cons, sum_by-append, sum_by-le-sum_by}
 use Rattle.cj_model.specs.declared.request.Entry.{Entry}
 use Rattle.cj_cluster.specs.declared.event.Event.{Event}
@@ -12,7 +10,7 @@ use Rattle.cj_cluster.specs.History.Turns.{entry_count_of}
 use Rattle.cj_cluster.specs.Moves.Cores.{is_entry_of}
 use Rattle.cj_cluster.specs.Moves.Moves.{entry_numbered}
 use Rattle.cj_cluster.proofs.Pushed.{log-prefix, prefix_get}
-use Rattle.cj_board.specs.Counting.{ends_transaction_of, log_failure_session, log_failure_sessions, event_count_of, sessions_in, greatest_of, session_after}
+use Rattle.cj_board.specs.Counting.{ends_transaction_of, log_failure_session, log_failure_sessions, event_count_of, greatest_of, session_after}
 
 -- ---- lists
 

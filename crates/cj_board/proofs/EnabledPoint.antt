@@ -1,10 +1,10 @@
 -- Where no entry is open, each enabled backend stands at the end of the log, at each step.
-use Rattle.std.proofs.Common.{◌≡◌, ◌≢◌, ℕ, ◌+◌, ◌*◌, ◌<◌, ◌≤◌, Bool, true, false, not, ◌&&◌, ◌||◌, ◌==◌, List, [], ◌∷◌, ◌++◌, length, get_or, set, None, refl, sym, ap, ◌∙◌, subst, arith, All, Contains, ne_eqb}
+use Rattle.std.proofs.Common.{◌≡◌, ◌≢◌, ℕ, ◌+◌, ◌*◌, Bool, true, false, not, ◌&&◌, ◌||◌, ◌==◌, List, [], ◌∷◌, ◌++◌, length, set, None, refl, sym, ap, ◌∙◌, subst, All, Contains, ne_eqb}
 use mathlib.Core.Logic.{dite}
 use native.Mathlib.Decide.{ℕ_discrete}
 use Rattle.cj_cluster.specs.declared.event.Event.{Event}
 use Rattle.cj_cluster.specs.declared.event.Event.TheVariants.{Sched, Ended, ReadFailed, LogFailed, Disabled, Enabled, Marker}
-use Rattle.cj_cluster.specs.History.Histories.{scheduled_entry, log, is_end_event, is_idle, is_enabled, enabled_after_event}
+use Rattle.cj_cluster.specs.History.Histories.{scheduled_entry, log, is_end_event, is_enabled, enabled_after_event}
 use Rattle.cj_cluster.specs.History.Legality.{IsLegal}
 use Rattle.cj_cluster.proofs.Pushed.{enabled-push, log-same, free-sched, free-same}
 use Rattle.cj_board.specs.Points.{position_word, IsPositionNote, EnabledAreAtEnd}

@@ -1,5 +1,5 @@
 -- The whole rule, at each kind of step.
-use Rattle.std.proofs.Common.{◌≡◌, ◌≢◌, ℕ, suc, ◌+◌, ◌*◌, ◌<◌, ◌≤◌, List, [], ◌∷◌, ◌++◌, length, set, ◌⊎◌, inl, inr, refl, sym, ap, ◌∙◌, subst, arith, All}
+use Rattle.std.proofs.Common.{◌≡◌, ◌≢◌, ℕ, suc, ◌+◌, ◌*◌, ◌<◌, ◌≤◌, List, [], ◌∷◌, ◌++◌, length, set, inr, refl, sym, ap, ◌∙◌, subst, arith, All}
 use mathlib.Core.Option.{some}
 use lib.ListN.{get_elem?}
 use Rattle.std.proofs.lemmas.List.Elements.{All-nil}
@@ -8,8 +8,8 @@ use Rattle.cj_cluster.specs.History.Histories.{log}
 use Rattle.cj_cluster.specs.History.Legality.{IsLegal}
 use Rattle.cj_board.specs.declared.view.SeatView.{SeatView}
 use Rattle.cj_board.specs.declared.view.Role.{Role}
-use Rattle.cj_board.specs.declared.view.Role.TheVariants.{Book, Cell, Pass}
-use Rattle.cj_board.specs.Points.{AtEachSeat, position_word, fault_word, max_word, HasSeat, BeginsHistory, IsInLog, KnowsPosition, IsPositionNote, IsFaultNote, KnowsFaults, KnowsGiven, fault_tokens_of, OwnPassesCount, IsKept}
+use Rattle.cj_board.specs.declared.view.Role.TheVariants.{Book, Cell}
+use Rattle.cj_board.specs.Points.{position_word, fault_word, max_word, HasSeat, BeginsHistory, IsInLog, KnowsPosition, IsPositionNote, IsFaultNote, KnowsFaults, KnowsGiven, fault_tokens_of, OwnPassesCount, IsKept}
 use Rattle.cj_board.specs.Steps.{HasPositionNotes, HasFaultTokens, HasCountNotes, after_append, with_position, at_position, with_faults, after_count, after_making_cell, one_cell_more}
 use Rattle.cj_board.specs.Views.{cells_made, next_cell, next_cell_of}
 use Rattle.cj_board.proofs.KnownSeats.{known_append, known_move, known_fault, known_set, known_more, known_cell, put}

@@ -1,15 +1,12 @@
 -- Positions are in the log, and cells know them, at each step.
-use Rattle.std.proofs.Common.{◌≡◌, ◌≢◌, ℕ, suc, ◌+◌, ◌*◌, ◌<◌, ◌≤◌, List, [], ◌∷◌, ◌++◌, length, set, refl, sym, ap, ◌∙◌, subst, arith}
+use Rattle.std.proofs.Common.{◌≡◌, ◌≢◌, ℕ, suc, ◌+◌, ◌*◌, ◌<◌, List, [], ◌∷◌, ◌++◌, set, sym, ap, ◌∙◌, subst, arith}
 use mathlib.Core.Logic.{dite}
-use mathlib.Core.Option.{some}
 use native.Mathlib.Decide.{ℕ_discrete}
-use lib.ListN.{get_elem?}
 use Rattle.cj_cluster.specs.declared.event.Event.{Event}
-use Rattle.cj_cluster.specs.History.Histories.{log}
 use Rattle.cj_board.specs.declared.view.SeatView.{SeatView}
 use Rattle.cj_board.specs.declared.view.Role.{Role}
 use Rattle.cj_board.specs.declared.view.Role.TheVariants.{Book, Cell, Pass}
-use Rattle.cj_board.specs.Points.{AtEachSeat, position_word, IsInLog, KnowsPosition, PositionsAreInLog, HasSeat, SeatsAreKnown}
+use Rattle.cj_board.specs.Points.{position_word, IsInLog, KnowsPosition, PositionsAreInLog, HasSeat, SeatsAreKnown}
 use Rattle.cj_board.proofs.EachSeat.{each_set, each_more}
 use Rattle.cj_board.proofs.Words.{position_first, position_same, position_else, position_aside}
 use Rattle.cj_board.proofs.Histories.{log_grows}

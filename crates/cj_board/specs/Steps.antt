@@ -1,5 +1,5 @@
 -- What each step asks for, and the view of the seat after it.
-use Rattle.std.specs.Prelude.{◌≡◌, ℕ, suc, ◌+◌, ◌*◌, ◌<◌, ◌≤◌, Bool, true, false, not, leb, eqb, cond, ◌==◌, List, [], ◌∷◌, ◌++◌, length, filter, Contains}
+use Rattle.std.specs.Prelude.{◌≡◌, ℕ, suc, ◌+◌, ◌<◌, ◌≤◌, Bool, true, false, not, leb, eqb, cond, ◌==◌, List, [], ◌∷◌, ◌++◌, length, filter, Contains}
 use Rattle.std.specs.declared.option.Option.{Option}
 use Rattle.std.specs.declared.option.Option.TheVariants.{None, Some}
 use Rattle.cj_cluster.specs.declared.event.Event.{Event}
@@ -37,6 +37,7 @@ abbrev pub spend : (ℕ → Bool) → List ℕ → List ℕ
 spend these [] = []
 spend these (t ∷ ts) = cond (these t) (spend (λ b. cond (eqb b t) false (these b)) ts) (t ∷ spend these ts)
 
+-- the event is the last that was seen, and one token is spent for each failure that it notes
 abbrev pub after_append : Event → SeatView → SeatView
 after_append e v = record v { front = v.front ++ e ∷ []; fault_tokens = spend (λ b. notes_failure b e) v.fault_tokens }
 
@@ -47,6 +48,7 @@ with_position p (Book m) = Book m
 with_position p (Cell b q) = Cell b p
 with_position p Pass = Pass
 
+-- a cell at this position, or out
 abbrev pub at_position : ℕ → SeatView → SeatView
 at_position p v = record v { role = with_position p v.role }
 
@@ -54,6 +56,7 @@ at_position p v = record v { role = with_position p v.role }
 abbrev pub one_fault_more : ℕ → ℕ
 one_fault_more n = cond (leb max_word n) n (n + 1)
 
+-- a cell that knows of n faults, with one token more of backend b
 abbrev pub with_faults : ℕ → ℕ → SeatView → SeatView
 with_faults b n v = record v { faults = n; fault_tokens = b ∷ v.fault_tokens }
 
@@ -63,10 +66,11 @@ after_fault b v = with_faults b (one_fault_more v.faults) v
 
 -- ---- at a pass
 
+-- the position word of backend b was n
 abbrev pub after_looking : ℕ → ℕ → SeatView → SeatView
 after_looking b n v = record v { looks = v.looks ++ (b, n) ∷ [] }
 
--- the word that is looked at
+-- the word that tells the position, or that the backend is out
 abbrev pub word_of_position : Option ℕ → ℕ
 word_of_position None = max_word
 word_of_position (Some p) = p

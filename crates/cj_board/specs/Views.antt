@@ -1,5 +1,5 @@
 -- Views of the seats that are made, and of those that are cut from others.
-use Rattle.std.specs.Prelude.{◌≡◌, ◌≢◌, ℕ, suc, leb, eqb, cond, List, [], ◌∷◌, ◌++◌}
+use Rattle.std.specs.Prelude.{◌≡◌, ◌≢◌, ℕ, leb, eqb, cond, List, [], ◌∷◌, ◌++◌}
 use Rattle.cj_board.specs.declared.view.SeatView.{SeatView}
 use Rattle.cj_board.specs.declared.view.Role.{Role}
 use Rattle.cj_board.specs.declared.view.Role.TheVariants.{Book, Cell, Pass}

@@ -1,4 +1,4 @@
-use Rattle.std.proofs.Common.{arith, ◌≡◌, ◌∷◌, [], ◌+◌, ◌++◌, ◌∙◌, suc, ap, sym, subst, ℕ, List, length, length-append}
+use Rattle.std.proofs.Common.{arith, ◌≡◌, ◌∷◌, [], ◌+◌, ◌∙◌, suc, ap, sym, subst, ℕ, List, length, length-append}
 use Rattle.cj_board.specs.declared.seats.CellSeat.{CellSeat}
 use Rattle.cj_board.specs.Seats.{board_id, AreNewCells}
 use Rattle.cj_board.specs.Steps.{after_making_cell}

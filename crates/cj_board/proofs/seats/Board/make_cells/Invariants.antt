@@ -1,4 +1,4 @@
-use Rattle.std.proofs.Common.{◌≡◌, [], length}
+use Rattle.std.proofs.Common.{◌≡◌, length}
 use Rattle.cj_board.specs.Seats.{board_id, book_board, book_view, AreNewCells}
 use Rattle.cj_board.specs.Views.{book_with_cells}
 use Rattle.cj_board.proofs.seats.Board.make_cells.Given as goal

@@ -1,4 +1,4 @@
-use Rattle.std.proofs.Common.{arith, ◌≡◌, ◌∷◌, [], ◌+◌, ◌*◌, ◌∙◌, ap, sym, refl, subst, replicate, ℕ, List}
+use Rattle.std.proofs.Common.{◌≡◌, [], ◌+◌, ◌*◌, ◌∙◌, ap, sym, subst, replicate, ℕ, List}
 use Rattle.atomic_table.specs.Table.{opening}
 use Rattle.cj_board.specs.Points.{IsKeptBoard}
 use Rattle.cj_board.specs.Views.{book_with_cells}
