@@ -1,0 +1,15 @@
+pub mod Words
+pub mod EachSeat
+pub mod Histories
+pub mod Counts
+pub mod KnownSeats
+pub mod FrontPoint
+pub mod PositionPoint
+pub mod NotePoint
+pub mod EnabledPoint
+pub mod FaultPoint
+pub mod SessionPoint
+pub mod KeptSteps
+pub mod AllowedSteps
+pub mod NewCells
+pub mod Reports

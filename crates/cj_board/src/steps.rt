@@ -1,0 +1,230 @@
+// The steps of a board. Each says the whole view of each seat after it.
+ghost use Rattle.std.specs.Prelude.{◌≡◌, ℕ, ◌+◌, ◌<◌, ◌≤◌, [], ◌∷◌, ◌++◌, length, Contains, IfSome};
+ghost use mathlib.Core.List.{IsPrefix};
+ghost use Rattle.cj_model.specs.declared.limits.TheConstants.{EVENT_LIMIT};
+ghost use Rattle.cj_cluster.specs.History.Histories.{log};
+ghost use Rattle.cj_cluster.specs.History.Legality.{IsLegal};
+ghost use Rattle.cj_board.specs.Counting.{event_count_of};
+ghost use Rattle.cj_board.specs.Points.{max_word};
+ghost use Rattle.cj_board.specs.Seats.{board_id, book_board, cell_board, pass_board, book_view, cell_view, pass_view, history, seen, front, position};
+ghost use Rattle.cj_board.specs.Steps.{HasPositionNotes, HasFaultTokens, HasCountNotes, after_append, at_position, after_fault, after_looking, word_of_position, after_count, after_split, after_join, after_learning, after_opening, after_closing};
+ghost use Rattle.cj_board.specs.Views.{role_position, pass_of, pass_without_tokens, pass_without_notes, own_pass_of, next_session};
+
+use crate::rule::{
+    AdvancePosition, AppendEvent, CheckCount, CountUp, JoinOwnPass, SplitOwnPass, StorePosition,
+};
+use crate::seats::{Board, BookSeat, CellSeat, Pass};
+use cj_cluster::Event;
+
+// The book's seat.
+impl Board {
+    /// The history is longer by the event.
+    pub fn append(&self, s: &mut BookSeat, e: &Event)
+        requires board { book_board s.old ≡ board_id self.now }
+        requires legal { IsLegal (history s.old ++ e.now ∷ []) }
+        requires positions { HasPositionNotes (history s.old) (book_view s.old).position_notes e.now }
+        requires faults { HasFaultTokens (book_view s.old).fault_tokens e.now }
+        requires counts { HasCountNotes (book_view s.old).given (history s.old) (book_view s.old).count_notes e.now }
+        ensures board { book_board s.new ≡ book_board s.old }
+        ensures book { book_view s.new ≡ after_append e.now (book_view s.old) }
+    {
+        let events = s.events;
+        self.table
+            .shared
+            .compare_exchange_with::<AppendEvent>(&mut s.seat, 0, events, events + 1, e);
+        s.events = events + 1;
+    }
+
+    /// The pass has seen the book's history, and has its notes. The fault tokens stay.
+    pub fn tell(&self, s: &mut BookSeat, p: &mut Pass)
+        requires board { (book_board s.old ≡ board_id self.now) × (pass_board p.old ≡ board_id self.now) }
+        ensures board { (book_board s.new ≡ book_board s.old) × (pass_board p.new ≡ pass_board p.old) }
+        ensures book { book_view s.new ≡ after_learning (book_view s.old) (pass_without_notes (pass_view p.old)) }
+        ensures pass { pass_view p.new ≡ after_join (pass_view p.old) (pass_without_tokens (book_view s.new)) }
+        ensures told { front p.new ≡ history s.old }
+        ensures longer { IsPrefix (front p.old) (front p.new) }
+    {
+        let before = self.split_without_notes(&mut p.seat);
+        self.join_to_book(&mut s.seat, before);
+        let told = self.split_without_tokens(&mut s.seat);
+        self.join(&mut p.seat, told);
+    }
+
+    /// The book has the pass's notes, and takes its fault tokens.
+    pub fn learn(&self, s: &mut BookSeat, p: &mut Pass)
+        requires board { (book_board s.old ≡ board_id self.now) × (pass_board p.old ≡ board_id self.now) }
+        ensures board { (book_board s.new ≡ book_board s.old) × (pass_board p.new ≡ pass_board p.old) }
+        ensures book { book_view s.new ≡ after_learning (book_view s.old) (pass_of (pass_view p.old)) }
+        ensures pass { pass_view p.new ≡ after_split (pass_view p.old) }
+        ensures seen { IsPrefix (front p.old) (history s.new) }
+    {
+        let copy = self.split_pass(&mut p.seat);
+        self.join_to_book(&mut s.seat, copy);
+    }
+
+    /// The session's own pass, with count 0. The session is the next after those that were given one, and those in the history.
+    pub fn open_own(&self, s: &mut BookSeat, session: u64) -> Pass
+        requires board { book_board s.old ≡ board_id self.now }
+        requires next { session ≡ next_session (book_view s.old) }
+        ensures board { (book_board s.new ≡ book_board s.old) × (pass_board result ≡ book_board s.old) }
+        ensures book { book_view s.new ≡ after_opening (book_view s.old) }
+        ensures pass { pass_view result ≡ own_pass_of (book_view s.old) }
+        ensures session { (pass_view result).own_session ≡ session }
+    {
+        let seat = self.table.shared.split_seat::<SplitOwnPass>(&mut s.seat);
+        Pass { seat }
+    }
+
+    /// Takes an own pass back: its session counts its events no longer.
+    pub fn close_own(&self, s: &mut BookSeat, p: Pass)
+        requires board { (book_board s.old ≡ board_id self.now) × (pass_board p ≡ board_id self.now) }
+        requires own { 0 < (pass_view p).own_session }
+        ensures board { book_board s.new ≡ book_board s.old }
+        ensures book { book_view s.new ≡ after_closing (book_view s.old) (pass_view p) }
+    {
+        let Pass { seat } = p;
+        self.table
+            .shared
+            .join_seat::<JoinOwnPass>(&mut s.seat, seat);
+    }
+}
+
+// The cells' seats.
+impl Board {
+    /// The position is one higher.
+    pub fn advance(&self, c: &mut CellSeat)
+        requires board { cell_board c.old ≡ board_id self.now }
+        requires below { position c.old < length (log (seen c.old)) }
+        ensures board { (cell_board c.new ≡ cell_board c.old) × (c.new.b ≡ c.old.b) }
+        ensures cell { cell_view c.new ≡ at_position (position c.old + 1) (cell_view c.old) }
+        ensures within { position c.new ≤ EVENT_LIMIT }
+    {
+        let word = 2 * usize::from(c.b) + 1;
+        self.table
+            .shared
+            .fetch_add::<AdvancePosition>(&mut c.seat, word, 1);
+    }
+
+    /// The backend is out.
+    pub fn out(&self, c: &mut CellSeat)
+        requires board { cell_board c.old ≡ board_id self.now }
+        requires below { position c.old < length (log (seen c.old)) }
+        ensures board { (cell_board c.new ≡ cell_board c.old) × (c.new.b ≡ c.old.b) }
+        ensures cell { cell_view c.new ≡ at_position max_word (cell_view c.old) }
+    {
+        let word = 2 * usize::from(c.b) + 1;
+        self.table
+            .shared
+            .store::<StorePosition>(&mut c.seat, word, u64::MAX);
+    }
+
+    /// A backend that is out stands at the position from now on.
+    pub fn settle(&self, c: &mut CellSeat, position: u64)
+        requires board { cell_board c.old ≡ board_id self.now }
+        requires out { role_position (cell_view c.old).role ≡ max_word }
+        requires within { position ≤ length (log (seen c.old)) }
+        ensures board { (cell_board c.new ≡ cell_board c.old) × (c.new.b ≡ c.old.b) }
+        ensures cell { cell_view c.new ≡ at_position position (cell_view c.old) }
+    {
+        let word = 2 * usize::from(c.b) + 1;
+        self.table
+            .shared
+            .store::<StorePosition>(&mut c.seat, word, position);
+    }
+
+    /// The backend failed once more: the cell has one more fault token of it, and its fault word is one higher, unless it is full.
+    pub fn note_fault(&self, c: &mut CellSeat)
+        requires board { cell_board c.old ≡ board_id self.now }
+        ensures board { (cell_board c.new ≡ cell_board c.old) × (c.new.b ≡ c.old.b) }
+        ensures cell { cell_view c.new ≡ after_fault c.old.b (cell_view c.old) }
+    {
+        let b = c.b;
+        self.add_fault(&mut c.seat, b);
+    }
+
+    /// The cell has seen the pass's history, and its backend has at least the faults that the pass noted.
+    pub fn brief(&self, c: &mut CellSeat, p: &mut Pass)
+        requires board { (cell_board c.old ≡ board_id self.now) × (pass_board p.old ≡ board_id self.now) }
+        ensures board { (cell_board c.new ≡ cell_board c.old) × (c.new.b ≡ c.old.b) × (pass_board p.new ≡ pass_board p.old) }
+        ensures cell { cell_view c.new ≡ after_join (cell_view c.old) (pass_without_tokens (pass_view p.old)) }
+        ensures pass { pass_view p.new ≡ pass_view p.old }
+        ensures seen { IsPrefix (front p.old) (seen c.new) × IsPrefix (seen c.old) (seen c.new) }
+        ensures faults { (n : ℕ) → Contains (pass_view p.old).fault_notes (c.old.b, n) → n ≤ (cell_view c.new).faults }
+    {
+        let copy = self.split_without_tokens(&mut p.seat);
+        self.join(&mut c.seat, copy);
+        self.check_faults(&mut c.seat);
+    }
+
+    /// The pass has seen the cell's history, has its notes, one of its faults and, unless it is out, one of its position, and takes its fault tokens.
+    pub fn report(&self, c: &mut CellSeat, p: &mut Pass)
+        requires board { (cell_board c.old ≡ board_id self.now) × (pass_board p.old ≡ board_id self.now) }
+        ensures board { (cell_board c.new ≡ cell_board c.old) × (c.new.b ≡ c.old.b) × (pass_board p.new ≡ pass_board p.old) }
+        ensures cell { cell_view c.new ≡ after_split (cell_view c.old) }
+        ensures pass { pass_view p.new ≡ after_join (pass_view p.old) (pass_of (cell_view c.old)) }
+        ensures position { position c.old < max_word → Contains (pass_view p.new).position_notes (c.old.b, position c.old) }
+        ensures faults { Contains (pass_view p.new).fault_notes (c.old.b, (cell_view c.old).faults) }
+        ensures seen { IsPrefix (seen c.old) (front p.new) }
+        ensures longer { IsPrefix (front p.old) (front p.new) }
+    {
+        let copy = self.split_pass(&mut c.seat);
+        self.join(&mut p.seat, copy);
+    }
+}
+
+// Passes.
+impl Board {
+    /// Another pass that has seen the same, with the same notes. The fault tokens stay.
+    pub fn split(&self, p: &mut Pass) -> Pass
+        requires board { pass_board p.old ≡ board_id self.now }
+        ensures board { (pass_board p.new ≡ pass_board p.old) × (pass_board result ≡ pass_board p.old) }
+        ensures pass { pass_view p.new ≡ pass_view p.old }
+        ensures other { pass_view result ≡ pass_without_tokens (pass_view p.old) }
+    {
+        let seat = self.split_without_tokens(&mut p.seat);
+        Pass { seat }
+    }
+
+    /// The pass has seen what the other has, and has its notes and fault tokens.
+    pub fn rejoin(&self, p: &mut Pass, q: Pass)
+        requires board { (pass_board p.old ≡ board_id self.now) × (pass_board q ≡ board_id self.now) }
+        ensures board { pass_board p.new ≡ pass_board p.old }
+        ensures pass { pass_view p.new ≡ after_join (pass_view p.old) (pass_view q) }
+        ensures longer { IsPrefix (front p.old) (front p.new) × IsPrefix (front q) (front p.new) }
+    {
+        let Pass { seat } = q;
+        self.join(&mut p.seat, seat);
+    }
+
+    /// The position of backend b at a moment of the call, or `None` where it was out.
+    pub fn look(&self, p: &mut Pass, b: u8) -> Option<u64>
+        requires board { pass_board p.old ≡ board_id self.now }
+        requires backend { b < self.now.backends }
+        ensures board { pass_board p.new ≡ pass_board p.old }
+        ensures pass { pass_view p.new ≡ after_looking b (word_of_position result) (pass_view p.old) }
+        ensures within { IfSome result (λ position. position ≤ EVENT_LIMIT) }
+    {
+        let found = self.load_position(&mut p.seat, b);
+        if found == u64::MAX { None } else { Some(found) }
+    }
+
+    /// The count of an own pass is one higher.
+    pub fn count(&self, p: &mut Pass)
+        requires board { pass_board p.old ≡ board_id self.now }
+        requires own { 0 < (pass_view p.old).own_session }
+        ensures board { pass_board p.new ≡ pass_board p.old }
+        ensures pass { pass_view p.new ≡ after_count (pass_view p.old) }
+    {
+        self.table.shared.load::<CountUp>(&mut p.seat, 0);
+    }
+
+    /// The session of an own pass has no more events in what the pass has seen than were counted.
+    pub fn check_count(&self, p: &mut Pass)
+        requires board { pass_board p.old ≡ board_id self.now }
+        ensures board { pass_board p.new ≡ pass_board p.old }
+        ensures pass { pass_view p.new ≡ pass_view p.old }
+        ensures counted { 0 < (pass_view p.old).own_session → event_count_of (pass_view p.old).own_session (front p.old) ≤ (pass_view p.old).count }
+    {
+        self.table.shared.load::<CheckCount>(&mut p.seat, 0);
+    }
+}
