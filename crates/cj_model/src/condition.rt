@@ -1,17 +1,49 @@
 //! Conditions. A condition holds itself through boxes; contracts see the tree without them.
 
+ghost use Rattle.std.specs.Prelude.{◌≡◌, IfOk};
+ghost use Rattle.cj_model.specs.Database.Conditions as tree;
+ghost use Rattle.cj_model.specs.Proving.ConditionNodes.{condition_of_node};
+
 use crate::memory::{Duplicate, NoMemory};
 use crate::term::{Cmp, Term};
 use std::alloc::Global;
 use std::marker::Model;
 
 /// A node of a condition's tree, which parsers build and walkers go down.
-#[derive(Drop)]
 pub enum CondNode {
     Test(Cmp, Term, Term),
     Not(Box<CondNode>),
     And(Box<CondNode>, Box<CondNode>),
     Or(Box<CondNode>, Box<CondNode>),
+}
+
+/// A loop goes down the left, where connectives in a row make a tree deep. To the right one is no
+/// deeper than its parentheses.
+impl Drop for CondNode {
+    fn drop(mut self) {
+        loop {
+            match self {
+                CondNode::Test(_, _left, _right) => return,
+                CondNode::Not(inner) => self = Box::into_inner(inner),
+                CondNode::And(left, _right) => self = Box::into_inner(left),
+                CondNode::Or(left, _right) => self = Box::into_inner(left),
+            }
+        }
+    }
+}
+
+fn boxed(alloc: Global, node: CondNode) -> Result<Box<CondNode>, NoMemory>
+    ensures { IfOk result (λ boxed. boxed.value ≡ node) }
+{
+    Ok(Box::new(alloc, node)?)
+}
+
+fn copy_test(alloc: Global, cmp: Cmp, left: &Term, right: &Term) -> Result<Box<CondNode>, NoMemory>
+    ensures { IfOk result (λ copy. condition_of_node copy.value ≡ tree.Test cmp left.now right.now) }
+{
+    let left = left.copy(alloc)?;
+    let right = right.copy(alloc)?;
+    boxed(alloc, CondNode::Test(cmp, left, right))
 }
 
 /// A condition, which contracts see as a tree without pointers.
@@ -37,29 +69,26 @@ impl CondNode {
     ghost use Rattle.std.specs.Prelude.{◌≡◌, IfOk};
     ghost use Rattle.cj_model.specs.Proving.ConditionNodes.{condition_of_node};
 
-    /// A node of the same tree.
-    pub fn copy(&self, alloc: Global) -> Result<CondNode, NoMemory>
-        ensures { IfOk result (λ copy. condition_of_node copy ≡ condition_of_node self.now) }
+    /// A node of the same tree, in its box, so that a level of the recursion takes little of the
+    /// stack.
+    pub fn copy(&self, alloc: Global) -> Result<Box<CondNode>, NoMemory>
+        ensures { IfOk result (λ copy. condition_of_node copy.value ≡ condition_of_node self.now) }
     {
         match self {
-            CondNode::Test(cmp, left, right) => Ok(CondNode::Test(
-                *cmp,
-                left.copy(alloc)?,
-                right.copy(alloc)?,
-            )),
+            CondNode::Test(cmp, left, right) => copy_test(alloc, *cmp, left, right),
             CondNode::Not(inner) => {
                 let inner = inner.copy(alloc)?;
-                Ok(CondNode::Not(Box::new(alloc, inner)?))
+                boxed(alloc, CondNode::Not(inner))
             }
             CondNode::And(left, right) => {
-                let left = Box::new(alloc, left.copy(alloc)?)?;
-                let right = Box::new(alloc, right.copy(alloc)?)?;
-                Ok(CondNode::And(left, right))
+                let left = left.copy(alloc)?;
+                let right = right.copy(alloc)?;
+                boxed(alloc, CondNode::And(left, right))
             }
             CondNode::Or(left, right) => {
-                let left = Box::new(alloc, left.copy(alloc)?)?;
-                let right = Box::new(alloc, right.copy(alloc)?)?;
-                Ok(CondNode::Or(left, right))
+                let left = left.copy(alloc)?;
+                let right = right.copy(alloc)?;
+                boxed(alloc, CondNode::Or(left, right))
             }
         }
     }
@@ -94,8 +123,7 @@ impl Cond {
 
 impl Duplicate for Cond {
     fn copy(&self, alloc: Global) -> Result<Cond, NoMemory> {
-        Ok(Cond {
-            root: self.root.copy(alloc)?,
-        })
+        let root = self.root.copy(alloc)?;
+        Ok(Cond::of(Box::into_inner(root)))
     }
 }
