@@ -1,0 +1,6 @@
+pub mod Fronts
+pub mod Kept
+pub mod KeptSessions
+pub mod Longer
+pub mod OneOpening
+pub mod Texts
