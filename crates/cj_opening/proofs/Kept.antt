@@ -1,5 +1,5 @@
 -- What is kept of a history with one more item.
-use Rattle.std.proofs.Common.{◌≡◌, ◌≢◌, ℕ, ◌+◌, ◌<◌, ◌≤◌, ◌==◌, ◌||◌, Bool, true, false, cond, List, [], ◌∷◌, ◌++◌, length, get_or, slice_get, option_and_then, Option, None, Some, refl, ap, sym, ◌∙◌, subst, arith, append_assoc, length-append, ⊎_elim}
+use Rattle.std.proofs.Common.{◌≡◌, ◌≢◌, ℕ, ◌<◌, ◌≤◌, ◌||◌, Bool, true, false, cond, List, [], ◌∷◌, ◌++◌, length, get_or, slice_get, option_and_then, Option, None, Some, refl, ap, sym, ◌∙◌, subst, arith, append_assoc, length-append, ⊎_elim}
 use Rattle.std.specs.List.{list_any}
 use Rattle.std.specs.Str.{bytes_eq}
 use Rattle.std.specs.BTreeMap.{BTreeMap, is_at}
@@ -20,7 +20,7 @@ use Rattle.cj_cluster.proofs.Pushed.{get_seam, get_left, log-sched, log-same, ma
 use Rattle.cj_opening.specs.declared.sessions.SessionSoFar.{SessionSoFar}
 use Rattle.cj_opening.specs.declared.markers.MarkerName.{MarkerName}
 use Rattle.cj_opening.specs.Proving.MarkerOrder.{marker_cmp, named}
-use Rattle.cj_opening.specs.Proving.Keeping.{entry_at, KeepsPlaces, KeepsSessions, KeepsMarkers, Keeps}
+use Rattle.cj_opening.specs.Proving.Keeping.{entry_at, KeepsPlaces, KeepsSessions, Keeps}
 
 -- ---- the entries at their places
 

@@ -1,15 +1,16 @@
 -- What is known of sessions, with one more entry of the log.
-use Rattle.std.proofs.Common.{◌≡◌, ◌≢◌, ◌⊎◌, inl, inr, ℕ, zero, suc, ◌+◌, ◌-◌, ◌<◌, ◌≤◌, ◌==◌, Bool, true, false, cond, List, [], ◌∷◌, ◌++◌, length, get_or, slice_get, unwrap_or, Option, None, Some, All, refl, ap, sym, ◌∙◌, subst, arith, length-append, ⊎_elim}
+use Rattle.std.proofs.Common.{◌≡◌, ◌≢◌, ℕ, zero, suc, ◌+◌, ◌-◌, ◌<◌, ◌≤◌, ◌==◌, true, false, List, [], ◌∷◌, ◌++◌, length, slice_get, unwrap_or, None, Some, All, refl, ap, sym, ◌∙◌, subst, arith, length-append, ⊎_elim}
 use Rattle.std.specs.Option.{option_map}
 use Rattle.std.specs.Ordering.{nat_cmp}
 use Rattle.std.specs.BTreeMap.{BTreeMap, get, is_at}
-use Rattle.std.proofs.lemmas.Bool.{cases_eq, eq-eqb, ne_eqb, eqb-true, cond-true, cond-false}
+use Rattle.std.proofs.lemmas.Bool.{cases_eq, eq-eqb, ne_eqb, cond-true, cond-false}
 use Rattle.std.proofs.lemmas.Bool.Decides.{nat_tests}
 use Rattle.std.proofs.lemmas.List.{get_or_push, get_or_append_left}
 use Rattle.std.proofs.lemmas.List.Elements.{All-push, All-weaker, All-nil}
 use Rattle.cj_model.specs.declared.request.Act.{Act}
 use Rattle.cj_model.specs.declared.request.Act.TheVariants as act
 use Rattle.cj_model.specs.declared.request.Entry.{Entry}
+use Rattle.cj_model.specs.declared.limits.TheConstants.{REQUEST_LIMIT, SESSION_NUMBER_LIMIT}
 use Rattle.cj_cluster.specs.History.Histories.{tx_of}
 use Rattle.cj_cluster.specs.History.Legality.{FitsTx, IsFitEntry, IsSessionEntry, IsAdministratorEntry}
 use Rattle.cj_cluster.specs.History.Transactions.{is_begin, is_end}
@@ -194,6 +195,32 @@ module _ (entries : List Entry) (e : Entry) (sessions new : BTreeMap ℕ Session
   keeps_fit is fit =
       ⊎_elim (λ (s : IsSessionEntry entries e). keeps_own (is ∙ owner_session entries e s.session.0) s)
       (λ (a : IsAdministratorEntry entries e). keeps_ended a (is ∙ owner_administrator entries e a)) fit.by
+
+-- ---- a session's next entry
+
+module _ (entries : List Entry) (e : Entry) (sessions : BTreeMap ℕ SessionSoFar) (k : KeepsSessions entries sessions) where
+  -- what an entry of a session must be, by what is known of the session
+  pub record IsAsKnown : Type 0 where
+    pub session : (0 < e.session) × (e.session ≤ SESSION_NUMBER_LIMIT)
+    pub limit : e.seq ≤ REQUEST_LIMIT
+    pub newer : (session_in sessions e.session).next ≤ e.seq
+    pub tx : FitsTx (session_in sessions e.session).tx e.tx e.act
+
+  pub as_known : IsSessionEntry entries e → IsAsKnown
+  as_known s = record {
+    session = s.session;
+    limit = s.limit;
+    newer = (k.next e.session s.session.0).least e.seq s.newer;
+    tx = subst (λ (t : ℕ). FitsTx t e.tx e.act) (sym (k.tx e.session)) s.tx;
+  }
+
+  pub from_known : IsAsKnown → IsSessionEntry entries e
+  from_known s = record {
+    session = s.session;
+    limit = s.limit;
+    newer = newer_from entries e (session_in sessions e.session).next (k.next e.session s.session.0) s.newer;
+    tx = subst (λ (t : ℕ). FitsTx t e.tx e.act) (k.tx e.session) s.tx;
+  }
 
 -- ---- a session that is put
 

@@ -1,11 +1,10 @@
 -- An opening history grows by one item.
-use Rattle.std.proofs.Common.{◌≡◌, ◌⊎◌, ℕ, suc, ◌+◌, ◌^◌, ◌<◌, ◌≤◌, ◌==◌, Bool, true, false, List, [], ◌∷◌, ◌++◌, length, refl, ap, sym, ◌∙◌, subst, arith, append_assoc, length-append}
+use Rattle.std.proofs.Common.{◌≡◌, ℕ, suc, ◌+◌, ◌^◌, ◌≤◌, true, List, [], ◌∷◌, ◌++◌, length, refl, ap, sym, ◌∙◌, subst, arith, append_assoc, length-append}
 use Rattle.std.proofs.lemmas.Bool.{eq-eqb, both_ways}
-use Rattle.cj_model.specs.declared.request.Entry.{Entry}
 use Rattle.cj_model.specs.Cluster.Masks.{in_mask}
 use Rattle.cj_model.proofs.Masks.{has-zero}
 use Rattle.cj_cluster.specs.declared.event.Event.{Event}
-use Rattle.cj_cluster.specs.declared.event.Event.TheVariants.{Sched, Ended, ReadFailed, LogFailed, Disabled, Enabled, Marker}
+use Rattle.cj_cluster.specs.declared.event.Event.TheVariants.{Sched, Ended, Marker}
 use Rattle.cj_cluster.specs.History.Histories.{log, ended_count, is_idle, masks_of_ends}
 use Rattle.cj_cluster.specs.History.Legality.{AreFitMasks, IsLegal}
 use Rattle.cj_cluster.proofs.Pushed.{free-sched, legal_push, length-ends}

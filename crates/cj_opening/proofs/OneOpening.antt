@@ -12,12 +12,16 @@ use Rattle.cj_print.specs.Canonical.{canonical}
 use Rattle.cj_print.proofs.CanonicalReads.{canonical_reads_back}
 use Rattle.cj_sql.proofs.OneReading.{text_one}
 use Rattle.cj_cluster.specs.declared.event.Event.{Event}
-use Rattle.cj_cluster.specs.declared.event.Event.TheVariants.{Sched, Ended, ReadFailed, LogFailed, Disabled, Enabled, Marker}
+use Rattle.cj_cluster.specs.declared.event.Event.TheVariants.{Sched, Ended, Marker}
 use Rattle.cj_cluster.specs.History.Histories.{log}
+use Rattle.cj_cluster.specs.History.Legality.{IsFitEntry, IsSessionEntry, IsAdministratorEntry}
 use Rattle.cj_cluster.specs.History.Transactions.{AreFitBehind}
 use Rattle.cj_cluster.proofs.TransactionLaws.{legal_fit}
+use Rattle.cj_log.specs.declared.item.LogEntry.{LogEntry}
 use Rattle.cj_log.specs.declared.item.LogItem.{LogItem}
+use Rattle.cj_log.specs.declared.item.LogItem.TheVariants as items
 use Rattle.cj_opening.specs.Openings.{entry_item, marker_item, items_behind, IsOpening, OpensTo, HasBadEntry, ItemsFixTheOpening, OpeningsAreGood, OneBadEntry}
+use Rattle.cj_opening.specs.Proving.Steps.{IsTextOf, IsNextEntry}
 use Rattle.cj_opening.proofs.Fronts.{entry_part, marker_part, no_items, opens_front}
 
 -- ---- one entry
@@ -40,7 +44,7 @@ one_request r q w v same =
     text_one (canonical q) r q (subst (λ (text : List ℕ). TextReadsAs text r) same (canonical_reads_back w.text r w.reads)) (canonical_reads_back v.text q v.reads)
 
 -- an item is that of one entry
-one_entry : (n : ℕ) (d e : Entry) → IsWritten (request_of d.act) → IsWritten (request_of e.act) → entry_item n d ≡ entry_item n e → d ≡ e
+pub one_entry : (n : ℕ) (d e : Entry) → IsWritten (request_of d.act) → IsWritten (request_of e.act) → entry_item n d ≡ entry_item n e → d ≡ e
 one_entry n d e w v same =
     let session : d.session ≡ e.session = ap (λ (i : LogItem). (entry_part i).session) same in
     let seq : d.seq ≡ e.seq = ap (λ (i : LogItem). (entry_part i).seq) same in
@@ -49,6 +53,17 @@ one_entry n d e w v same =
     let text : canonical (request_of d.act) ≡ canonical (request_of e.act) = ap (λ (i : LogItem). (entry_part i).text) same in
     let acts : d.act ≡ e.act = one_act d.act e.act (one_request (request_of d.act) (request_of e.act) w v text) in
     λ i. record { session = session i; seq = seq i; tx = tx i; user = user i; act = acts i }
+
+-- where the entry with an item's fields and act fits nowhere, the item is no next entry
+pub no_next_entry : (h : List Event) (x : LogEntry) (d : Entry) → d.session ≡ x.session → d.seq ≡ x.seq → d.tx ≡ x.tx → d.user ≡ x.user → IsTextOf x.text d.act
+    → (IsSessionEntry (log h) d → ⊥) → (IsAdministratorEntry (log h) d → ⊥) → (e : Entry) → IsNextEntry h x e → ⊥
+no_next_entry h x d session seq tx user text no_session no_administrator e next =
+    let number : length (log h) + 1 ≡ x.number = ap (λ (i : LogItem). (entry_part i).number) (sym next.is) in
+    let same : entry_item (length (log h) + 1) d ≡ items.Entry x =
+    λ i. items.Entry (record { number = number i; session = session i; seq = seq i; tx = tx i; user = user i; text = sym text.canonical i })
+    in
+    let one : d ≡ e = one_entry (length (log h) + 1) d e text.written next.fit.written (same ∙ next.is) in
+    ⊎_elim no_session no_administrator (subst (IsFitEntry (log h)) (sym one) next.fit).by
 
 -- ---- one history
 

@@ -3,11 +3,14 @@
 
 mod act;
 mod error;
+mod grown;
+mod history;
 mod item;
 mod laws;
 mod markers;
 mod sessions;
 
 pub use error::OpeningError;
+pub use history::opening;
 pub use item::entry_item;
 pub use laws::{items_fix_the_opening, openings_are_good};
