@@ -1,5 +1,5 @@
 -- What taking a message off the bytes held comes to.
-use Rattle.std.specs.Prelude.{◌≡◌, ℕ, List, [], ◌∷◌, ◌++◌, Result, Ok, Err}
+use Rattle.std.specs.Prelude.{◌≡◌, ℕ, ◌^◌, ◌<◌, List, [], ◌∷◌, ◌++◌, All, Result, Ok, Err}
 use Rattle.std.specs.declared.option.Option.{Option}
 use Rattle.std.specs.declared.option.Option.TheVariants.{None, Some}
 use Rattle.cj_model.specs.declared.message.Message.{Message}
@@ -29,3 +29,13 @@ FeedLeadsTo held (message_taken m ∷ steps) bytes messages rest =
 -- However the bytes were cut into pieces, and whenever messages were taken off: the messages and the rest are the one reading of the bytes.
 abbrev pub FeedsGiveReadings : Type 0
 FeedsGiveReadings = (steps : List FeedStep) (bytes : List ℕ) (messages : List Message) (rest : List ℕ) → FeedLeadsTo [] steps bytes messages rest → BeginsNoFrame rest → Frames bytes messages rest
+
+-- the messages and the rest that the bytes read as
+pub record HasReading (bytes : List ℕ) : Type 0 where
+  pub messages : List Message
+  pub rest : List ℕ
+  pub frames : Frames bytes messages rest
+
+-- All bytes read as some messages and a rest.
+abbrev pub BytesHaveReadings : Type 0
+BytesHaveReadings = (bytes : List ℕ) → All (λ b. b < 2 ^ 8) bytes → HasReading bytes

@@ -13,5 +13,5 @@ mod next;
 pub use error::FrameError;
 pub use feed::Feed;
 pub use frames::{Framed, read_frames};
-pub use laws::feeds_are_readings;
+pub use laws::{bytes_have_readings, feeds_are_readings};
 pub use next::next_message;

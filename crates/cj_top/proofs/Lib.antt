@@ -1,2 +1,5 @@
+pub mod Completed
+pub mod InputScripts
+pub mod InputSessions
 pub mod NewBackends
 pub mod PlayedOver

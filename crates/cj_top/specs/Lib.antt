@@ -1,3 +1,4 @@
+pub mod Completeness
 pub mod Configured
 pub mod Piped
 pub mod Program

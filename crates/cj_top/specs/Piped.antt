@@ -49,4 +49,6 @@ pub record RunsPipe (c : Conf) (moment : Option ℤ) (left left' held held' : Op
   pub ending : SessionEnd
   pub last : WorldState
   pub serves : ServesOneSession true c.seed moment left left' held held' first ending last
+  -- no reply says that backends failed: those in memory never do
+  pub blameless : All BlamesNobody serves.served.transcript.replies
   pub status_is : status ≡ status_of_session ending

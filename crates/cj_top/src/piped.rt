@@ -1,15 +1,18 @@
 //! One session over a world of its own.
 
-ghost use Rattle.std.specs.Prelude.{◌≡◌, ◌↔◌, true, [], length, map, IfOk, OnErr, Ok};
+ghost use Rattle.std.specs.Prelude.{◌≡◌, ◌≢◌, ◌↔◌, true, [], length, map, IfOk, OnErr, Ok};
 ghost use Rattle.std.specs.Result.{IsOkAnd};
 ghost use Rattle.cj_outside.specs.Causes.{CountsFault};
 ghost use Rattle.cj_cluster.specs.History.Histories.{is_idle, log};
 ghost use Rattle.cj_cluster.specs.declared.session.SessionEnd.TheVariants as ends;
 ghost use Rattle.cj_conf.specs.Confs.{IsUsable};
 ghost use Rattle.cj_state.specs.Beginnings.{AreEmpty, started};
-ghost use Rattle.cj_core.specs.Starts.{HaveBegunNone, backend_of, state_by};
+ghost use Rattle.cj_state.specs.Faults.{faults_of};
 ghost use Rattle.cj_state.specs.Worlds.{WorldState};
+ghost use Rattle.cj_core.specs.QuietCalls.{BlamesNobody};
+ghost use Rattle.cj_core.specs.Starts.{HaveBegunNone, backend_of, state_by};
 ghost use Rattle.cj_place.specs.Layouts.{placement_of};
+ghost use Rattle.cj_top.specs.Completeness.{AnswersInput, CountNoFaults, CountsNoFault};
 ghost use Rattle.cj_top.specs.Piped.{RunsPipe, ServesOneSession};
 ghost use Rattle.cj_top.specs.Program as top;
 
@@ -69,6 +72,9 @@ pub fn pipe<B: Backend + Drop, I: Source, O: Sink, C: Clock>(
     ensures unserved { OnErr result ((input.new ≡ input.old) × (output.new ≡ output.old)) }
     ensures input { CountsFault (IsOkAnd result (λ (ending, _). ending ≡ ends.ReadFault)) (I.faults input.old) (I.faults input.new) }
     ensures output { CountsFault (IsOkAnd result (λ (ending, _). ending ≡ ends.WriteFault)) (O.faults output.old) (O.faults output.new) }
+    // Where nothing failed and memory was not wanting.
+    ensures complete { CountsNoFault (I.faults input.old) (I.faults input.new) → CountsNoFault (O.faults output.old) (O.faults output.new) → IfOk result (λ (ending, last). ending ≢ ends.NoMemory →
+        AnswersInput (λ reply. CountNoFaults (map B.faults backends) (faults_of last.cells) → BlamesNobody reply) (I.left input.old) (O.held output.old) (O.held output.new) ending) }
 {
     let seed = conf.seed;
     let world = World::start(alloc, parts_of(conf), backends)?;
@@ -105,6 +111,8 @@ pub fn run_pipe<I: Source, O: Sink, C: Clock>(
     ensures output { CountsFault (result ≡ Ok 6) (O.faults output.old) (O.faults output.new) }
 {
     let backends = memory_backends(alloc, conf.placement.count())?;
-    let (end, _world) = pipe(alloc, conf, backends, input, output, clock)?;
+    let (end, world) = pipe(alloc, conf, backends, input, output, clock)?;
+    // What is given up shows that none of them has counted a fault.
+    let _backends = world.into_backends();
     Ok(status_of_session(end))
 }

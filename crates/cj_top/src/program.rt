@@ -2,6 +2,7 @@
 
 ghost use Rattle.std.specs.Prelude.{◌≡◌, ◌≢◌, ◌↔◌, true, false, map, string_bytes};
 ghost use Rattle.cj_outside.specs.Causes.{CountsFault};
+ghost use Rattle.cj_top.specs.Completeness.{CompletesCommand, CountsNoFault};
 ghost use Rattle.cj_top.specs.Configured.{WritesRefusal};
 ghost use Rattle.cj_top.specs.Piped.{RunsPipe};
 ghost use Rattle.cj_top.specs.Program as top;
@@ -48,6 +49,10 @@ pub fn run<F: Store, I: Source, O: Sink, E: Sink, C: Clock>(
     ensures conf { CountsFault (result ≡ 7) (F.faults conf.old) (F.faults conf.new) }
     ensures input { CountsFault (result ≡ 5) (I.faults input.old) (I.faults input.new) }
     ensures output { CountsFault (result ≡ 6) (O.faults output.old) (O.faults output.new) }
+
+    // Where none of the three did and memory was not wanting, the bytes of the configuration and of the input fix the status.
+    ensures complete { CountsNoFault (F.faults conf.old) (F.faults conf.new) → CountsNoFault (I.faults input.old) (I.faults input.new) → CountsNoFault (O.faults output.old) (O.faults output.new) → result ≢ 1 →
+        CompletesCommand (map string_bytes words.now) F.TELLS (F.held conf.old) (I.left input.old) (O.held output.old) (O.held output.new) result }
 {
     let pipes = is_pipe(words);
     if !pipes && !is_script(words) {

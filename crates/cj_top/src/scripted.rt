@@ -5,6 +5,7 @@ ghost use Rattle.cj_conf.specs.Confs.{IsUsable};
 ghost use Rattle.cj_outside.specs.Causes.{CountsFault};
 ghost use Rattle.cj_outside.specs.Streams.{WritesAll};
 ghost use Rattle.cj_script.specs.declared.play.ScriptEnd.TheVariants as ends;
+ghost use Rattle.cj_top.specs.Completeness.{CountsNoFault, PlaysInput};
 ghost use Rattle.cj_top.specs.Configured.{BeginsAsConfigured};
 ghost use Rattle.cj_top.specs.Program as top;
 ghost use Rattle.cj_top.specs.Scripted.{NamesLine, PlaysAsConfigured, RunsScript, line_text};
@@ -43,6 +44,9 @@ pub fn play<I: Source, O: Sink>(
     ensures unbegun { OnErr result ((input.new ≡ input.old) × (output.new ≡ output.old)) }
     ensures input { CountsFault (result ≡ Ok ends.ReadFault) (I.faults input.old) (I.faults input.new) }
     ensures output { CountsFault (result ≡ Ok ends.WriteFault) (O.faults output.old) (O.faults output.new) }
+    // Where nothing failed and memory was not wanting.
+    ensures complete { CountsNoFault (I.faults input.old) (I.faults input.new) → CountsNoFault (O.faults output.old) (O.faults output.new) → IfOk result (λ ending. ending ≢ ends.NoMemory →
+        PlaysInput conf.placement.names (I.left input.old) ending) }
 {
     let mut world = flaky_world(alloc, conf)?;
     Ok(script(alloc, &mut world, input, output))

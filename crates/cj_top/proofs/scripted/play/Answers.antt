@@ -1,0 +1,12 @@
+use Rattle.cj_top.proofs.Completed.{not_failed, play_plays}
+use Rattle.cj_top.proofs.PlayedOver.{played_as_configured}
+use Rattle.cj_top.proofs.scripted.play.Goals as goal
+
+pub returns-clause-complete : goal.returns-clause-complete
+returns-clause-complete g c =
+    let left = g.I.Source.left c.args.input.now in
+    let left' = g.I.Source.left c.script.new.input in
+    let held = g.O.Sink.held c.args.output.now in
+    let held' = g.O.Sink.held c.script.new.output in
+    let played = played_as_configured c.args.conf left left' held held' c.script.result c.in_ok-world.world c.script.new.world c.in_ok-world.ensures c.script.ensures.came c.script.ensures.turns in
+    λ input output memory. play_plays c.args.conf left left' held held' c.script.result played (not_failed _ _ _ c.script.ensures.input input) (not_failed _ _ _ c.script.ensures.output output) memory
