@@ -1,7 +1,7 @@
 -- What a stop leaves of a log.
-use Rattle.std.proofs.Common.{◌≡◌, ◌⊎◌, inl, inr, ⊎_elim, ℕ, Bool, true, List, [], ◌∷◌, ◌++◌, ◌-◌, length, take, Ok, Err, refl, sym, ap, subst, ◌∙◌, arith, length-append}
+use Rattle.std.proofs.Common.{◌≡◌, ◌⊎◌, inl, inr, ⊎_elim, ℕ, Bool, true, List, [], ◌∷◌, ◌++◌, Ok, Err, refl, sym, ap, subst, ◌∙◌}
 use Rattle.std.specs.List.{AllByRecursion}
-use Rattle.std.proofs.lemmas.List.{map-append, take_at}
+use Rattle.std.proofs.lemmas.List.{map-append}
 use Rattle.cj_outside.specs.Stores.{LeavesOnly}
 use Rattle.cj_records.specs.RecordFiles.{Finds}
 use Rattle.cj_records.specs.declared.error.RecordsError.{RecordsError}
@@ -60,9 +60,3 @@ log_refused tells old new items items' item body e l same magic list is its refu
       (λ now. subst IsBody (sym now) (item, is, its))
       (λ was. subst IsBody (sym was.1) (l.refused t was.0)) (refused t up);
 }
-
--- without the last item
-pub without_last : (before : List LogItem) (item : LogItem) (all left : List LogItem) → all ≡ before ++ item ∷ [] → left ≡ take (length all - 1) all → left ≡ before
-without_last before item all left is rest =
-    let size : length all - 1 ≡ length before = omega (arith, ap length is, length-append before (item ∷ [])) in
-    rest ∙ ap (λ (k : ℕ). take k all) size ∙ ap (take (length before)) is ∙ take_at before (item ∷ []) (length before) refl

@@ -9,6 +9,6 @@ mod laws;
 mod log;
 
 pub use error::LogError;
-pub use item::{LogEntry, LogItem, LogMarker};
+pub use item::{LogEntry, LogItem, LogItems, LogMarker};
 pub use laws::{bodies_fix_items, bytes_fix_items};
 pub use log::Log;

@@ -1,6 +1,6 @@
 //! The log over its store.
 
-ghost use Rattle.std.specs.Prelude.{◌≡◌, List, ◌+◌, ◌<◌, ◌≤◌, ◌^◌, [], ◌∷◌, ◌++◌, true, false, length, IfOk, OnOk, IsErrOf};
+ghost use Rattle.std.specs.Prelude.{◌≡◌, ◌+◌, ◌<◌, ◌≤◌, ◌^◌, [], true, false, length, IfOk, OnOk, IsErrOf};
 ghost use Rattle.std.specs.List.{AllByRecursion};
 ghost use Rattle.cj_outside.specs.Causes.{CountsFault};
 ghost use Rattle.cj_outside.specs.Stores.{Only, LeavesOnly};
@@ -13,7 +13,7 @@ ghost use Rattle.cj_log.specs.Proving.Keeping.{ItemsOf, log_error_of};
 use crate::decode::item_of;
 use crate::encode::{bytes_of, legal_item};
 use crate::error::{ItemError, LogError};
-use crate::item::LogItem;
+use crate::item::{LogItem, LogItems};
 use cj_model::Name;
 use cj_outside::Store;
 use cj_records::{Records, RecordsError};
@@ -64,13 +64,6 @@ fn marker_in(mut items: &[LogItem], name: &Name) -> Option<u64>
     None
 }
 
-/// Drops the item that was pushed last.
-fn drop_last(items: &mut Vec<LogItem>)
-    ensures { (before : List LogItem) (item : LogItem) → items.old.items ≡ before ++ item ∷ [] → items.new.items ≡ before }
-{
-    let _item = items.pop();
-}
-
 /// The refusal of an append, as the log tells it.
 fn log_error(error: RecordsError) -> LogError
     ensures { result ≡ log_error_of error }
@@ -86,7 +79,7 @@ fn log_error(error: RecordsError) -> LogError
 pub struct Log<S: Store> {
     alloc: Global,
     records: Records<S>,
-    items: Vec<LogItem>,
+    items: LogItems,
 }
 
 impl<S: Store> Model for Log<S> {
@@ -95,9 +88,9 @@ impl<S: Store> Model for Log<S> {
 
     ghost Value = { LogState S };
 
-    ghost view = { λ log. record { store = log.records.store; items = log.items.items; torn = log.records.torn; refused = log.records.refused } };
+    ghost view = { λ log. record { store = log.records.store; items = log.items; torn = log.records.torn; refused = log.records.refused } };
 
-    ghost invariant = { λ log. AgreesWithRecords S.TELLS log.records log.items.items };
+    ghost invariant = { λ log. AgreesWithRecords S.TELLS log.records log.items };
 }
 
 impl<S: Store> Log<S> {
@@ -120,7 +113,7 @@ impl<S: Store> Log<S> {
             Ok(items) => Ok(Log {
                 alloc,
                 records,
-                items,
+                items: LogItems::from_vec(items),
             }),
             Err(error) => Err((error, records.into_store())),
         }
@@ -151,7 +144,7 @@ impl<S: Store> Log<S> {
         match self.records.append(&body) {
             Ok(_) => Ok(()),
             Err(error) => {
-                drop_last(&mut self.items);
+                self.items.pop();
                 Err(log_error(error))
             }
         }
@@ -172,14 +165,14 @@ impl<S: Store> Log<S> {
         ensures items { result.now ≡ self.now.items }
         ensures few { length result.now < 2 ^ 59 }
     {
-        &self.items
+        self.items.as_slice()
     }
 
     /// How many entries stand before the marker of a name, or none where there is none.
     pub fn marker(&self, name: &Name) -> Option<u64>
         ensures { result ≡ marker_of name.now self.now.items }
     {
-        marker_in(&self.items, name)
+        marker_in(self.items.as_slice(), name)
     }
 
     /// The store, as it is.

@@ -10,7 +10,7 @@ pub returns-in_default-clause-any_moment : goal.returns-in_default-clause-any_mo
 returns-in_default-clause-any_moment g c = λ t.
     let s = g.S.Store in
     let kept = c.self.inside.records in
-    let items = c.self.inside.items.items in
+    let items = c.self.inside.items in
     subst (λ (v : LogState g.row.S.Denot). LeavesOnly s.moment s.since v.store v.store (IsBeforeOrAfter v c.args.item)) c.self.view_is
     (leaves_map s.moment s.since kept.store _ (records.IsBeforeOrAfter kept (item_bytes c.args.item)) (IsBeforeOrAfter (logged_at kept items) c.args.item) (c.legal.ensures.now t (item_bytes c.args.item))
     (λ image f. items_of s.TELLS kept items c.args.item (item_bytes c.args.item) image t c.self.invariant c.legal_item.ensures refl f))
@@ -19,7 +19,7 @@ pub returns-then-is_err-clause-any_moment : goal.returns-then-is_err-clause-any_
 returns-then-is_err-clause-any_moment g c = λ t.
     let s = g.S.Store in
     let kept = c.self.inside.records in
-    let items = c.self.inside.items.items in
+    let items = c.self.inside.items in
     subst (λ (v : LogState g.row.S.Denot). LeavesOnly s.moment s.since v.store kept.store (IsBeforeOrAfter v c.args.item)) c.self.view_is
     (leaves_map s.moment s.since kept.store _ (records.IsBeforeOrAfter kept (item_bytes c.args.item)) (IsBeforeOrAfter (logged_at kept items) c.args.item) (c.legal.ensures.now t (item_bytes c.args.item))
     (λ image f. items_of s.TELLS kept items c.args.item (item_bytes c.args.item) image t c.self.invariant c.legal_item.ensures refl f))
@@ -28,7 +28,7 @@ pub returns-in-Ok-append-clause-any_moment : goal.returns-in-Ok-append-clause-an
 returns-in-Ok-append-clause-any_moment g c = λ t.
     let s = g.S.Store in
     let kept = c.self.inside.records in
-    let items = c.self.inside.items.items in
+    let items = c.self.inside.items in
     subst (λ (v : LogState g.row.S.Denot). LeavesOnly s.moment s.since v.store c.append.new.self.store (IsBeforeOrAfter v c.args.item)) c.self.view_is
     (leaves_map s.moment s.since kept.store _ (records.IsBeforeOrAfter kept c.deref.result.now) (IsBeforeOrAfter (logged_at kept items) c.args.item) (c.append.ensures.any_moment t)
     (λ image f. items_of s.TELLS kept items c.args.item c.deref.result.now image t c.self.invariant c.legal_item.ensures (sym (c.deref.ensures.value ∙ c.in-Ok.ensures.body)) f))
@@ -37,7 +37,7 @@ pub returns-clause-any_moment : goal.returns-clause-any_moment
 returns-clause-any_moment g c = λ t.
     let s = g.S.Store in
     let kept = c.self.inside.records in
-    let items = c.self.inside.items.items in
+    let items = c.self.inside.items in
     subst (λ (v : LogState g.row.S.Denot). LeavesOnly s.moment s.since v.store c.append.new.self.store (IsBeforeOrAfter v c.args.item)) c.self.view_is
     (leaves_map s.moment s.since kept.store _ (records.IsBeforeOrAfter kept c.deref.result.now) (IsBeforeOrAfter (logged_at kept items) c.args.item) (c.append.ensures.any_moment t)
     (λ image f. items_of s.TELLS kept items c.args.item c.deref.result.now image t c.self.invariant c.legal_item.ensures (sym (c.deref.ensures.value ∙ c.in-Ok.ensures.body)) f))
