@@ -1,5 +1,5 @@
 -- What each move leaves a session: a turn where it answers it, and else what stood between two replies.
-use Rattle.std.proofs.Common.{◌≡◌, ◌≢◌, ◌⊎◌, inl, inr, ℕ, ◌<◌, ◌≤◌, ◌==◌, ◌&&◌, Bool, true, false, cond, List, [], ◌∷◌, ◌++◌, length, Option, None, Some, Ok, Err, is_none, refl, ap, sym, ◌∙◌, subst, arith, ⊎_elim}
+use Rattle.std.proofs.Common.{◌≡◌, ◌≢◌, ◌⊎◌, inl, inr, ℕ, ◌+◌, ◌<◌, ◌≤◌, ◌==◌, ◌&&◌, Bool, true, false, cond, List, [], ◌∷◌, ◌++◌, length, Option, None, Some, Ok, Err, is_none, refl, ap, sym, ◌∙◌, subst, arith, ⊎_elim}
 use mathlib.Core.List.{IsPrefix}
 use Rattle.std.specs.Option.{MatchOption}
 use Rattle.std.proofs.lemmas.Bool.{cases_eq, eqb-true, eqb-false, eq-eqb, ne_eqb, both_ways, cond_both, and_parts}
@@ -16,7 +16,7 @@ use Rattle.cj_model.specs.declared.answer.Reply.TheVariants.{Rows, Refused}
 use Rattle.cj_cluster.specs.declared.event.Event.{Event}
 use Rattle.cj_cluster.specs.declared.event.Event.TheVariants as event
 use Rattle.cj_cluster.specs.declared.moves.Move.{Move}
-use Rattle.cj_cluster.specs.declared.moves.Move.TheVariants.{Open, Close, Schedule, Abort, Apply, End, Read, Arm, Disable, Replay, Enable}
+use Rattle.cj_cluster.specs.declared.moves.Move.TheVariants.{Open, Close, Schedule, Abort, Apply, End, Read, Arm, Disable, Replay, Enable, Mark}
 use Rattle.cj_cluster.specs.declared.moves.Moved.TheVariants as moved
 use Rattle.cj_cluster.specs.declared.moves.Why.{Why}
 use Rattle.cj_cluster.specs.declared.moves.MoveError.TheVariants.{NotNow, NoMemory}
@@ -29,15 +29,15 @@ use Rattle.cj_cluster.specs.History.Answering.{HasServer, AnswersEntry}
 use Rattle.cj_model.specs.Wire.Replies.{asked_reply}
 use Rattle.cj_cluster.specs.History.Turns.{SessionView, Call, HasNoRoomFor, Turn}
 use Rattle.cj_cluster.specs.Moves.Cores.{Core, session_at, new_session, with_session, is_entry_of}
-use Rattle.cj_cluster.specs.Moves.Moves.{MoveResult, MovesTo, is_open, DoesMove, OpensSession, ClosesSession, SchedulesRequest, SchedulesAnyAct, SchedulesAct, ScheduleIsForbidden, ScheduleHasNoBackend, ScheduleHasNoRoom, RefusesSchedule, AbortsOrphan, Applies, Replays, EndsEntry, AttemptsRead, AttemptsReadOrWaits, ReadIsAnswered, ReadHasNoBackend, ReadHasNoRoom, ReadFailedEverywhere, ReadFailedHere, ReadCameTooEarly, Arms, Disables, Enables, not_now, forbidden_by, tx_of_act, open_tx, next_entry, last_number, with_one_request, with_request_counted, abort_entry, answered_at, was_answered, still_reading, read_number, tried_of, tried_with, with_end}
+use Rattle.cj_cluster.specs.Moves.Moves.{MoveResult, MovesTo, is_open, DoesMove, OpensSession, ClosesSession, SchedulesRequest, SchedulesAnyAct, SchedulesAct, ScheduleIsForbidden, ScheduleHasNoBackend, ScheduleHasNoRoom, ScheduleMeetsLogFault, RefusesSchedule, LacksRoomFor, MeetsLogFault, AbortsOrphan, Marks, Applies, Replays, EndsEntry, AttemptsRead, AttemptsReadOrWaits, ReadIsAnswered, ReadHasNoBackend, ReadHasNoRoom, ReadFailedEverywhere, ReadFailedHere, ReadCameTooEarly, Arms, Disables, Enables, not_now, forbidden_by, tx_of_act, open_tx, next_entry, last_number, with_one_request, with_request_counted, abort_entry, answered_at, was_answered, still_reading, read_number, tried_of, tried_with, with_end}
 use Rattle.cj_cluster.specs.Proving.Invariants.{BackendStands, CoreInvariant}
 use Rattle.cj_cluster.specs.Moves.Runs.{reply_given, is_allowed_by_transaction, call_of_entry, call_of_act, call_at, seen_at, AwaitsEnd, StandsSince, IsBetweenReplies}
-use Rattle.cj_cluster.proofs.Pushed.{prefix_self, prefix_length, opened-same, opened-free, opened-last, opened-ended}
+use Rattle.cj_cluster.proofs.Pushed.{no_fault_of_other, prefix_self, prefix_length, opened-same, opened-free, opened-last, opened-ended}
 use Rattle.cj_cluster.proofs.Sessions.{without, session_of-other, session_of-without_other}
-use Rattle.cj_cluster.proofs.Now.{CanSchedule, can_schedule, CanAbort, can_abort, CanEnd, can_end, CanRead, can_read, CanDisable, can_disable, CanEnable, can_enable}
+use Rattle.cj_cluster.proofs.Now.{CanSchedule, can_schedule, CanAbort, can_abort, CanEnd, can_end, CanRead, can_read, CanDisable, can_disable, CanEnable, can_enable, CanMark, can_mark}
 use Rattle.cj_cluster.proofs.Soundness.{request_of-act}
 use Rattle.cj_cluster.proofs.OwnTransactions.{session_fit, tx_of_other}
-use Rattle.cj_cluster.proofs.TurnCases.{fit_last, Rests, turn_end, turn_unserved, turn_full, turn_read, turn_fault}
+use Rattle.cj_cluster.proofs.TurnCases.{fit_last, Rests, turn_end, turn_unserved, turn_full, turn_read, turn_fault, turn_log_fault}
 use Rattle.cj_cluster.proofs.Between.{Follows, follows_own, follows_rest, follows_opened, between_while_open, between_follows, between_fresh, between_opened, between_closed, seen_event, seen_ended, seen_other, seen_sched, seen_changed, tried_none, tried_still, tried_again, prior, with_cases}
 use Rattle.cj_cluster.proofs.Standing.{open_above, orphan_leaves}
 
@@ -121,22 +121,22 @@ module _ (tells : Bool) (a : SessionView) (c z : Core) (s : ℕ) (some : 0 < s) 
   arms b (Ok moved.Armed) h = same h
   arms b _ h = absurd h
 
-  -- an event while no entry is open, which is no fault of the log's store
-  while_free : (ev : Event) → scheduled_entry ev ≡ None → is_end_event ev ≡ false → ((t q : ℕ) → is_log_fault t q ev ≡ false) → is_idle c.history ≡ true → z ≡ record c { history = c.history ++ ev ∷ [] } → IsBetweenReplies a z s
+  -- an event while no entry is open, which is no fault of the log's store in the session's requests
+  while_free : (ev : Event) → scheduled_entry ev ≡ None → is_end_event ev ≡ false → ((q : ℕ) → is_log_fault s q ev ≡ false) → is_idle c.history ≡ true → z ≡ record c { history = c.history ++ ev ∷ [] } → IsBetweenReplies a z s
   while_free ev none stays no_fault fr is =
       between_follows a c z (c.history ++ ev ∷ []) s (session_at c s) j (follows_rest c z s is refl (ev ∷ [], refl) refl refl)
       (λ q. seen_event c.placement a c.history s (session_at c s) q ev none stays no_fault (λ t. absurd (both_ways (is_entry_of s (entry_in_progress c.history)) (ap (is_entry_of s) (opened-free c.history fr)) t)))
 
   -- a backend is disabled
   disables : (b : ℕ) (g : MoveResult) → CanDisable c b → Disables c b g z → After tells a c s (Disable b) z (reply_given c s (Disable b) g)
-  disables b (Ok moved.Disabled) can h = while_free (event.Disabled b) refl refl (λ t q. refl) can.is_free h.1
+  disables b (Ok moved.Disabled) can h = while_free (event.Disabled b) refl refl (λ q. refl) can.is_free h.1
   disables b (Ok (moved.Refused r)) can h = same h.2
   disables b (Err NoMemory) can h = same h
   disables b _ can h = absurd h
 
   -- a backend is enabled
   enables : (b : ℕ) (g : MoveResult) → CanEnable c b → Enables c b g z → After tells a c s (Enable b) z (reply_given c s (Enable b) g)
-  enables b (Ok moved.Enabled) can h = while_free (event.Enabled b) refl refl (λ t q. refl) can.is_free h.1
+  enables b (Ok moved.Enabled) can h = while_free (event.Enabled b) refl refl (λ q. refl) can.is_free h.1
   enables b (Ok (moved.Refused r)) can h = same h.2
   enables b (Err NoMemory) can h = same h
   enables b _ can h = absurd h
@@ -199,17 +199,28 @@ module _ (tells : Bool) (a : SessionView) (c z : Core) (s : ℕ) (some : 0 < s) 
   owes_same here = (j.here here).least
 
   module _ (r : Request) (act : Act) (is : act_of r ≡ Some act) where
-    -- where it was refused its session has counted it
-    refused_after : (k : ℕ) (refusal : Refusal) → RefusesSchedule c k r act refusal z → z ≡ with_request_counted c k
+    -- it was refused before the log was written
+    abbrev RefusesAtOnce : ℕ → Refusal → Type 0
+    RefusesAtOnce k refusal = ScheduleIsForbidden c k act refusal z ⊎ ScheduleHasNoBackend c k r act refusal z ⊎ ScheduleHasNoRoom c k r act refusal z
+
+    -- and so it was, or the log's store failed
+    refuses : (k : ℕ) (refusal : Refusal) → RefusesSchedule c k r act refusal z → RefusesAtOnce k refusal ⊎ ScheduleMeetsLogFault c k r act refusal z
+    refuses k refusal (inl x) = inl (inl x)
+    refuses k refusal (inr (inl x)) = inl (inr (inl x))
+    refuses k refusal (inr (inr (inl x))) = inl (inr (inr x))
+    refuses k refusal (inr (inr (inr x))) = inr x
+
+    -- then its session has counted it
+    refused_after : (k : ℕ) (refusal : Refusal) → RefusesAtOnce k refusal → z ≡ with_request_counted c k
     refused_after k refusal h =
         ⊎_elim (λ (x : ScheduleIsForbidden c k act refusal z). x.after)
         (⊎_elim (λ (x : ScheduleHasNoBackend c k r act refusal z). x.after) (λ (x : ScheduleHasNoRoom c k r act refusal z). x.after))
         h
 
     -- the session's own request, which its transaction's state allows
-    own_refused : (refusal : Refusal) → CanSchedule c s → is_allowed_by_transaction c s (act_of r) ≡ true → RefusesSchedule c s r act refusal z → Follows c z c.history s (with_one_request (session_at c s))
+    own_refused : (refusal : Refusal) → CanSchedule c s → is_allowed_by_transaction c s (act_of r) ≡ true → RefusesAtOnce s refusal → Follows c z c.history s (with_one_request (session_at c s))
         → After tells a c s (Schedule s r) z (Some (Refused refusal))
-    own_refused refusal can allowed refuses f =
+    own_refused refusal can allowed at_once f =
         let call : Option Act → Call = λ o. call_of_act c s r o (Refused refusal) in
         let rests = rested can.here can.idle in
         let t : ℕ = tx_of_act (open_tx c s) act in
@@ -222,10 +233,43 @@ module _ (tells : Bool) (a : SessionView) (c z : Core) (s : ℕ) (some : 0 < s) 
         turn_unserved tells c.placement s a c.history w.legal j.longer j.owes rests (call (Some act)) tx (ap (λ o. Refused o) x.refused) x.none)
         (λ (x : ScheduleHasNoRoom c s r act refusal z).
         turn_full tells c.placement s a c.history w.legal j.longer j.owes rests (call (Some act)) tx (ap (λ o. Refused o) x.refused) x.served (subst (HasNoRoomFor c.history) (sym is) (can.is_free, x.full))))
-        refuses
+        at_once
         in
         replied tells c.placement a c z c.history s (with_one_request (session_at c s)) (call (act_of r)) a.least v f can.idle can.no_read (owes_same can.here)
         (subst (λ (o : Option Act). Turn tells c.placement s a (call o) (record { front = c.history; least = a.least })) (sym is) turn)
+
+    -- it is refused at once
+    own_refused_at_once : (refusal : Refusal) → CanSchedule c s → RefusesAtOnce s refusal → After tells a c s (Schedule s r) z (reply_given c s (Schedule s r) (Ok (moved.Refused refusal)))
+    own_refused_at_once refusal can h =
+        let f = follows_own c z s (refused_after s refusal h) refl (prefix_self c.history) refl with_one_request (λ x. refl) refl can.here in
+        cond_both ((s == s) && is_allowed_by_transaction c s (act_of r)) (Some (Refused refusal)) None (After tells a c s (Schedule s r) z)
+        (λ t. own_refused refusal can (and_parts _ _ t).1 h f)
+        (λ t.
+        between_follows a c z c.history s (with_one_request (session_at c s)) j f
+        (λ q. seen_changed c.placement a c.history s (session_at c s) q (with_one_request (session_at c s)) can.idle refl (tried_none a.front c.history s (with_one_request (session_at c s)) can.no_read)))
+
+    -- the log's store fails in it, which answers it
+    own_faulted : (refusal : Refusal) → CanSchedule c s → ScheduleMeetsLogFault c s r act refusal z → After tells a c s (Schedule s r) z (reply_given c s (Schedule s r) (Ok (moved.Refused refusal)))
+    own_faulted refusal can h =
+        let n : ℕ = (session_at c s).queries + 1 in
+        let ev : Event = event.LogFailed s n in
+        let call : Option Act → Call = λ o. call_of_act c s r o (Refused refusal) in
+        let f = follows_own c z s h.after refl (ev ∷ [], refl) refl with_one_request (λ x. refl) refl can.here in
+        let rests = rested can.here can.idle in
+        let t : ℕ = tx_of_act (open_tx c s) act in
+        let tx : (t ≡ 0) ⊎ (t ≡ tx_of (log a.front) s) = subst (λ (k : ℕ). (t ≡ 0) ⊎ (t ≡ k)) rests.tx (tx_of_act_own (open_tx c s) act) in
+        let allowed : is_allowed_by_transaction c s (act_of r) ≡ true = ap (is_allowed_by_transaction c s) is ∙ ap is_none h.allowed in
+        let legal : IsLegal (c.history ++ ev ∷ []) = subst IsLegal f.history v.legal in
+        let turn : Turn tells c.placement s a (call (Some act)) (record { front = c.history ++ ev ∷ []; least = a.least }) =
+        turn_log_fault tells c.placement s a c.history (call (Some act)) act legal j.longer j.owes rests tx is (ap (λ o. Refused o) h.refused) can.is_free h.served h.space
+        in
+        let idle : is_entry_of s (entry_in_progress (c.history ++ ev ∷ [])) ≡ false = ap (is_entry_of s) (opened-same c.history ev refl refl) ∙ can.idle in
+        let both : ((s == s) && is_allowed_by_transaction c s (act_of r)) ≡ true = rw (eq-eqb s s refl) allowed in
+        cond_both ((s == s) && is_allowed_by_transaction c s (act_of r)) (Some (Refused refusal)) None (After tells a c s (Schedule s r) z)
+        (λ _.
+        replied tells c.placement a c z (c.history ++ ev ∷ []) s (with_one_request (session_at c s)) (call (act_of r)) a.least v f idle can.no_read (owes_same can.here)
+        (subst (λ (o : Option Act). Turn tells c.placement s a (call o) (record { front = c.history ++ ev ∷ []; least = a.least })) (sym is) turn))
+        (λ t. absurd (both_ways ((s == s) && is_allowed_by_transaction c s (act_of r)) t both))
 
     -- it is scheduled, refused, or neither for want of memory
     own_act : (g : MoveResult) → CanSchedule c s → SchedulesAct c s r act g z → After tells a c s (Schedule s r) z (reply_given c s (Schedule s r) g)
@@ -234,15 +278,21 @@ module _ (tells : Bool) (a : SessionView) (c z : Core) (s : ℕ) (some : 0 < s) 
         between_follows a c z (c.history ++ event.Sched e ∷ []) s (with_one_request (session_at c s)) j (follows_own c z s h.4 refl (event.Sched e ∷ [], refl) refl with_one_request (λ x. refl) refl can.here)
         (λ q.
         seen_sched c.placement a c.history s (session_at c s) q e (with_one_request (session_at c s)) can.is_free refl (subst (HasServer c.placement c.history) (sym (request_of-act r act is)) h.1) h.2 j.longer refl can.no_read)
-    own_act (Ok (moved.Refused refusal)) can h =
-        let f = follows_own c z s (refused_after s refusal h) refl (prefix_self c.history) refl with_one_request (λ x. refl) refl can.here in
-        cond_both ((s == s) && is_allowed_by_transaction c s (act_of r)) (Some (Refused refusal)) None (After tells a c s (Schedule s r) z)
-        (λ t. own_refused refusal can (and_parts _ _ t).1 h f)
-        (λ t.
-        between_follows a c z c.history s (with_one_request (session_at c s)) j f
-        (λ q. seen_changed c.placement a c.history s (session_at c s) q (with_one_request (session_at c s)) can.idle refl (tried_none a.front c.history s (with_one_request (session_at c s)) can.no_read)))
+    own_act (Ok (moved.Refused refusal)) can h = ⊎_elim (own_refused_at_once refusal can) (own_faulted refusal can) (refuses s refusal h)
     own_act (Err NoMemory) can h = same h
     own_act _ can h = absurd h
+
+    -- another session's request is refused
+    other_request_refused : (k : ℕ) (refusal : Refusal) → s ≢ k → CanSchedule c k → RefusesSchedule c k r act refusal z → IsBetweenReplies a z s
+    other_request_refused k refusal other can h =
+        let rest = session_of-other with_one_request (λ x. refl) c.sessions k s other in
+        ⊎_elim (λ (x : RefusesAtOnce k refusal). stays (follows_rest c z s (refused_after k refusal x) refl (prefix_self c.history) refl rest))
+        (λ (x : ScheduleMeetsLogFault c k r act refusal z).
+        let n : ℕ = (session_at c k).queries + 1 in
+        let ev : Event = event.LogFailed k n in
+        between_follows a c z (c.history ++ ev ∷ []) s (session_at c s) j (follows_rest c z s x.after refl (ev ∷ [], refl) refl rest)
+        (λ q. seen_event c.placement a c.history s (session_at c s) q ev refl refl (λ i. no_fault_of_other k n s i (λ o. other (sym o))) (λ t b. refl)))
+        (refuses k refusal h)
 
     -- another session's request
     other_act : (k : ℕ) (g : MoveResult) → s ≢ k → CanSchedule c k → SchedulesAct c k r act g z → After tells a c s (Schedule k r) z (reply_given c s (Schedule k r) g)
@@ -256,7 +306,7 @@ module _ (tells : Bool) (a : SessionView) (c z : Core) (s : ℕ) (some : 0 < s) 
     other_act k (Ok (moved.Refused refusal)) other can h =
         cond_both ((k == s) && is_allowed_by_transaction c s (act_of r)) (Some (Refused refusal)) None (After tells a c s (Schedule k r) z)
         (λ t. absurd (other (sym (eqb-true k s (and_parts _ _ t).0))))
-        (λ t. stays (follows_rest c z s (refused_after k refusal h) refl (prefix_self c.history) refl (session_of-other with_one_request (λ x. refl) c.sessions k s other)))
+        (λ t. other_request_refused k refusal other can h)
     other_act k (Err NoMemory) other can h = same h
     other_act k _ other can h = absurd h
 
@@ -277,13 +327,26 @@ module _ (tells : Bool) (a : SessionView) (c z : Core) (s : ℕ) (some : 0 < s) 
       of None is t = absurd t
       of (Some act) is t = schedules_act r act is k g can t
 
+  -- the administrator's move is refused
+  administrator_refused : (n : ℕ) (refusal : Refusal) → is_idle c.history ≡ true → LacksRoomFor n c refusal z ⊎ MeetsLogFault n c refusal z → IsBetweenReplies a z s
+  administrator_refused n refusal fr h =
+      ⊎_elim (λ (q : LacksRoomFor n c refusal z). same q.after)
+      (λ (q : MeetsLogFault n c refusal z). while_free (event.LogFailed 0 0) refl refl (λ i. no_fault_of_other 0 0 s i (λ is. omega (arith, is, some))) fr q.after) h
+
+  -- a checkpoint is marked
+  marks : (name : List ℕ) (g : MoveResult) → CanMark c name → Marks c name g z → After tells a c s (Mark name) z (reply_given c s (Mark name) g)
+  marks name (Ok (moved.Marked n)) can h = while_free (event.Marker name None) refl refl (λ q. refl) can.is_free h.2
+  marks name (Ok (moved.Refused r)) can h = administrator_refused 1 r can.is_free h
+  marks name (Err NoMemory) can h = same h
+  marks name _ can h = absurd h
+
   -- the administrator ends an orphan, which is no open session's transaction
   aborts : (tx : ℕ) (g : MoveResult) → CanAbort c tx → AbortsOrphan c tx g z → After tells a c s (Abort tx) z (reply_given c s (Abort tx) g)
   aborts tx (Ok (moved.Entry n)) can h =
       let e : Entry = abort_entry c tx in
       between_while_open a c z (c.history ++ event.Sched e ∷ []) s (session_at c s) j (follows_rest c z s h.2 refl (event.Sched e ∷ [], refl) refl refl)
       (λ here q. seen_other c.placement a c.history s (session_at c s) q e can.is_free (λ none. absurd (omega (arith, none, some))) (orphan_leaves c tx s can here))
-  aborts tx (Ok (moved.Refused r)) can h = same h.2
+  aborts tx (Ok (moved.Refused r)) can h = administrator_refused 3 r can.is_free h
   aborts tx (Err NoMemory) can h = same h
   aborts tx _ can h = absurd h
 
@@ -364,7 +427,7 @@ module _ (tells : Bool) (a : SessionView) (c z : Core) (s : ℕ) (some : 0 < s) 
         let idle : is_entry_of s (entry_in_progress g) ≡ false = ap (is_entry_of s) (opened-same c.history ev refl refl) ∙ can.idle in
         between_follows a c z g s y j (follows_failed ev (still_reading select (tried_with c s b)) (λ q. refl) h.after)
         (λ q.
-        seen_changed c.placement a g s x (seen_event c.placement a c.history s x q ev refl refl (λ t k. refl) (λ t k. refl)) y idle refl
+        seen_changed c.placement a g s x (seen_event c.placement a c.history s x q ev refl refl (λ k. refl) (λ t k. refl)) y idle refl
         (tried_again a.front c.history s b x select (prefix_length a.front c.history j.longer) q.reads))
 
     -- any of these
@@ -392,7 +455,7 @@ module _ (tells : Bool) (a : SessionView) (c z : Core) (s : ℕ) (some : 0 < s) 
     other_failed q f keeps is =
         let ev : Event = event.ReadFailed k q b in
         between_follows a c z (c.history ++ ev ∷ []) s (session_at c s) j (follows_rest c z s is refl (ev ∷ [], refl) refl (session_of-other f keeps c.sessions k s other))
-        (λ x. seen_event c.placement a c.history s (session_at c s) x ev refl refl (λ t i. refl) (λ t i. refl))
+        (λ x. seen_event c.placement a c.history s (session_at c s) x ev refl refl (λ i. refl) (λ t i. refl))
 
     -- the backend answered
     other_reaches : (answer : Asked) → ReadIsAnswered tells c k b select answer z → IsBetweenReplies a z s
@@ -445,6 +508,7 @@ module _ (tells : Bool) (a : SessionView) (c z : Core) (s : ℕ) (some : 0 < s) 
   does (Disable b) g now h = disables b g (can_disable c b now) h
   does (Replay b) g now h = replays b g h
   does (Enable b) g now h = enables b g (can_enable c b now) h
+  does (Mark name) g now h = marks name g (can_mark c name now) h
 
   -- what a move leaves the session
   pub moves_after : (m : Move) (g : MoveResult) → MovesTo tells c m g z → After tells a c s m z (reply_given c s m g)

@@ -22,7 +22,7 @@ use Rattle.cj_cluster.specs.Moves.Cores.{Core, find_session, session_at, new_ses
 use Rattle.cj_cluster.specs.Moves.Moves.{is_open, read_number, tried_of, still_reading}
 use Rattle.cj_cluster.specs.Proving.Invariants.{IsSoundSession, CoreInvariant}
 use Rattle.cj_cluster.specs.Moves.Runs.{seen_at, AwaitsEnd, HasFailedSince, TriedSince, StandsSince, IsBetweenReplies}
-use Rattle.cj_cluster.proofs.Pushed.{log_faults-same, log_faults-begin, all_begin, get_seam, get_left, prefix_self, prefix_trans, prefix_length, enabled-push, log-sched, log-same, done-same, opened-sched, opened-same, opened-free}
+use Rattle.cj_cluster.proofs.Pushed.{log_faults-stay, log_faults-begin, all_begin, get_seam, get_left, prefix_self, prefix_trans, prefix_length, enabled-push, log-sched, log-same, done-same, opened-sched, opened-same, opened-free}
 use Rattle.cj_model.proofs.Masks.{has-zero, has-with_other}
 use Rattle.cj_cluster.proofs.Sessions.{session_at-is, found_all, found_none, session_of-push_same, session_of-push_other, without, session_of-without_same, session_at-same, session_at-other}
 use Rattle.cj_cluster.proofs.OwnTransactions.{tx_of_unknown, tx_of_unknown_begin}
@@ -65,9 +65,9 @@ tried_still front h s x select mask each r b is t =
 -- ---- an open session, as the history grows and as it changes itself
 
 -- an event that is no fault of the log's store leaves their number as it was in the front
-faults_push : (front h : List Event) (ev : Event) (s : ℕ) → ((t q : ℕ) → is_log_fault t q ev ≡ false) → ((q : ℕ) → log_faults_of s q h ≡ log_faults_of s q front)
+faults_push : (front h : List Event) (ev : Event) (s : ℕ) → ((q : ℕ) → is_log_fault s q ev ≡ false) → ((q : ℕ) → log_faults_of s q h ≡ log_faults_of s q front)
     → (q : ℕ) → log_faults_of s q (h ++ ev ∷ []) ≡ log_faults_of s q front
-faults_push front h ev s none was q = log_faults-same h ev none s q ∙ was q
+faults_push front h ev s none was q = log_faults-stay h ev s q (none q) ∙ was q
 
 -- Of session s there are the entries that there were in the front, and it is in the same transaction.
 abbrev IsAsIn : List Event → List Event → ℕ → Type 0
@@ -103,8 +103,8 @@ unanswered_push p front h ev s none stays same o =
     }
 
 module _ (p : Placement) (a : SessionView) (h : List Event) (s : ℕ) (x : OpenSession) (w : StandsSince p a h s x) where
-  -- such an event, or one that enables or disables while the session's entry is not open, if it is no fault of the log's store
-  pub seen_event : (ev : Event) → scheduled_entry ev ≡ None → is_end_event ev ≡ false → ((t q : ℕ) → is_log_fault t q ev ≡ false) → (is_entry_of s (entry_in_progress h) ≡ true → (b : ℕ) → enabled_after_event b (is_enabled h b) ev ≡ is_enabled h b)
+  -- such an event, or one that enables or disables while the session's entry is not open, if it is no fault of the log's store in the session's requests
+  pub seen_event : (ev : Event) → scheduled_entry ev ≡ None → is_end_event ev ≡ false → ((q : ℕ) → is_log_fault s q ev ≡ false) → (is_entry_of s (entry_in_progress h) ≡ true → (b : ℕ) → enabled_after_event b (is_enabled h b) ev ≡ is_enabled h b)
       → StandsSince p a (h ++ ev ∷ []) s x
   seen_event ev none stays no_fault same =
       let op : entry_in_progress (h ++ ev ∷ []) ≡ entry_in_progress h = opened-same h ev none stays in
@@ -129,7 +129,7 @@ module _ (p : Placement) (a : SessionView) (h : List Event) (s : ℕ) (x : OpenS
         waits = λ t. absurd (both_ways (is_entry_of s (entry_in_progress (h ++ ev ∷ []))) (ap (is_entry_of s) none) t);
         rests = λ t. as_in_push a.front h ev s refl (w.rests other);
         reads = tried_push a.front h ev s x w.reads;
-        log_faults = faults_push a.front h ev s (λ t q. refl) w.log_faults;
+        log_faults = faults_push a.front h ev s (λ q. refl) w.log_faults;
       }
 
   -- an entry that is not the session's, and leaves its transaction
@@ -144,7 +144,7 @@ module _ (p : Placement) (a : SessionView) (h : List Event) (s : ℕ) (x : OpenS
         waits = λ t. absurd (both_ways (is_entry_of s (entry_in_progress (h ++ Sched e ∷ []))) op t);
         rests = λ t. ((let n = was.0 in omega (arith, more, n)), ap (λ l. tx_of l s) (log-sched h e) ∙ (leaves ∙ was.1));
         reads = tried_push a.front h (Sched e) s x w.reads;
-        log_faults = faults_push a.front h (Sched e) s (λ t q. refl) w.log_faults;
+        log_faults = faults_push a.front h (Sched e) s (λ q. refl) w.log_faults;
       }
 
   -- the session's own entry
@@ -182,7 +182,7 @@ module _ (p : Placement) (a : SessionView) (h : List Event) (s : ℕ) (x : OpenS
             );
         rests = λ t. absurd (both_ways (is_entry_of s (entry_in_progress g)) t op);
         reads = tried_none a.front g s y none;
-        log_faults = faults_push a.front h (Sched e) s (λ t q. refl) w.log_faults;
+        log_faults = faults_push a.front h (Sched e) s (λ q. refl) w.log_faults;
       }
 
   -- the session changes while no entry of it is open

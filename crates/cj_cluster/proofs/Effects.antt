@@ -9,11 +9,11 @@ use Rattle.cj_model.specs.declared.database.Draft.{Draft}
 use Rattle.cj_model.specs.declared.request.Entry.{Entry}
 use Rattle.cj_model.specs.declared.answer.Outcome.{Outcome}
 use Rattle.cj_cluster.specs.declared.event.Event.{Event}
-use Rattle.cj_cluster.specs.declared.event.Event.TheVariants.{Sched, Ended, ReadFailed, Disabled, Enabled}
+use Rattle.cj_cluster.specs.declared.event.Event.TheVariants.{Sched, Ended, ReadFailed, LogFailed, Disabled, Enabled, Marker}
 use Rattle.cj_cluster.specs.declared.moves.OpenSession.{OpenSession}
 use Rattle.cj_model.specs.Database.Tables.{Rises}
 use Rattle.cj_model.specs.Cluster.Placements.{Placement, part}
-use Rattle.cj_cluster.specs.History.Histories.{scheduled_entry, is_end_event, log, ended_count, is_idle, entry_in_progress, is_enabled, events_left, is_log_fault, log_faults_of, database_after}
+use Rattle.cj_cluster.specs.History.Histories.{scheduled_entry, is_end_event, log, ended_count, is_idle, entry_in_progress, is_enabled, has_marker, events_left, is_log_fault, log_faults_of, database_after}
 use Rattle.cj_cluster.specs.History.Transactions.{has_begun, begun_after}
 use Rattle.cj_model.specs.Cluster.Masks.{in_mask, with_backend}
 use Rattle.cj_cluster.specs.History.Legality.{IsAllowedEvent, IsFitEntry}
@@ -23,7 +23,7 @@ use Rattle.cj_cluster.specs.declared.moves.Did.TheVariants as did
 use Rattle.cj_model.specs.declared.limits.TheConstants.{SESSION_LIMIT, USER_LIMIT}
 use Rattle.cj_cluster.specs.Moves.Moves.{with_one_request, with_entry, Stance, out, TakesEntry, with_stance, failed_after, starved_after}
 use Rattle.cj_cluster.specs.Proving.Invariants.{CoreInvariant, IsSoundSession, BackendStands, CoversDrafts, by_session_number}
-use Rattle.cj_cluster.proofs.Pushed.{SameFaults, log_faults-same, enabled-push, log-sched, log-same, done-same, done-ended, opened-sched, opened-same, at-prefix, legal_push}
+use Rattle.cj_cluster.proofs.Pushed.{log_faults-same, log_faults-stay, no_fault_of_other, enabled-push, log-sched, log-same, done-same, done-ended, opened-sched, opened-same, at-prefix, legal_push}
 use Rattle.cj_cluster.proofs.TransactionLaws.{legal_fit}
 use Rattle.cj_cluster.proofs.PartRuns.{covers_at_taken, covers_at_passed}
 use Rattle.cj_model.proofs.Masks.{has-zero, has-with_same, has-with_other}
@@ -98,8 +98,8 @@ are_closed h g ss s a idle =
           ⊎_elim (λ (z : e.session ≡ 0). inl z) (λ (here : is_some (find_session ss e.session) ≡ true). inr (rw (session_of-without_other ss s e.session ne) here)) (a.waits e is);
     }
 
--- a session is changed, at a history with the same log and faults of its store
-pub are_with : (h h' : List Event) (g : ℕ) (ss : List OpenSession) (s : ℕ) (f : OpenSession → OpenSession) → SessionsAre h g ss → KeepsSession (length (log h)) f → log h' ≡ log h → SameFaults h h'
+-- a session is changed, at a history with the same log, and the same faults of its store for sessions that have no number yet
+pub are_with : (h h' : List Event) (g : ℕ) (ss : List OpenSession) (s : ℕ) (f : OpenSession → OpenSession) → SessionsAre h g ss → KeepsSession (length (log h)) f → log h' ≡ log h → ((t q : ℕ) → g < t → log_faults_of t q h' ≡ log_faults_of t q h)
     → ((e : Entry) → entry_in_progress h' ≡ Some e → entry_in_progress h ≡ Some e) → SessionsAre h' g (with_session ss s f)
 are_with h h' g ss s f a k same faults was =
     record {
@@ -108,7 +108,7 @@ are_with h h' g ss s f a k same faults was =
       few = let n = length_with f ss s in let le = a.few in omega arith;
       numbers = a.numbers;
       known = subst (All (λ (e : Entry). e.session ≤ g)) (sym same) a.known;
-      log_faults = λ t q lt. faults t q ∙ a.log_faults t q lt;
+      log_faults = λ t q lt. faults t q lt ∙ a.log_faults t q lt;
       waits =
           λ e is.
           ⊎_elim (λ (z : e.session ≡ 0). inl z) (λ (here : is_some (find_session ss e.session) ≡ true). inr (is_open-with f k.number ss s e.session ∙ here)) (a.waits e (was e is));
@@ -136,7 +136,7 @@ are_with h h' g ss s f a k same faults was =
         }
 
 -- no session is changed, at such a history
-pub are_kept : (h h' : List Event) (g : ℕ) (ss : List OpenSession) → SessionsAre h g ss → log h' ≡ log h → SameFaults h h' → ((e : Entry) → entry_in_progress h' ≡ Some e → entry_in_progress h ≡ Some e) → SessionsAre h' g ss
+pub are_kept : (h h' : List Event) (g : ℕ) (ss : List OpenSession) → SessionsAre h g ss → log h' ≡ log h → ((t q : ℕ) → g < t → log_faults_of t q h' ≡ log_faults_of t q h) → ((e : Entry) → entry_in_progress h' ≡ Some e → entry_in_progress h ≡ Some e) → SessionsAre h' g ss
 are_kept h h' g ss a same faults was =
     let again : (x : OpenSession) → IsSoundSession h g x → IsSoundSession h' g x =
     λ x i.
@@ -153,7 +153,7 @@ are_kept h h' g ss a same faults was =
       few = a.few;
       numbers = a.numbers;
       known = subst (All (λ (e : Entry). e.session ≤ g)) (sym same) a.known;
-      log_faults = λ t q lt. faults t q ∙ a.log_faults t q lt;
+      log_faults = λ t q lt. faults t q lt ∙ a.log_faults t q lt;
       waits = λ e is. a.waits e (was e is);
     }
 
@@ -476,14 +476,14 @@ no_masks c s fr b w =
     (λ (t : in_mask c.starved b ≡ true). both_ways (in_mask c.starved b) (ap (λ m. in_mask m b) (s.clear fr).1 ∙ has-zero b) t) w
 
 -- the sessions at a history with one event more that leaves the log and the ends
-kept_by : (c : Core) (e : Event) → CoreInvariant c → scheduled_entry e ≡ None → is_end_event e ≡ false → ((s q : ℕ) → is_log_fault s q e ≡ false) → SessionsAre (c.history ++ e ∷ []) c.greatest c.sessions
-kept_by c e s is stays none = are_kept c.history (c.history ++ e ∷ []) c.greatest c.sessions (sessions_are c s) (log-same c.history e is) (log_faults-same c.history e none) (λ d on. sym (opened-same c.history e is stays) ∙ on)
+kept_by : (c : Core) (e : Event) → CoreInvariant c → scheduled_entry e ≡ None → is_end_event e ≡ false → ((s q : ℕ) → c.greatest < s → is_log_fault s q e ≡ false) → SessionsAre (c.history ++ e ∷ []) c.greatest c.sessions
+kept_by c e s is stays none = are_kept c.history (c.history ++ e ∷ []) c.greatest c.sessions (sessions_are c s) (log-same c.history e is) (λ t q lt. log_faults-stay c.history e t q (none t q lt)) (λ d on. sym (opened-same c.history e is stays) ∙ on)
 
 -- a backend is disabled
 pub sound_disabled : (c : Core) (b : ℕ) → CoreInvariant c → is_idle c.history ≡ true → is_enabled c.history b ≡ true → 0 < events_left c.history → CoreInvariant (record c { history = c.history ++ Disabled b ∷ [] })
 sound_disabled c b s fr on space =
     sound_same c (Disabled b) c.sessions s (fr, on) refl refl space (λ k now. inl (and_parts _ _ (sym (enabled-push c.history (Disabled b) k) ∙ now)).0)
-    (λ k w. absurd (no_masks c s fr k w)) (kept_by c (Disabled b) s refl refl (λ t q. refl))
+    (λ k w. absurd (no_masks c s fr k w)) (kept_by c (Disabled b) s refl refl (λ t q lt. refl))
 
 -- a backend at the log's end is enabled
 pub sound_enabled : (c : Core) (b : ℕ) → CoreInvariant c → is_idle c.history ≡ true → is_enabled c.history b ≡ false → b < length c.positions → position_at c b ≡ Some (length (log c.history)) → 0 < events_left c.history
@@ -494,7 +494,23 @@ sound_enabled c b s fr off lt at_end space =
     (λ k on.
     ⊎_elim (λ (w : is_enabled c.history k ≡ true). inl w) (λ (w : (k == b) ≡ true). inr (subst (λ (x : ℕ). CanBeOn c.history c.positions x) (sym (eqb-true k b w)) can))
     (or_cases _ _ (sym (enabled-push c.history (Enabled b) k) ∙ on)))
-    (λ k w. absurd (no_masks c s fr k w)) (kept_by c (Enabled b) s refl refl (λ t q. refl))
+    (λ k w. absurd (no_masks c s fr k w)) (kept_by c (Enabled b) s refl refl (λ t q lt. refl))
+
+-- an event while no entry is open that enables and disables nothing
+sound_noted : (c : Core) (e : Event) (ss : List OpenSession) → CoreInvariant c → IsAllowedEvent c.history e → is_idle c.history ≡ true → scheduled_entry e ≡ None → is_end_event e ≡ false
+    → ((b : ℕ) → is_enabled (c.history ++ e ∷ []) b ≡ is_enabled c.history b) → 0 < events_left c.history → SessionsAre (c.history ++ e ∷ []) c.greatest ss → CoreInvariant (record c { history = c.history ++ e ∷ []; sessions = ss })
+sound_noted c e ss s allowed fr is stays same space a = sound_same c e ss s allowed is stays space (λ k on. inl (sym (same k) ∙ on)) (λ k w. absurd (no_masks c s fr k w)) a
+
+-- a marker of a name that none has
+pub sound_marked : (c : Core) (name : List ℕ) (b : Option ℕ) → CoreInvariant c → is_idle c.history ≡ true → has_marker c.history name ≡ false → 0 < events_left c.history → CoreInvariant (record c { history = c.history ++ Marker name b ∷ [] })
+sound_marked c name b s fr fresh space =
+    sound_noted c (Marker name b) c.sessions s (fr, fresh) fr refl refl (λ k. enabled-push c.history (Marker name b) k) space (kept_by c (Marker name b) s refl refl (λ t q lt. refl))
+
+-- the log's store failed in a request of session s, which has a number
+pub sound_log_failed : (c : Core) (s n : ℕ) → CoreInvariant c → is_idle c.history ≡ true → s ≤ c.greatest → 0 < events_left c.history → CoreInvariant (record c { history = c.history ++ LogFailed s n ∷ [] })
+sound_log_failed c s n w fr le space =
+    sound_noted c (LogFailed s n) c.sessions w fr fr refl refl (λ k. enabled-push c.history (LogFailed s n) k) space
+    (kept_by c (LogFailed s n) w refl refl (λ t q lt. no_fault_of_other s n t q (λ same. omega arith)))
 
 -- ---- a backend takes an entry
 

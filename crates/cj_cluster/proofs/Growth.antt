@@ -1,5 +1,5 @@
 -- What every move keeps: the history grows at its end, and a session makes at most one request. Lists of moves.
-use Rattle.std.proofs.Common.{◌≡◌, ◌⊎◌, ℕ, ◌+◌, ◌≤◌, ◌==◌, ◌^◌, Bool, true, false, List, [], ◌∷◌, ◌++◌, length, cond, set, All, Option, None, Some, Ok, Err, unwrap_or, option_map, refl, ap, sym, ◌∙◌, subst, arith, ⊎_elim}
+use Rattle.std.proofs.Common.{◌≡◌, ◌⊎◌, ℕ, ◌+◌, ◌≤◌, ◌==◌, ◌^◌, Bool, true, false, List, [], ◌∷◌, ◌++◌, length, cond, All, Option, None, Some, Ok, Err, unwrap_or, option_map, refl, ap, sym, ◌∙◌, subst, arith, ⊎_elim}
 use mathlib.Core.List.{IsPrefix}
 use Rattle.std.specs.Option.{option_or}
 use Rattle.std.proofs.lemmas.Bool.{cases_eq}
@@ -7,12 +7,13 @@ use Rattle.std.proofs.lemmas.List.{length-set}
 use Rattle.std.proofs.lemmas.List.Elements.{All-head, All-tail}
 use Rattle.std.proofs.lemmas.List.Folds.{find-append}
 use Rattle.cj_model.specs.declared.request.Act.{Act}
+use Rattle.cj_model.specs.declared.answer.Refusal.{Refusal}
 use Rattle.cj_model.specs.declared.request.Request.{Request}
 use Rattle.cj_model.specs.declared.select.Select.{Select}
 use Rattle.cj_model.specs.declared.answer.Asked.{Asked}
 use Rattle.cj_cluster.specs.declared.event.Event.{Event}
 use Rattle.cj_cluster.specs.declared.moves.Move.{Move}
-use Rattle.cj_cluster.specs.declared.moves.Move.TheVariants.{Open, Close, Schedule, Abort, Apply, End, Read, Arm, Disable, Replay, Enable}
+use Rattle.cj_cluster.specs.declared.moves.Move.TheVariants.{Open, Close, Schedule, Abort, Apply, End, Read, Arm, Disable, Replay, Enable, Mark}
 use Rattle.cj_cluster.specs.declared.moves.Moved.TheVariants as moved
 use Rattle.cj_cluster.specs.declared.moves.Reason.TheVariants as reason
 use Rattle.cj_cluster.specs.declared.moves.MoveError.TheVariants.{NotNow, NoMemory}
@@ -144,8 +145,10 @@ grow_act : (c : Core) (s : ℕ) (r : Request) (a : Act) (g : MoveResult) (z : Co
 grow_act c s r a (Ok (moved.Entry n)) z h = grows_to c z _ 0 0 (with_session c.sessions s with_one_request) (counts_with c.sessions s with_one_request (λ x. refl) counted_once) h.4
 grow_act c s r a (Ok (moved.Refused refusal)) z h =
     ⊎_elim (λ (q : moves.ScheduleIsForbidden c s a refusal z). counted q.after)
-    (λ (q : moves.ScheduleHasNoBackend c s r a refusal z ⊎ moves.ScheduleHasNoRoom c s r a refusal z).
-    ⊎_elim (λ (n : moves.ScheduleHasNoBackend c s r a refusal z). counted n.after) (λ (n : moves.ScheduleHasNoRoom c s r a refusal z). counted n.after) q) h
+    (⊎_elim (λ (q : moves.ScheduleHasNoBackend c s r a refusal z). counted q.after)
+    (⊎_elim (λ (q : moves.ScheduleHasNoRoom c s r a refusal z). counted q.after)
+    (λ (q : moves.ScheduleMeetsLogFault c s r a refusal z).
+    grows_to c z _ c.failed c.starved (with_session c.sessions s with_one_request) (counts_with c.sessions s with_one_request (λ x. refl) counted_once) q.after))) h
   where
     counted : z ≡ moves.with_request_counted c s → Grows 1 c z
     counted = grows_in c z (with_session c.sessions s with_one_request) c.greatest (counts_with c.sessions s with_one_request (λ x. refl) counted_once) (omega arith)
@@ -157,10 +160,16 @@ grow_schedule : (c : Core) (s : ℕ) (r : Request) (o : Option Act) (g : MoveRes
 grow_schedule c s r None g z h = absurd h
 grow_schedule c s r (Some a) g z h = grow_act c s r a g z h
 
--- the end of an orphan is scheduled, or the history is full
+-- the administrator's move is refused
+grow_refused : (n : ℕ) (c : Core) (refusal : Refusal) (z : Core) → moves.LacksRoomFor n c refusal z ⊎ moves.MeetsLogFault n c refusal z → Grows 1 c z
+grow_refused n c refusal z h =
+    ⊎_elim (λ (q : moves.LacksRoomFor n c refusal z). grows_same 1 c z q.after)
+    (λ (q : moves.MeetsLogFault n c refusal z). grows_to c z _ c.failed c.starved c.sessions (counts_same c.sessions) q.after) h
+
+-- the end of an orphan is scheduled, or refused
 grow_abort : (c : Core) (tx : ℕ) (g : MoveResult) (z : Core) → moves.AbortsOrphan c tx g z → Grows 1 c z
 grow_abort c tx (Ok (moved.Entry n)) z h = grows_to c z _ 0 0 c.sessions (counts_same c.sessions) h.2
-grow_abort c tx (Ok (moved.Refused refusal)) z h = grows_same 1 c z h.2
+grow_abort c tx (Ok (moved.Refused refusal)) z h = grow_refused 3 c refusal z h
 grow_abort c tx (Err NoMemory) z h = grows_same 1 c z h
 grow_abort c tx _ z h = absurd h
 
@@ -235,6 +244,13 @@ grow_enable c b (Ok (moved.Refused r)) z h = grows_same 1 c z h.2
 grow_enable c b (Err NoMemory) z h = grows_same 1 c z h
 grow_enable c b _ z h = absurd h
 
+-- a checkpoint is marked, or refused
+grow_mark : (c : Core) (name : List ℕ) (g : MoveResult) (z : Core) → moves.Marks c name g z → Grows 1 c z
+grow_mark c name (Ok (moved.Marked n)) z h = grows_to c z _ c.failed c.starved c.sessions (counts_same c.sessions) h.2
+grow_mark c name (Ok (moved.Refused r)) z h = grow_refused 1 c r z h
+grow_mark c name (Err NoMemory) z h = grows_same 1 c z h
+grow_mark c name _ z h = absurd h
+
 -- each move that can be made now
 does_grow : (tells : Bool) (c : Core) (m : Move) (g : MoveResult) (z : Core) → DoesMove tells c m g z → Grows 1 c z
 does_grow tells c (Open user) g z h = grow_open c user g z h
@@ -250,6 +266,7 @@ does_grow tells c (Arm b) g z h = grow_arm c g z h
 does_grow tells c (Disable b) g z h = grow_disable c b g z h
 does_grow tells c (Replay b) g z h = grow_replay tells c b g z h
 does_grow tells c (Enable b) g z h = grow_enable c b g z h
+does_grow tells c (Mark name) g z h = grow_mark c name g z h
 
 -- every move, with one request of each session at most
 pub moves_grow : (tells : Bool) (c : Core) (m : Move) (g : MoveResult) (z : Core) → MovesTo tells c m g z → Grows 1 c z

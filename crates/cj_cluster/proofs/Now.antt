@@ -8,8 +8,8 @@ use Rattle.cj_model.specs.declared.select.Select.{Select}
 use Rattle.cj_cluster.specs.declared.moves.Reason.{Reason}
 use Rattle.cj_cluster.specs.declared.moves.Why.{Why}
 use Rattle.cj_cluster.specs.declared.moves.OpenRead.{OpenRead}
-use Rattle.cj_cluster.specs.declared.moves.Move.TheVariants.{Close, Schedule, Abort, Apply, End, Read, Disable, Replay, Enable}
-use Rattle.cj_cluster.specs.History.Histories.{log, is_idle, is_enabled, tx_of}
+use Rattle.cj_cluster.specs.declared.moves.Move.TheVariants.{Close, Schedule, Abort, Apply, End, Read, Disable, Replay, Enable, Mark}
+use Rattle.cj_cluster.specs.History.Histories.{log, is_idle, is_enabled, has_marker, tx_of}
 use Rattle.cj_cluster.specs.Moves.Cores.{Core, position_at, session_at}
 use Rattle.cj_cluster.specs.Moves.Moves.{reason_if, position_or_zero, first_lagging, reason_if_lagging, entry_numbered, is_orphan_of, is_orphan, not_now, is_open, is_waiting}
 
@@ -179,6 +179,18 @@ can_enable c b e =
     let r = because_none _ _ _ _ q.1 in
     let s = because_none _ _ _ _ r.1 in
     record { is_free = not-false _ p.0; off = q.0; at = stands_at _ r.0 ∙ ap (λ x. Some x) (eqb-true _ _ (not-false _ s.0)) }
+
+-- no entry is open, and no marker has the name
+pub record CanMark (c : Core) (name : List ℕ) : Type 0 where
+  pub is_free : is_idle c.history ≡ true
+  pub fresh : has_marker c.history name ≡ false
+
+-- what a Mark that can be made now says
+pub can_mark : (c : Core) (name : List ℕ) → not_now c (Mark name) ≡ None → CanMark c name
+can_mark c name e =
+    let p = because_none _ _ _ _ e in
+    let q = because_none _ _ _ _ p.1 in
+    record { is_free = not-false _ p.0; fresh = q.0 }
 
 -- ---- nobody is behind
 

@@ -154,9 +154,21 @@ log_faults-push h e s q = fold-append (λ (a : ℕ) (x : Event). a + cond (is_lo
 abbrev pub SameFaults : List Event → List Event → Type 0
 SameFaults g h = (s q : ℕ) → log_faults_of s q h ≡ log_faults_of s q g
 
+-- an event that is no fault in a request leaves their number there
+pub log_faults-stay : (h : List Event) (e : Event) (s q : ℕ) → is_log_fault s q e ≡ false → log_faults_of s q (h ++ e ∷ []) ≡ log_faults_of s q h
+log_faults-stay h e s q none = log_faults-push h e s q ∙ rw none (omega arith)
+
+-- a fault in a request is one more there
+pub log_faults-more : (h : List Event) (s q : ℕ) → log_faults_of s q (h ++ LogFailed s q ∷ []) ≡ log_faults_of s q h + 1
+log_faults-more h s q = log_faults-push h (LogFailed s q) s q ∙ rw (eq-eqb s s refl, eq-eqb q q refl) refl
+
+-- and none in a request of another session
+pub no_fault_of_other : (s q t n : ℕ) → s ≢ t → is_log_fault t n (LogFailed s q) ≡ false
+no_fault_of_other s q t n ne = rw (ne_eqb s t ne) refl
+
 -- an event that is no fault leaves their numbers
 pub log_faults-same : (h : List Event) (e : Event) → ((s q : ℕ) → is_log_fault s q e ≡ false) → SameFaults h (h ++ e ∷ [])
-log_faults-same h e none s q = log_faults-push h e s q ∙ rw (none s q) (omega arith)
+log_faults-same h e none s q = log_faults-stay h e s q (none s q)
 
 -- ---- whether an entry is open
 

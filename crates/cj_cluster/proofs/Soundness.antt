@@ -11,9 +11,9 @@ use Rattle.cj_model.specs.declared.select.Select.{Select}
 use Rattle.cj_model.specs.declared.answer.Asked.{Asked}
 use Rattle.cj_model.specs.declared.answer.Refusal.{Refusal}
 use Rattle.cj_cluster.specs.declared.event.Event.{Event}
-use Rattle.cj_cluster.specs.declared.event.Event.TheVariants.{Ended, ReadFailed}
+use Rattle.cj_cluster.specs.declared.event.Event.TheVariants.{Ended, ReadFailed, LogFailed}
 use Rattle.cj_cluster.specs.declared.moves.Move.{Move}
-use Rattle.cj_cluster.specs.declared.moves.Move.TheVariants.{Open, Close, Schedule, Abort, Apply, End, Read, Arm, Disable, Replay, Enable}
+use Rattle.cj_cluster.specs.declared.moves.Move.TheVariants.{Open, Close, Schedule, Abort, Apply, End, Read, Arm, Disable, Replay, Enable, Mark}
 use Rattle.cj_cluster.specs.declared.moves.Moved.TheVariants as moved
 use Rattle.cj_cluster.specs.declared.moves.Reason.TheVariants as reason
 use Rattle.cj_cluster.specs.declared.moves.MoveError.TheVariants.{NotNow, NoMemory}
@@ -21,20 +21,20 @@ use Rattle.cj_cluster.specs.declared.moves.Why.{Why}
 use Rattle.cj_cluster.specs.declared.moves.OpenSession.{OpenSession}
 use Rattle.cj_model.specs.declared.limits.TheConstants.{REQUEST_LIMIT, SESSION_LIMIT, SESSION_NUMBER_LIMIT, USER_LIMIT}
 use Rattle.cj_model.specs.Sql.PlainRequests.{act_of, request_of}
-use Rattle.cj_cluster.specs.History.Histories.{log, events_left}
+use Rattle.cj_cluster.specs.History.Histories.{log, is_idle, events_left}
 use Rattle.cj_cluster.specs.History.Legality.{IsFitEntry, FitsTx}
 use Rattle.cj_model.specs.Sql.WrittenRequests.{IsWritten}
 use Rattle.cj_cluster.specs.Moves.Cores.{Core, session_at, new_session, with_session}
 use Rattle.cj_cluster.specs.Moves.Moves as moves
-use Rattle.cj_cluster.specs.Moves.Moves.{MoveResult, MovesTo, DoesMove, not_now, is_open, is_reading, read_number, next_entry, abort_entry, entry_numbered, user_of, is_orphan, open_tx, forbidden_by, tx_of_act, with_one_request, answered_at, was_answered, still_reading, last_number, with_read, read_failed, with_end, tried_of, tried_with}
+use Rattle.cj_cluster.specs.Moves.Moves.{MoveResult, MovesTo, DoesMove, happened, not_now, is_open, is_reading, read_number, next_entry, abort_entry, entry_numbered, user_of, is_orphan, open_tx, forbidden_by, tx_of_act, with_one_request, answered_at, was_answered, still_reading, last_number, with_read, read_failed, with_end, tried_of, tried_with}
 use Rattle.cj_cluster.specs.Proving.Invariants.{CoreInvariant, IsSoundSession}
 use Rattle.cj_cluster.specs.Moves.Runs.{IsMoveOfCluster, CanCountRequests}
 use Rattle.cj_cluster.proofs.WrittenRollback.{rollback_written}
 use Rattle.cj_cluster.proofs.TransactionLaws.{fit_at, legal_fit}
 use Rattle.cj_cluster.proofs.Pushed.{log-same, log_faults-same, opened-ended, opened-same}
 use Rattle.cj_cluster.proofs.Sessions.{found_open, found_all, found_number, without}
-use Rattle.cj_cluster.proofs.Effects.{sessions_are, KeepsSession, are_opened, are_closed, are_with, are_sched, are_sched_without, sound_sessions, sound_sched, sound_ended, sound_read_failed, sound_disabled, sound_enabled, sound_applied, sound_replayed, is_there, stands_there}
-use Rattle.cj_cluster.proofs.Now.{numbered_at, orphan_of, CanClose, can_close, CanSchedule, can_schedule, CanAbort, can_abort, CanApply, can_apply, CanEnd, can_end, CanDisable, can_disable, CanReplay, can_replay, CanEnable, can_enable, behind_none}
+use Rattle.cj_cluster.proofs.Effects.{sessions_are, KeepsSession, are_opened, are_closed, are_with, are_sched, are_sched_without, sound_sessions, sound_sched, sound_ended, sound_read_failed, sound_disabled, sound_enabled, sound_marked, sound_log_failed, sound_applied, sound_replayed, is_there, stands_there}
+use Rattle.cj_cluster.proofs.Now.{numbered_at, orphan_of, CanClose, can_close, CanSchedule, can_schedule, CanAbort, can_abort, CanApply, can_apply, CanEnd, can_end, CanDisable, can_disable, CanReplay, can_replay, CanEnable, can_enable, CanMark, can_mark, behind_none}
 
 -- ---- sessions
 
@@ -58,7 +58,7 @@ sound_close c s _ z w can h = absurd h
 -- a session is changed, and nothing else
 with_sound : (c : Core) (s : ℕ) (f : OpenSession → OpenSession) (z : Core) → CoreInvariant c → KeepsSession (length (log c.history)) f → z ≡ with_read c s f → CoreInvariant z
 with_sound c s f z w keeps is =
-    subst CoreInvariant (sym is) (sound_sessions c (with_session c.sessions s f) c.greatest w (are_with c.history c.history c.greatest c.sessions s f (sessions_are c w) keeps refl (λ t q. refl) (λ e on. on)))
+    subst CoreInvariant (sym is) (sound_sessions c (with_session c.sessions s f) c.greatest w (are_with c.history c.history c.greatest c.sessions s f (sessions_are c w) keeps refl (λ t q lt. refl) (λ e on. on)))
 
 -- ---- entries
 
@@ -149,9 +149,19 @@ sound_act c s r a (Ok (moved.Entry n)) z is written count w can h =
     (are_sched c.history c.greatest c.sessions s (next_entry c s a) (session_at c s) (sessions_are c w) (found_open c s can.here) can.is_free refl refl (omega arith)))
 sound_act c s r a (Ok (moved.Refused refusal)) z is written count w can h =
     ⊎_elim (λ (q : moves.ScheduleIsForbidden c s a refusal z). counted q.after)
-    (λ (q : moves.ScheduleHasNoBackend c s r a refusal z ⊎ moves.ScheduleHasNoRoom c s r a refusal z).
-    ⊎_elim (λ (n : moves.ScheduleHasNoBackend c s r a refusal z). counted n.after) (λ (n : moves.ScheduleHasNoRoom c s r a refusal z). counted n.after) q) h
+    (⊎_elim (λ (q : moves.ScheduleHasNoBackend c s r a refusal z). counted q.after)
+    (⊎_elim (λ (q : moves.ScheduleHasNoRoom c s r a refusal z). counted q.after) (λ (q : moves.ScheduleMeetsLogFault c s r a refusal z). faulted q))) h
   where
+    faulted : moves.ScheduleMeetsLogFault c s r a refusal z → CoreInvariant z
+    faulted q =
+        let n : ℕ = (session_at c s).queries + 1 in
+        let x = session_sound c s w can.here in
+        let high : (session_at c s).number ≤ c.greatest = x.0.number.1 in
+        let number : (session_at c s).number ≡ s = x.1 in
+        let space : 3 ≤ events_left c.history = q.space in
+        let failed : CoreInvariant (happened c (LogFailed s n)) = sound_log_failed c s n w can.is_free (omega arith) (omega arith) in
+        with_sound (happened c (LogFailed s n)) s with_one_request z failed (keeps_counted (length (log (happened c (LogFailed s n)).history))) q.after
+
     counted : z ≡ moves.with_request_counted c s → CoreInvariant z
     counted = with_sound c s with_one_request z w (keeps_counted (length (log c.history)))
 sound_act c s r a (Err NoMemory) z is written count w can h = subst CoreInvariant (sym h) w
@@ -189,12 +199,18 @@ abort_fits c tx w is =
           };
     }
 
--- the end of an orphan is scheduled, or the history is full
+-- the administrator's move is refused
+sound_refused : (n : ℕ) (c : Core) (refusal : Refusal) (z : Core) → CoreInvariant c → is_idle c.history ≡ true → 0 < n → moves.LacksRoomFor n c refusal z ⊎ moves.MeetsLogFault n c refusal z → CoreInvariant z
+sound_refused n c refusal z w fr some h =
+    ⊎_elim (λ (q : moves.LacksRoomFor n c refusal z). subst CoreInvariant (sym q.after) w)
+    (λ (q : moves.MeetsLogFault n c refusal z). let space : n ≤ events_left c.history = q.space in subst CoreInvariant (sym q.after) (sound_log_failed c 0 0 w fr (omega arith) (omega arith))) h
+
+-- the end of an orphan is scheduled, or refused
 sound_abort : (c : Core) (tx : ℕ) (g : MoveResult) (z : Core) → CoreInvariant c → CanAbort c tx → moves.AbortsOrphan c tx g z → CoreInvariant z
 sound_abort c tx (Ok (moved.Entry n)) z w can h =
     subst CoreInvariant (sym h.2)
     (sound_sched c (abort_entry c tx) c.sessions w can.is_free (abort_fits c tx w can.orphan) h.0 (are_sched_without c.history c.greatest c.sessions (abort_entry c tx) (sessions_are c w) can.is_free refl))
-sound_abort c tx (Ok (moved.Refused refusal)) z w can h = subst CoreInvariant (sym h.2) w
+sound_abort c tx (Ok (moved.Refused refusal)) z w can h = sound_refused 3 c refusal z w can.is_free (omega arith) h
 sound_abort c tx (Err NoMemory) z w can h = subst CoreInvariant (sym h) w
 sound_abort c tx _ z w can h = absurd h
 
@@ -222,7 +238,7 @@ sound_end tells c (Ok (moved.Replied s reply)) z w can h =
     subst CoreInvariant (sym h.4)
     (sound_ended c (with_session c.sessions s (answered_at (last_number c))) w can.is_running (behind_none c.history c.positions can.none_behind)
     (are_with c.history (with_end c) c.greatest c.sessions s (answered_at (last_number c)) (sessions_are c w) (keeps_answered (length (log c.history)) (last_number c) le)
-    (log-same c.history (Ended c.failed c.starved) refl) (log_faults-same c.history (Ended c.failed c.starved) (λ t q. refl)) (λ e on. absurd (cc (none, on)))))
+    (log-same c.history (Ended c.failed c.starved) refl) (λ t q lt. log_faults-same c.history (Ended c.failed c.starved) (λ i j. refl) t q) (λ e on. absurd (cc (none, on)))))
 sound_end tells c _ z w can h = absurd h
 
 -- ---- reads
@@ -253,7 +269,7 @@ failed_sound c s b f z w keeps space is =
     let e : Event = ReadFailed s (read_number (session_at c s)) b in
     subst CoreInvariant (sym is)
     (sound_read_failed c s (read_number (session_at c s)) b (with_session c.sessions s f) w space
-    (are_with c.history (c.history ++ e ∷ []) c.greatest c.sessions s f (sessions_are c w) keeps (log-same c.history e refl) (log_faults-same c.history e (λ t q. refl)) (λ d on. sym (opened-same c.history e refl refl) ∙ on)))
+    (are_with c.history (c.history ++ e ∷ []) c.greatest c.sessions s f (sessions_are c w) keeps (log-same c.history e refl) (λ t q lt. log_faults-same c.history e (λ i j. refl) t q) (λ d on. sym (opened-same c.history e refl refl) ∙ on)))
 
 module _ (tells : Bool) (c : Core) (s b : ℕ) (select : Select) (w : CoreInvariant c) where
   -- the backend answered
@@ -302,6 +318,13 @@ sound_enable c b (Ok (moved.Refused r)) z w can h = subst CoreInvariant (sym h.2
 sound_enable c b (Err NoMemory) z w can h = subst CoreInvariant (sym h) w
 sound_enable c b _ z w can h = absurd h
 
+-- a checkpoint is marked, or refused
+sound_mark : (c : Core) (name : List ℕ) (g : MoveResult) (z : Core) → CoreInvariant c → CanMark c name → moves.Marks c name g z → CoreInvariant z
+sound_mark c name (Ok (moved.Marked n)) z w can h = subst CoreInvariant (sym h.2) (sound_marked c name None w can.is_free can.fresh h.0)
+sound_mark c name (Ok (moved.Refused r)) z w can h = sound_refused 1 c r z w can.is_free (omega arith) h
+sound_mark c name (Err NoMemory) z w can h = subst CoreInvariant (sym h) w
+sound_mark c name _ z w can h = absurd h
+
 -- ---- all moves
 
 -- each move that can be made now
@@ -319,6 +342,7 @@ does_sound tells c (Arm b) g z is count w now h = sound_arm c g z w h
 does_sound tells c (Disable b) g z is count w now h = sound_disable c b g z w (can_disable c b now) h
 does_sound tells c (Replay b) g z is count w now h = sound_replay tells c b g z w (can_replay c b now) h
 does_sound tells c (Enable b) g z is count w now h = sound_enable c b g z w (can_enable c b now) h
+does_sound tells c (Mark name) g z is count w now h = sound_mark c name g z w (can_mark c name now) h
 
 -- a move is made, or it can't be made now and changes nothing
 pub by_reason : (o : Option Why) (P Q : Type 0) (g : MoveResult) (c z : Core) → MatchOption o P (λ w. (g ≡ Err (NotNow w)) × (z ≡ c)) → (o ≡ None → P → Q) → ((w : Why) → g ≡ Err (NotNow w) → z ≡ c → Q) → Q

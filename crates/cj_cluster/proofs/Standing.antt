@@ -4,7 +4,7 @@ use Rattle.std.proofs.lemmas.Bool.{cases_eq, eqb-true, both_ways}
 use Rattle.cj_model.specs.declared.request.Entry.{Entry}
 use Rattle.cj_model.specs.declared.select.Select.{Select}
 use Rattle.cj_cluster.specs.declared.event.Event.{Event}
-use Rattle.cj_cluster.specs.declared.event.Event.TheVariants.{Sched, Ended, ReadFailed}
+use Rattle.cj_cluster.specs.declared.event.Event.TheVariants.{Sched, Ended, ReadFailed, LogFailed}
 use Rattle.cj_cluster.specs.declared.moves.OpenSession.{OpenSession}
 use Rattle.cj_model.specs.Sql.PlainRequests.{request_of}
 use Rattle.cj_cluster.specs.History.Histories.{scheduled_entry, is_end_event, log, is_idle, entry_in_progress, is_enabled, enabled_after_event, events_left, is_log_fault, tx_of}
@@ -13,10 +13,10 @@ use Rattle.cj_model.specs.Cluster.Masks.{in_mask, with_backend}
 use Rattle.cj_cluster.specs.History.Answering.{HasServer}
 use Rattle.cj_cluster.specs.History.Turns.{SessionView}
 use Rattle.cj_cluster.specs.Moves.Cores.{Core, find_session, session_at, new_session, with_session, is_entry_of}
-use Rattle.cj_cluster.specs.Moves.Moves.{is_open, with_one_request, with_entry, scheduled_as, abort_entry, answered_at, still_reading, read_number, tried_of, with_read}
+use Rattle.cj_cluster.specs.Moves.Moves.{is_open, happened, with_one_request, with_request_counted, with_entry, scheduled_as, abort_entry, answered_at, still_reading, read_number, tried_of, with_read}
 use Rattle.cj_cluster.specs.Proving.Invariants.{IsSoundSession, CoreInvariant}
 use Rattle.cj_cluster.specs.Moves.Runs.{seen_at, HasFailedSince, TriedSince, IsBetweenReplies, AreBetween}
-use Rattle.cj_cluster.proofs.Pushed.{prefix_self, prefix_length}
+use Rattle.cj_cluster.proofs.Pushed.{no_fault_of_other, prefix_self, prefix_length, opened-same, opened-free}
 use Rattle.cj_cluster.proofs.Sessions.{session_at-is, found_number, found_all, found_open, session_of-same, session_of-other, is_open-with, without, session_of-without_other}
 use Rattle.cj_cluster.proofs.Now.{CanAbort}
 use Rattle.cj_cluster.proofs.OwnTransactions.{session_fit, tx_of_end_of, tx_of_other}
@@ -46,8 +46,8 @@ stand_rest c ps begun f t between s some =
     let z : Core = record c { positions = ps; begun = begun; failed = f; starved = t } in
     (q.0, between_follows q.0 c z c.history s (session_at c s) q.1 (follows_rest c z s refl refl (prefix_self c.history) refl refl) (λ x. x))
 
--- an event that schedules nothing and ends nothing, and enables or disables nothing while an entry is open
-pub stand_event : (c : Core) (ev : Event) → scheduled_entry ev ≡ None → is_end_event ev ≡ false → ((t q : ℕ) → is_log_fault t q ev ≡ false)
+-- an event that schedules nothing, ends nothing and is no fault of the log's store in a session's request, and enables or disables nothing while an entry is open
+pub stand_event : (c : Core) (ev : Event) → scheduled_entry ev ≡ None → is_end_event ev ≡ false → ((s q : ℕ) → 0 < s → is_log_fault s q ev ≡ false)
     → ((s : ℕ) → is_entry_of s (entry_in_progress c.history) ≡ true → (b : ℕ) → enabled_after_event b (is_enabled c.history b) ev ≡ is_enabled c.history b) → AreBetween c → AreBetween (record c { history = c.history ++ ev ∷ [] })
 stand_event c ev none stays no_fault same between s some =
     let q = between s some in
@@ -55,7 +55,7 @@ stand_event c ev none stays no_fault same between s some =
       q.0,
       between_follows q.0 c z (c.history ++ ev ∷ []) s (session_at c s) q.1
           (follows_rest c z s refl refl (ev ∷ [], refl) refl refl)
-          (λ x. seen_event c.placement q.0 c.history s (session_at c s) x ev none stays no_fault (same s)),
+          (λ x. seen_event c.placement q.0 c.history s (session_at c s) x ev none stays (λ q. no_fault s q some) (same s)),
     )
 
 -- ---- sessions that open and close
@@ -128,6 +128,25 @@ module _ (c : Core) (k : ℕ) (f : OpenSession → OpenSession) (keeps : (x : Op
   pub stand_counted : ((x : OpenSession) → (f x).reading ≡ x.reading) → (session_at c k).reading ≡ None → CoreInvariant (with_read c k f) → is_entry_of k (entry_in_progress c.history) ≡ false → AreBetween (with_read c k f)
   stand_counted same none v idle = stand_fresh v idle (still_none c (with_read c k f) k f keeps refl same none)
 
+-- The log's store failed in a request of session k, which reads nothing, and the session has counted the request.
+pub stand_log_failed : (c : Core) (k n : ℕ) → CoreInvariant (with_request_counted (happened c (LogFailed k n)) k) → is_idle c.history ≡ true → (session_at c k).reading ≡ None → AreBetween c
+    → AreBetween (with_request_counted (happened c (LogFailed k n)) k)
+stand_log_failed c k n v fr none between s some =
+    let ev : Event = LogFailed k n in
+    let z : Core = with_request_counted (happened c ev) k in
+    let idle : is_entry_of k (entry_in_progress z.history) ≡ false = ap (is_entry_of k) (opened-same c.history ev refl refl ∙ opened-free c.history fr) in
+    ⊎_elim
+    (λ (is : s ≡ k).
+    subst (λ (i : ℕ). (a : SessionView) × IsBetweenReplies a z i) (sym is) (seen_at z k, between_fresh z k v idle (still_none c z k with_one_request (λ x. refl) refl (λ x. refl) none)))
+    (λ (is : s ≡ k → ⊥).
+    let q = between s some in (
+      q.0,
+      between_follows q.0 c z (c.history ++ ev ∷ []) s (session_at c s) q.1
+          (follows_rest c z s refl refl (ev ∷ [], refl) refl (session_of-other with_one_request (λ x. refl) c.sessions k s is))
+          (λ x. seen_event c.placement q.0 c.history s (session_at c s) x ev refl refl (λ i. no_fault_of_other k n s i (λ o. is (sym o))) (λ t b. refl)),
+    ))
+    (cases_eq s k)
+
 -- an open session's number is above 0
 pub open_above : (c : Core) (s : ℕ) → CoreInvariant c → is_open c s ≡ true → 0 < s
 open_above c s w here =
@@ -171,7 +190,7 @@ tried_more c s b n select some is between =
       q.0,
       between_follows q.0 c z g s x q.1
           (follows_rest c z s refl refl (ev ∷ [], refl) refl refl)
-          (λ y. seen_event c.placement q.0 c.history s x y ev refl refl (λ t i. refl) (λ t i. refl)),
+          (λ y. seen_event c.placement q.0 c.history s x y ev refl refl (λ i. refl) (λ t i. refl)),
       λ k t. subst (λ (m : ℕ). HasFailedSince q.0.front (c.history ++ ReadFailed s m b ∷ []) s (read_number x) k) (sym is) (more (record { select = select; tried = mask }) k refl t),
     )
 

@@ -3,7 +3,7 @@ use Rattle.std.proofs.Common.{◌≡◌, ◌≢◌, ℕ, ◌+◌, ◌<◌, ◌�
 use mathlib.Core.List.{IsPrefix}
 use Rattle.std.proofs.lemmas.Grind.{fold-append}
 use Rattle.std.proofs.lemmas.Bool.{both_ways}
-use Rattle.std.proofs.lemmas.List.{take-append-le, take_more}
+use Rattle.std.proofs.lemmas.List.{take-append-le, take_at, take_more}
 use Rattle.std.proofs.lemmas.List.Folds.{list_any-append}
 use Rattle.std.proofs.Math.Seq.{take-append_seam}
 use Rattle.std.proofs.lemmas.Option.{slice_get_within, get_or_from_slice_get}
@@ -16,8 +16,8 @@ use Rattle.cj_model.specs.declared.answer.Asked.{Asked}
 use Rattle.cj_model.specs.declared.answer.Reply.{Reply}
 use Rattle.cj_model.specs.declared.answer.Reply.TheVariants.{Refused}
 use Rattle.cj_cluster.specs.declared.event.Event.{Event}
-use Rattle.cj_cluster.specs.declared.event.Event.TheVariants.{Sched, Ended, ReadFailed}
-use Rattle.cj_model.specs.declared.codes.TheConstants.{NO_BACKEND, READ_FAULT, NO_MEMORY, HISTORY_FULL}
+use Rattle.cj_cluster.specs.declared.event.Event.TheVariants.{Sched, Ended, ReadFailed, LogFailed}
+use Rattle.cj_model.specs.declared.codes.TheConstants.{NO_BACKEND, READ_FAULT, LOG_FAULT, NO_MEMORY, HISTORY_FULL}
 use Rattle.cj_model.specs.Database.Inserts.{refusal_of_code}
 use Rattle.cj_model.specs.Database.Queries.{ask}
 use Rattle.cj_model.specs.Sql.PlainRequests.{act_of, request_of}
@@ -28,11 +28,11 @@ use Rattle.cj_cluster.specs.History.Legality.{FitsTx, IsFitEntry, IsAllowedEvent
 use Rattle.cj_model.specs.Database.Outcomes.{IsAsked}
 use Rattle.cj_cluster.specs.History.Answering.{CanServe, HasServer, HasNoServer, IsTarget, Finished, Unfinished, AnswersEntry}
 use Rattle.cj_model.specs.Wire.Replies.{asked_reply}
-use Rattle.cj_cluster.specs.History.Turns.{SessionView, Call, IsMomentBetween, HasNoRoomFor, scheduled, no_backend, read, read_fault, full, starved, entry_count_of, tx_after_entry, Turn}
+use Rattle.cj_cluster.specs.History.Turns.{SessionView, Call, IsMomentBetween, HasNoRoomFor, scheduled, no_backend, read, read_fault, log_fault, full, starved, entry_count_of, tx_after_entry, Turn}
 use Rattle.cj_cluster.specs.Moves.Runs.{AwaitsEnd, HasFailedSince, call_of_entry}
 use Rattle.cj_model.proofs.Masks.{has-zero}
 use Rattle.cj_cluster.proofs.OwnTransactions.{session_fit, own_tx, tx_of_own}
-use Rattle.cj_cluster.proofs.Pushed.{get_seam, get_left, prefix_self, prefix_push, prefix_take, prefix_length, take_whole, log-prefix, enabled-push, log-sched, log-same, log_faults-same}
+use Rattle.cj_cluster.proofs.Pushed.{get_seam, get_left, prefix_self, prefix_push, prefix_take, prefix_length, take_whole, log-prefix, enabled-push, log-sched, log-same, log_faults-same, log_faults-more}
 
 -- ---- requests and acts
 
@@ -366,4 +366,41 @@ turn_fault tells p s a h b c select mask tried legal longer owes rests tx is rep
       entries = let n = entries-same s h g same_log ∙ rests.entries in omega (arith, n);
       tx_after = ap (λ (l : List Entry). tx_of l s) same_log ∙ rests.tx;
       log_faults = let n = log_faults-same h ev (λ t q. refl) s c.number ∙ rests.log_faults c.number in omega (arith, n);
+    }
+
+-- the log's store failed now, and nothing was scheduled since the session saw a
+pub turn_log_fault : (tells : Bool) (p : Placement) (s : ℕ) (a : SessionView) (h : List Event) (c : Call) (act : Act)
+    → IsLegal (h ++ LogFailed s c.number ∷ []) → IsPrefix a.front h → a.least ≤ length (log a.front) → Rests s a h
+    → (c.tx ≡ 0) ⊎ (c.tx ≡ tx_of (log a.front) s) → act_of c.request ≡ Some act → c.reply ≡ Refused (refusal_of_code LOG_FAULT)
+    → is_idle h ≡ true → HasServer p h c.request → 3 ≤ events_left h
+    → Turn tells p s a c (record { front = h ++ LogFailed s c.number ∷ []; least = a.least })
+turn_log_fault tells p s a h c act legal longer owes rests tx is replied fr served space =
+    let ev : Event = LogFailed s c.number in
+    let g : List Event = h ++ ev ∷ [] in
+    let low : length a.front ≤ length h = prefix_length a.front h longer in
+    let many : length g ≡ length h + 1 = length-append h (ev ∷ []) in
+    let same_log : log g ≡ log h = log-same h ev refl in
+    let part : take (length h) g ≡ h = take_at h (ev ∷ []) (length h) refl in
+    record {
+      legal = legal;
+      longer = prefix_push a.front h ev longer;
+      owes = owes;
+      tx = tx;
+      case =
+          log_fault
+          record {
+            m = length h;
+            moment = record { low = low; high = omega arith };
+            act = act;
+            is = is;
+            was_free = ap is_idle part ∙ fr;
+            served = subst (λ (x : List Event). HasServer p x c.request) (sym part) served;
+            space = subst (λ (x : List Event). 3 ≤ events_left x) (sym part) space;
+            next = get_seam h [] ev;
+            replied = replied;
+            least = refl;
+          };
+      entries = let n = entries-same s h g same_log ∙ rests.entries in omega (arith, n);
+      tx_after = ap (λ (l : List Entry). tx_of l s) same_log ∙ rests.tx;
+      log_faults = let n = log_faults-more h s c.number in let q = rests.log_faults c.number in omega (arith, n, q);
     }

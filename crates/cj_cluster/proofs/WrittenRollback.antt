@@ -2,7 +2,6 @@
 use Rattle.std.proofs.Common.{[], ◌∷◌, codes, refl, arith, false}
 use Rattle.cj_model.specs.declared.request.Request.TheVariants as request
 use Rattle.cj_model.specs.declared.token.Keyword.TheVariants as word
-use Rattle.cj_model.specs.declared.token.Token.{Token}
 use Rattle.cj_model.specs.declared.token.Token.TheVariants as token
 use Rattle.cj_model.specs.Sql.Lexical.{keyword, Spells, Tokens}
 use Rattle.cj_model.specs.Sql.Grammar as grammar

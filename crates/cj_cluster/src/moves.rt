@@ -4,7 +4,7 @@ ghost use Rattle.std.specs.Prelude.{◌≡◌};
 ghost use Rattle.cj_cluster.specs.Script.Lines.{reason_number};
 
 use cj_model::{
-    Answer, Duplicate, ListOf, NoMemory, Outcome, Refusal, Reply, Request, Select, Text,
+    Answer, Duplicate, ListOf, Name, NoMemory, Outcome, Refusal, Reply, Request, Select, Text,
 };
 use std::alloc::Global;
 use thiserror::Error;
@@ -31,6 +31,8 @@ pub enum Move {
     /// A backend that isn't enabled takes the next entry of the log.
     Replay { b: u8 },
     Enable { b: u8 },
+    /// Marks a checkpoint in the log, of a name that no marker has.
+    Mark { name: Name },
 }
 
 pub type Moves = ListOf<Move>;
@@ -66,6 +68,8 @@ pub enum Moved {
     Armed,
     Disabled,
     Enabled,
+    /// The marker stands behind so many entries.
+    Marked(u64),
     Replayed { number: u64, did: Did },
 }
 
@@ -87,6 +91,8 @@ pub enum Reason {
     Waiting,
     /// The backend doesn't serve the read, and another does.
     NotServing,
+    /// A marker has the name.
+    NameTaken,
     /// The transaction isn't open, or its session is.
     NotOrphan,
 }
@@ -107,6 +113,7 @@ impl Reason {
             Reason::NoSession => 9,
             Reason::Waiting => 10,
             Reason::NotServing => 11,
+            Reason::NameTaken => 13,
             Reason::NotOrphan => 14,
         }
     }
@@ -180,6 +187,7 @@ impl Duplicate for Move {
             Move::Disable { b } => Ok(Move::Disable { b: *b }),
             Move::Replay { b } => Ok(Move::Replay { b: *b }),
             Move::Enable { b } => Ok(Move::Enable { b: *b }),
+            Move::Mark { name } => Ok(Move::Mark { name: name.copy() }),
         }
     }
 }
@@ -203,6 +211,7 @@ impl Duplicate for Moved {
             Moved::Armed => Ok(Moved::Armed),
             Moved::Disabled => Ok(Moved::Disabled),
             Moved::Enabled => Ok(Moved::Enabled),
+            Moved::Marked(after) => Ok(Moved::Marked(*after)),
             Moved::Replayed { number, did } => Ok(Moved::Replayed {
                 number: *number,
                 did: *did,

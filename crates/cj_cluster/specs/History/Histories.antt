@@ -1,9 +1,10 @@
 -- Histories: the events so far, oldest first, and what follows from them. Entries are counted from 0 here; entry i is number i + 1 to the outside.
-use Rattle.std.specs.Prelude.{ℕ, ◌+◌, ◌-◌, ◌*◌, ◌^◌, Bool, true, false, not, ◌&&◌, ◌||◌, ◌==◌, List, [], length, take, fold, count_by, slice_get, if◌then◌else◌}
+use Rattle.std.specs.Prelude.{ℕ, ◌+◌, ◌-◌, ◌*◌, Bool, true, false, not, ◌&&◌, ◌||◌, ◌==◌, List, [], length, take, fold, count_by, slice_get, if◌then◌else◌}
 use Rattle.std.specs.declared.option.Option.{Option}
 use Rattle.std.specs.declared.option.Option.TheVariants.{None, Some}
 use Rattle.std.specs.Option.{option_map}
-use Rattle.std.specs.List.{filter_map}
+use Rattle.std.specs.List.{filter_map, list_any}
+use Rattle.std.specs.Str.{bytes_eq}
 use Rattle.cj_model.specs.declared.database.Slot.{Slot}
 use Rattle.cj_model.specs.declared.request.Act.{Act}
 use Rattle.cj_model.specs.declared.request.Act.TheVariants as act
@@ -133,6 +134,10 @@ marker_name (Marker name b) = Some name
 -- the names of the markers
 abbrev pub markers : List Event → List (List ℕ)
 markers h = filter_map marker_name h
+
+-- whether a marker has the name
+abbrev pub has_marker : List Event → List ℕ → Bool
+has_marker h name = list_any (bytes_eq name) (markers h)
 
 -- ---- transactions
 

@@ -1,9 +1,6 @@
 -- Which histories can be.
-use Rattle.std.specs.Prelude.{◌≡◌, ◌≢◌, ◌⊎◌, ℕ, ◌+◌, ◌^◌, ◌<◌, ◌≤◌, true, false, List, length, take, All, slice_get, slice_index_or}
+use Rattle.std.specs.Prelude.{◌≡◌, ◌≢◌, ◌⊎◌, ℕ, ◌+◌, ◌<◌, ◌≤◌, true, false, List, length, take, All, slice_get, slice_index_or}
 use Rattle.std.specs.declared.option.Option.TheVariants.{Some}
-use Rattle.std.specs.List.{list_any}
-use Rattle.std.specs.Str.{bytes_eq}
-use Rattle.cj_model.specs.declared.request.Request.{Request}
 use Rattle.cj_model.specs.declared.request.Act.{Act}
 use Rattle.cj_model.specs.declared.request.Act.TheVariants as act
 use Rattle.cj_model.specs.declared.request.Entry.{Entry}
@@ -12,7 +9,7 @@ use Rattle.cj_cluster.specs.declared.event.Event.TheVariants.{Sched, Ended, Read
 use Rattle.cj_model.specs.declared.limits.TheConstants.{EVENT_LIMIT, REQUEST_LIMIT, SESSION_NUMBER_LIMIT, USER_LIMIT}
 use Rattle.cj_model.specs.Sql.WrittenRequests.{IsWritten}
 use Rattle.cj_model.specs.Sql.PlainRequests.{request_of}
-use Rattle.cj_cluster.specs.History.Histories.{log, is_idle, is_enabled, markers, tx_of}
+use Rattle.cj_cluster.specs.History.Histories.{log, is_idle, is_enabled, has_marker, tx_of}
 use Rattle.cj_model.specs.Cluster.Masks.{in_mask}
 
 -- the transaction that an act may have, where the session's open one is t
@@ -62,7 +59,7 @@ IsAllowedEvent h (ReadFailed s q b) = Unit {0}
 IsAllowedEvent h (LogFailed s q) = is_idle h ≡ true
 IsAllowedEvent h (Disabled b) = (is_idle h ≡ true) × (is_enabled h b ≡ true)
 IsAllowedEvent h (Enabled b) = (is_idle h ≡ true) × (is_enabled h b ≡ false)
-IsAllowedEvent h (Marker name b) = (is_idle h ≡ true) × (list_any (bytes_eq name) (markers h) ≡ false)
+IsAllowedEvent h (Marker name b) = (is_idle h ≡ true) × (has_marker h name ≡ false)
 
 -- not too many events, each allowed by those before it
 pub record IsLegal (h : List Event) : Type 0 where

@@ -1,5 +1,5 @@
 -- What a move may give, and what it changes.
-use Rattle.std.specs.Prelude.{◌≡◌, ◌≢◌, ◌⊎◌, ℕ, ◌+◌, ◌-◌, ◌<◌, ◌≤◌, ◌^◌, Bool, true, false, not, ◌&&◌, ◌||◌, ◌==◌, nat_lt, nat_le, is_some, is_none, if◌then◌else◌, List, [], ◌∷◌, ◌++◌, length, filter, MatchOption, Result, Ok, Err, slice_set, slice_get, take}
+use Rattle.std.specs.Prelude.{◌≡◌, ◌≢◌, ◌⊎◌, ℕ, ◌+◌, ◌-◌, ◌<◌, ◌≤◌, Bool, true, false, not, ◌&&◌, ◌||◌, ◌==◌, nat_lt, nat_le, is_some, is_none, if◌then◌else◌, List, [], ◌∷◌, ◌++◌, length, filter, MatchOption, Result, Ok, Err, slice_set, slice_get}
 use Rattle.std.specs.declared.option.Option.{Option}
 use Rattle.std.specs.declared.option.Option.TheVariants.{None, Some}
 use Rattle.cj_model.specs.declared.request.Request.{Request}
@@ -14,7 +14,7 @@ use Rattle.cj_model.specs.declared.answer.Refusal.{Refusal}
 use Rattle.cj_cluster.specs.declared.event.Event.{Event}
 use Rattle.cj_cluster.specs.declared.event.Event.TheVariants as event
 use Rattle.cj_cluster.specs.declared.moves.Move.{Move}
-use Rattle.cj_cluster.specs.declared.moves.Move.TheVariants.{Open, Close, Schedule, Abort, Apply, End, Read, Arm, Disable, Replay, Enable}
+use Rattle.cj_cluster.specs.declared.moves.Move.TheVariants.{Open, Close, Schedule, Abort, Apply, End, Read, Arm, Disable, Replay, Enable, Mark}
 use Rattle.cj_cluster.specs.declared.moves.Did.{Did}
 use Rattle.cj_cluster.specs.declared.moves.Did.TheVariants as did
 use Rattle.cj_cluster.specs.declared.moves.Moved.{Moved}
@@ -26,14 +26,14 @@ use Rattle.cj_cluster.specs.declared.moves.MoveError.{MoveError}
 use Rattle.cj_cluster.specs.declared.moves.MoveError.TheVariants.{NotNow, NoMemory}
 use Rattle.cj_cluster.specs.declared.moves.OpenRead.{OpenRead}
 use Rattle.cj_cluster.specs.declared.moves.OpenSession.{OpenSession}
-use Rattle.cj_model.specs.declared.codes.TheConstants.{IN_TRANSACTION, NO_TRANSACTION, SCHEMA_IN_TRANSACTION, NO_BACKEND, READ_FAULT, HISTORY_FULL, SESSIONS_FULL}
+use Rattle.cj_model.specs.declared.codes.TheConstants.{IN_TRANSACTION, NO_TRANSACTION, SCHEMA_IN_TRANSACTION, NO_BACKEND, READ_FAULT, LOG_FAULT, HISTORY_FULL, SESSIONS_FULL}
 use Rattle.cj_model.specs.declared.limits.TheConstants.{SESSION_LIMIT, SESSION_NUMBER_LIMIT}
 use Rattle.cj_model.specs.Database.Inserts.{refusal_of_code}
 use Rattle.cj_model.specs.Database.Queries.{ask}
 use Rattle.cj_model.specs.Database.Outcomes.{IsOutcome, IsAsked}
 use Rattle.cj_model.specs.Sql.PlainRequests.{act_of}
 use Rattle.cj_cluster.specs.History.Transactions.{takes_part, begun_after}
-use Rattle.cj_cluster.specs.History.Histories.{log, ended_count, is_idle, entry_in_progress, is_enabled, events_left, database_after, outcome_of, tx_of}
+use Rattle.cj_cluster.specs.History.Histories.{log, ended_count, is_idle, entry_in_progress, is_enabled, has_marker, events_left, database_after, outcome_of, tx_of}
 use Rattle.cj_model.specs.Cluster.Masks.{in_mask, with_backend}
 use Rattle.cj_cluster.specs.History.Answering.{CanServe, HasServer, HasNoServer, AnswersEntry}
 use Rattle.cj_cluster.specs.Moves.Cores.{Core, position_at, begun_at, find_session, session_at, new_session, with_session, is_entry_of}
@@ -123,6 +123,30 @@ not_now c (Enable b) =
     (reason_if (is_enabled c.history b) reason.Enabled b
     (reason_if (is_none (position_at c b)) reason.Out b
     (reason_if (not (position_or_zero (position_at c b) == last_number c)) reason.Behind (position_or_zero (position_at c b)) None)))
+not_now c (Mark name) =
+    reason_if (not (is_idle c.history)) reason.EntryOpen (last_number c)
+    (reason_if (has_marker c.history name) reason.NameTaken 0 None)
+
+-- ---- events
+
+-- one more event
+abbrev pub happened : Core → Event → Core
+happened c e = record c { history = c.history ++ e ∷ [] }
+
+abbrev pub history_full : Core → Refusal
+history_full c = record { code = HISTORY_FULL; a = length c.history; b = 0 }
+
+-- the history has no room for so many events
+pub record LacksRoomFor (events : ℕ) (c : Core) (refusal : Refusal) (z : Core) : Type 0 where
+  pub full : events_left c.history < events
+  pub refused : refusal ≡ history_full c
+  pub after : z ≡ c
+
+-- the log's store failed in the administrator's move, for which the history has room, and nothing came into the log
+pub record MeetsLogFault (events : ℕ) (c : Core) (refusal : Refusal) (z : Core) : Type 0 where
+  pub space : events ≤ events_left c.history
+  pub refused : refusal ≡ refusal_of_code LOG_FAULT
+  pub after : z ≡ happened c (event.LogFailed 0 0)
 
 -- ---- sessions
 
@@ -193,9 +217,6 @@ with_entry c e = record c { history = c.history ++ event.Sched e ∷ []; failed 
 abbrev pub scheduled_as : Core → ℕ → Entry → Core
 scheduled_as c s e = record (with_entry c e) { sessions = with_session c.sessions s with_one_request }
 
-abbrev pub history_full : Core → Refusal
-history_full c = record { code = HISTORY_FULL; a = length c.history; b = 0 }
-
 -- what the state of the session's transaction forbids
 pub record ScheduleIsForbidden (c : Core) (s : ℕ) (a : Act) (refusal : Refusal) (z : Core) : Type 0 where
   pub forbidden : forbidden_by (open_tx c s) a ≡ Some refusal
@@ -216,9 +237,18 @@ pub record ScheduleHasNoRoom (c : Core) (s : ℕ) (r : Request) (a : Act) (refus
   pub refused : refusal ≡ history_full c
   pub after : z ≡ with_request_counted c s
 
+-- the log's store failed, and nothing was scheduled
+pub record ScheduleMeetsLogFault (c : Core) (s : ℕ) (r : Request) (a : Act) (refusal : Refusal) (z : Core) : Type 0 where
+  pub allowed : forbidden_by (open_tx c s) a ≡ None
+  pub served : HasServer c.placement c.history r
+  pub space : 3 ≤ events_left c.history
+  pub refused : refusal ≡ refusal_of_code LOG_FAULT
+  pub after : z ≡ with_request_counted (happened c (event.LogFailed s ((session_at c s).queries + 1))) s
+
 -- why nothing was scheduled
 abbrev pub RefusesSchedule : Core → ℕ → Request → Act → Refusal → Core → Type 0
-RefusesSchedule c s r a refusal z = ScheduleIsForbidden c s a refusal z ⊎ ScheduleHasNoBackend c s r a refusal z ⊎ ScheduleHasNoRoom c s r a refusal z
+RefusesSchedule c s r a refusal z =
+    ScheduleIsForbidden c s a refusal z ⊎ ScheduleHasNoBackend c s r a refusal z ⊎ ScheduleHasNoRoom c s r a refusal z ⊎ ScheduleMeetsLogFault c s r a refusal z
 
 abbrev pub SchedulesAct : Core → ℕ → Request → Act → MoveResult → Core → Type 0
 SchedulesAct c s r a (Ok (moved.Entry n)) z =
@@ -249,7 +279,7 @@ abort_entry c tx = record { session = 0; seq = 0; tx = tx; user = user_of (entry
 
 abbrev pub AbortsOrphan : Core → ℕ → MoveResult → Core → Type 0
 AbortsOrphan c tx (Ok (moved.Entry n)) z = (3 ≤ events_left c.history) × (n ≡ last_number c + 1) × (z ≡ with_entry c (abort_entry c tx))
-AbortsOrphan c tx (Ok (moved.Refused refusal)) z = (events_left c.history < 3) × (refusal ≡ history_full c) × (z ≡ c)
+AbortsOrphan c tx (Ok (moved.Refused refusal)) z = LacksRoomFor 3 c refusal z ⊎ MeetsLogFault 3 c refusal z
 AbortsOrphan c tx (Err NoMemory) z = z ≡ c
 AbortsOrphan c tx _ z = ⊥
 
@@ -458,10 +488,6 @@ AttemptsReadOrWaits tells c s b select g z =
 
 -- ---- backends
 
--- one more event
-abbrev pub happened : Core → Event → Core
-happened c e = record c { history = c.history ++ e ∷ [] }
-
 abbrev pub Arms : Core → MoveResult → Core → Type 0
 Arms c (Ok moved.Armed) z = z ≡ c
 Arms c _ z = ⊥
@@ -478,6 +504,15 @@ Enables c b (Ok (moved.Refused r)) z = (events_left c.history ≡ 0) × (r ≡ h
 Enables c b (Err NoMemory) z = z ≡ c
 Enables c b _ z = ⊥
 
+-- ---- checkpoints
+
+-- a marker stands behind all entries so far
+abbrev pub Marks : Core → List ℕ → MoveResult → Core → Type 0
+Marks c name (Ok (moved.Marked n)) z = (0 < events_left c.history) × (n ≡ last_number c) × (z ≡ happened c (event.Marker name None))
+Marks c name (Ok (moved.Refused r)) z = LacksRoomFor 1 c r z ⊎ MeetsLogFault 1 c r z
+Marks c name (Err NoMemory) z = z ≡ c
+Marks c name _ z = ⊥
+
 -- ---- one move
 
 abbrev pub DoesMove : Bool → Core → Move → MoveResult → Core → Type 0
@@ -492,6 +527,7 @@ DoesMove tells c (Arm b) g z = Arms c g z
 DoesMove tells c (Disable b) g z = Disables c b g z
 DoesMove tells c (Replay b) g z = Replays tells c b g z
 DoesMove tells c (Enable b) g z = Enables c b g z
+DoesMove tells c (Mark name) g z = Marks c name g z
 
 -- From the state c the move gives g, and leads to the state z.
 abbrev pub MovesTo : Bool → Core → Move → MoveResult → Core → Type 0

@@ -1,5 +1,5 @@
 -- Lists of moves, the calls of a session in them, and the chain of turns that these are.
-use Rattle.std.specs.Prelude.{◌≡◌, ℕ, ◌+◌, ◌<◌, ◌≤◌, ◌^◌, Bool, true, false, ◌&&◌, ◌==◌, is_none, is_some, if◌then◌else◌, List, [], ◌∷◌, ◌++◌, length, take, slice_get, Ok, Err}
+use Rattle.std.specs.Prelude.{◌≡◌, ℕ, ◌+◌, ◌<◌, ◌≤◌, Bool, true, false, ◌&&◌, ◌==◌, is_none, is_some, if◌then◌else◌, List, [], ◌∷◌, ◌++◌, length, take, slice_get, Ok, Err}
 use Rattle.std.specs.declared.option.Option.{Option}
 use Rattle.std.specs.declared.option.Option.TheVariants.{None, Some}
 use mathlib.Core.List.{IsPrefix}
@@ -12,7 +12,7 @@ use Rattle.cj_model.specs.declared.answer.Reply.TheVariants.{Rows, Refused}
 use Rattle.cj_cluster.specs.declared.event.Event.{Event}
 use Rattle.cj_cluster.specs.declared.event.Event.TheVariants.{Sched, ReadFailed}
 use Rattle.cj_cluster.specs.declared.moves.Move.{Move}
-use Rattle.cj_cluster.specs.declared.moves.Move.TheVariants.{Open, Close, Schedule, Abort, Apply, End, Read, Arm, Disable, Replay, Enable}
+use Rattle.cj_cluster.specs.declared.moves.Move.TheVariants.{Open, Close, Schedule, Abort, Apply, End, Read, Arm, Disable, Replay, Enable, Mark}
 use Rattle.cj_cluster.specs.declared.moves.Moved.{Moved}
 use Rattle.cj_cluster.specs.declared.moves.Moved.TheVariants as moved
 use Rattle.cj_cluster.specs.declared.moves.OpenRead.{OpenRead}
@@ -21,6 +21,7 @@ use Rattle.cj_model.specs.declared.limits.TheConstants.{REQUEST_LIMIT, USER_LIMI
 use Rattle.cj_model.specs.Sql.PlainRequests.{act_of, request_of}
 use Rattle.cj_cluster.specs.History.Histories.{log, ended_count, is_idle, entry_in_progress, is_enabled, events_left, log_faults_of, tx_of}
 use Rattle.cj_model.specs.Cluster.Masks.{in_mask}
+use Rattle.cj_model.specs.Sql.Names.{is_name}
 use Rattle.cj_model.specs.Sql.WrittenRequests.{IsWritten}
 use Rattle.cj_cluster.specs.History.Answering.{HasServer}
 use Rattle.cj_model.specs.Cluster.Placements.{Placement}
@@ -54,6 +55,7 @@ IsMoveOfCluster backends (Arm b) = b < backends
 IsMoveOfCluster backends (Disable b) = b < backends
 IsMoveOfCluster backends (Replay b) = b < backends
 IsMoveOfCluster backends (Enable b) = b < backends
+IsMoveOfCluster backends (Mark name) = is_name name ≡ true
 
 -- each session can make n requests more
 abbrev pub CanCountRequests : Core → ℕ → Type 0

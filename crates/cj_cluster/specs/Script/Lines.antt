@@ -13,7 +13,7 @@ use Rattle.cj_model.specs.declared.answer.Refusal.{Refusal}
 use Rattle.cj_model.specs.declared.answer.Reply.{Reply}
 use Rattle.cj_model.specs.declared.answer.Reply.TheVariants as reply
 use Rattle.cj_cluster.specs.declared.moves.Move.{Move}
-use Rattle.cj_cluster.specs.declared.moves.Move.TheVariants.{Open, Close, Schedule, Abort, Apply, End, Read, Arm, Disable, Replay, Enable}
+use Rattle.cj_cluster.specs.declared.moves.Move.TheVariants.{Open, Close, Schedule, Abort, Apply, End, Read, Arm, Disable, Replay, Enable, Mark}
 use Rattle.cj_cluster.specs.declared.moves.Did.{Did}
 use Rattle.cj_cluster.specs.declared.moves.Did.TheVariants as did
 use Rattle.cj_cluster.specs.declared.moves.Moved.{Moved}
@@ -24,7 +24,7 @@ use Rattle.cj_cluster.specs.declared.moves.Why.{Why}
 use Rattle.cj_cluster.specs.declared.moves.Made.{Made}
 use Rattle.cj_cluster.specs.declared.moves.Made.TheVariants as made
 use Rattle.cj_model.specs.declared.limits.TheConstants.{USER_LIMIT}
-use Rattle.cj_model.specs.Sql.Names.{IsText}
+use Rattle.cj_model.specs.Sql.Names.{is_name, IsText}
 use Rattle.cj_model.specs.Sql.Grammar.{TextReadsAs}
 use Rattle.cj_model.specs.Sql.PlainRequests.{is_plain}
 use Rattle.cj_cluster.specs.Moves.Runs.{IsForLog}
@@ -87,6 +87,7 @@ MoveLine names line (Arm b) = NamesBackend names line (codes "arm") b
 MoveLine names line (Disable b) = NamesBackend names line (codes "disable") b
 MoveLine names line (Replay b) = NamesBackend names line (codes "replay") b
 MoveLine names line (Enable b) = NamesBackend names line (codes "enable") b
+MoveLine names line (Mark name) = (is_name name ≡ true) × (line ≡ words (codes "mark" ∷ name ∷ []))
 
 -- ---- what they give
 
@@ -135,6 +136,7 @@ moved_text names moved.Failed = codes "failed"
 moved_text names moved.Armed = codes "armed"
 moved_text names moved.Disabled = codes "disabled"
 moved_text names moved.Enabled = codes "enabled"
+moved_text names (moved.Marked n) = words (codes "marked" ∷ decimal n ∷ [])
 moved_text names (moved.Replayed n d) = words (codes "replayed" ∷ decimal n ∷ did_text d ∷ [])
 
 -- the number of a reason
@@ -149,6 +151,7 @@ reason_number reason.Out = 7
 reason_number reason.NoSession = 9
 reason_number reason.Waiting = 10
 reason_number reason.NotServing = 11
+reason_number reason.NameTaken = 13
 reason_number reason.NotOrphan = 14
 
 -- why a move can't be made now
