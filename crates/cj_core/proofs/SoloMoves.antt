@@ -1,17 +1,17 @@
 -- What leaves a session between its calls: a move of no session, and a request counted; and how it begins.
-use Rattle.std.proofs.Common.{◌≡◌, ◌≢◌, ℕ, ◌+◌, ◌<◌, ◌≤◌, Bool, true, false, List, All, None, Some, is_some, Ok, Err, refl, ap, sym, ◌∙◌, subst, arith}
+use Rattle.std.proofs.Common.{◌≡◌, ◌≢◌, ℕ, ◌+◌, ◌<◌, ◌≤◌, Bool, true, false, List, All, None, Some, is_some, Ok, Err, refl, ap, sym, ◌∙◌, subst, arith, ⊎_elim}
 use Rattle.std.proofs.lemmas.Bool.{both_ways}
 use Rattle.std.proofs.lemmas.List.Elements.{All-weaker}
 use Rattle.cj_cluster.specs.declared.event.Event.{Event}
 use Rattle.cj_cluster.specs.declared.event.Event.TheVariants as event
 use Rattle.cj_cluster.specs.declared.moves.Move.{Move}
-use Rattle.cj_cluster.specs.declared.moves.Move.TheVariants.{Open, Close, Schedule, Abort, Apply, End, Read, Arm, Disable, Replay, Enable}
+use Rattle.cj_cluster.specs.declared.moves.Move.TheVariants.{Open, Close, Schedule, Abort, Apply, End, Read, Arm, Disable, Replay, Enable, Mark}
 use Rattle.cj_cluster.specs.declared.moves.Moved.TheVariants as moved
 use Rattle.cj_cluster.specs.declared.moves.MoveError.TheVariants.{NoMemory}
 use Rattle.cj_cluster.specs.declared.moves.OpenSession.{OpenSession}
 use Rattle.cj_cluster.specs.History.Histories.{scheduled_entry, is_end_event, is_idle}
 use Rattle.cj_cluster.specs.Moves.Cores.{Core, find_session, session_at, new_session}
-use Rattle.cj_cluster.specs.Moves.Moves.{MoveResult, MovesTo, DoesMove, OpensSession, Arms, Disables, Enables, Replays, happened, not_now, opened_for, with_one_request, with_request_counted}
+use Rattle.cj_cluster.specs.Moves.Moves.{MoveResult, MovesTo, DoesMove, OpensSession, Arms, Disables, Enables, Marks, LacksRoomFor, MeetsLogFault, Replays, happened, not_now, opened_for, with_one_request, with_request_counted}
 use Rattle.cj_cluster.specs.Proving.Invariants.{CoreInvariant, IsSoundSession}
 use Rattle.cj_cluster.proofs.Now.{can_apply, can_end}
 use Rattle.cj_cluster.proofs.Pushed.{free-same}
@@ -65,6 +65,13 @@ module _ (tells : Bool) (c z : Core) (s : ℕ) (w : CoreInvariant c) (stands : S
   enables b (Err NoMemory) h = as_it_was h
   enables b _ h = absurd h
 
+  marks : (name : List ℕ) (g : MoveResult) → Marks c name g z → StandsBetweenCalls z s
+  marks name (Ok (moved.Marked n)) h = with_one_event (event.Marker name None) refl refl h.2
+  marks name (Ok (moved.Refused r)) h =
+      ⊎_elim (λ (q : LacksRoomFor 1 c r z). as_it_was q.after) (λ (q : MeetsLogFault 1 c r z). with_one_event (event.LogFailed 0 0) refl refl q.after) h
+  marks name (Err NoMemory) h = as_it_was h
+  marks name _ h = absurd h
+
   replays : (b : ℕ) (g : MoveResult) → Replays tells c b g z → StandsBetweenCalls z s
   replays b (Ok (moved.Replayed n d)) h = subst (λ (x : Core). StandsBetweenCalls x s) (sym h.1.2) (record { idle = stands.idle; here = stands.here; no_read = stands.no_read })
   replays b _ h = absurd h
@@ -82,6 +89,7 @@ module _ (tells : Bool) (c z : Core) (s : ℕ) (w : CoreInvariant c) (stands : S
   does (Disable b) g none now h = disables b g h
   does (Replay b) g none now h = replays b g h
   does (Enable b) g none now h = enables b g h
+  does (Mark name) g none now h = marks name g h
 
   -- any move
   pub stands_moved : (m : Move) (g : MoveResult) → IsMoveOfNoSession m → MovesTo tells c m g z → StandsBetweenCalls z s

@@ -10,7 +10,7 @@ use Rattle.cj_cluster.specs.Moves.Runs.{RunsMoves, IsBetweenReplies, IsChained}
 use Rattle.cj_state.specs.Worlds.{WorldState}
 use Rattle.cj_state.specs.Faults.{faults_of, faults_after}
 use Rattle.cj_moves.specs.Armings.{HasArmings}
-use Rattle.cj_moves.specs.Counting.{HasCauses, blamed}
+use Rattle.cj_moves.specs.Counting.{HasCauses, HasNoLogFault, blamed}
 use Rattle.cj_moves.specs.Logins.{HasLogins}
 
 -- what a move came to is what it gave
@@ -33,6 +33,8 @@ HaveCauses old new moves given = faults_of new.cells ≡ faults_over (faults_of 
 pub record MovesWorld (tells armable : Bool) (old : WorldState) (m : Move) (given : MoveResult) (new : WorldState) : Type 0 where
   pub moves : MovesTo tells old.core m given new.core
   pub causes : HasCauses old new m given
+  -- there is no log yet
+  pub no_log : HasNoLogFault m given
   pub armings : HasArmings armable old new m given
   pub logins : HasLogins old new m given
   pub setup : new.setup ≡ old.setup

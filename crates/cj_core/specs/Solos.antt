@@ -14,7 +14,7 @@ use Rattle.cj_auth.specs.Admission.{admits}
 use Rattle.cj_cluster.specs.declared.event.Event.{Event}
 use Rattle.cj_cluster.specs.declared.event.Event.TheVariants.{Sched, Ended, ReadFailed}
 use Rattle.cj_cluster.specs.declared.moves.Move.{Move}
-use Rattle.cj_cluster.specs.declared.moves.Move.TheVariants.{Open, Close, Schedule, Abort, Apply, End, Read, Arm, Disable, Replay, Enable}
+use Rattle.cj_cluster.specs.declared.moves.Move.TheVariants.{Open, Close, Schedule, Abort, Apply, End, Read, Arm, Disable, Replay, Enable, Mark}
 use Rattle.cj_cluster.specs.History.Histories.{log, is_idle, events_left}
 use Rattle.cj_cluster.specs.History.Turns.{SessionView, Call, Turn, entry_of_call}
 use Rattle.cj_cluster.specs.Moves.Cores.{Core, session_at}
@@ -130,3 +130,4 @@ IsMoveOfNoSession (Arm b) = Unit {0}
 IsMoveOfNoSession (Disable b) = Unit {0}
 IsMoveOfNoSession (Replay b) = Unit {0}
 IsMoveOfNoSession (Enable b) = Unit {0}
+IsMoveOfNoSession (Mark name) = Unit {0}

@@ -6,7 +6,7 @@ ghost use Rattle.cj_cluster.specs.History.Legality.{IsLegal};
 ghost use Rattle.cj_cluster.specs.Moves.Moves.{MovesTo};
 ghost use Rattle.cj_cluster.specs.Moves.Runs.{IsMoveOfCluster, CanCountRequests};
 ghost use Rattle.cj_moves.specs.Armings.{HasArmings};
-ghost use Rattle.cj_moves.specs.Counting.{HasCauses};
+ghost use Rattle.cj_moves.specs.Counting.{HasCauses, HasNoLogFault};
 ghost use Rattle.cj_moves.specs.Logins.{HasLogins};
 ghost use Rattle.cj_core.specs.Played.{given_of, HasRun, HasRunInPart};
 ghost use Rattle.cj_moves.specs.Steps.{IsMet};
@@ -23,6 +23,7 @@ pub fn make<B: Backend>(state: &mut State<B>, m: Move) -> Result<Made, NoMemory>
     requires { IsMet state.old.core m }
     ensures made { IfOk result (λ made. MovesTo B.TELLS state.old.core m (given_of made) state.new.core) }
     ensures causes { IfOk result (λ made. HasCauses state.old state.new m (given_of made)) }
+    ensures no_log { IfOk result (λ made. HasNoLogFault m (given_of made)) }
     ensures armings { IfOk result (λ made. HasArmings B.can_be_armed state.old state.new m (given_of made)) }
     ensures logins { IfOk result (λ made. HasLogins state.old state.new m (given_of made)) }
     ensures want { OnErr result (state.new ≡ state.old) }
@@ -40,6 +41,7 @@ fn make_copy<B: Backend>(state: &mut State<B>, alloc: Global, m: &Move) -> Resul
     requires { IsMet state.old.core m.now }
     ensures made { IfOk result (λ made. MovesTo B.TELLS state.old.core m.now (given_of made) state.new.core) }
     ensures causes { IfOk result (λ made. HasCauses state.old state.new m.now (given_of made)) }
+    ensures no_log { IfOk result (λ made. HasNoLogFault m.now (given_of made)) }
     ensures armings { IfOk result (λ made. HasArmings B.can_be_armed state.old state.new m.now (given_of made)) }
     ensures logins { IfOk result (λ made. HasLogins state.old state.new m.now (given_of made)) }
     ensures want { OnErr result (state.new ≡ state.old) }

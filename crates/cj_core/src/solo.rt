@@ -15,7 +15,7 @@ ghost use Rattle.cj_cluster.specs.Moves.Cores.{session_at};
 ghost use Rattle.cj_cluster.specs.Moves.Moves as moves;
 ghost use Rattle.cj_cluster.specs.Moves.Moves.{opened_for, closed_for, with_request_counted, MovesTo};
 ghost use Rattle.cj_moves.specs.Armings.{HasArmings};
-ghost use Rattle.cj_moves.specs.Counting.{HasCauses};
+ghost use Rattle.cj_moves.specs.Counting.{HasCauses, HasNoLogFault};
 ghost use Rattle.cj_state.specs.Effects.{with_core};
 ghost use Rattle.cj_state.specs.Worlds.{accounts_of};
 ghost use Rattle.cj_moves.specs.Logins.{HasLogins};
@@ -155,6 +155,7 @@ impl<B: Backend> Solo<B> {
         requires sessions { IsMoveOfNoSession m }
         ensures moves { MovesTo B.TELLS self.old.world.core m result self.new.world.core }
         ensures causes { HasCauses self.old.world self.new.world m result }
+        ensures no_log { HasNoLogFault m result }
         ensures armings { HasArmings B.can_be_armed self.old.world self.new.world m result }
         ensures logins { HasLogins self.old.world self.new.world m result }
         ensures want { IsErrOf result MoveError.NoMemory → self.new ≡ self.old }

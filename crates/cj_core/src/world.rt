@@ -6,7 +6,7 @@ ghost use Rattle.cj_cluster.specs.History.Legality.{IsLegal};
 ghost use Rattle.cj_cluster.specs.Moves.Moves.{MovesTo};
 ghost use Rattle.cj_cluster.specs.Moves.Runs.{IsMoveOfCluster, CanCountRequests};
 ghost use Rattle.cj_moves.specs.Armings.{ArmsCell, HasArmings};
-ghost use Rattle.cj_moves.specs.Counting.{HasCauses};
+ghost use Rattle.cj_moves.specs.Counting.{HasCauses, HasNoLogFault};
 ghost use Rattle.cj_moves.specs.Logins.{HasLogins};
 ghost use Rattle.cj_moves.specs.Steps.{IsMet};
 ghost use Rattle.cj_core.specs.Audits.{audit_text, failed_audit};
@@ -105,6 +105,7 @@ impl<B: Backend> World<B> {
         requires { IsMet self.old.core m }
         ensures moves { MovesTo B.TELLS self.old.core m result self.new.core }
         ensures causes { HasCauses self.old self.new m result }
+        ensures no_log { HasNoLogFault m result }
         ensures armings { HasArmings B.can_be_armed self.old self.new m result }
         ensures logins { HasLogins self.old self.new m result }
         ensures armed { result ≡ Ok Moved.Armed → ArmsCell B.can_be_armed self.old.cells m self.new.cells }
@@ -119,6 +120,7 @@ impl<B: Backend> World<B> {
         requires { IsMet self.old.core m }
         ensures made { IfOk result (λ made. MovesTo B.TELLS self.old.core m (given_of made) self.new.core) }
         ensures causes { IfOk result (λ made. HasCauses self.old self.new m (given_of made)) }
+        ensures no_log { IfOk result (λ made. HasNoLogFault m (given_of made)) }
         ensures armings { IfOk result (λ made. HasArmings B.can_be_armed self.old self.new m (given_of made)) }
         ensures logins { IfOk result (λ made. HasLogins self.old self.new m (given_of made)) }
         ensures want { OnErr result (self.new ≡ self.old) }

@@ -1,5 +1,5 @@
 -- What scheduling a request gives.
-use Rattle.std.proofs.Common.{◌≡◌, ℕ, inr, Option, None, Some, Ok, Err, ap, sym, ◌∙◌, subst}
+use Rattle.std.proofs.Common.{◌≡◌, ℕ, inl, inr, Option, None, Some, Ok, Err, ap, sym, ◌∙◌, subst}
 use Rattle.cj_model.specs.declared.request.Act.{Act}
 use Rattle.cj_model.specs.declared.request.Request.{Request}
 use Rattle.cj_model.specs.declared.request.Entry.{Entry}
@@ -29,10 +29,10 @@ module _ (c : Core) (s : ℕ) (r : Request) (a : Act) (is : act_of r ≡ Some a)
   pub gives_full : (n : ℕ) (z : Core) → SchedulesAs c e (Err (HistoryFull n)) → z ≡ with_request_counted c s → SchedulesRequest c s r (Ok (moved.Refused (record { code = HISTORY_FULL; a = n; b = 0 }))) z
   gives_full n z full after =
       of_act (Ok (moved.Refused (record { code = HISTORY_FULL; a = n; b = 0 }))) z
-      (inr (inr (record {
+      (inr (inr (inl (record {
         allowed = allowed;
         served = subst (HasServer c.placement c.history) same_request full.1;
         full = full.2;
         refused = ap (λ m. record { code = HISTORY_FULL; a = m; b = 0 }) full.0;
         after = after;
-      })))
+      }))))

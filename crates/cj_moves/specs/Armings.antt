@@ -3,7 +3,7 @@ use Rattle.std.specs.Prelude.{◌≡◌, ℕ, Bool, true, false, List, ◌&&◌,
 use Rattle.std.specs.declared.option.Option.{Option}
 use Rattle.std.specs.declared.option.Option.TheVariants.{None, Some}
 use Rattle.cj_cluster.specs.declared.moves.Move.{Move}
-use Rattle.cj_cluster.specs.declared.moves.Move.TheVariants.{Open, Close, Schedule, Abort, Apply, End, Read, Arm, Disable, Replay, Enable}
+use Rattle.cj_cluster.specs.declared.moves.Move.TheVariants.{Open, Close, Schedule, Abort, Apply, End, Read, Arm, Disable, Replay, Enable, Mark}
 use Rattle.cj_cluster.specs.declared.moves.Moved.TheVariants as moved
 use Rattle.cj_cluster.specs.declared.moves.MoveError.TheVariants as errors
 use Rattle.cj_cluster.specs.Moves.Moves.{MoveResult}
@@ -25,6 +25,7 @@ ArmsCell can old (Read s b select) new = Unit {0}
 ArmsCell can old (Disable b) new = Unit {0}
 ArmsCell can old (Replay b) new = Unit {0}
 ArmsCell can old (Enable b) new = Unit {0}
+ArmsCell can old (Mark name) new = Unit {0}
 
 -- whether each backend is armed, and how often it was
 abbrev pub each_arming : List CellState → List Arming
@@ -45,6 +46,7 @@ tells_armed (Ok moved.Failed) = false
 tells_armed (Ok moved.Armed) = true
 tells_armed (Ok moved.Disabled) = false
 tells_armed (Ok moved.Enabled) = false
+tells_armed (Ok (moved.Marked n)) = false
 tells_armed (Ok (moved.Replayed n d)) = false
 tells_armed (Err (errors.NotNow why)) = false
 tells_armed (Err errors.NoMemory) = false
@@ -62,6 +64,7 @@ armed_by can (Arm b) g = if tells_armed g && can then Some b else None
 armed_by can (Disable b) g = None
 armed_by can (Replay b) g = None
 armed_by can (Enable b) g = None
+armed_by can (Mark name) g = None
 
 -- The backend that the move armed was so once more, and no other was armed.
 abbrev pub HasArmings : Bool → WorldState → WorldState → Move → MoveResult → Type 0

@@ -3,10 +3,10 @@ use Rattle.std.specs.Prelude.{◌≡◌, ℕ, Bool, true, false, ◌||◌, ◌==
 use Rattle.std.specs.declared.option.Option.{Option}
 use Rattle.std.specs.declared.option.Option.TheVariants.{None, Some}
 use Rattle.cj_cluster.specs.declared.moves.Move.{Move}
-use Rattle.cj_cluster.specs.declared.moves.Move.TheVariants.{Open, Close, Schedule, Abort, Apply, End, Read, Arm, Disable, Replay, Enable}
+use Rattle.cj_cluster.specs.declared.moves.Move.TheVariants.{Open, Close, Schedule, Abort, Apply, End, Read, Arm, Disable, Replay, Enable, Mark}
 use Rattle.cj_cluster.specs.declared.moves.Moved.TheVariants as moved
 use Rattle.cj_cluster.specs.declared.moves.MoveError.TheVariants as errors
-use Rattle.cj_model.specs.declared.codes.TheConstants.{READ_FAULT, HISTORY_FULL}
+use Rattle.cj_model.specs.declared.codes.TheConstants.{READ_FAULT, LOG_FAULT, HISTORY_FULL}
 use Rattle.cj_cluster.specs.Moves.Moves.{MoveResult}
 use Rattle.cj_state.specs.Worlds.{WorldState}
 use Rattle.cj_state.specs.Faults.{did_fail, faults_after, faults_of}
@@ -26,6 +26,7 @@ tells_fault (Ok moved.Failed) = true
 tells_fault (Ok moved.Armed) = false
 tells_fault (Ok moved.Disabled) = false
 tells_fault (Ok moved.Enabled) = false
+tells_fault (Ok (moved.Marked n)) = false
 tells_fault (Ok (moved.Replayed n d)) = did_fail d
 tells_fault (Err (errors.NotNow why)) = false
 tells_fault (Err errors.NoMemory) = false
@@ -43,7 +44,32 @@ blamed (Arm b) g = None
 blamed (Disable b) g = None
 blamed (Replay b) g = if tells_fault g then Some b else None
 blamed (Enable b) g = None
+blamed (Mark name) g = None
 
 -- The backend that the move says failed has counted one fault more, and no other count has changed.
 abbrev pub HasCauses : WorldState → WorldState → Move → MoveResult → Type 0
 HasCauses old new m g = faults_of new.cells ≡ faults_after (faults_of old.cells) (blamed m g)
+
+-- a refusal says that the log's store failed
+abbrev pub is_log_fault : MoveResult → Bool
+is_log_fault (Ok (moved.Refused r)) = r.code == LOG_FAULT
+is_log_fault _ = false
+
+-- the move says that the log's store failed, which an entry or a marker is written to
+abbrev pub tells_log_fault : Move → MoveResult → Bool
+tells_log_fault (Open user) g = false
+tells_log_fault (Close s) g = false
+tells_log_fault (Schedule s r) g = is_log_fault g
+tells_log_fault (Abort tx) g = is_log_fault g
+tells_log_fault (Apply b) g = false
+tells_log_fault End g = false
+tells_log_fault (Read s b select) g = false
+tells_log_fault (Arm b) g = false
+tells_log_fault (Disable b) g = false
+tells_log_fault (Replay b) g = false
+tells_log_fault (Enable b) g = false
+tells_log_fault (Mark name) g = is_log_fault g
+
+-- Without a log no move says so.
+abbrev pub HasNoLogFault : Move → MoveResult → Type 0
+HasNoLogFault m g = tells_log_fault m g ≡ false

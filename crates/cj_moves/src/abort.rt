@@ -3,6 +3,7 @@
 ghost use Rattle.std.specs.Prelude.{◌≡◌, ◌<◌, ◌≤◌, length, IsErrOf, None, Ok};
 ghost use Rattle.cj_cluster.specs.Moves.Moves as moves;
 ghost use Rattle.cj_cluster.specs.Moves.Moves.{AbortsOrphan, not_now};
+ghost use Rattle.cj_moves.specs.Counting.{HasNoLogFault};
 
 use crate::reason::why;
 use cj_backend::Backend;
@@ -25,6 +26,7 @@ pub fn not_now_abort<B: Backend>(state: &State<B>, tx: u64) -> Option<Why>
 pub fn abort<B: Backend>(state: &mut State<B>, tx: u64) -> Result<Moved, MoveError>
     requires { not_now state.old.core (Move.Abort tx) ≡ None }
     ensures moves { AbortsOrphan state.old.core tx result state.new.core }
+    ensures no_log { HasNoLogFault (Move.Abort tx) result }
     ensures cells { state.new.cells ≡ state.old.cells }
     ensures want { IsErrOf result MoveError.NoMemory → state.new ≡ state.old }
     ensures setup { state.new.setup ≡ state.old.setup }

@@ -4,7 +4,7 @@ ghost use Rattle.std.specs.Prelude.{◌≡◌, ◌<◌, ◌≤◌, IsErrOf, Some
 ghost use Rattle.cj_cluster.specs.Moves.Moves as moves;
 ghost use Rattle.cj_cluster.specs.Moves.Moves.{MovesTo};
 ghost use Rattle.cj_moves.specs.Armings.{ArmsCell, HasArmings};
-ghost use Rattle.cj_moves.specs.Counting.{HasCauses};
+ghost use Rattle.cj_moves.specs.Counting.{HasCauses, HasNoLogFault};
 ghost use Rattle.cj_moves.specs.Logins.{HasLogins};
 ghost use Rattle.cj_moves.specs.Steps.{IsMet};
 
@@ -15,6 +15,7 @@ use crate::close::{close, not_now_close};
 use crate::disable::{disable, not_now_disable};
 use crate::enable::{enable, not_now_enable};
 use crate::end::{end, not_now_end};
+use crate::mark::{mark, not_now_mark};
 use crate::open::open;
 use crate::read::{not_now_read, read};
 use crate::replay::{not_now_replay, replay};
@@ -39,6 +40,7 @@ fn why_not_now<B: Backend>(state: &State<B>, m: &Move) -> Option<Why>
         Move::Disable { b } => not_now_disable(state, *b),
         Move::Replay { b } => not_now_replay(state, *b),
         Move::Enable { b } => not_now_enable(state, *b),
+        Move::Mark { name } => not_now_mark(state, name),
     }
 }
 
@@ -48,6 +50,7 @@ pub fn step<B: Backend>(state: &mut State<B>, m: Move) -> Result<Moved, MoveErro
     requires { IsMet state.old.core m }
     ensures moves { MovesTo B.TELLS state.old.core m result state.new.core }
     ensures causes { HasCauses state.old state.new m result }
+    ensures no_log { HasNoLogFault m result }
     ensures armings { HasArmings B.can_be_armed state.old state.new m result }
     ensures logins { HasLogins state.old state.new m result }
     ensures armed { result ≡ Ok Moved.Armed → ArmsCell B.can_be_armed state.old.cells m state.new.cells }
@@ -69,5 +72,6 @@ pub fn step<B: Backend>(state: &mut State<B>, m: Move) -> Result<Moved, MoveErro
         Move::Disable { b } => disable(state, b),
         Move::Replay { b } => Ok(replay(state, b)),
         Move::Enable { b } => enable(state, b),
+        Move::Mark { name } => mark(state, &name),
     }
 }

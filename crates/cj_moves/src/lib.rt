@@ -10,6 +10,7 @@ mod close;
 mod disable;
 mod enable;
 mod end;
+mod mark;
 mod open;
 mod read;
 mod reason;

@@ -9,6 +9,7 @@ ghost use Rattle.cj_cluster.specs.Moves.Moves as moves;
 ghost use Rattle.cj_cluster.specs.Moves.Cores.{session_at};
 ghost use Rattle.cj_cluster.specs.Moves.Moves.{SchedulesRequest, not_now};
 ghost use Rattle.cj_cluster.specs.Moves.Runs.{IsForLog};
+ghost use Rattle.cj_moves.specs.Counting.{HasNoLogFault};
 
 use crate::reason::why;
 use cj_backend::Backend;
@@ -61,6 +62,7 @@ pub fn schedule<B: Backend>(
     requires counts { (session_at state.old.core s).queries < REQUEST_LIMIT }
     requires now { not_now state.old.core (Move.Schedule s request) ≡ None }
     ensures moves { SchedulesRequest state.old.core s request result state.new.core }
+    ensures no_log { HasNoLogFault (Move.Schedule s request) result }
     ensures cells { state.new.cells ≡ state.old.cells }
     ensures want { IsErrOf result MoveError.NoMemory → state.new ≡ state.old }
     ensures setup { state.new.setup ≡ state.old.setup }

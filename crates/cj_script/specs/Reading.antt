@@ -10,10 +10,10 @@ use Rattle.cj_model.specs.declared.request.Request.TheVariants as request
 use Rattle.cj_model.specs.declared.select.Select.{Select}
 use Rattle.cj_cluster.specs.declared.moves.Move.{Move}
 use Rattle.cj_cluster.specs.declared.moves.Move.TheVariants as move
-use Rattle.cj_model.specs.Sql.Names.{is_nothing}
+use Rattle.cj_model.specs.Sql.Names.{is_name, is_nothing}
 use Rattle.cj_cluster.specs.Script.Lines.{HasNoSpace, IsUser, IsNumber, IsBackend, IsPlainSql, IsWrite}
 use Rattle.cj_script.specs.declared.verb.Verb.{Verb}
-use Rattle.cj_script.specs.declared.verb.Verb.TheVariants.{Open, Close, Write, Abort, Apply, End, Read, Arm, Disable, Replay, Enable}
+use Rattle.cj_script.specs.declared.verb.Verb.TheVariants.{Open, Close, Write, Abort, Apply, End, Read, Arm, Disable, Replay, Enable, Mark}
 use Rattle.cj_script.specs.declared.verb.TheConstants.{VERBS}
 
 -- one value, and no other, is as the fact says; or none is
@@ -44,6 +44,7 @@ word_of Arm = codes "arm"
 word_of Disable = codes "disable"
 word_of Replay = codes "replay"
 word_of Enable = codes "enable"
+word_of Mark = codes "mark"
 
 -- ---- words
 
@@ -120,6 +121,10 @@ IsQuery r (Some x) = r ≡ request.Select x
 abbrev pub Names : List (List ℕ) → (ℕ → Move) → List ℕ → Move → Type 0
 Names names make rest m = (b : ℕ) × IsBackend names rest b × (m ≡ make b)
 
+-- the name of a marker
+abbrev pub ReadsMark : List ℕ → Move → Type 0
+ReadsMark rest m = (is_name rest ≡ true) × (m ≡ move.Mark rest)
+
 -- behind this verb and a space these are the arguments of the move
 abbrev pub Arguments : List (List ℕ) → Verb → List ℕ → Move → Type 0
 Arguments names Open rest m = ReadsOpen rest m
@@ -133,6 +138,7 @@ Arguments names Arm rest m = Names names move.Arm rest m
 Arguments names Disable rest m = Names names move.Disable rest m
 Arguments names Replay rest m = Names names move.Replay rest m
 Arguments names Enable rest m = Names names move.Enable rest m
+Arguments names Mark rest m = ReadsMark rest m
 
 -- the move of a line that is one word
 abbrev pub IsOneWordMove : List ℕ → Move → Type 0

@@ -19,7 +19,7 @@ use Rattle.cj_state.specs.Worlds.{WorldState}
 use Rattle.cj_moves.specs.Armings.{HasArmings}
 use Rattle.cj_state.specs.ArmedCells.{armings_of}
 use Rattle.cj_core.specs.Audits.{audit_text}
-use Rattle.cj_moves.specs.Counting.{HasCauses, blamed}
+use Rattle.cj_moves.specs.Counting.{HasCauses, HasNoLogFault, blamed}
 use Rattle.cj_state.specs.Faults.{faults_after, faults_of}
 use Rattle.cj_state.specs.CalledLogins.{logins_of}
 use Rattle.cj_moves.specs.Logins.{HasLogins}
@@ -36,6 +36,8 @@ pub record MakesMove (tells armable : Bool) (names : List (List ℕ)) (c : World
   pub made : Made
   pub moves : MovesTo tells c.core move (given_of made) z.core
   pub causes : HasCauses c z move (given_of made)
+  -- there is no log yet
+  pub no_log : HasNoLogFault move (given_of made)
   pub armings : HasArmings armable c z move (given_of made)
   pub logins : HasLogins c z move (given_of made)
   pub gives : written ≡ moved_lines names made

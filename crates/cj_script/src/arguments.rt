@@ -3,12 +3,12 @@
 ghost use Rattle.std.specs.Prelude.{◌≡◌, ◌≤◌, ◌<◌, ◌↔◌, length, IfOk, IsTrue, is_some};
 ghost use Rattle.cj_model.specs.Sql.PlainRequests.{act_of};
 ghost use Rattle.cj_cluster.specs.Script.Lines.{IsPlainSql, IsUser, IsWrite};
-ghost use Rattle.cj_script.specs.Reading.{Arguments, ReadsAbort, ReadsClose, Finds, IsQuery, ReadsOpen, Queries, Writes};
+ghost use Rattle.cj_script.specs.Reading.{Arguments, ReadsAbort, ReadsClose, ReadsMark, Finds, IsQuery, ReadsOpen, Queries, Writes};
 
 use crate::verb::Verb;
 use crate::words::{backend, is_word, named, number, numbered};
 use cj_cluster::Move;
-use cj_model::{BACKEND_LIMIT, Names, NoMemory, Request, Select, Text, USER_LIMIT};
+use cj_model::{BACKEND_LIMIT, Name, Names, NoMemory, Request, Select, Text, USER_LIMIT};
 use cj_sql::{SqlError, is_plain, read};
 use std::alloc::Global;
 
@@ -143,6 +143,16 @@ fn query(alloc: Global, names: &Names, rest: &[u8]) -> Result<Option<Move>, NoMe
     }
 }
 
+/// "mark NAME"
+fn mark(rest: &[u8]) -> Option<Move>
+    ensures { Finds (ReadsMark rest.now) result }
+{
+    match Name::of(rest) {
+        Some(name) => Some(Move::Mark { name }),
+        None => None,
+    }
+}
+
 /// What follows the word of the verb and a space, as a move.
 pub fn arguments(
     alloc: Global,
@@ -165,5 +175,6 @@ pub fn arguments(
         Verb::Disable => Ok(backend(names, rest).map(|b| Move::Disable { b })),
         Verb::Replay => Ok(backend(names, rest).map(|b| Move::Replay { b })),
         Verb::Enable => Ok(backend(names, rest).map(|b| Move::Enable { b })),
+        Verb::Mark => Ok(mark(rest)),
     }
 }

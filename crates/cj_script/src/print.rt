@@ -88,6 +88,7 @@ fn moved_words(alloc: Global, names: &Names, moved: &Moved) -> Result<Vec<u8>, N
         Moved::Armed => Ok(format!(in alloc; "armed")?.into_bytes()),
         Moved::Disabled => Ok(format!(in alloc; "disabled")?.into_bytes()),
         Moved::Enabled => Ok(format!(in alloc; "enabled")?.into_bytes()),
+        Moved::Marked(after) => Ok(format!(in alloc; "marked {after}")?.into_bytes()),
         Moved::Replayed { number, did } => {
             let did = did_words(alloc, did)?;
             Ok(format!(in alloc; "replayed {number} {did}")?.into_bytes())

@@ -17,10 +17,11 @@ pub enum Verb {
     Disable,
     Replay,
     Enable,
+    Mark,
 }
 
 /// The words of the verbs.
-pub const VERBS: [(&[u8], Verb); 11] = [
+pub const VERBS: [(&[u8], Verb); 12] = [
     (b"open", Verb::Open),
     (b"close", Verb::Close),
     (b"write", Verb::Write),
@@ -32,6 +33,7 @@ pub const VERBS: [(&[u8], Verb); 11] = [
     (b"disable", Verb::Disable),
     (b"replay", Verb::Replay),
     (b"enable", Verb::Enable),
+    (b"mark", Verb::Mark),
 ];
 
 fn lookup(mut table: &[(&[u8], Verb)], word: &[u8]) -> Option<Verb>

@@ -55,7 +55,7 @@ module _ (tells : Bool) (reg : Register) (l : Layout) (h : List Event) (cells : 
       → Kept tells (world_of reg l h cells f s (with_session ss number change) g) numbers first_outcome
   kept_with number change keeps stand =
       kept_sessions (with_session ss number change) g numbers
-      (are_with h h g ss number change (sessions_are (core_of l h cells f s ss g) kept.world.sound) keeps refl (λ s q. refl) (λ e on. on)) stand
+      (are_with h h g ss number change (sessions_are (core_of l h cells f s ss g) kept.world.sound) keeps refl (λ s q lt. refl) (λ e on. on)) stand
       (kept.numbers_are ∙ sym (numbers_with change keeps.number ss number))
 
   -- it has made one request more, and reads nothing
@@ -200,7 +200,7 @@ module _ (tells : Bool) (reg : Register) (l : Layout) (h : List Event) (cells : 
       let le : length (log h) ≤ length (log h) = omega arith in
       kept_ended (with_session ss number (answered_at (length (log h)))) fr none
       (are_with h (h ++ Ended f s ∷ []) g ss number (answered_at (length (log h))) (sessions_are (core_of l h cells f s ss g) w.sound) (keeps_answered (length (log h)) (length (log h)) le)
-      (log-same h (Ended f s) refl) (log_faults-same h (Ended f s) (λ i j. refl)) (λ e on. absurd (cc (closed, on))))
+      (log-same h (Ended f s) refl) (λ t q lt. log_faults-same h (Ended f s) (λ i j. refl) t q) (λ e on. absurd (cc (closed, on))))
       (λ sound.
       stand_ended (core_of l h cells f s ss g) (core_of l (h ++ Ended f s ∷ []) cells 0 0 (with_session ss number (answered_at (length (log h)))) g) number (length (log h)) f s refl sound waiting closed
       kept.world.between)

@@ -4,14 +4,14 @@ use Rattle.std.proofs.lemmas.Bool.{both_ways}
 use Rattle.cj_model.specs.declared.request.Entry.{Entry}
 use Rattle.cj_model.specs.declared.answer.Outcome.{Outcome}
 use Rattle.cj_cluster.specs.declared.event.Event.{Event}
-use Rattle.cj_cluster.specs.declared.event.Event.TheVariants.{ReadFailed, Disabled, Enabled}
+use Rattle.cj_cluster.specs.declared.event.Event.TheVariants.{ReadFailed, Disabled, Enabled, Marker}
 use Rattle.cj_cluster.specs.declared.moves.OpenSession.{OpenSession}
-use Rattle.cj_cluster.specs.History.Histories.{scheduled_entry, is_end_event, log, ended_count, is_idle, entry_in_progress, is_enabled, events_left, outcome_of}
+use Rattle.cj_cluster.specs.History.Histories.{scheduled_entry, is_end_event, log, ended_count, is_idle, entry_in_progress, is_enabled, has_marker, events_left, outcome_of}
 use Rattle.cj_cluster.specs.Moves.Cores.{position_at, is_entry_of}
 use Rattle.cj_cluster.specs.Proving.Invariants.{CoreInvariant}
 use Rattle.cj_cluster.specs.Moves.Runs.{AreBetween}
 use Rattle.cj_cluster.proofs.Pushed.{enabled-push, log-same, log_faults-same, done-same, opened-same, opened-free}
-use Rattle.cj_cluster.proofs.Effects.{sessions_are, are_kept, sound_read_failed, sound_disabled, sound_enabled, is_there}
+use Rattle.cj_cluster.proofs.Effects.{sessions_are, are_kept, sound_read_failed, sound_disabled, sound_enabled, sound_marked, is_there}
 use Rattle.cj_cluster.proofs.Standing.{stand_event}
 use Rattle.cj_auth.specs.Admission.{Register}
 use Rattle.cj_place.specs.Layouts.{Layout, placement_of}
@@ -62,14 +62,14 @@ module _ (tells : Bool) (reg : Register) (l : Layout) (h : List Event) (cells : 
       let e : Event = ReadFailed t q b in
       kept_same (ReadFailed t q b) refl refl
       (sound_read_failed (core_of l h cells f s ss g) t q b ss kept.world.sound space
-      (are_kept h (h ++ e ∷ []) g ss (sessions_are (core_of l h cells f s ss g) kept.world.sound) (log-same h e refl) (log_faults-same h e (λ i j. refl)) (λ d on. sym (opened-same h e refl refl) ∙ on)))
+      (are_kept h (h ++ e ∷ []) g ss (sessions_are (core_of l h cells f s ss g) kept.world.sound) (log-same h e refl) (λ t n lt. log_faults-same h e (λ i j. refl) t n) (λ d on. sym (opened-same h e refl refl) ∙ on)))
       (λ _ _ k. enabled-push h (ReadFailed t q b) k)
-      (stand_event (core_of l h cells f s ss g) e refl refl (λ i j. refl) (λ i own k. refl) kept.world.between)
+      (stand_event (core_of l h cells f s ss g) e refl refl (λ i j some. refl) (λ i own k. refl) kept.world.between)
 
   pub kept_disabled : (b : ℕ) → is_idle h ≡ true → is_enabled h b ≡ true → 0 < events_left h → Kept tells (world_of reg l (h ++ Disabled b ∷ []) cells f s ss g) numbers first_outcome
   kept_disabled b fr on space =
       kept_same (Disabled b) refl refl (sound_disabled (core_of l h cells f s ss g) b kept.world.sound fr on space) (λ d now. absurd (none_open fr d now))
-      (stand_event (core_of l h cells f s ss g) (Disabled b) refl refl (λ i j. refl) (λ i own. absurd (none_waits fr i own)) kept.world.between)
+      (stand_event (core_of l h cells f s ss g) (Disabled b) refl refl (λ i j some. refl) (λ i own. absurd (none_waits fr i own)) kept.world.between)
 
   pub kept_enabled : (b : ℕ) → is_idle h ≡ true → is_enabled h b ≡ false → position_at (core_of l h cells f s ss g) b ≡ Some (length (log h)) → 0 < events_left h
       → Kept tells (world_of reg l (h ++ Enabled b ∷ []) cells f s ss g) numbers first_outcome
@@ -77,4 +77,9 @@ module _ (tells : Bool) (reg : Register) (l : Layout) (h : List Event) (cells : 
       kept_same (Enabled b) refl refl
       (sound_enabled (core_of l h cells f s ss g) b kept.world.sound fr off (is_there (map (λ (x : CellState). x.position) cells) b (length (log h)) there) there space)
       (λ d now. absurd (none_open fr d now))
-      (stand_event (core_of l h cells f s ss g) (Enabled b) refl refl (λ i j. refl) (λ i own. absurd (none_waits fr i own)) kept.world.between)
+      (stand_event (core_of l h cells f s ss g) (Enabled b) refl refl (λ i j some. refl) (λ i own. absurd (none_waits fr i own)) kept.world.between)
+
+  pub kept_marked : (name : List ℕ) (b : Option ℕ) → is_idle h ≡ true → has_marker h name ≡ false → 0 < events_left h → Kept tells (world_of reg l (h ++ Marker name b ∷ []) cells f s ss g) numbers first_outcome
+  kept_marked name b fr fresh space =
+      kept_same (Marker name b) refl refl (sound_marked (core_of l h cells f s ss g) name b kept.world.sound fr fresh space) (λ d now. absurd (none_open fr d now))
+      (stand_event (core_of l h cells f s ss g) (Marker name b) refl refl (λ i j some. refl) (λ i own k. refl) kept.world.between)

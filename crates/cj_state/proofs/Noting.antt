@@ -1,12 +1,12 @@
 -- What the book's answers say of the core.
-use Rattle.std.proofs.Common.{◌≡◌, ℕ, ◌+◌, ◌<◌, ◌++◌, ◌∷◌, [], List, length, Result, Ok, Err, OnOk, OnErr, ap, sym, ◌∙◌, subst, refl, arith, length-append}
-use Rattle.std.specs.Prelude.{IfErr, ◌↔◌}
+use Rattle.std.proofs.Common.{◌≡◌, ℕ, ◌+◌, ◌<◌, ◌++◌, ◌∷◌, [], List, length, Option, None, Result, Ok, Err, OnOk, OnErr, ap, sym, ◌∙◌, subst, refl, arith, length-append}
+use Rattle.std.specs.Prelude.{IfOk, IfErr, ◌↔◌}
 use Rattle.cj_model.specs.declared.request.Entry.{Entry}
 use Rattle.cj_cluster.specs.declared.event.Event.{Event}
 use Rattle.cj_cluster.specs.declared.event.Event.TheVariants.{Sched}
 use Rattle.cj_cluster.specs.declared.moves.OpenSession.{OpenSession}
-use Rattle.cj_cluster.specs.History.Histories.{log, events_left}
-use Rattle.cj_cluster.proofs.Pushed.{log-sched}
+use Rattle.cj_cluster.specs.History.Histories.{scheduled_entry, log, events_left}
+use Rattle.cj_cluster.proofs.Pushed.{log-sched, log-same}
 use Rattle.cj_book.specs.declared.error.BookError.{BookError}
 use Rattle.cj_book.specs.declared.error.BookError.TheVariants.{InProgress, NoBackend, HistoryFull, NoMemory}
 use Rattle.cj_book.specs.Books.{BookState, with_event, IsInProgress, HasNoBackend, LacksRoom, HasNoRoomForOne, CanSchedule, IsWant}
@@ -31,6 +31,11 @@ had_room cells f s ss g b (Err (HistoryFull n)) space full want =
     let lt : events_left b.history < 1 = q.full in
     (omega arith, q.events)
 had_room cells f s ss g b (Err NoMemory) space full want = tt
+
+-- it stands behind the entries from before it
+pub behind_as_many : (r : Result ℕ BookError) (old new : BookState) (e : Event) → scheduled_entry e ≡ None → OnOk r (new ≡ with_event old e) → IfOk r (λ n. n ≡ length (log new.history)) → IfOk r (λ n. n ≡ length (log old.history))
+behind_as_many (Ok n) old new e none ok number = number ∙ (ap (λ (b : BookState). length (log b.history)) ok ∙ ap length (log-same old.history e none))
+behind_as_many (Err d) old new e none ok number = tt
 
 module _ (cells : List CellState) (f s : ℕ) (ss : List OpenSession) (g : ℕ) (b : BookState) (e : Entry) where
   -- the entry was scheduled

@@ -36,7 +36,7 @@ use cj_backend::Backend;
 use cj_book::{Book, BookError};
 use cj_cluster::{Did, Event, Move, Moved, OpenRead, OpenSession};
 use cj_model::{
-    Act, Asked, BACKEND_LIMIT, Db, Duplicate, Entry, HISTORY_FULL, NoMemory, Outcome,
+    Act, Asked, BACKEND_LIMIT, Db, Duplicate, Entry, HISTORY_FULL, Name, NoMemory, Outcome,
     REQUEST_LIMIT, Refusal, Reply, SESSION_LIMIT, SESSION_NUMBER_LIMIT, SESSIONS_FULL, STARVED_ALL,
     Same, Select, Text, UNFINISHED, USER_LIMIT, with_bit,
 };
@@ -761,5 +761,24 @@ impl<B: Backend> State<B> {
         ensures err { OnErr result (self.new ≡ self.old) }
     {
         self.book.enable(b)
+    }
+
+    /// Whether a marker has the name.
+    pub fn is_taken(&self, name: &Name) -> bool
+        ensures { result ≡ histories.has_marker self.now.core.history name.now }
+    {
+        self.book.is_taken(name)
+    }
+
+    /// Marks a checkpoint of a name that no marker has, and answers how many entries stand before it.
+    pub fn mark(&mut self, name: &Name) -> Result<u64, BookError>
+        requires free { is_idle self.old.core.history ≡ true }
+        requires fresh { histories.has_marker self.old.core.history name.now ≡ false }
+        ensures room { HadRoom self.old.core result }
+        ensures number { IfOk result (λ n. n ≡ moves.last_number self.old.core) }
+        ensures ok { OnOk result (self.new ≡ with_core self.old (happened self.old.core (Event.Marker name.now None))) }
+        ensures err { OnErr result (self.new ≡ self.old) }
+    {
+        self.book.mark(name, None)
     }
 }

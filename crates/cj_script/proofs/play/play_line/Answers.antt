@@ -26,6 +26,7 @@ returns-clause-plays g c =
       made = c.in-Ok.made;
       moves = c.in-Ok.ensures.made;
       causes = c.in-Ok.ensures.causes;
+      no_log = c.in-Ok.ensures.no_log;
       armings = c.in-Ok.ensures.armings;
       logins = c.in-Ok.ensures.logins;
       gives = ap (λ (names : List (List ℕ)). moved_lines names c.in-Ok.made) same;
