@@ -1,5 +1,7 @@
 -- What follows from a history with one more event.
 use Rattle.std.proofs.Common.{◌≡◌, ◌≢◌, inl, inr, ℕ, ◌+◌, ◌-◌, ◌*◌, ◌^◌, ◌<◌, ◌≤◌, ◌==◌, ◌&&◌, not, Bool, true, false, List, [], ◌∷◌, ◌++◌, length, map, Option, None, Some, is_some, bit_and, refl, ap, sym, ◌∙◌, subst, arith, ⊎_elim}
+use Rattle.std.specs.List.{list_any}
+use Rattle.std.specs.Str.{bytes_eq}
 use Rattle.std.proofs.lemmas.Bool.{eqb-false, and_parts}
 use Rattle.std.proofs.lemmas.List.Elements.{All-filter}
 use Rattle.cj_model.specs.declared.request.Entry.{Entry}
@@ -9,8 +11,8 @@ use Rattle.cj_model.specs.Cluster.Placements.{Placement, concerns}
 use Rattle.cj_model.proofs.MaskBits.{has-and}
 use Rattle.cj_model.proofs.Masks.{has-zero}
 use Rattle.cj_cluster.specs.declared.event.Event.{Event}
-use Rattle.cj_cluster.specs.declared.event.Event.TheVariants.{Sched, Ended, ReadFailed, Disabled, Enabled}
-use Rattle.cj_cluster.specs.History.Histories.{scheduled_entry, is_end_event, log, ended_count, is_idle, entry_in_progress, is_enabled, events_left, tx_of}
+use Rattle.cj_cluster.specs.declared.event.Event.TheVariants.{Sched, Ended, ReadFailed, Disabled, Enabled, Marker}
+use Rattle.cj_cluster.specs.History.Histories.{scheduled_entry, is_end_event, log, ended_count, is_idle, entry_in_progress, is_enabled, events_left, markers, tx_of}
 use Rattle.cj_cluster.specs.History.Legality.{AreFitMasks, IsAllowedEvent, IsFitEntry, IsSessionEntry, IsAdministratorEntry}
 use Rattle.cj_cluster.specs.History.Transactions.{is_end}
 use Rattle.cj_cluster.specs.Moves.Moves.{entry_numbered}
@@ -64,6 +66,9 @@ module _ (layout : Layout) (h : List Event) (greatest mask : ℕ) (ss : List Boo
       f.targets k
       ∙ (sym (target_same p (h ++ ReadFailed s q b ∷ []) h (entry_in_progress h) k (enabled-push h (ReadFailed s q b) k) (log-same h (ReadFailed s q b) refl))
       ∙ sym (ap (λ o. is_target_at p (h ++ ReadFailed s q b ∷ []) o k) (opened-same h (ReadFailed s q b) refl refl))))
+
+  pub follows_marker : (name : List ℕ) (b : Option ℕ) → 0 < events_left h → is_idle h ≡ true → list_any (bytes_eq name) (markers h) ≡ false → Follows layout (h ++ Marker name b ∷ []) greatest mask ss ts
+  follows_marker name b space idle fresh = follows_same (Marker name b) mask refl (omega arith) (idle, fresh) (no_targets (Marker name b) refl refl idle)
 
   pub follows_ended : (failed starved : ℕ) → length h + 2 * (length (log h) - ended_count h) ≤ 2 ^ 62 → is_idle h ≡ false → (ended_count h ≤ length (log h)) × (length (log h) ≤ ended_count h + 1) → AreFitMasks h failed starved
       → Follows layout (h ++ Ended failed starved ∷ []) greatest 0 ss ts

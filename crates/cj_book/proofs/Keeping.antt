@@ -5,7 +5,7 @@ use Rattle.std.proofs.lemmas.List.{get_or_append_left}
 use Rattle.std.proofs.lemmas.Option.{slice_get_cases, slice_get_past, slice_get-get_or, option_and_then_some}
 use Rattle.cj_model.specs.declared.request.Entry.{Entry}
 use Rattle.cj_cluster.specs.declared.event.Event.{Event}
-use Rattle.cj_cluster.specs.declared.event.Event.TheVariants.{Sched, Ended, ReadFailed, Disabled, Enabled}
+use Rattle.cj_cluster.specs.declared.event.Event.TheVariants.{Sched, Ended, ReadFailed, Disabled, Enabled, Marker}
 use Rattle.cj_cluster.specs.History.Histories.{scheduled_entry, is_end_event, log, ended_count, is_idle, is_enabled, events_left}
 use Rattle.cj_model.specs.Cluster.Masks.{in_mask}
 use Rattle.cj_cluster.proofs.Pushed.{get_seam, get_left, enabled-push, log-sched, log-same, done-same, done-ended}
@@ -164,3 +164,9 @@ module _ (n : ℕ) (h : List Event) (places : List ℕ) (count on cap : ℕ) (ha
   keeps_read_failed s q b cap' space spare =
       let same : (x : ℕ) → is_enabled (h ++ ReadFailed s q b ∷ []) x ≡ is_enabled h x = λ x. enabled-push h (ReadFailed s q b) x in
       keeps_same (ReadFailed s q b) on cap' refl refl space (λ x. k.mask x ∙ sym (same x)) (λ x is. k.below x (sym (same x) ∙ is)) spare
+
+  -- a marker
+  pub keeps_marker : (name : List ℕ) (b : Option ℕ) (cap' : ℕ) → 0 < events_left h → length (h ++ Marker name b ∷ []) + 1 ≤ cap' → KeepsHistory n (h ++ Marker name b ∷ []) places count on cap' false
+  keeps_marker name b cap' space spare =
+      let same : (x : ℕ) → is_enabled (h ++ Marker name b ∷ []) x ≡ is_enabled h x = λ x. enabled-push h (Marker name b) x in
+      keeps_same (Marker name b) on cap' refl refl space (λ x. k.mask x ∙ sym (same x)) (λ x is. k.below x (sym (same x) ∙ is)) spare

@@ -3,12 +3,15 @@ use Rattle.std.specs.Prelude.{◌≡◌, ◌≢◌, ℕ, ◌+◌, ◌-◌, ◌*�
 use Rattle.std.specs.List.{list_any}
 use Rattle.std.specs.declared.option.Option.{Option}
 use Rattle.std.specs.Option.{option_and_then}
+use Rattle.std.specs.BTreeSet.{BTreeSet}
 use Rattle.cj_model.specs.declared.request.Entry.{Entry}
 use Rattle.cj_cluster.specs.declared.event.Event.{Event}
 use Rattle.cj_cluster.specs.History.Histories.{scheduled_entry, log, ended_count, entry_in_progress, is_enabled, tx_of}
 use Rattle.cj_cluster.specs.History.Legality.{IsLegal}
 use Rattle.cj_model.specs.Cluster.Masks.{in_mask}
 use Rattle.cj_model.specs.Cluster.Placements.{Placement, wrote_at}
+use Rattle.cj_opening.specs.declared.markers.MarkerName.{MarkerName}
+use Rattle.cj_opening.specs.Proving.Keeping.{KeepsMarkers}
 use Rattle.cj_place.specs.Layouts.{Layout, placement_of}
 use Rattle.cj_book.specs.Books.{is_target_at}
 use Rattle.cj_book.specs.Lists.{by_number, session_number, tx_number}
@@ -74,6 +77,7 @@ pub record KeepsRoom (ss : List BookSession) (capacity : ℕ) : Type 0 where
   pub room : SESSION_LIMIT ≤ capacity
 
 -- what a book keeps beside what contracts see of it
-pub record IsKeptBook (layout : Layout) (h : List Event) (places : List ℕ) (ended on capacity : ℕ) (has_spare : Bool) (greatest targets : ℕ) (ss : List BookSession) (ts : List OpenTransaction) : Type 0 where
+pub record IsKeptBook (layout : Layout) (h : List Event) (places : List ℕ) (ended on capacity : ℕ) (has_spare : Bool) (greatest targets : ℕ) (ss : List BookSession) (ts : List OpenTransaction) (names : BTreeSet MarkerName) : Type 0 where
   pub history : KeepsHistory (length layout.names) h places ended on capacity has_spare
   pub follows : Follows layout h greatest targets ss ts
+  pub marked : KeepsMarkers h names

@@ -23,9 +23,11 @@ use cj_model::{
     Act, BACKEND_LIMIT, EVENT_LIMIT, Entry, Name, NoMemory, SESSION_LIMIT, SESSION_NUMBER_LIMIT,
     has_bit,
 };
+use cj_opening::MarkerName;
 use cj_place::Placement;
 use cj_usage::written;
 use std::alloc::Global;
+use std::collections::BTreeSet;
 use std::marker::Model;
 
 /// What a book is made of.
@@ -55,6 +57,8 @@ pub struct Book {
     /// The greatest session number given.
     greatest: u64,
     transactions: OpenTransactions,
+    /// The names of the markers.
+    marker_names: BTreeSet<MarkerName>,
     /// Whether memory was taken for an event that may come.
     has_spare: bool,
 }
@@ -75,7 +79,7 @@ impl Model for Book {
     ghost view = { λ book. record { layout = book.placement; history = book.history.items; sessions = map session_number book.sessions; greatest = book.greatest; balance = book.balancer; has_spare = book.has_spare } };
 
     ghost invariant = { λ book. IsKeptBook book.placement book.history.items book.scheduled.items book.done book.enabled
-        (vec_capacity book.history) book.has_spare book.greatest book.targets book.sessions book.transactions };
+        (vec_capacity book.history) book.has_spare book.greatest book.targets book.sessions book.transactions book.marker_names };
 }
 
 fn entry_at(history: &[Event], place: usize) -> Option<&Entry>
@@ -91,20 +95,6 @@ fn needs_backend(act: &Act) -> bool
     ensures { result ≡ placements.needs_backend (request_of act.now) }
 {
     !matches!(act, Act::Abort)
-}
-
-fn marker_in(mut events: &[Event], name: &Name) -> bool
-    ensures { result ≡ histories.has_marker events.entry.now name.now }
-{
-    while let [event, rest @ ..] = events {
-        if let Event::Marker { name: other, .. } = event {
-            if other.is(name) {
-                return true;
-            }
-        }
-        events = rest;
-    }
-    false
 }
 
 /// Appends the event where there is memory for it and for the end of an open entry.
@@ -151,6 +141,7 @@ impl Book {
             sessions,
             greatest: 0,
             transactions: OpenTransactions::new(alloc),
+            marker_names: BTreeSet::new(alloc),
             has_spare: false,
         })
     }
@@ -412,10 +403,11 @@ impl Book {
     pub fn is_taken(&self, name: &Name) -> bool
         ensures { result ≡ histories.has_marker self.now.history name.now }
     {
-        marker_in(&self.history, name)
+        self.marker_names
+            .contains(&MarkerName { name: name.copy() })
     }
 
-    /// Marks a checkpoint of a name that no marker has, while no entry is open, and answers how many entries stand before it.
+    /// Marks a checkpoint while no entry is open, and answers how many entries stand before it.
     pub fn mark(&mut self, name: &Name, b: Option<u8>) -> Result<u64, BookError>
         requires is_free { is_idle self.old.history ≡ true }
         requires fresh { histories.has_marker self.old.history name.now ≡ false }
@@ -427,9 +419,15 @@ impl Book {
         ensures err { OnErr result (self.new ≡ self.old) }
     {
         self.check_room()?;
-        let _name = name.copy();
-        let _ = b;
-        Err(BookError::NoMemory)
+        let number = self.length();
+        self.history.reserve(2)?;
+        self.marker_names.insert(MarkerName { name: name.copy() })?;
+        self.history.push_reserved(Event::Marker {
+            name: name.copy(),
+            b,
+        });
+        self.has_spare = false;
+        Ok(number)
     }
 
     /// Takes the memory for one event more, so that the next may come without want of memory.

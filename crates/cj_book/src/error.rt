@@ -1,7 +1,7 @@
 //! Why an event didn't come into the history.
 
 use cj_model::NoMemory;
-use std::alloc::AllocError;
+use std::alloc::{AllocError, AllocFailed};
 use thiserror::Error;
 
 /// Why an event didn't come into the history, which is then as it was.
@@ -27,6 +27,17 @@ impl From<AllocError> for BookError {
     ghost from_gives = { λ _ e. e ≡ NoMemory };
 
     fn from(_error: AllocError) -> BookError {
+        BookError::NoMemory
+    }
+}
+
+impl<T: Drop> From<AllocFailed<T>> for BookError {
+    ghost use Rattle.std.specs.Prelude.{◌≡◌};
+    ghost use Rattle.cj_book.specs.declared.error.BookError.TheVariants.{NoMemory};
+
+    ghost from_gives = { λ _ e. e ≡ NoMemory };
+
+    fn from(_error: AllocFailed<T>) -> BookError {
         BookError::NoMemory
     }
 }

@@ -15,12 +15,12 @@ use Rattle.std.proofs.lemmas.Option.{slice_get_cases, slice_get_past, slice_get-
 use Rattle.cj_model.specs.declared.request.Entry.{Entry}
 use Rattle.cj_cluster.specs.declared.event.Event.{Event}
 use Rattle.cj_cluster.specs.declared.event.Event.TheVariants.{Sched, Ended, Marker}
-use Rattle.cj_cluster.specs.History.Histories.{scheduled_entry, log, markers}
+use Rattle.cj_cluster.specs.History.Histories.{scheduled_entry, log, marker_name, markers}
 use Rattle.cj_cluster.proofs.Pushed.{get_seam, get_left, log-sched, log-same, markers-marker, markers-same}
 use Rattle.cj_opening.specs.declared.sessions.SessionSoFar.{SessionSoFar}
 use Rattle.cj_opening.specs.declared.markers.MarkerName.{MarkerName}
 use Rattle.cj_opening.specs.Proving.MarkerOrder.{marker_cmp, named}
-use Rattle.cj_opening.specs.Proving.Keeping.{entry_at, KeepsPlaces, KeepsSessions, Keeps}
+use Rattle.cj_opening.specs.Proving.Keeping.{entry_at, KeepsPlaces, KeepsSessions, KeepsMarkers, Keeps}
 
 -- ---- the entries at their places
 
@@ -70,12 +70,14 @@ entries_sched h places entries new as_many have i =
     (cases_eq i (length entries)))
     (slice_get_cases entries i).1
 
-places_same : (h : List Event) (places : List ℕ) (new : Event) → scheduled_entry new ≡ None → KeepsPlaces h places → KeepsPlaces (h ++ new ∷ []) places
+-- an event that schedules nothing leaves the places
+pub places_same : (h : List Event) (places : List ℕ) (new : Event) → scheduled_entry new ≡ None → KeepsPlaces h places → KeepsPlaces (h ++ new ∷ []) places
 places_same h places new none k =
     let same : log (h ++ new ∷ []) ≡ log h = log-same h new none in
     record { count = k.count ∙ sym (ap length same); entries = λ i. rw same (entries_same h places (log h) new k.count k.entries i) }
 
-places_sched : (h : List Event) (places : List ℕ) (e : Entry) → KeepsPlaces h places → KeepsPlaces (h ++ Sched e ∷ []) (places ++ length h ∷ [])
+-- the place of an entry that is scheduled comes last
+pub places_sched : (h : List Event) (places : List ℕ) (e : Entry) → KeepsPlaces h places → KeepsPlaces (h ++ Sched e ∷ []) (places ++ length h ∷ [])
 places_sched h places e k =
     let more : log (h ++ Sched e ∷ []) ≡ log h ++ e ∷ [] = log-sched h e in
     let l = length-append places (length h ∷ []) in
@@ -91,7 +93,8 @@ same_bools true c f g = sym (f refl)
 same_bools false true f g = g refl
 same_bools false false f g = refl
 
-swapped : (x y : List ℕ) → bytes_eq x y ≡ bytes_eq y x
+-- the order of two texts doesn't matter
+pub swapped : (x y : List ℕ) → bytes_eq x y ≡ bytes_eq y x
 swapped x y =
     same_bools (bytes_eq x y) (bytes_eq y x) (λ on. (bytes_eq-Decides y x).1 (sym ((bytes_eq-Decides x y).0 on))) (λ on. (bytes_eq-Decides x y).1 (sym ((bytes_eq-Decides y x).0 on)))
 
@@ -107,6 +110,21 @@ added_name old new name updates q =
     one false c true is = refl
     one false c false is = is
 
+-- an event that is no marker leaves them
+pub marked_same : (h : List Event) (names : BTreeSet MarkerName) (new : Event) → marker_name new ≡ None → KeepsMarkers h names → KeepsMarkers (h ++ new ∷ []) names
+marked_same h names new none k = λ name. k name ∙ sym (ap (list_any (bytes_eq name)) (markers-same h new none))
+
+-- a marker adds its name
+pub marked_more : (h : List Event) (names more : BTreeSet MarkerName) (name : List ℕ) (b : Option ℕ) → KeepsMarkers h names → ((q : List ℕ) → contains marker_cmp more (named q) ≡ (contains marker_cmp names (named q) || bytes_eq q name)) → KeepsMarkers (h ++ Marker name b ∷ []) more
+marked_more h names more name b k added = λ q.
+    added q
+    ∙ (ap (λ x. x || bytes_eq q name) (k q)
+    ∙ sym (ap (list_any (bytes_eq q)) (markers-marker h name b) ∙ (list_any-append (bytes_eq q) (markers h) (name ∷ []) ∙ ap (λ x. list_any (bytes_eq q) (markers h) || x) (or_false (bytes_eq q name)))))
+  where
+    or_false : (x : Bool) → (x || false) ≡ x
+    or_false true = refl
+    or_false false = refl
+
 -- ---- one more item
 
 module _ (h : List Event) (places : List ℕ) (sessions new : BTreeMap ℕ SessionSoFar) (names : BTreeSet MarkerName) (k : Keeps h places sessions names) where
@@ -115,23 +133,17 @@ module _ (h : List Event) (places : List ℕ) (sessions new : BTreeMap ℕ Sessi
   keeps_entry e more =
       let two : (h ++ Sched e ∷ []) ++ Ended 0 0 ∷ [] ≡ h ++ Sched e ∷ Ended 0 0 ∷ [] = append_assoc h (Sched e ∷ []) (Ended 0 0 ∷ []) in
       let entries : log ((h ++ Sched e ∷ []) ++ Ended 0 0 ∷ []) ≡ log h ++ e ∷ [] = log-same (h ++ Sched e ∷ []) (Ended 0 0) refl ∙ log-sched h e in
-      let names_same : markers ((h ++ Sched e ∷ []) ++ Ended 0 0 ∷ []) ≡ markers h = markers-same (h ++ Sched e ∷ []) (Ended 0 0) refl ∙ markers-same h (Sched e) refl in
       subst (λ (g : List Event). Keeps g (places ++ length h ∷ []) new names) two
       (record {
         placed = places_same (h ++ Sched e ∷ []) (places ++ length h ∷ []) (Ended 0 0) refl (places_sched h places e k.placed);
         followed = subst (λ (l : List Entry). KeepsSessions l new) (sym entries) more;
-        marked = λ name. k.marked name ∙ sym (ap (list_any (bytes_eq name)) names_same);
+        marked = marked_same (h ++ Sched e ∷ []) names (Ended 0 0) refl (marked_same h names (Sched e) refl k.marked);
       })
 
   -- a marker
   pub keeps_marker : (name : List ℕ) (b : Option ℕ) (more : BTreeSet MarkerName) → ((q : List ℕ) → contains marker_cmp more (named q) ≡ (contains marker_cmp names (named q) || bytes_eq q name)) → Keeps (h ++ Marker name b ∷ []) places sessions more
-  keeps_marker name b more added =
-      record {
-        placed = places_same h places (Marker name b) refl k.placed;
-        followed = subst (λ (l : List Entry). KeepsSessions l sessions) (sym (log-same h (Marker name b) refl)) k.followed;
-        marked = λ q. added q ∙ (ap (λ x. x || bytes_eq q name) (k.marked q) ∙ sym (ap (list_any (bytes_eq q)) (markers-marker h name b) ∙ (list_any-append (bytes_eq q) (markers h) (name ∷ []) ∙ ap (λ x. list_any (bytes_eq q) (markers h) || x) (or_false (bytes_eq q name)))));
-      }
-    where
-      or_false : (x : Bool) → (x || false) ≡ x
-      or_false true = refl
-      or_false false = refl
+  keeps_marker name b more added = record {
+    placed = places_same h places (Marker name b) refl k.placed;
+    followed = subst (λ (l : List Entry). KeepsSessions l sessions) (sym (log-same h (Marker name b) refl)) k.followed;
+    marked = marked_more h names more name b k.marked added;
+  }

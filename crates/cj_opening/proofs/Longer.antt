@@ -4,7 +4,7 @@ use Rattle.std.proofs.lemmas.Bool.{eq-eqb, both_ways}
 use Rattle.cj_model.specs.Cluster.Masks.{in_mask}
 use Rattle.cj_model.proofs.Masks.{has-zero}
 use Rattle.cj_cluster.specs.declared.event.Event.{Event}
-use Rattle.cj_cluster.specs.declared.event.Event.TheVariants.{Sched, Ended, Marker}
+use Rattle.cj_cluster.specs.declared.event.Event.TheVariants.{Sched, Ended, ReadFailed, LogFailed, Disabled, Enabled, Marker}
 use Rattle.cj_cluster.specs.History.Histories.{log, ended_count, is_idle, masks_of_ends}
 use Rattle.cj_cluster.specs.History.Legality.{AreFitMasks, IsLegal}
 use Rattle.cj_cluster.proofs.Pushed.{free-sched, legal_push, length-ends}
@@ -32,13 +32,18 @@ opening_append (Sched e ∷ Ended f s ∷ h) g o p = (o.0, o.1, opening_append h
 opening_append (Marker name b ∷ h) g o p = opening_append h g o p
 opening_append _ g o p = absurd o
 
-items_append : (n : ℕ) (h g : List Event) → IsOpening h → items_behind n (h ++ g) ≡ items_behind n h ++ items_behind (n + length (log h)) g
-items_append n [] g o = let e : n + 0 ≡ n = omega arith in ap (λ (k : ℕ). items_behind k g) (sym e)
-items_append n (Sched e ∷ Ended f s ∷ h) g o =
+-- the items of events one behind the other
+pub items_append : (n : ℕ) (h g : List Event) → items_behind n (h ++ g) ≡ items_behind n h ++ items_behind (n + length (log h)) g
+items_append n [] g = let e : n + 0 ≡ n = omega arith in ap (λ (k : ℕ). items_behind k g) (sym e)
+items_append n (Sched e ∷ h) g =
     let count : n + 1 + length (log h) ≡ n + suc (length (log h)) = omega arith in
-    ap (λ (l : List LogItem). entry_item (n + 1) e ∷ l) (items_append (n + 1) h g o.2 ∙ ap (λ (k : ℕ). items_behind (n + 1) h ++ items_behind k g) count)
-items_append n (Marker name b ∷ h) g o = ap (λ (l : List LogItem). marker_item n name b ∷ l) (items_append n h g o)
-items_append n _ g o = absurd o
+    ap (λ (l : List LogItem). entry_item (n + 1) e ∷ l) (items_append (n + 1) h g ∙ ap (λ (k : ℕ). items_behind (n + 1) h ++ items_behind k g) count)
+items_append n (Ended f s ∷ h) g = items_append n h g
+items_append n (ReadFailed s q b ∷ h) g = items_append n h g
+items_append n (LogFailed s q ∷ h) g = items_append n h g
+items_append n (Disabled b ∷ h) g = items_append n h g
+items_append n (Enabled b ∷ h) g = items_append n h g
+items_append n (Marker name b ∷ h) g = ap (λ (l : List LogItem). marker_item n name b ∷ l) (items_append n h g)
 
 -- no backend failed
 no_masks : (h : List Event) → AreFitMasks h 0 0
@@ -73,7 +78,7 @@ opens_more xs item h events o short b =
     record {
       legal = legal_more h events item o.legal o.opening short b;
       opening = opening_append h events o.opening (opening_brought h events item b);
-      same = items_append 0 h events o.opening
+      same = items_append 0 h events
           ∙ (ap (λ (n : ℕ). items_behind 0 h ++ items_behind n events) count ∙ (ap (λ (l : List LogItem). items_behind 0 h ++ l) (items_brought h events item b) ∙ ap (λ (l : List LogItem). l ++ item ∷ []) o.same));
     }
 

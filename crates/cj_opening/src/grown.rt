@@ -1,10 +1,11 @@
 //! The history of the items so far.
 
 ghost use Rattle.std.specs.Prelude.{◌≡◌, ◌↔◌, ◌⊎◌, ℕ, ◌+◌, ◌*◌, ◌^◌, ◌<◌, ◌≤◌, List, [], ◌∷◌, ◌++◌, length, slice_get, option_copied, IfOk, OnOk, IsErrOf, IsTrue};
+ghost use Rattle.std.specs.Option.{option_and_then};
 ghost use Rattle.cj_model.specs.declared.limits.TheConstants.{USER_LIMIT};
 ghost use Rattle.cj_cluster.specs.declared.event.Event.{Event};
 ghost use Rattle.cj_cluster.specs.declared.event.Event.TheVariants.{Sched, Ended, Marker};
-ghost use Rattle.cj_cluster.specs.History.Histories.{log};
+ghost use Rattle.cj_cluster.specs.History.Histories.{log, scheduled_entry};
 ghost use Rattle.cj_cluster.specs.History.Legality.{IsFitEntry, IsSessionEntry, IsAdministratorEntry};
 ghost use Rattle.cj_cluster.specs.Moves.Moves.{entry_numbered};
 ghost use Rattle.cj_log.specs.declared.item.LogItem.TheVariants as items;
@@ -36,8 +37,8 @@ pub struct Grown {
 }
 
 /// The entry that the event at a place scheduled.
-fn entry_at(events: &[Event], place: usize) -> Option<&Entry>
-    ensures { option_copied result ≡ keeping.entry_at events.now place }
+pub fn entry_at(events: &[Event], place: usize) -> Option<&Entry>
+    ensures { option_copied result ≡ option_and_then scheduled_entry (slice_get events.now place) }
 {
     match events.get(place) {
         Some(Event::Sched(entry)) => Some(entry),

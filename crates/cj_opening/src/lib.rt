@@ -11,6 +11,8 @@ mod markers;
 mod sessions;
 
 pub use error::OpeningError;
+pub use grown::entry_at;
 pub use history::opening;
 pub use item::entry_item;
 pub use laws::{items_fix_the_opening, openings_are_good};
+pub use markers::MarkerName;

@@ -1,17 +1,15 @@
 -- What is kept of the history so far.
 use Rattle.std.specs.Prelude.{◌≡◌, ℕ, ◌+◌, ◌<◌, ◌≤◌, ◌==◌, List, length, slice_get, unwrap_or, All, if◌then◌else◌}
 use Rattle.std.specs.declared.option.Option.{Option}
-use Rattle.std.specs.List.{list_any}
 use Rattle.std.specs.Option.{option_and_then, option_map}
 use Rattle.std.specs.Ordering.{nat_cmp}
-use Rattle.std.specs.Str.{bytes_eq}
 use Rattle.std.specs.BTreeMap.{BTreeMap, get}
 use Rattle.std.specs.BTreeSet.{BTreeSet, contains}
 use Rattle.cj_model.specs.declared.request.Act.{Act}
 use Rattle.cj_model.specs.declared.request.Act.TheVariants as act
 use Rattle.cj_model.specs.declared.request.Entry.{Entry}
 use Rattle.cj_cluster.specs.declared.event.Event.{Event}
-use Rattle.cj_cluster.specs.History.Histories.{scheduled_entry, log, markers, tx_of}
+use Rattle.cj_cluster.specs.History.Histories.{scheduled_entry, log, has_marker, tx_of}
 use Rattle.cj_cluster.specs.Moves.Moves.{entry_numbered}
 use Rattle.cj_opening.specs.declared.sessions.SessionSoFar.{SessionSoFar}
 use Rattle.cj_opening.specs.declared.markers.MarkerName.{MarkerName}
@@ -51,7 +49,7 @@ pub record KeepsSessions (entries : List Entry) (sessions : BTreeMap ℕ Session
 
 -- the names of the markers
 abbrev pub KeepsMarkers : List Event → BTreeSet MarkerName → Type 0
-KeepsMarkers h names = (name : List ℕ) → contains marker_cmp names (named name) ≡ list_any (bytes_eq name) (markers h)
+KeepsMarkers h names = (name : List ℕ) → contains marker_cmp names (named name) ≡ has_marker h name
 
 -- all that is kept
 pub record Keeps (h : List Event) (places : List ℕ) (sessions : BTreeMap ℕ SessionSoFar) (names : BTreeSet MarkerName) : Type 0 where

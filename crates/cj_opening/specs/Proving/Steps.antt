@@ -2,8 +2,6 @@
 use Rattle.std.specs.Prelude.{◌≡◌, ℕ, ◌+◌, false, List, [], ◌∷◌, ◌++◌, length}
 use Rattle.std.specs.declared.option.Option.{Option}
 use Rattle.std.specs.declared.option.Option.TheVariants.{None, Some}
-use Rattle.std.specs.List.{list_any}
-use Rattle.std.specs.Str.{bytes_eq}
 use Rattle.cj_model.specs.declared.request.Act.{Act}
 use Rattle.cj_model.specs.declared.request.Entry.{Entry}
 use Rattle.cj_model.specs.Sql.PlainRequests.{request_of}
@@ -11,7 +9,7 @@ use Rattle.cj_model.specs.Sql.WrittenRequests.{IsWritten}
 use Rattle.cj_print.specs.Canonical.{canonical}
 use Rattle.cj_cluster.specs.declared.event.Event.{Event}
 use Rattle.cj_cluster.specs.declared.event.Event.TheVariants.{Sched, Ended, Marker}
-use Rattle.cj_cluster.specs.History.Histories.{log, markers}
+use Rattle.cj_cluster.specs.History.Histories.{log, has_marker}
 use Rattle.cj_cluster.specs.History.Legality.{IsFitEntry}
 use Rattle.cj_log.specs.declared.item.LogEntry.{LogEntry}
 use Rattle.cj_log.specs.declared.item.LogMarker.{LogMarker}
@@ -42,7 +40,7 @@ FindsEntry h x (Some e) = IsNextEntry h x e
 -- the marker may come next
 pub record IsNextMarker (h : List Event) (m : LogMarker) : Type 0 where
   pub after : m.after ≡ length (log h)
-  pub new_name : list_any (bytes_eq m.name) (markers h) ≡ false
+  pub new_name : has_marker h m.name ≡ false
 
 -- the events that the item adds to the history
 abbrev pub Brings : List Event → LogItem → List Event → Type 0

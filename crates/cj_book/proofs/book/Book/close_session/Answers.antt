@@ -6,7 +6,7 @@ use Rattle.cj_book.proofs.book.Book.close_session.Goals as goal
 pub invariant_of-self : goal.invariant_of-self
 invariant_of-self c =
     let k = c.self.invariant in
-    record { history = k.history; follows = rw c.remove.ensures (follows_closed _ _ _ _ _ _ k.follows c.args.session) }
+    record { history = k.history; follows = rw c.remove.ensures (follows_closed _ _ _ _ _ _ k.follows c.args.session); marked = k.marked }
 
 pub returns : goal.returns
 returns c = rw (← c.self.view_is, c.remove.ensures, numbers_without session_number c.self.inside.sessions c.args.session)

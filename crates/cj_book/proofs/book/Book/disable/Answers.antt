@@ -1,5 +1,7 @@
-use Rattle.std.proofs.Common.{◌≡◌, ◌<◌, true, length, sym, subst, arith, rules, vec_capacity}
+use Rattle.std.proofs.Common.{◌≡◌, ◌<◌, true, length, refl, sym, subst, arith, rules, vec_capacity}
+use Rattle.cj_cluster.specs.declared.event.Event.TheVariants.{Disabled}
 use Rattle.cj_cluster.specs.History.Histories.{events_left, is_enabled, is_idle}
+use Rattle.cj_opening.proofs.Kept.{marked_same}
 use Rattle.cj_book.specs.Books.{BookState}
 use Rattle.cj_book.proofs.Keeping.{keeps_disabled}
 use Rattle.cj_book.proofs.Following.{follows_disabled}
@@ -16,4 +18,5 @@ invariant_of-self-2 c =
     record {
       history = rw c.in_ok-append.ensures.ok (keeps_disabled _ _ _ _ _ _ _ k.history c.args.b (vec_capacity c.append.new.history) (search rules) named space spare);
       follows = rw c.in_ok-append.ensures.ok (follows_disabled _ _ _ _ _ _ k.follows c.args.b space idle was);
+      marked = rw c.in_ok-append.ensures.ok (marked_same c.self.inside.history.items c.self.inside.marker_names (Disabled c.args.b) refl k.marked);
     }

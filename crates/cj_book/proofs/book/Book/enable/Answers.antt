@@ -1,5 +1,7 @@
-use Rattle.std.proofs.Common.{◌≡◌, ◌<◌, true, false, length, sym, subst, arith, vec_capacity}
+use Rattle.std.proofs.Common.{◌≡◌, ◌<◌, true, false, length, refl, sym, subst, arith, vec_capacity}
+use Rattle.cj_cluster.specs.declared.event.Event.TheVariants.{Enabled}
 use Rattle.cj_cluster.specs.History.Histories.{events_left, is_enabled, is_idle}
+use Rattle.cj_opening.proofs.Kept.{marked_same}
 use Rattle.cj_book.specs.Books.{BookState}
 use Rattle.cj_book.proofs.Keeping.{keeps_enabled}
 use Rattle.cj_book.proofs.Following.{follows_enabled}
@@ -16,4 +18,5 @@ invariant_of-self-2 c =
     record {
       history = rw c.in_ok-append.ensures.ok (keeps_enabled _ _ _ _ _ _ _ k.history c.args.b (vec_capacity c.append.new.history) named space spare);
       follows = rw c.in_ok-append.ensures.ok (follows_enabled _ _ _ _ _ _ k.follows c.args.b space idle was);
+      marked = rw c.in_ok-append.ensures.ok (marked_same c.self.inside.history.items c.self.inside.marker_names (Enabled c.args.b) refl k.marked);
     }

@@ -1,6 +1,8 @@
-use Rattle.std.proofs.Common.{◌≡◌, vec_capacity, false, sym, subst, arith, rules}
+use Rattle.std.proofs.Common.{◌≡◌, vec_capacity, false, refl, sym, subst, arith, rules}
+use Rattle.cj_cluster.specs.declared.event.Event.TheVariants.{Ended}
 use Rattle.cj_cluster.specs.History.Histories.{is_idle}
 use Rattle.cj_cluster.specs.History.Legality.{AreFitMasks}
+use Rattle.cj_opening.proofs.Kept.{marked_same}
 use Rattle.cj_book.specs.Books.{BookState}
 use Rattle.cj_book.proofs.Keeping.{keeps_ended}
 use Rattle.cj_book.proofs.Following.{follows_ended}
@@ -15,4 +17,5 @@ invariant_of-self c =
       history = rw c.push_reserved.ensures.items
           (keeps_ended _ _ _ _ _ _ _ k.history c.args.failed c.args.starved (vec_capacity c.push_reserved.new.self) (search rules) (search rules) (search rules) is_open (omega arith));
       follows = rw c.push_reserved.ensures.items (follows_ended _ _ _ _ _ _ k.follows c.args.failed c.args.starved k.history.short is_open k.history.one_open masks);
+      marked = rw c.push_reserved.ensures.items (marked_same c.self.inside.history.items c.self.inside.marker_names (Ended c.args.failed c.args.starved) refl k.marked);
     }

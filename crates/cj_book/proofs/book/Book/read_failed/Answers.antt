@@ -1,5 +1,7 @@
-use Rattle.std.proofs.Common.{◌<◌, sym, subst, vec_capacity}
+use Rattle.std.proofs.Common.{◌<◌, refl, sym, subst, vec_capacity}
+use Rattle.cj_cluster.specs.declared.event.Event.TheVariants.{ReadFailed}
 use Rattle.cj_cluster.specs.History.Histories.{events_left}
+use Rattle.cj_opening.proofs.Kept.{marked_same}
 use Rattle.cj_book.specs.Books.{BookState}
 use Rattle.cj_book.proofs.Keeping.{keeps_read_failed}
 use Rattle.cj_book.proofs.Following.{follows_read_failed}
@@ -13,4 +15,5 @@ invariant_of-self-2 c =
     record {
       history = rw c.in_ok-append.ensures.ok (keeps_read_failed _ _ _ _ _ _ _ k.history c.args.session c.args.seq c.args.b (vec_capacity c.append.new.history) space spare);
       follows = rw c.in_ok-append.ensures.ok (follows_read_failed _ _ _ _ _ _ k.follows c.args.session c.args.seq c.args.b space);
+      marked = rw c.in_ok-append.ensures.ok (marked_same c.self.inside.history.items c.self.inside.marker_names (ReadFailed c.args.session c.args.seq c.args.b) refl k.marked);
     }

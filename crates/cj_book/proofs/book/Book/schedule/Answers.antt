@@ -8,6 +8,7 @@ use Rattle.cj_cluster.specs.History.Legality.{IsFitEntry}
 use Rattle.cj_cluster.proofs.Pushed.{log-sched}
 use Rattle.cj_place.specs.Layouts.{placement_of}
 use Rattle.cj_book.specs.declared.transactions.OpenTransaction.{OpenTransaction}
+use Rattle.cj_opening.proofs.Kept.{marked_same}
 use Rattle.cj_book.specs.Books.{BookState, placement_at, IsOfKnown}
 use Rattle.cj_book.specs.Lists.{session_number, sessions_after, transactions_after, tx_number}
 use Rattle.cj_book.proofs.Keeping.{keeps_sched}
@@ -47,6 +48,7 @@ invariant_of-self-2 c =
       history = rw (events, places) (keeps_sched _ _ _ _ _ _ _ k.history e (vec_capacity c.push_reserved-2.new.self) idle space spare);
       follows = rw (events, sessions, transactions)
           (follows_sched _ _ _ _ _ _ k.follows c.self.inside.balancer c.self.inside.has_spare e hosts c.self.inside.enabled fit known idle (omega arith) concerned k.history.mask);
+      marked = rw events (marked_same c.self.inside.history.items c.self.inside.marker_names (Sched e) refl k.marked);
     }
 
 pub returns-clause-ok : goal.returns-clause-ok
