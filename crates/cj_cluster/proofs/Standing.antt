@@ -13,7 +13,7 @@ use Rattle.cj_model.specs.Cluster.Masks.{in_mask, with_backend}
 use Rattle.cj_cluster.specs.History.Answering.{HasServer}
 use Rattle.cj_cluster.specs.History.Turns.{SessionView}
 use Rattle.cj_cluster.specs.Moves.Cores.{Core, find_session, session_at, new_session, with_session, is_entry_of}
-use Rattle.cj_cluster.specs.Moves.Moves.{is_open, happened, with_one_request, with_request_counted, with_entry, scheduled_as, abort_entry, answered_at, still_reading, read_number, tried_of, with_read}
+use Rattle.cj_cluster.specs.Moves.Moves.{is_open, happened, with_one_request, with_entry, scheduled_as, abort_entry, answered_at, still_reading, read_number, tried_of, with_read}
 use Rattle.cj_cluster.specs.Proving.Invariants.{IsSoundSession, CoreInvariant}
 use Rattle.cj_cluster.specs.Moves.Runs.{seen_at, HasFailedSince, TriedSince, IsBetweenReplies, AreBetween}
 use Rattle.cj_cluster.proofs.Pushed.{no_fault_of_other, prefix_self, prefix_length, opened-same, opened-free}
@@ -128,21 +128,19 @@ module _ (c : Core) (k : ℕ) (f : OpenSession → OpenSession) (keeps : (x : Op
   pub stand_counted : ((x : OpenSession) → (f x).reading ≡ x.reading) → (session_at c k).reading ≡ None → CoreInvariant (with_read c k f) → is_entry_of k (entry_in_progress c.history) ≡ false → AreBetween (with_read c k f)
   stand_counted same none v idle = stand_fresh v idle (still_none c (with_read c k f) k f keeps refl same none)
 
--- The log's store failed in a request of session k, which reads nothing, and the session has counted the request.
-pub stand_log_failed : (c : Core) (k n : ℕ) → CoreInvariant (with_request_counted (happened c (LogFailed k n)) k) → is_idle c.history ≡ true → (session_at c k).reading ≡ None → AreBetween c
-    → AreBetween (with_request_counted (happened c (LogFailed k n)) k)
+-- The log's store failed in a request of session k, which reads nothing, or in the administrator's move, where k is 0.
+pub stand_log_failed : (c : Core) (k n : ℕ) → CoreInvariant (happened c (LogFailed k n)) → is_idle c.history ≡ true → (0 < k → (session_at c k).reading ≡ None) → AreBetween c → AreBetween (happened c (LogFailed k n))
 stand_log_failed c k n v fr none between s some =
     let ev : Event = LogFailed k n in
-    let z : Core = with_request_counted (happened c ev) k in
+    let z : Core = happened c ev in
     let idle : is_entry_of k (entry_in_progress z.history) ≡ false = ap (is_entry_of k) (opened-same c.history ev refl refl ∙ opened-free c.history fr) in
     ⊎_elim
-    (λ (is : s ≡ k).
-    subst (λ (i : ℕ). (a : SessionView) × IsBetweenReplies a z i) (sym is) (seen_at z k, between_fresh z k v idle (still_none c z k with_one_request (λ x. refl) refl (λ x. refl) none)))
+    (λ (is : s ≡ k). subst (λ (i : ℕ). (a : SessionView) × IsBetweenReplies a z i) (sym is) (seen_at z k, between_fresh z k v idle (none (omega (arith, is, some)))))
     (λ (is : s ≡ k → ⊥).
     let q = between s some in (
       q.0,
       between_follows q.0 c z (c.history ++ ev ∷ []) s (session_at c s) q.1
-          (follows_rest c z s refl refl (ev ∷ [], refl) refl (session_of-other with_one_request (λ x. refl) c.sessions k s is))
+          (follows_rest c z s refl refl (ev ∷ [], refl) refl refl)
           (λ x. seen_event c.placement q.0 c.history s (session_at c s) x ev refl refl (λ i. no_fault_of_other k n s i (λ o. is (sym o))) (λ t b. refl)),
     ))
     (cases_eq s k)
