@@ -1,0 +1,4 @@
+pub mod Layouts
+pub mod DumpLayout
+pub mod Dumps
+pub mod Proving
