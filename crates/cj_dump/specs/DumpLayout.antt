@@ -16,13 +16,13 @@ use Rattle.cj_model.specs.declared.schema.Schema.{Schema}
 use Rattle.cj_model.specs.declared.database.Table.{Table}
 use Rattle.cj_model.specs.declared.database.Draft.{Draft}
 use Rattle.cj_model.specs.declared.database.Slot.{Slot}
-use Rattle.cj_model.specs.Database.Tables.{cell, name_cmp, table_of, column_names, same_kind}
+use Rattle.cj_model.specs.Database.Tables.{cell, name_cmp, table_of, same_kind}
 use Rattle.cj_model.specs.Database.Values.{kind_of, value_cmp}
 use Rattle.cj_model.specs.Sql.Lexical.{keyword}
 use Rattle.cj_codec.specs.Fields.{byte, number16, number64, name, value}
 use Rattle.cj_codec.specs.Formats.{Format, such_that}
 use Rattle.cj_codec.specs.Formats as formats
-use Rattle.cj_dump.specs.Layouts.{Layout, field, rising_field, known, behind, mapped, then, pair, listed, list}
+use Rattle.cj_dump.specs.Layouts.{Layout, field, rising_field, known, behind, mapped, followed, pair, listed, list}
 use Rattle.cj_dump.specs.declared.dump.Dump.{Dump}
 
 -- ---- words
@@ -62,9 +62,16 @@ kind_of_byte b = if b == 1 then kinds.Integer else kinds.Text
 abbrev pub kind : Format Kind
 kind = formats.mapped kind_of_byte kind_byte (such_that (λ b. b == 1 || b == 2) byte)
 
--- a column's name is no other column's
+-- one of the columns has this name
+abbrev pub is_named : List Column → List ℕ → Bool
+is_named cs name = list_any (λ (c : Column). bytes_eq c.name name) cs
+
+-- a free name that no column before has
+abbrev pub is_new : List Column → List ℕ → Bool
+is_new before name = is_free name && not (is_named before name)
+
 abbrev pub column_name : List Column → Format (List ℕ)
-column_name before = such_that (λ n. is_free n && not (list_any (λ c. bytes_eq c n) (column_names before))) name
+column_name before = such_that (is_new before) name
 
 abbrev pub column : List Column → Layout Column
 column before = mapped (λ p. record { name = p.0; kind = p.1 }) (λ c. (c.name, c.kind)) (pair (field (column_name before)) (field kind))
@@ -82,7 +89,7 @@ key cs = field (such_that (λ k. nat_lt k (length cs)) number16)
 
 -- a table, which stands above the one before it, with its columns and its key
 abbrev pub schema : Option (List ℕ) → Layout Schema
-schema before = mapped (λ p. record { table = p.0; columns = p.1.0; key = p.1.1 }) (λ s. (s.table, (s.columns, s.key))) (pair (rising_field free_name (rises_above before)) (then columns key))
+schema before = mapped (λ p. record { table = p.0; columns = p.1.0; key = p.1.1 }) (λ s. (s.table, (s.columns, s.key))) (pair (rising_field free_name (rises_above before)) (followed columns key))
 
 -- ---- rows
 
@@ -92,7 +99,7 @@ is_of_column cs place v = option_map_or (λ (c : Column). same_kind c.kind (kind
 
 -- the value at the key's place of the last row
 abbrev pub last_key : ℕ → List (List Value) → Option Value
-last_key k rows = option_and_then (last_of rows) (λ last. slice_get last k)
+last_key k rows = option_and_then (λ last. slice_get last k) (last_of rows)
 
 -- the value stands above the key before it
 abbrev pub key_rises : Option Value → Value → Bool
@@ -167,4 +174,4 @@ abbrev pub dump : Layout Dump
 dump = mapped
     (λ p. record { position = p.0; source = p.1.0; name = p.1.1.0; all = p.1.1.1.0.0; covers = p.1.1.1.0.1; db = p.1.1.1.1 })
     (λ d. (d.position, (d.source, (d.name, ((d.all, d.covers), d.db)))))
-    (pair (field number64) (pair (field byte) (pair (field name) (pair (then (field flag) covers) slots))))
+    (pair (field number64) (pair (field byte) (pair (field name) (pair (followed (field flag) covers) slots))))

@@ -1,5 +1,5 @@
 -- Dumps as bytes.
-use Rattle.std.specs.Prelude.{◌≡◌, ◌≢◌, ◌⊎◌, ℕ, ◌^◌, ◌<◌, true, List, [], ◌∷◌, ◌++◌, length, All, Result, Ok, Err}
+use Rattle.std.specs.Prelude.{◌≡◌, ◌≢◌, ◌⊎◌, ℕ, ◌^◌, ◌<◌, true, List, [], ◌∷◌, ◌++◌, length, All, IfSome, Result, Ok, Err}
 use Rattle.std.specs.declared.option.Option.{Option}
 use Rattle.std.specs.declared.option.Option.TheVariants.{None, Some}
 use Rattle.std.specs.List.{flat_map}
@@ -14,7 +14,6 @@ use Rattle.cj_model.specs.Database.Tables.{Rises, name_cmp}
 use Rattle.cj_model.specs.Sql.Names.{is_name}
 use Rattle.cj_model.specs.Wire.Fields.{str16}
 use Rattle.cj_model.specs.Wire.Replies.{row_bytes}
-use Rattle.cj_codec.specs.Formats.{AreBytes}
 use Rattle.cj_codec.specs.Readings.{Place, offset}
 use Rattle.cj_dump.specs.declared.dump.Dump.{Dump}
 use Rattle.cj_dump.specs.declared.error.DumpError.{DumpError}
@@ -29,7 +28,7 @@ column_bytes c = str16 c.name ++ kind_byte c.kind ∷ []
 
 -- the table, the columns behind their number, and the key's place
 abbrev pub schema_bytes : Schema → List ℕ
-schema_bytes s = str16 s.table ++ (to_be_bytes w16 (length s.columns) ++ flat_map column_bytes s.columns) ++ to_be_bytes w16 s.key
+schema_bytes s = str16 s.table ++ ((to_be_bytes w16 (length s.columns) ++ flat_map column_bytes s.columns) ++ to_be_bytes w16 s.key)
 
 -- rows behind their number
 abbrev pub rows_bytes : List (List Value) → List ℕ
@@ -38,10 +37,10 @@ rows_bytes rows = to_be_bytes w64 (length rows) ++ flat_map row_bytes rows
 -- 00, or 01 with the transaction and its rows
 abbrev pub draft_bytes : Option Draft → List ℕ
 draft_bytes None = 0 ∷ []
-draft_bytes (Some d) = 1 ∷ to_be_bytes w64 d.tx ++ rows_bytes d.table.rows
+draft_bytes (Some d) = 1 ∷ (to_be_bytes w64 d.tx ++ rows_bytes d.table.rows)
 
 abbrev pub slot_bytes : Slot → List ℕ
-slot_bytes s = schema_bytes s.base.schema ++ rows_bytes s.base.rows ++ draft_bytes s.draft
+slot_bytes s = schema_bytes s.base.schema ++ (rows_bytes s.base.rows ++ draft_bytes s.draft)
 
 abbrev pub names_bytes : List (List ℕ) → List ℕ
 names_bytes names = to_be_bytes w64 (length names) ++ flat_map str16 names
@@ -50,9 +49,13 @@ abbrev pub db_bytes : List Slot → List ℕ
 db_bytes db = to_be_bytes w64 (length db) ++ flat_map slot_bytes db
 
 abbrev pub dump_bytes : Dump → List ℕ
-dump_bytes d = to_be_bytes w64 d.position ++ (d.source ∷ []) ++ str16 d.name ++ (flag_byte d.all ∷ names_bytes d.covers) ++ db_bytes d.db
+dump_bytes d = to_be_bytes w64 d.position ++ (d.source ∷ (str16 d.name ++ (flag_byte d.all ∷ (names_bytes d.covers ++ db_bytes d.db))))
 
 -- ---- the dumps that have bytes
+
+-- the transaction of a draft has 64 bits
+abbrev pub HasSmallTransaction : Slot → Type 0
+HasSmallTransaction s = IfSome s.draft (λ (d : Draft). d.tx < 2 ^ 64)
 
 pub record IsDump (d : Dump) : Type 0 where
   pub position : d.position < 2 ^ 64
@@ -64,6 +67,7 @@ pub record IsDump (d : Dump) : Type 0 where
   pub few_covers : length d.covers < 2 ^ 64
   pub db : IsStorable d.db
   pub few_slots : length d.db < 2 ^ 64
+  pub transactions : All HasSmallTransaction d.db
 
 -- ---- bytes that are no dump's
 
@@ -97,4 +101,4 @@ WrittenReadsBack = (d : Dump) (result : Result Dump DumpError) → IsDump d → 
 
 -- bytes are those of one dump, or stop at one place for one reason
 abbrev pub BytesHaveOneReading : Type 0
-BytesHaveOneReading = (bytes : List ℕ) (r s : Result Dump DumpError) → AreBytes bytes → r ≢ Err NoMemory → s ≢ Err NoMemory → Decodes bytes r → Decodes bytes s → r ≡ s
+BytesHaveOneReading = (bytes : List ℕ) (r s : Result Dump DumpError) → r ≢ Err NoMemory → s ≢ Err NoMemory → Decodes bytes r → Decodes bytes s → r ≡ s

@@ -76,11 +76,11 @@ mapped make parts f = record {
 }
 
 -- a value and then another one, in the layout that the first gives
-abbrev pub then : {A B : Type 0} → Layout A → (A → Layout B) → Layout (A × B)
-then {A} {B} f g = behind f (λ p. p.0) (λ x. mapped (λ y. (x, y)) (λ p. p.1) (g x))
+abbrev pub followed : {A B : Type 0} → Layout A → (A → Layout B) → Layout (A × B)
+followed {A} {B} f g = behind f (λ p. p.0) (λ x. mapped (λ y. (x, y)) (λ p. p.1) (g x))
 
 abbrev pub pair : {A B : Type 0} → Layout A → Layout B → Layout (A × B)
-pair f g = then f (λ x. g)
+pair f g = followed f (λ x. g)
 
 -- ---- lists: what may stand next goes by the items before it
 

@@ -1,4 +1,5 @@
 pub mod Layouts
 pub mod DumpLayout
 pub mod Dumps
+pub mod Writable
 pub mod Proving

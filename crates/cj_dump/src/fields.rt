@@ -1,11 +1,9 @@
 //! The fields of a dump.
 
-ghost use Rattle.std.specs.Prelude.{◌≡◌, map, not, is_some, option_copied, true};
+ghost use Rattle.std.specs.Prelude.{◌≡◌, map, option_copied, true};
 ghost use Rattle.std.specs.Option.{option_map_or};
 ghost use Rattle.std.specs.Ordering.{is_lt};
-ghost use Rattle.std.specs.List.{list_any};
-ghost use Rattle.std.specs.Str.{bytes_eq};
-ghost use Rattle.cj_model.specs.Database.Tables.{column_names, name_cmp};
+ghost use Rattle.cj_model.specs.Database.Tables.{name_cmp};
 ghost use Rattle.cj_model.specs.Sql.Lexical as lexical;
 ghost use Rattle.cj_codec.specs.Fields as fields;
 ghost use Rattle.cj_dump.specs.DumpLayout as layouts;
@@ -14,6 +12,7 @@ ghost use Rattle.cj_dump.specs.Layouts.{Finds, field, rising_field};
 use crate::error::DumpError;
 use cj_codec::Reader;
 use cj_model::{COLUMN_LIMIT, Column, KEYWORDS, Keyword, Kind, Name, ROW_LIMIT};
+use std::cmp::Ordering;
 
 pub fn take_byte(reader: &mut Reader<'_>) -> Result<u8, DumpError>
     ensures { Finds (field fields.byte) reader.old reader.new result }
@@ -135,13 +134,20 @@ fn is_free(name: &Name) -> bool
     reserved_in(&KEYWORDS, name).is_none()
 }
 
+/// Whether a name can be that of a column behind others.
+fn is_new(before: &[Column], name: &Name) -> bool
+    ensures { result ≡ layouts.is_new before.now name.now }
+{
+    is_free(name) && !before.iter().any(|column| column.name.is(name))
+}
+
 /// The name of a column that stands behind others.
 pub fn take_column_name(before: &[Column], reader: &mut Reader<'_>) -> Result<Name, DumpError>
     ensures { Finds (field (layouts.column_name before.now)) reader.old reader.new result }
 {
     let start = reader.offset();
     let name = reader.name()?;
-    if !is_free(&name) || before.iter().any(|column| column.name.is(&name)) {
+    if !is_new(before, &name) {
         return Err(DumpError::BadField(start));
     }
     Ok(name)
@@ -149,17 +155,17 @@ pub fn take_column_name(before: &[Column], reader: &mut Reader<'_>) -> Result<Na
 
 /// Whether a name stands above the one before it.
 fn rises(last: Option<&Name>, name: &Name) -> bool
-    ensures { result ≡ option_map_or (λ before. is_lt (name_cmp before name.now)) (option_copied last) true }
+    ensures { result ≡ option_map_or (λ before. is_lt (name_cmp before name.now)) (option_copied last.entry) true }
 {
     match last {
-        Some(last) => last.as_slice() < name.as_slice(),
+        Some(last) => matches!(last.as_slice().cmp(name.as_slice()), Ordering::Less),
         None => true,
     }
 }
 
 /// A name that is covered.
 pub fn take_covered(last: Option<&Name>, reader: &mut Reader<'_>) -> Result<Name, DumpError>
-    ensures { Finds (rising_field fields.name (layouts.rises_above (option_copied last))) reader.old reader.new result }
+    ensures { Finds (rising_field fields.name (layouts.rises_above (option_copied last.entry))) reader.old reader.new result }
 {
     let start = reader.offset();
     let name = reader.name()?;
@@ -171,7 +177,7 @@ pub fn take_covered(last: Option<&Name>, reader: &mut Reader<'_>) -> Result<Name
 
 /// The name of a table.
 pub fn take_table(last: Option<&Name>, reader: &mut Reader<'_>) -> Result<Name, DumpError>
-    ensures { Finds (rising_field layouts.free_name (layouts.rises_above (option_copied last))) reader.old reader.new result }
+    ensures { Finds (rising_field layouts.free_name (layouts.rises_above (option_copied last.entry))) reader.old reader.new result }
 {
     let start = reader.offset();
     let name = reader.name()?;

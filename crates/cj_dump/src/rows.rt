@@ -13,6 +13,7 @@ use cj_model::{Column, Kind, Row, Rows, Schema, Value};
 use std::alloc::Global;
 
 /// A value of a row.
+#[derive(Drop)]
 struct ValuePart<'a> {
     schema: &'a Schema,
     /// The key of the row before.
@@ -20,6 +21,7 @@ struct ValuePart<'a> {
 }
 
 /// A row of a table.
+#[derive(Drop)]
 struct RowPart<'a> {
     schema: &'a Schema,
 }
@@ -45,7 +47,7 @@ fn is_of_column(columns: &[Column], place: usize, value: &Value) -> bool
 
 /// Whether a key stands above the one before it.
 fn key_rises(last: Option<&Value>, value: &Value) -> bool
-    ensures { result ≡ layouts.key_rises (option_copied last) value.now }
+    ensures { result ≡ layouts.key_rises (option_copied last.entry) value.now }
 {
     match last {
         Some(last) => last < value,

@@ -12,6 +12,7 @@ use cj_model::{Column, Columns, Name, Schema};
 use std::alloc::Global;
 
 /// A column of a table.
+#[derive(Drop)]
 struct ColumnPart;
 
 impl Part for ColumnPart {
@@ -44,7 +45,7 @@ pub fn take_schema(
     reader: &mut Reader<'_>,
     alloc: Global,
 ) -> Result<Schema, DumpError>
-    ensures { Finds (layouts.schema (option_copied before)) reader.old reader.new result }
+    ensures { Finds (layouts.schema (option_copied before.entry)) reader.old reader.new result }
 {
     let table = take_table(before, reader)?;
     let columns = take_columns(reader, alloc)?;

@@ -16,6 +16,7 @@ use cj_model::{Db, Draft, Duplicate, Name, Schema, Slot, Table};
 use std::alloc::Global;
 
 /// A table with its draft.
+#[derive(Drop)]
 struct SlotPart;
 
 /// The name of the last table.

@@ -16,6 +16,7 @@ use cj_model::{Name, NoMemory, TableSet};
 use std::alloc::Global;
 
 /// A name that is covered.
+#[derive(Drop)]
 struct CoveredPart;
 
 impl Part for CoveredPart {
