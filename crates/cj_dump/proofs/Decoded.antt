@@ -33,11 +33,11 @@ stopped bytes start next e r are from found is =
 -- ---- one reading
 
 -- what the reading of a dump says of the bytes
-ended : Dump → Place → List ℕ → Result Dump DumpError
+abbrev ended : Dump → Place → List ℕ → Result Dump DumpError
 ended d next [] = Ok d
 ended d next (b ∷ rest) = Err (BadField (offset next))
 
-verdict : Reading Dump → Result Dump DumpError
+abbrev verdict : Reading Dump → Result Dump DumpError
 verdict (Ok x) = ended x.0 x.1 x.1.rest
 verdict (Err e) = Err e
 

@@ -22,8 +22,8 @@ use Rattle.cj_codec.proofs.Held.{fields_hold}
 use Rattle.cj_dump.specs.DumpLayout.{last_of, rises_above, flag, flag_byte, schema, rows, draft, slot, covered, covers, slots, dump}
 use Rattle.cj_dump.specs.Dumps.{HasSmallTransaction, IsDump}
 use Rattle.cj_dump.specs.declared.dump.Dump.{Dump}
-use Rattle.cj_dump.proofs.Columns.{IsSchema, schema_to, schema_from}
-use Rattle.cj_dump.proofs.Rows.{AreRows, rows_to, rows_from}
+use Rattle.cj_dump.proofs.ColumnLaws.{IsSchema, schema_to, schema_from}
+use Rattle.cj_dump.proofs.RowLaws.{AreRows, rows_to, rows_from}
 use Rattle.cj_dump.proofs.Rising.{above, all_rise, each_rises, split, merge}
 
 -- ---- tables
@@ -50,7 +50,7 @@ rows_are t is storable = record { each = λ k d lt. (is.kinds k d lt, storable.v
 
 -- ---- drafts
 
-IsDraft : Schema → Option Draft → Type 0
+abbrev IsDraft : Schema → Option Draft → Type 0
 IsDraft s None = Unit {0}
 IsDraft s (Some d) = (0 < d.tx) × IsTable d.table × (d.table.schema ≡ s) × IsStorableTable d.table × (d.tx < 2 ^ 64)
 
@@ -80,7 +80,7 @@ same_above : (o : Option Slot) (t : Slot) → rises_above (option_map table_of o
 same_above None t = refl
 same_above (Some l) t = refl
 
-HoldsSlot : Slot → Type 0
+abbrev HoldsSlot : Slot → Type 0
 HoldsSlot t = IsSlot t × IsStorableSlot t × HasSmallTransaction t
 
 -- what is said of a draft, of the one that a slot has

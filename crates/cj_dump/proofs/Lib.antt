@@ -3,8 +3,8 @@ pub mod LayoutLaws
 pub mod DumpLaws
 pub mod Rising
 pub mod Covers
-pub mod Columns
-pub mod Rows
+pub mod ColumnLaws
+pub mod RowLaws
 pub mod Dumped
 pub mod Decoded
 pub mod Writable

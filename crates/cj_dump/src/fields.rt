@@ -134,11 +134,17 @@ fn is_free(name: &Name) -> bool
     reserved_in(&KEYWORDS, name).is_none()
 }
 
+fn is_named(columns: &[Column], name: &Name) -> bool
+    ensures { result ≡ layouts.is_named columns.now name.now }
+{
+    columns.iter().any(|column| column.name.is(name))
+}
+
 /// Whether a name can be that of a column behind others.
 fn is_new(before: &[Column], name: &Name) -> bool
     ensures { result ≡ layouts.is_new before.now name.now }
 {
-    is_free(name) && !before.iter().any(|column| column.name.is(name))
+    is_free(name) && !is_named(before, name)
 }
 
 /// The name of a column that stands behind others.

@@ -1,6 +1,6 @@
 //! What stands in a dump, at the end of bytes.
 
-ghost use Rattle.std.specs.Prelude.{◌≡◌, ◌++◌, ℕ, List, All, OnOk, Unit};
+ghost use Rattle.std.specs.Prelude.{◌≡◌, ◌++◌, ℕ, List, All, OnOk};
 ghost use Rattle.std.specs.List.{flat_map};
 ghost use Rattle.cj_model.specs.Wire.Fields.{str16};
 ghost use Rattle.cj_model.specs.Wire.Replies.{value_bytes};

@@ -93,7 +93,7 @@ key_same s key before v (Some l) e seen =
 row_to : (s : Schema) → s.key < length s.columns → (before : List (List Value)) (r : List Value) → All (IsRow s) before → (row s before).fits r → IsRow s r × (above (by_key s.key) (last_of before) r ≡ true)
 row_to s key before r seen fits =
     let t = values_to s (last_key s.key before) [] s.columns [] r refl refl fits.0 fits.1 in
-    ((t.0, t.1), sym (key_same s key before (cell r s.key) (last_of before) refl seen) ∙ t.2 s.key refl (omega (arith, fits.0, key)))
+    ((t.0, t.1), sym (key_same s key before (cell r s.key) (last_of before) refl seen) ∙ t.2 s.key (omega arith) (omega (arith, fits.0, key)))
 
 row_from : (s : Schema) → s.key < length s.columns → (before : List (List Value)) (r : List Value) → All (IsRow s) before → IsRow s r → above (by_key s.key) (last_of before) r ≡ true → (row s before).fits r
 row_from s key before r seen is rises =
