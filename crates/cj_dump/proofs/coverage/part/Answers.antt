@@ -8,4 +8,4 @@ use Rattle.cj_dump.proofs.coverage.part.Goals as goal
 
 pub returns : goal.returns
 returns c =
-    c.from_vec.ensures ∙ filter_same _ (λ s. hosts (placement_of c.args.p.now) c.args.b (table_of s)) _ (λ s b f called. search rules) c.into_vec.result.items c.retain.new.self.items c.retain.ensures.filtered ∙ ap (filter (λ s. hosts (placement_of c.args.p.now) c.args.b (table_of s))) c.into_vec.ensures
+    c.from_vec.ensures ∙ filter_same _ (λ s. hosts (placement_of c.args.p.now) c.args.b (table_of s)) _ (λ s b f called. search rules) c.into_vec-slots.result.items c.retain.new.self.items c.retain.ensures.filtered ∙ ap (filter (λ s. hosts (placement_of c.args.p.now) c.args.b (table_of s))) c.into_vec-slots.ensures
