@@ -69,6 +69,13 @@ pub record IsDump (d : Dump) : Type 0 where
   pub few_slots : length d.db < 2 ^ 64
   pub transactions : All HasSmallTransaction d.db
 
+-- A dump that may be encoded. The rest of what a dump is holds of the types of its fields.
+pub record CanEncode (d : Dump) : Type 0 where
+  pub name : d.name ≢ []
+  pub covers : All (λ n. is_name n ≡ true) d.covers
+  pub none : d.all ≡ true → d.covers ≡ []
+  pub db : IsStorable d.db
+
 -- ---- bytes that are no dump's
 
 -- the place in front of the bytes

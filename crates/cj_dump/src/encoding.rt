@@ -1,16 +1,15 @@
 //! The bytes of a dump.
 
-ghost use Rattle.std.specs.Prelude.{◌≡◌, ◌++◌, [], true, All, IfOk, OnOk};
+ghost use Rattle.std.specs.Prelude.{◌≡◌, ◌++◌, ◌<◌, ◌^◌, All, IfOk, OnOk};
 ghost use Rattle.std.specs.List.{flat_map};
-ghost use Rattle.cj_model.specs.Database.Storable.{IsStorable};
 ghost use Rattle.cj_model.specs.Wire.Fields.{str16};
-ghost use Rattle.cj_dump.specs.Dumps.{dump_bytes, names_bytes, db_bytes};
+ghost use Rattle.cj_dump.specs.Dumps.{dump_bytes, names_bytes, db_bytes, CanEncode, HasSmallTransaction, IsDump};
 ghost use Rattle.cj_dump.specs.Writable.{IsWritableSlot};
 
 use crate::dump::Dump;
 use crate::writing::Written;
 use cj_codec::{put_u8, put_u64};
-use cj_model::{Db, Name, NoMemory, TableSet};
+use cj_model::{Db, Draft, Name, NoMemory, Slot, TableSet};
 use std::alloc::Global;
 
 fn put_each(out: &mut Vec<u8>, names: &[Name]) -> Result<(), NoMemory>
@@ -51,12 +50,52 @@ fn bytes_of(alloc: Global, d: &Dump) -> Result<Vec<u8>, NoMemory>
     Ok(out)
 }
 
+/// Shows that the transaction of a draft has 64 bits.
+fn legal_draft(draft: &Draft)
+    ensures { draft.now.tx < 2 ^ 64 }
+{
+    let _tx = draft.tx;
+}
+
+fn legal_slot(slot: &Slot)
+    ensures { HasSmallTransaction slot.now }
+{
+    if let Some(draft) = &slot.draft {
+        legal_draft(draft);
+    }
+}
+
+/// Shows it for the draft of each slot.
+fn legal_slots(mut slots: &[Slot])
+    ensures { All HasSmallTransaction slots.entry.now }
+{
+    while let [slot, rest @ ..] = slots {
+        legal_slot(slot);
+        slots = rest;
+    }
+}
+
+/// Shows that what may be encoded is a dump.
+fn legal(d: &Dump)
+    requires { CanEncode d.now }
+    ensures { IsDump d.now }
+{
+    let _position = d.position;
+    let _source = d.source;
+    let _name = d.name.as_slice();
+    let _covers = d.covers.as_slice();
+    let _covered = d.covers.len();
+    let _tables = d.db.len();
+    legal_slots(d.db.as_slice());
+}
+
 /// The bytes of a dump (docs/FORMATS.md). `decode` gives the dump back.
 #[tactic(auto, using(crate::proofs::Writable::storable_writable))]
 pub fn encode(alloc: Global, d: &Dump) -> Result<Vec<u8>, NoMemory>
-    requires covers { d.now.all ≡ true → d.now.covers ≡ [] }
-    requires db { IsStorable d.now.db }
-    ensures { IfOk result (λ bytes. bytes.items ≡ dump_bytes d.now) }
+    requires { CanEncode d.now }
+    ensures bytes { IfOk result (λ bytes. bytes.items ≡ dump_bytes d.now) }
+    ensures legal { IsDump d.now }
 {
+    legal(d);
     bytes_of(alloc, d)
 }
