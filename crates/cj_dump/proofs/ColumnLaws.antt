@@ -1,5 +1,5 @@
 -- Columns that fit their layout: free names, of which none stands twice.
-use Rattle.std.proofs.Common.{◌≡◌, ℕ, ◌≤◌, ◌<◌, Bool, true, false, ◌||◌, ◌&&◌, not, List, [], ◌∷◌, ◌++◌, length, refl, sym, ap, ◌∙◌, arith, nat_le, nat_lt}
+use Rattle.std.proofs.Common.{◌≡◌, ℕ, ◌≤◌, ◌<◌, Bool, true, false, ◌||◌, not, List, [], ◌∷◌, ◌++◌, length, refl, sym, ap, ◌∙◌, arith, nat_le}
 use Rattle.std.specs.Prelude.{All, is_some}
 use Rattle.std.specs.declared.option.Option.{Option}
 use Rattle.std.specs.declared.option.Option.TheVariants.{None, Some}
@@ -18,7 +18,7 @@ use Rattle.cj_model.specs.Database.Storable.{IsFreeName}
 use Rattle.cj_model.specs.Database.Tables.{column_names, is_distinct}
 use Rattle.cj_model.specs.Sql.Lexical.{keyword}
 use Rattle.cj_codec.proofs.Held.{fields_hold}
-use Rattle.cj_dump.specs.DumpLayout.{is_free, is_named, free_name, kind, column, column_name, rises_above, schema}
+use Rattle.cj_dump.specs.DumpLayout.{is_free, is_named, free_name, kind, column, rises_above, schema}
 use Rattle.cj_dump.specs.Layouts.{listed_fits}
 
 -- ---- names
@@ -108,10 +108,11 @@ columns_from before [] free distinct clear = tt
 columns_from before (x ∷ xs) free distinct clear =
     let d = and_parts (not (list_any (bytes_eq x.name) (column_names xs))) (is_distinct (column_names xs)) distinct in
     let none = not-true (list_any (bytes_eq x.name) (column_names xs)) d.0 in
-    let here : is_named before x.name ≡ false = clear x.name (rw ((bytes_eq-Decides x.name x.name).1 refl) refl) in
-    (column_from before x (All-head (λ (c : Column). IsFreeName c.name) x xs free) here,
-     columns_from (before ++ x ∷ []) xs (All-tail (λ (c : Column). IsFreeName c.name) x xs free) d.1
-     (λ n e. more_named before x n (clear n (either_second (bytes_eq n x.name) (list_any (bytes_eq n) (column_names xs)) e)) (differ x.name n (column_names xs) (bytes_eq x.name n) refl none e)))
+    let here : is_named before x.name ≡ false = clear x.name (rw ((bytes_eq-Decides x.name x.name).1 refl) refl) in (
+      column_from before x (All-head (λ (c : Column). IsFreeName c.name) x xs free) here,
+      columns_from (before ++ x ∷ []) xs (All-tail (λ (c : Column). IsFreeName c.name) x xs free) d.1
+          (λ n e. more_named before x n (clear n (either_second (bytes_eq n x.name) (list_any (bytes_eq n) (column_names xs)) e)) (differ x.name n (column_names xs) (bytes_eq x.name n) refl none e)),
+    )
 
 -- ---- schemas
 
@@ -126,14 +127,16 @@ pub record IsSchema (s : Schema) : Type 0 where
 pub schema_to : (before : Option (List ℕ)) (s : Schema) → (schema before).fits s → IsSchema s × (rises_above before s.table ≡ true)
 schema_to before s h =
     let cs = columns_to [] s.columns h.0.1.0.0.1.1 in
-    let count = and_parts (nat_le 1 (length s.columns)) (nat_le (length s.columns) COLUMN_LIMIT) h.0.1.0.0.0.0.1 in
-    (record {
-      table = free_to s.table h.0.0.0;
-      columns = cs.0;
-      few = leb-true (length s.columns) COLUMN_LIMIT count.1;
-      distinct = cs.1;
-      key = ltb-true s.key (length s.columns) h.0.1.0.1.0.0.1;
-    }, h.0.0.1)
+    let count = and_parts (nat_le 1 (length s.columns)) (nat_le (length s.columns) COLUMN_LIMIT) h.0.1.0.0.0.0.1 in (
+      record {
+        table = free_to s.table h.0.0.0;
+        columns = cs.0;
+        few = leb-true (length s.columns) COLUMN_LIMIT count.1;
+        distinct = cs.1;
+        key = ltb-true s.key (length s.columns) h.0.1.0.1.0.0.1;
+      },
+      h.0.0.1,
+    )
 
 pub schema_from : (before : Option (List ℕ)) (s : Schema) → IsSchema s → rises_above before s.table ≡ true → (schema before).fits s
 schema_from before s is rises =

@@ -14,7 +14,7 @@ use Rattle.cj_dump.specs.declared.error.DumpError.{DumpError}
 use Rattle.cj_dump.specs.DumpLayout.{last_of, rises_above, covered, covers_count, covers}
 use Rattle.cj_dump.specs.Layouts.{Reading, field, listed, listed_reads}
 use Rattle.cj_dump.proofs.LayoutLaws.{found_ok}
-use Rattle.cj_dump.proofs.Rising.{above, rises_from, all_rise, each_rises}
+use Rattle.cj_dump.proofs.Rising.{above, rises_from, all_rise}
 
 -- ---- items put past those below them
 

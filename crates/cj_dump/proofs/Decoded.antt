@@ -6,7 +6,7 @@ use Rattle.cj_dump.specs.declared.dump.Dump.{Dump}
 use Rattle.cj_dump.specs.declared.error.DumpError.{DumpError}
 use Rattle.cj_dump.specs.declared.error.DumpError.TheVariants.{Cut, BadField, Order, NoMemory}
 use Rattle.cj_dump.specs.DumpLayout.{dump}
-use Rattle.cj_dump.specs.Dumps.{dump_bytes, IsDump, start_of, HasMore, Stops, Decodes, WrittenReadsBack, BytesHaveOneReading}
+use Rattle.cj_dump.specs.Dumps.{dump_bytes, IsDump, start_of, Stops, Decodes, WrittenReadsBack, BytesHaveOneReading}
 use Rattle.cj_dump.specs.Layouts.{Reading, Between, Finds}
 use Rattle.cj_dump.proofs.DumpLaws.{dump_law, dump_spelled}
 use Rattle.cj_dump.proofs.Dumped.{fits_dump, dump_fits}

@@ -1,5 +1,5 @@
 -- The layout of a dump is one, and its bytes are those of a dump.
-use Rattle.std.proofs.Common.{◌≡◌, ℕ, suc, zero, Bool, true, false, List, [], ◌∷◌, ◌++◌, length, refl, sym, ap, ◌∙◌, arith, nat_le, nat_lt, ◌==◌, ◌||◌, ◌&&◌, not, eqb}
+use Rattle.std.proofs.Common.{◌≡◌, ℕ, suc, zero, Bool, true, false, List, [], ◌∷◌, ◌++◌, length, refl, sym, ap, ◌∙◌, arith, nat_le, nat_lt, ◌==◌, ◌||◌, eqb}
 use Rattle.std.specs.Prelude.{is_some, option_map}
 use Rattle.std.specs.declared.option.Option.{Option}
 use Rattle.std.specs.declared.option.Option.TheVariants.{None, Some}
@@ -8,8 +8,6 @@ use Rattle.std.specs.Int.{w16, w64, to_be_bytes}
 use Rattle.std.proofs.lemmas.Bool.{eqb-true, leb-true}
 use Rattle.std.proofs.lemmas.List.Concat.{flat_map-cons}
 use Rattle.cj_model.specs.declared.value.Value.{Value}
-use Rattle.cj_model.specs.declared.value.Kind.{Kind}
-use Rattle.cj_model.specs.declared.value.Kind.TheVariants as kinds
 use Rattle.cj_model.specs.declared.schema.Column.{Column}
 use Rattle.cj_model.specs.declared.schema.Schema.{Schema}
 use Rattle.cj_model.specs.declared.database.Draft.{Draft}
@@ -23,7 +21,7 @@ use Rattle.cj_codec.proofs.Formats.{such_that_law}
 use Rattle.cj_codec.proofs.Formats as formats
 use Rattle.cj_codec.proofs.Fields.{byte_law, number16_law, number64_law, name_law, value_law, value_same}
 use Rattle.cj_dump.specs.Layouts.{Layout, field, rising_field, followed, pair, listed_bytes}
-use Rattle.cj_dump.specs.DumpLayout.{last_of, flag_byte, flag, kind_byte, kind_of_byte, kind, column_name, column, column_count, columns, is_free, free_name, rises_above, key, schema, is_of_column, last_key, key_rises, column_value, row_value, row, row_count, rows, tx_in, rows_in, transaction, draft_fields, draft_behind, draft, slot_behind, slot, covered, covers_count, covers, slots, dump}
+use Rattle.cj_dump.specs.DumpLayout.{last_of, flag_byte, flag, kind_byte, kind_of_byte, kind, column_name, column, column_count, columns, is_free, free_name, rises_above, key, schema, last_key, column_value, row_value, row, row_count, rows, tx_in, rows_in, transaction, draft_behind, draft, slot_behind, slot, covered, covers_count, covers, slots, dump}
 use Rattle.cj_dump.specs.Dumps.{column_bytes, schema_bytes, rows_bytes, draft_bytes, slot_bytes, names_bytes, db_bytes, dump_bytes}
 use Rattle.cj_dump.specs.declared.dump.Dump.{Dump}
 use Rattle.cj_dump.proofs.LayoutLaws.{IsLayout, rising_law, field_law, known_law, behind_law, mapped_law, followed_law, pair_law, listed_law, list_law}
@@ -107,9 +105,9 @@ dump_law =
     (λ d. (d.position, (d.source, (d.name, ((d.all, d.covers), d.db)))))
     (pair (field number64) (pair (field byte) (pair (field name) (pair (followed (field flag) covers) slots))))
     (pair_law (field number64) (pair (field byte) (pair (field name) (pair (followed (field flag) covers) slots))) (field_law number64 number64_law)
-     (pair_law (field byte) (pair (field name) (pair (followed (field flag) covers) slots)) (field_law byte byte_law)
-      (pair_law (field name) (pair (followed (field flag) covers) slots) (field_law name name_law)
-       (pair_law (followed (field flag) covers) slots (followed_law (field flag) covers (field_law flag flag_law) covers_law) slots_law))))
+    (pair_law (field byte) (pair (field name) (pair (followed (field flag) covers) slots)) (field_law byte byte_law)
+    (pair_law (field name) (pair (followed (field flag) covers) slots) (field_law name name_law)
+    (pair_law (followed (field flag) covers) slots (followed_law (field flag) covers (field_law flag flag_law) covers_law) slots_law))))
     (λ x fits. refl)
 
 -- ---- bytes

@@ -1,5 +1,5 @@
 -- What fits the layout of a dump is a dump, and a dump fits it.
-use Rattle.std.proofs.Common.{◌≡◌, ℕ, ◌^◌, ◌<◌, zero, Bool, true, false, ◌||◌, ◌==◌, not, List, [], length, refl, sym, ap, subst, ◌∙◌, arith, nat_lt}
+use Rattle.std.proofs.Common.{◌≡◌, ℕ, ◌^◌, ◌<◌, Bool, true, false, ◌||◌, ◌==◌, not, List, [], length, refl, sym, ap, subst, ◌∙◌, arith}
 use Rattle.std.specs.Prelude.{All, IfSome, option_map}
 use Rattle.std.specs.declared.option.Option.{Option}
 use Rattle.std.specs.declared.option.Option.TheVariants.{None, Some}
@@ -8,18 +8,17 @@ use Rattle.std.proofs.lemmas.Bool.{eq-eqb, eqb-true, lt-ltb, ltb-true}
 use Rattle.std.proofs.lemmas.List.{nil_from_length}
 use Rattle.std.proofs.lemmas.List.Elements.{All-nil, All-weaker}
 use Rattle.cj_model.specs.declared.value.Value.{Value}
-use Rattle.cj_model.specs.declared.schema.Column.{Column}
 use Rattle.cj_model.specs.declared.schema.Schema.{Schema}
 use Rattle.cj_model.specs.declared.database.Table.{Table}
 use Rattle.cj_model.specs.declared.database.Draft.{Draft}
 use Rattle.cj_model.specs.declared.database.Slot.{Slot}
-use Rattle.cj_model.specs.Database.Storable.{IsStorable, IsStorableSlot, IsStorableTable}
-use Rattle.cj_model.specs.Database.Tables.{IsTable, IsSlot, Rises, by_table, fits_columns, name_cmp, table_of}
+use Rattle.cj_model.specs.Database.Storable.{IsStorableSlot, IsStorableTable}
+use Rattle.cj_model.specs.Database.Tables.{IsTable, IsSlot, by_table, fits_columns, name_cmp, table_of}
 use Rattle.cj_model.specs.Sql.Literals.{IsConstant}
 use Rattle.cj_model.specs.Sql.Names.{is_name}
 use Rattle.cj_model.proofs.DatabaseLaws.{by_table_total}
 use Rattle.cj_codec.proofs.Held.{fields_hold}
-use Rattle.cj_dump.specs.DumpLayout.{last_of, rises_above, flag, flag_byte, schema, rows, draft, slot, covered, covers, slots, dump}
+use Rattle.cj_dump.specs.DumpLayout.{last_of, rises_above, flag, rows, draft, slot, covered, covers, slots, dump}
 use Rattle.cj_dump.specs.Dumps.{HasSmallTransaction, IsDump}
 use Rattle.cj_dump.specs.declared.dump.Dump.{Dump}
 use Rattle.cj_dump.proofs.ColumnLaws.{IsSchema, schema_to, schema_from}
@@ -29,18 +28,21 @@ use Rattle.cj_dump.proofs.Rising.{above, all_rise, each_rises, split, merge}
 -- ---- tables
 
 table_is : (s : Schema) (rs : List (List Value)) → IsSchema s → AreRows s rs → IsTable (record { schema = s; rows = rs }) × IsStorableTable (record { schema = s; rows = rs })
-table_is s rs is are = (record {
-  few = is.few;
-  distinct = is.distinct;
-  key = is.key;
-  kinds = All-weaker (λ r. (fits_columns s.columns r ≡ true) × All IsConstant r) (λ r. fits_columns s.columns r ≡ true) (λ r t. t.0) rs are.each;
-  rises = are.rises;
-  room = are.room;
-}, record {
-  table = is.table;
-  columns = is.columns;
-  values = All-weaker (λ r. (fits_columns s.columns r ≡ true) × All IsConstant r) (λ r. All IsConstant r) (λ r t. t.1) rs are.each;
-})
+table_is s rs is are = (
+  record {
+    few = is.few;
+    distinct = is.distinct;
+    key = is.key;
+    kinds = All-weaker (λ r. (fits_columns s.columns r ≡ true) × All IsConstant r) (λ r. fits_columns s.columns r ≡ true) (λ r t. t.0) rs are.each;
+    rises = are.rises;
+    room = are.room;
+  },
+  record {
+    table = is.table;
+    columns = is.columns;
+    values = All-weaker (λ r. (fits_columns s.columns r ≡ true) × All IsConstant r) (λ r. All IsConstant r) (λ r t. t.1) rs are.each;
+  },
+)
 
 schema_is : (t : Table) → IsTable t → IsStorableTable t → IsSchema t.schema
 schema_is t is storable = record { table = storable.table; columns = storable.columns; few = is.few; distinct = is.distinct; key = is.key }
@@ -91,14 +93,16 @@ of_draft : (t : Slot) (P : Draft → Type 0) (d : Draft) → t.draft ≡ Some d 
 of_draft t P d e h = subst (λ (p : Option Draft). IfSome p P) e h
 
 slot_made : (t : Slot) → IsTable t.base → IsStorableTable t.base → (o : Option Draft) → t.draft ≡ o → IsDraft t.base.schema o → HoldsSlot t
-slot_made t is storable None e h =
-    (record { base = is; draft = for_draft t (λ d. (0 < d.tx) × IsTable d.table × (d.table.schema ≡ t.base.schema)) None e tt },
-     record { base = storable; draft = for_draft t (λ d. IsStorableTable d.table) None e tt },
-     for_draft t (λ d. d.tx < 2 ^ 64) None e tt)
-slot_made t is storable (Some d) e h =
-    (record { base = is; draft = for_draft t (λ d. (0 < d.tx) × IsTable d.table × (d.table.schema ≡ t.base.schema)) (Some d) e (h.0, h.1, h.2) },
-     record { base = storable; draft = for_draft t (λ d. IsStorableTable d.table) (Some d) e h.3 },
-     for_draft t (λ d. d.tx < 2 ^ 64) (Some d) e h.4)
+slot_made t is storable None e h = (
+  record { base = is; draft = for_draft t (λ d. (0 < d.tx) × IsTable d.table × (d.table.schema ≡ t.base.schema)) None e tt },
+  record { base = storable; draft = for_draft t (λ d. IsStorableTable d.table) None e tt },
+  for_draft t (λ d. d.tx < 2 ^ 64) None e tt,
+)
+slot_made t is storable (Some d) e h = (
+  record { base = is; draft = for_draft t (λ d. (0 < d.tx) × IsTable d.table × (d.table.schema ≡ t.base.schema)) (Some d) e (h.0, h.1, h.2) },
+  record { base = storable; draft = for_draft t (λ d. IsStorableTable d.table) (Some d) e h.3 },
+  for_draft t (λ d. d.tx < 2 ^ 64) (Some d) e h.4,
+)
 
 slot_to : (before : List Slot) (t : Slot) → All HoldsSlot before → (slot before).fits t → HoldsSlot t × (above by_table (last_of before) t ≡ true)
 slot_to before t seen fits =
@@ -114,9 +118,10 @@ draft_held t h (Some d) e =
 
 slot_from : (before : List Slot) (t : Slot) → All HoldsSlot before → HoldsSlot t → above by_table (last_of before) t ≡ true → (slot before).fits t
 slot_from before t seen is rises =
-    let s = schema_is t.base is.0.base is.1.base in
-    (schema_from (option_map table_of (last_of before)) t.base.schema s (same_above (last_of before) t ∙ rises),
-     ((rows_from t.base.schema s.key t.base.rows (rows_are t.base is.0.base is.1.base), (draft_from t.base.schema t.draft (draft_held t is t.draft refl), refl)), refl))
+    let s = schema_is t.base is.0.base is.1.base in (
+      schema_from (option_map table_of (last_of before)) t.base.schema s (same_above (last_of before) t ∙ rises),
+      ((rows_from t.base.schema s.key t.base.rows (rows_are t.base is.0.base is.1.base), (draft_from t.base.schema t.draft (draft_held t is t.draft refl), refl)), refl),
+    )
 
 -- ---- names covered
 

@@ -1,5 +1,5 @@
 -- Rows that fit their layout: constants of the columns' kinds, in rising key.
-use Rattle.std.proofs.Common.{◌≡◌, ℕ, ◌+◌, ◌-◌, ◌^◌, ◌≤◌, ◌<◌, zero, suc, pos, Bool, true, false, ◌||◌, ◌&&◌, ◌==◌, not, List, [], ◌∷◌, ◌++◌, length, refl, sym, ap, ◌∙◌, arith, nat_le, length-append, append_assoc}
+use Rattle.std.proofs.Common.{◌≡◌, ℕ, ◌+◌, ◌^◌, ◌≤◌, ◌<◌, zero, suc, pos, Bool, true, false, ◌||◌, ◌==◌, not, List, [], ◌∷◌, ◌++◌, length, refl, sym, ap, ◌∙◌, arith, length-append, append_assoc}
 use Rattle.std.specs.Prelude.{All, slice_get}
 use Rattle.std.specs.declared.option.Option.{Option}
 use Rattle.std.specs.declared.option.Option.TheVariants.{None, Some}
@@ -66,10 +66,11 @@ values_from s last seen (c ∷ rest) before [] e f kinds all rises = tt
 values_from s last seen (c ∷ rest) before (v ∷ vs) e f kinds all rises =
     let two = and_parts (same_kind c.kind (kind_of v)) (fits_columns rest vs) kinds in
     let is : is_of_column s.columns (length before) v ≡ true = ap (λ (o : Option Column). option_map_or (λ (d : Column). same_kind d.kind (kind_of v)) o false) (column_there s.columns seen rest c (length before) e f) ∙ two.0 in
-    let here : (not (length before == s.key) || key_rises last v) ≡ true = implies (length before == s.key) (length before == s.key) (key_rises last v) refl (λ same. rises 0 (omega (arith, eqb-true (length before) s.key same)) (omega arith)) in
-    (((((fields_hold.of_value v).1 (All-head IsConstant v vs all)), is), here),
-     values_from s last (seen ++ c ∷ []) rest (before ++ v ∷ []) vs (e ∙ sym (append_assoc seen (c ∷ []) rest)) (omega (arith, f, length-append before (v ∷ []), length-append seen (c ∷ []))) two.1 (All-tail IsConstant v vs all)
-     (λ i at lt. rises (suc i) (omega (arith, at, length-append before (v ∷ []))) (omega (arith, lt))))
+    let here : (not (length before == s.key) || key_rises last v) ≡ true = implies (length before == s.key) (length before == s.key) (key_rises last v) refl (λ same. rises 0 (omega (arith, eqb-true (length before) s.key same)) (omega arith)) in (
+      ((((fields_hold.of_value v).1 (All-head IsConstant v vs all)), is), here),
+      values_from s last (seen ++ c ∷ []) rest (before ++ v ∷ []) vs (e ∙ sym (append_assoc seen (c ∷ []) rest)) (omega (arith, f, length-append before (v ∷ []), length-append seen (c ∷ []))) two.1 (All-tail IsConstant v vs all)
+          (λ i at lt. rises (suc i) (omega (arith, at, length-append before (v ∷ []))) (omega (arith, lt))),
+    )
 
 fits_length : (cs : List Column) (vs : List Value) → fits_columns cs vs ≡ true → length vs ≡ length cs
 fits_length [] [] e = refl
@@ -97,9 +98,10 @@ row_to s key before r seen fits =
 
 row_from : (s : Schema) → s.key < length s.columns → (before : List (List Value)) (r : List Value) → All (IsRow s) before → IsRow s r → above (by_key s.key) (last_of before) r ≡ true → (row s before).fits r
 row_from s key before r seen is rises =
-    let top : key_rises (last_key s.key before) (cell r s.key) ≡ true = key_same s key before (cell r s.key) (last_of before) refl seen ∙ rises in
-    (fits_length s.columns r is.0,
-     values_from s (last_key s.key before) [] s.columns [] r refl refl is.0 is.1 (λ i at lt. ap (λ (k : ℕ). key_rises (last_key s.key before) (cell r k)) (omega (arith, at)) ∙ top))
+    let top : key_rises (last_key s.key before) (cell r s.key) ≡ true = key_same s key before (cell r s.key) (last_of before) refl seen ∙ rises in (
+      fits_length s.columns r is.0,
+      values_from s (last_key s.key before) [] s.columns [] r refl refl is.0 is.1 (λ i at lt. ap (λ (k : ℕ). key_rises (last_key s.key before) (cell r k)) (omega (arith, at)) ∙ top),
+    )
 
 -- what holds of rows that a dump has
 pub record AreRows (s : Schema) (rs : List (List Value)) : Type 0 where

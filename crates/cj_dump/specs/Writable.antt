@@ -1,5 +1,5 @@
 -- What can be written: lengths fit their fields.
-use Rattle.std.specs.Prelude.{◌≤◌, length, List, All}
+use Rattle.std.specs.Prelude.{◌≤◌, length, All}
 use Rattle.std.specs.declared.option.Option.{Option}
 use Rattle.std.specs.declared.option.Option.TheVariants.{None, Some}
 use Rattle.cj_model.specs.declared.limits.TheConstants.{COLUMN_LIMIT}

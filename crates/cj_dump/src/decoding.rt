@@ -46,11 +46,7 @@ fn table_set(alloc: Global, names: &[Name]) -> Result<TableSet, NoMemory>
 }
 
 /// Takes the names covered, in rising order.
-fn take_covers(
-    all: bool,
-    reader: &mut Reader<'_>,
-    alloc: Global,
-) -> Result<TableSet, DumpError>
+fn take_covers(all: bool, reader: &mut Reader<'_>, alloc: Global) -> Result<TableSet, DumpError>
     ensures { Finds (layouts.covers all) reader.old reader.new result }
 {
     let count = take_covers_count(all, reader)?;

@@ -109,11 +109,7 @@ impl<'a> Part for RowPart<'a> {
 }
 
 /// Takes rows of a schema, in rising key.
-pub fn take_rows(
-    schema: &Schema,
-    reader: &mut Reader<'_>,
-    alloc: Global,
-) -> Result<Rows, DumpError>
+pub fn take_rows(schema: &Schema, reader: &mut Reader<'_>, alloc: Global) -> Result<Rows, DumpError>
     ensures { Finds (layouts.rows schema.now) reader.old reader.new result }
 {
     let count = take_row_count(reader)?;
