@@ -5,7 +5,7 @@ use Rattle.std.specs.declared.option.Option.TheVariants.{None, Some}
 use Rattle.std.specs.declared.result.Result.{Result}
 use Rattle.std.specs.declared.result.Result.TheVariants.{Ok, Err}
 use Rattle.std.specs.declared.cmp.Ordering.{Ordering}
-use Rattle.std.specs.List.{list_all, flat_map, position_or_len, range_with_len}
+use Rattle.std.specs.List.{list_all, list_any, flat_map, position_or_len, range_with_len}
 use Rattle.std.specs.Str.{bytes_eq}
 use Rattle.cj_model.specs.declared.placement.Level.{Level}
 use Rattle.cj_model.specs.declared.placement.Level.TheVariants.{Raidb0, Raidb1, Raidb2}
@@ -71,3 +71,11 @@ abbrev pub last_host : Layout → ℕ → ℕ → Option (List ℕ)
 last_host l b enabled =
     if l.full then (if is_last_host (placement_of l) b enabled [] then Some [] else None)
     else find (is_last_host (placement_of l) b enabled) (map (λ (row : PlaceRow). row.table) l.rows)
+
+-- backend b hosts the table, which is none of these
+abbrev pub is_outside : Placement → ℕ → List (List ℕ) → List ℕ → Bool
+is_outside p b tables table = hosts p b table && not (list_any (λ t. bytes_eq t table) tables)
+
+-- the first table of the rows that backend b hosts and that is none of these
+abbrev pub first_outside : Layout → ℕ → List (List ℕ) → Option (List ℕ)
+first_outside l b tables = find (is_outside (placement_of l) b tables) (map (λ (row : PlaceRow). row.table) l.rows)

@@ -219,6 +219,34 @@ impl Placement {
         }
         self.last_of(b, enabled, self.rows.as_slice())
     }
+
+    fn is_outside(&self, b: u8, set: &TableSet, table: &Name) -> bool
+        requires { b < length self.now.names }
+        ensures { result ≡ layouts.is_outside (placement_of self.now) b set.now table.now }
+    {
+        self.is_host(b, table) && !set.contains(table)
+    }
+
+    fn outside_of<'a>(&self, b: u8, set: &TableSet, rows: &'a [HostRow]) -> Option<&'a Name>
+        requires { b < length self.now.names }
+        ensures { option_copied result ≡ find (layouts.is_outside (placement_of self.now) b set.now) (map (λ row. row.given.table) rows.now) }
+    {
+        for row in rows {
+            if self.is_outside(b, set, &row.given.table) {
+                return Some(&row.given.table);
+            }
+        }
+        None
+    }
+
+    /// The first table of the rows, in the order of names, that the backend hosts and that isn't in
+    /// the set.
+    pub fn first_outside(&self, b: u8, set: &TableSet) -> Option<&Name>
+        requires { b < length self.now.names }
+        ensures { option_copied result ≡ layouts.first_outside self.now b set.now }
+    {
+        self.outside_of(b, set, self.rows.as_slice())
+    }
 }
 
 impl Duplicate for Placement {

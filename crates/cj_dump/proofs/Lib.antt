@@ -1,0 +1,10 @@
+pub mod Listed
+pub mod LayoutLaws
+pub mod DumpLaws
+pub mod Rising
+pub mod Covers
+pub mod ColumnLaws
+pub mod RowLaws
+pub mod Dumped
+pub mod Decoded
+pub mod Writable

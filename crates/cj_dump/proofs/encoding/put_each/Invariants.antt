@@ -1,0 +1,7 @@
+use Rattle.std.proofs.Common.{◌≡◌, ◌++◌, take}
+use Rattle.std.specs.List.{flat_map}
+use Rattle.cj_model.specs.Wire.Fields.{str16}
+use Rattle.cj_dump.proofs.encoding.put_each.Given as goal
+
+abbrev pub invariant-loop-name : goal.invariant-loop-name
+invariant-loop-name l = l.out.items ≡ l.initial.out.items ++ flat_map str16 (take l.name-index l.names)

@@ -1,0 +1,15 @@
+-- Which tables of a backend a dump covers, and what of it the backend takes.
+use Rattle.std.specs.Prelude.{ℕ, List, [], if◌then◌else◌}
+use Rattle.std.specs.declared.option.Option.{Option}
+use Rattle.std.specs.declared.option.Option.TheVariants.{None, Some}
+use Rattle.cj_model.specs.Cluster.Placements.{part}
+use Rattle.cj_place.specs.Layouts.{Layout, placement_of, first_outside}
+use Rattle.cj_dump.specs.declared.dump.Dump.{Dump}
+
+-- the first table that the placement names for backend b and that the dump doesn't cover; where b hosts every table and the dump doesn't, the empty name
+abbrev pub lacks : Dump → Layout → ℕ → Option (List ℕ)
+lacks d l b = if d.all then None else if l.full then Some [] else first_outside l b d.covers
+
+-- the dump with the tables that backend b hosts
+abbrev pub cut : Dump → Layout → ℕ → Dump
+cut d l b = record { position = d.position; source = d.source; name = d.name; all = d.all; covers = d.covers; db = part (placement_of l) b d.db }

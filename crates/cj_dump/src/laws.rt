@@ -1,0 +1,13 @@
+//! Laws of dumps, each the contract of a function that does nothing.
+
+ghost use Rattle.cj_dump.specs.Dumps.{BytesHaveOneReading, WrittenReadsBack};
+
+/// What is written of a dump is read as this dump.
+pub fn written_reads_back()
+    ensures { WrittenReadsBack }
+{}
+
+/// Bytes are those of one dump, or stop at one offset for one reason, and never both.
+pub fn bytes_have_one_reading()
+    ensures { BytesHaveOneReading }
+{}

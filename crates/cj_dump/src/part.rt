@@ -1,0 +1,43 @@
+//! Parts of a dump that stand there several times.
+
+ghost use Rattle.cj_dump.specs.Layouts.{Finds, Layout, listed};
+ghost use Rattle.std.specs.Prelude.{List};
+
+use crate::error::DumpError;
+use cj_codec::Reader;
+use cj_model::ListOf;
+use std::alloc::Global;
+
+/// A part of a dump that stands there several times, one after another. What may stand next goes by
+/// those before it.
+pub trait Part {
+    type Item: Drop;
+
+    ghost layout: { Self → List Self.Item → Layout Self.Item };
+
+    /// Takes the next one off the reader, which is of no more use after an error.
+    fn take(
+        &self,
+        before: &[Self::Item],
+        reader: &mut Reader<'_>,
+        alloc: Global,
+    ) -> Result<Self::Item, DumpError>
+        ensures { Finds (layout self.now before.now) reader.old reader.new result };
+}
+
+/// Takes so many of them.
+pub fn take_parts<P: Part>(
+    part: &P,
+    count: u64,
+    reader: &mut Reader<'_>,
+    alloc: Global,
+) -> Result<ListOf<P::Item>, DumpError>
+    ensures { Finds (listed (P.layout part.now) count) reader.old reader.new result }
+{
+    let mut items = ListOf::new(alloc);
+    for _ in 0..count {
+        let item = part.take(items.as_slice(), reader, alloc)?;
+        items.push(item)?;
+    }
+    Ok(items)
+}

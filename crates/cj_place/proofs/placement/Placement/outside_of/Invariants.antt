@@ -1,0 +1,10 @@
+use Rattle.std.proofs.Common.{◌≡◌, drop, map}
+use Rattle.std.specs.Prelude.{find}
+use Rattle.cj_place.specs.declared.rows.HostRow.{HostRow}
+use Rattle.cj_place.specs.Layouts.{is_outside, placement_of}
+use Rattle.cj_place.proofs.placement.Placement.outside_of.Given as goal
+
+abbrev pub invariant-loop-row : goal.invariant-loop-row
+invariant-loop-row l =
+    find (is_outside (placement_of l.self) l.b l.set) (map (λ (row : HostRow). row.given.table) (drop l.row-index l.rows))
+    ≡ find (is_outside (placement_of l.self) l.b l.set) (map (λ (row : HostRow). row.given.table) l.rows)
