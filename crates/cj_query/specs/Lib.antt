@@ -9,3 +9,5 @@ pub mod Paths
 pub mod Counted
 pub mod Joined
 pub mod Cursors
+pub mod Ranked
+pub mod Kept

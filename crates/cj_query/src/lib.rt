@@ -11,7 +11,9 @@ mod order;
 mod paths;
 mod project;
 mod projection;
+mod ranked;
 mod rows;
 mod single;
+mod top;
 
 pub use ask::select;

@@ -5,8 +5,10 @@ ghost use Rattle.cj_query.specs.Seen.{answer_from};
 
 use crate::answer::{answer_counts, answer_each, answer_rows};
 use crate::cursor::Cursor;
-use crate::paths::{counts_all, follows_rows, pinned, reverses_rows};
+use crate::order::sort_keys;
+use crate::paths::{counts_all, follows_rows, pinned, ranking_of, reverses_rows};
 use crate::rows::{first_matching, matching, matching_row};
+use crate::top::first_matching_ranked;
 use cj_expr::{Predicate, Scope};
 use cj_model::{Asked, NoMemory, Row, Select};
 use cj_table::View;
@@ -24,6 +26,29 @@ fn answer_found(
 {
     let rows = matching_row(alloc, row, cond)?;
     answer_rows(alloc, scope, select, rows)
+}
+
+/// The answer from all rows that meet the condition, of which no more are kept than are needed.
+fn answer_all(
+    alloc: Global,
+    scope: &Scope,
+    select: &Select,
+    view: &View,
+    cond: &Option<Predicate>,
+) -> Result<Asked, NoMemory>
+    ensures { IfOk result (λ asked. asked ≡ answer_from scope.now select.now cond.now view.now.rows) }
+{
+    let keys = sort_keys(alloc, select.order.as_slice(), scope)?;
+    match ranking_of(select, &keys) {
+        Some(ranking) => {
+            let rows = first_matching_ranked(alloc, view.scan(), cond, &ranking)?;
+            answer_each(alloc, scope, select, &rows)
+        }
+        None => {
+            let rows = matching(alloc, view.scan(), cond)?;
+            answer_rows(alloc, scope, select, rows)
+        }
+    }
 }
 
 /// The answer from the rows that meet the condition, of which as few are looked at as are needed.
@@ -48,8 +73,7 @@ fn answer_scanned(
         let rows = first_matching(alloc, rows, cond, select.limit)?;
         return answer_each(alloc, scope, select, &rows);
     }
-    let rows = matching(alloc, view.scan(), cond)?;
-    answer_rows(alloc, scope, select, rows)
+    answer_all(alloc, scope, select, view, cond)
 }
 
 /// The answer from one table.
