@@ -4,7 +4,6 @@
 mod answer;
 mod ask;
 mod checks;
-mod cursor;
 mod groups;
 mod joins;
 mod order;

@@ -1,17 +1,14 @@
 //! The first rows in the order of keys: of many rows, not many more are kept than are wanted.
 
-ghost use Rattle.std.specs.Prelude.{◌≡◌, ◌≤◌, true, [], ◌∷◌, ◌++◌, None, Some, filter, length, map, option_map, IfOk, OnOk};
+ghost use Rattle.std.specs.Prelude.{◌≡◌, ◌≤◌, true, [], ◌∷◌, ◌++◌, None, Some, length, map, option_map, IfOk, OnOk};
 ghost use Rattle.std.specs.Map.Iter.{deref};
-ghost use Rattle.cj_model.specs.Database.Evaluation as evaluation;
 ghost use Rattle.cj_model.specs.Database.Order.{at_most, sorted_by, sorts_before};
 ghost use Rattle.cj_query.specs.Kept as kept_rows;
 ghost use Rattle.cj_query.specs.Ranked as ranks;
 
 use crate::ranked::{Ranked, Ranking, compare_ranked, sort_ranked};
-use crate::rows::satisfies;
-use cj_expr::Predicate;
 use cj_model::{NoMemory, Row};
-use cj_table::Scan;
+use cj_search::Matching;
 use std::alloc::Global;
 
 /// The rows that may be among the wanted ones.
@@ -100,23 +97,6 @@ impl<'a> Kept<'a> {
         self.rows.push(row)?;
         self.cut_crowd(ranking)
     }
-
-    /// One more row, where it meets the condition.
-    fn add_if(
-        &mut self,
-        row: &'a Row,
-        cond: &Option<Predicate>,
-        ranking: &Ranking,
-    ) -> Result<(), NoMemory>
-        requires { kept_rows.IsBarred ranking.now self.old }
-        ensures stands { OnOk result (kept_rows.StandsFor ranking.now self.new (kept_rows.rows_kept self.old ++ map (ranks.ranked_by ranking.now) (filter (evaluation.satisfies cond.now) (row.now ∷ [])))) }
-        ensures barred { OnOk result (kept_rows.IsBarred ranking.now self.new) }
-    {
-        if satisfies(cond, row) {
-            return self.add(Ranked::of(row, ranking), ranking);
-        }
-        Ok(())
-    }
 }
 
 fn rows_of<'a>(alloc: Global, ranked: &[Ranked<'a>]) -> Result<Vec<&'a Row>, NoMemory>
@@ -138,18 +118,17 @@ fn finished<'a>(alloc: Global, kept: Kept<'a>, ranking: &Ranking) -> Result<Vec<
     rows_of(alloc, &rows)
 }
 
-/// The first of the rows that meet the condition, in the order of the keys.
+/// The first of the rows that are found, in the order of the keys.
 pub fn first_matching_ranked<'a>(
     alloc: Global,
-    rows: Scan<'a>,
-    cond: &Option<Predicate>,
+    rows: Matching<'_, 'a>,
     ranking: &Ranking,
 ) -> Result<Vec<&'a Row>, NoMemory>
-    ensures { IfOk result (λ out. map deref out.items ≡ at_most ranking.now.limit (sorted_by (sorts_before (ranks.keys_of ranking.now)) (filter (evaluation.satisfies cond.now) rows.entry))) }
+    ensures { IfOk result (λ out. map deref out.items ≡ at_most ranking.now.limit (sorted_by (sorts_before (ranks.keys_of ranking.now)) rows.entry)) }
 {
     let mut kept = Kept::new(alloc);
     for row in rows {
-        kept.add_if(row, cond, ranking)?;
+        kept.add(Ranked::of(row, ranking), ranking)?;
     }
     finished(alloc, kept, ranking)
 }

@@ -18,7 +18,7 @@ returns-in-Some c =
     let ranking = c.in-Some.ranking in
     let found : map deref c.deref-in-Some.result.now ≡ at_most s.limit (sorted_by (sorts_before (map (sort_key_of scope) s.order)) rows)
     = ap (map deref) c.deref-in-Some.ensures.value ∙ c.in_ok-rows-in-Some.ensures
-    ∙ ap (λ rs. at_most ranking.limit (sorted_by (sorts_before (keys_of ranking)) (filter p rs))) c.scan.ensures
+    ∙ ap (λ rs. at_most ranking.limit (sorted_by (sorts_before (keys_of ranking)) rs)) c.of.ensures
     ∙ ap (λ l. at_most l (sorted_by (sorts_before (keys_of ranking)) rows)) c.in-Some.ensures.limit
     ∙ ap (λ ks. at_most s.limit (sorted_by (sorts_before ks) rows)) (c.in-Some.ensures.keys ∙ c.deref.ensures.value ∙ c.in_ok-keys.ensures ∙ ap (map (sort_key_of scope)) c.as_slice.ensures) in
     subst (λ (gs : List (List (List Value))). IfOk c.answer_each.result (λ asked. asked ≡ asked_by (answer_of scope s gs)))

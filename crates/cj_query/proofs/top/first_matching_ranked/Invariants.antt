@@ -1,12 +1,10 @@
 use Rattle.std.proofs.Common.{◌≡◌, ◌++◌, map}
-use Rattle.std.specs.Prelude.{filter}
-use Rattle.cj_model.specs.Database.Evaluation.{satisfies}
 use Rattle.cj_query.specs.Kept.{IsBarred, rows_kept}
 use Rattle.cj_query.specs.Ranked.{ranked_by, wanted}
 use Rattle.cj_query.proofs.top.first_matching_ranked.Given as goal
 
 abbrev pub invariant-loop-row : goal.invariant-loop-row
 invariant-loop-row l = record {
-  same : wanted l.ranking (rows_kept l.kept ++ map (ranked_by l.ranking) (filter (satisfies l.cond) l.row-iterator)) ≡ wanted l.ranking (map (ranked_by l.ranking) (filter (satisfies l.cond) l.fn.rows));
+  same : wanted l.ranking (rows_kept l.kept ++ map (ranked_by l.ranking) l.row-iterator) ≡ wanted l.ranking (map (ranked_by l.ranking) l.fn.rows);
   barred : IsBarred l.ranking l.kept;
 }
