@@ -1,3 +1,4 @@
 mod PinLaws
 mod PlaceLaws
 mod WalkLaws
+pub mod ReachLaws

@@ -1,3 +1,4 @@
 pub mod Pinned
 pub mod Results
 pub mod Shapes
+pub mod Reaches

@@ -7,6 +7,7 @@ mod formula;
 mod operand;
 mod parts;
 mod predicate;
+mod reach;
 mod scope;
 
 pub use binding::{BindError, bind, bind_expr, formula_of, predicate_of};
@@ -14,4 +15,5 @@ pub use checks::same_kind;
 pub use formula::{Formula, ValueError, narrowed};
 pub use operand::Operand;
 pub use predicate::Predicate;
+pub use reach::Reach;
 pub use scope::Scope;

@@ -10,6 +10,7 @@ ghost use Rattle.cj_rows.specs.Lookups.{row_with_key, IsKeyOf};
 use cj_expr::{Predicate, Scope, predicate_of};
 use cj_model::{Cond, NoMemory, Row, Value};
 use cj_rows::View;
+use cj_search::{Matching, satisfies};
 use std::alloc::Global;
 
 /// Whether a condition names a column that is not there.
@@ -49,16 +50,7 @@ pub fn bound(
     }
 }
 
-fn satisfies(condition: &Option<Predicate>, row: &Row) -> bool
-    ensures { result ≡ evaluation.satisfies condition.now row.now }
-{
-    match condition {
-        None => true,
-        Some(predicate) => predicate.holds(row.as_slice()),
-    }
-}
-
-/// The rows that meet the condition among all rows.
+/// The rows that meet the condition, by a walk over those that may.
 fn scanned<'a>(
     alloc: Global,
     view: &View<'a>,
@@ -67,10 +59,8 @@ fn scanned<'a>(
     ensures { IfOk result (λ rows. map deref rows.items ≡ filter (evaluation.satisfies condition.now) view.now.rows) }
 {
     let mut rows = Vec::new(alloc);
-    for row in view.scan() {
-        if satisfies(condition, row) {
-            rows.push(row)?;
-        }
+    for row in Matching::of(view, condition) {
+        rows.push(row)?;
     }
     Ok(rows)
 }
@@ -104,7 +94,7 @@ fn pinned_key<'a>(condition: &'a Option<Predicate>, place: usize) -> Option<&'a 
 }
 
 /// The rows that meet the condition, in rising key: where this says what the key is, one look-up
-/// finds them, else a scan.
+/// finds them, else a walk that leaves out the keys which the condition excludes.
 pub fn matching<'a>(
     alloc: Global,
     view: &View<'a>,

@@ -14,3 +14,5 @@ pub mod AskLaws
 pub mod PathLaws
 pub mod CountLaws
 pub mod LimitLaws
+pub mod TopLaws
+pub mod RankLaws

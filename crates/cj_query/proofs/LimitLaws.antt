@@ -8,10 +8,10 @@ use Rattle.std.proofs.lemmas.List.{append-nil, length-take-le, take-append-le, t
 use Rattle.cj_model.specs.Database.Order.{at_most}
 use Rattle.cj_query.specs.Paths.{is_enough}
 
-not_le : (m n : ℕ) → nat_le m n ≡ false → n < m
+pub not_le : (m n : ℕ) → nat_le m n ≡ false → n < m
 not_le m n h = grind arith
 
-is_le : (m n : ℕ) → nat_le m n ≡ true → m ≤ n
+pub is_le : (m n : ℕ) → nat_le m n ≡ true → m ≤ n
 is_le m n h = grind arith
 
 -- fewer than are wanted

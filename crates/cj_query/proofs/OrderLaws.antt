@@ -43,7 +43,7 @@ module _ {X : Type 0} (lt : X → X → Bool) (o : IsStrictWeakOrder lt) where
   tie_from : (x y : X) → lt x y ≡ false → lt y x ≡ false → ties lt x y ≡ true
   tie_from x y p q = and_from _ _ (not_from_false _ p) (not_from_false _ q)
 
-  not_before_itself : (x : X) → lt x x ≡ false
+  pub not_before_itself : (x : X) → lt x x ≡ false
   not_before_itself x = ⊎_elim (λ (t : lt x x ≡ true). o.one_way x x t) (λ (f : lt x x ≡ false). f) (cases_Bool (lt x x))
 
   -- where something in zs ties with y, and nothing in it is before z, y is not before z
@@ -80,14 +80,14 @@ module _ {X : Type 0} (lt : X → X → Bool) (o : IsStrictWeakOrder lt) where
       (λ (f : lt y a ≡ false). ap (filter (ties lt x)) (cond-false _ _ _ f))
       (cases_Bool (lt y a))
 
-  none_before_put : (b a : X) (ys : List X) → lt a b ≡ false → NoneBefore lt b ys → NoneBefore lt b (insert_before lt a ys)
+  pub none_before_put : (b a : X) (ys : List X) → lt a b ≡ false → NoneBefore lt b ys → NoneBefore lt b (insert_before lt a ys)
   none_before_put b a [] h n = (h, n)
   none_before_put b a (y ∷ ys) h n =
       ⊎_elim (λ (t : lt y a ≡ true). subst (NoneBefore lt b) (sym (cond-true _ _ _ t)) (n.0, none_before_put b a ys h n.1))
       (λ (f : lt y a ≡ false). subst (NoneBefore lt b) (sym (cond-false _ _ _ f)) (h, n))
       (cases_Bool (lt y a))
 
-  none_chain : (a y : X) (ys : List X) → lt y a ≡ false → NoneBefore lt y ys → NoneBefore lt a ys
+  pub none_chain : (a y : X) (ys : List X) → lt y a ≡ false → NoneBefore lt y ys → NoneBefore lt a ys
   none_chain a y [] h n = n
   none_chain a y (w ∷ ws) h n = (o.chain w y a n.0 h, none_chain a y ws h n.1)
 

@@ -23,7 +23,7 @@ use Rattle.cj_query.specs.Paths.{PinsTo, answers_each, falls_by, follows_rows, i
 use Rattle.cj_query.proofs.KeyLaws.{by_sort_keys_total, always_in_order}
 use Rattle.cj_query.proofs.LimitLaws.{cut_twice}
 use Rattle.cj_query.proofs.MapLaws.{cut-map}
-use Rattle.cj_query.proofs.OrderLaws.{IsInOrder, NoneBefore, ordered_same}
+use Rattle.cj_query.proofs.OrderLaws.{IsInOrder, NoneBefore, ordered-map, ordered_same}
 use Rattle.cj_query.proofs.ReverseLaws.{IsFalling, map-reverse, ordered_falling}
 
 -- ---- a look-up
@@ -106,6 +106,13 @@ groups_alone scope s n rows h r =
     ap (λ gs. at_most s.limit (sorted_by (earlier scope s.order) gs)) (each_alone scope s rows parts.0)
     ∙ ap (at_most s.limit) (ordered_alone scope n s.order rows parts.1 r)
     ∙ sym (cut-map (λ r. r ∷ []) s.limit rows)
+
+-- each row is answered by itself, in the order of the keys
+pub groups_ranked : (scope : Scope) (s : Select) (rows : List (List Value)) → answers_each s ≡ true → groups_answered scope s rows ≡ map (λ r. r ∷ []) (at_most s.limit (sorted_by (sorts_before (map (sort_key_of scope) s.order)) rows))
+groups_ranked scope s rows h =
+    ap (λ gs. at_most s.limit (sorted_by (earlier scope s.order) gs)) (each_alone scope s rows h)
+    ∙ ap (at_most s.limit) (sym (ordered-map (λ r. r ∷ []) (earlier scope s.order) rows))
+    ∙ sym (cut-map (λ r. r ∷ []) s.limit (sorted_by (sorts_before (map (sort_key_of scope) s.order)) rows))
 
 -- ---- no keys
 

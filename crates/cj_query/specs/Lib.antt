@@ -8,4 +8,5 @@ pub mod Even
 pub mod Paths
 pub mod Counted
 pub mod Joined
-pub mod Cursors
+pub mod Ranked
+pub mod Kept

@@ -13,6 +13,9 @@ use Rattle.cj_model.specs.declared.select.Select.{Select}
 use Rattle.cj_model.specs.Database.Queries.{has_aggregate}
 use Rattle.cj_model.specs.Database.Scopes.{Scope, column_place}
 use Rattle.cj_model.specs.Database.Tables.{cell}
+use Rattle.cj_model.specs.Database.Order.{SortKey}
+use Rattle.cj_query.specs.declared.ranked.Ranking.{Ranking}
+use Rattle.cj_query.specs.Ranked.{keys_of}
 
 -- each row that passes the test has this value at the place
 pub record PinsTo (column_place : ℕ) (p : List Value → Bool) (v : Value) : Type 0 where
@@ -51,6 +54,12 @@ reverses_rows scope s n = answers_each s && falls_by scope n s.order
 -- how many rows are enough where each is answered by itself in the order of the rows, without any key
 abbrev pub joined_limit : Select → Option ℕ
 joined_limit s = if answers_each s && length s.order == 0 then s.limit else None
+
+-- each row is answered by itself, in the order of these keys
+pub record RanksBy (s : Select) (order : List SortKey) (ranking : Ranking) : Type 0 where
+  pub each : answers_each s ≡ true
+  pub keys : keys_of ranking ≡ order
+  pub limit : ranking.limit ≡ s.limit
 
 abbrev pub is_count : Item → Bool
 is_count (item.Col r) = false

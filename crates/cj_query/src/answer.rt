@@ -9,8 +9,10 @@ ghost use Rattle.cj_query.specs.Groups.{rows_in};
 
 use crate::checks::listed;
 use crate::groups::{arrange, gather, singles};
-use crate::order::{sort_groups, sort_keys};
+use crate::order::{SortKey, sort_groups, sort_keys};
+use crate::paths::ranking_of;
 use crate::project::{counts_row, names_of, project};
+use crate::top::first_ranked;
 use cj_expr::{Scope, ValueError};
 use cj_model::{Answer, Asked, NoMemory, OVERFLOW, Refusal, Row, Rows, Select};
 use std::alloc::Global;
@@ -43,23 +45,6 @@ fn answer_groups(
     }
 }
 
-/// The answer from the rows that meet the condition.
-pub fn answer_rows(
-    alloc: Global,
-    scope: &Scope,
-    select: &Select,
-    mut rows: Vec<&Row>,
-) -> Result<Asked, NoMemory>
-    ensures { IfOk result (λ asked. asked ≡ queries.asked_by (queries.answer_of scope.now select.now (queries.groups_answered scope.now select.now (map deref rows.entry.items)))) }
-{
-    arrange(scope, &select.group, &mut rows)?;
-    let mut groups = gather(alloc, scope, &select.items, &select.group, &rows)?;
-    let keys = sort_keys(alloc, select.order.as_slice(), scope)?;
-    sort_groups(&mut groups, &keys)?;
-    cut_groups(&mut groups, select.limit);
-    answer_groups(alloc, scope, select, &groups)
-}
-
 /// The answer with a row for each of these.
 pub fn answer_each(
     alloc: Global,
@@ -71,6 +56,43 @@ pub fn answer_each(
 {
     let groups = singles(alloc, rows)?;
     answer_groups(alloc, scope, select, &groups)
+}
+
+/// The answer from rows that are gathered into groups, in the order of keys.
+fn answer_gathered(
+    alloc: Global,
+    scope: &Scope,
+    select: &Select,
+    keys: &[SortKey],
+    mut rows: Vec<&Row>,
+) -> Result<Asked, NoMemory>
+    requires { keys.now ≡ map (queries.sort_key_of scope.now) select.now.order }
+    ensures { IfOk result (λ asked. asked ≡ queries.asked_by (queries.answer_of scope.now select.now (queries.groups_answered scope.now select.now (map deref rows.entry.items)))) }
+{
+    arrange(scope, &select.group, &mut rows)?;
+    let mut groups = gather(alloc, scope, &select.items, &select.group, &rows)?;
+    sort_groups(&mut groups, keys)?;
+    cut_groups(&mut groups, select.limit);
+    answer_groups(alloc, scope, select, &groups)
+}
+
+/// The answer from the rows that meet the condition.
+pub fn answer_rows(
+    alloc: Global,
+    scope: &Scope,
+    select: &Select,
+    rows: Vec<&Row>,
+) -> Result<Asked, NoMemory>
+    ensures { IfOk result (λ asked. asked ≡ queries.asked_by (queries.answer_of scope.now select.now (queries.groups_answered scope.now select.now (map deref rows.entry.items)))) }
+{
+    let keys = sort_keys(alloc, select.order.as_slice(), scope)?;
+    match ranking_of(select, &keys) {
+        Some(ranking) => {
+            let rows = first_ranked(alloc, &rows, &ranking)?;
+            answer_each(alloc, scope, select, &rows)
+        }
+        None => answer_gathered(alloc, scope, select, &keys, rows),
+    }
 }
 
 /// The rows of the answer to a query for nothing but the number of rows.

@@ -4,14 +4,15 @@
 mod answer;
 mod ask;
 mod checks;
-mod cursor;
 mod groups;
 mod joins;
 mod order;
 mod paths;
 mod project;
 mod projection;
+mod ranked;
 mod rows;
 mod single;
+mod top;
 
 pub use ask::select;

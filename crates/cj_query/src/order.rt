@@ -31,6 +31,21 @@ impl Model for SortKey {
     ghost view = { λ key. record { place = key.place; desc = key.desc } };
 }
 
+impl SortKey {
+    pub fn place(&self) -> usize
+        ensures { result ≡ self.now.place }
+    {
+        self.place
+    }
+
+    /// Whether rows fall by it.
+    pub fn falls(&self) -> bool
+        ensures { result ≡ self.now.desc }
+    {
+        self.desc
+    }
+}
+
 fn sort_key_of(key: &Key, scope: &Scope) -> SortKey
     ensures { result ≡ queries.sort_key_of scope.now key.now }
 {
@@ -74,7 +89,7 @@ fn compare_by(key: &SortKey, left: &[Value], right: &[Value]) -> Ordering
 }
 
 /// The order of two rows by the first key, then by the second, and so on.
-fn compare(keys: &[SortKey], left: &[Value], right: &[Value]) -> Ordering
+pub fn compare(keys: &[SortKey], left: &[Value], right: &[Value]) -> Ordering
     ensures { result ≡ by_sort_keys keys.now left.now right.now }
 {
     for key in keys {

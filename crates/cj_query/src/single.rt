@@ -4,11 +4,13 @@ ghost use Rattle.std.specs.Prelude.{◌≡◌, option_copied, option_to_list, If
 ghost use Rattle.cj_query.specs.Seen.{answer_from};
 
 use crate::answer::{answer_counts, answer_each, answer_rows};
-use crate::cursor::Cursor;
-use crate::paths::{counts_all, follows_rows, pinned, reverses_rows};
-use crate::rows::{first_matching, matching, matching_row};
+use crate::order::sort_keys;
+use crate::paths::{counts_all, follows_rows, pinned, ranking_of, reverses_rows};
+use crate::rows::{all_of, first_matching, first_of, matching_row};
+use crate::top::first_matching_ranked;
 use cj_expr::{Predicate, Scope};
 use cj_model::{Asked, NoMemory, Row, Select};
+use cj_search::Matching;
 use cj_table::View;
 use std::alloc::Global;
 
@@ -26,6 +28,29 @@ fn answer_found(
     answer_rows(alloc, scope, select, rows)
 }
 
+/// The answer from all rows that meet the condition, of which no more are kept than are needed.
+fn answer_all(
+    alloc: Global,
+    scope: &Scope,
+    select: &Select,
+    view: &View,
+    cond: &Option<Predicate>,
+) -> Result<Asked, NoMemory>
+    ensures { IfOk result (λ asked. asked ≡ answer_from scope.now select.now cond.now view.now.rows) }
+{
+    let keys = sort_keys(alloc, select.order.as_slice(), scope)?;
+    match ranking_of(select, &keys) {
+        Some(ranking) => {
+            let rows = first_matching_ranked(alloc, Matching::of(view, cond), &ranking)?;
+            answer_each(alloc, scope, select, &rows)
+        }
+        None => {
+            let rows = all_of(alloc, Matching::of(view, cond))?;
+            answer_rows(alloc, scope, select, rows)
+        }
+    }
+}
+
 /// The answer from the rows that meet the condition, of which as few are looked at as are needed.
 fn answer_scanned(
     alloc: Global,
@@ -39,17 +64,14 @@ fn answer_scanned(
     view.legal();
     let key = usize::from(view.schema().key);
     if follows_rows(scope, select, key) {
-        let rows = Cursor::Rising(view.scan());
-        let rows = first_matching(alloc, rows, cond, select.limit)?;
+        let rows = first_of(alloc, Matching::of(view, cond), select.limit)?;
         return answer_each(alloc, scope, select, &rows);
     }
     if reverses_rows(scope, select, key) {
-        let rows = Cursor::Falling(view.scan_back());
-        let rows = first_matching(alloc, rows, cond, select.limit)?;
+        let rows = first_matching(alloc, view.scan_back(), cond, select.limit)?;
         return answer_each(alloc, scope, select, &rows);
     }
-    let rows = matching(alloc, view.scan(), cond)?;
-    answer_rows(alloc, scope, select, rows)
+    answer_all(alloc, scope, select, view, cond)
 }
 
 /// The answer from one table.

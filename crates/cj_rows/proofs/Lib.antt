@@ -5,3 +5,4 @@ pub mod RowEntryLaws
 pub mod RowLaws
 pub mod ScanLaws
 pub mod StoredLaws
+pub mod FromLaws

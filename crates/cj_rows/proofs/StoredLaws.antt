@@ -16,9 +16,10 @@ use Rattle.cj_model.specs.Database.Steps.{seen, other_writer}
 use Rattle.cj_rows.specs.declared.stored.StoredDraft.{StoredDraft}
 use Rattle.cj_rows.specs.Entries.{KeysRise, at}
 use Rattle.cj_rows.specs.Layers.{kept, merged}
-use Rattle.cj_rows.specs.Lookups.{row_with_key}
-use Rattle.cj_rows.specs.RowEntries.{RowEntries, knows, KnowsKeys, keyed, overlaid, Extends, HasKeysOf}
+use Rattle.cj_rows.specs.Lookups.{row_with_key, rows_from}
+use Rattle.cj_rows.specs.RowEntries.{RowEntries, from_key, knows, KnowsKeys, keyed, overlaid, Extends, HasKeysOf}
 use Rattle.cj_rows.specs.Stored.{slot_shown, shown_draft, AreRows, DraftHolds, HoldsTable, rows_after, changed_slot, IsChangeOf}
+use Rattle.cj_rows.proofs.FromLaws.{own_part}
 use Rattle.cj_rows.proofs.RowLaws.{at_keyed}
 use Rattle.cj_rows.proofs.RowEntryLaws.{known_still}
 
@@ -52,6 +53,32 @@ module _ (schema : Schema) (base : RowEntries) (n : ℕ) (o : Option StoredDraft
       found_rows schema.key n (kept base) v h.rows
       ∙ ap (λ (p : Option StoredDraft). row_with_key schema.key (seen (slot_shown schema base p) tx).rows v) (sym i)
       ∙ ap (λ (u : Slot). row_with_key u.base.schema.key (seen u tx).rows v) e
+
+-- ---- rows from a key on
+
+from_rows : (k n : ℕ) (es : List (Value × List Value)) (v : Value) → AreRows k es n → values_of (from_key v es) ≡ rows_from k v (values_of es)
+from_rows k n es v a = own_part k v es a.own_keys
+
+module _ (schema : Schema) (base : RowEntries) (n : ℕ) (o : Option StoredDraft) (tx : ℕ) (s : Slot) (e : slot_shown schema base o ≡ s) (h : HoldsTable schema.key base n o) (v : Value) where
+  pub from_own : (d : StoredDraft) → o ≡ Some d → d.tx ≡ tx → values_of (from_key v (overlaid base d.changes)) ≡ rows_from s.base.schema.key v (seen s tx).rows
+  from_own d i t =
+      from_rows schema.key d.count (overlaid base d.changes) v (subst (DraftHolds schema.key base) i h.draft).3
+      ∙ ap (λ (u : Table). rows_from schema.key v u.rows) (sym (cond-true _ _ _ (eq-eqb _ _ t)))
+      ∙ ap (λ (p : Option StoredDraft). rows_from schema.key v (seen (slot_shown schema base p) tx).rows) (sym i)
+      ∙ ap (λ (u : Slot). rows_from u.base.schema.key v (seen u tx).rows) e
+
+  pub from_other : (d : StoredDraft) → o ≡ Some d → (d.tx ≡ tx → ⊥) → values_of (from_key v (kept base)) ≡ rows_from s.base.schema.key v (seen s tx).rows
+  from_other d i t =
+      from_rows schema.key n (kept base) v h.rows
+      ∙ ap (λ (u : Table). rows_from schema.key v u.rows) (sym (cond-false _ _ _ (ne_eqb _ _ t)))
+      ∙ ap (λ (p : Option StoredDraft). rows_from schema.key v (seen (slot_shown schema base p) tx).rows) (sym i)
+      ∙ ap (λ (u : Slot). rows_from u.base.schema.key v (seen u tx).rows) e
+
+  pub from_base : o ≡ None → values_of (from_key v (kept base)) ≡ rows_from s.base.schema.key v (seen s tx).rows
+  from_base i =
+      from_rows schema.key n (kept base) v h.rows
+      ∙ ap (λ (p : Option StoredDraft). rows_from schema.key v (seen (slot_shown schema base p) tx).rows) (sym i)
+      ∙ ap (λ (u : Slot). rows_from u.base.schema.key v (seen u tx).rows) e
 
 -- ---- a base that knows more keys
 

@@ -1,9 +1,10 @@
 -- Rows by their keys.
-use Rattle.std.specs.Prelude.{false, unwrap_or, ◌≡◌, ℕ, Bool, true, List, [], All, map, fold, is_some}
+use Rattle.std.specs.Prelude.{false, unwrap_or, ◌≡◌, ℕ, Bool, true, List, [], All, filter, map, fold, is_some}
 use Rattle.std.specs.declared.option.Option.{Option}
 use Rattle.std.specs.declared.option.Option.TheVariants.{None, Some}
 use Rattle.std.specs.declared.cmp.Ordering.{Ordering}
 use Rattle.std.specs.declared.cmp.Ordering.TheVariants.{Less}
+use Rattle.std.specs.Ordering.{is_le}
 use Rattle.std.specs.BTreeMap.{insert_entry, is_at}
 use Rattle.cj_model.specs.declared.value.Value.{Value}
 use Rattle.cj_model.specs.Database.Values.{value_cmp}
@@ -34,6 +35,10 @@ keyed k rows = map (λ r. (cell r k, r)) rows
 -- the rows that are there, with changes laid over them
 abbrev pub overlaid : RowEntries → RowEntries → List (Value × List Value)
 overlaid es changes = merged value_cmp (kept es) changes
+
+-- the entries from a key on
+abbrev pub from_key : {X : Type 0} → Value → List (Value × X) → List (Value × X)
+from_key v es = filter (λ e. is_le (value_cmp v e.0)) es
 
 -- the changes that put these rows
 abbrev pub puts : ℕ → List (List Value) → RowEntries

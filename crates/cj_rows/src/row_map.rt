@@ -9,7 +9,7 @@ ghost use Rattle.cj_rows.specs.Entries.{KeysRise, at};
 ghost use Rattle.cj_rows.specs.Layers.{changed, kept, merged};
 ghost use Rattle.cj_rows.specs.RowEntries as entries;
 
-use crate::scan::Scan;
+use crate::scan::{Entries, Scan};
 use crate::scan_back::ScanBack;
 use cj_model::{Duplicate, NoMemory, Row, Same, Value};
 use std::alloc::Global;
@@ -225,25 +225,54 @@ impl RowMap {
 }
 
 impl RowMap {
+    fn all_entries(&self) -> Entries<'_>
+        ensures { result ≡ self.now }
+    {
+        self.rows.range(..)
+    }
+
+    /// The entries from this key on.
+    fn entries_from(&self, key: &Value) -> Entries<'_>
+        ensures { result ≡ entries.from_key key.now self.now }
+    {
+        self.rows.range(key..)
+    }
+
     /// The rows, in rising key.
     pub fn scan(&self) -> Scan<'_>
         ensures { result ≡ values_of (kept self.now) }
     {
-        Scan::of(self.rows.iter())
+        Scan::of(self.all_entries())
     }
 
     /// The rows that changes leave of these, in rising key.
     pub fn scan_under<'a>(&'a self, changes: &'a RowMap) -> Scan<'a>
         ensures { result ≡ values_of (entries.overlaid self.now changes.now) }
     {
-        Scan::under(self.rows.iter(), changes.rows.iter())
+        Scan::under(self.all_entries(), changes.all_entries())
+    }
+
+    /// The rows from this key on, in rising key.
+    pub fn scan_from(&self, key: &Value) -> Scan<'_>
+        ensures { result ≡ values_of (entries.from_key key.now (kept self.now)) }
+    {
+        Scan::of(self.entries_from(key))
+    }
+
+    /// The rows from this key on that changes leave of these, in rising key.
+    pub fn scan_from_under<'a>(&'a self, changes: &'a RowMap, key: &Value) -> Scan<'a>
+        ensures { result ≡ values_of (entries.from_key key.now (entries.overlaid self.now changes.now)) }
+    {
+        self.rises();
+        changes.rises();
+        Scan::under(self.entries_from(key), changes.entries_from(key))
     }
 
     /// The rows, in falling key.
     pub fn scan_back(&self) -> ScanBack<'_>
         ensures { result ≡ reverse (values_of (kept self.now)) }
     {
-        ScanBack::of(self.rows.iter())
+        ScanBack::of(self.all_entries())
     }
 
     /// The rows that changes leave of these, in falling key.
@@ -252,7 +281,7 @@ impl RowMap {
     {
         self.rises();
         changes.rises();
-        ScanBack::under(self.rows.iter(), changes.rows.iter())
+        ScanBack::under(self.all_entries(), changes.all_entries())
     }
 
     /// The row at a key that changes leave of these rows.

@@ -10,11 +10,11 @@ ghost use Rattle.cj_rows.specs.Scans.{TakesRow, entry_count, rows_shown};
 
 use cj_model::{Row, Value};
 use std::cmp::Ordering;
-use std::collections::btree_map::Iter;
+use std::collections::btree_map::Range;
 use std::marker::Model;
 
 /// The entries of a tree that are left.
-pub(crate) type Entries<'a> = Iter<'a, Value, Option<Row>>;
+pub(crate) type Entries<'a> = Range<'a, Value, Option<Row>>;
 
 /// A key, with its row or with none.
 pub(crate) type Entry<'a> = (&'a Value, &'a Option<Row>);

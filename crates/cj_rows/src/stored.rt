@@ -6,7 +6,7 @@ ghost use Rattle.cj_model.specs.Database.Steps as steps;
 ghost use Rattle.cj_model.specs.Database.Values.{value_cmp};
 ghost use Rattle.cj_rows.specs.Entries.{KeysRise};
 ghost use Rattle.cj_rows.specs.Layers.{merged};
-ghost use Rattle.cj_rows.specs.Lookups.{row_with_key};
+ghost use Rattle.cj_rows.specs.Lookups.{row_with_key, rows_from};
 ghost use Rattle.cj_rows.specs.RowEntries.{HasKeysOf, overlaid};
 ghost use Rattle.cj_rows.specs.Stored.{IsChangeOf, changed_slot};
 
@@ -188,6 +188,17 @@ impl StoredTable {
             Some(draft) if draft.tx == tx => self.base.scan_under(&draft.changes),
             Some(_) => self.base.scan(),
             None => self.base.scan(),
+        }
+    }
+
+    /// The rows from this key on that a transaction sees, in rising key.
+    pub fn scan_from(&self, tx: u64, key: &Value) -> Scan<'_>
+        ensures { result ≡ rows_from self.now.base.schema.key key.now (seen self.now tx).rows }
+    {
+        match &self.draft {
+            Some(draft) if draft.tx == tx => self.base.scan_from_under(&draft.changes, key),
+            Some(_) => self.base.scan_from(key),
+            None => self.base.scan_from(key),
         }
     }
 

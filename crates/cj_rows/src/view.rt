@@ -3,7 +3,7 @@
 ghost use Rattle.std.specs.Prelude.{◌≡◌, length, option_copied, reverse};
 ghost use Rattle.cj_model.specs.Database.Steps.{seen};
 ghost use Rattle.cj_model.specs.Database.Tables.{IsSlot, IsTable};
-ghost use Rattle.cj_rows.specs.Lookups.{row_with_key};
+ghost use Rattle.cj_rows.specs.Lookups.{row_with_key, rows_from};
 
 use crate::scan::Scan;
 use crate::scan_back::ScanBack;
@@ -54,6 +54,14 @@ impl<'a> View<'a> {
     {
         let stored = self.stored;
         stored.scan(self.tx)
+    }
+
+    /// The rows from this key on, in rising key.
+    pub fn scan_from(&self, key: &Value) -> Scan<'a>
+        ensures { result ≡ rows_from self.now.schema.key key.now self.now.rows }
+    {
+        let stored = self.stored;
+        stored.scan_from(self.tx, key)
     }
 
     /// All rows, in falling key.

@@ -5,4 +5,4 @@ use Rattle.cj_model.specs.Database.Evaluation.{satisfies}
 use Rattle.cj_plan.proofs.conditions.scanned.Given as goal
 
 abbrev pub invariant-loop-row : goal.invariant-loop-row
-invariant-loop-row l = map deref l.rows.items ++ filter (satisfies l.condition) l.row-iterator ≡ filter (satisfies l.condition) l.view.rows
+invariant-loop-row l = map deref l.rows.items ++ l.row-iterator ≡ filter (satisfies l.condition) l.fn.view.rows

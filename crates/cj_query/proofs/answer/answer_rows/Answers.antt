@@ -1,27 +1,23 @@
-use Rattle.std.proofs.Common.{◌≡◌, Bool, List, map, subst, ap, ◌∙◌}
+use Rattle.std.proofs.Common.{◌≡◌, [], ◌∷◌, List, map, subst, sym, ap, ◌∙◌}
 use Rattle.std.specs.Prelude.{IfOk}
 use Rattle.std.specs.Map.Iter.{deref}
 use Rattle.cj_model.specs.declared.value.Value.{Value}
-use Rattle.cj_model.specs.Database.Order.{SortKey, sorts_before, at_most, sorted_by}
-use Rattle.cj_model.specs.Database.Queries.{answer_of, asked_by, first_row, gathered, groups_answered, sort_key_of}
-use Rattle.cj_query.specs.Gathered.{cut_into}
-use Rattle.cj_query.specs.Groups.{rows_in}
-use Rattle.cj_query.proofs.GroupLaws.{gathered_is}
+use Rattle.cj_model.specs.Database.Order.{at_most, sorted_by, sorts_before}
+use Rattle.cj_model.specs.Database.Queries.{answer_of, asked_by, sort_key_of}
+use Rattle.cj_query.specs.Ranked.{keys_of}
+use Rattle.cj_query.proofs.PathLaws.{groups_ranked}
 use Rattle.cj_query.proofs.answer.answer_rows.Goals as goal
 
-pub returns : goal.returns
-returns c =
+pub returns-in_ok-rows-in-Some : goal.returns-in_ok-rows-in-Some
+returns-in_ok-rows-in-Some c =
     let scope = c.args.scope.now in
     let s = c.args.select.now in
     let rows = map deref c.args.rows.items in
-    let earlier : List SortKey → List (List Value) → List (List Value) → Bool = λ ks g h. sorts_before ks (first_row g) (first_row h) in
-    let keys : c.deref-2.result.now ≡ map (sort_key_of scope) s.order = c.deref-2.ensures.value ∙ c.in_ok-keys.ensures ∙ ap (map (sort_key_of scope)) c.as_slice.ensures in
-    let groups : rows_in c.in_ok-groups.groups.items ≡ gathered scope s.items s.group rows
-    = c.in_ok-groups.ensures ∙ ap (λ rs. cut_into scope s.items s.group (map deref rs)) c.deref.ensures.value
-    ∙ ap (cut_into scope s.items s.group) c.in_ok-arrange.ensures ∙ gathered_is scope s.items s.group rows in
-    let sorted : rows_in c.sort_groups.new.groups.items ≡ sorted_by (earlier (map (sort_key_of scope) s.order)) (gathered scope s.items s.group rows)
-    = c.in_ok-sort_groups.ensures ∙ ap (λ ks. sorted_by (earlier ks) (rows_in c.in_ok-groups.groups.items)) keys
-    ∙ ap (sorted_by (earlier (map (sort_key_of scope) s.order))) groups in
-    let all : rows_in c.deref-3.result.now ≡ groups_answered scope s rows
-    = ap rows_in c.deref-3.ensures.value ∙ c.cut_groups.ensures ∙ ap (at_most s.limit) sorted in
-    subst (λ gs. IfOk c.answer_groups.result (λ asked. asked ≡ asked_by (answer_of scope s gs))) all c.answer_groups.ensures
+    let ranking = c.in-Some.ranking in
+    let found : map deref c.deref-in-Some-2.result.now ≡ at_most s.limit (sorted_by (sorts_before (map (sort_key_of scope) s.order)) rows)
+    = ap (map deref) c.deref-in-Some-2.ensures.value ∙ c.in_ok-rows-in-Some.ensures
+    ∙ ap (λ l. at_most l (sorted_by (sorts_before (keys_of ranking)) (map deref c.deref-in-Some.result.now))) c.in-Some.ensures.limit
+    ∙ ap (λ ks. at_most s.limit (sorted_by (sorts_before ks) (map deref c.deref-in-Some.result.now))) (c.in-Some.ensures.keys ∙ c.deref.ensures.value ∙ c.in_ok-keys.ensures ∙ ap (map (sort_key_of scope)) c.as_slice.ensures)
+    ∙ ap (λ rs. at_most s.limit (sorted_by (sorts_before (map (sort_key_of scope) s.order)) (map deref rs))) c.deref-in-Some.ensures.value in
+    subst (λ (gs : List (List (List Value))). IfOk c.answer_each.result (λ asked. asked ≡ asked_by (answer_of scope s gs)))
+    (ap (map (λ r. r ∷ [])) found ∙ sym (groups_ranked scope s rows c.in-Some.ensures.each)) c.answer_each.ensures

@@ -3,14 +3,13 @@ use Rattle.std.specs.Prelude.{filter}
 use Rattle.std.specs.Map.Iter.{deref}
 use Rattle.cj_model.specs.Database.Evaluation.{satisfies}
 use Rattle.cj_model.specs.Database.Order.{at_most}
-use Rattle.cj_query.specs.Cursors.{rows_of_cursor}
 use Rattle.cj_query.proofs.rows.first_matching.Given as goal
 
 abbrev pub invariant-loop-rows : goal.invariant-loop-rows
 invariant-loop-rows l = record {
-  found : map deref l.out.items ++ filter (satisfies l.cond) (rows_of_cursor l.rows) ≡ filter (satisfies l.cond) (rows_of_cursor l.fn.rows);
+  found : map deref l.out.items ++ filter (satisfies l.cond) l.rows ≡ filter (satisfies l.cond) l.fn.rows;
   few : at_most l.limit (map deref l.out.items) ≡ map deref l.out.items;
 }
 
 abbrev pub decreases-loop-rows : goal.decreases-loop-rows
-decreases-loop-rows l = length (rows_of_cursor l.rows)
+decreases-loop-rows l = length l.rows

@@ -20,7 +20,7 @@ returns-then-follows_rows c =
     let table = c.args.view.now in
     let key : c.from-key.result ≡ table.schema.key = c.from-key.ensures ∙ ap (λ s. s.key) c.schema.ensures in
     let found : map deref c.deref.result.now ≡ at_most s.limit (filter p table.rows)
-    = ap (map deref) c.deref.ensures.value ∙ c.in_ok-rows.ensures ∙ ap (λ rs. at_most s.limit (filter p rs)) c.scan.ensures in
+    = ap (map deref) c.deref.ensures.value ∙ c.in_ok-rows.ensures ∙ ap (at_most s.limit) c.of.ensures in
     let groups : groups_answered scope s (filter p table.rows) ≡ map (λ r. r ∷ []) (at_most s.limit (filter p table.rows))
     = groups_alone scope s table.schema.key (filter p table.rows) (ap (follows_rows scope s) (sym key) ∙ sym c.follows_rows.ensures ∙ c.if-follows_rows.true) (rises_filter (by_key table.schema.key) p table.rows c.legal.ensures.rises) in
     subst (λ (gs : List (List (List Value))). IfOk c.answer_each.result (λ asked. asked ≡ asked_by (answer_of scope s gs)))

@@ -1,0 +1,26 @@
+use Rattle.std.proofs.Common.{◌≡◌, Bool, List, map, subst, ap, ◌∙◌}
+use Rattle.std.specs.Prelude.{IfOk}
+use Rattle.std.specs.Map.Iter.{deref}
+use Rattle.cj_model.specs.declared.value.Value.{Value}
+use Rattle.cj_model.specs.Database.Order.{SortKey, sorts_before, at_most, sorted_by}
+use Rattle.cj_model.specs.Database.Queries.{answer_of, asked_by, first_row, gathered, groups_answered, sort_key_of}
+use Rattle.cj_query.specs.Gathered.{cut_into}
+use Rattle.cj_query.specs.Groups.{rows_in}
+use Rattle.cj_query.proofs.GroupLaws.{gathered_is}
+use Rattle.cj_query.proofs.answer.answer_gathered.Goals as goal
+
+pub returns : goal.returns
+returns c =
+    let scope = c.args.scope.now in
+    let s = c.args.select.now in
+    let rows = map deref c.args.rows.items in
+    let earlier : List SortKey → List (List Value) → List (List Value) → Bool = λ ks g h. sorts_before ks (first_row g) (first_row h) in
+    let groups : rows_in c.in_ok-groups.groups.items ≡ gathered scope s.items s.group rows
+    = c.in_ok-groups.ensures ∙ ap (λ rs. cut_into scope s.items s.group (map deref rs)) c.deref.ensures.value
+    ∙ ap (cut_into scope s.items s.group) c.in_ok-arrange.ensures ∙ gathered_is scope s.items s.group rows in
+    let sorted : rows_in c.sort_groups.new.groups.items ≡ sorted_by (earlier (map (sort_key_of scope) s.order)) (gathered scope s.items s.group rows)
+    = c.in_ok-sort_groups.ensures ∙ ap (λ ks. sorted_by (earlier ks) (rows_in c.in_ok-groups.groups.items)) c.requires
+    ∙ ap (sorted_by (earlier (map (sort_key_of scope) s.order))) groups in
+    let all : rows_in c.deref-2.result.now ≡ groups_answered scope s rows
+    = ap rows_in c.deref-2.ensures.value ∙ c.cut_groups.ensures ∙ ap (at_most s.limit) sorted in
+    subst (λ gs. IfOk c.answer_groups.result (λ asked. asked ≡ asked_by (answer_of scope s gs))) all c.answer_groups.ensures

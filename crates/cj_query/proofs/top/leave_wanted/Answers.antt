@@ -1,0 +1,12 @@
+use Rattle.std.proofs.Common.{map, take, sym, ap, ◌∙◌}
+use Rattle.std.proofs.lemmas.List.{take-map}
+use Rattle.cj_model.specs.Database.Order.{at_most, sorted_by}
+use Rattle.cj_query.specs.Ranked.{ranks_before, seen}
+use Rattle.cj_query.proofs.top.leave_wanted.Goals as goal
+
+pub returns-in-Some : goal.returns-in-Some
+returns-in-Some c =
+    ap (map seen) c.truncate.ensures.items
+    ∙ sym (take-map seen c.in-Some.most c.sort_ranked.new.rows.items)
+    ∙ ap (take c.in-Some.most) c.in_ok-sort_ranked.ensures
+    ∙ ap (λ limit. at_most limit (sorted_by (ranks_before c.args.ranking.now) (map seen c.args.rows.now.items))) (sym c.in-Some.is)

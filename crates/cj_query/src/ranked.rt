@@ -1,0 +1,103 @@
+//! Rows in the order of keys, with the value of the first key at hand.
+
+ghost use Rattle.std.specs.Prelude.{◌≡◌, map, OnOk};
+ghost use Rattle.std.specs.declared.cmp.Ordering.{Ordering};
+ghost use Rattle.cj_model.specs.Database.Tables.{cell};
+ghost use Rattle.cj_model.specs.Database.Order.{sorted_by};
+ghost use Rattle.cj_model.specs.Database.Values.{value_cmp};
+ghost use Rattle.cj_query.specs.Ranked as ranks;
+
+use crate::order::{SortKey, compare};
+use cj_model::{NoMemory, Row, Text, Value};
+use std::cmp::Ordering;
+
+/// An order by keys, of which there is at least one, and how many rows of it are wanted at most.
+#[derive(Drop)]
+pub struct Ranking<'k> {
+    pub first: &'k SortKey,
+    pub rest: &'k [SortKey],
+    pub limit: Option<u64>,
+}
+
+/// The value of a row's first key. A number stands here itself, so that no comparison looks it up.
+#[derive(Clone, Copy)]
+pub enum Lead<'a> {
+    Int(i64),
+    Text(&'a Text),
+}
+
+/// A row with the value of its first key, which is taken once.
+#[derive(Clone, Copy)]
+pub struct Ranked<'a> {
+    lead: Lead<'a>,
+    row: &'a Row,
+}
+
+/// The value at a place of a row; 0 past its end.
+fn lead_at<'a>(row: &'a [Value], place: usize) -> Lead<'a>
+    ensures { ranks.lead_value result ≡ cell row.now place }
+{
+    match row.get(place) {
+        Some(Value::Int(number)) => Lead::Int(*number),
+        Some(Value::Text(text)) => Lead::Text(text),
+        None => Lead::Int(0),
+    }
+}
+
+impl<'a> Ranked<'a> {
+    pub fn of(row: &'a Row, ranking: &Ranking) -> Ranked<'a>
+        ensures { ranks.seen result ≡ ranks.ranked_by ranking.now row.now }
+    {
+        Ranked {
+            lead: lead_at(row.as_slice(), ranking.first.place()),
+            row,
+        }
+    }
+
+    pub fn row(&self) -> &'a Row
+        ensures { result.now ≡ self.now.row.now }
+    {
+        self.row
+    }
+}
+
+fn compare_leads(left: &Lead, right: &Lead) -> Ordering
+    ensures { result ≡ value_cmp (ranks.lead_value left.now) (ranks.lead_value right.now) }
+{
+    match (left, right) {
+        (Lead::Int(left), Lead::Int(right)) => left.cmp(right),
+        (Lead::Int(_), Lead::Text(_)) => Ordering::Less,
+        (Lead::Text(_), Lead::Int(_)) => Ordering::Greater,
+        (Lead::Text(left), Lead::Text(right)) => left.as_slice().cmp(right.as_slice()),
+    }
+}
+
+/// The order of two rows by the first key.
+fn compare_first(first: &SortKey, left: &Lead, right: &Lead) -> Ordering
+    ensures { result ≡ ranks.by_lead first.now (ranks.lead_value left.now) (ranks.lead_value right.now) }
+{
+    if first.falls() {
+        compare_leads(right, left)
+    } else {
+        compare_leads(left, right)
+    }
+}
+
+/// The order of two rows by the values at hand, then by the other keys.
+pub fn compare_ranked(ranking: &Ranking, left: &Ranked, right: &Ranked) -> Ordering
+    ensures { result ≡ ranks.by_rank ranking.now (ranks.seen left.now) (ranks.seen right.now) }
+{
+    let order = compare_first(ranking.first, &left.lead, &right.lead);
+    if order.is_ne() {
+        return order;
+    }
+    compare(ranking.rest, left.row.as_slice(), right.row.as_slice())
+}
+
+/// Puts rows in order; rows that tie stay as they are.
+pub fn sort_ranked(rows: &mut Vec<Ranked>, ranking: &Ranking) -> Result<(), NoMemory>
+    ensures { OnOk result (map ranks.seen rows.new.items ≡ sorted_by (ranks.ranks_before ranking.now) (map ranks.seen rows.old.items)) }
+{
+    rows.sort_by(|left, right| compare_ranked(ranking, left, right))?;
+    Ok(())
+}

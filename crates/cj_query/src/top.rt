@@ -1,0 +1,149 @@
+//! The first rows in the order of keys: of many rows, not many more are kept than are wanted.
+
+ghost use Rattle.std.specs.Prelude.{◌≡◌, ◌≤◌, true, [], ◌∷◌, ◌++◌, None, Some, length, map, option_map, IfOk, OnOk};
+ghost use Rattle.std.specs.Map.Iter.{deref};
+ghost use Rattle.cj_model.specs.Database.Order.{at_most, sorted_by, sorts_before};
+ghost use Rattle.cj_query.specs.Kept as kept_rows;
+ghost use Rattle.cj_query.specs.Ranked as ranks;
+
+use crate::ranked::{Ranked, Ranking, compare_ranked, sort_ranked};
+use cj_model::{NoMemory, Row};
+use cj_search::Matching;
+use std::alloc::Global;
+
+/// The rows that may be among the wanted ones.
+#[derive(Drop)]
+struct Kept<'a> {
+    rows: Vec<Ranked<'a>>,
+    /// The last of as many rows as are wanted, which stand in front. No row that comes later and is
+    /// not before it is wanted.
+    bar: Option<Ranked<'a>>,
+}
+
+/// Whether there are so many rows that it is time to cut them: twice as many as are wanted.
+fn is_crowded(count: usize, most: u64) -> bool
+    ensures { result ≡ true → most ≤ count }
+{
+    0 < count && most <= (count / 2) as u64
+}
+
+/// Leaves the wanted rows, in order.
+fn leave_wanted(rows: &mut Vec<Ranked>, ranking: &Ranking) -> Result<(), NoMemory>
+    ensures { OnOk result (map ranks.seen rows.new.items ≡ ranks.wanted ranking.now (map ranks.seen rows.old.items)) }
+{
+    sort_ranked(rows, ranking)?;
+    if let Some(most) = ranking.limit {
+        rows.truncate(most as usize);
+    }
+    Ok(())
+}
+
+impl<'a> Kept<'a> {
+    fn new(alloc: Global) -> Kept<'a>
+        ensures rows { kept_rows.rows_kept result ≡ [] }
+        ensures bar { result.bar ≡ None }
+    {
+        Kept {
+            rows: Vec::new(alloc),
+            bar: None,
+        }
+    }
+
+    /// Whether the bar is there, and the row is not before it.
+    fn bars(&self, row: &Ranked, ranking: &Ranking) -> bool
+        ensures { result ≡ ranks.is_barred (ranks.ranks_before ranking.now) (option_map ranks.seen self.now.bar) (ranks.seen row.now) }
+    {
+        match &self.bar {
+            Some(bar) => !compare_ranked(ranking, row, bar).is_lt(),
+            None => false,
+        }
+    }
+
+    /// Leaves the wanted rows, of which there are enough. The last one is the bar.
+    fn cut(&mut self, ranking: &Ranking, most: u64) -> Result<(), NoMemory>
+        requires limit { ranking.now.limit ≡ Some most }
+        requires enough { most ≤ length self.old.rows.items }
+        ensures stands { OnOk result (kept_rows.StandsFor ranking.now self.new (kept_rows.rows_kept self.old)) }
+        ensures barred { OnOk result (kept_rows.IsBarred ranking.now self.new) }
+    {
+        leave_wanted(&mut self.rows, ranking)?;
+        self.bar = self.rows.last().copied();
+        Ok(())
+    }
+
+    /// Cuts the rows where there are many more than are wanted.
+    fn cut_crowd(&mut self, ranking: &Ranking) -> Result<(), NoMemory>
+        requires { kept_rows.IsBarred ranking.now self.old }
+        ensures stands { OnOk result (kept_rows.StandsFor ranking.now self.new (kept_rows.rows_kept self.old)) }
+        ensures barred { OnOk result (kept_rows.IsBarred ranking.now self.new) }
+    {
+        if let Some(most) = ranking.limit {
+            if is_crowded(self.rows.len(), most) {
+                return self.cut(ranking, most);
+            }
+        }
+        Ok(())
+    }
+
+    /// One more row, behind the others.
+    fn add(&mut self, row: Ranked<'a>, ranking: &Ranking) -> Result<(), NoMemory>
+        requires { kept_rows.IsBarred ranking.now self.old }
+        ensures stands { OnOk result (kept_rows.StandsFor ranking.now self.new (kept_rows.rows_kept self.old ++ ranks.seen row.entry ∷ [])) }
+        ensures barred { OnOk result (kept_rows.IsBarred ranking.now self.new) }
+    {
+        if self.bars(&row, ranking) {
+            return Ok(());
+        }
+        self.rows.push(row)?;
+        self.cut_crowd(ranking)
+    }
+}
+
+fn rows_of<'a>(alloc: Global, ranked: &[Ranked<'a>]) -> Result<Vec<&'a Row>, NoMemory>
+    ensures { IfOk result (λ out. map deref out.items ≡ map (λ r. r.1) (map ranks.seen ranked.now)) }
+{
+    let mut out = Vec::new(alloc);
+    for row in ranked {
+        out.push(row.row())?;
+    }
+    Ok(out)
+}
+
+/// The wanted rows of those that were kept, in order.
+fn finished<'a>(alloc: Global, kept: Kept<'a>, ranking: &Ranking) -> Result<Vec<&'a Row>, NoMemory>
+    ensures { IfOk result (λ out. map deref out.items ≡ map (λ r. r.1) (ranks.wanted ranking.now (kept_rows.rows_kept kept.entry))) }
+{
+    let Kept { mut rows, .. } = kept;
+    leave_wanted(&mut rows, ranking)?;
+    rows_of(alloc, &rows)
+}
+
+/// The first of the rows that are found, in the order of the keys.
+pub fn first_matching_ranked<'a>(
+    alloc: Global,
+    rows: Matching<'_, 'a>,
+    ranking: &Ranking,
+) -> Result<Vec<&'a Row>, NoMemory>
+    ensures { IfOk result (λ out. map deref out.items ≡ at_most ranking.now.limit (sorted_by (sorts_before (ranks.keys_of ranking.now)) rows.entry)) }
+{
+    let mut kept = Kept::new(alloc);
+    for row in rows {
+        kept.add(Ranked::of(row, ranking), ranking)?;
+    }
+    finished(alloc, kept, ranking)
+}
+
+/// The first of the rows in the order of the keys.
+pub fn first_ranked<'a>(
+    alloc: Global,
+    rows: &[&'a Row],
+    ranking: &Ranking,
+) -> Result<Vec<&'a Row>, NoMemory>
+    ensures { IfOk result (λ out. map deref out.items ≡ at_most ranking.now.limit (sorted_by (sorts_before (ranks.keys_of ranking.now)) (map deref rows.now))) }
+{
+    let mut kept = Kept::new(alloc);
+    for row in rows {
+        kept.add(Ranked::of(*row, ranking), ranking)?;
+    }
+    finished(alloc, kept, ranking)
+}

@@ -1,0 +1,8 @@
+use Rattle.std.proofs.Common.{ap, ◌∙◌}
+use Rattle.std.specs.Map.{values_of}
+use Rattle.cj_rows.specs.Layers.{kept}
+use Rattle.cj_rows.proofs.FromLaws.{kept_part}
+use Rattle.cj_rows.proofs.row_map.RowMap.scan_from.Goals as goal
+
+pub returns : goal.returns
+returns c = c.of.ensures ∙ ap (λ es. values_of (kept es)) c.entries_from.ensures ∙ ap values_of (kept_part c.args.key.now c.args.self.now)

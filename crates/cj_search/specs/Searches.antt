@@ -1,0 +1,42 @@
+-- Walks over the rows of a table that leave out where none meets the condition.
+use Rattle.std.specs.Prelude.{◌≡◌, ◌≤◌, true, List, [], ◌∷◌, ◌++◌, filter, length}
+use Rattle.std.specs.Ordering.{is_le}
+use Rattle.std.specs.declared.option.Option.{Option}
+use Rattle.cj_model.specs.declared.value.Value.{Value}
+use Rattle.cj_model.specs.Database.Evaluation.{satisfies}
+use Rattle.cj_model.specs.Database.Tables.{IsTable, cell}
+use Rattle.cj_model.specs.Database.Values.{value_cmp}
+use Rattle.cj_expr.specs.Reaches.{is_from}
+use Rattle.cj_search.specs.declared.matching.Search.{Search}
+
+-- the rows that are left and meet the condition
+abbrev pub rows_found : Search → List (List Value)
+rows_found s = filter (satisfies s.cond.now) s.scan
+
+-- the rows that are left stand at the end of the table's
+pub record IsSearch (s : Search) : Type 0 where
+  pub table : IsTable s.view.now
+  pub before : List (List Value)
+  pub ends : s.view.now.rows ≡ before ++ s.scan
+
+-- the same, behind a row that was taken
+pub record IsAtRow (s : Search) (row : List Value) : Type 0 where
+  pub table : IsTable s.view.now
+  pub before : List (List Value)
+  pub ends : s.view.now.rows ≡ before ++ row ∷ s.scan
+
+-- from the key on, no row below the start meets the condition
+pub record NoneBetween (s : Search) (key : Value) (start : Option Value) : Type 0 where
+  pub at : (row : List Value) → is_le (value_cmp key (cell row s.view.now.schema.key)) ≡ true → satisfies s.cond.now row ≡ true → is_from start (cell row s.view.now.schema.key) ≡ true
+
+-- what is found from the row on is as before, and no more rows are left
+pub record GoesOn (old : Search) (row : List Value) (new : Search) : Type 0 where
+  pub found : filter (satisfies new.cond.now) (row ∷ new.scan) ≡ filter (satisfies old.cond.now) (row ∷ old.scan)
+  pub fewer : length new.scan ≤ length old.scan
+  pub search : IsSearch new
+
+-- nothing is found any more
+pub record IsOver (old : Search) (row : List Value) (new : Search) : Type 0 where
+  pub none : filter (satisfies old.cond.now) (row ∷ old.scan) ≡ []
+  pub found : rows_found new ≡ []
+  pub search : IsSearch new
