@@ -1,4 +1,5 @@
 mod PinLaws
 mod PlaceLaws
+mod SettleLaws
 mod WalkLaws
 pub mod ReachLaws
