@@ -43,9 +43,13 @@ fits_width [] (v ∷ vs) h = cc h
 fits_width (c ∷ cs) [] h = cc h
 fits_width (c ∷ cs) (v ∷ vs) h = ap suc (fits_width cs vs (and_parts (same_kind c.kind (kind_of v)) (fits_columns cs vs) h).1)
 
--- each row of a table has a key
+-- each row of a table has a value for each column
+pub wide_rows : (t : Table) → IsTable t → (n : ℕ) → n < length t.schema.columns → All (λ row. n < length row) t.rows
+wide_rows t is n within = All-weaker (λ row. fits_columns t.schema.columns row ≡ true) (λ row. n < length row) (λ row h. subst (λ m. n < m) (sym (fits_width t.schema.columns row h)) within) t.rows is.kinds
+
+-- and so a key
 pub keyed_rows : (t : Table) → IsTable t → All (λ row. t.schema.key < length row) t.rows
-keyed_rows t is = All-weaker (λ row. fits_columns t.schema.columns row ≡ true) (λ row. t.schema.key < length row) (λ row h. subst (λ n. t.schema.key < n) (sym (fits_width t.schema.columns row h)) is.key) t.rows is.kinds
+keyed_rows t is = wide_rows t is t.schema.key is.key
 
 beside_wide : (n m : ℕ) (row : List Value) (rows : List (List Value)) → length row ≡ n → All (IsWide m) rows → All (IsWide (n + m)) (map (λ s. row ++ s) rows)
 beside_wide n m row [] e a = All-nil (IsWide (n + m))

@@ -16,3 +16,4 @@ pub mod CountLaws
 pub mod LimitLaws
 pub mod TopLaws
 pub mod RankLaws
+mod IndexLaws

@@ -8,5 +8,6 @@ pub mod Even
 pub mod Paths
 pub mod Counted
 pub mod Joined
+pub mod Sides
 pub mod Ranked
 pub mod Kept

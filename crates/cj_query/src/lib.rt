@@ -5,6 +5,7 @@ mod answer;
 mod ask;
 mod checks;
 mod groups;
+mod index;
 mod joins;
 mod order;
 mod paths;
@@ -12,6 +13,7 @@ mod project;
 mod projection;
 mod ranked;
 mod rows;
+mod sides;
 mod single;
 mod top;
 
