@@ -17,3 +17,4 @@ pub mod LimitLaws
 pub mod TopLaws
 pub mod RankLaws
 mod IndexLaws
+mod TakeLaws

@@ -19,9 +19,8 @@ use Rattle.cj_model.specs.Database.Order.{SortKey, sorts_before, by_sort_key, by
 use Rattle.cj_model.specs.Database.Queries.{has_aggregate, first_row, gathered, groups_answered, sort_key_of}
 use Rattle.cj_model.specs.Database.Scopes.{Scope, column_place}
 use Rattle.cj_rows.specs.Lookups.{row_with_key}
-use Rattle.cj_query.specs.Paths.{PinsTo, answers_each, falls_by, follows_rows, is_falling_at, is_led_by, is_rising_at, joined_limit, reverses_rows}
+use Rattle.cj_query.specs.Paths.{PinsTo, answers_each, falls_by, follows_rows, is_falling_at, is_led_by, is_rising_at, follows_join, reverses_rows}
 use Rattle.cj_query.proofs.KeyLaws.{by_sort_keys_total, always_in_order}
-use Rattle.cj_query.proofs.LimitLaws.{cut_twice}
 use Rattle.cj_query.proofs.MapLaws.{cut-map}
 use Rattle.cj_query.proofs.OrderLaws.{IsInOrder, NoneBefore, ordered-map, ordered_same}
 use Rattle.cj_query.proofs.ReverseLaws.{IsFalling, map-reverse, ordered_falling}
@@ -126,18 +125,10 @@ each_unordered scope s rows h e =
 no_keys : (n : ℕ) → eqb n 0 ≡ true → n ≡ 0
 no_keys n h = grind arith
 
--- so many rows are enough
-pub groups_limited : (scope : Scope) (s : Select) (rows : List (List Value)) → groups_answered scope s (at_most (joined_limit s) rows) ≡ groups_answered scope s rows
-groups_limited scope s rows = ⊎_elim
-    (λ (t : (answers_each s && eqb (length s.order) 0) ≡ true).
-    let parts = and_parts (answers_each s) (eqb (length s.order) 0) t in
-    let none : s.order ≡ [] = nil_from_length s.order (no_keys (length s.order) parts.1) in
-    ap (λ limit. groups_answered scope s (at_most limit rows)) (cond-true _ _ _ t)
-    ∙ each_unordered scope s (at_most s.limit rows) parts.0 none
-    ∙ ap alone (cut_twice s.limit rows)
-    ∙ sym (each_unordered scope s rows parts.0 none))
-    (λ (f : (answers_each s && eqb (length s.order) 0) ≡ false). ap (λ limit. groups_answered scope s (at_most limit rows)) (cond-false _ _ _ f))
-    (cases_Bool (answers_each s && eqb (length s.order) 0))
+pub groups_joined : (scope : Scope) (s : Select) (rows : List (List Value)) → follows_join s ≡ true → groups_answered scope s rows ≡ map (λ r. r ∷ []) (at_most s.limit rows)
+groups_joined scope s rows h =
+    let parts = and_parts (answers_each s) (eqb (length s.order) 0) h in
+    each_unordered scope s rows parts.0 (nil_from_length s.order (no_keys (length s.order) parts.1))
 
 -- ---- the order of the rows, reversed
 

@@ -51,9 +51,9 @@ follows_rows scope s n = answers_each s && is_led_by scope n s.order
 abbrev pub reverses_rows : Scope → Select → ℕ → Bool
 reverses_rows scope s n = answers_each s && falls_by scope n s.order
 
--- how many rows are enough where each is answered by itself in the order of the rows, without any key
-abbrev pub joined_limit : Select → Option ℕ
-joined_limit s = if answers_each s && length s.order == 0 then s.limit else None
+-- each row is answered by itself, without any key
+abbrev pub follows_join : Select → Bool
+follows_join s = answers_each s && length s.order == 0
 
 -- each row is answered by itself, in the order of these keys
 pub record RanksBy (s : Select) (order : List SortKey) (ranking : Ranking) : Type 0 where

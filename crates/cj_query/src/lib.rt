@@ -4,6 +4,7 @@
 mod answer;
 mod ask;
 mod checks;
+mod columns;
 mod groups;
 mod index;
 mod joins;
