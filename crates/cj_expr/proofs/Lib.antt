@@ -1,5 +1,6 @@
 mod PinLaws
 mod PlaceLaws
 mod SettleLaws
+mod KnownLaws
 mod WalkLaws
 pub mod ReachLaws

@@ -4,6 +4,7 @@
 mod binding;
 mod checks;
 mod formula;
+mod known;
 mod operand;
 mod parts;
 mod predicate;
@@ -13,6 +14,7 @@ mod scope;
 pub use binding::{BindError, bind, bind_expr, formula_of, predicate_of};
 pub use checks::same_kind;
 pub use formula::{Formula, ValueError, narrowed};
+pub use known::KnownRow;
 pub use operand::Operand;
 pub use predicate::Predicate;
 pub use reach::Reach;

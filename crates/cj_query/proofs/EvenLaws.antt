@@ -34,7 +34,7 @@ use Rattle.cj_query.specs.Even.{HasEvenRows}
 
 -- ---- rows of tables
 
-abbrev IsWide : ℕ → List Value → Type 0
+abbrev pub IsWide : ℕ → List Value → Type 0
 IsWide n row = length row ≡ n
 
 fits_width : (cs : List Column) (row : List Value) → fits_columns cs row ≡ true → length row ≡ length cs
@@ -42,6 +42,9 @@ fits_width [] [] h = refl
 fits_width [] (v ∷ vs) h = cc h
 fits_width (c ∷ cs) [] h = cc h
 fits_width (c ∷ cs) (v ∷ vs) h = ap suc (fits_width cs vs (and_parts (same_kind c.kind (kind_of v)) (fits_columns cs vs) h).1)
+
+pub table_wide : (t : Table) → IsTable t → All (IsWide (length t.schema.columns)) t.rows
+table_wide t is = All-weaker (λ row. fits_columns t.schema.columns row ≡ true) (IsWide (length t.schema.columns)) (fits_width t.schema.columns) t.rows is.kinds
 
 -- each row of a table has a value for each column
 pub wide_rows : (t : Table) → IsTable t → (n : ℕ) → n < length t.schema.columns → All (λ row. n < length row) t.rows

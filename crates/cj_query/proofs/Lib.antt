@@ -18,3 +18,4 @@ pub mod TopLaws
 pub mod RankLaws
 mod IndexLaws
 mod TakeLaws
+mod KnownRowLaws

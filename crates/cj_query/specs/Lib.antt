@@ -8,6 +8,7 @@ pub mod Even
 pub mod Paths
 pub mod Counted
 pub mod Joined
+pub mod KnownRows
 pub mod Taken
 pub mod Sides
 pub mod Ranked

@@ -8,6 +8,7 @@ mod columns;
 mod groups;
 mod index;
 mod joins;
+mod known;
 mod order;
 mod paths;
 mod project;
