@@ -11,7 +11,7 @@ use Rattle.cj_model.specs.Cluster.Placements.{Placement, concerns}
 use Rattle.cj_model.proofs.MaskBits.{has-and}
 use Rattle.cj_model.proofs.Masks.{has-zero}
 use Rattle.cj_cluster.specs.declared.event.Event.{Event}
-use Rattle.cj_cluster.specs.declared.event.Event.TheVariants.{Sched, Ended, ReadFailed, Disabled, Enabled, Marker}
+use Rattle.cj_cluster.specs.declared.event.Event.TheVariants.{Sched, Ended, ReadFailed, LogFailed, Disabled, Enabled, Marker}
 use Rattle.cj_cluster.specs.History.Histories.{scheduled_entry, is_end_event, log, ended_count, is_idle, entry_in_progress, is_enabled, events_left, markers, tx_of}
 use Rattle.cj_cluster.specs.History.Legality.{AreFitMasks, IsAllowedEvent, IsFitEntry, IsSessionEntry, IsAdministratorEntry}
 use Rattle.cj_cluster.specs.History.Transactions.{is_end}
@@ -19,6 +19,7 @@ use Rattle.cj_cluster.specs.Moves.Moves.{entry_numbered}
 use Rattle.cj_cluster.proofs.Pushed.{enabled-push, log-sched, log-same, legal_push, opened-sched, opened-same, opened-free, opened-ended}
 use Rattle.cj_cluster.proofs.TransactionLaws.{legal_fit}
 use Rattle.cj_place.specs.Layouts.{Layout, placement_of}
+use Rattle.cj_log.specs.Logs.{LogState}
 use Rattle.cj_book.specs.declared.sessions.BookSession.{BookSession}
 use Rattle.cj_book.specs.declared.transactions.OpenTransaction.{OpenTransaction}
 use Rattle.cj_book.specs.Books.{BookState, has_session, is_orphan, is_orphan_of, is_target_at, IsOfKnown}
@@ -67,6 +68,9 @@ module _ (layout : Layout) (h : List Event) (greatest mask : ℕ) (ss : List Boo
       ∙ (sym (target_same p (h ++ ReadFailed s q b ∷ []) h (entry_in_progress h) k (enabled-push h (ReadFailed s q b) k) (log-same h (ReadFailed s q b) refl))
       ∙ sym (ap (λ o. is_target_at p (h ++ ReadFailed s q b ∷ []) o k) (opened-same h (ReadFailed s q b) refl refl))))
 
+  pub follows_log_failed : (s q : ℕ) → 0 < events_left h → is_idle h ≡ true → Follows layout (h ++ LogFailed s q ∷ []) greatest mask ss ts
+  follows_log_failed s q space idle = follows_same (LogFailed s q) mask refl (omega arith) idle (no_targets (LogFailed s q) refl refl idle)
+
   pub follows_marker : (name : List ℕ) (b : Option ℕ) → 0 < events_left h → is_idle h ≡ true → list_any (bytes_eq name) (markers h) ≡ false → Follows layout (h ++ Marker name b ∷ []) greatest mask ss ts
   follows_marker name b space idle fresh = follows_same (Marker name b) mask refl (omega arith) (idle, fresh) (no_targets (Marker name b) refl refl idle)
 
@@ -100,9 +104,9 @@ module _ (layout : Layout) (h : List Event) (greatest mask : ℕ) (ss : List Boo
 
   -- ---- an entry that is scheduled
 
-  module _ (balance : Balance) (has_spare : Bool) (e : Entry) where
-    abbrev book : BookState
-    book = record { layout = layout; history = h; sessions = map session_number ss; greatest = greatest; balance = balance; has_spare = has_spare }
+  module _ {S : Type 0} (recovery_log : LogState S) (balance : Balance) (has_spare : Bool) (e : Entry) where
+    abbrev book : BookState S
+    book = record { layout = layout; history = h; sessions = map session_number ss; greatest = greatest; balance = balance; has_spare = has_spare; recovery_log = recovery_log }
 
     -- an open session's number was given
     given_number : has_session book e.session ≡ true → (0 < e.session) × (e.session ≤ greatest)

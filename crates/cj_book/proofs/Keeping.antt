@@ -5,7 +5,7 @@ use Rattle.std.proofs.lemmas.List.{get_or_append_left}
 use Rattle.std.proofs.lemmas.Option.{slice_get_cases, slice_get_past, slice_get-get_or, option_and_then_some}
 use Rattle.cj_model.specs.declared.request.Entry.{Entry}
 use Rattle.cj_cluster.specs.declared.event.Event.{Event}
-use Rattle.cj_cluster.specs.declared.event.Event.TheVariants.{Sched, Ended, ReadFailed, Disabled, Enabled, Marker}
+use Rattle.cj_cluster.specs.declared.event.Event.TheVariants.{Sched, Ended, ReadFailed, LogFailed, Disabled, Enabled, Marker}
 use Rattle.cj_cluster.specs.History.Histories.{scheduled_entry, is_end_event, log, ended_count, is_idle, is_enabled, events_left}
 use Rattle.cj_model.specs.Cluster.Masks.{in_mask}
 use Rattle.cj_cluster.proofs.Pushed.{get_seam, get_left, enabled-push, log-sched, log-same, done-same, done-ended}
@@ -87,6 +87,23 @@ module _ (n : ℕ) (h : List Event) (places : List ℕ) (count on cap : ℕ) (ha
         more = λ is. absurd (cc is);
       }
 
+  -- more room
+  pub keeps_room : (cap' : ℕ) (spare' : Bool) → cap ≤ cap' → (spare' ≡ true → length h + 2 ≤ cap') → KeepsHistory n h places count on cap' spare'
+  keeps_room cap' spare' more taken =
+      let spare : length h + (length (log h) - ended_count h) ≤ cap = k.spare in
+      record {
+        backend_count = k.backend_count;
+        entry_count = k.entry_count;
+        entries = k.entries;
+        ends = k.ends;
+        one_open = k.one_open;
+        mask = k.mask;
+        below = k.below;
+        short = k.short;
+        spare = omega arith;
+        more = taken;
+      }
+
   -- an event that leaves the log and the ends as they are
   keeps_same : (new : Event) (on' cap' : ℕ) → scheduled_entry new ≡ None → is_end_event new ≡ false → 0 < events_left h → ((b : ℕ) → in_mask on' b ≡ is_enabled (h ++ new ∷ []) b)
       → ((b : ℕ) → is_enabled (h ++ new ∷ []) b ≡ true → b < n) → length (h ++ new ∷ []) + 1 ≤ cap' → KeepsHistory n (h ++ new ∷ []) places count on' cap' false
@@ -164,6 +181,12 @@ module _ (n : ℕ) (h : List Event) (places : List ℕ) (count on cap : ℕ) (ha
   keeps_read_failed s q b cap' space spare =
       let same : (x : ℕ) → is_enabled (h ++ ReadFailed s q b ∷ []) x ≡ is_enabled h x = λ x. enabled-push h (ReadFailed s q b) x in
       keeps_same (ReadFailed s q b) on cap' refl refl space (λ x. k.mask x ∙ sym (same x)) (λ x is. k.below x (sym (same x) ∙ is)) spare
+
+  -- the log's store failed
+  pub keeps_log_failed : (s q cap' : ℕ) → 0 < events_left h → length (h ++ LogFailed s q ∷ []) + 1 ≤ cap' → KeepsHistory n (h ++ LogFailed s q ∷ []) places count on cap' false
+  keeps_log_failed s q cap' space spare =
+      let same : (x : ℕ) → is_enabled (h ++ LogFailed s q ∷ []) x ≡ is_enabled h x = λ x. enabled-push h (LogFailed s q) x in
+      keeps_same (LogFailed s q) on cap' refl refl space (λ x. k.mask x ∙ sym (same x)) (λ x is. k.below x (sym (same x) ∙ is)) spare
 
   -- a marker
   pub keeps_marker : (name : List ℕ) (b : Option ℕ) (cap' : ℕ) → 0 < events_left h → length (h ++ Marker name b ∷ []) + 1 ≤ cap' → KeepsHistory n (h ++ Marker name b ∷ []) places count on cap' false

@@ -1,5 +1,11 @@
+pub mod Begun
 pub mod Following
 pub mod Keeping
+pub mod Logged
+pub mod Named
 pub mod Numbered
+pub mod Recovering
 pub mod Serving
+pub mod Starting
 pub mod TransactionSteps
+pub mod Unasked

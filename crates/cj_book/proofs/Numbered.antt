@@ -54,7 +54,7 @@ module _ {A : Type 0} (number : A → ℕ) where
   -- ---- what is found
 
   -- none is found where no item has the number
-  found_none : (xs : List A) (n : ℕ) → Lacks n xs → numbered number xs n ≡ None
+  pub found_none : (xs : List A) (n : ℕ) → Lacks n xs → numbered number xs n ≡ None
   found_none [] n all = refl
   found_none (y ∷ xs) n all = rw (ne_eqb (number y) n (All-head (λ x. number x ≢ n) y xs all)) (found_none xs n (All-tail (λ x. number x ≢ n) y xs all))
 

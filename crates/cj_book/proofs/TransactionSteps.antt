@@ -451,7 +451,7 @@ module _ (entries : List Entry) (e : Entry) where
 -- ---- orphans
 
 -- a transaction of the list is an orphan where its session isn't open, and no other is one
-module _ (p : Placement) (book : BookState) (ts : List OpenTransaction) (k : KeepsTransactions p (log book.history) ts) where
+module _ {S : Type 0} (p : Placement) (book : BookState S) (ts : List OpenTransaction) (k : KeepsTransactions p (log book.history) ts) where
   abbrev entries : List Entry
   entries = log book.history
 

@@ -14,11 +14,12 @@ use Rattle.cj_cluster.specs.History.Histories.{log, is_idle, is_enabled, events_
 use Rattle.cj_cluster.specs.History.Answering.{HasServer, HasNoServer}
 use Rattle.cj_cluster.specs.Moves.Moves.{entry_numbered}
 use Rattle.cj_place.specs.Layouts.{Layout, placement_of}
+use Rattle.cj_log.specs.Logs.{LogState}
 use Rattle.cj_book.specs.declared.error.BookError.{BookError}
-use Rattle.cj_book.specs.declared.error.BookError.TheVariants.{InProgress, NoBackend, HistoryFull, NoMemory}
+use Rattle.cj_book.specs.declared.error.BookError.TheVariants.{InProgress, NoBackend, HistoryFull, LogFault, NoMemory}
 
 -- What contracts see of a book.
-pub record BookState : Type 0 where
+pub record BookState (S : Type 0) : Type 0 where
   -- the backends' names, and which tables they host
   pub layout : Layout
   pub history : List Event
@@ -29,50 +30,56 @@ pub record BookState : Type 0 where
   pub balance : Balance
   -- whether memory was taken for an event that may come
   pub has_spare : Bool
+  -- the recovery log, whose items are those of the history
+  pub recovery_log : LogState S
 
 -- which backends host which tables
-abbrev pub placement_at : BookState → Placement
+abbrev pub placement_at : {S : Type 0} → BookState S → Placement
 placement_at b = placement_of b.layout
 
 -- the book with one more event, which may have had the memory that was taken
-abbrev pub with_event : BookState → Event → BookState
+abbrev pub with_event : {S : Type 0} → BookState S → Event → BookState S
 with_event b e = record b { history = b.history ++ e ∷ []; has_spare = false }
+
+-- the book is as before, but maybe for its recovery log
+abbrev pub IsSameButLog : {S : Type 0} → BookState S → BookState S → Type 0
+IsSameButLog old new = new ≡ record old { recovery_log = new.recovery_log }
 
 -- ---- sessions and transactions
 
 -- the session is open
-abbrev pub has_session : BookState → ℕ → Bool
+abbrev pub has_session : {S : Type 0} → BookState S → ℕ → Bool
 has_session b s = list_any (λ n. n == s) b.sessions
 
 -- no session more can be opened
-abbrev pub has_no_number : BookState → Bool
+abbrev pub has_no_number : {S : Type 0} → BookState S → Bool
 has_no_number b = nat_le SESSION_LIMIT (length b.sessions) || nat_le SESSION_NUMBER_LIMIT b.greatest
 
 -- a session with the next number is open
-abbrev pub with_session : BookState → BookState
+abbrev pub with_session : {S : Type 0} → BookState S → BookState S
 with_session b = record b { sessions = b.sessions ++ (b.greatest + 1) ∷ []; greatest = b.greatest + 1 }
 
 -- the session is closed
-abbrev pub without_session : BookState → ℕ → BookState
+abbrev pub without_session : {S : Type 0} → BookState S → ℕ → BookState S
 without_session b s = record b { sessions = filter (λ n. not (n == s)) b.sessions }
 
 -- the transaction that this entry began is open, and its session isn't
-abbrev pub is_orphan_of : BookState → ℕ → Option Entry → Bool
+abbrev pub is_orphan_of : {S : Type 0} → BookState S → ℕ → Option Entry → Bool
 is_orphan_of b tx None = false
 is_orphan_of b tx (Some begin) = tx_of (log b.history) begin.session == tx && not (has_session b begin.session)
 
 -- an open transaction whose session isn't open
-abbrev pub is_orphan : BookState → ℕ → Bool
+abbrev pub is_orphan : {S : Type 0} → BookState S → ℕ → Bool
 is_orphan b tx = is_orphan_of b tx (entry_numbered (log b.history) tx)
 
 -- the entry is of a session that is open, or ends an orphan
-abbrev pub IsOfKnown : BookState → Entry → Type 0
+abbrev pub IsOfKnown : {S : Type 0} → BookState S → Entry → Type 0
 IsOfKnown b e = (has_session b e.session ≡ true) ⊎ ((e.session ≡ 0) × (is_orphan b e.tx ≡ true))
 
 -- ---- backends
 
 -- whether backend b is enabled and hosts each of the tables
-abbrev pub is_candidate : BookState → List (List ℕ) → ℕ → Bool
+abbrev pub is_candidate : {S : Type 0} → BookState S → List (List ℕ) → ℕ → Bool
 is_candidate b tables k = is_enabled b.history k && hosts_all (placement_at b) k tables
 
 -- whether backend k is a target of the entry, by the history that ends in it
@@ -80,7 +87,7 @@ abbrev pub is_target_at : Placement → List Event → Option Entry → ℕ → 
 is_target_at p h None k = false
 is_target_at p h (Some e) k = is_enabled h k && concerns p k (log h) e.tx e.act
 
-abbrev pub is_target : BookState → Option Entry → ℕ → Bool
+abbrev pub is_target : {S : Type 0} → BookState S → Option Entry → ℕ → Bool
 is_target b e k = is_target_at (placement_at b) b.history e k
 
 -- ---- reads
@@ -94,54 +101,56 @@ abbrev pub read_at : Balance → ℕ → Balance
 read_at balance b = record balance { standing = record (picked balance.policy balance.standing b) { pending = with_read balance.standing.pending b } }
 
 -- the balancer picks b of the candidates, and a read begins there
-pub record PicksOf (old new : BookState) (candidates b : ℕ) : Type 0 where
+pub record PicksOf {S : Type 0} (old new : BookState S) (candidates b : ℕ) : Type 0 where
   pub first : IsFirst (is_ahead old.balance.policy old.balance.weights old.balance.standing) candidates b
   pub stands : new ≡ record old { balance = read_at old.balance b }
 
 -- ---- why an event can't come
 
 -- entry n is open
-pub record IsInProgress (b : BookState) (n : ℕ) : Type 0 where
+pub record IsInProgress {S : Type 0} (b : BookState S) (n : ℕ) : Type 0 where
   pub open_now : is_idle b.history ≡ false
   pub number : n ≡ length (log b.history)
 
 -- no entry is open, and no enabled backend serves the act, which needs one
-pub record HasNoBackend (b : BookState) (a : Act) : Type 0 where
+pub record HasNoBackend {S : Type 0} (b : BookState S) (a : Act) : Type 0 where
   pub is_free : is_idle b.history ≡ true
   pub unserved : HasNoServer (placement_at b) b.history (request_of a)
 
 -- the act could be scheduled but for the room in the history of n events
-pub record LacksRoom (b : BookState) (a : Act) (n : ℕ) : Type 0 where
+pub record LacksRoom {S : Type 0} (b : BookState S) (a : Act) (n : ℕ) : Type 0 where
   pub is_free : is_idle b.history ≡ true
   pub served : HasServer (placement_at b) b.history (request_of a)
   pub full : events_left b.history < 3
   pub events : n ≡ length b.history
 
 -- the history of n events has no room for one more
-pub record HasNoRoomForOne (b : BookState) (n : ℕ) : Type 0 where
+pub record HasNoRoomForOne {S : Type 0} (b : BookState S) (n : ℕ) : Type 0 where
   pub full : events_left b.history < 1
   pub events : n ≡ length b.history
 
 -- an entry of this act can be scheduled
-pub record CanSchedule (b : BookState) (a : Act) : Type 0 where
+pub record CanSchedule {S : Type 0} (b : BookState S) (a : Act) : Type 0 where
   pub is_free : is_idle b.history ≡ true
   pub served : HasServer (placement_at b) b.history (request_of a)
   pub space : 3 ≤ events_left b.history
 
 -- whether an entry of this act can be scheduled, or the first reason against it
-abbrev pub Checks : {T : Type 0} → BookState → Act → Result T BookError → Type 0
+abbrev pub Checks : {S T : Type 0} → BookState S → Act → Result T BookError → Type 0
 Checks b a (Ok x) = CanSchedule b a
 Checks b a (Err (InProgress n)) = IsInProgress b n
 Checks b a (Err NoBackend) = HasNoBackend b a
 Checks b a (Err (HistoryFull n)) = LacksRoom b a n
+Checks b a (Err LogFault) = ⊥
 Checks b a (Err NoMemory) = ⊥
 
 -- whether there is room for one more event, beside those kept for the end of an open entry
-abbrev pub HasRoom : {T : Type 0} → BookState → Result T BookError → Type 0
+abbrev pub HasRoom : {S T : Type 0} → BookState S → Result T BookError → Type 0
 HasRoom b (Ok x) = 0 < events_left b.history
 HasRoom b (Err (InProgress n)) = ⊥
 HasRoom b (Err NoBackend) = ⊥
 HasRoom b (Err (HistoryFull n)) = HasNoRoomForOne b n
+HasRoom b (Err LogFault) = ⊥
 HasRoom b (Err NoMemory) = ⊥
 
 -- want of room in the history, or of memory
@@ -149,4 +158,5 @@ abbrev pub IsWant : BookError → Type 0
 IsWant (InProgress n) = ⊥
 IsWant NoBackend = ⊥
 IsWant (HistoryFull n) = Unit {0}
+IsWant LogFault = ⊥
 IsWant NoMemory = Unit {0}

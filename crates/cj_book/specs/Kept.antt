@@ -11,6 +11,8 @@ use Rattle.cj_cluster.specs.History.Legality.{IsLegal}
 use Rattle.cj_model.specs.Cluster.Masks.{in_mask}
 use Rattle.cj_model.specs.Cluster.Placements.{Placement, wrote_at}
 use Rattle.cj_opening.specs.declared.markers.MarkerName.{MarkerName}
+use Rattle.cj_log.specs.declared.item.LogItem.{LogItem}
+use Rattle.cj_opening.specs.Openings.{items_of}
 use Rattle.cj_opening.specs.Proving.Keeping.{KeepsMarkers}
 use Rattle.cj_place.specs.Layouts.{Layout, placement_of}
 use Rattle.cj_book.specs.Books.{is_target_at}
@@ -77,7 +79,8 @@ pub record KeepsRoom (ss : List BookSession) (capacity : ℕ) : Type 0 where
   pub room : SESSION_LIMIT ≤ capacity
 
 -- what a book keeps beside what contracts see of it
-pub record IsKeptBook (layout : Layout) (h : List Event) (places : List ℕ) (ended on capacity : ℕ) (has_spare : Bool) (greatest targets : ℕ) (ss : List BookSession) (ts : List OpenTransaction) (names : BTreeSet MarkerName) : Type 0 where
+pub record IsKeptBook (layout : Layout) (h : List Event) (places : List ℕ) (ended on capacity : ℕ) (has_spare : Bool) (greatest targets : ℕ) (ss : List BookSession) (ts : List OpenTransaction) (names : BTreeSet MarkerName) (items : List LogItem) : Type 0 where
   pub history : KeepsHistory (length layout.names) h places ended on capacity has_spare
   pub follows : Follows layout h greatest targets ss ts
   pub marked : KeepsMarkers h names
+  pub logged : items_of h ≡ items

@@ -1,3 +1,5 @@
 pub mod Books
+pub mod Found
 pub mod Kept
 pub mod Lists
+pub mod Starts

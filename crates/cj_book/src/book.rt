@@ -1,6 +1,6 @@
 //! The history, and what is kept of it.
 
-ghost use Rattle.std.specs.Prelude.{◌≡◌, ◌↔◌, ◌+◌, ◌-◌, ◌^◌, ◌<◌, ◌≤◌, ◌&&◌, ℕ, true, false, [], ◌∷◌, ◌++◌, length, slice_get, slice_index, vec_capacity, option_copied, IsNone, IfSome, IfOk, IfErr, OnOk, OnErr, IsErr, IsErrOf, IsTrue};
+ghost use Rattle.std.specs.Prelude.{List, not, ◌≡◌, ◌≢◌, ◌⊎◌, Some, ◌↔◌, ◌+◌, ◌-◌, ◌^◌, ◌<◌, ◌≤◌, ◌&&◌, ℕ, true, false, [], ◌∷◌, ◌++◌, length, slice_get, slice_index, vec_capacity, option_copied, IsNone, IfSome, IfOk, IfErr, OnOk, OnErr, IsErr, IsErrOf, IsTrue};
 ghost use Rattle.cj_model.specs.Sql.PlainRequests.{request_of};
 ghost use Rattle.cj_model.specs.Cluster.Balancing.{one_less};
 ghost use Rattle.cj_model.specs.Cluster.Placements as placements;
@@ -11,20 +11,34 @@ ghost use Rattle.cj_cluster.specs.History.Legality.{AreFitMasks, IsFitEntry, IsL
 ghost use Rattle.cj_model.specs.Cluster.Masks.{in_mask};
 ghost use Rattle.cj_cluster.specs.History.Answering.{HasServer, HasNoServer};
 ghost use Rattle.cj_book.specs.Books as books;
-ghost use Rattle.cj_book.specs.Books.{placement_at, with_event, has_session, has_no_number, is_candidate, is_target, IsOfKnown, IsInProgress, HasNoBackend, LacksRoom, CanSchedule, Checks, HasNoRoomForOne, HasRoom, IsWant, PicksOf};
+ghost use Rattle.cj_book.specs.Books.{placement_at, with_event, has_session, has_no_number, is_candidate, is_target, IsOfKnown, IsInProgress, HasNoBackend, LacksRoom, CanSchedule, Checks, HasNoRoomForOne, HasRoom, IsSameButLog, IsWant, PicksOf};
+ghost use Rattle.cj_book.specs.Starts.{IsStarted, Starts, CountsStartFault};
+ghost use Rattle.cj_book.specs.Found.{start_error_of, entry_error_of};
+ghost use Rattle.std.specs.BTreeSet.{contains};
+ghost use Rattle.std.specs.Str.{bytes_eq};
+ghost use Rattle.cj_opening.specs.Proving.MarkerOrder.{marker_cmp, named};
+ghost use Rattle.cj_cluster.specs.declared.event.Event.TheVariants as events;
+ghost use Rattle.cj_log.specs.Logs as logs;
+ghost use Rattle.cj_opening.specs.Openings.{entry_item, marker_item, items_of};
+ghost use Rattle.cj_outside.specs.Causes.{CountsFault};
+ghost use Rattle.cj_outside.specs.Stores.{LeavesOnly, Only};
 ghost use Rattle.cj_book.specs.Kept as kept;
 
-use crate::error::{BookError, SessionsFull};
+use crate::error::{BookError, SessionsFull, StartError};
+use crate::recovered::recover;
 use crate::sessions::BookSessions;
 use crate::transactions::OpenTransactions;
 use cj_balance::Balancer;
 use cj_cluster::Event;
+use cj_log::{Log, LogError, LogItem, LogMarker};
 use cj_model::{
     Act, BACKEND_LIMIT, EVENT_LIMIT, Entry, Name, NoMemory, SESSION_LIMIT, SESSION_NUMBER_LIMIT,
     has_bit,
 };
-use cj_opening::MarkerName;
+use cj_opening::{MarkerName, OpeningError, entry_item as item_of_entry};
+use cj_outside::Store;
 use cj_place::Placement;
+use cj_records::RecordsError;
 use cj_usage::written;
 use std::alloc::Global;
 use std::collections::BTreeSet;
@@ -41,7 +55,8 @@ pub struct BookParts {
 ///
 /// It keeps these at hand, so that no call walks over the history. A mask has bit b for backend b. Entries are numbered from 1.
 #[derive(Drop)]
-pub struct Book {
+pub struct Book<S: Store> {
+    alloc: Global,
     placement: Placement,
     balancer: Balancer,
     history: Vec<Event>,
@@ -61,25 +76,26 @@ pub struct Book {
     marker_names: BTreeSet<MarkerName>,
     /// Whether memory was taken for an event that may come.
     has_spare: bool,
+    recovery_log: Log<S>,
 }
 
-impl Model for Book {
+impl<S: Store> Model for Book<S> {
     ghost use Rattle.std.specs.Prelude.{map, vec_capacity};
     ghost use Rattle.cj_book.specs.Books.{BookState};
     ghost use Rattle.cj_book.specs.Kept.{IsKeptBook};
     ghost use Rattle.cj_book.specs.Lists.{session_number};
 
-    ghost Value = { BookState };
+    ghost Value = { BookState S };
 
     ghost use Rattle.std.specs.Coded.{codes};
     ghost use Rattle.cj_model.specs.Proving.ConditionCode.{coded_condition};
 
     ghost coded = { Prim.hlevel (codes, coded_condition) };
 
-    ghost view = { λ book. record { layout = book.placement; history = book.history.items; sessions = map session_number book.sessions; greatest = book.greatest; balance = book.balancer; has_spare = book.has_spare } };
+    ghost view = { λ book. record { layout = book.placement; history = book.history.items; sessions = map session_number book.sessions; greatest = book.greatest; balance = book.balancer; has_spare = book.has_spare; recovery_log = book.recovery_log } };
 
     ghost invariant = { λ book. IsKeptBook book.placement book.history.items book.scheduled.items book.done book.enabled
-        (vec_capacity book.history) book.has_spare book.greatest book.targets book.sessions book.transactions book.marker_names };
+        (vec_capacity book.history) book.has_spare book.greatest book.targets book.sessions book.transactions book.marker_names book.recovery_log.items };
 }
 
 fn entry_at(history: &[Event], place: usize) -> Option<&Entry>
@@ -122,28 +138,85 @@ fn begin_read(balancer: &mut Balancer, b: u8)
     }
 }
 
-impl Book {
-    /// A book with no event and no session.
-    pub fn new(alloc: Global, parts: BookParts) -> Result<Book, NoMemory>
-        ensures { IfOk result (λ book. book ≡ record { layout = parts.placement; history = []; sessions = []; greatest = 0; balance = parts.balancer; has_spare = false }) }
+/// A marker as an item, to be appended.
+fn marker_of(after: u64, name: &Name, b: Option<u8>) -> LogItem
+    ensures { result ≡ marker_item after name.now b }
+{
+    LogItem::Marker(LogMarker {
+        after,
+        name: name.copy(),
+        b,
+    })
+}
+
+/// Takes a name back.
+fn forget(names: &mut BTreeSet<MarkerName>, name: &Name)
+    ensures { (q : List ℕ) → contains marker_cmp names.new (named q) ≡ (not (bytes_eq q name.now) && contains marker_cmp names.old (named q)) }
+{
+    names.remove(&MarkerName { name: name.copy() });
+}
+
+/// Why the log wasn't opened.
+fn start_error(error: RecordsError) -> StartError
+    ensures { result ≡ start_error_of error }
+{
+    match error {
+        RecordsError::Failed => StartError::StoreFault,
+        RecordsError::BadRecord(offset) => StartError::BadRecord(offset),
+        RecordsError::NoMemory => StartError::NoMemory,
+    }
+}
+
+/// Why its items are no history's.
+fn entry_error(error: OpeningError) -> StartError
+    ensures { result ≡ entry_error_of error }
+{
+    match error {
+        OpeningError::BadEntry(n) => StartError::BadEntry(n),
+        OpeningError::NoMemory => StartError::NoMemory,
+    }
+}
+
+impl<S: Store> Book<S> {
+    /// Opens the book of the log in a store, which is begun where the store is new.
+    ///
+    /// The items of the log are read first (`BadRecord`), and then the history that they open with (`BadEntry`). Refused, it hands
+    /// the store back, in which nothing was written but the bytes of a new file.
+    pub fn open(alloc: Global, parts: BookParts, store: S) -> Result<Book<S>, (StartError, S)>
+        requires { S.TELLS ≡ true → Only (S.held store) (S.may store) }
+        ensures started { IfOk result (IsStarted parts.placement parts.balancer) }
+        ensures bytes { S.TELLS ≡ true → Starts S.held (S.held store) result }
+        ensures cause { CountsStartFault S.faults (S.faults store) result }
     {
-        let sessions = BookSessions::new(alloc)?;
+        let recovery_log = match Log::open(alloc, store) {
+            Ok(recovery_log) => recovery_log,
+            Err((error, store)) => return Err((start_error(error), store)),
+        };
+        recovery_log.legal();
+        let Ok(sessions) = BookSessions::new(alloc) else {
+            return Err((StartError::NoMemory, recovery_log.into_store()));
+        };
         // There are some backends, and not too many.
         let _ = parts.placement.count();
-        Ok(Book {
-            placement: parts.placement,
-            balancer: parts.balancer,
-            history: Vec::new(alloc),
-            scheduled: Vec::new(alloc),
-            done: 0,
-            enabled: 0,
-            targets: 0,
-            sessions,
-            greatest: 0,
-            transactions: OpenTransactions::new(alloc),
-            marker_names: BTreeSet::new(alloc),
-            has_spare: false,
-        })
+        match recover(alloc, &parts.placement, recovery_log.items()) {
+            Ok((history, found)) => Ok(Book {
+                alloc,
+                placement: parts.placement,
+                balancer: parts.balancer,
+                history,
+                done: found.scheduled.len(),
+                scheduled: found.scheduled,
+                enabled: 0,
+                targets: 0,
+                sessions,
+                greatest: found.greatest,
+                transactions: found.transactions,
+                marker_names: found.marker_names,
+                has_spare: false,
+                recovery_log,
+            }),
+            Err(error) => Err((entry_error(error), recovery_log.into_store())),
+        }
     }
 
     /// Which backends host which tables.
@@ -153,11 +226,30 @@ impl Book {
         &self.placement
     }
 
-    /// Whether the history is one that can be.
+    /// Shows what holds of all books: the history is one that can be, and the log's items are its entries and markers. The bytes of
+    /// the log, and what a stop leaves of them, keep these items, as long as no append was refused while it opened a gate.
     pub fn legal(&self)
-        ensures { IsLegal self.now.history }
+        ensures legal { IsLegal self.now.history }
+        ensures logged { items_of self.now.history ≡ self.now.recovery_log.items }
+        ensures kept { S.TELLS ≡ true → self.now.recovery_log.torn ≡ false → logs.KeepsItems (S.held self.now.recovery_log.store) (items_of self.now.history) }
+        ensures safe { S.TELLS ≡ true → self.now.recovery_log.torn ≡ false → logs.LeavesItems (S.may self.now.recovery_log.store) (items_of self.now.history) }
     {
-        let _ = &self.history;
+        self.recovery_log.legal();
+    }
+
+    /// The items of the log: the entries and markers of the history, in order.
+    pub fn items(&self) -> &[LogItem]
+        ensures { result.now ≡ items_of self.now.history }
+    {
+        self.recovery_log.items()
+    }
+
+    /// The log's store, as it is.
+    pub fn into_log(self) -> S
+        ensures { result ≡ self.recovery_log.store }
+    {
+        let Book { recovery_log, .. } = self;
+        recovery_log.into_store()
     }
 
     /// How many events there are.
@@ -271,10 +363,7 @@ impl Book {
         requires { IsFitEntry (log self.now.history) e.now }
         ensures { (b : ℕ) → in_mask result b ≡ concerns (placement_at self.now) b (log self.now.history) e.now.tx e.now.act }
     {
-        match written(&e.act) {
-            Some(table) => self.placement.hosts(table),
-            None => self.transactions.wrote(e.tx),
-        }
+        self.transactions.concerned(&self.placement, e)
     }
 
     /// The mask of the enabled backends that host each of the tables.
@@ -320,28 +409,71 @@ impl Book {
         Ok(())
     }
 
-    /// Schedules an entry, which is then open, and answers its number.
+    /// The log's store failed, while no entry is open: the history has an event of that, for which memory was taken.
+    fn note_fault(&mut self, session: u64, seq: u64)
+        requires is_free { is_idle self.old.history ≡ true }
+        requires space { 0 < histories.events_left self.old.history }
+        requires spare { self.old.has_spare ≡ true }
+        ensures { self.new ≡ with_event self.old (events.LogFailed session seq) }
+    {
+        self.history
+            .push_reserved(Event::LogFailed { session, seq });
+        self.has_spare = false;
+    }
+
+    /// Schedules an entry, which is then open, and answers its number. It stands in the log before it comes into the history.
     ///
-    /// Where it is refused for several reasons, the error is the first of them in the order of the variants.
+    /// Where it is refused for several reasons, the error is the first of them in the order of the variants. Where the log's store
+    /// failed, the history has an event of that; else it is as it was.
     pub fn schedule(&mut self, e: Entry) -> Result<u64, BookError>
         requires fit { is_idle self.old.history ≡ true → IsFitEntry (log self.old.history) e }
         requires known { IsOfKnown self.old e }
-        ensures ok { OnOk result (self.new ≡ with_event self.old (Event.Sched e)) }
+        ensures ok { OnOk result (IsSameButLog (with_event self.old (events.Sched e)) self.new) }
         ensures number { IfOk result (λ n. n ≡ length (log self.new.history)) }
         ensures ready { OnOk result (CanSchedule self.old e.act) }
 
         ensures in_progress { (n : ℕ) → IsErrOf result (BookError.InProgress n) ↔ IsInProgress self.old n }
         ensures no_backend { IsErrOf result BookError.NoBackend ↔ HasNoBackend self.old e.act }
         ensures full { (n : ℕ) → IsErrOf result (BookError.HistoryFull n) ↔ LacksRoom self.old e.act n }
-        ensures err { OnErr result (self.new ≡ self.old) }
+        ensures faulted { IsErrOf result BookError.LogFault → CanSchedule self.old e.act }
+        ensures log_fault { IsErrOf result BookError.LogFault → IsSameButLog (with_event self.old (events.LogFailed e.session e.seq)) self.new }
+        ensures same { OnErr result (¬ IsErrOf result BookError.LogFault → IsSameButLog self.old self.new) }
+        ensures checked { OnErr result (¬ IsErrOf result BookError.LogFault → ¬ IsErrOf result BookError.NoMemory → self.new ≡ self.old) }
+
+        // One rise of the store's count for each fault told, and none else.
+        ensures cause { CountsFault (IsErrOf result BookError.LogFault) (S.faults self.old.recovery_log.store) (S.faults self.new.recovery_log.store) }
+        // `NoMemory` comes only before the gate of the item is opened.
+        ensures memory { S.TELLS ≡ true → IsErrOf result BookError.NoMemory → self.new.recovery_log.torn ≡ true → self.old.recovery_log.torn ≡ true }
+        // A stop at any moment of the call leaves the items from before it, or one more; after `Ok` a stop leaves the entry.
+        ensures any_moment { S.TELLS ≡ true → LeavesOnly S.moment S.since self.old.recovery_log.store self.new.recovery_log.store
+            (logs.IsBeforeOrAfter self.old.recovery_log (entry_item (length (log self.old.history) + 1) e)) }
+        ensures refused { S.TELLS ≡ true → logs.Refuses self.old.recovery_log (entry_item (length (log self.old.history) + 1) e) self.new.recovery_log result }
+        ensures safe { S.TELLS ≡ true → OnOk result (logs.LeavesItems (S.may self.new.recovery_log.store) (items_of self.new.history)) }
     {
+        self.recovery_log.legal();
         self.check_schedule(&e.act)?;
         let hosts = self.concerned(&e);
         let number = self.length() + 1;
         let place = self.history.len();
+        let item = item_of_entry(self.alloc, number, &e)?;
+        // Once the item stands in the log, nothing may fail any more: so all memory is taken before.
         self.scheduled.reserve(1)?;
         self.history.reserve(2)?;
-        self.transactions.follow(number, &e, hosts)?;
+        self.transactions.prepare(number, &e)?;
+        match self.recovery_log.append(item) {
+            Ok(()) => {}
+            Err(LogError::NoMemory) => {
+                self.transactions.end(number);
+                return Err(BookError::NoMemory);
+            }
+            Err(LogError::Failed) => {
+                self.transactions.end(number);
+                self.has_spare = true;
+                self.note_fault(e.session, e.seq);
+                return Err(BookError::LogFault);
+            }
+        }
+        self.transactions.follow(&e, hosts);
         self.sessions.follow(number, &e);
         self.scheduled.push_reserved(place);
         self.history.push_reserved(Event::Sched(e));
@@ -407,21 +539,50 @@ impl Book {
             .contains(&MarkerName { name: name.copy() })
     }
 
-    /// Marks a checkpoint while no entry is open, and answers how many entries stand before it.
+    /// Marks a checkpoint while no entry is open, and answers how many entries stand before it. It stands in the log before it
+    /// comes into the history.
     pub fn mark(&mut self, name: &Name, b: Option<u8>) -> Result<u64, BookError>
         requires is_free { is_idle self.old.history ≡ true }
         requires fresh { histories.has_marker self.old.history name.now ≡ false }
-        ensures ok { OnOk result (self.new ≡ with_event self.old (Event.Marker name.now b)) }
+        requires named { name.now ≢ [] }
+        requires backend { b ≢ Some 255 }
+        ensures ok { OnOk result (IsSameButLog (with_event self.old (events.Marker name.now b)) self.new) }
         ensures number { IfOk result (λ n. n ≡ length (log self.new.history)) }
         ensures space { OnOk result (0 < histories.events_left self.old.history) }
         ensures full { (n : ℕ) → IsErrOf result (BookError.HistoryFull n) ↔ HasNoRoomForOne self.old n }
-        ensures want { IfErr result IsWant }
-        ensures err { OnErr result (self.new ≡ self.old) }
+        ensures want { IfErr result (λ error. IsWant error ⊎ (error ≡ BookError.LogFault)) }
+        ensures faulted { IsErrOf result BookError.LogFault → 0 < histories.events_left self.old.history }
+        ensures log_fault { IsErrOf result BookError.LogFault → IsSameButLog (with_event self.old (events.LogFailed 0 0)) self.new }
+        ensures same { OnErr result (¬ IsErrOf result BookError.LogFault → IsSameButLog self.old self.new) }
+        ensures checked { OnErr result (¬ IsErrOf result BookError.LogFault → ¬ IsErrOf result BookError.NoMemory → self.new ≡ self.old) }
+
+        // The rest is as for an entry.
+        ensures cause { CountsFault (IsErrOf result BookError.LogFault) (S.faults self.old.recovery_log.store) (S.faults self.new.recovery_log.store) }
+        ensures memory { S.TELLS ≡ true → IsErrOf result BookError.NoMemory → self.new.recovery_log.torn ≡ true → self.old.recovery_log.torn ≡ true }
+        ensures any_moment { S.TELLS ≡ true → LeavesOnly S.moment S.since self.old.recovery_log.store self.new.recovery_log.store
+            (logs.IsBeforeOrAfter self.old.recovery_log (marker_item (length (log self.old.history)) name.now b)) }
+        ensures refused { S.TELLS ≡ true → logs.Refuses self.old.recovery_log (marker_item (length (log self.old.history)) name.now b) self.new.recovery_log result }
+        ensures safe { S.TELLS ≡ true → OnOk result (logs.LeavesItems (S.may self.new.recovery_log.store) (items_of self.new.history)) }
     {
+        self.recovery_log.legal();
         self.check_room()?;
         let number = self.length();
+        // As for an entry, all memory is taken before.
         self.history.reserve(2)?;
         self.marker_names.insert(MarkerName { name: name.copy() })?;
+        match self.recovery_log.append(marker_of(number, name, b)) {
+            Ok(()) => {}
+            Err(LogError::NoMemory) => {
+                forget(&mut self.marker_names, name);
+                return Err(BookError::NoMemory);
+            }
+            Err(LogError::Failed) => {
+                forget(&mut self.marker_names, name);
+                self.has_spare = true;
+                self.note_fault(0, 0);
+                return Err(BookError::LogFault);
+            }
+        }
         self.history.push_reserved(Event::Marker {
             name: name.copy(),
             b,

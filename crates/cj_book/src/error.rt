@@ -1,4 +1,4 @@
-//! Why an event didn't come into the history.
+//! Why an event didn't come into the history, or no book was opened.
 
 use cj_model::NoMemory;
 use std::alloc::{AllocError, AllocFailed};
@@ -16,6 +16,9 @@ pub enum BookError {
     /// The history has so many events, and no room for more.
     #[error("the history of {0} events is full")]
     HistoryFull(u64),
+    /// The log's store failed, and has counted it. The history has an event of it.
+    #[error("the store of the recovery log failed")]
+    LogFault,
     #[error("out of memory")]
     NoMemory,
 }
@@ -51,6 +54,22 @@ impl From<NoMemory> for BookError {
     fn from(_error: NoMemory) -> BookError {
         BookError::NoMemory
     }
+}
+
+/// Why no book was opened.
+#[derive(Clone, Copy, Debug, PartialEq, Eq, Error)]
+pub enum StartError {
+    /// The log's store failed, and has counted it.
+    #[error("the store of the recovery log failed")]
+    StoreFault,
+    /// The record at this offset of the log is bad, or its magic.
+    #[error("bad record: {0}")]
+    BadRecord(u64),
+    /// The item that should have been entry `n`, or a marker before it, is none.
+    #[error("bad entry: {0}")]
+    BadEntry(u64),
+    #[error("out of memory")]
+    NoMemory,
 }
 
 /// No session more can be opened: so many are open, or the last number was given.

@@ -1,10 +1,18 @@
 //! The open transactions.
 
-ghost use Rattle.std.specs.Prelude.{◌≡◌, ◌<◌, [], ◌∷◌, ◌++◌, All, MatchOption, None, OnOk, OnErr};
+ghost use Rattle.std.specs.Prelude.{◌≡◌, ◌<◌, ℕ, List, [], ◌∷◌, ◌++◌, All, MatchOption, None, OnOk, OnErr};
+ghost use Rattle.cj_model.specs.declared.request.Entry.{Entry};
+ghost use Rattle.cj_model.specs.Cluster.Masks.{in_mask};
+ghost use Rattle.cj_model.specs.Cluster.Placements.{concerns};
+ghost use Rattle.cj_cluster.specs.History.Legality.{IsFitEntry};
+ghost use Rattle.cj_place.specs.Layouts.{placement_of};
+ghost use Rattle.cj_book.specs.Kept.{KeepsTransactions};
 ghost use Rattle.cj_book.specs.Lists.{IsPlaceOf, new_tx, numbered, tx_number, with_wrote, without, wrote_of};
 ghost use Rattle.cj_book.specs.Lists as lists;
 
 use cj_model::{Act, Entry, NoMemory};
+use cj_place::Placement;
+use cj_usage::written;
 use std::alloc::Global;
 use std::marker::Model;
 
@@ -97,7 +105,8 @@ impl OpenTransactions {
         }
     }
 
-    fn end(&mut self, number: u64)
+    /// Lets the transaction of a number go.
+    pub fn end(&mut self, number: u64)
         ensures { self.new ≡ without tx_number number self.old }
     {
         if let Some(place) = self.place_of(number) {
@@ -105,18 +114,38 @@ impl OpenTransactions {
         }
     }
 
-    /// Entry `number` of the log is scheduled, which concerns these backends. Only a BEGIN takes memory.
-    pub fn follow(&mut self, number: u64, e: &Entry, hosts: u32) -> Result<(), NoMemory>
+    /// The mask of the backends that an entry concerns which may come behind the entries of these transactions.
+    pub fn concerned(&self, placement: &Placement, e: &Entry) -> u32
+        ensures { (entries : List Entry) → KeepsTransactions (placement_of placement.now) entries self.now → IsFitEntry entries e.now
+            → (b : ℕ) → in_mask result b ≡ concerns (placement_of placement.now) b entries e.now.tx e.now.act }
+    {
+        match written(&e.act) {
+            Some(table) => placement.hosts(table),
+            None => self.wrote(e.tx),
+        }
+    }
+
+    /// Adds the transaction that entry `number` of the log is to begin, before it is scheduled: an `end` takes it back. Only a
+    /// BEGIN takes memory.
+    pub fn prepare(&mut self, number: u64, e: &Entry) -> Result<(), NoMemory>
         requires { All (λ t. tx_number t < number) self.old }
-        ensures ok { OnOk result (self.new ≡ lists.transactions_after self.old number hosts e.now e.now.act) }
+        ensures ok { OnOk result (self.new ≡ lists.transactions_begun self.old number e.now e.now.act) }
         ensures err { OnErr result (self.new ≡ self.old) }
     {
         match &e.act {
-            Act::Begin => self.begin(number, e.session)?,
+            Act::Begin => self.begin(number, e.session),
+            Act::Write(_) | Act::Create(_) | Act::Drop(_) | Act::Commit | Act::Abort => Ok(()),
+        }
+    }
+
+    /// A prepared entry is scheduled, which concerns these backends. It takes no memory.
+    pub fn follow(&mut self, e: &Entry, hosts: u32)
+        ensures { self.new ≡ lists.transactions_followed self.old hosts e.now e.now.act }
+    {
+        match &e.act {
             Act::Write(_) => self.add_hosts(e.tx, hosts),
-            Act::Create(_) | Act::Drop(_) => {}
+            Act::Begin | Act::Create(_) | Act::Drop(_) => {}
             Act::Commit | Act::Abort => self.end(e.tx),
         }
-        Ok(())
     }
 }

@@ -9,4 +9,9 @@ pub mod SoloReads
 pub mod SoloTaking
 pub mod SoloTurns
 pub mod SoloWrites
+pub mod StartEnables
+pub mod StartEnds
+pub mod StartReplays
+pub mod StartTakes
+pub mod StartWhole
 pub mod Starting

@@ -13,17 +13,18 @@ use Rattle.cj_cluster.specs.Moves.Moves.{MoveResult}
 use Rattle.cj_cluster.specs.Moves.Runs.{RunsMoves, IsMoveOfCluster, CanCountRequests}
 use Rattle.cj_cluster.proofs.Growth.{Grows, can_count, runs_push, runs_grow, runs_sound}
 use Rattle.cj_cluster.proofs.Chains.{run_chained}
-use Rattle.cj_state.specs.Worlds.{WorldState, IsWorld}
-use Rattle.cj_moves.specs.Counting.{blamed}
+use Rattle.cj_state.specs.Worlds.{WorldState, IsSameButLog, IsWorld}
+use Rattle.cj_moves.specs.Counting.{blamed, log_faults_after, tells_log_fault}
 use Rattle.cj_state.specs.Faults.{faults_of, faults_after}
 use Rattle.cj_moves.specs.Steps.{CanAsk, IsMet}
-use Rattle.cj_core.specs.Played.{given_of, faults_over, HaveCauses, MovesWorld, RunsWorld, HasRun, HasRunInPart}
+use Rattle.cj_core.specs.Played.{given_of, faults_over, log_faults_over, HaveCauses, MovesWorld, RunsWorld, HasRun, HasRunInPart}
 
 -- the first n moves were made, with what each came to
 pub record Making (tells armable : Bool) (old : WorldState) (moves : List Move) (n : ℕ) (came : List Made) (now : WorldState) : Type 0 where
   pub steps : RunsWorld tells armable old (take n moves) (map given_of came) now
   pub runs : RunsMoves tells old.core (take n moves) (map given_of came) now.core
   pub causes : HaveCauses old now (take n moves) (map given_of came)
+  pub log_causes : now.recovery_log.faults ≡ log_faults_over old.recovery_log.faults (take n moves) (map given_of came)
 
 -- ---- causes
 
@@ -34,6 +35,13 @@ over_push tells faults c z [] [] m g runs = refl
 over_push tells faults c z (n ∷ ms) (q ∷ gs) m g runs = over_push tells (faults_after faults (blamed n q)) runs.0 z ms gs m g runs.2
 over_push tells faults c z [] (q ∷ gs) m g runs = absurd runs
 over_push tells faults c z (n ∷ ms) [] m g runs = absurd runs
+
+log_over_push : (tells : Bool) (faults : ℕ) (c z : Core) (ms : List Move) (gs : List MoveResult) (m : Move) (g : MoveResult) → RunsMoves tells c ms gs z
+    → log_faults_over faults (ms ++ m ∷ []) (gs ++ g ∷ []) ≡ log_faults_after (log_faults_over faults ms gs) (tells_log_fault m g)
+log_over_push tells faults c z [] [] m g runs = refl
+log_over_push tells faults c z (n ∷ ms) (q ∷ gs) m g runs = log_over_push tells (log_faults_after faults (tells_log_fault n q)) runs.0 z ms gs m g runs.2
+log_over_push tells faults c z [] (q ∷ gs) m g runs = absurd runs
+log_over_push tells faults c z (n ∷ ms) [] m g runs = absurd runs
 
 -- ---- from move to move
 
@@ -47,7 +55,7 @@ steps_push tells armable old (n ∷ ms) [] mid m g new none next = absurd none
 
 -- at first none was made
 pub making_none : (tells armable : Bool) (old : WorldState) (moves : List Move) → Making tells armable old moves 0 [] old
-making_none tells armable old moves = record { steps = refl; runs = refl; causes = refl }
+making_none tells armable old moves = record { steps = refl; runs = refl; causes = refl; log_causes = refl }
 
 -- one more was made
 pub making_more : (tells armable : Bool) (old : WorldState) (moves : List Move) (n : ℕ) (m : Move) (came : List Made) (mid : WorldState) (made : Made) (new : WorldState) → n < length moves → m ≡ get_or moves n m
@@ -56,10 +64,12 @@ making_more tells armable old moves n m came mid made new lt is making next =
     let more : take (n + 1) moves ≡ take n moves ++ m ∷ [] = take_more moves n m lt ∙ ap (λ (x : Move). take n moves ++ x ∷ []) (sym is) in
     let pushed = map_push given_of came made in
     let over = over_push tells (faults_of old.cells) old.core mid.core (take n moves) (map given_of came) m (given_of made) making.runs in
+    let log_over = log_over_push tells old.recovery_log.faults old.core mid.core (take n moves) (map given_of came) m (given_of made) making.runs in
     record {
       steps = rw (more, pushed) (steps_push tells armable old (take n moves) (map given_of came) mid m (given_of made) new making.steps next);
       runs = rw (more, pushed) (runs_push tells old.core (take n moves) (map given_of came) mid.core m (given_of made) new.core making.runs next.moves);
       causes = rw (more, pushed) (next.causes ∙ (ap (λ (xs : List ℕ). faults_after xs (blamed m (given_of made))) making.causes ∙ sym over));
+      log_causes = rw (more, pushed) (next.log_causes ∙ (ap (λ (x : ℕ). log_faults_after x (tells_log_fault m (given_of made))) making.log_causes ∙ sym log_over));
     }
 
 -- ---- what holds on the way
@@ -109,6 +119,7 @@ module _ (tells armable : Bool) (old : WorldState) (moves : List Move) (n : ℕ)
         runs = making.runs;
         chains = run_chained tells old.core (take n moves) (map given_of came) now.core world.sound front_are front_count making.runs;
         causes = making.causes;
+        log_causes = making.log_causes;
       }
 
   -- the next move can be asked for
@@ -118,6 +129,6 @@ module _ (tells armable : Bool) (old : WorldState) (moves : List Move) (n : ℕ)
       let here : IsMoveOfCluster old.core.placement.backends m = subst (IsMoveOfCluster old.core.placement.backends) (sym is) (All-get_or (IsMoveOfCluster old.core.placement.backends) moves n m lt are) in
       (subst (λ (p : Placement). IsMoveOfCluster p.backends m) (sym grown.placement) here, can_ask now.core (can_count (length (take n moves)) 1 old.core now.core grown room) m)
 
-  -- no more of them are
-  pub making_part : HasRunInPart tells armable old moves now
-  making_part = record { count = n; within = within; given = map given_of came; run = making_run }
+  -- no more of them are, where the next one left at most bytes behind the items of the log
+  pub making_part : (new : WorldState) → IsSameButLog now new → new.recovery_log.faults ≡ now.recovery_log.faults → HasRunInPart tells armable old moves new
+  making_part new same log_faults = record { count = n; within = within; given = map given_of came; stopped = now; run = making_run; same = same; log_faults = log_faults }

@@ -5,7 +5,7 @@ use Rattle.std.proofs.lemmas.Bool.{cases_eq, cases_lt, eqb-true}
 use Rattle.std.proofs.lemmas.List.{append-nil, get_or-set_same, get_or-set_other, get_or_past, length-map}
 use Rattle.std.proofs.lemmas.List.Elements.{All-head, filter_map-append}
 use Rattle.std.proofs.lemmas.Nat.Bits.{bit_at_lowest, bit_at-suc}
-use Rattle.std.proofs.lemmas.Option.{slice_get_within}
+use Rattle.std.proofs.lemmas.Option.{slice_get_past, slice_get_within}
 use Rattle.cj_outside.specs.Causes.{next}
 use Rattle.cj_model.specs.declared.answer.Asked.{Asked}
 use Rattle.cj_model.specs.declared.answer.Asked.TheVariants as asked
@@ -23,16 +23,17 @@ use Rattle.cj_model.specs.Database.Outcomes.{IsAsked, IsOutcome, IsQueryCode}
 use Rattle.cj_model.specs.Sql.PlainRequests.{act_of}
 use Rattle.cj_model.specs.Wire.Replies.{asked_reply, outcome_reply}
 use Rattle.cj_cluster.specs.declared.event.Event.{Event}
-use Rattle.cj_cluster.specs.declared.event.Event.TheVariants.{Sched, Ended}
+use Rattle.cj_cluster.specs.declared.event.Event.TheVariants.{Sched, Ended, LogFailed}
 use Rattle.cj_cluster.specs.History.Answering.{AnswersEntry}
 use Rattle.cj_cluster.specs.History.Histories.{log, ended_count, is_idle, masks_of_end, masks_of_ends}
 use Rattle.cj_cluster.specs.History.Turns.{SessionView, Call, TurnCase, ScheduledTurn, ReadFaultTurn, scheduled, no_backend, read, read_fault, log_fault, full, starved, entry_of_call}
 use Rattle.cj_cluster.specs.Moves.Runs.{seen_at}
-use Rattle.cj_cluster.proofs.Pushed.{ends-prefix, length-ends, prefix_length}
+use Rattle.cj_cluster.proofs.Pushed.{ends-prefix, ends-same, length-ends, prefix_length}
 use Rattle.cj_replica.specs.Cells.{CellState}
 use Rattle.cj_state.specs.Faults.{faults_of, faults_after}
 use Rattle.cj_core.specs.QuietCalls.{BlamesNobody, CanCountMore}
-use Rattle.cj_core.specs.Solos.{AddsEntry, AddsOwnEvents, WorldTurn, faults_counted}
+use Rattle.cj_core.proofs.SoloTurns.{refused_keeps}
+use Rattle.cj_core.specs.Solos.{AddsEntry, AddsOwnEvents, WorldTurn, faults_counted, log_failure_of}
 use Rattle.cj_state.specs.Worlds.{WorldState}
 use Rattle.cj_core.proofs.SoloReads.{no_code}
 
@@ -128,7 +129,15 @@ prefix_beyond f h n p le = (take (n - length f) p.0, sym (take_beyond f p.0 n le
 -- the entry that the history grew by has ended with no failed backend
 no_failed_mask : (number s : ℕ) (c : Call) (act : Act) (h g : List Event) (m failed wanting : ℕ) → AddsEntry number s c act [] h g → length h ≤ m → m < length g → is_idle (take m g) ≡ true
     → slice_get (masks_of_ends g) (length (log (take m g))) ≡ Some (failed, wanting) → failed ≡ 0
-no_failed_mask zero s c act h g m failed wanting adds low high idle masks = let same : length g ≡ length h = ap length adds.0 in absurd (omega (arith, low, high, same))
+no_failed_mask zero s c act h g m failed wanting adds low high idle masks =
+    let is : g ≡ h ++ log_failure_of s c = adds.0 in
+    let before : IsPrefix h (take m g) = prefix_beyond h g m (log_failure_of s c, sym is) low in
+    let fewer : length (masks_of_ends h) ≤ length (masks_of_ends (take m g)) = prefix_length (masks_of_ends h) (masks_of_ends (take m g)) (ends-prefix h (take m g) before) in
+    let ends : length (masks_of_ends (take m g)) ≡ ended_count (take m g) = length-ends (take m g) in
+    let all : ended_count (take m g) ≡ length (log (take m g)) = eqb-true _ _ idle in
+    let made : length (masks_of_ends g) ≡ length (masks_of_ends h) = ap length (refused_keeps masks_of_ends s c (λ k. ends-same k (LogFailed s c.number) refl) h g is) in
+    let past : slice_get (masks_of_ends g) (length (log (take m g))) ≡ None = slice_get_past (masks_of_ends g) (length (log (take m g))) (omega (arith, fewer, ends, all, made)) in
+    absurd (cc (past, masks))
 no_failed_mask (suc n) s c act h g m failed wanting adds low high idle masks =
     let is : g ≡ h ++ Sched (entry_of_call s c act) ∷ Ended 0 adds.1.0 ∷ [] = adds.1.1 in
     let before : IsPrefix h (take m g) = prefix_beyond h g m (Sched (entry_of_call s c act) ∷ Ended 0 adds.1.0 ∷ [], sym is) low in

@@ -269,6 +269,12 @@ module _ {D : Type 0} (tells : Bool) (drawn : D → ℕ → ℕ) (later : D → 
         All-cons BlamesNobody r rs (sent_blames_nobody h.1.answer r h.1.sends (answer_quiet m a h.0 h.1.answer h.1.answers quiet))
         (exchanges_quiet ms rs h.0 z h.2 (grows_then begin a.desk h.0.desk first call) last)
 
+  -- no count falls over a whole session, where none stands at its type's end
+  pub session_grows : (a : ClientState SoloState D) (taken written : List ℕ) (ending : SessionEnd) (desk : SoloState) (draws : D) (t : SessionTranscript w a taken written ending desk draws)
+      → CanCountMore (faults_of a.desk.world.cells) → (k : ℕ) → count_at a.desk k ≤ count_at desk k
+  session_grows a taken written ending desk draws t small =
+      none_falls a.desk desk small (grows_then a.desk t.last.desk desk (exchanges_grow t.so_far.messages t.replies a t.last t.so_far.exchanges) (leaves_grow t.last.user t.last.desk desk t.leaves))
+
   pub quiet_session : (a : ClientState SoloState D) (taken written : List ℕ) (ending : SessionEnd) (desk : SoloState) (draws : D) (t : SessionTranscript w a taken written ending desk draws)
       → sum (faults_of desk.world.cells) ≡ sum (faults_of a.desk.world.cells) → CanCountMore (faults_of a.desk.world.cells) → All BlamesNobody t.replies
   quiet_session a taken written ending desk draws t same small =

@@ -40,7 +40,7 @@ use Rattle.cj_state.specs.Faults.{faults_of, faults_after}
 use Rattle.cj_core.specs.Solos.{AreBackendsOf, AreCalledFor, WorldTurn, AddsOwnEvents, IsReadAtEnd, StandsBetweenCalls, faults_counted}
 use Rattle.cj_core.specs.Proving.SoloParts.{AttemptsQuery, QueryAnswered, QueryUnnoted, QueryStarved, QueryFailed, call_of}
 use Rattle.cj_state.specs.CalledLogins.{logins_of}
-use Rattle.cj_state.specs.Worlds.{IsWorld, WorldState, Setup, accounts_of}
+use Rattle.cj_state.specs.Worlds.{IsWorld, LogView, WorldState, Setup, accounts_of}
 use Rattle.cj_state.proofs.CellsKept.{at_log_end}
 use Rattle.cj_core.proofs.SoloLogins.{called_none, called_then}
 use Rattle.cj_core.proofs.SoloTaking.{cells_count}
@@ -76,6 +76,7 @@ pub record QuerySoFar (s : ℕ) (user : List ℕ) (old : WorldState) (serving le
   pub backends : AreBackendsOf old failed
   pub core : now.core ≡ record old.core { history = with_failures old.core s failed }
   pub setup : now.setup ≡ old.setup
+  pub recovery_log : now.recovery_log ≡ old.recovery_log
   pub faults : faults_of now.cells ≡ faults_counted (faults_of old.cells) failed
   pub tried : (b : ℕ) → in_mask serving b ≡ true → (in_mask left b ≡ true) ⊎ HasFailedSince old.core.history now.core.history s ((session_at old.core s).queries + 1) b
   pub within : (b : ℕ) → in_mask left b ≡ true → in_mask serving b ≡ true
@@ -90,6 +91,7 @@ query_begins s user old serving w =
       backends = All-nil (λ (b : ℕ). b < length old.cells);
       core = ap (λ (h : List Event). record old.core { history = h }) (sym (append-nil old.core.history));
       setup = refl;
+      recovery_log = refl;
       faults = refl;
       tried = λ b t. inl t;
       within = λ b t. t;
@@ -104,10 +106,10 @@ query_stands s user old now serving left stands so_far =
     (record { idle = idle_failures s ((session_at old.core s).queries + 1) old.core.history so_far.failed ∙ stands.idle; here = stands.here; no_read = stands.no_read })
 
 -- one backend more has failed
-pub query_goes_on : (s : ℕ) (user : List ℕ) (old now new : WorldState) (serving left less b : ℕ) → b < length old.cells → QuerySoFar s user old serving left now → QueryFailed s b now new → new.setup ≡ now.setup
+pub query_goes_on : (s : ℕ) (user : List ℕ) (old now new : WorldState) (serving left less b : ℕ) → b < length old.cells → QuerySoFar s user old serving left now → QueryFailed s b now new → new.setup ≡ now.setup → new.recovery_log ≡ now.recovery_log
     → AreCalledFor (accounts_of now) user (logins_of now.cells) (logins_of new.cells)
     → ((k : ℕ) → in_mask less k ≡ (in_mask left k && not (k == b))) → in_mask left b ≡ true → QuerySoFar s user old serving less new
-query_goes_on s user old now new serving left less b place so_far fails setup logins bits there =
+query_goes_on s user old now new serving left less b place so_far fails setup recovery_log logins bits there =
     let q : ℕ = (session_at old.core s).queries + 1 in
     let ev : Event = ReadFailed s q b in
     let same : (session_at now.core s).queries + 1 ≡ q = ap (λ (c : Core). (session_at c s).queries + 1) so_far.core in
@@ -128,6 +130,7 @@ query_goes_on s user old now new serving left less b place so_far fails setup lo
           grew
           ∙ (ap (λ (c : Core). record c { history = c.history ++ ev ∷ [] }) so_far.core ∙ ap (λ (h : List Event). record old.core { history = h }) (sym more));
       setup = setup ∙ so_far.setup;
+      recovery_log = recovery_log ∙ so_far.recovery_log;
       faults =
           fails.faults
           ∙ (ap (λ (counts : List ℕ). faults_after counts (Some b)) so_far.faults ∙ sym (fold-append (λ (counts : List ℕ) (k : ℕ). faults_after counts (Some k)) (faults_of old.cells) so_far.failed (b ∷ [])));
@@ -267,10 +270,10 @@ module _ (tells : Bool) (s tx : ℕ) (user : List ℕ) (select : Select) (old no
         ∙ ap (λ (n : ℕ). record { front = new.core.history; least = n }) (sym (ap (λ (x : OpenSession). x.least) new_session_is ∙ needs))
 
     -- with these failures, of which the history tells
-    pub read_is_turn : (reply : Reply) (failed : List ℕ) → AreBackendsOf old failed → ReadsTo tells s old.core (call reply) (record { front = now.core.history; least = least }) → new.setup ≡ now.setup
+    pub read_is_turn : (reply : Reply) (failed : List ℕ) → AreBackendsOf old failed → ReadsTo tells s old.core (call reply) (record { front = now.core.history; least = least }) → new.setup ≡ now.setup → new.recovery_log ≡ now.recovery_log
         → AreCalledFor (accounts_of now) user (logins_of now.cells) (logins_of new.cells)
         → AddsOwnEvents s (call reply) None failed old.core.history new.core.history → faults_of new.cells ≡ faults_counted (faults_of old.cells) failed → WorldTurn tells s old (call reply) new
-    read_is_turn reply failed backends reads setup logins events faults =
+    read_is_turn reply failed backends reads setup recovery_log logins events faults =
         let turn : ReadsTo tells s old.core (call reply) (seen_at new.core s) = subst (ReadsTo tells s old.core (call reply)) seen reads in
         record {
           placement = ap (λ (c : Core). c.placement) after ∙ ap (λ (c : Core). c.placement) so_far.core;
@@ -289,12 +292,13 @@ module _ (tells : Bool) (s tx : ℕ) (user : List ℕ) (select : Select) (old no
           backends = backends;
           events = events;
           faults = faults;
+          log_faults = ap (λ (l : LogView). l.faults) (recovery_log ∙ so_far.recovery_log);
           logins = called_since old now (logins_of new.cells) user so_far.setup so_far.logins logins;
         }
 
   -- ---- each way that the read ends
 
-  module _ (stands : StandsBetweenCalls now.core s) (new : WorldState) (setup : new.setup ≡ now.setup) (logins : AreCalledFor (accounts_of now) user (logins_of now.cells) (logins_of new.cells)) (reply : Reply) where
+  module _ (stands : StandsBetweenCalls now.core s) (new : WorldState) (setup : new.setup ≡ now.setup) (recovery_log : new.recovery_log ≡ now.recovery_log) (logins : AreCalledFor (accounts_of now) user (logins_of now.cells) (logins_of new.cells)) (reply : Reply) where
     -- the failures so far are what the history grew by
     noted : new.core.history ≡ now.core.history → AddsOwnEvents s (call reply) None so_far.failed old.core.history new.core.history
     noted same = inl (same ∙ grown)
@@ -303,21 +307,21 @@ module _ (tells : Bool) (s tx : ℕ) (user : List ℕ) (select : Select) (old no
     pub refused_turn : new.core ≡ with_request_counted now.core s → faults_of new.cells ≡ faults_of now.cells
         → ReadsTo tells s old.core (call reply) (record { front = now.core.history; least = (session_at old.core s).least }) → WorldTurn tells s old (call reply) new
     refused_turn after counts reads =
-        read_is_turn new with_one_request (λ x. refl) after (session_at old.core s).least (ap (λ (c : Core). (session_at c s).least) so_far.core) refl stands.no_read stands reply so_far.failed so_far.backends reads setup logins
+        read_is_turn new with_one_request (λ x. refl) after (session_at old.core s).least (ap (λ (c : Core). (session_at c s).least) so_far.core) refl stands.no_read stands reply so_far.failed so_far.backends reads setup recovery_log logins
         (noted (ap (λ (c : Core). c.history) after)) (counts ∙ so_far.faults)
 
     -- a backend answers it
     pub answered_turn : (b : ℕ) → in_mask serving b ≡ true → QueryAnswered tells s tx select now reply new → WorldTurn tells s old (call reply) new
     answered_turn b there answered =
         read_is_turn new (λ x. answered_at (last_number now.core) (was_answered x)) (λ x. refl) answered.after (last_number now.core) refl (rw stands.no_read refl) refl stands reply so_far.failed so_far.backends
-        (answers b reply new there answered) setup logins (noted (ap (λ (c : Core). c.history) answered.after)) (answered.faults ∙ so_far.faults)
+        (answers b reply new there answered) setup recovery_log logins (noted (ap (λ (c : Core). c.history) answered.after)) (answered.faults ∙ so_far.faults)
 
     -- one fails, and the history has no room to say so
     pub unnoted_turn : (b : ℕ) → b < length old.cells → in_mask serving b ≡ true → QueryUnnoted s b now reply new → WorldTurn tells s old (call reply) new
     unnoted_turn b place there full =
         let same : new.core.history ≡ now.core.history = ap (λ (c : Core). c.history) full.after in
         read_is_turn new with_one_request (λ x. refl) full.after (session_at old.core s).least (ap (λ (c : Core). (session_at c s).least) so_far.core) refl stands.no_read stands reply (so_far.failed ++ b ∷ [])
-        (one_more old so_far.failed b so_far.backends place) (unnoted b reply new there full) setup logins
+        (one_more old so_far.failed b so_far.backends place) (unnoted b reply new there full) setup recovery_log logins
         (inr (record { noted = so_far.failed; last = b; is = refl; grew = same ∙ grown; full = ap events_left same ∙ full.full }))
         (full.faults
         ∙ (ap (λ (counts : List ℕ). faults_after counts (Some b)) so_far.faults ∙ sym (fold-append (λ (counts : List ℕ) (k : ℕ). faults_after counts (Some k)) (faults_of old.cells) so_far.failed (b ∷ []))))
@@ -333,7 +337,7 @@ module _ (tells : Bool) (s tx : ℕ) (user : List ℕ) (select : Select) (old no
   pub counted_turn : StandsBetweenCalls now.core s → (new : WorldState) (reply : Reply) → new ≡ with_core now (with_request_counted now.core s)
       → ReadsTo tells s old.core (call reply) (record { front = now.core.history; least = (session_at old.core s).least }) → WorldTurn tells s old (call reply) new
   counted_turn stands new reply after reads =
-      refused_turn stands new (ap (λ (w : WorldState). w.setup) after)
+      refused_turn stands new (ap (λ (w : WorldState). w.setup) after) (ap (λ (w : WorldState). w.recovery_log) after)
       (called_none (accounts_of now) user (logins_of now.cells) (logins_of new.cells) (ap (λ (w : WorldState). logins_of w.cells) after)) reply (ap (λ (w : WorldState). w.core) after)
       (ap (λ (w : WorldState). faults_of w.cells) after) reads
 

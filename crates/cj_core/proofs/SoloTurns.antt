@@ -8,7 +8,7 @@ use Rattle.cj_model.specs.declared.request.Entry.{Entry}
 use Rattle.cj_model.specs.declared.answer.Reply.{Reply}
 use Rattle.cj_model.specs.Sql.PlainRequests.{request_of}
 use Rattle.cj_cluster.specs.declared.event.Event.{Event}
-use Rattle.cj_cluster.specs.declared.event.Event.TheVariants.{Sched, Ended, ReadFailed}
+use Rattle.cj_cluster.specs.declared.event.Event.TheVariants.{Sched, Ended, ReadFailed, LogFailed}
 use Rattle.cj_cluster.specs.declared.moves.Move.TheVariants.{End}
 use Rattle.cj_cluster.specs.declared.moves.Moved.TheVariants.{Replied}
 use Rattle.cj_cluster.specs.declared.moves.MoveError.TheVariants.{NotNow}
@@ -30,7 +30,7 @@ use Rattle.cj_cluster.proofs.TurnCases.{entries-same, entries-sched}
 use Rattle.cj_desk.specs.DeskStates.{query_skipped, tx_after_write, IsEntryNumber}
 use Rattle.cj_state.specs.Effects.{with_core}
 use Rattle.cj_state.specs.Worlds.{WorldState}
-use Rattle.cj_core.specs.Solos.{SoloState, SoloSteps, StandsBetweenCalls, AddsEntry, desk_of, mask_with}
+use Rattle.cj_core.specs.Solos.{SoloState, SoloSteps, StandsBetweenCalls, AddsEntry, desk_of, log_failure_of, mask_with, tells_log_failure}
 use Rattle.cj_core.specs.Proving.SoloParts.{EntryTaken}
 
 -- ---- each call steps as every desk does, and what it does besides
@@ -132,9 +132,21 @@ failed_now front h s q b low =
 
 -- ---- what a desk says of a write
 
+-- a refused one leaves what a failure of the log's store leaves
+pub refused_keeps : {T : Type 0} (part : List Event → T) (s : ℕ) (c : Call) → ((h : List Event) → part (h ++ LogFailed s c.number ∷ []) ≡ part h) → (h g : List Event) → g ≡ h ++ log_failure_of s c → part g ≡ part h
+refused_keeps part s c same h g is = ap part is ∙ either (tells_log_failure c.reply)
+  where
+    either : (t : Bool) → part (h ++ cond t (LogFailed s c.number ∷ []) []) ≡ part h
+    either true = same h
+    either false = ap part (append-nil h)
+
+-- the log among it
+log_refused : (s : ℕ) (c : Call) (h g : List Event) → g ≡ h ++ log_failure_of s c → log g ≡ log h
+log_refused s c h g is = refused_keeps log s c (λ k. log-same k (LogFailed s c.number) refl) h g is
+
 -- the transaction that the session is in then
 pub tx_after_adding : (s number : ℕ) (c : Call) (act : Act) (failed : List ℕ) (h g : List Event) → FitsTx (tx_of (log h) s) c.tx act → AddsEntry number s c act failed h g → tx_of (log g) s ≡ tx_after_write number act (tx_of (log h) s)
-tx_after_adding s zero c act failed h g fits adds = ap (λ (x : List Event). tx_of (log x) s) adds.0
+tx_after_adding s zero c act failed h g fits adds = ap (λ (l : List Entry). tx_of l s) (log_refused s c h g adds.0)
 tx_after_adding s (suc n) c act failed h g fits adds =
     let next : length (log h) + 1 ≡ suc n = (let same = adds.0 in omega (arith, same)) in
     tx_ended s h g (entry_of_call s c act) (mask_with 0 failed) adds.1.0 refl adds.1.1 fits ∙ ap (λ (k : ℕ). tx_after_entry k (tx_of (log h) s) act) next
@@ -142,7 +154,7 @@ tx_after_adding s (suc n) c act failed h g fits adds =
 -- and the number of its entry
 pub number_added : (a z : SoloState) (number : ℕ) (c : Call) (act : Act) (failed : List ℕ) → z.session ≡ a.session → AddsEntry number a.session c act failed a.world.core.history z.world.core.history
     → IsEntryNumber number act (desk_of a) c (desk_of z)
-number_added a z zero c act failed session adds = ap (entry_count_of a.session) adds.0
+number_added a z zero c act failed session adds = entries-same a.session a.world.core.history z.world.core.history (log_refused a.session c a.world.core.history z.world.core.history adds.0)
 number_added a z (suc n) c act failed session adds =
     let e : Entry = entry_of_call a.session c act in
     let h : List Event = a.world.core.history in

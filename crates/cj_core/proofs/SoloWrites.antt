@@ -1,52 +1,73 @@
 -- A session's write over a whole world, from its entry to the end of that.
-use Rattle.std.proofs.Common.{◌≡◌, ◌⊎◌, ℕ, suc, ◌<◌, Bool, true, false, List, [], ◌∷◌, ◌++◌, length, Option, Some, Ok, Err, refl, ap, sym, ◌∙◌, subst, ⊎_elim, append_assoc}
+use Rattle.std.proofs.Common.{◌≡◌, ◌⊎◌, ◌≢◌, ℕ, suc, ◌+◌, ◌<◌, ◌≤◌, ◌==◌, ◌&&◌, Bool, true, false, cond, is_some, List, [], ◌∷◌, ◌++◌, length, Option, Some, Ok, Err, refl, ap, sym, ◌∙◌, subst, ⊎_elim, append_assoc, arith}
 use Rattle.std.specs.Option.{option_map_or}
-use Rattle.std.proofs.lemmas.Bool.{eq-eqb}
+use Rattle.std.proofs.lemmas.Bool.{eq-eqb, ne_eqb}
+use Rattle.std.proofs.lemmas.List.{append-nil}
 use Rattle.std.proofs.lemmas.List.Elements.{All-nil}
 use Rattle.cj_model.specs.declared.request.Act.{Act}
 use Rattle.cj_model.specs.declared.request.Entry.{Entry}
 use Rattle.cj_model.specs.declared.answer.Refusal.{Refusal}
 use Rattle.cj_model.specs.declared.answer.Reply.{Reply}
 use Rattle.cj_model.specs.declared.answer.Reply.TheVariants.{Refused}
-use Rattle.cj_model.specs.declared.codes.TheConstants.{NO_BACKEND, NO_MEMORY}
+use Rattle.cj_model.specs.declared.codes.TheConstants.{LOG_FAULT, NO_BACKEND, NO_MEMORY, STARVED_ALL, UNFINISHED}
+use Rattle.cj_model.specs.declared.answer.Outcome.{Outcome}
+use Rattle.cj_model.specs.declared.answer.Outcome.TheVariants as outcome
+use Rattle.cj_model.specs.Database.Outcomes.{IsOutcome}
+use Rattle.cj_model.specs.Wire.Replies.{outcome_reply}
 use Rattle.cj_model.specs.Database.Inserts.{refusal_of_code}
 use Rattle.cj_model.specs.Cluster.Placements.{Placement}
 use Rattle.cj_model.specs.Sql.PlainRequests.{act_of, request_of}
 use Rattle.cj_cluster.specs.declared.event.Event.{Event}
-use Rattle.cj_cluster.specs.declared.event.Event.TheVariants.{Sched, Ended}
+use Rattle.cj_cluster.specs.declared.event.Event.TheVariants.{Sched, Ended, LogFailed}
 use Rattle.cj_cluster.specs.declared.moves.OpenSession.{OpenSession}
 use Rattle.cj_cluster.specs.History.Histories.{log, is_idle, entry_in_progress, events_left}
-use Rattle.cj_cluster.specs.History.Answering.{HasServer, HasNoServer}
+use Rattle.cj_cluster.specs.History.Answering.{AnswersEntry, Finished, HasServer, HasNoServer, Unfinished}
 use Rattle.cj_cluster.specs.History.Legality.{FitsTx}
 use Rattle.cj_cluster.specs.History.Turns.{SessionView, Call, HasNoRoomFor, Turn, entry_of_call}
 use Rattle.cj_cluster.specs.Moves.Cores.{Core, is_entry_of, session_at}
-use Rattle.cj_cluster.specs.Moves.Moves.{is_open, is_waiting, history_full, open_tx, scheduled_as, with_request_counted, ended_for, with_one_request, answered_at, last_number}
+use Rattle.cj_cluster.specs.Moves.Moves.{is_open, is_waiting, happened, history_full, open_tx, scheduled_as, with_request_counted, ended_for, with_one_request, answered_at, last_number}
 use Rattle.cj_cluster.specs.Moves.Runs.{seen_at}
 use Rattle.cj_cluster.specs.Proving.Invariants.{CoreInvariant}
 use Rattle.cj_cluster.proofs.Between.{follows_own, follows_rest, session_owes}
 use Rattle.cj_cluster.proofs.OwnTransactions.{own_tx}
-use Rattle.cj_cluster.proofs.Pushed.{prefix_self, free-ended, free-sched, opened-sched}
+use Rattle.cj_cluster.proofs.Pushed.{prefix_self, free-ended, free-same, free-sched, legal_push, opened-sched}
 use Rattle.cj_cluster.proofs.Sessions.{is_open-with}
 use Rattle.cj_cluster.proofs.Standing.{open_above}
-use Rattle.cj_cluster.proofs.TurnCases.{Rests, act_of_request, turn_unserved, turn_full, turn_starved}
+use Rattle.cj_cluster.proofs.TurnCases.{Rests, act_of_request, turn_unserved, turn_full, turn_log_fault, turn_starved}
 use Rattle.cj_state.specs.Faults.{faults_of}
 use Rattle.cj_state.specs.Effects.{SchedulesAs, with_core}
 use Rattle.cj_state.specs.CalledLogins.{logins_of}
-use Rattle.cj_core.specs.Solos.{AreBackendsOf, AreCalledFor, StandsBetweenCalls, WorldTurn, AddsEntry, AddsOwnEvents, IsReadAtEnd, faults_counted, mask_with}
-use Rattle.cj_core.specs.Proving.SoloParts.{EntryEnded, SchedulesOrRefuses, call_of, open_user}
+use Rattle.cj_core.specs.Solos.{AreBackendsOf, AreCalledFor, StandsBetweenCalls, WorldTurn, AddsEntry, AddsOwnEvents, IsReadAtEnd, faults_counted, log_failed_in, log_failure_of, mask_with, tells_log_failure}
+use Rattle.cj_core.specs.Proving.SoloParts.{EntryEnded, EntryRefused, EntryScheduled, SchedulesOrRefuses, call_of, open_user}
 use Rattle.cj_state.specs.Effects.{own_entry}
-use Rattle.cj_state.specs.Worlds.{WorldState, accounts_of}
+use Rattle.cj_state.specs.Worlds.{IsSameButLog, LogView, WorldState, accounts_of}
+use Rattle.cj_moves.specs.Counting.{log_faults_after}
 use Rattle.cj_core.proofs.SoloLogins.{called_none}
 use Rattle.cj_core.proofs.SoloTurns.{between_scheduled, between_taken, turn_ended}
+
+-- what an entry comes to is no failure of the log's store
+outcome_without : (o : Outcome) → IsOutcome o → tells_log_failure (outcome_reply o) ≡ false
+outcome_without (outcome.Done n) possible = refl
+outcome_without (outcome.Refused r) possible = let high : r.code ≤ 29 = possible.1 in ne_eqb r.code LOG_FAULT (λ is. omega (arith, is))
+
+answered_without : (tells : Bool) (p : Placement) (then h : List Event) (i : ℕ) (e : Entry) (reply : Reply) → AnswersEntry tells p then h i e reply → tells_log_failure reply ≡ false
+answered_without tells p then h i e reply answer =
+    ⊎_elim (λ (f : Finished tells p then h i e reply). ap tells_log_failure f.replied ∙ outcome_without f.outcome f.possible)
+    (λ (u : Unfinished p then h i e reply).
+    ⊎_elim (λ (q : (u.failed ≢ 0) × (reply ≡ Refused (record { code = UNFINISHED; a = u.failed; b = u.starved }))). ap tells_log_failure q.1)
+    (λ (q : (u.failed ≡ 0) × (reply ≡ Refused (record { code = STARVED_ALL; a = 0; b = u.starved }))). ap tells_log_failure q.1) u.replied) answer
+
+replied_without_log : (c : Call) (act : Act) → act_of c.request ≡ Some act → tells_log_failure c.reply ≡ false → log_failed_in c ≡ false
+replied_without_log c act is none = ap (λ (o : Option Act). is_some o && tells_log_failure c.reply) is ∙ none
 
 -- a request that is an act reads nothing
 pub reads_nothing : (c : Call) (z : SessionView) (act : Act) → act_of c.request ≡ Some act → IsReadAtEnd c z
 reads_nothing c z act is = λ none answer possible replied. absurd (cc (none, is))
 
 -- The entry was scheduled, so it is the open one.
-module _ (s : ℕ) (entry : Entry) (old begun : WorldState) (idle : is_idle old.core.history ≡ true) (after : begun ≡ with_core old (scheduled_as old.core s entry)) where
+module _ (s : ℕ) (entry : Entry) (old begun : WorldState) (idle : is_idle old.core.history ≡ true) (after : EntryScheduled s entry old begun) where
   begun_history : begun.core.history ≡ old.core.history ++ Sched entry ∷ []
-  begun_history = ap (λ (x : WorldState). x.core.history) after
+  begun_history = ap (λ (x : WorldState). x.core.history) after.after
 
   opened : entry_in_progress begun.core.history ≡ Some entry
   opened = ap entry_in_progress begun_history ∙ opened-sched old.core.history entry idle
@@ -68,7 +89,10 @@ module _ (tells : Bool) (s tx : ℕ) (user : List ℕ) (act : Act) (reply : Repl
   abbrev pub entry : Entry
   entry = entry_of_call s call act
 
-  module _ (did : SchedulesAs old.core entry (Ok n)) (after : begun ≡ with_core old (scheduled_as old.core s entry)) where
+  module _ (did : SchedulesAs old.core entry (Ok n)) (scheduled : EntryScheduled s entry old begun) where
+    after : IsSameButLog (with_core old (scheduled_as old.core s entry)) begun
+    after = scheduled.after
+
     begun_core : begun.core ≡ scheduled_as old.core s entry
     begun_core = ap (λ (x : WorldState). x.core) after
 
@@ -152,6 +176,9 @@ module _ (tells : Bool) (s tx : ℕ) (user : List ℕ) (act : Act) (reply : Repl
           events =
               subst (λ (o : Option Act). AddsOwnEvents s call o ended.taken.failed old.core.history new.core.history) (sym (act_of_request act))
               (suc (length (log old.core.history)), entry_added);
+          log_faults =
+              ap (λ (x : WorldState). x.recovery_log.faults) ended.ended ∙ (ap (λ (l : LogView). l.faults) ended.taken.recovery_log ∙ (scheduled.log_faults
+              ∙ ap (log_faults_after old.recovery_log.faults) (sym (replied_without_log call act (act_of_request act) (answered_without tells _ _ _ _ entry reply (ended.answer entry in_progress))))));
           faults = ap (λ (x : WorldState). faults_of x.cells) ended.ended ∙ (ended.taken.faults ∙ ap (λ (x : WorldState). faults_counted (faults_of x.cells) ended.taken.failed) after);
           logins =
               subst (λ (x : WorldState). AreCalledFor (accounts_of old) user (logins_of old.cells) (logins_of x.cells)) (sym ended.ended)
@@ -160,58 +187,122 @@ module _ (tells : Bool) (s tx : ℕ) (user : List ℕ) (act : Act) (reply : Repl
 
 -- Nothing was scheduled, and the session counted its request.
 module _ (tells : Bool) (s tx : ℕ) (user : List ℕ) (act : Act) (old new : WorldState) (refusal : Refusal) (w : CoreInvariant old.core) (stands : StandsBetweenCalls old.core s) (fits : FitsTx (open_tx old.core s) tx act)
-    (why : SchedulesOrRefuses old.core (own_entry old.core s tx user act) (Err refusal)) (after : new ≡ with_core old (with_request_counted old.core s)) where
+    (setup : new.setup ≡ old.setup) (cells : new.cells ≡ old.cells) (log_faults : new.recovery_log.faults ≡ log_faults_after old.recovery_log.faults (refusal.code == LOG_FAULT)) where
   abbrev pub refusing : Call
   refusing = call_of old.core s tx user (request_of act) (Refused refusal)
 
-  refused_core : new.core ≡ with_request_counted old.core s
-  refused_core = ap (λ (x : WorldState). x.core) after
-
-  refused_session : session_at new.core s ≡ with_one_request (session_at old.core s)
-  refused_session = (follows_own old.core new.core s refused_core refl (prefix_self old.core.history) refl with_one_request (λ x. refl) refl stands.here).session
+  own : (tx ≡ 0) ⊎ (tx ≡ open_tx old.core s)
+  own = own_tx (open_tx old.core s) tx act fits
 
   -- the session has seen all that there is
   nothing_more : Rests s (seen_at old.core s) old.core.history
   nothing_more = record { entries = refl; tx = refl; log_faults = λ q. refl }
 
-  refused_turn : Turn tells old.core.placement s (seen_at old.core s) refusing (seen_at old.core s)
-  refused_turn =
+  -- the history may have an event more
+  module _ (more : List Event) (after : new.core ≡ with_request_counted (record old.core { history = old.core.history ++ more }) s) (idle : is_idle (old.core.history ++ more) ≡ true) (events : log_failure_of s refusing ≡ more)
+      (turn : Turn tells old.core.placement s (seen_at old.core s) refusing (record { front = old.core.history ++ more; least = (session_at old.core s).least })) where
+    refused_session : session_at new.core s ≡ with_one_request (session_at old.core s)
+    refused_session = (follows_own old.core new.core s after refl (more, refl) refl with_one_request (λ x. refl) refl stands.here).session
+
+    refused_as : WorldTurn tells s old refusing new
+    refused_as =
+        let seen : record { front = old.core.history ++ more; least = (session_at old.core s).least } ≡ seen_at new.core s =
+        sym (ap (λ (c : Core). record { front = c.history; least = (session_at new.core s).least }) after ∙ ap (λ (x : OpenSession). record { front = old.core.history ++ more; least = x.least }) refused_session)
+        in
+        record {
+          placement = ap (λ (c : Core). c.placement) after;
+          setup = setup;
+          number = refl;
+          queries = ap (λ (x : OpenSession). x.queries) refused_session;
+          turn = subst (Turn tells old.core.placement s (seen_at old.core s) refusing) seen turn;
+          at_end = reads_nothing refusing (seen_at new.core s) act (act_of_request act);
+          stands =
+              record {
+                idle = ap (λ (c : Core). is_idle c.history) after ∙ idle;
+                here = subst (λ (c : Core). is_open c s ≡ true) (sym after) (is_open-with with_one_request (λ x. refl) old.core.sessions s s ∙ stands.here);
+                no_read = ap (λ (x : OpenSession). x.reading) refused_session ∙ stands.no_read;
+              };
+          failed = [];
+          backends = All-nil (λ (b : ℕ). b < length old.cells);
+          events =
+              subst (λ (o : Option Act). AddsOwnEvents s refusing o [] old.core.history new.core.history) (sym (act_of_request act))
+              (0, (ap (λ (c : Core). c.history) after ∙ ap (λ (es : List Event). old.core.history ++ es) (sym events), refl));
+          faults = ap faults_of cells;
+          log_faults = log_faults ∙ ap (log_faults_after old.recovery_log.faults) (sym (ap (λ (o : Option Act). is_some o && (refusal.code == LOG_FAULT)) (act_of_request act)));
+          logins = called_none (accounts_of old) user (logins_of old.cells) (logins_of new.cells) (ap logins_of cells);
+        }
+
+  -- it is no failure of the log's store, so the history has no event more
+  module _ (other : (refusal.code == LOG_FAULT) ≡ false) (after : new.core ≡ with_request_counted old.core s) (turn : Turn tells old.core.placement s (seen_at old.core s) refusing (seen_at old.core s)) where
+    pub refused_quietly : WorldTurn tells s old refusing new
+    refused_quietly =
+        let same : old.core.history ≡ old.core.history ++ [] = sym (append-nil old.core.history) in
+        refused_as [] (after ∙ ap (λ (h : List Event). with_request_counted (record old.core { history = h }) s) same) (ap is_idle (sym same) ∙ stands.idle)
+        (ap (λ (t : Bool). cond t (LogFailed s refusing.number ∷ []) []) other)
+        (subst (λ (h : List Event). Turn tells old.core.placement s (seen_at old.core s) refusing (record { front = h; least = (session_at old.core s).least })) same turn)
+
+  -- or it is
+  pub refused_by_log : refusal ≡ refusal_of_code LOG_FAULT → HasServer old.core.placement old.core.history (request_of act) → 3 ≤ events_left old.core.history
+      → new.core ≡ with_request_counted (happened old.core (LogFailed s refusing.number)) s → WorldTurn tells s old refusing new
+  refused_by_log is served space after =
+      let ev : Event = LogFailed s refusing.number in
+      let legal = legal_push old.core.history ev w.legal (omega arith) stands.idle in
+      refused_as (ev ∷ []) after (free-same old.core.history ev refl refl ∙ stands.idle) (ap (λ (r : Refusal). cond (r.code == LOG_FAULT) (LogFailed s refusing.number ∷ []) []) is)
+      (turn_log_fault tells old.core.placement s (seen_at old.core s) old.core.history refusing act legal (prefix_self old.core.history) (session_owes old.core s w) nothing_more own (act_of_request act) (ap (λ r. Refused r) is)
+      stands.idle served space)
+
+-- between its calls the session stands where its entry was refused
+pub stands_refused : (s : ℕ) (e : Entry) (refusal : Refusal) (old mid : WorldState) → StandsBetweenCalls old.core s → EntryRefused e refusal old mid → StandsBetweenCalls mid.core s
+stands_refused s e refusal old mid stands gone = subst (λ (c : Core). StandsBetweenCalls c s) (sym (ap (λ (x : WorldState). x.core) gone.after)) (either (refusal.code == LOG_FAULT))
+  where
+    either : (t : Bool) → StandsBetweenCalls (cond t (happened old.core (LogFailed e.session e.seq)) old.core) s
+    either true = record { idle = free-same old.core.history (LogFailed e.session e.seq) refl refl ∙ stands.idle; here = stands.here; no_read = stands.no_read }
+    either false = stands
+
+-- whichever it is
+module _ (tells : Bool) (s tx : ℕ) (user : List ℕ) (act : Act) (old mid new : WorldState) (refusal : Refusal) (w : CoreInvariant old.core) (stands : StandsBetweenCalls old.core s) (fits : FitsTx (open_tx old.core s) tx act)
+    (gone : EntryRefused (own_entry old.core s tx user act) refusal old mid) (after : new ≡ with_core mid (with_request_counted mid.core s)) where
+  setup_is : new.setup ≡ old.setup
+  setup_is = ap (λ (x : WorldState). x.setup) after ∙ ap (λ (x : WorldState). x.setup) gone.after
+
+  cells_are : new.cells ≡ old.cells
+  cells_are = ap (λ (x : WorldState). x.cells) after ∙ ap (λ (x : WorldState). x.cells) gone.after
+
+  faults_are : new.recovery_log.faults ≡ log_faults_after old.recovery_log.faults (refusal.code == LOG_FAULT)
+  faults_are = ap (λ (x : WorldState). x.recovery_log.faults) after ∙ gone.log_faults
+
+  core_is : (t : Bool) → (refusal.code == LOG_FAULT) ≡ t → new.core ≡ with_request_counted (cond t (happened old.core (LogFailed s ((session_at old.core s).queries + 1))) old.core) s
+  core_is t is =
+      ap (λ (x : WorldState). x.core) after ∙ ap (λ (c : Core). with_request_counted c s)
+      (ap (λ (x : WorldState). x.core) gone.after ∙ ap (λ (b : Bool). cond b (happened old.core (LogFailed s ((session_at old.core s).queries + 1))) old.core) is)
+
+  nothing_since : Rests s (seen_at old.core s) old.core.history
+  nothing_since = record { entries = refl; tx = refl; log_faults = λ q. refl }
+
+  abbrev call_refused : Call
+  call_refused = call_of old.core s tx user (request_of act) (Refused refusal)
+
+  quietly : (refusal.code == LOG_FAULT) ≡ false → Turn tells old.core.placement s (seen_at old.core s) call_refused (seen_at old.core s) → WorldTurn tells s old call_refused new
+  quietly other turn = refused_quietly tells s tx user act old new refusal w stands fits setup_is cells_are faults_are other (core_is false other) turn
+
+  pub refused : SchedulesOrRefuses old.core (own_entry old.core s tx user act) (Err refusal) → WorldTurn tells s old call_refused new
+  refused why =
       let own : (tx ≡ 0) ⊎ (tx ≡ open_tx old.core s) = own_tx (open_tx old.core s) tx act fits in
       let owes = session_owes old.core s w in
       let whole = prefix_self old.core.history in
       ⊎_elim
       (λ (none : HasNoServer old.core.placement old.core.history (request_of act) × (refusal ≡ refusal_of_code NO_BACKEND)).
-      turn_unserved tells old.core.placement s (seen_at old.core s) old.core.history w.legal whole owes nothing_more refusing own (ap (λ r. Refused r) none.1) none.0)
+      quietly (ap (λ (r : Refusal). r.code == LOG_FAULT) none.1)
+      (turn_unserved tells old.core.placement s (seen_at old.core s) old.core.history w.legal whole owes nothing_since call_refused own (ap (λ r. Refused r) none.1) none.0))
       (⊎_elim
       (λ (full : HasServer old.core.placement old.core.history (request_of act) × (events_left old.core.history < 3) × (refusal ≡ history_full old.core)).
-      turn_full tells old.core.placement s (seen_at old.core s) old.core.history w.legal whole owes nothing_more refusing own (ap (λ r. Refused r) full.2) full.0
-      (subst (HasNoRoomFor old.core.history) (sym (act_of_request act)) (stands.idle, full.1)))
+      quietly (ap (λ (r : Refusal). r.code == LOG_FAULT) full.2)
+      (turn_full tells old.core.placement s (seen_at old.core s) old.core.history w.legal whole owes nothing_since call_refused own (ap (λ r. Refused r) full.2) full.0
+      (subst (HasNoRoomFor old.core.history) (sym (act_of_request act)) (stands.idle, full.1))))
+      (⊎_elim
       (λ (want : refusal ≡ refusal_of_code NO_MEMORY).
-      turn_starved tells old.core.placement s (seen_at old.core s) old.core.history w.legal whole owes nothing_more refusing own (ap (λ r. Refused r) want)))
+      quietly (ap (λ (r : Refusal). r.code == LOG_FAULT) want)
+      (turn_starved tells old.core.placement s (seen_at old.core s) old.core.history w.legal whole owes nothing_since call_refused own (ap (λ r. Refused r) want)))
+      (λ (faulted : HasServer old.core.placement old.core.history (request_of act) × (3 ≤ events_left old.core.history) × (refusal ≡ refusal_of_code LOG_FAULT)).
+      refused_by_log tells s tx user act old new refusal w stands fits setup_is cells_are faults_are faulted.2 faulted.0 faulted.1 (core_is true (ap (λ (r : Refusal). r.code == LOG_FAULT) faulted.2)))))
       why
-
-  pub refused : WorldTurn tells s old refusing new
-  refused =
-      let seen : seen_at old.core s ≡ seen_at new.core s =
-      sym (ap (λ (c : Core). record { front = c.history; least = (session_at new.core s).least }) refused_core ∙ ap (λ (x : OpenSession). record { front = old.core.history; least = x.least }) refused_session)
-      in
-      let turn : Turn tells old.core.placement s (seen_at old.core s) refusing (seen_at new.core s) = subst (Turn tells old.core.placement s (seen_at old.core s) refusing) seen refused_turn in
-      record {
-        placement = ap (λ (c : Core). c.placement) refused_core;
-        setup = ap (λ (x : WorldState). x.setup) after;
-        number = refl;
-        queries = ap (λ (x : OpenSession). x.queries) refused_session;
-        turn = turn;
-        at_end = reads_nothing refusing (seen_at new.core s) act (act_of_request act);
-        stands =
-            record {
-              idle = ap (λ (c : Core). is_idle c.history) refused_core ∙ stands.idle;
-              here = subst (λ (c : Core). is_open c s ≡ true) (sym refused_core) (is_open-with with_one_request (λ x. refl) old.core.sessions s s ∙ stands.here);
-              no_read = ap (λ (x : OpenSession). x.reading) refused_session ∙ stands.no_read;
-            };
-        failed = [];
-        backends = All-nil (λ (b : ℕ). b < length old.cells);
-        events = subst (λ (o : Option Act). AddsOwnEvents s refusing o [] old.core.history new.core.history) (sym (act_of_request act)) (0, (ap (λ (c : Core). c.history) refused_core, refl));
-        faults = ap (λ (x : WorldState). faults_of x.cells) after;
-        logins = called_none (accounts_of old) user (logins_of old.cells) (logins_of new.cells) (ap (λ (x : WorldState). logins_of x.cells) after);
-      }

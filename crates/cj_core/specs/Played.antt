@@ -7,10 +7,10 @@ use Rattle.cj_cluster.specs.declared.moves.MoveError.TheVariants.{NotNow}
 use Rattle.cj_cluster.specs.Moves.Moves.{MoveResult, MovesTo}
 use Rattle.cj_cluster.specs.History.Turns.{SessionView}
 use Rattle.cj_cluster.specs.Moves.Runs.{RunsMoves, IsBetweenReplies, IsChained}
-use Rattle.cj_state.specs.Worlds.{WorldState}
+use Rattle.cj_state.specs.Worlds.{WorldState, IsSameButLog}
 use Rattle.cj_state.specs.Faults.{faults_of, faults_after}
 use Rattle.cj_moves.specs.Armings.{HasArmings}
-use Rattle.cj_moves.specs.Counting.{HasCauses, HasNoLogFault, blamed}
+use Rattle.cj_moves.specs.Counting.{HasCauses, HasLogCauses, blamed, log_faults_after, tells_log_fault}
 use Rattle.cj_moves.specs.Logins.{HasLogins}
 
 -- what a move came to is what it gave
@@ -29,12 +29,18 @@ faults_over faults (m ∷ ms) [] = faults
 abbrev pub HaveCauses : WorldState → WorldState → List Move → List MoveResult → Type 0
 HaveCauses old new moves given = faults_of new.cells ≡ faults_over (faults_of old.cells) moves given
 
--- A move leads the world to another and gives this: the state as the moves say, with the faults that were counted, the backends that were armed, where they can be, and the logins under which backends were called.
+-- the count of the log's store after a list of moves: each fault that one of them tells is counted, and none else
+abbrev pub log_faults_over : ℕ → List Move → List MoveResult → ℕ
+log_faults_over faults [] [] = faults
+log_faults_over faults (m ∷ ms) (g ∷ gs) = log_faults_over (log_faults_after faults (tells_log_fault m g)) ms gs
+log_faults_over faults [] (g ∷ gs) = faults
+log_faults_over faults (m ∷ ms) [] = faults
+
+-- A move leads the world to another and gives this: the state as the moves say, with the faults that backends and the log's store have counted, the backends that were armed, where they can be, and the logins under which backends were called.
 pub record MovesWorld (tells armable : Bool) (old : WorldState) (m : Move) (given : MoveResult) (new : WorldState) : Type 0 where
   pub moves : MovesTo tells old.core m given new.core
   pub causes : HasCauses old new m given
-  -- there is no log yet
-  pub no_log : HasNoLogFault m given
+  pub log_causes : HasLogCauses old new m given
   pub armings : HasArmings armable old new m given
   pub logins : HasLogins old new m given
   pub setup : new.setup ≡ old.setup
@@ -52,10 +58,14 @@ pub record HasRun (tells armable : Bool) (old : WorldState) (moves : List Move) 
   pub runs : RunsMoves tells old.core moves given new.core
   pub chains : (s : ℕ) (a : SessionView) → 0 < s → IsBetweenReplies a old.core s → IsChained tells s old.core moves given new.core a
   pub causes : HaveCauses old new moves given
+  pub log_causes : new.recovery_log.faults ≡ log_faults_over old.recovery_log.faults moves given
 
--- The first of the moves were made, and no more.
+-- The first of the moves were made, and no more; the move that stopped them left nothing, but maybe bytes behind the items of the log.
 pub record HasRunInPart (tells armable : Bool) (old : WorldState) (moves : List Move) (new : WorldState) : Type 0 where
   pub count : ℕ
   pub within : count ≤ length moves
   pub given : List MoveResult
-  pub run : HasRun tells armable old (take count moves) given new
+  pub stopped : WorldState
+  pub run : HasRun tells armable old (take count moves) given stopped
+  pub same : IsSameButLog stopped new
+  pub log_faults : new.recovery_log.faults ≡ stopped.recovery_log.faults

@@ -1,2 +1,3 @@
 -- The contracts of parts of calls, for proofs alone.
 pub mod SoloParts
+pub mod StartParts

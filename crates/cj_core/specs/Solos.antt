@@ -1,10 +1,13 @@
 -- A session over a whole world: what contracts see of it, and where its calls lead.
-use Rattle.std.specs.Prelude.{◌≡◌, ◌⊎◌, ℕ, zero, suc, ◌+◌, ◌<◌, Bool, true, List, [], ◌∷◌, ◌++◌, length, map, fold, slice_get, All}
+use Rattle.std.specs.Prelude.{◌≡◌, ◌⊎◌, ℕ, zero, suc, ◌+◌, ◌<◌, ◌==◌, ◌&&◌, Bool, true, false, is_some, if◌then◌else◌, List, [], ◌∷◌, ◌++◌, length, map, fold, slice_get, All}
 use Rattle.std.specs.declared.option.Option.{Option}
 use Rattle.std.specs.declared.option.Option.TheVariants.{None, Some}
 use Rattle.cj_model.specs.declared.account.Account.{Account}
 use Rattle.cj_model.specs.declared.request.Act.{Act}
 use Rattle.cj_model.specs.declared.answer.Asked.{Asked}
+use Rattle.cj_model.specs.declared.answer.Reply.{Reply}
+use Rattle.cj_model.specs.declared.answer.Reply.TheVariants.{Done, Rows, Refused, Stats}
+use Rattle.cj_model.specs.declared.codes.TheConstants.{LOG_FAULT}
 use Rattle.cj_model.specs.Database.Outcomes.{IsAsked}
 use Rattle.cj_model.specs.Wire.Replies.{asked_reply}
 use Rattle.cj_model.specs.Sql.PlainRequests.{act_of}
@@ -12,7 +15,7 @@ use Rattle.cj_model.specs.Cluster.Accounts.{login_of}
 use Rattle.cj_model.specs.Cluster.Masks.{with_backend}
 use Rattle.cj_auth.specs.Admission.{admits}
 use Rattle.cj_cluster.specs.declared.event.Event.{Event}
-use Rattle.cj_cluster.specs.declared.event.Event.TheVariants.{Sched, Ended, ReadFailed}
+use Rattle.cj_cluster.specs.declared.event.Event.TheVariants.{Sched, Ended, ReadFailed, LogFailed}
 use Rattle.cj_cluster.specs.declared.moves.Move.{Move}
 use Rattle.cj_cluster.specs.declared.moves.Move.TheVariants.{Open, Close, Schedule, Abort, Apply, End, Read, Arm, Disable, Replay, Enable, Mark}
 use Rattle.cj_cluster.specs.History.Histories.{log, is_idle, events_left}
@@ -25,6 +28,7 @@ use Rattle.cj_state.specs.CalledLogins.{logins_of}
 use Rattle.cj_state.specs.Worlds.{WorldState, accounts_of}
 use Rattle.cj_state.specs.Faults.{faults_of, faults_after}
 use Rattle.cj_state.specs.Effects.{with_core}
+use Rattle.cj_moves.specs.Counting.{log_faults_after}
 
 -- a world, and the session that is served at it
 pub record SoloState : Type 0 where
@@ -66,9 +70,24 @@ faults_counted faults failed = fold (λ (counts : List ℕ) (b : ℕ). faults_af
 abbrev pub mask_with : ℕ → List ℕ → ℕ
 mask_with mask backends = fold with_backend mask backends
 
--- the history grew by the call's entry and its end, where that has a number, and else not; these backends failed in it
+-- the reply says that the log's store failed
+abbrev pub tells_log_failure : Reply → Bool
+tells_log_failure (Refused refusal) = refusal.code == LOG_FAULT
+tells_log_failure (Done count) = false
+tells_log_failure (Rows answer) = false
+tells_log_failure (Stats hits misses) = false
+
+-- a write's reply says so
+abbrev pub log_failed_in : Call → Bool
+log_failed_in c = is_some (act_of c.request) && tells_log_failure c.reply
+
+-- the history has an event of a failure of the log's store in the call, where the call was answered so
+abbrev pub log_failure_of : ℕ → Call → List Event
+log_failure_of s c = if tells_log_failure c.reply then LogFailed s c.number ∷ [] else []
+
+-- the history grew by the call's entry and its end, where that has a number, and else by a failure of the log's store alone; these backends failed in it
 abbrev pub AddsEntry : ℕ → ℕ → Call → Act → List ℕ → List Event → List Event → Type 0
-AddsEntry zero s c act failed h g = (g ≡ h) × (failed ≡ [])
+AddsEntry zero s c act failed h g = (g ≡ h ++ log_failure_of s c) × (failed ≡ [])
 AddsEntry (suc n) s c act failed h g =
     (n ≡ length (log h)) × ((starved : ℕ) × (g ≡ h ++ Sched (entry_of_call s c act) ∷ Ended (mask_with 0 failed) starved ∷ []))
 
@@ -80,7 +99,7 @@ pub record LacksLast (s q : ℕ) (failed : List ℕ) (h g : List Event) : Type 0
   pub grew : g ≡ h ++ map (ReadFailed s q) noted
   pub full : events_left g ≡ 0
 
--- by what the history grew: the failures of a read, or another request's entry, and nothing else
+-- by what the history grew: the failures of a read, or another request's entry or the failure of the log's store, and nothing else
 abbrev pub AddsOwnEvents : ℕ → Call → Option Act → List ℕ → List Event → List Event → Type 0
 AddsOwnEvents s c None failed h g = (g ≡ h ++ map (ReadFailed s c.number) failed) ⊎ LacksLast s c.number failed h g
 AddsOwnEvents s c (Some act) failed h g = (number : ℕ) × AddsEntry number s c act failed h g
@@ -103,6 +122,8 @@ pub record WorldTurn (tells : Bool) (s : ℕ) (old : WorldState) (c : Call) (new
   pub backends : AreBackendsOf old failed
   pub events : AddsOwnEvents s c (act_of c.request) failed old.core.history new.core.history
   pub faults : faults_of new.cells ≡ faults_counted (faults_of old.cells) failed
+  -- and the log's store, where the reply to a write says so
+  pub log_faults : new.recovery_log.faults ≡ log_faults_after old.recovery_log.faults (log_failed_in c)
   pub logins : AreCalledFor (accounts_of old) c.user (logins_of old.cells) (logins_of new.cells)
 
 -- what a call does besides what every desk does; there is no result cache yet

@@ -1,13 +1,30 @@
--- How a world begins, and what its backends hold when it is given up.
-use Rattle.std.specs.Prelude.{◌≡◌, ℕ, ◌<◌, Bool, true, List, [], ◌∷◌, All, slice_get}
+-- What a start leads to, and what the backends hold when a world is given up.
+use Rattle.std.specs.Prelude.{◌≡◌, ◌⊎◌, ℕ, ◌<◌, Bool, true, false, List, [], ◌∷◌, ◌++◌, All, filter, length, map, slice_get, Result, Ok, Err}
+use Rattle.std.specs.List.{AllPairs, range_with_len}
+use Rattle.std.specs.Option.{option_map}
 use Rattle.std.specs.declared.option.Option.{Option}
-use Rattle.std.specs.declared.option.Option.TheVariants.{Some}
+use Rattle.std.specs.declared.option.Option.TheVariants.{None, Some}
 use Rattle.cj_model.specs.declared.database.Slot.{Slot}
-use Rattle.cj_model.specs.Cluster.Placements.{part}
+use Rattle.cj_outside.specs.Causes.{next}
+use Rattle.cj_model.specs.declared.request.Act.TheVariants as act
+use Rattle.cj_model.specs.Cluster.Placements.{Placement, part}
+use Rattle.cj_cluster.specs.declared.event.Event.{Event}
+use Rattle.cj_cluster.specs.declared.event.Event.TheVariants.{Enabled, Ended, Sched}
 use Rattle.cj_cluster.specs.History.Histories.{log, is_idle, is_enabled, database_of, database_after}
 use Rattle.cj_cluster.specs.Moves.Cores.{Core, position_at}
+use Rattle.cj_cluster.specs.Moves.Moves.{entry_numbered, is_orphan, last_number, user_of}
 use Rattle.cj_backend.specs.Backends.{Arming}
 use Rattle.cj_replica.specs.Cells.{CellState, KeepsBegun}
+use Rattle.cj_records.specs.RecordFiles.{Finds}
+use Rattle.cj_log.specs.declared.item.LogItem.{LogItem}
+use Rattle.cj_log.specs.Logs.{HasBadItem, log_magic}
+use Rattle.cj_opening.specs.Openings.{OpensTo}
+use Rattle.cj_book.specs.declared.error.StartError.{StartError}
+use Rattle.cj_book.specs.declared.error.StartError.TheVariants as errors
+use Rattle.cj_book.specs.Starts.{KeepsBadEntry, greatest_session}
+use Rattle.cj_state.specs.Beginnings.{opened_core}
+use Rattle.cj_state.specs.Faults.{faults_of}
+use Rattle.cj_state.specs.Worlds.{WorldState}
 
 -- what is seen of a backend, but for the transactions that it has begun
 pub record BackendState : Type 0 where
@@ -44,3 +61,61 @@ AreHolding tells c told = tells ≡ true → (b p : ℕ) → position_at c b ≡
 abbrev pub AreCurrent : Bool → Core → List (Option (List Slot)) → Type 0
 AreCurrent tells c told =
     tells ≡ true → is_idle c.history ≡ true → (b : ℕ) → is_enabled c.history b ≡ true → slice_get told b ≡ Some (Some (part c.placement b (database_of (log c.history))))
+
+-- ---- what a start leads to
+
+-- the numbers of the transactions that are open and whose sessions aren't, rising
+abbrev pub orphans_of : Core → List ℕ
+orphans_of c = filter (is_orphan c) (range_with_len 1 (length (log c.history)))
+
+-- the administrator ended this transaction, which some backends failed in and none wanted memory for
+abbrev pub with_abort : List Event → ℕ → ℕ → List Event
+with_abort h tx failed = h ++ Sched (record { session = 0; seq = 0; tx = tx; user = user_of (entry_numbered (log h) tx); act = act.Abort }) ∷ Ended failed 0 ∷ []
+
+-- each of these transactions was ended so, one after another
+abbrev pub AbortsEach : List Event → List ℕ → List Event → Type 0
+AbortsEach h [] z = z ≡ h
+AbortsEach h (tx ∷ txs) z = (failed : ℕ) × AbortsEach (with_abort h tx failed) txs z
+
+-- After a start a backend is enabled, has taken the whole log and has failed in nothing; or it failed, which it has counted, and is out.
+abbrev pub StandsAfterStart : List ℕ → WorldState → ℕ → Type 0
+StandsAfterStart faults w b =
+    ((is_enabled w.core.history b ≡ true) × (position_at w.core b ≡ Some (last_number w.core)) × (slice_get (faults_of w.cells) b ≡ slice_get faults b))
+    ⊎ ((is_enabled w.core.history b ≡ false) × (position_at w.core b ≡ None) × (slice_get (faults_of w.cells) b ≡ option_map next (slice_get faults b)))
+
+-- A start over a log that opens with this history: each backend replayed it, those that did not fail were enabled in the order of their numbers, and then each transaction that was left open was ended.
+pub record HasStarted (p : Placement) (opening : List Event) (faults : List ℕ) (w : WorldState) : Type 0 where
+  pub placement : w.core.placement ≡ p
+  pub enabled : List ℕ
+  pub rises : AllPairs (λ (a b : ℕ). a < b) enabled
+  pub history : AbortsEach (opening ++ map Enabled enabled) (orphans_of (opened_core p opening)) w.core.history
+  pub idle : is_idle w.core.history ≡ true
+  pub sessions : w.core.sessions ≡ []
+  pub greatest : w.core.greatest ≡ greatest_session (log opening)
+  pub cells : length w.cells ≡ p.backends
+  pub backends : (b : ℕ) → b < p.backends → StandsAfterStart faults w b
+
+-- The log's store was found with some items, and the start was one over the history that they open with. Over a log without entries no backend was called.
+pub record StartsFrom (found : List LogItem → Type 0) (p : Placement) (backends : List BackendState) (w : WorldState) : Type 0 where
+  pub items : List LogItem
+  pub found_in : found items
+  pub opening : List Event
+  pub opens : OpensTo items opening
+  pub started : HasStarted p opening (map (λ (x : BackendState). x.faults) backends) w
+  pub uncalled : log opening ≡ [] → map backend_of w.cells ≡ backends
+
+-- why the bytes of the log's store are no history's, which leaves them as they are
+abbrev pub RefusesBytes : {W S : Type 0} → (S → List ℕ) → List ℕ → Result W (StartError × S) → Type 0
+RefusesBytes held old (Ok w) = Unit {0}
+RefusesBytes held old (Err (errors.StoreFault, store)) = Unit {0}
+RefusesBytes held old (Err (errors.NoMemory, store)) = Unit {0}
+RefusesBytes held old (Err (errors.BadRecord offset, store)) = (Finds log_magic old (Err offset) ⊎ HasBadItem old offset) × (held store ≡ old)
+RefusesBytes held old (Err (errors.BadEntry n, store)) = KeepsBadEntry old n × (held store ≡ old)
+
+-- a start counts one fault of the log's store exactly where it answers that this failed
+abbrev pub CountsFaultOfStart : {S : Type 0} → (S → ℕ) → ℕ → Result WorldState (StartError × S) → Type 0
+CountsFaultOfStart faults before (Ok w) = w.recovery_log.faults ≡ before
+CountsFaultOfStart faults before (Err (errors.StoreFault, store)) = faults store ≡ next before
+CountsFaultOfStart faults before (Err (errors.NoMemory, store)) = faults store ≡ before
+CountsFaultOfStart faults before (Err (errors.BadRecord offset, store)) = faults store ≡ before
+CountsFaultOfStart faults before (Err (errors.BadEntry n, store)) = faults store ≡ before

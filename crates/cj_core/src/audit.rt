@@ -13,6 +13,7 @@ ghost use Rattle.cj_state.specs.CalledLogins.{logins_of};
 use cj_audit::{append_backend, into_text};
 use cj_backend::Backend;
 use cj_model::{NoMemory, Text};
+use cj_outside::Store;
 use cj_replica::CellError;
 use cj_state::State;
 use thiserror::Error;
@@ -48,8 +49,8 @@ fn audit_error(b: u8, error: CellError) -> AuditError
 }
 
 /// Adds the lines of one backend, which is asked for its contents where it is enabled.
-fn audit_backend<B: Backend>(
-    state: &mut State<B>,
+fn audit_backend<B: Backend, S: Store>(
+    state: &mut State<B, S>,
     text: &mut Vec<u8>,
     b: u8,
 ) -> Result<(), AuditError>
@@ -64,6 +65,7 @@ fn audit_backend<B: Backend>(
     ensures setup { state.new.setup ≡ state.old.setup }
     ensures logins { logins_of state.new.cells ≡ logins_of state.old.cells }
     ensures armings { armings_of state.new.cells ≡ armings_of state.old.cells }
+    ensures recovery_log { state.new.recovery_log ≡ state.old.recovery_log }
 {
     if !state.is_enabled(b) {
         return Ok(());
@@ -80,7 +82,7 @@ fn audit_backend<B: Backend>(
 
 /// What the enabled backends hold, in the order of their numbers: a line for each table with its number of
 /// rows, and one for each row. Asks each enabled backend for its contents, and stops at the first that fails.
-pub fn audit<B: Backend>(state: &mut State<B>) -> Result<Text, AuditError>
+pub fn audit<B: Backend, S: Store>(state: &mut State<B, S>) -> Result<Text, AuditError>
     requires { is_idle state.old.core.history ≡ true }
     ensures text { IfOk result (λ text. B.TELLS ≡ true → text ≡ audit_text state.old.setup.names state.old.core) }
     ensures same { failed_audit result ≡ None → state.new ≡ state.old }
@@ -90,6 +92,7 @@ pub fn audit<B: Backend>(state: &mut State<B>) -> Result<Text, AuditError>
     ensures setup { state.new.setup ≡ state.old.setup }
     ensures logins { logins_of state.new.cells ≡ logins_of state.old.cells }
     ensures armings { armings_of state.new.cells ≡ armings_of state.old.cells }
+    ensures recovery_log { state.new.recovery_log ≡ state.old.recovery_log }
 {
     let mut text = Vec::new(state.allocator());
     for b in 0..state.placement().count() {

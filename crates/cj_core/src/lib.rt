@@ -4,7 +4,9 @@
 
 mod audit;
 mod emptied;
+mod ending;
 mod laws;
+mod replaying;
 mod runs;
 mod solo;
 mod solo_read;

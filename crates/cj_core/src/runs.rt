@@ -6,8 +6,9 @@ ghost use Rattle.cj_cluster.specs.History.Legality.{IsLegal};
 ghost use Rattle.cj_cluster.specs.Moves.Moves.{MovesTo};
 ghost use Rattle.cj_cluster.specs.Moves.Runs.{IsMoveOfCluster, CanCountRequests};
 ghost use Rattle.cj_moves.specs.Armings.{HasArmings};
-ghost use Rattle.cj_moves.specs.Counting.{HasCauses, HasNoLogFault};
+ghost use Rattle.cj_moves.specs.Counting.{HasCauses, HasLogCauses};
 ghost use Rattle.cj_moves.specs.Logins.{HasLogins};
+ghost use Rattle.cj_state.specs.Worlds.{IsSameButLog};
 ghost use Rattle.cj_core.specs.Played.{given_of, HasRun, HasRunInPart};
 ghost use Rattle.cj_moves.specs.Steps.{IsMet};
 
@@ -15,18 +16,21 @@ use cj_backend::Backend;
 use cj_cluster::{Made, Move, MoveError, MovedList, Moves};
 use cj_model::{Duplicate, NoMemory};
 use cj_moves::step;
+use cj_outside::Store;
 use cj_state::State;
 use std::alloc::Global;
 
-/// Makes a move, or answers why it can't be made now. Want of memory changes nothing.
-pub fn make<B: Backend>(state: &mut State<B>, m: Move) -> Result<Made, NoMemory>
+/// Makes a move, or answers why it can't be made now. Want of memory changes nothing but maybe the log's bytes
+/// behind its items.
+pub fn make<B: Backend, S: Store>(state: &mut State<B, S>, m: Move) -> Result<Made, NoMemory>
     requires { IsMet state.old.core m }
     ensures made { IfOk result (λ made. MovesTo B.TELLS state.old.core m (given_of made) state.new.core) }
     ensures causes { IfOk result (λ made. HasCauses state.old state.new m (given_of made)) }
-    ensures no_log { IfOk result (λ made. HasNoLogFault m (given_of made)) }
+    ensures log_causes { IfOk result (λ made. HasLogCauses state.old state.new m (given_of made)) }
     ensures armings { IfOk result (λ made. HasArmings B.can_be_armed state.old state.new m (given_of made)) }
     ensures logins { IfOk result (λ made. HasLogins state.old state.new m (given_of made)) }
-    ensures want { OnErr result (state.new ≡ state.old) }
+    ensures want { OnErr result (IsSameButLog state.old state.new) }
+    ensures log_want { OnErr result (state.new.recovery_log.faults ≡ state.old.recovery_log.faults) }
     ensures setup { state.new.setup ≡ state.old.setup }
 {
     match step(state, m) {
@@ -37,14 +41,19 @@ pub fn make<B: Backend>(state: &mut State<B>, m: Move) -> Result<Made, NoMemory>
 }
 
 /// The same of a move that stays with its list.
-fn make_copy<B: Backend>(state: &mut State<B>, alloc: Global, m: &Move) -> Result<Made, NoMemory>
+fn make_copy<B: Backend, S: Store>(
+    state: &mut State<B, S>,
+    alloc: Global,
+    m: &Move,
+) -> Result<Made, NoMemory>
     requires { IsMet state.old.core m.now }
     ensures made { IfOk result (λ made. MovesTo B.TELLS state.old.core m.now (given_of made) state.new.core) }
     ensures causes { IfOk result (λ made. HasCauses state.old state.new m.now (given_of made)) }
-    ensures no_log { IfOk result (λ made. HasNoLogFault m.now (given_of made)) }
+    ensures log_causes { IfOk result (λ made. HasLogCauses state.old state.new m.now (given_of made)) }
     ensures armings { IfOk result (λ made. HasArmings B.can_be_armed state.old state.new m.now (given_of made)) }
     ensures logins { IfOk result (λ made. HasLogins state.old state.new m.now (given_of made)) }
-    ensures want { OnErr result (state.new ≡ state.old) }
+    ensures want { OnErr result (IsSameButLog state.old state.new) }
+    ensures log_want { OnErr result (state.new.recovery_log.faults ≡ state.old.recovery_log.faults) }
     ensures setup { state.new.setup ≡ state.old.setup }
 {
     let m = m.copy(alloc)?;
@@ -53,7 +62,10 @@ fn make_copy<B: Backend>(state: &mut State<B>, alloc: Global, m: &Move) -> Resul
 
 /// Makes the moves in order, and answers what each came to; one that can't be made now changes nothing. After want
 /// of memory the first of them were made, and no more.
-pub fn run<B: Backend>(state: &mut State<B>, moves: &Moves) -> Result<MovedList, NoMemory>
+pub fn run<B: Backend, S: Store>(
+    state: &mut State<B, S>,
+    moves: &Moves,
+) -> Result<MovedList, NoMemory>
     requires are { All (IsMoveOfCluster state.old.core.placement.backends) moves.now }
     requires count { CanCountRequests state.old.core (length moves.now) }
     ensures runs { MatchResult result (λ made. HasRun B.TELLS B.can_be_armed state.old moves.now (map given_of made) state.new) (λ _. HasRunInPart B.TELLS B.can_be_armed state.old moves.now state.new) }

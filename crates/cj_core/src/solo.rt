@@ -15,9 +15,9 @@ ghost use Rattle.cj_cluster.specs.Moves.Cores.{session_at};
 ghost use Rattle.cj_cluster.specs.Moves.Moves as moves;
 ghost use Rattle.cj_cluster.specs.Moves.Moves.{opened_for, closed_for, with_request_counted, MovesTo};
 ghost use Rattle.cj_moves.specs.Armings.{HasArmings};
-ghost use Rattle.cj_moves.specs.Counting.{HasCauses, HasNoLogFault};
+ghost use Rattle.cj_moves.specs.Counting.{HasCauses, HasLogCauses};
 ghost use Rattle.cj_state.specs.Effects.{with_core};
-ghost use Rattle.cj_state.specs.Worlds.{accounts_of};
+ghost use Rattle.cj_state.specs.Worlds.{accounts_of, IsSameButLog};
 ghost use Rattle.cj_moves.specs.Logins.{HasLogins};
 ghost use Rattle.cj_core.specs.Proving.SoloParts.{call_of};
 ghost use Rattle.cj_core.specs.Solos.{desk_of, AddsEntry, IsMoveOfNoSession, SoloSteps, StandsBetweenCalls, WorldTurn};
@@ -31,6 +31,7 @@ use cj_book::SessionsFull;
 use cj_cluster::{Move, MoveError, Moved};
 use cj_desk::{Desk, Written};
 use cj_model::{Act, Refusal, Reply, Select, Text};
+use cj_outside::Store;
 use std::alloc::Global;
 use std::marker::Model;
 
@@ -47,12 +48,12 @@ fn empty_text(alloc: Global) -> Text
 /// A desk that owns its world, at which one session is served. It sees the whole history; between two
 /// of its calls no entry is open.
 #[derive(Drop)]
-pub struct Solo<B: Backend> {
-    world: World<B>,
+pub struct Solo<B: Backend, S: Store> {
+    world: World<B, S>,
     session: u64,
 }
 
-impl<B: Backend> Model for Solo<B> {
+impl<B: Backend, S: Store> Model for Solo<B, S> {
     ghost use Rattle.cj_moves.specs.Logins.{HasLogins};
     ghost use Rattle.cj_core.specs.Solos.{SoloState, StandsBetweenCalls};
 
@@ -68,9 +69,9 @@ impl<B: Backend> Model for Solo<B> {
     ghost invariant = { λ solo. StandsBetweenCalls solo.world.core solo.session };
 }
 
-impl<B: Backend> World<B> {
+impl<B: Backend, S: Store> World<B, S> {
     /// Opens a session for a user to come, and serves it. It takes no memory.
-    pub fn desk(self) -> Result<Solo<B>, (SessionsFull, World<B>)>
+    pub fn desk(self) -> Result<Solo<B, S>, (SessionsFull, World<B, S>)>
         requires { is_idle self.core.history ≡ true }
         ensures opened { IfOk result (λ solo. solo ≡ record { world = with_core self (opened_for self.core []); session = self.core.greatest + 1 }) }
         ensures free { IfOk result (λ _. moves.has_no_number self.core ≡ false) }
@@ -90,7 +91,7 @@ impl<B: Backend> World<B> {
 
 // ---- what a session asks of the world
 
-impl<B: Backend> World<B> {
+impl<B: Backend, S: Store> World<B, S> {
     fn admits(&self, user: &[u8], password: &[u8]) -> bool
         ensures admitted { result ≡ admits (accounts_of self.now) user.now password.now }
         ensures user { OnTrue result (IsUserName user.now) }
@@ -130,9 +131,9 @@ impl<B: Backend> World<B> {
     }
 }
 
-impl<B: Backend> Solo<B> {
+impl<B: Backend, S: Store> Solo<B, S> {
     /// The world that it owns.
-    pub fn world(&self) -> &World<B>
+    pub fn world(&self) -> &World<B, S>
         ensures { result.now ≡ self.now.world }
     {
         &self.world
@@ -140,7 +141,7 @@ impl<B: Backend> Solo<B> {
 
     /// Closes the session, whose open transaction becomes an orphan. It takes no memory.
     #[tactic(auto, using(crate::proofs::SoloTurns::stands_idle))]
-    pub fn close(self) -> World<B>
+    pub fn close(self) -> World<B, S>
         ensures { result ≡ with_core self.world (closed_for self.world.core self.session) }
     {
         let Solo { world, session } = self;
@@ -155,10 +156,10 @@ impl<B: Backend> Solo<B> {
         requires sessions { IsMoveOfNoSession m }
         ensures moves { MovesTo B.TELLS self.old.world.core m result self.new.world.core }
         ensures causes { HasCauses self.old.world self.new.world m result }
-        ensures no_log { HasNoLogFault m result }
+        ensures log_causes { HasLogCauses self.old.world self.new.world m result }
         ensures armings { HasArmings B.can_be_armed self.old.world self.new.world m result }
         ensures logins { HasLogins self.old.world self.new.world m result }
-        ensures want { IsErrOf result MoveError.NoMemory → self.new ≡ self.old }
+        ensures want { IsErrOf result MoveError.NoMemory → IsSameButLog self.old.world self.new.world }
         ensures setup { self.new.world.setup ≡ self.old.world.setup }
         ensures session { self.new.session ≡ self.old.session }
     {
@@ -167,7 +168,7 @@ impl<B: Backend> Solo<B> {
     }
 }
 
-impl<R, B: Backend> Desk<R> for Solo<B> {
+impl<R, B: Backend, S: Store> Desk<R> for Solo<B, S> {
     ghost tells = { B.TELLS };
 
     ghost state_of = { desk_of };

@@ -18,6 +18,7 @@ use cj_backend::Backend;
 use cj_model::{
     Asked, HISTORY_FULL, NO_BACKEND, NO_MEMORY, READ_FAULT, Refusal, Reply, Select, Text,
 };
+use cj_outside::Store;
 use cj_state::{AskError, State, without_bit};
 
 /// A backend's answer, as the reply to the session.
@@ -32,8 +33,8 @@ fn reply_of(answer: Asked) -> Reply
 
 /// Asks one backend. None where it failed, so that another may be asked.
 #[tactic(auto, using(crate::proofs::SoloTurns::stands_idle))]
-fn attempt<B: Backend>(
-    state: &mut State<B>,
+fn attempt<B: Backend, S: Store>(
+    state: &mut State<B, S>,
     s: u64,
     b: u8,
     user: &Text,
@@ -48,6 +49,7 @@ fn attempt<B: Backend>(
     ensures came { AttemptsQuery B.TELLS s b tx select.now state.old result state.new }
     ensures logins { AreCalledFor (accounts_of state.old) user.now (logins_of state.old.cells) (logins_of state.new.cells) }
     ensures setup { state.new.setup ≡ state.old.setup }
+    ensures recovery_log { state.new.recovery_log ≡ state.old.recovery_log }
 {
     state.legal();
     match state.ask(s, b, Some(user), tx, select) {
@@ -76,8 +78,8 @@ fn attempt<B: Backend>(
 
 /// Answers the session's query in transaction `tx`, 0 for none, at the log's end, by the first
 /// backend picked that doesn't fail.
-pub fn serve_read<B: Backend>(
-    state: &mut State<B>,
+pub fn serve_read<B: Backend, S: Store>(
+    state: &mut State<B, S>,
     s: u64,
     user: &Text,
     tx: u64,

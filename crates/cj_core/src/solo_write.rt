@@ -1,6 +1,6 @@
 //! A session's write over a whole world.
 
-ghost use Rattle.std.specs.Prelude.{◌≡◌, ◌≢◌, ◌≤◌, ◌<◌, ℕ, List, length, None, OnErr, OnOk, true, false};
+ghost use Rattle.std.specs.Prelude.{◌≡◌, ◌≢◌, ◌≤◌, ◌<◌, ℕ, List, length, None, IfErr, OnOk, true, false};
 ghost use Rattle.cj_model.specs.declared.limits.TheConstants.{REQUEST_LIMIT, USER_LIMIT};
 ghost use Rattle.cj_model.specs.Sql.PlainRequests.{request_of};
 ghost use Rattle.cj_model.specs.Sql.WrittenRequests.{IsWritten};
@@ -9,23 +9,24 @@ ghost use Rattle.cj_cluster.specs.History.Legality.{FitsTx};
 ghost use Rattle.cj_cluster.specs.Moves.Cores.{position_at, session_at};
 ghost use Rattle.cj_cluster.specs.Moves.Moves as moves;
 ghost use Rattle.cj_cluster.specs.Proving.Invariants.{CoreInvariant};
-ghost use Rattle.cj_cluster.specs.Moves.Moves.{scheduled_as, with_request_counted};
+ghost use Rattle.cj_cluster.specs.Moves.Moves.{with_request_counted};
 ghost use Rattle.cj_model.specs.declared.answer.Reply.TheVariants as replies;
 ghost use Rattle.cj_state.specs.Effects.{with_core};
-ghost use Rattle.cj_core.specs.Proving.SoloParts.{open_user, call_of, EntryEnded, EntryTaken, HasTakenEntry, SchedulesOrRefuses};
+ghost use Rattle.cj_core.specs.Proving.SoloParts.{open_user, call_of, EntryEnded, EntryRefused, EntryScheduled, EntryTaken, HasTakenEntry, SchedulesOrRefuses};
 ghost use Rattle.cj_state.specs.Effects.{own_entry};
 ghost use Rattle.cj_core.specs.Solos.{AddsEntry, StandsBetweenCalls, WorldTurn};
 
 use cj_backend::Backend;
 use cj_book::BookError;
 use cj_desk::Written;
-use cj_model::{Act, HISTORY_FULL, NO_BACKEND, NO_MEMORY, Refusal, Reply, Text};
+use cj_model::{Act, HISTORY_FULL, LOG_FAULT, NO_BACKEND, NO_MEMORY, Refusal, Reply, Text};
 use cj_moves::not_now_apply;
+use cj_outside::Store;
 use cj_state::State;
 
 /// Counts a request of the session that is refused.
 #[tactic(auto, using(crate::proofs::SoloTurns::stands_idle))]
-pub fn refuse<B: Backend>(state: &mut State<B>, s: u64, refusal: Refusal) -> Reply
+pub fn refuse<B: Backend, S: Store>(state: &mut State<B, S>, s: u64, refusal: Refusal) -> Reply
     requires stands { StandsBetweenCalls state.old.core s }
     requires counts { (session_at state.old.core s).queries < REQUEST_LIMIT }
     ensures reply { result ≡ replies.Refused refusal }
@@ -36,7 +37,7 @@ pub fn refuse<B: Backend>(state: &mut State<B>, s: u64, refusal: Refusal) -> Rep
 }
 
 /// The backend takes the open entry, where it is enabled and hasn't taken it.
-fn take_if_due<B: Backend>(state: &mut State<B>, b: u8)
+fn take_if_due<B: Backend, S: Store>(state: &mut State<B, S>, b: u8)
     requires open { is_idle state.old.core.history ≡ false }
     requires within { b < state.old.core.placement.backends }
     ensures taken { EntryTaken (open_user state.old.core) state.old state.new }
@@ -50,7 +51,7 @@ fn take_if_due<B: Backend>(state: &mut State<B>, b: u8)
 }
 
 /// Each enabled backend takes the open entry.
-fn take_everywhere<B: Backend>(state: &mut State<B>)
+fn take_everywhere<B: Backend, S: Store>(state: &mut State<B, S>)
     requires open { is_idle state.old.core.history ≡ false }
     ensures taken { EntryTaken (open_user state.old.core) state.old state.new }
     ensures at_end { moves.first_lagging state.new.core.history 0 state.new.core.positions ≡ None }
@@ -63,7 +64,7 @@ fn take_everywhere<B: Backend>(state: &mut State<B>)
 }
 
 /// Ends the open entry, which is of this session, once each enabled backend has taken it.
-fn finish<B: Backend>(state: &mut State<B>, s: u64) -> Reply
+fn finish<B: Backend, S: Store>(state: &mut State<B, S>, s: u64) -> Reply
     requires open { is_idle state.old.core.history ≡ false }
     requires waits { moves.is_waiting state.old.core s ≡ true }
     ensures { EntryEnded B.TELLS s (open_user state.old.core) state.old result state.new }
@@ -76,8 +77,8 @@ fn finish<B: Backend>(state: &mut State<B>, s: u64) -> Reply
 }
 
 /// Schedules the act as the session's next entry, in transaction `tx`, 0 for none, or says why it can't.
-fn schedule_for<B: Backend>(
-    state: &mut State<B>,
+fn schedule_for<B: Backend, S: Store>(
+    state: &mut State<B, S>,
     s: u64,
     user: &Text,
     tx: u64,
@@ -89,8 +90,8 @@ fn schedule_for<B: Backend>(
     requires written { IsWritten (request_of act) }
     requires fits { FitsTx (moves.open_tx state.old.core s) tx act }
     ensures scheduled { SchedulesOrRefuses state.old.core (own_entry state.old.core s tx user.now act) result }
-    ensures ok { OnOk result (state.new ≡ with_core state.old (scheduled_as state.old.core s (own_entry state.old.core s tx user.now act))) }
-    ensures err { OnErr result (state.new ≡ state.old) }
+    ensures ok { OnOk result (EntryScheduled s (own_entry state.old.core s tx user.now act) state.old state.new) }
+    ensures err { IfErr result (λ refusal. EntryRefused (own_entry state.old.core s tx user.now act) refusal state.old state.new) }
 {
     let Ok(entry) = state.entry_for(s, user, tx, act) else {
         return Err(Refusal::of_code(NO_MEMORY));
@@ -103,6 +104,7 @@ fn schedule_for<B: Backend>(
             a: events,
             b: 0,
         }),
+        Err(BookError::LogFault) => Err(Refusal::of_code(LOG_FAULT)),
         Err(BookError::NoMemory) => Err(Refusal::of_code(NO_MEMORY)),
         Err(BookError::InProgress(_)) => unreachable!(),
     }
@@ -110,8 +112,8 @@ fn schedule_for<B: Backend>(
 
 /// Schedules the act as the session's next entry, in transaction `tx`, 0 for none, and answers it
 /// once it has ended.
-pub fn serve_write<B: Backend>(
-    state: &mut State<B>,
+pub fn serve_write<B: Backend, S: Store>(
+    state: &mut State<B, S>,
     s: u64,
     user: &Text,
     tx: u64,

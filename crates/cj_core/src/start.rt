@@ -1,16 +1,26 @@
 //! How a world begins, and how it is given up.
 
-ghost use Rattle.std.specs.Prelude.{◌≡◌, ◌+◌, ◌<◌, ◌≤◌, [], length, map, vec_capacity, IfOk, OnOk};
-ghost use Rattle.cj_core.specs.Starts.{backend_of, state_by, KeepEachBegun, AreHolding, AreCurrent, HaveBegunNone};
-ghost use Rattle.cj_state.specs.Beginnings.{AreEmpty, AreFresh, started, started_to};
+ghost use Rattle.std.specs.Prelude.{◌≡◌, ◌≤◌, true, [], length, map, vec_capacity, IfOk, OnOk};
+ghost use Rattle.cj_cluster.specs.History.Histories.{log};
+ghost use Rattle.cj_core.specs.Starts.{backend_of, state_by, AreHolding, AreCurrent, CountsFaultOfStart, HasStarted, HaveBegunNone, KeepEachBegun, RefusesBytes, StartsFrom};
+ghost use Rattle.cj_core.specs.Proving.StartParts.{CountsFaultOfPart};
+ghost use Rattle.cj_opening.specs.Openings.{IsOpening};
+ghost use Rattle.cj_state.specs.Beginnings.{AreEmpty, AreFresh, opened_core};
+ghost use Rattle.cj_state.specs.Faults.{faults_of};
+ghost use Rattle.cj_log.specs.Logs.{KeepsItems};
+ghost use Rattle.cj_outside.specs.Stores.{Only};
 ghost use Rattle.cj_place.specs.Layouts.{placement_of};
 
 use crate::emptied::Emptied;
+use crate::ending::end_all;
+use crate::replaying::{enable_everywhere, replay_everywhere};
 use crate::world::World;
 use cj_auth::Accounts;
 use cj_backend::Backend;
-use cj_book::{Book, BookError, BookParts};
-use cj_model::{Duplicate, ListOf, NoMemory};
+use cj_book::{Book, BookParts, StartError};
+use cj_model::{BACKEND_LIMIT, Duplicate, ListOf, NoMemory};
+use cj_open_sessions::Sessions;
+use cj_outside::Store;
 use cj_place::Placement;
 use cj_replica::Cell;
 use cj_state::State;
@@ -34,6 +44,7 @@ fn cells_of<B: Backend + Drop>(
 ) -> Result<Vec<Cell<B>>, NoMemory>
     requires as_many { length backends.old.items ≡ length placement.now.names }
     requires none { HaveBegunNone (map B.begun backends.old.items) }
+    ensures few { OnOk result (length placement.now.names ≤ BACKEND_LIMIT) }
     ensures empty { OnOk result (backends.new.items ≡ []) }
     ensures fresh { IfOk result (λ cells. AreFresh (placement_of placement.now) cells.items) }
     ensures same { IfOk result (λ cells. map backend_of cells.items ≡ map (state_by B.told B.faults B.asks B.login B.arming) backends.old.items) }
@@ -62,61 +73,73 @@ fn backends_of<B: Backend + Drop>(mut cells: Vec<Cell<B>>, mut backends: Vec<B>)
     backends
 }
 
-/// Enables each backend, in the order of numbers.
-fn enable_all<B: Backend>(state: &mut State<B>, count: u8) -> Result<(), NoMemory>
-    requires rest { state.old.core ≡ started_to state.old.core.placement 0 }
-    requires all { count ≡ state.old.core.placement.backends }
-    ensures core { OnOk result (state.new.core ≡ started state.old.core.placement) }
-    ensures cells { state.new.cells ≡ state.old.cells }
-    ensures setup { state.new.setup ≡ state.old.setup }
+/// Brings the backends to the end of the log that was opened, enables those that don't fail, and ends the transactions that it
+/// leaves open.
+fn bring_up<B: Backend, S: Store>(state: &mut State<B, S>) -> Result<(), StartError>
+    requires opened { state.old.core ≡ opened_core state.old.core.placement state.old.core.history }
+    requires opening { IsOpening state.old.core.history }
+    ensures started { OnOk result (HasStarted state.old.core.placement state.old.core.history (faults_of state.old.cells) state.new) }
+    ensures uncalled { OnOk result (log state.old.core.history ≡ [] → state.new.cells ≡ state.old.cells) }
+    ensures setup { OnOk result (state.new.setup ≡ state.old.setup) }
+    ensures cause { CountsFaultOfPart state.old.recovery_log.faults result state.new.recovery_log.faults }
 {
-    let mut b = 0;
-    while b < count {
-        enable_next(state, b)?;
-        b += 1;
-    }
+    replay_everywhere(state)?;
+    state.legal();
+    enable_everywhere(state)?;
+    end_all(state)?;
+    state.legal();
     Ok(())
 }
 
-/// Enables backend `b`, where those before it are enabled.
-fn enable_next<B: Backend>(state: &mut State<B>, b: u8) -> Result<(), NoMemory>
-    requires begun { state.old.core ≡ started_to state.old.core.placement b }
-    requires within { b < state.old.core.placement.backends }
-    ensures core { OnOk result (state.new.core ≡ started_to state.old.core.placement (b + 1)) }
-    ensures cells { state.new.cells ≡ state.old.cells }
-    ensures setup { state.new.setup ≡ state.old.setup }
-{
-    state.legal();
-    match state.switch_on(b) {
-        Ok(()) => Ok(()),
-        Err(BookError::NoMemory) => Err(NoMemory),
-        Err(BookError::InProgress(_)) => unreachable!(),
-        Err(BookError::NoBackend) => unreachable!(),
-        Err(BookError::HistoryFull(_)) => unreachable!(),
-    }
-}
-
-impl<B: Backend + Drop> World<B> {
-    /// The core over these backends, which are all enabled, with no session open. Where there is
-    /// no memory for it, the backends are dropped.
-    pub fn start(alloc: Global, parts: Parts, backends: Backends<B>) -> Result<World<B>, NoMemory>
+impl<B: Backend + Drop, S: Store + Drop> World<B, S> {
+    /// Opens the log, and goes on from it: each backend, which is empty, replays the whole log, those that don't fail are enabled in
+    /// the order of their numbers, and each transaction that was left open is ended. No session is open then.
+    ///
+    /// A backend that fails is out, and the start goes on without it; one that wants memory ends the start with `NoMemory`. Refused,
+    /// it hands the log's store back, and the backends are dropped. `BadRecord` and `BadEntry` come exactly where the bytes of the log
+    /// are no history's, which leaves them as they are.
+    pub fn start(
+        alloc: Global,
+        parts: Parts,
+        log: S,
+        backends: Backends<B>,
+    ) -> Result<World<B, S>, (StartError, S)>
         requires as_many { length backends ≡ length parts.book.placement.names }
         requires registered { parts.accounts.backends ≡ length parts.book.placement.names }
         requires empty { AreEmpty B.TELLS (map B.told backends) }
         requires none { HaveBegunNone (map B.begun backends) }
-        ensures core { IfOk result (λ world. world.core ≡ started (placement_of parts.book.placement)) }
+        requires disk { S.TELLS ≡ true → Only (S.held log) (S.may log) }
+        ensures started { IfOk result (StartsFrom (λ items. S.TELLS ≡ true → KeepsItems (S.held log) items) (placement_of parts.book.placement) (map (state_by B.told B.faults B.asks B.login B.arming) backends)) }
         ensures setup { IfOk result (λ world. world.setup ≡ record { names = parts.book.placement.names; register = parts.accounts }) }
-        ensures same { IfOk result (λ world. map backend_of world.cells ≡ map (state_by B.told B.faults B.asks B.login B.arming) backends) }
+        ensures bytes { S.TELLS ≡ true → RefusesBytes S.held (S.held log) result }
+        ensures cause { CountsFaultOfStart S.faults (S.faults log) result }
     {
         let Parts { book, accounts } = parts;
         let mut list = backends.into_vec();
-        let count = book.placement.count();
-        let cells = cells_of(alloc, &book.placement, &mut list)?;
-        let book = Book::new(alloc, book)?;
-        let emptied = Emptied::new(list)?;
-        let mut state = State::new(alloc, book, cells, accounts)?;
-        enable_all(&mut state, count)?;
-        Ok(World { state, emptied })
+        let Ok(cells) = cells_of(alloc, &book.placement, &mut list) else {
+            return Err((StartError::NoMemory, log));
+        };
+        let Ok(emptied) = Emptied::new(list) else {
+            return Err((StartError::NoMemory, log));
+        };
+        let Ok(sessions) = Sessions::new(alloc) else {
+            return Err((StartError::NoMemory, log));
+        };
+        let book = Book::open(alloc, book, log)?;
+        let mut state = State::new(alloc, book, cells, sessions, accounts);
+        match bring_up(&mut state) {
+            Ok(()) => Ok(World { state, emptied }),
+            Err(error) => Err((error, state.into_log())),
+        }
+    }
+
+    /// The log's store, as it is.
+    pub fn into_log(self) -> S
+        ensures faults { S.faults result ≡ self.recovery_log.faults }
+        ensures bytes { S.held result ≡ self.recovery_log.bytes }
+    {
+        let World { state, .. } = self;
+        state.into_log()
     }
 
     /// The backends in the order of their numbers, as they stand. It takes no memory.

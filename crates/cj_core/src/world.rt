@@ -6,7 +6,7 @@ ghost use Rattle.cj_cluster.specs.History.Legality.{IsLegal};
 ghost use Rattle.cj_cluster.specs.Moves.Moves.{MovesTo};
 ghost use Rattle.cj_cluster.specs.Moves.Runs.{IsMoveOfCluster, CanCountRequests};
 ghost use Rattle.cj_moves.specs.Armings.{ArmsCell, HasArmings};
-ghost use Rattle.cj_moves.specs.Counting.{HasCauses, HasNoLogFault};
+ghost use Rattle.cj_moves.specs.Counting.{HasCauses, HasLogCauses};
 ghost use Rattle.cj_moves.specs.Logins.{HasLogins};
 ghost use Rattle.cj_moves.specs.Steps.{IsMet};
 ghost use Rattle.cj_core.specs.Audits.{audit_text, failed_audit};
@@ -20,7 +20,7 @@ ghost use Rattle.cj_cluster.specs.History.Histories.{is_idle};
 ghost use Rattle.cj_cluster.specs.Moves.Cores.{position_at};
 ghost use Rattle.cj_cluster.specs.Moves.Moves as moves;
 ghost use Rattle.cj_place.specs.Layouts.{placement_of};
-ghost use Rattle.cj_state.specs.Worlds.{IsWorld};
+ghost use Rattle.cj_state.specs.Worlds.{IsSameButLog, IsWorld, KeepsHistory};
 
 use crate::audit::{AuditError, audit};
 use crate::emptied::Emptied;
@@ -29,19 +29,20 @@ use cj_backend::Backend;
 use cj_cluster::{Made, Move, MoveError, Moved, MovedList, Moves};
 use cj_model::{NoMemory, Text};
 use cj_moves::step;
+use cj_outside::Store;
 use cj_place::Placement;
 use cj_state::State;
 use std::marker::Model;
 
 /// The core over these backends.
 #[derive(Drop)]
-pub struct World<B: Backend> {
-    pub(crate) state: State<B>,
+pub struct World<B: Backend, S: Store> {
+    pub(crate) state: State<B, S>,
     /// The list that the backends came in, and are given up in.
     pub(crate) emptied: Emptied<B>,
 }
 
-impl<B: Backend> Model for World<B> {
+impl<B: Backend, S: Store> Model for World<B, S> {
     ghost use Rattle.cj_state.specs.Worlds.{WorldState};
 
     ghost Value = { WorldState };
@@ -54,10 +55,11 @@ impl<B: Backend> Model for World<B> {
     ghost view = { λ w. w.state };
 }
 
-impl<B: Backend> World<B> {
+impl<B: Backend, S: Store> World<B, S> {
     /// Shows what holds of every world.
     pub fn legal(&self)
-        ensures { IsWorld B.TELLS self.now }
+        ensures world { IsWorld B.TELLS self.now }
+        ensures logged { S.TELLS ≡ true → KeepsHistory self.now }
     {
         self.state.legal();
     }
@@ -99,31 +101,32 @@ impl<B: Backend> World<B> {
         self.state.placement()
     }
 
-    /// Makes a move, or says why it can't be made now. Want of memory changes nothing; where it is
-    /// the backend's that takes an entry, the move says so and the backend is out.
+    /// Makes a move, or says why it can't be made now. Want of memory changes nothing but
+    /// maybe the log's bytes behind its items; where it is the backend's that takes an entry, the move says so and the backend is out.
     pub fn step(&mut self, m: Move) -> Result<Moved, MoveError>
         requires { IsMet self.old.core m }
         ensures moves { MovesTo B.TELLS self.old.core m result self.new.core }
         ensures causes { HasCauses self.old self.new m result }
-        ensures no_log { HasNoLogFault m result }
+        ensures log_causes { HasLogCauses self.old self.new m result }
         ensures armings { HasArmings B.can_be_armed self.old self.new m result }
         ensures logins { HasLogins self.old self.new m result }
         ensures armed { result ≡ Ok Moved.Armed → ArmsCell B.can_be_armed self.old.cells m self.new.cells }
-        ensures want { IsErrOf result MoveError.NoMemory → self.new ≡ self.old }
+        ensures want { IsErrOf result MoveError.NoMemory → IsSameButLog self.old self.new }
         ensures setup { self.new.setup ≡ self.old.setup }
     {
         step(&mut self.state, m)
     }
 
-    /// Makes a move, or answers why it can't be made now. Want of memory changes nothing.
+    /// Makes a move, or answers why it can't be made now. Want of memory changes nothing but maybe the log's bytes behind its items.
     pub fn make(&mut self, m: Move) -> Result<Made, NoMemory>
         requires { IsMet self.old.core m }
         ensures made { IfOk result (λ made. MovesTo B.TELLS self.old.core m (given_of made) self.new.core) }
         ensures causes { IfOk result (λ made. HasCauses self.old self.new m (given_of made)) }
-        ensures no_log { IfOk result (λ made. HasNoLogFault m (given_of made)) }
+        ensures log_causes { IfOk result (λ made. HasLogCauses self.old self.new m (given_of made)) }
         ensures armings { IfOk result (λ made. HasArmings B.can_be_armed self.old self.new m (given_of made)) }
         ensures logins { IfOk result (λ made. HasLogins self.old self.new m (given_of made)) }
-        ensures want { OnErr result (self.new ≡ self.old) }
+        ensures want { OnErr result (IsSameButLog self.old self.new) }
+        ensures log_want { OnErr result (self.new.recovery_log.faults ≡ self.old.recovery_log.faults) }
         ensures setup { self.new.setup ≡ self.old.setup }
     {
         make(&mut self.state, m)
@@ -153,6 +156,7 @@ impl<B: Backend> World<B> {
         ensures core { self.new.core ≡ self.old.core }
         ensures setup { self.new.setup ≡ self.old.setup }
         ensures logins { logins_of self.new.cells ≡ logins_of self.old.cells }
+        ensures recovery_log { self.new.recovery_log ≡ self.old.recovery_log }
         ensures armings { armings_of self.new.cells ≡ armings_of self.old.cells }
     {
         audit(&mut self.state)

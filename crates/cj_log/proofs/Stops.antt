@@ -1,9 +1,11 @@
 -- What a stop leaves of a log.
-use Rattle.std.proofs.Common.{◌≡◌, ◌⊎◌, inl, inr, ⊎_elim, ℕ, Bool, true, List, [], ◌∷◌, ◌++◌, Ok, Err, refl, sym, ap, subst, ◌∙◌}
+use Rattle.std.proofs.Common.{◌≡◌, ◌⊎◌, inl, inr, ⊎_elim, ℕ, Bool, true, List, [], ◌∷◌, ◌++◌, length, Ok, Err, refl, sym, ap, subst, ◌∙◌}
 use Rattle.std.specs.List.{AllByRecursion}
-use Rattle.std.proofs.lemmas.List.{map-append}
+use Rattle.std.proofs.lemmas.List.{map-append, append_cancel_left}
+use Rattle.cj_model.proofs.Fields.{ok_is}
 use Rattle.cj_outside.specs.Stores.{LeavesOnly}
 use Rattle.cj_records.specs.RecordFiles.{Finds}
+use Rattle.cj_records.proofs.OneList.{one_list}
 use Rattle.cj_records.specs.declared.error.RecordsError.{RecordsError}
 use Rattle.cj_records.specs.declared.error.RecordsError.TheVariants as errors
 use Rattle.cj_records.specs.Records.{RecordList}
@@ -42,6 +44,36 @@ items_of tells kept items item body image t l is its (inr (inl f)) = inr (inl (k
 items_of tells kept items item body image t l is its (inr (inr (up, f))) =
     let r = l.refused t up in
     inr (inr (r.0, up, r.2, keeps image kept.magic (kept.list ++ kept.refused ∷ []) (items ++ r.0 ∷ []) l.magic (more kept.list items r.0 kept.refused (l.bodies t) r.2) (each_more items r.0 l.each r.1) f))
+
+-- what a stop leaves of a store that is asked nothing, whatever is appended next: no body that is none of an item
+module _ {S : Type 0} (tells : Bool) (kept : RecordList S) (items : List LogItem) (item : LogItem) (t : tells ≡ true) (l : AgreesWithRecords tells kept items) where
+  stays : (image : List ℕ) → Finds kept.magic image (Ok kept.list) → IsBeforeOrAfter (logged_at kept items) item image
+  stays image f = inl (keeps image kept.magic kept.list items l.magic (l.bodies t) l.each f)
+
+  refused : (image : List ℕ) → kept.torn ≡ true → Finds kept.magic image (Ok (kept.list ++ kept.refused ∷ [])) → IsBeforeOrAfter (logged_at kept items) item image
+  refused image up f =
+      let r = l.refused t up in
+      inr (inr (r.0, up, r.2, keeps image kept.magic (kept.list ++ kept.refused ∷ []) (items ++ r.0 ∷ []) l.magic (more kept.list items r.0 kept.refused (l.bodies t) r.2) (each_more items r.0 l.each r.1) f))
+
+  one_body : (image : List ℕ) → Finds kept.magic image (Ok (kept.list ++ [] ∷ [])) → Finds kept.magic image (Ok (kept.list ++ (1 ∷ []) ∷ [])) → ⊥
+  one_body image f g =
+      let same : kept.list ++ [] ∷ [] ≡ kept.list ++ (1 ∷ []) ∷ [] = ok_is (kept.list ++ [] ∷ []) (kept.list ++ (1 ∷ []) ∷ []) (one_list kept.magic image (Ok (kept.list ++ [] ∷ [])) (Ok (kept.list ++ (1 ∷ []) ∷ [])) (ap length l.magic) f g) in
+      let ends : [] ∷ [] ≡ (1 ∷ []) ∷ [] = append_cancel_left kept.list ([] ∷ []) ((1 ∷ []) ∷ []) same in
+      absurd (cc ends)
+
+  either : (image : List ℕ) → records.IsBeforeOrAfter kept [] image → records.IsBeforeOrAfter kept (1 ∷ []) image → IsBeforeOrAfter (logged_at kept items) item image
+  either image (inl f) q = stays image f
+  either image (inr (inr (up, f))) q = refused image up f
+  either image (inr (inl f)) (inl g) = stays image g
+  either image (inr (inl f)) (inr (inl g)) = absurd (one_body image f g)
+  either image (inr (inl f)) (inr (inr (up, g))) = refused image up g
+
+  pub leaves_now : (moment : S → ℕ) (since : S → ℕ → List ℕ → Type 0) → ((body : List ℕ) → LeavesOnly moment since kept.store kept.store (records.IsBeforeOrAfter kept body)) → LeavesOnly moment since kept.store kept.store (IsBeforeOrAfter (logged_at kept items) item)
+  leaves_now moment since now = record {
+    later = (now []).later;
+    each = λ image left. either image ((now []).each image left) ((now (1 ∷ [])).each image left);
+    before = λ time image le left. inl left;
+  }
 
 -- ---- what holds of the fields after a refused append
 

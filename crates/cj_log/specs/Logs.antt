@@ -71,7 +71,7 @@ abbrev pub IsBeforeOrAfter : {S : Type 0} → LogState S → LogItem → List �
 IsBeforeOrAfter old item image = KeepsItems image old.items ⊎ (KeepsItems image (old.items ++ item ∷ []) ⊎ (refused : LogItem) × (old.torn ≡ true) × (item_bytes refused ≡ old.refused) × KeepsItems image (old.items ++ refused ∷ []))
 
 -- after an append the gate is shut, or torn with the body that was refused, now or before
-abbrev pub Refuses : {S E : Type 0} → LogState S → LogItem → LogState S → Result Unit E → Type 0
+abbrev pub Refuses : {S E T : Type 0} → LogState S → LogItem → LogState S → Result T E → Type 0
 Refuses old item new (Ok _) = new.torn ≡ false
 Refuses old item new (Err _) = new.torn ≡ true → (new.refused ≡ item_bytes item) ⊎ (old.torn ≡ true) × (new.refused ≡ old.refused)
 

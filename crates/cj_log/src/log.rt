@@ -5,6 +5,7 @@ ghost use Rattle.std.specs.List.{AllByRecursion};
 ghost use Rattle.cj_outside.specs.Causes.{CountsFault};
 ghost use Rattle.cj_outside.specs.Stores.{Only, LeavesOnly};
 ghost use Rattle.cj_records.specs.Records.{SameRecords};
+ghost use Rattle.cj_log.specs.declared.item.LogItem.{LogItem};
 ghost use Rattle.cj_log.specs.Items.{IsItem, CanAppend};
 ghost use Rattle.cj_log.specs.Logs.{log_magic, Adds, KeepsItems, marker_of};
 ghost use Rattle.cj_log.specs.Logs as log;
@@ -156,6 +157,10 @@ impl<S: Store> Log<S> {
         ensures each { AllByRecursion IsItem self.now.items }
         ensures items { S.TELLS ≡ true → self.now.torn ≡ false → KeepsItems (S.held self.now.store) self.now.items }
         ensures safe { S.TELLS ≡ true → self.now.torn ≡ false → log.LeavesItems (S.may self.now.store) self.now.items }
+
+        // Between two calls a stop leaves these items, whatever is appended next, or them with the one that
+        // was refused.
+        ensures now { S.TELLS ≡ true → (item : LogItem) → LeavesOnly S.moment S.since self.now.store self.now.store (log.IsBeforeOrAfter self.now item) }
     {
         self.records.legal();
     }

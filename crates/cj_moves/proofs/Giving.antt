@@ -1,16 +1,18 @@
 -- What scheduling a request gives.
-use Rattle.std.proofs.Common.{◌≡◌, ℕ, inl, inr, Option, None, Some, Ok, Err, ap, sym, ◌∙◌, subst}
+use Rattle.std.proofs.Common.{◌≡◌, ℕ, inl, inr, Option, None, Some, Ok, Err, refl, ap, sym, ◌∙◌, subst}
 use Rattle.cj_model.specs.declared.request.Act.{Act}
 use Rattle.cj_model.specs.declared.request.Request.{Request}
 use Rattle.cj_model.specs.declared.request.Entry.{Entry}
-use Rattle.cj_model.specs.declared.codes.TheConstants.{HISTORY_FULL}
+use Rattle.cj_model.specs.declared.codes.TheConstants.{HISTORY_FULL, LOG_FAULT}
 use Rattle.cj_model.specs.Sql.PlainRequests.{act_of, request_of}
+use Rattle.cj_model.specs.Database.Inserts.{refusal_of_code}
+use Rattle.cj_cluster.specs.declared.event.Event.TheVariants.{LogFailed}
 use Rattle.cj_cluster.specs.declared.moves.Moved.TheVariants as moved
 use Rattle.cj_cluster.specs.History.Answering.{HasServer}
 use Rattle.cj_cluster.specs.Moves.Cores.{Core}
-use Rattle.cj_cluster.specs.Moves.Moves.{MoveResult, forbidden_by, open_tx, next_entry, SchedulesAct, SchedulesAnyAct, SchedulesRequest, scheduled_as, with_request_counted}
+use Rattle.cj_cluster.specs.Moves.Moves.{MoveResult, forbidden_by, open_tx, next_entry, SchedulesAct, SchedulesAnyAct, SchedulesRequest, scheduled_as, happened, with_request_counted}
 use Rattle.cj_cluster.proofs.Soundness.{request_of-act}
-use Rattle.cj_book.specs.declared.error.BookError.TheVariants.{HistoryFull}
+use Rattle.cj_book.specs.declared.error.BookError.TheVariants.{HistoryFull, LogFault}
 use Rattle.cj_state.specs.Effects.{SchedulesAs}
 
 module _ (c : Core) (s : ℕ) (r : Request) (a : Act) (is : act_of r ≡ Some a) (e : Entry) (next : e ≡ next_entry c s a) (allowed : forbidden_by (open_tx c s) a ≡ None) where
@@ -35,4 +37,15 @@ module _ (c : Core) (s : ℕ) (r : Request) (a : Act) (is : act_of r ≡ Some a)
         full = full.2;
         refused = ap (λ m. record { code = HISTORY_FULL; a = m; b = 0 }) full.0;
         after = after;
+      }))))
+
+  pub gives_log_fault : (z : Core) → SchedulesAs c e (Err LogFault) → z ≡ with_request_counted (happened c (LogFailed e.session e.seq)) s → SchedulesRequest c s r (Ok (moved.Refused (refusal_of_code LOG_FAULT))) z
+  gives_log_fault z faulted after =
+      of_act (Ok (moved.Refused (refusal_of_code LOG_FAULT))) z
+      (inr (inr (inr (record {
+        allowed = allowed;
+        served = subst (HasServer c.placement c.history) same_request faulted.0;
+        space = faulted.1;
+        refused = refl;
+        after = after ∙ ap (λ (d : Entry). with_request_counted (happened c (LogFailed d.session d.seq)) s) next;
       }))))

@@ -2,6 +2,7 @@
 use Rattle.std.specs.Prelude.{◌≡◌, ℕ, Bool, true, false, ◌||◌, ◌==◌, if◌then◌else◌, Ok, Err}
 use Rattle.std.specs.declared.option.Option.{Option}
 use Rattle.std.specs.declared.option.Option.TheVariants.{None, Some}
+use Rattle.cj_outside.specs.Causes.{next}
 use Rattle.cj_cluster.specs.declared.moves.Move.{Move}
 use Rattle.cj_cluster.specs.declared.moves.Move.TheVariants.{Open, Close, Schedule, Abort, Apply, End, Read, Arm, Disable, Replay, Enable, Mark}
 use Rattle.cj_cluster.specs.declared.moves.Moved.TheVariants as moved
@@ -70,6 +71,11 @@ tells_log_fault (Replay b) g = false
 tells_log_fault (Enable b) g = false
 tells_log_fault (Mark name) g = is_log_fault g
 
--- Without a log no move says so.
-abbrev pub HasNoLogFault : Move → MoveResult → Type 0
-HasNoLogFault m g = tells_log_fault m g ≡ false
+-- one fault more where one is told
+abbrev pub log_faults_after : ℕ → Bool → ℕ
+log_faults_after faults false = faults
+log_faults_after faults true = next faults
+
+-- The log's store has counted one fault more where the move says that it failed, and none else.
+abbrev pub HasLogCauses : WorldState → WorldState → Move → MoveResult → Type 0
+HasLogCauses old new m g = new.recovery_log.faults ≡ log_faults_after old.recovery_log.faults (tells_log_fault m g)

@@ -3,15 +3,18 @@
 ghost use Rattle.std.specs.Prelude.{◌≡◌, ◌<◌, ◌≤◌, length, IsErrOf, None, Ok};
 ghost use Rattle.cj_cluster.specs.Moves.Moves as moves;
 ghost use Rattle.cj_cluster.specs.Moves.Moves.{AbortsOrphan, not_now};
-ghost use Rattle.cj_moves.specs.Counting.{HasNoLogFault};
+ghost use Rattle.cj_state.specs.Worlds.{IsSameButLog};
+ghost use Rattle.cj_moves.specs.Counting.{HasLogCauses};
 
 use crate::reason::why;
 use cj_backend::Backend;
 use cj_book::BookError;
 use cj_cluster::{Move, MoveError, Moved, Reason, Why};
+use cj_model::{LOG_FAULT, Refusal};
+use cj_outside::Store;
 use cj_state::State;
 
-pub fn not_now_abort<B: Backend>(state: &State<B>, tx: u64) -> Option<Why>
+pub fn not_now_abort<B: Backend, S: Store>(state: &State<B, S>, tx: u64) -> Option<Why>
     ensures { result ≡ moves.not_now state.now.core (Move.Abort tx) }
 {
     if !state.is_orphan(tx) {
@@ -23,12 +26,12 @@ pub fn not_now_abort<B: Backend>(state: &State<B>, tx: u64) -> Option<Why>
     None
 }
 
-pub fn abort<B: Backend>(state: &mut State<B>, tx: u64) -> Result<Moved, MoveError>
+pub fn abort<B: Backend, S: Store>(state: &mut State<B, S>, tx: u64) -> Result<Moved, MoveError>
     requires { not_now state.old.core (Move.Abort tx) ≡ None }
     ensures moves { AbortsOrphan state.old.core tx result state.new.core }
-    ensures no_log { HasNoLogFault (Move.Abort tx) result }
+    ensures log_causes { HasLogCauses state.old state.new (Move.Abort tx) result }
     ensures cells { state.new.cells ≡ state.old.cells }
-    ensures want { IsErrOf result MoveError.NoMemory → state.new ≡ state.old }
+    ensures want { IsErrOf result MoveError.NoMemory → IsSameButLog state.old state.new }
     ensures setup { state.new.setup ≡ state.old.setup }
 {
     let Ok(entry) = state.abort_entry(tx) else {
@@ -37,6 +40,7 @@ pub fn abort<B: Backend>(state: &mut State<B>, tx: u64) -> Result<Moved, MoveErr
     match state.schedule_abort(entry) {
         Ok(number) => Ok(Moved::Entry(number)),
         Err(BookError::HistoryFull(_)) => Ok(Moved::Refused(state.history_full())),
+        Err(BookError::LogFault) => Ok(Moved::Refused(Refusal::of_code(LOG_FAULT))),
         Err(BookError::NoMemory) => Err(MoveError::NoMemory),
         Err(BookError::InProgress(_)) | Err(BookError::NoBackend) => unreachable!(),
     }

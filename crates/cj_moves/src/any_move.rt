@@ -3,8 +3,9 @@
 ghost use Rattle.std.specs.Prelude.{◌≡◌, ◌<◌, ◌≤◌, IsErrOf, Some, None, Ok};
 ghost use Rattle.cj_cluster.specs.Moves.Moves as moves;
 ghost use Rattle.cj_cluster.specs.Moves.Moves.{MovesTo};
+ghost use Rattle.cj_state.specs.Worlds.{IsSameButLog};
 ghost use Rattle.cj_moves.specs.Armings.{ArmsCell, HasArmings};
-ghost use Rattle.cj_moves.specs.Counting.{HasCauses, HasNoLogFault};
+ghost use Rattle.cj_moves.specs.Counting.{HasCauses, HasLogCauses};
 ghost use Rattle.cj_moves.specs.Logins.{HasLogins};
 ghost use Rattle.cj_moves.specs.Steps.{IsMet};
 
@@ -22,11 +23,12 @@ use crate::replay::{not_now_replay, replay};
 use crate::schedule::{not_now_schedule, schedule};
 use cj_backend::Backend;
 use cj_cluster::{Move, MoveError, Moved, Why};
+use cj_outside::Store;
 use cj_state::State;
 
 /// The first reason, in the order of their tests. That another read is open, and that the
 /// backend does not serve it, is found where the read is made.
-fn why_not_now<B: Backend>(state: &State<B>, m: &Move) -> Option<Why>
+fn why_not_now<B: Backend, S: Store>(state: &State<B, S>, m: &Move) -> Option<Why>
     ensures { result ≡ moves.not_now state.now.core m.now }
 {
     match m {
@@ -44,17 +46,17 @@ fn why_not_now<B: Backend>(state: &State<B>, m: &Move) -> Option<Why>
     }
 }
 
-/// Makes a move, or says why it can't be made now. Want of memory changes nothing; where it is
-/// the backend's that takes an entry, the move says so and the backend is out.
-pub fn step<B: Backend>(state: &mut State<B>, m: Move) -> Result<Moved, MoveError>
+/// Makes a move, or says why it can't be made now. Want of memory changes nothing but maybe the log's bytes behind its items; where it
+/// is the backend's that takes an entry, the move says so and the backend is out.
+pub fn step<B: Backend, S: Store>(state: &mut State<B, S>, m: Move) -> Result<Moved, MoveError>
     requires { IsMet state.old.core m }
     ensures moves { MovesTo B.TELLS state.old.core m result state.new.core }
     ensures causes { HasCauses state.old state.new m result }
-    ensures no_log { HasNoLogFault m result }
+    ensures log_causes { HasLogCauses state.old state.new m result }
     ensures armings { HasArmings B.can_be_armed state.old state.new m result }
     ensures logins { HasLogins state.old state.new m result }
     ensures armed { result ≡ Ok Moved.Armed → ArmsCell B.can_be_armed state.old.cells m state.new.cells }
-    ensures want { IsErrOf result MoveError.NoMemory → state.new ≡ state.old }
+    ensures want { IsErrOf result MoveError.NoMemory → IsSameButLog state.old state.new }
     ensures setup { state.new.setup ≡ state.old.setup }
 {
     if let Some(why) = why_not_now(state, &m) {

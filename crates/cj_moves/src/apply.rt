@@ -10,9 +10,10 @@ ghost use Rattle.cj_moves.specs.Logins.{HasLogins};
 use crate::reason::why;
 use cj_backend::Backend;
 use cj_cluster::{Move, Moved, Reason, Why};
+use cj_outside::Store;
 use cj_state::State;
 
-pub fn not_now_apply<B: Backend>(state: &State<B>, b: u8) -> Option<Why>
+pub fn not_now_apply<B: Backend, S: Store>(state: &State<B, S>, b: u8) -> Option<Why>
     ensures { result ≡ moves.not_now state.now.core (Move.Apply b) }
 {
     if state.is_free() {
@@ -28,7 +29,7 @@ pub fn not_now_apply<B: Backend>(state: &State<B>, b: u8) -> Option<Why>
     }
 }
 
-pub fn apply<B: Backend>(state: &mut State<B>, b: u8) -> Moved
+pub fn apply<B: Backend, S: Store>(state: &mut State<B, S>, b: u8) -> Moved
     requires within { b < state.old.core.placement.backends }
     requires now { not_now state.old.core (Move.Apply b) ≡ None }
     ensures moves { Applies B.TELLS state.old.core b (Ok result) state.new.core }
@@ -36,6 +37,7 @@ pub fn apply<B: Backend>(state: &mut State<B>, b: u8) -> Moved
     ensures logins { HasLogins state.old state.new (Move.Apply b) (Ok result) }
     ensures armings { armings_of state.new.cells ≡ armings_of state.old.cells }
     ensures setup { state.new.setup ≡ state.old.setup }
+    ensures recovery_log { state.new.recovery_log ≡ state.old.recovery_log }
 {
     Moved::Applied {
         b,

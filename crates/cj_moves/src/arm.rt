@@ -11,9 +11,10 @@ ghost use Rattle.cj_state.specs.CalledLogins.{logins_of};
 
 use cj_backend::Backend;
 use cj_cluster::{Move, Moved};
+use cj_outside::Store;
 use cj_state::State;
 
-pub fn arm<B: Backend>(state: &mut State<B>, b: u8) -> Moved
+pub fn arm<B: Backend, S: Store>(state: &mut State<B, S>, b: u8) -> Moved
     requires { b < state.old.core.placement.backends }
     ensures moves { Arms state.old.core (Ok result) state.new.core }
     ensures cells { (d : CellState) → state.new.cells ≡ armed_at B.can_be_armed state.old.cells b d }
@@ -21,6 +22,7 @@ pub fn arm<B: Backend>(state: &mut State<B>, b: u8) -> Moved
     ensures armings { HasArmings B.can_be_armed state.old state.new (Move.Arm b) (Ok result) }
     ensures logins { logins_of state.new.cells ≡ logins_of state.old.cells }
     ensures setup { state.new.setup ≡ state.old.setup }
+    ensures recovery_log { state.new.recovery_log ≡ state.old.recovery_log }
 {
     state.arm_backend(b);
     Moved::Armed

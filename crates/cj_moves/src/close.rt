@@ -7,9 +7,10 @@ ghost use Rattle.cj_cluster.specs.Moves.Moves.{ClosesSession, not_now};
 use crate::reason::why;
 use cj_backend::Backend;
 use cj_cluster::{Move, Moved, Reason, Why};
+use cj_outside::Store;
 use cj_state::State;
 
-pub fn not_now_close<B: Backend>(state: &State<B>, s: u64) -> Option<Why>
+pub fn not_now_close<B: Backend, S: Store>(state: &State<B, S>, s: u64) -> Option<Why>
     ensures { result ≡ moves.not_now state.now.core (Move.Close s) }
 {
     if !state.is_open(s) {
@@ -21,11 +22,12 @@ pub fn not_now_close<B: Backend>(state: &State<B>, s: u64) -> Option<Why>
     None
 }
 
-pub fn close<B: Backend>(state: &mut State<B>, s: u64) -> Moved
+pub fn close<B: Backend, S: Store>(state: &mut State<B, S>, s: u64) -> Moved
     requires { not_now state.old.core (Move.Close s) ≡ None }
     ensures moves { ClosesSession state.old.core s (Ok result) state.new.core }
     ensures cells { state.new.cells ≡ state.old.cells }
     ensures setup { state.new.setup ≡ state.old.setup }
+    ensures recovery_log { state.new.recovery_log ≡ state.old.recovery_log }
 {
     state.remove_session(s);
     Moved::Closed

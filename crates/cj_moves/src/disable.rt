@@ -8,9 +8,10 @@ use crate::reason::why;
 use cj_backend::Backend;
 use cj_book::BookError;
 use cj_cluster::{Move, MoveError, Moved, Reason, Why};
+use cj_outside::Store;
 use cj_state::State;
 
-pub fn not_now_disable<B: Backend>(state: &State<B>, b: u8) -> Option<Why>
+pub fn not_now_disable<B: Backend, S: Store>(state: &State<B, S>, b: u8) -> Option<Why>
     ensures { result ≡ moves.not_now state.now.core (Move.Disable b) }
 {
     if !state.is_free() {
@@ -22,17 +23,20 @@ pub fn not_now_disable<B: Backend>(state: &State<B>, b: u8) -> Option<Why>
     None
 }
 
-pub fn disable<B: Backend>(state: &mut State<B>, b: u8) -> Result<Moved, MoveError>
+pub fn disable<B: Backend, S: Store>(state: &mut State<B, S>, b: u8) -> Result<Moved, MoveError>
     requires { not_now state.old.core (Move.Disable b) ≡ None }
     ensures moves { Disables state.old.core b result state.new.core }
     ensures cells { state.new.cells ≡ state.old.cells }
     ensures want { IsErrOf result MoveError.NoMemory → state.new ≡ state.old }
     ensures setup { state.new.setup ≡ state.old.setup }
+    ensures recovery_log { state.new.recovery_log ≡ state.old.recovery_log }
 {
     match state.switch_off(b) {
         Ok(()) => Ok(Moved::Disabled),
         Err(BookError::HistoryFull(_)) => Ok(Moved::Refused(state.history_full())),
         Err(BookError::NoMemory) => Err(MoveError::NoMemory),
-        Err(BookError::InProgress(_)) | Err(BookError::NoBackend) => unreachable!(),
+        Err(BookError::InProgress(_)) | Err(BookError::NoBackend) | Err(BookError::LogFault) => {
+            unreachable!()
+        }
     }
 }

@@ -7,9 +7,10 @@ ghost use Rattle.cj_cluster.specs.Moves.Moves.{EndsEntry, not_now};
 use crate::reason::why;
 use cj_backend::Backend;
 use cj_cluster::{Move, Moved, Reason, Why};
+use cj_outside::Store;
 use cj_state::State;
 
-pub fn not_now_end<B: Backend>(state: &State<B>) -> Option<Why>
+pub fn not_now_end<B: Backend, S: Store>(state: &State<B, S>) -> Option<Why>
     ensures { result ≡ moves.not_now state.now.core Move.End }
 {
     if state.is_free() {
@@ -21,11 +22,12 @@ pub fn not_now_end<B: Backend>(state: &State<B>) -> Option<Why>
     }
 }
 
-pub fn end<B: Backend>(state: &mut State<B>) -> Moved
+pub fn end<B: Backend, S: Store>(state: &mut State<B, S>) -> Moved
     requires { not_now state.old.core Move.End ≡ None }
     ensures moves { EndsEntry B.TELLS state.old.core (Ok result) state.new.core }
     ensures cells { state.new.cells ≡ state.old.cells }
     ensures setup { state.new.setup ≡ state.old.setup }
+    ensures recovery_log { state.new.recovery_log ≡ state.old.recovery_log }
 {
     let session = state.waiting();
     let reply = state.reply();

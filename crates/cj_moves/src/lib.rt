@@ -19,3 +19,4 @@ mod schedule;
 
 pub use any_move::step;
 pub use apply::not_now_apply;
+pub use replay::not_now_replay;

@@ -7,13 +7,15 @@ ghost use Rattle.cj_cluster.specs.Moves.Moves.{OpensSession};
 use cj_backend::Backend;
 use cj_cluster::Moved;
 use cj_model::{Text, USER_LIMIT};
+use cj_outside::Store;
 use cj_state::State;
 
-pub fn open<B: Backend>(state: &mut State<B>, user: Text) -> Moved
+pub fn open<B: Backend, S: Store>(state: &mut State<B, S>, user: Text) -> Moved
     requires { length user ≤ USER_LIMIT }
     ensures moves { OpensSession state.old.core user (Ok result) state.new.core }
     ensures cells { state.new.cells ≡ state.old.cells }
     ensures setup { state.new.setup ≡ state.old.setup }
+    ensures recovery_log { state.new.recovery_log ≡ state.old.recovery_log }
 {
     if state.has_no_number() {
         return Moved::Refused(state.sessions_full());

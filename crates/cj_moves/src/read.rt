@@ -19,9 +19,10 @@ use cj_cluster::{Move, MoveError, Moved, Reason, Why};
 use cj_model::{
     Asked, HISTORY_FULL, NO_BACKEND, READ_FAULT, REQUEST_LIMIT, Refusal, Select, has_bit,
 };
+use cj_outside::Store;
 use cj_state::{AskError, State, covers};
 
-pub fn not_now_read<B: Backend>(state: &State<B>, s: u64) -> Option<Why>
+pub fn not_now_read<B: Backend, S: Store>(state: &State<B, S>, s: u64) -> Option<Why>
     ensures { (b : ℕ) (select : Select) → result ≡ moves.not_now state.now.core (Move.Read s b select) }
 {
     if !state.is_open(s) {
@@ -34,8 +35,8 @@ pub fn not_now_read<B: Backend>(state: &State<B>, s: u64) -> Option<Why>
 }
 
 /// One attempt of the session's read.
-pub fn read<B: Backend>(
-    state: &mut State<B>,
+pub fn read<B: Backend, S: Store>(
+    state: &mut State<B, S>,
     s: u64,
     b: u8,
     select: Select,
@@ -50,6 +51,7 @@ pub fn read<B: Backend>(
     ensures armings { armings_of state.new.cells ≡ armings_of state.old.cells }
     ensures want { IsErrOf result MoveError.NoMemory → state.new ≡ state.old }
     ensures setup { state.new.setup ≡ state.old.setup }
+    ensures recovery_log { state.new.recovery_log ≡ state.old.recovery_log }
 {
     state.legal();
     if state.reads_other(s, &select) {
@@ -88,7 +90,7 @@ pub fn read<B: Backend>(
 }
 
 /// The session's read stays open as it is.
-fn wait<B: Backend>(state: &mut State<B>, s: u64, select: Select)
+fn wait<B: Backend, S: Store>(state: &mut State<B, S>, s: u64, select: Select)
     requires counts { (session_at state.old.core s).queries < REQUEST_LIMIT }
     requires idle { moves.is_waiting state.old.core s ≡ false }
     ensures { state.new ≡ with_core state.old (with_read state.old.core s (still_reading select (moves.tried_of (session_at state.old.core s).reading))) }
@@ -99,7 +101,12 @@ fn wait<B: Backend>(state: &mut State<B>, s: u64, select: Select)
 }
 
 /// The session's read is answered at a position.
-fn give_answer<B: Backend>(state: &mut State<B>, s: u64, position: u64, answer: Asked) -> Moved
+fn give_answer<B: Backend, S: Store>(
+    state: &mut State<B, S>,
+    s: u64,
+    position: u64,
+    answer: Asked,
+) -> Moved
     requires counts { (session_at state.old.core s).queries < REQUEST_LIMIT }
     requires idle { moves.is_waiting state.old.core s ≡ false }
     requires within { position ≤ moves.last_number state.old.core }
@@ -115,8 +122,8 @@ fn give_answer<B: Backend>(state: &mut State<B>, s: u64, position: u64, answer: 
 
 /// The session's read is refused where each backend that serves it has failed in it, and else it
 /// stays open.
-fn refuse_or_stay<B: Backend>(
-    state: &mut State<B>,
+fn refuse_or_stay<B: Backend, S: Store>(
+    state: &mut State<B, S>,
     s: u64,
     select: Select,
     tried: u32,
@@ -128,6 +135,7 @@ fn refuse_or_stay<B: Backend>(
     ensures moves { RefusesOrStays state.old.core s select tried serving result state.new.core }
     ensures cells { state.new.cells ≡ state.old.cells }
     ensures setup { state.new.setup ≡ state.old.setup }
+    ensures recovery_log { state.new.recovery_log ≡ state.old.recovery_log }
 {
     if covers(tried, serving) {
         state.refuse_read(s);
@@ -143,7 +151,7 @@ fn refuse_or_stay<B: Backend>(
 }
 
 /// The session's read is refused, since the history of so many events has no room to note a failure.
-fn refuse_unnoted<B: Backend>(state: &mut State<B>, s: u64, events: u64) -> Moved
+fn refuse_unnoted<B: Backend, S: Store>(state: &mut State<B, S>, s: u64, events: u64) -> Moved
     requires counts { (session_at state.old.core s).queries < REQUEST_LIMIT }
     requires idle { moves.is_waiting state.old.core s ≡ false }
     ensures moved { result ≡ Moved.Refused (record { code = HISTORY_FULL; a = events; b = 0 }) }

@@ -10,9 +10,10 @@ ghost use Rattle.cj_moves.specs.Logins.{HasLogins};
 use crate::reason::why;
 use cj_backend::Backend;
 use cj_cluster::{Move, Moved, Reason, Why};
+use cj_outside::Store;
 use cj_state::State;
 
-pub fn not_now_replay<B: Backend>(state: &State<B>, b: u8) -> Option<Why>
+pub fn not_now_replay<B: Backend, S: Store>(state: &State<B, S>, b: u8) -> Option<Why>
     ensures { result ≡ moves.not_now state.now.core (Move.Replay b) }
 {
     if state.is_enabled(b) {
@@ -25,7 +26,7 @@ pub fn not_now_replay<B: Backend>(state: &State<B>, b: u8) -> Option<Why>
     }
 }
 
-pub fn replay<B: Backend>(state: &mut State<B>, b: u8) -> Moved
+pub fn replay<B: Backend, S: Store>(state: &mut State<B, S>, b: u8) -> Moved
     requires within { b < state.old.core.placement.backends }
     requires now { not_now state.old.core (Move.Replay b) ≡ None }
     ensures moves { Replays B.TELLS state.old.core b (Ok result) state.new.core }
@@ -33,6 +34,7 @@ pub fn replay<B: Backend>(state: &mut State<B>, b: u8) -> Moved
     ensures logins { HasLogins state.old state.new (Move.Replay b) (Ok result) }
     ensures armings { armings_of state.new.cells ≡ armings_of state.old.cells }
     ensures setup { state.new.setup ≡ state.old.setup }
+    ensures recovery_log { state.new.recovery_log ≡ state.old.recovery_log }
 {
     let number = state.next_of(b);
     Moved::Replayed {

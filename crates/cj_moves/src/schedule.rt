@@ -9,14 +9,16 @@ ghost use Rattle.cj_cluster.specs.Moves.Moves as moves;
 ghost use Rattle.cj_cluster.specs.Moves.Cores.{session_at};
 ghost use Rattle.cj_cluster.specs.Moves.Moves.{SchedulesRequest, not_now};
 ghost use Rattle.cj_cluster.specs.Moves.Runs.{IsForLog};
-ghost use Rattle.cj_moves.specs.Counting.{HasNoLogFault};
+ghost use Rattle.cj_state.specs.Worlds.{IsSameButLog};
+ghost use Rattle.cj_moves.specs.Counting.{HasLogCauses};
 
 use crate::reason::why;
 use cj_backend::Backend;
 use cj_book::BookError;
 use cj_cluster::{Move, MoveError, Moved, Reason, Why};
-use cj_model::{Act, HISTORY_FULL, NO_BACKEND, REQUEST_LIMIT, Refusal, Request, Select};
+use cj_model::{Act, HISTORY_FULL, LOG_FAULT, NO_BACKEND, REQUEST_LIMIT, Refusal, Request, Select};
 use cj_open_sessions::forbidden_by;
+use cj_outside::Store;
 use cj_state::State;
 
 /// The act of a request that is no query.
@@ -37,7 +39,7 @@ fn act_of(request: Request) -> Act
     }
 }
 
-pub fn not_now_schedule<B: Backend>(state: &State<B>, s: u64) -> Option<Why>
+pub fn not_now_schedule<B: Backend, S: Store>(state: &State<B, S>, s: u64) -> Option<Why>
     ensures { (r : Request) → result ≡ moves.not_now state.now.core (Move.Schedule s r) }
 {
     if !state.is_open(s) {
@@ -52,8 +54,8 @@ pub fn not_now_schedule<B: Backend>(state: &State<B>, s: u64) -> Option<Why>
     None
 }
 
-pub fn schedule<B: Backend>(
-    state: &mut State<B>,
+pub fn schedule<B: Backend, S: Store>(
+    state: &mut State<B, S>,
     s: u64,
     request: Request,
 ) -> Result<Moved, MoveError>
@@ -62,9 +64,9 @@ pub fn schedule<B: Backend>(
     requires counts { (session_at state.old.core s).queries < REQUEST_LIMIT }
     requires now { not_now state.old.core (Move.Schedule s request) ≡ None }
     ensures moves { SchedulesRequest state.old.core s request result state.new.core }
-    ensures no_log { HasNoLogFault (Move.Schedule s request) result }
+    ensures log_causes { HasLogCauses state.old state.new (Move.Schedule s request) result }
     ensures cells { state.new.cells ≡ state.old.cells }
-    ensures want { IsErrOf result MoveError.NoMemory → state.new ≡ state.old }
+    ensures want { IsErrOf result MoveError.NoMemory → IsSameButLog state.old state.new }
     ensures setup { state.new.setup ≡ state.old.setup }
 {
     let act = act_of(request);
@@ -88,6 +90,10 @@ pub fn schedule<B: Backend>(
                 a: events,
                 b: 0,
             }))
+        }
+        Err(BookError::LogFault) => {
+            state.count(s);
+            Ok(Moved::Refused(Refusal::of_code(LOG_FAULT)))
         }
         Err(BookError::NoMemory) => Err(MoveError::NoMemory),
         Err(BookError::InProgress(_)) => unreachable!(),

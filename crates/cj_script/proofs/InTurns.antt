@@ -14,16 +14,17 @@ use Rattle.cj_outside.proofs.Joined.{appends_then, appends_more}
 use Rattle.cj_cluster.specs.declared.moves.Move.{Move}
 use Rattle.cj_cluster.specs.declared.moves.Move.TheVariants.{Open, Close, Schedule, Abort, Apply, End, Read, Arm, Disable, Replay, Enable, Mark}
 use Rattle.cj_cluster.specs.Moves.Cores.{Core, session_at}
-use Rattle.cj_cluster.specs.Moves.Runs.{RunsMoves, IsMoveOfCluster, CanCountRequests}
+use Rattle.cj_cluster.specs.Moves.Runs.{RunsMoves, IsBetweenReplies, IsChained, IsMoveOfCluster, CanCountRequests}
 use Rattle.cj_cluster.specs.Script.Lines.{MoveLine, NamesBackend, moved_lines}
 use Rattle.cj_cluster.proofs.Chains.{run_chained}
-use Rattle.cj_state.specs.Worlds.{WorldState, IsWorld}
+use Rattle.cj_state.specs.Worlds.{LogView, WorldState, IsWorld, with_log}
+use Rattle.cj_cluster.specs.History.Turns.{SessionView}
 use Rattle.cj_state.specs.Faults.{faults_after, faults_of}
 use Rattle.cj_script.specs.declared.play.ScriptEnd.{ScriptEnd}
 use Rattle.cj_script.specs.declared.play.ScriptEnd.TheVariants.{Done, Line as Line', ReadFault, WriteFault, Spent, NoMemory}
-use Rattle.cj_script.specs.Script.{audit_line, filled, moves_in, given_in, step_lines, faults_through, AreSteps, MakesInPart, PlaysLine, Plays, LieIn, InTurns, Step}
+use Rattle.cj_script.specs.Script.{audit_line, filled, moves_in, given_in, step_lines, faults_through, log_faults_through, AreSteps, MakesInPart, PlaysLine, Plays, LieIn, InTurns, Step}
 use Rattle.cj_script.specs.Script.Step.{Moves, Audits}
-use Rattle.cj_script.specs.Steps.{ReadsLine, Stays, PlaysOrEnds}
+use Rattle.cj_script.specs.Steps.{ReadsLine, Starves, Stays, PlaysOrEnds}
 use Rattle.cj_script.proofs.Filled.{filled_audit, filled_empty, filled_move, filled_more}
 use Rattle.cj_script.proofs.Playing.{plays_more, longer, Playing, AtLine}
 
@@ -35,16 +36,18 @@ record StepsOf (tells : Bool) (names : List (List ℕ)) (c : WorldState) (lines 
   are : AreSteps names (filled lines) steps
   runs : RunsMoves tells c.core (moves_in steps) (given_in steps) z.core
   causes : faults_of z.cells ≡ faults_through (faults_of c.cells) steps
+  log_causes : z.recovery_log.faults ≡ log_faults_through c.recovery_log.faults steps
   gives : written ≡ flat_map (step_lines names) steps
 
 -- an audit, which left the core as it was, and the lines behind it
 audit_on : (tells : Bool) (names : List (List ℕ)) (c : WorldState) (line : List ℕ) (lines : List (List ℕ)) (mid : WorldState) (front rest : List ℕ) (z : WorldState) (failed : Option ℕ)
-    → line ≡ audit_line → mid.core ≡ c.core → faults_of mid.cells ≡ faults_after (faults_of c.cells) failed → StepsOf tells names mid lines rest z → StepsOf tells names c (line ∷ lines) (front ++ rest) z
-audit_on tells names c line lines mid front rest z failed is core faults later = record {
+    → line ≡ audit_line → mid.core ≡ c.core → faults_of mid.cells ≡ faults_after (faults_of c.cells) failed → mid.recovery_log ≡ c.recovery_log → StepsOf tells names mid lines rest z → StepsOf tells names c (line ∷ lines) (front ++ rest) z
+audit_on tells names c line lines mid front rest z failed is core faults log later = record {
   steps = Audits failed front ∷ later.steps;
   are = subst (λ (ls : List (List ℕ)). AreSteps names ls (Audits failed front ∷ later.steps)) (sym (filled_audit line lines is)) (is, later.are);
   runs = subst (λ (x : Core). RunsMoves tells x (moves_in later.steps) (given_in later.steps) z.core) core later.runs;
   causes = later.causes ∙ ap (λ (counts : List ℕ). faults_through counts later.steps) faults;
+  log_causes = later.log_causes ∙ ap (λ (l : LogView). log_faults_through l.faults later.steps) log;
   gives = ap (λ (t : List ℕ). front ++ t) later.gives ∙ sym (flat_map-cons (step_lines names) (Audits failed front) later.steps);
 }
 
@@ -56,6 +59,7 @@ steps_on tells armable names c line lines mid front rest z (inl skips) later = r
   are = subst (λ (ls : List (List ℕ)). AreSteps names ls later.steps) (sym (filled_empty line lines skips.empty)) later.are;
   runs = subst (λ (x : WorldState). RunsMoves tells x.core (moves_in later.steps) (given_in later.steps) z.core) skips.same later.runs;
   causes = later.causes ∙ ap (λ (x : WorldState). faults_through (faults_of x.cells) later.steps) skips.same;
+  log_causes = later.log_causes ∙ ap (λ (x : WorldState). log_faults_through x.recovery_log.faults later.steps) skips.same;
   gives = ap (λ (t : List ℕ). t ++ rest) skips.nothing ∙ later.gives;
 }
 steps_on tells armable names c line lines mid front rest z (inr (inl makes)) later = record {
@@ -63,17 +67,18 @@ steps_on tells armable names c line lines mid front rest z (inr (inl makes)) lat
   are = subst (λ (ls : List (List ℕ)). AreSteps names ls (Moves makes.move makes.made ∷ later.steps)) (sym (filled_move names line lines makes.move makes.reads)) (makes.reads, later.are);
   runs = (mid.core, makes.moves, later.runs);
   causes = later.causes ∙ ap (λ (faults : List ℕ). faults_through faults later.steps) makes.causes;
+  log_causes = later.log_causes ∙ ap (λ (n : ℕ). log_faults_through n later.steps) makes.log_causes;
   gives =
       ap (λ (t : List ℕ). t ++ rest) makes.gives
       ∙ ap (λ (t : List ℕ). moved_lines names makes.made ++ t) later.gives ∙ sym (flat_map-cons (step_lines names) (Moves makes.move makes.made) later.steps);
 }
 steps_on tells armable names c line lines mid front rest z (inr (inr (is, inl later_on))) later =
-    audit_on tells names c line lines mid front rest z None is (ap (λ (x : WorldState). x.core) later_on.same) (ap (λ (x : WorldState). faults_of x.cells) later_on.same) later
+    audit_on tells names c line lines mid front rest z None is (ap (λ (x : WorldState). x.core) later_on.same) (ap (λ (x : WorldState). faults_of x.cells) later_on.same) (ap (λ (x : WorldState). x.recovery_log) later_on.same) later
 steps_on tells armable names c line lines mid front rest z (inr (inr (is, inr (failed, now)))) later =
-    audit_on tells names c line lines mid front rest z failed is now.core now.faults later
+    audit_on tells names c line lines mid front rest z failed is now.core now.faults now.recovery_log later
 
 steps_of : (tells armable : Bool) (names : List (List ℕ)) (c : WorldState) (lines : List (List ℕ)) (written : List ℕ) (z : WorldState) → Plays tells armable names c lines written z → StepsOf tells names c lines written z
-steps_of tells armable names c [] written z h = record { steps = []; are = tt; runs = ap (λ (x : WorldState). x.core) (sym h.1); causes = ap (λ (x : WorldState). faults_of x.cells) h.1; gives = h.0 }
+steps_of tells armable names c [] written z h = record { steps = []; are = tt; runs = ap (λ (x : WorldState). x.core) (sym h.1); causes = ap (λ (x : WorldState). faults_of x.cells) h.1; log_causes = ap (λ (x : WorldState). x.recovery_log.faults) h.1; gives = h.0 }
 steps_of tells armable names c (line ∷ lines) written z (mid, front, rest, first, others, is) =
     subst (λ (t : List ℕ). StepsOf tells names c (line ∷ lines) t z) (sym is) (steps_on tells armable names c line lines mid front rest z first (steps_of tells armable names mid lines rest z others))
 
@@ -139,6 +144,7 @@ module _ (tells armable : Bool) (names : List (List ℕ)) (c : WorldState) (worl
         runs = q.runs;
         chains = run_chained tells c.core (moves_in q.steps) (given_in q.steps) z.core world.sound (lines_move names c.core.placement.backends (filled lines) q.steps as_many q.are) once q.runs;
         causes = q.causes;
+        log_causes = q.log_causes;
       }
 
   -- between two lines
@@ -184,15 +190,16 @@ turns_longer tells names left mid left' held held' c z more q next =
       runs = q.runs;
       chains = q.chains;
       causes = q.causes;
+      log_causes = q.log_causes;
     }
 
--- nothing was done and nothing written
-turns_stay : (tells : Bool) (names : List (List ℕ)) (left left' held held' held'' : Option (List ℕ)) (c mid z : WorldState) → InTurns tells names left left' held held' c mid → Stays held' held'' mid z
+-- nothing was done, but that bytes behind the items of the log may be left, and nothing written
+turns_stay : (tells : Bool) (names : List (List ℕ)) (left left' held held' held'' : Option (List ℕ)) (c mid z : WorldState) → InTurns tells names left left' held held' c mid → Starves held' held'' mid z
     → InTurns tells names left left' held held'' c z
 turns_stay tells names left left' held held' held'' c mid z q stays =
     let text : List ℕ = take q.count (flat_map (step_lines names) q.steps) in
-    subst (InTurns tells names left left' held held'' c) (sym stays.0)
-    (record {
+    let core : mid.core ≡ z.core = sym (ap (λ (x : WorldState). x.core) stays.same) in
+    record {
       taken = q.taken;
       lines = q.lines;
       rest = q.rest;
@@ -201,11 +208,16 @@ turns_stay tells names left left' held held' held'' c mid z q stays =
       steps = q.steps;
       are = q.are;
       count = q.count;
-      appended = subst (Appends held held'') (append-nil text) (appends_then held held' held'' text [] q.appended stays.1);
-      runs = q.runs;
-      chains = q.chains;
-      causes = q.causes;
-    })
+      appended = subst (Appends held held'') (append-nil text) (appends_then held held' held'' text [] q.appended stays.nothing);
+      runs = subst (RunsMoves tells c.core (moves_in q.steps) (given_in q.steps)) core q.runs;
+      chains = subst (λ (x : Core). (s : ℕ) (a : SessionView) → 0 < s → IsBetweenReplies a c.core s → IsChained tells s c.core (moves_in q.steps) (given_in q.steps) x a) core q.chains;
+      causes = ap (λ (x : WorldState). faults_of x.cells) stays.same ∙ q.causes;
+      log_causes = stays.log_faults ∙ q.log_causes;
+    }
+
+-- where nothing at all was done
+starves_none : (held held' : Option (List ℕ)) (c z : WorldState) → Stays held held' c z → Starves held held' c z
+starves_none held held' c z stays = record { same = stays.0 ∙ ap (λ (x : WorldState). with_log c x.recovery_log) (sym stays.0); log_faults = ap (λ (x : WorldState). x.recovery_log.faults) stays.0; nothing = stays.1 }
 
 -- ---- ends
 
@@ -231,10 +243,10 @@ module _ (tells armable : Bool) (names : List (List ℕ)) (c : WorldState) (worl
       → bytes ≤ most → PlaysOrEnds tells armable names held' held'' mid line number (Err last) z → InTurns tells names left left' held held'' c z
   play_end_turns left left' held held' held'' line rest bytes count number mid z Done at le none = absurd none
   play_end_turns left left' held held' held'' line rest bytes count number mid z (Line' n) at le (same, refuses) =
-      turns_stay tells names left left' held held' held'' c mid z (playing_turns tells armable names c world as_many can left left' held held' at.whole bytes count mid at.playing le) refuses.stays
+      turns_stay tells names left left' held held' held'' c mid z (playing_turns tells armable names c world as_many can left left' held held' at.whole bytes count mid at.playing le) (starves_none held' held'' mid z refuses.stays)
   play_end_turns left left' held held' held'' line rest bytes count number mid z ReadFault at le none = absurd none
   play_end_turns left left' held held' held'' line rest bytes count number mid z WriteFault at le makes = made_turns tells armable names c world as_many can left left' held held' held'' line rest bytes count mid z at le makes
   play_end_turns left left' held held' held'' line rest bytes count number mid z Spent at le none = absurd none
-  play_end_turns left left' held held' held'' line rest bytes count number mid z NoMemory at le (inl stays) =
-      turns_stay tells names left left' held held' held'' c mid z (playing_turns tells armable names c world as_many can left left' held held' at.whole bytes count mid at.playing le) stays
+  play_end_turns left left' held held' held'' line rest bytes count number mid z NoMemory at le (inl starves) =
+      turns_stay tells names left left' held held' held'' c mid z (playing_turns tells armable names c world as_many can left left' held held' at.whole bytes count mid at.playing le) starves
   play_end_turns left left' held held' held'' line rest bytes count number mid z NoMemory at le (inr makes) = made_turns tells armable names c world as_many can left left' held held' held'' line rest bytes count mid z at le makes

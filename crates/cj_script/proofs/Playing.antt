@@ -268,7 +268,7 @@ read_end tells armable names left mid left' held held' c old new count number z 
     record { taken = now.taken; lines = now.lines; rest = old.rest ++ bytes; played = now.played; inside = none.inside; count = λ some. now.told some ∙ all }
 read_end tells armable names left mid left' held held' c old new count number z NoMemory p is (bytes, took) =
     let now = playing_longer tells armable names left mid left' held held' c old.rest old.taken count z bytes p took in
-    inl (record { taken = now.taken; lines = now.lines; rest = old.rest ++ bytes; played = now.played })
+    inl (record { taken = now.taken; lines = now.lines; rest = old.rest ++ bytes; stopped = z; played = now.played; same = refl; log_faults = refl })
 
 -- a line that was made, with what it gives written in part
 in_part : (tells armable : Bool) (names : List (List ℕ)) (left left' held held' held'' : Option (List ℕ)) (c : WorldState) (line rest : List ℕ) (bytes count : ℕ) (mid z : WorldState)
@@ -304,12 +304,15 @@ play_end tells armable names left left' held held' held'' c line rest bytes coun
 play_end tells armable names left left' held held' held'' c line rest bytes count number mid z ReadFault at short is none = absurd none
 play_end tells armable names left left' held held' held'' c line rest bytes count number mid z WriteFault at short is makes = in_part tells armable names left left' held held' held'' c line rest bytes count mid z at short makes
 play_end tells armable names left left' held held' held'' c line rest bytes count number mid z Spent at short is none = absurd none
-play_end tells armable names left left' held held' held'' c line rest bytes count number mid z NoMemory at short is (inl stays) =
+play_end tells armable names left left' held held' held'' c line rest bytes count number mid z NoMemory at short is (inl starves) =
     inl (record {
       taken = at.playing.taken;
       lines = at.playing.lines;
       rest = at.whole;
-      played = playing_stays tells armable names left left' held held' held'' c at.playing.taken at.playing.lines at.whole mid z at.playing.played stays;
+      stopped = mid;
+      played = playing_stays tells armable names left left' held held' held'' c at.playing.taken at.playing.lines at.whole mid mid at.playing.played (refl, starves.nothing);
+      same = starves.same;
+      log_faults = starves.log_faults;
     })
 play_end tells armable names left left' held held' held'' c line rest bytes count number mid z NoMemory at short is (inr makes) =
     inr (in_part tells armable names left left' held held' held'' c line rest bytes count mid z at short makes)

@@ -15,11 +15,11 @@ use Rattle.cj_cluster.specs.Moves.Cores.{Core}
 use Rattle.cj_cluster.specs.Moves.Moves.{MoveResult, MovesTo, last_number}
 use Rattle.cj_cluster.specs.Moves.Runs.{RunsMoves, IsBetweenReplies, IsChained}
 use Rattle.cj_cluster.specs.Script.Lines.{MoveLine, moved_lines, not_now_text, with_line_feed}
-use Rattle.cj_state.specs.Worlds.{WorldState}
+use Rattle.cj_state.specs.Worlds.{WorldState, IsSameButLog}
 use Rattle.cj_moves.specs.Armings.{HasArmings}
 use Rattle.cj_state.specs.ArmedCells.{armings_of}
 use Rattle.cj_core.specs.Audits.{audit_text}
-use Rattle.cj_moves.specs.Counting.{HasCauses, HasNoLogFault, blamed}
+use Rattle.cj_moves.specs.Counting.{HasCauses, HasLogCauses, blamed, log_faults_after, tells_log_fault}
 use Rattle.cj_state.specs.Faults.{faults_after, faults_of}
 use Rattle.cj_state.specs.CalledLogins.{logins_of}
 use Rattle.cj_moves.specs.Logins.{HasLogins}
@@ -29,15 +29,14 @@ use Rattle.cj_script.specs.declared.play.ScriptEnd.TheVariants.{Done, Line, Read
 
 -- ---- lines that play
 
--- The line is a move, which leads from c to z with the faults that were counted, the backends that were armed, where they can be, and the logins under which backends were called; and these are the lines of what it came to.
+-- The line is a move, which leads from c to z with the faults that backends and the log's store have counted, the backends that were armed, where they can be, and the logins under which backends were called; and these are the lines of what it came to.
 pub record MakesMove (tells armable : Bool) (names : List (List ℕ)) (c : WorldState) (line written : List ℕ) (z : WorldState) : Type 0 where
   pub move : Move
   pub reads : MoveLine names line move
   pub made : Made
   pub moves : MovesTo tells c.core move (given_of made) z.core
   pub causes : HasCauses c z move (given_of made)
-  -- there is no log yet
-  pub no_log : HasNoLogFault move (given_of made)
+  pub log_causes : HasLogCauses c z move (given_of made)
   pub armings : HasArmings armable c z move (given_of made)
   pub logins : HasLogins c z move (given_of made)
   pub gives : written ≡ moved_lines names made
@@ -66,6 +65,7 @@ pub record AuditsNow (tells : Bool) (names : List (List ℕ)) (c : WorldState) (
   pub faults : faults_of z.cells ≡ faults_after (faults_of c.cells) failed
   pub logins : logins_of z.cells ≡ logins_of c.cells
   pub armings : armings_of z.cells ≡ armings_of c.cells
+  pub recovery_log : z.recovery_log ≡ c.recovery_log
   pub same : failed ≡ None → z ≡ c
   pub gives : GivesAudit tells names c.core failed written
 
@@ -142,6 +142,12 @@ faults_through faults [] = faults
 faults_through faults (Moves m made ∷ steps) = faults_through (faults_after faults (blamed m (given_of made))) steps
 faults_through faults (Audits failed text ∷ steps) = faults_through (faults_after faults failed) steps
 
+-- the count of the log's store after the steps: each fault that one of them tells is counted, and none else
+abbrev pub log_faults_through : ℕ → List Step → ℕ
+log_faults_through faults [] = faults
+log_faults_through faults (Moves m made ∷ steps) = log_faults_through (log_faults_after faults (tells_log_fault m (given_of made))) steps
+log_faults_through faults (Audits failed text ∷ steps) = log_faults_through faults steps
+
 -- ---- lines in bytes
 
 -- The bytes are these lines, each with its LF, and a rest; or the last line ends with the bytes, where the source has ended.
@@ -205,12 +211,15 @@ pub record PlayedWhole (tells armable : Bool) (names : List (List ℕ)) (left le
   pub inside : IsInLine rest
   pub count : IsSome left → IsCount (length taken)
 
--- some lines were played
+-- Some lines were played; what wanted memory then left nothing, but maybe bytes behind the items of the log.
 pub record PlayedSome (tells armable : Bool) (names : List (List ℕ)) (left left' held held' : Option (List ℕ)) (c z : WorldState) : Type 0 where
   pub taken : List ℕ
   pub lines : List (List ℕ)
   pub rest : List ℕ
-  pub played : Played tells armable names left left' held held' c taken lines rest z
+  pub stopped : WorldState
+  pub played : Played tells armable names left left' held held' c taken lines rest stopped
+  pub same : IsSameButLog stopped z
+  pub log_faults : z.recovery_log.faults ≡ stopped.recovery_log.faults
 
 -- The line makes its move or is an audit, and of what it gives a front was written, which is not the whole.
 pub record MakesInPart (tells armable : Bool) (names : List (List ℕ)) (held held' : Option (List ℕ)) (c : WorldState) (line : List ℕ) (z : WorldState) : Type 0 where
@@ -258,3 +267,4 @@ pub record InTurns (tells : Bool) (names : List (List ℕ)) (left left' held hel
   pub runs : RunsMoves tells c.core (moves_in steps) (given_in steps) z.core
   pub chains : (s : ℕ) (a : SessionView) → 0 < s → IsBetweenReplies a c.core s → IsChained tells s c.core (moves_in steps) (given_in steps) z.core a
   pub causes : faults_of z.cells ≡ faults_through (faults_of c.cells) steps
+  pub log_causes : z.recovery_log.faults ≡ log_faults_through c.recovery_log.faults steps

@@ -8,7 +8,7 @@ use Rattle.cj_outside.specs.declared.lines.LineError.TheVariants as errors
 use Rattle.cj_outside.specs.declared.sink.OutError.{OutError}
 use Rattle.cj_outside.specs.declared.sink.OutError.TheVariants as out_errors
 use Rattle.cj_outside.specs.Lines.{Reading, GivesLine}
-use Rattle.cj_state.specs.Worlds.{WorldState}
+use Rattle.cj_state.specs.Worlds.{WorldState, IsSameButLog}
 use Rattle.cj_script.specs.Script.{PlaysLine, MakesInPart, IsNoMove}
 use Rattle.cj_script.specs.declared.play.ScriptEnd.{ScriptEnd}
 use Rattle.cj_script.specs.declared.play.ScriptEnd.TheVariants.{Done, Line, ReadFault, WriteFault, Spent, NoMemory}
@@ -33,6 +33,12 @@ pub record PlaysWritten (tells armable : Bool) (names : List (List ℕ)) (held h
 abbrev pub Stays : Option (List ℕ) → Option (List ℕ) → WorldState → WorldState → Type 0
 Stays held held' c z = (z ≡ c) × Appends held held' []
 
+-- memory was wanting: nothing was done but that bytes behind the items of the log may be left, and nothing written
+pub record Starves (held held' : Option (List ℕ)) (c z : WorldState) : Type 0 where
+  pub same : IsSameButLog c z
+  pub log_faults : z.recovery_log.faults ≡ c.recovery_log.faults
+  pub nothing : Appends held held' []
+
 -- the line is no move's and no audit, and it is not empty
 pub record RefusesLine (names : List (List ℕ)) (held held' : Option (List ℕ)) (c : WorldState) (line : List ℕ) (z : WorldState) : Type 0 where
   pub some : line ≢ []
@@ -47,7 +53,7 @@ PlaysOrEnds tells armable names held held' c line number (Err (Line n)) z = (n �
 PlaysOrEnds tells armable names held held' c line number (Err ReadFault) z = ⊥
 PlaysOrEnds tells armable names held held' c line number (Err WriteFault) z = MakesInPart tells armable names held held' c line z
 PlaysOrEnds tells armable names held held' c line number (Err Spent) z = ⊥
-PlaysOrEnds tells armable names held held' c line number (Err NoMemory) z = Stays held held' c z ⊎ MakesInPart tells armable names held held' c line z
+PlaysOrEnds tells armable names held held' c line number (Err NoMemory) z = Starves held held' c z ⊎ MakesInPart tells armable names held held' c line z
 
 -- the lines that a line gives were written, or the script ends where they were not
 abbrev pub written_or_end : Result (Unit {0}) OutError → Result (Unit {0}) ScriptEnd

@@ -17,7 +17,7 @@ use cj_backend::Backend;
 use cj_cluster::{Made, Reason, Why};
 use cj_core::{AuditError, World};
 use cj_model::Names;
-use cj_outside::{Line, LineError, Lines, OutError, Sink, Source, write_all};
+use cj_outside::{Line, LineError, Lines, OutError, Sink, Source, Store, write_all};
 use std::alloc::Global;
 
 /// How a script ended.
@@ -88,9 +88,9 @@ fn written_or_end(written: Result<(), OutError>) -> Result<(), ScriptEnd>
 }
 
 /// Asks the enabled backends what they hold, and writes it; or writes that an entry is open, or that a backend failed.
-fn play_audit<B: Backend, O: Sink>(
+fn play_audit<B: Backend, S: Store, O: Sink>(
     alloc: Global,
-    world: &mut World<B>,
+    world: &mut World<B, S>,
     output: &mut O,
 ) -> Result<(), ScriptEnd>
     ensures plays { (number : ℕ) → PlaysOrEnds B.TELLS B.can_be_armed world.old.setup.names (O.held output.old) (O.held output.new) world.old audit_line number result world.new }
@@ -113,9 +113,9 @@ fn play_audit<B: Backend, O: Sink>(
 }
 
 /// Plays a line, or answers how the script ends in it.
-fn play_line<B: Backend, O: Sink>(
+fn play_line<B: Backend, S: Store, O: Sink>(
     alloc: Global,
-    world: &mut World<B>,
+    world: &mut World<B, S>,
     number: u64,
     line: &[u8],
     output: &mut O,
@@ -148,9 +148,9 @@ fn play_line<B: Backend, O: Sink>(
 ///
 /// A line that can't be played ends the script, and so do a fault and want of memory. What was played and written until then stays.
 /// The replies to each session are turns of one database, whatever the end.
-pub fn script<B: Backend, I: Source, O: Sink>(
+pub fn script<B: Backend, S: Store, I: Source, O: Sink>(
     alloc: Global,
-    world: &mut World<B>,
+    world: &mut World<B, S>,
     input: &mut I,
     output: &mut O,
 ) -> ScriptEnd

@@ -124,7 +124,7 @@ module _ (tells : Bool) (reg : Register) (l : Layout) (h : List Event) (cells : 
     )
 
     -- or why it did not
-    pub errs : (old new : BookState) (q : ℕ) (d : CellReadError) (e : AskError) → old.history ≡ h → Notes old number q b d e new → (IsErrOf {T = Asked × ℕ} (Err d) errors.Out ↔ (x.position ≡ None))
+    pub errs : {S : Type 0} (old new : BookState S) (q : ℕ) (d : CellReadError) (e : AskError) → old.history ≡ h → Notes old number q b d e new → (IsErrOf {T = Asked × ℕ} (Err d) errors.Out ↔ (x.position ≡ None))
         → ((p : ℕ) → IsErrOf {T = Asked × ℕ} (Err d) (errors.Behind p) ↔ ((x.position ≡ Some p) × (p < least))) → Asks tells (core_of l h cells f s ss g) number b tx select (Err e)
     errs old new q errors.Out e is notes out behind = subst (λ (d : AskError). Asks tells (core_of l h cells f s ss g) number b tx select (Err d)) (sym notes.0) (place ∙ out.0 refl)
     errs old new q (errors.Behind p) e is notes out behind =
@@ -146,7 +146,7 @@ module _ (tells : Bool) (reg : Register) (l : Layout) (h : List Event) (cells : 
 -- ---- what becomes of the book
 
 -- what holds with and without an event of the failure holds then
-pub noting : (Q : BookState → Type 0) (old new : BookState) (s q b : ℕ) (d : CellReadError) (e : AskError) → Notes old s q b d e new → Q old → (0 < events_left old.history → Q (with_event old (ReadFailed s q b))) → Q new
+pub noting : {S : Type 0} (Q : BookState S → Type 0) (old new : BookState S) (s q b : ℕ) (d : CellReadError) (e : AskError) → Notes old s q b d e new → Q old → (0 < events_left old.history → Q (with_event old (ReadFailed s q b))) → Q new
 noting Q old new s q b errors.Out e notes same came = subst Q (sym notes.1) same
 noting Q old new s q b (errors.Behind p) e notes same came = subst Q (sym notes.1) same
 noting Q old new s q b errors.NoMemory e notes same came = subst Q (sym notes.1) same
@@ -157,7 +157,7 @@ noting Q old new s q b errors.Failed e notes same came =
     notes
 
 -- and of the core
-pub noted_core : (cells : List CellState) (f t : ℕ) (ss : List OpenSession) (old new : BookState) (s q b : ℕ) (d : CellReadError) (e : AskError)
+pub noted_core : {S : Type 0} (cells : List CellState) (f t : ℕ) (ss : List OpenSession) (old new : BookState S) (s q b : ℕ) (d : CellReadError) (e : AskError)
     → q ≡ read_number (session_at (core_of old.layout old.history cells f t ss old.greatest) s) → Notes old s q b d e new
     → core_of new.layout new.history cells f t ss new.greatest ≡ asked_core (core_of old.layout old.history cells f t ss old.greatest) s b (Err e)
 noted_core cells f t ss old new s q b errors.Out e number notes = rw (notes.0, notes.1) refl
@@ -171,7 +171,7 @@ noted_core cells f t ss old new s q b errors.Failed e number notes =
     notes
 
 -- whose fault was counted
-pub noted_fault : (old new : BookState) (s q b : ℕ) (d : CellReadError) (e : AskError) (before now : ℕ) → Notes old s q b d e new → CountsFault (IsErrOf {T = Asked × ℕ} (Err d) errors.Failed) before now
+pub noted_fault : {S : Type 0} (old new : BookState S) (s q b : ℕ) (d : CellReadError) (e : AskError) (before now : ℕ) → Notes old s q b d e new → CountsFault (IsErrOf {T = Asked × ℕ} (Err d) errors.Failed) before now
     → (failed : Bool) × (failed_asked b (Err e) ≡ cond failed (Some b) None) × (now ≡ cond failed (next before) before)
 noted_fault old new s q b errors.Out e before now notes cause = (false, rw notes.0 refl, cause.uncounted (λ is. cc is))
 noted_fault old new s q b (errors.Behind p) e before now notes cause = (false, rw notes.0 refl, cause.uncounted (λ is. cc is))
@@ -186,7 +186,7 @@ noted_fault old new s q b errors.Failed e before now notes cause = (
 )
 
 -- want of memory is the cell's alone
-pub noted_want : (old new : BookState) (s q b : ℕ) (d : CellReadError) (e : AskError) → Notes old s q b d e new → e ≡ ask_errors.NoMemory → (d ≡ errors.NoMemory) × (new ≡ old)
+pub noted_want : {S : Type 0} (old new : BookState S) (s q b : ℕ) (d : CellReadError) (e : AskError) → Notes old s q b d e new → e ≡ ask_errors.NoMemory → (d ≡ errors.NoMemory) × (new ≡ old)
 noted_want old new s q b errors.Out e notes is = absurd (cc (notes.0, is))
 noted_want old new s q b (errors.Behind p) e notes is = absurd (cc (notes.0, is))
 noted_want old new s q b errors.NoMemory e notes is = (refl, notes.1)
@@ -197,7 +197,7 @@ noted_want old new s q b errors.Failed e notes is =
     notes
 
 -- under which login the backend was asked
-pub noted_logins : (old new : BookState) (s q b : ℕ) (d : CellReadError) (e : AskError) (cells : List CellState) (y : CellState) (given : List ℕ) → b < length cells → Notes old s q b d e new
+pub noted_logins : {S : Type 0} (old new : BookState S) (s q b : ℕ) (d : CellReadError) (e : AskError) (cells : List CellState) (y : CellState) (given : List ℕ) → b < length cells → Notes old s q b d e new
     → LogsInForRead (get_or cells b y).login given (Err d) y.login → LogsInToAsk b given (Err e) (logins_of cells) (logins_of (set cells b y))
 noted_logins old new s q b errors.Out e cells y given lt notes same =
     subst (λ (k : AskError). LogsInToAsk b given (Err k) (logins_of cells) (logins_of (set cells b y))) (sym notes.0) (logins_same cells b y lt same)

@@ -1,18 +1,18 @@
 -- What a world keeps where an event comes that schedules nothing and ends nothing.
-use Rattle.std.proofs.Common.{◌≡◌, ℕ, ◌<◌, Bool, true, false, List, [], ◌∷◌, ◌++◌, length, map, get_or, Option, None, Some, refl, ap, sym, ◌∙◌, subst}
+use Rattle.std.proofs.Common.{◌≡◌, ℕ, ◌<◌, ◌≤◌, Bool, true, false, List, [], ◌∷◌, ◌++◌, length, map, get_or, Option, None, Some, refl, ap, sym, ◌∙◌, subst}
 use Rattle.std.proofs.lemmas.Bool.{both_ways}
 use Rattle.cj_model.specs.declared.request.Entry.{Entry}
 use Rattle.cj_model.specs.declared.answer.Outcome.{Outcome}
 use Rattle.cj_cluster.specs.declared.event.Event.{Event}
-use Rattle.cj_cluster.specs.declared.event.Event.TheVariants.{ReadFailed, Disabled, Enabled, Marker}
+use Rattle.cj_cluster.specs.declared.event.Event.TheVariants.{ReadFailed, LogFailed, Disabled, Enabled, Marker}
 use Rattle.cj_cluster.specs.declared.moves.OpenSession.{OpenSession}
 use Rattle.cj_cluster.specs.History.Histories.{scheduled_entry, is_end_event, log, ended_count, is_idle, entry_in_progress, is_enabled, has_marker, events_left, outcome_of}
-use Rattle.cj_cluster.specs.Moves.Cores.{position_at, is_entry_of}
+use Rattle.cj_cluster.specs.Moves.Cores.{position_at, session_at, is_entry_of}
 use Rattle.cj_cluster.specs.Proving.Invariants.{CoreInvariant}
 use Rattle.cj_cluster.specs.Moves.Runs.{AreBetween}
 use Rattle.cj_cluster.proofs.Pushed.{enabled-push, log-same, log_faults-same, done-same, opened-same, opened-free}
-use Rattle.cj_cluster.proofs.Effects.{sessions_are, are_kept, sound_read_failed, sound_disabled, sound_enabled, sound_marked, is_there}
-use Rattle.cj_cluster.proofs.Standing.{stand_event}
+use Rattle.cj_cluster.proofs.Effects.{sessions_are, are_kept, sound_read_failed, sound_log_failed, sound_disabled, sound_enabled, sound_marked, is_there}
+use Rattle.cj_cluster.proofs.Standing.{stand_event, stand_log_failed}
 use Rattle.cj_auth.specs.Admission.{Register}
 use Rattle.cj_place.specs.Layouts.{Layout, placement_of}
 use Rattle.cj_replica.specs.Cells.{CellState}
@@ -83,3 +83,10 @@ module _ (tells : Bool) (reg : Register) (l : Layout) (h : List Event) (cells : 
   kept_marked name b fr fresh space =
       kept_same (Marker name b) refl refl (sound_marked (core_of l h cells f s ss g) name b kept.world.sound fr fresh space) (λ d now. absurd (none_open fr d now))
       (stand_event (core_of l h cells f s ss g) (Marker name b) refl refl (λ i j some. refl) (λ i own k. refl) kept.world.between)
+
+  -- the log's store failed in a request of session k, which reads nothing, or in the administrator's move, where k is 0
+  pub kept_log_failed : (k n : ℕ) → is_idle h ≡ true → k ≤ g → 0 < events_left h → (0 < k → (session_at (core_of l h cells f s ss g) k).reading ≡ None) → Kept tells (world_of reg l (h ++ LogFailed k n ∷ []) cells f s ss g) numbers first_outcome
+  kept_log_failed k n fr given space none =
+      let c = core_of l h cells f s ss g in
+      let sound = sound_log_failed c k n kept.world.sound fr given space in
+      kept_same (LogFailed k n) refl refl sound (λ d now. absurd (none_open fr d now)) (stand_log_failed c k n sound fr none kept.world.between)

@@ -6,6 +6,7 @@ pub mod Counted
 pub mod Ending
 pub mod Keeping
 pub mod KeepingEvents
+pub mod Logs
 pub mod Noting
 pub mod OpenNumbers
 pub mod OtherReads

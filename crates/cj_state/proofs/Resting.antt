@@ -1,33 +1,91 @@
--- A world of which no backend has taken an entry, and how its backends are enabled one after another.
-use Rattle.std.proofs.Common.{◌≡◌, ◌≢◌, ℕ, zero, suc, ◌+◌, ◌^◌, ◌<◌, ◌≤◌, Bool, true, false, ◌==◌, List, [], ◌∷◌, ◌++◌, length, map, replicate, get_or, All, Option, None, Some, Err, refl, ap, sym, ◌∙◌, subst, arith, ne_eqb}
+-- A world over a book that was just opened, of which no backend has taken an entry.
+use Rattle.std.proofs.Common.{◌≡◌, ◌≢◌, ℕ, ◌+◌, ◌*◌, ◌-◌, ◌^◌, ◌<◌, ◌≤◌, Bool, true, false, ◌==◌, List, [], ◌∷◌, ◌++◌, length, map, fold, max, replicate, get_or, All, Option, None, Some, unwrap_or, refl, ap, sym, ◌∙◌, subst, arith, ⊎_elim}
+use Rattle.std.specs.Prelude.{IfSome}
+use Rattle.std.proofs.lemmas.Bool.{both_ways, eqb-true}
 use Rattle.std.proofs.lemmas.List.{length-map, get_or-map, get_or-replicate, length-replicate, ext_get_or}
-use Rattle.std.proofs.lemmas.List.Elements.{All-get_or}
-use Rattle.std.proofs.lemmas.List.FromFn.{map-range_with_len_more, length-map-range_with_len}
+use Rattle.std.proofs.lemmas.List.Elements.{All-cons, All-get_or, All-head, All-nil, All-tail}
 use Rattle.cj_model.specs.declared.database.Slot.{Slot}
+use Rattle.cj_model.specs.declared.database.Draft.{Draft}
 use Rattle.cj_model.specs.declared.request.Entry.{Entry}
+use Rattle.cj_model.proofs.Masks.{has-zero}
 use Rattle.cj_cluster.specs.declared.event.Event.{Event}
-use Rattle.cj_cluster.specs.declared.event.Event.TheVariants.{Enabled}
+use Rattle.cj_cluster.specs.declared.event.Event.TheVariants.{Sched, Ended, Marker}
 use Rattle.cj_model.specs.declared.limits.TheConstants.{BACKEND_LIMIT}
-use Rattle.cj_model.specs.Cluster.Placements.{Placement, everywhere}
-use Rattle.cj_cluster.specs.History.Histories.{log, ended_count, is_idle, is_enabled, events_left}
-use Rattle.cj_cluster.specs.Moves.Cores.{Core, position_at}
-use Rattle.cj_cluster.specs.Moves.Moves.{happened}
-use Rattle.cj_cluster.specs.Proving.Invariants.{CoreInvariant, HoldsPart}
-use Rattle.cj_cluster.proofs.Effects.{is_there, sound_start}
-use Rattle.cj_cluster.proofs.Pushed.{enabled-push, log-same, done-same}
+use Rattle.cj_model.specs.Cluster.Masks.{in_mask}
+use Rattle.cj_model.specs.Cluster.Placements.{everywhere, part}
+use Rattle.cj_cluster.specs.History.Histories.{log, ended_count, is_idle, is_enabled, entry_in_progress, log_faults_of, database_after}
+use Rattle.cj_cluster.specs.History.Legality.{IsAdministratorEntry, IsLegal, IsSessionEntry}
+use Rattle.cj_cluster.specs.History.Transactions.{AreFitBehind, has_begun}
+use Rattle.cj_cluster.specs.Moves.Cores.{Core, begun_at, position_at}
+use Rattle.cj_cluster.specs.Proving.Invariants.{BackendStands, CoreInvariant, CoversDrafts, HoldsPart, IsSoundSession}
+use Rattle.cj_cluster.proofs.Effects.{is_there}
+use Rattle.cj_cluster.proofs.Pushed.{opened-free}
 use Rattle.cj_cluster.proofs.Standing.{stand_none}
-use Rattle.cj_book.specs.declared.error.BookError.{BookError}
-use Rattle.cj_book.specs.declared.error.BookError.TheVariants.{HistoryFull}
+use Rattle.cj_cluster.proofs.TransactionLaws.{legal_fit}
 use Rattle.cj_auth.specs.Admission.{Register}
+use Rattle.cj_opening.specs.Openings.{IsOpening}
+use Rattle.cj_opening.proofs.Longer.{idle_opening}
+use Rattle.cj_book.specs.Starts.{greatest_session}
 use Rattle.cj_place.specs.Layouts.{Layout, placement_of}
 use Rattle.cj_replica.specs.Cells.{CellState}
 use Rattle.cj_state.specs.Worlds.{core_of, world_of}
-use Rattle.cj_state.specs.Effects.{HadRoom}
 use Rattle.cj_state.specs.Proving.Kept.{Kept}
-use Rattle.cj_state.specs.Beginnings.{IsFresh, AreFresh, AreEmpty, enables, started, started_to}
+use Rattle.cj_state.specs.Beginnings.{IsFresh, AreFresh, AreEmpty, opened_core}
 use Rattle.cj_state.proofs.CellsKept.{position_of, begun_of}
 
 -- ---- at rest
+
+-- no backend is enabled in a history that a log opened with
+none_enabled : (h : List Event) → IsOpening h → (b : ℕ) → is_enabled h b ≡ false
+none_enabled [] o b = refl
+none_enabled (Sched e ∷ Ended f s ∷ h) o b = none_enabled h o.2 b
+none_enabled (Marker name m ∷ h) o b = none_enabled h o b
+none_enabled _ o b = absurd o
+
+-- and no fault of the log's store stands in it
+no_log_fault : (s q : ℕ) (h : List Event) → IsOpening h → log_faults_of s q h ≡ 0
+no_log_fault s q [] o = refl
+no_log_fault s q (Sched e ∷ Ended f m ∷ h) o = no_log_fault s q h o.2
+no_log_fault s q (Marker name m ∷ h) o = no_log_fault s q h o
+no_log_fault s q _ o = absurd o
+
+same_some : (m n : ℕ) → Some m ≡ Some n → m ≡ n
+same_some m n is = ap (λ (o : Option ℕ). unwrap_or o 0) is
+
+-- the greatest number is not below the one that it began with
+at_least : (n : ℕ) (entries : List Entry) → n ≤ fold (λ m (e : Entry). max m e.session) n entries
+at_least n [] = omega arith
+at_least n (e ∷ entries) = let more : max n e.session ≤ fold (λ m (d : Entry). max m d.session) (max n e.session) entries = at_least (max n e.session) entries in omega arith
+
+given_from : (n : ℕ) (entries : List Entry) → All (λ (e : Entry). e.session ≤ fold (λ m (d : Entry). max m d.session) n entries) entries
+given_from n [] = All-nil (λ (e : Entry). e.session ≤ n)
+given_from n (e ∷ entries) =
+    let top = fold (λ m (d : Entry). max m d.session) (max n e.session) entries in
+    let more : max n e.session ≤ top = at_least (max n e.session) entries in
+    All-cons (λ (d : Entry). d.session ≤ top) e entries (omega arith) (given_from (max n e.session) entries)
+
+-- no entry is of a session above the greatest
+all_given : (entries : List Entry) → All (λ (e : Entry). e.session ≤ greatest_session entries) entries
+all_given entries = given_from 0 entries
+
+-- and the greatest is no more than a session's number may be
+below_limit : (n : ℕ) (entries : List Entry) → n ≤ 2 ^ 62 → All (λ (e : Entry). e.session ≤ 2 ^ 62) entries → fold (λ m (d : Entry). max m d.session) n entries ≤ 2 ^ 62
+below_limit n [] le all = le
+below_limit n (e ∷ entries) le all =
+    let P : Entry → Type 0 = λ (d : Entry). d.session ≤ 2 ^ 62 in
+    let here : e.session ≤ 2 ^ 62 = All-head P e entries all in
+    below_limit (max n e.session) entries (omega arith) (All-tail P e entries all)
+
+-- each session of a log has a number that a session may have
+sessions_fit : (before entries : List Entry) → AreFitBehind before entries → All (λ (e : Entry). e.session ≤ 2 ^ 62) entries
+sessions_fit before [] fit = All-nil (λ (e : Entry). e.session ≤ 2 ^ 62)
+sessions_fit before (e ∷ entries) fit =
+    All-cons (λ (d : Entry). d.session ≤ 2 ^ 62) e entries
+    (⊎_elim (λ (s : IsSessionEntry before e). s.session.1) (λ (a : IsAdministratorEntry before e). let none : e.session ≡ 0 = a.session in omega arith) fit.0.by)
+    (sessions_fit (before ++ e ∷ []) entries fit.1)
+
+greatest_fits : (h : List Event) → IsLegal h → greatest_session (log h) ≤ 2 ^ 62
+greatest_fits h legal = below_limit 0 (log h) (omega arith) (sessions_fit [] (log h) (legal_fit h legal))
 
 some_cell : CellState
 some_cell =
@@ -61,96 +119,90 @@ module _ (l : Layout) (cells : List CellState) (fresh : AreFresh (placement_of l
       ext_get_or [] (map (λ (x : CellState). x.begun) cells) (replicate (length l.names) []) (count ∙ sym (length-replicate (length l.names) []))
       (λ b lt. none_begun b lt ∙ sym (get_or-replicate (length l.names) b [] [] (subst (λ m. b < m) count lt)))
 
-  sound_at_rest : CoreInvariant (core_of l [] cells 0 0 [] 0)
-  sound_at_rest =
-      sound_start (placement_of l) (map (λ (x : CellState). x.position) cells) (map (λ (x : CellState). x.begun) cells) (as_many (λ (x : CellState). x.position)) (as_many (λ (x : CellState). x.begun))
-      (λ b q is. let at : get_or (map (λ (x : CellState). x.position) cells) b None ≡ Some 0 = at_first b (is_there (map (λ (x : CellState). x.position) cells) b q is) in cc (sym is ∙ at))
-
   told : (b : ℕ) (x : CellState) → get_or (map (λ (z : CellState). z.told) cells) b None ≡ x.told → All (λ (t : Option (List Slot)). t ≡ Some []) (map (λ (z : CellState). z.told) cells) → b < length cells → x.told ≡ Some []
   told b x is empty lt =
       let long = length-map cells (λ (z : CellState). z.told) in
       sym is ∙ All-get_or (λ (t : Option (List Slot)). t ≡ Some []) (map (λ (z : CellState). z.told) cells) b None (omega arith) empty
 
-  pub core_at_rest : core_of l [] cells 0 0 [] 0 ≡ started_to (placement_of l) 0
-  core_at_rest =
-      ap (λ (ps : List (Option ℕ)). record (started_to (placement_of l) 0) { positions = ps; begun = map (λ (x : CellState). x.begun) cells }) positions_at_rest
-      ∙ ap (λ (ts : List (List ℕ)). record (started_to (placement_of l) 0) { begun = ts }) begun_at_rest
+  -- ---- over the history that a log opened with
 
-  pub kept_at_rest : (tells : Bool) (reg : Register) → reg.backends ≡ length l.names → length l.names ≤ BACKEND_LIMIT → AreEmpty tells (map (λ (x : CellState). x.told) cells) → Kept tells (world_of reg l [] cells 0 0 [] 0) [] None
-  kept_at_rest tells reg registered few empty =
-      record {
-        world =
-            record {
-              sound = sound_at_rest;
-              named = refl;
-              registered = registered;
-              few = few;
-              positions = refl;
-              begun = refl;
-              cells =
-                  λ b d lt.
-                  let x : CellState = get_or cells b d in
-                  let f : IsFresh (placement_of l) b x = fresh.each b d lt in
-                  record {
-                    number = f.number;
-                    placement = f.placement;
-                    holds = subst (λ (p : Option ℕ). HoldsPart tells (placement_of l) b [] x.told p) (sym f.position) (λ on. told b x (get_or-map (λ (z : CellState). z.told) cells b d None lt) (empty on) lt);
-                  };
-              between = stand_none (core_of l [] cells 0 0 [] 0) refl;
-            };
-        numbers_are = refl;
-        served = λ e is. absurd (cc is);
-        right = λ o is. absurd (cc is);
-        whole = λ e b is. absurd (cc is);
-      }
+  module _ (h : List Event) (o : IsOpening h) (legal : IsLegal h) where
+    abbrev opened : Core
+    opened = core_of l h cells 0 0 [] (greatest_session (log h))
 
--- ---- one after another
+    idle : is_idle h ≡ true
+    idle = idle_opening h o
 
-pub enables-more : (k : ℕ) → enables (k + 1) ≡ enables k ++ Enabled k ∷ []
-enables-more k = let from_zero : 0 + k ≡ k = omega arith in map-range_with_len_more Enabled 0 k k from_zero
+    no_entry : entry_in_progress h ≡ None
+    no_entry = opened-free h idle
 
--- from k backends to one more
-step_to : (P : List Event → Type 0) (k : ℕ) → P (enables k ++ Enabled k ∷ []) → P (enables (suc k))
-step_to P k p = let more : k + 1 ≡ suc k = omega arith in subst (λ m. P (enables m)) more (subst P (sym (enables-more k)) p)
+    off : (b : ℕ) → is_enabled h b ≡ true → ⊥
+    off b on = absurd (both_ways (is_enabled h b) (none_enabled h o b) on)
 
--- no entry is scheduled
-pub log-enables : (k : ℕ) → log (enables k) ≡ []
-log-enables zero = refl
-log-enables (suc k) = step_to (λ h. log h ≡ []) k (log-same (enables k) (Enabled k) refl ∙ log-enables k)
+    -- each backend stands where it begins
+    stands_first : (b : ℕ) → b < length opened.positions → BackendStands h 0 0 b (position_at opened b)
+    stands_first b lt = subst (λ (p : Option ℕ). BackendStands h 0 0 b p) (sym (at_first b lt)) (omega arith, λ on. absurd (off b on), has-zero b, has-zero b)
 
-done-enables : (k : ℕ) → ended_count (enables k) ≡ 0
-done-enables zero = refl
-done-enables (suc k) = step_to (λ h. ended_count h ≡ 0) k (done-same (enables k) (Enabled k) refl ∙ done-enables k)
+    covers_none : (b n : ℕ) → position_at opened b ≡ Some n → CoversDrafts (begun_at opened b) (part (placement_of l) b (database_after (log h) n))
+    covers_none b n is =
+        let first : Some n ≡ Some 0 = sym is ∙ at_first b (is_there opened.positions b n is) in
+        subst (λ (q : ℕ). CoversDrafts (begun_at opened b) (part (placement_of l) b (database_after (log h) q))) (sym (same_some n 0 first))
+        (All-nil (λ (s : Slot). IfSome s.draft (λ (d : Draft). has_begun (begun_at opened b) d.tx ≡ true)))
 
-pub free-enables : (k : ℕ) → is_idle (enables k) ≡ true
-free-enables k = ap (λ m. m == length (log (enables k))) (done-enables k) ∙ ap (λ (l : List Entry). 0 == length l) (log-enables k)
+    sound_opened : CoreInvariant opened
+    sound_opened =
+        let even : ended_count h ≡ length (log h) = eqb-true _ _ idle in
+        let few : length h ≤ 2 ^ 62 = legal.short in
+        record {
+          legal = legal;
+          short = omega arith;
+          one_open = (omega arith, omega arith);
+          cells = as_many (λ (x : CellState). x.position);
+          hosts = λ b on. absurd (off b on);
+          stands = stands_first;
+          in_masks = λ b. (λ t. absurd (both_ways (in_mask 0 b) (has-zero b) t), λ t. absurd (both_ways (in_mask 0 b) (has-zero b) t));
+          clear = λ _. (refl, refl);
+          begun_cells = as_many (λ (x : CellState). x.begun);
+          covers = covers_none;
+          sessions = All-nil (IsSoundSession h (greatest_session (log h)));
+          rises = tt;
+          few = omega arith;
+          numbers = greatest_fits h legal;
+          known = all_given (log h);
+          log_faults = λ s q lt. no_log_fault s q h o;
+          waits = λ e is. absurd (cc (sym no_entry ∙ is));
+        }
 
--- those not below k are not enabled
-pub off-enables : (k b : ℕ) → k ≤ b → is_enabled (enables k) b ≡ false
-off-enables zero b le = refl
-off-enables (suc k) b le =
-    let before : k ≤ b = omega arith in
-    let ne : b ≢ k = omega arith in
-    step_to (λ h. is_enabled h b ≡ false) k (enabled-push (enables k) (Enabled k) b ∙ rw (off-enables k b before) (ne_eqb b k ne))
+    pub core_opened : opened ≡ opened_core (placement_of l) h
+    core_opened =
+        ap (λ (ps : List (Option ℕ)). record (opened_core (placement_of l) h) { positions = ps; begun = map (λ (x : CellState). x.begun) cells }) positions_at_rest
+        ∙ ap (λ (ts : List (List ℕ)). record (opened_core (placement_of l) h) { begun = ts }) begun_at_rest
 
-pub room-enables : (k : ℕ) → k < 2 ^ 62 → 0 < events_left (enables k)
-room-enables k few =
-    let long : length (enables k) ≡ k = length-map-range_with_len Enabled 0 k in
-    let none : length (log (enables k)) ≡ 0 = ap length (log-enables k) in
-    omega arith
-
--- each backend has taken the whole log
-pub there-enables : (p : Placement) (k b : ℕ) → b < p.backends → position_at (started_to p k) b ≡ Some (length (log (enables k)))
-there-enables p k b lt = get_or-replicate p.backends b (Some 0) None lt ∙ ap (λ (l : List Entry). Some (length l)) (sym (log-enables k))
-
--- one more is enabled
-pub happened-started : (p : Placement) (k : ℕ) → happened (started_to p k) (Enabled k) ≡ started_to p (k + 1)
-happened-started p k = ap (λ (h : List Event). record (started p) { history = h }) (sym (enables-more k))
-
--- there is room for as many as there can be
-pub no_room : (c : Core) (p : Placement) (k m : ℕ) (e : BookError) → c ≡ started_to p k → k < p.backends → p.backends ≤ BACKEND_LIMIT → HadRoom {T = Unit {0}} c (Err e) → e ≡ HistoryFull m → ⊥
-no_room c p k m e is lt few had full =
-    let none : events_left c.history ≡ 0 = (subst (λ (d : BookError). HadRoom {T = Unit {0}} c (Err d)) full had).0 in
-    let begun_none : events_left (enables k) ≡ 0 = subst (λ (x : Core). events_left x.history ≡ 0) is none in
-    let space = room-enables k (omega arith) in
-    absurd (omega arith)
+    pub kept_opened : (tells : Bool) (reg : Register) → reg.backends ≡ length l.names → length l.names ≤ BACKEND_LIMIT → AreEmpty tells (map (λ (x : CellState). x.told) cells)
+        → Kept tells (world_of reg l h cells 0 0 [] (greatest_session (log h))) [] None
+    kept_opened tells reg registered few empty =
+        record {
+          world =
+              record {
+                sound = sound_opened;
+                named = refl;
+                registered = registered;
+                few = few;
+                positions = refl;
+                begun = refl;
+                cells =
+                    λ b d lt.
+                    let x : CellState = get_or cells b d in
+                    let f : IsFresh (placement_of l) b x = fresh.each b d lt in
+                    record {
+                      number = f.number;
+                      placement = f.placement;
+                      holds = subst (λ (p : Option ℕ). HoldsPart tells (placement_of l) b (log h) x.told p) (sym f.position) (λ on. told b x (get_or-map (λ (z : CellState). z.told) cells b d None lt) (empty on) lt);
+                    };
+                between = stand_none opened refl;
+              };
+          numbers_are = refl;
+          served = λ e is. absurd (cc (sym no_entry ∙ is));
+          right = λ o is. absurd (cc is);
+          whole = λ e b is. absurd (cc (sym no_entry ∙ is));
+        }

@@ -2,35 +2,27 @@
 use Rattle.std.specs.Prelude.{◌≡◌, ℕ, ◌<◌, Bool, true, List, [], ◌∷◌, All, length, map, replicate, slice_index_or}
 use Rattle.std.specs.declared.option.Option.{Option}
 use Rattle.std.specs.declared.option.Option.TheVariants.{Some}
-use Rattle.std.specs.List.{range_with_len}
 use Rattle.cj_model.specs.declared.database.Slot.{Slot}
 use Rattle.cj_cluster.specs.declared.event.Event.{Event}
-use Rattle.cj_cluster.specs.declared.event.Event.TheVariants.{Enabled}
+use Rattle.cj_cluster.specs.History.Histories.{log}
 use Rattle.cj_model.specs.Cluster.Placements.{Placement}
 use Rattle.cj_cluster.specs.Moves.Cores.{Core}
 use Rattle.cj_replica.specs.Cells.{CellState}
+use Rattle.cj_book.specs.Starts.{greatest_session}
 
--- n backends are enabled, in the order of their numbers
-abbrev pub enables : ℕ → List Event
-enables n = map Enabled (range_with_len 0 n)
-
--- the backends of a placement are enabled and have taken no entry, and no session was opened
-abbrev pub started : Placement → Core
-started p =
+-- The backends of a placement have taken no entry of a history that a log opened with, none is enabled, and no session is open. Session numbers go on above the greatest in the log.
+abbrev pub opened_core : Placement → List Event → Core
+opened_core p h =
     record {
       placement = p;
-      history = enables p.backends;
+      history = h;
       positions = replicate p.backends (Some 0);
       begun = replicate p.backends [];
       failed = 0;
       starved = 0;
       sessions = [];
-      greatest = 0;
+      greatest = greatest_session (log h);
     }
-
--- of these backends the first k are enabled, in the order of their numbers; else as above
-abbrev pub started_to : Placement → ℕ → Core
-started_to p k = record (started p) { history = enables k }
 
 -- the cell of backend b, which has taken no entry
 pub record IsFresh (p : Placement) (b : ℕ) (x : CellState) : Type 0 where

@@ -17,11 +17,11 @@ use Rattle.cj_cluster.specs.History.Histories.{log, ended_count, is_idle, entry_
 use Rattle.cj_model.specs.Cluster.Masks.{in_mask}
 use Rattle.cj_cluster.specs.History.Answering.{HasServer, HasNoServer, AnswersEntry}
 use Rattle.cj_cluster.specs.Moves.Cores.{Core, position_at, session_at}
-use Rattle.cj_cluster.specs.Moves.Moves.{last_number, with_end, happened, IsFarEnough, read_number}
+use Rattle.cj_cluster.specs.Moves.Moves.{last_number, with_end, with_entry, scheduled_as, happened, IsFarEnough, read_number}
 use Rattle.cj_cluster.specs.History.Turns.{SessionView}
 use Rattle.cj_cluster.specs.Moves.Runs.{HasFailedSince, IsBetweenReplies}
 use Rattle.cj_book.specs.declared.error.BookError.{BookError}
-use Rattle.cj_book.specs.declared.error.BookError.TheVariants.{InProgress, NoBackend, HistoryFull, NoMemory}
+use Rattle.cj_book.specs.declared.error.BookError.TheVariants.{InProgress, NoBackend, HistoryFull, LogFault, NoMemory}
 use Rattle.cj_book.specs.Books.{BookState, with_event, HasNoRoomForOne}
 use Rattle.cj_replica.specs.declared.cell.CellReadError.{CellReadError}
 use Rattle.cj_replica.specs.declared.cell.CellReadError.TheVariants as cell_errors
@@ -39,6 +39,7 @@ SchedulesAs c e (Ok n) = (n ≡ last_number c + 1) × HasServer c.placement c.hi
 SchedulesAs c e (Err (InProgress n)) = is_idle c.history ≡ false
 SchedulesAs c e (Err NoBackend) = HasNoServer c.placement c.history (request_of e.act)
 SchedulesAs c e (Err (HistoryFull n)) = (n ≡ length c.history) × HasServer c.placement c.history (request_of e.act) × (events_left c.history < 3)
+SchedulesAs c e (Err LogFault) = HasServer c.placement c.history (request_of e.act) × (3 ≤ events_left c.history)
 SchedulesAs c e (Err NoMemory) = Unit {0}
 
 -- whether one event more could come, or why not
@@ -47,7 +48,44 @@ HadRoom c (Ok x) = 0 < events_left c.history
 HadRoom c (Err (InProgress n)) = ⊥
 HadRoom c (Err NoBackend) = ⊥
 HadRoom c (Err (HistoryFull n)) = (events_left c.history ≡ 0) × (n ≡ length c.history)
+HadRoom c (Err LogFault) = ⊥
 HadRoom c (Err NoMemory) = Unit {0}
+
+-- the same of what stands in the log first
+abbrev pub HadLoggedRoom : {T : Type 0} → Core → Result T BookError → Type 0
+HadLoggedRoom c (Ok x) = 0 < events_left c.history
+HadLoggedRoom c (Err (InProgress n)) = ⊥
+HadLoggedRoom c (Err NoBackend) = ⊥
+HadLoggedRoom c (Err (HistoryFull n)) = (events_left c.history ≡ 0) × (n ≡ length c.history)
+HadLoggedRoom c (Err LogFault) = 0 < events_left c.history
+HadLoggedRoom c (Err NoMemory) = Unit {0}
+
+-- the core after an entry of session s was scheduled or refused: a fault of the log's store is an event of the session's request, which is yet to be counted
+abbrev pub core_scheduled : Core → ℕ → Entry → Result ℕ BookError → Core
+core_scheduled c s e (Ok n) = scheduled_as c s e
+core_scheduled c s e (Err (InProgress n)) = c
+core_scheduled c s e (Err NoBackend) = c
+core_scheduled c s e (Err (HistoryFull n)) = c
+core_scheduled c s e (Err LogFault) = happened c (event.LogFailed e.session e.seq)
+core_scheduled c s e (Err NoMemory) = c
+
+-- the core after an administrator's entry was scheduled or refused
+abbrev pub core_aborted : Core → Entry → Result ℕ BookError → Core
+core_aborted c e (Ok n) = with_entry c e
+core_aborted c e (Err (InProgress n)) = c
+core_aborted c e (Err NoBackend) = c
+core_aborted c e (Err (HistoryFull n)) = c
+core_aborted c e (Err LogFault) = happened c (event.LogFailed e.session e.seq)
+core_aborted c e (Err NoMemory) = c
+
+-- the core after a checkpoint was marked or refused
+abbrev pub core_marked : Core → List ℕ → Result ℕ BookError → Core
+core_marked c name (Ok n) = happened c (event.Marker name None)
+core_marked c name (Err (InProgress n)) = c
+core_marked c name (Err NoBackend) = c
+core_marked c name (Err (HistoryFull n)) = c
+core_marked c name (Err LogFault) = happened c (event.LogFailed 0 0)
+core_marked c name (Err NoMemory) = c
 
 -- the refusal of an entry that no backend finished
 abbrev pub Refuses : ℕ → ℕ → Refusal → Type 0
@@ -87,7 +125,7 @@ failed_asked b (Err (errors.Unnoted n)) = Some b
 failed_asked b (Err errors.NoMemory) = None
 
 -- what a cell's error comes to, and the book: of a failure it has an event, where there is room
-abbrev pub Notes : BookState → ℕ → ℕ → ℕ → CellReadError → AskError → BookState → Type 0
+abbrev pub Notes : {S : Type 0} → BookState S → ℕ → ℕ → ℕ → CellReadError → AskError → BookState S → Type 0
 Notes old s q b cell_errors.Out error new = (error ≡ errors.Out) × (new ≡ old)
 Notes old s q b (cell_errors.Behind p) error new = (error ≡ errors.Behind p) × (new ≡ old)
 Notes old s q b cell_errors.Failed error new =

@@ -1,5 +1,5 @@
 -- What contracts see of a world, and what holds of every one.
-use Rattle.std.specs.Prelude.{◌≡◌, ℕ, ◌<◌, ◌≤◌, Bool, List, length, map, slice_index_or}
+use Rattle.std.specs.Prelude.{◌≡◌, ℕ, ◌<◌, ◌≤◌, Bool, false, List, [], length, map, slice_index_or}
 use Rattle.cj_model.specs.declared.account.Account.{Account}
 use Rattle.cj_model.specs.declared.request.Entry.{Entry}
 use Rattle.cj_cluster.specs.declared.event.Event.{Event}
@@ -12,6 +12,8 @@ use Rattle.cj_cluster.specs.Proving.Invariants.{CoreInvariant, HoldsPart}
 use Rattle.cj_cluster.specs.Moves.Runs.{AreBetween}
 use Rattle.cj_auth.specs.Admission.{Register}
 use Rattle.cj_place.specs.Layouts.{Layout, placement_of}
+use Rattle.cj_log.specs.Logs.{LogState, KeepsItems}
+use Rattle.cj_opening.specs.Openings.{items_of}
 use Rattle.cj_replica.specs.Cells.{CellState}
 
 -- what no move changes: what the backends are called, and the accounts of the users
@@ -19,11 +21,34 @@ pub record Setup : Type 0 where
   pub names : List (List ℕ)
   pub register : Register
 
--- the state that moves change, the cells of the backends by their numbers, and what no move changes
+-- what is seen of the recovery log: the faults that its store has counted, the bytes that the store holds, and whether the gate behind its items may stand open
+pub record LogView : Type 0 where
+  pub faults : ℕ
+  pub bytes : List ℕ
+  pub torn : Bool
+
+-- the state that moves change, the cells of the backends by their numbers, what no move changes, and what is seen of the recovery log
 pub record WorldState : Type 0 where
   pub core : Core
   pub cells : List CellState
   pub setup : Setup
+  pub recovery_log : LogView
+
+-- what is seen of a log
+abbrev pub log_view : {S : Type 0} → (S → ℕ) → (S → List ℕ) → LogState S → LogView
+log_view faults held log = record { faults = faults log.store; bytes = held log.store; torn = log.torn }
+
+-- the world with this log
+abbrev pub with_log : WorldState → LogView → WorldState
+with_log w log = record w { recovery_log = log }
+
+-- the world is as before, but maybe for its log
+abbrev pub IsSameButLog : WorldState → WorldState → Type 0
+IsSameButLog old new = new ≡ with_log old new.recovery_log
+
+-- the log's bytes keep the entries and markers of the history, where no append was refused while it opened a gate
+abbrev pub KeepsHistory : WorldState → Type 0
+KeepsHistory w = w.recovery_log.torn ≡ false → KeepsItems w.recovery_log.bytes (items_of w.core.history)
 
 -- the accounts of the users
 abbrev pub accounts_of : WorldState → List Account
@@ -43,9 +68,14 @@ core_of l h cells failed starved sessions greatest =
       greatest = greatest;
     }
 
+-- what is seen of a log without bytes
+abbrev pub unseen_log : LogView
+unseen_log = record { faults = 0; bytes = []; torn = false }
+
+-- the world of these, but for its log
 abbrev pub world_of : Register → Layout → List Event → List CellState → ℕ → ℕ → List OpenSession → ℕ → WorldState
 world_of register l h cells failed starved sessions greatest =
-    record { core = core_of l h cells failed starved sessions greatest; cells = cells; setup = record { names = l.names; register = register } }
+    record { core = core_of l h cells failed starved sessions greatest; cells = cells; setup = record { names = l.names; register = register }; recovery_log = unseen_log }
 
 -- the cell of backend b that holds its part of the database after the entries that it has taken
 pub record IsCell (tells : Bool) (p : Placement) (entries : List Entry) (b : ℕ) (x : CellState) : Type 0 where

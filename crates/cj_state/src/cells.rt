@@ -12,6 +12,7 @@ use cj_backend::Backend;
 use cj_book::{Book, BookError};
 use cj_cluster::Did;
 use cj_model::{NoMemory, Outcome, with_bit};
+use cj_outside::Store;
 use cj_replica::{Caught, Cell, CellError, CellReadError};
 use thiserror::Error;
 
@@ -112,7 +113,12 @@ pub fn place(position: Option<u64>) -> u64
 }
 
 /// Backend `b` takes the entry at its position, under the login of the entry's user.
-pub fn take<B: Backend>(book: &Book, cells: &mut Vec<Cell<B>>, accounts: &Accounts, b: u8) -> Did
+pub fn take<B: Backend, S: Store>(
+    book: &Book<S>,
+    cells: &mut Vec<Cell<B>>,
+    accounts: &Accounts,
+    b: u8,
+) -> Did
     requires can { CanTake B.TELLS book.now.layout book.now.history cells.old.items b }
     requires registered { b < accounts.now.backends }
     ensures { TookEntry B.TELLS accounts.now.accounts book.now.layout book.now.history cells.old.items b result cells.new.items }
@@ -127,7 +133,13 @@ pub fn take<B: Backend>(book: &Book, cells: &mut Vec<Cell<B>>, accounts: &Accoun
 
 /// Why a backend that was asked gave no answer. Of a failure the history has an event from now on;
 /// the memory for it was taken before.
-pub fn noted(book: &mut Book, session: u64, seq: u64, b: u8, error: CellReadError) -> AskError
+pub fn noted<S: Store>(
+    book: &mut Book<S>,
+    session: u64,
+    seq: u64,
+    b: u8,
+    error: CellReadError,
+) -> AskError
     requires { book.old.has_spare ≡ true }
     ensures { Notes book.old session seq b error result book.new }
 {
@@ -140,6 +152,7 @@ pub fn noted(book: &mut Book, session: u64, seq: u64, b: u8, error: CellReadErro
             Err(BookError::HistoryFull(events)) => AskError::Unnoted(events),
             Err(BookError::InProgress(_)) => unreachable!(),
             Err(BookError::NoBackend) => unreachable!(),
+            Err(BookError::LogFault) => unreachable!(),
             Err(BookError::NoMemory) => unreachable!(),
         },
     }

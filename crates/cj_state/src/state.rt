@@ -18,15 +18,19 @@ ghost use Rattle.std.specs.Bool.{OnTrue};
 ghost use Rattle.cj_auth.specs.Admission.{admits};
 ghost use Rattle.cj_auth.specs.Kept.{IsUserName};
 ghost use Rattle.cj_replica.specs.Cells.{CellState};
-ghost use Rattle.cj_state.specs.Worlds.{accounts_of, IsWorld};
+ghost use Rattle.cj_state.specs.Worlds.{accounts_of, log_view, IsSameButLog, IsWorld, KeepsHistory};
+ghost use Rattle.cj_model.specs.Sql.Names.{is_name};
+ghost use Rattle.cj_opening.specs.Openings.{OpensTo};
+ghost use Rattle.cj_book.specs.Starts.{greatest_session};
+ghost use Rattle.cj_outside.specs.Causes.{CountsFault};
 ghost use Rattle.cj_place.specs.Layouts.{placement_of};
-ghost use Rattle.cj_state.specs.Beginnings.{AreEmpty, AreFresh, started_to};
+ghost use Rattle.cj_state.specs.Beginnings.{AreEmpty, AreFresh, opened_core};
 ghost use Rattle.cj_state.specs.ArmedCells.{armed_at, armings_after, armings_of};
 ghost use Rattle.cj_state.specs.Held.{failed_contents, IsHeld};
 ghost use Rattle.cj_state.specs.CalledLogins.{asked_for, login_to_take, logins_of, LogsInToAsk, LogsInToTake};
 ghost use Rattle.cj_state.specs.Effects.{own_entry};
 ghost use Rattle.cj_state.specs.Faults.{did_fail, faults_after, faults_of};
-ghost use Rattle.cj_state.specs.Effects.{AnswersOpen, Asks, asked_core, failed_asked, HaveFailed, Refuses, with_core, SchedulesAs, HadRoom};
+ghost use Rattle.cj_state.specs.Effects.{AnswersOpen, Asks, asked_core, failed_asked, HaveFailed, Refuses, with_core, core_aborted, core_marked, core_scheduled, SchedulesAs, HadLoggedRoom, HadRoom};
 
 use crate::cells::{
     AskError, failed_after, first_outcome_after, noted, place, starved_after, take,
@@ -41,6 +45,7 @@ use cj_model::{
     Same, Select, Text, UNFINISHED, USER_LIMIT, with_bit,
 };
 use cj_open_sessions::{Sessions, read_number, tx_of_act};
+use cj_outside::Store;
 use cj_place::Placement;
 use cj_replica::{Cell, CellError};
 use std::alloc::Global;
@@ -48,9 +53,9 @@ use std::marker::Model;
 
 /// The history, the cells of the backends, the open sessions and the accounts.
 #[derive(Drop)]
-pub struct State<B: Backend> {
+pub struct State<B: Backend, S: Store> {
     alloc: Global,
-    book: Book,
+    book: Book<S>,
     /// By the numbers of their backends.
     cells: Vec<Cell<B>>,
     /// While an entry is open, the mask of the backends that failed in it.
@@ -63,8 +68,8 @@ pub struct State<B: Backend> {
     accounts: Accounts,
 }
 
-impl<B: Backend> Model for State<B> {
-    ghost use Rattle.cj_state.specs.Worlds.{WorldState, world_of};
+impl<B: Backend, S: Store> Model for State<B, S> {
+    ghost use Rattle.cj_state.specs.Worlds.{WorldState, log_view, with_log, world_of};
 
     ghost Value = { WorldState };
 
@@ -75,7 +80,7 @@ impl<B: Backend> Model for State<B> {
 
     ghost use Rattle.cj_state.specs.Proving.Kept.{Kept};
 
-    ghost view = { λ w. world_of w.accounts w.book.layout w.book.history w.cells.items w.failed w.starved w.sessions w.book.greatest };
+    ghost view = { λ w. with_log (world_of w.accounts w.book.layout w.book.history w.cells.items w.failed w.starved w.sessions w.book.greatest) (log_view S.faults S.held w.book.recovery_log) };
 
     ghost invariant = { λ w. Kept B.TELLS (world_of w.accounts w.book.layout w.book.history w.cells.items w.failed w.starved w.sessions w.book.greatest) w.book.sessions w.first_outcome };
 }
@@ -134,42 +139,45 @@ fn asking_user<'a>(sessions: &'a Sessions, s: u64, user: Option<&'a Text>) -> &'
 
 // ---- how it is made
 
-impl<B: Backend + Drop> State<B> {
-    /// The state over these cells, of which none has taken an entry, with no backend enabled and no
-    /// session open.
+impl<B: Backend + Drop, S: Store + Drop> State<B, S> {
+    /// The state over a book that was just opened and these cells, of which none has taken an entry: no backend is enabled and no
+    /// session is open.
     pub fn new(
         alloc: Global,
-        book: Book,
+        book: Book<S>,
         cells: Vec<Cell<B>>,
+        sessions: Sessions,
         accounts: Accounts,
-    ) -> Result<State<B>, NoMemory>
-        requires history { book.history ≡ [] }
+    ) -> State<B, S>
+        requires opening { OpensTo book.recovery_log.items book.history }
         requires numbers { book.sessions ≡ [] }
-        requires greatest { book.greatest ≡ 0 }
+        requires none { sessions ≡ [] }
+        requires greatest { book.greatest ≡ greatest_session (log book.history) }
         requires few { length book.layout.names ≤ BACKEND_LIMIT }
         requires registered { accounts.backends ≡ length book.layout.names }
         requires fresh { AreFresh (placement_of book.layout) cells.items }
         requires empty { AreEmpty B.TELLS (map (λ (x : CellState). x.told) cells.items) }
-        ensures core { IfOk result (λ state. state.core ≡ started_to (placement_of book.layout) 0) }
-        ensures cells { IfOk result (λ state. state.cells ≡ cells.items) }
-        ensures setup { IfOk result (λ state. state.setup ≡ record { names = book.layout.names; register = accounts }) }
+        ensures core { result.core ≡ opened_core (placement_of book.layout) book.history }
+        ensures cells { result.cells ≡ cells.items }
+        ensures setup { result.setup ≡ record { names = book.layout.names; register = accounts } }
+        ensures recovery_log { result.recovery_log ≡ log_view S.faults S.held book.recovery_log }
     {
-        Ok(State {
+        State {
             alloc,
             book,
             cells,
             failed: 0,
             starved: 0,
             first_outcome: None,
-            sessions: Sessions::new(alloc)?,
+            sessions,
             accounts,
-        })
+        }
     }
 }
 
 // ---- how it is given up
 
-impl<B: Backend + Drop> State<B> {
+impl<B: Backend + Drop, S: Store + Drop> State<B, S> {
     /// Its cells.
     pub fn into_cells(self) -> Vec<Cell<B>>
         ensures cells { result.items ≡ self.cells }
@@ -179,16 +187,26 @@ impl<B: Backend + Drop> State<B> {
         let State { cells, .. } = self;
         cells
     }
+
+    /// The log's store, as it is.
+    pub fn into_log(self) -> S
+        ensures faults { S.faults result ≡ self.recovery_log.faults }
+        ensures bytes { S.held result ≡ self.recovery_log.bytes }
+    {
+        let State { book, .. } = self;
+        book.into_log()
+    }
 }
 
 // ---- what moves read
 
-impl<B: Backend> State<B> {
+impl<B: Backend, S: Store> State<B, S> {
     /// Shows what holds of every world.
     pub fn legal(&self)
-        ensures { IsWorld B.TELLS self.now }
+        ensures world { IsWorld B.TELLS self.now }
+        ensures logged { S.TELLS ≡ true → KeepsHistory self.now }
     {
-        let _ = &self.book;
+        self.book.legal();
     }
 
     /// How many entries there are, which is the number of the last one.
@@ -501,7 +519,7 @@ impl<B: Backend> State<B> {
 
 // ---- what moves change
 
-impl<B: Backend> State<B> {
+impl<B: Backend, S: Store> State<B, S> {
     /// Opens a session of the next number. It takes no memory.
     pub fn add_session(&mut self, user: Text) -> u64
         requires number { moves.has_no_number self.old.core ≡ false }
@@ -578,7 +596,7 @@ impl<B: Backend> State<B> {
         self.sessions.keep_reading(s, select, tried);
     }
 
-    /// Schedules an entry of the session.
+    /// Schedules an entry of the session. Where it is refused, the request is yet to be counted.
     pub fn schedule_entry(&mut self, s: u64, entry: Entry) -> Result<u64, BookError>
         requires here { moves.is_open self.old.core s ≡ true }
         requires counts { (session_at self.old.core s).queries < REQUEST_LIMIT }
@@ -587,8 +605,10 @@ impl<B: Backend> State<B> {
         requires number { entry.seq ≡ (session_at self.old.core s).queries + 1 }
         requires fits { IsFitEntry (log self.old.core.history) entry }
         ensures scheduled { SchedulesAs self.old.core entry result }
-        ensures ok { OnOk result (self.new ≡ with_core self.old (scheduled_as self.old.core s entry)) }
-        ensures err { OnErr result (self.new ≡ self.old) }
+        ensures core { self.new.core ≡ core_scheduled self.old.core s entry result }
+        ensures same { IsSameButLog (with_core self.old self.new.core) self.new }
+        ensures checked { OnErr result (¬ IsErrOf result BookError.LogFault → ¬ IsErrOf result BookError.NoMemory → self.new ≡ self.old) }
+        ensures cause { CountsFault (IsErrOf result BookError.LogFault) self.old.recovery_log.faults self.new.recovery_log.faults }
     {
         match self.book.schedule(entry) {
             Ok(number) => {
@@ -608,8 +628,10 @@ impl<B: Backend> State<B> {
         requires is { entry ≡ moves.abort_entry self.old.core entry.tx }
         requires fits { IsFitEntry (log self.old.core.history) entry }
         ensures scheduled { SchedulesAs self.old.core entry result }
-        ensures ok { OnOk result (self.new ≡ with_core self.old (moves.with_entry self.old.core entry)) }
-        ensures err { OnErr result (self.new ≡ self.old) }
+        ensures core { self.new.core ≡ core_aborted self.old.core entry result }
+        ensures same { IsSameButLog (with_core self.old self.new.core) self.new }
+        ensures checked { OnErr result (¬ IsErrOf result BookError.LogFault → ¬ IsErrOf result BookError.NoMemory → self.new ≡ self.old) }
+        ensures cause { CountsFault (IsErrOf result BookError.LogFault) self.old.recovery_log.faults self.new.recovery_log.faults }
     {
         match self.book.schedule(entry) {
             Ok(number) => {
@@ -620,6 +642,13 @@ impl<B: Backend> State<B> {
             }
             Err(error) => Err(error),
         }
+    }
+
+    /// The mask of the backends that wanted memory in the open entry.
+    pub fn starved(&self) -> u32
+        ensures { result ≡ self.now.core.starved }
+    {
+        self.starved
     }
 
     /// The session of the open entry.
@@ -656,6 +685,7 @@ impl<B: Backend> State<B> {
         ensures counts { faults_of self.new.cells ≡ faults_after (faults_of self.old.cells) (if did_fail result then Some b else None) }
         ensures armings { armings_of self.new.cells ≡ armings_of self.old.cells }
         ensures logins { LogsInToTake b (login_to_take self.old b) result (logins_of self.old.cells) (logins_of self.new.cells) }
+        ensures recovery_log { self.new.recovery_log ≡ self.old.recovery_log }
         ensures setup { self.new.setup ≡ self.old.setup }
     {
         let did = take(&self.book, &mut self.cells, &self.accounts, b);
@@ -673,6 +703,7 @@ impl<B: Backend> State<B> {
         ensures counts { faults_of self.new.cells ≡ faults_after (faults_of self.old.cells) (if did_fail result then Some b else None) }
         ensures armings { armings_of self.new.cells ≡ armings_of self.old.cells }
         ensures logins { LogsInToTake b (login_to_take self.old b) result (logins_of self.old.cells) (logins_of self.new.cells) }
+        ensures recovery_log { self.new.recovery_log ≡ self.old.recovery_log }
         ensures setup { self.new.setup ≡ self.old.setup }
     {
         take(&self.book, &mut self.cells, &self.accounts, b)
@@ -700,6 +731,7 @@ impl<B: Backend> State<B> {
         ensures armings { armings_of self.new.cells ≡ armings_of self.old.cells }
         ensures logins { LogsInToAsk b (login_of (accounts_of self.old) (asked_for self.old.core.sessions s (option_copied user.entry)) b) result (logins_of self.old.cells) (logins_of self.new.cells) }
         ensures want { IsErrOf result AskError.NoMemory → self.new ≡ self.old }
+        ensures recovery_log { self.new.recovery_log ≡ self.old.recovery_log }
         ensures setup { self.new.setup ≡ self.old.setup }
     {
         let least = self.least(s);
@@ -724,6 +756,7 @@ impl<B: Backend> State<B> {
         ensures faults { faults_of self.new.cells ≡ faults_after (faults_of self.old.cells) (failed_contents b result) }
         ensures armings { armings_of self.new.cells ≡ armings_of self.old.cells }
         ensures logins { logins_of self.new.cells ≡ logins_of self.old.cells }
+        ensures recovery_log { self.new.recovery_log ≡ self.old.recovery_log }
         ensures setup { self.new.setup ≡ self.old.setup }
     {
         self.cells[b as usize].contents()
@@ -737,6 +770,7 @@ impl<B: Backend> State<B> {
         ensures faults { faults_of self.new.cells ≡ faults_of self.old.cells }
         ensures armings { armings_of self.new.cells ≡ armings_after (armings_of self.old.cells) (if B.can_be_armed then Some b else None) }
         ensures logins { logins_of self.new.cells ≡ logins_of self.old.cells }
+        ensures recovery_log { self.new.recovery_log ≡ self.old.recovery_log }
         ensures setup { self.new.setup ≡ self.old.setup }
     {
         self.cells[b as usize].arm();
@@ -774,10 +808,13 @@ impl<B: Backend> State<B> {
     pub fn mark(&mut self, name: &Name) -> Result<u64, BookError>
         requires free { is_idle self.old.core.history ≡ true }
         requires fresh { histories.has_marker self.old.core.history name.now ≡ false }
-        ensures room { HadRoom self.old.core result }
+        requires name { is_name name.now ≡ true }
+        ensures room { HadLoggedRoom self.old.core result }
         ensures number { IfOk result (λ n. n ≡ moves.last_number self.old.core) }
-        ensures ok { OnOk result (self.new ≡ with_core self.old (happened self.old.core (Event.Marker name.now None))) }
-        ensures err { OnErr result (self.new ≡ self.old) }
+        ensures core { self.new.core ≡ core_marked self.old.core name.now result }
+        ensures same { IsSameButLog (with_core self.old self.new.core) self.new }
+        ensures checked { OnErr result (¬ IsErrOf result BookError.LogFault → ¬ IsErrOf result BookError.NoMemory → self.new ≡ self.old) }
+        ensures cause { CountsFault (IsErrOf result BookError.LogFault) self.old.recovery_log.faults self.new.recovery_log.faults }
     {
         self.book.mark(name, None)
     }

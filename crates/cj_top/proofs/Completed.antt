@@ -1,11 +1,5 @@
 -- Calls in which nothing failed and memory was not wanting.
-use Rattle.std.proofs.Common.{◌≡◌, ◌≢◌, ◌⊎◌, inl, inr, ℕ, ℤ, ◌-◌, ◌^◌, ◌<◌, Bool, true, false, List, [], ◌∷◌, ◌+◌, length, map, sum, All, Option, Some, None, Result, Ok, Err, refl, sym, ap, subst, ◌∙◌, arith}
-use Rattle.std.specs.Prelude.{codes}
-use Rattle.std.specs.Str.{bytes_eq}
-use Rattle.std.proofs.lemmas.Bool.{and_parts}
-use Rattle.std.proofs.lemmas.List.Elements.{All-cons, All-nil}
-use Rattle.std.proofs.lemmas.List.Sums.{sum_by-cons}
-use Rattle.std.proofs.lemmas.Slice.Eq.{bytes_eq-Decides}
+use Rattle.std.proofs.Common.{◌≡◌, ◌≢◌, ◌⊎◌, inl, inr, ℕ, ℤ, ◌-◌, ◌^◌, ◌<◌, Bool, true, false, List, [], ◌∷◌, ◌+◌, length, map, replicate, All, Option, Some, None, Result, Ok, Err, refl, sym, ap, subst, ◌∙◌, arith, ⊎_elim}
 use Rattle.cj_model.specs.declared.answer.Reply.{Reply}
 use Rattle.cj_model.specs.declared.database.Slot.{Slot}
 use Rattle.cj_outside.specs.Causes.{CountsFault}
@@ -22,13 +16,23 @@ use Rattle.cj_core.specs.Starts.{BackendState, backend_of, state_by}
 use Rattle.cj_state.specs.Worlds.{WorldState}
 use Rattle.cj_desk.specs.SessionTranscripts.{client_state}
 use Rattle.cj_replica.specs.Cells.{CellState}
+use Rattle.cj_log.specs.declared.item.LogItem.{LogItem}
 use Rattle.cj_script.specs.declared.play.ScriptEnd.{ScriptEnd}
 use Rattle.cj_script.specs.declared.play.ScriptEnd.TheVariants as script_end
 use Rattle.cj_top.specs.Completeness.{AnswersInput, ByConf, ByStore, CompletesCommand, CountNoFaults, CountsNoFault, PipesInput, PlaysInput, ScriptsInput, is_end_by_input, is_script_end_by_input}
-use Rattle.cj_top.specs.Configured.{served_conf}
-use Rattle.cj_top.specs.Piped.{RunsPipe, ServesOneSession, generator_of, opened_at, solo_setting}
-use Rattle.cj_top.specs.Program.{is_pipe, is_script, status_of_script, status_of_session}
-use Rattle.cj_top.specs.Runs.{AreConfBytes}
+use Rattle.cj_top.specs.declared.words.Command.{Command}
+use Rattle.cj_top.specs.declared.words.Command.TheVariants.{Pipe, Script, Log}
+use Rattle.cj_book.specs.declared.error.StartError.{StartError}
+use Rattle.cj_outside.specs.declared.sink.OutError.{OutError}
+use Rattle.cj_outside.specs.declared.sink.OutError.TheVariants as out_errors
+use Rattle.cj_place.specs.Layouts.{placement_of}
+use Rattle.cj_top.specs.Listed.{ListsLog}
+use Rattle.cj_top.specs.Logs.{StopsAtLog}
+use Rattle.cj_top.proofs.Unopened.{start_status}
+use Rattle.cj_top.specs.Configured.{new_backend, served_conf}
+use Rattle.cj_top.specs.Piped.{HasNoSession, RunsPipe, ServesOneSession, generator_of, opened_at, solo_setting}
+use Rattle.cj_top.specs.Program.{status_of_listing, status_of_script, status_of_session}
+use Rattle.cj_top.specs.Runs.{AreConfBytes, ComesBy}
 use Rattle.cj_top.specs.Scripted.{PlaysAsConfigured, RunsScript}
 use Rattle.cj_top.proofs.InputScripts.{script_plays}
 use Rattle.cj_top.proofs.InputSessions.{session_answers}
@@ -42,6 +46,17 @@ not_failed Failed before now cause none failed =
     let room = none.room in
     let same = none.same in
     absurd (omega (arith, rose, room, same))
+
+-- faults by a cause that is the same
+pub same_cause : (F G : Type 0) (before now : ℕ) → (G → F) → (F → G) → CountsFault F before now → CountsFault G before now
+same_cause F G before now to from cause = record { counted = λ g. cause.counted (to g); uncounted = λ none. cause.uncounted (λ f. none (from f)) }
+
+-- of what was answered
+pub cause_of_ok : {A E : Type 0} (x y : A) (before now : ℕ) → CountsFault (◌≡◌ {A = Result A E} (Ok x) (Ok y)) before now → CountsFault (x ≡ y) before now
+cause_of_ok {A = A} {E = E} x y before now = same_cause (◌≡◌ {A = Result A E} (Ok x) (Ok y)) (x ≡ y) before now (λ e. ap Ok e) (λ e. cc e)
+
+pub cause_as_ok : {A E : Type 0} (x y : A) (before now : ℕ) → CountsFault (x ≡ y) before now → CountsFault (◌≡◌ {A = Result A E} (Ok x) (Ok y)) before now
+cause_as_ok {A = A} {E = E} x y before now = same_cause (x ≡ y) (◌≡◌ {A = Result A E} (Ok x) (Ok y)) before now (λ e. cc e) (λ e. ap Ok e)
 
 -- ---- ends
 
@@ -78,44 +93,21 @@ module _ {X : Type 0} (told : X → Option (List Slot)) (faults asks : X → ℕ
   pub same_counts : (cells : List CellState) (xs : List X) → map backend_of cells ≡ map (state_by told faults asks login arming) xs → faults_of cells ≡ map faults xs
   same_counts cells xs same = sym (counts_seen cells) ∙ ap (map (λ (s : BackendState). s.faults)) same ∙ counts_by xs
 
-module _ {X : Type 0} where
-  -- what counts nothing
-  abbrev none : X → ℕ
-  none x = 0
-
-  sum_of_zeros : (xs : List X) → sum (map none xs) ≡ 0
-  sum_of_zeros [] = refl
-  sum_of_zeros (x ∷ xs) =
-      let adds = sum_by-cons (λ (n : ℕ). n) 0 (map none xs) in
-      let later = sum_of_zeros xs in
-      omega (arith, adds, later)
-
-  zeros_can_count : (xs : List X) → CanCountMore (map none xs)
-  zeros_can_count [] = All-nil (λ (n : ℕ). n < 2 ^ 64 - 1)
-  zeros_can_count (x ∷ xs) = All-cons (λ (n : ℕ). n < 2 ^ 64 - 1) 0 (map none xs) (omega arith) (zeros_can_count xs)
-
-  -- stays at nothing
-  pub zeros_stay : (before now : List ℕ) (xs ys : List X) → before ≡ map (λ (x : X). 0) xs → now ≡ map (λ (x : X). 0) ys → CountNoFaults before now
-  zeros_stay before now xs ys first last = record {
-    room = subst CanCountMore (sym first) (zeros_can_count xs);
-    same = ap sum last ∙ sum_of_zeros ys ∙ sym (ap sum first ∙ sum_of_zeros xs);
-  }
-
 -- ---- one session
 
-pub pipe_answers : (tells : Bool) (seed : ℕ) (moment : Option ℤ) (left left' held held' : Option (List ℕ)) (first last : WorldState) (ending : SessionEnd) (counts : List ℕ) → faults_of first.cells ≡ counts
+pub pipe_answers : (tells : Bool) (seed : ℕ) (moment : Option ℤ) (left left' held held' : Option (List ℕ)) (first last : WorldState) (ending : SessionEnd)
     → ServesOneSession tells seed moment left left' held held' first ending last → (ending ≢ end.ReadFault) → (ending ≢ end.WriteFault) → (ending ≢ end.NoMemory)
-    → AnswersInput (λ (reply : Reply). CountNoFaults counts (faults_of last.cells) → BlamesNobody reply) left held held' ending
-pipe_answers tells seed moment left left' held held' first last ending counts are s read write memory =
+    → AnswersInput (λ (reply : Reply). CountNoFaults (faults_of first.cells) (faults_of last.cells) → BlamesNobody reply) left held held' ending
+pipe_answers tells seed moment left left' held held' first last ending s read write memory =
     session_answers (solo_setting tells moment) (client_state None (opened_at first) (generator_of seed (first.core.greatest + 1))) ending s.desk s.draws
-    (λ (reply : Reply). CountNoFaults counts (faults_of last.cells) → BlamesNobody reply) left left' held held' s.served (session_by_input ending read write memory)
+    (λ (reply : Reply). CountNoFaults (faults_of first.cells) (faults_of last.cells) → BlamesNobody reply) left left' held held' s.served (session_by_input ending read write memory)
     (λ k d within quiet.
-    s.blameless (quiet.same ∙ ap sum (sym are)) (subst CanCountMore (sym are) quiet.room) k d within)
+    s.blameless quiet.same quiet.room k d within)
 
 -- ---- commands
 
-pipe_completes : (c : Conf) (moment : Option ℤ) (left left' held held' : Option (List ℕ)) (status : ℕ) → (status ≢ 1) → (status ≢ 5) → (status ≢ 6) → RunsPipe c moment left left' held held' status → PipesInput left held held' status
-pipe_completes c moment left left' held held' status one five six r = record {
+pipe_completes : (c : Conf) (found : List LogItem → Type 0) (moment : Option ℤ) (left left' held held' : Option (List ℕ)) (status : ℕ) → (status ≢ 1) → (status ≢ 5) → (status ≢ 6) → RunsPipe c found moment left left' held held' status → PipesInput left held held' status
+pipe_completes c found moment left left' held held' status one five six r = record {
   ending = r.ending;
   answers =
       session_answers (solo_setting true moment) (client_state None (opened_at r.first) (generator_of c.seed (r.first.core.greatest + 1))) r.ending r.serves.desk r.serves.draws BlamesNobody left left' held held' r.serves.served
@@ -123,62 +115,45 @@ pipe_completes c moment left left' held held' status one five six r = record {
   status_is = r.status_is;
 }
 
-pub play_plays : (c : Conf) (left left' held held' : Option (List ℕ)) (ending : ScriptEnd) → PlaysAsConfigured c left left' held held' ending → (ending ≢ script_end.ReadFault) → (ending ≢ script_end.WriteFault) → (ending ≢ script_end.NoMemory)
+pub play_plays : (c : Conf) (found : List LogItem → Type 0) (left left' held held' : Option (List ℕ)) (ending : ScriptEnd) → PlaysAsConfigured c found left left' held held' ending → (ending ≢ script_end.ReadFault) → (ending ≢ script_end.WriteFault) → (ending ≢ script_end.NoMemory)
     → PlaysInput c.placement.names left ending
-play_plays c left left' held held' ending p read write memory = script_plays c.placement.names left left' held held' ending p.first p.last p.came (script_by_input ending read write memory)
+play_plays c found left left' held held' ending p read write memory = script_plays c.placement.names left left' held held' ending p.first p.last p.came (script_by_input ending read write memory)
 
-script_completes : (c : Conf) (left left' held held' errors errors' : Option (List ℕ)) (before now status : ℕ) → (status ≢ 1) → (status ≢ 5) → (status ≢ 6) → RunsScript c left left' held held' errors errors' before now status
+script_completes : (c : Conf) (found : List LogItem → Type 0) (left left' held held' errors errors' : Option (List ℕ)) (before now status : ℕ) → (status ≢ 1) → (status ≢ 5) → (status ≢ 6) → RunsScript c found left left' held held' errors errors' before now status
     → ScriptsInput c.placement.names left status
-script_completes c left left' held held' errors errors' before now status one five six r = record {
+script_completes c found left left' held held' errors errors' before now status one five six r = record {
   ending = r.ending;
-  plays = play_plays c left left' held held' r.ending r.played (λ e. five (r.status_is ∙ ap status_of_script e)) (λ e. six (r.status_is ∙ ap status_of_script e)) (λ e. one (r.status_is ∙ ap status_of_script e));
+  plays = play_plays c found left left' held held' r.ending r.played (λ e. five (r.status_is ∙ ap status_of_script e)) (λ e. six (r.status_is ∙ ap status_of_script e)) (λ e. one (r.status_is ∙ ap status_of_script e));
   status_is = r.status_is;
 }
 
--- ---- words
+-- ---- commands, by their configuration
 
--- no words are both commands
-pub not_both : (words : List (List ℕ)) → is_pipe words ≡ true → is_script words ≡ true → ⊥
-not_both [] pipe script = cc
-not_both (command ∷ []) pipe script = cc
-not_both (command ∷ conf ∷ []) pipe script =
-    let first : command ≡ codes "pipe" = (bytes_eq-Decides command (codes "pipe")).0 (and_parts (bytes_eq command (codes "pipe")) _ pipe).0 in
-    let second : command ≡ codes "script" = (bytes_eq-Decides command (codes "script")).0 (and_parts (bytes_eq command (codes "script")) _ script).0 in
-    absurd (omega (arith, ap (λ (w : List ℕ). length w) (sym first ∙ second)))
-not_both (command ∷ conf ∷ more ∷ words) pipe script = cc
+module _ (tells : Bool) (store : List ℕ) (left held held' : Option (List ℕ)) (status : ℕ) where
+  -- a refused one
+  pub refusal_completes : (command : Command) (bytes : List ℕ) (error : ConfError) → AreConfBytes tells store bytes → served_conf (conf_of bytes) ≡ Err error → status ≡ 3 → ByStore tells store (CompletesCommand command left held held' status) status
+  refusal_completes command bytes error are refused is = record { bytes = bytes; are = are; comes = subst (ByConf (CompletesCommand command left held held' status) status) (sym refused) is }
 
-module _ (words : List (List ℕ)) (tells : Bool) (store : List ℕ) (left held held' : Option (List ℕ)) (status : ℕ) where
-  -- other words
-  pub other_completes : is_pipe words ≡ false → is_script words ≡ false → CompletesCommand words tells store left held held' status
-  other_completes no_pipe no_script = record { pipe = λ e. absurd cc; script = λ e. absurd cc }
+  module _ (c : Conf) (found : List LogItem → Type 0) (Refuses Tells : StartError → Type 0) (Idle Quiet : Type 0) (moment : Option ℤ) (left' errors errors' : Option (List ℕ)) (before now : ℕ) (one : status ≢ 1) (five : status ≢ 5) (six : status ≢ 6) (seven : status ≢ 7) (eight : status ≢ 8) (twelve : status ≢ 12) where
+    not_stopped : StopsAtLog Refuses Tells Idle status → ⊥
+    not_stopped s = start_status s.error (λ e. one (s.status_is ∙ e)) (λ e. seven (s.status_is ∙ e)) (λ e. eight (s.status_is ∙ e))
 
-  -- a refused configuration
-  pub refusal_completes : (bytes : List ℕ) (error : ConfError) → AreConfBytes tells store bytes → served_conf (conf_of bytes) ≡ Err error → status ≡ 3 → CompletesCommand words tells store left held held' status
-  refusal_completes bytes error are refused is = record {
-    pipe = λ e. record { bytes = bytes; are = are; comes = subst (ByConf (λ c. PipesInput left held held' status) status) (sym refused) is };
-    script = λ e. record { bytes = bytes; are = are; comes = subst (ByConf (λ c. ScriptsInput c.placement.names left status) status) (sym refused) is };
-  }
+    listed_status : (answer : Result (Unit {0}) OutError) → status ≡ status_of_listing answer → status ≡ 0
+    listed_status (Ok _) is = is
+    listed_status (Err out_errors.Failed) is = absurd (six is)
+    listed_status (Err out_errors.NoMemory) is = absurd (one is)
 
-  -- `pipe`
-  pub piped_completes : (bytes : List ℕ) (c : Conf) (moment : Option ℤ) (left' : Option (List ℕ)) → is_pipe words ≡ true → AreConfBytes tells store bytes → served_conf (conf_of bytes) ≡ Ok c → (status ≢ 1) → (status ≢ 5) → (status ≢ 6)
-      → RunsPipe c moment left left' held held' status → CompletesCommand words tells store left held held' status
-  piped_completes bytes c moment left' here are accepted one five six runs = record {
-    pipe = λ e. record {
-      bytes = bytes;
-      are = are;
-      comes = subst (ByConf (λ c. PipesInput left held held' status) status) (sym accepted) (pipe_completes c moment left left' held held' status one five six runs);
-    };
-    script = λ e. absurd (not_both words here e);
-  }
+    completes : (command : Command) → ComesBy command c found (StopsAtLog Refuses Tells Idle) Quiet moment left left' held held' errors errors' before now status → CompletesCommand command left held held' status c
+    completes Pipe comes =
+        ⊎_elim (λ (runs : RunsPipe c found moment left left' held held' status). pipe_completes c found moment left left' held held' status one five six runs)
+        (λ (rest : StopsAtLog Refuses Tells Idle status ⊎ (status ≡ 12) × HasNoSession found (placement_of c.placement) (replicate (length c.placement.names) new_backend) × Quiet).
+        ⊎_elim (λ (s : StopsAtLog Refuses Tells Idle status). absurd (not_stopped s)) (λ (q : (status ≡ 12) × HasNoSession found (placement_of c.placement) (replicate (length c.placement.names) new_backend) × Quiet). absurd (twelve q.0)) rest) comes
+    completes Script comes =
+        ⊎_elim (λ (runs : RunsScript c found left left' held held' errors errors' before now status). script_completes c found left left' held held' errors errors' before now status one five six runs)
+        (λ (s : StopsAtLog Refuses Tells Idle status). absurd (not_stopped s)) comes
+    completes Log comes = ⊎_elim (λ (lists : ListsLog c.placement.names found held held' status). listed_status lists.answer lists.status_is) (λ (s : StopsAtLog Refuses Tells Idle status). absurd (not_stopped s)) comes
 
-  -- `script`
-  pub scripted_completes : (bytes : List ℕ) (c : Conf) (left' errors errors' : Option (List ℕ)) (before now : ℕ) → is_pipe words ≡ false → AreConfBytes tells store bytes → served_conf (conf_of bytes) ≡ Ok c → (status ≢ 1) → (status ≢ 5) → (status ≢ 6)
-      → RunsScript c left left' held held' errors errors' before now status → CompletesCommand words tells store left held held' status
-  scripted_completes bytes c left' errors errors' before now here are accepted one five six runs = record {
-    pipe = λ e. absurd cc;
-    script = λ e. record {
-      bytes = bytes;
-      are = are;
-      comes = subst (ByConf (λ c. ScriptsInput c.placement.names left status) status) (sym accepted) (script_completes c left left' held held' errors errors' before now status one five six runs);
-    };
-  }
+    -- an accepted one
+    pub command_completes : (command : Command) (bytes : List ℕ) → AreConfBytes tells store bytes → served_conf (conf_of bytes) ≡ Ok c
+        → ComesBy command c found (StopsAtLog Refuses Tells Idle) Quiet moment left left' held held' errors errors' before now status → ByStore tells store (CompletesCommand command left held held' status) status
+    command_completes command bytes are accepted comes = record { bytes = bytes; are = are; comes = subst (ByConf (CompletesCommand command left held held' status) status) (sym accepted) (completes command comes) }

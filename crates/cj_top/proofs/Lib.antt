@@ -3,3 +3,4 @@ pub mod InputScripts
 pub mod InputSessions
 pub mod NewBackends
 pub mod PlayedOver
+pub mod Unopened

@@ -25,7 +25,9 @@ use Rattle.cj_script.specs.Script.{IsWrong, audit_line}
 use Rattle.cj_script.specs.declared.play.ScriptEnd.{ScriptEnd}
 use Rattle.cj_script.specs.declared.play.ScriptEnd.TheVariants as script_ends
 use Rattle.cj_top.specs.Configured.{served_conf}
-use Rattle.cj_top.specs.Program.{is_pipe, is_script, status_of_script, status_of_session}
+use Rattle.cj_top.specs.declared.words.Command.{Command}
+use Rattle.cj_top.specs.declared.words.Command.TheVariants.{Pipe, Script, Log}
+use Rattle.cj_top.specs.Program.{status_of_script, status_of_session}
 use Rattle.cj_top.specs.Runs.{AreConfBytes}
 
 -- ---- nothing failed
@@ -162,7 +164,8 @@ pub record ByStore (tells : Bool) (held : List ℕ) (Comes : Conf → Type 0) (s
   pub are : AreConfBytes tells held bytes
   pub comes : ByConf Comes status (served_conf (conf_of bytes))
 
--- What a command with these words comes to where nothing failed and memory was not wanting. `store` is what the configuration's store holds; the input has `left`, and the output held `held`, and then `held'`.
-pub record CompletesCommand (words : List (List ℕ)) (tells : Bool) (store : List ℕ) (left held held' : Option (List ℕ)) (status : ℕ) : Type 0 where
-  pub pipe : is_pipe words ≡ true → ByStore tells store (λ c. PipesInput left held held' status) status
-  pub script : is_script words ≡ true → ByStore tells store (λ c. ScriptsInput c.placement.names left status) status
+-- What a command comes to with this configuration where nothing failed, its log was opened and memory was not wanting. The input has `left`, and the output held `held`, and then `held'`.
+abbrev pub CompletesCommand : Command → (left held held' : Option (List ℕ)) (status : ℕ) → Conf → Type 0
+CompletesCommand Pipe left held held' status c = PipesInput left held held' status
+CompletesCommand Script left held held' status c = ScriptsInput c.placement.names left status
+CompletesCommand Log left held held' status c = status ≡ 0

@@ -1,5 +1,5 @@
 -- What a command is configured with, and how it is refused.
-use Rattle.std.specs.Prelude.{◌≡◌, ◌⊎◌, ℕ, Bool, true, false, List, [], ◌∷◌, ◌++◌, length, map, replicate, codes, if◌then◌else◌, Result, Ok, Err, IsErrOf}
+use Rattle.std.specs.Prelude.{◌≡◌, ◌⊎◌, ℕ, Bool, true, false, List, [], ◌∷◌, ◌++◌, length, replicate, codes, if◌then◌else◌, Result, Ok, Err, IsErrOf}
 use Rattle.std.specs.declared.option.Option.{Option}
 use Rattle.std.specs.declared.option.Option.TheVariants.{None, Some}
 use Rattle.std.specs.List.{list_any}
@@ -18,8 +18,8 @@ use Rattle.cj_conf.specs.declared.error.ConfError.{ConfError}
 use Rattle.cj_conf.specs.declared.error.ConfError.TheVariants.{Range}
 use Rattle.cj_conf.specs.declared.key.Key.TheVariants.{Kind}
 use Rattle.cj_conf.specs.Refusals.{error_number, key_text}
-use Rattle.cj_core.specs.Starts.{BackendState, backend_of}
-use Rattle.cj_state.specs.Beginnings.{started}
+use Rattle.cj_core.specs.Starts.{BackendState, StartsFrom}
+use Rattle.cj_log.specs.declared.item.LogItem.{LogItem}
 use Rattle.cj_state.specs.Worlds.{WorldState}
 
 -- ---- the configuration that is run
@@ -39,11 +39,10 @@ served_conf (Err e) = Err e
 abbrev pub new_backend : BackendState
 new_backend = record { told = Some []; faults = 0; asks = 0; login = None; arming = never_armed }
 
--- The world that a configuration makes of new backends in memory: all are enabled, and no session was opened.
-pub record BeginsAsConfigured (c : Conf) (w : WorldState) : Type 0 where
-  pub core : w.core ≡ started (placement_of c.placement)
+-- The world that a start makes of new backends in memory, as a configuration has them, over the log that was found: each has replayed the log, and no session is open.
+pub record BeginsAsConfigured (c : Conf) (found : List LogItem → Type 0) (w : WorldState) : Type 0 where
   pub setup : w.setup ≡ record { names = c.placement.names; register = c.accounts }
-  pub backends : map backend_of w.cells ≡ replicate (length c.placement.names) new_backend
+  pub starts : StartsFrom found (placement_of c.placement) (replicate (length c.placement.names) new_backend) w
 
 -- ---- refusals
 

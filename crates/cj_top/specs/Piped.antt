@@ -1,5 +1,5 @@
 -- The command `pipe`: one session at a world of its own.
-use Rattle.std.specs.Prelude.{◌≡◌, ℕ, ℤ, ◌+◌, ◌%◌, ◌^◌, Bool, true, List, [], All, sum}
+use Rattle.std.specs.Prelude.{◌≡◌, ◌⊎◌, ℕ, ℤ, ◌+◌, ◌%◌, ◌^◌, ◌≤◌, Bool, true, List, [], All, length, replicate, sum, slice_index_or}
 use Rattle.std.specs.declared.option.Option.{Option}
 use Rattle.std.specs.declared.option.Option.TheVariants.{None, Some}
 use Rattle.rand_pcg.specs.Lcg.{Lcg}
@@ -15,7 +15,15 @@ use Rattle.cj_state.specs.Worlds.{WorldState}
 use Rattle.cj_desk.specs.DeskChains.{IsDeskChain}
 use Rattle.cj_desk.specs.SessionTranscripts.{SessionSetting, setting, client_state}
 use Rattle.cj_session.specs.Serving.{ServesSession}
-use Rattle.cj_top.specs.Configured.{BeginsAsConfigured}
+use Rattle.cj_model.specs.Cluster.Placements.{Placement}
+use Rattle.cj_model.specs.declared.limits.TheConstants.{SESSION_NUMBER_LIMIT}
+use Rattle.cj_log.specs.declared.item.LogItem.{LogItem}
+use Rattle.cj_core.specs.Starts.{BackendState, StartsFrom}
+use Rattle.cj_top.specs.declared.piped.PipeError.{PipeError}
+use Rattle.cj_top.specs.declared.piped.PipeError.TheVariants as pipe_error
+use Rattle.cj_top.specs.Configured.{BeginsAsConfigured, new_backend}
+use Rattle.cj_place.specs.Layouts.{placement_of}
+use Rattle.cj_top.specs.Logs.{Found, RefusesLog}
 use Rattle.cj_top.specs.Program.{status_of_session}
 
 -- the session is served at its own world, with a generator of random numbers and a clock
@@ -41,14 +49,32 @@ pub record ServesOneSession (tells : Bool) (seed : ℕ) (moment : Option ℤ) (l
   -- where the backends have counted no fault, no reply says that backends failed
   pub blameless : sum (faults_of last.cells) ≡ sum (faults_of first.cells) → CanCountMore (faults_of first.cells) → All BlamesNobody served.transcript.replies
   pub closed : last ≡ with_core desk.world (closed_for desk.world.core desk.session)
+  -- no count of faults falls
+  pub grown : CanCountMore (faults_of first.cells) → (b : ℕ) → slice_index_or (faults_of first.cells) b 0 ≤ slice_index_or (faults_of last.cells) b 0
 
--- A session over new backends in memory, as the configuration has them, ended with this status.
-pub record RunsPipe (c : Conf) (moment : Option ℤ) (left left' held held' : Option (List ℕ)) (status : ℕ) : Type 0 where
+-- Over the log that was found no session can be opened: the last number was given.
+pub record HasNoSession (found : List LogItem → Type 0) (p : Placement) (backends : List BackendState) : Type 0 where
   pub first : WorldState
-  pub begins : BeginsAsConfigured c first
+  pub starts : StartsFrom found p backends first
+  pub last_given : SESSION_NUMBER_LIMIT ≤ first.core.greatest
+
+-- why no session was served: the log was not opened, or no session can be
+abbrev pub RefusesPipe : {S : Type 0} → (S → ℕ) → S → Bool → List ℕ → Placement → List BackendState → PipeError → Type 0
+RefusesPipe faults log tells held p backends (pipe_error.Start error) = RefusesLog faults log tells held error
+RefusesPipe faults log tells held p backends pipe_error.SessionsFull = HasNoSession (Found tells held) p backends
+
+-- A session over new backends in memory, as the configuration has them, and over the log that was found, ended with this status.
+pub record RunsPipe (c : Conf) (found : List LogItem → Type 0) (moment : Option ℤ) (left left' held held' : Option (List ℕ)) (status : ℕ) : Type 0 where
+  pub first : WorldState
+  pub begins : BeginsAsConfigured c found first
   pub ending : SessionEnd
   pub last : WorldState
   pub serves : ServesOneSession true c.seed moment left left' held held' first ending last
   -- no reply says that backends failed: those in memory never do
   pub blameless : All BlamesNobody serves.served.transcript.replies
   pub status_is : status ≡ status_of_session ending
+
+-- `pipe` with this configuration: a session ran, or the command stopped at its log, or no session can be opened. `Idle`: the input and the output were not touched; `Quiet`: nor were the errors.
+abbrev pub ComesByPipe : (c : Conf) (found : List LogItem → Type 0) (Stops : ℕ → Type 0) (Quiet : Type 0) (moment : Option ℤ) (left left' held held' : Option (List ℕ)) → ℕ → Type 0
+ComesByPipe c found Stops Quiet moment left left' held held' status =
+    RunsPipe c found moment left left' held held' status ⊎ Stops status ⊎ (status ≡ 12) × HasNoSession found (placement_of c.placement) (replicate (length c.placement.names) new_backend) × Quiet

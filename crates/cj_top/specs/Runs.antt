@@ -1,10 +1,17 @@
 -- How a command that reads a configuration comes to its status.
-use Rattle.std.specs.Prelude.{◌≡◌, ◌⊎◌, ℕ, ◌≤◌, Bool, true, List, length, Ok, Err}
+use Rattle.std.specs.Prelude.{◌≡◌, ◌⊎◌, ℕ, ℤ, ◌≤◌, Bool, true, List, length, Ok, Err}
 use Rattle.cj_outside.specs.Streams.{most}
 use Rattle.cj_conf.specs.declared.conf.Conf.{Conf}
 use Rattle.cj_conf.specs.declared.error.ConfError.{ConfError}
 use Rattle.cj_conf.specs.Confs.{conf_of}
+use Rattle.std.specs.declared.option.Option.{Option}
+use Rattle.cj_log.specs.declared.item.LogItem.{LogItem}
+use Rattle.cj_top.specs.declared.words.Command.{Command}
+use Rattle.cj_top.specs.declared.words.Command.TheVariants.{Pipe, Script, Log}
 use Rattle.cj_top.specs.Configured.{served_conf}
+use Rattle.cj_top.specs.Listed.{ComesByLog}
+use Rattle.cj_top.specs.Piped.{ComesByPipe}
+use Rattle.cj_top.specs.Scripted.{ComesByScript}
 
 -- the bytes are those of the configuration's store, where it tells them
 pub record AreConfBytes (tells : Bool) (held bytes : List ℕ) : Type 0 where
@@ -33,3 +40,9 @@ pub record RunsConfigured (tells : Bool) (held : List ℕ) (Runs : Conf → Type
 abbrev pub RunsCommand : Bool → List ℕ → (ConfError → Type 0) → Type 0 → Type 0 → (Conf → Type 0) → ℕ → Type 0
 RunsCommand tells held Tells Idle Quiet Runs status =
     (((status ≡ 7) ⊎ (status ≡ 1)) × Quiet) ⊎ RefusesConf tells held Tells Idle status ⊎ RunsConfigured tells held Runs
+
+-- What a command comes to with this configuration, over the log that was found. `Stops` says how it stops at its log, and `Quiet` that nothing was touched; `before` and `now` are the errors' counts of faults.
+abbrev pub ComesBy : Command → (c : Conf) (found : List LogItem → Type 0) (Stops : ℕ → Type 0) (Quiet : Type 0) (moment : Option ℤ) (left left' held held' errors errors' : Option (List ℕ)) (before now : ℕ) → ℕ → Type 0
+ComesBy Pipe c found Stops Quiet moment left left' held held' errors errors' before now status = ComesByPipe c found Stops Quiet moment left left' held held' status
+ComesBy Script c found Stops Quiet moment left left' held held' errors errors' before now status = ComesByScript c found Stops left left' held held' errors errors' before now status
+ComesBy Log c found Stops Quiet moment left left' held held' errors errors' before now status = ComesByLog c found Stops held held' status

@@ -3,13 +3,15 @@
 
 mod configured;
 mod files;
+mod listed;
 mod piped;
 mod program;
+mod refused;
 mod scripted;
 mod words;
 
 pub use files::Paths;
-pub use piped::pipe;
+pub use piped::{PipeError, pipe};
 pub use program::run;
 pub use scripted::play;
 pub use words::paths;

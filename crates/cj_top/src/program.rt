@@ -1,20 +1,127 @@
 //! The top call.
 
-ghost use Rattle.std.specs.Prelude.{◌≡◌, ◌≢◌, ◌↔◌, true, false, map, string_bytes};
-ghost use Rattle.cj_outside.specs.Causes.{CountsFault};
-ghost use Rattle.cj_top.specs.Completeness.{CompletesCommand, CountsNoFault};
+ghost use Rattle.std.specs.Prelude.{◌≡◌, ◌≢◌, ◌⊎◌, true, None, Some, map, string_bytes};
+ghost use Rattle.cj_outside.specs.Causes.{CountsFault, next};
+ghost use Rattle.cj_outside.specs.Stores.{Only};
+ghost use Rattle.cj_conf.specs.Confs.{IsUsable};
+ghost use Rattle.cj_top.specs.Completeness.{ByStore, CompletesCommand, CountsNoFault};
 ghost use Rattle.cj_top.specs.Configured.{WritesRefusal};
-ghost use Rattle.cj_top.specs.Piped.{RunsPipe};
+ghost use Rattle.cj_top.specs.Listed.{ComesByLog};
+ghost use Rattle.cj_top.specs.Logs.{Found, HasFailed, RefusesLog, StopsAtLog, TellsRefusal};
+ghost use Rattle.cj_top.specs.Piped.{ComesByPipe};
 ghost use Rattle.cj_top.specs.Program as top;
-ghost use Rattle.cj_top.specs.Runs.{RunsCommand};
-ghost use Rattle.cj_top.specs.Scripted.{RunsScript};
+ghost use Rattle.cj_top.specs.Runs.{ComesBy, RunsCommand};
+ghost use Rattle.cj_top.specs.Scripted.{ComesByScript};
+ghost use Rattle.cj_top.specs.declared.words.Command.{Command};
 
 use crate::configured::{Unconfigured, conf_of, tell_refusal};
-use crate::piped::run_pipe;
+use crate::listed::run_log;
+use crate::piped::{PipeError, run_pipe};
+use crate::refused::stop_at_log;
 use crate::scripted::run_script;
-use crate::words::{is_pipe, is_script};
+use crate::words::{Command, command_of};
+use cj_conf::Conf;
 use cj_outside::{Clock, Sink, Source, Store};
 use std::alloc::Global;
+
+/// The command `pipe`; what stops at the log is told.
+fn pipe_command<S: Store + Drop, I: Source, O: Sink, E: Sink, C: Clock>(
+    alloc: Global,
+    conf: Conf,
+    log: S,
+    input: &mut I,
+    output: &mut O,
+    errors: &mut E,
+    clock: &C,
+) -> u8
+    requires usable { IsUsable conf }
+    requires disk { S.TELLS ≡ true → Only (S.held log) (S.may log) }
+    ensures comes { ComesByPipe conf (Found S.TELLS (S.held log)) (StopsAtLog (RefusesLog S.faults log S.TELLS (S.held log)) (TellsRefusal (E.held errors.old) (E.held errors.new) (E.faults errors.old) (E.faults errors.new)) ((input.new ≡ input.old) × (output.new ≡ output.old)))
+        ((input.new ≡ input.old) × (output.new ≡ output.old) × (errors.new ≡ errors.old)) (C.moment clock.now) (I.left input.old) (I.left input.new) (O.held output.old) (O.held output.new) result }
+    ensures quiet { result ≢ 8 → errors.new ≡ errors.old }
+    ensures log { (result ≡ 7) × HasFailed S.faults log ⊎ (result ≢ 7) }
+    ensures input { CountsFault (result ≡ 5) (I.faults input.old) (I.faults input.new) }
+    ensures output { CountsFault (result ≡ 6) (O.faults output.old) (O.faults output.new) }
+{
+    match run_pipe(alloc, conf, log, input, output, clock) {
+        Ok(status) => status,
+        Err(PipeError::Start(error)) => stop_at_log(alloc, error, errors),
+        Err(PipeError::SessionsFull) => 12,
+    }
+}
+
+/// The command `script`; what stops at the log is told.
+fn script_command<S: Store + Drop, I: Source, O: Sink, E: Sink>(
+    alloc: Global,
+    conf: Conf,
+    log: S,
+    input: &mut I,
+    output: &mut O,
+    errors: &mut E,
+) -> u8
+    requires usable { IsUsable conf }
+    requires disk { S.TELLS ≡ true → Only (S.held log) (S.may log) }
+    ensures comes { ComesByScript conf (Found S.TELLS (S.held log)) (StopsAtLog (RefusesLog S.faults log S.TELLS (S.held log)) (TellsRefusal (E.held errors.old) (E.held errors.new) (E.faults errors.old) (E.faults errors.new)) ((input.new ≡ input.old) × (output.new ≡ output.old)))
+        (I.left input.old) (I.left input.new) (O.held output.old) (O.held output.new) (E.held errors.old) (E.held errors.new) (E.faults errors.old) (E.faults errors.new) result }
+    ensures quiet { result ≢ 8 → result ≢ 10 → errors.new ≡ errors.old }
+    ensures log { (result ≡ 7) × HasFailed S.faults log ⊎ (result ≢ 7) }
+    ensures input { CountsFault (result ≡ 5) (I.faults input.old) (I.faults input.new) }
+    ensures output { CountsFault (result ≡ 6) (O.faults output.old) (O.faults output.new) }
+{
+    match run_script(alloc, conf, log, input, output, errors) {
+        Ok(status) => status,
+        Err(error) => stop_at_log(alloc, error, errors),
+    }
+}
+
+/// The command `log`; what stops at the log is told.
+fn log_command<S: Store + Drop, O: Sink, E: Sink>(
+    alloc: Global,
+    conf: Conf,
+    log: S,
+    output: &mut O,
+    errors: &mut E,
+) -> u8
+    requires { S.TELLS ≡ true → Only (S.held log) (S.may log) }
+    ensures comes { ComesByLog conf (Found S.TELLS (S.held log)) (StopsAtLog (RefusesLog S.faults log S.TELLS (S.held log)) (TellsRefusal (E.held errors.old) (E.held errors.new) (E.faults errors.old) (E.faults errors.new)) (output.new ≡ output.old)) (O.held output.old) (O.held output.new) result }
+    ensures quiet { result ≢ 8 → errors.new ≡ errors.old }
+    ensures log { (result ≡ 7) × HasFailed S.faults log ⊎ (result ≢ 7) }
+    ensures output { CountsFault (result ≡ 6) (O.faults output.old) (O.faults output.new) }
+    ensures no_input_fault { result ≢ 5 }
+{
+    match run_log(alloc, conf, log, output) {
+        Ok(status) => status,
+        Err(error) => stop_at_log(alloc, error, errors),
+    }
+}
+
+/// The command, with a configuration that was accepted.
+fn run_configured<S: Store + Drop, I: Source, O: Sink, E: Sink, C: Clock>(
+    alloc: Global,
+    command: Command,
+    conf: Conf,
+    log: S,
+    input: &mut I,
+    output: &mut O,
+    errors: &mut E,
+    clock: &C,
+) -> u8
+    requires usable { IsUsable conf }
+    requires disk { S.TELLS ≡ true → Only (S.held log) (S.may log) }
+    ensures comes { ComesBy command conf (Found S.TELLS (S.held log)) (StopsAtLog (RefusesLog S.faults log S.TELLS (S.held log)) (TellsRefusal (E.held errors.old) (E.held errors.new) (E.faults errors.old) (E.faults errors.new)) ((input.new ≡ input.old) × (output.new ≡ output.old)))
+        ((input.new ≡ input.old) × (output.new ≡ output.old) × (errors.new ≡ errors.old)) (C.moment clock.now) (I.left input.old) (I.left input.new) (O.held output.old) (O.held output.new) (E.held errors.old) (E.held errors.new) (E.faults errors.old) (E.faults errors.new) result }
+    ensures unread { command ≡ Command.Log → input.new ≡ input.old }
+    ensures quiet { result ≢ 8 → result ≢ 10 → errors.new ≡ errors.old }
+    ensures log { (result ≡ 7) × HasFailed S.faults log ⊎ (result ≢ 7) }
+    ensures input { CountsFault (result ≡ 5) (I.faults input.old) (I.faults input.new) }
+    ensures output { CountsFault (result ≡ 6) (O.faults output.old) (O.faults output.new) }
+{
+    match command {
+        Command::Pipe => pipe_command(alloc, conf, log, input, output, errors, clock),
+        Command::Script => script_command(alloc, conf, log, input, output, errors),
+        Command::Log => log_command(alloc, conf, log, output, errors),
+    }
+}
 
 /// All that the program does, over the words after its name and what it is handed; the answer is the exit status.
 ///
@@ -24,40 +131,47 @@ use std::alloc::Global;
 /// `script CONF` plays the lines of the input as moves over such backends, and writes what they come to: 0 where all were
 /// played, 10 where a line can't be, whose number is then written to `errors` where that can be done.
 ///
-/// Of both, 3 where the configuration is refused, which is then told to `errors` where that can be done; 5 and 6 where the
-/// input and the output failed, 7 where the configuration's store did, 11 where 2^62 bytes were taken, 1 for want of memory.
+/// `log CONF` lists the items of the recovery log, whether or not they are a history's: 0 where all were written.
+///
+/// `pipe` and `script` begin with the recovery log: the backends replay it, and what comes is appended. What is no log's bytes is refused with
+/// 8, which is then told to `errors` where that can be done; `pipe` ends with 12 where the log holds the last number of a session.
+///
+/// Of all, 3 where the configuration is refused, which is then told to `errors` where that can be done; 5 and 6 where the
+/// input and the output failed, 7 where the configuration's store or the log's did, 11 where 2^62 bytes were taken, 1 for want of memory.
 /// With other words the answer is 2, and nothing is touched.
-pub fn run<F: Store, I: Source, O: Sink, E: Sink, C: Clock>(
+pub fn run<F: Store, S: Store + Drop, I: Source, O: Sink, E: Sink, C: Clock>(
     alloc: Global,
     words: &[String],
     conf: &mut F,
+    log: S,
     input: &mut I,
     output: &mut O,
     errors: &mut E,
     clock: &C,
 ) -> u8
-    ensures pipe { top.is_pipe (map string_bytes words.now) ≡ true → RunsCommand F.TELLS (F.held conf.old)
+    requires { S.TELLS ≡ true → Only (S.held log) (S.may log) }
+    ensures runs { (command : Command) → top.command_of (map string_bytes words.now) ≡ Some command → RunsCommand F.TELLS (F.held conf.old)
         (WritesRefusal (E.held errors.old) (E.held errors.new) (E.faults errors.old) (E.faults errors.new)) ((input.new ≡ input.old) × (output.new ≡ output.old)) ((input.new ≡ input.old) × (output.new ≡ output.old) × (errors.new ≡ errors.old))
-        (λ c. RunsPipe c (C.moment clock.now) (I.left input.old) (I.left input.new) (O.held output.old) (O.held output.new) result × (errors.new ≡ errors.old)) result }
-    ensures script { top.is_script (map string_bytes words.now) ≡ true → RunsCommand F.TELLS (F.held conf.old)
-        (WritesRefusal (E.held errors.old) (E.held errors.new) (E.faults errors.old) (E.faults errors.new)) ((input.new ≡ input.old) × (output.new ≡ output.old)) ((input.new ≡ input.old) × (output.new ≡ output.old) × (errors.new ≡ errors.old))
-        (λ c. RunsScript c (I.left input.old) (I.left input.new) (O.held output.old) (O.held output.new) (E.held errors.old) (E.held errors.new) (E.faults errors.old) (E.faults errors.new) result) result }
-    ensures other { top.is_pipe (map string_bytes words.now) ≡ false → top.is_script (map string_bytes words.now) ≡ false → (result ≡ 2) × (conf.new ≡ conf.old) × (input.new ≡ input.old) × (output.new ≡ output.old) × (errors.new ≡ errors.old) }
-    ensures quiet { result ≢ 3 → result ≢ 10 → errors.new ≡ errors.old }
+        (λ c. ComesBy command c (Found S.TELLS (S.held log)) (StopsAtLog (RefusesLog S.faults log S.TELLS (S.held log)) (TellsRefusal (E.held errors.old) (E.held errors.new) (E.faults errors.old) (E.faults errors.new)) ((input.new ≡ input.old) × (output.new ≡ output.old)))
+        ((input.new ≡ input.old) × (output.new ≡ output.old) × (errors.new ≡ errors.old)) (C.moment clock.now) (I.left input.old) (I.left input.new) (O.held output.old) (O.held output.new) (E.held errors.old) (E.held errors.new) (E.faults errors.old) (E.faults errors.new) result) result }
+    ensures unread { top.command_of (map string_bytes words.now) ≡ Some Command.Log → input.new ≡ input.old }
+    ensures other { top.command_of (map string_bytes words.now) ≡ None → (result ≡ 2) × (conf.new ≡ conf.old) × (input.new ≡ input.old) × (output.new ≡ output.old) × (errors.new ≡ errors.old) }
+    ensures quiet { result ≢ 3 → result ≢ 8 → result ≢ 10 → errors.new ≡ errors.old }
 
-    // Each counted a fault exactly where its status says so. What the errors counted at 3 and 10 is above.
-    ensures conf { CountsFault (result ≡ 7) (F.faults conf.old) (F.faults conf.new) }
+    // Each counted a fault exactly where its status says so: 7 is that of the configuration's store and of the log's. What the errors counted
+    // at 3, 8 and 10 is above.
+    ensures stores { (result ≡ 7) × (F.faults conf.new ≡ next (F.faults conf.old)) ⊎ (result ≡ 7) × HasFailed S.faults log × (F.faults conf.new ≡ F.faults conf.old) ⊎ (result ≢ 7) × (F.faults conf.new ≡ F.faults conf.old) }
     ensures input { CountsFault (result ≡ 5) (I.faults input.old) (I.faults input.new) }
     ensures output { CountsFault (result ≡ 6) (O.faults output.old) (O.faults output.new) }
 
-    // Where none of the three did and memory was not wanting, the bytes of the configuration and of the input fix the status.
-    ensures complete { CountsNoFault (F.faults conf.old) (F.faults conf.new) → CountsNoFault (I.faults input.old) (I.faults input.new) → CountsNoFault (O.faults output.old) (O.faults output.new) → result ≢ 1 →
-        CompletesCommand (map string_bytes words.now) F.TELLS (F.held conf.old) (I.left input.old) (O.held output.old) (O.held output.new) result }
+    // Where none of them did, the log was opened and a session can be, and memory was not wanting, the bytes of the configuration and of
+    // the input fix the status.
+    ensures complete { (command : Command) → top.command_of (map string_bytes words.now) ≡ Some command → CountsNoFault (F.faults conf.old) (F.faults conf.new) → CountsNoFault (I.faults input.old) (I.faults input.new) → CountsNoFault (O.faults output.old) (O.faults output.new) → result ≢ 1 → result ≢ 7 → result ≢ 8 → result ≢ 12 →
+        ByStore F.TELLS (F.held conf.old) (CompletesCommand command (I.left input.old) (O.held output.old) (O.held output.new) result) result }
 {
-    let pipes = is_pipe(words);
-    if !pipes && !is_script(words) {
+    let Some(command) = command_of(words) else {
         return 2;
-    }
+    };
     let configured = match conf_of(alloc, conf) {
         Ok(configured) => configured,
         Err(Unconfigured::Failed) => return 7,
@@ -67,14 +181,7 @@ pub fn run<F: Store, I: Source, O: Sink, E: Sink, C: Clock>(
             return 3;
         }
     };
-    if pipes {
-        return match run_pipe(alloc, configured, input, output, clock) {
-            Ok(status) => status,
-            Err(_) => 1,
-        };
-    }
-    match run_script(alloc, configured, input, output, errors) {
-        Ok(status) => status,
-        Err(_) => 1,
-    }
+    run_configured(
+        alloc, command, configured, log, input, output, errors, clock,
+    )
 }

@@ -1,46 +1,63 @@
 //! A script over backends in memory.
 
-ghost use Rattle.std.specs.Prelude.{◌≡◌, ◌↔◌, ◌≢◌, IfOk, IsErrOf, Ok, OnErr, string_bytes};
+ghost use Rattle.std.specs.Prelude.{◌≡◌, ◌↔◌, ◌≢◌, true, IfErr, IfOk, IsErrOf, Ok, OnErr, string_bytes};
 ghost use Rattle.cj_conf.specs.Confs.{IsUsable};
 ghost use Rattle.cj_outside.specs.Causes.{CountsFault};
 ghost use Rattle.cj_outside.specs.Streams.{WritesAll};
 ghost use Rattle.cj_script.specs.declared.play.ScriptEnd.TheVariants as ends;
 ghost use Rattle.cj_top.specs.Completeness.{CountsNoFault, PlaysInput};
+ghost use Rattle.cj_outside.specs.Stores.{Only};
 ghost use Rattle.cj_top.specs.Configured.{BeginsAsConfigured};
+ghost use Rattle.cj_top.specs.Logs.{Found, RefusesLog};
 ghost use Rattle.cj_top.specs.Program as top;
 ghost use Rattle.cj_top.specs.Scripted.{NamesLine, PlaysAsConfigured, RunsScript, line_text};
 
 use crate::configured::{flaky_backends, parts_of};
+use cj_book::StartError;
 use cj_conf::Conf;
 use cj_core::World;
 use cj_flaky::Flaky;
 use cj_mem::MemBackend;
 use cj_model::NoMemory;
-use cj_outside::{OutError, Sink, Source, write_all};
+use cj_outside::{OutError, Sink, Source, Store, write_all};
 use cj_script::{ScriptEnd, script};
 use std::alloc::Global;
 
-/// A world of empty backends in memory that can be armed, as the configuration has them.
-fn flaky_world(alloc: Global, conf: Conf) -> Result<World<Flaky<MemBackend>>, NoMemory>
-    requires { IsUsable conf }
-    ensures { IfOk result (λ world. BeginsAsConfigured conf world) }
-{
-    let backends = flaky_backends(alloc, conf.placement.count())?;
-    World::start(alloc, parts_of(conf), backends)
-}
-
-/// Plays the lines of the input on a world of backends in memory, as the configuration has them, and writes what they come to.
-///
-/// At `NoMemory` the script has not begun; want of memory in it is an end of its own.
-#[tactic(auto, using(crate::proofs::PlayedOver::played_as_configured))]
-pub fn play<I: Source, O: Sink>(
+/// A world of backends in memory that can be armed, as the configuration has them, over the log.
+fn flaky_world<S: Store + Drop>(
     alloc: Global,
     conf: Conf,
+    log: S,
+) -> Result<World<Flaky<MemBackend>, S>, StartError>
+    requires usable { IsUsable conf }
+    requires disk { S.TELLS ≡ true → Only (S.held log) (S.may log) }
+    ensures begins { IfOk result (BeginsAsConfigured conf (Found S.TELLS (S.held log))) }
+    ensures refused { IfErr result (RefusesLog S.faults log S.TELLS (S.held log)) }
+{
+    let Ok(backends) = flaky_backends(alloc, conf.placement.count()) else {
+        return Err(StartError::NoMemory);
+    };
+    match World::start(alloc, parts_of(conf), log, backends) {
+        Ok(world) => Ok(world),
+        Err((error, _)) => Err(error),
+    }
+}
+
+/// Plays the lines of the input on a world of backends in memory, as the configuration has them, over the log, and writes what they come to.
+///
+/// Refused, the script has not begun; want of memory in it is an end of its own.
+#[tactic(auto, using(crate::proofs::PlayedOver::played_as_configured))]
+pub fn play<S: Store + Drop, I: Source, O: Sink>(
+    alloc: Global,
+    conf: Conf,
+    log: S,
     input: &mut I,
     output: &mut O,
-) -> Result<ScriptEnd, NoMemory>
-    requires { IsUsable conf }
-    ensures played { IfOk result (λ end. PlaysAsConfigured conf (I.left input.old) (I.left input.new) (O.held output.old) (O.held output.new) end) }
+) -> Result<ScriptEnd, StartError>
+    requires usable { IsUsable conf }
+    requires disk { S.TELLS ≡ true → Only (S.held log) (S.may log) }
+    ensures played { IfOk result (λ end. PlaysAsConfigured conf (Found S.TELLS (S.held log)) (I.left input.old) (I.left input.new) (O.held output.old) (O.held output.new) end) }
+    ensures refused { IfErr result (RefusesLog S.faults log S.TELLS (S.held log)) }
     ensures unbegun { OnErr result ((input.new ≡ input.old) × (output.new ≡ output.old)) }
     ensures input { CountsFault (result ≡ Ok ends.ReadFault) (I.faults input.old) (I.faults input.new) }
     ensures output { CountsFault (result ≡ Ok ends.WriteFault) (O.faults output.old) (O.faults output.new) }
@@ -48,7 +65,7 @@ pub fn play<I: Source, O: Sink>(
     ensures complete { CountsNoFault (I.faults input.old) (I.faults input.new) → CountsNoFault (O.faults output.old) (O.faults output.new) → IfOk result (λ ending. ending ≢ ends.NoMemory →
         PlaysInput conf.placement.names (I.left input.old) ending) }
 {
-    let mut world = flaky_world(alloc, conf)?;
+    let mut world = flaky_world(alloc, conf, log)?;
     Ok(script(alloc, &mut world, input, output))
 }
 
@@ -93,22 +110,25 @@ fn status_of_script(end: ScriptEnd) -> u8
     }
 }
 
-/// The command `script` with this configuration, over what it is handed; the answer is the exit status.
-pub fn run_script<I: Source, O: Sink, E: Sink>(
+/// The command `script` with this configuration and this log, over what it is handed; the answer is the exit status.
+pub fn run_script<S: Store + Drop, I: Source, O: Sink, E: Sink>(
     alloc: Global,
     conf: Conf,
+    log: S,
     input: &mut I,
     output: &mut O,
     errors: &mut E,
-) -> Result<u8, NoMemory>
-    requires { IsUsable conf }
-    ensures runs { IfOk result (λ status. RunsScript conf (I.left input.old) (I.left input.new) (O.held output.old) (O.held output.new) (E.held errors.old) (E.held errors.new) (E.faults errors.old) (E.faults errors.new) status) }
+) -> Result<u8, StartError>
+    requires usable { IsUsable conf }
+    requires disk { S.TELLS ≡ true → Only (S.held log) (S.may log) }
+    ensures runs { IfOk result (λ status. RunsScript conf (Found S.TELLS (S.held log)) (I.left input.old) (I.left input.new) (O.held output.old) (O.held output.new) (E.held errors.old) (E.held errors.new) (E.faults errors.old) (E.faults errors.new) status) }
+    ensures refused { IfErr result (RefusesLog S.faults log S.TELLS (S.held log)) }
     ensures unbegun { OnErr result ((input.new ≡ input.old) × (output.new ≡ output.old)) }
     ensures quiet { result ≢ Ok 10 → errors.new ≡ errors.old }
     ensures input { CountsFault (result ≡ Ok 5) (I.faults input.old) (I.faults input.new) }
     ensures output { CountsFault (result ≡ Ok 6) (O.faults output.old) (O.faults output.new) }
 {
-    let end = play(alloc, conf, input, output)?;
+    let end = play(alloc, conf, log, input, output)?;
     name_line(alloc, end, errors);
     Ok(status_of_script(end))
 }

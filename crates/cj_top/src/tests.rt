@@ -2,6 +2,7 @@
 
 mod configurations;
 mod frames;
+mod logs;
 pub(crate) mod scripts;
 
 use super::*;
@@ -95,6 +96,10 @@ fn words(alloc: Global, text: &str) -> Result<Vec<String>, Fail> {
 #[derive(Drop)]
 pub(crate) struct Handed {
     conf: MemStore,
+    /// The bytes of the log that each command opens.
+    log: Vec<u8>,
+    /// The numbers of the calls of the log's store that fail.
+    log_fails: Vec<u64>,
     input: MemSource,
     output: MemSink,
     errors: MemSink,
@@ -110,6 +115,8 @@ impl Handed {
     pub(crate) fn of(alloc: Global, conf: &str, input: &[u8]) -> Result<Handed, Fail> {
         Ok(Handed {
             conf: MemStore::new(conf.as_bytes().to_vec(alloc)?, Vec::new(alloc)),
+            log: Vec::new(alloc),
+            log_fails: Vec::new(alloc),
             input: MemSource::new(input.to_vec(alloc)?, Vec::new(alloc)),
             output: sink(alloc, &[])?,
             errors: sink(alloc, &[])?,
@@ -120,10 +127,12 @@ impl Handed {
     pub(crate) fn run(&mut self, alloc: Global, command: &str) -> Result<u8, Fail> {
         let words = words(alloc, command)?;
         let clock = FixedClock::new(1_700_000_000);
+        let log = MemStore::new(self.log.to_vec(alloc)?, self.log_fails.to_vec(alloc)?);
         Ok(run(
             alloc,
             &words,
             &mut self.conf,
+            log,
             &mut self.input,
             &mut self.output,
             &mut self.errors,

@@ -14,10 +14,15 @@ fn main(rt: HostRuntime) -> ExitCode {
     };
     // Where the words are no command `run` reads no configuration.
     let conf_path = paths(&words).map_or("", |paths| paths.conf);
+    let Ok(log_path) = format!(in rt.alloc(); "{conf_path}.log") else {
+        return ExitCode::from(1);
+    };
     let Ok(conf_path) = String::from_str(rt.alloc(), conf_path) else {
         return ExitCode::from(1);
     };
     let mut conf = FileStore::open_to_read(rt, conf_path);
+    // The log is made by the first write to it.
+    let log = FileStore::open(rt, log_path);
     let mut input = StdSource::new(rt.reader());
     let mut output = StdSink::new(rt.stdout());
     let mut errors = StdSink::new(rt.stderr());
@@ -26,6 +31,7 @@ fn main(rt: HostRuntime) -> ExitCode {
         rt.alloc(),
         &words,
         &mut conf,
+        log,
         &mut input,
         &mut output,
         &mut errors,

@@ -1,5 +1,5 @@
 -- The parts of a call of a session over a whole world.
-use Rattle.std.specs.Prelude.{◌≡◌, ◌⊎◌, ℕ, ◌+◌, ◌<◌, Bool, true, List, [], ◌∷◌, ◌++◌, length, Result, Ok, Err}
+use Rattle.std.specs.Prelude.{◌≡◌, ◌⊎◌, ℕ, ◌+◌, ◌<◌, ◌≤◌, ◌==◌, if◌then◌else◌, Bool, true, List, [], ◌∷◌, ◌++◌, length, Result, Ok, Err}
 use Rattle.std.specs.Option.{option_map_or}
 use Rattle.std.specs.declared.option.Option.{Option}
 use Rattle.std.specs.declared.option.Option.TheVariants.{None, Some}
@@ -10,23 +10,24 @@ use Rattle.cj_model.specs.declared.select.Select.{Select}
 use Rattle.cj_model.specs.declared.answer.Asked.{Asked}
 use Rattle.cj_model.specs.declared.answer.Reply.{Reply}
 use Rattle.cj_model.specs.declared.answer.Reply.TheVariants.{Refused}
-use Rattle.cj_model.specs.declared.codes.TheConstants.{HISTORY_FULL, NO_BACKEND, NO_MEMORY}
+use Rattle.cj_model.specs.declared.codes.TheConstants.{HISTORY_FULL, LOG_FAULT, NO_BACKEND, NO_MEMORY}
 use Rattle.cj_model.specs.Database.Inserts.{refusal_of_code}
 use Rattle.cj_model.specs.Database.Outcomes.{IsAsked}
 use Rattle.cj_model.specs.Database.Queries.{ask}
 use Rattle.cj_model.specs.Wire.Replies.{asked_reply}
 use Rattle.cj_model.specs.Sql.PlainRequests.{request_of}
-use Rattle.cj_cluster.specs.declared.event.Event.TheVariants.{ReadFailed}
+use Rattle.cj_cluster.specs.declared.event.Event.TheVariants.{LogFailed, ReadFailed}
 use Rattle.cj_cluster.specs.History.Histories.{log, is_enabled, entry_in_progress, events_left, database_of}
 use Rattle.cj_cluster.specs.History.Answering.{HasServer, HasNoServer}
 use Rattle.cj_cluster.specs.History.Turns.{Call}
 use Rattle.cj_cluster.specs.Moves.Cores.{Core, position_at, session_at}
-use Rattle.cj_cluster.specs.Moves.Moves.{last_number, history_full, first_lagging, with_request_counted, with_read, answered_at, was_answered, happened, ended_for}
+use Rattle.cj_cluster.specs.Moves.Moves.{last_number, history_full, scheduled_as, first_lagging, with_request_counted, with_read, answered_at, was_answered, happened, ended_for}
 use Rattle.cj_cluster.specs.Proving.Invariants.{CoreInvariant}
 use Rattle.cj_state.specs.CalledLogins.{logins_of}
-use Rattle.cj_state.specs.Worlds.{WorldState, accounts_of}
+use Rattle.cj_state.specs.Worlds.{WorldState, accounts_of, IsSameButLog}
 use Rattle.cj_state.specs.Faults.{faults_of, faults_after}
 use Rattle.cj_state.specs.Effects.{with_core, AnswersOpen, SchedulesAs}
+use Rattle.cj_moves.specs.Counting.{log_faults_after}
 use Rattle.cj_core.specs.Solos.{AreBackendsOf, AreCalledFor, faults_counted, mask_with}
 
 -- the session's next request
@@ -40,6 +41,17 @@ SchedulesOrRefuses c e (Err r) =
     (HasNoServer c.placement c.history (request_of e.act) × (r ≡ refusal_of_code NO_BACKEND))
     ⊎ (HasServer c.placement c.history (request_of e.act) × (events_left c.history < 3) × (r ≡ history_full c))
     ⊎ (r ≡ refusal_of_code NO_MEMORY)
+    ⊎ (HasServer c.placement c.history (request_of e.act) × (3 ≤ events_left c.history) × (r ≡ refusal_of_code LOG_FAULT))
+
+-- The entry of session s was scheduled, and stands in the log.
+pub record EntryScheduled (s : ℕ) (e : Entry) (old new : WorldState) : Type 0 where
+  pub after : IsSameButLog (with_core old (scheduled_as old.core s e)) new
+  pub log_faults : new.recovery_log.faults ≡ old.recovery_log.faults
+
+-- The entry was refused, and its request is not counted yet: where the log's store failed, the history has an event of it.
+pub record EntryRefused (e : Entry) (refusal : Refusal) (old new : WorldState) : Type 0 where
+  pub after : IsSameButLog (with_core old (if refusal.code == LOG_FAULT then happened old.core (LogFailed e.session e.seq) else old.core)) new
+  pub log_faults : new.recovery_log.faults ≡ log_faults_after old.recovery_log.faults (refusal.code == LOG_FAULT)
 
 -- the user of the open entry
 abbrev pub open_user : Core → List ℕ
@@ -49,6 +61,7 @@ open_user c = option_map_or (λ (e : Entry). e.user) (entry_in_progress c.histor
 pub record EntryTaken (user : List ℕ) (old new : WorldState) : Type 0 where
   pub core : new.core ≡ record old.core { positions = new.core.positions; begun = new.core.begun; failed = new.core.failed; starved = new.core.starved }
   pub setup : new.setup ≡ old.setup
+  pub recovery_log : new.recovery_log ≡ old.recovery_log
   pub failed : List ℕ
   pub backends : AreBackendsOf old failed
   pub mask : new.core.failed ≡ mask_with old.core.failed failed

@@ -13,6 +13,7 @@ loop-b-init g c =
       faults = refl;
       logins = refl;
       armings = refl;
+      recovery_log = refl;
       text = subst IsText (sym c.new-text.ensures.items) empty_text;
       lines = λ on. c.new-text.ensures.items;
     }
@@ -28,6 +29,7 @@ loop-b-preserved g c =
       faults = added.faults ∙ before.faults;
       logins = added.logins ∙ before.logins;
       armings = added.armings ∙ before.armings;
+      recovery_log = added.recovery_log ∙ before.recovery_log;
       text = added.text before.text;
       lines = λ on. lines_added c.args.state.now c.loop-b.state c.loop-b.b c.loop-b.text.items c.audit_backend.new.text.items before.core before.setup (before.lines on) (added.lines on);
     }

@@ -14,6 +14,7 @@ invariant-loop-b g l =
       core : l.state.core ≡ l.fn.state.core;
       setup : l.state.setup ≡ l.fn.state.setup;
       faults : faults_of l.state.cells ≡ faults_of l.fn.state.cells;
+      recovery_log : l.state.recovery_log ≡ l.fn.state.recovery_log;
       logins : logins_of l.state.cells ≡ logins_of l.fn.state.cells;
       armings : armings_of l.state.cells ≡ armings_of l.fn.state.cells;
       text : IsText l.text.items;

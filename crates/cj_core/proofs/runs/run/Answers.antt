@@ -1,38 +1,40 @@
-use Rattle.std.proofs.Common.{◌≡◌, ◌+◌, ℕ, List, [], ◌∷◌, length, length-append, take, get_or, map, sym, ap, ◌∙◌, subst, arith}
+use Rattle.std.proofs.Common.{◌≡◌, ◌+◌, ℕ, refl, List, [], ◌∷◌, length, length-append, take, get_or, map, sym, ap, ◌∙◌, subst, arith}
 use Rattle.std.proofs.lemmas.List.{take_all}
 use Rattle.cj_cluster.specs.declared.moves.Move.{Move}
 use Rattle.cj_cluster.specs.declared.moves.Made.{Made}
+use mathlib.Core.List.{IsPrefix}
+use Rattle.cj_cluster.specs.History.Legality.{IsLegal}
+use Rattle.cj_state.specs.Worlds.{WorldState}
 use Rattle.cj_core.specs.Played.{given_of, HasRun}
 use Rattle.cj_core.proofs.Making.{Making, making_none, making_more, making_longer, making_legal, making_run, making_part, making_met}
 use Rattle.cj_core.proofs.runs.run.Goals as goal
 
 pub returns-in_default-clause-runs : goal.returns-in_default-clause-runs
 returns-in_default-clause-runs g c =
-    making_part g.B.Backend.TELLS g.B.Backend.can_be_armed c.args.state.now c.args.moves.now 0 [] c.args.state.now c.legal.ensures c.requires.are c.requires.count (omega arith) (making_none g.B.Backend.TELLS g.B.Backend.can_be_armed c.args.state.now c.args.moves.now)
+    making_part g.B.Backend.TELLS g.B.Backend.can_be_armed c.args.state.now c.args.moves.now 0 [] c.args.state.now c.legal.ensures.world c.requires.are c.requires.count (omega arith) (making_none g.B.Backend.TELLS g.B.Backend.can_be_armed c.args.state.now c.args.moves.now) c.args.state.now refl refl
 
 pub make_copy-requires : goal.make_copy-requires
 make_copy-requires g c =
     let same = ap length c.as_slice-m-items.ensures in
-    making_met g.B.Backend.TELLS g.B.Backend.can_be_armed c.args.state.now c.args.moves.now c.loop-m.m-index c.loop-m.made.items c.loop-m.state c.legal.ensures c.requires.are c.requires.count (omega arith) c.loop-m.invariant.making
+    making_met g.B.Backend.TELLS g.B.Backend.can_be_armed c.args.state.now c.args.moves.now c.loop-m.m-index c.loop-m.made.items c.loop-m.state c.legal.ensures.world c.requires.are c.requires.count (omega arith) c.loop-m.invariant.making
     c.m-item.result (omega arith) (c.m-item.is ∙ ap (λ (xs : List Move). get_or xs c.loop-m.m-index c.m-item.result) c.as_slice-m-items.ensures)
 
 pub returns-in_default-make_copy-clause-runs : goal.returns-in_default-make_copy-clause-runs
 returns-in_default-make_copy-clause-runs g c =
     let same = ap length c.as_slice-m-items.ensures in
-    let stopped = subst (Making g.B.Backend.TELLS g.B.Backend.can_be_armed c.args.state.now c.args.moves.now c.loop-m.m-index c.loop-m.made.items) (sym c.in_default-make_copy.ensures.want) c.loop-m.invariant.making in
-    making_part g.B.Backend.TELLS g.B.Backend.can_be_armed c.args.state.now c.args.moves.now c.loop-m.m-index c.loop-m.made.items c.make_copy.new.state c.legal.ensures c.requires.are c.requires.count (omega arith) stopped
+    making_part g.B.Backend.TELLS g.B.Backend.can_be_armed c.args.state.now c.args.moves.now c.loop-m.m-index c.loop-m.made.items c.loop-m.state c.legal.ensures.world c.requires.are c.requires.count (omega arith) c.loop-m.invariant.making c.make_copy.new.state c.in_default-make_copy.ensures.want c.in_default-make_copy.ensures.log_want
 
 pub returns-in_default-make_copy-clause-longer : goal.returns-in_default-make_copy-clause-longer
 returns-in_default-make_copy-clause-longer g c =
     let same = ap length c.as_slice-m-items.ensures in
-    let stopped = subst (Making g.B.Backend.TELLS g.B.Backend.can_be_armed c.args.state.now c.args.moves.now c.loop-m.m-index c.loop-m.made.items) (sym c.in_default-make_copy.ensures.want) c.loop-m.invariant.making in
-    making_longer g.B.Backend.TELLS g.B.Backend.can_be_armed c.args.state.now c.args.moves.now c.loop-m.m-index c.loop-m.made.items c.make_copy.new.state c.legal.ensures c.requires.are c.requires.count (omega arith) stopped
+    subst (λ (w : WorldState). IsPrefix c.args.state.now.core.history w.core.history) (sym c.in_default-make_copy.ensures.want)
+    (making_longer g.B.Backend.TELLS g.B.Backend.can_be_armed c.args.state.now c.args.moves.now c.loop-m.m-index c.loop-m.made.items c.loop-m.state c.legal.ensures.world c.requires.are c.requires.count (omega arith) c.loop-m.invariant.making)
 
 pub returns-in_default-make_copy-clause-legal : goal.returns-in_default-make_copy-clause-legal
 returns-in_default-make_copy-clause-legal g c =
     let same = ap length c.as_slice-m-items.ensures in
-    let stopped = subst (Making g.B.Backend.TELLS g.B.Backend.can_be_armed c.args.state.now c.args.moves.now c.loop-m.m-index c.loop-m.made.items) (sym c.in_default-make_copy.ensures.want) c.loop-m.invariant.making in
-    making_legal g.B.Backend.TELLS g.B.Backend.can_be_armed c.args.state.now c.args.moves.now c.loop-m.m-index c.loop-m.made.items c.make_copy.new.state c.legal.ensures c.requires.are c.requires.count (omega arith) stopped
+    subst (λ (w : WorldState). IsLegal w.core.history) (sym c.in_default-make_copy.ensures.want)
+    (making_legal g.B.Backend.TELLS g.B.Backend.can_be_armed c.args.state.now c.args.moves.now c.loop-m.m-index c.loop-m.made.items c.loop-m.state c.legal.ensures.world c.requires.are c.requires.count (omega arith) c.loop-m.invariant.making)
 
 pub returns-in_default-make_copy-clause-setup : goal.returns-in_default-make_copy-clause-setup
 returns-in_default-make_copy-clause-setup g c = c.make_copy.ensures.setup ∙ c.loop-m.invariant.setup
@@ -40,18 +42,18 @@ returns-in_default-make_copy-clause-setup g c = c.make_copy.ensures.setup ∙ c.
 pub returns-clause-longer : goal.returns-clause-longer
 returns-clause-longer g c =
     let same = ap length c.as_slice-m-items.ensures in
-    making_longer g.B.Backend.TELLS g.B.Backend.can_be_armed c.args.state.now c.args.moves.now c.loop-m.m-index c.loop-m.made.items c.loop-m.state c.legal.ensures c.requires.are c.requires.count (omega arith) c.loop-m.invariant.making
+    making_longer g.B.Backend.TELLS g.B.Backend.can_be_armed c.args.state.now c.args.moves.now c.loop-m.m-index c.loop-m.made.items c.loop-m.state c.legal.ensures.world c.requires.are c.requires.count (omega arith) c.loop-m.invariant.making
 
 pub returns-clause-legal : goal.returns-clause-legal
 returns-clause-legal g c =
     let same = ap length c.as_slice-m-items.ensures in
-    making_legal g.B.Backend.TELLS g.B.Backend.can_be_armed c.args.state.now c.args.moves.now c.loop-m.m-index c.loop-m.made.items c.loop-m.state c.legal.ensures c.requires.are c.requires.count (omega arith) c.loop-m.invariant.making
+    making_legal g.B.Backend.TELLS g.B.Backend.can_be_armed c.args.state.now c.args.moves.now c.loop-m.m-index c.loop-m.made.items c.loop-m.state c.legal.ensures.world c.requires.are c.requires.count (omega arith) c.loop-m.invariant.making
 
 pub returns-clause-runs : goal.returns-clause-runs
 returns-clause-runs g c =
     let same = ap length c.as_slice-m-items.ensures in
     let all : take c.loop-m.m-index c.args.moves.now ≡ c.args.moves.now = take_all c.loop-m.m-index c.args.moves.now (omega arith) in
-    let run = making_run g.B.Backend.TELLS g.B.Backend.can_be_armed c.args.state.now c.args.moves.now c.loop-m.m-index c.loop-m.made.items c.loop-m.state c.legal.ensures c.requires.are c.requires.count (omega arith) c.loop-m.invariant.making in
+    let run = making_run g.B.Backend.TELLS g.B.Backend.can_be_armed c.args.state.now c.args.moves.now c.loop-m.m-index c.loop-m.made.items c.loop-m.state c.legal.ensures.world c.requires.are c.requires.count (omega arith) c.loop-m.invariant.making in
     let whole = subst (λ (ms : List Move). HasRun g.B.Backend.TELLS g.B.Backend.can_be_armed c.args.state.now ms (map given_of c.loop-m.made.items) c.loop-m.state) all run in
     rw c.from_vec.ensures whole
 
@@ -61,7 +63,7 @@ loop-m-preserved g c =
     let is = c.m-item.is ∙ ap (λ (xs : List Move). get_or xs c.loop-m.m-index c.m-item.result) c.as_slice-m-items.ensures in
     let more =
     making_more g.B.Backend.TELLS g.B.Backend.can_be_armed c.args.state.now c.args.moves.now c.loop-m.m-index c.m-item.result c.loop-m.made.items c.loop-m.state c.in-Ok-make_copy.came c.make_copy.new.state (omega arith) is
-    c.loop-m.invariant.making (record { moves = c.in-Ok-make_copy.ensures.made; causes = c.in-Ok-make_copy.ensures.causes; no_log = c.in-Ok-make_copy.ensures.no_log; armings = c.in-Ok-make_copy.ensures.armings; logins = c.in-Ok-make_copy.ensures.logins; setup = c.make_copy.ensures.setup })
+    c.loop-m.invariant.making (record { moves = c.in-Ok-make_copy.ensures.made; causes = c.in-Ok-make_copy.ensures.causes; log_causes = c.in-Ok-make_copy.ensures.log_causes; armings = c.in-Ok-make_copy.ensures.armings; logins = c.in-Ok-make_copy.ensures.logins; setup = c.make_copy.ensures.setup })
     in
     record {
       making =

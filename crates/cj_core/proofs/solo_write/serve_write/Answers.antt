@@ -5,7 +5,7 @@ use Rattle.cj_state.specs.Effects.{with_core}
 use Rattle.cj_state.specs.Worlds.{WorldState}
 use Rattle.cj_core.specs.Proving.SoloParts.{EntryEnded}
 use Rattle.cj_state.specs.Effects.{own_entry}
-use Rattle.cj_core.proofs.SoloWrites.{begun_running, begun_user, begun_waits, refused, wrote}
+use Rattle.cj_core.proofs.SoloWrites.{begun_running, begun_user, begun_waits, refused, stands_refused, wrote}
 use Rattle.cj_core.proofs.solo_write.serve_write.Goals as goal
 
 pub finish-requires-clause-open : goal.finish-requires-clause-open
@@ -25,11 +25,14 @@ returns-in-Ok-clause-turn g c =
     let entry : Entry = own_entry old.core c.args.s c.args.tx c.args.user.now c.args.act in
     let user = begun_user c.args.s entry old begun c.requires.stands.idle c.in-Ok.ensures.ok in
     let ended = subst (λ (u : List ℕ). EntryEnded g.B.Backend.TELLS c.args.s u begun c.finish.result c.finish.new.state) user c.finish.ensures in
-    wrote g.B.Backend.TELLS c.args.s c.args.tx c.args.user.now c.args.act c.finish.result old begun c.finish.new.state c.in-Ok.number c.legal.ensures.sound c.requires.stands ended c.in-Ok.ensures.scheduled c.in-Ok.ensures.ok
+    wrote g.B.Backend.TELLS c.args.s c.args.tx c.args.user.now c.args.act c.finish.result old begun c.finish.new.state c.in-Ok.number c.legal.ensures.world.sound c.requires.stands ended c.in-Ok.ensures.scheduled c.in-Ok.ensures.ok
 
 pub returns-in-Err-clause-turn : goal.returns-in-Err-clause-turn
 returns-in-Err-clause-turn g c =
     let old = c.args.state.now in
-    let after = c.refuse.ensures.counted ∙ ap (λ (w : WorldState). with_core w (with_request_counted w.core c.args.s)) c.in-Err.ensures.err in
     rw (c.refuse.ensures.reply)
-    (refused g.B.Backend.TELLS c.args.s c.args.tx c.args.user.now c.args.act old c.refuse.new.state c.in-Err.refusal c.legal.ensures.sound c.requires.stands c.requires.fits c.in-Err.ensures.scheduled after)
+    (refused g.B.Backend.TELLS c.args.s c.args.tx c.args.user.now c.args.act old c.schedule_for.new.state c.refuse.new.state c.in-Err.refusal c.legal.ensures.world.sound c.requires.stands c.requires.fits c.in-Err.ensures.err c.refuse.ensures.counted c.in-Err.ensures.scheduled)
+
+pub refuse-requires-clause-stands : goal.refuse-requires-clause-stands
+refuse-requires-clause-stands g c =
+    stands_refused c.args.s (own_entry c.args.state.now.core c.args.s c.args.tx c.args.user.now c.args.act) c.in-Err.refusal c.args.state.now c.schedule_for.new.state c.requires.stands c.in-Err.ensures.err

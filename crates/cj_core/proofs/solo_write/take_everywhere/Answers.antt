@@ -20,4 +20,4 @@ returns-clause-at_end g c =
     let here : c.count-b-end.result ≡ c.loop-b.state.core.placement.backends =
     c.count-b-end.ensures.count ∙ (ap (λ (p : Placement). p.backends) c.placement.ensures.placement ∙ sym (ap (λ (p : Placement). p.backends) c.loop-b.invariant.placement))
     in
-    taken_everywhere c.args.state.now c.loop-b.state c.loop-b.b c.legal.ensures.sound (subst (λ (n : ℕ). n ≤ c.loop-b.b) here c.loop-b-test.false) c.loop-b.invariant.to
+    taken_everywhere c.args.state.now c.loop-b.state c.loop-b.b c.legal.ensures.world.sound (subst (λ (n : ℕ). n ≤ c.loop-b.b) here c.loop-b-test.false) c.loop-b.invariant.to

@@ -21,7 +21,7 @@ use Rattle.cj_moves.proofs.read.read.Goals as goal
 
 pub has_bit-requires : goal.has_bit-requires
 has_bit-requires g c =
-    let few = c.legal.ensures.few in
+    let few = c.legal.ensures.world.few in
     let within = c.requires.within in
     omega arith
 
@@ -42,9 +42,9 @@ refuse_or_stay-requires-clause-idle g c =
 pub refuse_or_stay-requires-clause-since : goal.refuse_or_stay-requires-clause-since
 refuse_or_stay-requires-clause-since g c =
     let core = subst (λ (e : AskError). c.ask.new.self.core ≡ asked_core c.args.state.now.core c.args.s c.args.b (Err e)) c.in-Err-Failed.field-0-is c.in-Err-Failed.ensures.core in
-    let above = open_above c.args.state.now.core c.args.s c.legal.ensures.sound (can_read c.args.state.now.core c.args.s c.args.b c.args.select c.requires.now).here in
+    let above = open_above c.args.state.now.core c.args.s c.legal.ensures.world.sound (can_read c.args.state.now.core c.args.s c.args.b c.args.select c.requires.now).here in
     subst (λ (x : Core). HaveFailed x c.args.s c.tried_with-tried.result) (sym core)
-    (rw c.tried_with-tried.ensures (tried_more c.args.state.now.core c.args.s c.args.b (read_number (session_at c.args.state.now.core c.args.s)) c.args.select above refl c.legal.ensures.between))
+    (rw c.tried_with-tried.ensures (tried_more c.args.state.now.core c.args.s c.args.b (read_number (session_at c.args.state.now.core c.args.s)) c.args.select above refl c.legal.ensures.world.between))
 
 pub refuse_unnoted-requires-clause-idle : goal.refuse_unnoted-requires-clause-idle
 refuse_unnoted-requires-clause-idle g c =

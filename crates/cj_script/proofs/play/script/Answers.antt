@@ -46,7 +46,7 @@ pub returns-in-Err-clause-turns : goal.returns-in-Err-clause-turns
 returns-in-Err-clause-turns g c =
     let left = g.I.Source.left in
     let held = g.O.Sink.held in
-    read_end_turns g.B.Backend.TELLS g.B.Backend.can_be_armed c.args.world.now.setup.names c.args.world.now c.legal.ensures c.legal.ensures.named c.requires (left c.args.input.now) (left c.loop-line.input) (left c.read_line.new.input)
+    read_end_turns g.B.Backend.TELLS g.B.Backend.can_be_armed c.args.world.now.setup.names c.args.world.now c.legal.ensures.world c.legal.ensures.world.named c.requires (left c.args.input.now) (left c.loop-line.input) (left c.read_line.new.input)
     (held c.args.output.now) (held c.loop-line.output) c.loop-line.lines c.read_line.new.lines c.loop-line.number (c.loop-line.number + 1) c.loop-line.world c.in-Err.end c.loop-line.invariant.playing
     c.loop-line.invariant.few c.in-Err.ensures.bytes
 
@@ -58,7 +58,7 @@ returns-in-Err-play_line-clause-turns g c =
     text_came g.B.Backend.TELLS g.B.Backend.can_be_armed c.args.world.now.setup.names (left c.args.input.now) (left c.loop-line.input) (left c.read_line.new.input) (held c.args.output.now) (held c.loop-line.output)
     c.args.world.now c.loop-line.lines c.read_line.new.lines c.loop-line.number (c.loop-line.number + 1) c.loop-line.world c.in-Ok.line c.loop-line.invariant.playing c.in-Ok.ensures.bytes
     in
-    play_end_turns g.B.Backend.TELLS g.B.Backend.can_be_armed c.args.world.now.setup.names c.args.world.now c.legal.ensures c.legal.ensures.named c.requires (left c.args.input.now) (left c.read_line.new.input)
+    play_end_turns g.B.Backend.TELLS g.B.Backend.can_be_armed c.args.world.now.setup.names c.args.world.now c.legal.ensures.world c.legal.ensures.world.named c.requires (left c.args.input.now) (left c.read_line.new.input)
     (held c.args.output.now) (held c.loop-line.output) (held c.play_line.new.output)
     c.in-Ok.line.items c.read_line.new.lines.rest c.read_line.new.lines.taken c.loop-line.number (c.loop-line.number + 1) c.loop-line.world c.play_line.new.world
     c.in-Err-play_line.end came.at c.in-Ok.ensures.few

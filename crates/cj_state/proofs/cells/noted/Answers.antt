@@ -6,7 +6,7 @@ use Rattle.cj_state.specs.Effects.{Notes}
 use Rattle.cj_state.proofs.cells.noted.Goals as goal
 
 pub returns-in-Err-HistoryFull : goal.returns-in-Err-HistoryFull
-returns-in-Err-HistoryFull c =
+returns-in-Err-HistoryFull g c =
     let full = (c.in-Err-HistoryFull.ensures.full c.in-Err-HistoryFull.events).0 (ap (λ (e : BookError). Err e) c.in-Err-HistoryFull.field-0-is) in
     subst (λ (d : CellReadError). Notes c.args.book.now c.args.session c.args.seq c.args.b d (Unnoted c.in-Err-HistoryFull.events) c.read_failed.new.self) (sym c.in-Failed.is)
     (inr (c.in-Err-HistoryFull.events, refl, full, c.in-Err-HistoryFull.ensures.err))

@@ -1,24 +1,33 @@
-use Rattle.std.proofs.Common.{◌≡◌, ◌+◌, ◌%◌, ◌^◌, ℕ, None, sum, ap, sym, ◌∙◌, subst, arith}
+use Rattle.std.proofs.Common.{◌≡◌, ◌+◌, ◌%◌, ◌^◌, ◌≤◌, ℕ, None, get_or, sum, ap, sym, ◌∙◌, subst, arith}
 use Rattle.rand_pcg.specs.Lcg.{Lcg}
 use Rattle.cj_outside.specs.Draws.{seeded, of_generator, generator_after}
 use Rattle.cj_state.specs.Faults.{faults_of}
-use Rattle.cj_core.specs.Solos.{SoloState}
+use Rattle.cj_cluster.specs.History.Histories.{log}
+use Rattle.cj_cluster.proofs.OwnTransactions.{tx_of_unknown}
+use Rattle.cj_core.specs.Solos.{SoloState, desk_of}
+use Rattle.cj_desk.specs.DeskStates.{desk_tx}
 use Rattle.cj_state.specs.Worlds.{WorldState}
-use Rattle.cj_core.proofs.QuietSessions.{quiet_session}
+use Rattle.cj_core.proofs.QuietSessions.{quiet_session, session_grows}
 use Rattle.cj_desk.specs.SessionTranscripts.{client_state}
 use Rattle.cj_desk.proofs.DeskChainLaws.{transcript_chained}
 use Rattle.cj_session.specs.Serving.{ServesSession}
 use Rattle.cj_top.specs.Piped.{generator_of, opened_at, solo_setting}
 use Rattle.cj_top.proofs.piped.serve_one.Goals as goal
 
+pub serve_session-end-requires-clause-closed : goal.serve_session-end-requires-clause-closed
+serve_session-end-requires-clause-closed g c =
+    let core = c.args.world.core in
+    subst (λ (d : SoloState). desk_tx (desk_of d) ≡ 0) (sym c.in-Ok.ensures.opened)
+    (tx_of_unknown (core.greatest + 1) (log core.history) (λ k d lt. let le = c.legal.ensures.world.sound.known k d lt in omega (arith, le)))
+
 pub returns-clause-serves : goal.returns-clause-serves
 returns-clause-serves g c =
     let tells = g.B.Backend.TELLS in
     let moment = g.C.Clock.moment c.args.clock.now in
     let end = c.serve_session-end in
-    let one : c.args.world.core.greatest + 1 ≡ 1 = ap (λ (n : ℕ). n + 1) c.requires.first in
+    let number : c.session.result ≡ c.args.world.core.greatest + 1 = c.session.ensures ∙ ap (λ (d : SoloState). d.session) c.in-Ok.ensures.opened in
     let draw : c.new-draw.result ≡ generator_of c.args.seed (c.args.world.core.greatest + 1) =
-    c.new-draw.ensures ∙ ap (λ (n : ℕ). seeded ((c.args.seed + n) % 2 ^ 64)) (sym one)
+    c.new-draw.ensures ∙ ap (λ (n : ℕ). seeded ((c.args.seed + n) % 2 ^ 64)) number
     in
     let from_desk =
     subst (λ (d : SoloState). ServesSession (solo_setting tells moment) (g.I.Source.left c.args.input.now) (g.I.Source.left end.new.input) (g.O.Sink.held c.args.output.now) (g.O.Sink.held end.new.output) (client_state None d c.new-draw.result) end.result end.new.desk end.new.draw)
@@ -40,4 +49,9 @@ returns-clause-serves g c =
           quiet_session tells of_generator (λ generator n. generator_after generator) moment (client_state None (opened_at c.args.world) (generator_of c.args.seed (c.args.world.core.greatest + 1))) served.taken
           served.written end.result end.new.desk end.new.draw served.transcript (sym (ap (λ (w : WorldState). sum (faults_of w.cells)) c.close.ensures) ∙ same) small;
       closed = c.close.ensures;
+      grown =
+          λ small k.
+          subst (λ (w : WorldState). get_or (faults_of c.args.world.cells) k 0 ≤ get_or (faults_of w.cells) k 0) (sym c.close.ensures)
+          (session_grows tells of_generator (λ generator n. generator_after generator) moment (client_state None (opened_at c.args.world) (generator_of c.args.seed (c.args.world.core.greatest + 1))) served.taken
+          served.written end.result end.new.desk end.new.draw served.transcript small k);
     }

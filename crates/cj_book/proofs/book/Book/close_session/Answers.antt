@@ -4,9 +4,9 @@ use Rattle.cj_book.proofs.Following.{follows_closed}
 use Rattle.cj_book.proofs.book.Book.close_session.Goals as goal
 
 pub invariant_of-self : goal.invariant_of-self
-invariant_of-self c =
+invariant_of-self g c =
     let k = c.self.invariant in
-    record { history = k.history; follows = rw c.remove.ensures (follows_closed _ _ _ _ _ _ k.follows c.args.session); marked = k.marked }
+    record { history = k.history; follows = rw c.remove.ensures (follows_closed _ _ _ _ _ _ k.follows c.args.session); marked = k.marked; logged = k.logged }
 
 pub returns : goal.returns
-returns c = rw (← c.self.view_is, c.remove.ensures, numbers_without session_number c.self.inside.sessions c.args.session)
+returns g c = rw (← c.self.view_is, c.remove.ensures, numbers_without session_number c.self.inside.sessions c.args.session)

@@ -5,6 +5,6 @@ use Rattle.cj_book.proofs.Numbered.{found_among}
 use Rattle.cj_book.proofs.book.Book.is_session_open.Goals as goal
 
 pub returns : goal.returns
-returns c =
-    subst (λ (b : BookState). c.is_some.result ≡ has_session b c.args.session) c.self.view_is
+returns g c =
+    subst (λ (b : BookState g.row.S.Denot). c.is_some.result ≡ has_session b c.args.session) c.self.view_is
     (c.is_some.ensures ∙ (ap is_some c.find.ensures ∙ sym (found_among session_number c.self.inside.sessions c.args.session)))

@@ -6,7 +6,7 @@ use Rattle.cj_model.proofs.MaskBits.{has_without}
 use Rattle.cj_book.proofs.book.Book.left.Goals as goal
 
 pub returns : goal.returns
-returns c =
+returns g c =
     λ b.
     let left = has_without c.self.inside.enabled c.args.failed c.args.starved b (search rules) (search rules) (search rules) in
     rw (← c.self.view_is)

@@ -9,6 +9,6 @@ use Rattle.cj_book.proofs.Serving.{servers_of}
 use Rattle.cj_book.proofs.book.Book.servers.Goals as goal
 
 pub returns-in-Some : goal.returns-in-Some
-returns-in-Some c = λ b.
-    subst (λ (s : BookState). in_mask (bit_and c.self.inside.enabled c.hosts.result) b ≡ (is_enabled s.history b && hosts_all (placement_at s) b (needs (request_of c.args.act.now)))) c.self.view_is
+returns-in-Some g c = λ b.
+    subst (λ (s : BookState g.row.S.Denot). in_mask (bit_and c.self.inside.enabled c.hosts.result) b ≡ (is_enabled s.history b && hosts_all (placement_at s) b (needs (request_of c.args.act.now)))) c.self.view_is
     (servers_of (placement_of c.self.inside.placement) c.self.inside.history.items c.args.act.now c.in-Some.table.now c.self.inside.enabled c.hosts.result b (sym c.in-Some.ensures) (c.self.invariant.history.mask b) (c.hosts.ensures b))

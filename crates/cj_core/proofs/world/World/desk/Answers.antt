@@ -11,4 +11,4 @@ invariant_of-result g c =
     let made = c.add_session-session.ensures in
     let idle : is_idle old.history ≡ true = subst (λ (w : WorldState). is_idle w.core.history ≡ true) (sym c.self.view_is) c.requires in
     subst (λ s. StandsBetweenCalls c.add_session-session.new.self.core s) (sym made.number)
-    (subst (λ (w : WorldState). StandsBetweenCalls w.core (old.greatest + 1)) (sym made.opened) (stands_opened old c.empty_text.result c.legal.ensures.sound idle))
+    (subst (λ (w : WorldState). StandsBetweenCalls w.core (old.greatest + 1)) (sym made.opened) (stands_opened old c.empty_text.result c.legal.ensures.world.sound idle))

@@ -10,7 +10,7 @@ use Rattle.cj_book.specs.Books.{BookState}
 use Rattle.cj_replica.specs.declared.cell.CellReadError.{CellReadError}
 use Rattle.cj_replica.specs.declared.cell.CellReadError.TheVariants as read_errors
 use Rattle.cj_replica.specs.Cells.{CellState, is_asked, LogsInForRead}
-use Rattle.cj_state.specs.Worlds.{WorldState, accounts_of, core_of, world_of}
+use Rattle.cj_state.specs.Worlds.{WorldState, accounts_of, core_of, log_view, with_log, world_of}
 use Rattle.cj_cluster.specs.Moves.Cores.{Core}
 use Rattle.cj_state.specs.ArmedCells.{armings_of}
 use Rattle.cj_state.specs.Faults.{faults_of, faults_after}
@@ -30,7 +30,7 @@ invariant_of-self-in-Ok g c =
     let w = c.self.inside in
     let lt = within (length w.book.layout.names) c.args.b w.cells.items c.self.invariant.world.sound.cells (subst (λ (x : WorldState). c.args.b < x.core.placement.backends) (sym c.self.view_is) c.requires.within) in
     let kept = kept_asked g.B.Backend.TELLS w.accounts w.book.layout w.book.history w.cells.items w.failed w.starved w.sessions w.book.greatest w.book.sessions w.first_outcome c.self.invariant c.args.b lt c.index_mut.result.now c.index_mut.ensures.value c.read.new.self c.read.ensures.same in
-    let asked = subst (λ (k : BookState). Kept g.B.Backend.TELLS (world_of w.accounts k.layout k.history (set w.cells.items c.args.b c.read.new.self) w.failed w.starved w.sessions k.greatest) k.sessions w.first_outcome) (sym c.in_ok-take_spare.ensures.ok) kept in
+    let asked = subst (λ (k : BookState g.row.S.Denot). Kept g.B.Backend.TELLS (world_of w.accounts k.layout k.history (set w.cells.items c.args.b c.read.new.self) w.failed w.starved w.sessions k.greatest) k.sessions w.first_outcome) (sym c.in_ok-take_spare.ensures.ok) kept in
     asked
 
 pub returns-in-Ok-clause-core : goal.returns-in-Ok-clause-core
@@ -39,7 +39,7 @@ returns-in-Ok-clause-core g c =
     let lt = within (length w.book.layout.names) c.args.b w.cells.items c.self.invariant.world.sound.cells (subst (λ (x : WorldState). c.args.b < x.core.placement.backends) (sym c.self.view_is) c.requires.within) in
     let same = same_core g.B.Backend.TELLS w.accounts w.book.layout w.book.history w.cells.items w.failed w.starved w.sessions w.book.greatest w.book.sessions w.first_outcome c.self.invariant c.args.b lt c.index_mut.result.now c.index_mut.ensures.value c.read.new.self c.read.ensures.same in
     let core : core_of c.take_spare.new.self.layout c.take_spare.new.self.history (set w.cells.items c.args.b c.read.new.self) w.failed w.starved w.sessions c.take_spare.new.self.greatest ≡ c.args.self.now.core =
-    ap (λ (k : BookState). core_of k.layout k.history (set w.cells.items c.args.b c.read.new.self) w.failed w.starved w.sessions k.greatest) c.in_ok-take_spare.ensures.ok ∙ (same ∙ ap (λ (x : WorldState). x.core) c.self.view_is)
+    ap (λ (k : BookState g.row.S.Denot). core_of k.layout k.history (set w.cells.items c.args.b c.read.new.self) w.failed w.starved w.sessions k.greatest) c.in_ok-take_spare.ensures.ok ∙ (same ∙ ap (λ (x : WorldState). x.core) c.self.view_is)
     in
     core
 
@@ -65,8 +65,8 @@ invariant_of-self-in-Err g c =
     let w = c.self.inside in
     let lt = within (length w.book.layout.names) c.args.b w.cells.items c.self.invariant.world.sound.cells (subst (λ (x : WorldState). c.args.b < x.core.placement.backends) (sym c.self.view_is) c.requires.within) in
     let kept = kept_asked g.B.Backend.TELLS w.accounts w.book.layout w.book.history w.cells.items w.failed w.starved w.sessions w.book.greatest w.book.sessions w.first_outcome c.self.invariant c.args.b lt c.index_mut.result.now c.index_mut.ensures.value c.read.new.self c.read.ensures.same in
-    let asked = subst (λ (k : BookState). Kept g.B.Backend.TELLS (world_of w.accounts k.layout k.history (set w.cells.items c.args.b c.read.new.self) w.failed w.starved w.sessions k.greatest) k.sessions w.first_outcome) (sym c.in_ok-take_spare.ensures.ok) kept in
-    noting (λ (k : BookState). Kept g.B.Backend.TELLS (world_of w.accounts k.layout k.history (set w.cells.items c.args.b c.read.new.self) w.failed w.starved w.sessions k.greatest) k.sessions w.first_outcome)
+    let asked = subst (λ (k : BookState g.row.S.Denot). Kept g.B.Backend.TELLS (world_of w.accounts k.layout k.history (set w.cells.items c.args.b c.read.new.self) w.failed w.starved w.sessions k.greatest) k.sessions w.first_outcome) (sym c.in_ok-take_spare.ensures.ok) kept in
+    noting (λ (k : BookState g.row.S.Denot). Kept g.B.Backend.TELLS (world_of w.accounts k.layout k.history (set w.cells.items c.args.b c.read.new.self) w.failed w.starved w.sessions k.greatest) k.sessions w.first_outcome)
     c.take_spare.new.self c.noted.new.book c.args.s c.read_number-number.result c.args.b c.in-Err.error c.noted.result c.noted.ensures asked
     (λ space. kept_read_failed g.B.Backend.TELLS w.accounts c.take_spare.new.self.layout c.take_spare.new.self.history (set w.cells.items c.args.b c.read.new.self) w.failed w.starved w.sessions c.take_spare.new.self.greatest c.take_spare.new.self.sessions w.first_outcome asked c.args.s c.read_number-number.result c.args.b space)
 
@@ -76,7 +76,7 @@ returns-in-Err-clause-core g c =
     let lt = within (length w.book.layout.names) c.args.b w.cells.items c.self.invariant.world.sound.cells (subst (λ (x : WorldState). c.args.b < x.core.placement.backends) (sym c.self.view_is) c.requires.within) in
     let same = same_core g.B.Backend.TELLS w.accounts w.book.layout w.book.history w.cells.items w.failed w.starved w.sessions w.book.greatest w.book.sessions w.first_outcome c.self.invariant c.args.b lt c.index_mut.result.now c.index_mut.ensures.value c.read.new.self c.read.ensures.same in
     let core : core_of c.take_spare.new.self.layout c.take_spare.new.self.history (set w.cells.items c.args.b c.read.new.self) w.failed w.starved w.sessions c.take_spare.new.self.greatest ≡ c.args.self.now.core =
-    ap (λ (k : BookState). core_of k.layout k.history (set w.cells.items c.args.b c.read.new.self) w.failed w.starved w.sessions k.greatest) c.in_ok-take_spare.ensures.ok ∙ (same ∙ ap (λ (x : WorldState). x.core) c.self.view_is)
+    ap (λ (k : BookState g.row.S.Denot). core_of k.layout k.history (set w.cells.items c.args.b c.read.new.self) w.failed w.starved w.sessions k.greatest) c.in_ok-take_spare.ensures.ok ∙ (same ∙ ap (λ (x : WorldState). x.core) c.self.view_is)
     in
     let number = c.read_number-number.ensures ∙ ap (λ (k : Core). read_number (session_at k c.args.s)) (sym core) in
     noted_core (set w.cells.items c.args.b c.read.new.self) w.failed w.starved w.sessions c.take_spare.new.self c.noted.new.book c.args.s c.read_number-number.result c.args.b c.in-Err.error c.noted.result number c.noted.ensures
@@ -89,7 +89,7 @@ returns-in-Err-clause-asks g c =
     let least = subst (λ (x : WorldState). c.least-least.result ≡ (session_at x.core c.args.s).least) (sym c.self.view_is) c.least-least.ensures in
     subst (λ (x : WorldState). Asks g.B.Backend.TELLS x.core c.args.s c.args.b c.args.tx c.args.select.now (Err c.noted.result)) c.self.view_is
     (errs g.B.Backend.TELLS w.accounts w.book.layout w.book.history w.cells.items w.failed w.starved w.sessions w.book.greatest w.book.sessions w.first_outcome c.self.invariant c.args.b lt c.index_mut.result.now c.index_mut.ensures.value c.args.s c.args.tx c.args.select.now c.least-least.result least c.take_spare.new.self c.noted.new.book c.read_number-number.result c.in-Err.error c.noted.result
-    (ap (λ (k : BookState). k.history) c.in_ok-take_spare.ensures.ok) c.noted.ensures c.in-Err.ensures.out c.in-Err.ensures.behind)
+    (ap (λ (k : BookState g.row.S.Denot). k.history) c.in_ok-take_spare.ensures.ok) c.noted.ensures c.in-Err.ensures.out c.in-Err.ensures.behind)
 
 pub returns-in-Err-clause-counts : goal.returns-in-Err-clause-counts
 returns-in-Err-clause-counts g c =
@@ -128,8 +128,8 @@ returns-in-Err-clause-want g c want =
     let there : c.index_mut.result.now ≡ get_or w.cells.items c.args.b c.index_mut.result.now = c.index_mut.ensures.value in
     let cells : set w.cells.items c.args.b c.read.new.self ≡ w.cells.items = ap (set w.cells.items c.args.b) (cell ∙ there) ∙ set-get_or w.cells.items c.args.b c.index_mut.result.now in
     let book : c.noted.new.book ≡ record w.book { has_spare = true } = starved.1 ∙ c.in_ok-take_spare.ensures.ok in
-    ap (λ (k : BookState). world_of w.accounts k.layout k.history (set w.cells.items c.args.b c.read.new.self) w.failed w.starved w.sessions k.greatest) book
-    ∙ (ap (λ (xs : List CellState). world_of w.accounts w.book.layout w.book.history xs w.failed w.starved w.sessions w.book.greatest) cells ∙ c.self.view_is)
+    ap (λ (k : BookState g.row.S.Denot). with_log (world_of w.accounts k.layout k.history (set w.cells.items c.args.b c.read.new.self) w.failed w.starved w.sessions k.greatest) (log_view g.S.Store.faults g.S.Store.held k.recovery_log)) book
+    ∙ (ap (λ (xs : List CellState). with_log (world_of w.accounts w.book.layout w.book.history xs w.failed w.starved w.sessions w.book.greatest) (log_view g.S.Store.faults g.S.Store.held w.book.recovery_log)) cells ∙ c.self.view_is)
 
 pub mapped-login-requires : goal.mapped-login-requires
 mapped-login-requires g c =

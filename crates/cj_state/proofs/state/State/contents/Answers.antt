@@ -2,7 +2,7 @@ use Rattle.std.proofs.Common.{◌≡◌, ◌<◌, ℕ, true, false, cond, Option
 use Rattle.std.proofs.lemmas.List.{length-map, get_or_default, set-get_or}
 use Rattle.cj_outside.specs.Causes.{next}
 use Rattle.cj_replica.specs.Cells.{CellState}
-use Rattle.cj_state.specs.Worlds.{WorldState, world_of}
+use Rattle.cj_state.specs.Worlds.{WorldState, log_view, with_log, world_of}
 use Rattle.cj_state.specs.Faults.{faults_of, faults_after}
 use Rattle.cj_state.specs.CalledLogins.{logins_of}
 use Rattle.cj_state.specs.ArmedCells.{armings_of}
@@ -79,4 +79,4 @@ returns-clause-same g c none =
     let y : CellState = c.contents.new.self in
     let cell : y ≡ x = contents_same c.args.b c.contents.result x y none c.contents.ensures.cause c.contents.ensures.arming c.contents.ensures.same in
     let cells : set w.cells.items c.args.b y ≡ w.cells.items = ap (set w.cells.items c.args.b) (cell ∙ c.index_mut.ensures.value) ∙ set-get_or w.cells.items c.args.b x in
-    ap (λ (xs : List CellState). world_of w.accounts w.book.layout w.book.history xs w.failed w.starved w.sessions w.book.greatest) cells ∙ c.self.view_is
+    ap (λ (xs : List CellState). with_log (world_of w.accounts w.book.layout w.book.history xs w.failed w.starved w.sessions w.book.greatest) (log_view g.S.Store.faults g.S.Store.held w.book.recovery_log)) cells ∙ c.self.view_is

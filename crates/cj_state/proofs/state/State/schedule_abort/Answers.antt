@@ -1,13 +1,17 @@
-use Rattle.std.proofs.Common.{◌≡◌, inr, Ok, Err, true, ap, sym, ◌∙◌, subst}
+use Rattle.std.proofs.Common.{◌≡◌, ◌≤◌, arith, inr, Ok, Err, true, ap, sym, ◌∙◌, subst}
 use Rattle.cj_model.specs.declared.request.Entry.{Entry}
-use Rattle.cj_cluster.specs.History.Histories.{log}
+use Rattle.cj_cluster.specs.declared.event.Event.TheVariants.{LogFailed}
+use Rattle.cj_cluster.specs.History.Histories.{events_left, log}
 use Rattle.cj_cluster.specs.History.Legality.{IsFitEntry}
 use Rattle.cj_cluster.specs.Moves.Moves.{is_orphan, abort_entry}
-use Rattle.cj_state.specs.Worlds.{WorldState}
+use Rattle.cj_book.specs.Books.{BookState}
+use Rattle.cj_state.specs.Worlds.{WorldState, world_of}
 use Rattle.cj_state.specs.Effects.{SchedulesAs}
+use Rattle.cj_state.specs.Proving.Kept.{Kept}
 use Rattle.cj_state.proofs.Keeping.{kept_aborted}
+use Rattle.cj_state.proofs.KeepingEvents.{kept_log_failed}
 use Rattle.cj_state.proofs.OpenNumbers.{orphan_is}
-use Rattle.cj_state.proofs.Noting.{scheduled_as, not_scheduled}
+use Rattle.cj_state.proofs.Noting.{refused, scheduled_as, not_scheduled}
 use Rattle.cj_state.proofs.state.State.schedule_abort.Goals as goal
 
 pub schedule-requires-clause-known : goal.schedule-requires-clause-known
@@ -37,4 +41,19 @@ returns-in-Err-clause-scheduled g c =
     let w = c.self.inside in
     subst (λ (x : WorldState). SchedulesAs x.core c.args.entry (Err c.in-Err.error)) c.self.view_is
     (not_scheduled w.cells.items w.failed w.starved w.sessions w.book.greatest w.book c.args.entry c.schedule.result c.in-Err.error c.in-Err.is
-    c.schedule.ensures.in_progress c.schedule.ensures.no_backend c.schedule.ensures.full)
+    c.schedule.ensures.in_progress c.schedule.ensures.no_backend c.schedule.ensures.full c.schedule.ensures.faulted)
+
+pub invariant_of-self-in-Err : goal.invariant_of-self-in-Err
+invariant_of-self-in-Err g c =
+    let w = c.self.inside in
+    let e = c.args.entry in
+    let session : e.session ≡ 0 = ap (λ (d : Entry). d.session) c.requires.is in
+    refused c.schedule.result c.in-Err.error c.in-Err.is w.book c.schedule.new.self (LogFailed e.session e.seq)
+    (λ (b : BookState g.row.S.Denot). Kept g.B.Backend.TELLS (world_of w.accounts b.layout b.history w.cells.items w.failed w.starved w.sessions b.greatest) b.sessions w.first_outcome)
+    c.schedule.ensures.log_fault c.schedule.ensures.same
+    (λ fault.
+    let can = c.schedule.ensures.faulted fault in
+    let space : 3 ≤ events_left w.book.history = can.space in
+    kept_log_failed g.B.Backend.TELLS w.accounts w.book.layout w.book.history w.cells.items w.failed w.starved w.sessions w.book.greatest w.book.sessions w.first_outcome c.self.invariant e.session e.seq can.is_free (omega arith) (omega arith)
+    (λ some. absurd (omega (arith, some))))
+    c.self.invariant

@@ -1,14 +1,18 @@
-use Rattle.std.proofs.Common.{◌≡◌, ◌+◌, inl, Ok, Err, None, true, ap, sym, ◌∙◌, subst}
-use Rattle.cj_cluster.specs.History.Histories.{log}
+use Rattle.std.proofs.Common.{◌≡◌, ◌+◌, ◌≤◌, ℕ, arith, inl, Ok, Err, None, true, ap, sym, ◌∙◌, subst}
+use Rattle.cj_cluster.specs.declared.event.Event.TheVariants.{LogFailed}
+use Rattle.cj_cluster.specs.History.Histories.{events_left, log}
 use Rattle.cj_cluster.specs.History.Legality.{IsFitEntry}
-use Rattle.cj_cluster.specs.Moves.Cores.{session_at}
+use Rattle.cj_cluster.specs.Moves.Cores.{Core, session_at}
 use Rattle.cj_cluster.specs.Moves.Moves.{is_open}
-use Rattle.cj_book.specs.Books.{has_session}
-use Rattle.cj_state.specs.Worlds.{WorldState}
+use Rattle.cj_book.specs.Books.{BookState, has_session}
+use Rattle.cj_state.specs.Worlds.{WorldState, core_of, world_of}
 use Rattle.cj_state.specs.Effects.{SchedulesAs}
+use Rattle.cj_cluster.proofs.Soundness.{session_sound}
+use Rattle.cj_state.specs.Proving.Kept.{Kept}
 use Rattle.cj_state.proofs.Keeping.{kept_scheduled}
+use Rattle.cj_state.proofs.KeepingEvents.{kept_log_failed}
 use Rattle.cj_state.proofs.OpenNumbers.{open_is}
-use Rattle.cj_state.proofs.Noting.{scheduled_as, not_scheduled}
+use Rattle.cj_state.proofs.Noting.{refused, scheduled_as, not_scheduled}
 use Rattle.cj_state.proofs.state.State.schedule_entry.Goals as goal
 
 pub schedule-requires-clause-known : goal.schedule-requires-clause-known
@@ -40,4 +44,25 @@ returns-in-Err-clause-scheduled g c =
     let w = c.self.inside in
     subst (λ (x : WorldState). SchedulesAs x.core c.args.entry (Err c.in-Err.error)) c.self.view_is
     (not_scheduled w.cells.items w.failed w.starved w.sessions w.book.greatest w.book c.args.entry c.schedule.result c.in-Err.error c.in-Err.is
-    c.schedule.ensures.in_progress c.schedule.ensures.no_backend c.schedule.ensures.full)
+    c.schedule.ensures.in_progress c.schedule.ensures.no_backend c.schedule.ensures.full c.schedule.ensures.faulted)
+
+pub invariant_of-self-in-Err : goal.invariant_of-self-in-Err
+invariant_of-self-in-Err g c =
+    let w = c.self.inside in
+    let e = c.args.entry in
+    let here = subst (λ (x : WorldState). is_open x.core c.args.s ≡ true) (sym c.self.view_is) c.requires.here in
+    let no_read = subst (λ (x : WorldState). (session_at x.core c.args.s).reading ≡ None) (sym c.self.view_is) c.requires.no_read in
+    let core : Core = core_of w.book.layout w.book.history w.cells.items w.failed w.starved w.sessions w.book.greatest in
+    let sound = session_sound core c.args.s c.self.invariant.world.sound here in
+    let high : (session_at core c.args.s).number ≤ w.book.greatest = sound.0.number.1 in
+    let own : (session_at core c.args.s).number ≡ c.args.s = sound.1 in
+    let session : e.session ≡ c.args.s = c.requires.session in
+    refused c.schedule.result c.in-Err.error c.in-Err.is w.book c.schedule.new.self (LogFailed e.session e.seq)
+    (λ (b : BookState g.row.S.Denot). Kept g.B.Backend.TELLS (world_of w.accounts b.layout b.history w.cells.items w.failed w.starved w.sessions b.greatest) b.sessions w.first_outcome)
+    c.schedule.ensures.log_fault c.schedule.ensures.same
+    (λ fault.
+    let can = c.schedule.ensures.faulted fault in
+    let space : 3 ≤ events_left w.book.history = can.space in
+    kept_log_failed g.B.Backend.TELLS w.accounts w.book.layout w.book.history w.cells.items w.failed w.starved w.sessions w.book.greatest w.book.sessions w.first_outcome c.self.invariant e.session e.seq can.is_free (omega arith) (omega arith)
+    (λ some. subst (λ (k : ℕ). (session_at core k).reading ≡ None) (sym session) no_read))
+    c.self.invariant

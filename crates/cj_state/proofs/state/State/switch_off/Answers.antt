@@ -14,7 +14,7 @@ invariant_of-self g c =
     let w = c.self.inside in
     let fr = subst (λ (x : WorldState). is_idle x.core.history ≡ true) (sym c.self.view_is) c.requires.free in
     let on = subst (λ (x : WorldState). is_enabled x.core.history c.args.b ≡ true) (sym c.self.view_is) c.requires.on in
-    noted c.disable.result w.book c.disable.new.self (Disabled c.args.b) (λ (b : BookState). Kept g.B.Backend.TELLS (world_of w.accounts b.layout b.history w.cells.items w.failed w.starved w.sessions b.greatest) b.sessions w.first_outcome) c.disable.ensures.ok c.disable.ensures.err c.disable.ensures.space
+    noted c.disable.result w.book c.disable.new.self (Disabled c.args.b) (λ (b : BookState g.row.S.Denot). Kept g.B.Backend.TELLS (world_of w.accounts b.layout b.history w.cells.items w.failed w.starved w.sessions b.greatest) b.sessions w.first_outcome) c.disable.ensures.ok c.disable.ensures.err c.disable.ensures.space
     (λ space. kept_disabled g.B.Backend.TELLS w.accounts w.book.layout w.book.history w.cells.items w.failed w.starved w.sessions w.book.greatest w.book.sessions w.first_outcome c.self.invariant c.args.b fr on space) c.self.invariant
 
 pub returns-clause-room : goal.returns-clause-room

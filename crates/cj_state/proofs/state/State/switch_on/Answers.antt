@@ -18,7 +18,7 @@ invariant_of-self g c =
     let fr = subst (λ (x : WorldState). is_idle x.core.history ≡ true) (sym c.self.view_is) c.requires.free in
     let off = subst (λ (x : WorldState). is_enabled x.core.history c.args.b ≡ false) (sym c.self.view_is) c.requires.off in
     let there = subst (λ (x : WorldState). position_at x.core c.args.b ≡ Some (length (log x.core.history))) (sym c.self.view_is) c.requires.there in
-    noted c.enable.result w.book c.enable.new.self (Enabled c.args.b) (λ (b : BookState). Kept g.B.Backend.TELLS (world_of w.accounts b.layout b.history w.cells.items w.failed w.starved w.sessions b.greatest) b.sessions w.first_outcome) c.enable.ensures.ok c.enable.ensures.err c.enable.ensures.space
+    noted c.enable.result w.book c.enable.new.self (Enabled c.args.b) (λ (b : BookState g.row.S.Denot). Kept g.B.Backend.TELLS (world_of w.accounts b.layout b.history w.cells.items w.failed w.starved w.sessions b.greatest) b.sessions w.first_outcome) c.enable.ensures.ok c.enable.ensures.err c.enable.ensures.space
     (λ space. kept_enabled g.B.Backend.TELLS w.accounts w.book.layout w.book.history w.cells.items w.failed w.starved w.sessions w.book.greatest w.book.sessions w.first_outcome c.self.invariant c.args.b fr off there space) c.self.invariant
 
 pub returns-clause-room : goal.returns-clause-room

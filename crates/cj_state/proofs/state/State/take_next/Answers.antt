@@ -1,10 +1,11 @@
-use Rattle.std.proofs.Common.{◌≡◌, ℕ, ◌<◌, ◌+◌, None, Ok, ap, sym, subst}
+use Rattle.std.proofs.Common.{◌≡◌, ℕ, ◌<◌, ◌+◌, None, Ok, refl, ap, sym, subst}
 use Rattle.cj_cluster.specs.declared.moves.Move.TheVariants.{Replay}
 use Rattle.cj_cluster.specs.declared.moves.Moved.TheVariants.{Replayed}
 use Rattle.cj_cluster.specs.Moves.Moves.{position_or_zero, not_now, Replays}
 use Rattle.cj_cluster.specs.Moves.Cores.{position_at}
 use Rattle.cj_cluster.proofs.Now.{CanReplay, can_replay}
-use Rattle.cj_state.specs.Worlds.{WorldState, core_of}
+use Rattle.cj_state.specs.Worlds.{WorldState, core_of, world_of}
+use Rattle.cj_state.specs.CalledLogins.{LogsInToTake, login_to_take, logins_of}
 use Rattle.cj_state.proofs.Catching.{can_take}
 use Rattle.cj_state.proofs.Taking.{kept_replayed, replays, took_counts, took_armings, took_logins}
 use Rattle.cj_state.proofs.state.State.take_next.Goals as goal
@@ -44,4 +45,5 @@ returns-clause-armings g c =
 pub returns-clause-logins : goal.returns-clause-logins
 returns-clause-logins g c =
     let w = c.self.inside in
-    took_logins g.B.Backend.TELLS w.accounts w.book.layout w.book.history w.cells.items w.failed w.starved w.sessions w.book.greatest w.book.sessions w.first_outcome c.self.invariant c.args.b c.take.result c.take.new.cells.items c.take.ensures c.args.self.now c.self.view_is
+    subst (λ (x : WorldState). LogsInToTake c.args.b (login_to_take x c.args.b) c.take.result (logins_of x.cells) (logins_of c.take.new.cells.items)) c.self.view_is
+    (took_logins g.B.Backend.TELLS w.accounts w.book.layout w.book.history w.cells.items w.failed w.starved w.sessions w.book.greatest w.book.sessions w.first_outcome c.self.invariant c.args.b c.take.result c.take.new.cells.items c.take.ensures (world_of w.accounts w.book.layout w.book.history w.cells.items w.failed w.starved w.sessions w.book.greatest) refl)

@@ -1,10 +1,11 @@
-use Rattle.std.proofs.Common.{◌≡◌, ℕ, ◌<◌, None, Ok, ap, sym, subst}
+use Rattle.std.proofs.Common.{◌≡◌, ℕ, ◌<◌, None, Ok, refl, ap, sym, subst}
 use Rattle.cj_cluster.specs.declared.moves.Move.TheVariants.{Apply}
 use Rattle.cj_cluster.specs.declared.moves.Moved.TheVariants.{Applied}
 use Rattle.cj_cluster.specs.Moves.Moves.{position_or_zero, not_now, Applies}
 use Rattle.cj_cluster.specs.Moves.Cores.{position_at}
 use Rattle.cj_cluster.proofs.Now.{CanApply, can_apply}
-use Rattle.cj_state.specs.Worlds.{WorldState, core_of}
+use Rattle.cj_state.specs.Worlds.{WorldState, core_of, world_of}
+use Rattle.cj_state.specs.CalledLogins.{LogsInToTake, login_to_take, logins_of}
 use Rattle.cj_state.proofs.Catching.{can_take}
 use Rattle.cj_state.proofs.Taking.{kept_applied, applies, took_counts, took_armings, took_logins}
 use Rattle.cj_state.proofs.state.State.take_open.Goals as goal
@@ -45,4 +46,5 @@ returns-clause-armings g c =
 pub returns-clause-logins : goal.returns-clause-logins
 returns-clause-logins g c =
     let w = c.self.inside in
-    took_logins g.B.Backend.TELLS w.accounts w.book.layout w.book.history w.cells.items w.failed w.starved w.sessions w.book.greatest w.book.sessions w.first_outcome c.self.invariant c.args.b c.take-did.result c.take-did.new.cells.items c.take-did.ensures c.args.self.now c.self.view_is
+    subst (λ (x : WorldState). LogsInToTake c.args.b (login_to_take x c.args.b) c.take-did.result (logins_of x.cells) (logins_of c.take-did.new.cells.items)) c.self.view_is
+    (took_logins g.B.Backend.TELLS w.accounts w.book.layout w.book.history w.cells.items w.failed w.starved w.sessions w.book.greatest w.book.sessions w.first_outcome c.self.invariant c.args.b c.take-did.result c.take-did.new.cells.items c.take-did.ensures (world_of w.accounts w.book.layout w.book.history w.cells.items w.failed w.starved w.sessions w.book.greatest) refl)

@@ -1,0 +1,304 @@
+-- Backends replay the log in a start: where each stands, and what it has counted.
+use Rattle.std.proofs.Common.{◌≡◌, ◌≢◌, ◌⊎◌, inl, inr, ℕ, ◌+◌, ◌-◌, ◌<◌, ◌≤◌, Bool, true, false, cond, List, length, set, get_or, slice_get, Option, None, Some, Result, Ok, Err, OnOk, unwrap_or, refl, ap, sym, ◌∙◌, subst, arith, ⊎_elim}
+use Rattle.std.specs.Option.{option_map}
+use Rattle.std.proofs.lemmas.Bool.{cases_eq, cases_lt, ne_eqb}
+use Rattle.std.proofs.lemmas.List.{length-map, length-set, get_or-set_other, get_or-set_same}
+use Rattle.std.proofs.lemmas.Option.{slice_get-get_or, slice_get_past}
+use Rattle.cj_model.specs.Cluster.Placements.{Placement}
+use Rattle.cj_outside.specs.Causes.{next}
+use Rattle.cj_cluster.specs.declared.event.Event.{Event}
+use Rattle.cj_model.specs.declared.request.Entry.{Entry}
+use Rattle.cj_cluster.specs.declared.moves.Did.{Did}
+use Rattle.cj_cluster.specs.declared.moves.Did.TheVariants as did
+use Rattle.cj_cluster.specs.declared.moves.Move.TheVariants.{Replay}
+use Rattle.cj_cluster.specs.declared.moves.Moved.TheVariants.{Replayed}
+use Rattle.cj_cluster.specs.History.Histories.{log, is_enabled}
+use Rattle.cj_cluster.specs.Moves.Cores.{Core, position_at}
+use Rattle.cj_cluster.specs.Moves.Moves.{DoesWithEntry, Replays, Stance, TakesEntry, last_number, not_now, position_or_zero}
+use Rattle.cj_cluster.proofs.Now.{CanReplay, can_replay}
+use Rattle.cj_book.specs.declared.error.StartError.{StartError}
+use Rattle.cj_replica.specs.Cells.{CellState}
+use Rattle.cj_state.specs.Faults.{did_fail, faults_of, faults_after}
+use Rattle.cj_state.specs.Worlds.{IsWorld, WorldState}
+use Rattle.cj_core.specs.Proving.StartParts.{HasFailedOut, HasReplayed, HasTaken, IsSameAt, OnlyReplays, TookNext}
+use Rattle.cj_core.proofs.SoloTaking.{cells_count}
+
+pub same_some : (m n : ℕ) → Some m ≡ Some n → m ≡ n
+same_some m n is = ap (λ (o : Option ℕ). unwrap_or o 0) is
+
+-- ---- counts
+
+-- what is counted at one place is not seen at another
+set_other : (counts : List ℕ) (b k x : ℕ) → k ≢ b → slice_get (set counts b x) k ≡ slice_get counts k
+set_other counts b k x ne =
+    let long : length (set counts b x) ≡ length counts = length-set counts b x in
+    ⊎_elim
+    (λ (lt : k < length counts).
+    let there : k < length (set counts b x) = omega arith in
+    slice_get-get_or (set counts b x) k 0 there ∙ (ap (λ (n : ℕ). Some n) (get_or-set_other counts b k x 0 ne) ∙ sym (slice_get-get_or counts k 0 lt)))
+    (λ (ge : length counts ≤ k). let past : length (set counts b x) ≤ k = omega arith in slice_get_past (set counts b x) k past ∙ sym (slice_get_past counts k ge))
+    (cases_lt k (length counts))
+
+-- so others have counted no more, whether the backend failed or not
+counted_other : (was now : List ℕ) (b k : ℕ) (failed : Bool) → k ≢ b → now ≡ faults_after was (cond failed (Some b) None) → slice_get now k ≡ slice_get was k
+counted_other was now b k true ne is = ap (λ (counts : List ℕ). slice_get counts k) is ∙ set_other was b k (next (get_or was b 0)) ne
+counted_other was now b k false ne is = ap (λ (counts : List ℕ). slice_get counts k) is
+
+-- and the one that failed has counted one more
+counted_here : (was now : List ℕ) (b : ℕ) → b < length was → now ≡ faults_after was (Some b) → slice_get now b ≡ option_map next (slice_get was b)
+counted_here was now b lt is =
+    let one : ℕ = next (get_or was b 0) in
+    let long : length (set was b one) ≡ length was = length-set was b one in
+    let there : b < length (set was b one) = omega arith in
+    ap (λ (counts : List ℕ). slice_get counts b) is
+    ∙ (slice_get-get_or (set was b one) b 0 there ∙ (ap (λ (n : ℕ). Some n) (get_or-set_same was b one 0 lt) ∙ sym (ap (option_map next) (slice_get-get_or was b 0 lt))))
+
+-- ---- one backend takes an entry
+
+-- it took it, or failed in it
+abbrev Moved : Did → ℕ → Option ℕ → Type 0
+Moved d p position = ((did_fail d ≡ false) × (position ≡ Some (p + 1))) ⊎ ((did_fail d ≡ true) × (position ≡ None))
+
+moved : (tells : Bool) (c : Core) (b p : ℕ) (e : Entry) (d : Did) (now : Stance) → d ≢ did.Starved → DoesWithEntry tells c b p e d now → Moved d p now.position
+moved tells c b p e (did.Done o) now went does = inl (refl, ap (λ (s : Stance). s.position) does.3)
+moved tells c b p e did.Skipped now went does = inl (refl, ap (λ (s : Stance). s.position) does.1)
+moved tells c b p e did.Failed now went does = inr (refl, ap (λ (s : Stance). s.position) does.1)
+moved tells c b p e did.Starved now went does = absurd (went refl)
+
+module _ (tells : Bool) (old new : WorldState) (b : ℕ) (d : Did) (now : Stance) (takes : TakesEntry tells old.core b d now) (positions : new.core.positions ≡ set old.core.positions b now.position)
+    (counts : faults_of new.cells ≡ faults_after (faults_of old.cells) (cond (did_fail d) (Some b) None)) where
+  -- the others stand as before
+  pub others_same : (k : ℕ) → k ≢ b → IsSameAt old new k
+  others_same k ne =
+      record {
+        position = ap (λ (ps : List (Option ℕ)). get_or ps k None) positions ∙ get_or-set_other old.core.positions b k now.position None ne;
+        faults = counted_other (faults_of old.cells) (faults_of new.cells) b k (did_fail d) ne counts;
+      }
+
+  module _ (world : IsWorld tells old) (within : b < old.core.placement.backends) (went : d ≢ did.Starved) where
+    stands : position_at new.core b ≡ now.position
+    stands =
+        let cells : length old.core.positions ≡ old.core.placement.backends = world.sound.cells in
+        let there : b < length old.core.positions = omega arith in
+        ap (λ (ps : List (Option ℕ)). get_or ps b None) positions ∙ get_or-set_same old.core.positions b now.position None there
+
+    counted : did_fail d ≡ true → slice_get (faults_of new.cells) b ≡ option_map next (slice_get (faults_of old.cells) b)
+    counted failed =
+        let long : length (faults_of old.cells) ≡ length old.cells = length-map old.cells (λ (x : CellState). x.faults) in
+        let cells : length old.cells ≡ old.core.placement.backends = cells_count tells old world in
+        let there : b < length (faults_of old.cells) = omega arith in
+        counted_here (faults_of old.cells) (faults_of new.cells) b there (counts ∙ ap (λ (f : Bool). faults_after (faults_of old.cells) (cond f (Some b) None)) failed)
+
+    -- and it has taken the entry at its position, or failed in it
+    pub took_here : ((did_fail d ≡ false) × HasTaken (faults_of old.cells) new b (takes.p + 1)) ⊎ ((did_fail d ≡ true) × HasFailedOut (faults_of old.cells) new b)
+    took_here =
+        ⊎_elim
+        (λ (went_on : (did_fail d ≡ false) × (now.position ≡ Some (takes.p + 1))).
+        inl (
+          went_on.0,
+          record {
+            position = stands ∙ went_on.1;
+            counted = ap (λ (counts : List ℕ). slice_get counts b) (counts ∙ ap (λ (f : Bool). faults_after (faults_of old.cells) (cond f (Some b) None)) went_on.0);
+          },
+        ))
+        (λ (failed : (did_fail d ≡ true) × (now.position ≡ None)). inr (failed.0, record { position = stands ∙ failed.1; counted = counted failed.0 }))
+        (moved tells old.core b takes.p takes.entry d now went takes.does)
+
+-- a replay that was not starved took the next entry
+pub took_next : (tells : Bool) (old new : WorldState) (b : ℕ) (d : Did) (result : Result Unit StartError) → Replays tells old.core b (Ok (Replayed (position_or_zero (position_at old.core b) + 1) d)) new.core
+    → faults_of new.cells ≡ faults_after (faults_of old.cells) (cond (did_fail d) (Some b) None) → IsWorld tells old → b < old.core.placement.backends → OnOk result (d ≢ did.Starved) → OnOk result (TookNext old new b)
+took_next tells old new b d (Err e) replays counts world within went = tt
+took_next tells old new b d (Ok x) replays counts world within went =
+    let now : Stance = replays.1.0 in
+    let takes : TakesEntry tells old.core b d now = replays.1.1 in
+    let positions : new.core.positions ≡ set old.core.positions b now.position = ap (λ (c : Core). c.positions) replays.1.2 in
+    record {
+      others = others_same tells old new b d now takes positions counts;
+      p = takes.p;
+      stood = takes.stands;
+      here =
+          ⊎_elim (λ (taken : (did_fail d ≡ false) × HasTaken (faults_of old.cells) new b (takes.p + 1)). inl taken.1) (λ (out : (did_fail d ≡ true) × HasFailedOut (faults_of old.cells) new b). inr out.1)
+          (took_here tells old new b d now takes positions counts world within went);
+    }
+
+-- ---- what stays
+
+pub same_then : (old mid new : WorldState) (k : ℕ) → IsSameAt old mid k → IsSameAt mid new k → IsSameAt old new k
+same_then old mid new k x y = record { position = y.position ∙ x.position; faults = y.faults ∙ x.faults }
+
+pub taken_still : (faults : List ℕ) (old new : WorldState) (b p : ℕ) → IsSameAt old new b → HasTaken faults old b p → HasTaken faults new b p
+taken_still faults old new b p same taken = record { position = same.position ∙ taken.position; counted = same.faults ∙ taken.counted }
+
+pub out_still : (faults : List ℕ) (old new : WorldState) (b : ℕ) → IsSameAt old new b → HasFailedOut faults old b → HasFailedOut faults new b
+out_still faults old new b same out = record { position = same.position ∙ out.position; counted = same.faults ∙ out.counted }
+
+-- counted from faults that are the same at the backend
+pub taken_from : (was faults : List ℕ) (w : WorldState) (b p : ℕ) → slice_get was b ≡ slice_get faults b → HasTaken was w b p → HasTaken faults w b p
+taken_from was faults w b p same taken = record { position = taken.position; counted = taken.counted ∙ same }
+
+pub out_from : (was faults : List ℕ) (w : WorldState) (b : ℕ) → slice_get was b ≡ slice_get faults b → HasFailedOut was w b → HasFailedOut faults w b
+out_from was faults w b same out = record { position = out.position; counted = out.counted ∙ ap (option_map next) same }
+
+only_then : (old mid new : WorldState) → OnlyReplays old mid → OnlyReplays mid new → OnlyReplays old new
+only_then old mid new x y =
+    record {
+      core = y.core ∙ ap (λ (k : Core). record k { positions = new.core.positions; begun = new.core.begun }) x.core;
+      setup = y.setup ∙ x.setup;
+      recovery_log = y.recovery_log ∙ x.recovery_log;
+    }
+
+pub only_history : (old now : WorldState) → OnlyReplays old now → now.core.history ≡ old.core.history
+only_history old now only = ap (λ (c : Core). c.history) only.core
+
+pub last_same : (old now : WorldState) → OnlyReplays old now → last_number now.core ≡ last_number old.core
+last_same old now only = ap (λ (h : List Event). length (log h)) (only_history old now only)
+
+pub only_placement : (old now : WorldState) → OnlyReplays old now → now.core.placement ≡ old.core.placement
+only_placement old now only = ap (λ (c : Core). c.placement) only.core
+
+-- ---- one backend replays the whole log
+
+-- it stands within the log, or failed
+abbrev pub IsOnItsWay : List ℕ → WorldState → ℕ → Type 0
+IsOnItsWay faults w b = ((p : ℕ) × HasTaken faults w b p × (p ≤ last_number w.core)) ⊎ HasFailedOut faults w b
+
+-- backend b alone has replayed some entries
+pub record ReplaysOn (old now : WorldState) (b : ℕ) : Type 0 where
+  pub only : OnlyReplays old now
+  pub others : (k : ℕ) → k ≢ b → IsSameAt old now k
+  pub stands : IsOnItsWay (faults_of old.cells) now b
+  pub uncalled : last_number old.core ≡ 0 → now ≡ old
+
+pub replays_none : (w : WorldState) (b : ℕ) → position_at w.core b ≡ Some 0 → ReplaysOn w w b
+replays_none w b first =
+    record {
+      only = record { core = refl; setup = refl; recovery_log = refl };
+      others = λ k ne. record { position = refl; faults = refl };
+      stands = inl (0, record { position = first; counted = refl }, omega arith);
+      uncalled = λ _. refl;
+    }
+
+-- how many entries it has left
+abbrev pub left_of : ℕ → Option ℕ → ℕ
+left_of last None = 0
+left_of last (Some p) = last - p
+
+module _ (old now new : WorldState) (b : ℕ) (before : ReplaysOn old now b) (due : not_now now.core (Replay b) ≡ None) (only : OnlyReplays now new) (took : TookNext now new b) where
+  can : CanReplay now.core b
+  can = can_replay now.core b due
+
+  stood : took.p ≢ last_number now.core
+  stood e = can.more (ap position_or_zero took.stood ∙ e)
+
+  was : (p : ℕ) → HasTaken (faults_of old.cells) now b p → took.p ≡ p
+  was p taken = same_some took.p p (sym took.stood ∙ taken.position)
+
+  below : took.p < last_number now.core
+  below =
+      ⊎_elim
+      (λ (within : (p : ℕ) × HasTaken (faults_of old.cells) now b p × (p ≤ last_number now.core)).
+      let ne : took.p ≢ last_number now.core = stood in
+      let same : took.p ≡ within.0 = was within.0 within.1 in
+      let most : within.0 ≤ last_number now.core = within.2 in
+      omega (arith, ne))
+      (λ (out : HasFailedOut (faults_of old.cells) now b). absurd (cc (sym took.stood ∙ out.position)))
+      before.stands
+
+  counts_same : slice_get (faults_of now.cells) b ≡ slice_get (faults_of old.cells) b
+  counts_same =
+      ⊎_elim (λ (within : (p : ℕ) × HasTaken (faults_of old.cells) now b p × (p ≤ last_number now.core)). within.1.counted)
+      (λ (out : HasFailedOut (faults_of old.cells) now b). absurd (cc (sym took.stood ∙ out.position))) before.stands
+
+  pub replays_next : ReplaysOn old new b
+  replays_next =
+      let last : last_number new.core ≡ last_number now.core = last_same now new only in
+      let lt : took.p < last_number now.core = below in
+      record {
+        only = only_then old now new before.only only;
+        others = λ k ne. same_then old now new k (before.others k ne) (took.others k ne);
+        stands =
+            ⊎_elim
+            (λ (taken : HasTaken (faults_of now.cells) new b (took.p + 1)). inl (took.p + 1, taken_from (faults_of now.cells) (faults_of old.cells) new b (took.p + 1) counts_same taken, omega arith))
+            (λ (out : HasFailedOut (faults_of now.cells) new b). inr (out_from (faults_of now.cells) (faults_of old.cells) new b counts_same out)) took.here;
+        uncalled =
+            λ none.
+            let whole : last_number now.core ≡ last_number old.core = last_same old now before.only in
+            absurd (omega arith);
+      }
+
+  -- it has fewer left
+  pub replays_fewer : left_of (last_number new.core) (position_at new.core b) < left_of (last_number now.core) (position_at now.core b)
+  replays_fewer =
+      let last : last_number new.core ≡ last_number now.core = last_same now new only in
+      let lt : took.p < last_number now.core = below in
+      let had : left_of (last_number now.core) (position_at now.core b) ≡ last_number now.core - took.p = ap (left_of (last_number now.core)) took.stood in
+      ⊎_elim
+      (λ (taken : HasTaken (faults_of now.cells) new b (took.p + 1)).
+      let has : left_of (last_number new.core) (position_at new.core b) ≡ last_number new.core - (took.p + 1) = ap (left_of (last_number new.core)) taken.position in
+      omega arith)
+      (λ (out : HasFailedOut (faults_of now.cells) new b).
+      let has : left_of (last_number new.core) (position_at new.core b) ≡ 0 = ap (left_of (last_number new.core)) out.position in
+      omega arith)
+      took.here
+
+-- a backend that isn't enabled and stands below the log's end can replay
+replay_due : (c : Core) (b p : ℕ) → is_enabled c.history b ≡ false → position_at c b ≡ Some p → p ≢ last_number c → not_now c (Replay b) ≡ None
+replay_due c b p off at ne = rw (off, at, ne_eqb p (last_number c) ne) refl
+
+-- so where it can't, it has taken the whole log or failed
+pub replayed : (old now : WorldState) (b : ℕ) → is_enabled old.core.history b ≡ false → ReplaysOn old now b → not_now now.core (Replay b) ≢ None → HasReplayed (faults_of old.cells) now b
+replayed old now b off on stays =
+    let still : is_enabled now.core.history b ≡ false = ap (λ (h : List Event). is_enabled h b) (only_history old now on.only) ∙ off in
+    ⊎_elim
+    (λ (within : (p : ℕ) × HasTaken (faults_of old.cells) now b p × (p ≤ last_number now.core)).
+    ⊎_elim (λ (end : within.0 ≡ last_number now.core). inl (subst (HasTaken (faults_of old.cells) now b) end within.1))
+    (λ (more : within.0 ≡ last_number now.core → ⊥). absurd (stays (replay_due now.core b within.0 still within.1.position more))) (cases_eq within.0 (last_number now.core)))
+    (λ (out : HasFailedOut (faults_of old.cells) now b). inr out) on.stands
+
+-- ---- all of them
+
+-- the backends below i have replayed the whole log
+pub record ReplayedTo (old now : WorldState) (i : ℕ) : Type 0 where
+  pub only : OnlyReplays old now
+  pub before : (b : ℕ) → b < i → HasReplayed (faults_of old.cells) now b
+  pub behind : (b : ℕ) → i ≤ b → IsSameAt old now b
+  pub uncalled : last_number old.core ≡ 0 → now ≡ old
+
+pub replayed_none : (w : WorldState) → ReplayedTo w w 0
+replayed_none w =
+    record {
+      only = record { core = refl; setup = refl; recovery_log = refl };
+      before = λ b lt. absurd (omega arith);
+      behind = λ b le. record { position = refl; faults = refl };
+      uncalled = λ _. refl;
+    }
+
+still_replayed : (faults : List ℕ) (old new : WorldState) (b : ℕ) → last_number new.core ≡ last_number old.core → IsSameAt old new b → HasReplayed faults old b → HasReplayed faults new b
+still_replayed faults old new b last same replays =
+    ⊎_elim (λ (taken : HasTaken faults old b (last_number old.core)). inl (subst (HasTaken faults new b) (sym last) (taken_still faults old new b (last_number old.core) same taken)))
+    (λ (out : HasFailedOut faults old b). inr (out_still faults old new b same out)) replays
+
+replayed_from : (was faults : List ℕ) (w : WorldState) (b : ℕ) → slice_get was b ≡ slice_get faults b → HasReplayed was w b → HasReplayed faults w b
+replayed_from was faults w b same replays =
+    ⊎_elim (λ (taken : HasTaken was w b (last_number w.core)). inl (taken_from was faults w b (last_number w.core) same taken)) (λ (out : HasFailedOut was w b). inr (out_from was faults w b same out)) replays
+
+pub replayed_next : (old now new : WorldState) (i : ℕ) → ReplayedTo old now i → OnlyReplays now new → ((k : ℕ) → k ≢ i → IsSameAt now new k) → HasReplayed (faults_of now.cells) new i
+    → (last_number now.core ≡ 0 → new ≡ now) → ReplayedTo old new (i + 1)
+replayed_next old now new i to only others here uncalled =
+    record {
+      only = only_then old now new to.only only;
+      before =
+          λ b lt.
+          ⊎_elim
+          (λ (first : b < i). let ne : b ≢ i = λ e. absurd (omega (arith, e)) in still_replayed (faults_of old.cells) now new b (last_same now new only) (others b ne) (to.before b first))
+          (λ (last : i ≤ b).
+          let e : i ≡ b = omega arith in
+          let le : i ≤ i = omega arith in
+          subst (HasReplayed (faults_of old.cells) new) e (replayed_from (faults_of now.cells) (faults_of old.cells) new i (to.behind i le).faults here)) (cases_lt b i);
+      behind =
+          λ b le.
+          let later : i ≤ b = omega arith in
+          let ne : b ≢ i = λ e. absurd (omega (arith, e)) in
+          same_then old now new b (to.behind b later) (others b ne);
+      uncalled = λ none. uncalled (last_same old now to.only ∙ none) ∙ to.uncalled none;
+    }

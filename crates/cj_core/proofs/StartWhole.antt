@@ -1,0 +1,154 @@
+-- A start from its parts.
+use Rattle.std.proofs.Common.{◌≡◌, ◌⊎◌, inl, inr, ℕ, ◌<◌, ◌==◌, ◌&&◌, not, Bool, true, false, cond, List, [], ◌∷◌, ◌++◌, length, map, replicate, slice_get, get_or, Option, None, Some, is_some, refl, ap, sym, ◌∙◌, subst, arith, ⊎_elim}
+use Rattle.std.specs.List.{filter, range_with_len}
+use Rattle.std.proofs.lemmas.List.{get_or-replicate}
+use Rattle.std.proofs.lemmas.Simd.{map-map}
+use Rattle.cj_model.specs.declared.request.Entry.{Entry}
+use Rattle.cj_model.specs.Cluster.Placements.{Placement}
+use Rattle.cj_cluster.specs.declared.event.Event.{Event}
+use Rattle.cj_cluster.specs.declared.event.Event.TheVariants.{Sched, Ended, Enabled, Marker}
+use Rattle.cj_cluster.specs.declared.moves.OpenSession.{OpenSession}
+use Rattle.cj_cluster.specs.History.Histories.{log, is_enabled, tx_of}
+use Rattle.cj_cluster.specs.Moves.Cores.{Core, find_session, position_at}
+use Rattle.cj_cluster.specs.Moves.Moves.{entry_numbered, is_open, is_orphan, is_orphan_of, last_number}
+use Rattle.cj_cluster.proofs.Effects.{is_there}
+use Rattle.cj_opening.specs.Openings.{IsOpening, OpensTo}
+use Rattle.cj_log.specs.declared.item.LogItem.{LogItem}
+use Rattle.cj_state.specs.Beginnings.{opened_core}
+use Rattle.cj_state.specs.Faults.{faults_of}
+use Rattle.cj_state.specs.Worlds.{IsWorld, WorldState}
+use Rattle.cj_core.specs.Starts.{AbortsEach, BackendState, HasStarted, StartsFrom, backend_of, orphans_of}
+use Rattle.cj_core.specs.Proving.StartParts.{AllStand, AreStanding, EnabledTo, EndedTo, HasFailedOut, HasReplayed, HasTaken, OnlyReplays}
+use Rattle.cj_core.proofs.StartEnables.{enabled_last, enabled_position}
+use Rattle.cj_core.proofs.StartReplays.{last_same, only_history, only_placement, same_some}
+use Rattle.cj_core.proofs.SoloTaking.{cells_count}
+
+-- ---- what a log opens with
+
+-- no backend is enabled in it
+pub none_on : (h : List Event) → IsOpening h → (b : ℕ) → is_enabled h b ≡ false
+none_on [] o b = refl
+none_on (Sched e ∷ Ended f s ∷ h) o b = none_on h o.2 b
+none_on (Marker name m ∷ h) o b = none_on h o b
+none_on _ o b = absurd o
+
+-- and none has taken an entry
+pub at_first : (c : Core) → c ≡ opened_core c.placement c.history → (b : ℕ) → b < c.placement.backends → position_at c b ≡ Some 0
+at_first c opened b lt = ap (λ (k : Core). position_at k b) opened ∙ get_or-replicate c.placement.backends b (Some 0) None lt
+
+-- ---- which transactions are open, over the same log
+
+filter_same : (p q : ℕ → Bool) (ns : List ℕ) → ((n : ℕ) → p n ≡ q n) → filter p ns ≡ filter q ns
+filter_same p q [] same = refl
+filter_same p q (n ∷ ns) same = ap (λ (b : Bool). cond b (n ∷ filter p ns) (filter p ns)) (same n) ∙ ap (λ (ms : List ℕ). cond (q n) (n ∷ ms) ms) (filter_same p q ns same)
+
+module _ (c d : Core) (entries : log c.history ≡ log d.history) (sessions : c.sessions ≡ d.sessions) where
+  same_orphan_of : (tx : ℕ) (o : Option Entry) → is_orphan_of c tx o ≡ is_orphan_of d tx o
+  same_orphan_of tx None = refl
+  same_orphan_of tx (Some begin) =
+      ap (λ (es : List Entry). (tx_of es begin.session == tx) && not (is_open c begin.session)) entries
+      ∙ ap (λ (ss : List OpenSession). (tx_of (log d.history) begin.session == tx) && not (is_some (find_session ss begin.session))) sessions
+
+  same_orphan : (tx : ℕ) → is_orphan c tx ≡ is_orphan d tx
+  same_orphan tx = ap (λ (es : List Entry). is_orphan_of c tx (entry_numbered es tx)) entries ∙ same_orphan_of tx (entry_numbered (log d.history) tx)
+
+  orphans_same : orphans_of c ≡ orphans_of d
+  orphans_same = ap (λ (es : List Entry). filter (is_orphan c) (range_with_len 1 (length es))) entries ∙ filter_same (is_orphan c) (is_orphan d) (range_with_len 1 (length (log d.history))) same_orphan
+
+-- ---- from part to part
+
+module _ (old rep : WorldState) (only : OnlyReplays old rep) (all : (b : ℕ) → b < old.core.placement.backends → HasReplayed (faults_of old.cells) rep b) where
+  -- each backend that has replayed the log and isn't out stands at its end
+  pub replayed_there : (tells : Bool) → IsWorld tells rep → (b p : ℕ) → position_at rep.core b ≡ Some p → p ≡ last_number rep.core
+  replayed_there tells world b p at =
+      let there : b < length rep.core.positions = is_there rep.core.positions b p at in
+      let cells : length rep.core.positions ≡ rep.core.placement.backends = world.sound.cells in
+      let same : rep.core.placement.backends ≡ old.core.placement.backends = ap (λ (q : Placement). q.backends) (only_placement old rep only) in
+      let within : b < old.core.placement.backends = omega arith in
+      ⊎_elim (λ (taken : HasTaken (faults_of old.cells) rep b (last_number rep.core)). same_some p (last_number rep.core) (sym at ∙ taken.position))
+      (λ (out : HasFailedOut (faults_of old.cells) rep b). absurd (cc (sym at ∙ out.position))) (all b within)
+
+  module _ (en : WorldState) (to : EnabledTo rep en rep.core.placement.backends) where
+    position_en : (b : ℕ) → position_at en.core b ≡ position_at rep.core b
+    position_en b = enabled_position rep en rep.core.placement.backends to b
+
+    last_en : last_number en.core ≡ last_number rep.core
+    last_en = enabled_last rep en rep.core.placement.backends to
+
+    counted_en : (b : ℕ) → slice_get (faults_of en.cells) b ≡ slice_get (faults_of rep.cells) b
+    counted_en b = ap (λ (w : WorldState). slice_get (faults_of w.cells) b) to.after
+
+    placement_en : en.core.placement ≡ old.core.placement
+    placement_en = ap (λ (w : WorldState). w.core.placement) to.after ∙ only_placement old rep only
+
+    sessions_en : en.core.sessions ≡ old.core.sessions
+    sessions_en = ap (λ (w : WorldState). w.core.sessions) to.after ∙ ap (λ (c : Core). c.sessions) only.core
+
+    -- enabled, each of them stands as after a start
+    all_stand : AllStand (faults_of old.cells) en
+    all_stand b lt =
+        let on : is_enabled en.core.history b ≡ is_some (position_at rep.core b) = to.on b (subst (λ (p : Placement). b < p.backends) (ap (λ (w : WorldState). w.core.placement) to.after) lt) in
+        ⊎_elim
+        (λ (taken : HasTaken (faults_of old.cells) rep b (last_number rep.core)).
+        inl (on ∙ ap (λ (o : Option ℕ). is_some o) taken.position, position_en b ∙ (taken.position ∙ ap (λ (n : ℕ). Some n) (sym last_en)), counted_en b ∙ taken.counted))
+        (λ (out : HasFailedOut (faults_of old.cells) rep b). inr (on ∙ ap (λ (o : Option ℕ). is_some o) out.position, position_en b ∙ out.position, counted_en b ∙ out.counted))
+        (all b (subst (λ (p : Placement). b < p.backends) placement_en lt))
+
+    pub enabled_standing : AreStanding en
+    enabled_standing = (faults_of old.cells, all_stand)
+
+    module _ (opened : old.core ≡ opened_core old.core.placement old.core.history) where
+      pub enabled_alone : en.core.sessions ≡ []
+      enabled_alone = sessions_en ∙ ap (λ (c : Core). c.sessions) opened
+
+      entries_en : log en.core.history ≡ log old.core.history
+      entries_en = to.entries ∙ ap (λ (h : List Event). log h) (only_history old rep only)
+
+      module _ (new : WorldState) (ends : EndedTo en new (last_number en.core)) (tells : Bool) (world : IsWorld tells new) where
+        orphans_en : filter (is_orphan en.core) (range_with_len 1 (last_number en.core)) ≡ orphans_of (opened_core old.core.placement old.core.history)
+        orphans_en = orphans_same en.core (opened_core old.core.placement old.core.history) entries_en enabled_alone
+
+        history_en : en.core.history ≡ old.core.history ++ map Enabled to.enabled
+        history_en = ap (λ (w : WorldState). w.core.history) to.after ∙ ap (λ (h : List Event). h ++ map Enabled to.enabled) (only_history old rep only)
+
+        greatest_en : en.core.greatest ≡ old.core.greatest
+        greatest_en = ap (λ (w : WorldState). w.core.greatest) to.after ∙ ap (λ (c : Core). c.greatest) only.core
+
+        placement_new : new.core.placement ≡ old.core.placement
+        placement_new = ends.same.placement ∙ placement_en
+
+        pub has_started : HasStarted old.core.placement old.core.history (faults_of old.cells) new
+        has_started =
+            record {
+              placement = placement_new;
+              cells = cells_count tells new world ∙ ap (λ (p : Placement). p.backends) placement_new;
+              enabled = to.enabled;
+              rises = to.rises;
+              history =
+                  subst (λ (h : List Event). AbortsEach h (orphans_of (opened_core old.core.placement old.core.history)) new.core.history) history_en
+                  (subst (λ (txs : List ℕ). AbortsEach en.core.history txs new.core.history) orphans_en ends.history);
+              idle = ends.idle;
+              sessions = ends.same.sessions ∙ enabled_alone;
+              greatest = ends.same.greatest ∙ (greatest_en ∙ ap (λ (c : Core). c.greatest) opened);
+              backends = λ b lt. ends.stands (faults_of old.cells) all_stand b (subst (λ (p : Placement). b < p.backends) (sym placement_new) lt);
+            }
+
+-- ---- over the log that was opened
+
+-- a start of cells over an opened history is one of the backends in them
+pub starts_from : (found : List LogItem → Type 0) (items : List LogItem) (p : Placement) (opening : List Event) (backends : List BackendState) (old new : WorldState) → found items → OpensTo items opening
+    → old.core ≡ opened_core p opening → map backend_of old.cells ≡ backends → HasStarted old.core.placement old.core.history (faults_of old.cells) new → (log old.core.history ≡ [] → new.cells ≡ old.cells) → StartsFrom found p backends new
+starts_from found items p opening backends old new found_in opens opened same started uncalled =
+    let placement : old.core.placement ≡ p = ap (λ (c : Core). c.placement) opened in
+    let history : old.core.history ≡ opening = ap (λ (c : Core). c.history) opened in
+    let faults : faults_of old.cells ≡ map (λ (s : BackendState). s.faults) backends = sym (map-map (λ (s : BackendState). s.faults) backend_of old.cells) ∙ ap (map (λ (s : BackendState). s.faults)) same in
+    record {
+      items = items;
+      found_in = found_in;
+      opening = opening;
+      opens = opens;
+      started =
+          subst (λ (counts : List ℕ). HasStarted p opening counts new) faults
+          (subst (λ (h : List Event). HasStarted p h (faults_of old.cells) new) history (subst (λ (q : Placement). HasStarted q old.core.history (faults_of old.cells) new) placement started));
+      uncalled = λ none. ap (map backend_of) (uncalled (ap (λ (h : List Event). log h) history ∙ none)) ∙ same;
+    }

@@ -1,0 +1,16 @@
+use Rattle.std.proofs.Common.{◌≡◌, ◌<◌, ℕ, refl, ◌∙◌, subst}
+use Rattle.cj_core.proofs.StartEnds.{ended_next, ended_none, still_standing}
+use Rattle.cj_core.proofs.ending.end_all.Goals as goal
+
+pub loop-before-init : goal.loop-before-init
+loop-before-init g c = record { to = ended_none c.args.state.now c.requires.free; log_faults = refl }
+
+pub loop-before-preserved : goal.loop-before-preserved
+loop-before-preserved g c =
+    let before = c.loop-before.invariant in
+    record {
+      to =
+          ended_next c.args.state.now c.loop-before.state c.end_where_open.new.state c.loop-before.before before.to (subst (λ (n : ℕ). c.loop-before.before < n) c.length-before-end.ensures c.loop-before-test.true)
+          c.in_ok-end_where_open.ensures.ended;
+      log_faults = c.in_ok-end_where_open.ensures.cause ∙ before.log_faults;
+    }

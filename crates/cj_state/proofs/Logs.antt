@@ -1,0 +1,14 @@
+-- What a world keeps doesn't hang on its log.
+use Rattle.std.proofs.Common.{◌≡◌, Bool, true, List, [], ◌∷◌, ℕ, refl}
+use Rattle.std.proofs.lemmas.Bool.{both_ways}
+use Rattle.cj_model.specs.Sql.Names.{is_name}
+use Rattle.cj_state.specs.Worlds.{LogView, WorldState, IsWorld, with_log}
+
+pub world_with_log : (tells : Bool) (w : WorldState) (log : LogView) → IsWorld tells w → IsWorld tells (with_log w log)
+world_with_log tells w log k = record { sound = k.sound; named = k.named; registered = k.registered; few = k.few; positions = k.positions; begun = k.begun; cells = k.cells; between = k.between }
+
+-- a name is not empty
+pub name_some : (name : List ℕ) → is_name name ≡ true → name ≡ [] → ⊥
+unfolding is_name
+name_some [] is none = both_ways (is_name []) refl is
+name_some (b ∷ name) is none = absurd (cc none)

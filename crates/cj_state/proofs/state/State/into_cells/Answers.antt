@@ -1,0 +1,7 @@
+use Rattle.std.proofs.Common.{subst}
+use Rattle.cj_state.specs.Worlds.{IsWorld}
+use Rattle.cj_state.proofs.Logs.{world_with_log}
+use Rattle.cj_state.proofs.state.State.into_cells.Goals as goal
+
+pub returns-clause-legal : goal.returns-clause-legal
+returns-clause-legal g c = subst (IsWorld g.B.Backend.TELLS) c.self.view_is (world_with_log g.B.Backend.TELLS _ _ c.self.invariant.world)

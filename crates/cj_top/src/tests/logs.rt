@@ -1,0 +1,144 @@
+//! Runs over a recovery log, with bytes that were worked out by hand from docs/FORMATS.md.
+
+use super::*;
+
+/// Adds a record: an open gate, the length of the body, and the body.
+fn put_record(log: &mut Vec<u8>, body: &[u8]) -> Result<(), Fail> {
+    log.push(1)?;
+    log.extend_from_slice(&(body.len() as u64).to_be_bytes())?;
+    log.extend_from_slice(body)?;
+    Ok(())
+}
+
+/// The body of an entry of ann's session 1, outside of a transaction.
+fn entry(alloc: Global, number: u64, text: &str) -> Result<Vec<u8>, Fail> {
+    let mut body = Vec::new(alloc);
+    body.push(1)?;
+    for field in [number, 1, number, 0] {
+        body.extend_from_slice(&field.to_be_bytes())?;
+    }
+    body.extend_from_slice(b"\x00\x03ann")?;
+    body.extend_from_slice(&(text.len() as u64).to_be_bytes())?;
+    body.extend_from_slice(text.as_bytes())?;
+    Ok(body)
+}
+
+/// A log of three entries, with a marker before the last, and where its gates stand.
+fn four_items(alloc: Global) -> Result<(Vec<u8>, Vec<usize>), Fail> {
+    let bodies = [
+        entry(alloc, 1, CREATE)?,
+        entry(alloc, 2, INSERT)?,
+        b"\x02\x00\x00\x00\x00\x00\x00\x00\x02\x00\x01d\xff".to_vec(alloc)?,
+        entry(alloc, 3, "INSERT INTO t VALUES (2, 'b')")?,
+    ];
+    let mut log = b"CJL1".to_vec(alloc)?;
+    let mut gates = Vec::new(alloc);
+    for body in &bodies {
+        gates.push(log.len())?;
+        put_record(&mut log, body)?;
+    }
+    gates.push(log.len())?;
+    log.push(0)?;
+    Ok((log, gates))
+}
+
+/// The program over this log and this input.
+fn over(alloc: Global, log: &[u8], input: &[u8]) -> Result<Handed, Fail> {
+    let mut handed = Handed::of(alloc, C1, input)?;
+    handed.log = log.to_vec(alloc)?;
+    Ok(handed)
+}
+
+#[test]
+fn a_log_is_listed(rt: HostRuntime) -> Result<(), Fail> {
+    let alloc = rt.alloc();
+    let (log, _) = four_items(alloc)?;
+    let mut handed = over(alloc, &log, b"")?;
+    assert_eq!(rt; handed.run(alloc, "log c1.toml")?, 0);
+    let wanted = b"1 session=1 tx=0 user=ann CREATE TABLE t (k INTEGER PRIMARY KEY, v TEXT)\n\
+        2 session=1 tx=0 user=ann INSERT INTO t VALUES (1, 'a')\n\
+        marker d after 2 backend=-\n\
+        3 session=1 tx=0 user=ann INSERT INTO t VALUES (2, 'b')\n";
+    assert!(rt; handed.output() == wanted.as_slice());
+    Ok(())
+}
+
+#[test]
+fn what_was_answered_is_found_again(rt: HostRuntime) -> Result<(), Fail> {
+    let alloc = rt.alloc();
+    let (log, _) = four_items(alloc)?;
+    let mut input = LOGIN.to_vec(alloc)?;
+    query(&mut input, "SELECT * FROM t WHERE k < 2")?;
+    let mut output = DONE_0.to_vec(alloc)?;
+    output.extend_from_slice(ONE_ROW)?;
+    let mut handed = over(alloc, &log, &input)?;
+    assert_eq!(rt; handed.run(alloc, "pipe c1.toml")?, 0);
+    assert!(rt; handed.output() == output.as_slice());
+    Ok(())
+}
+
+#[test]
+fn a_log_that_was_cut_is_refused_at_its_gate(rt: HostRuntime) -> Result<(), Fail> {
+    let alloc = rt.alloc();
+    let (log, gates) = four_items(alloc)?;
+    for count in 6..log.len() {
+        let (cut, _) = log.split_at(count);
+        let mut gate = 0;
+        for at in &gates {
+            if *at <= count {
+                gate = *at;
+            }
+        }
+        for command in ["log c1.toml", "pipe c1.toml", "script c1.toml"] {
+            let mut handed = over(alloc, cut, b"")?;
+            assert_eq!(rt; handed.run(alloc, command)?, 8, "{command} of {count}");
+            let told = format!(in alloc; "bad record: {gate}\n")?;
+            assert!(rt; handed.errors.content() == told.as_bytes(), "{count} bytes");
+        }
+    }
+    Ok(())
+}
+
+#[test]
+fn a_log_that_was_changed_is_opened_or_refused(rt: HostRuntime) -> Result<(), Fail> {
+    let alloc = rt.alloc();
+    let (log, _) = four_items(alloc)?;
+    for place in 0..log.len() {
+        let mut changed = log.to_vec(alloc)?;
+        if let Some(byte) = changed.get_mut(place) {
+            *byte ^= 1;
+        }
+        let mut handed = over(alloc, &changed, b"")?;
+        let status = handed.run(alloc, "pipe c1.toml")?;
+        assert!(rt; status == 0 || status == 8, "{status} at {place}");
+        let told = handed.errors.content();
+        assert!(rt; told.is_empty() == (status == 0), "at {place}");
+    }
+    Ok(())
+}
+
+/// What a session comes to whose log's store fails at this call.
+fn with_failing_log(alloc: Global, call: u64) -> Result<(u8, usize), Fail> {
+    let input = worked(alloc)?;
+    let mut handed = Handed::of(alloc, C1, &input)?;
+    handed.log_fails = Vec::from_array(alloc, [call])?;
+    let status = handed.run(alloc, "pipe c1.toml")?;
+    Ok((status, handed.output().len()))
+}
+
+#[test]
+fn a_failing_log_is_a_status_or_a_reply(rt: HostRuntime) -> Result<(), Fail> {
+    let alloc = rt.alloc();
+    // opening, then the entry of CREATE, then that of INSERT, each of a write, a sync, a write and a sync
+    for (calls, status, length) in [
+        (1..4u64, 7u8, 0usize),
+        (4..8, 0, 13 + 23 * 3),
+        (8..12, 0, 13 + 13 + 23 + 17),
+    ] {
+        for call in calls {
+            let came = with_failing_log(alloc, call)?;
+            assert_eq!(rt; came, (status, length), "call {call}");
+        }
+    }
+    Ok(())
+}
