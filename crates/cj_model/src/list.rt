@@ -77,11 +77,15 @@ impl<T> ListOf<T> {
 }
 
 impl<T: Drop> ListOf<T> {
-    /// Adds an item at the end; want of memory leaves the list as it was.
+    /// Adds an item at the end; want of memory leaves the list as it was. A first item takes room for itself alone, since most
+    /// lists of a statement have no second.
     pub fn push(&mut self, item: T) -> Result<(), NoMemory>
         ensures ok { OnOk result (self.new ≡ self.old ++ item ∷ []) }
         ensures err { OnErr result (self.new ≡ self.old) }
     {
+        if self.items.is_empty() {
+            self.items.reserve_exact(1)?;
+        }
         self.items.push(item)?;
         Ok(())
     }
@@ -108,7 +112,7 @@ impl<T: Drop> ListOf<T> {
 
 impl<T: Duplicate + Drop> Duplicate for ListOf<T> {
     fn copy(&self, alloc: Global) -> Result<Self, NoMemory> {
-        let mut items = Vec::new(alloc);
+        let mut items = Vec::with_capacity(alloc, self.items.len())?;
         for item in &self.items {
             items.push(item.copy(alloc)?)?;
         }
