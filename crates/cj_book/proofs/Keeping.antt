@@ -1,64 +1,15 @@
 -- A book with one more event.
 use Rattle.std.proofs.Common.{◌≡◌, ◌≢◌, Bool, ℕ, ◌+◌, ◌-◌, ◌*◌, ◌^◌, ◌%◌, ◌<◌, ◌≤◌, ◌==◌, ◌&&◌, ◌||◌, not, true, false, List, [], ◌∷◌, ◌++◌, length, get_or, slice_get, option_and_then, Option, None, Some, bit_and, bit_or, refl, ap, sym, ◌∙◌, arith, length-append, ⊎_elim}
 use Rattle.std.proofs.lemmas.Bool.{cases_eq, eqb-true, eqb-false, and_parts, or_cases}
-use Rattle.std.proofs.lemmas.List.{get_or_append_left}
-use Rattle.std.proofs.lemmas.Option.{slice_get_cases, slice_get_past, slice_get-get_or, option_and_then_some}
 use Rattle.cj_model.specs.declared.request.Entry.{Entry}
 use Rattle.cj_cluster.specs.declared.event.Event.{Event}
 use Rattle.cj_cluster.specs.declared.event.Event.TheVariants.{Sched, Ended, ReadFailed, LogFailed, Disabled, Enabled, Marker}
 use Rattle.cj_cluster.specs.History.Histories.{scheduled_entry, is_end_event, log, ended_count, is_idle, is_enabled, events_left}
 use Rattle.cj_model.specs.Cluster.Masks.{in_mask}
-use Rattle.cj_cluster.proofs.Pushed.{get_seam, get_left, enabled-push, log-sched, log-same, done-same, done-ended}
-use Rattle.cj_book.specs.Kept.{KeepsHistory, entry_at}
+use Rattle.cj_cluster.proofs.Pushed.{enabled-push, log-sched, log-same, done-same, done-ended}
+use Rattle.cj_opening.proofs.Kept.{entries_same, entries_sched}
+use Rattle.cj_book.specs.Kept.{KeepsHistory}
 use Rattle.cj_model.proofs.MaskBits.{has_without, has_cleared, has_set}
-
--- ---- the entries at their places
-
--- one more event leaves the entry at a place
-entry_stays : (h : List Event) (new : Event) (place : Option ℕ) (e : Entry) → option_and_then (entry_at h) place ≡ Some e → option_and_then (entry_at (h ++ new ∷ [])) place ≡ Some e
-entry_stays h new None e is = absurd (cc is)
-entry_stays h new (Some p) e is = option_and_then_some scheduled_entry (slice_get h p) e is (λ d there is_sched. rw (get_left h (new ∷ []) p d there) is_sched)
-
--- one more place leaves those before it
-place_stays : (places : List ℕ) (new i : ℕ) → i < length places → slice_get (places ++ new ∷ []) i ≡ slice_get places i
-place_stays places new i lt =
-    let l = length-append places (new ∷ []) in
-    slice_get-get_or (places ++ new ∷ []) i 0 (omega arith) ∙ (ap (λ p. Some p) (get_or_append_left places (new ∷ []) 0 i lt) ∙ sym (slice_get-get_or places i 0 lt))
-
--- the entries of a history at these places
-abbrev HaveEntries : List Event → List ℕ → List Entry → Type 0
-HaveEntries h places entries = (i : ℕ) → option_and_then (entry_at h) (slice_get places i) ≡ slice_get entries i
-
--- an event that schedules nothing
-entries_same : (h : List Event) (places : List ℕ) (entries : List Entry) (new : Event) → length places ≡ length entries → HaveEntries h places entries → HaveEntries (h ++ new ∷ []) places entries
-entries_same h places entries new as_many have i =
-    ⊎_elim
-    (λ (q : (e : Entry) × (i < length entries) × (slice_get entries i ≡ Some e) × (get_or entries i e ≡ e)). entry_stays h new (slice_get places i) q.0 (have i ∙ q.2) ∙ sym q.2)
-    (λ (q : (length entries ≤ i) × (slice_get entries i ≡ None)). let past : slice_get places i ≡ None = slice_get_past places i (omega arith) in rw past (sym q.1))
-    (slice_get_cases entries i).1
-
--- an entry that is scheduled
-entries_sched : (h : List Event) (places : List ℕ) (entries : List Entry) (new : Entry) → length places ≡ length entries → HaveEntries h places entries
-    → HaveEntries (h ++ Sched new ∷ []) (places ++ length h ∷ []) (entries ++ new ∷ [])
-entries_sched h places entries new as_many have i =
-    ⊎_elim
-    (λ (q : (e : Entry) × (i < length entries) × (slice_get entries i ≡ Some e) × (get_or entries i e ≡ e)).
-    let stays : slice_get (places ++ length h ∷ []) i ≡ slice_get places i = place_stays places (length h) i (omega arith) in
-    rw stays (entry_stays h (Sched new) (slice_get places i) q.0 (have i ∙ q.2)) ∙ sym (get_left entries (new ∷ []) i q.0 q.2))
-    (λ (q : (length entries ≤ i) × (slice_get entries i ≡ None)).
-    ⊎_elim
-    (λ (last : i ≡ length entries).
-    let place : slice_get (places ++ length h ∷ []) i ≡ Some (length h) = ap (λ n. slice_get (places ++ length h ∷ []) n) (last ∙ sym as_many) ∙ get_seam places [] (length h) in
-    let entry : slice_get (entries ++ new ∷ []) i ≡ Some new = ap (λ n. slice_get (entries ++ new ∷ []) n) last ∙ get_seam entries [] new in
-    rw (place, entry) (rw (get_seam h [] (Sched new)) refl))
-    (λ (ne : i ≡ length entries → ⊥).
-    let l = length-append places (length h ∷ []) in
-    let m = length-append entries (new ∷ []) in
-    let far : i ≢ length entries = ne in
-    let place : slice_get (places ++ length h ∷ []) i ≡ None = slice_get_past (places ++ length h ∷ []) i (omega arith) in
-    rw place (sym (slice_get_past (entries ++ new ∷ []) i (omega arith))))
-    (cases_eq i (length entries)))
-    (slice_get_cases entries i).1
 
 -- ---- a book with one more event
 

@@ -1,5 +1,5 @@
 -- What contracts see of a book, and when an event can't come into it.
-use Rattle.std.specs.Prelude.{◌≡◌, ◌⊎◌, ℕ, ◌+◌, ◌^◌, ◌<◌, ◌≤◌, ◌==◌, ◌&&◌, ◌||◌, not, Bool, true, false, List, [], ◌∷◌, ◌++◌, length, filter, nat_le, slice_index, if◌then◌else◌, Result, Ok, Err}
+use Rattle.std.specs.Prelude.{◌≡◌, ◌⊎◌, ℕ, ◌+◌, ◌^◌, ◌<◌, ◌≤◌, ◌==◌, ◌&&◌, ◌||◌, not, Bool, true, false, List, [], ◌∷◌, ◌++◌, length, filter, fold, nat_le, slice_index, if◌then◌else◌, Result, Ok, Err}
 use Rattle.std.specs.List.{list_any}
 use Rattle.std.specs.declared.option.Option.{Option}
 use Rattle.std.specs.declared.option.Option.TheVariants.{None, Some}
@@ -7,6 +7,7 @@ use Rattle.cj_model.specs.declared.limits.TheConstants.{SESSION_LIMIT, SESSION_N
 use Rattle.cj_model.specs.declared.request.Act.{Act}
 use Rattle.cj_model.specs.declared.request.Entry.{Entry}
 use Rattle.cj_cluster.specs.declared.event.Event.{Event}
+use Rattle.cj_cluster.specs.declared.event.Event.TheVariants.{Sched, Ended, ReadFailed, LogFailed, Disabled, Enabled, Marker}
 use Rattle.cj_model.specs.Sql.PlainRequests.{request_of}
 use Rattle.cj_model.specs.Cluster.Balancing.{Balance, IsFirst, is_ahead, one_more, picked}
 use Rattle.cj_model.specs.Cluster.Placements.{Placement, hosts_all, concerns}
@@ -14,7 +15,9 @@ use Rattle.cj_cluster.specs.History.Histories.{log, is_idle, is_enabled, events_
 use Rattle.cj_cluster.specs.History.Answering.{HasServer, HasNoServer}
 use Rattle.cj_cluster.specs.Moves.Moves.{entry_numbered}
 use Rattle.cj_place.specs.Layouts.{Layout, placement_of}
-use Rattle.cj_log.specs.Logs.{LogState}
+use Rattle.cj_log.specs.declared.item.LogItem.{LogItem}
+use Rattle.cj_log.specs.Logs.{LogState, KeepsItems}
+use Rattle.cj_opening.specs.Openings.{items_of}
 use Rattle.cj_book.specs.declared.error.BookError.{BookError}
 use Rattle.cj_book.specs.declared.error.BookError.TheVariants.{InProgress, NoBackend, HistoryFull, LogFault, NoMemory}
 
@@ -44,6 +47,27 @@ with_event b e = record b { history = b.history ++ e ∷ []; has_spare = false }
 -- the book is as before, but maybe for its recovery log
 abbrev pub IsSameButLog : {S : Type 0} → BookState S → BookState S → Type 0
 IsSameButLog old new = new ≡ record old { recovery_log = new.recovery_log }
+
+-- ---- the recovery log
+
+-- whether the last write to the log failed, one event later
+abbrev pub failed_after : Bool → Event → Bool
+failed_after failed (Sched e) = false
+failed_after failed (Ended f s) = failed
+failed_after failed (ReadFailed s q b) = failed
+failed_after failed (LogFailed s q) = true
+failed_after failed (Disabled b) = failed
+failed_after failed (Enabled b) = failed
+failed_after failed (Marker name b) = false
+
+-- the last write to the log that the history tells of failed
+abbrev pub last_write_failed : List Event → Bool
+last_write_failed h = fold failed_after false h
+
+-- A log's bytes keep the entries and markers of a history. Behind a write that failed they may keep one item more, the one that was refused.
+pub record IsKeptIn (bytes : List ℕ) (h : List Event) : Type 0 where
+  pub whole : last_write_failed h ≡ false → KeepsItems bytes (items_of h)
+  pub at_least : KeepsItems bytes (items_of h) ⊎ (refused : LogItem) × KeepsItems bytes (items_of h ++ refused ∷ [])
 
 -- ---- sessions and transactions
 

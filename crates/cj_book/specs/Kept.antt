@@ -6,25 +6,21 @@ use Rattle.std.specs.Option.{option_and_then}
 use Rattle.std.specs.BTreeSet.{BTreeSet}
 use Rattle.cj_model.specs.declared.request.Entry.{Entry}
 use Rattle.cj_cluster.specs.declared.event.Event.{Event}
-use Rattle.cj_cluster.specs.History.Histories.{scheduled_entry, log, ended_count, entry_in_progress, is_enabled, tx_of}
+use Rattle.cj_cluster.specs.History.Histories.{log, ended_count, entry_in_progress, is_enabled, tx_of}
 use Rattle.cj_cluster.specs.History.Legality.{IsLegal}
 use Rattle.cj_model.specs.Cluster.Masks.{in_mask}
 use Rattle.cj_model.specs.Cluster.Placements.{Placement, wrote_at}
 use Rattle.cj_opening.specs.declared.markers.MarkerName.{MarkerName}
 use Rattle.cj_log.specs.declared.item.LogItem.{LogItem}
 use Rattle.cj_opening.specs.Openings.{items_of}
-use Rattle.cj_opening.specs.Proving.Keeping.{KeepsMarkers}
+use Rattle.cj_opening.specs.Proving.Keeping.{KeepsMarkers, entry_at}
 use Rattle.cj_place.specs.Layouts.{Layout, placement_of}
-use Rattle.cj_book.specs.Books.{is_target_at}
+use Rattle.cj_book.specs.Books.{is_target_at, last_write_failed}
 use Rattle.cj_book.specs.Lists.{by_number, session_number, tx_number}
 use Rattle.cj_book.specs.declared.sessions.BookSession.{BookSession}
 use Rattle.cj_book.specs.declared.transactions.OpenTransaction.{OpenTransaction}
 use Rattle.cj_model.specs.declared.limits.TheConstants.{BACKEND_LIMIT, EVENT_LIMIT, SESSION_LIMIT}
 use Rattle.cj_model.specs.Database.Tables.{Rises}
-
--- the entry that the event at a place scheduled
-abbrev pub entry_at : List Event → ℕ → Option Entry
-entry_at h place = option_and_then scheduled_entry (slice_get h place)
 
 -- For so many backends and a history whose vector has this capacity: the places of its entries, how many of them ended, and the mask of the enabled backends.
 pub record KeepsHistory (backends : ℕ) (h : List Event) (places : List ℕ) (ended on capacity : ℕ) (has_spare : Bool) : Type 0 where
@@ -79,8 +75,10 @@ pub record KeepsRoom (ss : List BookSession) (capacity : ℕ) : Type 0 where
   pub room : SESSION_LIMIT ≤ capacity
 
 -- what a book keeps beside what contracts see of it
-pub record IsKeptBook (layout : Layout) (h : List Event) (places : List ℕ) (ended on capacity : ℕ) (has_spare : Bool) (greatest targets : ℕ) (ss : List BookSession) (ts : List OpenTransaction) (names : BTreeSet MarkerName) (items : List LogItem) : Type 0 where
+pub record IsKeptBook (tells : Bool) (layout : Layout) (h : List Event) (places : List ℕ) (ended on capacity : ℕ) (has_spare : Bool) (greatest targets : ℕ) (ss : List BookSession) (ts : List OpenTransaction) (names : BTreeSet MarkerName) (items : List LogItem) (torn : Bool) : Type 0 where
   pub history : KeepsHistory (length layout.names) h places ended on capacity has_spare
   pub follows : Follows layout h greatest targets ss ts
   pub marked : KeepsMarkers h names
-  pub logged : items_of h ≡ items
+  pub logged : tells ≡ true → items_of h ≡ items
+  -- the gate behind the items is torn only behind a write that failed
+  pub gate : tells ≡ true → torn ≡ true → last_write_failed h ≡ true

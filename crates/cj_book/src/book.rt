@@ -11,7 +11,7 @@ ghost use Rattle.cj_cluster.specs.History.Legality.{AreFitMasks, IsFitEntry, IsL
 ghost use Rattle.cj_model.specs.Cluster.Masks.{in_mask};
 ghost use Rattle.cj_cluster.specs.History.Answering.{HasServer, HasNoServer};
 ghost use Rattle.cj_book.specs.Books as books;
-ghost use Rattle.cj_book.specs.Books.{placement_at, with_event, has_session, has_no_number, is_candidate, is_target, IsOfKnown, IsInProgress, HasNoBackend, LacksRoom, CanSchedule, Checks, HasNoRoomForOne, HasRoom, IsSameButLog, IsWant, PicksOf};
+ghost use Rattle.cj_book.specs.Books.{placement_at, with_event, has_session, has_no_number, is_candidate, is_target, IsOfKnown, IsInProgress, HasNoBackend, LacksRoom, CanSchedule, Checks, HasNoRoomForOne, HasRoom, IsKeptIn, IsSameButLog, IsWant, PicksOf, last_write_failed};
 ghost use Rattle.cj_book.specs.Starts.{IsStarted, Starts, CountsStartFault};
 ghost use Rattle.cj_book.specs.Found.{start_error_of, entry_error_of};
 ghost use Rattle.std.specs.BTreeSet.{contains};
@@ -22,14 +22,14 @@ ghost use Rattle.cj_log.specs.Logs as logs;
 ghost use Rattle.cj_opening.specs.Openings.{entry_item, marker_item, items_of};
 ghost use Rattle.cj_outside.specs.Causes.{CountsFault};
 ghost use Rattle.cj_outside.specs.Stores.{LeavesOnly, Only};
-ghost use Rattle.cj_book.specs.Kept as kept;
+ghost use Rattle.cj_opening.specs.Proving.Keeping.{entry_at};
 
 use crate::error::{BookError, SessionsFull, StartError};
 use crate::recovered::recover;
 use crate::sessions::BookSessions;
 use crate::transactions::OpenTransactions;
 use cj_balance::Balancer;
-use cj_cluster::Event;
+use cj_cluster::{BoxedEntry, Event};
 use cj_log::{Log, LogError, LogItem, LogMarker};
 use cj_model::{
     Act, BACKEND_LIMIT, EVENT_LIMIT, Entry, Name, NoMemory, SESSION_LIMIT, SESSION_NUMBER_LIMIT,
@@ -94,15 +94,15 @@ impl<S: Store> Model for Book<S> {
 
     ghost view = { λ book. record { layout = book.placement; history = book.history.items; sessions = map session_number book.sessions; greatest = book.greatest; balance = book.balancer; has_spare = book.has_spare; recovery_log = book.recovery_log } };
 
-    ghost invariant = { λ book. IsKeptBook book.placement book.history.items book.scheduled.items book.done book.enabled
-        (vec_capacity book.history) book.has_spare book.greatest book.targets book.sessions book.transactions book.marker_names book.recovery_log.items };
+    ghost invariant = { λ book. IsKeptBook S.TELLS book.placement book.history.items book.scheduled.items book.done book.enabled
+        (vec_capacity book.history) book.has_spare book.greatest book.targets book.sessions book.transactions book.marker_names book.recovery_log.items book.recovery_log.torn };
 }
 
 fn entry_at(history: &[Event], place: usize) -> Option<&Entry>
-    ensures { option_copied result ≡ kept.entry_at history.now place }
+    ensures { option_copied result ≡ entry_at history.now place }
 {
     match history.get(place) {
-        Some(Event::Sched(entry)) => Some(entry),
+        Some(Event::Sched(boxed)) => Some(boxed.entry()),
         _ => None,
     }
 }
@@ -188,17 +188,16 @@ impl<S: Store> Book<S> {
         ensures bytes { S.TELLS ≡ true → Starts S.held (S.held store) result }
         ensures cause { CountsStartFault S.faults (S.faults store) result }
     {
-        let recovery_log = match Log::open(alloc, store) {
-            Ok(recovery_log) => recovery_log,
+        let (recovery_log, items) = match Log::open(alloc, store) {
+            Ok(opened) => opened,
             Err((error, store)) => return Err((start_error(error), store)),
         };
-        recovery_log.legal();
         let Ok(sessions) = BookSessions::new(alloc) else {
             return Err((StartError::NoMemory, recovery_log.into_store()));
         };
         // There are some backends, and not too many.
         let _ = parts.placement.count();
-        match recover(alloc, &parts.placement, recovery_log.items()) {
+        match recover(alloc, &parts.placement, items.as_slice()) {
             Ok((history, found)) => Ok(Book {
                 alloc,
                 placement: parts.placement,
@@ -227,21 +226,14 @@ impl<S: Store> Book<S> {
     }
 
     /// Shows what holds of all books: the history is one that can be, and the log's items are its entries and markers. The bytes of
-    /// the log, and what a stop leaves of them, keep these items, as long as no append was refused while it opened a gate.
+    /// the log, and what a stop leaves of them, keep these items; behind a write that failed, maybe the item that was refused too.
     pub fn legal(&self)
         ensures legal { IsLegal self.now.history }
-        ensures logged { items_of self.now.history ≡ self.now.recovery_log.items }
-        ensures kept { S.TELLS ≡ true → self.now.recovery_log.torn ≡ false → logs.KeepsItems (S.held self.now.recovery_log.store) (items_of self.now.history) }
-        ensures safe { S.TELLS ≡ true → self.now.recovery_log.torn ≡ false → logs.LeavesItems (S.may self.now.recovery_log.store) (items_of self.now.history) }
+        ensures logged { S.TELLS ≡ true → items_of self.now.history ≡ self.now.recovery_log.items }
+        ensures kept { S.TELLS ≡ true → IsKeptIn (S.held self.now.recovery_log.store) self.now.history }
+        ensures safe { S.TELLS ≡ true → last_write_failed self.now.history ≡ false → logs.LeavesItems (S.may self.now.recovery_log.store) (items_of self.now.history) }
     {
         self.recovery_log.legal();
-    }
-
-    /// The items of the log: the entries and markers of the history, in order.
-    pub fn items(&self) -> &[LogItem]
-        ensures { result.now ≡ items_of self.now.history }
-    {
-        self.recovery_log.items()
     }
 
     /// The log's store, as it is.
@@ -409,18 +401,6 @@ impl<S: Store> Book<S> {
         Ok(())
     }
 
-    /// The log's store failed, while no entry is open: the history has an event of that, for which memory was taken.
-    fn note_fault(&mut self, session: u64, seq: u64)
-        requires is_free { is_idle self.old.history ≡ true }
-        requires space { 0 < histories.events_left self.old.history }
-        requires spare { self.old.has_spare ≡ true }
-        ensures { self.new ≡ with_event self.old (events.LogFailed session seq) }
-    {
-        self.history
-            .push_reserved(Event::LogFailed { session, seq });
-        self.has_spare = false;
-    }
-
     /// Schedules an entry, which is then open, and answers its number. It stands in the log before it comes into the history.
     ///
     /// Where it is refused for several reasons, the error is the first of them in the order of the variants. Where the log's store
@@ -459,6 +439,7 @@ impl<S: Store> Book<S> {
         // Once the item stands in the log, nothing may fail any more: so all memory is taken before.
         self.scheduled.reserve(1)?;
         self.history.reserve(2)?;
+        let room = BoxedEntry::with_room(self.alloc)?;
         self.transactions.prepare(number, &e)?;
         match self.recovery_log.append(item) {
             Ok(()) => {}
@@ -468,15 +449,18 @@ impl<S: Store> Book<S> {
             }
             Err(LogError::Failed) => {
                 self.transactions.end(number);
-                self.has_spare = true;
-                self.note_fault(e.session, e.seq);
+                self.history.push_reserved(Event::LogFailed {
+                    session: e.session,
+                    seq: e.seq,
+                });
+                self.has_spare = false;
                 return Err(BookError::LogFault);
             }
         }
         self.transactions.follow(&e, hosts);
         self.sessions.follow(number, &e);
         self.scheduled.push_reserved(place);
-        self.history.push_reserved(Event::Sched(e));
+        self.history.push_reserved(Event::Sched(room.filled(e)));
         self.targets = self.enabled & hosts;
         self.has_spare = false;
         Ok(number)
@@ -578,8 +562,9 @@ impl<S: Store> Book<S> {
             }
             Err(LogError::Failed) => {
                 forget(&mut self.marker_names, name);
-                self.has_spare = true;
-                self.note_fault(0, 0);
+                self.history
+                    .push_reserved(Event::LogFailed { session: 0, seq: 0 });
+                self.has_spare = false;
                 return Err(BookError::LogFault);
             }
         }

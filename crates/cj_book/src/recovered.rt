@@ -76,7 +76,7 @@ impl Recovered {
         ensures { OnOk result (IsRecovered (placement_of placement.now) (take (place + 1) history.now) self.new.scheduled.items self.new.transactions self.new.marker_names self.new.greatest) }
     {
         match &history[place] {
-            Event::Sched(e) => self.add_entry(placement, place, e),
+            Event::Sched(boxed) => self.add_entry(placement, place, boxed.entry()),
             Event::Marker { name, .. } => {
                 self.marker_names.insert(MarkerName { name: name.copy() })?;
                 Ok(())

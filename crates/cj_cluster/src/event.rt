@@ -1,13 +1,14 @@
 //! The events of a history.
 
-use cj_model::{Duplicate, Entry, Name, NoMemory};
+use crate::boxed::BoxedEntry;
+use cj_model::{Duplicate, Name, NoMemory};
 use std::alloc::Global;
 
 /// What happened, in the order in which the controller saw it. A mask has bit b for backend b.
 #[derive(Drop)]
 pub enum Event {
     /// An entry was scheduled: it is the log's next, and open.
-    Sched(Entry),
+    Sched(BoxedEntry),
     /// The open entry ended; the backends of both masks are no longer enabled.
     Ended { failed: u32, starved: u32 },
     /// A backend failed in a session's read.

@@ -2,11 +2,13 @@
 //! scripts (`specs/`), with their laws (`proofs/`).
 #![tactic(auto)]
 
+mod boxed;
 mod event;
 mod laws;
 mod moves;
 mod session;
 
+pub use boxed::BoxedEntry;
 pub use event::Event;
 pub use laws::sessions_stand_between_replies;
 pub use moves::{

@@ -11,6 +11,7 @@ pub mod SoloTurns
 pub mod SoloWrites
 pub mod StartEnables
 pub mod StartEnds
+pub mod StartLonger
 pub mod StartReplays
 pub mod StartTakes
 pub mod StartWhole

@@ -16,8 +16,9 @@ use Rattle.cj_cluster.specs.Moves.Moves.{entry_numbered, is_orphan, last_number,
 use Rattle.cj_backend.specs.Backends.{Arming}
 use Rattle.cj_replica.specs.Cells.{CellState, KeepsBegun}
 use Rattle.cj_records.specs.RecordFiles.{Finds}
+use Rattle.cj_records.specs.Records.{WritesOnlyNew}
 use Rattle.cj_log.specs.declared.item.LogItem.{LogItem}
-use Rattle.cj_log.specs.Logs.{HasBadItem, log_magic}
+use Rattle.cj_log.specs.Logs.{HasBadItem, KeepsItems, log_magic}
 use Rattle.cj_opening.specs.Openings.{OpensTo}
 use Rattle.cj_book.specs.declared.error.StartError.{StartError}
 use Rattle.cj_book.specs.declared.error.StartError.TheVariants as errors
@@ -104,11 +105,15 @@ pub record StartsFrom (found : List LogItem → Type 0) (p : Placement) (backend
   pub started : HasStarted p opening (map (λ (x : BackendState). x.faults) backends) w
   pub uncalled : log opening ≡ [] → map backend_of w.cells ≡ backends
 
--- why the bytes of the log's store are no history's, which leaves them as they are
+-- The bytes keep the items that they kept, and maybe more behind them; or only a new file was written.
+abbrev pub LosesNothing : List ℕ → List ℕ → Type 0
+LosesNothing old new = WritesOnlyNew old new ⊎ (items : List LogItem) × KeepsItems old items × (more : List LogItem) × KeepsItems new (items ++ more)
+
+-- A start that is refused loses nothing. Bytes that are no history's are said to be, and stay as they are.
 abbrev pub RefusesBytes : {W S : Type 0} → (S → List ℕ) → List ℕ → Result W (StartError × S) → Type 0
 RefusesBytes held old (Ok w) = Unit {0}
-RefusesBytes held old (Err (errors.StoreFault, store)) = Unit {0}
-RefusesBytes held old (Err (errors.NoMemory, store)) = Unit {0}
+RefusesBytes held old (Err (errors.StoreFault, store)) = LosesNothing old (held store)
+RefusesBytes held old (Err (errors.NoMemory, store)) = LosesNothing old (held store)
 RefusesBytes held old (Err (errors.BadRecord offset, store)) = (Finds log_magic old (Err offset) ⊎ HasBadItem old offset) × (held store ≡ old)
 RefusesBytes held old (Err (errors.BadEntry n, store)) = KeepsBadEntry old n × (held store ≡ old)
 

@@ -6,7 +6,7 @@ ghost use Rattle.cj_cluster.specs.Moves.Moves as moves;
 ghost use Rattle.cj_cluster.specs.Moves.Moves.{abort_entry, with_entry};
 ghost use Rattle.cj_state.specs.Effects.{with_core};
 ghost use Rattle.cj_state.specs.Worlds.{IsSameButLog};
-ghost use Rattle.cj_core.specs.Proving.StartParts.{AreStanding, CountsFaultOfPart, EndedTo, EndedWhere, IsUntouched, OnlyTakes, TakesPast, TransactionEnded};
+ghost use Rattle.cj_core.specs.Proving.StartParts.{AreStanding, CountsFaultOfPart, EndedTo, EndedWhere, IsLonger, IsUntouched, OnlyTakes, TakesPast, TransactionEnded};
 
 use crate::replaying::unless_starved;
 use cj_backend::Backend;
@@ -20,6 +20,7 @@ fn schedule_end<B: Backend, S: Store>(state: &mut State<B, S>, tx: u64) -> Resul
     requires orphan { moves.is_orphan state.old.core tx ≡ true }
     requires free { is_idle state.old.core.history ≡ true }
     ensures ok { OnOk result (IsSameButLog (with_core state.old (with_entry state.old.core (abort_entry state.old.core tx))) state.new) }
+    ensures longer { IsLonger state.old state.new }
     ensures cause { CountsFaultOfPart state.old.recovery_log.faults result state.new.recovery_log.faults }
 {
     let Ok(entry) = state.abort_entry(tx) else {
@@ -73,6 +74,7 @@ fn end_transaction<B: Backend, S: Store>(state: &mut State<B, S>, tx: u64) -> Re
     requires alone { state.old.core.sessions ≡ [] }
     requires stands { AreStanding state.old }
     ensures ended { OnOk result (TransactionEnded tx state.old state.new) }
+    ensures longer { IsLonger state.old state.new }
     ensures cause { CountsFaultOfPart state.old.recovery_log.faults result state.new.recovery_log.faults }
 {
     schedule_end(state, tx)?;
@@ -88,6 +90,7 @@ fn end_where_open<B: Backend, S: Store>(state: &mut State<B, S>, tx: u64) -> Res
     requires alone { state.old.core.sessions ≡ [] }
     requires stands { AreStanding state.old }
     ensures ended { OnOk result (EndedWhere (moves.is_orphan state.old.core tx) tx state.old state.new) }
+    ensures longer { IsLonger state.old state.new }
     ensures cause { CountsFaultOfPart state.old.recovery_log.faults result state.new.recovery_log.faults }
 {
     if state.is_orphan(tx) {
@@ -103,6 +106,7 @@ pub fn end_all<B: Backend, S: Store>(state: &mut State<B, S>) -> Result<(), Star
     requires alone { state.old.core.sessions ≡ [] }
     requires stands { AreStanding state.old }
     ensures ended { OnOk result (EndedTo state.old state.new (moves.last_number state.old.core)) }
+    ensures longer { IsLonger state.old state.new }
     ensures cause { CountsFaultOfPart state.old.recovery_log.faults result state.new.recovery_log.faults }
 {
     for before in 0..state.length() {

@@ -8,7 +8,7 @@ ghost use Rattle.cj_cluster.specs.Moves.Moves as moves;
 ghost use Rattle.cj_cluster.specs.Moves.Moves.{not_now};
 ghost use Rattle.cj_state.specs.Effects.{with_core};
 ghost use Rattle.cj_state.specs.Faults.{faults_of};
-ghost use Rattle.cj_core.specs.Proving.StartParts.{enabled_where, CountsFaultOfPart, EnabledTo, HasReplayed, IsSameAt, OnlyReplays, TookNext};
+ghost use Rattle.cj_core.specs.Proving.StartParts.{enabled_where, CountsFaultOfPart, EnabledTo, HasReplayed, IsLonger, IsSameAt, OnlyReplays, TookNext};
 
 use cj_backend::Backend;
 use cj_book::{BookError, StartError};
@@ -83,6 +83,7 @@ fn enable_where_there<B: Backend, S: Store>(
     requires off { histories.is_enabled state.old.core.history b ≡ false }
     requires there { (p : ℕ) → position_at state.old.core b ≡ Some p → p ≡ moves.last_number state.old.core }
     ensures ok { OnOk result (state.new ≡ with_core state.old (enabled_where (position_at state.old.core b) b state.old.core)) }
+    ensures longer { IsLonger state.old state.new }
     ensures cause { CountsFaultOfPart state.old.recovery_log.faults result state.new.recovery_log.faults }
 {
     if state.position(b).is_none() {
@@ -104,6 +105,7 @@ pub fn enable_everywhere<B: Backend, S: Store>(state: &mut State<B, S>) -> Resul
     requires off { (b : ℕ) → histories.is_enabled state.old.core.history b ≡ false }
     requires there { (b p : ℕ) → position_at state.old.core b ≡ Some p → p ≡ moves.last_number state.old.core }
     ensures ok { OnOk result (EnabledTo state.old state.new state.old.core.placement.backends) }
+    ensures longer { IsLonger state.old state.new }
     ensures cause { CountsFaultOfPart state.old.recovery_log.faults result state.new.recovery_log.faults }
 {
     for b in 0..state.placement().count() {

@@ -3,8 +3,8 @@
 ghost use Rattle.std.specs.Prelude.{◌≡◌, ◌≤◌, true, [], length, map, vec_capacity, IfOk, OnOk};
 ghost use Rattle.cj_cluster.specs.History.Histories.{log};
 ghost use Rattle.cj_core.specs.Starts.{backend_of, state_by, AreHolding, AreCurrent, CountsFaultOfStart, HasStarted, HaveBegunNone, KeepEachBegun, RefusesBytes, StartsFrom};
-ghost use Rattle.cj_core.specs.Proving.StartParts.{CountsFaultOfPart};
-ghost use Rattle.cj_opening.specs.Openings.{IsOpening};
+ghost use Rattle.cj_core.specs.Proving.StartParts.{CountsFaultOfPart, IsLonger};
+ghost use Rattle.cj_opening.specs.Openings.{IsOpening, items_of};
 ghost use Rattle.cj_state.specs.Beginnings.{AreEmpty, AreFresh, opened_core};
 ghost use Rattle.cj_state.specs.Faults.{faults_of};
 ghost use Rattle.cj_log.specs.Logs.{KeepsItems};
@@ -81,6 +81,7 @@ fn bring_up<B: Backend, S: Store>(state: &mut State<B, S>) -> Result<(), StartEr
     ensures started { OnOk result (HasStarted state.old.core.placement state.old.core.history (faults_of state.old.cells) state.new) }
     ensures uncalled { OnOk result (log state.old.core.history ≡ [] → state.new.cells ≡ state.old.cells) }
     ensures setup { OnOk result (state.new.setup ≡ state.old.setup) }
+    ensures longer { IsLonger state.old state.new }
     ensures cause { CountsFaultOfPart state.old.recovery_log.faults result state.new.recovery_log.faults }
 {
     replay_everywhere(state)?;
@@ -96,8 +97,8 @@ impl<B: Backend + Drop, S: Store + Drop> World<B, S> {
     /// the order of their numbers, and each transaction that was left open is ended. No session is open then.
     ///
     /// A backend that fails is out, and the start goes on without it; one that wants memory ends the start with `NoMemory`. Refused,
-    /// it hands the log's store back, and the backends are dropped. `BadRecord` and `BadEntry` come exactly where the bytes of the log
-    /// are no history's, which leaves them as they are.
+    /// it hands the log's store back, in which nothing is lost, and the backends are dropped. `BadRecord` and `BadEntry` come exactly
+    /// where the bytes of the log are no history's, which leaves them as they are.
     pub fn start(
         alloc: Global,
         parts: Parts,
@@ -111,6 +112,7 @@ impl<B: Backend + Drop, S: Store + Drop> World<B, S> {
         requires disk { S.TELLS ≡ true → Only (S.held log) (S.may log) }
         ensures started { IfOk result (StartsFrom (λ items. S.TELLS ≡ true → KeepsItems (S.held log) items) (placement_of parts.book.placement) (map (state_by B.told B.faults B.asks B.login B.arming) backends)) }
         ensures setup { IfOk result (λ world. world.setup ≡ record { names = parts.book.placement.names; register = parts.accounts }) }
+        ensures kept { S.TELLS ≡ true → IfOk result (λ world. KeepsItems world.recovery_log.bytes (items_of world.core.history)) }
         ensures bytes { S.TELLS ≡ true → RefusesBytes S.held (S.held log) result }
         ensures cause { CountsFaultOfStart S.faults (S.faults log) result }
     {
@@ -127,7 +129,9 @@ impl<B: Backend + Drop, S: Store + Drop> World<B, S> {
         };
         let book = Book::open(alloc, book, log)?;
         let mut state = State::new(alloc, book, cells, sessions, accounts);
-        match bring_up(&mut state) {
+        let brought = bring_up(&mut state);
+        state.legal();
+        match brought {
             Ok(()) => Ok(World { state, emptied }),
             Err(error) => Err((error, state.into_log())),
         }

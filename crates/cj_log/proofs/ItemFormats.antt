@@ -1,5 +1,7 @@
 -- The body of an item is a format: its bytes are those of items, and it holds the items.
 use Rattle.std.proofs.Common.{◌≡◌, ◌==◌, ℕ, ◌^◌, ◌<◌, false, nat_le, List, [], ◌∷◌, ◌++◌, length, Option, Some, None, Result, Err, refl, sym, ap, subst, ◌∙◌, arith, inl, inr}
+use Rattle.std.proofs.lemmas.List.{append-nil}
+use Rattle.std.specs.List.{AllByRecursion}
 use Rattle.std.proofs.lemmas.Bool.{cases_eq, eqb-true, ne_eqb, leb-true, le-leb, and_parts, and_from}
 use Rattle.cj_model.specs.declared.limits.TheConstants.{USER_LIMIT}
 use Rattle.cj_model.specs.Sql.Names.{is_text, IsNameOrEmpty}
@@ -16,7 +18,8 @@ use Rattle.cj_log.specs.declared.error.ItemError.{ItemError}
 use Rattle.cj_log.specs.declared.item.LogItem.{LogItem}
 use Rattle.cj_log.specs.declared.item.LogItem.TheVariants.{Entry, Marker}
 use Rattle.cj_log.specs.Items.{backend_byte, item_bytes, IsBackend, IsItem, IsNoItem, BodiesFixItems}
-use Rattle.cj_log.specs.Proving.ItemFormats.{is_user, user, text, backend_of, backend, entry_from, entry_in, entry, marker_from, marker_in, marker, kind_of, fields_of, item, item_error, FindsItem}
+use Rattle.cj_log.specs.Proving.ItemFormats.{is_user, user, text, backend_of, backend, entry_from, entry_in, entry, marker_from, marker_in, marker, kind_of, fields_of, item, item_error, item_found, item_of, items_in, FindsItem}
+use Rattle.cj_log.specs.Logs.{bodies_of}
 
 -- ---- the law of formats
 
@@ -133,3 +136,13 @@ one_item a b is its e =
 pub name_short : (n : List ℕ) → IsNameOrEmpty n → length n < 2 ^ 16
 name_short [] is = omega arith
 name_short (b ∷ n) is = ((fields_hold.of_name (b ∷ n)).1 is).0.0
+
+-- ---- the items of bodies
+
+pub item_back : (x : LogItem) → IsItem x → item_of (item_bytes x) ≡ x
+unfolding item_of
+item_back x is = ap (λ (bytes : List ℕ). item_found (item.reads bytes)) (sym (bytes_same x) ∙ sym (append-nil (item.bytes x))) ∙ ap item_found (item_law.again x [] (item_held x is))
+
+pub items_back : (items : List LogItem) → AllByRecursion IsItem items → items_in (bodies_of items) ≡ items
+items_back [] each = refl
+items_back (x ∷ items) each = ap (λ (y : LogItem). y ∷ items_in (bodies_of items)) (item_back x each.0) ∙ ap (λ (ys : List LogItem). x ∷ ys) (items_back items each.1)

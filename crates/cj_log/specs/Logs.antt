@@ -1,19 +1,15 @@
 -- The log: a list of items in a store.
 use Rattle.std.specs.Prelude.{◌≡◌, ◌⊎◌, ℕ, Bool, true, false, List, [], ◌∷◌, ◌++◌, length, map, Result, Ok, Err, if◌then◌else◌, nat_le}
-use Rattle.std.specs.declared.option.Option.{Option}
-use Rattle.std.specs.declared.option.Option.TheVariants.{None, Some}
 use Rattle.std.specs.List.{AllByRecursion}
-use Rattle.std.specs.Str.{bytes_eq}
 use Rattle.cj_outside.specs.Causes.{next}
 use Rattle.cj_records.specs.declared.error.RecordsError.{RecordsError}
 use Rattle.cj_records.specs.declared.error.RecordsError.TheVariants as errors
 use Rattle.cj_records.specs.RecordFiles.{front_bytes, Finds}
 use Rattle.cj_records.specs.Records.{begun, WritesOnlyNew}
 use Rattle.cj_log.specs.declared.item.LogItem.{LogItem}
-use Rattle.cj_log.specs.declared.item.LogItem.TheVariants.{Entry, Marker}
 use Rattle.cj_log.specs.Items.{item_bytes, IsItem, IsNoItem}
 
--- what contracts see of a log: its store, its items, whether the gate behind them is torn, and the body that was refused then
+-- What contracts see of a log: its store, its items where the store tells them, whether the gate behind them is torn, and the body that was refused then.
 pub record LogState (S : Type 0) : Type 0 where
   pub store : S
   pub items : List LogItem
@@ -48,15 +44,15 @@ abbrev pub HasBadItem : List ℕ → ℕ → Type 0
 HasBadItem bytes offset = (list : List (List ℕ)) × Finds log_magic bytes (Ok list) × BadIn list offset
 
 -- what opening makes of the bytes
-abbrev pub Opens : {S : Type 0} → (S → List ℕ) → List ℕ → Result (LogState S) (RecordsError × S) → Type 0
-Opens held old (Ok log) = KeepsItems old log.items × (held log.store ≡ (if nat_le (length old) 5 then begun log_magic else old))
+abbrev pub Opens : {S : Type 0} → (S → List ℕ) → List ℕ → Result (LogState S × List LogItem) (RecordsError × S) → Type 0
+Opens held old (Ok (log, found)) = KeepsItems old found × (log.items ≡ found) × (held log.store ≡ (if nat_le (length old) 5 then begun log_magic else old))
 Opens held old (Err (errors.Failed, store)) = WritesOnlyNew old (held store)
 Opens held old (Err (errors.NoMemory, store)) = WritesOnlyNew old (held store)
 Opens held old (Err (errors.BadRecord offset, store)) = (Finds log_magic old (Err offset) ⊎ HasBadItem old offset) × (held store ≡ old)
 
 -- opening counts a fault exactly where it answers that the store failed
-abbrev pub CountsOpenFault : {S : Type 0} → (S → ℕ) → ℕ → Result (LogState S) (RecordsError × S) → Type 0
-CountsOpenFault faults before (Ok log) = faults log.store ≡ before
+abbrev pub CountsOpenFault : {S : Type 0} → (S → ℕ) → ℕ → Result (LogState S × List LogItem) (RecordsError × S) → Type 0
+CountsOpenFault faults before (Ok (log, found)) = faults log.store ≡ before
 CountsOpenFault faults before (Err (errors.Failed, store)) = faults store ≡ next before
 CountsOpenFault faults before (Err (errors.NoMemory, store)) = faults store ≡ before
 CountsOpenFault faults before (Err (errors.BadRecord offset, store)) = faults store ≡ before
@@ -79,11 +75,9 @@ Refuses old item new (Err _) = new.torn ≡ true → (new.refused ≡ item_bytes
 abbrev pub LeavesItems : (List ℕ → Type 0) → List LogItem → Type 0
 LeavesItems may items = (image : List ℕ) → may image → KeepsItems image items
 
--- where a marker stands: how many entries come before it
-abbrev pub marker_of : List ℕ → List LogItem → Option ℕ
-marker_of name [] = None
-marker_of name (Entry e ∷ items) = marker_of name items
-marker_of name (Marker m ∷ items) = if bytes_eq m.name name then Some m.after else marker_of name items
+-- the bytes have the items; while the gate behind them is torn maybe one more, the one that was refused
+abbrev pub KeepsAtLeast : List ℕ → List LogItem → Bool → Type 0
+KeepsAtLeast bytes items torn = KeepsItems bytes items ⊎ (torn ≡ true) × (refused : LogItem) × KeepsItems bytes (items ++ refused ∷ [])
 
 -- the bytes of a log fix its items
 abbrev pub BytesFixItems : Type 0

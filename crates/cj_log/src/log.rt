@@ -7,7 +7,7 @@ ghost use Rattle.cj_outside.specs.Stores.{Only, LeavesOnly};
 ghost use Rattle.cj_records.specs.Records.{SameRecords};
 ghost use Rattle.cj_log.specs.declared.item.LogItem.{LogItem};
 ghost use Rattle.cj_log.specs.Items.{IsItem, CanAppend};
-ghost use Rattle.cj_log.specs.Logs.{log_magic, Adds, KeepsItems, marker_of};
+ghost use Rattle.cj_log.specs.Logs.{log_magic, Adds, KeepsAtLeast, KeepsItems};
 ghost use Rattle.cj_log.specs.Logs as log;
 ghost use Rattle.cj_log.specs.Proving.Keeping.{ItemsOf, log_error_of};
 
@@ -15,7 +15,6 @@ use crate::decode::item_of;
 use crate::encode::{bytes_of, legal_item};
 use crate::error::{ItemError, LogError};
 use crate::item::{LogItem, LogItems};
-use cj_model::Name;
 use cj_outside::Store;
 use cj_records::{Records, RecordsError};
 use std::alloc::Global;
@@ -50,21 +49,6 @@ fn read_items<S: Store>(
     Ok(items)
 }
 
-/// How many entries stand before the first marker of a name, or none where no marker has it.
-fn marker_in(mut items: &[LogItem], name: &Name) -> Option<u64>
-    ensures { result ≡ marker_of name.now items.entry.now }
-{
-    while let [item, rest @ ..] = items {
-        if let LogItem::Marker(marker) = item {
-            if marker.name.is(name) {
-                return Some(marker.after);
-            }
-        }
-        items = rest;
-    }
-    None
-}
-
 /// The refusal of an append, as the log tells it.
 fn log_error(error: RecordsError) -> LogError
     ensures { result ≡ log_error_of error }
@@ -75,35 +59,36 @@ fn log_error(error: RecordsError) -> LogError
     }
 }
 
-/// The recovery log: entries and markers in the order in which they were appended.
+/// The recovery log: entries and markers in the order in which they were appended. It holds none of them in memory.
 #[derive(Drop)]
 pub struct Log<S: Store> {
     alloc: Global,
     records: Records<S>,
-    items: LogItems,
 }
 
 impl<S: Store> Model for Log<S> {
     ghost use Rattle.cj_log.specs.Logs.{LogState};
+    ghost use Rattle.cj_log.specs.Proving.ItemFormats.{items_in};
     ghost use Rattle.cj_log.specs.Proving.Keeping.{AgreesWithRecords};
 
     ghost Value = { LogState S };
 
-    ghost view = { λ log. record { store = log.records.store; items = log.items; torn = log.records.torn; refused = log.records.refused } };
+    ghost view = { λ log. record { store = log.records.store; items = items_in log.records.list; torn = log.records.torn; refused = log.records.refused } };
 
-    ghost invariant = { λ log. AgreesWithRecords S.TELLS log.records log.items };
+    ghost invariant = { λ log. AgreesWithRecords S.TELLS log.records (items_in log.records.list) };
 }
 
 impl<S: Store> Log<S> {
-    /// Opens the log of a store, which is begun where it is new.
+    /// Opens the log of a store, which is begun where it is new, and answers the items that it found.
     ///
     /// All gates are looked at first, and then the bodies in order. `BadRecord` comes exactly where
     /// the bytes are no log. Refused, it hands the store back, in which nothing was written but the
     /// bytes of a new file.
-    pub fn open(alloc: Global, store: S) -> Result<Log<S>, (RecordsError, S)>
+    pub fn open(alloc: Global, store: S) -> Result<(Log<S>, LogItems), (RecordsError, S)>
         requires { S.TELLS ≡ true → Only (S.held store) (S.may store) }
         ensures bytes { S.TELLS ≡ true → log.Opens S.held (S.held store) result }
-        ensures shut { IfOk result (λ log. log.torn ≡ false) }
+        ensures each { IfOk result (λ opened. AllByRecursion IsItem opened.1) }
+        ensures shut { IfOk result (λ opened. opened.0.torn ≡ false) }
         ensures cause { log.CountsOpenFault S.faults (S.faults store) result }
     {
         let mut records = match Records::open(alloc, store, MAGIC) {
@@ -111,11 +96,7 @@ impl<S: Store> Log<S> {
             Err(refused) => return Err(refused),
         };
         match read_items(alloc, &mut records) {
-            Ok(items) => Ok(Log {
-                alloc,
-                records,
-                items: LogItems::from_vec(items),
-            }),
+            Ok(items) => Ok((Log { alloc, records }, LogItems::from_vec(items))),
             Err(error) => Err((error, records.into_store())),
         }
     }
@@ -124,7 +105,7 @@ impl<S: Store> Log<S> {
     /// of the item is opened.
     pub fn append(&mut self, item: LogItem) -> Result<(), LogError>
         requires { CanAppend item }
-        ensures items { Adds self.old.items item self.new.items result }
+        ensures items { S.TELLS ≡ true → Adds self.old.items item self.new.items result }
         ensures memory { S.TELLS ≡ true → IsErrOf result LogError.NoMemory → self.new.torn ≡ true → self.old.torn ≡ true }
         ensures cause { CountsFault (IsErrOf result LogError.Failed) (S.faults self.old.store) (S.faults self.new.store) }
 
@@ -139,23 +120,18 @@ impl<S: Store> Log<S> {
         let Ok(body) = bytes_of(self.alloc, &item) else {
             return Err(LogError::NoMemory);
         };
-        if self.items.push(item).is_err() {
-            return Err(LogError::NoMemory);
-        }
         match self.records.append(&body) {
             Ok(_) => Ok(()),
-            Err(error) => {
-                self.items.pop();
-                Err(log_error(error))
-            }
+            Err(error) => Err(log_error(error)),
         }
     }
 
-    /// Shows what holds of all logs: the bytes, and what a stop leaves of them, keep these items, as
-    /// long as no append was refused while it opened a gate.
+    /// Shows what holds of all logs: the bytes, and what a stop leaves of them, keep these items; where
+    /// an append was refused while it opened a gate, maybe that item too.
     pub fn legal(&self)
-        ensures each { AllByRecursion IsItem self.now.items }
+        ensures each { S.TELLS ≡ true → AllByRecursion IsItem self.now.items }
         ensures items { S.TELLS ≡ true → self.now.torn ≡ false → KeepsItems (S.held self.now.store) self.now.items }
+        ensures at_least { S.TELLS ≡ true → KeepsAtLeast (S.held self.now.store) self.now.items self.now.torn }
         ensures safe { S.TELLS ≡ true → self.now.torn ≡ false → log.LeavesItems (S.may self.now.store) self.now.items }
 
         // Between two calls a stop leaves these items, whatever is appended next, or them with the one that
@@ -163,21 +139,6 @@ impl<S: Store> Log<S> {
         ensures now { S.TELLS ≡ true → (item : LogItem) → LeavesOnly S.moment S.since self.now.store self.now.store (log.IsBeforeOrAfter self.now item) }
     {
         self.records.legal();
-    }
-
-    /// The items, in order. They are fewer than 2^59.
-    pub fn items(&self) -> &[LogItem]
-        ensures items { result.now ≡ self.now.items }
-        ensures few { length result.now < 2 ^ 59 }
-    {
-        self.items.as_slice()
-    }
-
-    /// How many entries stand before the marker of a name, or none where there is none.
-    pub fn marker(&self, name: &Name) -> Option<u64>
-        ensures { result ≡ marker_of name.now self.now.items }
-    {
-        marker_in(self.items.as_slice(), name)
     }
 
     /// The store, as it is.

@@ -25,22 +25,22 @@ use Rattle.cj_opening.specs.Proving.Keeping.{entry_at, KeepsPlaces, KeepsSession
 -- ---- the entries at their places
 
 -- one more event leaves the entry at a place
-entry_stays : (h : List Event) (new : Event) (place : Option ℕ) (e : Entry) → option_and_then (entry_at h) place ≡ Some e → option_and_then (entry_at (h ++ new ∷ [])) place ≡ Some e
+pub entry_stays : (h : List Event) (new : Event) (place : Option ℕ) (e : Entry) → option_and_then (entry_at h) place ≡ Some e → option_and_then (entry_at (h ++ new ∷ [])) place ≡ Some e
 entry_stays h new None e is = absurd (cc is)
 entry_stays h new (Some p) e is = option_and_then_some scheduled_entry (slice_get h p) e is (λ d there is_sched. rw (get_left h (new ∷ []) p d there) is_sched)
 
 -- one more place leaves those before it
-place_stays : (places : List ℕ) (new i : ℕ) → i < length places → slice_get (places ++ new ∷ []) i ≡ slice_get places i
+pub place_stays : (places : List ℕ) (new i : ℕ) → i < length places → slice_get (places ++ new ∷ []) i ≡ slice_get places i
 place_stays places new i lt =
     let l = length-append places (new ∷ []) in
     slice_get-get_or (places ++ new ∷ []) i 0 (omega arith) ∙ (ap (λ p. Some p) (get_or_append_left places (new ∷ []) 0 i lt) ∙ sym (slice_get-get_or places i 0 lt))
 
 -- the entries of a history at these places
-abbrev HaveEntries : List Event → List ℕ → List Entry → Type 0
+abbrev pub HaveEntries : List Event → List ℕ → List Entry → Type 0
 HaveEntries h places entries = (i : ℕ) → option_and_then (entry_at h) (slice_get places i) ≡ slice_get entries i
 
 -- an event that schedules nothing
-entries_same : (h : List Event) (places : List ℕ) (entries : List Entry) (new : Event) → length places ≡ length entries → HaveEntries h places entries → HaveEntries (h ++ new ∷ []) places entries
+pub entries_same : (h : List Event) (places : List ℕ) (entries : List Entry) (new : Event) → length places ≡ length entries → HaveEntries h places entries → HaveEntries (h ++ new ∷ []) places entries
 entries_same h places entries new as_many have i =
     ⊎_elim
     (λ (q : (e : Entry) × (i < length entries) × (slice_get entries i ≡ Some e) × (get_or entries i e ≡ e)). entry_stays h new (slice_get places i) q.0 (have i ∙ q.2) ∙ sym q.2)
@@ -48,7 +48,7 @@ entries_same h places entries new as_many have i =
     (slice_get_cases entries i).1
 
 -- an entry that is scheduled
-entries_sched : (h : List Event) (places : List ℕ) (entries : List Entry) (new : Entry) → length places ≡ length entries → HaveEntries h places entries
+pub entries_sched : (h : List Event) (places : List ℕ) (entries : List Entry) (new : Entry) → length places ≡ length entries → HaveEntries h places entries
     → HaveEntries (h ++ Sched new ∷ []) (places ++ length h ∷ []) (entries ++ new ∷ [])
 entries_sched h places entries new as_many have i =
     ⊎_elim

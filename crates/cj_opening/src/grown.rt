@@ -18,7 +18,7 @@ use crate::act::read_act;
 use crate::error::OpeningError;
 use crate::markers::MarkerName;
 use crate::sessions::{SessionSoFar, fits_tx, tx_behind};
-use cj_cluster::Event;
+use cj_cluster::{BoxedEntry, Event};
 use cj_log::{LogEntry, LogItem, LogMarker};
 use cj_model::{Act, Duplicate, Entry, NoMemory, REQUEST_LIMIT, SESSION_NUMBER_LIMIT, Same};
 use std::alloc::Global;
@@ -41,7 +41,7 @@ pub fn entry_at(events: &[Event], place: usize) -> Option<&Entry>
     ensures { option_copied result ≡ option_and_then scheduled_entry (slice_get events.now place) }
 {
     match events.get(place) {
-        Some(Event::Sched(entry)) => Some(entry),
+        Some(Event::Sched(boxed)) => Some(boxed.entry()),
         _ => None,
     }
 }
@@ -219,7 +219,8 @@ impl Grown {
     {
         self.follow(&entry)?;
         self.places.push(self.events.len())?;
-        self.events.push(Event::Sched(entry))?;
+        let boxed = BoxedEntry::new(self.alloc, entry)?;
+        self.events.push(Event::Sched(boxed))?;
         self.events.push(Event::Ended {
             failed: 0,
             starved: 0,

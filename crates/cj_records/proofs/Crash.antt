@@ -1,10 +1,11 @@
 -- What a stop at any moment of an append leaves.
-use Rattle.std.proofs.Common.{◌≡◌, ◌⊎◌, inl, inr, ⊎_elim, ℕ, ◌+◌, ◌≤◌, Bool, true, false, List, length, Err, refl, sym, subst, arith}
+use Rattle.std.proofs.Common.{◌≡◌, ◌⊎◌, inl, inr, ⊎_elim, ℕ, ◌+◌, ◌≤◌, Bool, true, false, List, [], ◌∷◌, ◌++◌, length, Ok, Err, refl, sym, subst, arith}
 use Rattle.cj_outside.specs.declared.sink.OutError.{OutError}
 use Rattle.cj_outside.specs.Stores.{Torn, Only, Stepped, Steps, LeavesOnly, overwritten}
 use Rattle.cj_records.specs.declared.place.Place.{Place}
 use Rattle.cj_records.specs.Proving.Parts.{SameButGate, RecordStep, RecordSince, RecordImages}
 use Rattle.cj_records.specs.Proving.Places.{bodies_at}
+use Rattle.cj_records.specs.RecordFiles.{Finds}
 use Rattle.cj_records.specs.Records.{IsBeforeOrAfter}
 use Rattle.cj_records.specs.Proving.Keeping.{Laid, HasRecordBehind, body_behind, SurvivesStop}
 use Rattle.cj_records.proofs.Begun.{laid_finds}
@@ -77,6 +78,13 @@ module _ {D : Type 0} (moment : D → ℕ) (may : D → List ℕ → Type 0) (si
       step_finds image (inl stepped) = inl (laid_finds magic image bodies end false (behind_laid magic stepped.0 image bodies end (length tail) (images stepped.0 stepped.1) stepped.2) refl)
       step_finds image (inr gate) = ⊎_elim (λ same_list. inl same_list) (λ more. inr (inl more))
           (gate_cases magic (overwritten (held s1) (end + 1) tail) bodies end body image behind.reaches behind.body_behind (torn_same end (overwritten (held s1) (end + 1) tail) image behind.gate gate))
+
+-- the bytes as they are have the records, and maybe the one that was refused
+pub held_at_least : (held : List ℕ) (may : List ℕ → Type 0) (magic : List ℕ) (places : List Place) (end : ℕ) (torn : Bool) → Laid magic held (bodies_at held places) end torn → SurvivesStop true held may magic places end torn
+    → Finds magic held (Ok (bodies_at held places)) ⊎ (torn ≡ true) × Finds magic held (Ok (bodies_at held places ++ body_behind held end ∷ []))
+held_at_least held may magic places end torn laid safe = ⊎_elim
+    (λ up. ⊎_elim (λ same. inl same) (λ more. inr (up, more)) (gate_cases magic held (bodies_at held places) end (body_behind held end) held laid.reaches (safe.stands refl up) (record { front = refl; behind = refl; gate = laid.gate })))
+    (λ down. inl (laid_finds magic held (bodies_at held places) end torn laid down)) (two torn)
 
 -- ---- what holds of the fields afterwards
 

@@ -54,6 +54,10 @@ abbrev pub Refuses : {S E T : Type 0} → RecordList S → List ℕ → RecordLi
 Refuses old body new (Ok _) = new.torn ≡ false
 Refuses old body new (Err _) = new.torn ≡ true → (new.refused ≡ body) ⊎ (old.torn ≡ true) × (new.refused ≡ old.refused)
 
+-- the bytes have the list; while the gate is torn maybe one body more, the one that was refused
+abbrev pub KeepsAtLeast : {S : Type 0} → RecordList S → List ℕ → Type 0
+KeepsAtLeast records bytes = Finds records.magic bytes (Ok records.list) ⊎ (records.torn ≡ true) × Finds records.magic bytes (Ok (records.list ++ records.refused ∷ []))
+
 -- each image that a stop may leave now has this list and nothing more
 abbrev pub LeavesList : (List ℕ → Type 0) → List ℕ → List (List ℕ) → Type 0
 LeavesList may magic list = (image : List ℕ) → may image → Finds magic image (Ok list)

@@ -6,7 +6,7 @@ ghost use Rattle.cj_outside.specs.Streams.{most};
 ghost use Rattle.cj_codec.specs.Fields.{str64};
 ghost use Rattle.cj_records.specs.RecordFiles.{Finds, front_bytes};
 ghost use Rattle.cj_records.specs.Proving.Places.{body_at, end_of};
-ghost use Rattle.cj_records.specs.Records.{CountsOpenFault, Opens, Appends, CountsRecords, SameRecords, Reads, IsBeforeOrAfter, Refuses, LeavesList};
+ghost use Rattle.cj_records.specs.Records.{CountsOpenFault, Opens, Appends, CountsRecords, SameRecords, Reads, IsBeforeOrAfter, KeepsAtLeast, Refuses, LeavesList};
 ghost use Rattle.cj_records.specs.Proving.Keeping.{ReadsPart};
 ghost use Rattle.cj_outside.specs.Stores.{Only, Stays, Steps, LeavesOnly};
 
@@ -91,10 +91,11 @@ impl<S: Store> Records<S> {
         }
     }
 
-    /// Shows what holds of all records: their bytes are a record file with this list, as long as no
-    /// append was refused while it opened a gate.
+    /// Shows what holds of all records: their bytes are a record file with this list, or with one body
+    /// more where an append was refused while it opened a gate.
     pub fn legal(&self)
         ensures list { S.TELLS ≡ true → self.now.torn ≡ false → Finds self.now.magic (S.held self.now.store) (Ok self.now.list) }
+        ensures at_least { S.TELLS ≡ true → KeepsAtLeast self.now (S.held self.now.store) }
         ensures end { S.TELLS ≡ true → self.now.end ≡ length (front_bytes self.now.magic self.now.list) }
         ensures limit { self.now.end ≤ most }
         ensures safe { S.TELLS ≡ true → self.now.torn ≡ false → LeavesList (S.may self.now.store) self.now.magic self.now.list }

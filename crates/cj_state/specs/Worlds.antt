@@ -1,5 +1,5 @@
 -- What contracts see of a world, and what holds of every one.
-use Rattle.std.specs.Prelude.{◌≡◌, ℕ, ◌<◌, ◌≤◌, Bool, false, List, [], length, map, slice_index_or}
+use Rattle.std.specs.Prelude.{◌≡◌, ℕ, ◌<◌, ◌≤◌, Bool, List, [], length, map, slice_index_or}
 use Rattle.cj_model.specs.declared.account.Account.{Account}
 use Rattle.cj_model.specs.declared.request.Entry.{Entry}
 use Rattle.cj_cluster.specs.declared.event.Event.{Event}
@@ -12,8 +12,8 @@ use Rattle.cj_cluster.specs.Proving.Invariants.{CoreInvariant, HoldsPart}
 use Rattle.cj_cluster.specs.Moves.Runs.{AreBetween}
 use Rattle.cj_auth.specs.Admission.{Register}
 use Rattle.cj_place.specs.Layouts.{Layout, placement_of}
-use Rattle.cj_log.specs.Logs.{LogState, KeepsItems}
-use Rattle.cj_opening.specs.Openings.{items_of}
+use Rattle.cj_log.specs.Logs.{LogState}
+use Rattle.cj_book.specs.Books.{IsKeptIn}
 use Rattle.cj_replica.specs.Cells.{CellState}
 
 -- what no move changes: what the backends are called, and the accounts of the users
@@ -21,11 +21,10 @@ pub record Setup : Type 0 where
   pub names : List (List ℕ)
   pub register : Register
 
--- what is seen of the recovery log: the faults that its store has counted, the bytes that the store holds, and whether the gate behind its items may stand open
+-- what is seen of the recovery log: the faults that its store has counted, and the bytes that the store holds
 pub record LogView : Type 0 where
   pub faults : ℕ
   pub bytes : List ℕ
-  pub torn : Bool
 
 -- the state that moves change, the cells of the backends by their numbers, what no move changes, and what is seen of the recovery log
 pub record WorldState : Type 0 where
@@ -36,7 +35,7 @@ pub record WorldState : Type 0 where
 
 -- what is seen of a log
 abbrev pub log_view : {S : Type 0} → (S → ℕ) → (S → List ℕ) → LogState S → LogView
-log_view faults held log = record { faults = faults log.store; bytes = held log.store; torn = log.torn }
+log_view faults held log = record { faults = faults log.store; bytes = held log.store }
 
 -- the world with this log
 abbrev pub with_log : WorldState → LogView → WorldState
@@ -46,9 +45,9 @@ with_log w log = record w { recovery_log = log }
 abbrev pub IsSameButLog : WorldState → WorldState → Type 0
 IsSameButLog old new = new ≡ with_log old new.recovery_log
 
--- the log's bytes keep the entries and markers of the history, where no append was refused while it opened a gate
+-- the log's bytes keep the entries and markers of the history
 abbrev pub KeepsHistory : WorldState → Type 0
-KeepsHistory w = w.recovery_log.torn ≡ false → KeepsItems w.recovery_log.bytes (items_of w.core.history)
+KeepsHistory w = IsKeptIn w.recovery_log.bytes w.core.history
 
 -- the accounts of the users
 abbrev pub accounts_of : WorldState → List Account
@@ -70,7 +69,7 @@ core_of l h cells failed starved sessions greatest =
 
 -- what is seen of a log without bytes
 abbrev pub unseen_log : LogView
-unseen_log = record { faults = 0; bytes = []; torn = false }
+unseen_log = record { faults = 0; bytes = [] }
 
 -- the world of these, but for its log
 abbrev pub world_of : Register → Layout → List Event → List CellState → ℕ → ℕ → List OpenSession → ℕ → WorldState

@@ -20,7 +20,7 @@ ghost use Rattle.cj_auth.specs.Kept.{IsUserName};
 ghost use Rattle.cj_replica.specs.Cells.{CellState};
 ghost use Rattle.cj_state.specs.Worlds.{accounts_of, log_view, IsSameButLog, IsWorld, KeepsHistory};
 ghost use Rattle.cj_model.specs.Sql.Names.{is_name};
-ghost use Rattle.cj_opening.specs.Openings.{OpensTo};
+ghost use Rattle.cj_opening.specs.Openings.{OpensTo, items_of};
 ghost use Rattle.cj_book.specs.Starts.{greatest_session};
 ghost use Rattle.cj_outside.specs.Causes.{CountsFault};
 ghost use Rattle.cj_place.specs.Layouts.{placement_of};
@@ -149,7 +149,7 @@ impl<B: Backend + Drop, S: Store + Drop> State<B, S> {
         sessions: Sessions,
         accounts: Accounts,
     ) -> State<B, S>
-        requires opening { OpensTo book.recovery_log.items book.history }
+        requires opening { OpensTo (items_of book.history) book.history }
         requires numbers { book.sessions ≡ [] }
         requires none { sessions ≡ [] }
         requires greatest { book.greatest ≡ greatest_session (log book.history) }

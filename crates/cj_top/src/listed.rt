@@ -11,19 +11,19 @@ ghost use Rattle.cj_top.specs.Program as top;
 use cj_book::StartError;
 use cj_conf::Conf;
 use cj_listing::write_listing;
-use cj_log::Log;
+use cj_log::{Log, LogItems};
 use cj_outside::{OutError, Sink, Store};
 use cj_records::RecordsError;
 use std::alloc::Global;
 
-/// The log of the store, whose items are not looked at as a history.
-fn open_log<S: Store + Drop>(alloc: Global, store: S) -> Result<Log<S>, StartError>
+/// The items of the store's log, which are not looked at as a history.
+fn items_found<S: Store + Drop>(alloc: Global, store: S) -> Result<LogItems, StartError>
     requires { S.TELLS ≡ true → Only (S.held store) (S.may store) }
-    ensures found { IfOk result (λ log. Found S.TELLS (S.held store) log.items) }
+    ensures found { IfOk result (λ items. Found S.TELLS (S.held store) items) }
     ensures refused { IfErr result (RefusesLog S.faults store S.TELLS (S.held store)) }
 {
     match Log::open(alloc, store) {
-        Ok(log) => Ok(log),
+        Ok((_, items)) => Ok(items),
         Err((RecordsError::Failed, _)) => Err(StartError::StoreFault),
         Err((RecordsError::BadRecord(offset), _)) => Err(StartError::BadRecord(offset)),
         Err((RecordsError::NoMemory, _)) => Err(StartError::NoMemory),
@@ -54,7 +54,7 @@ pub fn run_log<S: Store + Drop, O: Sink>(
     ensures unlisted { OnErr result (output.new ≡ output.old) }
     ensures output { CountsFault (result ≡ Ok 6) (O.faults output.old) (O.faults output.new) }
 {
-    let log = open_log(alloc, log)?;
-    let answer = write_listing(alloc, conf.placement.names(), log.items(), output);
+    let items = items_found(alloc, log)?;
+    let answer = write_listing(alloc, conf.placement.names(), items.as_slice(), output);
     Ok(status_of_listing(answer))
 }

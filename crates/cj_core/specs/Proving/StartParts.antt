@@ -1,6 +1,7 @@
 -- The parts of a start.
 use Rattle.std.specs.Prelude.{◌≡◌, ◌≢◌, ◌⊎◌, ℕ, ◌+◌, ◌<◌, ◌≤◌, Bool, true, false, is_some, List, [], ◌∷◌, ◌++◌, filter, length, map, slice_get, All, Result, Ok, Err}
 use Rattle.std.specs.List.{AllPairs, range_with_len}
+use mathlib.Core.List.{IsPrefix}
 use Rattle.std.specs.Option.{option_map}
 use Rattle.std.specs.declared.option.Option.{Option}
 use Rattle.std.specs.declared.option.Option.TheVariants.{None, Some}
@@ -24,6 +25,10 @@ CountsFaultOfPart before (Err errors.StoreFault) now = now ≡ next before
 CountsFaultOfPart before (Err errors.NoMemory) now = now ≡ before
 CountsFaultOfPart before (Err (errors.BadRecord offset)) now = ⊥
 CountsFaultOfPart before (Err (errors.BadEntry n)) now = ⊥
+
+-- the history has grown, or is as before
+abbrev pub IsLonger : WorldState → WorldState → Type 0
+IsLonger old now = IsPrefix old.core.history now.core.history
 
 -- ---- what is seen of one backend
 

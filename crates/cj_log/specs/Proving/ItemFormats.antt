@@ -1,11 +1,12 @@
 -- The body of an item as a format, made of the formats of its fields.
-use Rattle.std.specs.Prelude.{ℕ, Bool, ◌≡◌, ◌==◌, ◌&&◌, nat_le, cond, if◌then◌else◌, List, [], length, Ok, Err, Result}
+use Rattle.std.specs.Prelude.{ℕ, Bool, ◌≡◌, ◌==◌, ◌&&◌, nat_le, cond, if◌then◌else◌, List, [], length, map, Ok, Err, Result}
 use Rattle.std.specs.declared.option.Option.{Option}
 use Rattle.std.specs.declared.option.Option.TheVariants.{None, Some}
 use Rattle.cj_model.specs.declared.limits.TheConstants.{USER_LIMIT}
 use Rattle.cj_model.specs.Sql.Names.{is_text}
 use Rattle.cj_codec.specs.Fields.{byte, number64, string16, string64, name}
 use Rattle.cj_codec.specs.Formats.{Format, behind, mapped, pair, such_that, nothing}
+use Rattle.cj_codec.specs.declared.error.Fault.{Fault}
 use Rattle.cj_codec.specs.declared.error.CodecError.{CodecError}
 use Rattle.cj_codec.specs.declared.error.CodecError.TheVariants as codec
 use Rattle.cj_log.specs.declared.error.ItemError.{ItemError}
@@ -85,3 +86,18 @@ abbrev pub FindsItem : List ℕ → Result LogItem ItemError → Type 0
 FindsItem body (Ok x) = (body ≡ item_bytes x) × IsItem x
 FindsItem body (Err errors.NoItem) = IsNoItem body
 FindsItem body (Err errors.NoMemory) = Unit {0}
+
+-- ---- the items of bodies
+
+-- what was read, or any item where none was
+abbrev pub item_found : Result (LogItem × List ℕ) Fault → LogItem
+item_found (Ok (x, rest)) = x
+item_found (Err fault) = Marker (record { after = 0; name = []; b = None })
+
+-- the item whose body this is
+unfoldable pub item_of : List ℕ → LogItem
+item_of body = item_found (item.reads body)
+
+-- the items whose bodies these are
+abbrev pub items_in : List (List ℕ) → List LogItem
+items_in list = map item_of list

@@ -19,7 +19,7 @@ IsBody body = (item : LogItem) × IsItem item × (item_bytes item ≡ body)
 pub record AgreesWithRecords {S : Type 0} (tells : Bool) (records : RecordList S) (items : List LogItem) : Type 0 where
   pub magic : records.magic ≡ log_magic
   pub bodies : tells ≡ true → records.list ≡ bodies_of items
-  pub each : AllByRecursion IsItem items
+  pub each : tells ≡ true → AllByRecursion IsItem items
   pub refused : tells ≡ true → records.torn ≡ true → IsBody records.refused
 
 -- the refusal of an append of records, as the log tells it

@@ -1,10 +1,11 @@
 use Rattle.std.proofs.Common.{◌≡◌}
-use Rattle.cj_core.specs.Proving.StartParts.{EndedTo}
+use Rattle.cj_core.specs.Proving.StartParts.{EndedTo, IsLonger}
 use Rattle.cj_core.proofs.ending.end_all.Given as goal
 
 abbrev pub invariant-loop-before : goal.invariant-loop-before
 invariant-loop-before g l =
     record {
       to : EndedTo l.fn.state l.state l.before;
+      longer : IsLonger l.fn.state l.state;
       log_faults : l.state.recovery_log.faults ≡ l.fn.state.recovery_log.faults;
     }

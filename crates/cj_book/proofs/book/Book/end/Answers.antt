@@ -4,7 +4,7 @@ use Rattle.cj_cluster.specs.History.Histories.{is_idle}
 use Rattle.cj_cluster.specs.History.Legality.{AreFitMasks}
 use Rattle.cj_opening.proofs.Kept.{marked_same}
 use Rattle.cj_book.specs.Books.{BookState}
-use Rattle.cj_book.proofs.Logged.{items_same}
+use Rattle.cj_book.proofs.Logged.{gate_same, items_same}
 use Rattle.cj_book.proofs.Keeping.{keeps_ended}
 use Rattle.cj_book.proofs.Following.{follows_ended}
 use Rattle.cj_book.proofs.book.Book.end.Goals as goal
@@ -19,5 +19,6 @@ invariant_of-self g c =
           (keeps_ended _ _ _ _ _ _ _ k.history c.args.failed c.args.starved (vec_capacity c.push_reserved.new.self) (search rules) (search rules) (search rules) is_open (omega arith));
       follows = rw c.push_reserved.ensures.items (follows_ended _ _ _ _ _ _ k.follows c.args.failed c.args.starved k.history.short is_open k.history.one_open masks);
       marked = rw c.push_reserved.ensures.items (marked_same c.self.inside.history.items c.self.inside.marker_names (Ended c.args.failed c.args.starved) refl k.marked);
-      logged = rw c.push_reserved.ensures.items (items_same c.self.inside.history.items (Ended c.args.failed c.args.starved) c.self.inside.recovery_log.items (λ n. refl) k.logged);
+      logged = rw c.push_reserved.ensures.items (λ t. items_same c.self.inside.history.items (Ended c.args.failed c.args.starved) c.self.inside.recovery_log.items (λ n. refl) (k.logged t));
+      gate = rw c.push_reserved.ensures.items (gate_same g.S.Store.TELLS c.self.inside.recovery_log.torn c.self.inside.history.items (Ended c.args.failed c.args.starved) (λ f. refl) k.gate);
     }

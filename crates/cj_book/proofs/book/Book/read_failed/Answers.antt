@@ -3,7 +3,7 @@ use Rattle.cj_cluster.specs.declared.event.Event.TheVariants.{ReadFailed}
 use Rattle.cj_cluster.specs.History.Histories.{events_left}
 use Rattle.cj_opening.proofs.Kept.{marked_same}
 use Rattle.cj_book.specs.Books.{BookState}
-use Rattle.cj_book.proofs.Logged.{items_same}
+use Rattle.cj_book.proofs.Logged.{gate_same, items_same}
 use Rattle.cj_book.proofs.Keeping.{keeps_read_failed}
 use Rattle.cj_book.proofs.Following.{follows_read_failed}
 use Rattle.cj_book.proofs.book.Book.read_failed.Goals as goal
@@ -17,5 +17,6 @@ invariant_of-self-2 g c =
       history = rw c.in_ok-append.ensures.ok (keeps_read_failed _ _ _ _ _ _ _ k.history c.args.session c.args.seq c.args.b (vec_capacity c.append.new.history) space spare);
       follows = rw c.in_ok-append.ensures.ok (follows_read_failed _ _ _ _ _ _ k.follows c.args.session c.args.seq c.args.b space);
       marked = rw c.in_ok-append.ensures.ok (marked_same c.self.inside.history.items c.self.inside.marker_names (ReadFailed c.args.session c.args.seq c.args.b) refl k.marked);
-      logged = rw c.in_ok-append.ensures.ok (items_same c.self.inside.history.items (ReadFailed c.args.session c.args.seq c.args.b) c.self.inside.recovery_log.items (λ n. refl) k.logged);
+      logged = rw c.in_ok-append.ensures.ok (λ t. items_same c.self.inside.history.items (ReadFailed c.args.session c.args.seq c.args.b) c.self.inside.recovery_log.items (λ n. refl) (k.logged t));
+      gate = rw c.in_ok-append.ensures.ok (gate_same g.S.Store.TELLS c.self.inside.recovery_log.torn c.self.inside.history.items (ReadFailed c.args.session c.args.seq c.args.b) (λ f. refl) k.gate);
     }

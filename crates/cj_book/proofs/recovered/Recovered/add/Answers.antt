@@ -17,7 +17,7 @@ add_entry-requires c =
     let k = c.requires.so_far in
     let h = take c.args.place c.args.history.now in
     subst (λ n. All (λ (t : OpenTransaction). tx_number t < n + 1) c.args.self.now.transactions) (sym k.placed.count)
-    (numbers_below (log h) c.in-Sched.e (placement_of c.args.placement.now) c.args.self.now.transactions k.transactions)
+    (numbers_below (log h) c.in-Sched.boxed (placement_of c.args.placement.now) c.args.self.now.transactions k.transactions)
 
 pub returns-in_ok-insert-in-Marker : goal.returns-in_ok-insert-in-Marker
 returns-in_ok-insert-in-Marker c =

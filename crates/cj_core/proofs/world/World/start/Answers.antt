@@ -1,11 +1,17 @@
-use Rattle.std.proofs.Common.{List, map, sym, ap, ◌∙◌, subst, ◌≡◌, true}
+use Rattle.std.proofs.Common.{ℕ, List, map, sym, ap, ◌∙◌, subst, ◌≡◌, true}
+use mathlib.Core.List.{IsPrefix}
+use Rattle.cj_cluster.specs.declared.event.Event.{Event}
+use Rattle.cj_cluster.specs.Moves.Cores.{Core}
 use Rattle.cj_log.specs.declared.item.LogItem.{LogItem}
 use Rattle.cj_log.specs.Logs.{KeepsItems}
+use Rattle.cj_opening.specs.Openings.{OpensTo, items_of}
 use Rattle.cj_place.specs.Layouts.{Layout, placement_of}
 use Rattle.cj_replica.specs.Cells.{CellState}
 use Rattle.cj_state.specs.Beginnings.{AreEmpty, opened_core}
-use Rattle.cj_core.specs.Starts.{backend_of, state_by}
+use Rattle.cj_state.specs.Worlds.{WorldState}
+use Rattle.cj_core.specs.Starts.{backend_of, state_by, LosesNothing}
 use Rattle.cj_core.proofs.Starting.{told_of_backends}
+use Rattle.cj_core.proofs.StartLonger.{loses_nothing, refused_again, refused_part, started_well}
 use Rattle.cj_core.proofs.StartWhole.{starts_from}
 use Rattle.cj_core.proofs.world.World.start.Goals as goal
 
@@ -14,13 +20,37 @@ new-state-requires-clause-empty g c =
     let b = g.B.Backend in
     subst (AreEmpty b.TELLS) (ap (map b.told) (sym c.into_vec-list.ensures) ∙ told_of_backends b.told b.faults b.asks b.login b.arming c.into_vec-list.result.items c.in-Ok.cells.items (sym c.in-Ok.ensures.same)) c.requires.empty
 
-pub returns-in-Ok-bring_up-clause-started : goal.returns-in-Ok-bring_up-clause-started
-returns-in-Ok-bring_up-clause-started g c =
+pub returns-in-Ok-brought-clause-started : goal.returns-in-Ok-brought-clause-started
+returns-in-Ok-brought-clause-started g c =
     let b = g.B.Backend in
     let book = c.in_ok-book.book in
     let opened = c.in_ok-book.ensures.started in
-    let went = c.in-Ok-bring_up.ensures in
-    starts_from (λ (items : List LogItem). g.S.Store.TELLS ≡ true → KeepsItems (g.S.Store.held c.args.log) items) book.recovery_log.items (placement_of c.args.parts.book.placement) book.history
-    (map (state_by b.told b.faults b.asks b.login b.arming) c.args.backends) c.new-state.result c.bring_up.new.state (λ tells. (c.in_ok-book.ensures.bytes tells).0) opened.opens
+    let went = c.in-Ok-brought.ensures in
+    starts_from (λ (items : List LogItem). g.S.Store.TELLS ≡ true → KeepsItems (g.S.Store.held c.args.log) items) (items_of book.history) (placement_of c.args.parts.book.placement) book.history
+    (map (state_by b.told b.faults b.asks b.login b.arming) c.args.backends) c.new-state.result c.bring_up-brought.new.state (λ tells. (c.in_ok-book.ensures.bytes tells).0) opened.opens
     (c.new-state.ensures.core ∙ ap (λ (l : Layout). opened_core (placement_of l) book.history) opened.layout)
     (ap (λ (cells : List CellState). map backend_of cells) c.new-state.ensures.cells ∙ (c.in-Ok.ensures.same ∙ ap (map (state_by b.told b.faults b.asks b.login b.arming)) c.into_vec-list.ensures)) went.started went.uncalled
+
+pub returns-in-Ok-brought-clause-kept : goal.returns-in-Ok-brought-clause-kept
+returns-in-Ok-brought-clause-kept g c = λ t.
+    let book = c.in_ok-book.book in
+    let opened = c.in_ok-book.ensures.started in
+    let core = c.new-state.ensures.core in
+    let opens : OpensTo (items_of c.new-state.result.core.history) c.new-state.result.core.history = subst (λ (h : List Event). OpensTo (items_of h) h) (sym (ap (λ (k : Core). k.history) core)) opened.opens in
+    (c.legal.ensures.logged t).whole (started_well (items_of c.new-state.result.core.history) _ _ _ c.bring_up-brought.new.state opens c.in-Ok-brought.ensures.started)
+
+pub returns-in_err-book-clause-bytes : goal.returns-in_err-book-clause-bytes
+returns-in_err-book-clause-bytes g c = λ t. refused_again g.S.Store.held (g.S.Store.held c.args.log) c.from_residual.result c.in_err-book.field-0.0 c.from_residual.ensures.1 (c.in_err-book.ensures.bytes t)
+
+pub returns-in-Err-clause-bytes : goal.returns-in-Err-clause-bytes
+returns-in-Err-clause-bytes g c = λ t.
+    let held = g.S.Store.held in
+    let old = held c.args.log in
+    let book = c.in_ok-book.book in
+    let opened = c.in_ok-book.ensures.started in
+    let core = c.new-state.ensures.core in
+    let now = c.bring_up-brought.new.state in
+    let same : c.new-state.result.core.history ≡ book.history = ap (λ (k : Core). k.history) core in
+    let longer = subst (λ (h : List Event). IsPrefix h now.core.history) same c.bring_up-brought.ensures.longer in
+    let nothing = loses_nothing old now.recovery_log.bytes (items_of book.history) book.history now.core.history (c.in_ok-book.ensures.bytes t).0 opened.opens longer (c.legal.ensures.logged t) in
+    refused_part Unit WorldState held old c.in-Err.error _ _ _ c.in-Err.ensures.cause (subst (λ (bytes : List ℕ). LosesNothing old bytes) (sym c.into_log.ensures.bytes) nothing)

@@ -1,4 +1,5 @@
 use Rattle.std.proofs.Common.{rules, ◌≡◌, List, [], ◌∷◌, ◌++◌, length, refl, ap, ◌∙◌, append_assoc}
+use Rattle.cj_model.specs.declared.request.Entry.{Entry}
 use Rattle.cj_cluster.specs.declared.event.Event.{Event}
 use Rattle.cj_cluster.specs.declared.event.Event.TheVariants.{Sched, Ended}
 use Rattle.cj_opening.proofs.Kept.{keeps_entry}
@@ -10,7 +11,7 @@ returns-clause-keeps c =
     let h = old.events.items in
     let same : c.follow.new.self.events.items ≡ h = rw c.follow.ensures.events refl in
     let events : c.push-3.new.self.items ≡ h ++ Sched c.args.entry ∷ Ended 0 0 ∷ [] =
-    c.in_ok-push-3.ensures.items ∙ (ap (λ (l : List Event). l ++ Ended 0 0 ∷ []) c.in_ok-push-2.ensures.items
+    c.in_ok-push-3.ensures.items ∙ (ap (λ (l : List Event). l ++ Ended 0 0 ∷ []) (c.in_ok-push-2.ensures.items ∙ ap (λ (x : Entry). c.follow.new.self.events.items ++ Sched x ∷ []) c.in_ok-boxed.ensures)
     ∙ (append_assoc c.follow.new.self.events.items (Sched c.args.entry ∷ []) (Ended 0 0 ∷ []) ∙ ap (λ (l : List Event). l ++ Sched c.args.entry ∷ Ended 0 0 ∷ []) same))
     in
     let places : c.push.new.self.items ≡ old.places.items ++ length h ∷ [] = search rules in

@@ -1,8 +1,8 @@
 use Rattle.std.proofs.Common.{◌≡◌, false, Ok, subst, refl}
 use Rattle.cj_records.specs.RecordFiles.{Finds}
-use Rattle.cj_records.specs.Records.{RecordList, LeavesList, IsBeforeOrAfter}
+use Rattle.cj_records.specs.Records.{RecordList, KeepsAtLeast, LeavesList, IsBeforeOrAfter}
 use Rattle.cj_outside.specs.Stores.{LeavesOnly}
-use Rattle.cj_records.proofs.Crash.{started, safe_tells}
+use Rattle.cj_records.proofs.Crash.{held_at_least, started, safe_tells}
 use Rattle.cj_records.specs.Proving.Places.{bodies_at}
 use Rattle.cj_records.proofs.Begun.{laid_finds}
 use Rattle.cj_records.proofs.records.Records.legal.Goals as goal
@@ -12,6 +12,13 @@ returns-clause-list g c = λ t.
     let held = g.S.Store.held in
     let r = c.self.inside in
     subst (λ (v : RecordList g.row.S.Denot). v.torn ≡ false → Finds v.magic (held v.store) (Ok v.list)) c.self.view_is (laid_finds r.magic (held r.store) (bodies_at (held r.store) r.places.items) r.end r.torn (c.self.invariant.0.laid t))
+
+pub returns-clause-at_least : goal.returns-clause-at_least
+returns-clause-at_least g c = λ t.
+    let s = g.S.Store in
+    let r = c.self.inside in
+    subst (λ (v : RecordList g.row.S.Denot). KeepsAtLeast v (s.held v.store)) c.self.view_is
+    (held_at_least (s.held r.store) (s.may r.store) r.magic r.places.items r.end r.torn (c.self.invariant.0.laid t) (safe_tells s.TELLS (s.held r.store) (s.may r.store) r.magic r.places.items r.end r.torn t c.self.invariant.1))
 
 pub returns-clause-safe : goal.returns-clause-safe
 returns-clause-safe g c = λ t.

@@ -1,0 +1,115 @@
+-- A start only adds to the history, and so to the log.
+use Rattle.std.proofs.Common.{◌≡◌, ◌⊎◌, inl, inr, ℕ, ◌+◌, Bool, false, List, [], ◌∷◌, ◌++◌, length, map, Result, Ok, Err, refl, ap, sym, ◌∙◌, subst, append_assoc}
+use Rattle.std.specs.Prelude.{IsErrAnd}
+use Rattle.std.specs.List.{fold}
+use Rattle.std.proofs.lemmas.List.Sums.{fold-append}
+use mathlib.Core.List.{IsPrefix}
+use Rattle.cj_model.specs.declared.request.Entry.{Entry}
+use Rattle.cj_model.specs.Cluster.Placements.{Placement}
+use Rattle.cj_cluster.specs.declared.event.Event.{Event}
+use Rattle.cj_cluster.specs.declared.event.Event.TheVariants.{Sched, Ended, LogFailed, Enabled, Marker}
+use Rattle.cj_cluster.specs.History.Histories.{log}
+use Rattle.cj_cluster.specs.Moves.Cores.{Core}
+use Rattle.cj_cluster.proofs.Pushed.{prefix_self, prefix_trans}
+use Rattle.cj_log.specs.declared.item.LogItem.{LogItem}
+use Rattle.cj_log.specs.Logs.{KeepsItems}
+use Rattle.cj_opening.specs.Openings.{IsOpening, OpensTo, items_behind, items_of}
+use Rattle.cj_opening.proofs.Longer.{items_append}
+use Rattle.cj_book.specs.declared.error.BookError.{BookError}
+use Rattle.cj_book.specs.declared.error.BookError.TheVariants.{InProgress, NoBackend, HistoryFull, LogFault, NoMemory}
+use Rattle.cj_book.specs.declared.error.StartError.{StartError}
+use Rattle.cj_book.specs.declared.error.StartError.TheVariants as errors
+use Rattle.cj_book.specs.Books.{IsKeptIn, failed_after, last_write_failed}
+use Rattle.cj_book.specs.Starts.{Starts}
+use Rattle.cj_state.specs.Effects.{core_aborted}
+use Rattle.cj_state.specs.Worlds.{WorldState}
+use Rattle.cj_core.specs.Starts.{AbortsEach, HasStarted, LosesNothing, RefusesBytes, with_abort}
+use Rattle.cj_core.specs.Proving.StartParts.{CountsFaultOfPart, EnabledTo, IsLonger, OnlyReplays, OnlyTakes, TransactionEnded}
+
+-- ---- from part to part
+
+pub longer_none : (w : WorldState) → IsLonger w w
+longer_none w = prefix_self w.core.history
+
+pub longer_same : (old now : WorldState) → now.core.history ≡ old.core.history → IsLonger old now
+longer_same old now same = subst (λ (h : List Event). IsPrefix old.core.history h) (sym same) (prefix_self old.core.history)
+
+pub longer_then : (old mid now : WorldState) → IsLonger old mid → IsLonger mid now → IsLonger old now
+longer_then old mid now p q = prefix_trans old.core.history mid.core.history now.core.history p q
+
+pub replays_longer : (old now : WorldState) → OnlyReplays old now → IsLonger old now
+replays_longer old now only = longer_same old now (ap (λ (c : Core). c.history) only.core)
+
+pub takes_longer : (old now : WorldState) → OnlyTakes old now → IsLonger old now
+takes_longer old now only = longer_same old now (ap (λ (c : Core). c.history) only.core)
+
+pub enables_longer : (old now : WorldState) (i : ℕ) → EnabledTo old now i → IsLonger old now
+enables_longer old now i to = (map Enabled to.enabled, sym (ap (λ (w : WorldState). w.core.history) to.after))
+
+pub ended_longer : (tx : ℕ) (old now : WorldState) → TransactionEnded tx old now → IsLonger old now
+ended_longer tx old now e = (Sched _ ∷ Ended e.failed 0 ∷ [], sym e.history)
+
+aborted_history : (c : Core) (e : Entry) (r : Result ℕ BookError) → IsPrefix c.history (core_aborted c e r).history
+aborted_history c e (Ok n) = (Sched e ∷ [], refl)
+aborted_history c e (Err (InProgress n)) = prefix_self c.history
+aborted_history c e (Err NoBackend) = prefix_self c.history
+aborted_history c e (Err (HistoryFull n)) = prefix_self c.history
+aborted_history c e (Err LogFault) = (LogFailed e.session e.seq ∷ [], refl)
+aborted_history c e (Err NoMemory) = prefix_self c.history
+
+pub aborted_longer : (old now : WorldState) (e : Entry) (r : Result ℕ BookError) → now.core ≡ core_aborted old.core e r → IsLonger old now
+aborted_longer old now e r is = subst (λ (c : Core). IsPrefix old.core.history c.history) (sym is) (aborted_history old.core e r)
+
+-- ---- what the bytes keep of it
+
+pub loses_nothing : (old new : List ℕ) (items : List LogItem) (opening h : List Event) → KeepsItems old items → OpensTo items opening → IsPrefix opening h → IsKeptIn new h → LosesNothing old new
+loses_nothing old new items opening h found opens p kept = let all = from kept.at_least in inr (items, found, all.0, all.1)
+  where
+    behind : List LogItem
+    behind = items_behind (0 + length (log opening)) p.0
+
+    split : items_of h ≡ items ++ behind
+    split = sym (ap items_of p.1) ∙ (items_append 0 opening p.0 ∙ ap (λ (xs : List LogItem). xs ++ behind) opens.same)
+
+    from : KeepsItems new (items_of h) ⊎ (refused : LogItem) × KeepsItems new (items_of h ++ refused ∷ []) → (more : List LogItem) × KeepsItems new (items ++ more)
+    from (inl all) = (behind, subst (KeepsItems new) split all)
+    from (inr (refused, all)) = (behind ++ refused ∷ [], subst (KeepsItems new) (ap (λ (xs : List LogItem). xs ++ refused ∷ []) split ∙ append_assoc items behind (refused ∷ [])) all)
+
+-- a start that the bytes of the log refused
+refused_bytes : {S : Type 0} (W : Type 0) (held : S → List ℕ) (old : List ℕ) (error : StartError) (store : S) → Starts {S = S} held old (Err (error, store)) → RefusesBytes {W = W} held old (Err (error, store))
+refused_bytes W held old errors.StoreFault store only = inl only
+refused_bytes W held old errors.NoMemory store only = inl only
+refused_bytes W held old (errors.BadRecord offset) store bad = bad
+refused_bytes W held old (errors.BadEntry n) store bad = bad
+
+pub refused_again : {S W : Type 0} (held : S → List ℕ) (old : List ℕ) (result : Result W (StartError × S)) (e : StartError × S) → IsErrAnd result (λ x. x ≡ e) → Starts {S = S} held old (Err e) → RefusesBytes held old result
+refused_again held old (Ok w) e is bytes = absurd is
+refused_again {S = S} {W = W} held old (Err x) (error, store) is bytes = subst (λ (y : StartError × S). RefusesBytes {W = W} held old (Err y)) (sym is) (refused_bytes W held old error store bytes)
+
+-- one that a part of it refused
+pub refused_part : {S : Type 0} (T W : Type 0) (held : S → List ℕ) (old : List ℕ) (error : StartError) (store : S) (before now : ℕ) → CountsFaultOfPart {T = T} before (Err error) now → LosesNothing old (held store) → RefusesBytes {W = W} held old (Err (error, store))
+refused_part T W held old errors.StoreFault store before now counts nothing = nothing
+refused_part T W held old errors.NoMemory store before now counts nothing = nothing
+refused_part T W held old (errors.BadRecord offset) store before now counts nothing = absurd counts
+refused_part T W held old (errors.BadEntry n) store before now counts nothing = absurd counts
+
+-- ---- behind a start no write has failed
+
+opening_well : (h : List Event) → IsOpening h → last_write_failed h ≡ false
+opening_well [] o = refl
+opening_well (Sched e ∷ Ended f s ∷ h) o = opening_well h o.2
+opening_well (Marker name m ∷ h) o = opening_well h o
+opening_well _ o = absurd o
+
+enabled_well : (bs : List ℕ) (failed : Bool) → fold failed_after failed (map Enabled bs) ≡ failed
+enabled_well [] failed = refl
+enabled_well (b ∷ bs) failed = enabled_well bs failed
+
+aborts_well : (h : List Event) (txs : List ℕ) (z : List Event) → last_write_failed h ≡ false → AbortsEach h txs z → last_write_failed z ≡ false
+aborts_well h [] z well is = rw is well
+aborts_well h (tx ∷ txs) z well (failed, rest) = aborts_well (with_abort h tx failed) txs z (fold-append failed_after false h (Sched _ ∷ Ended failed 0 ∷ [])) rest
+
+pub started_well : (items : List LogItem) (p : Placement) (opening : List Event) (faults : List ℕ) (w : WorldState) → OpensTo items opening → HasStarted p opening faults w → last_write_failed w.core.history ≡ false
+started_well items p opening faults w opens s =
+    aborts_well (opening ++ map Enabled s.enabled) _ w.core.history
+    (fold-append failed_after false opening (map Enabled s.enabled) ∙ (enabled_well s.enabled (last_write_failed opening) ∙ opening_well opening opens.opening)) s.history

@@ -1,0 +1,5 @@
+pub mod Bases
+pub mod Fresh
+pub mod Stays
+pub mod Touched
+pub mod Worked

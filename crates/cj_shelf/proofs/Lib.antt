@@ -1,0 +1,4 @@
+pub mod Bodies
+pub mod Listed
+pub mod Looked
+pub mod Stops

@@ -1,0 +1,92 @@
+-- Fields and steps that the public clauses don't name, for proofs alone.
+use Rattle.std.specs.Prelude.{◌≡◌, ℕ, Bool, true, false, List, [], ◌∷◌, ◌++◌, length, take, map, slice_get, Result, Ok, Err}
+use Rattle.std.specs.declared.option.Option.{Option}
+use Rattle.std.specs.declared.option.Option.TheVariants.{None, Some}
+use Rattle.std.specs.List.{AllByRecursion}
+use Rattle.std.specs.Global.{Vec}
+use Rattle.cj_records.specs.declared.error.RecordsError.{RecordsError}
+use Rattle.cj_records.specs.declared.error.RecordsError.TheVariants as records
+use Rattle.cj_records.specs.Records.{RecordList}
+use Rattle.cj_dump.specs.declared.dump.Dump.{Dump}
+use Rattle.cj_dump.specs.declared.error.DumpError.{DumpError}
+use Rattle.cj_dump.specs.declared.error.DumpError.TheVariants as decoding
+use Rattle.cj_dump.specs.DumpLayout.{dump}
+use Rattle.cj_dump.specs.Dumps.{dump_bytes, start_of, IsDump}
+use Rattle.cj_dump.specs.Layouts.{Reading}
+use Rattle.cj_shelf.specs.declared.error.ShelfError.{ShelfError}
+use Rattle.cj_shelf.specs.declared.error.ShelfError.TheVariants as errors
+use Rattle.cj_shelf.specs.declared.label.Label.{Label}
+use Rattle.cj_shelf.specs.Shelves.{shelf_magic, bodies_of, names_of, is_among, IsNoDump, BadIn}
+
+-- how refusals of records are told on
+abbrev pub of_records : RecordsError → ShelfError
+of_records records.Failed = errors.Failed
+of_records (records.BadRecord offset) = errors.BadRecord offset
+of_records records.NoMemory = errors.NoMemory
+
+-- how a record is refused whose gate is at the offset, by why its body is no dump's
+abbrev pub refusal_at : ℕ → DumpError → ShelfError
+refusal_at at (decoding.Cut _) = errors.BadRecord at
+refusal_at at (decoding.BadField _) = errors.BadRecord at
+refusal_at at (decoding.Order _) = errors.BadRecord at
+refusal_at at decoding.NoMemory = errors.NoMemory
+
+-- ---- names
+
+-- the names on the labels
+abbrev pub labelled : List Label → List (List ℕ)
+labelled labels = map (λ (label : Label). label.name) labels
+
+-- the first place at which the name stands, or none where it is not among them
+abbrev pub IsFirstPlace : List ℕ → List (List ℕ) → Option ℕ → Type 0
+IsFirstPlace name names (Some place) = (slice_get names place ≡ Some name) × (is_among name (take place names) ≡ false)
+IsFirstPlace name names None = is_among name names ≡ false
+
+-- ---- dumps of bodies
+
+-- what was read of a body, in a list
+abbrev pub read_dump : Reading Dump → List Dump
+read_dump (Ok x) = x.0 ∷ []
+read_dump (Err e) = []
+
+-- the dumps that these bodies begin with
+abbrev pub dumps_in : List (List ℕ) → List Dump
+dumps_in [] = []
+dumps_in (body ∷ bodies) = read_dump (dump.reads (start_of body)) ++ dumps_in bodies
+
+-- these are the bodies of these dumps
+pub record AreBodies (bodies : List (List ℕ)) (dumps : List Dump) : Type 0 where
+  pub same : bodies ≡ bodies_of dumps
+  pub each : AllByRecursion IsDump dumps
+
+-- this is the body of a dump
+abbrev pub IsBody : List ℕ → Type 0
+IsBody body = (d : Dump) × IsDump d × (dump_bytes d ≡ body)
+
+-- the labels are those of the dumps of these bodies
+pub record Labels (bodies : List (List ℕ)) (labels : List Label) : Type 0 where
+  pub dumps : AreBodies bodies (dumps_in bodies)
+  pub names : labelled labels ≡ names_of (dumps_in bodies)
+
+-- ---- fields and steps
+
+-- what holds of the fields of a shelf
+pub record AgreesWithRecords {S : Type 0} (tells : Bool) (records : RecordList S) (kept : List Label) : Type 0 where
+  pub magic : records.magic ≡ shelf_magic
+  pub count : length kept ≡ length records.list
+  pub labels : tells ≡ true → Labels records.list kept
+  pub refused : tells ≡ true → records.torn ≡ true → IsBody records.refused
+
+-- the dump of a body whose record is at the offset, or that it is the body of none, unless memory ran out
+abbrev pub FindsDump : List ℕ → ℕ → Result Dump ShelfError → Type 0
+FindsDump body at (Ok d) = (body ≡ dump_bytes d) × IsDump d
+FindsDump body at (Err (errors.BadRecord offset)) = IsNoDump body × (offset ≡ at)
+FindsDump body at (Err errors.NoMemory) = Unit {0}
+FindsDump body at (Err errors.Failed) = ⊥
+
+-- the labels of the dumps of these bodies, or the first body that is no dump's
+abbrev pub LabelsOf : List (List ℕ) → Result (Vec Label) ShelfError → Type 0
+LabelsOf list (Ok labels) = Labels list labels.items
+LabelsOf list (Err (errors.BadRecord offset)) = BadIn list offset
+LabelsOf list (Err errors.Failed) = Unit {0}
+LabelsOf list (Err errors.NoMemory) = Unit {0}

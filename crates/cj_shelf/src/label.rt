@@ -1,0 +1,34 @@
+//! What is kept in memory of a dump.
+
+ghost use Rattle.std.specs.Prelude.{◌≡◌};
+ghost use Rattle.cj_shelf.specs.Shelves.{is_among};
+ghost use Rattle.cj_shelf.specs.Proving.{labelled, IsFirstPlace};
+
+use cj_model::Name;
+
+/// The name of a dump, and the offset of the gate of its record.
+#[derive(Drop)]
+pub struct Label {
+    pub name: Name,
+    pub at: u64,
+}
+
+/// The place of the first label with the name, or none where no label has it.
+pub fn place_of(labels: &[Label], name: &Name) -> Option<usize>
+    ensures { IsFirstPlace name.now (labelled labels.now) result }
+{
+    for (place, label) in labels.iter().enumerate() {
+        if label.name.is(name) {
+            return Some(place);
+        }
+    }
+    None
+}
+
+/// Whether a label has the name.
+#[tactic(auto, using(crate::proofs::Looked::place_tells))]
+pub fn is_among(labels: &[Label], name: &Name) -> bool
+    ensures { result ≡ is_among name.now (labelled labels.now) }
+{
+    place_of(labels, name).is_some()
+}

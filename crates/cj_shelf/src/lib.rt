@@ -1,0 +1,12 @@
+//! The shelf: dumps, kept in a store.
+#![tactic(auto)]
+
+mod error;
+mod label;
+mod laws;
+mod reading;
+mod shelf;
+
+pub use error::ShelfError;
+pub use laws::bytes_fix_dumps;
+pub use shelf::Shelf;
