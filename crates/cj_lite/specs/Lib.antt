@@ -1,0 +1,2 @@
+pub mod AnyBackends
+pub mod LiteBackends

@@ -1,0 +1,224 @@
+//! A database in SQLite. What a statement means is decided by the engine, over the rows that the
+//! statement may meet; SQLite keeps the rows, and finds them by their keys.
+
+ghost use Rattle.std.specs.Prelude.{◌≡◌, ◌<◌, length, IfOk, IfSome};
+ghost use Rattle.cj_model.specs.declared.request.Request.TheVariants as request;
+ghost use Rattle.cj_model.specs.Sql.WrittenRequests.{IsWritten};
+ghost use Rattle.cj_model.specs.Database.Outcomes.{IsOutcome, IsAsked};
+ghost use Rattle.cj_model.specs.Database.Storable.{IsStorable, writers};
+ghost use Rattle.cj_model.specs.Database.Tables.{IsDatabase};
+
+use crate::error::LiteError;
+use crate::loading::{loaded_tables, writers_in};
+use crate::reading::tables_asked;
+use crate::search::Search;
+use crate::small::{add_draft, add_table, asked, schema_made};
+use crate::statements::drop_table;
+use crate::storable::are_storable;
+use crate::table::{LiteTable, started};
+use crate::writing::write_table;
+use cj_model::{
+    Asked, BAD_COLUMNS, Create, Db, LOCKED, NO_TABLE, Name, NoMemory, Outcome, Refusal, Schema,
+    Select, TABLE_EXISTS, Write,
+};
+use cj_table::Tables;
+use sqlite::{Connection, MemStore};
+use std::alloc::Global;
+use std::marker::Model;
+
+/// Tables in SQLite, of which contracts see nothing.
+#[derive(Drop)]
+pub struct Database {
+    alloc: Global,
+    conn: Connection<MemStore>,
+    tables: Vec<LiteTable>,
+}
+
+impl Model for Database {
+    ghost Value = { Unit {0} };
+
+    ghost view = { λ _. tt };
+}
+
+fn table_written(write: &Write) -> &Name {
+    match write {
+        Write::Insert { table, .. } | Write::Update { table, .. } | Write::Delete { table, .. } =>
+            table,
+    }
+}
+
+fn place_of(tables: &[LiteTable], name: &Name) -> Option<usize>
+    ensures { IfSome result (λ place. place < length tables.now) }
+{
+    tables.iter().position(|table| table.is_named(name))
+}
+
+fn refused(code: u16) -> Outcome
+    ensures { result ≡ Outcome.Refused (record { code = code; a = 0; b = 0 }) }
+{
+    Outcome::Refused(Refusal::of_code(code))
+}
+
+/// Adds a table and the draft of it to a database of the engine's.
+fn add_whole(
+    alloc: Global,
+    conn: &mut Connection<MemStore>,
+    table: &LiteTable,
+    whole: &mut Tables,
+) -> Result<(), LiteError> {
+    let search = Search {
+        cond: &None,
+        key: 0,
+        is_alone: true,
+        limit: None,
+    };
+    let rows = table.rows(alloc, conn, 0, &search)?;
+    add_table(alloc, whole, table.schema(), rows)?;
+    let Some(tx) = table.writer() else {
+        return Ok(());
+    };
+    let rows = table.rows(alloc, conn, tx, &search)?;
+    add_draft(alloc, whole, tx, &table.schema().table, rows)
+}
+
+/// Makes the drafts of a transaction in SQLite, all or none.
+fn run_drafts(
+    alloc: Global,
+    conn: &mut Connection<MemStore>,
+    tables: &[LiteTable],
+    tx: u64,
+) -> Result<(), LiteError> {
+    let mut transaction = started(conn)?;
+    for table in tables {
+        table.run_draft(alloc, &mut transaction, tx)?;
+    }
+    transaction.commit()?;
+    Ok(())
+}
+
+/// The database as lists, if it can be stored.
+fn stored(whole: &Tables) -> Result<Db, LiteError>
+    ensures { IfOk result IsStorable }
+{
+    whole.legal();
+    let db = whole.to_db()?;
+    if !are_storable(db.as_slice()) {
+        return Err(LiteError::Fault);
+    }
+    Ok(db)
+}
+
+impl Database {
+    /// A database of no tables.
+    pub fn open(alloc: Global) -> Result<Database, NoMemory> {
+        let conn = Connection::open_in_memory(alloc)?;
+        Ok(Database {
+            alloc,
+            conn,
+            tables: Vec::new(alloc),
+        })
+    }
+
+    /// A database that is loaded, and the transactions that have a draft in it.
+    pub fn of_db(alloc: Global, db: Db) -> Result<(Database, Vec<u64>), LiteError>
+        requires { IsDatabase db }
+        ensures { IfOk result (λ made. made.1.items ≡ writers db) }
+    {
+        let mut database = Database::open(alloc)?;
+        database.tables = loaded_tables(alloc, &mut database.conn, &db)?;
+        let begun = writers_in(alloc, db)?;
+        Ok((database, begun))
+    }
+
+    /// Makes a table of this schema, which must not be there.
+    fn add_table(&mut self, schema: Schema) -> Result<(), LiteError> {
+        let table = LiteTable::create(self.alloc, &mut self.conn, schema)?;
+        self.tables.push(table)?;
+        Ok(())
+    }
+
+    /// A write of transaction `tx`, 0 for none.
+    pub fn write(&mut self, tx: u64, write: &Write) -> Result<Outcome, LiteError>
+        ensures { IfOk result IsOutcome }
+    {
+        match place_of(&self.tables, table_written(write)) {
+            Some(place) => {
+                let table = &mut self.tables[place];
+                write_table(self.alloc, &mut self.conn, table, tx, write)
+            }
+            None => Ok(refused(NO_TABLE)),
+        }
+    }
+
+    /// CREATE TABLE.
+    pub fn create(&mut self, create: &Create) -> Result<Outcome, LiteError>
+        requires { IsWritten (request.Create create.now) }
+        ensures { IfOk result IsOutcome }
+    {
+        if place_of(&self.tables, &create.table).is_some() {
+            return Ok(refused(TABLE_EXISTS));
+        }
+        match schema_made(self.alloc, create)? {
+            Some(schema) => {
+                self.add_table(schema)?;
+                Ok(Outcome::Done(0))
+            }
+            None => Ok(refused(BAD_COLUMNS)),
+        }
+    }
+
+    /// DROP TABLE, unless a transaction has a draft of the table.
+    pub fn drop_table(&mut self, name: &Name) -> Result<Outcome, LiteError>
+        ensures { IfOk result IsOutcome }
+    {
+        let Some(place) = place_of(&self.tables, name) else {
+            return Ok(refused(NO_TABLE));
+        };
+        if let Some(tx) = self.tables[place].writer() {
+            return Ok(Outcome::Refused(Refusal {
+                code: LOCKED,
+                a: tx,
+                b: 0,
+            }));
+        }
+        drop_table(self.alloc, &mut self.conn, name)?;
+        self.tables.remove(place);
+        Ok(Outcome::Done(0))
+    }
+
+    /// Makes the drafts of a transaction stand, all or none.
+    pub fn commit(&mut self, tx: u64) -> Result<(), LiteError> {
+        run_drafts(self.alloc, &mut self.conn, &self.tables, tx)?;
+        for table in self.tables.iter_mut() {
+            table.commit(tx);
+        }
+        Ok(())
+    }
+
+    /// Forgets the drafts of a transaction.
+    pub fn abort(&mut self, tx: u64) {
+        for table in self.tables.iter_mut() {
+            table.abort(tx);
+        }
+    }
+
+    /// What a query of transaction `tx`, 0 for none, is answered.
+    pub fn ask(&mut self, tx: u64, select: &Select) -> Result<Asked, LiteError>
+        requires { IsWritten (request.Select select.now) }
+        ensures { IfOk result IsAsked }
+    {
+        let small = tables_asked(self.alloc, &mut self.conn, &self.tables, tx, select)?;
+        Ok(asked(self.alloc, &small, select)?)
+    }
+
+    /// A copy of the database, drafts included.
+    pub fn contents(&mut self) -> Result<Db, LiteError>
+        ensures { IfOk result IsStorable }
+    {
+        let mut whole = Tables::new(self.alloc);
+        for table in &self.tables {
+            add_whole(self.alloc, &mut self.conn, table, &mut whole)?;
+        }
+        stored(&whole)
+    }
+}

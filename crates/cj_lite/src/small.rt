@@ -1,0 +1,148 @@
+//! Small databases of the engine's, of the rows that one statement may meet.
+
+ghost use Rattle.std.specs.Prelude.{◌≡◌, ◌≤◌, IfOk, length};
+ghost use Rattle.cj_model.specs.declared.limits.TheConstants.{COLUMN_LIMIT};
+ghost use Rattle.cj_model.specs.declared.request.Request.TheVariants as request;
+ghost use Rattle.cj_model.specs.Sql.WrittenRequests.{IsWritten};
+ghost use Rattle.cj_model.specs.Database.Outcomes.{IsOutcome, IsAsked};
+
+use crate::error::LiteError;
+use cj_model::{
+    Asked, COLUMN_LIMIT, ColDef, ColDefs, Create, Duplicate, Name, NoMemory, Outcome, Row, Schema,
+    Select, Term, Tuple, Tuples, Write,
+};
+use cj_query::select;
+use cj_table::Tables;
+use std::alloc::Global;
+
+fn create_of(alloc: Global, schema: &Schema) -> Result<Create, NoMemory> {
+    let mut columns = ColDefs::new(alloc);
+    for (place, column) in schema.columns.as_slice().iter().enumerate() {
+        columns.push(ColDef {
+            name: column.name.copy(),
+            kind: column.kind,
+            key: place == usize::from(schema.key),
+        })?;
+    }
+    Ok(Create {
+        table: schema.table.copy(),
+        columns,
+    })
+}
+
+fn tuple_of(alloc: Global, row: Row) -> Result<Tuple, NoMemory> {
+    let mut tuple = Tuple::new(alloc);
+    for value in row.into_vec() {
+        tuple.push(Term::Lit(value))?;
+    }
+    Ok(tuple)
+}
+
+fn tuples_of(alloc: Global, rows: Vec<Row>) -> Result<Tuples, NoMemory> {
+    let mut tuples = Tuples::new(alloc);
+    for row in rows {
+        tuples.push(tuple_of(alloc, row)?)?;
+    }
+    Ok(tuples)
+}
+
+/// What SQLite gives fits the table that it is of, unless there is a fault.
+fn done(outcome: Outcome) -> Result<(), LiteError> {
+    match outcome {
+        Outcome::Done(_) => Ok(()),
+        Outcome::Refused(_) => Err(LiteError::Fault),
+    }
+}
+
+/// Adds rows to what a transaction, 0 for none, sees of a table.
+pub fn add_rows(
+    alloc: Global,
+    small: &mut Tables,
+    tx: u64,
+    table: &Name,
+    rows: Vec<Row>,
+) -> Result<(), LiteError> {
+    let insert = Write::Insert {
+        table: table.copy(),
+        columns: None,
+        rows: tuples_of(alloc, rows)?,
+    };
+    done(small.write(tx, &insert)?)
+}
+
+/// Adds a table with these rows.
+pub fn add_table(
+    alloc: Global,
+    small: &mut Tables,
+    schema: &Schema,
+    rows: Vec<Row>,
+) -> Result<(), LiteError> {
+    let create = create_of(alloc, schema)?;
+    if create.columns.len() > COLUMN_LIMIT {
+        return Err(LiteError::Fault);
+    }
+    done(small.create(&create)?)?;
+    add_rows(alloc, small, 0, &schema.table, rows)
+}
+
+/// Makes these the rows that a transaction has in its draft of a table.
+pub fn add_draft(
+    alloc: Global,
+    small: &mut Tables,
+    tx: u64,
+    table: &Name,
+    rows: Vec<Row>,
+) -> Result<(), LiteError> {
+    let delete = Write::Delete {
+        table: table.copy(),
+        cond: None,
+    };
+    done(small.write(tx, &delete)?)?;
+    add_rows(alloc, small, tx, table, rows)
+}
+
+/// Copies of the rows that a transaction, 0 for none, sees of a table.
+pub fn rows_seen(
+    alloc: Global,
+    small: &Tables,
+    tx: u64,
+    table: &Name,
+) -> Result<Vec<Row>, LiteError> {
+    let Some(view) = small.view(table, tx) else {
+        return Err(LiteError::Fault);
+    };
+    let mut rows = Vec::new(alloc);
+    for row in view.scan() {
+        rows.push(row.copy(alloc)?)?;
+    }
+    Ok(rows)
+}
+
+/// The schema of the table that is made; none where its columns don't fit each other.
+pub fn schema_made(alloc: Global, create: &Create) -> Result<Option<Schema>, NoMemory>
+    requires { length create.now.columns ≤ COLUMN_LIMIT }
+{
+    let mut small = Tables::new(alloc);
+    small.create(create)?;
+    match small.view(&create.table, 0) {
+        Some(view) => Ok(Some(view.schema().copy(alloc)?)),
+        None => Ok(None),
+    }
+}
+
+/// What a write comes to.
+pub fn written(small: &mut Tables, write: &Write) -> Result<Outcome, NoMemory>
+    ensures { IfOk result IsOutcome }
+{
+    small.write(0, write)
+}
+
+/// What a query comes to.
+pub fn asked(alloc: Global, small: &Tables, query: &Select) -> Result<Asked, NoMemory>
+    requires { IsWritten (request.Select query.now) }
+    ensures { IfOk result IsAsked }
+{
+    small.legal();
+    let asked = select(alloc, query, small, 0)?;
+    Ok(asked)
+}

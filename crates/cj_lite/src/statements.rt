@@ -1,0 +1,165 @@
+//! The statements of SQLite that a table is kept by. Tables and columns have prefixes there, so that
+//! no name is one of SQLite's words; values are parameters.
+
+use crate::error::LiteError;
+use cj_model::{Column, Kind, Name, Schema};
+use sqlite::{Connection, MemStore, Statement};
+use std::alloc::Global;
+
+/// What is run again and again of a table, prepared once.
+#[derive(Drop)]
+pub struct Statements {
+    /// Puts a row, in place of the one with its key.
+    pub put: Statement,
+    /// Takes out the row of a key.
+    pub remove: Statement,
+    /// Gives the row of a key.
+    pub find: Statement,
+    /// Gives the rows from a key on, in rising key.
+    pub scan: Statement,
+}
+
+fn push_table(out: &mut Vec<u8>, words: &[u8], table: &Name) -> Result<(), LiteError> {
+    out.extend_from_slice(words)?;
+    out.extend_from_slice(b"t_")?;
+    out.extend_from_slice(table.as_slice())?;
+    Ok(())
+}
+
+fn push_column(out: &mut Vec<u8>, words: &[u8], column: &Name) -> Result<(), LiteError> {
+    out.extend_from_slice(words)?;
+    out.extend_from_slice(b"c_")?;
+    out.extend_from_slice(column.as_slice())?;
+    Ok(())
+}
+
+fn kind_words(kind: Kind) -> &'static [u8] {
+    match kind {
+        Kind::Integer => b" INTEGER NOT NULL",
+        Kind::Text => b" TEXT NOT NULL",
+    }
+}
+
+fn push_definition(out: &mut Vec<u8>, column: &Column, is_key: bool) -> Result<(), LiteError> {
+    push_column(out, b"", &column.name)?;
+    out.extend_from_slice(kind_words(column.kind))?;
+    if is_key {
+        out.extend_from_slice(b" PRIMARY KEY")?;
+    }
+    Ok(())
+}
+
+/// `CREATE TABLE t_name (c_column ..) STRICT`
+fn create_words(alloc: Global, schema: &Schema) -> Result<Vec<u8>, LiteError> {
+    let mut out = Vec::new(alloc);
+    push_table(&mut out, b"CREATE TABLE ", &schema.table)?;
+    out.extend_from_slice(b" (")?;
+    for (place, column) in schema.columns.as_slice().iter().enumerate() {
+        if place > 0 {
+            out.extend_from_slice(b", ")?;
+        }
+        push_definition(&mut out, column, place == usize::from(schema.key))?;
+    }
+    out.extend_from_slice(b") STRICT")?;
+    Ok(out)
+}
+
+/// `INSERT OR REPLACE INTO t_name VALUES (?, ..)`
+fn put_words(alloc: Global, schema: &Schema) -> Result<Vec<u8>, LiteError> {
+    let mut out = Vec::new(alloc);
+    push_table(&mut out, b"INSERT OR REPLACE INTO ", &schema.table)?;
+    out.extend_from_slice(b" VALUES (")?;
+    for place in 0..schema.columns.len() {
+        if place > 0 {
+            out.extend_from_slice(b", ")?;
+        }
+        out.extend_from_slice(b"?")?;
+    }
+    out.extend_from_slice(b")")?;
+    Ok(out)
+}
+
+/// A statement of these words, the table's name, WHERE, the key's name and a last part.
+fn key_words(
+    alloc: Global,
+    words: &[u8],
+    schema: &Schema,
+    key: &Name,
+    last: &[u8],
+) -> Result<Vec<u8>, LiteError> {
+    let mut out = Vec::new(alloc);
+    push_table(&mut out, words, &schema.table)?;
+    push_column(&mut out, b" WHERE ", key)?;
+    out.extend_from_slice(last)?;
+    Ok(out)
+}
+
+/// `SELECT * FROM t_name WHERE c_key >= ? ORDER BY c_key`
+fn scan_words(alloc: Global, schema: &Schema, key: &Name) -> Result<Vec<u8>, LiteError> {
+    let mut out = key_words(alloc, b"SELECT * FROM ", schema, key, b" >= ? ORDER BY ")?;
+    push_column(&mut out, b"", key)?;
+    Ok(out)
+}
+
+fn prepared(conn: &mut Connection<MemStore>, words: &[u8]) -> Result<Statement, LiteError> {
+    match std::str::from_utf8(words) {
+        Ok(sql) => Ok(conn.prepare(sql)?),
+        Err(_) => Err(LiteError::Fault),
+    }
+}
+
+fn run(conn: &mut Connection<MemStore>, words: &[u8]) -> Result<(), LiteError> {
+    match std::str::from_utf8(words) {
+        Ok(sql) => {
+            conn.execute(sql, &[])?;
+            Ok(())
+        }
+        Err(_) => Err(LiteError::Fault),
+    }
+}
+
+impl Statements {
+    /// The statements of a table that is there.
+    fn prepare(
+        alloc: Global,
+        conn: &mut Connection<MemStore>,
+        schema: &Schema,
+    ) -> Result<Statements, LiteError> {
+        let Some(Column { name: key, .. }) = schema.columns.as_slice().get(usize::from(schema.key))
+        else {
+            return Err(LiteError::Fault);
+        };
+        let put = put_words(alloc, schema)?;
+        let remove = key_words(alloc, b"DELETE FROM ", schema, key, b" = ?")?;
+        let find = key_words(alloc, b"SELECT * FROM ", schema, key, b" = ?")?;
+        let scan = scan_words(alloc, schema, key)?;
+        Ok(Statements {
+            put: prepared(conn, &put)?,
+            remove: prepared(conn, &remove)?,
+            find: prepared(conn, &find)?,
+            scan: prepared(conn, &scan)?,
+        })
+    }
+
+    /// Makes the table, which must not be there.
+    pub fn create(
+        alloc: Global,
+        conn: &mut Connection<MemStore>,
+        schema: &Schema,
+    ) -> Result<Statements, LiteError> {
+        let words = create_words(alloc, schema)?;
+        run(conn, &words)?;
+        Statements::prepare(alloc, conn, schema)
+    }
+}
+
+/// Takes a table out.
+pub fn drop_table(
+    alloc: Global,
+    conn: &mut Connection<MemStore>,
+    table: &Name,
+) -> Result<(), LiteError> {
+    let mut words = Vec::new(alloc);
+    push_table(&mut words, b"DROP TABLE ", table)?;
+    run(conn, &words)
+}
