@@ -1,0 +1,91 @@
+-- What the words are read as is what they ask for.
+use Rattle.std.proofs.Common.{◌≡◌, refl, sym, ap, subst, ◌∙◌, ℕ, true, List, [], ◌∷◌, codes}
+use Rattle.std.specs.Prelude.{IfSome}
+use Rattle.std.specs.declared.option.Option.{Option}
+use Rattle.std.specs.declared.option.Option.TheVariants.{None, Some}
+use Rattle.std.specs.Str.{bytes_eq}
+use Rattle.std.proofs.lemmas.Slice.Eq.{bytes_eq-Decides}
+use Rattle.cj_words.specs.Words.{names_file, word_of, Says, Asks}
+use Rattle.cj_words.specs.Reading.{only_conf, over_file, as_command, workload, command_of, is_only, or_help, asked_of_verb, asked_of_program, verb_of, by_verb, asked_of}
+use Rattle.cj_words.specs.declared.asked.Verb.{Verb}
+use Rattle.cj_words.specs.declared.asked.Verb.TheVariants as verb
+use Rattle.cj_words.specs.declared.asked.Topic.TheVariants as topic
+use Rattle.cj_words.specs.declared.asked.Command.{Command}
+use Rattle.cj_words.specs.declared.asked.Command.TheVariants as command
+use Rattle.cj_words.specs.declared.asked.Asked.{Asked}
+use Rattle.cj_words.specs.declared.asked.Asked.TheVariants as asked
+use Rattle.cj_words.proofs.Picks.{pick}
+use Rattle.cj_words.proofs.Workloads.{AreOf, workload_is, workload_read}
+
+-- ---- what is read is asked for
+
+same_word : (word name : List ℕ) → bytes_eq word name ≡ true → word ≡ name
+same_word word name e = (bytes_eq-Decides word name).0 e
+
+only_is : (name : List ℕ) (words : List (List ℕ)) → is_only name words ≡ true → words ≡ name ∷ []
+only_is name [] e = absurd (cc)
+only_is name (w ∷ []) e = ap (λ x. x ∷ []) (same_word w name e)
+only_is name (w ∷ next ∷ words) e = absurd (cc)
+
+verb_is : (word : List ℕ) → IfSome (verb_of word) (λ v. word ≡ word_of v)
+verb_is word =
+    pick (λ v. word ≡ word_of v) (bytes_eq word (codes "pipe")) verb.Pipe _ (same_word word (codes "pipe"))
+    (pick (λ v. word ≡ word_of v) (bytes_eq word (codes "script")) verb.Script _ (same_word word (codes "script"))
+    (pick (λ v. word ≡ word_of v) (bytes_eq word (codes "log")) verb.Log _ (same_word word (codes "log"))
+    (pick (λ v. word ≡ word_of v) (bytes_eq word (codes "gen")) verb.Gen None (same_word word (codes "gen")) tt)))
+
+program_is : (words : List (List ℕ)) → IfSome (asked_of_program words) (Asks words)
+program_is words =
+    pick (Asks words) (is_only (codes "--help") words) (asked.Help topic.Program) _ (only_is (codes "--help") words)
+    (pick (Asks words) (is_only (codes "--version") words) asked.Version None (only_is (codes "--version") words) tt)
+
+conf_is : (words : List (List ℕ)) → IfSome (only_conf words) (λ conf. (words ≡ conf ∷ []) × (names_file conf ≡ true))
+conf_is [] = tt
+conf_is (word ∷ []) = pick (λ conf. (word ∷ [] ≡ conf ∷ []) × (names_file conf ≡ true)) (names_file word) word None (λ e. (refl, e)) tt
+conf_is (word ∷ next ∷ words) = tt
+
+over_is : (v : Verb) (rest : List (List ℕ)) (o : Option (List ℕ)) → IfSome o (λ conf. (rest ≡ conf ∷ []) × (names_file conf ≡ true)) → IfSome (over_file v o) (Says (word_of v ∷ rest))
+over_is v rest None h = tt
+over_is verb.Pipe rest (Some conf) h = (ap (λ (z : List (List ℕ)). word_of verb.Pipe ∷ z) h.0, h.1)
+over_is verb.Script rest (Some conf) h = (ap (λ (z : List (List ℕ)). word_of verb.Script ∷ z) h.0, h.1)
+over_is verb.Log rest (Some conf) h = (ap (λ (z : List (List ℕ)). word_of verb.Log ∷ z) h.0, h.1)
+over_is verb.Gen rest (Some conf) h = tt
+
+gen_is : (rest : List (List ℕ)) (o : Option (List ℕ × ℕ × ℕ)) → IfSome o (AreOf rest) → IfSome (as_command o) (Says (word_of verb.Gen ∷ rest))
+gen_is rest None h = tt
+gen_is rest (Some w) h = (rest, refl, h)
+
+command_is : (v : Verb) (rest : List (List ℕ)) → IfSome (command_of v rest) (Says (word_of v ∷ rest))
+command_is verb.Pipe rest = over_is verb.Pipe rest (only_conf rest) (conf_is rest)
+command_is verb.Script rest = over_is verb.Script rest (only_conf rest) (conf_is rest)
+command_is verb.Log rest = over_is verb.Log rest (only_conf rest) (conf_is rest)
+command_is verb.Gen rest = gen_is rest (workload rest) (workload_is rest)
+
+help_is : (v : Verb) (rest : List (List ℕ)) (o : Option Command) → IfSome o (Says (word_of v ∷ rest)) → IfSome (or_help v rest o) (Asks (word_of v ∷ rest))
+help_is v rest None h = pick (Asks (word_of v ∷ rest)) (is_only (codes "--help") rest) (asked.Help (topic.Command v)) None (λ e. ap (λ (z : List (List ℕ)). word_of v ∷ z) (only_is (codes "--help") rest e)) tt
+help_is v rest (Some c) h = h
+
+by_verb_is : (word : List ℕ) (rest : List (List ℕ)) (o : Option Verb) → IfSome o (λ v. word ≡ word_of v) → IfSome (by_verb (word ∷ rest) rest o) (Asks (word ∷ rest))
+by_verb_is word rest None h = program_is (word ∷ rest)
+by_verb_is word rest (Some v) h = subst (λ (w : List ℕ). IfSome (asked_of_verb v rest) (Asks (w ∷ rest))) (sym h) (help_is v rest (command_of v rest) (command_is v rest))
+
+pub asked_is : (words : List (List ℕ)) → IfSome (asked_of words) (Asks words)
+asked_is [] = tt
+asked_is (word ∷ rest) = by_verb_is word rest (verb_of word) (verb_is word)
+
+-- ---- what is asked for is read
+
+at_words : (words said : List (List ℕ)) (a : Asked) → words ≡ said → asked_of said ≡ Some a → asked_of words ≡ Some a
+at_words words said a e h = ap asked_of e ∙ h
+
+pub asked_read : (words : List (List ℕ)) (a : Asked) → Asks words a → asked_of words ≡ Some a
+asked_read words (asked.Command (command.Pipe conf)) h = at_words words _ _ h.0 (rw h.1 refl)
+asked_read words (asked.Command (command.Script conf)) h = at_words words _ _ h.0 (rw h.1 refl)
+asked_read words (asked.Command (command.Log conf)) h = at_words words _ _ h.0 (rw h.1 refl)
+asked_read words (asked.Command (command.Gen conf seed count)) h = at_words words _ _ h.1 (rw (workload_read h.0 conf seed count h.2) refl)
+asked_read words (asked.Help topic.Program) h = at_words words _ _ h refl
+asked_read words (asked.Help (topic.Command verb.Pipe)) h = at_words words _ _ h refl
+asked_read words (asked.Help (topic.Command verb.Script)) h = at_words words _ _ h refl
+asked_read words (asked.Help (topic.Command verb.Log)) h = at_words words _ _ h refl
+asked_read words (asked.Help (topic.Command verb.Gen)) h = at_words words _ _ h refl
+asked_read words asked.Version h = at_words words _ _ h refl

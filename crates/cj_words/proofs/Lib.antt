@@ -1,0 +1,5 @@
+pub mod Numerals
+pub mod Picks
+pub mod PartWords
+pub mod Workloads
+pub mod Asking

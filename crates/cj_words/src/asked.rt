@@ -1,0 +1,50 @@
+//! What the words may ask for.
+
+use crate::conf::ConfPath;
+
+/// A command by its name alone.
+#[derive(Clone, Copy, Debug, PartialEq, Eq)]
+pub enum Verb {
+    Pipe,
+    Script,
+    Log,
+    Gen,
+}
+
+/// What a help text is about.
+#[derive(Clone, Copy, Debug, PartialEq, Eq)]
+pub enum Topic {
+    Program,
+    Command(Verb),
+}
+
+/// What the program is to do.
+#[derive(Debug, Drop)]
+pub enum Command {
+    /// Serve a session.
+    Pipe {
+        conf: ConfPath,
+    },
+    /// Play a script.
+    Script {
+        conf: ConfPath,
+    },
+    /// List the log.
+    Log {
+        conf: ConfPath,
+    },
+    /// Run the workload of that many statements, drawn from the seed.
+    Gen {
+        conf: ConfPath,
+        seed: u64,
+        count: u64,
+    },
+}
+
+/// What a user asks for.
+#[derive(Debug, Drop)]
+pub enum Asked {
+    Command(Command),
+    Help(Topic),
+    Version,
+}

@@ -1,0 +1,134 @@
+//! The words, read.
+
+ghost use Rattle.std.specs.Prelude.{◌≡◌, ◌↔◌, map, option_copied, option_map, string_bytes, IfOk};
+ghost use Rattle.cj_words.specs.Words.{Asks};
+ghost use Rattle.cj_words.specs.Reading as reading;
+ghost use Rattle.cj_words.specs.declared.asked.Asked.{Asked};
+
+use crate::asked::{Asked, Command, Topic, Verb};
+use crate::conf::ConfPath;
+use crate::parts::{names_file, next_word, workload};
+use cj_model::NoMemory;
+use std::alloc::Global;
+
+fn verb_of(word: &str) -> Option<Verb>
+    ensures { result ≡ reading.verb_of word.now }
+{
+    if word == "pipe" {
+        return Some(Verb::Pipe);
+    }
+    if word == "script" {
+        return Some(Verb::Script);
+    }
+    if word == "log" {
+        return Some(Verb::Log);
+    }
+    if word == "gen" {
+        return Some(Verb::Gen);
+    }
+    None
+}
+
+/// The one word, if it names a configuration.
+fn only_conf(words: &[String]) -> Option<&str>
+    ensures { option_copied result ≡ reading.only_conf (map string_bytes words.now) }
+{
+    match words {
+        [word] if names_file(word.as_str()) => Some(word.as_str()),
+        _ => None,
+    }
+}
+
+fn workload_command(alloc: Global, words: &[String]) -> Result<Option<Command>, NoMemory>
+    ensures { IfOk result (λ command. command ≡ reading.workload_command (map string_bytes words.now)) }
+{
+    match workload(words) {
+        None => Ok(None),
+        Some((conf, seed, count)) => {
+            let conf = ConfPath::of(alloc, conf)?;
+            Ok(Some(Command::Gen { conf, seed, count }))
+        }
+    }
+}
+
+/// The command of the other verbs, over their one file.
+fn file_command(alloc: Global, verb: Verb, conf: &str) -> Result<Option<Command>, NoMemory>
+    ensures { IfOk result (λ command. command ≡ reading.file_command verb conf.now) }
+{
+    let conf = ConfPath::of(alloc, conf)?;
+    match verb {
+        Verb::Pipe => Ok(Some(Command::Pipe { conf })),
+        Verb::Script => Ok(Some(Command::Script { conf })),
+        Verb::Log => Ok(Some(Command::Log { conf })),
+        Verb::Gen => Ok(None),
+    }
+}
+
+/// The command that the verb is with these words behind it.
+fn command_of(alloc: Global, verb: Verb, words: &[String]) -> Result<Option<Command>, NoMemory>
+    ensures { IfOk result (λ command. command ≡ reading.command_of verb (map string_bytes words.now)) }
+{
+    if verb == Verb::Gen {
+        return workload_command(alloc, words);
+    }
+    match only_conf(words) {
+        Some(conf) => file_command(alloc, verb, conf),
+        None => Ok(None),
+    }
+}
+
+/// Whether this is the one word.
+fn is_only(text: &str, words: &[String]) -> bool
+    ensures { result ≡ reading.is_only text.now (map string_bytes words.now) }
+{
+    match words {
+        [word] => word.as_str() == text,
+        _ => false,
+    }
+}
+
+/// What the words behind a verb ask for: its command, or its help.
+fn asked_of_verb(alloc: Global, verb: Verb, words: &[String]) -> Result<Option<Asked>, NoMemory>
+    ensures { IfOk result (λ asked. asked ≡ reading.asked_of_verb verb (map string_bytes words.now)) }
+{
+    if let Some(command) = command_of(alloc, verb, words)? {
+        return Ok(Some(Asked::Command(command)));
+    }
+    if is_only("--help", words) {
+        return Ok(Some(Asked::Help(Topic::Command(verb))));
+    }
+    Ok(None)
+}
+
+/// What words that begin with no verb ask for.
+fn asked_of_program(words: &[String]) -> Option<Asked>
+    ensures { result ≡ reading.asked_of_program (map string_bytes words.now) }
+{
+    if is_only("--help", words) {
+        return Some(Asked::Help(Topic::Program));
+    }
+    if is_only("--version", words) {
+        return Some(Asked::Version);
+    }
+    None
+}
+
+fn asked_of(alloc: Global, words: &[String]) -> Result<Option<Asked>, NoMemory>
+    ensures { IfOk result (λ asked. asked ≡ reading.asked_of (map string_bytes words.now)) }
+{
+    match next_word(words) {
+        None => Ok(None),
+        Some((word, rest)) => match verb_of(word) {
+            Some(verb) => asked_of_verb(alloc, verb, rest),
+            None => Ok(asked_of_program(words)),
+        },
+    }
+}
+
+/// What the words behind the program's name ask for: it is this, and no other words ask for it.
+/// None answers every list of words that asks for nothing; want of memory is the one error.
+pub fn read(alloc: Global, words: &[String]) -> Result<Option<Asked>, NoMemory>
+    ensures { IfOk result (λ found. (asked : Asked) → (found ≡ Some asked) ↔ Asks (map string_bytes words.now) asked) }
+{
+    asked_of(alloc, words)
+}
