@@ -1,4 +1,5 @@
 mod PinLaws
+mod BehindLaws
 mod PlaceLaws
 mod SettleLaws
 mod KnownLaws

@@ -1,10 +1,9 @@
 -- What conditions reach.
-use Rattle.std.proofs.Common.{◌≡◌, ℕ, Bool, true, false, ◌&&◌, ◌||◌, Ordering, Less, Equal, Greater, is_eq, refl, ap, sym, subst, ◌∙◌, List, ◌⊎◌, inl, inr, ⊎_elim}
+use Rattle.std.proofs.Common.{◌≡◌, ℕ, Bool, true, false, Ordering, Less, Equal, Greater, is_eq, refl, ap, sym, ◌∙◌, ◌⊎◌, inl, inr, ⊎_elim}
 use Rattle.std.specs.Ordering.{is_ge, is_gt, is_le, is_lt, is_ne, ordering_reverse}
 use Rattle.std.specs.declared.option.Option.{Option}
 use Rattle.std.specs.declared.option.Option.TheVariants.{None, Some}
-use Rattle.std.proofs.lemmas.Bool.{and_parts, cases_Bool, or_cases}
-use Rattle.std.proofs.lemmas.Cmp.{tied_itself}
+use Rattle.std.proofs.lemmas.Bool.{and_parts, or_cases}
 use Rattle.cj_model.specs.declared.value.Value.{Value}
 use Rattle.cj_model.specs.declared.term.Cmp.{Cmp}
 use Rattle.cj_model.specs.declared.term.Cmp.TheVariants.{Eq, Ne, Lt, Le, Gt, Ge}

@@ -1,4 +1,5 @@
 pub mod Pinned
+pub mod Behind
 pub mod Known
 pub mod Results
 pub mod Shapes

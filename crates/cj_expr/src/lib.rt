@@ -1,6 +1,7 @@
 //! Conditions and expressions, bound to the columns of tables, and what they come to in a row.
 #![tactic(auto)]
 
+mod behind;
 mod binding;
 mod checks;
 mod formula;

@@ -1,51 +1,50 @@
--- Lists that are cut, and go on.
-use Rattle.std.proofs.Common.{◌≡◌, ℕ, ◌<◌, ◌≤◌, true, false, List, [], ◌∷◌, ◌++◌, length, take, refl, ap, sym, ◌∙◌, ⊎_elim, append_assoc, arith}
-use Rattle.std.specs.Prelude.{flat_map, nat_le}
+-- The first rows in the order of keys, of lists that are cut and go on.
+use Rattle.std.proofs.Common.{◌≡◌, ℕ, true, List, [], ◌∷◌, ◌++◌, length, ap, sym, ◌∙◌, append_assoc}
+use Rattle.std.specs.Cmp.{IsStrictWeakOrder}
+use Rattle.std.specs.Prelude.{flat_map}
 use Rattle.std.specs.declared.option.Option.{Option}
 use Rattle.std.specs.declared.option.Option.TheVariants.{None, Some}
-use Rattle.std.proofs.lemmas.Bool.{cases_Bool}
-use Rattle.std.proofs.lemmas.List.{append-nil, length-take-le, take-append-le, take-take, take_all}
-use Rattle.cj_model.specs.Database.Order.{at_most}
+use Rattle.std.proofs.lemmas.List.{append-nil, take-append-le}
+use Rattle.std.proofs.lemmas.List.Sorted.{ranks_by}
+use Rattle.cj_model.specs.declared.value.Value.{Value}
+use Rattle.cj_model.specs.Database.Order.{SortKey, at_most, sorted_by, sorts_before}
+use Rattle.cj_query.specs.Joined.{first_rows}
 use Rattle.cj_query.specs.Paths.{is_enough}
+use Rattle.cj_query.proofs.KeyLaws.{by_sort_keys_total}
+use Rattle.cj_query.proofs.OrderLaws.{in_order_all, ordered_same}
+use Rattle.cj_query.proofs.TopLaws.{cut_before, is_le}
 
-pub not_le : (m n : ℕ) → nat_le m n ≡ false → n < m
-not_le m n h = grind arith
+pub keys_order : (keys : List SortKey) → IsStrictWeakOrder (sorts_before keys)
+keys_order keys = ranks_by (by_sort_keys_total keys) (λ (r : List Value). r)
 
-pub is_le : (m n : ℕ) → nat_le m n ≡ true → m ≤ n
-is_le m n h = grind arith
+-- without keys rows stay as they stand
+pub unordered : (rows : List (List Value)) → sorted_by (sorts_before []) rows ≡ rows
+unordered rows = ordered_same (sorts_before []) (keys_order []) rows (in_order_all rows)
 
--- fewer than are wanted
-pub cut_few : {X : Type 0} (limit : Option ℕ) (xs : List X) → is_enough limit (length xs) ≡ false → at_most limit xs ≡ xs
-cut_few None xs h = refl
-cut_few (Some n) xs h = take_all n xs (let l : length xs < n = not_le n (length xs) h in omega arith)
+cut_enough : (limit : Option ℕ) (xs more : List (List Value)) → is_enough limit (length xs) ≡ true → at_most limit (xs ++ more) ≡ at_most limit xs
+cut_enough None xs more h = cc h
+cut_enough (Some n) xs more h = take-append-le n xs more (is_le n (length xs) h)
 
--- a list that is cut, with something behind it
-take_again : {X : Type 0} (n : ℕ) (xs ys : List X) → take n (take n xs ++ ys) ≡ take n (xs ++ ys)
-take_again n xs ys = ⊎_elim
-    (λ (t : nat_le n (length xs) ≡ true).
-    let l : n ≤ length xs = is_le n (length xs) t in
-    take-append-le n (take n xs) ys (omega (arith, length-take-le n xs l)) ∙ take-take n n xs (omega arith) ∙ sym (take-append-le n xs ys l))
-    (λ (f : nat_le n (length xs) ≡ false). ap (λ l. take n (l ++ ys)) (take_all n xs (let l : length xs < n = not_le n (length xs) f in omega arith)))
-    (cases_Bool (nat_le n (length xs)))
+module _ (keys : List SortKey) (limit : Option ℕ) where
+  first_again : (xs ys : List (List Value)) → first_rows keys limit (first_rows keys limit xs ++ ys) ≡ first_rows keys limit (xs ++ ys)
+  first_again xs ys = cut_before (sorts_before keys) (keys_order keys) limit xs ys
 
-pub cut_again : {X : Type 0} (limit : Option ℕ) (xs ys : List X) → at_most limit (at_most limit xs ++ ys) ≡ at_most limit (xs ++ ys)
-cut_again None xs ys = refl
-cut_again (Some n) xs ys = take_again n xs ys
+  pub first_twice : (xs : List (List Value)) → first_rows keys limit (first_rows keys limit xs) ≡ first_rows keys limit xs
+  first_twice xs = ap (first_rows keys limit) (sym (append-nil (first_rows keys limit xs))) ∙ first_again xs [] ∙ ap (first_rows keys limit) (append-nil xs)
 
-pub cut_twice : {X : Type 0} (limit : Option ℕ) (xs : List X) → at_most limit (at_most limit xs) ≡ at_most limit xs
-cut_twice limit xs = ap (at_most limit) (sym (append-nil (at_most limit xs))) ∙ cut_again limit xs [] ∙ ap (at_most limit) (append-nil xs)
+  -- where there are enough, and no keys, no more are wanted
+  pub enough : (xs more all : List (List Value)) → keys ≡ [] → is_enough limit (length xs) ≡ true → first_rows keys limit (xs ++ more) ≡ all → first_rows keys limit xs ≡ all
+  enough xs more all none h so_far =
+      let plain : (rows : List (List Value)) → first_rows keys limit rows ≡ at_most limit rows = λ rows. ap (λ ks. first_rows ks limit rows) none ∙ ap (at_most limit) (unordered rows) in
+      plain xs ∙ sym (cut_enough limit xs more h) ∙ sym (plain (xs ++ more)) ∙ so_far
 
--- ---- a walk that ends where there are enough
-
--- one more row
-module _ {A X : Type 0} (limit : Option ℕ) (g : A → List X) (out new : List X) (row : A) (is : new ≡ at_most limit (out ++ g row)) where
-  pub found_next : (rows rest : List A) (all : List X) → rows ≡ row ∷ rest → at_most limit (out ++ flat_map g rows) ≡ all → at_most limit (new ++ flat_map g rest) ≡ all
-  found_next rows rest all next so_far =
-      ap (λ l. at_most limit (l ++ flat_map g rest)) is
-      ∙ cut_again limit (out ++ g row) (flat_map g rest)
-      ∙ ap (at_most limit) (append_assoc out (g row) (flat_map g rest))
-      ∙ ap (λ rs. at_most limit (out ++ flat_map g rs)) (sym next)
+  -- one more row of a walk
+  pub found_next : {A : Type 0} (g : A → List (List Value)) (out new : List (List Value)) (row : A) → first_rows keys limit new ≡ first_rows keys limit (out ++ g row)
+      → (rows rest : List A) (all : List (List Value)) → rows ≡ row ∷ rest → first_rows keys limit (out ++ flat_map g rows) ≡ all → first_rows keys limit (new ++ flat_map g rest) ≡ all
+  found_next g out new row is rows rest all next so_far =
+      sym (first_again new (flat_map g rest))
+      ∙ ap (λ l. first_rows keys limit (l ++ flat_map g rest)) is
+      ∙ first_again (out ++ g row) (flat_map g rest)
+      ∙ ap (first_rows keys limit) (append_assoc out (g row) (flat_map g rest))
+      ∙ ap (λ rs. first_rows keys limit (out ++ flat_map g rs)) (sym next)
       ∙ so_far
-
-  pub few_next : at_most limit new ≡ new
-  few_next = ap (at_most limit) is ∙ cut_twice limit (out ++ g row) ∙ sym is

@@ -1,5 +1,5 @@
 -- Where less than all rows are looked at, the answer is the same.
-use Rattle.std.proofs.Common.{◌≡◌, ℕ, ◌≤◌, Bool, true, false, not, ◌&&◌, cond, eqb, List, [], ◌∷◌, length, map, get_or, refl, ap, sym, ◌∙◌, ⊎_elim, Less, Greater, is_eq, arith}
+use Rattle.std.proofs.Common.{◌≡◌, ℕ, ◌≤◌, Bool, true, false, not, cond, eqb, List, [], ◌∷◌, length, map, get_or, refl, ap, sym, ◌∙◌, ⊎_elim, Less, Greater, is_eq, arith}
 use Rattle.std.specs.Prelude.{All, filter, option_to_list, is_none, reverse}
 use Rattle.std.specs.Ordering.{is_lt, ordering_reverse, ordering_then}
 use Rattle.std.specs.declared.option.Option.{Option}

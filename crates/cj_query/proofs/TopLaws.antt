@@ -1,21 +1,26 @@
 -- The first of many rows in order: those that are cut off, or that a bar keeps out, are not among them.
 use Rattle.std.proofs.Common.{◌≡◌, ℕ, zero, suc, ◌+◌, ◌<◌, ◌≤◌, Bool, true, false, cond, List, [], ◌∷◌, ◌++◌, length, map, take, drop, ◌-◌, refl, ap, sym, ◌∙◌, subst, arith, ⊎_elim, append_assoc}
-use Rattle.std.specs.Prelude.{All, ⊤, nat_le, option_map, slice_get}
+use Rattle.std.specs.Prelude.{All, nat_le, option_map, slice_get}
 use Rattle.std.specs.List.{filter}
 use Rattle.std.specs.Cmp.{IsStrictWeakOrder}
 use Rattle.std.specs.List.Sorted.{ties}
 use Rattle.std.specs.declared.option.Option.{Option}
 use Rattle.std.specs.declared.option.Option.TheVariants.{None, Some}
 use Rattle.std.proofs.lemmas.Bool.{cases_Bool, cond-true, cond-false, not-true}
-use Rattle.std.proofs.lemmas.List.{take-append-le, take-append-drop, take-take, take_all, length-take-le, length-append, length-map}
+use Rattle.std.proofs.lemmas.List.{take-append-le, take-append-drop, take_all, length-take-le, length-append, length-map}
 use Rattle.std.proofs.lemmas.List.Elements.{All-nil, All-cons, All-head, All-tail, filter-append}
 use Rattle.cj_model.specs.Database.Order.{at_most, insert_before, sorted_by}
 use Rattle.cj_query.specs.Ranked.{Bars, is_barred}
-use Rattle.cj_query.proofs.LimitLaws.{is_le, not_le}
 use Rattle.cj_query.proofs.OrderLaws.{IsInOrder, NoneBefore, none_before_put, none_chain, not_before_itself, ordered_rises, ordered_stable, unique}
 
 the_one : {X : Type 0} (x b : X) → ◌≡◌ {A = Option X} (Some x) (Some b) → x ≡ b
 the_one x b e = ap (λ o. elim o [ None ↦ x | Some y ↦ y ]) e
+
+not_le : (m n : ℕ) → nat_le m n ≡ false → n < m
+not_le m n h = grind arith
+
+pub is_le : (m n : ℕ) → nat_le m n ≡ true → m ≤ n
+is_le m n h = grind arith
 
 module _ {X : Type 0} (lt : X → X → Bool) (o : IsStrictWeakOrder lt) where
   all_behind : (x bar : X) (ys : List X) → lt x bar ≡ false → All (λ y. lt bar y ≡ false) ys → All (λ y. lt x y ≡ false) ys

@@ -1,5 +1,5 @@
 -- Rows that may be among the wanted ones.
-use Rattle.std.specs.Prelude.{◌≡◌, List, ◌∷◌, ◌++◌, map, option_map}
+use Rattle.std.specs.Prelude.{◌≡◌, List, ◌++◌, map, option_map}
 use Rattle.cj_query.specs.declared.top.Kept.{Kept}
 use Rattle.cj_query.specs.declared.ranked.Ranking.{Ranking}
 use Rattle.cj_query.specs.Ranked.{Bars, RankedRow, ranks_before, seen, wanted}

@@ -1,5 +1,5 @@
 -- Rows in the order of keys, with the value of the first key at hand.
-use Rattle.std.specs.Prelude.{◌≡◌, ℕ, ◌≤◌, Bool, true, false, not, ⊤, List, ◌∷◌, ◌++◌, length, take, map, All, if◌then◌else◌}
+use Rattle.std.specs.Prelude.{◌≡◌, ℕ, ◌≤◌, Bool, true, false, not, ⊤, List, ◌∷◌, length, take, map, All, if◌then◌else◌}
 use Rattle.std.specs.declared.option.Option.{Option}
 use Rattle.std.specs.declared.option.Option.TheVariants.{None, Some}
 use Rattle.std.specs.declared.cmp.Ordering.{Ordering}
@@ -26,11 +26,22 @@ lead_value (lead.Text t) = value.Text t.now
 abbrev pub seen : Ranked → RankedRow
 seen r = (lead_value r.lead, r.row.now)
 
+-- the rows alone
+abbrev pub rows_seen : List Ranked → List (List Value)
+rows_seen rows = map (λ r. r.1) (map seen rows)
+
 abbrev pub keys_of : Ranking → List SortKey
 keys_of ranking = ranking.first.now ∷ ranking.rest.now
 
+-- a row beside its value at a place
+abbrev pub led_by : ℕ → List Value → RankedRow
+led_by place row = (cell row place, row)
+
 abbrev pub ranked_by : Ranking → List Value → RankedRow
-ranked_by ranking row = (cell row ranking.first.now.place, row)
+ranked_by ranking row = led_by ranking.first.now.place row
+
+abbrev pub leads_before : RankedRow → RankedRow → Bool
+leads_before x y = is_lt (value_cmp x.0 y.0)
 
 -- values of a key, which rises or falls
 abbrev pub by_lead : SortKey → Value → Value → Ordering

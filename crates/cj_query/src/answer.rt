@@ -8,7 +8,7 @@ ghost use Rattle.cj_query.specs.Counted as counted;
 ghost use Rattle.cj_query.specs.Groups.{rows_in};
 
 use crate::checks::listed;
-use crate::groups::{arrange, gather, singles};
+use crate::groups::{arranged, gather, singles};
 use crate::order::{SortKey, sort_groups, sort_keys};
 use crate::paths::ranking_of;
 use crate::project::{counts_row, names_of, project};
@@ -64,12 +64,12 @@ fn answer_gathered(
     scope: &Scope,
     select: &Select,
     keys: &[SortKey],
-    mut rows: Vec<&Row>,
+    rows: Vec<&Row>,
 ) -> Result<Asked, NoMemory>
     requires { keys.now ≡ map (queries.sort_key_of scope.now) select.now.order }
     ensures { IfOk result (λ asked. asked ≡ queries.asked_by (queries.answer_of scope.now select.now (queries.groups_answered scope.now select.now (map deref rows.entry.items)))) }
 {
-    arrange(scope, &select.group, &mut rows)?;
+    let rows = arranged(alloc, scope, &select.group, rows)?;
     let mut groups = gather(alloc, scope, &select.items, &select.group, &rows)?;
     sort_groups(&mut groups, keys)?;
     cut_groups(&mut groups, select.limit);

@@ -1,14 +1,15 @@
 //! Rows gathered into groups, each a part of the list of all rows.
 
-ghost use Rattle.std.specs.Prelude.{◌≡◌, ◌≤◌, ◌<◌, [], ◌∷◌, length, map, IfOk, OnOk};
+ghost use Rattle.std.specs.Prelude.{◌≡◌, ◌≤◌, ◌<◌, [], ◌∷◌, length, map, IfOk};
 ghost use Rattle.std.specs.List.{prefix_len};
 ghost use Rattle.std.specs.Map.Iter.{deref};
-ghost use Rattle.cj_query.specs.Gathered.{arranged, cut_into, run_length, same_at};
+ghost use Rattle.cj_query.specs.Gathered.{cut_into, run_length, same_at};
 ghost use Rattle.cj_query.specs.Gathered as gathered;
 ghost use Rattle.cj_query.specs.Groups.{rows_in};
 
 use crate::checks::{aggregates, place_in};
-use crate::order::{compare_at, sort_at};
+use crate::order::compare_at;
+use crate::ranked::{Ranked, rows_of, sort_by_lead};
 use cj_expr::Scope;
 use cj_model::{ColRef, Items, NoMemory, Row};
 use std::alloc::Global;
@@ -68,7 +69,7 @@ fn runs<'b, 'a>(
 pub fn singles<'b, 'a>(alloc: Global, rows: &'b [&'a Row]) -> Result<Vec<&'b [&'a Row]>, NoMemory>
     ensures { IfOk result (λ groups. rows_in groups.items ≡ map (λ row. row ∷ []) (map deref rows.now)) }
 {
-    let mut out = Vec::new(alloc);
+    let mut out = Vec::with_capacity(alloc, rows.len())?;
     for at in 0..rows.len() {
         out.push(&rows[at..at + 1])?;
     }
@@ -84,13 +85,30 @@ fn whole<'b, 'a>(alloc: Global, rows: &'b [&'a Row]) -> Result<Vec<&'b [&'a Row]
     Ok(out)
 }
 
-/// Puts the rows of one group beside each other, in rising order of the group's value.
-pub fn arrange(scope: &Scope, group: &Option<ColRef>, rows: &mut Vec<&Row>) -> Result<(), NoMemory>
-    ensures { OnOk result (map deref rows.new.items ≡ arranged scope.now group.now (map deref rows.old.items)) }
+/// The rows in rising order of the values at a place; rows that tie stay as they are.
+fn sorted<'a>(alloc: Global, rows: &[&'a Row], place: usize) -> Result<Vec<&'a Row>, NoMemory>
+    ensures { IfOk result (λ out. map deref out.items ≡ gathered.sorted_at place (map deref rows.now)) }
+{
+    let mut ranked = Vec::with_capacity(alloc, rows.len())?;
+    for row in rows {
+        ranked.push(Ranked::at(*row, place))?;
+    }
+    sort_by_lead(&mut ranked)?;
+    rows_of(alloc, &ranked)
+}
+
+/// The rows with those of one group beside each other, in rising order of the group's value.
+pub fn arranged<'a>(
+    alloc: Global,
+    scope: &Scope,
+    group: &Option<ColRef>,
+    rows: Vec<&'a Row>,
+) -> Result<Vec<&'a Row>, NoMemory>
+    ensures { IfOk result (λ out. map deref out.items ≡ gathered.arranged scope.now group.now (map deref rows.entry.items)) }
 {
     match group {
-        Some(column) => sort_at(rows, place_in(scope, column)),
-        None => Ok(()),
+        Some(column) => sorted(alloc, &rows, place_in(scope, column)),
+        None => Ok(rows),
     }
 }
 

@@ -5,6 +5,7 @@ mod answer;
 mod ask;
 mod checks;
 mod columns;
+mod found;
 mod groups;
 mod index;
 mod joins;

@@ -7,7 +7,6 @@ ghost use Rattle.cj_model.specs.Database.Order.{sorts_before, by_sort_key, by_so
 ghost use Rattle.cj_model.specs.Database.Queries.{first_row};
 ghost use Rattle.cj_model.specs.Database.Queries as queries;
 ghost use Rattle.cj_model.specs.Database.Tables.{by_key};
-ghost use Rattle.cj_query.specs.Gathered.{sorted_at};
 ghost use Rattle.cj_query.specs.Groups.{rows_in};
 
 use cj_expr::Scope;
@@ -99,14 +98,6 @@ pub fn compare(keys: &[SortKey], left: &[Value], right: &[Value]) -> Ordering
         }
     }
     Ordering::Equal
-}
-
-/// Puts rows in rising order of the values at a place; rows that tie stay as they are.
-pub fn sort_at(rows: &mut Vec<&Row>, place: usize) -> Result<(), NoMemory>
-    ensures { OnOk result (map deref rows.new.items ≡ sorted_at place (map deref rows.old.items)) }
-{
-    rows.sort_by(|left, right| compare_at(place, left.as_slice(), right.as_slice()))?;
-    Ok(())
 }
 
 /// The values of a group's first row, none of an empty group.

@@ -1,6 +1,7 @@
 //! Rows in the order of keys, with the value of the first key at hand.
 
-ghost use Rattle.std.specs.Prelude.{◌≡◌, map, OnOk};
+ghost use Rattle.std.specs.Prelude.{◌≡◌, map, IfOk, OnOk};
+ghost use Rattle.std.specs.Map.Iter.{deref};
 ghost use Rattle.std.specs.declared.cmp.Ordering.{Ordering};
 ghost use Rattle.cj_model.specs.Database.Tables.{cell};
 ghost use Rattle.cj_model.specs.Database.Order.{sorted_by};
@@ -9,6 +10,7 @@ ghost use Rattle.cj_query.specs.Ranked as ranks;
 
 use crate::order::{SortKey, compare};
 use cj_model::{NoMemory, Row, Text, Value};
+use std::alloc::Global;
 use std::cmp::Ordering;
 
 /// An order by keys, of which there is at least one, and how many rows of it are wanted at most.
@@ -48,9 +50,28 @@ impl<'a> Ranked<'a> {
     pub fn of(row: &'a Row, ranking: &Ranking) -> Ranked<'a>
         ensures { ranks.seen result ≡ ranks.ranked_by ranking.now row.now }
     {
+        Ranked::at(row, ranking.first.place())
+    }
+
+    /// A row with its value at a place.
+    pub fn at(row: &'a Row, place: usize) -> Ranked<'a>
+        ensures { ranks.seen result ≡ ranks.led_by place row.now }
+    {
         Ranked {
-            lead: lead_at(row.as_slice(), ranking.first.place()),
+            lead: lead_at(row.as_slice(), place),
             row,
+        }
+    }
+
+    /// The order of the value at hand to this one.
+    pub fn order_to(&self, value: &Value) -> Ordering
+        ensures { result ≡ value_cmp (ranks.lead_value self.now.lead) value.now }
+    {
+        match (&self.lead, value) {
+            (Lead::Int(number), Value::Int(other)) => number.cmp(other),
+            (Lead::Int(_), Value::Text(_)) => Ordering::Less,
+            (Lead::Text(_), Value::Int(_)) => Ordering::Greater,
+            (Lead::Text(text), Value::Text(other)) => text.as_slice().cmp(other.as_slice()),
         }
     }
 
@@ -100,4 +121,23 @@ pub fn sort_ranked(rows: &mut Vec<Ranked>, ranking: &Ranking) -> Result<(), NoMe
 {
     rows.sort_by(|left, right| compare_ranked(ranking, left, right))?;
     Ok(())
+}
+
+/// Puts rows in rising order of the values at hand; rows that tie stay as they are.
+pub fn sort_by_lead(rows: &mut Vec<Ranked>) -> Result<(), NoMemory>
+    ensures { OnOk result (map ranks.seen rows.new.items ≡ sorted_by ranks.leads_before (map ranks.seen rows.old.items)) }
+{
+    rows.sort_by(|left, right| compare_leads(&left.lead, &right.lead))?;
+    Ok(())
+}
+
+/// The rows, as they stand.
+pub fn rows_of<'a>(alloc: Global, ranked: &[Ranked<'a>]) -> Result<Vec<&'a Row>, NoMemory>
+    ensures { IfOk result (λ out. map deref out.items ≡ ranks.rows_seen ranked.now) }
+{
+    let mut out = Vec::new(alloc);
+    for row in ranked {
+        out.push(row.row())?;
+    }
+    Ok(out)
 }

@@ -6,7 +6,7 @@ ghost use Rattle.cj_model.specs.Database.Order.{at_most, sorted_by, sorts_before
 ghost use Rattle.cj_query.specs.Kept as kept_rows;
 ghost use Rattle.cj_query.specs.Ranked as ranks;
 
-use crate::ranked::{Ranked, Ranking, compare_ranked, sort_ranked};
+use crate::ranked::{Ranked, Ranking, compare_ranked, rows_of, sort_ranked};
 use cj_model::{NoMemory, Row};
 use cj_search::Matching;
 use std::alloc::Global;
@@ -21,7 +21,7 @@ struct Kept<'a> {
 }
 
 /// Whether there are so many rows that it is time to cut them: twice as many as are wanted.
-fn is_crowded(count: usize, most: u64) -> bool
+pub fn is_crowded(count: usize, most: u64) -> bool
     ensures { result ≡ true → most ≤ count }
 {
     0 < count && most <= (count / 2) as u64
@@ -97,16 +97,6 @@ impl<'a> Kept<'a> {
         self.rows.push(row)?;
         self.cut_crowd(ranking)
     }
-}
-
-fn rows_of<'a>(alloc: Global, ranked: &[Ranked<'a>]) -> Result<Vec<&'a Row>, NoMemory>
-    ensures { IfOk result (λ out. map deref out.items ≡ map (λ r. r.1) (map ranks.seen ranked.now)) }
-{
-    let mut out = Vec::new(alloc);
-    for row in ranked {
-        out.push(row.row())?;
-    }
-    Ok(out)
 }
 
 /// The wanted rows of those that were kept, in order.

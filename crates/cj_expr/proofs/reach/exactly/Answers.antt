@@ -1,5 +1,5 @@
 use Rattle.std.proofs.Common.{sym, ◌∙◌}
-use Rattle.cj_model.specs.declared.term.Cmp.TheVariants.{Eq, Lt, Le}
+use Rattle.cj_model.specs.declared.term.Cmp.TheVariants.{Eq}
 use Rattle.cj_expr.specs.Reaches.{holds_to}
 use Rattle.cj_expr.proofs.ReachLaws.{eq_is_le, equal_le, none_up_to}
 use Rattle.cj_expr.proofs.reach.exactly.Goals as goal

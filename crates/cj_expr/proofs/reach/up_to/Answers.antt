@@ -1,5 +1,5 @@
 use Rattle.std.proofs.Common.{sym, ◌∙◌}
-use Rattle.cj_model.specs.declared.term.Cmp.TheVariants.{Eq, Lt, Le}
+use Rattle.cj_model.specs.declared.term.Cmp.TheVariants.{Lt, Le}
 use Rattle.cj_expr.specs.Reaches.{holds_to}
 use Rattle.cj_expr.proofs.ReachLaws.{lt_is_le, none_up_to}
 use Rattle.cj_expr.proofs.reach.up_to.Goals as goal

@@ -17,7 +17,7 @@ returns c =
     let earlier : List SortKey → List (List Value) → List (List Value) → Bool = λ ks g h. sorts_before ks (first_row g) (first_row h) in
     let groups : rows_in c.in_ok-groups.groups.items ≡ gathered scope s.items s.group rows
     = c.in_ok-groups.ensures ∙ ap (λ rs. cut_into scope s.items s.group (map deref rs)) c.deref.ensures.value
-    ∙ ap (cut_into scope s.items s.group) c.in_ok-arrange.ensures ∙ gathered_is scope s.items s.group rows in
+    ∙ ap (cut_into scope s.items s.group) c.in_ok-rows.ensures ∙ gathered_is scope s.items s.group rows in
     let sorted : rows_in c.sort_groups.new.groups.items ≡ sorted_by (earlier (map (sort_key_of scope) s.order)) (gathered scope s.items s.group rows)
     = c.in_ok-sort_groups.ensures ∙ ap (λ ks. sorted_by (earlier ks) (rows_in c.in_ok-groups.groups.items)) c.requires
     ∙ ap (sorted_by (earlier (map (sort_key_of scope) s.order))) groups in

@@ -1,7 +1,7 @@
 use Rattle.std.proofs.Common.{◌≡◌, map, take}
 use Rattle.std.specs.Map.Iter.{deref}
 use Rattle.cj_query.specs.Ranked.{seen}
-use Rattle.cj_query.proofs.top.rows_of.Given as goal
+use Rattle.cj_query.proofs.ranked.rows_of.Given as goal
 
 abbrev pub invariant-loop-row : goal.invariant-loop-row
 invariant-loop-row l = map deref l.out.items ≡ map (λ r. r.1) (map seen (take l.row-index l.ranked))

@@ -1,0 +1,20 @@
+use Rattle.std.proofs.Common.{◌≡◌, List, map, ap, subst, ◌∙◌}
+use Rattle.std.specs.Prelude.{IfOk}
+use Rattle.std.specs.Map.Iter.{deref}
+use Rattle.std.proofs.lemmas.List.{take_all}
+use Rattle.cj_model.specs.declared.value.Value.{Value}
+use Rattle.cj_model.specs.Database.Order.{sorted_by}
+use Rattle.cj_query.specs.Ranked.{RankedRow, leads_before, led_by, rows_seen}
+use Rattle.cj_query.proofs.RankLaws.{led_rows}
+use Rattle.cj_query.proofs.groups.sorted.Goals as goal
+
+pub returns : goal.returns
+returns c =
+    let place = c.args.place in
+    subst (λ (rows : List (List Value)). IfOk c.rows_of.result (λ out. map deref out.items ≡ rows))
+    (ap rows_seen c.deref.ensures.value
+    ∙ ap (map (λ (x : RankedRow). x.1))
+    (c.in_ok-sort_by_lead.ensures
+    ∙ ap (sorted_by leads_before) (c.loop-row.invariant ∙ ap (λ rows. map (led_by place) (map deref rows)) (take_all c.loop-row.row-index c.args.rows.now c.loop-row-test.false)))
+    ∙ led_rows place (map deref c.args.rows.now))
+    c.rows_of.ensures

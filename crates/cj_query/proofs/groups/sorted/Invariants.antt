@@ -1,0 +1,7 @@
+use Rattle.std.proofs.Common.{◌≡◌, map, take}
+use Rattle.std.specs.Map.Iter.{deref}
+use Rattle.cj_query.specs.Ranked.{led_by, seen}
+use Rattle.cj_query.proofs.groups.sorted.Given as goal
+
+abbrev pub invariant-loop-row : goal.invariant-loop-row
+invariant-loop-row l = map seen l.ranked.items ≡ map (led_by l.place) (map deref (take l.row-index l.rows))

@@ -1,0 +1,13 @@
+use Rattle.std.proofs.Common.{rules, map, ap, ◌∙◌}
+use Rattle.std.proofs.lemmas.List.Sorted.{ranks_by}
+use Rattle.std.proofs.lemmas.Fn.{always_returns_same}
+use Rattle.cj_query.specs.Ranked.{leads_before, seen}
+use Rattle.cj_query.proofs.OrderLaws.{ordered_is, ordered-map}
+use Rattle.cj_query.proofs.RankLaws.{lead_total}
+use Rattle.cj_query.proofs.ranked.sort_by_lead.Goals as goal
+
+pub returns : goal.returns
+returns c =
+    let o = ranks_by lead_total seen in
+    ap (map seen) (ordered_is _ o c.args.rows.now.items c.sort_by.new.self.items (c.in_ok-sort_by.ensures.sorted _ o (always_returns_same _ _ _ (λ a r f k. (search rules, search rules)))) (c.sort_by.ensures.stable _ o (always_returns_same _ _ _ (λ a r f k. (search rules, search rules)))))
+    ∙ ordered-map seen leads_before c.args.rows.now.items
