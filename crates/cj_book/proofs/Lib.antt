@@ -7,5 +7,6 @@ pub mod Numbered
 pub mod Recovering
 pub mod Serving
 pub mod Starting
+pub mod Written
 pub mod TransactionSteps
 pub mod Unasked

@@ -1,6 +1,6 @@
 -- A book whose log was asked nothing.
 use Rattle.std.proofs.Common.{◌≡◌, inr, ℕ, true, List, Result, Ok, Err, ap, sym, ◌∙◌, subst}
-use Rattle.std.specs.Prelude.{IsErrAnd}
+use Rattle.std.specs.Prelude.{OnOk, IsErrAnd}
 use Rattle.cj_outside.specs.Stores.{LeavesOnly}
 use Rattle.cj_log.specs.declared.item.LogItem.{LogItem}
 use Rattle.cj_log.specs.Logs.{IsBeforeOrAfter, Refuses}
@@ -22,3 +22,8 @@ module _ {S : Type 0} (a b : BookState S) (is : a ≡ b) where
   pub gate_refuses : {T E : Type 0} (item : LogItem) (result : Result T E) (P : E → Type 0) → IsErrAnd result P → Refuses b.recovery_log item a.recovery_log result
   gate_refuses item (Ok x) P is = absurd is
   gate_refuses item (Err e) P is = λ up. inr (gate_stays up)
+
+-- what is promised of a success, where there is none
+pub not_ok : {T E : Type 0} (result : Result T E) (P : E → Type 0) (Q : Type 0) → IsErrAnd result P → OnOk result Q
+not_ok (Ok x) P Q is = absurd is
+not_ok (Err e) P Q is = tt

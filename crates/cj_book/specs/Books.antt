@@ -10,16 +10,21 @@ use Rattle.cj_cluster.specs.declared.event.Event.{Event}
 use Rattle.cj_cluster.specs.declared.event.Event.TheVariants.{Sched, Ended, ReadFailed, LogFailed, Disabled, Enabled, Marker}
 use Rattle.cj_model.specs.Sql.PlainRequests.{request_of}
 use Rattle.cj_model.specs.Cluster.Balancing.{Balance, IsFirst, is_ahead, one_more, picked}
+use Rattle.cj_model.specs.Cluster.Caching.{CacheState}
+use Rattle.cj_cache.specs.Doomed.{ListsDoomed}
 use Rattle.cj_model.specs.Cluster.Placements.{Placement, hosts_all, concerns}
 use Rattle.cj_cluster.specs.History.Histories.{log, is_idle, is_enabled, events_left, tx_of}
 use Rattle.cj_cluster.specs.History.Answering.{HasServer, HasNoServer}
 use Rattle.cj_cluster.specs.Moves.Moves.{entry_numbered}
+use Rattle.cj_freshness.specs.Freshness.{touches_behind, without_touched}
 use Rattle.cj_place.specs.Layouts.{Layout, placement_of}
 use Rattle.cj_log.specs.declared.item.LogItem.{LogItem}
 use Rattle.cj_log.specs.Logs.{LogState, KeepsItems}
 use Rattle.cj_opening.specs.Openings.{items_of}
+use Rattle.cj_book.specs.declared.book.Doomed.{Doomed}
 use Rattle.cj_book.specs.declared.error.BookError.{BookError}
 use Rattle.cj_book.specs.declared.error.BookError.TheVariants.{InProgress, NoBackend, HistoryFull, LogFault, NoMemory}
+use Rattle.cj_book.specs.Touching.{has_table}
 
 -- What contracts see of a book.
 pub record BookState (S : Type 0) : Type 0 where
@@ -31,6 +36,8 @@ pub record BookState (S : Type 0) : Type 0 where
   -- the greatest session number given
   pub greatest : ℕ
   pub balance : Balance
+  -- the answers kept of queries
+  pub cache : CacheState
   -- whether memory was taken for an event that may come
   pub has_spare : Bool
   -- the recovery log, whose items are those of the history
@@ -43,6 +50,15 @@ placement_at b = placement_of b.layout
 -- the book with one more event, which may have had the memory that was taken
 abbrev pub with_event : {S : Type 0} → BookState S → Event → BookState S
 with_event b e = record b { history = b.history ++ e ∷ []; has_spare = false }
+
+-- the book with one more entry, and without the kept answers whose queries need a table that it touches
+abbrev pub with_entry : {S : Type 0} → BookState S → Entry → BookState S
+with_entry b e = record (with_event b (Sched e)) { cache = without_touched (log b.history) e b.cache }
+
+-- what the cache drops behind an entry: exactly the tables that it touches, and the kept statements that need one of them
+pub record IsDoomedBy {S : Type 0} (b : BookState S) (e : Entry) (d : Doomed) : Type 0 where
+  pub tables : (table : List ℕ) → has_table d.tables table ≡ touches_behind (log b.history) e.tx e.act table
+  pub statements : ListsDoomed d.tables b.cache d.statements
 
 -- the book is as before, but maybe for its recovery log
 abbrev pub IsSameButLog : {S : Type 0} → BookState S → BookState S → Type 0

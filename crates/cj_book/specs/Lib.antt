@@ -3,3 +3,4 @@ pub mod Found
 pub mod Kept
 pub mod Lists
 pub mod Starts
+pub mod Touching

@@ -2,6 +2,7 @@
 use Rattle.std.specs.Prelude.{◌≡◌, ◌⊎◌, ℕ, false, List, [], fold, length, max, nat_le, if◌then◌else◌, Result, Ok, Err}
 use Rattle.cj_model.specs.declared.request.Entry.{Entry}
 use Rattle.cj_model.specs.Cluster.Balancing.{Balance}
+use Rattle.cj_model.specs.Cluster.Caching.{CacheState}
 use Rattle.cj_cluster.specs.History.Histories.{log}
 use Rattle.cj_outside.specs.Causes.{next}
 use Rattle.cj_place.specs.Layouts.{Layout}
@@ -19,9 +20,10 @@ abbrev pub greatest_session : List Entry → ℕ
 greatest_session entries = fold (λ n (e : Entry). max n e.session) 0 entries
 
 -- The book of a log that was just opened: its history is the one that its entries and markers open with, and no session is open. Session numbers go on above the greatest in the log.
-pub record IsStarted {S : Type 0} (placement : Layout) (balancer : Balance) (book : BookState S) : Type 0 where
+pub record IsStarted {S : Type 0} (placement : Layout) (balancer : Balance) (answers : CacheState) (book : BookState S) : Type 0 where
   pub layout : book.layout ≡ placement
   pub balance : book.balance ≡ balancer
+  pub cache : book.cache ≡ answers
   pub opens : OpensTo (items_of book.history) book.history
   pub sessions : book.sessions ≡ []
   pub greatest : book.greatest ≡ greatest_session (log book.history)

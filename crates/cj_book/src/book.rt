@@ -11,7 +11,7 @@ ghost use Rattle.cj_cluster.specs.History.Legality.{AreFitMasks, IsFitEntry, IsL
 ghost use Rattle.cj_model.specs.Cluster.Masks.{in_mask};
 ghost use Rattle.cj_cluster.specs.History.Answering.{HasServer, HasNoServer};
 ghost use Rattle.cj_book.specs.Books as books;
-ghost use Rattle.cj_book.specs.Books.{placement_at, with_event, has_session, has_no_number, is_candidate, is_target, IsOfKnown, IsInProgress, HasNoBackend, LacksRoom, CanSchedule, Checks, HasNoRoomForOne, HasRoom, IsKeptIn, IsSameButLog, IsWant, PicksOf, last_write_failed};
+ghost use Rattle.cj_book.specs.Books.{placement_at, with_event, has_session, has_no_number, is_candidate, is_target, IsOfKnown, IsInProgress, HasNoBackend, LacksRoom, CanSchedule, Checks, HasNoRoomForOne, HasRoom, IsDoomedBy, IsKeptIn, IsSameButLog, IsWant, PicksOf, last_write_failed};
 ghost use Rattle.cj_book.specs.Starts.{IsStarted, Starts, CountsStartFault};
 ghost use Rattle.cj_book.specs.Found.{start_error_of, entry_error_of};
 ghost use Rattle.std.specs.BTreeSet.{contains};
@@ -23,17 +23,22 @@ ghost use Rattle.cj_opening.specs.Openings.{entry_item, marker_item, items_of};
 ghost use Rattle.cj_outside.specs.Causes.{CountsFault};
 ghost use Rattle.cj_outside.specs.Stores.{LeavesOnly, Only};
 ghost use Rattle.cj_opening.specs.Proving.Keeping.{entry_at};
+ghost use Rattle.cj_model.specs.declared.cached.Cached.{Cached};
+ghost use Rattle.cj_model.specs.Cluster.Caching.{after_keep, after_look, answer_kept, has_answer};
+ghost use Rattle.cj_freshness.specs.Freshness.{NoneTouches};
 
 use crate::error::{BookError, SessionsFull, StartError};
 use crate::recovered::recover;
 use crate::sessions::BookSessions;
+use crate::touching::{is_touched_behind, touched_behind};
 use crate::transactions::OpenTransactions;
 use cj_balance::Balancer;
+use cj_cache::{Cache, Selects};
 use cj_cluster::{BoxedEntry, Event};
 use cj_log::{Log, LogError, LogItem, LogMarker};
 use cj_model::{
-    Act, BACKEND_LIMIT, EVENT_LIMIT, Entry, Name, NoMemory, SESSION_LIMIT, SESSION_NUMBER_LIMIT,
-    has_bit,
+    Act, Answer, BACKEND_LIMIT, EVENT_LIMIT, Entry, Name, NoMemory, SESSION_LIMIT,
+    SESSION_NUMBER_LIMIT, Select, TableSet, has_bit,
 };
 use cj_opening::{MarkerName, OpeningError, entry_item as item_of_entry};
 use cj_outside::Store;
@@ -49,6 +54,8 @@ use std::marker::Model;
 pub struct BookParts {
     pub placement: Placement,
     pub balancer: Balancer,
+    /// It has kept and counted nothing.
+    pub cache: Cache,
 }
 
 /// A history, and what follows from it: its open sessions, their transactions, which backends are enabled.
@@ -59,6 +66,7 @@ pub struct Book<S: Store> {
     alloc: Global,
     placement: Placement,
     balancer: Balancer,
+    cache: Cache,
     history: Vec<Event>,
     /// The places of the entries in the history.
     scheduled: Vec<usize>,
@@ -79,6 +87,13 @@ pub struct Book<S: Store> {
     recovery_log: Log<S>,
 }
 
+/// What the cache is to drop: the tables that an entry touches, and the kept statements that need one of them.
+#[derive(Drop)]
+struct Doomed {
+    tables: TableSet,
+    statements: Selects,
+}
+
 impl<S: Store> Model for Book<S> {
     ghost use Rattle.std.specs.Prelude.{map, vec_capacity};
     ghost use Rattle.cj_book.specs.Books.{BookState};
@@ -92,7 +107,7 @@ impl<S: Store> Model for Book<S> {
 
     ghost coded = { Prim.hlevel (codes, coded_condition) };
 
-    ghost view = { λ book. record { layout = book.placement; history = book.history.items; sessions = map session_number book.sessions; greatest = book.greatest; balance = book.balancer; has_spare = book.has_spare; recovery_log = book.recovery_log } };
+    ghost view = { λ book. record { layout = book.placement; history = book.history.items; sessions = map session_number book.sessions; greatest = book.greatest; balance = book.balancer; cache = book.cache; has_spare = book.has_spare; recovery_log = book.recovery_log } };
 
     ghost invariant = { λ book. IsKeptBook S.TELLS book.placement book.history.items book.scheduled.items book.done book.enabled
         (vec_capacity book.history) book.has_spare book.greatest book.targets book.sessions book.transactions book.marker_names book.recovery_log.items book.recovery_log.torn };
@@ -184,7 +199,7 @@ impl<S: Store> Book<S> {
     /// the store back, in which nothing was written but the bytes of a new file.
     pub fn open(alloc: Global, parts: BookParts, store: S) -> Result<Book<S>, (StartError, S)>
         requires { S.TELLS ≡ true → Only (S.held store) (S.may store) }
-        ensures started { IfOk result (IsStarted parts.placement parts.balancer) }
+        ensures started { IfOk result (IsStarted parts.placement parts.balancer parts.cache) }
         ensures bytes { S.TELLS ≡ true → Starts S.held (S.held store) result }
         ensures cause { CountsStartFault S.faults (S.faults store) result }
     {
@@ -202,6 +217,7 @@ impl<S: Store> Book<S> {
                 alloc,
                 placement: parts.placement,
                 balancer: parts.balancer,
+                cache: parts.cache,
                 history,
                 done: found.scheduled.len(),
                 scheduled: found.scheduled,
@@ -277,7 +293,7 @@ impl<S: Store> Book<S> {
         }
     }
 
-    fn entry_of(&self, index: usize) -> Option<&Entry>
+    pub(crate) fn entry_of(&self, index: usize) -> Option<&Entry>
         ensures { option_copied result ≡ slice_get (log self.now.history) index }
     {
         let place = self.scheduled.get(index)?;
@@ -401,14 +417,24 @@ impl<S: Store> Book<S> {
         Ok(())
     }
 
+    /// What the cache drops behind an entry that may come next.
+    fn doomed(&self, e: &Entry) -> Result<Doomed, NoMemory>
+        ensures { IfOk result (IsDoomedBy self.now e.now) }
+    {
+        let tables = touched_behind(self, self.alloc, self.length(), e.tx, &e.act)?;
+        let statements = self.cache.doomed(&tables)?;
+        Ok(Doomed { tables, statements })
+    }
+
     /// Schedules an entry, which is then open, and answers its number. It stands in the log before it comes into the history.
+    /// The cache drops the answers whose queries need a table that the entry touches.
     ///
     /// Where it is refused for several reasons, the error is the first of them in the order of the variants. Where the log's store
     /// failed, the history has an event of that; else it is as it was.
     pub fn schedule(&mut self, e: Entry) -> Result<u64, BookError>
         requires fit { is_idle self.old.history ≡ true → IsFitEntry (log self.old.history) e }
         requires known { IsOfKnown self.old e }
-        ensures ok { OnOk result (IsSameButLog (with_event self.old (events.Sched e)) self.new) }
+        ensures ok { OnOk result (IsSameButLog (books.with_entry self.old e) self.new) }
         ensures number { IfOk result (λ n. n ≡ length (log self.new.history)) }
         ensures ready { OnOk result (CanSchedule self.old e.act) }
 
@@ -433,6 +459,7 @@ impl<S: Store> Book<S> {
         self.recovery_log.legal();
         self.check_schedule(&e.act)?;
         let hosts = self.concerned(&e);
+        let doomed = self.doomed(&e)?;
         let number = self.length() + 1;
         let place = self.history.len();
         let item = item_of_entry(self.alloc, number, &e)?;
@@ -459,6 +486,7 @@ impl<S: Store> Book<S> {
         }
         self.transactions.follow(&e, hosts);
         self.sessions.follow(number, &e);
+        self.cache.drop_tables(&doomed.tables, &doomed.statements);
         self.scheduled.push_reserved(place);
         self.history.push_reserved(Event::Sched(room.filled(e)));
         self.targets = self.enabled & hosts;
@@ -691,5 +719,51 @@ impl<S: Store> Book<S> {
         ensures { self.new ≡ record self.old { balance = record self.old.balance { standing = record self.old.balance.standing { pending = one_less self.old.balance.standing.pending b } } } }
     {
         self.balancer.ended(b);
+    }
+
+    // ---- the result cache
+
+    /// Whether the answer of the query is kept, which is then in front. This counts a hit or a miss.
+    pub fn look(&mut self, select: &Select) -> bool
+        ensures found { result ≡ has_answer select.now self.old.cache }
+        ensures looked { self.new ≡ record self.old { cache = after_look select.now self.old.cache } }
+    {
+        self.cache.touch(select)
+    }
+
+    /// The kept answer of the query.
+    pub fn kept(&self, select: &Select) -> Option<&Answer>
+        ensures { option_copied result ≡ answer_kept select.now self.now.cache }
+    {
+        self.cache.kept(select)
+    }
+
+    /// Keeps an answer that was given at a position of the log; whether it does. It doesn't exactly where an entry behind that
+    /// position touches a table that the query needs.
+    pub fn keep(&mut self, select: Select, answer: Answer, at: u64) -> Result<bool, NoMemory>
+        requires { at ≤ length (log self.old.history) }
+        ensures untouched { IfOk result (λ kept. (kept ≡ true) ↔ NoneTouches (log self.old.history) at (length (log self.old.history)) select) }
+        ensures kept { result ≡ Ok true → self.new ≡ record self.old { cache = after_keep (record { select = select; answer = answer; at = at }) self.old.cache } }
+        ensures same { result ≢ Ok true → self.new ≡ self.old }
+    {
+        if is_touched_behind(self, self.alloc, at, &select)? {
+            return Ok(false);
+        }
+        self.cache.keep(select, answer, at)?;
+        Ok(true)
+    }
+
+    /// Whether the cache keeps nothing at all.
+    pub fn keeps_none(&self) -> bool
+        ensures { result ≡ true → (e : Cached) → after_keep e self.now.cache ≡ self.now.cache }
+    {
+        self.cache.keeps_none()
+    }
+
+    /// Hits and misses.
+    pub fn counts(&self) -> (u64, u64)
+        ensures { result ≡ (self.now.cache.hits, self.now.cache.misses) }
+    {
+        self.cache.counts()
     }
 }

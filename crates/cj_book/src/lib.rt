@@ -9,6 +9,7 @@ mod book;
 mod error;
 mod recovered;
 mod sessions;
+mod touching;
 mod transactions;
 
 pub use book::{Book, BookParts};

@@ -1,2 +1,4 @@
+pub mod ByTable
+pub mod Doomed
 pub mod Examples
 pub mod Maps

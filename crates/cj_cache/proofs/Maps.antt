@@ -1,20 +1,20 @@
 -- What a map holds, as entries.
-use Rattle.std.proofs.Common.{◌≡◌, ℕ, zero, suc, ◌-◌, ◌<◌, ◌≤◌, Bool, true, false, not, cond, List, [], ◌∷◌, filter, length, map, take, refl, sym, ap, ◌∙◌, arith, ⊎_elim}
+use Rattle.std.proofs.Common.{◌≡◌, ℕ, zero, suc, ◌-◌, ◌<◌, ◌≤◌, Bool, true, false, cond, List, [], ◌∷◌, length, map, take, refl, sym, ap, ◌∙◌, subst, arith, ⊎_elim}
 use Rattle.std.specs.Prelude.{is_some, option_map}
-use Rattle.std.specs.List.{cons_option}
-use Rattle.std.specs.Map.{lookup, lookup_entry, remove_entry}
+use Rattle.std.specs.List.{IsDistinct, cons_option}
+use Rattle.std.specs.Map.{keys_of, lookup, lookup_entry, remove_entry}
 use Rattle.std.specs.Option.{option_map_or}
 use Rattle.std.specs.declared.option.Option.{Option}
 use Rattle.std.specs.declared.option.Option.TheVariants.{None, Some}
-use Rattle.std.proofs.lemmas.Bool.{both_ways, cases_Bool, false_from_ne_true}
+use Rattle.std.proofs.lemmas.Bool.{cases_Bool}
 use Rattle.std.proofs.lemmas.List.{length-map, take-map, take_all}
+use Rattle.std.proofs.lemmas.Simd.{map-map}
 use Rattle.lru.specs.LruCache.{LruCache, promoted, put_entries}
 use Rattle.cj_model.specs.declared.cached.Cached.{Cached}
 use Rattle.cj_model.specs.declared.select.Select.{Select}
-use Rattle.cj_model.specs.Cluster.Caching.{brought_to_front, cached_entry, is_entry_for, needs_one_of, without}
+use Rattle.cj_model.specs.Cluster.Caching.{brought_to_front, cached_entry, without}
 use Rattle.cj_model.specs.Proving.SameStatements.{same_statement, same_statement-Decides}
 use Rattle.cj_model.proofs.CachingLaws.{none_without}
-use Rattle.cj_model.proofs.FilterLaws.{filter_stays, filter_goes}
 use Rattle.cj_cache.specs.declared.held.Held.{Held}
 use Rattle.cj_cache.specs.Kept.{cached, popped_each, without_each}
 
@@ -108,50 +108,10 @@ pub popped_shown : (ss : List Select) (es : Pairs) → map cached (popped_each s
 popped_shown [] es = refl
 popped_shown (s ∷ ss) es = popped_shown ss (remove_entry (same_statement s) es) ∙ ap (without_each ss) (sym (without_shown s es))
 
+-- the statements of a map's entries are its keys
+pub keys_shown : (es : Pairs) → IsDistinct same_statement (keys_of es) → IsDistinct same_statement (map (λ (e : Cached). e.select) (map cached es))
+keys_shown es = subst (IsDistinct same_statement) (sym (map-map (λ (e : Cached). e.select) cached es))
+
 pub none_left : (ss : List Select) → without_each ss [] ≡ []
 none_left [] = refl
 none_left (s ∷ ss) = none_left ss
-
--- ---- dropping
-
-module _ (set : List (List ℕ)) where
-  abbrev needs : Cached → Bool
-  needs e = needs_one_of set e.select
-
-  abbrev stays : Cached → Bool
-  stays e = not (needs_one_of set e.select)
-
-  abbrev doomed_of : List Cached → List Select
-  doomed_of xs = map (λ (e : Cached). e.select) (filter needs xs)
-
-  -- an entry that needs no table of the set is none of the statements that do
-  past : (x : Cached) (ys xs : List Cached) → needs x ≡ false → without_each (doomed_of ys) (x ∷ xs) ≡ x ∷ without_each (doomed_of ys) xs
-  past x [] xs fine = refl
-  past x (y ∷ ys) xs fine = ⊎_elim
-      (λ (here : needs y ≡ true).
-      let other : is_entry_for y.select x ≡ false = false_from_ne_true (is_entry_for y.select x) (λ same. both_ways (needs x) fine (ap (needs_one_of set) (sym ((same_statement-Decides y.select x.select).0 same)) ∙ here)) in
-      let more : doomed_of (y ∷ ys) ≡ y.select ∷ doomed_of ys = ap (map (λ (e : Cached). e.select)) (filter_stays needs y ys here) in
-      ap (λ ss. without_each ss (x ∷ xs)) more
-      ∙ ap (λ b. without_each (doomed_of ys) (cond b xs (x ∷ without y.select xs))) other
-      ∙ past x ys (without y.select xs) fine
-      ∙ ap (λ ss. x ∷ without_each ss xs) (sym more))
-      (λ (gone : needs y ≡ false).
-      let same : doomed_of (y ∷ ys) ≡ doomed_of ys = ap (map (λ (e : Cached). e.select)) (filter_goes needs y ys gone) in
-      ap (λ ss. without_each ss (x ∷ xs)) same ∙ past x ys xs fine ∙ ap (λ ss. x ∷ without_each ss xs) (sym same))
-      (cases_Bool (needs y))
-
-  -- without the statements that need one of the tables, the others are left
-  pub each_dropped : (xs : List Cached) → without_each (doomed_of xs) xs ≡ filter stays xs
-  each_dropped [] = refl
-  each_dropped (x ∷ xs) = ⊎_elim
-      (λ (here : needs x ≡ true).
-      ap (λ ss. without_each ss (x ∷ xs)) (ap (map (λ (e : Cached). e.select)) (filter_stays needs x xs here))
-      ∙ ap (λ b. without_each (doomed_of xs) (cond b xs (x ∷ without x.select xs))) ((same_statement-Decides x.select x.select).1 refl)
-      ∙ each_dropped xs
-      ∙ sym (filter_goes stays x xs (ap not here)))
-      (λ (gone : needs x ≡ false).
-      ap (λ ss. without_each ss (x ∷ xs)) (ap (map (λ (e : Cached). e.select)) (filter_goes needs x xs gone))
-      ∙ past x xs xs gone
-      ∙ ap (λ (r : List Cached). x ∷ r) (each_dropped xs)
-      ∙ sym (filter_stays stays x xs (ap not gone)))
-      (cases_Bool (needs x))

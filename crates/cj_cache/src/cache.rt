@@ -1,14 +1,21 @@
 //! The cache.
 
-ghost use Rattle.std.specs.Prelude.{◌≡◌, ℕ, [], ◌∷◌, filter, is_some, map, not, take, option_copied, IfOk, OnOk, OnErr};
-ghost use Rattle.cj_model.specs.Cluster.Caching.{brought_to_front, counted_up, without_tables, empty_cache, cached_entry, has_answer, after_look, needs_one_of, after_keep, without};
+ghost use Rattle.std.specs.Prelude.{◌≡◌, true, ℕ, [], ◌∷◌, is_some, map, take, option_copied, IfOk, OnOk, OnErr};
+ghost use Rattle.std.specs.List.{IsDistinct};
+ghost use Rattle.cj_model.specs.Cluster.Caching.{brought_to_front, counted_up, without_tables, empty_cache, cached_entry, has_answer, after_look, after_keep, without};
+ghost use Rattle.cj_model.specs.declared.cached.Cached.{Cached};
 ghost use Rattle.cj_model.specs.Cluster.Caching as caching;
+ghost use Rattle.cj_model.specs.Proving.SameStatements.{same_statement};
+ghost use Rattle.cj_cache.specs.Doomed.{ListsDoomed};
 ghost use Rattle.cj_cache.specs.Kept.{HasCapacity, entries_held, without_each};
+ghost use Rattle.cj_cache.specs.Proving.ByTable.{AreListed};
 
+use crate::by_table::ByTable;
 use crate::held::{self, Held};
 use cj_model::{Answer, Cached, ListOf, NoMemory, Select, TableSet};
 use lru::LruCache;
 use std::alloc::Global;
+use std::collections::HashMap;
 use std::marker::Model;
 use std::num::NonZeroUsize;
 
@@ -23,6 +30,7 @@ pub struct Cache {
     alloc: Global,
     /// None at capacity 0.
     held: Option<LruCache<Select, Held>>,
+    by_table: ByTable,
     /// The most entries.
     capacity: u32,
     hits: u64,
@@ -32,6 +40,7 @@ pub struct Cache {
 impl Model for Cache {
     ghost use Rattle.cj_model.specs.Cluster.Caching.{CacheState};
     ghost use Rattle.cj_cache.specs.Kept.{HasCapacity, entries_held};
+    ghost use Rattle.cj_cache.specs.Proving.ByTable.{AreListed};
 
     ghost Value = { CacheState };
 
@@ -41,7 +50,7 @@ impl Model for Cache {
 
     ghost view = { λ c. record { entries = entries_held c.held; hits = c.hits; misses = c.misses; capacity = c.capacity } };
 
-    ghost invariant = { λ c. HasCapacity c.capacity c.held };
+    ghost invariant = { λ c. HasCapacity c.capacity c.held × AreListed c.by_table (entries_held c.held) };
 }
 
 fn count_up(count: &mut u64)
@@ -72,48 +81,49 @@ fn bring_to_front(held: &mut Option<LruCache<Select, Held>>, select: &Select) ->
 }
 
 fn put_front(
+    alloc: Global,
     held: &mut Option<LruCache<Select, Held>>,
+    by_table: &mut ByTable,
     entry: Cached,
     capacity: u32,
 ) -> Result<(), NoMemory>
-    requires { HasCapacity capacity held.old }
+    requires capacity { HasCapacity capacity held.old }
+    requires listed { AreListed by_table.old (entries_held held.old) }
     ensures ok { OnOk result (entries_held held.new ≡ take capacity (entry ∷ without entry.select (entries_held held.old))) }
     ensures err { OnErr result (entries_held held.new ≡ entries_held held.old) }
     ensures capacity { HasCapacity capacity held.new }
+    ensures listed { AreListed by_table.new (entries_held held.new) }
 {
     match held {
         None => Ok(()),
-        Some(held) => held::put_front(held, entry),
+        Some(held) => held::put_front(alloc, held, by_table, entry),
     }
 }
 
-fn drop_each(held: &mut Option<LruCache<Select, Held>>, doomed: &[Select])
+#[tactic(auto, using(crate::proofs::Doomed::none_differ, crate::proofs::Maps::none_left))]
+fn drop_each(held: &mut Option<LruCache<Select, Held>>, by_table: &mut ByTable, doomed: &[Select])
+    requires { AreListed by_table.old (entries_held held.old) }
     ensures entries { entries_held held.new ≡ without_each doomed.now (entries_held held.old) }
+    ensures distinct { IsDistinct same_statement (map (λ e. e.select) (entries_held held.old)) }
     ensures capacity { (n : ℕ) → HasCapacity n held.old → HasCapacity n held.new }
+    ensures listed { AreListed by_table.new (entries_held held.new) }
 {
     match held {
         None => {}
-        Some(held) => held::drop_each(held, doomed),
+        Some(held) => held::drop_each(held, by_table, doomed),
     }
-}
-
-/// Drops the entries that need one of the tables, which are those of the doomed statements.
-fn drop_doomed(held: &mut Option<LruCache<Select, Held>>, set: &TableSet, doomed: &[Select])
-    requires { doomed.now ≡ map (λ e. e.select) (filter (λ e. needs_one_of set.now e.select) (entries_held held.old)) }
-    ensures entries { entries_held held.new ≡ filter (λ e. not (needs_one_of set.now e.select)) (entries_held held.old) }
-    ensures capacity { (n : ℕ) → HasCapacity n held.old → HasCapacity n held.new }
-{
-    drop_each(held, doomed);
 }
 
 impl Cache {
     /// An empty cache of at most so many answers; one of capacity 0 keeps nothing.
+    #[tactic(auto, using(crate::proofs::ByTable::none_listed))]
     pub fn new(alloc: Global, capacity: u32) -> Result<Cache, NoMemory>
         ensures { IfOk result (λ cache. cache ≡ empty_cache capacity) }
     {
         Ok(Cache {
             alloc,
             held: make_map(alloc, capacity)?,
+            by_table: HashMap::new(alloc),
             capacity,
             hits: 0,
             misses: 0,
@@ -152,26 +162,43 @@ impl Cache {
         ensures err { OnErr result (self.new ≡ self.old) }
     {
         let entry = Cached { select, answer, at };
-        put_front(&mut self.held, entry, self.capacity)
+        put_front(
+            self.alloc,
+            &mut self.held,
+            &mut self.by_table,
+            entry,
+            self.capacity,
+        )
     }
 
     /// Copies of exactly the kept statements that need one of the tables.
+    #[tactic(auto, using(crate::proofs::Doomed::none_same, crate::proofs::Doomed::none_differ))]
     pub fn doomed(&self, set: &TableSet) -> Result<Selects, NoMemory>
-        ensures { IfOk result (λ found. found ≡ caching.doomed set.now self.now) }
+        ensures { IfOk result (λ found. ListsDoomed set.now self.now found) }
     {
         match &self.held {
             None => Ok(ListOf::new(self.alloc)),
-            Some(held) => held::copy_doomed(self.alloc, held, set),
+            Some(held) => held::copy_doomed(self.alloc, held, &self.by_table, set),
         }
     }
 
     /// Drops exactly the entries that need one of the tables. `doomed` is what `doomed` answers
     /// for them now.
     pub fn drop_tables(&mut self, set: &TableSet, doomed: &Selects)
-        requires { doomed.now ≡ caching.doomed set.now self.old }
+        requires { ListsDoomed set.now self.old doomed.now }
         ensures { self.new ≡ without_tables set.now self.old }
     {
-        drop_doomed(&mut self.held, set, doomed.as_slice());
+        drop_each(&mut self.held, &mut self.by_table, doomed.as_slice());
+    }
+
+    /// Whether nothing is ever kept, so that no answer need be copied for it.
+    pub fn keeps_none(&self) -> bool
+        ensures { result ≡ true → (e : Cached) → after_keep e self.now ≡ self.now }
+    {
+        match &self.held {
+            None => true,
+            Some(_) => false,
+        }
     }
 
     /// Hits and misses.

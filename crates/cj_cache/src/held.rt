@@ -1,12 +1,18 @@
 //! What is held of statements, the most recently used first.
 
-ghost use Rattle.std.specs.Prelude.{◌≡◌, ◌∷◌, filter, is_some, map, option_copied, option_map, take, IfOk, OnOk, OnErr};
-ghost use Rattle.lru.specs.LruCache.{lru_cache};
-ghost use Rattle.cj_model.specs.Cluster.Caching.{brought_to_front, cached_entry, needs_one_of, without};
+ghost use Rattle.std.specs.Prelude.{◌≡◌, [], ◌∷◌, filter, is_some, map, option_copied, option_map, take, IfOk, OnOk, OnErr};
+ghost use Rattle.std.specs.List.{IsDistinct};
+ghost use Rattle.indexmap.specs.IndexSet.{insert_all};
+ghost use Rattle.cj_model.specs.Cluster.Caching.{brought_to_front, cached_entry, without};
 ghost use Rattle.cj_model.specs.Cluster.Caching as caching;
-ghost use Rattle.cj_cache.specs.Kept.{popped_each, entries_of_map, without_each};
+ghost use Rattle.cj_model.specs.Proving.SameStatements.{same_statement};
+ghost use Rattle.cj_cache.specs.Doomed.{HaveSame};
+ghost use Rattle.cj_cache.specs.Kept.{entries_of_map, without_each};
+ghost use Rattle.cj_cache.specs.Proving.ByTable.{AreListed, all_listed, is_due, listed};
 
-use cj_model::{Answer, Cached, Duplicate, ListOf, NoMemory, Select, TableSet};
+use crate::by_table::{self, ByTable};
+use cj_model::{Answer, Cached, Duplicate, ListOf, Name, NoMemory, Select, TableSet};
+use indexmap::IndexSet;
 use lru::LruCache;
 use std::alloc::Global;
 
@@ -36,16 +42,68 @@ pub fn bring_to_front(held: &mut LruCache<Select, Held>, select: &Select) -> boo
     held.promote(select)
 }
 
-/// Puts an entry in front, in place of the one of its statement or of the last of a full cache.
-pub fn put_front(held: &mut LruCache<Select, Held>, entry: Cached) -> Result<(), NoMemory>
+#[tactic(auto, using(crate::proofs::Maps::some_shown))]
+fn is_kept(held: &LruCache<Select, Held>, select: &Select) -> bool
+    ensures { result ≡ is_some (cached_entry select.now (entries_of_map held.now)) }
+{
+    held.contains(select)
+}
+
+/// Takes a statement off the lists of its tables, unless it is kept.
+#[tactic(auto, using(crate::proofs::ByTable::others_listed))]
+fn unlist_unkept(held: &LruCache<Select, Held>, by_table: &mut ByTable, select: &Select)
+    requires { AreListed by_table.old (entries_of_map held.now) }
+    ensures { AreListed by_table.new (entries_of_map held.now) }
+{
+    if !is_kept(held, select) {
+        by_table::unlist(by_table, select);
+    }
+}
+
+/// Puts an entry in front, in place of the one of its statement or of the last of a full cache, and
+/// gives the statement of the one that went. For want of memory it gives the entry's own back.
+fn push_front(held: &mut LruCache<Select, Held>, entry: Cached) -> Result<Option<Select>, Select>
     ensures ok { OnOk result (entries_of_map held.new ≡ take held.old.cap (entry ∷ without entry.select (entries_of_map held.old))) }
     ensures err { OnErr result (held.new ≡ held.old) }
     ensures capacity { held.new.cap ≡ held.old.cap }
 {
     let _len = held.len();
     let Cached { select, answer, at } = entry;
-    held.put(select, Held { answer, at })?;
-    Ok(())
+    match held.push(select, Held { answer, at }) {
+        Ok(gone) => Ok(gone.map(|(select, _)| select)),
+        Err(refused) => Err(refused.value.0),
+    }
+}
+
+/// Puts an entry in front, in place of the one of its statement or of the last of a full cache.
+#[tactic(auto, using(crate::proofs::ByTable::still_listed))]
+pub fn put_front(
+    alloc: Global,
+    held: &mut LruCache<Select, Held>,
+    by_table: &mut ByTable,
+    entry: Cached,
+) -> Result<(), NoMemory>
+    requires { AreListed by_table.old (entries_of_map held.old) }
+    ensures ok { OnOk result (entries_of_map held.new ≡ take held.old.cap (entry ∷ without entry.select (entries_of_map held.old))) }
+    ensures err { OnErr result (held.new ≡ held.old) }
+    ensures capacity { held.new.cap ≡ held.old.cap }
+    ensures listed { AreListed by_table.new (entries_of_map held.new) }
+{
+    if by_table::list(by_table, alloc, &entry.select).is_err() {
+        unlist_unkept(held, by_table, &entry.select);
+        return Err(NoMemory);
+    }
+    match push_front(held, entry) {
+        Ok(None) => Ok(()),
+        Ok(Some(gone)) => {
+            unlist_unkept(held, by_table, &gone);
+            Ok(())
+        }
+        Err(refused) => {
+            unlist_unkept(held, by_table, &refused);
+            Err(NoMemory)
+        }
+    }
 }
 
 fn needs_one_of(select: &Select, set: &TableSet) -> bool
@@ -58,35 +116,57 @@ fn needs_one_of(select: &Select, set: &TableSet) -> bool
         .any(|name| set.contains(name))
 }
 
-/// Copies of the statements that need one of the tables.
+/// Adds copies of the statements listed under a table that need one of the tables and are kept.
+fn copy_listed(
+    alloc: Global,
+    held: &LruCache<Select, Held>,
+    by_table: &ByTable,
+    set: &TableSet,
+    table: &Name,
+    found: &mut IndexSet<Select>,
+) -> Result<(), NoMemory>
+    ensures { OnOk result (found.new.keys ≡ insert_all same_statement found.old.keys (filter (is_due set.now (entries_of_map held.now)) (listed by_table.now table.now))) }
+{
+    let Some(statements) = by_table.get(table) else {
+        return Ok(());
+    };
+    for select in statements.as_slice() {
+        if needs_one_of(select, set) && is_kept(held, select) {
+            found.insert(select.copy(alloc)?)?;
+        }
+    }
+    Ok(())
+}
+
+/// Copies of the statements that need one of the tables, at the cost of these alone.
 pub fn copy_doomed(
     alloc: Global,
     held: &LruCache<Select, Held>,
+    by_table: &ByTable,
     set: &TableSet,
 ) -> Result<ListOf<Select>, NoMemory>
-    ensures { IfOk result (λ found. found ≡ map (λ e. e.select) (filter (λ e. caching.needs_one_of set.now e.select) (entries_of_map held.now))) }
+    requires { AreListed by_table.now (entries_of_map held.now) }
+    ensures { IfOk result (λ found. HaveSame found (map (λ e. e.select) (filter (λ e. caching.needs_one_of set.now e.select) (entries_of_map held.now))) × IsDistinct same_statement found) }
 {
-    let mut found = ListOf::new(alloc);
-    for (select, _) in held.iter() {
-        if needs_one_of(select, set) {
-            found.push(select.copy(alloc)?)?;
-        }
+    let mut found = IndexSet::new(alloc);
+    for table in set.as_slice() {
+        copy_listed(alloc, held, by_table, set, table, &mut found)?;
     }
-    Ok(found)
-}
-
-fn pop_each(held: &mut LruCache<Select, Held>, doomed: &[Select])
-    ensures { held.new ≡ lru_cache (popped_each doomed.now held.old.entries) held.old.cap }
-{
-    for select in doomed {
-        let _ = held.pop(select);
-    }
+    Ok(ListOf::from_vec(found.into_iter().collect(alloc)?))
 }
 
 /// Drops the entries of statements.
-pub fn drop_each(held: &mut LruCache<Select, Held>, doomed: &[Select])
+#[tactic(auto, using(crate::proofs::ByTable::popped_listed, crate::proofs::Maps::keys_shown))]
+pub fn drop_each(held: &mut LruCache<Select, Held>, by_table: &mut ByTable, doomed: &[Select])
+    requires { AreListed by_table.old (entries_of_map held.old) }
     ensures entries { entries_of_map held.new ≡ without_each doomed.now (entries_of_map held.old) }
+    ensures distinct { IsDistinct same_statement (map (λ e. e.select) (entries_of_map held.old)) }
     ensures capacity { held.new.cap ≡ held.old.cap }
+    ensures listed { AreListed by_table.new (entries_of_map held.new) }
 {
-    pop_each(held, doomed);
+    let _kept = held.len();
+    for select in doomed {
+        let _ = held.pop(select);
+        unlist_unkept(held, by_table, select);
+    }
 }

@@ -2,6 +2,7 @@
 //! needs changes.
 #![tactic(auto)]
 
+mod by_table;
 mod cache;
 mod held;
 

@@ -3,6 +3,7 @@ pub mod Leaving
 pub mod Making
 pub mod QuietCalls
 pub mod QuietSessions
+pub mod SoloCache
 pub mod SoloLogins
 pub mod SoloMoves
 pub mod SoloReads
@@ -16,3 +17,4 @@ pub mod StartReplays
 pub mod StartTakes
 pub mod StartWhole
 pub mod Starting
+pub mod WriteCache

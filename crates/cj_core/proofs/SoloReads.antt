@@ -180,7 +180,7 @@ module _ (tells : Bool) (s tx : ℕ) (user : List ℕ) (select : Select) (old no
   grown = ap (λ (c : Core). c.history) so_far.core
 
   -- the failures leave the log, and what follows from it
-  same_log : log now.core.history ≡ log old.core.history
+  pub same_log : log now.core.history ≡ log old.core.history
   same_log = ap log grown ∙ log_failures s ((session_at old.core s).queries + 1) old.core.history so_far.failed
 
   -- nothing was scheduled for the session, and the log's store did not fail
@@ -357,6 +357,13 @@ module _ (tells : Bool) (s b tx : ℕ) (select : Select) (old : WorldState) (w :
       let low : p < (session_at old.core s).least = early.1 in
       absurd (omega arith)
 
+  -- what it answered is right at the log's end
+  pub right_at_end : (answer : Asked) (p : ℕ) → Asks tells old.core s b tx select (Ok (answer, p)) → tells ≡ true → answer ≡ ask (database_of (log old.core.history)) tx select
+  right_at_end answer p asks on =
+      let last : p ≡ last_number old.core = cc (there, asks.0) in
+      asks.4 on ∙ (ap (λ (n : ℕ). ask (database_after (log old.core.history) n) tx select) last
+      ∙ ap (λ (l : List Entry). ask (database_of l) tx select) (take_whole (log old.core.history) (log old.core.history) (prefix_self (log old.core.history))))
+
   -- it answered, at the log's end
   pub query_answered : (answer : Asked) (p : ℕ) (mid new : WorldState) (reply : Reply) → Asks tells old.core s b tx select (Ok (answer, p)) → mid.core ≡ old.core → faults_of mid.cells ≡ faults_of old.cells → reply ≡ asked_reply answer
       → new ≡ with_core mid (with_read mid.core s (λ x. answered_at p (was_answered x))) → QueryAnswered tells s tx select old reply new
@@ -365,10 +372,7 @@ module _ (tells : Bool) (s b tx : ℕ) (select : Select) (old : WorldState) (w :
       record {
         answer = answer;
         possible = asks.3;
-        says =
-            λ on.
-            asks.4 on ∙ (ap (λ (n : ℕ). ask (database_after (log old.core.history) n) tx select) last
-            ∙ ap (λ (l : List Entry). ask (database_of l) tx select) (take_whole (log old.core.history) (log old.core.history) (prefix_self (log old.core.history))));
+        says = right_at_end answer p asks;
         replied = is;
         after =
             ap (λ (x : WorldState). x.core) after

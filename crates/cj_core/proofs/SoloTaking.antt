@@ -82,13 +82,14 @@ backends_since old mid failed more counted each = subst (λ (n : ℕ). All (λ (
 
 module _ (tells : Bool) (old new : WorldState) (b : ℕ) (d : Did) (applies : Applies tells old.core b (Ok (Applied b d)) new.core) where
   pub took : IsWorld tells old → b < old.core.placement.backends → not_now old.core (Apply b) ≡ None → faults_of new.cells ≡ faults_after (faults_of old.cells) (cond (did_fail d) (Some b) None)
-      → LogsInToTake b (login_to_take old b) d (logins_of old.cells) (logins_of new.cells) → new.setup ≡ old.setup → new.recovery_log ≡ old.recovery_log → EntryTaken (open_user old.core) old new
-  took world within now counts logs setup recovery_log =
+      → LogsInToTake b (login_to_take old b) d (logins_of old.cells) (logins_of new.cells) → new.setup ≡ old.setup → new.recovery_log ≡ old.recovery_log → new.cache ≡ old.cache → EntryTaken (open_user old.core) old new
+  took world within now counts logs setup recovery_log cache =
       let login = login_to_take_open old b world.sound within (can_apply old.core b now) in
       record {
         core = applies.1.2 ∙ sym (ap (λ (k : Core). record old.core { positions = k.positions; begun = k.begun; failed = k.failed; starved = k.starved }) applies.1.2);
         setup = setup;
         recovery_log = recovery_log;
+        cache = cache;
         failed = failed_in b d;
         backends = failed_is_backend old b d (rw (cells_count tells old world) within);
         mask = ap (λ (k : Core). k.failed) applies.1.2 ∙ mask_after old.core.failed b d;
@@ -105,6 +106,7 @@ taken_then old mid new user x y =
       core = y.core ∙ ap (λ (k : Core). record k { positions = new.core.positions; begun = new.core.begun; failed = new.core.failed; starved = new.core.starved }) x.core;
       setup = y.setup ∙ x.setup;
       recovery_log = y.recovery_log ∙ x.recovery_log;
+      cache = y.cache ∙ x.cache;
       failed = x.failed ++ y.failed;
       backends = All-append (λ (b : ℕ). b < length old.cells) x.failed y.failed x.backends (backends_since old mid x.failed y.failed x.faults y.backends);
       mask = y.mask ∙ (ap (λ (m : ℕ). mask_with m y.failed) x.mask ∙ sym (fold-append with_backend old.core.failed x.failed y.failed));

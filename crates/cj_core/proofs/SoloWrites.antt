@@ -40,7 +40,7 @@ use Rattle.cj_state.specs.CalledLogins.{logins_of}
 use Rattle.cj_core.specs.Solos.{AreBackendsOf, AreCalledFor, StandsBetweenCalls, WorldTurn, AddsEntry, AddsOwnEvents, IsReadAtEnd, faults_counted, log_failed_in, log_failure_of, mask_with, tells_log_failure}
 use Rattle.cj_core.specs.Proving.SoloParts.{EntryEnded, EntryRefused, EntryScheduled, SchedulesOrRefuses, call_of, open_user}
 use Rattle.cj_state.specs.Effects.{own_entry}
-use Rattle.cj_state.specs.Worlds.{IsSameButLog, LogView, WorldState, accounts_of}
+use Rattle.cj_state.specs.Worlds.{IsSameButLog, LogView, WorldState, accounts_of, with_cache}
 use Rattle.cj_moves.specs.Counting.{log_faults_after}
 use Rattle.cj_core.proofs.SoloLogins.{called_none}
 use Rattle.cj_core.proofs.SoloTurns.{between_scheduled, between_taken, turn_ended}
@@ -90,7 +90,7 @@ module _ (tells : Bool) (s tx : ℕ) (user : List ℕ) (act : Act) (reply : Repl
   entry = entry_of_call s call act
 
   module _ (did : SchedulesAs old.core entry (Ok n)) (scheduled : EntryScheduled s entry old begun) where
-    after : IsSameButLog (with_core old (scheduled_as old.core s entry)) begun
+    after : IsSameButLog (with_cache (with_core old (scheduled_as old.core s entry)) begun.cache) begun
     after = scheduled.after
 
     begun_core : begun.core ≡ scheduled_as old.core s entry

@@ -185,6 +185,7 @@ module _ (tx : ℕ) (old sched : WorldState) (came : IsSameButLog (with_core old
                   sessions = sessions_new alone;
                   greatest = ap (λ (w : WorldState). w.core.greatest) ended ∙ (ap (λ (c : Core). c.greatest) only.core ∙ ap (λ (c : Core). c.greatest) core_then);
                   setup = ap (λ (w : WorldState). w.setup) ended ∙ (only.setup ∙ ap (λ (w : WorldState). w.setup) came);
+                  cache = ap (λ (w : WorldState). w.cache) ended ∙ (only.cache ∙ ap (λ (w : WorldState). w.cache) came);
                 };
             stands = λ faults stands b lt. after_it faults b (behind_it faults stands b (subst (λ p. b < p) backends_new lt));
           }
@@ -248,10 +249,10 @@ passing_next p i =
     sym (ap (filter p) (map-id (range_with_len 1 (i + 1)))) ∙ (filter_of_map_range_with_len_more p (λ n. n) 1 i (i + 1) next ∙ ap (λ (ns : List ℕ). filter p ns ++ cond (p (i + 1)) ((i + 1) ∷ []) []) (map-id (range_with_len 1 i)))
 
 same_cluster : (w : WorldState) → IsSameCluster w w
-same_cluster w = record { placement = refl; sessions = refl; greatest = refl; setup = refl }
+same_cluster w = record { placement = refl; sessions = refl; greatest = refl; setup = refl; cache = refl }
 
 cluster_then : (old mid new : WorldState) → IsSameCluster old mid → IsSameCluster mid new → IsSameCluster old new
-cluster_then old mid new x y = record { placement = y.placement ∙ x.placement; sessions = y.sessions ∙ x.sessions; greatest = y.greatest ∙ x.greatest; setup = y.setup ∙ x.setup }
+cluster_then old mid new x y = record { placement = y.placement ∙ x.placement; sessions = y.sessions ∙ x.sessions; greatest = y.greatest ∙ x.greatest; setup = y.setup ∙ x.setup; cache = y.cache ∙ x.cache }
 
 pub ended_none : (w : WorldState) → is_idle w.core.history ≡ true → EndedTo w w 0
 ended_none w idle =

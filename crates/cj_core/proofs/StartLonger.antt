@@ -6,6 +6,7 @@ use Rattle.std.proofs.lemmas.List.Sums.{fold-append}
 use mathlib.Core.List.{IsPrefix}
 use Rattle.cj_model.specs.declared.request.Entry.{Entry}
 use Rattle.cj_model.specs.Cluster.Placements.{Placement}
+use Rattle.cj_outside.specs.Causes.{next}
 use Rattle.cj_cluster.specs.declared.event.Event.{Event}
 use Rattle.cj_cluster.specs.declared.event.Event.TheVariants.{Sched, Ended, LogFailed, Enabled, Marker}
 use Rattle.cj_cluster.specs.History.Histories.{log}
@@ -23,7 +24,7 @@ use Rattle.cj_book.specs.Books.{IsKeptIn, failed_after, last_write_failed}
 use Rattle.cj_book.specs.Starts.{Starts}
 use Rattle.cj_state.specs.Effects.{core_aborted}
 use Rattle.cj_state.specs.Worlds.{WorldState}
-use Rattle.cj_core.specs.Starts.{AbortsEach, HasStarted, LosesNothing, RefusesBytes, with_abort}
+use Rattle.cj_core.specs.Starts.{AbortsEach, CountsFaultOfStart, HasStarted, LosesNothing, RefusesBytes, with_abort}
 use Rattle.cj_core.specs.Proving.StartParts.{CountsFaultOfPart, EnabledTo, IsLonger, OnlyReplays, OnlyTakes, TransactionEnded}
 
 -- ---- from part to part
@@ -92,6 +93,13 @@ refused_part T W held old errors.StoreFault store before now counts nothing = no
 refused_part T W held old errors.NoMemory store before now counts nothing = nothing
 refused_part T W held old (errors.BadRecord offset) store before now counts nothing = absurd counts
 refused_part T W held old (errors.BadEntry n) store before now counts nothing = absurd counts
+
+-- what a part of a start counted is what the start counts
+pub fault_of_start : {S : Type 0} (T : Type 0) (faults : S → ℕ) (old : ℕ) (error : StartError) (store : S) (before now : ℕ) → before ≡ old → faults store ≡ now → CountsFaultOfPart {T = T} before (Err error) now → CountsFaultOfStart faults old (Err (error, store))
+fault_of_start T faults old errors.StoreFault store before now same is counts = is ∙ (counts ∙ ap next same)
+fault_of_start T faults old errors.NoMemory store before now same is counts = is ∙ (counts ∙ same)
+fault_of_start T faults old (errors.BadRecord offset) store before now same is counts = absurd counts
+fault_of_start T faults old (errors.BadEntry n) store before now same is counts = absurd counts
 
 -- ---- behind a start no write has failed
 

@@ -145,6 +145,7 @@ only_then old mid new x y =
       core = y.core ∙ ap (λ (k : Core). record k { positions = new.core.positions; begun = new.core.begun }) x.core;
       setup = y.setup ∙ x.setup;
       recovery_log = y.recovery_log ∙ x.recovery_log;
+      cache = y.cache ∙ x.cache;
     }
 
 pub only_history : (old now : WorldState) → OnlyReplays old now → now.core.history ≡ old.core.history
@@ -172,7 +173,7 @@ pub record ReplaysOn (old now : WorldState) (b : ℕ) : Type 0 where
 pub replays_none : (w : WorldState) (b : ℕ) → position_at w.core b ≡ Some 0 → ReplaysOn w w b
 replays_none w b first =
     record {
-      only = record { core = refl; setup = refl; recovery_log = refl };
+      only = record { core = refl; setup = refl; recovery_log = refl; cache = refl };
       others = λ k ne. record { position = refl; faults = refl };
       stands = inl (0, record { position = first; counted = refl }, omega arith);
       uncalled = λ _. refl;
@@ -267,7 +268,7 @@ pub record ReplayedTo (old now : WorldState) (i : ℕ) : Type 0 where
 pub replayed_none : (w : WorldState) → ReplayedTo w w 0
 replayed_none w =
     record {
-      only = record { core = refl; setup = refl; recovery_log = refl };
+      only = record { core = refl; setup = refl; recovery_log = refl; cache = refl };
       before = λ b lt. absurd (omega arith);
       behind = λ b le. record { position = refl; faults = refl };
       uncalled = λ _. refl;

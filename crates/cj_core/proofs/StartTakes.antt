@@ -102,6 +102,7 @@ takes_then old mid new x y =
       core = y.core ∙ ap (λ (k : Core). record k { positions = new.core.positions; begun = new.core.begun; failed = new.core.failed; starved = new.core.starved }) x.core;
       setup = y.setup ∙ x.setup;
       recovery_log = y.recovery_log ∙ x.recovery_log;
+      cache = y.cache ∙ x.cache;
     }
 
 untouched_then : (old mid new : WorldState) (k : ℕ) → IsUntouched old mid k → IsUntouched mid new k → IsUntouched old new k
@@ -146,7 +147,7 @@ pub record TakenOnTo (old now : WorldState) (i : ℕ) : Type 0 where
 pub taken_on_none : (w : WorldState) → TakenOnTo w w 0
 taken_on_none w =
     record {
-      only = record { core = refl; setup = refl; recovery_log = refl };
+      only = record { core = refl; setup = refl; recovery_log = refl; cache = refl };
       starved = refl;
       before = λ b lt. absurd (omega arith);
       behind = λ b le. record { same = record { position = refl; faults = refl }; mask = refl };

@@ -1,23 +1,30 @@
 -- A session over a whole world: what contracts see of it, and where its calls lead.
-use Rattle.std.specs.Prelude.{◌≡◌, ◌⊎◌, ℕ, zero, suc, ◌+◌, ◌<◌, ◌==◌, ◌&&◌, Bool, true, false, is_some, if◌then◌else◌, List, [], ◌∷◌, ◌++◌, length, map, fold, slice_get, All}
+use Rattle.std.specs.Prelude.{◌≡◌, ◌≢◌, ◌⊎◌, ℕ, zero, suc, ◌+◌, ◌<◌, ◌==◌, ◌&&◌, Bool, true, false, is_some, if◌then◌else◌, List, [], ◌∷◌, ◌++◌, length, map, fold, slice_get, All}
 use Rattle.std.specs.declared.option.Option.{Option}
 use Rattle.std.specs.declared.option.Option.TheVariants.{None, Some}
 use Rattle.cj_model.specs.declared.account.Account.{Account}
 use Rattle.cj_model.specs.declared.request.Act.{Act}
+use Rattle.cj_model.specs.declared.answer.Answer.{Answer}
 use Rattle.cj_model.specs.declared.answer.Asked.{Asked}
+use Rattle.cj_model.specs.declared.request.Request.{Request}
+use Rattle.cj_model.specs.declared.request.Request.TheVariants as request
+use Rattle.cj_model.specs.declared.select.Select.{Select}
 use Rattle.cj_model.specs.declared.answer.Reply.{Reply}
 use Rattle.cj_model.specs.declared.answer.Reply.TheVariants.{Done, Rows, Refused, Stats}
-use Rattle.cj_model.specs.declared.codes.TheConstants.{LOG_FAULT}
+use Rattle.cj_model.specs.declared.codes.TheConstants.{LOG_FAULT, NO_MEMORY}
 use Rattle.cj_model.specs.Database.Outcomes.{IsAsked}
 use Rattle.cj_model.specs.Wire.Replies.{asked_reply}
 use Rattle.cj_model.specs.Sql.PlainRequests.{act_of}
 use Rattle.cj_model.specs.Cluster.Accounts.{login_of}
+use Rattle.cj_model.specs.Cluster.Caching.{CacheState, after_keep, after_look, answer_kept}
+use Rattle.cj_model.specs.Database.Inserts.{refusal_of_code}
 use Rattle.cj_model.specs.Cluster.Masks.{with_backend}
 use Rattle.cj_auth.specs.Admission.{admits}
 use Rattle.cj_cluster.specs.declared.event.Event.{Event}
 use Rattle.cj_cluster.specs.declared.event.Event.TheVariants.{Sched, Ended, ReadFailed, LogFailed}
 use Rattle.cj_cluster.specs.declared.moves.Move.{Move}
 use Rattle.cj_cluster.specs.declared.moves.Move.TheVariants.{Open, Close, Schedule, Abort, Apply, End, Read, Arm, Disable, Replay, Enable, Mark}
+use Rattle.cj_cluster.specs.History.Answering.{HasServer, HasNoServer}
 use Rattle.cj_cluster.specs.History.Histories.{log, is_idle, events_left}
 use Rattle.cj_cluster.specs.History.Turns.{SessionView, Call, Turn, entry_of_call}
 use Rattle.cj_cluster.specs.Moves.Cores.{Core, session_at}
@@ -25,7 +32,7 @@ use Rattle.cj_cluster.specs.Moves.Moves.{is_open, with_request_counted}
 use Rattle.cj_cluster.specs.Moves.Runs.{seen_at}
 use Rattle.cj_desk.specs.DeskStates.{DeskState, DeskCall, DeskSteps, turn_taken, query_skipped, cache_counted}
 use Rattle.cj_state.specs.CalledLogins.{logins_of}
-use Rattle.cj_state.specs.Worlds.{WorldState, accounts_of}
+use Rattle.cj_state.specs.Worlds.{WorldState, accounts_of, CacheFollowsLog}
 use Rattle.cj_state.specs.Faults.{faults_of, faults_after}
 use Rattle.cj_state.specs.Effects.{with_core}
 use Rattle.cj_moves.specs.Counting.{log_faults_after}
@@ -126,11 +133,47 @@ pub record WorldTurn (tells : Bool) (s : ℕ) (old : WorldState) (c : Call) (new
   pub log_faults : new.recovery_log.faults ≡ log_faults_after old.recovery_log.faults (log_failed_in c)
   pub logins : AreCalledFor (accounts_of old) c.user (logins_of old.cells) (logins_of new.cells)
 
--- what a call does besides what every desk does; there is no result cache yet
+-- ---- the result cache
+
+-- the cache behind what a query was answered at the log's end, of n entries: rows are kept, refusals are not
+abbrev pub with_answer : Select → ℕ → Reply → CacheState → CacheState
+with_answer s n (Rows answer) cache = after_keep (record { select = s; answer = answer; at = n }) cache
+with_answer s n (Done count) cache = cache
+with_answer s n (Refused refusal) cache = cache
+with_answer s n (Stats hits misses) cache = cache
+
+-- A kept answer is replied, unless memory is wanting for it, and no backend is called.
+pub record AnswersFromCache (s : Select) (answer : Answer) (old : WorldState) (c : Call) (new : WorldState) : Type 0 where
+  pub replied : (c.reply ≡ Rows answer) ⊎ (c.reply ≡ Refused (refusal_of_code NO_MEMORY))
+  pub cells : new.cells ≡ old.cells
+  pub looked : new.cache ≡ after_look s old.cache
+
+-- where none is kept, backends are asked, and rows that they answer are kept
+abbrev pub AnswersLookUp : Select → Option Answer → WorldState → Call → WorldState → Type 0
+AnswersLookUp s None old c new = new.cache ≡ with_answer s (length (log old.core.history)) c.reply (after_look s old.cache)
+AnswersLookUp s (Some answer) old c new = AnswersFromCache s answer old c new
+
+-- A query is looked up in the cache exactly outside transactions and where an enabled backend serves it.
+pub record ReadsWithCache (s : Select) (old : WorldState) (c : Call) (new : WorldState) : Type 0 where
+  pub looked_up : c.tx ≡ 0 → HasServer old.core.placement old.core.history c.request → AnswersLookUp s (answer_kept s old.cache) old c new
+  pub inside : c.tx ≢ 0 → new.cache ≡ old.cache
+  pub unserved : HasNoServer old.core.placement old.core.history c.request → new.cache ≡ old.cache
+
+-- what a call makes of the cache: a query may be answered from it, and an entry drops the answers whose queries need a table that it touches
+abbrev pub UsesCache : Request → WorldState → Call → WorldState → Type 0
+UsesCache (request.Select s) old c new = ReadsWithCache s old c new
+UsesCache (request.Write w) old c new = CacheFollowsLog old new
+UsesCache (request.Create x) old c new = CacheFollowsLog old new
+UsesCache (request.Drop table) old c new = CacheFollowsLog old new
+UsesCache request.Begin old c new = CacheFollowsLog old new
+UsesCache request.Commit old c new = CacheFollowsLog old new
+UsesCache request.Rollback old c new = CacheFollowsLog old new
+
+-- what a call does besides what every desk does
 abbrev pub DoesBesides : Bool → SoloState → DeskCall → SoloState → Type 0
-DoesBesides tells a (turn_taken c) z = (z.session ≡ a.session) × WorldTurn tells a.session a.world c z.world
+DoesBesides tells a (turn_taken c) z = (z.session ≡ a.session) × WorldTurn tells a.session a.world c z.world × UsesCache c.request a.world c z.world
 DoesBesides tells a query_skipped z = z ≡ record a { world = with_core a.world (with_request_counted a.world.core a.session) }
-DoesBesides tells a (cache_counted hits misses) z = (z ≡ a) × (hits ≡ 0) × (misses ≡ 0)
+DoesBesides tells a (cache_counted hits misses) z = (z ≡ a) × (hits ≡ a.world.cache.hits) × (misses ≡ a.world.cache.misses)
 
 -- the call leads the session from a to z
 abbrev pub SoloSteps : Bool → SoloState → DeskCall → SoloState → Type 0

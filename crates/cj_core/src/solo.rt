@@ -15,12 +15,13 @@ ghost use Rattle.cj_cluster.specs.Moves.Cores.{session_at};
 ghost use Rattle.cj_cluster.specs.Moves.Moves as moves;
 ghost use Rattle.cj_cluster.specs.Moves.Moves.{opened_for, closed_for, with_request_counted, MovesTo};
 ghost use Rattle.cj_moves.specs.Armings.{HasArmings};
+ghost use Rattle.cj_moves.specs.Caches.{HasCacheAfter};
 ghost use Rattle.cj_moves.specs.Counting.{HasCauses, HasLogCauses};
 ghost use Rattle.cj_state.specs.Effects.{with_core};
-ghost use Rattle.cj_state.specs.Worlds.{accounts_of, IsSameButLog};
+ghost use Rattle.cj_state.specs.Worlds.{accounts_of, CacheFollowsLog, IsSameButLog};
 ghost use Rattle.cj_moves.specs.Logins.{HasLogins};
 ghost use Rattle.cj_core.specs.Proving.SoloParts.{call_of};
-ghost use Rattle.cj_core.specs.Solos.{desk_of, AddsEntry, IsMoveOfNoSession, SoloSteps, StandsBetweenCalls, WorldTurn};
+ghost use Rattle.cj_core.specs.Solos.{desk_of, AddsEntry, IsMoveOfNoSession, ReadsWithCache, SoloSteps, StandsBetweenCalls, WorldTurn};
 ghost use Rattle.cj_moves.specs.Steps.{IsMet};
 
 use crate::solo_read::serve_read;
@@ -99,6 +100,13 @@ impl<B: Backend, S: Store> World<B, S> {
         self.state.admits(user, password)
     }
 
+    /// Hits and misses of the result cache.
+    pub fn cache_counts(&self) -> (u64, u64)
+        ensures { result ≡ (self.now.cache.hits, self.now.cache.misses) }
+    {
+        self.state.cache_counts()
+    }
+
     fn count(&mut self, s: u64)
         requires counts { (session_at self.old.core s).queries < REQUEST_LIMIT }
         requires idle { moves.is_waiting self.old.core s ≡ false }
@@ -116,6 +124,7 @@ impl<B: Backend, S: Store> World<B, S> {
         requires fits { FitsTx (moves.open_tx self.old.core s) tx act }
         ensures turn { WorldTurn B.TELLS s self.old (call_of self.old.core s tx user.now (request_of act) result.reply) self.new }
         ensures entry { (failed : List ℕ) × AddsEntry result.number s (call_of self.old.core s tx user.now (request_of act) result.reply) act failed self.old.core.history self.new.core.history }
+        ensures cache { CacheFollowsLog self.old self.new }
     {
         serve_write(&mut self.state, s, user, tx, act)
     }
@@ -125,7 +134,8 @@ impl<B: Backend, S: Store> World<B, S> {
         requires counts { (session_at self.old.core s).queries < REQUEST_LIMIT }
         requires written { IsWritten (requests.Select select.now) }
         requires tx { (tx ≡ 0) ⊎ (tx ≡ moves.open_tx self.old.core s) }
-        ensures { WorldTurn B.TELLS s self.old (call_of self.old.core s tx user.now (requests.Select select.now) result) self.new }
+        ensures turn { WorldTurn B.TELLS s self.old (call_of self.old.core s tx user.now (requests.Select select.now) result) self.new }
+        ensures cache { ReadsWithCache select.now self.old (call_of self.old.core s tx user.now (requests.Select select.now) result) self.new }
     {
         serve_read(&mut self.state, s, user, tx, select)
     }
@@ -161,6 +171,7 @@ impl<B: Backend, S: Store> Solo<B, S> {
         ensures logins { HasLogins self.old.world self.new.world m result }
         ensures want { IsErrOf result MoveError.NoMemory → IsSameButLog self.old.world self.new.world }
         ensures setup { self.new.world.setup ≡ self.old.world.setup }
+        ensures cache { HasCacheAfter self.old.world self.new.world m }
         ensures session { self.new.session ≡ self.old.session }
     {
         self.world.legal();
@@ -195,7 +206,7 @@ impl<R, B: Backend, S: Store> Desk<R> for Solo<B, S> {
     }
 
     fn stats(&mut self, _rt: &R) -> (u64, u64) {
-        (0, 0)
+        self.world.cache_counts()
     }
 
     fn session(&self) -> u64 {

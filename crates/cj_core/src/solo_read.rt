@@ -1,7 +1,7 @@
 //! A session's read over a whole world.
 
-ghost use Rattle.std.specs.Prelude.{◌≡◌, ◌⊎◌, ◌<◌};
-ghost use Rattle.cj_model.specs.declared.limits.TheConstants.{REQUEST_LIMIT};
+ghost use Rattle.std.specs.Prelude.{◌≡◌, ◌≢◌, ◌⊎◌, ◌^◌, ◌<◌, is_some, true, OnOk, OnErr};
+ghost use Rattle.cj_model.specs.declared.limits.TheConstants.{BACKEND_LIMIT, REQUEST_LIMIT};
 ghost use Rattle.cj_model.specs.declared.request.Request.TheVariants as requests;
 ghost use Rattle.cj_model.specs.Wire.Replies.{asked_reply};
 ghost use Rattle.cj_model.specs.Sql.WrittenRequests.{IsWritten};
@@ -10,13 +10,20 @@ ghost use Rattle.cj_cluster.specs.Moves.Cores.{session_at};
 ghost use Rattle.cj_cluster.specs.Moves.Moves as moves;
 ghost use Rattle.cj_state.specs.CalledLogins.{logins_of};
 ghost use Rattle.cj_state.specs.Worlds.{accounts_of};
-ghost use Rattle.cj_core.specs.Proving.SoloParts.{call_of, AttemptsQuery};
-ghost use Rattle.cj_core.specs.Solos.{AreCalledFor, StandsBetweenCalls, WorldTurn};
+ghost use Rattle.cj_core.specs.Proving.SoloParts.{cache_answered, cache_attempted, call_of, AttemptsQuery, RepliesKept};
+ghost use Rattle.cj_core.specs.Solos.{with_answer, AreCalledFor, ReadsWithCache, StandsBetweenCalls, WorldTurn};
+ghost use Rattle.cj_cluster.specs.History.Histories.{database_of, log};
+ghost use Rattle.cj_cluster.specs.Moves.Moves.{IsServingMask};
+ghost use Rattle.cj_model.specs.Cluster.Caching.{answer_kept};
+ghost use Rattle.cj_model.specs.Database.Outcomes.{IsAsked};
+ghost use Rattle.cj_model.specs.Database.Queries.{ask};
+ghost use Rattle.cj_state.specs.Worlds.{with_cache};
 
 use crate::solo_write::refuse;
 use cj_backend::Backend;
 use cj_model::{
-    Asked, HISTORY_FULL, NO_BACKEND, NO_MEMORY, READ_FAULT, Refusal, Reply, Select, Text,
+    Asked, Duplicate, HISTORY_FULL, NO_BACKEND, NO_MEMORY, NoMemory, READ_FAULT, Refusal, Reply,
+    Select, Text,
 };
 use cj_outside::Store;
 use cj_state::{AskError, State, without_bit};
@@ -29,6 +36,33 @@ fn reply_of(answer: Asked) -> Reply
         Asked::Rows(rows) => Reply::Rows(rows),
         Asked::Refused(refusal) => Reply::Refused(refusal),
     }
+}
+
+/// Keeps rows that a query was answered at the log's end, outside transactions; the cache takes copies of both.
+fn keep<B: Backend, S: Store>(
+    state: &mut State<B, S>,
+    tx: u64,
+    select: &Select,
+    answer: &Asked,
+) -> Result<(), NoMemory>
+    requires possible { IsAsked answer.now }
+    requires right { B.TELLS ≡ true → answer.now ≡ ask (database_of (log state.old.core.history)) tx select.now }
+    ensures ok { OnOk result (state.new ≡ with_cache state.old (cache_answered tx select.now (moves.last_number state.old.core) (asked_reply answer.now) state.old.cache)) }
+    ensures err { OnErr result (state.new ≡ state.old) }
+{
+    if tx != 0 {
+        return Ok(());
+    }
+    let Asked::Rows(rows) = answer else {
+        return Ok(());
+    };
+    if state.keeps_none() {
+        return Ok(());
+    }
+    let alloc = state.allocator();
+    let select = select.copy(alloc)?;
+    let rows = rows.copy(alloc)?;
+    state.keep(select, rows)
 }
 
 /// Asks one backend. None where it failed, so that another may be asked.
@@ -50,10 +84,14 @@ fn attempt<B: Backend, S: Store>(
     ensures logins { AreCalledFor (accounts_of state.old) user.now (logins_of state.old.cells) (logins_of state.new.cells) }
     ensures setup { state.new.setup ≡ state.old.setup }
     ensures recovery_log { state.new.recovery_log ≡ state.old.recovery_log }
+    ensures cache { state.new.cache ≡ cache_attempted tx select.now (moves.last_number state.old.core) result state.old.cache }
 {
     state.legal();
     match state.ask(s, b, Some(user), tx, select) {
         Ok((answer, position)) => {
+            if let Err(NoMemory) = keep(state, tx, select, &answer) {
+                return Some(refuse(state, s, Refusal::of_code(NO_MEMORY)));
+            }
             state.answer_read(s, position);
             Some(reply_of(answer))
         }
@@ -76,11 +114,32 @@ fn attempt<B: Backend, S: Store>(
     }
 }
 
-/// Answers the session's query in transaction `tx`, 0 for none, at the log's end, by the first
-/// backend picked that doesn't fail.
-pub fn serve_read<B: Backend, S: Store>(
+/// Replies the answer that is kept of a query.
+fn reply_kept<B: Backend, S: Store>(state: &mut State<B, S>, s: u64, select: &Select) -> Reply
+    requires stands { StandsBetweenCalls state.old.core s }
+    requires counts { (session_at state.old.core s).queries < REQUEST_LIMIT }
+    requires kept { is_some (answer_kept select.now state.old.cache) ≡ true }
+    ensures { RepliesKept s select.now state.old result state.new }
+{
+    let copied = match state.kept(select) {
+        Some(answer) => answer.copy(state.allocator()),
+        None => unreachable!(),
+    };
+    match copied {
+        Ok(answer) => {
+            let end = state.length();
+            state.answer_read(s, end);
+            Reply::Rows(answer)
+        }
+        Err(_) => refuse(state, s, Refusal::of_code(NO_MEMORY)),
+    }
+}
+
+/// Asks the backends that serve a query, as the policy picks them, until one doesn't fail.
+fn ask_in_turn<B: Backend, S: Store>(
     state: &mut State<B, S>,
     s: u64,
+    serving: u32,
     user: &Text,
     tx: u64,
     select: &Select,
@@ -89,13 +148,13 @@ pub fn serve_read<B: Backend, S: Store>(
     requires counts { (session_at state.old.core s).queries < REQUEST_LIMIT }
     requires written { IsWritten (requests.Select select.now) }
     requires tx { (tx ≡ 0) ⊎ (tx ≡ moves.open_tx state.old.core s) }
-    ensures { WorldTurn B.TELLS s state.old (call_of state.old.core s tx user.now (requests.Select select.now) result) state.new }
+    requires serving { IsServingMask state.old.core select.now serving }
+    requires below { serving < 2 ^ BACKEND_LIMIT }
+    requires some { serving ≢ 0 }
+    ensures turn { WorldTurn B.TELLS s state.old (call_of state.old.core s tx user.now (requests.Select select.now) result) state.new }
+    ensures cache { state.new.cache ≡ cache_answered tx select.now (moves.last_number state.old.core) result state.old.cache }
 {
     state.legal();
-    let serving = state.serving(select);
-    if serving == 0 {
-        return refuse(state, s, Refusal::of_code(NO_BACKEND));
-    }
     let mut left = serving;
     while let Some(b) = state.pick(left) {
         if let Some(reply) = attempt(state, s, b, user, tx, select) {
@@ -112,4 +171,34 @@ pub fn serve_read<B: Backend, S: Store>(
             b: 0,
         },
     )
+}
+
+/// Answers the session's query in transaction `tx`, 0 for none, at the log's end: from the cache, where its answer is kept, and
+/// else by the first backend picked that doesn't fail.
+pub fn serve_read<B: Backend, S: Store>(
+    state: &mut State<B, S>,
+    s: u64,
+    user: &Text,
+    tx: u64,
+    select: &Select,
+) -> Reply
+    requires stands { StandsBetweenCalls state.old.core s }
+    requires counts { (session_at state.old.core s).queries < REQUEST_LIMIT }
+    requires written { IsWritten (requests.Select select.now) }
+    requires tx { (tx ≡ 0) ⊎ (tx ≡ moves.open_tx state.old.core s) }
+    ensures turn { WorldTurn B.TELLS s state.old (call_of state.old.core s tx user.now (requests.Select select.now) result) state.new }
+    ensures cache { ReadsWithCache select.now state.old (call_of state.old.core s tx user.now (requests.Select select.now) result) state.new }
+{
+    state.legal();
+    let serving = state.serving(select);
+    if serving == 0 {
+        return refuse(state, s, Refusal::of_code(NO_BACKEND));
+    }
+    if tx != 0 {
+        return ask_in_turn(state, s, serving, user, tx, select);
+    }
+    if state.look(select) {
+        return reply_kept(state, s, select);
+    }
+    ask_in_turn(state, s, serving, user, tx, select)
 }

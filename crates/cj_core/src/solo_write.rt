@@ -14,6 +14,7 @@ ghost use Rattle.cj_model.specs.declared.answer.Reply.TheVariants as replies;
 ghost use Rattle.cj_state.specs.Effects.{with_core};
 ghost use Rattle.cj_core.specs.Proving.SoloParts.{open_user, call_of, EntryEnded, EntryRefused, EntryScheduled, EntryTaken, HasTakenEntry, SchedulesOrRefuses};
 ghost use Rattle.cj_state.specs.Effects.{own_entry};
+ghost use Rattle.cj_state.specs.Worlds.{CacheFollowsLog};
 ghost use Rattle.cj_core.specs.Solos.{AddsEntry, StandsBetweenCalls, WorldTurn};
 
 use cj_backend::Backend;
@@ -126,6 +127,7 @@ pub fn serve_write<B: Backend, S: Store>(
     requires fits { FitsTx (moves.open_tx state.old.core s) tx act }
     ensures turn { WorldTurn B.TELLS s state.old (call_of state.old.core s tx user.now (request_of act) result.reply) state.new }
     ensures entry { (failed : List ℕ) × AddsEntry result.number s (call_of state.old.core s tx user.now (request_of act) result.reply) act failed state.old.core.history state.new.core.history }
+    ensures cache { CacheFollowsLog state.old state.new }
 {
     state.legal();
     match schedule_for(state, s, user, tx, act) {

@@ -9,6 +9,7 @@ ghost use Rattle.cj_state.specs.Beginnings.{AreEmpty, AreFresh, opened_core};
 ghost use Rattle.cj_state.specs.Faults.{faults_of};
 ghost use Rattle.cj_log.specs.Logs.{KeepsItems};
 ghost use Rattle.cj_outside.specs.Stores.{Only};
+ghost use Rattle.cj_model.specs.Cluster.Caching.{empty_cache};
 ghost use Rattle.cj_place.specs.Layouts.{placement_of};
 
 use crate::emptied::Emptied;
@@ -81,6 +82,7 @@ fn bring_up<B: Backend, S: Store>(state: &mut State<B, S>) -> Result<(), StartEr
     ensures started { OnOk result (HasStarted state.old.core.placement state.old.core.history (faults_of state.old.cells) state.new) }
     ensures uncalled { OnOk result (log state.old.core.history ≡ [] → state.new.cells ≡ state.old.cells) }
     ensures setup { OnOk result (state.new.setup ≡ state.old.setup) }
+    ensures cache { OnOk result (state.new.cache ≡ state.old.cache) }
     ensures longer { IsLonger state.old state.new }
     ensures cause { CountsFaultOfPart state.old.recovery_log.faults result state.new.recovery_log.faults }
 {
@@ -110,8 +112,10 @@ impl<B: Backend + Drop, S: Store + Drop> World<B, S> {
         requires empty { AreEmpty B.TELLS (map B.told backends) }
         requires none { HaveBegunNone (map B.begun backends) }
         requires disk { S.TELLS ≡ true → Only (S.held log) (S.may log) }
+        requires cache { parts.book.cache ≡ empty_cache parts.book.cache.capacity }
         ensures started { IfOk result (StartsFrom (λ items. S.TELLS ≡ true → KeepsItems (S.held log) items) (placement_of parts.book.placement) (map (state_by B.told B.faults B.asks B.login B.arming) backends)) }
         ensures setup { IfOk result (λ world. world.setup ≡ record { names = parts.book.placement.names; register = parts.accounts }) }
+        ensures cache { IfOk result (λ world. world.cache ≡ parts.book.cache) }
         ensures kept { S.TELLS ≡ true → IfOk result (λ world. KeepsItems world.recovery_log.bytes (items_of world.core.history)) }
         ensures bytes { S.TELLS ≡ true → RefusesBytes S.held (S.held log) result }
         ensures cause { CountsFaultOfStart S.faults (S.faults log) result }

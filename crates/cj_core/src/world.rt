@@ -6,6 +6,7 @@ ghost use Rattle.cj_cluster.specs.History.Legality.{IsLegal};
 ghost use Rattle.cj_cluster.specs.Moves.Moves.{MovesTo};
 ghost use Rattle.cj_cluster.specs.Moves.Runs.{IsMoveOfCluster, CanCountRequests};
 ghost use Rattle.cj_moves.specs.Armings.{ArmsCell, HasArmings};
+ghost use Rattle.cj_moves.specs.Caches.{HasCacheAfter};
 ghost use Rattle.cj_moves.specs.Counting.{HasCauses, HasLogCauses};
 ghost use Rattle.cj_moves.specs.Logins.{HasLogins};
 ghost use Rattle.cj_moves.specs.Steps.{IsMet};
@@ -20,7 +21,7 @@ ghost use Rattle.cj_cluster.specs.History.Histories.{is_idle};
 ghost use Rattle.cj_cluster.specs.Moves.Cores.{position_at};
 ghost use Rattle.cj_cluster.specs.Moves.Moves as moves;
 ghost use Rattle.cj_place.specs.Layouts.{placement_of};
-ghost use Rattle.cj_state.specs.Worlds.{IsSameButLog, IsWorld, KeepsHistory};
+ghost use Rattle.cj_state.specs.Worlds.{IsFresh, IsSameButLog, IsWorld, KeepsHistory};
 
 use crate::audit::{AuditError, audit};
 use crate::emptied::Emptied;
@@ -60,6 +61,7 @@ impl<B: Backend, S: Store> World<B, S> {
     pub fn legal(&self)
         ensures world { IsWorld B.TELLS self.now }
         ensures logged { S.TELLS ≡ true → KeepsHistory self.now }
+        ensures fresh { IsFresh B.TELLS self.now }
     {
         self.state.legal();
     }
@@ -113,6 +115,7 @@ impl<B: Backend, S: Store> World<B, S> {
         ensures armed { result ≡ Ok Moved.Armed → ArmsCell B.can_be_armed self.old.cells m self.new.cells }
         ensures want { IsErrOf result MoveError.NoMemory → IsSameButLog self.old self.new }
         ensures setup { self.new.setup ≡ self.old.setup }
+        ensures cache { HasCacheAfter self.old self.new m }
     {
         step(&mut self.state, m)
     }

@@ -1,5 +1,5 @@
 -- A log worked out: which of its entries touch which tables, and when the answer of a query becomes another.
-use Rattle.std.proofs.Common.{◌≡◌, ℕ, pos, true, false, List, [], ◌∷◌, map, replicate, refl}
+use Rattle.std.proofs.Common.{◌≡◌, ℕ, Bool, pos, true, false, List, [], ◌∷◌, map, replicate, refl}
 use Rattle.std.specs.Prelude.{codes}
 use Rattle.std.specs.declared.option.Option.TheVariants.{None}
 use Rattle.cj_model.specs.declared.value.Value.{Value}
@@ -19,7 +19,7 @@ use Rattle.cj_model.specs.declared.codes.TheConstants.{NO_TABLE}
 use Rattle.cj_model.specs.Database.Inserts.{refusal_of_code}
 use Rattle.cj_model.specs.Database.Queries.{ask}
 use Rattle.cj_cluster.specs.History.Histories.{database_after}
-use Rattle.cj_freshness.specs.Freshness.{touches_query, touched_tables}
+use Rattle.cj_freshness.specs.Freshness.{touches}
 
 -- an entry of session 1
 abbrev entry : ℕ → ℕ → Act → Entry
@@ -37,10 +37,15 @@ entries =
     entry 1 0 (act.Create (with_key (codes "a"))) ∷ entry 2 0 (act.Create (with_key (codes "b"))) ∷ entry 3 0 act.Begin ∷ entry 4 3 (insert (codes "a") 7)
     ∷ entry 5 0 (act.Create (with_key (codes "b"))) ∷ entry 6 3 act.Commit ∷ entry 7 0 (insert (codes "b") 8) ∷ entry 8 0 (act.Drop (codes "a")) ∷ []
 
--- what each touches: the INSERT of the transaction nothing, and its COMMIT what it wrote
-each_touches : map (touched_tables entries) (0 ∷ 1 ∷ 2 ∷ 3 ∷ 4 ∷ 5 ∷ 6 ∷ 7 ∷ [])
-    ≡ (codes "a" ∷ []) ∷ (codes "b" ∷ []) ∷ [] ∷ [] ∷ (codes "b" ∷ []) ∷ (codes "a" ∷ []) ∷ (codes "b" ∷ []) ∷ (codes "a" ∷ []) ∷ []
-each_touches = refl
+-- which of them touch a table: the INSERT of the transaction none, and its COMMIT what it wrote
+abbrev touching : List ℕ → List Bool
+touching table = map (λ n. touches entries n table) (0 ∷ 1 ∷ 2 ∷ 3 ∷ 4 ∷ 5 ∷ 6 ∷ 7 ∷ [])
+
+touching_a : touching (codes "a") ≡ true ∷ false ∷ false ∷ false ∷ false ∷ true ∷ false ∷ true ∷ []
+touching_a = refl
+
+touching_b : touching (codes "b") ≡ false ∷ true ∷ false ∷ false ∷ true ∷ false ∷ true ∷ false ∷ []
+touching_b = refl
 
 -- SELECT * FROM a
 abbrev all_of_a : Select
@@ -58,7 +63,3 @@ each_answer = refl
 
 then_answered : map answer_after (6 ∷ 7 ∷ 8 ∷ []) ≡ rows_answered ((Int (pos 7) ∷ []) ∷ []) ∷ rows_answered ((Int (pos 7) ∷ []) ∷ []) ∷ Refused (refusal_of_code NO_TABLE) ∷ []
 then_answered = refl
-
--- and the entries that touch it are those three
-touched_by : map (λ n. touches_query entries n all_of_a) (0 ∷ 1 ∷ 2 ∷ 3 ∷ 4 ∷ 5 ∷ 6 ∷ 7 ∷ []) ≡ true ∷ false ∷ false ∷ false ∷ false ∷ true ∷ false ∷ true ∷ []
-touched_by = refl

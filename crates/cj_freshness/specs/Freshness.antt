@@ -1,5 +1,5 @@
 -- How long a kept answer stays right: which tables the entries of a log touch, and which answers are fresh. Entries are counted from 0, as in a history.
-use Rattle.std.specs.Prelude.{◌≡◌, ℕ, ◌<◌, ◌≤◌, Bool, true, false, ◌&&◌, ◌==◌, List, [], ◌∷◌, length, take, filter, flat_map, slice_get, All, if◌then◌else◌}
+use Rattle.std.specs.Prelude.{◌≡◌, ◌⊎◌, ℕ, ◌<◌, ◌≤◌, Bool, true, false, not, ◌&&◌, ◌==◌, List, [], ◌∷◌, ◌++◌, length, take, filter, slice_get, All}
 use Rattle.std.specs.List.{list_any}
 use Rattle.std.specs.Option.{option_map_or}
 use Rattle.std.specs.Str.{bytes_eq}
@@ -12,6 +12,7 @@ use Rattle.cj_model.specs.declared.answer.Asked.TheVariants.{Rows}
 use Rattle.cj_model.specs.declared.cached.Cached.{Cached}
 use Rattle.cj_model.specs.Database.Steps.{table_written}
 use Rattle.cj_model.specs.Database.Queries.{ask}
+use Rattle.cj_model.specs.Database.Outcomes.{IsAnswer}
 use Rattle.cj_model.specs.Cluster.Caching.{CacheState}
 use Rattle.cj_cluster.specs.History.Histories.{database_after}
 use Rattle.cj_cluster.specs.History.Transactions.{has_written}
@@ -40,50 +41,29 @@ touches_query entries n s = list_any (touches entries n) s.tables
 abbrev pub NoneTouches : List Entry → ℕ → ℕ → Select → Type 0
 NoneTouches entries from to s = (n : ℕ) → from ≤ n → n < to → touches_query entries n s ≡ false
 
--- ---- the same as a list
-
--- the tables that an act writes
-abbrev pub tables_of_write : Act → List (List ℕ)
-tables_of_write act.Begin = []
-tables_of_write (act.Write w) = table_written w ∷ []
-tables_of_write (act.Create c) = []
-tables_of_write (act.Drop name) = []
-tables_of_write act.Commit = []
-tables_of_write act.Abort = []
-
--- those that the transaction wrote in these entries
-abbrev pub tables_written_in : ℕ → List Entry → List (List ℕ)
-tables_written_in tx entries = flat_map (λ (e : Entry). tables_of_write e.act) (filter (λ (e : Entry). e.tx == tx) entries)
-
--- the tables that an act of a transaction touches, behind the entries before it
-abbrev pub touched_behind : List Entry → ℕ → Act → List (List ℕ)
-touched_behind before tx act.Begin = []
-touched_behind before tx (act.Write w) = if tx == 0 then table_written w ∷ [] else []
-touched_behind before tx (act.Create c) = c.table ∷ []
-touched_behind before tx (act.Drop name) = name ∷ []
-touched_behind before tx act.Commit = tables_written_in tx before
-touched_behind before tx act.Abort = []
-
--- the tables that entry n touches
-abbrev pub touched_tables : List Entry → ℕ → List (List ℕ)
-touched_tables entries n = option_map_or (λ (e : Entry). touched_behind (take n entries) e.tx e.act) (slice_get entries n) []
-
--- each table that entry n touches is one of these
-abbrev pub CoversTouched : List Entry → ℕ → List (List ℕ) → Type 0
-CoversTouched entries n set = (table : List ℕ) → touches entries n table ≡ true → list_any (λ name. bytes_eq name table) set ≡ true
-
 -- ---- fresh answers
 
 -- this is what the query is answered, outside transactions, on the database after so many entries
 abbrev pub IsAnswerAt : List Entry → ℕ → Select → Asked → Type 0
 IsAnswerAt entries n s asked = asked ≡ ask (database_after entries n) 0 s
 
--- A kept answer is fresh: it was right at its position, which the log has reached, and no entry behind that touches a table that its query needs.
-pub record IsFreshAnswer (entries : List Entry) (kept : Cached) : Type 0 where
+-- A kept answer is fresh: it is one that a database may give, and was right at its position, which the log has reached, where the backends tell what they hold (`tells`); and no entry behind that touches a table that its query needs.
+pub record IsFreshAnswer (tells : Bool) (entries : List Entry) (kept : Cached) : Type 0 where
+  pub possible : IsAnswer kept.answer
   pub within : kept.at ≤ length entries
-  pub right : IsAnswerAt entries kept.at kept.select (Rows kept.answer)
+  pub right : tells ≡ true → IsAnswerAt entries kept.at kept.select (Rows kept.answer)
   pub untouched : NoneTouches entries kept.at (length entries) kept.select
 
 -- each answer in the cache is fresh
-abbrev pub IsFreshCache : List Entry → CacheState → Type 0
-IsFreshCache entries c = All (IsFreshAnswer entries) c.entries
+abbrev pub IsFreshCache : Bool → List Entry → CacheState → Type 0
+IsFreshCache tells entries c = All (IsFreshAnswer tells entries) c.entries
+
+-- ---- a cache along a log
+
+-- the cache behind one more entry: the answers are dropped whose queries need a table that the entry touches
+abbrev pub without_touched : List Entry → Entry → CacheState → CacheState
+without_touched entries e c = record c { entries = filter (λ (kept : Cached). not (list_any (touches_behind entries e.tx e.act) kept.select.tables)) c.entries }
+
+-- the cache where the log has grown by nothing, or by one entry
+abbrev pub FollowsLog : List Entry → List Entry → CacheState → CacheState → Type 0
+FollowsLog before now old new = ((now ≡ before) × (new ≡ old)) ⊎ ((e : Entry) × (now ≡ before ++ e ∷ []) × (new ≡ without_touched before e old))

@@ -4,6 +4,4 @@
 
 mod laws;
 
-pub use laws::{
-    answers_stay, caches_stay_fresh, fresh_answers_are_right, touched_tables_are_touched,
-};
+pub use laws::{answers_stay, caches_stay_fresh, fresh_answers_are_right};

@@ -1,4 +1,5 @@
 pub mod Armings
+pub mod Caches
 pub mod Counting
 pub mod Logins
 pub mod Proving

@@ -5,6 +5,7 @@ ghost use Rattle.cj_cluster.specs.Moves.Moves as moves;
 ghost use Rattle.cj_cluster.specs.Moves.Moves.{MovesTo};
 ghost use Rattle.cj_state.specs.Worlds.{IsSameButLog};
 ghost use Rattle.cj_moves.specs.Armings.{ArmsCell, HasArmings};
+ghost use Rattle.cj_moves.specs.Caches.{HasCacheAfter};
 ghost use Rattle.cj_moves.specs.Counting.{HasCauses, HasLogCauses};
 ghost use Rattle.cj_moves.specs.Logins.{HasLogins};
 ghost use Rattle.cj_moves.specs.Steps.{IsMet};
@@ -58,6 +59,7 @@ pub fn step<B: Backend, S: Store>(state: &mut State<B, S>, m: Move) -> Result<Mo
     ensures armed { result ≡ Ok Moved.Armed → ArmsCell B.can_be_armed state.old.cells m state.new.cells }
     ensures want { IsErrOf result MoveError.NoMemory → IsSameButLog state.old state.new }
     ensures setup { state.new.setup ≡ state.old.setup }
+    ensures cache { HasCacheAfter state.old state.new m }
 {
     if let Some(why) = why_not_now(state, &m) {
         return Err(MoveError::NotNow(why));

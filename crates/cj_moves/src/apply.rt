@@ -37,6 +37,7 @@ pub fn apply<B: Backend, S: Store>(state: &mut State<B, S>, b: u8) -> Moved
     ensures logins { HasLogins state.old state.new (Move.Apply b) (Ok result) }
     ensures armings { armings_of state.new.cells ≡ armings_of state.old.cells }
     ensures setup { state.new.setup ≡ state.old.setup }
+    ensures cache { state.new.cache ≡ state.old.cache }
     ensures recovery_log { state.new.recovery_log ≡ state.old.recovery_log }
 {
     Moved::Applied {

@@ -22,6 +22,7 @@ pub fn arm<B: Backend, S: Store>(state: &mut State<B, S>, b: u8) -> Moved
     ensures armings { HasArmings B.can_be_armed state.old state.new (Move.Arm b) (Ok result) }
     ensures logins { logins_of state.new.cells ≡ logins_of state.old.cells }
     ensures setup { state.new.setup ≡ state.old.setup }
+    ensures cache { state.new.cache ≡ state.old.cache }
     ensures recovery_log { state.new.recovery_log ≡ state.old.recovery_log }
 {
     state.arm_backend(b);

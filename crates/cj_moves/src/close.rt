@@ -28,6 +28,7 @@ pub fn close<B: Backend, S: Store>(state: &mut State<B, S>, s: u64) -> Moved
     ensures cells { state.new.cells ≡ state.old.cells }
     ensures setup { state.new.setup ≡ state.old.setup }
     ensures recovery_log { state.new.recovery_log ≡ state.old.recovery_log }
+    ensures cache { state.new.cache ≡ state.old.cache }
 {
     state.remove_session(s);
     Moved::Closed

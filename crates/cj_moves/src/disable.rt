@@ -29,6 +29,7 @@ pub fn disable<B: Backend, S: Store>(state: &mut State<B, S>, b: u8) -> Result<M
     ensures cells { state.new.cells ≡ state.old.cells }
     ensures want { IsErrOf result MoveError.NoMemory → state.new ≡ state.old }
     ensures setup { state.new.setup ≡ state.old.setup }
+    ensures cache { state.new.cache ≡ state.old.cache }
     ensures recovery_log { state.new.recovery_log ≡ state.old.recovery_log }
 {
     match state.switch_off(b) {

@@ -33,6 +33,7 @@ pub fn enable<B: Backend, S: Store>(state: &mut State<B, S>, b: u8) -> Result<Mo
     ensures cells { state.new.cells ≡ state.old.cells }
     ensures want { IsErrOf result MoveError.NoMemory → state.new ≡ state.old }
     ensures setup { state.new.setup ≡ state.old.setup }
+    ensures cache { state.new.cache ≡ state.old.cache }
     ensures recovery_log { state.new.recovery_log ≡ state.old.recovery_log }
 {
     match state.switch_on(b) {

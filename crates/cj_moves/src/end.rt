@@ -28,6 +28,7 @@ pub fn end<B: Backend, S: Store>(state: &mut State<B, S>) -> Moved
     ensures cells { state.new.cells ≡ state.old.cells }
     ensures setup { state.new.setup ≡ state.old.setup }
     ensures recovery_log { state.new.recovery_log ≡ state.old.recovery_log }
+    ensures cache { state.new.cache ≡ state.old.cache }
 {
     let session = state.waiting();
     let reply = state.reply();

@@ -35,6 +35,7 @@ pub fn mark<B: Backend, S: Store>(state: &mut State<B, S>, name: &Name) -> Resul
     ensures cells { state.new.cells ≡ state.old.cells }
     ensures want { IsErrOf result MoveError.NoMemory → IsSameButLog state.old state.new }
     ensures setup { state.new.setup ≡ state.old.setup }
+    ensures cache { state.new.cache ≡ state.old.cache }
 {
     match state.mark(name) {
         Ok(after) => Ok(Moved::Marked(after)),

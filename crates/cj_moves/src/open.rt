@@ -16,6 +16,7 @@ pub fn open<B: Backend, S: Store>(state: &mut State<B, S>, user: Text) -> Moved
     ensures cells { state.new.cells ≡ state.old.cells }
     ensures setup { state.new.setup ≡ state.old.setup }
     ensures recovery_log { state.new.recovery_log ≡ state.old.recovery_log }
+    ensures cache { state.new.cache ≡ state.old.cache }
 {
     if state.has_no_number() {
         return Moved::Refused(state.sessions_full());

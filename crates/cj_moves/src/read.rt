@@ -51,6 +51,7 @@ pub fn read<B: Backend, S: Store>(
     ensures armings { armings_of state.new.cells ≡ armings_of state.old.cells }
     ensures want { IsErrOf result MoveError.NoMemory → state.new ≡ state.old }
     ensures setup { state.new.setup ≡ state.old.setup }
+    ensures cache { state.new.cache ≡ state.old.cache }
     ensures recovery_log { state.new.recovery_log ≡ state.old.recovery_log }
 {
     state.legal();
@@ -135,6 +136,7 @@ fn refuse_or_stay<B: Backend, S: Store>(
     ensures moves { RefusesOrStays state.old.core s select tried serving result state.new.core }
     ensures cells { state.new.cells ≡ state.old.cells }
     ensures setup { state.new.setup ≡ state.old.setup }
+    ensures cache { state.new.cache ≡ state.old.cache }
     ensures recovery_log { state.new.recovery_log ≡ state.old.recovery_log }
 {
     if covers(tried, serving) {

@@ -9,7 +9,7 @@ ghost use Rattle.cj_cluster.specs.Moves.Moves as moves;
 ghost use Rattle.cj_cluster.specs.Moves.Cores.{session_at};
 ghost use Rattle.cj_cluster.specs.Moves.Moves.{SchedulesRequest, not_now};
 ghost use Rattle.cj_cluster.specs.Moves.Runs.{IsForLog};
-ghost use Rattle.cj_state.specs.Worlds.{IsSameButLog};
+ghost use Rattle.cj_state.specs.Worlds.{CacheFollowsLog, IsSameButLog};
 ghost use Rattle.cj_moves.specs.Counting.{HasLogCauses};
 
 use crate::reason::why;
@@ -68,6 +68,7 @@ pub fn schedule<B: Backend, S: Store>(
     ensures cells { state.new.cells ≡ state.old.cells }
     ensures want { IsErrOf result MoveError.NoMemory → IsSameButLog state.old state.new }
     ensures setup { state.new.setup ≡ state.old.setup }
+    ensures cache { CacheFollowsLog state.old state.new }
 {
     let act = act_of(request);
     if let Some(refusal) = forbidden_by(state.open_tx(s), &act) {

@@ -4,6 +4,7 @@ pub mod CellsKept
 pub mod Contents
 pub mod Counted
 pub mod Ending
+pub mod Fresh
 pub mod Keeping
 pub mod KeepingEvents
 pub mod Logs

@@ -9,7 +9,7 @@ use Rattle.cj_cluster.specs.History.Histories.{scheduled_entry, log, events_left
 use Rattle.cj_cluster.proofs.Pushed.{log-sched, log-same}
 use Rattle.cj_book.specs.declared.error.BookError.{BookError}
 use Rattle.cj_book.specs.declared.error.BookError.TheVariants.{InProgress, NoBackend, HistoryFull, LogFault, NoMemory}
-use Rattle.cj_book.specs.Books.{BookState, IsSameButLog, with_event, IsInProgress, HasNoBackend, LacksRoom, HasNoRoomForOne, CanSchedule, IsWant}
+use Rattle.cj_book.specs.Books.{BookState, IsSameButLog, with_event, IsInProgress, HasNoBackend, LacksRoom, HasNoRoomForOne, CanSchedule, IsWant, with_entry}
 use Rattle.cj_replica.specs.Cells.{CellState}
 use Rattle.cj_state.specs.Worlds.{core_of}
 use Rattle.cj_state.specs.Effects.{SchedulesAs, HadLoggedRoom, HadRoom}
@@ -74,7 +74,7 @@ behind_as_many (Err d) old new e none ok number = tt
 
 module _ {S : Type 0} (cells : List CellState) (f s : ℕ) (ss : List OpenSession) (g : ℕ) (b : BookState S) (e : Entry) where
   -- the entry was scheduled
-  pub scheduled_as : (new : BookState S) (n : ℕ) → IsSameButLog (with_event b (Sched e)) new → n ≡ length (log new.history) → CanSchedule b e.act → SchedulesAs (core_of b.layout b.history cells f s ss g) e (Ok n)
+  pub scheduled_as : (new : BookState S) (n : ℕ) → IsSameButLog (with_entry b e) new → n ≡ length (log new.history) → CanSchedule b e.act → SchedulesAs (core_of b.layout b.history cells f s ss g) e (Ok n)
   scheduled_as new n is number can =
       let l : length (log (b.history ++ Sched e ∷ [])) ≡ length (log b.history) + 1 = ap length (log-sched b.history e) ∙ length-append (log b.history) (e ∷ []) in
       (number ∙ (ap (λ (x : BookState S). length (log x.history)) is ∙ l), can.served, can.space)

@@ -5,11 +5,13 @@ use Rattle.cj_model.specs.declared.request.Entry.{Entry}
 use Rattle.cj_cluster.specs.declared.event.Event.{Event}
 use Rattle.cj_cluster.specs.declared.moves.OpenSession.{OpenSession}
 use Rattle.cj_model.specs.declared.limits.TheConstants.{BACKEND_LIMIT}
+use Rattle.cj_model.specs.Cluster.Caching.{CacheState, empty_cache}
 use Rattle.cj_model.specs.Cluster.Placements.{Placement}
 use Rattle.cj_cluster.specs.History.Histories.{log}
 use Rattle.cj_cluster.specs.Moves.Cores.{Core}
 use Rattle.cj_cluster.specs.Proving.Invariants.{CoreInvariant, HoldsPart}
 use Rattle.cj_cluster.specs.Moves.Runs.{AreBetween}
+use Rattle.cj_freshness.specs.Freshness.{FollowsLog, IsFreshCache}
 use Rattle.cj_auth.specs.Admission.{Register}
 use Rattle.cj_place.specs.Layouts.{Layout, placement_of}
 use Rattle.cj_log.specs.Logs.{LogState}
@@ -26,12 +28,13 @@ pub record LogView : Type 0 where
   pub faults : ℕ
   pub bytes : List ℕ
 
--- the state that moves change, the cells of the backends by their numbers, what no move changes, and what is seen of the recovery log
+-- the state that moves change, the cells of the backends by their numbers, what no move changes, what is seen of the recovery log, and the answers kept of queries
 pub record WorldState : Type 0 where
   pub core : Core
   pub cells : List CellState
   pub setup : Setup
   pub recovery_log : LogView
+  pub cache : CacheState
 
 -- what is seen of a log
 abbrev pub log_view : {S : Type 0} → (S → ℕ) → (S → List ℕ) → LogState S → LogView
@@ -40,6 +43,18 @@ log_view faults held log = record { faults = faults log.store; bytes = held log.
 -- the world with this log
 abbrev pub with_log : WorldState → LogView → WorldState
 with_log w log = record w { recovery_log = log }
+
+-- the world with this cache
+abbrev pub with_cache : WorldState → CacheState → WorldState
+with_cache w cache = record w { cache = cache }
+
+-- the world's cache has fresh answers alone
+abbrev pub IsFresh : Bool → WorldState → Type 0
+IsFresh tells w = IsFreshCache tells (log w.core.history) w.cache
+
+-- from one world to the other the cache has followed the log
+abbrev pub CacheFollowsLog : WorldState → WorldState → Type 0
+CacheFollowsLog old new = FollowsLog (log old.core.history) (log new.core.history) old.cache new.cache
 
 -- the world is as before, but maybe for its log
 abbrev pub IsSameButLog : WorldState → WorldState → Type 0
@@ -71,10 +86,10 @@ core_of l h cells failed starved sessions greatest =
 abbrev pub unseen_log : LogView
 unseen_log = record { faults = 0; bytes = [] }
 
--- the world of these, but for its log
+-- the world of these, but for its log and its cache
 abbrev pub world_of : Register → Layout → List Event → List CellState → ℕ → ℕ → List OpenSession → ℕ → WorldState
 world_of register l h cells failed starved sessions greatest =
-    record { core = core_of l h cells failed starved sessions greatest; cells = cells; setup = record { names = l.names; register = register }; recovery_log = unseen_log }
+    record { core = core_of l h cells failed starved sessions greatest; cells = cells; setup = record { names = l.names; register = register }; recovery_log = unseen_log; cache = empty_cache 0 }
 
 -- the cell of backend b that holds its part of the database after the entries that it has taken
 pub record IsCell (tells : Bool) (p : Placement) (entries : List Entry) (b : ℕ) (x : CellState) : Type 0 where

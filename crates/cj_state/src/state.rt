@@ -18,7 +18,12 @@ ghost use Rattle.std.specs.Bool.{OnTrue};
 ghost use Rattle.cj_auth.specs.Admission.{admits};
 ghost use Rattle.cj_auth.specs.Kept.{IsUserName};
 ghost use Rattle.cj_replica.specs.Cells.{CellState};
-ghost use Rattle.cj_state.specs.Worlds.{accounts_of, log_view, IsSameButLog, IsWorld, KeepsHistory};
+ghost use Rattle.cj_state.specs.Worlds.{accounts_of, log_view, with_cache, CacheFollowsLog, IsFresh, IsSameButLog, IsWorld, KeepsHistory};
+ghost use Rattle.cj_model.specs.declared.cached.Cached.{Cached};
+ghost use Rattle.cj_model.specs.Cluster.Caching.{after_keep, after_look, answer_kept, empty_cache, has_answer};
+ghost use Rattle.cj_model.specs.declared.answer.Asked.TheVariants.{Rows};
+ghost use Rattle.cj_model.specs.Database.Outcomes.{IsAnswer};
+ghost use Rattle.cj_freshness.specs.Freshness.{IsAnswerAt};
 ghost use Rattle.cj_model.specs.Sql.Names.{is_name};
 ghost use Rattle.cj_opening.specs.Openings.{OpensTo, items_of};
 ghost use Rattle.cj_book.specs.Starts.{greatest_session};
@@ -40,7 +45,7 @@ use cj_backend::Backend;
 use cj_book::{Book, BookError};
 use cj_cluster::{Did, Event, Move, Moved, OpenRead, OpenSession};
 use cj_model::{
-    Act, Asked, BACKEND_LIMIT, Db, Duplicate, Entry, HISTORY_FULL, Name, NoMemory, Outcome,
+    Act, Answer, Asked, BACKEND_LIMIT, Db, Duplicate, Entry, HISTORY_FULL, Name, NoMemory, Outcome,
     REQUEST_LIMIT, Refusal, Reply, SESSION_LIMIT, SESSION_NUMBER_LIMIT, SESSIONS_FULL, STARVED_ALL,
     Same, Select, Text, UNFINISHED, USER_LIMIT, with_bit,
 };
@@ -69,7 +74,7 @@ pub struct State<B: Backend, S: Store> {
 }
 
 impl<B: Backend, S: Store> Model for State<B, S> {
-    ghost use Rattle.cj_state.specs.Worlds.{WorldState, log_view, with_log, world_of};
+    ghost use Rattle.cj_state.specs.Worlds.{WorldState, log_view, with_cache, with_log, world_of};
 
     ghost Value = { WorldState };
 
@@ -78,11 +83,11 @@ impl<B: Backend, S: Store> Model for State<B, S> {
 
     ghost coded = { Prim.hlevel (codes, coded_condition) };
 
-    ghost use Rattle.cj_state.specs.Proving.Kept.{Kept};
+    ghost use Rattle.cj_state.specs.Proving.Kept.{KeptFresh};
 
-    ghost view = { λ w. with_log (world_of w.accounts w.book.layout w.book.history w.cells.items w.failed w.starved w.sessions w.book.greatest) (log_view S.faults S.held w.book.recovery_log) };
+    ghost view = { λ w. with_cache (with_log (world_of w.accounts w.book.layout w.book.history w.cells.items w.failed w.starved w.sessions w.book.greatest) (log_view S.faults S.held w.book.recovery_log)) w.book.cache };
 
-    ghost invariant = { λ w. Kept B.TELLS (world_of w.accounts w.book.layout w.book.history w.cells.items w.failed w.starved w.sessions w.book.greatest) w.book.sessions w.first_outcome };
+    ghost invariant = { λ w. KeptFresh B.TELLS (world_of w.accounts w.book.layout w.book.history w.cells.items w.failed w.starved w.sessions w.book.greatest) w.book.sessions w.first_outcome w.book.cache };
 }
 
 /// The refusal of an entry that no backend finished.
@@ -157,10 +162,12 @@ impl<B: Backend + Drop, S: Store + Drop> State<B, S> {
         requires registered { accounts.backends ≡ length book.layout.names }
         requires fresh { AreFresh (placement_of book.layout) cells.items }
         requires empty { AreEmpty B.TELLS (map (λ (x : CellState). x.told) cells.items) }
+        requires cache { book.cache ≡ empty_cache book.cache.capacity }
         ensures core { result.core ≡ opened_core (placement_of book.layout) book.history }
         ensures cells { result.cells ≡ cells.items }
         ensures setup { result.setup ≡ record { names = book.layout.names; register = accounts } }
         ensures recovery_log { result.recovery_log ≡ log_view S.faults S.held book.recovery_log }
+        ensures cache { result.cache ≡ book.cache }
     {
         State {
             alloc,
@@ -205,6 +212,7 @@ impl<B: Backend, S: Store> State<B, S> {
     pub fn legal(&self)
         ensures world { IsWorld B.TELLS self.now }
         ensures logged { S.TELLS ≡ true → KeepsHistory self.now }
+        ensures fresh { IsFresh B.TELLS self.now }
     {
         self.book.legal();
     }
@@ -606,7 +614,8 @@ impl<B: Backend, S: Store> State<B, S> {
         requires fits { IsFitEntry (log self.old.core.history) entry }
         ensures scheduled { SchedulesAs self.old.core entry result }
         ensures core { self.new.core ≡ core_scheduled self.old.core s entry result }
-        ensures same { IsSameButLog (with_core self.old self.new.core) self.new }
+        ensures same { IsSameButLog (with_cache (with_core self.old self.new.core) self.new.cache) self.new }
+        ensures cache { CacheFollowsLog self.old self.new }
         ensures checked { OnErr result (¬ IsErrOf result BookError.LogFault → ¬ IsErrOf result BookError.NoMemory → self.new ≡ self.old) }
         ensures cause { CountsFault (IsErrOf result BookError.LogFault) self.old.recovery_log.faults self.new.recovery_log.faults }
     {
@@ -629,7 +638,8 @@ impl<B: Backend, S: Store> State<B, S> {
         requires fits { IsFitEntry (log self.old.core.history) entry }
         ensures scheduled { SchedulesAs self.old.core entry result }
         ensures core { self.new.core ≡ core_aborted self.old.core entry result }
-        ensures same { IsSameButLog (with_core self.old self.new.core) self.new }
+        ensures same { IsSameButLog (with_cache (with_core self.old self.new.core) self.new.cache) self.new }
+        ensures cache { CacheFollowsLog self.old self.new }
         ensures checked { OnErr result (¬ IsErrOf result BookError.LogFault → ¬ IsErrOf result BookError.NoMemory → self.new ≡ self.old) }
         ensures cause { CountsFault (IsErrOf result BookError.LogFault) self.old.recovery_log.faults self.new.recovery_log.faults }
     {
@@ -687,6 +697,7 @@ impl<B: Backend, S: Store> State<B, S> {
         ensures logins { LogsInToTake b (login_to_take self.old b) result (logins_of self.old.cells) (logins_of self.new.cells) }
         ensures recovery_log { self.new.recovery_log ≡ self.old.recovery_log }
         ensures setup { self.new.setup ≡ self.old.setup }
+        ensures cache { self.new.cache ≡ self.old.cache }
     {
         let did = take(&self.book, &mut self.cells, &self.accounts, b);
         self.failed = failed_after(self.failed, b, did);
@@ -705,6 +716,7 @@ impl<B: Backend, S: Store> State<B, S> {
         ensures logins { LogsInToTake b (login_to_take self.old b) result (logins_of self.old.cells) (logins_of self.new.cells) }
         ensures recovery_log { self.new.recovery_log ≡ self.old.recovery_log }
         ensures setup { self.new.setup ≡ self.old.setup }
+        ensures cache { self.new.cache ≡ self.old.cache }
     {
         take(&self.book, &mut self.cells, &self.accounts, b)
     }
@@ -733,6 +745,7 @@ impl<B: Backend, S: Store> State<B, S> {
         ensures want { IsErrOf result AskError.NoMemory → self.new ≡ self.old }
         ensures recovery_log { self.new.recovery_log ≡ self.old.recovery_log }
         ensures setup { self.new.setup ≡ self.old.setup }
+        ensures cache { self.new.cache ≡ self.old.cache }
     {
         let least = self.least(s);
         let number = self.read_number(s);
@@ -758,6 +771,7 @@ impl<B: Backend, S: Store> State<B, S> {
         ensures logins { logins_of self.new.cells ≡ logins_of self.old.cells }
         ensures recovery_log { self.new.recovery_log ≡ self.old.recovery_log }
         ensures setup { self.new.setup ≡ self.old.setup }
+        ensures cache { self.new.cache ≡ self.old.cache }
     {
         self.cells[b as usize].contents()
     }
@@ -772,6 +786,7 @@ impl<B: Backend, S: Store> State<B, S> {
         ensures logins { logins_of self.new.cells ≡ logins_of self.old.cells }
         ensures recovery_log { self.new.recovery_log ≡ self.old.recovery_log }
         ensures setup { self.new.setup ≡ self.old.setup }
+        ensures cache { self.new.cache ≡ self.old.cache }
     {
         self.cells[b as usize].arm();
     }
@@ -817,5 +832,49 @@ impl<B: Backend, S: Store> State<B, S> {
         ensures cause { CountsFault (IsErrOf result BookError.LogFault) self.old.recovery_log.faults self.new.recovery_log.faults }
     {
         self.book.mark(name, None)
+    }
+
+    // ---- the result cache
+
+    /// Whether the answer of the query is kept, which is then in front. This counts a hit or a miss.
+    pub fn look(&mut self, select: &Select) -> bool
+        ensures found { result ≡ has_answer select.now self.old.cache }
+        ensures looked { self.new ≡ with_cache self.old (after_look select.now self.old.cache) }
+    {
+        self.book.look(select)
+    }
+
+    /// The kept answer of the query.
+    pub fn kept(&self, select: &Select) -> Option<&Answer>
+        ensures { option_copied result ≡ answer_kept select.now self.now.cache }
+    {
+        self.book.kept(select)
+    }
+
+    /// Keeps what the query is answered at the log's end.
+    pub fn keep(&mut self, select: Select, answer: Answer) -> Result<(), NoMemory>
+        requires possible { IsAnswer answer }
+        requires right { B.TELLS ≡ true → IsAnswerAt (log self.old.core.history) (moves.last_number self.old.core) select (Rows answer) }
+        ensures ok { OnOk result (self.new ≡ with_cache self.old (after_keep (record { select = select; answer = answer; at = moves.last_number self.old.core }) self.old.cache)) }
+        ensures err { OnErr result (self.new ≡ self.old) }
+    {
+        let end = self.book.length();
+        // No entry stands behind the log's end, so that it is kept.
+        self.book.keep(select, answer, end)?;
+        Ok(())
+    }
+
+    /// Whether no answer is ever kept.
+    pub fn keeps_none(&self) -> bool
+        ensures { result ≡ true → (e : Cached) → after_keep e self.now.cache ≡ self.now.cache }
+    {
+        self.book.keeps_none()
+    }
+
+    /// Hits and misses of the cache.
+    pub fn cache_counts(&self) -> (u64, u64)
+        ensures { result ≡ (self.now.cache.hits, self.now.cache.misses) }
+    {
+        self.book.counts()
     }
 }

@@ -3,4 +3,4 @@
 
 mod usage;
 
-pub use usage::{needs, written};
+pub use usage::{lone, needs, written};

@@ -28,7 +28,8 @@ fn set_of(alloc: Global, names: &[Name]) -> Result<TableSet, NoMemory>
     Ok(set)
 }
 
-fn lone(alloc: Global, name: &Name) -> Result<TableSet, NoMemory>
+/// The set of one table.
+pub fn lone(alloc: Global, name: &Name) -> Result<TableSet, NoMemory>
     ensures { IfOk result (λ set. set ≡ put_by name_cmp [] name.now) }
 {
     let mut set = TableSet::new(alloc);

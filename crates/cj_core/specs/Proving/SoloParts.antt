@@ -7,9 +7,10 @@ use Rattle.cj_model.specs.declared.request.Request.{Request}
 use Rattle.cj_model.specs.declared.request.Entry.{Entry}
 use Rattle.cj_model.specs.declared.answer.Refusal.{Refusal}
 use Rattle.cj_model.specs.declared.select.Select.{Select}
+use Rattle.cj_model.specs.declared.answer.Answer.{Answer}
 use Rattle.cj_model.specs.declared.answer.Asked.{Asked}
 use Rattle.cj_model.specs.declared.answer.Reply.{Reply}
-use Rattle.cj_model.specs.declared.answer.Reply.TheVariants.{Refused}
+use Rattle.cj_model.specs.declared.answer.Reply.TheVariants.{Refused, Rows}
 use Rattle.cj_model.specs.declared.codes.TheConstants.{HISTORY_FULL, LOG_FAULT, NO_BACKEND, NO_MEMORY}
 use Rattle.cj_model.specs.Database.Inserts.{refusal_of_code}
 use Rattle.cj_model.specs.Database.Outcomes.{IsAsked}
@@ -24,11 +25,12 @@ use Rattle.cj_cluster.specs.Moves.Cores.{Core, position_at, session_at}
 use Rattle.cj_cluster.specs.Moves.Moves.{last_number, history_full, scheduled_as, first_lagging, with_request_counted, with_read, answered_at, was_answered, happened, ended_for}
 use Rattle.cj_cluster.specs.Proving.Invariants.{CoreInvariant}
 use Rattle.cj_state.specs.CalledLogins.{logins_of}
-use Rattle.cj_state.specs.Worlds.{WorldState, accounts_of, IsSameButLog}
+use Rattle.cj_state.specs.Worlds.{WorldState, accounts_of, with_cache, CacheFollowsLog, IsSameButLog}
 use Rattle.cj_state.specs.Faults.{faults_of, faults_after}
 use Rattle.cj_state.specs.Effects.{with_core, AnswersOpen, SchedulesAs}
 use Rattle.cj_moves.specs.Counting.{log_faults_after}
-use Rattle.cj_core.specs.Solos.{AreBackendsOf, AreCalledFor, faults_counted, mask_with}
+use Rattle.cj_model.specs.Cluster.Caching.{CacheState, answer_kept}
+use Rattle.cj_core.specs.Solos.{AreBackendsOf, AreCalledFor, faults_counted, mask_with, with_answer}
 
 -- the session's next request
 abbrev pub call_of : Core → ℕ → ℕ → List ℕ → Request → Reply → Call
@@ -45,7 +47,8 @@ SchedulesOrRefuses c e (Err r) =
 
 -- The entry of session s was scheduled, and stands in the log.
 pub record EntryScheduled (s : ℕ) (e : Entry) (old new : WorldState) : Type 0 where
-  pub after : IsSameButLog (with_core old (scheduled_as old.core s e)) new
+  pub after : IsSameButLog (with_cache (with_core old (scheduled_as old.core s e)) new.cache) new
+  pub cache : CacheFollowsLog old new
   pub log_faults : new.recovery_log.faults ≡ old.recovery_log.faults
 
 -- The entry was refused, and its request is not counted yet: where the log's store failed, the history has an event of it.
@@ -62,6 +65,7 @@ pub record EntryTaken (user : List ℕ) (old new : WorldState) : Type 0 where
   pub core : new.core ≡ record old.core { positions = new.core.positions; begun = new.core.begun; failed = new.core.failed; starved = new.core.starved }
   pub setup : new.setup ≡ old.setup
   pub recovery_log : new.recovery_log ≡ old.recovery_log
+  pub cache : new.cache ≡ old.cache
   pub failed : List ℕ
   pub backends : AreBackendsOf old failed
   pub mask : new.core.failed ≡ mask_with old.core.failed failed
@@ -115,3 +119,21 @@ pub record QueryFailed (s b : ℕ) (old new : WorldState) : Type 0 where
 abbrev pub AttemptsQuery : Bool → ℕ → ℕ → ℕ → Select → WorldState → Option Reply → WorldState → Type 0
 AttemptsQuery tells s b tx select old (Some reply) new = QueryAnswered tells s tx select old reply new ⊎ QueryUnnoted s b old reply new ⊎ QueryStarved s old reply new
 AttemptsQuery tells s b tx select old None new = QueryFailed s b old new
+
+-- ---- the result cache
+
+-- the cache behind a query that was answered so in transaction tx, at the log's end, of n entries
+abbrev pub cache_answered : ℕ → Select → ℕ → Reply → CacheState → CacheState
+cache_answered tx s n reply cache = if tx == 0 then with_answer s n reply cache else cache
+
+-- the same of one backend that was asked
+abbrev pub cache_attempted : ℕ → Select → ℕ → Option Reply → CacheState → CacheState
+cache_attempted tx s n (Some reply) cache = cache_answered tx s n reply cache
+cache_attempted tx s n None cache = cache
+
+-- The answer that is kept of a query was replied to session s, unless memory was wanting for it.
+pub record RepliesKept (s : ℕ) (select : Select) (old : WorldState) (reply : Reply) (new : WorldState) : Type 0 where
+  pub answer : Answer
+  pub kept : answer_kept select old.cache ≡ Some answer
+  pub came : ((reply ≡ Rows answer) × (new ≡ with_core old (with_read old.core s (λ x. answered_at (last_number old.core) (was_answered x)))))
+      ⊎ ((reply ≡ Refused (refusal_of_code NO_MEMORY)) × (new ≡ with_core old (with_request_counted old.core s)))

@@ -54,6 +54,7 @@ pub record OnlyReplays (old now : WorldState) : Type 0 where
   pub core : now.core ≡ record old.core { positions = now.core.positions; begun = now.core.begun }
   pub setup : now.setup ≡ old.setup
   pub recovery_log : now.recovery_log ≡ old.recovery_log
+  pub cache : now.cache ≡ old.cache
 
 -- the backend took the entry at its position, or failed in it
 pub record TookNext (old now : WorldState) (b : ℕ) : Type 0 where
@@ -91,6 +92,7 @@ pub record OnlyTakes (old now : WorldState) : Type 0 where
   pub core : now.core ≡ record old.core { positions = now.core.positions; begun = now.core.begun; failed = now.core.failed; starved = now.core.starved }
   pub setup : now.setup ≡ old.setup
   pub recovery_log : now.recovery_log ≡ old.recovery_log
+  pub cache : now.cache ≡ old.cache
 
 -- the backend stands as before, also in the mask of those that failed
 pub record IsUntouched (old now : WorldState) (b : ℕ) : Type 0 where
@@ -150,6 +152,7 @@ pub record IsSameCluster (old now : WorldState) : Type 0 where
   pub sessions : now.core.sessions ≡ old.core.sessions
   pub greatest : now.core.greatest ≡ old.core.greatest
   pub setup : now.setup ≡ old.setup
+  pub cache : now.cache ≡ old.cache
 
 -- the transaction was ended, by an entry that is over
 pub record TransactionEnded (tx : ℕ) (old now : WorldState) : Type 0 where

@@ -11,6 +11,8 @@ use Rattle.cj_cluster.specs.History.Answering.{HasServer}
 use Rattle.cj_cluster.specs.History.Transactions.{takes_part}
 use Rattle.cj_model.specs.Database.Outcomes.{IsOutcome}
 use Rattle.cj_cluster.specs.Moves.Cores.{position_at}
+use Rattle.cj_model.specs.Cluster.Caching.{CacheState}
+use Rattle.cj_freshness.specs.Freshness.{IsFreshCache}
 use Rattle.cj_state.specs.Worlds.{WorldState, IsWorld}
 
 -- `numbers` are those of the sessions that the book has open; `first_outcome` is what the open entry came to, from the first cell that did it
@@ -23,3 +25,7 @@ pub record Kept (tells : Bool) (w : WorldState) (numbers : List ℕ) (first_outc
   pub right : (o : Outcome) → first_outcome ≡ Some o → IsOutcome o × (tells ≡ true → outcome_of (log w.core.history) (ended_count w.core.history) ≡ Some o)
   -- it is there as soon as an enabled backend that hosts the table of the entry has taken it
   pub whole : (e : Entry) (b : ℕ) → entry_in_progress w.core.history ≡ Some e → takes_part w.core.placement b [] e.tx e.act ≡ true → is_enabled w.core.history b ≡ true → position_at w.core b ≡ Some (length (log w.core.history)) → IsSome first_outcome
+
+-- and its cache has fresh answers alone
+abbrev pub KeptFresh : Bool → WorldState → List ℕ → Option Outcome → CacheState → Type 0
+KeptFresh tells w numbers first_outcome cache = Kept tells w numbers first_outcome × IsFreshCache tells (log w.core.history) cache

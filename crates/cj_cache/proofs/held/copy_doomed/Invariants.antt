@@ -1,12 +1,9 @@
-use Rattle.std.proofs.Common.{◌≡◌, ◌++◌, filter, map}
-use Rattle.cj_model.specs.declared.cached.Cached.{Cached}
-use Rattle.cj_model.specs.Cluster.Caching.{needs_one_of}
-use Rattle.cj_cache.specs.Kept.{cached, entries_of_map}
+use Rattle.std.proofs.Common.{◌≡◌, [], drop, filter}
+use Rattle.indexmap.specs.IndexSet.{insert_all}
+use Rattle.cj_model.specs.Proving.SameStatements.{same_statement}
+use Rattle.cj_cache.specs.Kept.{entries_of_map}
+use Rattle.cj_cache.specs.Proving.ByTable.{all_listed, is_due}
 use Rattle.cj_cache.proofs.held.copy_doomed.Given as goal
 
-abbrev pub invariant-loop-select : goal.invariant-loop-select
-invariant-loop-select l = record {
-  can_next : (goal.iterator-loop-select).can_next l.select-iterator;
-  is_finite : (goal.iterator-loop-select).is_finite l.select-iterator;
-  all : l.found ++ map (λ (e : Cached). e.select) (filter (λ (e : Cached). needs_one_of l.set e.select) (map cached l.select-iterator)) ≡ map (λ (e : Cached). e.select) (filter (λ (e : Cached). needs_one_of l.set e.select) (entries_of_map l.held));
-}
+abbrev pub invariant-loop-table : goal.invariant-loop-table
+invariant-loop-table l = insert_all same_statement l.found.keys (filter (is_due l.set (entries_of_map l.held)) (all_listed l.by_table (drop l.table-index l.set))) ≡ insert_all same_statement [] (filter (is_due l.set (entries_of_map l.held)) (all_listed l.by_table l.set))

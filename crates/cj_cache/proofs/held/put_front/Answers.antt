@@ -1,13 +1,15 @@
-use Rattle.std.proofs.Common.{rules, ◌≡◌, ap, ◌∙◌}
-use Rattle.lru.specs.LruCache.{lru_cache, put_entries}
-use Rattle.cj_model.specs.Proving.SameStatements.{same_statement}
+use Rattle.std.proofs.Common.{rules}
 use Rattle.cj_cache.specs.Kept.{entries_of_map}
-use Rattle.cj_cache.proofs.Maps.{put_shown}
+use Rattle.cj_cache.specs.Proving.ByTable.{IsListed}
+use Rattle.cj_cache.proofs.ByTable.{put_listed}
 use Rattle.cj_cache.proofs.held.put_front.Goals as goal
 
-pub returns-clause-ok : goal.returns-clause-ok
-returns-clause-ok c =
-    let held = c.args.held.now in
-    let entry = c.args.entry in
-    let put : c.put.new.self ≡ lru_cache (put_entries same_statement held entry.select (record { answer = entry.answer; at = entry.at })) held.cap = search rules in
-    ap entries_of_map put ∙ put_shown held entry.select (record { answer = entry.answer; at = entry.at }) c.len-len.ensures.valid.1 c.len-len.ensures.valid.2
+pub unlist_unkept-requires-in-Ok-Some : goal.unlist_unkept-requires-in-Ok-Some
+unlist_unkept-requires-in-Ok-Some c =
+    let here : IsListed c.list.new.by_table c.args.entry = search rules in
+    put_listed c.args.by_table.now c.list.new.by_table c.args.entry c.args.held.now.cap (entries_of_map c.args.held.now) _ c.in-Ok-Some.ensures.ok here c.list.ensures.others c.requires
+
+pub returns-in-Ok-None-clause-listed : goal.returns-in-Ok-None-clause-listed
+returns-in-Ok-None-clause-listed c =
+    let here : IsListed c.list.new.by_table c.args.entry = search rules in
+    put_listed c.args.by_table.now c.list.new.by_table c.args.entry c.args.held.now.cap (entries_of_map c.args.held.now) _ c.in-Ok-None.ensures.ok here c.list.ensures.others c.requires

@@ -1,4 +1,4 @@
-use Rattle.std.proofs.Common.{◌≡◌, true, refl, ap, sym, ◌∙◌, subst, arith}
+use Rattle.std.proofs.Common.{◌≡◌, ℕ, ◌<◌, ◌^◌, true, length, Option, None, Some, refl, ap, sym, ◌∙◌, subst, arith}
 use Rattle.cj_model.specs.declared.request.Request.TheVariants as requests
 use Rattle.cj_model.specs.declared.answer.Refusal.{Refusal}
 use Rattle.cj_model.specs.declared.answer.Reply.TheVariants.{Refused}
@@ -8,10 +8,21 @@ use Rattle.cj_cluster.specs.Moves.Cores.{Core}
 use Rattle.cj_state.specs.Worlds.{WorldState}
 use Rattle.cj_core.specs.Solos.{StandsBetweenCalls}
 use Rattle.cj_core.proofs.SoloReads.{QuerySoFar, query_begins, query_goes_on, query_stands, serves_still, serving_is_backend, unserved, in_vain, attempted_turn, counted_turn}
+use Rattle.std.specs.Prelude.{is_some}
+use Rattle.cj_model.specs.declared.select.Select.{Select}
+use Rattle.cj_model.specs.Cluster.Caching.{after_look, answer_kept}
+use Rattle.cj_model.proofs.CachingLaws.{all_looked, kept_looked}
+use Rattle.cj_cluster.specs.History.Histories.{log}
+use Rattle.cj_freshness.specs.Freshness.{IsFreshAnswer, IsFreshCache}
+use Rattle.cj_state.specs.Worlds.{with_cache}
+use Rattle.cj_model.specs.declared.answer.Answer.{Answer}
+use Rattle.cj_core.specs.Solos.{AnswersLookUp, WorldTurn, with_answer}
+use Rattle.cj_core.specs.Proving.SoloParts.{cache_answered, call_of, RepliesKept}
+use Rattle.cj_core.proofs.SoloCache.{found_kept, kept_inside, kept_turn, none_found, none_serve, replied_from_cache, some_serve, turn_before_look}
 use Rattle.cj_core.proofs.solo_read.serve_read.Goals as goal
 
-pub returns-then-serving-eq0 : goal.returns-then-serving-eq0
-returns-then-serving-eq0 g c =
+pub returns-then-serving-eq0-clause-turn : goal.returns-then-serving-eq0-clause-turn
+returns-then-serving-eq0-clause-turn g c =
     let old : WorldState = c.args.state.now in
     let begins = query_begins c.args.s c.args.user.now old c.serving-serving.result c.legal.ensures.world.sound in
     counted_turn g.B.Backend.TELLS c.args.s c.args.tx c.args.user.now c.args.select.now old old c.serving-serving.result c.serving-serving.result c.legal.ensures.world.sound c.requires.tx c.serving-serving.ensures.mask begins
@@ -19,68 +30,81 @@ returns-then-serving-eq0 g c =
     (unserved g.B.Backend.TELLS c.args.s c.args.tx c.args.user.now c.args.select.now old old c.serving-serving.result c.serving-serving.result c.legal.ensures.world.sound c.requires.tx c.serving-serving.ensures.mask begins
     c.refuse.result c.if-serving-eq0.true (c.refuse.ensures.reply ∙ ap (λ (r : Refusal). Refused r) c.of_code.ensures))
 
-pub loop-b-init : goal.loop-b-init
-loop-b-init g c = record {
-  so_far = query_begins c.args.s c.args.user.now c.args.state.now c.serving-serving.result c.legal.ensures.world.sound;
-  below = c.serving-serving.ensures.below;
-}
-
-pub attempt-requires-clause-stands : goal.attempt-requires-clause-stands
-attempt-requires-clause-stands g c =
-    subst (λ (w : WorldState). StandsBetweenCalls w.core c.args.s) (sym c.pick.ensures.same)
-    (query_stands c.args.s c.args.user.now c.args.state.now c.loop-b.state c.serving-serving.result c.loop-b.left c.requires.stands c.loop-b.invariant.so_far)
-
-pub attempt-requires-clause-serves : goal.attempt-requires-clause-serves
-attempt-requires-clause-serves g c =
-    let so_far = c.loop-b.invariant.so_far in
-    let there : in_mask c.serving-serving.result c.in-Some.b ≡ true = so_far.within c.in-Some.b c.in-Some.ensures.some in
-    subst (λ (w : WorldState). CanServe w.core.placement w.core.history (requests.Select c.args.select.now) c.in-Some.b) (sym c.pick.ensures.same)
-    (subst (λ (p : Core). CanServe p.placement c.loop-b.state.core.history (requests.Select c.args.select.now) c.in-Some.b) (sym so_far.core)
-    (serves_still g.B.Backend.TELLS c.args.s c.args.tx c.args.user.now c.args.select.now c.args.state.now c.loop-b.state c.serving-serving.result c.loop-b.left c.legal.ensures.world.sound c.requires.tx
-    c.serving-serving.ensures.mask so_far c.in-Some.b ((c.serving-serving.ensures.mask c.in-Some.b).1 there)))
-
-pub returns-in-Some-attempt : goal.returns-in-Some-attempt
-returns-in-Some-attempt g c =
-    let old : WorldState = c.args.state.now in
-    let now : WorldState = c.pick.new.self in
-    let so_far : QuerySoFar c.args.s c.args.user.now old c.serving-serving.result c.loop-b.left now =
-    subst (QuerySoFar c.args.s c.args.user.now old c.serving-serving.result c.loop-b.left) (sym c.pick.ensures.same) c.loop-b.invariant.so_far
-    in
-    let there : in_mask c.serving-serving.result c.in-Some.b ≡ true = so_far.within c.in-Some.b c.in-Some.ensures.some in
-    attempted_turn g.B.Backend.TELLS c.args.s c.args.tx c.args.user.now c.args.select.now old now c.serving-serving.result c.loop-b.left c.legal.ensures.world.sound c.requires.tx c.serving-serving.ensures.mask so_far
-    (query_stands c.args.s c.args.user.now old now c.serving-serving.result c.loop-b.left c.requires.stands so_far) c.attempt.new.state c.attempt.ensures.setup c.attempt.ensures.recovery_log c.attempt.ensures.logins c.in-Some-attempt.reply c.in-Some.b
-    (serving_is_backend g.B.Backend.TELLS old c.args.select.now c.serving-serving.result c.in-Some.b c.legal.ensures.world c.serving-serving.ensures.mask there) there c.in-Some-attempt.ensures.came
-
-pub loop-b-preserved : goal.loop-b-preserved
-loop-b-preserved g c =
-    let old : WorldState = c.args.state.now in
-    let now : WorldState = c.pick.new.self in
-    let so_far : QuerySoFar c.args.s c.args.user.now old c.serving-serving.result c.loop-b.left now =
-    subst (QuerySoFar c.args.s c.args.user.now old c.serving-serving.result c.loop-b.left) (sym c.pick.ensures.same) c.loop-b.invariant.so_far
-    in
-    let less = c.without_bit-left.ensures.less in
-    let below = c.loop-b.invariant.below in
+pub returns-then-serving-eq0-clause-cache : goal.returns-then-serving-eq0-clause-cache
+returns-then-serving-eq0-clause-cache g c =
+    let same = ap (λ (w : WorldState). w.cache) c.refuse.ensures.counted in
     record {
-      so_far =
-          query_goes_on c.args.s c.args.user.now old now c.attempt.new.state c.serving-serving.result c.loop-b.left c.without_bit-left.result c.in-Some.b
-          (serving_is_backend g.B.Backend.TELLS old c.args.select.now c.serving-serving.result c.in-Some.b c.legal.ensures.world c.serving-serving.ensures.mask (so_far.within c.in-Some.b c.in-Some.ensures.some)) so_far c.in_default-attempt.ensures.came c.attempt.ensures.setup c.attempt.ensures.recovery_log
-          c.attempt.ensures.logins c.without_bit-left.ensures.bits c.in-Some.ensures.some;
-      below = omega (arith, less, below);
+      looked_up = λ outside served. absurd (none_serve c.args.state.now.core c.args.select.now c.serving-serving.result c.if-serving-eq0.true c.serving-serving.ensures.mask served);
+      inside = λ _. same;
+      unserved = λ _. same;
     }
 
-pub refuse-requires-2-clause-stands : goal.refuse-requires-2-clause-stands
-refuse-requires-2-clause-stands g c =
-    subst (λ (w : WorldState). StandsBetweenCalls w.core c.args.s) (sym c.pick.ensures.same)
-    (query_stands c.args.s c.args.user.now c.args.state.now c.loop-b.state c.serving-serving.result c.loop-b.left c.requires.stands c.loop-b.invariant.so_far)
+pub returns-then-tx-ne0-clause-cache : goal.returns-then-tx-ne0-clause-cache
+returns-then-tx-ne0-clause-cache g c =
+    let same = c.ask_in_turn.ensures.cache ∙ kept_inside c.args.tx c.args.select.now (length (log c.args.state.now.core.history)) c.ask_in_turn.result c.args.state.now.cache c.if-tx-ne0.true in
+    record {
+      looked_up = λ outside _. absurd (c.if-tx-ne0.true outside);
+      inside = λ _. same;
+      unserved = λ _. same;
+    }
 
-pub returns : goal.returns
-returns g c =
+pub reply_kept-requires-clause-kept : goal.reply_kept-requires-clause-kept
+reply_kept-requires-clause-kept g c =
     let old : WorldState = c.args.state.now in
-    let now : WorldState = c.pick.new.self in
-    let so_far : QuerySoFar c.args.s c.args.user.now old c.serving-serving.result c.loop-b.left now =
-    subst (QuerySoFar c.args.s c.args.user.now old c.serving-serving.result c.loop-b.left) (sym c.pick.ensures.same) c.loop-b.invariant.so_far
+    let s = c.args.select.now in
+    ap (λ (w : WorldState). is_some (answer_kept s w.cache)) c.look.ensures.looked ∙ (ap is_some (kept_looked s old.cache) ∙ (found_kept s old.cache ∙ (sym c.look.ensures.found ∙ c.if-look.true)))
+
+pub returns-then-look-clause-turn : goal.returns-then-look-clause-turn
+returns-then-look-clause-turn g c =
+    let old : WorldState = c.args.state.now in
+    let s : Select = c.args.select.now in
+    let mid : WorldState = c.look.new.self in
+    let outside : c.args.tx ≡ 0 = c.if-tx-ne0.false in
+    let is = c.look.ensures.looked in
+    let below = c.serving-serving.ensures.below in
+    let turn =
+    subst (λ (w : WorldState). (RepliesKept c.args.s s w c.reply_kept.result c.reply_kept.new.state) → WorldTurn g.B.Backend.TELLS c.args.s w (call_of w.core c.args.s c.args.tx c.args.user.now (requests.Select s) c.reply_kept.result) c.reply_kept.new.state) (sym is)
+    (kept_turn g.B.Backend.TELLS c.args.s c.args.tx c.args.user.now s (with_cache old (after_look s old.cache)) c.serving-serving.result c.legal.ensures.world.sound
+    (all_looked (IsFreshAnswer g.B.Backend.TELLS (log old.core.history)) s old.cache c.legal.ensures.fresh) outside c.serving-serving.ensures.mask c.if-serving-eq0.false (omega arith) c.requires.stands c.reply_kept.new.state c.reply_kept.result)
+    c.reply_kept.ensures
     in
-    counted_turn g.B.Backend.TELLS c.args.s c.args.tx c.args.user.now c.args.select.now old now c.serving-serving.result c.loop-b.left c.legal.ensures.world.sound c.requires.tx c.serving-serving.ensures.mask so_far
-    (query_stands c.args.s c.args.user.now old now c.serving-serving.result c.loop-b.left c.requires.stands so_far) c.refuse-2.new.state c.refuse-2.result c.refuse-2.ensures.counted
-    (in_vain g.B.Backend.TELLS c.args.s c.args.tx c.args.user.now c.args.select.now old now c.serving-serving.result c.loop-b.left c.legal.ensures.world.sound c.requires.tx c.serving-serving.ensures.mask so_far
-    c.refuse-2.result (c.in_default.ensures.none.0 refl) c.if-serving-eq0.false c.refuse-2.ensures.reply)
+    turn_before_look g.B.Backend.TELLS c.args.s old (after_look s old.cache) (call_of old.core c.args.s c.args.tx c.args.user.now (requests.Select s) c.reply_kept.result) c.reply_kept.new.state
+    (subst (λ (w : WorldState). WorldTurn g.B.Backend.TELLS c.args.s w (call_of w.core c.args.s c.args.tx c.args.user.now (requests.Select s) c.reply_kept.result) c.reply_kept.new.state) is turn)
+
+pub returns-then-look-clause-cache : goal.returns-then-look-clause-cache
+returns-then-look-clause-cache g c =
+    let old : WorldState = c.args.state.now in
+    let s : Select = c.args.select.now in
+    let is = c.look.ensures.looked in
+    let k = subst (λ (w : WorldState). RepliesKept c.args.s s w c.reply_kept.result c.reply_kept.new.state) is c.reply_kept.ensures in
+    let found : answer_kept s old.cache ≡ Some k.answer = sym (kept_looked s old.cache) ∙ k.kept in
+    record {
+      looked_up = λ _ _. subst (λ (o : Option Answer). AnswersLookUp s o old (call_of old.core c.args.s c.args.tx c.args.user.now (requests.Select s) c.reply_kept.result) c.reply_kept.new.state) (sym found) (replied_from_cache c.args.s s old (after_look s old.cache) c.reply_kept.result c.reply_kept.new.state (call_of old.core c.args.s c.args.tx c.args.user.now (requests.Select s) c.reply_kept.result) k refl refl);
+      inside = λ inside. absurd (inside c.if-tx-ne0.false);
+      unserved = λ none. absurd (some_serve old.core s c.serving-serving.result c.if-serving-eq0.false (omega arith) c.serving-serving.ensures.mask none);
+    }
+
+pub returns-clause-turn : goal.returns-clause-turn
+returns-clause-turn g c =
+    let old : WorldState = c.args.state.now in
+    let s : Select = c.args.select.now in
+    turn_before_look g.B.Backend.TELLS c.args.s old (after_look s old.cache) (call_of old.core c.args.s c.args.tx c.args.user.now (requests.Select s) c.ask_in_turn-2.result) c.ask_in_turn-2.new.state
+    (subst (λ (w : WorldState). WorldTurn g.B.Backend.TELLS c.args.s w (call_of w.core c.args.s c.args.tx c.args.user.now (requests.Select s) c.ask_in_turn-2.result) c.ask_in_turn-2.new.state) c.look.ensures.looked c.ask_in_turn-2.ensures.turn)
+
+pub returns-clause-cache : goal.returns-clause-cache
+returns-clause-cache g c =
+    let old : WorldState = c.args.state.now in
+    let s : Select = c.args.select.now in
+    let reply = c.ask_in_turn-2.result in
+    let outside : c.args.tx ≡ 0 = c.if-tx-ne0.false in
+    let none : answer_kept s old.cache ≡ None = none_found s old.cache (sym c.look.ensures.found ∙ c.if-look.false) in
+    let after : c.ask_in_turn-2.new.state.cache ≡ with_answer s (length (log old.core.history)) reply (after_look s old.cache) =
+    c.ask_in_turn-2.ensures.cache
+    ∙ (ap (λ (w : WorldState). cache_answered c.args.tx s (length (log w.core.history)) reply w.cache) c.look.ensures.looked
+    ∙ ap (λ t. cache_answered t s (length (log old.core.history)) reply (after_look s old.cache)) outside)
+    in
+    record {
+      looked_up = λ _ _. subst (λ (o : Option Answer). AnswersLookUp s o old (call_of old.core c.args.s c.args.tx c.args.user.now (requests.Select s) reply) c.ask_in_turn-2.new.state) (sym none) after;
+      inside = λ inside. absurd (inside outside);
+      unserved = λ unserved. absurd (some_serve old.core s c.serving-serving.result c.if-serving-eq0.false (omega arith) c.serving-serving.ensures.mask unserved);
+    }

@@ -3,9 +3,10 @@ use Rattle.cj_model.specs.declared.request.Entry.{Entry}
 use Rattle.cj_cluster.specs.Moves.Moves.{with_request_counted}
 use Rattle.cj_state.specs.Effects.{with_core}
 use Rattle.cj_state.specs.Worlds.{WorldState}
-use Rattle.cj_core.specs.Proving.SoloParts.{EntryEnded}
+use Rattle.cj_core.specs.Proving.SoloParts.{EntryEnded, open_user}
 use Rattle.cj_state.specs.Effects.{own_entry}
 use Rattle.cj_core.proofs.SoloWrites.{begun_running, begun_user, begun_waits, refused, stands_refused, wrote}
+use Rattle.cj_core.proofs.WriteCache.{ended_follows, refused_follows}
 use Rattle.cj_core.proofs.solo_write.serve_write.Goals as goal
 
 pub finish-requires-clause-open : goal.finish-requires-clause-open
@@ -36,3 +37,12 @@ returns-in-Err-clause-turn g c =
 pub refuse-requires-clause-stands : goal.refuse-requires-clause-stands
 refuse-requires-clause-stands g c =
     stands_refused c.args.s (own_entry c.args.state.now.core c.args.s c.args.tx c.args.user.now c.args.act) c.in-Err.refusal c.args.state.now c.schedule_for.new.state c.requires.stands c.in-Err.ensures.err
+
+pub returns-in-Ok-clause-cache : goal.returns-in-Ok-clause-cache
+returns-in-Ok-clause-cache g c =
+    ended_follows g.B.Backend.TELLS c.args.s (open_user c.schedule_for.new.state.core) c.args.state.now c.schedule_for.new.state c.finish.new.state c.finish.result c.in-Ok.ensures.ok.cache c.finish.ensures
+
+pub returns-in-Err-clause-cache : goal.returns-in-Err-clause-cache
+returns-in-Err-clause-cache g c =
+    let entry : Entry = own_entry c.args.state.now.core c.args.s c.args.tx c.args.user.now c.args.act in
+    refused_follows c.args.state.now c.schedule_for.new.state c.refuse.new.state c.args.s entry c.in-Err.refusal c.in-Err.ensures.err c.refuse.ensures.counted

@@ -13,6 +13,8 @@ use Rattle.cj_log.specs.declared.error.LogError.{LogError}
 use Rattle.cj_log.specs.Logs.{LeavesItems}
 use Rattle.cj_opening.specs.Openings.{entry_item, items_of}
 use Rattle.cj_opening.proofs.Kept.{marked_same}
+use Rattle.cj_freshness.specs.Freshness.{touches_behind, without_touched}
+use Rattle.cj_freshness.proofs.Fresh.{by_tables}
 use Rattle.cj_book.specs.declared.transactions.OpenTransaction.{OpenTransaction}
 use Rattle.cj_book.specs.Books.{BookState, placement_at, IsOfKnown}
 use Rattle.cj_book.specs.Lists.{session_number, sessions_after, transactions_after, transactions_followed, tx_number, without}
@@ -21,11 +23,14 @@ use Rattle.cj_book.proofs.Following.{follows_log_failed, follows_sched}
 use Rattle.cj_book.proofs.Keeping.{keeps_log_failed, keeps_room, keeps_sched}
 use Rattle.cj_book.proofs.Logged.{gate_shut, items_same, logged_sched, write_after}
 use Rattle.cj_book.proofs.TransactionSteps.{numbers_after, numbers_below}
-use Rattle.cj_book.proofs.Unasked.{gate_refuses, unasked, unchanged}
+use Rattle.cj_book.proofs.Unasked.{gate_refuses, unasked, unchanged, not_ok}
 use Rattle.cj_book.proofs.book.Book.schedule.Goals as goal
 
 pub returns-in_err-check_schedule-clause-any_moment : goal.returns-in_err-check_schedule-clause-any_moment
 returns-in_err-check_schedule-clause-any_moment g c = λ t. unchanged _ _ c.self.view_is g.S.Store.moment g.S.Store.since (c.legal.ensures.now t) _
+
+pub returns-in_err-doomed-clause-any_moment : goal.returns-in_err-doomed-clause-any_moment
+returns-in_err-doomed-clause-any_moment g c = λ t. unchanged _ _ c.self.view_is g.S.Store.moment g.S.Store.since (c.legal.ensures.now t) _
 
 pub returns-in_err-item-clause-any_moment : goal.returns-in_err-item-clause-any_moment
 returns-in_err-item-clause-any_moment g c = λ t. unchanged _ _ c.self.view_is g.S.Store.moment g.S.Store.since (c.legal.ensures.now t) _
@@ -53,6 +58,26 @@ returns-in_err-prepare-clause-any_moment g c = λ t. unasked _ _ c.self.view_is 
 
 pub returns-in_err-prepare-clause-refused : goal.returns-in_err-prepare-clause-refused
 returns-in_err-prepare-clause-refused g c = λ t. gate_refuses _ _ c.self.view_is (entry_item (length (log c.args.self.now.history) + 1) c.args.e) c.from_residual-in_err-prepare.result _ c.from_residual-in_err-prepare.ensures.1
+
+pub returns-in_err-prepare-clause-safe : goal.returns-in_err-prepare-clause-safe
+returns-in_err-prepare-clause-safe g c = λ t. not_ok c.from_residual-in_err-prepare.result _ _ c.from_residual-in_err-prepare.ensures.1
+
+pub invariant_of-self-in_err-room : goal.invariant_of-self-in_err-room
+invariant_of-self-in_err-room g c =
+    let k = c.self.invariant in
+    let h = c.self.inside.history.items in
+    let events : c.reserve-2.new.self.items ≡ h = c.reserve-2.ensures.items in
+    let room = c.reserve-2.ensures.capacity in
+    let as_long = ap length c.reserve-2.ensures.items in
+    let two = c.in_ok-reserve-2.ensures.ok in
+    let taken : length h + 2 ≤ vec_capacity c.reserve-2.new.self = omega (arith, as_long, two) in
+    record {
+      history = rw (events, c.reserve.ensures.items) (keeps_room _ _ _ _ _ _ _ k.history (vec_capacity c.reserve-2.new.self) c.self.inside.has_spare room (λ is. taken));
+      follows = rw events k.follows;
+      marked = rw events k.marked;
+      logged = rw events k.logged;
+      gate = rw events k.gate;
+    }
 
 pub prepare-requires : goal.prepare-requires
 prepare-requires g c =
@@ -160,7 +185,7 @@ invariant_of-self-2 g c =
     record {
       history = rw (events, places) (keeps_sched _ _ _ _ _ _ _ k.history e (vec_capacity c.push_reserved-3.new.self) idle space spare);
       follows = rw (events, sessions, transactions)
-          (follows_sched _ _ _ _ _ _ k.follows c.self.inside.recovery_log c.self.inside.balancer c.self.inside.has_spare e hosts c.self.inside.enabled fit known idle (omega arith) concerned k.history.mask);
+          (follows_sched _ _ _ _ _ _ k.follows c.self.inside.recovery_log c.self.inside.balancer c.self.inside.cache c.self.inside.has_spare e hosts c.self.inside.enabled fit known idle (omega arith) concerned k.history.mask);
       marked = rw events (marked_same h c.self.inside.marker_names (Sched e) refl k.marked);
       logged = rw events items;
       gate = gate_shut g.S.Store.TELLS c.append.new.self.torn c.push_reserved-3.new.self.items (λ t. c.in-Ok.ensures.refused t);
@@ -172,7 +197,12 @@ returns-clause-ok g c =
     let events : c.push_reserved-3.new.self.items ≡ h ++ Sched c.args.e ∷ [] = c.push_reserved-3.ensures.items ∙ (ap (λ (xs : List Event). xs ++ Sched c.filled.result ∷ []) c.reserve-2.ensures.items ∙ ap (λ (x : Entry). h ++ Sched x ∷ []) c.filled.ensures) in
     let numbers : map session_number c.follow-2.new.self ≡ map session_number c.self.inside.sessions =
     ap (map session_number) c.follow-2.ensures ∙ numbers_after (log h) c.args.e c.self.inside.sessions (c.length-number.result + 1) in
-    rw (← c.self.view_is, events, numbers) refl
+    let is = c.in_ok-doomed.ensures in
+    let touched : c.drop_tables.new.self ≡ without_touched (log h) c.args.e c.self.inside.cache =
+    c.drop_tables.ensures ∙ by_tables (log h) c.args.e c.in_ok-doomed.doomed.tables c.self.inside.cache
+    (λ table. is.tables table ∙ ap (λ (b : BookState g.row.S.Denot). touches_behind (log b.history) c.args.e.tx c.args.e.act table) (sym c.self.view_is))
+    in
+    rw (← c.self.view_is, events, numbers, touched) refl
 
 pub returns-clause-number : goal.returns-clause-number
 returns-clause-number g c =

@@ -8,10 +8,10 @@ use Rattle.cj_opening.specs.Openings.{OpensTo, items_of}
 use Rattle.cj_place.specs.Layouts.{Layout, placement_of}
 use Rattle.cj_replica.specs.Cells.{CellState}
 use Rattle.cj_state.specs.Beginnings.{AreEmpty, opened_core}
-use Rattle.cj_state.specs.Worlds.{WorldState}
+use Rattle.cj_state.specs.Worlds.{LogView, WorldState}
 use Rattle.cj_core.specs.Starts.{backend_of, state_by, LosesNothing}
 use Rattle.cj_core.proofs.Starting.{told_of_backends}
-use Rattle.cj_core.proofs.StartLonger.{loses_nothing, refused_again, refused_part, started_well}
+use Rattle.cj_core.proofs.StartLonger.{fault_of_start, loses_nothing, refused_again, refused_part, started_well}
 use Rattle.cj_core.proofs.StartWhole.{starts_from}
 use Rattle.cj_core.proofs.world.World.start.Goals as goal
 
@@ -54,3 +54,6 @@ returns-in-Err-clause-bytes g c = λ t.
     let longer = subst (λ (h : List Event). IsPrefix h now.core.history) same c.bring_up-brought.ensures.longer in
     let nothing = loses_nothing old now.recovery_log.bytes (items_of book.history) book.history now.core.history (c.in_ok-book.ensures.bytes t).0 opened.opens longer (c.legal.ensures.logged t) in
     refused_part Unit WorldState held old c.in-Err.error _ _ _ c.in-Err.ensures.cause (subst (λ (bytes : List ℕ). LosesNothing old bytes) (sym c.into_log.ensures.bytes) nothing)
+
+pub returns-in-Err-clause-cause : goal.returns-in-Err-clause-cause
+returns-in-Err-clause-cause g c = fault_of_start Unit g.S.Store.faults _ c.in-Err.error _ _ _ (ap (λ (l : LogView). l.faults) c.new-state.ensures.recovery_log ∙ c.in_ok-book.ensures.cause) c.into_log.ensures.faults c.in-Err.ensures.cause

@@ -18,25 +18,25 @@ within n b cells is lt = subst (λ (m : ℕ). b < m) (sym is ∙ length-map cell
 pub invariant_of-self : goal.invariant_of-self
 invariant_of-self g c =
     let w = c.self.inside in
-    let lt = within (length w.book.layout.names) c.args.b w.cells.items c.self.invariant.world.sound.cells (subst (λ (x : WorldState). c.args.b < x.core.placement.backends) (sym c.self.view_is) c.requires) in
+    let lt = within (length w.book.layout.names) c.args.b w.cells.items c.self.invariant.0.world.sound.cells (subst (λ (x : WorldState). c.args.b < x.core.placement.backends) (sym c.self.view_is) c.requires) in
     let x : CellState = c.index_mut.result.now in
     let y : CellState = c.arm.new.self in
     let same : y ≡ record x { login = y.login; faults = y.faults; asks = y.asks; arming = y.arming } = subst (λ (z : CellState). z ≡ record x { login = z.login; faults = z.faults; asks = z.asks; arming = z.arming }) (sym c.arm.ensures) refl in
-    kept_asked g.B.Backend.TELLS w.accounts w.book.layout w.book.history w.cells.items w.failed w.starved w.sessions w.book.greatest w.book.sessions w.first_outcome c.self.invariant c.args.b lt x c.index_mut.ensures.value y same
+    (kept_asked g.B.Backend.TELLS w.accounts w.book.layout w.book.history w.cells.items w.failed w.starved w.sessions w.book.greatest w.book.sessions w.first_outcome c.self.invariant.0 c.args.b lt x c.index_mut.ensures.value y same, c.self.invariant.1)
 
 pub returns-clause-core : goal.returns-clause-core
 returns-clause-core g c =
     let w = c.self.inside in
-    let lt = within (length w.book.layout.names) c.args.b w.cells.items c.self.invariant.world.sound.cells (subst (λ (x : WorldState). c.args.b < x.core.placement.backends) (sym c.self.view_is) c.requires) in
+    let lt = within (length w.book.layout.names) c.args.b w.cells.items c.self.invariant.0.world.sound.cells (subst (λ (x : WorldState). c.args.b < x.core.placement.backends) (sym c.self.view_is) c.requires) in
     let x : CellState = c.index_mut.result.now in
     let y : CellState = c.arm.new.self in
     let same : y ≡ record x { login = y.login; faults = y.faults; asks = y.asks; arming = y.arming } = subst (λ (z : CellState). z ≡ record x { login = z.login; faults = z.faults; asks = z.asks; arming = z.arming }) (sym c.arm.ensures) refl in
-    same_core g.B.Backend.TELLS w.accounts w.book.layout w.book.history w.cells.items w.failed w.starved w.sessions w.book.greatest w.book.sessions w.first_outcome c.self.invariant c.args.b lt x c.index_mut.ensures.value y same ∙ ap (λ (z : WorldState). z.core) c.self.view_is
+    same_core g.B.Backend.TELLS w.accounts w.book.layout w.book.history w.cells.items w.failed w.starved w.sessions w.book.greatest w.book.sessions w.first_outcome c.self.invariant.0 c.args.b lt x c.index_mut.ensures.value y same ∙ ap (λ (z : WorldState). z.core) c.self.view_is
 
 pub returns-clause-cells : goal.returns-clause-cells
 returns-clause-cells g c d =
     let w = c.self.inside in
-    let lt = within (length w.book.layout.names) c.args.b w.cells.items c.self.invariant.world.sound.cells (subst (λ (x : WorldState). c.args.b < x.core.placement.backends) (sym c.self.view_is) c.requires) in
+    let lt = within (length w.book.layout.names) c.args.b w.cells.items c.self.invariant.0.world.sound.cells (subst (λ (x : WorldState). c.args.b < x.core.placement.backends) (sym c.self.view_is) c.requires) in
     let x : CellState = c.index_mut.result.now in
     let y : CellState = c.arm.new.self in
     let there : x ≡ get_or w.cells.items c.args.b d = c.index_mut.ensures.value ∙ get_or_default w.cells.items c.args.b x d lt in
@@ -46,7 +46,7 @@ returns-clause-cells g c d =
 pub returns-clause-faults : goal.returns-clause-faults
 returns-clause-faults g c =
     let w = c.self.inside in
-    let lt = within (length w.book.layout.names) c.args.b w.cells.items c.self.invariant.world.sound.cells (subst (λ (x : WorldState). c.args.b < x.core.placement.backends) (sym c.self.view_is) c.requires) in
+    let lt = within (length w.book.layout.names) c.args.b w.cells.items c.self.invariant.0.world.sound.cells (subst (λ (x : WorldState). c.args.b < x.core.placement.backends) (sym c.self.view_is) c.requires) in
     let x : CellState = c.index_mut.result.now in
     let y : CellState = c.arm.new.self in
     let there : x ≡ get_or w.cells.items c.args.b y = c.index_mut.ensures.value ∙ get_or_default w.cells.items c.args.b x y lt in
@@ -57,7 +57,7 @@ pub returns-clause-armings : goal.returns-clause-armings
 returns-clause-armings g c =
     let can = g.B.Backend.can_be_armed in
     let w = c.self.inside in
-    let lt = within (length w.book.layout.names) c.args.b w.cells.items c.self.invariant.world.sound.cells (subst (λ (x : WorldState). c.args.b < x.core.placement.backends) (sym c.self.view_is) c.requires) in
+    let lt = within (length w.book.layout.names) c.args.b w.cells.items c.self.invariant.0.world.sound.cells (subst (λ (x : WorldState). c.args.b < x.core.placement.backends) (sym c.self.view_is) c.requires) in
     let x : CellState = c.index_mut.result.now in
     let y : CellState = c.arm.new.self in
     let there : x ≡ get_or w.cells.items c.args.b y = c.index_mut.ensures.value ∙ get_or_default w.cells.items c.args.b x y lt in
@@ -68,7 +68,7 @@ returns-clause-armings g c =
 pub returns-clause-logins : goal.returns-clause-logins
 returns-clause-logins g c =
     let w = c.self.inside in
-    let lt = within (length w.book.layout.names) c.args.b w.cells.items c.self.invariant.world.sound.cells (subst (λ (x : WorldState). c.args.b < x.core.placement.backends) (sym c.self.view_is) c.requires) in
+    let lt = within (length w.book.layout.names) c.args.b w.cells.items c.self.invariant.0.world.sound.cells (subst (λ (x : WorldState). c.args.b < x.core.placement.backends) (sym c.self.view_is) c.requires) in
     let x : CellState = c.index_mut.result.now in
     let y : CellState = c.arm.new.self in
     let there : x ≡ get_or w.cells.items c.args.b y = c.index_mut.ensures.value ∙ get_or_default w.cells.items c.args.b x y lt in

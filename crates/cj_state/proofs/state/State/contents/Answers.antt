@@ -2,7 +2,7 @@ use Rattle.std.proofs.Common.{◌≡◌, ◌<◌, ℕ, true, false, cond, Option
 use Rattle.std.proofs.lemmas.List.{length-map, get_or_default, set-get_or}
 use Rattle.cj_outside.specs.Causes.{next}
 use Rattle.cj_replica.specs.Cells.{CellState}
-use Rattle.cj_state.specs.Worlds.{WorldState, log_view, with_log, world_of}
+use Rattle.cj_state.specs.Worlds.{WorldState, log_view, with_cache, with_log, world_of}
 use Rattle.cj_state.specs.Faults.{faults_of, faults_after}
 use Rattle.cj_state.specs.CalledLogins.{logins_of}
 use Rattle.cj_state.specs.ArmedCells.{armings_of}
@@ -25,24 +25,24 @@ same_login x y is = ap (λ (z : CellState). z.login) is
 pub invariant_of-self : goal.invariant_of-self
 invariant_of-self g c =
     let w = c.self.inside in
-    let lt = within (length w.book.layout.names) c.args.b w.cells.items c.self.invariant.world.sound.cells (subst (λ (x : WorldState). c.args.b < x.core.placement.backends) (sym c.self.view_is) c.requires) in
+    let lt = within (length w.book.layout.names) c.args.b w.cells.items c.self.invariant.0.world.sound.cells (subst (λ (x : WorldState). c.args.b < x.core.placement.backends) (sym c.self.view_is) c.requires) in
     let x : CellState = c.index_mut.result.now in
     let y : CellState = c.contents.new.self in
-    kept_asked g.B.Backend.TELLS w.accounts w.book.layout w.book.history w.cells.items w.failed w.starved w.sessions w.book.greatest w.book.sessions w.first_outcome c.self.invariant c.args.b lt x c.index_mut.ensures.value y (asked_alike x y c.contents.ensures.same)
+    (kept_asked g.B.Backend.TELLS w.accounts w.book.layout w.book.history w.cells.items w.failed w.starved w.sessions w.book.greatest w.book.sessions w.first_outcome c.self.invariant.0 c.args.b lt x c.index_mut.ensures.value y (asked_alike x y c.contents.ensures.same), c.self.invariant.1)
 
 pub returns-clause-core : goal.returns-clause-core
 returns-clause-core g c =
     let w = c.self.inside in
-    let lt = within (length w.book.layout.names) c.args.b w.cells.items c.self.invariant.world.sound.cells (subst (λ (x : WorldState). c.args.b < x.core.placement.backends) (sym c.self.view_is) c.requires) in
+    let lt = within (length w.book.layout.names) c.args.b w.cells.items c.self.invariant.0.world.sound.cells (subst (λ (x : WorldState). c.args.b < x.core.placement.backends) (sym c.self.view_is) c.requires) in
     let x : CellState = c.index_mut.result.now in
     let y : CellState = c.contents.new.self in
-    same_core g.B.Backend.TELLS w.accounts w.book.layout w.book.history w.cells.items w.failed w.starved w.sessions w.book.greatest w.book.sessions w.first_outcome c.self.invariant c.args.b lt x c.index_mut.ensures.value y (asked_alike x y c.contents.ensures.same)
+    same_core g.B.Backend.TELLS w.accounts w.book.layout w.book.history w.cells.items w.failed w.starved w.sessions w.book.greatest w.book.sessions w.first_outcome c.self.invariant.0 c.args.b lt x c.index_mut.ensures.value y (asked_alike x y c.contents.ensures.same)
     ∙ ap (λ (z : WorldState). z.core) c.self.view_is
 
 pub returns-clause-faults : goal.returns-clause-faults
 returns-clause-faults g c =
     let w = c.self.inside in
-    let lt = within (length w.book.layout.names) c.args.b w.cells.items c.self.invariant.world.sound.cells (subst (λ (x : WorldState). c.args.b < x.core.placement.backends) (sym c.self.view_is) c.requires) in
+    let lt = within (length w.book.layout.names) c.args.b w.cells.items c.self.invariant.0.world.sound.cells (subst (λ (x : WorldState). c.args.b < x.core.placement.backends) (sym c.self.view_is) c.requires) in
     let x : CellState = c.index_mut.result.now in
     let y : CellState = c.contents.new.self in
     let is : get_or w.cells.items c.args.b y ≡ x = get_or_default w.cells.items c.args.b y x lt ∙ sym c.index_mut.ensures.value in
@@ -55,7 +55,7 @@ returns-clause-faults g c =
 pub returns-clause-armings : goal.returns-clause-armings
 returns-clause-armings g c =
     let w = c.self.inside in
-    let lt = within (length w.book.layout.names) c.args.b w.cells.items c.self.invariant.world.sound.cells (subst (λ (x : WorldState). c.args.b < x.core.placement.backends) (sym c.self.view_is) c.requires) in
+    let lt = within (length w.book.layout.names) c.args.b w.cells.items c.self.invariant.0.world.sound.cells (subst (λ (x : WorldState). c.args.b < x.core.placement.backends) (sym c.self.view_is) c.requires) in
     let x : CellState = c.index_mut.result.now in
     let y : CellState = c.contents.new.self in
     let is : get_or w.cells.items c.args.b y ≡ x = get_or_default w.cells.items c.args.b y x lt ∙ sym c.index_mut.ensures.value in
@@ -65,7 +65,7 @@ returns-clause-armings g c =
 pub returns-clause-logins : goal.returns-clause-logins
 returns-clause-logins g c =
     let w = c.self.inside in
-    let lt = within (length w.book.layout.names) c.args.b w.cells.items c.self.invariant.world.sound.cells (subst (λ (x : WorldState). c.args.b < x.core.placement.backends) (sym c.self.view_is) c.requires) in
+    let lt = within (length w.book.layout.names) c.args.b w.cells.items c.self.invariant.0.world.sound.cells (subst (λ (x : WorldState). c.args.b < x.core.placement.backends) (sym c.self.view_is) c.requires) in
     let x : CellState = c.index_mut.result.now in
     let y : CellState = c.contents.new.self in
     let is : get_or w.cells.items c.args.b y ≡ x = get_or_default w.cells.items c.args.b y x lt ∙ sym c.index_mut.ensures.value in
@@ -79,4 +79,4 @@ returns-clause-same g c none =
     let y : CellState = c.contents.new.self in
     let cell : y ≡ x = contents_same c.args.b c.contents.result x y none c.contents.ensures.cause c.contents.ensures.arming c.contents.ensures.same in
     let cells : set w.cells.items c.args.b y ≡ w.cells.items = ap (set w.cells.items c.args.b) (cell ∙ c.index_mut.ensures.value) ∙ set-get_or w.cells.items c.args.b x in
-    ap (λ (xs : List CellState). with_log (world_of w.accounts w.book.layout w.book.history xs w.failed w.starved w.sessions w.book.greatest) (log_view g.S.Store.faults g.S.Store.held w.book.recovery_log)) cells ∙ c.self.view_is
+    ap (λ (xs : List CellState). with_cache (with_log (world_of w.accounts w.book.layout w.book.history xs w.failed w.starved w.sessions w.book.greatest) (log_view g.S.Store.faults g.S.Store.held w.book.recovery_log)) w.book.cache) cells ∙ c.self.view_is

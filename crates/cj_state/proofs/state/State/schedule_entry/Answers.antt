@@ -1,5 +1,5 @@
-use Rattle.std.proofs.Common.{◌≡◌, ◌+◌, ◌≤◌, ℕ, arith, inl, Ok, Err, None, true, ap, sym, ◌∙◌, subst}
-use Rattle.cj_cluster.specs.declared.event.Event.TheVariants.{LogFailed}
+use Rattle.std.proofs.Common.{◌≡◌, ◌+◌, ◌≤◌, ℕ, arith, inl, Ok, Err, None, true, ap, sym, ◌∙◌, subst, refl, ◌++◌, ◌∷◌, []}
+use Rattle.cj_cluster.specs.declared.event.Event.TheVariants.{LogFailed, Sched}
 use Rattle.cj_cluster.specs.History.Histories.{events_left, log}
 use Rattle.cj_cluster.specs.History.Legality.{IsFitEntry}
 use Rattle.cj_cluster.specs.Moves.Cores.{Core, session_at}
@@ -8,18 +8,20 @@ use Rattle.cj_book.specs.Books.{BookState, has_session}
 use Rattle.cj_state.specs.Worlds.{WorldState, core_of, world_of}
 use Rattle.cj_state.specs.Effects.{SchedulesAs}
 use Rattle.cj_cluster.proofs.Soundness.{session_sound}
-use Rattle.cj_state.specs.Proving.Kept.{Kept}
+use Rattle.cj_state.specs.Proving.Kept.{KeptFresh}
 use Rattle.cj_state.proofs.Keeping.{kept_scheduled}
 use Rattle.cj_state.proofs.KeepingEvents.{kept_log_failed}
 use Rattle.cj_state.proofs.OpenNumbers.{open_is}
 use Rattle.cj_state.proofs.Noting.{refused, scheduled_as, not_scheduled}
+use Rattle.cj_state.proofs.Fresh.{follows_entry, follows_event, fresh_entry, fresh_event}
+use Rattle.cj_freshness.specs.Freshness.{FollowsLog, without_touched}
 use Rattle.cj_state.proofs.state.State.schedule_entry.Goals as goal
 
 pub schedule-requires-clause-known : goal.schedule-requires-clause-known
 schedule-requires-clause-known g c =
     let w = c.self.inside in
     let here = subst (λ (x : WorldState). is_open x.core c.args.s ≡ true) (sym c.self.view_is) c.requires.here in
-    inl (ap (has_session w.book) c.requires.session ∙ (open_is w.book w.cells.items w.failed w.starved w.sessions c.self.invariant.numbers_are c.args.s ∙ here))
+    inl (ap (has_session w.book) c.requires.session ∙ (open_is w.book w.cells.items w.failed w.starved w.sessions c.self.invariant.0.numbers_are c.args.s ∙ here))
 
 pub invariant_of-self : goal.invariant_of-self
 invariant_of-self g c =
@@ -29,9 +31,11 @@ invariant_of-self g c =
     let fits = subst (λ (x : WorldState). IsFitEntry (log x.core.history) c.args.entry) (sym c.self.view_is) c.requires.fits in
     let no_read = subst (λ (x : WorldState). (session_at x.core c.args.s).reading ≡ None) (sym c.self.view_is) c.requires.no_read in
     let ready = c.in-Ok.ensures.ready in
-    rw (c.in-Ok.ensures.ok, c.count.ensures)
-    (kept_scheduled g.B.Backend.TELLS w.accounts w.book.layout w.book.history w.cells.items w.failed w.starved w.sessions w.book.greatest w.book.sessions w.first_outcome c.self.invariant c.args.s c.args.entry here c.requires.session number ready.is_free fits
-    ready.space no_read ready.served)
+    rw (c.in-Ok.ensures.ok, c.count.ensures) (
+      kept_scheduled g.B.Backend.TELLS w.accounts w.book.layout w.book.history w.cells.items w.failed w.starved w.sessions w.book.greatest w.book.sessions w.first_outcome c.self.invariant.0 c.args.s c.args.entry here c.requires.session number ready.is_free fits
+          ready.space no_read ready.served,
+      fresh_entry w.book.history w.book.cache g.B.Backend.TELLS c.args.entry c.self.invariant.1,
+    )
 
 pub returns-in-Ok-clause-scheduled : goal.returns-in-Ok-clause-scheduled
 returns-in-Ok-clause-scheduled g c =
@@ -53,16 +57,34 @@ invariant_of-self-in-Err g c =
     let here = subst (λ (x : WorldState). is_open x.core c.args.s ≡ true) (sym c.self.view_is) c.requires.here in
     let no_read = subst (λ (x : WorldState). (session_at x.core c.args.s).reading ≡ None) (sym c.self.view_is) c.requires.no_read in
     let core : Core = core_of w.book.layout w.book.history w.cells.items w.failed w.starved w.sessions w.book.greatest in
-    let sound = session_sound core c.args.s c.self.invariant.world.sound here in
+    let sound = session_sound core c.args.s c.self.invariant.0.world.sound here in
     let high : (session_at core c.args.s).number ≤ w.book.greatest = sound.0.number.1 in
     let own : (session_at core c.args.s).number ≡ c.args.s = sound.1 in
     let session : e.session ≡ c.args.s = c.requires.session in
     refused c.schedule.result c.in-Err.error c.in-Err.is w.book c.schedule.new.self (LogFailed e.session e.seq)
-    (λ (b : BookState g.row.S.Denot). Kept g.B.Backend.TELLS (world_of w.accounts b.layout b.history w.cells.items w.failed w.starved w.sessions b.greatest) b.sessions w.first_outcome)
+    (λ (b : BookState g.row.S.Denot). KeptFresh g.B.Backend.TELLS (world_of w.accounts b.layout b.history w.cells.items w.failed w.starved w.sessions b.greatest) b.sessions w.first_outcome b.cache)
     c.schedule.ensures.log_fault c.schedule.ensures.same
     (λ fault.
     let can = c.schedule.ensures.faulted fault in
-    let space : 3 ≤ events_left w.book.history = can.space in
-    kept_log_failed g.B.Backend.TELLS w.accounts w.book.layout w.book.history w.cells.items w.failed w.starved w.sessions w.book.greatest w.book.sessions w.first_outcome c.self.invariant e.session e.seq can.is_free (omega arith) (omega arith)
-    (λ some. subst (λ (k : ℕ). (session_at core k).reading ≡ None) (sym session) no_read))
+    let space : 3 ≤ events_left w.book.history = can.space in (
+      kept_log_failed g.B.Backend.TELLS w.accounts w.book.layout w.book.history w.cells.items w.failed w.starved w.sessions w.book.greatest w.book.sessions w.first_outcome c.self.invariant.0 e.session e.seq can.is_free (omega arith) (omega arith)
+          (λ some. subst (λ (k : ℕ). (session_at core k).reading ≡ None) (sym session) no_read),
+      fresh_event w.book.history w.book.cache g.B.Backend.TELLS (LogFailed e.session e.seq) refl c.self.invariant.1,
+    ))
     c.self.invariant
+
+pub returns-in-Ok-clause-cache : goal.returns-in-Ok-clause-cache
+returns-in-Ok-clause-cache g c =
+    let w = c.self.inside in
+    let e = c.args.entry in
+    rw c.in-Ok.ensures.ok
+    (subst (λ (x : WorldState). FollowsLog (log x.core.history) (log (w.book.history ++ Sched e ∷ [])) x.cache (without_touched (log w.book.history) e w.book.cache)) c.self.view_is (follows_entry w.book.history w.book.cache e))
+
+pub returns-in-Err-clause-cache : goal.returns-in-Err-clause-cache
+returns-in-Err-clause-cache g c =
+    let w = c.self.inside in
+    let e = c.args.entry in
+    subst (λ (x : WorldState). FollowsLog (log x.core.history) (log c.schedule.new.self.history) x.cache c.schedule.new.self.cache) c.self.view_is
+    (refused c.schedule.result c.in-Err.error c.in-Err.is w.book c.schedule.new.self (LogFailed e.session e.seq)
+    (λ (b : BookState g.row.S.Denot). FollowsLog (log w.book.history) (log b.history) w.book.cache b.cache) c.schedule.ensures.log_fault c.schedule.ensures.same
+    (λ _. follows_event w.book.history w.book.cache (LogFailed e.session e.seq) refl) (inl (refl, refl)))

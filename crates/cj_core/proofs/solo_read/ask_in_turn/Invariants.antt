@@ -1,13 +1,14 @@
-use Rattle.std.proofs.Common.{◌<◌, ◌^◌}
+use Rattle.std.proofs.Common.{◌≡◌, ◌<◌, ◌^◌}
 use Rattle.cj_model.specs.declared.limits.TheConstants.{BACKEND_LIMIT}
 use Rattle.cj_core.proofs.SoloReads.{QuerySoFar}
-use Rattle.cj_core.proofs.solo_read.serve_read.Given as goal
+use Rattle.cj_core.proofs.solo_read.ask_in_turn.Given as goal
 
 abbrev pub invariant-loop-b : goal.invariant-loop-b
 invariant-loop-b g l =
     record {
-      so_far : QuerySoFar l.fn.s l.fn.user l.fn.state l.serving l.left l.state;
+      so_far : QuerySoFar l.fn.s l.fn.user l.fn.state l.fn.serving l.left l.state;
       below : l.left < 2 ^ BACKEND_LIMIT;
+      cache : l.state.cache ≡ l.fn.state.cache;
     }
 
 abbrev pub decreases-loop-b : goal.decreases-loop-b

@@ -1,0 +1,6 @@
+use Rattle.cj_cluster.specs.History.Histories.{log}
+use Rattle.cj_freshness.specs.Freshness.{NoneTouches}
+use Rattle.cj_book.proofs.touching.is_touched_behind.Given as goal
+
+abbrev pub invariant-loop-n : goal.invariant-loop-n
+invariant-loop-n g l = NoneTouches (log l.book.history) l.at l.n l.select

@@ -1,0 +1,50 @@
+-- Statements by their tables: each change leaves the kept ones listed.
+use Rattle.std.proofs.Common.{◌≡◌, ℕ, true, false, cond, List, [], ◌∷◌, take, map, sym, subst, ap, ◌∙◌, ⊎_elim}
+use Rattle.std.specs.Prelude.{All, ⊤, Some, is_some}
+use Rattle.std.specs.Map.{remove_entry}
+use Rattle.std.proofs.lemmas.Bool.{both_ways, cases_Bool}
+use Rattle.std.proofs.lemmas.List.Elements.{All-cons, All-head, All-nil, All-tail, All-weaker}
+use Rattle.std.proofs.lemmas.Map.Views.{All-map-remove_entry}
+use Rattle.cj_model.specs.declared.cached.Cached.{Cached}
+use Rattle.cj_model.specs.declared.select.Select.{Select}
+use Rattle.cj_model.specs.Cluster.Caching.{brought_to_front, cached_entry, is_entry_for, without}
+use Rattle.cj_model.specs.Proving.SameStatements.{same_statement}
+use Rattle.cj_model.proofs.CachingLaws.{all_looked, all_put}
+use Rattle.cj_cache.specs.declared.held.Held.{Held}
+use Rattle.cj_cache.specs.Kept.{cached}
+use Rattle.cj_cache.specs.Proving.ByTable.{AreListed, ByTable, IsListed, StillLists}
+
+module _ {S T : Type 0} where
+  pub none_listed : (m : ByTable S T) → AreListed m []
+  unfolding AreListed
+  none_listed m = All-nil (IsListed m)
+
+  -- more is listed
+  pub still_listed : (m n : ByTable S T) (entries : List Cached) → StillLists (λ _. ⊤) m n → AreListed m entries → AreListed n entries
+  unfolding AreListed
+  still_listed m n entries still = All-weaker (IsListed m) (IsListed n) (λ e all k d lt. still _ e.select tt (all k d lt)) entries
+
+  -- a statement that isn't kept goes
+  pub others_listed : (m n : ByTable S T) (s : Select) (entries : List Cached) → is_some (cached_entry s entries) ≡ false → StillLists (λ t. same_statement s t ≡ false) m n → AreListed m entries → AreListed n entries
+  unfolding AreListed
+  others_listed m n s [] none still all = All-nil (IsListed n)
+  others_listed m n s (e ∷ entries) none still all = ⊎_elim
+      (λ (same : is_entry_for s e ≡ true). absurd (both_ways (is_some (cached_entry s (e ∷ entries))) none (ap (λ b. is_some (cond b (Some e) (cached_entry s entries))) same)))
+      (λ (other : is_entry_for s e ≡ false).
+      All-cons (IsListed n) e entries
+      (λ k d lt. still _ e.select other (All-head (IsListed m) e entries all k d lt))
+      (others_listed m n s entries (sym (ap (λ b. is_some (cond b (Some e) (cached_entry s entries))) other) ∙ none) still (All-tail (IsListed m) e entries all)))
+      (cases_Bool (is_entry_for s e))
+
+  pub looked_listed : (m : ByTable S T) (s : Select) (old new : List Cached) → new ≡ brought_to_front s old → AreListed m old → AreListed m new
+  unfolding AreListed
+  looked_listed m s old new is all = subst (All (IsListed m)) (sym is) (all_looked (IsListed m) s (record { entries = old; hits = 0; misses = 0; capacity = 0 }) all)
+
+  -- an entry is put in front, whose tables list it now
+  pub put_listed : (m n : ByTable S T) (e : Cached) (capacity : ℕ) (old new : List Cached) → new ≡ take capacity (e ∷ without e.select old) → IsListed n e → StillLists (λ _. ⊤) m n → AreListed m old → AreListed n new
+  unfolding AreListed
+  put_listed m n e capacity old new is here still all = subst (All (IsListed n)) (sym is) (all_put (IsListed n) e (record { entries = old; hits = 0; misses = 0; capacity = capacity }) here (still_listed m n old still all))
+
+  pub popped_listed : (m : ByTable S T) (s : Select) (pairs : List (Select × Held)) → AreListed m (map cached pairs) → AreListed m (map cached (remove_entry (same_statement s) pairs))
+  unfolding AreListed
+  popped_listed m s pairs = All-map-remove_entry (same_statement s) cached (IsListed m) pairs

@@ -1,0 +1,9 @@
+use Rattle.std.proofs.Common.{◌≡◌, filter, take}
+use Rattle.indexmap.specs.IndexSet.{insert_all}
+use Rattle.cj_model.specs.Proving.SameStatements.{same_statement}
+use Rattle.cj_cache.specs.Kept.{entries_of_map}
+use Rattle.cj_cache.specs.Proving.ByTable.{is_due, listed}
+use Rattle.cj_cache.proofs.held.copy_listed.Given as goal
+
+abbrev pub invariant-loop-select : goal.invariant-loop-select
+invariant-loop-select l = l.found.keys ≡ insert_all same_statement l.fn.found.keys (filter (is_due l.set (entries_of_map l.held)) (take l.select-index (listed l.by_table l.table)))

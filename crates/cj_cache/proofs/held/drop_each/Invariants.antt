@@ -1,0 +1,8 @@
+use Rattle.std.proofs.Common.{◌≡◌, take}
+use Rattle.lru.specs.LruCache.{lru_cache}
+use Rattle.cj_cache.specs.Kept.{entries_of_map, popped_each}
+use Rattle.cj_cache.specs.Proving.ByTable.{AreListed}
+use Rattle.cj_cache.proofs.held.drop_each.Given as goal
+
+abbrev pub invariant-loop-select : goal.invariant-loop-select
+invariant-loop-select l = (l.held ≡ lru_cache (popped_each (take l.select-index l.doomed) l.fn.held.entries) l.fn.held.cap) × AreListed l.by_table (entries_of_map l.held)

@@ -1,0 +1,13 @@
+use Rattle.std.proofs.Common.{rules, ◌≡◌, ap, ◌∙◌}
+use Rattle.lru.specs.LruCache.{lru_cache, put_entries}
+use Rattle.cj_model.specs.Proving.SameStatements.{same_statement}
+use Rattle.cj_cache.specs.Kept.{entries_of_map}
+use Rattle.cj_cache.proofs.Maps.{put_shown}
+use Rattle.cj_cache.proofs.held.push_front.Goals as goal
+
+pub returns-in-Ok-clause-ok : goal.returns-in-Ok-clause-ok
+returns-in-Ok-clause-ok c =
+    let held = c.args.held.now in
+    let entry = c.args.entry in
+    let put : c.push.new.self ≡ lru_cache (put_entries same_statement held entry.select (record { answer = entry.answer; at = entry.at })) held.cap = search rules in
+    ap entries_of_map put ∙ put_shown held entry.select (record { answer = entry.answer; at = entry.at }) c.len-len.ensures.valid.1 c.len-len.ensures.valid.2

@@ -1,0 +1,150 @@
+-- A session's reads and the result cache.
+use Rattle.std.proofs.Common.{◌≡◌, ◌≢◌, ◌⊎◌, ℕ, ◌+◌, ◌<◌, ◌^◌, Bool, true, false, cond, ◌==◌, List, length, Option, option_map, None, Some, inl, inr, refl, ap, sym, ◌∙◌, subst, ⊎_elim}
+use Rattle.std.specs.Prelude.{is_some}
+use Rattle.std.proofs.lemmas.Bool.{both_ways, cond-false, ne_eqb}
+use Rattle.cj_model.specs.declared.answer.Answer.{Answer}
+use Rattle.cj_model.specs.declared.answer.Asked.TheVariants as asked
+use Rattle.cj_model.specs.declared.answer.Refusal.{Refusal}
+use Rattle.cj_model.specs.declared.answer.Reply.{Reply}
+use Rattle.cj_model.specs.declared.answer.Reply.TheVariants.{Refused, Rows}
+use Rattle.cj_model.specs.declared.cached.Cached.{Cached}
+use Rattle.cj_model.specs.declared.request.Request.TheVariants as request
+use Rattle.cj_model.specs.declared.select.Select.{Select}
+use Rattle.cj_model.specs.declared.codes.TheConstants.{NO_MEMORY}
+use Rattle.cj_model.specs.Cluster.Caching.{CacheState, after_look, answer_kept, cached_entry, has_answer}
+use Rattle.cj_model.specs.Cluster.Masks.{in_mask}
+use Rattle.cj_model.specs.Cluster.Placements.{hosts_all, needs}
+use Rattle.cj_model.specs.Database.Inserts.{refusal_of_code}
+use Rattle.cj_model.specs.Database.Outcomes.{IsAnswer}
+use Rattle.cj_model.specs.Database.Queries.{ask}
+use Rattle.cj_model.proofs.CachingLaws.{kept_answer}
+use Rattle.cj_model.proofs.Masks.{has-zero, some_bit}
+use Rattle.cj_model.specs.declared.request.Entry.{Entry}
+use Rattle.std.proofs.Math.Seq.{take-length}
+use Rattle.cj_cluster.specs.History.Answering.{HasServer, HasNoServer}
+use Rattle.cj_cluster.specs.History.Histories.{database_of, log}
+use Rattle.cj_cluster.specs.History.Transactions.{AreFit}
+use Rattle.cj_cluster.specs.History.Turns.{Call}
+use Rattle.cj_cluster.specs.Moves.Cores.{Core}
+use Rattle.cj_cluster.specs.Moves.Moves.{IsServingMask, answered_at, last_number, open_tx, was_answered, with_read, with_request_counted}
+use Rattle.cj_cluster.specs.Proving.Invariants.{CoreInvariant}
+use Rattle.cj_cluster.proofs.TransactionLaws.{legal_fit}
+use Rattle.cj_freshness.specs.Freshness.{IsFreshAnswer, IsFreshCache}
+use Rattle.cj_freshness.proofs.Fresh.{given_at_end}
+use Rattle.cj_state.specs.CalledLogins.{logins_of}
+use Rattle.cj_state.specs.Effects.{with_core}
+use Rattle.cj_state.specs.Faults.{faults_of}
+use Rattle.cj_state.specs.Worlds.{WorldState, accounts_of, with_cache}
+use Rattle.cj_core.specs.Solos.{AnswersFromCache, StandsBetweenCalls, WorldTurn, with_answer}
+use Rattle.cj_core.specs.Proving.SoloParts.{cache_answered, call_of, RepliesKept}
+use Rattle.cj_core.proofs.SoloLogins.{called_none}
+use Rattle.cj_core.proofs.SoloReads.{answered_turn, counted_turn, query_begins, starves}
+
+-- a refusal is not kept
+pub not_kept : (tx : ℕ) (s : Select) (n : ℕ) (refusal : Refusal) (reply : Reply) (cache : CacheState) → reply ≡ Refused refusal → cache_answered tx s n reply cache ≡ cache
+not_kept tx s n refusal reply cache is = ap (λ r. cache_answered tx s n r cache) is ∙ one (tx == 0)
+  where
+    one : (c : Bool) → cond c cache cache ≡ cache
+    one true = refl
+    one false = refl
+
+-- nothing is kept inside a transaction
+pub kept_inside : (tx : ℕ) (s : Select) (n : ℕ) (reply : Reply) (cache : CacheState) → tx ≢ 0 → cache_answered tx s n reply cache ≡ cache
+kept_inside tx s n reply cache inside = cond-false (tx == 0) (with_answer s n reply cache) cache (ne_eqb tx 0 inside)
+
+-- a mask of no backends serves nothing
+pub none_serve : (c : Core) (s : Select) (mask : ℕ) → mask ≡ 0 → IsServingMask c s mask → HasServer c.placement c.history (request.Select s) → ⊥
+none_serve c s mask none serves served =
+    let by = served refl in
+    both_ways (in_mask mask by.0) (ap (λ m. in_mask m by.0) none ∙ has-zero by.0) ((serves by.0).0 by.1)
+
+-- what is found was kept
+pub found_kept : (s : Select) (c : CacheState) → is_some (answer_kept s c) ≡ has_answer s c
+found_kept s c = one (cached_entry s c.entries)
+  where
+    one : (o : Option Cached) → is_some (option_map (λ (e : Cached). e.answer) o) ≡ is_some o
+    one None = refl
+    one (Some e) = refl
+
+pub none_found : (s : Select) (c : CacheState) → has_answer s c ≡ false → answer_kept s c ≡ None
+none_found s c none = one (answer_kept s c) (found_kept s c ∙ none)
+  where
+    one : (o : Option Answer) → is_some o ≡ false → o ≡ None
+    one None is = refl
+    one (Some a) is = cc is
+
+-- a turn doesn't hang on what the cache was
+pub turn_before_look : (tells : Bool) (s : ℕ) (old : WorldState) (cache : CacheState) (c : Call) (new : WorldState) → WorldTurn tells s (with_cache old cache) c new → WorldTurn tells s old c new
+turn_before_look tells s old cache c new t = record {
+  placement = t.placement;
+  setup = t.setup;
+  number = t.number;
+  queries = t.queries;
+  turn = t.turn;
+  at_end = t.at_end;
+  stands = t.stands;
+  failed = t.failed;
+  backends = t.backends;
+  events = t.events;
+  faults = t.faults;
+  log_faults = t.log_faults;
+  logins = t.logins;
+}
+
+-- what a fresh cache gives is an answer, and the one at the log's end
+pub fresh_answer : (tells : Bool) (s : Select) (cache : CacheState) (w : WorldState) (a : Answer) → IsFreshCache tells (log w.core.history) cache → answer_kept s cache ≡ Some a → IsAnswer a
+fresh_answer tells s cache w a fresh is =
+    let found = kept_answer (IsFreshAnswer tells (log w.core.history)) s cache a fresh is in
+    subst IsAnswer found.2 found.3.possible
+
+-- ---- a kept answer
+
+module _ (tells : Bool) (s tx : ℕ) (user : List ℕ) (select : Select) (old : WorldState) (serving : ℕ) (w : CoreInvariant old.core) (fresh : IsFreshCache tells (log old.core.history) old.cache) (outside : tx ≡ 0) (serves : IsServingMask old.core select serving)
+    (some : serving ≢ 0) (few : serving < 2 ^ 32) (stands : StandsBetweenCalls old.core s) (new : WorldState) (reply : Reply) where
+  abbrev entries : List Entry
+  entries = log old.core.history
+
+  in_own : (tx ≡ 0) ⊎ (tx ≡ open_tx old.core s)
+  in_own = inl outside
+
+  -- it is what a backend would answer
+  kept_says : (a : Answer) → answer_kept select old.cache ≡ Some a → tells ≡ true → asked.Rows a ≡ ask (database_of entries) tx select
+  kept_says a is on =
+      given_at_end entries old.cache select a (legal_fit old.core.history w.legal) (subst (λ t. IsFreshCache t entries old.cache) on fresh) is
+      ∙ (ap (λ l. ask (database_of l) 0 select) (take-length entries) ∙ ap (λ t. ask (database_of entries) t select) (sym outside))
+
+  pub kept_turn : RepliesKept s select old reply new → WorldTurn tells s old (call_of old.core s tx user (request.Select select) reply) new
+  kept_turn k =
+      let begins = query_begins s user old serving w in
+      let bit = some_bit serving some few in
+      ⊎_elim
+      (λ (q : (reply ≡ Rows k.answer) × (new ≡ with_core old (with_read old.core s (λ x. answered_at (last_number old.core) (was_answered x))))).
+      answered_turn tells s tx user select old old serving serving w in_own serves begins stands new (ap (λ (x : WorldState). x.setup) q.1) (ap (λ (x : WorldState). x.recovery_log) q.1)
+      (called_none (accounts_of old) user (logins_of old.cells) (logins_of new.cells) (ap (λ (x : WorldState). logins_of x.cells) q.1)) reply bit.0 bit.2
+      (record {
+        answer = asked.Rows k.answer;
+        possible = fresh_answer tells select old.cache old k.answer fresh k.kept;
+        says = kept_says k.answer k.kept;
+        replied = q.0;
+        after = ap (λ (x : WorldState). x.core) q.1;
+        faults = ap (λ (x : WorldState). faults_of x.cells) q.1;
+      }))
+      (λ (q : (reply ≡ Refused (refusal_of_code NO_MEMORY)) × (new ≡ with_core old (with_request_counted old.core s))).
+      counted_turn tells s tx user select old old serving serving w in_own serves begins stands new reply q.1 (starves tells s tx user select old old serving serving w in_own serves begins reply q.0))
+      k.came
+
+-- a kept answer was replied, of a cache that was looked into
+pub replied_from_cache : (s : ℕ) (select : Select) (old : WorldState) (cache : CacheState) (reply : Reply) (new : WorldState) (c : Call) (k : RepliesKept s select (with_cache old cache) reply new) → cache ≡ after_look select old.cache → c.reply ≡ reply → AnswersFromCache select k.answer old c new
+replied_from_cache s select old cache reply new c k is same = ⊎_elim
+    (λ (q : (reply ≡ Rows k.answer) × (new ≡ with_core (with_cache old cache) (with_read old.core s (λ x. answered_at (last_number old.core) (was_answered x))))).
+    record { replied = inl (same ∙ q.0); cells = ap (λ (w : WorldState). w.cells) q.1; looked = ap (λ (w : WorldState). w.cache) q.1 ∙ is })
+    (λ (q : (reply ≡ Refused (refusal_of_code NO_MEMORY)) × (new ≡ with_core (with_cache old cache) (with_request_counted old.core s))).
+    record { replied = inr (same ∙ q.0); cells = ap (λ (w : WorldState). w.cells) q.1; looked = ap (λ (w : WorldState). w.cache) q.1 ∙ is })
+    k.came
+
+-- a mask of some backends serves something
+pub some_serve : (c : Core) (s : Select) (mask : ℕ) → mask ≢ 0 → mask < 2 ^ 32 → IsServingMask c s mask → HasNoServer c.placement c.history (request.Select s) → ⊥
+some_serve c s mask some few serves none =
+    let bit = some_bit mask some few in
+    let can = (serves bit.0).1 bit.2 in
+    both_ways (hosts_all c.placement bit.0 (needs (request.Select s))) (none.1 bit.0 can.0) can.1

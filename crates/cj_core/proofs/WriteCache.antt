@@ -1,0 +1,68 @@
+-- What entries make of the result cache.
+use Rattle.std.proofs.Common.{◌≡◌, ℕ, Bool, true, false, cond, ◌==◌, List, [], ◌∷◌, ◌++◌, inl, refl, ap, sym, ◌∙◌, subst}
+use Rattle.std.proofs.lemmas.Bool.{cond_both}
+use Rattle.cj_model.specs.declared.answer.Refusal.{Refusal}
+use Rattle.cj_model.specs.declared.answer.Reply.{Reply}
+use Rattle.cj_model.specs.declared.codes.TheConstants.{LOG_FAULT}
+use Rattle.cj_model.specs.declared.request.Act.TheVariants as act
+use Rattle.cj_model.specs.declared.request.Entry.{Entry}
+use Rattle.cj_model.specs.Cluster.Caching.{CacheState}
+use Rattle.cj_model.specs.Database.Inserts.{refusal_of_code}
+use Rattle.cj_cluster.specs.declared.event.Event.TheVariants.{Ended, LogFailed, Sched}
+use Rattle.cj_cluster.specs.History.Histories.{log}
+use Rattle.cj_cluster.specs.Moves.Cores.{Core}
+use Rattle.cj_cluster.specs.Moves.Moves.{happened, with_entry, with_request_counted}
+use Rattle.cj_cluster.proofs.Pushed.{log-same, log-sched}
+use Rattle.cj_freshness.specs.Freshness.{FollowsLog}
+use Rattle.cj_freshness.proofs.Fresh.{follows_abort, follows_same}
+use Rattle.cj_state.specs.Effects.{with_core}
+use Rattle.cj_state.specs.Worlds.{LogView, WorldState, with_cache, with_log, CacheFollowsLog, IsSameButLog}
+use Rattle.cj_core.specs.Proving.SoloParts.{EntryEnded, EntryRefused, EntryScheduled}
+
+-- the whole world, from its core, its cache and its log
+module _ (old new : WorldState) (core : Core) (same : IsSameButLog (with_cache (with_core old new.core) new.cache) new) (core_is : new.core ≡ core) where
+  pub with_same_cache : new.cache ≡ old.cache → IsSameButLog (with_core old core) new
+  with_same_cache cache =
+      same
+      ∙ (ap (λ (k : Core). with_log (with_cache (with_core old k) new.cache) new.recovery_log) core_is
+      ∙ ap (λ (q : CacheState). with_log (with_cache (with_core old core) q) new.recovery_log) cache)
+
+-- an entry that the log's store refused leaves the cache
+pub refused_cache : (old new : WorldState) (s q : ℕ) → new.core ≡ happened old.core (LogFailed s q) → CacheFollowsLog old new → new.cache ≡ old.cache
+refused_cache old new s q core = follows_same (log old.core.history) (log new.core.history) old.cache new.cache (ap (λ (c : Core). log c.history) core ∙ log-same old.core.history (LogFailed s q) refl)
+
+-- and is refused as such
+pub refused_after : (old new : WorldState) (e : Entry) (refusal : Refusal) → refusal ≡ refusal_of_code LOG_FAULT → new.core ≡ happened old.core (LogFailed e.session e.seq) → IsSameButLog (with_cache (with_core old new.core) new.cache) new → CacheFollowsLog old new
+    → IsSameButLog (with_core old (cond (refusal.code == LOG_FAULT) (happened old.core (LogFailed e.session e.seq)) old.core)) new
+refused_after old new e refusal is core same follows =
+    let failed : Core = happened old.core (LogFailed e.session e.seq) in
+    with_same_cache old new failed same core (refused_cache old new e.session e.seq core follows)
+    ∙ ap (λ (r : Refusal). with_log (with_core old (cond (r.code == LOG_FAULT) failed old.core)) new.recovery_log) (sym is)
+
+-- the end of a transaction by the administrator leaves it
+pub aborted_after : (old new : WorldState) (e : Entry) → e.act ≡ act.Abort → new.core ≡ with_entry old.core e → IsSameButLog (with_cache (with_core old new.core) new.cache) new → CacheFollowsLog old new → IsSameButLog (with_core old (with_entry old.core e)) new
+aborted_after old new e aborts core same follows =
+    with_same_cache old new (with_entry old.core e) same core
+    (follows_abort (log old.core.history) (log new.core.history) old.cache new.cache e aborts (ap (λ (c : Core). log c.history) core ∙ log-sched old.core.history e) follows)
+
+-- behind an entry's end the cache is as behind the entry
+pub ended_follows : (tells : Bool) (s : ℕ) (user : List ℕ) (old begun new : WorldState) (reply : Reply) → CacheFollowsLog old begun → EntryEnded tells s user begun reply new → CacheFollowsLog old new
+ended_follows tells s user old begun new reply follows ended =
+    let mid = ended.mid in
+    let history = ap (λ (c : Core). c.history) ended.taken.core in
+    let same_log : log new.core.history ≡ log begun.core.history =
+    ap (λ (w : WorldState). log w.core.history) ended.ended ∙ (log-same mid.core.history (Ended mid.core.failed mid.core.starved) refl ∙ ap log history)
+    in
+    let same_cache : new.cache ≡ begun.cache = ap (λ (w : WorldState). w.cache) ended.ended ∙ ended.taken.cache in
+    subst (λ l. FollowsLog (log old.core.history) l old.cache new.cache) (sym same_log) (subst (λ (q : CacheState). FollowsLog (log old.core.history) (log begun.core.history) old.cache q) (sym same_cache) follows)
+
+-- a refused one leaves the cache
+pub refused_follows : (old mid new : WorldState) (s : ℕ) (e : Entry) (refusal : Refusal) → EntryRefused e refusal old mid → new ≡ with_core mid (with_request_counted mid.core s) → CacheFollowsLog old new
+refused_follows old mid new s e refusal gone after =
+    let same_cache : new.cache ≡ old.cache = ap (λ (w : WorldState). w.cache) after ∙ ap (λ (w : WorldState). w.cache) gone.after in
+    let same_log : log new.core.history ≡ log old.core.history =
+    ap (λ (w : WorldState). log w.core.history) after
+    ∙ (ap (λ (w : WorldState). log w.core.history) gone.after
+    ∙ cond_both (refusal.code == LOG_FAULT) (happened old.core (LogFailed e.session e.seq)) old.core (λ (c : Core). log c.history ≡ log old.core.history) (λ _. log-same old.core.history (LogFailed e.session e.seq) refl) (λ _. refl))
+    in
+    inl (same_log, same_cache)

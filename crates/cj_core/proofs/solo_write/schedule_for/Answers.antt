@@ -1,0 +1,26 @@
+use Rattle.std.proofs.Common.{◌≡◌, ◌==◌, Err, ap, sym, ◌∙◌}
+use Rattle.cj_model.specs.declared.answer.Refusal.{Refusal}
+use Rattle.cj_model.specs.declared.codes.TheConstants.{LOG_FAULT}
+use Rattle.cj_model.specs.declared.request.Entry.{Entry}
+use Rattle.cj_cluster.specs.declared.event.Event.TheVariants.{LogFailed}
+use Rattle.cj_cluster.specs.Moves.Moves.{happened}
+use Rattle.cj_book.specs.declared.error.BookError.{BookError}
+use Rattle.cj_moves.specs.Counting.{log_faults_after}
+use Rattle.cj_state.specs.Effects.{core_scheduled, own_entry}
+use Rattle.cj_core.proofs.WriteCache.{refused_after}
+use Rattle.cj_core.proofs.solo_write.schedule_for.Goals as goal
+
+pub returns-in-Err-LogFault-clause-err : goal.returns-in-Err-LogFault-clause-err
+returns-in-Err-LogFault-clause-err g c =
+    let old = c.args.state.now in
+    let new = c.schedule_entry.new.self in
+    let e : Entry = own_entry old.core c.args.s c.args.tx c.args.user.now c.args.act in
+    let failed = c.in-Err-LogFault.ensures in
+    let core = failed.core ∙ (ap (λ (d : BookError). core_scheduled old.core c.args.s c.in-Ok.entry (Err d)) c.in-Err-LogFault.field-0-is
+    ∙ ap (λ (x : Entry). happened old.core (LogFailed x.session x.seq)) c.in-Ok.ensures.is) in
+    record {
+      after = refused_after old new e c.of_code-in-Err-LogFault.result c.of_code-in-Err-LogFault.ensures core c.schedule_entry.ensures.same c.schedule_entry.ensures.cache;
+      log_faults =
+          failed.cause.counted (ap (λ (d : BookError). Err d) c.in-Err-LogFault.field-0-is)
+          ∙ ap (λ (r : Refusal). log_faults_after old.recovery_log.faults (r.code == LOG_FAULT)) (sym c.of_code-in-Err-LogFault.ensures);
+    }

@@ -1,0 +1,19 @@
+-- What moves make of the result cache: the moves look nothing up in it and keep nothing, and the entries that they schedule drop what they touch.
+use Rattle.std.specs.Prelude.{◌≡◌}
+use Rattle.cj_cluster.specs.declared.moves.Move.{Move}
+use Rattle.cj_cluster.specs.declared.moves.Move.TheVariants.{Open, Close, Schedule, Abort, Apply, End, Read, Arm, Disable, Replay, Enable, Mark}
+use Rattle.cj_state.specs.Worlds.{WorldState, CacheFollowsLog}
+
+abbrev pub HasCacheAfter : WorldState → WorldState → Move → Type 0
+HasCacheAfter old new (Open user) = new.cache ≡ old.cache
+HasCacheAfter old new (Close s) = new.cache ≡ old.cache
+HasCacheAfter old new (Schedule s r) = CacheFollowsLog old new
+HasCacheAfter old new (Abort tx) = CacheFollowsLog old new
+HasCacheAfter old new (Apply b) = new.cache ≡ old.cache
+HasCacheAfter old new End = new.cache ≡ old.cache
+HasCacheAfter old new (Read s b select) = new.cache ≡ old.cache
+HasCacheAfter old new (Arm b) = new.cache ≡ old.cache
+HasCacheAfter old new (Disable b) = new.cache ≡ old.cache
+HasCacheAfter old new (Replay b) = new.cache ≡ old.cache
+HasCacheAfter old new (Enable b) = new.cache ≡ old.cache
+HasCacheAfter old new (Mark name) = new.cache ≡ old.cache

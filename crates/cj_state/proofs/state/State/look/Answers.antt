@@ -1,0 +1,9 @@
+use Rattle.cj_model.proofs.CachingLaws.{all_looked}
+use Rattle.cj_cluster.specs.History.Histories.{log}
+use Rattle.cj_freshness.specs.Freshness.{IsFreshAnswer}
+use Rattle.cj_state.proofs.state.State.look.Goals as goal
+
+pub invariant_of-self : goal.invariant_of-self
+invariant_of-self g c =
+    let w = c.self.inside in
+    rw c.look.ensures.looked (c.self.invariant.0, all_looked (IsFreshAnswer g.B.Backend.TELLS (log w.book.history)) c.args.select.now w.book.cache c.self.invariant.1)
