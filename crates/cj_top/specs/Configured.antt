@@ -9,6 +9,7 @@ use Rattle.cj_outside.specs.Streams.{WritesAll}
 use Rattle.cj_outside.specs.declared.sink.OutError.{OutError}
 use Rattle.cj_outside.specs.declared.sink.OutError.TheVariants as out_errors
 use Rattle.cj_cluster.specs.Script.Lines.{with_line_feed, words}
+use Rattle.cj_model.specs.Cluster.Caching.{empty_cache}
 use Rattle.cj_place.specs.Layouts.{placement_of}
 use Rattle.cj_mem.specs.MemoryBackends.{never_armed}
 use Rattle.cj_conf.specs.declared.backend.BackendKind.{BackendKind}
@@ -43,6 +44,8 @@ new_backend = record { told = Some []; faults = 0; asks = 0; login = None; armin
 pub record BeginsAsConfigured (c : Conf) (found : List LogItem → Type 0) (w : WorldState) : Type 0 where
   pub setup : w.setup ≡ record { names = c.placement.names; register = c.accounts }
   pub starts : StartsFrom found (placement_of c.placement) (replicate (length c.placement.names) new_backend) w
+  -- its result cache has kept and counted nothing
+  pub cache : w.cache ≡ empty_cache c.cache
 
 -- ---- refusals
 

@@ -3,6 +3,7 @@
 ghost use Rattle.std.specs.Prelude.{◌≡◌, ◌++◌, ◌∷◌, ℕ, List, [], codes, string_bytes, replicate, IfOk, IsErrOf, Ok, Err};
 ghost use Rattle.std.specs.Fmt.{decimal};
 ghost use Rattle.std.specs.List.{list_any};
+ghost use Rattle.cj_model.specs.Cluster.Caching.{empty_cache};
 ghost use Rattle.cj_cluster.specs.Script.Lines.{words};
 ghost use Rattle.cj_outside.specs.Causes.{CountsFault};
 ghost use Rattle.cj_flaky.specs.FlakyBackends.{fresh_over};
@@ -17,6 +18,7 @@ ghost use Rattle.cj_top.specs.declared.configured.Unconfigured.TheVariants as un
 
 use cj_balance::Balancer;
 use cj_book::BookParts;
+use cj_cache::Cache;
 use cj_conf::{BackendKind, Conf, ConfError, Key, read_conf};
 use cj_core::{Backends, Parts};
 use cj_flaky::Flaky;
@@ -74,25 +76,28 @@ pub fn conf_of<F: Store>(alloc: Global, store: &mut F) -> Result<Conf, Unconfigu
 // ---- what is made of it
 
 /// What a world is made of, as the configuration has it.
-pub fn parts_of(conf: Conf) -> Parts
+pub fn parts_of(alloc: Global, conf: Conf) -> Result<Parts, NoMemory>
     requires { IsUsable conf }
-    ensures placement { result.book.placement ≡ conf.placement }
-    ensures accounts { result.accounts ≡ conf.accounts }
+    ensures placement { IfOk result (λ parts. parts.book.placement ≡ conf.placement) }
+    ensures cache { IfOk result (λ parts. parts.book.cache ≡ empty_cache conf.cache) }
+    ensures accounts { IfOk result (λ parts. parts.accounts ≡ conf.accounts) }
 {
     let Conf {
         placement,
         accounts,
         policy,
         weights,
+        cache,
         ..
     } = conf;
-    Parts {
+    Ok(Parts {
         book: BookParts {
             placement,
             balancer: Balancer::new(policy, weights),
+            cache: Cache::new(alloc, cache)?,
         },
         accounts,
-    }
+    })
 }
 
 /// So many empty backends in memory.

@@ -8,6 +8,7 @@ ghost use Rattle.cj_model.specs.declared.limits.TheConstants.{SESSION_NUMBER_LIM
 ghost use Rattle.cj_cluster.specs.History.Histories.{is_idle};
 ghost use Rattle.cj_cluster.specs.declared.session.SessionEnd.TheVariants as ends;
 ghost use Rattle.cj_conf.specs.Confs.{IsUsable};
+ghost use Rattle.cj_model.specs.Cluster.Caching.{empty_cache};
 ghost use Rattle.cj_state.specs.Beginnings.{AreEmpty};
 ghost use Rattle.cj_state.specs.Faults.{faults_of};
 ghost use Rattle.cj_state.specs.Worlds.{WorldState};
@@ -90,7 +91,7 @@ pub fn pipe<B: Backend + Drop, S: Store + Drop, I: Source, O: Sink, C: Clock>(
     requires disk { S.TELLS ≡ true → Only (S.held log) (S.may log) }
     // The last part is of a call in which nothing failed and memory was not wanting.
     ensures served { IfOk result (λ (ending, last). (first : WorldState) × StartsFrom (Found S.TELLS (S.held log)) (placement_of conf.placement) (map (state_by B.told B.faults B.asks B.login B.arming) backends) first
-        × (first.setup ≡ record { names = conf.placement.names; register = conf.accounts })
+        × (first.setup ≡ record { names = conf.placement.names; register = conf.accounts }) × (first.cache ≡ empty_cache conf.cache)
         × ServesOneSession B.TELLS conf.seed (C.moment clock.now) (I.left input.old) (I.left input.new) (O.held output.old) (O.held output.new) first ending last
         × (CountsNoFault (I.faults input.old) (I.faults input.new) → CountsNoFault (O.faults output.old) (O.faults output.new) → ending ≢ ends.NoMemory →
         AnswersInput (λ reply. CountNoFaults (faults_of first.cells) (faults_of last.cells) → BlamesNobody reply) (I.left input.old) (O.held output.old) (O.held output.new) ending)) }
@@ -100,7 +101,10 @@ pub fn pipe<B: Backend + Drop, S: Store + Drop, I: Source, O: Sink, C: Clock>(
     ensures output { CountsFault (IsOkAnd result (λ (ending, _). ending ≡ ends.WriteFault)) (O.faults output.old) (O.faults output.new) }
 {
     let seed = conf.seed;
-    let world = match World::start(alloc, parts_of(conf), log, backends) {
+    let Ok(parts) = parts_of(alloc, conf) else {
+        return Err(PipeError::Start(StartError::NoMemory));
+    };
+    let world = match World::start(alloc, parts, log, backends) {
         Ok(world) => world,
         Err((error, _)) => return Err(PipeError::Start(error)),
     };

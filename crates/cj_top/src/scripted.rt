@@ -37,7 +37,10 @@ fn flaky_world<S: Store + Drop>(
     let Ok(backends) = flaky_backends(alloc, conf.placement.count()) else {
         return Err(StartError::NoMemory);
     };
-    match World::start(alloc, parts_of(conf), log, backends) {
+    let Ok(parts) = parts_of(alloc, conf) else {
+        return Err(StartError::NoMemory);
+    };
+    match World::start(alloc, parts, log, backends) {
         Ok(world) => Ok(world),
         Err((error, _)) => Err(error),
     }

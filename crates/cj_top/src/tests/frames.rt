@@ -31,8 +31,31 @@ const STATS: &[u8] = b"\x00\x00\x00\x01\x03";
 const NO_COUNTS: &[u8] =
     b"\x00\x00\x00\x11\x83\x00\x00\x00\x00\x00\x00\x00\x00\x00\x00\x00\x00\x00\x00\x00\x00";
 
+const CREATE_KEYS: &[u8] = b"\x00\x00\x00\x27\x02CREATE TABLE t (k INTEGER PRIMARY KEY)";
+
+const SELECT_KEYS: &[u8] = b"\x00\x00\x00\x10\x02SELECT k FROM t";
+
+const INSERT_KEY: &[u8] = b"\x00\x00\x00\x19\x02INSERT INTO t VALUES (7)";
+
+const BEGIN: &[u8] = b"\x00\x00\x00\x06\x02BEGIN";
+
+const COMMIT: &[u8] = b"\x00\x00\x00\x07\x02COMMIT";
+
+const NO_KEYS: &[u8] = b"\x00\x00\x00\x0a\x82\x00\x01\x00\x01k\x00\x00\x00\x00";
+
+const KEY_7: &[u8] =
+    b"\x00\x00\x00\x13\x82\x00\x01\x00\x01k\x00\x00\x00\x01\x01\x00\x00\x00\x00\x00\x00\x00\x07";
+
+/// Two hits and two misses.
+const HALF_HIT: &[u8] =
+    b"\x00\x00\x00\x11\x83\x00\x00\x00\x00\x00\x00\x00\x02\x00\x00\x00\x00\x00\x00\x00\x02";
+
+/// And one hit more.
+const THEN_HIT: &[u8] =
+    b"\x00\x00\x00\x11\x83\x00\x00\x00\x00\x00\x00\x00\x03\x00\x00\x00\x00\x00\x00\x00\x02";
+
 /// Frames, with the replies and the status.
-const FRAMES: [(&[&[u8]], &[&[u8]], u8); 23] = [
+const FRAMES: [(&[&[u8]], &[&[u8]], u8); 25] = [
     (&[], &[], 0),
     // a Query and Stats before the Login
     (&[b"\x00\x00\x00\x02\x02X"], &[NOT_LOGGED_IN], 0),
@@ -53,6 +76,46 @@ const FRAMES: [(&[&[u8]], &[&[u8]], u8); 23] = [
     (
         &[LOGIN, LOGIN, OTHER_LOGIN, STATS],
         &[DONE_0, ALREADY_LOGGED_IN, ALREADY_LOGGED_IN, NO_COUNTS],
+        0,
+    ),
+    // a kept answer is given until its table changes
+    (
+        &[
+            LOGIN,
+            CREATE_KEYS,
+            SELECT_KEYS,
+            SELECT_KEYS,
+            SELECT_KEYS,
+            INSERT_KEY,
+            SELECT_KEYS,
+            STATS,
+        ],
+        &[
+            DONE_0, DONE_0, NO_KEYS, NO_KEYS, NO_KEYS, DONE_1, KEY_7, HALF_HIT,
+        ],
+        0,
+    ),
+    // a read in a transaction is not looked up, and a COMMIT of no writes drops nothing
+    (
+        &[
+            LOGIN,
+            CREATE_KEYS,
+            SELECT_KEYS,
+            SELECT_KEYS,
+            INSERT_KEY,
+            SELECT_KEYS,
+            SELECT_KEYS,
+            BEGIN,
+            SELECT_KEYS,
+            COMMIT,
+            STATS,
+            SELECT_KEYS,
+            STATS,
+        ],
+        &[
+            DONE_0, DONE_0, NO_KEYS, NO_KEYS, DONE_1, KEY_7, KEY_7, DONE_0, KEY_7, DONE_0,
+            HALF_HIT, KEY_7, THEN_HIT,
+        ],
         0,
     ),
     // nothing behind a Quit is looked at

@@ -1,6 +1,15 @@
 //! Runs over a recovery log, with bytes that were worked out by hand from docs/FORMATS.md.
 
 use super::*;
+use crate::configured::memory_backends;
+use cj_conf::read_conf;
+
+const LOG_FAULT: &[u8] =
+    b"\x00\x00\x00\x13\x8f\x00\x2a\x00\x00\x00\x00\x00\x00\x00\x00\x00\x00\x00\x00\x00\x00\x00\x00";
+
+/// The row (0) of column v.
+const ZERO: &[u8] =
+    b"\x00\x00\x00\x13\x82\x00\x01\x00\x01v\x00\x00\x00\x01\x01\x00\x00\x00\x00\x00\x00\x00\x00";
 
 /// Adds a record: an open gate, the length of the body, and the body.
 fn put_record(log: &mut Vec<u8>, body: &[u8]) -> Result<(), Fail> {
@@ -143,10 +152,113 @@ fn a_failing_log_is_a_status_or_a_reply(rt: HostRuntime) -> Result<(), Fail> {
     Ok(())
 }
 
+// ---- what a session leaves in the log
+
+/// What the log's store holds after a session over `log`, whose calls of these numbers fail, and what the session wrote.
+fn left_by(
+    rt: &(impl Abort + AllocGlobal),
+    log_fails: &[u64],
+    input: &[u8],
+) -> Result<(Vec<u8>, Vec<u8>), Fail> {
+    let alloc = rt.alloc();
+    let Ok(conf) = read_conf(alloc, C1.as_bytes()) else {
+        return Err(Fail::from("no configuration"));
+    };
+    let log = MemStore::new(Vec::new(alloc), log_fails.to_vec(alloc)?);
+    let mut taken = MemSource::new(input.to_vec(alloc)?, Vec::new(alloc));
+    let mut written = sink(alloc, &[])?;
+    let clock = FixedClock::new(1_700_000_000);
+    let backends = memory_backends(alloc, conf.placement.count())?;
+    let Ok((_, world)) = pipe(alloc, conf, log, backends, &mut taken, &mut written, &clock) else {
+        return Err(Fail::from("no session"));
+    };
+    let store = world.into_log();
+    Ok((
+        store.content().to_vec(alloc)?,
+        written.content().to_vec(alloc)?,
+    ))
+}
+
+/// The lines of a log.
+fn lines_of(alloc: Global, log: &[u8]) -> Result<Vec<u8>, Fail> {
+    let mut handed = over(alloc, log, b"")?;
+    handed.run(alloc, "log c1.toml")?;
+    Ok(handed.output().to_vec(alloc)?)
+}
+
+/// The input of a session of ann.
+fn session(alloc: Global, texts: &[&str]) -> Result<Vec<u8>, Fail> {
+    let mut input = LOGIN.to_vec(alloc)?;
+    for text in texts {
+        query(&mut input, text)?;
+    }
+    Ok(input)
+}
+
+#[test]
+fn calls_stand_in_the_log_as_what_they_gave(rt: HostRuntime) -> Result<(), Fail> {
+    let alloc = rt.alloc();
+    let input = session(
+        alloc,
+        &[
+            "CREATE TABLE t (a INTEGER PRIMARY KEY, b INTEGER, c INTEGER)",
+            "INSERT INTO t VALUES (NOW(), NOW(), RAND(6))",
+        ],
+    )?;
+    let (log, _) = left_by(&rt, &[], &input)?;
+    let lines = lines_of(alloc, &log)?;
+    let wanted =
+        b"1 session=1 tx=0 user=ann CREATE TABLE t (a INTEGER PRIMARY KEY, b INTEGER, c INTEGER)\n\
+        2 session=1 tx=0 user=ann INSERT INTO t VALUES (1700000000, 1700000000, 2)\n";
+    assert!(rt; lines.as_slice() == wanted.as_slice());
+    Ok(())
+}
+
+#[test]
+fn a_change_that_every_backend_refuses_stands_in_the_log(rt: HostRuntime) -> Result<(), Fail> {
+    let alloc = rt.alloc();
+    let input = session(
+        alloc,
+        &[
+            "CREATE TABLE t (k INTEGER PRIMARY KEY, v INTEGER)",
+            "INSERT INTO t VALUES (1, 9223372036854775807), (2, 0)",
+            "UPDATE t SET v = v + 1",
+            "SELECT v FROM t WHERE k = 2",
+        ],
+    )?;
+    let (log, written) = left_by(&rt, &[], &input)?;
+    let mut output = Vec::new(alloc);
+    for reply in [DONE_0, DONE_0, DONE_2, OVERFLOW, ZERO] {
+        output.extend_from_slice(reply)?;
+    }
+    assert!(rt; written.as_slice() == output.as_slice());
+    let lines = lines_of(alloc, &log)?;
+    assert!(rt;
+        lines
+            .as_slice()
+            .ends_with(b"\n3 session=1 tx=0 user=ann UPDATE t SET v = v + 1\n")
+    );
+    Ok(())
+}
+
 /// The log of one entry, that of CREATE, which ann's session 1 asked at the second place.
 const CREATED: &[u8] = b"CJL1\x01\x00\x00\x00\x00\x00\x00\x00\x5c\x01\
     \x00\x00\x00\x00\x00\x00\x00\x01\x00\x00\x00\x00\x00\x00\x00\x01\x00\x00\x00\x00\x00\x00\x00\x02\x00\x00\x00\x00\x00\x00\x00\x00\
     \x00\x03ann\x00\x00\x00\x00\x00\x00\x00\x2eCREATE TABLE t (k INTEGER PRIMARY KEY, v TEXT)\x00";
+
+#[test]
+fn a_change_that_the_log_refused_may_be_asked_again(rt: HostRuntime) -> Result<(), Fail> {
+    let alloc = rt.alloc();
+    let input = session(alloc, &[CREATE, CREATE])?;
+    // the first write behind the three calls of opening
+    let (log, written) = left_by(&rt, &[4], &input)?;
+    let mut output = DONE_0.to_vec(alloc)?;
+    output.extend_from_slice(LOG_FAULT)?;
+    output.extend_from_slice(DONE_0)?;
+    assert!(rt; written.as_slice() == output.as_slice());
+    assert!(rt; log.as_slice() == CREATED);
+    Ok(())
+}
 
 #[test]
 fn no_session_comes_behind_the_last_number(rt: HostRuntime) -> Result<(), Fail> {

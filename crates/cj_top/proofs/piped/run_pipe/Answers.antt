@@ -33,15 +33,15 @@ returns-clause-runs g c =
     (sym c.into_backends-backends.ensures.same)
     in
     let none : (k : ℕ) → get_or (faults_of c.in_ok-end.world.cells) k 0 ≡ 0 = λ k. ap (λ (xs : List ℕ). get_or xs k 0) last ∙ none_at c.into_backends-backends.result k in
-    let first_none : sum (faults_of served.0.cells) ≡ 0 = sum_of_none (faults_of served.0.cells) (λ k. let grown = served.3.grown room k in let zero = none k in omega (arith, grown, zero)) in
+    let first_none : sum (faults_of served.0.cells) ≡ 0 = sum_of_none (faults_of served.0.cells) (λ k. let grown = served.4.grown room k in let zero = none k in omega (arith, grown, zero)) in
     let last_none : sum (faults_of c.in_ok-end.world.cells) ≡ 0 = sum_of_none (faults_of c.in_ok-end.world.cells) (λ k. let zero = none k in omega (arith, zero)) in
     record {
       first = served.0;
-      begins = record { setup = served.2; starts = starts };
+      begins = record { setup = served.2; starts = starts; cache = served.3 };
       ending = c.in_ok-end.end;
       last = c.in_ok-end.world;
-      serves = served.3;
-      blameless = served.3.blameless (last_none ∙ sym first_none) room;
+      serves = served.4;
+      blameless = served.4.blameless (last_none ∙ sym first_none) room;
       status_is = c.status_of_session.ensures.status;
     }
 

@@ -27,9 +27,10 @@ returns-in-Ok-start-clause-begins g c =
     let found = Found g.S.Store.TELLS (g.S.Store.held c.args.log) in
     record {
       setup =
-          subst (λ (r : Register). w.setup ≡ record { names = c.args.conf.placement.names; register = r }) c.parts_of.ensures.accounts
-          (subst (λ (l : Layout). w.setup ≡ record { names = l.names; register = c.parts_of.result.accounts }) c.parts_of.ensures.placement c.in-Ok-start.ensures.setup);
+          subst (λ (r : Register). w.setup ≡ record { names = c.args.conf.placement.names; register = r }) c.in-Ok-parts_of.ensures.accounts
+          (subst (λ (l : Layout). w.setup ≡ record { names = l.names; register = c.in-Ok-parts_of.parts.accounts }) c.in-Ok-parts_of.ensures.placement c.in-Ok-start.ensures.setup);
       starts =
-          subst (λ (l : Layout). StartsFrom found (placement_of l) (replicate (length c.args.conf.placement.names) new_backend) w) c.parts_of.ensures.placement
-          (starts_alike found (placement_of c.parts_of.result.book.placement) w _ c.count.result (length c.args.conf.placement.names) (fresh_over fresh_state []) c.in-Ok.backends c.in-Ok-start.ensures.started c.in-Ok.ensures c.count.ensures.count);
+          subst (λ (l : Layout). StartsFrom found (placement_of l) (replicate (length c.args.conf.placement.names) new_backend) w) c.in-Ok-parts_of.ensures.placement
+          (starts_alike found (placement_of c.in-Ok-parts_of.parts.book.placement) w _ c.count.result (length c.args.conf.placement.names) (fresh_over fresh_state []) c.in-Ok.backends c.in-Ok-start.ensures.started c.in-Ok.ensures c.count.ensures.count);
+      cache = c.in-Ok-start.ensures.cache ∙ c.in-Ok-parts_of.ensures.cache;
     }
