@@ -1,12 +1,13 @@
 -- What the words are read as is what they ask for.
 use Rattle.std.proofs.Common.{◌≡◌, refl, sym, ap, subst, ◌∙◌, ℕ, true, List, [], ◌∷◌, codes}
-use Rattle.std.specs.Prelude.{IfSome}
+use Rattle.std.specs.Prelude.{IfSome, IsSome}
 use Rattle.std.specs.declared.option.Option.{Option}
 use Rattle.std.specs.declared.option.Option.TheVariants.{None, Some}
 use Rattle.std.specs.Str.{bytes_eq}
+use Rattle.std.proofs.lemmas.Option.{some_pair_parts}
 use Rattle.std.proofs.lemmas.Slice.Eq.{bytes_eq-Decides}
 use Rattle.cj_words.specs.Words.{names_file, word_of, Says, Asks}
-use Rattle.cj_words.specs.Reading.{only_conf, over_file, as_command, workload, command_of, is_only, or_help, asked_of_verb, asked_of_program, verb_of, by_verb, asked_of}
+use Rattle.cj_words.specs.Proving.{next_word, only_conf, over_file, as_command, workload, command_of, is_only, or_help, asked_of_verb, asked_of_program, verb_of, by_verb, asked_of}
 use Rattle.cj_words.specs.declared.asked.Verb.{Verb}
 use Rattle.cj_words.specs.declared.asked.Verb.TheVariants as verb
 use Rattle.cj_words.specs.declared.asked.Topic.TheVariants as topic
@@ -72,6 +73,20 @@ by_verb_is word rest (Some v) h = subst (λ (w : List ℕ). IfSome (asked_of_ver
 pub asked_is : (words : List (List ℕ)) → IfSome (asked_of words) (Asks words)
 asked_is [] = tt
 asked_is (word ∷ rest) = by_verb_is word rest (verb_of word) (verb_is word)
+
+-- ---- where a command is read, the words are of one
+
+is_said : (words : List (List ℕ)) (o : Option Command) → IfSome o (Says words) → IsSome o → (command : Command) × Says words command
+is_said words None h some = absurd (cc)
+is_said words (Some command) h some = (command, h)
+
+pub command_said : (words rest : List (List ℕ)) (word : List ℕ) (v : Verb) → next_word words ≡ Some (word, rest) → verb_of word ≡ Some v → IsSome (command_of v rest) → (command : Command) × Says words command
+command_said [] rest word v next verb some = absurd (cc)
+command_said (first ∷ behind) rest word v next verb some =
+    let parts = some_pair_parts first word behind rest next in
+    let is : word ≡ word_of v = subst (λ (o : Option Verb). IfSome o (λ v. word ≡ word_of v)) verb (verb_is word) in
+    let same : word_of v ∷ rest ≡ first ∷ behind = cc in
+    subst (λ (z : List (List ℕ)). (command : Command) × Says z command) same (is_said (word_of v ∷ rest) (command_of v rest) (command_is v rest) some)
 
 -- ---- what is asked for is read
 

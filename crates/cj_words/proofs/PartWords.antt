@@ -9,7 +9,7 @@ use Rattle.std.proofs.lemmas.Bool.Decides.{nat_tests}
 use Rattle.std.proofs.lemmas.List.{take-append-drop}
 use Rattle.std.proofs.lemmas.Slice.Eq.{bytes_eq-Decides}
 use Rattle.cj_words.specs.Words.{names_file, is_numeral, IsNumber, IsOption}
-use Rattle.cj_words.specs.Reading.{Part, Conf, Seed, Count, number_of, next_word, behind, with_rest, value, conf, as_seed, as_count, numbered, seed, count, part}
+use Rattle.cj_words.specs.Proving.{Part, Conf, Seed, Count, number_of, next_word, behind, with_rest, value, conf, as_seed, as_count, numbered, seed, count, part}
 use Rattle.cj_words.specs.declared.parts.TheConstants.{COUNT_LIMIT}
 use Rattle.cj_words.proofs.Picks.{pick, either}
 

@@ -5,7 +5,7 @@ use Rattle.std.specs.Prelude.{IfSome}
 use Rattle.std.specs.declared.option.Option.{Option}
 use Rattle.std.specs.declared.option.Option.TheVariants.{None, Some}
 use Rattle.cj_words.specs.Words.{InAnyOrder, IsWorkload}
-use Rattle.cj_words.specs.Reading.{Part, Conf, Seed, Count, part, each_once, first, second, third, workload}
+use Rattle.cj_words.specs.Proving.{Part, Conf, Seed, Count, part, each_once, first, second, third, workload}
 use Rattle.cj_words.proofs.PartWords.{IsPart, BeginsWith, part_is, part_front}
 
 -- the words are those of the workload

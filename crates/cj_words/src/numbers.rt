@@ -4,7 +4,7 @@ ghost use Rattle.std.specs.Prelude.{◌≡◌};
 ghost use Rattle.std.specs.Char.{is_ascii_digit};
 ghost use Rattle.std.specs.List.{list_all};
 ghost use Rattle.cj_words.specs.Words as words;
-ghost use Rattle.cj_words.specs.Reading as reading;
+ghost use Rattle.cj_words.specs.Proving as reading;
 
 /// The most digits of a number: each number of so many is a `u64`.
 pub const DIGIT_LIMIT: usize = 19;

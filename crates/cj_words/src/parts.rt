@@ -3,8 +3,8 @@
 ghost use Rattle.std.specs.Prelude.{◌≡◌, map, option_map, string_bytes};
 ghost use Rattle.std.specs.Option.{option_copied};
 ghost use Rattle.cj_words.specs.Words as words;
-ghost use Rattle.cj_words.specs.Reading as reading;
-ghost use Rattle.cj_words.specs.Reading.{part_view};
+ghost use Rattle.cj_words.specs.Proving as reading;
+ghost use Rattle.cj_words.specs.Proving.{part_view};
 
 use crate::numbers::number;
 

@@ -1,9 +1,10 @@
 //! The words, read.
 
-ghost use Rattle.std.specs.Prelude.{◌≡◌, ◌↔◌, map, option_copied, option_map, string_bytes, IfOk};
-ghost use Rattle.cj_words.specs.Words.{Asks};
-ghost use Rattle.cj_words.specs.Reading as reading;
+ghost use Rattle.std.specs.Prelude.{◌≡◌, ◌↔◌, map, option_copied, option_map, string_bytes, IfErr, IfOk, IsSome};
+ghost use Rattle.cj_words.specs.Words.{Asks, Says};
+ghost use Rattle.cj_words.specs.Proving as reading;
 ghost use Rattle.cj_words.specs.declared.asked.Asked.{Asked};
+ghost use Rattle.cj_words.specs.declared.asked.Command.{Command};
 
 use crate::asked::{Asked, Command, Topic, Verb};
 use crate::conf::ConfPath;
@@ -40,7 +41,8 @@ fn only_conf(words: &[String]) -> Option<&str>
 }
 
 fn workload_command(alloc: Global, words: &[String]) -> Result<Option<Command>, NoMemory>
-    ensures { IfOk result (λ command. command ≡ reading.workload_command (map string_bytes words.now)) }
+    ensures found { IfOk result (λ command. command ≡ reading.workload_command (map string_bytes words.now)) }
+    ensures memory { IfErr result (λ _. IsSome (reading.workload_command (map string_bytes words.now))) }
 {
     match workload(words) {
         None => Ok(None),
@@ -53,20 +55,30 @@ fn workload_command(alloc: Global, words: &[String]) -> Result<Option<Command>, 
 
 /// The command of the other verbs, over their one file.
 fn file_command(alloc: Global, verb: Verb, conf: &str) -> Result<Option<Command>, NoMemory>
-    ensures { IfOk result (λ command. command ≡ reading.file_command verb conf.now) }
+    ensures found { IfOk result (λ command. command ≡ reading.file_command verb conf.now) }
+    ensures memory { IfErr result (λ _. IsSome (reading.file_command verb conf.now)) }
 {
-    let conf = ConfPath::of(alloc, conf)?;
     match verb {
-        Verb::Pipe => Ok(Some(Command::Pipe { conf })),
-        Verb::Script => Ok(Some(Command::Script { conf })),
-        Verb::Log => Ok(Some(Command::Log { conf })),
+        Verb::Pipe => {
+            let conf = ConfPath::of(alloc, conf)?;
+            Ok(Some(Command::Pipe { conf }))
+        }
+        Verb::Script => {
+            let conf = ConfPath::of(alloc, conf)?;
+            Ok(Some(Command::Script { conf }))
+        }
+        Verb::Log => {
+            let conf = ConfPath::of(alloc, conf)?;
+            Ok(Some(Command::Log { conf }))
+        }
         Verb::Gen => Ok(None),
     }
 }
 
 /// The command that the verb is with these words behind it.
 fn command_of(alloc: Global, verb: Verb, words: &[String]) -> Result<Option<Command>, NoMemory>
-    ensures { IfOk result (λ command. command ≡ reading.command_of verb (map string_bytes words.now)) }
+    ensures found { IfOk result (λ command. command ≡ reading.command_of verb (map string_bytes words.now)) }
+    ensures memory { IfErr result (λ _. IsSome (reading.command_of verb (map string_bytes words.now))) }
 {
     if verb == Verb::Gen {
         return workload_command(alloc, words);
@@ -89,7 +101,8 @@ fn is_only(text: &str, words: &[String]) -> bool
 
 /// What the words behind a verb ask for: its command, or its help.
 fn asked_of_verb(alloc: Global, verb: Verb, words: &[String]) -> Result<Option<Asked>, NoMemory>
-    ensures { IfOk result (λ asked. asked ≡ reading.asked_of_verb verb (map string_bytes words.now)) }
+    ensures found { IfOk result (λ asked. asked ≡ reading.asked_of_verb verb (map string_bytes words.now)) }
+    ensures memory { IfErr result (λ _. IsSome (reading.command_of verb (map string_bytes words.now))) }
 {
     if let Some(command) = command_of(alloc, verb, words)? {
         return Ok(Some(Asked::Command(command)));
@@ -114,7 +127,8 @@ fn asked_of_program(words: &[String]) -> Option<Asked>
 }
 
 fn asked_of(alloc: Global, words: &[String]) -> Result<Option<Asked>, NoMemory>
-    ensures { IfOk result (λ asked. asked ≡ reading.asked_of (map string_bytes words.now)) }
+    ensures found { IfOk result (λ asked. asked ≡ reading.asked_of (map string_bytes words.now)) }
+    ensures memory { IfErr result (λ _. (command : Command) × Says (map string_bytes words.now) command) }
 {
     match next_word(words) {
         None => Ok(None),
@@ -126,9 +140,11 @@ fn asked_of(alloc: Global, words: &[String]) -> Result<Option<Asked>, NoMemory>
 }
 
 /// What the words behind the program's name ask for: it is this, and no other words ask for it.
-/// None answers every list of words that asks for nothing; want of memory is the one error.
+/// None answers every list of words that asks for nothing. Want of memory is the one error, and comes
+/// only where the words are those of a command.
 pub fn read(alloc: Global, words: &[String]) -> Result<Option<Asked>, NoMemory>
-    ensures { IfOk result (λ found. (asked : Asked) → (found ≡ Some asked) ↔ Asks (map string_bytes words.now) asked) }
+    ensures found { IfOk result (λ found. (asked : Asked) → (found ≡ Some asked) ↔ Asks (map string_bytes words.now) asked) }
+    ensures memory { IfErr result (λ _. (command : Command) × Says (map string_bytes words.now) command) }
 {
     asked_of(alloc, words)
 }

@@ -5,8 +5,8 @@ use Rattle.cj_words.specs.Words.{Asks}
 use Rattle.cj_words.proofs.Asking.{asked_is, asked_read}
 use Rattle.cj_words.proofs.reading.read.Goals as goal
 
-pub returns : goal.returns
-returns c =
+pub returns-clause-found : goal.returns-clause-found
+returns-clause-found c =
     let words = map string_bytes c.args.words.now in
     IfOk-weaker c.asked_of.result _ _ (λ found h asked.
-    (λ e. subst (λ o. IfSome o (Asks words)) (sym h ∙ e) (asked_is words), λ asks. h ∙ asked_read words asked asks)) c.asked_of.ensures
+    (λ e. subst (λ o. IfSome o (Asks words)) (sym h ∙ e) (asked_is words), λ asks. h ∙ asked_read words asked asks)) c.asked_of.ensures.found

@@ -1,4 +1,4 @@
--- How the words are read, from the first on. What they ask for is said in Words, and is shown to be the same.
+-- How the words are read, from the first on, for proofs alone. What they ask for is said in Words, and is shown to be the same.
 use Rattle.std.specs.Prelude.{ℕ, nat_lt, Bool, false, ◌||◌, List, [], ◌∷◌, length, take, drop, codes, if◌then◌else◌}
 use Rattle.std.specs.declared.option.Option.{Option}
 use Rattle.std.specs.declared.option.Option.TheVariants.{None, Some}
