@@ -16,7 +16,7 @@ use Rattle.cj_model.specs.declared.answer.Reply.TheVariants.{Rows, Refused}
 use Rattle.cj_cluster.specs.declared.event.Event.{Event}
 use Rattle.cj_cluster.specs.declared.event.Event.TheVariants as event
 use Rattle.cj_cluster.specs.declared.moves.Move.{Move}
-use Rattle.cj_cluster.specs.declared.moves.Move.TheVariants.{Open, Close, Schedule, Abort, Apply, End, Read, Arm, Disable, Replay, Enable, Mark}
+use Rattle.cj_cluster.specs.declared.moves.Move.TheVariants.{Open, Close, Schedule, Abort, Apply, End, Read, Arm, Disable, Replay, Enable, Mark, Dump, Load}
 use Rattle.cj_cluster.specs.declared.moves.Moved.TheVariants as moved
 use Rattle.cj_cluster.specs.declared.moves.Why.{Why}
 use Rattle.cj_cluster.specs.declared.moves.MoveError.TheVariants.{NotNow, NoMemory}
@@ -29,7 +29,7 @@ use Rattle.cj_cluster.specs.History.Answering.{HasServer, AnswersEntry}
 use Rattle.cj_model.specs.Wire.Replies.{asked_reply}
 use Rattle.cj_cluster.specs.History.Turns.{SessionView, Call, HasNoRoomFor, Turn}
 use Rattle.cj_cluster.specs.Moves.Cores.{Core, session_at, new_session, with_session, is_entry_of}
-use Rattle.cj_cluster.specs.Moves.Moves.{MoveResult, MovesTo, is_open, DoesMove, OpensSession, ClosesSession, SchedulesRequest, SchedulesAnyAct, SchedulesAct, ScheduleIsForbidden, ScheduleHasNoBackend, ScheduleHasNoRoom, ScheduleMeetsLogFault, RefusesSchedule, LacksRoomFor, MeetsLogFault, AbortsOrphan, Marks, Applies, Replays, EndsEntry, AttemptsRead, AttemptsReadOrWaits, ReadIsAnswered, ReadHasNoBackend, ReadHasNoRoom, ReadFailedEverywhere, ReadFailedHere, ReadCameTooEarly, Arms, Disables, Enables, not_now, forbidden_by, tx_of_act, open_tx, next_entry, last_number, with_one_request, with_request_counted, abort_entry, answered_at, was_answered, still_reading, read_number, tried_of, tried_with, with_end}
+use Rattle.cj_cluster.specs.Moves.Moves.{MoveResult, MovesTo, is_open, DoesMove, OpensSession, ClosesSession, SchedulesRequest, SchedulesAnyAct, SchedulesAct, ScheduleIsForbidden, ScheduleHasNoBackend, ScheduleHasNoRoom, ScheduleMeetsLogFault, RefusesSchedule, LacksRoomFor, MeetsLogFault, AbortsOrphan, Marks, Dumps, Loads, Applies, Replays, EndsEntry, AttemptsRead, AttemptsReadOrWaits, ReadIsAnswered, ReadHasNoBackend, ReadHasNoRoom, ReadFailedEverywhere, ReadFailedHere, ReadCameTooEarly, Arms, Disables, Enables, not_now, forbidden_by, tx_of_act, open_tx, next_entry, last_number, with_one_request, with_request_counted, abort_entry, answered_at, was_answered, still_reading, read_number, tried_of, tried_with, with_end}
 use Rattle.cj_cluster.specs.Proving.Invariants.{BackendStands, CoreInvariant}
 use Rattle.cj_cluster.specs.Moves.Runs.{reply_given, is_allowed_by_transaction, call_of_entry, call_of_act, call_at, seen_at, AwaitsEnd, StandsSince, IsBetweenReplies}
 use Rattle.cj_cluster.proofs.Pushed.{no_fault_of_other, prefix_self, prefix_length, opened-same, opened-free, opened-last, opened-ended}
@@ -340,6 +340,20 @@ module _ (tells : Bool) (a : SessionView) (c z : Core) (s : ℕ) (some : 0 < s) 
   marks name (Err NoMemory) can h = same h
   marks name _ can h = absurd h
 
+  -- a dump is taken
+  dumps : (b : ℕ) (name : List ℕ) (g : MoveResult) → Dumps c b name g z → After tells a c s (Dump b name) z (reply_given c s (Dump b name) g)
+  dumps b name (Ok (moved.Dumped n)) h = stays (follows_rest c z s h.1 refl (prefix_self c.history) refl refl)
+  dumps b name (Ok moved.Failed) h = same h
+  dumps b name (Err NoMemory) h = same h
+  dumps b name _ h = absurd h
+
+  -- a dump is loaded
+  loads : (b : ℕ) (name : List ℕ) (g : MoveResult) → Loads tells c b name g z → After tells a c s (Load b name) z (reply_given c s (Load b name) g)
+  loads b name (Ok (moved.Loaded n)) h = stays (follows_rest c z s h.after refl (prefix_self c.history) refl refl)
+  loads b name (Ok moved.Failed) h = same h
+  loads b name (Ok moved.Starved) h = same h
+  loads b name _ h = absurd h
+
   -- the administrator ends an orphan, which is no open session's transaction
   aborts : (tx : ℕ) (g : MoveResult) → CanAbort c tx → AbortsOrphan c tx g z → After tells a c s (Abort tx) z (reply_given c s (Abort tx) g)
   aborts tx (Ok (moved.Entry n)) can h =
@@ -509,6 +523,8 @@ module _ (tells : Bool) (a : SessionView) (c z : Core) (s : ℕ) (some : 0 < s) 
   does (Replay b) g now h = replays b g h
   does (Enable b) g now h = enables b g (can_enable c b now) h
   does (Mark name) g now h = marks name g (can_mark c name now) h
+  does (Dump b name) g now h = dumps b name g h
+  does (Load b name) g now h = loads b name g h
 
   -- what a move leaves the session
   pub moves_after : (m : Move) (g : MoveResult) → MovesTo tells c m g z → After tells a c s m z (reply_given c s m g)

@@ -1,31 +1,28 @@
 -- Each change that a move makes keeps the state sound.
-use Rattle.std.proofs.Common.{◌≡◌, ◌≢◌, ◌⊎◌, inl, inr, ℕ, ◌+◌, ◌-◌, ◌*◌, ◌^◌, ◌<◌, ◌≤◌, ◌==◌, not, Bool, true, false, List, [], ◌∷◌, ◌++◌, length, get_or, set, All, Option, IfSome, None, Some, is_some, refl, ap, sym, ◌∙◌, subst, arith, length-append, ⊎_elim}
+use Rattle.std.proofs.Common.{◌≡◌, ◌≢◌, ◌⊎◌, inl, inr, ℕ, ◌+◌, ◌-◌, ◌*◌, ◌^◌, ◌<◌, ◌≤◌, ◌==◌, not, Bool, true, false, List, [], ◌∷◌, ◌++◌, length, get_or, set, All, Option, None, Some, is_some, refl, ap, sym, ◌∙◌, subst, arith, length-append, ⊎_elim}
 use Rattle.std.proofs.lemmas.Bool.{cases_eq, cases_lt, eqb-true, eqb-false, and_parts, or_cases, both_ways, not-true, or_parts}
 use Rattle.std.proofs.lemmas.List.{get_or-set_same, get_or-set_other, get_or_past, length-set}
 use Rattle.std.proofs.lemmas.Option.{slice_get_within}
 use Rattle.std.proofs.lemmas.List.Elements.{All-nil, All-push, All-filter, All-weaker}
-use Rattle.cj_model.specs.declared.database.Slot.{Slot}
-use Rattle.cj_model.specs.declared.database.Draft.{Draft}
 use Rattle.cj_model.specs.declared.request.Entry.{Entry}
 use Rattle.cj_model.specs.declared.answer.Outcome.{Outcome}
 use Rattle.cj_cluster.specs.declared.event.Event.{Event}
 use Rattle.cj_cluster.specs.declared.event.Event.TheVariants.{Sched, Ended, ReadFailed, LogFailed, Disabled, Enabled, Marker}
 use Rattle.cj_cluster.specs.declared.moves.OpenSession.{OpenSession}
+use Rattle.cj_cluster.specs.declared.moves.TakenDump.{TakenDump}
 use Rattle.cj_model.specs.Database.Tables.{Rises}
-use Rattle.cj_model.specs.Cluster.Placements.{Placement, part}
-use Rattle.cj_cluster.specs.History.Histories.{scheduled_entry, is_end_event, log, ended_count, is_idle, entry_in_progress, is_enabled, has_marker, events_left, is_log_fault, log_faults_of, database_after}
-use Rattle.cj_cluster.specs.History.Transactions.{has_begun, begun_after}
+use Rattle.cj_model.specs.Cluster.Placements.{Placement}
+use Rattle.cj_cluster.specs.History.Histories.{scheduled_entry, is_end_event, log, ended_count, is_idle, entry_in_progress, is_enabled, has_marker, events_left, is_log_fault, log_faults_of}
+use Rattle.cj_cluster.specs.History.Transactions.{begun_after}
 use Rattle.cj_model.specs.Cluster.Masks.{in_mask, with_backend}
 use Rattle.cj_cluster.specs.History.Legality.{IsAllowedEvent, IsFitEntry}
 use Rattle.cj_cluster.specs.Moves.Cores.{Core, position_at, begun_at, find_session, new_session, with_session, is_entry_of}
 use Rattle.cj_cluster.specs.declared.moves.Did.{Did}
 use Rattle.cj_cluster.specs.declared.moves.Did.TheVariants as did
 use Rattle.cj_model.specs.declared.limits.TheConstants.{SESSION_LIMIT, USER_LIMIT}
-use Rattle.cj_cluster.specs.Moves.Moves.{with_one_request, with_entry, Stance, out, TakesEntry, with_stance, failed_after, starved_after}
-use Rattle.cj_cluster.specs.Proving.Invariants.{CoreInvariant, IsSoundSession, BackendStands, CoversDrafts, by_session_number}
-use Rattle.cj_cluster.proofs.Pushed.{log_faults-same, log_faults-stay, no_fault_of_other, enabled-push, log-sched, log-same, done-same, done-ended, opened-sched, opened-same, at-prefix, legal_push}
-use Rattle.cj_cluster.proofs.TransactionLaws.{legal_fit}
-use Rattle.cj_cluster.proofs.PartRuns.{covers_at_taken, covers_at_passed}
+use Rattle.cj_cluster.specs.Moves.Moves.{with_one_request, with_entry, Stance, out, TakesEntry, with_stance, failed_after, starved_after, dumped_as}
+use Rattle.cj_cluster.specs.Proving.Invariants.{CoreInvariant, IsSoundSession, IsSoundDump, BackendStands, by_session_number}
+use Rattle.cj_cluster.proofs.Pushed.{log_faults-same, log_faults-stay, no_fault_of_other, enabled-push, log-sched, log-same, done-same, done-ended, opened-sched, opened-same, legal_push}
 use Rattle.cj_model.proofs.Masks.{has-zero, has-with_same, has-with_other}
 use Rattle.cj_cluster.proofs.Sessions.{found_itself, is_open-with, is_open-push, all_with, length_with, rises_with, rises_push, without, session_of-without_other, rises_without, length_without}
 
@@ -233,11 +230,12 @@ are_sched_without h g ss e a fr by =
               (All-push (λ (d : Entry). d.session ≡ x.number → d.seq ≤ x.queries) (log h) e i.entries (λ is. let some : 0 < x.number = i.number.0 in absurd (omega arith)));
         }
 
--- ---- the transactions that backends have begun
+-- ---- dumps
 
--- backend b, which stands so, has begun the transactions of the drafts in its part
-abbrev pub CoversAt : Placement → ℕ → List Entry → Option ℕ → List ℕ → Type 0
-CoversAt p b entries position begun = (n : ℕ) → position ≡ Some n → CoversDrafts begun (part p b (database_after entries n))
+-- a dump was taken within a log that is no shorter
+pub sound_dumps : (backends : ℕ) (h k : List Event) (dumps : List TakenDump) → length (log h) ≤ length (log k) → All (IsSoundDump backends h) dumps → All (IsSoundDump backends k) dumps
+sound_dumps backends h k dumps longer =
+    All-weaker (IsSoundDump backends h) (IsSoundDump backends k) (λ d is. record { source = is.source; position = let le : d.position ≤ length (log h) = is.position in omega arith }) dumps
 
 -- ---- states
 
@@ -253,7 +251,7 @@ stands_there c b p s is = subst (λ (x : Option ℕ). BackendStands c.history c.
 -- nothing has happened, and each backend has taken no entry, or is out
 pub sound_start : (placement : Placement) (positions : List (Option ℕ)) (begun : List (List ℕ)) → length positions ≡ placement.backends → length begun ≡ placement.backends
     → ((b q : ℕ) → get_or positions b None ≡ Some q → q ≡ 0)
-    → CoreInvariant (record { placement = placement; history = []; positions = positions; begun = begun; failed = 0; starved = 0; sessions = []; greatest = 0 })
+    → CoreInvariant (record { placement = placement; history = []; positions = positions; begun = begun; failed = 0; starved = 0; sessions = []; greatest = 0; dumps = [] })
 sound_start placement positions begun cells begun_cells begin =
     record {
       legal = record { short = omega arith; each = λ k d lt. absurd (omega arith) };
@@ -265,10 +263,7 @@ sound_start placement positions begun cells begun_cells begin =
       in_masks = λ b. (λ t. absurd (both_ways (in_mask 0 b) (has-zero b) t), λ t. absurd (both_ways (in_mask 0 b) (has-zero b) t));
       clear = λ _. (refl, refl);
       begun_cells = begun_cells;
-      covers =
-          λ b n is.
-          subst (λ (q : ℕ). CoversDrafts (get_or begun b []) (part placement b (database_after [] q))) (sym (begin b n is))
-          (All-nil (λ (s : Slot). IfSome s.draft (λ (d : Draft). has_begun (get_or begun b []) d.tx ≡ true)));
+      dumps = All-nil (IsSoundDump placement.backends []);
       sessions = All-nil (IsSoundSession [] 0);
       rises = tt;
       few = omega arith;
@@ -295,7 +290,7 @@ sound_sessions c ss g s a =
       in_masks = s.in_masks;
       clear = s.clear;
       begun_cells = s.begun_cells;
-      covers = s.covers;
+      dumps = s.dumps;
       sessions = a.sessions;
       rises = a.rises;
       few = a.few;
@@ -336,10 +331,7 @@ sound_sched c e ss s fr fit space a =
       in_masks = λ b. (λ t. absurd (both_ways (in_mask 0 b) (has-zero b) t), λ t. absurd (both_ways (in_mask 0 b) (has-zero b) t));
       clear = λ _. (refl, refl);
       begun_cells = s.begun_cells;
-      covers =
-          λ b n is.
-          let le : n ≤ length (log c.history) = (stands_there c b n s is).0 in
-          subst (λ (db : List Slot). CoversDrafts (begun_at c b) (part c.placement b db)) (sym (at-prefix (log c.history) (log (c.history ++ Sched e ∷ [])) n (e ∷ [], sym (log-sched c.history e)) le)) (s.covers b n is);
+      dumps = sound_dumps c.placement.backends c.history (c.history ++ Sched e ∷ []) c.dumps (omega arith) s.dumps;
       sessions = a.sessions;
       rises = a.rises;
       few = a.few;
@@ -395,7 +387,7 @@ sound_ended c ss s fr all a =
       in_masks = λ b. (λ t. absurd (both_ways (in_mask 0 b) (has-zero b) t), λ t. absurd (both_ways (in_mask 0 b) (has-zero b) t));
       clear = λ _. (refl, refl);
       begun_cells = s.begun_cells;
-      covers = λ b n is. subst (λ (l : List Entry). CoversDrafts (begun_at c b) (part c.placement b (database_after l n))) (sym same) (s.covers b n is);
+      dumps = sound_dumps c.placement.backends c.history (c.history ++ Ended c.failed c.starved ∷ []) c.dumps (omega arith) s.dumps;
       sessions = a.sessions;
       rises = a.rises;
       few = a.few;
@@ -451,7 +443,7 @@ sound_same c e ss s allowed is stays space on keeps a =
       clear =
           λ fr. s.clear (subst (λ (x : ℕ). (x == length (log c.history)) ≡ true) d (subst (λ (x : List Entry). (ended_count (c.history ++ e ∷ []) == length x) ≡ true) same fr));
       begun_cells = s.begun_cells;
-      covers = λ b n is. subst (λ (l : List Entry). CoversDrafts (begun_at c b) (part c.placement b (database_after l n))) (sym same) (s.covers b n is);
+      dumps = sound_dumps c.placement.backends c.history (c.history ++ e ∷ []) c.dumps (omega arith) s.dumps;
       sessions = a.sessions;
       rises = a.rises;
       few = a.few;
@@ -524,10 +516,10 @@ abbrev pub FitsMasks : List Event → ℕ → ℕ → ℕ → Type 0
 FitsMasks h f s k = (in_mask f k ≡ true → (is_enabled h k ≡ true) × (in_mask s k ≡ false)) × (in_mask s k ≡ true → is_enabled h k ≡ true)
 
 -- backend b comes to stand elsewhere, and maybe into a mask
-pub sound_moved : (c : Core) (b f s : ℕ) (now : Stance) → CoreInvariant c → b < length c.positions → BackendStands c.history f s b now.position → CoversAt c.placement b (log c.history) now.position now.begun → FitsMasks c.history f s b
+pub sound_moved : (c : Core) (b f s : ℕ) (now : Stance) → CoreInvariant c → b < length c.positions → BackendStands c.history f s b now.position → FitsMasks c.history f s b
     → ((k : ℕ) → k ≢ b → (in_mask f k ≡ in_mask c.failed k) × (in_mask s k ≡ in_mask c.starved k)) → (is_idle c.history ≡ true → (f ≡ 0) × (s ≡ 0))
     → CoreInvariant (record (with_stance c b now) { failed = f; starved = s })
-sound_moved c b f s now w lt stands covers masks others clear =
+sound_moved c b f s now w lt stands masks others clear =
     record {
       legal = w.legal;
       short = w.short;
@@ -559,28 +551,8 @@ sound_moved c b f s now w lt stands covers masks others clear =
           (cases_eq k b);
       clear = clear;
       begun_cells = length-set c.begun b now.begun ∙ w.begun_cells;
-      covers =
-          λ k.
-          ⊎_elim (λ (e : k ≡ b). subst (λ (x : ℕ). CoversAt c.placement x (log c.history) (get_or (set c.positions b now.position) x None) (get_or (set c.begun b now.begun) x [])) (sym e) here)
-          (λ (e : k ≡ b → ⊥). there k e) (cases_eq k b);
+      dumps = w.dumps;
     }
-  where
-    begun_lt : b < length c.begun
-    begun_lt = subst (λ (n : ℕ). b < n) (w.cells ∙ sym w.begun_cells) lt
-
-    here : CoversAt c.placement b (log c.history) (get_or (set c.positions b now.position) b None) (get_or (set c.begun b now.begun) b [])
-    here =
-        subst (λ (o : Option ℕ). CoversAt c.placement b (log c.history) o (get_or (set c.begun b now.begun) b [])) (sym (get_or-set_same c.positions b now.position None lt))
-        (subst (CoversAt c.placement b (log c.history) now.position) (sym (get_or-set_same c.begun b now.begun [] begun_lt)) covers)
-
-    there : (k : ℕ) → k ≢ b → CoversAt c.placement k (log c.history) (get_or (set c.positions b now.position) k None) (get_or (set c.begun b now.begun) k [])
-    there k ne =
-        subst (λ (o : Option ℕ). CoversAt c.placement k (log c.history) o (get_or (set c.begun b now.begun) k [])) (sym (get_or-set_other c.positions b k now.position None ne))
-        (subst (CoversAt c.placement k (log c.history) (position_at c k)) (sym (get_or-set_other c.begun b k now.begun [] ne)) (w.covers k))
-
--- one that is out holds no part
-covers_out : (p : Placement) (b : ℕ) (entries : List Entry) → CoversAt p b entries None []
-covers_out p b entries n is = absurd (cc is)
 
 module _ (c : Core) (b p : ℕ) (w : CoreInvariant c) (is : position_at c b ≡ Some p) where
   -- it is within the positions
@@ -592,29 +564,27 @@ module _ (c : Core) (b p : ℕ) (w : CoreInvariant c) (is : position_at c b ≡ 
   was = stands_there c b p w is
 
   -- it has taken the entry, and has begun these transactions
-  pub sound_next : (begun : List ℕ) → p < length (log c.history) → CoversDrafts begun (part c.placement b (database_after (log c.history) (p + 1)))
-      → CoreInvariant (with_stance c b (record { position = Some (p + 1); begun = begun }))
-  sound_next begun more covers =
+  pub sound_next : (begun : List ℕ) → p < length (log c.history) → CoreInvariant (with_stance c b (record { position = Some (p + 1); begun = begun }))
+  sound_next begun more =
       let now : BackendStands c.history c.failed c.starved b (Some (p + 1)) = (omega arith, λ on. let g : ended_count c.history ≤ p = was.1 on in omega arith, was.2, was.3) in
-      sound_moved c b c.failed c.starved (record { position = Some (p + 1); begun = begun }) w lt now
-      (λ n at. let same : p + 1 ≡ n = cc at in subst (λ (q : ℕ). CoversDrafts begun (part c.placement b (database_after (log c.history) q))) same covers) (w.in_masks b) (λ k ne. (refl, refl)) w.clear
+      sound_moved c b c.failed c.starved (record { position = Some (p + 1); begun = begun }) w lt now (w.in_masks b) (λ k ne. (refl, refl)) w.clear
 
   -- it failed in the open entry
   pub sound_failed : is_idle c.history ≡ false → is_enabled c.history b ≡ true → CoreInvariant (record (with_stance c b out) { failed = with_backend c.failed b })
   sound_failed fr on =
-      sound_moved c b (with_backend c.failed b) c.starved out w lt (λ _. inl (has-with_same c.failed b)) (covers_out c.placement b (log c.history)) (λ _. (on, was.3), λ _. on)
+      sound_moved c b (with_backend c.failed b) c.starved out w lt (λ _. inl (has-with_same c.failed b)) (λ _. (on, was.3), λ _. on)
       (λ k ne. (has-with_other c.failed b k ne, refl)) (λ t. absurd (both_ways (is_idle c.history) fr t))
 
   -- it wanted memory in the open entry
   pub sound_starved : is_idle c.history ≡ false → is_enabled c.history b ≡ true → CoreInvariant (record (with_stance c b out) { starved = with_backend c.starved b })
   sound_starved fr on =
-      sound_moved c b c.failed (with_backend c.starved b) out w lt (λ _. inr (has-with_same c.starved b)) (covers_out c.placement b (log c.history))
+      sound_moved c b c.failed (with_backend c.starved b) out w lt (λ _. inr (has-with_same c.starved b))
       (λ t. absurd (both_ways (in_mask c.failed b) was.2 t), λ _. on) (λ k ne. (refl, has-with_other c.starved b k ne)) (λ t. absurd (both_ways (is_idle c.history) fr t))
 
   -- it is out, and was not enabled
   pub sound_dropped : is_enabled c.history b ≡ false → CoreInvariant (with_stance c b out)
   sound_dropped off =
-      sound_moved c b c.failed c.starved out w lt (λ on. absurd (both_ways (is_enabled c.history b) off on)) (covers_out c.placement b (log c.history)) (w.in_masks b) (λ k ne. (refl, refl)) w.clear
+      sound_moved c b c.failed c.starved out w lt (λ on. absurd (both_ways (is_enabled c.history b) off on)) (w.in_masks b) (λ k ne. (refl, refl)) w.clear
 
 -- what a backend does with an entry
 module _ (tells : Bool) (c : Core) (b : ℕ) (w : CoreInvariant c) where
@@ -626,15 +596,13 @@ module _ (tells : Bool) (c : Core) (b : ℕ) (w : CoreInvariant c) where
   done : (o : Outcome) (now : Stance) (t : TakesEntry tells c b (did.Done o) now) → CoreInvariant (taken c.failed c.starved now)
   done o now t =
       subst (λ (x : Stance). CoreInvariant (taken c.failed c.starved x)) (sym t.does.3)
-      (sound_next c b t.p w t.stands (begun_after (begun_at c b) t.entry.tx t.entry.act) (slice_get_within (log c.history) t.p t.entry t.there)
-      (covers_at_taken c.placement b (begun_at c b) (log c.history) (legal_fit c.history w.legal) t.p (w.covers b t.p t.stands) t.entry t.there t.does.0))
+      (sound_next c b t.p w t.stands (begun_after (begun_at c b) t.entry.tx t.entry.act) (slice_get_within (log c.history) t.p t.entry t.there))
 
   -- it passed the entry over
   skipped : (now : Stance) (t : TakesEntry tells c b did.Skipped now) → CoreInvariant (taken c.failed c.starved now)
   skipped now t =
       subst (λ (x : Stance). CoreInvariant (taken c.failed c.starved x)) (sym t.does.1)
-      (sound_next c b t.p w t.stands (begun_at c b) (slice_get_within (log c.history) t.p t.entry t.there)
-      (covers_at_passed c.placement b (begun_at c b) (log c.history) (legal_fit c.history w.legal) t.p (w.covers b t.p t.stands) t.entry t.there t.does.0))
+      (sound_next c b t.p w t.stands (begun_at c b) (slice_get_within (log c.history) t.p t.entry t.there))
 
   -- an enabled backend takes the open entry
   pub sound_applied : is_idle c.history ≡ false → is_enabled c.history b ≡ true → (d : Did) (now : Stance) → TakesEntry tells c b d now → CoreInvariant (taken (failed_after c.failed b d) (starved_after c.starved b d) now)
@@ -649,3 +617,43 @@ module _ (tells : Bool) (c : Core) (b : ℕ) (w : CoreInvariant c) where
   sound_replayed off did.Skipped now t = skipped now t
   sound_replayed off did.Failed now t = subst (λ (x : Stance). CoreInvariant (with_stance c b x)) (sym t.does.1) (sound_dropped c b t.p w t.stands off)
   sound_replayed off did.Starved now t = subst (λ (x : Stance). CoreInvariant (with_stance c b x)) (sym t.does.1) (sound_dropped c b t.p w t.stands off)
+
+-- ---- dumps are taken and loaded
+
+-- a dump of a backend that is there
+pub sound_dumped : (c : Core) (b : ℕ) (name : List ℕ) (n : ℕ) → CoreInvariant c → position_at c b ≡ Some n → CoreInvariant (dumped_as c b name n)
+sound_dumped c b name n w is =
+    let d : TakenDump = record { name = name; source = b; position = n } in
+    let sound : IsSoundDump c.placement.backends c.history d = record { source = subst (λ (m : ℕ). b < m) w.cells (is_there c.positions b n is); position = (stands_there c b n w is).0 } in
+    record {
+      legal = w.legal;
+      short = w.short;
+      one_open = w.one_open;
+      cells = w.cells;
+      hosts = w.hosts;
+      stands = w.stands;
+      in_masks = w.in_masks;
+      clear = w.clear;
+      begun_cells = w.begun_cells;
+      dumps = All-push (IsSoundDump c.placement.backends c.history) c.dumps d w.dumps sound;
+      sessions = w.sessions;
+      rises = w.rises;
+      few = w.few;
+      numbers = w.numbers;
+      known = w.known;
+      log_faults = w.log_faults;
+      waits = w.waits;
+    }
+
+-- a backend that is not enabled comes to stand at a position within the log
+pub sound_loaded : (c : Core) (b n : ℕ) (begun : List ℕ) → CoreInvariant c → b < length c.positions → is_idle c.history ≡ true → is_enabled c.history b ≡ false → n ≤ length (log c.history)
+    → CoreInvariant (with_stance c b (record { position = Some n; begun = begun }))
+sound_loaded c b n begun w lt fr off le =
+    let clear = w.clear fr in
+    let now : BackendStands c.history c.failed c.starved b (Some n) = (
+      le,
+      λ on. absurd (both_ways (is_enabled c.history b) off on),
+      ap (λ m. in_mask m b) clear.0 ∙ has-zero b,
+      ap (λ m. in_mask m b) clear.1 ∙ has-zero b,
+    ) in
+    sound_moved c b c.failed c.starved (record { position = Some n; begun = begun }) w lt now (w.in_masks b) (λ k ne. (refl, refl)) w.clear

@@ -13,7 +13,7 @@ use Rattle.cj_model.specs.declared.select.Select.{Select}
 use Rattle.cj_model.specs.declared.answer.Asked.{Asked}
 use Rattle.cj_cluster.specs.declared.event.Event.{Event}
 use Rattle.cj_cluster.specs.declared.moves.Move.{Move}
-use Rattle.cj_cluster.specs.declared.moves.Move.TheVariants.{Open, Close, Schedule, Abort, Apply, End, Read, Arm, Disable, Replay, Enable, Mark}
+use Rattle.cj_cluster.specs.declared.moves.Move.TheVariants.{Open, Close, Schedule, Abort, Apply, End, Read, Arm, Disable, Replay, Enable, Mark, Dump, Load}
 use Rattle.cj_cluster.specs.declared.moves.Moved.TheVariants as moved
 use Rattle.cj_cluster.specs.declared.moves.Reason.TheVariants as reason
 use Rattle.cj_cluster.specs.declared.moves.MoveError.TheVariants.{NotNow, NoMemory}
@@ -251,6 +251,21 @@ grow_mark c name (Ok (moved.Refused r)) z h = grow_refused 1 c r z h
 grow_mark c name (Err NoMemory) z h = grows_same 1 c z h
 grow_mark c name _ z h = absurd h
 
+-- a dump is taken, or the backend failed
+grow_dump : (c : Core) (b : ℕ) (name : List ℕ) (g : MoveResult) (z : Core) → moves.Dumps c b name g z → Grows 1 c z
+grow_dump c b name (Ok (moved.Dumped n)) z h =
+    subst (Grows 1 c) (sym h.1) (record { longer = prefix_self c.history; placement = refl; cells = refl; counts = counts_same c.sessions; greatest = omega arith })
+grow_dump c b name (Ok moved.Failed) z h = grows_same 1 c z h
+grow_dump c b name (Err NoMemory) z h = grows_same 1 c z h
+grow_dump c b name _ z h = absurd h
+
+-- a dump is loaded, or the backend stays out
+grow_load : (tells : Bool) (c : Core) (b : ℕ) (name : List ℕ) (g : MoveResult) (z : Core) → moves.Loads tells c b name g z → Grows 1 c z
+grow_load tells c b name (Ok (moved.Loaded n)) z h = grows_at c z b _ c.failed c.starved h.after
+grow_load tells c b name (Ok moved.Failed) z h = grows_same 1 c z h
+grow_load tells c b name (Ok moved.Starved) z h = grows_same 1 c z h
+grow_load tells c b name _ z h = absurd h
+
 -- each move that can be made now
 does_grow : (tells : Bool) (c : Core) (m : Move) (g : MoveResult) (z : Core) → DoesMove tells c m g z → Grows 1 c z
 does_grow tells c (Open user) g z h = grow_open c user g z h
@@ -267,6 +282,8 @@ does_grow tells c (Disable b) g z h = grow_disable c b g z h
 does_grow tells c (Replay b) g z h = grow_replay tells c b g z h
 does_grow tells c (Enable b) g z h = grow_enable c b g z h
 does_grow tells c (Mark name) g z h = grow_mark c name g z h
+does_grow tells c (Dump b name) g z h = grow_dump c b name g z h
+does_grow tells c (Load b name) g z h = grow_load tells c b name g z h
 
 -- every move, with one request of each session at most
 pub moves_grow : (tells : Bool) (c : Core) (m : Move) (g : MoveResult) (z : Core) → MovesTo tells c m g z → Grows 1 c z

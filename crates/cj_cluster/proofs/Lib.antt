@@ -4,6 +4,7 @@ pub mod Chains
 pub mod DraftLaws
 pub mod Effects
 pub mod Growth
+pub mod Loaded
 pub mod Now
 pub mod OwnTransactions
 pub mod PartRuns

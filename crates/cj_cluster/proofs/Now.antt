@@ -8,10 +8,11 @@ use Rattle.cj_model.specs.declared.select.Select.{Select}
 use Rattle.cj_cluster.specs.declared.moves.Reason.{Reason}
 use Rattle.cj_cluster.specs.declared.moves.Why.{Why}
 use Rattle.cj_cluster.specs.declared.moves.OpenRead.{OpenRead}
-use Rattle.cj_cluster.specs.declared.moves.Move.TheVariants.{Close, Schedule, Abort, Apply, End, Read, Disable, Replay, Enable, Mark}
+use Rattle.cj_cluster.specs.declared.moves.TakenDump.{TakenDump}
+use Rattle.cj_cluster.specs.declared.moves.Move.TheVariants.{Close, Schedule, Abort, Apply, End, Read, Disable, Replay, Enable, Mark, Dump, Load}
 use Rattle.cj_cluster.specs.History.Histories.{log, is_idle, is_enabled, has_marker, tx_of}
-use Rattle.cj_cluster.specs.Moves.Cores.{Core, position_at, session_at}
-use Rattle.cj_cluster.specs.Moves.Moves.{reason_if, position_or_zero, first_lagging, reason_if_lagging, entry_numbered, is_orphan_of, is_orphan, not_now, is_open, is_waiting}
+use Rattle.cj_cluster.specs.Moves.Cores.{Core, position_at, find_dump, hosts_beyond, session_at}
+use Rattle.cj_cluster.specs.Moves.Moves.{reason_if, reason_of_dump, position_or_zero, first_lagging, reason_if_lagging, entry_numbered, is_orphan_of, is_orphan, not_now, is_open, is_waiting}
 
 -- a reason that is none: the test is false, and no later reason is one
 pub because_none : (t : Bool) (r : Reason) (v : ℕ) (otherwise : Option Why) → reason_if t r v otherwise ≡ None → (t ≡ false) × (otherwise ≡ None)
@@ -190,7 +191,51 @@ pub can_mark : (c : Core) (name : List ℕ) → not_now c (Mark name) ≡ None �
 can_mark c name e =
     let p = because_none _ _ _ _ e in
     let q = because_none _ _ _ _ p.1 in
-    record { is_free = not-false _ p.0; fresh = q.0 }
+    record { is_free = not-false _ p.0; fresh = (or_parts _ _ q.0).0 }
+
+-- no entry is open, and the backend is not enabled
+pub record CanDump (c : Core) (b : ℕ) : Type 0 where
+  pub is_free : is_idle c.history ≡ true
+  pub off : is_enabled c.history b ≡ false
+  pub at : position_at c b ≡ Some (position_or_zero (position_at c b))
+
+-- what a Dump that can be made now says
+pub can_dump : (c : Core) (b : ℕ) (name : List ℕ) → not_now c (Dump b name) ≡ None → CanDump c b
+can_dump c b name e =
+    let p = because_none _ _ _ _ e in
+    let q = because_none _ _ _ _ p.1 in
+    let r = because_none _ _ _ _ q.1 in
+    let s = because_none _ _ _ _ r.1 in
+    record { is_free = not-false _ p.0; off = q.0; at = stands_at _ s.0 }
+
+-- no entry is open, the backend is out and not enabled, and a dump of the name covers its tables
+pub record CanLoad (c : Core) (b : ℕ) (name : List ℕ) : Type 0 where
+  pub is_free : is_idle c.history ≡ true
+  pub off : is_enabled c.history b ≡ false
+  pub taken : TakenDump
+  pub found : find_dump c.dumps name ≡ Some taken
+  pub out : position_at c b ≡ None
+  pub covered : hosts_beyond c.placement b taken.source ≡ false
+
+-- a dump has the name, and nothing keeps it from being loaded
+dump_there : (o : Option TakenDump) (otherwise : TakenDump → Option Why) → reason_of_dump o otherwise ≡ None → (d : TakenDump) × (o ≡ Some d) × (otherwise d ≡ None)
+dump_there None otherwise e = absurd (cc e)
+dump_there (Some d) otherwise e = (d, refl, e)
+
+-- a backend that is out stands nowhere
+stands_nowhere : (o : Option ℕ) → is_some o ≡ false → o ≡ None
+stands_nowhere None e = refl
+stands_nowhere (Some n) e = absurd (cc e)
+
+-- what a Load that can be made now says
+pub can_load : (c : Core) (b : ℕ) (name : List ℕ) → not_now c (Load b name) ≡ None → CanLoad c b name
+can_load c b name e =
+    let p = because_none _ _ _ _ e in
+    let q = because_none _ _ _ _ p.1 in
+    let d = dump_there (find_dump c.dumps name) _ q.1 in
+    let r = because_none _ _ _ _ d.2 in
+    let s = because_none _ _ _ _ r.1 in
+    record { is_free = not-false _ p.0; off = q.0; taken = d.0; found = d.1; out = stands_nowhere _ r.0; covered = s.0 }
 
 -- ---- nobody is behind
 

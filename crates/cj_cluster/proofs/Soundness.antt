@@ -1,5 +1,6 @@
 -- Every move keeps the state sound.
-use Rattle.std.proofs.Common.{◌≡◌, ◌≢◌, ◌⊎◌, inl, inr, ℕ, ◌+◌, ◌-◌, ◌<◌, ◌≤◌, ◌==◌, Bool, true, false, cond, List, [], ◌∷◌, ◌++◌, length, take, Option, None, Some, Ok, Err, refl, ap, sym, ◌∙◌, subst, arith, ⊎_elim, MatchOption}
+use Rattle.std.proofs.Common.{◌≡◌, ◌≢◌, ◌⊎◌, inl, inr, ℕ, ◌+◌, ◌-◌, ◌<◌, ◌≤◌, ◌==◌, Bool, true, false, cond, List, [], ◌∷◌, ◌++◌, length, take, All, Option, IfSome, None, Some, Ok, Err, refl, ap, sym, ◌∙◌, subst, arith, ⊎_elim, MatchOption}
+use Rattle.std.specs.Str.{bytes_eq}
 use Rattle.std.proofs.lemmas.Bool.{eqb-true, eqb-false, or_parts, leb-false}
 use Rattle.std.proofs.lemmas.List.Elements.{All-weaker}
 use Rattle.cj_model.specs.declared.request.Act.{Act}
@@ -13,28 +14,30 @@ use Rattle.cj_model.specs.declared.answer.Refusal.{Refusal}
 use Rattle.cj_cluster.specs.declared.event.Event.{Event}
 use Rattle.cj_cluster.specs.declared.event.Event.TheVariants.{Ended, ReadFailed, LogFailed}
 use Rattle.cj_cluster.specs.declared.moves.Move.{Move}
-use Rattle.cj_cluster.specs.declared.moves.Move.TheVariants.{Open, Close, Schedule, Abort, Apply, End, Read, Arm, Disable, Replay, Enable, Mark}
+use Rattle.cj_cluster.specs.declared.moves.Move.TheVariants.{Open, Close, Schedule, Abort, Apply, End, Read, Arm, Disable, Replay, Enable, Mark, Dump, Load}
 use Rattle.cj_cluster.specs.declared.moves.Moved.TheVariants as moved
 use Rattle.cj_cluster.specs.declared.moves.Reason.TheVariants as reason
 use Rattle.cj_cluster.specs.declared.moves.MoveError.TheVariants.{NotNow, NoMemory}
 use Rattle.cj_cluster.specs.declared.moves.Why.{Why}
 use Rattle.cj_cluster.specs.declared.moves.OpenSession.{OpenSession}
+use Rattle.cj_cluster.specs.declared.moves.TakenDump.{TakenDump}
 use Rattle.cj_model.specs.declared.limits.TheConstants.{REQUEST_LIMIT, SESSION_LIMIT, SESSION_NUMBER_LIMIT, USER_LIMIT}
 use Rattle.cj_model.specs.Sql.PlainRequests.{act_of, request_of}
 use Rattle.cj_cluster.specs.History.Histories.{log, is_idle, events_left}
 use Rattle.cj_cluster.specs.History.Legality.{IsFitEntry, FitsTx}
 use Rattle.cj_model.specs.Sql.WrittenRequests.{IsWritten}
-use Rattle.cj_cluster.specs.Moves.Cores.{Core, session_at, new_session, with_session}
+use Rattle.cj_cluster.specs.Moves.Cores.{Core, find_dump, session_at, new_session, with_session}
 use Rattle.cj_cluster.specs.Moves.Moves as moves
 use Rattle.cj_cluster.specs.Moves.Moves.{MoveResult, MovesTo, DoesMove, happened, not_now, is_open, is_reading, read_number, next_entry, abort_entry, entry_numbered, user_of, is_orphan, open_tx, forbidden_by, tx_of_act, with_one_request, answered_at, was_answered, still_reading, last_number, with_read, read_failed, with_end, tried_of, tried_with}
-use Rattle.cj_cluster.specs.Proving.Invariants.{CoreInvariant, IsSoundSession}
+use Rattle.cj_cluster.specs.Proving.Invariants.{CoreInvariant, IsSoundSession, IsSoundDump}
 use Rattle.cj_cluster.specs.Moves.Runs.{IsMoveOfCluster, CanCountRequests}
 use Rattle.cj_cluster.proofs.WrittenRollback.{rollback_written}
 use Rattle.cj_cluster.proofs.TransactionLaws.{fit_at, legal_fit}
 use Rattle.cj_cluster.proofs.Pushed.{log-same, log_faults-same, opened-ended, opened-same}
 use Rattle.cj_cluster.proofs.Sessions.{found_open, found_all, found_number, without}
-use Rattle.cj_cluster.proofs.Effects.{sessions_are, KeepsSession, are_opened, are_closed, are_with, are_sched, are_sched_without, sound_sessions, sound_sched, sound_ended, sound_read_failed, sound_disabled, sound_enabled, sound_marked, sound_log_failed, sound_applied, sound_replayed, is_there, stands_there}
-use Rattle.cj_cluster.proofs.Now.{numbered_at, orphan_of, CanClose, can_close, CanSchedule, can_schedule, CanAbort, can_abort, CanApply, can_apply, CanEnd, can_end, CanDisable, can_disable, CanReplay, can_replay, CanEnable, can_enable, CanMark, can_mark, behind_none}
+use Rattle.cj_model.proofs.RisingLaws.{found_All}
+use Rattle.cj_cluster.proofs.Effects.{sessions_are, KeepsSession, are_opened, are_closed, are_with, are_sched, are_sched_without, sound_sessions, sound_sched, sound_ended, sound_read_failed, sound_disabled, sound_enabled, sound_marked, sound_log_failed, sound_applied, sound_replayed, sound_dumped, sound_loaded, is_there, stands_there}
+use Rattle.cj_cluster.proofs.Now.{numbered_at, orphan_of, CanClose, can_close, CanSchedule, can_schedule, CanAbort, can_abort, CanApply, can_apply, CanEnd, can_end, CanDisable, can_disable, CanReplay, can_replay, CanEnable, can_enable, CanMark, can_mark, CanLoad, can_load, behind_none}
 
 -- ---- sessions
 
@@ -325,6 +328,28 @@ sound_mark c name (Ok (moved.Refused r)) z w can h = sound_refused 1 c r z w can
 sound_mark c name (Err NoMemory) z w can h = subst CoreInvariant (sym h) w
 sound_mark c name _ z w can h = absurd h
 
+-- ---- dumps
+
+-- what holds of each dump holds of the one of a name
+found_dump : (P : TakenDump → Type 0) (dumps : List TakenDump) (name : List ℕ) (d : TakenDump) → All P dumps → find_dump dumps name ≡ Some d → P d
+found_dump P dumps name d all is = subst (λ (o : Option TakenDump). IfSome o P) is (found_All P (λ (x : TakenDump). bytes_eq x.name name) dumps all)
+
+-- a dump is taken, or the backend failed
+sound_dump : (c : Core) (b : ℕ) (name : List ℕ) (g : MoveResult) (z : Core) → CoreInvariant c → moves.Dumps c b name g z → CoreInvariant z
+sound_dump c b name (Ok (moved.Dumped n)) z w h = subst CoreInvariant (sym h.1) (sound_dumped c b name n w h.0)
+sound_dump c b name (Ok moved.Failed) z w h = subst CoreInvariant (sym h) w
+sound_dump c b name (Err NoMemory) z w h = subst CoreInvariant (sym h) w
+sound_dump c b name _ z w h = absurd h
+
+-- a dump is loaded, or the backend stays out
+sound_load : (tells : Bool) (c : Core) (b : ℕ) (name : List ℕ) (g : MoveResult) (z : Core) → b < c.placement.backends → CoreInvariant c → CanLoad c b name → moves.Loads tells c b name g z → CoreInvariant z
+sound_load tells c b name (Ok (moved.Loaded n)) z lt w can h =
+    let within : n ≤ length (log c.history) = subst (λ (m : ℕ). m ≤ length (log c.history)) (sym h.number) (found_dump (IsSoundDump c.placement.backends c.history) c.dumps name h.taken w.dumps h.found).position in
+    subst CoreInvariant (sym h.after) (sound_loaded c b n h.begun w (subst (λ (m : ℕ). b < m) (sym w.cells) lt) can.is_free can.off within)
+sound_load tells c b name (Ok moved.Failed) z lt w can h = subst CoreInvariant (sym h) w
+sound_load tells c b name (Ok moved.Starved) z lt w can h = subst CoreInvariant (sym h) w
+sound_load tells c b name _ z lt w can h = absurd h
+
 -- ---- all moves
 
 -- each move that can be made now
@@ -343,6 +368,8 @@ does_sound tells c (Disable b) g z is count w now h = sound_disable c b g z w (c
 does_sound tells c (Replay b) g z is count w now h = sound_replay tells c b g z w (can_replay c b now) h
 does_sound tells c (Enable b) g z is count w now h = sound_enable c b g z w (can_enable c b now) h
 does_sound tells c (Mark name) g z is count w now h = sound_mark c name g z w (can_mark c name now) h
+does_sound tells c (Dump b name) g z is count w now h = sound_dump c b name g z w h
+does_sound tells c (Load b name) g z is count w now h = sound_load tells c b name g z is.0 w (can_load c b name now) h
 
 -- a move is made, or it can't be made now and changes nothing
 pub by_reason : (o : Option Why) (P Q : Type 0) (g : MoveResult) (c z : Core) → MatchOption o P (λ w. (g ≡ Err (NotNow w)) × (z ≡ c)) → (o ≡ None → P → Q) → ((w : Why) → g ≡ Err (NotNow w) → z ≡ c → Q) → Q

@@ -12,6 +12,7 @@ pub use boxed::BoxedEntry;
 pub use event::Event;
 pub use laws::sessions_stand_between_replies;
 pub use moves::{
-    Did, Made, Move, MoveError, Moved, MovedList, Moves, OpenRead, OpenSession, Reason, Why,
+    Did, Made, Move, MoveError, Moved, MovedList, Moves, OpenRead, OpenSession, Reason, TakenDump,
+    Why,
 };
 pub use session::SessionEnd;

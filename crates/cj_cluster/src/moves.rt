@@ -31,8 +31,12 @@ pub enum Move {
     /// A backend that isn't enabled takes the next entry of the log.
     Replay { b: u8 },
     Enable { b: u8 },
-    /// Marks a checkpoint in the log, of a name that no marker has.
+    /// Marks a checkpoint in the log, of a name that no marker and no dump has.
     Mark { name: Name },
+    /// Takes a dump of what a backend that isn't enabled holds, under a name that no marker and no dump has.
+    Dump { b: u8, name: Name },
+    /// A backend that is out holds from now on what a dump has of its tables.
+    Load { b: u8, name: Name },
 }
 
 pub type Moves = ListOf<Move>;
@@ -65,11 +69,17 @@ pub enum Moved {
     /// The backend is out: it needs a dump.
     Out,
     Failed,
+    /// The backend, or what is to be loaded into it, wanted memory.
+    Starved,
     Armed,
     Disabled,
     Enabled,
     /// The marker stands behind so many entries.
     Marked(u64),
+    /// The backend that was dumped has taken so many entries.
+    Dumped(u64),
+    /// The backend has from now on taken so many entries.
+    Loaded(u64),
     Replayed { number: u64, did: Did },
 }
 
@@ -86,15 +96,21 @@ pub enum Reason {
     Behind,
     /// The backend needs a dump.
     Out,
+    /// The backend needs no dump.
+    NotOut,
     NoSession,
     /// The session waits for the answer to another request.
     Waiting,
     /// The backend doesn't serve the read, and another does.
     NotServing,
-    /// A marker has the name.
+    /// No dump has the name.
+    NoDump,
+    /// A marker or a dump has the name.
     NameTaken,
     /// The transaction isn't open, or its session is.
     NotOrphan,
+    /// The backend hosts a table that the dump doesn't cover.
+    DumpLacks,
 }
 
 impl Reason {
@@ -110,11 +126,14 @@ impl Reason {
             Reason::AtEnd => 5,
             Reason::Behind => 6,
             Reason::Out => 7,
+            Reason::NotOut => 8,
             Reason::NoSession => 9,
             Reason::Waiting => 10,
             Reason::NotServing => 11,
+            Reason::NoDump => 12,
             Reason::NameTaken => 13,
             Reason::NotOrphan => 14,
+            Reason::DumpLacks => 15,
         }
     }
 }
@@ -150,6 +169,15 @@ pub struct OpenRead {
     pub select: Select,
     /// The backends that failed in it.
     pub tried: u32,
+}
+
+/// A dump that was taken. It covers the tables that its backend hosts.
+#[derive(Drop)]
+pub struct TakenDump {
+    pub name: Name,
+    pub source: u8,
+    /// How many entries the backend had taken.
+    pub position: u64,
 }
 
 /// An open session.
@@ -188,6 +216,14 @@ impl Duplicate for Move {
             Move::Replay { b } => Ok(Move::Replay { b: *b }),
             Move::Enable { b } => Ok(Move::Enable { b: *b }),
             Move::Mark { name } => Ok(Move::Mark { name: name.copy() }),
+            Move::Dump { b, name } => Ok(Move::Dump {
+                b: *b,
+                name: name.copy(),
+            }),
+            Move::Load { b, name } => Ok(Move::Load {
+                b: *b,
+                name: name.copy(),
+            }),
         }
     }
 }
@@ -208,10 +244,13 @@ impl Duplicate for Moved {
             Moved::Behind(position) => Ok(Moved::Behind(*position)),
             Moved::Out => Ok(Moved::Out),
             Moved::Failed => Ok(Moved::Failed),
+            Moved::Starved => Ok(Moved::Starved),
             Moved::Armed => Ok(Moved::Armed),
             Moved::Disabled => Ok(Moved::Disabled),
             Moved::Enabled => Ok(Moved::Enabled),
             Moved::Marked(after) => Ok(Moved::Marked(*after)),
+            Moved::Dumped(position) => Ok(Moved::Dumped(*position)),
+            Moved::Loaded(position) => Ok(Moved::Loaded(*position)),
             Moved::Replayed { number, did } => Ok(Moved::Replayed {
                 number: *number,
                 did: *did,

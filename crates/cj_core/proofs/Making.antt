@@ -4,7 +4,7 @@ use mathlib.Core.List.{IsPrefix}
 use Rattle.std.proofs.lemmas.List.{take_more, map_push, length-take-le}
 use Rattle.std.proofs.lemmas.List.Elements.{All-get_or, All-take}
 use Rattle.cj_cluster.specs.declared.moves.Move.{Move}
-use Rattle.cj_cluster.specs.declared.moves.Move.TheVariants.{Open, Close, Schedule, Abort, Apply, End, Read, Arm, Disable, Replay, Enable, Mark}
+use Rattle.cj_cluster.specs.declared.moves.Move.TheVariants.{Open, Close, Schedule, Abort, Apply, End, Read, Arm, Disable, Replay, Enable, Mark, Dump, Load}
 use Rattle.cj_cluster.specs.declared.moves.Made.{Made}
 use Rattle.cj_model.specs.Cluster.Placements.{Placement}
 use Rattle.cj_cluster.specs.History.Legality.{IsLegal}
@@ -88,6 +88,8 @@ can_ask c can (Disable b) = tt
 can_ask c can (Replay b) = tt
 can_ask c can (Enable b) = tt
 can_ask c can (Mark name) = tt
+can_ask c can (Dump b name) = tt
+can_ask c can (Load b name) = tt
 
 module _ (tells armable : Bool) (old : WorldState) (moves : List Move) (n : ℕ) (came : List Made) (now : WorldState)
     (world : IsWorld tells old) (are : All (IsMoveOfCluster old.core.placement.backends) moves) (count : CanCountRequests old.core (length moves)) (within : n ≤ length moves) (making : Making tells armable old moves n came now) where

@@ -5,13 +5,13 @@ use Rattle.std.proofs.lemmas.List.Elements.{All-weaker}
 use Rattle.cj_cluster.specs.declared.event.Event.{Event}
 use Rattle.cj_cluster.specs.declared.event.Event.TheVariants as event
 use Rattle.cj_cluster.specs.declared.moves.Move.{Move}
-use Rattle.cj_cluster.specs.declared.moves.Move.TheVariants.{Open, Close, Schedule, Abort, Apply, End, Read, Arm, Disable, Replay, Enable, Mark}
+use Rattle.cj_cluster.specs.declared.moves.Move.TheVariants.{Open, Close, Schedule, Abort, Apply, End, Read, Arm, Disable, Replay, Enable, Mark, Dump, Load}
 use Rattle.cj_cluster.specs.declared.moves.Moved.TheVariants as moved
 use Rattle.cj_cluster.specs.declared.moves.MoveError.TheVariants.{NoMemory}
 use Rattle.cj_cluster.specs.declared.moves.OpenSession.{OpenSession}
 use Rattle.cj_cluster.specs.History.Histories.{scheduled_entry, is_end_event, is_idle}
 use Rattle.cj_cluster.specs.Moves.Cores.{Core, find_session, session_at, new_session}
-use Rattle.cj_cluster.specs.Moves.Moves.{MoveResult, MovesTo, DoesMove, OpensSession, Arms, Disables, Enables, Marks, LacksRoomFor, MeetsLogFault, Replays, happened, not_now, opened_for, with_one_request, with_request_counted}
+use Rattle.cj_cluster.specs.Moves.Moves.{MoveResult, MovesTo, DoesMove, OpensSession, Arms, Disables, Enables, Marks, Dumps, Loads, LacksRoomFor, MeetsLogFault, Replays, happened, not_now, opened_for, with_one_request, with_request_counted}
 use Rattle.cj_cluster.specs.Proving.Invariants.{CoreInvariant, IsSoundSession}
 use Rattle.cj_cluster.proofs.Now.{can_apply, can_end}
 use Rattle.cj_cluster.proofs.Pushed.{free-same}
@@ -76,6 +76,18 @@ module _ (tells : Bool) (c z : Core) (s : ℕ) (w : CoreInvariant c) (stands : S
   replays b (Ok (moved.Replayed n d)) h = subst (λ (x : Core). StandsBetweenCalls x s) (sym h.1.2) (record { idle = stands.idle; here = stands.here; no_read = stands.no_read })
   replays b _ h = absurd h
 
+  dumps : (b : ℕ) (name : List ℕ) (g : MoveResult) → Dumps c b name g z → StandsBetweenCalls z s
+  dumps b name (Ok (moved.Dumped n)) h = subst (λ (x : Core). StandsBetweenCalls x s) (sym h.1) (record { idle = stands.idle; here = stands.here; no_read = stands.no_read })
+  dumps b name (Ok moved.Failed) h = as_it_was h
+  dumps b name (Err NoMemory) h = as_it_was h
+  dumps b name _ h = absurd h
+
+  loads : (b : ℕ) (name : List ℕ) (g : MoveResult) → Loads tells c b name g z → StandsBetweenCalls z s
+  loads b name (Ok (moved.Loaded n)) h = subst (λ (x : Core). StandsBetweenCalls x s) (sym h.after) (record { idle = stands.idle; here = stands.here; no_read = stands.no_read })
+  loads b name (Ok moved.Failed) h = as_it_was h
+  loads b name (Ok moved.Starved) h = as_it_was h
+  loads b name _ h = absurd h
+
   -- a move that can be made
   does : (m : Move) (g : MoveResult) → IsMoveOfNoSession m → not_now c m ≡ None → DoesMove tells c m g z → StandsBetweenCalls z s
   does (Open user) g none now h = opens user g h
@@ -90,6 +102,8 @@ module _ (tells : Bool) (c z : Core) (s : ℕ) (w : CoreInvariant c) (stands : S
   does (Replay b) g none now h = replays b g h
   does (Enable b) g none now h = enables b g h
   does (Mark name) g none now h = marks name g h
+  does (Dump b name) g none now h = dumps b name g h
+  does (Load b name) g none now h = loads b name g h
 
   -- any move
   pub stands_moved : (m : Move) (g : MoveResult) → IsMoveOfNoSession m → MovesTo tells c m g z → StandsBetweenCalls z s

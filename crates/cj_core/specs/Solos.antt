@@ -23,7 +23,7 @@ use Rattle.cj_auth.specs.Admission.{admits}
 use Rattle.cj_cluster.specs.declared.event.Event.{Event}
 use Rattle.cj_cluster.specs.declared.event.Event.TheVariants.{Sched, Ended, ReadFailed, LogFailed}
 use Rattle.cj_cluster.specs.declared.moves.Move.{Move}
-use Rattle.cj_cluster.specs.declared.moves.Move.TheVariants.{Open, Close, Schedule, Abort, Apply, End, Read, Arm, Disable, Replay, Enable, Mark}
+use Rattle.cj_cluster.specs.declared.moves.Move.TheVariants.{Open, Close, Schedule, Abort, Apply, End, Read, Arm, Disable, Replay, Enable, Mark, Dump, Load}
 use Rattle.cj_cluster.specs.History.Answering.{HasServer, HasNoServer}
 use Rattle.cj_cluster.specs.History.Histories.{log, is_idle, events_left}
 use Rattle.cj_cluster.specs.History.Turns.{SessionView, Call, Turn, entry_of_call}
@@ -195,3 +195,5 @@ IsMoveOfNoSession (Disable b) = Unit {0}
 IsMoveOfNoSession (Replay b) = Unit {0}
 IsMoveOfNoSession (Enable b) = Unit {0}
 IsMoveOfNoSession (Mark name) = Unit {0}
+IsMoveOfNoSession (Dump b name) = Unit {0}
+IsMoveOfNoSession (Load b name) = Unit {0}

@@ -24,6 +24,7 @@ use cj_open_sessions::Sessions;
 use cj_outside::Store;
 use cj_place::Placement;
 use cj_replica::Cell;
+use cj_shelf::MemoryShelf;
 use cj_state::State;
 use std::alloc::Global;
 
@@ -131,8 +132,11 @@ impl<B: Backend + Drop, S: Store + Drop> World<B, S> {
         let Ok(sessions) = Sessions::new(alloc) else {
             return Err((StartError::NoMemory, log));
         };
+        let Ok(dumps) = MemoryShelf::new(alloc) else {
+            return Err((StartError::NoMemory, log));
+        };
         let book = Book::open(alloc, book, log)?;
-        let mut state = State::new(alloc, book, cells, sessions, accounts);
+        let mut state = State::new(alloc, book, cells, sessions, accounts, dumps);
         let brought = bring_up(&mut state);
         state.legal();
         match brought {

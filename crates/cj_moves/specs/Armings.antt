@@ -3,7 +3,7 @@ use Rattle.std.specs.Prelude.{◌≡◌, ℕ, Bool, true, false, List, ◌&&◌,
 use Rattle.std.specs.declared.option.Option.{Option}
 use Rattle.std.specs.declared.option.Option.TheVariants.{None, Some}
 use Rattle.cj_cluster.specs.declared.moves.Move.{Move}
-use Rattle.cj_cluster.specs.declared.moves.Move.TheVariants.{Open, Close, Schedule, Abort, Apply, End, Read, Arm, Disable, Replay, Enable, Mark}
+use Rattle.cj_cluster.specs.declared.moves.Move.TheVariants.{Open, Close, Schedule, Abort, Apply, End, Read, Arm, Disable, Replay, Enable, Mark, Dump, Load}
 use Rattle.cj_cluster.specs.declared.moves.Moved.TheVariants as moved
 use Rattle.cj_cluster.specs.declared.moves.MoveError.TheVariants as errors
 use Rattle.cj_cluster.specs.Moves.Moves.{MoveResult}
@@ -26,6 +26,8 @@ ArmsCell can old (Disable b) new = Unit {0}
 ArmsCell can old (Replay b) new = Unit {0}
 ArmsCell can old (Enable b) new = Unit {0}
 ArmsCell can old (Mark name) new = Unit {0}
+ArmsCell can old (Dump b name) new = Unit {0}
+ArmsCell can old (Load b name) new = Unit {0}
 
 -- whether each backend is armed, and how often it was
 abbrev pub each_arming : List CellState → List Arming
@@ -43,10 +45,13 @@ tells_armed (Ok (moved.Rows a)) = false
 tells_armed (Ok (moved.Behind p)) = false
 tells_armed (Ok moved.Out) = false
 tells_armed (Ok moved.Failed) = false
+tells_armed (Ok moved.Starved) = false
 tells_armed (Ok moved.Armed) = true
 tells_armed (Ok moved.Disabled) = false
 tells_armed (Ok moved.Enabled) = false
 tells_armed (Ok (moved.Marked n)) = false
+tells_armed (Ok (moved.Dumped n)) = false
+tells_armed (Ok (moved.Loaded n)) = false
 tells_armed (Ok (moved.Replayed n d)) = false
 tells_armed (Err (errors.NotNow why)) = false
 tells_armed (Err errors.NoMemory) = false
@@ -65,6 +70,8 @@ armed_by can (Disable b) g = None
 armed_by can (Replay b) g = None
 armed_by can (Enable b) g = None
 armed_by can (Mark name) g = None
+armed_by can (Dump b name) g = None
+armed_by can (Load b name) g = None
 
 -- The backend that the move armed was so once more, and no other was armed.
 abbrev pub HasArmings : Bool → WorldState → WorldState → Move → MoveResult → Type 0

@@ -1,7 +1,7 @@
 -- What moves make of the result cache: the moves look nothing up in it and keep nothing, and the entries that they schedule drop what they touch.
 use Rattle.std.specs.Prelude.{◌≡◌}
 use Rattle.cj_cluster.specs.declared.moves.Move.{Move}
-use Rattle.cj_cluster.specs.declared.moves.Move.TheVariants.{Open, Close, Schedule, Abort, Apply, End, Read, Arm, Disable, Replay, Enable, Mark}
+use Rattle.cj_cluster.specs.declared.moves.Move.TheVariants.{Open, Close, Schedule, Abort, Apply, End, Read, Arm, Disable, Replay, Enable, Mark, Dump, Load}
 use Rattle.cj_state.specs.Worlds.{WorldState, CacheFollowsLog}
 
 abbrev pub HasCacheAfter : WorldState → WorldState → Move → Type 0
@@ -17,3 +17,5 @@ HasCacheAfter old new (Disable b) = new.cache ≡ old.cache
 HasCacheAfter old new (Replay b) = new.cache ≡ old.cache
 HasCacheAfter old new (Enable b) = new.cache ≡ old.cache
 HasCacheAfter old new (Mark name) = new.cache ≡ old.cache
+HasCacheAfter old new (Dump b name) = new.cache ≡ old.cache
+HasCacheAfter old new (Load b name) = new.cache ≡ old.cache

@@ -4,7 +4,7 @@ use Rattle.std.specs.declared.option.Option.{Option}
 use Rattle.std.specs.declared.option.Option.TheVariants.{None, Some}
 use Rattle.cj_outside.specs.Causes.{next}
 use Rattle.cj_cluster.specs.declared.moves.Move.{Move}
-use Rattle.cj_cluster.specs.declared.moves.Move.TheVariants.{Open, Close, Schedule, Abort, Apply, End, Read, Arm, Disable, Replay, Enable, Mark}
+use Rattle.cj_cluster.specs.declared.moves.Move.TheVariants.{Open, Close, Schedule, Abort, Apply, End, Read, Arm, Disable, Replay, Enable, Mark, Dump, Load}
 use Rattle.cj_cluster.specs.declared.moves.Moved.TheVariants as moved
 use Rattle.cj_cluster.specs.declared.moves.MoveError.TheVariants as errors
 use Rattle.cj_model.specs.declared.codes.TheConstants.{READ_FAULT, LOG_FAULT, HISTORY_FULL}
@@ -24,10 +24,13 @@ tells_fault (Ok (moved.Rows a)) = false
 tells_fault (Ok (moved.Behind p)) = false
 tells_fault (Ok moved.Out) = false
 tells_fault (Ok moved.Failed) = true
+tells_fault (Ok moved.Starved) = false
 tells_fault (Ok moved.Armed) = false
 tells_fault (Ok moved.Disabled) = false
 tells_fault (Ok moved.Enabled) = false
 tells_fault (Ok (moved.Marked n)) = false
+tells_fault (Ok (moved.Dumped n)) = false
+tells_fault (Ok (moved.Loaded n)) = false
 tells_fault (Ok (moved.Replayed n d)) = did_fail d
 tells_fault (Err (errors.NotNow why)) = false
 tells_fault (Err errors.NoMemory) = false
@@ -46,6 +49,8 @@ blamed (Disable b) g = None
 blamed (Replay b) g = if tells_fault g then Some b else None
 blamed (Enable b) g = None
 blamed (Mark name) g = None
+blamed (Dump b name) g = if tells_fault g then Some b else None
+blamed (Load b name) g = if tells_fault g then Some b else None
 
 -- The backend that the move says failed has counted one fault more, and no other count has changed.
 abbrev pub HasCauses : WorldState → WorldState → Move → MoveResult → Type 0
@@ -70,6 +75,8 @@ tells_log_fault (Disable b) g = false
 tells_log_fault (Replay b) g = false
 tells_log_fault (Enable b) g = false
 tells_log_fault (Mark name) g = is_log_fault g
+tells_log_fault (Dump b name) g = false
+tells_log_fault (Load b name) g = false
 
 -- one fault more where one is told
 abbrev pub log_faults_after : ℕ → Bool → ℕ

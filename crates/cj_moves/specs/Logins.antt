@@ -5,7 +5,7 @@ use Rattle.std.specs.declared.option.Option.TheVariants.{None}
 use Rattle.cj_model.specs.declared.request.Entry.{Entry}
 use Rattle.cj_model.specs.Cluster.Accounts.{login_of}
 use Rattle.cj_cluster.specs.declared.moves.Move.{Move}
-use Rattle.cj_cluster.specs.declared.moves.Move.TheVariants.{Open, Close, Schedule, Abort, Apply, End, Read, Arm, Disable, Replay, Enable, Mark}
+use Rattle.cj_cluster.specs.declared.moves.Move.TheVariants.{Open, Close, Schedule, Abort, Apply, End, Read, Arm, Disable, Replay, Enable, Mark, Dump, Load}
 use Rattle.cj_cluster.specs.declared.moves.Moved.TheVariants as moved
 use Rattle.cj_cluster.specs.declared.moves.MoveError.TheVariants as errors
 use Rattle.cj_cluster.specs.Moves.Moves.{MoveResult}
@@ -26,10 +26,13 @@ LogsInByMove b login (Ok (moved.Rows a)) old new = CallsUnder b login old new
 LogsInByMove b login (Ok (moved.Behind p)) old new = new ≡ old
 LogsInByMove b login (Ok moved.Out) old new = new ≡ old
 LogsInByMove b login (Ok moved.Failed) old new = MayCallUnder b login old new
+LogsInByMove b login (Ok moved.Starved) old new = new ≡ old
 LogsInByMove b login (Ok moved.Armed) old new = new ≡ old
 LogsInByMove b login (Ok moved.Disabled) old new = new ≡ old
 LogsInByMove b login (Ok moved.Enabled) old new = new ≡ old
 LogsInByMove b login (Ok (moved.Marked n)) old new = new ≡ old
+LogsInByMove b login (Ok (moved.Dumped n)) old new = new ≡ old
+LogsInByMove b login (Ok (moved.Loaded n)) old new = new ≡ old
 LogsInByMove b login (Ok (moved.Replayed n d)) old new = LogsInToTake b login d old new
 LogsInByMove b login (Err (errors.NotNow why)) old new = new ≡ old
 LogsInByMove b login (Err errors.NoMemory) old new = new ≡ old
@@ -52,3 +55,5 @@ HasLogins old new (Disable b) g = logins_of new.cells ≡ logins_of old.cells
 HasLogins old new (Replay b) g = LogsInByMove b (login_to_take old b) g (logins_of old.cells) (logins_of new.cells)
 HasLogins old new (Enable b) g = logins_of new.cells ≡ logins_of old.cells
 HasLogins old new (Mark name) g = logins_of new.cells ≡ logins_of old.cells
+HasLogins old new (Dump b name) g = logins_of new.cells ≡ logins_of old.cells
+HasLogins old new (Load b name) g = logins_of new.cells ≡ logins_of old.cells

@@ -1,7 +1,7 @@
 -- When a move may be asked for.
 use Rattle.std.specs.Prelude.{◌<◌}
 use Rattle.cj_cluster.specs.declared.moves.Move.{Move}
-use Rattle.cj_cluster.specs.declared.moves.Move.TheVariants.{Open, Close, Schedule, Abort, Apply, End, Read, Arm, Disable, Replay, Enable, Mark}
+use Rattle.cj_cluster.specs.declared.moves.Move.TheVariants.{Open, Close, Schedule, Abort, Apply, End, Read, Arm, Disable, Replay, Enable, Mark, Dump, Load}
 use Rattle.cj_model.specs.declared.limits.TheConstants.{REQUEST_LIMIT}
 use Rattle.cj_cluster.specs.Moves.Cores.{Core, session_at}
 use Rattle.cj_cluster.specs.Moves.Runs.{IsMoveOfCluster}
@@ -20,6 +20,8 @@ CanAsk c (Disable b) = Unit {0}
 CanAsk c (Replay b) = Unit {0}
 CanAsk c (Enable b) = Unit {0}
 CanAsk c (Mark name) = Unit {0}
+CanAsk c (Dump b name) = Unit {0}
+CanAsk c (Load b name) = Unit {0}
 
 -- the move is one of this cluster, and its session can make one request more
 abbrev pub IsMet : Core → Move → Type 0

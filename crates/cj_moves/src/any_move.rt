@@ -15,8 +15,10 @@ use crate::apply::{apply, not_now_apply};
 use crate::arm::arm;
 use crate::close::{close, not_now_close};
 use crate::disable::{disable, not_now_disable};
+use crate::dump::{dump, not_now_dump};
 use crate::enable::{enable, not_now_enable};
 use crate::end::{end, not_now_end};
+use crate::load::{load, not_now_load};
 use crate::mark::{mark, not_now_mark};
 use crate::open::open;
 use crate::read::{not_now_read, read};
@@ -30,6 +32,7 @@ use cj_state::State;
 /// The first reason, in the order of their tests. That another read is open, and that the
 /// backend does not serve it, is found where the read is made.
 fn why_not_now<B: Backend, S: Store>(state: &State<B, S>, m: &Move) -> Option<Why>
+    requires { IsMet state.now.core m.now }
     ensures { result ≡ moves.not_now state.now.core m.now }
 {
     match m {
@@ -44,6 +47,8 @@ fn why_not_now<B: Backend, S: Store>(state: &State<B, S>, m: &Move) -> Option<Wh
         Move::Replay { b } => not_now_replay(state, *b),
         Move::Enable { b } => not_now_enable(state, *b),
         Move::Mark { name } => not_now_mark(state, name),
+        Move::Dump { b, name } => not_now_dump(state, *b, name),
+        Move::Load { b, name } => not_now_load(state, *b, name),
     }
 }
 
@@ -77,5 +82,7 @@ pub fn step<B: Backend, S: Store>(state: &mut State<B, S>, m: Move) -> Result<Mo
         Move::Replay { b } => Ok(replay(state, b)),
         Move::Enable { b } => enable(state, b),
         Move::Mark { name } => mark(state, &name),
+        Move::Dump { b, name } => dump(state, b, &name),
+        Move::Load { b, name } => Ok(load(state, b, &name)),
     }
 }

@@ -56,7 +56,8 @@ makes_kept names rows made empty count masks is nameless =
 on_bool : {G : Type 0} (b : Bool) → (b ≡ true → G) → (b ≡ false → G) → G
 on_bool b f g = ⊎_elim (λ (t : b ≡ true). f t) (λ (t : b ≡ false). g t) (cases_Bool b)
 
-any_map : {A B : Type 0} (q : B → Bool) (f : A → B) (xs : List A) → list_any q (map f xs) ≡ list_any (λ x. q (f x)) xs
+-- what some item of a list comes from
+pub any_map : {A B : Type 0} (q : B → Bool) (f : A → B) (xs : List A) → list_any q (map f xs) ≡ list_any (λ x. q (f x)) xs
 any_map q f [] = refl
 any_map q f (x ∷ xs) = ap (λ b. q (f x) || b) (any_map q f xs)
 

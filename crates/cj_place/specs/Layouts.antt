@@ -13,6 +13,7 @@ use Rattle.cj_model.specs.declared.placement.PlaceRow.{PlaceRow}
 use Rattle.cj_model.specs.Cluster.Masks.{in_mask}
 use Rattle.cj_model.specs.Cluster.Placements.{Hosting, Placement, hosts}
 use Rattle.cj_model.specs.Database.Tables.{name_cmp, put_by}
+use Rattle.cj_model.specs.Sql.Names.{is_name}
 use Rattle.cj_place.specs.declared.error.PlaceError.{PlaceError}
 use Rattle.cj_place.specs.declared.error.PlaceError.TheVariants as error
 
@@ -62,6 +63,10 @@ MakesLayout None layout (Err e) = e ≡ error.NoMemory
 abbrev pub tables_at : Layout → ℕ → List (List ℕ)
 tables_at l b = filter (hosts (placement_of l) b) (map (λ (row : PlaceRow). row.table) l.rows)
 
+-- the tables that a dump of backend b covers: those that the placement names for it, or none where it hosts every table
+abbrev pub covered : Layout → ℕ → List (List ℕ)
+covered l b = if l.full then [] else fold (put_by name_cmp) [] (filter is_name (tables_at l b))
+
 -- backend b is enabled and hosts the table, and each other backend isn't or doesn't
 abbrev pub is_last_host : Placement → ℕ → ℕ → List ℕ → Bool
 is_last_host p b enabled table = hosts p b table && in_mask enabled b && list_all (λ c. c == b || not (hosts p c table && in_mask enabled c)) (range_with_len 0 p.backends)
@@ -79,3 +84,7 @@ is_outside p b tables table = hosts p b table && not (list_any (λ t. bytes_eq t
 -- the first table of the rows that backend b hosts and that is none of these
 abbrev pub first_outside : Layout → ℕ → List (List ℕ) → Option (List ℕ)
 first_outside l b tables = find (is_outside (placement_of l) b tables) (map (λ (row : PlaceRow). row.table) l.rows)
+
+-- a table that the placement lists is hosted by backend b and not by the other
+abbrev pub hosts_beyond : Placement → ℕ → ℕ → Bool
+hosts_beyond p b other = list_any (λ (h : Hosting). hosts p b h.table && not (hosts p other h.table)) p.hostings

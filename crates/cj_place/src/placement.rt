@@ -1,11 +1,12 @@
 //! Placements of tables on backends.
 
-ghost use Rattle.std.specs.Prelude.{◌≡◌, ◌<◌, ◌≤◌, [], ◌∷◌, ℕ, Some, filter, find, fold, length, map, option_copied, position, slice_get, true, IfOk, OnOk, OnErr};
+ghost use Rattle.std.specs.Prelude.{◌≡◌, ◌<◌, ◌≤◌, [], ◌∷◌, ℕ, All, Some, filter, find, fold, length, map, option_copied, position, slice_get, true, IfOk, OnOk, OnErr};
 ghost use Rattle.std.specs.Str.{bytes_eq};
 ghost use Rattle.cj_model.specs.Cluster.Masks.{in_mask};
 ghost use Rattle.cj_model.specs.Cluster.Placements as placements;
 ghost use Rattle.cj_model.specs.Cluster.Placements.{hosts_all};
 ghost use Rattle.cj_model.specs.Database.Tables.{name_cmp, put_by};
+ghost use Rattle.cj_model.specs.Sql.Names.{is_name};
 ghost use Rattle.cj_place.specs.Layouts as layouts;
 ghost use Rattle.cj_place.specs.Layouts.{MakesLayout, is_full, layout_of, placement_of, tables_at};
 ghost use Rattle.cj_place.specs.Refusals.{has_count, refusal_of_placement};
@@ -13,7 +14,7 @@ ghost use Rattle.cj_place.specs.Refusals.{has_count, refusal_of_placement};
 use crate::error::PlaceError;
 use crate::masks::{first_bits, is_lone_bit};
 use crate::refusals::refusal;
-use crate::rows::{HostRow, host_rows, mask_at, number_of};
+use crate::rows::{HostRow, has_beyond, host_rows, mask_at, number_of};
 use cj_model::{
     BACKEND_LIMIT, Duplicate, Level, ListOf, Name, Names, NoMemory, PlaceRows, TableSet, has_bit,
 };
@@ -53,6 +54,14 @@ fn replicates_in_full(level: Level) -> bool
         Level::Raidb1 => true,
         Level::Raidb2 => false,
     }
+}
+
+/// Whether it is a name and not the empty one.
+#[tactic(auto, unfolding(cj_model::specs::Sql::Names::is_name))]
+fn is_named(table: &Name) -> bool
+    ensures { result ≡ is_name table.now }
+{
+    !table.as_slice().is_empty()
 }
 
 impl Placement {
@@ -185,6 +194,40 @@ impl Placement {
         self.hosted_of(alloc, b, self.rows.as_slice())
     }
 
+    fn add_covered(&self, set: &mut TableSet, b: u8, table: &Name) -> Result<(), NoMemory>
+        requires { b < length self.now.names }
+        ensures { OnOk result (set.new ≡ fold (put_by name_cmp) set.old (filter is_name (filter (placements.hosts (placement_of self.now) b) (table.now ∷ [])))) }
+    {
+        if is_named(table) {
+            self.add_hosted(set, b, table)?;
+        }
+        Ok(())
+    }
+
+    fn covered_of(&self, alloc: Global, b: u8, rows: &[HostRow]) -> Result<TableSet, NoMemory>
+        requires { b < length self.now.names }
+        ensures { IfOk result (λ set. set ≡ fold (put_by name_cmp) [] (filter is_name (filter (placements.hosts (placement_of self.now) b) (map (λ row. row.given.table) rows.now)))) }
+    {
+        let mut set = TableSet::new(alloc);
+        for row in rows {
+            self.add_covered(&mut set, b, &row.given.table)?;
+        }
+        Ok(set)
+    }
+
+    /// The tables that a dump of the backend covers: those that the rows name for it, or none
+    /// where it hosts every table.
+    pub fn covered(&self, alloc: Global, b: u8) -> Result<TableSet, NoMemory>
+        requires { b < length self.now.names }
+        ensures tables { IfOk result (λ set. set ≡ layouts.covered self.now b) }
+        ensures names { IfOk result (All (λ name. is_name name ≡ true)) }
+    {
+        if self.full {
+            return Ok(TableSet::new(alloc));
+        }
+        self.covered_of(alloc, b, self.rows.as_slice())
+    }
+
     fn is_last_host(&self, b: u8, enabled: u32, table: &Name) -> bool
         requires { b < length self.now.names }
         ensures { result ≡ layouts.is_last_host (placement_of self.now) b enabled table.now }
@@ -246,6 +289,18 @@ impl Placement {
         ensures { option_copied result ≡ layouts.first_outside self.now b set.now }
     {
         self.outside_of(b, set, self.rows.as_slice())
+    }
+
+    /// Whether the backend hosts a table that another doesn't.
+    pub fn hosts_beyond(&self, b: u8, other: u8) -> bool
+        requires backend { b < length self.now.names }
+        requires other { other < length self.now.names }
+        ensures { result ≡ layouts.hosts_beyond (placement_of self.now) b other }
+    {
+        if self.full {
+            return false;
+        }
+        has_beyond(self.rows.as_slice(), b, other)
     }
 }
 

@@ -1,6 +1,6 @@
 //! Tables with the masks of their hosts.
 
-ghost use Rattle.std.specs.Prelude.{◌≡◌, ◌≤◌, ◌==◌, ◌||◌, ◌&&◌, [], All, ℕ, find, fold, length, map, nat_lt, option_copied, position, IfOk, OnOk};
+ghost use Rattle.std.specs.Prelude.{◌≡◌, ◌<◌, ◌≤◌, ◌==◌, ◌||◌, ◌&&◌, [], All, ℕ, find, fold, length, map, nat_lt, not, option_copied, position, IfOk, OnOk};
 ghost use Rattle.std.specs.List.{list_any};
 ghost use Rattle.std.specs.Str.{bytes_eq};
 ghost use Rattle.cj_model.specs.Proving.Gaps.{IsPlace};
@@ -10,7 +10,7 @@ ghost use Rattle.cj_place.specs.Layouts.{by_row};
 ghost use Rattle.cj_place.specs.Layouts as layouts;
 ghost use Rattle.cj_place.specs.Kept.{HasMask, IsMasked, by_given, mask_in};
 
-use cj_model::{BACKEND_LIMIT, Duplicate, Name, NoMemory, PlaceRow, PlaceRows, with_bit};
+use cj_model::{BACKEND_LIMIT, Duplicate, Name, NoMemory, PlaceRow, PlaceRows, has_bit, with_bit};
 use std::alloc::Global;
 use std::cmp::Ordering;
 
@@ -141,4 +141,14 @@ pub fn mask_at(rows: &[HostRow], table: &Name) -> u32
         Some(row) => row.mask,
         None => 0,
     }
+}
+
+/// Whether some mask has the backend and not the other.
+pub fn has_beyond(rows: &[HostRow], b: u8, other: u8) -> bool
+    requires backend { b < 32 }
+    requires other { other < 32 }
+    ensures { result ≡ list_any (λ row. in_mask row.mask b && not (in_mask row.mask other)) rows.now }
+{
+    rows.iter()
+        .any(|row| has_bit(row.mask, b) && !has_bit(row.mask, other))
 }

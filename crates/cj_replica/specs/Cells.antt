@@ -13,6 +13,7 @@ use Rattle.cj_model.specs.declared.answer.Asked.{Asked}
 use Rattle.cj_model.specs.Database.Steps.{step}
 use Rattle.cj_model.specs.Database.Queries.{ask}
 use Rattle.cj_model.specs.Database.Outcomes.{IsOutcome}
+use Rattle.cj_model.specs.Database.Storable.{writers}
 use Rattle.cj_model.specs.Cluster.Placements.{Placement}
 use Rattle.cj_cluster.specs.History.Transactions.{takes_part, begun_after}
 use Rattle.cj_backend.specs.declared.backend.BackendError.{BackendError}
@@ -73,8 +74,8 @@ is_skipped (Ok Skipped) = true
 is_skipped (Ok (Did o)) = false
 is_skipped (Err d) = false
 
--- past the entry, or out
-abbrev pub position_after : ℕ → Result Caught CellError → Option ℕ
+-- at this position, or out
+abbrev pub position_after : {T : Type 0} → ℕ → Result T CellError → Option ℕ
 position_after n (Ok caught) = Some n
 position_after n (Err e) = None
 
@@ -114,6 +115,25 @@ error_of backend_errors.NoMemory = errors.Starved
 abbrev pub KeepsBegun : Option ℕ → List ℕ → List ℕ → Type 0
 KeepsBegun None kept begun = kept ≡ []
 KeepsBegun (Some p) kept begun = begun ≡ kept
+
+-- ---- loading
+
+-- the transactions that it has begun then, those with a draft in the database that was loaded; after an error it is out, and none
+abbrev pub begun_loaded : {T : Type 0} → List Slot → Result T CellError → List ℕ
+begun_loaded db (Ok x) = writers db
+begun_loaded db (Err e) = []
+
+-- what is told then: the database that was loaded, of a backend that tells; and after a fault nothing, or after want of memory nothing or as before
+abbrev pub TellsLoaded : {T : Type 0} → Bool → List Slot → Result T CellError → Option (List Slot) → Option (List Slot) → Type 0
+TellsLoaded tells db (Ok x) before now = now ≡ (if tells then Some db else None)
+TellsLoaded tells db (Err errors.Failed) before now = now ≡ None
+TellsLoaded tells db (Err errors.Starved) before now = (now ≡ None) ⊎ (now ≡ before)
+
+-- its backend was asked unless memory was wanting before, which leaves the backend as it was; an armed one failed, and is no longer armed
+abbrev pub SpendsArmingAtLoad : {T : Type 0} → Arming → Arming → Result T CellError → Type 0
+SpendsArmingAtLoad before now (Ok x) = (before.armed ≡ false) × (now ≡ spent before)
+SpendsArmingAtLoad before now (Err errors.Failed) = now ≡ spent before
+SpendsArmingAtLoad before now (Err errors.Starved) = (now ≡ before) ⊎ ((before.armed ≡ false) × (now ≡ spent before))
 
 -- ---- reading
 

@@ -1,6 +1,6 @@
 //! A backend with its place among the backends and its position of the log.
 
-ghost use Rattle.std.specs.Prelude.{◌≡◌, ◌⊎◌, ◌↔◌, ◌<◌, ◌≤◌, ◌==◌, ℕ, [], not, true, false, filter, Some, None, Ok, Err, IfOk, IfSome, OnOk, is_err};
+ghost use Rattle.std.specs.Prelude.{◌≡◌, ◌⊎◌, ◌↔◌, ◌<◌, ◌≤◌, ◌==◌, ℕ, [], not, true, false, filter, Some, None, Ok, Err, IfOk, IfSome, OnOk, OnErr, is_err};
 ghost use Rattle.cj_model.specs.declared.request.Act.TheVariants as act;
 ghost use Rattle.cj_model.specs.declared.request.Request.TheVariants as request;
 ghost use Rattle.cj_model.specs.Cluster.Placements as placements;
@@ -13,8 +13,9 @@ ghost use Rattle.cj_replica.specs.Calls.{CanCarryOut, LogsInAt, SaysCarried, Tel
 ghost use Rattle.cj_replica.specs.Cells.{HasCellCause, SpendsArmingIf};
 ghost use Rattle.cj_backend.specs.Backends as backends;
 
+use crate::writers::writers_of;
 use cj_backend::{Backend, BackendError};
-use cj_model::{Act, Asked, Db, Entry, Name, Outcome, Select, Text, Write, has_bit};
+use cj_model::{Act, Asked, Db, Entry, Name, NoMemory, Outcome, Select, Text, Write, has_bit};
 use cj_place::Placement;
 use cj_usage::written;
 use std::alloc::Global;
@@ -70,6 +71,17 @@ impl From<BackendError> for CellError {
     }
 }
 
+impl From<NoMemory> for CellError {
+    ghost use Rattle.std.specs.Prelude.{◌≡◌};
+    ghost use Rattle.cj_replica.specs.declared.cell.CellError.TheVariants as errors;
+
+    ghost from_gives = { λ _ e. e ≡ errors.Starved };
+
+    fn from(_error: NoMemory) -> CellError {
+        CellError::Starved
+    }
+}
+
 impl From<BackendError> for CellReadError {
     ghost use Rattle.std.specs.Prelude.{◌≡◌};
     ghost use Rattle.cj_replica.specs.Cells.{read_error_of};
@@ -109,7 +121,7 @@ impl<B: Backend> Model for Cell<B> {
 }
 
 impl<B: Backend> Cell<B> {
-    ghost use Rattle.cj_replica.specs.Cells.{HasCellReadCause, IsCaught, IsNextEntry, KeepsBegun, LogsInForEntry, LogsInForRead, SaysReadAnswer, SaysEntryOutcome, TellsAfterEntry, begun_after_entry, is_asked, is_skipped, position_after, takes_part_in_entry};
+    ghost use Rattle.cj_replica.specs.Cells.{HasCellReadCause, IsCaught, IsNextEntry, KeepsBegun, LogsInForEntry, LogsInForRead, SaysReadAnswer, SaysEntryOutcome, SpendsArmingAtLoad, TellsAfterEntry, TellsLoaded, begun_after_entry, begun_loaded, is_asked, is_skipped, position_after, takes_part_in_entry};
     ghost use Rattle.cj_place.specs.Layouts.{placement_of};
 
     /// Backend `b` of the placement, which has taken no entry.
@@ -185,6 +197,31 @@ impl<B: Backend> Cell<B> {
         ensures same { self.new ≡ record self.old { faults = self.new.faults; arming = self.new.arming } }
     {
         Ok(self.backend.contents()?)
+    }
+
+    /// Holds this database from now on, which its backend is to hold at a position of the log. The
+    /// cell is out before, and stays so where the backend fails or memory is wanting. The transactions
+    /// with a draft in it are begun.
+    pub fn load(&mut self, db: Db, position: u64) -> Result<(), CellError>
+        requires out { self.old.position ≡ None }
+        requires storable { IsStorable db }
+        ensures position { self.new.position ≡ position_after position result }
+        ensures begun { self.new.begun ≡ begun_loaded db result }
+        ensures refused { OnErr result (self.new.begun ≡ self.old.begun) }
+        ensures told { TellsLoaded B.TELLS db result self.old.told self.new.told }
+        ensures cause { HasCellCause self.old.faults self.new.faults result }
+        ensures arming { SpendsArmingAtLoad self.old.arming self.new.arming result }
+        ensures asks { self.new.asks ≡ self.old.asks }
+        ensures login { self.new.login ≡ self.old.login }
+        ensures b { self.new.b ≡ self.old.b }
+        ensures placement { self.new.placement ≡ self.old.placement }
+    {
+        // The list comes before the backend: want of memory for it leaves the backend as it was.
+        let begun = writers_of(*self.begun.allocator(), db.as_slice())?;
+        self.backend.load(db)?;
+        self.begun = begun;
+        self.position = Some(position);
+        Ok(())
     }
 
     /// Answers a query of transaction `tx`, 0 for none, at a position not below `least`, and says

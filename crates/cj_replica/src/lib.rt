@@ -2,5 +2,6 @@
 #![tactic(auto)]
 
 mod cell;
+mod writers;
 
 pub use cell::{Caught, Cell, CellError, CellReadError};

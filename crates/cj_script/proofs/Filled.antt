@@ -2,7 +2,7 @@
 use Rattle.std.proofs.Common.{◌≡◌, ℕ, ◌+◌, ◌*◌, ◌≤◌, Bool, not, List, [], ◌∷◌, ◌++◌, length, inl, inr, refl, ap, sym, subst, ◌∙◌, arith, length-append}
 use Rattle.std.proofs.lemmas.List.Elements.{filter-append}
 use Rattle.cj_cluster.specs.declared.moves.Move.{Move}
-use Rattle.cj_cluster.specs.declared.moves.Move.TheVariants.{Open, Close, Schedule, Abort, Apply, End, Read, Arm, Disable, Replay, Enable, Mark}
+use Rattle.cj_cluster.specs.declared.moves.Move.TheVariants.{Open, Close, Schedule, Abort, Apply, End, Read, Arm, Disable, Replay, Enable, Mark, Dump, Load}
 use Rattle.cj_cluster.specs.Script.Lines.{MoveLine}
 use Rattle.cj_state.specs.Worlds.{WorldState}
 use Rattle.cj_script.specs.Script.{audit_line, is_empty, filled, PlaysLine}
@@ -27,6 +27,8 @@ move_line_long names line (Disable b) (name, is, e) = verb_more line _ _ _ e
 move_line_long names line (Replay b) (name, is, e) = verb_more line _ _ _ e
 move_line_long names line (Enable b) (name, is, e) = verb_more line _ _ _ e
 move_line_long names line (Mark name) (is, e) = verb_more line _ _ _ e
+move_line_long names line (Dump b name) (backend, is, named, e) = verb_more line _ _ _ e
+move_line_long names line (Load b name) (backend, is, named, e) = verb_more line _ _ _ e
 
 -- ---- lists of lines
 

@@ -12,7 +12,7 @@ use Rattle.cj_outside.specs.Lines.{Reading}
 use Rattle.cj_outside.specs.Streams.{most}
 use Rattle.cj_outside.proofs.Joined.{appends_then, appends_more}
 use Rattle.cj_cluster.specs.declared.moves.Move.{Move}
-use Rattle.cj_cluster.specs.declared.moves.Move.TheVariants.{Open, Close, Schedule, Abort, Apply, End, Read, Arm, Disable, Replay, Enable, Mark}
+use Rattle.cj_cluster.specs.declared.moves.Move.TheVariants.{Open, Close, Schedule, Abort, Apply, End, Read, Arm, Disable, Replay, Enable, Mark, Dump, Load}
 use Rattle.cj_cluster.specs.Moves.Cores.{Core, session_at}
 use Rattle.cj_cluster.specs.Moves.Runs.{RunsMoves, IsBetweenReplies, IsChained, IsMoveOfCluster, CanCountRequests}
 use Rattle.cj_cluster.specs.Script.Lines.{MoveLine, NamesBackend, moved_lines}
@@ -104,6 +104,8 @@ line_move names n line (Disable b) as_many h = named_within names n line (codes 
 line_move names n line (Replay b) as_many h = named_within names n line (codes "replay") b as_many h
 line_move names n line (Enable b) as_many h = named_within names n line (codes "enable") b as_many h
 line_move names n line (Mark name) as_many h = h.0
+line_move names n line (Dump b name) as_many (backend, is, named, e) = (subst (λ (k : ℕ). b < k) as_many (position-Some (bytes_eq backend) names b [] is.named).0, named)
+line_move names n line (Load b name) as_many (backend, is, named, e) = (subst (λ (k : ℕ). b < k) as_many (position-Some (bytes_eq backend) names b [] is.named).0, named)
 
 lines_move : (names : List (List ℕ)) (n : ℕ) (lines : List (List ℕ)) (steps : List Step) → length names ≡ n → AreSteps names lines steps → All (IsMoveOfCluster n) (moves_in steps)
 lines_move names n [] [] as_many h = All-nil (IsMoveOfCluster n)

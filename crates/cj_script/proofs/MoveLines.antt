@@ -7,7 +7,7 @@ use Rattle.cj_cluster.specs.declared.moves.Move.{Move}
 use Rattle.cj_cluster.specs.declared.moves.Move.TheVariants as move
 use Rattle.cj_cluster.specs.Script.Lines.{HasNoSpace, MoveLine}
 use Rattle.cj_script.specs.declared.verb.Verb.{Verb}
-use Rattle.cj_script.specs.declared.verb.Verb.TheVariants.{Open, Close, Write, Abort, Apply, End, Read, Arm, Disable, Replay, Enable, Mark}
+use Rattle.cj_script.specs.declared.verb.Verb.TheVariants.{Open, Close, Write, Abort, Apply, End, Read, Arm, Disable, Replay, Enable, Mark, Dump, Load}
 use Rattle.cj_script.specs.declared.verb.TheConstants.{VERBS}
 use Rattle.cj_script.specs.Reading.{Finds, find_verb, verb_of, word_of, CutsWord, Arguments}
 use Rattle.cj_script.proofs.Cutting.{no_space, cut_one}
@@ -29,6 +29,8 @@ verb_of-word_of Disable = refl
 verb_of-word_of Replay = refl
 verb_of-word_of Enable = refl
 verb_of-word_of Mark = refl
+verb_of-word_of Dump = refl
+verb_of-word_of Load = refl
 
 -- each is a word
 word_of_verb : (v : Verb) → HasNoSpace (word_of v)
@@ -44,6 +46,8 @@ word_of_verb Disable = refl
 word_of_verb Replay = refl
 word_of_verb Enable = refl
 word_of_verb Mark = refl
+word_of_verb Dump = refl
+word_of_verb Load = refl
 
 -- the table says of each verb its word
 Agrees : List (List ℕ × Verb) → Type 0
@@ -65,7 +69,7 @@ lookup_word (k ∷ ks) word v a e = elim (cases_Bool (bytes_eq k.0 word)) [
 
 found_word : (word : List ℕ) (v : Verb) → verb_of word ≡ Some v → word ≡ word_of v
 unfolding verb_of Agrees
-found_word word v e = lookup_word (map (λ v. (v.0.now, v.1)) VERBS) word v (refl, (refl, (refl, (refl, (refl, (refl, (refl, (refl, (refl, (refl, (refl, (refl, tt)))))))))))) e
+found_word word v e = lookup_word (map (λ v. (v.0.now, v.1)) VERBS) word v (refl, (refl, (refl, (refl, (refl, (refl, (refl, (refl, (refl, (refl, (refl, (refl, (refl, (refl, tt)))))))))))))) e
 
 -- ---- parts
 
@@ -100,6 +104,8 @@ line_parts names line (move.Disable b) h = behind Disable h.0 h.2 (b, h.1, refl)
 line_parts names line (move.Replay b) h = behind Replay h.0 h.2 (b, h.1, refl)
 line_parts names line (move.Enable b) h = behind Enable h.0 h.2 (b, h.1, refl)
 line_parts names line (move.Mark name) h = behind Mark name h.1 (h.0, refl)
+line_parts names line (move.Dump b name) h = behind Dump (h.0 ++ 32 ∷ name) h.3 (b, name, (record { word = h.0; backend = h.1; parts = refl }, h.2), refl)
+line_parts names line (move.Load b name) h = behind Load (h.0 ++ 32 ∷ name) h.3 (b, name, (record { word = h.0; backend = h.1; parts = refl }, h.2), refl)
 
 -- and such parts are a move's line
 parts_line : (names : List (List ℕ)) (line rest : List ℕ) (v : Verb) (m : Move) → line ≡ word_of v ++ 32 ∷ rest → Arguments names v rest m → MoveLine names line m
@@ -125,6 +131,10 @@ parts_line names line rest Disable m e a = subst (MoveLine names line) (sym a.2)
 parts_line names line rest Replay m e a = subst (MoveLine names line) (sym a.2) (rest, a.1, e)
 parts_line names line rest Enable m e a = subst (MoveLine names line) (sym a.2) (rest, a.1, e)
 parts_line names line rest Mark m e a = subst (MoveLine names line) (sym a.1) (a.0, e)
+parts_line names line rest Dump m e a =
+    subst (MoveLine names line) (sym a.3) (a.2.0.word, a.2.0.backend, a.2.1, e ∙ ap (λ (z : List ℕ). word_of Dump ++ 32 ∷ z) a.2.0.parts)
+parts_line names line rest Load m e a =
+    subst (MoveLine names line) (sym a.3) (a.2.0.word, a.2.0.backend, a.2.1, e ∙ ap (λ (z : List ℕ). word_of Load ++ 32 ∷ z) a.2.0.parts)
 
 -- ---- what a line that was cut is
 

@@ -13,7 +13,7 @@ use Rattle.cj_cluster.specs.declared.moves.Move.TheVariants as move
 use Rattle.cj_model.specs.Sql.Names.{is_name, is_nothing}
 use Rattle.cj_cluster.specs.Script.Lines.{HasNoSpace, IsUser, IsNumber, IsBackend, IsPlainSql, IsWrite}
 use Rattle.cj_script.specs.declared.verb.Verb.{Verb}
-use Rattle.cj_script.specs.declared.verb.Verb.TheVariants.{Open, Close, Write, Abort, Apply, End, Read, Arm, Disable, Replay, Enable, Mark}
+use Rattle.cj_script.specs.declared.verb.Verb.TheVariants.{Open, Close, Write, Abort, Apply, End, Read, Arm, Disable, Replay, Enable, Mark, Dump, Load}
 use Rattle.cj_script.specs.declared.verb.TheConstants.{VERBS}
 
 -- one value, and no other, is as the fact says; or none is
@@ -45,6 +45,8 @@ word_of Disable = codes "disable"
 word_of Replay = codes "replay"
 word_of Enable = codes "enable"
 word_of Mark = codes "mark"
+word_of Dump = codes "dump"
+word_of Load = codes "load"
 
 -- ---- words
 
@@ -125,6 +127,14 @@ Names names make rest m = (b : ℕ) × IsBackend names rest b × (m ≡ make b)
 abbrev pub ReadsMark : List ℕ → Move → Type 0
 ReadsMark rest m = (is_name rest ≡ true) × (m ≡ move.Mark rest)
 
+-- a backend's name and that of a dump
+abbrev pub NamesDump : List (List ℕ) → List ℕ → ℕ × List ℕ → Type 0
+NamesDump names rest (b, name) = IsNamed names rest b name × (is_name name ≡ true)
+
+-- and the move of these
+abbrev pub OfDump : List (List ℕ) → (ℕ → List ℕ → Move) → List ℕ → Move → Type 0
+OfDump names make rest m = (b : ℕ) × (name : List ℕ) × NamesDump names rest (b, name) × (m ≡ make b name)
+
 -- behind this verb and a space these are the arguments of the move
 abbrev pub Arguments : List (List ℕ) → Verb → List ℕ → Move → Type 0
 Arguments names Open rest m = ReadsOpen rest m
@@ -139,6 +149,8 @@ Arguments names Disable rest m = Names names move.Disable rest m
 Arguments names Replay rest m = Names names move.Replay rest m
 Arguments names Enable rest m = Names names move.Enable rest m
 Arguments names Mark rest m = ReadsMark rest m
+Arguments names Dump rest m = OfDump names move.Dump rest m
+Arguments names Load rest m = OfDump names move.Load rest m
 
 -- the move of a line that is one word
 abbrev pub IsOneWordMove : List ℕ → Move → Type 0

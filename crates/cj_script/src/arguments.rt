@@ -3,7 +3,7 @@
 ghost use Rattle.std.specs.Prelude.{◌≡◌, ◌≤◌, ◌<◌, ◌↔◌, length, IfOk, IsTrue, is_some};
 ghost use Rattle.cj_model.specs.Sql.PlainRequests.{act_of};
 ghost use Rattle.cj_cluster.specs.Script.Lines.{IsPlainSql, IsUser, IsWrite};
-ghost use Rattle.cj_script.specs.Reading.{Arguments, ReadsAbort, ReadsClose, ReadsMark, Finds, IsQuery, ReadsOpen, Queries, Writes};
+ghost use Rattle.cj_script.specs.Reading.{Arguments, NamesDump, OfDump, ReadsAbort, ReadsClose, ReadsMark, Finds, IsQuery, ReadsOpen, Queries, Writes};
 
 use crate::verb::Verb;
 use crate::words::{backend, is_word, named, number, numbered};
@@ -153,6 +153,42 @@ fn mark(rest: &[u8]) -> Option<Move>
     }
 }
 
+/// "B NAME"
+fn dump_named(names: &Names, rest: &[u8]) -> Option<(u8, Name)>
+    requires { length names.now ≤ BACKEND_LIMIT }
+    ensures { Finds (NamesDump names.now rest.now) result }
+{
+    let Some((b, word)) = named(names, rest) else {
+        return None;
+    };
+    match Name::of(word) {
+        Some(name) => Some((b, name)),
+        None => None,
+    }
+}
+
+/// "dump B NAME"
+fn dump(names: &Names, rest: &[u8]) -> Option<Move>
+    requires { length names.now ≤ BACKEND_LIMIT }
+    ensures { Finds (OfDump names.now Move.Dump rest.now) result }
+{
+    match dump_named(names, rest) {
+        Some((b, name)) => Some(Move::Dump { b, name }),
+        None => None,
+    }
+}
+
+/// "load B NAME"
+fn load(names: &Names, rest: &[u8]) -> Option<Move>
+    requires { length names.now ≤ BACKEND_LIMIT }
+    ensures { Finds (OfDump names.now Move.Load rest.now) result }
+{
+    match dump_named(names, rest) {
+        Some((b, name)) => Some(Move::Load { b, name }),
+        None => None,
+    }
+}
+
 /// What follows the word of the verb and a space, as a move.
 pub fn arguments(
     alloc: Global,
@@ -176,5 +212,7 @@ pub fn arguments(
         Verb::Replay => Ok(backend(names, rest).map(|b| Move::Replay { b })),
         Verb::Enable => Ok(backend(names, rest).map(|b| Move::Enable { b })),
         Verb::Mark => Ok(mark(rest)),
+        Verb::Dump => Ok(dump(names, rest)),
+        Verb::Load => Ok(load(names, rest)),
     }
 }

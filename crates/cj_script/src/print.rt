@@ -85,10 +85,13 @@ fn moved_words(alloc: Global, names: &Names, moved: &Moved) -> Result<Vec<u8>, N
         Moved::Behind(position) => Ok(format!(in alloc; "behind {position}")?.into_bytes()),
         Moved::Out => Ok(format!(in alloc; "out")?.into_bytes()),
         Moved::Failed => Ok(format!(in alloc; "failed")?.into_bytes()),
+        Moved::Starved => Ok(format!(in alloc; "starved")?.into_bytes()),
         Moved::Armed => Ok(format!(in alloc; "armed")?.into_bytes()),
         Moved::Disabled => Ok(format!(in alloc; "disabled")?.into_bytes()),
         Moved::Enabled => Ok(format!(in alloc; "enabled")?.into_bytes()),
         Moved::Marked(after) => Ok(format!(in alloc; "marked {after}")?.into_bytes()),
+        Moved::Dumped(position) => Ok(format!(in alloc; "dumped {position}")?.into_bytes()),
+        Moved::Loaded(position) => Ok(format!(in alloc; "loaded {position}")?.into_bytes()),
         Moved::Replayed { number, did } => {
             let did = did_words(alloc, did)?;
             Ok(format!(in alloc; "replayed {number} {did}")?.into_bytes())

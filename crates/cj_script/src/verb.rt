@@ -18,10 +18,12 @@ pub enum Verb {
     Replay,
     Enable,
     Mark,
+    Dump,
+    Load,
 }
 
 /// The words of the verbs.
-pub const VERBS: [(&[u8], Verb); 12] = [
+pub const VERBS: [(&[u8], Verb); 14] = [
     (b"open", Verb::Open),
     (b"close", Verb::Close),
     (b"write", Verb::Write),
@@ -34,6 +36,8 @@ pub const VERBS: [(&[u8], Verb); 12] = [
     (b"replay", Verb::Replay),
     (b"enable", Verb::Enable),
     (b"mark", Verb::Mark),
+    (b"dump", Verb::Dump),
+    (b"load", Verb::Load),
 ];
 
 fn lookup(mut table: &[(&[u8], Verb)], word: &[u8]) -> Option<Verb>

@@ -1,2 +1,3 @@
+pub mod MemoryShelves
 pub mod Proving
 pub mod Shelves

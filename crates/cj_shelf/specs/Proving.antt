@@ -31,6 +31,12 @@ refusal_at at (decoding.BadField _) = errors.BadRecord at
 refusal_at at (decoding.Order _) = errors.BadRecord at
 refusal_at at decoding.NoMemory = errors.NoMemory
 
+-- the reason is no bad record, which no shelf over a store that tells its bytes gives once it is open
+abbrev pub IsNoBadRecord : ShelfError → Type 0
+IsNoBadRecord errors.Failed = Unit {0}
+IsNoBadRecord (errors.BadRecord _) = ⊥
+IsNoBadRecord errors.NoMemory = Unit {0}
+
 -- ---- names
 
 -- the names on the labels

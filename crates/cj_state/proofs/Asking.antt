@@ -21,6 +21,7 @@ use Rattle.cj_model.proofs.PartLaws.{ask_part}
 use Rattle.cj_outside.specs.Causes.{CountsFault, next}
 use Rattle.cj_book.specs.Books.{BookState, with_event, HasNoRoomForOne}
 use Rattle.cj_auth.specs.Admission.{Register}
+use Rattle.cj_dump.specs.declared.dump.Dump.{Dump}
 use Rattle.cj_place.specs.Layouts.{Layout, placement_of}
 use Rattle.cj_replica.specs.declared.cell.CellReadError.{CellReadError}
 use Rattle.cj_replica.specs.declared.cell.CellReadError.TheVariants as errors
@@ -36,44 +37,39 @@ use Rattle.cj_state.specs.CalledLogins.{logins_of, LogsInToAsk}
 use Rattle.cj_state.proofs.CellsKept.{position_of, begun_of, position_within, cells_set}
 use Rattle.cj_state.proofs.Counted.{logins_may, logins_same}
 
-module _ (tells : Bool) (reg : Register) (l : Layout) (h : List Event) (cells : List CellState) (f s : ℕ) (ss : List OpenSession) (g : ℕ) (numbers : List ℕ) (first_outcome : Option Outcome) (kept : Kept tells (world_of reg l h cells f s ss g) numbers first_outcome)
+module _ (tells : Bool) (reg : Register) (l : Layout) (h : List Event) (cells : List CellState) (f s : ℕ) (ss : List OpenSession) (g : ℕ) (ds : List Dump) (numbers : List ℕ) (first_outcome : Option Outcome) (kept : Kept tells (world_of reg l h cells f s ss g ds) numbers first_outcome)
     (b : ℕ) (lt : b < length cells) (x : CellState) (there : x ≡ get_or cells b x) where
-  place : position_at (core_of l h cells f s ss g) b ≡ x.position
+  place : position_at (core_of l h cells f s ss g ds) b ≡ x.position
   place = position_of cells b x lt ∙ ap (λ (z : CellState). z.position) (sym there)
 
   begins : get_or (map (λ (z : CellState). z.begun) cells) b [] ≡ x.begun
   begins = begun_of cells b x lt ∙ ap (λ (z : CellState). z.begun) (sym there)
 
-  module _ (y : CellState) (same : y ≡ record x { login = y.login; faults = y.faults; asks = y.asks; arming = y.arming }) where
+  module _ (y : CellState) (position : y.position ≡ x.position) (begun : y.begun ≡ x.begun) where
     -- no position changes
     same_places : map (λ (z : CellState). z.position) (set cells b y) ≡ map (λ (z : CellState). z.position) cells
     same_places =
         map-set (λ (z : CellState). z.position) cells b y
-        ∙ (ap (set (map (λ (z : CellState). z.position) cells) b) (ap (λ (z : CellState). z.position) same ∙ sym place) ∙ set-get_or (map (λ (z : CellState). z.position) cells) b None)
+        ∙ (ap (set (map (λ (z : CellState). z.position) cells) b) (position ∙ sym place) ∙ set-get_or (map (λ (z : CellState). z.position) cells) b None)
 
     -- and no transaction begins or ends
     same_begun : map (λ (z : CellState). z.begun) (set cells b y) ≡ map (λ (z : CellState). z.begun) cells
     same_begun =
         map-set (λ (z : CellState). z.begun) cells b y
-        ∙ (ap (set (map (λ (z : CellState). z.begun) cells) b) (ap (λ (z : CellState). z.begun) same ∙ sym begins) ∙ set-get_or (map (λ (z : CellState). z.begun) cells) b [])
+        ∙ (ap (set (map (λ (z : CellState). z.begun) cells) b) (begun ∙ sym begins) ∙ set-get_or (map (λ (z : CellState). z.begun) cells) b [])
 
     -- so nothing changes of the core
-    pub same_core : core_of l h (set cells b y) f s ss g ≡ core_of l h cells f s ss g
-    same_core =
-        ap (λ (ps : List (Option ℕ)). record (core_of l h cells f s ss g) { positions = ps; begun = map (λ (z : CellState). z.begun) (set cells b y) }) same_places
-        ∙ ap (λ (ts : List (List ℕ)). record (core_of l h cells f s ss g) { begun = ts }) same_begun
+    pub core_stays : core_of l h (set cells b y) f s ss g ds ≡ core_of l h cells f s ss g ds
+    core_stays =
+        ap (λ (ps : List (Option ℕ)). record (core_of l h cells f s ss g ds) { positions = ps; begun = map (λ (z : CellState). z.begun) (set cells b y) }) same_places
+        ∙ ap (λ (ts : List (List ℕ)). record (core_of l h cells f s ss g ds) { begun = ts }) same_begun
 
-    is_cell : IsCell tells (placement_of l) (log h) b y
-    is_cell =
-        let was : IsCell tells (placement_of l) (log h) b x = subst (IsCell tells (placement_of l) (log h) b) (sym there) (kept.world.cells b x lt) in
-        subst (IsCell tells (placement_of l) (log h) b) (sym same) (record { number = was.number; placement = was.placement; holds = was.holds })
-
-    pub kept_asked : Kept tells (world_of reg l h (set cells b y) f s ss g) numbers first_outcome
-    kept_asked =
+    pub kept_cell : IsCell tells (placement_of l) (log h) b y → Kept tells (world_of reg l h (set cells b y) f s ss g ds) numbers first_outcome
+    kept_cell is_cell =
         record {
           world =
               record {
-                sound = subst CoreInvariant (sym same_core) kept.world.sound;
+                sound = subst CoreInvariant (sym core_stays) kept.world.sound;
                 named = kept.world.named;
                 registered = kept.world.registered;
                 few = kept.world.few;
@@ -81,7 +77,7 @@ module _ (tells : Bool) (reg : Register) (l : Layout) (h : List Event) (cells : 
                 begun = refl;
                 cells = cells_set tells (placement_of l) (log h) cells b y is_cell kept.world.cells;
                 between =
-                    stand_rest (core_of l h cells f s ss g) (map (λ (z : CellState). z.position) (set cells b y)) (map (λ (z : CellState). z.begun) (set cells b y)) f s kept.world.between;
+                    stand_rest (core_of l h cells f s ss g ds) (map (λ (z : CellState). z.position) (set cells b y)) (map (λ (z : CellState). z.begun) (set cells b y)) f s kept.world.between;
               };
           numbers_are = kept.numbers_are;
           served = kept.served;
@@ -89,8 +85,20 @@ module _ (tells : Bool) (reg : Register) (l : Layout) (h : List Event) (cells : 
           whole = λ e k running part on end. kept.whole e k running part on (ap (λ ps. get_or ps k None) (sym same_places) ∙ end);
         }
 
+  module _ (y : CellState) (same : y ≡ record x { login = y.login; faults = y.faults; asks = y.asks; arming = y.arming }) where
+    pub same_core : core_of l h (set cells b y) f s ss g ds ≡ core_of l h cells f s ss g ds
+    same_core = core_stays y (ap (λ (z : CellState). z.position) same) (ap (λ (z : CellState). z.begun) same)
+
+    is_cell : IsCell tells (placement_of l) (log h) b y
+    is_cell =
+        let was : IsCell tells (placement_of l) (log h) b x = subst (IsCell tells (placement_of l) (log h) b) (sym there) (kept.world.cells b x lt) in
+        subst (IsCell tells (placement_of l) (log h) b) (sym same) (record { number = was.number; placement = was.placement; holds = was.holds; drafts = was.drafts })
+
+    pub kept_asked : Kept tells (world_of reg l h (set cells b y) f s ss g ds) numbers first_outcome
+    kept_asked = kept_cell y (ap (λ (z : CellState). z.position) same) (ap (λ (z : CellState). z.begun) same) is_cell
+
   -- what it answered
-  module _ (number tx : ℕ) (select : Select) (least : ℕ) (is_least : least ≡ (session_at (core_of l h cells f s ss g) number).least) where
+  module _ (number tx : ℕ) (select : Select) (least : ℕ) (is_least : least ≡ (session_at (core_of l h cells f s ss g ds) number).least) where
     -- what a cell that isn't out tells
     told : (p : ℕ) → x.position ≡ Some p → tells ≡ true → x.told ≡ Some (part (placement_of l) b (database_after (log h) p))
     told p is =
@@ -99,7 +107,7 @@ module _ (tells : Bool) (reg : Register) (l : Layout) (h : List Event) (cells : 
 
     -- a cell that is neither out nor below what the session has seen
     far_enough : (r : Result (Asked × ℕ) CellReadError) → r ≡ Err errors.Failed → (q : Option ℕ) → x.position ≡ q → ((r ≡ Err errors.Out) ↔ (x.position ≡ None))
-        → ((p : ℕ) → (r ≡ Err (errors.Behind p)) ↔ ((x.position ≡ Some p) × (p < least))) → IsFarEnough (core_of l h cells f s ss g) number b
+        → ((p : ℕ) → (r ≡ Err (errors.Behind p)) ↔ ((x.position ≡ Some p) × (p < least))) → IsFarEnough (core_of l h cells f s ss g ds) number b
     far_enough r failed None is out behind = let e = out.1 is in absurd (cc (failed, e))
     far_enough r failed (Some p) is out behind =
         record {
@@ -112,11 +120,11 @@ module _ (tells : Bool) (reg : Register) (l : Layout) (h : List Event) (cells : 
 
     -- the session's query, of which it hosts each table
     pub answers : hosts_all (placement_of l) b select.tables ≡ true → (answer : Asked) (p : ℕ) → SaysReadAnswer x.told tx select answer → IsAsked answer
-        → x.position ≡ Some p → least ≤ p → Asks tells (core_of l h cells f s ss g) number b tx select (Ok (answer, p))
+        → x.position ≡ Some p → least ≤ p → Asks tells (core_of l h cells f s ss g ds) number b tx select (Ok (answer, p))
     answers hosts answer p says possible position owed = (
       place ∙ position,
       subst (λ (m : ℕ). m ≤ p) is_least owed,
-      position_within (core_of l h cells f s ss g) kept.world.sound b p (place ∙ position),
+      position_within (core_of l h cells f s ss g ds) kept.world.sound b p (place ∙ position),
       possible,
       λ on.
           let a : answer ≡ ask (part (placement_of l) b (database_after (log h) p)) tx select = subst (λ (t : Option (List Slot)). IfSome t (λ db. answer ≡ ask db tx select)) (told p position on) says in
@@ -125,21 +133,21 @@ module _ (tells : Bool) (reg : Register) (l : Layout) (h : List Event) (cells : 
 
     -- or why it did not
     pub errs : {S : Type 0} (old new : BookState S) (q : ℕ) (d : CellReadError) (e : AskError) → old.history ≡ h → Notes old number q b d e new → (IsErrOf {T = Asked × ℕ} (Err d) errors.Out ↔ (x.position ≡ None))
-        → ((p : ℕ) → IsErrOf {T = Asked × ℕ} (Err d) (errors.Behind p) ↔ ((x.position ≡ Some p) × (p < least))) → Asks tells (core_of l h cells f s ss g) number b tx select (Err e)
-    errs old new q errors.Out e is notes out behind = subst (λ (d : AskError). Asks tells (core_of l h cells f s ss g) number b tx select (Err d)) (sym notes.0) (place ∙ out.0 refl)
+        → ((p : ℕ) → IsErrOf {T = Asked × ℕ} (Err d) (errors.Behind p) ↔ ((x.position ≡ Some p) × (p < least))) → Asks tells (core_of l h cells f s ss g ds) number b tx select (Err e)
+    errs old new q errors.Out e is notes out behind = subst (λ (d : AskError). Asks tells (core_of l h cells f s ss g ds) number b tx select (Err d)) (sym notes.0) (place ∙ out.0 refl)
     errs old new q (errors.Behind p) e is notes out behind =
         let early = (behind p).0 refl in
-        subst (λ (d : AskError). Asks tells (core_of l h cells f s ss g) number b tx select (Err d)) (sym notes.0) (place ∙ early.0, subst (λ (m : ℕ). p < m) is_least early.1)
-    errs old new q errors.NoMemory e is notes out behind = subst (λ (d : AskError). Asks tells (core_of l h cells f s ss g) number b tx select (Err d)) (sym notes.0) tt
+        subst (λ (d : AskError). Asks tells (core_of l h cells f s ss g ds) number b tx select (Err d)) (sym notes.0) (place ∙ early.0, subst (λ (m : ℕ). p < m) is_least early.1)
+    errs old new q errors.NoMemory e is notes out behind = subst (λ (d : AskError). Asks tells (core_of l h cells f s ss g ds) number b tx select (Err d)) (sym notes.0) tt
     errs old new q errors.Failed e is notes out behind =
         let there = far_enough (Err errors.Failed) refl x.position refl out behind in
         ⊎_elim
         (λ (came : (e ≡ ask_errors.Failed) × (0 < events_left old.history) × (new ≡ with_event old (ReadFailed number q b))).
-        subst (λ (d : AskError). Asks tells (core_of l h cells f s ss g) number b tx select (Err d)) (sym came.0) (there, subst (λ (l : List Event). 0 < events_left l) is came.1))
+        subst (λ (d : AskError). Asks tells (core_of l h cells f s ss g ds) number b tx select (Err d)) (sym came.0) (there, subst (λ (l : List Event). 0 < events_left l) is came.1))
         (λ (full : (k : ℕ) × (e ≡ ask_errors.Unnoted k) × HasNoRoomForOne old k × (new ≡ old)).
         let none : events_left old.history < 1 = full.2.full in
         let no_room : events_left old.history ≡ 0 = omega arith in
-        subst (λ (d : AskError). Asks tells (core_of l h cells f s ss g) number b tx select (Err d)) (sym full.1)
+        subst (λ (d : AskError). Asks tells (core_of l h cells f s ss g ds) number b tx select (Err d)) (sym full.1)
         (there, subst (λ (l : List Event). events_left l ≡ 0) is no_room, subst (λ (l : List Event). full.0 ≡ length l) is full.2.events))
         notes
 
@@ -157,16 +165,16 @@ noting Q old new s q b errors.Failed e notes same came =
     notes
 
 -- and of the core
-pub noted_core : {S : Type 0} (cells : List CellState) (f t : ℕ) (ss : List OpenSession) (old new : BookState S) (s q b : ℕ) (d : CellReadError) (e : AskError)
-    → q ≡ read_number (session_at (core_of old.layout old.history cells f t ss old.greatest) s) → Notes old s q b d e new
-    → core_of new.layout new.history cells f t ss new.greatest ≡ asked_core (core_of old.layout old.history cells f t ss old.greatest) s b (Err e)
-noted_core cells f t ss old new s q b errors.Out e number notes = rw (notes.0, notes.1) refl
-noted_core cells f t ss old new s q b (errors.Behind p) e number notes = rw (notes.0, notes.1) refl
-noted_core cells f t ss old new s q b errors.NoMemory e number notes = rw (notes.0, notes.1) refl
-noted_core cells f t ss old new s q b errors.Failed e number notes =
+pub noted_core : {S : Type 0} (cells : List CellState) (f t : ℕ) (ss : List OpenSession) (ds : List Dump) (old new : BookState S) (s q b : ℕ) (d : CellReadError) (e : AskError)
+    → q ≡ read_number (session_at (core_of old.layout old.history cells f t ss old.greatest ds) s) → Notes old s q b d e new
+    → core_of new.layout new.history cells f t ss new.greatest ds ≡ asked_core (core_of old.layout old.history cells f t ss old.greatest ds) s b (Err e)
+noted_core cells f t ss ds old new s q b errors.Out e number notes = rw (notes.0, notes.1) refl
+noted_core cells f t ss ds old new s q b (errors.Behind p) e number notes = rw (notes.0, notes.1) refl
+noted_core cells f t ss ds old new s q b errors.NoMemory e number notes = rw (notes.0, notes.1) refl
+noted_core cells f t ss ds old new s q b errors.Failed e number notes =
     ⊎_elim
     (λ (one : (e ≡ ask_errors.Failed) × (0 < events_left old.history) × (new ≡ with_event old (ReadFailed s q b))).
-    rw (one.0, one.2) (ap (λ (m : ℕ). core_of old.layout (old.history ++ ReadFailed s m b ∷ []) cells f t ss old.greatest) number))
+    rw (one.0, one.2) (ap (λ (m : ℕ). core_of old.layout (old.history ++ ReadFailed s m b ∷ []) cells f t ss old.greatest ds) number))
     (λ (full : (k : ℕ) × (e ≡ ask_errors.Unnoted k) × HasNoRoomForOne old k × (new ≡ old)). rw (full.1, full.3) refl)
     notes
 

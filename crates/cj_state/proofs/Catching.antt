@@ -17,12 +17,13 @@ use Rattle.cj_cluster.specs.History.Histories.{log, database_after}
 use Rattle.cj_cluster.specs.History.Transactions.{takes_part}
 use Rattle.cj_cluster.specs.Moves.Cores.{position_at}
 use Rattle.cj_cluster.specs.Moves.Moves.{DoesWithEntry}
-use Rattle.cj_cluster.specs.Proving.Invariants.{HoldsPart, CoversDrafts}
+use Rattle.cj_cluster.specs.Proving.Invariants.{HoldsPart, HasBegunDrafts, CoversDrafts}
 use Rattle.cj_cluster.proofs.Effects.{is_there}
-use Rattle.cj_cluster.proofs.PartRuns.{part_at_taken, part_at_passed}
+use Rattle.cj_cluster.proofs.PartRuns.{part_at_taken, part_at_passed, covers_at_taken, covers_at_passed}
 use Rattle.cj_cluster.proofs.TransactionLaws.{legal_fit}
 use Rattle.cj_backend.specs.Backends.{spent}
 use Rattle.cj_auth.specs.Admission.{Register}
+use Rattle.cj_dump.specs.declared.dump.Dump.{Dump}
 use Rattle.cj_place.specs.Layouts.{Layout, placement_of}
 use Rattle.cj_replica.specs.declared.cell.Caught.{Caught}
 use Rattle.cj_replica.specs.declared.cell.Caught.TheVariants as caught
@@ -47,8 +48,9 @@ module _ (tells : Bool) (accounts : List Account) (l : Layout) (h : List Event) 
   stands : x.position ≡ Some can.p
   stands = ap (λ (z : CellState). z.position) there ∙ can.stands x
 
-  covers : CoversDrafts x.begun (part (placement_of l) b (database_after (log h) can.p))
-  covers = subst (λ (z : CellState). CoversDrafts z.begun (part (placement_of l) b (database_after (log h) can.p))) (sym there) (can.covers x)
+  -- it has begun each transaction of which it holds a draft, where it tells
+  covers : tells ≡ true → CoversDrafts x.begun (part (placement_of l) b (database_after (log h) can.p))
+  covers = subst (λ (q : Option ℕ). HasBegunDrafts tells (placement_of l) b (log h) x.begun q) stands cell.drafts
 
   -- whether it takes part in the entry
   part_of : takes_part (placement_of l) b x.begun e.tx e.act ≡ takes_part_in_entry x e
@@ -66,34 +68,48 @@ module _ (tells : Bool) (accounts : List Account) (l : Layout) (h : List Event) 
   holds_now : (r : Result Caught CellError) → takes_part_in_entry x e ≡ not (is_skipped r) → TellsAfterEntry x.told e r y.told → (q : Option ℕ) → q ≡ position_after (can.p + 1) r → HoldsPart tells (placement_of l) b (log h) y.told q
   holds_now (Ok caught.Skipped) skipped told q is =
       subst (λ (z : Option ℕ). HoldsPart tells (placement_of l) b (log h) y.told z) (sym is)
-      (λ on. told ∙ (told_now on ∙ ap (λ db. Some db) (sym (part_at_passed (placement_of l) b x.begun (log h) can.fits can.p covers e entry (part_of ∙ skipped)))))
+      (λ on. told ∙ (told_now on ∙ ap (λ db. Some db) (sym (part_at_passed (placement_of l) b x.begun (log h) can.fits can.p (covers on) e entry (part_of ∙ skipped)))))
   holds_now (Ok (caught.Did o)) skipped told q is =
       subst (λ (z : Option ℕ). HoldsPart tells (placement_of l) b (log h) y.told z) (sym is)
       (λ on.
       told ∙ (ap (option_map (λ db. (step db e).db)) (told_now on)
-      ∙ ap (λ db. Some db) (sym (part_at_taken (placement_of l) b x.begun (log h) can.fits can.p covers e entry (part_of ∙ skipped)).0)))
+      ∙ ap (λ db. Some db) (sym (part_at_taken (placement_of l) b x.begun (log h) can.fits can.p (covers on) e entry (part_of ∙ skipped)).0)))
   holds_now (Err d) skipped told q is = subst (λ (z : Option ℕ). HoldsPart tells (placement_of l) b (log h) y.told z) (sym is) tt
 
+  -- and has begun the transactions of its drafts
+  drafts_now : (r : Result Caught CellError) → takes_part_in_entry x e ≡ not (is_skipped r) → y.begun ≡ begun_after_entry x.begun e r → (q : Option ℕ) → q ≡ position_after (can.p + 1) r → HasBegunDrafts tells (placement_of l) b (log h) y.begun q
+  drafts_now (Ok caught.Skipped) skipped begun q is =
+      subst (λ (z : Option ℕ). HasBegunDrafts tells (placement_of l) b (log h) y.begun z) (sym is)
+      (λ on.
+      subst (λ (ts : List ℕ). CoversDrafts ts (part (placement_of l) b (database_after (log h) (can.p + 1)))) (sym begun)
+      (covers_at_passed (placement_of l) b x.begun (log h) can.fits can.p (covers on) e entry (part_of ∙ skipped)))
+  drafts_now (Ok (caught.Did o)) skipped begun q is =
+      subst (λ (z : Option ℕ). HasBegunDrafts tells (placement_of l) b (log h) y.begun z) (sym is)
+      (λ on.
+      subst (λ (ts : List ℕ). CoversDrafts ts (part (placement_of l) b (database_after (log h) (can.p + 1)))) (sym begun)
+      (covers_at_taken (placement_of l) b x.begun (log h) can.fits can.p (covers on) e entry (part_of ∙ skipped)))
+  drafts_now (Err d) skipped begun q is = subst (λ (z : Option ℕ). HasBegunDrafts tells (placement_of l) b (log h) y.begun z) (sym is) tt
+
   does_now : (r : Result Caught CellError) → takes_part_in_entry x e ≡ not (is_skipped r) → SaysEntryOutcome x.told e r → IfOk r IsCaught → y.position ≡ position_after (can.p + 1) r → y.begun ≡ begun_after_entry x.begun e r
-      → (f s : ℕ) (ss : List OpenSession) (g : ℕ) → DoesWithEntry tells (core_of l h cells f s ss g) b can.p e (did_of r) (record { position = y.position; begun = y.begun })
-  does_now (Ok caught.Skipped) skipped says possible is begun f s ss g = (
+      → (f s : ℕ) (ss : List OpenSession) (g : ℕ) (ds : List Dump) → DoesWithEntry tells (core_of l h cells f s ss g ds) b can.p e (did_of r) (record { position = y.position; begun = y.begun })
+  does_now (Ok caught.Skipped) skipped says possible is begun f s ss g ds = (
     ap (λ (ts : List ℕ). takes_part (placement_of l) b ts e.tx e.act) begun_there ∙ (part_of ∙ skipped),
     rw (is, begun, begun_there) refl,
   )
-  does_now (Ok (caught.Did o)) skipped says possible is begun f s ss g = (
+  does_now (Ok (caught.Did o)) skipped says possible is begun f s ss g ds = (
     ap (λ (ts : List ℕ). takes_part (placement_of l) b ts e.tx e.act) begun_there ∙ (part_of ∙ skipped),
     possible,
     λ on.
         let o_is : o ≡ (step (part (placement_of l) b (database_after (log h) can.p)) e).outcome = subst (λ (t : Option (List Slot)). IfSome t (λ db. o ≡ (step db e).outcome)) (told_now on) says in
         ap (option_map (λ (z : Entry). (step (database_after (log h) can.p) z).outcome)) entry
-        ∙ ap (λ z. Some z) (sym (o_is ∙ (part_at_taken (placement_of l) b x.begun (log h) can.fits can.p covers e entry (part_of ∙ skipped)).1)),
+        ∙ ap (λ z. Some z) (sym (o_is ∙ (part_at_taken (placement_of l) b x.begun (log h) can.fits can.p (covers on) e entry (part_of ∙ skipped)).1)),
     rw (is, begun, begun_there) refl,
   )
-  does_now (Err errors.Failed) skipped says possible is begun f s ss g = (
+  does_now (Err errors.Failed) skipped says possible is begun f s ss g ds = (
     ap (λ (ts : List ℕ). takes_part (placement_of l) b ts e.tx e.act) begun_there ∙ (part_of ∙ skipped),
     rw (is, begun) refl,
   )
-  does_now (Err errors.Starved) skipped says possible is begun f s ss g = (
+  does_now (Err errors.Starved) skipped says possible is begun f s ss g ds = (
     ap (λ (ts : List ℕ). takes_part (placement_of l) b ts e.tx e.act) begun_there ∙ (part_of ∙ skipped),
     rw (is, begun) refl,
   )
@@ -131,15 +147,15 @@ module _ (tells : Bool) (accounts : List Account) (l : Layout) (h : List Event) 
       record {
         cell = y;
         set = is_set;
-        is = record { number = number ∙ cell.number; placement = placement ∙ cell.placement; holds = holds_now r skipped told y.position place };
+        is = record { number = number ∙ cell.number; placement = placement ∙ cell.placement; holds = holds_now r skipped told y.position place; drafts = drafts_now r skipped begun y.position place };
         takes =
-            λ f s ss g.
+            λ f s ss g ds.
             record {
               p = can.p;
               stands = position_of cells b x can.within ∙ can.stands x;
               entry = e;
               there = entry;
-              does = does_now r skipped says possible place begun f s ss g;
+              does = does_now r skipped says possible place begun f s ss g ds;
             };
         faults = subst (λ (z : CellState). y.faults ≡ cond (did_fail (did_of r)) (next z.faults) z.faults) (sym same_cell) (counted r cause);
         armings = spent_times (not (is_skipped r)) x.arming y.arming arming ∙ ap (λ (z : CellState). z.arming.times) (sym same_cell);
@@ -162,13 +178,13 @@ log_length (Enabled b ∷ h) = let le = log_length h in omega arith
 log_length (Marker name b ∷ h) = let le = log_length h in omega arith
 
 -- a backend that stands below the log's end
-pub can_take : (tells : Bool) (reg : Register) (l : Layout) (h : List Event) (cells : List CellState) (f s : ℕ) (ss : List OpenSession) (g : ℕ) (numbers : List ℕ) (first_outcome : Option Outcome)
-    → Kept tells (world_of reg l h cells f s ss g) numbers first_outcome → (b p : ℕ) → position_at (core_of l h cells f s ss g) b ≡ Some p → p ≢ length (log h) → CanTake tells l h cells b
-can_take tells reg l h cells f s ss g numbers first_outcome kept b p there more =
+pub can_take : (tells : Bool) (reg : Register) (l : Layout) (h : List Event) (cells : List CellState) (f s : ℕ) (ss : List OpenSession) (g : ℕ) (ds : List Dump) (numbers : List ℕ) (first_outcome : Option Outcome)
+    → Kept tells (world_of reg l h cells f s ss g ds) numbers first_outcome → (b p : ℕ) → position_at (core_of l h cells f s ss g ds) b ≡ Some p → p ≢ length (log h) → CanTake tells l h cells b
+can_take tells reg l h cells f s ss g ds numbers first_outcome kept b p there more =
     let w = kept.world in
     let within : b < length (map (λ (x : CellState). x.position) cells) = is_there (map (λ (x : CellState). x.position) cells) b p there in
     let lt : b < length cells = rw length-map at within in
-    let le : p ≤ length (log h) = position_within (core_of l h cells f s ss g) w.sound b p there in
+    let le : p ≤ length (log h) = position_within (core_of l h cells f s ss g ds) w.sound b p there in
     let fewer = log_length h in
     let short = w.sound.legal.short in
     record {
@@ -179,5 +195,4 @@ can_take tells reg l h cells f s ss g numbers first_outcome kept b p there more 
       more = omega arith;
       short = omega arith;
       fits = legal_fit h w.sound.legal;
-      covers = λ d. subst (λ (ts : List ℕ). CoversDrafts ts (part (placement_of l) b (database_after (log h) p))) (begun_of cells b d lt) (w.sound.covers b p there);
     }

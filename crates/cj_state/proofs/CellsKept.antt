@@ -8,7 +8,7 @@ use Rattle.cj_model.specs.Cluster.Placements.{Placement, part}
 use Rattle.cj_cluster.specs.History.Histories.{log, ended_count, is_idle, is_enabled, database_of}
 use Rattle.cj_cluster.specs.Moves.Cores.{Core, position_at}
 use Rattle.cj_cluster.specs.Moves.Moves.{last_number}
-use Rattle.cj_cluster.specs.Proving.Invariants.{BackendStands, CoreInvariant, HoldsPart}
+use Rattle.cj_cluster.specs.Proving.Invariants.{BackendStands, CoreInvariant, CoversDrafts, HasBegunDrafts, HoldsPart}
 use Rattle.cj_cluster.proofs.Effects.{stands_there, no_masks}
 use Rattle.cj_replica.specs.Cells.{CellState}
 use Rattle.cj_state.specs.Worlds.{IsCell}
@@ -19,6 +19,13 @@ pub holds_longer : (tells : Bool) (p : Placement) (b : ℕ) (entries : List Entr
 holds_longer tells p b entries e told None le h = tt
 holds_longer tells p b entries e told (Some q) le h =
     λ on. let lq : q ≤ length entries = le q refl in h on ∙ ap (λ l. Some (part p b (database_of l))) (sym (take-append-le q entries (e ∷ []) lq))
+
+-- and so it does with the transactions of its drafts
+pub drafts_longer : (tells : Bool) (p : Placement) (b : ℕ) (entries : List Entry) (e : Entry) (begun : List ℕ) (position : Option ℕ)
+    → ((q : ℕ) → position ≡ Some q → q ≤ length entries) → HasBegunDrafts tells p b entries begun position → HasBegunDrafts tells p b (entries ++ e ∷ []) begun position
+drafts_longer tells p b entries e begun None le h = tt
+drafts_longer tells p b entries e begun (Some q) le h =
+    λ on. let lq : q ≤ length entries = le q refl in subst (λ (l : List Entry). CoversDrafts begun (part p b (database_of l))) (sym (take-append-le q entries (e ∷ []) lq)) (h on)
 
 -- a position is within the log
 pub position_within : (c : Core) → CoreInvariant c → (b p : ℕ) → position_at c b ≡ Some p → p ≤ length (log c.history)

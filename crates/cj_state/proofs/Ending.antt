@@ -32,13 +32,14 @@ use Rattle.cj_model.proofs.MaskBits.{has-and}
 use Rattle.cj_cluster.proofs.Now.{behind_none}
 use Rattle.cj_book.specs.Books.{is_target_at}
 use Rattle.cj_auth.specs.Admission.{Register}
+use Rattle.cj_dump.specs.declared.dump.Dump.{Dump}
 use Rattle.cj_place.specs.Layouts.{Layout, placement_of}
 use Rattle.cj_replica.specs.Cells.{CellState}
 use Rattle.cj_state.specs.Worlds.{core_of, world_of}
 use Rattle.cj_state.specs.Effects.{Refuses}
 use Rattle.cj_state.specs.Proving.Kept.{Kept}
 
-module _ (tells : Bool) (reg : Register) (l : Layout) (h : List Event) (cells : List CellState) (f s : ℕ) (ss : List OpenSession) (g : ℕ) (numbers : List ℕ) (first_outcome : Option Outcome) (kept : Kept tells (world_of reg l h cells f s ss g) numbers first_outcome)
+module _ (tells : Bool) (reg : Register) (l : Layout) (h : List Event) (cells : List CellState) (f s : ℕ) (ss : List OpenSession) (g : ℕ) (ds : List Dump) (numbers : List ℕ) (first_outcome : Option Outcome) (kept : Kept tells (world_of reg l h cells f s ss g ds) numbers first_outcome)
     (targets left : ℕ) (are : (b : ℕ) → in_mask targets b ≡ is_target_at (placement_of l) h (entry_in_progress h) b) (rest : (b : ℕ) → in_mask left b ≡ is_enabled (h ++ Ended f s ∷ []) b)
     (fits : targets < 2 ^ 32) (e : Entry) (is : entry_in_progress h ≡ Some e) where
   left_is : (b : ℕ) → in_mask left b ≡ (is_enabled h b && not (in_mask f b || in_mask s b))
@@ -126,7 +127,7 @@ module _ (tells : Bool) (reg : Register) (l : Layout) (h : List Event) (cells : 
     was_heard : (b : ℕ) → is_enabled h b ≡ true → in_mask f b ≡ false → in_mask s b ≡ false → takes_part (placement_of l) b [] e.tx e.act ≡ true → ⊥
     was_heard b on nf ns takes =
         let lt = kept.world.sound.hosts b on in
-        let p = somewhere b (position_at (core_of l h cells f s ss g) b) on nf ns (kept.world.sound.stands b lt) in
+        let p = somewhere b (position_at (core_of l h cells f s ss g ds) b) on nf ns (kept.world.sound.stands b lt) in
         let ge : length (log h) ≤ p.0 = behind_none h (map (λ (x : CellState). x.position) cells) none b p.0 p.1 on in
         let le : p.0 ≤ length (log h) = p.2 in
         let same : p.0 ≡ length (log h) = omega arith in

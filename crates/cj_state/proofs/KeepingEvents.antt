@@ -14,16 +14,17 @@ use Rattle.cj_cluster.proofs.Pushed.{enabled-push, log-same, log_faults-same, do
 use Rattle.cj_cluster.proofs.Effects.{sessions_are, are_kept, sound_read_failed, sound_log_failed, sound_disabled, sound_enabled, sound_marked, is_there}
 use Rattle.cj_cluster.proofs.Standing.{stand_event, stand_log_failed}
 use Rattle.cj_auth.specs.Admission.{Register}
+use Rattle.cj_dump.specs.declared.dump.Dump.{Dump}
 use Rattle.cj_place.specs.Layouts.{Layout, placement_of}
 use Rattle.cj_replica.specs.Cells.{CellState}
 use Rattle.cj_state.specs.Worlds.{core_of, world_of, IsCell}
 use Rattle.cj_state.specs.Proving.Kept.{Kept}
 
-module _ (tells : Bool) (reg : Register) (l : Layout) (h : List Event) (cells : List CellState) (f s : ℕ) (ss : List OpenSession) (g : ℕ) (numbers : List ℕ) (first_outcome : Option Outcome) (kept : Kept tells (world_of reg l h cells f s ss g) numbers first_outcome) where
+module _ (tells : Bool) (reg : Register) (l : Layout) (h : List Event) (cells : List CellState) (f s : ℕ) (ss : List OpenSession) (g : ℕ) (ds : List Dump) (numbers : List ℕ) (first_outcome : Option Outcome) (kept : Kept tells (world_of reg l h cells f s ss g ds) numbers first_outcome) where
   -- an event comes that leaves the log and the ends, where the state stays sound
-  kept_same : (e : Event) → scheduled_entry e ≡ None → is_end_event e ≡ false → CoreInvariant (core_of l (h ++ e ∷ []) cells f s ss g)
-      → ((d : Entry) → entry_in_progress h ≡ Some d → (b : ℕ) → is_enabled (h ++ e ∷ []) b ≡ is_enabled h b) → AreBetween (core_of l (h ++ e ∷ []) cells f s ss g)
-      → Kept tells (world_of reg l (h ++ e ∷ []) cells f s ss g) numbers first_outcome
+  kept_same : (e : Event) → scheduled_entry e ≡ None → is_end_event e ≡ false → CoreInvariant (core_of l (h ++ e ∷ []) cells f s ss g ds)
+      → ((d : Entry) → entry_in_progress h ≡ Some d → (b : ℕ) → is_enabled (h ++ e ∷ []) b ≡ is_enabled h b) → AreBetween (core_of l (h ++ e ∷ []) cells f s ss g ds)
+      → Kept tells (world_of reg l (h ++ e ∷ []) cells f s ss g ds) numbers first_outcome
   kept_same e is stays sound keeps stand =
       let w = kept.world in
       let same : log (h ++ e ∷ []) ≡ log h = log-same h e is in
@@ -57,36 +58,36 @@ module _ (tells : Bool) (reg : Register) (l : Layout) (h : List Event) (cells : 
   none_waits fr i own = both_ways (is_entry_of i (entry_in_progress h)) (ap (is_entry_of i) (opened-free h fr)) own
 
   -- a backend failed in a read
-  pub kept_read_failed : (t q b : ℕ) → 0 < events_left h → Kept tells (world_of reg l (h ++ ReadFailed t q b ∷ []) cells f s ss g) numbers first_outcome
+  pub kept_read_failed : (t q b : ℕ) → 0 < events_left h → Kept tells (world_of reg l (h ++ ReadFailed t q b ∷ []) cells f s ss g ds) numbers first_outcome
   kept_read_failed t q b space =
       let e : Event = ReadFailed t q b in
       kept_same (ReadFailed t q b) refl refl
-      (sound_read_failed (core_of l h cells f s ss g) t q b ss kept.world.sound space
-      (are_kept h (h ++ e ∷ []) g ss (sessions_are (core_of l h cells f s ss g) kept.world.sound) (log-same h e refl) (λ t n lt. log_faults-same h e (λ i j. refl) t n) (λ d on. sym (opened-same h e refl refl) ∙ on)))
+      (sound_read_failed (core_of l h cells f s ss g ds) t q b ss kept.world.sound space
+      (are_kept h (h ++ e ∷ []) g ss (sessions_are (core_of l h cells f s ss g ds) kept.world.sound) (log-same h e refl) (λ t n lt. log_faults-same h e (λ i j. refl) t n) (λ d on. sym (opened-same h e refl refl) ∙ on)))
       (λ _ _ k. enabled-push h (ReadFailed t q b) k)
-      (stand_event (core_of l h cells f s ss g) e refl refl (λ i j some. refl) (λ i own k. refl) kept.world.between)
+      (stand_event (core_of l h cells f s ss g ds) e refl refl (λ i j some. refl) (λ i own k. refl) kept.world.between)
 
-  pub kept_disabled : (b : ℕ) → is_idle h ≡ true → is_enabled h b ≡ true → 0 < events_left h → Kept tells (world_of reg l (h ++ Disabled b ∷ []) cells f s ss g) numbers first_outcome
+  pub kept_disabled : (b : ℕ) → is_idle h ≡ true → is_enabled h b ≡ true → 0 < events_left h → Kept tells (world_of reg l (h ++ Disabled b ∷ []) cells f s ss g ds) numbers first_outcome
   kept_disabled b fr on space =
-      kept_same (Disabled b) refl refl (sound_disabled (core_of l h cells f s ss g) b kept.world.sound fr on space) (λ d now. absurd (none_open fr d now))
-      (stand_event (core_of l h cells f s ss g) (Disabled b) refl refl (λ i j some. refl) (λ i own. absurd (none_waits fr i own)) kept.world.between)
+      kept_same (Disabled b) refl refl (sound_disabled (core_of l h cells f s ss g ds) b kept.world.sound fr on space) (λ d now. absurd (none_open fr d now))
+      (stand_event (core_of l h cells f s ss g ds) (Disabled b) refl refl (λ i j some. refl) (λ i own. absurd (none_waits fr i own)) kept.world.between)
 
-  pub kept_enabled : (b : ℕ) → is_idle h ≡ true → is_enabled h b ≡ false → position_at (core_of l h cells f s ss g) b ≡ Some (length (log h)) → 0 < events_left h
-      → Kept tells (world_of reg l (h ++ Enabled b ∷ []) cells f s ss g) numbers first_outcome
+  pub kept_enabled : (b : ℕ) → is_idle h ≡ true → is_enabled h b ≡ false → position_at (core_of l h cells f s ss g ds) b ≡ Some (length (log h)) → 0 < events_left h
+      → Kept tells (world_of reg l (h ++ Enabled b ∷ []) cells f s ss g ds) numbers first_outcome
   kept_enabled b fr off there space =
       kept_same (Enabled b) refl refl
-      (sound_enabled (core_of l h cells f s ss g) b kept.world.sound fr off (is_there (map (λ (x : CellState). x.position) cells) b (length (log h)) there) there space)
+      (sound_enabled (core_of l h cells f s ss g ds) b kept.world.sound fr off (is_there (map (λ (x : CellState). x.position) cells) b (length (log h)) there) there space)
       (λ d now. absurd (none_open fr d now))
-      (stand_event (core_of l h cells f s ss g) (Enabled b) refl refl (λ i j some. refl) (λ i own. absurd (none_waits fr i own)) kept.world.between)
+      (stand_event (core_of l h cells f s ss g ds) (Enabled b) refl refl (λ i j some. refl) (λ i own. absurd (none_waits fr i own)) kept.world.between)
 
-  pub kept_marked : (name : List ℕ) (b : Option ℕ) → is_idle h ≡ true → has_marker h name ≡ false → 0 < events_left h → Kept tells (world_of reg l (h ++ Marker name b ∷ []) cells f s ss g) numbers first_outcome
+  pub kept_marked : (name : List ℕ) (b : Option ℕ) → is_idle h ≡ true → has_marker h name ≡ false → 0 < events_left h → Kept tells (world_of reg l (h ++ Marker name b ∷ []) cells f s ss g ds) numbers first_outcome
   kept_marked name b fr fresh space =
-      kept_same (Marker name b) refl refl (sound_marked (core_of l h cells f s ss g) name b kept.world.sound fr fresh space) (λ d now. absurd (none_open fr d now))
-      (stand_event (core_of l h cells f s ss g) (Marker name b) refl refl (λ i j some. refl) (λ i own k. refl) kept.world.between)
+      kept_same (Marker name b) refl refl (sound_marked (core_of l h cells f s ss g ds) name b kept.world.sound fr fresh space) (λ d now. absurd (none_open fr d now))
+      (stand_event (core_of l h cells f s ss g ds) (Marker name b) refl refl (λ i j some. refl) (λ i own k. refl) kept.world.between)
 
   -- the log's store failed in a request of session k, which reads nothing, or in the administrator's move, where k is 0
-  pub kept_log_failed : (k n : ℕ) → is_idle h ≡ true → k ≤ g → 0 < events_left h → (0 < k → (session_at (core_of l h cells f s ss g) k).reading ≡ None) → Kept tells (world_of reg l (h ++ LogFailed k n ∷ []) cells f s ss g) numbers first_outcome
+  pub kept_log_failed : (k n : ℕ) → is_idle h ≡ true → k ≤ g → 0 < events_left h → (0 < k → (session_at (core_of l h cells f s ss g ds) k).reading ≡ None) → Kept tells (world_of reg l (h ++ LogFailed k n ∷ []) cells f s ss g ds) numbers first_outcome
   kept_log_failed k n fr given space none =
-      let c = core_of l h cells f s ss g in
+      let c = core_of l h cells f s ss g ds in
       let sound = sound_log_failed c k n kept.world.sound fr given space in
       kept_same (LogFailed k n) refl refl sound (λ d now. absurd (none_open fr d now)) (stand_log_failed c k n sound fr none kept.world.between)

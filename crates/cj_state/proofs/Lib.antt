@@ -3,10 +3,12 @@ pub mod Catching
 pub mod CellsKept
 pub mod Contents
 pub mod Counted
+pub mod Dumped
 pub mod Ending
 pub mod Fresh
 pub mod Keeping
 pub mod KeepingEvents
+pub mod Loading
 pub mod Logs
 pub mod Noting
 pub mod OpenNumbers

@@ -11,6 +11,7 @@ use Rattle.cj_cluster.specs.Moves.Moves.{entry_numbered}
 use Rattle.cj_cluster.proofs.Sessions.{without}
 use Rattle.cj_book.specs.Books as books
 use Rattle.cj_book.specs.Books.{BookState, has_session, has_no_number}
+use Rattle.cj_dump.specs.declared.dump.Dump.{Dump}
 use Rattle.cj_replica.specs.Cells.{CellState}
 use Rattle.cj_state.specs.Worlds.{core_of}
 
@@ -50,13 +51,13 @@ numbers_with f keeps (x ∷ ss) s = one (x.number == s) (numbers_with f keeps ss
 
 -- ---- a book and its core
 
-module _ {S : Type 0} (b : BookState S) (cells : List CellState) (f s : ℕ) (ss : List OpenSession) (are : b.sessions ≡ map (λ (x : OpenSession). x.number) ss) where
-  pub open_is : (n : ℕ) → has_session b n ≡ moves.is_open (core_of b.layout b.history cells f s ss b.greatest) n
+module _ {S : Type 0} (b : BookState S) (cells : List CellState) (f s : ℕ) (ss : List OpenSession) (ds : List Dump) (are : b.sessions ≡ map (λ (x : OpenSession). x.number) ss) where
+  pub open_is : (n : ℕ) → has_session b n ≡ moves.is_open (core_of b.layout b.history cells f s ss b.greatest ds) n
   open_is n = ap (λ l. list_any (λ m. m == n) l) are ∙ any_number ss n
 
-  pub orphan_is : (tx : ℕ) → books.is_orphan b tx ≡ moves.is_orphan (core_of b.layout b.history cells f s ss b.greatest) tx
+  pub orphan_is : (tx : ℕ) → books.is_orphan b tx ≡ moves.is_orphan (core_of b.layout b.history cells f s ss b.greatest ds) tx
   orphan_is tx = one (entry_numbered (log b.history) tx)
     where
-      one : (o : Option Entry) → books.is_orphan_of b tx o ≡ moves.is_orphan_of (core_of b.layout b.history cells f s ss b.greatest) tx o
+      one : (o : Option Entry) → books.is_orphan_of b tx o ≡ moves.is_orphan_of (core_of b.layout b.history cells f s ss b.greatest ds) tx o
       one None = refl
       one (Some e) = ap (λ q. tx_of (log b.history) e.session == tx && not q) (open_is e.session)

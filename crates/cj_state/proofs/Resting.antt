@@ -1,5 +1,5 @@
 -- A world over a book that was just opened, of which no backend has taken an entry.
-use Rattle.std.proofs.Common.{◌≡◌, ◌≢◌, ℕ, ◌+◌, ◌*◌, ◌-◌, ◌^◌, ◌<◌, ◌≤◌, Bool, true, false, ◌==◌, List, [], ◌∷◌, ◌++◌, length, map, fold, max, replicate, get_or, All, Option, None, Some, unwrap_or, refl, ap, sym, ◌∙◌, subst, arith, ⊎_elim}
+use Rattle.std.proofs.Common.{◌≡◌, ℕ, ◌^◌, ◌<◌, ◌≤◌, Bool, true, false, List, [], ◌∷◌, ◌++◌, length, map, fold, max, replicate, get_or, All, Option, None, Some, unwrap_or, refl, ap, sym, ◌∙◌, subst, arith, ⊎_elim}
 use Rattle.std.specs.Prelude.{IfSome}
 use Rattle.std.proofs.lemmas.Bool.{both_ways, eqb-true}
 use Rattle.std.proofs.lemmas.List.{length-map, get_or-map, get_or-replicate, length-replicate, ext_get_or}
@@ -12,13 +12,12 @@ use Rattle.cj_cluster.specs.declared.event.Event.{Event}
 use Rattle.cj_cluster.specs.declared.event.Event.TheVariants.{Sched, Ended, Marker}
 use Rattle.cj_model.specs.declared.limits.TheConstants.{BACKEND_LIMIT}
 use Rattle.cj_model.specs.Cluster.Masks.{in_mask}
-use Rattle.cj_model.specs.Cluster.Placements.{everywhere, part}
-use Rattle.cj_cluster.specs.History.Histories.{log, ended_count, is_idle, is_enabled, entry_in_progress, log_faults_of, database_after}
+use Rattle.cj_model.specs.Cluster.Placements.{everywhere}
+use Rattle.cj_cluster.specs.History.Histories.{log, ended_count, is_idle, is_enabled, entry_in_progress, log_faults_of}
 use Rattle.cj_cluster.specs.History.Legality.{IsAdministratorEntry, IsLegal, IsSessionEntry}
 use Rattle.cj_cluster.specs.History.Transactions.{AreFitBehind, has_begun}
-use Rattle.cj_cluster.specs.Moves.Cores.{Core, begun_at, position_at}
-use Rattle.cj_cluster.specs.Proving.Invariants.{BackendStands, CoreInvariant, CoversDrafts, HoldsPart, IsSoundSession}
-use Rattle.cj_cluster.proofs.Effects.{is_there}
+use Rattle.cj_cluster.specs.Moves.Cores.{Core, position_at}
+use Rattle.cj_cluster.specs.Proving.Invariants.{BackendStands, CoreInvariant, HasBegunDrafts, HoldsPart, IsSoundDump, IsSoundSession}
 use Rattle.cj_cluster.proofs.Pushed.{opened-free}
 use Rattle.cj_cluster.proofs.Standing.{stand_none}
 use Rattle.cj_cluster.proofs.TransactionLaws.{legal_fit}
@@ -128,7 +127,7 @@ module _ (l : Layout) (cells : List CellState) (fresh : AreFresh (placement_of l
 
   module _ (h : List Event) (o : IsOpening h) (legal : IsLegal h) where
     abbrev opened : Core
-    opened = core_of l h cells 0 0 [] (greatest_session (log h))
+    opened = core_of l h cells 0 0 [] (greatest_session (log h)) []
 
     idle : is_idle h ≡ true
     idle = idle_opening h o
@@ -142,12 +141,6 @@ module _ (l : Layout) (cells : List CellState) (fresh : AreFresh (placement_of l
     -- each backend stands where it begins
     stands_first : (b : ℕ) → b < length opened.positions → BackendStands h 0 0 b (position_at opened b)
     stands_first b lt = subst (λ (p : Option ℕ). BackendStands h 0 0 b p) (sym (at_first b lt)) (omega arith, λ on. absurd (off b on), has-zero b, has-zero b)
-
-    covers_none : (b n : ℕ) → position_at opened b ≡ Some n → CoversDrafts (begun_at opened b) (part (placement_of l) b (database_after (log h) n))
-    covers_none b n is =
-        let first : Some n ≡ Some 0 = sym is ∙ at_first b (is_there opened.positions b n is) in
-        subst (λ (q : ℕ). CoversDrafts (begun_at opened b) (part (placement_of l) b (database_after (log h) q))) (sym (same_some n 0 first))
-        (All-nil (λ (s : Slot). IfSome s.draft (λ (d : Draft). has_begun (begun_at opened b) d.tx ≡ true)))
 
     sound_opened : CoreInvariant opened
     sound_opened =
@@ -163,7 +156,7 @@ module _ (l : Layout) (cells : List CellState) (fresh : AreFresh (placement_of l
           in_masks = λ b. (λ t. absurd (both_ways (in_mask 0 b) (has-zero b) t), λ t. absurd (both_ways (in_mask 0 b) (has-zero b) t));
           clear = λ _. (refl, refl);
           begun_cells = as_many (λ (x : CellState). x.begun);
-          covers = covers_none;
+          dumps = All-nil (IsSoundDump (length l.names) h);
           sessions = All-nil (IsSoundSession h (greatest_session (log h)));
           rises = tt;
           few = omega arith;
@@ -179,7 +172,7 @@ module _ (l : Layout) (cells : List CellState) (fresh : AreFresh (placement_of l
         ∙ ap (λ (ts : List (List ℕ)). record (opened_core (placement_of l) h) { begun = ts }) begun_at_rest
 
     pub kept_opened : (tells : Bool) (reg : Register) → reg.backends ≡ length l.names → length l.names ≤ BACKEND_LIMIT → AreEmpty tells (map (λ (x : CellState). x.told) cells)
-        → Kept tells (world_of reg l h cells 0 0 [] (greatest_session (log h))) [] None
+        → Kept tells (world_of reg l h cells 0 0 [] (greatest_session (log h)) []) [] None
     kept_opened tells reg registered few empty =
         record {
           world =
@@ -198,6 +191,9 @@ module _ (l : Layout) (cells : List CellState) (fresh : AreFresh (placement_of l
                       number = f.number;
                       placement = f.placement;
                       holds = subst (λ (p : Option ℕ). HoldsPart tells (placement_of l) b (log h) x.told p) (sym f.position) (λ on. told b x (get_or-map (λ (z : CellState). z.told) cells b d None lt) (empty on) lt);
+                      drafts =
+                          subst (λ (p : Option ℕ). HasBegunDrafts tells (placement_of l) b (log h) x.begun p) (sym f.position)
+                          (λ on. All-nil (λ (s : Slot). IfSome s.draft (λ (t : Draft). has_begun x.begun t.tx ≡ true)));
                     };
                 between = stand_none opened refl;
               };

@@ -23,6 +23,7 @@ use Rattle.cj_cluster.specs.Proving.Invariants.{CoreInvariant}
 use Rattle.cj_cluster.proofs.Effects.{sound_applied, sound_replayed, stands_there, is_there}
 use Rattle.cj_cluster.proofs.Standing.{stand_rest}
 use Rattle.cj_auth.specs.Admission.{Register}
+use Rattle.cj_dump.specs.declared.dump.Dump.{Dump}
 use Rattle.cj_place.specs.Layouts.{Layout, placement_of}
 use Rattle.cj_replica.specs.Cells.{CellState}
 use Rattle.cj_state.specs.Worlds.{WorldState, core_of, world_of, IsCell, IsWorld}
@@ -43,14 +44,14 @@ takes_more p b begun tx (act.Drop table) part = part
 takes_more p b begun tx act.Commit part = absurd (cc part)
 takes_more p b begun tx act.Abort part = absurd (cc part)
 
-module _ (tells : Bool) (reg : Register) (l : Layout) (h : List Event) (cells : List CellState) (f s : ℕ) (ss : List OpenSession) (g : ℕ) (numbers : List ℕ) (first_outcome : Option Outcome) (kept : Kept tells (world_of reg l h cells f s ss g) numbers first_outcome)
+module _ (tells : Bool) (reg : Register) (l : Layout) (h : List Event) (cells : List CellState) (f s : ℕ) (ss : List OpenSession) (g : ℕ) (ds : List Dump) (numbers : List ℕ) (first_outcome : Option Outcome) (kept : Kept tells (world_of reg l h cells f s ss g ds) numbers first_outcome)
     (b : ℕ) (d : Did) (now : List CellState) (took : TookEntry tells reg.accounts l h cells b d now) where
   -- how it stands then
   abbrev stance : Stance
   stance = record { position = took.cell.position; begun = took.cell.begun }
 
-  takes : TakesEntry tells (core_of l h cells f s ss g) b d stance
-  takes = took.takes f s ss g
+  takes : TakesEntry tells (core_of l h cells f s ss g ds) b d stance
+  takes = took.takes f s ss g ds
 
   -- its place alone is another
   places : map (λ (x : CellState). x.position) now ≡ set (map (λ (x : CellState). x.position) cells) b took.cell.position
@@ -64,13 +65,13 @@ module _ (tells : Bool) (reg : Register) (l : Layout) (h : List Event) (cells : 
   within = is_there (map (λ (x : CellState). x.position) cells) b takes.p takes.stands
 
   -- the state after it, with the masks that come of it
-  core_now : (f' s' : ℕ) → core_of l h now f' s' ss g ≡ record (with_stance (core_of l h cells f s ss g) b stance) { failed = f'; starved = s' }
+  core_now : (f' s' : ℕ) → core_of l h now f' s' ss g ds ≡ record (with_stance (core_of l h cells f s ss g ds) b stance) { failed = f'; starved = s' }
   core_now f' s' =
-      ap (λ (ps : List (Option ℕ)). record (core_of l h cells f s ss g) { positions = ps; begun = map (λ (x : CellState). x.begun) now; failed = f'; starved = s' }) places
-      ∙ ap (λ (ts : List (List ℕ)). record (core_of l h cells f s ss g) { positions = set (map (λ (x : CellState). x.position) cells) b took.cell.position; begun = ts; failed = f'; starved = s' }) begins
+      ap (λ (ps : List (Option ℕ)). record (core_of l h cells f s ss g ds) { positions = ps; begun = map (λ (x : CellState). x.begun) now; failed = f'; starved = s' }) places
+      ∙ ap (λ (ts : List (List ℕ)). record (core_of l h cells f s ss g ds) { positions = set (map (λ (x : CellState). x.position) cells) b took.cell.position; begun = ts; failed = f'; starved = s' }) begins
 
-  taken_world : (f' s' : ℕ) → CoreInvariant (record (with_stance (core_of l h cells f s ss g) b stance) { failed = f'; starved = s' })
-      → IsWorld tells (world_of reg l h now f' s' ss g)
+  taken_world : (f' s' : ℕ) → CoreInvariant (record (with_stance (core_of l h cells f s ss g ds) b stance) { failed = f'; starved = s' })
+      → IsWorld tells (world_of reg l h now f' s' ss g ds)
   taken_world f' s' sound =
       record {
         sound = subst CoreInvariant (sym (core_now f' s')) sound;
@@ -82,7 +83,7 @@ module _ (tells : Bool) (reg : Register) (l : Layout) (h : List Event) (cells : 
         cells =
             subst (λ (xs : List CellState). (k : ℕ) (x : CellState) → k < length xs → IsCell tells (placement_of l) (log h) k (get_or xs k x)) (sym took.set)
             (cells_set tells (placement_of l) (log h) cells b took.cell took.is kept.world.cells);
-        between = stand_rest (core_of l h cells f s ss g) (map (λ (x : CellState). x.position) now) (map (λ (x : CellState). x.begun) now) f' s' kept.world.between;
+        between = stand_rest (core_of l h cells f s ss g ds) (map (λ (x : CellState). x.position) now) (map (λ (x : CellState). x.begun) now) f' s' kept.world.between;
       }
 
   -- another backend stands where it stood
@@ -93,15 +94,15 @@ module _ (tells : Bool) (reg : Register) (l : Layout) (h : List Event) (cells : 
   place_same = ap (λ ps. get_or ps b None) places ∙ get_or-set_same (map (λ (x : CellState). x.position) cells) b took.cell.position None within
 
   -- what it did, where that is known
-  does : (d' : Did) → d ≡ d' → DoesWithEntry tells (core_of l h cells f s ss g) b takes.p takes.entry d' stance
-  does d' is = subst (λ (x : Did). DoesWithEntry tells (core_of l h cells f s ss g) b takes.p takes.entry x stance) is takes.does
+  does : (d' : Did) → d ≡ d' → DoesWithEntry tells (core_of l h cells f s ss g ds) b takes.p takes.entry d' stance
+  does d' is = subst (λ (x : Did). DoesWithEntry tells (core_of l h cells f s ss g ds) b takes.p takes.entry x stance) is takes.does
 
   module _ (fr : is_idle h ≡ false) (on : is_enabled h b ≡ true) where
     -- the entry is the open one
     open_there : takes.p ≡ ended_count h
     open_there =
         let lt : takes.p < length (log h) = slice_get_within (log h) takes.p takes.entry takes.there in
-        let low : ended_count h ≤ takes.p = (stands_there (core_of l h cells f s ss g) b takes.p kept.world.sound takes.stands).1 on in
+        let low : ended_count h ≤ takes.p = (stands_there (core_of l h cells f s ss g ds) b takes.p kept.world.sound takes.stands).1 on in
         let hi : length (log h) ≤ ended_count h + 1 = kept.world.sound.one_open.1 in
         omega arith
 
@@ -121,7 +122,7 @@ module _ (tells : Bool) (reg : Register) (l : Layout) (h : List Event) (cells : 
     heard_here : (d' : Did) → d ≡ d' → (e : Entry) → entry_in_progress h ≡ Some e → takes_part (placement_of l) b [] e.tx e.act ≡ true → took.cell.position ≡ Some (length (log h)) → IsSome (first_outcome_after first_outcome d')
     heard_here (did.Done r) is e running part there = refl
     heard_here did.Skipped is e running part there =
-        let begun : List ℕ = begun_at (core_of l h cells f s ss g) b in
+        let begun : List ℕ = begun_at (core_of l h cells f s ss g ds) b in
         let mine : takes_part (placement_of l) b [] takes.entry.tx takes.entry.act ≡ true = subst (λ (x : Entry). takes_part (placement_of l) b [] x.tx x.act ≡ true) (sym (is_open e running)) part in
         absurd (both_ways (takes_part (placement_of l) b begun takes.entry.tx takes.entry.act) (does did.Skipped is).0 (takes_more (placement_of l) b begun takes.entry.tx takes.entry.act mine))
     heard_here did.Failed is e running part there = let gone = ap (λ (x : Stance). x.position) (does did.Failed is).1 in absurd (cc (gone, there))
@@ -134,10 +135,10 @@ module _ (tells : Bool) (reg : Register) (l : Layout) (h : List Event) (cells : 
     heard_still did.Starved some = some
 
     -- an enabled backend took the open entry
-    pub kept_applied : Kept tells (world_of reg l h now (failed_after f b d) (starved_after s b d) ss g) numbers (first_outcome_after first_outcome d)
+    pub kept_applied : Kept tells (world_of reg l h now (failed_after f b d) (starved_after s b d) ss g ds) numbers (first_outcome_after first_outcome d)
     kept_applied =
         record {
-          world = taken_world (failed_after f b d) (starved_after s b d) (sound_applied tells (core_of l h cells f s ss g) b kept.world.sound fr on d stance takes);
+          world = taken_world (failed_after f b d) (starved_after s b d) (sound_applied tells (core_of l h cells f s ss g ds) b kept.world.sound fr on d stance takes);
           numbers_are = kept.numbers_are;
           served = kept.served;
           right = heard_right d refl;
@@ -151,10 +152,10 @@ module _ (tells : Bool) (reg : Register) (l : Layout) (h : List Event) (cells : 
         }
 
   -- another backend took the log's next
-  pub kept_replayed : is_enabled h b ≡ false → Kept tells (world_of reg l h now f s ss g) numbers first_outcome
+  pub kept_replayed : is_enabled h b ≡ false → Kept tells (world_of reg l h now f s ss g ds) numbers first_outcome
   kept_replayed off =
       record {
-        world = taken_world f s (sound_replayed tells (core_of l h cells f s ss g) b kept.world.sound off d stance takes);
+        world = taken_world f s (sound_replayed tells (core_of l h cells f s ss g ds) b kept.world.sound off d stance takes);
         numbers_are = kept.numbers_are;
         served = kept.served;
         right = kept.right;
@@ -166,19 +167,19 @@ module _ (tells : Bool) (reg : Register) (l : Layout) (h : List Event) (cells : 
       }
 
   -- what the move gives and leaves
-  pub applies : (f' s' : ℕ) → f' ≡ failed_after f b d → s' ≡ starved_after s b d → Applies tells (core_of l h cells f s ss g) b (Ok (moved.Applied b d)) (core_of l h now f' s' ss g)
+  pub applies : (f' s' : ℕ) → f' ≡ failed_after f b d → s' ≡ starved_after s b d → Applies tells (core_of l h cells f s ss g ds) b (Ok (moved.Applied b d)) (core_of l h now f' s' ss g ds)
   applies f' s' fe se = (
     refl,
     (
       stance,
       takes,
       core_now f' s'
-          ∙ (ap (λ q. record (with_stance (core_of l h cells f s ss g) b stance) { failed = q; starved = s' }) fe
-          ∙ ap (λ q. record (with_stance (core_of l h cells f s ss g) b stance) { failed = failed_after f b d; starved = q }) se),
+          ∙ (ap (λ q. record (with_stance (core_of l h cells f s ss g ds) b stance) { failed = q; starved = s' }) fe
+          ∙ ap (λ q. record (with_stance (core_of l h cells f s ss g ds) b stance) { failed = failed_after f b d; starved = q }) se),
     ),
   )
 
-  pub replays : Replays tells (core_of l h cells f s ss g) b (Ok (moved.Replayed (position_or_zero (position_at (core_of l h cells f s ss g) b) + 1) d)) (core_of l h now f s ss g)
+  pub replays : Replays tells (core_of l h cells f s ss g ds) b (Ok (moved.Replayed (position_or_zero (position_at (core_of l h cells f s ss g ds) b) + 1) d)) (core_of l h now f s ss g ds)
   replays = (refl, (stance, takes, core_now f s))
 
   -- and what it counts
@@ -192,8 +193,8 @@ module _ (tells : Bool) (reg : Register) (l : Layout) (h : List Event) (cells : 
   took_armings old was = ap armings_of took.set ∙ (armings_set cells b took.cell false (rw length-map at within) took.armings ∙ ap armings_of (sym was))
 
   -- it is called under the login of the entry's user
-  pub took_logins : (old : WorldState) → world_of reg l h cells f s ss g ≡ old → LogsInToTake b (login_to_take old b) d (logins_of old.cells) (logins_of now)
+  pub took_logins : (old : WorldState) → world_of reg l h cells f s ss g ds ≡ old → LogsInToTake b (login_to_take old b) d (logins_of old.cells) (logins_of now)
   took_logins old was =
-      let place : position_at (core_of l h cells f s ss g) b ≡ (get_or cells b took.cell).position = position_of cells b took.cell (rw length-map at within) in
+      let place : position_at (core_of l h cells f s ss g ds) b ≡ (get_or cells b took.cell).position = position_of cells b took.cell (rw length-map at within) in
       subst (λ (x : WorldState). LogsInToTake b (login_to_take x b) d (logins_of x.cells) (logins_of now)) was
       (subst (λ (q : Option ℕ). LogsInToTake b (login_of reg.accounts (next_user (log h) q) b) d (logins_of cells) (logins_of now)) (sym place) took.logins)

@@ -1,5 +1,5 @@
 -- How often backends were armed, and what arming one makes of the cells.
-use Rattle.std.specs.Prelude.{◌≡◌, ℕ, Bool, List, ◌&&◌, if◌then◌else◌, map, slice_index_or, slice_set}
+use Rattle.std.specs.Prelude.{ℕ, Bool, List, map, slice_index_or, slice_set}
 use Rattle.std.specs.declared.option.Option.{Option}
 use Rattle.std.specs.declared.option.Option.TheVariants.{None, Some}
 use Rattle.cj_outside.specs.Causes.{next}

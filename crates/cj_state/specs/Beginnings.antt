@@ -1,5 +1,5 @@
 -- How a world begins.
-use Rattle.std.specs.Prelude.{◌≡◌, ℕ, ◌<◌, Bool, true, List, [], ◌∷◌, All, length, map, replicate, slice_index_or}
+use Rattle.std.specs.Prelude.{◌≡◌, ℕ, ◌<◌, Bool, true, List, [], All, length, replicate, slice_index_or}
 use Rattle.std.specs.declared.option.Option.{Option}
 use Rattle.std.specs.declared.option.Option.TheVariants.{Some}
 use Rattle.cj_model.specs.declared.database.Slot.{Slot}
@@ -22,6 +22,7 @@ opened_core p h =
       starved = 0;
       sessions = [];
       greatest = greatest_session (log h);
+      dumps = [];
     }
 
 -- the cell of backend b, which has taken no entry

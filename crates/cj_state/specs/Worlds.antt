@@ -1,19 +1,21 @@
 -- What contracts see of a world, and what holds of every one.
-use Rattle.std.specs.Prelude.{◌≡◌, ℕ, ◌<◌, ◌≤◌, Bool, List, [], length, map, slice_index_or}
+use Rattle.std.specs.Prelude.{◌≡◌, ℕ, ◌<◌, ◌≤◌, Bool, true, List, [], length, map, All, slice_index_or}
 use Rattle.cj_model.specs.declared.account.Account.{Account}
 use Rattle.cj_model.specs.declared.request.Entry.{Entry}
 use Rattle.cj_cluster.specs.declared.event.Event.{Event}
 use Rattle.cj_cluster.specs.declared.moves.OpenSession.{OpenSession}
 use Rattle.cj_model.specs.declared.limits.TheConstants.{BACKEND_LIMIT}
 use Rattle.cj_model.specs.Cluster.Caching.{CacheState, empty_cache}
-use Rattle.cj_model.specs.Cluster.Placements.{Placement}
-use Rattle.cj_cluster.specs.History.Histories.{log}
+use Rattle.cj_model.specs.Cluster.Placements.{Placement, part}
+use Rattle.cj_cluster.specs.History.Histories.{log, database_after}
 use Rattle.cj_cluster.specs.Moves.Cores.{Core}
-use Rattle.cj_cluster.specs.Proving.Invariants.{CoreInvariant, HoldsPart}
+use Rattle.cj_cluster.specs.Proving.Invariants.{CoreInvariant, HasBegunDrafts, HoldsPart}
 use Rattle.cj_cluster.specs.Moves.Runs.{AreBetween}
 use Rattle.cj_freshness.specs.Freshness.{FollowsLog, IsFreshCache}
 use Rattle.cj_auth.specs.Admission.{Register}
 use Rattle.cj_place.specs.Layouts.{Layout, placement_of}
+use Rattle.cj_dump.specs.declared.dump.Dump.{Dump}
+use Rattle.cj_shelf.specs.MemoryShelves.{taken_of}
 use Rattle.cj_log.specs.Logs.{LogState}
 use Rattle.cj_book.specs.Books.{IsKeptIn}
 use Rattle.cj_replica.specs.Cells.{CellState}
@@ -68,9 +70,9 @@ KeepsHistory w = IsKeptIn w.recovery_log.bytes w.core.history
 abbrev pub accounts_of : WorldState → List Account
 accounts_of w = w.setup.register.accounts
 
--- the state of a core over these cells, of backends laid out so
-abbrev pub core_of : Layout → List Event → List CellState → ℕ → ℕ → List OpenSession → ℕ → Core
-core_of l h cells failed starved sessions greatest =
+-- the state of a core over these cells, of backends laid out so, with these dumps
+abbrev pub core_of : Layout → List Event → List CellState → ℕ → ℕ → List OpenSession → ℕ → List Dump → Core
+core_of l h cells failed starved sessions greatest dumps =
     record {
       placement = placement_of l;
       history = h;
@@ -80,6 +82,7 @@ core_of l h cells failed starved sessions greatest =
       starved = starved;
       sessions = sessions;
       greatest = greatest;
+      dumps = map taken_of dumps;
     }
 
 -- what is seen of a log without bytes
@@ -87,15 +90,24 @@ abbrev pub unseen_log : LogView
 unseen_log = record { faults = 0; bytes = [] }
 
 -- the world of these, but for its log and its cache
-abbrev pub world_of : Register → Layout → List Event → List CellState → ℕ → ℕ → List OpenSession → ℕ → WorldState
-world_of register l h cells failed starved sessions greatest =
-    record { core = core_of l h cells failed starved sessions greatest; cells = cells; setup = record { names = l.names; register = register }; recovery_log = unseen_log; cache = empty_cache 0 }
+abbrev pub world_of : Register → Layout → List Event → List CellState → ℕ → ℕ → List OpenSession → ℕ → List Dump → WorldState
+world_of register l h cells failed starved sessions greatest dumps =
+    record { core = core_of l h cells failed starved sessions greatest dumps; cells = cells; setup = record { names = l.names; register = register }; recovery_log = unseen_log; cache = empty_cache 0 }
 
 -- the cell of backend b that holds its part of the database after the entries that it has taken
 pub record IsCell (tells : Bool) (p : Placement) (entries : List Entry) (b : ℕ) (x : CellState) : Type 0 where
   pub number : x.b ≡ b
   pub placement : x.placement ≡ p
   pub holds : HoldsPart tells p b entries x.told x.position
+  pub drafts : HasBegunDrafts tells p b entries x.begun x.position
+
+-- a dump of what its backend held of the database after the entries that it had taken
+pub record IsDumpOf (tells : Bool) (p : Placement) (entries : List Entry) (d : Dump) : Type 0 where
+  pub within : d.position ≤ length entries
+  pub holds : tells ≡ true → d.db ≡ part p d.source (database_after entries d.position)
+
+abbrev pub AreDumpsOf : Bool → Placement → List Entry → List Dump → Type 0
+AreDumpsOf tells p entries dumps = All (IsDumpOf tells p entries) dumps
 
 -- What holds of every world: its core is sound, cell b is the cell of backend b and stands where the core says, and each session stands between two replies.
 pub record IsWorld (tells : Bool) (w : WorldState) : Type 0 where

@@ -1,19 +1,19 @@
 //! The state of a world, and the parts of moves: each a change of it that keeps it whole.
 
-ghost use Rattle.std.specs.Prelude.{option_copied, ◌≡◌, ◌↔◌, ℕ, ◌+◌, ◌<◌, ◌≤◌, ◌^◌, ◌==◌, true, false, [], length, map, is_some, IsNone, IfSome, IfOk, IsErrOf, MatchBool, OnOk, OnErr, Some, None, Ok, Err, if◌then◌else◌};
+ghost use Rattle.std.specs.Prelude.{option_copied, ◌≡◌, ◌↔◌, ℕ, List, ◌+◌, ◌<◌, ◌≤◌, ◌^◌, ◌==◌, ◌||◌, true, false, [], length, map, is_some, IsNone, IfSome, IfOk, IsErrOf, MatchBool, OnOk, OnErr, Some, None, Ok, Err, if◌then◌else◌};
 ghost use Rattle.cj_model.specs.declared.request.Entry.{Entry};
 ghost use Rattle.cj_model.specs.declared.request.Request.TheVariants as request;
 ghost use Rattle.cj_model.specs.Sql.PlainRequests.{request_of};
 ghost use Rattle.cj_cluster.specs.History.Histories as histories;
-ghost use Rattle.cj_cluster.specs.History.Histories.{log, is_idle};
+ghost use Rattle.cj_cluster.specs.History.Histories.{log, is_idle, database_after};
 ghost use Rattle.cj_model.specs.Cluster.Masks.{in_mask};
 ghost use Rattle.cj_cluster.specs.History.Legality.{FitsTx, IsFitEntry};
 ghost use Rattle.cj_model.specs.Sql.WrittenRequests.{IsWritten};
 ghost use Rattle.cj_cluster.specs.History.Answering.{CanServe};
-ghost use Rattle.cj_cluster.specs.Moves.Cores.{find_session, session_at, position_at};
+ghost use Rattle.cj_cluster.specs.Moves.Cores.{find_dump, find_session, hosts_beyond, is_dumped, session_at, position_at};
 ghost use Rattle.cj_model.specs.Cluster.Accounts.{login_of};
 ghost use Rattle.cj_cluster.specs.Moves.Moves as moves;
-ghost use Rattle.cj_cluster.specs.Moves.Moves.{Applies, Replays, IsServingMask, HasOtherRead, HasNoOtherRead, forbidden_by, next_entry, not_now, with_read, with_request_counted, happened, opened_for, closed_for, scheduled_as, ended_for, answered_at, was_answered, still_reading};
+ghost use Rattle.cj_cluster.specs.Moves.Moves.{Applies, Replays, LoadsDump, dumped_as, IsServingMask, HasOtherRead, HasNoOtherRead, forbidden_by, next_entry, not_now, with_read, with_request_counted, happened, opened_for, closed_for, scheduled_as, ended_for, answered_at, was_answered, still_reading};
 ghost use Rattle.std.specs.Bool.{OnTrue};
 ghost use Rattle.cj_auth.specs.Admission.{admits};
 ghost use Rattle.cj_auth.specs.Kept.{IsUserName};
@@ -25,6 +25,9 @@ ghost use Rattle.cj_model.specs.declared.answer.Asked.TheVariants.{Rows};
 ghost use Rattle.cj_model.specs.Database.Outcomes.{IsAnswer};
 ghost use Rattle.cj_freshness.specs.Freshness.{IsAnswerAt};
 ghost use Rattle.cj_model.specs.Sql.Names.{is_name};
+ghost use Rattle.cj_model.specs.Database.Storable.{IsStorable};
+ghost use Rattle.cj_model.specs.Cluster.Placements.{part};
+ghost use Rattle.cj_shelf.specs.MemoryShelves.{taken_of};
 ghost use Rattle.cj_opening.specs.Openings.{OpensTo, items_of};
 ghost use Rattle.cj_book.specs.Starts.{greatest_session};
 ghost use Rattle.cj_outside.specs.Causes.{CountsFault};
@@ -43,7 +46,8 @@ use crate::cells::{
 use cj_auth::Accounts;
 use cj_backend::Backend;
 use cj_book::{Book, BookError};
-use cj_cluster::{Did, Event, Move, Moved, OpenRead, OpenSession};
+use cj_cluster::{Did, Event, Move, Moved, OpenRead, OpenSession, TakenDump};
+use cj_dump::{Dump, cut};
 use cj_model::{
     Act, Answer, Asked, BACKEND_LIMIT, Db, Duplicate, Entry, HISTORY_FULL, Name, NoMemory, Outcome,
     REQUEST_LIMIT, Refusal, Reply, SESSION_LIMIT, SESSION_NUMBER_LIMIT, SESSIONS_FULL, STARVED_ALL,
@@ -53,10 +57,11 @@ use cj_open_sessions::{Sessions, read_number, tx_of_act};
 use cj_outside::Store;
 use cj_place::Placement;
 use cj_replica::{Cell, CellError};
+use cj_shelf::MemoryShelf;
 use std::alloc::Global;
 use std::marker::Model;
 
-/// The history, the cells of the backends, the open sessions and the accounts.
+/// The history, the cells of the backends, the open sessions, the accounts and the dumps.
 #[derive(Drop)]
 pub struct State<B: Backend, S: Store> {
     alloc: Global,
@@ -71,6 +76,7 @@ pub struct State<B: Backend, S: Store> {
     first_outcome: Option<Outcome>,
     sessions: Sessions,
     accounts: Accounts,
+    dumps: MemoryShelf,
 }
 
 impl<B: Backend, S: Store> Model for State<B, S> {
@@ -85,9 +91,9 @@ impl<B: Backend, S: Store> Model for State<B, S> {
 
     ghost use Rattle.cj_state.specs.Proving.Kept.{KeptFresh};
 
-    ghost view = { λ w. with_cache (with_log (world_of w.accounts w.book.layout w.book.history w.cells.items w.failed w.starved w.sessions w.book.greatest) (log_view S.faults S.held w.book.recovery_log)) w.book.cache };
+    ghost view = { λ w. with_cache (with_log (world_of w.accounts w.book.layout w.book.history w.cells.items w.failed w.starved w.sessions w.book.greatest w.dumps) (log_view S.faults S.held w.book.recovery_log)) w.book.cache };
 
-    ghost invariant = { λ w. KeptFresh B.TELLS (world_of w.accounts w.book.layout w.book.history w.cells.items w.failed w.starved w.sessions w.book.greatest) w.book.sessions w.first_outcome w.book.cache };
+    ghost invariant = { λ w. KeptFresh B.TELLS (world_of w.accounts w.book.layout w.book.history w.cells.items w.failed w.starved w.sessions w.book.greatest w.dumps) w.book.sessions w.first_outcome w.book.cache w.dumps };
 }
 
 /// The refusal of an entry that no backend finished.
@@ -153,6 +159,7 @@ impl<B: Backend + Drop, S: Store + Drop> State<B, S> {
         cells: Vec<Cell<B>>,
         sessions: Sessions,
         accounts: Accounts,
+        dumps: MemoryShelf,
     ) -> State<B, S>
         requires opening { OpensTo (items_of book.history) book.history }
         requires numbers { book.sessions ≡ [] }
@@ -163,6 +170,7 @@ impl<B: Backend + Drop, S: Store + Drop> State<B, S> {
         requires fresh { AreFresh (placement_of book.layout) cells.items }
         requires empty { AreEmpty B.TELLS (map (λ (x : CellState). x.told) cells.items) }
         requires cache { book.cache ≡ empty_cache book.cache.capacity }
+        requires no_dump { dumps ≡ [] }
         ensures core { result.core ≡ opened_core (placement_of book.layout) book.history }
         ensures cells { result.cells ≡ cells.items }
         ensures setup { result.setup ≡ record { names = book.layout.names; register = accounts } }
@@ -178,6 +186,7 @@ impl<B: Backend + Drop, S: Store + Drop> State<B, S> {
             first_outcome: None,
             sessions,
             accounts,
+            dumps,
         }
     }
 }
@@ -764,6 +773,7 @@ impl<B: Backend, S: Store> State<B, S> {
     pub fn contents(&mut self, b: u8) -> Result<Db, CellError>
         requires { b < self.old.core.placement.backends }
         ensures held { IfOk result (IsHeld B.TELLS self.old.core b) }
+        ensures storable { IfOk result IsStorable }
         ensures same { failed_contents b result ≡ None → self.new ≡ self.old }
         ensures core { self.new.core ≡ self.old.core }
         ensures faults { faults_of self.new.cells ≡ faults_after (faults_of self.old.cells) (failed_contents b result) }
@@ -812,11 +822,11 @@ impl<B: Backend, S: Store> State<B, S> {
         self.book.enable(b)
     }
 
-    /// Whether a marker has the name.
+    /// Whether a marker or a dump has the name.
     pub fn is_taken(&self, name: &Name) -> bool
-        ensures { result ≡ histories.has_marker self.now.core.history name.now }
+        ensures { result ≡ (histories.has_marker self.now.core.history name.now || is_dumped self.now.core name.now) }
     {
-        self.book.is_taken(name)
+        self.book.is_taken(name) || self.dumps.find(name).is_some()
     }
 
     /// Marks a checkpoint of a name that no marker has, and answers how many entries stand before it.
@@ -832,6 +842,85 @@ impl<B: Backend, S: Store> State<B, S> {
         ensures cause { CountsFault (IsErrOf result BookError.LogFault) self.old.recovery_log.faults self.new.recovery_log.faults }
     {
         self.book.mark(name, None)
+    }
+
+    // ---- dumps
+
+    /// The first dump of a name.
+    pub fn find_dump(&self, name: &Name) -> Option<&TakenDump>
+        ensures { option_copied result ≡ find_dump self.now.core.dumps name.now }
+    {
+        self.dumps.find(name)
+    }
+
+    /// Whether the backend hosts a table that a dump of a name doesn't cover.
+    pub fn hosts_beyond(&self, b: u8, dump: &TakenDump) -> bool
+        requires within { b < self.now.core.placement.backends }
+        requires taken { (name : List ℕ) × (find_dump self.now.core.dumps name ≡ Some dump.now) }
+        ensures { result ≡ hosts_beyond self.now.core.placement b dump.now.source }
+    {
+        self.book.placement().hosts_beyond(b, dump.source)
+    }
+
+    /// Keeps a dump of what the backend holds, and answers how many entries it has taken.
+    pub fn keep_dump(&mut self, b: u8, name: &Name, db: Db) -> Result<u64, NoMemory>
+        requires within { b < self.old.core.placement.backends }
+        requires now { not_now self.old.core (Move.Dump b name.now) ≡ None }
+        requires named { is_name name.now ≡ true }
+        requires storable { IsStorable db }
+        requires held { IsHeld B.TELLS self.old.core b db }
+        ensures position { IfOk result (λ n. position_at self.old.core b ≡ Some n) }
+        ensures ok { IfOk result (λ n. self.new ≡ with_core self.old (dumped_as self.old.core b name.now n)) }
+        ensures err { OnErr result (self.new ≡ self.old) }
+    {
+        let Some(position) = self.position(b) else {
+            unreachable!()
+        };
+        let covers = self.book.placement().covered(self.alloc, b)?;
+        let dump = Dump {
+            position,
+            source: b,
+            name: name.copy(),
+            all: self.book.placement().all(),
+            covers,
+            db,
+        };
+        self.dumps.add(&dump)?;
+        Ok(position)
+    }
+
+    /// What the first dump of a name has of the backend's tables.
+    fn cut_dump(&mut self, b: u8, name: &Name) -> Result<Dump, NoMemory>
+        requires within { b < self.old.core.placement.backends }
+        requires now { not_now self.old.core (Move.Load b name.now) ≡ None }
+        ensures storable { IfOk result (λ d. IsStorable d.db) }
+        ensures found { IfOk result (λ d. find_dump self.old.core.dumps name.now ≡ Some (taken_of d)) }
+        ensures held { IfOk result (λ d. B.TELLS ≡ true → d.db ≡ part self.old.core.placement b (database_after (log self.old.core.history) d.position)) }
+        ensures same { self.new ≡ self.old }
+    {
+        match self.dumps.read(name)? {
+            Some(dump) => Ok(cut(dump, self.book.placement(), b)),
+            None => unreachable!(),
+        }
+    }
+
+    /// The backend, which is out, holds from now on what the first dump of a name has of its tables. It answers how many entries the
+    /// backend has then taken.
+    pub fn load_dump(&mut self, b: u8, name: &Name) -> Result<u64, CellError>
+        requires within { b < self.old.core.placement.backends }
+        requires now { not_now self.old.core (Move.Load b name.now) ≡ None }
+        ensures ok { IfOk result (λ n. LoadsDump B.TELLS self.old.core b name.now n self.new.core) }
+        ensures err { OnErr result (self.new.core ≡ self.old.core) }
+        ensures faults { faults_of self.new.cells ≡ faults_after (faults_of self.old.cells) (failed_contents b result) }
+        ensures armings { armings_of self.new.cells ≡ armings_of self.old.cells }
+        ensures logins { logins_of self.new.cells ≡ logins_of self.old.cells }
+        ensures recovery_log { self.new.recovery_log ≡ self.old.recovery_log }
+        ensures setup { self.new.setup ≡ self.old.setup }
+        ensures cache { self.new.cache ≡ self.old.cache }
+    {
+        let Dump { position, db, .. } = self.cut_dump(b, name)?;
+        self.cells[b as usize].load(db, position)?;
+        Ok(position)
     }
 
     // ---- the result cache

@@ -11,7 +11,7 @@ users = []
 "#;
 
 /// Lines, and what each gives.
-const SCRIPTS: [&[(&str, &str)]; 2] = [
+const SCRIPTS: [&[(&str, &str)]; 3] = [
     // a read goes to a backend that hosts all of its tables
     &[
         ("open ann", "session 1"),
@@ -75,6 +75,35 @@ const SCRIPTS: [&[(&str, &str)]; 2] = [
         ("enable b0", "enabled"),
         ("audit", "b0 a base 1\n1"),
         ("read 1 b0 SELECT * FROM a", "rows 1\n1"),
+    ],
+    // a dump covers the backends that host no table beyond its own, and of it they hold their tables alone
+    &[
+        ("open ann", "session 1"),
+        ("write 1 CREATE TABLE a (k INTEGER PRIMARY KEY)", "entry 1"),
+        ("apply b0", "b0 done 0"),
+        ("apply b1", "b1 done 0"),
+        ("apply b2", "b2 skipped"),
+        ("end", "reply 1 done 0"),
+        ("write 1 CREATE TABLE c (n INTEGER PRIMARY KEY)", "entry 2"),
+        ("apply b0", "b0 skipped"),
+        ("apply b1", "b1 done 0"),
+        ("apply b2", "b2 done 0"),
+        ("end", "reply 1 done 0"),
+        ("disable b1", "disabled"),
+        ("dump b1 d", "dumped 2"),
+        ("enable b1", "enabled"),
+        ("disable b0", "disabled"),
+        ("dump b0 e", "dumped 2"),
+        ("arm b2", "armed"),
+        ("write 1 INSERT INTO c VALUES (5)", "entry 3"),
+        ("apply b1", "b1 done 1"),
+        ("apply b2", "b2 failed"),
+        ("end", "reply 1 done 1"),
+        ("load b2 e", "not now 15 0"),
+        ("load b2 d", "loaded 2"),
+        ("replay b2", "replayed 3 done 1"),
+        ("enable b2", "enabled"),
+        ("audit", "b1 a base 0\nb1 c base 1\n5\nb2 c base 1\n5"),
     ],
 ];
 

@@ -1,11 +1,14 @@
 -- The state of the core that moves change.
-use Rattle.std.specs.Prelude.{ℕ, Bool, false, ◌==◌, List, [], find, map, slice_index_or, if◌then◌else◌}
+use Rattle.std.specs.Prelude.{ℕ, Bool, false, not, ◌&&◌, ◌==◌, List, [], find, map, is_some, slice_index_or, if◌then◌else◌}
+use Rattle.std.specs.List.{list_any}
+use Rattle.std.specs.Str.{bytes_eq}
 use Rattle.std.specs.declared.option.Option.{Option}
 use Rattle.std.specs.declared.option.Option.TheVariants.{None, Some}
 use Rattle.cj_model.specs.declared.request.Entry.{Entry}
 use Rattle.cj_cluster.specs.declared.event.Event.{Event}
 use Rattle.cj_cluster.specs.declared.moves.OpenSession.{OpenSession}
-use Rattle.cj_model.specs.Cluster.Placements.{Placement}
+use Rattle.cj_cluster.specs.declared.moves.TakenDump.{TakenDump}
+use Rattle.cj_model.specs.Cluster.Placements.{Hosting, Placement, hosts}
 
 pub record Core : Type 0 where
   pub placement : Placement
@@ -20,6 +23,8 @@ pub record Core : Type 0 where
   pub sessions : List OpenSession
   -- the greatest session number given
   pub greatest : ℕ
+  -- the dumps that were taken, in order
+  pub dumps : List TakenDump
 
 -- ---- backends
 
@@ -28,6 +33,19 @@ position_at c b = slice_index_or c.positions b None
 
 abbrev pub begun_at : Core → ℕ → List ℕ
 begun_at c b = slice_index_or c.begun b []
+
+-- ---- dumps
+
+-- the first dump of a name
+abbrev pub find_dump : List TakenDump → List ℕ → Option TakenDump
+find_dump dumps name = find (λ (d : TakenDump). bytes_eq d.name name) dumps
+
+abbrev pub is_dumped : Core → List ℕ → Bool
+is_dumped c name = is_some (find_dump c.dumps name)
+
+-- backend b hosts a table that another doesn't
+abbrev pub hosts_beyond : Placement → ℕ → ℕ → Bool
+hosts_beyond p b other = list_any (λ (h : Hosting). hosts p b h.table && not (hosts p other h.table)) p.hostings
 
 -- ---- sessions
 

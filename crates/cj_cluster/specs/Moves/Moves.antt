@@ -14,7 +14,7 @@ use Rattle.cj_model.specs.declared.answer.Refusal.{Refusal}
 use Rattle.cj_cluster.specs.declared.event.Event.{Event}
 use Rattle.cj_cluster.specs.declared.event.Event.TheVariants as event
 use Rattle.cj_cluster.specs.declared.moves.Move.{Move}
-use Rattle.cj_cluster.specs.declared.moves.Move.TheVariants.{Open, Close, Schedule, Abort, Apply, End, Read, Arm, Disable, Replay, Enable, Mark}
+use Rattle.cj_cluster.specs.declared.moves.Move.TheVariants.{Open, Close, Schedule, Abort, Apply, End, Read, Arm, Disable, Replay, Enable, Mark, Dump, Load}
 use Rattle.cj_cluster.specs.declared.moves.Did.{Did}
 use Rattle.cj_cluster.specs.declared.moves.Did.TheVariants as did
 use Rattle.cj_cluster.specs.declared.moves.Moved.{Moved}
@@ -26,17 +26,20 @@ use Rattle.cj_cluster.specs.declared.moves.MoveError.{MoveError}
 use Rattle.cj_cluster.specs.declared.moves.MoveError.TheVariants.{NotNow, NoMemory}
 use Rattle.cj_cluster.specs.declared.moves.OpenRead.{OpenRead}
 use Rattle.cj_cluster.specs.declared.moves.OpenSession.{OpenSession}
+use Rattle.cj_cluster.specs.declared.moves.TakenDump.{TakenDump}
 use Rattle.cj_model.specs.declared.codes.TheConstants.{IN_TRANSACTION, NO_TRANSACTION, SCHEMA_IN_TRANSACTION, NO_BACKEND, READ_FAULT, LOG_FAULT, HISTORY_FULL, SESSIONS_FULL}
 use Rattle.cj_model.specs.declared.limits.TheConstants.{SESSION_LIMIT, SESSION_NUMBER_LIMIT}
 use Rattle.cj_model.specs.Database.Inserts.{refusal_of_code}
 use Rattle.cj_model.specs.Database.Queries.{ask}
 use Rattle.cj_model.specs.Database.Outcomes.{IsOutcome, IsAsked}
+use Rattle.cj_model.specs.Database.Storable.{writers}
 use Rattle.cj_model.specs.Sql.PlainRequests.{act_of}
 use Rattle.cj_cluster.specs.History.Transactions.{takes_part, begun_after}
 use Rattle.cj_cluster.specs.History.Histories.{log, ended_count, is_idle, entry_in_progress, is_enabled, has_marker, events_left, database_after, outcome_of, tx_of}
 use Rattle.cj_model.specs.Cluster.Masks.{in_mask, with_backend}
+use Rattle.cj_model.specs.Cluster.Placements.{part}
 use Rattle.cj_cluster.specs.History.Answering.{CanServe, HasServer, HasNoServer, AnswersEntry}
-use Rattle.cj_cluster.specs.Moves.Cores.{Core, position_at, begun_at, find_session, session_at, new_session, with_session, is_entry_of}
+use Rattle.cj_cluster.specs.Moves.Cores.{Core, position_at, begun_at, find_dump, is_dumped, hosts_beyond, find_session, session_at, new_session, with_session, is_entry_of}
 
 abbrev pub MoveResult : Type 0
 MoveResult = Result Moved MoveError
@@ -75,6 +78,11 @@ first_lagging h b (Some p ∷ ps) = if is_enabled h b && nat_lt p (length (log h
 abbrev pub reason_if_lagging : Option ℕ → Option Why
 reason_if_lagging None = None
 reason_if_lagging (Some p) = Some (record { reason = reason.Behind; value = p })
+
+-- no dump has the name, or what keeps that dump from being loaded
+abbrev pub reason_of_dump : Option TakenDump → (TakenDump → Option Why) → Option Why
+reason_of_dump None otherwise = Some (record { reason = reason.NoDump; value = 0 })
+reason_of_dump (Some d) otherwise = otherwise d
 
 -- the entry of this number, where there is one
 abbrev pub entry_numbered : List Entry → ℕ → Option Entry
@@ -125,7 +133,18 @@ not_now c (Enable b) =
     (reason_if (not (position_or_zero (position_at c b) == last_number c)) reason.Behind (position_or_zero (position_at c b)) None)))
 not_now c (Mark name) =
     reason_if (not (is_idle c.history)) reason.EntryOpen (last_number c)
-    (reason_if (has_marker c.history name) reason.NameTaken 0 None)
+    (reason_if (has_marker c.history name || is_dumped c name) reason.NameTaken 0 None)
+not_now c (Dump b name) =
+    reason_if (not (is_idle c.history)) reason.EntryOpen (last_number c)
+    (reason_if (is_enabled c.history b) reason.Enabled b
+    (reason_if (has_marker c.history name || is_dumped c name) reason.NameTaken 0
+    (reason_if (is_none (position_at c b)) reason.Out b None)))
+not_now c (Load b name) =
+    reason_if (not (is_idle c.history)) reason.EntryOpen (last_number c)
+    (reason_if (is_enabled c.history b) reason.Enabled b
+    (reason_of_dump (find_dump c.dumps name) (λ d.
+    reason_if (is_some (position_at c b)) reason.NotOut b
+    (reason_if (hosts_beyond c.placement b d.source) reason.DumpLacks 0 None))))
 
 -- ---- events
 
@@ -513,6 +532,35 @@ Marks c name (Ok (moved.Refused r)) z = LacksRoomFor 1 c r z ⊎ MeetsLogFault 1
 Marks c name (Err NoMemory) z = z ≡ c
 Marks c name _ z = ⊥
 
+-- ---- dumps
+
+-- a dump of what backend b holds, which has taken n entries
+abbrev pub dumped_as : Core → ℕ → List ℕ → ℕ → Core
+dumped_as c b name n = record c { dumps = c.dumps ++ record { name = name; source = b; position = n } ∷ [] }
+
+-- a dump is taken, or the backend failed
+abbrev pub Dumps : Core → ℕ → List ℕ → MoveResult → Core → Type 0
+Dumps c b name (Ok (moved.Dumped n)) z = (position_at c b ≡ Some n) × (z ≡ dumped_as c b name n)
+Dumps c b name (Ok moved.Failed) z = z ≡ c
+Dumps c b name (Err NoMemory) z = z ≡ c
+Dumps c b name _ z = ⊥
+
+-- Backend b holds what the dump of the name has of its tables. It stands where the dump was taken, and of a backend that tells the transactions begun are those with a draft there.
+pub record LoadsDump (tells : Bool) (c : Core) (b : ℕ) (name : List ℕ) (n : ℕ) (z : Core) : Type 0 where
+  pub taken : TakenDump
+  pub found : find_dump c.dumps name ≡ Some taken
+  pub number : n ≡ taken.position
+  pub begun : List ℕ
+  pub drafts : tells ≡ true → begun ≡ writers (part c.placement b (database_after (log c.history) n))
+  pub after : z ≡ with_stance c b (record { position = Some n; begun = begun })
+
+-- it does, or stays out
+abbrev pub Loads : Bool → Core → ℕ → List ℕ → MoveResult → Core → Type 0
+Loads tells c b name (Ok (moved.Loaded n)) z = LoadsDump tells c b name n z
+Loads tells c b name (Ok moved.Failed) z = z ≡ c
+Loads tells c b name (Ok moved.Starved) z = z ≡ c
+Loads tells c b name _ z = ⊥
+
 -- ---- one move
 
 abbrev pub DoesMove : Bool → Core → Move → MoveResult → Core → Type 0
@@ -528,6 +576,8 @@ DoesMove tells c (Disable b) g z = Disables c b g z
 DoesMove tells c (Replay b) g z = Replays tells c b g z
 DoesMove tells c (Enable b) g z = Enables c b g z
 DoesMove tells c (Mark name) g z = Marks c name g z
+DoesMove tells c (Dump b name) g z = Dumps c b name g z
+DoesMove tells c (Load b name) g z = Loads tells c b name g z
 
 -- From the state c the move gives g, and leads to the state z.
 abbrev pub MovesTo : Bool → Core → Move → MoveResult → Core → Type 0

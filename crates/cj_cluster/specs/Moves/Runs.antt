@@ -12,7 +12,7 @@ use Rattle.cj_model.specs.declared.answer.Reply.TheVariants.{Rows, Refused}
 use Rattle.cj_cluster.specs.declared.event.Event.{Event}
 use Rattle.cj_cluster.specs.declared.event.Event.TheVariants.{Sched, ReadFailed}
 use Rattle.cj_cluster.specs.declared.moves.Move.{Move}
-use Rattle.cj_cluster.specs.declared.moves.Move.TheVariants.{Open, Close, Schedule, Abort, Apply, End, Read, Arm, Disable, Replay, Enable, Mark}
+use Rattle.cj_cluster.specs.declared.moves.Move.TheVariants.{Open, Close, Schedule, Abort, Apply, End, Read, Arm, Disable, Replay, Enable, Mark, Dump, Load}
 use Rattle.cj_cluster.specs.declared.moves.Moved.{Moved}
 use Rattle.cj_cluster.specs.declared.moves.Moved.TheVariants as moved
 use Rattle.cj_cluster.specs.declared.moves.OpenRead.{OpenRead}
@@ -56,6 +56,8 @@ IsMoveOfCluster backends (Disable b) = b < backends
 IsMoveOfCluster backends (Replay b) = b < backends
 IsMoveOfCluster backends (Enable b) = b < backends
 IsMoveOfCluster backends (Mark name) = is_name name ≡ true
+IsMoveOfCluster backends (Dump b name) = (b < backends) × (is_name name ≡ true)
+IsMoveOfCluster backends (Load b name) = (b < backends) × (is_name name ≡ true)
 
 -- each session can make n requests more
 abbrev pub CanCountRequests : Core → ℕ → Type 0

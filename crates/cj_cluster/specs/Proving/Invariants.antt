@@ -9,13 +9,14 @@ use Rattle.cj_model.specs.declared.database.Draft.{Draft}
 use Rattle.cj_model.specs.declared.request.Entry.{Entry}
 use Rattle.cj_cluster.specs.declared.event.Event.{Event}
 use Rattle.cj_cluster.specs.declared.moves.OpenSession.{OpenSession}
+use Rattle.cj_cluster.specs.declared.moves.TakenDump.{TakenDump}
 use Rattle.cj_model.specs.declared.limits.TheConstants.{EVENT_LIMIT, SESSION_LIMIT, SESSION_NUMBER_LIMIT, USER_LIMIT}
 use Rattle.cj_model.specs.Database.Tables.{Rises}
 use Rattle.cj_model.specs.Cluster.Placements.{Placement, part}
 use Rattle.cj_cluster.specs.History.Histories.{log, ended_count, is_idle, entry_in_progress, is_enabled, log_faults_of, database_after}
 use Rattle.cj_model.specs.Cluster.Masks.{in_mask}
 use Rattle.cj_cluster.specs.History.Legality.{IsLegal}
-use Rattle.cj_cluster.specs.Moves.Cores.{Core, position_at, begun_at, find_session}
+use Rattle.cj_cluster.specs.Moves.Cores.{Core, position_at, find_session}
 use Rattle.cj_cluster.specs.History.Transactions.{has_begun}
 
 -- Where a backend stands: within the log, past each entry that ended where it is enabled, and in no mask. Or out, and then in a mask where it is enabled.
@@ -38,6 +39,11 @@ pub record IsSoundSession (h : List Event) (greatest : ℕ) (x : OpenSession) : 
   pub owes : x.least ≤ length (log h)
   pub entries : All (λ (e : Entry). e.session ≡ x.number → e.seq ≤ x.queries) (log h)
 
+-- a dump of a backend, taken within the log
+pub record IsSoundDump (backends : ℕ) (h : List Event) (d : TakenDump) : Type 0 where
+  pub source : d.source < backends
+  pub position : d.position ≤ length (log h)
+
 pub record CoreInvariant (c : Core) : Type 0 where
   pub legal : IsLegal c.history
   -- there is room for the end of an open entry
@@ -48,9 +54,8 @@ pub record CoreInvariant (c : Core) : Type 0 where
   pub stands : (b : ℕ) → b < length c.positions → BackendStands c.history c.failed c.starved b (position_at c b)
   pub in_masks : (b : ℕ) → (in_mask c.failed b ≡ true → (is_enabled c.history b ≡ true) × (in_mask c.starved b ≡ false)) × (in_mask c.starved b ≡ true → is_enabled c.history b ≡ true)
   pub clear : is_idle c.history ≡ true → (c.failed ≡ 0) × (c.starved ≡ 0)
-  -- a backend has begun each transaction of which it holds a draft
   pub begun_cells : length c.begun ≡ c.placement.backends
-  pub covers : (b n : ℕ) → position_at c b ≡ Some n → CoversDrafts (begun_at c b) (part c.placement b (database_after (log c.history) n))
+  pub dumps : All (IsSoundDump c.placement.backends c.history) c.dumps
   pub sessions : All (IsSoundSession c.history c.greatest) c.sessions
   pub rises : Rises by_session_number c.sessions
   pub few : length c.sessions ≤ SESSION_LIMIT
@@ -65,3 +70,8 @@ pub record CoreInvariant (c : Core) : Type 0 where
 abbrev pub HoldsPart : Bool → Placement → ℕ → List Entry → Option (List Slot) → Option ℕ → Type 0
 HoldsPart tells p b entries told None = Unit {0}
 HoldsPart tells p b entries told (Some n) = tells ≡ true → told ≡ Some (part p b (database_after entries n))
+
+-- And it has begun each transaction of which it holds a draft.
+abbrev pub HasBegunDrafts : Bool → Placement → ℕ → List Entry → List ℕ → Option ℕ → Type 0
+HasBegunDrafts tells p b entries begun None = Unit {0}
+HasBegunDrafts tells p b entries begun (Some n) = tells ≡ true → CoversDrafts begun (part p b (database_after entries n))

@@ -13,7 +13,7 @@ use Rattle.cj_model.specs.declared.answer.Refusal.{Refusal}
 use Rattle.cj_model.specs.declared.answer.Reply.{Reply}
 use Rattle.cj_model.specs.declared.answer.Reply.TheVariants as reply
 use Rattle.cj_cluster.specs.declared.moves.Move.{Move}
-use Rattle.cj_cluster.specs.declared.moves.Move.TheVariants.{Open, Close, Schedule, Abort, Apply, End, Read, Arm, Disable, Replay, Enable, Mark}
+use Rattle.cj_cluster.specs.declared.moves.Move.TheVariants.{Open, Close, Schedule, Abort, Apply, End, Read, Arm, Disable, Replay, Enable, Mark, Dump, Load}
 use Rattle.cj_cluster.specs.declared.moves.Did.{Did}
 use Rattle.cj_cluster.specs.declared.moves.Did.TheVariants as did
 use Rattle.cj_cluster.specs.declared.moves.Moved.{Moved}
@@ -71,6 +71,10 @@ pub record IsWrite (text : List ℕ) (r : Request) : Type 0 where
 abbrev pub NamesBackend : List (List ℕ) → List ℕ → List ℕ → ℕ → Type 0
 NamesBackend names line verb b = (name : List ℕ) × IsBackend names name b × (line ≡ words (verb ∷ name ∷ []))
 
+-- the line "VERB B NAME"
+abbrev pub NamesDump : List (List ℕ) → List ℕ → List ℕ → ℕ → List ℕ → Type 0
+NamesDump names line verb b name = (backend : List ℕ) × IsBackend names backend b × (is_name name ≡ true) × (line ≡ words (verb ∷ backend ∷ name ∷ []))
+
 -- The line, without its LF, is the move. Backends go by these names.
 abbrev pub MoveLine : List (List ℕ) → List ℕ → Move → Type 0
 MoveLine names line (Open user) = IsUser user × (line ≡ words (codes "open" ∷ user ∷ []))
@@ -88,6 +92,8 @@ MoveLine names line (Disable b) = NamesBackend names line (codes "disable") b
 MoveLine names line (Replay b) = NamesBackend names line (codes "replay") b
 MoveLine names line (Enable b) = NamesBackend names line (codes "enable") b
 MoveLine names line (Mark name) = (is_name name ≡ true) × (line ≡ words (codes "mark" ∷ name ∷ []))
+MoveLine names line (Dump b name) = NamesDump names line (codes "dump") b name
+MoveLine names line (Load b name) = NamesDump names line (codes "load") b name
 
 -- ---- what they give
 
@@ -133,10 +139,13 @@ moved_text names (moved.Rows a) = rows_text a
 moved_text names (moved.Behind p) = words (codes "behind" ∷ decimal p ∷ [])
 moved_text names moved.Out = codes "out"
 moved_text names moved.Failed = codes "failed"
+moved_text names moved.Starved = codes "starved"
 moved_text names moved.Armed = codes "armed"
 moved_text names moved.Disabled = codes "disabled"
 moved_text names moved.Enabled = codes "enabled"
 moved_text names (moved.Marked n) = words (codes "marked" ∷ decimal n ∷ [])
+moved_text names (moved.Dumped n) = words (codes "dumped" ∷ decimal n ∷ [])
+moved_text names (moved.Loaded n) = words (codes "loaded" ∷ decimal n ∷ [])
 moved_text names (moved.Replayed n d) = words (codes "replayed" ∷ decimal n ∷ did_text d ∷ [])
 
 -- the number of a reason
@@ -148,11 +157,14 @@ reason_number reason.Enabled = 4
 reason_number reason.AtEnd = 5
 reason_number reason.Behind = 6
 reason_number reason.Out = 7
+reason_number reason.NotOut = 8
 reason_number reason.NoSession = 9
 reason_number reason.Waiting = 10
 reason_number reason.NotServing = 11
+reason_number reason.NoDump = 12
 reason_number reason.NameTaken = 13
 reason_number reason.NotOrphan = 14
+reason_number reason.DumpLacks = 15
 
 -- why a move can't be made now
 abbrev pub not_now_text : Why → List ℕ

@@ -13,7 +13,8 @@ use Rattle.cj_model.specs.Database.Outcomes.{IsOutcome}
 use Rattle.cj_cluster.specs.Moves.Cores.{position_at}
 use Rattle.cj_model.specs.Cluster.Caching.{CacheState}
 use Rattle.cj_freshness.specs.Freshness.{IsFreshCache}
-use Rattle.cj_state.specs.Worlds.{WorldState, IsWorld}
+use Rattle.cj_dump.specs.declared.dump.Dump.{Dump}
+use Rattle.cj_state.specs.Worlds.{WorldState, IsWorld, AreDumpsOf}
 
 -- `numbers` are those of the sessions that the book has open; `first_outcome` is what the open entry came to, from the first cell that did it
 pub record Kept (tells : Bool) (w : WorldState) (numbers : List ℕ) (first_outcome : Option Outcome) : Type 0 where
@@ -26,6 +27,7 @@ pub record Kept (tells : Bool) (w : WorldState) (numbers : List ℕ) (first_outc
   -- it is there as soon as an enabled backend that hosts the table of the entry has taken it
   pub whole : (e : Entry) (b : ℕ) → entry_in_progress w.core.history ≡ Some e → takes_part w.core.placement b [] e.tx e.act ≡ true → is_enabled w.core.history b ≡ true → position_at w.core b ≡ Some (length (log w.core.history)) → IsSome first_outcome
 
--- and its cache has fresh answers alone
-abbrev pub KeptFresh : Bool → WorldState → List ℕ → Option Outcome → CacheState → Type 0
-KeptFresh tells w numbers first_outcome cache = Kept tells w numbers first_outcome × IsFreshCache tells (log w.core.history) cache
+-- and its cache has fresh answers alone, and its dumps hold what their backends had
+abbrev pub KeptFresh : Bool → WorldState → List ℕ → Option Outcome → CacheState → List Dump → Type 0
+KeptFresh tells w numbers first_outcome cache dumps =
+    Kept tells w numbers first_outcome × IsFreshCache tells (log w.core.history) cache × AreDumpsOf tells w.core.placement (log w.core.history) dumps

@@ -11,11 +11,10 @@ use Rattle.cj_cluster.specs.declared.moves.Did.{Did}
 use Rattle.cj_cluster.specs.declared.moves.Did.TheVariants as did
 use Rattle.cj_cluster.specs.declared.moves.OpenSession.{OpenSession}
 use Rattle.cj_model.specs.declared.limits.TheConstants.{EVENT_LIMIT}
-use Rattle.cj_cluster.specs.History.Histories.{log, database_after}
+use Rattle.cj_cluster.specs.History.Histories.{log}
 use Rattle.cj_cluster.specs.History.Transactions.{AreFit}
 use Rattle.cj_cluster.specs.Moves.Moves.{TakesEntry}
-use Rattle.cj_cluster.specs.Proving.Invariants.{CoversDrafts}
-use Rattle.cj_model.specs.Cluster.Placements.{part}
+use Rattle.cj_dump.specs.declared.dump.Dump.{Dump}
 use Rattle.cj_place.specs.Layouts.{Layout, placement_of}
 use Rattle.cj_replica.specs.declared.cell.Caught.{Caught}
 use Rattle.cj_replica.specs.declared.cell.Caught.TheVariants as caught
@@ -37,8 +36,6 @@ pub record CanTake (tells : Bool) (l : Layout) (h : List Event) (cells : List Ce
   pub more : p < length (log h)
   pub short : length (log h) ≤ EVENT_LIMIT
   pub fits : AreFit (log h)
-  -- it has begun each transaction of which it holds a draft
-  pub covers : (d : CellState) → CoversDrafts (slice_index_or cells b d).begun (part (placement_of l) b (database_after (log h) p))
 
 -- what a cell did
 abbrev pub did_of : Result Caught CellError → Did
@@ -53,7 +50,7 @@ pub record TookEntry (tells : Bool) (accounts : List Account) (l : Layout) (h : 
   pub set : now ≡ slice_set cells b cell
   pub is : IsCell tells (placement_of l) (log h) b cell
   -- whatever else the core is
-  pub takes : (failed starved : ℕ) (sessions : List OpenSession) (greatest : ℕ) → TakesEntry tells (core_of l h cells failed starved sessions greatest) b d (record { position = cell.position; begun = cell.begun })
+  pub takes : (failed starved : ℕ) (sessions : List OpenSession) (greatest : ℕ) (dumps : List Dump) → TakesEntry tells (core_of l h cells failed starved sessions greatest dumps) b d (record { position = cell.position; begun = cell.begun })
   pub faults : cell.faults ≡ (if did_fail d then next (slice_index_or cells b cell).faults else (slice_index_or cells b cell).faults)
   pub armings : cell.arming.times ≡ (slice_index_or cells b cell).arming.times
   pub logins : LogsInToTake b (login_of accounts (next_user (log h) (slice_index_or cells b cell).position) b) d (logins_of cells) (logins_of now)

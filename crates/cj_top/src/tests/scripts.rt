@@ -13,7 +13,7 @@ const READ_B0: &str = "read 1 b0 SELECT * FROM t";
 const READ_B1: &str = "read 1 b1 SELECT * FROM t";
 
 /// Lines, and what each gives.
-const SCRIPTS: [&[(&str, &str)]; 8] = [
+const SCRIPTS: [&[(&str, &str)]; 11] = [
     // a read sees an entry as soon as its backend has it, and the session then needs it everywhere
     &[
         ("open ann", "session 1"),
@@ -231,6 +231,105 @@ const SCRIPTS: [&[(&str, &str)]; 8] = [
         ("apply b1", "b1 skipped"),
         ("end", "reply 1 done 0"),
     ],
+    // a backend that is lost comes back from a dump and the log, with an entry that no other finished
+    &[
+        ("open ann", "session 1"),
+        (
+            "write 1 CREATE TABLE t (k INTEGER PRIMARY KEY, v INTEGER)",
+            "entry 1",
+        ),
+        ("apply b0", "b0 done 0"),
+        ("apply b1", "b1 done 0"),
+        ("end", "reply 1 done 0"),
+        ("disable b1", "disabled"),
+        ("dump b1 d", "dumped 1"),
+        ("enable b1", "enabled"),
+        ("arm b0", "armed"),
+        ("arm b1", "armed"),
+        ("write 1 INSERT INTO t VALUES (1, 5)", "entry 2"),
+        ("apply b0", "b0 failed"),
+        ("apply b1", "b1 failed"),
+        ("end", "reply 1 refused 40 3 0"),
+        ("load b0 d", "loaded 1"),
+        ("replay b0", "replayed 2 done 1"),
+        ("enable b0", "enabled"),
+        ("read 1 b0 SELECT v FROM t", "rows 1\n5"),
+    ],
+    // a dump has what an open transaction has changed
+    &[
+        ("open ann", "session 1"),
+        (
+            "write 1 CREATE TABLE t (k INTEGER PRIMARY KEY, v INTEGER)",
+            "entry 1",
+        ),
+        ("apply b0", "b0 done 0"),
+        ("apply b1", "b1 done 0"),
+        ("end", "reply 1 done 0"),
+        ("write 1 INSERT INTO t VALUES (1, 5)", "entry 2"),
+        ("apply b0", "b0 done 1"),
+        ("apply b1", "b1 done 1"),
+        ("end", "reply 1 done 1"),
+        ("write 1 BEGIN", "entry 3"),
+        ("apply b0", "b0 skipped"),
+        ("apply b1", "b1 skipped"),
+        ("end", "reply 1 done 0"),
+        ("write 1 UPDATE t SET v = 6", "entry 4"),
+        ("apply b0", "b0 done 1"),
+        ("apply b1", "b1 done 1"),
+        ("end", "reply 1 done 1"),
+        ("disable b1", "disabled"),
+        ("dump b1 d", "dumped 4"),
+        ("enable b1", "enabled"),
+        ("arm b1", "armed"),
+        ("write 1 UPDATE t SET v = v + 1", "entry 5"),
+        ("apply b0", "b0 done 1"),
+        ("apply b1", "b1 failed"),
+        ("end", "reply 1 done 1"),
+        ("load b1 d", "loaded 4"),
+        ("replay b1", "replayed 5 done 1"),
+        ("enable b1", "enabled"),
+        ("write 1 COMMIT", "entry 6"),
+        ("apply b0", "b0 done 0"),
+        ("apply b1", "b1 done 0"),
+        ("end", "reply 1 done 0"),
+        ("audit", "b0 t base 1\n1, 7\nb1 t base 1\n1, 7"),
+    ],
+    // each reason why a dump can't be taken or loaded now, and backends that fail in it
+    &[
+        ("open ann", "session 1"),
+        ("dump b1 d", "not now 4 1"),
+        ("load b1 d", "not now 4 1"),
+        (WRITE_T, "entry 1"),
+        ("dump b1 d", "not now 1 1"),
+        ("load b1 d", "not now 1 1"),
+        ("apply b0", "b0 done 0"),
+        ("apply b1", "b1 done 0"),
+        ("end", "reply 1 done 0"),
+        ("disable b1", "disabled"),
+        ("load b1 d", "not now 12 0"),
+        ("mark m", "marked 1"),
+        ("dump b1 m", "not now 13 0"),
+        ("arm b1", "armed"),
+        ("dump b1 d", "failed"),
+        ("dump b1 d", "dumped 1"),
+        ("dump b1 d", "not now 13 0"),
+        ("mark d", "not now 13 0"),
+        ("load b1 d", "not now 8 1"),
+        ("write 1 INSERT INTO t VALUES (1, 'a')", "entry 2"),
+        ("apply b0", "b0 done 1"),
+        ("end", "reply 1 done 1"),
+        ("arm b1", "armed"),
+        ("replay b1", "replayed 2 failed"),
+        ("dump b1 e", "not now 7 1"),
+        ("arm b1", "armed"),
+        ("load b1 d", "failed"),
+        ("replay b1", "not now 7 1"),
+        ("load b1 d", "loaded 1"),
+        ("replay b1", "replayed 2 done 1"),
+        ("dump b1 e", "dumped 2"),
+        ("enable b1", "enabled"),
+        (READ_B1, "rows 1\n1, 'a'"),
+    ],
 ];
 
 /// The input of a script, with an empty line behind each line, and its output.
@@ -271,7 +370,7 @@ fn scripts_give_their_lines(rt: HostRuntime) -> Result<(), Fail> {
 }
 
 /// Lines that are no move's, and no audit.
-const WRONG: [&str; 26] = [
+const WRONG: [&str; 31] = [
     " ",
     "\t",
     " \t ",
@@ -298,6 +397,11 @@ const WRONG: [&str; 26] = [
     "Audit",
     "audit ",
     "audit b0",
+    "dump b0",
+    "dump d b0",
+    "dump b2 d",
+    "load b0 D",
+    "load b0 d ",
 ];
 
 #[test]

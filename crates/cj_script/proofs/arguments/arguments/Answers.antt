@@ -7,3 +7,9 @@ returns-in-Close c = subst (λ v. Finds (Arguments c.args.names.now v c.args.res
 
 pub returns-in-Abort : goal.returns-in-Abort
 returns-in-Abort c = subst (λ v. Finds (Arguments c.args.names.now v c.args.rest.now) c.abort.result) (sym c.in-Abort.is) c.abort.ensures
+
+pub returns-in-Dump : goal.returns-in-Dump
+returns-in-Dump c = subst (λ v. Finds (Arguments c.args.names.now v c.args.rest.now) c.dump.result) (sym c.in-Dump.is) c.dump.ensures
+
+pub returns-in-Load : goal.returns-in-Load
+returns-in-Load c = subst (λ v. Finds (Arguments c.args.names.now v c.args.rest.now) c.load.result) (sym c.in-Load.is) c.load.ensures

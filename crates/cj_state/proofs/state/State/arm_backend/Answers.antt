@@ -22,7 +22,7 @@ invariant_of-self g c =
     let x : CellState = c.index_mut.result.now in
     let y : CellState = c.arm.new.self in
     let same : y ≡ record x { login = y.login; faults = y.faults; asks = y.asks; arming = y.arming } = subst (λ (z : CellState). z ≡ record x { login = z.login; faults = z.faults; asks = z.asks; arming = z.arming }) (sym c.arm.ensures) refl in
-    (kept_asked g.B.Backend.TELLS w.accounts w.book.layout w.book.history w.cells.items w.failed w.starved w.sessions w.book.greatest w.book.sessions w.first_outcome c.self.invariant.0 c.args.b lt x c.index_mut.ensures.value y same, c.self.invariant.1)
+    (kept_asked g.B.Backend.TELLS w.accounts w.book.layout w.book.history w.cells.items w.failed w.starved w.sessions w.book.greatest w.dumps w.book.sessions w.first_outcome c.self.invariant.0 c.args.b lt x c.index_mut.ensures.value y same, c.self.invariant.1, c.self.invariant.2)
 
 pub returns-clause-core : goal.returns-clause-core
 returns-clause-core g c =
@@ -31,7 +31,7 @@ returns-clause-core g c =
     let x : CellState = c.index_mut.result.now in
     let y : CellState = c.arm.new.self in
     let same : y ≡ record x { login = y.login; faults = y.faults; asks = y.asks; arming = y.arming } = subst (λ (z : CellState). z ≡ record x { login = z.login; faults = z.faults; asks = z.asks; arming = z.arming }) (sym c.arm.ensures) refl in
-    same_core g.B.Backend.TELLS w.accounts w.book.layout w.book.history w.cells.items w.failed w.starved w.sessions w.book.greatest w.book.sessions w.first_outcome c.self.invariant.0 c.args.b lt x c.index_mut.ensures.value y same ∙ ap (λ (z : WorldState). z.core) c.self.view_is
+    same_core g.B.Backend.TELLS w.accounts w.book.layout w.book.history w.cells.items w.failed w.starved w.sessions w.book.greatest w.dumps w.book.sessions w.first_outcome c.self.invariant.0 c.args.b lt x c.index_mut.ensures.value y same ∙ ap (λ (z : WorldState). z.core) c.self.view_is
 
 pub returns-clause-cells : goal.returns-clause-cells
 returns-clause-cells g c d =

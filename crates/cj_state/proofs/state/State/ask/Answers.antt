@@ -10,6 +10,7 @@ use Rattle.cj_book.specs.Books.{BookState}
 use Rattle.cj_replica.specs.declared.cell.CellReadError.{CellReadError}
 use Rattle.cj_replica.specs.declared.cell.CellReadError.TheVariants as read_errors
 use Rattle.cj_replica.specs.Cells.{CellState, is_asked, LogsInForRead}
+use Rattle.cj_place.specs.Layouts.{placement_of}
 use Rattle.cj_state.specs.Worlds.{WorldState, accounts_of, core_of, log_view, with_cache, with_log, world_of}
 use Rattle.cj_cluster.specs.Moves.Cores.{Core}
 use Rattle.cj_state.specs.ArmedCells.{armings_of}
@@ -20,6 +21,7 @@ use Rattle.cj_state.specs.CalledLogins.{asked_for, logins_of, LogsInToAsk}
 use Rattle.cj_state.proofs.Asking.{kept_asked, same_core, answers, errs, noting, noted_core, noted_fault, noted_logins, noted_want, wanted}
 use Rattle.cj_state.proofs.KeepingEvents.{kept_read_failed}
 use Rattle.cj_state.proofs.Counted.{armings_set, counts_set, logins_set, spent_times}
+use Rattle.cj_state.proofs.Dumped.{dumps_event}
 use Rattle.cj_state.proofs.Fresh.{fresh_event}
 use Rattle.cj_cluster.specs.declared.event.Event.TheVariants.{ReadFailed}
 use Rattle.cj_state.proofs.state.State.ask.Goals as goal
@@ -31,17 +33,17 @@ pub invariant_of-self-in-Ok : goal.invariant_of-self-in-Ok
 invariant_of-self-in-Ok g c =
     let w = c.self.inside in
     let lt = within (length w.book.layout.names) c.args.b w.cells.items c.self.invariant.0.world.sound.cells (subst (λ (x : WorldState). c.args.b < x.core.placement.backends) (sym c.self.view_is) c.requires.within) in
-    let kept = kept_asked g.B.Backend.TELLS w.accounts w.book.layout w.book.history w.cells.items w.failed w.starved w.sessions w.book.greatest w.book.sessions w.first_outcome c.self.invariant.0 c.args.b lt c.index_mut.result.now c.index_mut.ensures.value c.read.new.self c.read.ensures.same in
-    let asked = subst (λ (k : BookState g.row.S.Denot). KeptFresh g.B.Backend.TELLS (world_of w.accounts k.layout k.history (set w.cells.items c.args.b c.read.new.self) w.failed w.starved w.sessions k.greatest) k.sessions w.first_outcome k.cache) (sym c.in_ok-take_spare.ensures.ok) (kept, c.self.invariant.1) in
+    let kept = kept_asked g.B.Backend.TELLS w.accounts w.book.layout w.book.history w.cells.items w.failed w.starved w.sessions w.book.greatest w.dumps w.book.sessions w.first_outcome c.self.invariant.0 c.args.b lt c.index_mut.result.now c.index_mut.ensures.value c.read.new.self c.read.ensures.same in
+    let asked = subst (λ (k : BookState g.row.S.Denot). KeptFresh g.B.Backend.TELLS (world_of w.accounts k.layout k.history (set w.cells.items c.args.b c.read.new.self) w.failed w.starved w.sessions k.greatest w.dumps) k.sessions w.first_outcome k.cache w.dumps) (sym c.in_ok-take_spare.ensures.ok) (kept, c.self.invariant.1, c.self.invariant.2) in
     asked
 
 pub returns-in-Ok-clause-core : goal.returns-in-Ok-clause-core
 returns-in-Ok-clause-core g c =
     let w = c.self.inside in
     let lt = within (length w.book.layout.names) c.args.b w.cells.items c.self.invariant.0.world.sound.cells (subst (λ (x : WorldState). c.args.b < x.core.placement.backends) (sym c.self.view_is) c.requires.within) in
-    let same = same_core g.B.Backend.TELLS w.accounts w.book.layout w.book.history w.cells.items w.failed w.starved w.sessions w.book.greatest w.book.sessions w.first_outcome c.self.invariant.0 c.args.b lt c.index_mut.result.now c.index_mut.ensures.value c.read.new.self c.read.ensures.same in
-    let core : core_of c.take_spare.new.self.layout c.take_spare.new.self.history (set w.cells.items c.args.b c.read.new.self) w.failed w.starved w.sessions c.take_spare.new.self.greatest ≡ c.args.self.now.core =
-    ap (λ (k : BookState g.row.S.Denot). core_of k.layout k.history (set w.cells.items c.args.b c.read.new.self) w.failed w.starved w.sessions k.greatest) c.in_ok-take_spare.ensures.ok ∙ (same ∙ ap (λ (x : WorldState). x.core) c.self.view_is)
+    let same = same_core g.B.Backend.TELLS w.accounts w.book.layout w.book.history w.cells.items w.failed w.starved w.sessions w.book.greatest w.dumps w.book.sessions w.first_outcome c.self.invariant.0 c.args.b lt c.index_mut.result.now c.index_mut.ensures.value c.read.new.self c.read.ensures.same in
+    let core : core_of c.take_spare.new.self.layout c.take_spare.new.self.history (set w.cells.items c.args.b c.read.new.self) w.failed w.starved w.sessions c.take_spare.new.self.greatest w.dumps ≡ c.args.self.now.core =
+    ap (λ (k : BookState g.row.S.Denot). core_of k.layout k.history (set w.cells.items c.args.b c.read.new.self) w.failed w.starved w.sessions k.greatest w.dumps) c.in_ok-take_spare.ensures.ok ∙ (same ∙ ap (λ (x : WorldState). x.core) c.self.view_is)
     in
     core
 
@@ -52,7 +54,7 @@ returns-in-Ok-clause-asks g c =
     let least = subst (λ (x : WorldState). c.least-least.result ≡ (session_at x.core c.args.s).least) (sym c.self.view_is) c.least-least.ensures in
     let serves = subst (λ (x : WorldState). hosts_all x.core.placement c.args.b c.args.select.now.tables ≡ true) (sym c.self.view_is) c.requires.serves.1 in
     subst (λ (x : WorldState). Asks g.B.Backend.TELLS x.core c.args.s c.args.b c.args.tx c.args.select.now (Ok c.in-Ok.answered)) c.self.view_is
-    (answers g.B.Backend.TELLS w.accounts w.book.layout w.book.history w.cells.items w.failed w.starved w.sessions w.book.greatest w.book.sessions w.first_outcome c.self.invariant.0 c.args.b lt c.index_mut.result.now c.index_mut.ensures.value c.args.s c.args.tx c.args.select.now c.least-least.result least serves c.in-Ok.answered.0 c.in-Ok.answered.1 c.in-Ok.ensures.answer c.in-Ok.ensures.possible c.in-Ok.ensures.at c.in-Ok.ensures.owed)
+    (answers g.B.Backend.TELLS w.accounts w.book.layout w.book.history w.cells.items w.failed w.starved w.sessions w.book.greatest w.dumps w.book.sessions w.first_outcome c.self.invariant.0 c.args.b lt c.index_mut.result.now c.index_mut.ensures.value c.args.s c.args.tx c.args.select.now c.least-least.result least serves c.in-Ok.answered.0 c.in-Ok.answered.1 c.in-Ok.ensures.answer c.in-Ok.ensures.possible c.in-Ok.ensures.at c.in-Ok.ensures.owed)
 
 pub returns-in-Ok-clause-counts : goal.returns-in-Ok-clause-counts
 returns-in-Ok-clause-counts g c =
@@ -66,25 +68,26 @@ pub invariant_of-self-in-Err : goal.invariant_of-self-in-Err
 invariant_of-self-in-Err g c =
     let w = c.self.inside in
     let lt = within (length w.book.layout.names) c.args.b w.cells.items c.self.invariant.0.world.sound.cells (subst (λ (x : WorldState). c.args.b < x.core.placement.backends) (sym c.self.view_is) c.requires.within) in
-    let kept = kept_asked g.B.Backend.TELLS w.accounts w.book.layout w.book.history w.cells.items w.failed w.starved w.sessions w.book.greatest w.book.sessions w.first_outcome c.self.invariant.0 c.args.b lt c.index_mut.result.now c.index_mut.ensures.value c.read.new.self c.read.ensures.same in
-    let asked = subst (λ (k : BookState g.row.S.Denot). KeptFresh g.B.Backend.TELLS (world_of w.accounts k.layout k.history (set w.cells.items c.args.b c.read.new.self) w.failed w.starved w.sessions k.greatest) k.sessions w.first_outcome k.cache) (sym c.in_ok-take_spare.ensures.ok) (kept, c.self.invariant.1) in
-    noting (λ (k : BookState g.row.S.Denot). KeptFresh g.B.Backend.TELLS (world_of w.accounts k.layout k.history (set w.cells.items c.args.b c.read.new.self) w.failed w.starved w.sessions k.greatest) k.sessions w.first_outcome k.cache)
+    let kept = kept_asked g.B.Backend.TELLS w.accounts w.book.layout w.book.history w.cells.items w.failed w.starved w.sessions w.book.greatest w.dumps w.book.sessions w.first_outcome c.self.invariant.0 c.args.b lt c.index_mut.result.now c.index_mut.ensures.value c.read.new.self c.read.ensures.same in
+    let asked = subst (λ (k : BookState g.row.S.Denot). KeptFresh g.B.Backend.TELLS (world_of w.accounts k.layout k.history (set w.cells.items c.args.b c.read.new.self) w.failed w.starved w.sessions k.greatest w.dumps) k.sessions w.first_outcome k.cache w.dumps) (sym c.in_ok-take_spare.ensures.ok) (kept, c.self.invariant.1, c.self.invariant.2) in
+    noting (λ (k : BookState g.row.S.Denot). KeptFresh g.B.Backend.TELLS (world_of w.accounts k.layout k.history (set w.cells.items c.args.b c.read.new.self) w.failed w.starved w.sessions k.greatest w.dumps) k.sessions w.first_outcome k.cache w.dumps)
     c.take_spare.new.self c.noted.new.book c.args.s c.read_number-number.result c.args.b c.in-Err.error c.noted.result c.noted.ensures asked
     (λ space. (
-      kept_read_failed g.B.Backend.TELLS w.accounts c.take_spare.new.self.layout c.take_spare.new.self.history (set w.cells.items c.args.b c.read.new.self) w.failed w.starved w.sessions c.take_spare.new.self.greatest c.take_spare.new.self.sessions w.first_outcome asked.0 c.args.s c.read_number-number.result c.args.b space,
+      kept_read_failed g.B.Backend.TELLS w.accounts c.take_spare.new.self.layout c.take_spare.new.self.history (set w.cells.items c.args.b c.read.new.self) w.failed w.starved w.sessions c.take_spare.new.self.greatest w.dumps c.take_spare.new.self.sessions w.first_outcome asked.0 c.args.s c.read_number-number.result c.args.b space,
       fresh_event c.take_spare.new.self.history c.take_spare.new.self.cache g.B.Backend.TELLS (ReadFailed c.args.s c.read_number-number.result c.args.b) refl asked.1,
+      dumps_event g.B.Backend.TELLS (placement_of c.take_spare.new.self.layout) c.take_spare.new.self.history w.dumps asked.2 (ReadFailed c.args.s c.read_number-number.result c.args.b) refl,
     ))
 
 pub returns-in-Err-clause-core : goal.returns-in-Err-clause-core
 returns-in-Err-clause-core g c =
     let w = c.self.inside in
     let lt = within (length w.book.layout.names) c.args.b w.cells.items c.self.invariant.0.world.sound.cells (subst (λ (x : WorldState). c.args.b < x.core.placement.backends) (sym c.self.view_is) c.requires.within) in
-    let same = same_core g.B.Backend.TELLS w.accounts w.book.layout w.book.history w.cells.items w.failed w.starved w.sessions w.book.greatest w.book.sessions w.first_outcome c.self.invariant.0 c.args.b lt c.index_mut.result.now c.index_mut.ensures.value c.read.new.self c.read.ensures.same in
-    let core : core_of c.take_spare.new.self.layout c.take_spare.new.self.history (set w.cells.items c.args.b c.read.new.self) w.failed w.starved w.sessions c.take_spare.new.self.greatest ≡ c.args.self.now.core =
-    ap (λ (k : BookState g.row.S.Denot). core_of k.layout k.history (set w.cells.items c.args.b c.read.new.self) w.failed w.starved w.sessions k.greatest) c.in_ok-take_spare.ensures.ok ∙ (same ∙ ap (λ (x : WorldState). x.core) c.self.view_is)
+    let same = same_core g.B.Backend.TELLS w.accounts w.book.layout w.book.history w.cells.items w.failed w.starved w.sessions w.book.greatest w.dumps w.book.sessions w.first_outcome c.self.invariant.0 c.args.b lt c.index_mut.result.now c.index_mut.ensures.value c.read.new.self c.read.ensures.same in
+    let core : core_of c.take_spare.new.self.layout c.take_spare.new.self.history (set w.cells.items c.args.b c.read.new.self) w.failed w.starved w.sessions c.take_spare.new.self.greatest w.dumps ≡ c.args.self.now.core =
+    ap (λ (k : BookState g.row.S.Denot). core_of k.layout k.history (set w.cells.items c.args.b c.read.new.self) w.failed w.starved w.sessions k.greatest w.dumps) c.in_ok-take_spare.ensures.ok ∙ (same ∙ ap (λ (x : WorldState). x.core) c.self.view_is)
     in
     let number = c.read_number-number.ensures ∙ ap (λ (k : Core). read_number (session_at k c.args.s)) (sym core) in
-    noted_core (set w.cells.items c.args.b c.read.new.self) w.failed w.starved w.sessions c.take_spare.new.self c.noted.new.book c.args.s c.read_number-number.result c.args.b c.in-Err.error c.noted.result number c.noted.ensures
+    noted_core (set w.cells.items c.args.b c.read.new.self) w.failed w.starved w.sessions w.dumps c.take_spare.new.self c.noted.new.book c.args.s c.read_number-number.result c.args.b c.in-Err.error c.noted.result number c.noted.ensures
     ∙ ap (λ (k : Core). asked_core k c.args.s c.args.b (Err c.noted.result)) core
 
 pub returns-in-Err-clause-asks : goal.returns-in-Err-clause-asks
@@ -93,7 +96,7 @@ returns-in-Err-clause-asks g c =
     let lt = within (length w.book.layout.names) c.args.b w.cells.items c.self.invariant.0.world.sound.cells (subst (λ (x : WorldState). c.args.b < x.core.placement.backends) (sym c.self.view_is) c.requires.within) in
     let least = subst (λ (x : WorldState). c.least-least.result ≡ (session_at x.core c.args.s).least) (sym c.self.view_is) c.least-least.ensures in
     subst (λ (x : WorldState). Asks g.B.Backend.TELLS x.core c.args.s c.args.b c.args.tx c.args.select.now (Err c.noted.result)) c.self.view_is
-    (errs g.B.Backend.TELLS w.accounts w.book.layout w.book.history w.cells.items w.failed w.starved w.sessions w.book.greatest w.book.sessions w.first_outcome c.self.invariant.0 c.args.b lt c.index_mut.result.now c.index_mut.ensures.value c.args.s c.args.tx c.args.select.now c.least-least.result least c.take_spare.new.self c.noted.new.book c.read_number-number.result c.in-Err.error c.noted.result
+    (errs g.B.Backend.TELLS w.accounts w.book.layout w.book.history w.cells.items w.failed w.starved w.sessions w.book.greatest w.dumps w.book.sessions w.first_outcome c.self.invariant.0 c.args.b lt c.index_mut.result.now c.index_mut.ensures.value c.args.s c.args.tx c.args.select.now c.least-least.result least c.take_spare.new.self c.noted.new.book c.read_number-number.result c.in-Err.error c.noted.result
     (ap (λ (k : BookState g.row.S.Denot). k.history) c.in_ok-take_spare.ensures.ok) c.noted.ensures c.in-Err.ensures.out c.in-Err.ensures.behind)
 
 pub returns-in-Err-clause-counts : goal.returns-in-Err-clause-counts
@@ -133,8 +136,8 @@ returns-in-Err-clause-want g c want =
     let there : c.index_mut.result.now ≡ get_or w.cells.items c.args.b c.index_mut.result.now = c.index_mut.ensures.value in
     let cells : set w.cells.items c.args.b c.read.new.self ≡ w.cells.items = ap (set w.cells.items c.args.b) (cell ∙ there) ∙ set-get_or w.cells.items c.args.b c.index_mut.result.now in
     let book : c.noted.new.book ≡ record w.book { has_spare = true } = starved.1 ∙ c.in_ok-take_spare.ensures.ok in
-    ap (λ (k : BookState g.row.S.Denot). with_cache (with_log (world_of w.accounts k.layout k.history (set w.cells.items c.args.b c.read.new.self) w.failed w.starved w.sessions k.greatest) (log_view g.S.Store.faults g.S.Store.held k.recovery_log)) k.cache) book
-    ∙ (ap (λ (xs : List CellState). with_cache (with_log (world_of w.accounts w.book.layout w.book.history xs w.failed w.starved w.sessions w.book.greatest) (log_view g.S.Store.faults g.S.Store.held w.book.recovery_log)) w.book.cache) cells ∙ c.self.view_is)
+    ap (λ (k : BookState g.row.S.Denot). with_cache (with_log (world_of w.accounts k.layout k.history (set w.cells.items c.args.b c.read.new.self) w.failed w.starved w.sessions k.greatest w.dumps) (log_view g.S.Store.faults g.S.Store.held k.recovery_log)) k.cache) book
+    ∙ (ap (λ (xs : List CellState). with_cache (with_log (world_of w.accounts w.book.layout w.book.history xs w.failed w.starved w.sessions w.book.greatest w.dumps) (log_view g.S.Store.faults g.S.Store.held w.book.recovery_log)) w.book.cache) cells ∙ c.self.view_is)
 
 pub mapped-login-requires : goal.mapped-login-requires
 mapped-login-requires g c =

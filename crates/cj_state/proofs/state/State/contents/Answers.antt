@@ -28,7 +28,7 @@ invariant_of-self g c =
     let lt = within (length w.book.layout.names) c.args.b w.cells.items c.self.invariant.0.world.sound.cells (subst (λ (x : WorldState). c.args.b < x.core.placement.backends) (sym c.self.view_is) c.requires) in
     let x : CellState = c.index_mut.result.now in
     let y : CellState = c.contents.new.self in
-    (kept_asked g.B.Backend.TELLS w.accounts w.book.layout w.book.history w.cells.items w.failed w.starved w.sessions w.book.greatest w.book.sessions w.first_outcome c.self.invariant.0 c.args.b lt x c.index_mut.ensures.value y (asked_alike x y c.contents.ensures.same), c.self.invariant.1)
+    (kept_asked g.B.Backend.TELLS w.accounts w.book.layout w.book.history w.cells.items w.failed w.starved w.sessions w.book.greatest w.dumps w.book.sessions w.first_outcome c.self.invariant.0 c.args.b lt x c.index_mut.ensures.value y (asked_alike x y c.contents.ensures.same), c.self.invariant.1, c.self.invariant.2)
 
 pub returns-clause-core : goal.returns-clause-core
 returns-clause-core g c =
@@ -36,7 +36,7 @@ returns-clause-core g c =
     let lt = within (length w.book.layout.names) c.args.b w.cells.items c.self.invariant.0.world.sound.cells (subst (λ (x : WorldState). c.args.b < x.core.placement.backends) (sym c.self.view_is) c.requires) in
     let x : CellState = c.index_mut.result.now in
     let y : CellState = c.contents.new.self in
-    same_core g.B.Backend.TELLS w.accounts w.book.layout w.book.history w.cells.items w.failed w.starved w.sessions w.book.greatest w.book.sessions w.first_outcome c.self.invariant.0 c.args.b lt x c.index_mut.ensures.value y (asked_alike x y c.contents.ensures.same)
+    same_core g.B.Backend.TELLS w.accounts w.book.layout w.book.history w.cells.items w.failed w.starved w.sessions w.book.greatest w.dumps w.book.sessions w.first_outcome c.self.invariant.0 c.args.b lt x c.index_mut.ensures.value y (asked_alike x y c.contents.ensures.same)
     ∙ ap (λ (z : WorldState). z.core) c.self.view_is
 
 pub returns-clause-faults : goal.returns-clause-faults
@@ -79,4 +79,4 @@ returns-clause-same g c none =
     let y : CellState = c.contents.new.self in
     let cell : y ≡ x = contents_same c.args.b c.contents.result x y none c.contents.ensures.cause c.contents.ensures.arming c.contents.ensures.same in
     let cells : set w.cells.items c.args.b y ≡ w.cells.items = ap (set w.cells.items c.args.b) (cell ∙ c.index_mut.ensures.value) ∙ set-get_or w.cells.items c.args.b x in
-    ap (λ (xs : List CellState). with_cache (with_log (world_of w.accounts w.book.layout w.book.history xs w.failed w.starved w.sessions w.book.greatest) (log_view g.S.Store.faults g.S.Store.held w.book.recovery_log)) w.book.cache) cells ∙ c.self.view_is
+    ap (λ (xs : List CellState). with_cache (with_log (world_of w.accounts w.book.layout w.book.history xs w.failed w.starved w.sessions w.book.greatest w.dumps) (log_view g.S.Store.faults g.S.Store.held w.book.recovery_log)) w.book.cache) cells ∙ c.self.view_is

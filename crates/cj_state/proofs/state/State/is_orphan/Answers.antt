@@ -8,4 +8,4 @@ pub returns : goal.returns
 returns g c =
     let w = c.self.inside in
     c.is_orphan.ensures
-    ∙ (orphan_is w.book w.cells.items w.failed w.starved w.sessions c.self.invariant.0.numbers_are c.args.tx ∙ ap (λ (x : WorldState). is_orphan x.core c.args.tx) c.self.view_is)
+    ∙ (orphan_is w.book w.cells.items w.failed w.starved w.sessions w.dumps c.self.invariant.0.numbers_are c.args.tx ∙ ap (λ (x : WorldState). is_orphan x.core c.args.tx) c.self.view_is)

@@ -1,4 +1,4 @@
-use Rattle.std.proofs.Common.{◌≡◌, ◌≤◌, ◌<◌, ℕ, Bool, true, Ok, List, length, refl, ap, sym, ◌∙◌, subst, arith}
+use Rattle.std.proofs.Common.{◌≡◌, Bool, true, Ok, List, length, ap, sym, ◌∙◌, subst, arith}
 use Rattle.cj_model.specs.declared.answer.Asked.TheVariants.{Rows}
 use Rattle.cj_model.specs.declared.cached.Cached.{Cached}
 use Rattle.cj_model.specs.declared.request.Entry.{Entry}
@@ -23,4 +23,4 @@ invariant_of-self-2 g c =
     λ on. subst (λ n. IsAnswerAt entries n c.args.select (Rows c.args.answer)) (sym here)
     (subst (λ (x : WorldState). IsAnswerAt (log x.core.history) (length (log x.core.history)) c.args.select (Rows c.args.answer)) (sym c.self.view_is) (c.requires.right on))
     in
-    rw (c.keep.ensures.kept yes) (c.self.invariant.0, all_put (IsFreshAnswer tells entries) entry w.book.cache (fresh_now tells entries entry here c.requires.possible right) c.self.invariant.1)
+    rw (c.keep.ensures.kept yes) (c.self.invariant.0, all_put (IsFreshAnswer tells entries) entry w.book.cache (fresh_now tells entries entry here c.requires.possible right) c.self.invariant.1, c.self.invariant.2)

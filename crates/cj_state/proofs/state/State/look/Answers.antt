@@ -6,4 +6,4 @@ use Rattle.cj_state.proofs.state.State.look.Goals as goal
 pub invariant_of-self : goal.invariant_of-self
 invariant_of-self g c =
     let w = c.self.inside in
-    rw c.look.ensures.looked (c.self.invariant.0, all_looked (IsFreshAnswer g.B.Backend.TELLS (log w.book.history)) c.args.select.now w.book.cache c.self.invariant.1)
+    rw c.look.ensures.looked (c.self.invariant.0, all_looked (IsFreshAnswer g.B.Backend.TELLS (log w.book.history)) c.args.select.now w.book.cache c.self.invariant.1, c.self.invariant.2)

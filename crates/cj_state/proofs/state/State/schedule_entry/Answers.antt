@@ -5,6 +5,7 @@ use Rattle.cj_cluster.specs.History.Legality.{IsFitEntry}
 use Rattle.cj_cluster.specs.Moves.Cores.{Core, session_at}
 use Rattle.cj_cluster.specs.Moves.Moves.{is_open}
 use Rattle.cj_book.specs.Books.{BookState, has_session}
+use Rattle.cj_place.specs.Layouts.{placement_of}
 use Rattle.cj_state.specs.Worlds.{WorldState, core_of, world_of}
 use Rattle.cj_state.specs.Effects.{SchedulesAs}
 use Rattle.cj_cluster.proofs.Soundness.{session_sound}
@@ -13,6 +14,7 @@ use Rattle.cj_state.proofs.Keeping.{kept_scheduled}
 use Rattle.cj_state.proofs.KeepingEvents.{kept_log_failed}
 use Rattle.cj_state.proofs.OpenNumbers.{open_is}
 use Rattle.cj_state.proofs.Noting.{refused, scheduled_as, not_scheduled}
+use Rattle.cj_state.proofs.Dumped.{dumps_entry, dumps_event}
 use Rattle.cj_state.proofs.Fresh.{follows_entry, follows_event, fresh_entry, fresh_event}
 use Rattle.cj_freshness.specs.Freshness.{FollowsLog, without_touched}
 use Rattle.cj_state.proofs.state.State.schedule_entry.Goals as goal
@@ -21,7 +23,7 @@ pub schedule-requires-clause-known : goal.schedule-requires-clause-known
 schedule-requires-clause-known g c =
     let w = c.self.inside in
     let here = subst (λ (x : WorldState). is_open x.core c.args.s ≡ true) (sym c.self.view_is) c.requires.here in
-    inl (ap (has_session w.book) c.requires.session ∙ (open_is w.book w.cells.items w.failed w.starved w.sessions c.self.invariant.0.numbers_are c.args.s ∙ here))
+    inl (ap (has_session w.book) c.requires.session ∙ (open_is w.book w.cells.items w.failed w.starved w.sessions w.dumps c.self.invariant.0.numbers_are c.args.s ∙ here))
 
 pub invariant_of-self : goal.invariant_of-self
 invariant_of-self g c =
@@ -32,22 +34,23 @@ invariant_of-self g c =
     let no_read = subst (λ (x : WorldState). (session_at x.core c.args.s).reading ≡ None) (sym c.self.view_is) c.requires.no_read in
     let ready = c.in-Ok.ensures.ready in
     rw (c.in-Ok.ensures.ok, c.count.ensures) (
-      kept_scheduled g.B.Backend.TELLS w.accounts w.book.layout w.book.history w.cells.items w.failed w.starved w.sessions w.book.greatest w.book.sessions w.first_outcome c.self.invariant.0 c.args.s c.args.entry here c.requires.session number ready.is_free fits
+      kept_scheduled g.B.Backend.TELLS w.accounts w.book.layout w.book.history w.cells.items w.failed w.starved w.sessions w.book.greatest w.dumps w.book.sessions w.first_outcome c.self.invariant.0 c.args.s c.args.entry here c.requires.session number ready.is_free fits
           ready.space no_read ready.served,
       fresh_entry w.book.history w.book.cache g.B.Backend.TELLS c.args.entry c.self.invariant.1,
+      dumps_entry g.B.Backend.TELLS (placement_of w.book.layout) w.book.history w.dumps c.self.invariant.2 c.args.entry,
     )
 
 pub returns-in-Ok-clause-scheduled : goal.returns-in-Ok-clause-scheduled
 returns-in-Ok-clause-scheduled g c =
     let w = c.self.inside in
     subst (λ (x : WorldState). SchedulesAs x.core c.args.entry (Ok c.in-Ok.number)) c.self.view_is
-    (scheduled_as w.cells.items w.failed w.starved w.sessions w.book.greatest w.book c.args.entry c.schedule.new.self c.in-Ok.number c.in-Ok.ensures.ok c.in-Ok.ensures.number c.in-Ok.ensures.ready)
+    (scheduled_as w.cells.items w.failed w.starved w.sessions w.book.greatest w.dumps w.book c.args.entry c.schedule.new.self c.in-Ok.number c.in-Ok.ensures.ok c.in-Ok.ensures.number c.in-Ok.ensures.ready)
 
 pub returns-in-Err-clause-scheduled : goal.returns-in-Err-clause-scheduled
 returns-in-Err-clause-scheduled g c =
     let w = c.self.inside in
     subst (λ (x : WorldState). SchedulesAs x.core c.args.entry (Err c.in-Err.error)) c.self.view_is
-    (not_scheduled w.cells.items w.failed w.starved w.sessions w.book.greatest w.book c.args.entry c.schedule.result c.in-Err.error c.in-Err.is
+    (not_scheduled w.cells.items w.failed w.starved w.sessions w.book.greatest w.dumps w.book c.args.entry c.schedule.result c.in-Err.error c.in-Err.is
     c.schedule.ensures.in_progress c.schedule.ensures.no_backend c.schedule.ensures.full c.schedule.ensures.faulted)
 
 pub invariant_of-self-in-Err : goal.invariant_of-self-in-Err
@@ -56,20 +59,21 @@ invariant_of-self-in-Err g c =
     let e = c.args.entry in
     let here = subst (λ (x : WorldState). is_open x.core c.args.s ≡ true) (sym c.self.view_is) c.requires.here in
     let no_read = subst (λ (x : WorldState). (session_at x.core c.args.s).reading ≡ None) (sym c.self.view_is) c.requires.no_read in
-    let core : Core = core_of w.book.layout w.book.history w.cells.items w.failed w.starved w.sessions w.book.greatest in
+    let core : Core = core_of w.book.layout w.book.history w.cells.items w.failed w.starved w.sessions w.book.greatest w.dumps in
     let sound = session_sound core c.args.s c.self.invariant.0.world.sound here in
     let high : (session_at core c.args.s).number ≤ w.book.greatest = sound.0.number.1 in
     let own : (session_at core c.args.s).number ≡ c.args.s = sound.1 in
     let session : e.session ≡ c.args.s = c.requires.session in
     refused c.schedule.result c.in-Err.error c.in-Err.is w.book c.schedule.new.self (LogFailed e.session e.seq)
-    (λ (b : BookState g.row.S.Denot). KeptFresh g.B.Backend.TELLS (world_of w.accounts b.layout b.history w.cells.items w.failed w.starved w.sessions b.greatest) b.sessions w.first_outcome b.cache)
+    (λ (b : BookState g.row.S.Denot). KeptFresh g.B.Backend.TELLS (world_of w.accounts b.layout b.history w.cells.items w.failed w.starved w.sessions b.greatest w.dumps) b.sessions w.first_outcome b.cache w.dumps)
     c.schedule.ensures.log_fault c.schedule.ensures.same
     (λ fault.
     let can = c.schedule.ensures.faulted fault in
     let space : 3 ≤ events_left w.book.history = can.space in (
-      kept_log_failed g.B.Backend.TELLS w.accounts w.book.layout w.book.history w.cells.items w.failed w.starved w.sessions w.book.greatest w.book.sessions w.first_outcome c.self.invariant.0 e.session e.seq can.is_free (omega arith) (omega arith)
+      kept_log_failed g.B.Backend.TELLS w.accounts w.book.layout w.book.history w.cells.items w.failed w.starved w.sessions w.book.greatest w.dumps w.book.sessions w.first_outcome c.self.invariant.0 e.session e.seq can.is_free (omega arith) (omega arith)
           (λ some. subst (λ (k : ℕ). (session_at core k).reading ≡ None) (sym session) no_read),
       fresh_event w.book.history w.book.cache g.B.Backend.TELLS (LogFailed e.session e.seq) refl c.self.invariant.1,
+      dumps_event g.B.Backend.TELLS (placement_of w.book.layout) w.book.history w.dumps c.self.invariant.2 (LogFailed e.session e.seq) refl,
     ))
     c.self.invariant
 

@@ -17,33 +17,33 @@ take-requires-clause-registered g c =
 pub take-requires-clause-can : goal.take-requires-clause-can
 take-requires-clause-can g c =
     let w = c.self.inside in
-    let can : CanReplay (core_of w.book.layout w.book.history w.cells.items w.failed w.starved w.sessions w.book.greatest) c.args.b = can_replay _ c.args.b (subst (λ (x : WorldState). not_now x.core (Replay c.args.b) ≡ None) (sym c.self.view_is) c.requires.now) in
-    can_take g.B.Backend.TELLS w.accounts w.book.layout w.book.history w.cells.items w.failed w.starved w.sessions w.book.greatest w.book.sessions w.first_outcome c.self.invariant.0 c.args.b (position_or_zero (position_at (core_of w.book.layout w.book.history w.cells.items w.failed w.starved w.sessions w.book.greatest) c.args.b)) can.at can.more
+    let can : CanReplay (core_of w.book.layout w.book.history w.cells.items w.failed w.starved w.sessions w.book.greatest w.dumps) c.args.b = can_replay _ c.args.b (subst (λ (x : WorldState). not_now x.core (Replay c.args.b) ≡ None) (sym c.self.view_is) c.requires.now) in
+    can_take g.B.Backend.TELLS w.accounts w.book.layout w.book.history w.cells.items w.failed w.starved w.sessions w.book.greatest w.dumps w.book.sessions w.first_outcome c.self.invariant.0 c.args.b (position_or_zero (position_at (core_of w.book.layout w.book.history w.cells.items w.failed w.starved w.sessions w.book.greatest w.dumps) c.args.b)) can.at can.more
 
 pub invariant_of-self : goal.invariant_of-self
 invariant_of-self g c =
     let w = c.self.inside in
-    let can : CanReplay (core_of w.book.layout w.book.history w.cells.items w.failed w.starved w.sessions w.book.greatest) c.args.b = can_replay _ c.args.b (subst (λ (x : WorldState). not_now x.core (Replay c.args.b) ≡ None) (sym c.self.view_is) c.requires.now) in
-    (kept_replayed g.B.Backend.TELLS w.accounts w.book.layout w.book.history w.cells.items w.failed w.starved w.sessions w.book.greatest w.book.sessions w.first_outcome c.self.invariant.0 c.args.b c.take.result c.take.new.cells.items c.take.ensures can.off, c.self.invariant.1)
+    let can : CanReplay (core_of w.book.layout w.book.history w.cells.items w.failed w.starved w.sessions w.book.greatest w.dumps) c.args.b = can_replay _ c.args.b (subst (λ (x : WorldState). not_now x.core (Replay c.args.b) ≡ None) (sym c.self.view_is) c.requires.now) in
+    (kept_replayed g.B.Backend.TELLS w.accounts w.book.layout w.book.history w.cells.items w.failed w.starved w.sessions w.book.greatest w.dumps w.book.sessions w.first_outcome c.self.invariant.0 c.args.b c.take.result c.take.new.cells.items c.take.ensures can.off, c.self.invariant.1, c.self.invariant.2)
 
 pub returns-clause-replays : goal.returns-clause-replays
 returns-clause-replays g c =
     let w = c.self.inside in
-    subst (λ (x : WorldState). Replays g.B.Backend.TELLS x.core c.args.b (Ok (Replayed (position_or_zero (position_at x.core c.args.b) + 1) c.take.result)) (core_of w.book.layout w.book.history c.take.new.cells.items w.failed w.starved w.sessions w.book.greatest)) c.self.view_is
-    (replays g.B.Backend.TELLS w.accounts w.book.layout w.book.history w.cells.items w.failed w.starved w.sessions w.book.greatest w.book.sessions w.first_outcome c.self.invariant.0 c.args.b c.take.result c.take.new.cells.items c.take.ensures)
+    subst (λ (x : WorldState). Replays g.B.Backend.TELLS x.core c.args.b (Ok (Replayed (position_or_zero (position_at x.core c.args.b) + 1) c.take.result)) (core_of w.book.layout w.book.history c.take.new.cells.items w.failed w.starved w.sessions w.book.greatest w.dumps)) c.self.view_is
+    (replays g.B.Backend.TELLS w.accounts w.book.layout w.book.history w.cells.items w.failed w.starved w.sessions w.book.greatest w.dumps w.book.sessions w.first_outcome c.self.invariant.0 c.args.b c.take.result c.take.new.cells.items c.take.ensures)
 
 pub returns-clause-counts : goal.returns-clause-counts
 returns-clause-counts g c =
     let w = c.self.inside in
-    took_counts g.B.Backend.TELLS w.accounts w.book.layout w.book.history w.cells.items w.failed w.starved w.sessions w.book.greatest w.book.sessions w.first_outcome c.self.invariant.0 c.args.b c.take.result c.take.new.cells.items c.take.ensures c.args.self.now.cells (ap (λ (x : WorldState). x.cells) (sym c.self.view_is))
+    took_counts g.B.Backend.TELLS w.accounts w.book.layout w.book.history w.cells.items w.failed w.starved w.sessions w.book.greatest w.dumps w.book.sessions w.first_outcome c.self.invariant.0 c.args.b c.take.result c.take.new.cells.items c.take.ensures c.args.self.now.cells (ap (λ (x : WorldState). x.cells) (sym c.self.view_is))
 
 pub returns-clause-armings : goal.returns-clause-armings
 returns-clause-armings g c =
     let w = c.self.inside in
-    took_armings g.B.Backend.TELLS w.accounts w.book.layout w.book.history w.cells.items w.failed w.starved w.sessions w.book.greatest w.book.sessions w.first_outcome c.self.invariant.0 c.args.b c.take.result c.take.new.cells.items c.take.ensures c.args.self.now.cells (ap (λ (x : WorldState). x.cells) (sym c.self.view_is))
+    took_armings g.B.Backend.TELLS w.accounts w.book.layout w.book.history w.cells.items w.failed w.starved w.sessions w.book.greatest w.dumps w.book.sessions w.first_outcome c.self.invariant.0 c.args.b c.take.result c.take.new.cells.items c.take.ensures c.args.self.now.cells (ap (λ (x : WorldState). x.cells) (sym c.self.view_is))
 
 pub returns-clause-logins : goal.returns-clause-logins
 returns-clause-logins g c =
     let w = c.self.inside in
     subst (λ (x : WorldState). LogsInToTake c.args.b (login_to_take x c.args.b) c.take.result (logins_of x.cells) (logins_of c.take.new.cells.items)) c.self.view_is
-    (took_logins g.B.Backend.TELLS w.accounts w.book.layout w.book.history w.cells.items w.failed w.starved w.sessions w.book.greatest w.book.sessions w.first_outcome c.self.invariant.0 c.args.b c.take.result c.take.new.cells.items c.take.ensures (world_of w.accounts w.book.layout w.book.history w.cells.items w.failed w.starved w.sessions w.book.greatest) refl)
+    (took_logins g.B.Backend.TELLS w.accounts w.book.layout w.book.history w.cells.items w.failed w.starved w.sessions w.book.greatest w.dumps w.book.sessions w.first_outcome c.self.invariant.0 c.args.b c.take.result c.take.new.cells.items c.take.ensures (world_of w.accounts w.book.layout w.book.history w.cells.items w.failed w.starved w.sessions w.book.greatest w.dumps) refl)

@@ -1,0 +1,13 @@
+use Rattle.std.proofs.Common.{◌≡◌, [], drop, map}
+use Rattle.std.specs.Prelude.{filter, fold}
+use Rattle.cj_model.specs.Cluster.Placements.{hosts}
+use Rattle.cj_model.specs.Database.Tables.{name_cmp, put_by}
+use Rattle.cj_model.specs.Sql.Names.{is_name}
+use Rattle.cj_place.specs.declared.rows.HostRow.{HostRow}
+use Rattle.cj_place.specs.Layouts.{placement_of}
+use Rattle.cj_place.proofs.placement.Placement.covered_of.Given as goal
+
+abbrev pub invariant-loop-row : goal.invariant-loop-row
+invariant-loop-row l =
+    fold (put_by name_cmp) l.set (filter is_name (filter (hosts (placement_of l.self) l.b) (map (λ (row : HostRow). row.given.table) (drop l.row-index l.rows))))
+    ≡ fold (put_by name_cmp) [] (filter is_name (filter (hosts (placement_of l.self) l.b) (map (λ (row : HostRow). row.given.table) l.rows)))

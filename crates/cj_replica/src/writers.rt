@@ -1,0 +1,54 @@
+//! The transactions that have a draft in a database.
+
+ghost use Rattle.std.specs.Prelude.{◌≡◌, fold, option_map, option_to_list, IfOk, OnOk};
+ghost use Rattle.std.specs.Ordering.{nat_cmp};
+ghost use Rattle.cj_model.specs.Database.Storable.{writers};
+ghost use Rattle.cj_model.specs.Database.Tables.{put_by};
+ghost use Rattle.cj_model.specs.Proving.Gaps.{IsGap};
+
+use cj_model::{NoMemory, Slot};
+use std::alloc::Global;
+use std::cmp::Ordering;
+
+/// In front of which place a number is put among rising ones; none where it is one of them.
+fn gap_for(numbers: &[u64], number: u64) -> Option<usize>
+    ensures { IsGap nat_cmp numbers.now number result }
+{
+    for (i, other) in numbers.iter().enumerate() {
+        match number.cmp(other) {
+            Ordering::Less => return Some(i),
+            Ordering::Equal => return None,
+            Ordering::Greater => {}
+        }
+    }
+    Some(numbers.len())
+}
+
+fn put(numbers: &mut Vec<u64>, number: u64) -> Result<(), NoMemory>
+    ensures { OnOk result (numbers.new.items ≡ put_by nat_cmp numbers.old.items number) }
+{
+    if let Some(place) = gap_for(numbers, number) {
+        numbers.insert(place, number)?;
+    }
+    Ok(())
+}
+
+fn put_writer(numbers: &mut Vec<u64>, slot: &Slot) -> Result<(), NoMemory>
+    ensures { OnOk result (numbers.new.items ≡ fold (put_by nat_cmp) numbers.old.items (option_to_list (option_map (λ draft. draft.tx) slot.now.draft))) }
+{
+    match &slot.draft {
+        Some(draft) => put(numbers, draft.tx),
+        None => Ok(()),
+    }
+}
+
+/// The transactions that have a draft in these slots, in rising number.
+pub fn writers_of(alloc: Global, slots: &[Slot]) -> Result<Vec<u64>, NoMemory>
+    ensures { IfOk result (λ found. found.items ≡ writers slots.now) }
+{
+    let mut numbers = Vec::new(alloc);
+    for slot in slots {
+        put_writer(&mut numbers, slot)?;
+    }
+    Ok(numbers)
+}

@@ -1,0 +1,58 @@
+use Rattle.std.proofs.Common.{◌≡◌, false, length, map, Option, option_map, None, Some, ap, sym, ◌∙◌, subst}
+use Rattle.std.specs.Prelude.{IfSome}
+use Rattle.cj_model.specs.Cluster.Placements.{part}
+use Rattle.cj_model.specs.Database.Storable.{IsStorable}
+use Rattle.cj_model.proofs.PartLaws.{part_is_storable}
+use Rattle.cj_cluster.specs.declared.moves.Move.TheVariants.{Load}
+use Rattle.cj_cluster.specs.declared.moves.TakenDump.{TakenDump}
+use Rattle.cj_cluster.specs.History.Histories.{log, database_after}
+use Rattle.cj_cluster.specs.Moves.Cores.{find_dump, hosts_beyond}
+use Rattle.cj_cluster.specs.Moves.Moves.{not_now}
+use Rattle.cj_cluster.specs.Proving.Invariants.{IsSoundDump}
+use Rattle.cj_cluster.proofs.Now.{can_load}
+use Rattle.cj_dump.specs.declared.dump.Dump.{Dump}
+use Rattle.cj_dump.specs.Coverage.{cut}
+use Rattle.cj_dump.specs.Dumps.{IsDump}
+use Rattle.cj_place.specs.Layouts.{Layout, placement_of}
+use Rattle.cj_shelf.specs.MemoryShelves.{taken_of}
+use Rattle.cj_shelf.specs.Shelves.{first_of}
+use Rattle.cj_state.specs.Worlds.{WorldState, core_of, IsDumpOf}
+use Rattle.cj_state.proofs.Dumped.{cut_holds, first_all, first_taken, taken_all}
+use Rattle.cj_state.proofs.state.State.cut_dump.Goals as goal
+
+pub unreachable-requires : goal.unreachable-requires
+unreachable-requires g c =
+    let w = c.self.inside in
+    let can = can_load (core_of w.book.layout w.book.history w.cells.items w.failed w.starved w.sessions w.book.greatest w.dumps) c.args.b c.args.name.now (subst (λ (x : WorldState). not_now x.core (Load c.args.b c.args.name.now) ≡ None) (sym c.self.view_is) c.requires.now) in
+    let none : first_of c.args.name.now w.dumps ≡ None = sym c.in_ok-dump.ensures.first ∙ c.in-None.is in
+    absurd (cc (sym can.found ∙ (first_taken c.args.name.now w.dumps ∙ ap (option_map taken_of) none)))
+
+pub returns-clause-storable : goal.returns-clause-storable
+returns-clause-storable g c =
+    let w = c.self.inside in
+    let is : IsDump c.in-Some.dump = subst (λ (o : Option Dump). IfSome o IsDump) c.in-Some.is c.in_ok-dump.ensures.storable in
+    subst (λ (x : Dump). IsStorable x.db) (sym c.cut.ensures) (part_is_storable (placement_of c.placement.result.now) c.args.b c.in-Some.dump.db is.db)
+
+pub returns-clause-found : goal.returns-clause-found
+returns-clause-found g c =
+    let w = c.self.inside in
+    let there : first_of c.args.name.now w.dumps ≡ Some c.in-Some.dump = sym c.in_ok-dump.ensures.first ∙ c.in-Some.is in
+    subst (λ (x : WorldState). find_dump x.core.dumps c.args.name.now ≡ Some (taken_of c.cut.result)) c.self.view_is
+    (first_taken c.args.name.now w.dumps ∙ (ap (option_map taken_of) there ∙ ap (λ (x : Dump). Some (taken_of x)) (sym c.cut.ensures)))
+
+pub returns-clause-held : goal.returns-clause-held
+returns-clause-held g c on =
+    let w = c.self.inside in
+    let tells = g.B.Backend.TELLS in
+    let d : Dump = c.in-Some.dump in
+    let can = can_load (core_of w.book.layout w.book.history w.cells.items w.failed w.starved w.sessions w.book.greatest w.dumps) c.args.b c.args.name.now (subst (λ (x : WorldState). not_now x.core (Load c.args.b c.args.name.now) ≡ None) (sym c.self.view_is) c.requires.now) in
+    let there : first_of c.args.name.now w.dumps ≡ Some d = sym c.in_ok-dump.ensures.first ∙ c.in-Some.is in
+    let found : find_dump (map taken_of w.dumps) c.args.name.now ≡ Some (taken_of d) = first_taken c.args.name.now w.dumps ∙ ap (option_map taken_of) there in
+    let same : can.taken ≡ taken_of d = cc (sym can.found ∙ found) in
+    let covered : hosts_beyond (placement_of w.book.layout) c.args.b d.source ≡ false = subst (λ (t : TakenDump). hosts_beyond (placement_of w.book.layout) c.args.b t.source ≡ false) same can.covered in
+    let sound : IsSoundDump (length w.book.layout.names) w.book.history (taken_of d) = taken_all (IsSoundDump (length w.book.layout.names) w.book.history) (map taken_of w.dumps) c.args.name.now (taken_of d) c.self.invariant.0.world.sound.dumps found in
+    let is : IsDumpOf tells (placement_of w.book.layout) (log w.book.history) d = first_all (IsDumpOf tells (placement_of w.book.layout) (log w.book.history)) c.args.name.now w.dumps c.self.invariant.2 d there in
+    let cut_is : c.cut.result ≡ cut d w.book.layout c.args.b = c.cut.ensures ∙ ap (λ (l : Layout). cut d l c.args.b) c.placement.ensures in
+    subst (λ (x : WorldState). c.cut.result.db ≡ part x.core.placement c.args.b (database_after (log x.core.history) c.cut.result.position)) c.self.view_is
+    (subst (λ (x : Dump). x.db ≡ part (placement_of w.book.layout) c.args.b (database_after (log w.book.history) x.position)) (sym cut_is)
+    (cut_holds tells w.book.layout (log w.book.history) d c.args.b is covered sound.source on))

@@ -1,0 +1,39 @@
+use Rattle.std.proofs.Common.{◌≡◌, Bool, true, cond, filter, fold, [], Some, ap, sym, ◌∙◌, subst}
+use Rattle.cj_model.specs.Database.Tables.{name_cmp, put_by}
+use Rattle.cj_model.specs.Sql.Names.{is_name}
+use Rattle.cj_cluster.specs.Moves.Cores.{position_at}
+use Rattle.cj_dump.specs.declared.dump.Dump.{Dump}
+use Rattle.cj_place.specs.Layouts.{Layout, tables_at}
+use Rattle.cj_state.specs.Worlds.{WorldState, core_of}
+use Rattle.cj_state.specs.Held.{IsHeld}
+use Rattle.cj_state.proofs.Dumped.{dumps_push, kept_dumped}
+use Rattle.cj_state.proofs.Logs.{name_some}
+use Rattle.cj_state.proofs.state.State.keep_dump.Goals as goal
+
+pub add-requires : goal.add-requires
+add-requires g c =
+    let layout : Layout = c.placement.result.now in
+    let replicates : (full : c.all.result ≡ true) → layout.full ≡ true =
+    λ full. ap (λ (l : Layout). l.full) c.placement.ensures ∙ (sym (ap (λ (l : Layout). l.full) c.placement-2.ensures) ∙ (sym c.all.ensures ∙ full))
+    in
+    record {
+      name = λ is. name_some c.args.name.now c.requires.named (sym c.copy.ensures ∙ is);
+      covers = c.in_ok-covers.ensures.names;
+      none = λ full. c.in_ok-covers.ensures.tables ∙ ap (λ (t : Bool). cond t [] (fold (put_by name_cmp) [] (filter is_name (tables_at layout c.args.b)))) (replicates full);
+      db = c.requires.storable;
+    }
+
+pub invariant_of-self-2 : goal.invariant_of-self-2
+invariant_of-self-2 g c =
+    let w = c.self.inside in
+    let tells = g.B.Backend.TELLS in
+    let d : Dump = record { position = c.in-Some.position; source = c.args.b; name = c.copy.result; all = c.all.result; covers = c.in_ok-covers.covers; db = c.args.db } in
+    let at : position_at (core_of w.book.layout w.book.history w.cells.items w.failed w.starved w.sessions w.book.greatest w.dumps) c.args.b ≡ Some c.in-Some.position =
+    subst (λ (x : WorldState). position_at x.core c.args.b ≡ Some c.in-Some.position) (sym c.self.view_is) (sym c.position.ensures ∙ c.in-Some.is)
+    in
+    let held = subst (λ (x : WorldState). IsHeld tells x.core c.args.b c.args.db) (sym c.self.view_is) c.requires.held in
+    rw c.in_ok-add.ensures.ok (
+      kept_dumped tells w.accounts w.book.layout w.book.history w.cells.items w.failed w.starved w.sessions w.book.greatest w.dumps w.book.sessions w.first_outcome c.self.invariant.0 d at,
+      c.self.invariant.1,
+      dumps_push tells w.accounts w.book.layout w.book.history w.cells.items w.failed w.starved w.sessions w.book.greatest w.dumps w.book.sessions w.first_outcome c.self.invariant.0 d at held c.self.invariant.2,
+    )
