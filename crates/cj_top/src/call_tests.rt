@@ -4,6 +4,7 @@ ghost use Rattle.std.specs.Prelude.{◌≤◌, length, IfOk};
 
 use cj_auth::Accounts;
 use cj_cache::Cache;
+use cj_dump::{DumpError, decode};
 use cj_expr::{BindError, Scope, bind, bind_expr};
 use cj_model::{
     Account, Answer, Column, Cond, Kind, Level, ListOf, NO_COLUMN, Name, PlaceRow, Request, Schema,
@@ -229,33 +230,91 @@ fn answer(rt: &impl Abort, alloc: Global, value: i64) -> Result<Answer, Fail> {
     })
 }
 
+/// A SELECT of a table.
+fn of_table(rt: &impl Abort, alloc: Global, table: &str) -> Result<Select, Fail> {
+    let text = format!(in alloc; "SELECT v FROM {table}")?;
+    Ok(select(rt, alloc, &text))
+}
+
+fn keep(rt: &impl Abort, alloc: Global, cache: &mut Cache, table: &str) -> Result<(), Fail> {
+    let given = answer(rt, alloc, 5)?;
+    let asked = of_table(rt, alloc, table)?;
+    assert!(rt; cache.keep(asked, given, 1).is_ok());
+    Ok(())
+}
+
+/// The least recently used answer makes room, and a table's answers are dropped with it.
 #[test]
-fn an_answer_is_kept(rt: HostRuntime) -> Result<(), Fail> {
+fn answers_are_kept(rt: HostRuntime) -> Result<(), Fail> {
     let alloc = rt.alloc();
     let Ok(mut cache) = Cache::new(alloc, 2) else {
         panic!(&rt; "cache")
     };
-    for (statement, value) in [("SELECT v FROM t", 5), ("SELECT v FROM a", 7)] {
-        let given = answer(&rt, alloc, value)?;
-        assert!(rt; cache.keep(select(&rt, alloc, statement), given, 1).is_ok());
-    }
-    let asked = select(&rt, alloc, "SELECT v FROM t");
-    assert!(rt; cache.touch(&asked));
-    assert_eq!(rt; cache.counts(), (1, 0));
-    let Some(kept) = cache.kept(&asked) else {
-        panic!(&rt; "kept")
-    };
-    for row in kept.rows.as_slice() {
-        assert!(rt; row.as_slice() == [Value::Int(5)].as_slice());
-    }
+    keep(&rt, alloc, &mut cache, "a")?;
+    keep(&rt, alloc, &mut cache, "b")?;
+    assert!(rt; cache.touch(&of_table(&rt, alloc, "a")?));
+    keep(&rt, alloc, &mut cache, "c")?;
+    assert!(rt; cache.kept(&of_table(&rt, alloc, "b")?).is_none());
     let mut set = TableSet::new(alloc);
     assert!(rt; set.insert(&name(&rt, "a")).is_ok());
     let Ok(doomed) = cache.doomed(&set) else {
         panic!(&rt; "doomed")
     };
     assert_eq!(rt; doomed.len(), 1);
-    for select in doomed.as_slice() {
-        assert!(rt; spelled(alloc, select.tables.as_slice())?.as_slice() == "a ".as_bytes());
+    cache.drop_tables(&set, &doomed);
+    assert!(rt; !cache.touch(&of_table(&rt, alloc, "a")?));
+    assert!(rt; cache.kept(&of_table(&rt, alloc, "c")?).is_some());
+    assert_eq!(rt; cache.counts(), (1, 1));
+    Ok(())
+}
+
+/// Position 1, backend 1, name `d`, all tables: `t (k INTEGER PRIMARY KEY)` without rows.
+const DUMP: [u8; 49] =
+    *b"\x00\x00\x00\x00\x00\x00\x00\x01\x01\x00\x01d\x01\x00\x00\x00\x00\x00\x00\x00\x00\x00\x00\x00\x00\x00\x00\x00\x01\x00\x01t\x00\x01\x00\x01k\x01\x00\x00\x00\x00\x00\x00\x00\x00\x00\x00\x00";
+
+/// Where its fields begin.
+const FIELDS: [u64; 13] = [0, 8, 9, 12, 13, 21, 29, 32, 34, 37, 38, 40, 48];
+
+/// Why the bytes are no dump's; none where they are.
+fn refusal_of_dump(alloc: Global, bytes: &[u8]) -> Option<DumpError> {
+    match decode(alloc, bytes) {
+        Ok(_) => None,
+        Err(error) => Some(error),
+    }
+}
+
+#[test]
+fn a_dump_that_is_cut_ends_in_a_field(rt: HostRuntime) -> Result<(), Fail> {
+    let alloc = rt.alloc();
+    for n in 0..DUMP.len() {
+        let mut field = 0;
+        for start in FIELDS {
+            if start <= n as u64 {
+                field = start;
+            }
+        }
+        let refused = refusal_of_dump(alloc, &DUMP[..n]);
+        assert!(rt; refused == Some(DumpError::Cut(field)), "{n}");
+    }
+    Ok(())
+}
+
+#[test]
+fn changed_bytes_of_a_dump_are_refused_at_their_field(rt: HostRuntime) -> Result<(), Fail> {
+    let alloc = rt.alloc();
+    let cases = [
+        (8, 255, None),
+        (37, 3, Some(DumpError::BadField(37))),
+        (49, 0, Some(DumpError::BadField(49))),
+    ];
+    for (at, byte, refusal) in cases {
+        let mut bytes = DUMP.to_vec(alloc)?;
+        bytes.truncate(at);
+        bytes.push(byte)?;
+        if at < DUMP.len() {
+            bytes.extend_from_slice(&DUMP[at + 1..])?;
+        }
+        assert!(rt; refusal_of_dump(alloc, &bytes) == refusal, "{at}");
     }
     Ok(())
 }
