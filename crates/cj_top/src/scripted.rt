@@ -49,7 +49,6 @@ fn flaky_world<S: Store + Drop>(
 /// Plays the lines of the input on a world of backends in memory, as the configuration has them, over the log, and writes what they come to.
 ///
 /// Refused, the script has not begun; want of memory in it is an end of its own.
-#[tactic(auto, using(crate::proofs::PlayedOver::played_as_configured))]
 pub fn play<S: Store + Drop, I: Source, O: Sink>(
     alloc: Global,
     conf: Conf,

@@ -4,6 +4,14 @@ use Rattle.cj_top.specs.Logs.{Found}
 use Rattle.cj_top.proofs.PlayedOver.{played_as_configured}
 use Rattle.cj_top.proofs.scripted.play.Goals as goal
 
+pub returns-clause-played : goal.returns-clause-played
+returns-clause-played g c =
+    let left = g.I.Source.left c.args.input.now in
+    let left' = g.I.Source.left c.script.new.input in
+    let held = g.O.Sink.held c.args.output.now in
+    let held' = g.O.Sink.held c.script.new.output in
+    played_as_configured c.args.conf (Found g.S.Store.TELLS (g.S.Store.held c.args.log)) left left' held held' c.script.result c.in_ok-world.world c.script.new.world c.in_ok-world.ensures.begins c.script.ensures.came c.script.ensures.turns
+
 pub returns-clause-complete : goal.returns-clause-complete
 returns-clause-complete g c =
     let left = g.I.Source.left c.args.input.now in
