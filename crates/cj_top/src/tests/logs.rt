@@ -2,7 +2,10 @@
 
 use super::*;
 use crate::configured::memory_backends;
+use cj_backend::Backend;
 use cj_conf::read_conf;
+use cj_core::World;
+use cj_mem::MemBackend;
 
 const LOG_FAULT: &[u8] =
     b"\x00\x00\x00\x13\x8f\x00\x2a\x00\x00\x00\x00\x00\x00\x00\x00\x00\x00\x00\x00\x00\x00\x00\x00";
@@ -154,12 +157,12 @@ fn a_failing_log_is_a_status_or_a_reply(rt: HostRuntime) -> Result<(), Fail> {
 
 // ---- what a session leaves in the log
 
-/// What the log's store holds after a session over `log`, whose calls of these numbers fail, and what the session wrote.
-fn left_by(
+/// The world behind a session over a log whose calls of these numbers fail, and what the session wrote.
+fn served(
     rt: &(impl Abort + AllocGlobal),
     log_fails: &[u64],
     input: &[u8],
-) -> Result<(Vec<u8>, Vec<u8>), Fail> {
+) -> Result<(World<MemBackend, MemStore>, Vec<u8>), Fail> {
     let alloc = rt.alloc();
     let Ok(conf) = read_conf(alloc, C1.as_bytes()) else {
         return Err(Fail::from("no configuration"));
@@ -172,11 +175,18 @@ fn left_by(
     let Ok((_, world)) = pipe(alloc, conf, log, backends, &mut taken, &mut written, &clock) else {
         return Err(Fail::from("no session"));
     };
+    Ok((world, written.content().to_vec(alloc)?))
+}
+
+/// What the log's store holds then, and what the session wrote.
+fn left_by(
+    rt: &(impl Abort + AllocGlobal),
+    log_fails: &[u64],
+    input: &[u8],
+) -> Result<(Vec<u8>, Vec<u8>), Fail> {
+    let (world, written) = served(rt, log_fails, input)?;
     let store = world.into_log();
-    Ok((
-        store.content().to_vec(alloc)?,
-        written.content().to_vec(alloc)?,
-    ))
+    Ok((store.content().to_vec(rt.alloc())?, written))
 }
 
 /// The lines of a log.
@@ -238,6 +248,27 @@ fn a_change_that_every_backend_refuses_stands_in_the_log(rt: HostRuntime) -> Res
             .as_slice()
             .ends_with(b"\n3 session=1 tx=0 user=ann UPDATE t SET v = v + 1\n")
     );
+    Ok(())
+}
+
+/// Each of the two backends is asked once: the SELECT between is answered from the cache, and the INSERT drops what is kept.
+#[test]
+fn a_kept_answer_asks_no_backend(rt: HostRuntime) -> Result<(), Fail> {
+    let input = session(
+        rt.alloc(),
+        &[
+            CREATE,
+            "SELECT k FROM t",
+            "SELECT k FROM t",
+            "SELECT k FROM t",
+            "INSERT INTO t VALUES (7, 'a')",
+            "SELECT k FROM t",
+        ],
+    )?;
+    let (world, _) = served(&rt, &[], &input)?;
+    for backend in world.into_backends().as_slice() {
+        assert_eq!(rt; backend.counts().asks, 1);
+    }
     Ok(())
 }
 

@@ -2,7 +2,7 @@ use Rattle.std.proofs.Common.{◌≡◌, [], List, ℕ, Option, Some, refl}
 use Rattle.cj_model.specs.declared.database.Slot.{Slot}
 use Rattle.cj_mem.specs.MemoryBackends.{MemoryState, fresh_state}
 use Rattle.cj_top.proofs.NewBackends.{all_alike}
-use Rattle.cj_top.proofs.tests.logs.left_by.Goals as goal
+use Rattle.cj_top.proofs.tests.logs.served.Goals as goal
 
 pub pipe-requires-clause-empty : goal.pipe-requires-clause-empty
 pipe-requires-clause-empty g c = λ tells. all_alike (λ (t : Option (List Slot)). t ≡ Some []) (λ (s : MemoryState). s.told) c.count.result fresh_state c.in_ok-backends.backends c.in_ok-backends.ensures refl
