@@ -13,7 +13,7 @@ use Rattle.atomic_table.proofs.Lists.{set_else}
 use Rattle.cj_cluster.specs.declared.event.Event.{Event}
 use Rattle.cj_cluster.specs.History.Histories.{log}
 use Rattle.cj_cluster.specs.History.Legality.{IsLegal}
-use Rattle.cj_cluster.proofs.Pushed.{prefix_self}
+use Rattle.cj_cluster.proofs.Pushed.{legal_prefix, prefix_self}
 use Rattle.cj_board.specs.declared.view.SeatView.{SeatView}
 use Rattle.cj_board.specs.declared.view.Role.{Role}
 use Rattle.cj_board.specs.declared.view.Role.TheVariants.{Book, Cell, Pass}
@@ -253,7 +253,7 @@ sum_is n f more full = by_test (leb max_word n) refl
 -- ---- loads that tell what the rule says of a view
 
 pub compare_allowed : (n slots id : ℕ) (me : M) → Allows (IsKeptBoard n) slots id me 0 (λ x. x) (ToldFronts (step slots 0 0 0 none) me)
-compare_allowed n slots id me s k _ at _ = let f = fit_at n s k id me.0 at in (me.0, keeps, tt, loads n s k id 0 me.1 me.0 me.0 at f refl (same_all me.0), (refl, f.begins.1, f.begins.2))
+compare_allowed n slots id me s k _ at _ = let f = fit_at n s k id me.0 at in (me.0, keeps, tt, loads n s k id 0 me.1 me.0 me.0 at f refl (same_all me.0), (refl, f.begins.1, f.begins.2, legal_prefix me.0.front k.history f.begins.0 k.kept.begin.legal))
 
 pub count_allowed : (n slots id : ℕ) (me : M) → 0 < me.0.own_session → Allows (IsKeptBoard n) slots id me 0 (λ x. x) (ToldCountUp (step slots 0 0 0 none) me)
 count_allowed n slots id me lt s k _ at _ = (

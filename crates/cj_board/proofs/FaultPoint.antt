@@ -51,7 +51,7 @@ is_none : (t b : ℕ) → t ≢ b → one_of t b ≡ 0
 is_none t b ne = ap (λ z. cond {A = ℕ} z 1 0) (ne_eqb t b ne)
 
 -- none of b is spent
-spend_none : (P : ℕ → Bool) (b : ℕ) (ts : List ℕ) → P b ≡ false → fault_tokens_of b (spend P ts) ≡ fault_tokens_of b ts
+pub spend_none : (P : ℕ → Bool) (b : ℕ) (ts : List ℕ) → P b ≡ false → fault_tokens_of b (spend P ts) ≡ fault_tokens_of b ts
 spend_none P b [] e = refl
 spend_none P b (t ∷ ts) e = by_test (λ Q z. spend_none Q b ts z) (P t) refl
   where
@@ -64,7 +64,7 @@ spend_none P b (t ∷ ts) e = by_test (λ Q z. spend_none Q b ts z) (P t) refl
     by_test rec false is = let i = rec P e in let c = tokens-cons b t ts in let d = tokens-cons b t (spend P ts) in omega arith
 
 -- one of b is spent
-spend_one : (P : ℕ → Bool) (b : ℕ) (ts : List ℕ) → P b ≡ true → 0 < fault_tokens_of b ts → fault_tokens_of b (spend P ts) + 1 ≡ fault_tokens_of b ts
+pub spend_one : (P : ℕ → Bool) (b : ℕ) (ts : List ℕ) → P b ≡ true → 0 < fault_tokens_of b ts → fault_tokens_of b (spend P ts) + 1 ≡ fault_tokens_of b ts
 spend_one P b [] e lt = absurd (omega arith)
 spend_one P b (t ∷ ts) e lt = by_test (λ Q z l. spend_one Q b ts z l) (P t) refl
   where

@@ -2,6 +2,7 @@
 ghost use Rattle.std.specs.Prelude.{◌≡◌, ◌≢◌, ℕ, ◌+◌, ◌*◌, ◌<◌, ◌≤◌, [], Contains};
 ghost use mathlib.Core.List.{IsPrefix};
 ghost use Rattle.cj_model.specs.declared.limits.TheConstants.{EVENT_LIMIT};
+ghost use Rattle.cj_cluster.specs.History.Legality.{IsLegal};
 ghost use Rattle.cj_board.specs.Points.{max_word};
 ghost use Rattle.cj_board.specs.Seats.{board_id};
 ghost use Rattle.cj_board.specs.Steps.{after_fault, after_join, after_learning, after_looking, after_split};
@@ -53,6 +54,7 @@ impl Board {
         requires roles { IsNotBook seat.old.me.0.role × (other.me.1 ≡ []) }
         ensures view { (seat.new.table_id ≡ seat.old.table_id) × (seat.new.me ≡ (after_join seat.old.me.0 other.me.0, seat.old.me.1)) }
         ensures fronts { IsPrefix seat.old.me.0.front seat.new.me.0.front × IsPrefix other.me.0.front seat.new.me.0.front }
+        ensures legal { IsLegal seat.new.me.0.front }
     {
         self.table.shared.join_seat::<JoinPass>(seat, other);
         self.table.shared.load::<CompareFronts>(seat, 0);

@@ -142,13 +142,14 @@ impl Board {
         self.add_fault(&mut c.seat, b);
     }
 
-    /// The cell has seen the pass's history, and its backend has at least the faults that the pass noted.
+    /// The cell has seen the pass's history, which is legal, and its backend has at least the faults that the pass noted.
     pub fn brief(&self, c: &mut CellSeat, p: &mut Pass)
         requires board { (cell_board c.old ≡ board_id self.now) × (pass_board p.old ≡ board_id self.now) }
         ensures board { (cell_board c.new ≡ cell_board c.old) × (c.new.b ≡ c.old.b) × (pass_board p.new ≡ pass_board p.old) }
         ensures cell { cell_view c.new ≡ after_join (cell_view c.old) (pass_without_tokens (pass_view p.old)) }
         ensures pass { pass_view p.new ≡ pass_view p.old }
         ensures seen { IsPrefix (front p.old) (seen c.new) × IsPrefix (seen c.old) (seen c.new) }
+        ensures legal { IsLegal (seen c.new) }
         ensures faults { (n : ℕ) → Contains (pass_view p.old).fault_notes (c.old.b, n) → n ≤ (cell_view c.new).faults }
     {
         let copy = self.split_without_tokens(&mut p.seat);
@@ -166,6 +167,7 @@ impl Board {
         ensures faults { Contains (pass_view p.new).fault_notes (c.old.b, (cell_view c.old).faults) }
         ensures seen { IsPrefix (seen c.old) (front p.new) }
         ensures longer { IsPrefix (front p.old) (front p.new) }
+        ensures legal { IsLegal (front p.new) }
     {
         let copy = self.split_pass(&mut c.seat);
         self.join(&mut p.seat, copy);

@@ -1,1 +1,3 @@
 pub mod Begun
+pub mod HeldParts
+pub mod SeatedCalls

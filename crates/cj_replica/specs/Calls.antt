@@ -11,8 +11,8 @@ use Rattle.cj_model.specs.declared.request.Act.TheVariants as act
 use Rattle.cj_model.specs.declared.answer.Outcome.{Outcome}
 use Rattle.cj_model.specs.Database.Steps.{acted}
 use Rattle.cj_cluster.specs.History.Transactions.{has_begun}
-use Rattle.cj_replica.specs.declared.cell.CellError.{CellError}
-use Rattle.cj_replica.specs.declared.cell.CellError.TheVariants.{Failed, Starved}
+use Rattle.cj_replica.specs.declared.replica.CellError.{CellError}
+use Rattle.cj_replica.specs.declared.replica.CellError.TheVariants.{Failed, Starved}
 
 -- an act that begins nothing, and ends only what has begun
 abbrev pub CanCarryOut : List ℕ → ℕ → Act → Type 0

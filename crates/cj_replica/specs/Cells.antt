@@ -1,5 +1,5 @@
--- What contracts see of a cell, and what its calls give and leave.
-use Rattle.std.specs.Prelude.{◌≡◌, ◌⊎◌, ℕ, ◌+◌, Bool, true, false, if◌then◌else◌, List, [], IfSome, IsErrOf}
+-- What contracts see of a replica, and what its calls give and leave.
+use Rattle.std.specs.Prelude.{◌≡◌, ◌⊎◌, ◌↔◌, ℕ, ◌+◌, ◌<◌, ◌≤◌, Bool, true, false, not, if◌then◌else◌, List, [], IfOk, IfSome, OnErr, IsErrOf}
 use Rattle.std.specs.declared.option.Option.{Option}
 use Rattle.std.specs.declared.option.Option.TheVariants.{None, Some}
 use Rattle.std.specs.Option.{option_map}
@@ -12,19 +12,19 @@ use Rattle.cj_model.specs.declared.select.Select.{Select}
 use Rattle.cj_model.specs.declared.answer.Asked.{Asked}
 use Rattle.cj_model.specs.Database.Steps.{step}
 use Rattle.cj_model.specs.Database.Queries.{ask}
-use Rattle.cj_model.specs.Database.Outcomes.{IsOutcome}
-use Rattle.cj_model.specs.Database.Storable.{writers}
+use Rattle.cj_model.specs.Database.Outcomes.{IsAsked, IsOutcome}
+use Rattle.cj_model.specs.Database.Storable.{IsStorable, writers}
 use Rattle.cj_model.specs.Cluster.Placements.{Placement}
 use Rattle.cj_cluster.specs.History.Transactions.{takes_part, begun_after}
 use Rattle.cj_backend.specs.declared.backend.BackendError.{BackendError}
 use Rattle.cj_backend.specs.declared.backend.BackendError.TheVariants as backend_errors
-use Rattle.cj_backend.specs.Backends.{Arming, spent}
-use Rattle.cj_replica.specs.declared.cell.Caught.{Caught}
-use Rattle.cj_replica.specs.declared.cell.Caught.TheVariants.{Skipped, Did}
-use Rattle.cj_replica.specs.declared.cell.CellError.{CellError}
-use Rattle.cj_replica.specs.declared.cell.CellError.TheVariants as errors
-use Rattle.cj_replica.specs.declared.cell.CellReadError.{CellReadError}
-use Rattle.cj_replica.specs.declared.cell.CellReadError.TheVariants as read_errors
+use Rattle.cj_backend.specs.Backends.{Arming, asks_after, spent}
+use Rattle.cj_replica.specs.declared.replica.Caught.{Caught}
+use Rattle.cj_replica.specs.declared.replica.Caught.TheVariants.{Skipped, Did}
+use Rattle.cj_replica.specs.declared.replica.CellError.{CellError}
+use Rattle.cj_replica.specs.declared.replica.CellError.TheVariants as errors
+use Rattle.cj_replica.specs.declared.replica.CellReadError.{CellReadError}
+use Rattle.cj_replica.specs.declared.replica.CellReadError.TheVariants as read_errors
 
 -- backend b of a placement
 pub record CellState : Type 0 where
@@ -116,6 +116,31 @@ abbrev pub KeepsBegun : Option ℕ → List ℕ → List ℕ → Type 0
 KeepsBegun None kept begun = kept ≡ []
 KeepsBegun (Some p) kept begun = begun ≡ kept
 
+-- a replica takes entry n, under the login given
+pub record CatchesUp (before : CellState) (n : ℕ) (e : Entry) (given : List ℕ) (result : Result Caught CellError) (after : CellState) : Type 0 where
+  pub part : takes_part_in_entry before e ≡ not (is_skipped result)
+  pub outcome : SaysEntryOutcome before.told e result
+  pub possible : IfOk result IsCaught
+  pub cause : HasCellCause before.faults after.faults result
+  pub asks : after.asks ≡ before.asks
+  pub arming : SpendsArmingIf (not (is_skipped result)) (result ≡ Err errors.Failed) before.arming after.arming
+  pub login : LogsInForEntry before.login given result after.login
+  pub begun : after.begun ≡ begun_after_entry before.begun e result
+  pub told : TellsAfterEntry before.told e result after.told
+  pub position : after.position ≡ position_after n result
+  pub b : after.b ≡ before.b
+  pub placement : after.placement ≡ before.placement
+
+-- ---- contents
+
+-- it says what its backend holds, drafts included
+pub record GivesContents (before : CellState) (result : Result (List Slot) CellError) (after : CellState) : Type 0 where
+  pub contents : IfOk result (λ db. IfSome before.told (λ held. db ≡ held))
+  pub storable : IfOk result IsStorable
+  pub cause : HasCellCause before.faults after.faults result
+  pub arming : SpendsArmingIf true (result ≡ Err errors.Failed) before.arming after.arming
+  pub same : after ≡ record before { faults = after.faults; arming = after.arming }
+
 -- ---- loading
 
 -- the transactions that it has begun then, those with a draft in the database that was loaded; after an error it is out, and none
@@ -134,6 +159,19 @@ abbrev pub SpendsArmingAtLoad : {T : Type 0} → Arming → Arming → Result T 
 SpendsArmingAtLoad before now (Ok x) = (before.armed ≡ false) × (now ≡ spent before)
 SpendsArmingAtLoad before now (Err errors.Failed) = now ≡ spent before
 SpendsArmingAtLoad before now (Err errors.Starved) = (now ≡ before) ⊎ ((before.armed ≡ false) × (now ≡ spent before))
+
+-- it holds a database from now on, of a position
+pub record Loads (tells : Bool) (before : CellState) (db : List Slot) (position : ℕ) (result : Result Unit CellError) (after : CellState) : Type 0 where
+  pub place : after.position ≡ position_after position result
+  pub begun : after.begun ≡ begun_loaded db result
+  pub refused : OnErr result (after.begun ≡ before.begun)
+  pub told : TellsLoaded tells db result before.told after.told
+  pub cause : HasCellCause before.faults after.faults result
+  pub arming : SpendsArmingAtLoad before.arming after.arming result
+  pub asks : after.asks ≡ before.asks
+  pub login : after.login ≡ before.login
+  pub b : after.b ≡ before.b
+  pub placement : after.placement ≡ before.placement
 
 -- ---- reading
 
@@ -164,3 +202,17 @@ LogsInForRead before given (Err read_errors.NoMemory) now = now ≡ before
 abbrev pub read_error_of : BackendError → CellReadError
 read_error_of backend_errors.Failed = read_errors.Failed
 read_error_of backend_errors.NoMemory = read_errors.NoMemory
+
+-- it answers a query of a transaction, at a position not below the least, under the login given
+pub record Reads (before : CellState) (given : List ℕ) (tx : ℕ) (select : Select) (least : ℕ) (result : Result (Asked × ℕ) CellReadError) (after : CellState) : Type 0 where
+  pub out : (result ≡ Err read_errors.Out) ↔ (before.position ≡ None)
+  pub behind : (p : ℕ) → (result ≡ Err (read_errors.Behind p)) ↔ ((before.position ≡ Some p) × (p < least))
+  pub answer : IfOk result (λ x. SaysReadAnswer before.told tx select x.0)
+  pub possible : IfOk result (λ x. IsAsked x.0)
+  pub at : IfOk result (λ x. before.position ≡ Some x.1)
+  pub owed : IfOk result (λ x. least ≤ x.1)
+  pub cause : HasCellReadCause before.faults after.faults result
+  pub asks : after.asks ≡ asks_after before.asks result
+  pub arming : SpendsArmingIf (is_asked result) (result ≡ Err read_errors.Failed) before.arming after.arming
+  pub login : LogsInForRead before.login given result after.login
+  pub same : after ≡ record before { login = after.login; faults = after.faults; asks = after.asks; arming = after.arming }

@@ -1,401 +1,281 @@
-//! A backend with its place among the backends and its position of the log.
+//! A replica at its seat at a board.
 
-ghost use Rattle.std.specs.Prelude.{◌≡◌, ◌⊎◌, ◌↔◌, ◌<◌, ◌≤◌, ◌==◌, ℕ, [], not, true, false, filter, Some, None, Ok, Err, IfOk, IfSome, OnOk, OnErr, is_err};
-ghost use Rattle.cj_model.specs.declared.request.Act.TheVariants as act;
+ghost use Rattle.std.specs.Prelude.{◌≡◌, ℕ, ◌+◌, ◌-◌, ◌<◌, ◌≤◌, [], true, length, slice_get, Some, None, Contains};
+ghost use mathlib.Core.List.{IsPrefix};
 ghost use Rattle.cj_model.specs.declared.request.Request.TheVariants as request;
-ghost use Rattle.cj_model.specs.Cluster.Placements as placements;
+ghost use Rattle.cj_model.specs.Cluster.Placements.{part};
 ghost use Rattle.cj_model.specs.Database.Storable.{IsStorable};
 ghost use Rattle.cj_model.specs.Sql.WrittenRequests.{IsWritten};
-ghost use Rattle.cj_model.specs.Sql.PlainRequests.{request_of};
-ghost use Rattle.cj_model.specs.Database.Outcomes.{IsOutcome, IsAsked};
-ghost use Rattle.cj_cluster.specs.History.Transactions.{has_begun, begun_after};
-ghost use Rattle.cj_replica.specs.Calls.{CanCarryOut, LogsInAt, SaysCarried, TellsAfter, TellsCarried, begun_at_write};
-ghost use Rattle.cj_replica.specs.Cells.{HasCellCause, SpendsArmingIf};
+ghost use Rattle.cj_cluster.specs.History.Histories.{database_after, log};
+ghost use Rattle.cj_cluster.specs.History.Legality.{IsLegal};
+ghost use Rattle.cj_board.specs.declared.view.Role.TheVariants as role;
+ghost use Rattle.cj_board.specs.Points.{max_word};
+ghost use Rattle.cj_board.specs.Seats.{board_id, cell_board, cell_view, front, pass_board, pass_view, position, seen};
+ghost use Rattle.cj_board.specs.Steps.{after_join, after_split, word_of_position};
+ghost use Rattle.cj_board.specs.Views.{new_view, pass_of, pass_without_tokens, role_position};
 ghost use Rattle.cj_backend.specs.Backends as backends;
+ghost use Rattle.cj_replica.specs.Seated.{view_after_call, view_after_entry, view_after_load, view_after_read};
 
-use crate::writers::writers_of;
-use cj_backend::{Backend, BackendError};
-use cj_model::{Act, Asked, Db, Entry, Name, NoMemory, Outcome, Select, Text, Write, has_bit};
+use crate::replica::{Caught, CellError, CellReadError, Replica};
+use cj_backend::Backend;
+use cj_board::{Board, CellSeat, Pass};
+use cj_model::{Asked, Db, Entry, Select, Text};
 use cj_place::Placement;
-use cj_usage::written;
 use std::alloc::Global;
 use std::marker::Model;
-use std::mem;
-use thiserror::Error;
 
-/// What a cell did with an entry.
-#[derive(Clone, Copy, Debug, PartialEq, Eq)]
-pub enum Caught {
-    /// Its backend has no part in the entry.
-    Skipped,
-    /// Its backend carried the entry out.
-    Did(Outcome),
-}
-
-/// Why a cell did not take an entry. It is out then.
-#[derive(Clone, Copy, Debug, PartialEq, Eq, Error)]
-pub enum CellError {
-    #[error("the backend failed")]
-    Failed,
-    /// The backend wanted memory, or the cell did to begin a transaction.
-    #[error("out of memory")]
-    Starved,
-}
-
-/// Why a cell did not answer a query.
-#[derive(Clone, Copy, Debug, PartialEq, Eq, Error)]
-pub enum CellReadError {
-    /// The cell has missed an entry.
-    #[error("the backend is out")]
-    Out,
-    /// The cell is at this position, below the least that was asked for.
-    #[error("the backend is behind")]
-    Behind(u64),
-    #[error("the backend failed")]
-    Failed,
-    #[error("out of memory")]
-    NoMemory,
-}
-
-impl From<BackendError> for CellError {
-    ghost use Rattle.std.specs.Prelude.{◌≡◌};
-    ghost use Rattle.cj_replica.specs.Cells.{error_of};
-
-    ghost from_gives = { λ error e. e ≡ error_of error };
-
-    fn from(error: BackendError) -> CellError {
-        match error {
-            BackendError::Failed => CellError::Failed,
-            BackendError::NoMemory => CellError::Starved,
-        }
-    }
-}
-
-impl From<NoMemory> for CellError {
-    ghost use Rattle.std.specs.Prelude.{◌≡◌};
-    ghost use Rattle.cj_replica.specs.declared.cell.CellError.TheVariants as errors;
-
-    ghost from_gives = { λ _ e. e ≡ errors.Starved };
-
-    fn from(_error: NoMemory) -> CellError {
-        CellError::Starved
-    }
-}
-
-impl From<BackendError> for CellReadError {
-    ghost use Rattle.std.specs.Prelude.{◌≡◌};
-    ghost use Rattle.cj_replica.specs.Cells.{read_error_of};
-
-    ghost from_gives = { λ error e. e ≡ read_error_of error };
-
-    fn from(error: BackendError) -> CellReadError {
-        match error {
-            BackendError::Failed => CellReadError::Failed,
-            BackendError::NoMemory => CellReadError::NoMemory,
-        }
-    }
-}
-
-/// A backend that has taken the entries of the log up to a position, or is out: it has missed one,
-/// and only a dump can bring it back.
+/// A replica at its seat at a board. The board knows its position, and each fault of its backend since it took the seat.
 #[derive(Drop)]
 pub struct Cell<B: Backend> {
-    /// The backend's number.
-    b: u8,
-    placement: Placement,
-    position: Option<u64>,
-    /// The transactions that the backend has begun and not ended; none where it is out.
-    begun: Vec<u64>,
-    backend: B,
+    replica: Replica<B>,
+    seat: CellSeat,
+    /// How many faults the backend had counted when it took the seat.
+    faults_before: u64,
 }
 
 impl<B: Backend> Model for Cell<B> {
-    ghost use Rattle.cj_replica.specs.Cells.{CellState, KeepsBegun};
-    ghost use Rattle.cj_place.specs.Layouts.{placement_of};
+    ghost use Rattle.cj_board.specs.Seats.{cell_board, cell_view};
+    ghost use Rattle.cj_replica.specs.Seated.{IsSeated, SeatedCell};
 
-    ghost Value = { CellState };
+    ghost Value = { SeatedCell };
 
-    ghost view = { λ c. record { b = c.b; placement = placement_of c.placement; position = c.position; begun = c.begun.items; login = B.login c.backend; told = B.told c.backend; faults = B.faults c.backend; asks = B.asks c.backend; arming = B.arming c.backend } };
+    ghost use Rattle.std.specs.Coded.{codes};
+    ghost use Rattle.cj_model.specs.Proving.ConditionCode.{coded_condition};
 
-    ghost invariant = { λ c. KeepsBegun c.position c.begun.items (B.begun c.backend) };
+    ghost coded = { Prim.hlevel (codes, coded_condition) };
+
+    ghost view = { λ c. record { state = c.replica; board = cell_board c.seat; view = cell_view c.seat; faults_before = c.faults_before } };
+
+    ghost invariant = { λ c. IsSeated B.TELLS (record { state = c.replica; board = cell_board c.seat; view = cell_view c.seat; faults_before = c.faults_before }) };
+}
+
+// The seat's steps, apart from the replica.
+
+/// The backend took the next entry, or is out.
+fn note_entry(board: &Board, seat: &mut CellSeat, caught: &Result<Caught, CellError>)
+    requires board { cell_board seat.old ≡ board_id board.now }
+    requires below { position seat.old < length (log (seen seat.old)) }
+    ensures same { (cell_board seat.new ≡ cell_board seat.old) × (seat.new.b ≡ seat.old.b) }
+    ensures view { cell_view seat.new ≡ view_after_entry seat.old.b (position seat.old + 1) (cell_view seat.old) caught.now }
+{
+    match caught {
+        Ok(_) => board.advance(seat),
+        Err(CellError::Starved) => board.out(seat),
+        Err(CellError::Failed) => {
+            board.out(seat);
+            board.note_fault(seat);
+        }
+    }
+}
+
+/// A backend that was out stands at the position, or may have failed once more.
+fn note_load(board: &Board, seat: &mut CellSeat, position: u64, loaded: &Result<(), CellError>)
+    requires board { cell_board seat.old ≡ board_id board.now }
+    requires out { role_position (cell_view seat.old).role ≡ max_word }
+    requires within { position ≤ length (log (seen seat.old)) }
+    ensures same { (cell_board seat.new ≡ cell_board seat.old) × (seat.new.b ≡ seat.old.b) }
+    ensures view { cell_view seat.new ≡ view_after_load seat.old.b position (cell_view seat.old) loaded.now }
+{
+    match loaded {
+        Ok(()) => board.settle(seat, position),
+        Err(CellError::Starved) => {}
+        Err(CellError::Failed) => board.note_fault(seat),
+    }
+}
+
+/// The backend failed once more, or did not.
+fn note_contents(board: &Board, seat: &mut CellSeat, contents: &Result<Db, CellError>)
+    requires board { cell_board seat.old ≡ board_id board.now }
+    ensures same { (cell_board seat.new ≡ cell_board seat.old) × (seat.new.b ≡ seat.old.b) }
+    ensures view { cell_view seat.new ≡ view_after_call seat.old.b (cell_view seat.old) contents.now }
+{
+    match contents {
+        Err(CellError::Failed) => board.note_fault(seat),
+        Ok(_) | Err(CellError::Starved) => {}
+    }
+}
+
+fn note_read(board: &Board, seat: &mut CellSeat, answer: &Result<(Asked, u64), CellReadError>)
+    requires board { cell_board seat.old ≡ board_id board.now }
+    ensures same { (cell_board seat.new ≡ cell_board seat.old) × (seat.new.b ≡ seat.old.b) }
+    ensures view { cell_view seat.new ≡ view_after_read seat.old.b (cell_view seat.old) answer.now }
+{
+    match answer {
+        Err(CellReadError::Failed) => board.note_fault(seat),
+        Ok(_) | Err(CellReadError::Out | CellReadError::Behind(_) | CellReadError::NoMemory) => {}
+    }
 }
 
 impl<B: Backend> Cell<B> {
-    ghost use Rattle.cj_replica.specs.Cells.{HasCellReadCause, IsCaught, IsNextEntry, KeepsBegun, LogsInForEntry, LogsInForRead, SaysReadAnswer, SaysEntryOutcome, SpendsArmingAtLoad, TellsAfterEntry, TellsLoaded, begun_after_entry, begun_loaded, is_asked, is_skipped, position_after, takes_part_in_entry};
     ghost use Rattle.cj_place.specs.Layouts.{placement_of};
+    ghost use Rattle.cj_replica.specs.Cells.{CatchesUp, GivesContents, IsNextEntry, KeepsBegun, Loads, Reads};
+    ghost use Rattle.cj_replica.specs.Seated.{IsSameSeat, IsSeated};
 
-    /// Backend `b` of the placement, which has taken no entry.
-    pub fn new(alloc: Global, b: u8, placement: Placement, backend: B) -> Cell<B>
-        requires { B.begun backend ≡ [] }
-        ensures { result ≡ record { b = b; placement = placement_of placement; position = Some 0; begun = []; login = B.login backend; told = B.told backend; faults = B.faults backend; asks = B.asks backend; arming = B.arming backend } }
+    /// Backend `b` of the placement, which has taken no entry, at a seat that has seen none.
+    pub fn new(alloc: Global, b: u8, placement: Placement, backend: B, seat: CellSeat) -> Cell<B>
+        requires begun { B.begun backend ≡ [] }
+        requires empty { B.TELLS ≡ true → B.told backend ≡ Some [] }
+        requires seat { cell_view seat ≡ new_view (role.Cell b 0) }
+        ensures { result ≡ record { state = record { b = b; placement = placement_of placement; position = Some 0; begun = []; login = B.login backend; told = B.told backend; faults = B.faults backend; asks = B.asks backend; arming = B.arming backend }; board = cell_board seat; view = cell_view seat; faults_before = B.faults backend } }
     {
+        let faults_before = backend.counts().faults;
+        let replica = Replica::new(alloc, b, placement, backend);
         Cell {
-            b,
-            placement,
-            position: Some(0),
-            begun: Vec::new(alloc),
-            backend,
+            replica,
+            seat,
+            faults_before,
         }
     }
 
-    fn hosts(&self, table: &Name) -> bool
-        ensures { result ≡ placements.hosts self.now.placement self.now.b table.now }
+    /// Takes entry `n` of what the seat has seen, the next, under this login. An entry in which its
+    /// backend has no part is skipped, and takes no memory. After an error it is out.
+    pub fn catch_up(
+        &mut self,
+        board: &Board,
+        n: u64,
+        e: &Entry,
+        login: &Text,
+    ) -> Result<Caught, CellError>
+        requires board { self.old.board ≡ board_id board.now }
+        requires next { IsNextEntry self.old.state.position n }
+        requires entry { slice_get (log self.old.view.front) (n - 1) ≡ Some e.now }
+        ensures state { CatchesUp self.old.state n e.now login.now result self.new.state }
+        ensures seat { self.new.view ≡ view_after_entry self.old.state.b n self.old.view result }
+        ensures same { IsSameSeat self.old self.new }
     {
-        self.b < self.placement.count() && has_bit(self.placement.hosts(table), self.b)
-    }
-
-    fn takes_part(&self, e: &Entry) -> bool
-        ensures { result ≡ takes_part_in_entry self.now e.now }
-    {
-        match written(&e.act) {
-            Some(table) => self.hosts(table),
-            None => !matches!(e.act, Act::Begin) && is_begun(self.begun.as_slice(), e.tx),
-        }
-    }
-
-    /// Takes entry `n`, the next, under this login. An entry in which its backend has no part is
-    /// skipped, and takes no memory. A transaction begins there with its first write of a table that
-    /// the backend hosts.
-    pub fn catch_up(&mut self, n: u64, e: &Entry, login: &Text) -> Result<Caught, CellError>
-        requires next { IsNextEntry self.old.position n }
-        requires written { IsWritten (request_of e.now.act) }
-
-        ensures part { takes_part_in_entry self.old e.now ≡ not (is_skipped result) }
-        ensures outcome { SaysEntryOutcome self.old.told e.now result }
-        ensures possible { IfOk result IsCaught }
-        ensures cause { HasCellCause self.old.faults self.new.faults result }
-        ensures asks { self.new.asks ≡ self.old.asks }
-        ensures arming { SpendsArmingIf (not (is_skipped result)) (result ≡ Err CellError.Failed) self.old.arming self.new.arming }
-        ensures login { LogsInForEntry self.old.login login.now result self.new.login }
-        ensures begun { self.new.begun ≡ begun_after_entry self.old.begun e.now result }
-
-        ensures told { TellsAfterEntry self.old.told e.now result self.new.told }
-        ensures position { self.new.position ≡ position_after n result }
-        ensures b { self.new.b ≡ self.old.b }
-        ensures placement { self.new.placement ≡ self.old.placement }
-    {
-        if !self.takes_part(e) {
-            self.position = Some(n);
-            return Ok(Caught::Skipped);
-        }
-        // It is out, and has begun nothing, until its backend has carried the entry out.
-        self.position = None;
-        let none = Vec::new(*self.begun.allocator());
-        let mut begun = mem::replace(&mut self.begun, none);
-        let outcome = carry_out(&mut self.backend, &mut begun, e, login)?;
-        self.begun = begun;
-        self.position = Some(n);
-        Ok(Caught::Did(outcome))
+        let caught = self.replica.catch_up(n, e, login);
+        note_entry(board, &mut self.seat, &caught);
+        caught
     }
 
     /// What its backend holds, drafts included. Nothing is changed by it.
-    pub fn contents(&mut self) -> Result<Db, CellError>
-        ensures contents { IfOk result (λ db. IfSome self.old.told (λ held. db ≡ held)) }
-        ensures storable { IfOk result IsStorable }
-        ensures cause { HasCellCause self.old.faults self.new.faults result }
-        ensures arming { SpendsArmingIf true (result ≡ Err CellError.Failed) self.old.arming self.new.arming }
-        ensures same { self.new ≡ record self.old { faults = self.new.faults; arming = self.new.arming } }
+    pub fn contents(&mut self, board: &Board) -> Result<Db, CellError>
+        requires board { self.old.board ≡ board_id board.now }
+        ensures state { GivesContents self.old.state result self.new.state }
+        ensures seat { self.new.view ≡ view_after_call self.old.state.b self.old.view result }
+        ensures same { IsSameSeat self.old self.new }
     {
-        Ok(self.backend.contents()?)
+        let contents = self.replica.contents();
+        note_contents(board, &mut self.seat, &contents);
+        contents
     }
 
-    /// Holds this database from now on, which its backend is to hold at a position of the log. The
-    /// cell is out before, and stays so where the backend fails or memory is wanting. The transactions
-    /// with a draft in it are begun.
-    pub fn load(&mut self, db: Db, position: u64) -> Result<(), CellError>
-        requires out { self.old.position ≡ None }
+    /// Holds this database from now on, its part of the database after so many entries of what the
+    /// seat has seen. It is out before, and stays so where the backend fails or memory is wanting.
+    /// The transactions with a draft in it are begun.
+    pub fn load(&mut self, board: &Board, db: Db, position: u64) -> Result<(), CellError>
+        requires board { self.old.board ≡ board_id board.now }
+        requires out { self.old.state.position ≡ None }
         requires storable { IsStorable db }
-        ensures position { self.new.position ≡ position_after position result }
-        ensures begun { self.new.begun ≡ begun_loaded db result }
-        ensures refused { OnErr result (self.new.begun ≡ self.old.begun) }
-        ensures told { TellsLoaded B.TELLS db result self.old.told self.new.told }
-        ensures cause { HasCellCause self.old.faults self.new.faults result }
-        ensures arming { SpendsArmingAtLoad self.old.arming self.new.arming result }
-        ensures asks { self.new.asks ≡ self.old.asks }
-        ensures login { self.new.login ≡ self.old.login }
-        ensures b { self.new.b ≡ self.old.b }
-        ensures placement { self.new.placement ≡ self.old.placement }
+        requires within { position ≤ length (log self.old.view.front) }
+        requires right { B.TELLS ≡ true → db ≡ part self.old.state.placement self.old.state.b (database_after (log self.old.view.front) position) }
+        ensures state { Loads B.TELLS self.old.state db position result self.new.state }
+        ensures seat { self.new.view ≡ view_after_load self.old.state.b position self.old.view result }
+        ensures same { IsSameSeat self.old self.new }
     {
-        // The list comes before the backend: want of memory for it leaves the backend as it was.
-        let begun = writers_of(*self.begun.allocator(), db.as_slice())?;
-        self.backend.load(db)?;
-        self.begun = begun;
-        self.position = Some(position);
-        Ok(())
+        let loaded = self.replica.load(db, position);
+        note_load(board, &mut self.seat, position, &loaded);
+        loaded
     }
 
     /// Answers a query of transaction `tx`, 0 for none, at a position not below `least`, and says
     /// which that is.
     pub fn read(
         &mut self,
+        board: &Board,
         login: &Text,
         tx: u64,
         select: &Select,
         least: u64,
     ) -> Result<(Asked, u64), CellReadError>
-        requires { IsWritten (request.Select select.now) }
-        ensures out { (result ≡ Err CellReadError.Out) ↔ (self.old.position ≡ None) }
-        ensures behind { (p : ℕ) → (result ≡ Err (CellReadError.Behind p)) ↔ ((self.old.position ≡ Some p) × (p < least)) }
-        ensures answer { IfOk result (λ (answer, at). SaysReadAnswer self.old.told tx select.now answer) }
-        ensures possible { IfOk result (λ (answer, at). IsAsked answer) }
-        ensures at { IfOk result (λ (answer, at). self.old.position ≡ Some at) }
-        ensures owed { IfOk result (λ (answer, at). least ≤ at) }
-        ensures cause { HasCellReadCause self.old.faults self.new.faults result }
-        ensures asks { self.new.asks ≡ backends.asks_after self.old.asks result }
-        ensures arming { SpendsArmingIf (is_asked result) (result ≡ Err CellReadError.Failed) self.old.arming self.new.arming }
-        ensures login { LogsInForRead self.old.login login.now result self.new.login }
-        ensures same { self.new ≡ record self.old { login = self.new.login; faults = self.new.faults; asks = self.new.asks; arming = self.new.arming } }
+        requires board { self.old.board ≡ board_id board.now }
+        requires written { IsWritten (request.Select select.now) }
+        ensures state { Reads self.old.state login.now tx select.now least result self.new.state }
+        ensures seat { self.new.view ≡ view_after_read self.old.state.b self.old.view result }
+        ensures same { IsSameSeat self.old self.new }
     {
-        let Some(position) = self.position else {
-            return Err(CellReadError::Out);
-        };
-        if position < least {
-            return Err(CellReadError::Behind(position));
-        }
-        let answer = self.backend.ask(login, tx, select)?;
-        Ok((answer, position))
+        let answer = self.replica.read(login, tx, select, least);
+        note_read(board, &mut self.seat, &answer);
+        answer
+    }
+
+    /// Has seen the pass's history too, and its backend has at least the faults that the pass noted.
+    pub fn brief(&mut self, board: &Board, pass: &mut Pass)
+        requires board { (self.old.board ≡ board_id board.now) × (pass_board pass.old ≡ board_id board.now) }
+        ensures board { pass_board pass.new ≡ pass_board pass.old }
+        ensures seat { self.new.view ≡ after_join self.old.view (pass_without_tokens (pass_view pass.old)) }
+        ensures pass { pass_view pass.new ≡ pass_view pass.old }
+        ensures seen { IsPrefix (front pass.old) self.new.view.front × IsPrefix self.old.view.front self.new.view.front }
+        ensures faults { (n : ℕ) → Contains (pass_view pass.old).fault_notes (self.old.state.b, n) → n ≤ self.new.view.faults }
+        ensures state { self.new.state ≡ self.old.state }
+        ensures same { IsSameSeat self.old self.new }
+    {
+        board.brief(&mut self.seat, pass);
+    }
+
+    /// The pass has seen its history, has its notes, one of its faults and, unless it is out, one of its position, and takes its
+    /// fault tokens.
+    pub fn report(&mut self, board: &Board, pass: &mut Pass)
+        requires board { (self.old.board ≡ board_id board.now) × (pass_board pass.old ≡ board_id board.now) }
+        ensures board { pass_board pass.new ≡ pass_board pass.old }
+        ensures seat { self.new.view ≡ after_split self.old.view }
+        ensures pass { pass_view pass.new ≡ after_join (pass_view pass.old) (pass_of self.old.view) }
+        ensures position { (p : ℕ) → self.old.state.position ≡ Some p → Contains (pass_view pass.new).position_notes (self.old.state.b, p) }
+        ensures faults { Contains (pass_view pass.new).fault_notes (self.old.state.b, self.old.view.faults) }
+        ensures seen { IsPrefix self.old.view.front (front pass.new) }
+        ensures longer { IsPrefix (front pass.old) (front pass.new) }
+        ensures legal { IsLegal (front pass.new) }
+        ensures state { self.new.state ≡ self.old.state }
+        ensures same { IsSameSeat self.old self.new }
+    {
+        board.report(&mut self.seat, pass);
     }
 
     /// How many entries it has taken; none where it is out.
     pub fn position(&self) -> Option<u64>
-        ensures { result ≡ self.now.position }
+        ensures { result ≡ self.now.state.position }
     {
-        self.position
+        self.replica.position()
     }
 
     /// The backend, as it stands.
     pub fn backend(&self) -> &B
-        ensures told { B.told result.now ≡ self.now.told }
-        ensures faults { B.faults result.now ≡ self.now.faults }
-        ensures asks { B.asks result.now ≡ self.now.asks }
-        ensures arming { B.arming result.now ≡ self.now.arming }
-        ensures login { B.login result.now ≡ self.now.login }
-        ensures begun { KeepsBegun self.now.position self.now.begun (B.begun result.now) }
+        ensures told { B.told result.now ≡ self.now.state.told }
+        ensures faults { B.faults result.now ≡ self.now.state.faults }
+        ensures asks { B.asks result.now ≡ self.now.state.asks }
+        ensures arming { B.arming result.now ≡ self.now.state.arming }
+        ensures login { B.login result.now ≡ self.now.state.login }
+        ensures begun { KeepsBegun self.now.state.position self.now.state.begun (B.begun result.now) }
     {
-        &self.backend
+        self.replica.backend()
     }
 
     /// Asks that the backend's next call fails; one that can't do so ignores it.
     pub fn arm(&mut self)
-        ensures { self.new ≡ record self.old { arming = backends.arming_after B.can_be_armed self.old.arming } }
+        ensures state { self.new.state ≡ record self.old.state { arming = backends.arming_after B.can_be_armed self.old.state.arming } }
+        ensures seat { self.new.view ≡ self.old.view }
+        ensures same { IsSameSeat self.old self.new }
     {
-        self.backend.arm();
+        self.replica.arm();
     }
 
     /// The backend, which leaves its cell.
     pub fn into_backend(self) -> B
-        ensures told { B.told result ≡ self.told }
-        ensures faults { B.faults result ≡ self.faults }
-        ensures asks { B.asks result ≡ self.asks }
-        ensures arming { B.arming result ≡ self.arming }
-        ensures login { B.login result ≡ self.login }
-        ensures begun { KeepsBegun self.position self.begun (B.begun result) }
+        ensures told { B.told result ≡ self.state.told }
+        ensures faults { B.faults result ≡ self.state.faults }
+        ensures asks { B.asks result ≡ self.state.asks }
+        ensures arming { B.arming result ≡ self.state.arming }
+        ensures login { B.login result ≡ self.state.login }
+        ensures begun { KeepsBegun self.state.position self.state.begun (B.begun result) }
     {
-        let Cell { backend, .. } = self;
-        backend
+        let Cell { replica, .. } = self;
+        replica.into_backend()
     }
-}
 
-fn is_begun(begun: &[u64], tx: u64) -> bool
-    ensures { result ≡ has_begun begun.now tx }
-{
-    begun.iter().any(|other| *other == tx)
-}
-
-fn forget(begun: &mut Vec<u64>, tx: u64)
-    ensures { begun.new.items ≡ filter (λ t. not (t == tx)) begun.old.items }
-{
-    begun.retain(|other| *other != tx);
-}
-
-/// Begins a transaction at its backend, unless it is none or has begun there.
-#[tactic(auto, using(crate::proofs::Begun::contains_begun))]
-fn begin_once<B: Backend>(
-    backend: &mut B,
-    begun: &mut Vec<u64>,
-    tx: u64,
-    login: &Text,
-) -> Result<(), CellError>
-    requires kept { B.begun backend.old ≡ begun.old.items }
-    ensures begun { OnOk result (begun.new.items ≡ begun_at_write begun.old.items tx) }
-    ensures kept { OnOk result (B.begun backend.new ≡ begun.new.items) }
-    ensures ready { OnOk result (backends.IsBegun (B.begun backend.new) tx) }
-    ensures told { TellsAfter (B.told backend.old) (B.told backend.old) result (B.told backend.new) }
-    ensures cause { HasCellCause (B.faults backend.old) (B.faults backend.new) result }
-    ensures asks { B.asks backend.new ≡ B.asks backend.old }
-    ensures arming { SpendsArmingIf (is_err result) (result ≡ Err CellError.Failed) (B.arming backend.old) (B.arming backend.new) }
-    ensures login { (B.login backend.new ≡ Some login.now) ⊎ (B.login backend.new ≡ B.login backend.old) }
-{
-    if tx == 0 || is_begun(begun.as_slice(), tx) {
-        return Ok(());
-    }
-    // The backend comes before the list: an armed one fails, also where memory is wanting.
-    backend.begin(login, tx)?;
-    match begun.push(tx) {
-        Ok(()) => Ok(()),
-        Err(_) => Err(CellError::Starved),
-    }
-}
-
-/// Carries out a write, with which its transaction begins if it has not begun there.
-fn write_at<B: Backend>(
-    backend: &mut B,
-    begun: &mut Vec<u64>,
-    tx: u64,
-    write: &Write,
-    login: &Text,
-) -> Result<Outcome, CellError>
-    requires kept { B.begun backend.old ≡ begun.old.items }
-    requires written { IsWritten (request.Write write.now) }
-    ensures begun { OnOk result (begun.new.items ≡ begun_at_write begun.old.items tx) }
-    ensures kept { OnOk result (B.begun backend.new ≡ begun.new.items) }
-    ensures outcome { SaysCarried (B.told backend.old) tx (act.Write write.now) result }
-    ensures possible { IfOk result IsOutcome }
-    ensures told { TellsCarried (B.told backend.old) tx (act.Write write.now) result (B.told backend.new) }
-    ensures cause { HasCellCause (B.faults backend.old) (B.faults backend.new) result }
-    ensures asks { B.asks backend.new ≡ B.asks backend.old }
-    ensures arming { SpendsArmingIf true (result ≡ Err CellError.Failed) (B.arming backend.old) (B.arming backend.new) }
-    ensures login { LogsInAt (B.login backend.old) login.now result (B.login backend.new) }
-{
-    begin_once(backend, begun, tx, login)?;
-    Ok(backend.write(login, tx, write)?)
-}
-
-/// Carries out the act of an entry that its backend takes part in.
-#[tactic(auto, using(crate::proofs::Begun::contains_begun))]
-fn carry_out<B: Backend>(
-    backend: &mut B,
-    begun: &mut Vec<u64>,
-    e: &Entry,
-    login: &Text,
-) -> Result<Outcome, CellError>
-    requires kept { B.begun backend.old ≡ begun.old.items }
-    requires part { CanCarryOut begun.old.items e.now.tx e.now.act }
-    requires written { IsWritten (request_of e.now.act) }
-    ensures begun { OnOk result (begun.new.items ≡ begun_after begun.old.items e.now.tx e.now.act) }
-    ensures kept { OnOk result (B.begun backend.new ≡ begun.new.items) }
-    ensures outcome { SaysCarried (B.told backend.old) e.now.tx e.now.act result }
-    ensures possible { IfOk result IsOutcome }
-    ensures told { TellsCarried (B.told backend.old) e.now.tx e.now.act result (B.told backend.new) }
-    ensures cause { HasCellCause (B.faults backend.old) (B.faults backend.new) result }
-    ensures asks { B.asks backend.new ≡ B.asks backend.old }
-    ensures arming { SpendsArmingIf true (result ≡ Err CellError.Failed) (B.arming backend.old) (B.arming backend.new) }
-    ensures login { LogsInAt (B.login backend.old) login.now result (B.login backend.new) }
-{
-    match &e.act {
-        Act::Write(write) => write_at(backend, begun, e.tx, write, login),
-        Act::Create(create) => Ok(backend.create(login, create)?),
-        Act::Drop(table) => Ok(backend.drop_table(login, table)?),
-        Act::Commit => {
-            backend.commit(login, e.tx)?;
-            forget(begun, e.tx);
-            Ok(Outcome::Done(0))
-        }
-        Act::Abort => {
-            backend.abort(login, e.tx)?;
-            forget(begun, e.tx);
-            Ok(Outcome::Done(0))
-        }
-        Act::Begin => unreachable!(),
+    /// The seat says where the replica stands, which holds its part of what the seat has seen.
+    pub fn legal(&self)
+        ensures { IsSeated B.TELLS self.now }
+    {
+        let _ = &self.seat;
     }
 }

@@ -4,6 +4,7 @@ use mathlib.Core.Option.{some}
 use mathlib.Core.List.{IsPrefix}
 use Rattle.atomic_table.specs.Table.{Me, Step}
 use Rattle.cj_cluster.specs.declared.event.Event.{Event}
+use Rattle.cj_cluster.specs.History.Legality.{IsLegal}
 use Rattle.cj_model.specs.declared.limits.TheConstants.{EVENT_LIMIT}
 use Rattle.cj_board.specs.declared.view.SeatView.{SeatView}
 use Rattle.cj_board.specs.Counting.{event_count_of}
@@ -35,9 +36,9 @@ ToldStoredFaults st m n m' = (b : ℕ) → st.word ≡ 2 * b + 2 → m' ≡ (wit
 abbrev pub ToldFaults : StepNow → SeatNow → ℕ → SeatNow → Type 0
 ToldFaults st m n m' = (m' ≡ m) × (n ≡ m.0.faults)
 
--- the fronts of the last join begin the front
+-- the fronts of the last join begin the front, which is legal
 abbrev pub ToldFronts : StepNow → SeatNow → ℕ → SeatNow → Type 0
-ToldFronts st m n m' = (m' ≡ m) × IsPrefix m.0.front_before m.0.front × IsPrefix m.0.front_joined m.0.front
+ToldFronts st m n m' = (m' ≡ m) × IsPrefix m.0.front_before m.0.front × IsPrefix m.0.front_joined m.0.front × IsLegal m.0.front
 
 -- a cell's backend has at least the faults that are noted of it
 abbrev pub ToldFaultNotes : StepNow → SeatNow → ℕ → SeatNow → Type 0

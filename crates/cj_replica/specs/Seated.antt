@@ -1,0 +1,69 @@
+-- What contracts see of a cell: a replica at its seat at a board.
+use Rattle.std.specs.Prelude.{◌≡◌, ◌≢◌, ℕ, ◌+◌, ◌≤◌, Bool, length, IfSome}
+use Rattle.std.specs.declared.result.Result.{Result}
+use Rattle.std.specs.declared.result.Result.TheVariants.{Ok, Err}
+use Rattle.atomic_table.specs.Seated.{TableId}
+use Rattle.cj_cluster.specs.History.Histories.{log}
+use Rattle.cj_cluster.specs.History.Legality.{IsLegal}
+use Rattle.cj_cluster.specs.Proving.Invariants.{HasBegunDrafts, HoldsPart}
+use Rattle.cj_board.specs.declared.view.SeatView.{SeatView}
+use Rattle.cj_board.specs.declared.view.Role.TheVariants.{Cell}
+use Rattle.cj_board.specs.Points.{max_word}
+use Rattle.cj_board.specs.Steps.{at_position, after_fault, word_of_position}
+use Rattle.cj_replica.specs.declared.replica.CellError.{CellError}
+use Rattle.cj_replica.specs.declared.replica.CellError.TheVariants.{Failed, Starved}
+use Rattle.cj_replica.specs.declared.replica.CellReadError.{CellReadError}
+use Rattle.cj_replica.specs.declared.replica.CellReadError.TheVariants as read_errors
+use Rattle.cj_replica.specs.Cells.{CellState}
+
+pub record SeatedCell : Type 0 where
+  -- the replica
+  pub state : CellState
+  -- of which board its seat is
+  pub board : TableId
+  -- what the seat knows
+  pub view : SeatView
+  -- how many faults the backend had counted when it took the seat
+  pub faults_before : ℕ
+
+-- the seat says where the replica stands, which holds its part of what the seat has seen
+pub record IsSeated (tells : Bool) (c : SeatedCell) : Type 0 where
+  pub role : c.view.role ≡ Cell c.state.b (word_of_position c.state.position)
+  pub legal : IsLegal c.view.front
+  pub within : IfSome c.state.position (λ p. p ≤ length (log c.view.front))
+  pub holds : HoldsPart tells c.state.placement c.state.b (log c.view.front) c.state.told c.state.position
+  pub drafts : HasBegunDrafts tells c.state.placement c.state.b (log c.view.front) c.state.begun c.state.position
+  -- each fault of its word is one that its backend counted since, unless that count is full
+  pub covered : c.state.faults ≢ max_word → c.faults_before + c.view.faults ≤ c.state.faults
+
+-- it is at the same board, and its backend's faults are counted from the same number
+pub record IsSameSeat (before after : SeatedCell) : Type 0 where
+  pub board : after.board ≡ before.board
+  pub faults_before : after.faults_before ≡ before.faults_before
+
+-- ---- the seat behind a call
+
+-- the n-th entry: the position is one higher, or the backend is out, and failed once more or not
+abbrev pub view_after_entry : {T : Type 0} → ℕ → ℕ → SeatView → Result T CellError → SeatView
+view_after_entry b n v (Ok x) = at_position n v
+view_after_entry b n v (Err Starved) = at_position max_word v
+view_after_entry b n v (Err Failed) = after_fault b (at_position max_word v)
+
+-- a load
+abbrev pub view_after_load : {T : Type 0} → ℕ → ℕ → SeatView → Result T CellError → SeatView
+view_after_load b n v (Ok x) = at_position n v
+view_after_load b n v (Err Starved) = v
+view_after_load b n v (Err Failed) = after_fault b v
+
+-- a call that moves nothing
+abbrev pub view_after_call : {T : Type 0} → ℕ → SeatView → Result T CellError → SeatView
+view_after_call b v (Ok x) = v
+view_after_call b v (Err Starved) = v
+view_after_call b v (Err Failed) = after_fault b v
+
+abbrev pub view_after_read : {T : Type 0} → ℕ → SeatView → Result T CellReadError → SeatView
+view_after_read b v (Ok x) = v
+view_after_read b v (Err read_errors.Out) = v
+view_after_read b v (Err (read_errors.Behind p)) = v
+view_after_read b v (Err read_errors.Failed) = after_fault b v
+view_after_read b v (Err read_errors.NoMemory) = v
