@@ -1,3 +1,4 @@
+pub mod Announcing
 pub mod Begun
 pub mod Following
 pub mod Keeping

@@ -8,6 +8,7 @@ use Rattle.std.proofs.lemmas.List.{take_more}
 use Rattle.std.proofs.lemmas.List.Elements.{All-nil, All-from_recursion}
 use Rattle.std.proofs.lemmas.List.Sums.{fold-append}
 use Rattle.std.proofs.Math.Nat.{le-max_left, le-max_right}
+use Rattle.std.proofs.Math.Seq.{take-length}
 use Rattle.cj_model.specs.declared.request.Entry.{Entry}
 use Rattle.cj_model.specs.Cluster.Masks.{in_mask}
 use Rattle.cj_model.specs.Cluster.Placements.{Placement, concerns}
@@ -31,6 +32,7 @@ use Rattle.cj_book.specs.Found.{IsRecovered}
 use Rattle.cj_book.specs.Kept.{IsKeptSession, KeepsHistory, KeepsTransactions, Follows}
 use Rattle.cj_book.specs.Lists.{transactions_after}
 use Rattle.cj_book.specs.Starts.{greatest_session}
+use Rattle.cj_book.proofs.Announcing.{opening_off}
 use Rattle.cj_book.proofs.TransactionSteps.{transactions_push}
 
 -- ---- the greatest session number
@@ -91,11 +93,8 @@ module _ (p : Placement) (h : List Event) (places : List ℕ) (ts : List OpenTra
 -- ---- the whole history
 
 -- no backend is enabled
-off : (h : List Event) (b : ℕ) → IsOpening h → fold (enabled_after_event b) false h ≡ false
-off [] b o = refl
-off (Sched e ∷ Ended f s ∷ h) b o = off h b o.2
-off (Marker name c ∷ h) b o = off h b o
-off _ b o = absurd o
+off : (h : List Event) (b : ℕ) → IsOpening h → is_enabled h b ≡ false
+off h b o = subst (λ (w : List Event). is_enabled w b ≡ false) (take-length h) (opening_off h (length h) b o)
 
 module _ (layout : Layout) (items : List LogItem) (h : List Event) (o : OpensTo items h) where
   idle : is_idle h ≡ true

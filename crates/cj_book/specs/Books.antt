@@ -21,7 +21,7 @@ use Rattle.cj_place.specs.Layouts.{Layout, placement_of}
 use Rattle.cj_log.specs.declared.item.LogItem.{LogItem}
 use Rattle.cj_log.specs.Logs.{LogState, KeepsItems}
 use Rattle.cj_opening.specs.Openings.{items_of}
-use Rattle.cj_book.specs.declared.book.Doomed.{Doomed}
+use Rattle.cj_book.specs.declared.ledger.Doomed.{Doomed}
 use Rattle.cj_book.specs.declared.error.BookError.{BookError}
 use Rattle.cj_book.specs.declared.error.BookError.TheVariants.{InProgress, NoBackend, HistoryFull, LogFault, NoMemory}
 use Rattle.cj_book.specs.Touching.{has_table}
