@@ -9,8 +9,8 @@ use Rattle.cj_model.specs.Cluster.Placements.{part}
 use Rattle.cj_audit.specs.Audits.{backend_lines}
 use Rattle.cj_cluster.specs.History.Histories.{log, is_enabled, database_of}
 use Rattle.cj_cluster.specs.Moves.Cores.{Core}
-use Rattle.cj_replica.specs.declared.cell.CellError.{CellError}
-use Rattle.cj_replica.specs.declared.cell.CellError.TheVariants as cell_errors
+use Rattle.cj_replica.specs.declared.replica.CellError.{CellError}
+use Rattle.cj_replica.specs.declared.replica.CellError.TheVariants as cell_errors
 use Rattle.cj_core.specs.declared.audit.AuditError.{AuditError}
 use Rattle.cj_core.specs.declared.audit.AuditError.TheVariants as errors
 

@@ -18,12 +18,12 @@ use crate::replaying::{enable_everywhere, replay_everywhere};
 use crate::world::World;
 use cj_auth::Accounts;
 use cj_backend::Backend;
-use cj_book::{Book, BookParts, StartError};
+use cj_book::{BookParts, Ledger, StartError};
 use cj_model::{BACKEND_LIMIT, Duplicate, ListOf, NoMemory};
 use cj_open_sessions::Sessions;
 use cj_outside::Store;
 use cj_place::Placement;
-use cj_replica::Cell;
+use cj_replica::Replica;
 use cj_shelf::MemoryShelf;
 use cj_state::State;
 use std::alloc::Global;
@@ -43,7 +43,7 @@ fn cells_of<B: Backend + Drop>(
     alloc: Global,
     placement: &Placement,
     backends: &mut Vec<B>,
-) -> Result<Vec<Cell<B>>, NoMemory>
+) -> Result<Vec<Replica<B>>, NoMemory>
     requires as_many { length backends.old.items ≡ length placement.now.names }
     requires none { HaveBegunNone (map B.begun backends.old.items) }
     ensures few { OnOk result (length placement.now.names ≤ BACKEND_LIMIT) }
@@ -56,13 +56,13 @@ fn cells_of<B: Backend + Drop>(
     while let Some(backend) = backends.pop() {
         let b = cells.len() as u8;
         let placement = placement.copy(alloc)?;
-        cells.push_reserved(Cell::new(alloc, b, placement, backend));
+        cells.push_reserved(Replica::new(alloc, b, placement, backend));
     }
     Ok(cells)
 }
 
 /// Moves the backends out of their cells into an empty list, in the order of numbers.
-fn backends_of<B: Backend + Drop>(mut cells: Vec<Cell<B>>, mut backends: Vec<B>) -> Vec<B>
+fn backends_of<B: Backend + Drop>(mut cells: Vec<Replica<B>>, mut backends: Vec<B>) -> Vec<B>
     requires empty { backends.items ≡ [] }
     requires room { length cells.items ≤ vec_capacity backends }
     ensures same { map (state_by B.told B.faults B.asks B.login B.arming) result.items ≡ map backend_of cells.items }
@@ -135,7 +135,7 @@ impl<B: Backend + Drop, S: Store + Drop> World<B, S> {
         let Ok(dumps) = MemoryShelf::new(alloc) else {
             return Err((StartError::NoMemory, log));
         };
-        let book = Book::open(alloc, book, log)?;
+        let book = Ledger::open(alloc, book, log)?;
         let mut state = State::new(alloc, book, cells, sessions, accounts, dumps);
         let brought = bring_up(&mut state);
         state.legal();

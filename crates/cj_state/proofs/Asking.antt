@@ -23,8 +23,8 @@ use Rattle.cj_book.specs.Books.{BookState, with_event, HasNoRoomForOne}
 use Rattle.cj_auth.specs.Admission.{Register}
 use Rattle.cj_dump.specs.declared.dump.Dump.{Dump}
 use Rattle.cj_place.specs.Layouts.{Layout, placement_of}
-use Rattle.cj_replica.specs.declared.cell.CellReadError.{CellReadError}
-use Rattle.cj_replica.specs.declared.cell.CellReadError.TheVariants as errors
+use Rattle.cj_replica.specs.declared.replica.CellReadError.{CellReadError}
+use Rattle.cj_replica.specs.declared.replica.CellReadError.TheVariants as errors
 use Rattle.cj_backend.specs.Backends.{asks_after, spent}
 use Rattle.cj_replica.specs.Cells.{CellState, SaysReadAnswer, HasCellReadCause, SpendsArmingIf, is_asked, LogsInForRead}
 use Rattle.cj_cluster.proofs.Standing.{stand_rest}

@@ -25,10 +25,10 @@ use Rattle.cj_backend.specs.Backends.{spent}
 use Rattle.cj_auth.specs.Admission.{Register}
 use Rattle.cj_dump.specs.declared.dump.Dump.{Dump}
 use Rattle.cj_place.specs.Layouts.{Layout, placement_of}
-use Rattle.cj_replica.specs.declared.cell.Caught.{Caught}
-use Rattle.cj_replica.specs.declared.cell.Caught.TheVariants as caught
-use Rattle.cj_replica.specs.declared.cell.CellError.{CellError}
-use Rattle.cj_replica.specs.declared.cell.CellError.TheVariants as errors
+use Rattle.cj_replica.specs.declared.replica.Caught.{Caught}
+use Rattle.cj_replica.specs.declared.replica.Caught.TheVariants as caught
+use Rattle.cj_replica.specs.declared.replica.CellError.{CellError}
+use Rattle.cj_replica.specs.declared.replica.CellError.TheVariants as errors
 use Rattle.cj_replica.specs.Cells.{CellState, HasCellCause, LogsInForEntry, SaysEntryOutcome, TellsAfterEntry, IsCaught, takes_part_in_entry, begun_after_entry, is_skipped, position_after}
 use Rattle.cj_state.specs.Worlds.{core_of, world_of, IsCell}
 use Rattle.cj_state.specs.Faults.{did_fail}

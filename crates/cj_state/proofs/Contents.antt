@@ -1,8 +1,8 @@
 -- What a backend answers that is asked for all that it holds.
 use Rattle.std.proofs.Common.{◌≡◌, ℕ, Bool, true, false, cond, Result, Ok, Err, Some, None, refl, ap, sym, ◌∙◌}
 use Rattle.cj_outside.specs.Causes.{next}
-use Rattle.cj_replica.specs.declared.cell.CellError.{CellError}
-use Rattle.cj_replica.specs.declared.cell.CellError.TheVariants as cell_errors
+use Rattle.cj_replica.specs.declared.replica.CellError.{CellError}
+use Rattle.cj_replica.specs.declared.replica.CellError.TheVariants as cell_errors
 use Rattle.cj_replica.specs.Cells.{CellState, HasCellCause, SpendsArmingIf}
 use Rattle.cj_state.specs.Held.{failed_contents}
 

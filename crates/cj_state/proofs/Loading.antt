@@ -19,8 +19,8 @@ use Rattle.cj_auth.specs.Admission.{Register}
 use Rattle.cj_dump.specs.declared.dump.Dump.{Dump}
 use Rattle.cj_place.specs.Layouts.{Layout, placement_of}
 use Rattle.cj_backend.specs.Backends.{Arming, spent}
-use Rattle.cj_replica.specs.declared.cell.CellError.{CellError}
-use Rattle.cj_replica.specs.declared.cell.CellError.TheVariants as errors
+use Rattle.cj_replica.specs.declared.replica.CellError.{CellError}
+use Rattle.cj_replica.specs.declared.replica.CellError.TheVariants as errors
 use Rattle.cj_replica.specs.Cells.{CellState, SpendsArmingAtLoad}
 use Rattle.cj_state.specs.Held.{failed_contents}
 use Rattle.cj_state.specs.Worlds.{core_of, world_of, IsCell}

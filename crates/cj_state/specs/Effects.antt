@@ -23,8 +23,8 @@ use Rattle.cj_cluster.specs.Moves.Runs.{HasFailedSince, IsBetweenReplies}
 use Rattle.cj_book.specs.declared.error.BookError.{BookError}
 use Rattle.cj_book.specs.declared.error.BookError.TheVariants.{InProgress, NoBackend, HistoryFull, LogFault, NoMemory}
 use Rattle.cj_book.specs.Books.{BookState, with_event, HasNoRoomForOne}
-use Rattle.cj_replica.specs.declared.cell.CellReadError.{CellReadError}
-use Rattle.cj_replica.specs.declared.cell.CellReadError.TheVariants as cell_errors
+use Rattle.cj_replica.specs.declared.replica.CellReadError.{CellReadError}
+use Rattle.cj_replica.specs.declared.replica.CellReadError.TheVariants as cell_errors
 use Rattle.cj_state.specs.declared.cells.AskError.{AskError}
 use Rattle.cj_state.specs.declared.cells.AskError.TheVariants as errors
 use Rattle.cj_state.specs.Worlds.{WorldState}

@@ -8,8 +8,8 @@ use Rattle.cj_model.specs.declared.database.Slot.{Slot}
 use Rattle.cj_cluster.specs.History.Histories.{log}
 use Rattle.cj_cluster.specs.Moves.Cores.{Core, position_at}
 use Rattle.cj_cluster.specs.Proving.Invariants.{HoldsPart}
-use Rattle.cj_replica.specs.declared.cell.CellError.{CellError}
-use Rattle.cj_replica.specs.declared.cell.CellError.TheVariants as cell_errors
+use Rattle.cj_replica.specs.declared.replica.CellError.{CellError}
+use Rattle.cj_replica.specs.declared.replica.CellError.TheVariants as cell_errors
 
 -- the database is what backend b holds: where it isn't out, its part of the database after the entries that it has taken
 abbrev pub IsHeld : Bool → Core → ℕ → List Slot → Type 0

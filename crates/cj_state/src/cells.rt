@@ -9,11 +9,11 @@ ghost use Rattle.cj_cluster.specs.Moves.Moves as moves;
 
 use cj_auth::Accounts;
 use cj_backend::Backend;
-use cj_book::{Book, BookError};
+use cj_book::{BookError, Ledger};
 use cj_cluster::Did;
 use cj_model::{NoMemory, Outcome, with_bit};
 use cj_outside::Store;
-use cj_replica::{Caught, Cell, CellError, CellReadError};
+use cj_replica::{Caught, CellError, CellReadError, Replica};
 use thiserror::Error;
 
 /// Why a backend gave a session no answer.
@@ -114,8 +114,8 @@ pub fn place(position: Option<u64>) -> u64
 
 /// Backend `b` takes the entry at its position, under the login of the entry's user.
 pub fn take<B: Backend, S: Store>(
-    book: &Book<S>,
-    cells: &mut Vec<Cell<B>>,
+    book: &Ledger<S>,
+    cells: &mut Vec<Replica<B>>,
     accounts: &Accounts,
     b: u8,
 ) -> Did
@@ -134,7 +134,7 @@ pub fn take<B: Backend, S: Store>(
 /// Why a backend that was asked gave no answer. Of a failure the history has an event from now on;
 /// the memory for it was taken before.
 pub fn noted<S: Store>(
-    book: &mut Book<S>,
+    book: &mut Ledger<S>,
     session: u64,
     seq: u64,
     b: u8,

@@ -45,7 +45,7 @@ use crate::cells::{
 };
 use cj_auth::Accounts;
 use cj_backend::Backend;
-use cj_book::{Book, BookError};
+use cj_book::{BookError, Ledger};
 use cj_cluster::{Did, Event, Move, Moved, OpenRead, OpenSession, TakenDump};
 use cj_dump::{Dump, cut};
 use cj_model::{
@@ -56,7 +56,7 @@ use cj_model::{
 use cj_open_sessions::{Sessions, read_number, tx_of_act};
 use cj_outside::Store;
 use cj_place::Placement;
-use cj_replica::{Cell, CellError};
+use cj_replica::{CellError, Replica};
 use cj_shelf::MemoryShelf;
 use std::alloc::Global;
 use std::marker::Model;
@@ -65,9 +65,9 @@ use std::marker::Model;
 #[derive(Drop)]
 pub struct State<B: Backend, S: Store> {
     alloc: Global,
-    book: Book<S>,
+    book: Ledger<S>,
     /// By the numbers of their backends.
-    cells: Vec<Cell<B>>,
+    cells: Vec<Replica<B>>,
     /// While an entry is open, the mask of the backends that failed in it.
     failed: u32,
     /// And of those that wanted memory.
@@ -155,8 +155,8 @@ impl<B: Backend + Drop, S: Store + Drop> State<B, S> {
     /// session is open.
     pub fn new(
         alloc: Global,
-        book: Book<S>,
-        cells: Vec<Cell<B>>,
+        book: Ledger<S>,
+        cells: Vec<Replica<B>>,
         sessions: Sessions,
         accounts: Accounts,
         dumps: MemoryShelf,
@@ -195,7 +195,7 @@ impl<B: Backend + Drop, S: Store + Drop> State<B, S> {
 
 impl<B: Backend + Drop, S: Store + Drop> State<B, S> {
     /// Its cells.
-    pub fn into_cells(self) -> Vec<Cell<B>>
+    pub fn into_cells(self) -> Vec<Replica<B>>
         ensures cells { result.items ≡ self.cells }
         ensures few { length self.cells ≤ BACKEND_LIMIT }
         ensures legal { IsWorld B.TELLS self }

@@ -16,10 +16,10 @@ use Rattle.cj_cluster.specs.History.Transactions.{AreFit}
 use Rattle.cj_cluster.specs.Moves.Moves.{TakesEntry}
 use Rattle.cj_dump.specs.declared.dump.Dump.{Dump}
 use Rattle.cj_place.specs.Layouts.{Layout, placement_of}
-use Rattle.cj_replica.specs.declared.cell.Caught.{Caught}
-use Rattle.cj_replica.specs.declared.cell.Caught.TheVariants as caught
-use Rattle.cj_replica.specs.declared.cell.CellError.{CellError}
-use Rattle.cj_replica.specs.declared.cell.CellError.TheVariants as errors
+use Rattle.cj_replica.specs.declared.replica.Caught.{Caught}
+use Rattle.cj_replica.specs.declared.replica.Caught.TheVariants as caught
+use Rattle.cj_replica.specs.declared.replica.CellError.{CellError}
+use Rattle.cj_replica.specs.declared.replica.CellError.TheVariants as errors
 use Rattle.cj_replica.specs.Cells.{CellState}
 use Rattle.cj_state.specs.Worlds.{core_of, IsCell}
 use Rattle.cj_model.specs.declared.account.Account.{Account}

@@ -7,8 +7,8 @@ use Rattle.cj_model.specs.Cluster.Placements.{hosts_all}
 use Rattle.cj_cluster.specs.Moves.Cores.{session_at}
 use Rattle.cj_cluster.specs.Moves.Moves.{read_number}
 use Rattle.cj_book.specs.Books.{BookState}
-use Rattle.cj_replica.specs.declared.cell.CellReadError.{CellReadError}
-use Rattle.cj_replica.specs.declared.cell.CellReadError.TheVariants as read_errors
+use Rattle.cj_replica.specs.declared.replica.CellReadError.{CellReadError}
+use Rattle.cj_replica.specs.declared.replica.CellReadError.TheVariants as read_errors
 use Rattle.cj_replica.specs.Cells.{CellState, is_asked, LogsInForRead}
 use Rattle.cj_place.specs.Layouts.{placement_of}
 use Rattle.cj_state.specs.Worlds.{WorldState, accounts_of, core_of, log_view, with_cache, with_log, world_of}

@@ -52,7 +52,7 @@ invariant_of-self g c =
     let lt = within (length w.book.layout.names) c.args.b w.cells.items c.self.invariant.0.world.sound.cells (subst (λ (z : WorldState). c.args.b < z.core.placement.backends) (sym same) c.requires.within) in
     let can = can_load (core_of w.book.layout w.book.history w.cells.items w.failed w.starved w.sessions w.book.greatest w.dumps) c.args.b c.args.name.now (subst (λ (z : WorldState). not_now z.core (Load c.args.b c.args.name.now) ≡ None) (sym same) c.requires.now) in
     let out : x.position ≡ None = place_of w.cells.items c.args.b x None lt c.index_mut.ensures.value can.out in
-    let still : y.position ≡ None = c.in_err-load.ensures.position in
+    let still : y.position ≡ None = c.in_err-load.ensures.place in
     let was = subst (IsCell tells (placement_of w.book.layout) (log w.book.history) c.args.b) (sym c.index_mut.ensures.value) (c.self.invariant.0.world.cells c.args.b x lt) in (
       kept_cell tells w.accounts w.book.layout w.book.history w.cells.items w.failed w.starved w.sessions w.book.greatest w.dumps w.book.sessions w.first_outcome c.self.invariant.0 c.args.b lt x c.index_mut.ensures.value y (still ∙ sym out) c.in_err-load.ensures.refused
           (out_cell tells (placement_of w.book.layout) (log w.book.history) c.args.b x y was c.in_err-load.ensures.b c.in_err-load.ensures.placement still),
@@ -69,7 +69,7 @@ returns-in_err-load-clause-err g c =
     let lt = within (length w.book.layout.names) c.args.b w.cells.items c.self.invariant.0.world.sound.cells (subst (λ (z : WorldState). c.args.b < z.core.placement.backends) (sym same) c.requires.within) in
     let can = can_load (core_of w.book.layout w.book.history w.cells.items w.failed w.starved w.sessions w.book.greatest w.dumps) c.args.b c.args.name.now (subst (λ (z : WorldState). not_now z.core (Load c.args.b c.args.name.now) ≡ None) (sym same) c.requires.now) in
     let out : x.position ≡ None = place_of w.cells.items c.args.b x None lt c.index_mut.ensures.value can.out in
-    let still : y.position ≡ None = c.in_err-load.ensures.position in
+    let still : y.position ≡ None = c.in_err-load.ensures.place in
     on_error c.from_residual-in_err-load.result _
     (core_stays g.B.Backend.TELLS w.accounts w.book.layout w.book.history w.cells.items w.failed w.starved w.sessions w.book.greatest w.dumps w.book.sessions w.first_outcome c.self.invariant.0 c.args.b lt x c.index_mut.ensures.value y (still ∙ sym out) c.in_err-load.ensures.refused
     ∙ ap (λ (z : WorldState). z.core) same)
@@ -124,7 +124,7 @@ invariant_of-self-2 g c =
     let sound = taken_all (IsSoundDump core.placement.backends core.history) core.dumps c.args.name.now (taken_of c.in_ok-position.field-0) c.self.invariant.0.world.sound.dumps found in
     let right = subst (λ (z : WorldState). tells ≡ true → c.in_ok-position.field-0.db ≡ part z.core.placement c.args.b (database_after (log z.core.history) c.in_ok-position.field-0.position)) (sym same) c.in_ok-position.ensures.held in (
       kept_loaded tells w.accounts w.book.layout w.book.history w.cells.items w.failed w.starved w.sessions w.book.greatest w.dumps w.book.sessions w.first_outcome c.self.invariant.0 c.args.b lt x y c.index_mut.ensures.value
-          c.in_ok-load.ensures.b c.in_ok-load.ensures.placement c.in_ok-position.field-0.position c.in_ok-load.ensures.position
+          c.in_ok-load.ensures.b c.in_ok-load.ensures.placement c.in_ok-position.field-0.position c.in_ok-load.ensures.place
           c.in_ok-position.field-0.db right c.in_ok-load.ensures.told c.in_ok-load.ensures.begun can.is_free can.off sound.position,
       c.self.invariant.1,
       c.self.invariant.2,
@@ -146,7 +146,7 @@ returns-clause-ok g c =
       drafts = λ on. c.in_ok-load.ensures.begun ∙ ap writers (c.in_ok-position.ensures.held on);
       after =
           core_loaded tells w.accounts w.book.layout w.book.history w.cells.items w.failed w.starved w.sessions w.book.greatest w.dumps w.book.sessions w.first_outcome c.self.invariant.0 c.args.b lt x y c.index_mut.ensures.value
-          c.in_ok-load.ensures.b c.in_ok-load.ensures.placement c.in_ok-position.field-0.position c.in_ok-load.ensures.position
+          c.in_ok-load.ensures.b c.in_ok-load.ensures.placement c.in_ok-position.field-0.position c.in_ok-load.ensures.place
           ∙ ap (λ (z : WorldState). with_stance z.core c.args.b (record { position = Some c.in_ok-position.field-0.position; begun = y.begun })) same;
     }
 
