@@ -60,7 +60,7 @@ impl Key {
             Key::Name => {
                 "1 to 32 of a-z, 0-9 and _, no digit first (backend or table); a text of 1 to 64 bytes (user)"
             }
-            Key::Kind => "\"memory\" (\"sqlite\" is known, and not served yet)",
+            Key::Kind => "\"memory\" or \"sqlite\"",
             Key::Weight => "an integer from 1 to 1000",
             Key::Hosts => "a list of names of backends",
             Key::Sha256 => "the SHA-256 of the password, as 64 hexadecimal digits",

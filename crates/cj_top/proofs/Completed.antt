@@ -1,9 +1,9 @@
 -- Calls in which nothing failed and memory was not wanting.
-use Rattle.std.proofs.Common.{◌≡◌, ◌≢◌, ◌⊎◌, inl, inr, ℕ, ℤ, ◌-◌, ◌^◌, ◌<◌, Bool, true, false, List, [], ◌∷◌, ◌+◌, length, map, replicate, All, Option, Some, None, Result, Ok, Err, refl, sym, ap, subst, ◌∙◌, arith, ⊎_elim}
+use Rattle.std.proofs.Common.{◌≡◌, ◌≢◌, ◌⊎◌, ℕ, ℤ, Bool, true, List, [], ◌∷◌, ◌+◌, length, map, replicate, Option, None, Result, Ok, Err, refl, sym, ap, subst, ◌∙◌, arith, ⊎_elim}
+use Rattle.std.specs.Prelude.{IfOk}
 use Rattle.cj_model.specs.declared.answer.Reply.{Reply}
 use Rattle.cj_model.specs.declared.database.Slot.{Slot}
 use Rattle.cj_outside.specs.Causes.{CountsFault}
-use Rattle.cj_outside.specs.Draws.{of_generator, generator_after}
 use Rattle.cj_backend.specs.Backends.{Arming}
 use Rattle.cj_cluster.specs.declared.session.SessionEnd.{SessionEnd}
 use Rattle.cj_cluster.specs.declared.session.SessionEnd.TheVariants as end
@@ -11,7 +11,7 @@ use Rattle.cj_conf.specs.Confs.{conf_of}
 use Rattle.cj_conf.specs.declared.conf.Conf.{Conf}
 use Rattle.cj_conf.specs.declared.error.ConfError.{ConfError}
 use Rattle.cj_state.specs.Faults.{faults_of}
-use Rattle.cj_core.specs.QuietCalls.{BlamesNobody, CanCountMore}
+use Rattle.cj_core.specs.QuietCalls.{BlamesNobody}
 use Rattle.cj_core.specs.Starts.{BackendState, backend_of, state_by}
 use Rattle.cj_state.specs.Worlds.{WorldState}
 use Rattle.cj_desk.specs.SessionTranscripts.{client_state}
@@ -20,8 +20,8 @@ use Rattle.cj_log.specs.declared.item.LogItem.{LogItem}
 use Rattle.cj_script.specs.declared.play.ScriptEnd.{ScriptEnd}
 use Rattle.cj_script.specs.declared.play.ScriptEnd.TheVariants as script_end
 use Rattle.cj_top.specs.Completeness.{AnswersInput, ByConf, ByStore, CompletesCommand, CountNoFaults, CountsNoFault, PipesInput, PlaysInput, ScriptsInput, is_end_by_input, is_script_end_by_input}
-use Rattle.cj_top.specs.declared.words.Command.{Command}
-use Rattle.cj_top.specs.declared.words.Command.TheVariants.{Pipe, Script, Log}
+use Rattle.cj_words.specs.declared.asked.Command.{Command}
+use Rattle.cj_words.specs.declared.asked.Command.TheVariants.{Pipe, Script, Log, Gen}
 use Rattle.cj_book.specs.declared.error.StartError.{StartError}
 use Rattle.cj_outside.specs.declared.sink.OutError.{OutError}
 use Rattle.cj_outside.specs.declared.sink.OutError.TheVariants as out_errors
@@ -29,7 +29,7 @@ use Rattle.cj_place.specs.Layouts.{placement_of}
 use Rattle.cj_top.specs.Listed.{ListsLog}
 use Rattle.cj_top.specs.Logs.{StopsAtLog}
 use Rattle.cj_top.proofs.Unopened.{start_status}
-use Rattle.cj_top.specs.Configured.{new_backend, served_conf}
+use Rattle.cj_top.specs.Configured.{in_memory, new_backend}
 use Rattle.cj_top.specs.Piped.{HasNoSession, RunsPipe, ServesOneSession, generator_of, opened_at, solo_setting}
 use Rattle.cj_top.specs.Program.{status_of_listing, status_of_script, status_of_session}
 use Rattle.cj_top.specs.Runs.{AreConfBytes, ComesBy}
@@ -106,24 +106,31 @@ pipe_answers tells seed moment left left' held held' first last ending s read wr
 
 -- ---- commands
 
-pipe_completes : (c : Conf) (found : List LogItem → Type 0) (moment : Option ℤ) (left left' held held' : Option (List ℕ)) (status : ℕ) → (status ≢ 1) → (status ≢ 5) → (status ≢ 6) → RunsPipe c found moment left left' held held' status → PipesInput left held held' status
+pipe_completes : (c : Conf) (found : List LogItem → Type 0) (moment : Option ℤ) (left left' held held' : Option (List ℕ)) (status : ℕ) → (status ≢ 1) → (status ≢ 5) → (status ≢ 6) → RunsPipe (in_memory c) c found moment left left' held held' status → PipesInput (in_memory c) left held held' status
 pipe_completes c found moment left left' held held' status one five six r = record {
   ending = r.ending;
   answers =
-      session_answers (solo_setting true moment) (client_state None (opened_at r.first) (generator_of c.seed (r.first.core.greatest + 1))) r.ending r.serves.desk r.serves.draws BlamesNobody left left' held held' r.serves.served
-      (session_by_input r.ending (λ e. five (r.status_is ∙ ap status_of_session e)) (λ e. six (r.status_is ∙ ap status_of_session e)) (λ e. one (r.status_is ∙ ap status_of_session e))) r.blameless;
+      session_answers (solo_setting (in_memory c) moment) (client_state None (opened_at r.first) (generator_of c.seed (r.first.core.greatest + 1))) r.ending r.serves.desk r.serves.draws (λ (reply : Reply). in_memory c ≡ true → BlamesNobody reply) left left' held held' r.serves.served
+      (session_by_input r.ending (λ e. five (r.status_is ∙ ap status_of_session e)) (λ e. six (r.status_is ∙ ap status_of_session e)) (λ e. one (r.status_is ∙ ap status_of_session e))) (λ k d within memory. r.blameless memory k d within);
   status_is = r.status_is;
 }
 
-pub play_plays : (c : Conf) (found : List LogItem → Type 0) (left left' held held' : Option (List ℕ)) (ending : ScriptEnd) → PlaysAsConfigured c found left left' held held' ending → (ending ≢ script_end.ReadFault) → (ending ≢ script_end.WriteFault) → (ending ≢ script_end.NoMemory)
+play_plays : (tells : Bool) (c : Conf) (found : List LogItem → Type 0) (left left' held held' : Option (List ℕ)) (ending : ScriptEnd) → PlaysAsConfigured tells c found left left' held held' ending → (ending ≢ script_end.ReadFault) → (ending ≢ script_end.WriteFault) → (ending ≢ script_end.NoMemory)
     → PlaysInput c.placement.names left ending
-play_plays c found left left' held held' ending p read write memory = script_plays c.placement.names left left' held held' ending p.first p.last p.came (script_by_input ending read write memory)
+play_plays tells c found left left' held held' ending p read write memory = script_plays tells c.placement.names left left' held held' ending p.first p.last p.came (script_by_input ending read write memory)
+
+-- a play that counted no fault
+pub plays_of : (tells : Bool) (c : Conf) (found : List LogItem → Type 0) (left left' held held' : Option (List ℕ)) (r : Result ScriptEnd StartError) (i i' o o' : ℕ) → IfOk r (PlaysAsConfigured tells c found left left' held held')
+    → CountsFault (r ≡ Ok script_end.ReadFault) i i' → CountsFault (r ≡ Ok script_end.WriteFault) o o' → CountsNoFault i i' → CountsNoFault o o' → IfOk r (λ ending. ending ≢ script_end.NoMemory → PlaysInput c.placement.names left ending)
+plays_of tells c found left left' held held' (Ok ending) i i' o o' played read write input output = λ memory.
+    play_plays tells c found left left' held held' ending played (λ e. not_failed _ _ _ read input (ap Ok e)) (λ e. not_failed _ _ _ write output (ap Ok e)) memory
+plays_of tells c found left left' held held' (Err e) i i' o o' played read write input output = tt
 
 script_completes : (c : Conf) (found : List LogItem → Type 0) (left left' held held' errors errors' : Option (List ℕ)) (before now status : ℕ) → (status ≢ 1) → (status ≢ 5) → (status ≢ 6) → RunsScript c found left left' held held' errors errors' before now status
     → ScriptsInput c.placement.names left status
 script_completes c found left left' held held' errors errors' before now status one five six r = record {
   ending = r.ending;
-  plays = play_plays c found left left' held held' r.ending r.played (λ e. five (r.status_is ∙ ap status_of_script e)) (λ e. six (r.status_is ∙ ap status_of_script e)) (λ e. one (r.status_is ∙ ap status_of_script e));
+  plays = play_plays (in_memory c) c found left left' held held' r.ending r.played (λ e. five (r.status_is ∙ ap status_of_script e)) (λ e. six (r.status_is ∙ ap status_of_script e)) (λ e. one (r.status_is ∙ ap status_of_script e));
   status_is = r.status_is;
 }
 
@@ -131,7 +138,7 @@ script_completes c found left left' held held' errors errors' before now status 
 
 module _ (tells : Bool) (store : List ℕ) (left held held' : Option (List ℕ)) (status : ℕ) where
   -- a refused one
-  pub refusal_completes : (command : Command) (bytes : List ℕ) (error : ConfError) → AreConfBytes tells store bytes → served_conf (conf_of bytes) ≡ Err error → status ≡ 3 → ByStore tells store (CompletesCommand command left held held' status) status
+  pub refusal_completes : (command : Command) (bytes : List ℕ) (error : ConfError) → AreConfBytes tells store bytes → conf_of bytes ≡ Err error → status ≡ 3 → ByStore tells store (CompletesCommand command left held held' status) status
   refusal_completes command bytes error are refused is = record { bytes = bytes; are = are; comes = subst (ByConf (CompletesCommand command left held held' status) status) (sym refused) is }
 
   module _ (c : Conf) (found : List LogItem → Type 0) (Refuses Tells : StartError → Type 0) (Idle Quiet : Type 0) (moment : Option ℤ) (left' errors errors' : Option (List ℕ)) (before now : ℕ) (one : status ≢ 1) (five : status ≢ 5) (six : status ≢ 6) (seven : status ≢ 7) (eight : status ≢ 8) (twelve : status ≢ 12) where
@@ -144,16 +151,17 @@ module _ (tells : Bool) (store : List ℕ) (left held held' : Option (List ℕ))
     listed_status (Err out_errors.NoMemory) is = absurd (one is)
 
     completes : (command : Command) → ComesBy command c found (StopsAtLog Refuses Tells Idle) Quiet moment left left' held held' errors errors' before now status → CompletesCommand command left held held' status c
-    completes Pipe comes =
-        ⊎_elim (λ (runs : RunsPipe c found moment left left' held held' status). pipe_completes c found moment left left' held held' status one five six runs)
-        (λ (rest : StopsAtLog Refuses Tells Idle status ⊎ (status ≡ 12) × HasNoSession found (placement_of c.placement) (replicate (length c.placement.names) new_backend) × Quiet).
-        ⊎_elim (λ (s : StopsAtLog Refuses Tells Idle status). absurd (not_stopped s)) (λ (q : (status ≡ 12) × HasNoSession found (placement_of c.placement) (replicate (length c.placement.names) new_backend) × Quiet). absurd (twelve q.0)) rest) comes
-    completes Script comes =
+    completes (Pipe path) comes =
+        ⊎_elim (λ (runs : RunsPipe (in_memory c) c found moment left left' held held' status). pipe_completes c found moment left left' held held' status one five six runs)
+        (λ (rest : StopsAtLog Refuses Tells Idle status ⊎ (status ≡ 12) × HasNoSession found (placement_of c.placement) (replicate (length c.placement.names) (new_backend (in_memory c))) × Quiet).
+        ⊎_elim (λ (s : StopsAtLog Refuses Tells Idle status). absurd (not_stopped s)) (λ (q : (status ≡ 12) × HasNoSession found (placement_of c.placement) (replicate (length c.placement.names) (new_backend (in_memory c))) × Quiet). absurd (twelve q.0)) rest) comes
+    completes (Script path) comes =
         ⊎_elim (λ (runs : RunsScript c found left left' held held' errors errors' before now status). script_completes c found left left' held held' errors errors' before now status one five six runs)
         (λ (s : StopsAtLog Refuses Tells Idle status). absurd (not_stopped s)) comes
-    completes Log comes = ⊎_elim (λ (lists : ListsLog c.placement.names found held held' status). listed_status lists.answer lists.status_is) (λ (s : StopsAtLog Refuses Tells Idle status). absurd (not_stopped s)) comes
+    completes (Log path) comes = ⊎_elim (λ (lists : ListsLog c.placement.names found held held' status). listed_status lists.answer lists.status_is) (λ (s : StopsAtLog Refuses Tells Idle status). absurd (not_stopped s)) comes
+    completes (Gen path seed count) comes = comes.0
 
     -- an accepted one
-    pub command_completes : (command : Command) (bytes : List ℕ) → AreConfBytes tells store bytes → served_conf (conf_of bytes) ≡ Ok c
+    pub command_completes : (command : Command) (bytes : List ℕ) → AreConfBytes tells store bytes → conf_of bytes ≡ Ok c
         → ComesBy command c found (StopsAtLog Refuses Tells Idle) Quiet moment left left' held held' errors errors' before now status → ByStore tells store (CompletesCommand command left held held' status) status
     command_completes command bytes are accepted comes = record { bytes = bytes; are = are; comes = subst (ByConf (CompletesCommand command left held held' status) status) (sym accepted) (completes command comes) }

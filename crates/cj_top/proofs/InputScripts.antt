@@ -1,16 +1,15 @@
 -- A script that ended by its input has played as far as that goes.
-use Rattle.std.proofs.Common.{◌≡◌, ◌≢◌, ◌⊎◌, inl, inr, ℕ, ◌+◌, ◌<◌, ◌≤◌, Bool, true, false, List, [], ◌∷◌, ◌++◌, length, All, Option, Some, None, refl, sym, ap, subst, ◌∙◌, arith, append_assoc, append-nil, length-append}
-use Rattle.std.specs.Prelude.{IfSome, IsSome}
+use Rattle.std.proofs.Common.{◌≡◌, ◌≢◌, inl, inr, ℕ, ◌+◌, Bool, true, List, [], ◌∷◌, ◌++◌, length, All, Option, Some, None, refl, sym, ap, subst, ◌∙◌, arith, append_assoc, append-nil, length-append}
+use Rattle.std.specs.Prelude.{IfSome}
 use Rattle.std.specs.List.{flat_map}
-use Rattle.std.specs.Io.KnownBytes.{Consumes, IsAtEnd}
 use Rattle.std.proofs.lemmas.Bool.{le-ltb, lt-ltb}
 use Rattle.std.proofs.lemmas.List.Concat.{flat_map-append, flat_map-cons}
-use Rattle.std.proofs.lemmas.List.Elements.{All-append, All-cons, All-head, All-nil, All-push, All-tail, All-weaker}
-use Rattle.cj_outside.specs.Lines.{IsInLine, line_limit}
+use Rattle.std.proofs.lemmas.List.Elements.{All-cons, All-head, All-nil, All-push, All-tail, All-weaker}
+use Rattle.cj_outside.specs.Lines.{IsInLine}
 use Rattle.cj_outside.specs.Streams.{most}
 use Rattle.cj_cluster.specs.Script.Lines.{with_line_feed}
 use Rattle.cj_state.specs.Worlds.{WorldState}
-use Rattle.cj_script.specs.Script.{CameTo, DoesLine, IsNextLine, IsShortLine, IsWrong, LieIn, Played, PlayedAll, PlayedTo, Plays, PlaysLine}
+use Rattle.cj_script.specs.Script.{CameTo, IsNextLine, IsShortLine, IsWrong, LieIn, Plays, PlaysLine}
 use Rattle.cj_script.specs.declared.play.ScriptEnd.{ScriptEnd}
 use Rattle.cj_script.specs.declared.play.ScriptEnd.TheVariants as end
 use Rattle.cj_top.specs.Completeness.{AreLines, EndsAtLine, IsFirstWrong, IsPlayable, PlaysInput, is_script_end_by_input, is_short_input}
@@ -73,15 +72,15 @@ one_way bytes rest last lines whole is p inside are =
 
 -- ---- lines that were played
 
-playable_line : (names : List (List ℕ)) (c z : WorldState) (line written : List ℕ) → IsShortLine line → PlaysLine true true names c line written z → IsPlayable names line
-playable_line names c z line written short (inl skips) = record { short = short.short; is = inl skips.empty }
-playable_line names c z line written short (inr (inl makes)) = record { short = short.short; is = inr (inl (makes.move, makes.reads)) }
-playable_line names c z line written short (inr (inr audits)) = record { short = short.short; is = inr (inr audits.0) }
+playable_line : (tells : Bool) (names : List (List ℕ)) (c z : WorldState) (line written : List ℕ) → IsShortLine line → PlaysLine tells true names c line written z → IsPlayable names line
+playable_line tells names c z line written short (inl skips) = record { short = short.short; is = inl skips.empty }
+playable_line tells names c z line written short (inr (inl makes)) = record { short = short.short; is = inr (inl (makes.move, makes.reads)) }
+playable_line tells names c z line written short (inr (inr audits)) = record { short = short.short; is = inr (inr audits.0) }
 
-playable : (names : List (List ℕ)) (lines : List (List ℕ)) (c z : WorldState) (written : List ℕ) → All IsShortLine lines → Plays true true names c lines written z → All (IsPlayable names) lines
-playable names [] c z written short plays = All-nil (IsPlayable names)
-playable names (line ∷ lines) c z written short (mid, front, rest, one, others, is) =
-    All-cons (IsPlayable names) line lines (playable_line names c mid line front (All-head IsShortLine line lines short) one) (playable names lines mid z rest (All-tail IsShortLine line lines short) others)
+playable : (tells : Bool) (names : List (List ℕ)) (lines : List (List ℕ)) (c z : WorldState) (written : List ℕ) → All IsShortLine lines → Plays tells true names c lines written z → All (IsPlayable names) lines
+playable tells names [] c z written short plays = All-nil (IsPlayable names)
+playable tells names (line ∷ lines) c z written short (mid, front, rest, one, others, is) =
+    All-cons (IsPlayable names) line lines (playable_line tells names c mid line front (All-head IsShortLine line lines short) one) (playable tells names lines mid z rest (All-tail IsShortLine line lines short) others)
 
 insides : (lines : List (List ℕ)) → All IsShortLine lines → All IsInLine lines
 insides lines short = All-weaker IsShortLine IsInLine (λ line is. is.inside) lines short
@@ -153,30 +152,30 @@ wrong_line names bytes taken behind last rest line lines whole is (inr h) short 
 wrong_line names bytes taken behind last rest line lines whole is (inr h) short each inside (inr (next, at_end)) (inl long) are = absurd (omega (arith, long, ap length (sym next ∙ h.1)))
 wrong_line names bytes taken behind last rest line lines whole is (inr h) short each inside (inr (next, at_end)) (inr (some, none)) are = absurd (some (sym next ∙ h.1))
 
-ends_at_line : (names : List (List ℕ)) (left left' held held' : Option (List ℕ)) (ending : ScriptEnd) (c z : WorldState) → CameTo true true names left left' held held' c ending z → is_script_end_by_input ending ≡ true
+ends_at_line : (tells : Bool) (names : List (List ℕ)) (left left' held held' : Option (List ℕ)) (ending : ScriptEnd) (c z : WorldState) → CameTo tells true names left left' held held' c ending z → is_script_end_by_input ending ≡ true
     → IfSome left (λ bytes. (lines : List (List ℕ)) (last : List ℕ) → AreLines bytes lines last → EndsAtLine names (is_short_input bytes) (lines ++ last ∷ []) ending)
-ends_at_line names None left' held held' ending c z came by = tt
-ends_at_line names (Some xs) None held held' end.Done c z came by = absurd came.played.consumed
-ends_at_line names (Some xs) (Some ys) held held' end.Done c z came by = λ whole last are.
+ends_at_line tells names None left' held held' ending c z came by = tt
+ends_at_line tells names (Some xs) None held held' end.Done c z came by = absurd came.played.consumed
+ends_at_line tells names (Some xs) (Some ys) held held' end.Done c z came by = λ whole last are.
     let taken : xs ≡ came.taken = came.played.consumed ∙ ap (λ (t : List ℕ). came.taken ++ t) came.at_end ∙ append-nil came.taken in
     let few = came.few refl in
-    let each = playable names came.lines c z came.played.written came.played.lines_are came.played.plays in (
+    let each = playable tells names came.lines c z came.played.written came.played.lines_are came.played.plays in (
       lt-ltb (length xs) most (omega (arith, ap length taken, few)),
       done_lines names (Some ys) came.taken last came.lines whole came.played.lie came.played.lines_are each (subst (λ (bytes : List ℕ). AreLines bytes whole last) taken are),
     )
-ends_at_line names (Some xs) None held held' (end.Line number) c z came by = absurd came.played.consumed
-ends_at_line names (Some xs) (Some ys) held held' (end.Line number) c z came by = λ whole last are.
+ends_at_line tells names (Some xs) None held held' (end.Line number) c z came by = absurd came.played.consumed
+ends_at_line tells names (Some xs) (Some ys) held held' (end.Line number) c z came by = λ whole last are.
     subst (IsFirstWrong names (whole ++ last ∷ [])) (sym came.before)
     (wrong_line names xs came.taken ys last came.rest came.line came.lines whole came.played.consumed came.played.lie came.played.lines_are
-    (playable names came.lines c z came.played.written came.played.lines_are came.played.plays) came.inside came.next came.wrong are)
-ends_at_line names (Some xs) left' held held' end.ReadFault c z came by = absurd cc
-ends_at_line names (Some xs) left' held held' end.WriteFault c z came by = absurd cc
-ends_at_line names (Some xs) None held held' end.Spent c z came by = absurd came.played.consumed
-ends_at_line names (Some xs) (Some ys) held held' end.Spent c z came by = λ whole last are.
+    (playable tells names came.lines c z came.played.written came.played.lines_are came.played.plays) came.inside came.next came.wrong are)
+ends_at_line tells names (Some xs) left' held held' end.ReadFault c z came by = absurd cc
+ends_at_line tells names (Some xs) left' held held' end.WriteFault c z came by = absurd cc
+ends_at_line tells names (Some xs) None held held' end.Spent c z came by = absurd came.played.consumed
+ends_at_line tells names (Some xs) (Some ys) held held' end.Spent c z came by = λ whole last are.
     let size = ap length came.played.consumed ∙ length-append came.taken ys in
     let all = came.count refl in
     le-ltb (length xs) most (omega (arith, size, all))
-ends_at_line names (Some xs) left' held held' end.NoMemory c z came by = absurd cc
+ends_at_line tells names (Some xs) left' held held' end.NoMemory c z came by = absurd cc
 
-pub script_plays : (names : List (List ℕ)) (left left' held held' : Option (List ℕ)) (ending : ScriptEnd) (c z : WorldState) → CameTo true true names left left' held held' c ending z → is_script_end_by_input ending ≡ true → PlaysInput names left ending
-script_plays names left left' held held' ending c z came by = record { by_input = by; as_read = ends_at_line names left left' held held' ending c z came by }
+pub script_plays : (tells : Bool) (names : List (List ℕ)) (left left' held held' : Option (List ℕ)) (ending : ScriptEnd) (c z : WorldState) → CameTo tells true names left left' held held' c ending z → is_script_end_by_input ending ≡ true → PlaysInput names left ending
+script_plays tells names left left' held held' ending c z came by = record { by_input = by; as_read = ends_at_line tells names left left' held held' ending c z came by }

@@ -1,3 +1,4 @@
+pub mod AskedWords
 pub mod Completed
 pub mod InputScripts
 pub mod InputSessions

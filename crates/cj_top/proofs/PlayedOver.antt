@@ -1,5 +1,5 @@
 -- A script over backends that begin.
-use Rattle.std.proofs.Common.{◌≡◌, ℕ, true, List, Option, subst}
+use Rattle.std.proofs.Common.{ℕ, Bool, true, List, Option, subst}
 use Rattle.cj_log.specs.declared.item.LogItem.{LogItem}
 use Rattle.cj_cluster.proofs.Standing.{between_none}
 use Rattle.cj_conf.specs.declared.conf.Conf.{Conf}
@@ -10,13 +10,13 @@ use Rattle.cj_top.specs.Configured.{BeginsAsConfigured}
 use Rattle.cj_top.specs.Scripted.{PlaysAsConfigured}
 
 -- what was played from there is what a script promises, and no session has begun there
-pub played_as_configured : (c : Conf) (found : List LogItem → Type 0) (left left' held held' : Option (List ℕ)) (ending : ScriptEnd) (first last : WorldState) → BeginsAsConfigured c found first → CameTo true true first.setup.names left left' held held' first ending last
-    → InTurns true first.setup.names left left' held held' first last → PlaysAsConfigured c found left left' held held' ending
-played_as_configured c found left left' held held' ending first last begins came turns = record {
+pub played_as_configured : (tells : Bool) (c : Conf) (found : List LogItem → Type 0) (left left' held held' : Option (List ℕ)) (ending : ScriptEnd) (first last : WorldState) → BeginsAsConfigured tells c found first → CameTo tells true first.setup.names left left' held held' first ending last
+    → InTurns tells first.setup.names left left' held held' first last → PlaysAsConfigured tells c found left left' held held' ending
+played_as_configured tells c found left left' held held' ending first last begins came turns = record {
   first = first;
   begins = begins;
   last = last;
-  came = subst (λ (s : Setup). CameTo true true s.names left left' held held' first ending last) begins.setup came;
+  came = subst (λ (s : Setup). CameTo tells true s.names left left' held held' first ending last) begins.setup came;
   fresh = λ s some. between_none first.core begins.starts.started.sessions s;
-  turns = subst (λ (s : Setup). InTurns true s.names left left' held held' first last) begins.setup turns;
+  turns = subst (λ (s : Setup). InTurns tells s.names left left' held held' first last) begins.setup turns;
 }

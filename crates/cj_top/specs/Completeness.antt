@@ -24,9 +24,9 @@ use Rattle.cj_desk.specs.SessionTranscripts.{bad_frame_reply}
 use Rattle.cj_script.specs.Script.{IsWrong, audit_line}
 use Rattle.cj_script.specs.declared.play.ScriptEnd.{ScriptEnd}
 use Rattle.cj_script.specs.declared.play.ScriptEnd.TheVariants as script_ends
-use Rattle.cj_top.specs.Configured.{served_conf}
-use Rattle.cj_top.specs.declared.words.Command.{Command}
-use Rattle.cj_top.specs.declared.words.Command.TheVariants.{Pipe, Script, Log}
+use Rattle.cj_top.specs.Configured.{in_memory}
+use Rattle.cj_words.specs.declared.asked.Command.{Command}
+use Rattle.cj_words.specs.declared.asked.Command.TheVariants.{Pipe, Script, Log, Gen}
 use Rattle.cj_top.specs.Program.{status_of_script, status_of_session}
 use Rattle.cj_top.specs.Runs.{AreConfBytes}
 
@@ -141,10 +141,10 @@ pub record PlaysInput (names : List (List ℕ)) (left : Option (List ℕ)) (endi
 
 -- ---- a command
 
--- `pipe` with this status; no reply says that backends failed, since those in memory never do
-pub record PipesInput (left held held' : Option (List ℕ)) (status : ℕ) : Type 0 where
+-- `pipe` with this status; no reply says that backends failed where all are in memory (`memory`), since those never do
+pub record PipesInput (memory : Bool) (left held held' : Option (List ℕ)) (status : ℕ) : Type 0 where
   pub ending : SessionEnd
-  pub answers : AnswersInput BlamesNobody left held held' ending
+  pub answers : AnswersInput (λ reply. memory ≡ true → BlamesNobody reply) left held held' ending
   pub status_is : status ≡ status_of_session ending
 
 -- `script` with this status, over backends of these names
@@ -162,10 +162,11 @@ ByConf Comes status (Err e) = status ≡ 3
 pub record ByStore (tells : Bool) (held : List ℕ) (Comes : Conf → Type 0) (status : ℕ) : Type 0 where
   pub bytes : List ℕ
   pub are : AreConfBytes tells held bytes
-  pub comes : ByConf Comes status (served_conf (conf_of bytes))
+  pub comes : ByConf Comes status (conf_of bytes)
 
 -- What a command comes to with this configuration where nothing failed, its log was opened and memory was not wanting. The input has `left`, and the output held `held`, and then `held'`.
 abbrev pub CompletesCommand : Command → (left held held' : Option (List ℕ)) (status : ℕ) → Conf → Type 0
-CompletesCommand Pipe left held held' status c = PipesInput left held held' status
-CompletesCommand Script left held held' status c = ScriptsInput c.placement.names left status
-CompletesCommand Log left held held' status c = status ≡ 0
+CompletesCommand (Pipe path) left held held' status c = PipesInput (in_memory c) left held held' status
+CompletesCommand (Script path) left held held' status c = ScriptsInput c.placement.names left status
+CompletesCommand (Log path) left held held' status c = status ≡ 0
+CompletesCommand (Gen path seed count) left held held' status c = status ≡ 2

@@ -1,7 +1,7 @@
 -- The command `pipe`: one session at a world of its own.
 use Rattle.std.specs.Prelude.{◌≡◌, ◌⊎◌, ℕ, ℤ, ◌+◌, ◌%◌, ◌^◌, ◌≤◌, Bool, true, List, [], All, length, replicate, sum, slice_index_or}
 use Rattle.std.specs.declared.option.Option.{Option}
-use Rattle.std.specs.declared.option.Option.TheVariants.{None, Some}
+use Rattle.std.specs.declared.option.Option.TheVariants.{None}
 use Rattle.rand_pcg.specs.Lcg.{Lcg}
 use Rattle.cj_outside.specs.Draws.{seeded, of_generator, generator_after}
 use Rattle.cj_cluster.specs.declared.session.SessionEnd.{SessionEnd}
@@ -21,7 +21,7 @@ use Rattle.cj_log.specs.declared.item.LogItem.{LogItem}
 use Rattle.cj_core.specs.Starts.{BackendState, StartsFrom}
 use Rattle.cj_top.specs.declared.piped.PipeError.{PipeError}
 use Rattle.cj_top.specs.declared.piped.PipeError.TheVariants as pipe_error
-use Rattle.cj_top.specs.Configured.{BeginsAsConfigured, new_backend}
+use Rattle.cj_top.specs.Configured.{BeginsAsConfigured, in_memory, new_backend}
 use Rattle.cj_place.specs.Layouts.{placement_of}
 use Rattle.cj_top.specs.Logs.{Found, RefusesLog}
 use Rattle.cj_top.specs.Program.{status_of_session}
@@ -63,18 +63,18 @@ abbrev pub RefusesPipe : {S : Type 0} → (S → ℕ) → S → Bool → List �
 RefusesPipe faults log tells held p backends (pipe_error.Start error) = RefusesLog faults log tells held error
 RefusesPipe faults log tells held p backends pipe_error.SessionsFull = HasNoSession (Found tells held) p backends
 
--- A session over new backends in memory, as the configuration has them, and over the log that was found, ended with this status.
-pub record RunsPipe (c : Conf) (found : List LogItem → Type 0) (moment : Option ℤ) (left left' held held' : Option (List ℕ)) (status : ℕ) : Type 0 where
+-- A session over new backends, as the configuration has them, and over the log that was found, ended with this status. `tells`: the backends are in memory, and tell what they hold.
+pub record RunsPipe (tells : Bool) (c : Conf) (found : List LogItem → Type 0) (moment : Option ℤ) (left left' held held' : Option (List ℕ)) (status : ℕ) : Type 0 where
   pub first : WorldState
-  pub begins : BeginsAsConfigured c found first
+  pub begins : BeginsAsConfigured tells c found first
   pub ending : SessionEnd
   pub last : WorldState
-  pub serves : ServesOneSession true c.seed moment left left' held held' first ending last
+  pub serves : ServesOneSession tells c.seed moment left left' held held' first ending last
   -- no reply says that backends failed: those in memory never do
-  pub blameless : All BlamesNobody serves.served.transcript.replies
+  pub blameless : tells ≡ true → All BlamesNobody serves.served.transcript.replies
   pub status_is : status ≡ status_of_session ending
 
 -- `pipe` with this configuration: a session ran, or the command stopped at its log, or no session can be opened. `Idle`: the input and the output were not touched; `Quiet`: nor were the errors.
 abbrev pub ComesByPipe : (c : Conf) (found : List LogItem → Type 0) (Stops : ℕ → Type 0) (Quiet : Type 0) (moment : Option ℤ) (left left' held held' : Option (List ℕ)) → ℕ → Type 0
 ComesByPipe c found Stops Quiet moment left left' held held' status =
-    RunsPipe c found moment left left' held held' status ⊎ Stops status ⊎ (status ≡ 12) × HasNoSession found (placement_of c.placement) (replicate (length c.placement.names) new_backend) × Quiet
+    RunsPipe (in_memory c) c found moment left left' held held' status ⊎ Stops status ⊎ (status ≡ 12) × HasNoSession found (placement_of c.placement) (replicate (length c.placement.names) (new_backend (in_memory c))) × Quiet

@@ -1,46 +1,16 @@
--- The words of commands, and the statuses that all of them share.
-use Rattle.std.specs.Prelude.{◌≡◌, ℕ, Bool, false, not, ◌&&◌, ◌==◌, List, [], ◌∷◌, codes, if◌then◌else◌, Result, Ok, Err}
+-- The statuses that all commands share, and the texts that are asked for.
+use Rattle.std.specs.Prelude.{◌≡◌, ◌⊎◌, ℕ, List, Result, Ok, Err}
 use Rattle.std.specs.declared.option.Option.{Option}
-use Rattle.std.specs.declared.option.Option.TheVariants.{None, Some}
-use Rattle.std.specs.Str.{bytes_eq}
+use Rattle.cj_outside.specs.Streams.{WritesAll}
 use Rattle.cj_outside.specs.declared.sink.OutError.{OutError}
 use Rattle.cj_outside.specs.declared.sink.OutError.TheVariants as out_errors
-use Rattle.cj_top.specs.declared.words.Command.{Command}
-use Rattle.cj_top.specs.declared.words.Command.TheVariants.{Pipe, Script, Log}
+use Rattle.cj_words.specs.Words.{Asks}
+use Rattle.cj_words.specs.declared.asked.Asked.TheVariants as asked
+use Rattle.cj_words.specs.declared.asked.Topic.{Topic}
 use Rattle.cj_cluster.specs.declared.session.SessionEnd.{SessionEnd}
 use Rattle.cj_cluster.specs.declared.session.SessionEnd.TheVariants as end
 use Rattle.cj_script.specs.declared.play.ScriptEnd.{ScriptEnd}
 use Rattle.cj_script.specs.declared.play.ScriptEnd.TheVariants as script_end
-
--- ---- words
-
--- a word that names a configuration: not empty, and no option
-abbrev pub names_file : List ℕ → Bool
-names_file [] = false
-names_file (first ∷ rest) = not (first == 45)
-
--- the command of this name, with the file of its configuration
-abbrev pub is_command : List ℕ → List (List ℕ) → Bool
-is_command name [] = false
-is_command name (command ∷ []) = false
-is_command name (command ∷ conf ∷ []) = bytes_eq command name && names_file conf
-is_command name (command ∷ conf ∷ more ∷ words) = false
-
--- `pipe CONF`
-abbrev pub is_pipe : List (List ℕ) → Bool
-is_pipe words = is_command (codes "pipe") words
-
--- `script CONF`
-abbrev pub is_script : List (List ℕ) → Bool
-is_script words = is_command (codes "script") words
-
--- `log CONF`
-abbrev pub is_log : List (List ℕ) → Bool
-is_log words = is_command (codes "log") words
-
--- the command that the words name
-abbrev pub command_of : List (List ℕ) → Option Command
-command_of words = if is_pipe words then Some Pipe else if is_script words then Some Script else if is_log words then Some Log else None
 
 -- ---- statuses
 
@@ -64,8 +34,21 @@ status_of_script script_end.WriteFault = 6
 status_of_script script_end.Spent = 11
 status_of_script script_end.NoMemory = 1
 
--- of a listing
+-- of a listing or a text
 abbrev pub status_of_listing : Result (Unit {0}) OutError → ℕ
 status_of_listing (Ok _) = 0
 status_of_listing (Err out_errors.Failed) = 6
 status_of_listing (Err out_errors.NoMemory) = 1
+
+-- ---- texts
+
+-- the words ask for help or the version
+abbrev pub AsksForText : List (List ℕ) → Type 0
+AsksForText words = ((topic : Topic) × Asks words (asked.Help topic)) ⊎ Asks words asked.Version
+
+-- A text was written; where the output failed in it or memory was wanting, the status says so.
+pub record WritesText (held held' : Option (List ℕ)) (status : ℕ) : Type 0 where
+  pub text : List ℕ
+  pub answer : Result (Unit {0}) OutError
+  pub bytes : WritesAll held held' text answer
+  pub status_is : status ≡ status_of_listing answer

@@ -6,9 +6,8 @@ use Rattle.cj_conf.specs.declared.error.ConfError.{ConfError}
 use Rattle.cj_conf.specs.Confs.{conf_of}
 use Rattle.std.specs.declared.option.Option.{Option}
 use Rattle.cj_log.specs.declared.item.LogItem.{LogItem}
-use Rattle.cj_top.specs.declared.words.Command.{Command}
-use Rattle.cj_top.specs.declared.words.Command.TheVariants.{Pipe, Script, Log}
-use Rattle.cj_top.specs.Configured.{served_conf}
+use Rattle.cj_words.specs.declared.asked.Command.{Command}
+use Rattle.cj_words.specs.declared.asked.Command.TheVariants.{Pipe, Script, Log, Gen}
 use Rattle.cj_top.specs.Listed.{ComesByLog}
 use Rattle.cj_top.specs.Piped.{ComesByPipe}
 use Rattle.cj_top.specs.Scripted.{ComesByScript}
@@ -23,7 +22,7 @@ pub record RefusesConf (tells : Bool) (held : List ℕ) (Tells : ConfError → T
   pub bytes : List ℕ
   pub are : AreConfBytes tells held bytes
   pub error : ConfError
-  pub refused : served_conf (conf_of bytes) ≡ Err error
+  pub refused : conf_of bytes ≡ Err error
   pub told : Tells error
   pub idle : Idle
   pub status_is : status ≡ 3
@@ -33,7 +32,7 @@ pub record RunsConfigured (tells : Bool) (held : List ℕ) (Runs : Conf → Type
   pub bytes : List ℕ
   pub are : AreConfBytes tells held bytes
   pub conf : Conf
-  pub accepted : served_conf (conf_of bytes) ≡ Ok conf
+  pub accepted : conf_of bytes ≡ Ok conf
   pub runs : Runs conf
 
 -- The configuration's store failed or memory was wanting, and nothing else was touched (`Quiet`); or the configuration was refused, and the input and the output were not touched (`Idle`); or the command ran.
@@ -43,6 +42,8 @@ RunsCommand tells held Tells Idle Quiet Runs status =
 
 -- What a command comes to with this configuration, over the log that was found. `Stops` says how it stops at its log, and `Quiet` that nothing was touched; `before` and `now` are the errors' counts of faults.
 abbrev pub ComesBy : Command → (c : Conf) (found : List LogItem → Type 0) (Stops : ℕ → Type 0) (Quiet : Type 0) (moment : Option ℤ) (left left' held held' errors errors' : Option (List ℕ)) (before now : ℕ) → ℕ → Type 0
-ComesBy Pipe c found Stops Quiet moment left left' held held' errors errors' before now status = ComesByPipe c found Stops Quiet moment left left' held held' status
-ComesBy Script c found Stops Quiet moment left left' held held' errors errors' before now status = ComesByScript c found Stops left left' held held' errors errors' before now status
-ComesBy Log c found Stops Quiet moment left left' held held' errors errors' before now status = ComesByLog c found Stops held held' status
+ComesBy (Pipe path) c found Stops Quiet moment left left' held held' errors errors' before now status = ComesByPipe c found Stops Quiet moment left left' held held' status
+ComesBy (Script path) c found Stops Quiet moment left left' held held' errors errors' before now status = ComesByScript c found Stops left left' held held' errors errors' before now status
+ComesBy (Log path) c found Stops Quiet moment left left' held held' errors errors' before now status = ComesByLog c found Stops held held' status
+-- there is no workload yet
+ComesBy (Gen path seed count) c found Stops Quiet moment left left' held held' errors errors' before now status = (status ≡ 2) × Quiet

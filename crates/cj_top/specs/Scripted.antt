@@ -1,5 +1,5 @@
 -- The command `script`: how far its script came over the backends of a configuration, and with which status.
-use Rattle.std.specs.Prelude.{◌≡◌, ◌⊎◌, ℕ, ◌<◌, true, List, [], ◌∷◌, codes, Result, IsErrOf}
+use Rattle.std.specs.Prelude.{◌≡◌, ◌⊎◌, ℕ, ◌<◌, Bool, true, List, [], ◌∷◌, codes, Result, IsErrOf}
 use Rattle.std.specs.declared.option.Option.{Option}
 use Rattle.std.specs.Fmt.{decimal}
 use Rattle.cj_outside.specs.Causes.{CountsFault}
@@ -14,7 +14,7 @@ use Rattle.cj_state.specs.Worlds.{WorldState}
 use Rattle.cj_script.specs.Script.{CameTo, InTurns}
 use Rattle.cj_script.specs.declared.play.ScriptEnd.{ScriptEnd}
 use Rattle.cj_script.specs.declared.play.ScriptEnd.TheVariants as end
-use Rattle.cj_top.specs.Configured.{BeginsAsConfigured}
+use Rattle.cj_top.specs.Configured.{BeginsAsConfigured, in_memory}
 use Rattle.cj_top.specs.Program.{status_of_script}
 
 -- the line that names a line of the script
@@ -32,20 +32,20 @@ abbrev pub NamesLine : (errors errors' : Option (List ℕ)) → (before now : �
 NamesLine errors errors' before now (end.Line number) = WritesName errors errors' before now number
 NamesLine errors errors' before now ending = (errors' ≡ errors) × (now ≡ before)
 
--- A script over new backends in memory, as the configuration has them, and over the log that was found, came to this end. The replies to each session in it are a chain of turns of one database, from where it has seen the start and needs no entry.
-pub record PlaysAsConfigured (c : Conf) (found : List LogItem → Type 0) (left left' held held' : Option (List ℕ)) (ending : ScriptEnd) : Type 0 where
+-- A script over new backends, as the configuration has them, and over the log that was found, came to this end; `tells`: the backends are in memory, and tell what they hold. The replies to each session in it are a chain of turns of one database, from where it has seen the start and needs no entry.
+pub record PlaysAsConfigured (tells : Bool) (c : Conf) (found : List LogItem → Type 0) (left left' held held' : Option (List ℕ)) (ending : ScriptEnd) : Type 0 where
   pub first : WorldState
-  pub begins : BeginsAsConfigured c found first
+  pub begins : BeginsAsConfigured tells c found first
   pub last : WorldState
-  pub came : CameTo true true c.placement.names left left' held held' first ending last
+  pub came : CameTo tells true c.placement.names left left' held held' first ending last
   pub fresh : (s : ℕ) → 0 < s → IsBetweenReplies (record { front = first.core.history; least = 0 }) first.core s
-  pub turns : InTurns true c.placement.names left left' held held' first last
+  pub turns : InTurns tells c.placement.names left left' held held' first last
 
 -- A run of `script` with this status; `before` and `now` are the errors' counts of faults. Where the input or an output tells nothing, this says nothing of its bytes.
 pub record RunsScript (c : Conf) (found : List LogItem → Type 0) (left left' held held' errors errors' : Option (List ℕ)) (before now status : ℕ) : Type 0 where
   pub ending : ScriptEnd
   pub status_is : status ≡ status_of_script ending
-  pub played : PlaysAsConfigured c found left left' held held' ending
+  pub played : PlaysAsConfigured (in_memory c) c found left left' held held' ending
   pub named : NamesLine errors errors' before now ending
 
 -- `script` with this configuration: the script ran, or the command stopped at its log

@@ -1,27 +1,28 @@
 //! What a command is configured with.
 
-ghost use Rattle.std.specs.Prelude.{◌≡◌, ◌++◌, ◌∷◌, ℕ, List, [], codes, string_bytes, replicate, IfOk, IsErrOf, Ok, Err};
+ghost use Rattle.std.specs.Prelude.{◌≡◌, ◌++◌, ◌∷◌, ℕ, List, [], codes, map, string_bytes, replicate, IfOk, IsErrOf, Ok, Err};
 ghost use Rattle.std.specs.Fmt.{decimal};
-ghost use Rattle.std.specs.List.{list_any};
+ghost use Rattle.std.specs.List.{list_all};
 ghost use Rattle.cj_model.specs.Cluster.Caching.{empty_cache};
 ghost use Rattle.cj_cluster.specs.Script.Lines.{words};
 ghost use Rattle.cj_outside.specs.Causes.{CountsFault};
 ghost use Rattle.cj_flaky.specs.FlakyBackends.{fresh_over};
 ghost use Rattle.cj_mem.specs.MemoryBackends.{fresh_state};
 ghost use Rattle.cj_conf.specs.Confs.{IsUsable, conf_of};
-ghost use Rattle.cj_conf.specs.Refusals.{Gives};
 ghost use Rattle.cj_conf.specs.declared.error.ConfError.{ConfError};
 ghost use Rattle.cj_top.specs.Configured as configured;
-ghost use Rattle.cj_top.specs.Configured.{WritesRefusal, refusal_line, served_conf};
+ghost use Rattle.cj_top.specs.Configured.{WritesRefusal, refusal_line};
 ghost use Rattle.cj_top.specs.Runs.{AreConfBytes};
 ghost use Rattle.cj_top.specs.declared.configured.Unconfigured.TheVariants as unconfigured;
 
+use cj_backend::Backend;
 use cj_balance::Balancer;
 use cj_book::BookParts;
 use cj_cache::Cache;
-use cj_conf::{BackendKind, Conf, ConfError, Key, read_conf};
+use cj_conf::{BackendKind, Conf, ConfError, read_conf};
 use cj_core::{Backends, Parts};
 use cj_flaky::Flaky;
+use cj_lite::{AnyBackend, LiteBackend};
 use cj_mem::MemBackend;
 use cj_model::{ListOf, NoMemory};
 use cj_outside::{OutError, Sink, Store, StoreReadError, read_store, write_all};
@@ -36,28 +37,17 @@ pub enum Unconfigured {
     NoMemory,
 }
 
-fn has_sqlite(kinds: &[BackendKind]) -> bool
-    ensures { result ≡ list_any configured.is_sqlite kinds.now }
+/// Whether all are in memory.
+pub fn are_in_memory(kinds: &[BackendKind]) -> bool
+    ensures { result ≡ list_all configured.is_memory kinds.now }
 {
-    kinds.iter().any(|kind| matches!(kind, BackendKind::Sqlite))
-}
-
-/// The configuration that the bytes give. One with a backend of the kind `sqlite` is refused, which isn't served yet.
-fn conf_in(alloc: Global, bytes: &[u8]) -> Result<Conf, ConfError>
-    ensures conf { Gives (served_conf (conf_of bytes.now)) result }
-    ensures usable { IfOk result IsUsable }
-{
-    let conf = read_conf(alloc, bytes)?;
-    if has_sqlite(conf.kinds.as_slice()) {
-        return Err(ConfError::Range(Key::Kind));
-    }
-    Ok(conf)
+    kinds.iter().all(|kind| matches!(kind, BackendKind::Memory))
 }
 
 /// The configuration that the store holds.
 pub fn conf_of<F: Store>(alloc: Global, store: &mut F) -> Result<Conf, Unconfigured>
-    ensures accepted { IfOk result (λ conf. (bytes : List ℕ) × AreConfBytes F.TELLS (F.held store.old) bytes × (served_conf (conf_of bytes) ≡ Ok conf)) }
-    ensures refused { (e : ConfError) → IsErrOf result (unconfigured.Refused e) → (bytes : List ℕ) × AreConfBytes F.TELLS (F.held store.old) bytes × (served_conf (conf_of bytes) ≡ Err e) }
+    ensures accepted { IfOk result (λ conf. (bytes : List ℕ) × AreConfBytes F.TELLS (F.held store.old) bytes × (conf_of bytes ≡ Ok conf)) }
+    ensures refused { (e : ConfError) → IsErrOf result (unconfigured.Refused e) → (bytes : List ℕ) × AreConfBytes F.TELLS (F.held store.old) bytes × (conf_of bytes ≡ Err e) }
     ensures usable { IfOk result IsUsable }
     ensures cause { CountsFault (IsErrOf result unconfigured.Failed) (F.faults store.old) (F.faults store.new) }
 {
@@ -66,7 +56,7 @@ pub fn conf_of<F: Store>(alloc: Global, store: &mut F) -> Result<Conf, Unconfigu
         Err(StoreReadError::Failed) => return Err(Unconfigured::Failed),
         Err(StoreReadError::NoMemory) => return Err(Unconfigured::NoMemory),
     };
-    match conf_in(alloc, &bytes) {
+    match read_conf(alloc, &bytes) {
         Ok(conf) => Ok(conf),
         Err(ConfError::NoMemory) => Err(Unconfigured::NoMemory),
         Err(error) => Err(Unconfigured::Refused(error)),
@@ -111,15 +101,39 @@ pub fn memory_backends(alloc: Global, count: u8) -> Result<Backends<MemBackend>,
     Ok(backends)
 }
 
-/// So many empty backends in memory that can be armed.
-pub fn flaky_backends(alloc: Global, count: u8) -> Result<Backends<Flaky<MemBackend>>, NoMemory>
-    ensures { IfOk result (λ backends. backends ≡ replicate count (fresh_over fresh_state [])) }
+/// An empty backend of the kind.
+fn any_backend(alloc: Global, kind: BackendKind) -> Result<AnyBackend, NoMemory>
+    ensures { IfOk result (λ backend. backend ≡ configured.new_of kind) }
+{
+    match kind {
+        BackendKind::Memory => Ok(AnyBackend::Mem(MemBackend::new(alloc))),
+        BackendKind::Sqlite => Ok(AnyBackend::Lite(LiteBackend::open(alloc)?)),
+    }
+}
+
+/// An empty backend of each kind, in this order.
+pub fn any_backends(alloc: Global, kinds: &[BackendKind]) -> Result<Backends<AnyBackend>, NoMemory>
+    ensures { IfOk result (λ backends. backends ≡ map configured.new_of kinds.now) }
 {
     let mut backends = Backends::new(alloc);
-    for _ in 0..count {
-        backends.push(Flaky::new(MemBackend::new(alloc), ListOf::new(alloc)))?;
+    for kind in kinds {
+        backends.push(any_backend(alloc, *kind)?)?;
     }
     Ok(backends)
+}
+
+/// The backends, each so that it can be armed.
+pub fn flaky<B: Backend + Drop>(
+    alloc: Global,
+    backends: Backends<B>,
+) -> Result<Backends<Flaky<B>>, NoMemory>
+    ensures { IfOk result (λ over. over ≡ map (λ b. fresh_over b []) backends) }
+{
+    let mut over = Backends::new(alloc);
+    for backend in backends.into_vec() {
+        over.push(Flaky::new(backend, ListOf::new(alloc)))?;
+    }
+    Ok(over)
 }
 
 // ---- how it is refused

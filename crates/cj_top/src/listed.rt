@@ -30,7 +30,7 @@ fn items_found<S: Store + Drop>(alloc: Global, store: S) -> Result<LogItems, Sta
     }
 }
 
-fn status_of_listing(answer: Result<(), OutError>) -> u8
+pub fn status_of_listing(answer: Result<(), OutError>) -> u8
     ensures status { result ≡ top.status_of_listing answer }
     ensures write_fault { (result ≡ 6) ↔ (answer ≡ Err out_errors.Failed) }
 {

@@ -16,12 +16,12 @@ ghost use Rattle.cj_core.specs.QuietCalls.{BlamesNobody};
 ghost use Rattle.cj_core.specs.Starts.{HaveBegunNone, StartsFrom, state_by};
 ghost use Rattle.cj_place.specs.Layouts.{placement_of};
 ghost use Rattle.cj_top.specs.Completeness.{AnswersInput, CountNoFaults, CountsNoFault};
-ghost use Rattle.cj_top.specs.Configured.{new_backend};
+ghost use Rattle.cj_top.specs.Configured.{in_memory, new_backend};
 ghost use Rattle.cj_top.specs.Logs.{Found};
 ghost use Rattle.cj_top.specs.Piped.{RefusesPipe, RunsPipe, ServesOneSession};
 ghost use Rattle.cj_top.specs.Program as top;
 
-use crate::configured::{memory_backends, parts_of};
+use crate::configured::{any_backends, are_in_memory, memory_backends, parts_of};
 use cj_backend::Backend;
 use cj_book::StartError;
 use cj_cluster::SessionEnd;
@@ -137,17 +137,24 @@ pub fn run_pipe<S: Store + Drop, I: Source, O: Sink, C: Clock>(
 ) -> Result<u8, PipeError>
     requires usable { IsUsable conf }
     requires disk { S.TELLS ≡ true → Only (S.held log) (S.may log) }
-    ensures runs { IfOk result (λ status. RunsPipe conf (Found S.TELLS (S.held log)) (C.moment clock.now) (I.left input.old) (I.left input.new) (O.held output.old) (O.held output.new) status) }
-    ensures refused { IfErr result (RefusesPipe S.faults log S.TELLS (S.held log) (placement_of conf.placement) (replicate (length conf.placement.names) new_backend)) }
+    ensures runs { IfOk result (λ status. RunsPipe (in_memory conf) conf (Found S.TELLS (S.held log)) (C.moment clock.now) (I.left input.old) (I.left input.new) (O.held output.old) (O.held output.new) status) }
+    ensures refused { IfErr result (RefusesPipe S.faults log S.TELLS (S.held log) (placement_of conf.placement) (replicate (length conf.placement.names) (new_backend (in_memory conf)))) }
     ensures unserved { OnErr result ((input.new ≡ input.old) × (output.new ≡ output.old)) }
     ensures input { CountsFault (result ≡ Ok 5) (I.faults input.old) (I.faults input.new) }
     ensures output { CountsFault (result ≡ Ok 6) (O.faults output.old) (O.faults output.new) }
 {
-    let Ok(backends) = memory_backends(alloc, conf.placement.count()) else {
+    if are_in_memory(conf.kinds.as_slice()) {
+        let Ok(backends) = memory_backends(alloc, conf.placement.count()) else {
+            return Err(PipeError::Start(StartError::NoMemory));
+        };
+        let (end, world) = pipe(alloc, conf, log, backends, input, output, clock)?;
+        // What is given up shows that none of them has counted a fault.
+        let _backends = world.into_backends();
+        return Ok(status_of_session(end));
+    }
+    let Ok(backends) = any_backends(alloc, conf.kinds.as_slice()) else {
         return Err(PipeError::Start(StartError::NoMemory));
     };
-    let (end, world) = pipe(alloc, conf, log, backends, input, output, clock)?;
-    // What is given up shows that none of them has counted a fault.
-    let _backends = world.into_backends();
+    let (end, _world) = pipe(alloc, conf, log, backends, input, output, clock)?;
     Ok(status_of_session(end))
 }

@@ -1,6 +1,6 @@
 //! The top call.
 
-ghost use Rattle.std.specs.Prelude.{◌≡◌, ◌≢◌, ◌⊎◌, true, None, Some, map, string_bytes};
+ghost use Rattle.std.specs.Prelude.{◌≡◌, ◌≢◌, ◌⊎◌, ℕ, List, true, map, string_bytes};
 ghost use Rattle.cj_outside.specs.Causes.{CountsFault, next};
 ghost use Rattle.cj_outside.specs.Stores.{Only};
 ghost use Rattle.cj_conf.specs.Confs.{IsUsable};
@@ -9,19 +9,22 @@ ghost use Rattle.cj_top.specs.Configured.{WritesRefusal};
 ghost use Rattle.cj_top.specs.Listed.{ComesByLog};
 ghost use Rattle.cj_top.specs.Logs.{Found, HasFailed, RefusesLog, StopsAtLog, TellsRefusal};
 ghost use Rattle.cj_top.specs.Piped.{ComesByPipe};
-ghost use Rattle.cj_top.specs.Program as top;
+ghost use Rattle.cj_top.specs.Program.{AsksForText, WritesText};
 ghost use Rattle.cj_top.specs.Runs.{ComesBy, RunsCommand};
 ghost use Rattle.cj_top.specs.Scripted.{ComesByScript};
-ghost use Rattle.cj_top.specs.declared.words.Command.{Command};
+ghost use Rattle.cj_words.specs.Words.{Asks, Says};
+ghost use Rattle.cj_words.specs.declared.asked.Asked.{Asked};
+ghost use Rattle.cj_words.specs.declared.asked.Command.{Command};
 
 use crate::configured::{Unconfigured, conf_of, tell_refusal};
-use crate::listed::run_log;
+use crate::listed::{run_log, status_of_listing};
 use crate::piped::{PipeError, run_pipe};
 use crate::refused::stop_at_log;
 use crate::scripted::run_script;
-use crate::words::{Command, command_of};
 use cj_conf::Conf;
-use cj_outside::{Clock, Sink, Source, Store};
+use cj_model::NoMemory;
+use cj_outside::{Clock, Sink, Source, Store, write_all};
+use cj_words::{Asked, Command, help_text, read, version_text};
 use std::alloc::Global;
 
 /// The command `pipe`; what stops at the log is told.
@@ -110,16 +113,67 @@ fn run_configured<S: Store + Drop, I: Source, O: Sink, E: Sink, C: Clock>(
     requires disk { S.TELLS ≡ true → Only (S.held log) (S.may log) }
     ensures comes { ComesBy command conf (Found S.TELLS (S.held log)) (StopsAtLog (RefusesLog S.faults log S.TELLS (S.held log)) (TellsRefusal (E.held errors.old) (E.held errors.new) (E.faults errors.old) (E.faults errors.new)) ((input.new ≡ input.old) × (output.new ≡ output.old)))
         ((input.new ≡ input.old) × (output.new ≡ output.old) × (errors.new ≡ errors.old)) (C.moment clock.now) (I.left input.old) (I.left input.new) (O.held output.old) (O.held output.new) (E.held errors.old) (E.held errors.new) (E.faults errors.old) (E.faults errors.new) result }
-    ensures unread { command ≡ Command.Log → input.new ≡ input.old }
+    ensures unread { (path : List ℕ) → command ≡ Command.Log path → input.new ≡ input.old }
     ensures quiet { result ≢ 8 → result ≢ 10 → errors.new ≡ errors.old }
     ensures log { (result ≡ 7) × HasFailed S.faults log ⊎ (result ≢ 7) }
     ensures input { CountsFault (result ≡ 5) (I.faults input.old) (I.faults input.new) }
     ensures output { CountsFault (result ≡ 6) (O.faults output.old) (O.faults output.new) }
 {
     match command {
-        Command::Pipe => pipe_command(alloc, conf, log, input, output, errors, clock),
-        Command::Script => script_command(alloc, conf, log, input, output, errors),
-        Command::Log => log_command(alloc, conf, log, output, errors),
+        Command::Pipe { .. } => pipe_command(alloc, conf, log, input, output, errors, clock),
+        Command::Script { .. } => script_command(alloc, conf, log, input, output, errors),
+        Command::Log { .. } => log_command(alloc, conf, log, output, errors),
+        // There is no workload yet.
+        Command::Gen { .. } => 2,
+    }
+}
+
+/// The command, with the configuration that its store holds.
+fn run_command<F: Store, S: Store + Drop, I: Source, O: Sink, E: Sink, C: Clock>(
+    alloc: Global,
+    command: Command,
+    conf: &mut F,
+    log: S,
+    input: &mut I,
+    output: &mut O,
+    errors: &mut E,
+    clock: &C,
+) -> u8
+    requires { S.TELLS ≡ true → Only (S.held log) (S.may log) }
+    ensures runs { RunsCommand F.TELLS (F.held conf.old) (WritesRefusal (E.held errors.old) (E.held errors.new) (E.faults errors.old) (E.faults errors.new)) ((input.new ≡ input.old) × (output.new ≡ output.old)) ((input.new ≡ input.old) × (output.new ≡ output.old) × (errors.new ≡ errors.old))
+        (λ c. ComesBy command c (Found S.TELLS (S.held log)) (StopsAtLog (RefusesLog S.faults log S.TELLS (S.held log)) (TellsRefusal (E.held errors.old) (E.held errors.new) (E.faults errors.old) (E.faults errors.new)) ((input.new ≡ input.old) × (output.new ≡ output.old)))
+        ((input.new ≡ input.old) × (output.new ≡ output.old) × (errors.new ≡ errors.old)) (C.moment clock.now) (I.left input.old) (I.left input.new) (O.held output.old) (O.held output.new) (E.held errors.old) (E.held errors.new) (E.faults errors.old) (E.faults errors.new) result) result }
+    ensures unread { (path : List ℕ) → command ≡ Command.Log path → input.new ≡ input.old }
+    ensures quiet { result ≢ 3 → result ≢ 8 → result ≢ 10 → errors.new ≡ errors.old }
+    ensures stores { (result ≡ 7) × (F.faults conf.new ≡ next (F.faults conf.old)) ⊎ (result ≡ 7) × HasFailed S.faults log × (F.faults conf.new ≡ F.faults conf.old) ⊎ (result ≢ 7) × (F.faults conf.new ≡ F.faults conf.old) }
+    ensures input { CountsFault (result ≡ 5) (I.faults input.old) (I.faults input.new) }
+    ensures output { CountsFault (result ≡ 6) (O.faults output.old) (O.faults output.new) }
+    ensures complete { CountsNoFault (F.faults conf.old) (F.faults conf.new) → CountsNoFault (I.faults input.old) (I.faults input.new) → CountsNoFault (O.faults output.old) (O.faults output.new) → result ≢ 1 → result ≢ 7 → result ≢ 8 → result ≢ 12 →
+        ByStore F.TELLS (F.held conf.old) (CompletesCommand command (I.left input.old) (O.held output.old) (O.held output.new) result) result }
+{
+    let configured = match conf_of(alloc, conf) {
+        Ok(configured) => configured,
+        Err(Unconfigured::Failed) => return 7,
+        Err(Unconfigured::NoMemory) => return 1,
+        Err(Unconfigured::Refused(error)) => {
+            tell_refusal(alloc, &error, errors);
+            return 3;
+        }
+    };
+    run_configured(
+        alloc, command, configured, log, input, output, errors, clock,
+    )
+}
+
+/// Writes the text; the answer is the exit status.
+fn write_text<O: Sink>(text: Result<String, NoMemory>, output: &mut O) -> u8
+    ensures writes { WritesText (O.held output.old) (O.held output.new) result }
+    ensures output { CountsFault (result ≡ 6) (O.faults output.old) (O.faults output.new) }
+    ensures other { result ≢ 5 × result ≢ 7 }
+{
+    match text {
+        Ok(text) => status_of_listing(write_all(output, text.as_bytes())),
+        Err(_) => 1,
     }
 }
 
@@ -138,7 +192,8 @@ fn run_configured<S: Store + Drop, I: Source, O: Sink, E: Sink, C: Clock>(
 ///
 /// Of all, 3 where the configuration is refused, which is then told to `errors` where that can be done; 5 and 6 where the
 /// input and the output failed, 7 where the configuration's store or the log's did, 11 where 2^62 bytes were taken, 1 for want of memory.
-/// With other words the answer is 2, and nothing is touched.
+/// `--help`, alone or behind the word of a command, and `--version` write their text: 0 where it was written whole.
+/// With other words the answer is 2, and nothing is touched. It is also 2 for `gen`, whose workload is not there yet.
 pub fn run<F: Store, S: Store + Drop, I: Source, O: Sink, E: Sink, C: Clock>(
     alloc: Global,
     words: &[String],
@@ -150,12 +205,13 @@ pub fn run<F: Store, S: Store + Drop, I: Source, O: Sink, E: Sink, C: Clock>(
     clock: &C,
 ) -> u8
     requires { S.TELLS ≡ true → Only (S.held log) (S.may log) }
-    ensures runs { (command : Command) → top.command_of (map string_bytes words.now) ≡ Some command → RunsCommand F.TELLS (F.held conf.old)
+    ensures runs { (command : Command) → Says (map string_bytes words.now) command → RunsCommand F.TELLS (F.held conf.old)
         (WritesRefusal (E.held errors.old) (E.held errors.new) (E.faults errors.old) (E.faults errors.new)) ((input.new ≡ input.old) × (output.new ≡ output.old)) ((input.new ≡ input.old) × (output.new ≡ output.old) × (errors.new ≡ errors.old))
         (λ c. ComesBy command c (Found S.TELLS (S.held log)) (StopsAtLog (RefusesLog S.faults log S.TELLS (S.held log)) (TellsRefusal (E.held errors.old) (E.held errors.new) (E.faults errors.old) (E.faults errors.new)) ((input.new ≡ input.old) × (output.new ≡ output.old)))
         ((input.new ≡ input.old) × (output.new ≡ output.old) × (errors.new ≡ errors.old)) (C.moment clock.now) (I.left input.old) (I.left input.new) (O.held output.old) (O.held output.new) (E.held errors.old) (E.held errors.new) (E.faults errors.old) (E.faults errors.new) result) result }
-    ensures unread { top.command_of (map string_bytes words.now) ≡ Some Command.Log → input.new ≡ input.old }
-    ensures other { top.command_of (map string_bytes words.now) ≡ None → (result ≡ 2) × (conf.new ≡ conf.old) × (input.new ≡ input.old) × (output.new ≡ output.old) × (errors.new ≡ errors.old) }
+    ensures unread { (path : List ℕ) → Says (map string_bytes words.now) (Command.Log path) → input.new ≡ input.old }
+    ensures text { AsksForText (map string_bytes words.now) → WritesText (O.held output.old) (O.held output.new) result × (conf.new ≡ conf.old) × (input.new ≡ input.old) × (errors.new ≡ errors.old) }
+    ensures other { ((asked : Asked) → Asks (map string_bytes words.now) asked → ⊥) → (result ≡ 2) × (conf.new ≡ conf.old) × (input.new ≡ input.old) × (output.new ≡ output.old) × (errors.new ≡ errors.old) }
     ensures quiet { result ≢ 3 → result ≢ 8 → result ≢ 10 → errors.new ≡ errors.old }
 
     // Each counted a fault exactly where its status says so: 7 is that of the configuration's store and of the log's. What the errors counted
@@ -166,22 +222,16 @@ pub fn run<F: Store, S: Store + Drop, I: Source, O: Sink, E: Sink, C: Clock>(
 
     // Where none of them did, the log was opened and a session can be, and memory was not wanting, the bytes of the configuration and of
     // the input fix the status.
-    ensures complete { (command : Command) → top.command_of (map string_bytes words.now) ≡ Some command → CountsNoFault (F.faults conf.old) (F.faults conf.new) → CountsNoFault (I.faults input.old) (I.faults input.new) → CountsNoFault (O.faults output.old) (O.faults output.new) → result ≢ 1 → result ≢ 7 → result ≢ 8 → result ≢ 12 →
+    ensures complete { (command : Command) → Says (map string_bytes words.now) command → CountsNoFault (F.faults conf.old) (F.faults conf.new) → CountsNoFault (I.faults input.old) (I.faults input.new) → CountsNoFault (O.faults output.old) (O.faults output.new) → result ≢ 1 → result ≢ 7 → result ≢ 8 → result ≢ 12 →
         ByStore F.TELLS (F.held conf.old) (CompletesCommand command (I.left input.old) (O.held output.old) (O.held output.new) result) result }
 {
-    let Some(command) = command_of(words) else {
-        return 2;
-    };
-    let configured = match conf_of(alloc, conf) {
-        Ok(configured) => configured,
-        Err(Unconfigured::Failed) => return 7,
-        Err(Unconfigured::NoMemory) => return 1,
-        Err(Unconfigured::Refused(error)) => {
-            tell_refusal(alloc, &error, errors);
-            return 3;
+    match read(alloc, words) {
+        Ok(Some(Asked::Command(command))) => {
+            run_command(alloc, command, conf, log, input, output, errors, clock)
         }
-    };
-    run_configured(
-        alloc, command, configured, log, input, output, errors, clock,
-    )
+        Ok(Some(Asked::Help(topic))) => write_text(help_text(alloc, topic), output),
+        Ok(Some(Asked::Version)) => write_text(version_text(alloc), output),
+        Ok(None) => 2,
+        Err(NoMemory) => 1,
+    }
 }

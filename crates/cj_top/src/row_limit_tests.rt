@@ -1,13 +1,13 @@
-//! The most rows of a table, by a script of one session over two backends.
+//! The most rows of a table, by a script of one session over a SQLite database and a backend in memory.
 
-use crate::tests::{C1, Handed};
+use crate::tests::{Handed, MIXED};
 use std::alloc::Global;
 use std::process::Abort;
 use std::test::Fail;
 
 /// What `script` writes where its input is this.
 fn played(alloc: Global, script: &str) -> Result<Vec<u8>, Fail> {
-    let mut handed = Handed::of(alloc, C1, script.as_bytes())?;
+    let mut handed = Handed::of(alloc, MIXED, script.as_bytes())?;
     let _status = handed.run(alloc, "script c1.toml")?;
     Ok(handed.output().to_vec(alloc)?)
 }

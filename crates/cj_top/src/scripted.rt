@@ -1,40 +1,43 @@
-//! A script over backends in memory.
+//! A script over backends that can be armed.
 
-ghost use Rattle.std.specs.Prelude.{◌≡◌, ◌↔◌, ◌≢◌, true, IfErr, IfOk, IsErrOf, Ok, OnErr, string_bytes};
+ghost use Rattle.std.specs.Prelude.{◌≡◌, ◌↔◌, ◌≢◌, true, length, map, IfErr, IfOk, IsErrOf, Ok, OnErr, string_bytes};
 ghost use Rattle.cj_conf.specs.Confs.{IsUsable};
 ghost use Rattle.cj_outside.specs.Causes.{CountsFault};
 ghost use Rattle.cj_outside.specs.Streams.{WritesAll};
 ghost use Rattle.cj_script.specs.declared.play.ScriptEnd.TheVariants as ends;
 ghost use Rattle.cj_top.specs.Completeness.{CountsNoFault, PlaysInput};
 ghost use Rattle.cj_outside.specs.Stores.{Only};
-ghost use Rattle.cj_top.specs.Configured.{BeginsAsConfigured};
+ghost use Rattle.cj_core.specs.Starts.{state_by};
+ghost use Rattle.cj_top.specs.Configured.{AreNew, BeginsAsConfigured, in_memory};
 ghost use Rattle.cj_top.specs.Logs.{Found, RefusesLog};
 ghost use Rattle.cj_top.specs.Program as top;
 ghost use Rattle.cj_top.specs.Scripted.{NamesLine, PlaysAsConfigured, RunsScript, line_text};
 
-use crate::configured::{flaky_backends, parts_of};
+use crate::configured::{any_backends, are_in_memory, flaky, memory_backends, parts_of};
+use cj_backend::Backend;
 use cj_book::StartError;
 use cj_conf::Conf;
-use cj_core::World;
+use cj_core::{Backends, World};
 use cj_flaky::Flaky;
-use cj_mem::MemBackend;
 use cj_model::NoMemory;
 use cj_outside::{OutError, Sink, Source, Store, write_all};
 use cj_script::{ScriptEnd, script};
 use std::alloc::Global;
 
-/// A world of backends in memory that can be armed, as the configuration has them, over the log.
-fn flaky_world<S: Store + Drop>(
+/// A world of these new backends, each so that it can be armed, as the configuration has them, over the log.
+fn flaky_world<B: Backend + Drop, S: Store + Drop>(
     alloc: Global,
     conf: Conf,
     log: S,
-) -> Result<World<Flaky<MemBackend>, S>, StartError>
+    backends: Backends<B>,
+) -> Result<World<Flaky<B>, S>, StartError>
     requires usable { IsUsable conf }
+    requires new { AreNew B.TELLS (length conf.placement.names) (map (state_by B.told B.faults B.asks B.login B.arming) backends) (map B.begun backends) }
     requires disk { S.TELLS ≡ true → Only (S.held log) (S.may log) }
-    ensures begins { IfOk result (BeginsAsConfigured conf (Found S.TELLS (S.held log))) }
+    ensures begins { IfOk result (BeginsAsConfigured B.TELLS conf (Found S.TELLS (S.held log))) }
     ensures refused { IfErr result (RefusesLog S.faults log S.TELLS (S.held log)) }
 {
-    let Ok(backends) = flaky_backends(alloc, conf.placement.count()) else {
+    let Ok(backends) = flaky(alloc, backends) else {
         return Err(StartError::NoMemory);
     };
     let Ok(parts) = parts_of(alloc, conf) else {
@@ -46,7 +49,29 @@ fn flaky_world<S: Store + Drop>(
     }
 }
 
-/// Plays the lines of the input on a world of backends in memory, as the configuration has them, over the log, and writes what they come to.
+/// Plays the lines of the input on such a world.
+fn play_over<B: Backend + Drop, S: Store + Drop, I: Source, O: Sink>(
+    alloc: Global,
+    conf: Conf,
+    log: S,
+    backends: Backends<B>,
+    input: &mut I,
+    output: &mut O,
+) -> Result<ScriptEnd, StartError>
+    requires usable { IsUsable conf }
+    requires new { AreNew B.TELLS (length conf.placement.names) (map (state_by B.told B.faults B.asks B.login B.arming) backends) (map B.begun backends) }
+    requires disk { S.TELLS ≡ true → Only (S.held log) (S.may log) }
+    ensures played { IfOk result (λ end. PlaysAsConfigured B.TELLS conf (Found S.TELLS (S.held log)) (I.left input.old) (I.left input.new) (O.held output.old) (O.held output.new) end) }
+    ensures refused { IfErr result (RefusesLog S.faults log S.TELLS (S.held log)) }
+    ensures unbegun { OnErr result ((input.new ≡ input.old) × (output.new ≡ output.old)) }
+    ensures input { CountsFault (result ≡ Ok ends.ReadFault) (I.faults input.old) (I.faults input.new) }
+    ensures output { CountsFault (result ≡ Ok ends.WriteFault) (O.faults output.old) (O.faults output.new) }
+{
+    let mut world = flaky_world(alloc, conf, log, backends)?;
+    Ok(script(alloc, &mut world, input, output))
+}
+
+/// Plays the lines of the input on a world of new backends, as the configuration has them, over the log, and writes what they come to.
 ///
 /// Refused, the script has not begun; want of memory in it is an end of its own.
 pub fn play<S: Store + Drop, I: Source, O: Sink>(
@@ -58,7 +83,7 @@ pub fn play<S: Store + Drop, I: Source, O: Sink>(
 ) -> Result<ScriptEnd, StartError>
     requires usable { IsUsable conf }
     requires disk { S.TELLS ≡ true → Only (S.held log) (S.may log) }
-    ensures played { IfOk result (λ end. PlaysAsConfigured conf (Found S.TELLS (S.held log)) (I.left input.old) (I.left input.new) (O.held output.old) (O.held output.new) end) }
+    ensures played { IfOk result (λ end. PlaysAsConfigured (in_memory conf) conf (Found S.TELLS (S.held log)) (I.left input.old) (I.left input.new) (O.held output.old) (O.held output.new) end) }
     ensures refused { IfErr result (RefusesLog S.faults log S.TELLS (S.held log)) }
     ensures unbegun { OnErr result ((input.new ≡ input.old) × (output.new ≡ output.old)) }
     ensures input { CountsFault (result ≡ Ok ends.ReadFault) (I.faults input.old) (I.faults input.new) }
@@ -67,8 +92,16 @@ pub fn play<S: Store + Drop, I: Source, O: Sink>(
     ensures complete { CountsNoFault (I.faults input.old) (I.faults input.new) → CountsNoFault (O.faults output.old) (O.faults output.new) → IfOk result (λ ending. ending ≢ ends.NoMemory →
         PlaysInput conf.placement.names (I.left input.old) ending) }
 {
-    let mut world = flaky_world(alloc, conf, log)?;
-    Ok(script(alloc, &mut world, input, output))
+    if are_in_memory(conf.kinds.as_slice()) {
+        let Ok(backends) = memory_backends(alloc, conf.placement.count()) else {
+            return Err(StartError::NoMemory);
+        };
+        return play_over(alloc, conf, log, backends, input, output);
+    }
+    let Ok(backends) = any_backends(alloc, conf.kinds.as_slice()) else {
+        return Err(StartError::NoMemory);
+    };
+    play_over(alloc, conf, log, backends, input, output)
 }
 
 fn line_words(alloc: Global, number: u64) -> Result<String, NoMemory>

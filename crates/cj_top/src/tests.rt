@@ -18,6 +18,20 @@ backends = [{ name = "b0", kind = "memory" }, { name = "b1", kind = "memory" }]
 users = [{ name = "ann", sha256 = "2bb80d537b1da3e38bd30361aa855686bde0eacd7162fef6a25fe97bf527a25b", logins = ["l0", "l1"] }]
 "#;
 
+/// The same over two SQLite databases.
+const SQLITE: &str = r#"level = "raidb1"
+cache = 64
+backends = [{ name = "b0", kind = "sqlite" }, { name = "b1", kind = "sqlite" }]
+users = [{ name = "ann", sha256 = "2bb80d537b1da3e38bd30361aa855686bde0eacd7162fef6a25fe97bf527a25b", logins = ["l0", "l1"] }]
+"#;
+
+/// The same over one SQLite database, and one in memory.
+pub(crate) const MIXED: &str = r#"level = "raidb1"
+cache = 64
+backends = [{ name = "b0", kind = "sqlite" }, { name = "b1", kind = "memory" }]
+users = [{ name = "ann", sha256 = "2bb80d537b1da3e38bd30361aa855686bde0eacd7162fef6a25fe97bf527a25b", logins = ["l0", "l1"] }]
+"#;
+
 /// The Login of the one account.
 const LOGIN: &[u8] = b"\x00\x00\x00\x0e\x01\x00\x03ann\x00\x06secret";
 
@@ -162,15 +176,26 @@ fn check_pipe(
 
 /// The input of the worked session: Login, CREATE, INSERT, SELECT.
 fn worked(alloc: Global) -> Result<Vec<u8>, Fail> {
-    let mut input = LOGIN.to_vec(alloc)?;
-    for text in [CREATE, INSERT, SELECT] {
-        query(&mut input, text)?;
-    }
-    Ok(input)
+    session(alloc, &[CREATE, INSERT, SELECT])
 }
 
 /// Statements, and the replies to them behind an accepted Login.
-const STATEMENTS: [(&[&str], &[&[u8]]); 21] = [
+const STATEMENTS: [(&[&str], &[&[u8]]); 22] = [
+    // names that are words of SQLite, and a text of several bytes a character with quotes in it
+    (
+        &[
+            "CREATE TABLE sqlite_master (rowid TEXT PRIMARY KEY, null INTEGER)",
+            "INSERT INTO sqlite_master VALUES ('''ä\"', -9223372036854775808)",
+            "UPDATE sqlite_master SET null = null - 1",
+            "SELECT * FROM sqlite_master WHERE rowid = '''ä\"'",
+        ],
+        &[
+            DONE_0,
+            DONE_1,
+            OVERFLOW,
+            b"\x00\x00\x00\x26\x82\x00\x02\x00\x05rowid\x00\x04null\x00\x00\x00\x01\x02\x00\x00\x00\x04'\xc3\xa4\"\x01\x80\x00\x00\x00\x00\x00\x00\x00",
+        ],
+    ),
     (&[CREATE, INSERT, SELECT], &[DONE_0, DONE_1, ONE_ROW]),
     // two tuples, and rows in falling key
     (
@@ -350,21 +375,37 @@ const STATEMENTS: [(&[&str], &[&[u8]]); 21] = [
     (&[CREATE, SELECT], &[DONE_0, NO_ROW]),
 ];
 
+/// A Login, and these statements.
+fn session(alloc: Global, statements: &[&str]) -> Result<Vec<u8>, Fail> {
+    let mut input = LOGIN.to_vec(alloc)?;
+    for text in statements {
+        query(&mut input, text)?;
+    }
+    Ok(input)
+}
+
+/// What an accepted Login gets, and these replies.
+fn accepted(alloc: Global, replies: &[&[u8]]) -> Result<Vec<u8>, Fail> {
+    let mut output = DONE_0.to_vec(alloc)?;
+    for reply in replies {
+        output.extend_from_slice(reply)?;
+    }
+    Ok(output)
+}
+
+/// Over backends of each kind the statements get the same replies.
 fn check_statements(
     rt: &(impl Abort + AllocGlobal),
     statements: &[&str],
     replies: &[&[u8]],
 ) -> Result<(), Fail> {
     let alloc = rt.alloc();
-    let mut input = LOGIN.to_vec(alloc)?;
-    for text in statements {
-        query(&mut input, text)?;
+    let input = session(alloc, statements)?;
+    let output = accepted(alloc, replies)?;
+    for conf in [C1, SQLITE, MIXED] {
+        check_pipe(rt, conf, &input, &output, 0)?;
     }
-    let mut output = DONE_0.to_vec(alloc)?;
-    for reply in replies {
-        output.extend_from_slice(reply)?;
-    }
-    check_pipe(rt, C1, &input, &output, 0)
+    Ok(())
 }
 
 #[test]
@@ -394,10 +435,7 @@ fn a_cut_loses_nothing_that_was_answered(rt: HostRuntime) -> Result<(), Fail> {
     let alloc = rt.alloc();
     let input = worked(alloc)?;
     assert_eq!(rt; input.len(), 123);
-    let mut output = DONE_0.to_vec(alloc)?;
-    for reply in [DONE_0, DONE_1, ONE_ROW] {
-        output.extend_from_slice(reply)?;
-    }
+    let output = accepted(alloc, &[DONE_0, DONE_1, ONE_ROW])?;
     for count in 0..input.len() {
         let (cut, _) = input.split_at(count);
         let (length, status) = written_of(count);
@@ -455,11 +493,49 @@ fn other_words_are_refused(rt: HostRuntime) -> Result<(), Fail> {
         "script",
         "script -c",
         "script c1 c2",
+        "-h",
+        "help",
+        "--help pipe",
+        "--help --version",
+        "pipe --version",
+        "pipe c1 --help",
+        "gen c1 --seed 1",
+        "gen c1 --seed 1 --count 0",
+        "gen c1 --seed 1 --count 200001",
     ] {
         let mut handed = Handed::of(alloc, "no configuration", LOGIN)?;
         assert_eq!(rt; handed.run(alloc, text)?, 2, "{text}");
         assert_eq!(rt; handed.output.content().len(), 0);
         assert_eq!(rt; handed.errors.content().len(), 0);
+    }
+    Ok(())
+}
+
+/// Words, and how what they write begins.
+const TEXTS: [(&str, &str); 6] = [
+    ("--version", "cjc 0.1\n"),
+    ("--help", "Several SQL databases as one\n"),
+    ("pipe --help", "Serve one session of frames"),
+    ("script --help", "Play the moves of standard input"),
+    ("log --help", "List the recovery log\n"),
+    ("gen --help", "Run a workload drawn from a seed"),
+];
+
+#[test]
+fn texts_are_written_on_a_screen(rt: HostRuntime) -> Result<(), Fail> {
+    let alloc = rt.alloc();
+    for (words, first) in TEXTS {
+        let mut handed = Handed::of(alloc, "no configuration", LOGIN)?;
+        assert_eq!(rt; handed.run(alloc, words)?, 0, "{words}");
+        let text = handed.output.content();
+        assert!(rt; text.starts_with(first.as_bytes()), "{words}");
+        assert!(rt;
+            text.iter().filter(|byte| **byte == b'\n').count() <= 24,
+            "{words}"
+        );
+        assert_eq!(rt; handed.errors.content().len(), 0);
+        handed.output = sink(alloc, &[1])?;
+        assert_eq!(rt; handed.run(alloc, words)?, 6, "{words}");
     }
     Ok(())
 }

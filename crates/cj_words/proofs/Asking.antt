@@ -1,13 +1,13 @@
 -- What the words are read as is what they ask for.
-use Rattle.std.proofs.Common.{◌≡◌, refl, sym, ap, subst, ◌∙◌, ℕ, true, List, [], ◌∷◌, codes}
-use Rattle.std.specs.Prelude.{IfSome, IsSome}
+use Rattle.std.proofs.Common.{◌≡◌, refl, sym, ap, subst, ◌∙◌, ℕ, true, List, [], ◌∷◌, codes, Bor}
+use Rattle.std.specs.Prelude.{IfSome, IsNone, IsSome, option_copied, option_map}
 use Rattle.std.specs.declared.option.Option.{Option}
 use Rattle.std.specs.declared.option.Option.TheVariants.{None, Some}
 use Rattle.std.specs.Str.{bytes_eq}
 use Rattle.std.proofs.lemmas.Option.{some_pair_parts}
 use Rattle.std.proofs.lemmas.Slice.Eq.{bytes_eq-Decides}
-use Rattle.cj_words.specs.Words.{names_file, word_of, Says, Asks}
-use Rattle.cj_words.specs.Proving.{next_word, only_conf, over_file, as_command, workload, command_of, is_only, or_help, asked_of_verb, asked_of_program, verb_of, by_verb, asked_of}
+use Rattle.cj_words.specs.Words.{names_file, word_of, file_of, Says, Asks}
+use Rattle.cj_words.specs.Proving.{next_word, only_conf, over_file, as_command, workload, command_of, is_only, or_help, asked_of_verb, asked_of_program, verb_of, by_verb, asked_of, of_verb, command_in}
 use Rattle.cj_words.specs.declared.asked.Verb.{Verb}
 use Rattle.cj_words.specs.declared.asked.Verb.TheVariants as verb
 use Rattle.cj_words.specs.declared.asked.Topic.TheVariants as topic
@@ -104,3 +104,34 @@ asked_read words (asked.Help (topic.Command verb.Script)) h = at_words words _ _
 asked_read words (asked.Help (topic.Command verb.Log)) h = at_words words _ _ h refl
 asked_read words (asked.Help (topic.Command verb.Gen)) h = at_words words _ _ h refl
 asked_read words asked.Version h = at_words words _ _ h refl
+
+-- ---- the file of a command
+
+said : (word : List ℕ) (rest : List (List ℕ)) (o : Option Verb) → IfSome o (λ v. word ≡ word_of v) → IfSome (of_verb rest o) (Says (word ∷ rest))
+said word rest None h = tt
+said word rest (Some v) h = subst (λ (w : List ℕ). IfSome (command_of v rest) (Says (w ∷ rest))) (sym h) (command_is v rest)
+
+command_in_is : (words : List (List ℕ)) → IfSome (command_in words) (Says words)
+command_in_is [] = tt
+command_in_is (word ∷ rest) = said word rest (verb_of word) (verb_is word)
+
+command_read : (words : List (List ℕ)) (c : Command) → Says words c → command_in words ≡ Some c
+command_read words (command.Pipe conf) h = ap command_in h.0 ∙ rw h.1 refl
+command_read words (command.Script conf) h = ap command_in h.0 ∙ rw h.1 refl
+command_read words (command.Log conf) h = ap command_in h.0 ∙ rw h.1 refl
+command_read words (command.Gen conf seed count) h = ap command_in h.1 ∙ rw (workload_read h.0 conf seed count h.2) refl
+
+file_said : (words : List (List ℕ)) (r : Option (Bor (List ℕ))) (o : Option Command) → option_copied r ≡ option_map file_of o → IfSome o (Says words) → IfSome r (λ conf. (c : Command) × Says words c × (conf.now ≡ file_of c))
+file_said words None o e h = tt
+file_said words (Some conf) None e h = absurd (cc)
+file_said words (Some conf) (Some c) e h = (c, h, cc)
+
+pub file_is : (words : List (List ℕ)) (r : Option (Bor (List ℕ))) → option_copied r ≡ option_map file_of (command_in words) → IfSome r (λ conf. (c : Command) × Says words c × (conf.now ≡ file_of c))
+file_is words r e = file_said words r (command_in words) e (command_in_is words)
+
+none_said : (words : List (List ℕ)) (r : Option (Bor (List ℕ))) (o : Option Command) (c : Command) → option_copied r ≡ option_map file_of o → o ≡ Some c → IsNone r → ⊥
+none_said words None o c e is none = let same = e ∙ ap (option_map file_of) is in absurd (cc)
+none_said words (Some conf) o c e is none = absurd (cc)
+
+pub no_file : (words : List (List ℕ)) (r : Option (Bor (List ℕ))) → option_copied r ≡ option_map file_of (command_in words) → IsNone r → (c : Command) → Says words c → ⊥
+no_file words r e none c says = none_said words r (command_in words) c e (command_read words c says) none

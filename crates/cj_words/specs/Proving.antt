@@ -154,3 +154,12 @@ by_verb words rest (Some v) = asked_of_verb v rest
 abbrev pub asked_of : List (List ℕ) → Option Asked
 asked_of [] = None
 asked_of (word ∷ rest) = by_verb (word ∷ rest) rest (verb_of word)
+
+abbrev pub of_verb : List (List ℕ) → Option Verb → Option Command
+of_verb rest None = None
+of_verb rest (Some v) = command_of v rest
+
+-- the command that the words are
+abbrev pub command_in : List (List ℕ) → Option Command
+command_in [] = None
+command_in (word ∷ rest) = of_verb rest (verb_of word)

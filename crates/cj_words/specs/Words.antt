@@ -66,6 +66,13 @@ Says words (command.Script conf) = IsOverFile verb.Script words conf
 Says words (command.Log conf) = IsOverFile verb.Log words conf
 Says words (command.Gen conf seed count) = (rest : List (List ℕ)) × (words ≡ word_of verb.Gen ∷ rest) × IsWorkload rest conf seed count
 
+-- its file
+abbrev pub file_of : Command → List ℕ
+file_of (command.Pipe conf) = conf
+file_of (command.Script conf) = conf
+file_of (command.Log conf) = conf
+file_of (command.Gen conf seed count) = conf
+
 -- what the words ask for
 abbrev pub Asks : List (List ℕ) → Asked → Type 0
 Asks words (asked.Command c) = Says words c

@@ -14,5 +14,5 @@ pub use conf::ConfPath;
 pub use laws::words_ask_for_one_thing;
 pub use numbers::DIGIT_LIMIT;
 pub use parts::COUNT_LIMIT;
-pub use reading::read;
+pub use reading::{conf_word, read};
 pub use texts::{help_text, version_text};

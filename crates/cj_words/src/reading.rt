@@ -1,7 +1,7 @@
 //! The words, read.
 
-ghost use Rattle.std.specs.Prelude.{◌≡◌, ◌↔◌, map, option_copied, option_map, string_bytes, IfErr, IfOk, IsSome};
-ghost use Rattle.cj_words.specs.Words.{Asks, Says};
+ghost use Rattle.std.specs.Prelude.{◌≡◌, ◌↔◌, map, option_copied, option_map, string_bytes, IfErr, IfOk, IfSome, IsNone, IsSome};
+ghost use Rattle.cj_words.specs.Words.{Asks, Says, file_of};
 ghost use Rattle.cj_words.specs.Proving as reading;
 ghost use Rattle.cj_words.specs.declared.asked.Asked.{Asked};
 ghost use Rattle.cj_words.specs.declared.asked.Command.{Command};
@@ -147,4 +147,38 @@ pub fn read(alloc: Global, words: &[String]) -> Result<Option<Asked>, NoMemory>
     ensures memory { IfErr result (λ _. (command : Command) × Says (map string_bytes words.now) command) }
 {
     asked_of(alloc, words)
+}
+
+/// The file of the command that the verb is with these words behind it.
+fn conf_of(verb: Verb, words: &[String]) -> Option<&str>
+    ensures { option_copied result ≡ option_map file_of (reading.command_of verb (map string_bytes words.now)) }
+{
+    if verb == Verb::Gen {
+        return match workload(words) {
+            Some((conf, _, _)) => Some(conf),
+            None => None,
+        };
+    }
+    only_conf(words)
+}
+
+fn conf_in(words: &[String]) -> Option<&str>
+    ensures { option_copied result ≡ option_map file_of (reading.command_in (map string_bytes words.now)) }
+{
+    match next_word(words) {
+        None => None,
+        Some((word, rest)) => match verb_of(word) {
+            Some(verb) => conf_of(verb, rest),
+            None => None,
+        },
+    }
+}
+
+/// The file of the command that the words are; None exactly where they are no command's. It takes no
+/// memory.
+pub fn conf_word(words: &[String]) -> Option<&str>
+    ensures some { IfSome result (λ conf. (command : Command) × Says (map string_bytes words.now) command × (conf.now ≡ file_of command)) }
+    ensures none { IsNone result → (command : Command) → Says (map string_bytes words.now) command → ⊥ }
+{
+    conf_in(words)
 }

@@ -1,4 +1,4 @@
-//! The same program, run as `cjc script CONF` on SQL statements, which two backends carry out: results worked out by hand from docs/SQL.md.
+//! The same program, run as `cjc script CONF` on SQL statements, which a backend in memory and a SQLite database carry out: results worked out by hand from docs/SQL.md.
 #![tactic(auto)]
 
 use cj_edge::{FileStore, StdSink, StdSource, SystemClock, WordsError, words};

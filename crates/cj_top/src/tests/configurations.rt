@@ -6,7 +6,7 @@ use std::process::Abort;
 use std::test::Fail;
 
 /// Configurations, and how the errors begin.
-const REFUSED: [(&str, &str); 6] = [
+const REFUSED: [(&str, &str); 5] = [
     ("", "configuration refused: 2 level\n"),
     ("level = ", "configuration refused: 1\n"),
     (
@@ -16,14 +16,6 @@ backends = [{ name = "b0", kind = "memory" }]
 users = []
 "#,
         "configuration refused: 4 cache\n",
-    ),
-    // nothing is served by SQLite yet
-    (
-        r#"level = "raidb1"
-backends = [{ name = "b0", kind = "memory" }, { name = "b1", kind = "sqlite" }]
-users = []
-"#,
-        "configuration refused: 4 kind\n",
     ),
     (
         r#"level = "raidb2"

@@ -1,6 +1,6 @@
 //! Scripts over two backends that host every table, with the lines that they give.
 
-use crate::tests::{C1, Handed, sink};
+use crate::tests::{C1, Handed, MIXED, sink};
 use cj_outside::MemSource;
 use std::alloc::Global;
 use std::process::Abort;
@@ -365,6 +365,7 @@ pub(crate) fn check_script(
 fn scripts_give_their_lines(rt: HostRuntime) -> Result<(), Fail> {
     for script in SCRIPTS {
         check_script(&rt, C1, script)?;
+        check_script(&rt, MIXED, script)?;
     }
     Ok(())
 }

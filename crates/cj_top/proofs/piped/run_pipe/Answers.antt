@@ -1,17 +1,21 @@
 use Rattle.std.specs.Prelude.{IfErr}
 use Rattle.std.specs.Result.{IsErrAnd}
 use Rattle.cj_top.specs.declared.piped.PipeError.{PipeError}
-use Rattle.std.proofs.Common.{Ok, Err, Result, ◌≡◌, ◌≤◌, [], List, ℕ, Option, Some, get_or, length, map, replicate, sum, refl, sym, ap, ◌∙◌, subst, arith}
+use Rattle.std.proofs.Common.{Ok, Err, Result, ◌≡◌, Bool, true, false, [], List, ℕ, Option, Some, get_or, length, map, replicate, sum, refl, sym, ap, ◌∙◌, subst, arith}
+use Rattle.std.proofs.lemmas.Bool.{both_ways}
 use Rattle.cj_model.specs.declared.database.Slot.{Slot}
 use Rattle.cj_mem.specs.MemoryBackends.{MemoryState, fresh_state, never_armed}
 use Rattle.cj_place.specs.Layouts.{placement_of}
-use Rattle.cj_core.specs.Starts.{BackendState, StartsFrom, state_by}
+use Rattle.cj_core.specs.Starts.{BackendState, StartsFrom}
 use Rattle.cj_state.specs.Faults.{faults_of}
-use Rattle.cj_top.specs.Configured.{new_backend}
+use Rattle.cj_conf.specs.declared.backend.BackendKind.{BackendKind}
+use Rattle.cj_cluster.specs.declared.session.SessionEnd.TheVariants as ends
+use Rattle.std.specs.List.{list_all}
+use Rattle.cj_top.specs.Configured.{in_memory, is_memory, new_backend, new_of}
 use Rattle.cj_top.specs.Logs.{Found}
-use Rattle.cj_top.specs.Piped.{RefusesPipe}
-use Rattle.cj_top.proofs.Completed.{same_counts}
-use Rattle.cj_top.proofs.NewBackends.{all_alike, seen_alike, new_can_count, none_at, sum_of_none}
+use Rattle.cj_top.specs.Piped.{RefusesPipe, RunsPipe}
+use Rattle.cj_top.proofs.Completed.{cause_as_ok, same_cause, same_counts}
+use Rattle.cj_top.proofs.NewBackends.{all_alike, any_are_new, seen_alike, new_can_count, none_at, sum_of_none}
 use Rattle.cj_top.proofs.piped.run_pipe.Goals as goal
 
 pub pipe-requires-clause-empty : goal.pipe-requires-clause-empty
@@ -20,13 +24,21 @@ pipe-requires-clause-empty g c = λ tells. all_alike (λ (t : Option (List Slot)
 pub pipe-requires-clause-none : goal.pipe-requires-clause-none
 pipe-requires-clause-none g c = all_alike (λ (ts : List ℕ). ts ≡ []) (λ (s : MemoryState). s.begun) c.count.result fresh_state c.in-Ok.backends c.in-Ok.ensures refl
 
-pub returns-clause-runs : goal.returns-clause-runs
-returns-clause-runs g c =
+pub pipe-requires-2-clause-none : goal.pipe-requires-2-clause-none
+pipe-requires-2-clause-none g c =
+    (any_are_new (length c.args.conf.placement.names) c.args.conf.kinds c.in-Ok-any_backends.backends (c.in-Ok-any_backends.ensures ∙ ap (map new_of) c.as_slice-2.ensures) c.requires.usable.kinds).none
+
+-- what was found of the kinds
+by_kinds : (kinds given : List BackendKind) (found answer : Bool) → given ≡ kinds → found ≡ list_all is_memory given → found ≡ answer → list_all is_memory kinds ≡ answer
+by_kinds kinds given found answer same finds is = sym (ap (list_all is_memory) same) ∙ (sym finds ∙ is)
+
+pub returns-then-are_in_memory-clause-runs : goal.returns-then-are_in_memory-clause-runs
+returns-then-are_in_memory-clause-runs g c =
     let served = c.in_ok-end.ensures.served in
     let found = Found g.S.Store.TELLS (g.S.Store.held c.args.log) in
     let p = placement_of c.args.conf.placement in
     let seen = seen_alike _ c.count.result (length c.args.conf.placement.names) fresh_state c.in-Ok.backends c.in-Ok.ensures c.count.ensures.count in
-    let starts : StartsFrom found p (replicate (length c.args.conf.placement.names) new_backend) served.0 = subst (λ (backends : List BackendState). StartsFrom found p backends served.0) seen served.1 in
+    let starts : StartsFrom found p (replicate (length c.args.conf.placement.names) (new_backend true)) served.0 = subst (λ (backends : List BackendState). StartsFrom found p backends served.0) seen served.1 in
     let room = new_can_count found p served.0 starts in
     let last : faults_of c.in_ok-end.world.cells ≡ map (λ (s : MemoryState). 0) c.into_backends-backends.result =
     same_counts (λ (s : MemoryState). s.told) (λ (s : MemoryState). 0) (λ (s : MemoryState). s.asks) (λ (s : MemoryState). s.login) (λ (s : MemoryState). never_armed) c.in_ok-end.world.cells c.into_backends-backends.result
@@ -35,15 +47,50 @@ returns-clause-runs g c =
     let none : (k : ℕ) → get_or (faults_of c.in_ok-end.world.cells) k 0 ≡ 0 = λ k. ap (λ (xs : List ℕ). get_or xs k 0) last ∙ none_at c.into_backends-backends.result k in
     let first_none : sum (faults_of served.0.cells) ≡ 0 = sum_of_none (faults_of served.0.cells) (λ k. let grown = served.4.grown room k in let zero = none k in omega (arith, grown, zero)) in
     let last_none : sum (faults_of c.in_ok-end.world.cells) ≡ 0 = sum_of_none (faults_of c.in_ok-end.world.cells) (λ k. let zero = none k in omega (arith, zero)) in
+    let memory : in_memory c.args.conf ≡ true = by_kinds c.args.conf.kinds c.as_slice.result.now c.are_in_memory.result true c.as_slice.ensures c.are_in_memory.ensures c.if-are_in_memory.true in
+    let runs : RunsPipe true c.args.conf found (g.C.Clock.moment c.args.clock.now) (g.I.Source.left c.args.input.now) (g.I.Source.left c.pipe.new.input) (g.O.Sink.held c.args.output.now) (g.O.Sink.held c.pipe.new.output) c.status_of_session.result =
     record {
       first = served.0;
       begins = record { setup = served.2; starts = starts; cache = served.3 };
       ending = c.in_ok-end.end;
       last = c.in_ok-end.world;
       serves = served.4;
-      blameless = served.4.blameless (last_none ∙ sym first_none) room;
+      blameless = λ t. served.4.blameless (last_none ∙ sym first_none) room;
       status_is = c.status_of_session.ensures.status;
     }
+    in
+    subst (λ (t : Bool). RunsPipe t c.args.conf found (g.C.Clock.moment c.args.clock.now) (g.I.Source.left c.args.input.now) (g.I.Source.left c.pipe.new.input) (g.O.Sink.held c.args.output.now) (g.O.Sink.held c.pipe.new.output) c.status_of_session.result) (sym memory) runs
+
+pub returns-clause-runs : goal.returns-clause-runs
+returns-clause-runs g c =
+    let served = c.in_ok-end-2.ensures.served in
+    let found = Found g.S.Store.TELLS (g.S.Store.held c.args.log) in
+    let p = placement_of c.args.conf.placement in
+    let new = any_are_new (length c.args.conf.placement.names) c.args.conf.kinds c.in-Ok-any_backends.backends (c.in-Ok-any_backends.ensures ∙ ap (map new_of) c.as_slice-2.ensures) c.requires.usable.kinds in
+    let starts : StartsFrom found p (replicate (length c.args.conf.placement.names) (new_backend false)) served.0 = subst (λ (backends : List BackendState). StartsFrom found p backends served.0) new.seen served.1 in
+    let other : in_memory c.args.conf ≡ false = by_kinds c.args.conf.kinds c.as_slice.result.now c.are_in_memory.result false c.as_slice.ensures c.are_in_memory.ensures c.if-are_in_memory.false in
+    let runs : RunsPipe false c.args.conf found (g.C.Clock.moment c.args.clock.now) (g.I.Source.left c.args.input.now) (g.I.Source.left c.pipe-2.new.input) (g.O.Sink.held c.args.output.now) (g.O.Sink.held c.pipe-2.new.output) c.status_of_session-2.result =
+    record {
+      first = served.0;
+      begins = record { setup = served.2; starts = starts; cache = served.3 };
+      ending = c.in_ok-end-2.end;
+      last = c.in_ok-end-2._world;
+      serves = served.4;
+      blameless = λ t. absurd (both_ways false refl t);
+      status_is = c.status_of_session-2.ensures.status;
+    }
+    in
+    subst (λ (t : Bool). RunsPipe t c.args.conf found (g.C.Clock.moment c.args.clock.now) (g.I.Source.left c.args.input.now) (g.I.Source.left c.pipe-2.new.input) (g.O.Sink.held c.args.output.now) (g.O.Sink.held c.pipe-2.new.output) c.status_of_session-2.result) (sym other) runs
+
+pub returns-clause-input : goal.returns-clause-input
+returns-clause-input g c =
+    let fault = c.status_of_session-2.ensures.read_fault in
+    cause_as_ok c.status_of_session-2.result 5 _ _ (same_cause (c.in_ok-end-2.end ≡ ends.ReadFault) (c.status_of_session-2.result ≡ 5) _ _ fault.0 fault.1 c.in_ok-end-2.ensures.input)
+
+pub returns-clause-output : goal.returns-clause-output
+returns-clause-output g c =
+    let fault = c.status_of_session-2.ensures.write_fault in
+    cause_as_ok c.status_of_session-2.result 6 _ _ (same_cause (c.in_ok-end-2.end ≡ ends.WriteFault) (c.status_of_session-2.result ≡ 6) _ _ fault.0 fault.1 c.in_ok-end-2.ensures.output)
 
 -- what holds of the error that is handed on
 refused_so : {A E : Type 0} (P : E → Type 0) (r : Result A E) (e : E) → IsErrAnd r (λ x. x ≡ e) → P e → IfErr r P
@@ -54,6 +101,18 @@ pub returns-in_err-end-clause-refused : goal.returns-in_err-end-clause-refused
 returns-in_err-end-clause-refused g c =
     let s = g.S.Store in
     let refuses : List BackendState → PipeError → Type 0 = λ backends. RefusesPipe s.faults c.args.log s.TELLS (s.held c.args.log) (placement_of c.args.conf.placement) backends in
-    let seen = seen_alike _ c.count.result (length c.args.conf.placement.names) fresh_state c.in-Ok.backends c.in-Ok.ensures c.count.ensures.count in
-    refused_so (refuses (replicate (length c.args.conf.placement.names) new_backend)) c.from_residual.result c.in_err-end.field-0.0 c.from_residual.ensures.1
+    let n = length c.args.conf.placement.names in
+    let memory : in_memory c.args.conf ≡ true = by_kinds c.args.conf.kinds c.as_slice.result.now c.are_in_memory.result true c.as_slice.ensures c.are_in_memory.ensures c.if-are_in_memory.true in
+    let seen = seen_alike _ c.count.result n fresh_state c.in-Ok.backends c.in-Ok.ensures c.count.ensures.count ∙ ap (λ (t : Bool). replicate n (new_backend t)) (sym memory) in
+    refused_so (refuses (replicate n (new_backend (in_memory c.args.conf)))) c.from_residual.result c.in_err-end.field-0.0 c.from_residual.ensures.1
     (subst (λ (backends : List BackendState). refuses backends c.in_err-end.field-0.0) seen c.in_err-end.ensures.refused)
+
+pub returns-in_err-end-2-clause-refused : goal.returns-in_err-end-2-clause-refused
+returns-in_err-end-2-clause-refused g c =
+    let s = g.S.Store in
+    let refuses : List BackendState → PipeError → Type 0 = λ backends. RefusesPipe s.faults c.args.log s.TELLS (s.held c.args.log) (placement_of c.args.conf.placement) backends in
+    let n = length c.args.conf.placement.names in
+    let other : in_memory c.args.conf ≡ false = by_kinds c.args.conf.kinds c.as_slice.result.now c.are_in_memory.result false c.as_slice.ensures c.are_in_memory.ensures c.if-are_in_memory.false in
+    let new = any_are_new n c.args.conf.kinds c.in-Ok-any_backends.backends (c.in-Ok-any_backends.ensures ∙ ap (map new_of) c.as_slice-2.ensures) c.requires.usable.kinds in
+    refused_so (refuses (replicate n (new_backend (in_memory c.args.conf)))) c.from_residual-in_err-end-2.result c.in_err-end-2.field-0.0 c.from_residual-in_err-end-2.ensures.1
+    (subst (λ (backends : List BackendState). refuses backends c.in_err-end-2.field-0.0) (new.seen ∙ ap (λ (t : Bool). replicate n (new_backend t)) (sym other)) c.in_err-end-2.ensures.refused)

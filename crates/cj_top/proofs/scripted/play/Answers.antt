@@ -1,28 +1,25 @@
-use Rattle.cj_script.specs.declared.play.ScriptEnd.TheVariants as ends
-use Rattle.cj_top.proofs.Completed.{cause_as_ok, not_failed, play_plays}
+use Rattle.std.proofs.Common.{length, true, false, ap, ◌∙◌, map}
+use Rattle.cj_top.specs.Configured.{new_of}
 use Rattle.cj_top.specs.Logs.{Found}
-use Rattle.cj_top.proofs.PlayedOver.{played_as_configured}
+use Rattle.cj_top.proofs.Completed.{plays_of}
+use Rattle.cj_top.proofs.NewBackends.{any_are_new, memory_are_new}
 use Rattle.cj_top.proofs.scripted.play.Goals as goal
 
-pub returns-clause-played : goal.returns-clause-played
-returns-clause-played g c =
-    let left = g.I.Source.left c.args.input.now in
-    let left' = g.I.Source.left c.script.new.input in
-    let held = g.O.Sink.held c.args.output.now in
-    let held' = g.O.Sink.held c.script.new.output in
-    played_as_configured c.args.conf (Found g.S.Store.TELLS (g.S.Store.held c.args.log)) left left' held held' c.script.result c.in_ok-world.world c.script.new.world c.in_ok-world.ensures.begins c.script.ensures.came c.script.ensures.turns
+pub play_over-requires-clause-new : goal.play_over-requires-clause-new
+play_over-requires-clause-new g c = memory_are_new c.count.result (length c.args.conf.placement.names) c.in-Ok.backends c.in-Ok.ensures c.count.ensures.count
+
+pub play_over-requires-2-clause-new : goal.play_over-requires-2-clause-new
+play_over-requires-2-clause-new g c =
+    any_are_new (length c.args.conf.placement.names) c.args.conf.kinds c.in-Ok-any_backends.backends (c.in-Ok-any_backends.ensures ∙ ap (map new_of) c.as_slice-2.ensures) c.requires.usable.kinds
+
+pub returns-then-are_in_memory-clause-complete : goal.returns-then-are_in_memory-clause-complete
+returns-then-are_in_memory-clause-complete g c =
+    let ran = c.play_over in
+    λ input output.
+    plays_of true c.args.conf (Found g.S.Store.TELLS (g.S.Store.held c.args.log)) (g.I.Source.left c.args.input.now) (g.I.Source.left ran.new.input) (g.O.Sink.held c.args.output.now) (g.O.Sink.held ran.new.output) ran.result _ _ _ _ ran.ensures.played ran.ensures.input ran.ensures.output input output
 
 pub returns-clause-complete : goal.returns-clause-complete
 returns-clause-complete g c =
-    let left = g.I.Source.left c.args.input.now in
-    let left' = g.I.Source.left c.script.new.input in
-    let held = g.O.Sink.held c.args.output.now in
-    let held' = g.O.Sink.held c.script.new.output in
-    let played = played_as_configured c.args.conf (Found g.S.Store.TELLS (g.S.Store.held c.args.log)) left left' held held' c.script.result c.in_ok-world.world c.script.new.world c.in_ok-world.ensures.begins c.script.ensures.came c.script.ensures.turns in
-    λ input output memory. play_plays c.args.conf (Found g.S.Store.TELLS (g.S.Store.held c.args.log)) left left' held held' c.script.result played (not_failed _ _ _ c.script.ensures.input input) (not_failed _ _ _ c.script.ensures.output output) memory
-
-pub returns-clause-input : goal.returns-clause-input
-returns-clause-input g c = cause_as_ok c.script.result ends.ReadFault _ _ c.script.ensures.input
-
-pub returns-clause-output : goal.returns-clause-output
-returns-clause-output g c = cause_as_ok c.script.result ends.WriteFault _ _ c.script.ensures.output
+    let ran = c.play_over-2 in
+    λ input output.
+    plays_of false c.args.conf (Found g.S.Store.TELLS (g.S.Store.held c.args.log)) (g.I.Source.left c.args.input.now) (g.I.Source.left ran.new.input) (g.O.Sink.held c.args.output.now) (g.O.Sink.held ran.new.output) ran.result _ _ _ _ ran.ensures.played ran.ensures.input ran.ensures.output input output

@@ -1,0 +1,33 @@
+-- What follows from what words were read as.
+use Rattle.std.proofs.Common.{◌≡◌, ◌↔◌, inl, inr, ℕ, List, Option, None, Some, subst}
+use Rattle.cj_words.specs.Words.{Asks, Says}
+use Rattle.cj_words.specs.declared.asked.Asked.{Asked}
+use Rattle.cj_words.specs.declared.asked.Asked.TheVariants as asked
+use Rattle.cj_words.specs.declared.asked.Command.{Command}
+use Rattle.cj_words.specs.declared.asked.Topic.{Topic}
+use Rattle.cj_top.specs.Program.{AsksForText}
+
+module _ (words : List (List ℕ)) (found : Option Asked) (reads : (a : Asked) → (found ≡ Some a) ↔ Asks words a) where
+  pub command_same : (a b : Command) → found ≡ Some (asked.Command a) → Says words b → a ≡ b
+  command_same a b is says = let other = (reads (asked.Command b)).1 says in cc (is, other)
+
+  -- what holds of the command that was read holds of each that the words are
+  pub of_command : (P : Command → Type 0) (a : Command) → found ≡ Some (asked.Command a) → P a → (b : Command) → Says words b → P b
+  of_command P a is holds b says = subst P (command_same a b is says) holds
+
+  pub is_no_text : (a : Command) → found ≡ Some (asked.Command a) → AsksForText words → ⊥
+  is_no_text a is (inl (topic, asks)) = let other = (reads (asked.Help topic)).1 asks in absurd (cc (is, other))
+  is_no_text a is (inr asks) = let other = (reads asked.Version).1 asks in absurd (cc (is, other))
+
+  pub help_is_no_command : (topic : Topic) (b : Command) → found ≡ Some (asked.Help topic) → Says words b → ⊥
+  help_is_no_command topic b is says = let other = (reads (asked.Command b)).1 says in absurd (cc (is, other))
+
+  pub version_is_no_command : (b : Command) → found ≡ Some asked.Version → Says words b → ⊥
+  version_is_no_command b is says = let other = (reads (asked.Command b)).1 says in absurd (cc (is, other))
+
+  pub asks_nothing : found ≡ None → (a : Asked) → Asks words a → ⊥
+  asks_nothing is a asks = let other = (reads a).1 asks in absurd (cc (is, other))
+
+  pub asks_for_no_text : found ≡ None → AsksForText words → ⊥
+  asks_for_no_text is (inl (topic, asks)) = asks_nothing is (asked.Help topic) asks
+  asks_for_no_text is (inr asks) = asks_nothing is asked.Version asks
