@@ -5,3 +5,4 @@ mod SettleLaws
 mod KnownLaws
 mod WalkLaws
 pub mod ReachLaws
+mod MovedLaws

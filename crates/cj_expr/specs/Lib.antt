@@ -4,3 +4,4 @@ pub mod Known
 pub mod Results
 pub mod Shapes
 pub mod Reaches
+pub mod Moved

@@ -6,6 +6,7 @@ mod binding;
 mod checks;
 mod formula;
 mod known;
+mod moved;
 mod operand;
 mod parts;
 mod predicate;

@@ -81,14 +81,14 @@ joined_wide (t ∷ ts) a =
 
 -- ---- groups
 
-All-put_before : {X : Type 0} (P : X → Type 0) (lt : X → X → Bool) (x : X) (ys : List X) → P x → All P ys → All P (insert_before lt x ys)
+pub All-put_before : {X : Type 0} (P : X → Type 0) (lt : X → X → Bool) (x : X) (ys : List X) → P x → All P ys → All P (insert_before lt x ys)
 All-put_before P lt x [] p a = All-cons P x [] p a
 All-put_before P lt x (y ∷ ys) p a = elim (lt y x) as (λ b. All P (cond b (y ∷ insert_before lt x ys) (x ∷ y ∷ ys))) [
   | true ↦ All-cons P y (insert_before lt x ys) (All-head P y ys a) (All-put_before P lt x ys p (All-tail P y ys a))
   | false ↦ All-cons P x (y ∷ ys) p a
 ]
 
-All-ordered : {X : Type 0} (P : X → Type 0) (lt : X → X → Bool) (xs : List X) → All P xs → All P (sorted_by lt xs)
+pub All-ordered : {X : Type 0} (P : X → Type 0) (lt : X → X → Bool) (xs : List X) → All P xs → All P (sorted_by lt xs)
 All-ordered P lt [] a = a
 All-ordered P lt (x ∷ xs) a = All-put_before P lt x (sorted_by lt xs) (All-head P x xs a) (All-ordered P lt xs (All-tail P x xs a))
 
@@ -97,7 +97,7 @@ All-cut P None xs a = a
 All-cut P (Some n) xs a = All-take P n xs a
 
 -- what holds of any
-always : {X : Type 0} (P : X → Type 0) → ((x : X) → P x) → (xs : List X) → All P xs
+pub always : {X : Type 0} (P : X → Type 0) → ((x : X) → P x) → (xs : List X) → All P xs
 always P h [] = All-nil P
 always P h (x ∷ xs) = All-cons P x xs (h x) (always P h xs)
 

@@ -19,3 +19,6 @@ pub mod RankLaws
 mod IndexLaws
 mod TakeLaws
 mod KnownRowLaws
+mod AlikeLaws
+mod RiseLaws
+mod TurnLaws

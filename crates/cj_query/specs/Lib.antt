@@ -13,3 +13,4 @@ pub mod Taken
 pub mod Sides
 pub mod Ranked
 pub mod Kept
+pub mod Turned

@@ -3,6 +3,7 @@
 
 mod answer;
 mod ask;
+mod binding;
 mod checks;
 mod columns;
 mod found;
@@ -19,5 +20,6 @@ mod rows;
 mod sides;
 mod single;
 mod top;
+mod turned;
 
 pub use ask::select;

@@ -1,6 +1,6 @@
 //! The order of rows and of groups.
 
-ghost use Rattle.std.specs.Prelude.{◌≡◌, map, IfOk, OnOk};
+ghost use Rattle.std.specs.Prelude.{◌≡◌, false, map, IfOk, OnOk};
 ghost use Rattle.std.specs.Map.Iter.{deref};
 ghost use Rattle.std.specs.Ordering.{is_lt};
 ghost use Rattle.cj_model.specs.Database.Order.{sorts_before, by_sort_key, by_sort_keys, sorted_by};
@@ -31,6 +31,13 @@ impl Model for SortKey {
 }
 
 impl SortKey {
+    /// The place by which rows rise.
+    pub fn rising(place: usize) -> SortKey
+        ensures { result ≡ record { place = place; desc = false } }
+    {
+        SortKey { place, desc: false }
+    }
+
     pub fn place(&self) -> usize
         ensures { result ≡ self.now.place }
     {

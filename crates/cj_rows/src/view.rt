@@ -40,6 +40,16 @@ impl<'a> View<'a> {
         View { stored, tx }
     }
 
+    /// The same once more.
+    pub fn again(&self) -> View<'a>
+        ensures { result ≡ self.now }
+    {
+        View {
+            stored: self.stored,
+            tx: self.tx,
+        }
+    }
+
     /// The table's schema.
     pub fn schema(&self) -> &'a Schema
         ensures { result.now ≡ self.now.schema }
