@@ -1,14 +1,22 @@
 -- How backends move into cells, and what is seen of both.
-use Rattle.std.proofs.Common.{◌≡◌, ℕ, suc, ◌+◌, ◌<◌, ◌≤◌, List, [], ◌∷◌, ◌++◌, length, map, reverse, get_or, All, Option, Some, refl, ap, sym, ◌∙◌, subst, arith, length-append, append_assoc, append-nil, ⊎_elim}
+use Rattle.std.proofs.Common.{◌≡◌, Bool, true, ℕ, suc, ◌+◌, ◌<◌, ◌≤◌, List, [], ◌∷◌, ◌++◌, length, map, reverse, get_or, All, Option, Some, refl, ap, sym, ◌∙◌, subst, arith, length-append, append_assoc, append-nil, ⊎_elim}
 use Rattle.std.proofs.lemmas.Bool.{cases_lt}
 use Rattle.std.proofs.lemmas.List.{map_push, reverse-append, reverse-reverse, length-reverse, get_or_push, get_or_append_left, nil_from_length}
+use Rattle.std.proofs.lemmas.List.Elements.{All-nil, All-push}
 use Rattle.std.proofs.lemmas.Simd.{map-map}
 use Rattle.cj_model.specs.declared.database.Slot.{Slot}
 use Rattle.cj_model.specs.Cluster.Placements.{Placement}
 use Rattle.cj_backend.specs.Backends.{Arming}
 use Rattle.cj_replica.specs.Cells.{CellState}
 use Rattle.cj_core.specs.Starts.{BackendState, HaveBegunNone, backend_of, state_by}
-use Rattle.cj_state.specs.Beginnings.{IsFresh, AreFresh}
+use Rattle.atomic_table.specs.Seated.{TableId}
+use Rattle.cj_board.specs.declared.seats.CellSeat.{CellSeat}
+use Rattle.cj_board.specs.declared.view.Role.TheVariants.{Cell}
+use Rattle.cj_board.specs.Seats.{cell_board, cell_view, AreNewCells}
+use Rattle.cj_board.specs.Views.{new_view}
+use Rattle.cj_replica.specs.Seated.{SeatedCell}
+use Rattle.cj_state.specs.Beginnings.{IsFresh, AreEmpty, AreFresh}
+use Rattle.cj_state.specs.Seats.{AreCellsAt}
 
 -- ---- what is seen of backends in their cells
 
@@ -107,3 +115,51 @@ module _ {X : Type 0} {state_of : X → BackendState} {begun_of : X → List ℕ
         record { as_many = omega arith; each = moving.each },
         sym (append-nil (map backend_of cells)) ∙ (ap (λ l. map backend_of cells ++ map state_of (reverse l)) (sym none) ∙ moving.shown),
       )
+
+-- ---- their seats
+
+-- As many seats are left as backends, of the next cells, and the cells are at the board. The backends that are left hold nothing.
+pub record Seating {X : Type 0} (told_of : X → Option (List Slot)) (tells : Bool) (id : TableId) (left : List X) (seats : List CellSeat) (cells : List SeatedCell) : Type 0 where
+  pub as_many : length seats ≡ length left
+  pub free : AreNewCells id (length cells) (reverse seats)
+  pub nothing : AreEmpty tells (map told_of (reverse left))
+  pub at : AreCellsAt id cells
+
+module _ {X : Type 0} {told_of : X → Option (List Slot)} {tells : Bool} {id : TableId} where
+  pub seating_first : (all left : List X) (given seats : List CellSeat) (cells : List SeatedCell) → left ≡ reverse all → seats ≡ reverse given → length given ≡ length all → AreNewCells id 0 given → AreEmpty tells (map told_of all) → cells ≡ []
+      → Seating told_of tells id left seats cells
+  seating_first all left given seats cells back back_too count free nothing none =
+      rw (back, back_too, none)
+      (record {
+        as_many = length-reverse given ∙ (count ∙ sym (length-reverse all));
+        free = rw (reverse-reverse given) free;
+        nothing = rw (reverse-reverse all) nothing;
+        at = All-nil (λ (x : SeatedCell). x.board ≡ id);
+      })
+
+  -- the last of those left takes the last seat
+  module _ {before : List X} (left : List X) (x : X) (is : before ≡ left ++ x ∷ []) {seats_before : List CellSeat} (seats : List CellSeat) (seat : CellSeat) (seat_is : seats_before ≡ seats ++ seat ∷ []) (cells : List SeatedCell)
+      (seating : Seating told_of tells id before seats_before cells) where
+    turned : AreNewCells id (length cells) (seat ∷ reverse seats)
+    turned = subst (AreNewCells id (length cells)) (ap reverse seat_is ∙ reverse-append seats (seat ∷ [])) seating.free
+
+    empties : AreEmpty tells (told_of x ∷ map told_of (reverse left))
+    empties = subst (λ (xs : List X). AreEmpty tells (map told_of xs)) (ap reverse is ∙ reverse-append left (x ∷ [])) seating.nothing
+
+    pub seating_seat : (cell_board seat ≡ id) × (cell_view seat ≡ new_view (Cell (length cells) 0))
+    seating_seat = (turned.1, turned.2)
+
+    pub seating_nothing : tells ≡ true → told_of x ≡ Some []
+    seating_nothing on = (all_first (λ (t : Option (List Slot)). t ≡ Some []) (told_of x) (map told_of (reverse left)) (empties on)).0
+
+    pub seating_more : (y : SeatedCell) (now : List SeatedCell) → y.board ≡ cell_board seat → now ≡ cells ++ y ∷ [] → Seating told_of tells id left seats now
+    seating_more y now at pushed =
+        let more : length (cells ++ y ∷ []) ≡ suc (length cells) = length-append cells (y ∷ []) ∙ omega arith in
+        let count : length seats + 1 ≡ length left + 1 = sym (length-append seats (seat ∷ [])) ∙ (ap length (sym seat_is) ∙ (seating.as_many ∙ (ap length is ∙ length-append left (x ∷ [])))) in
+        rw pushed
+        (record {
+          as_many = omega (arith, count);
+          free = subst (λ (n : ℕ). AreNewCells id n (reverse seats)) (sym more) turned.3;
+          nothing = λ on. (all_first (λ (t : Option (List Slot)). t ≡ Some []) (told_of x) (map told_of (reverse left)) (empties on)).1;
+          at = All-push (λ (x : SeatedCell). x.board ≡ id) cells y seating.at (at ∙ turned.1);
+        })

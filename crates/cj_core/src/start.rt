@@ -6,7 +6,11 @@ ghost use Rattle.cj_core.specs.Starts.{backend_of, state_by, AreHolding, AreCurr
 ghost use Rattle.cj_core.specs.Proving.StartParts.{CountsFaultOfPart, IsLonger};
 ghost use Rattle.cj_opening.specs.Openings.{IsOpening, items_of};
 ghost use Rattle.cj_state.specs.Beginnings.{AreEmpty, AreFresh, opened_core};
+ghost use Rattle.cj_board.specs.Seats.{board_id, book_board, book_view, pass_board, AreNewCells};
+ghost use Rattle.cj_replica.specs.Cells.{CellState};
+ghost use Rattle.cj_state.specs.Proving.Seated.{AreAt};
 ghost use Rattle.cj_state.specs.Faults.{faults_of};
+ghost use Rattle.cj_state.specs.Seats.{states_of, AreCellsAt};
 ghost use Rattle.cj_log.specs.Logs.{KeepsItems};
 ghost use Rattle.cj_outside.specs.Stores.{Only};
 ghost use Rattle.cj_model.specs.Cluster.Caching.{empty_cache};
@@ -18,12 +22,13 @@ use crate::replaying::{enable_everywhere, replay_everywhere};
 use crate::world::World;
 use cj_auth::Accounts;
 use cj_backend::Backend;
-use cj_book::{BookParts, Ledger, StartError};
+use cj_board::{Board, BookSeat, CellSeat, Pass};
+use cj_book::{Book, BookParts, StartError};
 use cj_model::{BACKEND_LIMIT, Duplicate, ListOf, NoMemory};
 use cj_open_sessions::Sessions;
 use cj_outside::Store;
 use cj_place::Placement;
-use cj_replica::Replica;
+use cj_replica::Cell;
 use cj_shelf::MemoryShelf;
 use cj_state::State;
 use std::alloc::Global;
@@ -38,35 +43,86 @@ pub struct Parts {
 /// Backends in the order of their numbers.
 pub type Backends<B> = ListOf<B>;
 
-/// Moves the backends into cells by their numbers, which leaves their list empty.
+/// Moves the backends into cells by their numbers, at their seats, which leaves their list empty.
 fn cells_of<B: Backend + Drop>(
     alloc: Global,
     placement: &Placement,
     backends: &mut Vec<B>,
-) -> Result<Vec<Replica<B>>, NoMemory>
+    board: &Board,
+    mut seats: Vec<CellSeat>,
+) -> Result<Vec<Cell<B>>, NoMemory>
     requires as_many { length backends.old.items ≡ length placement.now.names }
     requires none { HaveBegunNone (map B.begun backends.old.items) }
+    requires nothing { AreEmpty B.TELLS (map B.told backends.old.items) }
+    requires seats { (length seats.items ≡ length backends.old.items) × AreNewCells (board_id board.now) 0 seats.items }
     ensures few { OnOk result (length placement.now.names ≤ BACKEND_LIMIT) }
     ensures empty { OnOk result (backends.new.items ≡ []) }
-    ensures fresh { IfOk result (λ cells. AreFresh (placement_of placement.now) cells.items) }
-    ensures same { IfOk result (λ cells. map backend_of cells.items ≡ map (state_by B.told B.faults B.asks B.login B.arming) backends.old.items) }
+    ensures fresh { IfOk result (λ cells. AreFresh (placement_of placement.now) (states_of cells.items)) }
+    ensures same { IfOk result (λ cells. map backend_of (states_of cells.items) ≡ map (state_by B.told B.faults B.asks B.login B.arming) backends.old.items) }
+    ensures at { IfOk result (λ cells. AreCellsAt (board_id board.now) cells.items) }
 {
     let mut cells = Vec::with_capacity(alloc, placement.count() as usize)?;
     backends.reverse();
+    seats.reverse();
     while let Some(backend) = backends.pop() {
+        let Some(seat) = seats.pop() else {
+            unreachable!()
+        };
         let b = cells.len() as u8;
         let placement = placement.copy(alloc)?;
-        cells.push_reserved(Replica::new(alloc, b, placement, backend));
+        cells.push_reserved(Cell::new(alloc, b, placement, backend, seat));
     }
     Ok(cells)
 }
 
+/// What a world is made of beside its book: the backends in their cells, at the seats of a new board.
+struct Seated<B: Backend> {
+    board: Board,
+    book_seat: BookSeat,
+    pass: Pass,
+    cells: Vec<Cell<B>>,
+    emptied: Emptied<B>,
+    sessions: Sessions,
+    dumps: MemoryShelf,
+}
+
+/// Makes a board, and moves the backends into cells at its seats.
+fn seat_all<B: Backend + Drop>(
+    alloc: Global,
+    placement: &Placement,
+    backends: Backends<B>,
+) -> Result<Seated<B>, NoMemory>
+    requires as_many { length backends ≡ length placement.now.names }
+    requires none { HaveBegunNone (map B.begun backends) }
+    requires nothing { AreEmpty B.TELLS (map B.told backends) }
+    ensures few { OnOk result (length placement.now.names ≤ BACKEND_LIMIT) }
+    ensures at { IfOk result (λ s. AreAt (board_id s.board) (pass_board s.pass) (book_board s.book_seat) s.cells.items) }
+    ensures unseen { IfOk result (λ s. ((book_view s.book_seat).front ≡ []) × ((book_view s.book_seat).given ≡ [])) }
+    ensures fresh { IfOk result (λ s. AreFresh (placement_of placement.now) (states_of s.cells.items)) }
+    ensures empty { IfOk result (λ s. AreEmpty B.TELLS (map (λ (x : CellState). x.told) (states_of s.cells.items))) }
+    ensures same { IfOk result (λ s. map backend_of (states_of s.cells.items) ≡ map (state_by B.told B.faults B.asks B.login B.arming) backends) }
+    ensures none { IfOk result (λ s. (s.sessions ≡ []) × (s.dumps ≡ [])) }
+{
+    let mut list = backends.into_vec();
+    let (board, book_seat, seats, pass) = Board::new(alloc, placement.count())?;
+    let cells = cells_of(alloc, placement, &mut list, &board, seats.into_vec())?;
+    Ok(Seated {
+        board,
+        book_seat,
+        pass,
+        cells,
+        emptied: Emptied::new(list)?,
+        sessions: Sessions::new(alloc)?,
+        dumps: MemoryShelf::new(alloc)?,
+    })
+}
+
 /// Moves the backends out of their cells into an empty list, in the order of numbers.
-fn backends_of<B: Backend + Drop>(mut cells: Vec<Replica<B>>, mut backends: Vec<B>) -> Vec<B>
+fn backends_of<B: Backend + Drop>(mut cells: Vec<Cell<B>>, mut backends: Vec<B>) -> Vec<B>
     requires empty { backends.items ≡ [] }
     requires room { length cells.items ≤ vec_capacity backends }
-    ensures same { map (state_by B.told B.faults B.asks B.login B.arming) result.items ≡ map backend_of cells.items }
-    ensures begun { KeepEachBegun cells.items (map B.begun result.items) }
+    ensures same { map (state_by B.told B.faults B.asks B.login B.arming) result.items ≡ map backend_of (states_of cells.items) }
+    ensures begun { KeepEachBegun (states_of cells.items) (map B.begun result.items) }
 {
     cells.reverse();
     while let Some(cell) = cells.pop() {
@@ -122,21 +178,20 @@ impl<B: Backend + Drop, S: Store + Drop> World<B, S> {
         ensures cause { CountsFaultOfStart S.faults (S.faults log) result }
     {
         let Parts { book, accounts } = parts;
-        let mut list = backends.into_vec();
-        let Ok(cells) = cells_of(alloc, &book.placement, &mut list) else {
+        let Ok(seated) = seat_all(alloc, &book.placement, backends) else {
             return Err((StartError::NoMemory, log));
         };
-        let Ok(emptied) = Emptied::new(list) else {
-            return Err((StartError::NoMemory, log));
-        };
-        let Ok(sessions) = Sessions::new(alloc) else {
-            return Err((StartError::NoMemory, log));
-        };
-        let Ok(dumps) = MemoryShelf::new(alloc) else {
-            return Err((StartError::NoMemory, log));
-        };
-        let book = Ledger::open(alloc, book, log)?;
-        let mut state = State::new(alloc, book, cells, sessions, accounts, dumps);
+        let Seated {
+            board,
+            book_seat,
+            pass,
+            cells,
+            emptied,
+            sessions,
+            dumps,
+        } = seated;
+        let book = Book::open(alloc, book, log, &board, book_seat)?;
+        let mut state = State::new(alloc, board, pass, book, cells, sessions, accounts, dumps);
         let brought = bring_up(&mut state);
         state.legal();
         match brought {

@@ -19,7 +19,7 @@ use Rattle.cj_cluster.specs.Moves.Cores.{position_at}
 use Rattle.cj_cluster.specs.Moves.Moves.{DoesWithEntry}
 use Rattle.cj_cluster.specs.Proving.Invariants.{HoldsPart, HasBegunDrafts, CoversDrafts}
 use Rattle.cj_cluster.proofs.Effects.{is_there}
-use Rattle.cj_cluster.proofs.PartRuns.{part_at_taken, part_at_passed, covers_at_taken, covers_at_passed}
+use Rattle.cj_cluster.proofs.PartRuns.{part_at_taken}
 use Rattle.cj_cluster.proofs.TransactionLaws.{legal_fit}
 use Rattle.cj_backend.specs.Backends.{spent}
 use Rattle.cj_auth.specs.Admission.{Register}
@@ -29,7 +29,8 @@ use Rattle.cj_replica.specs.declared.replica.Caught.{Caught}
 use Rattle.cj_replica.specs.declared.replica.Caught.TheVariants as caught
 use Rattle.cj_replica.specs.declared.replica.CellError.{CellError}
 use Rattle.cj_replica.specs.declared.replica.CellError.TheVariants as errors
-use Rattle.cj_replica.specs.Cells.{CellState, HasCellCause, LogsInForEntry, SaysEntryOutcome, TellsAfterEntry, IsCaught, takes_part_in_entry, begun_after_entry, is_skipped, position_after}
+use Rattle.cj_replica.specs.Cells.{CellState, CatchesUp, HasCellCause, LogsInForEntry, SaysEntryOutcome, IsCaught, takes_part_in_entry, begun_after_entry, is_skipped, position_after}
+use Rattle.cj_replica.proofs.HeldParts.{drafts_taken, holds_taken}
 use Rattle.cj_state.specs.Worlds.{core_of, world_of, IsCell}
 use Rattle.cj_state.specs.Faults.{did_fail}
 use Rattle.cj_state.specs.Proving.Kept.{Kept}
@@ -40,8 +41,7 @@ use Rattle.cj_state.proofs.CellsKept.{position_of, begun_of, position_within}
 
 -- ---- taking an entry
 
-module _ (tells : Bool) (accounts : List Account) (l : Layout) (h : List Event) (cells : List CellState) (b : ℕ) (can : CanTake tells l h cells b) (x y : CellState) (there : x ≡ get_or cells b x) (e : Entry) (entry : slice_get (log h) can.p ≡ Some e)
-    (number : y.b ≡ x.b) (placement : y.placement ≡ x.placement) where
+module _ (tells : Bool) (accounts : List Account) (l : Layout) (h : List Event) (cells : List CellState) (b : ℕ) (can : CanTake tells l h cells b) (x y : CellState) (there : x ≡ get_or cells b x) (e : Entry) (entry : slice_get (log h) can.p ≡ Some e) where
   cell : IsCell tells (placement_of l) (log h) b x
   cell = subst (IsCell tells (placement_of l) (log h) b) (sym there) (can.is x)
 
@@ -63,32 +63,6 @@ module _ (tells : Bool) (accounts : List Account) (l : Layout) (h : List Event) 
   -- what it tells, where it tells
   told_now : tells ≡ true → x.told ≡ Some (part (placement_of l) b (database_after (log h) can.p))
   told_now = subst (λ (q : Option ℕ). HoldsPart tells (placement_of l) b (log h) x.told q) stands cell.holds
-
-  -- it holds its part after it
-  holds_now : (r : Result Caught CellError) → takes_part_in_entry x e ≡ not (is_skipped r) → TellsAfterEntry x.told e r y.told → (q : Option ℕ) → q ≡ position_after (can.p + 1) r → HoldsPart tells (placement_of l) b (log h) y.told q
-  holds_now (Ok caught.Skipped) skipped told q is =
-      subst (λ (z : Option ℕ). HoldsPart tells (placement_of l) b (log h) y.told z) (sym is)
-      (λ on. told ∙ (told_now on ∙ ap (λ db. Some db) (sym (part_at_passed (placement_of l) b x.begun (log h) can.fits can.p (covers on) e entry (part_of ∙ skipped)))))
-  holds_now (Ok (caught.Did o)) skipped told q is =
-      subst (λ (z : Option ℕ). HoldsPart tells (placement_of l) b (log h) y.told z) (sym is)
-      (λ on.
-      told ∙ (ap (option_map (λ db. (step db e).db)) (told_now on)
-      ∙ ap (λ db. Some db) (sym (part_at_taken (placement_of l) b x.begun (log h) can.fits can.p (covers on) e entry (part_of ∙ skipped)).0)))
-  holds_now (Err d) skipped told q is = subst (λ (z : Option ℕ). HoldsPart tells (placement_of l) b (log h) y.told z) (sym is) tt
-
-  -- and has begun the transactions of its drafts
-  drafts_now : (r : Result Caught CellError) → takes_part_in_entry x e ≡ not (is_skipped r) → y.begun ≡ begun_after_entry x.begun e r → (q : Option ℕ) → q ≡ position_after (can.p + 1) r → HasBegunDrafts tells (placement_of l) b (log h) y.begun q
-  drafts_now (Ok caught.Skipped) skipped begun q is =
-      subst (λ (z : Option ℕ). HasBegunDrafts tells (placement_of l) b (log h) y.begun z) (sym is)
-      (λ on.
-      subst (λ (ts : List ℕ). CoversDrafts ts (part (placement_of l) b (database_after (log h) (can.p + 1)))) (sym begun)
-      (covers_at_passed (placement_of l) b x.begun (log h) can.fits can.p (covers on) e entry (part_of ∙ skipped)))
-  drafts_now (Ok (caught.Did o)) skipped begun q is =
-      subst (λ (z : Option ℕ). HasBegunDrafts tells (placement_of l) b (log h) y.begun z) (sym is)
-      (λ on.
-      subst (λ (ts : List ℕ). CoversDrafts ts (part (placement_of l) b (database_after (log h) (can.p + 1)))) (sym begun)
-      (covers_at_taken (placement_of l) b x.begun (log h) can.fits can.p (covers on) e entry (part_of ∙ skipped)))
-  drafts_now (Err d) skipped begun q is = subst (λ (z : Option ℕ). HasBegunDrafts tells (placement_of l) b (log h) y.begun z) (sym is) tt
 
   does_now : (r : Result Caught CellError) → takes_part_in_entry x e ≡ not (is_skipped r) → SaysEntryOutcome x.told e r → IfOk r IsCaught → y.position ≡ position_after (can.p + 1) r → y.begun ≡ begun_after_entry x.begun e r
       → (f s : ℕ) (ss : List OpenSession) (g : ℕ) (ds : List Dump) → DoesWithEntry tells (core_of l h cells f s ss g ds) b can.p e (did_of r) (record { position = y.position; begun = y.begun })
@@ -139,15 +113,18 @@ module _ (tells : Bool) (accounts : List Account) (l : Layout) (h : List Event) 
   logs_in (Err errors.Failed) given called = may_log_in given called
   logs_in (Err errors.Starved) given called = may_log_in given called
 
-  pub took : (r : Result Caught CellError) (m : ℕ) (now : List CellState) → m ≡ can.p + 1 → now ≡ set cells b y → takes_part_in_entry x e ≡ not (is_skipped r) → SaysEntryOutcome x.told e r → IfOk r IsCaught
-      → HasCellCause x.faults y.faults r → y.arming ≡ cond (not (is_skipped r)) (spent x.arming) x.arming → TellsAfterEntry x.told e r y.told → y.position ≡ position_after m r → y.begun ≡ begun_after_entry x.begun e r
-      → (given : List ℕ) → given ≡ login_of accounts e.user b → LogsInForEntry x.login given r y.login → TookEntry tells accounts l h cells b (did_of r) now
-  took r m now is_next is_set skipped says possible cause arming told position begun given is_given login =
-      let place : y.position ≡ position_after (can.p + 1) r = position ∙ ap (λ k. position_after k r) is_next in
+  pub took : (r : Result Caught CellError) (now : List CellState) (given : List ℕ) → now ≡ set cells b y → CatchesUp x (can.p + 1) e given r y → given ≡ login_of accounts e.user b → TookEntry tells accounts l h cells b (did_of r) now
+  took r now given is_set how is_given =
       record {
         cell = y;
         set = is_set;
-        is = record { number = number ∙ cell.number; placement = placement ∙ cell.placement; holds = holds_now r skipped told y.position place; drafts = drafts_now r skipped begun y.position place };
+        is =
+            record {
+              number = how.b ∙ cell.number;
+              placement = how.placement ∙ cell.placement;
+              holds = holds_taken tells (placement_of l) b (log h) can.fits can.p e entry x y given r how cell.number cell.placement stands cell.holds cell.drafts;
+              drafts = drafts_taken tells (placement_of l) b (log h) can.fits can.p e entry x y given r how cell.number cell.placement stands cell.holds cell.drafts;
+            };
         takes =
             λ f s ss g ds.
             record {
@@ -155,13 +132,13 @@ module _ (tells : Bool) (accounts : List Account) (l : Layout) (h : List Event) 
               stands = position_of cells b x can.within ∙ can.stands x;
               entry = e;
               there = entry;
-              does = does_now r skipped says possible place begun f s ss g ds;
+              does = does_now r how.part how.outcome how.possible how.position how.begun f s ss g ds;
             };
-        faults = subst (λ (z : CellState). y.faults ≡ cond (did_fail (did_of r)) (next z.faults) z.faults) (sym same_cell) (counted r cause);
-        armings = spent_times (not (is_skipped r)) x.arming y.arming arming ∙ ap (λ (z : CellState). z.arming.times) (sym same_cell);
+        faults = subst (λ (z : CellState). y.faults ≡ cond (did_fail (did_of r)) (next z.faults) z.faults) (sym same_cell) (counted r how.cause);
+        armings = spent_times (not (is_skipped r)) x.arming y.arming how.arming.after ∙ ap (λ (z : CellState). z.arming.times) (sym same_cell);
         logins =
             subst (λ (k : List ℕ). LogsInToTake b k (did_of r) (logins_of cells) (logins_of now)) (is_given ∙ ap (λ (u : List ℕ). login_of accounts u b) (sym user_is))
-            (subst (λ (xs : List CellState). LogsInToTake b given (did_of r) (logins_of cells) (logins_of xs)) (sym is_set) (logs_in r given login));
+            (subst (λ (xs : List CellState). LogsInToTake b given (did_of r) (logins_of cells) (logins_of xs)) (sym is_set) (logs_in r given how.login));
       }
 
 -- ---- who can take one

@@ -1,11 +1,13 @@
 pub mod Asking
 pub mod Catching
 pub mod CellsKept
+pub mod ChangedCell
 pub mod Contents
 pub mod Counted
 pub mod Dumped
 pub mod Ending
 pub mod Fresh
+pub mod HeardOf
 pub mod Keeping
 pub mod KeepingEvents
 pub mod Loading
@@ -15,5 +17,6 @@ pub mod OpenNumbers
 pub mod OtherReads
 pub mod Resting
 pub mod Scheduling
+pub mod SeatsKept
 pub mod Serving
 pub mod Taking

@@ -21,11 +21,18 @@ use Rattle.cj_place.specs.Layouts.{Layout, placement_of}
 use Rattle.cj_backend.specs.Backends.{Arming, spent}
 use Rattle.cj_replica.specs.declared.replica.CellError.{CellError}
 use Rattle.cj_replica.specs.declared.replica.CellError.TheVariants as errors
-use Rattle.cj_replica.specs.Cells.{CellState, SpendsArmingAtLoad}
+use Rattle.cj_replica.specs.Cells.{CellState, Loads, SpendsArmingAtLoad}
+use Rattle.cj_replica.proofs.HeldParts.{drafts_loaded, holds_loaded}
 use Rattle.cj_state.specs.Held.{failed_contents}
 use Rattle.cj_state.specs.Worlds.{core_of, world_of, IsCell}
 use Rattle.cj_state.specs.Proving.Kept.{Kept}
+use Rattle.cj_state.specs.ArmedCells.{armings_of}
+use Rattle.cj_state.specs.CalledLogins.{logins_of}
+use Rattle.cj_state.specs.Faults.{faults_of, faults_after}
+use Rattle.cj_state.specs.Seats.{ChangesCell}
 use Rattle.cj_state.proofs.CellsKept.{cells_set}
+use Rattle.cj_state.proofs.ChangedCell.{changed_armings, changed_faults, changed_logins}
+use Rattle.cj_state.proofs.Contents.{contents_fault}
 
 -- what holds behind an error
 pub on_error : {T E : Type 0} (r : Result T E) (P : Type 0) → P → OnErr r P
@@ -62,21 +69,15 @@ module _ (tells : Bool) (reg : Register) (l : Layout) (h : List Event) (cells : 
       ∙ ap (λ (ts : List (List ℕ)). record (core_of l h cells f s ss g ds) { positions = set (map (λ (z : CellState). z.position) cells) b (Some n); begun = ts })
       (map-set (λ (z : CellState). z.begun) cells b y)
 
-  module _ (db : List Slot) (right : tells ≡ true → db ≡ part (placement_of l) b (database_after (log h) n)) (told : y.told ≡ cond tells (Some db) None) (begun : y.begun ≡ writers db) where
+  module _ (db : List Slot) (right : tells ≡ true → db ≡ part (placement_of l) b (database_after (log h) n)) (r : Result Unit CellError) (loads : Loads tells x db n r y) where
     is_cell : IsCell tells (placement_of l) (log h) b y
     is_cell =
         let was : IsCell tells (placement_of l) (log h) b x = subst (IsCell tells (placement_of l) (log h) b) (sym there) (kept.world.cells b x lt) in
         record {
           number = number ∙ was.number;
           placement = placement ∙ was.placement;
-          holds =
-              subst (HoldsPart tells (placement_of l) b (log h) y.told) (sym place)
-              (λ on. told ∙ (ap (λ (t : Bool). cond t (Some db) None) on ∙ ap (λ (d : List Slot). Some d) (right on)));
-          drafts =
-              subst (HasBegunDrafts tells (placement_of l) b (log h) y.begun) (sym place)
-              (λ on.
-              subst (λ (ts : List ℕ). CoversDrafts ts (part (placement_of l) b (database_after (log h) n))) (sym (begun ∙ ap writers (right on)))
-              (writers_cover (part (placement_of l) b (database_after (log h) n))));
+          holds = holds_loaded tells (placement_of l) b (log h) db n right x y r loads;
+          drafts = drafts_loaded tells (placement_of l) b (log h) db n right x y r loads;
         }
 
     -- it is not enabled, so that nothing else hangs on where it stands
@@ -107,3 +108,16 @@ module _ (tells : Bool) (reg : Register) (l : Layout) (h : List Event) (cells : 
               ⊎_elim (λ (same : k ≡ b). absurd (both_ways (is_enabled h b) off (subst (λ (m : ℕ). is_enabled h m ≡ true) same on)))
               (λ (ne : k ≡ b → ⊥). kept.whole e k running part on (sym (other k ne) ∙ end)) (cases_eq k b);
         }
+
+-- the counts of faults and of armings, and the logins, where the cell of one backend was loaded
+module _ (tells : Bool) (cells : List CellState) (b : ℕ) (lt : b < length cells) (db : List Slot) (n : ℕ) (r : Result Unit CellError) (now : List CellState) (ch : ChangesCell cells b (λ x y. Loads tells x db n r y) now) where
+  pub loaded_faults : faults_of now ≡ faults_after (faults_of cells) (failed_contents b r)
+  loaded_faults =
+      let fault = contents_fault b r ch.before.faults ch.after.faults ch.how.cause in
+      ap faults_of ch.set ∙ (changed_faults cells b lt ch.before ch.after ch.value fault.0 fault.2 ∙ ap (λ (failed : Option ℕ). faults_after (faults_of cells) failed) (sym fault.1))
+
+  pub loaded_armings : armings_of now ≡ armings_of cells
+  loaded_armings = ap armings_of ch.set ∙ changed_armings cells b lt ch.before ch.after ch.value false (armings_loaded ch.before.arming ch.after.arming r ch.how.arming)
+
+  pub loaded_logins : logins_of now ≡ logins_of cells
+  loaded_logins = ap logins_of ch.set ∙ changed_logins cells b lt ch.before ch.after ch.value ch.how.login

@@ -5,4 +5,5 @@ pub mod Effects
 pub mod Faults
 pub mod Held
 pub mod Proving
+pub mod Seats
 pub mod Worlds

@@ -1,19 +1,35 @@
 //! Cells by the numbers of their backends.
 
-ghost use Rattle.std.specs.Prelude.{◌≡◌, ◌↔◌, ◌<◌, ◌==◌, ◌&&◌, ℕ, IsTrue, not, true};
+ghost use Rattle.std.specs.Prelude.{◌≡◌, ◌↔◌, ◌<◌, ◌≤◌, ◌==◌, ◌&&◌, ℕ, IsErrOf, IsTrue, length, not, slice_get, slice_index_or, None, Some, true};
+ghost use mathlib.Core.List.{IsPrefix};
+ghost use Rattle.atomic_table.specs.Seated.{TableId};
+ghost use Rattle.cj_model.specs.declared.request.Request.TheVariants as request;
 ghost use Rattle.cj_model.specs.Cluster.Masks.{in_mask};
+ghost use Rattle.cj_model.specs.Cluster.Placements.{part};
+ghost use Rattle.cj_model.specs.Database.Storable.{IsStorable};
+ghost use Rattle.cj_model.specs.Sql.WrittenRequests.{IsWritten};
+ghost use Rattle.cj_backend.specs.Backends.{arming_after};
+ghost use Rattle.cj_board.specs.Points.{fault_tokens_of};
+ghost use Rattle.cj_board.specs.Seats.{board_id, pass_board};
+ghost use Rattle.cj_cluster.specs.History.Histories.{database_after, log};
+ghost use Rattle.cj_replica.specs.Cells.{CellState, GivesContents, Loads, Reads};
+ghost use Rattle.cj_replica.specs.Seated.{SeatedCell};
+ghost use Rattle.cj_state.specs.Proving.Seated.{AreAt, AreNumbered, HasHeard, SpendsAtMostOne};
 ghost use Rattle.cj_state.specs.Proving.Taking.{CanTake, TookEntry};
 ghost use Rattle.cj_state.specs.Proving.Taking as taking;
 ghost use Rattle.cj_state.specs.Effects.{Covers, Notes};
+ghost use Rattle.cj_state.specs.Seats.{states_of, AreCellsAt, ChangesCell};
 ghost use Rattle.cj_cluster.specs.Moves.Moves as moves;
 
+use crate::hearing::{hear, tell};
 use cj_auth::Accounts;
 use cj_backend::Backend;
-use cj_book::{BookError, Ledger};
+use cj_board::{Board, Pass};
+use cj_book::{Book, BookError};
 use cj_cluster::Did;
-use cj_model::{NoMemory, Outcome, with_bit};
+use cj_model::{Asked, Db, NoMemory, Outcome, Select, Text, with_bit};
 use cj_outside::Store;
-use cj_replica::{Caught, CellError, CellReadError, Replica};
+use cj_replica::{Caught, Cell, CellError, CellReadError};
 use thiserror::Error;
 
 /// Why a backend gave a session no answer.
@@ -114,40 +130,147 @@ pub fn place(position: Option<u64>) -> u64
 
 /// Backend `b` takes the entry at its position, under the login of the entry's user.
 pub fn take<B: Backend, S: Store>(
-    book: &Ledger<S>,
-    cells: &mut Vec<Replica<B>>,
+    board: &Board,
+    pass: &mut Pass,
+    book: &mut Book<S>,
+    cells: &mut Vec<Cell<B>>,
     accounts: &Accounts,
     b: u8,
 ) -> Did
-    requires can { CanTake B.TELLS book.now.layout book.now.history cells.old.items b }
+    requires can { CanTake B.TELLS book.old.state.layout book.old.state.history (states_of cells.old.items) b }
     requires registered { b < accounts.now.backends }
-    ensures { TookEntry B.TELLS accounts.now.accounts book.now.layout book.now.history cells.old.items b result cells.new.items }
+    requires numbered { AreNumbered (states_of cells.old.items) }
+    requires at { AreAt (board_id board.now) (pass_board pass.old) book.old.board cells.old.items }
+    ensures at { AreAt (board_id board.now) (pass_board pass.new) book.new.board cells.new.items }
+    ensures heard { HasHeard book.old book.new }
+    ensures took { TookEntry B.TELLS accounts.now.accounts book.old.state.layout book.old.state.history (states_of cells.old.items) b result (states_of cells.new.items) }
+    ensures token { result ≡ Did.Failed → 0 < fault_tokens_of b book.new.view.fault_tokens }
+{
+    tell(board, pass, book, cells, b);
+    let did = catch_up_at(board, book, cells, accounts, b);
+    hear(board, pass, book, cells, b);
+    did
+}
+
+fn catch_up_at<B: Backend, S: Store>(
+    board: &Board,
+    book: &Book<S>,
+    cells: &mut Vec<Cell<B>>,
+    accounts: &Accounts,
+    b: u8,
+) -> Did
+    requires can { CanTake B.TELLS book.now.state.layout book.now.state.history (states_of cells.old.items) b }
+    requires registered { b < accounts.now.backends }
+    requires at { AreCellsAt (board_id board.now) cells.old.items }
+    requires told { (d : SeatedCell) → IsPrefix book.now.state.history (slice_index_or cells.old.items b d).view.front }
+    ensures at { AreCellsAt (board_id board.now) cells.new.items }
+    ensures took { TookEntry B.TELLS accounts.now.accounts book.now.state.layout book.now.state.history (states_of cells.old.items) b result (states_of cells.new.items) }
+    ensures token { result ≡ Did.Failed → (x : SeatedCell) → slice_get cells.new.items b ≡ Some x → 0 < fault_tokens_of b x.view.fault_tokens }
 {
     let next = place(cells[b as usize].position()) + 1;
-    let Some(entry) = book.entry(next) else {
+    let Some(entry) = book.ledger().entry(next) else {
         unreachable!()
     };
     let login = accounts.mapped(&entry.user, b);
-    did_of(cells[b as usize].catch_up(next, entry, login))
+    did_of(cells[b as usize].catch_up(board, next, entry, login))
+}
+
+/// Backend `b` answers a query of transaction `tx` at a position not below `least`.
+pub fn read_at<B: Backend, S: Store>(
+    board: &Board,
+    pass: &mut Pass,
+    book: &mut Book<S>,
+    cells: &mut Vec<Cell<B>>,
+    b: u8,
+    login: &Text,
+    tx: u64,
+    select: &Select,
+    least: u64,
+) -> Result<(Asked, u64), CellReadError>
+    requires within { b < length cells.old.items }
+    requires written { IsWritten (request.Select select.now) }
+    requires numbered { AreNumbered (states_of cells.old.items) }
+    requires at { AreAt (board_id board.now) (pass_board pass.old) book.old.board cells.old.items }
+    ensures at { AreAt (board_id board.now) (pass_board pass.new) book.new.board cells.new.items }
+    ensures heard { HasHeard book.old book.new }
+    ensures read { ChangesCell (states_of cells.old.items) b (λ x y. Reads x login.now tx select.now least result y) (states_of cells.new.items) }
+    ensures token { IsErrOf result CellReadError.Failed → fault_tokens_of b book.old.view.fault_tokens < fault_tokens_of b book.new.view.fault_tokens }
+{
+    let answer = cells[b as usize].read(board, login, tx, select, least);
+    hear(board, pass, book, cells, b);
+    answer
+}
+
+/// What backend `b` holds, drafts included, as it says where it is asked.
+pub fn contents_at<B: Backend>(
+    board: &Board,
+    cells: &mut Vec<Cell<B>>,
+    b: u8,
+) -> Result<Db, CellError>
+    requires within { b < length cells.old.items }
+    requires at { AreCellsAt (board_id board.now) cells.old.items }
+    ensures at { AreCellsAt (board_id board.now) cells.new.items }
+    ensures asked { ChangesCell (states_of cells.old.items) b (λ x y. GivesContents x result y) (states_of cells.new.items) }
+{
+    cells[b as usize].contents(board)
+}
+
+/// Arms backend `b`, if it can be.
+pub fn arm_at<B: Backend>(cells: &mut Vec<Cell<B>>, b: u8)
+    requires within { b < length cells.old.items }
+    ensures boards { (id : TableId) → AreCellsAt id cells.old.items → AreCellsAt id cells.new.items }
+    ensures armed { ChangesCell (states_of cells.old.items) b (λ x y. y ≡ record x { arming = arming_after B.can_be_armed x.arming }) (states_of cells.new.items) }
+{
+    cells[b as usize].arm();
+}
+
+/// Backend `b`, which is out, holds this database from now on, which is what it holds at a position of the log.
+pub fn load_at<B: Backend, S: Store>(
+    board: &Board,
+    pass: &mut Pass,
+    book: &mut Book<S>,
+    cells: &mut Vec<Cell<B>>,
+    b: u8,
+    db: Db,
+    position: u64,
+) -> Result<(), CellError>
+    requires within { b < length cells.old.items }
+    requires at { AreAt (board_id board.now) (pass_board pass.old) book.old.board cells.old.items }
+    requires out { (d : CellState) → (slice_index_or (states_of cells.old.items) b d).position ≡ None }
+    requires storable { IsStorable db }
+    requires logged { position ≤ length (log book.old.state.history) }
+    requires held { (d : CellState) → B.TELLS ≡ true → db ≡ part (slice_index_or (states_of cells.old.items) b d).placement (slice_index_or (states_of cells.old.items) b d).b (database_after (log book.old.state.history) position) }
+    ensures at { AreAt (board_id board.now) (pass_board pass.new) book.new.board cells.new.items }
+    ensures heard { HasHeard book.old book.new }
+    ensures loaded { ChangesCell (states_of cells.old.items) b (λ x y. Loads B.TELLS x db position result y) (states_of cells.new.items) }
+{
+    tell(board, pass, book, cells, b);
+    cells[b as usize].load(board, db, position)
 }
 
 /// Why a backend that was asked gave no answer. Of a failure the history has an event from now on;
 /// the memory for it was taken before.
 pub fn noted<S: Store>(
-    book: &mut Ledger<S>,
+    board: &Board,
+    book: &mut Book<S>,
     session: u64,
     seq: u64,
     b: u8,
     error: CellReadError,
 ) -> AskError
-    requires { book.old.has_spare ≡ true }
-    ensures { Notes book.old session seq b error result book.new }
+    requires spare { book.old.state.has_spare ≡ true }
+    requires at { book.old.board ≡ board_id board.now }
+    requires token { error ≡ CellReadError.Failed → 0 < fault_tokens_of b book.old.view.fault_tokens }
+    ensures notes { Notes book.old.state session seq b error result book.new.state }
+    ensures at { book.new.board ≡ book.old.board }
+    ensures given { book.new.view.given ≡ book.old.view.given }
+    ensures tokens { SpendsAtMostOne error b book.old.view.fault_tokens book.new.view.fault_tokens }
 {
     match error {
         CellReadError::Out => AskError::Out,
         CellReadError::Behind(position) => AskError::Behind(position),
         CellReadError::NoMemory => AskError::NoMemory,
-        CellReadError::Failed => match book.read_failed(session, seq, b) {
+        CellReadError::Failed => match book.read_failed(board, session, seq, b) {
             Ok(()) => AskError::Failed,
             Err(BookError::HistoryFull(events)) => AskError::Unnoted(events),
             Err(BookError::InProgress(_)) => unreachable!(),

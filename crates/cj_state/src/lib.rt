@@ -3,6 +3,7 @@
 #![tactic(auto)]
 
 mod cells;
+mod hearing;
 mod state;
 
 pub use cells::{AskError, covers, without_bit};

@@ -35,17 +35,23 @@ ghost use Rattle.cj_place.specs.Layouts.{placement_of};
 ghost use Rattle.cj_state.specs.Beginnings.{AreEmpty, AreFresh, opened_core};
 ghost use Rattle.cj_state.specs.ArmedCells.{armed_at, armings_after, armings_of};
 ghost use Rattle.cj_state.specs.Held.{failed_contents, IsHeld};
+ghost use Rattle.cj_state.specs.Proving.Seated.{AreAt};
+ghost use Rattle.cj_state.specs.Seats.{states_of};
+ghost use Rattle.cj_board.specs.Seats.{board_id, pass_board};
 ghost use Rattle.cj_state.specs.CalledLogins.{asked_for, login_to_take, logins_of, LogsInToAsk, LogsInToTake};
 ghost use Rattle.cj_state.specs.Effects.{own_entry};
 ghost use Rattle.cj_state.specs.Faults.{did_fail, faults_after, faults_of};
 ghost use Rattle.cj_state.specs.Effects.{AnswersOpen, Asks, asked_core, failed_asked, HaveFailed, Refuses, with_core, core_aborted, core_marked, core_scheduled, SchedulesAs, HadLoggedRoom, HadRoom};
 
 use crate::cells::{
-    AskError, failed_after, first_outcome_after, noted, place, starved_after, take,
+    AskError, arm_at, contents_at, failed_after, first_outcome_after, load_at, noted, place,
+    read_at, starved_after, take,
 };
+use crate::hearing::{hear, hear_all};
 use cj_auth::Accounts;
 use cj_backend::Backend;
-use cj_book::{BookError, Ledger};
+use cj_board::{Board, Pass};
+use cj_book::{Book, BookError};
 use cj_cluster::{Did, Event, Move, Moved, OpenRead, OpenSession, TakenDump};
 use cj_dump::{Dump, cut};
 use cj_model::{
@@ -56,7 +62,7 @@ use cj_model::{
 use cj_open_sessions::{Sessions, read_number, tx_of_act};
 use cj_outside::Store;
 use cj_place::Placement;
-use cj_replica::{CellError, Replica};
+use cj_replica::{Cell, CellError};
 use cj_shelf::MemoryShelf;
 use std::alloc::Global;
 use std::marker::Model;
@@ -65,9 +71,13 @@ use std::marker::Model;
 #[derive(Drop)]
 pub struct State<B: Backend, S: Store> {
     alloc: Global,
-    book: Ledger<S>,
+    /// The board at which the book and the cells have their seats.
+    board: Board,
+    /// What goes from one of them to another.
+    pass: Pass,
+    book: Book<S>,
     /// By the numbers of their backends.
-    cells: Vec<Replica<B>>,
+    cells: Vec<Cell<B>>,
     /// While an entry is open, the mask of the backends that failed in it.
     failed: u32,
     /// And of those that wanted memory.
@@ -89,11 +99,15 @@ impl<B: Backend, S: Store> Model for State<B, S> {
 
     ghost coded = { Prim.hlevel (codes, coded_condition) };
 
-    ghost use Rattle.cj_state.specs.Proving.Kept.{KeptFresh};
+    ghost use Rattle.cj_board.specs.Seats.{board_id, pass_board};
+    ghost use Rattle.cj_state.specs.Proving.Kept.{KeptSeated};
+    ghost use Rattle.cj_state.specs.Proving.Seated.{AreAt, IsReady};
+    ghost use Rattle.cj_state.specs.Seats.{states_of};
 
-    ghost view = { λ w. with_cache (with_log (world_of w.accounts w.book.layout w.book.history w.cells.items w.failed w.starved w.sessions w.book.greatest w.dumps) (log_view S.faults S.held w.book.recovery_log)) w.book.cache };
+    ghost view = { λ w. with_cache (with_log (world_of w.accounts w.book.state.layout w.book.state.history (states_of w.cells.items) w.failed w.starved w.sessions w.book.state.greatest w.dumps) (log_view S.faults S.held w.book.state.recovery_log)) w.book.state.cache };
 
-    ghost invariant = { λ w. KeptFresh B.TELLS (world_of w.accounts w.book.layout w.book.history w.cells.items w.failed w.starved w.sessions w.book.greatest w.dumps) w.book.sessions w.first_outcome w.book.cache w.dumps };
+    ghost invariant = { λ w. KeptSeated B.TELLS (world_of w.accounts w.book.state.layout w.book.state.history (states_of w.cells.items) w.failed w.starved w.sessions w.book.state.greatest w.dumps) w.book.state.sessions w.first_outcome w.book.state.cache w.dumps
+        (AreAt (board_id w.board) (pass_board w.pass) w.book.board w.cells.items × IsReady w.book.view w.failed) };
 }
 
 /// The refusal of an entry that no backend finished.
@@ -155,30 +169,36 @@ impl<B: Backend + Drop, S: Store + Drop> State<B, S> {
     /// session is open.
     pub fn new(
         alloc: Global,
-        book: Ledger<S>,
-        cells: Vec<Replica<B>>,
+        board: Board,
+        pass: Pass,
+        book: Book<S>,
+        cells: Vec<Cell<B>>,
         sessions: Sessions,
         accounts: Accounts,
         dumps: MemoryShelf,
     ) -> State<B, S>
-        requires opening { OpensTo (items_of book.history) book.history }
-        requires numbers { book.sessions ≡ [] }
+        requires opening { OpensTo (items_of book.state.history) book.state.history }
+        requires numbers { book.state.sessions ≡ [] }
         requires none { sessions ≡ [] }
-        requires greatest { book.greatest ≡ greatest_session (log book.history) }
-        requires few { length book.layout.names ≤ BACKEND_LIMIT }
-        requires registered { accounts.backends ≡ length book.layout.names }
-        requires fresh { AreFresh (placement_of book.layout) cells.items }
-        requires empty { AreEmpty B.TELLS (map (λ (x : CellState). x.told) cells.items) }
-        requires cache { book.cache ≡ empty_cache book.cache.capacity }
+        requires greatest { book.state.greatest ≡ greatest_session (log book.state.history) }
+        requires few { length book.state.layout.names ≤ BACKEND_LIMIT }
+        requires registered { accounts.backends ≡ length book.state.layout.names }
+        requires fresh { AreFresh (placement_of book.state.layout) (states_of cells.items) }
+        requires empty { AreEmpty B.TELLS (map (λ (x : CellState). x.told) (states_of cells.items)) }
+        requires cache { book.state.cache ≡ empty_cache book.state.cache.capacity }
         requires no_dump { dumps ≡ [] }
-        ensures core { result.core ≡ opened_core (placement_of book.layout) book.history }
-        ensures cells { result.cells ≡ cells.items }
-        ensures setup { result.setup ≡ record { names = book.layout.names; register = accounts } }
-        ensures recovery_log { result.recovery_log ≡ log_view S.faults S.held book.recovery_log }
-        ensures cache { result.cache ≡ book.cache }
+        requires at { AreAt (board_id board) (pass_board pass) book.board cells.items }
+        requires unowned { book.view.given ≡ [] }
+        ensures core { result.core ≡ opened_core (placement_of book.state.layout) book.state.history }
+        ensures cells { result.cells ≡ states_of cells.items }
+        ensures setup { result.setup ≡ record { names = book.state.layout.names; register = accounts } }
+        ensures recovery_log { result.recovery_log ≡ log_view S.faults S.held book.state.recovery_log }
+        ensures cache { result.cache ≡ book.state.cache }
     {
         State {
             alloc,
+            board,
+            pass,
             book,
             cells,
             failed: 0,
@@ -195,8 +215,8 @@ impl<B: Backend + Drop, S: Store + Drop> State<B, S> {
 
 impl<B: Backend + Drop, S: Store + Drop> State<B, S> {
     /// Its cells.
-    pub fn into_cells(self) -> Vec<Replica<B>>
-        ensures cells { result.items ≡ self.cells }
+    pub fn into_cells(self) -> Vec<Cell<B>>
+        ensures cells { states_of result.items ≡ self.cells }
         ensures few { length self.cells ≤ BACKEND_LIMIT }
         ensures legal { IsWorld B.TELLS self }
     {
@@ -223,14 +243,14 @@ impl<B: Backend, S: Store> State<B, S> {
         ensures logged { S.TELLS ≡ true → KeepsHistory self.now }
         ensures fresh { IsFresh B.TELLS self.now }
     {
-        self.book.legal();
+        self.book.ledger().legal();
     }
 
     /// How many entries there are, which is the number of the last one.
     pub fn length(&self) -> u64
         ensures { result ≡ moves.last_number self.now.core }
     {
-        self.book.length()
+        self.book.ledger().length()
     }
 
     /// The number of the open entry.
@@ -238,14 +258,14 @@ impl<B: Backend, S: Store> State<B, S> {
         ensures none { IsNone result ↔ (is_idle self.now.core.history ≡ true) }
         ensures number { IfSome result (λ n. n ≡ moves.last_number self.now.core) }
     {
-        self.book.open_entry()
+        self.book.ledger().open_entry()
     }
 
     /// The mask of the enabled backends.
     pub fn enabled(&self) -> u32
         ensures { (b : ℕ) → in_mask result b ≡ histories.is_enabled self.now.core.history b }
     {
-        self.book.enabled()
+        self.book.ledger().enabled()
     }
 
     /// How many entries the backend has taken; none where it is out.
@@ -263,7 +283,7 @@ impl<B: Backend, S: Store> State<B, S> {
         ensures placement { placement_of result.now ≡ self.now.core.placement }
         ensures names { result.now.names ≡ self.now.setup.names }
     {
-        self.book.placement()
+        self.book.ledger().placement()
     }
 
     /// Whether an account has this user and this password. Such a user is a text of at most 64 bytes.
@@ -282,13 +302,13 @@ impl<B: Backend, S: Store> State<B, S> {
     pub fn is_free(&self) -> bool
         ensures { result ≡ is_idle self.now.core.history }
     {
-        self.book.is_free()
+        self.book.ledger().is_free()
     }
 
     pub fn is_enabled(&self, b: u8) -> bool
         ensures { result ≡ histories.is_enabled self.now.core.history b }
     {
-        self.book.is_enabled(b)
+        self.book.ledger().is_enabled(b)
     }
 
     pub fn is_open(&self, s: u64) -> bool
@@ -301,7 +321,7 @@ impl<B: Backend, S: Store> State<B, S> {
     pub fn is_waiting(&self, s: u64) -> bool
         ensures { result ≡ moves.is_waiting self.now.core s }
     {
-        match self.book.opened() {
+        match self.book.ledger().opened() {
             Some(entry) => entry.session == s,
             None => false,
         }
@@ -349,14 +369,14 @@ impl<B: Backend, S: Store> State<B, S> {
         requires { moves.is_open self.now.core s ≡ true }
         ensures { result ≡ moves.open_tx self.now.core s }
     {
-        self.book.open_tx(s)
+        self.book.ledger().open_tx(s)
     }
 
     /// Whether the transaction is open, and its session isn't.
     pub fn is_orphan(&self, tx: u64) -> bool
         ensures { result ≡ moves.is_orphan self.now.core tx }
     {
-        self.book.is_orphan(tx)
+        self.book.ledger().is_orphan(tx)
     }
 
     /// The session's next entry.
@@ -372,7 +392,7 @@ impl<B: Backend, S: Store> State<B, S> {
             Some(session) => Ok(Entry {
                 session: s,
                 seq: session.queries + 1,
-                tx: tx_of_act(self.book.open_tx(s), &act),
+                tx: tx_of_act(self.book.ledger().open_tx(s), &act),
                 user: session.user.copy(self.alloc)?,
                 act,
             }),
@@ -405,7 +425,7 @@ impl<B: Backend, S: Store> State<B, S> {
         ensures is { IfOk result (λ e. e ≡ moves.abort_entry self.now.core tx) }
         ensures fits { IfOk result (λ e. IsFitEntry (log self.now.core.history) e) }
     {
-        match self.book.entry(tx) {
+        match self.book.ledger().entry(tx) {
             Some(begin) => Ok(Entry {
                 session: 0,
                 seq: 0,
@@ -462,17 +482,17 @@ impl<B: Backend, S: Store> State<B, S> {
         ensures mask { IsServingMask self.now.core select.now result }
         ensures below { result < 2 ^ BACKEND_LIMIT }
     {
-        self.book.candidates(select.tables.as_slice())
+        self.book.ledger().candidates(select.tables.as_slice())
     }
 
     /// The position of the first enabled backend that is neither at the log's end nor out.
     pub fn behind(&self) -> Option<u64>
         ensures { result ≡ moves.first_lagging self.now.core.history 0 self.now.core.positions }
     {
-        let end = self.book.length();
+        let end = self.book.ledger().length();
         for (b, cell) in self.cells.iter().enumerate() {
             if let Some(position) = cell.position() {
-                if self.book.is_enabled(b as u8) && position < end {
+                if self.book.ledger().is_enabled(b as u8) && position < end {
                     return Some(position);
                 }
             }
@@ -484,7 +504,8 @@ impl<B: Backend, S: Store> State<B, S> {
     pub fn has_no_number(&self) -> bool
         ensures { result ≡ moves.has_no_number self.now.core }
     {
-        self.sessions.len() >= SESSION_LIMIT || self.book.greatest() >= SESSION_NUMBER_LIMIT
+        self.sessions.len() >= SESSION_LIMIT
+            || self.book.ledger().greatest() >= SESSION_NUMBER_LIMIT
     }
 
     /// How many sessions are open.
@@ -509,7 +530,7 @@ impl<B: Backend, S: Store> State<B, S> {
     {
         Refusal {
             code: HISTORY_FULL,
-            a: self.book.events(),
+            a: self.book.ledger().events(),
             b: 0,
         }
     }
@@ -520,8 +541,8 @@ impl<B: Backend, S: Store> State<B, S> {
         requires behind { moves.first_lagging self.now.core.history 0 self.now.core.positions ≡ None }
         ensures { AnswersOpen B.TELLS self.now.core result }
     {
-        let targets = self.book.targets();
-        let left = self.book.left(self.failed, self.starved);
+        let targets = self.book.ledger().targets();
+        let left = self.book.ledger().left(self.failed, self.starved);
         if targets != 0 && targets & left == 0 {
             return Reply::Refused(unfinished(self.failed, self.starved));
         }
@@ -544,7 +565,7 @@ impl<B: Backend, S: Store> State<B, S> {
         ensures number { result ≡ self.old.core.greatest + 1 }
         ensures opened { self.new ≡ with_core self.old (opened_for self.old.core user) }
     {
-        let number = self.book.greatest() + 1;
+        let number = self.book.ledger().greatest() + 1;
         self.sessions.open(number, user);
         match self.book.open_session() {
             Ok(_) => number,
@@ -628,7 +649,7 @@ impl<B: Backend, S: Store> State<B, S> {
         ensures checked { OnErr result (¬ IsErrOf result BookError.LogFault → ¬ IsErrOf result BookError.NoMemory → self.new ≡ self.old) }
         ensures cause { CountsFault (IsErrOf result BookError.LogFault) self.old.recovery_log.faults self.new.recovery_log.faults }
     {
-        match self.book.schedule(entry) {
+        match self.book.schedule(&self.board, entry) {
             Ok(number) => {
                 self.sessions.count(s);
                 self.failed = 0;
@@ -652,7 +673,7 @@ impl<B: Backend, S: Store> State<B, S> {
         ensures checked { OnErr result (¬ IsErrOf result BookError.LogFault → ¬ IsErrOf result BookError.NoMemory → self.new ≡ self.old) }
         ensures cause { CountsFault (IsErrOf result BookError.LogFault) self.old.recovery_log.faults self.new.recovery_log.faults }
     {
-        match self.book.schedule(entry) {
+        match self.book.schedule(&self.board, entry) {
             Ok(number) => {
                 self.failed = 0;
                 self.starved = 0;
@@ -675,7 +696,7 @@ impl<B: Backend, S: Store> State<B, S> {
         requires { is_idle self.now.core.history ≡ false }
         ensures { (e : Entry) × (histories.entry_in_progress self.now.core.history ≡ Some e) × (result ≡ e.session) }
     {
-        match self.book.opened() {
+        match self.book.ledger().opened() {
             Some(entry) => entry.session,
             None => unreachable!(),
         }
@@ -688,9 +709,10 @@ impl<B: Backend, S: Store> State<B, S> {
         requires behind { moves.first_lagging self.old.core.history 0 self.old.core.positions ≡ None }
         ensures { self.new ≡ with_core self.old (ended_for self.old.core s) }
     {
-        let number = self.book.length();
+        let number = self.book.ledger().length();
         self.sessions.answer(s, number);
-        self.book.end(self.failed, self.starved);
+        hear_all(&self.board, &mut self.pass, &mut self.book, &mut self.cells);
+        self.book.end(&self.board, self.failed, self.starved);
         self.failed = 0;
         self.starved = 0;
         self.first_outcome = None;
@@ -708,7 +730,14 @@ impl<B: Backend, S: Store> State<B, S> {
         ensures setup { self.new.setup ≡ self.old.setup }
         ensures cache { self.new.cache ≡ self.old.cache }
     {
-        let did = take(&self.book, &mut self.cells, &self.accounts, b);
+        let did = take(
+            &self.board,
+            &mut self.pass,
+            &mut self.book,
+            &mut self.cells,
+            &self.accounts,
+            b,
+        );
         self.failed = failed_after(self.failed, b, did);
         self.starved = starved_after(self.starved, b, did);
         self.first_outcome = first_outcome_after(self.first_outcome, did);
@@ -727,7 +756,14 @@ impl<B: Backend, S: Store> State<B, S> {
         ensures setup { self.new.setup ≡ self.old.setup }
         ensures cache { self.new.cache ≡ self.old.cache }
     {
-        take(&self.book, &mut self.cells, &self.accounts, b)
+        take(
+            &self.board,
+            &mut self.pass,
+            &mut self.book,
+            &mut self.cells,
+            &self.accounts,
+            b,
+        )
     }
 
     /// Asks the backend for a session in transaction `tx`, 0 for none, and notes in the history where
@@ -762,9 +798,19 @@ impl<B: Backend, S: Store> State<B, S> {
         let login = self
             .accounts
             .mapped(asking_user(&self.sessions, s, user), b);
-        match self.cells[b as usize].read(login, tx, select, least) {
+        match read_at(
+            &self.board,
+            &mut self.pass,
+            &mut self.book,
+            &mut self.cells,
+            b,
+            login,
+            tx,
+            select,
+            least,
+        ) {
             Ok(answered) => Ok(answered),
-            Err(error) => Err(noted(&mut self.book, s, number, b, error)),
+            Err(error) => Err(noted(&self.board, &mut self.book, s, number, b, error)),
         }
     }
 
@@ -783,7 +829,7 @@ impl<B: Backend, S: Store> State<B, S> {
         ensures setup { self.new.setup ≡ self.old.setup }
         ensures cache { self.new.cache ≡ self.old.cache }
     {
-        self.cells[b as usize].contents()
+        contents_at(&self.board, &mut self.cells, b)
     }
 
     /// Arms the backend, if it can be.
@@ -798,7 +844,7 @@ impl<B: Backend, S: Store> State<B, S> {
         ensures setup { self.new.setup ≡ self.old.setup }
         ensures cache { self.new.cache ≡ self.old.cache }
     {
-        self.cells[b as usize].arm();
+        arm_at(&mut self.cells, b);
     }
 
     pub fn switch_off(&mut self, b: u8) -> Result<(), BookError>
@@ -808,7 +854,7 @@ impl<B: Backend, S: Store> State<B, S> {
         ensures ok { OnOk result (self.new ≡ with_core self.old (happened self.old.core (Event.Disabled b))) }
         ensures err { OnErr result (self.new ≡ self.old) }
     {
-        self.book.disable(b)
+        self.book.disable(&self.board, b)
     }
 
     pub fn switch_on(&mut self, b: u8) -> Result<(), BookError>
@@ -819,14 +865,21 @@ impl<B: Backend, S: Store> State<B, S> {
         ensures ok { OnOk result (self.new ≡ with_core self.old (happened self.old.core (Event.Enabled b))) }
         ensures err { OnErr result (self.new ≡ self.old) }
     {
-        self.book.enable(b)
+        hear(
+            &self.board,
+            &mut self.pass,
+            &mut self.book,
+            &mut self.cells,
+            b,
+        );
+        self.book.enable(&self.board, b)
     }
 
     /// Whether a marker or a dump has the name.
     pub fn is_taken(&self, name: &Name) -> bool
         ensures { result ≡ (histories.has_marker self.now.core.history name.now || is_dumped self.now.core name.now) }
     {
-        self.book.is_taken(name) || self.dumps.find(name).is_some()
+        self.book.ledger().is_taken(name) || self.dumps.find(name).is_some()
     }
 
     /// Marks a checkpoint of a name that no marker has, and answers how many entries stand before it.
@@ -841,7 +894,7 @@ impl<B: Backend, S: Store> State<B, S> {
         ensures checked { OnErr result (¬ IsErrOf result BookError.LogFault → ¬ IsErrOf result BookError.NoMemory → self.new ≡ self.old) }
         ensures cause { CountsFault (IsErrOf result BookError.LogFault) self.old.recovery_log.faults self.new.recovery_log.faults }
     {
-        self.book.mark(name, None)
+        self.book.mark(&self.board, name, None)
     }
 
     // ---- dumps
@@ -859,7 +912,7 @@ impl<B: Backend, S: Store> State<B, S> {
         requires taken { (name : List ℕ) × (find_dump self.now.core.dumps name ≡ Some dump.now) }
         ensures { result ≡ hosts_beyond self.now.core.placement b dump.now.source }
     {
-        self.book.placement().hosts_beyond(b, dump.source)
+        self.book.ledger().placement().hosts_beyond(b, dump.source)
     }
 
     /// Keeps a dump of what the backend holds, and answers how many entries it has taken.
@@ -876,12 +929,12 @@ impl<B: Backend, S: Store> State<B, S> {
         let Some(position) = self.position(b) else {
             unreachable!()
         };
-        let covers = self.book.placement().covered(self.alloc, b)?;
+        let covers = self.book.ledger().placement().covered(self.alloc, b)?;
         let dump = Dump {
             position,
             source: b,
             name: name.copy(),
-            all: self.book.placement().all(),
+            all: self.book.ledger().placement().all(),
             covers,
             db,
         };
@@ -899,7 +952,7 @@ impl<B: Backend, S: Store> State<B, S> {
         ensures same { self.new ≡ self.old }
     {
         match self.dumps.read(name)? {
-            Some(dump) => Ok(cut(dump, self.book.placement(), b)),
+            Some(dump) => Ok(cut(dump, self.book.ledger().placement(), b)),
             None => unreachable!(),
         }
     }
@@ -919,7 +972,15 @@ impl<B: Backend, S: Store> State<B, S> {
         ensures cache { self.new.cache ≡ self.old.cache }
     {
         let Dump { position, db, .. } = self.cut_dump(b, name)?;
-        self.cells[b as usize].load(db, position)?;
+        load_at(
+            &self.board,
+            &mut self.pass,
+            &mut self.book,
+            &mut self.cells,
+            b,
+            db,
+            position,
+        )?;
         Ok(position)
     }
 
@@ -937,7 +998,7 @@ impl<B: Backend, S: Store> State<B, S> {
     pub fn kept(&self, select: &Select) -> Option<&Answer>
         ensures { option_copied result ≡ answer_kept select.now self.now.cache }
     {
-        self.book.kept(select)
+        self.book.ledger().kept(select)
     }
 
     /// Keeps what the query is answered at the log's end.
@@ -947,7 +1008,7 @@ impl<B: Backend, S: Store> State<B, S> {
         ensures ok { OnOk result (self.new ≡ with_cache self.old (after_keep (record { select = select; answer = answer; at = moves.last_number self.old.core }) self.old.cache)) }
         ensures err { OnErr result (self.new ≡ self.old) }
     {
-        let end = self.book.length();
+        let end = self.book.ledger().length();
         // No entry stands behind the log's end, so that it is kept.
         self.book.keep(select, answer, end)?;
         Ok(())
@@ -957,13 +1018,13 @@ impl<B: Backend, S: Store> State<B, S> {
     pub fn keeps_none(&self) -> bool
         ensures { result ≡ true → (e : Cached) → after_keep e self.now.cache ≡ self.now.cache }
     {
-        self.book.keeps_none()
+        self.book.ledger().keeps_none()
     }
 
     /// Hits and misses of the cache.
     pub fn cache_counts(&self) -> (u64, u64)
         ensures { result ≡ (self.now.cache.hits, self.now.cache.misses) }
     {
-        self.book.counts()
+        self.book.ledger().counts()
     }
 }

@@ -31,3 +31,8 @@ pub record Kept (tells : Bool) (w : WorldState) (numbers : List ℕ) (first_outc
 abbrev pub KeptFresh : Bool → WorldState → List ℕ → Option Outcome → CacheState → List Dump → Type 0
 KeptFresh tells w numbers first_outcome cache dumps =
     Kept tells w numbers first_outcome × IsFreshCache tells (log w.core.history) cache × AreDumpsOf tells w.core.placement (log w.core.history) dumps
+
+-- and its book and its cells are seated so
+abbrev pub KeptSeated : Bool → WorldState → List ℕ → Option Outcome → CacheState → List Dump → Type 0 → Type 0
+KeptSeated tells w numbers first_outcome cache dumps seated =
+    Kept tells w numbers first_outcome × IsFreshCache tells (log w.core.history) cache × AreDumpsOf tells w.core.placement (log w.core.history) dumps × seated

@@ -1,12 +1,15 @@
 use Rattle.std.proofs.Common.{length, vec_capacity}
 use Rattle.cj_place.specs.Layouts.{placement_of}
 use Rattle.cj_core.specs.Starts.{state_by}
-use Rattle.cj_core.proofs.Starting.{Moving}
+use Rattle.cj_board.specs.Seats.{board_id}
+use Rattle.cj_state.specs.Seats.{states_of}
+use Rattle.cj_core.proofs.Starting.{Moving, Seating}
 use Rattle.cj_core.proofs.start.cells_of.Given as goal
 
 abbrev pub invariant-loop-backend : goal.invariant-loop-backend
 invariant-loop-backend g l =
-    Moving (state_by g.B.Backend.told g.B.Backend.faults g.B.Backend.asks g.B.Backend.login g.B.Backend.arming) g.B.Backend.begun (placement_of l.fn.placement) l.fn.backends.items l.backends.items l.cells.items (vec_capacity l.cells)
+    Moving (state_by g.B.Backend.told g.B.Backend.faults g.B.Backend.asks g.B.Backend.login g.B.Backend.arming) g.B.Backend.begun (placement_of l.fn.placement) l.fn.backends.items l.backends.items (states_of l.cells.items) (vec_capacity l.cells)
+    × Seating g.B.Backend.told g.B.Backend.TELLS (board_id l.fn.board) l.backends.items l.seats.items l.cells.items
 
 abbrev pub decreases-loop-backend : goal.decreases-loop-backend
 decreases-loop-backend g l = length l.backends.items

@@ -1,30 +1,40 @@
-use Rattle.std.proofs.Common.{◌≡◌, ◌+◌, ◌-◌, List, slice_get, slice_set, Some, ℕ, refl, sym, ap, ◌∙◌, arith}
-use Rattle.cj_cluster.specs.History.Histories.{log}
-use Rattle.cj_cluster.specs.Moves.Moves.{position_or_zero}
-use Rattle.cj_cluster.proofs.TransactionLaws.{fit_at}
+use Rattle.std.proofs.Common.{◌≡◌, ◌<◌, ◌+◌, ◌≤◌, ℕ, List, length, get_or, slice_get, None, Some, ⊎_elim, ap, sym, ◌∙◌, subst, arith}
+use Rattle.std.proofs.lemmas.List.{length-map, length-set}
+use Rattle.std.proofs.lemmas.Option.{slice_get_cases}
+use mathlib.Core.List.{IsPrefix}
+use Rattle.cj_board.specs.Points.{fault_tokens_of}
+use Rattle.cj_cluster.specs.declared.event.Event.{Event}
+use Rattle.cj_book.specs.Books.{BookState}
 use Rattle.cj_replica.specs.Cells.{CellState}
-use Rattle.cj_state.proofs.Catching.{took}
+use Rattle.cj_replica.specs.Seated.{SeatedCell}
+use Rattle.cj_state.specs.Proving.Taking.{CanTake, TookEntry}
+use Rattle.cj_state.specs.Proving.Seated.{AreNumbered}
+use Rattle.cj_state.specs.Seats.{states_of}
+use Rattle.cj_state.proofs.HeardOf.{heard_then}
 use Rattle.cj_state.proofs.cells.take.Goals as goal
 
--- the entry that was found is the one at the cell's position
-found : {A : Type 0} (xs : List A) (p next : ℕ) (x : A) → next ≡ p + 1 → Some x ≡ slice_get xs (next - 1) → slice_get xs p ≡ Some x
-found xs p next x is read = let e : next - 1 ≡ p = omega arith in ap (slice_get xs) (sym e) ∙ sym read
+pub returns-clause-heard : goal.returns-clause-heard
+returns-clause-heard g c = heard_then c.args.book.now c.tell.new.book c.hear.new.book c.tell.ensures.heard c.hear.ensures.heard.heard
 
-pub catch_up-requires-clause-written : goal.catch_up-requires-clause-written
-catch_up-requires-clause-written g c =
-    let can = c.requires.can in
-    let at : c.position.result ≡ Some can.p = c.position.ensures ∙ (ap (λ (x : CellState). x.position) c.index.ensures ∙ can.stands c.index.result.now) in
-    let next : c.place-next.result + 1 ≡ can.p + 1 = ap (λ q. q + 1) (c.place-next.ensures ∙ ap position_or_zero at) in
-    (fit_at (log c.args.book.now.history) can.p c.in-Some.entry.now can.fits (found (log c.args.book.now.history) can.p (c.place-next.result + 1) c.in-Some.entry.now next (c.in-Some.ensures.numbered (omega arith)))).written
+pub returns-clause-took : goal.returns-clause-took
+returns-clause-took g c =
+    subst (λ (now : List CellState). TookEntry g.B.Backend.TELLS c.args.accounts.now.accounts c.args.book.now.state.layout c.args.book.now.state.history (states_of c.args.cells.now.items) c.args.b c.catch_up_at-did.result now) (sym c.hear.ensures.cells)
+    (subst (λ (was : List CellState). TookEntry g.B.Backend.TELLS c.args.accounts.now.accounts c.args.book.now.state.layout c.args.book.now.state.history was c.args.b c.catch_up_at-did.result (states_of c.catch_up_at-did.new.cells.items)) c.tell.ensures.cells
+    (subst (λ (k : BookState g.row.S.Denot). TookEntry g.B.Backend.TELLS c.args.accounts.now.accounts k.layout k.history (states_of c.tell.new.cells.items) c.args.b c.catch_up_at-did.result (states_of c.catch_up_at-did.new.cells.items)) c.tell.ensures.heard.state c.catch_up_at-did.ensures.took))
 
-pub returns : goal.returns
-returns g c =
-    let can = c.requires.can in
-    let at : c.position.result ≡ Some can.p = c.position.ensures ∙ (ap (λ (x : CellState). x.position) c.index.ensures ∙ can.stands c.index.result.now) in
-    let next : c.place-next.result + 1 ≡ can.p + 1 = ap (λ q. q + 1) (c.place-next.ensures ∙ ap position_or_zero at) in
-    let entry = found (log c.args.book.now.history) can.p (c.place-next.result + 1) c.in-Some.entry.now next (c.in-Some.ensures.numbered (omega arith)) in
-    rw c.did_of.ensures
-    (took g.B.Backend.TELLS c.args.accounts.now.accounts c.args.book.now.layout c.args.book.now.history c.args.cells.now.items c.args.b can c.index_mut.result.now c.catch_up.new.self c.index_mut.ensures.value c.in-Some.entry.now entry
-    c.catch_up.ensures.b c.catch_up.ensures.placement c.catch_up.result (c.place-next.result + 1) (slice_set c.args.cells.now.items c.args.b c.catch_up.new.self) next refl c.catch_up.ensures.part c.catch_up.ensures.outcome c.catch_up.ensures.possible
-    c.catch_up.ensures.cause c.catch_up.ensures.arming.after c.catch_up.ensures.told c.catch_up.ensures.position c.catch_up.ensures.begun
-    c.mapped-login.result.now c.mapped-login.ensures c.catch_up.ensures.login)
+pub catch_up_at-did-requires-clause-told : goal.catch_up_at-did-requires-clause-told
+catch_up_at-did-requires-clause-told g c = λ d. subst (λ (k : BookState g.row.S.Denot). IsPrefix k.history (get_or c.tell.new.cells.items c.args.b d).view.front) (sym c.tell.ensures.heard.state) (c.tell.ensures.told d)
+
+pub returns-clause-token : goal.returns-clause-token
+returns-clause-token g c failed =
+    let cells : List SeatedCell = c.catch_up_at-did.new.cells.items in
+    let long : length (states_of cells) ≡ length (states_of c.tell.new.cells.items) = ap length c.catch_up_at-did.ensures.took.set ∙ length-set (states_of c.tell.new.cells.items) c.args.b c.catch_up_at-did.ensures.took.cell in
+    let as_many : length cells ≡ length (states_of c.args.cells.now.items) = sym (length-map cells (λ (z : SeatedCell). z.state)) ∙ (long ∙ ap length c.tell.ensures.cells) in
+    let within : c.args.b < length (states_of c.args.cells.now.items) = c.requires.can.within in
+    ⊎_elim
+    (λ (there : (x : SeatedCell) × (c.args.b < length cells) × (slice_get cells c.args.b ≡ Some x) × (get_or cells c.args.b x ≡ x)).
+    let one = c.catch_up_at-did.ensures.token failed there.0 there.2 in
+    let heard = c.hear.ensures.heard.fault there.0 c.args.b there.2 in
+    omega (arith, one, heard))
+    (λ (past : (length cells ≤ c.args.b) × (slice_get cells c.args.b ≡ None)). let le = past.0 in absurd (omega (arith, le, as_many, within)))
+    (slice_get_cases cells c.args.b).1

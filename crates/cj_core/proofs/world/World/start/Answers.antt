@@ -1,5 +1,6 @@
 use Rattle.std.proofs.Common.{ℕ, List, map, sym, ap, ◌∙◌, subst, ◌≡◌, true}
 use mathlib.Core.List.{IsPrefix}
+use Rattle.cj_board.specs.declared.view.SeatView.{SeatView}
 use Rattle.cj_cluster.specs.declared.event.Event.{Event}
 use Rattle.cj_cluster.specs.Moves.Cores.{Core}
 use Rattle.cj_log.specs.declared.item.LogItem.{LogItem}
@@ -13,27 +14,23 @@ use Rattle.cj_core.specs.Starts.{backend_of, state_by, LosesNothing}
 use Rattle.cj_core.proofs.Starting.{told_of_backends}
 use Rattle.cj_core.proofs.StartLonger.{fault_of_start, loses_nothing, refused_again, refused_part, started_well}
 use Rattle.cj_core.proofs.StartWhole.{starts_from}
+use Rattle.cj_state.specs.Seats.{states_of}
 use Rattle.cj_core.proofs.world.World.start.Goals as goal
-
-pub new-state-requires-clause-empty : goal.new-state-requires-clause-empty
-new-state-requires-clause-empty g c =
-    let b = g.B.Backend in
-    subst (AreEmpty b.TELLS) (ap (map b.told) (sym c.into_vec-list.ensures) ∙ told_of_backends b.told b.faults b.asks b.login b.arming c.into_vec-list.result.items c.in-Ok.cells.items (sym c.in-Ok.ensures.same)) c.requires.empty
 
 pub returns-in-Ok-brought-clause-started : goal.returns-in-Ok-brought-clause-started
 returns-in-Ok-brought-clause-started g c =
     let b = g.B.Backend in
-    let book = c.in_ok-book.book in
+    let book = c.in_ok-book.book.state in
     let opened = c.in_ok-book.ensures.started in
     let went = c.in-Ok-brought.ensures in
     starts_from (λ (items : List LogItem). g.S.Store.TELLS ≡ true → KeepsItems (g.S.Store.held c.args.log) items) (items_of book.history) (placement_of c.args.parts.book.placement) book.history
     (map (state_by b.told b.faults b.asks b.login b.arming) c.args.backends) c.new-state.result c.bring_up-brought.new.state (λ tells. (c.in_ok-book.ensures.bytes tells).0) opened.opens
     (c.new-state.ensures.core ∙ ap (λ (l : Layout). opened_core (placement_of l) book.history) opened.layout)
-    (ap (λ (cells : List CellState). map backend_of cells) c.new-state.ensures.cells ∙ (c.in-Ok.ensures.same ∙ ap (map (state_by b.told b.faults b.asks b.login b.arming)) c.into_vec-list.ensures)) went.started went.uncalled
+    (ap (λ (cells : List CellState). map backend_of cells) c.new-state.ensures.cells ∙ c.in-Ok.ensures.same) went.started went.uncalled
 
 pub returns-in-Ok-brought-clause-kept : goal.returns-in-Ok-brought-clause-kept
 returns-in-Ok-brought-clause-kept g c = λ t.
-    let book = c.in_ok-book.book in
+    let book = c.in_ok-book.book.state in
     let opened = c.in_ok-book.ensures.started in
     let core = c.new-state.ensures.core in
     let opens : OpensTo (items_of c.new-state.result.core.history) c.new-state.result.core.history = subst (λ (h : List Event). OpensTo (items_of h) h) (sym (ap (λ (k : Core). k.history) core)) opened.opens in
@@ -46,7 +43,7 @@ pub returns-in-Err-clause-bytes : goal.returns-in-Err-clause-bytes
 returns-in-Err-clause-bytes g c = λ t.
     let held = g.S.Store.held in
     let old = held c.args.log in
-    let book = c.in_ok-book.book in
+    let book = c.in_ok-book.book.state in
     let opened = c.in_ok-book.ensures.started in
     let core = c.new-state.ensures.core in
     let now = c.bring_up-brought.new.state in

@@ -24,120 +24,151 @@ use Rattle.cj_state.proofs.Counted.{armings_set, counts_set, logins_set, spent_t
 use Rattle.cj_state.proofs.Dumped.{dumps_event}
 use Rattle.cj_state.proofs.Fresh.{fresh_event}
 use Rattle.cj_cluster.specs.declared.event.Event.TheVariants.{ReadFailed}
+use Rattle.cj_state.specs.Seats.{states_of}
+use Rattle.cj_model.specs.declared.answer.Asked.{Asked}
+use Rattle.cj_state.specs.CalledLogins.{CallsUnder}
+use Rattle.cj_state.proofs.ChangedCell.{inside, inside_states}
+use Rattle.cj_state.proofs.HeardOf.{ready_heard}
+use Rattle.cj_board.specs.Seats.{board_id, pass_board}
+use Rattle.cj_state.proofs.SeatsKept.{at_book, ready_noted, seats_same}
 use Rattle.cj_state.proofs.state.State.ask.Goals as goal
-
-within : (n b : ℕ) (cells : List CellState) → length (map (λ (x : CellState). x.position) cells) ≡ n → b < n → b < length cells
-within n b cells is lt = subst (λ (m : ℕ). b < m) (sym is ∙ length-map cells (λ (x : CellState). x.position)) lt
 
 pub invariant_of-self-in-Ok : goal.invariant_of-self-in-Ok
 invariant_of-self-in-Ok g c =
     let w = c.self.inside in
-    let lt = within (length w.book.layout.names) c.args.b w.cells.items c.self.invariant.0.world.sound.cells (subst (λ (x : WorldState). c.args.b < x.core.placement.backends) (sym c.self.view_is) c.requires.within) in
-    let kept = kept_asked g.B.Backend.TELLS w.accounts w.book.layout w.book.history w.cells.items w.failed w.starved w.sessions w.book.greatest w.dumps w.book.sessions w.first_outcome c.self.invariant.0 c.args.b lt c.index_mut.result.now c.index_mut.ensures.value c.read.new.self c.read.ensures.same in
-    let asked = subst (λ (k : BookState g.row.S.Denot). KeptFresh g.B.Backend.TELLS (world_of w.accounts k.layout k.history (set w.cells.items c.args.b c.read.new.self) w.failed w.starved w.sessions k.greatest w.dumps) k.sessions w.first_outcome k.cache w.dumps) (sym c.in_ok-take_spare.ensures.ok) (kept, c.self.invariant.1, c.self.invariant.2) in
-    asked
+    let ch = c.in-Ok.ensures.read in
+    let is_spared = c.read_at.ensures.heard.state ∙ c.in_ok-take_spare.ensures.ok in
+    let lt = inside_states (length w.book.state.layout.names) c.args.b (states_of w.cells.items) c.self.invariant.0.world.sound.cells (subst (λ (x : WorldState). c.args.b < x.core.placement.backends) (sym c.self.view_is) c.requires.within) in
+    let kept = kept_asked g.B.Backend.TELLS w.accounts w.book.state.layout w.book.state.history (states_of w.cells.items) w.failed w.starved w.sessions w.book.state.greatest w.dumps w.book.state.sessions w.first_outcome c.self.invariant.0 c.args.b lt ch.before ch.value ch.after ch.how.same in
+    let asked = subst (λ (k : BookState g.row.S.Denot). KeptFresh g.B.Backend.TELLS (world_of w.accounts k.layout k.history (set (states_of w.cells.items) c.args.b ch.after) w.failed w.starved w.sessions k.greatest w.dumps) k.sessions w.first_outcome k.cache w.dumps) (sym is_spared) (kept, c.self.invariant.1, c.self.invariant.2) in
+    let q = subst (λ (xs : List CellState). KeptFresh g.B.Backend.TELLS (world_of w.accounts c.read_at.new.book.state.layout c.read_at.new.book.state.history xs w.failed w.starved w.sessions c.read_at.new.book.state.greatest w.dumps) c.read_at.new.book.state.sessions w.first_outcome c.read_at.new.book.state.cache w.dumps) (sym ch.set) asked in
+    let spared = seats_same (board_id w.board) (pass_board w.pass) w.book c.take_spare.new.self w.cells.items w.failed c.self.invariant.3.0 c.self.invariant.3.1 c.take_spare.ensures.seat in
+    (q.0, q.1, q.2, (c.read_at.ensures.at, ready_heard c.take_spare.new.self c.read_at.new.book w.failed spared.1 c.read_at.ensures.heard))
 
 pub returns-in-Ok-clause-core : goal.returns-in-Ok-clause-core
 returns-in-Ok-clause-core g c =
     let w = c.self.inside in
-    let lt = within (length w.book.layout.names) c.args.b w.cells.items c.self.invariant.0.world.sound.cells (subst (λ (x : WorldState). c.args.b < x.core.placement.backends) (sym c.self.view_is) c.requires.within) in
-    let same = same_core g.B.Backend.TELLS w.accounts w.book.layout w.book.history w.cells.items w.failed w.starved w.sessions w.book.greatest w.dumps w.book.sessions w.first_outcome c.self.invariant.0 c.args.b lt c.index_mut.result.now c.index_mut.ensures.value c.read.new.self c.read.ensures.same in
-    let core : core_of c.take_spare.new.self.layout c.take_spare.new.self.history (set w.cells.items c.args.b c.read.new.self) w.failed w.starved w.sessions c.take_spare.new.self.greatest w.dumps ≡ c.args.self.now.core =
-    ap (λ (k : BookState g.row.S.Denot). core_of k.layout k.history (set w.cells.items c.args.b c.read.new.self) w.failed w.starved w.sessions k.greatest w.dumps) c.in_ok-take_spare.ensures.ok ∙ (same ∙ ap (λ (x : WorldState). x.core) c.self.view_is)
+    let ch = c.in-Ok.ensures.read in
+    let is_spared = c.read_at.ensures.heard.state ∙ c.in_ok-take_spare.ensures.ok in
+    let lt = inside_states (length w.book.state.layout.names) c.args.b (states_of w.cells.items) c.self.invariant.0.world.sound.cells (subst (λ (x : WorldState). c.args.b < x.core.placement.backends) (sym c.self.view_is) c.requires.within) in
+    let same = same_core g.B.Backend.TELLS w.accounts w.book.state.layout w.book.state.history (states_of w.cells.items) w.failed w.starved w.sessions w.book.state.greatest w.dumps w.book.state.sessions w.first_outcome c.self.invariant.0 c.args.b lt ch.before ch.value ch.after ch.how.same in
+    let core : core_of c.read_at.new.book.state.layout c.read_at.new.book.state.history (set (states_of w.cells.items) c.args.b ch.after) w.failed w.starved w.sessions c.read_at.new.book.state.greatest w.dumps ≡ c.args.self.now.core =
+    ap (λ (k : BookState g.row.S.Denot). core_of k.layout k.history (set (states_of w.cells.items) c.args.b ch.after) w.failed w.starved w.sessions k.greatest w.dumps) is_spared ∙ (same ∙ ap (λ (x : WorldState). x.core) c.self.view_is)
     in
-    core
+    ap (λ (xs : List CellState). core_of c.read_at.new.book.state.layout c.read_at.new.book.state.history xs w.failed w.starved w.sessions c.read_at.new.book.state.greatest w.dumps) ch.set ∙ core
 
 pub returns-in-Ok-clause-asks : goal.returns-in-Ok-clause-asks
 returns-in-Ok-clause-asks g c =
     let w = c.self.inside in
-    let lt = within (length w.book.layout.names) c.args.b w.cells.items c.self.invariant.0.world.sound.cells (subst (λ (x : WorldState). c.args.b < x.core.placement.backends) (sym c.self.view_is) c.requires.within) in
+    let ch = c.in-Ok.ensures.read in
+    let lt = inside_states (length w.book.state.layout.names) c.args.b (states_of w.cells.items) c.self.invariant.0.world.sound.cells (subst (λ (x : WorldState). c.args.b < x.core.placement.backends) (sym c.self.view_is) c.requires.within) in
     let least = subst (λ (x : WorldState). c.least-least.result ≡ (session_at x.core c.args.s).least) (sym c.self.view_is) c.least-least.ensures in
     let serves = subst (λ (x : WorldState). hosts_all x.core.placement c.args.b c.args.select.now.tables ≡ true) (sym c.self.view_is) c.requires.serves.1 in
     subst (λ (x : WorldState). Asks g.B.Backend.TELLS x.core c.args.s c.args.b c.args.tx c.args.select.now (Ok c.in-Ok.answered)) c.self.view_is
-    (answers g.B.Backend.TELLS w.accounts w.book.layout w.book.history w.cells.items w.failed w.starved w.sessions w.book.greatest w.dumps w.book.sessions w.first_outcome c.self.invariant.0 c.args.b lt c.index_mut.result.now c.index_mut.ensures.value c.args.s c.args.tx c.args.select.now c.least-least.result least serves c.in-Ok.answered.0 c.in-Ok.answered.1 c.in-Ok.ensures.answer c.in-Ok.ensures.possible c.in-Ok.ensures.at c.in-Ok.ensures.owed)
+    (answers g.B.Backend.TELLS w.accounts w.book.state.layout w.book.state.history (states_of w.cells.items) w.failed w.starved w.sessions w.book.state.greatest w.dumps w.book.state.sessions w.first_outcome c.self.invariant.0 c.args.b lt ch.before ch.value c.args.s c.args.tx c.args.select.now c.least-least.result least serves c.in-Ok.answered.0 c.in-Ok.answered.1 ch.how.answer ch.how.possible ch.how.at ch.how.owed)
 
 pub returns-in-Ok-clause-counts : goal.returns-in-Ok-clause-counts
 returns-in-Ok-clause-counts g c =
     let w = c.self.inside in
-    let lt = within (length w.book.layout.names) c.args.b w.cells.items c.self.invariant.0.world.sound.cells (subst (λ (x : WorldState). c.args.b < x.core.placement.backends) (sym c.self.view_is) c.requires.within) in
-    let is : get_or w.cells.items c.args.b c.read.new.self ≡ c.index_mut.result.now = get_or_default w.cells.items c.args.b c.read.new.self c.index_mut.result.now lt ∙ sym c.index_mut.ensures.value in
-    let same = subst (λ (x : CellState). c.read.new.self.faults ≡ x.faults) (sym is) (c.in-Ok.ensures.cause.uncounted (λ failed. cc failed)) in
-    counts_set w.cells.items c.args.b c.read.new.self false lt same ∙ ap (λ (x : WorldState). faults_of x.cells) c.self.view_is
+    let ch = c.in-Ok.ensures.read in
+    let lt = inside_states (length w.book.state.layout.names) c.args.b (states_of w.cells.items) c.self.invariant.0.world.sound.cells (subst (λ (x : WorldState). c.args.b < x.core.placement.backends) (sym c.self.view_is) c.requires.within) in
+    let is : get_or (states_of w.cells.items) c.args.b ch.after ≡ ch.before = get_or_default (states_of w.cells.items) c.args.b ch.after ch.before lt ∙ sym ch.value in
+    let same = subst (λ (x : CellState). ch.after.faults ≡ x.faults) (sym is) (ch.how.cause.uncounted (λ failed. cc failed)) in
+    ap faults_of ch.set ∙ (counts_set (states_of w.cells.items) c.args.b ch.after false lt same ∙ ap (λ (x : WorldState). faults_of x.cells) c.self.view_is)
 
 pub invariant_of-self-in-Err : goal.invariant_of-self-in-Err
 invariant_of-self-in-Err g c =
     let w = c.self.inside in
-    let lt = within (length w.book.layout.names) c.args.b w.cells.items c.self.invariant.0.world.sound.cells (subst (λ (x : WorldState). c.args.b < x.core.placement.backends) (sym c.self.view_is) c.requires.within) in
-    let kept = kept_asked g.B.Backend.TELLS w.accounts w.book.layout w.book.history w.cells.items w.failed w.starved w.sessions w.book.greatest w.dumps w.book.sessions w.first_outcome c.self.invariant.0 c.args.b lt c.index_mut.result.now c.index_mut.ensures.value c.read.new.self c.read.ensures.same in
-    let asked = subst (λ (k : BookState g.row.S.Denot). KeptFresh g.B.Backend.TELLS (world_of w.accounts k.layout k.history (set w.cells.items c.args.b c.read.new.self) w.failed w.starved w.sessions k.greatest w.dumps) k.sessions w.first_outcome k.cache w.dumps) (sym c.in_ok-take_spare.ensures.ok) (kept, c.self.invariant.1, c.self.invariant.2) in
-    noting (λ (k : BookState g.row.S.Denot). KeptFresh g.B.Backend.TELLS (world_of w.accounts k.layout k.history (set w.cells.items c.args.b c.read.new.self) w.failed w.starved w.sessions k.greatest w.dumps) k.sessions w.first_outcome k.cache w.dumps)
-    c.take_spare.new.self c.noted.new.book c.args.s c.read_number-number.result c.args.b c.in-Err.error c.noted.result c.noted.ensures asked
+    let ch = c.in-Err.ensures.read in
+    let is_spared = c.read_at.ensures.heard.state ∙ c.in_ok-take_spare.ensures.ok in
+    let lt = inside_states (length w.book.state.layout.names) c.args.b (states_of w.cells.items) c.self.invariant.0.world.sound.cells (subst (λ (x : WorldState). c.args.b < x.core.placement.backends) (sym c.self.view_is) c.requires.within) in
+    let kept = kept_asked g.B.Backend.TELLS w.accounts w.book.state.layout w.book.state.history (states_of w.cells.items) w.failed w.starved w.sessions w.book.state.greatest w.dumps w.book.state.sessions w.first_outcome c.self.invariant.0 c.args.b lt ch.before ch.value ch.after ch.how.same in
+    let asked = subst (λ (k : BookState g.row.S.Denot). KeptFresh g.B.Backend.TELLS (world_of w.accounts k.layout k.history (set (states_of w.cells.items) c.args.b ch.after) w.failed w.starved w.sessions k.greatest w.dumps) k.sessions w.first_outcome k.cache w.dumps) (sym is_spared) (kept, c.self.invariant.1, c.self.invariant.2) in
+    let q =
+    noting (λ (k : BookState g.row.S.Denot). KeptFresh g.B.Backend.TELLS (world_of w.accounts k.layout k.history (set (states_of w.cells.items) c.args.b ch.after) w.failed w.starved w.sessions k.greatest w.dumps) k.sessions w.first_outcome k.cache w.dumps)
+    c.read_at.new.book.state c.noted.new.book.state c.args.s c.read_number-number.result c.args.b c.in-Err.error c.noted.result c.noted.ensures.notes asked
     (λ space. (
-      kept_read_failed g.B.Backend.TELLS w.accounts c.take_spare.new.self.layout c.take_spare.new.self.history (set w.cells.items c.args.b c.read.new.self) w.failed w.starved w.sessions c.take_spare.new.self.greatest w.dumps c.take_spare.new.self.sessions w.first_outcome asked.0 c.args.s c.read_number-number.result c.args.b space,
-      fresh_event c.take_spare.new.self.history c.take_spare.new.self.cache g.B.Backend.TELLS (ReadFailed c.args.s c.read_number-number.result c.args.b) refl asked.1,
-      dumps_event g.B.Backend.TELLS (placement_of c.take_spare.new.self.layout) c.take_spare.new.self.history w.dumps asked.2 (ReadFailed c.args.s c.read_number-number.result c.args.b) refl,
+      kept_read_failed g.B.Backend.TELLS w.accounts c.read_at.new.book.state.layout c.read_at.new.book.state.history (set (states_of w.cells.items) c.args.b ch.after) w.failed w.starved w.sessions c.read_at.new.book.state.greatest w.dumps c.read_at.new.book.state.sessions w.first_outcome asked.0 c.args.s c.read_number-number.result c.args.b space,
+      fresh_event c.read_at.new.book.state.history c.read_at.new.book.state.cache g.B.Backend.TELLS (ReadFailed c.args.s c.read_number-number.result c.args.b) refl asked.1,
+      dumps_event g.B.Backend.TELLS (placement_of c.read_at.new.book.state.layout) c.read_at.new.book.state.history w.dumps asked.2 (ReadFailed c.args.s c.read_number-number.result c.args.b) refl,
     ))
+    in
+    let whole = subst (λ (xs : List CellState). KeptFresh g.B.Backend.TELLS (world_of w.accounts c.noted.new.book.state.layout c.noted.new.book.state.history xs w.failed w.starved w.sessions c.noted.new.book.state.greatest w.dumps) c.noted.new.book.state.sessions w.first_outcome c.noted.new.book.state.cache w.dumps) (sym ch.set) q in
+    let spared = seats_same (board_id w.board) (pass_board w.pass) w.book c.take_spare.new.self w.cells.items w.failed c.self.invariant.3.0 c.self.invariant.3.1 c.take_spare.ensures.seat in
+    let ready = ready_noted c.take_spare.new.self c.read_at.new.book c.noted.new.book w.failed c.args.b c.in-Err.error spared.1 c.read_at.ensures.heard (λ is. c.in-Err.ensures.token (ap (λ (d : CellReadError). Err d) is)) c.noted.ensures.given c.noted.ensures.tokens in
+    (whole.0, whole.1, whole.2, (at_book (board_id w.board) (pass_board c.read_at.new.pass) c.read_at.new.book c.noted.new.book c.read_at.new.cells.items w.failed c.read_at.ensures.at (ready_heard c.take_spare.new.self c.read_at.new.book w.failed spared.1 c.read_at.ensures.heard) c.noted.ensures.at, ready))
 
 pub returns-in-Err-clause-core : goal.returns-in-Err-clause-core
 returns-in-Err-clause-core g c =
     let w = c.self.inside in
-    let lt = within (length w.book.layout.names) c.args.b w.cells.items c.self.invariant.0.world.sound.cells (subst (λ (x : WorldState). c.args.b < x.core.placement.backends) (sym c.self.view_is) c.requires.within) in
-    let same = same_core g.B.Backend.TELLS w.accounts w.book.layout w.book.history w.cells.items w.failed w.starved w.sessions w.book.greatest w.dumps w.book.sessions w.first_outcome c.self.invariant.0 c.args.b lt c.index_mut.result.now c.index_mut.ensures.value c.read.new.self c.read.ensures.same in
-    let core : core_of c.take_spare.new.self.layout c.take_spare.new.self.history (set w.cells.items c.args.b c.read.new.self) w.failed w.starved w.sessions c.take_spare.new.self.greatest w.dumps ≡ c.args.self.now.core =
-    ap (λ (k : BookState g.row.S.Denot). core_of k.layout k.history (set w.cells.items c.args.b c.read.new.self) w.failed w.starved w.sessions k.greatest w.dumps) c.in_ok-take_spare.ensures.ok ∙ (same ∙ ap (λ (x : WorldState). x.core) c.self.view_is)
+    let ch = c.in-Err.ensures.read in
+    let is_spared = c.read_at.ensures.heard.state ∙ c.in_ok-take_spare.ensures.ok in
+    let lt = inside_states (length w.book.state.layout.names) c.args.b (states_of w.cells.items) c.self.invariant.0.world.sound.cells (subst (λ (x : WorldState). c.args.b < x.core.placement.backends) (sym c.self.view_is) c.requires.within) in
+    let same = same_core g.B.Backend.TELLS w.accounts w.book.state.layout w.book.state.history (states_of w.cells.items) w.failed w.starved w.sessions w.book.state.greatest w.dumps w.book.state.sessions w.first_outcome c.self.invariant.0 c.args.b lt ch.before ch.value ch.after ch.how.same in
+    let core : core_of c.read_at.new.book.state.layout c.read_at.new.book.state.history (set (states_of w.cells.items) c.args.b ch.after) w.failed w.starved w.sessions c.read_at.new.book.state.greatest w.dumps ≡ c.args.self.now.core =
+    ap (λ (k : BookState g.row.S.Denot). core_of k.layout k.history (set (states_of w.cells.items) c.args.b ch.after) w.failed w.starved w.sessions k.greatest w.dumps) is_spared ∙ (same ∙ ap (λ (x : WorldState). x.core) c.self.view_is)
     in
     let number = c.read_number-number.ensures ∙ ap (λ (k : Core). read_number (session_at k c.args.s)) (sym core) in
-    noted_core (set w.cells.items c.args.b c.read.new.self) w.failed w.starved w.sessions w.dumps c.take_spare.new.self c.noted.new.book c.args.s c.read_number-number.result c.args.b c.in-Err.error c.noted.result number c.noted.ensures
-    ∙ ap (λ (k : Core). asked_core k c.args.s c.args.b (Err c.noted.result)) core
+    ap (λ (xs : List CellState). core_of c.noted.new.book.state.layout c.noted.new.book.state.history xs w.failed w.starved w.sessions c.noted.new.book.state.greatest w.dumps) ch.set
+    ∙ (noted_core (set (states_of w.cells.items) c.args.b ch.after) w.failed w.starved w.sessions w.dumps c.read_at.new.book.state c.noted.new.book.state c.args.s c.read_number-number.result c.args.b c.in-Err.error c.noted.result number c.noted.ensures.notes
+    ∙ ap (λ (k : Core). asked_core k c.args.s c.args.b (Err c.noted.result)) core)
 
 pub returns-in-Err-clause-asks : goal.returns-in-Err-clause-asks
 returns-in-Err-clause-asks g c =
     let w = c.self.inside in
-    let lt = within (length w.book.layout.names) c.args.b w.cells.items c.self.invariant.0.world.sound.cells (subst (λ (x : WorldState). c.args.b < x.core.placement.backends) (sym c.self.view_is) c.requires.within) in
+    let ch = c.in-Err.ensures.read in
+    let is_spared = c.read_at.ensures.heard.state ∙ c.in_ok-take_spare.ensures.ok in
+    let lt = inside_states (length w.book.state.layout.names) c.args.b (states_of w.cells.items) c.self.invariant.0.world.sound.cells (subst (λ (x : WorldState). c.args.b < x.core.placement.backends) (sym c.self.view_is) c.requires.within) in
     let least = subst (λ (x : WorldState). c.least-least.result ≡ (session_at x.core c.args.s).least) (sym c.self.view_is) c.least-least.ensures in
     subst (λ (x : WorldState). Asks g.B.Backend.TELLS x.core c.args.s c.args.b c.args.tx c.args.select.now (Err c.noted.result)) c.self.view_is
-    (errs g.B.Backend.TELLS w.accounts w.book.layout w.book.history w.cells.items w.failed w.starved w.sessions w.book.greatest w.dumps w.book.sessions w.first_outcome c.self.invariant.0 c.args.b lt c.index_mut.result.now c.index_mut.ensures.value c.args.s c.args.tx c.args.select.now c.least-least.result least c.take_spare.new.self c.noted.new.book c.read_number-number.result c.in-Err.error c.noted.result
-    (ap (λ (k : BookState g.row.S.Denot). k.history) c.in_ok-take_spare.ensures.ok) c.noted.ensures c.in-Err.ensures.out c.in-Err.ensures.behind)
+    (errs g.B.Backend.TELLS w.accounts w.book.state.layout w.book.state.history (states_of w.cells.items) w.failed w.starved w.sessions w.book.state.greatest w.dumps w.book.state.sessions w.first_outcome c.self.invariant.0 c.args.b lt ch.before ch.value c.args.s c.args.tx c.args.select.now c.least-least.result least c.read_at.new.book.state c.noted.new.book.state c.read_number-number.result c.in-Err.error c.noted.result
+    (ap (λ (k : BookState g.row.S.Denot). k.history) is_spared) c.noted.ensures.notes ch.how.out ch.how.behind)
 
 pub returns-in-Err-clause-counts : goal.returns-in-Err-clause-counts
 returns-in-Err-clause-counts g c =
     let w = c.self.inside in
-    let lt = within (length w.book.layout.names) c.args.b w.cells.items c.self.invariant.0.world.sound.cells (subst (λ (x : WorldState). c.args.b < x.core.placement.backends) (sym c.self.view_is) c.requires.within) in
-    let is : get_or w.cells.items c.args.b c.read.new.self ≡ c.index_mut.result.now = get_or_default w.cells.items c.args.b c.read.new.self c.index_mut.result.now lt ∙ sym c.index_mut.ensures.value in
-    let fault = noted_fault c.take_spare.new.self c.noted.new.book c.args.s c.read_number-number.result c.args.b c.in-Err.error c.noted.result c.index_mut.result.now.faults c.read.new.self.faults c.noted.ensures c.in-Err.ensures.cause in
-    let now = subst (λ (x : CellState). c.read.new.self.faults ≡ cond fault.0 (next x.faults) x.faults) (sym is) fault.2 in
-    counts_set w.cells.items c.args.b c.read.new.self fault.0 lt now
-    ∙ (ap (λ (failed : Option ℕ). faults_after (faults_of w.cells.items) failed) (sym fault.1)
-    ∙ ap (λ (x : WorldState). faults_after (faults_of x.cells) (failed_asked c.args.b (Err c.noted.result))) c.self.view_is)
+    let ch = c.in-Err.ensures.read in
+    let lt = inside_states (length w.book.state.layout.names) c.args.b (states_of w.cells.items) c.self.invariant.0.world.sound.cells (subst (λ (x : WorldState). c.args.b < x.core.placement.backends) (sym c.self.view_is) c.requires.within) in
+    let is : get_or (states_of w.cells.items) c.args.b ch.after ≡ ch.before = get_or_default (states_of w.cells.items) c.args.b ch.after ch.before lt ∙ sym ch.value in
+    let fault = noted_fault c.read_at.new.book.state c.noted.new.book.state c.args.s c.read_number-number.result c.args.b c.in-Err.error c.noted.result ch.before.faults ch.after.faults c.noted.ensures.notes ch.how.cause in
+    let now = subst (λ (x : CellState). ch.after.faults ≡ cond fault.0 (next x.faults) x.faults) (sym is) fault.2 in
+    ap faults_of ch.set
+    ∙ (counts_set (states_of w.cells.items) c.args.b ch.after fault.0 lt now
+    ∙ (ap (λ (failed : Option ℕ). faults_after (faults_of (states_of w.cells.items)) failed) (sym fault.1)
+    ∙ ap (λ (x : WorldState). faults_after (faults_of x.cells) (failed_asked c.args.b (Err c.noted.result))) c.self.view_is))
 
 pub returns-in-Ok-clause-armings : goal.returns-in-Ok-clause-armings
 returns-in-Ok-clause-armings g c =
     let w = c.self.inside in
-    let lt = within (length w.book.layout.names) c.args.b w.cells.items c.self.invariant.0.world.sound.cells (subst (λ (x : WorldState). c.args.b < x.core.placement.backends) (sym c.self.view_is) c.requires.within) in
-    let is : get_or w.cells.items c.args.b c.read.new.self ≡ c.index_mut.result.now = get_or_default w.cells.items c.args.b c.read.new.self c.index_mut.result.now lt ∙ sym c.index_mut.ensures.value in
-    let same = spent_times (is_asked c.read.result) c.index_mut.result.now.arming c.read.new.self.arming c.read.ensures.arming.after ∙ ap (λ (x : CellState). x.arming.times) (sym is) in
-    armings_set w.cells.items c.args.b c.read.new.self false lt same ∙ ap (λ (x : WorldState). armings_of x.cells) c.self.view_is
+    let ch = c.in-Ok.ensures.read in
+    let lt = inside_states (length w.book.state.layout.names) c.args.b (states_of w.cells.items) c.self.invariant.0.world.sound.cells (subst (λ (x : WorldState). c.args.b < x.core.placement.backends) (sym c.self.view_is) c.requires.within) in
+    let is : get_or (states_of w.cells.items) c.args.b ch.after ≡ ch.before = get_or_default (states_of w.cells.items) c.args.b ch.after ch.before lt ∙ sym ch.value in
+    let same = spent_times (is_asked (Ok c.in-Ok.answered)) ch.before.arming ch.after.arming ch.how.arming.after ∙ ap (λ (x : CellState). x.arming.times) (sym is) in
+    ap armings_of ch.set ∙ (armings_set (states_of w.cells.items) c.args.b ch.after false lt same ∙ ap (λ (x : WorldState). armings_of x.cells) c.self.view_is)
 
 pub returns-in-Err-clause-armings : goal.returns-in-Err-clause-armings
 returns-in-Err-clause-armings g c =
     let w = c.self.inside in
-    let lt = within (length w.book.layout.names) c.args.b w.cells.items c.self.invariant.0.world.sound.cells (subst (λ (x : WorldState). c.args.b < x.core.placement.backends) (sym c.self.view_is) c.requires.within) in
-    let is : get_or w.cells.items c.args.b c.read.new.self ≡ c.index_mut.result.now = get_or_default w.cells.items c.args.b c.read.new.self c.index_mut.result.now lt ∙ sym c.index_mut.ensures.value in
-    let same = spent_times (is_asked c.read.result) c.index_mut.result.now.arming c.read.new.self.arming c.read.ensures.arming.after ∙ ap (λ (x : CellState). x.arming.times) (sym is) in
-    armings_set w.cells.items c.args.b c.read.new.self false lt same ∙ ap (λ (x : WorldState). armings_of x.cells) c.self.view_is
+    let ch = c.in-Err.ensures.read in
+    let lt = inside_states (length w.book.state.layout.names) c.args.b (states_of w.cells.items) c.self.invariant.0.world.sound.cells (subst (λ (x : WorldState). c.args.b < x.core.placement.backends) (sym c.self.view_is) c.requires.within) in
+    let is : get_or (states_of w.cells.items) c.args.b ch.after ≡ ch.before = get_or_default (states_of w.cells.items) c.args.b ch.after ch.before lt ∙ sym ch.value in
+    let same = spent_times (is_asked (Err c.in-Err.error)) ch.before.arming ch.after.arming ch.how.arming.after ∙ ap (λ (x : CellState). x.arming.times) (sym is) in
+    ap armings_of ch.set ∙ (armings_set (states_of w.cells.items) c.args.b ch.after false lt same ∙ ap (λ (x : WorldState). armings_of x.cells) c.self.view_is)
 
 pub returns-in-Err-clause-want : goal.returns-in-Err-clause-want
 returns-in-Err-clause-want g c want =
     let w = c.self.inside in
-    let lt = within (length w.book.layout.names) c.args.b w.cells.items c.self.invariant.0.world.sound.cells (subst (λ (x : WorldState). c.args.b < x.core.placement.backends) (sym c.self.view_is) c.requires.within) in
-    let starved = noted_want c.take_spare.new.self c.noted.new.book c.args.s c.read_number-number.result c.args.b c.in-Err.error c.noted.result c.noted.ensures (cc want) in
-    let is : c.read.result ≡ Err read_errors.NoMemory = c.in-Err.is ∙ ap (λ (d : CellReadError). Err d) starved.0 in
-    let cell : c.read.new.self ≡ c.index_mut.result.now = wanted c.index_mut.result.now c.read.new.self c.read.result is c.read.ensures.same c.read.ensures.cause c.read.ensures.asks c.read.ensures.arming c.mapped-login.result.now c.read.ensures.login in
-    let there : c.index_mut.result.now ≡ get_or w.cells.items c.args.b c.index_mut.result.now = c.index_mut.ensures.value in
-    let cells : set w.cells.items c.args.b c.read.new.self ≡ w.cells.items = ap (set w.cells.items c.args.b) (cell ∙ there) ∙ set-get_or w.cells.items c.args.b c.index_mut.result.now in
-    let book : c.noted.new.book ≡ record w.book { has_spare = true } = starved.1 ∙ c.in_ok-take_spare.ensures.ok in
-    ap (λ (k : BookState g.row.S.Denot). with_cache (with_log (world_of w.accounts k.layout k.history (set w.cells.items c.args.b c.read.new.self) w.failed w.starved w.sessions k.greatest w.dumps) (log_view g.S.Store.faults g.S.Store.held k.recovery_log)) k.cache) book
-    ∙ (ap (λ (xs : List CellState). with_cache (with_log (world_of w.accounts w.book.layout w.book.history xs w.failed w.starved w.sessions w.book.greatest w.dumps) (log_view g.S.Store.faults g.S.Store.held w.book.recovery_log)) w.book.cache) cells ∙ c.self.view_is)
+    let ch = c.in-Err.ensures.read in
+    let is_spared = c.read_at.ensures.heard.state ∙ c.in_ok-take_spare.ensures.ok in
+    let lt = inside_states (length w.book.state.layout.names) c.args.b (states_of w.cells.items) c.self.invariant.0.world.sound.cells (subst (λ (x : WorldState). c.args.b < x.core.placement.backends) (sym c.self.view_is) c.requires.within) in
+    let starved = noted_want c.read_at.new.book.state c.noted.new.book.state c.args.s c.read_number-number.result c.args.b c.in-Err.error c.noted.result c.noted.ensures.notes (cc want) in
+    let cell : ch.after ≡ ch.before = wanted ch.before ch.after (Err c.in-Err.error) (ap (λ (d : CellReadError). Err d) starved.0) ch.how.same ch.how.cause ch.how.asks ch.how.arming c.mapped-login.result.now ch.how.login in
+    let there : ch.before ≡ get_or (states_of w.cells.items) c.args.b ch.before = ch.value in
+    let cells : set (states_of w.cells.items) c.args.b ch.after ≡ (states_of w.cells.items) = ap (set (states_of w.cells.items) c.args.b) (cell ∙ there) ∙ set-get_or (states_of w.cells.items) c.args.b ch.before in
+    let book : c.noted.new.book.state ≡ record w.book.state { has_spare = true } = starved.1 ∙ is_spared in
+    ap (λ (xs : List CellState). with_cache (with_log (world_of w.accounts c.noted.new.book.state.layout c.noted.new.book.state.history xs w.failed w.starved w.sessions c.noted.new.book.state.greatest w.dumps) (log_view g.S.Store.faults g.S.Store.held c.noted.new.book.state.recovery_log)) c.noted.new.book.state.cache) ch.set
+    ∙ (ap (λ (k : BookState g.row.S.Denot). with_cache (with_log (world_of w.accounts k.layout k.history (set (states_of w.cells.items) c.args.b ch.after) w.failed w.starved w.sessions k.greatest w.dumps) (log_view g.S.Store.faults g.S.Store.held k.recovery_log)) k.cache) book
+    ∙ (ap (λ (xs : List CellState). with_cache (with_log (world_of w.accounts w.book.state.layout w.book.state.history xs w.failed w.starved w.sessions w.book.state.greatest w.dumps) (log_view g.S.Store.faults g.S.Store.held w.book.state.recovery_log)) w.book.state.cache) cells ∙ c.self.view_is))
 
 pub mapped-login-requires : goal.mapped-login-requires
 mapped-login-requires g c =
@@ -146,21 +177,38 @@ mapped-login-requires g c =
 pub returns-in-Ok-clause-logins : goal.returns-in-Ok-clause-logins
 returns-in-Ok-clause-logins g c =
     let w = c.self.inside in
+    let ch = c.in-Ok.ensures.read in
     let given : c.mapped-login.result.now ≡ login_of w.accounts.accounts (asked_for w.sessions c.args.s (option_copied c.args.user)) c.args.b =
     c.mapped-login.ensures ∙ ap (λ (user : List ℕ). login_of w.accounts.accounts user c.args.b) c.asking_user.ensures
     in
-    subst (λ (x : WorldState). LogsInToAsk c.args.b (login_of (accounts_of x) (asked_for x.core.sessions c.args.s (option_copied c.args.user)) c.args.b) (Ok c.in-Ok.answered) (logins_of x.cells) (logins_of (set w.cells.items c.args.b c.read.new.self))) c.self.view_is
-    (logins_set w.cells.items c.args.b c.read.new.self _ (c.in-Ok.ensures.login ∙ ap (λ (login : List ℕ). Some login) given))
+    subst (λ (x : WorldState). LogsInToAsk c.args.b (login_of (accounts_of x) (asked_for x.core.sessions c.args.s (option_copied c.args.user)) c.args.b) (Ok c.in-Ok.answered) (logins_of x.cells) (logins_of (states_of c.read_at.new.cells.items))) c.self.view_is
+    (subst (λ (xs : List CellState). CallsUnder c.args.b (login_of w.accounts.accounts (asked_for w.sessions c.args.s (option_copied c.args.user)) c.args.b) (logins_of (states_of w.cells.items)) (logins_of xs)) (sym ch.set)
+    (logins_set (states_of w.cells.items) c.args.b ch.after _ (ch.how.login ∙ ap (λ (login : List ℕ). Some login) given)))
 
 pub returns-in-Err-clause-logins : goal.returns-in-Err-clause-logins
 returns-in-Err-clause-logins g c =
     let w = c.self.inside in
-    let lt = within (length w.book.layout.names) c.args.b w.cells.items c.self.invariant.0.world.sound.cells (subst (λ (x : WorldState). c.args.b < x.core.placement.backends) (sym c.self.view_is) c.requires.within) in
-    let is : get_or w.cells.items c.args.b c.read.new.self ≡ c.index_mut.result.now = get_or_default w.cells.items c.args.b c.read.new.self c.index_mut.result.now lt ∙ sym c.index_mut.ensures.value in
+    let ch = c.in-Err.ensures.read in
+    let lt = inside_states (length w.book.state.layout.names) c.args.b (states_of w.cells.items) c.self.invariant.0.world.sound.cells (subst (λ (x : WorldState). c.args.b < x.core.placement.backends) (sym c.self.view_is) c.requires.within) in
+    let is : get_or (states_of w.cells.items) c.args.b ch.after ≡ ch.before = get_or_default (states_of w.cells.items) c.args.b ch.after ch.before lt ∙ sym ch.value in
     let given : c.mapped-login.result.now ≡ login_of w.accounts.accounts (asked_for w.sessions c.args.s (option_copied c.args.user)) c.args.b =
     c.mapped-login.ensures ∙ ap (λ (user : List ℕ). login_of w.accounts.accounts user c.args.b) c.asking_user.ensures
     in
-    let called = subst (λ (x : CellState). LogsInForRead x.login c.mapped-login.result.now (Err c.in-Err.error) c.read.new.self.login) (sym is) c.in-Err.ensures.login in
-    let asked = noted_logins c.take_spare.new.self c.noted.new.book c.args.s c.read_number-number.result c.args.b c.in-Err.error c.noted.result w.cells.items c.read.new.self c.mapped-login.result.now lt c.noted.ensures called in
-    subst (λ (x : WorldState). LogsInToAsk c.args.b (login_of (accounts_of x) (asked_for x.core.sessions c.args.s (option_copied c.args.user)) c.args.b) (Err c.noted.result) (logins_of x.cells) (logins_of (set w.cells.items c.args.b c.read.new.self))) c.self.view_is
-    (subst (λ (login : List ℕ). LogsInToAsk c.args.b login (Err c.noted.result) (logins_of w.cells.items) (logins_of (set w.cells.items c.args.b c.read.new.self))) given asked)
+    let called = subst (λ (x : CellState). LogsInForRead x.login c.mapped-login.result.now (Err c.in-Err.error) ch.after.login) (sym is) ch.how.login in
+    let asked = noted_logins c.read_at.new.book.state c.noted.new.book.state c.args.s c.read_number-number.result c.args.b c.in-Err.error c.noted.result (states_of w.cells.items) ch.after c.mapped-login.result.now lt c.noted.ensures.notes called in
+    subst (λ (x : WorldState). LogsInToAsk c.args.b (login_of (accounts_of x) (asked_for x.core.sessions c.args.s (option_copied c.args.user)) c.args.b) (Err c.noted.result) (logins_of x.cells) (logins_of (states_of c.read_at.new.cells.items))) c.self.view_is
+    (subst (λ (xs : List CellState). LogsInToAsk c.args.b (login_of w.accounts.accounts (asked_for w.sessions c.args.s (option_copied c.args.user)) c.args.b) (Err c.noted.result) (logins_of (states_of w.cells.items)) (logins_of xs)) (sym ch.set)
+    (subst (λ (login : List ℕ). LogsInToAsk c.args.b login (Err c.noted.result) (logins_of (states_of w.cells.items)) (logins_of (set (states_of w.cells.items) c.args.b ch.after))) given asked))
+
+pub read_at-requires-clause-within : goal.read_at-requires-clause-within
+read_at-requires-clause-within g c =
+    let w = c.self.inside in
+    inside (length w.book.state.layout.names) c.args.b w.cells.items c.self.invariant.0.world.sound.cells (subst (λ (x : WorldState). c.args.b < x.core.placement.backends) (sym c.self.view_is) c.requires.within)
+
+pub read_at-requires-clause-at : goal.read_at-requires-clause-at
+read_at-requires-clause-at g c =
+    let w = c.self.inside in
+    (seats_same (board_id w.board) (pass_board w.pass) w.book c.take_spare.new.self w.cells.items w.failed c.self.invariant.3.0 c.self.invariant.3.1 c.take_spare.ensures.seat).0
+
+pub read_at-requires-clause-numbered : goal.read_at-requires-clause-numbered
+read_at-requires-clause-numbered g c = λ b d lt. (c.self.invariant.0.world.cells b d lt).number

@@ -3,6 +3,7 @@ use Rattle.cj_cluster.specs.Moves.Cores.{session_at}
 use Rattle.cj_cluster.specs.Moves.Moves.{is_waiting}
 use Rattle.cj_state.specs.Worlds.{WorldState}
 use Rattle.cj_state.proofs.Keeping.{kept_counted}
+use Rattle.cj_state.specs.Seats.{states_of}
 use Rattle.cj_state.proofs.state.State.count.Goals as goal
 
 pub invariant_of-self : goal.invariant_of-self
@@ -10,4 +11,4 @@ invariant_of-self g c =
     let w = c.self.inside in
     let idle = subst (λ (x : WorldState). is_waiting x.core c.args.s ≡ false) (sym c.self.view_is) c.requires.idle in
     let none = subst (λ (x : WorldState). (session_at x.core c.args.s).reading ≡ None) (sym c.self.view_is) c.requires.no_read in
-    rw c.count.ensures (kept_counted g.B.Backend.TELLS w.accounts w.book.layout w.book.history w.cells.items w.failed w.starved w.sessions w.book.greatest w.dumps w.book.sessions w.first_outcome c.self.invariant.0 c.args.s none idle, c.self.invariant.1, c.self.invariant.2)
+    rw c.count.ensures (kept_counted g.B.Backend.TELLS w.accounts w.book.state.layout w.book.state.history (states_of w.cells.items) w.failed w.starved w.sessions w.book.state.greatest w.dumps w.book.state.sessions w.first_outcome c.self.invariant.0 c.args.s none idle, c.self.invariant.1, c.self.invariant.2, c.self.invariant.3)

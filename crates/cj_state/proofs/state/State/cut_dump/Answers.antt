@@ -13,17 +13,19 @@ use Rattle.cj_cluster.proofs.Now.{can_load}
 use Rattle.cj_dump.specs.declared.dump.Dump.{Dump}
 use Rattle.cj_dump.specs.Coverage.{cut}
 use Rattle.cj_dump.specs.Dumps.{IsDump}
+use Rattle.cj_book.specs.Books.{BookState}
 use Rattle.cj_place.specs.Layouts.{Layout, placement_of}
 use Rattle.cj_shelf.specs.MemoryShelves.{taken_of}
 use Rattle.cj_shelf.specs.Shelves.{first_of}
 use Rattle.cj_state.specs.Worlds.{WorldState, core_of, IsDumpOf}
 use Rattle.cj_state.proofs.Dumped.{cut_holds, first_all, first_taken, taken_all}
+use Rattle.cj_state.specs.Seats.{states_of}
 use Rattle.cj_state.proofs.state.State.cut_dump.Goals as goal
 
 pub unreachable-requires : goal.unreachable-requires
 unreachable-requires g c =
     let w = c.self.inside in
-    let can = can_load (core_of w.book.layout w.book.history w.cells.items w.failed w.starved w.sessions w.book.greatest w.dumps) c.args.b c.args.name.now (subst (λ (x : WorldState). not_now x.core (Load c.args.b c.args.name.now) ≡ None) (sym c.self.view_is) c.requires.now) in
+    let can = can_load (core_of w.book.state.layout w.book.state.history (states_of w.cells.items) w.failed w.starved w.sessions w.book.state.greatest w.dumps) c.args.b c.args.name.now (subst (λ (x : WorldState). not_now x.core (Load c.args.b c.args.name.now) ≡ None) (sym c.self.view_is) c.requires.now) in
     let none : first_of c.args.name.now w.dumps ≡ None = sym c.in_ok-dump.ensures.first ∙ c.in-None.is in
     absurd (cc (sym can.found ∙ (first_taken c.args.name.now w.dumps ∙ ap (option_map taken_of) none)))
 
@@ -45,14 +47,17 @@ returns-clause-held g c on =
     let w = c.self.inside in
     let tells = g.B.Backend.TELLS in
     let d : Dump = c.in-Some.dump in
-    let can = can_load (core_of w.book.layout w.book.history w.cells.items w.failed w.starved w.sessions w.book.greatest w.dumps) c.args.b c.args.name.now (subst (λ (x : WorldState). not_now x.core (Load c.args.b c.args.name.now) ≡ None) (sym c.self.view_is) c.requires.now) in
+    let can = can_load (core_of w.book.state.layout w.book.state.history (states_of w.cells.items) w.failed w.starved w.sessions w.book.state.greatest w.dumps) c.args.b c.args.name.now (subst (λ (x : WorldState). not_now x.core (Load c.args.b c.args.name.now) ≡ None) (sym c.self.view_is) c.requires.now) in
     let there : first_of c.args.name.now w.dumps ≡ Some d = sym c.in_ok-dump.ensures.first ∙ c.in-Some.is in
     let found : find_dump (map taken_of w.dumps) c.args.name.now ≡ Some (taken_of d) = first_taken c.args.name.now w.dumps ∙ ap (option_map taken_of) there in
     let same : can.taken ≡ taken_of d = cc (sym can.found ∙ found) in
-    let covered : hosts_beyond (placement_of w.book.layout) c.args.b d.source ≡ false = subst (λ (t : TakenDump). hosts_beyond (placement_of w.book.layout) c.args.b t.source ≡ false) same can.covered in
-    let sound : IsSoundDump (length w.book.layout.names) w.book.history (taken_of d) = taken_all (IsSoundDump (length w.book.layout.names) w.book.history) (map taken_of w.dumps) c.args.name.now (taken_of d) c.self.invariant.0.world.sound.dumps found in
-    let is : IsDumpOf tells (placement_of w.book.layout) (log w.book.history) d = first_all (IsDumpOf tells (placement_of w.book.layout) (log w.book.history)) c.args.name.now w.dumps c.self.invariant.2 d there in
-    let cut_is : c.cut.result ≡ cut d w.book.layout c.args.b = c.cut.ensures ∙ ap (λ (l : Layout). cut d l c.args.b) c.placement.ensures in
+    let covered : hosts_beyond (placement_of w.book.state.layout) c.args.b d.source ≡ false = subst (λ (t : TakenDump). hosts_beyond (placement_of w.book.state.layout) c.args.b t.source ≡ false) same can.covered in
+    let sound : IsSoundDump (length w.book.state.layout.names) w.book.state.history (taken_of d) = taken_all (IsSoundDump (length w.book.state.layout.names) w.book.state.history) (map taken_of w.dumps) c.args.name.now (taken_of d) c.self.invariant.0.world.sound.dumps found in
+    let is : IsDumpOf tells (placement_of w.book.state.layout) (log w.book.state.history) d = first_all (IsDumpOf tells (placement_of w.book.state.layout) (log w.book.state.history)) c.args.name.now w.dumps c.self.invariant.2 d there in
+    let cut_is : c.cut.result ≡ cut d w.book.state.layout c.args.b = c.cut.ensures ∙ ap (λ (l : Layout). cut d l c.args.b) (c.placement.ensures ∙ ap (λ (k : BookState g.row.S.Denot). k.layout) c.ledger.ensures) in
     subst (λ (x : WorldState). c.cut.result.db ≡ part x.core.placement c.args.b (database_after (log x.core.history) c.cut.result.position)) c.self.view_is
-    (subst (λ (x : Dump). x.db ≡ part (placement_of w.book.layout) c.args.b (database_after (log w.book.history) x.position)) (sym cut_is)
-    (cut_holds tells w.book.layout (log w.book.history) d c.args.b is covered sound.source on))
+    (subst (λ (x : Dump). x.db ≡ part (placement_of w.book.state.layout) c.args.b (database_after (log w.book.state.history) x.position)) (sym cut_is)
+    (cut_holds tells w.book.state.layout (log w.book.state.history) d c.args.b is covered sound.source on))
+
+pub invariant_of-self-2 : goal.invariant_of-self-2
+invariant_of-self-2 g c = rw c.read.ensures.same c.self.invariant

@@ -1,13 +1,62 @@
-use Rattle.std.proofs.Common.{◌≡◌, true, false, None, sym, subst, refl}
-use Rattle.cj_cluster.specs.History.Histories.{is_idle}
+use Rattle.std.proofs.Common.{◌≡◌, ◌<◌, ◌++◌, ◌∷◌, [], ℕ, List, Some, true, false, None, length, map, ap, sym, ◌∙◌, subst, refl}
+use Rattle.std.proofs.lemmas.List.{length-map}
+use Rattle.cj_model.specs.Cluster.Masks.{in_mask}
+use Rattle.cj_cluster.specs.declared.event.Event.TheVariants.{Ended}
+use Rattle.cj_cluster.specs.History.Histories.{is_enabled, is_idle, log}
 use Rattle.cj_cluster.specs.Moves.Moves.{first_lagging, is_waiting}
+use Rattle.cj_cluster.proofs.Pushed.{free-ended, log-same}
+use Rattle.cj_book.specs.Books.{BookState, with_event}
 use Rattle.cj_place.specs.Layouts.{placement_of}
+use Rattle.cj_replica.specs.Cells.{CellState}
+use Rattle.cj_replica.specs.Seated.{SeatedCell}
+use Rattle.cj_state.specs.Seats.{states_of}
 use Rattle.cj_state.specs.Worlds.{WorldState}
+use Rattle.cj_state.proofs.CellsKept.{at_log_end}
+use Rattle.cj_state.proofs.HeardOf.{ready_heard}
 use Rattle.cj_state.proofs.Keeping.{kept_answered}
 use Rattle.cj_state.proofs.Dumped.{dumps_event}
 use Rattle.cj_state.proofs.Fresh.{fresh_event}
-use Rattle.cj_cluster.specs.declared.event.Event.TheVariants.{Ended}
+use Rattle.cj_board.specs.Seats.{board_id, pass_board}
+use Rattle.cj_state.proofs.SeatsKept.{seats_cleared}
 use Rattle.cj_state.proofs.state.State.end_entry.Goals as goal
+
+pub hear_all-requires-clause-few : goal.hear_all-requires-clause-few
+hear_all-requires-clause-few g c =
+    let w = c.self.inside in
+    rw (sym (length-map w.cells.items (λ (x : SeatedCell). x.state)), sym (length-map (states_of w.cells.items) (λ (x : CellState). x.position)), c.self.invariant.0.world.sound.cells) c.self.invariant.0.world.few
+
+pub hear_all-requires-clause-at : goal.hear_all-requires-clause-at
+hear_all-requires-clause-at g c = c.self.invariant.3.0
+
+pub hear_all-requires-clause-numbered : goal.hear_all-requires-clause-numbered
+hear_all-requires-clause-numbered g c = λ b d lt. (c.self.invariant.0.world.cells b d lt).number
+
+pub end-requires-clause-board : goal.end-requires-clause-board
+end-requires-clause-board g c = c.hear_all.ensures.at.of_book
+
+pub end-requires-clause-open : goal.end-requires-clause-open
+end-requires-clause-open g c = rw c.hear_all.ensures.heard.state (subst (λ (x : WorldState). is_idle x.core.history ≡ false) (sym c.self.view_is) c.requires.«open»)
+
+pub end-requires-clause-faults : goal.end-requires-clause-faults
+end-requires-clause-faults g c = λ b on. (ready_heard c.self.inside.book c.hear_all.new.book c.self.inside.failed c.self.invariant.3.1 c.hear_all.ensures.heard).tokens b on
+
+-- each backend that stays enabled stands at the end of the log
+pub end-requires-clause-positions : goal.end-requires-clause-positions
+end-requires-clause-positions g c =
+    let w = c.self.inside in
+    let cells : List CellState = states_of w.cells.items in
+    let open_now = subst (λ (x : WorldState). is_idle x.core.history ≡ false) (sym c.self.view_is) c.requires.«open» in
+    let none = subst (λ (x : WorldState). first_lagging x.core.history 0 x.core.positions ≡ None) (sym c.self.view_is) c.requires.behind in
+    let waiting = subst (λ (x : WorldState). is_waiting x.core c.args.s ≡ true) (sym c.self.view_is) c.requires.waits in
+    let e = Ended w.failed w.starved in
+    let now = kept_answered g.B.Backend.TELLS w.accounts w.book.state.layout w.book.state.history cells w.failed w.starved w.sessions w.book.state.greatest w.dumps w.book.state.sessions w.first_outcome c.self.invariant.0 c.args.s waiting open_now none in
+    let one = c.self.invariant.0.world.sound.one_open in
+    let idle : is_idle (w.book.state.history ++ e ∷ []) ≡ true = free-ended w.book.state.history w.failed w.starved open_now one.0 one.1 in
+    rw c.hear_all.ensures.heard.state
+    (λ b on.
+    let there = at_log_end _ now.world.sound idle b on in
+    let lt : b < length w.cells.items = subst (λ (m : ℕ). b < m) (length-map cells (λ (x : CellState). x.position) ∙ length-map w.cells.items (λ (x : SeatedCell). x.state)) (now.world.sound.hosts b on) in
+    c.hear_all.ensures.known b (length (log w.book.state.history)) lt (there ∙ ap (λ (m : ℕ). Some m) (ap length (log-same w.book.state.history e refl))))
 
 pub invariant_of-self : goal.invariant_of-self
 invariant_of-self g c =
@@ -15,4 +64,13 @@ invariant_of-self g c =
     let open_now = subst (λ (x : WorldState). is_idle x.core.history ≡ false) (sym c.self.view_is) c.requires.«open» in
     let none = subst (λ (x : WorldState). first_lagging x.core.history 0 x.core.positions ≡ None) (sym c.self.view_is) c.requires.behind in
     let waiting = subst (λ (x : WorldState). is_waiting x.core c.args.s ≡ true) (sym c.self.view_is) c.requires.waits in
-    rw (c.end.ensures, c.answer.ensures, c.length-number.ensures) (kept_answered g.B.Backend.TELLS w.accounts w.book.layout w.book.history w.cells.items w.failed w.starved w.sessions w.book.greatest w.dumps w.book.sessions w.first_outcome c.self.invariant.0 c.args.s waiting open_now none, fresh_event w.book.history w.book.cache g.B.Backend.TELLS (Ended w.failed w.starved) refl c.self.invariant.1, dumps_event g.B.Backend.TELLS (placement_of w.book.layout) w.book.history w.dumps c.self.invariant.2 (Ended w.failed w.starved) refl)
+    let e = Ended w.failed w.starved in
+    let ended : c.end.new.self.state ≡ with_event w.book.state e = c.end.ensures.state ∙ ap (λ (k : BookState g.row.S.Denot). with_event k e) c.hear_all.ensures.heard.state in
+    let number = c.length-number.ensures ∙ ap (λ (k : BookState g.row.S.Denot). length (log k.history)) c.ledger.ensures in
+    let ready = ready_heard w.book c.hear_all.new.book w.failed c.self.invariant.3.1 c.hear_all.ensures.heard in
+    rw (ended, c.hear_all.ensures.cells, c.answer.ensures, number) (
+      kept_answered g.B.Backend.TELLS w.accounts w.book.state.layout w.book.state.history (states_of w.cells.items) w.failed w.starved w.sessions w.book.state.greatest w.dumps w.book.state.sessions w.first_outcome c.self.invariant.0 c.args.s waiting open_now none,
+      fresh_event w.book.state.history w.book.state.cache g.B.Backend.TELLS e refl c.self.invariant.1,
+      dumps_event g.B.Backend.TELLS (placement_of w.book.state.layout) w.book.state.history w.dumps c.self.invariant.2 e refl,
+      seats_cleared (board_id w.board) (pass_board c.hear_all.new.pass) c.hear_all.new.book c.end.new.self c.hear_all.new.cells.items w.failed c.hear_all.ensures.at ready (Some e) c.end.ensures.board c.end.ensures.seat,
+    )

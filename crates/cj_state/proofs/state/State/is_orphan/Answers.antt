@@ -1,11 +1,14 @@
 use Rattle.std.proofs.Common.{ap, ◌∙◌}
+use Rattle.cj_book.specs.Books as book
+use Rattle.cj_book.specs.Books.{BookState}
 use Rattle.cj_cluster.specs.Moves.Moves.{is_orphan}
 use Rattle.cj_state.specs.Worlds.{WorldState}
 use Rattle.cj_state.proofs.OpenNumbers.{orphan_is}
+use Rattle.cj_state.specs.Seats.{states_of}
 use Rattle.cj_state.proofs.state.State.is_orphan.Goals as goal
 
 pub returns : goal.returns
 returns g c =
     let w = c.self.inside in
     c.is_orphan.ensures
-    ∙ (orphan_is w.book w.cells.items w.failed w.starved w.sessions w.dumps c.self.invariant.0.numbers_are c.args.tx ∙ ap (λ (x : WorldState). is_orphan x.core c.args.tx) c.self.view_is)
+    ∙ (ap (λ (k : BookState g.row.S.Denot). book.is_orphan k c.args.tx) c.ledger.ensures ∙ orphan_is w.book.state (states_of w.cells.items) w.failed w.starved w.sessions w.dumps c.self.invariant.0.numbers_are c.args.tx ∙ ap (λ (x : WorldState). is_orphan x.core c.args.tx) c.self.view_is)

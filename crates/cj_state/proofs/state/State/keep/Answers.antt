@@ -4,18 +4,30 @@ use Rattle.cj_model.specs.declared.cached.Cached.{Cached}
 use Rattle.cj_model.specs.declared.request.Entry.{Entry}
 use Rattle.cj_model.proofs.CachingLaws.{all_put}
 use Rattle.cj_cluster.specs.History.Histories.{log}
+use Rattle.cj_book.specs.Books.{BookState}
 use Rattle.cj_freshness.specs.Freshness.{IsAnswerAt, IsFreshAnswer, NoneTouches}
 use Rattle.cj_freshness.proofs.Fresh.{fresh_now}
-use Rattle.cj_state.specs.Worlds.{WorldState}
+use Rattle.cj_state.specs.Worlds.{WorldState, world_of}
+use Rattle.cj_state.specs.Proving.Kept.{KeptFresh}
+use Rattle.cj_state.specs.Seats.{states_of}
+use Rattle.cj_board.specs.Seats.{board_id, pass_board}
+use Rattle.cj_state.proofs.SeatsKept.{seats_same}
 use Rattle.cj_state.proofs.state.State.keep.Goals as goal
+
+pub invariant_of-self : goal.invariant_of-self
+invariant_of-self g c =
+    let w = c.self.inside in
+    let same : c.keep.new.self.state ≡ w.book.state = c.keep.ensures.same (λ is. cc (is, c.in_err-keep.was)) in
+    let q = subst (λ (k : BookState g.row.S.Denot). KeptFresh g.B.Backend.TELLS (world_of w.accounts k.layout k.history (states_of w.cells.items) w.failed w.starved w.sessions k.greatest w.dumps) k.sessions w.first_outcome k.cache w.dumps) (sym same) (c.self.invariant.0, c.self.invariant.1, c.self.invariant.2) in
+    (q.0, q.1, q.2, seats_same (board_id w.board) (pass_board w.pass) w.book c.keep.new.self w.cells.items w.failed c.self.invariant.3.0 c.self.invariant.3.1 c.keep.ensures.seat)
 
 pub invariant_of-self-2 : goal.invariant_of-self-2
 invariant_of-self-2 g c =
     let w = c.self.inside in
-    let entries : List Entry = log w.book.history in
+    let entries : List Entry = log w.book.state.history in
     let tells = g.B.Backend.TELLS in
     let end = c.length-end.result in
-    let here : end ≡ length entries = c.length-end.ensures in
+    let here : end ≡ length entries = c.length-end.ensures ∙ ap (λ (k : BookState g.row.S.Denot). length (log k.history)) c.ledger.ensures in
     let none : NoneTouches entries end (length entries) c.args.select = λ n low high. absurd (omega (arith, here, low, high)) in
     let yes : c.keep.result ≡ Ok true = c.in_ok-keep.was ∙ ap (λ (b : Bool). Ok b) (c.in_ok-keep.ensures.untouched.1 none) in
     let entry : Cached = record { select = c.args.select; answer = c.args.answer; at = end } in
@@ -23,4 +35,4 @@ invariant_of-self-2 g c =
     λ on. subst (λ n. IsAnswerAt entries n c.args.select (Rows c.args.answer)) (sym here)
     (subst (λ (x : WorldState). IsAnswerAt (log x.core.history) (length (log x.core.history)) c.args.select (Rows c.args.answer)) (sym c.self.view_is) (c.requires.right on))
     in
-    rw (c.keep.ensures.kept yes) (c.self.invariant.0, all_put (IsFreshAnswer tells entries) entry w.book.cache (fresh_now tells entries entry here c.requires.possible right) c.self.invariant.1, c.self.invariant.2)
+    rw (c.keep.ensures.kept yes) (c.self.invariant.0, all_put (IsFreshAnswer tells entries) entry w.book.state.cache (fresh_now tells entries entry here c.requires.possible right) c.self.invariant.1, c.self.invariant.2, seats_same (board_id w.board) (pass_board w.pass) w.book c.keep.new.self w.cells.items w.failed c.self.invariant.3.0 c.self.invariant.3.1 c.keep.ensures.seat)

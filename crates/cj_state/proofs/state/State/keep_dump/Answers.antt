@@ -3,18 +3,20 @@ use Rattle.cj_model.specs.Database.Tables.{name_cmp, put_by}
 use Rattle.cj_model.specs.Sql.Names.{is_name}
 use Rattle.cj_cluster.specs.Moves.Cores.{position_at}
 use Rattle.cj_dump.specs.declared.dump.Dump.{Dump}
+use Rattle.cj_book.specs.Books.{BookState}
 use Rattle.cj_place.specs.Layouts.{Layout, tables_at}
 use Rattle.cj_state.specs.Worlds.{WorldState, core_of}
 use Rattle.cj_state.specs.Held.{IsHeld}
 use Rattle.cj_state.proofs.Dumped.{dumps_push, kept_dumped}
 use Rattle.cj_state.proofs.Logs.{name_some}
+use Rattle.cj_state.specs.Seats.{states_of}
 use Rattle.cj_state.proofs.state.State.keep_dump.Goals as goal
 
 pub add-requires : goal.add-requires
 add-requires g c =
     let layout : Layout = c.placement.result.now in
     let replicates : (full : c.all.result ≡ true) → layout.full ≡ true =
-    λ full. ap (λ (l : Layout). l.full) c.placement.ensures ∙ (sym (ap (λ (l : Layout). l.full) c.placement-2.ensures) ∙ (sym c.all.ensures ∙ full))
+    λ full. ap (λ (l : Layout). l.full) c.placement.ensures ∙ (ap (λ (k : BookState g.row.S.Denot). k.layout.full) (c.ledger.ensures ∙ sym c.ledger-2.ensures) ∙ (sym (ap (λ (l : Layout). l.full) c.placement-2.ensures) ∙ (sym c.all.ensures ∙ full)))
     in
     record {
       name = λ is. name_some c.args.name.now c.requires.named (sym c.copy.ensures ∙ is);
@@ -28,12 +30,13 @@ invariant_of-self-2 g c =
     let w = c.self.inside in
     let tells = g.B.Backend.TELLS in
     let d : Dump = record { position = c.in-Some.position; source = c.args.b; name = c.copy.result; all = c.all.result; covers = c.in_ok-covers.covers; db = c.args.db } in
-    let at : position_at (core_of w.book.layout w.book.history w.cells.items w.failed w.starved w.sessions w.book.greatest w.dumps) c.args.b ≡ Some c.in-Some.position =
+    let at : position_at (core_of w.book.state.layout w.book.state.history (states_of w.cells.items) w.failed w.starved w.sessions w.book.state.greatest w.dumps) c.args.b ≡ Some c.in-Some.position =
     subst (λ (x : WorldState). position_at x.core c.args.b ≡ Some c.in-Some.position) (sym c.self.view_is) (sym c.position.ensures ∙ c.in-Some.is)
     in
     let held = subst (λ (x : WorldState). IsHeld tells x.core c.args.b c.args.db) (sym c.self.view_is) c.requires.held in
     rw c.in_ok-add.ensures.ok (
-      kept_dumped tells w.accounts w.book.layout w.book.history w.cells.items w.failed w.starved w.sessions w.book.greatest w.dumps w.book.sessions w.first_outcome c.self.invariant.0 d at,
+      kept_dumped tells w.accounts w.book.state.layout w.book.state.history (states_of w.cells.items) w.failed w.starved w.sessions w.book.state.greatest w.dumps w.book.state.sessions w.first_outcome c.self.invariant.0 d at,
       c.self.invariant.1,
-      dumps_push tells w.accounts w.book.layout w.book.history w.cells.items w.failed w.starved w.sessions w.book.greatest w.dumps w.book.sessions w.first_outcome c.self.invariant.0 d at held c.self.invariant.2,
+      dumps_push tells w.accounts w.book.state.layout w.book.state.history (states_of w.cells.items) w.failed w.starved w.sessions w.book.state.greatest w.dumps w.book.state.sessions w.first_outcome c.self.invariant.0 d at held c.self.invariant.2,
+      c.self.invariant.3,
     )

@@ -3,6 +3,7 @@ use Rattle.cj_cluster.specs.Moves.Moves.{is_waiting}
 use Rattle.cj_state.specs.Worlds.{WorldState}
 use Rattle.cj_state.specs.Effects.{HaveFailed}
 use Rattle.cj_state.proofs.Keeping.{kept_reading}
+use Rattle.cj_state.specs.Seats.{states_of}
 use Rattle.cj_state.proofs.state.State.keep_reading.Goals as goal
 
 pub invariant_of-self : goal.invariant_of-self
@@ -10,4 +11,4 @@ invariant_of-self g c =
     let w = c.self.inside in
     let idle = subst (λ (x : WorldState). is_waiting x.core c.args.s ≡ false) (sym c.self.view_is) c.requires.idle in
     let since = subst (λ (x : WorldState). HaveFailed x.core c.args.s c.args.tried) (sym c.self.view_is) c.requires.since in
-    rw c.keep_reading.ensures (kept_reading g.B.Backend.TELLS w.accounts w.book.layout w.book.history w.cells.items w.failed w.starved w.sessions w.book.greatest w.dumps w.book.sessions w.first_outcome c.self.invariant.0 c.args.s c.args.select c.args.tried idle since, c.self.invariant.1, c.self.invariant.2)
+    rw c.keep_reading.ensures (kept_reading g.B.Backend.TELLS w.accounts w.book.state.layout w.book.state.history (states_of w.cells.items) w.failed w.starved w.sessions w.book.state.greatest w.dumps w.book.state.sessions w.first_outcome c.self.invariant.0 c.args.s c.args.select c.args.tried idle since, c.self.invariant.1, c.self.invariant.2, c.self.invariant.3)

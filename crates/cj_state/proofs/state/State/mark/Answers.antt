@@ -13,6 +13,10 @@ use Rattle.cj_state.proofs.Logs.{name_some}
 use Rattle.cj_state.proofs.Noting.{logged, had_logged_room, behind_as_many}
 use Rattle.cj_state.proofs.Dumped.{dumps_event}
 use Rattle.cj_state.proofs.Fresh.{fresh_event}
+use Rattle.cj_state.specs.Seats.{states_of}
+use Rattle.cj_book.specs.Seated.{event_or_fault}
+use Rattle.cj_board.specs.Seats.{board_id, pass_board}
+use Rattle.cj_state.proofs.SeatsKept.{counted, quiet_or_fault, seats_after}
 use Rattle.cj_state.proofs.state.State.mark.Goals as goal
 
 pub invariant_of-self : goal.invariant_of-self
@@ -20,25 +24,31 @@ invariant_of-self g c =
     let w = c.self.inside in
     let fr = subst (λ (x : WorldState). is_idle x.core.history ≡ true) (sym c.self.view_is) c.requires.free in
     let fresh = subst (λ (x : WorldState). has_marker x.core.history c.args.name.now ≡ false) (sym c.self.view_is) c.requires.fresh in
-    logged c.mark.result w.book c.mark.new.self (Marker c.args.name.now None) (LogFailed 0 0)
-    (λ (b : BookState g.row.S.Denot). KeptFresh g.B.Backend.TELLS (world_of w.accounts b.layout b.history w.cells.items w.failed w.starved w.sessions b.greatest w.dumps) b.sessions w.first_outcome b.cache w.dumps)
-    c.mark.ensures.ok c.mark.ensures.log_fault c.mark.ensures.same c.mark.ensures.space c.mark.ensures.faulted
-    (λ space. (kept_marked g.B.Backend.TELLS w.accounts w.book.layout w.book.history w.cells.items w.failed w.starved w.sessions w.book.greatest w.dumps w.book.sessions w.first_outcome c.self.invariant.0 c.args.name.now None fr fresh space, fresh_event w.book.history w.book.cache g.B.Backend.TELLS (Marker c.args.name.now None) refl c.self.invariant.1, dumps_event g.B.Backend.TELLS (placement_of w.book.layout) w.book.history w.dumps c.self.invariant.2 (Marker c.args.name.now None) refl))
+    let came = c.mark.ensures.state in
+    let q = logged c.mark.result w.book.state c.mark.new.self.state (Marker c.args.name.now None) (LogFailed 0 0)
+    (λ (b : BookState g.row.S.Denot). KeptFresh g.B.Backend.TELLS (world_of w.accounts b.layout b.history (states_of w.cells.items) w.failed w.starved w.sessions b.greatest w.dumps) b.sessions w.first_outcome b.cache w.dumps)
+    came.ok came.log_fault came.same came.space came.faulted
+    (λ space. (kept_marked g.B.Backend.TELLS w.accounts w.book.state.layout w.book.state.history (states_of w.cells.items) w.failed w.starved w.sessions w.book.state.greatest w.dumps w.book.state.sessions w.first_outcome c.self.invariant.0 c.args.name.now None fr fresh space, fresh_event w.book.state.history w.book.state.cache g.B.Backend.TELLS (Marker c.args.name.now None) refl c.self.invariant.1, dumps_event g.B.Backend.TELLS (placement_of w.book.state.layout) w.book.state.history w.dumps c.self.invariant.2 (Marker c.args.name.now None) refl))
     (λ space.
-    (kept_log_failed g.B.Backend.TELLS w.accounts w.book.layout w.book.history w.cells.items w.failed w.starved w.sessions w.book.greatest w.dumps w.book.sessions w.first_outcome c.self.invariant.0 0 0 fr (omega arith) space (λ some. absurd (omega (arith, some))), fresh_event w.book.history w.book.cache g.B.Backend.TELLS (LogFailed 0 0) refl c.self.invariant.1, dumps_event g.B.Backend.TELLS (placement_of w.book.layout) w.book.history w.dumps c.self.invariant.2 (LogFailed 0 0) refl))
-    c.self.invariant
+    (kept_log_failed g.B.Backend.TELLS w.accounts w.book.state.layout w.book.state.history (states_of w.cells.items) w.failed w.starved w.sessions w.book.state.greatest w.dumps w.book.state.sessions w.first_outcome c.self.invariant.0 0 0 fr (omega arith) space (λ some. absurd (omega (arith, some))), fresh_event w.book.state.history w.book.state.cache g.B.Backend.TELLS (LogFailed 0 0) refl c.self.invariant.1, dumps_event g.B.Backend.TELLS (placement_of w.book.state.layout) w.book.state.history w.dumps c.self.invariant.2 (LogFailed 0 0) refl))
+    (c.self.invariant.0, c.self.invariant.1, c.self.invariant.2)
+    in
+    (q.0, q.1, q.2, seats_after (board_id w.board) (pass_board w.pass) w.book c.mark.new.self w.cells.items w.failed c.self.invariant.3.0 c.self.invariant.3.1 (event_or_fault (Marker c.args.name.now None) (LogFailed 0 0) c.mark.result) (quiet_or_fault (Marker c.args.name.now None) (LogFailed 0 0) c.mark.result (λ b. refl) (λ b. refl)) c.mark.ensures.board c.mark.ensures.seat)
+
+pub mark-requires-clause-counted : goal.mark-requires-clause-counted
+mark-requires-clause-counted g c = counted c.self.inside.book (LogFailed 0 0) c.self.invariant.3.1.unowned
 
 pub returns-clause-room : goal.returns-clause-room
 returns-clause-room g c =
     let w = c.self.inside in
     subst (λ (x : WorldState). HadLoggedRoom x.core c.mark.result) c.self.view_is
-    (had_logged_room w.cells.items w.failed w.starved w.sessions w.book.greatest w.dumps w.book c.mark.result c.mark.ensures.space c.mark.ensures.full c.mark.ensures.want c.mark.ensures.faulted)
+    (had_logged_room (states_of w.cells.items) w.failed w.starved w.sessions w.book.state.greatest w.dumps w.book.state c.mark.result c.mark.ensures.state.space c.mark.ensures.state.full c.mark.ensures.state.want c.mark.ensures.state.faulted)
 
 pub returns-clause-number : goal.returns-clause-number
 returns-clause-number g c =
     let w = c.self.inside in
     subst (λ (x : WorldState). IfOk c.mark.result (λ n. n ≡ last_number x.core)) c.self.view_is
-    (behind_as_many c.mark.result w.book c.mark.new.self (Marker c.args.name.now None) refl c.mark.ensures.ok c.mark.ensures.number)
+    (behind_as_many c.mark.result w.book.state c.mark.new.self.state (Marker c.args.name.now None) refl c.mark.ensures.state.ok c.mark.ensures.state.number)
 
 pub mark-requires-clause-named : goal.mark-requires-clause-named
 mark-requires-clause-named g c = name_some c.args.name.now c.requires.name

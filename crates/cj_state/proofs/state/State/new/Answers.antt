@@ -4,15 +4,17 @@ use Rattle.cj_cluster.specs.History.Histories.{log}
 use Rattle.cj_freshness.specs.Freshness.{IsFreshAnswer}
 use Rattle.cj_place.specs.Layouts.{placement_of}
 use Rattle.cj_state.specs.Worlds.{IsDumpOf}
+use Rattle.cj_state.specs.Seats.{states_of}
+use Rattle.cj_state.proofs.HeardOf.{ready_none}
 use Rattle.cj_state.proofs.state.State.new.Goals as goal
 
 pub invariant_of-result : goal.invariant_of-result
 invariant_of-result g c =
     let o = c.requires.opening in
     rw (c.requires.numbers, c.requires.none, c.requires.greatest, c.requires.no_dump)
-    (kept_opened c.args.book.layout c.args.cells.items c.requires.fresh c.args.book.history o.opening o.legal g.B.Backend.TELLS c.args.accounts c.requires.registered c.requires.few c.requires.empty, rw c.requires.cache (All-nil (IsFreshAnswer g.B.Backend.TELLS (log c.args.book.history))), All-nil (IsDumpOf g.B.Backend.TELLS (placement_of c.args.book.layout) (log c.args.book.history)))
+    (kept_opened c.args.book.state.layout (states_of c.args.cells.items) c.requires.fresh c.args.book.state.history o.opening o.legal g.B.Backend.TELLS c.args.accounts c.requires.registered c.requires.few c.requires.empty, rw c.requires.cache (All-nil (IsFreshAnswer g.B.Backend.TELLS (log c.args.book.state.history))), All-nil (IsDumpOf g.B.Backend.TELLS (placement_of c.args.book.state.layout) (log c.args.book.state.history)), (c.requires.at, ready_none c.args.book.view c.requires.unowned))
 
 pub returns-clause-core : goal.returns-clause-core
 returns-clause-core g c =
     let o = c.requires.opening in
-    rw (c.requires.none, c.requires.greatest, c.requires.no_dump) (core_opened c.args.book.layout c.args.cells.items c.requires.fresh c.args.book.history o.opening o.legal)
+    rw (c.requires.none, c.requires.greatest, c.requires.no_dump) (core_opened c.args.book.state.layout (states_of c.args.cells.items) c.requires.fresh c.args.book.state.history o.opening o.legal)

@@ -16,13 +16,18 @@ use Rattle.cj_state.proofs.Noting.{refused, scheduled_as, not_scheduled}
 use Rattle.cj_state.proofs.Dumped.{dumps_entry, dumps_event}
 use Rattle.cj_state.proofs.Fresh.{follows_entry, follows_event, fresh_entry, fresh_event}
 use Rattle.cj_freshness.specs.Freshness.{FollowsLog, without_touched}
+use Rattle.cj_state.specs.Seats.{states_of}
+use Rattle.std.proofs.Common.{Some}
+use Rattle.cj_book.specs.Seated.{event_or_fault}
+use Rattle.cj_board.specs.Seats.{board_id, pass_board}
+use Rattle.cj_state.proofs.SeatsKept.{counted, quiet_or_fault, seats_after, seats_cleared}
 use Rattle.cj_state.proofs.state.State.schedule_abort.Goals as goal
 
 pub schedule-requires-clause-known : goal.schedule-requires-clause-known
 schedule-requires-clause-known g c =
     let w = c.self.inside in
     let orphan = subst (λ (x : WorldState). is_orphan x.core c.args.entry.tx ≡ true) (sym c.self.view_is) c.requires.orphan in
-    inr (ap (λ (e : Entry). e.session) c.requires.is, orphan_is w.book w.cells.items w.failed w.starved w.sessions w.dumps c.self.invariant.0.numbers_are c.args.entry.tx ∙ orphan)
+    inr (ap (λ (e : Entry). e.session) c.requires.is, orphan_is w.book.state (states_of w.cells.items) w.failed w.starved w.sessions w.dumps c.self.invariant.0.numbers_are c.args.entry.tx ∙ orphan)
 
 pub invariant_of-self : goal.invariant_of-self
 invariant_of-self g c =
@@ -30,53 +35,62 @@ invariant_of-self g c =
     let orphan = subst (λ (x : WorldState). is_orphan x.core c.args.entry.tx ≡ true) (sym c.self.view_is) c.requires.orphan in
     let is = subst (λ (x : WorldState). c.args.entry ≡ abort_entry x.core c.args.entry.tx) (sym c.self.view_is) c.requires.is in
     let fits = subst (λ (x : WorldState). IsFitEntry (log x.core.history) c.args.entry) (sym c.self.view_is) c.requires.fits in
-    let ready = c.in-Ok.ensures.ready in
-    rw (c.in-Ok.ensures.ok)
-    (kept_aborted g.B.Backend.TELLS w.accounts w.book.layout w.book.history w.cells.items w.failed w.starved w.sessions w.book.greatest w.dumps w.book.sessions w.first_outcome c.self.invariant.0 c.args.entry orphan is ready.is_free fits ready.space ready.served, fresh_entry w.book.history w.book.cache g.B.Backend.TELLS c.args.entry c.self.invariant.1, dumps_entry g.B.Backend.TELLS (placement_of w.book.layout) w.book.history w.dumps c.self.invariant.2 c.args.entry)
+    let ready = c.in-Ok.ensures.state.ready in
+    rw (c.in-Ok.ensures.state.ok)
+    (kept_aborted g.B.Backend.TELLS w.accounts w.book.state.layout w.book.state.history (states_of w.cells.items) w.failed w.starved w.sessions w.book.state.greatest w.dumps w.book.state.sessions w.first_outcome c.self.invariant.0 c.args.entry orphan is ready.is_free fits ready.space ready.served, fresh_entry w.book.state.history w.book.state.cache g.B.Backend.TELLS c.args.entry c.self.invariant.1, dumps_entry g.B.Backend.TELLS (placement_of w.book.state.layout) w.book.state.history w.dumps c.self.invariant.2 c.args.entry, seats_cleared (board_id w.board) (pass_board w.pass) w.book c.schedule.new.self w.cells.items w.failed c.self.invariant.3.0 c.self.invariant.3.1 (Some (Sched c.args.entry)) c.in-Ok.ensures.board c.in-Ok.ensures.seat)
 
 pub returns-in-Ok-clause-scheduled : goal.returns-in-Ok-clause-scheduled
 returns-in-Ok-clause-scheduled g c =
     let w = c.self.inside in
     subst (λ (x : WorldState). SchedulesAs x.core c.args.entry (Ok c.in-Ok.number)) c.self.view_is
-    (scheduled_as w.cells.items w.failed w.starved w.sessions w.book.greatest w.dumps w.book c.args.entry c.schedule.new.self c.in-Ok.number c.in-Ok.ensures.ok c.in-Ok.ensures.number c.in-Ok.ensures.ready)
+    (scheduled_as (states_of w.cells.items) w.failed w.starved w.sessions w.book.state.greatest w.dumps w.book.state c.args.entry c.schedule.new.self.state c.in-Ok.number c.in-Ok.ensures.state.ok c.in-Ok.ensures.state.number c.in-Ok.ensures.state.ready)
 
 pub returns-in-Err-clause-scheduled : goal.returns-in-Err-clause-scheduled
 returns-in-Err-clause-scheduled g c =
     let w = c.self.inside in
     subst (λ (x : WorldState). SchedulesAs x.core c.args.entry (Err c.in-Err.error)) c.self.view_is
-    (not_scheduled w.cells.items w.failed w.starved w.sessions w.book.greatest w.dumps w.book c.args.entry c.schedule.result c.in-Err.error c.in-Err.is
-    c.schedule.ensures.in_progress c.schedule.ensures.no_backend c.schedule.ensures.full c.schedule.ensures.faulted)
+    (not_scheduled (states_of w.cells.items) w.failed w.starved w.sessions w.book.state.greatest w.dumps w.book.state c.args.entry c.schedule.result c.in-Err.error c.in-Err.is
+    c.schedule.ensures.state.in_progress c.schedule.ensures.state.no_backend c.schedule.ensures.state.full c.schedule.ensures.state.faulted)
 
 pub invariant_of-self-in-Err : goal.invariant_of-self-in-Err
 invariant_of-self-in-Err g c =
     let w = c.self.inside in
     let e = c.args.entry in
     let session : e.session ≡ 0 = ap (λ (d : Entry). d.session) c.requires.is in
-    refused c.schedule.result c.in-Err.error c.in-Err.is w.book c.schedule.new.self (LogFailed e.session e.seq)
-    (λ (b : BookState g.row.S.Denot). KeptFresh g.B.Backend.TELLS (world_of w.accounts b.layout b.history w.cells.items w.failed w.starved w.sessions b.greatest w.dumps) b.sessions w.first_outcome b.cache w.dumps)
-    c.schedule.ensures.log_fault c.schedule.ensures.same
+    let q =
+    refused c.schedule.result c.in-Err.error c.in-Err.is w.book.state c.schedule.new.self.state (LogFailed e.session e.seq)
+    (λ (b : BookState g.row.S.Denot). KeptFresh g.B.Backend.TELLS (world_of w.accounts b.layout b.history (states_of w.cells.items) w.failed w.starved w.sessions b.greatest w.dumps) b.sessions w.first_outcome b.cache w.dumps)
+    c.schedule.ensures.state.log_fault c.schedule.ensures.state.same
     (λ fault.
-    let can = c.schedule.ensures.faulted fault in
-    let space : 3 ≤ events_left w.book.history = can.space in (
-      kept_log_failed g.B.Backend.TELLS w.accounts w.book.layout w.book.history w.cells.items w.failed w.starved w.sessions w.book.greatest w.dumps w.book.sessions w.first_outcome c.self.invariant.0 e.session e.seq can.is_free (omega arith) (omega arith)
+    let can = c.schedule.ensures.state.faulted fault in
+    let space : 3 ≤ events_left w.book.state.history = can.space in (
+      kept_log_failed g.B.Backend.TELLS w.accounts w.book.state.layout w.book.state.history (states_of w.cells.items) w.failed w.starved w.sessions w.book.state.greatest w.dumps w.book.state.sessions w.first_outcome c.self.invariant.0 e.session e.seq can.is_free (omega arith) (omega arith)
           (λ some. absurd (omega (arith, some))),
-      fresh_event w.book.history w.book.cache g.B.Backend.TELLS (LogFailed e.session e.seq) refl c.self.invariant.1,
-      dumps_event g.B.Backend.TELLS (placement_of w.book.layout) w.book.history w.dumps c.self.invariant.2 (LogFailed e.session e.seq) refl,
+      fresh_event w.book.state.history w.book.state.cache g.B.Backend.TELLS (LogFailed e.session e.seq) refl c.self.invariant.1,
+      dumps_event g.B.Backend.TELLS (placement_of w.book.state.layout) w.book.state.history w.dumps c.self.invariant.2 (LogFailed e.session e.seq) refl,
     ))
-    c.self.invariant
+    (c.self.invariant.0, c.self.invariant.1, c.self.invariant.2)
+    in
+    (q.0, q.1, q.2, seats_after (board_id w.board) (pass_board w.pass) w.book c.schedule.new.self w.cells.items w.failed c.self.invariant.3.0 c.self.invariant.3.1 (event_or_fault (Sched e) (LogFailed e.session e.seq) c.schedule.result) (quiet_or_fault (Sched e) (LogFailed e.session e.seq) c.schedule.result (λ b. refl) (λ b. refl)) c.schedule.ensures.board c.schedule.ensures.seat)
+
+pub schedule-requires-clause-counted : goal.schedule-requires-clause-counted
+schedule-requires-clause-counted g c =
+    let w = c.self.inside in
+    let e = c.args.entry in
+    (counted w.book (Sched e) c.self.invariant.3.1.unowned, counted w.book (LogFailed e.session e.seq) c.self.invariant.3.1.unowned)
 
 pub returns-in-Ok-clause-cache : goal.returns-in-Ok-clause-cache
 returns-in-Ok-clause-cache g c =
     let w = c.self.inside in
     let e = c.args.entry in
-    rw c.in-Ok.ensures.ok
-    (subst (λ (x : WorldState). FollowsLog (log x.core.history) (log (w.book.history ++ Sched e ∷ [])) x.cache (without_touched (log w.book.history) e w.book.cache)) c.self.view_is (follows_entry w.book.history w.book.cache e))
+    rw c.in-Ok.ensures.state.ok
+    (subst (λ (x : WorldState). FollowsLog (log x.core.history) (log (w.book.state.history ++ Sched e ∷ [])) x.cache (without_touched (log w.book.state.history) e w.book.state.cache)) c.self.view_is (follows_entry w.book.state.history w.book.state.cache e))
 
 pub returns-in-Err-clause-cache : goal.returns-in-Err-clause-cache
 returns-in-Err-clause-cache g c =
     let w = c.self.inside in
     let e = c.args.entry in
-    subst (λ (x : WorldState). FollowsLog (log x.core.history) (log c.schedule.new.self.history) x.cache c.schedule.new.self.cache) c.self.view_is
-    (refused c.schedule.result c.in-Err.error c.in-Err.is w.book c.schedule.new.self (LogFailed e.session e.seq)
-    (λ (b : BookState g.row.S.Denot). FollowsLog (log w.book.history) (log b.history) w.book.cache b.cache) c.schedule.ensures.log_fault c.schedule.ensures.same
-    (λ _. follows_event w.book.history w.book.cache (LogFailed e.session e.seq) refl) (inl (refl, refl)))
+    subst (λ (x : WorldState). FollowsLog (log x.core.history) (log c.schedule.new.self.state.history) x.cache c.schedule.new.self.state.cache) c.self.view_is
+    (refused c.schedule.result c.in-Err.error c.in-Err.is w.book.state c.schedule.new.self.state (LogFailed e.session e.seq)
+    (λ (b : BookState g.row.S.Denot). FollowsLog (log w.book.state.history) (log b.history) w.book.state.cache b.cache) c.schedule.ensures.state.log_fault c.schedule.ensures.state.same
+    (λ _. follows_event w.book.state.history w.book.state.cache (LogFailed e.session e.seq) refl) (inl (refl, refl)))

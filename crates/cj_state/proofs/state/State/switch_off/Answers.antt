@@ -10,6 +10,10 @@ use Rattle.cj_state.proofs.KeepingEvents.{kept_disabled}
 use Rattle.cj_state.proofs.Noting.{noted, had_room}
 use Rattle.cj_state.proofs.Dumped.{dumps_event}
 use Rattle.cj_state.proofs.Fresh.{fresh_event}
+use Rattle.cj_state.specs.Seats.{states_of}
+use Rattle.cj_book.specs.Seated.{event_at_ok}
+use Rattle.cj_board.specs.Seats.{board_id, pass_board}
+use Rattle.cj_state.proofs.SeatsKept.{quiet_ok, seats_after}
 use Rattle.cj_state.proofs.state.State.switch_off.Goals as goal
 
 pub invariant_of-self : goal.invariant_of-self
@@ -17,14 +21,17 @@ invariant_of-self g c =
     let w = c.self.inside in
     let fr = subst (λ (x : WorldState). is_idle x.core.history ≡ true) (sym c.self.view_is) c.requires.free in
     let on = subst (λ (x : WorldState). is_enabled x.core.history c.args.b ≡ true) (sym c.self.view_is) c.requires.on in
-    noted c.disable.result w.book c.disable.new.self (Disabled c.args.b) (λ (b : BookState g.row.S.Denot). KeptFresh g.B.Backend.TELLS (world_of w.accounts b.layout b.history w.cells.items w.failed w.starved w.sessions b.greatest w.dumps) b.sessions w.first_outcome b.cache w.dumps) c.disable.ensures.ok c.disable.ensures.err c.disable.ensures.space
-    (λ space. (kept_disabled g.B.Backend.TELLS w.accounts w.book.layout w.book.history w.cells.items w.failed w.starved w.sessions w.book.greatest w.dumps w.book.sessions w.first_outcome c.self.invariant.0 c.args.b fr on space, fresh_event w.book.history w.book.cache g.B.Backend.TELLS (Disabled c.args.b) refl c.self.invariant.1, dumps_event g.B.Backend.TELLS (placement_of w.book.layout) w.book.history w.dumps c.self.invariant.2 (Disabled c.args.b) refl)) c.self.invariant
+    let came = c.disable.ensures.state in
+    let q = noted c.disable.result w.book.state c.disable.new.self.state (Disabled c.args.b) (λ (b : BookState g.row.S.Denot). KeptFresh g.B.Backend.TELLS (world_of w.accounts b.layout b.history (states_of w.cells.items) w.failed w.starved w.sessions b.greatest w.dumps) b.sessions w.first_outcome b.cache w.dumps) came.ok came.err came.space
+    (λ space. (kept_disabled g.B.Backend.TELLS w.accounts w.book.state.layout w.book.state.history (states_of w.cells.items) w.failed w.starved w.sessions w.book.state.greatest w.dumps w.book.state.sessions w.first_outcome c.self.invariant.0 c.args.b fr on space, fresh_event w.book.state.history w.book.state.cache g.B.Backend.TELLS (Disabled c.args.b) refl c.self.invariant.1, dumps_event g.B.Backend.TELLS (placement_of w.book.state.layout) w.book.state.history w.dumps c.self.invariant.2 (Disabled c.args.b) refl)) (c.self.invariant.0, c.self.invariant.1, c.self.invariant.2)
+    in
+    (q.0, q.1, q.2, seats_after (board_id w.board) (pass_board w.pass) w.book c.disable.new.self w.cells.items w.failed c.self.invariant.3.0 c.self.invariant.3.1 (event_at_ok (Disabled c.args.b) c.disable.result) (quiet_ok (Disabled c.args.b) c.disable.result (λ b. refl)) c.disable.ensures.board c.disable.ensures.seat)
 
 pub returns-clause-room : goal.returns-clause-room
 returns-clause-room g c =
     let w = c.self.inside in
     subst (λ (x : WorldState). HadRoom x.core c.disable.result) c.self.view_is
-    (had_room w.cells.items w.failed w.starved w.sessions w.book.greatest w.dumps w.book c.disable.result c.disable.ensures.space c.disable.ensures.full c.disable.ensures.want)
+    (had_room (states_of w.cells.items) w.failed w.starved w.sessions w.book.state.greatest w.dumps w.book.state c.disable.result c.disable.ensures.state.space c.disable.ensures.state.full c.disable.ensures.state.want)
 
 pub disable-requires-clause-below : goal.disable-requires-clause-below
 disable-requires-clause-below g c =

@@ -1,4 +1,4 @@
-use Rattle.std.proofs.Common.{◌≡◌, ℕ, ◌<◌, true, false, Some, length, map, sym, subst, refl}
+use Rattle.std.proofs.Common.{◌≡◌, ℕ, ◌<◌, ◌∙◌, true, false, List, Some, length, map, sym, subst, refl}
 use Rattle.cj_cluster.specs.declared.event.Event.TheVariants.{Enabled}
 use Rattle.cj_cluster.specs.History.Histories.{log, is_idle, is_enabled}
 use Rattle.cj_cluster.specs.Moves.Cores.{position_at}
@@ -13,6 +13,15 @@ use Rattle.cj_state.proofs.KeepingEvents.{kept_enabled}
 use Rattle.cj_state.proofs.Noting.{noted, had_room}
 use Rattle.cj_state.proofs.Dumped.{dumps_event}
 use Rattle.cj_state.proofs.Fresh.{fresh_event}
+use Rattle.cj_state.specs.Seats.{states_of}
+use Rattle.std.proofs.lemmas.List.{length-map}
+use Rattle.cj_book.specs.Events.{Appends}
+use Rattle.cj_book.specs.Seated.{event_at_ok}
+use Rattle.cj_replica.specs.Seated.{SeatedCell}
+use Rattle.cj_state.specs.Proving.Seated.{position_in}
+use Rattle.cj_state.proofs.HeardOf.{ready_heard}
+use Rattle.cj_board.specs.Seats.{board_id, pass_board}
+use Rattle.cj_state.proofs.SeatsKept.{quiet_ok, seats_after}
 use Rattle.cj_state.proofs.state.State.switch_on.Goals as goal
 
 pub invariant_of-self : goal.invariant_of-self
@@ -21,17 +30,60 @@ invariant_of-self g c =
     let fr = subst (λ (x : WorldState). is_idle x.core.history ≡ true) (sym c.self.view_is) c.requires.free in
     let off = subst (λ (x : WorldState). is_enabled x.core.history c.args.b ≡ false) (sym c.self.view_is) c.requires.off in
     let there = subst (λ (x : WorldState). position_at x.core c.args.b ≡ Some (length (log x.core.history))) (sym c.self.view_is) c.requires.there in
-    noted c.enable.result w.book c.enable.new.self (Enabled c.args.b) (λ (b : BookState g.row.S.Denot). KeptFresh g.B.Backend.TELLS (world_of w.accounts b.layout b.history w.cells.items w.failed w.starved w.sessions b.greatest w.dumps) b.sessions w.first_outcome b.cache w.dumps) c.enable.ensures.ok c.enable.ensures.err c.enable.ensures.space
-    (λ space. (kept_enabled g.B.Backend.TELLS w.accounts w.book.layout w.book.history w.cells.items w.failed w.starved w.sessions w.book.greatest w.dumps w.book.sessions w.first_outcome c.self.invariant.0 c.args.b fr off there space, fresh_event w.book.history w.book.cache g.B.Backend.TELLS (Enabled c.args.b) refl c.self.invariant.1, dumps_event g.B.Backend.TELLS (placement_of w.book.layout) w.book.history w.dumps c.self.invariant.2 (Enabled c.args.b) refl)) c.self.invariant
+    let was = c.hear.ensures.heard.heard in
+    let came = subst (λ (k : BookState g.row.S.Denot). Appends k (Enabled c.args.b) c.enable.result c.enable.new.self.state) was.state c.enable.ensures.state in
+    let q = noted c.enable.result w.book.state c.enable.new.self.state (Enabled c.args.b) (λ (b : BookState g.row.S.Denot). KeptFresh g.B.Backend.TELLS (world_of w.accounts b.layout b.history (states_of w.cells.items) w.failed w.starved w.sessions b.greatest w.dumps) b.sessions w.first_outcome b.cache w.dumps) came.ok came.err came.space
+    (λ space. (kept_enabled g.B.Backend.TELLS w.accounts w.book.state.layout w.book.state.history (states_of w.cells.items) w.failed w.starved w.sessions w.book.state.greatest w.dumps w.book.state.sessions w.first_outcome c.self.invariant.0 c.args.b fr off there space, fresh_event w.book.state.history w.book.state.cache g.B.Backend.TELLS (Enabled c.args.b) refl c.self.invariant.1, dumps_event g.B.Backend.TELLS (placement_of w.book.state.layout) w.book.state.history w.dumps c.self.invariant.2 (Enabled c.args.b) refl)) (c.self.invariant.0, c.self.invariant.1, c.self.invariant.2)
+    in
+    let ready = ready_heard w.book c.hear.new.book w.failed c.self.invariant.3.1 was in
+    rw c.hear.ensures.cells
+    (q.0, q.1, q.2, seats_after (board_id w.board) (pass_board c.hear.new.pass) c.hear.new.book c.enable.new.self c.hear.new.cells.items w.failed c.hear.ensures.at ready (event_at_ok (Enabled c.args.b) c.enable.result) (quiet_ok (Enabled c.args.b) c.enable.result (λ b. refl)) c.enable.ensures.board c.enable.ensures.seat)
 
 pub returns-clause-room : goal.returns-clause-room
 returns-clause-room g c =
     let w = c.self.inside in
+    let came = subst (λ (k : BookState g.row.S.Denot). Appends k (Enabled c.args.b) c.enable.result c.enable.new.self.state) c.hear.ensures.heard.heard.state c.enable.ensures.state in
     subst (λ (x : WorldState). HadRoom x.core c.enable.result) c.self.view_is
-    (had_room w.cells.items w.failed w.starved w.sessions w.book.greatest w.dumps w.book c.enable.result c.enable.ensures.space c.enable.ensures.full c.enable.ensures.want)
+    (had_room (states_of w.cells.items) w.failed w.starved w.sessions w.book.state.greatest w.dumps w.book.state c.enable.result came.space came.full came.want)
+
+-- the backend's cell is there
+here : (cells : List SeatedCell) (b n : ℕ) → position_in (states_of cells) b ≡ Some n → b < length cells
+here cells b n there =
+    subst (λ (m : ℕ). b < m) (length-map (states_of cells) (λ (x : CellState). x.position) ∙ length-map cells (λ (x : SeatedCell). x.state)) (is_there (map (λ (x : CellState). x.position) (states_of cells)) b n there)
+
+pub hear-requires-clause-within : goal.hear-requires-clause-within
+hear-requires-clause-within g c =
+    let w = c.self.inside in
+    let there = subst (λ (x : WorldState). position_at x.core c.args.b ≡ Some (length (log x.core.history))) (sym c.self.view_is) c.requires.there in
+    here w.cells.items c.args.b (length (log w.book.state.history)) there
+
+pub hear-requires-clause-numbered : goal.hear-requires-clause-numbered
+hear-requires-clause-numbered g c = λ b d lt. (c.self.invariant.0.world.cells b d lt).number
+
+pub hear-requires-clause-at : goal.hear-requires-clause-at
+hear-requires-clause-at g c = c.self.invariant.3.0
+
+pub enable-requires-clause-board : goal.enable-requires-clause-board
+enable-requires-clause-board g c = c.hear.ensures.at.of_book
+
+pub enable-requires-clause-is_free : goal.enable-requires-clause-is_free
+enable-requires-clause-is_free g c =
+    let w = c.self.inside in
+    rw c.hear.ensures.heard.heard.state (subst (λ (x : WorldState). is_idle x.core.history ≡ true) (sym c.self.view_is) c.requires.free)
+
+pub enable-requires-clause-is_disabled : goal.enable-requires-clause-is_disabled
+enable-requires-clause-is_disabled g c =
+    let w = c.self.inside in
+    rw c.hear.ensures.heard.heard.state (subst (λ (x : WorldState). is_enabled x.core.history c.args.b ≡ false) (sym c.self.view_is) c.requires.off)
+
+pub enable-requires-clause-position : goal.enable-requires-clause-position
+enable-requires-clause-position g c =
+    let w = c.self.inside in
+    let there = subst (λ (x : WorldState). position_at x.core c.args.b ≡ Some (length (log x.core.history))) (sym c.self.view_is) c.requires.there in
+    rw c.hear.ensures.heard.heard.state (c.hear.ensures.heard.position (length (log w.book.state.history)) there)
 
 pub enable-requires-clause-below : goal.enable-requires-clause-below
 enable-requires-clause-below g c =
     let w = c.self.inside in
     let there = subst (λ (x : WorldState). position_at x.core c.args.b ≡ Some (length (log x.core.history))) (sym c.self.view_is) c.requires.there in
-    subst (λ (m : ℕ). c.args.b < m) c.self.invariant.0.world.sound.cells (is_there (map (λ (x : CellState). x.position) w.cells.items) c.args.b (length (log w.book.history)) there)
+    rw c.hear.ensures.heard.heard.state (subst (λ (m : ℕ). c.args.b < m) c.self.invariant.0.world.sound.cells (is_there (map (λ (x : CellState). x.position) (states_of w.cells.items)) c.args.b (length (log w.book.state.history)) there))

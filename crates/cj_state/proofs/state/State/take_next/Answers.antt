@@ -8,6 +8,8 @@ use Rattle.cj_state.specs.Worlds.{WorldState, core_of, world_of}
 use Rattle.cj_state.specs.CalledLogins.{LogsInToTake, login_to_take, logins_of}
 use Rattle.cj_state.proofs.Catching.{can_take}
 use Rattle.cj_state.proofs.Taking.{kept_replayed, replays, took_counts, took_armings, took_logins}
+use Rattle.cj_state.specs.Seats.{states_of}
+use Rattle.cj_state.proofs.HeardOf.{ready_heard}
 use Rattle.cj_state.proofs.state.State.take_next.Goals as goal
 
 pub take-requires-clause-registered : goal.take-requires-clause-registered
@@ -17,33 +19,40 @@ take-requires-clause-registered g c =
 pub take-requires-clause-can : goal.take-requires-clause-can
 take-requires-clause-can g c =
     let w = c.self.inside in
-    let can : CanReplay (core_of w.book.layout w.book.history w.cells.items w.failed w.starved w.sessions w.book.greatest w.dumps) c.args.b = can_replay _ c.args.b (subst (λ (x : WorldState). not_now x.core (Replay c.args.b) ≡ None) (sym c.self.view_is) c.requires.now) in
-    can_take g.B.Backend.TELLS w.accounts w.book.layout w.book.history w.cells.items w.failed w.starved w.sessions w.book.greatest w.dumps w.book.sessions w.first_outcome c.self.invariant.0 c.args.b (position_or_zero (position_at (core_of w.book.layout w.book.history w.cells.items w.failed w.starved w.sessions w.book.greatest w.dumps) c.args.b)) can.at can.more
+    let can : CanReplay (core_of w.book.state.layout w.book.state.history (states_of w.cells.items) w.failed w.starved w.sessions w.book.state.greatest w.dumps) c.args.b = can_replay _ c.args.b (subst (λ (x : WorldState). not_now x.core (Replay c.args.b) ≡ None) (sym c.self.view_is) c.requires.now) in
+    can_take g.B.Backend.TELLS w.accounts w.book.state.layout w.book.state.history (states_of w.cells.items) w.failed w.starved w.sessions w.book.state.greatest w.dumps w.book.state.sessions w.first_outcome c.self.invariant.0 c.args.b (position_or_zero (position_at (core_of w.book.state.layout w.book.state.history (states_of w.cells.items) w.failed w.starved w.sessions w.book.state.greatest w.dumps) c.args.b)) can.at can.more
 
 pub invariant_of-self : goal.invariant_of-self
 invariant_of-self g c =
     let w = c.self.inside in
-    let can : CanReplay (core_of w.book.layout w.book.history w.cells.items w.failed w.starved w.sessions w.book.greatest w.dumps) c.args.b = can_replay _ c.args.b (subst (λ (x : WorldState). not_now x.core (Replay c.args.b) ≡ None) (sym c.self.view_is) c.requires.now) in
-    (kept_replayed g.B.Backend.TELLS w.accounts w.book.layout w.book.history w.cells.items w.failed w.starved w.sessions w.book.greatest w.dumps w.book.sessions w.first_outcome c.self.invariant.0 c.args.b c.take.result c.take.new.cells.items c.take.ensures can.off, c.self.invariant.1, c.self.invariant.2)
+    let can : CanReplay (core_of w.book.state.layout w.book.state.history (states_of w.cells.items) w.failed w.starved w.sessions w.book.state.greatest w.dumps) c.args.b = can_replay _ c.args.b (subst (λ (x : WorldState). not_now x.core (Replay c.args.b) ≡ None) (sym c.self.view_is) c.requires.now) in
+    rw c.take.ensures.heard.state
+    (kept_replayed g.B.Backend.TELLS w.accounts w.book.state.layout w.book.state.history (states_of w.cells.items) w.failed w.starved w.sessions w.book.state.greatest w.dumps w.book.state.sessions w.first_outcome c.self.invariant.0 c.args.b c.take.result (states_of c.take.new.cells.items) c.take.ensures.took can.off, c.self.invariant.1, c.self.invariant.2, (c.take.ensures.at, ready_heard w.book c.take.new.book w.failed c.self.invariant.3.1 c.take.ensures.heard))
 
 pub returns-clause-replays : goal.returns-clause-replays
 returns-clause-replays g c =
     let w = c.self.inside in
-    subst (λ (x : WorldState). Replays g.B.Backend.TELLS x.core c.args.b (Ok (Replayed (position_or_zero (position_at x.core c.args.b) + 1) c.take.result)) (core_of w.book.layout w.book.history c.take.new.cells.items w.failed w.starved w.sessions w.book.greatest w.dumps)) c.self.view_is
-    (replays g.B.Backend.TELLS w.accounts w.book.layout w.book.history w.cells.items w.failed w.starved w.sessions w.book.greatest w.dumps w.book.sessions w.first_outcome c.self.invariant.0 c.args.b c.take.result c.take.new.cells.items c.take.ensures)
+    subst (λ (x : WorldState). Replays g.B.Backend.TELLS x.core c.args.b (Ok (Replayed (position_or_zero (position_at x.core c.args.b) + 1) c.take.result)) (core_of c.take.new.book.state.layout c.take.new.book.state.history (states_of c.take.new.cells.items) w.failed w.starved w.sessions c.take.new.book.state.greatest w.dumps)) c.self.view_is
+    (rw c.take.ensures.heard.state (replays g.B.Backend.TELLS w.accounts w.book.state.layout w.book.state.history (states_of w.cells.items) w.failed w.starved w.sessions w.book.state.greatest w.dumps w.book.state.sessions w.first_outcome c.self.invariant.0 c.args.b c.take.result (states_of c.take.new.cells.items) c.take.ensures.took))
 
 pub returns-clause-counts : goal.returns-clause-counts
 returns-clause-counts g c =
     let w = c.self.inside in
-    took_counts g.B.Backend.TELLS w.accounts w.book.layout w.book.history w.cells.items w.failed w.starved w.sessions w.book.greatest w.dumps w.book.sessions w.first_outcome c.self.invariant.0 c.args.b c.take.result c.take.new.cells.items c.take.ensures c.args.self.now.cells (ap (λ (x : WorldState). x.cells) (sym c.self.view_is))
+    took_counts g.B.Backend.TELLS w.accounts w.book.state.layout w.book.state.history (states_of w.cells.items) w.failed w.starved w.sessions w.book.state.greatest w.dumps w.book.state.sessions w.first_outcome c.self.invariant.0 c.args.b c.take.result (states_of c.take.new.cells.items) c.take.ensures.took c.args.self.now.cells (ap (λ (x : WorldState). x.cells) (sym c.self.view_is))
 
 pub returns-clause-armings : goal.returns-clause-armings
 returns-clause-armings g c =
     let w = c.self.inside in
-    took_armings g.B.Backend.TELLS w.accounts w.book.layout w.book.history w.cells.items w.failed w.starved w.sessions w.book.greatest w.dumps w.book.sessions w.first_outcome c.self.invariant.0 c.args.b c.take.result c.take.new.cells.items c.take.ensures c.args.self.now.cells (ap (λ (x : WorldState). x.cells) (sym c.self.view_is))
+    took_armings g.B.Backend.TELLS w.accounts w.book.state.layout w.book.state.history (states_of w.cells.items) w.failed w.starved w.sessions w.book.state.greatest w.dumps w.book.state.sessions w.first_outcome c.self.invariant.0 c.args.b c.take.result (states_of c.take.new.cells.items) c.take.ensures.took c.args.self.now.cells (ap (λ (x : WorldState). x.cells) (sym c.self.view_is))
 
 pub returns-clause-logins : goal.returns-clause-logins
 returns-clause-logins g c =
     let w = c.self.inside in
-    subst (λ (x : WorldState). LogsInToTake c.args.b (login_to_take x c.args.b) c.take.result (logins_of x.cells) (logins_of c.take.new.cells.items)) c.self.view_is
-    (took_logins g.B.Backend.TELLS w.accounts w.book.layout w.book.history w.cells.items w.failed w.starved w.sessions w.book.greatest w.dumps w.book.sessions w.first_outcome c.self.invariant.0 c.args.b c.take.result c.take.new.cells.items c.take.ensures (world_of w.accounts w.book.layout w.book.history w.cells.items w.failed w.starved w.sessions w.book.greatest w.dumps) refl)
+    subst (λ (x : WorldState). LogsInToTake c.args.b (login_to_take x c.args.b) c.take.result (logins_of x.cells) (logins_of (states_of c.take.new.cells.items))) c.self.view_is
+    (took_logins g.B.Backend.TELLS w.accounts w.book.state.layout w.book.state.history (states_of w.cells.items) w.failed w.starved w.sessions w.book.state.greatest w.dumps w.book.state.sessions w.first_outcome c.self.invariant.0 c.args.b c.take.result (states_of c.take.new.cells.items) c.take.ensures.took (world_of w.accounts w.book.state.layout w.book.state.history (states_of w.cells.items) w.failed w.starved w.sessions w.book.state.greatest w.dumps) refl)
+
+pub take-requires-clause-at : goal.take-requires-clause-at
+take-requires-clause-at g c = c.self.invariant.3.0
+
+pub take-requires-clause-numbered : goal.take-requires-clause-numbered
+take-requires-clause-numbered g c = λ b d lt. (c.self.invariant.0.world.cells b d lt).number

@@ -8,6 +8,8 @@ use Rattle.cj_state.specs.Worlds.{WorldState, core_of, world_of}
 use Rattle.cj_state.specs.CalledLogins.{LogsInToTake, login_to_take, logins_of}
 use Rattle.cj_state.proofs.Catching.{can_take}
 use Rattle.cj_state.proofs.Taking.{kept_applied, applies, took_counts, took_armings, took_logins}
+use Rattle.cj_state.specs.Seats.{states_of}
+use Rattle.cj_state.proofs.HeardOf.{ready_taken}
 use Rattle.cj_state.proofs.state.State.take_open.Goals as goal
 
 pub take-did-requires-clause-registered : goal.take-did-requires-clause-registered
@@ -17,34 +19,41 @@ take-did-requires-clause-registered g c =
 pub take-did-requires-clause-can : goal.take-did-requires-clause-can
 take-did-requires-clause-can g c =
     let w = c.self.inside in
-    let can : CanApply (core_of w.book.layout w.book.history w.cells.items w.failed w.starved w.sessions w.book.greatest w.dumps) c.args.b = can_apply _ c.args.b (subst (λ (x : WorldState). not_now x.core (Apply c.args.b) ≡ None) (sym c.self.view_is) c.requires.now) in
-    can_take g.B.Backend.TELLS w.accounts w.book.layout w.book.history w.cells.items w.failed w.starved w.sessions w.book.greatest w.dumps w.book.sessions w.first_outcome c.self.invariant.0 c.args.b (position_or_zero (position_at (core_of w.book.layout w.book.history w.cells.items w.failed w.starved w.sessions w.book.greatest w.dumps) c.args.b)) can.at can.more
+    let can : CanApply (core_of w.book.state.layout w.book.state.history (states_of w.cells.items) w.failed w.starved w.sessions w.book.state.greatest w.dumps) c.args.b = can_apply _ c.args.b (subst (λ (x : WorldState). not_now x.core (Apply c.args.b) ≡ None) (sym c.self.view_is) c.requires.now) in
+    can_take g.B.Backend.TELLS w.accounts w.book.state.layout w.book.state.history (states_of w.cells.items) w.failed w.starved w.sessions w.book.state.greatest w.dumps w.book.state.sessions w.first_outcome c.self.invariant.0 c.args.b (position_or_zero (position_at (core_of w.book.state.layout w.book.state.history (states_of w.cells.items) w.failed w.starved w.sessions w.book.state.greatest w.dumps) c.args.b)) can.at can.more
 
 pub invariant_of-self : goal.invariant_of-self
 invariant_of-self g c =
     let w = c.self.inside in
-    let can : CanApply (core_of w.book.layout w.book.history w.cells.items w.failed w.starved w.sessions w.book.greatest w.dumps) c.args.b = can_apply _ c.args.b (subst (λ (x : WorldState). not_now x.core (Apply c.args.b) ≡ None) (sym c.self.view_is) c.requires.now) in
-    rw (c.failed_after-self-inside.ensures, c.starved_after-self-inside.ensures, c.first_outcome_after-self-inside.ensures)
-    (kept_applied g.B.Backend.TELLS w.accounts w.book.layout w.book.history w.cells.items w.failed w.starved w.sessions w.book.greatest w.dumps w.book.sessions w.first_outcome c.self.invariant.0 c.args.b c.take-did.result c.take-did.new.cells.items c.take-did.ensures can.is_running can.on, c.self.invariant.1, c.self.invariant.2)
+    let can : CanApply (core_of w.book.state.layout w.book.state.history (states_of w.cells.items) w.failed w.starved w.sessions w.book.state.greatest w.dumps) c.args.b = can_apply _ c.args.b (subst (λ (x : WorldState). not_now x.core (Apply c.args.b) ≡ None) (sym c.self.view_is) c.requires.now) in
+    let ready = ready_taken w.book c.take-did.new.book w.failed c.args.b c.take-did.result c.self.invariant.3.1 c.take-did.ensures.heard c.take-did.ensures.token in
+    rw (c.take-did.ensures.heard.state, c.failed_after-self-inside.ensures, c.starved_after-self-inside.ensures, c.first_outcome_after-self-inside.ensures)
+    (kept_applied g.B.Backend.TELLS w.accounts w.book.state.layout w.book.state.history (states_of w.cells.items) w.failed w.starved w.sessions w.book.state.greatest w.dumps w.book.state.sessions w.first_outcome c.self.invariant.0 c.args.b c.take-did.result (states_of c.take-did.new.cells.items) c.take-did.ensures.took can.is_running can.on, c.self.invariant.1, c.self.invariant.2, (c.take-did.ensures.at, ready))
 
 pub returns-clause-applies : goal.returns-clause-applies
 returns-clause-applies g c =
     let w = c.self.inside in
-    subst (λ (x : WorldState). Applies g.B.Backend.TELLS x.core c.args.b (Ok (Applied c.args.b c.take-did.result)) (core_of w.book.layout w.book.history c.take-did.new.cells.items c.failed_after-self-inside.result c.starved_after-self-inside.result w.sessions w.book.greatest w.dumps)) c.self.view_is
-    (applies g.B.Backend.TELLS w.accounts w.book.layout w.book.history w.cells.items w.failed w.starved w.sessions w.book.greatest w.dumps w.book.sessions w.first_outcome c.self.invariant.0 c.args.b c.take-did.result c.take-did.new.cells.items c.take-did.ensures c.failed_after-self-inside.result c.starved_after-self-inside.result c.failed_after-self-inside.ensures c.starved_after-self-inside.ensures)
+    subst (λ (x : WorldState). Applies g.B.Backend.TELLS x.core c.args.b (Ok (Applied c.args.b c.take-did.result)) (core_of c.take-did.new.book.state.layout c.take-did.new.book.state.history (states_of c.take-did.new.cells.items) c.failed_after-self-inside.result c.starved_after-self-inside.result w.sessions c.take-did.new.book.state.greatest w.dumps)) c.self.view_is
+    (rw c.take-did.ensures.heard.state (applies g.B.Backend.TELLS w.accounts w.book.state.layout w.book.state.history (states_of w.cells.items) w.failed w.starved w.sessions w.book.state.greatest w.dumps w.book.state.sessions w.first_outcome c.self.invariant.0 c.args.b c.take-did.result (states_of c.take-did.new.cells.items) c.take-did.ensures.took c.failed_after-self-inside.result c.starved_after-self-inside.result c.failed_after-self-inside.ensures c.starved_after-self-inside.ensures))
 
 pub returns-clause-counts : goal.returns-clause-counts
 returns-clause-counts g c =
     let w = c.self.inside in
-    took_counts g.B.Backend.TELLS w.accounts w.book.layout w.book.history w.cells.items w.failed w.starved w.sessions w.book.greatest w.dumps w.book.sessions w.first_outcome c.self.invariant.0 c.args.b c.take-did.result c.take-did.new.cells.items c.take-did.ensures c.args.self.now.cells (ap (λ (x : WorldState). x.cells) (sym c.self.view_is))
+    took_counts g.B.Backend.TELLS w.accounts w.book.state.layout w.book.state.history (states_of w.cells.items) w.failed w.starved w.sessions w.book.state.greatest w.dumps w.book.state.sessions w.first_outcome c.self.invariant.0 c.args.b c.take-did.result (states_of c.take-did.new.cells.items) c.take-did.ensures.took c.args.self.now.cells (ap (λ (x : WorldState). x.cells) (sym c.self.view_is))
 
 pub returns-clause-armings : goal.returns-clause-armings
 returns-clause-armings g c =
     let w = c.self.inside in
-    took_armings g.B.Backend.TELLS w.accounts w.book.layout w.book.history w.cells.items w.failed w.starved w.sessions w.book.greatest w.dumps w.book.sessions w.first_outcome c.self.invariant.0 c.args.b c.take-did.result c.take-did.new.cells.items c.take-did.ensures c.args.self.now.cells (ap (λ (x : WorldState). x.cells) (sym c.self.view_is))
+    took_armings g.B.Backend.TELLS w.accounts w.book.state.layout w.book.state.history (states_of w.cells.items) w.failed w.starved w.sessions w.book.state.greatest w.dumps w.book.state.sessions w.first_outcome c.self.invariant.0 c.args.b c.take-did.result (states_of c.take-did.new.cells.items) c.take-did.ensures.took c.args.self.now.cells (ap (λ (x : WorldState). x.cells) (sym c.self.view_is))
 
 pub returns-clause-logins : goal.returns-clause-logins
 returns-clause-logins g c =
     let w = c.self.inside in
-    subst (λ (x : WorldState). LogsInToTake c.args.b (login_to_take x c.args.b) c.take-did.result (logins_of x.cells) (logins_of c.take-did.new.cells.items)) c.self.view_is
-    (took_logins g.B.Backend.TELLS w.accounts w.book.layout w.book.history w.cells.items w.failed w.starved w.sessions w.book.greatest w.dumps w.book.sessions w.first_outcome c.self.invariant.0 c.args.b c.take-did.result c.take-did.new.cells.items c.take-did.ensures (world_of w.accounts w.book.layout w.book.history w.cells.items w.failed w.starved w.sessions w.book.greatest w.dumps) refl)
+    subst (λ (x : WorldState). LogsInToTake c.args.b (login_to_take x c.args.b) c.take-did.result (logins_of x.cells) (logins_of (states_of c.take-did.new.cells.items))) c.self.view_is
+    (took_logins g.B.Backend.TELLS w.accounts w.book.state.layout w.book.state.history (states_of w.cells.items) w.failed w.starved w.sessions w.book.state.greatest w.dumps w.book.state.sessions w.first_outcome c.self.invariant.0 c.args.b c.take-did.result (states_of c.take-did.new.cells.items) c.take-did.ensures.took (world_of w.accounts w.book.state.layout w.book.state.history (states_of w.cells.items) w.failed w.starved w.sessions w.book.state.greatest w.dumps) refl)
+
+pub take-did-requires-clause-at : goal.take-did-requires-clause-at
+take-did-requires-clause-at g c = c.self.invariant.3.0
+
+pub take-did-requires-clause-numbered : goal.take-did-requires-clause-numbered
+take-did-requires-clause-numbered g c = λ b d lt. (c.self.invariant.0.world.cells b d lt).number

@@ -1,0 +1,122 @@
+use Rattle.std.proofs.Common.{◌≡◌, ◌<◌, ◌+◌, ◌-◌, ◌∷◌, [], List, length, get_or, set, slice_get, Option, None, Some, Result, Ok, Err, ℕ, Bor, ⊎_elim, ◌≤◌, refl, sym, ap, ◌∙◌, subst, arith}
+use Rattle.std.proofs.lemmas.List.{length-map}
+use Rattle.std.specs.Prelude.{option_copied}
+use Rattle.std.proofs.lemmas.Option.{slice_get_cases}
+use mathlib.Core.List.{IsPrefix}
+use Rattle.cj_model.specs.declared.limits.TheConstants.{EVENT_LIMIT}
+use Rattle.cj_model.specs.declared.request.Entry.{Entry}
+use Rattle.cj_board.specs.declared.view.SeatView.{SeatView}
+use Rattle.cj_board.specs.Points.{fault_tokens_of, max_word}
+use Rattle.cj_board.specs.Steps.{after_fault, at_position}
+use Rattle.cj_book.specs.Books.{BookState}
+use Rattle.cj_cluster.specs.History.Histories.{log}
+use Rattle.cj_cluster.specs.declared.moves.Did.TheVariants as did
+use Rattle.cj_cluster.specs.Moves.Moves.{position_or_zero}
+use Rattle.cj_cluster.proofs.Pushed.{log-prefix, prefix_get}
+use Rattle.cj_replica.specs.declared.replica.Caught.{Caught}
+use Rattle.cj_replica.specs.declared.replica.Caught.TheVariants as caught
+use Rattle.cj_replica.specs.declared.replica.CellError.{CellError}
+use Rattle.cj_replica.specs.declared.replica.CellError.TheVariants as errors
+use Rattle.cj_replica.specs.Cells.{CatchesUp, CellState, IsNextEntry}
+use Rattle.cj_replica.specs.Seated.{SeatedCell, view_after_entry}
+use Rattle.cj_state.specs.Proving.Taking.{did_of}
+use Rattle.cj_state.specs.Seats.{states_of}
+use Rattle.cj_state.proofs.Catching.{took}
+use Rattle.cj_state.proofs.HeardOf.{all_at, board_of, one_token, seen_as, states_set, there_set}
+use Rattle.cj_state.proofs.cells.catch_up_at.Goals as goal
+
+-- the entry that was found is the one at the cell's position
+found : {A : Type 0} (xs : List A) (p next : ℕ) (x : A) → next ≡ p + 1 → Some x ≡ slice_get xs (next - 1) → slice_get xs p ≡ Some x
+found xs p next x is read = let e : next - 1 ≡ p = omega arith in ap (slice_get xs) (sym e) ∙ sym read
+
+failed_alone : (r : Result Caught CellError) → did_of r ≡ did.Failed → r ≡ Err errors.Failed
+failed_alone (Ok caught.Skipped) is = cc is
+failed_alone (Ok (caught.Did o)) is = cc is
+failed_alone (Err errors.Failed) is = refl
+failed_alone (Err errors.Starved) is = cc is
+
+pub overflow_add-next : goal.overflow_add-next
+overflow_add-next g c =
+    let can = c.requires.can in
+    let lt : c.args.b < length c.args.cells.now.items = rw (sym (length-map c.args.cells.now.items (λ (z : SeatedCell). z.state))) can.within in
+    let x : SeatedCell = c.index.result.now in
+    let at : c.position.result ≡ Some can.p = c.position.ensures ∙ (ap (λ (z : CellState). z.position) (seen_as c.args.cells.now.items c.args.b x lt c.index.ensures) ∙ can.stands x.state) in
+    let here : c.place-next.result ≡ can.p = c.place-next.ensures ∙ ap position_or_zero at in
+    let more : can.p < length (log c.args.book.now.state.history) = can.more in
+    let short : length (log c.args.book.now.state.history) ≤ EVENT_LIMIT = can.short in
+    omega (arith, here, more, short)
+
+pub unreachable-requires : goal.unreachable-requires
+unreachable-requires g c =
+    let can = c.requires.can in
+    let lt : c.args.b < length c.args.cells.now.items = rw (sym (length-map c.args.cells.now.items (λ (z : SeatedCell). z.state))) can.within in
+    let x : SeatedCell = c.index.result.now in
+    let at : c.position.result ≡ Some can.p = c.position.ensures ∙ (ap (λ (z : CellState). z.position) (seen_as c.args.cells.now.items c.args.b x lt c.index.ensures) ∙ can.stands x.state) in
+    let here : c.place-next.result ≡ can.p = c.place-next.ensures ∙ ap position_or_zero at in
+    let entries = log c.args.book.now.state.history in
+    let none : None ≡ slice_get entries (c.place-next.result + 1 - 1) =
+    subst (λ (r : Option (Bor Entry)). option_copied r ≡ slice_get entries (c.place-next.result + 1 - 1)) c.in_default.is (c.entry.ensures.numbered (omega arith) ∙ ap (λ (k : BookState g.row.S.Denot). slice_get (log k.history) (c.place-next.result + 1 - 1)) c.ledger.ensures)
+    in
+    ⊎_elim (λ (is : (x : Entry) × (c.place-next.result + 1 - 1 < length entries) × (slice_get entries (c.place-next.result + 1 - 1) ≡ Some x) × (get_or entries (c.place-next.result + 1 - 1) x ≡ x)). cc (none, is.2))
+    (λ (past : (length entries ≤ c.place-next.result + 1 - 1) × (slice_get entries (c.place-next.result + 1 - 1) ≡ None)). let le = past.0 in let more : can.p < length entries = can.more in omega (arith, le, more, here)) (slice_get_cases entries (c.place-next.result + 1 - 1)).1
+
+pub catch_up-requires-clause-board : goal.catch_up-requires-clause-board
+catch_up-requires-clause-board g c =
+    let can = c.requires.can in
+    let lt : c.args.b < length c.args.cells.now.items = rw (sym (length-map c.args.cells.now.items (λ (z : SeatedCell). z.state))) can.within in
+    board_of _ c.args.cells.now.items c.args.b c.index_mut.result.now c.index_mut.result.now lt c.index_mut.ensures.value c.requires.at
+
+pub catch_up-requires-clause-next : goal.catch_up-requires-clause-next
+catch_up-requires-clause-next g c =
+    let can = c.requires.can in
+    let lt : c.args.b < length c.args.cells.now.items = rw (sym (length-map c.args.cells.now.items (λ (z : SeatedCell). z.state))) can.within in
+    let x : SeatedCell = c.index.result.now in
+    let at : c.position.result ≡ Some can.p = c.position.ensures ∙ (ap (λ (z : CellState). z.position) (seen_as c.args.cells.now.items c.args.b x lt c.index.ensures) ∙ can.stands x.state) in
+    let next : c.place-next.result + 1 ≡ can.p + 1 = ap (λ q. q + 1) (c.place-next.ensures ∙ ap position_or_zero at) in
+    let y : SeatedCell = c.index_mut.result.now in
+    let stands : y.state.position ≡ Some can.p = ap (λ (z : CellState). z.position) (seen_as c.args.cells.now.items c.args.b y lt c.index_mut.ensures.value) ∙ can.stands y.state in
+    subst (λ q. IsNextEntry q (c.place-next.result + 1)) (sym stands) next
+
+pub catch_up-requires-clause-entry : goal.catch_up-requires-clause-entry
+catch_up-requires-clause-entry g c =
+    let can = c.requires.can in
+    let lt : c.args.b < length c.args.cells.now.items = rw (sym (length-map c.args.cells.now.items (λ (z : SeatedCell). z.state))) can.within in
+    let x : SeatedCell = c.index.result.now in
+    let at : c.position.result ≡ Some can.p = c.position.ensures ∙ (ap (λ (z : CellState). z.position) (seen_as c.args.cells.now.items c.args.b x lt c.index.ensures) ∙ can.stands x.state) in
+    let next : c.place-next.result + 1 ≡ can.p + 1 = ap (λ q. q + 1) (c.place-next.ensures ∙ ap position_or_zero at) in
+    let entry = found (log c.args.book.now.state.history) can.p (c.place-next.result + 1) c.in-Some.entry.now next (c.in-Some.ensures.numbered (omega arith) ∙ ap (λ (k : BookState g.row.S.Denot). slice_get (log k.history) (c.place-next.result + 1 - 1)) c.ledger.ensures) in
+    let y : SeatedCell = c.index_mut.result.now in
+    let front : IsPrefix c.args.book.now.state.history y.view.front = subst (λ (z : SeatedCell). IsPrefix c.args.book.now.state.history z.view.front) (sym c.index_mut.ensures.value) (c.requires.told y) in
+    ap (slice_get (log y.view.front)) (omega (arith, next)) ∙ prefix_get (log c.args.book.now.state.history) (log y.view.front) can.p c.in-Some.entry.now (log-prefix c.args.book.now.state.history y.view.front front) entry
+
+pub returns-clause-at : goal.returns-clause-at
+returns-clause-at g c =
+    let can = c.requires.can in
+    let lt : c.args.b < length c.args.cells.now.items = rw (sym (length-map c.args.cells.now.items (λ (z : SeatedCell). z.state))) can.within in
+    all_at _ c.args.cells.now.items c.args.b c.index_mut.result.now c.catch_up.new.self lt c.index_mut.ensures.value c.requires.at c.catch_up.ensures.same.board
+
+pub returns-clause-took : goal.returns-clause-took
+returns-clause-took g c =
+    let can = c.requires.can in
+    let lt : c.args.b < length c.args.cells.now.items = rw (sym (length-map c.args.cells.now.items (λ (z : SeatedCell). z.state))) can.within in
+    let x : SeatedCell = c.index.result.now in
+    let at : c.position.result ≡ Some can.p = c.position.ensures ∙ (ap (λ (z : CellState). z.position) (seen_as c.args.cells.now.items c.args.b x lt c.index.ensures) ∙ can.stands x.state) in
+    let next : c.place-next.result + 1 ≡ can.p + 1 = ap (λ q. q + 1) (c.place-next.ensures ∙ ap position_or_zero at) in
+    let entry = found (log c.args.book.now.state.history) can.p (c.place-next.result + 1) c.in-Some.entry.now next (c.in-Some.ensures.numbered (omega arith) ∙ ap (λ (k : BookState g.row.S.Denot). slice_get (log k.history) (c.place-next.result + 1 - 1)) c.ledger.ensures) in
+    let y : SeatedCell = c.index_mut.result.now in
+    let how = subst (λ (n : ℕ). CatchesUp y.state n c.in-Some.entry.now c.mapped-login.result.now c.catch_up.result c.catch_up.new.self.state) next c.catch_up.ensures.state in
+    rw c.did_of.ensures
+    (took g.B.Backend.TELLS c.args.accounts.now.accounts c.args.book.now.state.layout c.args.book.now.state.history (states_of c.args.cells.now.items) c.args.b can y.state c.catch_up.new.self.state (seen_as c.args.cells.now.items c.args.b y lt c.index_mut.ensures.value)
+    c.in-Some.entry.now entry c.catch_up.result _ c.mapped-login.result.now (states_set c.args.cells.now.items c.args.b c.catch_up.new.self) how c.mapped-login.ensures)
+
+pub returns-clause-token : goal.returns-clause-token
+returns-clause-token g c failed z there =
+    let can = c.requires.can in
+    let lt : c.args.b < length c.args.cells.now.items = rw (sym (length-map c.args.cells.now.items (λ (z : SeatedCell). z.state))) can.within in
+    let y : SeatedCell = c.index_mut.result.now in
+    let is : c.catch_up.result ≡ Err errors.Failed = failed_alone c.catch_up.result (sym c.did_of.ensures ∙ failed) in
+    let number : y.state.b ≡ c.args.b = ap (λ (z : CellState). z.b) (seen_as c.args.cells.now.items c.args.b y lt c.index_mut.ensures.value) ∙ (can.is y.state).number in
+    let view : c.catch_up.new.self.view ≡ after_fault c.args.b (at_position max_word y.view) = c.catch_up.ensures.seat ∙ (ap (λ (r : Result Caught CellError). view_after_entry y.state.b (c.place-next.result + 1) y.view r) is ∙ ap (λ (n : ℕ). after_fault n (at_position max_word y.view)) number) in
+    let tokens : fault_tokens_of c.args.b c.catch_up.new.self.view.fault_tokens ≡ 1 + fault_tokens_of c.args.b y.view.fault_tokens = ap (λ (v : SeatView). fault_tokens_of c.args.b v.fault_tokens) view ∙ one_token c.args.b y.view.fault_tokens in
+    let put : z ≡ c.catch_up.new.self = cc (sym there ∙ there_set c.args.cells.now.items c.args.b c.catch_up.new.self lt) in
+    subst (λ (k : SeatedCell). 0 < fault_tokens_of c.args.b k.view.fault_tokens) (sym put) (omega (arith, tokens))

@@ -1,0 +1,9 @@
+use Rattle.std.proofs.Common.{◌≡◌, ℕ, length}
+use Rattle.cj_board.specs.Seats.{board_id, pass_board}
+use Rattle.cj_state.specs.Proving.Seated.{AreAt, HasHeard, KnowsPositions}
+use Rattle.cj_state.specs.Seats.{states_of}
+use Rattle.cj_state.proofs.hearing.hear_all.Given as goal
+
+abbrev pub invariant-loop-b : goal.invariant-loop-b
+invariant-loop-b g l =
+    AreAt (board_id l.fn.board) (pass_board l.pass) l.book.board l.cells.items × HasHeard l.fn.book l.book × (states_of l.cells.items ≡ states_of l.fn.cells.items) × KnowsPositions l.book (states_of l.fn.cells.items) l.b

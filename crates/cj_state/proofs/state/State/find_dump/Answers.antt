@@ -1,0 +1,7 @@
+use Rattle.std.proofs.Common.{ap, ◌∙◌}
+use Rattle.cj_cluster.specs.Moves.Cores.{find_dump}
+use Rattle.cj_state.specs.Worlds.{WorldState}
+use Rattle.cj_state.proofs.state.State.find_dump.Goals as goal
+
+pub returns : goal.returns
+returns g c = c.find.ensures ∙ ap (λ (x : WorldState). find_dump x.core.dumps c.args.name.now) c.self.view_is
