@@ -13,3 +13,4 @@ pub mod KeptSteps
 pub mod AllowedSteps
 pub mod NewCells
 pub mod Reports
+pub mod Rows

@@ -1,2 +1,3 @@
 -- What exists for proofs alone. Nothing here has to be believed.
 pub mod Told
+pub mod Rows

@@ -10,6 +10,8 @@ mod rule;
 mod seat_steps;
 mod seats;
 mod steps;
+#[cfg(test)]
+mod tests;
 mod view;
 
 pub use seats::{Board, BookSeat, CellSeat, CellSeats, Pass};

@@ -105,9 +105,9 @@ module _ (layout : Layout) (h : List Event) (greatest mask : ℕ) (ss : List Boo
 
   -- ---- an entry that is scheduled
 
-  module _ {S : Type 0} (recovery_log : LogState S) (balance : Balance) (cache : CacheState) (has_spare : Bool) (e : Entry) where
+  module _ {S : Type 0} (recovery_log : LogState S) (balance : Balance) (cache : CacheState) (e : Entry) where
     abbrev book : BookState S
-    book = record { layout = layout; history = h; sessions = map session_number ss; greatest = greatest; balance = balance; cache = cache; has_spare = has_spare; recovery_log = recovery_log }
+    book = record { layout = layout; history = h; sessions = map session_number ss; greatest = greatest; balance = balance; cache = cache; recovery_log = recovery_log }
 
     -- an open session's number was given
     given_number : has_session book e.session ≡ true → (0 < e.session) × (e.session ≤ greatest)

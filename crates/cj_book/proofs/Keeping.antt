@@ -4,61 +4,54 @@ use Rattle.std.proofs.lemmas.Bool.{cases_eq, eqb-true, eqb-false, and_parts, or_
 use Rattle.cj_model.specs.declared.request.Entry.{Entry}
 use Rattle.cj_cluster.specs.declared.event.Event.{Event}
 use Rattle.cj_cluster.specs.declared.event.Event.TheVariants.{Sched, Ended, ReadFailed, LogFailed, Disabled, Enabled, Marker}
-use Rattle.cj_cluster.specs.History.Histories.{scheduled_entry, is_end_event, log, ended_count, is_idle, is_enabled, events_left}
+use Rattle.cj_cluster.specs.History.Histories.{scheduled_entry, is_end_event, log, ended_count, is_idle, is_enabled, enabled_after_event, events_left, marker_name, markers}
 use Rattle.cj_model.specs.Cluster.Masks.{in_mask}
 use Rattle.cj_cluster.proofs.Pushed.{enabled-push, log-sched, log-same, done-same, done-ended}
-use Rattle.cj_opening.proofs.Kept.{entries_same, entries_sched}
-use Rattle.cj_book.specs.Kept.{KeepsHistory}
+use Rattle.cj_opening.proofs.Kept.{marked_same}
+use Rattle.std.specs.List.{list_any}
+use Rattle.std.specs.Str.{bytes_eq}
+use Rattle.std.specs.BTreeSet.{BTreeSet}
+use Rattle.cj_cluster.specs.History.Legality.{AreFitMasks}
+use Rattle.cj_opening.specs.declared.markers.MarkerName.{MarkerName}
+use Rattle.cj_opening.specs.Openings.{entry_item, items_behind, marker_item}
+use Rattle.cj_opening.specs.Proving.Keeping.{KeepsMarkers}
+use Rattle.cj_log.specs.declared.item.LogItem.{LogItem}
+use Rattle.cj_place.specs.Layouts.{Layout}
+use Rattle.cj_book.specs.Books.{failed_after}
+use Rattle.cj_book.specs.declared.sessions.BookSession.{BookSession}
+use Rattle.cj_book.specs.declared.transactions.OpenTransaction.{OpenTransaction}
+use Rattle.cj_book.specs.Kept.{Follows, IsKeptBook, KeepsHistory}
+use Rattle.cj_book.proofs.Following.{follows_disabled, follows_ended, follows_enabled, follows_log_failed, follows_marker, follows_read_failed}
+use Rattle.cj_book.proofs.Logged.{gate_same, gate_shut, items_marker, items_same, items_sched, write_after}
 use Rattle.cj_model.proofs.MaskBits.{has_without, has_cleared, has_set}
 
--- ---- a book with one more event
+-- ---- the entries and the enabled backends
 
-module _ (n : ℕ) (h : List Event) (places : List ℕ) (count on cap : ℕ) (has_spare : Bool) (k : KeepsHistory n h places count on cap has_spare) where
+module _ {n : ℕ} {h : List Event} {kept : List Entry} {ended on : ℕ} (k : KeepsHistory n h kept ended on) where
   -- an entry that is scheduled
-  pub keeps_sched : (e : Entry) (cap' : ℕ) → is_idle h ≡ true → 3 ≤ events_left h → length (h ++ Sched e ∷ []) + 1 ≤ cap' → KeepsHistory n (h ++ Sched e ∷ []) (places ++ length h ∷ []) count on cap' false
-  keeps_sched e cap' fr space spare =
-      let at_end : ended_count h ≡ length (log h) = eqb-true _ _ fr in
+  keeps_sched : (e : Entry) → is_idle h ≡ true → 3 ≤ events_left h → KeepsHistory n (h ++ Sched e ∷ []) (kept ++ e ∷ []) ended on
+  keeps_sched e idle space =
+      let at_end : ended_count h ≡ length (log h) = eqb-true _ _ idle in
       let entries : log (h ++ Sched e ∷ []) ≡ log h ++ e ∷ [] = log-sched h e in
       let more : length (log (h ++ Sched e ∷ [])) ≡ length (log h) + 1 = ap length entries ∙ length-append (log h) (e ∷ []) in
       let ends : ended_count (h ++ Sched e ∷ []) ≡ ended_count h = done-same h (Sched e) refl in
-      let places_more = length-append places (length h ∷ []) in
       let events = length-append h (Sched e ∷ []) in
-      let as_many : length places ≡ length (log h) = k.entry_count in
-      let same : (b : ℕ) → is_enabled (h ++ Sched e ∷ []) b ≡ is_enabled h b = λ b. enabled-push h (Sched e) b in
+      let both : kept ++ e ∷ [] ≡ log (h ++ Sched e ∷ []) = ap (λ (l : List Entry). l ++ e ∷ []) k.entries ∙ sym entries in
       record {
         backend_count = k.backend_count;
-        entry_count = omega arith;
-        entries = λ i. rw entries (entries_sched h places (log h) e as_many k.entries i);
+        entries = both;
+        entry_count = ap length both;
         ends = k.ends ∙ sym ends;
         one_open = (omega arith, omega arith);
-        mask = λ b. k.mask b ∙ sym (same b);
-        below = λ b is. k.below b (sym (same b) ∙ is);
+        mask = λ b. k.mask b ∙ sym (enabled-push h (Sched e) b);
+        below = λ b is. k.below b (sym (enabled-push h (Sched e) b) ∙ is);
         short = omega arith;
-        spare = omega arith;
-        more = λ is. absurd (cc is);
       }
 
-  -- more room
-  pub keeps_room : (cap' : ℕ) (spare' : Bool) → cap ≤ cap' → (spare' ≡ true → length h + 2 ≤ cap') → KeepsHistory n h places count on cap' spare'
-  keeps_room cap' spare' more taken =
-      let spare : length h + (length (log h) - ended_count h) ≤ cap = k.spare in
-      record {
-        backend_count = k.backend_count;
-        entry_count = k.entry_count;
-        entries = k.entries;
-        ends = k.ends;
-        one_open = k.one_open;
-        mask = k.mask;
-        below = k.below;
-        short = k.short;
-        spare = omega arith;
-        more = taken;
-      }
-
-  -- an event that leaves the log and the ends as they are
-  keeps_same : (new : Event) (on' cap' : ℕ) → scheduled_entry new ≡ None → is_end_event new ≡ false → 0 < events_left h → ((b : ℕ) → in_mask on' b ≡ is_enabled (h ++ new ∷ []) b)
-      → ((b : ℕ) → is_enabled (h ++ new ∷ []) b ≡ true → b < n) → length (h ++ new ∷ []) + 1 ≤ cap' → KeepsHistory n (h ++ new ∷ []) places count on' cap' false
-  keeps_same new on' cap' no_entry no_end space mask below spare =
+  -- an event that schedules and ends nothing
+  keeps_same : (new : Event) (on' : ℕ) → scheduled_entry new ≡ None → is_end_event new ≡ false → 0 < events_left h → ((b : ℕ) → in_mask on' b ≡ is_enabled (h ++ new ∷ []) b)
+      → ((b : ℕ) → is_enabled (h ++ new ∷ []) b ≡ true → b < n) → KeepsHistory n (h ++ new ∷ []) kept ended on'
+  keeps_same new on' no_entry no_end space mask below =
       let entries : log (h ++ new ∷ []) ≡ log h = log-same h new no_entry in
       let as_many : length (log (h ++ new ∷ [])) ≡ length (log h) = ap length entries in
       let ends : ended_count (h ++ new ∷ []) ≡ ended_count h = done-same h new no_end in
@@ -67,80 +60,130 @@ module _ (n : ℕ) (h : List Event) (places : List ℕ) (count on cap : ℕ) (ha
       let hi : length (log h) ≤ ended_count h + 1 = k.one_open.1 in
       record {
         backend_count = k.backend_count;
+        entries = k.entries ∙ sym entries;
         entry_count = k.entry_count ∙ sym as_many;
-        entries = λ i. rw entries (entries_same h places (log h) new k.entry_count k.entries i);
         ends = k.ends ∙ sym ends;
         one_open = (omega arith, omega arith);
         mask = mask;
         below = below;
         short = omega arith;
-        spare = omega arith;
-        more = λ is. absurd (cc is);
       }
 
+  -- and leaves the enabled backends
+  keeps_quiet : (new : Event) → scheduled_entry new ≡ None → is_end_event new ≡ false → ((b : ℕ) (t : Bool) → enabled_after_event b t new ≡ t) → 0 < events_left h → KeepsHistory n (h ++ new ∷ []) kept ended on
+  keeps_quiet new no_entry no_end quiet space =
+      let same : (b : ℕ) → is_enabled (h ++ new ∷ []) b ≡ is_enabled h b = λ b. enabled-push h new b ∙ quiet b (is_enabled h b) in
+      keeps_same new on no_entry no_end space (λ b. k.mask b ∙ sym (same b)) (λ b is. k.below b (sym (same b) ∙ is))
+
   -- the end of the open entry
-  pub keeps_ended : (f s cap' : ℕ) → on < 2 ^ 32 → f < 2 ^ 32 → s < 2 ^ 32 → is_idle h ≡ false → cap ≤ cap'
-      → KeepsHistory n (h ++ Ended f s ∷ []) places (count + 1) (bit_and on (4294967295 - bit_or f s)) cap' false
-  keeps_ended f s cap' fits p q fr more =
+  keeps_ended : (f s : ℕ) → on < 2 ^ 32 → f < 2 ^ 32 → s < 2 ^ 32 → is_idle h ≡ false → KeepsHistory n (h ++ Ended f s ∷ []) kept (ended + 1) (bit_and on (4294967295 - bit_or f s))
+  keeps_ended f s fits p q is_open =
       let entries : log (h ++ Ended f s ∷ []) ≡ log h = log-same h (Ended f s) refl in
       let as_many : length (log (h ++ Ended f s ∷ [])) ≡ length (log h) = ap length entries in
       let ends : ended_count (h ++ Ended f s ∷ []) ≡ ended_count h + 1 = done-ended h f s in
       let events = length-append h (Ended f s ∷ []) in
       let lo : ended_count h ≤ length (log h) = k.one_open.0 in
       let hi : length (log h) ≤ ended_count h + 1 = k.one_open.1 in
-      let is_open : ended_count h ≢ length (log h) = eqb-false _ _ fr in
+      let unequal : ended_count h ≢ length (log h) = eqb-false _ _ is_open in
       let events_left : length h + 2 * (length (log h) - ended_count h) ≤ 2 ^ 62 = k.short in
-      let spare : length h + (length (log h) - ended_count h) ≤ cap = k.spare in
-      let counted : count ≡ ended_count h = k.ends in
+      let counted : ended ≡ ended_count h = k.ends in
       record {
         backend_count = k.backend_count;
+        entries = k.entries ∙ sym entries;
         entry_count = k.entry_count ∙ sym as_many;
-        entries = λ i. rw entries (entries_same h places (log h) (Ended f s) k.entry_count k.entries i);
         ends = omega arith;
         one_open = (omega arith, omega arith);
         mask = λ b. has_without on f s b fits p q ∙ (ap (λ x. x && not (in_mask f b || in_mask s b)) (k.mask b) ∙ sym (enabled-push h (Ended f s) b));
         below = λ b is. k.below b (and_parts (is_enabled h b) (not (in_mask f b || in_mask s b)) (sym (enabled-push h (Ended f s) b) ∙ is)).0;
         short = omega arith;
-        spare = omega arith;
-        more = λ is. absurd (cc is);
       }
 
   -- a backend is disabled
-  pub keeps_disabled : (b cap' : ℕ) → on < 2 ^ 32 → b < n → 0 < events_left h → length (h ++ Disabled b ∷ []) + 1 ≤ cap' → KeepsHistory n (h ++ Disabled b ∷ []) places count (bit_and on (4294967295 - 1 * 2 ^ b % 4294967296)) cap' false
-  keeps_disabled b cap' fits lt space spare =
+  keeps_disabled : (b : ℕ) → on < 2 ^ 32 → b < n → 0 < events_left h → KeepsHistory n (h ++ Disabled b ∷ []) kept ended (bit_and on (4294967295 - 1 * 2 ^ b % 4294967296))
+  keeps_disabled b fits lt space =
       let few : n ≤ 16 = k.backend_count.1 in
-      keeps_same (Disabled b) (bit_and on (4294967295 - 1 * 2 ^ b % 4294967296)) cap' refl refl space
+      keeps_same (Disabled b) (bit_and on (4294967295 - 1 * 2 ^ b % 4294967296)) refl refl space
       (λ x. has_cleared on b x fits (omega arith) ∙ (ap (λ y. y && not (x == b)) (k.mask x) ∙ sym (enabled-push h (Disabled b) x)))
       (λ x is. k.below x (and_parts (is_enabled h x) (not (x == b)) (sym (enabled-push h (Disabled b) x) ∙ is)).0)
-      spare
 
   -- a backend is enabled
-  pub keeps_enabled : (b cap' : ℕ) → b < n → 0 < events_left h → length (h ++ Enabled b ∷ []) + 1 ≤ cap' → KeepsHistory n (h ++ Enabled b ∷ []) places count (bit_or on (1 * 2 ^ b % 4294967296)) cap' false
-  keeps_enabled b cap' lt space spare =
+  keeps_enabled : (b : ℕ) → b < n → 0 < events_left h → KeepsHistory n (h ++ Enabled b ∷ []) kept ended (bit_or on (1 * 2 ^ b % 4294967296))
+  keeps_enabled b lt space =
       let few : n ≤ 16 = k.backend_count.1 in
-      keeps_same (Enabled b) (bit_or on (1 * 2 ^ b % 4294967296)) cap' refl refl space
+      keeps_same (Enabled b) (bit_or on (1 * 2 ^ b % 4294967296)) refl refl space
       (λ x. has_set on b x (omega arith) ∙ (ap (λ y. y || x == b) (k.mask x) ∙ sym (enabled-push h (Enabled b) x)))
       (λ x is.
       ⊎_elim
       (λ (was : is_enabled h x ≡ true). k.below x was)
       (λ (now : (x == b) ≡ true). let e : x ≡ b = eqb-true x b now in omega arith)
       (or_cases (is_enabled h x) (x == b) (sym (enabled-push h (Enabled b) x) ∙ is)))
-      spare
 
-  -- a read failed
-  pub keeps_read_failed : (s q b cap' : ℕ) → 0 < events_left h → length (h ++ ReadFailed s q b ∷ []) + 1 ≤ cap' → KeepsHistory n (h ++ ReadFailed s q b ∷ []) places count on cap' false
-  keeps_read_failed s q b cap' space spare =
-      let same : (x : ℕ) → is_enabled (h ++ ReadFailed s q b ∷ []) x ≡ is_enabled h x = λ x. enabled-push h (ReadFailed s q b) x in
-      keeps_same (ReadFailed s q b) on cap' refl refl space (λ x. k.mask x ∙ sym (same x)) (λ x is. k.below x (sym (same x) ∙ is)) spare
+-- ---- all that is kept
 
-  -- the log's store failed
-  pub keeps_log_failed : (s q cap' : ℕ) → 0 < events_left h → length (h ++ LogFailed s q ∷ []) + 1 ≤ cap' → KeepsHistory n (h ++ LogFailed s q ∷ []) places count on cap' false
-  keeps_log_failed s q cap' space spare =
-      let same : (x : ℕ) → is_enabled (h ++ LogFailed s q ∷ []) x ≡ is_enabled h x = λ x. enabled-push h (LogFailed s q) x in
-      keeps_same (LogFailed s q) on cap' refl refl space (λ x. k.mask x ∙ sym (same x)) (λ x is. k.below x (sym (same x) ∙ is)) spare
+module _ {tells : Bool} {layout : Layout} {h : List Event} {kept : List Entry} {ended on greatest targets : ℕ} {ss : List BookSession} {ts : List OpenTransaction} {names : BTreeSet MarkerName} {items : List LogItem} {torn : Bool}
+    (k : IsKeptBook tells layout h kept ended on greatest targets ss ts names items torn) where
+  -- an event that is no item of the log
+  kept_more : (e : Event) {ended' on' targets' : ℕ} → marker_name e ≡ None → ((n : ℕ) → items_behind n (e ∷ []) ≡ []) → ((failed : Bool) → failed_after failed e ≡ failed) → KeepsHistory (length layout.names) (h ++ e ∷ []) kept ended' on'
+      → Follows layout (h ++ e ∷ []) greatest targets' ss ts → IsKeptBook tells layout (h ++ e ∷ []) kept ended' on' greatest targets' ss ts names items torn
+  kept_more e unmarked none quiet history follows = record {
+    history = history;
+    follows = follows;
+    marked = marked_same h names e unmarked k.marked;
+    logged = λ t. items_same h e items none (k.logged t);
+    gate = gate_same tells torn h e quiet k.gate;
+  }
 
-  -- a marker
-  pub keeps_marker : (name : List ℕ) (b : Option ℕ) (cap' : ℕ) → 0 < events_left h → length (h ++ Marker name b ∷ []) + 1 ≤ cap' → KeepsHistory n (h ++ Marker name b ∷ []) places count on cap' false
-  keeps_marker name b cap' space spare =
-      let same : (x : ℕ) → is_enabled (h ++ Marker name b ∷ []) x ≡ is_enabled h x = λ x. enabled-push h (Marker name b) x in
-      keeps_same (Marker name b) on cap' refl refl space (λ x. k.mask x ∙ sym (same x)) (λ x is. k.below x (sym (same x) ∙ is)) spare
+  pub kept_disabled : (b : ℕ) → on < 2 ^ 32 → b < length layout.names → 0 < events_left h → is_idle h ≡ true → is_enabled h b ≡ true
+      → IsKeptBook tells layout (h ++ Disabled b ∷ []) kept ended (bit_and on (4294967295 - 1 * 2 ^ b % 4294967296)) greatest targets ss ts names items torn
+  kept_disabled b fits named space idle was = kept_more (Disabled b) refl (λ n. refl) (λ f. refl) (keeps_disabled k.history b fits named space) (follows_disabled _ _ _ _ _ _ k.follows b space idle was)
+
+  pub kept_enabled : (b : ℕ) → b < length layout.names → 0 < events_left h → is_idle h ≡ true → is_enabled h b ≡ false
+      → IsKeptBook tells layout (h ++ Enabled b ∷ []) kept ended (bit_or on (1 * 2 ^ b % 4294967296)) greatest targets ss ts names items torn
+  kept_enabled b named space idle was = kept_more (Enabled b) refl (λ n. refl) (λ f. refl) (keeps_enabled k.history b named space) (follows_enabled _ _ _ _ _ _ k.follows b space idle was)
+
+  pub kept_read_failed : (s q b : ℕ) → 0 < events_left h → IsKeptBook tells layout (h ++ ReadFailed s q b ∷ []) kept ended on greatest targets ss ts names items torn
+  kept_read_failed s q b space = kept_more (ReadFailed s q b) refl (λ n. refl) (λ f. refl) (keeps_quiet k.history (ReadFailed s q b) refl refl (λ x t. refl) space) (follows_read_failed _ _ _ _ _ _ k.follows s q b space)
+
+  pub kept_ended : (f s : ℕ) → on < 2 ^ 32 → f < 2 ^ 32 → s < 2 ^ 32 → is_idle h ≡ false → AreFitMasks h f s
+      → IsKeptBook tells layout (h ++ Ended f s ∷ []) kept (ended + 1) (bit_and on (4294967295 - bit_or f s)) greatest 0 ss ts names items torn
+  kept_ended f s fits p q is_open masks =
+      kept_more (Ended f s) refl (λ n. refl) (λ f. refl) (keeps_ended k.history f s fits p q is_open) (follows_ended _ _ _ _ _ _ k.follows f s k.history.short is_open k.history.one_open masks)
+
+  -- ---- calls that write to the log
+
+  -- it was refused for want of memory
+  pub kept_wanting : {names' : BTreeSet MarkerName} {items' : List LogItem} {torn' : Bool} → KeepsMarkers h names' → (tells ≡ true → items' ≡ items) → (tells ≡ true → torn' ≡ true → torn ≡ true) → IsKeptBook tells layout h kept ended on greatest targets ss ts names' items' torn'
+  kept_wanting marked same memory = record { history = k.history; follows = k.follows; marked = marked; logged = λ t. k.logged t ∙ sym (same t); gate = λ t up. k.gate t (memory t up) }
+
+  -- or since the store failed
+  pub kept_log_failed : (s q : ℕ) {names' : BTreeSet MarkerName} {items' : List LogItem} {torn' : Bool} → 0 < events_left h → is_idle h ≡ true → KeepsMarkers h names' → (tells ≡ true → items' ≡ items)
+      → IsKeptBook tells layout (h ++ LogFailed s q ∷ []) kept ended on greatest targets ss ts names' items' torn'
+  kept_log_failed s q {names' = names'} space idle marked same = record {
+    history = keeps_quiet k.history (LogFailed s q) refl refl (λ x t. refl) space;
+    follows = follows_log_failed _ _ _ _ _ _ k.follows s q space idle;
+    marked = marked_same h names' (LogFailed s q) refl marked;
+    logged = λ t. items_same h (LogFailed s q) items (λ n. refl) (k.logged t) ∙ sym (same t);
+    gate = λ t up. write_after h (LogFailed s q);
+  }
+
+  -- a marker stands in it
+  pub kept_marker : (name : List ℕ) (b : Option ℕ) {more : BTreeSet MarkerName} {items' : List LogItem} {torn' : Bool} → 0 < events_left h → is_idle h ≡ true → list_any (bytes_eq name) (markers h) ≡ false → KeepsMarkers (h ++ Marker name b ∷ []) more
+      → (tells ≡ true → items' ≡ items ++ marker_item (length (log h)) name b ∷ []) → (tells ≡ true → torn' ≡ false) → IsKeptBook tells layout (h ++ Marker name b ∷ []) kept ended on greatest targets ss ts more items' torn'
+  kept_marker name b {torn' = torn'} space idle fresh marked added shut = record {
+    history = keeps_quiet k.history (Marker name b) refl refl (λ x t. refl) space;
+    follows = follows_marker _ _ _ _ _ _ k.follows name b space idle fresh;
+    marked = marked;
+    logged = λ t. items_marker h name b ∙ (ap (λ (l : List LogItem). l ++ marker_item (length (log h)) name b ∷ []) (k.logged t) ∙ sym (added t));
+    gate = gate_shut tells torn' (h ++ Marker name b ∷ []) shut;
+  }
+
+  -- an entry stands in it
+  pub kept_sched : (e : Entry) {targets' : ℕ} {ss' : List BookSession} {ts' : List OpenTransaction} {items' : List LogItem} {torn' : Bool} → is_idle h ≡ true → 3 ≤ events_left h → Follows layout (h ++ Sched e ∷ []) greatest targets' ss' ts'
+      → (tells ≡ true → items' ≡ items ++ entry_item (length (log h) + 1) e ∷ []) → (tells ≡ true → torn' ≡ false) → IsKeptBook tells layout (h ++ Sched e ∷ []) (kept ++ e ∷ []) ended on greatest targets' ss' ts' names items' torn'
+  kept_sched e {torn' = torn'} idle space follows added shut = record {
+    history = keeps_sched k.history e idle space;
+    follows = follows;
+    marked = marked_same h names (Sched e) refl k.marked;
+    logged = λ t. items_sched h e ∙ (ap (λ (l : List LogItem). l ++ entry_item (length (log h) + 1) e ∷ []) (k.logged t) ∙ sym (added t));
+    gate = gate_shut tells torn' (h ++ Sched e ∷ []) shut;
+  }

@@ -6,6 +6,7 @@ pub mod Logged
 pub mod Named
 pub mod Numbered
 pub mod Recovering
+pub mod Scheduling
 pub mod Serving
 pub mod Starting
 pub mod Written

@@ -17,26 +17,16 @@ pub items_same : (h : List Event) (new : Event) (items : List LogItem) → ((n :
 items_same h new items none is = items_append 0 h (new ∷ []) ∙ (ap (λ (l : List LogItem). items_of h ++ l) (none (0 + length (log h))) ∙ (append-nil (items_of h) ∙ is))
 
 -- an entry
-items_sched : (h : List Event) (e : Entry) → items_of (h ++ Sched e ∷ []) ≡ items_of h ++ entry_item (length (log h) + 1) e ∷ []
+pub items_sched : (h : List Event) (e : Entry) → items_of (h ++ Sched e ∷ []) ≡ items_of h ++ entry_item (length (log h) + 1) e ∷ []
 items_sched h e =
     let none : 0 + length (log h) ≡ length (log h) = omega arith in
     items_append 0 h (Sched e ∷ []) ∙ ap (λ (n : ℕ). items_of h ++ entry_item (n + 1) e ∷ []) none
 
 -- a marker
-items_marker : (h : List Event) (name : List ℕ) (b : Option ℕ) → items_of (h ++ Marker name b ∷ []) ≡ items_of h ++ marker_item (length (log h)) name b ∷ []
+pub items_marker : (h : List Event) (name : List ℕ) (b : Option ℕ) → items_of (h ++ Marker name b ∷ []) ≡ items_of h ++ marker_item (length (log h)) name b ∷ []
 items_marker h name b =
     let none : 0 + length (log h) ≡ length (log h) = omega arith in
     items_append 0 h (Marker name b ∷ []) ∙ ap (λ (n : ℕ). items_of h ++ marker_item n name b ∷ []) none
-
--- the log's items behind an entry that was appended
-pub logged_sched : (h : List Event) (e : Entry) (n : ℕ) (items items' : List LogItem) (item : LogItem) → n ≡ length (log h) → item ≡ entry_item (n + 1) e → items_of h ≡ items → items' ≡ items ++ item ∷ [] → items_of (h ++ Sched e ∷ []) ≡ items'
-logged_sched h e n items items' item count its logged added =
-    items_sched h e ∙ (ap (λ (l : List LogItem). l ++ entry_item (length (log h) + 1) e ∷ []) logged ∙ (ap (λ (i : LogItem). items ++ i ∷ []) (sym (its ∙ ap (λ (k : ℕ). entry_item (k + 1) e) count)) ∙ sym added))
-
--- and behind a marker
-pub logged_marker : (h : List Event) (name : List ℕ) (b : Option ℕ) (n : ℕ) (items items' : List LogItem) (item : LogItem) → n ≡ length (log h) → item ≡ marker_item n name b → items_of h ≡ items → items' ≡ items ++ item ∷ [] → items_of (h ++ Marker name b ∷ []) ≡ items'
-logged_marker h name b n items items' item count its logged added =
-    items_marker h name b ∙ (ap (λ (l : List LogItem). l ++ marker_item (length (log h)) name b ∷ []) logged ∙ (ap (λ (i : LogItem). items ++ i ∷ []) (sym (its ∙ ap (λ (k : ℕ). marker_item k name b) count)) ∙ sym added))
 
 -- ---- whether the last write failed, one event later
 

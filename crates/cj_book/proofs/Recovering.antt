@@ -1,10 +1,9 @@
 -- What a book keeps of the history that its log opens with.
-use Rattle.std.proofs.Common.{◌≡◌, ℕ, ◌+◌, ◌^◌, ◌<◌, ◌≤◌, true, false, List, [], ◌∷◌, ◌++◌, length, take, get_or, max, All, Option, None, refl, ap, sym, ◌∙◌, subst, arith}
+use Rattle.std.proofs.Common.{◌≡◌, ℕ, ◌+◌, ◌^◌, ◌<◌, ◌≤◌, true, false, List, [], ◌∷◌, ◌++◌, length, take, get_or, max, All, Option, None, refl, ap, sym, ◌∙◌, subst, arith, length-append}
 use Rattle.std.specs.Prelude.{fold}
 use Rattle.std.specs.List.{AllByRecursion}
-use Rattle.std.specs.BTreeSet.{BTreeSet}
 use Rattle.std.proofs.lemmas.Bool.{eqb-true, both_ways}
-use Rattle.std.proofs.lemmas.List.{take_more}
+use Rattle.std.proofs.lemmas.Option.{get_or_from_slice_get}
 use Rattle.std.proofs.lemmas.List.Elements.{All-nil, All-from_recursion}
 use Rattle.std.proofs.lemmas.List.Sums.{fold-append}
 use Rattle.std.proofs.Math.Nat.{le-max_left, le-max_right}
@@ -17,16 +16,15 @@ use Rattle.cj_cluster.specs.declared.event.Event.{Event}
 use Rattle.cj_cluster.specs.declared.event.Event.TheVariants.{Sched, Ended, ReadFailed, LogFailed, Disabled, Enabled, Marker}
 use Rattle.cj_cluster.specs.History.Histories.{scheduled_entry, log, ended_count, is_idle, is_enabled, enabled_after_event, marker_name}
 use Rattle.cj_cluster.specs.History.Legality.{IsAllowedEvent, IsFitEntry, IsLegal}
-use Rattle.cj_cluster.proofs.Pushed.{log-sched, log-same, opened-free}
+use Rattle.cj_cluster.proofs.Pushed.{get_seam, legal_prefix, log-sched, log-same, opened-free, take_whole}
 use Rattle.cj_cluster.proofs.TransactionLaws.{legal_fit}
 use Rattle.cj_place.specs.Layouts.{Layout, placement_of}
 use Rattle.cj_log.specs.declared.item.LogItem.{LogItem}
-use Rattle.cj_opening.specs.declared.markers.MarkerName.{MarkerName}
+use Rattle.cj_book.specs.declared.recovered.Recovered.{Recovered}
 use Rattle.cj_opening.specs.Openings.{IsOpening, OpensTo}
-use Rattle.cj_opening.specs.Proving.Keeping.{KeepsPlaces, KeepsMarkers}
-use Rattle.cj_opening.proofs.Kept.{places_same, places_sched, marked_same}
+use Rattle.cj_opening.specs.Proving.Keeping.{KeepsMarkers}
+use Rattle.cj_opening.proofs.Kept.{marked_same}
 use Rattle.cj_opening.proofs.Longer.{idle_opening}
-use Rattle.cj_book.specs.declared.transactions.OpenTransaction.{OpenTransaction}
 use Rattle.cj_book.specs.Books.{is_target_at}
 use Rattle.cj_book.specs.Found.{IsRecovered}
 use Rattle.cj_book.specs.Kept.{IsKeptSession, KeepsHistory, KeepsTransactions, Follows}
@@ -64,30 +62,39 @@ greatest_push es e = fold-append larger 0 es (e ∷ [])
 
 -- ---- event by event
 
-module _ (p : Placement) (h : List Event) (places : List ℕ) (ts : List OpenTransaction) (names : BTreeSet MarkerName) (greatest : ℕ) (k : IsRecovered p h places ts names greatest) where
+-- the last event of a history that can be was allowed
+allowed_last : (h : List Event) (e : Event) → IsLegal (h ++ e ∷ []) → IsAllowedEvent h e
+allowed_last h e legal =
+    let l = length-append h (e ∷ []) in
+    subst (λ (x : Event). IsAllowedEvent h x) (get_or_from_slice_get (h ++ e ∷ []) (length h) e e (get_seam h [] e))
+    (subst (λ (w : List Event). IsAllowedEvent w (get_or (h ++ e ∷ []) (length h) e)) (take_whole h (h ++ e ∷ []) (e ∷ [], refl)) (legal.each (length h) e (omega arith)))
+
+module _ (p : Placement) (h : List Event) (found new : Recovered) (k : IsRecovered p h found) where
   -- an entry
-  pub recovers_sched : (e : Entry) (hosts : ℕ) → IsLegal h → IsFitEntry (log h) e → ((b : ℕ) → in_mask hosts b ≡ concerns p b (log h) e.tx e.act)
-      → IsRecovered p (h ++ Sched e ∷ []) (places ++ length h ∷ []) (transactions_after ts (length (log h) + 1) hosts e e.act) names (max greatest e.session)
-  recovers_sched e hosts legal fit concerned =
+  pub recovers_sched : (e : Entry) (hosts : ℕ) → IsLegal (h ++ Sched e ∷ []) → (IsFitEntry (log h) e → (b : ℕ) → in_mask hosts b ≡ concerns p b (log h) e.tx e.act) → new.entries.items ≡ found.entries.items ++ e ∷ []
+      → new.transactions ≡ transactions_after found.transactions (length (log h) + 1) hosts e e.act → new.marker_names ≡ found.marker_names → new.greatest ≡ max found.greatest e.session → IsRecovered p (h ++ Sched e ∷ []) new
+  recovers_sched e hosts legal concerned pushed followed named most =
       let entries : log (h ++ Sched e ∷ []) ≡ log h ++ e ∷ [] = log-sched h e in
+      let before : IsLegal h = legal_prefix h (h ++ Sched e ∷ []) (Sched e ∷ [], refl) legal in
+      let fit : IsFitEntry (log h) e = (allowed_last h (Sched e) legal).1 in
       record {
-        placed = places_sched h places e k.placed;
+        entries = pushed ∙ (ap (λ (l : List Entry). l ++ e ∷ []) k.entries ∙ sym entries);
         transactions =
-            subst (λ (l : List Entry). KeepsTransactions p l (transactions_after ts (length (log h) + 1) hosts e e.act)) (sym entries)
-            (transactions_push (log h) e p ts k.transactions (legal_fit h legal) fit hosts concerned);
-        marked = marked_same h names (Sched e) refl k.marked;
-        greatest = ap (λ n. max n e.session) k.greatest ∙ (sym (greatest_push (log h) e) ∙ ap greatest_session (sym entries));
+            rw followed (subst (λ (l : List Entry). KeepsTransactions p l (transactions_after found.transactions (length (log h) + 1) hosts e e.act)) (sym entries)
+            (transactions_push (log h) e p found.transactions k.transactions (legal_fit h before) fit hosts (concerned fit)));
+        marked = rw named (marked_same h found.marker_names (Sched e) refl k.marked);
+        greatest = most ∙ (ap (λ n. max n e.session) k.greatest ∙ (sym (greatest_push (log h) e) ∙ ap greatest_session (sym entries)));
       }
 
-  -- an event that schedules nothing, after which these are the names
-  pub recovers_same : (new : Event) (more : BTreeSet MarkerName) → scheduled_entry new ≡ None → KeepsMarkers (h ++ new ∷ []) more → IsRecovered p (h ++ new ∷ []) places ts more greatest
-  recovers_same new more no_entry marked =
-      let entries : log (h ++ new ∷ []) ≡ log h = log-same h new no_entry in
+  -- an event that schedules nothing
+  pub recovers_same : (e : Event) → scheduled_entry e ≡ None → KeepsMarkers (h ++ e ∷ []) new.marker_names → new.entries.items ≡ found.entries.items → new.transactions ≡ found.transactions → new.greatest ≡ found.greatest → IsRecovered p (h ++ e ∷ []) new
+  recovers_same e no_entry marked entries transactions most =
+      let same : log (h ++ e ∷ []) ≡ log h = log-same h e no_entry in
       record {
-        placed = places_same h places new no_entry k.placed;
-        transactions = subst (λ (l : List Entry). KeepsTransactions p l ts) (sym entries) k.transactions;
+        entries = entries ∙ (k.entries ∙ sym same);
+        transactions = rw transactions (subst (λ (l : List Entry). KeepsTransactions p l found.transactions) (sym same) k.transactions);
         marked = marked;
-        greatest = k.greatest ∙ ap greatest_session (sym entries);
+        greatest = most ∙ (k.greatest ∙ ap greatest_session (sym same));
       }
 
 -- ---- the whole history
@@ -103,27 +110,25 @@ module _ (layout : Layout) (items : List LogItem) (h : List Event) (o : OpensTo 
   ended : ended_count h ≡ length (log h)
   ended = eqb-true _ _ idle
 
-  pub keeps_opened : (n : ℕ) (places : List ℕ) (capacity : ℕ) → (0 < n) × (n ≤ 16) → KeepsPlaces h places → length h ≤ capacity → KeepsHistory n h places (length places) 0 capacity false
-  keeps_opened n places capacity backends placed fits =
+  pub keeps_opened : (n : ℕ) (kept : List Entry) → (0 < n) × (n ≤ 16) → kept ≡ log h → KeepsHistory n h kept (length kept) 0
+  keeps_opened n kept backends entries =
       let legal : length h ≤ 2 ^ 62 = o.legal.short in
       let even : ended_count h ≡ length (log h) = ended in
       record {
         backend_count = backends;
-        entry_count = placed.count;
-        entries = placed.entries;
-        ends = placed.count ∙ sym ended;
+        entries = entries;
+        entry_count = ap length entries;
+        ends = ap length entries ∙ sym ended;
         one_open = (omega arith, omega arith);
         mask = λ b. has-zero b ∙ sym (off h b o.opening);
         below = λ b is. absurd (both_ways (is_enabled h b) (off h b o.opening) is);
         short = omega arith;
-        spare = omega arith;
-        more = λ is. absurd (cc is);
       }
 
-  pub follows_opening : (places : List ℕ) (ts : List OpenTransaction) (names : BTreeSet MarkerName) (greatest : ℕ) → IsRecovered (placement_of layout) h places ts names greatest → Follows layout h greatest 0 [] ts
-  follows_opening places ts names greatest k = record {
+  pub follows_opening : (found : Recovered) → IsRecovered (placement_of layout) h found → Follows layout h found.greatest 0 [] found.transactions
+  follows_opening found k = record {
     legal = o.legal;
-    sessions = record { each = All-nil (IsKeptSession (log h) greatest); known = subst (λ n. All (λ (e : Entry). e.session ≤ n) (log h)) (sym k.greatest) (known_all (log h)) };
+    sessions = record { each = All-nil (IsKeptSession (log h) found.greatest); known = subst (λ n. All (λ (e : Entry). e.session ≤ n) (log h)) (sym k.greatest) (known_all (log h)) };
     transactions = k.transactions;
     targets = λ b. has-zero b ∙ sym (ap (λ q. is_target_at (placement_of layout) h q b) (opened-free h idle));
   }
@@ -148,11 +153,3 @@ none_marked (LogFailed s q) never = refl
 none_marked (Disabled b) never = refl
 none_marked (Enabled b) never = refl
 none_marked (Marker name b) never = absurd (never name b refl)
-
--- the events up to it
-pub one_further : (h : List Event) (place : ℕ) (d : Event) → place < length h → get_or h place d ≡ d → take (place + 1) h ≡ take place h ++ d ∷ []
-one_further h place d within is = take_more h place d within ∙ ap (λ (x : Event). take place h ++ x ∷ []) is
-
--- it was allowed
-pub allowed_there : (h : List Event) (place : ℕ) (d : Event) → IsLegal h → place < length h → get_or h place d ≡ d → IsAllowedEvent (take place h) d
-allowed_there h place d legal within is = subst (IsAllowedEvent (take place h)) is (legal.each place d within)

@@ -12,6 +12,7 @@ use Rattle.cj_model.specs.Sql.PlainRequests.{request_of}
 use Rattle.cj_model.specs.Cluster.Balancing.{Balance, IsFirst, is_ahead, one_more, picked}
 use Rattle.cj_model.specs.Cluster.Caching.{CacheState}
 use Rattle.cj_cache.specs.Doomed.{ListsDoomed}
+use Rattle.cj_model.specs.Cluster.Masks.{in_mask}
 use Rattle.cj_model.specs.Cluster.Placements.{Placement, hosts_all, concerns}
 use Rattle.cj_cluster.specs.History.Histories.{log, is_idle, is_enabled, events_left, tx_of}
 use Rattle.cj_cluster.specs.History.Answering.{HasServer, HasNoServer}
@@ -19,9 +20,11 @@ use Rattle.cj_cluster.specs.Moves.Moves.{entry_numbered}
 use Rattle.cj_freshness.specs.Freshness.{touches_behind, without_touched}
 use Rattle.cj_place.specs.Layouts.{Layout, placement_of}
 use Rattle.cj_log.specs.declared.item.LogItem.{LogItem}
+use Rattle.cj_log.specs.Items.{CanAppend}
 use Rattle.cj_log.specs.Logs.{LogState, KeepsItems}
-use Rattle.cj_opening.specs.Openings.{items_of}
-use Rattle.cj_book.specs.declared.ledger.Doomed.{Doomed}
+use Rattle.cj_opening.specs.Openings.{entry_item, items_of}
+use Rattle.cj_book.specs.declared.reading.Doomed.{Doomed}
+use Rattle.cj_book.specs.declared.reading.Prepared.{Prepared}
 use Rattle.cj_book.specs.declared.error.BookError.{BookError}
 use Rattle.cj_book.specs.declared.error.BookError.TheVariants.{InProgress, NoBackend, HistoryFull, LogFault, NoMemory}
 use Rattle.cj_book.specs.Touching.{has_table}
@@ -38,8 +41,6 @@ pub record BookState (S : Type 0) : Type 0 where
   pub balance : Balance
   -- the answers kept of queries
   pub cache : CacheState
-  -- whether memory was taken for an event that may come
-  pub has_spare : Bool
   -- the recovery log, whose items are those of the history
   pub recovery_log : LogState S
 
@@ -47,9 +48,9 @@ pub record BookState (S : Type 0) : Type 0 where
 abbrev pub placement_at : {S : Type 0} → BookState S → Placement
 placement_at b = placement_of b.layout
 
--- the book with one more event, which may have had the memory that was taken
+-- the book with one more event
 abbrev pub with_event : {S : Type 0} → BookState S → Event → BookState S
-with_event b e = record b { history = b.history ++ e ∷ []; has_spare = false }
+with_event b e = record b { history = b.history ++ e ∷ [] }
 
 -- the book with one more entry, and without the kept answers whose queries need a table that it touches
 abbrev pub with_entry : {S : Type 0} → BookState S → Entry → BookState S
@@ -59,6 +60,12 @@ with_entry b e = record (with_event b (Sched e)) { cache = without_touched (log 
 pub record IsDoomedBy {S : Type 0} (b : BookState S) (e : Entry) (d : Doomed) : Type 0 where
   pub tables : (table : List ℕ) → has_table d.tables table ≡ touches_behind (log b.history) e.tx e.act table
   pub statements : ListsDoomed d.tables b.cache d.statements
+
+-- what is prepared for an entry that may come next
+pub record IsPrepared {S : Type 0} (b : BookState S) (e : Entry) (p : Prepared) : Type 0 where
+  pub hosts : (k : ℕ) → in_mask p.hosts k ≡ concerns (placement_at b) k (log b.history) e.tx e.act
+  pub doomed : IsDoomedBy b e p.doomed
+  pub item : (p.item ≡ entry_item (length (log b.history) + 1) e) × CanAppend p.item
 
 -- the book is as before, but maybe for its recovery log
 abbrev pub IsSameButLog : {S : Type 0} → BookState S → BookState S → Type 0
@@ -193,7 +200,15 @@ HasRoom b (Err (HistoryFull n)) = HasNoRoomForOne b n
 HasRoom b (Err LogFault) = ⊥
 HasRoom b (Err NoMemory) = ⊥
 
--- want of room in the history, or of memory
+-- want of room in the history
+abbrev pub IsFull : BookError → Type 0
+IsFull (InProgress n) = ⊥
+IsFull NoBackend = ⊥
+IsFull (HistoryFull n) = Unit {0}
+IsFull LogFault = ⊥
+IsFull NoMemory = ⊥
+
+-- or of memory
 abbrev pub IsWant : BookError → Type 0
 IsWant (InProgress n) = ⊥
 IsWant NoBackend = ⊥

@@ -11,14 +11,14 @@ use Rattle.cj_log.specs.Logs.{IsBeforeOrAfter, LeavesItems, Refuses}
 use Rattle.cj_opening.specs.Openings.{entry_item, marker_item, items_of}
 use Rattle.cj_book.specs.declared.error.BookError.{BookError}
 use Rattle.cj_book.specs.declared.error.BookError.TheVariants.{InProgress, NoBackend, HistoryFull, LogFault, NoMemory}
-use Rattle.cj_book.specs.Books.{BookState, CanSchedule, HasNoBackend, HasNoRoomForOne, IsInProgress, IsSameButLog, IsWant, LacksRoom, with_entry, with_event}
+use Rattle.cj_book.specs.Books.{BookState, CanSchedule, HasNoBackend, HasNoRoomForOne, IsFull, IsInProgress, IsSameButLog, IsWant, LacksRoom, with_entry, with_event}
 
--- the event comes, where there is room in the history and memory
+-- the event comes, where there is room in the history
 pub record Appends {S T : Type 0} (old : BookState S) (e : Event) (result : Result T BookError) (new : BookState S) : Type 0 where
   pub ok : OnOk result (new ≡ with_event old e)
   pub space : OnOk result (0 < events_left old.history)
   pub full : (n : ℕ) → IsErrOf result (HistoryFull n) ↔ HasNoRoomForOne old n
-  pub want : IfErr result IsWant
+  pub want : IfErr result IsFull
   pub err : OnErr result (new ≡ old)
 
 -- The entry is scheduled, with its item in the log, or is refused for the first reason against it. Where the log's store failed, an event of that comes.

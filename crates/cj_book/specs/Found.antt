@@ -1,6 +1,5 @@
 -- What is kept of the history that a log opens with, event by event, and how its refusals are told.
-use Rattle.std.specs.Prelude.{◌≡◌, ℕ, List}
-use Rattle.std.specs.BTreeSet.{BTreeSet}
+use Rattle.std.specs.Prelude.{◌≡◌, List}
 use Rattle.cj_model.specs.Cluster.Placements.{Placement}
 use Rattle.cj_cluster.specs.declared.event.Event.{Event}
 use Rattle.cj_cluster.specs.History.Histories.{log}
@@ -8,20 +7,19 @@ use Rattle.cj_records.specs.declared.error.RecordsError.{RecordsError}
 use Rattle.cj_records.specs.declared.error.RecordsError.TheVariants as records
 use Rattle.cj_opening.specs.declared.error.OpeningError.{OpeningError}
 use Rattle.cj_opening.specs.declared.error.OpeningError.TheVariants as openings
-use Rattle.cj_opening.specs.declared.markers.MarkerName.{MarkerName}
-use Rattle.cj_opening.specs.Proving.Keeping.{KeepsPlaces, KeepsMarkers}
-use Rattle.cj_book.specs.declared.transactions.OpenTransaction.{OpenTransaction}
+use Rattle.cj_opening.specs.Proving.Keeping.{KeepsMarkers}
+use Rattle.cj_book.specs.declared.recovered.Recovered.{Recovered}
 use Rattle.cj_book.specs.declared.error.StartError.{StartError}
 use Rattle.cj_book.specs.declared.error.StartError.TheVariants.{StoreFault, BadRecord, BadEntry, NoMemory}
 use Rattle.cj_book.specs.Kept.{KeepsTransactions}
 use Rattle.cj_book.specs.Starts.{greatest_session}
 
--- the places of the entries, the open transactions, the names of the markers and the greatest session number
-pub record IsRecovered (p : Placement) (h : List Event) (places : List ℕ) (ts : List OpenTransaction) (names : BTreeSet MarkerName) (most : ℕ) : Type 0 where
-  pub placed : KeepsPlaces h places
-  pub transactions : KeepsTransactions p (log h) ts
-  pub marked : KeepsMarkers h names
-  pub greatest : most ≡ greatest_session (log h)
+-- the entries, the open transactions, the names of the markers and the greatest session number
+pub record IsRecovered (p : Placement) (h : List Event) (found : Recovered) : Type 0 where
+  pub entries : found.entries.items ≡ log h
+  pub transactions : KeepsTransactions p (log h) found.transactions
+  pub marked : KeepsMarkers h found.marker_names
+  pub greatest : found.greatest ≡ greatest_session (log h)
 
 -- the refusal of the log's records, as the book tells it
 abbrev pub start_error_of : RecordsError → StartError

@@ -1,8 +1,7 @@
 -- What a book keeps of its history.
-use Rattle.std.specs.Prelude.{◌≡◌, ◌≢◌, ℕ, ◌+◌, ◌-◌, ◌*◌, ◌<◌, ◌≤◌, ◌==◌, Bool, true, List, length, slice_get, All}
+use Rattle.std.specs.Prelude.{◌≡◌, ◌≢◌, ℕ, ◌+◌, ◌-◌, ◌*◌, ◌<◌, ◌≤◌, ◌==◌, Bool, true, List, length, All}
 use Rattle.std.specs.List.{list_any}
 use Rattle.std.specs.declared.option.Option.{Option}
-use Rattle.std.specs.Option.{option_and_then}
 use Rattle.std.specs.BTreeSet.{BTreeSet}
 use Rattle.cj_model.specs.declared.request.Entry.{Entry}
 use Rattle.cj_cluster.specs.declared.event.Event.{Event}
@@ -13,7 +12,7 @@ use Rattle.cj_model.specs.Cluster.Placements.{Placement, wrote_at}
 use Rattle.cj_opening.specs.declared.markers.MarkerName.{MarkerName}
 use Rattle.cj_log.specs.declared.item.LogItem.{LogItem}
 use Rattle.cj_opening.specs.Openings.{items_of}
-use Rattle.cj_opening.specs.Proving.Keeping.{KeepsMarkers, entry_at}
+use Rattle.cj_opening.specs.Proving.Keeping.{KeepsMarkers}
 use Rattle.cj_place.specs.Layouts.{Layout, placement_of}
 use Rattle.cj_book.specs.Books.{is_target_at, last_write_failed}
 use Rattle.cj_book.specs.Lists.{by_number, session_number, tx_number}
@@ -22,20 +21,17 @@ use Rattle.cj_book.specs.declared.transactions.OpenTransaction.{OpenTransaction}
 use Rattle.cj_model.specs.declared.limits.TheConstants.{BACKEND_LIMIT, EVENT_LIMIT, SESSION_LIMIT}
 use Rattle.cj_model.specs.Database.Tables.{Rises}
 
--- For so many backends and a history whose vector has this capacity: the places of its entries, how many of them ended, and the mask of the enabled backends.
-pub record KeepsHistory (backends : ℕ) (h : List Event) (places : List ℕ) (ended on capacity : ℕ) (has_spare : Bool) : Type 0 where
+-- For so many backends: the entries of the history, how many of them ended, and the mask of the enabled backends.
+pub record KeepsHistory (backends : ℕ) (h : List Event) (kept : List Entry) (ended on : ℕ) : Type 0 where
   pub backend_count : (0 < backends) × (backends ≤ BACKEND_LIMIT)
-  pub entry_count : length places ≡ length (log h)
-  pub entries : (i : ℕ) → option_and_then (entry_at h) (slice_get places i) ≡ slice_get (log h) i
+  pub entries : kept ≡ log h
+  pub entry_count : length kept ≡ length (log h)
   pub ends : ended ≡ ended_count h
   pub one_open : (ended_count h ≤ length (log h)) × (length (log h) ≤ ended_count h + 1)
   pub mask : (b : ℕ) → in_mask on b ≡ is_enabled h b
   pub below : (b : ℕ) → is_enabled h b ≡ true → b < backends
-  -- the history has room for the end of an open entry, and so has its vector
+  -- the history has room for the end of an open entry
   pub short : length h + 2 * (length (log h) - ended_count h) ≤ EVENT_LIMIT
-  pub spare : length h + (length (log h) - ended_count h) ≤ capacity
-  -- and where memory was taken, for one event more and an end
-  pub more : has_spare ≡ true → length h + 2 ≤ capacity
 
 -- an open session's number was given, and its transaction is the log's
 pub record IsKeptSession (entries : List Entry) (greatest : ℕ) (s : BookSession) : Type 0 where
@@ -75,8 +71,8 @@ pub record KeepsRoom (ss : List BookSession) (capacity : ℕ) : Type 0 where
   pub room : SESSION_LIMIT ≤ capacity
 
 -- what a book keeps beside what contracts see of it
-pub record IsKeptBook (tells : Bool) (layout : Layout) (h : List Event) (places : List ℕ) (ended on capacity : ℕ) (has_spare : Bool) (greatest targets : ℕ) (ss : List BookSession) (ts : List OpenTransaction) (names : BTreeSet MarkerName) (items : List LogItem) (torn : Bool) : Type 0 where
-  pub history : KeepsHistory (length layout.names) h places ended on capacity has_spare
+pub record IsKeptBook (tells : Bool) (layout : Layout) (h : List Event) (kept : List Entry) (ended on greatest targets : ℕ) (ss : List BookSession) (ts : List OpenTransaction) (names : BTreeSet MarkerName) (items : List LogItem) (torn : Bool) : Type 0 where
+  pub history : KeepsHistory (length layout.names) h kept ended on
   pub follows : Follows layout h greatest targets ss ts
   pub marked : KeepsMarkers h names
   pub logged : tells ≡ true → items_of h ≡ items

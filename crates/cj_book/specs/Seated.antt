@@ -1,5 +1,5 @@
 -- What contracts see of a book at its seat.
-use Rattle.std.specs.Prelude.{◌≡◌, List, [], ◌∷◌, ◌++◌, Result, Ok, Err}
+use Rattle.std.specs.Prelude.{◌≡◌, Result, Ok, Err}
 use Rattle.std.specs.declared.option.Option.{Option}
 use Rattle.std.specs.declared.option.Option.TheVariants.{None, Some}
 use Rattle.atomic_table.specs.Seated.{TableId}
@@ -11,7 +11,7 @@ use Rattle.cj_book.specs.declared.error.BookError.TheVariants.{InProgress, NoBac
 use Rattle.cj_book.specs.declared.error.StartError.{StartError}
 use Rattle.cj_book.specs.Books.{BookState}
 
--- a book: what follows from its history, of which board its seat is, and what the seat knows
+-- a book: what follows from its history, of which board its seat is, and what the seat knows, which has the history in front
 pub record SeatedBook (S : Type 0) : Type 0 where
   pub state : BookState S
   pub board : TableId
@@ -56,13 +56,3 @@ event_or_fault e fault (Err NoMemory) = None
 abbrev pub view_after : Option Event → SeatView → SeatView
 view_after None v = v
 view_after (Some e) v = after_append e v
-
-abbrev pub listed : Option Event → List Event
-listed None = []
-listed (Some e) = e ∷ []
-
--- the seat has seen all of the history but for the event that came last, where one did, and knows what that needs
-pub record IsOneBehind (v : SeatView) (h : List Event) : Type 0 where
-  pub came : Option Event
-  pub grown : h ≡ v.front ++ listed came
-  pub knows : (e : Event) → came ≡ Some e → CanCome v e

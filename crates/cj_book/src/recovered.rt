@@ -1,23 +1,25 @@
 //! What a book keeps of the history that a log opens with.
 
-ghost use Rattle.std.specs.Prelude.{◌≡◌, ◌^◌, ◌+◌, ◌<◌, ℕ, List, [], ◌∷◌, ◌++◌, length, take, slice_get, All, Some, IfOk, OnOk, IsErrOf};
+ghost use Rattle.std.specs.Prelude.{◌≡◌, ◌+◌, ◌<◌, ◌^◌, ℕ, List, [], ◌∷◌, ◌++◌, length, All, IfOk, OnOk, IsErrOf};
 ghost use Rattle.std.specs.List.{AllByRecursion};
-ghost use Rattle.cj_model.specs.declared.request.Entry.{Entry};
 ghost use Rattle.cj_model.specs.Cluster.Placements as placements;
 ghost use Rattle.cj_cluster.specs.declared.event.Event.{Event};
 ghost use Rattle.cj_cluster.specs.declared.event.Event.TheVariants.{Sched};
-ghost use Rattle.cj_cluster.specs.History.Histories.{log};
-ghost use Rattle.cj_cluster.specs.History.Legality.{IsFitEntry, IsLegal};
+ghost use Rattle.cj_cluster.specs.History.Legality.{IsLegal};
 ghost use Rattle.cj_log.specs.Items.{IsItem};
-ghost use Rattle.cj_opening.specs.Openings.{HasBadEntry, OpensTo};
+ghost use Rattle.cj_opening.specs.Openings.{HasBadEntry, IsOpening, OpensTo};
 ghost use Rattle.cj_place.specs.Layouts.{placement_of};
+ghost use Rattle.cj_board.specs.Seats.{board_id, book_board, book_view, history};
+ghost use Rattle.cj_board.specs.Steps.{after_append};
 ghost use Rattle.cj_book.specs.Found.{IsRecovered};
 ghost use Rattle.cj_book.specs.Lists.{tx_number};
+ghost use Rattle.cj_book.specs.Seated.{CanCome};
 
 use crate::transactions::OpenTransactions;
-use cj_cluster::Event;
+use cj_board::{Board, BookSeat};
+use cj_cluster::{BoxedEntry, Event};
 use cj_log::LogItem;
-use cj_model::{Entry, NoMemory};
+use cj_model::NoMemory;
 use cj_opening::{MarkerName, OpeningError, opening};
 use cj_place::Placement;
 use std::alloc::Global;
@@ -26,8 +28,7 @@ use std::collections::BTreeSet;
 /// What is kept of the events so far.
 #[derive(Drop)]
 pub struct Recovered {
-    /// The places of the entries in the history.
-    pub scheduled: Vec<usize>,
+    pub entries: Vec<BoxedEntry>,
     pub transactions: OpenTransactions,
     /// The names of the markers.
     pub marker_names: BTreeSet<MarkerName>,
@@ -37,48 +38,52 @@ pub struct Recovered {
 
 impl Recovered {
     fn new(alloc: Global) -> Self
-        ensures { (p : placements.Placement) → IsRecovered p [] result.scheduled.items result.transactions result.marker_names result.greatest }
+        ensures { (p : placements.Placement) → IsRecovered p [] result }
     {
         Recovered {
-            scheduled: Vec::new(alloc),
+            entries: Vec::new(alloc),
             transactions: OpenTransactions::new(alloc),
             marker_names: BTreeSet::new(alloc),
             greatest: 0,
         }
     }
 
-    /// Adds the entry at a place, which is the next.
-    fn add_entry(&mut self, placement: &Placement, place: usize, e: &Entry) -> Result<(), NoMemory>
-        requires { All (λ t. tx_number t < length self.old.scheduled.items + 1) self.old.transactions }
-        ensures { (h : List Event) → IsLegal h → IsFitEntry (log h) e.now → place ≡ length h
-            → IsRecovered (placement_of placement.now) h self.old.scheduled.items self.old.transactions self.old.marker_names self.old.greatest
-            → OnOk result (IsRecovered (placement_of placement.now) (h ++ Sched e.now ∷ []) self.new.scheduled.items self.new.transactions self.new.marker_names self.new.greatest) }
+    /// Adds the entry that is scheduled next.
+    fn add_entry(&mut self, placement: &Placement, boxed: BoxedEntry) -> Result<(), NoMemory>
+        requires { All (λ t. tx_number t < length self.old.entries.items + 1) self.old.transactions }
+        ensures { (h : List Event) → IsLegal (h ++ Sched boxed ∷ []) → IsRecovered (placement_of placement.now) h self.old → OnOk result (IsRecovered (placement_of placement.now) (h ++ Sched boxed ∷ []) self.new) }
     {
-        let number = self.scheduled.len() as u64 + 1;
+        let number = self.entries.len() as u64 + 1;
+        let e = boxed.entry();
         let hosts = self.transactions.concerned(placement, e);
-        self.scheduled.push(place)?;
         self.transactions.prepare(number, e)?;
         self.transactions.follow(e, hosts);
         self.greatest = self.greatest.max(e.session);
+        self.entries.push(boxed)?;
         Ok(())
     }
 
-    /// Adds the event at a place, which is the next.
-    fn add(
+    /// The next event comes to the board.
+    fn follow(
         &mut self,
         placement: &Placement,
-        history: &[Event],
-        place: usize,
+        board: &Board,
+        seat: &mut BookSeat,
+        event: Event,
     ) -> Result<(), NoMemory>
-        requires legal { IsLegal history.now }
-        requires within { place < length history.now }
-        requires so_far { IsRecovered (placement_of placement.now) (take place history.now) self.old.scheduled.items self.old.transactions self.old.marker_names self.old.greatest }
-        ensures { OnOk result (IsRecovered (placement_of placement.now) (take (place + 1) history.now) self.new.scheduled.items self.new.transactions self.new.marker_names self.new.greatest) }
+        requires so_far { IsRecovered (placement_of placement.now) (history seat.old) self.old }
+        requires board { book_board seat.old ≡ board_id board.now }
+        requires legal { IsLegal (history seat.old ++ event ∷ []) }
+        requires comes { CanCome (book_view seat.old) event }
+        ensures board { book_board seat.new ≡ book_board seat.old }
+        ensures view { book_view seat.new ≡ after_append event (book_view seat.old) }
+        ensures kept { OnOk result (IsRecovered (placement_of placement.now) (history seat.new) self.new) }
     {
-        match &history[place] {
-            Event::Sched(boxed) => self.add_entry(placement, place, boxed.entry()),
+        board.append(seat, &event);
+        match event {
+            Event::Sched(boxed) => self.add_entry(placement, boxed),
             Event::Marker { name, .. } => {
-                self.marker_names.insert(MarkerName { name: name.copy() })?;
+                self.marker_names.insert(MarkerName { name })?;
                 Ok(())
             }
             _ => Ok(()),
@@ -86,31 +91,49 @@ impl Recovered {
     }
 }
 
-/// What is kept of a history that can be.
-fn gather(alloc: Global, placement: &Placement, history: &[Event]) -> Result<Recovered, NoMemory>
-    requires { IsLegal history.now }
-    ensures { IfOk result (λ found. IsRecovered (placement_of placement.now) history.now found.scheduled.items found.transactions found.marker_names found.greatest) }
+/// The events of a history that opens come to the board, and what is kept of them.
+fn gather(
+    alloc: Global,
+    placement: &Placement,
+    events: Vec<Event>,
+    board: &Board,
+    seat: &mut BookSeat,
+) -> Result<Recovered, NoMemory>
+    requires legal { IsLegal events.items }
+    requires opening { IsOpening events.items }
+    requires board { book_board seat.old ≡ board_id board.now }
+    requires none { (history seat.old ≡ []) × ((book_view seat.old).given ≡ []) }
+    ensures board { book_board seat.new ≡ book_board seat.old }
+    ensures view { OnOk result (book_view seat.new ≡ record (book_view seat.old) { front = history seat.new }) }
+    ensures events { OnOk result (history seat.new ≡ events.items) }
+    ensures kept { IfOk result (IsRecovered (placement_of placement.now) (history seat.new)) }
 {
     let mut found = Recovered::new(alloc);
-    for place in 0..history.len() {
-        found.add(placement, history, place)?;
+    for event in events {
+        found.follow(placement, board, seat, event)?;
     }
     Ok(found)
 }
 
-/// The history that the items of a log open with, and what is kept of it.
+/// The history that the items of a log open with comes to the board, and what is kept of it.
 pub fn recover(
     alloc: Global,
     placement: &Placement,
     items: &[LogItem],
-) -> Result<(Vec<Event>, Recovered), OpeningError>
+    board: &Board,
+    seat: &mut BookSeat,
+) -> Result<Recovered, OpeningError>
     requires each { AllByRecursion IsItem items.now }
     requires few { length items.now < 2 ^ 59 }
-    ensures history { IfOk result (λ found. OpensTo items.now found.0.items) }
-    ensures kept { IfOk result (λ found. IsRecovered (placement_of placement.now) found.0.items found.1.scheduled.items found.1.transactions found.1.marker_names found.1.greatest) }
+    requires board { book_board seat.old ≡ board_id board.now }
+    requires none { (history seat.old ≡ []) × ((book_view seat.old).given ≡ []) }
+    ensures board { book_board seat.new ≡ book_board seat.old }
+    ensures view { OnOk result (book_view seat.new ≡ record (book_view seat.old) { front = history seat.new }) }
+    ensures opens { OnOk result (OpensTo items.now (history seat.new)) }
+    ensures kept { IfOk result (IsRecovered (placement_of placement.now) (history seat.new)) }
     ensures bad { (n : ℕ) → IsErrOf result (OpeningError.BadEntry n) → HasBadEntry items.now n }
 {
-    let history = opening(alloc, items)?;
-    let found = gather(alloc, placement, &history)?;
-    Ok((history, found))
+    let events = opening(alloc, items)?;
+    let found = gather(alloc, placement, events, board, seat)?;
+    Ok(found)
 }

@@ -9,7 +9,7 @@ ghost use Rattle.cj_freshness.specs.Freshness as freshness;
 ghost use Rattle.cj_freshness.specs.Freshness.{NoneTouches, touches_behind};
 ghost use Rattle.cj_book.specs.Touching.{has_table, is_written_in};
 
-use crate::ledger::Ledger;
+use crate::book::Book;
 use cj_model::{Act, Entry, Name, NoMemory, Select, TableSet};
 use cj_outside::Store;
 use cj_usage::{lone, written};
@@ -41,36 +41,36 @@ fn add_written(tables: &mut TableSet, entry: Option<&Entry>, tx: u64) -> Result<
 
 /// The tables that a transaction writes in the entries up to `end`. They stand behind its BEGIN, whose number it has.
 fn written_in<S: Store>(
-    ledger: &Ledger<S>,
+    book: &Book<S>,
     alloc: Global,
     end: u64,
     tx: u64,
 ) -> Result<TableSet, NoMemory>
-    requires { end ≤ length (log ledger.now.history) }
-    ensures { IfOk result (λ set. (table : List ℕ) → has_table set table ≡ has_written table tx (take end (log ledger.now.history))) }
+    requires { end ≤ length (log book.now.state.history) }
+    ensures { IfOk result (λ set. (table : List ℕ) → has_table set table ≡ has_written table tx (take end (log book.now.state.history))) }
 {
-    ledger.legal();
+    book.legal();
     let mut tables = TableSet::new(alloc);
     for n in tx..end {
-        add_written(&mut tables, ledger.entry_of(n as usize), tx)?;
+        add_written(&mut tables, book.entry_of(n as usize), tx)?;
     }
     Ok(tables)
 }
 
 /// The tables that an act of a transaction, 0 for none, touches behind the entries up to `end`.
 pub fn touched_behind<S: Store>(
-    ledger: &Ledger<S>,
+    book: &Book<S>,
     alloc: Global,
     end: u64,
     tx: u64,
     act: &Act,
 ) -> Result<TableSet, NoMemory>
-    requires { end ≤ length (log ledger.now.history) }
-    ensures { IfOk result (λ set. (table : List ℕ) → has_table set table ≡ touches_behind (take end (log ledger.now.history)) tx act.now table) }
+    requires { end ≤ length (log book.now.state.history) }
+    ensures { IfOk result (λ set. (table : List ℕ) → has_table set table ≡ touches_behind (take end (log book.now.state.history)) tx act.now table) }
 {
     match act {
         Act::Write(_) if tx != 0 => Ok(TableSet::new(alloc)),
-        Act::Commit => written_in(ledger, alloc, end, tx),
+        Act::Commit => written_in(book, alloc, end, tx),
         _ => match written(act) {
             Some(table) => lone(alloc, table),
             None => Ok(TableSet::new(alloc)),
@@ -80,17 +80,17 @@ pub fn touched_behind<S: Store>(
 
 /// Whether entry `n + 1` of the log touches a table that the query needs.
 fn touches_query<S: Store>(
-    ledger: &Ledger<S>,
+    book: &Book<S>,
     alloc: Global,
     n: u64,
     select: &Select,
 ) -> Result<bool, NoMemory>
-    requires { n < length (log ledger.now.history) }
-    ensures { IfOk result (λ touches. touches ≡ freshness.touches_query (log ledger.now.history) n select.now) }
+    requires { n < length (log book.now.state.history) }
+    ensures { IfOk result (λ touches. touches ≡ freshness.touches_query (log book.now.state.history) n select.now) }
 {
-    match ledger.entry_of(n as usize) {
+    match book.entry_of(n as usize) {
         Some(entry) => {
-            let set = touched_behind(ledger, alloc, n, entry.tx, &entry.act)?;
+            let set = touched_behind(book, alloc, n, entry.tx, &entry.act)?;
             Ok(
                 select
                     .tables
@@ -105,16 +105,16 @@ fn touches_query<S: Store>(
 
 /// Whether an entry behind a position of the log touches a table that the query needs.
 pub fn is_touched_behind<S: Store>(
-    ledger: &Ledger<S>,
+    book: &Book<S>,
     alloc: Global,
     at: u64,
     select: &Select,
 ) -> Result<bool, NoMemory>
-    requires { at ≤ length (log ledger.now.history) }
-    ensures { IfOk result (λ touched. (touched ≡ false) ↔ NoneTouches (log ledger.now.history) at (length (log ledger.now.history)) select.now) }
+    requires { at ≤ length (log book.now.state.history) }
+    ensures { IfOk result (λ touched. (touched ≡ false) ↔ NoneTouches (log book.now.state.history) at (length (log book.now.state.history)) select.now) }
 {
-    for n in at..ledger.length() {
-        if touches_query(ledger, alloc, n, select)? {
+    for n in at..book.length() {
+        if touches_query(book, alloc, n, select)? {
             return Ok(true);
         }
     }

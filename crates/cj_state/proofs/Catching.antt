@@ -21,7 +21,6 @@ use Rattle.cj_cluster.specs.Proving.Invariants.{HoldsPart, HasBegunDrafts, Cover
 use Rattle.cj_cluster.proofs.Effects.{is_there}
 use Rattle.cj_cluster.proofs.PartRuns.{part_at_taken}
 use Rattle.cj_cluster.proofs.TransactionLaws.{legal_fit}
-use Rattle.cj_backend.specs.Backends.{spent}
 use Rattle.cj_auth.specs.Admission.{Register}
 use Rattle.cj_dump.specs.declared.dump.Dump.{Dump}
 use Rattle.cj_place.specs.Layouts.{Layout, placement_of}

@@ -1,5 +1,5 @@
 -- Counts of faults and of armings, and logins, where the cell of one backend has changed.
-use Rattle.std.proofs.Common.{◌≡◌, ℕ, ◌<◌, Bool, true, false, cond, List, length, map, get_or, set, None, Some, ap, sym, ◌∙◌, refl, subst}
+use Rattle.std.proofs.Common.{◌≡◌, ℕ, ◌<◌, Bool, cond, List, length, map, get_or, set, None, Some, ap, sym, ◌∙◌, subst}
 use Rattle.std.proofs.lemmas.List.{length-map, get_or_default}
 use Rattle.cj_outside.specs.Causes.{next}
 use Rattle.cj_replica.specs.Cells.{CellState}

@@ -1,5 +1,5 @@
 -- What a book knows that has heard more, and cells of which one has changed.
-use Rattle.std.proofs.Common.{◌≡◌, ⊎_elim, ℕ, ◌+◌, ◌<◌, ◌≤◌, ◌==◌, Bool, true, cond, List, [], ◌∷◌, ◌++◌, length, map, get_or, set, slice_get, Option, Some, refl, ap, sym, ◌∙◌, subst, arith}
+use Rattle.std.proofs.Common.{◌≡◌, ⊎_elim, ℕ, ◌+◌, ◌<◌, ◌≤◌, ◌==◌, Bool, cond, List, [], ◌∷◌, length, get_or, set, slice_get, Some, refl, ap, sym, ◌∙◌, subst, arith}
 use Rattle.std.specs.Prelude.{All, Contains}
 use Rattle.std.proofs.Math.Seq.{map-set_same}
 use Rattle.std.proofs.lemmas.Bool.{both_ways, cases_eq, eq-eqb}
@@ -20,7 +20,7 @@ use Rattle.cj_cluster.specs.Moves.Moves.{failed_after}
 use Rattle.cj_book.specs.Seated.{SeatedBook}
 use Rattle.cj_replica.specs.Cells.{CellState}
 use Rattle.cj_replica.specs.Seated.{SeatedCell}
-use Rattle.cj_state.specs.Proving.Seated.{AreAt, AreNumbered, HasHeard, IsReady, position_in}
+use Rattle.cj_state.specs.Proving.Seated.{AreNumbered, HasHeard, IsReady, position_in}
 use Rattle.cj_state.specs.Seats.{states_of}
 use Rattle.cj_state.proofs.CellsKept.{position_of}
 

@@ -1,19 +1,17 @@
 -- A cell that was out, and holds what a dump has of its tables.
-use Rattle.std.proofs.Common.{◌≡◌, ℕ, ◌<◌, ◌≤◌, cond, Bool, true, false, List, length, map, get_or, set, OnErr, Option, None, Some, Result, Ok, Err, refl, ap, sym, ◌∙◌, subst, ⊎_elim}
+use Rattle.std.proofs.Common.{◌≡◌, ℕ, ◌<◌, ◌≤◌, Bool, true, false, List, length, map, get_or, set, OnErr, Option, None, Some, Result, Ok, Err, refl, ap, sym, ◌∙◌, subst, ⊎_elim}
 use Rattle.std.specs.Prelude.{IsErrAnd}
 use Rattle.std.proofs.lemmas.Bool.{cases_eq, both_ways}
 use Rattle.std.proofs.lemmas.List.{map-set, get_or-set_other, length-map}
 use Rattle.cj_model.specs.declared.database.Slot.{Slot}
 use Rattle.cj_model.specs.declared.answer.Outcome.{Outcome}
-use Rattle.cj_model.specs.Database.Storable.{writers}
 use Rattle.cj_model.specs.Cluster.Placements.{part}
 use Rattle.cj_cluster.specs.declared.event.Event.{Event}
 use Rattle.cj_cluster.specs.declared.moves.OpenSession.{OpenSession}
 use Rattle.cj_cluster.specs.History.Histories.{log, is_idle, is_enabled, database_after}
 use Rattle.cj_cluster.specs.Moves.Moves.{Stance, with_stance}
-use Rattle.cj_cluster.specs.Proving.Invariants.{CoreInvariant, CoversDrafts, HasBegunDrafts, HoldsPart}
+use Rattle.cj_cluster.specs.Proving.Invariants.{CoreInvariant}
 use Rattle.cj_cluster.proofs.Effects.{sound_loaded}
-use Rattle.cj_cluster.proofs.Loaded.{writers_cover}
 use Rattle.cj_cluster.proofs.Standing.{stand_rest}
 use Rattle.cj_auth.specs.Admission.{Register}
 use Rattle.cj_dump.specs.declared.dump.Dump.{Dump}

@@ -9,7 +9,7 @@ use Rattle.cj_cluster.specs.History.Histories.{scheduled_entry, log, events_left
 use Rattle.cj_cluster.proofs.Pushed.{log-sched, log-same}
 use Rattle.cj_book.specs.declared.error.BookError.{BookError}
 use Rattle.cj_book.specs.declared.error.BookError.TheVariants.{InProgress, NoBackend, HistoryFull, LogFault, NoMemory}
-use Rattle.cj_book.specs.Books.{BookState, IsSameButLog, with_event, IsInProgress, HasNoBackend, LacksRoom, HasNoRoomForOne, CanSchedule, IsWant, with_entry}
+use Rattle.cj_book.specs.Books.{BookState, IsSameButLog, with_event, IsInProgress, HasNoBackend, LacksRoom, HasNoRoomForOne, CanSchedule, IsFull, IsWant, with_entry}
 use Rattle.cj_dump.specs.declared.dump.Dump.{Dump}
 use Rattle.cj_replica.specs.Cells.{CellState}
 use Rattle.cj_state.specs.Worlds.{core_of}
@@ -22,7 +22,7 @@ noted (Ok x) old new e Q ok err space came same = subst Q (sym ok) (came space)
 noted (Err d) old new e Q ok err space came same = subst Q (sym err) same
 
 -- whether there was room for it
-pub had_room : {S T : Type 0} (cells : List CellState) (f s : ℕ) (ss : List OpenSession) (g : ℕ) (ds : List Dump) (b : BookState S) (r : Result T BookError) → OnOk r (0 < events_left b.history) → ((n : ℕ) → r ≡ Err (HistoryFull n) ↔ HasNoRoomForOne b n) → IfErr r IsWant
+pub had_room : {S T : Type 0} (cells : List CellState) (f s : ℕ) (ss : List OpenSession) (g : ℕ) (ds : List Dump) (b : BookState S) (r : Result T BookError) → OnOk r (0 < events_left b.history) → ((n : ℕ) → r ≡ Err (HistoryFull n) ↔ HasNoRoomForOne b n) → IfErr r IsFull
     → HadRoom (core_of b.layout b.history cells f s ss g ds) r
 had_room cells f s ss g ds b (Ok x) space full want = space
 had_room cells f s ss g ds b (Err (InProgress n)) space full want = want

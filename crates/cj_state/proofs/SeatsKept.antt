@@ -1,9 +1,8 @@
 -- The seats where an event comes, or nothing that they know changes.
-use Rattle.std.proofs.Common.{◌≡◌, ℕ, suc, zero, [], ◌+◌, ◌<◌, ◌≤◌, ◌==◌, Bool, true, false, cond, List, ◌∷◌, ◌++◌, Option, None, Some, Result, Ok, Err, refl, ap, sym, ◌∙◌, subst, arith}
+use Rattle.std.proofs.Common.{◌≡◌, ℕ, suc, zero, [], ◌+◌, ◌<◌, ◌≤◌, ◌==◌, Bool, true, false, cond, List, Option, None, Some, Result, Ok, Err, refl, ap, sym, ◌∙◌, subst, arith}
 use Rattle.std.specs.Prelude.{Contains}
-use Rattle.std.proofs.lemmas.Bool.{both_ways, eqb-true}
+use Rattle.std.proofs.lemmas.Bool.{eqb-true}
 use Rattle.atomic_table.specs.Seated.{TableId}
-use Rattle.cj_model.specs.Cluster.Masks.{in_mask}
 use Rattle.cj_cluster.specs.declared.event.Event.{Event}
 use Rattle.cj_cluster.specs.declared.event.Event.TheVariants.{ReadFailed}
 use Rattle.cj_cluster.specs.History.Histories.{notes_failure}

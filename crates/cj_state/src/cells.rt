@@ -50,17 +50,6 @@ pub enum AskError {
     NoMemory,
 }
 
-impl From<NoMemory> for AskError {
-    ghost use Rattle.std.specs.Prelude.{◌≡◌};
-    ghost use Rattle.cj_state.specs.declared.cells.AskError.TheVariants as errors;
-
-    ghost from_gives = { λ _ e. e ≡ errors.NoMemory };
-
-    fn from(_error: NoMemory) -> AskError {
-        AskError::NoMemory
-    }
-}
-
 fn did_of(caught: Result<Caught, CellError>) -> Did
     ensures { result ≡ taking.did_of caught }
 {
@@ -168,7 +157,7 @@ fn catch_up_at<B: Backend, S: Store>(
     ensures token { result ≡ Did.Failed → (x : SeatedCell) → slice_get cells.new.items b ≡ Some x → 0 < fault_tokens_of b x.view.fault_tokens }
 {
     let next = place(cells[b as usize].position()) + 1;
-    let Some(entry) = book.ledger().entry(next) else {
+    let Some(entry) = book.entry(next) else {
         unreachable!()
     };
     let login = accounts.mapped(&entry.user, b);
@@ -248,8 +237,7 @@ pub fn load_at<B: Backend, S: Store>(
     cells[b as usize].load(board, db, position)
 }
 
-/// Why a backend that was asked gave no answer. Of a failure the history has an event from now on;
-/// the memory for it was taken before.
+/// Why a backend that was asked gave no answer. Of a failure the history has an event from now on, where it has room.
 pub fn noted<S: Store>(
     board: &Board,
     book: &mut Book<S>,
@@ -258,7 +246,6 @@ pub fn noted<S: Store>(
     b: u8,
     error: CellReadError,
 ) -> AskError
-    requires spare { book.old.state.has_spare ≡ true }
     requires at { book.old.board ≡ board_id board.now }
     requires token { error ≡ CellReadError.Failed → 0 < fault_tokens_of b book.old.view.fault_tokens }
     ensures notes { Notes book.old.state session seq b error result book.new.state }

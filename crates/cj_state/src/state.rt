@@ -243,14 +243,14 @@ impl<B: Backend, S: Store> State<B, S> {
         ensures logged { S.TELLS ≡ true → KeepsHistory self.now }
         ensures fresh { IsFresh B.TELLS self.now }
     {
-        self.book.ledger().legal();
+        self.book.legal();
     }
 
     /// How many entries there are, which is the number of the last one.
     pub fn length(&self) -> u64
         ensures { result ≡ moves.last_number self.now.core }
     {
-        self.book.ledger().length()
+        self.book.length()
     }
 
     /// The number of the open entry.
@@ -258,14 +258,14 @@ impl<B: Backend, S: Store> State<B, S> {
         ensures none { IsNone result ↔ (is_idle self.now.core.history ≡ true) }
         ensures number { IfSome result (λ n. n ≡ moves.last_number self.now.core) }
     {
-        self.book.ledger().open_entry()
+        self.book.open_entry()
     }
 
     /// The mask of the enabled backends.
     pub fn enabled(&self) -> u32
         ensures { (b : ℕ) → in_mask result b ≡ histories.is_enabled self.now.core.history b }
     {
-        self.book.ledger().enabled()
+        self.book.enabled()
     }
 
     /// How many entries the backend has taken; none where it is out.
@@ -283,7 +283,7 @@ impl<B: Backend, S: Store> State<B, S> {
         ensures placement { placement_of result.now ≡ self.now.core.placement }
         ensures names { result.now.names ≡ self.now.setup.names }
     {
-        self.book.ledger().placement()
+        self.book.placement()
     }
 
     /// Whether an account has this user and this password. Such a user is a text of at most 64 bytes.
@@ -302,13 +302,13 @@ impl<B: Backend, S: Store> State<B, S> {
     pub fn is_free(&self) -> bool
         ensures { result ≡ is_idle self.now.core.history }
     {
-        self.book.ledger().is_free()
+        self.book.is_free()
     }
 
     pub fn is_enabled(&self, b: u8) -> bool
         ensures { result ≡ histories.is_enabled self.now.core.history b }
     {
-        self.book.ledger().is_enabled(b)
+        self.book.is_enabled(b)
     }
 
     pub fn is_open(&self, s: u64) -> bool
@@ -321,7 +321,7 @@ impl<B: Backend, S: Store> State<B, S> {
     pub fn is_waiting(&self, s: u64) -> bool
         ensures { result ≡ moves.is_waiting self.now.core s }
     {
-        match self.book.ledger().opened() {
+        match self.book.opened() {
             Some(entry) => entry.session == s,
             None => false,
         }
@@ -369,14 +369,14 @@ impl<B: Backend, S: Store> State<B, S> {
         requires { moves.is_open self.now.core s ≡ true }
         ensures { result ≡ moves.open_tx self.now.core s }
     {
-        self.book.ledger().open_tx(s)
+        self.book.open_tx(s)
     }
 
     /// Whether the transaction is open, and its session isn't.
     pub fn is_orphan(&self, tx: u64) -> bool
         ensures { result ≡ moves.is_orphan self.now.core tx }
     {
-        self.book.ledger().is_orphan(tx)
+        self.book.is_orphan(tx)
     }
 
     /// The session's next entry.
@@ -392,7 +392,7 @@ impl<B: Backend, S: Store> State<B, S> {
             Some(session) => Ok(Entry {
                 session: s,
                 seq: session.queries + 1,
-                tx: tx_of_act(self.book.ledger().open_tx(s), &act),
+                tx: tx_of_act(self.book.open_tx(s), &act),
                 user: session.user.copy(self.alloc)?,
                 act,
             }),
@@ -425,7 +425,7 @@ impl<B: Backend, S: Store> State<B, S> {
         ensures is { IfOk result (λ e. e ≡ moves.abort_entry self.now.core tx) }
         ensures fits { IfOk result (λ e. IsFitEntry (log self.now.core.history) e) }
     {
-        match self.book.ledger().entry(tx) {
+        match self.book.entry(tx) {
             Some(begin) => Ok(Entry {
                 session: 0,
                 seq: 0,
@@ -482,17 +482,17 @@ impl<B: Backend, S: Store> State<B, S> {
         ensures mask { IsServingMask self.now.core select.now result }
         ensures below { result < 2 ^ BACKEND_LIMIT }
     {
-        self.book.ledger().candidates(select.tables.as_slice())
+        self.book.candidates(select.tables.as_slice())
     }
 
     /// The position of the first enabled backend that is neither at the log's end nor out.
     pub fn behind(&self) -> Option<u64>
         ensures { result ≡ moves.first_lagging self.now.core.history 0 self.now.core.positions }
     {
-        let end = self.book.ledger().length();
+        let end = self.book.length();
         for (b, cell) in self.cells.iter().enumerate() {
             if let Some(position) = cell.position() {
-                if self.book.ledger().is_enabled(b as u8) && position < end {
+                if self.book.is_enabled(b as u8) && position < end {
                     return Some(position);
                 }
             }
@@ -504,8 +504,7 @@ impl<B: Backend, S: Store> State<B, S> {
     pub fn has_no_number(&self) -> bool
         ensures { result ≡ moves.has_no_number self.now.core }
     {
-        self.sessions.len() >= SESSION_LIMIT
-            || self.book.ledger().greatest() >= SESSION_NUMBER_LIMIT
+        self.sessions.len() >= SESSION_LIMIT || self.book.greatest() >= SESSION_NUMBER_LIMIT
     }
 
     /// How many sessions are open.
@@ -530,7 +529,7 @@ impl<B: Backend, S: Store> State<B, S> {
     {
         Refusal {
             code: HISTORY_FULL,
-            a: self.book.ledger().events(),
+            a: self.book.events(),
             b: 0,
         }
     }
@@ -541,8 +540,8 @@ impl<B: Backend, S: Store> State<B, S> {
         requires behind { moves.first_lagging self.now.core.history 0 self.now.core.positions ≡ None }
         ensures { AnswersOpen B.TELLS self.now.core result }
     {
-        let targets = self.book.ledger().targets();
-        let left = self.book.ledger().left(self.failed, self.starved);
+        let targets = self.book.targets();
+        let left = self.book.left(self.failed, self.starved);
         if targets != 0 && targets & left == 0 {
             return Reply::Refused(unfinished(self.failed, self.starved));
         }
@@ -565,7 +564,7 @@ impl<B: Backend, S: Store> State<B, S> {
         ensures number { result ≡ self.old.core.greatest + 1 }
         ensures opened { self.new ≡ with_core self.old (opened_for self.old.core user) }
     {
-        let number = self.book.ledger().greatest() + 1;
+        let number = self.book.greatest() + 1;
         self.sessions.open(number, user);
         match self.book.open_session() {
             Ok(_) => number,
@@ -696,7 +695,7 @@ impl<B: Backend, S: Store> State<B, S> {
         requires { is_idle self.now.core.history ≡ false }
         ensures { (e : Entry) × (histories.entry_in_progress self.now.core.history ≡ Some e) × (result ≡ e.session) }
     {
-        match self.book.ledger().opened() {
+        match self.book.opened() {
             Some(entry) => entry.session,
             None => unreachable!(),
         }
@@ -709,7 +708,7 @@ impl<B: Backend, S: Store> State<B, S> {
         requires behind { moves.first_lagging self.old.core.history 0 self.old.core.positions ≡ None }
         ensures { self.new ≡ with_core self.old (ended_for self.old.core s) }
     {
-        let number = self.book.ledger().length();
+        let number = self.book.length();
         self.sessions.answer(s, number);
         hear_all(&self.board, &mut self.pass, &mut self.book, &mut self.cells);
         self.book.end(&self.board, self.failed, self.starved);
@@ -794,7 +793,6 @@ impl<B: Backend, S: Store> State<B, S> {
     {
         let least = self.least(s);
         let number = self.read_number(s);
-        self.book.take_spare()?;
         let login = self
             .accounts
             .mapped(asking_user(&self.sessions, s, user), b);
@@ -879,7 +877,7 @@ impl<B: Backend, S: Store> State<B, S> {
     pub fn is_taken(&self, name: &Name) -> bool
         ensures { result ≡ (histories.has_marker self.now.core.history name.now || is_dumped self.now.core name.now) }
     {
-        self.book.ledger().is_taken(name) || self.dumps.find(name).is_some()
+        self.book.is_taken(name) || self.dumps.find(name).is_some()
     }
 
     /// Marks a checkpoint of a name that no marker has, and answers how many entries stand before it.
@@ -912,7 +910,7 @@ impl<B: Backend, S: Store> State<B, S> {
         requires taken { (name : List ℕ) × (find_dump self.now.core.dumps name ≡ Some dump.now) }
         ensures { result ≡ hosts_beyond self.now.core.placement b dump.now.source }
     {
-        self.book.ledger().placement().hosts_beyond(b, dump.source)
+        self.book.placement().hosts_beyond(b, dump.source)
     }
 
     /// Keeps a dump of what the backend holds, and answers how many entries it has taken.
@@ -929,12 +927,12 @@ impl<B: Backend, S: Store> State<B, S> {
         let Some(position) = self.position(b) else {
             unreachable!()
         };
-        let covers = self.book.ledger().placement().covered(self.alloc, b)?;
+        let covers = self.book.placement().covered(self.alloc, b)?;
         let dump = Dump {
             position,
             source: b,
             name: name.copy(),
-            all: self.book.ledger().placement().all(),
+            all: self.book.placement().all(),
             covers,
             db,
         };
@@ -952,7 +950,7 @@ impl<B: Backend, S: Store> State<B, S> {
         ensures same { self.new ≡ self.old }
     {
         match self.dumps.read(name)? {
-            Some(dump) => Ok(cut(dump, self.book.ledger().placement(), b)),
+            Some(dump) => Ok(cut(dump, self.book.placement(), b)),
             None => unreachable!(),
         }
     }
@@ -998,7 +996,7 @@ impl<B: Backend, S: Store> State<B, S> {
     pub fn kept(&self, select: &Select) -> Option<&Answer>
         ensures { option_copied result ≡ answer_kept select.now self.now.cache }
     {
-        self.book.ledger().kept(select)
+        self.book.kept(select)
     }
 
     /// Keeps what the query is answered at the log's end.
@@ -1008,7 +1006,7 @@ impl<B: Backend, S: Store> State<B, S> {
         ensures ok { OnOk result (self.new ≡ with_cache self.old (after_keep (record { select = select; answer = answer; at = moves.last_number self.old.core }) self.old.cache)) }
         ensures err { OnErr result (self.new ≡ self.old) }
     {
-        let end = self.book.ledger().length();
+        let end = self.book.length();
         // No entry stands behind the log's end, so that it is kept.
         self.book.keep(select, answer, end)?;
         Ok(())
@@ -1018,13 +1016,13 @@ impl<B: Backend, S: Store> State<B, S> {
     pub fn keeps_none(&self) -> bool
         ensures { result ≡ true → (e : Cached) → after_keep e self.now.cache ≡ self.now.cache }
     {
-        self.book.ledger().keeps_none()
+        self.book.keeps_none()
     }
 
     /// Hits and misses of the cache.
     pub fn cache_counts(&self) -> (u64, u64)
         ensures { result ≡ (self.now.cache.hits, self.now.cache.misses) }
     {
-        self.book.ledger().counts()
+        self.book.counts()
     }
 }

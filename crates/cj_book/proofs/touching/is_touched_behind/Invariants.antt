@@ -3,4 +3,4 @@ use Rattle.cj_freshness.specs.Freshness.{NoneTouches}
 use Rattle.cj_book.proofs.touching.is_touched_behind.Given as goal
 
 abbrev pub invariant-loop-n : goal.invariant-loop-n
-invariant-loop-n g l = NoneTouches (log l.ledger.history) l.at l.n l.select
+invariant-loop-n g l = NoneTouches (log l.book.state.history) l.at l.n l.select

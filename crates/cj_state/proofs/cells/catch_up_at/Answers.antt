@@ -1,4 +1,4 @@
-use Rattle.std.proofs.Common.{◌≡◌, ◌<◌, ◌+◌, ◌-◌, ◌∷◌, [], List, length, get_or, set, slice_get, Option, None, Some, Result, Ok, Err, ℕ, Bor, ⊎_elim, ◌≤◌, refl, sym, ap, ◌∙◌, subst, arith}
+use Rattle.std.proofs.Common.{◌≡◌, ◌<◌, ◌+◌, ◌-◌, List, length, get_or, slice_get, Option, None, Some, Result, Ok, Err, ℕ, Bor, ⊎_elim, ◌≤◌, refl, sym, ap, ◌∙◌, subst, arith}
 use Rattle.std.proofs.lemmas.List.{length-map}
 use Rattle.std.specs.Prelude.{option_copied}
 use Rattle.std.proofs.lemmas.Option.{slice_get_cases}
@@ -8,7 +8,6 @@ use Rattle.cj_model.specs.declared.request.Entry.{Entry}
 use Rattle.cj_board.specs.declared.view.SeatView.{SeatView}
 use Rattle.cj_board.specs.Points.{fault_tokens_of, max_word}
 use Rattle.cj_board.specs.Steps.{after_fault, at_position}
-use Rattle.cj_book.specs.Books.{BookState}
 use Rattle.cj_cluster.specs.History.Histories.{log}
 use Rattle.cj_cluster.specs.declared.moves.Did.TheVariants as did
 use Rattle.cj_cluster.specs.Moves.Moves.{position_or_zero}
@@ -55,7 +54,7 @@ unreachable-requires g c =
     let here : c.place-next.result ≡ can.p = c.place-next.ensures ∙ ap position_or_zero at in
     let entries = log c.args.book.now.state.history in
     let none : None ≡ slice_get entries (c.place-next.result + 1 - 1) =
-    subst (λ (r : Option (Bor Entry)). option_copied r ≡ slice_get entries (c.place-next.result + 1 - 1)) c.in_default.is (c.entry.ensures.numbered (omega arith) ∙ ap (λ (k : BookState g.row.S.Denot). slice_get (log k.history) (c.place-next.result + 1 - 1)) c.ledger.ensures)
+    subst (λ (r : Option (Bor Entry)). option_copied r ≡ slice_get entries (c.place-next.result + 1 - 1)) c.in_default.is (c.entry.ensures.numbered (omega arith))
     in
     ⊎_elim (λ (is : (x : Entry) × (c.place-next.result + 1 - 1 < length entries) × (slice_get entries (c.place-next.result + 1 - 1) ≡ Some x) × (get_or entries (c.place-next.result + 1 - 1) x ≡ x)). cc (none, is.2))
     (λ (past : (length entries ≤ c.place-next.result + 1 - 1) × (slice_get entries (c.place-next.result + 1 - 1) ≡ None)). let le = past.0 in let more : can.p < length entries = can.more in omega (arith, le, more, here)) (slice_get_cases entries (c.place-next.result + 1 - 1)).1
@@ -84,7 +83,7 @@ catch_up-requires-clause-entry g c =
     let x : SeatedCell = c.index.result.now in
     let at : c.position.result ≡ Some can.p = c.position.ensures ∙ (ap (λ (z : CellState). z.position) (seen_as c.args.cells.now.items c.args.b x lt c.index.ensures) ∙ can.stands x.state) in
     let next : c.place-next.result + 1 ≡ can.p + 1 = ap (λ q. q + 1) (c.place-next.ensures ∙ ap position_or_zero at) in
-    let entry = found (log c.args.book.now.state.history) can.p (c.place-next.result + 1) c.in-Some.entry.now next (c.in-Some.ensures.numbered (omega arith) ∙ ap (λ (k : BookState g.row.S.Denot). slice_get (log k.history) (c.place-next.result + 1 - 1)) c.ledger.ensures) in
+    let entry = found (log c.args.book.now.state.history) can.p (c.place-next.result + 1) c.in-Some.entry.now next (c.in-Some.ensures.numbered (omega arith)) in
     let y : SeatedCell = c.index_mut.result.now in
     let front : IsPrefix c.args.book.now.state.history y.view.front = subst (λ (z : SeatedCell). IsPrefix c.args.book.now.state.history z.view.front) (sym c.index_mut.ensures.value) (c.requires.told y) in
     ap (slice_get (log y.view.front)) (omega (arith, next)) ∙ prefix_get (log c.args.book.now.state.history) (log y.view.front) can.p c.in-Some.entry.now (log-prefix c.args.book.now.state.history y.view.front front) entry
@@ -102,7 +101,7 @@ returns-clause-took g c =
     let x : SeatedCell = c.index.result.now in
     let at : c.position.result ≡ Some can.p = c.position.ensures ∙ (ap (λ (z : CellState). z.position) (seen_as c.args.cells.now.items c.args.b x lt c.index.ensures) ∙ can.stands x.state) in
     let next : c.place-next.result + 1 ≡ can.p + 1 = ap (λ q. q + 1) (c.place-next.ensures ∙ ap position_or_zero at) in
-    let entry = found (log c.args.book.now.state.history) can.p (c.place-next.result + 1) c.in-Some.entry.now next (c.in-Some.ensures.numbered (omega arith) ∙ ap (λ (k : BookState g.row.S.Denot). slice_get (log k.history) (c.place-next.result + 1 - 1)) c.ledger.ensures) in
+    let entry = found (log c.args.book.now.state.history) can.p (c.place-next.result + 1) c.in-Some.entry.now next (c.in-Some.ensures.numbered (omega arith)) in
     let y : SeatedCell = c.index_mut.result.now in
     let how = subst (λ (n : ℕ). CatchesUp y.state n c.in-Some.entry.now c.mapped-login.result.now c.catch_up.result c.catch_up.new.self.state) next c.catch_up.ensures.state in
     rw c.did_of.ensures

@@ -1,6 +1,3 @@
-use Rattle.std.proofs.Common.{◌≡◌, List, get_or, ap, sym, ◌∙◌}
-use Rattle.cj_replica.specs.Seated.{SeatedCell}
-use Rattle.cj_state.specs.Seats.{states_of}
 use Rattle.cj_state.proofs.HeardOf.{all_at, board_of, seen_as, states_set}
 use Rattle.cj_state.proofs.cells.contents_at.Goals as goal
 

@@ -1,15 +1,13 @@
-use Rattle.std.proofs.Common.{◌≡◌, ◌<◌, ◌+◌, ◌≤◌, ℕ, List, get_or, set, Err, Result, ap, sym, ◌∙◌, subst, arith}
+use Rattle.std.proofs.Common.{◌≡◌, ◌+◌, ℕ, Result, ap, ◌∙◌, arith}
 use Rattle.std.proofs.lemmas.List.{length-map}
 use Rattle.cj_model.specs.declared.answer.Asked.{Asked}
 use Rattle.cj_board.specs.declared.view.SeatView.{SeatView}
 use Rattle.cj_board.specs.Points.{fault_tokens_of}
 use Rattle.cj_board.specs.Steps.{after_fault}
 use Rattle.cj_replica.specs.declared.replica.CellReadError.{CellReadError}
-use Rattle.cj_replica.specs.declared.replica.CellReadError.TheVariants as read_errors
-use Rattle.cj_replica.specs.Cells.{CellState, Reads}
+use Rattle.cj_replica.specs.Cells.{CellState}
 use Rattle.cj_replica.specs.Seated.{SeatedCell, view_after_read}
-use Rattle.cj_state.specs.Seats.{states_of, ChangesCell}
-use Rattle.cj_state.proofs.HeardOf.{all_at, board_of, numbered_set, one_token, seen_as, states_set, there_set}
+use Rattle.cj_state.proofs.HeardOf.{all_at, numbered_set, one_token, seen_as, states_set, there_set}
 use Rattle.cj_state.proofs.cells.read_at.Goals as goal
 
 pub hear-requires-clause-at : goal.hear-requires-clause-at

@@ -1,4 +1,4 @@
-use Rattle.std.proofs.Common.{◌≡◌, ℕ, length}
+use Rattle.std.proofs.Common.{◌≡◌}
 use Rattle.cj_board.specs.Seats.{board_id, pass_board}
 use Rattle.cj_state.specs.Proving.Seated.{AreAt, HasHeard, KnowsPositions}
 use Rattle.cj_state.specs.Seats.{states_of}

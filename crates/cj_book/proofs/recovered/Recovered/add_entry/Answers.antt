@@ -1,22 +1,28 @@
-use Rattle.std.proofs.Common.{◌≡◌, ◌+◌, [], ◌∷◌, ◌++◌, List, length, ap, ◌∙◌, arith}
+use Rattle.std.proofs.Common.{◌≡◌, ◌+◌, [], ◌∷◌, ◌++◌, List, length, refl, ap, sym, subst, ◌∙◌, arith}
+use Rattle.cj_model.specs.declared.request.Entry.{Entry}
+use Rattle.cj_cluster.specs.declared.event.Event.TheVariants.{Sched}
 use Rattle.cj_cluster.specs.History.Histories.{log}
+use Rattle.cj_cluster.specs.History.Legality.{IsLegal}
 use Rattle.cj_place.specs.Layouts.{placement_of}
-use Rattle.cj_book.specs.declared.transactions.OpenTransaction.{OpenTransaction}
-use Rattle.cj_book.specs.Lists.{transactions_after, transactions_followed}
-use Rattle.cj_book.proofs.Begun.{begun_then}
+use Rattle.cj_book.specs.declared.recovered.Recovered.{Recovered}
+use Rattle.cj_book.specs.Found.{IsRecovered}
+use Rattle.cj_book.specs.Lists.{transactions_after}
+use Rattle.cj_book.proofs.Begun.{followed}
 use Rattle.cj_book.proofs.Recovering.{recovers_sched}
 use Rattle.cj_book.proofs.recovered.Recovered.add_entry.Goals as goal
 
 pub returns : goal.returns
-returns c = λ h legal fit there k.
-    let e = c.args.e.now in
+returns c = λ h legal k.
+    let p = placement_of c.args.placement.now in
     let old = c.args.self.now in
-    let ts = old.transactions in
+    let e = c.entry-e.result.now in
+    let is : e ≡ c.args.boxed = c.entry-e.ensures in
     let hosts = c.concerned-hosts.result in
-    let as_many : length old.scheduled.items ≡ length (log h) = k.placed.count in
+    let as_many : length old.entries.items ≡ length (log h) = ap length k.entries in
     let count : c.len.result ≡ length (log h) = omega arith in
-    let places : c.push.new.self.items ≡ old.scheduled.items ++ length h ∷ [] = c.in_ok-push.ensures.items ∙ ap (λ n. old.scheduled.items ++ n ∷ []) there in
-    let transactions : c.follow.new.self ≡ transactions_after ts (length (log h) + 1) hosts e e.act =
-    c.follow.ensures ∙ (ap (λ (begun : List OpenTransaction). transactions_followed begun hosts e e.act) c.in_ok-prepare.ensures.ok
-    ∙ (begun_then ts (c.len.result + 1) hosts e e.act ∙ ap (λ n. transactions_after ts (n + 1) hosts e e.act) count)) in
-    rw (places, transactions, c.max-self.ensures) (recovers_sched (placement_of c.args.placement.now) h old.scheduled.items ts old.marker_names old.greatest k e hosts legal fit (c.concerned-hosts.ensures (log h) k.transactions fit))
+    let entries : c.push.new.self.items ≡ old.entries.items ++ e ∷ [] = c.in_ok-push.ensures.items ∙ ap (λ (x : Entry). old.entries.items ++ x ∷ []) (sym is) in
+    let transactions : c.follow.new.self ≡ transactions_after old.transactions (length (log h) + 1) hosts e e.act =
+    followed old.transactions c.prepare.new.self c.follow.new.self c.len.result (length (log h)) hosts e count c.in_ok-prepare.ensures.ok c.follow.ensures in
+    let new : Recovered = record { entries = c.push.new.self; transactions = c.follow.new.self; marker_names = old.marker_names; greatest = c.max-self.result } in
+    subst (λ (x : Entry). IsRecovered p (h ++ Sched x ∷ []) new) is
+    (recovers_sched p h old new k e hosts (subst (λ (x : Entry). IsLegal (h ++ Sched x ∷ [])) (sym is) legal) (λ fit. c.concerned-hosts.ensures (log h) k.transactions fit) entries transactions refl c.max-self.ensures)

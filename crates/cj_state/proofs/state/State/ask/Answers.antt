@@ -1,6 +1,6 @@
 use Rattle.std.specs.Prelude.{option_copied}
-use Rattle.std.proofs.Common.{◌≡◌, ◌<◌, ℕ, true, false, cond, List, length, map, get_or, set, Ok, Err, Some, Option, ap, sym, ◌∙◌, subst, refl}
-use Rattle.std.proofs.lemmas.List.{length-map, get_or_default, set-get_or}
+use Rattle.std.proofs.Common.{◌≡◌, ◌<◌, ℕ, true, false, cond, List, length, get_or, set, Ok, Err, Some, Option, ap, sym, ◌∙◌, subst, refl}
+use Rattle.std.proofs.lemmas.List.{get_or_default, set-get_or}
 use Rattle.cj_outside.specs.Causes.{next}
 use Rattle.cj_model.specs.Cluster.Accounts.{login_of}
 use Rattle.cj_model.specs.Cluster.Placements.{hosts_all}
@@ -8,7 +8,6 @@ use Rattle.cj_cluster.specs.Moves.Cores.{session_at}
 use Rattle.cj_cluster.specs.Moves.Moves.{read_number}
 use Rattle.cj_book.specs.Books.{BookState}
 use Rattle.cj_replica.specs.declared.replica.CellReadError.{CellReadError}
-use Rattle.cj_replica.specs.declared.replica.CellReadError.TheVariants as read_errors
 use Rattle.cj_replica.specs.Cells.{CellState, is_asked, LogsInForRead}
 use Rattle.cj_place.specs.Layouts.{placement_of}
 use Rattle.cj_state.specs.Worlds.{WorldState, accounts_of, core_of, log_view, with_cache, with_log, world_of}
@@ -25,35 +24,33 @@ use Rattle.cj_state.proofs.Dumped.{dumps_event}
 use Rattle.cj_state.proofs.Fresh.{fresh_event}
 use Rattle.cj_cluster.specs.declared.event.Event.TheVariants.{ReadFailed}
 use Rattle.cj_state.specs.Seats.{states_of}
-use Rattle.cj_model.specs.declared.answer.Asked.{Asked}
 use Rattle.cj_state.specs.CalledLogins.{CallsUnder}
 use Rattle.cj_state.proofs.ChangedCell.{inside, inside_states}
 use Rattle.cj_state.proofs.HeardOf.{ready_heard}
 use Rattle.cj_board.specs.Seats.{board_id, pass_board}
-use Rattle.cj_state.proofs.SeatsKept.{at_book, ready_noted, seats_same}
+use Rattle.cj_state.proofs.SeatsKept.{at_book, ready_noted}
 use Rattle.cj_state.proofs.state.State.ask.Goals as goal
 
-pub invariant_of-self-in-Ok : goal.invariant_of-self-in-Ok
-invariant_of-self-in-Ok g c =
+pub invariant_of-self : goal.invariant_of-self
+invariant_of-self g c =
     let w = c.self.inside in
     let ch = c.in-Ok.ensures.read in
-    let is_spared = c.read_at.ensures.heard.state ∙ c.in_ok-take_spare.ensures.ok in
+    let same_book = c.read_at.ensures.heard.state in
     let lt = inside_states (length w.book.state.layout.names) c.args.b (states_of w.cells.items) c.self.invariant.0.world.sound.cells (subst (λ (x : WorldState). c.args.b < x.core.placement.backends) (sym c.self.view_is) c.requires.within) in
     let kept = kept_asked g.B.Backend.TELLS w.accounts w.book.state.layout w.book.state.history (states_of w.cells.items) w.failed w.starved w.sessions w.book.state.greatest w.dumps w.book.state.sessions w.first_outcome c.self.invariant.0 c.args.b lt ch.before ch.value ch.after ch.how.same in
-    let asked = subst (λ (k : BookState g.row.S.Denot). KeptFresh g.B.Backend.TELLS (world_of w.accounts k.layout k.history (set (states_of w.cells.items) c.args.b ch.after) w.failed w.starved w.sessions k.greatest w.dumps) k.sessions w.first_outcome k.cache w.dumps) (sym is_spared) (kept, c.self.invariant.1, c.self.invariant.2) in
+    let asked = subst (λ (k : BookState g.row.S.Denot). KeptFresh g.B.Backend.TELLS (world_of w.accounts k.layout k.history (set (states_of w.cells.items) c.args.b ch.after) w.failed w.starved w.sessions k.greatest w.dumps) k.sessions w.first_outcome k.cache w.dumps) (sym same_book) (kept, c.self.invariant.1, c.self.invariant.2) in
     let q = subst (λ (xs : List CellState). KeptFresh g.B.Backend.TELLS (world_of w.accounts c.read_at.new.book.state.layout c.read_at.new.book.state.history xs w.failed w.starved w.sessions c.read_at.new.book.state.greatest w.dumps) c.read_at.new.book.state.sessions w.first_outcome c.read_at.new.book.state.cache w.dumps) (sym ch.set) asked in
-    let spared = seats_same (board_id w.board) (pass_board w.pass) w.book c.take_spare.new.self w.cells.items w.failed c.self.invariant.3.0 c.self.invariant.3.1 c.take_spare.ensures.seat in
-    (q.0, q.1, q.2, (c.read_at.ensures.at, ready_heard c.take_spare.new.self c.read_at.new.book w.failed spared.1 c.read_at.ensures.heard))
+    (q.0, q.1, q.2, (c.read_at.ensures.at, ready_heard w.book c.read_at.new.book w.failed c.self.invariant.3.1 c.read_at.ensures.heard))
 
 pub returns-in-Ok-clause-core : goal.returns-in-Ok-clause-core
 returns-in-Ok-clause-core g c =
     let w = c.self.inside in
     let ch = c.in-Ok.ensures.read in
-    let is_spared = c.read_at.ensures.heard.state ∙ c.in_ok-take_spare.ensures.ok in
+    let same_book = c.read_at.ensures.heard.state in
     let lt = inside_states (length w.book.state.layout.names) c.args.b (states_of w.cells.items) c.self.invariant.0.world.sound.cells (subst (λ (x : WorldState). c.args.b < x.core.placement.backends) (sym c.self.view_is) c.requires.within) in
     let same = same_core g.B.Backend.TELLS w.accounts w.book.state.layout w.book.state.history (states_of w.cells.items) w.failed w.starved w.sessions w.book.state.greatest w.dumps w.book.state.sessions w.first_outcome c.self.invariant.0 c.args.b lt ch.before ch.value ch.after ch.how.same in
     let core : core_of c.read_at.new.book.state.layout c.read_at.new.book.state.history (set (states_of w.cells.items) c.args.b ch.after) w.failed w.starved w.sessions c.read_at.new.book.state.greatest w.dumps ≡ c.args.self.now.core =
-    ap (λ (k : BookState g.row.S.Denot). core_of k.layout k.history (set (states_of w.cells.items) c.args.b ch.after) w.failed w.starved w.sessions k.greatest w.dumps) is_spared ∙ (same ∙ ap (λ (x : WorldState). x.core) c.self.view_is)
+    ap (λ (k : BookState g.row.S.Denot). core_of k.layout k.history (set (states_of w.cells.items) c.args.b ch.after) w.failed w.starved w.sessions k.greatest w.dumps) same_book ∙ (same ∙ ap (λ (x : WorldState). x.core) c.self.view_is)
     in
     ap (λ (xs : List CellState). core_of c.read_at.new.book.state.layout c.read_at.new.book.state.history xs w.failed w.starved w.sessions c.read_at.new.book.state.greatest w.dumps) ch.set ∙ core
 
@@ -80,10 +77,10 @@ pub invariant_of-self-in-Err : goal.invariant_of-self-in-Err
 invariant_of-self-in-Err g c =
     let w = c.self.inside in
     let ch = c.in-Err.ensures.read in
-    let is_spared = c.read_at.ensures.heard.state ∙ c.in_ok-take_spare.ensures.ok in
+    let same_book = c.read_at.ensures.heard.state in
     let lt = inside_states (length w.book.state.layout.names) c.args.b (states_of w.cells.items) c.self.invariant.0.world.sound.cells (subst (λ (x : WorldState). c.args.b < x.core.placement.backends) (sym c.self.view_is) c.requires.within) in
     let kept = kept_asked g.B.Backend.TELLS w.accounts w.book.state.layout w.book.state.history (states_of w.cells.items) w.failed w.starved w.sessions w.book.state.greatest w.dumps w.book.state.sessions w.first_outcome c.self.invariant.0 c.args.b lt ch.before ch.value ch.after ch.how.same in
-    let asked = subst (λ (k : BookState g.row.S.Denot). KeptFresh g.B.Backend.TELLS (world_of w.accounts k.layout k.history (set (states_of w.cells.items) c.args.b ch.after) w.failed w.starved w.sessions k.greatest w.dumps) k.sessions w.first_outcome k.cache w.dumps) (sym is_spared) (kept, c.self.invariant.1, c.self.invariant.2) in
+    let asked = subst (λ (k : BookState g.row.S.Denot). KeptFresh g.B.Backend.TELLS (world_of w.accounts k.layout k.history (set (states_of w.cells.items) c.args.b ch.after) w.failed w.starved w.sessions k.greatest w.dumps) k.sessions w.first_outcome k.cache w.dumps) (sym same_book) (kept, c.self.invariant.1, c.self.invariant.2) in
     let q =
     noting (λ (k : BookState g.row.S.Denot). KeptFresh g.B.Backend.TELLS (world_of w.accounts k.layout k.history (set (states_of w.cells.items) c.args.b ch.after) w.failed w.starved w.sessions k.greatest w.dumps) k.sessions w.first_outcome k.cache w.dumps)
     c.read_at.new.book.state c.noted.new.book.state c.args.s c.read_number-number.result c.args.b c.in-Err.error c.noted.result c.noted.ensures.notes asked
@@ -94,19 +91,18 @@ invariant_of-self-in-Err g c =
     ))
     in
     let whole = subst (λ (xs : List CellState). KeptFresh g.B.Backend.TELLS (world_of w.accounts c.noted.new.book.state.layout c.noted.new.book.state.history xs w.failed w.starved w.sessions c.noted.new.book.state.greatest w.dumps) c.noted.new.book.state.sessions w.first_outcome c.noted.new.book.state.cache w.dumps) (sym ch.set) q in
-    let spared = seats_same (board_id w.board) (pass_board w.pass) w.book c.take_spare.new.self w.cells.items w.failed c.self.invariant.3.0 c.self.invariant.3.1 c.take_spare.ensures.seat in
-    let ready = ready_noted c.take_spare.new.self c.read_at.new.book c.noted.new.book w.failed c.args.b c.in-Err.error spared.1 c.read_at.ensures.heard (λ is. c.in-Err.ensures.token (ap (λ (d : CellReadError). Err d) is)) c.noted.ensures.given c.noted.ensures.tokens in
-    (whole.0, whole.1, whole.2, (at_book (board_id w.board) (pass_board c.read_at.new.pass) c.read_at.new.book c.noted.new.book c.read_at.new.cells.items w.failed c.read_at.ensures.at (ready_heard c.take_spare.new.self c.read_at.new.book w.failed spared.1 c.read_at.ensures.heard) c.noted.ensures.at, ready))
+    let ready = ready_noted w.book c.read_at.new.book c.noted.new.book w.failed c.args.b c.in-Err.error c.self.invariant.3.1 c.read_at.ensures.heard (λ is. c.in-Err.ensures.token (ap (λ (d : CellReadError). Err d) is)) c.noted.ensures.given c.noted.ensures.tokens in
+    (whole.0, whole.1, whole.2, (at_book (board_id w.board) (pass_board c.read_at.new.pass) c.read_at.new.book c.noted.new.book c.read_at.new.cells.items w.failed c.read_at.ensures.at (ready_heard w.book c.read_at.new.book w.failed c.self.invariant.3.1 c.read_at.ensures.heard) c.noted.ensures.at, ready))
 
 pub returns-in-Err-clause-core : goal.returns-in-Err-clause-core
 returns-in-Err-clause-core g c =
     let w = c.self.inside in
     let ch = c.in-Err.ensures.read in
-    let is_spared = c.read_at.ensures.heard.state ∙ c.in_ok-take_spare.ensures.ok in
+    let same_book = c.read_at.ensures.heard.state in
     let lt = inside_states (length w.book.state.layout.names) c.args.b (states_of w.cells.items) c.self.invariant.0.world.sound.cells (subst (λ (x : WorldState). c.args.b < x.core.placement.backends) (sym c.self.view_is) c.requires.within) in
     let same = same_core g.B.Backend.TELLS w.accounts w.book.state.layout w.book.state.history (states_of w.cells.items) w.failed w.starved w.sessions w.book.state.greatest w.dumps w.book.state.sessions w.first_outcome c.self.invariant.0 c.args.b lt ch.before ch.value ch.after ch.how.same in
     let core : core_of c.read_at.new.book.state.layout c.read_at.new.book.state.history (set (states_of w.cells.items) c.args.b ch.after) w.failed w.starved w.sessions c.read_at.new.book.state.greatest w.dumps ≡ c.args.self.now.core =
-    ap (λ (k : BookState g.row.S.Denot). core_of k.layout k.history (set (states_of w.cells.items) c.args.b ch.after) w.failed w.starved w.sessions k.greatest w.dumps) is_spared ∙ (same ∙ ap (λ (x : WorldState). x.core) c.self.view_is)
+    ap (λ (k : BookState g.row.S.Denot). core_of k.layout k.history (set (states_of w.cells.items) c.args.b ch.after) w.failed w.starved w.sessions k.greatest w.dumps) same_book ∙ (same ∙ ap (λ (x : WorldState). x.core) c.self.view_is)
     in
     let number = c.read_number-number.ensures ∙ ap (λ (k : Core). read_number (session_at k c.args.s)) (sym core) in
     ap (λ (xs : List CellState). core_of c.noted.new.book.state.layout c.noted.new.book.state.history xs w.failed w.starved w.sessions c.noted.new.book.state.greatest w.dumps) ch.set
@@ -117,12 +113,12 @@ pub returns-in-Err-clause-asks : goal.returns-in-Err-clause-asks
 returns-in-Err-clause-asks g c =
     let w = c.self.inside in
     let ch = c.in-Err.ensures.read in
-    let is_spared = c.read_at.ensures.heard.state ∙ c.in_ok-take_spare.ensures.ok in
+    let same_book = c.read_at.ensures.heard.state in
     let lt = inside_states (length w.book.state.layout.names) c.args.b (states_of w.cells.items) c.self.invariant.0.world.sound.cells (subst (λ (x : WorldState). c.args.b < x.core.placement.backends) (sym c.self.view_is) c.requires.within) in
     let least = subst (λ (x : WorldState). c.least-least.result ≡ (session_at x.core c.args.s).least) (sym c.self.view_is) c.least-least.ensures in
     subst (λ (x : WorldState). Asks g.B.Backend.TELLS x.core c.args.s c.args.b c.args.tx c.args.select.now (Err c.noted.result)) c.self.view_is
     (errs g.B.Backend.TELLS w.accounts w.book.state.layout w.book.state.history (states_of w.cells.items) w.failed w.starved w.sessions w.book.state.greatest w.dumps w.book.state.sessions w.first_outcome c.self.invariant.0 c.args.b lt ch.before ch.value c.args.s c.args.tx c.args.select.now c.least-least.result least c.read_at.new.book.state c.noted.new.book.state c.read_number-number.result c.in-Err.error c.noted.result
-    (ap (λ (k : BookState g.row.S.Denot). k.history) is_spared) c.noted.ensures.notes ch.how.out ch.how.behind)
+    (ap (λ (k : BookState g.row.S.Denot). k.history) same_book) c.noted.ensures.notes ch.how.out ch.how.behind)
 
 pub returns-in-Err-clause-counts : goal.returns-in-Err-clause-counts
 returns-in-Err-clause-counts g c =
@@ -159,13 +155,13 @@ pub returns-in-Err-clause-want : goal.returns-in-Err-clause-want
 returns-in-Err-clause-want g c want =
     let w = c.self.inside in
     let ch = c.in-Err.ensures.read in
-    let is_spared = c.read_at.ensures.heard.state ∙ c.in_ok-take_spare.ensures.ok in
+    let same_book = c.read_at.ensures.heard.state in
     let lt = inside_states (length w.book.state.layout.names) c.args.b (states_of w.cells.items) c.self.invariant.0.world.sound.cells (subst (λ (x : WorldState). c.args.b < x.core.placement.backends) (sym c.self.view_is) c.requires.within) in
     let starved = noted_want c.read_at.new.book.state c.noted.new.book.state c.args.s c.read_number-number.result c.args.b c.in-Err.error c.noted.result c.noted.ensures.notes (cc want) in
     let cell : ch.after ≡ ch.before = wanted ch.before ch.after (Err c.in-Err.error) (ap (λ (d : CellReadError). Err d) starved.0) ch.how.same ch.how.cause ch.how.asks ch.how.arming c.mapped-login.result.now ch.how.login in
     let there : ch.before ≡ get_or (states_of w.cells.items) c.args.b ch.before = ch.value in
     let cells : set (states_of w.cells.items) c.args.b ch.after ≡ (states_of w.cells.items) = ap (set (states_of w.cells.items) c.args.b) (cell ∙ there) ∙ set-get_or (states_of w.cells.items) c.args.b ch.before in
-    let book : c.noted.new.book.state ≡ record w.book.state { has_spare = true } = starved.1 ∙ is_spared in
+    let book : c.noted.new.book.state ≡ w.book.state = starved.1 ∙ same_book in
     ap (λ (xs : List CellState). with_cache (with_log (world_of w.accounts c.noted.new.book.state.layout c.noted.new.book.state.history xs w.failed w.starved w.sessions c.noted.new.book.state.greatest w.dumps) (log_view g.S.Store.faults g.S.Store.held c.noted.new.book.state.recovery_log)) c.noted.new.book.state.cache) ch.set
     ∙ (ap (λ (k : BookState g.row.S.Denot). with_cache (with_log (world_of w.accounts k.layout k.history (set (states_of w.cells.items) c.args.b ch.after) w.failed w.starved w.sessions k.greatest w.dumps) (log_view g.S.Store.faults g.S.Store.held k.recovery_log)) k.cache) book
     ∙ (ap (λ (xs : List CellState). with_cache (with_log (world_of w.accounts w.book.state.layout w.book.state.history xs w.failed w.starved w.sessions w.book.state.greatest w.dumps) (log_view g.S.Store.faults g.S.Store.held w.book.state.recovery_log)) w.book.state.cache) cells ∙ c.self.view_is))
@@ -206,9 +202,7 @@ read_at-requires-clause-within g c =
     inside (length w.book.state.layout.names) c.args.b w.cells.items c.self.invariant.0.world.sound.cells (subst (λ (x : WorldState). c.args.b < x.core.placement.backends) (sym c.self.view_is) c.requires.within)
 
 pub read_at-requires-clause-at : goal.read_at-requires-clause-at
-read_at-requires-clause-at g c =
-    let w = c.self.inside in
-    (seats_same (board_id w.board) (pass_board w.pass) w.book c.take_spare.new.self w.cells.items w.failed c.self.invariant.3.0 c.self.invariant.3.1 c.take_spare.ensures.seat).0
+read_at-requires-clause-at g c = c.self.invariant.3.0
 
 pub read_at-requires-clause-numbered : goal.read_at-requires-clause-numbered
 read_at-requires-clause-numbered g c = λ b d lt. (c.self.invariant.0.world.cells b d lt).number

@@ -13,7 +13,6 @@ use Rattle.cj_cluster.proofs.Now.{can_load}
 use Rattle.cj_dump.specs.declared.dump.Dump.{Dump}
 use Rattle.cj_dump.specs.Coverage.{cut}
 use Rattle.cj_dump.specs.Dumps.{IsDump}
-use Rattle.cj_book.specs.Books.{BookState}
 use Rattle.cj_place.specs.Layouts.{Layout, placement_of}
 use Rattle.cj_shelf.specs.MemoryShelves.{taken_of}
 use Rattle.cj_shelf.specs.Shelves.{first_of}
@@ -54,7 +53,7 @@ returns-clause-held g c on =
     let covered : hosts_beyond (placement_of w.book.state.layout) c.args.b d.source ≡ false = subst (λ (t : TakenDump). hosts_beyond (placement_of w.book.state.layout) c.args.b t.source ≡ false) same can.covered in
     let sound : IsSoundDump (length w.book.state.layout.names) w.book.state.history (taken_of d) = taken_all (IsSoundDump (length w.book.state.layout.names) w.book.state.history) (map taken_of w.dumps) c.args.name.now (taken_of d) c.self.invariant.0.world.sound.dumps found in
     let is : IsDumpOf tells (placement_of w.book.state.layout) (log w.book.state.history) d = first_all (IsDumpOf tells (placement_of w.book.state.layout) (log w.book.state.history)) c.args.name.now w.dumps c.self.invariant.2 d there in
-    let cut_is : c.cut.result ≡ cut d w.book.state.layout c.args.b = c.cut.ensures ∙ ap (λ (l : Layout). cut d l c.args.b) (c.placement.ensures ∙ ap (λ (k : BookState g.row.S.Denot). k.layout) c.ledger.ensures) in
+    let cut_is : c.cut.result ≡ cut d w.book.state.layout c.args.b = c.cut.ensures ∙ ap (λ (l : Layout). cut d l c.args.b) c.placement.ensures in
     subst (λ (x : WorldState). c.cut.result.db ≡ part x.core.placement c.args.b (database_after (log x.core.history) c.cut.result.position)) c.self.view_is
     (subst (λ (x : Dump). x.db ≡ part (placement_of w.book.state.layout) c.args.b (database_after (log w.book.state.history) x.position)) (sym cut_is)
     (cut_holds tells w.book.state.layout (log w.book.state.history) d c.args.b is covered sound.source on))

@@ -1,8 +1,7 @@
-use Rattle.std.proofs.Common.{◌≡◌, ◌<◌, ◌++◌, ◌∷◌, [], ℕ, List, Some, true, false, None, length, map, ap, sym, ◌∙◌, subst, refl}
+use Rattle.std.proofs.Common.{◌≡◌, ◌<◌, ◌++◌, ◌∷◌, [], ℕ, List, Some, true, false, None, length, ap, sym, ◌∙◌, subst, refl}
 use Rattle.std.proofs.lemmas.List.{length-map}
-use Rattle.cj_model.specs.Cluster.Masks.{in_mask}
 use Rattle.cj_cluster.specs.declared.event.Event.TheVariants.{Ended}
-use Rattle.cj_cluster.specs.History.Histories.{is_enabled, is_idle, log}
+use Rattle.cj_cluster.specs.History.Histories.{is_idle, log}
 use Rattle.cj_cluster.specs.Moves.Moves.{first_lagging, is_waiting}
 use Rattle.cj_cluster.proofs.Pushed.{free-ended, log-same}
 use Rattle.cj_book.specs.Books.{BookState, with_event}
@@ -66,7 +65,7 @@ invariant_of-self g c =
     let waiting = subst (λ (x : WorldState). is_waiting x.core c.args.s ≡ true) (sym c.self.view_is) c.requires.waits in
     let e = Ended w.failed w.starved in
     let ended : c.end.new.self.state ≡ with_event w.book.state e = c.end.ensures.state ∙ ap (λ (k : BookState g.row.S.Denot). with_event k e) c.hear_all.ensures.heard.state in
-    let number = c.length-number.ensures ∙ ap (λ (k : BookState g.row.S.Denot). length (log k.history)) c.ledger.ensures in
+    let number = c.length-number.ensures in
     let ready = ready_heard w.book c.hear_all.new.book w.failed c.self.invariant.3.1 c.hear_all.ensures.heard in
     rw (ended, c.hear_all.ensures.cells, c.answer.ensures, number) (
       kept_answered g.B.Backend.TELLS w.accounts w.book.state.layout w.book.state.history (states_of w.cells.items) w.failed w.starved w.sessions w.book.state.greatest w.dumps w.book.state.sessions w.first_outcome c.self.invariant.0 c.args.s waiting open_now none,

@@ -1,7 +1,6 @@
-use Rattle.std.proofs.Common.{◌≡◌, ◌<◌, Some, map, ap, sym, ◌∙◌, subst, length}
+use Rattle.std.proofs.Common.{◌≡◌, ◌<◌, Some, map, sym, subst, length}
 use Rattle.cj_cluster.specs.Moves.Cores.{find_dump}
 use Rattle.cj_cluster.specs.Proving.Invariants.{IsSoundDump}
-use Rattle.cj_book.specs.Books.{BookState}
 use Rattle.cj_place.specs.Layouts.{Layout}
 use Rattle.cj_shelf.specs.MemoryShelves.{taken_of}
 use Rattle.cj_state.specs.Worlds.{WorldState}
@@ -14,4 +13,4 @@ hosts_beyond-requires-clause-other g c =
     let sound = c.self.invariant.0.world.sound in
     let found = subst (λ (x : WorldState). find_dump x.core.dumps c.requires.taken.0 ≡ Some c.args.dump.now) (sym c.self.view_is) c.requires.taken.1 in
     let taken : IsSoundDump (length w.book.state.layout.names) w.book.state.history c.args.dump.now = taken_all (IsSoundDump (length w.book.state.layout.names) w.book.state.history) (map taken_of w.dumps) c.requires.taken.0 c.args.dump.now sound.dumps found in
-    subst (λ (l : Layout). c.args.dump.now.source < length l.names) (sym (c.placement.ensures ∙ ap (λ (k : BookState g.row.S.Denot). k.layout) c.ledger.ensures)) taken.source
+    subst (λ (l : Layout). c.args.dump.now.source < length l.names) (sym c.placement.ensures) taken.source

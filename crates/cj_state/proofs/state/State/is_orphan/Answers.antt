@@ -1,6 +1,4 @@
 use Rattle.std.proofs.Common.{ap, ◌∙◌}
-use Rattle.cj_book.specs.Books as book
-use Rattle.cj_book.specs.Books.{BookState}
 use Rattle.cj_cluster.specs.Moves.Moves.{is_orphan}
 use Rattle.cj_state.specs.Worlds.{WorldState}
 use Rattle.cj_state.proofs.OpenNumbers.{orphan_is}
@@ -11,4 +9,4 @@ pub returns : goal.returns
 returns g c =
     let w = c.self.inside in
     c.is_orphan.ensures
-    ∙ (ap (λ (k : BookState g.row.S.Denot). book.is_orphan k c.args.tx) c.ledger.ensures ∙ orphan_is w.book.state (states_of w.cells.items) w.failed w.starved w.sessions w.dumps c.self.invariant.0.numbers_are c.args.tx ∙ ap (λ (x : WorldState). is_orphan x.core c.args.tx) c.self.view_is)
+    ∙ (orphan_is w.book.state (states_of w.cells.items) w.failed w.starved w.sessions w.dumps c.self.invariant.0.numbers_are c.args.tx ∙ ap (λ (x : WorldState). is_orphan x.core c.args.tx) c.self.view_is)

@@ -27,7 +27,7 @@ invariant_of-self-2 g c =
     let entries : List Entry = log w.book.state.history in
     let tells = g.B.Backend.TELLS in
     let end = c.length-end.result in
-    let here : end ≡ length entries = c.length-end.ensures ∙ ap (λ (k : BookState g.row.S.Denot). length (log k.history)) c.ledger.ensures in
+    let here : end ≡ length entries = c.length-end.ensures in
     let none : NoneTouches entries end (length entries) c.args.select = λ n low high. absurd (omega (arith, here, low, high)) in
     let yes : c.keep.result ≡ Ok true = c.in_ok-keep.was ∙ ap (λ (b : Bool). Ok b) (c.in_ok-keep.ensures.untouched.1 none) in
     let entry : Cached = record { select = c.args.select; answer = c.args.answer; at = end } in

@@ -3,7 +3,6 @@ use Rattle.cj_model.specs.Database.Tables.{name_cmp, put_by}
 use Rattle.cj_model.specs.Sql.Names.{is_name}
 use Rattle.cj_cluster.specs.Moves.Cores.{position_at}
 use Rattle.cj_dump.specs.declared.dump.Dump.{Dump}
-use Rattle.cj_book.specs.Books.{BookState}
 use Rattle.cj_place.specs.Layouts.{Layout, tables_at}
 use Rattle.cj_state.specs.Worlds.{WorldState, core_of}
 use Rattle.cj_state.specs.Held.{IsHeld}
@@ -16,7 +15,7 @@ pub add-requires : goal.add-requires
 add-requires g c =
     let layout : Layout = c.placement.result.now in
     let replicates : (full : c.all.result ≡ true) → layout.full ≡ true =
-    λ full. ap (λ (l : Layout). l.full) c.placement.ensures ∙ (ap (λ (k : BookState g.row.S.Denot). k.layout.full) (c.ledger.ensures ∙ sym c.ledger-2.ensures) ∙ (sym (ap (λ (l : Layout). l.full) c.placement-2.ensures) ∙ (sym c.all.ensures ∙ full)))
+    λ full. ap (λ (l : Layout). l.full) c.placement.ensures ∙ (sym (ap (λ (l : Layout). l.full) c.placement-2.ensures) ∙ (sym c.all.ensures ∙ full))
     in
     record {
       name = λ is. name_some c.args.name.now c.requires.named (sym c.copy.ensures ∙ is);

@@ -1,6 +1,5 @@
 use Rattle.std.proofs.Common.{◌≡◌, true, Some, ap, sym, ◌∙◌, subst}
-use Rattle.cj_book.specs.Books.{BookState, has_session}
-use Rattle.cj_cluster.specs.History.Histories.{log, tx_of}
+use Rattle.cj_cluster.specs.History.Histories.{log}
 use Rattle.cj_cluster.specs.History.Legality.{IsFitEntry}
 use Rattle.cj_cluster.specs.Moves.Cores.{find_session}
 use Rattle.cj_cluster.specs.Moves.Moves.{is_open, open_tx, tx_of_act}
@@ -14,7 +13,7 @@ use Rattle.cj_state.proofs.state.State.next_entry.Goals as goal
 pub open_tx-requires : goal.open_tx-requires
 open_tx-requires g c =
     let w = c.self.inside in
-    ap (λ (k : BookState g.row.S.Denot). has_session k c.args.s) c.ledger.ensures ∙ (open_is w.book.state (states_of w.cells.items) w.failed w.starved w.sessions w.dumps c.self.invariant.0.numbers_are c.args.s ∙ subst (λ (x : WorldState). is_open x.core c.args.s ≡ true) (sym c.self.view_is) c.requires.here)
+    open_is w.book.state (states_of w.cells.items) w.failed w.starved w.sessions w.dumps c.self.invariant.0.numbers_are c.args.s ∙ subst (λ (x : WorldState). is_open x.core c.args.s ≡ true) (sym c.self.view_is) c.requires.here
 
 pub returns-clause-fits : goal.returns-clause-fits
 returns-clause-fits g c =
@@ -22,7 +21,7 @@ returns-clause-fits g c =
     let sound = subst (λ (x : WorldState). CoreInvariant x.core) c.self.view_is c.self.invariant.0.world.sound in
     let found = subst (λ (x : WorldState). find_session x.core.sessions c.args.s ≡ Some c.in-Some.session.now) c.self.view_is (sym c.in-Some.ensures) in
     let tx : c.tx_of_act.result ≡ tx_of_act (open_tx z c.args.s) c.args.act =
-    c.tx_of_act.ensures ∙ ap (λ t. tx_of_act t c.args.act) (c.open_tx.ensures ∙ (ap (λ (k : BookState g.row.S.Denot). tx_of (log k.history) c.args.s) c.ledger.ensures ∙ ap (λ (x : WorldState). open_tx x.core c.args.s) c.self.view_is))
+    c.tx_of_act.ensures ∙ ap (λ t. tx_of_act t c.args.act) (c.open_tx.ensures ∙ ap (λ (x : WorldState). open_tx x.core c.args.s) c.self.view_is)
     in
     subst (IsFitEntry (log z.history)) (sym (next_is z c.args.s c.args.act c.in-Some.session.now c.tx_of_act.result c.in_ok-copy-in-Some.field-0 found tx c.in_ok-copy-in-Some.ensures))
     (next_fits z c.args.s c.args.act sound c.requires.written c.requires.here c.requires.counts c.requires.allowed)

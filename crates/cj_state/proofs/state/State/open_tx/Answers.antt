@@ -1,5 +1,4 @@
-use Rattle.std.proofs.Common.{◌≡◌, true, ap, sym, ◌∙◌, subst}
-use Rattle.cj_book.specs.Books.{BookState, has_session}
+use Rattle.std.proofs.Common.{◌≡◌, true, sym, ◌∙◌, subst}
 use Rattle.cj_cluster.specs.Moves.Moves.{is_open}
 use Rattle.cj_state.specs.Worlds.{WorldState}
 use Rattle.cj_state.proofs.OpenNumbers.{open_is}
@@ -9,4 +8,4 @@ use Rattle.cj_state.proofs.state.State.open_tx.Goals as goal
 pub open_tx-requires : goal.open_tx-requires
 open_tx-requires g c =
     let w = c.self.inside in
-    ap (λ (k : BookState g.row.S.Denot). has_session k c.args.s) c.ledger.ensures ∙ (open_is w.book.state (states_of w.cells.items) w.failed w.starved w.sessions w.dumps c.self.invariant.0.numbers_are c.args.s ∙ subst (λ (x : WorldState). is_open x.core c.args.s ≡ true) (sym c.self.view_is) c.requires)
+    open_is w.book.state (states_of w.cells.items) w.failed w.starved w.sessions w.dumps c.self.invariant.0.numbers_are c.args.s ∙ subst (λ (x : WorldState). is_open x.core c.args.s ≡ true) (sym c.self.view_is) c.requires

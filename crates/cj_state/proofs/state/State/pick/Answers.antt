@@ -1,4 +1,4 @@
-use Rattle.std.proofs.Common.{◌≡◌, sym, ◌∙◌, subst}
+use Rattle.std.proofs.Common.{sym, subst}
 use Rattle.cj_board.specs.Seats.{board_id, pass_board}
 use Rattle.cj_book.specs.Books.{BookState}
 use Rattle.cj_book.proofs.Serving.{picked_below}

@@ -1,7 +1,4 @@
-use Rattle.std.proofs.Common.{◌≡◌, ◌≢◌, ◌++◌, ◌∷◌, [], None, bit_and, ap, sym, ◌∙◌, subst, rules}
-use Rattle.cj_book.specs.Books.{BookState, is_target}
-use Rattle.cj_cluster.specs.declared.event.Event.TheVariants.{Ended}
-use Rattle.cj_cluster.specs.History.Histories.{entry_in_progress, is_enabled}
+use Rattle.std.proofs.Common.{◌≡◌, ◌≢◌, None, bit_and, sym, subst, rules}
 use Rattle.cj_model.specs.declared.answer.Outcome.TheVariants as outcome
 use Rattle.cj_model.specs.declared.answer.Reply.TheVariants as reply
 use Rattle.cj_cluster.specs.Moves.Moves.{first_lagging}
@@ -17,7 +14,7 @@ returns-then-targets-left-eq0 g c =
     let w = c.self.inside in
     subst (λ (x : WorldState). AnswersOpen g.B.Backend.TELLS x.core (reply.Refused c.unfinished.result)) c.self.view_is
     (λ e is.
-    unfinished g.B.Backend.TELLS w.accounts w.book.state.layout w.book.state.history (states_of w.cells.items) w.failed w.starved w.sessions w.book.state.greatest w.dumps w.book.state.sessions w.first_outcome c.self.invariant.0 c.targets-targets.result c.left-left.result (λ b. c.targets-targets.ensures b ∙ ap (λ (k : BookState g.row.S.Denot). is_target k (entry_in_progress k.history) b) c.ledger.ensures) (λ b. c.left-left.ensures b ∙ ap (λ (k : BookState g.row.S.Denot). is_enabled (k.history ++ Ended w.failed w.starved ∷ []) b) c.ledger-2.ensures)
+    unfinished g.B.Backend.TELLS w.accounts w.book.state.layout w.book.state.history (states_of w.cells.items) w.failed w.starved w.sessions w.book.state.greatest w.dumps w.book.state.sessions w.first_outcome c.self.invariant.0 c.targets-targets.result c.left-left.result c.targets-targets.ensures c.left-left.ensures
     c.targets-targets.type_inv e is c.unfinished.result c.if-targets-ne0.true c.if-targets-left-eq0.true c.unfinished.ensures)
 
 pub returns-in-Some-Done : goal.returns-in-Some-Done
@@ -31,7 +28,7 @@ returns-in-Some-Done g c =
     in
     subst (λ (x : WorldState). AnswersOpen g.B.Backend.TELLS x.core (reply.Done c.in-Some-Done.count)) c.self.view_is
     (λ e is.
-    heard g.B.Backend.TELLS w.accounts w.book.state.layout w.book.state.history (states_of w.cells.items) w.failed w.starved w.sessions w.book.state.greatest w.dumps w.book.state.sessions w.first_outcome c.self.invariant.0 c.targets-targets.result c.left-left.result (λ b. c.targets-targets.ensures b ∙ ap (λ (k : BookState g.row.S.Denot). is_target k (entry_in_progress k.history) b) c.ledger.ensures) (λ b. c.left-left.ensures b ∙ ap (λ (k : BookState g.row.S.Denot). is_enabled (k.history ++ Ended w.failed w.starved ∷ []) b) c.ledger-2.ensures)
+    heard g.B.Backend.TELLS w.accounts w.book.state.layout w.book.state.history (states_of w.cells.items) w.failed w.starved w.sessions w.book.state.greatest w.dumps w.book.state.sessions w.first_outcome c.self.invariant.0 c.targets-targets.result c.left-left.result c.targets-targets.ensures c.left-left.ensures
     c.targets-targets.type_inv e is some (outcome.Done c.in-Some-Done.count) (search rules))
 
 pub returns-in-Some-Refused : goal.returns-in-Some-Refused
@@ -45,7 +42,7 @@ returns-in-Some-Refused g c =
     in
     subst (λ (x : WorldState). AnswersOpen g.B.Backend.TELLS x.core (reply.Refused c.in-Some-Refused.refusal)) c.self.view_is
     (λ e is.
-    heard g.B.Backend.TELLS w.accounts w.book.state.layout w.book.state.history (states_of w.cells.items) w.failed w.starved w.sessions w.book.state.greatest w.dumps w.book.state.sessions w.first_outcome c.self.invariant.0 c.targets-targets.result c.left-left.result (λ b. c.targets-targets.ensures b ∙ ap (λ (k : BookState g.row.S.Denot). is_target k (entry_in_progress k.history) b) c.ledger.ensures) (λ b. c.left-left.ensures b ∙ ap (λ (k : BookState g.row.S.Denot). is_enabled (k.history ++ Ended w.failed w.starved ∷ []) b) c.ledger-2.ensures)
+    heard g.B.Backend.TELLS w.accounts w.book.state.layout w.book.state.history (states_of w.cells.items) w.failed w.starved w.sessions w.book.state.greatest w.dumps w.book.state.sessions w.first_outcome c.self.invariant.0 c.targets-targets.result c.left-left.result c.targets-targets.ensures c.left-left.ensures
     c.targets-targets.type_inv e is some (outcome.Refused c.in-Some-Refused.refusal) (search rules))
 
 pub returns-in-None : goal.returns-in-None
@@ -60,5 +57,5 @@ returns-in-None g c =
     in
     subst (λ (x : WorldState). AnswersOpen g.B.Backend.TELLS x.core (reply.Done 0)) c.self.view_is
     (λ e is.
-    unneeded g.B.Backend.TELLS w.accounts w.book.state.layout w.book.state.history (states_of w.cells.items) w.failed w.starved w.sessions w.book.state.greatest w.dumps w.book.state.sessions w.first_outcome c.self.invariant.0 c.targets-targets.result c.left-left.result (λ b. c.targets-targets.ensures b ∙ ap (λ (k : BookState g.row.S.Denot). is_target k (entry_in_progress k.history) b) c.ledger.ensures) (λ b. c.left-left.ensures b ∙ ap (λ (k : BookState g.row.S.Denot). is_enabled (k.history ++ Ended w.failed w.starved ∷ []) b) c.ledger-2.ensures)
+    unneeded g.B.Backend.TELLS w.accounts w.book.state.layout w.book.state.history (states_of w.cells.items) w.failed w.starved w.sessions w.book.state.greatest w.dumps w.book.state.sessions w.first_outcome c.self.invariant.0 c.targets-targets.result c.left-left.result c.targets-targets.ensures c.left-left.ensures
     c.targets-targets.type_inv e is none c.in-None.is some)

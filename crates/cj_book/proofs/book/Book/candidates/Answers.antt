@@ -1,0 +1,22 @@
+use Rattle.std.proofs.Common.{◌≡◌, ◌<◌, true, length, sym, subst, ◌∙◌, arith, rules}
+use Rattle.std.proofs.lemmas.Bool.{and_parts}
+use Rattle.cj_model.specs.Cluster.Masks.{in_mask}
+use Rattle.cj_model.specs.Cluster.Placements.{hosts}
+use Rattle.cj_cluster.specs.History.Histories.{is_enabled}
+use Rattle.cj_book.specs.Books.{placement_at}
+use Rattle.cj_book.specs.Seated.{SeatedBook}
+use Rattle.cj_book.proofs.Serving.{candidates_more, mask_below}
+use Rattle.cj_book.proofs.book.Book.candidates.Goals as goal
+
+pub loop-table-preserved : goal.loop-table-preserved
+loop-table-preserved g c = λ b.
+    let there = subst (λ (s : SeatedBook g.row.S.Denot). in_mask c.hosts-mask.result b ≡ hosts (placement_at s.state) b c.table-item.result) c.self.view_is (c.hosts-mask.ensures b) in
+    candidates_more (placement_at c.args.self.now.state) (is_enabled c.args.self.now.state.history b) c.args.tables.now c.loop-table.table-index c.table-item.result c.loop-table.mask c.hosts-mask.result b
+    (search rules) c.table-item.is (c.loop-table.invariant b) there
+
+pub returns-clause-below : goal.returns-clause-below
+returns-clause-below g c =
+    mask_below c.loop-table.mask (λ b there.
+    let on : is_enabled c.args.self.now.state.history b ≡ true = (and_parts (is_enabled c.args.self.now.state.history b) _ (sym (c.loop-table.invariant b) ∙ there)).0 in
+    let below : b < length c.self.inside.placement.names = c.self.invariant.history.below b (subst (λ (s : SeatedBook g.row.S.Denot). is_enabled s.state.history b ≡ true) (sym c.self.view_is) on) in
+    omega (arith, c.self.invariant.history.backend_count))

@@ -1,0 +1,12 @@
+use Rattle.cj_book.specs.Lists.{session_number}
+use Rattle.cj_book.proofs.Numbered.{numbers_without}
+use Rattle.cj_book.proofs.Following.{follows_closed}
+use Rattle.cj_book.proofs.book.Book.close_session.Goals as goal
+
+pub invariant_of-self : goal.invariant_of-self
+invariant_of-self g c =
+    let k = c.self.invariant in
+    record { history = k.history; follows = rw c.remove.ensures (follows_closed _ _ _ _ _ _ k.follows c.args.session); marked = k.marked; logged = k.logged; gate = k.gate }
+
+pub returns-clause-state : goal.returns-clause-state
+returns-clause-state g c = rw (← c.self.view_is, c.remove.ensures, numbers_without session_number c.self.inside.sessions c.args.session)

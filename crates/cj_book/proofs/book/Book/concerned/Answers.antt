@@ -1,0 +1,15 @@
+use Rattle.std.proofs.Common.{◌≡◌, sym, subst}
+use Rattle.cj_model.specs.Cluster.Masks.{in_mask}
+use Rattle.cj_model.specs.Cluster.Placements.{concerns}
+use Rattle.cj_cluster.specs.History.Histories.{log}
+use Rattle.cj_cluster.specs.History.Legality.{IsFitEntry}
+use Rattle.cj_board.specs.Seats.{history}
+use Rattle.cj_book.specs.Books.{placement_at}
+use Rattle.cj_book.specs.Seated.{SeatedBook}
+use Rattle.cj_book.proofs.book.Book.concerned.Goals as goal
+
+pub returns : goal.returns
+returns g c = λ b.
+    let fit = subst (λ (s : SeatedBook g.row.S.Denot). IsFitEntry (log s.state.history) c.args.e.now) (sym c.self.view_is) c.requires in
+    subst (λ (s : SeatedBook g.row.S.Denot). in_mask c.concerned.result b ≡ concerns (placement_at s.state) b (log s.state.history) c.args.e.now.tx c.args.e.now.act) c.self.view_is
+    (c.concerned.ensures (log (history c.self.inside.seat)) c.self.invariant.follows.transactions fit b)

@@ -1,0 +1,11 @@
+use Rattle.std.proofs.Common.{◌≡◌, is_some, ap, sym, subst, ◌∙◌}
+use Rattle.cj_book.specs.Books.{has_session}
+use Rattle.cj_book.specs.Seated.{SeatedBook}
+use Rattle.cj_book.specs.Lists.{session_number}
+use Rattle.cj_book.proofs.Numbered.{found_among}
+use Rattle.cj_book.proofs.book.Book.is_session_open.Goals as goal
+
+pub returns : goal.returns
+returns g c =
+    subst (λ (b : SeatedBook g.row.S.Denot). c.is_some.result ≡ has_session b.state c.args.session) c.self.view_is
+    (c.is_some.ensures ∙ (ap is_some c.find.ensures ∙ sym (found_among session_number c.self.inside.sessions c.args.session)))

@@ -1,0 +1,15 @@
+use Rattle.std.proofs.Common.{◌&&◌, ◌||◌, not, ap, sym, ◌∙◌, rules}
+use Rattle.cj_cluster.specs.declared.event.Event.TheVariants.{Ended}
+use Rattle.cj_model.specs.Cluster.Masks.{in_mask}
+use Rattle.cj_cluster.proofs.Pushed.{enabled-push}
+use Rattle.cj_model.proofs.MaskBits.{has_without}
+use Rattle.cj_board.specs.Seats.{history}
+use Rattle.cj_book.proofs.book.Book.left.Goals as goal
+
+pub returns : goal.returns
+returns g c =
+    λ b.
+    let left = has_without c.self.inside.enabled c.args.failed c.args.starved b (search rules) (search rules) (search rules) in
+    rw (← c.self.view_is)
+    (left ∙ (ap (λ x. x && not (in_mask c.args.failed b || in_mask c.args.starved b)) (c.self.invariant.history.mask b)
+    ∙ sym (enabled-push (history c.self.inside.seat) (Ended c.args.failed c.args.starved) b)))

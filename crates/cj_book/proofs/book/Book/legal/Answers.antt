@@ -1,0 +1,25 @@
+use Rattle.std.proofs.Common.{◌≡◌, false, subst}
+use Rattle.cj_log.specs.Logs.{LeavesItems}
+use Rattle.cj_opening.specs.Openings.{items_of}
+use Rattle.cj_board.specs.Seats.{history}
+use Rattle.cj_book.specs.Books.{IsKeptIn, last_write_failed}
+use Rattle.cj_book.specs.Seated.{SeatedBook}
+use Rattle.cj_book.proofs.Logged.{kept_in, shut_where}
+use Rattle.cj_book.proofs.book.Book.legal.Goals as goal
+
+pub returns-clause-kept : goal.returns-clause-kept
+returns-clause-kept g c = λ t.
+    let s = g.S.Store in
+    let b = c.self.inside in
+    subst (λ (v : SeatedBook g.row.S.Denot). IsKeptIn (s.held v.state.recovery_log.store) v.state.history) c.self.view_is
+    (kept_in (s.held b.recovery_log.store) (history b.seat) b.recovery_log.items b.recovery_log.torn (c.self.invariant.logged t) (c.self.invariant.gate t) (c.legal.ensures.items t) (c.legal.ensures.at_least t))
+
+pub returns-clause-safe : goal.returns-clause-safe
+returns-clause-safe g c = λ t.
+    let s = g.S.Store in
+    let b = c.self.inside in
+    subst (λ (v : SeatedBook g.row.S.Denot). last_write_failed v.state.history ≡ false → LeavesItems (s.may v.state.recovery_log.store) (items_of v.state.history)) c.self.view_is
+    (λ well. rw (c.self.invariant.logged t) (c.legal.ensures.safe t (shut_where (history b.seat) b.recovery_log.torn (c.self.invariant.gate t) well)))
+
+pub returns-clause-now : goal.returns-clause-now
+returns-clause-now g c = λ t. rw (← c.self.view_is) (c.legal.ensures.now t)

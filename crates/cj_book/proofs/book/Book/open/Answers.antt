@@ -1,0 +1,44 @@
+use Rattle.std.proofs.Common.{◌≡◌, ℕ, ◌<◌, ◌≤◌, List, length, Err, ap, sym, ◌∙◌, subst, arith}
+use Rattle.cj_log.specs.declared.item.LogItem.{LogItem}
+use Rattle.cj_opening.specs.declared.error.OpeningError.TheVariants.{BadEntry}
+use Rattle.cj_opening.specs.Openings.{HasBadEntry, OpensTo}
+use Rattle.cj_board.specs.Seats.{history}
+use Rattle.cj_book.specs.declared.error.StartError.{StartError}
+use Rattle.cj_book.specs.Starts.{Starts}
+use Rattle.cj_book.proofs.Logged.{gate_shut}
+use Rattle.cj_book.proofs.Recovering.{follows_opening, keeps_opened}
+use Rattle.cj_book.proofs.Starting.{Begins, items_refused}
+use Rattle.cj_book.proofs.book.Book.open.Goals as goal
+
+pub invariant_of-result : goal.invariant_of-result
+invariant_of-result g c =
+    let layout = c.args.parts.placement in
+    let items = c.in-Ok.opened.1 in
+    let h = history c.recover.new.seat in
+    let found = c.in-Ok-recover.found in
+    let kept = c.in-Ok-recover.ensures.kept in
+    let opens = subst (λ (l : List LogItem). OpensTo l h) c.as_slice.ensures c.in-Ok-recover.ensures.opens in
+    let done : c.len.result ≡ length found.entries.items = omega arith in
+    let count : c.count.result ≡ length layout.names = c.count.ensures.count in
+    let some : 0 < c.count.result = c.count.ensures.some in
+    let most : c.count.result ≤ 16 = c.count.ensures.most in
+    let backends : (0 < length layout.names) × (length layout.names ≤ 16) = (omega arith, omega arith) in
+    record {
+      history = rw done (keeps_opened layout items h opens (length layout.names) found.entries.items backends kept.entries);
+      follows = rw c.in-Ok-new.ensures (follows_opening layout items h opens found kept);
+      marked = kept.marked;
+      logged = λ t. opens.same ∙ sym (c.in-Ok.ensures.bytes t).1;
+      gate = gate_shut g.S.Store.TELLS c.in-Ok.opened.0.torn h (λ t. c.in-Ok.ensures.shut);
+    }
+
+pub returns-in-Err-recover-clause-bytes : goal.returns-in-Err-recover-clause-bytes
+returns-in-Err-recover-clause-bytes g c = λ t.
+    let held = g.S.Store.held in
+    let old = held c.args.store in
+    let items = c.in-Ok.opened.1 in
+    let store = c.into_store-in-Err-recover.result in
+    let opened = c.in-Ok.ensures.bytes t in
+    let begins = subst (λ (s : g.row.S.Denot). Begins old (held s)) (sym c.into_store-in-Err-recover.ensures) opened.2 in
+    let bad : (n : ℕ) → c.in-Err-recover.error ≡ BadEntry n → HasBadEntry items n = λ n is.
+    subst (λ (l : List LogItem). HasBadEntry l n) c.as_slice.ensures (c.in-Err-recover.ensures.bad n (ap (λ x. Err x) is)) in
+    subst (λ (error : StartError). Starts held old (Err (error, store))) (sym c.entry_error.ensures) (items_refused held old items c.in-Err-recover.error store opened.0 begins bad)

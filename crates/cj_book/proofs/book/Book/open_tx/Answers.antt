@@ -1,0 +1,21 @@
+use Rattle.std.proofs.Common.{◌≡◌, true, is_some, ap, sym, subst, ◌∙◌}
+use Rattle.std.proofs.lemmas.Bool.{both_ways}
+use Rattle.cj_cluster.specs.History.Histories.{log, tx_of}
+use Rattle.cj_book.specs.Books.{has_session}
+use Rattle.cj_book.specs.Seated.{SeatedBook}
+use Rattle.cj_book.specs.Lists.{numbered, session_number}
+use Rattle.cj_book.proofs.Numbered.{found_among}
+use Rattle.cj_book.proofs.Following.{tx_open}
+use Rattle.cj_book.proofs.book.Book.open_tx.Goals as goal
+
+pub returns-in-Some : goal.returns-in-Some
+returns-in-Some g c =
+    subst (λ (b : SeatedBook g.row.S.Denot). c.in-Some.«open».tx ≡ tx_of (log b.state.history) c.args.session) c.self.view_is
+    (tx_open _ _ _ _ _ _ c.self.invariant.follows c.args.session c.in-Some.«open» (sym c.in-Some.ensures))
+
+pub returns-in-None : goal.returns-in-None
+returns-in-None g c =
+    let here : has_session c.args.self.now.state c.args.session ≡ true = c.requires in
+    let found : is_some (numbered session_number c.self.inside.sessions c.args.session) ≡ true =
+    sym (found_among session_number c.self.inside.sessions c.args.session) ∙ subst (λ (b : SeatedBook g.row.S.Denot). has_session b.state c.args.session ≡ true) (sym c.self.view_is) here in
+    absurd (both_ways (is_some (numbered session_number c.self.inside.sessions c.args.session)) (ap is_some (sym c.in-None.ensures)) found)

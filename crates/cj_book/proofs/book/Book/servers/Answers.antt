@@ -1,0 +1,16 @@
+use Rattle.std.proofs.Common.{◌≡◌, ◌&&◌, bit_and, sym, subst}
+use Rattle.cj_model.specs.Cluster.Masks.{in_mask}
+use Rattle.cj_model.specs.Cluster.Placements.{hosts_all, needs}
+use Rattle.cj_model.specs.Sql.PlainRequests.{request_of}
+use Rattle.cj_cluster.specs.History.Histories.{is_enabled}
+use Rattle.cj_place.specs.Layouts.{placement_of}
+use Rattle.cj_board.specs.Seats.{history}
+use Rattle.cj_book.specs.Books.{placement_at}
+use Rattle.cj_book.specs.Seated.{SeatedBook}
+use Rattle.cj_book.proofs.Serving.{servers_of}
+use Rattle.cj_book.proofs.book.Book.servers.Goals as goal
+
+pub returns-in-Some : goal.returns-in-Some
+returns-in-Some g c = λ b.
+    subst (λ (s : SeatedBook g.row.S.Denot). in_mask (bit_and c.self.inside.enabled c.hosts.result) b ≡ (is_enabled s.state.history b && hosts_all (placement_at s.state) b (needs (request_of c.args.act.now)))) c.self.view_is
+    (servers_of (placement_of c.self.inside.placement) (history c.self.inside.seat) c.args.act.now c.in-Some.table.now c.self.inside.enabled c.hosts.result b (sym c.in-Some.ensures) (c.self.invariant.history.mask b) (c.hosts.ensures b))

@@ -1,0 +1,49 @@
+use Rattle.std.proofs.Common.{◌≡◌, ◌+◌, ◌<◌, [], ◌∷◌, ◌++◌, List, OnOk, length, refl, ap, sym, subst, ◌∙◌}
+use Rattle.cj_cluster.specs.declared.event.Event.{Event}
+use Rattle.cj_cluster.specs.declared.event.Event.TheVariants.{Marker, Sched}
+use Rattle.cj_cluster.specs.History.Histories.{log}
+use Rattle.cj_cluster.specs.History.Legality.{IsLegal}
+use Rattle.cj_opening.proofs.Kept.{added_name, marked_more, marked_same}
+use Rattle.cj_place.specs.Layouts.{placement_of}
+use Rattle.cj_board.specs.declared.view.SeatView.{SeatView}
+use Rattle.cj_board.specs.Seats.{history}
+use Rattle.cj_book.specs.declared.recovered.Recovered.{Recovered}
+use Rattle.cj_book.specs.Found.{IsRecovered}
+use Rattle.cj_book.proofs.Begun.{numbers_before}
+use Rattle.cj_book.proofs.Recovering.{none_marked, none_scheduled, recovers_same}
+use Rattle.cj_book.proofs.recovered.Recovered.follow.Goals as goal
+
+pub add_entry-requires : goal.add_entry-requires
+add_entry-requires c =
+    let k = c.requires.so_far in
+    numbers_before (placement_of c.args.placement.now) (log (history c.args.seat.now)) c.args.self.now.transactions (length c.args.self.now.entries.items) c.in-Sched.boxed k.transactions (ap length k.entries)
+
+pub returns-in-Sched-clause-kept : goal.returns-in-Sched-clause-kept
+returns-in-Sched-clause-kept c =
+    let h = history c.args.seat.now in
+    let grown : history c.append.new.s ≡ h ++ Sched c.in-Sched.boxed ∷ [] = ap (λ (v : SeatView). v.front) c.append.ensures.book ∙ ap (λ (x : Event). h ++ x ∷ []) c.in-Sched.is in
+    subst (λ (w : List Event). OnOk c.add_entry.result (IsRecovered (placement_of c.args.placement.now) w c.add_entry.new.self)) (sym grown)
+    (c.add_entry.ensures h (subst (λ (x : Event). IsLegal (h ++ x ∷ [])) c.in-Sched.is c.requires.legal) c.requires.so_far)
+
+pub returns-in_ok-insert-in-Marker-clause-kept : goal.returns-in_ok-insert-in-Marker-clause-kept
+returns-in_ok-insert-in-Marker-clause-kept c =
+    let p = placement_of c.args.placement.now in
+    let h = history c.args.seat.now in
+    let old = c.args.self.now in
+    let name = c.in-Marker.name in
+    let b = c.in-Marker.b in
+    let more = c.insert.new.self in
+    let grown : history c.append.new.s ≡ h ++ Marker name b ∷ [] = ap (λ (v : SeatView). v.front) c.append.ensures.book ∙ ap (λ (x : Event). h ++ x ∷ []) c.in-Marker.is in
+    let marked = marked_more h old.marker_names more name b c.requires.so_far.marked (added_name old.marker_names more name c.in_ok-insert-in-Marker.ensures.updates.0) in
+    let new : Recovered = record { entries = old.entries; transactions = old.transactions; marker_names = more; greatest = old.greatest } in
+    subst (λ (w : List Event). IsRecovered p w new) (sym grown) (recovers_same p h old new c.requires.so_far (Marker name b) refl marked refl refl refl)
+
+pub returns-in_default-clause-kept : goal.returns-in_default-clause-kept
+returns-in_default-clause-kept c =
+    let p = placement_of c.args.placement.now in
+    let h = history c.args.seat.now in
+    let old = c.args.self.now in
+    let e = c.args.event in
+    let grown : history c.append.new.s ≡ h ++ e ∷ [] = ap (λ (v : SeatView). v.front) c.append.ensures.book in
+    subst (λ (w : List Event). IsRecovered p w old) (sym grown)
+    (recovers_same p h old old c.requires.so_far e (none_scheduled e (λ x is. c.in_default.not-Sched x is)) (marked_same h old.marker_names e (none_marked e (λ name b is. c.in_default.not-Marker name b is)) c.requires.so_far.marked) refl refl refl)
