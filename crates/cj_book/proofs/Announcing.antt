@@ -1,22 +1,20 @@
 -- Which events come to the board, and that the seat knows what each of them needs.
-use Rattle.std.proofs.Common.{◌≡◌, ℕ, zero, suc, ◌+◌, ◌<◌, ◌≤◌, Bool, true, false, cond, eqb, List, [], ◌∷◌, ◌++◌, length, take, get_or, slice_get, Contains, Option, None, Some, Result, Ok, Err, OnOk, OnErr, IsErrOf, refl, ap, sym, ◌∙◌, subst, arith, length-append}
+use Rattle.std.proofs.Common.{◌≡◌, ℕ, zero, suc, ◌<◌, Bool, false, cond, eqb, List, [], ◌∷◌, ◌++◌, length, take, slice_get, Option, None, Some, refl, ap, sym, ◌∙◌, subst, arith}
 use Rattle.std.proofs.lemmas.Bool.{both_ways, eqb-true}
-use Rattle.std.proofs.lemmas.List.{append-nil, append_assoc, length-take-le}
+use Rattle.std.proofs.lemmas.List.{append-nil}
 use Rattle.std.proofs.lemmas.List.Elements.{filter_map-append}
-use Rattle.std.proofs.lemmas.Option.{slice_get-get_or, slice_get_past}
-use Rattle.cj_model.specs.declared.request.Entry.{Entry}
 use Rattle.cj_model.specs.Cluster.Masks.{in_mask}
 use Rattle.cj_model.proofs.Masks.{has-zero}
 use Rattle.cj_cluster.specs.declared.event.Event.{Event}
 use Rattle.cj_cluster.specs.declared.event.Event.TheVariants.{Sched, Ended, ReadFailed, LogFailed, Disabled, Enabled, Marker}
-use Rattle.cj_cluster.specs.History.Histories.{scheduled_entry, log, is_enabled, enabled_after_event, notes_failure}
-use Rattle.cj_cluster.specs.History.Legality.{IsLegal}
+use Rattle.cj_cluster.specs.History.Histories.{scheduled_entry, is_enabled, enabled_after_event, notes_failure}
 use Rattle.cj_cluster.proofs.Pushed.{enabled-push, get_seam, log-same, take_whole}
 use Rattle.cj_opening.specs.Openings.{IsOpening}
 use Rattle.cj_board.specs.declared.view.SeatView.{SeatView}
 use Rattle.cj_board.specs.Counting.{event_count_of, log_failure_session, log_failure_sessions}
 use Rattle.cj_board.specs.Points.{fault_tokens_of}
 use Rattle.cj_board.specs.Steps.{HasCountNotes, HasFaultTokens, HasPositionNotes, after_append, spend}
+use Rattle.cj_book.specs.Counters.{book_after}
 use Rattle.cj_book.specs.Seated.{CanCome}
 
 -- ---- events that need nothing
@@ -37,7 +35,7 @@ no_tokens tokens e none = λ b is. absurd (both_ways (notes_failure b e) (none b
 pub one_token : (tokens : List ℕ) (s q b : ℕ) → 0 < fault_tokens_of b tokens → HasFaultTokens tokens (ReadFailed s q b)
 one_token tokens s q b some = λ c is. let same : c ≡ b = eqb-true c b is in subst (λ k. 0 < fault_tokens_of k tokens) (sym same) some
 
-failures_same : (h : List Event) (e : Event) → log_failure_session e ≡ None → log_failure_sessions (h ++ e ∷ []) ≡ log_failure_sessions h
+pub failures_same : (h : List Event) (e : Event) → log_failure_session e ≡ None → log_failure_sessions (h ++ e ∷ []) ≡ log_failure_sessions h
 failures_same h (Sched e) is = filter_map-append log_failure_session h (Sched e ∷ []) ∙ append-nil (log_failure_sessions h)
 failures_same h (Ended f s) is = filter_map-append log_failure_session h (Ended f s ∷ []) ∙ append-nil (log_failure_sessions h)
 failures_same h (ReadFailed s q b) is = filter_map-append log_failure_session h (ReadFailed s q b ∷ []) ∙ append-nil (log_failure_sessions h)
@@ -110,3 +108,8 @@ module _ (v : SeatView) (e : Event) (rest : List Event) (o : IsOpening (v.front 
   -- and spends no token
   pub opening_seen : after_append e v ≡ record v { front = v.front ++ e ∷ [] }
   opening_seen = after_harmless e v (no_failures e next_event)
+
+-- an event that came stands behind those that were seen, whether a pass counted it or none
+pub seen_after : (e : Event) (own : Option SeatView) (v : SeatView) {u : SeatView} → u ≡ book_after (Some e) own v → u.front ≡ v.front ++ e ∷ []
+seen_after e None v is = ap (λ (x : SeatView). x.front) is
+seen_after e (Some w) v is = ap (λ (x : SeatView). x.front) is

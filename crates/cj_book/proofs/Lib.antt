@@ -1,10 +1,12 @@
 pub mod Announcing
 pub mod Begun
+pub mod Counted
 pub mod Following
 pub mod Keeping
 pub mod Logged
 pub mod Named
 pub mod Numbered
+pub mod Owned
 pub mod Recovering
 pub mod Scheduling
 pub mod Serving

@@ -1,5 +1,5 @@
 -- The items of a history with one more event.
-use Rattle.std.proofs.Common.{◌≡◌, inl, inr, refl, Bool, true, false, ℕ, ◌+◌, [], ◌∷◌, ◌++◌, List, length, Option, arith, ap, sym, ◌∙◌}
+use Rattle.std.proofs.Common.{◌≡◌, inl, inr, refl, Bool, true, false, ℕ, ◌+◌, [], ◌∷◌, ◌++◌, List, length, Option, arith, ap, ◌∙◌}
 use Rattle.std.proofs.lemmas.List.{append-nil}
 use Rattle.std.proofs.lemmas.List.Sums.{fold-append}
 use Rattle.cj_model.specs.declared.request.Entry.{Entry}

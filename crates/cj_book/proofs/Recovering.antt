@@ -1,5 +1,5 @@
 -- What a book keeps of the history that its log opens with.
-use Rattle.std.proofs.Common.{◌≡◌, ℕ, ◌+◌, ◌^◌, ◌<◌, ◌≤◌, true, false, List, [], ◌∷◌, ◌++◌, length, take, get_or, max, All, Option, None, refl, ap, sym, ◌∙◌, subst, arith, length-append}
+use Rattle.std.proofs.Common.{◌≡◌, ℕ, ◌+◌, ◌^◌, ◌<◌, ◌≤◌, true, false, List, [], ◌∷◌, ◌++◌, length, get_or, max, All, Option, None, refl, ap, sym, ◌∙◌, subst, arith, length-append}
 use Rattle.std.specs.Prelude.{fold}
 use Rattle.std.specs.List.{AllByRecursion}
 use Rattle.std.proofs.lemmas.Bool.{eqb-true, both_ways}
@@ -14,7 +14,7 @@ use Rattle.cj_model.specs.Cluster.Placements.{Placement, concerns}
 use Rattle.cj_model.proofs.Masks.{has-zero}
 use Rattle.cj_cluster.specs.declared.event.Event.{Event}
 use Rattle.cj_cluster.specs.declared.event.Event.TheVariants.{Sched, Ended, ReadFailed, LogFailed, Disabled, Enabled, Marker}
-use Rattle.cj_cluster.specs.History.Histories.{scheduled_entry, log, ended_count, is_idle, is_enabled, enabled_after_event, marker_name}
+use Rattle.cj_cluster.specs.History.Histories.{scheduled_entry, log, ended_count, is_idle, is_enabled, marker_name}
 use Rattle.cj_cluster.specs.History.Legality.{IsAllowedEvent, IsFitEntry, IsLegal}
 use Rattle.cj_cluster.proofs.Pushed.{get_seam, legal_prefix, log-sched, log-same, opened-free, take_whole}
 use Rattle.cj_cluster.proofs.TransactionLaws.{legal_fit}

@@ -1,5 +1,5 @@
 -- A call that was refused for want of memory before it asked the log.
-use Rattle.std.proofs.Common.{◌≡◌, ◌⊎◌, inr, ℕ, true, Result, Ok, Err, OnOk, ap, sym, ◌∙◌}
+use Rattle.std.proofs.Common.{◌≡◌, ◌⊎◌, inr, ℕ, Result, Ok, Err, OnOk, ap, sym, ◌∙◌}
 use Rattle.std.specs.Prelude.{IfErr, IsErrAnd}
 use Rattle.cj_log.specs.declared.item.LogItem.{LogItem}
 use Rattle.cj_log.specs.Logs.{Refuses}

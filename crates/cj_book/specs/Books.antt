@@ -102,6 +102,11 @@ has_session b s = list_any (λ n. n == s) b.sessions
 abbrev pub has_no_number : {S : Type 0} → BookState S → Bool
 has_no_number b = nat_le SESSION_LIMIT (length b.sessions) || nat_le SESSION_NUMBER_LIMIT b.greatest
 
+-- session numbers were given up to the greatest that there may be, which is n
+pub record HasGivenAll {S : Type 0} (b : BookState S) (n : ℕ) : Type 0 where
+  pub last : SESSION_NUMBER_LIMIT ≤ b.greatest
+  pub number : n ≡ SESSION_NUMBER_LIMIT
+
 -- a session with the next number is open
 abbrev pub with_session : {S : Type 0} → BookState S → BookState S
 with_session b = record b { sessions = b.sessions ++ (b.greatest + 1) ∷ []; greatest = b.greatest + 1 }

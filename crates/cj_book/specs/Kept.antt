@@ -1,7 +1,6 @@
 -- What a book keeps of its history.
 use Rattle.std.specs.Prelude.{◌≡◌, ◌≢◌, ℕ, ◌+◌, ◌-◌, ◌*◌, ◌<◌, ◌≤◌, ◌==◌, Bool, true, List, length, All}
 use Rattle.std.specs.List.{list_any}
-use Rattle.std.specs.declared.option.Option.{Option}
 use Rattle.std.specs.BTreeSet.{BTreeSet}
 use Rattle.cj_model.specs.declared.request.Entry.{Entry}
 use Rattle.cj_cluster.specs.declared.event.Event.{Event}
@@ -16,6 +15,7 @@ use Rattle.cj_opening.specs.Proving.Keeping.{KeepsMarkers}
 use Rattle.cj_place.specs.Layouts.{Layout, placement_of}
 use Rattle.cj_book.specs.Books.{is_target_at, last_write_failed}
 use Rattle.cj_book.specs.Lists.{by_number, session_number, tx_number}
+use Rattle.cj_book.specs.Seated.{HasCountedLogFaults}
 use Rattle.cj_book.specs.declared.sessions.BookSession.{BookSession}
 use Rattle.cj_book.specs.declared.transactions.OpenTransaction.{OpenTransaction}
 use Rattle.cj_model.specs.declared.limits.TheConstants.{BACKEND_LIMIT, EVENT_LIMIT, SESSION_LIMIT}
@@ -71,10 +71,11 @@ pub record KeepsRoom (ss : List BookSession) (capacity : ℕ) : Type 0 where
   pub room : SESSION_LIMIT ≤ capacity
 
 -- what a book keeps beside what contracts see of it
-pub record IsKeptBook (tells : Bool) (layout : Layout) (h : List Event) (kept : List Entry) (ended on greatest targets : ℕ) (ss : List BookSession) (ts : List OpenTransaction) (names : BTreeSet MarkerName) (items : List LogItem) (torn : Bool) : Type 0 where
+pub record IsKeptBook (tells : Bool) (layout : Layout) (h : List Event) (kept : List Entry) (ended on greatest targets : ℕ) (ss : List BookSession) (ts : List OpenTransaction) (names : BTreeSet MarkerName) (items : List LogItem) (torn : Bool) (before now : ℕ) : Type 0 where
   pub history : KeepsHistory (length layout.names) h kept ended on
   pub follows : Follows layout h greatest targets ss ts
   pub marked : KeepsMarkers h names
   pub logged : tells ≡ true → items_of h ≡ items
   -- the gate behind the items is torn only behind a write that failed
   pub gate : tells ≡ true → torn ≡ true → last_write_failed h ≡ true
+  pub faults : HasCountedLogFaults h before now

@@ -1,4 +1,5 @@
 pub mod Books
+pub mod Counters
 pub mod Events
 pub mod Found
 pub mod Kept

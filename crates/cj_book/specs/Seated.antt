@@ -1,25 +1,32 @@
 -- What contracts see of a book at its seat.
-use Rattle.std.specs.Prelude.{◌≡◌, Result, Ok, Err}
+use Rattle.std.specs.Prelude.{◌≡◌, ◌⊎◌, ℕ, ◌+◌, ◌-◌, ◌^◌, ◌≤◌, List, length, Result, Ok, Err}
 use Rattle.std.specs.declared.option.Option.{Option}
 use Rattle.std.specs.declared.option.Option.TheVariants.{None, Some}
 use Rattle.atomic_table.specs.Seated.{TableId}
 use Rattle.cj_cluster.specs.declared.event.Event.{Event}
 use Rattle.cj_board.specs.declared.view.SeatView.{SeatView}
-use Rattle.cj_board.specs.Steps.{HasPositionNotes, HasFaultTokens, HasCountNotes, after_append}
+use Rattle.cj_board.specs.Counting.{log_failure_sessions}
+use Rattle.cj_board.specs.Steps.{HasPositionNotes, HasFaultTokens, HasCountNotes, after_append, after_count, after_join, after_learning, after_split}
+use Rattle.cj_board.specs.Views.{next_session, pass_of, pass_without_notes, pass_without_tokens}
 use Rattle.cj_book.specs.declared.error.BookError.{BookError}
 use Rattle.cj_book.specs.declared.error.BookError.TheVariants.{InProgress, NoBackend, HistoryFull, LogFault, NoMemory}
 use Rattle.cj_book.specs.declared.error.StartError.{StartError}
 use Rattle.cj_book.specs.Books.{BookState}
 
--- a book: what follows from its history, of which board its seat is, and what the seat knows, which has the history in front
+-- A book: what follows from its history, of which board its seat is, and what the seat knows, which has the history in front. Beside it, how many faults the log's store had counted when the book was opened.
 pub record SeatedBook (S : Type 0) : Type 0 where
   pub state : BookState S
   pub board : TableId
   pub view : SeatView
+  pub faults_at_opening : ℕ
 
 -- the book stands at the same seat, and has heard and told nothing
 abbrev pub HasSameSeat : {S : Type 0} → SeatedBook S → SeatedBook S → Type 0
-HasSameSeat old new = (new.board ≡ old.board) × (new.view ≡ old.view)
+HasSameSeat old new = (new.board ≡ old.board) × (new.view ≡ old.view) × (new.faults_at_opening ≡ old.faults_at_opening)
+
+-- while the count of the log's store rose from `before` to `now`, it failed no more often than that; or the count stands at its last value
+abbrev pub HasCountedLogFaults : List Event → ℕ → ℕ → Type 0
+HasCountedLogFaults h before now = (length (log_failure_sessions h) + before ≤ now) ⊎ (now ≡ 2 ^ 64 - 1)
 
 -- what an opening found, but for the seat
 abbrev pub opened_state : {S : Type 0} → Result (SeatedBook S) (StartError × S) → Result (BookState S) (StartError × S)
@@ -56,3 +63,33 @@ event_or_fault e fault (Err NoMemory) = None
 abbrev pub view_after : Option Event → SeatView → SeatView
 view_after None v = v
 view_after (Some e) v = after_append e v
+
+-- ---- own passes
+
+-- the next session of the book is the next of its board: each was opened with an own pass
+abbrev pub GivesOwnPassesOnly : {S : Type 0} → SeatedBook S → Type 0
+GivesOwnPassesOnly book = book.state.greatest + 1 ≡ next_session book.view
+
+-- the book and a pass where the book told the pass
+abbrev pub told_book : SeatView → SeatView → SeatView
+told_book v w = after_learning v (pass_without_notes w)
+
+abbrev pub told_pass : SeatView → SeatView → SeatView
+told_pass v w = after_join w (pass_without_tokens (told_book v w))
+
+-- the book that learned of an own pass that it counts one event more
+abbrev pub knows_counted : SeatView → SeatView → SeatView
+knows_counted v w = after_learning v (pass_of (after_count w))
+
+-- The book, and the own pass of a session that had been told, after an event of the session that came, where one did: the pass counts it, the book learns that before it comes, and tells the pass again.
+abbrev pub own_book_after : Option Event → SeatView → SeatView → SeatView
+own_book_after None v w = v
+own_book_after (Some e) v w = told_book (after_append e (knows_counted v w)) (after_split (after_count w))
+
+abbrev pub own_pass_after : Option Event → SeatView → SeatView → SeatView
+own_pass_after None v w = w
+own_pass_after (Some e) v w = told_pass (after_append e (knows_counted v w)) (after_split (after_count w))
+
+abbrev pub count_after : Option Event → ℕ → ℕ
+count_after None n = n
+count_after (Some e) n = n + 1

@@ -1,9 +1,10 @@
 //! A book at its seat of a board.
 
-ghost use Rattle.std.specs.Prelude.{List, not, ◌≡◌, ◌≢◌, ◌⊎◌, Some, ◌↔◌, ◌+◌, ◌<◌, ◌&&◌, ℕ, true, false, [], ◌∷◌, ◌++◌, length, Contains, IfOk, IfErr, OnOk, OnErr, IsErrOf};
+ghost use Rattle.std.specs.Prelude.{List, not, ◌≡◌, ◌≢◌, ◌⊎◌, Some, ◌↔◌, ◌+◌, ◌<◌, ◌≤◌, ◌&&◌, ℕ, true, false, [], ◌∷◌, ◌++◌, length, Contains, IfOk, IfErr, OnOk, OnErr, IsErrOf};
 ghost use Rattle.std.specs.BTreeSet.{contains};
 ghost use Rattle.std.specs.Str.{bytes_eq};
 ghost use mathlib.Core.List.{IsPrefix};
+ghost use Rattle.cj_model.specs.declared.request.Entry.{Entry};
 ghost use Rattle.cj_cluster.specs.declared.event.Event.{Event};
 ghost use Rattle.cj_cluster.specs.History.Histories.{has_marker, is_enabled, is_idle, log};
 ghost use Rattle.cj_cluster.specs.History.Legality.{AreFitMasks, IsFitEntry, IsLegal};
@@ -21,7 +22,7 @@ ghost use Rattle.cj_board.specs.Views.{pass_of, pass_without_notes, pass_without
 ghost use Rattle.cj_book.specs.Books.{last_write_failed, with_entry, with_event, CanSchedule, IsKeptIn, IsOfKnown, IsPrepared, IsSameButLog};
 ghost use Rattle.cj_book.specs.Events.{Appends, Marks, Schedules};
 ghost use Rattle.cj_book.specs.Found.{start_error_of, entry_error_of};
-ghost use Rattle.cj_book.specs.Seated.{event_at_ok, event_or_fault, opened_state, view_after, IsCounted};
+ghost use Rattle.cj_book.specs.Seated.{event_at_ok, event_or_fault, opened_state, view_after, HasCountedLogFaults, IsCounted};
 ghost use Rattle.cj_book.specs.Starts.{CountsStartFault, IsStarted, Starts};
 
 use crate::error::StartError;
@@ -40,6 +41,7 @@ use cj_records::RecordsError;
 use std::alloc::Global;
 use std::collections::BTreeSet;
 use std::marker::Model;
+use std::snapshot::Snapshot;
 
 /// What a book is made of.
 #[derive(Drop)]
@@ -74,6 +76,8 @@ pub struct Book<S: Store> {
     pub(crate) transactions: OpenTransactions,
     pub(crate) marker_names: BTreeSet<MarkerName>,
     pub(crate) recovery_log: Log<S>,
+    /// The log's store as it was before the opening.
+    pub(crate) opened_with: Snapshot<S>,
     pub(crate) seat: BookSeat,
 }
 
@@ -95,9 +99,10 @@ impl<S: Store> Model for Book<S> {
       state = record { layout = book.placement; history = (book_view book.seat).front; sessions = map session_number book.sessions; greatest = book.greatest; balance = book.balancer; cache = book.cache; recovery_log = book.recovery_log };
       board = book_board book.seat;
       view = book_view book.seat;
+      faults_at_opening = S.faults book.opened_with.value;
     } };
 
-    ghost invariant = { λ book. IsKeptBook S.TELLS book.placement (book_view book.seat).front book.entries.items book.done book.enabled book.greatest book.targets book.sessions book.transactions book.marker_names book.recovery_log.items book.recovery_log.torn };
+    ghost invariant = { λ book. IsKeptBook S.TELLS book.placement (book_view book.seat).front book.entries.items book.done book.enabled book.greatest book.targets book.sessions book.transactions book.marker_names book.recovery_log.items book.recovery_log.torn (S.faults book.opened_with.value) (S.faults book.recovery_log.store) };
 }
 
 /// Why the log wasn't opened.
@@ -141,9 +146,11 @@ impl<S: Store> Book<S> {
         ensures bytes { S.TELLS ≡ true → Starts S.held (S.held store) (opened_state result) }
         ensures cause { CountsStartFault S.faults (S.faults store) (opened_state result) }
         ensures board { IfOk result (λ book. book.board ≡ board_id board.now) }
+        ensures opening { IfOk result (λ book. book.faults_at_opening ≡ S.faults store) }
         ensures view { IfOk result (λ book. book.view ≡ record (book_view seat) { front = book.state.history }) }
     {
         let mut seat = seat;
+        let opened_with = Snapshot::of(&store);
         let (recovery_log, items) = match Log::open(alloc, store) {
             Ok(opened) => opened,
             Err((error, store)) => return Err((start_error(error), store)),
@@ -168,18 +175,22 @@ impl<S: Store> Book<S> {
                 transactions: found.transactions,
                 marker_names: found.marker_names,
                 recovery_log,
+                opened_with,
                 seat,
             }),
             Err(error) => Err((entry_error(error), recovery_log.into_store())),
         }
     }
 
-    /// Shows what holds of all books: the history is one that can be, the seat has seen it, and the log's items are its entries and
-    /// markers. The bytes of the log, and what a stop leaves of them, keep these items; behind a write that failed, maybe the item
-    /// that was refused too.
+    /// Shows what holds of all books: the history is one that can be, the seat has seen it, the numbers of open sessions were given,
+    /// and the log's items are the history's entries and markers. The bytes of the log, and what a stop leaves of them, keep these
+    /// items; behind a write that failed, maybe the item that was refused too. For each failure of the log's store that the history
+    /// tells of, the store has counted a fault since the opening.
     pub fn legal(&self)
         ensures legal { IsLegal self.now.state.history }
         ensures front { self.now.view.front ≡ self.now.state.history }
+        ensures given { (e : Entry) → IsOfKnown self.now.state e → e.session ≤ self.now.state.greatest }
+        ensures faults { HasCountedLogFaults self.now.state.history self.now.faults_at_opening (S.faults self.now.state.recovery_log.store) }
         ensures logged { S.TELLS ≡ true → items_of self.now.state.history ≡ self.now.state.recovery_log.items }
         ensures kept { S.TELLS ≡ true → IsKeptIn (S.held self.now.state.recovery_log.store) self.now.state.history }
         ensures safe { S.TELLS ≡ true → last_write_failed self.now.state.history ≡ false → LeavesItems (S.may self.now.state.recovery_log.store) (items_of self.now.state.history) }

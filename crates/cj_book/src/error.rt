@@ -78,3 +78,24 @@ pub enum StartError {
 pub struct SessionsFull {
     pub sessions: u64,
 }
+
+/// Why no session was opened with an own pass.
+#[derive(Clone, Copy, Debug, PartialEq, Eq, Error)]
+pub enum OwnError {
+    /// The greatest number that a session may have is this one, and was given.
+    #[error("no session more can be opened")]
+    SessionsFull(u64),
+    #[error("out of memory")]
+    NoMemory,
+}
+
+impl From<NoMemory> for OwnError {
+    ghost use Rattle.std.specs.Prelude.{◌≡◌};
+    ghost use Rattle.cj_book.specs.declared.error.OwnError.TheVariants.{NoMemory};
+
+    ghost from_gives = { λ _ e. e ≡ NoMemory };
+
+    fn from(_error: NoMemory) -> OwnError {
+        OwnError::NoMemory
+    }
+}

@@ -1,6 +1,6 @@
 //! The events of a book.
 
-ghost use Rattle.std.specs.Prelude.{List, not, ◌≡◌, ◌≢◌, ◌⊎◌, Some, ◌↔◌, ◌+◌, ◌<◌, ◌&&◌, ℕ, true, false, [], ◌∷◌, ◌++◌, length, vec_capacity, Contains, IfOk, IfErr, OnOk, OnErr, IsErrOf};
+ghost use Rattle.std.specs.Prelude.{List, not, ◌≡◌, ◌≢◌, ◌⊎◌, None, Some, ◌↔◌, ◌+◌, ◌<◌, ◌&&◌, ℕ, true, false, [], ◌∷◌, ◌++◌, length, vec_capacity, Contains, IfOk, IfErr, OnOk, OnErr, IsErrOf};
 ghost use Rattle.std.specs.BTreeSet.{contains};
 ghost use Rattle.std.specs.Str.{bytes_eq};
 ghost use mathlib.Core.List.{IsPrefix};
@@ -18,12 +18,14 @@ ghost use Rattle.cj_board.specs.Seats.{board_id, book_board, book_view, front, h
 ghost use Rattle.cj_board.specs.Steps.{after_append, after_join, after_learning, after_split, HasCountNotes, HasFaultTokens, HasPositionNotes};
 ghost use Rattle.cj_board.specs.Views.{pass_of, pass_without_notes, pass_without_tokens};
 ghost use Rattle.cj_book.specs.Books.{last_write_failed, with_entry, with_event, CanSchedule, IsKeptIn, IsOfKnown, IsPrepared, IsSameButLog};
+ghost use Rattle.cj_book.specs.Counters.{book_after, hearing, own_view, pass_after, CanCount, IsOn};
 ghost use Rattle.cj_book.specs.Events.{Appends, Marks, Schedules};
 ghost use Rattle.cj_book.specs.Found.{start_error_of, entry_error_of};
 ghost use Rattle.cj_book.specs.Seated.{event_at_ok, event_or_fault, opened_state, view_after, IsCounted};
 ghost use Rattle.cj_book.specs.Starts.{CountsStartFault, IsStarted, Starts};
 
 use crate::book::Book;
+use crate::counter::{Counter, announce};
 use crate::error::BookError;
 use crate::reading::Prepared;
 use cj_board::{Board, BookSeat, Pass};
@@ -53,17 +55,26 @@ fn forget(names: &mut BTreeSet<MarkerName>, name: &Name)
 }
 
 /// An entry comes to the board, and then behind the others, where there is room for it.
-fn put_entry(entries: &mut Vec<BoxedEntry>, board: &Board, seat: &mut BookSeat, boxed: BoxedEntry)
+fn put_entry(
+    entries: &mut Vec<BoxedEntry>,
+    board: &Board,
+    seat: &mut BookSeat,
+    counter: &mut Counter,
+    boxed: BoxedEntry,
+)
     requires room { length entries.old.items < vec_capacity entries.old }
     requires board { book_board seat.old ≡ board_id board.now }
+    requires on { IsOn (board_id board.now) counter.old }
     requires legal { IsLegal (history seat.old ++ Event.Sched boxed ∷ []) }
-    requires counts { HasCountNotes (book_view seat.old).given (history seat.old) (book_view seat.old).count_notes (Event.Sched boxed) }
+    requires counts { HasCountNotes (hearing (own_view counter.old) (book_view seat.old)).given (history seat.old) (hearing (own_view counter.old) (book_view seat.old)).count_notes (Event.Sched boxed) }
     ensures entries { entries.new.items ≡ entries.old.items ++ boxed ∷ [] }
     ensures board { book_board seat.new ≡ book_board seat.old }
-    ensures view { book_view seat.new ≡ after_append (Event.Sched boxed) (book_view seat.old) }
+    ensures on { IsOn (board_id board.now) counter.new }
+    ensures view { book_view seat.new ≡ book_after (Some (Event.Sched boxed)) (own_view counter.old) (book_view seat.old) }
+    ensures own { own_view counter.new ≡ pass_after (Some (Event.Sched boxed)) (own_view counter.old) (book_view seat.old) }
 {
     let event = Event::Sched(boxed);
-    board.append(seat, &event);
+    announce(board, seat, counter, &event);
     let Event::Sched(boxed) = event else {
         unreachable!()
     };
@@ -83,21 +94,51 @@ impl<S: Store> Book<S> {
         requires counted { IsCounted self.old (Event.Sched e) × IsCounted self.old (Event.LogFailed e.session e.seq) }
         ensures state { Schedules S.TELLS S.faults S.moment S.since S.may self.old.state e result self.new.state }
         ensures board { self.new.board ≡ self.old.board }
+        ensures opening { self.new.faults_at_opening ≡ self.old.faults_at_opening }
         ensures seat { self.new.view ≡ view_after (event_or_fault (Event.Sched e) (Event.LogFailed e.session e.seq) result) self.old.view }
+    {
+        self.schedule_counted(board, &mut Counter::Nobody, e)
+    }
+
+    /// The same, where the session may have an own pass, which counts the event that comes.
+    pub(crate) fn schedule_counted(
+        &mut self,
+        board: &Board,
+        counter: &mut Counter,
+        e: Entry,
+    ) -> Result<u64, BookError>
+        requires board { self.old.board ≡ board_id board.now }
+        requires on { IsOn (board_id board.now) counter.old }
+        requires fit { is_idle self.old.state.history ≡ true → IsFitEntry (log self.old.state.history) e }
+        requires known { IsOfKnown self.old.state e }
+        requires counted { CanCount self.old (own_view counter.old) (Event.Sched e) × CanCount self.old (own_view counter.old) (Event.LogFailed e.session e.seq) }
+        ensures state { Schedules S.TELLS S.faults S.moment S.since S.may self.old.state e result self.new.state }
+        ensures board { self.new.board ≡ self.old.board }
+        ensures opening { self.new.faults_at_opening ≡ self.old.faults_at_opening }
+        ensures seat { self.new.view ≡ book_after (event_or_fault (Event.Sched e) (Event.LogFailed e.session e.seq) result) (own_view counter.old) self.old.view }
+        ensures on { IsOn (board_id board.now) counter.new }
+        ensures own { own_view counter.new ≡ pass_after (event_or_fault (Event.Sched e) (Event.LogFailed e.session e.seq) result) (own_view counter.old) self.old.view }
     {
         self.legal();
         self.check_schedule(&e.act)?;
         let prepared = self.prepare(&e)?;
-        self.enter(board, e, prepared)
+        self.enter(board, counter, e, prepared)
     }
 
     /// An entry that can be scheduled comes into the log, and then into the history.
-    fn enter(&mut self, board: &Board, e: Entry, prepared: Prepared) -> Result<u64, BookError>
+    fn enter(
+        &mut self,
+        board: &Board,
+        counter: &mut Counter,
+        e: Entry,
+        prepared: Prepared,
+    ) -> Result<u64, BookError>
         requires board { self.old.board ≡ board_id board.now }
+        requires on { IsOn (board_id board.now) counter.old }
         requires can { CanSchedule self.old.state e.act }
         requires fit { IsFitEntry (log self.old.state.history) e }
         requires known { IsOfKnown self.old.state e }
-        requires counted { IsCounted self.old (Event.Sched e) × IsCounted self.old (Event.LogFailed e.session e.seq) }
+        requires counted { CanCount self.old (own_view counter.old) (Event.Sched e) × CanCount self.old (own_view counter.old) (Event.LogFailed e.session e.seq) }
         requires prepared { IsPrepared self.old.state e prepared }
         ensures ok { OnOk result (IsSameButLog (with_entry self.old.state e) self.new.state) }
         ensures number { IfOk result (λ n. n ≡ length (log self.new.state.history)) }
@@ -110,7 +151,10 @@ impl<S: Store> Book<S> {
         ensures refused { S.TELLS ≡ true → Refuses self.old.state.recovery_log prepared.item self.new.state.recovery_log result }
         ensures safe { S.TELLS ≡ true → OnOk result (LeavesItems (S.may self.new.state.recovery_log.store) (items_of self.new.state.history)) }
         ensures board { self.new.board ≡ self.old.board }
-        ensures seat { self.new.view ≡ view_after (event_or_fault (Event.Sched e) (Event.LogFailed e.session e.seq) result) self.old.view }
+        ensures opening { self.new.faults_at_opening ≡ self.old.faults_at_opening }
+        ensures seat { self.new.view ≡ book_after (event_or_fault (Event.Sched e) (Event.LogFailed e.session e.seq) result) (own_view counter.old) self.old.view }
+        ensures on { IsOn (board_id board.now) counter.new }
+        ensures own { own_view counter.new ≡ pass_after (event_or_fault (Event.Sched e) (Event.LogFailed e.session e.seq) result) (own_view counter.old) self.old.view }
     {
         self.recovery_log.legal();
         let number = self.length() + 1;
@@ -125,13 +169,11 @@ impl<S: Store> Book<S> {
             }
             Err(LogError::Failed) => {
                 self.transactions.end(number);
-                board.append(
-                    &mut self.seat,
-                    &Event::LogFailed {
-                        session: e.session,
-                        seq: e.seq,
-                    },
-                );
+                let failed = Event::LogFailed {
+                    session: e.session,
+                    seq: e.seq,
+                };
+                announce(board, &mut self.seat, counter, &failed);
                 return Err(BookError::LogFault);
             }
         }
@@ -144,6 +186,7 @@ impl<S: Store> Book<S> {
             &mut self.entries,
             board,
             &mut self.seat,
+            counter,
             prepared.room.filled(e),
         );
         Ok(number)
@@ -158,6 +201,7 @@ impl<S: Store> Book<S> {
         requires faults { HasFaultTokens self.old.view.fault_tokens (Event.Ended failed starved) }
         ensures state { self.new.state ≡ with_event self.old.state (Event.Ended failed starved) }
         ensures board { self.new.board ≡ self.old.board }
+        ensures opening { self.new.faults_at_opening ≡ self.old.faults_at_opening }
         ensures seat { self.new.view ≡ after_append (Event.Ended failed starved) self.old.view }
     {
         board.append(&mut self.seat, &Event::Ended { failed, starved });
@@ -174,6 +218,7 @@ impl<S: Store> Book<S> {
         requires is_enabled { is_enabled self.old.state.history b ≡ true }
         ensures state { Appends self.old.state (Event.Disabled b) result self.new.state }
         ensures board { self.new.board ≡ self.old.board }
+        ensures opening { self.new.faults_at_opening ≡ self.old.faults_at_opening }
         ensures seat { self.new.view ≡ view_after (event_at_ok (Event.Disabled b) result) self.old.view }
     {
         self.check_room()?;
@@ -191,6 +236,7 @@ impl<S: Store> Book<S> {
         requires position { Contains self.old.view.position_notes (b, length (log self.old.state.history)) }
         ensures state { Appends self.old.state (Event.Enabled b) result self.new.state }
         ensures board { self.new.board ≡ self.old.board }
+        ensures opening { self.new.faults_at_opening ≡ self.old.faults_at_opening }
         ensures seat { self.new.view ≡ view_after (event_at_ok (Event.Enabled b) result) self.old.view }
     {
         self.check_room()?;
@@ -211,6 +257,7 @@ impl<S: Store> Book<S> {
         requires fault { 0 < fault_tokens_of b self.old.view.fault_tokens }
         ensures state { Appends self.old.state (Event.ReadFailed session seq b) result self.new.state }
         ensures board { self.new.board ≡ self.old.board }
+        ensures opening { self.new.faults_at_opening ≡ self.old.faults_at_opening }
         ensures seat { self.new.view ≡ view_after (event_at_ok (Event.ReadFailed session seq b) result) self.old.view }
     {
         self.check_room()?;
@@ -229,6 +276,7 @@ impl<S: Store> Book<S> {
         requires counted { IsCounted self.old (Event.LogFailed 0 0) }
         ensures state { Marks S.TELLS S.faults S.moment S.since S.may self.old.state name.now b result self.new.state }
         ensures board { self.new.board ≡ self.old.board }
+        ensures opening { self.new.faults_at_opening ≡ self.old.faults_at_opening }
         ensures seat { self.new.view ≡ view_after (event_or_fault (Event.Marker name.now b) (Event.LogFailed 0 0) result) self.old.view }
     {
         self.legal();
@@ -256,6 +304,7 @@ impl<S: Store> Book<S> {
         ensures refused { S.TELLS ≡ true → Refuses self.old.state.recovery_log (openings.marker_item (length (log self.old.state.history)) name.now b) self.new.state.recovery_log result }
         ensures safe { S.TELLS ≡ true → OnOk result (LeavesItems (S.may self.new.state.recovery_log.store) (items_of self.new.state.history)) }
         ensures board { self.new.board ≡ self.old.board }
+        ensures opening { self.new.faults_at_opening ≡ self.old.faults_at_opening }
         ensures seat { self.new.view ≡ view_after (event_or_fault (Event.Marker name.now b) (Event.LogFailed 0 0) result) self.old.view }
     {
         self.recovery_log.legal();
@@ -288,6 +337,7 @@ impl<S: Store> Book<S> {
     pub fn tell(&mut self, board: &Board, p: &mut Pass)
         requires board { (self.old.board ≡ board_id board.now) × (pass_board p.old ≡ board_id board.now) }
         ensures board { (self.new.board ≡ self.old.board) × (pass_board p.new ≡ pass_board p.old) }
+        ensures opening { self.new.faults_at_opening ≡ self.old.faults_at_opening }
         ensures state { self.new.state ≡ self.old.state }
         ensures book { self.new.view ≡ after_learning self.old.view (pass_without_notes (pass_view p.old)) }
         ensures pass { pass_view p.new ≡ after_join (pass_view p.old) (pass_without_tokens self.new.view) }
@@ -301,6 +351,7 @@ impl<S: Store> Book<S> {
     pub fn learn(&mut self, board: &Board, p: &mut Pass)
         requires board { (self.old.board ≡ board_id board.now) × (pass_board p.old ≡ board_id board.now) }
         ensures board { (self.new.board ≡ self.old.board) × (pass_board p.new ≡ pass_board p.old) }
+        ensures opening { self.new.faults_at_opening ≡ self.old.faults_at_opening }
         ensures state { self.new.state ≡ self.old.state }
         ensures book { self.new.view ≡ after_learning self.old.view (pass_of (pass_view p.old)) }
         ensures pass { pass_view p.new ≡ after_split (pass_view p.old) }

@@ -8,8 +8,10 @@
 
 mod beside;
 mod book;
+mod counter;
 mod error;
 mod events;
+mod own;
 mod reading;
 mod recovered;
 mod sessions;
@@ -17,4 +19,4 @@ mod touching;
 mod transactions;
 
 pub use book::{Book, BookParts};
-pub use error::{BookError, SessionsFull, StartError};
+pub use error::{BookError, OwnError, SessionsFull, StartError};

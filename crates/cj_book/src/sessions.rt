@@ -1,6 +1,6 @@
 //! The open sessions, with their transactions.
 
-ghost use Rattle.std.specs.Prelude.{◌≡◌, ◌<◌, [], ◌∷◌, ◌++◌, length, All, IfOk, MatchOption, None};
+ghost use Rattle.std.specs.Prelude.{◌≡◌, ◌<◌, [], ◌∷◌, ◌++◌, length, All, IfOk, OnErr, OnOk, MatchOption, None};
 ghost use Rattle.cj_book.specs.Lists.{IsPlaceOf, new_session, numbered, session_number, with_tx, without};
 ghost use Rattle.cj_book.specs.Lists as lists;
 
@@ -77,6 +77,16 @@ impl BookSessions {
         ensures { self.new ≡ self.old ++ new_session number ∷ [] }
     {
         self.open.push_reserved(BookSession { number, tx: 0 });
+    }
+
+    /// The same however many are open. It takes memory where they are many.
+    pub fn try_add(&mut self, number: u64) -> Result<(), NoMemory>
+        requires { All (λ s. session_number s < number) self.old }
+        ensures ok { OnOk result (self.new ≡ self.old ++ new_session number ∷ []) }
+        ensures err { OnErr result (self.new ≡ self.old) }
+    {
+        self.open.push(BookSession { number, tx: 0 })?;
+        Ok(())
     }
 
     /// Closes the session of a number.

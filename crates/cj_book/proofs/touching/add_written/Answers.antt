@@ -1,4 +1,4 @@
-use Rattle.std.proofs.Common.{◌≡◌, ◌||◌, List, ap, sym, ◌∙◌, option_copied}
+use Rattle.std.proofs.Common.{◌||◌, ap, sym, ◌∙◌, option_copied}
 use Rattle.cj_book.specs.Touching.{has_table, is_written_in}
 use Rattle.cj_book.proofs.Written.{put_has}
 use Rattle.cj_book.proofs.touching.add_written.Goals as goal

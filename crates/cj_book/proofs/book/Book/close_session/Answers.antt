@@ -6,7 +6,7 @@ use Rattle.cj_book.proofs.book.Book.close_session.Goals as goal
 pub invariant_of-self : goal.invariant_of-self
 invariant_of-self g c =
     let k = c.self.invariant in
-    record { history = k.history; follows = rw c.remove.ensures (follows_closed _ _ _ _ _ _ k.follows c.args.session); marked = k.marked; logged = k.logged; gate = k.gate }
+    record { history = k.history; follows = rw c.remove.ensures (follows_closed _ _ _ _ _ _ k.follows c.args.session); marked = k.marked; logged = k.logged; gate = k.gate; faults = k.faults }
 
 pub returns-clause-state : goal.returns-clause-state
 returns-clause-state g c = rw (← c.self.view_is, c.remove.ensures, numbers_without session_number c.self.inside.sessions c.args.session)

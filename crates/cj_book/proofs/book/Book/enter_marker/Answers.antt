@@ -1,8 +1,8 @@
-use Rattle.std.proofs.Common.{◌≡◌, ℕ, ◌<◌, ◌++◌, ◌∷◌, ◌||◌, [], List, length, Err, refl, ap, sym, subst, ◌∙◌, arith}
+use Rattle.std.proofs.Common.{◌≡◌, ℕ, ◌++◌, ◌∷◌, ◌||◌, [], List, length, Err, refl, ap, sym, subst, ◌∙◌}
 use Rattle.std.specs.BTreeSet.{contains}
 use Rattle.std.specs.Str.{bytes_eq}
 use Rattle.cj_cluster.specs.declared.event.Event.{Event}
-use Rattle.cj_cluster.specs.declared.event.Event.TheVariants.{LogFailed, Marker}
+use Rattle.cj_cluster.specs.declared.event.Event.TheVariants.{Marker}
 use Rattle.cj_cluster.specs.History.Histories.{log}
 use Rattle.cj_cluster.specs.History.Legality.{IsLegal}
 use Rattle.cj_cluster.proofs.Pushed.{log-same}
@@ -36,7 +36,7 @@ invariant_of-self-in-Err-NoMemory g c =
     let fresh = rw (← c.self.view_is) at c.requires.fresh in
     let added = subst (λ (n : List ℕ). (q : List ℕ) → contains marker_cmp c.insert.new.self (named q) ≡ (contains marker_cmp names (named q) || bytes_eq q n)) c.copy.ensures (added_name names c.insert.new.self c.copy.result c.in_ok-insert.ensures.updates.0) in
     kept_wanting c.self.invariant (taken_back h names c.insert.new.self c.forget.new.names name c.self.invariant.marked fresh added c.forget.ensures)
-    c.in-Err-NoMemory.ensures.items (λ t up. c.in-Err-NoMemory.ensures.memory t (ap (λ (d : LogError). Err d) c.in-Err-NoMemory.field-0-is) up)
+    c.in-Err-NoMemory.ensures.items (λ t up. c.in-Err-NoMemory.ensures.memory t (ap (λ (d : LogError). Err d) c.in-Err-NoMemory.field-0-is) up) (c.in-Err-NoMemory.ensures.cause.uncounted (λ is. absurd (cc (c.in-Err-NoMemory.field-0-is, is))))
 
 -- ---- the log's store failed
 
@@ -59,7 +59,8 @@ invariant_of-self-in-Err-Failed g c =
     let space = rw (← c.self.view_is) at c.requires.space in
     let added = subst (λ (n : List ℕ). (q : List ℕ) → contains marker_cmp c.insert.new.self (named q) ≡ (contains marker_cmp names (named q) || bytes_eq q n)) c.copy.ensures (added_name names c.insert.new.self c.copy.result c.in_ok-insert.ensures.updates.0) in
     rw c.append-in-Err-Failed.ensures.book
-    (kept_log_failed c.self.invariant 0 0 space idle (taken_back h names c.insert.new.self c.forget-in-Err-Failed.new.names name c.self.invariant.marked fresh added c.forget-in-Err-Failed.ensures) c.in-Err-Failed.ensures.items)
+    (kept_log_failed c.self.invariant 0 0 space idle (taken_back h names c.insert.new.self c.forget-in-Err-Failed.new.names name c.self.invariant.marked fresh added c.forget-in-Err-Failed.ensures) c.in-Err-Failed.ensures.items
+    (c.in-Err-Failed.ensures.cause.counted (ap (λ (d : LogError). Err d) c.in-Err-Failed.field-0-is)))
 
 -- ---- the marker comes
 
@@ -88,7 +89,7 @@ invariant_of-self-2 g c =
     let events : history c.append-2.new.s ≡ h ++ Marker name b ∷ [] = ap (λ (v : SeatView). v.front) c.append-2.ensures.book ∙ ap (λ (n : List ℕ). h ++ Marker n b ∷ []) c.copy-2.ensures in
     let added = subst (λ n. KeepsMarkers (h ++ Marker n b ∷ []) c.insert.new.self) c.copy.ensures (marked_more h names c.insert.new.self c.copy.result b k.marked (added_name names c.insert.new.self c.copy.result c.in_ok-insert.ensures.updates.0)) in
     rw events
-    (kept_marker k name b space idle fresh added (λ t. c.in-Ok.ensures.items t ∙ ap (λ (i : LogItem). items ++ i ∷ []) (c.marker_of.ensures ∙ ap (λ n. marker_item n name b) count)) (λ t. c.in-Ok.ensures.refused t))
+    (kept_marker k name b space idle fresh added (λ t. c.in-Ok.ensures.items t ∙ ap (λ (i : LogItem). items ++ i ∷ []) (c.marker_of.ensures ∙ ap (λ n. marker_item n name b) count)) (λ t. c.in-Ok.ensures.refused t) (c.in-Ok.ensures.cause.uncounted (λ is. absurd (cc is))))
 
 pub returns-clause-number : goal.returns-clause-number
 returns-clause-number g c =

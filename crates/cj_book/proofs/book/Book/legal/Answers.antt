@@ -1,9 +1,11 @@
-use Rattle.std.proofs.Common.{◌≡◌, false, subst}
+use Rattle.std.proofs.Common.{◌≡◌, ◌≤◌, false, subst}
+use Rattle.cj_model.specs.declared.request.Entry.{Entry}
 use Rattle.cj_log.specs.Logs.{LeavesItems}
 use Rattle.cj_opening.specs.Openings.{items_of}
 use Rattle.cj_board.specs.Seats.{history}
-use Rattle.cj_book.specs.Books.{IsKeptIn, last_write_failed}
-use Rattle.cj_book.specs.Seated.{SeatedBook}
+use Rattle.cj_book.specs.Books.{IsKeptIn, IsOfKnown, last_write_failed}
+use Rattle.cj_book.specs.Seated.{HasCountedLogFaults, SeatedBook}
+use Rattle.cj_book.proofs.Following.{given_session}
 use Rattle.cj_book.proofs.Logged.{kept_in, shut_where}
 use Rattle.cj_book.proofs.book.Book.legal.Goals as goal
 
@@ -23,3 +25,14 @@ returns-clause-safe g c = λ t.
 
 pub returns-clause-now : goal.returns-clause-now
 returns-clause-now g c = λ t. rw (← c.self.view_is) (c.legal.ensures.now t)
+
+pub returns-clause-given : goal.returns-clause-given
+returns-clause-given g c =
+    let b = c.self.inside in
+    subst (λ (v : SeatedBook g.row.S.Denot). (e : Entry) → IsOfKnown v.state e → e.session ≤ v.state.greatest) c.self.view_is
+    (given_session b.placement (history b.seat) b.greatest b.targets b.sessions b.transactions c.self.invariant.follows b.recovery_log b.balancer b.cache)
+
+pub returns-clause-faults : goal.returns-clause-faults
+returns-clause-faults g c =
+    let faults = g.S.Store.faults in
+    subst (λ (v : SeatedBook g.row.S.Denot). HasCountedLogFaults v.state.history v.faults_at_opening (faults v.state.recovery_log.store)) c.self.view_is c.self.invariant.faults

@@ -5,6 +5,7 @@ use Rattle.cj_opening.specs.Openings.{HasBadEntry, OpensTo}
 use Rattle.cj_board.specs.Seats.{history}
 use Rattle.cj_book.specs.declared.error.StartError.{StartError}
 use Rattle.cj_book.specs.Starts.{Starts}
+use Rattle.cj_book.proofs.Counted.{opening_counted}
 use Rattle.cj_book.proofs.Logged.{gate_shut}
 use Rattle.cj_book.proofs.Recovering.{follows_opening, keeps_opened}
 use Rattle.cj_book.proofs.Starting.{Begins, items_refused}
@@ -13,6 +14,7 @@ use Rattle.cj_book.proofs.book.Book.open.Goals as goal
 pub invariant_of-result : goal.invariant_of-result
 invariant_of-result g c =
     let layout = c.args.parts.placement in
+    let faults = g.S.Store.faults in
     let items = c.in-Ok.opened.1 in
     let h = history c.recover.new.seat in
     let found = c.in-Ok-recover.found in
@@ -29,6 +31,7 @@ invariant_of-result g c =
       marked = kept.marked;
       logged = λ t. opens.same ∙ sym (c.in-Ok.ensures.bytes t).1;
       gate = gate_shut g.S.Store.TELLS c.in-Ok.opened.0.torn h (λ t. c.in-Ok.ensures.shut);
+      faults = opening_counted h (faults c.of-opened_with.result.value) (faults c.in-Ok.opened.0.store) opens.opening (c.in-Ok.ensures.cause ∙ sym (ap faults c.of-opened_with.ensures));
     }
 
 pub returns-in-Err-recover-clause-bytes : goal.returns-in-Err-recover-clause-bytes

@@ -1,0 +1,10 @@
+use Rattle.std.proofs.Common.{arith}
+use Rattle.cj_book.specs.Lists.{new_session, session_number}
+use Rattle.cj_book.proofs.Numbered.{rises_push}
+use Rattle.cj_book.proofs.sessions.BookSessions.try_add.Goals as goal
+
+pub invariant_of-self-2 : goal.invariant_of-self-2
+invariant_of-self-2 c = record {
+  rises = rw c.in_ok-push.ensures.items (rises_push session_number c.self.inside.open.items (new_session c.args.number) (rw c.self.view_is c.requires) c.self.invariant.rises);
+  room = omega (arith, c.self.invariant.room, c.push.ensures.capacity);
+}
