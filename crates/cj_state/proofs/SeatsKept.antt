@@ -56,8 +56,8 @@ module _ {S : Type 0} (id pass : TableId) (old new : SeatedBook S) (cells : List
   seats_same same = (
     at_book same.0,
     record {
-      unowned = ap (λ (v : SeatView). v.given) same.1.0 ∙ ready.unowned;
-      tokens = λ k on. subst (λ (v : SeatView). 0 < fault_tokens_of k v.fault_tokens) (sym same.1.0) (ready.tokens k on);
+      unowned = ap (λ (v : SeatView). v.given) same.1 ∙ ready.unowned;
+      tokens = λ k on. subst (λ (v : SeatView). 0 < fault_tokens_of k v.fault_tokens) (sym same.1) (ready.tokens k on);
     },
   )
 
