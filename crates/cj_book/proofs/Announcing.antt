@@ -1,20 +1,10 @@
 -- Which events come to the board, and that the seat knows what each of them needs.
 use Rattle.std.proofs.Common.{◌≡◌, ℕ, zero, suc, ◌<◌, Bool, false, cond, eqb, List, [], ◌∷◌, ◌++◌, length, take, slice_get, Option, None, Some, refl, ap, sym, ◌∙◌, subst, arith}
 use Rattle.std.proofs.lemmas.Bool.{both_ways, eqb-true}
-use Rattle.std.proofs.lemmas.List.{append-nil}
-use Rattle.std.proofs.lemmas.List.Elements.{filter_map-append}
-use Rattle.cj_model.specs.Cluster.Masks.{in_mask}
-use Rattle.cj_model.proofs.Masks.{has-zero}
-use Rattle.cj_cluster.specs.declared.event.Event.{Event}
-use Rattle.cj_cluster.specs.declared.event.Event.TheVariants.{Sched, Ended, ReadFailed, LogFailed, Disabled, Enabled, Marker}
+use Rattle.cj_book.proofs.Common.{append-nil, book_after, Disabled, Enabled, enabled-push, Ended, Event, event_count_of, filter_map-append, get_seam, has-zero, in_mask, IsOpening, log-same, log_failure_session, log_failure_sessions, LogFailed, Marker, ReadFailed, Sched, SeatView, take_whole}
 use Rattle.cj_cluster.specs.History.Histories.{scheduled_entry, is_enabled, enabled_after_event, notes_failure}
-use Rattle.cj_cluster.proofs.Pushed.{enabled-push, get_seam, log-same, take_whole}
-use Rattle.cj_opening.specs.Openings.{IsOpening}
-use Rattle.cj_board.specs.declared.view.SeatView.{SeatView}
-use Rattle.cj_board.specs.Counting.{event_count_of, log_failure_session, log_failure_sessions}
 use Rattle.cj_board.specs.Points.{fault_tokens_of}
 use Rattle.cj_board.specs.Steps.{HasCountNotes, HasFaultTokens, HasPositionNotes, after_append, spend}
-use Rattle.cj_book.specs.Counters.{book_after}
 use Rattle.cj_book.specs.Seated.{CanCome}
 
 -- ---- events that need nothing

@@ -1,14 +1,9 @@
 -- A transaction that is added before its entry is scheduled.
 use Rattle.std.proofs.Common.{◌≡◌, ◌≢◌, ℕ, ◌+◌, ◌<◌, List, [], ◌∷◌, ◌++◌, length, All, refl, ap, sym, subst, ◌∙◌, arith}
 use Rattle.std.proofs.lemmas.Bool.{eq-eqb, ne_eqb}
-use Rattle.std.proofs.lemmas.List.Elements.{All-head, All-tail, All-weaker}
-use Rattle.cj_model.specs.declared.request.Act.{Act}
+use Rattle.cj_book.proofs.Common.{Act, All-head, All-tail, All-weaker, Entry, KeepsTransactions, OpenTransaction, Placement}
 use Rattle.cj_model.specs.declared.request.Act.TheVariants as act
-use Rattle.cj_model.specs.declared.request.Entry.{Entry}
-use Rattle.cj_model.specs.Cluster.Placements.{Placement}
-use Rattle.cj_book.specs.declared.transactions.OpenTransaction.{OpenTransaction}
 use Rattle.cj_book.specs.Lists.{new_tx, tx_number, without, transactions_after, transactions_begun, transactions_followed}
-use Rattle.cj_book.specs.Kept.{KeepsTransactions}
 use Rattle.cj_book.proofs.TransactionSteps.{numbers_below}
 use Rattle.cj_book.proofs.Numbered.{found_none, unremoved}
 

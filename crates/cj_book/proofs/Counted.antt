@@ -2,13 +2,7 @@
 use Rattle.std.proofs.Common.{◌≡◌, ◌⊎◌, inl, inr, ℕ, ◌+◌, ◌-◌, ◌^◌, ◌≤◌, List, [], ◌∷◌, ◌++◌, length, None, refl, ap, sym, ◌∙◌, subst, arith, length-append, ⊎_elim}
 use mathlib.Core.Logic.{dite}
 use native.Mathlib.Decide.{dec_le}
-use Rattle.std.proofs.lemmas.List.Elements.{filter_map-append}
-use Rattle.cj_cluster.specs.declared.event.Event.{Event}
-use Rattle.cj_cluster.specs.declared.event.Event.TheVariants.{Sched, Ended, LogFailed, Marker}
-use Rattle.cj_outside.specs.Causes.{next}
-use Rattle.cj_opening.specs.Openings.{IsOpening}
-use Rattle.cj_board.specs.Counting.{log_failure_session, log_failure_sessions}
-use Rattle.cj_book.specs.Seated.{HasCountedLogFaults}
+use Rattle.cj_book.proofs.Common.{Ended, Event, filter_map-append, HasCountedLogFaults, IsOpening, log_failure_session, log_failure_sessions, LogFailed, Marker, next, Sched}
 use Rattle.cj_book.proofs.Announcing.{failures_same}
 
 -- a history that opens tells of none

@@ -1,30 +1,12 @@
 -- What follows from a history with one more event.
 use Rattle.std.proofs.Common.{◌≡◌, ◌≢◌, inl, inr, ℕ, ◌+◌, ◌-◌, ◌*◌, ◌^◌, ◌<◌, ◌≤◌, ◌==◌, ◌&&◌, not, Bool, true, false, List, [], ◌∷◌, ◌++◌, length, map, Option, None, Some, is_some, bit_and, refl, ap, sym, ◌∙◌, subst, arith, ⊎_elim}
-use Rattle.std.specs.List.{list_any}
-use Rattle.std.specs.Str.{bytes_eq}
-use Rattle.std.proofs.lemmas.Bool.{eqb-false, and_parts}
 use Rattle.std.proofs.lemmas.List.Elements.{All-filter}
-use Rattle.cj_model.specs.declared.request.Entry.{Entry}
+use Rattle.cj_book.proofs.Common.{and_parts, AreFitMasks, BookSession, BookState, bytes_eq, concerns, Disabled, Enabled, Ended, Entry, entry_numbered, eqb-false, Event, has-and, has-zero, has_session, in_mask, is_end, is_orphan, is_orphan_of, is_target_at, IsAdministratorEntry, IsAllowedEvent, IsFitEntry, IsOfKnown, IsSessionEntry, Layout, legal_fit, list_any, LogFailed, Marker, new_session, numbered, OpenTransaction, Placement, placement_of, ReadFailed, Sched, session_number, sessions_after, transactions_after, without}
 use Rattle.cj_model.specs.Cluster.Caching.{CacheState}
 use Rattle.cj_model.specs.Cluster.Balancing.{Balance}
-use Rattle.cj_model.specs.Cluster.Masks.{in_mask}
-use Rattle.cj_model.specs.Cluster.Placements.{Placement, concerns}
-use Rattle.cj_model.proofs.MaskBits.{has-and}
-use Rattle.cj_model.proofs.Masks.{has-zero}
-use Rattle.cj_cluster.specs.declared.event.Event.{Event}
-use Rattle.cj_cluster.specs.declared.event.Event.TheVariants.{Sched, Ended, ReadFailed, LogFailed, Disabled, Enabled, Marker}
 use Rattle.cj_cluster.specs.History.Histories.{scheduled_entry, is_end_event, log, ended_count, is_idle, entry_in_progress, is_enabled, events_left, markers, tx_of}
-use Rattle.cj_cluster.specs.History.Legality.{AreFitMasks, IsAllowedEvent, IsFitEntry, IsSessionEntry, IsAdministratorEntry}
-use Rattle.cj_cluster.specs.History.Transactions.{is_end}
-use Rattle.cj_cluster.specs.Moves.Moves.{entry_numbered}
 use Rattle.cj_cluster.proofs.Pushed.{enabled-push, log-sched, log-same, legal_push, opened-sched, opened-same, opened-free, opened-ended}
-use Rattle.cj_cluster.proofs.TransactionLaws.{legal_fit}
-use Rattle.cj_place.specs.Layouts.{Layout, placement_of}
 use Rattle.cj_log.specs.Logs.{LogState}
-use Rattle.cj_book.specs.declared.sessions.BookSession.{BookSession}
-use Rattle.cj_book.specs.declared.transactions.OpenTransaction.{OpenTransaction}
-use Rattle.cj_book.specs.Books.{BookState, has_session, is_orphan, is_orphan_of, is_target_at, IsOfKnown}
-use Rattle.cj_book.specs.Lists.{new_session, numbered, session_number, without, sessions_after, transactions_after}
 use Rattle.cj_book.specs.Kept.{IsKeptSession, KeepsSessions, KeepsTransactions, KeepsTargets, Follows}
 use Rattle.cj_book.proofs.Numbered.{found_among, found_holds, found_number, member_holds}
 use Rattle.cj_book.proofs.TransactionSteps.{EndsOf, own_end, numbered_entry, concerns_push, sessions_opened, sessions_push, transactions_push}

@@ -1,27 +1,8 @@
 -- A book with one more event.
 use Rattle.std.proofs.Common.{◌≡◌, ◌≢◌, Bool, ℕ, ◌+◌, ◌-◌, ◌*◌, ◌^◌, ◌%◌, ◌<◌, ◌≤◌, ◌==◌, ◌&&◌, ◌||◌, not, true, false, List, [], ◌∷◌, ◌++◌, length, Option, None, bit_and, bit_or, refl, ap, sym, ◌∙◌, arith, length-append, ⊎_elim}
 use Rattle.std.proofs.lemmas.Bool.{eqb-true, eqb-false, and_parts, or_cases}
-use Rattle.cj_model.specs.declared.request.Entry.{Entry}
-use Rattle.cj_cluster.specs.declared.event.Event.{Event}
-use Rattle.cj_cluster.specs.declared.event.Event.TheVariants.{Sched, Ended, ReadFailed, LogFailed, Disabled, Enabled, Marker}
-use Rattle.cj_cluster.specs.History.Histories.{scheduled_entry, is_end_event, log, ended_count, is_idle, is_enabled, enabled_after_event, events_left, marker_name, markers}
-use Rattle.cj_model.specs.Cluster.Masks.{in_mask}
+use Rattle.cj_book.proofs.Common.{AreFitMasks, BookSession, BTreeSet, bytes_eq, Disabled, Enabled, enabled_after_event, Ended, ended_count, Entry, entry_item, Event, events_left, failed_after, in_mask, is_enabled, is_end_event, is_idle, items_behind, KeepsMarkers, Layout, list_any, log, log_failure_session, LogFailed, LogItem, marked_same, Marker, marker_item, marker_name, MarkerName, markers, next, OpenTransaction, ReadFailed, Sched, scheduled_entry}
 use Rattle.cj_cluster.proofs.Pushed.{enabled-push, log-sched, log-same, done-same, done-ended}
-use Rattle.cj_opening.proofs.Kept.{marked_same}
-use Rattle.std.specs.List.{list_any}
-use Rattle.std.specs.Str.{bytes_eq}
-use Rattle.std.specs.BTreeSet.{BTreeSet}
-use Rattle.cj_cluster.specs.History.Legality.{AreFitMasks}
-use Rattle.cj_opening.specs.declared.markers.MarkerName.{MarkerName}
-use Rattle.cj_opening.specs.Openings.{entry_item, items_behind, marker_item}
-use Rattle.cj_opening.specs.Proving.Keeping.{KeepsMarkers}
-use Rattle.cj_log.specs.declared.item.LogItem.{LogItem}
-use Rattle.cj_place.specs.Layouts.{Layout}
-use Rattle.cj_book.specs.Books.{failed_after}
-use Rattle.cj_book.specs.declared.sessions.BookSession.{BookSession}
-use Rattle.cj_book.specs.declared.transactions.OpenTransaction.{OpenTransaction}
-use Rattle.cj_outside.specs.Causes.{next}
-use Rattle.cj_board.specs.Counting.{log_failure_session}
 use Rattle.cj_book.specs.Kept.{Follows, IsKeptBook, KeepsHistory}
 use Rattle.cj_book.proofs.Counted.{counted_fault, counted_more}
 use Rattle.cj_book.proofs.Following.{follows_disabled, follows_ended, follows_enabled, follows_log_failed, follows_marker, follows_read_failed}

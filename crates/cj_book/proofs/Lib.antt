@@ -1,5 +1,6 @@
 pub mod Announcing
 pub mod Begun
+pub mod Common
 pub mod Counted
 pub mod Following
 pub mod Keeping
@@ -11,6 +12,6 @@ pub mod Recovering
 pub mod Scheduling
 pub mod Serving
 pub mod Starting
-pub mod Written
 pub mod TransactionSteps
 pub mod Unasked
+pub mod Written

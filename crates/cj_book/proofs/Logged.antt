@@ -1,16 +1,8 @@
 -- The items of a history with one more event.
 use Rattle.std.proofs.Common.{◌≡◌, inl, inr, refl, Bool, true, false, ℕ, ◌+◌, [], ◌∷◌, ◌++◌, List, length, Option, arith, ap, ◌∙◌}
-use Rattle.std.proofs.lemmas.List.{append-nil}
-use Rattle.std.proofs.lemmas.List.Sums.{fold-append}
-use Rattle.cj_model.specs.declared.request.Entry.{Entry}
-use Rattle.cj_cluster.specs.declared.event.Event.{Event}
-use Rattle.cj_cluster.specs.declared.event.Event.TheVariants.{Sched, Marker}
-use Rattle.cj_cluster.specs.History.Histories.{log}
-use Rattle.cj_log.specs.declared.item.LogItem.{LogItem}
-use Rattle.cj_opening.specs.Openings.{entry_item, marker_item, items_behind, items_of}
+use Rattle.cj_book.proofs.Common.{append-nil, Entry, entry_item, Event, failed_after, fold-append, IsKeptIn, items_behind, items_of, last_write_failed, log, LogItem, Marker, marker_item, Sched}
 use Rattle.cj_opening.proofs.Longer.{items_append}
 use Rattle.cj_log.specs.Logs.{KeepsAtLeast, KeepsItems}
-use Rattle.cj_book.specs.Books.{IsKeptIn, failed_after, last_write_failed}
 
 -- an event that brings no item
 pub items_same : (h : List Event) (new : Event) (items : List LogItem) → ((n : ℕ) → items_behind n (new ∷ []) ≡ []) → items_of h ≡ items → items_of (h ++ new ∷ []) ≡ items

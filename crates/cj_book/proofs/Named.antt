@@ -1,18 +1,10 @@
 -- The names of markers, of which one is taken back.
 use Rattle.std.proofs.Common.{◌≡◌, ℕ, ◌&&◌, ◌||◌, not, Bool, true, false, cond, List, refl, ap, sym, ◌∙◌}
 use Rattle.std.specs.BTreeMap.{is_at}
-use Rattle.std.specs.BTreeSet.{BTreeSet, contains}
 use Rattle.std.specs.Cmp.Lexicographic.{slice_cmp}
 use Rattle.std.specs.Ordering.{is_eq, nat_cmp}
-use Rattle.std.specs.Str.{bytes_eq}
-use Rattle.std.proofs.lemmas.Bool.{both_ways}
-use Rattle.std.proofs.lemmas.Map.Text.{is_eq-slice_cmp}
-use Rattle.std.proofs.lemmas.Slice.Eq.{bytes_eq-Decides}
-use Rattle.cj_cluster.specs.declared.event.Event.{Event}
+use Rattle.cj_book.proofs.Common.{both_ways, BTreeSet, bytes_eq, bytes_eq-Decides, contains, Event, is_eq-slice_cmp, KeepsMarkers, marker_cmp, MarkerName, named}
 use Rattle.cj_cluster.specs.History.Histories.{has_marker}
-use Rattle.cj_opening.specs.declared.markers.MarkerName.{MarkerName}
-use Rattle.cj_opening.specs.Proving.Keeping.{KeepsMarkers}
-use Rattle.cj_opening.specs.Proving.MarkerOrder.{marker_cmp, named}
 use Rattle.cj_opening.proofs.Kept.{swapped}
 
 pub removed_name : (old new : BTreeSet MarkerName) (name : List ℕ) → ((q : MarkerName) → contains marker_cmp new q ≡ cond (is_at (marker_cmp (named name)) q) false (contains marker_cmp old q))

@@ -161,10 +161,6 @@ module _ {A : Type 0} (number : A → ℕ) where
     pub there : (x : A) → x ≡ get_or xs place x → slice_get xs place ≡ Some x
     there x read = slice_get-get_or xs place x at.within ∙ ap (λ y. Some y) (sym read)
 
-    -- it is what is found
-    pub found_there : (x : A) → x ≡ get_or xs place x → Some x ≡ numbered number xs n
-    found_there x read = sym (at.found ∙ there x read)
-
     -- it is changed
     pub changed : (x : A) → x ≡ get_or xs place x → (f : A → A) → set xs place (f x) ≡ changed_at f n xs
     changed x read f = set_at f xs n place x r (there x read) (found_number xs n x (at.found ∙ there x read))

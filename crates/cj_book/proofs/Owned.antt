@@ -1,32 +1,18 @@
 -- Sessions that have an own pass: what one more event counts, and the number of the next session.
 use Rattle.std.proofs.Common.{◌≡◌, ◌≢◌, ℕ, ◌+◌, ◌<◌, ◌≤◌, ◌==◌, length, length-append, ◌&&◌, not, max, Bool, true, false, cond, List, [], ◌∷◌, ◌++◌, map, filter, fold, count_by, All, Contains, Option, None, Some, Result, Ok, Err, OnOk, OnErr, IsErrOf, refl, ap, sym, ◌∙◌, subst, arith, ne_eqb, eqb-true, append_assoc, ⊎_elim}
 use mathlib.Core.List.{IsPrefix}
-use Rattle.std.proofs.lemmas.Bool.{eqb-false, le-leb}
 use Rattle.std.proofs.lemmas.List.{append-nil, map-append}
 use Rattle.std.proofs.lemmas.List.Elements.{filter_map-append, All-cons, All-contains, All-nil, Contains-append_right}
 use Rattle.std.proofs.lemmas.List.Sums.{sum_by-cons, sum_by-append}
 use Rattle.std.proofs.lemmas.Result.{on_err_weaker, on_ok_weaker}
-use Rattle.cj_model.specs.declared.request.Entry.{Entry}
-use Rattle.cj_cluster.specs.declared.event.Event.{Event}
-use Rattle.cj_cluster.specs.declared.event.Event.TheVariants.{Sched, LogFailed}
-use Rattle.cj_cluster.specs.History.Histories.{scheduled_entry, log}
-use Rattle.cj_cluster.specs.History.Legality.{IsAdministratorEntry, IsFitEntry, IsLegal, IsSessionEntry}
+use Rattle.cj_book.proofs.Common.{after_join, book_after, BookError, CanCount, Entry, entry_numbered, eqb-false, Event, greatest_session, HasCountNotes, hearing, HistoryFull, InProgress, IsAdministratorEntry, IsFitEntry, IsLegal, IsOpening, IsSessionEntry, le-leb, legal_fit, log, LogFailed, LogFault, NoBackend, NoMemory, pass_after, Sched, scheduled_entry, SeatView}
 use Rattle.cj_cluster.specs.History.Transactions.{AreFitBehind}
 use Rattle.cj_cluster.specs.Moves.Cores.{is_entry_of}
-use Rattle.cj_cluster.specs.Moves.Moves.{entry_numbered}
 use Rattle.cj_cluster.proofs.Pushed.{log-same, log-sched, prefix_get, prefix_trans}
-use Rattle.cj_cluster.proofs.TransactionLaws.{legal_fit}
-use Rattle.cj_opening.specs.Openings.{IsOpening}
-use Rattle.cj_board.specs.declared.view.SeatView.{SeatView}
 use Rattle.cj_board.specs.Counting.{ends_transaction_of, event_count_of, greatest_of, log_failure_session, log_failure_sessions, session_after, sessions_in}
-use Rattle.cj_board.specs.Steps.{HasCountNotes, after_join}
 use Rattle.cj_board.specs.Views.{count_note_of, next_session, pass_without_tokens}
-use Rattle.cj_book.specs.declared.error.BookError.{BookError}
-use Rattle.cj_book.specs.declared.error.BookError.TheVariants.{InProgress, NoBackend, HistoryFull, LogFault, NoMemory}
 use Rattle.cj_book.specs.Books.{BookState, IsSameButLog, with_entry, with_event}
-use Rattle.cj_book.specs.Counters.{book_after, hearing, pass_after, CanCount}
 use Rattle.cj_book.specs.Seated.{event_or_fault, own_book_after, own_pass_after, told_book, told_pass, GivesOwnPassesOnly, SeatedBook}
-use Rattle.cj_book.specs.Starts.{greatest_session}
 use Rattle.cj_book.proofs.Announcing.{failures_same}
 use Rattle.cj_book.proofs.Counted.{opening_unfailed}
 use Rattle.cj_book.proofs.TransactionSteps.{numbered_entry}
@@ -115,9 +101,8 @@ folded : (n : ℕ) (entries : List Entry) → fold (λ k (e : Entry). max k e.se
 folded n [] = omega arith
 folded n (e ∷ entries) = let i = folded (max n e.session) entries in omega (arith, i)
 
-pub opening_gives : {S : Type 0} (book : SeatedBook S) → IsOpening book.state.history → book.view.front ≡ book.state.history → book.view.last_given ≡ 0 → book.state.greatest ≡ greatest_session (log book.state.history) → GivesOwnPassesOnly book
-opening_gives book o seen none is =
-    let h = book.state.history in
+pub opening_gives : (h : List Event) (greatest : ℕ) (v : SeatView) → IsOpening h → v.front ≡ h → v.last_given ≡ 0 → greatest ≡ greatest_session (log h) → greatest + 1 ≡ next_session v
+opening_gives h greatest v o seen none is =
     let number : Entry → ℕ = λ e. e.session in
     let a : greatest_session (log h) ≡ max 0 (greatest_of (map number (log h))) = folded 0 (log h) in
     let b = greatest-append (map number (log h)) (log_failure_sessions h) in

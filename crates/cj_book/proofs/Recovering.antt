@@ -3,33 +3,11 @@ use Rattle.std.proofs.Common.{◌≡◌, ℕ, ◌+◌, ◌^◌, ◌<◌, ◌≤�
 use Rattle.std.specs.Prelude.{fold}
 use Rattle.std.specs.List.{AllByRecursion}
 use Rattle.std.proofs.lemmas.Bool.{eqb-true, both_ways}
-use Rattle.std.proofs.lemmas.Option.{get_or_from_slice_get}
 use Rattle.std.proofs.lemmas.List.Elements.{All-nil, All-from_recursion}
-use Rattle.std.proofs.lemmas.List.Sums.{fold-append}
 use Rattle.std.proofs.Math.Nat.{le-max_left, le-max_right}
 use Rattle.std.proofs.Math.Seq.{take-length}
-use Rattle.cj_model.specs.declared.request.Entry.{Entry}
-use Rattle.cj_model.specs.Cluster.Masks.{in_mask}
-use Rattle.cj_model.specs.Cluster.Placements.{Placement, concerns}
-use Rattle.cj_model.proofs.Masks.{has-zero}
-use Rattle.cj_cluster.specs.declared.event.Event.{Event}
-use Rattle.cj_cluster.specs.declared.event.Event.TheVariants.{Sched, Ended, ReadFailed, LogFailed, Disabled, Enabled, Marker}
-use Rattle.cj_cluster.specs.History.Histories.{scheduled_entry, log, ended_count, is_idle, is_enabled, marker_name}
-use Rattle.cj_cluster.specs.History.Legality.{IsAllowedEvent, IsFitEntry, IsLegal}
-use Rattle.cj_cluster.proofs.Pushed.{get_seam, legal_prefix, log-sched, log-same, opened-free, take_whole}
-use Rattle.cj_cluster.proofs.TransactionLaws.{legal_fit}
-use Rattle.cj_place.specs.Layouts.{Layout, placement_of}
-use Rattle.cj_log.specs.declared.item.LogItem.{LogItem}
-use Rattle.cj_book.specs.declared.recovered.Recovered.{Recovered}
-use Rattle.cj_opening.specs.Openings.{IsOpening, OpensTo}
-use Rattle.cj_opening.specs.Proving.Keeping.{KeepsMarkers}
-use Rattle.cj_opening.proofs.Kept.{marked_same}
+use Rattle.cj_book.proofs.Common.{concerns, Disabled, Enabled, Ended, ended_count, Entry, Event, fold-append, Follows, get_or_from_slice_get, get_seam, greatest_session, has-zero, in_mask, is_enabled, is_idle, is_target_at, IsAllowedEvent, IsFitEntry, IsKeptSession, IsLegal, IsOpening, IsRecovered, KeepsHistory, KeepsMarkers, KeepsTransactions, Layout, legal_fit, legal_prefix, log, log-same, log-sched, LogFailed, LogItem, marked_same, Marker, marker_name, opened-free, OpensTo, Placement, placement_of, ReadFailed, Recovered, Sched, scheduled_entry, take_whole, transactions_after}
 use Rattle.cj_opening.proofs.Longer.{idle_opening}
-use Rattle.cj_book.specs.Books.{is_target_at}
-use Rattle.cj_book.specs.Found.{IsRecovered}
-use Rattle.cj_book.specs.Kept.{IsKeptSession, KeepsHistory, KeepsTransactions, Follows}
-use Rattle.cj_book.specs.Lists.{transactions_after}
-use Rattle.cj_book.specs.Starts.{greatest_session}
 use Rattle.cj_book.proofs.Announcing.{opening_off}
 use Rattle.cj_book.proofs.TransactionSteps.{transactions_push}
 

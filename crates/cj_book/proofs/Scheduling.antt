@@ -1,21 +1,8 @@
 -- Why what could come into the history didn't.
 use Rattle.std.proofs.Common.{◌≡◌, ◌⊎◌, inl, inr, ℕ, ◌+◌, ◌<◌, ◌≤◌, Bool, true, List, length, Option, Result, Ok, Err, OnOk, OnErr, refl, ap, sym, ◌∙◌, arith, subst, ⊎_elim}
 use Rattle.std.specs.Prelude.{◌↔◌, IfErr, IsErrAnd}
-use Rattle.std.proofs.lemmas.Bool.{both_ways}
-use Rattle.cj_model.specs.declared.request.Act.{Act}
-use Rattle.cj_model.specs.declared.request.Entry.{Entry}
-use Rattle.cj_model.specs.declared.request.Request.{Request}
-use Rattle.cj_model.specs.Cluster.Placements.{Placement, hosts_all, needs}
-use Rattle.cj_model.specs.Sql.PlainRequests.{request_of}
-use Rattle.cj_cluster.specs.declared.event.Event.{Event}
-use Rattle.cj_cluster.specs.History.Histories.{is_idle, events_left, log}
+use Rattle.cj_book.proofs.Common.{Act, BookError, both_ways, Entry, entry_item, Event, events_left, HistoryFull, hosts_all, InProgress, is_idle, IsBeforeOrAfter, LeavesOnly, log, LogFault, LogItem, marker_item, needs, NoBackend, NoMemory, Placement, Request, request_of}
 use Rattle.cj_cluster.specs.History.Answering.{HasNoServer, HasServer}
-use Rattle.cj_log.specs.declared.item.LogItem.{LogItem}
-use Rattle.cj_log.specs.Logs.{IsBeforeOrAfter}
-use Rattle.cj_opening.specs.Openings.{entry_item, marker_item}
-use Rattle.cj_outside.specs.Stores.{LeavesOnly}
-use Rattle.cj_book.specs.declared.error.BookError.{BookError}
-use Rattle.cj_book.specs.declared.error.BookError.TheVariants.{InProgress, NoBackend, HistoryFull, LogFault, NoMemory}
 use Rattle.cj_book.specs.Books.{BookState, CanSchedule, Checks, HasNoBackend, HasNoRoomForOne, HasRoom, IsInProgress, IsWant, LacksRoom, placement_at}
 use Rattle.cj_book.specs.Events.{Marks, Schedules}
 

@@ -1,21 +1,11 @@
 -- Who serves a request.
 use Rattle.std.proofs.Common.{◌≡◌, ◌≢◌, ℕ, zero, suc, min, arith, ◌+◌, ◌-◌, ◌*◌, ◌/◌, ◌%◌, ◌<◌, ◌≤◌, ◌^◌, ◌==◌, ◌&&◌, ⊎_elim, Bool, true, false, List, [], ◌∷◌, length, take, get_or, Some, refl, ap, sym, ◌∙◌, bit_and}
-use Rattle.std.proofs.lemmas.Bool.{and_parts, both_ways, cases_lt, eq-eqb}
 use Rattle.std.proofs.lemmas.List.Folds.{list_all_more}
 use Rattle.std.proofs.lemmas.Nat.Bits.{and_high, bit_at_above, bit_at_and, bit_at-lt, bit_at_ones, bit_at_ones_above, same_from_bits}
 use Rattle.std.specs.Int.{bit_at}
-use Rattle.cj_model.specs.declared.request.Act.{Act}
+use Rattle.cj_book.proofs.Common.{Act, and_parts, both_ways, cases_lt, eq-eqb, Event, has-and, HasServer, hosts, hosts_all, in_mask, is_enabled, needs, Placement, Request, request_of, table_changed}
 use Rattle.cj_model.specs.declared.request.Act.TheVariants as act
-use Rattle.cj_model.specs.declared.request.Request.{Request}
-use Rattle.cj_model.specs.Cluster.Masks.{in_mask}
-use Rattle.cj_model.specs.Cluster.Placements.{Placement, hosts, hosts_all, needs}
-use Rattle.cj_model.specs.Sql.PlainRequests.{request_of}
-use Rattle.cj_model.proofs.MaskBits.{has-and}
 use Rattle.cj_model.proofs.Masks.{some_bit}
-use Rattle.cj_cluster.specs.declared.event.Event.{Event}
-use Rattle.cj_cluster.specs.History.Histories.{is_enabled}
-use Rattle.cj_cluster.specs.History.Answering.{HasServer}
-use Rattle.cj_usage.specs.Changed.{table_changed}
 
 -- an act of a table needs that table alone
 needs_table : (a : Act) (table : List ℕ) → table_changed a ≡ Some table → needs (request_of a) ≡ table ∷ []

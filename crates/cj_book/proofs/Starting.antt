@@ -1,15 +1,14 @@
 -- Why no book is opened.
 use Rattle.std.proofs.Common.{◌≡◌, inl, ℕ, ◌<◌, ◌≤◌, cond, nat_le, List, [], ◌∷◌, ◌++◌, length, Err, refl, ap, sym, ◌∙◌, arith, ⊎_elim}
 use Rattle.std.proofs.lemmas.Bool.{cases_lt, le-leb, lt-leb}
+use Rattle.cj_book.proofs.Common.{HasBadEntry, LogItem}
 use Rattle.cj_records.specs.declared.error.RecordsError.{RecordsError}
 use Rattle.cj_records.specs.declared.error.RecordsError.TheVariants as records
 use Rattle.cj_records.specs.Records.{begun, WritesOnlyNew}
-use Rattle.cj_log.specs.declared.item.LogItem.{LogItem}
 use Rattle.cj_log.specs.Logs.{log_magic, KeepsItems, Opens, CountsOpenFault}
 use Rattle.cj_log.proofs.OneLog.{one_log}
 use Rattle.cj_opening.specs.declared.error.OpeningError.{OpeningError}
 use Rattle.cj_opening.specs.declared.error.OpeningError.TheVariants as openings
-use Rattle.cj_opening.specs.Openings.{HasBadEntry}
 use Rattle.cj_book.specs.Found.{start_error_of, entry_error_of}
 use Rattle.cj_book.specs.Starts.{Starts, CountsStartFault}
 
@@ -61,7 +60,3 @@ items_refused held old items (openings.BadEntry n) store keeps is bad =
           (λ (short : length old ≤ 5). absurd (none_bad items n (none_new old items short keeps) here)) (cases_lt 5 (length old)),
     )
 items_refused held old items openings.NoMemory store keeps is bad = new_only old (held store) is
-
-pub items_fault : {S : Type 0} (faults : S → ℕ) (before : ℕ) (error : OpeningError) (store : S) → faults store ≡ before → CountsStartFault faults before (Err (entry_error_of error, store))
-items_fault faults before (openings.BadEntry n) store is = is
-items_fault faults before openings.NoMemory store is = is

@@ -1,28 +1,17 @@
 -- Sessions and open transactions with one more entry of the log.
 use Rattle.std.proofs.Common.{◌≡◌, ◌≢◌, ◌⊎◌, inl, inr, ℕ, zero, suc, ◌+◌, ◌-◌, ◌<◌, ◌≤◌, ◌==◌, ◌||◌, not, Bool, true, false, cond, List, [], ◌∷◌, ◌++◌, length, map, get_or, slice_get, Option, None, Some, is_some, All, refl, ap, sym, ◌∙◌, subst, arith, length-append, ⊎_elim, bit_or}
-use Rattle.std.specs.List.{list_any}
 use Rattle.std.proofs.lemmas.Bool.{cases_eq, eqb-true, eq-eqb, ne_eqb, both_ways, cond-false}
-use Rattle.std.proofs.lemmas.List.Elements.{All-nil, All-push, All-weaker}
 use Rattle.std.proofs.lemmas.List.Folds.{list_any-append, list_any_none}
-use Rattle.std.proofs.lemmas.Option.{get_or_from_slice_get, slice_get_within}
-use Rattle.cj_model.specs.declared.request.Act.{Act}
+use Rattle.cj_book.proofs.Common.{Act, All-nil, All-push, All-weaker, BookSession, BookState, Entry, entry_numbered, get_or_from_slice_get, has-zero, has_session, in_mask, is_orphan, is_orphan_of, list_any, OpenTransaction, slice_get_within, table_changed}
 use Rattle.cj_model.specs.declared.request.Act.TheVariants as act
-use Rattle.cj_model.specs.declared.request.Entry.{Entry}
 use Rattle.cj_model.specs.declared.write.Write.{Write}
-use Rattle.cj_model.specs.Cluster.Masks.{in_mask}
 use Rattle.cj_model.specs.Cluster.Placements.{Placement, writes_at, wrote_at, concerns}
 use Rattle.cj_model.proofs.MaskBits.{has-or}
-use Rattle.cj_model.proofs.Masks.{has-zero}
 use Rattle.cj_cluster.specs.History.Histories.{log, tx_of, tx_after_act}
 use Rattle.cj_cluster.specs.History.Legality.{FitsTx, IsFitEntry, IsSessionEntry, IsAdministratorEntry}
 use Rattle.cj_cluster.specs.History.Transactions.{AreFit, is_begin, is_end}
-use Rattle.cj_cluster.specs.Moves.Moves.{entry_numbered}
 use Rattle.cj_cluster.proofs.Pushed.{get_left, get_seam}
 use Rattle.cj_cluster.proofs.TransactionLaws.{by_items, by_fit_entries, tx_of-push, tx_of_begin, tx_of_begin_other, tx_of_end, tx_of_end_other, tx_of_else, tx_of_below, one_session}
-use Rattle.cj_usage.specs.Changed.{table_changed}
-use Rattle.cj_book.specs.declared.sessions.BookSession.{BookSession}
-use Rattle.cj_book.specs.declared.transactions.OpenTransaction.{OpenTransaction}
-use Rattle.cj_book.specs.Books.{BookState, has_session, is_orphan, is_orphan_of}
 use Rattle.cj_book.specs.Lists.{new_session, numbered, session_number, sessions_after, tx_number, transactions_after, new_tx, with_wrote, without, wrote_of}
 use Rattle.cj_book.specs.Kept.{IsKeptSession, KeepsSessions, IsKeptTransaction, KeepsTransactions}
 use Rattle.cj_book.proofs.Numbered.{found_number, found_holds, found_by_test, member_holds, all_changed, all_without, any_changed, any_without, numbers_changed}

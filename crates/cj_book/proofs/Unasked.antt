@@ -1,11 +1,6 @@
 -- A call that was refused for want of memory before it asked the log.
 use Rattle.std.proofs.Common.{◌≡◌, ◌⊎◌, inr, ℕ, Result, Ok, Err, OnOk, ap, sym, ◌∙◌}
-use Rattle.std.specs.Prelude.{IfErr, IsErrAnd}
-use Rattle.cj_log.specs.declared.item.LogItem.{LogItem}
-use Rattle.cj_log.specs.Logs.{Refuses}
-use Rattle.cj_book.specs.declared.error.BookError.{BookError}
-use Rattle.cj_book.specs.declared.error.BookError.TheVariants.{LogFault, NoMemory}
-use Rattle.cj_book.specs.Seated.{SeatedBook}
+use Rattle.cj_book.proofs.Common.{BookError, IfErr, IsErrAnd, LogFault, LogItem, NoMemory, Refuses, SeatedBook}
 
 -- the gate is as it was
 pub gate_refuses : {S T E : Type 0} (a b : SeatedBook S) → a ≡ b → (item : LogItem) (result : Result T E) (P : E → Type 0) → IsErrAnd result P → Refuses b.state.recovery_log item a.state.recovery_log result

@@ -1,23 +1,16 @@
 -- Which tables entries write, and which they touch.
 use Rattle.std.proofs.Common.{◌≡◌, ℕ, ◌+◌, ◌<◌, ◌≤◌, Bool, true, false, ◌&&◌, ◌||◌, ◌==◌, List, [], ◌∷◌, length, take, get_or, Some, refl, ap, sym, ◌∙◌, arith, ⊎_elim, slice_get, Ordering, is_eq}
 use Rattle.std.specs.Ordering.{match_ordering}
-use Rattle.std.specs.Str.{bytes_eq}
 use Rattle.std.proofs.lemmas.Bool.{ne_eqb}
 use Rattle.std.proofs.lemmas.List.{length-take}
 use Rattle.std.proofs.lemmas.List.Folds.{list_any_more, list_any_none}
-use Rattle.std.proofs.lemmas.Map.Text.{is_eq-slice_cmp}
-use Rattle.std.proofs.lemmas.Option.{slice_get-get_or}
-use Rattle.std.proofs.lemmas.Slice.Eq.{bytes_eq-Decides}
+use Rattle.cj_book.proofs.Common.{bytes_eq, bytes_eq-Decides, Entry, has_table, is_eq-slice_cmp, is_written_in, IsAdministratorEntry, IsSessionEntry, slice_get-get_or, tx_of}
 use Rattle.cj_model.specs.declared.request.Act.TheVariants as act
-use Rattle.cj_model.specs.declared.request.Entry.{Entry}
 use Rattle.cj_model.specs.Database.Tables.{name_cmp, put_by}
 use Rattle.cj_model.proofs.RisingLaws.{by_order}
-use Rattle.cj_cluster.specs.History.Histories.{tx_of}
-use Rattle.cj_cluster.specs.History.Legality.{IsAdministratorEntry, IsSessionEntry}
 use Rattle.cj_cluster.specs.History.Transactions.{AreFit, has_written, is_write_of}
 use Rattle.cj_cluster.proofs.OwnTransactions.{own_tx}
 use Rattle.cj_cluster.proofs.TransactionLaws.{fit_at, fit_take, tx_of_below}
-use Rattle.cj_book.specs.Touching.{has_table, is_written_in}
 
 -- ---- sets of tables
 

@@ -22,7 +22,7 @@ ghost use Rattle.cj_board.specs.Views.{pass_of, pass_without_notes, pass_without
 ghost use Rattle.cj_book.specs.Books.{last_write_failed, with_entry, with_event, CanSchedule, IsKeptIn, IsOfKnown, IsPrepared, IsSameButLog};
 ghost use Rattle.cj_book.specs.Events.{Appends, Marks, Schedules};
 ghost use Rattle.cj_book.specs.Found.{start_error_of, entry_error_of};
-ghost use Rattle.cj_book.specs.Seated.{event_at_ok, event_or_fault, opened_state, view_after, HasCountedLogFaults, IsCounted};
+ghost use Rattle.cj_book.specs.Seated.{event_at_ok, event_or_fault, opened_state, view_after, GivesOwnPassesOnly, HasCountedLogFaults, IsCounted};
 ghost use Rattle.cj_book.specs.Starts.{CountsStartFault, IsStarted, Starts};
 
 use crate::error::StartError;
@@ -148,6 +148,7 @@ impl<S: Store> Book<S> {
         ensures board { IfOk result (λ book. book.board ≡ board_id board.now) }
         ensures opening { IfOk result (λ book. book.faults_at_opening ≡ S.faults store) }
         ensures view { IfOk result (λ book. book.view ≡ record (book_view seat) { front = book.state.history }) }
+        ensures gives { (book_view seat).last_given ≡ 0 → IfOk result GivesOwnPassesOnly }
     {
         let mut seat = seat;
         let opened_with = Snapshot::of(&store);

@@ -1,10 +1,8 @@
 use Rattle.std.proofs.Common.{ap, sym, ◌∙◌, subst}
-use Rattle.cj_board.specs.declared.view.SeatView.{SeatView}
-use Rattle.cj_board.specs.Seats.{book_view, pass_view}
+use Rattle.cj_book.proofs.Common.{book_view, hearing, own_view, pass_view, SeatView}
 use Rattle.cj_board.specs.Steps.{HasCountNotes, HasPositionNotes, after_learning}
 use Rattle.cj_board.specs.Views.{pass_of}
 use Rattle.cj_book.specs.declared.counter.Counter.{Counter}
-use Rattle.cj_book.specs.Counters.{hearing, own_view}
 use Rattle.cj_book.proofs.counter.announce.Goals as goal
 
 pub append-requires-clause-positions : goal.append-requires-clause-positions

@@ -1,7 +1,5 @@
 use Rattle.std.proofs.Common.{◌≡◌, List, ℕ, not, ◌&&◌, subst}
-use Rattle.std.specs.BTreeSet.{contains}
-use Rattle.std.specs.Str.{bytes_eq}
-use Rattle.cj_opening.specs.Proving.MarkerOrder.{marker_cmp, named}
+use Rattle.cj_book.proofs.Common.{bytes_eq, contains, marker_cmp, named}
 use Rattle.cj_book.proofs.Named.{removed_name}
 use Rattle.cj_book.proofs.events.forget.Goals as goal
 

@@ -1,10 +1,5 @@
 use Rattle.std.proofs.Common.{◌≡◌, ◌++◌, ◌∷◌, [], List, append_assoc, ap, refl, sym, subst, ◌∙◌, rules}
-use Rattle.cj_cluster.specs.declared.event.Event.{Event}
-use Rattle.cj_cluster.proofs.Pushed.{legal_prefix}
-use Rattle.cj_opening.specs.Openings.{IsOpening}
-use Rattle.cj_place.specs.Layouts.{placement_of}
-use Rattle.cj_board.specs.declared.view.SeatView.{SeatView}
-use Rattle.cj_board.specs.Seats.{book_view, history}
+use Rattle.cj_book.proofs.Common.{book_view, Event, history, IsOpening, legal_prefix, placement_of, SeatView}
 use Rattle.cj_book.proofs.Announcing.{opening_comes, opening_seen}
 use Rattle.cj_book.proofs.recovered.gather.Goals as goal
 

@@ -1,10 +1,6 @@
 use Rattle.std.proofs.Common.{◌≡◌, ◌+◌, ◌<◌, ◌||◌, List, Option, length, slice_get, min, take, ap, sym, ◌∙◌, arith}
 use Rattle.std.proofs.Math.Nat.{min-le_left, min-eq_left}
-use Rattle.cj_model.specs.declared.request.Entry.{Entry}
-use Rattle.cj_cluster.specs.History.Histories.{log}
-use Rattle.cj_cluster.specs.History.Transactions.{has_written}
-use Rattle.cj_cluster.proofs.TransactionLaws.{legal_fit}
-use Rattle.cj_book.specs.Touching.{has_table, is_written_in}
+use Rattle.cj_book.proofs.Common.{Entry, has_table, has_written, is_written_in, legal_fit, log}
 use Rattle.cj_book.proofs.Written.{none_written, written_more}
 use Rattle.cj_book.proofs.touching.written_in.Goals as goal
 

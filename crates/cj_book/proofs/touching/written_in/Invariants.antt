@@ -1,7 +1,5 @@
 use Rattle.std.proofs.Common.{◌≡◌, ℕ, List, min, take}
-use Rattle.cj_cluster.specs.History.Histories.{log}
-use Rattle.cj_cluster.specs.History.Transactions.{has_written}
-use Rattle.cj_book.specs.Touching.{has_table}
+use Rattle.cj_book.proofs.Common.{has_table, has_written, log}
 use Rattle.cj_book.proofs.touching.written_in.Given as goal
 
 abbrev pub invariant-loop-n : goal.invariant-loop-n

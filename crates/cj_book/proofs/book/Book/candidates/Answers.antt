@@ -1,10 +1,5 @@
 use Rattle.std.proofs.Common.{◌≡◌, ◌<◌, true, length, sym, subst, ◌∙◌, arith, rules}
-use Rattle.std.proofs.lemmas.Bool.{and_parts}
-use Rattle.cj_model.specs.Cluster.Masks.{in_mask}
-use Rattle.cj_model.specs.Cluster.Placements.{hosts}
-use Rattle.cj_cluster.specs.History.Histories.{is_enabled}
-use Rattle.cj_book.specs.Books.{placement_at}
-use Rattle.cj_book.specs.Seated.{SeatedBook}
+use Rattle.cj_book.proofs.Common.{and_parts, hosts, in_mask, is_enabled, placement_at, SeatedBook}
 use Rattle.cj_book.proofs.Serving.{candidates_more, mask_below}
 use Rattle.cj_book.proofs.book.Book.candidates.Goals as goal
 

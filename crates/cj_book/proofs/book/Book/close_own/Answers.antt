@@ -1,6 +1,5 @@
 use Rattle.std.proofs.Common.{ℕ, List, Contains, ap, sym, subst}
-use Rattle.cj_board.specs.declared.view.SeatView.{SeatView}
-use Rattle.cj_board.specs.Seats.{book_view, pass_view}
+use Rattle.cj_book.proofs.Common.{book_view, pass_view, SeatView}
 use Rattle.cj_book.proofs.Owned.{closed_out}
 use Rattle.cj_book.proofs.book.Book.close_own.Goals as goal
 

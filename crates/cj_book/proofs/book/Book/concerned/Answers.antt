@@ -1,11 +1,5 @@
 use Rattle.std.proofs.Common.{◌≡◌, sym, subst}
-use Rattle.cj_model.specs.Cluster.Masks.{in_mask}
-use Rattle.cj_model.specs.Cluster.Placements.{concerns}
-use Rattle.cj_cluster.specs.History.Histories.{log}
-use Rattle.cj_cluster.specs.History.Legality.{IsFitEntry}
-use Rattle.cj_board.specs.Seats.{history}
-use Rattle.cj_book.specs.Books.{placement_at}
-use Rattle.cj_book.specs.Seated.{SeatedBook}
+use Rattle.cj_book.proofs.Common.{concerns, history, in_mask, IsFitEntry, log, placement_at, SeatedBook}
 use Rattle.cj_book.proofs.book.Book.concerned.Goals as goal
 
 pub returns : goal.returns

@@ -1,6 +1,5 @@
 use Rattle.std.proofs.Common.{refl, rules}
-use Rattle.cj_cluster.specs.declared.event.Event.TheVariants.{Disabled}
-use Rattle.cj_board.specs.Seats.{book_view}
+use Rattle.cj_book.proofs.Common.{book_view, Disabled}
 use Rattle.cj_book.proofs.Announcing.{no_counts}
 use Rattle.cj_book.proofs.Keeping.{kept_disabled}
 use Rattle.cj_book.proofs.book.Book.disable.Goals as goal

@@ -1,6 +1,5 @@
 use Rattle.std.proofs.Common.{refl}
-use Rattle.cj_cluster.specs.declared.event.Event.TheVariants.{Enabled}
-use Rattle.cj_board.specs.Seats.{book_view}
+use Rattle.cj_book.proofs.Common.{book_view, Enabled}
 use Rattle.cj_book.proofs.Announcing.{no_counts}
 use Rattle.cj_book.proofs.Keeping.{kept_enabled}
 use Rattle.cj_book.proofs.book.Book.enable.Goals as goal

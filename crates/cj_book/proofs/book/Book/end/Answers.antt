@@ -1,6 +1,5 @@
 use Rattle.std.proofs.Common.{refl, rules}
-use Rattle.cj_cluster.specs.declared.event.Event.TheVariants.{Ended}
-use Rattle.cj_board.specs.Seats.{book_view}
+use Rattle.cj_book.proofs.Common.{book_view, Ended}
 use Rattle.cj_book.proofs.Announcing.{no_counts}
 use Rattle.cj_book.proofs.Keeping.{kept_ended}
 use Rattle.cj_book.proofs.book.Book.end.Goals as goal

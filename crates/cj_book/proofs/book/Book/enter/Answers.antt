@@ -1,21 +1,7 @@
 use Rattle.std.proofs.Common.{◌≡◌, ◌+◌, [], ◌∷◌, ◌++◌, List, length, map, Some, Err, ap, sym, subst, refl, ◌∙◌, arith, length-append}
-use Rattle.cj_model.specs.declared.request.Entry.{Entry}
-use Rattle.cj_cluster.specs.declared.event.Event.{Event}
-use Rattle.cj_cluster.specs.declared.event.Event.TheVariants.{LogFailed, Sched}
-use Rattle.cj_cluster.specs.History.Histories.{log}
-use Rattle.cj_cluster.specs.History.Legality.{IsLegal}
-use Rattle.cj_cluster.proofs.Pushed.{legal_push, log-sched}
-use Rattle.cj_log.specs.declared.error.LogError.{LogError}
-use Rattle.cj_log.specs.declared.item.LogItem.{LogItem}
-use Rattle.cj_log.specs.Logs.{LeavesItems}
-use Rattle.cj_opening.specs.Openings.{entry_item, items_of}
-use Rattle.cj_place.specs.Layouts.{placement_of}
+use Rattle.cj_book.proofs.Common.{book_after, book_view, Entry, entry_item, Event, HasCountNotes, hearing, history, IsLegal, items_of, LeavesItems, legal_push, log, log-sched, LogError, LogFailed, LogItem, own_view, pass_after, placement_of, Sched, session_number, sessions_after, transactions_after}
 use Rattle.cj_freshness.proofs.Fresh.{by_tables}
 use Rattle.cj_freshness.specs.Freshness.{without_touched}
-use Rattle.cj_board.specs.Seats.{book_view, history}
-use Rattle.cj_board.specs.Steps.{HasCountNotes}
-use Rattle.cj_book.specs.Counters.{book_after, hearing, own_view, pass_after}
-use Rattle.cj_book.specs.Lists.{session_number, sessions_after, transactions_after}
 use Rattle.cj_book.proofs.Announcing.{seen_after}
 use Rattle.cj_book.proofs.Begun.{followed, numbers_before, taken_off}
 use Rattle.cj_book.proofs.Following.{follows_log_failed, follows_sched}

@@ -1,21 +1,5 @@
 use Rattle.std.proofs.Common.{◌≡◌, ℕ, ◌++◌, ◌∷◌, ◌||◌, [], List, length, Err, refl, ap, sym, subst, ◌∙◌}
-use Rattle.std.specs.BTreeSet.{contains}
-use Rattle.std.specs.Str.{bytes_eq}
-use Rattle.cj_cluster.specs.declared.event.Event.{Event}
-use Rattle.cj_cluster.specs.declared.event.Event.TheVariants.{Marker}
-use Rattle.cj_cluster.specs.History.Histories.{log}
-use Rattle.cj_cluster.specs.History.Legality.{IsLegal}
-use Rattle.cj_cluster.proofs.Pushed.{log-same}
-use Rattle.cj_log.specs.declared.error.LogError.{LogError}
-use Rattle.cj_log.specs.declared.item.LogItem.{LogItem}
-use Rattle.cj_log.specs.Logs.{LeavesItems}
-use Rattle.cj_opening.specs.Openings.{items_of, marker_item}
-use Rattle.cj_opening.specs.Proving.Keeping.{KeepsMarkers}
-use Rattle.cj_opening.specs.Proving.MarkerOrder.{marker_cmp, named}
-use Rattle.cj_opening.proofs.Kept.{added_name, marked_more}
-use Rattle.cj_board.specs.declared.view.SeatView.{SeatView}
-use Rattle.cj_board.specs.Seats.{book_view, history}
-use Rattle.cj_board.specs.Steps.{after_append}
+use Rattle.cj_book.proofs.Common.{added_name, after_append, book_view, bytes_eq, contains, Event, history, IsLegal, items_of, KeepsMarkers, LeavesItems, log, log-same, LogError, LogItem, marked_more, Marker, marker_cmp, marker_item, named, SeatView}
 use Rattle.cj_book.proofs.Announcing.{no_counts}
 use Rattle.cj_book.proofs.Following.{follows_log_failed, follows_marker}
 use Rattle.cj_book.proofs.Keeping.{kept_log_failed, kept_marker, kept_wanting}

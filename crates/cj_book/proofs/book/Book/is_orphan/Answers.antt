@@ -1,10 +1,5 @@
 use Rattle.std.proofs.Common.{◌≡◌, Bool, true, false, not, is_some, ap, sym, subst, ◌∙◌}
-use Rattle.cj_cluster.specs.History.Histories.{log}
-use Rattle.cj_place.specs.Layouts.{placement_of}
-use Rattle.cj_book.specs.Books.{has_session}
-use Rattle.cj_book.specs.Seated.{SeatedBook}
-use Rattle.cj_book.specs.Lists.{numbered, session_number}
-use Rattle.cj_book.specs.Kept.{KeepsTransactions}
+use Rattle.cj_book.proofs.Common.{has_session, KeepsTransactions, log, numbered, placement_of, SeatedBook, session_number}
 use Rattle.cj_book.proofs.Numbered.{found_among}
 use Rattle.cj_book.proofs.TransactionSteps.{orphan_found, orphan_none}
 use Rattle.cj_book.proofs.book.Book.is_orphan.Goals as goal

@@ -1,9 +1,5 @@
 use Rattle.std.proofs.Common.{◌&&◌, ◌||◌, not, ap, sym, ◌∙◌, rules}
-use Rattle.cj_cluster.specs.declared.event.Event.TheVariants.{Ended}
-use Rattle.cj_model.specs.Cluster.Masks.{in_mask}
-use Rattle.cj_cluster.proofs.Pushed.{enabled-push}
-use Rattle.cj_model.proofs.MaskBits.{has_without}
-use Rattle.cj_board.specs.Seats.{history}
+use Rattle.cj_book.proofs.Common.{enabled-push, Ended, has_without, history, in_mask}
 use Rattle.cj_book.proofs.book.Book.left.Goals as goal
 
 pub returns : goal.returns

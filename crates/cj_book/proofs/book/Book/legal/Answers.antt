@@ -1,10 +1,5 @@
 use Rattle.std.proofs.Common.{◌≡◌, ◌≤◌, false, subst}
-use Rattle.cj_model.specs.declared.request.Entry.{Entry}
-use Rattle.cj_log.specs.Logs.{LeavesItems}
-use Rattle.cj_opening.specs.Openings.{items_of}
-use Rattle.cj_board.specs.Seats.{history}
-use Rattle.cj_book.specs.Books.{IsKeptIn, IsOfKnown, last_write_failed}
-use Rattle.cj_book.specs.Seated.{HasCountedLogFaults, SeatedBook}
+use Rattle.cj_book.proofs.Common.{Entry, HasCountedLogFaults, history, IsKeptIn, IsOfKnown, items_of, last_write_failed, LeavesItems, SeatedBook}
 use Rattle.cj_book.proofs.Following.{given_session}
 use Rattle.cj_book.proofs.Logged.{kept_in, shut_where}
 use Rattle.cj_book.proofs.book.Book.legal.Goals as goal

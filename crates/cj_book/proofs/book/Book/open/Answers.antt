@@ -1,12 +1,10 @@
-use Rattle.std.proofs.Common.{◌≡◌, ℕ, ◌<◌, ◌≤◌, List, length, Err, ap, sym, ◌∙◌, subst, arith}
-use Rattle.cj_log.specs.declared.item.LogItem.{LogItem}
+use Rattle.std.proofs.Common.{◌≡◌, ℕ, ◌<◌, ◌≤◌, List, length, Err, ap, sym, ◌∙◌, subst, arith, refl}
+use Rattle.cj_book.proofs.Common.{book_view, HasBadEntry, history, LogItem, OpensTo, SeatView, Starts}
 use Rattle.cj_opening.specs.declared.error.OpeningError.TheVariants.{BadEntry}
-use Rattle.cj_opening.specs.Openings.{HasBadEntry, OpensTo}
-use Rattle.cj_board.specs.Seats.{history}
 use Rattle.cj_book.specs.declared.error.StartError.{StartError}
-use Rattle.cj_book.specs.Starts.{Starts}
 use Rattle.cj_book.proofs.Counted.{opening_counted}
 use Rattle.cj_book.proofs.Logged.{gate_shut}
+use Rattle.cj_book.proofs.Owned.{opening_gives}
 use Rattle.cj_book.proofs.Recovering.{follows_opening, keeps_opened}
 use Rattle.cj_book.proofs.Starting.{Begins, items_refused}
 use Rattle.cj_book.proofs.book.Book.open.Goals as goal
@@ -45,3 +43,11 @@ returns-in-Err-recover-clause-bytes g c = λ t.
     let bad : (n : ℕ) → c.in-Err-recover.error ≡ BadEntry n → HasBadEntry items n = λ n is.
     subst (λ (l : List LogItem). HasBadEntry l n) c.as_slice.ensures (c.in-Err-recover.ensures.bad n (ap (λ x. Err x) is)) in
     subst (λ (error : StartError). Starts held old (Err (error, store))) (sym c.entry_error.ensures) (items_refused held old items c.in-Err-recover.error store opened.0 begins bad)
+
+pub returns-in-Ok-recover-clause-gives : goal.returns-in-Ok-recover-clause-gives
+returns-in-Ok-recover-clause-gives g c = λ none.
+    let v = book_view c.recover.new.seat in
+    let h = history c.recover.new.seat in
+    let opens = subst (λ (l : List LogItem). OpensTo l h) c.as_slice.ensures c.in-Ok-recover.ensures.opens in
+    let last = ap (λ (u : SeatView). u.last_given) c.in-Ok-recover.ensures.view ∙ none in
+    opening_gives h c.in-Ok-recover.found.greatest v opens.opening refl last c.in-Ok-recover.ensures.kept.greatest

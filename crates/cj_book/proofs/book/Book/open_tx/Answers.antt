@@ -1,9 +1,5 @@
 use Rattle.std.proofs.Common.{◌≡◌, true, is_some, ap, sym, subst, ◌∙◌}
-use Rattle.std.proofs.lemmas.Bool.{both_ways}
-use Rattle.cj_cluster.specs.History.Histories.{log, tx_of}
-use Rattle.cj_book.specs.Books.{has_session}
-use Rattle.cj_book.specs.Seated.{SeatedBook}
-use Rattle.cj_book.specs.Lists.{numbered, session_number}
+use Rattle.cj_book.proofs.Common.{both_ways, has_session, log, numbered, SeatedBook, session_number, tx_of}
 use Rattle.cj_book.proofs.Numbered.{found_among}
 use Rattle.cj_book.proofs.Following.{tx_open}
 use Rattle.cj_book.proofs.book.Book.open_tx.Goals as goal

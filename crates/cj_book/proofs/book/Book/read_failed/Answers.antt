@@ -1,6 +1,5 @@
 use Rattle.std.proofs.Common.{refl}
-use Rattle.cj_cluster.specs.declared.event.Event.TheVariants.{ReadFailed}
-use Rattle.cj_board.specs.Seats.{book_view}
+use Rattle.cj_book.proofs.Common.{book_view, ReadFailed}
 use Rattle.cj_book.proofs.Announcing.{no_counts, one_token}
 use Rattle.cj_book.proofs.Keeping.{kept_read_failed}
 use Rattle.cj_book.proofs.book.Book.read_failed.Goals as goal

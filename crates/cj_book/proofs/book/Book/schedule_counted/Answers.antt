@@ -1,7 +1,5 @@
 use Rattle.std.proofs.Common.{◌≡◌, subst}
-use Rattle.cj_log.specs.declared.item.LogItem.{LogItem}
-use Rattle.cj_log.specs.Logs.{IsBeforeOrAfter, Refuses}
-use Rattle.cj_outside.specs.Stores.{LeavesOnly}
+use Rattle.cj_book.proofs.Common.{IsBeforeOrAfter, LeavesOnly, LogItem, Refuses}
 use Rattle.cj_book.proofs.Scheduling.{always, no_other, not_full, not_open, not_unserved, unchecked, unprepared}
 use Rattle.cj_book.proofs.book.Book.schedule_counted.Goals as goal
 

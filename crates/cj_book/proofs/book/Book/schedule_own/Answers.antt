@@ -1,15 +1,5 @@
 use Rattle.std.proofs.Common.{◌≡◌, ◌<◌, ◌≤◌, ◌+◌, ℕ, List, ap, sym, ◌∙◌, subst}
-use Rattle.cj_cluster.specs.declared.event.Event.{Event}
-use Rattle.cj_cluster.specs.declared.event.Event.TheVariants.{LogFailed, Sched}
-use Rattle.cj_cluster.specs.History.Legality.{IsLegal}
-use Rattle.cj_board.specs.declared.view.SeatView.{SeatView}
-use Rattle.cj_board.specs.Counting.{event_count_of}
-use Rattle.cj_board.specs.Seats.{pass_view}
-use Rattle.cj_board.specs.Steps.{after_join}
-use Rattle.cj_board.specs.Views.{next_session, pass_without_tokens}
-use Rattle.cj_book.specs.Books.{BookState}
-use Rattle.cj_book.specs.Counters.{CanCount}
-use Rattle.cj_book.specs.Seated.{event_or_fault, told_book, told_pass}
+use Rattle.cj_book.proofs.Common.{after_join, BookState, CanCount, Event, event_count_of, event_or_fault, IsLegal, LogFailed, next_session, pass_view, pass_without_tokens, Sched, SeatView, told_book, told_pass}
 use Rattle.cj_book.proofs.Owned.{entry_counts, failure_counts, low_sessions, own_can_count, own_front, own_gives, own_same, schedules_greatest, scheduled_own, still_own}
 use Rattle.cj_book.proofs.book.Book.schedule_own.Goals as goal
 

@@ -1,12 +1,5 @@
 use Rattle.std.proofs.Common.{◌≡◌, ◌&&◌, bit_and, sym, subst}
-use Rattle.cj_model.specs.Cluster.Masks.{in_mask}
-use Rattle.cj_model.specs.Cluster.Placements.{hosts_all, needs}
-use Rattle.cj_model.specs.Sql.PlainRequests.{request_of}
-use Rattle.cj_cluster.specs.History.Histories.{is_enabled}
-use Rattle.cj_place.specs.Layouts.{placement_of}
-use Rattle.cj_board.specs.Seats.{history}
-use Rattle.cj_book.specs.Books.{placement_at}
-use Rattle.cj_book.specs.Seated.{SeatedBook}
+use Rattle.cj_book.proofs.Common.{history, hosts_all, in_mask, is_enabled, needs, placement_at, placement_of, request_of, SeatedBook}
 use Rattle.cj_book.proofs.Serving.{servers_of}
 use Rattle.cj_book.proofs.book.Book.servers.Goals as goal
 

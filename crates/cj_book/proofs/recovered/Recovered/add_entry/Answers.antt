@@ -1,12 +1,5 @@
 use Rattle.std.proofs.Common.{◌≡◌, ◌+◌, [], ◌∷◌, ◌++◌, length, refl, ap, sym, subst, ◌∙◌, arith}
-use Rattle.cj_model.specs.declared.request.Entry.{Entry}
-use Rattle.cj_cluster.specs.declared.event.Event.TheVariants.{Sched}
-use Rattle.cj_cluster.specs.History.Histories.{log}
-use Rattle.cj_cluster.specs.History.Legality.{IsLegal}
-use Rattle.cj_place.specs.Layouts.{placement_of}
-use Rattle.cj_book.specs.declared.recovered.Recovered.{Recovered}
-use Rattle.cj_book.specs.Found.{IsRecovered}
-use Rattle.cj_book.specs.Lists.{transactions_after}
+use Rattle.cj_book.proofs.Common.{Entry, IsLegal, IsRecovered, log, placement_of, Recovered, Sched, transactions_after}
 use Rattle.cj_book.proofs.Begun.{followed}
 use Rattle.cj_book.proofs.Recovering.{recovers_sched}
 use Rattle.cj_book.proofs.recovered.Recovered.add_entry.Goals as goal

@@ -1,14 +1,5 @@
 use Rattle.std.proofs.Common.{◌≡◌, [], ◌∷◌, ◌++◌, List, OnOk, length, refl, ap, sym, subst, ◌∙◌}
-use Rattle.cj_cluster.specs.declared.event.Event.{Event}
-use Rattle.cj_cluster.specs.declared.event.Event.TheVariants.{Marker, Sched}
-use Rattle.cj_cluster.specs.History.Histories.{log}
-use Rattle.cj_cluster.specs.History.Legality.{IsLegal}
-use Rattle.cj_opening.proofs.Kept.{added_name, marked_more, marked_same}
-use Rattle.cj_place.specs.Layouts.{placement_of}
-use Rattle.cj_board.specs.declared.view.SeatView.{SeatView}
-use Rattle.cj_board.specs.Seats.{history}
-use Rattle.cj_book.specs.declared.recovered.Recovered.{Recovered}
-use Rattle.cj_book.specs.Found.{IsRecovered}
+use Rattle.cj_book.proofs.Common.{added_name, Event, history, IsLegal, IsRecovered, log, marked_more, marked_same, Marker, placement_of, Recovered, Sched, SeatView}
 use Rattle.cj_book.proofs.Begun.{numbers_before}
 use Rattle.cj_book.proofs.Recovering.{none_marked, none_scheduled, recovers_same}
 use Rattle.cj_book.proofs.recovered.Recovered.follow.Goals as goal

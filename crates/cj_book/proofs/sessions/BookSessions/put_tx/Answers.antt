@@ -1,6 +1,5 @@
 use Rattle.std.proofs.Common.{List, refl, sym, subst, arith}
-use Rattle.cj_book.specs.declared.sessions.BookSession.{BookSession}
-use Rattle.cj_book.specs.Lists.{IsPlaceOf, session_number}
+use Rattle.cj_book.proofs.Common.{BookSession, IsPlaceOf, session_number}
 use Rattle.cj_book.proofs.Numbered.{changed, changed_rises, unchanged}
 use Rattle.cj_book.proofs.sessions.BookSessions.put_tx.Goals as goal
 

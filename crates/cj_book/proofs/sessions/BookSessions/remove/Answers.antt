@@ -1,6 +1,5 @@
 use Rattle.std.proofs.Common.{List, sym, subst, arith}
-use Rattle.cj_book.specs.declared.sessions.BookSession.{BookSession}
-use Rattle.cj_book.specs.Lists.{IsPlaceOf, session_number}
+use Rattle.cj_book.proofs.Common.{BookSession, IsPlaceOf, session_number}
 use Rattle.cj_book.proofs.Numbered.{removed, removed_rises, unremoved}
 use Rattle.cj_book.proofs.sessions.BookSessions.remove.Goals as goal
 

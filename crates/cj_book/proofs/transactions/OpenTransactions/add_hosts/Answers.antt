@@ -1,6 +1,5 @@
 use Rattle.std.proofs.Common.{List, bit_or, refl, sym, subst}
-use Rattle.cj_book.specs.declared.transactions.OpenTransaction.{OpenTransaction}
-use Rattle.cj_book.specs.Lists.{IsPlaceOf, tx_number}
+use Rattle.cj_book.proofs.Common.{IsPlaceOf, OpenTransaction, tx_number}
 use Rattle.cj_book.proofs.Numbered.{changed, changed_rises, unchanged}
 use Rattle.cj_book.proofs.transactions.OpenTransactions.add_hosts.Goals as goal
 

@@ -1,6 +1,5 @@
 use Rattle.std.proofs.Common.{sym, ap, ◌∙◌}
-use Rattle.cj_model.specs.Cluster.Masks.{in_mask}
-use Rattle.cj_place.specs.Layouts.{placement_of}
+use Rattle.cj_book.proofs.Common.{in_mask, placement_of}
 use Rattle.cj_book.proofs.TransactionSteps.{concerns_tx}
 use Rattle.cj_book.proofs.transactions.OpenTransactions.concerned.Goals as goal
 
