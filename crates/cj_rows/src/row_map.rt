@@ -13,6 +13,7 @@ use crate::scan::{Entries, Scan};
 use crate::scan_back::ScanBack;
 use cj_model::{Duplicate, NoMemory, Row, Same, Value};
 use std::alloc::Global;
+use std::cmp::Ordering;
 use std::collections::BTreeMap;
 use std::marker::Model;
 
@@ -108,6 +109,27 @@ impl RowMap {
         Ok(())
     }
 
+    /// Whether the keys of changes are known, by one walk over both, where they are so many that it
+    /// costs less than looking each up.
+    fn knows_all(&self, changes: &RowMap) -> bool
+        ensures { result ≡ true → entries.KnowsKeys self.now changes.now }
+    {
+        let mut known = self.all_entries();
+        if !self.is_met_by_many(changes) {
+            return false;
+        }
+        for (key, _) in &changes.rows {
+            if !reaches(&mut known, key) {
+                return false;
+            }
+        }
+        true
+    }
+
+    fn is_met_by_many(&self, changes: &RowMap) -> bool {
+        self.rows.len() / 4 < changes.rows.len()
+    }
+
     /// Makes entries for the keys of changes, at which what shows over `below` stays as it is.
     pub fn prepare(
         &mut self,
@@ -121,6 +143,9 @@ impl RowMap {
         ensures rises { KeysRise value_cmp self.new }
     {
         self.rises();
+        if self.knows_all(changes) {
+            return Ok(());
+        }
         for (key, _) in &changes.rows {
             self.prepare_key(alloc, below, key)?;
         }
@@ -154,8 +179,40 @@ impl RowMap {
         };
     }
 
-    /// Lays changes over the entries, whose keys are known: this takes no memory.
-    pub fn absorb(&mut self, below: &RowMap, changes: RowMap)
+    /// Whether a row is laid over the key, or none over a row that is there.
+    fn differs(&self, key: &Value, row: &Option<Row>) -> bool
+        ensures { result ≡ entries.differs self.now (key.now, row.now) }
+    {
+        row.is_some() || self.row(key).is_some()
+    }
+
+    /// Drops the entries without a row that show nothing over `below`.
+    fn tidy(&mut self, below: &RowMap)
+        ensures shown { entries.overlaid below.now self.new ≡ entries.overlaid below.now self.old }
+        ensures keys { entries.HasKeysOf self.old [] self.new }
+        ensures rises { KeysRise value_cmp self.new }
+    {
+        self.rises();
+        below.rises();
+        self.rows.retain(|key, row| below.differs(key, row));
+    }
+
+    /// Lays changes over the entries by one walk over both, and gives those back for which there is
+    /// no memory.
+    fn overlay(&mut self, below: &RowMap, changes: RowMap) -> RowMap
+        requires { entries.KnowsKeys self.old changes }
+        ensures lays { entries.LaysOver below.now self.old changes self.new result }
+        ensures rises { KeysRise value_cmp self.new }
+    {
+        self.rises();
+        below.rises();
+        let mut rest = changes;
+        let _ = self.rows.append(&mut rest.rows);
+        rest
+    }
+
+    /// Lays changes over the entries, each at its key.
+    fn absorb_each(&mut self, below: &RowMap, changes: RowMap)
         requires { entries.KnowsKeys self.old changes }
         ensures shown { entries.overlaid below.now self.new ≡ merged value_cmp (entries.overlaid below.now self.old) changes }
         ensures keys { entries.HasKeysOf self.old changes self.new }
@@ -167,6 +224,22 @@ impl RowMap {
         for (key, row) in rows {
             self.set(below, key, row);
         }
+    }
+
+    /// Lays changes over the entries, whose keys are known: this takes no memory that is not there.
+    pub fn absorb(&mut self, below: &RowMap, changes: RowMap)
+        requires { entries.KnowsKeys self.old changes }
+        ensures shown { entries.overlaid below.now self.new ≡ merged value_cmp (entries.overlaid below.now self.old) changes }
+        ensures keys { entries.HasKeysOf self.old changes self.new }
+        ensures rises { KeysRise value_cmp self.new }
+    {
+        if self.is_met_by_many(&changes) {
+            let rest = self.overlay(below, changes);
+            self.absorb_each(below, rest);
+            self.tidy(below);
+            return;
+        }
+        self.absorb_each(below, changes);
     }
 }
 
@@ -295,6 +368,21 @@ impl RowMap {
             None => self.row(key),
         }
     }
+}
+
+/// Takes the entries up to a key; false where they do not have it.
+fn reaches(rest: &mut Entries, key: &Value) -> bool
+    ensures found { result ≡ true → entries.knows rest.old key.now ≡ true }
+    ensures rest { (q : Value) → entries.knows rest.new q ≡ true → entries.knows rest.old q ≡ true }
+{
+    while let Some((at, _)) = rest.next() {
+        match at.cmp(key) {
+            Ordering::Less => {}
+            Ordering::Equal => return true,
+            Ordering::Greater => return false,
+        }
+    }
+    false
 }
 
 fn copied(alloc: Global, row: Option<&Row>) -> Result<Option<Row>, NoMemory>
