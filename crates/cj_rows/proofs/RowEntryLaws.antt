@@ -1,20 +1,20 @@
 -- What making entries for keys, and laying changes over them, does to rows by their keys.
-use Rattle.std.proofs.Common.{◌≡◌, true, false, cond, List, [], ◌∷◌, refl, ap, sym, ◌∙◌, subst, Ordering, Less, Equal, Greater, is_eq, ⊎_elim}
-use Rattle.std.specs.Prelude.{All, filter, is_some, ◌++◌, option_copied}
+use Rattle.std.proofs.Common.{◌≡◌, true, false, List, [], ◌∷◌, refl, ap, sym, ◌∙◌, subst, Ordering, Less, Equal, Greater, is_eq, ⊎_elim}
+use Rattle.std.specs.Prelude.{All, is_some, ◌++◌, option_copied}
 use Rattle.std.specs.Borrow.{Bor}
-use Rattle.std.specs.Ordering.{eq_by_cmp, ordering_reverse}
-use Rattle.std.proofs.lemmas.Bool.{cases_Bool, cond-false, cond-true, or_parts}
+use Rattle.std.specs.Ordering.{ordering_reverse}
+use Rattle.std.proofs.lemmas.Bool.{cases_Bool, cond-false, cond-true}
 use Rattle.std.specs.declared.option.Option.{Option}
 use Rattle.std.specs.declared.option.Option.TheVariants.{None, Some}
 use Rattle.std.specs.BTreeMap.{insert_entry, is_at}
-use Rattle.std.specs.Map.{remove_entry, update, update_all}
-use Rattle.std.proofs.lemmas.List.Elements.{All-nil, All-cons, All-head, All-tail, All-weaker, All-append, All-filter}
+use Rattle.std.specs.Map.{remove_entry}
+use Rattle.std.proofs.lemmas.List.Elements.{All-nil, All-cons, All-head, All-tail, All-weaker, All-append}
 use Rattle.cj_model.specs.declared.value.Value.{Value}
 use Rattle.cj_model.specs.Database.Values.{value_cmp, value_total, value_exact}
 use Rattle.cj_rows.specs.Entries.{KeysRise, KeysAbove, at}
 use Rattle.cj_rows.specs.Layers.{kept, merged, changed}
-use Rattle.cj_rows.specs.RowEntries.{RowEntries, knows, KnowsKeys, overlaid, Extends, HasKeysOf, LaysOver, differs}
-use Rattle.cj_rows.proofs.EntryLaws.{at_insert, at_merged, none_at, eq_true, pick, rise_insert, same_entries, at_remove, remove_absent, taken_back, note_change, commit_change, all_remove, rise_kept, rise_merged, prepared, known_after, all_insert}
+use Rattle.cj_rows.specs.RowEntries.{RowEntries, knows, KnowsKeys, overlaid, Extends, HasKeysOf}
+use Rattle.cj_rows.proofs.EntryLaws.{at_merged, eq_true, pick, same_entries, at_remove, remove_absent, taken_back, note_change, commit_change, all_remove, rise_kept, rise_merged, prepared, known_after, all_insert}
 
 abbrev Rising : RowEntries → Type 0
 Rising es = KeysRise value_cmp es
@@ -145,89 +145,27 @@ pub known_here : (es more : RowEntries) (key : Value) (row : Option (List Value)
 known_here es more key row q is h =
     ap (λ l. knows l q) is ∙ ap is_some (cond-true _ _ _ (ap is_eq (value_total.antisymm q key) ∙ eq_back (value_cmp key q) ∙ ap is_eq h))
 
--- ---- entries put in one after another
+-- ---- changes of all entries
 
-abbrev pub inserted : RowEntries → RowEntries → RowEntries
-inserted es [] = es
-inserted es (x ∷ xs) = inserted (insert_entry value_cmp es x.0 x.1) xs
+known_all : (changes old : RowEntries) → KnowsKeys changes old → (q : Value) → knows old q ≡ true → knows changes q ≡ true
+known_all changes [] a q h = cc h
+known_all changes (c ∷ cs) a q h = ⊎_elim
+    (λ (t : is_at (value_cmp q) c.0 ≡ true). ap (knows changes) (value_exact q c.0 (eq_true _ t)) ∙ All-head (λ c. knows changes c.0 ≡ true) c cs a)
+    (λ (f : is_at (value_cmp q) c.0 ≡ false). known_all changes cs (All-tail (λ c. knows changes c.0 ≡ true) c cs a) q (sym (ap is_some (cond-false _ _ _ f)) ∙ h))
+    (cases_Bool (is_at (value_cmp q) c.0))
 
-update_alike : (f g : Value → Option (Option (List Value))) → ((q : Value) → f q ≡ g q) → (xs : RowEntries) (q : Value) → update_all (eq_by_cmp value_cmp) f xs q ≡ update_all (eq_by_cmp value_cmp) g xs q
-update_alike f g h [] q = h q
-update_alike f g h (x ∷ xs) q = update_alike (update (eq_by_cmp value_cmp) f x.0 (Some x.1)) (update (eq_by_cmp value_cmp) g x.0 (Some x.1)) (λ r. ap (λ z. cond (eq_by_cmp value_cmp x.0 r) (Some x.1) z) (h r)) xs q
+shadows : (x y : Option (Option (List Value))) (b : Option (List Value)) → (is_some y ≡ true → is_some x ≡ true) → pick x b ≡ pick x (pick y b)
+shadows (Some w) y b h = refl
+shadows None None b h = refl
+shadows None (Some w) b h = cc (h refl)
 
-at_inserted : (es xs : RowEntries) (q : Value) → update_all (eq_by_cmp value_cmp) (λ k. at value_cmp k es) xs q ≡ at value_cmp q (inserted es xs)
-at_inserted es [] q = refl
-at_inserted es (x ∷ xs) q =
-    update_alike (update (eq_by_cmp value_cmp) (λ k. at value_cmp k es) x.0 (Some x.1)) (λ k. at value_cmp k (insert_entry value_cmp es x.0 x.1))
-    (λ k. ap (λ b. cond b (Some x.1) (at value_cmp k es)) (sym (ap is_eq (value_total.antisymm k x.0) ∙ eq_back (value_cmp x.0 k))) ∙ sym (at_insert value_cmp value_total value_exact k es x.0 x.1)) xs q
-    ∙ at_inserted (insert_entry value_cmp es x.0 x.1) xs q
-
-rise_inserted : (es xs : RowEntries) → Rising es → Rising (inserted es xs)
-rise_inserted es [] u = u
-rise_inserted es (x ∷ xs) u = rise_inserted (insert_entry value_cmp es x.0 x.1) xs (rise_insert value_cmp value_total value_exact es x.0 x.1 u)
-
-inserted_shown : (below es xs left : RowEntries) → Rising below → Rising es → Rising (xs ++ left) → merged value_cmp (overlaid below (inserted es xs)) left ≡ merged value_cmp (overlaid below es) (xs ++ left)
-inserted_shown below es [] left b u r = refl
-inserted_shown below es (x ∷ xs) left b u r =
-    inserted_shown below (insert_entry value_cmp es x.0 x.1) xs left b (rise_insert value_cmp value_total value_exact es x.0 x.1 u) r.1
-    ∙ ap (λ l. merged value_cmp l (xs ++ left)) (set_shown below es x.0 x.1 b u)
-    ∙ commit_change value_cmp value_total value_exact (overlaid below es) x (xs ++ left) (rise_merged value_cmp value_total value_exact (kept below) es (rise_kept value_cmp value_total value_exact below b) u) r
-
-inserted_known : (es xs : RowEntries) (q : Value) → knows es q ≡ true → knows (inserted es xs) q ≡ true
-inserted_known es [] q h = h
-inserted_known es (x ∷ xs) q h = inserted_known (insert_entry value_cmp es x.0 x.1) xs q (known_after value_cmp value_total value_exact q es x.0 x.1 h)
-
-inserted_keys : (es xs : RowEntries) → HasKeysOf es xs (inserted es xs)
-inserted_keys es [] = has_keys_itself es []
-inserted_keys es (x ∷ xs) = record {
-  each = λ p a b. (inserted_keys (insert_entry value_cmp es x.0 x.1) xs).each p
-      (all_insert value_cmp value_total value_exact (λ k. p k ≡ true) es x.0 x.1 a (All-head (λ c. p c.0 ≡ true) x xs b)) (All-tail (λ c. p c.0 ≡ true) x xs b);
-}
-
--- the first of some changes put in, the others left
-module _ (below old changes xs new left : RowEntries) (b : Rising below) (o : Rising old) (n : Rising new) (c : Rising changes) (all : changes ≡ xs ++ left)
-    (is : (q : Value) → at value_cmp q new ≡ update_all (eq_by_cmp value_cmp) (λ k. at value_cmp k old) xs q) where
-  made : inserted old xs ≡ new
-  made = same_entries value_cmp value_total value_exact (inserted old xs) new (rise_inserted old xs o) n (λ q. sym (is q ∙ at_inserted old xs q))
-
-  pub lays_over : KnowsKeys old changes → LaysOver below old changes new left
-  lays_over h = record {
-    shown = ap (λ l. merged value_cmp (overlaid below l) left) (sym made) ∙ inserted_shown below old xs left b o (subst Rising all c) ∙ ap (merged value_cmp (overlaid below old)) (sym all);
-    known = subst (λ l. KnowsKeys l left) made (known_still old (inserted old xs) left (inserted_known old xs) (all_back (λ c. knows old c.0 ≡ true) xs left (subst (KnowsKeys old) all h)));
-    keys = subst (λ l. HasKeysOf old l new) (sym all) (keys_among old xs left new (subst (HasKeysOf old xs) made (inserted_keys old xs)));
-    fewer = record { each = λ p a h. all_back (λ c. p c.0 ≡ true) xs left (subst (All (λ c. p c.0 ≡ true)) all a) };
-  }
-
--- the rest laid over too, and what shows nothing left out
-pub keys_over : (below old changes mid left all new : RowEntries) → LaysOver below old changes mid left → HasKeysOf mid left all → HasKeysOf all [] new → HasKeysOf old changes new
-keys_over below old changes mid left all new l e t = record { each = λ p a b. let none = All-nil (λ c. p c.0 ≡ true) in t.each p (e.each p (l.keys.each p a b) (l.fewer.each p b none)) none }
-
--- ---- entries that show nothing, left out
-
-picked : (below es : RowEntries) → Rising es → (q : Value) → pick (at value_cmp q (filter (differs below) es)) (at value_cmp q (kept below)) ≡ pick (at value_cmp q es) (at value_cmp q (kept below))
-picked below [] u q = refl
-picked below (e ∷ es) u q =
-    let b = at value_cmp q (kept below) in
-    let more = picked below es u.1 q in
-    ⊎_elim
-    (λ (t : differs below e ≡ true). ap (λ l. pick (at value_cmp q l) b) (cond-true _ _ _ t)
-    ∙ elim (is_at (value_cmp q) e.0) as (λ c. pick (cond c (Some e.1) (at value_cmp q (filter (differs below) es))) b ≡ pick (cond c (Some e.1) (at value_cmp q es)) b) [ true ↦ refl | false ↦ more ])
-    (λ (f : differs below e ≡ false). ap (λ l. pick (at value_cmp q l) b) (cond-false _ _ _ f) ∙ more ∙ ⊎_elim
-    (λ (t : is_at (value_cmp q) e.0 ≡ true).
-    let same : q ≡ e.0 = value_exact q e.0 (eq_true _ t) in
-    let none = or_parts (is_some e.1) (is_some (at value_cmp e.0 (kept below))) f in
-    ap (λ w. pick w b) (ap (λ k. at value_cmp k es) same ∙ none_at value_cmp value_total value_exact e.0 es u.0) ∙ ap (λ k. at value_cmp k (kept below)) same ∙ none_from (at value_cmp e.0 (kept below)) none.1
-    ∙ sym (ap (λ w. pick w b) (cond-true _ _ _ t) ∙ none_from e.1 none.0))
-    (λ (n : is_at (value_cmp q) e.0 ≡ false). sym (ap (λ w. pick w b) (cond-false _ _ _ n)))
-    (cases_Bool (is_at (value_cmp q) e.0)))
-    (cases_Bool (differs below e))
-
-pub tidied_shown : (below es new : RowEntries) → Rising below → Rising es → Rising new → new ≡ filter (differs below) es → overlaid below new ≡ overlaid below es
-tidied_shown below es new b u n is =
+-- where each key is changed, nothing of what was there shows
+pub replaced : (below old changes : RowEntries) → Rising below → Rising old → Rising changes → KnowsKeys changes old → overlaid below changes ≡ merged value_cmp (overlaid below old) changes
+replaced below old changes b o c known =
     let k = rise_kept value_cmp value_total value_exact below b in
-    same_entries value_cmp value_total value_exact (overlaid below new) (overlaid below es) (rise_merged value_cmp value_total value_exact (kept below) new k n) (rise_merged value_cmp value_total value_exact (kept below) es k u)
-    (λ q. at_merged value_cmp value_total value_exact q (kept below) new k n ∙ ap (λ l. pick (at value_cmp q l) (at value_cmp q (kept below))) is ∙ picked below es u q
-    ∙ sym (at_merged value_cmp value_total value_exact q (kept below) es k u))
-
-pub tidied_keys : (below es new : RowEntries) → new ≡ filter (differs below) es → HasKeysOf es [] new
-tidied_keys below es new is = record { each = λ p a h. subst (All (λ e. p e.0 ≡ true)) (sym is) (All-filter (differs below) (λ e. p e.0 ≡ true) es a) }
+    let u = rise_merged value_cmp value_total value_exact (kept below) old k o in
+    same_entries value_cmp value_total value_exact (overlaid below changes) (merged value_cmp (overlaid below old) changes)
+    (rise_merged value_cmp value_total value_exact (kept below) changes k c) (rise_merged value_cmp value_total value_exact (overlaid below old) changes u c)
+    (λ q. at_merged value_cmp value_total value_exact q (kept below) changes k c
+    ∙ shadows (at value_cmp q changes) (at value_cmp q old) (at value_cmp q (kept below)) (known_all changes old known q)
+    ∙ sym (at_merged value_cmp value_total value_exact q (overlaid below old) changes u c ∙ ap (pick (at value_cmp q changes)) (at_merged value_cmp value_total value_exact q (kept below) old k o)))

@@ -1,5 +1,5 @@
 -- Rows by their keys.
-use Rattle.std.specs.Prelude.{false, unwrap_or, ◌≡◌, ◌||◌, ℕ, Bool, true, List, [], All, filter, map, fold, is_some}
+use Rattle.std.specs.Prelude.{false, unwrap_or, ◌≡◌, ℕ, Bool, true, List, [], All, filter, map, fold, is_some}
 use Rattle.std.specs.declared.option.Option.{Option}
 use Rattle.std.specs.declared.option.Option.TheVariants.{None, Some}
 use Rattle.std.specs.declared.cmp.Ordering.{Ordering}
@@ -63,17 +63,6 @@ pub record Extends (below old new : RowEntries) : Type 0 where
 -- each key is an old one, or one of the changes: what holds of these holds of it
 pub record HasKeysOf (old changes new : RowEntries) : Type 0 where
   pub each : (p : Value → Bool) → All (λ e. p e.0 ≡ true) old → All (λ c. p c.0 ≡ true) changes → All (λ e. p e.0 ≡ true) new
-
--- some changes are laid over the entries, and the others are left
-pub record LaysOver (below old changes new left : RowEntries) : Type 0 where
-  pub shown : merged value_cmp (overlaid below new) left ≡ merged value_cmp (overlaid below old) changes
-  pub known : KnowsKeys new left
-  pub keys : HasKeysOf old changes new
-  pub fewer : HasKeysOf changes [] left
-
--- a row is laid over the key, or none over a row that is there
-abbrev pub differs : RowEntries → Value × Option (List Value) → Bool
-differs below e = is_some e.1 || is_some (at value_cmp e.0 (kept below))
 
 -- ---- changes that turn rows into new ones
 

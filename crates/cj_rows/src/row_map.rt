@@ -115,7 +115,7 @@ impl RowMap {
         ensures { result ≡ true → entries.KnowsKeys self.now changes.now }
     {
         let mut known = self.all_entries();
-        if !self.is_met_by_many(changes) {
+        if changes.rows.len() <= self.rows.len() / 4 {
             return false;
         }
         for (key, _) in &changes.rows {
@@ -124,10 +124,6 @@ impl RowMap {
             }
         }
         true
-    }
-
-    fn is_met_by_many(&self, changes: &RowMap) -> bool {
-        self.rows.len() / 4 < changes.rows.len()
     }
 
     /// Makes entries for the keys of changes, at which what shows over `below` stays as it is.
@@ -179,67 +175,33 @@ impl RowMap {
         };
     }
 
-    /// Whether a row is laid over the key, or none over a row that is there.
-    fn differs(&self, key: &Value, row: &Option<Row>) -> bool
-        ensures { result ≡ entries.differs self.now (key.now, row.now) }
+    /// Whether the changes alone show what they show over these entries, and each has a row.
+    fn replaces(&self, old: &RowMap) -> bool
+        ensures { result ≡ true → entries.KnowsKeys self.now old.now }
     {
-        row.is_some() || self.row(key).is_some()
+        self.rows.len() == old.rows.len()
+            && self.rows.values().all(|row| row.is_some())
+            && self.knows_all(old)
     }
 
-    /// Drops the entries without a row that show nothing over `below`.
-    fn tidy(&mut self, below: &RowMap)
-        ensures shown { entries.overlaid below.now self.new ≡ entries.overlaid below.now self.old }
-        ensures keys { entries.HasKeysOf self.old [] self.new }
-        ensures rises { KeysRise value_cmp self.new }
-    {
-        self.rises();
-        below.rises();
-        self.rows.retain(|key, row| below.differs(key, row));
-    }
-
-    /// Lays changes over the entries by one walk over both, and gives those back for which there is
-    /// no memory.
-    fn overlay(&mut self, below: &RowMap, changes: RowMap) -> RowMap
-        requires { entries.KnowsKeys self.old changes }
-        ensures lays { entries.LaysOver below.now self.old changes self.new result }
-        ensures rises { KeysRise value_cmp self.new }
-    {
-        self.rises();
-        below.rises();
-        let mut rest = changes;
-        let _ = self.rows.append(&mut rest.rows);
-        rest
-    }
-
-    /// Lays changes over the entries, each at its key.
-    fn absorb_each(&mut self, below: &RowMap, changes: RowMap)
-        requires { entries.KnowsKeys self.old changes }
-        ensures shown { entries.overlaid below.now self.new ≡ merged value_cmp (entries.overlaid below.now self.old) changes }
-        ensures keys { entries.HasKeysOf self.old changes self.new }
-        ensures rises { KeysRise value_cmp self.new }
-    {
-        self.rises();
-        below.rises();
-        let RowMap { rows } = changes;
-        for (key, row) in rows {
-            self.set(below, key, row);
-        }
-    }
-
-    /// Lays changes over the entries, whose keys are known: this takes no memory that is not there.
+    /// Lays changes over the entries, whose keys are known: this takes no memory.
     pub fn absorb(&mut self, below: &RowMap, changes: RowMap)
         requires { entries.KnowsKeys self.old changes }
         ensures shown { entries.overlaid below.now self.new ≡ merged value_cmp (entries.overlaid below.now self.old) changes }
         ensures keys { entries.HasKeysOf self.old changes self.new }
         ensures rises { KeysRise value_cmp self.new }
     {
-        if self.is_met_by_many(&changes) {
-            let rest = self.overlay(below, changes);
-            self.absorb_each(below, rest);
-            self.tidy(below);
+        self.rises();
+        below.rises();
+        changes.rises();
+        if changes.replaces(self) {
+            *self = changes;
             return;
         }
-        self.absorb_each(below, changes);
+        let RowMap { rows } = changes;
+        for (key, row) in rows {
+            self.set(below, key, row);
+        }
     }
 }
 

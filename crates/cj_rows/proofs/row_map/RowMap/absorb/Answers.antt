@@ -1,7 +1,57 @@
-use Rattle.cj_rows.proofs.RowEntryLaws.{keys_over}
+use Rattle.std.proofs.Common.{◌≡◌, ◌∙◌, ◌++◌, [], ◌∷◌, sym, ap, subst}
+use Rattle.std.proofs.lemmas.List.{append_assoc}
+use Rattle.cj_model.specs.Database.Values.{value_cmp}
+use Rattle.cj_rows.specs.Entries.{KeysRise}
+use Rattle.cj_rows.specs.Layers.{merged}
+use Rattle.cj_rows.specs.RowEntries.{RowEntries, KnowsKeys, overlaid}
+use Rattle.cj_rows.proofs.EntryLaws.{merged_none}
+use Rattle.cj_rows.proofs.RowEntryLaws.{has_keys_itself, keys_then, next_shown, next_known, first_known, replaced, rest_rises}
 use Rattle.cj_rows.proofs.row_map.RowMap.absorb.Goals as goal
 
-pub returns-then-is_met_by_many-clause-keys : goal.returns-then-is_met_by_many-clause-keys
-returns-then-is_met_by_many-clause-keys c =
-    keys_over c.args.below.now c.args.self.now c.args.changes c.overlay-rest.new.self c.overlay-rest.result c.absorb_each.new.self c.tidy.new.self
-    c.overlay-rest.ensures.lays c.absorb_each.ensures.keys c.tidy.ensures.keys
+pub returns-then-replaces-clause-shown : goal.returns-then-replaces-clause-shown
+returns-then-replaces-clause-shown c =
+    replaced c.args.below.now c.args.self.now c.args.changes c.rises-2.ensures c.rises.ensures c.rises-3.ensures (c.replaces.ensures c.if-replaces.true)
+
+pub loop-key-init : goal.loop-key-init
+loop-key-init c =
+    let all : c.into_iter-key-iterator.result ≡ c.args.changes = c.into_iter-key-iterator.ensures.into_iter_gives.0 ∙ c.changes.view_is in
+    record {
+      can_next = tt;
+      is_finite = tt;
+      shown = ap (λ (es : RowEntries). merged value_cmp (overlaid c.args.below.now c.args.self.now) es) all;
+      known = subst (KnowsKeys c.args.self.now) (sym all) c.requires;
+      rest = subst (KeysRise value_cmp) (sym all) (subst (KeysRise value_cmp) c.changes.view_is c.changes.invariant);
+      keys = has_keys_itself c.args.self.now [];
+      all = all;
+      rises = c.rises.ensures;
+    }
+
+pub set-requires : goal.set-requires
+set-requires c = first_known c.args.below.now c.loop-key.self c.loop-key.self c.loop-key.key-iterator c.next.new.self c.in-Some.key c.in-Some.row c.in-Some.ensures.steps c.rises-2.ensures c.loop-key.invariant.rises c.loop-key.invariant.rest c.loop-key.invariant.known
+
+pub loop-key-preserved : goal.loop-key-preserved
+loop-key-preserved c =
+    let below = c.args.below.now in
+    let mid = c.loop-key.self in
+    let new = c.set.new.self in
+    let s = c.loop-key.key-iterator in
+    let t = c.next.new.self in
+    let is : s ≡ (c.in-Some.key, c.in-Some.row) ∷ t = c.in-Some.ensures.steps in
+    let b = c.rises-2.ensures in
+    let i = c.loop-key.invariant in
+    record {
+      can_next = tt;
+      is_finite = tt;
+      shown = next_shown below mid new s t c.in-Some.key c.in-Some.row is b i.rises i.rest c.set.ensures.shown ∙ i.shown;
+      known = next_known below mid new s t c.in-Some.key c.in-Some.row is b i.rises i.rest c.set.ensures.above i.known;
+      rest = rest_rises below mid new s t c.in-Some.key c.in-Some.row is b i.rises i.rest;
+      keys = keys_then c.args.self.now c.loop-key.yielded mid new c.in-Some.key c.in-Some.row i.keys c.set.ensures.keys;
+      all = append_assoc c.loop-key.yielded ((c.in-Some.key, c.in-Some.row) ∷ []) t ∙ ap (λ (es : RowEntries). c.loop-key.yielded ++ es) (sym is) ∙ i.all;
+      rises = c.set.ensures.rises;
+    }
+
+pub returns-clause-shown : goal.returns-clause-shown
+returns-clause-shown c =
+    sym (merged_none value_cmp (overlaid c.args.below.now c.loop-key.self))
+    ∙ ap (λ (es : RowEntries). merged value_cmp (overlaid c.args.below.now c.loop-key.self) es) (sym c.in-None.ensures.steps.0)
+    ∙ c.loop-key.invariant.shown
