@@ -48,7 +48,7 @@ module _ {K : Type 0} (R : K → K → Ordering) where
     above_tied : {X : Type 0} (q k : K) (es : List (K × X)) → R q k ≡ Equal → KeysAbove k es → KeysAbove q es
     above_tied q k es h a = subst (λ (x : K). KeysAbove x es) (sym (exact q k h)) a
 
-    none_at : {X : Type 0} (q : K) (es : List (K × X)) → KeysAbove q es → at q es ≡ None
+    pub none_at : {X : Type 0} (q : K) (es : List (K × X)) → KeysAbove q es → at q es ≡ None
     none_at q [] a = refl
     none_at q (e ∷ es) a = cond-false _ _ _ (ap is_eq a.0) ∙ none_at q es a.1
 

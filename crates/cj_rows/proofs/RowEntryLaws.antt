@@ -1,9 +1,9 @@
 -- What making entries for keys, and laying changes over them, does to rows by their keys.
-use Rattle.std.proofs.Common.{◌≡◌, true, false, List, [], ◌∷◌, refl, ap, sym, ◌∙◌, subst, Less, is_eq}
+use Rattle.std.proofs.Common.{◌≡◌, true, false, List, [], ◌∷◌, refl, ap, sym, ◌∙◌, subst, Ordering, Less, Equal, Greater, is_eq, ⊎_elim}
 use Rattle.std.specs.Prelude.{All, is_some, ◌++◌, option_copied}
 use Rattle.std.specs.Borrow.{Bor}
 use Rattle.std.specs.Ordering.{ordering_reverse}
-use Rattle.std.proofs.lemmas.Bool.{cond-false}
+use Rattle.std.proofs.lemmas.Bool.{cases_Bool, cond-false, cond-true}
 use Rattle.std.specs.declared.option.Option.{Option}
 use Rattle.std.specs.declared.option.Option.TheVariants.{None, Some}
 use Rattle.std.specs.BTreeMap.{insert_entry, is_at}
@@ -14,7 +14,7 @@ use Rattle.cj_model.specs.Database.Values.{value_cmp, value_total, value_exact}
 use Rattle.cj_rows.specs.Entries.{KeysRise, KeysAbove, at}
 use Rattle.cj_rows.specs.Layers.{kept, merged, changed}
 use Rattle.cj_rows.specs.RowEntries.{RowEntries, knows, KnowsKeys, overlaid, Extends, HasKeysOf}
-use Rattle.cj_rows.proofs.EntryLaws.{at_remove, remove_absent, taken_back, note_change, commit_change, all_remove, rise_kept, rise_merged, prepared, known_after, all_insert}
+use Rattle.cj_rows.proofs.EntryLaws.{at_merged, eq_true, pick, same_entries, at_remove, remove_absent, taken_back, note_change, commit_change, all_remove, rise_kept, rise_merged, prepared, known_after, all_insert}
 
 abbrev Rising : RowEntries → Type 0
 Rising es = KeysRise value_cmp es
@@ -126,3 +126,46 @@ forgotten es key u n = taken_back value_cmp value_total value_exact [] es key tt
 
 pub keys_twice : (old changes mid new : RowEntries) → HasKeysOf old changes mid → HasKeysOf mid changes new → HasKeysOf old changes new
 keys_twice old changes mid new h g = record { each = λ p a b. g.each p (h.each p a b) b }
+
+-- ---- a walk over entries
+
+eq_back : (o : Ordering) → is_eq (ordering_reverse o) ≡ is_eq o
+eq_back Less = refl
+eq_back Equal = refl
+eq_back Greater = refl
+
+-- what is left has no other keys
+pub known_behind : (es more : RowEntries) (key : Value) (row : Option (List Value)) (q : Value) → es ≡ (key, row) ∷ more → knows more q ≡ true → knows es q ≡ true
+known_behind es more key row q is h = ap (λ l. knows l q) is ∙ ⊎_elim
+    (λ (t : is_at (value_cmp q) key ≡ true). ap is_some (cond-true _ _ _ t))
+    (λ (f : is_at (value_cmp q) key ≡ false). ap is_some (cond-false _ _ _ f) ∙ h)
+    (cases_Bool (is_at (value_cmp q) key))
+
+pub known_here : (es more : RowEntries) (key : Value) (row : Option (List Value)) (q : Value) → es ≡ (key, row) ∷ more → value_cmp key q ≡ Equal → knows es q ≡ true
+known_here es more key row q is h =
+    ap (λ l. knows l q) is ∙ ap is_some (cond-true _ _ _ (ap is_eq (value_total.antisymm q key) ∙ eq_back (value_cmp key q) ∙ ap is_eq h))
+
+-- ---- changes of all entries
+
+known_all : (changes old : RowEntries) → KnowsKeys changes old → (q : Value) → knows old q ≡ true → knows changes q ≡ true
+known_all changes [] a q h = cc h
+known_all changes (c ∷ cs) a q h = ⊎_elim
+    (λ (t : is_at (value_cmp q) c.0 ≡ true). ap (knows changes) (value_exact q c.0 (eq_true _ t)) ∙ All-head (λ c. knows changes c.0 ≡ true) c cs a)
+    (λ (f : is_at (value_cmp q) c.0 ≡ false). known_all changes cs (All-tail (λ c. knows changes c.0 ≡ true) c cs a) q (sym (ap is_some (cond-false _ _ _ f)) ∙ h))
+    (cases_Bool (is_at (value_cmp q) c.0))
+
+shadows : (x y : Option (Option (List Value))) (b : Option (List Value)) → (is_some y ≡ true → is_some x ≡ true) → pick x b ≡ pick x (pick y b)
+shadows (Some w) y b h = refl
+shadows None None b h = refl
+shadows None (Some w) b h = cc (h refl)
+
+-- where each key is changed, nothing of what was there shows
+pub replaced : (below old changes : RowEntries) → Rising below → Rising old → Rising changes → KnowsKeys changes old → overlaid below changes ≡ merged value_cmp (overlaid below old) changes
+replaced below old changes b o c known =
+    let k = rise_kept value_cmp value_total value_exact below b in
+    let u = rise_merged value_cmp value_total value_exact (kept below) old k o in
+    same_entries value_cmp value_total value_exact (overlaid below changes) (merged value_cmp (overlaid below old) changes)
+    (rise_merged value_cmp value_total value_exact (kept below) changes k c) (rise_merged value_cmp value_total value_exact (overlaid below old) changes u c)
+    (λ q. at_merged value_cmp value_total value_exact q (kept below) changes k c
+    ∙ shadows (at value_cmp q changes) (at value_cmp q old) (at value_cmp q (kept below)) (known_all changes old known q)
+    ∙ sym (at_merged value_cmp value_total value_exact q (overlaid below old) changes u c ∙ ap (pick (at value_cmp q changes)) (at_merged value_cmp value_total value_exact q (kept below) old k o)))

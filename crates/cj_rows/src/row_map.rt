@@ -13,6 +13,7 @@ use crate::scan::{Entries, Scan};
 use crate::scan_back::ScanBack;
 use cj_model::{Duplicate, NoMemory, Row, Same, Value};
 use std::alloc::Global;
+use std::cmp::Ordering;
 use std::collections::BTreeMap;
 use std::marker::Model;
 
@@ -108,6 +109,23 @@ impl RowMap {
         Ok(())
     }
 
+    /// Whether the keys of changes are known, by one walk over both, where they are so many that it
+    /// costs less than looking each up.
+    fn knows_all(&self, changes: &RowMap) -> bool
+        ensures { result ≡ true → entries.KnowsKeys self.now changes.now }
+    {
+        let mut known = self.all_entries();
+        if changes.rows.len() <= self.rows.len() / 4 {
+            return false;
+        }
+        for (key, _) in &changes.rows {
+            if !reaches(&mut known, key) {
+                return false;
+            }
+        }
+        true
+    }
+
     /// Makes entries for the keys of changes, at which what shows over `below` stays as it is.
     pub fn prepare(
         &mut self,
@@ -121,6 +139,9 @@ impl RowMap {
         ensures rises { KeysRise value_cmp self.new }
     {
         self.rises();
+        if self.knows_all(changes) {
+            return Ok(());
+        }
         for (key, _) in &changes.rows {
             self.prepare_key(alloc, below, key)?;
         }
@@ -154,6 +175,15 @@ impl RowMap {
         };
     }
 
+    /// Whether the changes alone show what they show over these entries, and each has a row.
+    fn replaces(&self, old: &RowMap) -> bool
+        ensures { result ≡ true → entries.KnowsKeys self.now old.now }
+    {
+        self.rows.len() == old.rows.len()
+            && self.rows.values().all(|row| row.is_some())
+            && self.knows_all(old)
+    }
+
     /// Lays changes over the entries, whose keys are known: this takes no memory.
     pub fn absorb(&mut self, below: &RowMap, changes: RowMap)
         requires { entries.KnowsKeys self.old changes }
@@ -163,6 +193,11 @@ impl RowMap {
     {
         self.rises();
         below.rises();
+        changes.rises();
+        if changes.replaces(self) {
+            *self = changes;
+            return;
+        }
         let RowMap { rows } = changes;
         for (key, row) in rows {
             self.set(below, key, row);
@@ -295,6 +330,21 @@ impl RowMap {
             None => self.row(key),
         }
     }
+}
+
+/// Takes the entries up to a key; false where they do not have it.
+fn reaches(rest: &mut Entries, key: &Value) -> bool
+    ensures found { result ≡ true → entries.knows rest.old key.now ≡ true }
+    ensures rest { (q : Value) → entries.knows rest.new q ≡ true → entries.knows rest.old q ≡ true }
+{
+    while let Some((at, _)) = rest.next() {
+        match at.cmp(key) {
+            Ordering::Less => {}
+            Ordering::Equal => return true,
+            Ordering::Greater => return false,
+        }
+    }
+    false
 }
 
 fn copied(alloc: Global, row: Option<&Row>) -> Result<Option<Row>, NoMemory>

@@ -5,8 +5,12 @@ use Rattle.cj_rows.specs.Entries.{KeysRise}
 use Rattle.cj_rows.specs.Layers.{merged}
 use Rattle.cj_rows.specs.RowEntries.{RowEntries, KnowsKeys, overlaid}
 use Rattle.cj_rows.proofs.EntryLaws.{merged_none}
-use Rattle.cj_rows.proofs.RowEntryLaws.{has_keys_itself, keys_then, next_shown, next_known, first_known, rest_rises}
+use Rattle.cj_rows.proofs.RowEntryLaws.{has_keys_itself, keys_then, next_shown, next_known, first_known, replaced, rest_rises}
 use Rattle.cj_rows.proofs.row_map.RowMap.absorb.Goals as goal
+
+pub returns-then-replaces-clause-shown : goal.returns-then-replaces-clause-shown
+returns-then-replaces-clause-shown c =
+    replaced c.args.below.now c.args.self.now c.args.changes c.rises-2.ensures c.rises.ensures c.rises-3.ensures (c.replaces.ensures c.if-replaces.true)
 
 pub loop-key-init : goal.loop-key-init
 loop-key-init c =

@@ -36,6 +36,9 @@ loop-key-preserved c =
       rises = done.rises;
     }
 
+pub returns-in_err-prepare_key-clause-extends : goal.returns-in_err-prepare_key-clause-extends
+returns-in_err-prepare_key-clause-extends c = extends_then c.loop-key.invariant.extends c.in_err-prepare_key.ensures.extends
+
 pub returns-in_err-prepare_key-clause-keys : goal.returns-in_err-prepare_key-clause-keys
 returns-in_err-prepare_key-clause-keys c =
     let old = c.args.self.now in
