@@ -1,13 +1,8 @@
 -- Tests over lists, and an INSERT past its refusals by the list of columns.
 use Rattle.std.proofs.Common.{◌≡◌, ℕ, Bool, false, not, ◌||◌, ◌==◌, List, [], ◌∷◌, length, map, refl, ap}
-use Rattle.std.specs.List.{list_any}
-use Rattle.std.specs.declared.option.Option.{Option}
-use Rattle.cj_model.specs.declared.term.Term.{Term}
-use Rattle.cj_model.specs.declared.database.Table.{Table}
-use Rattle.cj_model.specs.declared.codes.TheConstants.{WRONG_TYPE}
+use Rattle.cj_plan.proofs.Common.{list_any, Option, Table, Term, with_fitting_rows, WRONG_TYPE}
 use Rattle.cj_model.specs.Database.Tables.{fits_columns}
 use Rattle.cj_model.specs.Database.Inserts.{refusal_of_code, refuse_if, row_of, lists_unknown_column, lists_unevenly, with_rows, inserted}
-use Rattle.cj_plan.specs.Inserts.{with_fitting_rows}
 
 -- a test of what items are made into
 pub list_any-map : {A B : Type 0} (p : B → Bool) (f : A → B) (xs : List A) → list_any p (map f xs) ≡ list_any (λ x. p (f x)) xs

@@ -1,3 +1,4 @@
+pub mod Common
 pub mod Inserted
 pub mod PlanLaws
 pub mod UpdateRefusals

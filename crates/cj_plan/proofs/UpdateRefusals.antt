@@ -1,23 +1,13 @@
 -- The refusals of UPDATE in their order.
 use Rattle.std.proofs.Common.{◌≡◌, Bool, true, false, List, [], ◌∷◌, map, ap, sym, ◌∙◌, subst}
 use Rattle.std.specs.Prelude.{◌||◌, option_map}
-use Rattle.std.specs.List.{list_any}
-use Rattle.std.specs.declared.option.Option.{Option}
-use Rattle.std.specs.declared.result.Result.{Result}
-use Rattle.std.specs.declared.result.Result.TheVariants.{Err}
-use Rattle.std.proofs.lemmas.Bool.{or_parts}
-use Rattle.cj_model.specs.declared.database.Table.{Table}
-use Rattle.cj_model.specs.declared.write.Set.{Set}
-use Rattle.cj_model.specs.declared.answer.Refusal.{Refusal}
+use Rattle.cj_plan.proofs.Common.{Changed, Err, list_any, Option, or_parts, Plan, Plans, Refusal, refusal_of_code, refuse_if, Result, Set, Table}
 use Rattle.cj_model.specs.declared.codes.TheConstants.{NO_COLUMN, BAD_COLUMNS, WRONG_TYPE}
 use Rattle.cj_model.specs.Database.Conditions.{Condition}
-use Rattle.cj_model.specs.Database.Inserts.{Changed, refusal_of_code, refuse_if}
 use Rattle.cj_model.specs.Database.Scopes.{Scope, scope_of, where_has_unknown_column, where_mixes_kinds, predicate_of}
 use Rattle.cj_model.specs.Database.Updates.{set_has_unknown_column, sets_twice, sets_key, set_mixes_kinds, assignment_of, with_new_values, updated}
 use Rattle.cj_model.proofs.UpdateLaws.{key_assigned}
-use Rattle.cj_plan.specs.declared.plan.Plan.{Plan}
 use Rattle.cj_plan.specs.Assignments.{KeepsKey}
-use Rattle.cj_plan.specs.Plans.{Plans}
 use Rattle.cj_plan.proofs.PlanLaws.{refused, past}
 
 module _ (t : Table) (sets : List Set) (when : Option Condition) where

@@ -4,25 +4,12 @@ use Rattle.std.specs.Prelude.{filter_map, option_map, is_none}
 use Rattle.std.specs.List.{list_any, cons_option}
 use Rattle.std.specs.declared.option.Option.{Option}
 use Rattle.std.specs.declared.option.Option.TheVariants.{None, Some}
-use Rattle.std.specs.declared.result.Result.{Result}
-use Rattle.std.specs.declared.result.Result.TheVariants.{Err}
-use Rattle.std.proofs.lemmas.List.{take_more}
 use Rattle.std.proofs.lemmas.List.Elements.{filter_map-append}
-use Rattle.cj_model.specs.declared.schema.Column.{Column}
+use Rattle.cj_query.proofs.Common.{answer_from, code_of, Column, Err, is_unknown_column, predicate_of, product, Refusal, refusal_of_code, refuse_if, Refused, Result, scope_of, Select, slot_of, Table, tables_named, take_more, where_has_unknown_column, where_mixes_kinds}
 use Rattle.cj_model.specs.declared.database.Slot.{Slot}
-use Rattle.cj_model.specs.declared.database.Table.{Table}
-use Rattle.cj_model.specs.declared.select.Select.{Select}
-use Rattle.cj_model.specs.declared.answer.Asked.TheVariants.{Refused}
-use Rattle.cj_model.specs.declared.answer.Refusal.{Refusal}
 use Rattle.cj_model.specs.declared.codes.TheConstants.{NO_TABLE, NO_COLUMN, BAD_COLUMNS, WRONG_TYPE}
-use Rattle.cj_model.specs.Database.Inserts.{refusal_of_code, refuse_if}
-use Rattle.cj_model.specs.Database.Order.{product}
 use Rattle.cj_model.specs.Database.Queries.{answer_over, ask, asked_by, columns_named, has_bad_columns, items_listed, sums_text, tables_seen}
-use Rattle.cj_model.specs.Database.Scopes.{is_unknown_column, predicate_of, scope_of, where_mixes_kinds, where_has_unknown_column}
 use Rattle.cj_model.specs.Database.Steps.{seen}
-use Rattle.cj_model.specs.Database.Tables.{slot_of}
-use Rattle.cj_query.specs.Refused.{code_of}
-use Rattle.cj_query.specs.Seen.{answer_from, tables_named}
 use Rattle.cj_query.proofs.JoinLaws.{product_one}
 use Rattle.cj_query.proofs.MapLaws.{map_itself}
 use Rattle.cj_query.proofs.WalkLaws.{none_next}

@@ -1,34 +1,13 @@
 -- The rows of an answer have a value for each of its columns.
 use Rattle.std.proofs.Common.{◌≡◌, ℕ, suc, ◌+◌, Bool, true, false, cond, ◌||◌, List, [], ◌∷◌, ◌++◌, length, map, refl, ap, sym, ◌∙◌, subst, length-append, take, get_or, ◌<◌}
 use Rattle.std.specs.Prelude.{All, IfOk, filter, flat_map, option_map}
-use Rattle.std.specs.List.{list_any}
 use Rattle.std.specs.declared.option.Option.{Option}
 use Rattle.std.specs.declared.option.Option.TheVariants.{None, Some}
-use Rattle.std.specs.declared.result.Result.{Result}
-use Rattle.std.specs.declared.result.Result.TheVariants.{Ok, Err}
-use Rattle.std.proofs.lemmas.Bool.{and_parts}
-use Rattle.std.proofs.lemmas.List.{length-map, take_more}
-use Rattle.std.proofs.lemmas.List.Elements.{All-nil, All-cons, All-head, All-tail, All-append, All-map, All-filter, All-take, All-weaker}
-use Rattle.cj_model.specs.declared.value.Value.{Value}
-use Rattle.cj_model.specs.declared.term.ColRef.{ColRef}
-use Rattle.cj_model.specs.declared.schema.Column.{Column}
-use Rattle.cj_model.specs.declared.schema.Schema.{Schema}
-use Rattle.cj_model.specs.declared.database.Table.{Table}
-use Rattle.cj_model.specs.declared.select.Item.{Item}
-use Rattle.cj_model.specs.declared.select.Items.{Items}
+use Rattle.cj_query.proofs.Common.{All-append, All-cons, All-filter, All-head, All-map, All-nil, All-tail, All-take, All-weaker, and_parts, answer_of, answer_over, answer_row, Asked, asked_by, at_most, BAD_COLUMNS, ColRef, Column, columns_named, Err, first_row, gathered, groups_answered, has_bad_columns, insert_before, is_sum_out_of_range, is_unknown_column, Item, item_value, Items, items_listed, length-map, list_any, names_answered, NO_COLUMN, Ok, OVERFLOW, predicate_of, product, Refusal, refusal_of_code, refuse_if, Result, satisfies, Schema, Scope, scope_of, Select, sort_key_of, sorted_by, sorts_before, sums_text, Table, take_more, Value, where_has_unknown_column, where_mixes_kinds, WRONG_TYPE}
 use Rattle.cj_model.specs.declared.select.Items.TheVariants as select_items
-use Rattle.cj_model.specs.declared.select.Select.{Select}
 use Rattle.cj_model.specs.declared.answer.Answer.{Answer}
-use Rattle.cj_model.specs.declared.answer.Refusal.{Refusal}
 use Rattle.cj_model.specs.Database.Values.{kind_of}
-use Rattle.cj_model.specs.declared.answer.Asked.{Asked}
 use Rattle.cj_model.specs.declared.memory.NoMemory.{NoMemory}
-use Rattle.cj_model.specs.declared.codes.TheConstants.{NO_COLUMN, BAD_COLUMNS, OVERFLOW, WRONG_TYPE}
-use Rattle.cj_model.specs.Database.Inserts.{refusal_of_code, refuse_if}
-use Rattle.cj_model.specs.Database.Evaluation.{satisfies}
-use Rattle.cj_model.specs.Database.Order.{product, sorts_before, sorted_by, insert_before, at_most}
-use Rattle.cj_model.specs.Database.Queries.{answer_of, answer_over, asked_by, columns_named, first_row, gathered, groups_answered, has_bad_columns, is_sum_out_of_range, item_value, items_listed, names_answered, answer_row, sort_key_of, sums_text}
-use Rattle.cj_model.specs.Database.Scopes.{Scope, is_unknown_column, scope_of, predicate_of, where_mixes_kinds, where_has_unknown_column}
 use Rattle.cj_model.specs.Database.Tables.{IsTable, fits_columns, same_kind}
 use Rattle.cj_query.specs.Even.{HasEvenRows}
 

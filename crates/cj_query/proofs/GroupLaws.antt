@@ -1,20 +1,11 @@
 -- Rows in order, cut into runs of one value, are the rows with each value.
 use Rattle.std.proofs.Common.{◌≡◌, ℕ, Bool, true, false, cond, ◌||◌, List, [], ◌∷◌, map, refl, ap, sym, subst, ◌∙◌, ⊎_elim, Ordering, Less, Equal, Greater, is_eq}
 use Rattle.std.specs.Prelude.{All, find, fold}
-use Rattle.std.specs.List.{list_any}
-use Rattle.std.specs.Ordering.{is_lt, ordering_reverse}
 use Rattle.std.specs.declared.option.Option.{Option}
 use Rattle.std.specs.declared.option.Option.TheVariants.{None, Some}
 use Rattle.std.proofs.lemmas.Bool.{cases_Bool, cond-true, cond-false, or_parts}
-use Rattle.std.proofs.lemmas.Cmp.{tied_itself}
-use Rattle.std.proofs.lemmas.Simd.{map-map}
-use Rattle.std.proofs.lemmas.List.Elements.{All-nil, All-cons, All-head, All-tail}
-use Rattle.cj_model.specs.declared.value.Value.{Value}
-use Rattle.cj_model.specs.Database.Values.{value_cmp, value_total, value_exact}
+use Rattle.cj_query.proofs.Common.{All-cons, All-head, All-nil, All-tail, ColRef, column_place, is_lt, Items, list_any, map-map, ordering_reverse, Scope, tied_itself, Value, value_cmp, value_exact, value_total}
 use Rattle.cj_model.specs.Database.Tables.{cell, by_key, put_by, Rises}
-use Rattle.cj_model.specs.declared.term.ColRef.{ColRef}
-use Rattle.cj_model.specs.declared.select.Items.{Items}
-use Rattle.cj_model.specs.Database.Scopes.{Scope, column_place}
 use Rattle.cj_model.specs.Database.Queries.{first_row, distinct_values, rows_with, gathered}
 use Rattle.cj_model.proofs.RisingLaws.{by_order, equal_from, found_above, found_put, rises_put_each}
 use Rattle.cj_query.specs.Gathered.{same_at, run_with, runs, sorted_at, arranged, cut_into}

@@ -1,13 +1,6 @@
 -- The orders of rows by keys are orders.
 use Rattle.std.proofs.Common.{◌≡◌, ℕ, Bool, true, false, cond, List, [], ◌∷◌, refl}
-use Rattle.std.specs.Ordering.{is_lt}
-use Rattle.std.specs.Cmp.{IsStrictWeakOrder, IsTotalOrder, on_total, then_total, back_total}
-use Rattle.std.proofs.lemmas.List.Sorted.{ranks_by}
-use Rattle.cj_model.specs.declared.value.Value.{Value}
-use Rattle.cj_model.specs.Database.Values.{value_total}
-use Rattle.cj_model.specs.Database.Tables.{cell, by_key}
-use Rattle.cj_model.specs.Database.Order.{SortKey, by_sort_key, by_sort_keys, sorts_before, sorted_by}
-use Rattle.cj_model.specs.Database.Queries.{first_row}
+use Rattle.cj_query.proofs.Common.{back_total, by_key, by_sort_key, by_sort_keys, cell, first_row, is_lt, IsStrictWeakOrder, IsTotalOrder, on_total, ranks_by, sorted_by, SortKey, sorts_before, then_total, Value, value_total}
 use Rattle.cj_query.proofs.OrderLaws.{ordered_same, in_order_all}
 
 pub by_key_total : (n : ℕ) → IsTotalOrder (by_key n)

@@ -1,15 +1,8 @@
 -- The first rows in the order of keys, of lists that are cut and go on.
 use Rattle.std.proofs.Common.{◌≡◌, ℕ, true, List, [], ◌∷◌, ◌++◌, length, ap, sym, ◌∙◌, append_assoc}
-use Rattle.std.specs.Cmp.{IsStrictWeakOrder}
-use Rattle.std.specs.Prelude.{flat_map}
 use Rattle.std.specs.declared.option.Option.{Option}
 use Rattle.std.specs.declared.option.Option.TheVariants.{None, Some}
-use Rattle.std.proofs.lemmas.List.{append-nil, take-append-le}
-use Rattle.std.proofs.lemmas.List.Sorted.{ranks_by}
-use Rattle.cj_model.specs.declared.value.Value.{Value}
-use Rattle.cj_model.specs.Database.Order.{SortKey, at_most, sorted_by, sorts_before}
-use Rattle.cj_query.specs.Joined.{first_rows}
-use Rattle.cj_query.specs.Paths.{is_enough}
+use Rattle.cj_query.proofs.Common.{append-nil, at_most, first_rows, flat_map, is_enough, IsStrictWeakOrder, ranks_by, sorted_by, SortKey, sorts_before, take-append-le, Value}
 use Rattle.cj_query.proofs.KeyLaws.{by_sort_keys_total}
 use Rattle.cj_query.proofs.OrderLaws.{in_order_all, ordered_same}
 use Rattle.cj_query.proofs.TopLaws.{cut_before, is_le}

@@ -1,11 +1,8 @@
 -- Refusals that are passed on.
 use Rattle.std.proofs.Common.{◌≡◌, Bool, true, subst, sym}
 use Rattle.std.specs.Result.{IsErrAnd}
-use Rattle.std.specs.declared.result.Result.{Result}
-use Rattle.std.specs.declared.result.Result.TheVariants.{Ok, Err}
-use Rattle.cj_expr.specs.declared.formula.ValueError.{ValueError}
+use Rattle.cj_query.proofs.Common.{Err, MakesValue, Ok, Result, ValueError}
 use Rattle.cj_expr.specs.declared.formula.ValueError.TheVariants.{Overflow, NoMemory}
-use Rattle.cj_query.specs.Made.{MakesValue}
 
 -- what lies outside in a part lies outside in the whole
 pub err_kept : {A B : Type 0} (b c : Bool) (x : A) (y : B) (e : ValueError) → (b ≡ true → c ≡ true) → MakesValue b x (Err e) → MakesValue c y (Err e)

@@ -1,10 +1,8 @@
 -- Lists of which each element is turned into another.
 use Rattle.std.proofs.Common.{◌≡◌, ℕ, Bool, ◌||◌, List, [], ◌∷◌, map, refl, ap, sym, ◌∙◌}
-use Rattle.std.specs.List.{list_any}
 use Rattle.std.specs.declared.option.Option.{Option}
 use Rattle.std.specs.declared.option.Option.TheVariants.{None, Some}
-use Rattle.std.proofs.lemmas.List.{take-map}
-use Rattle.cj_model.specs.Database.Order.{at_most}
+use Rattle.cj_query.proofs.Common.{at_most, list_any, take-map}
 
 pub map_itself : {X : Type 0} (xs : List X) → map (λ x. x) xs ≡ xs
 map_itself [] = refl

@@ -1,12 +1,11 @@
 -- A stable sort gives `sorted_by`, and a list in order is `sorted_by` already.
 use Rattle.std.proofs.Common.{◌≡◌, ℕ, suc, ◌+◌, ◌<◌, Bool, true, false, cond, ◌||◌, List, [], ◌∷◌, length, map, get_or, refl, ap, sym, ◌∙◌, subst, arith, ⊎_elim}
-use Rattle.std.specs.Cmp.{IsStrictWeakOrder}
 use Rattle.std.specs.Prelude.{⊤}
 use Rattle.std.specs.List.{filter, list_any}
 use Rattle.std.specs.List.Sorted.{IsSortedBy, IsStableBy, ties}
 use Rattle.std.proofs.lemmas.Bool.{and_parts, not-true, not_from_false, and_from, cases_Bool, cond-true, cond-false, both_ways}
 use Rattle.std.proofs.lemmas.List.Sorted.{sorted_far}
-use Rattle.cj_model.specs.Database.Order.{insert_before, sorted_by}
+use Rattle.cj_query.proofs.Common.{insert_before, IsStrictWeakOrder, sorted_by}
 
 -- none of the list stands before x
 abbrev pub NoneBefore : {X : Type 0} → (X → X → Bool) → X → List X → Type 0

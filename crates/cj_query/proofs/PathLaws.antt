@@ -1,24 +1,9 @@
 -- Where less than all rows are looked at, the answer is the same.
 use Rattle.std.proofs.Common.{◌≡◌, ℕ, ◌≤◌, Bool, true, false, not, cond, eqb, List, [], ◌∷◌, length, map, get_or, refl, ap, sym, ◌∙◌, ⊎_elim, Less, Greater, is_eq, arith}
 use Rattle.std.specs.Prelude.{All, filter, option_to_list, is_none, reverse}
-use Rattle.std.specs.Ordering.{is_lt, ordering_reverse, ordering_then}
 use Rattle.std.specs.declared.option.Option.{Option}
 use Rattle.std.specs.declared.option.Option.TheVariants.{None, Some}
-use Rattle.std.proofs.lemmas.Bool.{and_parts, cases_Bool, cond-true, cond-false, false_from_ne_true, not-true}
-use Rattle.std.proofs.lemmas.Cmp.{tied_itself}
-use Rattle.std.proofs.lemmas.List.{nil_from_length}
-use Rattle.std.proofs.lemmas.List.Elements.{All-nil, All-cons, All-head, All-tail}
-use Rattle.std.proofs.lemmas.List.Sorted.{ranks_by}
-use Rattle.cj_model.specs.declared.value.Value.{Value}
-use Rattle.cj_model.specs.declared.select.Key.{Key}
-use Rattle.cj_model.specs.declared.select.Select.{Select}
-use Rattle.cj_model.specs.declared.term.ColRef.{ColRef}
-use Rattle.cj_model.specs.Database.Values.{value_cmp, value_total}
-use Rattle.cj_model.specs.Database.Tables.{Rises, by_key, cell}
-use Rattle.cj_model.specs.Database.Order.{SortKey, sorts_before, by_sort_key, by_sort_keys, at_most, sorted_by}
-use Rattle.cj_model.specs.Database.Queries.{has_aggregate, first_row, gathered, groups_answered, sort_key_of}
-use Rattle.cj_model.specs.Database.Scopes.{Scope, column_place}
-use Rattle.cj_rows.specs.Lookups.{row_with_key}
+use Rattle.cj_query.proofs.Common.{All-cons, All-head, All-nil, All-tail, and_parts, at_most, by_key, by_sort_key, by_sort_keys, cases_Bool, cell, ColRef, column_place, cond-false, cond-true, false_from_ne_true, first_row, gathered, groups_answered, has_aggregate, is_lt, Key, nil_from_length, not-true, ordering_reverse, ordering_then, ranks_by, Rises, row_with_key, Scope, Select, sort_key_of, sorted_by, SortKey, sorts_before, tied_itself, Value, value_cmp, value_total}
 use Rattle.cj_query.specs.Paths.{PinsTo, answers_each, falls_by, follows_rows, is_falling_at, is_led_by, is_rising_at, follows_join, reverses_rows}
 use Rattle.cj_query.proofs.KeyLaws.{by_sort_keys_total, always_in_order}
 use Rattle.cj_query.proofs.MapLaws.{cut-map}

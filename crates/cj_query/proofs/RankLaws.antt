@@ -1,23 +1,14 @@
 -- Rows with the value of their first key at hand are in the order of the keys.
 use Rattle.std.proofs.Common.{◌≡◌, ℕ, Bool, true, false, is_eq, List, map, ap, sym, ◌∙◌}
 use Rattle.std.specs.Prelude.{filter}
-use Rattle.std.specs.Ordering.{is_lt}
-use Rattle.std.specs.Cmp.{IsStrictWeakOrder, IsTotalOrder, on_total, then_total, back_total}
-use Rattle.std.proofs.lemmas.List.Sorted.{ranks_by}
-use Rattle.std.proofs.lemmas.Simd.{map-map}
-use Rattle.cj_model.specs.declared.value.Value.{Value}
-use Rattle.cj_model.specs.Database.Values.{value_cmp, value_total}
-use Rattle.cj_model.specs.Database.Order.{at_most, sorted_by, sorts_before}
+use Rattle.cj_query.proofs.Common.{at_most, back_total, is_lt, IsStrictWeakOrder, IsTotalOrder, map-map, on_total, ranks_by, rows_with, sorted_at, sorted_by, sorts_before, then_total, tied_itself, Value, value_cmp, value_total}
 use Rattle.cj_query.specs.declared.ranked.Ranking.{Ranking}
-use Rattle.cj_query.specs.Gathered.{sorted_at}
 use Rattle.cj_query.specs.Ranked.{RankedRow, by_lead, by_rank, keys_of, leads_before, led_by, ranked_by, ranks_before, wanted}
 use Rattle.cj_query.proofs.KeyLaws.{by_sort_keys_total}
 use Rattle.cj_query.proofs.MapLaws.{cut-map, map_itself}
 use Rattle.cj_query.proofs.OrderLaws.{filter-ordered, ordered-map}
 use Rattle.cj_query.proofs.GroupLaws.{equal_is}
 use Rattle.cj_query.proofs.IndexLaws.{filter_seen}
-use Rattle.cj_model.specs.Database.Queries.{rows_with}
-use Rattle.std.proofs.lemmas.Cmp.{tied_itself}
 
 by_lead_sense_total : (desc : Bool) (place : _) → IsTotalOrder (by_lead (record { place = place; desc = desc }))
 by_lead_sense_total true place = back_total value_total

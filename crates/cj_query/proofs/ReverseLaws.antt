@@ -1,10 +1,8 @@
 -- A list whose elements stand each behind those after it is ordered by being reversed.
 use Rattle.std.proofs.Common.{◌≡◌, Bool, true, false, cond, List, [], ◌∷◌, ◌++◌, map, refl, ap, sym, ◌∙◌, subst}
 use Rattle.std.specs.Prelude.{All, filter, reverse}
-use Rattle.std.proofs.lemmas.Bool.{cond-true}
 use Rattle.std.proofs.lemmas.List.{append-nil, map-append, reverse-append}
-use Rattle.std.proofs.lemmas.List.Elements.{All-nil, All-cons, All-head, All-tail, All-append, filter-append}
-use Rattle.cj_model.specs.Database.Order.{insert_before, sorted_by}
+use Rattle.cj_query.proofs.Common.{All-append, All-cons, All-head, All-nil, All-tail, cond-true, filter-append, insert_before, sorted_by}
 
 pub map-reverse : {X Y : Type 0} (f : X → Y) (xs : List X) → map f (reverse xs) ≡ reverse (map f xs)
 map-reverse f [] = refl

@@ -1,11 +1,7 @@
 -- The first run of rows, and the rest.
 use Rattle.std.proofs.Common.{◌≡◌, ℕ, suc, ◌+◌, ◌<◌, ◌≤◌, true, false, cond, List, [], ◌∷◌, ◌++◌, length, map, take, drop, get_or, refl, ap, sym, ◌∙◌, ⊎_elim, is_eq, arith, append_assoc, ◌-◌}
-use Rattle.std.specs.List.{prefix_len}
-use Rattle.std.proofs.lemmas.Bool.{cases_Bool}
 use Rattle.std.proofs.lemmas.List.{take-map, drop-map, drop_more, take_more, map-append, length-map, length-drop, drop-drop, take_all}
-use Rattle.cj_model.specs.declared.value.Value.{Value}
-use Rattle.cj_model.specs.Database.Values.{value_cmp}
-use Rattle.cj_model.specs.Database.Tables.{cell}
+use Rattle.cj_query.proofs.Common.{cases_Bool, cell, prefix_len, Value, value_cmp}
 use Rattle.cj_query.specs.Gathered.{same_at, run_with, runs, run_length}
 use Rattle.cj_query.proofs.GroupLaws.{equal_is}
 

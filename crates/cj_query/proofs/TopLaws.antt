@@ -2,14 +2,10 @@
 use Rattle.std.proofs.Common.{◌≡◌, ℕ, zero, suc, ◌+◌, ◌<◌, ◌≤◌, Bool, true, false, cond, List, [], ◌∷◌, ◌++◌, length, map, take, drop, ◌-◌, refl, ap, sym, ◌∙◌, subst, arith, ⊎_elim, append_assoc}
 use Rattle.std.specs.Prelude.{All, nat_le, option_map, slice_get}
 use Rattle.std.specs.List.{filter}
-use Rattle.std.specs.Cmp.{IsStrictWeakOrder}
-use Rattle.std.specs.List.Sorted.{ties}
 use Rattle.std.specs.declared.option.Option.{Option}
 use Rattle.std.specs.declared.option.Option.TheVariants.{None, Some}
-use Rattle.std.proofs.lemmas.Bool.{cases_Bool, cond-true, cond-false, not-true}
 use Rattle.std.proofs.lemmas.List.{take-append-le, take-append-drop, take_all, length-take-le, length-append, length-map}
-use Rattle.std.proofs.lemmas.List.Elements.{All-nil, All-cons, All-head, All-tail, filter-append}
-use Rattle.cj_model.specs.Database.Order.{at_most, insert_before, sorted_by}
+use Rattle.cj_query.proofs.Common.{All-cons, All-head, All-nil, All-tail, at_most, cases_Bool, cond-false, cond-true, filter-append, insert_before, IsStrictWeakOrder, not-true, sorted_by, ties}
 use Rattle.cj_query.specs.Ranked.{Bars, is_barred}
 use Rattle.cj_query.proofs.OrderLaws.{IsInOrder, NoneBefore, none_before_put, none_chain, not_before_itself, ordered_rises, ordered_stable, unique}
 

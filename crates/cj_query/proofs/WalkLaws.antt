@@ -1,12 +1,7 @@
 -- Walks over a list that put together what each element gives.
 use Rattle.std.proofs.Common.{◌≡◌, ℕ, zero, suc, ◌+◌, ◌<◌, ℤ, ◌+ℤ◌, Bool, true, false, ◌||◌, List, [], ◌∷◌, ◌++◌, map, fold, length, take, get_or, refl, ap, sym, ◌∙◌, arith}
-use Rattle.std.specs.List.{list_any}
 use Rattle.std.proofs.lemmas.Bool.{or_left, or_right}
-use Rattle.std.proofs.lemmas.List.Folds.{list_any-append}
-use Rattle.cj_model.specs.declared.value.Value.{Value}
-use Rattle.cj_model.specs.Database.Evaluation.{integer_of}
-use Rattle.cj_model.specs.Database.Tables.{cell}
-use Rattle.std.proofs.lemmas.List.{take_more, map-append}
+use Rattle.cj_query.proofs.Common.{cell, integer_of, list_any, list_any-append, map-append, take_more, Value}
 
 -- one more element
 pub map_next : {A Y : Type 0} (f : A → Y) (xs : List A) (i : ℕ) (x : A) → i < length xs → x ≡ get_or xs i x → map f (take i xs) ++ f x ∷ [] ≡ map f (take (i + 1) xs)

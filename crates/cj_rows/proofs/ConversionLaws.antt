@@ -1,27 +1,11 @@
 -- Tables of the vocabulary as trees: rows put into an empty table, and changes that turn rows into new ones.
 use Rattle.std.proofs.Common.{◌≡◌, ℕ, true, false, cond, List, [], ◌∷◌, ◌++◌, refl, ap, sym, ◌∙◌, subst, ⊎_elim, Less, is_eq, arith}
-use Rattle.std.specs.Prelude.{fold, is_some, unwrap_or}
-use Rattle.std.specs.declared.option.Option.{Option}
-use Rattle.std.specs.declared.option.Option.TheVariants.{None, Some}
-use Rattle.std.specs.Ordering.{ordering_reverse}
-use Rattle.std.specs.BTreeMap.{insert_entry, is_at}
-use Rattle.std.specs.Map.{remove_entry, values_of}
-use Rattle.std.proofs.lemmas.Bool.{cases_Bool, cond-true, cond-false, ne_eqb}
-use Rattle.std.proofs.lemmas.Cmp.{tied_itself}
-use Rattle.std.proofs.lemmas.List.Elements.{All-head}
-use Rattle.cj_model.specs.declared.value.Value.{Value}
-use Rattle.cj_model.specs.declared.schema.Schema.{Schema}
+use Rattle.cj_rows.proofs.Common.{All-head, at, cases_Bool, changed_slot, cond-false, cond-true, fold, insert_entry, is_at, is_some, KeysRise, merged, ne_eqb, None, Option, ordering_reverse, remove_entry, rows_after, Schema, Slot, Some, Table, tied_itself, unwrap_or, Value, value_cmp, value_exact, value_total, values_of}
 use Rattle.cj_model.specs.declared.database.Draft.{Draft}
-use Rattle.cj_model.specs.declared.database.Slot.{Slot}
-use Rattle.cj_model.specs.declared.database.Table.{Table}
-use Rattle.cj_model.specs.Database.Values.{value_cmp, value_total, value_exact}
 use Rattle.cj_model.specs.Database.Tables.{IsSlot, Rises, by_key, cell, put_by}
 use Rattle.cj_model.specs.Database.Steps.{seen, seen_behind}
 use Rattle.cj_model.proofs.RisingLaws.{equal_from}
-use Rattle.cj_rows.specs.Entries.{KeysRise, at}
-use Rattle.cj_rows.specs.Layers.{merged}
 use Rattle.cj_rows.specs.RowEntries.{RowEntries, Settles, Turns, keyed, knows, puts}
-use Rattle.cj_rows.specs.Stored.{changed_slot, rows_after}
 use Rattle.cj_rows.proofs.EntryLaws.{at_insert, at_kept, at_merged, at_remove, rise_merged, same_entries}
 use Rattle.cj_rows.proofs.RowEntryLaws.{all_back}
 use Rattle.cj_rows.proofs.RowLaws.{fold_past, merged_puts, rise_each, rise_keyed, values_keyed}

@@ -1,19 +1,10 @@
 -- Entries in rising key: look-ups tell them apart; what merging, inserting and removing leave at a key.
 use Rattle.std.proofs.Common.{◌≡◌, Bool, true, false, cond, List, [], ◌∷◌, refl, ap, sym, ◌∙◌, subst, ⊎_elim, Ordering, Less, Equal, Greater, is_eq}
-use Rattle.std.specs.Prelude.{All, is_some, unwrap_or}
-use Rattle.std.proofs.lemmas.List.Elements.{All-cons, All-head, All-tail}
-use Rattle.std.specs.declared.option.Option.{Option}
-use Rattle.std.specs.declared.option.Option.TheVariants.{None, Some}
-use Rattle.std.specs.Cmp.{IsTotalOrder}
-use Rattle.std.specs.Ordering.{match_ordering}
-use Rattle.std.specs.BTreeMap.{insert_entry, is_at}
 use Rattle.std.specs.List.{AllByRecursion}
 use Rattle.std.specs.List.Sorted.{IsStrictlySortedBy}
 use Rattle.std.specs.Map.{lookup, remove_entry, keys_of}
-use Rattle.std.proofs.lemmas.Bool.{cases_Bool, cond-true, cond-false}
-use Rattle.std.proofs.lemmas.Cmp.{tied_itself}
 use Rattle.std.proofs.lemmas.Map.Keys.{sorted_head, sorted_tail}
-use Rattle.cj_rows.specs.Layers.{given, kept, onto, merged, changed}
+use Rattle.cj_rows.proofs.Common.{All, All-cons, All-head, All-tail, cases_Bool, changed, cond-false, cond-true, given, insert_entry, is_at, is_some, IsTotalOrder, kept, match_ordering, merged, None, onto, Option, Some, tied_itself, unwrap_or}
 use Rattle.cj_rows.specs.Entries as entries
 
 pub by_order : {G : Type 0} (o : Ordering) → (o ≡ Less → G) → (o ≡ Equal → G) → (o ≡ Greater → G) → G

@@ -1,19 +1,7 @@
 -- Entries and rows from a key on.
 use Rattle.std.proofs.Common.{◌≡◌, ℕ, Bool, true, false, ◌&&◌, not, cond, List, [], ◌∷◌, refl, ap, sym, ◌∙◌, ⊎_elim}
-use Rattle.std.specs.Prelude.{filter}
 use Rattle.std.specs.Ordering.{is_le}
-use Rattle.std.specs.BTreeMap.{is_at}
-use Rattle.std.specs.Map.{values_of}
-use Rattle.std.specs.declared.option.Option.{Option}
-use Rattle.std.specs.declared.option.Option.TheVariants.{None, Some}
-use Rattle.std.proofs.lemmas.Bool.{cases_Bool, cond-true, cond-false}
-use Rattle.cj_model.specs.declared.value.Value.{Value}
-use Rattle.cj_model.specs.Database.Values.{value_cmp, value_total, value_exact}
-use Rattle.cj_model.specs.Database.Tables.{cell}
-use Rattle.cj_rows.specs.Entries.{KeysAbove, KeysRise, at}
-use Rattle.cj_rows.specs.Layers.{kept, merged}
-use Rattle.cj_rows.specs.RowEntries.{RowEntries, from_key, keyed, overlaid}
-use Rattle.cj_rows.specs.Lookups.{rows_from}
+use Rattle.cj_rows.proofs.Common.{at, cases_Bool, cell, cond-false, cond-true, filter, from_key, is_at, kept, keyed, KeysAbove, KeysRise, merged, None, Option, overlaid, RowEntries, rows_from, Some, Value, value_cmp, value_exact, value_total, values_of}
 use Rattle.cj_rows.proofs.EntryLaws.{at_merged, eq_true, pick, rise_kept, rise_merged, same_entries}
 
 -- what is in the range for a key

@@ -1,19 +1,9 @@
 -- Entries in rising key, from the last on: what merging leaves where the greatest key is taken off.
 use Rattle.std.proofs.Common.{◌≡◌, true, false, cond, List, [], ◌∷◌, ◌++◌, refl, ap, sym, ◌∙◌, subst, ⊎_elim, Ordering, Less, Equal, Greater, is_eq}
 use Rattle.std.specs.Prelude.{⊤, reverse}
-use Rattle.std.specs.declared.option.Option.{Option}
-use Rattle.std.specs.declared.option.Option.TheVariants.{None, Some}
-use Rattle.std.specs.Cmp.{IsTotalOrder}
-use Rattle.std.specs.Ordering.{match_ordering, ordering_reverse}
-use Rattle.std.specs.BTreeMap.{insert_entry, is_at}
-use Rattle.std.specs.Map.{values_of}
-use Rattle.std.proofs.lemmas.Bool.{cases_Bool, cond-true, cond-false}
-use Rattle.std.proofs.lemmas.Cmp.{tied_itself}
 use Rattle.std.proofs.lemmas.List.{append-nil, map-append, reverse-append}
-use Rattle.cj_model.specs.declared.value.Value.{Value}
-use Rattle.cj_model.specs.Database.Values.{value_cmp, value_total, value_exact}
+use Rattle.cj_rows.proofs.Common.{cases_Bool, changed, cond-false, cond-true, given, insert_entry, is_at, IsTotalOrder, kept, match_ordering, merged, None, onto, Option, option_as_list, ordering_reverse, Some, tied_itself, Value, value_cmp, value_exact, value_total, values_of}
 use Rattle.cj_rows.specs.Entries as entries
-use Rattle.cj_rows.specs.Layers.{changed, given, kept, option_as_list, merged, onto}
 use Rattle.cj_rows.specs.RowEntries.{RowEntries, Rows, overlaid, turn}
 use Rattle.cj_rows.proofs.EntryLaws.{at_insert, at_merged, eq_true, note_change, pick, remove_absent, rise_insert, rise_kept, rise_merged, same_entries}
 

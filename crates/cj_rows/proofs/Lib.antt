@@ -1,8 +1,9 @@
+pub mod Common
 pub mod ConversionLaws
 pub mod EntryLaws
+pub mod FromLaws
 pub mod LastLaws
 pub mod RowEntryLaws
 pub mod RowLaws
 pub mod ScanLaws
 pub mod StoredLaws
-pub mod FromLaws

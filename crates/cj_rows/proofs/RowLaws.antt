@@ -1,21 +1,8 @@
 -- Rows with their keys: look-ups, rows put and rows taken out.
 use Rattle.std.proofs.Common.{◌≡◌, ℕ, Bool, true, false, cond, List, [], ◌∷◌, map, refl, ap, sym, ◌∙◌, subst, ⊎_elim, Ordering, Less, Equal, Greater, is_eq}
 use Rattle.std.specs.Prelude.{All, filter, fold, not}
-use Rattle.std.specs.declared.option.Option.{Option}
-use Rattle.std.specs.declared.option.Option.TheVariants.{None, Some}
-use Rattle.std.specs.Ordering.{match_ordering, ordering_reverse}
-use Rattle.std.specs.BTreeMap.{insert_entry, is_at}
-use Rattle.std.specs.Map.{values_of, remove_entry}
-use Rattle.std.proofs.lemmas.Bool.{cases_Bool, cond-true, cond-false}
-use Rattle.std.proofs.lemmas.Cmp.{tied_itself}
-use Rattle.std.proofs.lemmas.List.Elements.{All-nil, All-cons, All-head, All-tail}
-use Rattle.cj_model.specs.declared.value.Value.{Value}
-use Rattle.cj_model.specs.Database.Values.{value_cmp, value_total, value_exact}
-use Rattle.cj_model.specs.Database.Tables.{cell, by_key, put_by, Rises}
+use Rattle.cj_rows.proofs.Common.{All-cons, All-head, All-nil, All-tail, at, by_key, cases_Bool, cell, changed, cond-false, cond-true, insert_entry, is_at, KeysAbove, KeysRise, match_ordering, merged, None, Option, ordering_reverse, put_by, remove_entry, Rises, row_with_key, Some, tied_itself, Value, value_cmp, value_exact, value_total, values_of}
 use Rattle.cj_model.proofs.RisingLaws.{by_order}
-use Rattle.cj_rows.specs.Entries.{KeysRise, KeysAbove, at}
-use Rattle.cj_rows.specs.Layers.{merged, changed}
-use Rattle.cj_rows.specs.Lookups.{row_with_key}
 use Rattle.cj_rows.specs.RowEntries.{RowEntries, keyed, puts, removals}
 use Rattle.cj_rows.proofs.EntryLaws.{note_change, merged_none, rise_insert}
 

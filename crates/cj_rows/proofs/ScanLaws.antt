@@ -1,14 +1,8 @@
 -- One step of a scan from the back: the entry or the change whose turn it is, taken off what is left.
 use Rattle.std.proofs.Common.{◌≡◌, List, [], ◌∷◌, ◌++◌, refl, ap, sym, ◌∙◌, subst, Less, Equal, Greater}
-use Rattle.std.specs.Borrow.{Bor}
-use Rattle.std.specs.declared.option.Option.{Option}
-use Rattle.std.specs.declared.option.Option.TheVariants.{None, Some}
 use Rattle.std.specs.Map.Iter.{TakesLast, deref_pair}
-use Rattle.cj_model.specs.declared.value.Value.{Value}
-use Rattle.cj_model.specs.Database.Values.{value_cmp}
-use Rattle.cj_rows.specs.Entries.{KeysRise}
+use Rattle.cj_rows.proofs.Common.{Bor, KeysRise, None, Option, RowEntries, Some, turn, Value, value_cmp}
 use Rattle.cj_rows.specs.Layers.{option_as_list, pending_back}
-use Rattle.cj_rows.specs.RowEntries.{RowEntries, turn}
 use Rattle.cj_rows.proofs.LastLaws.{back, both_back, change_back, entry_back, first_back, rise_front, second_back}
 
 abbrev Entry : Type 0

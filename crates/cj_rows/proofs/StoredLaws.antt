@@ -3,21 +3,9 @@ use Rattle.std.proofs.Common.{◌≡◌, ℕ, ◌<◌, true, false, List, [], ap
 use Rattle.std.specs.Prelude.{◌==◌, OnErr}
 use Rattle.std.specs.declared.result.Result.{Result}
 use Rattle.std.specs.declared.result.Result.TheVariants.{Ok, Err}
-use Rattle.std.specs.declared.option.Option.{Option}
-use Rattle.std.specs.declared.option.Option.TheVariants.{None, Some}
-use Rattle.std.specs.Map.{values_of}
 use Rattle.std.proofs.lemmas.Bool.{cases_Bool, cond-true, cond-false, eq-eqb, ne_eqb, eqb-true}
-use Rattle.cj_model.specs.declared.value.Value.{Value}
-use Rattle.cj_model.specs.declared.schema.Schema.{Schema}
-use Rattle.cj_model.specs.declared.database.Slot.{Slot}
-use Rattle.cj_model.specs.declared.database.Table.{Table}
-use Rattle.cj_model.specs.Database.Values.{value_cmp}
-use Rattle.cj_model.specs.Database.Steps.{seen, other_writer}
+use Rattle.cj_rows.proofs.Common.{at, Extends, from_key, HasKeysOf, kept, keyed, KeysRise, knows, KnowsKeys, merged, None, Option, other_writer, overlaid, row_with_key, RowEntries, rows_from, Schema, seen, Slot, Some, Table, Value, value_cmp, values_of}
 use Rattle.cj_rows.specs.declared.stored.StoredDraft.{StoredDraft}
-use Rattle.cj_rows.specs.Entries.{KeysRise, at}
-use Rattle.cj_rows.specs.Layers.{kept, merged}
-use Rattle.cj_rows.specs.Lookups.{row_with_key, rows_from}
-use Rattle.cj_rows.specs.RowEntries.{RowEntries, from_key, knows, KnowsKeys, keyed, overlaid, Extends, HasKeysOf}
 use Rattle.cj_rows.specs.Stored.{slot_shown, shown_draft, AreRows, DraftHolds, HoldsTable, rows_after, changed_slot, IsChangeOf}
 use Rattle.cj_rows.proofs.FromLaws.{own_part}
 use Rattle.cj_rows.proofs.RowLaws.{at_keyed}

@@ -1,13 +1,7 @@
 -- What a call leaves is a database.
 use Rattle.std.proofs.Common.{List, sym, subst}
-use Rattle.std.specs.declared.result.Result.{Result}
-use Rattle.std.specs.declared.result.Result.TheVariants.{Ok, Err}
-use Rattle.cj_model.specs.declared.memory.NoMemory.{NoMemory}
-use Rattle.cj_model.specs.declared.database.Slot.{Slot}
-use Rattle.cj_model.specs.declared.answer.Outcome.{Outcome}
-use Rattle.cj_model.specs.Database.Tables.{IsDatabase}
+use Rattle.cj_table.proofs.Common.{Carries, Err, IsDatabase, NoMemory, Ok, Outcome, Result, Slot}
 use Rattle.cj_model.specs.Database.Steps.{Stepped}
-use Rattle.cj_table.specs.Carried.{Carries}
 
 -- the step's database, or the old one
 pub carried_is_database : (old : List Slot) (stepped : Stepped) (r : Result Outcome NoMemory) (new : List Slot) → IsDatabase old → IsDatabase stepped.db → Carries old stepped r new → IsDatabase new

@@ -1,2 +1,3 @@
 pub mod CarriedLaws
+pub mod Common
 pub mod WrittenLaws

@@ -2,24 +2,16 @@
 use Rattle.std.proofs.Common.{◌≡◌, ℕ, ◌<◌, ◌≤◌, Bool, true, false, cond, nat_lt, List, length, get_or, set, refl, ap, sym, ◌∙◌, subst, Equal}
 use Rattle.std.specs.Prelude.{find, position}
 use Rattle.std.specs.List.{position_or_len, slice_get}
-use Rattle.std.specs.Str.{bytes_eq}
-use Rattle.std.specs.declared.option.Option.{Option}
-use Rattle.std.specs.declared.option.Option.TheVariants.{None, Some}
-use Rattle.std.specs.declared.result.Result.{Result}
-use Rattle.std.specs.declared.result.Result.TheVariants.{Ok, Err}
 use Rattle.std.proofs.lemmas.Bool.{ltb-false}
 use Rattle.std.proofs.lemmas.Cmp.{tied_itself, nat_list_cmp_total}
 use Rattle.std.proofs.lemmas.List.{set-get_or}
 use Rattle.std.proofs.lemmas.List.Folds.{find_at}
 use Rattle.std.proofs.lemmas.List.Quantifiers.{position-Some}
 use Rattle.std.proofs.lemmas.Option.{cond_some, slice_get-get_or, slice_get_past}
-use Rattle.cj_model.specs.declared.memory.NoMemory.{NoMemory}
-use Rattle.cj_model.specs.declared.database.Slot.{Slot}
+use Rattle.cj_table.proofs.Common.{by_table, bytes_eq, Err, IsDatabase, name_cmp, NoMemory, None, Ok, Option, Outcome, put_by, Result, Slot, slot_of, Some, table_of}
 use Rattle.cj_model.specs.declared.database.Table.{Table}
 use Rattle.cj_model.specs.declared.write.Write.{Write}
-use Rattle.cj_model.specs.declared.answer.Outcome.{Outcome}
 use Rattle.cj_model.specs.declared.codes.TheConstants.{NO_TABLE}
-use Rattle.cj_model.specs.Database.Tables.{IsDatabase, put_by, by_table, name_cmp, table_of, slot_of}
 use Rattle.cj_model.specs.Database.Inserts.{Changed, refusal_of_code}
 use Rattle.cj_model.specs.Database.Updates.{change}
 use Rattle.cj_model.specs.Database.Steps.{refuse, seen, other_writer, with_table, table_written, write_done, write_unless_locked, write_in, written}

@@ -1,9 +1,6 @@
 use Rattle.std.proofs.Common.{◌≡◌, List, map, subst}
 use Rattle.std.specs.Prelude.{IfOk}
-use Rattle.std.specs.Map.Iter.{deref}
-use Rattle.cj_model.specs.declared.value.Value.{Value}
-use Rattle.cj_model.specs.declared.schema.Schema.{Schema}
-use Rattle.cj_rows.specs.Lookups.{IsKeyOf}
+use Rattle.cj_plan.proofs.Common.{deref, IsKeyOf, Schema, Value}
 use Rattle.cj_plan.proofs.PlanLaws.{pinned_rows}
 use Rattle.cj_plan.proofs.conditions.matching.Goals as goal
 

@@ -1,7 +1,5 @@
 use Rattle.std.proofs.Common.{◌≡◌, ◌++◌, map}
-use Rattle.std.specs.Prelude.{filter}
-use Rattle.std.specs.Map.Iter.{deref}
-use Rattle.cj_model.specs.Database.Evaluation.{satisfies}
+use Rattle.cj_plan.proofs.Common.{deref, filter, satisfies}
 use Rattle.cj_plan.proofs.conditions.scanned.Given as goal
 
 abbrev pub invariant-loop-row : goal.invariant-loop-row

@@ -1,9 +1,5 @@
 use Rattle.std.proofs.Common.{◌≡◌, length, map, arith, sym, ap, ◌∙◌}
-use Rattle.std.specs.Prelude.{filter}
-use Rattle.std.specs.Map.Iter.{deref}
-use Rattle.std.proofs.lemmas.List.{length-map}
-use Rattle.cj_model.specs.declared.schema.Schema.{Schema}
-use Rattle.cj_model.specs.Database.Evaluation.{satisfies}
+use Rattle.cj_plan.proofs.Common.{deref, filter, length-map, satisfies, Schema}
 use Rattle.cj_rows.specs.RowEntries as entries
 use Rattle.cj_plan.proofs.PlanLaws.{part-le, delete_leaves}
 use Rattle.cj_plan.proofs.delete.without_rows.Goals as goal

@@ -1,9 +1,5 @@
 use Rattle.std.proofs.Common.{ap, ◌∙◌}
-use Rattle.std.specs.Prelude.{is_some}
-use Rattle.cj_rows.specs.Lookups.{row_with_key}
-use Rattle.cj_model.specs.declared.value.Value.{Value}
-use Rattle.cj_model.specs.declared.schema.Schema.{Schema}
-use Rattle.cj_model.specs.Database.Tables.{cell}
+use Rattle.cj_plan.proofs.Common.{cell, is_some, row_with_key, Schema, Value}
 use Rattle.cj_plan.proofs.PlanLaws.{is_some-copied, found_key}
 use Rattle.cj_plan.proofs.insert.has_key.Goals as goal
 

@@ -1,10 +1,5 @@
 use Rattle.std.proofs.Common.{◌≡◌, false, not, ◌==◌, List, length, map, subst, sym, ap, ◌∙◌}
-use Rattle.std.specs.List.{list_any}
-use Rattle.cj_model.specs.declared.term.Term.{Term}
-use Rattle.cj_model.specs.Database.Inserts.{Changed, row_of, lists_unknown_column, lists_unevenly}
-use Rattle.cj_model.specs.declared.schema.Schema.{Schema}
-use Rattle.cj_plan.specs.Inserts.{with_fitting_rows}
-use Rattle.cj_plan.specs.Plans.{Plans}
+use Rattle.cj_plan.proofs.Common.{Changed, list_any, lists_unevenly, lists_unknown_column, Plans, row_of, Schema, Term, with_fitting_rows}
 use Rattle.cj_plan.proofs.Inserted.{inserted_rows}
 use Rattle.cj_plan.proofs.insert.inserted.Goals as goal
 

@@ -1,15 +1,7 @@
 use Rattle.std.proofs.Common.{◌≡◌, true, false, List, [], ◌∷◌, ◌++◌, ap, sym, ◌∙◌, subst}
-use Rattle.std.specs.Prelude.{is_some}
-use Rattle.std.specs.BTreeMap.{insert_entry}
 use Rattle.std.specs.declared.option.Option.TheVariants.{Some}
-use Rattle.std.proofs.lemmas.Bool.{cond-true, or_right}
 use Rattle.std.proofs.lemmas.List.{append_assoc}
-use Rattle.cj_model.specs.declared.value.Value.{Value}
-use Rattle.cj_model.specs.Database.Values.{value_cmp}
-use Rattle.cj_model.specs.Database.Tables.{cell}
-use Rattle.cj_model.specs.Database.Inserts.{has_key, has_key_twice}
-use Rattle.cj_rows.specs.Entries.{at}
-use Rattle.cj_rows.specs.RowEntries.{RowEntries}
+use Rattle.cj_plan.proofs.Common.{at, cell, cond-true, has_key, has_key_twice, insert_entry, is_some, or_right, RowEntries, Value, value_cmp}
 use Rattle.cj_plan.proofs.PlanLaws.{is_some-copied, known_put, twice_more, twice_still, none_of, put_one_more}
 use Rattle.cj_plan.proofs.insert.puts.Goals as goal
 

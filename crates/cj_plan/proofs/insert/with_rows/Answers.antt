@@ -1,9 +1,7 @@
 use Rattle.std.proofs.Common.{◌≡◌, ◌+◌, false, length, arith, sym, ap, ◌∙◌}
-use Rattle.std.specs.List.{list_any}
 use Rattle.std.proofs.lemmas.Bool.{le-ltb}
-use Rattle.cj_model.specs.declared.schema.Schema.{Schema}
+use Rattle.cj_plan.proofs.Common.{has_key, list_any, Schema}
 use Rattle.cj_model.specs.declared.limits.TheConstants.{ROW_LIMIT}
-use Rattle.cj_model.specs.Database.Inserts.{has_key}
 use Rattle.cj_plan.specs.Inserts.{puts_once}
 use Rattle.cj_plan.proofs.PlanLaws.{from_some, none_of, past, insert_leaves}
 use Rattle.cj_plan.proofs.insert.with_rows.Goals as goal

@@ -1,6 +1,5 @@
 use Rattle.std.proofs.Common.{ap, ◌∙◌}
-use Rattle.cj_model.specs.Database.Updates.{assignment_of}
-use Rattle.cj_plan.specs.Assignments.{assignment_by_place, assignments}
+use Rattle.cj_plan.proofs.Common.{assignment_by_place, assignment_of, assignments}
 use Rattle.cj_plan.proofs.PlanLaws.{images_more}
 use Rattle.cj_plan.proofs.update.assignments_of.Goals as goal
 

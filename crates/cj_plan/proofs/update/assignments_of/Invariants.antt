@@ -1,6 +1,5 @@
 use Rattle.std.proofs.Common.{◌≡◌, map, take}
-use Rattle.cj_model.specs.Database.Updates.{assignment_of}
-use Rattle.cj_plan.specs.Assignments.{assignments}
+use Rattle.cj_plan.proofs.Common.{assignment_of, assignments}
 use Rattle.cj_plan.proofs.update.assignments_of.Given as goal
 
 abbrev pub invariant-loop-set : goal.invariant-loop-set

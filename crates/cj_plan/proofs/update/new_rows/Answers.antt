@@ -1,8 +1,5 @@
 use Rattle.std.proofs.Common.{◌≡◌, true, sym, ◌∙◌}
-use Rattle.std.specs.Map.Iter.{deref}
-use Rattle.std.proofs.lemmas.Bool.{cond-true}
-use Rattle.cj_model.specs.Database.Updates.{overflows}
-use Rattle.cj_plan.specs.Assignments.{assignments}
+use Rattle.cj_plan.proofs.Common.{assignments, cond-true, deref, overflows}
 use Rattle.cj_plan.proofs.PlanLaws.{any_at, from_none}
 use Rattle.cj_plan.proofs.update.new_rows.Goals as goal
 

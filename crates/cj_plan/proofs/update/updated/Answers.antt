@@ -1,9 +1,6 @@
 use Rattle.std.proofs.Common.{◌∷◌, [], sym, ap, ◌∙◌}
-use Rattle.cj_model.specs.declared.schema.Schema.{Schema}
 use Rattle.std.specs.Prelude.{◌||◌}
-use Rattle.std.specs.List.{list_any}
-use Rattle.cj_model.specs.Database.Scopes.{scope_of}
-use Rattle.cj_model.specs.Database.Updates.{sets_twice, sets_key}
+use Rattle.cj_plan.proofs.Common.{list_any, Schema, scope_of, sets_key, sets_twice}
 use Rattle.cj_plan.proofs.UpdateRefusals.{keeps_key, first_refused, second_refused, third_refused, all_past}
 use Rattle.cj_plan.proofs.update.updated.Goals as goal
 

@@ -1,10 +1,6 @@
 use Rattle.std.proofs.Common.{◌≡◌, length, map, arith, sym, ap, ◌∙◌}
-use Rattle.std.specs.Prelude.{filter}
 use Rattle.std.specs.declared.option.Option.TheVariants.{None, Some}
-use Rattle.std.specs.Map.Iter.{deref}
-use Rattle.std.proofs.lemmas.List.{length-map}
-use Rattle.cj_model.specs.declared.schema.Schema.{Schema}
-use Rattle.cj_model.specs.Database.Evaluation.{satisfies}
+use Rattle.cj_plan.proofs.Common.{deref, filter, length-map, satisfies, Schema}
 use Rattle.cj_model.specs.Database.Updates.{overflows, assigned}
 use Rattle.cj_plan.specs.Assignments.{assignments, values_or_none}
 use Rattle.cj_plan.proofs.PlanLaws.{from_none, from_some, any_both, past, refused, update_leaves}

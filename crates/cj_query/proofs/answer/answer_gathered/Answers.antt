@@ -1,11 +1,5 @@
 use Rattle.std.proofs.Common.{◌≡◌, Bool, List, map, subst, ap, ◌∙◌}
-use Rattle.std.specs.Prelude.{IfOk}
-use Rattle.std.specs.Map.Iter.{deref}
-use Rattle.cj_model.specs.declared.value.Value.{Value}
-use Rattle.cj_model.specs.Database.Order.{SortKey, sorts_before, at_most, sorted_by}
-use Rattle.cj_model.specs.Database.Queries.{answer_of, asked_by, first_row, gathered, groups_answered, sort_key_of}
-use Rattle.cj_query.specs.Gathered.{cut_into}
-use Rattle.cj_query.specs.Groups.{rows_in}
+use Rattle.cj_query.proofs.Common.{answer_of, asked_by, at_most, cut_into, deref, first_row, gathered, groups_answered, IfOk, rows_in, sort_key_of, sorted_by, SortKey, sorts_before, Value}
 use Rattle.cj_query.proofs.GroupLaws.{gathered_is}
 use Rattle.cj_query.proofs.answer.answer_gathered.Goals as goal
 

@@ -1,10 +1,5 @@
 use Rattle.std.proofs.Common.{◌≡◌, [], ◌∷◌, List, map, subst, sym, ap, ◌∙◌}
-use Rattle.std.specs.Prelude.{IfOk}
-use Rattle.std.specs.Map.Iter.{deref}
-use Rattle.cj_model.specs.declared.value.Value.{Value}
-use Rattle.cj_model.specs.Database.Order.{at_most, sorted_by, sorts_before}
-use Rattle.cj_model.specs.Database.Queries.{answer_of, asked_by, sort_key_of}
-use Rattle.cj_query.specs.Ranked.{keys_of}
+use Rattle.cj_query.proofs.Common.{answer_of, asked_by, at_most, deref, IfOk, keys_of, sort_key_of, sorted_by, sorts_before, Value}
 use Rattle.cj_query.proofs.PathLaws.{groups_ranked}
 use Rattle.cj_query.proofs.answer.answer_rows.Goals as goal
 

@@ -1,7 +1,5 @@
 use Rattle.std.proofs.Common.{map, sym, ap, ◌∙◌}
-use Rattle.std.proofs.lemmas.List.{take-map}
-use Rattle.cj_model.specs.Database.Order.{at_most}
-use Rattle.cj_query.specs.Groups.{rows_of, rows_in}
+use Rattle.cj_query.proofs.Common.{at_most, rows_in, rows_of, take-map}
 use Rattle.cj_query.proofs.answer.cut_groups.Goals as goal
 
 pub returns-in-Some : goal.returns-in-Some

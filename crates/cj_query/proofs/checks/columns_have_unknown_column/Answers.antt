@@ -1,7 +1,5 @@
 use Rattle.std.proofs.Common.{◌≡◌, ◌||◌, ap, sym, ◌∙◌}
-use Rattle.std.specs.Prelude.{option_to_list}
-use Rattle.std.specs.List.{list_any}
-use Rattle.cj_model.specs.declared.select.Key.{Key}
+use Rattle.cj_query.proofs.Common.{Key, list_any, option_to_list}
 use Rattle.cj_model.specs.Database.Queries as queries
 use Rattle.cj_model.specs.Database.Scopes as scopes
 use Rattle.cj_query.proofs.NameLaws.{any_named}

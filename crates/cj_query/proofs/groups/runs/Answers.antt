@@ -1,7 +1,6 @@
 use Rattle.std.proofs.Common.{map, refl}
-use Rattle.std.specs.Map.Iter.{deref}
+use Rattle.cj_query.proofs.Common.{deref, rows_of}
 use Rattle.cj_query.specs.Gathered as gathered
-use Rattle.cj_query.specs.Groups.{rows_of}
 use Rattle.cj_query.proofs.RunLaws.{run_left, run_within, runs_more}
 use Rattle.cj_query.proofs.groups.runs.Goals as goal
 

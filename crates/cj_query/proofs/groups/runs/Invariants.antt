@@ -1,7 +1,6 @@
 use Rattle.std.proofs.Common.{◌≡◌, ◌≤◌, ◌-◌, ◌++◌, length, map, drop}
-use Rattle.std.specs.Map.Iter.{deref}
+use Rattle.cj_query.proofs.Common.{deref, rows_in}
 use Rattle.cj_query.specs.Gathered as gathered
-use Rattle.cj_query.specs.Groups.{rows_in}
 use Rattle.cj_query.proofs.groups.runs.Given as goal
 
 abbrev pub invariant-loop-start : goal.invariant-loop-start

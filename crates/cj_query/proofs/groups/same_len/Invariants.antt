@@ -1,7 +1,5 @@
 use Rattle.std.proofs.Common.{◌≡◌, ◌+◌, map, drop}
-use Rattle.std.specs.List.{prefix_len}
-use Rattle.std.specs.Map.Iter.{deref}
-use Rattle.cj_query.specs.Gathered.{same_at}
+use Rattle.cj_query.proofs.Common.{deref, prefix_len, same_at}
 use Rattle.cj_query.proofs.groups.same_len.Given as goal
 
 abbrev pub invariant-loop-row : goal.invariant-loop-row

@@ -1,6 +1,5 @@
 use Rattle.std.proofs.Common.{◌≡◌, [], ◌∷◌, map, take}
-use Rattle.std.specs.Map.Iter.{deref}
-use Rattle.cj_query.specs.Groups.{rows_in}
+use Rattle.cj_query.proofs.Common.{deref, rows_in}
 use Rattle.cj_query.proofs.groups.singles.Given as goal
 
 abbrev pub invariant-loop-at : goal.invariant-loop-at

@@ -1,10 +1,5 @@
 use Rattle.std.proofs.Common.{◌≡◌, List, map, ap, subst, ◌∙◌}
-use Rattle.std.specs.Prelude.{IfOk}
-use Rattle.std.specs.Map.Iter.{deref}
-use Rattle.std.proofs.lemmas.List.{take_all}
-use Rattle.cj_model.specs.declared.value.Value.{Value}
-use Rattle.cj_model.specs.Database.Order.{sorted_by}
-use Rattle.cj_query.specs.Ranked.{RankedRow, leads_before, led_by, rows_seen}
+use Rattle.cj_query.proofs.Common.{deref, IfOk, leads_before, led_by, RankedRow, rows_seen, sorted_by, take_all, Value}
 use Rattle.cj_query.proofs.RankLaws.{led_rows}
 use Rattle.cj_query.proofs.groups.sorted.Goals as goal
 

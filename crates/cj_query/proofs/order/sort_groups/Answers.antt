@@ -1,10 +1,5 @@
 use Rattle.std.proofs.Common.{rules, ◌≡◌, [], List, map, ap, sym, subst, ◌∙◌}
-use Rattle.std.proofs.lemmas.List.{nil_from_length}
-use Rattle.std.proofs.lemmas.List.Sorted.{ranks_by}
-use Rattle.std.proofs.lemmas.Fn.{always_returns_same}
-use Rattle.cj_model.specs.Database.Order.{SortKey, sorts_before, sorted_by}
-use Rattle.cj_model.specs.Database.Queries.{first_row}
-use Rattle.cj_query.specs.Groups.{rows_of, rows_in}
+use Rattle.cj_query.proofs.Common.{always_returns_same, first_row, nil_from_length, ranks_by, rows_in, rows_of, sorted_by, SortKey, sorts_before}
 use Rattle.cj_query.proofs.OrderLaws.{ordered_is, ordered-map}
 use Rattle.cj_query.proofs.KeyLaws.{by_sort_keys_total, always_in_order}
 use Rattle.cj_query.proofs.order.sort_groups.Goals as goal

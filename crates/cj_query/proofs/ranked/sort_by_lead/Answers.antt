@@ -1,6 +1,5 @@
 use Rattle.std.proofs.Common.{rules, map, ap, ◌∙◌}
-use Rattle.std.proofs.lemmas.List.Sorted.{ranks_by}
-use Rattle.std.proofs.lemmas.Fn.{always_returns_same}
+use Rattle.cj_query.proofs.Common.{always_returns_same, ranks_by}
 use Rattle.cj_query.specs.Ranked.{leads_before, seen}
 use Rattle.cj_query.proofs.OrderLaws.{ordered_is, ordered-map}
 use Rattle.cj_query.proofs.RankLaws.{lead_total}

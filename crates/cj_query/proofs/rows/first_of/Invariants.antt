@@ -1,6 +1,5 @@
 use Rattle.std.proofs.Common.{◌≡◌, ◌++◌, length, map}
-use Rattle.std.specs.Map.Iter.{deref}
-use Rattle.cj_model.specs.Database.Order.{at_most}
+use Rattle.cj_query.proofs.Common.{at_most, deref}
 use Rattle.cj_query.proofs.rows.first_of.Given as goal
 
 abbrev pub invariant-loop-rows : goal.invariant-loop-rows

@@ -1,11 +1,6 @@
 use Rattle.std.proofs.Common.{◌≡◌, ◌∷◌, [], List, map, subst, sym, ap, ◌∙◌}
 use Rattle.std.specs.Prelude.{IfOk, filter}
-use Rattle.std.specs.Map.Iter.{deref}
-use Rattle.cj_model.specs.declared.value.Value.{Value}
-use Rattle.cj_model.specs.Database.Evaluation.{satisfies}
-use Rattle.cj_model.specs.Database.Order.{at_most, sorted_by, sorts_before}
-use Rattle.cj_model.specs.Database.Queries.{answer_of, asked_by, sort_key_of}
-use Rattle.cj_query.specs.Ranked.{keys_of}
+use Rattle.cj_query.proofs.Common.{answer_of, asked_by, at_most, deref, keys_of, satisfies, sort_key_of, sorted_by, sorts_before, Value}
 use Rattle.cj_query.proofs.PathLaws.{groups_ranked}
 use Rattle.cj_query.proofs.single.answer_all.Goals as goal
 

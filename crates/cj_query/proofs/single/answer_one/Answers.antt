@@ -1,11 +1,7 @@
 use Rattle.std.proofs.Common.{◌≡◌, ℕ, List, sym, ap, subst, ◌∙◌}
 use Rattle.std.specs.Prelude.{IfOk, filter, option_copied, option_to_list}
-use Rattle.cj_model.specs.declared.value.Value.{Value}
-use Rattle.cj_model.specs.declared.answer.Asked.{Asked}
-use Rattle.cj_model.specs.Database.Evaluation.{satisfies}
-use Rattle.cj_model.specs.Database.Queries.{answer_of, asked_by, groups_answered}
+use Rattle.cj_query.proofs.Common.{answer_of, Asked, asked_by, groups_answered, PinsTo, satisfies, Value}
 use Rattle.cj_query.specs.Counted as counted
-use Rattle.cj_query.specs.Paths.{PinsTo}
 use Rattle.cj_query.proofs.CountLaws.{counted_is}
 use Rattle.cj_query.proofs.PathLaws.{pinned_rows}
 use Rattle.cj_query.proofs.single.answer_one.Goals as goal

@@ -1,13 +1,7 @@
 use Rattle.std.proofs.Common.{◌≡◌, [], ◌∷◌, List, map, sym, ap, subst, ◌∙◌}
 use Rattle.std.specs.Prelude.{IfOk, filter, reverse}
-use Rattle.std.specs.Map.Iter.{deref}
-use Rattle.cj_model.specs.declared.value.Value.{Value}
-use Rattle.cj_model.specs.Database.Evaluation.{satisfies}
-use Rattle.cj_model.specs.Database.Order.{at_most}
-use Rattle.cj_model.specs.Database.Queries.{answer_of, asked_by, groups_answered}
-use Rattle.cj_model.specs.Database.Tables.{by_key}
+use Rattle.cj_query.proofs.Common.{answer_of, asked_by, at_most, by_key, deref, follows_rows, groups_answered, reverses_rows, satisfies, Value}
 use Rattle.cj_model.proofs.RisingLaws.{rises_filter}
-use Rattle.cj_query.specs.Paths.{follows_rows, reverses_rows}
 use Rattle.cj_query.proofs.PathLaws.{groups_alone, groups_reversed}
 use Rattle.cj_query.proofs.ReverseLaws.{filter-reverse}
 use Rattle.cj_query.proofs.single.answer_scanned.Goals as goal

@@ -1,6 +1,5 @@
 use Rattle.std.proofs.Common.{◌≡◌, ◌++◌, map}
-use Rattle.cj_query.specs.Kept.{IsBarred, rows_kept}
-use Rattle.cj_query.specs.Ranked.{ranked_by, wanted}
+use Rattle.cj_query.proofs.Common.{IsBarred, ranked_by, rows_kept, wanted}
 use Rattle.cj_query.proofs.top.first_matching_ranked.Given as goal
 
 abbrev pub invariant-loop-row : goal.invariant-loop-row

@@ -1,10 +1,6 @@
 use Rattle.std.proofs.Common.{◌≡◌, List, ◌++◌, map, sym, ap, subst, ◌∙◌}
-use Rattle.std.specs.Prelude.{IfOk}
-use Rattle.std.specs.Map.Iter.{deref}
 use Rattle.std.proofs.lemmas.List.{append-nil, drop_all}
-use Rattle.cj_model.specs.declared.value.Value.{Value}
-use Rattle.cj_query.specs.Kept.{rows_kept}
-use Rattle.cj_query.specs.Ranked.{RankedRow, ranked_by, wanted}
+use Rattle.cj_query.proofs.Common.{deref, IfOk, ranked_by, RankedRow, rows_kept, Value, wanted}
 use Rattle.cj_query.proofs.RankLaws.{wanted_rows}
 use Rattle.cj_query.proofs.top.first_ranked.Goals as goal
 

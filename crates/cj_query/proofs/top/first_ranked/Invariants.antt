@@ -1,7 +1,5 @@
 use Rattle.std.proofs.Common.{◌≡◌, ◌++◌, drop, map}
-use Rattle.std.specs.Map.Iter.{deref}
-use Rattle.cj_query.specs.Kept.{IsBarred, rows_kept}
-use Rattle.cj_query.specs.Ranked.{ranked_by, wanted}
+use Rattle.cj_query.proofs.Common.{deref, IsBarred, ranked_by, rows_kept, wanted}
 use Rattle.cj_query.proofs.top.first_ranked.Given as goal
 
 abbrev pub invariant-loop-row : goal.invariant-loop-row

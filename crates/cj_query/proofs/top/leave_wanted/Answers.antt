@@ -1,6 +1,5 @@
 use Rattle.std.proofs.Common.{map, take, sym, ap, ◌∙◌}
-use Rattle.std.proofs.lemmas.List.{take-map}
-use Rattle.cj_model.specs.Database.Order.{at_most, sorted_by}
+use Rattle.cj_query.proofs.Common.{at_most, sorted_by, take-map}
 use Rattle.cj_query.specs.Ranked.{ranks_before, seen}
 use Rattle.cj_query.proofs.top.leave_wanted.Goals as goal
 

@@ -1,6 +1,5 @@
 use Rattle.std.proofs.Common.{◌≡◌, true}
-use Rattle.cj_model.specs.declared.value.Value.{Value}
-use Rattle.cj_rows.specs.RowEntries.{knows}
+use Rattle.cj_rows.proofs.Common.{knows, Value}
 use Rattle.cj_rows.proofs.row_map.reaches.Given as goal
 
 abbrev pub invariant-loop-at : goal.invariant-loop-at

@@ -1,6 +1,5 @@
 use Rattle.std.proofs.Common.{◌≡◌, length}
-use Rattle.std.specs.Map.{values_of}
-use Rattle.cj_rows.specs.Layers.{kept}
+use Rattle.cj_rows.proofs.Common.{kept, values_of}
 use Rattle.cj_rows.proofs.scan.next_row.Given as goal
 
 abbrev pub invariant-loop-row : goal.invariant-loop-row

@@ -1,10 +1,5 @@
 use Rattle.std.proofs.Common.{◌≡◌, ◌++◌, List, sym, ap, ◌∙◌}
-use Rattle.std.specs.Prelude.{reverse}
-use Rattle.std.specs.declared.option.Option.{Option}
-use Rattle.std.specs.Map.{values_of}
-use Rattle.cj_model.specs.declared.value.Value.{Value}
-use Rattle.cj_rows.specs.Layers.{kept, option_as_list}
-use Rattle.cj_rows.specs.RowEntries.{RowEntries}
+use Rattle.cj_rows.proofs.Common.{kept, Option, option_as_list, reverse, RowEntries, Value, values_of}
 use Rattle.cj_rows.proofs.LastLaws.{kept_back}
 use Rattle.cj_rows.proofs.scan_back.next_row.Goals as goal
 

@@ -1,7 +1,6 @@
 use Rattle.std.proofs.Common.{◌≡◌, ◌∙◌, ◌++◌, ◌∷◌, List, [], map, sym, ap, subst}
 use Rattle.std.proofs.lemmas.List.{append-nil, append_assoc, map-append}
-use Rattle.std.specs.Map.Iter.{deref}
-use Rattle.cj_model.specs.declared.value.Value.{Value}
+use Rattle.cj_table.proofs.Common.{deref, Value}
 use Rattle.cj_model.specs.Database.Tables.{Rises, by_key}
 use Rattle.cj_rows.specs.RowEntries.{Settles, puts}
 use Rattle.cj_rows.proofs.ConversionLaws.{Turned, turned_all, turned_more}

@@ -1,9 +1,7 @@
 use Rattle.std.proofs.Common.{◌≡◌, ◌++◌, map}
-use Rattle.std.specs.Map.Iter.{deref}
-use Rattle.cj_model.specs.Database.Values.{value_cmp}
+use Rattle.cj_table.proofs.Common.{deref, Turned, value_cmp}
 use Rattle.cj_rows.specs.Entries.{KeysRise}
 use Rattle.cj_rows.specs.RowEntries as entries
-use Rattle.cj_rows.proofs.ConversionLaws.{Turned}
 use Rattle.cj_table.proofs.conversion.changes_to.Given as goal
 
 abbrev pub invariant-loop-row : goal.invariant-loop-row

@@ -1,12 +1,8 @@
 use Rattle.std.proofs.Common.{◌≡◌, List, subst}
 use Rattle.std.specs.Prelude.{OnOk}
-use Rattle.cj_model.specs.declared.value.Value.{Value}
-use Rattle.cj_model.specs.declared.schema.Schema.{Schema}
-use Rattle.cj_model.specs.declared.database.Slot.{Slot}
-use Rattle.cj_model.specs.Database.Steps.{seen}
+use Rattle.cj_table.proofs.Common.{change_into, Schema, seen, Slot, Value}
 use Rattle.cj_rows.specs.RowEntries.{Turns}
 use Rattle.cj_rows.proofs.ConversionLaws.{draft_put}
-use Rattle.cj_plan.proofs.PlanLaws.{change_into}
 use Rattle.cj_table.proofs.conversion.put_draft.Goals as goal
 
 pub change-requires-clause-change : goal.change-requires-clause-change

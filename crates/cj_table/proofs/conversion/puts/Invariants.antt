@@ -1,8 +1,6 @@
 use Rattle.std.proofs.Common.{◌≡◌}
-use Rattle.std.specs.Prelude.{fold}
-use Rattle.std.specs.declared.option.Option.TheVariants.{Some}
 use Rattle.std.specs.BTreeMap.{insert_entry}
-use Rattle.cj_model.specs.Database.Values.{value_cmp}
+use Rattle.cj_table.proofs.Common.{fold, Some, value_cmp}
 use Rattle.cj_model.specs.Database.Tables.{cell}
 use Rattle.cj_rows.specs.RowEntries as entries
 use Rattle.cj_table.proofs.conversion.puts.Given as goal

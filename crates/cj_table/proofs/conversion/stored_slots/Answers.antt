@@ -1,9 +1,6 @@
 use Rattle.std.proofs.Common.{◌∙◌, ◌++◌, ◌∷◌, List, [], sym, ap, subst}
-use Rattle.std.specs.Prelude.{All}
-use Rattle.std.proofs.lemmas.List.{append_assoc}
 use Rattle.std.proofs.lemmas.List.Elements.{All-tail}
-use Rattle.cj_model.specs.declared.database.Slot.{Slot}
-use Rattle.cj_model.specs.Database.Tables.{IsSlot}
+use Rattle.cj_table.proofs.Common.{All, append_assoc, IsSlot, Slot}
 use Rattle.cj_table.proofs.conversion.stored_slots.Goals as goal
 
 pub loop-slot-preserved : goal.loop-slot-preserved

@@ -1,6 +1,5 @@
 use Rattle.std.proofs.Common.{◌≡◌, ◌++◌}
-use Rattle.std.specs.Prelude.{All}
-use Rattle.cj_model.specs.Database.Tables.{IsSlot}
+use Rattle.cj_table.proofs.Common.{All, IsSlot}
 use Rattle.cj_table.proofs.conversion.stored_slots.Given as goal
 
 abbrev pub invariant-loop-slot : goal.invariant-loop-slot

@@ -1,11 +1,8 @@
 use Rattle.std.proofs.Common.{◌∙◌, [], sym, ap, subst}
-use Rattle.std.specs.declared.option.Option.TheVariants.{None}
-use Rattle.cj_model.specs.declared.database.Slot.{Slot}
-use Rattle.cj_model.specs.Database.Steps.{seen}
+use Rattle.cj_table.proofs.Common.{change_into, None, seen, Slot}
 use Rattle.cj_rows.specs.RowEntries.{RowEntries, puts}
 use Rattle.cj_rows.specs.Stored.{IsChangeOf, changed_slot}
 use Rattle.cj_rows.proofs.ConversionLaws.{filled, puts_rise, table_filled}
-use Rattle.cj_plan.proofs.PlanLaws.{change_into}
 use Rattle.cj_table.proofs.conversion.stored_table.Goals as goal
 
 pub change-requires-clause-change : goal.change-requires-clause-change

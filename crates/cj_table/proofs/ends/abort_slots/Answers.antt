@@ -1,7 +1,5 @@
 use Rattle.std.proofs.Common.{ap, sym, ◌∙◌, set}
-use Rattle.std.proofs.lemmas.List.Edits.{map_over_more}
-use Rattle.cj_model.specs.declared.database.Slot.{Slot}
-use Rattle.cj_model.specs.Database.Steps.{aborted}
+use Rattle.cj_table.proofs.Common.{aborted, map_over_more, Slot}
 use Rattle.cj_table.proofs.ends.abort_slots.Goals as goal
 
 pub loop-slot-preserved : goal.loop-slot-preserved

@@ -1,7 +1,6 @@
 use Rattle.std.proofs.Common.{rules, not}
-use Rattle.std.specs.Str.{bytes_eq}
 use Rattle.std.proofs.lemmas.Fn.{filter_same}
-use Rattle.cj_model.specs.Database.Tables.{table_of}
+use Rattle.cj_table.proofs.Common.{bytes_eq, table_of}
 use Rattle.cj_table.proofs.ends.remove_slot.Goals as goal
 
 pub returns : goal.returns

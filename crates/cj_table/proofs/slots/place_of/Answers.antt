@@ -1,6 +1,5 @@
 use Rattle.std.proofs.Common.{◌≡◌, get_or, Equal, sym, ap, ◌∙◌}
-use Rattle.cj_model.specs.declared.schema.Schema.{Schema}
-use Rattle.cj_model.specs.Database.Tables.{by_table, name_cmp, table_of}
+use Rattle.cj_table.proofs.Common.{by_table, name_cmp, Schema, table_of}
 use Rattle.cj_model.proofs.RisingLaws.{put_over}
 use Rattle.cj_table.proofs.slots.place_of.Goals as goal
 

@@ -1,10 +1,6 @@
 use Rattle.std.proofs.Common.{◌≡◌, sym, ap, ◌∙◌}
-use Rattle.std.specs.Prelude.{position}
-use Rattle.std.specs.Str.{bytes_eq}
-use Rattle.std.specs.declared.option.Option.TheVariants.{None, Some}
+use Rattle.cj_table.proofs.Common.{bytes_eq, None, position, Some, table_of, table_written}
 use Rattle.cj_model.specs.declared.answer.Outcome.TheVariants.{Refused}
-use Rattle.cj_model.specs.Database.Tables.{table_of}
-use Rattle.cj_model.specs.Database.Steps.{table_written}
 use Rattle.cj_table.proofs.WrittenLaws.{written_missing, write_carries}
 use Rattle.cj_table.proofs.slots.write_slots.Goals as goal
 

@@ -1,6 +1,5 @@
 use Rattle.std.proofs.Common.{◌≡◌, ◌++◌, take, drop}
-use Rattle.std.specs.Ordering.{nat_cmp}
-use Rattle.cj_model.specs.Database.Tables.{put_by}
+use Rattle.cj_table.proofs.Common.{nat_cmp, put_by}
 use Rattle.cj_table.proofs.writers.gap_for.Given as goal
 
 abbrev pub invariant-loop-i : goal.invariant-loop-i

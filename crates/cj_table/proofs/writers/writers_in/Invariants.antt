@@ -1,10 +1,8 @@
 use Rattle.std.proofs.Common.{◌≡◌, drop}
 use Rattle.std.specs.Prelude.{fold, flat_map, option_map, option_to_list}
-use Rattle.std.specs.Ordering.{nat_cmp}
+use Rattle.cj_table.proofs.Common.{nat_cmp, put_by, Slot}
 use Rattle.cj_model.specs.declared.database.Draft.{Draft}
-use Rattle.cj_model.specs.declared.database.Slot.{Slot}
 use Rattle.cj_model.specs.Database.Storable.{writers}
-use Rattle.cj_model.specs.Database.Tables.{put_by}
 use Rattle.cj_table.proofs.writers.writers_in.Given as goal
 
 abbrev pub invariant-loop-slot : goal.invariant-loop-slot

@@ -1,6 +1,5 @@
 use Rattle.std.proofs.Common.{[], ◌∷◌, sym, ap, ◌∙◌, append_assoc}
-use Rattle.std.specs.Prelude.{option_map}
-use Rattle.cj_query.specs.Kept.{rows_kept}
+use Rattle.cj_query.proofs.Common.{option_map, rows_kept}
 use Rattle.cj_query.specs.Ranked.{ranks_before, seen, wanted}
 use Rattle.cj_query.proofs.RankLaws.{rank_orders}
 use Rattle.cj_query.proofs.TopLaws.{bar_keeps_out}

@@ -1,8 +1,5 @@
 use Rattle.std.proofs.Common.{◌≡◌, ◌≤◌, ◌++◌, ◌-◌, Some, Option, ℕ, length, map, sym, ap, subst, ◌∙◌}
-use Rattle.std.specs.Prelude.{option_map, slice_get}
-use Rattle.std.proofs.lemmas.List.{length-map}
-use Rattle.cj_model.specs.Database.Order.{at_most, sorted_by}
-use Rattle.cj_query.specs.Kept.{rows_kept}
+use Rattle.cj_query.proofs.Common.{at_most, length-map, option_map, rows_kept, slice_get, sorted_by}
 use Rattle.cj_query.specs.Ranked.{Bars, ranks_before, seen, wanted}
 use Rattle.cj_query.proofs.RankLaws.{rank_orders}
 use Rattle.cj_query.proofs.TopLaws.{bars_after, cut_before, last_seen}

@@ -1,9 +1,5 @@
 use Rattle.std.proofs.Common.{◌≡◌, ◌∙◌, ◌++◌, [], ◌∷◌, sym, ap, subst}
-use Rattle.std.proofs.lemmas.List.{append_assoc}
-use Rattle.cj_model.specs.Database.Values.{value_cmp}
-use Rattle.cj_rows.specs.Entries.{KeysRise}
-use Rattle.cj_rows.specs.Layers.{merged}
-use Rattle.cj_rows.specs.RowEntries.{RowEntries, KnowsKeys, overlaid}
+use Rattle.cj_rows.proofs.Common.{append_assoc, KeysRise, KnowsKeys, merged, overlaid, RowEntries, value_cmp}
 use Rattle.cj_rows.proofs.EntryLaws.{merged_none}
 use Rattle.cj_rows.proofs.RowEntryLaws.{has_keys_itself, keys_then, next_shown, next_known, first_known, replaced, rest_rises}
 use Rattle.cj_rows.proofs.row_map.RowMap.absorb.Goals as goal

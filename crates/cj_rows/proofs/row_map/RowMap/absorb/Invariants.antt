@@ -1,8 +1,5 @@
 use Rattle.std.proofs.Common.{◌≡◌, ◌++◌}
-use Rattle.cj_model.specs.Database.Values.{value_cmp}
-use Rattle.cj_rows.specs.Entries.{KeysRise}
-use Rattle.cj_rows.specs.Layers.{merged}
-use Rattle.cj_rows.specs.RowEntries.{KnowsKeys, HasKeysOf, overlaid}
+use Rattle.cj_rows.proofs.Common.{HasKeysOf, KeysRise, KnowsKeys, merged, overlaid, value_cmp}
 use Rattle.cj_rows.proofs.row_map.RowMap.absorb.Given as goal
 
 abbrev pub invariant-loop-key : goal.invariant-loop-key

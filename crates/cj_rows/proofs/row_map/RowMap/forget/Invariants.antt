@@ -1,7 +1,5 @@
 use Rattle.std.proofs.Common.{◌≡◌}
-use Rattle.cj_model.specs.Database.Values.{value_cmp}
-use Rattle.cj_rows.specs.Entries.{KeysRise}
-use Rattle.cj_rows.specs.Layers.{kept}
+use Rattle.cj_rows.proofs.Common.{kept, KeysRise, value_cmp}
 use Rattle.cj_rows.proofs.row_map.RowMap.forget.Given as goal
 
 abbrev pub invariant-loop-key : goal.invariant-loop-key

@@ -1,7 +1,5 @@
 use Rattle.std.proofs.Common.{◌≡◌, ◌∙◌, ◌++◌, [], ◌∷◌, map, sym, ap, subst}
-use Rattle.std.proofs.lemmas.List.{append-nil, append_assoc, map-append}
-use Rattle.std.specs.Map.Iter.{deref_pair}
-use Rattle.cj_rows.specs.RowEntries.{RowEntries, KnowsKeys}
+use Rattle.cj_rows.proofs.Common.{append-nil, append_assoc, deref_pair, KnowsKeys, map-append, RowEntries}
 use Rattle.cj_rows.proofs.RowEntryLaws.{known_more}
 use Rattle.cj_rows.proofs.row_map.RowMap.knows_all.Goals as goal
 

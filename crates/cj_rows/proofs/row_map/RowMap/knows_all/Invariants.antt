@@ -1,7 +1,5 @@
 use Rattle.std.proofs.Common.{◌≡◌, true, ◌++◌, map}
-use Rattle.std.specs.Map.Iter.{deref_pair}
-use Rattle.cj_model.specs.declared.value.Value.{Value}
-use Rattle.cj_rows.specs.RowEntries.{KnowsKeys, knows}
+use Rattle.cj_rows.proofs.Common.{deref_pair, knows, KnowsKeys, Value}
 use Rattle.cj_rows.proofs.row_map.RowMap.knows_all.Given as goal
 
 abbrev pub invariant-loop-key : goal.invariant-loop-key

@@ -1,10 +1,5 @@
 use Rattle.std.proofs.Common.{◌≡◌, true, List, ◌∙◌, ◌++◌, [], ◌∷◌, map, sym, ap, subst}
-use Rattle.std.proofs.lemmas.List.{append-nil, append_assoc, map-append}
-use Rattle.std.specs.declared.option.Option.{Option}
-use Rattle.std.proofs.lemmas.List.Elements.{All-nil}
-use Rattle.std.specs.Map.Iter.{deref_pair}
-use Rattle.cj_model.specs.declared.value.Value.{Value}
-use Rattle.cj_rows.specs.RowEntries.{RowEntries, KnowsKeys, HasKeysOf, knows}
+use Rattle.cj_rows.proofs.Common.{All-nil, append-nil, append_assoc, deref_pair, HasKeysOf, knows, KnowsKeys, map-append, Option, RowEntries, Value}
 use Rattle.cj_rows.proofs.RowEntryLaws.{extends_itself, has_keys_itself, extends_then, keys_then, keys_among, known_more}
 use Rattle.cj_rows.proofs.row_map.RowMap.prepare.Goals as goal
 

@@ -1,8 +1,5 @@
 use Rattle.std.proofs.Common.{◌≡◌, ◌++◌, map}
-use Rattle.std.specs.Map.Iter.{deref_pair}
-use Rattle.cj_model.specs.Database.Values.{value_cmp}
-use Rattle.cj_rows.specs.Entries.{KeysRise}
-use Rattle.cj_rows.specs.RowEntries.{KnowsKeys, Extends, HasKeysOf}
+use Rattle.cj_rows.proofs.Common.{deref_pair, Extends, HasKeysOf, KeysRise, KnowsKeys, value_cmp}
 use Rattle.cj_rows.proofs.row_map.RowMap.prepare.Given as goal
 
 abbrev pub invariant-loop-key : goal.invariant-loop-key

@@ -1,10 +1,5 @@
 use Rattle.std.proofs.Common.{◌≡◌, ◌∙◌, [], ◌∷◌, sym, ap, subst}
-use Rattle.std.specs.declared.option.Option.TheVariants.{None}
-use Rattle.std.specs.BTreeMap.{insert_entry}
-use Rattle.cj_model.specs.declared.value.Value.{Value}
-use Rattle.cj_model.specs.Database.Values.{value_cmp, value_total, value_exact}
-use Rattle.cj_rows.specs.Entries.{at}
-use Rattle.cj_rows.specs.RowEntries.{RowEntries, knows, Extends, HasKeysOf}
+use Rattle.cj_rows.proofs.Common.{at, Extends, HasKeysOf, insert_entry, knows, None, RowEntries, Value, value_cmp, value_exact, value_total}
 use Rattle.cj_rows.proofs.EntryLaws.{known_itself}
 use Rattle.cj_rows.proofs.RowEntryLaws.{none_from, prepared_extends, prepared_keys}
 use Rattle.cj_rows.proofs.row_map.RowMap.prepare_key.Goals as goal

@@ -1,8 +1,5 @@
 use Rattle.std.proofs.Common.{◌∙◌, sym, ap}
-use Rattle.std.specs.declared.option.Option.TheVariants.{None}
-use Rattle.cj_model.specs.Database.Values.{value_cmp, value_total, value_exact}
-use Rattle.cj_rows.specs.Entries.{at}
-use Rattle.cj_rows.specs.Layers.{kept}
+use Rattle.cj_rows.proofs.Common.{at, kept, None, value_cmp, value_exact, value_total}
 use Rattle.cj_rows.proofs.EntryLaws.{at_kept, pick}
 use Rattle.cj_rows.proofs.row_map.RowMap.row.Goals as goal
 

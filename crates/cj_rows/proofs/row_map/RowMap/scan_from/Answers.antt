@@ -1,6 +1,5 @@
 use Rattle.std.proofs.Common.{ap, ◌∙◌}
-use Rattle.std.specs.Map.{values_of}
-use Rattle.cj_rows.specs.Layers.{kept}
+use Rattle.cj_rows.proofs.Common.{kept, values_of}
 use Rattle.cj_rows.proofs.FromLaws.{kept_part}
 use Rattle.cj_rows.proofs.row_map.RowMap.scan_from.Goals as goal
 

@@ -1,6 +1,5 @@
 use Rattle.std.proofs.Common.{ap, ◌∙◌}
-use Rattle.std.specs.Map.{values_of}
-use Rattle.cj_rows.specs.RowEntries.{from_key, overlaid}
+use Rattle.cj_rows.proofs.Common.{from_key, overlaid, values_of}
 use Rattle.cj_rows.proofs.FromLaws.{overlaid_part}
 use Rattle.cj_rows.proofs.row_map.RowMap.scan_from_under.Goals as goal
 

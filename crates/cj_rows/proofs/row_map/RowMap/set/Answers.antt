@@ -1,6 +1,5 @@
 use Rattle.std.proofs.Common.{◌∙◌, [], ◌∷◌, sym, ap, subst}
-use Rattle.std.specs.declared.option.Option.TheVariants.{None}
-use Rattle.cj_rows.specs.RowEntries.{RowEntries, knows, overlaid, HasKeysOf}
+use Rattle.cj_rows.proofs.Common.{HasKeysOf, knows, None, overlaid, RowEntries}
 use Rattle.cj_rows.proofs.RowEntryLaws.{none_from, copied_none, set_shown, gone_shown, gone_keys, set_knows, gone_knows, prepared_keys}
 use Rattle.cj_rows.proofs.row_map.RowMap.set.Goals as goal
 

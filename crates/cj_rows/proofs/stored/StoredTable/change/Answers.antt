@@ -1,11 +1,5 @@
 use Rattle.std.proofs.Common.{◌≡◌, List, sym, ap, ◌∙◌, subst}
-use Rattle.cj_model.specs.declared.database.Slot.{Slot}
-use Rattle.cj_model.specs.Database.Steps.{seen, other_writer}
-use Rattle.cj_model.specs.declared.value.Value.{Value}
-use Rattle.cj_model.specs.Database.Values.{value_cmp}
-use Rattle.cj_rows.specs.Layers.{merged}
-use Rattle.cj_rows.specs.RowEntries.{RowEntries, Extends, overlaid}
-use Rattle.cj_rows.specs.Stored.{IsChangeOf, changed_slot}
+use Rattle.cj_rows.proofs.Common.{changed_slot, Extends, IsChangeOf, merged, other_writer, overlaid, RowEntries, seen, Slot, Value, value_cmp}
 use Rattle.cj_rows.proofs.StoredLaws.{on_err, prepared_holds, prepared_shown, base_holds, base_shown, opened_holds, opened_shown, failed_holds, failed_shown, added_holds, added_shown}
 use Rattle.cj_rows.proofs.stored.StoredTable.change.Goals as goal
 

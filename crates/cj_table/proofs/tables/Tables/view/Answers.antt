@@ -1,9 +1,6 @@
 use Rattle.std.proofs.Common.{◌≡◌, List, sym, subst, ap, ◌∙◌}
 use Rattle.std.specs.Prelude.{IfSome}
-use Rattle.std.specs.declared.option.Option.{Option}
-use Rattle.std.specs.declared.option.Option.TheVariants.{Some}
-use Rattle.cj_model.specs.declared.database.Slot.{Slot}
-use Rattle.cj_model.specs.Database.Tables.{IsSlot, slot_of}
+use Rattle.cj_table.proofs.Common.{IsSlot, Option, Slot, slot_of, Some}
 use Rattle.cj_model.proofs.DatabaseLaws.{found_is_slot}
 use Rattle.cj_table.proofs.tables.Tables.view.Goals as goal
 
