@@ -2,6 +2,7 @@
 use Rattle.std.proofs.Common.{◌≡◌, ℕ, ◌<◌, ◌≤◌, cond, filter, slice_get, Bool, true, false, List, [], ◌∷◌, ◌++◌, length, map, All, IfSome, Option, None, Some, option_map, refl, ap, sym, ◌∙◌, subst, arith, length-append}
 use Rattle.std.specs.Str.{bytes_eq}
 use Rattle.std.proofs.lemmas.List.{take-append-le, map_push}
+use Rattle.std.proofs.lemmas.Option.{same_Some}
 use Rattle.std.proofs.lemmas.List.Elements.{All-head, All-push, All-tail, All-weaker}
 use Rattle.cj_model.specs.declared.answer.Outcome.{Outcome}
 use Rattle.cj_model.specs.declared.request.Entry.{Entry}
@@ -50,9 +51,6 @@ module _ (tells : Bool) (p : Placement) (h : List Event) (dumps : List Dump) (ar
 
 -- ---- one more
 
-same_some : {A : Type 0} (x y : A) → Some x ≡ Some y → x ≡ y
-same_some x y is = cc is
-
 module _ (tells : Bool) (reg : Register) (l : Layout) (h : List Event) (cells : List CellState) (f s : ℕ) (ss : List OpenSession) (g : ℕ) (ds : List Dump) (numbers : List ℕ) (first_outcome : Option Outcome) (kept : Kept tells (world_of reg l h cells f s ss g ds) numbers first_outcome)
     (d : Dump) (at : position_at (core_of l h cells f s ss g ds) d.source ≡ Some d.position) where
   pub core_dumped : core_of l h cells f s ss g (ds ++ d ∷ []) ≡ dumped_as (core_of l h cells f s ss g ds) d.source d.name d.position
@@ -86,7 +84,7 @@ module _ (tells : Bool) (reg : Register) (l : Layout) (h : List Event) (cells : 
   dumps_push held are =
       let holds : tells ≡ true → Some d.db ≡ Some (part (placement_of l) d.source (database_after (log h) d.position)) = subst (HoldsPart tells (placement_of l) d.source (log h) (Some d.db)) at held in
       All-push (IsDumpOf tells (placement_of l) (log h)) ds d are
-      (record { within = (stands_there (core_of l h cells f s ss g ds) d.source d.position kept.world.sound at).0; holds = λ on. same_some d.db _ (holds on) })
+      (record { within = (stands_there (core_of l h cells f s ss g ds) d.source d.position kept.world.sound at).0; holds = λ on. same_Some d.db _ (holds on) })
 
 -- ---- looking one up
 
@@ -106,7 +104,7 @@ first_all P name [] all d is = absurd (cc is)
 first_all P name (x ∷ ds) all d is = one (bytes_eq x.name name) (first_all P name ds (All-tail P x ds all) d) is
   where
     one : (b : Bool) → (first_of name ds ≡ Some d → P d) → slice_get (cond b (x ∷ filter (λ (y : Dump). bytes_eq y.name name) ds) (filter (λ (y : Dump). bytes_eq y.name name) ds)) 0 ≡ Some d → P d
-    one true later there = subst P (same_some x d there) (All-head P x ds all)
+    one true later there = subst P (same_Some x d there) (All-head P x ds all)
     one false later there = later there
 
 -- what holds of each dump at hand holds of that of a name
