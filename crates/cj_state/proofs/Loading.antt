@@ -9,10 +9,10 @@ use Rattle.cj_model.specs.Cluster.Caching.{CacheState}
 use Rattle.cj_model.specs.Cluster.Placements.{part}
 use Rattle.cj_cluster.specs.declared.moves.Move.TheVariants.{Load}
 use Rattle.cj_cluster.specs.History.Histories.{log, is_idle, is_enabled, database_after}
-use Rattle.cj_cluster.specs.Moves.Cores.{Core, find_dump, position_at}
+use Rattle.cj_cluster.specs.Moves.Cores.{find_dump, position_at}
 use Rattle.cj_cluster.specs.Moves.Moves.{Stance, not_now, with_stance}
 use Rattle.cj_cluster.specs.Proving.Invariants.{CoreInvariant, HasBegunDrafts, HoldsPart, IsSoundDump}
-use Rattle.cj_cluster.proofs.Effects.{is_there, sound_loaded}
+use Rattle.cj_cluster.proofs.Effects.{sound_loaded}
 use Rattle.cj_cluster.proofs.Now.{can_load}
 use Rattle.cj_backend.specs.Backends.{Arming, spent}
 use Rattle.cj_dump.specs.declared.dump.Dump.{Dump}

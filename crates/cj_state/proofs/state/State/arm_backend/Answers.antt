@@ -1,4 +1,4 @@
-use Rattle.std.proofs.Common.{◌≡◌, ◌<◌, false, List, length, get_or, set, refl, ap, sym, ◌∙◌, subst}
+use Rattle.std.proofs.Common.{◌≡◌, false, List, get_or, set, refl, ap, sym, ◌∙◌, subst}
 use Rattle.std.proofs.lemmas.List.{get_or_default, length-map}
 use Rattle.cj_backend.specs.Backends.{arming_after}
 use Rattle.cj_replica.specs.Cells.{CellState}

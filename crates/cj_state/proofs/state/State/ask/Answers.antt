@@ -1,5 +1,5 @@
 use Rattle.std.specs.Prelude.{option_copied}
-use Rattle.std.proofs.Common.{◌≡◌, ◌<◌, ℕ, false, List, length, Ok, Err, Some, ap, sym, ◌∙◌, subst, refl}
+use Rattle.std.proofs.Common.{◌<◌, ℕ, false, List, Ok, Err, Some, ap, sym, ◌∙◌, subst, refl}
 use Rattle.std.proofs.lemmas.List.{length-map}
 use Rattle.cj_model.specs.Cluster.Accounts.{login_of}
 use Rattle.cj_book.specs.Books.{BookState}
@@ -10,7 +10,7 @@ use Rattle.cj_state.specs.Worlds.{WorldState, accounts_of, world_of}
 use Rattle.cj_state.specs.Faults.{faults_of, faults_after}
 use Rattle.cj_state.specs.Effects.{Notes}
 use Rattle.cj_state.specs.Proving.Kept.{KeptFresh}
-use Rattle.cj_state.specs.CalledLogins.{asked_for, logins_of, CallsUnder, LogsInToAsk}
+use Rattle.cj_state.specs.CalledLogins.{asked_for, logins_of, LogsInToAsk}
 use Rattle.cj_state.proofs.Asking.{answers, errs, notes_cases, noted_core, noted_fault, noted_logins, noted_want, wanted}
 use Rattle.cj_state.proofs.KeepingEvents.{kept_read_failed}
 use Rattle.cj_state.proofs.Counted.{spent_times}

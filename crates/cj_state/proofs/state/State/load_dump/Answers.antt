@@ -1,12 +1,8 @@
-use Rattle.std.proofs.Common.{◌≡◌, ◌<◌, true, false, Result, List, length, ap, refl, sym, ◌∙◌}
+use Rattle.std.proofs.Common.{false, Result, ap, refl, sym, ◌∙◌}
 use Rattle.std.proofs.lemmas.List.{length-map}
-use Rattle.cj_cluster.specs.History.Histories.{log, database_after}
 use Rattle.cj_model.specs.Database.Storable.{writers}
-use Rattle.cj_book.specs.Books.{BookState}
 use Rattle.cj_replica.specs.declared.replica.CellError.{CellError}
-use Rattle.cj_replica.specs.Cells.{CellState}
 use Rattle.cj_shelf.specs.MemoryShelves.{taken_of}
-use Rattle.cj_state.specs.Worlds.{core_of}
 use Rattle.cj_state.specs.Faults.{faults_of, faults_after}
 use Rattle.cj_state.specs.Held.{failed_contents}
 use Rattle.cj_state.specs.Seats.{states_of}

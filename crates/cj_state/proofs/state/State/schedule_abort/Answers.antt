@@ -1,20 +1,17 @@
-use Rattle.std.proofs.Common.{◌≡◌, ◌≤◌, arith, inr, Ok, Err, true, ap, sym, ◌∙◌, subst, refl, ◌++◌, ◌∷◌, [], inl}
+use Rattle.std.proofs.Common.{◌≡◌, arith, inr, Ok, Err, true, ap, sym, ◌∙◌, subst, refl, ◌++◌, ◌∷◌, []}
 use Rattle.cj_model.specs.declared.request.Entry.{Entry}
 use Rattle.cj_cluster.specs.declared.event.Event.TheVariants.{LogFailed, Sched}
-use Rattle.cj_cluster.specs.History.Histories.{events_left, log}
+use Rattle.cj_cluster.specs.History.Histories.{log}
 use Rattle.cj_cluster.specs.History.Legality.{IsFitEntry}
 use Rattle.cj_cluster.specs.Moves.Moves.{is_orphan, abort_entry}
-use Rattle.cj_book.specs.Books.{BookState}
 use Rattle.cj_place.specs.Layouts.{placement_of}
-use Rattle.cj_state.specs.Worlds.{WorldState, world_of}
+use Rattle.cj_state.specs.Worlds.{WorldState}
 use Rattle.cj_state.specs.Effects.{SchedulesAs}
-use Rattle.cj_state.specs.Proving.Kept.{KeptFresh}
 use Rattle.cj_state.proofs.Keeping.{kept_aborted}
-use Rattle.cj_state.proofs.KeepingEvents.{kept_log_failed}
 use Rattle.cj_state.proofs.OpenNumbers.{orphan_is}
 use Rattle.cj_state.proofs.Noting.{follows_unscheduled, kept_unscheduled, scheduled_as, not_scheduled}
-use Rattle.cj_state.proofs.Dumped.{dumps_entry, dumps_event}
-use Rattle.cj_state.proofs.Fresh.{follows_entry, follows_event, fresh_entry, fresh_event}
+use Rattle.cj_state.proofs.Dumped.{dumps_entry}
+use Rattle.cj_state.proofs.Fresh.{follows_entry, fresh_entry}
 use Rattle.cj_freshness.specs.Freshness.{FollowsLog, without_touched}
 use Rattle.cj_state.specs.Seats.{states_of}
 use Rattle.std.proofs.Common.{Some}

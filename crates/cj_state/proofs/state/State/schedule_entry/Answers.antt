@@ -1,21 +1,19 @@
 use Rattle.std.proofs.Common.{◌≡◌, ◌+◌, ◌≤◌, ℕ, arith, inl, Ok, Err, None, true, ap, sym, ◌∙◌, subst, refl, ◌++◌, ◌∷◌, []}
 use Rattle.cj_cluster.specs.declared.event.Event.TheVariants.{LogFailed, Sched}
-use Rattle.cj_cluster.specs.History.Histories.{events_left, log}
+use Rattle.cj_cluster.specs.History.Histories.{log}
 use Rattle.cj_cluster.specs.History.Legality.{IsFitEntry}
 use Rattle.cj_cluster.specs.Moves.Cores.{Core, session_at}
 use Rattle.cj_cluster.specs.Moves.Moves.{is_open}
-use Rattle.cj_book.specs.Books.{BookState, has_session}
+use Rattle.cj_book.specs.Books.{has_session}
 use Rattle.cj_place.specs.Layouts.{placement_of}
-use Rattle.cj_state.specs.Worlds.{WorldState, core_of, world_of}
+use Rattle.cj_state.specs.Worlds.{WorldState, core_of}
 use Rattle.cj_state.specs.Effects.{SchedulesAs}
 use Rattle.cj_cluster.proofs.Soundness.{session_sound}
-use Rattle.cj_state.specs.Proving.Kept.{KeptFresh}
 use Rattle.cj_state.proofs.Keeping.{kept_scheduled}
-use Rattle.cj_state.proofs.KeepingEvents.{kept_log_failed}
 use Rattle.cj_state.proofs.OpenNumbers.{open_is}
 use Rattle.cj_state.proofs.Noting.{follows_unscheduled, kept_unscheduled, scheduled_as, not_scheduled}
-use Rattle.cj_state.proofs.Dumped.{dumps_entry, dumps_event}
-use Rattle.cj_state.proofs.Fresh.{follows_entry, follows_event, fresh_entry, fresh_event}
+use Rattle.cj_state.proofs.Dumped.{dumps_entry}
+use Rattle.cj_state.proofs.Fresh.{follows_entry, fresh_entry}
 use Rattle.cj_freshness.specs.Freshness.{FollowsLog, without_touched}
 use Rattle.cj_state.specs.Seats.{states_of}
 use Rattle.std.proofs.Common.{Some}
