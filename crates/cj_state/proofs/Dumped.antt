@@ -30,6 +30,7 @@ use Rattle.cj_shelf.specs.Shelves.{first_of}
 use Rattle.cj_state.specs.Worlds.{core_of, world_of, IsDumpOf, AreDumpsOf}
 use Rattle.cj_state.specs.Held.{IsHeld}
 use Rattle.cj_state.specs.Proving.Kept.{Kept}
+use Rattle.cj_state.proofs.CellsKept.{world_behind}
 
 -- a dump is the same of a log that grew
 dump_longer : (tells : Bool) (p : Placement) (entries : List Entry) (e : Entry) (d : Dump) → IsDumpOf tells p entries d → IsDumpOf tells p (entries ++ e ∷ []) d
@@ -63,16 +64,8 @@ module _ (tells : Bool) (reg : Register) (l : Layout) (h : List Event) (cells : 
   kept_dumped =
       record {
         world =
-            record {
-              sound = subst CoreInvariant (sym core_dumped) (sound_dumped (core_of l h cells f s ss g ds) d.source d.name d.position kept.world.sound at);
-              named = kept.world.named;
-              registered = kept.world.registered;
-              few = kept.world.few;
-              positions = refl;
-              begun = refl;
-              cells = kept.world.cells;
-              between = between;
-            };
+            world_behind kept.world h f s ss g (map taken_of (ds ++ d ∷ [])) refl
+            (subst CoreInvariant (sym core_dumped) (sound_dumped (core_of l h cells f s ss g ds) d.source d.name d.position kept.world.sound at)) between;
         numbers_are = kept.numbers_are;
         served = kept.served;
         right = kept.right;

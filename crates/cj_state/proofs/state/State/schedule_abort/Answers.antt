@@ -1,4 +1,4 @@
-use Rattle.std.proofs.Common.{◌≡◌, arith, inr, Ok, Err, true, ap, sym, ◌∙◌, subst, refl, ◌++◌, ◌∷◌, []}
+use Rattle.std.proofs.Common.{◌≡◌, arith, inr, Ok, Err, true, ap, sym, ◌∙◌, subst, refl, ◌++◌, ◌∷◌, [], Some}
 use Rattle.cj_model.specs.declared.request.Entry.{Entry}
 use Rattle.cj_cluster.specs.declared.event.Event.TheVariants.{LogFailed, Sched}
 use Rattle.cj_cluster.specs.History.Histories.{log}
@@ -14,7 +14,6 @@ use Rattle.cj_state.proofs.Dumped.{dumps_entry}
 use Rattle.cj_state.proofs.Fresh.{follows_entry, fresh_entry}
 use Rattle.cj_freshness.specs.Freshness.{FollowsLog, without_touched}
 use Rattle.cj_state.specs.Seats.{states_of}
-use Rattle.std.proofs.Common.{Some}
 use Rattle.cj_book.specs.Seated.{event_or_fault}
 use Rattle.cj_board.specs.Seats.{board_id, pass_board}
 use Rattle.cj_state.proofs.SeatsKept.{counted, quiet_or_fault, seats_after, seats_cleared}

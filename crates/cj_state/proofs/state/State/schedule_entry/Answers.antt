@@ -1,4 +1,4 @@
-use Rattle.std.proofs.Common.{◌≡◌, ◌+◌, ◌≤◌, ℕ, arith, inl, Ok, Err, None, true, ap, sym, ◌∙◌, subst, refl, ◌++◌, ◌∷◌, []}
+use Rattle.std.proofs.Common.{◌≡◌, ◌+◌, ◌≤◌, ℕ, arith, inl, Ok, Err, None, true, ap, sym, ◌∙◌, subst, refl, ◌++◌, ◌∷◌, [], Some}
 use Rattle.cj_cluster.specs.declared.event.Event.TheVariants.{LogFailed, Sched}
 use Rattle.cj_cluster.specs.History.Histories.{log}
 use Rattle.cj_cluster.specs.History.Legality.{IsFitEntry}
@@ -16,7 +16,6 @@ use Rattle.cj_state.proofs.Dumped.{dumps_entry}
 use Rattle.cj_state.proofs.Fresh.{follows_entry, fresh_entry}
 use Rattle.cj_freshness.specs.Freshness.{FollowsLog, without_touched}
 use Rattle.cj_state.specs.Seats.{states_of}
-use Rattle.std.proofs.Common.{Some}
 use Rattle.cj_book.specs.Seated.{event_or_fault}
 use Rattle.cj_board.specs.Seats.{board_id, pass_board}
 use Rattle.cj_state.proofs.SeatsKept.{counted, quiet_or_fault, seats_after, seats_cleared}
