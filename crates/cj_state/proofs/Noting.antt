@@ -19,7 +19,7 @@ use Rattle.cj_model.specs.declared.answer.Outcome.{Outcome}
 use Rattle.cj_place.specs.Layouts.{placement_of}
 use Rattle.cj_state.specs.Proving.Kept.{KeptFresh}
 use Rattle.cj_state.proofs.Dumped.{dumps_event}
-use Rattle.cj_state.proofs.Fresh.{follows_event, fresh_event}
+use Rattle.cj_state.proofs.Fresh.{follows_entry, follows_event, fresh_event}
 use Rattle.cj_state.proofs.KeepingEvents.{kept_log_failed}
 use Rattle.cj_replica.specs.Cells.{CellState}
 use Rattle.cj_state.specs.Worlds.{core_of, world_of}
@@ -104,12 +104,17 @@ module _ {S : Type 0} {tells : Bool} {faults moment : S → ℕ} {since : S → 
     not_scheduled LogFault is = let can = how.faulted is in (can.served, can.space)
     not_scheduled NoMemory is = tt
 
+  -- the cache follows the log
+  pub follows_scheduled : (n : ℕ) → r ≡ Ok n → FollowsLog (log old.history) (log new.history) old.cache new.cache
+  follows_scheduled n is =
+      let ok : IsSameButLog (with_entry old e) new = subst (λ (q : Result ℕ BookError). OnOk q (IsSameButLog (with_entry old e) new)) is how.ok in
+      rw ok (follows_entry old.history old.cache e)
+
   -- where it was not, what the log does and an event of its fault leave holds
   pub unscheduled : (d : BookError) → r ≡ Err d → (Q : BookState S → Type 0) → (CanSchedule old e.act → Q (record (with_event old (LogFailed e.session e.seq)) { recovery_log = new.recovery_log }))
       → Q (record old { recovery_log = new.recovery_log }) → Q new
   unscheduled d is Q came stays = refused r d is old new (LogFailed e.session e.seq) Q how.log_fault how.same (λ fault. came (how.faulted fault)) stays
 
-  -- the cache follows the log
   pub follows_unscheduled : (d : BookError) → r ≡ Err d → FollowsLog (log old.history) (log new.history) old.cache new.cache
   follows_unscheduled d is =
       unscheduled d is (λ (b : BookState S). FollowsLog (log old.history) (log b.history) old.cache b.cache) (λ can. follows_event old.history old.cache (LogFailed e.session e.seq) refl) (inl (refl, refl))

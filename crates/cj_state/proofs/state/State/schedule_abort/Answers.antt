@@ -1,4 +1,4 @@
-use Rattle.std.proofs.Common.{◌≡◌, arith, inr, Ok, Err, true, ap, sym, ◌∙◌, subst, refl, ◌++◌, ◌∷◌, [], Some}
+use Rattle.std.proofs.Common.{◌≡◌, arith, inr, Ok, Err, true, ap, sym, ◌∙◌, subst, refl, Some}
 use Rattle.cj_model.specs.declared.request.Entry.{Entry}
 use Rattle.cj_cluster.specs.declared.event.Event.TheVariants.{LogFailed, Sched}
 use Rattle.cj_cluster.specs.History.Histories.{log}
@@ -9,10 +9,10 @@ use Rattle.cj_state.specs.Worlds.{WorldState}
 use Rattle.cj_state.specs.Effects.{SchedulesAs}
 use Rattle.cj_state.proofs.Keeping.{kept_aborted}
 use Rattle.cj_state.proofs.OpenNumbers.{orphan_is}
-use Rattle.cj_state.proofs.Noting.{follows_unscheduled, kept_unscheduled, scheduled_as, not_scheduled}
+use Rattle.cj_state.proofs.Noting.{follows_scheduled, follows_unscheduled, kept_unscheduled, scheduled_as, not_scheduled}
 use Rattle.cj_state.proofs.Dumped.{dumps_entry}
-use Rattle.cj_state.proofs.Fresh.{follows_entry, fresh_entry}
-use Rattle.cj_freshness.specs.Freshness.{FollowsLog, without_touched}
+use Rattle.cj_state.proofs.Fresh.{fresh_entry}
+use Rattle.cj_freshness.specs.Freshness.{FollowsLog}
 use Rattle.cj_state.specs.Seats.{states_of}
 use Rattle.cj_book.specs.Seated.{event_or_fault}
 use Rattle.cj_board.specs.Seats.{board_id, pass_board}
@@ -57,16 +57,12 @@ invariant_of-self-in-Err g c =
 
 pub schedule-requires-clause-counted : goal.schedule-requires-clause-counted
 schedule-requires-clause-counted g c =
-    let w = c.self.inside in
     let e = c.args.entry in
-    (counted w.book (Sched e) c.self.invariant.3.1.unowned, counted w.book (LogFailed e.session e.seq) c.self.invariant.3.1.unowned)
+    (counted c.self.inside.book (Sched e) c.self.invariant.3.1.unowned, counted c.self.inside.book (LogFailed e.session e.seq) c.self.invariant.3.1.unowned)
 
 pub returns-in-Ok-clause-cache : goal.returns-in-Ok-clause-cache
 returns-in-Ok-clause-cache g c =
-    let w = c.self.inside in
-    let e = c.args.entry in
-    rw c.in-Ok.ensures.state.ok
-    (subst (λ (x : WorldState). FollowsLog (log x.core.history) (log (w.book.state.history ++ Sched e ∷ [])) x.cache (without_touched (log w.book.state.history) e w.book.state.cache)) c.self.view_is (follows_entry w.book.state.history w.book.state.cache e))
+    subst (λ (x : WorldState). FollowsLog (log x.core.history) (log c.schedule.new.self.state.history) x.cache c.schedule.new.self.state.cache) c.self.view_is (follows_scheduled c.in-Ok.ensures.state c.in-Ok.number refl)
 
 pub returns-in-Err-clause-cache : goal.returns-in-Err-clause-cache
 returns-in-Err-clause-cache g c =

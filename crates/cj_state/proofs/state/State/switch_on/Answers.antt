@@ -60,12 +60,6 @@ hear-requires-clause-within g c =
 pub hear-requires-clause-numbered : goal.hear-requires-clause-numbered
 hear-requires-clause-numbered g c = λ b d lt. (c.self.invariant.0.world.cells b d lt).number
 
-pub hear-requires-clause-at : goal.hear-requires-clause-at
-hear-requires-clause-at g c = c.self.invariant.3.0
-
-pub enable-requires-clause-board : goal.enable-requires-clause-board
-enable-requires-clause-board g c = c.hear.ensures.at.of_book
-
 pub enable-requires-clause-is_free : goal.enable-requires-clause-is_free
 enable-requires-clause-is_free g c = rw c.hear.ensures.heard.heard.state (subst (λ (x : WorldState). is_idle x.core.history ≡ true) (sym c.self.view_is) c.requires.free)
 
