@@ -1,5 +1,5 @@
 use Rattle.std.specs.Prelude.{option_copied}
-use Rattle.std.proofs.Common.{◌<◌, ℕ, false, List, Ok, Err, Some, ap, sym, ◌∙◌, subst, refl}
+use Rattle.std.proofs.Common.{ℕ, false, List, Ok, Err, Some, ap, sym, ◌∙◌, subst, refl}
 use Rattle.std.proofs.lemmas.List.{length-map}
 use Rattle.cj_model.specs.Cluster.Accounts.{login_of}
 use Rattle.cj_book.specs.Books.{BookState}
@@ -101,10 +101,6 @@ returns-in-Err-clause-want g c want =
     (world_stays c.self.invariant.0 c.self.view_is c.requires.within ch
     (wanted ch.before ch.after (Err c.in-Err.error) (ap (λ (d : CellReadError). Err d) starved.0) ch.how.same ch.how.cause ch.how.asks ch.how.arming c.mapped-login.result.now ch.how.login))
 
-pub mapped-login-requires : goal.mapped-login-requires
-mapped-login-requires g c =
-    subst (λ (m : ℕ). c.args.b < m) (sym c.self.invariant.0.world.registered) (subst (λ (x : WorldState). c.args.b < x.core.placement.backends) (sym c.self.view_is) c.requires.within)
-
 pub returns-in-Ok-clause-logins : goal.returns-in-Ok-clause-logins
 returns-in-Ok-clause-logins g c =
     let ch = c.in-Ok.ensures.read in
@@ -120,9 +116,6 @@ returns-in-Err-clause-logins g c =
 
 pub read_at-requires-clause-within : goal.read_at-requires-clause-within
 read_at-requires-clause-within g c = rw length-map at (has_cell c.self.invariant.0 c.self.view_is c.requires.within)
-
-pub read_at-requires-clause-at : goal.read_at-requires-clause-at
-read_at-requires-clause-at g c = c.self.invariant.3.0
 
 pub read_at-requires-clause-numbered : goal.read_at-requires-clause-numbered
 read_at-requires-clause-numbered g c = λ b d lt. (c.self.invariant.0.world.cells b d lt).number

@@ -13,9 +13,6 @@ asked_alike x y is = subst (λ (z : CellState). z ≡ record x { login = z.login
 pub contents_at-requires-clause-within : goal.contents_at-requires-clause-within
 contents_at-requires-clause-within g c = rw length-map at (has_cell c.self.invariant.0 c.self.view_is c.requires)
 
-pub contents_at-requires-clause-at : goal.contents_at-requires-clause-at
-contents_at-requires-clause-at g c = c.self.invariant.3.0.of_cells
-
 pub invariant_of-self : goal.invariant_of-self
 invariant_of-self g c =
     let ch = c.contents_at.ensures.asked in

@@ -15,9 +15,6 @@ use Rattle.cj_state.proofs.state.State.load_dump.Goals as goal
 pub load_at-requires-clause-within : goal.load_at-requires-clause-within
 load_at-requires-clause-within g c = rw length-map at (has_cell c.self.invariant.0 (c.self.view_is ∙ c.in_ok-position.ensures.same) c.requires.within)
 
-pub load_at-requires-clause-at : goal.load_at-requires-clause-at
-load_at-requires-clause-at g c = c.self.invariant.3.0
-
 pub load_at-requires-clause-out : goal.load_at-requires-clause-out
 load_at-requires-clause-out g c d =
     let was = c.in_ok-position.ensures in

@@ -1,4 +1,4 @@
-use Rattle.std.proofs.Common.{◌≡◌, ℕ, ◌<◌, ◌+◌, None, Ok, sym, subst}
+use Rattle.std.proofs.Common.{◌≡◌, ◌+◌, None, Ok, sym, subst}
 use Rattle.cj_cluster.specs.declared.moves.Move.TheVariants.{Replay}
 use Rattle.cj_cluster.specs.declared.moves.Moved.TheVariants.{Replayed}
 use Rattle.cj_cluster.specs.Moves.Moves.{position_or_zero, not_now, Replays}
@@ -10,10 +10,6 @@ use Rattle.cj_state.proofs.Taking.{kept_replayed, replays, took_counts, took_arm
 use Rattle.cj_state.specs.Seats.{states_of}
 use Rattle.cj_state.proofs.HeardOf.{ready_heard}
 use Rattle.cj_state.proofs.state.State.take_next.Goals as goal
-
-pub take-requires-clause-registered : goal.take-requires-clause-registered
-take-requires-clause-registered g c =
-    subst (λ (m : ℕ). c.args.b < m) (sym c.self.invariant.0.world.registered) (subst (λ (x : WorldState). c.args.b < x.core.placement.backends) (sym c.self.view_is) c.requires.within)
 
 pub take-requires-clause-can : goal.take-requires-clause-can
 take-requires-clause-can g c =
@@ -42,9 +38,6 @@ returns-clause-armings g c = took_armings c.self.invariant.0 c.self.view_is c.re
 
 pub returns-clause-logins : goal.returns-clause-logins
 returns-clause-logins g c = took_logins c.self.invariant.0 c.self.view_is c.requires.within c.take.ensures.took
-
-pub take-requires-clause-at : goal.take-requires-clause-at
-take-requires-clause-at g c = c.self.invariant.3.0
 
 pub take-requires-clause-numbered : goal.take-requires-clause-numbered
 take-requires-clause-numbered g c = λ b d lt. (c.self.invariant.0.world.cells b d lt).number

@@ -1,4 +1,4 @@
-use Rattle.std.proofs.Common.{◌≡◌, ℕ, ◌<◌, None, Ok, sym, subst}
+use Rattle.std.proofs.Common.{◌≡◌, None, Ok, sym, subst}
 use Rattle.cj_cluster.specs.declared.moves.Move.TheVariants.{Apply}
 use Rattle.cj_cluster.specs.declared.moves.Moved.TheVariants.{Applied}
 use Rattle.cj_cluster.specs.Moves.Moves.{position_or_zero, not_now, Applies}
@@ -10,10 +10,6 @@ use Rattle.cj_state.proofs.Taking.{kept_applied, applies, took_counts, took_armi
 use Rattle.cj_state.specs.Seats.{states_of}
 use Rattle.cj_state.proofs.HeardOf.{ready_taken}
 use Rattle.cj_state.proofs.state.State.take_open.Goals as goal
-
-pub take-did-requires-clause-registered : goal.take-did-requires-clause-registered
-take-did-requires-clause-registered g c =
-    subst (λ (m : ℕ). c.args.b < m) (sym c.self.invariant.0.world.registered) (subst (λ (x : WorldState). c.args.b < x.core.placement.backends) (sym c.self.view_is) c.requires.within)
 
 pub take-did-requires-clause-can : goal.take-did-requires-clause-can
 take-did-requires-clause-can g c =
@@ -43,9 +39,6 @@ returns-clause-armings g c = took_armings c.self.invariant.0 c.self.view_is c.re
 
 pub returns-clause-logins : goal.returns-clause-logins
 returns-clause-logins g c = took_logins c.self.invariant.0 c.self.view_is c.requires.within c.take-did.ensures.took
-
-pub take-did-requires-clause-at : goal.take-did-requires-clause-at
-take-did-requires-clause-at g c = c.self.invariant.3.0
 
 pub take-did-requires-clause-numbered : goal.take-did-requires-clause-numbered
 take-did-requires-clause-numbered g c = λ b d lt. (c.self.invariant.0.world.cells b d lt).number
