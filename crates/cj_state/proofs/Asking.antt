@@ -1,8 +1,7 @@
 -- What a world keeps where a backend is asked, and what it answers.
-use Rattle.std.proofs.Common.{◌≡◌, ℕ, ◌<◌, ◌≤◌, Bool, true, false, cond, List, [], ◌∷◌, ◌++◌, length, map, get_or, set, Option, None, Some, IfSome, Result, Ok, Err, refl, ap, sym, ◌∙◌, subst, arith, ⊎_elim}
+use Rattle.std.proofs.Common.{◌≡◌, ℕ, ◌<◌, ◌≤◌, Bool, true, false, cond, List, length, get_or, Option, None, Some, IfSome, Result, Ok, Err, refl, ap, sym, ◌∙◌, subst, arith, ⊎_elim}
 use Rattle.std.specs.Prelude.{◌↔◌, IsErrOf}
-use Rattle.std.proofs.lemmas.Bool.{cases_lt}
-use Rattle.std.proofs.lemmas.List.{map-set, set-get_or}
+use Rattle.std.proofs.lemmas.Bool.{cases_lt, false_from_ne_true}
 use Rattle.cj_model.specs.declared.database.Slot.{Slot}
 use Rattle.cj_model.specs.declared.select.Select.{Select}
 use Rattle.cj_model.specs.declared.answer.Asked.{Asked}
@@ -14,100 +13,57 @@ use Rattle.cj_model.specs.Database.Queries.{ask}
 use Rattle.cj_model.specs.Database.Outcomes.{IsAsked}
 use Rattle.cj_model.specs.Cluster.Placements.{part, hosts_all}
 use Rattle.cj_cluster.specs.History.Histories.{log, events_left, database_after}
-use Rattle.cj_cluster.specs.Moves.Cores.{position_at, session_at}
-use Rattle.cj_cluster.specs.Moves.Moves.{read_number, IsFarEnough}
+use Rattle.cj_cluster.specs.Moves.Cores.{Core, position_at, session_at}
+use Rattle.cj_cluster.specs.Moves.Moves.{happened, read_number, IsFarEnough}
 use Rattle.cj_cluster.specs.Proving.Invariants.{CoreInvariant, HoldsPart}
 use Rattle.cj_model.proofs.PartLaws.{ask_part}
 use Rattle.cj_outside.specs.Causes.{CountsFault, next}
 use Rattle.cj_book.specs.Books.{BookState, with_event, HasNoRoomForOne}
-use Rattle.cj_auth.specs.Admission.{Register}
+use Rattle.cj_model.specs.Cluster.Caching.{CacheState}
 use Rattle.cj_dump.specs.declared.dump.Dump.{Dump}
-use Rattle.cj_place.specs.Layouts.{Layout, placement_of}
 use Rattle.cj_replica.specs.declared.replica.CellReadError.{CellReadError}
 use Rattle.cj_replica.specs.declared.replica.CellReadError.TheVariants as errors
 use Rattle.cj_backend.specs.Backends.{asks_after, spent}
 use Rattle.cj_replica.specs.Cells.{CellState, SaysReadAnswer, HasCellReadCause, SpendsArmingIf, is_asked, LogsInForRead}
-use Rattle.cj_cluster.proofs.Standing.{stand_rest}
-use Rattle.cj_state.specs.Worlds.{core_of, world_of, IsCell}
+use Rattle.cj_state.specs.Worlds.{WorldState, LogView, core_of, with_cache, with_log}
 use Rattle.cj_state.specs.declared.cells.AskError.{AskError}
 use Rattle.cj_state.specs.declared.cells.AskError.TheVariants as ask_errors
 use Rattle.cj_state.specs.Effects.{Asks, Notes, asked_core, failed_asked}
 use Rattle.cj_state.specs.Proving.Kept.{Kept}
 use Rattle.cj_state.specs.CalledLogins.{logins_of, LogsInToAsk}
-use Rattle.cj_state.proofs.CellsKept.{position_of, begun_of, position_within, cells_set}
-use Rattle.cj_state.proofs.Counted.{logins_may, logins_same}
+use Rattle.cj_state.specs.Seats.{ChangesCell}
+use Rattle.cj_state.proofs.CellsKept.{position_within}
+use Rattle.cj_state.proofs.ChangedCell.{cell_there, changed_logins, may_change_under, stands_there}
 
-module _ (tells : Bool) (reg : Register) (l : Layout) (h : List Event) (cells : List CellState) (f s : ℕ) (ss : List OpenSession) (g : ℕ) (ds : List Dump) (numbers : List ℕ) (first_outcome : Option Outcome) (kept : Kept tells (world_of reg l h cells f s ss g ds) numbers first_outcome)
-    (b : ℕ) (lt : b < length cells) (x : CellState) (there : x ≡ get_or cells b x) where
-  place : position_at (core_of l h cells f s ss g ds) b ≡ x.position
-  place = position_of cells b x lt ∙ ap (λ (z : CellState). z.position) (sym there)
+-- what holds in each case of an error that is noted holds
+pub notes_cases : {S : Type 0} (Q : AskError → BookState S → Type 0) (old new : BookState S) (s q b : ℕ) (d : CellReadError) (e : AskError) → Notes old s q b d e new
+    → (d ≡ errors.Out → Q ask_errors.Out old) → ((p : ℕ) → d ≡ errors.Behind p → Q (ask_errors.Behind p) old) → (d ≡ errors.NoMemory → Q ask_errors.NoMemory old)
+    → (d ≡ errors.Failed → 0 < events_left old.history → Q ask_errors.Failed (with_event old (ReadFailed s q b))) → (d ≡ errors.Failed → (k : ℕ) → HasNoRoomForOne old k → Q (ask_errors.Unnoted k) old) → Q e new
+notes_cases Q old new s q b errors.Out e notes out behind want came full = rw (notes.0, notes.1) (out refl)
+notes_cases Q old new s q b (errors.Behind p) e notes out behind want came full = rw (notes.0, notes.1) (behind p refl)
+notes_cases Q old new s q b errors.NoMemory e notes out behind want came full = rw (notes.0, notes.1) (want refl)
+notes_cases Q old new s q b errors.Failed e notes out behind want came full =
+    ⊎_elim
+    (λ (one : (e ≡ ask_errors.Failed) × (0 < events_left old.history) × (new ≡ with_event old (ReadFailed s q b))). rw (one.0, one.2) (came refl one.1))
+    (λ (none : (k : ℕ) × (e ≡ ask_errors.Unnoted k) × HasNoRoomForOne old k × (new ≡ old)). rw (none.1, none.3) (full refl none.0 none.2))
+    notes
 
-  begins : get_or (map (λ (z : CellState). z.begun) cells) b [] ≡ x.begun
-  begins = begun_of cells b x lt ∙ ap (λ (z : CellState). z.begun) (sym there)
+module _ {tells : Bool} {w : WorldState} {numbers : List ℕ} {first_outcome : Option Outcome} (kept : Kept tells w numbers first_outcome) {seen_log : LogView} {cache : CacheState} {old : WorldState} (seen : with_cache (with_log w seen_log) cache ≡ old)
+    {b : ℕ} (within : b < old.core.placement.backends) where
+  -- what backend b answered a session's query
+  module _ {x : CellState} (there : x ≡ get_or w.cells b x) (number : ℕ) {least : ℕ} (is_least : least ≡ (session_at old.core number).least) where
+    place : position_at old.core b ≡ x.position
+    place = stands_there kept seen within x there
 
-  module _ (y : CellState) (position : y.position ≡ x.position) (begun : y.begun ≡ x.begun) where
-    -- no position changes
-    same_places : map (λ (z : CellState). z.position) (set cells b y) ≡ map (λ (z : CellState). z.position) cells
-    same_places =
-        map-set (λ (z : CellState). z.position) cells b y
-        ∙ (ap (set (map (λ (z : CellState). z.position) cells) b) (position ∙ sym place) ∙ set-get_or (map (λ (z : CellState). z.position) cells) b None)
-
-    -- and no transaction begins or ends
-    same_begun : map (λ (z : CellState). z.begun) (set cells b y) ≡ map (λ (z : CellState). z.begun) cells
-    same_begun =
-        map-set (λ (z : CellState). z.begun) cells b y
-        ∙ (ap (set (map (λ (z : CellState). z.begun) cells) b) (begun ∙ sym begins) ∙ set-get_or (map (λ (z : CellState). z.begun) cells) b [])
-
-    -- so nothing changes of the core
-    pub core_stays : core_of l h (set cells b y) f s ss g ds ≡ core_of l h cells f s ss g ds
-    core_stays =
-        ap (λ (ps : List (Option ℕ)). record (core_of l h cells f s ss g ds) { positions = ps; begun = map (λ (z : CellState). z.begun) (set cells b y) }) same_places
-        ∙ ap (λ (ts : List (List ℕ)). record (core_of l h cells f s ss g ds) { begun = ts }) same_begun
-
-    pub kept_cell : IsCell tells (placement_of l) (log h) b y → Kept tells (world_of reg l h (set cells b y) f s ss g ds) numbers first_outcome
-    kept_cell is_cell =
-        record {
-          world =
-              record {
-                sound = subst CoreInvariant (sym core_stays) kept.world.sound;
-                named = kept.world.named;
-                registered = kept.world.registered;
-                few = kept.world.few;
-                positions = refl;
-                begun = refl;
-                cells = cells_set tells (placement_of l) (log h) cells b y is_cell kept.world.cells;
-                between =
-                    stand_rest (core_of l h cells f s ss g ds) (map (λ (z : CellState). z.position) (set cells b y)) (map (λ (z : CellState). z.begun) (set cells b y)) f s kept.world.between;
-              };
-          numbers_are = kept.numbers_are;
-          served = kept.served;
-          right = kept.right;
-          whole = λ e k running part on end. kept.whole e k running part on (ap (λ ps. get_or ps k None) (sym same_places) ∙ end);
-        }
-
-  module _ (y : CellState) (same : y ≡ record x { login = y.login; faults = y.faults; asks = y.asks; arming = y.arming }) where
-    pub same_core : core_of l h (set cells b y) f s ss g ds ≡ core_of l h cells f s ss g ds
-    same_core = core_stays y (ap (λ (z : CellState). z.position) same) (ap (λ (z : CellState). z.begun) same)
-
-    is_cell : IsCell tells (placement_of l) (log h) b y
-    is_cell =
-        let was : IsCell tells (placement_of l) (log h) b x = subst (IsCell tells (placement_of l) (log h) b) (sym there) (kept.world.cells b x lt) in
-        subst (IsCell tells (placement_of l) (log h) b) (sym same) (record { number = was.number; placement = was.placement; holds = was.holds; drafts = was.drafts })
-
-    pub kept_asked : Kept tells (world_of reg l h (set cells b y) f s ss g ds) numbers first_outcome
-    kept_asked = kept_cell y (ap (λ (z : CellState). z.position) same) (ap (λ (z : CellState). z.begun) same) is_cell
-
-  -- what it answered
-  module _ (number tx : ℕ) (select : Select) (least : ℕ) (is_least : least ≡ (session_at (core_of l h cells f s ss g ds) number).least) where
     -- what a cell that isn't out tells
-    told : (p : ℕ) → x.position ≡ Some p → tells ≡ true → x.told ≡ Some (part (placement_of l) b (database_after (log h) p))
+    told : (p : ℕ) → x.position ≡ Some p → tells ≡ true → x.told ≡ Some (part old.core.placement b (database_after (log old.core.history) p))
     told p is =
-        let cell : IsCell tells (placement_of l) (log h) b x = subst (IsCell tells (placement_of l) (log h) b) (sym there) (kept.world.cells b x lt) in
-        subst (λ (q : Option ℕ). HoldsPart tells (placement_of l) b (log h) x.told q) is cell.holds
+        subst (λ (z : WorldState). HoldsPart tells z.core.placement b (log z.core.history) x.told (Some p)) seen
+        (subst (λ (q : Option ℕ). HoldsPart tells w.core.placement b (log w.core.history) x.told q) is (cell_there kept seen within x there).holds)
 
     -- a cell that is neither out nor below what the session has seen
     far_enough : (r : Result (Asked × ℕ) CellReadError) → r ≡ Err errors.Failed → (q : Option ℕ) → x.position ≡ q → ((r ≡ Err errors.Out) ↔ (x.position ≡ None))
-        → ((p : ℕ) → (r ≡ Err (errors.Behind p)) ↔ ((x.position ≡ Some p) × (p < least))) → IsFarEnough (core_of l h cells f s ss g ds) number b
+        → ((p : ℕ) → (r ≡ Err (errors.Behind p)) ↔ ((x.position ≡ Some p) × (p < least))) → IsFarEnough old.core number b
     far_enough r failed None is out behind = let e = out.1 is in absurd (cc (failed, e))
     far_enough r failed (Some p) is out behind =
         record {
@@ -118,109 +74,62 @@ module _ (tells : Bool) (reg : Register) (l : Layout) (h : List Event) (cells : 
               (λ (le : least ≤ p). subst (λ (m : ℕ). m ≤ p) is_least le) (cases_lt p least);
         }
 
-    -- the session's query, of which it hosts each table
-    pub answers : hosts_all (placement_of l) b select.tables ≡ true → (answer : Asked) (p : ℕ) → SaysReadAnswer x.told tx select answer → IsAsked answer
-        → x.position ≡ Some p → least ≤ p → Asks tells (core_of l h cells f s ss g ds) number b tx select (Ok (answer, p))
-    answers hosts answer p says possible position owed = (
+    -- of which it hosts each table
+    pub answers : (tx : ℕ) (select : Select) → hosts_all old.core.placement b select.tables ≡ true → (answer : Asked) (p : ℕ) → SaysReadAnswer x.told tx select answer → IsAsked answer
+        → x.position ≡ Some p → least ≤ p → Asks tells old.core number b tx select (Ok (answer, p))
+    answers tx select hosts answer p says possible position owed = (
       place ∙ position,
       subst (λ (m : ℕ). m ≤ p) is_least owed,
-      position_within (core_of l h cells f s ss g ds) kept.world.sound b p (place ∙ position),
+      position_within old.core (subst (λ (z : WorldState). CoreInvariant z.core) seen kept.world.sound) b p (place ∙ position),
       possible,
       λ on.
-          let a : answer ≡ ask (part (placement_of l) b (database_after (log h) p)) tx select = subst (λ (t : Option (List Slot)). IfSome t (λ db. answer ≡ ask db tx select)) (told p position on) says in
-          a ∙ ask_part (placement_of l) b (database_after (log h) p) tx select hosts,
+          let a : answer ≡ ask (part old.core.placement b (database_after (log old.core.history) p)) tx select = subst (λ (t : Option (List Slot)). IfSome t (λ db. answer ≡ ask db tx select)) (told p position on) says in
+          a ∙ ask_part old.core.placement b (database_after (log old.core.history) p) tx select hosts,
     )
 
     -- or why it did not
-    pub errs : {S : Type 0} (old new : BookState S) (q : ℕ) (d : CellReadError) (e : AskError) → old.history ≡ h → Notes old number q b d e new → (IsErrOf {T = Asked × ℕ} (Err d) errors.Out ↔ (x.position ≡ None))
-        → ((p : ℕ) → IsErrOf {T = Asked × ℕ} (Err d) (errors.Behind p) ↔ ((x.position ≡ Some p) × (p < least))) → Asks tells (core_of l h cells f s ss g ds) number b tx select (Err e)
-    errs old new q errors.Out e is notes out behind = subst (λ (d : AskError). Asks tells (core_of l h cells f s ss g ds) number b tx select (Err d)) (sym notes.0) (place ∙ out.0 refl)
-    errs old new q (errors.Behind p) e is notes out behind =
-        let early = (behind p).0 refl in
-        subst (λ (d : AskError). Asks tells (core_of l h cells f s ss g ds) number b tx select (Err d)) (sym notes.0) (place ∙ early.0, subst (λ (m : ℕ). p < m) is_least early.1)
-    errs old new q errors.NoMemory e is notes out behind = subst (λ (d : AskError). Asks tells (core_of l h cells f s ss g ds) number b tx select (Err d)) (sym notes.0) tt
-    errs old new q errors.Failed e is notes out behind =
-        let there = far_enough (Err errors.Failed) refl x.position refl out behind in
-        ⊎_elim
-        (λ (came : (e ≡ ask_errors.Failed) × (0 < events_left old.history) × (new ≡ with_event old (ReadFailed number q b))).
-        subst (λ (d : AskError). Asks tells (core_of l h cells f s ss g ds) number b tx select (Err d)) (sym came.0) (there, subst (λ (l : List Event). 0 < events_left l) is came.1))
-        (λ (full : (k : ℕ) × (e ≡ ask_errors.Unnoted k) × HasNoRoomForOne old k × (new ≡ old)).
-        let none : events_left old.history < 1 = full.2.full in
-        let no_room : events_left old.history ≡ 0 = omega arith in
-        subst (λ (d : AskError). Asks tells (core_of l h cells f s ss g ds) number b tx select (Err d)) (sym full.1)
-        (there, subst (λ (l : List Event). events_left l ≡ 0) is no_room, subst (λ (l : List Event). full.0 ≡ length l) is full.2.events))
-        notes
+    pub errs : {S : Type 0} (tx : ℕ) (select : Select) (k new : BookState S) (q : ℕ) (d : CellReadError) (e : AskError) → k.history ≡ old.core.history → Notes k number q b d e new → (IsErrOf {T = Asked × ℕ} (Err d) errors.Out ↔ (x.position ≡ None))
+        → ((p : ℕ) → IsErrOf {T = Asked × ℕ} (Err d) (errors.Behind p) ↔ ((x.position ≡ Some p) × (p < least))) → Asks tells old.core number b tx select (Err e)
+    errs {S} tx select k new q d e is notes out behind =
+        let far : d ≡ errors.Failed → IsFarEnough old.core number b = λ was. far_enough (Err d) (ap (λ (z : CellReadError). Err z) was) x.position refl out behind in
+        notes_cases (λ (y : AskError) (z : BookState S). Asks tells old.core number b tx select (Err y)) k new number q b d e notes (λ was. place ∙ out.0 (ap (λ (z : CellReadError). Err z) was))
+        (λ p was. (let early = (behind p).0 (ap (λ (z : CellReadError). Err z) was) in (place ∙ early.0, subst (λ (m : ℕ). p < m) is_least early.1)))
+        (λ was. tt) (λ was space. (far was, subst (λ (h : List Event). 0 < events_left h) is space))
+        (λ was n full.
+        let none : events_left k.history < 1 = full.full in
+        let no_room : events_left k.history ≡ 0 = omega arith in
+        (far was, subst (λ (h : List Event). events_left h ≡ 0) is no_room, subst (λ (h : List Event). n ≡ length h) is full.events))
 
--- ---- what becomes of the book
+  -- under which login it was asked
+  pub noted_logins : {S : Type 0} {How : CellState → CellState → Type 0} {now : List CellState} (ch : ChangesCell w.cells b How now) (k new : BookState S) (s q : ℕ) (d : CellReadError) (e : AskError) (given : List ℕ) → Notes k s q b d e new
+      → LogsInForRead ch.before.login given (Err d) ch.after.login → LogsInToAsk b given (Err e) (logins_of old.cells) (logins_of now)
+  noted_logins {S} {How} {now} ch k new s q d e given notes logs =
+      let by : (z : CellReadError) → d ≡ z → LogsInForRead ch.before.login given (Err z) ch.after.login = λ z is. subst (λ (y : CellReadError). LogsInForRead ch.before.login given (Err y) ch.after.login) is logs in
+      let same = changed_logins kept seen within ch in
+      let may = may_change_under kept seen within ch given in
+      notes_cases (λ (y : AskError) (z : BookState S). LogsInToAsk b given (Err y) (logins_of old.cells) (logins_of now)) k new s q b d e notes
+      (λ is. same (by errors.Out is)) (λ p is. same (by (errors.Behind p) is)) (λ is. same (by errors.NoMemory is)) (λ is space. may (by errors.Failed is)) (λ is n full. may (by errors.Failed is))
 
--- what holds with and without an event of the failure holds then
-pub noting : {S : Type 0} (Q : BookState S → Type 0) (old new : BookState S) (s q b : ℕ) (d : CellReadError) (e : AskError) → Notes old s q b d e new → Q old → (0 < events_left old.history → Q (with_event old (ReadFailed s q b))) → Q new
-noting Q old new s q b errors.Out e notes same came = subst Q (sym notes.1) same
-noting Q old new s q b (errors.Behind p) e notes same came = subst Q (sym notes.1) same
-noting Q old new s q b errors.NoMemory e notes same came = subst Q (sym notes.1) same
-noting Q old new s q b errors.Failed e notes same came =
-    ⊎_elim
-    (λ (one : (e ≡ ask_errors.Failed) × (0 < events_left old.history) × (new ≡ with_event old (ReadFailed s q b))). subst Q (sym one.2) (came one.1))
-    (λ (full : (k : ℕ) × (e ≡ ask_errors.Unnoted k) × HasNoRoomForOne old k × (new ≡ old)). subst Q (sym full.3) same)
-    notes
-
--- and of the core
-pub noted_core : {S : Type 0} (cells : List CellState) (f t : ℕ) (ss : List OpenSession) (ds : List Dump) (old new : BookState S) (s q b : ℕ) (d : CellReadError) (e : AskError)
-    → q ≡ read_number (session_at (core_of old.layout old.history cells f t ss old.greatest ds) s) → Notes old s q b d e new
-    → core_of new.layout new.history cells f t ss new.greatest ds ≡ asked_core (core_of old.layout old.history cells f t ss old.greatest ds) s b (Err e)
-noted_core cells f t ss ds old new s q b errors.Out e number notes = rw (notes.0, notes.1) refl
-noted_core cells f t ss ds old new s q b (errors.Behind p) e number notes = rw (notes.0, notes.1) refl
-noted_core cells f t ss ds old new s q b errors.NoMemory e number notes = rw (notes.0, notes.1) refl
-noted_core cells f t ss ds old new s q b errors.Failed e number notes =
-    ⊎_elim
-    (λ (one : (e ≡ ask_errors.Failed) × (0 < events_left old.history) × (new ≡ with_event old (ReadFailed s q b))).
-    rw (one.0, one.2) (ap (λ (m : ℕ). core_of old.layout (old.history ++ ReadFailed s m b ∷ []) cells f t ss old.greatest ds) number))
-    (λ (full : (k : ℕ) × (e ≡ ask_errors.Unnoted k) × HasNoRoomForOne old k × (new ≡ old)). rw (full.1, full.3) refl)
-    notes
+-- what becomes of the core
+pub noted_core : {S : Type 0} (cells : List CellState) (f t : ℕ) (ss : List OpenSession) (ds : List Dump) (k new : BookState S) (s q b : ℕ) (d : CellReadError) (e : AskError) (c : Core) → Notes k s q b d e new
+    → core_of k.layout k.history cells f t ss k.greatest ds ≡ c → q ≡ read_number (session_at c s) → core_of new.layout new.history cells f t ss new.greatest ds ≡ asked_core c s b (Err e)
+noted_core {S} cells f t ss ds k new s q b d e c notes core number =
+    notes_cases (λ (y : AskError) (z : BookState S). core_of z.layout z.history cells f t ss z.greatest ds ≡ asked_core c s b (Err y)) k new s q b d e notes (λ was. core) (λ p was. core) (λ was. core)
+    (λ was space. ap (λ (z : Core). happened z (ReadFailed s q b)) core ∙ ap (λ (m : ℕ). happened c (ReadFailed s m b)) number) (λ was n full. core)
 
 -- whose fault was counted
 pub noted_fault : {S : Type 0} (old new : BookState S) (s q b : ℕ) (d : CellReadError) (e : AskError) (before now : ℕ) → Notes old s q b d e new → CountsFault (IsErrOf {T = Asked × ℕ} (Err d) errors.Failed) before now
     → (failed : Bool) × (failed_asked b (Err e) ≡ cond failed (Some b) None) × (now ≡ cond failed (next before) before)
-noted_fault old new s q b errors.Out e before now notes cause = (false, rw notes.0 refl, cause.uncounted (λ is. cc is))
-noted_fault old new s q b (errors.Behind p) e before now notes cause = (false, rw notes.0 refl, cause.uncounted (λ is. cc is))
-noted_fault old new s q b errors.NoMemory e before now notes cause = (false, rw notes.0 refl, cause.uncounted (λ is. cc is))
-noted_fault old new s q b errors.Failed e before now notes cause = (
-  true,
-  ⊎_elim
-      (λ (one : (e ≡ ask_errors.Failed) × (0 < events_left old.history) × (new ≡ with_event old (ReadFailed s q b))). rw one.0 refl)
-      (λ (full : (k : ℕ) × (e ≡ ask_errors.Unnoted k) × HasNoRoomForOne old k × (new ≡ old)). rw full.1 refl)
-      notes,
-  cause.counted refl,
-)
+noted_fault {S} old new s q b d e before now notes cause =
+    notes_cases (λ (y : AskError) (z : BookState S). (failed : Bool) × (failed_asked b (Err y) ≡ cond failed (Some b) None) × (now ≡ cond failed (next before) before)) old new s q b d e notes
+    (λ was. (false, refl, cause.uncounted (λ is. cc (was, is)))) (λ p was. (false, refl, cause.uncounted (λ is. cc (was, is)))) (λ was. (false, refl, cause.uncounted (λ is. cc (was, is))))
+    (λ was space. (true, refl, cause.counted (ap (λ (z : CellReadError). Err z) was))) (λ was n full. (true, refl, cause.counted (ap (λ (z : CellReadError). Err z) was)))
 
 -- want of memory is the cell's alone
 pub noted_want : {S : Type 0} (old new : BookState S) (s q b : ℕ) (d : CellReadError) (e : AskError) → Notes old s q b d e new → e ≡ ask_errors.NoMemory → (d ≡ errors.NoMemory) × (new ≡ old)
-noted_want old new s q b errors.Out e notes is = absurd (cc (notes.0, is))
-noted_want old new s q b (errors.Behind p) e notes is = absurd (cc (notes.0, is))
-noted_want old new s q b errors.NoMemory e notes is = (refl, notes.1)
-noted_want old new s q b errors.Failed e notes is =
-    ⊎_elim
-    (λ (one : (e ≡ ask_errors.Failed) × (0 < events_left old.history) × (new ≡ with_event old (ReadFailed s q b))). absurd (cc (one.0, is)))
-    (λ (full : (k : ℕ) × (e ≡ ask_errors.Unnoted k) × HasNoRoomForOne old k × (new ≡ old)). absurd (cc (full.1, is)))
-    notes
-
--- under which login the backend was asked
-pub noted_logins : {S : Type 0} (old new : BookState S) (s q b : ℕ) (d : CellReadError) (e : AskError) (cells : List CellState) (y : CellState) (given : List ℕ) → b < length cells → Notes old s q b d e new
-    → LogsInForRead (get_or cells b y).login given (Err d) y.login → LogsInToAsk b given (Err e) (logins_of cells) (logins_of (set cells b y))
-noted_logins old new s q b errors.Out e cells y given lt notes same =
-    subst (λ (k : AskError). LogsInToAsk b given (Err k) (logins_of cells) (logins_of (set cells b y))) (sym notes.0) (logins_same cells b y lt same)
-noted_logins old new s q b (errors.Behind p) e cells y given lt notes same =
-    subst (λ (k : AskError). LogsInToAsk b given (Err k) (logins_of cells) (logins_of (set cells b y))) (sym notes.0) (logins_same cells b y lt same)
-noted_logins old new s q b errors.NoMemory e cells y given lt notes same =
-    subst (λ (k : AskError). LogsInToAsk b given (Err k) (logins_of cells) (logins_of (set cells b y))) (sym notes.0) (logins_same cells b y lt same)
-noted_logins old new s q b errors.Failed e cells y given lt notes called =
-    let may = logins_may cells b y given lt called in
-    ⊎_elim
-    (λ (one : (e ≡ ask_errors.Failed) × (0 < events_left old.history) × (new ≡ with_event old (ReadFailed s q b))).
-    subst (λ (k : AskError). LogsInToAsk b given (Err k) (logins_of cells) (logins_of (set cells b y))) (sym one.0) may)
-    (λ (full : (k : ℕ) × (e ≡ ask_errors.Unnoted k) × HasNoRoomForOne old k × (new ≡ old)).
-    subst (λ (k : AskError). LogsInToAsk b given (Err k) (logins_of cells) (logins_of (set cells b y))) (sym full.1) may)
-    notes
+noted_want {S} old new s q b d e notes =
+    notes_cases (λ (y : AskError) (z : BookState S). y ≡ ask_errors.NoMemory → (d ≡ errors.NoMemory) × (z ≡ old)) old new s q b d e notes
+    (λ was is. absurd (cc is)) (λ p was is. absurd (cc is)) (λ was is. (was, refl)) (λ was space is. absurd (cc is)) (λ was n full is. absurd (cc is))
 
 -- then the cell is as before
 pub wanted : (x y : CellState) (r : Result (Asked × ℕ) CellReadError) → r ≡ Err errors.NoMemory → y ≡ record x { login = y.login; faults = y.faults; asks = y.asks; arming = y.arming } → HasCellReadCause x.faults y.faults r
@@ -229,11 +138,7 @@ wanted x y r is same cause asks arming given logs =
     let faults : y.faults ≡ x.faults = cause.uncounted (λ failed. cc (is, failed)) in
     let asked : y.asks ≡ x.asks = asks ∙ ap (asks_after x.asks) is in
     let spent_now : y.arming ≡ spent x.arming = arming.after ∙ ap (λ (q : Result (Asked × ℕ) CellReadError). cond (is_asked q) (spent x.arming) x.arming) is in
-    let unarmed : x.arming.armed ≡ false = not_armed x.arming.armed (λ on. let failed = arming.fails (ap is_asked is) on in cc (is, failed)) in
+    let unarmed : x.arming.armed ≡ false = false_from_ne_true x.arming.armed (λ on. let failed = arming.fails (ap is_asked is) on in cc (is, failed)) in
     let armed : y.arming ≡ x.arming = spent_now ∙ ap (λ (a : Bool). record x.arming { armed = a }) (sym unarmed) in
     let login : y.login ≡ x.login = subst (λ (q : Result (Asked × ℕ) CellReadError). LogsInForRead x.login given q y.login) is logs in
     same ∙ (rw (faults, asked, armed, login) refl)
-  where
-    not_armed : (a : Bool) → (a ≡ true → ⊥) → a ≡ false
-    not_armed true never = absurd (never refl)
-    not_armed false never = refl

@@ -104,10 +104,10 @@ module _ (tells : Bool) (accounts : List Account) (l : Layout) (h : List Event) 
   same_login same = same ∙ ap (λ (z : CellState). z.login) (sym same_cell)
 
   may_log_in : (given : List ℕ) → (y.login ≡ Some given) ⊎ (y.login ≡ x.login) → MayCallUnder b given (logins_of cells) (logins_of (set cells b y))
-  may_log_in given called = logins_may cells b y given can.within (⊎_elim (λ is. inl is) (λ same. inr (same_login same)) called)
+  may_log_in given called = logins_may cells b y given (⊎_elim (λ is. inl is) (λ same. inr (same_login same)) called)
 
   logs_in : (r : Result Caught CellError) (given : List ℕ) → LogsInForEntry x.login given r y.login → LogsInToTake b given (did_of r) (logins_of cells) (logins_of (set cells b y))
-  logs_in (Ok caught.Skipped) given same = logins_same cells b y can.within (same_login same)
+  logs_in (Ok caught.Skipped) given same = logins_same cells b y (same_login same)
   logs_in (Ok (caught.Did o)) given is = logins_set cells b y given is
   logs_in (Err errors.Failed) given called = may_log_in given called
   logs_in (Err errors.Starved) given called = may_log_in given called

@@ -1,31 +1,51 @@
 -- The cells of a world: where they stand, what they hold of a log that grew, and how one of them is changed.
-use Rattle.std.proofs.Common.{◌≡◌, ℕ, ◌<◌, ◌≤◌, Bool, true, List, [], ◌∷◌, ◌++◌, length, map, get_or, set, Option, None, Some, refl, ap, sym, ◌∙◌, subst, arith, ⊎_elim}
+use Rattle.std.proofs.Common.{◌≡◌, ℕ, ◌<◌, ◌≤◌, Bool, true, List, [], ◌∷◌, ◌++◌, length, map, get_or, set, Option, None, Some, IfSome, refl, ap, sym, ◌∙◌, subst, arith, ⊎_elim}
 use Rattle.std.proofs.lemmas.Bool.{cases_eq, eqb-true}
-use Rattle.std.proofs.lemmas.List.{get_or-set_same, get_or-set_other, length-set, get_or-map, take-append-le}
-use Rattle.cj_model.specs.declared.database.Slot.{Slot}
+use Rattle.std.proofs.lemmas.List.{get_or-set_same, get_or-set_other, length-set, get_or-map}
 use Rattle.cj_model.specs.declared.request.Entry.{Entry}
-use Rattle.cj_model.specs.Cluster.Placements.{Placement, part}
-use Rattle.cj_cluster.specs.History.Histories.{log, ended_count, is_idle, is_enabled, database_of}
+use Rattle.cj_model.specs.Cluster.Placements.{Placement}
+use Rattle.cj_cluster.specs.History.Histories.{log, ended_count, is_idle, is_enabled}
 use Rattle.cj_cluster.specs.Moves.Cores.{Core, position_at}
 use Rattle.cj_cluster.specs.Moves.Moves.{last_number}
-use Rattle.cj_cluster.specs.Proving.Invariants.{BackendStands, CoreInvariant, CoversDrafts, HasBegunDrafts, HoldsPart}
+use Rattle.cj_cluster.specs.Proving.Invariants.{BackendStands, CoreInvariant}
 use Rattle.cj_cluster.proofs.Effects.{stands_there, no_masks}
 use Rattle.cj_replica.specs.Cells.{CellState}
-use Rattle.cj_state.specs.Worlds.{IsCell}
+use Rattle.cj_replica.proofs.HeldParts.{drafts_longer, holds_longer}
+use Rattle.cj_state.specs.Worlds.{WorldState, IsCell, IsWorld}
+use Rattle.cj_cluster.specs.declared.event.Event.{Event}
+use Rattle.cj_cluster.specs.declared.moves.OpenSession.{OpenSession}
+use Rattle.cj_cluster.specs.declared.moves.TakenDump.{TakenDump}
+use Rattle.cj_cluster.specs.Moves.Runs.{AreBetween}
 
--- a cell holds the same of a log that grew
-pub holds_longer : (tells : Bool) (p : Placement) (b : ℕ) (entries : List Entry) (e : Entry) (told : Option (List Slot)) (position : Option ℕ)
-    → ((q : ℕ) → position ≡ Some q → q ≤ length entries) → HoldsPart tells p b entries told position → HoldsPart tells p b (entries ++ e ∷ []) told position
-holds_longer tells p b entries e told None le h = tt
-holds_longer tells p b entries e told (Some q) le h =
-    λ on. let lq : q ≤ length entries = le q refl in h on ∙ ap (λ l. Some (part p b (database_of l))) (sym (take-append-le q entries (e ∷ []) lq))
+-- a cell is the same of a log that grew
+pub cell_longer : (tells : Bool) (p : Placement) (b : ℕ) (entries : List Entry) (e : Entry) (x : CellState) → ((q : ℕ) → x.position ≡ Some q → q ≤ length entries) → IsCell tells p entries b x → IsCell tells p (entries ++ e ∷ []) b x
+cell_longer tells p b entries e x le is =
+    record {
+      number = is.number;
+      placement = is.placement;
+      holds = holds_longer tells p b entries (entries ++ e ∷ []) (e ∷ [], refl) x.told x.position (within x.position le) is.holds;
+      drafts = drafts_longer tells p b entries (entries ++ e ∷ []) (e ∷ [], refl) x.begun x.position (within x.position le) is.drafts;
+    }
+  where
+    within : (o : Option ℕ) → ((q : ℕ) → o ≡ Some q → q ≤ length entries) → IfSome o (λ n. n ≤ length entries)
+    within None le = tt
+    within (Some q) le = le q refl
 
--- and so it does with the transactions of its drafts
-pub drafts_longer : (tells : Bool) (p : Placement) (b : ℕ) (entries : List Entry) (e : Entry) (begun : List ℕ) (position : Option ℕ)
-    → ((q : ℕ) → position ≡ Some q → q ≤ length entries) → HasBegunDrafts tells p b entries begun position → HasBegunDrafts tells p b (entries ++ e ∷ []) begun position
-drafts_longer tells p b entries e begun None le h = tt
-drafts_longer tells p b entries e begun (Some q) le h =
-    λ on. let lq : q ≤ length entries = le q refl in subst (λ (l : List Entry). CoversDrafts begun (part p b (database_of l))) (sym (take-append-le q entries (e ∷ []) lq)) (h on)
+-- a world behind events that are no entries, with which its core is sound
+pub world_behind : {tells : Bool} {w : WorldState} → IsWorld tells w → (h : List Event) (f s : ℕ) (ss : List OpenSession) (g : ℕ) (ds : List TakenDump) → log h ≡ log w.core.history
+    → CoreInvariant (record w.core { history = h; failed = f; starved = s; sessions = ss; greatest = g; dumps = ds }) → AreBetween (record w.core { history = h; failed = f; starved = s; sessions = ss; greatest = g; dumps = ds })
+    → IsWorld tells (record w { core = record w.core { history = h; failed = f; starved = s; sessions = ss; greatest = g; dumps = ds } })
+world_behind {tells} {w} is h f s ss g ds same sound between =
+    record {
+      sound = sound;
+      named = is.named;
+      registered = is.registered;
+      few = is.few;
+      positions = is.positions;
+      begun = is.begun;
+      cells = λ k d lt. subst (λ (entries : List Entry). IsCell tells w.core.placement entries k (get_or w.cells k d)) (sym same) (is.cells k d lt);
+      between = between;
+    }
 
 -- a position is within the log
 pub position_within : (c : Core) → CoreInvariant c → (b p : ℕ) → position_at c b ≡ Some p → p ≤ length (log c.history)

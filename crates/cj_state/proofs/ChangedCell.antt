@@ -1,33 +1,141 @@
--- Counts of faults and of armings, and logins, where the cell of one backend has changed.
-use Rattle.std.proofs.Common.{◌≡◌, ℕ, ◌<◌, Bool, cond, List, length, map, get_or, set, None, Some, ap, sym, ◌∙◌, subst}
-use Rattle.std.proofs.lemmas.List.{length-map, get_or_default}
+-- A world of which one cell has changed: what it keeps, and what callers see of it.
+use Rattle.std.proofs.Common.{◌≡◌, ◌⊎◌, inl, inr, ℕ, ◌<◌, Bool, cond, List, length, map, get_or, set, Option, None, Some, Result, refl, ap, sym, ◌∙◌, subst, ⊎_elim}
+use Rattle.std.proofs.Math.Seq.{map-set_same}
+use Rattle.std.proofs.lemmas.List.{length-map, get_or_default, set-get_or}
 use Rattle.cj_outside.specs.Causes.{next}
-use Rattle.cj_replica.specs.Cells.{CellState}
-use Rattle.cj_replica.specs.Seated.{SeatedCell}
+use Rattle.cj_model.specs.declared.answer.Outcome.{Outcome}
+use Rattle.cj_model.specs.Cluster.Caching.{CacheState}
+use Rattle.cj_cluster.specs.History.Histories.{log}
+use Rattle.cj_cluster.specs.Moves.Cores.{Core, position_at}
+use Rattle.cj_cluster.specs.Proving.Invariants.{CoreInvariant}
+use Rattle.cj_cluster.proofs.Standing.{stand_rest}
+use Rattle.cj_replica.specs.declared.replica.CellError.{CellError}
+use Rattle.cj_replica.specs.Cells.{CellState, HasCellCause}
 use Rattle.cj_state.specs.ArmedCells.{armings_of, armings_after}
-use Rattle.cj_state.specs.CalledLogins.{logins_of}
+use Rattle.cj_state.specs.CalledLogins.{CallsUnder, MayCallUnder, logins_of}
 use Rattle.cj_state.specs.Faults.{faults_of, faults_after}
-use Rattle.cj_state.specs.Seats.{states_of}
-use Rattle.cj_state.proofs.Counted.{armings_set, counts_set, logins_same}
+use Rattle.cj_state.specs.Held.{failed_contents}
+use Rattle.cj_state.specs.Proving.Kept.{Kept}
+use Rattle.cj_state.specs.Seats.{ChangesCell}
+use Rattle.cj_state.specs.Worlds.{WorldState, LogView, IsCell, IsWorld, with_cache, with_log}
+use Rattle.cj_state.proofs.CellsKept.{cells_set, position_of}
+use Rattle.cj_state.proofs.Contents.{contents_fault}
+use Rattle.cj_state.proofs.Counted.{armings_set, counts_set, logins_same, logins_set}
 
--- each backend has a cell
-pub inside : (n b : ℕ) (cells : List SeatedCell) → length (map (λ (x : CellState). x.position) (states_of cells)) ≡ n → b < n → b < length cells
-inside n b cells is lt =
-    subst (λ (m : ℕ). b < m) (sym is ∙ (length-map (states_of cells) (λ (x : CellState). x.position) ∙ length-map cells (λ (x : SeatedCell). x.state))) lt
+-- the world with these cells
+abbrev pub with_cells : WorldState → List CellState → WorldState
+with_cells w cells = record w { core = record w.core { positions = map (λ (x : CellState). x.position) cells; begun = map (λ (x : CellState). x.begun) cells }; cells = cells }
 
--- and so a state
-pub inside_states : (n b : ℕ) (cells : List CellState) → length (map (λ (x : CellState). x.position) cells) ≡ n → b < n → b < length cells
-inside_states n b cells is lt = subst (λ (m : ℕ). b < m) (sym is ∙ length-map cells (λ (x : CellState). x.position)) lt
+module _ {tells : Bool} {w : WorldState} {numbers : List ℕ} {first_outcome : Option Outcome} (kept : Kept tells w numbers first_outcome) {seen_log : LogView} {cache : CacheState} {old : WorldState} (seen : with_cache (with_log w seen_log) cache ≡ old)
+    {b : ℕ} (within : b < old.core.placement.backends) where
+  -- each backend of the placement has a cell
+  pub has_cell : b < length w.cells
+  has_cell =
+      subst (λ (m : ℕ). b < m) (sym kept.world.sound.cells ∙ (ap length kept.world.positions ∙ length-map w.cells (λ (x : CellState). x.position)))
+      (subst (λ (z : WorldState). b < z.core.placement.backends) (sym seen) within)
 
-module _ (cells : List CellState) (b : ℕ) (lt : b < length cells) (x y : CellState) (value : x ≡ get_or cells b x) where
-  was : get_or cells b y ≡ x
-  was = get_or_default cells b y x lt ∙ sym value
+  -- which stands where the core says
+  pub stands_there : (x : CellState) → x ≡ get_or w.cells b x → position_at old.core b ≡ x.position
+  stands_there x there =
+      ap (λ (z : WorldState). position_at z.core b) (sym seen) ∙ (ap (λ (ps : List (Option ℕ)). get_or ps b None) kept.world.positions ∙ (position_of w.cells b x has_cell ∙ ap (λ (z : CellState). z.position) (sym there)))
 
-  pub changed_faults : (failed : Bool) → y.faults ≡ cond failed (next x.faults) x.faults → faults_of (set cells b y) ≡ faults_after (faults_of cells) (cond failed (Some b) None)
-  changed_faults failed counted = counts_set cells b y failed lt (subst (λ (z : CellState). y.faults ≡ cond failed (next z.faults) z.faults) (sym was) counted)
+  -- and is its cell
+  pub cell_there : (x : CellState) → x ≡ get_or w.cells b x → IsCell tells w.core.placement (log w.core.history) b x
+  cell_there x there = subst (IsCell tells w.core.placement (log w.core.history) b) (sym there) (kept.world.cells b x has_cell)
 
-  pub changed_armings : (armed : Bool) → y.arming.times ≡ cond armed (next x.arming.times) x.arming.times → armings_of (set cells b y) ≡ armings_after (armings_of cells) (cond armed (Some b) None)
-  changed_armings armed counted = armings_set cells b y armed lt (subst (λ (z : CellState). y.arming.times ≡ cond armed (next z.arming.times) z.arming.times) (sym was) counted)
+  module _ {How : CellState → CellState → Type 0} {now : List CellState} (ch : ChangesCell w.cells b How now) where
+    -- ---- what is counted
 
-  pub changed_logins : y.login ≡ x.login → logins_of (set cells b y) ≡ logins_of cells
-  changed_logins same = logins_same cells b y lt (same ∙ ap (λ (z : CellState). z.login) (sym was))
+    was : get_or w.cells b ch.after ≡ ch.before
+    was = get_or_default w.cells b ch.after ch.before has_cell ∙ sym ch.value
+
+    pub changed_faults : (failed : Bool) → ch.after.faults ≡ cond failed (next ch.before.faults) ch.before.faults → faults_of now ≡ faults_after (faults_of old.cells) (cond failed (Some b) None)
+    changed_faults failed counted =
+        ap faults_of ch.set
+        ∙ (counts_set w.cells b ch.after failed has_cell (subst (λ (z : CellState). ch.after.faults ≡ cond failed (next z.faults) z.faults) (sym was) counted)
+        ∙ ap (λ (z : WorldState). faults_after (faults_of z.cells) (cond failed (Some b) None)) seen)
+
+    -- a fault where that is the cause of an error
+    pub caused_faults : {T : Type 0} (r : Result T CellError) → HasCellCause ch.before.faults ch.after.faults r → faults_of now ≡ faults_after (faults_of old.cells) (failed_contents b r)
+    caused_faults r cause =
+        let fault = contents_fault b r ch.before.faults ch.after.faults cause in
+        changed_faults fault.0 fault.2 ∙ ap (faults_after (faults_of old.cells)) (sym fault.1)
+
+    pub changed_armings : (armed : Bool) → ch.after.arming.times ≡ cond armed (next ch.before.arming.times) ch.before.arming.times → armings_of now ≡ armings_after (armings_of old.cells) (cond armed (Some b) None)
+    changed_armings armed counted =
+        ap armings_of ch.set
+        ∙ (armings_set w.cells b ch.after armed has_cell (subst (λ (z : CellState). ch.after.arming.times ≡ cond armed (next z.arming.times) z.arming.times) (sym was) counted)
+        ∙ ap (λ (z : WorldState). armings_after (armings_of z.cells) (cond armed (Some b) None)) seen)
+
+    pub changed_logins : ch.after.login ≡ ch.before.login → logins_of now ≡ logins_of old.cells
+    changed_logins same = ap logins_of ch.set ∙ (logins_same w.cells b ch.after (same ∙ ap (λ (z : CellState). z.login) (sym was)) ∙ ap (λ (z : WorldState). logins_of z.cells) seen)
+
+    -- its backend was called under this login
+    pub changed_under : (login : List ℕ) → ch.after.login ≡ Some login → CallsUnder b login (logins_of old.cells) (logins_of now)
+    changed_under login is = ap logins_of ch.set ∙ (logins_set w.cells b ch.after login is ∙ ap (λ (z : WorldState). set (logins_of z.cells) b (Some login)) seen)
+
+    pub may_change_under : (login : List ℕ) → (ch.after.login ≡ Some login) ⊎ (ch.after.login ≡ ch.before.login) → MayCallUnder b login (logins_of old.cells) (logins_of now)
+    may_change_under login called = ⊎_elim (λ is. inr (changed_under login is)) (λ same. inl (changed_logins same)) called
+
+    -- ---- what is kept
+
+    -- the core is sound with it
+    pub world_with_cell : CoreInvariant (with_cells w now).core → IsCell tells w.core.placement (log w.core.history) b ch.after → IsWorld tells (with_cells w now)
+    world_with_cell sound is =
+        record {
+          sound = sound;
+          named = kept.world.named;
+          registered = kept.world.registered;
+          few = kept.world.few;
+          positions = refl;
+          begun = refl;
+          cells =
+              subst (λ (xs : List CellState). (k : ℕ) (x : CellState) → k < length xs → IsCell tells w.core.placement (log w.core.history) k (get_or xs k x)) (sym ch.set)
+              (cells_set tells w.core.placement (log w.core.history) w.cells b ch.after is kept.world.cells);
+          between = stand_rest w.core (map (λ (x : CellState). x.position) now) (map (λ (x : CellState). x.begun) now) w.core.failed w.core.starved kept.world.between;
+        }
+
+    module _ (position : ch.after.position ≡ ch.before.position) (begun : ch.after.begun ≡ ch.before.begun) where
+      -- no position changes
+      same_places : map (λ (z : CellState). z.position) now ≡ w.core.positions
+      same_places = ap (map (λ (z : CellState). z.position)) ch.set ∙ (map-set_same (λ (z : CellState). z.position) w.cells b ch.after ch.before (position ∙ ap (λ (z : CellState). z.position) ch.value) ∙ sym kept.world.positions)
+
+      -- and no transaction begins or ends
+      same_begun : map (λ (z : CellState). z.begun) now ≡ w.core.begun
+      same_begun = ap (map (λ (z : CellState). z.begun)) ch.set ∙ (map-set_same (λ (z : CellState). z.begun) w.cells b ch.after ch.before (begun ∙ ap (λ (z : CellState). z.begun) ch.value) ∙ sym kept.world.begun)
+
+      same_inside : (with_cells w now).core ≡ w.core
+      same_inside =
+          ap (λ (ps : List (Option ℕ)). record w.core { positions = ps; begun = map (λ (z : CellState). z.begun) now }) same_places ∙ ap (λ (ts : List (List ℕ)). record w.core { begun = ts }) same_begun
+
+      -- so nothing changes of the core
+      pub core_stays : (with_cells w now).core ≡ old.core
+      core_stays = same_inside ∙ ap (λ (z : WorldState). z.core) seen
+
+      pub kept_cell : IsCell tells w.core.placement (log w.core.history) b ch.after → Kept tells (with_cells w now) numbers first_outcome
+      kept_cell is =
+          record {
+            world = world_with_cell (subst CoreInvariant (sym same_inside) kept.world.sound) is;
+            numbers_are = kept.numbers_are;
+            served = kept.served;
+            right = kept.right;
+            whole = λ e k running part on end. kept.whole e k running part on (ap (λ (ps : List (Option ℕ)). get_or ps k None) (sym same_places) ∙ end);
+          }
+
+    -- a cell that has not changed either leaves the world as it was
+    pub world_stays : ch.after ≡ ch.before → with_cache (with_log (with_cells w now) seen_log) cache ≡ old
+    world_stays same =
+        let core = same_inside (ap (λ (z : CellState). z.position) same) (ap (λ (z : CellState). z.begun) same) in
+        let cells : now ≡ w.cells = ch.set ∙ (ap (set w.cells b) (same ∙ ch.value) ∙ set-get_or w.cells b ch.before) in
+        ap (λ (c : Core). with_cache (with_log (record w { core = c; cells = now }) seen_log) cache) core ∙ (ap (λ (xs : List CellState). with_cache (with_log (record w { cells = xs }) seen_log) cache) cells ∙ seen)
+
+    -- it changes in what asking and arming change
+    module _ (same : ch.after ≡ record ch.before { login = ch.after.login; faults = ch.after.faults; asks = ch.after.asks; arming = ch.after.arming }) where
+      pub same_core : (with_cells w now).core ≡ old.core
+      same_core = core_stays (ap (λ (z : CellState). z.position) same) (ap (λ (z : CellState). z.begun) same)
+
+      pub kept_asked : Kept tells (with_cells w now) numbers first_outcome
+      kept_asked =
+          let is = cell_there ch.before ch.value in
+          kept_cell (ap (λ (z : CellState). z.position) same) (ap (λ (z : CellState). z.begun) same)
+          (subst (IsCell tells w.core.placement (log w.core.history) b) (sym same) (record { number = is.number; placement = is.placement; holds = is.holds; drafts = is.drafts }))

@@ -1,5 +1,6 @@
 -- What a backend answers that is asked for all that it holds.
 use Rattle.std.proofs.Common.{◌≡◌, ℕ, Bool, true, false, cond, Result, Ok, Err, Some, None, refl, ap, sym, ◌∙◌}
+use Rattle.std.proofs.lemmas.Bool.{false_from_ne_true}
 use Rattle.cj_outside.specs.Causes.{next}
 use Rattle.cj_replica.specs.declared.replica.CellError.{CellError}
 use Rattle.cj_replica.specs.declared.replica.CellError.TheVariants as cell_errors
@@ -13,16 +14,12 @@ contents_fault b (Ok x) before now cause = (false, refl, cause.uncounted (λ is.
 contents_fault b (Err cell_errors.Failed) before now cause = (true, refl, cause.counted refl)
 contents_fault b (Err cell_errors.Starved) before now cause = (false, refl, cause.uncounted (λ is. cc is))
 
-not_armed : (a : Bool) → (a ≡ true → ⊥) → a ≡ false
-not_armed true never = absurd (never refl)
-not_armed false never = refl
-
 -- a cell whose backend did not fail is as before
 pub contents_same : {T : Type 0} (b : ℕ) (r : Result T CellError) (x y : CellState) → failed_contents b r ≡ None → HasCellCause x.faults y.faults r → SpendsArmingIf true (r ≡ Err cell_errors.Failed) x.arming y.arming
     → y ≡ record x { faults = y.faults; arming = y.arming } → y ≡ x
 contents_same {T} b r x y none cause arming same =
     let never : r ≡ Err cell_errors.Failed → ⊥ = λ failed. cc (sym (ap (failed_contents b) failed) ∙ none) in
     let faults : y.faults ≡ x.faults = cause.uncounted never in
-    let unarmed : x.arming.armed ≡ false = not_armed x.arming.armed (λ on. never (arming.fails refl on)) in
+    let unarmed : x.arming.armed ≡ false = false_from_ne_true x.arming.armed (λ on. never (arming.fails refl on)) in
     let armed : y.arming ≡ x.arming = arming.after ∙ ap (λ (a : Bool). record x.arming { armed = a }) (sym unarmed) in
     same ∙ (rw (faults, armed) refl)

@@ -1,6 +1,7 @@
 -- Counts of faults and of armings, and logins, where one cell changes.
 use Rattle.std.proofs.Common.{◌≡◌, ◌⊎◌, inl, inr, ℕ, ◌<◌, Bool, true, false, cond, List, length, get_or, set, None, Some, ap, sym, ◌∙◌, refl, ⊎_elim}
-use Rattle.std.proofs.lemmas.List.{map-set, get_or-map, set-get_or}
+use Rattle.std.proofs.Math.Seq.{map-set_same}
+use Rattle.std.proofs.lemmas.List.{map-set, get_or-map}
 use Rattle.cj_outside.specs.Causes.{next}
 use Rattle.cj_backend.specs.Backends.{Arming, arming_after, spent}
 use Rattle.cj_replica.specs.Cells.{CellState}
@@ -14,9 +15,7 @@ pub counts_set : (cells : List CellState) (b : ℕ) (y : CellState) (failed : Bo
 counts_set cells b y true lt counted =
     let was : get_or (faults_of cells) b 0 ≡ (get_or cells b y).faults = get_or-map (λ (x : CellState). x.faults) cells b y 0 lt in
     map-set (λ (x : CellState). x.faults) cells b y ∙ ap (set (faults_of cells) b) (counted ∙ ap next (sym was))
-counts_set cells b y false lt same =
-    let was : get_or (faults_of cells) b 0 ≡ (get_or cells b y).faults = get_or-map (λ (x : CellState). x.faults) cells b y 0 lt in
-    map-set (λ (x : CellState). x.faults) cells b y ∙ (ap (set (faults_of cells) b) (same ∙ sym was) ∙ set-get_or (faults_of cells) b 0)
+counts_set cells b y false lt same = map-set_same (λ (x : CellState). x.faults) cells b y y same
 
 -- the backend of cell b was armed or was not, and this cell alone has changed
 pub armings_set : (cells : List CellState) (b : ℕ) (y : CellState) (armed : Bool) → b < length cells → y.arming.times ≡ cond armed (next (get_or cells b y).arming.times) (get_or cells b y).arming.times
@@ -24,9 +23,7 @@ pub armings_set : (cells : List CellState) (b : ℕ) (y : CellState) (armed : Bo
 armings_set cells b y true lt counted =
     let was : get_or (armings_of cells) b 0 ≡ (get_or cells b y).arming.times = get_or-map (λ (x : CellState). x.arming.times) cells b y 0 lt in
     map-set (λ (x : CellState). x.arming.times) cells b y ∙ ap (set (armings_of cells) b) (counted ∙ ap next (sym was))
-armings_set cells b y false lt same =
-    let was : get_or (armings_of cells) b 0 ≡ (get_or cells b y).arming.times = get_or-map (λ (x : CellState). x.arming.times) cells b y 0 lt in
-    map-set (λ (x : CellState). x.arming.times) cells b y ∙ (ap (set (armings_of cells) b) (same ∙ sym was) ∙ set-get_or (armings_of cells) b 0)
+armings_set cells b y false lt same = map-set_same (λ (x : CellState). x.arming.times) cells b y y same
 
 -- arming counts once, of those that can be armed
 pub armed_times : (can : Bool) (a : Arming) → (arming_after can a).times ≡ cond can (next a.times) a.times
@@ -45,12 +42,9 @@ pub logins_set : (cells : List CellState) (b : ℕ) (y : CellState) (login : Lis
 logins_set cells b y login is = map-set (λ (x : CellState). x.login) cells b y ∙ ap (set (logins_of cells) b) is
 
 -- its last call is the one before
-pub logins_same : (cells : List CellState) (b : ℕ) (y : CellState) → b < length cells → y.login ≡ (get_or cells b y).login → logins_of (set cells b y) ≡ logins_of cells
-logins_same cells b y lt same =
-    let was : get_or (logins_of cells) b None ≡ (get_or cells b y).login = get_or-map (λ (x : CellState). x.login) cells b y None lt in
-    map-set (λ (x : CellState). x.login) cells b y ∙ (ap (set (logins_of cells) b) (same ∙ sym was) ∙ set-get_or (logins_of cells) b None)
+pub logins_same : (cells : List CellState) (b : ℕ) (y : CellState) → y.login ≡ (get_or cells b y).login → logins_of (set cells b y) ≡ logins_of cells
+logins_same cells b y same = map-set_same (λ (x : CellState). x.login) cells b y y same
 
 -- one or the other
-pub logins_may : (cells : List CellState) (b : ℕ) (y : CellState) (login : List ℕ) → b < length cells → (y.login ≡ Some login) ⊎ (y.login ≡ (get_or cells b y).login)
-    → MayCallUnder b login (logins_of cells) (logins_of (set cells b y))
-logins_may cells b y login lt called = ⊎_elim (λ is. inr (logins_set cells b y login is)) (λ same. inl (logins_same cells b y lt same)) called
+pub logins_may : (cells : List CellState) (b : ℕ) (y : CellState) (login : List ℕ) → (y.login ≡ Some login) ⊎ (y.login ≡ (get_or cells b y).login) → MayCallUnder b login (logins_of cells) (logins_of (set cells b y))
+logins_may cells b y login called = ⊎_elim (λ is. inr (logins_set cells b y login is)) (λ same. inl (logins_same cells b y same)) called

@@ -2,6 +2,7 @@
 use Rattle.std.proofs.Common.{◌≡◌, ℕ, ◌<◌, ◌≤◌, cond, filter, slice_get, Bool, true, false, List, [], ◌∷◌, ◌++◌, length, map, All, IfSome, Option, None, Some, option_map, refl, ap, sym, ◌∙◌, subst, arith, length-append}
 use Rattle.std.specs.Str.{bytes_eq}
 use Rattle.std.proofs.lemmas.List.{take-append-le, map_push}
+use Rattle.std.proofs.lemmas.Option.{same_Some}
 use Rattle.std.proofs.lemmas.List.Elements.{All-head, All-push, All-tail, All-weaker}
 use Rattle.cj_model.specs.declared.answer.Outcome.{Outcome}
 use Rattle.cj_model.specs.declared.request.Entry.{Entry}
@@ -29,6 +30,7 @@ use Rattle.cj_shelf.specs.Shelves.{first_of}
 use Rattle.cj_state.specs.Worlds.{core_of, world_of, IsDumpOf, AreDumpsOf}
 use Rattle.cj_state.specs.Held.{IsHeld}
 use Rattle.cj_state.specs.Proving.Kept.{Kept}
+use Rattle.cj_state.proofs.CellsKept.{world_behind}
 
 -- a dump is the same of a log that grew
 dump_longer : (tells : Bool) (p : Placement) (entries : List Entry) (e : Entry) (d : Dump) → IsDumpOf tells p entries d → IsDumpOf tells p (entries ++ e ∷ []) d
@@ -50,9 +52,6 @@ module _ (tells : Bool) (p : Placement) (h : List Event) (dumps : List Dump) (ar
 
 -- ---- one more
 
-same_some : {A : Type 0} (x y : A) → Some x ≡ Some y → x ≡ y
-same_some x y is = cc is
-
 module _ (tells : Bool) (reg : Register) (l : Layout) (h : List Event) (cells : List CellState) (f s : ℕ) (ss : List OpenSession) (g : ℕ) (ds : List Dump) (numbers : List ℕ) (first_outcome : Option Outcome) (kept : Kept tells (world_of reg l h cells f s ss g ds) numbers first_outcome)
     (d : Dump) (at : position_at (core_of l h cells f s ss g ds) d.source ≡ Some d.position) where
   pub core_dumped : core_of l h cells f s ss g (ds ++ d ∷ []) ≡ dumped_as (core_of l h cells f s ss g ds) d.source d.name d.position
@@ -65,16 +64,8 @@ module _ (tells : Bool) (reg : Register) (l : Layout) (h : List Event) (cells : 
   kept_dumped =
       record {
         world =
-            record {
-              sound = subst CoreInvariant (sym core_dumped) (sound_dumped (core_of l h cells f s ss g ds) d.source d.name d.position kept.world.sound at);
-              named = kept.world.named;
-              registered = kept.world.registered;
-              few = kept.world.few;
-              positions = refl;
-              begun = refl;
-              cells = kept.world.cells;
-              between = between;
-            };
+            world_behind kept.world h f s ss g (map taken_of (ds ++ d ∷ [])) refl
+            (subst CoreInvariant (sym core_dumped) (sound_dumped (core_of l h cells f s ss g ds) d.source d.name d.position kept.world.sound at)) between;
         numbers_are = kept.numbers_are;
         served = kept.served;
         right = kept.right;
@@ -86,7 +77,7 @@ module _ (tells : Bool) (reg : Register) (l : Layout) (h : List Event) (cells : 
   dumps_push held are =
       let holds : tells ≡ true → Some d.db ≡ Some (part (placement_of l) d.source (database_after (log h) d.position)) = subst (HoldsPart tells (placement_of l) d.source (log h) (Some d.db)) at held in
       All-push (IsDumpOf tells (placement_of l) (log h)) ds d are
-      (record { within = (stands_there (core_of l h cells f s ss g ds) d.source d.position kept.world.sound at).0; holds = λ on. same_some d.db _ (holds on) })
+      (record { within = (stands_there (core_of l h cells f s ss g ds) d.source d.position kept.world.sound at).0; holds = λ on. same_Some d.db _ (holds on) })
 
 -- ---- looking one up
 
@@ -106,7 +97,7 @@ first_all P name [] all d is = absurd (cc is)
 first_all P name (x ∷ ds) all d is = one (bytes_eq x.name name) (first_all P name ds (All-tail P x ds all) d) is
   where
     one : (b : Bool) → (first_of name ds ≡ Some d → P d) → slice_get (cond b (x ∷ filter (λ (y : Dump). bytes_eq y.name name) ds) (filter (λ (y : Dump). bytes_eq y.name name) ds)) 0 ≡ Some d → P d
-    one true later there = subst P (same_some x d there) (All-head P x ds all)
+    one true later there = subst P (same_Some x d there) (All-head P x ds all)
     one false later there = later there
 
 -- what holds of each dump at hand holds of that of a name

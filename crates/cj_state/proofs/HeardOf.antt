@@ -26,9 +26,6 @@ use Rattle.cj_state.proofs.CellsKept.{position_of}
 
 -- ---- what a book has heard
 
-pub heard_self : {S : Type 0} (b : SeatedBook S) → HasHeard b b
-heard_self b = record { state = refl; given = refl; tokens = λ k. (let n = fault_tokens_of k b.view.fault_tokens in omega arith); notes = λ x there. there }
-
 pub heard_then : {S : Type 0} (a b c : SeatedBook S) → HasHeard a b → HasHeard b c → HasHeard a c
 heard_then a b c p q =
     record {

@@ -15,7 +15,7 @@ use Rattle.cj_cluster.specs.History.Legality.{IsFitEntry}
 use Rattle.cj_cluster.specs.History.Answering.{HasServer}
 use Rattle.cj_cluster.specs.Moves.Cores.{session_at, new_session, with_session, is_entry_of}
 use Rattle.cj_cluster.specs.Moves.Moves.{first_lagging, is_open, is_orphan, has_no_number, abort_entry, with_one_request, answered_at, was_answered, still_reading}
-use Rattle.cj_cluster.specs.Proving.Invariants.{CoreInvariant, HasBegunDrafts, HoldsPart}
+use Rattle.cj_cluster.specs.Proving.Invariants.{CoreInvariant}
 use Rattle.cj_cluster.specs.Moves.Runs.{AreBetween}
 use Rattle.cj_cluster.proofs.Pushed.{enabled-push, log-sched, log-same, log_faults-same, opened-sched, opened-ended}
 use Rattle.cj_cluster.proofs.Sessions.{found_open, without}
@@ -27,10 +27,11 @@ use Rattle.cj_auth.specs.Admission.{Register}
 use Rattle.cj_dump.specs.declared.dump.Dump.{Dump}
 use Rattle.cj_place.specs.Layouts.{Layout, placement_of}
 use Rattle.cj_replica.specs.Cells.{CellState}
+use Rattle.cj_shelf.specs.MemoryShelves.{taken_of}
 use Rattle.cj_state.specs.Worlds.{core_of, world_of, IsCell}
 use Rattle.cj_state.specs.Effects.{HaveFailed}
 use Rattle.cj_state.specs.Proving.Kept.{Kept}
-use Rattle.cj_state.proofs.CellsKept.{drafts_longer, holds_longer, position_within, position_of}
+use Rattle.cj_state.proofs.CellsKept.{cell_longer, position_within, position_of, world_behind}
 use Rattle.cj_state.proofs.OpenNumbers.{numbers_opened, numbers_without, numbers_with}
 
 -- ---- changes
@@ -43,7 +44,7 @@ module _ (tells : Bool) (reg : Register) (l : Layout) (h : List Event) (cells : 
       let w = kept.world in
       let sound = sound_sessions (core_of l h cells f s ss g ds) ss' g' w.sound are in
       record {
-        world = record { sound = sound; named = w.named; registered = w.registered; few = w.few; positions = refl; begun = refl; cells = w.cells; between = stand sound };
+        world = world_behind w h f s ss' g' (map taken_of ds) refl sound (stand sound);
         numbers_are = numbers_are;
         served = kept.served;
         right = kept.right;
@@ -117,20 +118,8 @@ module _ (tells : Bool) (reg : Register) (l : Layout) (h : List Event) (cells : 
               begun = refl;
               cells =
                   λ k d lt.
-                  let x : CellState = get_or cells k d in
-                  let is : IsCell tells (placement_of l) (log h) k x = w.cells k d lt in
-                  record {
-                    number = is.number;
-                    placement = is.placement;
-                    holds =
-                        subst (λ (entries : List Entry). HoldsPart tells (placement_of l) k entries x.told x.position) (sym longer)
-                        (holds_longer tells (placement_of l) k (log h) e x.told x.position
-                        (λ q there. position_within (core_of l h cells f s ss g ds) w.sound k q (position_of cells k d lt ∙ there)) is.holds);
-                    drafts =
-                        subst (λ (entries : List Entry). HasBegunDrafts tells (placement_of l) k entries x.begun x.position) (sym longer)
-                        (drafts_longer tells (placement_of l) k (log h) e x.begun x.position
-                        (λ q there. position_within (core_of l h cells f s ss g ds) w.sound k q (position_of cells k d lt ∙ there)) is.drafts);
-                  };
+                  subst (λ (entries : List Entry). IsCell tells (placement_of l) entries k (get_or cells k d)) (sym longer)
+                  (cell_longer tells (placement_of l) k (log h) e (get_or cells k d) (λ q there. position_within (core_of l h cells f s ss g ds) w.sound k q (position_of cells k d lt ∙ there)) (w.cells k d lt));
               between = stand;
             };
         numbers_are = numbers_are;
@@ -179,17 +168,7 @@ module _ (tells : Bool) (reg : Register) (l : Layout) (h : List Event) (cells : 
       let same : log (h ++ Ended f s ∷ []) ≡ log h = log-same h (Ended f s) refl in
       let closed : entry_in_progress (h ++ Ended f s ∷ []) ≡ None = opened-ended h f s fr w.sound.one_open.0 w.sound.one_open.1 in
       record {
-        world =
-            record {
-              sound = sound;
-              named = w.named;
-              registered = w.registered;
-              few = w.few;
-              positions = refl;
-              begun = refl;
-              cells = λ k d lt. subst (λ (entries : List Entry). IsCell tells (placement_of l) entries k (get_or cells k d)) (sym same) (w.cells k d lt);
-              between = stand sound;
-            };
+        world = world_behind w (h ++ Ended f s ∷ []) 0 0 ss' g (map taken_of ds) same sound (stand sound);
         numbers_are = numbers_are;
         served = λ d on. absurd (cc (closed, on));
         right = λ o is. absurd (cc is);

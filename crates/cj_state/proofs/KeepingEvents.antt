@@ -1,5 +1,5 @@
 -- What a world keeps where an event comes that schedules nothing and ends nothing.
-use Rattle.std.proofs.Common.{◌≡◌, ℕ, ◌<◌, ◌≤◌, Bool, true, false, List, [], ◌∷◌, ◌++◌, length, map, get_or, Option, None, Some, refl, ap, sym, ◌∙◌, subst}
+use Rattle.std.proofs.Common.{◌≡◌, ℕ, ◌<◌, ◌≤◌, Bool, true, false, List, [], ◌∷◌, ◌++◌, length, map, Option, None, Some, refl, ap, sym, ◌∙◌}
 use Rattle.std.proofs.lemmas.Bool.{both_ways}
 use Rattle.cj_model.specs.declared.request.Entry.{Entry}
 use Rattle.cj_model.specs.declared.answer.Outcome.{Outcome}
@@ -15,10 +15,12 @@ use Rattle.cj_cluster.proofs.Effects.{sessions_are, are_kept, sound_read_failed,
 use Rattle.cj_cluster.proofs.Standing.{stand_event, stand_log_failed}
 use Rattle.cj_auth.specs.Admission.{Register}
 use Rattle.cj_dump.specs.declared.dump.Dump.{Dump}
-use Rattle.cj_place.specs.Layouts.{Layout, placement_of}
+use Rattle.cj_place.specs.Layouts.{Layout}
 use Rattle.cj_replica.specs.Cells.{CellState}
-use Rattle.cj_state.specs.Worlds.{core_of, world_of, IsCell}
+use Rattle.cj_state.specs.Worlds.{core_of, world_of}
+use Rattle.cj_shelf.specs.MemoryShelves.{taken_of}
 use Rattle.cj_state.specs.Proving.Kept.{Kept}
+use Rattle.cj_state.proofs.CellsKept.{world_behind}
 
 module _ (tells : Bool) (reg : Register) (l : Layout) (h : List Event) (cells : List CellState) (f s : ℕ) (ss : List OpenSession) (g : ℕ) (ds : List Dump) (numbers : List ℕ) (first_outcome : Option Outcome) (kept : Kept tells (world_of reg l h cells f s ss g ds) numbers first_outcome) where
   -- an event comes that leaves the log and the ends, where the state stays sound
@@ -31,17 +33,7 @@ module _ (tells : Bool) (reg : Register) (l : Layout) (h : List Event) (cells : 
       let was : ended_count (h ++ e ∷ []) ≡ ended_count h = done-same h e stays in
       let still : entry_in_progress (h ++ e ∷ []) ≡ entry_in_progress h = opened-same h e is stays in
       record {
-        world =
-            record {
-              sound = sound;
-              named = w.named;
-              registered = w.registered;
-              few = w.few;
-              positions = refl;
-              begun = refl;
-              cells = λ k d lt. subst (λ (entries : List Entry). IsCell tells (placement_of l) entries k (get_or cells k d)) (sym same) (w.cells k d lt);
-              between = stand;
-            };
+        world = world_behind w (h ++ e ∷ []) f s ss g (map taken_of ds) same sound stand;
         numbers_are = kept.numbers_are;
         served = λ d on needs. (let o = kept.served d (sym still ∙ on) needs in (o.0, (keeps d (sym still ∙ on) o.0 ∙ o.1.0, o.1.1)));
         right = λ o there. (let q = kept.right o there in (q.0, λ on. ap (λ entries. outcome_of entries (ended_count (h ++ e ∷ []))) same ∙ (ap (outcome_of (log h)) was ∙ q.1 on)));

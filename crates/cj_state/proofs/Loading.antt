@@ -5,32 +5,28 @@ use Rattle.std.proofs.lemmas.Bool.{cases_eq, both_ways}
 use Rattle.std.proofs.lemmas.List.{map-set, get_or-set_other, length-map}
 use Rattle.cj_model.specs.declared.database.Slot.{Slot}
 use Rattle.cj_model.specs.declared.answer.Outcome.{Outcome}
+use Rattle.cj_model.specs.Cluster.Caching.{CacheState}
 use Rattle.cj_model.specs.Cluster.Placements.{part}
-use Rattle.cj_cluster.specs.declared.event.Event.{Event}
-use Rattle.cj_cluster.specs.declared.moves.OpenSession.{OpenSession}
+use Rattle.cj_cluster.specs.declared.moves.Move.TheVariants.{Load}
 use Rattle.cj_cluster.specs.History.Histories.{log, is_idle, is_enabled, database_after}
-use Rattle.cj_cluster.specs.Moves.Moves.{Stance, with_stance}
-use Rattle.cj_cluster.specs.Proving.Invariants.{CoreInvariant}
+use Rattle.cj_cluster.specs.Moves.Cores.{find_dump, position_at}
+use Rattle.cj_cluster.specs.Moves.Moves.{Stance, not_now, with_stance}
+use Rattle.cj_cluster.specs.Proving.Invariants.{CoreInvariant, HasBegunDrafts, HoldsPart, IsSoundDump}
 use Rattle.cj_cluster.proofs.Effects.{sound_loaded}
-use Rattle.cj_cluster.proofs.Standing.{stand_rest}
-use Rattle.cj_auth.specs.Admission.{Register}
-use Rattle.cj_dump.specs.declared.dump.Dump.{Dump}
-use Rattle.cj_place.specs.Layouts.{Layout, placement_of}
+use Rattle.cj_cluster.proofs.Now.{can_load}
 use Rattle.cj_backend.specs.Backends.{Arming, spent}
+use Rattle.cj_dump.specs.declared.dump.Dump.{Dump}
 use Rattle.cj_replica.specs.declared.replica.CellError.{CellError}
 use Rattle.cj_replica.specs.declared.replica.CellError.TheVariants as errors
 use Rattle.cj_replica.specs.Cells.{CellState, Loads, SpendsArmingAtLoad}
 use Rattle.cj_replica.proofs.HeldParts.{drafts_loaded, holds_loaded}
+use Rattle.cj_shelf.specs.MemoryShelves.{taken_of}
 use Rattle.cj_state.specs.Held.{failed_contents}
-use Rattle.cj_state.specs.Worlds.{core_of, world_of, IsCell}
+use Rattle.cj_state.specs.Worlds.{WorldState, LogView, IsCell, with_cache, with_log}
 use Rattle.cj_state.specs.Proving.Kept.{Kept}
-use Rattle.cj_state.specs.ArmedCells.{armings_of}
-use Rattle.cj_state.specs.CalledLogins.{logins_of}
-use Rattle.cj_state.specs.Faults.{faults_of, faults_after}
 use Rattle.cj_state.specs.Seats.{ChangesCell}
-use Rattle.cj_state.proofs.CellsKept.{cells_set}
-use Rattle.cj_state.proofs.ChangedCell.{changed_armings, changed_faults, changed_logins}
-use Rattle.cj_state.proofs.Contents.{contents_fault}
+use Rattle.cj_state.proofs.ChangedCell.{cell_there, core_stays, has_cell, kept_cell, stands_there, with_cells, world_with_cell}
+use Rattle.cj_state.proofs.Dumped.{taken_all}
 
 -- what holds behind an error
 pub on_error : {T E : Type 0} (r : Result T E) (P : Type 0) → P → OnErr r P
@@ -54,68 +50,91 @@ armings_loaded before now (Err errors.Failed) spends = ap (λ (a : Arming). a.ti
 armings_loaded before now (Err errors.Starved) spends =
     ⊎_elim (λ (same : now ≡ before). ap (λ (a : Arming). a.times) same) (λ (asked : (before.armed ≡ false) × (now ≡ spent before)). ap (λ (a : Arming). a.times) asked.1) spends
 
-module _ (tells : Bool) (reg : Register) (l : Layout) (h : List Event) (cells : List CellState) (f s : ℕ) (ss : List OpenSession) (g : ℕ) (ds : List Dump) (numbers : List ℕ) (first_outcome : Option Outcome) (kept : Kept tells (world_of reg l h cells f s ss g ds) numbers first_outcome)
-    (b : ℕ) (lt : b < length cells) (x y : CellState) (there : x ≡ get_or cells b x) (number : y.b ≡ x.b) (placement : y.placement ≡ x.placement) (n : ℕ) (place : y.position ≡ Some n) where
-  -- how it stands then
-  abbrev stance : Stance
-  stance = record { position = Some n; begun = y.begun }
+-- what is known of a load of backend b with this database, which is what the first dump of a name has of its tables
+pub record CanLoadFrom (tells : Bool) (w : WorldState) (b : ℕ) (db : List Slot) (n : ℕ) : Type 0 where
+  pub out : position_at w.core b ≡ None
+  pub free : is_idle w.core.history ≡ true
+  pub off : is_enabled w.core.history b ≡ false
+  pub logged : n ≤ length (log w.core.history)
+  pub right : tells ≡ true → db ≡ part w.core.placement b (database_after (log w.core.history) n)
 
-  pub core_loaded : core_of l h (set cells b y) f s ss g ds ≡ with_stance (core_of l h cells f s ss g ds) b stance
-  core_loaded =
-      ap (λ (ps : List (Option ℕ)). record (core_of l h cells f s ss g ds) { positions = ps; begun = map (λ (z : CellState). z.begun) (set cells b y) })
-      (map-set (λ (z : CellState). z.position) cells b y ∙ ap (set (map (λ (z : CellState). z.position) cells) b) place)
-      ∙ ap (λ (ts : List (List ℕ)). record (core_of l h cells f s ss g ds) { positions = set (map (λ (z : CellState). z.position) cells) b (Some n); begun = ts })
-      (map-set (λ (z : CellState). z.begun) cells b y)
+module _ {tells : Bool} {w : WorldState} {numbers : List ℕ} {first_outcome : Option Outcome} (kept : Kept tells w numbers first_outcome) {seen_log : LogView} {cache : CacheState} {old : WorldState} (seen : with_cache (with_log w seen_log) cache ≡ old)
+    {b : ℕ} where
+  pub loads_from : (name : List ℕ) (d : Dump) → not_now old.core (Load b name) ≡ None → find_dump old.core.dumps name ≡ Some (taken_of d) → (tells ≡ true → d.db ≡ part old.core.placement b (database_after (log old.core.history) d.position))
+      → CanLoadFrom tells w b d.db d.position
+  loads_from name d now found held =
+      let can = can_load w.core b name (subst (λ (z : WorldState). not_now z.core (Load b name) ≡ None) (sym seen) now) in
+      let there = subst (λ (z : WorldState). find_dump z.core.dumps name ≡ Some (taken_of d)) (sym seen) found in
+      record {
+        out = can.out;
+        free = can.is_free;
+        off = can.off;
+        logged = (taken_all (IsSoundDump w.core.placement.backends w.core.history) w.core.dumps name (taken_of d) kept.world.sound.dumps there).position;
+        right = subst (λ (z : WorldState). tells ≡ true → d.db ≡ part z.core.placement b (database_after (log z.core.history) d.position)) (sym seen) held;
+      }
 
-  module _ (db : List Slot) (right : tells ≡ true → db ≡ part (placement_of l) b (database_after (log h) n)) (r : Result Unit CellError) (loads : Loads tells x db n r y) where
-    is_cell : IsCell tells (placement_of l) (log h) b y
-    is_cell =
-        let was : IsCell tells (placement_of l) (log h) b x = subst (IsCell tells (placement_of l) (log h) b) (sym there) (kept.world.cells b x lt) in
+  module _ (within : b < old.core.placement.backends) {db : List Slot} {n : ℕ} (can : CanLoadFrom tells w b db n) {r : Result Unit CellError} {now : List CellState} (ch : ChangesCell w.cells b (λ x y. Loads tells x db n r y) now) where
+    -- it was out
+    was_out : ch.before.position ≡ None
+    was_out = sym (stands_there kept seen within ch.before ch.value) ∙ (ap (λ (z : WorldState). position_at z.core b) (sym seen) ∙ can.out)
+
+    -- and is so where it was not loaded, so that nothing changes of the core
+    pub core_refused : ch.after.position ≡ None → ch.after.begun ≡ ch.before.begun → (with_cells w now).core ≡ old.core
+    core_refused out begun = core_stays kept seen within ch (out ∙ sym was_out) begun
+
+    pub kept_refused : ch.after.position ≡ None → ch.after.begun ≡ ch.before.begun → Kept tells (with_cells w now) numbers first_outcome
+    kept_refused out begun =
+        let was = cell_there kept seen within ch.before ch.value in
+        kept_cell kept seen within ch (out ∙ sym was_out) begun
         record {
-          number = number ∙ was.number;
-          placement = placement ∙ was.placement;
-          holds = holds_loaded tells (placement_of l) b (log h) db n right x y r loads;
-          drafts = drafts_loaded tells (placement_of l) b (log h) db n right x y r loads;
+          number = ch.how.b ∙ was.number;
+          placement = ch.how.placement ∙ was.placement;
+          holds = subst (HoldsPart tells w.core.placement b (log w.core.history) ch.after.told) (sym out) tt;
+          drafts = subst (HasBegunDrafts tells w.core.placement b (log w.core.history) ch.after.begun) (sym out) tt;
         }
 
-    -- it is not enabled, so that nothing else hangs on where it stands
-    pub kept_loaded : is_idle h ≡ true → is_enabled h b ≡ false → n ≤ length (log h) → Kept tells (world_of reg l h (set cells b y) f s ss g ds) numbers first_outcome
-    kept_loaded fr off within =
-        let places : List (Option ℕ) = map (λ (z : CellState). z.position) (set cells b y) in
-        let other : (k : ℕ) → (k ≡ b → ⊥) → get_or places k None ≡ get_or (map (λ (z : CellState). z.position) cells) k None =
-        λ k ne. ap (λ ps. get_or ps k None) (map-set (λ (z : CellState). z.position) cells b y) ∙ get_or-set_other (map (λ (z : CellState). z.position) cells) b k y.position None ne
-        in
-        let here : b < length (map (λ (z : CellState). z.position) cells) = rw length-map lt in
-        record {
-          world =
-              record {
-                sound = subst CoreInvariant (sym core_loaded) (sound_loaded (core_of l h cells f s ss g ds) b n y.begun kept.world.sound here fr off within);
-                named = kept.world.named;
-                registered = kept.world.registered;
-                few = kept.world.few;
-                positions = refl;
-                begun = refl;
-                cells = cells_set tells (placement_of l) (log h) cells b y is_cell kept.world.cells;
-                between = stand_rest (core_of l h cells f s ss g ds) places (map (λ (z : CellState). z.begun) (set cells b y)) f s kept.world.between;
-              };
-          numbers_are = kept.numbers_are;
-          served = kept.served;
-          right = kept.right;
-          whole =
-              λ e k running part on end.
-              ⊎_elim (λ (same : k ≡ b). absurd (both_ways (is_enabled h b) off (subst (λ (m : ℕ). is_enabled h m ≡ true) same on)))
-              (λ (ne : k ≡ b → ⊥). kept.whole e k running part on (sym (other k ne) ∙ end)) (cases_eq k b);
-        }
+    -- how it stands where it was
+    abbrev stance : Stance
+    stance = record { position = Some n; begun = ch.after.begun }
 
--- the counts of faults and of armings, and the logins, where the cell of one backend was loaded
-module _ (tells : Bool) (cells : List CellState) (b : ℕ) (lt : b < length cells) (db : List Slot) (n : ℕ) (r : Result Unit CellError) (now : List CellState) (ch : ChangesCell cells b (λ x y. Loads tells x db n r y) now) where
-  pub loaded_faults : faults_of now ≡ faults_after (faults_of cells) (failed_contents b r)
-  loaded_faults =
-      let fault = contents_fault b r ch.before.faults ch.after.faults ch.how.cause in
-      ap faults_of ch.set ∙ (changed_faults cells b lt ch.before ch.after ch.value fault.0 fault.2 ∙ ap (λ (failed : Option ℕ). faults_after (faults_of cells) failed) (sym fault.1))
+    module _ (place : ch.after.position ≡ Some n) where
+      places : map (λ (z : CellState). z.position) now ≡ set w.core.positions b (Some n)
+      places =
+          ap (map (λ (z : CellState). z.position)) ch.set ∙ (map-set (λ (z : CellState). z.position) w.cells b ch.after ∙ (ap (λ (ps : List (Option ℕ)). set ps b ch.after.position) (sym kept.world.positions) ∙ ap (set w.core.positions b) place))
 
-  pub loaded_armings : armings_of now ≡ armings_of cells
-  loaded_armings = ap armings_of ch.set ∙ changed_armings cells b lt ch.before ch.after ch.value false (armings_loaded ch.before.arming ch.after.arming r ch.how.arming)
+      begins : map (λ (z : CellState). z.begun) now ≡ set w.core.begun b ch.after.begun
+      begins = ap (map (λ (z : CellState). z.begun)) ch.set ∙ (map-set (λ (z : CellState). z.begun) w.cells b ch.after ∙ ap (λ (ts : List (List ℕ)). set ts b ch.after.begun) (sym kept.world.begun))
 
-  pub loaded_logins : logins_of now ≡ logins_of cells
-  loaded_logins = ap logins_of ch.set ∙ changed_logins cells b lt ch.before ch.after ch.value ch.how.login
+      loaded_inside : (with_cells w now).core ≡ with_stance w.core b stance
+      loaded_inside =
+          ap (λ (ps : List (Option ℕ)). record w.core { positions = ps; begun = map (λ (z : CellState). z.begun) now }) places
+          ∙ ap (λ (ts : List (List ℕ)). record w.core { positions = set w.core.positions b (Some n); begun = ts }) begins
+
+      pub core_loaded : (with_cells w now).core ≡ with_stance old.core b stance
+      core_loaded = loaded_inside ∙ ap (λ (z : WorldState). with_stance z.core b stance) seen
+
+      is_cell : IsCell tells w.core.placement (log w.core.history) b ch.after
+      is_cell =
+          let was = cell_there kept seen within ch.before ch.value in
+          record {
+            number = ch.how.b ∙ was.number;
+            placement = ch.how.placement ∙ was.placement;
+            holds = holds_loaded tells w.core.placement b (log w.core.history) db n can.right ch.before ch.after r ch.how;
+            drafts = drafts_loaded tells w.core.placement b (log w.core.history) db n can.right ch.before ch.after r ch.how;
+          }
+
+      -- it is not enabled, so that nothing else hangs on where it stands
+      pub kept_loaded : Kept tells (with_cells w now) numbers first_outcome
+      kept_loaded =
+          let lt : b < length w.core.positions = subst (λ (ps : List (Option ℕ)). b < length ps) (sym kept.world.positions) (rw length-map (has_cell kept seen within)) in
+          let sound = sound_loaded w.core b n ch.after.begun kept.world.sound lt can.free can.off can.logged in
+          record {
+            world = world_with_cell kept seen within ch (subst CoreInvariant (sym loaded_inside) sound) is_cell;
+            numbers_are = kept.numbers_are;
+            served = kept.served;
+            right = kept.right;
+            whole =
+                λ e k running part on end.
+                ⊎_elim (λ (same : k ≡ b). absurd (both_ways (is_enabled w.core.history b) can.off (subst (λ (m : ℕ). is_enabled w.core.history m ≡ true) same on)))
+                (λ (ne : k ≡ b → ⊥). kept.whole e k running part on (sym (ap (λ (ps : List (Option ℕ)). get_or ps k None) places ∙ get_or-set_other w.core.positions b k (Some n) None ne) ∙ end)) (cases_eq k b);
+          }

@@ -1,18 +1,28 @@
 -- What the book's answers say of the core.
-use Rattle.std.proofs.Common.{◌≡◌, ℕ, ◌+◌, ◌<◌, ◌++◌, ◌∷◌, [], List, length, None, Result, Ok, Err, OnOk, OnErr, ⊎_elim, ap, sym, ◌∙◌, subst, refl, arith, length-append}
+use Rattle.std.proofs.Common.{◌≡◌, ℕ, ◌+◌, ◌<◌, ◌++◌, ◌∷◌, [], List, length, None, Result, Ok, Err, OnOk, OnErr, ⊎_elim, ap, sym, ◌∙◌, subst, refl, arith, length-append, Bool, inl, Option, ◌≤◌}
 use Rattle.std.specs.Prelude.{IfOk, IfErr, ◌↔◌, ◌⊎◌}
 use Rattle.cj_model.specs.declared.request.Entry.{Entry}
 use Rattle.cj_cluster.specs.declared.event.Event.{Event}
-use Rattle.cj_cluster.specs.declared.event.Event.TheVariants.{Sched}
+use Rattle.cj_cluster.specs.declared.event.Event.TheVariants.{LogFailed, Sched}
 use Rattle.cj_cluster.specs.declared.moves.OpenSession.{OpenSession}
 use Rattle.cj_cluster.specs.History.Histories.{scheduled_entry, log, events_left}
 use Rattle.cj_cluster.proofs.Pushed.{log-sched, log-same}
 use Rattle.cj_book.specs.declared.error.BookError.{BookError}
 use Rattle.cj_book.specs.declared.error.BookError.TheVariants.{InProgress, NoBackend, HistoryFull, LogFault, NoMemory}
-use Rattle.cj_book.specs.Books.{BookState, IsSameButLog, with_event, IsInProgress, HasNoBackend, LacksRoom, HasNoRoomForOne, CanSchedule, IsFull, IsWant, with_entry}
+use Rattle.cj_book.specs.Books.{BookState, IsSameButLog, with_event, HasNoRoomForOne, CanSchedule, IsFull, IsWant, with_entry}
+use Rattle.cj_book.specs.Events.{Schedules}
+use Rattle.cj_auth.specs.Admission.{Register}
+use Rattle.cj_cluster.specs.Moves.Cores.{session_at}
 use Rattle.cj_dump.specs.declared.dump.Dump.{Dump}
+use Rattle.cj_freshness.specs.Freshness.{FollowsLog}
+use Rattle.cj_model.specs.declared.answer.Outcome.{Outcome}
+use Rattle.cj_place.specs.Layouts.{placement_of}
+use Rattle.cj_state.specs.Proving.Kept.{KeptFresh}
+use Rattle.cj_state.proofs.Dumped.{dumps_event}
+use Rattle.cj_state.proofs.Fresh.{follows_entry, follows_event, fresh_event}
+use Rattle.cj_state.proofs.KeepingEvents.{kept_log_failed}
 use Rattle.cj_replica.specs.Cells.{CellState}
-use Rattle.cj_state.specs.Worlds.{core_of}
+use Rattle.cj_state.specs.Worlds.{core_of, world_of}
 use Rattle.cj_state.specs.Effects.{SchedulesAs, HadLoggedRoom, HadRoom}
 
 -- an event has come into the book where there was room, or nothing has changed
@@ -73,18 +83,53 @@ pub behind_as_many : {S : Type 0} (r : Result ℕ BookError) (old new : BookStat
 behind_as_many (Ok n) old new e none ok number = number ∙ (ap (λ (b : BookState _). length (log b.history)) ok ∙ ap length (log-same old.history e none))
 behind_as_many (Err d) old new e none ok number = tt
 
-module _ {S : Type 0} (cells : List CellState) (f s : ℕ) (ss : List OpenSession) (g : ℕ) (ds : List Dump) (b : BookState S) (e : Entry) where
-  -- the entry was scheduled
-  pub scheduled_as : (new : BookState S) (n : ℕ) → IsSameButLog (with_entry b e) new → n ≡ length (log new.history) → CanSchedule b e.act → SchedulesAs (core_of b.layout b.history cells f s ss g ds) e (Ok n)
-  scheduled_as new n is number can =
-      let l : length (log (b.history ++ Sched e ∷ [])) ≡ length (log b.history) + 1 = ap length (log-sched b.history e) ∙ length-append (log b.history) (e ∷ []) in
-      (number ∙ (ap (λ (x : BookState S). length (log x.history)) is ∙ l), can.served, can.space)
+-- ---- a schedule
 
-  -- or it was not
-  pub not_scheduled : (r : Result ℕ BookError) (d : BookError) → r ≡ Err d → ((n : ℕ) → r ≡ Err (InProgress n) ↔ IsInProgress b n) → (r ≡ Err NoBackend ↔ HasNoBackend b e.act)
-      → ((n : ℕ) → r ≡ Err (HistoryFull n) ↔ LacksRoom b e.act n) → (r ≡ Err LogFault → CanSchedule b e.act) → SchedulesAs (core_of b.layout b.history cells f s ss g ds) e (Err d)
-  not_scheduled r (InProgress n) is running nowhere full faulted = ((running n).0 is).open_now
-  not_scheduled r NoBackend is running nowhere full faulted = (nowhere.0 is).unserved
-  not_scheduled r (HistoryFull n) is running nowhere full faulted = let q = (full n).0 is in (q.events, q.served, q.full)
-  not_scheduled r LogFault is running nowhere full faulted = let can = faulted is in (can.served, can.space)
-  not_scheduled r NoMemory is running nowhere full faulted = tt
+module _ {S : Type 0} {tells : Bool} {faults moment : S → ℕ} {since : S → ℕ → List ℕ → Type 0} {may : S → List ℕ → Type 0} {old : BookState S} {e : Entry} {r : Result ℕ BookError} {new : BookState S} (how : Schedules tells faults moment since may old e r new) where
+  module _ (cells : List CellState) (f s : ℕ) (ss : List OpenSession) (ds : List Dump) where
+    -- the entry was scheduled
+    pub scheduled_as : (n : ℕ) → r ≡ Ok n → SchedulesAs (core_of old.layout old.history cells f s ss old.greatest ds) e (Ok n)
+    scheduled_as n is =
+        let can : CanSchedule old e.act = subst (λ (q : Result ℕ BookError). OnOk q (CanSchedule old e.act)) is how.ready in
+        let ok : IsSameButLog (with_entry old e) new = subst (λ (q : Result ℕ BookError). OnOk q (IsSameButLog (with_entry old e) new)) is how.ok in
+        let number : n ≡ length (log new.history) = subst (λ (q : Result ℕ BookError). IfOk q (λ m. m ≡ length (log new.history))) is how.number in
+        let l : length (log (old.history ++ Sched e ∷ [])) ≡ length (log old.history) + 1 = ap length (log-sched old.history e) ∙ length-append (log old.history) (e ∷ []) in
+        (number ∙ (ap (λ (x : BookState S). length (log x.history)) ok ∙ l), can.served, can.space)
+
+    -- or it was not
+    pub not_scheduled : (d : BookError) → r ≡ Err d → SchedulesAs (core_of old.layout old.history cells f s ss old.greatest ds) e (Err d)
+    not_scheduled (InProgress n) is = ((how.in_progress n).0 is).open_now
+    not_scheduled NoBackend is = (how.no_backend.0 is).unserved
+    not_scheduled (HistoryFull n) is = let q = (how.full n).0 is in (q.events, q.served, q.full)
+    not_scheduled LogFault is = let can = how.faulted is in (can.served, can.space)
+    not_scheduled NoMemory is = tt
+
+  -- the cache follows the log
+  pub follows_scheduled : (n : ℕ) → r ≡ Ok n → FollowsLog (log old.history) (log new.history) old.cache new.cache
+  follows_scheduled n is =
+      let ok : IsSameButLog (with_entry old e) new = subst (λ (q : Result ℕ BookError). OnOk q (IsSameButLog (with_entry old e) new)) is how.ok in
+      rw ok (follows_entry old.history old.cache e)
+
+  -- where it was not, what the log does and an event of its fault leave holds
+  pub unscheduled : (d : BookError) → r ≡ Err d → (Q : BookState S → Type 0) → (CanSchedule old e.act → Q (record (with_event old (LogFailed e.session e.seq)) { recovery_log = new.recovery_log }))
+      → Q (record old { recovery_log = new.recovery_log }) → Q new
+  unscheduled d is Q came stays = refused r d is old new (LogFailed e.session e.seq) Q how.log_fault how.same (λ fault. came (how.faulted fault)) stays
+
+  pub follows_unscheduled : (d : BookError) → r ≡ Err d → FollowsLog (log old.history) (log new.history) old.cache new.cache
+  follows_unscheduled d is =
+      unscheduled d is (λ (b : BookState S). FollowsLog (log old.history) (log b.history) old.cache b.cache) (λ can. follows_event old.history old.cache (LogFailed e.session e.seq) refl) (inl (refl, refl))
+
+  -- a fault of the log is one in a request of a session that reads nothing, or in the administrator's move
+  pub kept_unscheduled : (reg : Register) (cells : List CellState) (f s : ℕ) (ss : List OpenSession) (ds : List Dump) (first_outcome : Option Outcome) (backends : Bool) (d : BookError) → r ≡ Err d
+      → KeptFresh backends (world_of reg old.layout old.history cells f s ss old.greatest ds) old.sessions first_outcome old.cache ds → e.session ≤ old.greatest
+      → (0 < e.session → (session_at (core_of old.layout old.history cells f s ss old.greatest ds) e.session).reading ≡ None)
+      → KeptFresh backends (world_of reg new.layout new.history cells f s ss new.greatest ds) new.sessions first_outcome new.cache ds
+  kept_unscheduled reg cells f s ss ds first_outcome backends d is kept given none =
+      unscheduled d is (λ (b : BookState S). KeptFresh backends (world_of reg b.layout b.history cells f s ss b.greatest ds) b.sessions first_outcome b.cache ds)
+      (λ can.
+      let space : 3 ≤ events_left old.history = can.space in (
+        kept_log_failed backends reg old.layout old.history cells f s ss old.greatest ds old.sessions first_outcome kept.0 e.session e.seq can.is_free given (omega arith) none,
+        fresh_event old.history old.cache backends (LogFailed e.session e.seq) refl kept.1,
+        dumps_event backends (placement_of old.layout) old.history ds kept.2 (LogFailed e.session e.seq) refl,
+      ))
+      kept

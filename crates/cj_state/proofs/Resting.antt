@@ -1,5 +1,5 @@
 -- A world over a book that was just opened, of which no backend has taken an entry.
-use Rattle.std.proofs.Common.{◌≡◌, ℕ, ◌^◌, ◌<◌, ◌≤◌, Bool, true, false, List, [], ◌∷◌, ◌++◌, length, map, fold, max, replicate, get_or, All, Option, None, Some, unwrap_or, refl, ap, sym, ◌∙◌, subst, arith, ⊎_elim}
+use Rattle.std.proofs.Common.{◌≡◌, ℕ, ◌^◌, ◌<◌, ◌≤◌, Bool, true, false, List, [], ◌∷◌, ◌++◌, length, map, fold, max, replicate, get_or, All, Option, None, Some, refl, ap, sym, ◌∙◌, subst, arith, ⊎_elim}
 use Rattle.std.specs.Prelude.{IfSome}
 use Rattle.std.proofs.lemmas.Bool.{both_ways, eqb-true}
 use Rattle.std.proofs.lemmas.List.{length-map, get_or-map, get_or-replicate, length-replicate, ext_get_or}
@@ -24,13 +24,13 @@ use Rattle.cj_cluster.proofs.TransactionLaws.{legal_fit}
 use Rattle.cj_auth.specs.Admission.{Register}
 use Rattle.cj_opening.specs.Openings.{IsOpening}
 use Rattle.cj_opening.proofs.Longer.{idle_opening}
+use Rattle.cj_book.proofs.Recovering.{known_all}
 use Rattle.cj_book.specs.Starts.{greatest_session}
 use Rattle.cj_place.specs.Layouts.{Layout, placement_of}
 use Rattle.cj_replica.specs.Cells.{CellState}
 use Rattle.cj_state.specs.Worlds.{core_of, world_of}
 use Rattle.cj_state.specs.Proving.Kept.{Kept}
 use Rattle.cj_state.specs.Beginnings.{IsFresh, AreFresh, AreEmpty, opened_core}
-use Rattle.cj_state.proofs.CellsKept.{position_of, begun_of}
 
 -- ---- at rest
 
@@ -47,25 +47,6 @@ no_log_fault s q [] o = refl
 no_log_fault s q (Sched e ∷ Ended f m ∷ h) o = no_log_fault s q h o.2
 no_log_fault s q (Marker name m ∷ h) o = no_log_fault s q h o
 no_log_fault s q _ o = absurd o
-
-same_some : (m n : ℕ) → Some m ≡ Some n → m ≡ n
-same_some m n is = ap (λ (o : Option ℕ). unwrap_or o 0) is
-
--- the greatest number is not below the one that it began with
-at_least : (n : ℕ) (entries : List Entry) → n ≤ fold (λ m (e : Entry). max m e.session) n entries
-at_least n [] = omega arith
-at_least n (e ∷ entries) = let more : max n e.session ≤ fold (λ m (d : Entry). max m d.session) (max n e.session) entries = at_least (max n e.session) entries in omega arith
-
-given_from : (n : ℕ) (entries : List Entry) → All (λ (e : Entry). e.session ≤ fold (λ m (d : Entry). max m d.session) n entries) entries
-given_from n [] = All-nil (λ (e : Entry). e.session ≤ n)
-given_from n (e ∷ entries) =
-    let top = fold (λ m (d : Entry). max m d.session) (max n e.session) entries in
-    let more : max n e.session ≤ top = at_least (max n e.session) entries in
-    All-cons (λ (d : Entry). d.session ≤ top) e entries (omega arith) (given_from (max n e.session) entries)
-
--- no entry is of a session above the greatest
-all_given : (entries : List Entry) → All (λ (e : Entry). e.session ≤ greatest_session entries) entries
-all_given entries = given_from 0 entries
 
 -- and the greatest is no more than a session's number may be
 below_limit : (n : ℕ) (entries : List Entry) → n ≤ 2 ^ 62 → All (λ (e : Entry). e.session ≤ 2 ^ 62) entries → fold (λ m (d : Entry). max m d.session) n entries ≤ 2 ^ 62
@@ -94,29 +75,17 @@ module _ (l : Layout) (cells : List CellState) (fresh : AreFresh (placement_of l
   as_many : {A : Type 0} (of : CellState → A) → length (map of cells) ≡ length l.names
   as_many of = length-map cells of ∙ fresh.as_many
 
-  -- each stands before the first entry
-  at_first : (b : ℕ) → b < length (map (λ (x : CellState). x.position) cells) → get_or (map (λ (x : CellState). x.position) cells) b None ≡ Some 0
-  at_first b lt =
-      let below : b < length cells = subst (λ m. b < m) (length-map cells (λ (x : CellState). x.position)) lt in
-      position_of cells b some_cell below ∙ (fresh.each b some_cell below).position
+  -- what each has that has taken no entry
+  module _ {A : Type 0} (of : CellState → A) (value out : A) (is : (b : ℕ) (x : CellState) → IsFresh (placement_of l) b x → of x ≡ value) where
+    each_is : (b : ℕ) → b < length (map of cells) → get_or (map of cells) b out ≡ value
+    each_is b lt =
+        let below : b < length cells = subst (λ m. b < m) (length-map cells of) lt in
+        get_or-map of cells b some_cell out below ∙ is b (get_or cells b some_cell) (fresh.each b some_cell below)
 
-  pub positions_at_rest : map (λ (x : CellState). x.position) cells ≡ replicate (length l.names) (Some 0)
-  positions_at_rest =
-      let count = as_many (λ (x : CellState). x.position) in
-      ext_get_or None (map (λ (x : CellState). x.position) cells) (replicate (length l.names) (Some 0)) (count ∙ sym (length-replicate (length l.names) (Some 0)))
-      (λ b lt. at_first b lt ∙ sym (get_or-replicate (length l.names) b (Some 0) None (subst (λ m. b < m) count lt)))
-
-  -- and has begun no transaction
-  none_begun : (b : ℕ) → b < length (map (λ (x : CellState). x.begun) cells) → get_or (map (λ (x : CellState). x.begun) cells) b [] ≡ []
-  none_begun b lt =
-      let below : b < length cells = subst (λ m. b < m) (length-map cells (λ (x : CellState). x.begun)) lt in
-      begun_of cells b some_cell below ∙ (fresh.each b some_cell below).begun
-
-  begun_at_rest : map (λ (x : CellState). x.begun) cells ≡ replicate (length l.names) []
-  begun_at_rest =
-      let count = as_many (λ (x : CellState). x.begun) in
-      ext_get_or [] (map (λ (x : CellState). x.begun) cells) (replicate (length l.names) []) (count ∙ sym (length-replicate (length l.names) []))
-      (λ b lt. none_begun b lt ∙ sym (get_or-replicate (length l.names) b [] [] (subst (λ m. b < m) count lt)))
+    all_are : map of cells ≡ replicate (length l.names) value
+    all_are =
+        ext_get_or out (map of cells) (replicate (length l.names) value) (as_many of ∙ sym (length-replicate (length l.names) value))
+        (λ b lt. each_is b lt ∙ sym (get_or-replicate (length l.names) b value out (subst (λ m. b < m) (as_many of) lt)))
 
   told : (b : ℕ) (x : CellState) → get_or (map (λ (z : CellState). z.told) cells) b None ≡ x.told → All (λ (t : Option (List Slot)). t ≡ Some []) (map (λ (z : CellState). z.told) cells) → b < length cells → x.told ≡ Some []
   told b x is empty lt =
@@ -140,7 +109,7 @@ module _ (l : Layout) (cells : List CellState) (fresh : AreFresh (placement_of l
 
     -- each backend stands where it begins
     stands_first : (b : ℕ) → b < length opened.positions → BackendStands h 0 0 b (position_at opened b)
-    stands_first b lt = subst (λ (p : Option ℕ). BackendStands h 0 0 b p) (sym (at_first b lt)) (omega arith, λ on. absurd (off b on), has-zero b, has-zero b)
+    stands_first b lt = subst (λ (p : Option ℕ). BackendStands h 0 0 b p) (sym (each_is (λ (x : CellState). x.position) (Some 0) None (λ b x f. f.position) b lt)) (omega arith, λ on. absurd (off b on), has-zero b, has-zero b)
 
     sound_opened : CoreInvariant opened
     sound_opened =
@@ -161,15 +130,15 @@ module _ (l : Layout) (cells : List CellState) (fresh : AreFresh (placement_of l
           rises = tt;
           few = omega arith;
           numbers = greatest_fits h legal;
-          known = all_given (log h);
+          known = known_all (log h);
           log_faults = λ s q lt. no_log_fault s q h o;
           waits = λ e is. absurd (cc (sym no_entry ∙ is));
         }
 
     pub core_opened : opened ≡ opened_core (placement_of l) h
     core_opened =
-        ap (λ (ps : List (Option ℕ)). record (opened_core (placement_of l) h) { positions = ps; begun = map (λ (x : CellState). x.begun) cells }) positions_at_rest
-        ∙ ap (λ (ts : List (List ℕ)). record (opened_core (placement_of l) h) { begun = ts }) begun_at_rest
+        ap (λ (ps : List (Option ℕ)). record (opened_core (placement_of l) h) { positions = ps; begun = map (λ (x : CellState). x.begun) cells }) (all_are (λ (x : CellState). x.position) (Some 0) None (λ b x f. f.position))
+        ∙ ap (λ (ts : List (List ℕ)). record (opened_core (placement_of l) h) { begun = ts }) (all_are (λ (x : CellState). x.begun) [] [] (λ b x f. f.begun))
 
     pub kept_opened : (tells : Bool) (reg : Register) → reg.backends ≡ length l.names → length l.names ≤ BACKEND_LIMIT → AreEmpty tells (map (λ (x : CellState). x.told) cells)
         → Kept tells (world_of reg l h cells 0 0 [] (greatest_session (log h)) []) [] None

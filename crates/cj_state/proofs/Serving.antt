@@ -2,6 +2,7 @@
 use Rattle.std.proofs.Common.{◌≡◌, ℕ, ◌-◌, ◌<◌, ◌^◌, ◌==◌, ◌&&◌, ◌||◌, not, Bool, true, false, bit_and, refl, ap, sym, ◌∙◌, arith, ⊎_elim}
 use Rattle.std.specs.Prelude.{IsTrue, ◌↔◌}
 use Rattle.std.specs.Int.Bits.{or_zero_r}
+use Rattle.std.proofs.Math.Bool.{or-false}
 use Rattle.std.proofs.lemmas.Nat.{and_le_l}
 use Rattle.std.proofs.lemmas.Bool.{eqb-true, eq-eqb, both_ways, and_parts, and_cases, not-false}
 use Rattle.cj_model.specs.declared.select.Select.{Select}
@@ -20,10 +21,6 @@ has-and_not : (m k b : ℕ) → m < 2 ^ 32 → k < 2 ^ 32 → in_mask (bit_and m
 has-and_not m k b fits lt =
     ap (λ x. in_mask (bit_and m (4294967295 - x)) b) (sym (or_zero_r k))
     ∙ (has_without m k 0 b fits lt (omega arith) ∙ ap (λ x. in_mask m b && not x) (ap (λ x. in_mask k b || x) (has-zero b) ∙ or-false (in_mask k b)))
-  where
-    or-false : (q : Bool) → (q || false) ≡ q
-    or-false true = refl
-    or-false false = refl
 
 -- the candidates of the book are the backends that serve the query
 pub candidates_serve : {S : Type 0} (c : Core) (book : BookState S) (select : Select) (mask : ℕ) → c.placement ≡ placement_at book → c.history ≡ book.history

@@ -1,13 +1,14 @@
 -- What a world keeps where a backend takes an entry.
 use Rattle.std.proofs.Common.{◌≡◌, ◌≢◌, ℕ, ◌+◌, ◌<◌, ◌≤◌, Bool, true, false, cond, List, [], length, map, get_or, set, slice_get, Option, None, Some, IsSome, Ok, refl, ap, sym, ◌∙◌, subst, arith, ⊎_elim}
 use Rattle.std.proofs.lemmas.Bool.{cases_eq, both_ways}
-use Rattle.std.proofs.lemmas.List.{get_or-set_same, get_or-set_other, length-map, map-set}
+use Rattle.std.proofs.lemmas.List.{get_or_default, get_or-set_same, get_or-set_other, map-set}
 use Rattle.std.proofs.lemmas.Option.{slice_get_within}
 use Rattle.cj_model.specs.declared.request.Act.{Act}
 use Rattle.cj_model.specs.declared.request.Act.TheVariants as act
 use Rattle.cj_model.specs.declared.request.Entry.{Entry}
 use Rattle.cj_model.specs.declared.answer.Outcome.{Outcome}
 use Rattle.cj_model.specs.Cluster.Accounts.{login_of}
+use Rattle.cj_model.specs.Cluster.Caching.{CacheState}
 use Rattle.cj_cluster.specs.declared.event.Event.{Event}
 use Rattle.cj_cluster.specs.declared.moves.Did.{Did}
 use Rattle.cj_cluster.specs.declared.moves.Did.TheVariants as did
@@ -26,13 +27,14 @@ use Rattle.cj_auth.specs.Admission.{Register}
 use Rattle.cj_dump.specs.declared.dump.Dump.{Dump}
 use Rattle.cj_place.specs.Layouts.{Layout, placement_of}
 use Rattle.cj_replica.specs.Cells.{CellState}
-use Rattle.cj_state.specs.Worlds.{WorldState, core_of, world_of, IsCell, IsWorld}
+use Rattle.cj_state.specs.Seats.{ChangesCell}
+use Rattle.cj_state.specs.Worlds.{WorldState, LogView, core_of, world_of, with_cache, with_log, IsCell, IsWorld}
 use Rattle.cj_state.specs.Proving.Taking.{TookEntry, first_outcome_after}
 use Rattle.cj_state.specs.ArmedCells.{armings_of}
 use Rattle.cj_state.specs.Faults.{did_fail, faults_of, faults_after}
 use Rattle.cj_state.specs.Proving.Kept.{Kept}
 use Rattle.cj_state.specs.CalledLogins.{logins_of, login_to_take, next_user, LogsInToTake}
-use Rattle.cj_state.proofs.Counted.{armings_set, counts_set}
+use Rattle.cj_state.proofs.ChangedCell.{changed_armings, changed_faults, has_cell}
 use Rattle.cj_state.proofs.CellsKept.{cells_set, position_of}
 
 -- who takes part in an act with no transaction begun does so with any
@@ -182,19 +184,23 @@ module _ (tells : Bool) (reg : Register) (l : Layout) (h : List Event) (cells : 
   pub replays : Replays tells (core_of l h cells f s ss g ds) b (Ok (moved.Replayed (position_or_zero (position_at (core_of l h cells f s ss g ds) b) + 1) d)) (core_of l h now f s ss g ds)
   replays = (refl, (stance, takes, core_now f s))
 
-  -- and what it counts
-  pub took_counts : (old : List CellState) → old ≡ cells → faults_of now ≡ faults_after (faults_of old) (cond (did_fail d) (Some b) None)
-  took_counts old was =
-      ap faults_of took.set
-      ∙ (counts_set cells b took.cell (did_fail d) (rw length-map at within) took.faults ∙ ap (λ (xs : List CellState). faults_after (faults_of xs) (cond (did_fail d) (Some b) None)) (sym was))
+-- ---- what is counted
+
+module _ {tells : Bool} {w : WorldState} {numbers : List ℕ} {first_outcome : Option Outcome} (kept : Kept tells w numbers first_outcome) {seen_log : LogView} {cache : CacheState} {old : WorldState} (seen : with_cache (with_log w seen_log) cache ≡ old)
+    {b : ℕ} (within : b < old.core.placement.backends) {l : Layout} {d : Did} {now : List CellState} (took : TookEntry tells w.setup.register.accounts l w.core.history w.cells b d now) where
+  abbrev change : ChangesCell w.cells b (λ x y. Unit) now
+  change = record { before = get_or w.cells b took.cell; after = took.cell; value = get_or_default w.cells b took.cell (get_or w.cells b took.cell) (has_cell kept seen within); set = took.set; how = tt }
+
+  pub took_counts : faults_of now ≡ faults_after (faults_of old.cells) (cond (did_fail d) (Some b) None)
+  took_counts = changed_faults kept seen within change (did_fail d) took.faults
 
   -- it arms no backend
-  pub took_armings : (old : List CellState) → old ≡ cells → armings_of now ≡ armings_of old
-  took_armings old was = ap armings_of took.set ∙ (armings_set cells b took.cell false (rw length-map at within) took.armings ∙ ap armings_of (sym was))
+  pub took_armings : armings_of now ≡ armings_of old.cells
+  took_armings = changed_armings kept seen within change false took.armings
 
   -- it is called under the login of the entry's user
-  pub took_logins : (old : WorldState) → world_of reg l h cells f s ss g ds ≡ old → LogsInToTake b (login_to_take old b) d (logins_of old.cells) (logins_of now)
-  took_logins old was =
-      let place : position_at (core_of l h cells f s ss g ds) b ≡ (get_or cells b took.cell).position = position_of cells b took.cell (rw length-map at within) in
-      subst (λ (x : WorldState). LogsInToTake b (login_to_take x b) d (logins_of x.cells) (logins_of now)) was
-      (subst (λ (q : Option ℕ). LogsInToTake b (login_of reg.accounts (next_user (log h) q) b) d (logins_of cells) (logins_of now)) (sym place) took.logins)
+  pub took_logins : LogsInToTake b (login_to_take old b) d (logins_of old.cells) (logins_of now)
+  took_logins =
+      let place : position_at w.core b ≡ (get_or w.cells b took.cell).position = ap (λ (ps : List (Option ℕ)). get_or ps b None) kept.world.positions ∙ position_of w.cells b took.cell (has_cell kept seen within) in
+      subst (λ (z : WorldState). LogsInToTake b (login_to_take z b) d (logins_of z.cells) (logins_of now)) seen
+      (subst (λ (q : Option ℕ). LogsInToTake b (login_of w.setup.register.accounts (next_user (log w.core.history) q) b) d (logins_of w.cells) (logins_of now)) (sym place) took.logins)

@@ -34,13 +34,18 @@ failed_alone (Ok (caught.Did o)) is = cc is
 failed_alone (Err errors.Failed) is = refl
 failed_alone (Err errors.Starved) is = cc is
 
+-- the cell that was indexed
+cell_in : (cells : List SeatedCell) (b : ℕ) → b < length (states_of cells) → b < length cells
+cell_in cells b lt = rw length-map at lt
+
+-- it stands where every cell there does
+stands_as : (cells : List SeatedCell) (b p : ℕ) (x : SeatedCell) → b < length (states_of cells) → x ≡ get_or cells b x → ((d : CellState) → (get_or (states_of cells) b d).position ≡ Some p) → x.state.position ≡ Some p
+stands_as cells b p x lt there stands = ap (λ (z : CellState). z.position) (seen_as cells b x (cell_in cells b lt) there) ∙ stands x.state
+
 pub overflow_add-next : goal.overflow_add-next
 overflow_add-next g c =
     let can = c.requires.can in
-    let lt : c.args.b < length c.args.cells.now.items = rw (sym (length-map c.args.cells.now.items (λ (z : SeatedCell). z.state))) can.within in
-    let x : SeatedCell = c.index.result.now in
-    let at : c.position.result ≡ Some can.p = c.position.ensures ∙ (ap (λ (z : CellState). z.position) (seen_as c.args.cells.now.items c.args.b x lt c.index.ensures) ∙ can.stands x.state) in
-    let here : c.place-next.result ≡ can.p = c.place-next.ensures ∙ ap position_or_zero at in
+    let here : c.place-next.result ≡ can.p = c.place-next.ensures ∙ ap position_or_zero (c.position.ensures ∙ stands_as c.args.cells.now.items c.args.b can.p c.index.result.now can.within c.index.ensures can.stands) in
     let more : can.p < length (log c.args.book.now.state.history) = can.more in
     let short : length (log c.args.book.now.state.history) ≤ EVENT_LIMIT = can.short in
     omega (arith, here, more, short)
@@ -48,10 +53,7 @@ overflow_add-next g c =
 pub unreachable-requires : goal.unreachable-requires
 unreachable-requires g c =
     let can = c.requires.can in
-    let lt : c.args.b < length c.args.cells.now.items = rw (sym (length-map c.args.cells.now.items (λ (z : SeatedCell). z.state))) can.within in
-    let x : SeatedCell = c.index.result.now in
-    let at : c.position.result ≡ Some can.p = c.position.ensures ∙ (ap (λ (z : CellState). z.position) (seen_as c.args.cells.now.items c.args.b x lt c.index.ensures) ∙ can.stands x.state) in
-    let here : c.place-next.result ≡ can.p = c.place-next.ensures ∙ ap position_or_zero at in
+    let here : c.place-next.result ≡ can.p = c.place-next.ensures ∙ ap position_or_zero (c.position.ensures ∙ stands_as c.args.cells.now.items c.args.b can.p c.index.result.now can.within c.index.ensures can.stands) in
     let entries = log c.args.book.now.state.history in
     let none : None ≡ slice_get entries (c.place-next.result + 1 - 1) =
     subst (λ (r : Option (Bor Entry)). option_copied r ≡ slice_get entries (c.place-next.result + 1 - 1)) c.in_default.is (c.entry.ensures.numbered (omega arith))
@@ -61,57 +63,46 @@ unreachable-requires g c =
 
 pub catch_up-requires-clause-board : goal.catch_up-requires-clause-board
 catch_up-requires-clause-board g c =
-    let can = c.requires.can in
-    let lt : c.args.b < length c.args.cells.now.items = rw (sym (length-map c.args.cells.now.items (λ (z : SeatedCell). z.state))) can.within in
-    board_of _ c.args.cells.now.items c.args.b c.index_mut.result.now c.index_mut.result.now lt c.index_mut.ensures.value c.requires.at
+    board_of _ c.args.cells.now.items c.args.b c.index_mut.result.now c.index_mut.result.now (cell_in c.args.cells.now.items c.args.b c.requires.can.within) c.index_mut.ensures.value c.requires.at
 
 pub catch_up-requires-clause-next : goal.catch_up-requires-clause-next
 catch_up-requires-clause-next g c =
     let can = c.requires.can in
-    let lt : c.args.b < length c.args.cells.now.items = rw (sym (length-map c.args.cells.now.items (λ (z : SeatedCell). z.state))) can.within in
-    let x : SeatedCell = c.index.result.now in
-    let at : c.position.result ≡ Some can.p = c.position.ensures ∙ (ap (λ (z : CellState). z.position) (seen_as c.args.cells.now.items c.args.b x lt c.index.ensures) ∙ can.stands x.state) in
-    let next : c.place-next.result + 1 ≡ can.p + 1 = ap (λ q. q + 1) (c.place-next.ensures ∙ ap position_or_zero at) in
-    let y : SeatedCell = c.index_mut.result.now in
-    let stands : y.state.position ≡ Some can.p = ap (λ (z : CellState). z.position) (seen_as c.args.cells.now.items c.args.b y lt c.index_mut.ensures.value) ∙ can.stands y.state in
-    subst (λ q. IsNextEntry q (c.place-next.result + 1)) (sym stands) next
+    let here = c.place-next.ensures ∙ ap position_or_zero (c.position.ensures ∙ stands_as c.args.cells.now.items c.args.b can.p c.index.result.now can.within c.index.ensures can.stands) in
+    let stands = stands_as c.args.cells.now.items c.args.b can.p c.index_mut.result.now can.within c.index_mut.ensures.value can.stands in
+    subst (λ q. IsNextEntry q (c.place-next.result + 1)) (sym stands) (ap (λ q. q + 1) here)
 
 pub catch_up-requires-clause-entry : goal.catch_up-requires-clause-entry
 catch_up-requires-clause-entry g c =
     let can = c.requires.can in
-    let lt : c.args.b < length c.args.cells.now.items = rw (sym (length-map c.args.cells.now.items (λ (z : SeatedCell). z.state))) can.within in
-    let x : SeatedCell = c.index.result.now in
-    let at : c.position.result ≡ Some can.p = c.position.ensures ∙ (ap (λ (z : CellState). z.position) (seen_as c.args.cells.now.items c.args.b x lt c.index.ensures) ∙ can.stands x.state) in
-    let next : c.place-next.result + 1 ≡ can.p + 1 = ap (λ q. q + 1) (c.place-next.ensures ∙ ap position_or_zero at) in
+    let here : c.place-next.result ≡ can.p = c.place-next.ensures ∙ ap position_or_zero (c.position.ensures ∙ stands_as c.args.cells.now.items c.args.b can.p c.index.result.now can.within c.index.ensures can.stands) in
+    let next = ap (λ q. q + 1) here in
     let entry = found (log c.args.book.now.state.history) can.p (c.place-next.result + 1) c.in-Some.entry.now next (c.in-Some.ensures.numbered (omega arith)) in
     let y : SeatedCell = c.index_mut.result.now in
     let front : IsPrefix c.args.book.now.state.history y.view.front = subst (λ (z : SeatedCell). IsPrefix c.args.book.now.state.history z.view.front) (sym c.index_mut.ensures.value) (c.requires.told y) in
-    ap (slice_get (log y.view.front)) (omega (arith, next)) ∙ prefix_get (log c.args.book.now.state.history) (log y.view.front) can.p c.in-Some.entry.now (log-prefix c.args.book.now.state.history y.view.front front) entry
+    ap (slice_get (log y.view.front)) (omega (arith, here)) ∙ prefix_get (log c.args.book.now.state.history) (log y.view.front) can.p c.in-Some.entry.now (log-prefix c.args.book.now.state.history y.view.front front) entry
 
 pub returns-clause-at : goal.returns-clause-at
 returns-clause-at g c =
-    let can = c.requires.can in
-    let lt : c.args.b < length c.args.cells.now.items = rw (sym (length-map c.args.cells.now.items (λ (z : SeatedCell). z.state))) can.within in
-    all_at _ c.args.cells.now.items c.args.b c.index_mut.result.now c.catch_up.new.self lt c.index_mut.ensures.value c.requires.at c.catch_up.ensures.same.board
+    all_at _ c.args.cells.now.items c.args.b c.index_mut.result.now c.catch_up.new.self (cell_in c.args.cells.now.items c.args.b c.requires.can.within) c.index_mut.ensures.value c.requires.at c.catch_up.ensures.same.board
 
 pub returns-clause-took : goal.returns-clause-took
 returns-clause-took g c =
     let can = c.requires.can in
-    let lt : c.args.b < length c.args.cells.now.items = rw (sym (length-map c.args.cells.now.items (λ (z : SeatedCell). z.state))) can.within in
-    let x : SeatedCell = c.index.result.now in
-    let at : c.position.result ≡ Some can.p = c.position.ensures ∙ (ap (λ (z : CellState). z.position) (seen_as c.args.cells.now.items c.args.b x lt c.index.ensures) ∙ can.stands x.state) in
-    let next : c.place-next.result + 1 ≡ can.p + 1 = ap (λ q. q + 1) (c.place-next.ensures ∙ ap position_or_zero at) in
+    let here = c.place-next.ensures ∙ ap position_or_zero (c.position.ensures ∙ stands_as c.args.cells.now.items c.args.b can.p c.index.result.now can.within c.index.ensures can.stands) in
+    let next = ap (λ q. q + 1) here in
     let entry = found (log c.args.book.now.state.history) can.p (c.place-next.result + 1) c.in-Some.entry.now next (c.in-Some.ensures.numbered (omega arith)) in
     let y : SeatedCell = c.index_mut.result.now in
     let how = subst (λ (n : ℕ). CatchesUp y.state n c.in-Some.entry.now c.mapped-login.result.now c.catch_up.result c.catch_up.new.self.state) next c.catch_up.ensures.state in
+    let value = seen_as c.args.cells.now.items c.args.b y (cell_in c.args.cells.now.items c.args.b can.within) c.index_mut.ensures.value in
     rw c.did_of.ensures
-    (took g.B.Backend.TELLS c.args.accounts.now.accounts c.args.book.now.state.layout c.args.book.now.state.history (states_of c.args.cells.now.items) c.args.b can y.state c.catch_up.new.self.state (seen_as c.args.cells.now.items c.args.b y lt c.index_mut.ensures.value)
+    (took g.B.Backend.TELLS c.args.accounts.now.accounts c.args.book.now.state.layout c.args.book.now.state.history (states_of c.args.cells.now.items) c.args.b can y.state c.catch_up.new.self.state value
     c.in-Some.entry.now entry c.catch_up.result _ c.mapped-login.result.now (states_set c.args.cells.now.items c.args.b c.catch_up.new.self) how c.mapped-login.ensures)
 
 pub returns-clause-token : goal.returns-clause-token
 returns-clause-token g c failed z there =
     let can = c.requires.can in
-    let lt : c.args.b < length c.args.cells.now.items = rw (sym (length-map c.args.cells.now.items (λ (z : SeatedCell). z.state))) can.within in
+    let lt = cell_in c.args.cells.now.items c.args.b can.within in
     let y : SeatedCell = c.index_mut.result.now in
     let is : c.catch_up.result ≡ Err errors.Failed = failed_alone c.catch_up.result (sym c.did_of.ensures ∙ failed) in
     let number : y.state.b ≡ c.args.b = ap (λ (z : CellState). z.b) (seen_as c.args.cells.now.items c.args.b y lt c.index_mut.ensures.value) ∙ (can.is y.state).number in

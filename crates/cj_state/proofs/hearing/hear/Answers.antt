@@ -18,9 +18,6 @@ use Rattle.cj_state.proofs.hearing.hear.Goals as goal
 pub report-requires : goal.report-requires
 report-requires g c = record { board = (board_of _ c.args.cells.now.items c.args.b c.index_mut.result.now c.index_mut.result.now c.requires.within c.index_mut.ensures.value c.requires.at.of_cells, c.requires.at.of_pass) }
 
-pub learn-requires : goal.learn-requires
-learn-requires g c = record { board = (c.requires.at.of_book, c.report.ensures.board ∙ c.requires.at.of_pass) }
-
 pub returns-clause-at : goal.returns-clause-at
 returns-clause-at g c =
     record {

@@ -7,9 +7,6 @@ use Rattle.cj_cluster.specs.declared.event.Event.{Event}
 use Rattle.cj_state.proofs.HeardOf.{all_at, board_of, learnt, states_stay}
 use Rattle.cj_state.proofs.hearing.tell.Goals as goal
 
-pub tell-requires : goal.tell-requires
-tell-requires g c = record { board = (c.requires.at.of_book, c.requires.at.of_pass) }
-
 pub brief-requires : goal.brief-requires
 brief-requires g c = record { board = (board_of _ c.args.cells.now.items c.args.b c.index_mut.result.now c.index_mut.result.now c.requires.within c.index_mut.ensures.value c.requires.at.of_cells, c.tell.ensures.board.1 ∙ c.requires.at.of_pass) }
 

@@ -30,7 +30,6 @@ unreachable-requires g c =
 
 pub returns-clause-storable : goal.returns-clause-storable
 returns-clause-storable g c =
-    let w = c.self.inside in
     let is : IsDump c.in-Some.dump = subst (λ (o : Option Dump). IfSome o IsDump) c.in-Some.is c.in_ok-dump.ensures.storable in
     subst (λ (x : Dump). IsStorable x.db) (sym c.cut.ensures) (part_is_storable (placement_of c.placement.result.now) c.args.b c.in-Some.dump.db is.db)
 

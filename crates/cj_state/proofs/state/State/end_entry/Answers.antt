@@ -24,21 +24,6 @@ hear_all-requires-clause-few g c =
     let w = c.self.inside in
     rw (sym (length-map w.cells.items (λ (x : SeatedCell). x.state)), sym (length-map (states_of w.cells.items) (λ (x : CellState). x.position)), c.self.invariant.0.world.sound.cells) c.self.invariant.0.world.few
 
-pub hear_all-requires-clause-at : goal.hear_all-requires-clause-at
-hear_all-requires-clause-at g c = c.self.invariant.3.0
-
-pub hear_all-requires-clause-numbered : goal.hear_all-requires-clause-numbered
-hear_all-requires-clause-numbered g c = λ b d lt. (c.self.invariant.0.world.cells b d lt).number
-
-pub end-requires-clause-board : goal.end-requires-clause-board
-end-requires-clause-board g c = c.hear_all.ensures.at.of_book
-
-pub end-requires-clause-open : goal.end-requires-clause-open
-end-requires-clause-open g c = rw c.hear_all.ensures.heard.state (subst (λ (x : WorldState). is_idle x.core.history ≡ false) (sym c.self.view_is) c.requires.«open»)
-
-pub end-requires-clause-faults : goal.end-requires-clause-faults
-end-requires-clause-faults g c = λ b on. (ready_heard c.self.inside.book c.hear_all.new.book c.self.inside.failed c.self.invariant.3.1 c.hear_all.ensures.heard).tokens b on
-
 -- each backend that stays enabled stands at the end of the log
 pub end-requires-clause-positions : goal.end-requires-clause-positions
 end-requires-clause-positions g c =
@@ -73,3 +58,9 @@ invariant_of-self g c =
       dumps_event g.B.Backend.TELLS (placement_of w.book.state.layout) w.book.state.history w.dumps c.self.invariant.2 e refl,
       seats_cleared (board_id w.board) (pass_board c.hear_all.new.pass) c.hear_all.new.book c.end.new.self c.hear_all.new.cells.items w.failed c.hear_all.ensures.at ready (Some e) c.end.ensures.board c.end.ensures.seat,
     )
+
+pub hear_all-requires-clause-numbered : goal.hear_all-requires-clause-numbered
+hear_all-requires-clause-numbered g c = λ b d lt. (c.self.invariant.0.world.cells b d lt).number
+
+pub end-requires-clause-faults : goal.end-requires-clause-faults
+end-requires-clause-faults g c = λ b on. (ready_heard c.self.inside.book c.hear_all.new.book c.self.inside.failed c.self.invariant.3.1 c.hear_all.ensures.heard).tokens b on

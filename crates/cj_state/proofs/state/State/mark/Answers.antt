@@ -46,9 +46,8 @@ returns-clause-room g c =
 
 pub returns-clause-number : goal.returns-clause-number
 returns-clause-number g c =
-    let w = c.self.inside in
     subst (λ (x : WorldState). IfOk c.mark.result (λ n. n ≡ last_number x.core)) c.self.view_is
-    (behind_as_many c.mark.result w.book.state c.mark.new.self.state (Marker c.args.name.now None) refl c.mark.ensures.state.ok c.mark.ensures.state.number)
+    (behind_as_many c.mark.result c.self.inside.book.state c.mark.new.self.state (Marker c.args.name.now None) refl c.mark.ensures.state.ok c.mark.ensures.state.number)
 
 pub mark-requires-clause-named : goal.mark-requires-clause-named
 mark-requires-clause-named g c = name_some c.args.name.now c.requires.name

@@ -1,24 +1,21 @@
-use Rattle.std.proofs.Common.{◌≡◌, ◌+◌, ◌≤◌, ℕ, arith, inl, Ok, Err, None, true, ap, sym, ◌∙◌, subst, refl, ◌++◌, ◌∷◌, []}
+use Rattle.std.proofs.Common.{◌≡◌, ◌+◌, ◌≤◌, ℕ, arith, inl, Ok, Err, None, true, ap, sym, ◌∙◌, subst, refl, Some}
 use Rattle.cj_cluster.specs.declared.event.Event.TheVariants.{LogFailed, Sched}
-use Rattle.cj_cluster.specs.History.Histories.{events_left, log}
+use Rattle.cj_cluster.specs.History.Histories.{log}
 use Rattle.cj_cluster.specs.History.Legality.{IsFitEntry}
 use Rattle.cj_cluster.specs.Moves.Cores.{Core, session_at}
 use Rattle.cj_cluster.specs.Moves.Moves.{is_open}
-use Rattle.cj_book.specs.Books.{BookState, has_session}
+use Rattle.cj_book.specs.Books.{has_session}
 use Rattle.cj_place.specs.Layouts.{placement_of}
-use Rattle.cj_state.specs.Worlds.{WorldState, core_of, world_of}
+use Rattle.cj_state.specs.Worlds.{WorldState, core_of}
 use Rattle.cj_state.specs.Effects.{SchedulesAs}
 use Rattle.cj_cluster.proofs.Soundness.{session_sound}
-use Rattle.cj_state.specs.Proving.Kept.{KeptFresh}
 use Rattle.cj_state.proofs.Keeping.{kept_scheduled}
-use Rattle.cj_state.proofs.KeepingEvents.{kept_log_failed}
 use Rattle.cj_state.proofs.OpenNumbers.{open_is}
-use Rattle.cj_state.proofs.Noting.{refused, scheduled_as, not_scheduled}
-use Rattle.cj_state.proofs.Dumped.{dumps_entry, dumps_event}
-use Rattle.cj_state.proofs.Fresh.{follows_entry, follows_event, fresh_entry, fresh_event}
-use Rattle.cj_freshness.specs.Freshness.{FollowsLog, without_touched}
+use Rattle.cj_state.proofs.Noting.{follows_scheduled, follows_unscheduled, kept_unscheduled, scheduled_as, not_scheduled}
+use Rattle.cj_state.proofs.Dumped.{dumps_entry}
+use Rattle.cj_state.proofs.Fresh.{fresh_entry}
+use Rattle.cj_freshness.specs.Freshness.{FollowsLog}
 use Rattle.cj_state.specs.Seats.{states_of}
-use Rattle.std.proofs.Common.{Some}
 use Rattle.cj_book.specs.Seated.{event_or_fault}
 use Rattle.cj_board.specs.Seats.{board_id, pass_board}
 use Rattle.cj_state.proofs.SeatsKept.{counted, quiet_or_fault, seats_after, seats_cleared}
@@ -49,15 +46,13 @@ invariant_of-self g c =
 pub returns-in-Ok-clause-scheduled : goal.returns-in-Ok-clause-scheduled
 returns-in-Ok-clause-scheduled g c =
     let w = c.self.inside in
-    subst (λ (x : WorldState). SchedulesAs x.core c.args.entry (Ok c.in-Ok.number)) c.self.view_is
-    (scheduled_as (states_of w.cells.items) w.failed w.starved w.sessions w.book.state.greatest w.dumps w.book.state c.args.entry c.schedule.new.self.state c.in-Ok.number c.in-Ok.ensures.state.ok c.in-Ok.ensures.state.number c.in-Ok.ensures.state.ready)
+    subst (λ (x : WorldState). SchedulesAs x.core c.args.entry (Ok c.in-Ok.number)) c.self.view_is (scheduled_as c.in-Ok.ensures.state (states_of w.cells.items) w.failed w.starved w.sessions w.dumps c.in-Ok.number refl)
 
 pub returns-in-Err-clause-scheduled : goal.returns-in-Err-clause-scheduled
 returns-in-Err-clause-scheduled g c =
     let w = c.self.inside in
     subst (λ (x : WorldState). SchedulesAs x.core c.args.entry (Err c.in-Err.error)) c.self.view_is
-    (not_scheduled (states_of w.cells.items) w.failed w.starved w.sessions w.book.state.greatest w.dumps w.book.state c.args.entry c.schedule.result c.in-Err.error c.in-Err.is
-    c.schedule.ensures.state.in_progress c.schedule.ensures.state.no_backend c.schedule.ensures.state.full c.schedule.ensures.state.faulted)
+    (not_scheduled c.schedule.ensures.state (states_of w.cells.items) w.failed w.starved w.sessions w.dumps c.in-Err.error c.in-Err.is)
 
 pub invariant_of-self-in-Err : goal.invariant_of-self-in-Err
 invariant_of-self-in-Err g c =
@@ -70,40 +65,19 @@ invariant_of-self-in-Err g c =
     let high : (session_at core c.args.s).number ≤ w.book.state.greatest = sound.0.number.1 in
     let own : (session_at core c.args.s).number ≡ c.args.s = sound.1 in
     let session : e.session ≡ c.args.s = c.requires.session in
-    let q =
-    refused c.schedule.result c.in-Err.error c.in-Err.is w.book.state c.schedule.new.self.state (LogFailed e.session e.seq)
-    (λ (b : BookState g.row.S.Denot). KeptFresh g.B.Backend.TELLS (world_of w.accounts b.layout b.history (states_of w.cells.items) w.failed w.starved w.sessions b.greatest w.dumps) b.sessions w.first_outcome b.cache w.dumps)
-    c.schedule.ensures.state.log_fault c.schedule.ensures.state.same
-    (λ fault.
-    let can = c.schedule.ensures.state.faulted fault in
-    let space : 3 ≤ events_left w.book.state.history = can.space in (
-      kept_log_failed g.B.Backend.TELLS w.accounts w.book.state.layout w.book.state.history (states_of w.cells.items) w.failed w.starved w.sessions w.book.state.greatest w.dumps w.book.state.sessions w.first_outcome c.self.invariant.0 e.session e.seq can.is_free (omega arith) (omega arith)
-          (λ some. subst (λ (k : ℕ). (session_at core k).reading ≡ None) (sym session) no_read),
-      fresh_event w.book.state.history w.book.state.cache g.B.Backend.TELLS (LogFailed e.session e.seq) refl c.self.invariant.1,
-      dumps_event g.B.Backend.TELLS (placement_of w.book.state.layout) w.book.state.history w.dumps c.self.invariant.2 (LogFailed e.session e.seq) refl,
-    ))
-    (c.self.invariant.0, c.self.invariant.1, c.self.invariant.2)
-    in
+    let q = kept_unscheduled c.schedule.ensures.state w.accounts (states_of w.cells.items) w.failed w.starved w.sessions w.dumps w.first_outcome g.B.Backend.TELLS c.in-Err.error c.in-Err.is
+    (c.self.invariant.0, c.self.invariant.1, c.self.invariant.2) (omega arith) (λ some. subst (λ (k : ℕ). (session_at core k).reading ≡ None) (sym session) no_read) in
     (q.0, q.1, q.2, seats_after (board_id w.board) (pass_board w.pass) w.book c.schedule.new.self w.cells.items w.failed c.self.invariant.3.0 c.self.invariant.3.1 (event_or_fault (Sched e) (LogFailed e.session e.seq) c.schedule.result) (quiet_or_fault (Sched e) (LogFailed e.session e.seq) c.schedule.result (λ b. refl) (λ b. refl)) c.schedule.ensures.board c.schedule.ensures.seat)
 
 pub schedule-requires-clause-counted : goal.schedule-requires-clause-counted
 schedule-requires-clause-counted g c =
-    let w = c.self.inside in
     let e = c.args.entry in
-    (counted w.book (Sched e) c.self.invariant.3.1.unowned, counted w.book (LogFailed e.session e.seq) c.self.invariant.3.1.unowned)
+    (counted c.self.inside.book (Sched e) c.self.invariant.3.1.unowned, counted c.self.inside.book (LogFailed e.session e.seq) c.self.invariant.3.1.unowned)
 
 pub returns-in-Ok-clause-cache : goal.returns-in-Ok-clause-cache
 returns-in-Ok-clause-cache g c =
-    let w = c.self.inside in
-    let e = c.args.entry in
-    rw c.in-Ok.ensures.state.ok
-    (subst (λ (x : WorldState). FollowsLog (log x.core.history) (log (w.book.state.history ++ Sched e ∷ [])) x.cache (without_touched (log w.book.state.history) e w.book.state.cache)) c.self.view_is (follows_entry w.book.state.history w.book.state.cache e))
+    subst (λ (x : WorldState). FollowsLog (log x.core.history) (log c.schedule.new.self.state.history) x.cache c.schedule.new.self.state.cache) c.self.view_is (follows_scheduled c.in-Ok.ensures.state c.in-Ok.number refl)
 
 pub returns-in-Err-clause-cache : goal.returns-in-Err-clause-cache
 returns-in-Err-clause-cache g c =
-    let w = c.self.inside in
-    let e = c.args.entry in
-    subst (λ (x : WorldState). FollowsLog (log x.core.history) (log c.schedule.new.self.state.history) x.cache c.schedule.new.self.state.cache) c.self.view_is
-    (refused c.schedule.result c.in-Err.error c.in-Err.is w.book.state c.schedule.new.self.state (LogFailed e.session e.seq)
-    (λ (b : BookState g.row.S.Denot). FollowsLog (log w.book.state.history) (log b.history) w.book.state.cache b.cache) c.schedule.ensures.state.log_fault c.schedule.ensures.state.same
-    (λ _. follows_event w.book.state.history w.book.state.cache (LogFailed e.session e.seq) refl) (inl (refl, refl)))
+    subst (λ (x : WorldState). FollowsLog (log x.core.history) (log c.schedule.new.self.state.history) x.cache c.schedule.new.self.state.cache) c.self.view_is (follows_unscheduled c.schedule.ensures.state c.in-Err.error c.in-Err.is)

@@ -57,33 +57,16 @@ hear-requires-clause-within g c =
     let there = subst (λ (x : WorldState). position_at x.core c.args.b ≡ Some (length (log x.core.history))) (sym c.self.view_is) c.requires.there in
     here w.cells.items c.args.b (length (log w.book.state.history)) there
 
-pub hear-requires-clause-numbered : goal.hear-requires-clause-numbered
-hear-requires-clause-numbered g c = λ b d lt. (c.self.invariant.0.world.cells b d lt).number
-
-pub hear-requires-clause-at : goal.hear-requires-clause-at
-hear-requires-clause-at g c = c.self.invariant.3.0
-
-pub enable-requires-clause-board : goal.enable-requires-clause-board
-enable-requires-clause-board g c = c.hear.ensures.at.of_book
-
-pub enable-requires-clause-is_free : goal.enable-requires-clause-is_free
-enable-requires-clause-is_free g c =
-    let w = c.self.inside in
-    rw c.hear.ensures.heard.heard.state (subst (λ (x : WorldState). is_idle x.core.history ≡ true) (sym c.self.view_is) c.requires.free)
-
-pub enable-requires-clause-is_disabled : goal.enable-requires-clause-is_disabled
-enable-requires-clause-is_disabled g c =
-    let w = c.self.inside in
-    rw c.hear.ensures.heard.heard.state (subst (λ (x : WorldState). is_enabled x.core.history c.args.b ≡ false) (sym c.self.view_is) c.requires.off)
-
 pub enable-requires-clause-position : goal.enable-requires-clause-position
 enable-requires-clause-position g c =
-    let w = c.self.inside in
     let there = subst (λ (x : WorldState). position_at x.core c.args.b ≡ Some (length (log x.core.history))) (sym c.self.view_is) c.requires.there in
-    rw c.hear.ensures.heard.heard.state (c.hear.ensures.heard.position (length (log w.book.state.history)) there)
+    rw c.hear.ensures.heard.heard.state (c.hear.ensures.heard.position (length (log c.self.inside.book.state.history)) there)
 
 pub enable-requires-clause-below : goal.enable-requires-clause-below
 enable-requires-clause-below g c =
     let w = c.self.inside in
     let there = subst (λ (x : WorldState). position_at x.core c.args.b ≡ Some (length (log x.core.history))) (sym c.self.view_is) c.requires.there in
     rw c.hear.ensures.heard.heard.state (subst (λ (m : ℕ). c.args.b < m) c.self.invariant.0.world.sound.cells (is_there (map (λ (x : CellState). x.position) (states_of w.cells.items)) c.args.b (length (log w.book.state.history)) there))
+
+pub hear-requires-clause-numbered : goal.hear-requires-clause-numbered
+hear-requires-clause-numbered g c = λ b d lt. (c.self.invariant.0.world.cells b d lt).number

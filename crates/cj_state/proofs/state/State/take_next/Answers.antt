@@ -1,20 +1,15 @@
-use Rattle.std.proofs.Common.{◌≡◌, ℕ, ◌<◌, ◌+◌, None, Ok, refl, ap, sym, subst}
+use Rattle.std.proofs.Common.{◌≡◌, ◌+◌, None, Ok, sym, subst}
 use Rattle.cj_cluster.specs.declared.moves.Move.TheVariants.{Replay}
 use Rattle.cj_cluster.specs.declared.moves.Moved.TheVariants.{Replayed}
 use Rattle.cj_cluster.specs.Moves.Moves.{position_or_zero, not_now, Replays}
 use Rattle.cj_cluster.specs.Moves.Cores.{position_at}
 use Rattle.cj_cluster.proofs.Now.{CanReplay, can_replay}
-use Rattle.cj_state.specs.Worlds.{WorldState, core_of, world_of}
-use Rattle.cj_state.specs.CalledLogins.{LogsInToTake, login_to_take, logins_of}
+use Rattle.cj_state.specs.Worlds.{WorldState, core_of}
 use Rattle.cj_state.proofs.Catching.{can_take}
 use Rattle.cj_state.proofs.Taking.{kept_replayed, replays, took_counts, took_armings, took_logins}
 use Rattle.cj_state.specs.Seats.{states_of}
 use Rattle.cj_state.proofs.HeardOf.{ready_heard}
 use Rattle.cj_state.proofs.state.State.take_next.Goals as goal
-
-pub take-requires-clause-registered : goal.take-requires-clause-registered
-take-requires-clause-registered g c =
-    subst (λ (m : ℕ). c.args.b < m) (sym c.self.invariant.0.world.registered) (subst (λ (x : WorldState). c.args.b < x.core.placement.backends) (sym c.self.view_is) c.requires.within)
 
 pub take-requires-clause-can : goal.take-requires-clause-can
 take-requires-clause-can g c =
@@ -36,23 +31,13 @@ returns-clause-replays g c =
     (rw c.take.ensures.heard.state (replays g.B.Backend.TELLS w.accounts w.book.state.layout w.book.state.history (states_of w.cells.items) w.failed w.starved w.sessions w.book.state.greatest w.dumps w.book.state.sessions w.first_outcome c.self.invariant.0 c.args.b c.take.result (states_of c.take.new.cells.items) c.take.ensures.took))
 
 pub returns-clause-counts : goal.returns-clause-counts
-returns-clause-counts g c =
-    let w = c.self.inside in
-    took_counts g.B.Backend.TELLS w.accounts w.book.state.layout w.book.state.history (states_of w.cells.items) w.failed w.starved w.sessions w.book.state.greatest w.dumps w.book.state.sessions w.first_outcome c.self.invariant.0 c.args.b c.take.result (states_of c.take.new.cells.items) c.take.ensures.took c.args.self.now.cells (ap (λ (x : WorldState). x.cells) (sym c.self.view_is))
+returns-clause-counts g c = took_counts c.self.invariant.0 c.self.view_is c.requires.within c.take.ensures.took
 
 pub returns-clause-armings : goal.returns-clause-armings
-returns-clause-armings g c =
-    let w = c.self.inside in
-    took_armings g.B.Backend.TELLS w.accounts w.book.state.layout w.book.state.history (states_of w.cells.items) w.failed w.starved w.sessions w.book.state.greatest w.dumps w.book.state.sessions w.first_outcome c.self.invariant.0 c.args.b c.take.result (states_of c.take.new.cells.items) c.take.ensures.took c.args.self.now.cells (ap (λ (x : WorldState). x.cells) (sym c.self.view_is))
+returns-clause-armings g c = took_armings c.self.invariant.0 c.self.view_is c.requires.within c.take.ensures.took
 
 pub returns-clause-logins : goal.returns-clause-logins
-returns-clause-logins g c =
-    let w = c.self.inside in
-    subst (λ (x : WorldState). LogsInToTake c.args.b (login_to_take x c.args.b) c.take.result (logins_of x.cells) (logins_of (states_of c.take.new.cells.items))) c.self.view_is
-    (took_logins g.B.Backend.TELLS w.accounts w.book.state.layout w.book.state.history (states_of w.cells.items) w.failed w.starved w.sessions w.book.state.greatest w.dumps w.book.state.sessions w.first_outcome c.self.invariant.0 c.args.b c.take.result (states_of c.take.new.cells.items) c.take.ensures.took (world_of w.accounts w.book.state.layout w.book.state.history (states_of w.cells.items) w.failed w.starved w.sessions w.book.state.greatest w.dumps) refl)
-
-pub take-requires-clause-at : goal.take-requires-clause-at
-take-requires-clause-at g c = c.self.invariant.3.0
+returns-clause-logins g c = took_logins c.self.invariant.0 c.self.view_is c.requires.within c.take.ensures.took
 
 pub take-requires-clause-numbered : goal.take-requires-clause-numbered
 take-requires-clause-numbered g c = λ b d lt. (c.self.invariant.0.world.cells b d lt).number
