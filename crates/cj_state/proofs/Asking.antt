@@ -1,37 +1,18 @@
 -- What a world keeps where a backend is asked, and what it answers.
 use Rattle.std.proofs.Common.{◌≡◌, ℕ, ◌<◌, ◌≤◌, Bool, true, false, cond, List, length, get_or, Option, None, Some, IfSome, Result, Ok, Err, refl, ap, sym, ◌∙◌, subst, arith, ⊎_elim}
 use Rattle.std.specs.Prelude.{◌↔◌, IsErrOf}
-use Rattle.std.proofs.lemmas.Bool.{cases_lt, false_from_ne_true}
-use Rattle.cj_model.specs.declared.database.Slot.{Slot}
-use Rattle.cj_model.specs.declared.select.Select.{Select}
-use Rattle.cj_model.specs.declared.answer.Asked.{Asked}
-use Rattle.cj_model.specs.declared.answer.Outcome.{Outcome}
-use Rattle.cj_cluster.specs.declared.event.Event.{Event}
-use Rattle.cj_cluster.specs.declared.event.Event.TheVariants.{ReadFailed}
-use Rattle.cj_cluster.specs.declared.moves.OpenSession.{OpenSession}
+use Rattle.cj_state.proofs.Common.{Asked, BookState, CacheState, cases_lt, CellReadError, ChangesCell, Core, core_of, CoreInvariant, database_after, Dump, Event, events_left, false_from_ne_true, HasNoRoomForOne, HoldsPart, hosts_all, Kept, log, logins_of, LogsInToAsk, LogView, OpenSession, Outcome, part, position_at, ReadFailed, Select, session_at, Slot, with_cache, with_event, with_log, WorldState}
 use Rattle.cj_model.specs.Database.Queries.{ask}
 use Rattle.cj_model.specs.Database.Outcomes.{IsAsked}
-use Rattle.cj_model.specs.Cluster.Placements.{part, hosts_all}
-use Rattle.cj_cluster.specs.History.Histories.{log, events_left, database_after}
-use Rattle.cj_cluster.specs.Moves.Cores.{Core, position_at, session_at}
 use Rattle.cj_cluster.specs.Moves.Moves.{happened, read_number, IsFarEnough}
-use Rattle.cj_cluster.specs.Proving.Invariants.{CoreInvariant, HoldsPart}
 use Rattle.cj_model.proofs.PartLaws.{ask_part}
 use Rattle.cj_outside.specs.Causes.{CountsFault, next}
-use Rattle.cj_book.specs.Books.{BookState, with_event, HasNoRoomForOne}
-use Rattle.cj_model.specs.Cluster.Caching.{CacheState}
-use Rattle.cj_dump.specs.declared.dump.Dump.{Dump}
-use Rattle.cj_replica.specs.declared.replica.CellReadError.{CellReadError}
 use Rattle.cj_replica.specs.declared.replica.CellReadError.TheVariants as errors
 use Rattle.cj_backend.specs.Backends.{asks_after, spent}
 use Rattle.cj_replica.specs.Cells.{CellState, SaysReadAnswer, HasCellReadCause, SpendsArmingIf, is_asked, LogsInForRead}
-use Rattle.cj_state.specs.Worlds.{WorldState, LogView, core_of, with_cache, with_log}
 use Rattle.cj_state.specs.declared.cells.AskError.{AskError}
 use Rattle.cj_state.specs.declared.cells.AskError.TheVariants as ask_errors
 use Rattle.cj_state.specs.Effects.{Asks, Notes, asked_core, failed_asked}
-use Rattle.cj_state.specs.Proving.Kept.{Kept}
-use Rattle.cj_state.specs.CalledLogins.{logins_of, LogsInToAsk}
-use Rattle.cj_state.specs.Seats.{ChangesCell}
 use Rattle.cj_state.proofs.CellsKept.{position_within}
 use Rattle.cj_state.proofs.ChangedCell.{cell_there, changed_logins, may_change_under, stands_there}
 

@@ -1,39 +1,14 @@
 -- What a cell that takes its next entry makes of the cells.
 use Rattle.std.proofs.Common.{◌≡◌, ◌≢◌, ◌⊎◌, inl, inr, ℕ, ◌+◌, ◌<◌, ◌≤◌, not, Bool, true, cond, List, [], ◌∷◌, length, map, get_or, set, slice_get, Option, Some, option_map, IfSome, IfOk, Result, Ok, Err, refl, ap, sym, ◌∙◌, subst, arith, ⊎_elim}
 use Rattle.std.specs.Option.{option_map_or}
-use Rattle.std.proofs.lemmas.List.{get_or_default, length-map}
-use Rattle.cj_outside.specs.Causes.{next}
-use Rattle.cj_model.specs.declared.database.Slot.{Slot}
+use Rattle.cj_state.proofs.Common.{Caught, CellError, core_of, database_after, did_fail, Disabled, DoesWithEntry, Dump, Enabled, Ended, Entry, Event, get_or_default, is_there, IsCell, Kept, Layout, legal_fit, length-map, log, LogFailed, login_of, logins_of, LogsInToTake, Marker, MayCallUnder, next, next_user, OpenSession, Outcome, part, placement_of, position_at, ReadFailed, Register, Sched, Slot, step, takes_part, world_of}
 use Rattle.cj_model.specs.declared.account.Account.{Account}
-use Rattle.cj_model.specs.declared.request.Entry.{Entry}
-use Rattle.cj_model.specs.declared.answer.Outcome.{Outcome}
-use Rattle.cj_cluster.specs.declared.event.Event.{Event}
-use Rattle.cj_cluster.specs.declared.event.Event.TheVariants.{Sched, Ended, ReadFailed, LogFailed, Disabled, Enabled, Marker}
-use Rattle.cj_cluster.specs.declared.moves.OpenSession.{OpenSession}
-use Rattle.cj_model.specs.Cluster.Accounts.{login_of}
-use Rattle.cj_model.specs.Cluster.Placements.{part}
-use Rattle.cj_model.specs.Database.Steps.{step}
-use Rattle.cj_cluster.specs.History.Histories.{log, database_after}
-use Rattle.cj_cluster.specs.History.Transactions.{takes_part}
-use Rattle.cj_cluster.specs.Moves.Cores.{position_at}
-use Rattle.cj_cluster.specs.Moves.Moves.{DoesWithEntry}
 use Rattle.cj_cluster.specs.Proving.Invariants.{HoldsPart, HasBegunDrafts, CoversDrafts}
-use Rattle.cj_cluster.proofs.Effects.{is_there}
 use Rattle.cj_cluster.proofs.PartRuns.{part_at_taken}
-use Rattle.cj_cluster.proofs.TransactionLaws.{legal_fit}
-use Rattle.cj_auth.specs.Admission.{Register}
-use Rattle.cj_dump.specs.declared.dump.Dump.{Dump}
-use Rattle.cj_place.specs.Layouts.{Layout, placement_of}
-use Rattle.cj_replica.specs.declared.replica.Caught.{Caught}
 use Rattle.cj_replica.specs.declared.replica.Caught.TheVariants as caught
-use Rattle.cj_replica.specs.declared.replica.CellError.{CellError}
 use Rattle.cj_replica.specs.declared.replica.CellError.TheVariants as errors
 use Rattle.cj_replica.specs.Cells.{CellState, CatchesUp, HasCellCause, LogsInForEntry, SaysEntryOutcome, IsCaught, takes_part_in_entry, begun_after_entry, is_skipped, position_after}
 use Rattle.cj_replica.proofs.HeldParts.{drafts_taken, holds_taken}
-use Rattle.cj_state.specs.Worlds.{core_of, world_of, IsCell}
-use Rattle.cj_state.specs.Faults.{did_fail}
-use Rattle.cj_state.specs.Proving.Kept.{Kept}
-use Rattle.cj_state.specs.CalledLogins.{logins_of, next_user, LogsInToTake, MayCallUnder}
 use Rattle.cj_state.specs.Proving.Taking.{CanTake, TookEntry, did_of}
 use Rattle.cj_state.proofs.Counted.{logins_may, logins_same, logins_set, spent_times}
 use Rattle.cj_state.proofs.CellsKept.{position_of, begun_of, position_within}

@@ -1,21 +1,8 @@
 -- The cells of a world: where they stand, what they hold of a log that grew, and how one of them is changed.
 use Rattle.std.proofs.Common.{◌≡◌, ℕ, ◌<◌, ◌≤◌, Bool, true, List, [], ◌∷◌, ◌++◌, length, map, get_or, set, Option, None, Some, IfSome, refl, ap, sym, ◌∙◌, subst, arith, ⊎_elim}
-use Rattle.std.proofs.lemmas.Bool.{cases_eq, eqb-true}
-use Rattle.std.proofs.lemmas.List.{get_or-set_same, get_or-set_other, length-set, get_or-map}
-use Rattle.cj_model.specs.declared.request.Entry.{Entry}
-use Rattle.cj_model.specs.Cluster.Placements.{Placement}
-use Rattle.cj_cluster.specs.History.Histories.{log, ended_count, is_idle, is_enabled}
-use Rattle.cj_cluster.specs.Moves.Cores.{Core, position_at}
-use Rattle.cj_cluster.specs.Moves.Moves.{last_number}
-use Rattle.cj_cluster.specs.Proving.Invariants.{BackendStands, CoreInvariant}
+use Rattle.cj_state.proofs.Common.{AreBetween, BackendStands, cases_eq, CellState, Core, CoreInvariant, ended_count, Entry, eqb-true, Event, get_or-map, get_or-set_other, get_or-set_same, is_enabled, is_idle, IsCell, IsWorld, last_number, length-set, log, OpenSession, Placement, position_at, TakenDump, WorldState}
 use Rattle.cj_cluster.proofs.Effects.{stands_there, no_masks}
-use Rattle.cj_replica.specs.Cells.{CellState}
 use Rattle.cj_replica.proofs.HeldParts.{drafts_longer, holds_longer}
-use Rattle.cj_state.specs.Worlds.{WorldState, IsCell, IsWorld}
-use Rattle.cj_cluster.specs.declared.event.Event.{Event}
-use Rattle.cj_cluster.specs.declared.moves.OpenSession.{OpenSession}
-use Rattle.cj_cluster.specs.declared.moves.TakenDump.{TakenDump}
-use Rattle.cj_cluster.specs.Moves.Runs.{AreBetween}
 
 -- a cell is the same of a log that grew
 pub cell_longer : (tells : Bool) (p : Placement) (b : ℕ) (entries : List Entry) (e : Entry) (x : CellState) → ((q : ℕ) → x.position ≡ Some q → q ≤ length entries) → IsCell tells p entries b x → IsCell tells p (entries ++ e ∷ []) b x

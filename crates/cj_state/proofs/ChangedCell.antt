@@ -1,23 +1,7 @@
 -- A world of which one cell has changed: what it keeps, and what callers see of it.
 use Rattle.std.proofs.Common.{◌≡◌, ◌⊎◌, inl, inr, ℕ, ◌<◌, Bool, cond, List, length, map, get_or, set, Option, None, Some, Result, refl, ap, sym, ◌∙◌, subst, ⊎_elim}
-use Rattle.std.proofs.Math.Seq.{map-set_same}
 use Rattle.std.proofs.lemmas.List.{length-map, get_or_default, set-get_or}
-use Rattle.cj_outside.specs.Causes.{next}
-use Rattle.cj_model.specs.declared.answer.Outcome.{Outcome}
-use Rattle.cj_model.specs.Cluster.Caching.{CacheState}
-use Rattle.cj_cluster.specs.History.Histories.{log}
-use Rattle.cj_cluster.specs.Moves.Cores.{Core, position_at}
-use Rattle.cj_cluster.specs.Proving.Invariants.{CoreInvariant}
-use Rattle.cj_cluster.proofs.Standing.{stand_rest}
-use Rattle.cj_replica.specs.declared.replica.CellError.{CellError}
-use Rattle.cj_replica.specs.Cells.{CellState, HasCellCause}
-use Rattle.cj_state.specs.ArmedCells.{armings_of, armings_after}
-use Rattle.cj_state.specs.CalledLogins.{CallsUnder, MayCallUnder, logins_of}
-use Rattle.cj_state.specs.Faults.{faults_of, faults_after}
-use Rattle.cj_state.specs.Held.{failed_contents}
-use Rattle.cj_state.specs.Proving.Kept.{Kept}
-use Rattle.cj_state.specs.Seats.{ChangesCell}
-use Rattle.cj_state.specs.Worlds.{WorldState, LogView, IsCell, IsWorld, with_cache, with_log}
+use Rattle.cj_state.proofs.Common.{armings_after, armings_of, CacheState, CallsUnder, CellError, CellState, ChangesCell, Core, CoreInvariant, failed_contents, faults_after, faults_of, HasCellCause, IsCell, IsWorld, Kept, log, logins_of, LogView, map-set_same, MayCallUnder, next, Outcome, position_at, stand_rest, with_cache, with_log, WorldState}
 use Rattle.cj_state.proofs.CellsKept.{cells_set, position_of}
 use Rattle.cj_state.proofs.Contents.{contents_fault}
 use Rattle.cj_state.proofs.Counted.{armings_set, counts_set, logins_same, logins_set}

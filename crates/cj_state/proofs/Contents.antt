@@ -1,11 +1,7 @@
 -- What a backend answers that is asked for all that it holds.
 use Rattle.std.proofs.Common.{◌≡◌, ℕ, Bool, true, false, cond, Result, Ok, Err, Some, None, refl, ap, sym, ◌∙◌}
-use Rattle.std.proofs.lemmas.Bool.{false_from_ne_true}
-use Rattle.cj_outside.specs.Causes.{next}
-use Rattle.cj_replica.specs.declared.replica.CellError.{CellError}
+use Rattle.cj_state.proofs.Common.{CellError, CellState, failed_contents, false_from_ne_true, HasCellCause, next, SpendsArmingIf}
 use Rattle.cj_replica.specs.declared.replica.CellError.TheVariants as cell_errors
-use Rattle.cj_replica.specs.Cells.{CellState, HasCellCause, SpendsArmingIf}
-use Rattle.cj_state.specs.Held.{failed_contents}
 
 -- whose fault was counted
 pub contents_fault : {T : Type 0} (b : ℕ) (r : Result T CellError) (before now : ℕ) → HasCellCause before now r

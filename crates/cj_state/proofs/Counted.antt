@@ -1,13 +1,6 @@
 -- Counts of faults and of armings, and logins, where one cell changes.
 use Rattle.std.proofs.Common.{◌≡◌, ◌⊎◌, inl, inr, ℕ, ◌<◌, Bool, true, false, cond, List, length, get_or, set, None, Some, ap, sym, ◌∙◌, refl, ⊎_elim}
-use Rattle.std.proofs.Math.Seq.{map-set_same}
-use Rattle.std.proofs.lemmas.List.{map-set, get_or-map}
-use Rattle.cj_outside.specs.Causes.{next}
-use Rattle.cj_backend.specs.Backends.{Arming, arming_after, spent}
-use Rattle.cj_replica.specs.Cells.{CellState}
-use Rattle.cj_state.specs.ArmedCells.{armings_of, armings_after}
-use Rattle.cj_state.specs.Faults.{faults_of, faults_after}
-use Rattle.cj_state.specs.CalledLogins.{CallsUnder, MayCallUnder, logins_of}
+use Rattle.cj_state.proofs.Common.{Arming, arming_after, armings_after, armings_of, CallsUnder, CellState, faults_after, faults_of, get_or-map, logins_of, map-set, map-set_same, MayCallUnder, next, spent}
 
 -- the backend of cell b failed or did not, and this cell alone has changed
 pub counts_set : (cells : List CellState) (b : ℕ) (y : CellState) (failed : Bool) → b < length cells → y.faults ≡ cond failed (next (get_or cells b y).faults) (get_or cells b y).faults

@@ -4,32 +4,13 @@ use Rattle.std.specs.Str.{bytes_eq}
 use Rattle.std.proofs.lemmas.List.{take-append-le, map_push}
 use Rattle.std.proofs.lemmas.Option.{same_Some}
 use Rattle.std.proofs.lemmas.List.Elements.{All-head, All-push, All-tail, All-weaker}
-use Rattle.cj_model.specs.declared.answer.Outcome.{Outcome}
-use Rattle.cj_model.specs.declared.request.Entry.{Entry}
-use Rattle.cj_model.specs.Cluster.Placements.{Placement, part}
+use Rattle.cj_state.proofs.Common.{AreBetween, CellState, CoreInvariant, cut, Dump, Entry, Event, find_dump, first_of, HoldsPart, hosts_beyond, IsHeld, Kept, Layout, log-same, log-sched, OpenSession, Outcome, part, Placement, placement_of, position_at, Register, Sched, taken_of, TakenDump}
 use Rattle.cj_model.proofs.RisingLaws.{found_All}
-use Rattle.cj_cluster.specs.declared.event.Event.{Event}
-use Rattle.cj_cluster.specs.declared.event.Event.TheVariants.{Sched}
-use Rattle.cj_cluster.specs.declared.moves.OpenSession.{OpenSession}
-use Rattle.cj_cluster.specs.declared.moves.TakenDump.{TakenDump}
 use Rattle.cj_cluster.specs.History.Histories.{log, scheduled_entry, database_of, database_after}
-use Rattle.cj_cluster.specs.Moves.Cores.{find_dump, hosts_beyond, position_at}
 use Rattle.cj_cluster.specs.Moves.Moves.{dumped_as}
-use Rattle.cj_cluster.specs.Moves.Runs.{AreBetween}
-use Rattle.cj_cluster.specs.Proving.Invariants.{CoreInvariant, HoldsPart}
 use Rattle.cj_cluster.proofs.Effects.{sound_dumped, stands_there}
-use Rattle.cj_cluster.proofs.Pushed.{log-sched, log-same}
-use Rattle.cj_auth.specs.Admission.{Register}
-use Rattle.cj_dump.specs.declared.dump.Dump.{Dump}
-use Rattle.cj_dump.specs.Coverage.{cut}
-use Rattle.cj_place.specs.Layouts.{Layout, placement_of}
 use Rattle.cj_place.proofs.Parts.{part_of_part}
-use Rattle.cj_replica.specs.Cells.{CellState}
-use Rattle.cj_shelf.specs.MemoryShelves.{taken_of}
-use Rattle.cj_shelf.specs.Shelves.{first_of}
 use Rattle.cj_state.specs.Worlds.{core_of, world_of, IsDumpOf, AreDumpsOf}
-use Rattle.cj_state.specs.Held.{IsHeld}
-use Rattle.cj_state.specs.Proving.Kept.{Kept}
 use Rattle.cj_state.proofs.CellsKept.{world_behind}
 
 -- a dump is the same of a log that grew

@@ -1,43 +1,21 @@
 -- What an end answers.
 use Rattle.std.proofs.Common.{◌≡◌, ◌≢◌, ◌⊎◌, inl, inr, ℕ, ◌<◌, ◌≤◌, ◌^◌, ◌&&◌, ◌||◌, not, Bool, true, false, bit_and, List, [], ◌∷◌, ◌++◌, length, map, Option, option_map, None, Some, IsSome, refl, ap, sym, ◌∙◌, subst, arith, ⊎_elim}
 use Rattle.std.proofs.lemmas.Bool.{cases_eq, both_ways, and_parts, and_cases, or_cases, or_parts, not-true, not-false}
-use Rattle.std.proofs.lemmas.Nat.{and_le_l}
-use Rattle.cj_model.specs.declared.request.Act.{Act}
+use Rattle.cj_state.proofs.Common.{Act, and_le_l, BackendStands, behind_none, CellState, core_of, database_after, Dump, Ended, ended_count, Entry, entry_in_progress, Event, first_lagging, in_mask, is_enabled, IsOutcome, Kept, Layout, log, OpenSession, Outcome, outcome_of, placement_of, position_at, Register, request_of, Slot, takes_part, world_of}
 use Rattle.cj_model.specs.declared.request.Act.TheVariants as act
-use Rattle.cj_model.specs.declared.request.Entry.{Entry}
-use Rattle.cj_model.specs.declared.answer.Outcome.{Outcome}
 use Rattle.cj_model.specs.declared.answer.Outcome.TheVariants as outcome
 use Rattle.cj_model.specs.declared.answer.Refusal.{Refusal}
 use Rattle.cj_model.specs.declared.answer.Reply.TheVariants as reply
-use Rattle.cj_model.specs.declared.database.Slot.{Slot}
-use Rattle.cj_cluster.specs.declared.event.Event.{Event}
-use Rattle.cj_cluster.specs.declared.event.Event.TheVariants.{Ended}
-use Rattle.cj_cluster.specs.declared.moves.OpenSession.{OpenSession}
 use Rattle.cj_model.specs.declared.codes.TheConstants.{UNFINISHED, STARVED_ALL}
-use Rattle.cj_model.specs.Sql.PlainRequests.{request_of}
-use Rattle.cj_model.specs.Cluster.Masks.{in_mask}
 use Rattle.cj_model.specs.Cluster.Placements.{hosts, hosts_all, concerns}
-use Rattle.cj_model.specs.Database.Outcomes.{IsOutcome}
 use Rattle.cj_model.specs.Database.Steps.{table_written, acted, step}
 use Rattle.cj_model.specs.Wire.Replies.{outcome_reply}
-use Rattle.cj_cluster.specs.History.Histories.{log, ended_count, entry_in_progress, is_enabled, database_after, outcome_of}
 use Rattle.cj_cluster.specs.History.Answering.{IsTarget, HasServer, AnswersEntry}
-use Rattle.cj_cluster.specs.History.Transactions.{takes_part}
-use Rattle.cj_cluster.specs.Moves.Cores.{position_at}
-use Rattle.cj_cluster.specs.Moves.Moves.{first_lagging}
-use Rattle.cj_cluster.specs.Proving.Invariants.{BackendStands}
 use Rattle.cj_cluster.proofs.Pushed.{enabled-push, ends-last, log-same}
 use Rattle.cj_model.proofs.Masks.{has-zero, some_bit}
 use Rattle.cj_model.proofs.MaskBits.{has-and}
-use Rattle.cj_cluster.proofs.Now.{behind_none}
 use Rattle.cj_book.specs.Books.{is_target_at}
-use Rattle.cj_auth.specs.Admission.{Register}
-use Rattle.cj_dump.specs.declared.dump.Dump.{Dump}
-use Rattle.cj_place.specs.Layouts.{Layout, placement_of}
-use Rattle.cj_replica.specs.Cells.{CellState}
-use Rattle.cj_state.specs.Worlds.{core_of, world_of}
 use Rattle.cj_state.specs.Effects.{Refuses}
-use Rattle.cj_state.specs.Proving.Kept.{Kept}
 
 module _ (tells : Bool) (reg : Register) (l : Layout) (h : List Event) (cells : List CellState) (f s : ℕ) (ss : List OpenSession) (g : ℕ) (ds : List Dump) (numbers : List ℕ) (first_outcome : Option Outcome) (kept : Kept tells (world_of reg l h cells f s ss g ds) numbers first_outcome)
     (targets left : ℕ) (are : (b : ℕ) → in_mask targets b ≡ is_target_at (placement_of l) h (entry_in_progress h) b) (rest : (b : ℕ) → in_mask left b ≡ is_enabled (h ++ Ended f s ∷ []) b)

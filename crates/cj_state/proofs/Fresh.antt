@@ -1,11 +1,6 @@
 -- The cache along the log.
 use Rattle.std.proofs.Common.{◌≡◌, inl, inr, Bool, List, [], ◌∷◌, ◌++◌, None, refl, sym, subst}
-use Rattle.cj_model.specs.declared.request.Entry.{Entry}
-use Rattle.cj_model.specs.Cluster.Caching.{CacheState}
-use Rattle.cj_cluster.specs.declared.event.Event.{Event}
-use Rattle.cj_cluster.specs.declared.event.Event.TheVariants.{Sched}
-use Rattle.cj_cluster.specs.History.Histories.{log, scheduled_entry}
-use Rattle.cj_cluster.proofs.Pushed.{log-sched, log-same}
+use Rattle.cj_state.proofs.Common.{CacheState, Entry, Event, log, log-same, log-sched, Sched, scheduled_entry}
 use Rattle.cj_freshness.specs.Freshness.{FollowsLog, IsFreshCache, without_touched}
 use Rattle.cj_freshness.proofs.Fresh.{fresh_next}
 

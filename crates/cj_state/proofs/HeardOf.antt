@@ -1,27 +1,13 @@
 -- What a book knows that has heard more, and cells of which one has changed.
 use Rattle.std.proofs.Common.{◌≡◌, ⊎_elim, ℕ, ◌+◌, ◌<◌, ◌≤◌, ◌==◌, Bool, cond, List, [], ◌∷◌, length, get_or, set, slice_get, Some, refl, ap, sym, ◌∙◌, subst, arith}
 use Rattle.std.specs.Prelude.{All, Contains}
-use Rattle.std.proofs.Math.Seq.{map-set_same}
-use Rattle.std.proofs.lemmas.Bool.{both_ways, cases_eq, eq-eqb}
-use Rattle.std.proofs.lemmas.List.{get_or-map, get_or-set_other, get_or-set_same, length-map, length-set, map-set}
 use Rattle.std.proofs.lemmas.List.Elements.{All-get_or, All-set, Contains-append_left, Contains-append_right}
 use Rattle.std.proofs.lemmas.List.Sums.{sum_by-cons}
-use Rattle.std.proofs.lemmas.Option.{slice_get-get_or, slice_get_within}
-use Rattle.atomic_table.specs.Seated.{TableId}
-use Rattle.cj_model.specs.Cluster.Masks.{in_mask}
+use Rattle.cj_state.proofs.Common.{both_ways, cases_eq, CellState, Did, eq-eqb, failed_after, fault_tokens_of, get_or-map, get_or-set_other, get_or-set_same, in_mask, length-map, length-set, map-set, map-set_same, SeatedBook, SeatedCell, SeatView, slice_get-get_or, slice_get_within, states_of, TableId, tokens-append}
 use Rattle.cj_model.proofs.Masks.{has-with_other, has-zero}
-use Rattle.cj_board.specs.declared.view.SeatView.{SeatView}
-use Rattle.cj_board.specs.Points.{fault_tokens_of}
 use Rattle.cj_board.specs.Steps.{after_learning}
-use Rattle.cj_board.proofs.FaultPoint.{tokens-append}
-use Rattle.cj_cluster.specs.declared.moves.Did.{Did}
 use Rattle.cj_cluster.specs.declared.moves.Did.TheVariants as did
-use Rattle.cj_cluster.specs.Moves.Moves.{failed_after}
-use Rattle.cj_book.specs.Seated.{SeatedBook}
-use Rattle.cj_replica.specs.Cells.{CellState}
-use Rattle.cj_replica.specs.Seated.{SeatedCell}
 use Rattle.cj_state.specs.Proving.Seated.{AreNumbered, HasHeard, IsReady, position_in}
-use Rattle.cj_state.specs.Seats.{states_of}
 use Rattle.cj_state.proofs.CellsKept.{position_of}
 
 -- ---- what a book has heard

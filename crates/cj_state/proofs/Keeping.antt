@@ -1,36 +1,16 @@
 -- Each change of sessions and entries keeps what a world keeps.
 use Rattle.std.proofs.Common.{◌≡◌, ℕ, ◌+◌, ◌==◌, ◌<◌, ◌≤◌, not, Bool, true, false, List, [], ◌∷◌, ◌++◌, filter, length, map, get_or, Option, None, refl, ap, sym, ◌∙◌, subst, arith, length-append}
 use Rattle.std.proofs.lemmas.Bool.{or_parts, leb-false}
-use Rattle.cj_model.specs.declared.request.Entry.{Entry}
-use Rattle.cj_model.specs.declared.answer.Outcome.{Outcome}
-use Rattle.cj_cluster.specs.declared.event.Event.{Event}
-use Rattle.cj_cluster.specs.declared.event.Event.TheVariants.{Sched, Ended}
-use Rattle.cj_cluster.specs.declared.moves.OpenSession.{OpenSession}
-use Rattle.cj_model.specs.declared.select.Select.{Select}
+use Rattle.cj_state.proofs.Common.{AreBetween, CellState, core_of, CoreInvariant, Dump, Ended, Entry, entry_in_progress, Event, events_left, HasServer, HaveFailed, is_entry_of, is_idle, IsCell, IsFitEntry, Kept, Layout, log, new_session, OpenSession, Outcome, placement_of, Register, request_of, Sched, Select, session_at, taken_of, with_session, world_of}
 use Rattle.cj_model.specs.declared.limits.TheConstants.{SESSION_LIMIT, SESSION_NUMBER_LIMIT, USER_LIMIT}
-use Rattle.cj_cluster.specs.History.Histories.{log, is_idle, entry_in_progress, events_left}
-use Rattle.cj_model.specs.Sql.PlainRequests.{request_of}
 use Rattle.cj_model.specs.Cluster.Placements.{hosts_all, needs as needed, needs_backend}
-use Rattle.cj_cluster.specs.History.Legality.{IsFitEntry}
-use Rattle.cj_cluster.specs.History.Answering.{HasServer}
-use Rattle.cj_cluster.specs.Moves.Cores.{session_at, new_session, with_session, is_entry_of}
 use Rattle.cj_cluster.specs.Moves.Moves.{first_lagging, is_open, is_orphan, has_no_number, abort_entry, with_one_request, answered_at, was_answered, still_reading}
-use Rattle.cj_cluster.specs.Proving.Invariants.{CoreInvariant}
-use Rattle.cj_cluster.specs.Moves.Runs.{AreBetween}
 use Rattle.cj_cluster.proofs.Pushed.{enabled-push, log-sched, log-same, log_faults-same, opened-sched, opened-ended}
 use Rattle.cj_cluster.proofs.Sessions.{found_open, without}
 use Rattle.cj_cluster.proofs.Effects.{SessionsAre, KeepsSession, sessions_are, are_opened, are_closed, are_with, are_sched, are_sched_without, sound_sessions, sound_sched, sound_ended}
 use Rattle.cj_cluster.proofs.Soundness.{session_sound, keeps_counted, keeps_answered, keeps_was_answered, keeps_reached, keeps_still_reading}
 use Rattle.cj_cluster.proofs.Now.{behind_none, can_abort}
 use Rattle.cj_cluster.proofs.Standing.{stand_opened, stand_closed, stand_answered, stand_counted, stand_reading, stand_sched, stand_aborted, stand_ended}
-use Rattle.cj_auth.specs.Admission.{Register}
-use Rattle.cj_dump.specs.declared.dump.Dump.{Dump}
-use Rattle.cj_place.specs.Layouts.{Layout, placement_of}
-use Rattle.cj_replica.specs.Cells.{CellState}
-use Rattle.cj_shelf.specs.MemoryShelves.{taken_of}
-use Rattle.cj_state.specs.Worlds.{core_of, world_of, IsCell}
-use Rattle.cj_state.specs.Effects.{HaveFailed}
-use Rattle.cj_state.specs.Proving.Kept.{Kept}
 use Rattle.cj_state.proofs.CellsKept.{cell_longer, position_within, position_of, world_behind}
 use Rattle.cj_state.proofs.OpenNumbers.{numbers_opened, numbers_without, numbers_with}
 

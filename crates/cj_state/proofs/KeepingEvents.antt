@@ -1,25 +1,10 @@
 -- What a world keeps where an event comes that schedules nothing and ends nothing.
 use Rattle.std.proofs.Common.{◌≡◌, ℕ, ◌<◌, ◌≤◌, Bool, true, false, List, [], ◌∷◌, ◌++◌, length, map, Option, None, Some, refl, ap, sym, ◌∙◌}
-use Rattle.std.proofs.lemmas.Bool.{both_ways}
-use Rattle.cj_model.specs.declared.request.Entry.{Entry}
-use Rattle.cj_model.specs.declared.answer.Outcome.{Outcome}
-use Rattle.cj_cluster.specs.declared.event.Event.{Event}
-use Rattle.cj_cluster.specs.declared.event.Event.TheVariants.{ReadFailed, LogFailed, Disabled, Enabled, Marker}
-use Rattle.cj_cluster.specs.declared.moves.OpenSession.{OpenSession}
+use Rattle.cj_state.proofs.Common.{AreBetween, both_ways, CellState, core_of, CoreInvariant, Disabled, Dump, Enabled, Entry, Event, is_entry_of, Kept, Layout, LogFailed, Marker, OpenSession, Outcome, position_at, ReadFailed, Register, session_at, taken_of, world_of}
 use Rattle.cj_cluster.specs.History.Histories.{scheduled_entry, is_end_event, log, ended_count, is_idle, entry_in_progress, is_enabled, has_marker, events_left, outcome_of}
-use Rattle.cj_cluster.specs.Moves.Cores.{position_at, session_at, is_entry_of}
-use Rattle.cj_cluster.specs.Proving.Invariants.{CoreInvariant}
-use Rattle.cj_cluster.specs.Moves.Runs.{AreBetween}
 use Rattle.cj_cluster.proofs.Pushed.{enabled-push, log-same, log_faults-same, done-same, opened-same, opened-free}
 use Rattle.cj_cluster.proofs.Effects.{sessions_are, are_kept, sound_read_failed, sound_log_failed, sound_disabled, sound_enabled, sound_marked, is_there}
 use Rattle.cj_cluster.proofs.Standing.{stand_event, stand_log_failed}
-use Rattle.cj_auth.specs.Admission.{Register}
-use Rattle.cj_dump.specs.declared.dump.Dump.{Dump}
-use Rattle.cj_place.specs.Layouts.{Layout}
-use Rattle.cj_replica.specs.Cells.{CellState}
-use Rattle.cj_state.specs.Worlds.{core_of, world_of}
-use Rattle.cj_shelf.specs.MemoryShelves.{taken_of}
-use Rattle.cj_state.specs.Proving.Kept.{Kept}
 use Rattle.cj_state.proofs.CellsKept.{world_behind}
 
 module _ (tells : Bool) (reg : Register) (l : Layout) (h : List Event) (cells : List CellState) (f s : ℕ) (ss : List OpenSession) (g : ℕ) (ds : List Dump) (numbers : List ℕ) (first_outcome : Option Outcome) (kept : Kept tells (world_of reg l h cells f s ss g ds) numbers first_outcome) where

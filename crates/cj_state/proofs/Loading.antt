@@ -1,30 +1,11 @@
 -- A cell that was out, and holds what a dump has of its tables.
 use Rattle.std.proofs.Common.{◌≡◌, ℕ, ◌<◌, ◌≤◌, Bool, true, false, List, length, map, get_or, set, OnErr, Option, None, Some, Result, Ok, Err, refl, ap, sym, ◌∙◌, subst, ⊎_elim}
 use Rattle.std.specs.Prelude.{IsErrAnd}
-use Rattle.std.proofs.lemmas.Bool.{cases_eq, both_ways}
-use Rattle.std.proofs.lemmas.List.{map-set, get_or-set_other, length-map}
-use Rattle.cj_model.specs.declared.database.Slot.{Slot}
-use Rattle.cj_model.specs.declared.answer.Outcome.{Outcome}
-use Rattle.cj_model.specs.Cluster.Caching.{CacheState}
-use Rattle.cj_model.specs.Cluster.Placements.{part}
-use Rattle.cj_cluster.specs.declared.moves.Move.TheVariants.{Load}
-use Rattle.cj_cluster.specs.History.Histories.{log, is_idle, is_enabled, database_after}
-use Rattle.cj_cluster.specs.Moves.Cores.{find_dump, position_at}
-use Rattle.cj_cluster.specs.Moves.Moves.{Stance, not_now, with_stance}
-use Rattle.cj_cluster.specs.Proving.Invariants.{CoreInvariant, HasBegunDrafts, HoldsPart, IsSoundDump}
+use Rattle.cj_state.proofs.Common.{Arming, both_ways, CacheState, can_load, cases_eq, CellError, ChangesCell, CoreInvariant, database_after, Dump, failed_contents, find_dump, get_or-set_other, HasBegunDrafts, HoldsPart, is_enabled, is_idle, IsCell, IsSoundDump, Kept, length-map, Load, log, LogView, map-set, not_now, Outcome, part, position_at, Slot, spent, Stance, taken_of, with_cache, with_log, with_stance, WorldState}
 use Rattle.cj_cluster.proofs.Effects.{sound_loaded}
-use Rattle.cj_cluster.proofs.Now.{can_load}
-use Rattle.cj_backend.specs.Backends.{Arming, spent}
-use Rattle.cj_dump.specs.declared.dump.Dump.{Dump}
-use Rattle.cj_replica.specs.declared.replica.CellError.{CellError}
 use Rattle.cj_replica.specs.declared.replica.CellError.TheVariants as errors
 use Rattle.cj_replica.specs.Cells.{CellState, Loads, SpendsArmingAtLoad}
 use Rattle.cj_replica.proofs.HeldParts.{drafts_loaded, holds_loaded}
-use Rattle.cj_shelf.specs.MemoryShelves.{taken_of}
-use Rattle.cj_state.specs.Held.{failed_contents}
-use Rattle.cj_state.specs.Worlds.{WorldState, LogView, IsCell, with_cache, with_log}
-use Rattle.cj_state.specs.Proving.Kept.{Kept}
-use Rattle.cj_state.specs.Seats.{ChangesCell}
 use Rattle.cj_state.proofs.ChangedCell.{cell_there, core_stays, has_cell, kept_cell, stands_there, with_cells, world_with_cell}
 use Rattle.cj_state.proofs.Dumped.{taken_all}
 

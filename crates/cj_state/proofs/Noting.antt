@@ -1,29 +1,12 @@
 -- What the book's answers say of the core.
 use Rattle.std.proofs.Common.{◌≡◌, ℕ, ◌+◌, ◌<◌, ◌++◌, ◌∷◌, [], List, length, None, Result, Ok, Err, OnOk, OnErr, ⊎_elim, ap, sym, ◌∙◌, subst, refl, arith, length-append, Bool, inl, Option, ◌≤◌}
 use Rattle.std.specs.Prelude.{IfOk, IfErr, ◌↔◌, ◌⊎◌}
-use Rattle.cj_model.specs.declared.request.Entry.{Entry}
-use Rattle.cj_cluster.specs.declared.event.Event.{Event}
-use Rattle.cj_cluster.specs.declared.event.Event.TheVariants.{LogFailed, Sched}
-use Rattle.cj_cluster.specs.declared.moves.OpenSession.{OpenSession}
-use Rattle.cj_cluster.specs.History.Histories.{scheduled_entry, log, events_left}
-use Rattle.cj_cluster.proofs.Pushed.{log-sched, log-same}
-use Rattle.cj_book.specs.declared.error.BookError.{BookError}
-use Rattle.cj_book.specs.declared.error.BookError.TheVariants.{InProgress, NoBackend, HistoryFull, LogFault, NoMemory}
+use Rattle.cj_state.proofs.Common.{BookError, CellState, core_of, Dump, Entry, Event, events_left, FollowsLog, HadLoggedRoom, HadRoom, HistoryFull, InProgress, KeptFresh, log, log-same, log-sched, LogFailed, LogFault, NoBackend, NoMemory, OpenSession, Outcome, placement_of, Register, Sched, scheduled_entry, SchedulesAs, session_at, world_of}
 use Rattle.cj_book.specs.Books.{BookState, IsSameButLog, with_event, HasNoRoomForOne, CanSchedule, IsFull, IsWant, with_entry}
 use Rattle.cj_book.specs.Events.{Schedules}
-use Rattle.cj_auth.specs.Admission.{Register}
-use Rattle.cj_cluster.specs.Moves.Cores.{session_at}
-use Rattle.cj_dump.specs.declared.dump.Dump.{Dump}
-use Rattle.cj_freshness.specs.Freshness.{FollowsLog}
-use Rattle.cj_model.specs.declared.answer.Outcome.{Outcome}
-use Rattle.cj_place.specs.Layouts.{placement_of}
-use Rattle.cj_state.specs.Proving.Kept.{KeptFresh}
 use Rattle.cj_state.proofs.Dumped.{dumps_event}
 use Rattle.cj_state.proofs.Fresh.{follows_entry, follows_event, fresh_event}
 use Rattle.cj_state.proofs.KeepingEvents.{kept_log_failed}
-use Rattle.cj_replica.specs.Cells.{CellState}
-use Rattle.cj_state.specs.Worlds.{core_of, world_of}
-use Rattle.cj_state.specs.Effects.{SchedulesAs, HadLoggedRoom, HadRoom}
 
 -- an event has come into the book where there was room, or nothing has changed
 pub noted : {S T : Type 0} (r : Result T BookError) (old new : BookState S) (e : Event) (Q : BookState S → Type 0) → OnOk r (new ≡ with_event old e) → OnErr r (new ≡ old) → OnOk r (0 < events_left old.history)

@@ -2,18 +2,11 @@
 use Rattle.std.proofs.Common.{◌≡◌, ℕ, ◌==◌, ◌||◌, ◌&&◌, not, Bool, true, false, cond, List, [], ◌∷◌, ◌++◌, filter, map, Option, None, Some, is_some, refl, ap, ◌∙◌}
 use Rattle.std.specs.List.{list_any}
 use Rattle.std.proofs.lemmas.List.{map-append}
-use Rattle.cj_model.specs.declared.request.Entry.{Entry}
-use Rattle.cj_cluster.specs.declared.moves.OpenSession.{OpenSession}
+use Rattle.cj_state.proofs.Common.{CellState, core_of, Dump, Entry, entry_numbered, find_session, new_session, OpenSession, with_session, without}
 use Rattle.cj_cluster.specs.History.Histories.{log, tx_of}
-use Rattle.cj_cluster.specs.Moves.Cores.{find_session, new_session, with_session}
 use Rattle.cj_cluster.specs.Moves.Moves as moves
-use Rattle.cj_cluster.specs.Moves.Moves.{entry_numbered}
-use Rattle.cj_cluster.proofs.Sessions.{without}
 use Rattle.cj_book.specs.Books as books
 use Rattle.cj_book.specs.Books.{BookState, has_session, has_no_number}
-use Rattle.cj_dump.specs.declared.dump.Dump.{Dump}
-use Rattle.cj_replica.specs.Cells.{CellState}
-use Rattle.cj_state.specs.Worlds.{core_of}
 
 abbrev number : OpenSession → ℕ
 number x = x.number

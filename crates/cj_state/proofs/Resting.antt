@@ -1,35 +1,21 @@
 -- A world over a book that was just opened, of which no backend has taken an entry.
 use Rattle.std.proofs.Common.{◌≡◌, ℕ, ◌^◌, ◌<◌, ◌≤◌, Bool, true, false, List, [], ◌∷◌, ◌++◌, length, map, fold, max, replicate, get_or, All, Option, None, Some, refl, ap, sym, ◌∙◌, subst, arith, ⊎_elim}
 use Rattle.std.specs.Prelude.{IfSome}
-use Rattle.std.proofs.lemmas.Bool.{both_ways, eqb-true}
 use Rattle.std.proofs.lemmas.List.{length-map, get_or-map, get_or-replicate, length-replicate, ext_get_or}
 use Rattle.std.proofs.lemmas.List.Elements.{All-cons, All-get_or, All-head, All-nil, All-tail}
-use Rattle.cj_model.specs.declared.database.Slot.{Slot}
+use Rattle.cj_state.proofs.Common.{both_ways, CellState, Core, core_of, Ended, Entry, eqb-true, Event, has-zero, in_mask, Kept, Layout, legal_fit, Marker, opened-free, placement_of, position_at, Register, Sched, Slot, world_of}
 use Rattle.cj_model.specs.declared.database.Draft.{Draft}
-use Rattle.cj_model.specs.declared.request.Entry.{Entry}
-use Rattle.cj_model.proofs.Masks.{has-zero}
-use Rattle.cj_cluster.specs.declared.event.Event.{Event}
-use Rattle.cj_cluster.specs.declared.event.Event.TheVariants.{Sched, Ended, Marker}
 use Rattle.cj_model.specs.declared.limits.TheConstants.{BACKEND_LIMIT}
-use Rattle.cj_model.specs.Cluster.Masks.{in_mask}
 use Rattle.cj_model.specs.Cluster.Placements.{everywhere}
 use Rattle.cj_cluster.specs.History.Histories.{log, ended_count, is_idle, is_enabled, entry_in_progress, log_faults_of}
 use Rattle.cj_cluster.specs.History.Legality.{IsAdministratorEntry, IsLegal, IsSessionEntry}
 use Rattle.cj_cluster.specs.History.Transactions.{AreFitBehind, has_begun}
-use Rattle.cj_cluster.specs.Moves.Cores.{Core, position_at}
 use Rattle.cj_cluster.specs.Proving.Invariants.{BackendStands, CoreInvariant, HasBegunDrafts, HoldsPart, IsSoundDump, IsSoundSession}
-use Rattle.cj_cluster.proofs.Pushed.{opened-free}
 use Rattle.cj_cluster.proofs.Standing.{stand_none}
-use Rattle.cj_cluster.proofs.TransactionLaws.{legal_fit}
-use Rattle.cj_auth.specs.Admission.{Register}
 use Rattle.cj_opening.specs.Openings.{IsOpening}
 use Rattle.cj_opening.proofs.Longer.{idle_opening}
 use Rattle.cj_book.proofs.Recovering.{known_all}
 use Rattle.cj_book.specs.Starts.{greatest_session}
-use Rattle.cj_place.specs.Layouts.{Layout, placement_of}
-use Rattle.cj_replica.specs.Cells.{CellState}
-use Rattle.cj_state.specs.Worlds.{core_of, world_of}
-use Rattle.cj_state.specs.Proving.Kept.{Kept}
 use Rattle.cj_state.specs.Beginnings.{IsFresh, AreFresh, AreEmpty, opened_core}
 
 -- ---- at rest

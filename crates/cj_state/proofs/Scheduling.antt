@@ -1,17 +1,10 @@
 -- The next entry of a session, and what a schedule gives.
 use Rattle.std.proofs.Common.{◌≡◌, ◌≢◌, ℕ, ◌+◌, ◌-◌, ◌<◌, true, List, slice_get, None, Some, ap, sym, ◌∙◌, arith}
-use Rattle.cj_model.specs.declared.request.Act.{Act}
+use Rattle.cj_state.proofs.Common.{Act, Core, CoreInvariant, Entry, find_session, IsFitEntry, log, OpenSession, request_of, session_at}
 use Rattle.cj_model.specs.declared.request.Act.TheVariants as act
-use Rattle.cj_model.specs.declared.request.Entry.{Entry}
-use Rattle.cj_cluster.specs.declared.moves.OpenSession.{OpenSession}
 use Rattle.cj_model.specs.declared.limits.TheConstants.{REQUEST_LIMIT}
-use Rattle.cj_model.specs.Sql.PlainRequests.{request_of}
-use Rattle.cj_cluster.specs.History.Histories.{log}
-use Rattle.cj_cluster.specs.History.Legality.{IsFitEntry}
 use Rattle.cj_model.specs.Sql.WrittenRequests.{IsWritten}
-use Rattle.cj_cluster.specs.Moves.Cores.{Core, session_at, find_session}
 use Rattle.cj_cluster.specs.Moves.Moves.{is_open, is_orphan, entry_numbered, user_of, forbidden_by, tx_of_act, open_tx, next_entry, abort_entry}
-use Rattle.cj_cluster.specs.Proving.Invariants.{CoreInvariant}
 use Rattle.cj_cluster.proofs.Now.{numbered_at, orphan_of}
 use Rattle.cj_cluster.proofs.Sessions.{session_at-is}
 use Rattle.cj_cluster.proofs.Soundness.{allowed_tx, entry_fits}

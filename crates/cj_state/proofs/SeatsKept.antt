@@ -1,21 +1,11 @@
 -- The seats where an event comes, or nothing that they know changes.
 use Rattle.std.proofs.Common.{◌≡◌, ℕ, suc, zero, [], ◌+◌, ◌<◌, ◌≤◌, ◌==◌, Bool, true, false, cond, List, Option, None, Some, Result, Ok, Err, refl, ap, sym, ◌∙◌, subst, arith}
-use Rattle.std.specs.Prelude.{Contains}
-use Rattle.std.proofs.lemmas.Bool.{eqb-true}
-use Rattle.atomic_table.specs.Seated.{TableId}
-use Rattle.cj_cluster.specs.declared.event.Event.{Event}
-use Rattle.cj_cluster.specs.declared.event.Event.TheVariants.{ReadFailed}
+use Rattle.cj_state.proofs.Common.{BookError, CellReadError, Contains, eqb-true, Event, fault_tokens_of, HistoryFull, InProgress, LogFault, NoBackend, NoMemory, ReadFailed, SeatedCell, SeatView, TableId}
 use Rattle.cj_cluster.specs.History.Histories.{notes_failure}
-use Rattle.cj_board.specs.declared.view.SeatView.{SeatView}
-use Rattle.cj_board.specs.Points.{fault_tokens_of}
 use Rattle.cj_board.specs.Steps.{after_append, spend, HasCountNotes}
 use Rattle.cj_board.proofs.FaultPoint.{spend_none, spend_one}
-use Rattle.cj_book.specs.declared.error.BookError.{BookError}
-use Rattle.cj_book.specs.declared.error.BookError.TheVariants.{InProgress, NoBackend, HistoryFull, LogFault, NoMemory}
 use Rattle.cj_book.specs.Seated.{SeatedBook, HasSameSeat, IsCounted, event_at_ok, event_or_fault, view_after}
-use Rattle.cj_replica.specs.declared.replica.CellReadError.{CellReadError}
 use Rattle.cj_replica.specs.declared.replica.CellReadError.TheVariants as read_errors
-use Rattle.cj_replica.specs.Seated.{SeatedCell}
 use Rattle.cj_state.specs.Proving.Seated.{AreAt, HasHeard, IsQuiet, IsReady, SpendsAtMostOne}
 use Rattle.cj_state.proofs.HeardOf.{ready_none}
 

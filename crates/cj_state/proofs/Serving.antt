@@ -1,15 +1,8 @@
 -- Who serves a query, and masks that cover one another.
 use Rattle.std.proofs.Common.{◌≡◌, ℕ, ◌-◌, ◌<◌, ◌^◌, ◌==◌, ◌&&◌, ◌||◌, not, Bool, true, false, bit_and, refl, ap, sym, ◌∙◌, arith, ⊎_elim}
-use Rattle.std.specs.Prelude.{IsTrue, ◌↔◌}
 use Rattle.std.specs.Int.Bits.{or_zero_r}
 use Rattle.std.proofs.Math.Bool.{or-false}
-use Rattle.std.proofs.lemmas.Nat.{and_le_l}
-use Rattle.std.proofs.lemmas.Bool.{eqb-true, eq-eqb, both_ways, and_parts, and_cases, not-false}
-use Rattle.cj_model.specs.declared.select.Select.{Select}
-use Rattle.cj_model.specs.Cluster.Placements.{hosts_all}
-use Rattle.cj_model.specs.Cluster.Masks.{in_mask}
-use Rattle.cj_cluster.specs.History.Histories.{is_enabled}
-use Rattle.cj_cluster.specs.Moves.Cores.{Core}
+use Rattle.cj_state.proofs.Common.{and_cases, and_le_l, and_parts, both_ways, Core, eq-eqb, eqb-true, hosts_all, in_mask, is_enabled, IsTrue, not-false, Select, ◌↔◌}
 use Rattle.cj_cluster.specs.Moves.Moves.{IsServingMask}
 use Rattle.cj_model.proofs.Masks.{has-zero, no_bit}
 use Rattle.cj_model.proofs.MaskBits.{has_without}

@@ -1,38 +1,13 @@
 -- What a world keeps where a backend takes an entry.
 use Rattle.std.proofs.Common.{◌≡◌, ◌≢◌, ℕ, ◌+◌, ◌<◌, ◌≤◌, Bool, true, false, cond, List, [], length, map, get_or, set, slice_get, Option, None, Some, IsSome, Ok, refl, ap, sym, ◌∙◌, subst, arith, ⊎_elim}
-use Rattle.std.proofs.lemmas.Bool.{cases_eq, both_ways}
-use Rattle.std.proofs.lemmas.List.{get_or_default, get_or-set_same, get_or-set_other, map-set}
-use Rattle.std.proofs.lemmas.Option.{slice_get_within}
-use Rattle.cj_model.specs.declared.request.Act.{Act}
+use Rattle.cj_state.proofs.Common.{Act, armings_of, both_ways, CacheState, cases_eq, CellState, ChangesCell, core_of, CoreInvariant, Did, did_fail, Dump, ended_count, Entry, entry_in_progress, Event, faults_after, faults_of, get_or-set_other, get_or-set_same, get_or_default, is_enabled, is_idle, IsCell, IsOutcome, IsWorld, Kept, Layout, log, login_of, LogView, map-set, OpenSession, Outcome, outcome_of, Placement, placement_of, Register, slice_get_within, stand_rest, takes_part, with_cache, with_log, world_of, WorldState}
 use Rattle.cj_model.specs.declared.request.Act.TheVariants as act
-use Rattle.cj_model.specs.declared.request.Entry.{Entry}
-use Rattle.cj_model.specs.declared.answer.Outcome.{Outcome}
-use Rattle.cj_model.specs.Cluster.Accounts.{login_of}
-use Rattle.cj_model.specs.Cluster.Caching.{CacheState}
-use Rattle.cj_cluster.specs.declared.event.Event.{Event}
-use Rattle.cj_cluster.specs.declared.moves.Did.{Did}
 use Rattle.cj_cluster.specs.declared.moves.Did.TheVariants as did
 use Rattle.cj_cluster.specs.declared.moves.Moved.TheVariants as moved
-use Rattle.cj_cluster.specs.declared.moves.OpenSession.{OpenSession}
-use Rattle.cj_model.specs.Cluster.Placements.{Placement}
-use Rattle.cj_cluster.specs.History.Histories.{log, ended_count, is_idle, entry_in_progress, is_enabled, outcome_of}
-use Rattle.cj_cluster.specs.History.Transactions.{takes_part}
 use Rattle.cj_cluster.specs.Moves.Cores.{position_at, begun_at}
-use Rattle.cj_model.specs.Database.Outcomes.{IsOutcome}
 use Rattle.cj_cluster.specs.Moves.Moves.{Stance, position_or_zero, TakesEntry, DoesWithEntry, with_stance, Applies, Replays, failed_after, starved_after}
-use Rattle.cj_cluster.specs.Proving.Invariants.{CoreInvariant}
 use Rattle.cj_cluster.proofs.Effects.{sound_applied, sound_replayed, stands_there, is_there}
-use Rattle.cj_cluster.proofs.Standing.{stand_rest}
-use Rattle.cj_auth.specs.Admission.{Register}
-use Rattle.cj_dump.specs.declared.dump.Dump.{Dump}
-use Rattle.cj_place.specs.Layouts.{Layout, placement_of}
-use Rattle.cj_replica.specs.Cells.{CellState}
-use Rattle.cj_state.specs.Seats.{ChangesCell}
-use Rattle.cj_state.specs.Worlds.{WorldState, LogView, core_of, world_of, with_cache, with_log, IsCell, IsWorld}
 use Rattle.cj_state.specs.Proving.Taking.{TookEntry, first_outcome_after}
-use Rattle.cj_state.specs.ArmedCells.{armings_of}
-use Rattle.cj_state.specs.Faults.{did_fail, faults_of, faults_after}
-use Rattle.cj_state.specs.Proving.Kept.{Kept}
 use Rattle.cj_state.specs.CalledLogins.{logins_of, login_to_take, next_user, LogsInToTake}
 use Rattle.cj_state.proofs.ChangedCell.{changed_armings, changed_faults, has_cell}
 use Rattle.cj_state.proofs.CellsKept.{cells_set, position_of}

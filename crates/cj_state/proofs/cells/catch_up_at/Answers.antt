@@ -1,25 +1,14 @@
 use Rattle.std.proofs.Common.{◌≡◌, ◌<◌, ◌+◌, ◌-◌, List, length, get_or, slice_get, Option, None, Some, Result, Ok, Err, ℕ, Bor, ⊎_elim, ◌≤◌, refl, sym, ap, ◌∙◌, subst, arith}
-use Rattle.std.proofs.lemmas.List.{length-map}
-use Rattle.std.specs.Prelude.{option_copied}
-use Rattle.std.proofs.lemmas.Option.{slice_get_cases}
-use mathlib.Core.List.{IsPrefix}
+use Rattle.cj_state.proofs.Common.{Caught, CellError, did_of, Entry, IsPrefix, length-map, log, option_copied, position_or_zero, SeatView, slice_get_cases, states_of}
 use Rattle.cj_model.specs.declared.limits.TheConstants.{EVENT_LIMIT}
-use Rattle.cj_model.specs.declared.request.Entry.{Entry}
-use Rattle.cj_board.specs.declared.view.SeatView.{SeatView}
 use Rattle.cj_board.specs.Points.{fault_tokens_of, max_word}
 use Rattle.cj_board.specs.Steps.{after_fault, at_position}
-use Rattle.cj_cluster.specs.History.Histories.{log}
 use Rattle.cj_cluster.specs.declared.moves.Did.TheVariants as did
-use Rattle.cj_cluster.specs.Moves.Moves.{position_or_zero}
 use Rattle.cj_cluster.proofs.Pushed.{log-prefix, prefix_get}
-use Rattle.cj_replica.specs.declared.replica.Caught.{Caught}
 use Rattle.cj_replica.specs.declared.replica.Caught.TheVariants as caught
-use Rattle.cj_replica.specs.declared.replica.CellError.{CellError}
 use Rattle.cj_replica.specs.declared.replica.CellError.TheVariants as errors
 use Rattle.cj_replica.specs.Cells.{CatchesUp, CellState, IsNextEntry}
 use Rattle.cj_replica.specs.Seated.{SeatedCell, view_after_entry}
-use Rattle.cj_state.specs.Proving.Taking.{did_of}
-use Rattle.cj_state.specs.Seats.{states_of}
 use Rattle.cj_state.proofs.Catching.{took}
 use Rattle.cj_state.proofs.HeardOf.{all_at, board_of, one_token, seen_as, states_set, there_set}
 use Rattle.cj_state.proofs.cells.catch_up_at.Goals as goal

@@ -1,13 +1,6 @@
 use Rattle.std.proofs.Common.{◌≡◌, ◌<◌, ℕ, List, length, get_or, set, ap, sym, ◌∙◌, subst, arith}
-use Rattle.std.proofs.lemmas.List.{length-map}
-use mathlib.Core.List.{IsPrefix}
+use Rattle.cj_state.proofs.Common.{CellState, database_after, Event, IsPrefix, length-map, log, part, SeatedCell, states_of}
 use Rattle.cj_cluster.proofs.Pushed.{at-prefix, log-prefix, prefix_length}
-use Rattle.cj_model.specs.Cluster.Placements.{part}
-use Rattle.cj_cluster.specs.declared.event.Event.{Event}
-use Rattle.cj_cluster.specs.History.Histories.{database_after, log}
-use Rattle.cj_replica.specs.Cells.{CellState}
-use Rattle.cj_replica.specs.Seated.{SeatedCell}
-use Rattle.cj_state.specs.Seats.{states_of}
 use Rattle.cj_state.proofs.HeardOf.{all_at, board_of, seen_as, states_set}
 use Rattle.cj_state.proofs.cells.load_at.Goals as goal
 

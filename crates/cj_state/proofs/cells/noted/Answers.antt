@@ -1,11 +1,6 @@
 use Rattle.std.proofs.Common.{◌≤◌, ◌+◌, ◌==◌, cond, Err, inr, refl, ap, sym, subst}
-use Rattle.cj_book.specs.declared.error.BookError.{BookError}
-use Rattle.cj_replica.specs.declared.replica.CellReadError.{CellReadError}
+use Rattle.cj_state.proofs.Common.{BookError, CellReadError, fault_tokens_of, Notes, SeatView, SpendsAtMostOne}
 use Rattle.cj_state.specs.declared.cells.AskError.TheVariants.{Unnoted}
-use Rattle.cj_state.specs.Effects.{Notes}
-use Rattle.cj_board.specs.declared.view.SeatView.{SeatView}
-use Rattle.cj_board.specs.Points.{fault_tokens_of}
-use Rattle.cj_state.specs.Proving.Seated.{SpendsAtMostOne}
 use Rattle.cj_state.proofs.SeatsKept.{read_spends}
 use Rattle.cj_state.proofs.cells.noted.Goals as goal
 

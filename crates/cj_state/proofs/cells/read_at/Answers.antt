@@ -1,11 +1,5 @@
 use Rattle.std.proofs.Common.{◌≡◌, ◌+◌, ℕ, Result, ap, ◌∙◌, arith}
-use Rattle.std.proofs.lemmas.List.{length-map}
-use Rattle.cj_model.specs.declared.answer.Asked.{Asked}
-use Rattle.cj_board.specs.declared.view.SeatView.{SeatView}
-use Rattle.cj_board.specs.Points.{fault_tokens_of}
-use Rattle.cj_board.specs.Steps.{after_fault}
-use Rattle.cj_replica.specs.declared.replica.CellReadError.{CellReadError}
-use Rattle.cj_replica.specs.Cells.{CellState}
+use Rattle.cj_state.proofs.Common.{after_fault, Asked, CellReadError, CellState, fault_tokens_of, length-map, SeatView}
 use Rattle.cj_replica.specs.Seated.{SeatedCell, view_after_read}
 use Rattle.cj_state.proofs.HeardOf.{all_at, numbered_set, one_token, seen_as, states_set, there_set}
 use Rattle.cj_state.proofs.cells.read_at.Goals as goal

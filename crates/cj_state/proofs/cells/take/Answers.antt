@@ -1,12 +1,5 @@
 use Rattle.std.proofs.Common.{◌≡◌, ◌<◌, ◌≤◌, List, length, get_or, slice_get, None, Some, ⊎_elim, ap, sym, ◌∙◌, subst, arith}
-use Rattle.std.proofs.lemmas.List.{length-map, length-set}
-use Rattle.std.proofs.lemmas.Option.{slice_get_cases}
-use mathlib.Core.List.{IsPrefix}
-use Rattle.cj_book.specs.Books.{BookState}
-use Rattle.cj_replica.specs.Cells.{CellState}
-use Rattle.cj_replica.specs.Seated.{SeatedCell}
-use Rattle.cj_state.specs.Proving.Taking.{TookEntry}
-use Rattle.cj_state.specs.Seats.{states_of}
+use Rattle.cj_state.proofs.Common.{BookState, CellState, IsPrefix, length-map, length-set, SeatedCell, slice_get_cases, states_of, TookEntry}
 use Rattle.cj_state.proofs.HeardOf.{heard_then}
 use Rattle.cj_state.proofs.cells.take.Goals as goal
 

@@ -1,7 +1,5 @@
 use Rattle.std.proofs.Common.{◌≡◌, ◌<◌, ◌≤◌, ◌-◌, ◌*◌, ◌%◌, ◌^◌, ◌&&◌, not, ℕ, false, bit_and, ap, sym, ◌∙◌, arith, ⊎_elim, refl}
-use Rattle.std.proofs.lemmas.Bool.{both_ways, cases_lt, eq-eqb}
-use Rattle.std.proofs.lemmas.Nat.{and_le_l}
-use Rattle.cj_model.specs.Cluster.Masks.{in_mask}
+use Rattle.cj_state.proofs.Common.{and_le_l, both_ways, cases_lt, eq-eqb, in_mask}
 use Rattle.cj_model.proofs.MaskBits.{has_cleared}
 use Rattle.cj_state.proofs.cells.without_bit.Goals as goal
 

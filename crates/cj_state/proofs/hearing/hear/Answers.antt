@@ -1,16 +1,6 @@
 use Rattle.std.proofs.Common.{◌≡◌, ℕ, ◌+◌, ◌<◌, ◌≤◌, List, Some, length, get_or, ap, sym, ◌∙◌, subst, arith}
-use Rattle.std.specs.Prelude.{Contains}
-use Rattle.std.proofs.lemmas.List.{length-map}
-use Rattle.std.proofs.lemmas.Option.{slice_get-get_or}
-use Rattle.std.proofs.lemmas.List.Elements.{Contains-append_left}
-use Rattle.cj_board.specs.declared.view.SeatView.{SeatView}
-use Rattle.cj_board.specs.Points.{fault_tokens_of}
-use Rattle.cj_board.specs.Seats.{pass_view}
+use Rattle.cj_state.proofs.Common.{CellState, Contains, Contains-append_left, fault_tokens_of, length-map, pass_view, SeatedCell, SeatView, slice_get-get_or, states_of, tokens-append}
 use Rattle.cj_board.specs.Views.{pass_of, position_note_of}
-use Rattle.cj_board.proofs.FaultPoint.{tokens-append}
-use Rattle.cj_replica.specs.Cells.{CellState}
-use Rattle.cj_replica.specs.Seated.{SeatedCell}
-use Rattle.cj_state.specs.Seats.{states_of}
 use Rattle.cj_state.proofs.CellsKept.{position_of}
 use Rattle.cj_state.proofs.HeardOf.{all_at, board_of, learnt, learnt_note, learnt_tokens, state_of, states_stay}
 use Rattle.cj_state.proofs.hearing.hear.Goals as goal

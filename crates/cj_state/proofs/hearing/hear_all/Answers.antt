@@ -1,9 +1,5 @@
 use Rattle.std.proofs.Common.{◌≡◌, ℕ, List, ap, sym, ◌∙◌, subst, arith, ⊎_elim}
-use Rattle.std.specs.Prelude.{Contains}
-use Rattle.std.proofs.lemmas.Bool.{cases_eq}
-use Rattle.cj_replica.specs.Cells.{CellState}
-use Rattle.cj_state.specs.Proving.Seated.{position_in}
-use Rattle.cj_state.specs.Seats.{states_of}
+use Rattle.cj_state.proofs.Common.{cases_eq, CellState, Contains, position_in, states_of}
 use Rattle.cj_state.proofs.HeardOf.{heard_then}
 use Rattle.cj_state.proofs.hearing.hear_all.Goals as goal
 

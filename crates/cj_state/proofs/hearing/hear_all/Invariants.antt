@@ -1,7 +1,6 @@
 use Rattle.std.proofs.Common.{◌≡◌}
-use Rattle.cj_board.specs.Seats.{board_id, pass_board}
+use Rattle.cj_state.proofs.Common.{board_id, pass_board, states_of}
 use Rattle.cj_state.specs.Proving.Seated.{AreAt, HasHeard, KnowsPositions}
-use Rattle.cj_state.specs.Seats.{states_of}
 use Rattle.cj_state.proofs.hearing.hear_all.Given as goal
 
 abbrev pub invariant-loop-b : goal.invariant-loop-b

@@ -1,9 +1,6 @@
 use Rattle.std.proofs.Common.{List, ◌∙◌, subst}
-use Rattle.std.proofs.lemmas.List.{get_or-set_same}
-use mathlib.Core.List.{IsPrefix}
-use Rattle.cj_board.specs.Seats.{pass_view}
+use Rattle.cj_state.proofs.Common.{Event, get_or-set_same, IsPrefix, pass_view}
 use Rattle.cj_board.specs.Views.{pass_without_notes}
-use Rattle.cj_cluster.specs.declared.event.Event.{Event}
 use Rattle.cj_state.proofs.HeardOf.{all_at, board_of, learnt, states_stay}
 use Rattle.cj_state.proofs.hearing.tell.Goals as goal
 

@@ -1,9 +1,6 @@
 use Rattle.std.proofs.Common.{◌≡◌, ◌<◌, ◌-◌, Some, slice_get, sym, subst}
-use Rattle.cj_cluster.specs.History.Histories.{log}
-use Rattle.cj_cluster.specs.History.Legality.{IsFitEntry}
-use Rattle.cj_cluster.specs.Proving.Invariants.{CoreInvariant}
+use Rattle.cj_state.proofs.Common.{CoreInvariant, IsFitEntry, log, WorldState}
 use Rattle.cj_cluster.proofs.Soundness.{abort_fits}
-use Rattle.cj_state.specs.Worlds.{WorldState}
 use Rattle.cj_state.proofs.Scheduling.{abort_is}
 use Rattle.cj_state.proofs.state.State.abort_entry.Goals as goal
 

@@ -1,9 +1,7 @@
 use Rattle.std.proofs.Common.{◌≡◌, false, sym, subst}
+use Rattle.cj_state.proofs.Common.{board_id, pass_board, states_of, WorldState}
 use Rattle.cj_cluster.specs.Moves.Moves.{has_no_number}
-use Rattle.cj_state.specs.Worlds.{WorldState}
 use Rattle.cj_state.proofs.Keeping.{kept_opened}
-use Rattle.cj_state.specs.Seats.{states_of}
-use Rattle.cj_board.specs.Seats.{board_id, pass_board}
 use Rattle.cj_state.proofs.SeatsKept.{seats_same}
 use Rattle.cj_state.proofs.state.State.add_session.Goals as goal
 

@@ -1,9 +1,6 @@
 use Rattle.std.proofs.Common.{◌≡◌, ◌≤◌, false, length, sym, subst}
-use Rattle.cj_cluster.specs.History.Histories.{log}
-use Rattle.cj_cluster.specs.Moves.Moves.{is_waiting}
-use Rattle.cj_state.specs.Worlds.{WorldState}
+use Rattle.cj_state.proofs.Common.{is_waiting, log, states_of, WorldState}
 use Rattle.cj_state.proofs.Keeping.{kept_reached}
-use Rattle.cj_state.specs.Seats.{states_of}
 use Rattle.cj_state.proofs.state.State.answer_read.Goals as goal
 
 pub invariant_of-self : goal.invariant_of-self

@@ -1,10 +1,6 @@
 use Rattle.std.proofs.Common.{◌≡◌, false, List, get_or, set, refl, ap, sym, ◌∙◌, subst}
-use Rattle.std.proofs.lemmas.List.{get_or_default, length-map}
-use Rattle.cj_backend.specs.Backends.{arming_after}
-use Rattle.cj_replica.specs.Cells.{CellState}
-use Rattle.cj_state.specs.Worlds.{WorldState}
+use Rattle.cj_state.proofs.Common.{arming_after, CellState, get_or_default, length-map, states_of, WorldState}
 use Rattle.cj_state.specs.ArmedCells.{armed_at}
-use Rattle.cj_state.specs.Seats.{states_of}
 use Rattle.cj_state.proofs.ChangedCell.{changed_armings, changed_faults, changed_logins, has_cell, kept_asked, same_core}
 use Rattle.cj_state.proofs.Counted.{armed_times}
 use Rattle.cj_state.proofs.state.State.arm_backend.Goals as goal

@@ -1,26 +1,14 @@
-use Rattle.std.specs.Prelude.{option_copied}
 use Rattle.std.proofs.Common.{ℕ, false, List, Ok, Err, Some, ap, sym, ◌∙◌, subst, refl}
-use Rattle.std.proofs.lemmas.List.{length-map}
-use Rattle.cj_model.specs.Cluster.Accounts.{login_of}
-use Rattle.cj_book.specs.Books.{BookState}
-use Rattle.cj_replica.specs.declared.replica.CellReadError.{CellReadError}
-use Rattle.cj_replica.specs.Cells.{is_asked}
-use Rattle.cj_place.specs.Layouts.{placement_of}
+use Rattle.cj_state.proofs.Common.{board_id, BookState, CellReadError, faults_after, faults_of, is_asked, KeptFresh, length-map, login_of, Notes, option_copied, pass_board, placement_of, ReadFailed, states_of}
 use Rattle.cj_state.specs.Worlds.{WorldState, accounts_of, world_of}
-use Rattle.cj_state.specs.Faults.{faults_of, faults_after}
-use Rattle.cj_state.specs.Effects.{Notes}
-use Rattle.cj_state.specs.Proving.Kept.{KeptFresh}
 use Rattle.cj_state.specs.CalledLogins.{asked_for, logins_of, LogsInToAsk}
 use Rattle.cj_state.proofs.Asking.{answers, errs, notes_cases, noted_core, noted_fault, noted_logins, noted_want, wanted}
 use Rattle.cj_state.proofs.KeepingEvents.{kept_read_failed}
 use Rattle.cj_state.proofs.Counted.{spent_times}
 use Rattle.cj_state.proofs.Dumped.{dumps_event}
 use Rattle.cj_state.proofs.Fresh.{fresh_event}
-use Rattle.cj_cluster.specs.declared.event.Event.TheVariants.{ReadFailed}
-use Rattle.cj_state.specs.Seats.{states_of}
 use Rattle.cj_state.proofs.ChangedCell.{changed_armings, changed_faults, changed_under, has_cell, kept_asked, same_core, world_stays}
 use Rattle.cj_state.proofs.HeardOf.{ready_heard}
-use Rattle.cj_board.specs.Seats.{board_id, pass_board}
 use Rattle.cj_state.proofs.SeatsKept.{at_book, ready_noted}
 use Rattle.cj_state.proofs.state.State.ask.Goals as goal
 

@@ -1,7 +1,5 @@
 use Rattle.std.proofs.Common.{◌≡◌, map, drop}
-use Rattle.cj_cluster.specs.Moves.Moves.{first_lagging}
-use Rattle.cj_replica.specs.Cells.{CellState}
-use Rattle.cj_state.specs.Seats.{states_of}
+use Rattle.cj_state.proofs.Common.{CellState, first_lagging, states_of}
 use Rattle.cj_state.proofs.state.State.behind.Given as goal
 
 abbrev pub invariant-loop-b : goal.invariant-loop-b

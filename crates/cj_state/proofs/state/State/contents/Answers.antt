@@ -1,6 +1,5 @@
 use Rattle.std.proofs.Common.{◌≡◌, true, false, ap, sym, refl, subst}
-use Rattle.std.proofs.lemmas.List.{length-map}
-use Rattle.cj_replica.specs.Cells.{CellState}
+use Rattle.cj_state.proofs.Common.{CellState, length-map}
 use Rattle.cj_state.proofs.ChangedCell.{caused_faults, changed_armings, changed_logins, has_cell, kept_asked, same_core, world_stays}
 use Rattle.cj_state.proofs.Contents.{contents_same}
 use Rattle.cj_state.proofs.Counted.{spent_times}

@@ -1,9 +1,6 @@
 use Rattle.std.proofs.Common.{◌≡◌, None, false, sym, subst}
-use Rattle.cj_cluster.specs.Moves.Cores.{session_at}
-use Rattle.cj_cluster.specs.Moves.Moves.{is_waiting}
-use Rattle.cj_state.specs.Worlds.{WorldState}
+use Rattle.cj_state.proofs.Common.{is_waiting, session_at, states_of, WorldState}
 use Rattle.cj_state.proofs.Keeping.{kept_counted}
-use Rattle.cj_state.specs.Seats.{states_of}
 use Rattle.cj_state.proofs.state.State.count.Goals as goal
 
 pub invariant_of-self : goal.invariant_of-self

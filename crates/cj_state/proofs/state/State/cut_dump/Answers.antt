@@ -1,24 +1,10 @@
 use Rattle.std.proofs.Common.{◌≡◌, false, length, map, Option, option_map, None, Some, ap, sym, ◌∙◌, subst}
 use Rattle.std.specs.Prelude.{IfSome}
-use Rattle.cj_model.specs.Cluster.Placements.{part}
+use Rattle.cj_state.proofs.Common.{can_load, core_of, cut, database_after, Dump, find_dump, first_of, hosts_beyond, IsDumpOf, IsSoundDump, Layout, Load, log, not_now, part, placement_of, states_of, taken_of, TakenDump, WorldState}
 use Rattle.cj_model.specs.Database.Storable.{IsStorable}
 use Rattle.cj_model.proofs.PartLaws.{part_is_storable}
-use Rattle.cj_cluster.specs.declared.moves.Move.TheVariants.{Load}
-use Rattle.cj_cluster.specs.declared.moves.TakenDump.{TakenDump}
-use Rattle.cj_cluster.specs.History.Histories.{log, database_after}
-use Rattle.cj_cluster.specs.Moves.Cores.{find_dump, hosts_beyond}
-use Rattle.cj_cluster.specs.Moves.Moves.{not_now}
-use Rattle.cj_cluster.specs.Proving.Invariants.{IsSoundDump}
-use Rattle.cj_cluster.proofs.Now.{can_load}
-use Rattle.cj_dump.specs.declared.dump.Dump.{Dump}
-use Rattle.cj_dump.specs.Coverage.{cut}
 use Rattle.cj_dump.specs.Dumps.{IsDump}
-use Rattle.cj_place.specs.Layouts.{Layout, placement_of}
-use Rattle.cj_shelf.specs.MemoryShelves.{taken_of}
-use Rattle.cj_shelf.specs.Shelves.{first_of}
-use Rattle.cj_state.specs.Worlds.{WorldState, core_of, IsDumpOf}
 use Rattle.cj_state.proofs.Dumped.{cut_holds, first_all, first_taken, taken_all}
-use Rattle.cj_state.specs.Seats.{states_of}
 use Rattle.cj_state.proofs.state.State.cut_dump.Goals as goal
 
 pub unreachable-requires : goal.unreachable-requires

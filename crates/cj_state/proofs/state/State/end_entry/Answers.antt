@@ -1,21 +1,11 @@
 use Rattle.std.proofs.Common.{◌≡◌, ◌<◌, ◌++◌, ◌∷◌, [], ℕ, List, Some, true, false, None, length, ap, sym, ◌∙◌, subst, refl}
-use Rattle.std.proofs.lemmas.List.{length-map}
-use Rattle.cj_cluster.specs.declared.event.Event.TheVariants.{Ended}
-use Rattle.cj_cluster.specs.History.Histories.{is_idle, log}
-use Rattle.cj_cluster.specs.Moves.Moves.{first_lagging, is_waiting}
+use Rattle.cj_state.proofs.Common.{board_id, BookState, CellState, Ended, first_lagging, is_idle, is_waiting, length-map, log, pass_board, placement_of, SeatedCell, states_of, with_event, WorldState}
 use Rattle.cj_cluster.proofs.Pushed.{free-ended, log-same}
-use Rattle.cj_book.specs.Books.{BookState, with_event}
-use Rattle.cj_place.specs.Layouts.{placement_of}
-use Rattle.cj_replica.specs.Cells.{CellState}
-use Rattle.cj_replica.specs.Seated.{SeatedCell}
-use Rattle.cj_state.specs.Seats.{states_of}
-use Rattle.cj_state.specs.Worlds.{WorldState}
 use Rattle.cj_state.proofs.CellsKept.{at_log_end}
 use Rattle.cj_state.proofs.HeardOf.{ready_heard}
 use Rattle.cj_state.proofs.Keeping.{kept_answered}
 use Rattle.cj_state.proofs.Dumped.{dumps_event}
 use Rattle.cj_state.proofs.Fresh.{fresh_event}
-use Rattle.cj_board.specs.Seats.{board_id, pass_board}
 use Rattle.cj_state.proofs.SeatsKept.{seats_cleared}
 use Rattle.cj_state.proofs.state.State.end_entry.Goals as goal
 

@@ -1,8 +1,6 @@
 use Rattle.std.proofs.Common.{◌+◌, ◌≤◌, ℕ, List, length, refl, ap, sym, subst}
-use Rattle.cj_model.specs.declared.limits.TheConstants.{USER_LIMIT}
-use Rattle.cj_cluster.specs.Proving.Invariants.{CoreInvariant}
+use Rattle.cj_state.proofs.Common.{CoreInvariant, USER_LIMIT, WorldState}
 use Rattle.cj_cluster.proofs.Soundness.{session_entry_fits}
-use Rattle.cj_state.specs.Worlds.{WorldState}
 use Rattle.cj_state.proofs.state.State.entry_for.Goals as goal
 
 pub returns-clause-fits : goal.returns-clause-fits

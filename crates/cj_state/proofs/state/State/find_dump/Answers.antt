@@ -1,6 +1,5 @@
 use Rattle.std.proofs.Common.{ap, ◌∙◌}
-use Rattle.cj_cluster.specs.Moves.Cores.{find_dump}
-use Rattle.cj_state.specs.Worlds.{WorldState}
+use Rattle.cj_state.proofs.Common.{find_dump, WorldState}
 use Rattle.cj_state.proofs.state.State.find_dump.Goals as goal
 
 pub returns : goal.returns

@@ -1,9 +1,5 @@
 use Rattle.std.proofs.Common.{◌≡◌, ◌<◌, Some, map, sym, subst, length}
-use Rattle.cj_cluster.specs.Moves.Cores.{find_dump}
-use Rattle.cj_cluster.specs.Proving.Invariants.{IsSoundDump}
-use Rattle.cj_place.specs.Layouts.{Layout}
-use Rattle.cj_shelf.specs.MemoryShelves.{taken_of}
-use Rattle.cj_state.specs.Worlds.{WorldState}
+use Rattle.cj_state.proofs.Common.{find_dump, IsSoundDump, Layout, taken_of, WorldState}
 use Rattle.cj_state.proofs.Dumped.{taken_all}
 use Rattle.cj_state.proofs.state.State.hosts_beyond.Goals as goal
 

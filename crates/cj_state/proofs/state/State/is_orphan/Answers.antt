@@ -1,8 +1,6 @@
 use Rattle.std.proofs.Common.{ap, ◌∙◌}
-use Rattle.cj_cluster.specs.Moves.Moves.{is_orphan}
-use Rattle.cj_state.specs.Worlds.{WorldState}
+use Rattle.cj_state.proofs.Common.{is_orphan, states_of, WorldState}
 use Rattle.cj_state.proofs.OpenNumbers.{orphan_is}
-use Rattle.cj_state.specs.Seats.{states_of}
 use Rattle.cj_state.proofs.state.State.is_orphan.Goals as goal
 
 pub returns : goal.returns

@@ -1,16 +1,10 @@
 use Rattle.std.proofs.Common.{◌≡◌, Bool, true, Ok, List, length, ap, sym, ◌∙◌, subst, arith}
+use Rattle.cj_state.proofs.Common.{board_id, BookState, Entry, KeptFresh, log, pass_board, states_of, world_of, WorldState}
 use Rattle.cj_model.specs.declared.answer.Asked.TheVariants.{Rows}
 use Rattle.cj_model.specs.declared.cached.Cached.{Cached}
-use Rattle.cj_model.specs.declared.request.Entry.{Entry}
 use Rattle.cj_model.proofs.CachingLaws.{all_put}
-use Rattle.cj_cluster.specs.History.Histories.{log}
-use Rattle.cj_book.specs.Books.{BookState}
 use Rattle.cj_freshness.specs.Freshness.{IsAnswerAt, IsFreshAnswer, NoneTouches}
 use Rattle.cj_freshness.proofs.Fresh.{fresh_now}
-use Rattle.cj_state.specs.Worlds.{WorldState, world_of}
-use Rattle.cj_state.specs.Proving.Kept.{KeptFresh}
-use Rattle.cj_state.specs.Seats.{states_of}
-use Rattle.cj_board.specs.Seats.{board_id, pass_board}
 use Rattle.cj_state.proofs.SeatsKept.{seats_same}
 use Rattle.cj_state.proofs.state.State.keep.Goals as goal
 

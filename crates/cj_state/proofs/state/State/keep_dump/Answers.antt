@@ -1,14 +1,9 @@
 use Rattle.std.proofs.Common.{◌≡◌, Bool, true, cond, filter, fold, [], Some, ap, sym, ◌∙◌, subst}
+use Rattle.cj_state.proofs.Common.{core_of, Dump, is_name, IsHeld, position_at, states_of, WorldState}
 use Rattle.cj_model.specs.Database.Tables.{name_cmp, put_by}
-use Rattle.cj_model.specs.Sql.Names.{is_name}
-use Rattle.cj_cluster.specs.Moves.Cores.{position_at}
-use Rattle.cj_dump.specs.declared.dump.Dump.{Dump}
 use Rattle.cj_place.specs.Layouts.{Layout, tables_at}
-use Rattle.cj_state.specs.Worlds.{WorldState, core_of}
-use Rattle.cj_state.specs.Held.{IsHeld}
 use Rattle.cj_state.proofs.Dumped.{dumps_push, kept_dumped}
 use Rattle.cj_state.proofs.Logs.{name_some}
-use Rattle.cj_state.specs.Seats.{states_of}
 use Rattle.cj_state.proofs.state.State.keep_dump.Goals as goal
 
 pub add-requires : goal.add-requires

@@ -1,9 +1,6 @@
 use Rattle.std.proofs.Common.{◌≡◌, false, sym, subst}
-use Rattle.cj_cluster.specs.Moves.Moves.{is_waiting}
-use Rattle.cj_state.specs.Worlds.{WorldState}
-use Rattle.cj_state.specs.Effects.{HaveFailed}
+use Rattle.cj_state.proofs.Common.{HaveFailed, is_waiting, states_of, WorldState}
 use Rattle.cj_state.proofs.Keeping.{kept_reading}
-use Rattle.cj_state.specs.Seats.{states_of}
 use Rattle.cj_state.proofs.state.State.keep_reading.Goals as goal
 
 pub invariant_of-self : goal.invariant_of-self

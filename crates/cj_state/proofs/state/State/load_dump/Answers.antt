@@ -1,11 +1,6 @@
 use Rattle.std.proofs.Common.{false, Result, ap, refl, sym, ◌∙◌}
-use Rattle.std.proofs.lemmas.List.{length-map}
+use Rattle.cj_state.proofs.Common.{CellError, failed_contents, faults_after, faults_of, length-map, states_of, taken_of}
 use Rattle.cj_model.specs.Database.Storable.{writers}
-use Rattle.cj_replica.specs.declared.replica.CellError.{CellError}
-use Rattle.cj_shelf.specs.MemoryShelves.{taken_of}
-use Rattle.cj_state.specs.Faults.{faults_of, faults_after}
-use Rattle.cj_state.specs.Held.{failed_contents}
-use Rattle.cj_state.specs.Seats.{states_of}
 use Rattle.cj_state.proofs.CellsKept.{position_of}
 use Rattle.cj_state.proofs.ChangedCell.{caused_faults, changed_armings, changed_logins, has_cell}
 use Rattle.cj_state.proofs.HeardOf.{ready_heard}

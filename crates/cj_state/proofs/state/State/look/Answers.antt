@@ -1,7 +1,5 @@
+use Rattle.cj_state.proofs.Common.{board_id, IsFreshAnswer, log, pass_board}
 use Rattle.cj_model.proofs.CachingLaws.{all_looked}
-use Rattle.cj_cluster.specs.History.Histories.{log}
-use Rattle.cj_freshness.specs.Freshness.{IsFreshAnswer}
-use Rattle.cj_board.specs.Seats.{board_id, pass_board}
 use Rattle.cj_state.proofs.SeatsKept.{seats_same}
 use Rattle.cj_state.proofs.state.State.look.Goals as goal
 

@@ -1,21 +1,11 @@
 use Rattle.std.proofs.Common.{◌≡◌, true, false, None, refl, sym, subst, arith}
 use Rattle.std.specs.Prelude.{IfOk}
-use Rattle.cj_cluster.specs.declared.event.Event.TheVariants.{LogFailed, Marker}
-use Rattle.cj_cluster.specs.History.Histories.{is_idle, has_marker}
-use Rattle.cj_cluster.specs.Moves.Moves.{last_number}
-use Rattle.cj_book.specs.Books.{BookState}
-use Rattle.cj_place.specs.Layouts.{placement_of}
-use Rattle.cj_state.specs.Worlds.{WorldState, world_of}
-use Rattle.cj_state.specs.Effects.{HadLoggedRoom}
-use Rattle.cj_state.specs.Proving.Kept.{KeptFresh}
+use Rattle.cj_state.proofs.Common.{board_id, BookState, event_or_fault, HadLoggedRoom, has_marker, is_idle, KeptFresh, last_number, LogFailed, Marker, pass_board, placement_of, states_of, world_of, WorldState}
 use Rattle.cj_state.proofs.KeepingEvents.{kept_log_failed, kept_marked}
 use Rattle.cj_state.proofs.Logs.{name_some}
 use Rattle.cj_state.proofs.Noting.{logged, had_logged_room, behind_as_many}
 use Rattle.cj_state.proofs.Dumped.{dumps_event}
 use Rattle.cj_state.proofs.Fresh.{fresh_event}
-use Rattle.cj_state.specs.Seats.{states_of}
-use Rattle.cj_book.specs.Seated.{event_or_fault}
-use Rattle.cj_board.specs.Seats.{board_id, pass_board}
 use Rattle.cj_state.proofs.SeatsKept.{counted, quiet_or_fault, seats_after}
 use Rattle.cj_state.proofs.state.State.mark.Goals as goal
 

@@ -1,10 +1,5 @@
+use Rattle.cj_state.proofs.Common.{All-nil, IsDumpOf, IsFreshAnswer, log, placement_of, states_of}
 use Rattle.cj_state.proofs.Resting.{kept_opened, core_opened}
-use Rattle.std.proofs.lemmas.List.Elements.{All-nil}
-use Rattle.cj_cluster.specs.History.Histories.{log}
-use Rattle.cj_freshness.specs.Freshness.{IsFreshAnswer}
-use Rattle.cj_place.specs.Layouts.{placement_of}
-use Rattle.cj_state.specs.Worlds.{IsDumpOf}
-use Rattle.cj_state.specs.Seats.{states_of}
 use Rattle.cj_state.proofs.HeardOf.{ready_none}
 use Rattle.cj_state.proofs.state.State.new.Goals as goal
 

@@ -1,13 +1,7 @@
 use Rattle.std.proofs.Common.{◌≡◌, true, Some, ap, sym, ◌∙◌, subst}
-use Rattle.cj_cluster.specs.History.Histories.{log}
-use Rattle.cj_cluster.specs.History.Legality.{IsFitEntry}
-use Rattle.cj_cluster.specs.Moves.Cores.{find_session}
-use Rattle.cj_cluster.specs.Moves.Moves.{is_open, open_tx, tx_of_act}
-use Rattle.cj_cluster.specs.Proving.Invariants.{CoreInvariant}
-use Rattle.cj_state.specs.Worlds.{WorldState}
+use Rattle.cj_state.proofs.Common.{CoreInvariant, find_session, is_open, IsFitEntry, log, open_tx, states_of, tx_of_act, WorldState}
 use Rattle.cj_state.proofs.OpenNumbers.{open_is}
 use Rattle.cj_state.proofs.Scheduling.{next_is, next_fits}
-use Rattle.cj_state.specs.Seats.{states_of}
 use Rattle.cj_state.proofs.state.State.next_entry.Goals as goal
 
 pub open_tx-requires : goal.open_tx-requires

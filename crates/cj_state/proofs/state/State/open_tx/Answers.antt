@@ -1,8 +1,6 @@
 use Rattle.std.proofs.Common.{◌≡◌, true, sym, ◌∙◌, subst}
-use Rattle.cj_cluster.specs.Moves.Moves.{is_open}
-use Rattle.cj_state.specs.Worlds.{WorldState}
+use Rattle.cj_state.proofs.Common.{is_open, states_of, WorldState}
 use Rattle.cj_state.proofs.OpenNumbers.{open_is}
-use Rattle.cj_state.specs.Seats.{states_of}
 use Rattle.cj_state.proofs.state.State.open_tx.Goals as goal
 
 pub open_tx-requires : goal.open_tx-requires

@@ -1,10 +1,6 @@
 use Rattle.std.proofs.Common.{sym, subst}
-use Rattle.cj_board.specs.Seats.{board_id, pass_board}
-use Rattle.cj_book.specs.Books.{BookState}
+use Rattle.cj_state.proofs.Common.{board_id, BookState, KeptFresh, pass_board, states_of, world_of}
 use Rattle.cj_book.proofs.Serving.{picked_below}
-use Rattle.cj_state.specs.Worlds.{world_of}
-use Rattle.cj_state.specs.Proving.Kept.{KeptFresh}
-use Rattle.cj_state.specs.Seats.{states_of}
 use Rattle.cj_state.proofs.SeatsKept.{seats_same}
 use Rattle.cj_state.proofs.state.State.pick.Goals as goal
 

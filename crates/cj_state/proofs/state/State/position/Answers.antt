@@ -1,8 +1,5 @@
 use Rattle.std.proofs.Common.{◌≡◌, ◌<◌, Some, List, length, slice_get, ap, sym, ◌∙◌}
-use Rattle.std.proofs.lemmas.Option.{slice_get-get_or}
-use Rattle.cj_cluster.specs.Moves.Cores.{position_at}
-use Rattle.cj_replica.specs.Seated.{SeatedCell}
-use Rattle.cj_state.specs.Worlds.{WorldState}
+use Rattle.cj_state.proofs.Common.{position_at, SeatedCell, slice_get-get_or, WorldState}
 use Rattle.cj_state.proofs.HeardOf.{stands_in}
 use Rattle.cj_state.proofs.state.State.position.Goals as goal
 

@@ -1,9 +1,6 @@
 use Rattle.std.proofs.Common.{◌≡◌, false, sym, subst}
-use Rattle.cj_cluster.specs.Moves.Moves.{is_waiting}
-use Rattle.cj_state.specs.Worlds.{WorldState}
+use Rattle.cj_state.proofs.Common.{board_id, is_waiting, pass_board, states_of, WorldState}
 use Rattle.cj_state.proofs.Keeping.{kept_closed}
-use Rattle.cj_state.specs.Seats.{states_of}
-use Rattle.cj_board.specs.Seats.{board_id, pass_board}
 use Rattle.cj_state.proofs.SeatsKept.{seats_same}
 use Rattle.cj_state.proofs.state.State.remove_session.Goals as goal
 

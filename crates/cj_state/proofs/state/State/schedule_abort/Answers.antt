@@ -1,21 +1,10 @@
 use Rattle.std.proofs.Common.{◌≡◌, arith, inr, Ok, Err, true, ap, sym, ◌∙◌, subst, refl, Some}
-use Rattle.cj_model.specs.declared.request.Entry.{Entry}
-use Rattle.cj_cluster.specs.declared.event.Event.TheVariants.{LogFailed, Sched}
-use Rattle.cj_cluster.specs.History.Histories.{log}
-use Rattle.cj_cluster.specs.History.Legality.{IsFitEntry}
-use Rattle.cj_cluster.specs.Moves.Moves.{is_orphan, abort_entry}
-use Rattle.cj_place.specs.Layouts.{placement_of}
-use Rattle.cj_state.specs.Worlds.{WorldState}
-use Rattle.cj_state.specs.Effects.{SchedulesAs}
+use Rattle.cj_state.proofs.Common.{abort_entry, board_id, Entry, event_or_fault, FollowsLog, is_orphan, IsFitEntry, log, LogFailed, pass_board, placement_of, Sched, SchedulesAs, states_of, WorldState}
 use Rattle.cj_state.proofs.Keeping.{kept_aborted}
 use Rattle.cj_state.proofs.OpenNumbers.{orphan_is}
 use Rattle.cj_state.proofs.Noting.{follows_scheduled, follows_unscheduled, kept_unscheduled, scheduled_as, not_scheduled}
 use Rattle.cj_state.proofs.Dumped.{dumps_entry}
 use Rattle.cj_state.proofs.Fresh.{fresh_entry}
-use Rattle.cj_freshness.specs.Freshness.{FollowsLog}
-use Rattle.cj_state.specs.Seats.{states_of}
-use Rattle.cj_book.specs.Seated.{event_or_fault}
-use Rattle.cj_board.specs.Seats.{board_id, pass_board}
 use Rattle.cj_state.proofs.SeatsKept.{counted, quiet_or_fault, seats_after, seats_cleared}
 use Rattle.cj_state.proofs.state.State.schedule_abort.Goals as goal
 

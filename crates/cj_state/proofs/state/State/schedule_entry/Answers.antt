@@ -1,23 +1,10 @@
 use Rattle.std.proofs.Common.{◌≡◌, ◌+◌, ◌≤◌, ℕ, arith, inl, Ok, Err, None, true, ap, sym, ◌∙◌, subst, refl, Some}
-use Rattle.cj_cluster.specs.declared.event.Event.TheVariants.{LogFailed, Sched}
-use Rattle.cj_cluster.specs.History.Histories.{log}
-use Rattle.cj_cluster.specs.History.Legality.{IsFitEntry}
-use Rattle.cj_cluster.specs.Moves.Cores.{Core, session_at}
-use Rattle.cj_cluster.specs.Moves.Moves.{is_open}
-use Rattle.cj_book.specs.Books.{has_session}
-use Rattle.cj_place.specs.Layouts.{placement_of}
-use Rattle.cj_state.specs.Worlds.{WorldState, core_of}
-use Rattle.cj_state.specs.Effects.{SchedulesAs}
-use Rattle.cj_cluster.proofs.Soundness.{session_sound}
+use Rattle.cj_state.proofs.Common.{board_id, Core, core_of, event_or_fault, FollowsLog, has_session, is_open, IsFitEntry, log, LogFailed, pass_board, placement_of, Sched, SchedulesAs, session_at, session_sound, states_of, WorldState}
 use Rattle.cj_state.proofs.Keeping.{kept_scheduled}
 use Rattle.cj_state.proofs.OpenNumbers.{open_is}
 use Rattle.cj_state.proofs.Noting.{follows_scheduled, follows_unscheduled, kept_unscheduled, scheduled_as, not_scheduled}
 use Rattle.cj_state.proofs.Dumped.{dumps_entry}
 use Rattle.cj_state.proofs.Fresh.{fresh_entry}
-use Rattle.cj_freshness.specs.Freshness.{FollowsLog}
-use Rattle.cj_state.specs.Seats.{states_of}
-use Rattle.cj_book.specs.Seated.{event_or_fault}
-use Rattle.cj_board.specs.Seats.{board_id, pass_board}
 use Rattle.cj_state.proofs.SeatsKept.{counted, quiet_or_fault, seats_after, seats_cleared}
 use Rattle.cj_state.proofs.state.State.schedule_entry.Goals as goal
 

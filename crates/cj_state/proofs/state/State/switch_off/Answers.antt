@@ -1,18 +1,9 @@
 use Rattle.std.proofs.Common.{◌≡◌, ℕ, ◌<◌, true, sym, subst, refl}
-use Rattle.cj_cluster.specs.declared.event.Event.TheVariants.{Disabled}
-use Rattle.cj_cluster.specs.History.Histories.{is_idle, is_enabled}
-use Rattle.cj_book.specs.Books.{BookState}
-use Rattle.cj_place.specs.Layouts.{placement_of}
-use Rattle.cj_state.specs.Worlds.{WorldState, world_of}
-use Rattle.cj_state.specs.Effects.{HadRoom}
-use Rattle.cj_state.specs.Proving.Kept.{KeptFresh}
+use Rattle.cj_state.proofs.Common.{board_id, BookState, Disabled, event_at_ok, HadRoom, is_enabled, is_idle, KeptFresh, pass_board, placement_of, states_of, world_of, WorldState}
 use Rattle.cj_state.proofs.KeepingEvents.{kept_disabled}
 use Rattle.cj_state.proofs.Noting.{noted, had_room}
 use Rattle.cj_state.proofs.Dumped.{dumps_event}
 use Rattle.cj_state.proofs.Fresh.{fresh_event}
-use Rattle.cj_state.specs.Seats.{states_of}
-use Rattle.cj_book.specs.Seated.{event_at_ok}
-use Rattle.cj_board.specs.Seats.{board_id, pass_board}
 use Rattle.cj_state.proofs.SeatsKept.{quiet_ok, seats_after}
 use Rattle.cj_state.proofs.state.State.switch_off.Goals as goal
 

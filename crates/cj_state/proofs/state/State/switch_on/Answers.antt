@@ -1,26 +1,11 @@
 use Rattle.std.proofs.Common.{◌≡◌, ℕ, ◌<◌, ◌∙◌, true, false, List, Some, length, map, sym, subst, refl}
-use Rattle.cj_cluster.specs.declared.event.Event.TheVariants.{Enabled}
-use Rattle.cj_cluster.specs.History.Histories.{log, is_idle, is_enabled}
-use Rattle.cj_cluster.specs.Moves.Cores.{position_at}
-use Rattle.cj_cluster.proofs.Effects.{is_there}
-use Rattle.cj_replica.specs.Cells.{CellState}
-use Rattle.cj_book.specs.Books.{BookState}
-use Rattle.cj_place.specs.Layouts.{placement_of}
-use Rattle.cj_state.specs.Worlds.{WorldState, world_of}
-use Rattle.cj_state.specs.Effects.{HadRoom}
-use Rattle.cj_state.specs.Proving.Kept.{KeptFresh}
+use Rattle.cj_state.proofs.Common.{board_id, BookState, CellState, Enabled, event_at_ok, HadRoom, is_enabled, is_idle, is_there, KeptFresh, length-map, log, pass_board, placement_of, position_at, position_in, SeatedCell, states_of, world_of, WorldState}
 use Rattle.cj_state.proofs.KeepingEvents.{kept_enabled}
 use Rattle.cj_state.proofs.Noting.{noted, had_room}
 use Rattle.cj_state.proofs.Dumped.{dumps_event}
 use Rattle.cj_state.proofs.Fresh.{fresh_event}
-use Rattle.cj_state.specs.Seats.{states_of}
-use Rattle.std.proofs.lemmas.List.{length-map}
 use Rattle.cj_book.specs.Events.{Appends}
-use Rattle.cj_book.specs.Seated.{event_at_ok}
-use Rattle.cj_replica.specs.Seated.{SeatedCell}
-use Rattle.cj_state.specs.Proving.Seated.{position_in}
 use Rattle.cj_state.proofs.HeardOf.{ready_heard}
-use Rattle.cj_board.specs.Seats.{board_id, pass_board}
 use Rattle.cj_state.proofs.SeatsKept.{quiet_ok, seats_after}
 use Rattle.cj_state.proofs.state.State.switch_on.Goals as goal
 

@@ -1,13 +1,10 @@
 use Rattle.std.proofs.Common.{◌≡◌, ◌+◌, None, Ok, sym, subst}
+use Rattle.cj_state.proofs.Common.{core_of, not_now, position_at, position_or_zero, Replays, states_of, WorldState}
 use Rattle.cj_cluster.specs.declared.moves.Move.TheVariants.{Replay}
 use Rattle.cj_cluster.specs.declared.moves.Moved.TheVariants.{Replayed}
-use Rattle.cj_cluster.specs.Moves.Moves.{position_or_zero, not_now, Replays}
-use Rattle.cj_cluster.specs.Moves.Cores.{position_at}
 use Rattle.cj_cluster.proofs.Now.{CanReplay, can_replay}
-use Rattle.cj_state.specs.Worlds.{WorldState, core_of}
 use Rattle.cj_state.proofs.Catching.{can_take}
 use Rattle.cj_state.proofs.Taking.{kept_replayed, replays, took_counts, took_armings, took_logins}
-use Rattle.cj_state.specs.Seats.{states_of}
 use Rattle.cj_state.proofs.HeardOf.{ready_heard}
 use Rattle.cj_state.proofs.state.State.take_next.Goals as goal
 

@@ -1,13 +1,10 @@
 use Rattle.std.proofs.Common.{◌≡◌, None, Ok, sym, subst}
+use Rattle.cj_state.proofs.Common.{Applies, core_of, not_now, position_at, position_or_zero, states_of, WorldState}
 use Rattle.cj_cluster.specs.declared.moves.Move.TheVariants.{Apply}
 use Rattle.cj_cluster.specs.declared.moves.Moved.TheVariants.{Applied}
-use Rattle.cj_cluster.specs.Moves.Moves.{position_or_zero, not_now, Applies}
-use Rattle.cj_cluster.specs.Moves.Cores.{position_at}
 use Rattle.cj_cluster.proofs.Now.{CanApply, can_apply}
-use Rattle.cj_state.specs.Worlds.{WorldState, core_of}
 use Rattle.cj_state.proofs.Catching.{can_take}
 use Rattle.cj_state.proofs.Taking.{kept_applied, applies, took_counts, took_armings, took_logins}
-use Rattle.cj_state.specs.Seats.{states_of}
 use Rattle.cj_state.proofs.HeardOf.{ready_taken}
 use Rattle.cj_state.proofs.state.State.take_open.Goals as goal
 
