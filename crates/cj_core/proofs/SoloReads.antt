@@ -1,47 +1,13 @@
 -- A session's read over a whole world, as backend after backend fails in it.
 use Rattle.std.proofs.Common.{Option, Ok, Err, ◌≡◌, ◌≢◌, ◌⊎◌, inl, inr, ℕ, ◌+◌, ◌<◌, ◌≤◌, ◌==◌, ◌&&◌, not, Bool, true, false, List, [], ◌∷◌, ◌++◌, length, map, None, Some, refl, ap, sym, ◌∙◌, subst, arith, ⊎_elim, append_assoc}
-use Rattle.std.proofs.lemmas.Bool.{and_parts, both_ways, cases_eq, ne_eqb}
-use Rattle.std.proofs.lemmas.List.{append-nil, map-append}
-use Rattle.std.proofs.lemmas.List.Elements.{All-append, All-cons, All-nil}
-use Rattle.std.proofs.lemmas.Grind.{fold-append}
-use Rattle.cj_model.specs.declared.request.Entry.{Entry}
+use Rattle.cj_core.proofs.Common.{accounts_of, AddsOwnEvents, All-append, All-cons, All-nil, and_parts, answered_at, append-nil, AreBackendsOf, AreCalledFor, ask, Asked, asked_reply, Asks, at_log_end, AttemptsQuery, both_ways, Call, call_of, CanServe, cases_eq, Core, CoreInvariant}
+use Rattle.cj_core.proofs.Common.{database_after, database_of, entries-same, Entry, Event, events_left, faults_after, faults_counted, faults_of, fold-append, follows_own, has-zero, HasFailedSince, HISTORY_FULL, hosts_all, in_mask, is_enabled, is_idle, is_open, is_open-with, IsQueryCode}
+use Rattle.cj_core.proofs.Common.{IsReadAtEnd, IsServingMask, IsWorld, last_number, log, log_faults-same, log_faults_of, logins_of, LogView, map-append, ne_eqb, needs, NO_BACKEND, NO_MEMORY, NO_TABLE, open_tx, OpenSession, position_at, prefix_length, prefix_self, QueryAnswered}
+use Rattle.cj_core.proofs.Common.{QueryFailed, QueryStarved, QueryUnnoted, READ_FAULT, ReadFailed, Refusal, refusal_of_code, Refused, Reply, Rests, seen_at, Select, session_at, session_owes, SessionView, Setup, StandsBetweenCalls, take_whole, Turn, turn_full, turn_in_vain, turn_read}
+use Rattle.cj_core.proofs.Common.{turn_starved, turn_unserved, tx_of, was_answered, with_core, with_one_request, with_read, with_request_counted, with_session, WorldState, WorldTurn, WRONG_TYPE}
 use Rattle.cj_model.specs.declared.request.Request.TheVariants as request
-use Rattle.cj_model.specs.declared.select.Select.{Select}
-use Rattle.cj_model.specs.declared.answer.Asked.{Asked}
 use Rattle.cj_model.specs.declared.answer.Asked.TheVariants as asked
-use Rattle.cj_model.specs.declared.answer.Refusal.{Refusal}
-use Rattle.cj_model.specs.declared.answer.Reply.{Reply}
-use Rattle.cj_model.specs.declared.answer.Reply.TheVariants.{Refused}
-use Rattle.cj_model.specs.declared.codes.TheConstants.{NO_BACKEND, NO_MEMORY, NO_TABLE, READ_FAULT, HISTORY_FULL, WRONG_TYPE}
-use Rattle.cj_model.specs.Database.Inserts.{refusal_of_code}
-use Rattle.cj_model.specs.Database.Outcomes.{IsQueryCode}
-use Rattle.cj_model.specs.Database.Queries.{ask}
-use Rattle.cj_model.specs.Cluster.Placements.{hosts_all, needs}
-use Rattle.cj_model.specs.Wire.Replies.{asked_reply}
-use Rattle.cj_model.specs.Cluster.Masks.{in_mask}
-use Rattle.cj_model.proofs.Masks.{has-zero}
-use Rattle.cj_cluster.specs.declared.event.Event.{Event}
-use Rattle.cj_cluster.specs.declared.event.Event.TheVariants.{ReadFailed}
-use Rattle.cj_cluster.specs.declared.moves.OpenSession.{OpenSession}
-use Rattle.cj_cluster.specs.History.Answering.{CanServe}
-use Rattle.cj_cluster.specs.History.Histories.{log, is_idle, is_enabled, events_left, database_after, database_of, log_faults_of, tx_of}
-use Rattle.cj_cluster.specs.History.Turns.{SessionView, Call, Turn}
-use Rattle.cj_cluster.specs.Moves.Cores.{Core, position_at, session_at, with_session}
-use Rattle.cj_cluster.specs.Moves.Moves.{IsServingMask, with_one_request, with_request_counted, answered_at, is_open, last_number, open_tx, was_answered, with_read}
-use Rattle.cj_cluster.specs.Moves.Runs.{seen_at, HasFailedSince}
-use Rattle.cj_cluster.specs.Proving.Invariants.{CoreInvariant}
-use Rattle.cj_cluster.proofs.Between.{follows_own, session_owes}
-use Rattle.cj_cluster.proofs.Pushed.{prefix_length, prefix_self, take_whole, log_faults-same}
-use Rattle.cj_cluster.proofs.Sessions.{is_open-with}
-use Rattle.cj_cluster.proofs.TurnCases.{Rests, entries-same, turn_unserved, turn_read, turn_full, turn_starved, turn_in_vain}
 use Rattle.cj_state.specs.declared.cells.AskError.TheVariants as errors
-use Rattle.cj_state.specs.Effects.{Asks, with_core}
-use Rattle.cj_state.specs.Faults.{faults_of, faults_after}
-use Rattle.cj_core.specs.Solos.{AreBackendsOf, AreCalledFor, WorldTurn, AddsOwnEvents, IsReadAtEnd, StandsBetweenCalls, faults_counted}
-use Rattle.cj_core.specs.Proving.SoloParts.{AttemptsQuery, QueryAnswered, QueryUnnoted, QueryStarved, QueryFailed, call_of}
-use Rattle.cj_state.specs.CalledLogins.{logins_of}
-use Rattle.cj_state.specs.Worlds.{IsWorld, LogView, WorldState, Setup, accounts_of}
-use Rattle.cj_state.proofs.CellsKept.{at_log_end}
 use Rattle.cj_core.proofs.SoloLogins.{called_none, called_then}
 use Rattle.cj_core.proofs.SoloTaking.{cells_count}
 use Rattle.cj_core.proofs.SoloTurns.{failed_before, failed_now, failures_keep, idle_failures, log_failures, enabled_failures}

@@ -1,47 +1,12 @@
 -- A session's write over a whole world, from its entry to the end of that.
 use Rattle.std.proofs.Common.{◌≡◌, ◌⊎◌, ◌≢◌, ℕ, suc, ◌+◌, ◌<◌, ◌≤◌, ◌==◌, ◌&&◌, Bool, true, false, cond, is_some, List, [], ◌∷◌, ◌++◌, length, Option, Some, Ok, Err, refl, ap, sym, ◌∙◌, subst, ⊎_elim, append_assoc, arith}
-use Rattle.std.specs.Option.{option_map_or}
-use Rattle.std.proofs.lemmas.Bool.{eq-eqb, ne_eqb}
-use Rattle.std.proofs.lemmas.List.{append-nil}
-use Rattle.std.proofs.lemmas.List.Elements.{All-nil}
-use Rattle.cj_model.specs.declared.request.Act.{Act}
-use Rattle.cj_model.specs.declared.request.Entry.{Entry}
-use Rattle.cj_model.specs.declared.answer.Refusal.{Refusal}
-use Rattle.cj_model.specs.declared.answer.Reply.{Reply}
-use Rattle.cj_model.specs.declared.answer.Reply.TheVariants.{Refused}
-use Rattle.cj_model.specs.declared.codes.TheConstants.{LOG_FAULT, NO_BACKEND, NO_MEMORY, STARVED_ALL, UNFINISHED}
-use Rattle.cj_model.specs.declared.answer.Outcome.{Outcome}
+use Rattle.cj_core.proofs.Common.{accounts_of, Act, act_of, act_of_request, AddsEntry, AddsOwnEvents, All-nil, answered_at, AnswersEntry, append-nil, AreBackendsOf, AreCalledFor, Call, call_of, Core, CoreInvariant, Ended, ended_for, Entry, entry_in_progress, entry_of_call, EntryEnded}
+use Rattle.cj_core.proofs.Common.{EntryRefused, EntryScheduled, eq-eqb, Event, events_left, faults_counted, faults_of, Finished, FitsTx, follows_own, follows_rest, free-ended, free-same, free-sched, happened, HasNoRoomFor, HasNoServer, HasServer, history_full, is_entry_of, is_idle}
+use Rattle.cj_core.proofs.Common.{is_open, is_open-with, is_waiting, IsOutcome, IsReadAtEnd, IsSameButLog, last_number, legal_push, log, log_failed_in, log_failure_of, LOG_FAULT, log_faults_after, LogFailed, logins_of, LogView, mask_with, ne_eqb, NO_BACKEND, NO_MEMORY, open_tx, open_user}
+use Rattle.cj_core.proofs.Common.{opened-sched, OpenSession, option_map_or, Outcome, outcome_reply, own_entry, own_tx, Placement, prefix_self, Refusal, refusal_of_code, Refused, Reply, request_of, Rests, Sched, scheduled_as, SchedulesAs, SchedulesOrRefuses, seen_at, session_at}
+use Rattle.cj_core.proofs.Common.{session_owes, SessionView, StandsBetweenCalls, STARVED_ALL, tells_log_failure, Turn, turn_full, turn_log_fault, turn_starved, turn_unserved, UNFINISHED, Unfinished, with_cache, with_core, with_one_request, with_request_counted, WorldState, WorldTurn}
 use Rattle.cj_model.specs.declared.answer.Outcome.TheVariants as outcome
-use Rattle.cj_model.specs.Database.Outcomes.{IsOutcome}
-use Rattle.cj_model.specs.Wire.Replies.{outcome_reply}
-use Rattle.cj_model.specs.Database.Inserts.{refusal_of_code}
-use Rattle.cj_model.specs.Cluster.Placements.{Placement}
-use Rattle.cj_model.specs.Sql.PlainRequests.{act_of, request_of}
-use Rattle.cj_cluster.specs.declared.event.Event.{Event}
-use Rattle.cj_cluster.specs.declared.event.Event.TheVariants.{Sched, Ended, LogFailed}
-use Rattle.cj_cluster.specs.declared.moves.OpenSession.{OpenSession}
-use Rattle.cj_cluster.specs.History.Histories.{log, is_idle, entry_in_progress, events_left}
-use Rattle.cj_cluster.specs.History.Answering.{AnswersEntry, Finished, HasServer, HasNoServer, Unfinished}
-use Rattle.cj_cluster.specs.History.Legality.{FitsTx}
-use Rattle.cj_cluster.specs.History.Turns.{SessionView, Call, HasNoRoomFor, Turn, entry_of_call}
-use Rattle.cj_cluster.specs.Moves.Cores.{Core, is_entry_of, session_at}
-use Rattle.cj_cluster.specs.Moves.Moves.{is_open, is_waiting, happened, history_full, open_tx, scheduled_as, with_request_counted, ended_for, with_one_request, answered_at, last_number}
-use Rattle.cj_cluster.specs.Moves.Runs.{seen_at}
-use Rattle.cj_cluster.specs.Proving.Invariants.{CoreInvariant}
-use Rattle.cj_cluster.proofs.Between.{follows_own, follows_rest, session_owes}
-use Rattle.cj_cluster.proofs.OwnTransactions.{own_tx}
-use Rattle.cj_cluster.proofs.Pushed.{prefix_self, free-ended, free-same, free-sched, legal_push, opened-sched}
-use Rattle.cj_cluster.proofs.Sessions.{is_open-with}
 use Rattle.cj_cluster.proofs.Standing.{open_above}
-use Rattle.cj_cluster.proofs.TurnCases.{Rests, act_of_request, turn_unserved, turn_full, turn_log_fault, turn_starved}
-use Rattle.cj_state.specs.Faults.{faults_of}
-use Rattle.cj_state.specs.Effects.{SchedulesAs, with_core}
-use Rattle.cj_state.specs.CalledLogins.{logins_of}
-use Rattle.cj_core.specs.Solos.{AreBackendsOf, AreCalledFor, StandsBetweenCalls, WorldTurn, AddsEntry, AddsOwnEvents, IsReadAtEnd, faults_counted, log_failed_in, log_failure_of, mask_with, tells_log_failure}
-use Rattle.cj_core.specs.Proving.SoloParts.{EntryEnded, EntryRefused, EntryScheduled, SchedulesOrRefuses, call_of, open_user}
-use Rattle.cj_state.specs.Effects.{own_entry}
-use Rattle.cj_state.specs.Worlds.{IsSameButLog, LogView, WorldState, accounts_of, with_cache}
-use Rattle.cj_moves.specs.Counting.{log_faults_after}
 use Rattle.cj_core.proofs.SoloLogins.{called_none}
 use Rattle.cj_core.proofs.SoloTurns.{between_scheduled, between_taken, turn_ended}
 

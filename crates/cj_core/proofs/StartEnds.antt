@@ -1,37 +1,13 @@
 -- Transactions are ended in a start, one after another.
 use Rattle.std.proofs.Common.{◌≡◌, ◌≢◌, ◌⊎◌, inl, inr, ℕ, ◌+◌, ◌-◌, ◌<◌, ◌≤◌, ◌==◌, ◌&&◌, ◌||◌, not, Bool, true, false, cond, List, [], ◌∷◌, ◌++◌, length, map, get_or, slice_get, Option, None, Some, is_some, refl, ap, sym, ◌∙◌, subst, arith, append_assoc, append-nil, length-append, ⊎_elim}
-use Rattle.std.specs.List.{filter, filter_map, range_with_len}
-use Rattle.std.proofs.lemmas.Bool.{cases_eq, cases_lt, cond-false, cond-true, ne_eqb}
-use Rattle.std.proofs.lemmas.List.{map-id}
-use Rattle.std.proofs.lemmas.List.Elements.{filter_map-append}
-use Rattle.std.proofs.lemmas.List.FromFn.{filter_of_map_range_with_len_more}
-use Rattle.std.proofs.lemmas.Option.{slice_get-get_or}
+use Rattle.cj_core.proofs.Common.{abort_entry, AbortsEach, all_at_end, AllStand, answered_at, AreStanding, cases_eq, cases_lt, CellState, cond-false, cond-true, Core, enabled-push, Ended, ended_for, EndedTo, EndedWhere, Entry, entry_in_progress, entry_numbered, Event, FailedInIt}
+use Rattle.cj_core.proofs.Common.{faults_of, filter, filter_map, filter_map-append, filter_of_map_range_with_len_more, find_session, first_lagging, free-ended, free-sched, get_left, has-zero, HasDone, HasFailedOut, HasTaken, in_mask, is_enabled, is_entry_of, is_idle, is_open, is_orphan}
+use Rattle.cj_core.proofs.Common.{is_orphan_of, is_there, is_waiting, IsDue, IsSameButLog, IsSameCluster, IsWorld, last_number, log, log-same, log-sched, map-id, ne_eqb, OnlyTakes, opened-sched, OpenSession, position_at, range_with_len, Sched, scheduled_entry, slice_get-get_or}
+use Rattle.cj_core.proofs.Common.{StandsAfterStart, StandsBefore, StandsBehind, TakesPast, TransactionEnded, tx_of, tx_of_end, tx_of_end_other, WasOut, with_abort, with_core, with_entry, with_session, WorldState}
 use Rattle.cj_model.specs.declared.request.Act.TheVariants as act
-use Rattle.cj_model.specs.declared.request.Entry.{Entry}
-use Rattle.cj_model.specs.Cluster.Masks.{in_mask}
-use Rattle.cj_model.proofs.Masks.{has-zero}
-use Rattle.cj_cluster.specs.declared.event.Event.{Event}
-use Rattle.cj_cluster.specs.declared.event.Event.TheVariants.{Sched, Ended}
-use Rattle.cj_cluster.specs.declared.moves.OpenSession.{OpenSession}
-use Rattle.cj_cluster.specs.History.Histories.{log, is_idle, is_enabled, entry_in_progress, scheduled_entry, tx_of}
-use Rattle.cj_cluster.specs.Moves.Cores.{Core, find_session, is_entry_of, position_at, with_session}
-use Rattle.cj_cluster.specs.Moves.Moves.{abort_entry, answered_at, ended_for, entry_numbered, first_lagging, is_open, is_orphan, is_orphan_of, is_waiting, last_number, with_entry}
-use Rattle.cj_cluster.proofs.Effects.{is_there}
-use Rattle.cj_cluster.proofs.Now.{all_at_end}
-use Rattle.cj_cluster.proofs.Pushed.{enabled-push, free-ended, free-sched, get_left, log-same, log-sched, opened-sched}
-use Rattle.cj_cluster.proofs.TransactionLaws.{tx_of_end, tx_of_end_other}
-use Rattle.cj_replica.specs.Cells.{CellState}
-use Rattle.cj_state.specs.Effects.{with_core}
-use Rattle.cj_state.specs.Faults.{faults_of}
-use Rattle.cj_state.specs.Worlds.{IsSameButLog, IsWorld, WorldState}
-use Rattle.cj_core.specs.Starts.{AbortsEach, StandsAfterStart, with_abort}
-use Rattle.cj_core.specs.Proving.StartParts.{AllStand, AreStanding, EndedTo, EndedWhere, FailedInIt, HasDone, HasFailedOut, HasTaken, IsDue, IsSameCluster, OnlyTakes, StandsBefore, StandsBehind, TakesPast, TransactionEnded, WasOut}
 use Rattle.cj_core.proofs.StartReplays.{same_some}
 
 -- ---- one transaction
-
-abbrev HasCaughtUp : List ℕ → WorldState → ℕ → Type 0
-HasCaughtUp faults w b = (is_enabled w.core.history b ≡ true) × (position_at w.core b ≡ Some (last_number w.core)) × (slice_get (faults_of w.cells) b ≡ slice_get faults b)
 
 module _ (tx : ℕ) (old sched : WorldState) (came : IsSameButLog (with_core old (with_entry old.core (abort_entry old.core tx))) sched) where
   abbrev entry : Entry
@@ -39,9 +15,6 @@ module _ (tx : ℕ) (old sched : WorldState) (came : IsSameButLog (with_core old
 
   core_then : sched.core ≡ with_entry old.core entry
   core_then = ap (λ (w : WorldState). w.core) came
-
-  cells_then : sched.cells ≡ old.cells
-  cells_then = ap (λ (w : WorldState). w.cells) came
 
   history_then : sched.core.history ≡ old.core.history ++ Sched entry ∷ []
   history_then = ap (λ (c : Core). c.history) core_then
@@ -62,13 +35,11 @@ module _ (tx : ℕ) (old sched : WorldState) (came : IsSameButLog (with_core old
   unmasked_then b = ap (λ (c : Core). in_mask c.failed b) core_then ∙ has-zero b
 
   counted_then : (b : ℕ) → slice_get (faults_of sched.cells) b ≡ slice_get (faults_of old.cells) b
-  counted_then b = ap (λ (cells : List CellState). slice_get (faults_of cells) b) cells_then
+  counted_then b = ap (λ (w : WorldState). slice_get (faults_of w.cells) b) came
 
   -- each backend that stands as after a start, stands before the entry
   before_it : (faults : List ℕ) (b : ℕ) → StandsAfterStart faults old b → StandsBefore faults sched b
-  before_it faults b stands =
-      ⊎_elim
-      (λ (there : HasCaughtUp faults old b).
+  before_it faults b (inl there) =
       inl
       (record {
         on = on_then b ∙ there.0;
@@ -76,13 +47,11 @@ module _ (tx : ℕ) (old sched : WorldState) (came : IsSameButLog (with_core old
         taken = record { position = position_then b ∙ there.1; counted = counted_then b ∙ there.2 };
         next = last_then;
         unmasked = unmasked_then b;
-      }))
-      (λ out. inr (record { off = on_then b ∙ out.0; out = record { position = position_then b ∙ out.1; counted = counted_then b ∙ out.2 }; unmasked = unmasked_then b })) stands
+      })
+  before_it faults b (inr out) =
+      inr (record { off = on_then b ∙ out.0; out = record { position = position_then b ∙ out.1; counted = counted_then b ∙ out.2 }; unmasked = unmasked_then b })
 
   module _ (mid : WorldState) (only : OnlyTakes sched mid) (all : (b : ℕ) → b < sched.core.placement.backends → TakesPast sched mid b) (starved : mid.core.starved ≡ sched.core.starved) where
-    placement_then : sched.core.placement ≡ old.core.placement
-    placement_then = ap (λ (c : Core). c.placement) core_then
-
     -- and behind it
     behind_it : (faults : List ℕ) → AllStand faults old → (b : ℕ) → b < old.core.placement.backends → StandsBehind faults mid b
     behind_it faults stands b lt = all b (subst (λ p. b < p) (sym (ap (λ (c : Core). c.placement.backends) core_then)) lt) faults (before_it faults b (stands b lt))
@@ -101,11 +70,9 @@ module _ (tx : ℕ) (old sched : WorldState) (came : IsSameButLog (with_core old
     taken_waits idle = ap (λ (h : List Event). is_entry_of 0 (entry_in_progress h)) history_mid ∙ ap (λ (o : Option Entry). is_entry_of 0 o) (opened-sched old.core.history entry idle)
 
     at_end : (faults : List ℕ) (b q : ℕ) → position_at mid.core b ≡ Some q → StandsBehind faults mid b → q ≡ last_number mid.core
-    at_end faults b q at behind =
-        ⊎_elim (λ (done : HasDone faults mid b). same_some q (last_number mid.core) (sym at ∙ done.taken.position))
-        (λ (others : FailedInIt faults mid b ⊎ WasOut faults mid b).
-        ⊎_elim (λ (failed : FailedInIt faults mid b). absurd (cc (sym at ∙ failed.out.position))) (λ (was : WasOut faults mid b). absurd (cc (sym at ∙ was.out.position))) others)
-        behind
+    at_end faults b q at (inl done) = cc (at, done.taken.position)
+    at_end faults b q at (inr (inl failed)) = absurd (cc (at, failed.out.position))
+    at_end faults b q at (inr (inr was)) = absurd (cc (at, was.out.position))
 
     -- and no backend lags
     pub taken_by_all : (tells : Bool) → IsWorld tells mid → AreStanding old → first_lagging mid.core.history 0 mid.core.positions ≡ None
@@ -150,15 +117,10 @@ module _ (tx : ℕ) (old sched : WorldState) (came : IsSameButLog (with_core old
 
       -- each backend stands as after a start again
       after_it : (faults : List ℕ) (b : ℕ) → StandsBehind faults mid b → StandsAfterStart faults new b
-      after_it faults b behind =
-          ⊎_elim
-          (λ (done : HasDone faults mid b).
-          inl (on_new b true false done.on done.unmasked, position_new b ∙ (done.taken.position ∙ ap (λ (n : ℕ). Some n) (sym last_new)), counted_new b ∙ done.taken.counted))
-          (λ (others : FailedInIt faults mid b ⊎ WasOut faults mid b).
-          ⊎_elim
-          (λ (failed : FailedInIt faults mid b). inr (on_new b true true failed.on failed.masked, position_new b ∙ failed.out.position, counted_new b ∙ failed.out.counted))
-          (λ (was : WasOut faults mid b). inr (on_new b false false was.off was.unmasked, position_new b ∙ was.out.position, counted_new b ∙ was.out.counted)) others)
-          behind
+      after_it faults b (inl done) =
+          inl (on_new b true false done.on done.unmasked, position_new b ∙ (done.taken.position ∙ ap (λ (n : ℕ). Some n) (sym last_new)), counted_new b ∙ done.taken.counted)
+      after_it faults b (inr (inl failed)) = inr (on_new b true true failed.on failed.masked, position_new b ∙ failed.out.position, counted_new b ∙ failed.out.counted)
+      after_it faults b (inr (inr was)) = inr (on_new b false false was.off was.unmasked, position_new b ∙ was.out.position, counted_new b ∙ was.out.counted)
 
       backends_new : new.core.placement.backends ≡ old.core.placement.backends
       backends_new = ap (λ (w : WorldState). w.core.placement.backends) ended ∙ backends_mid

@@ -1,24 +1,7 @@
 -- A start from its parts.
 use Rattle.std.proofs.Common.{◌≡◌, ◌⊎◌, inl, inr, ℕ, ◌<◌, ◌==◌, ◌&&◌, not, Bool, true, false, cond, List, [], ◌∷◌, ◌++◌, length, map, replicate, slice_get, get_or, Option, None, Some, is_some, refl, ap, sym, ◌∙◌, subst, arith, ⊎_elim}
-use Rattle.std.specs.List.{filter, range_with_len}
-use Rattle.std.proofs.lemmas.List.{get_or-replicate}
-use Rattle.std.proofs.lemmas.Simd.{map-map}
-use Rattle.cj_model.specs.declared.request.Entry.{Entry}
-use Rattle.cj_model.specs.Cluster.Placements.{Placement}
-use Rattle.cj_cluster.specs.declared.event.Event.{Event}
-use Rattle.cj_cluster.specs.declared.event.Event.TheVariants.{Sched, Ended, Enabled, Marker}
-use Rattle.cj_cluster.specs.declared.moves.OpenSession.{OpenSession}
-use Rattle.cj_cluster.specs.History.Histories.{log, is_enabled, tx_of}
-use Rattle.cj_cluster.specs.Moves.Cores.{Core, find_session, position_at}
-use Rattle.cj_cluster.specs.Moves.Moves.{entry_numbered, is_open, is_orphan, is_orphan_of, last_number}
-use Rattle.cj_cluster.proofs.Effects.{is_there}
-use Rattle.cj_opening.specs.Openings.{IsOpening, OpensTo}
-use Rattle.cj_log.specs.declared.item.LogItem.{LogItem}
-use Rattle.cj_state.specs.Beginnings.{opened_core}
-use Rattle.cj_state.specs.Faults.{faults_of}
-use Rattle.cj_state.specs.Worlds.{IsWorld, WorldState}
-use Rattle.cj_core.specs.Starts.{AbortsEach, BackendState, HasStarted, StartsFrom, backend_of, orphans_of}
-use Rattle.cj_core.specs.Proving.StartParts.{AllStand, AreStanding, EnabledTo, EndedTo, HasFailedOut, HasReplayed, HasTaken, OnlyReplays}
+use Rattle.cj_core.proofs.Common.{AbortsEach, AllStand, AreStanding, backend_of, BackendState, Core, Enabled, EnabledTo, Ended, EndedTo, Entry, entry_numbered, Event, faults_of, filter, find_session, get_or-replicate, HasFailedOut, HasReplayed, HasStarted, HasTaken, is_enabled, is_open}
+use Rattle.cj_core.proofs.Common.{is_orphan, is_orphan_of, is_there, IsOpening, IsWorld, last_number, log, LogItem, map-map, Marker, OnlyReplays, opened_core, OpenSession, OpensTo, orphans_of, Placement, position_at, range_with_len, Sched, StartsFrom, tx_of, WorldState}
 use Rattle.cj_core.proofs.StartEnables.{enabled_last, enabled_position}
 use Rattle.cj_core.proofs.StartReplays.{last_same, only_history, only_placement, same_some}
 use Rattle.cj_core.proofs.SoloTaking.{cells_count}

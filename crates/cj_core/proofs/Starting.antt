@@ -1,22 +1,10 @@
 -- How backends move into cells, and what is seen of both.
 use Rattle.std.proofs.Common.{◌≡◌, Bool, true, ℕ, suc, ◌+◌, ◌<◌, ◌≤◌, List, [], ◌∷◌, ◌++◌, length, map, reverse, get_or, All, Option, Some, refl, ap, sym, ◌∙◌, subst, arith, length-append, append_assoc, append-nil, ⊎_elim}
-use Rattle.std.proofs.lemmas.Bool.{cases_lt}
-use Rattle.std.proofs.lemmas.List.{map_push, reverse-append, reverse-reverse, length-reverse, get_or_push, get_or_append_left, nil_from_length}
-use Rattle.std.proofs.lemmas.List.Elements.{All-nil, All-push}
-use Rattle.std.proofs.lemmas.Simd.{map-map}
-use Rattle.cj_model.specs.declared.database.Slot.{Slot}
-use Rattle.cj_model.specs.Cluster.Placements.{Placement}
+use Rattle.cj_core.proofs.Common.{All-nil, All-push, AreCellsAt, AreEmpty, AreFresh, AreNewCells, backend_of, BackendState, cases_lt, Cell, cell_board, cell_view, CellState, get_or_append_left, get_or_push, HaveBegunNone, IsFresh, length-reverse, map-map, map_push, new_view}
+use Rattle.cj_core.proofs.Common.{nil_from_length, Placement, reverse-append, reverse-reverse, SeatedCell, Slot, state_by}
 use Rattle.cj_backend.specs.Backends.{Arming}
-use Rattle.cj_replica.specs.Cells.{CellState}
-use Rattle.cj_core.specs.Starts.{BackendState, HaveBegunNone, backend_of, state_by}
 use Rattle.atomic_table.specs.Seated.{TableId}
 use Rattle.cj_board.specs.declared.seats.CellSeat.{CellSeat}
-use Rattle.cj_board.specs.declared.view.Role.TheVariants.{Cell}
-use Rattle.cj_board.specs.Seats.{cell_board, cell_view, AreNewCells}
-use Rattle.cj_board.specs.Views.{new_view}
-use Rattle.cj_replica.specs.Seated.{SeatedCell}
-use Rattle.cj_state.specs.Beginnings.{IsFresh, AreEmpty, AreFresh}
-use Rattle.cj_state.specs.Seats.{AreCellsAt}
 
 -- ---- what is seen of backends in their cells
 
