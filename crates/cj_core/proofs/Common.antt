@@ -27,14 +27,14 @@ pub use Rattle.cj_cluster.specs.declared.event.Event.TheVariants.{Enabled, Ended
 pub use Rattle.cj_cluster.specs.declared.moves.Did.{Did}
 pub use Rattle.cj_cluster.specs.declared.moves.Made.{Made}
 pub use Rattle.cj_cluster.specs.declared.moves.Move.{Move}
-pub use Rattle.cj_cluster.specs.declared.moves.Move.TheVariants.{Abort, Apply, Arm, Close, Disable, Dump, Enable, End, Load, Mark, Open, Read, Replay, Schedule}
+pub use Rattle.cj_cluster.specs.declared.moves.Move.TheVariants.{Apply, Arm, Disable, Dump, Enable, End, Load, Mark, Open, Read, Replay, Schedule}
 pub use Rattle.cj_cluster.specs.declared.moves.MoveError.TheVariants.{NoMemory, NotNow}
 pub use Rattle.cj_cluster.specs.declared.moves.Moved.TheVariants.{Applied, Replayed, Replied}
 pub use Rattle.cj_cluster.specs.declared.moves.OpenSession.{OpenSession}
 pub use Rattle.cj_core.specs.Audits.{lines_at}
 pub use Rattle.cj_core.specs.Played.{HasRun, HasRunInPart, HaveCauses, MovesWorld, RunsWorld, faults_over, given_of, log_faults_over}
 pub use Rattle.cj_core.specs.Proving.SoloParts.{AttemptsQuery, EntryEnded, EntryRefused, EntryScheduled, EntryTaken, HasTakenEntry, QueryAnswered, QueryFailed, QueryStarved, QueryUnnoted, RepliesKept, SchedulesOrRefuses, cache_answered, call_of, open_user}
-pub use Rattle.cj_core.specs.Proving.StartParts.{AllStand, AreStanding, CountsFaultOfPart, EnabledTo, EndedTo, EndedWhere, FailedInIt, HasDone, HasFailedOut, HasReplayed, HasTaken, IsDue, IsLonger, IsSameAt, IsSameCluster, IsUntouched, OnlyReplays, OnlyTakes, StandsBefore, StandsBehind}
+pub use Rattle.cj_core.specs.Proving.StartParts.{AllStand, AreStanding, CountsFaultOfPart, EnabledTo, EndedTo, EndedWhere, HasFailedOut, HasReplayed, HasTaken, IsDue, IsLonger, IsSameAt, IsSameCluster, IsUntouched, OnlyReplays, OnlyTakes, StandsBefore, StandsBehind}
 pub use Rattle.cj_core.specs.Proving.StartParts.{TakesPast, TookNext, TransactionEnded, WasOut, enabled_where}
 pub use Rattle.cj_core.specs.QuietCalls.{BlamesNobody, CanCountMore}
 pub use Rattle.cj_core.specs.Solos.{AddsEntry, AddsOwnEvents, AnswersFromCache, AnswersLookUp, AreBackendsOf, AreCalledFor, IsMoveOfNoSession, IsReadAtEnd, SoloState, SoloSteps, StandsBetweenCalls, WorldTurn, desk_of, faults_counted, log_failed_in, log_failure_of, mask_with}
@@ -54,7 +54,7 @@ pub use Rattle.cj_model.specs.Cluster.Placements.{Placement, everywhere, hosts_a
 pub use Rattle.cj_model.specs.Database.Inserts.{refusal_of_code}
 pub use Rattle.cj_model.specs.Database.Outcomes.{IsAnswer, IsAsked, IsOutcome, IsQueryCode}
 pub use Rattle.cj_model.specs.Database.Queries.{ask}
-pub use Rattle.cj_model.specs.Sql.Names.{IsText, is_text, text_of}
+pub use Rattle.cj_model.specs.Sql.Names.{IsText}
 pub use Rattle.cj_model.specs.Sql.PlainRequests.{act_of, request_of}
 pub use Rattle.cj_model.specs.Wire.Replies.{asked_reply, outcome_reply}
 pub use Rattle.cj_model.specs.declared.answer.Answer.{Answer}
@@ -84,7 +84,7 @@ pub use Rattle.cj_state.specs.Seats.{AreCellsAt, states_of}
 pub use Rattle.cj_state.specs.Worlds.{CacheFollowsLog, IsCell, IsSameButLog, IsWorld, LogView, Setup, WorldState, accounts_of, with_cache, with_log}
 pub use Rattle.cj_state.specs.declared.cells.AskError.{AskError}
 pub use Rattle.std.proofs.Math.Seq.{take-append-add, take-length}
-pub use Rattle.std.proofs.lemmas.Bool.{and_parts, both_ways, cases_eq, cases_lt, cond-false, cond-true, cond_both, eq-eqb, eqb-true, ne_eqb}
+pub use Rattle.std.proofs.lemmas.Bool.{and_parts, both_ways, cases_eq, cases_lt, cond-false, cond_both, eq-eqb, eqb-true, ne_eqb}
 pub use Rattle.std.proofs.lemmas.Grind.{flat_map-append, fold-append}
 pub use Rattle.std.proofs.lemmas.List.{append-nil, get_or-map, get_or-replicate, get_or-set_other, get_or-set_same, get_or_append_left, get_or_default, get_or_past, get_or_push, length-map, length-reverse, length-set, length-take-le, map-append, map-id, map_push, nil_from_length}
 pub use Rattle.std.proofs.lemmas.List.{reverse-append, reverse-reverse, take_all, take_more}
@@ -93,7 +93,7 @@ pub use Rattle.std.proofs.lemmas.List.FromFn.{filter_of_map_range_with_len_more,
 pub use Rattle.std.proofs.lemmas.List.Sums.{sum_by-cons}
 pub use Rattle.std.proofs.lemmas.Option.{slice_get-get_or, slice_get_past, slice_get_within}
 pub use Rattle.std.proofs.lemmas.Simd.{map-map}
-pub use Rattle.std.specs.List.{AllPairs, filter, filter_map, flat_map, fold, list_all, range_with_len, sum}
+pub use Rattle.std.specs.List.{filter, flat_map, fold, list_all, range_with_len, sum}
 pub use Rattle.std.specs.Option.{MatchOption, option_map, option_map_or}
 pub use Rattle.std.specs.Prelude.{IsErrAnd, is_some}
 pub use mathlib.Core.List.{IsPrefix}

@@ -1,7 +1,7 @@
 -- How a list of moves comes from move to move.
 use Rattle.std.proofs.Common.{◌≡◌, ℕ, ◌+◌, ◌<◌, ◌≤◌, ◌^◌, Bool, List, [], ◌∷◌, ◌++◌, length, map, take, get_or, All, refl, ap, sym, ◌∙◌, subst, arith}
-use Rattle.cj_core.proofs.Common.{Abort, All-get_or, All-take, Apply, Arm, blamed, CanCountRequests, Close, Core, Disable, Dump, Enable, End, faults_after, faults_of, faults_over, given_of, HasRun, HasRunInPart, HaveCauses, IsLegal, IsMoveOfCluster, IsPrefix, IsSameButLog, IsWorld}
-use Rattle.cj_core.proofs.Common.{length-take-le, Load, log_faults_after, log_faults_over, Made, map_push, Mark, Move, MoveResult, MovesWorld, Open, Placement, Read, Replay, RunsMoves, RunsWorld, Schedule, session_at, take_more, tells_log_fault, WorldState}
+use Rattle.cj_core.proofs.Common.{All-get_or, All-take, blamed, CanCountRequests, Core, faults_after, faults_of, faults_over, given_of, HasRun, HasRunInPart, HaveCauses, IsLegal, IsMoveOfCluster, IsPrefix, IsSameButLog, IsWorld}
+use Rattle.cj_core.proofs.Common.{length-take-le, log_faults_after, log_faults_over, Made, map_push, Move, MoveResult, MovesWorld, Placement, Read, RunsMoves, RunsWorld, Schedule, session_at, take_more, tells_log_fault, WorldState}
 use Rattle.cj_cluster.proofs.Growth.{Grows, can_count, runs_push, runs_grow, runs_sound}
 use Rattle.cj_cluster.proofs.Chains.{run_chained}
 use Rattle.cj_moves.specs.Steps.{CanAsk, IsMet}

@@ -1,7 +1,7 @@
 -- A call over which no backend counted a fault blames nobody.
-use Rattle.std.proofs.Common.{◌≡◌, ◌≢◌, inl, inr, ℕ, zero, suc, ◌+◌, ◌-◌, ◌==◌, ◌/◌, ◌%◌, ◌^◌, ◌<◌, ◌≤◌, Bool, true, List, [], ◌∷◌, ◌++◌, length, take, get_or, set, slice_get, All, Option, None, Some, refl, ap, sym, ◌∙◌, subst, arith, ⊎_elim, length-append}
-use Rattle.cj_core.proofs.Common.{Act, act_of, AddsEntry, AddsOwnEvents, All-head, AnswersEntry, append-nil, Asked, asked_reply, BlamesNobody, Call, CanCountMore, cases_eq, cases_lt, CellState, Ended, ended_count, ends-prefix, ends-same, entry_of_call, eqb-true, Event, faults_after}
-use Rattle.cj_core.proofs.Common.{faults_counted, faults_of, filter_map-append, full, get_or-set_other, get_or-set_same, get_or_past, HISTORY_FULL, in_mask, is_idle, IsAsked, IsOutcome, IsPrefix, IsQueryCode, length-ends, length-map, log, log_failure_of, LOG_FAULT, log_fault, LogFailed}
+use Rattle.std.proofs.Common.{◌≡◌, ◌≢◌, inl, inr, ℕ, zero, suc, ◌+◌, ◌-◌, ◌==◌, ◌/◌, ◌%◌, ◌^◌, ◌<◌, ◌≤◌, Bool, true, List, [], ◌∷◌, ◌++◌, length, take, get_or, slice_get, All, Option, None, Some, refl, ap, sym, ◌∙◌, subst, arith, ⊎_elim, length-append}
+use Rattle.cj_core.proofs.Common.{Act, act_of, AddsEntry, AddsOwnEvents, All-head, AnswersEntry, append-nil, Asked, asked_reply, BlamesNobody, Call, CanCountMore, cases_eq, CellState, Ended, ended_count, ends-prefix, ends-same, entry_of_call, eqb-true, Event, faults_after}
+use Rattle.cj_core.proofs.Common.{faults_counted, faults_of, filter_map-append, full, get_or-set_same, HISTORY_FULL, in_mask, is_idle, IsAsked, IsOutcome, IsPrefix, IsQueryCode, length-ends, length-map, log, log_failure_of, LOG_FAULT, log_fault, LogFailed}
 use Rattle.cj_core.proofs.Common.{masks_of_end, masks_of_ends, next, NO_BACKEND, no_backend, NO_MEMORY, Outcome, outcome_reply, Placement, prefix_length, read, READ_FAULT, read_fault, ReadFaultTurn, Refusal, refusal_of_code, Refused, Reply, Sched, scheduled, ScheduledTurn, seen_at}
 use Rattle.cj_core.proofs.Common.{SessionView, slice_get_past, slice_get_within, starved, STARVED_ALL, take-append-add, TurnCase, UNFINISHED, WorldState, WorldTurn}
 use Rattle.std.proofs.lemmas.Nat.Bits.{bit_at_lowest, bit_at-suc}

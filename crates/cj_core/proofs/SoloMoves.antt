@@ -1,7 +1,7 @@
 -- What leaves a session between its calls: a move of no session, and a request counted; and how it begins.
 use Rattle.std.proofs.Common.{◌≡◌, ◌≢◌, ℕ, ◌+◌, ◌<◌, ◌≤◌, Bool, true, false, List, All, None, Some, is_some, Ok, Err, refl, ap, sym, ◌∙◌, subst, arith, ⊎_elim}
-use Rattle.cj_core.proofs.Common.{Abort, All-weaker, Apply, Arm, Arms, both_ways, can_apply, can_end, Close, Core, CoreInvariant, Disable, Disables, DoesMove, Dump, Dumps, Enable, Enables, End, Event, find_session, free-same, happened, is_end_event, is_idle, is_open-push, is_open-with}
-use Rattle.cj_core.proofs.Common.{IsMoveOfNoSession, IsSoundSession, LacksRoomFor, Load, Loads, Mark, Marks, MeetsLogFault, Move, MoveResult, MovesTo, new_session, NoMemory, not_now, Open, opened_for, OpenSession, OpensSession, Read, Replay, Replays, Schedule, scheduled_entry, session_at}
+use Rattle.cj_core.proofs.Common.{All-weaker, Apply, Arm, Arms, both_ways, can_apply, can_end, Core, CoreInvariant, Disable, Disables, DoesMove, Dump, Dumps, Enable, Enables, End, Event, find_session, free-same, happened, is_end_event, is_idle, is_open-push, is_open-with}
+use Rattle.cj_core.proofs.Common.{IsMoveOfNoSession, IsSoundSession, LacksRoomFor, Load, Loads, Mark, Marks, MeetsLogFault, Move, MoveResult, MovesTo, new_session, NoMemory, not_now, Open, opened_for, OpenSession, OpensSession, Replay, Replays, scheduled_entry, session_at}
 use Rattle.cj_core.proofs.Common.{session_at-is, session_of-push_other, session_of-push_same, StandsBetweenCalls, with_one_request, with_request_counted}
 use Rattle.cj_cluster.specs.declared.event.Event.TheVariants as event
 use Rattle.cj_cluster.specs.declared.moves.Moved.TheVariants as moved

@@ -1,6 +1,6 @@
 -- The open entry is taken by one backend after another.
 use Rattle.std.proofs.Common.{◌≡◌, ◌≢◌, ℕ, ◌+◌, ◌<◌, ◌≤◌, Bool, true, cond, List, [], ◌∷◌, ◌++◌, length, All, Option, None, Some, Ok, refl, ap, sym, ◌∙◌, subst, arith, below_more}
-use Rattle.cj_core.proofs.Common.{accounts_of, All-append, All-cons, All-nil, all_at_end, Applied, Applies, Apply, AreBackendsOf, AreCalledFor, BackendStands, can_apply, CanApply, cases_lt, CellState, Core, CoreInvariant, Did, did_fail, ended_count, EntryTaken, failed_after, faults_after}
+use Rattle.cj_core.proofs.Common.{accounts_of, All-append, All-cons, All-nil, all_at_end, Applied, Applies, Apply, AreBackendsOf, AreCalledFor, BackendStands, can_apply, CanApply, CellState, Core, CoreInvariant, Did, did_fail, ended_count, EntryTaken, failed_after, faults_after}
 use Rattle.cj_core.proofs.Common.{faults_counted, faults_of, first_lagging, fold-append, HasTakenEntry, is_enabled, IsWorld, length-map, length-set, log, login_of, login_to_take, logins_of, LogsInToTake, mask_with, next_user, not_now, open_user, position_at, position_or_zero, Setup}
 use Rattle.cj_core.proofs.Common.{with_backend, WorldState}
 use Rattle.cj_cluster.specs.declared.moves.Did.TheVariants as did

@@ -1,6 +1,6 @@
 -- Backends are enabled in a start, one after another.
 use Rattle.std.proofs.Common.{◌≡◌, ◌≢◌, ℕ, ◌+◌, ◌<◌, ◌≤◌, ◌==◌, ◌||◌, Bool, true, false, List, [], ◌∷◌, ◌++◌, All, length, map, get_or, Option, None, Some, is_some, refl, ap, sym, ◌∙◌, subst, arith, append_assoc, append-nil, below_more}
-use Rattle.cj_core.proofs.Common.{All-nil, All-push, AllPairs, cases_lt, Core, Enabled, enabled-push, enabled_where, EnabledTo, Entry, eq-eqb, Event, free-same, happened, is_enabled, is_idle, last_number, log, log-same, map_push, ne_eqb, position_at, with_core, WorldState}
+use Rattle.cj_core.proofs.Common.{All-nil, All-push, Enabled, enabled-push, enabled_where, EnabledTo, Entry, eq-eqb, Event, free-same, happened, is_enabled, is_idle, last_number, log, log-same, map_push, ne_eqb, position_at, with_core, WorldState}
 use Rattle.std.proofs.Math.Bool.{or-false}
 use Rattle.std.proofs.lemmas.List.Quantifiers.{all_pairs_push}
 

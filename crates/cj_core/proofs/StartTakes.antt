@@ -1,9 +1,9 @@
 -- Backends take an entry that ends a transaction, in a start.
-use Rattle.std.proofs.Common.{◌≡◌, ◌≢◌, ◌⊎◌, inl, inr, ℕ, ◌+◌, ◌<◌, ◌≤◌, Bool, true, false, cond, List, set, None, Some, Result, Ok, Err, OnOk, refl, ap, sym, ◌∙◌, subst, arith, ⊎_elim, below_more}
-use Rattle.cj_core.proofs.Common.{Applied, Applies, Apply, both_ways, can_apply, cases_lt, Core, Did, did_fail, failed_after, FailedInIt, faults_after, faults_of, has-with_other, has-with_same, HasDone, HasFailedOut, HasTaken, in_mask, is_enabled, is_idle, IsDue, IsUntouched, IsWorld}
+use Rattle.std.proofs.Common.{◌≡◌, ◌≢◌, inl, inr, ℕ, ◌+◌, ◌<◌, ◌≤◌, Bool, true, false, cond, List, set, None, Some, Result, Ok, Err, OnOk, refl, ap, sym, ◌∙◌, subst, arith, ⊎_elim, below_more}
+use Rattle.cj_core.proofs.Common.{Applied, Applies, Apply, both_ways, can_apply, Core, Did, did_fail, failed_after, faults_after, faults_of, has-with_other, has-with_same, HasFailedOut, HasTaken, in_mask, is_enabled, IsDue, IsUntouched, IsWorld}
 use Rattle.cj_core.proofs.Common.{last_number, not_now, OnlyTakes, Stance, StandsBefore, StandsBehind, StartError, TakesEntry, TakesPast, WasOut, WorldState}
 use Rattle.cj_cluster.specs.declared.moves.Did.TheVariants as did
-use Rattle.cj_core.proofs.StartReplays.{others_same, out_from, out_still, same_some, same_then, taken_from, taken_still, took_here}
+use Rattle.cj_core.proofs.StartReplays.{others_same, out_from, out_still, same_then, taken_from, taken_still, took_here}
 
 -- ---- one backend
 

@@ -1,7 +1,7 @@
 -- What entries make of the result cache.
-use Rattle.std.proofs.Common.{◌≡◌, ℕ, Bool, true, false, cond, ◌==◌, List, [], ◌∷◌, ◌++◌, inl, refl, ap, sym, ◌∙◌, subst}
-use Rattle.cj_core.proofs.Common.{CacheFollowsLog, CacheState, cond_both, Core, Ended, Entry, EntryEnded, EntryRefused, EntryScheduled, follows_abort, follows_same, FollowsLog, happened, IsSameButLog, log, log-same, log-sched, LOG_FAULT, LogFailed, LogView, Refusal, refusal_of_code, Reply}
-use Rattle.cj_core.proofs.Common.{Sched, with_cache, with_core, with_entry, with_log, with_request_counted, WorldState}
+use Rattle.std.proofs.Common.{◌≡◌, ℕ, Bool, cond, ◌==◌, List, inl, refl, ap, sym, ◌∙◌, subst}
+use Rattle.cj_core.proofs.Common.{CacheFollowsLog, CacheState, cond_both, Core, Ended, Entry, EntryEnded, EntryRefused, follows_abort, follows_same, FollowsLog, happened, IsSameButLog, log, log-same, log-sched, LOG_FAULT, LogFailed, Refusal, refusal_of_code, Reply}
+use Rattle.cj_core.proofs.Common.{with_cache, with_core, with_entry, with_log, with_request_counted, WorldState}
 use Rattle.cj_model.specs.declared.request.Act.TheVariants as act
 
 -- the whole world, from its core, its cache and its log

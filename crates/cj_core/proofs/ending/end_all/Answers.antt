@@ -1,5 +1,5 @@
-use Rattle.std.proofs.Common.{◌≡◌, ◌<◌, ℕ, refl, ◌∙◌, subst}
-use Rattle.cj_core.proofs.StartEnds.{ended_next, ended_none, still_standing}
+use Rattle.std.proofs.Common.{◌<◌, ℕ, refl, ◌∙◌, subst}
+use Rattle.cj_core.proofs.StartEnds.{ended_next, ended_none}
 use Rattle.cj_core.proofs.StartLonger.{longer_none, longer_then}
 use Rattle.cj_core.proofs.ending.end_all.Goals as goal
 

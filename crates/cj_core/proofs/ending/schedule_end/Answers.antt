@@ -1,4 +1,4 @@
-use Rattle.std.proofs.Common.{◌≡◌, refl, ap, ◌∙◌}
+use Rattle.std.proofs.Common.{refl, ap, ◌∙◌}
 use Rattle.cj_core.proofs.Common.{abort_entry, Entry, with_entry}
 use Rattle.cj_core.proofs.WriteCache.{aborted_after}
 use Rattle.cj_core.proofs.ending.schedule_end.Goals as goal

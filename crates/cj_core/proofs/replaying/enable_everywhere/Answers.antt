@@ -1,5 +1,4 @@
-use Rattle.std.proofs.Common.{◌≡◌, ap, ◌∙◌}
-use Rattle.cj_core.proofs.StartEnables.{enabled_none, enabled_next, enabled_position, enabled_last}
+use Rattle.cj_core.proofs.StartEnables.{enabled_none, enabled_next}
 use Rattle.cj_core.proofs.replaying.enable_everywhere.Goals as goal
 
 pub loop-b-init : goal.loop-b-init

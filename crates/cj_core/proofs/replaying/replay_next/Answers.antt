@@ -1,6 +1,3 @@
-use Rattle.std.proofs.Common.{◌≡◌, ◌≢◌, List, Option, Ok, set, ap}
-use Rattle.cj_cluster.specs.declared.moves.Did.TheVariants as did
-use Rattle.cj_cluster.specs.Moves.Cores.{Core}
 use Rattle.cj_core.proofs.StartReplays.{took_next}
 use Rattle.cj_core.proofs.replaying.replay_next.Goals as goal
 

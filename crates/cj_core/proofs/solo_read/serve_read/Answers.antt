@@ -1,8 +1,8 @@
-use Rattle.std.proofs.Common.{◌≡◌, ℕ, ◌<◌, ◌^◌, true, length, Option, None, Some, refl, ap, sym, ◌∙◌, subst, arith}
+use Rattle.std.proofs.Common.{◌≡◌, length, Option, None, Some, refl, ap, sym, ◌∙◌, subst, arith}
 use Rattle.cj_model.specs.declared.request.Request.TheVariants as requests
-use Rattle.cj_core.proofs.Common.{after_look, all_looked, Answer, answer_kept, AnswersLookUp, cache_answered, call_of, CanServe, Core, in_mask, is_some, IsFreshAnswer, IsFreshCache, kept_looked, log, Refusal, Refused, RepliesKept, Select, StandsBetweenCalls, with_answer, with_cache}
+use Rattle.cj_core.proofs.Common.{after_look, all_looked, Answer, answer_kept, AnswersLookUp, cache_answered, call_of, is_some, IsFreshAnswer, kept_looked, log, Refusal, Refused, RepliesKept, Select, with_answer, with_cache}
 use Rattle.cj_core.proofs.Common.{WorldState, WorldTurn}
-use Rattle.cj_core.proofs.SoloReads.{QuerySoFar, query_begins, query_goes_on, query_stands, serves_still, serving_is_backend, unserved, in_vain, attempted_turn, counted_turn}
+use Rattle.cj_core.proofs.SoloReads.{query_begins, unserved, counted_turn}
 use Rattle.cj_core.proofs.SoloCache.{found_kept, kept_inside, kept_turn, none_found, none_serve, replied_from_cache, some_serve, turn_before_look}
 use Rattle.cj_core.proofs.solo_read.serve_read.Goals as goal
 

@@ -1,4 +1,4 @@
-use Rattle.std.proofs.Common.{◌≡◌, ◌==◌, Err, ap, sym, ◌∙◌}
+use Rattle.std.proofs.Common.{◌==◌, Err, ap, sym, ◌∙◌}
 use Rattle.cj_core.proofs.Common.{BookError, core_scheduled, Entry, happened, LOG_FAULT, log_faults_after, LogFailed, own_entry, Refusal}
 use Rattle.cj_core.proofs.WriteCache.{refused_after}
 use Rattle.cj_core.proofs.solo_write.schedule_for.Goals as goal

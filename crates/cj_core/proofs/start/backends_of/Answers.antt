@@ -1,4 +1,4 @@
-use Rattle.std.proofs.Common.{◌≡◌, ◌<◌, ◌≤◌, ◌++◌, ◌∷◌, [], List, length, map, reverse, vec_capacity, refl, ap, sym, ◌∙◌, subst}
+use Rattle.std.proofs.Common.{◌≡◌, ◌<◌, ◌≤◌, ◌++◌, ◌∷◌, [], List, map, reverse, vec_capacity, refl, ap, sym, ◌∙◌, subst}
 use Rattle.cj_core.proofs.Common.{backend_of, CellState, length-map, map_push, reverse-append, SeatedCell, state_by, states_of}
 use Rattle.cj_core.proofs.Leaving.{left_seen, leaving_first, leaving_room, leaving_more, leaving_last}
 use Rattle.cj_core.proofs.start.backends_of.Goals as goal

@@ -1,7 +1,5 @@
 use Rattle.std.proofs.Common.{ℕ, List, map, sym, ap, ◌∙◌, subst, ◌≡◌, true}
-use Rattle.cj_core.proofs.Common.{AreEmpty, backend_of, CellState, Core, Event, IsPrefix, items_of, KeepsItems, Layout, LogItem, LogView, LosesNothing, opened_core, OpensTo, placement_of, state_by, states_of, WorldState}
-use Rattle.cj_board.specs.declared.view.SeatView.{SeatView}
-use Rattle.cj_core.proofs.Starting.{told_of_backends}
+use Rattle.cj_core.proofs.Common.{backend_of, CellState, Core, Event, IsPrefix, items_of, KeepsItems, Layout, LogItem, LogView, LosesNothing, opened_core, OpensTo, placement_of, state_by, WorldState}
 use Rattle.cj_core.proofs.StartLonger.{fault_of_start, loses_nothing, refused_again, refused_part, started_well}
 use Rattle.cj_core.proofs.StartWhole.{starts_from}
 use Rattle.cj_core.proofs.world.World.start.Goals as goal
