@@ -84,11 +84,11 @@ pub use Rattle.cj_state.specs.Seats.{AreCellsAt, states_of}
 pub use Rattle.cj_state.specs.Worlds.{CacheFollowsLog, IsCell, IsSameButLog, IsWorld, LogView, Setup, WorldState, accounts_of, with_cache, with_log}
 pub use Rattle.cj_state.specs.declared.cells.AskError.{AskError}
 pub use Rattle.std.proofs.Math.Seq.{take-append-add, take-length}
-pub use Rattle.std.proofs.lemmas.Bool.{and_parts, both_ways, cases_eq, cases_lt, cond-false, cond_both, eq-eqb, eqb-true, ne_eqb}
+pub use Rattle.std.proofs.lemmas.Bool.{false_from_ne_true, and_parts, both_ways, cases_eq, cases_lt, cond-false, cond_both, eq-eqb, eqb-true, ne_eqb}
 pub use Rattle.std.proofs.lemmas.Grind.{flat_map-append, fold-append}
 pub use Rattle.std.proofs.lemmas.List.{append-nil, get_or-map, get_or-replicate, get_or-set_other, get_or-set_same, get_or_append_left, get_or_default, get_or_past, get_or_push, length-map, length-reverse, length-set, length-take-le, map-append, map-id, map_push, nil_from_length}
 pub use Rattle.std.proofs.lemmas.List.{reverse-append, reverse-reverse, take_all, take_more}
-pub use Rattle.std.proofs.lemmas.List.Elements.{All-append, All-cons, All-get_or, All-head, All-nil, All-push, All-take, All-weaker, filter_map-append}
+pub use Rattle.std.proofs.lemmas.List.Elements.{All-tail, filter_agree, All-append, All-cons, All-get_or, All-head, All-nil, All-push, All-take, All-weaker, filter_map-append}
 pub use Rattle.std.proofs.lemmas.List.FromFn.{filter_of_map_range_with_len_more, map-range_with_len_more}
 pub use Rattle.std.proofs.lemmas.List.Sums.{sum_by-cons}
 pub use Rattle.std.proofs.lemmas.Option.{slice_get-get_or, slice_get_past, slice_get_within}

@@ -1,6 +1,6 @@
 -- A session's reads and the result cache.
 use Rattle.std.proofs.Common.{◌≡◌, ◌≢◌, ◌⊎◌, ℕ, ◌<◌, ◌^◌, Bool, true, false, cond, ◌==◌, List, Option, option_map, None, Some, inl, inr, refl, ap, sym, ◌∙◌, subst, ⊎_elim}
-use Rattle.cj_core.proofs.Common.{accounts_of, after_look, Answer, answer_kept, answered_at, AnswersFromCache, ask, both_ways, cache_answered, cached_entry, CacheState, Call, call_of, cond-false, Core, CoreInvariant, database_of, Entry, faults_of, given_at_end, has-zero, has_answer}
+use Rattle.cj_core.proofs.Common.{accounts_of, cond_both, after_look, Answer, answer_kept, answered_at, AnswersFromCache, ask, both_ways, cache_answered, cached_entry, CacheState, Call, call_of, cond-false, Core, CoreInvariant, database_of, Entry, faults_of, given_at_end, has-zero, has_answer}
 use Rattle.cj_core.proofs.Common.{HasNoServer, HasServer, hosts_all, in_mask, is_some, IsAnswer, IsFreshAnswer, IsFreshCache, IsServingMask, kept_answer, last_number, legal_fit, log, logins_of, ne_eqb, needs, NO_MEMORY, open_tx, Refusal, refusal_of_code, Refused, RepliesKept, Reply, Rows}
 use Rattle.cj_core.proofs.Common.{Select, some_bit, StandsBetweenCalls, take-length, was_answered, with_answer, with_cache, with_core, with_read, with_request_counted, WorldState, WorldTurn}
 use Rattle.cj_model.specs.declared.answer.Asked.TheVariants as asked
@@ -11,11 +11,7 @@ use Rattle.cj_core.proofs.SoloReads.{answered_turn, counted_turn, query_begins, 
 
 -- a refusal is not kept
 pub not_kept : (tx : ℕ) (s : Select) (n : ℕ) (refusal : Refusal) (reply : Reply) (cache : CacheState) → reply ≡ Refused refusal → cache_answered tx s n reply cache ≡ cache
-not_kept tx s n refusal reply cache is = ap (λ r. cache_answered tx s n r cache) is ∙ one (tx == 0)
-  where
-    one : (c : Bool) → cond c cache cache ≡ cache
-    one true = refl
-    one false = refl
+not_kept tx s n refusal reply cache is = ap (λ r. cache_answered tx s n r cache) is ∙ cond_both (tx == 0) cache cache (λ (q : CacheState). q ≡ cache) (λ _. refl) (λ _. refl)
 
 -- nothing is kept inside a transaction
 pub kept_inside : (tx : ℕ) (s : Select) (n : ℕ) (reply : Reply) (cache : CacheState) → tx ≢ 0 → cache_answered tx s n reply cache ≡ cache

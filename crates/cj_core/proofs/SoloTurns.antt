@@ -3,7 +3,7 @@ use Rattle.std.proofs.Common.{◌≡◌, ℕ, zero, suc, ◌+◌, ◌<◌, ◌�
 use Rattle.cj_core.proofs.Common.{Act, AddsEntry, AnswersEntry, append-nil, between_follows, between_fresh, Call, call_of_entry, Core, CoreInvariant, desk_of, enabled-push, End, Ended, ended_count, ended_for, EndsEntry, entries-same, entries-sched, Entry, entry_count_of, entry_in_progress}
 use Rattle.cj_core.proofs.Common.{entry_of_call, EntryTaken, eq-eqb, Event, events_left, first_lagging, FitsTx, follows_own, follows_rest, free-same, get_left, get_seam, HasFailedSince, HasServer, is_enabled, is_entry_of, is_idle, is_open, is_waiting, IsBetweenReplies, IsEntryNumber, log}
 use Rattle.cj_core.proofs.Common.{log-same, log-sched, log_failure_of, LogFailed, mask_with, MatchOption, MovesTo, not_now, NotNow, opened-free, OpenSession, prefix_self, query_skipped, ReadFailed, Replied, Reply, reply_given, request_of, Sched, scheduled_as, seen_at, seen_sched}
-use Rattle.cj_core.proofs.Common.{session_at, SessionView, SoloState, SoloSteps, StandsBetweenCalls, tells_log_failure, Turn, tx_after_entry, tx_after_write, tx_of, tx_of_own, with_core, with_end, with_one_request, with_request_counted, WorldState}
+use Rattle.cj_core.proofs.Common.{cond_both, session_at, SessionView, SoloState, SoloSteps, StandsBetweenCalls, tells_log_failure, Turn, tx_after_entry, tx_after_write, tx_of, tx_of_own, with_core, with_end, with_one_request, with_request_counted, WorldState}
 use Rattle.cj_cluster.specs.declared.moves.Why.{Why}
 use Rattle.cj_cluster.proofs.Answered.{After, moves_after}
 
@@ -108,11 +108,8 @@ failed_now front h s q b low =
 
 -- a refused one leaves what a failure of the log's store leaves
 pub refused_keeps : {T : Type 0} (part : List Event → T) (s : ℕ) (c : Call) → ((h : List Event) → part (h ++ LogFailed s c.number ∷ []) ≡ part h) → (h g : List Event) → g ≡ h ++ log_failure_of s c → part g ≡ part h
-refused_keeps part s c same h g is = ap part is ∙ either (tells_log_failure c.reply)
-  where
-    either : (t : Bool) → part (h ++ cond t (LogFailed s c.number ∷ []) []) ≡ part h
-    either true = same h
-    either false = ap part (append-nil h)
+refused_keeps part s c same h g is =
+    ap part is ∙ cond_both (tells_log_failure c.reply) (LogFailed s c.number ∷ []) [] (λ (es : List Event). part (h ++ es) ≡ part h) (λ _. same h) (λ _. ap part (append-nil h))
 
 -- the log among it
 log_refused : (s : ℕ) (c : Call) (h g : List Event) → g ≡ h ++ log_failure_of s c → log g ≡ log h

@@ -1,5 +1,5 @@
 -- Backends replay the log in a start: where each stands, and what it has counted.
-use Rattle.std.proofs.Common.{◌≡◌, ◌≢◌, ◌⊎◌, inl, inr, ℕ, ◌+◌, ◌-◌, ◌<◌, ◌≤◌, Bool, true, false, cond, List, length, set, get_or, slice_get, Option, None, Some, Result, Ok, Err, OnOk, unwrap_or, refl, ap, sym, ◌∙◌, subst, arith, ⊎_elim, below_more}
+use Rattle.std.proofs.Common.{◌≡◌, zero, suc, [], ◌∷◌, ◌≢◌, ◌⊎◌, inl, inr, ℕ, ◌+◌, ◌-◌, ◌<◌, ◌≤◌, Bool, true, false, cond, List, length, set, get_or, slice_get, Option, None, Some, Result, Ok, Err, OnOk, unwrap_or, refl, ap, sym, ◌∙◌, subst, arith, ⊎_elim, below_more}
 use Rattle.cj_core.proofs.Common.{can_replay, CanReplay, cases_eq, CellState, Core, Did, did_fail, DoesWithEntry, Entry, Event, faults_after, faults_of, get_or-set_other, get_or-set_same, HasFailedOut, HasReplayed, HasTaken, is_enabled, IsSameAt, IsWorld, last_number, length-map}
 use Rattle.cj_core.proofs.Common.{length-set, log, ne_eqb, next, not_now, OnlyReplays, option_map, position_at, position_or_zero, Replay, Replayed, Replays, slice_get-get_or, Stance, StartError, TakesEntry, TookNext, WorldState}
 use Rattle.cj_cluster.specs.declared.moves.Did.TheVariants as did
@@ -21,13 +21,10 @@ counted_other was now b k true ne is = ap (λ (counts : List ℕ). slice_get cou
 counted_other was now b k false ne is = ap (λ (counts : List ℕ). slice_get counts k) is
 
 -- and the one that failed has counted one more
-counted_here : (was now : List ℕ) (b : ℕ) → b < length was → now ≡ faults_after was (Some b) → slice_get now b ≡ option_map next (slice_get was b)
-counted_here was now b lt is =
-    let one : ℕ = next (get_or was b 0) in
-    let long : length (set was b one) ≡ length was = length-set was b one in
-    let there : b < length (set was b one) = omega arith in
-    ap (λ (counts : List ℕ). slice_get counts b) is
-    ∙ (slice_get-get_or (set was b one) b 0 there ∙ (ap (λ (n : ℕ). Some n) (get_or-set_same was b one 0 lt) ∙ sym (ap (option_map next) (slice_get-get_or was b 0 lt))))
+counted_here : (was : List ℕ) (b : ℕ) → slice_get (faults_after was (Some b)) b ≡ option_map next (slice_get was b)
+counted_here [] b = refl
+counted_here (n ∷ was) zero = refl
+counted_here (n ∷ was) (suc b) = counted_here was b
 
 -- ---- one backend takes an entry
 
@@ -60,10 +57,7 @@ module _ (tells : Bool) (old new : WorldState) (b : ℕ) (d : Did) (now : Stance
 
     counted : did_fail d ≡ true → slice_get (faults_of new.cells) b ≡ option_map next (slice_get (faults_of old.cells) b)
     counted failed =
-        let long : length (faults_of old.cells) ≡ length old.cells = length-map old.cells (λ (x : CellState). x.faults) in
-        let cells : length old.cells ≡ old.core.placement.backends = cells_count tells old world in
-        let there : b < length (faults_of old.cells) = omega arith in
-        counted_here (faults_of old.cells) (faults_of new.cells) b there (counts ∙ ap (λ (f : Bool). faults_after (faults_of old.cells) (cond f (Some b) None)) failed)
+        ap (λ (cs : List ℕ). slice_get cs b) (counts ∙ ap (λ (f : Bool). faults_after (faults_of old.cells) (cond f (Some b) None)) failed) ∙ counted_here (faults_of old.cells) b
 
     -- and it has taken the entry at its position, or failed in it
     pub took_here : ((did_fail d ≡ false) × HasTaken (faults_of old.cells) new b (takes.p + 1)) ⊎ ((did_fail d ≡ true) × HasFailedOut (faults_of old.cells) new b)
