@@ -1,7 +1,5 @@
 -- The names that most proofs here cite, passed on from one place. Declares nothing.
-pub use Rattle.cj_board.specs.Seats.{AreNewCells, board_id, cell_board, cell_view}
-pub use Rattle.cj_board.specs.Views.{new_view}
-pub use Rattle.cj_board.specs.declared.view.Role.TheVariants.{Cell}
+pub use Rattle.cj_board.specs.Seats.{AreNewCells, board_id, cell_board}
 pub use Rattle.cj_book.specs.declared.error.BookError.{BookError}
 pub use Rattle.cj_book.specs.declared.error.StartError.{StartError}
 pub use Rattle.cj_cluster.proofs.Between.{between_follows, between_fresh, follows_own, follows_rest, seen_sched, session_owes}
@@ -12,13 +10,13 @@ pub use Rattle.cj_cluster.proofs.Pushed.{enabled-push, ends-prefix, ends-same, f
 pub use Rattle.cj_cluster.proofs.Sessions.{is_open-push, is_open-with, session_at-is, session_of-push_other, session_of-push_same}
 pub use Rattle.cj_cluster.proofs.TransactionLaws.{legal_fit, tx_of_end, tx_of_end_other}
 pub use Rattle.cj_cluster.proofs.TurnCases.{Rests, act_of_request, entries-same, entries-sched, turn_full, turn_in_vain, turn_log_fault, turn_read, turn_starved, turn_unserved}
-pub use Rattle.cj_cluster.specs.History.Answering.{AnswersEntry, CanServe, Finished, HasNoServer, HasServer, Unfinished}
+pub use Rattle.cj_cluster.specs.History.Answering.{AnswersEntry, CanServe, HasNoServer, HasServer}
 pub use Rattle.cj_cluster.specs.History.Histories.{database_after, database_of, ended_count, entry_in_progress, events_left, is_enabled, is_end_event, is_idle, log, log_faults_of, masks_of_end, masks_of_ends, scheduled_entry, tx_of}
 pub use Rattle.cj_cluster.specs.History.Legality.{FitsTx, IsLegal}
 pub use Rattle.cj_cluster.specs.History.Turns.{Call, HasNoRoomFor, ReadFaultTurn, ScheduledTurn, SessionView, Turn, TurnCase, entry_count_of, entry_of_call, full, log_fault, no_backend, read, read_fault, scheduled, starved, tx_after_entry}
 pub use Rattle.cj_cluster.specs.Moves.Cores.{Core, find_session, is_entry_of, new_session, position_at, session_at, with_session}
 pub use Rattle.cj_cluster.specs.Moves.Moves.{Applies, Arms, Disables, DoesMove, DoesWithEntry, Dumps, Enables, EndsEntry, IsServingMask, LacksRoomFor, Loads, Marks, MeetsLogFault, MoveResult, MovesTo, OpensSession, Replays, Stance, TakesEntry, abort_entry, answered_at, ended_for}
-pub use Rattle.cj_cluster.specs.Moves.Moves.{entry_numbered, failed_after, first_lagging, forbidden_by, happened, history_full, is_open, is_orphan, is_orphan_of, is_waiting, last_number, not_now, open_tx, opened_for, position_or_zero, scheduled_as, was_answered, with_end, with_entry}
+pub use Rattle.cj_cluster.specs.Moves.Moves.{entry_numbered, failed_after, first_lagging, forbidden_by, happened, is_open, is_orphan, is_orphan_of, is_waiting, last_number, not_now, open_tx, opened_for, position_or_zero, scheduled_as, was_answered, with_end, with_entry}
 pub use Rattle.cj_cluster.specs.Moves.Moves.{with_one_request, with_read, with_request_counted}
 pub use Rattle.cj_cluster.specs.Moves.Runs.{CanCountRequests, HasFailedSince, IsBetweenReplies, IsMoveOfCluster, RunsMoves, call_of_entry, reply_given, seen_at}
 pub use Rattle.cj_cluster.specs.Proving.Invariants.{BackendStands, CoreInvariant, HoldsPart, IsSoundSession}
@@ -33,7 +31,7 @@ pub use Rattle.cj_cluster.specs.declared.moves.Moved.TheVariants.{Applied, Repla
 pub use Rattle.cj_cluster.specs.declared.moves.OpenSession.{OpenSession}
 pub use Rattle.cj_core.specs.Audits.{lines_at}
 pub use Rattle.cj_core.specs.Played.{HasRun, HasRunInPart, HaveCauses, MovesWorld, RunsWorld, faults_over, given_of, log_faults_over}
-pub use Rattle.cj_core.specs.Proving.SoloParts.{AttemptsQuery, EntryEnded, EntryRefused, EntryScheduled, EntryTaken, HasTakenEntry, QueryAnswered, QueryFailed, QueryStarved, QueryUnnoted, RepliesKept, SchedulesOrRefuses, cache_answered, call_of, open_user}
+pub use Rattle.cj_core.specs.Proving.SoloParts.{AttemptsQuery, EntryEnded, EntryRefused, EntryScheduled, EntryTaken, HasTakenEntry, QueryAnswered, QueryFailed, QueryUnnoted, RepliesKept, SchedulesOrRefuses, cache_answered, call_of, open_user}
 pub use Rattle.cj_core.specs.Proving.StartParts.{AllStand, AreStanding, CountsFaultOfPart, EnabledTo, EndedTo, EndedWhere, HasFailedOut, HasReplayed, HasTaken, IsDue, IsLonger, IsSameAt, IsSameCluster, IsUntouched, OnlyReplays, OnlyTakes, StandsBefore, StandsBehind}
 pub use Rattle.cj_core.specs.Proving.StartParts.{TakesPast, TookNext, TransactionEnded, WasOut, enabled_where}
 pub use Rattle.cj_core.specs.QuietCalls.{BlamesNobody, CanCountMore}

@@ -1,5 +1,5 @@
 -- A session's reads and the result cache.
-use Rattle.std.proofs.Common.{◌≡◌, ◌≢◌, ◌⊎◌, ℕ, ◌<◌, ◌^◌, Bool, true, false, cond, ◌==◌, List, Option, option_map, None, Some, inl, inr, refl, ap, sym, ◌∙◌, subst, ⊎_elim}
+use Rattle.std.proofs.Common.{◌≡◌, ◌≢◌, ◌⊎◌, ℕ, ◌<◌, ◌^◌, Bool, true, false, ◌==◌, List, Option, option_map, None, Some, inl, inr, refl, ap, sym, ◌∙◌, subst, ⊎_elim}
 use Rattle.cj_core.proofs.Common.{accounts_of, cond_both, after_look, Answer, answer_kept, answered_at, AnswersFromCache, ask, both_ways, cache_answered, cached_entry, CacheState, Call, call_of, cond-false, Core, CoreInvariant, database_of, Entry, faults_of, given_at_end, has-zero, has_answer}
 use Rattle.cj_core.proofs.Common.{HasNoServer, HasServer, hosts_all, in_mask, is_some, IsAnswer, IsFreshAnswer, IsFreshCache, IsServingMask, kept_answer, last_number, legal_fit, log, logins_of, ne_eqb, needs, NO_MEMORY, open_tx, Refusal, refusal_of_code, Refused, RepliesKept, Reply, Rows}
 use Rattle.cj_core.proofs.Common.{Select, some_bit, StandsBetweenCalls, take-length, was_answered, with_answer, with_cache, with_core, with_read, with_request_counted, WorldState, WorldTurn}

@@ -1,9 +1,9 @@
 -- A session's read over a whole world, as backend after backend fails in it.
-use Rattle.std.proofs.Common.{Option, Ok, Err, ◌≡◌, ◌≢◌, ◌⊎◌, inl, inr, ℕ, ◌+◌, ◌<◌, ◌≤◌, ◌==◌, ◌&&◌, not, Bool, true, false, List, [], ◌∷◌, ◌++◌, length, map, None, Some, refl, ap, sym, ◌∙◌, subst, arith, ⊎_elim, append_assoc}
-use Rattle.cj_core.proofs.Common.{accounts_of, AddsOwnEvents, All-append, All-cons, All-nil, and_parts, answered_at, append-nil, AreBackendsOf, AreCalledFor, ask, Asked, asked_reply, Asks, at_log_end, AttemptsQuery, both_ways, Call, call_of, CanServe, cases_eq, Core, CoreInvariant}
+use Rattle.std.proofs.Common.{Option, Ok, Err, ◌≡◌, ◌≢◌, ◌⊎◌, inl, inr, ℕ, ◌+◌, ◌<◌, ◌≤◌, ◌==◌, ◌&&◌, not, Bool, true, List, [], ◌∷◌, ◌++◌, length, map, None, Some, refl, ap, sym, ◌∙◌, subst, arith, ⊎_elim, append_assoc}
+use Rattle.cj_core.proofs.Common.{accounts_of, AddsOwnEvents, All-nil, and_parts, answered_at, append-nil, AreBackendsOf, AreCalledFor, ask, Asked, asked_reply, Asks, at_log_end, AttemptsQuery, both_ways, Call, call_of, CanServe, cases_eq, Core, CoreInvariant}
 use Rattle.cj_core.proofs.Common.{database_after, database_of, entries-same, Entry, Event, events_left, faults_after, faults_counted, faults_of, fold-append, follows_own, has-zero, HasFailedSince, HISTORY_FULL, hosts_all, in_mask, is_enabled, is_idle, is_open, is_open-with, IsQueryCode}
 use Rattle.cj_core.proofs.Common.{IsReadAtEnd, IsServingMask, IsWorld, last_number, log, log_faults-same, log_faults_of, logins_of, LogView, map-append, ne_eqb, needs, NO_BACKEND, NO_MEMORY, NO_TABLE, open_tx, OpenSession, position_at, prefix_length, prefix_self, QueryAnswered}
-use Rattle.cj_core.proofs.Common.{QueryFailed, QueryStarved, QueryUnnoted, READ_FAULT, ReadFailed, Refusal, refusal_of_code, Refused, Reply, Rests, seen_at, Select, session_at, session_owes, SessionView, Setup, StandsBetweenCalls, take_whole, Turn, turn_full, turn_in_vain, turn_read}
+use Rattle.cj_core.proofs.Common.{QueryFailed, QueryUnnoted, READ_FAULT, ReadFailed, Refusal, refusal_of_code, Refused, Reply, Rests, seen_at, Select, session_at, session_owes, SessionView, Setup, StandsBetweenCalls, take_whole, Turn, turn_full, turn_in_vain, turn_read}
 use Rattle.cj_core.proofs.Common.{All-push, false_from_ne_true, turn_starved, turn_unserved, tx_of, was_answered, with_core, with_one_request, with_read, with_request_counted, with_session, WorldState, WorldTurn, WRONG_TYPE}
 use Rattle.cj_model.specs.declared.request.Request.TheVariants as request
 use Rattle.cj_model.specs.declared.answer.Asked.TheVariants as asked

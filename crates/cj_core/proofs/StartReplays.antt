@@ -1,10 +1,9 @@
 -- Backends replay the log in a start: where each stands, and what it has counted.
 use Rattle.std.proofs.Common.{◌≡◌, zero, suc, [], ◌∷◌, ◌≢◌, ◌⊎◌, inl, inr, ℕ, ◌+◌, ◌-◌, ◌<◌, ◌≤◌, Bool, true, false, cond, List, length, set, get_or, slice_get, Option, None, Some, Result, Ok, Err, OnOk, unwrap_or, refl, ap, sym, ◌∙◌, subst, arith, ⊎_elim, below_more}
-use Rattle.cj_core.proofs.Common.{can_replay, CanReplay, cases_eq, CellState, Core, Did, did_fail, DoesWithEntry, Entry, Event, faults_after, faults_of, get_or-set_other, get_or-set_same, HasFailedOut, HasReplayed, HasTaken, is_enabled, IsSameAt, IsWorld, last_number, length-map}
-use Rattle.cj_core.proofs.Common.{length-set, log, ne_eqb, next, not_now, OnlyReplays, option_map, position_at, position_or_zero, Replay, Replayed, Replays, slice_get-get_or, Stance, StartError, TakesEntry, TookNext, WorldState}
+use Rattle.cj_core.proofs.Common.{can_replay, CanReplay, cases_eq, Core, Did, did_fail, DoesWithEntry, Entry, Event, faults_after, faults_of, get_or-set_other, get_or-set_same, HasFailedOut, HasReplayed, HasTaken, is_enabled, IsSameAt, IsWorld, last_number}
+use Rattle.cj_core.proofs.Common.{log, ne_eqb, next, not_now, OnlyReplays, option_map, position_at, position_or_zero, Replay, Replayed, Replays, Stance, StartError, TakesEntry, TookNext, WorldState}
 use Rattle.cj_cluster.specs.declared.moves.Did.TheVariants as did
 use Rattle.cj_core.proofs.SoloLogins.{got_or_set}
-use Rattle.cj_core.proofs.SoloTaking.{cells_count}
 
 pub same_some : (m n : ℕ) → Some m ≡ Some n → m ≡ n
 same_some m n is = ap (λ (o : Option ℕ). unwrap_or o 0) is

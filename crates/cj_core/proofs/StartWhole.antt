@@ -1,7 +1,7 @@
 -- A start from its parts.
-use Rattle.std.proofs.Common.{◌≡◌, inl, inr, ℕ, ◌<◌, ◌==◌, ◌&&◌, not, Bool, false, cond, List, [], ◌∷◌, ◌++◌, length, map, slice_get, Option, None, Some, is_some, refl, ap, sym, ◌∙◌, subst, arith, ⊎_elim}
-use Rattle.cj_core.proofs.Common.{AbortsEach, AllStand, AreStanding, backend_of, BackendState, Core, Enabled, EnabledTo, Ended, EndedTo, Entry, entry_numbered, Event, faults_of, filter, find_session, get_or-replicate, HasFailedOut, HasReplayed, HasStarted, HasTaken, is_enabled, is_open}
-use Rattle.cj_core.proofs.Common.{filter_agree, is_orphan, is_orphan_of, is_there, IsOpening, IsWorld, last_number, log, LogItem, map-map, Marker, OnlyReplays, opened_core, OpenSession, OpensTo, orphans_of, Placement, position_at, range_with_len, Sched, StartsFrom, tx_of, WorldState}
+use Rattle.std.proofs.Common.{◌≡◌, inl, inr, ℕ, ◌<◌, ◌==◌, Bool, false, List, [], ◌∷◌, ◌++◌, length, map, slice_get, Option, None, Some, is_some, refl, ap, sym, ◌∙◌, subst, arith, ⊎_elim}
+use Rattle.cj_core.proofs.Common.{AbortsEach, AllStand, AreStanding, backend_of, BackendState, Core, Enabled, EnabledTo, Ended, EndedTo, Entry, entry_numbered, Event, faults_of, filter, get_or-replicate, HasFailedOut, HasReplayed, HasStarted, HasTaken, is_enabled}
+use Rattle.cj_core.proofs.Common.{filter_agree, is_orphan, is_orphan_of, is_there, IsOpening, IsWorld, last_number, log, LogItem, map-map, Marker, OnlyReplays, opened_core, OpensTo, orphans_of, Placement, position_at, range_with_len, Sched, StartsFrom, tx_of, WorldState}
 use Rattle.cj_core.proofs.StartEnables.{enabled_last, enabled_position}
 use Rattle.cj_core.proofs.StartEnds.{orphan_of_same}
 use Rattle.cj_core.proofs.StartReplays.{only_history, only_placement, same_some}

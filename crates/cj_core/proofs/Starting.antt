@@ -1,6 +1,6 @@
 -- How backends move into cells, and what is seen of both.
-use Rattle.std.proofs.Common.{◌≡◌, Bool, true, ℕ, suc, ◌+◌, ◌<◌, ◌≤◌, List, [], ◌∷◌, ◌++◌, length, map, reverse, get_or, All, Option, Some, refl, ap, sym, ◌∙◌, subst, arith, length-append, append_assoc, append-nil, ⊎_elim}
-use Rattle.cj_core.proofs.Common.{All-nil, All-push, AreCellsAt, AreEmpty, AreFresh, AreNewCells, backend_of, BackendState, cases_lt, Cell, cell_board, cell_view, CellState, get_or_append_left, get_or_push, HaveBegunNone, IsFresh, length-reverse, map-map, map_push, new_view}
+use Rattle.std.proofs.Common.{◌≡◌, Bool, true, ℕ, suc, ◌+◌, ◌<◌, ◌≤◌, List, [], ◌∷◌, ◌++◌, length, map, reverse, get_or, Option, Some, refl, ap, sym, ◌∙◌, subst, arith, length-append, append_assoc, append-nil, ⊎_elim}
+use Rattle.cj_core.proofs.Common.{All-nil, All-push, AreCellsAt, AreEmpty, AreFresh, AreNewCells, backend_of, BackendState, cases_lt, cell_board, CellState, get_or_append_left, get_or_push, HaveBegunNone, IsFresh, length-reverse, map-map, map_push}
 use Rattle.cj_core.proofs.Common.{All-head, All-tail, nil_from_length, Placement, reverse-append, reverse-reverse, SeatedCell, Slot, state_by}
 use Rattle.cj_backend.specs.Backends.{Arming}
 use Rattle.atomic_table.specs.Seated.{TableId}
