@@ -26,10 +26,6 @@ returns-in_default-clause-logins g c =
     subst (AreCalledFor (accounts_of c.args.state.now) c.args.user.now (logins_of c.args.state.now.cells)) (sym cells)
     (called_to_ask (accounts_of c.args.state.now) c.args.user.now c.args.b c.ask.result (logins_of c.args.state.now.cells) (logins_of c.ask.new.self.cells) c.ask.ensures.logins)
 
-pub returns-in-Err-Failed-clause-logins : goal.returns-in-Err-Failed-clause-logins
-returns-in-Err-Failed-clause-logins g c =
-    called_to_ask (accounts_of c.args.state.now) c.args.user.now c.args.b c.ask.result (logins_of c.args.state.now.cells) (logins_of c.ask.new.self.cells) c.ask.ensures.logins
-
 pub returns-in-Err-Unnoted-clause-logins : goal.returns-in-Err-Unnoted-clause-logins
 returns-in-Err-Unnoted-clause-logins g c =
     subst (λ (w : WorldState). AreCalledFor (accounts_of c.args.state.now) c.args.user.now (logins_of c.args.state.now.cells) (logins_of w.cells)) (sym c.refuse-in-Err-Unnoted.ensures.counted)
