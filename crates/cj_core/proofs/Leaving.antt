@@ -1,25 +1,15 @@
 -- How backends leave their cells, and what they hold then.
 use Rattle.std.proofs.Common.{◌≡◌, ℕ, ◌+◌, ◌<◌, ◌≤◌, Bool, List, [], ◌∷◌, ◌++◌, length, map, reverse, get_or, slice_get, Option, None, Some, refl, ap, sym, ◌∙◌, subst, arith, length-append, append_assoc, append-nil, false}
-use Rattle.std.proofs.lemmas.List.{map_push, reverse-append, reverse-reverse, length-reverse, length-map, get_or-map, nil_from_length, take_all}
-use Rattle.std.proofs.lemmas.Option.{slice_get-get_or}
-use Rattle.cj_model.specs.declared.database.Slot.{Slot}
-use Rattle.cj_model.specs.Cluster.Placements.{everywhere, part}
-use Rattle.cj_cluster.specs.History.Histories.{log, database_of, database_after}
-use Rattle.cj_cluster.specs.Proving.Invariants.{HoldsPart}
-use Rattle.cj_cluster.proofs.Effects.{is_there}
-use Rattle.cj_replica.specs.Cells.{CellState, KeepsBegun}
-use Rattle.cj_state.specs.Worlds.{WorldState, IsWorld, IsCell}
-use Rattle.cj_core.specs.Starts.{BackendState, KeepEachBegun, AreHolding, AreCurrent, backend_of}
-use Rattle.cj_state.proofs.CellsKept.{at_log_end}
+use Rattle.cj_core.proofs.Common.{AreCurrent, AreHolding, at_log_end, backend_of, BackendState, CellState, database_after, database_of, everywhere, get_or-map, HoldsPart, is_there, IsCell, IsWorld, KeepEachBegun, KeepsBegun, length-map, length-reverse, log, map_push, nil_from_length, part}
+use Rattle.cj_core.proofs.Common.{reverse-append, reverse-reverse, slice_get-get_or, Slot, take_all, WorldState}
 
 -- ---- out of the cells
 
 -- one pair more, at the end
 keep_pushed : (cells : List CellState) (begun : List (List ℕ)) (x : CellState) (b : List ℕ) → KeepEachBegun cells begun → KeepsBegun x.position x.begun b → KeepEachBegun (cells ++ x ∷ []) (begun ++ b ∷ [])
 keep_pushed [] [] x b all one = (one, tt)
-keep_pushed [] (a ∷ begun) x b all one = absurd all
-keep_pushed (y ∷ cells) [] x b all one = absurd all
 keep_pushed (y ∷ cells) (a ∷ begun) x b all one = (all.0, keep_pushed cells begun x b all.1 one)
+keep_pushed _ _ x b all one = absurd all
 
 -- what is seen of a backend that left its cell, part by part
 pub left_seen : (s : BackendState) (x : CellState) → s.told ≡ x.told → s.faults ≡ x.faults → s.asks ≡ x.asks → s.login ≡ x.login → s.arming ≡ x.arming → s ≡ backend_of x

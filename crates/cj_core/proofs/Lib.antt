@@ -1,4 +1,5 @@
 pub mod Auditing
+pub mod Common
 pub mod Leaving
 pub mod Making
 pub mod QuietCalls

@@ -1,23 +1,10 @@
 -- How a list of moves comes from move to move.
 use Rattle.std.proofs.Common.{◌≡◌, ℕ, ◌+◌, ◌<◌, ◌≤◌, ◌^◌, Bool, List, [], ◌∷◌, ◌++◌, length, map, take, get_or, All, refl, ap, sym, ◌∙◌, subst, arith}
-use mathlib.Core.List.{IsPrefix}
-use Rattle.std.proofs.lemmas.List.{take_more, map_push, length-take-le}
-use Rattle.std.proofs.lemmas.List.Elements.{All-get_or, All-take}
-use Rattle.cj_cluster.specs.declared.moves.Move.{Move}
-use Rattle.cj_cluster.specs.declared.moves.Move.TheVariants.{Open, Close, Schedule, Abort, Apply, End, Read, Arm, Disable, Replay, Enable, Mark, Dump, Load}
-use Rattle.cj_cluster.specs.declared.moves.Made.{Made}
-use Rattle.cj_model.specs.Cluster.Placements.{Placement}
-use Rattle.cj_cluster.specs.History.Legality.{IsLegal}
-use Rattle.cj_cluster.specs.Moves.Cores.{Core, session_at}
-use Rattle.cj_cluster.specs.Moves.Moves.{MoveResult}
-use Rattle.cj_cluster.specs.Moves.Runs.{RunsMoves, IsMoveOfCluster, CanCountRequests}
+use Rattle.cj_core.proofs.Common.{All-get_or, All-take, blamed, CanCountRequests, Core, faults_after, faults_of, faults_over, given_of, HasRun, HasRunInPart, HaveCauses, IsLegal, IsMoveOfCluster, IsPrefix, IsSameButLog, IsWorld}
+use Rattle.cj_core.proofs.Common.{length-take-le, log_faults_after, log_faults_over, Made, map_push, Move, MoveResult, MovesWorld, Placement, Read, RunsMoves, RunsWorld, Schedule, session_at, take_more, tells_log_fault, WorldState}
 use Rattle.cj_cluster.proofs.Growth.{Grows, can_count, runs_push, runs_grow, runs_sound}
 use Rattle.cj_cluster.proofs.Chains.{run_chained}
-use Rattle.cj_state.specs.Worlds.{WorldState, IsSameButLog, IsWorld}
-use Rattle.cj_moves.specs.Counting.{blamed, log_faults_after, tells_log_fault}
-use Rattle.cj_state.specs.Faults.{faults_of, faults_after}
 use Rattle.cj_moves.specs.Steps.{CanAsk, IsMet}
-use Rattle.cj_core.specs.Played.{given_of, faults_over, log_faults_over, HaveCauses, MovesWorld, RunsWorld, HasRun, HasRunInPart}
 
 -- the first n moves were made, with what each came to
 pub record Making (tells armable : Bool) (old : WorldState) (moves : List Move) (n : ℕ) (came : List Made) (now : WorldState) : Type 0 where
@@ -33,15 +20,13 @@ over_push : (tells : Bool) (faults : List ℕ) (c z : Core) (ms : List Move) (gs
     → faults_over faults (ms ++ m ∷ []) (gs ++ g ∷ []) ≡ faults_after (faults_over faults ms gs) (blamed m g)
 over_push tells faults c z [] [] m g runs = refl
 over_push tells faults c z (n ∷ ms) (q ∷ gs) m g runs = over_push tells (faults_after faults (blamed n q)) runs.0 z ms gs m g runs.2
-over_push tells faults c z [] (q ∷ gs) m g runs = absurd runs
-over_push tells faults c z (n ∷ ms) [] m g runs = absurd runs
+over_push tells faults c z _ _ m g runs = absurd runs
 
 log_over_push : (tells : Bool) (faults : ℕ) (c z : Core) (ms : List Move) (gs : List MoveResult) (m : Move) (g : MoveResult) → RunsMoves tells c ms gs z
     → log_faults_over faults (ms ++ m ∷ []) (gs ++ g ∷ []) ≡ log_faults_after (log_faults_over faults ms gs) (tells_log_fault m g)
 log_over_push tells faults c z [] [] m g runs = refl
 log_over_push tells faults c z (n ∷ ms) (q ∷ gs) m g runs = log_over_push tells (log_faults_after faults (tells_log_fault n q)) runs.0 z ms gs m g runs.2
-log_over_push tells faults c z [] (q ∷ gs) m g runs = absurd runs
-log_over_push tells faults c z (n ∷ ms) [] m g runs = absurd runs
+log_over_push tells faults c z _ _ m g runs = absurd runs
 
 -- ---- from move to move
 
@@ -50,8 +35,7 @@ steps_push : (tells armable : Bool) (old : WorldState) (ms : List Move) (gs : Li
     → RunsWorld tells armable old (ms ++ m ∷ []) (gs ++ g ∷ []) new
 steps_push tells armable old [] [] mid m g new same next = (new, subst (λ (w : WorldState). MovesWorld tells armable w m g new) same next, refl)
 steps_push tells armable old (n ∷ ms) (q ∷ gs) mid m g new (first, one, more) next = (first, one, steps_push tells armable first ms gs mid m g new more next)
-steps_push tells armable old [] (q ∷ gs) mid m g new none next = absurd none
-steps_push tells armable old (n ∷ ms) [] mid m g new none next = absurd none
+steps_push tells armable old _ _ mid m g new none next = absurd none
 
 -- at first none was made
 pub making_none : (tells armable : Bool) (old : WorldState) (moves : List Move) → Making tells armable old moves 0 [] old
@@ -76,20 +60,9 @@ making_more tells armable old moves n m came mid made new lt is making next =
 
 -- a session that can make one request more can make the move
 can_ask : (c : Core) → CanCountRequests c 1 → (m : Move) → CanAsk c m
-can_ask c can (Open user) = tt
-can_ask c can (Close s) = tt
 can_ask c can (Schedule s r) = let le = can s in omega arith
-can_ask c can (Abort tx) = tt
-can_ask c can (Apply b) = tt
-can_ask c can End = tt
 can_ask c can (Read s b select) = let le = can s in omega arith
-can_ask c can (Arm b) = tt
-can_ask c can (Disable b) = tt
-can_ask c can (Replay b) = tt
-can_ask c can (Enable b) = tt
-can_ask c can (Mark name) = tt
-can_ask c can (Dump b name) = tt
-can_ask c can (Load b name) = tt
+can_ask c can _ = tt
 
 module _ (tells armable : Bool) (old : WorldState) (moves : List Move) (n : ℕ) (came : List Made) (now : WorldState)
     (world : IsWorld tells old) (are : All (IsMoveOfCluster old.core.placement.backends) moves) (count : CanCountRequests old.core (length moves)) (within : n ≤ length moves) (making : Making tells armable old moves n came now) where

@@ -1,61 +1,24 @@
 -- A call over which no backend counted a fault blames nobody.
-use Rattle.std.proofs.Common.{◌≡◌, ◌≢◌, inl, inr, ℕ, zero, suc, ◌+◌, ◌-◌, ◌==◌, ◌/◌, ◌%◌, ◌^◌, ◌<◌, ◌≤◌, Bool, true, List, [], ◌∷◌, ◌++◌, length, take, get_or, set, slice_get, All, Option, None, Some, refl, ap, sym, ◌∙◌, subst, arith, ⊎_elim, length-append}
-use mathlib.Core.List.{IsPrefix}
-use Rattle.std.proofs.lemmas.Bool.{cases_eq, cases_lt, eqb-true}
-use Rattle.std.proofs.lemmas.List.{append-nil, get_or-set_same, get_or-set_other, get_or_past, length-map}
-use Rattle.std.proofs.lemmas.List.Elements.{All-head, filter_map-append}
+use Rattle.std.proofs.Common.{◌≡◌, ◌≢◌, inl, inr, ℕ, zero, suc, ◌+◌, ◌-◌, ◌==◌, ◌/◌, ◌%◌, ◌^◌, ◌<◌, ◌≤◌, Bool, true, List, [], ◌∷◌, ◌++◌, length, take, get_or, slice_get, All, Option, None, Some, refl, ap, sym, ◌∙◌, subst, arith, ⊎_elim, length-append}
+use Rattle.cj_core.proofs.Common.{Act, act_of, AddsEntry, AddsOwnEvents, All-head, AnswersEntry, append-nil, Asked, asked_reply, BlamesNobody, Call, CanCountMore, cases_eq, CellState, Ended, ended_count, ends-prefix, ends-same, entry_of_call, eqb-true, Event, faults_after}
+use Rattle.cj_core.proofs.Common.{faults_counted, faults_of, filter_map-append, full, get_or-set_same, HISTORY_FULL, in_mask, is_idle, IsAsked, IsOutcome, IsPrefix, IsQueryCode, length-ends, length-map, log, log_failure_of, LOG_FAULT, log_fault, LogFailed}
+use Rattle.cj_core.proofs.Common.{masks_of_end, masks_of_ends, next, NO_BACKEND, no_backend, NO_MEMORY, Outcome, outcome_reply, Placement, prefix_length, read, READ_FAULT, read_fault, ReadFaultTurn, Refusal, refusal_of_code, Refused, Reply, Sched, scheduled, ScheduledTurn, seen_at}
+use Rattle.cj_core.proofs.Common.{SessionView, slice_get_past, slice_get_within, starved, STARVED_ALL, take-append-add, TurnCase, UNFINISHED, WorldState, WorldTurn}
 use Rattle.std.proofs.lemmas.Nat.Bits.{bit_at_lowest, bit_at-suc}
-use Rattle.std.proofs.lemmas.Option.{slice_get_past, slice_get_within}
-use Rattle.cj_outside.specs.Causes.{next}
-use Rattle.cj_model.specs.declared.answer.Asked.{Asked}
 use Rattle.cj_model.specs.declared.answer.Asked.TheVariants as asked
-use Rattle.cj_model.specs.declared.answer.Outcome.{Outcome}
 use Rattle.cj_model.specs.declared.answer.Outcome.TheVariants as outcome
-use Rattle.cj_model.specs.declared.answer.Refusal.{Refusal}
-use Rattle.cj_model.specs.declared.answer.Reply.{Reply}
-use Rattle.cj_model.specs.declared.answer.Reply.TheVariants.{Refused}
-use Rattle.cj_model.specs.declared.codes.TheConstants.{HISTORY_FULL, LOG_FAULT, NO_BACKEND, NO_MEMORY, READ_FAULT, STARVED_ALL, UNFINISHED}
-use Rattle.cj_model.specs.declared.request.Act.{Act}
-use Rattle.cj_model.specs.Cluster.Masks.{in_mask}
-use Rattle.cj_model.specs.Cluster.Placements.{Placement}
-use Rattle.cj_model.specs.Database.Inserts.{refusal_of_code}
-use Rattle.cj_model.specs.Database.Outcomes.{IsAsked, IsOutcome, IsQueryCode}
-use Rattle.cj_model.specs.Sql.PlainRequests.{act_of}
-use Rattle.cj_model.specs.Wire.Replies.{asked_reply, outcome_reply}
-use Rattle.cj_cluster.specs.declared.event.Event.{Event}
-use Rattle.cj_cluster.specs.declared.event.Event.TheVariants.{Sched, Ended, LogFailed}
-use Rattle.cj_cluster.specs.History.Answering.{AnswersEntry}
-use Rattle.cj_cluster.specs.History.Histories.{log, ended_count, is_idle, masks_of_end, masks_of_ends}
-use Rattle.cj_cluster.specs.History.Turns.{SessionView, Call, TurnCase, ScheduledTurn, ReadFaultTurn, scheduled, no_backend, read, read_fault, log_fault, full, starved, entry_of_call}
-use Rattle.cj_cluster.specs.Moves.Runs.{seen_at}
-use Rattle.cj_cluster.proofs.Pushed.{ends-prefix, ends-same, length-ends, prefix_length}
-use Rattle.cj_replica.specs.Cells.{CellState}
-use Rattle.cj_state.specs.Faults.{faults_of, faults_after}
-use Rattle.cj_core.specs.QuietCalls.{BlamesNobody, CanCountMore}
 use Rattle.cj_core.proofs.SoloTurns.{refused_keeps}
-use Rattle.cj_core.specs.Solos.{AddsEntry, AddsOwnEvents, WorldTurn, faults_counted, log_failure_of}
-use Rattle.cj_state.specs.Worlds.{WorldState}
 use Rattle.cj_core.proofs.SoloReads.{no_code}
 
 -- ---- counts
 
 -- one fault more leaves a count above what it was above
 one_more_fault : (low k b : ℕ) (counts : List ℕ) → low < 2 ^ 64 - 1 → low < get_or counts k 0 → low < get_or (faults_after counts (Some b)) k 0
-one_more_fault low k b counts small above =
-    ⊎_elim
-    (λ (same : k ≡ b).
-    ⊎_elim
-    (λ (within : b < length counts).
-    let counted : get_or (set counts b (next (get_or counts b 0))) b 0 ≡ next (get_or counts b 0) = get_or-set_same counts b (next (get_or counts b 0)) 0 within in
-    let above_there : low < get_or counts b 0 = subst (λ (i : ℕ). low < get_or counts i 0) same above in
-    let more : low < next (get_or counts b 0) = omega (arith, above_there, small) in
-    subst (λ (i : ℕ). low < get_or (set counts b (next (get_or counts b 0))) i 0) (sym same) (subst (λ (n : ℕ). low < n) (sym counted) more))
-    (λ (past : length counts ≤ b).
-    let none : get_or counts k 0 ≡ 0 = get_or_past counts k 0 (omega (arith, same, past)) in
-    absurd (omega (arith, above, none)))
-    (cases_lt b (length counts)))
-    (λ (other : k ≡ b → ⊥). subst (λ (n : ℕ). low < n) (sym (get_or-set_other counts b k (next (get_or counts b 0)) 0 other)) above)
-    (cases_eq k b)
+one_more_fault low k b [] small above = above
+one_more_fault low zero zero (n ∷ counts) small above = omega (arith, above, small)
+one_more_fault low (suc k) zero (n ∷ counts) small above = above
+one_more_fault low zero (suc b) (n ∷ counts) small above = above
+one_more_fault low (suc k) (suc b) (n ∷ counts) small above = one_more_fault low k b counts small above
 
 -- and so do as many as there are
 pub more_faults : (low k : ℕ) (counts failed : List ℕ) → low < 2 ^ 64 - 1 → low < get_or counts k 0 → low < get_or (faults_counted counts failed) k 0
@@ -68,9 +31,8 @@ nobody_failed counts [] small each low = refl
 nobody_failed counts (b ∷ failed) small each no_more =
     let within : b < length counts = All-head (λ (k : ℕ). k < length counts) b failed each in
     let low : get_or counts b 0 < 2 ^ 64 - 1 = small b 0 within in
-    let counted : get_or (faults_after counts (Some b)) b 0 ≡ next (get_or counts b 0) = get_or-set_same counts b (next (get_or counts b 0)) 0 within in
-    let more : get_or counts b 0 < next (get_or counts b 0) = omega (arith, low) in
-    let first : get_or counts b 0 < get_or (faults_after counts (Some b)) b 0 = subst (λ (n : ℕ). get_or counts b 0 < n) (sym counted) more in
+    let counted = get_or-set_same counts b (next (get_or counts b 0)) 0 within in
+    let first : get_or counts b 0 < get_or (faults_after counts (Some b)) b 0 = omega (arith, low, counted) in
     let last : get_or counts b 0 < get_or (faults_counted (faults_after counts (Some b)) failed) b 0 = more_faults (get_or counts b 0) b (faults_after counts (Some b)) failed low first in
     let is : get_or (faults_counted (faults_after counts (Some b)) failed) b 0 ≤ get_or counts b 0 = no_more b in
     absurd (omega (arith, last, is))
@@ -116,15 +78,10 @@ put_last (x ∷ xs) y z zero le is = absurd (omega (arith, le))
 put_last (x ∷ xs) y z (suc i) le is = put_last xs y z i (omega (arith, le)) is
 
 -- what is taken beyond a list's beginning begins with it
-take_beyond : {A : Type 0} (f r : List A) (n : ℕ) → length f ≤ n → take n (f ++ r) ≡ f ++ take (n - length f) r
-take_beyond [] r n le = let e : n ≡ n - 0 = omega arith in ap (λ (k : ℕ). take k r) e
-take_beyond (x ∷ f) r zero le = absurd (omega (arith, le))
-take_beyond (x ∷ f) r (suc n) le =
-    let e : n - length f ≡ suc n - suc (length f) = omega arith in
-    ap (λ xs. x ∷ xs) (take_beyond f r n (omega (arith, le))) ∙ ap (λ (k : ℕ). x ∷ (f ++ take k r)) e
-
 prefix_beyond : {A : Type 0} (f h : List A) (n : ℕ) → IsPrefix f h → length f ≤ n → IsPrefix f (take n h)
-prefix_beyond f h n p le = (take (n - length f) p.0, sym (take_beyond f p.0 n le) ∙ ap (take n) p.1)
+prefix_beyond f h n p le =
+    let e : length f + (n - length f) ≡ n = omega arith in
+    (take (n - length f) p.0, sym (take-append-add f p.0 (n - length f)) ∙ (ap (λ (k : ℕ). take k (f ++ p.0)) e ∙ ap (take n) p.1))
 
 -- the entry that the history grew by has ended with no failed backend
 no_failed_mask : (number s : ℕ) (c : Call) (act : Act) (h g : List Event) (m failed wanting : ℕ) → AddsEntry number s c act [] h g → length h ≤ m → m < length g → is_idle (take m g) ≡ true

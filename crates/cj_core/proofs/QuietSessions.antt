@@ -1,29 +1,12 @@
 -- Each reply of a session over which no backend counted a fault blames nobody.
-use Rattle.std.proofs.Common.{◌≡◌, inl, inr, ℕ, zero, suc, ℤ, ◌-◌, ◌^◌, ◌<◌, ◌≤◌, ◌==◌, Bool, true, false, if◌then◌else◌, List, [], ◌∷◌, length, get_or, All, Option, None, Some, refl, ap, sym, subst, arith, ⊎_elim}
-use Rattle.std.proofs.lemmas.Bool.{cases_lt}
-use Rattle.std.proofs.lemmas.List.{get_or_past, get_or_default}
-use Rattle.std.specs.List.{sum}
-use Rattle.std.proofs.lemmas.List.Sums.{sum_by-cons}
-use Rattle.std.proofs.lemmas.List.Elements.{All-cons, All-nil}
-use Rattle.cj_model.specs.declared.answer.Answer.{Answer}
-use Rattle.cj_model.specs.declared.answer.Refusal.{Refusal}
-use Rattle.cj_model.specs.declared.answer.Reply.{Reply}
-use Rattle.cj_model.specs.declared.answer.Reply.TheVariants.{Done, Rows, Stats, Refused}
-use Rattle.cj_model.specs.declared.codes.TheConstants.{ALREADY_LOGGED_IN, BAD_LOGIN, IN_TRANSACTION, NOT_LOGGED_IN, NO_MEMORY, NO_TRANSACTION, SCHEMA_IN_TRANSACTION, SYNTAX}
+use Rattle.std.proofs.Common.{◌≡◌, ◌≢◌, inl, inr, ℕ, zero, suc, ℤ, ◌-◌, ◌^◌, ◌<◌, ◌≤◌, ◌==◌, Bool, true, false, if◌then◌else◌, List, [], ◌∷◌, length, get_or, All, Option, None, Some, refl, ap, sym, subst, arith, ⊎_elim}
+use Rattle.cj_core.proofs.Common.{Act, act_of, All-cons, All-nil, ALREADY_LOGGED_IN, Answer, BAD_LOGIN, BlamesNobody, cache_counted, Call, CanCountMore, cases_lt, desk_of, desk_tx, DeskCall, Done, faults_of, forbidden_by, get_or_default, get_or_past, IN_TRANSACTION, NO_MEMORY}
+use Rattle.cj_core.proofs.Common.{NO_TRANSACTION, NOT_LOGGED_IN, query_skipped, READ_FAULT, Refusal, refusal_of_code, Refused, Reply, Rows, SCHEMA_IN_TRANSACTION, SoloState, SoloSteps, Stats, sum, sum_by-cons, SYNTAX, turn_taken, UNFINISHED, WorldTurn}
 use Rattle.cj_model.specs.declared.message.Message.{Message}
 use Rattle.cj_model.specs.declared.message.Message.TheVariants as message
-use Rattle.cj_model.specs.declared.request.Act.{Act}
 use Rattle.cj_model.specs.declared.request.Act.TheVariants as act
-use Rattle.cj_model.specs.Database.Inserts.{refusal_of_code}
 use Rattle.cj_cluster.specs.declared.session.SessionEnd.{SessionEnd}
-use Rattle.cj_cluster.specs.History.Turns.{Call}
-use Rattle.cj_cluster.specs.Moves.Moves.{forbidden_by}
-use Rattle.cj_model.specs.Sql.PlainRequests.{act_of}
-use Rattle.cj_desk.specs.DeskStates.{DeskCall, desk_tx, turn_taken, query_skipped, cache_counted}
 use Rattle.cj_desk.specs.SessionTranscripts.{SessionSetting, setting, ClientState, AnswersStats, AnswersQuery, AnswersMessage, LeavesDesk, MessageExchange, MessageExchanges, SendsReply, SendsRows, SessionTranscript, login_reply, refusal_by_transaction, too_large_reply}
-use Rattle.cj_state.specs.Faults.{faults_of}
-use Rattle.cj_core.specs.QuietCalls.{BlamesNobody, CanCountMore}
-use Rattle.cj_core.specs.Solos.{SoloState, SoloSteps, WorldTurn, desk_of}
 use Rattle.cj_core.proofs.QuietCalls.{more_faults, other_code, quiet_turn}
 
 -- ---- lists of counts, which are 0 past their end
@@ -31,17 +14,9 @@ use Rattle.cj_core.proofs.QuietCalls.{more_faults, other_code, quiet_turn}
 -- where no count is greater, the sum isn't
 sums_below : (xs ys : List ℕ) → ((k : ℕ) → get_or xs k 0 ≤ get_or ys k 0) → sum xs ≤ sum ys
 sums_below [] ys below = omega arith
-sums_below (x ∷ xs) [] below =
-    let head = below 0 in
-    let rest = sums_below xs [] (λ k. below (suc k)) in
-    let adds = sum_by-cons (λ (n : ℕ). n) x xs in
-    omega (arith, head, rest, adds)
+sums_below (x ∷ xs) [] below = omega (arith, below 0, sums_below xs [] (λ k. below (suc k)), sum_by-cons (λ (n : ℕ). n) x xs)
 sums_below (x ∷ xs) (y ∷ ys) below =
-    let head = below 0 in
-    let rest = sums_below xs ys (λ k. below (suc k)) in
-    let adds = sum_by-cons (λ (n : ℕ). n) x xs in
-    let adds_too = sum_by-cons (λ (n : ℕ). n) y ys in
-    omega (arith, head, rest, adds, adds_too)
+    omega (arith, below 0, sums_below xs ys (λ k. below (suc k)), sum_by-cons (λ (n : ℕ). n) x xs, sum_by-cons (λ (n : ℕ). n) y ys)
 
 -- where no count fell and the sum did not rise, no count rose
 none_rose : (xs ys : List ℕ) → ((k : ℕ) → get_or xs k 0 ≤ get_or ys k 0) → sum ys ≤ sum xs → (k : ℕ) → get_or ys k 0 ≤ get_or xs k 0
@@ -49,15 +24,9 @@ none_rose xs [] below sums k = omega arith
 none_rose [] (y ∷ ys) below sums zero = let adds = sum_by-cons (λ (n : ℕ). n) y ys in omega (arith, adds, sums)
 none_rose [] (y ∷ ys) below sums (suc k) = let adds = sum_by-cons (λ (n : ℕ). n) y ys in none_rose [] ys (λ i. omega arith) (omega (arith, adds, sums)) k
 none_rose (x ∷ xs) (y ∷ ys) below sums zero =
-    let rest = sums_below xs ys (λ i. below (suc i)) in
-    let adds = sum_by-cons (λ (n : ℕ). n) x xs in
-    let adds_too = sum_by-cons (λ (n : ℕ). n) y ys in
-    omega (arith, rest, adds, adds_too, sums)
+    omega (arith, sums_below xs ys (λ i. below (suc i)), sum_by-cons (λ (n : ℕ). n) x xs, sum_by-cons (λ (n : ℕ). n) y ys, sums)
 none_rose (x ∷ xs) (y ∷ ys) below sums (suc k) =
-    let head = below 0 in
-    let adds = sum_by-cons (λ (n : ℕ). n) x xs in
-    let adds_too = sum_by-cons (λ (n : ℕ). n) y ys in
-    none_rose xs ys (λ i. below (suc i)) (omega (arith, head, adds, adds_too, sums)) k
+    none_rose xs ys (λ i. below (suc i)) (omega (arith, below 0, sum_by-cons (λ (n : ℕ). n) x xs, sum_by-cons (λ (n : ℕ). n) y ys, sums)) k
 
 -- ---- counts
 
@@ -135,47 +104,30 @@ module _ (begin a z end : SoloState) (first : Grows begin a) (call : Grows a z) 
 
 -- ---- replies
 
--- no refusal
-done_blames_nobody : (reply : Reply) (n : ℕ) → reply ≡ Done n → BlamesNobody reply
-done_blames_nobody reply n is = λ r same. absurd (cc (is, same))
-
-rows_blame_nobody : (reply : Reply) (rows : Answer) → reply ≡ Rows rows → BlamesNobody reply
-rows_blame_nobody reply rows is = λ r same. absurd (cc (is, same))
-
-stats_blame_nobody : (reply : Reply) (hits misses : ℕ) → reply ≡ Stats hits misses → BlamesNobody reply
-stats_blame_nobody reply hits misses is = λ r same. absurd (cc (is, same))
-
 login_blames_nobody : (user : Option (List ℕ)) (admitted : Bool) → BlamesNobody (login_reply user admitted)
 login_blames_nobody (Some user) admitted = other_code (login_reply (Some user) admitted) (refusal_of_code ALREADY_LOGGED_IN) refl (λ e. absurd (omega (arith, e))) (λ e. absurd (omega (arith, e)))
-login_blames_nobody None true = done_blames_nobody (Done 0) 0 refl
+login_blames_nobody None true = λ r same. absurd (cc same)
 login_blames_nobody None false = other_code (login_reply None false) (refusal_of_code BAD_LOGIN) refl (λ e. absurd (omega (arith, e))) (λ e. absurd (omega (arith, e)))
 
 -- what a transaction forbids
-forbidden_if : (t : Bool) (r q : Refusal) → (if t then None else Some q) ≡ Some r → q ≡ r
-forbidden_if true r q is = absurd (cc is)
-forbidden_if false r q is = cc is
+forbidden_if : (t : Bool) (q r : Refusal) → (if t then None else Some q) ≡ Some r → BlamesNobody (Refused q) → BlamesNobody (Refused r)
+forbidden_if true q r is quiet = absurd (cc is)
+forbidden_if false q r is quiet = subst (λ (x : Refusal). BlamesNobody (Refused x)) (cc is) quiet
 
-forbidden_unless : (t : Bool) (r q : Refusal) → (if t then Some q else None) ≡ Some r → q ≡ r
-forbidden_unless true r q is = cc is
-forbidden_unless false r q is = absurd (cc is)
+forbidden_unless : (t : Bool) (q r : Refusal) → (if t then Some q else None) ≡ Some r → BlamesNobody (Refused q) → BlamesNobody (Refused r)
+forbidden_unless true q r is quiet = subst (λ (x : Refusal). BlamesNobody (Refused x)) (cc is) quiet
+forbidden_unless false q r is quiet = absurd (cc is)
+
+quiet_code : (n a b : ℕ) → n ≢ READ_FAULT → n ≢ UNFINISHED → BlamesNobody (Refused (record { code = n; a = a; b = b }))
+quiet_code n a b = other_code (Refused (record { code = n; a = a; b = b })) (record { code = n; a = a; b = b }) refl
 
 forbidden_blames_nobody : (tx : ℕ) (a : Act) (r : Refusal) → forbidden_by tx a ≡ Some r → BlamesNobody (Refused r)
-forbidden_blames_nobody tx act.Begin r is =
-    other_code (Refused r) (record { code = IN_TRANSACTION; a = tx; b = 0 }) (ap (λ (q : Refusal). Refused q) (sym (forbidden_if (tx == 0) r (record { code = IN_TRANSACTION; a = tx; b = 0 }) is)))
-    (λ e. absurd (omega (arith, e))) (λ e. absurd (omega (arith, e)))
+forbidden_blames_nobody tx act.Begin r is = forbidden_if (tx == 0) (record { code = IN_TRANSACTION; a = tx; b = 0 }) r is (quiet_code IN_TRANSACTION tx 0 (λ e. absurd (omega (arith, e))) (λ e. absurd (omega (arith, e))))
 forbidden_blames_nobody tx (act.Write w) r is = absurd (cc is)
-forbidden_blames_nobody tx (act.Create create) r is =
-    other_code (Refused r) (record { code = SCHEMA_IN_TRANSACTION; a = tx; b = 0 }) (ap (λ (q : Refusal). Refused q) (sym (forbidden_if (tx == 0) r (record { code = SCHEMA_IN_TRANSACTION; a = tx; b = 0 }) is)))
-    (λ e. absurd (omega (arith, e))) (λ e. absurd (omega (arith, e)))
-forbidden_blames_nobody tx (act.Drop table) r is =
-    other_code (Refused r) (record { code = SCHEMA_IN_TRANSACTION; a = tx; b = 0 }) (ap (λ (q : Refusal). Refused q) (sym (forbidden_if (tx == 0) r (record { code = SCHEMA_IN_TRANSACTION; a = tx; b = 0 }) is)))
-    (λ e. absurd (omega (arith, e))) (λ e. absurd (omega (arith, e)))
-forbidden_blames_nobody tx act.Commit r is =
-    other_code (Refused r) (refusal_of_code NO_TRANSACTION) (ap (λ (q : Refusal). Refused q) (sym (forbidden_unless (tx == 0) r (refusal_of_code NO_TRANSACTION) is)))
-    (λ e. absurd (omega (arith, e))) (λ e. absurd (omega (arith, e)))
-forbidden_blames_nobody tx act.Abort r is =
-    other_code (Refused r) (refusal_of_code NO_TRANSACTION) (ap (λ (q : Refusal). Refused q) (sym (forbidden_unless (tx == 0) r (refusal_of_code NO_TRANSACTION) is)))
-    (λ e. absurd (omega (arith, e))) (λ e. absurd (omega (arith, e)))
+forbidden_blames_nobody tx (act.Create create) r is = forbidden_if (tx == 0) (record { code = SCHEMA_IN_TRANSACTION; a = tx; b = 0 }) r is (quiet_code SCHEMA_IN_TRANSACTION tx 0 (λ e. absurd (omega (arith, e))) (λ e. absurd (omega (arith, e))))
+forbidden_blames_nobody tx (act.Drop table) r is = forbidden_if (tx == 0) (record { code = SCHEMA_IN_TRANSACTION; a = tx; b = 0 }) r is (quiet_code SCHEMA_IN_TRANSACTION tx 0 (λ e. absurd (omega (arith, e))) (λ e. absurd (omega (arith, e))))
+forbidden_blames_nobody tx act.Commit r is = forbidden_unless (tx == 0) (refusal_of_code NO_TRANSACTION) r is (quiet_code NO_TRANSACTION 0 0 (λ e. absurd (omega (arith, e))) (λ e. absurd (omega (arith, e))))
+forbidden_blames_nobody tx act.Abort r is = forbidden_unless (tx == 0) (refusal_of_code NO_TRANSACTION) r is (quiet_code NO_TRANSACTION 0 0 (λ e. absurd (omega (arith, e))) (λ e. absurd (omega (arith, e))))
 
 refused_blames_nobody : (tx : ℕ) (o : Option Act) (r : Refusal) → refusal_by_transaction tx o ≡ Some r → BlamesNobody (Refused r)
 refused_blames_nobody tx None r is = absurd (cc is)
@@ -183,15 +135,15 @@ refused_blames_nobody tx (Some a) r is = forbidden_blames_nobody tx a r is
 
 -- what is sent of a reply
 rows_sent : (rows : Answer) (sent : Reply) → SendsRows rows sent → BlamesNobody sent
-rows_sent rows sent (inl whole) = rows_blame_nobody sent rows whole.1
+rows_sent rows sent (inl whole) = λ r same. absurd (cc (whole.1, same))
 rows_sent rows sent (inr (inl large)) =
     subst BlamesNobody (sym large.1) (other_code (too_large_reply rows) _ refl (λ e. absurd (omega (arith, e))) (λ e. absurd (omega (arith, e))))
 rows_sent rows sent (inr (inr want)) = other_code sent (refusal_of_code NO_MEMORY) want (λ e. absurd (omega (arith, e))) (λ e. absurd (omega (arith, e)))
 
 sent_blames_nobody : (answer sent : Reply) → SendsReply answer sent → BlamesNobody answer → BlamesNobody sent
-sent_blames_nobody (Done n) sent is quiet = done_blames_nobody sent n is
+sent_blames_nobody (Done n) sent is quiet = λ r same. absurd (cc (is, same))
 sent_blames_nobody (Rows rows) sent is quiet = rows_sent rows sent is
-sent_blames_nobody (Stats hits misses) sent is quiet = stats_blame_nobody sent hits misses is
+sent_blames_nobody (Stats hits misses) sent is quiet = λ r same. absurd (cc (is, same))
 sent_blames_nobody (Refused r) sent is quiet = subst BlamesNobody (sym is) quiet
 
 -- ---- a session
@@ -227,9 +179,8 @@ module _ {D : Type 0} (tells : Bool) (drawn : D → ℕ → ℕ) (later : D → 
 
   exchanges_grow : (ms : List Message) (rs : List Reply) (a z : ClientState SoloState D) → MessageExchanges w a ms rs z → Grows a.desk z.desk
   exchanges_grow [] [] a z same = grows_same a.desk z.desk (ap (λ (y : ClientState SoloState D). faults_of y.desk.world.cells) same)
-  exchanges_grow [] (r ∷ rs) a z never = absurd never
-  exchanges_grow (m ∷ ms) [] a z never = absurd never
   exchanges_grow (m ∷ ms) (r ∷ rs) a z h = grows_then a.desk h.0.desk z.desk (exchange_grows m a h.0 r h.1) (exchanges_grow ms rs h.0 z h.2)
+  exchanges_grow _ _ a z never = absurd never
 
   leaves_grow : (user : Option (List ℕ)) (a z : SoloState) → LeavesDesk desk_of (SoloSteps tells) user a z → Grows a z
   leaves_grow user a z (inl same) = grows_same a z (ap (λ (y : SoloState). faults_of y.world.cells) same.1)
@@ -242,7 +193,7 @@ module _ {D : Type 0} (tells : Bool) (drawn : D → ℕ → ℕ) (later : D → 
 
   stats_quiet : (user : Option (List ℕ)) (a z : SoloState) (r : Reply) → AnswersStats (SoloSteps tells) user a r z → BlamesNobody r
   stats_quiet None a z r h = other_code r (refusal_of_code NOT_LOGGED_IN) h.0 (λ e. absurd (omega (arith, e))) (λ e. absurd (omega (arith, e)))
-  stats_quiet (Some user) a z r h = stats_blame_nobody r h.hits h.misses h.replied
+  stats_quiet (Some user) a z r h = λ q same. absurd (cc (h.replied, same))
 
   query_quiet : (user : Option (List ℕ)) (a z : ClientState SoloState D) (text : List ℕ) (r : Reply) → AnswersQuery w user a text r z → IsQuiet a.desk z.desk → BlamesNobody r
   query_quiet None a z text r h quiet = other_code r (refusal_of_code NOT_LOGGED_IN) h.0 (λ e. absurd (omega (arith, e))) (λ e. absurd (omega (arith, e)))
@@ -260,14 +211,13 @@ module _ {D : Type 0} (tells : Bool) (drawn : D → ℕ → ℕ) (later : D → 
   module _ (begin end : SoloState) (kept : (k : ℕ) → count_at end k ≤ count_at begin k) (small : CanCountMore (faults_of begin.world.cells)) where
     exchanges_quiet : (ms : List Message) (rs : List Reply) (a z : ClientState SoloState D) → MessageExchanges w a ms rs z → Grows begin a.desk → Grows z.desk end → All BlamesNobody rs
     exchanges_quiet [] [] a z h first last = All-nil BlamesNobody
-    exchanges_quiet [] (r ∷ rs) a z never first last = absurd never
-    exchanges_quiet (m ∷ ms) [] a z never first last = absurd never
     exchanges_quiet (m ∷ ms) (r ∷ rs) a z h first last =
         let call : Grows a.desk h.0.desk = exchange_grows m a h.0 r h.1 in
         let rest : Grows h.0.desk end = grows_then h.0.desk z.desk end (exchanges_grow ms rs h.0 z h.2) last in
         let quiet : IsQuiet a.desk h.0.desk = quiet_between begin a.desk h.0.desk end first call rest kept small in
         All-cons BlamesNobody r rs (sent_blames_nobody h.1.answer r h.1.sends (answer_quiet m a h.0 h.1.answer h.1.answers quiet))
         (exchanges_quiet ms rs h.0 z h.2 (grows_then begin a.desk h.0.desk first call) last)
+    exchanges_quiet _ _ a z never first last = absurd never
 
   -- no count falls over a whole session, where none stands at its type's end
   pub session_grows : (a : ClientState SoloState D) (taken written : List ℕ) (ending : SessionEnd) (desk : SoloState) (draws : D) (t : SessionTranscript w a taken written ending desk draws)

@@ -1,52 +1,17 @@
 -- A session's reads and the result cache.
-use Rattle.std.proofs.Common.{◌≡◌, ◌≢◌, ◌⊎◌, ℕ, ◌+◌, ◌<◌, ◌^◌, Bool, true, false, cond, ◌==◌, List, length, Option, option_map, None, Some, inl, inr, refl, ap, sym, ◌∙◌, subst, ⊎_elim}
-use Rattle.std.specs.Prelude.{is_some}
-use Rattle.std.proofs.lemmas.Bool.{both_ways, cond-false, ne_eqb}
-use Rattle.cj_model.specs.declared.answer.Answer.{Answer}
+use Rattle.std.proofs.Common.{◌≡◌, ◌≢◌, ◌⊎◌, ℕ, ◌<◌, ◌^◌, Bool, true, false, ◌==◌, List, Option, option_map, None, Some, inl, inr, refl, ap, sym, ◌∙◌, subst, ⊎_elim}
+use Rattle.cj_core.proofs.Common.{accounts_of, cond_both, after_look, Answer, answer_kept, answered_at, AnswersFromCache, ask, both_ways, cache_answered, cached_entry, CacheState, Call, call_of, cond-false, Core, CoreInvariant, database_of, Entry, faults_of, given_at_end, has-zero, has_answer}
+use Rattle.cj_core.proofs.Common.{HasNoServer, HasServer, hosts_all, in_mask, is_some, IsAnswer, IsFreshAnswer, IsFreshCache, IsServingMask, kept_answer, last_number, legal_fit, log, logins_of, ne_eqb, needs, NO_MEMORY, open_tx, Refusal, refusal_of_code, Refused, RepliesKept, Reply, Rows}
+use Rattle.cj_core.proofs.Common.{Select, some_bit, StandsBetweenCalls, take-length, was_answered, with_answer, with_cache, with_core, with_read, with_request_counted, WorldState, WorldTurn}
 use Rattle.cj_model.specs.declared.answer.Asked.TheVariants as asked
-use Rattle.cj_model.specs.declared.answer.Refusal.{Refusal}
-use Rattle.cj_model.specs.declared.answer.Reply.{Reply}
-use Rattle.cj_model.specs.declared.answer.Reply.TheVariants.{Refused, Rows}
 use Rattle.cj_model.specs.declared.cached.Cached.{Cached}
 use Rattle.cj_model.specs.declared.request.Request.TheVariants as request
-use Rattle.cj_model.specs.declared.select.Select.{Select}
-use Rattle.cj_model.specs.declared.codes.TheConstants.{NO_MEMORY}
-use Rattle.cj_model.specs.Cluster.Caching.{CacheState, after_look, answer_kept, cached_entry, has_answer}
-use Rattle.cj_model.specs.Cluster.Masks.{in_mask}
-use Rattle.cj_model.specs.Cluster.Placements.{hosts_all, needs}
-use Rattle.cj_model.specs.Database.Inserts.{refusal_of_code}
-use Rattle.cj_model.specs.Database.Outcomes.{IsAnswer}
-use Rattle.cj_model.specs.Database.Queries.{ask}
-use Rattle.cj_model.proofs.CachingLaws.{kept_answer}
-use Rattle.cj_model.proofs.Masks.{has-zero, some_bit}
-use Rattle.cj_model.specs.declared.request.Entry.{Entry}
-use Rattle.std.proofs.Math.Seq.{take-length}
-use Rattle.cj_cluster.specs.History.Answering.{HasServer, HasNoServer}
-use Rattle.cj_cluster.specs.History.Histories.{database_of, log}
-use Rattle.cj_cluster.specs.History.Transactions.{AreFit}
-use Rattle.cj_cluster.specs.History.Turns.{Call}
-use Rattle.cj_cluster.specs.Moves.Cores.{Core}
-use Rattle.cj_cluster.specs.Moves.Moves.{IsServingMask, answered_at, last_number, open_tx, was_answered, with_read, with_request_counted}
-use Rattle.cj_cluster.specs.Proving.Invariants.{CoreInvariant}
-use Rattle.cj_cluster.proofs.TransactionLaws.{legal_fit}
-use Rattle.cj_freshness.specs.Freshness.{IsFreshAnswer, IsFreshCache}
-use Rattle.cj_freshness.proofs.Fresh.{given_at_end}
-use Rattle.cj_state.specs.CalledLogins.{logins_of}
-use Rattle.cj_state.specs.Effects.{with_core}
-use Rattle.cj_state.specs.Faults.{faults_of}
-use Rattle.cj_state.specs.Worlds.{WorldState, accounts_of, with_cache}
-use Rattle.cj_core.specs.Solos.{AnswersFromCache, StandsBetweenCalls, WorldTurn, with_answer}
-use Rattle.cj_core.specs.Proving.SoloParts.{cache_answered, call_of, RepliesKept}
 use Rattle.cj_core.proofs.SoloLogins.{called_none}
 use Rattle.cj_core.proofs.SoloReads.{answered_turn, counted_turn, query_begins, starves}
 
 -- a refusal is not kept
 pub not_kept : (tx : ℕ) (s : Select) (n : ℕ) (refusal : Refusal) (reply : Reply) (cache : CacheState) → reply ≡ Refused refusal → cache_answered tx s n reply cache ≡ cache
-not_kept tx s n refusal reply cache is = ap (λ r. cache_answered tx s n r cache) is ∙ one (tx == 0)
-  where
-    one : (c : Bool) → cond c cache cache ≡ cache
-    one true = refl
-    one false = refl
+not_kept tx s n refusal reply cache is = ap (λ r. cache_answered tx s n r cache) is ∙ cond_both (tx == 0) cache cache (λ (q : CacheState). q ≡ cache) (λ _. refl) (λ _. refl)
 
 -- nothing is kept inside a transaction
 pub kept_inside : (tx : ℕ) (s : Select) (n : ℕ) (reply : Reply) (cache : CacheState) → tx ≢ 0 → cache_answered tx s n reply cache ≡ cache

@@ -1,17 +1,12 @@
 -- Under which logins the calls of a session's request reach the backends.
 use Rattle.std.proofs.Common.{◌≡◌, ◌⊎◌, inl, inr, ℕ, zero, suc, List, [], ◌∷◌, slice_get, set, Option, Some, Result, Ok, Err, refl, ap, sym, ◌∙◌, ⊎_elim}
 use Rattle.cj_model.specs.declared.account.Account.{Account}
-use Rattle.cj_model.specs.declared.answer.Asked.{Asked}
-use Rattle.cj_model.specs.Cluster.Accounts.{login_of}
-use Rattle.cj_cluster.specs.declared.moves.Did.{Did}
+use Rattle.cj_core.proofs.Common.{AreCalledFor, Asked, AskError, CallsUnder, Did, login_of, LogsInToAsk, LogsInToTake, MayCallUnder}
 use Rattle.cj_cluster.specs.declared.moves.Did.TheVariants as did
-use Rattle.cj_state.specs.declared.cells.AskError.{AskError}
 use Rattle.cj_state.specs.declared.cells.AskError.TheVariants as errors
-use Rattle.cj_state.specs.CalledLogins.{CallsUnder, MayCallUnder, LogsInToTake, LogsInToAsk}
-use Rattle.cj_core.specs.Solos.{AreCalledFor}
 
 -- a place of a list is as before, or it is the one that was set
-got_or_set : {A : Type 0} (xs : List A) (b k : ℕ) (v : A) → (slice_get (set xs b v) k ≡ slice_get xs k) ⊎ ((k ≡ b) × (slice_get (set xs b v) k ≡ Some v))
+pub got_or_set : {A : Type 0} (xs : List A) (b k : ℕ) (v : A) → (slice_get (set xs b v) k ≡ slice_get xs k) ⊎ ((k ≡ b) × (slice_get (set xs b v) k ≡ Some v))
 got_or_set [] b k v = inl refl
 got_or_set (x ∷ xs) zero zero v = inr (refl, refl)
 got_or_set (x ∷ xs) zero (suc k) v = inl refl
@@ -38,13 +33,10 @@ module _ (accounts : List Account) (user : List ℕ) where
   pub called_to_take : (b : ℕ) (d : Did) (old new : List (Option (List ℕ))) → LogsInToTake b (login_of accounts user b) d old new → AreCalledFor accounts user old new
   called_to_take b (did.Done o) old new logs = called_under b old new logs
   called_to_take b did.Skipped old new logs = called_none old new logs
-  called_to_take b did.Failed old new logs = may_be_called b old new logs
-  called_to_take b did.Starved old new logs = may_be_called b old new logs
+  called_to_take b _ old new logs = may_be_called b old new logs
 
   pub called_to_ask : (b : ℕ) (r : Result (Asked × ℕ) AskError) (old new : List (Option (List ℕ))) → LogsInToAsk b (login_of accounts user b) r old new → AreCalledFor accounts user old new
   called_to_ask b (Ok answered) old new logs = called_under b old new logs
-  called_to_ask b (Err errors.Out) old new logs = called_none old new logs
-  called_to_ask b (Err (errors.Behind p)) old new logs = called_none old new logs
   called_to_ask b (Err errors.Failed) old new logs = may_be_called b old new logs
   called_to_ask b (Err (errors.Unnoted n)) old new logs = may_be_called b old new logs
-  called_to_ask b (Err errors.NoMemory) old new logs = called_none old new logs
+  called_to_ask b _ old new logs = called_none old new logs

@@ -1,23 +1,11 @@
 -- What leaves a session between its calls: a move of no session, and a request counted; and how it begins.
 use Rattle.std.proofs.Common.{◌≡◌, ◌≢◌, ℕ, ◌+◌, ◌<◌, ◌≤◌, Bool, true, false, List, All, None, Some, is_some, Ok, Err, refl, ap, sym, ◌∙◌, subst, arith, ⊎_elim}
-use Rattle.std.proofs.lemmas.Bool.{both_ways}
-use Rattle.std.proofs.lemmas.List.Elements.{All-weaker}
-use Rattle.cj_cluster.specs.declared.event.Event.{Event}
+use Rattle.cj_core.proofs.Common.{All-weaker, Apply, Arm, Arms, both_ways, can_apply, can_end, Core, CoreInvariant, Disable, Disables, DoesMove, Dump, Dumps, Enable, Enables, End, Event, find_session, free-same, happened, is_end_event, is_idle, is_open-push, is_open-with}
+use Rattle.cj_core.proofs.Common.{IsMoveOfNoSession, IsSoundSession, LacksRoomFor, Load, Loads, Mark, Marks, MeetsLogFault, Move, MoveResult, MovesTo, new_session, NoMemory, not_now, Open, opened_for, OpenSession, OpensSession, Replay, Replays, scheduled_entry, session_at}
+use Rattle.cj_core.proofs.Common.{session_at-is, session_of-push_other, session_of-push_same, StandsBetweenCalls, with_one_request, with_request_counted}
 use Rattle.cj_cluster.specs.declared.event.Event.TheVariants as event
-use Rattle.cj_cluster.specs.declared.moves.Move.{Move}
-use Rattle.cj_cluster.specs.declared.moves.Move.TheVariants.{Open, Close, Schedule, Abort, Apply, End, Read, Arm, Disable, Replay, Enable, Mark, Dump, Load}
 use Rattle.cj_cluster.specs.declared.moves.Moved.TheVariants as moved
-use Rattle.cj_cluster.specs.declared.moves.MoveError.TheVariants.{NoMemory}
-use Rattle.cj_cluster.specs.declared.moves.OpenSession.{OpenSession}
-use Rattle.cj_cluster.specs.History.Histories.{scheduled_entry, is_end_event, is_idle}
-use Rattle.cj_cluster.specs.Moves.Cores.{Core, find_session, session_at, new_session}
-use Rattle.cj_cluster.specs.Moves.Moves.{MoveResult, MovesTo, DoesMove, OpensSession, Arms, Disables, Enables, Marks, Dumps, Loads, LacksRoomFor, MeetsLogFault, Replays, happened, not_now, opened_for, with_one_request, with_request_counted}
-use Rattle.cj_cluster.specs.Proving.Invariants.{CoreInvariant, IsSoundSession}
-use Rattle.cj_cluster.proofs.Now.{can_apply, can_end}
-use Rattle.cj_cluster.proofs.Pushed.{free-same}
-use Rattle.cj_cluster.proofs.Sessions.{session_at-is, is_open-push, is_open-with, session_of-push_other, session_of-push_same}
 use Rattle.cj_cluster.proofs.Soundness.{session_sound, by_reason}
-use Rattle.cj_core.specs.Solos.{IsMoveOfNoSession, StandsBetweenCalls}
 use Rattle.cj_core.proofs.SoloTurns.{counted_session}
 
 module _ (tells : Bool) (c z : Core) (s : ℕ) (w : CoreInvariant c) (stands : StandsBetweenCalls c s) where
@@ -91,12 +79,8 @@ module _ (tells : Bool) (c z : Core) (s : ℕ) (w : CoreInvariant c) (stands : S
   -- a move that can be made
   does : (m : Move) (g : MoveResult) → IsMoveOfNoSession m → not_now c m ≡ None → DoesMove tells c m g z → StandsBetweenCalls z s
   does (Open user) g none now h = opens user g h
-  does (Close k) g none now h = absurd none
-  does (Schedule k r) g none now h = absurd none
-  does (Abort tx) g none now h = absurd none
   does (Apply b) g none now h = absurd (both_ways (is_idle c.history) (can_apply c b now).is_running stands.idle)
   does End g none now h = absurd (both_ways (is_idle c.history) (can_end c now).is_running stands.idle)
-  does (Read k b select) g none now h = absurd none
   does (Arm b) g none now h = arms g h
   does (Disable b) g none now h = disables b g h
   does (Replay b) g none now h = replays b g h
@@ -104,6 +88,7 @@ module _ (tells : Bool) (c z : Core) (s : ℕ) (w : CoreInvariant c) (stands : S
   does (Mark name) g none now h = marks name g h
   does (Dump b name) g none now h = dumps b name g h
   does (Load b name) g none now h = loads b name g h
+  does _ g none now h = absurd none
 
   -- any move
   pub stands_moved : (m : Move) (g : MoveResult) → IsMoveOfNoSession m → MovesTo tells c m g z → StandsBetweenCalls z s

@@ -1,47 +1,13 @@
 -- A session's read over a whole world, as backend after backend fails in it.
-use Rattle.std.proofs.Common.{Option, Ok, Err, ◌≡◌, ◌≢◌, ◌⊎◌, inl, inr, ℕ, ◌+◌, ◌<◌, ◌≤◌, ◌==◌, ◌&&◌, not, Bool, true, false, List, [], ◌∷◌, ◌++◌, length, map, None, Some, refl, ap, sym, ◌∙◌, subst, arith, ⊎_elim, append_assoc}
-use Rattle.std.proofs.lemmas.Bool.{and_parts, both_ways, cases_eq, ne_eqb}
-use Rattle.std.proofs.lemmas.List.{append-nil, map-append}
-use Rattle.std.proofs.lemmas.List.Elements.{All-append, All-cons, All-nil}
-use Rattle.std.proofs.lemmas.Grind.{fold-append}
-use Rattle.cj_model.specs.declared.request.Entry.{Entry}
+use Rattle.std.proofs.Common.{Option, Ok, Err, ◌≡◌, ◌≢◌, ◌⊎◌, inl, inr, ℕ, ◌+◌, ◌<◌, ◌≤◌, ◌==◌, ◌&&◌, not, Bool, true, List, [], ◌∷◌, ◌++◌, length, map, None, Some, refl, ap, sym, ◌∙◌, subst, arith, ⊎_elim, append_assoc}
+use Rattle.cj_core.proofs.Common.{accounts_of, AddsOwnEvents, All-nil, and_parts, answered_at, append-nil, AreBackendsOf, AreCalledFor, ask, Asked, asked_reply, Asks, at_log_end, AttemptsQuery, both_ways, Call, call_of, CanServe, cases_eq, Core, CoreInvariant}
+use Rattle.cj_core.proofs.Common.{database_after, database_of, entries-same, Entry, Event, events_left, faults_after, faults_counted, faults_of, fold-append, follows_own, has-zero, HasFailedSince, HISTORY_FULL, hosts_all, in_mask, is_enabled, is_idle, is_open, is_open-with, IsQueryCode}
+use Rattle.cj_core.proofs.Common.{IsReadAtEnd, IsServingMask, IsWorld, last_number, log, log_faults-same, log_faults_of, logins_of, LogView, map-append, ne_eqb, needs, NO_BACKEND, NO_MEMORY, NO_TABLE, open_tx, OpenSession, position_at, prefix_length, prefix_self, QueryAnswered}
+use Rattle.cj_core.proofs.Common.{QueryFailed, QueryUnnoted, READ_FAULT, ReadFailed, Refusal, refusal_of_code, Refused, Reply, Rests, seen_at, Select, session_at, session_owes, SessionView, Setup, StandsBetweenCalls, take_whole, Turn, turn_full, turn_in_vain, turn_read}
+use Rattle.cj_core.proofs.Common.{All-push, false_from_ne_true, turn_starved, turn_unserved, tx_of, was_answered, with_core, with_one_request, with_read, with_request_counted, with_session, WorldState, WorldTurn, WRONG_TYPE}
 use Rattle.cj_model.specs.declared.request.Request.TheVariants as request
-use Rattle.cj_model.specs.declared.select.Select.{Select}
-use Rattle.cj_model.specs.declared.answer.Asked.{Asked}
 use Rattle.cj_model.specs.declared.answer.Asked.TheVariants as asked
-use Rattle.cj_model.specs.declared.answer.Refusal.{Refusal}
-use Rattle.cj_model.specs.declared.answer.Reply.{Reply}
-use Rattle.cj_model.specs.declared.answer.Reply.TheVariants.{Refused}
-use Rattle.cj_model.specs.declared.codes.TheConstants.{NO_BACKEND, NO_MEMORY, NO_TABLE, READ_FAULT, HISTORY_FULL, WRONG_TYPE}
-use Rattle.cj_model.specs.Database.Inserts.{refusal_of_code}
-use Rattle.cj_model.specs.Database.Outcomes.{IsQueryCode}
-use Rattle.cj_model.specs.Database.Queries.{ask}
-use Rattle.cj_model.specs.Cluster.Placements.{hosts_all, needs}
-use Rattle.cj_model.specs.Wire.Replies.{asked_reply}
-use Rattle.cj_model.specs.Cluster.Masks.{in_mask}
-use Rattle.cj_model.proofs.Masks.{has-zero}
-use Rattle.cj_cluster.specs.declared.event.Event.{Event}
-use Rattle.cj_cluster.specs.declared.event.Event.TheVariants.{ReadFailed}
-use Rattle.cj_cluster.specs.declared.moves.OpenSession.{OpenSession}
-use Rattle.cj_cluster.specs.History.Answering.{CanServe}
-use Rattle.cj_cluster.specs.History.Histories.{log, is_idle, is_enabled, events_left, database_after, database_of, log_faults_of, tx_of}
-use Rattle.cj_cluster.specs.History.Turns.{SessionView, Call, Turn}
-use Rattle.cj_cluster.specs.Moves.Cores.{Core, position_at, session_at, with_session}
-use Rattle.cj_cluster.specs.Moves.Moves.{IsServingMask, with_one_request, with_request_counted, answered_at, is_open, last_number, open_tx, was_answered, with_read}
-use Rattle.cj_cluster.specs.Moves.Runs.{seen_at, HasFailedSince}
-use Rattle.cj_cluster.specs.Proving.Invariants.{CoreInvariant}
-use Rattle.cj_cluster.proofs.Between.{follows_own, session_owes}
-use Rattle.cj_cluster.proofs.Pushed.{prefix_length, prefix_self, take_whole, log_faults-same}
-use Rattle.cj_cluster.proofs.Sessions.{is_open-with}
-use Rattle.cj_cluster.proofs.TurnCases.{Rests, entries-same, turn_unserved, turn_read, turn_full, turn_starved, turn_in_vain}
 use Rattle.cj_state.specs.declared.cells.AskError.TheVariants as errors
-use Rattle.cj_state.specs.Effects.{Asks, with_core}
-use Rattle.cj_state.specs.Faults.{faults_of, faults_after}
-use Rattle.cj_core.specs.Solos.{AreBackendsOf, AreCalledFor, WorldTurn, AddsOwnEvents, IsReadAtEnd, StandsBetweenCalls, faults_counted}
-use Rattle.cj_core.specs.Proving.SoloParts.{AttemptsQuery, QueryAnswered, QueryUnnoted, QueryStarved, QueryFailed, call_of}
-use Rattle.cj_state.specs.CalledLogins.{logins_of}
-use Rattle.cj_state.specs.Worlds.{IsWorld, LogView, WorldState, Setup, accounts_of}
-use Rattle.cj_state.proofs.CellsKept.{at_log_end}
 use Rattle.cj_core.proofs.SoloLogins.{called_none, called_then}
 use Rattle.cj_core.proofs.SoloTaking.{cells_count}
 use Rattle.cj_core.proofs.SoloTurns.{failed_before, failed_now, failures_keep, idle_failures, log_failures, enabled_failures}
@@ -56,11 +22,6 @@ called_since : (old now : WorldState) (logins : List (Option (List ℕ))) (user 
 called_since old now logins user same was calls =
     called_then (accounts_of old) user (logins_of old.cells) (logins_of now.cells) logins was
     (subst (λ (s : Setup). AreCalledFor s.register.accounts user (logins_of now.cells) logins) same calls)
-
--- one backend more
-one_more : (w : WorldState) (failed : List ℕ) (b : ℕ) → AreBackendsOf w failed → b < length w.cells → AreBackendsOf w (failed ++ b ∷ [])
-one_more w failed b each within =
-    All-append (λ (k : ℕ). k < length w.cells) failed (b ∷ []) each (All-cons (λ (k : ℕ). k < length w.cells) b [] within (All-nil (λ (k : ℕ). k < length w.cells)))
 
 -- one that serves the read is a backend
 pub serving_is_backend : (tells : Bool) (w : WorldState) (select : Select) (serving b : ℕ) → IsWorld tells w → IsServingMask w.core select serving → in_mask serving b ≡ true → b < length w.cells
@@ -125,7 +86,7 @@ query_goes_on s user old now new serving left less b place so_far fails setup re
     in
     record {
       failed = so_far.failed ++ b ∷ [];
-      backends = one_more old so_far.failed b so_far.backends place;
+      backends = All-push (λ (k : ℕ). k < length old.cells) so_far.failed b so_far.backends place;
       core =
           grew
           ∙ (ap (λ (c : Core). record c { history = c.history ++ ev ∷ [] }) so_far.core ∙ ap (λ (h : List Event). record old.core { history = h }) (sym more));
@@ -154,10 +115,6 @@ query_goes_on s user old now new serving left less b place so_far fails setup re
 abbrev pub ReadsTo : Bool → ℕ → Core → Call → SessionView → Type 0
 ReadsTo tells s c call z = Turn tells c.placement s (seen_at c s) call z × IsReadAtEnd call z
 
-never_true : (t : Bool) → (t ≡ true → ⊥) → t ≡ false
-never_true true never = absurd (never refl)
-never_true false never = refl
-
 -- a refusal that is no backend's is no answer
 no_answer : (c : Call) (z : SessionView) (r : Refusal) → c.reply ≡ Refused r → (IsQueryCode r.code → ⊥) → IsReadAtEnd c z
 no_answer c z r is never none (asked.Rows a) possible same = absurd (cc (is, same))
@@ -165,11 +122,7 @@ no_answer c z r is never none (asked.Refused q) possible same = let e : q ≡ r 
 
 -- nor has it a code of a query's refusals
 pub no_code : (n : ℕ) → (n < NO_TABLE) ⊎ (WRONG_TYPE < n) → IsQueryCode n → ⊥
-no_code n out (inl q) = ⊎_elim (λ (lt : n < NO_TABLE). absurd (omega (arith, q))) (λ (gt : WRONG_TYPE < n). absurd (omega (arith, q))) out
-no_code n out (inr (inl q)) = ⊎_elim (λ (lt : n < NO_TABLE). absurd (omega (arith, q))) (λ (gt : WRONG_TYPE < n). absurd (omega (arith, q))) out
-no_code n out (inr (inr (inl q))) = ⊎_elim (λ (lt : n < NO_TABLE). absurd (omega (arith, q))) (λ (gt : WRONG_TYPE < n). absurd (omega (arith, q))) out
-no_code n out (inr (inr (inr (inl q)))) = ⊎_elim (λ (lt : n < NO_TABLE). absurd (omega (arith, q))) (λ (gt : WRONG_TYPE < n). absurd (omega (arith, q))) out
-no_code n out (inr (inr (inr (inr q)))) = ⊎_elim (λ (lt : n < NO_TABLE). absurd (omega (arith, q))) (λ (gt : WRONG_TYPE < n). absurd (omega (arith, q))) out
+no_code n out q = grind arith
 
 module _ (tells : Bool) (s tx : ℕ) (user : List ℕ) (select : Select) (old now : WorldState) (serving left : ℕ) (w : CoreInvariant old.core) (in_own : (tx ≡ 0) ⊎ (tx ≡ open_tx old.core s)) (serves : IsServingMask old.core select serving)
     (so_far : QuerySoFar s user old serving left now) where
@@ -213,7 +166,7 @@ module _ (tells : Bool) (s tx : ℕ) (user : List ℕ) (select : Select) (old no
       λ b can. both_ways (in_mask serving b) (ap (λ (m : ℕ). in_mask m b) none ∙ has-zero b) ((serves b).0 can)
       in (
         turn_unserved tells old.core.placement s (seen_at old.core s) now.core.history so_far.sound.legal (map (ReadFailed s ((session_at old.core s).queries + 1)) so_far.failed, sym grown) (session_owes old.core s w) rested (call reply) in_own is
-            (refl, λ b on. never_true (hosts_all old.core.placement b (needs (request.Select select))) (λ hosts. serves_none b (still_serves b (on, hosts)))),
+            (refl, λ b on. false_from_ne_true (hosts_all old.core.placement b (needs (request.Select select))) (λ hosts. serves_none b (still_serves b (on, hosts)))),
         no_answer (call reply) (record { front = now.core.history; least = (session_at old.core s).least }) (refusal_of_code NO_BACKEND) is (no_code NO_BACKEND (inl (omega arith))),
       )
 
@@ -321,17 +274,16 @@ module _ (tells : Bool) (s tx : ℕ) (user : List ℕ) (select : Select) (old no
     unnoted_turn b place there full =
         let same : new.core.history ≡ now.core.history = ap (λ (c : Core). c.history) full.after in
         read_is_turn new with_one_request (λ x. refl) full.after (session_at old.core s).least (ap (λ (c : Core). (session_at c s).least) so_far.core) refl stands.no_read stands reply (so_far.failed ++ b ∷ [])
-        (one_more old so_far.failed b so_far.backends place) (unnoted b reply new there full) setup recovery_log logins
+        (All-push (λ (k : ℕ). k < length old.cells) so_far.failed b so_far.backends place) (unnoted b reply new there full) setup recovery_log logins
         (inr (record { noted = so_far.failed; last = b; is = refl; grew = same ∙ grown; full = ap events_left same ∙ full.full }))
         (full.faults
         ∙ (ap (λ (counts : List ℕ). faults_after counts (Some b)) so_far.faults ∙ sym (fold-append (λ (counts : List ℕ) (k : ℕ). faults_after counts (Some k)) (faults_of old.cells) so_far.failed (b ∷ []))))
 
     -- whatever an attempt came to
     pub attempted_turn : (b : ℕ) → b < length old.cells → in_mask serving b ≡ true → AttemptsQuery tells s b tx select now (Some reply) new → WorldTurn tells s old (call reply) new
-    attempted_turn b place there came =
-        ⊎_elim (answered_turn b there)
-        (⊎_elim (unnoted_turn b place there) (λ (starved : QueryStarved s now reply new). refused_turn starved.after starved.faults (starves reply starved.replied)))
-        came
+    attempted_turn b place there (inl answered) = answered_turn b there answered
+    attempted_turn b place there (inr (inl full)) = unnoted_turn b place there full
+    attempted_turn b place there (inr (inr starved)) = refused_turn starved.after starved.faults (starves reply starved.replied)
 
   -- the session's request was counted, and else nothing was changed
   pub counted_turn : StandsBetweenCalls now.core s → (new : WorldState) (reply : Reply) → new ≡ with_core now (with_request_counted now.core s)

@@ -1,26 +1,9 @@
 -- The open entry is taken by one backend after another.
-use Rattle.std.proofs.Common.{◌≡◌, ◌≢◌, ℕ, ◌+◌, ◌<◌, ◌≤◌, Bool, true, cond, List, [], ◌∷◌, ◌++◌, length, All, Option, None, Some, Ok, refl, ap, sym, ◌∙◌, subst, arith, ⊎_elim}
-use Rattle.std.proofs.lemmas.Bool.{cases_lt}
-use Rattle.std.proofs.lemmas.List.{length-map, length-set}
-use Rattle.std.proofs.lemmas.List.Elements.{All-append, All-cons, All-nil}
-use Rattle.std.proofs.lemmas.Grind.{fold-append}
-use Rattle.cj_model.specs.Cluster.Accounts.{login_of}
-use Rattle.cj_model.specs.Cluster.Masks.{with_backend}
-use Rattle.cj_cluster.specs.declared.moves.Did.{Did}
+use Rattle.std.proofs.Common.{◌≡◌, ◌≢◌, ℕ, ◌+◌, ◌<◌, ◌≤◌, Bool, true, cond, List, [], ◌∷◌, ◌++◌, length, All, Option, None, Some, Ok, refl, ap, sym, ◌∙◌, subst, arith, below_more}
+use Rattle.cj_core.proofs.Common.{accounts_of, All-append, All-cons, All-nil, all_at_end, Applied, Applies, Apply, AreBackendsOf, AreCalledFor, BackendStands, can_apply, CanApply, CellState, Core, CoreInvariant, Did, did_fail, ended_count, EntryTaken, failed_after, faults_after}
+use Rattle.cj_core.proofs.Common.{faults_counted, faults_of, first_lagging, fold-append, HasTakenEntry, is_enabled, IsWorld, length-map, length-set, log, login_of, login_to_take, logins_of, LogsInToTake, mask_with, next_user, not_now, open_user, position_at, position_or_zero, Setup}
+use Rattle.cj_core.proofs.Common.{with_backend, WorldState}
 use Rattle.cj_cluster.specs.declared.moves.Did.TheVariants as did
-use Rattle.cj_cluster.specs.declared.moves.Move.TheVariants.{Apply}
-use Rattle.cj_cluster.specs.declared.moves.Moved.TheVariants.{Applied}
-use Rattle.cj_cluster.specs.History.Histories.{log, ended_count, is_enabled}
-use Rattle.cj_cluster.specs.Moves.Cores.{Core, position_at}
-use Rattle.cj_cluster.specs.Moves.Moves.{Applies, failed_after, first_lagging, not_now, position_or_zero}
-use Rattle.cj_cluster.specs.Proving.Invariants.{BackendStands, CoreInvariant}
-use Rattle.cj_cluster.proofs.Now.{CanApply, all_at_end, can_apply}
-use Rattle.cj_replica.specs.Cells.{CellState}
-use Rattle.cj_state.specs.Faults.{did_fail, faults_of, faults_after}
-use Rattle.cj_state.specs.CalledLogins.{LogsInToTake, login_to_take, logins_of, next_user}
-use Rattle.cj_core.specs.Solos.{AreBackendsOf, AreCalledFor, faults_counted, mask_with}
-use Rattle.cj_core.specs.Proving.SoloParts.{EntryTaken, HasTakenEntry, open_user}
-use Rattle.cj_state.specs.Worlds.{IsWorld, Setup, WorldState, accounts_of}
 use Rattle.cj_core.proofs.SoloLogins.{called_then, called_to_take}
 
 -- ---- one backend
@@ -30,16 +13,12 @@ abbrev failed_in : ℕ → Did → List ℕ
 failed_in b d = cond (did_fail d) (b ∷ []) []
 
 mask_after : (mask b : ℕ) (d : Did) → failed_after mask b d ≡ mask_with mask (failed_in b d)
-mask_after mask b (did.Done o) = refl
-mask_after mask b did.Skipped = refl
 mask_after mask b did.Failed = refl
-mask_after mask b did.Starved = refl
+mask_after mask b _ = refl
 
 counts_after : (faults : List ℕ) (b : ℕ) (d : Did) → faults_after faults (cond (did_fail d) (Some b) None) ≡ faults_counted faults (failed_in b d)
-counts_after faults b (did.Done o) = refl
-counts_after faults b did.Skipped = refl
 counts_after faults b did.Failed = refl
-counts_after faults b did.Starved = refl
+counts_after faults b _ = refl
 
 -- a backend that may take the open entry stands before it, so it is called for the user of that
 login_to_take_open : (w : WorldState) (b : ℕ) → CoreInvariant w.core → b < w.core.placement.backends → CanApply w.core b → login_to_take w b ≡ login_of (accounts_of w) (open_user w.core) b
@@ -62,10 +41,8 @@ cells_count tells w world = sym (length-map w.cells (λ (x : CellState). x.posit
 
 -- the one that failed is a backend
 failed_is_backend : (w : WorldState) (b : ℕ) (d : Did) → b < length w.cells → AreBackendsOf w (failed_in b d)
-failed_is_backend w b (did.Done o) within = All-nil (λ (k : ℕ). k < length w.cells)
-failed_is_backend w b did.Skipped within = All-nil (λ (k : ℕ). k < length w.cells)
 failed_is_backend w b did.Failed within = All-cons (λ (k : ℕ). k < length w.cells) b [] within (All-nil (λ (k : ℕ). k < length w.cells))
-failed_is_backend w b did.Starved within = All-nil (λ (k : ℕ). k < length w.cells)
+failed_is_backend w b _ within = All-nil (λ (k : ℕ). k < length w.cells)
 
 -- what is counted leaves how many counts there are
 counts_length : (counts failed : List ℕ) → length (faults_counted counts failed) ≡ length counts
@@ -132,11 +109,9 @@ taken_to_next old now new i to takes there others =
     record {
       taken = taken_then old now new (open_user old.core) to.taken (subst (λ (user : List ℕ). EntryTaken user now new) same takes);
       at_end =
-          λ b lt.
-          ⊎_elim
-          (λ (before : b < i). λ q on at.
-          to.at_end b before q (sym (ap (λ h. is_enabled h b) history) ∙ on) (sym (others b (λ e. absurd (omega (arith, e)))) ∙ at) ∙ sym (ap (λ h. length (log h)) history))
-          (λ (last : i ≤ b). let e : i ≡ b = omega arith in subst (HasTakenEntry new.core) e there) (cases_lt b i);
+          below_more (HasTakenEntry new.core) i
+          (λ b before q on at.
+          to.at_end b before q (sym (ap (λ h. is_enabled h b) history) ∙ on) (sym (others b (λ e. absurd (omega (arith, e)))) ∙ at) ∙ sym (ap (λ h. length (log h)) history)) there;
     }
 
 -- where all have, nobody lags behind

@@ -1,37 +1,11 @@
 -- A session's calls over a whole world are turns of its desk.
 use Rattle.std.proofs.Common.{◌≡◌, ℕ, zero, suc, ◌+◌, ◌<◌, ◌≤◌, Bool, true, false, cond, List, [], ◌∷◌, ◌++◌, length, map, slice_get, Option, None, Some, Ok, Err, refl, ap, sym, ◌∙◌, subst, arith, append_assoc, length-append}
-use Rattle.std.specs.Option.{MatchOption}
-use Rattle.std.proofs.lemmas.Bool.{eq-eqb}
-use Rattle.std.proofs.lemmas.List.{append-nil}
-use Rattle.cj_model.specs.declared.request.Act.{Act}
-use Rattle.cj_model.specs.declared.request.Entry.{Entry}
-use Rattle.cj_model.specs.declared.answer.Reply.{Reply}
-use Rattle.cj_model.specs.Sql.PlainRequests.{request_of}
-use Rattle.cj_cluster.specs.declared.event.Event.{Event}
-use Rattle.cj_cluster.specs.declared.event.Event.TheVariants.{Sched, Ended, ReadFailed, LogFailed}
-use Rattle.cj_cluster.specs.declared.moves.Move.TheVariants.{End}
-use Rattle.cj_cluster.specs.declared.moves.Moved.TheVariants.{Replied}
-use Rattle.cj_cluster.specs.declared.moves.MoveError.TheVariants.{NotNow}
-use Rattle.cj_cluster.specs.declared.moves.OpenSession.{OpenSession}
+use Rattle.cj_core.proofs.Common.{Act, AddsEntry, AnswersEntry, append-nil, between_follows, between_fresh, Call, call_of_entry, Core, CoreInvariant, desk_of, enabled-push, End, Ended, ended_count, ended_for, EndsEntry, entries-same, entries-sched, Entry, entry_count_of, entry_in_progress}
+use Rattle.cj_core.proofs.Common.{entry_of_call, EntryTaken, eq-eqb, Event, events_left, first_lagging, FitsTx, follows_own, follows_rest, free-same, get_left, get_seam, HasFailedSince, HasServer, is_enabled, is_entry_of, is_idle, is_open, is_waiting, IsBetweenReplies, IsEntryNumber, log}
+use Rattle.cj_core.proofs.Common.{log-same, log-sched, log_failure_of, LogFailed, mask_with, MatchOption, MovesTo, not_now, NotNow, opened-free, OpenSession, prefix_self, query_skipped, ReadFailed, Replied, Reply, reply_given, request_of, Sched, scheduled_as, seen_at, seen_sched}
+use Rattle.cj_core.proofs.Common.{cond_both, session_at, SessionView, SoloState, SoloSteps, StandsBetweenCalls, tells_log_failure, Turn, tx_after_entry, tx_after_write, tx_of, tx_of_own, with_core, with_end, with_one_request, with_request_counted, WorldState}
 use Rattle.cj_cluster.specs.declared.moves.Why.{Why}
-use Rattle.cj_cluster.specs.History.Answering.{HasServer, AnswersEntry}
-use Rattle.cj_cluster.specs.History.Histories.{log, ended_count, is_idle, is_enabled, entry_in_progress, events_left, tx_of}
-use Rattle.cj_cluster.specs.History.Legality.{FitsTx}
-use Rattle.cj_cluster.specs.History.Turns.{SessionView, Call, Turn, entry_of_call, entry_count_of, tx_after_entry}
-use Rattle.cj_cluster.specs.Moves.Cores.{Core, session_at, is_entry_of}
-use Rattle.cj_cluster.specs.Moves.Moves.{MovesTo, EndsEntry, is_open, is_waiting, not_now, first_lagging, scheduled_as, ended_for, with_end, with_one_request, with_request_counted}
-use Rattle.cj_cluster.specs.Moves.Runs.{call_of_entry, reply_given, seen_at, HasFailedSince, IsBetweenReplies}
-use Rattle.cj_cluster.specs.Proving.Invariants.{CoreInvariant}
 use Rattle.cj_cluster.proofs.Answered.{After, moves_after}
-use Rattle.cj_cluster.proofs.Between.{follows_own, follows_rest, between_follows, between_fresh, seen_sched}
-use Rattle.cj_cluster.proofs.OwnTransactions.{tx_of_own}
-use Rattle.cj_cluster.proofs.Pushed.{prefix_self, enabled-push, log-sched, log-same, opened-free, free-same, get_left, get_seam}
-use Rattle.cj_cluster.proofs.TurnCases.{entries-same, entries-sched}
-use Rattle.cj_desk.specs.DeskStates.{query_skipped, tx_after_write, IsEntryNumber}
-use Rattle.cj_state.specs.Effects.{with_core}
-use Rattle.cj_state.specs.Worlds.{WorldState}
-use Rattle.cj_core.specs.Solos.{SoloState, SoloSteps, StandsBetweenCalls, AddsEntry, desk_of, log_failure_of, mask_with, tells_log_failure}
-use Rattle.cj_core.specs.Proving.SoloParts.{EntryTaken}
 
 -- ---- each call steps as every desk does, and what it does besides
 
@@ -134,11 +108,8 @@ failed_now front h s q b low =
 
 -- a refused one leaves what a failure of the log's store leaves
 pub refused_keeps : {T : Type 0} (part : List Event → T) (s : ℕ) (c : Call) → ((h : List Event) → part (h ++ LogFailed s c.number ∷ []) ≡ part h) → (h g : List Event) → g ≡ h ++ log_failure_of s c → part g ≡ part h
-refused_keeps part s c same h g is = ap part is ∙ either (tells_log_failure c.reply)
-  where
-    either : (t : Bool) → part (h ++ cond t (LogFailed s c.number ∷ []) []) ≡ part h
-    either true = same h
-    either false = ap part (append-nil h)
+refused_keeps part s c same h g is =
+    ap part is ∙ cond_both (tells_log_failure c.reply) (LogFailed s c.number ∷ []) [] (λ (es : List Event). part (h ++ es) ≡ part h) (λ _. same h) (λ _. ap part (append-nil h))
 
 -- the log among it
 log_refused : (s : ℕ) (c : Call) (h g : List Event) → g ≡ h ++ log_failure_of s c → log g ≡ log h

@@ -1,47 +1,12 @@
 -- A session's write over a whole world, from its entry to the end of that.
-use Rattle.std.proofs.Common.{◌≡◌, ◌⊎◌, ◌≢◌, ℕ, suc, ◌+◌, ◌<◌, ◌≤◌, ◌==◌, ◌&&◌, Bool, true, false, cond, is_some, List, [], ◌∷◌, ◌++◌, length, Option, Some, Ok, Err, refl, ap, sym, ◌∙◌, subst, ⊎_elim, append_assoc, arith}
-use Rattle.std.specs.Option.{option_map_or}
-use Rattle.std.proofs.lemmas.Bool.{eq-eqb, ne_eqb}
-use Rattle.std.proofs.lemmas.List.{append-nil}
-use Rattle.std.proofs.lemmas.List.Elements.{All-nil}
-use Rattle.cj_model.specs.declared.request.Act.{Act}
-use Rattle.cj_model.specs.declared.request.Entry.{Entry}
-use Rattle.cj_model.specs.declared.answer.Refusal.{Refusal}
-use Rattle.cj_model.specs.declared.answer.Reply.{Reply}
-use Rattle.cj_model.specs.declared.answer.Reply.TheVariants.{Refused}
-use Rattle.cj_model.specs.declared.codes.TheConstants.{LOG_FAULT, NO_BACKEND, NO_MEMORY, STARVED_ALL, UNFINISHED}
-use Rattle.cj_model.specs.declared.answer.Outcome.{Outcome}
+use Rattle.std.proofs.Common.{◌≡◌, ◌⊎◌, inl, inr, ℕ, suc, ◌+◌, ◌<◌, ◌≤◌, ◌==◌, ◌&&◌, Bool, true, false, cond, is_some, List, [], ◌∷◌, ◌++◌, length, Option, Some, Ok, Err, refl, ap, sym, ◌∙◌, subst, ⊎_elim, append_assoc, arith}
+use Rattle.cj_core.proofs.Common.{accounts_of, Act, act_of, act_of_request, AddsEntry, AddsOwnEvents, All-nil, answered_at, AnswersEntry, append-nil, AreBackendsOf, AreCalledFor, Call, call_of, Core, CoreInvariant, Ended, ended_for, Entry, entry_in_progress, entry_of_call, EntryEnded}
+use Rattle.cj_core.proofs.Common.{EntryRefused, EntryScheduled, eq-eqb, Event, events_left, faults_counted, faults_of, FitsTx, follows_own, follows_rest, free-ended, free-same, free-sched, happened, HasNoRoomFor, HasServer, is_entry_of, is_idle}
+use Rattle.cj_core.proofs.Common.{is_open, is_open-with, is_waiting, IsOutcome, IsReadAtEnd, IsSameButLog, last_number, legal_push, log, log_failed_in, log_failure_of, LOG_FAULT, log_faults_after, LogFailed, logins_of, LogView, mask_with, ne_eqb, open_tx, open_user}
+use Rattle.cj_core.proofs.Common.{cond_both, opened-sched, OpenSession, option_map_or, Outcome, outcome_reply, own_entry, own_tx, Placement, prefix_self, Refusal, refusal_of_code, Refused, Reply, request_of, Rests, Sched, scheduled_as, SchedulesAs, SchedulesOrRefuses, seen_at, session_at}
+use Rattle.cj_core.proofs.Common.{session_owes, SessionView, StandsBetweenCalls, tells_log_failure, Turn, turn_full, turn_log_fault, turn_starved, turn_unserved, with_cache, with_core, with_one_request, with_request_counted, WorldState, WorldTurn}
 use Rattle.cj_model.specs.declared.answer.Outcome.TheVariants as outcome
-use Rattle.cj_model.specs.Database.Outcomes.{IsOutcome}
-use Rattle.cj_model.specs.Wire.Replies.{outcome_reply}
-use Rattle.cj_model.specs.Database.Inserts.{refusal_of_code}
-use Rattle.cj_model.specs.Cluster.Placements.{Placement}
-use Rattle.cj_model.specs.Sql.PlainRequests.{act_of, request_of}
-use Rattle.cj_cluster.specs.declared.event.Event.{Event}
-use Rattle.cj_cluster.specs.declared.event.Event.TheVariants.{Sched, Ended, LogFailed}
-use Rattle.cj_cluster.specs.declared.moves.OpenSession.{OpenSession}
-use Rattle.cj_cluster.specs.History.Histories.{log, is_idle, entry_in_progress, events_left}
-use Rattle.cj_cluster.specs.History.Answering.{AnswersEntry, Finished, HasServer, HasNoServer, Unfinished}
-use Rattle.cj_cluster.specs.History.Legality.{FitsTx}
-use Rattle.cj_cluster.specs.History.Turns.{SessionView, Call, HasNoRoomFor, Turn, entry_of_call}
-use Rattle.cj_cluster.specs.Moves.Cores.{Core, is_entry_of, session_at}
-use Rattle.cj_cluster.specs.Moves.Moves.{is_open, is_waiting, happened, history_full, open_tx, scheduled_as, with_request_counted, ended_for, with_one_request, answered_at, last_number}
-use Rattle.cj_cluster.specs.Moves.Runs.{seen_at}
-use Rattle.cj_cluster.specs.Proving.Invariants.{CoreInvariant}
-use Rattle.cj_cluster.proofs.Between.{follows_own, follows_rest, session_owes}
-use Rattle.cj_cluster.proofs.OwnTransactions.{own_tx}
-use Rattle.cj_cluster.proofs.Pushed.{prefix_self, free-ended, free-same, free-sched, legal_push, opened-sched}
-use Rattle.cj_cluster.proofs.Sessions.{is_open-with}
 use Rattle.cj_cluster.proofs.Standing.{open_above}
-use Rattle.cj_cluster.proofs.TurnCases.{Rests, act_of_request, turn_unserved, turn_full, turn_log_fault, turn_starved}
-use Rattle.cj_state.specs.Faults.{faults_of}
-use Rattle.cj_state.specs.Effects.{SchedulesAs, with_core}
-use Rattle.cj_state.specs.CalledLogins.{logins_of}
-use Rattle.cj_core.specs.Solos.{AreBackendsOf, AreCalledFor, StandsBetweenCalls, WorldTurn, AddsEntry, AddsOwnEvents, IsReadAtEnd, faults_counted, log_failed_in, log_failure_of, mask_with, tells_log_failure}
-use Rattle.cj_core.specs.Proving.SoloParts.{EntryEnded, EntryRefused, EntryScheduled, SchedulesOrRefuses, call_of, open_user}
-use Rattle.cj_state.specs.Effects.{own_entry}
-use Rattle.cj_state.specs.Worlds.{IsSameButLog, LogView, WorldState, accounts_of, with_cache}
-use Rattle.cj_moves.specs.Counting.{log_faults_after}
 use Rattle.cj_core.proofs.SoloLogins.{called_none}
 use Rattle.cj_core.proofs.SoloTurns.{between_scheduled, between_taken, turn_ended}
 
@@ -51,11 +16,8 @@ outcome_without (outcome.Done n) possible = refl
 outcome_without (outcome.Refused r) possible = let high : r.code ≤ 29 = possible.1 in ne_eqb r.code LOG_FAULT (λ is. omega (arith, is))
 
 answered_without : (tells : Bool) (p : Placement) (then h : List Event) (i : ℕ) (e : Entry) (reply : Reply) → AnswersEntry tells p then h i e reply → tells_log_failure reply ≡ false
-answered_without tells p then h i e reply answer =
-    ⊎_elim (λ (f : Finished tells p then h i e reply). ap tells_log_failure f.replied ∙ outcome_without f.outcome f.possible)
-    (λ (u : Unfinished p then h i e reply).
-    ⊎_elim (λ (q : (u.failed ≢ 0) × (reply ≡ Refused (record { code = UNFINISHED; a = u.failed; b = u.starved }))). ap tells_log_failure q.1)
-    (λ (q : (u.failed ≡ 0) × (reply ≡ Refused (record { code = STARVED_ALL; a = 0; b = u.starved }))). ap tells_log_failure q.1) u.replied) answer
+answered_without tells p then h i e reply (inl f) = ap tells_log_failure f.replied ∙ outcome_without f.outcome f.possible
+answered_without tells p then h i e reply (inr u) = ⊎_elim (λ q. ap tells_log_failure q.1) (λ q. ap tells_log_failure q.1) u.replied
 
 replied_without_log : (c : Call) (act : Act) → act_of c.request ≡ Some act → tells_log_failure c.reply ≡ false → log_failed_in c ≡ false
 replied_without_log c act is none = ap (λ (o : Option Act). is_some o && tells_log_failure c.reply) is ∙ none
@@ -185,6 +147,10 @@ module _ (tells : Bool) (s tx : ℕ) (user : List ℕ) (act : Act) (reply : Repl
               (subst (λ (x : WorldState). AreCalledFor (accounts_of x) user (logins_of x.cells) (logins_of ended.mid.cells)) after ended.taken.logins);
         }
 
+-- the session has seen all that there is
+nothing_more : (c : Core) (s : ℕ) → Rests s (seen_at c s) c.history
+nothing_more c s = record { entries = refl; tx = refl; log_faults = λ q. refl }
+
 -- Nothing was scheduled, and the session counted its request.
 module _ (tells : Bool) (s tx : ℕ) (user : List ℕ) (act : Act) (old new : WorldState) (refusal : Refusal) (w : CoreInvariant old.core) (stands : StandsBetweenCalls old.core s) (fits : FitsTx (open_tx old.core s) tx act)
     (setup : new.setup ≡ old.setup) (cells : new.cells ≡ old.cells) (log_faults : new.recovery_log.faults ≡ log_faults_after old.recovery_log.faults (refusal.code == LOG_FAULT)) where
@@ -193,10 +159,6 @@ module _ (tells : Bool) (s tx : ℕ) (user : List ℕ) (act : Act) (old new : Wo
 
   own : (tx ≡ 0) ⊎ (tx ≡ open_tx old.core s)
   own = own_tx (open_tx old.core s) tx act fits
-
-  -- the session has seen all that there is
-  nothing_more : Rests s (seen_at old.core s) old.core.history
-  nothing_more = record { entries = refl; tx = refl; log_faults = λ q. refl }
 
   -- the history may have an event more
   module _ (more : List Event) (after : new.core ≡ with_request_counted (record old.core { history = old.core.history ++ more }) s) (idle : is_idle (old.core.history ++ more) ≡ true) (events : log_failure_of s refusing ≡ more)
@@ -248,16 +210,15 @@ module _ (tells : Bool) (s tx : ℕ) (user : List ℕ) (act : Act) (old new : Wo
       let ev : Event = LogFailed s refusing.number in
       let legal = legal_push old.core.history ev w.legal (omega arith) stands.idle in
       refused_as (ev ∷ []) after (free-same old.core.history ev refl refl ∙ stands.idle) (ap (λ (r : Refusal). cond (r.code == LOG_FAULT) (LogFailed s refusing.number ∷ []) []) is)
-      (turn_log_fault tells old.core.placement s (seen_at old.core s) old.core.history refusing act legal (prefix_self old.core.history) (session_owes old.core s w) nothing_more own (act_of_request act) (ap (λ r. Refused r) is)
+      (turn_log_fault tells old.core.placement s (seen_at old.core s) old.core.history refusing act legal (prefix_self old.core.history) (session_owes old.core s w) (nothing_more old.core s) own (act_of_request act) (ap (λ r. Refused r) is)
       stands.idle served space)
 
 -- between its calls the session stands where its entry was refused
 pub stands_refused : (s : ℕ) (e : Entry) (refusal : Refusal) (old mid : WorldState) → StandsBetweenCalls old.core s → EntryRefused e refusal old mid → StandsBetweenCalls mid.core s
-stands_refused s e refusal old mid stands gone = subst (λ (c : Core). StandsBetweenCalls c s) (sym (ap (λ (x : WorldState). x.core) gone.after)) (either (refusal.code == LOG_FAULT))
-  where
-    either : (t : Bool) → StandsBetweenCalls (cond t (happened old.core (LogFailed e.session e.seq)) old.core) s
-    either true = record { idle = free-same old.core.history (LogFailed e.session e.seq) refl refl ∙ stands.idle; here = stands.here; no_read = stands.no_read }
-    either false = stands
+stands_refused s e refusal old mid stands gone =
+    subst (λ (c : Core). StandsBetweenCalls c s) (sym (ap (λ (x : WorldState). x.core) gone.after))
+    (cond_both (refusal.code == LOG_FAULT) (happened old.core (LogFailed e.session e.seq)) old.core (λ (c : Core). StandsBetweenCalls c s)
+    (λ _. record { idle = free-same old.core.history (LogFailed e.session e.seq) refl refl ∙ stands.idle; here = stands.here; no_read = stands.no_read }) (λ _. stands))
 
 -- whichever it is
 module _ (tells : Bool) (s tx : ℕ) (user : List ℕ) (act : Act) (old mid new : WorldState) (refusal : Refusal) (w : CoreInvariant old.core) (stands : StandsBetweenCalls old.core s) (fits : FitsTx (open_tx old.core s) tx act)
@@ -276,33 +237,25 @@ module _ (tells : Bool) (s tx : ℕ) (user : List ℕ) (act : Act) (old mid new 
       ap (λ (x : WorldState). x.core) after ∙ ap (λ (c : Core). with_request_counted c s)
       (ap (λ (x : WorldState). x.core) gone.after ∙ ap (λ (b : Bool). cond b (happened old.core (LogFailed s ((session_at old.core s).queries + 1))) old.core) is)
 
-  nothing_since : Rests s (seen_at old.core s) old.core.history
-  nothing_since = record { entries = refl; tx = refl; log_faults = λ q. refl }
-
   abbrev call_refused : Call
   call_refused = call_of old.core s tx user (request_of act) (Refused refusal)
 
   quietly : (refusal.code == LOG_FAULT) ≡ false → Turn tells old.core.placement s (seen_at old.core s) call_refused (seen_at old.core s) → WorldTurn tells s old call_refused new
   quietly other turn = refused_quietly tells s tx user act old new refusal w stands fits setup_is cells_are faults_are other (core_is false other) turn
 
+  own_again : (tx ≡ 0) ⊎ (tx ≡ open_tx old.core s)
+  own_again = own_tx (open_tx old.core s) tx act fits
+
   pub refused : SchedulesOrRefuses old.core (own_entry old.core s tx user act) (Err refusal) → WorldTurn tells s old call_refused new
-  refused why =
-      let own : (tx ≡ 0) ⊎ (tx ≡ open_tx old.core s) = own_tx (open_tx old.core s) tx act fits in
-      let owes = session_owes old.core s w in
-      let whole = prefix_self old.core.history in
-      ⊎_elim
-      (λ (none : HasNoServer old.core.placement old.core.history (request_of act) × (refusal ≡ refusal_of_code NO_BACKEND)).
+  refused (inl none) =
       quietly (ap (λ (r : Refusal). r.code == LOG_FAULT) none.1)
-      (turn_unserved tells old.core.placement s (seen_at old.core s) old.core.history w.legal whole owes nothing_since call_refused own (ap (λ r. Refused r) none.1) none.0))
-      (⊎_elim
-      (λ (full : HasServer old.core.placement old.core.history (request_of act) × (events_left old.core.history < 3) × (refusal ≡ history_full old.core)).
+      (turn_unserved tells old.core.placement s (seen_at old.core s) old.core.history w.legal (prefix_self old.core.history) (session_owes old.core s w) (nothing_more old.core s) call_refused own_again (ap (λ r. Refused r) none.1) none.0)
+  refused (inr (inl full)) =
       quietly (ap (λ (r : Refusal). r.code == LOG_FAULT) full.2)
-      (turn_full tells old.core.placement s (seen_at old.core s) old.core.history w.legal whole owes nothing_since call_refused own (ap (λ r. Refused r) full.2) full.0
-      (subst (HasNoRoomFor old.core.history) (sym (act_of_request act)) (stands.idle, full.1))))
-      (⊎_elim
-      (λ (want : refusal ≡ refusal_of_code NO_MEMORY).
+      (turn_full tells old.core.placement s (seen_at old.core s) old.core.history w.legal (prefix_self old.core.history) (session_owes old.core s w) (nothing_more old.core s) call_refused own_again (ap (λ r. Refused r) full.2) full.0
+      (subst (HasNoRoomFor old.core.history) (sym (act_of_request act)) (stands.idle, full.1)))
+  refused (inr (inr (inl want))) =
       quietly (ap (λ (r : Refusal). r.code == LOG_FAULT) want)
-      (turn_starved tells old.core.placement s (seen_at old.core s) old.core.history w.legal whole owes nothing_since call_refused own (ap (λ r. Refused r) want)))
-      (λ (faulted : HasServer old.core.placement old.core.history (request_of act) × (3 ≤ events_left old.core.history) × (refusal ≡ refusal_of_code LOG_FAULT)).
-      refused_by_log tells s tx user act old new refusal w stands fits setup_is cells_are faults_are faulted.2 faulted.0 faulted.1 (core_is true (ap (λ (r : Refusal). r.code == LOG_FAULT) faulted.2)))))
-      why
+      (turn_starved tells old.core.placement s (seen_at old.core s) old.core.history w.legal (prefix_self old.core.history) (session_owes old.core s w) (nothing_more old.core s) call_refused own_again (ap (λ r. Refused r) want))
+  refused (inr (inr (inr faulted))) =
+      refused_by_log tells s tx user act old new refusal w stands fits setup_is cells_are faults_are faulted.2 faulted.0 faulted.1 (core_is true (ap (λ (r : Refusal). r.code == LOG_FAULT) faulted.2))

@@ -1,21 +1,8 @@
 -- Backends are enabled in a start, one after another.
-use Rattle.std.proofs.Common.{◌≡◌, ◌≢◌, ℕ, ◌+◌, ◌<◌, ◌≤◌, ◌==◌, ◌||◌, Bool, true, false, List, [], ◌∷◌, ◌++◌, All, length, map, get_or, Option, None, Some, is_some, refl, ap, sym, ◌∙◌, subst, arith, append_assoc, append-nil, ⊎_elim}
-use Rattle.std.specs.List.{AllPairs}
+use Rattle.std.proofs.Common.{◌≡◌, ◌≢◌, ℕ, ◌+◌, ◌<◌, ◌≤◌, ◌==◌, ◌||◌, Bool, true, false, List, [], ◌∷◌, ◌++◌, All, length, map, get_or, Option, None, Some, is_some, refl, ap, sym, ◌∙◌, subst, arith, append_assoc, append-nil, below_more}
+use Rattle.cj_core.proofs.Common.{All-nil, All-push, Enabled, enabled-push, enabled_where, EnabledTo, Entry, eq-eqb, Event, free-same, happened, is_enabled, is_idle, last_number, log, log-same, map_push, ne_eqb, position_at, with_core, WorldState}
 use Rattle.std.proofs.Math.Bool.{or-false}
-use Rattle.std.proofs.lemmas.Bool.{cases_lt, eq-eqb, ne_eqb}
-use Rattle.std.proofs.lemmas.List.{map_push}
-use Rattle.std.proofs.lemmas.List.Elements.{All-nil, All-push}
 use Rattle.std.proofs.lemmas.List.Quantifiers.{all_pairs_push}
-use Rattle.cj_model.specs.declared.request.Entry.{Entry}
-use Rattle.cj_cluster.specs.declared.event.Event.{Event}
-use Rattle.cj_cluster.specs.declared.event.Event.TheVariants.{Enabled}
-use Rattle.cj_cluster.specs.History.Histories.{log, is_idle, is_enabled}
-use Rattle.cj_cluster.specs.Moves.Cores.{Core, position_at}
-use Rattle.cj_cluster.specs.Moves.Moves.{happened, last_number}
-use Rattle.cj_cluster.proofs.Pushed.{enabled-push, free-same, log-same}
-use Rattle.cj_state.specs.Effects.{with_core}
-use Rattle.cj_state.specs.Worlds.{WorldState}
-use Rattle.cj_core.specs.Proving.StartParts.{EnabledTo, enabled_where}
 
 -- at first none is
 pub enabled_none : (w : WorldState) → is_idle w.core.history ≡ true → ((b : ℕ) → is_enabled w.core.history b ≡ false) → EnabledTo w w 0
@@ -53,12 +40,8 @@ module _ (old now : WorldState) (i : ℕ) (to : EnabledTo old now i) where
         idle = to.idle;
         entries = to.entries;
         on =
-            λ b lt.
-            ⊎_elim (λ (before : b < i). to.on b before)
-            (λ (last : i ≤ b).
-            let e : i ≡ b = omega arith in
-            let le : i ≤ i = omega arith in
-            subst (λ (k : ℕ). is_enabled now.core.history k ≡ is_some (position_at old.core k)) e (to.off i le ∙ sym (ap (λ (o : Option ℕ). is_some o) none))) (cases_lt b i);
+            below_more (λ (b : ℕ). is_enabled now.core.history b ≡ is_some (position_at old.core b)) i to.on
+            (let le : i ≤ i = omega arith in to.off i le ∙ sym (ap (λ (o : Option ℕ). is_some o) none));
         off = λ b le. let later : i ≤ b = omega arith in to.off b later;
       }
 
@@ -92,11 +75,8 @@ module _ (old now : WorldState) (i : ℕ) (to : EnabledTo old now i) where
           idle = ap (λ (h : List Event). is_idle h) history ∙ (free-same now.core.history (Enabled i) refl refl ∙ to.idle);
           entries = ap (λ (h : List Event). log h) history ∙ (log-same now.core.history (Enabled i) refl ∙ to.entries);
           on =
-              λ b lt.
-              ⊎_elim (λ (before : b < i). let ne : b ≢ i = λ e. absurd (omega (arith, e)) in other b ne ∙ to.on b before)
-              (λ (last : i ≤ b).
-              let e : i ≡ b = omega arith in
-              subst (λ (k : ℕ). is_enabled new.core.history k ≡ is_some (position_at old.core k)) e (itself ∙ sym (ap (λ (o : Option ℕ). is_some o) there))) (cases_lt b i);
+              below_more (λ (b : ℕ). is_enabled new.core.history b ≡ is_some (position_at old.core b)) i
+              (λ b before. let ne : b ≢ i = λ e. absurd (omega (arith, e)) in other b ne ∙ to.on b before) (itself ∙ sym (ap (λ (o : Option ℕ). is_some o) there));
           off =
               λ b le.
               let later : i ≤ b = omega arith in

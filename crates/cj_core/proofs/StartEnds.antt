@@ -1,37 +1,11 @@
 -- Transactions are ended in a start, one after another.
-use Rattle.std.proofs.Common.{◌≡◌, ◌≢◌, ◌⊎◌, inl, inr, ℕ, ◌+◌, ◌-◌, ◌<◌, ◌≤◌, ◌==◌, ◌&&◌, ◌||◌, not, Bool, true, false, cond, List, [], ◌∷◌, ◌++◌, length, map, get_or, slice_get, Option, None, Some, is_some, refl, ap, sym, ◌∙◌, subst, arith, append_assoc, append-nil, length-append, ⊎_elim}
-use Rattle.std.specs.List.{filter, filter_map, range_with_len}
-use Rattle.std.proofs.lemmas.Bool.{cases_eq, cases_lt, cond-false, cond-true, ne_eqb}
-use Rattle.std.proofs.lemmas.List.{map-id}
-use Rattle.std.proofs.lemmas.List.Elements.{filter_map-append}
-use Rattle.std.proofs.lemmas.List.FromFn.{filter_of_map_range_with_len_more}
-use Rattle.std.proofs.lemmas.Option.{slice_get-get_or}
-use Rattle.cj_model.specs.declared.request.Act.TheVariants as act
-use Rattle.cj_model.specs.declared.request.Entry.{Entry}
-use Rattle.cj_model.specs.Cluster.Masks.{in_mask}
-use Rattle.cj_model.proofs.Masks.{has-zero}
-use Rattle.cj_cluster.specs.declared.event.Event.{Event}
-use Rattle.cj_cluster.specs.declared.event.Event.TheVariants.{Sched, Ended}
-use Rattle.cj_cluster.specs.declared.moves.OpenSession.{OpenSession}
-use Rattle.cj_cluster.specs.History.Histories.{log, is_idle, is_enabled, entry_in_progress, scheduled_entry, tx_of}
-use Rattle.cj_cluster.specs.Moves.Cores.{Core, find_session, is_entry_of, position_at, with_session}
-use Rattle.cj_cluster.specs.Moves.Moves.{abort_entry, answered_at, ended_for, entry_numbered, first_lagging, is_open, is_orphan, is_orphan_of, is_waiting, last_number, with_entry}
-use Rattle.cj_cluster.proofs.Effects.{is_there}
-use Rattle.cj_cluster.proofs.Now.{all_at_end}
-use Rattle.cj_cluster.proofs.Pushed.{enabled-push, free-ended, free-sched, get_left, log-same, log-sched, opened-sched}
-use Rattle.cj_cluster.proofs.TransactionLaws.{tx_of_end, tx_of_end_other}
-use Rattle.cj_replica.specs.Cells.{CellState}
-use Rattle.cj_state.specs.Effects.{with_core}
-use Rattle.cj_state.specs.Faults.{faults_of}
-use Rattle.cj_state.specs.Worlds.{IsSameButLog, IsWorld, WorldState}
-use Rattle.cj_core.specs.Starts.{AbortsEach, StandsAfterStart, with_abort}
-use Rattle.cj_core.specs.Proving.StartParts.{AllStand, AreStanding, EndedTo, EndedWhere, FailedInIt, HasDone, HasFailedOut, HasTaken, IsDue, IsSameCluster, OnlyTakes, StandsBefore, StandsBehind, TakesPast, TransactionEnded, WasOut}
-use Rattle.cj_core.proofs.StartReplays.{same_some}
+use Rattle.std.proofs.Common.{◌≡◌, ◌≢◌, inl, inr, ℕ, ◌+◌, ◌-◌, ◌<◌, ◌≤◌, ◌==◌, ◌&&◌, ◌||◌, not, Bool, true, false, cond, List, [], ◌∷◌, ◌++◌, length, get_or, slice_get, Option, None, Some, is_some, refl, ap, sym, ◌∙◌, subst, arith, append_assoc, append-nil, length-append, ⊎_elim}
+use Rattle.cj_core.proofs.Common.{abort_entry, AbortsEach, all_at_end, AllStand, answered_at, AreStanding, cases_eq, cond-false, Core, enabled-push, Ended, ended_for, EndedTo, EndedWhere, Entry, entry_in_progress, entry_numbered, Event}
+use Rattle.cj_core.proofs.Common.{faults_of, filter, filter_map-append, filter_of_map_range_with_len_more, find_session, first_lagging, free-ended, free-sched, get_left, has-zero, in_mask, is_enabled, is_entry_of, is_idle, is_open, is_orphan}
+use Rattle.cj_core.proofs.Common.{is_orphan_of, is_there, is_waiting, IsSameButLog, IsSameCluster, IsWorld, last_number, log, log-same, log-sched, map-id, ne_eqb, OnlyTakes, opened-sched, OpenSession, position_at, range_with_len, Sched, scheduled_entry, slice_get-get_or}
+use Rattle.cj_core.proofs.Common.{StandsAfterStart, StandsBefore, StandsBehind, TakesPast, TransactionEnded, tx_of, tx_of_end, tx_of_end_other, with_abort, with_core, with_entry, with_session, WorldState}
 
 -- ---- one transaction
-
-abbrev HasCaughtUp : List ℕ → WorldState → ℕ → Type 0
-HasCaughtUp faults w b = (is_enabled w.core.history b ≡ true) × (position_at w.core b ≡ Some (last_number w.core)) × (slice_get (faults_of w.cells) b ≡ slice_get faults b)
 
 module _ (tx : ℕ) (old sched : WorldState) (came : IsSameButLog (with_core old (with_entry old.core (abort_entry old.core tx))) sched) where
   abbrev entry : Entry
@@ -39,9 +13,6 @@ module _ (tx : ℕ) (old sched : WorldState) (came : IsSameButLog (with_core old
 
   core_then : sched.core ≡ with_entry old.core entry
   core_then = ap (λ (w : WorldState). w.core) came
-
-  cells_then : sched.cells ≡ old.cells
-  cells_then = ap (λ (w : WorldState). w.cells) came
 
   history_then : sched.core.history ≡ old.core.history ++ Sched entry ∷ []
   history_then = ap (λ (c : Core). c.history) core_then
@@ -62,13 +33,11 @@ module _ (tx : ℕ) (old sched : WorldState) (came : IsSameButLog (with_core old
   unmasked_then b = ap (λ (c : Core). in_mask c.failed b) core_then ∙ has-zero b
 
   counted_then : (b : ℕ) → slice_get (faults_of sched.cells) b ≡ slice_get (faults_of old.cells) b
-  counted_then b = ap (λ (cells : List CellState). slice_get (faults_of cells) b) cells_then
+  counted_then b = ap (λ (w : WorldState). slice_get (faults_of w.cells) b) came
 
   -- each backend that stands as after a start, stands before the entry
   before_it : (faults : List ℕ) (b : ℕ) → StandsAfterStart faults old b → StandsBefore faults sched b
-  before_it faults b stands =
-      ⊎_elim
-      (λ (there : HasCaughtUp faults old b).
+  before_it faults b (inl there) =
       inl
       (record {
         on = on_then b ∙ there.0;
@@ -76,13 +45,11 @@ module _ (tx : ℕ) (old sched : WorldState) (came : IsSameButLog (with_core old
         taken = record { position = position_then b ∙ there.1; counted = counted_then b ∙ there.2 };
         next = last_then;
         unmasked = unmasked_then b;
-      }))
-      (λ out. inr (record { off = on_then b ∙ out.0; out = record { position = position_then b ∙ out.1; counted = counted_then b ∙ out.2 }; unmasked = unmasked_then b })) stands
+      })
+  before_it faults b (inr out) =
+      inr (record { off = on_then b ∙ out.0; out = record { position = position_then b ∙ out.1; counted = counted_then b ∙ out.2 }; unmasked = unmasked_then b })
 
   module _ (mid : WorldState) (only : OnlyTakes sched mid) (all : (b : ℕ) → b < sched.core.placement.backends → TakesPast sched mid b) (starved : mid.core.starved ≡ sched.core.starved) where
-    placement_then : sched.core.placement ≡ old.core.placement
-    placement_then = ap (λ (c : Core). c.placement) core_then
-
     -- and behind it
     behind_it : (faults : List ℕ) → AllStand faults old → (b : ℕ) → b < old.core.placement.backends → StandsBehind faults mid b
     behind_it faults stands b lt = all b (subst (λ p. b < p) (sym (ap (λ (c : Core). c.placement.backends) core_then)) lt) faults (before_it faults b (stands b lt))
@@ -101,11 +68,9 @@ module _ (tx : ℕ) (old sched : WorldState) (came : IsSameButLog (with_core old
     taken_waits idle = ap (λ (h : List Event). is_entry_of 0 (entry_in_progress h)) history_mid ∙ ap (λ (o : Option Entry). is_entry_of 0 o) (opened-sched old.core.history entry idle)
 
     at_end : (faults : List ℕ) (b q : ℕ) → position_at mid.core b ≡ Some q → StandsBehind faults mid b → q ≡ last_number mid.core
-    at_end faults b q at behind =
-        ⊎_elim (λ (done : HasDone faults mid b). same_some q (last_number mid.core) (sym at ∙ done.taken.position))
-        (λ (others : FailedInIt faults mid b ⊎ WasOut faults mid b).
-        ⊎_elim (λ (failed : FailedInIt faults mid b). absurd (cc (sym at ∙ failed.out.position))) (λ (was : WasOut faults mid b). absurd (cc (sym at ∙ was.out.position))) others)
-        behind
+    at_end faults b q at (inl done) = cc (at, done.taken.position)
+    at_end faults b q at (inr (inl failed)) = absurd (cc (at, failed.out.position))
+    at_end faults b q at (inr (inr was)) = absurd (cc (at, was.out.position))
 
     -- and no backend lags
     pub taken_by_all : (tells : Bool) → IsWorld tells mid → AreStanding old → first_lagging mid.core.history 0 mid.core.positions ≡ None
@@ -118,77 +83,56 @@ module _ (tx : ℕ) (old sched : WorldState) (came : IsSameButLog (with_core old
         let within : b < old.core.placement.backends = omega arith in
         at_end standing.0 b q at (behind_it standing.0 standing.1 b within))
 
-    module _ (new : WorldState) (ended : new ≡ with_core mid (ended_for mid.core 0)) where
-      history_new : new.core.history ≡ mid.core.history ++ Ended mid.core.failed mid.core.starved ∷ []
-      history_new = ap (λ (w : WorldState). w.core.history) ended
+    -- the world behind the entry's end
+    abbrev closed : WorldState
+    closed = with_core mid (ended_for mid.core 0)
 
-      none_starved : mid.core.starved ≡ 0
-      none_starved = starved ∙ ap (λ (c : Core). c.starved) core_then
+    none_starved : mid.core.starved ≡ 0
+    none_starved = starved ∙ ap (λ (c : Core). c.starved) core_then
 
-      history_whole : new.core.history ≡ with_abort old.core.history tx mid.core.failed
-      history_whole =
-          history_new
-          ∙ (ap (λ (h : List Event). h ++ Ended mid.core.failed mid.core.starved ∷ []) history_mid
-          ∙ (append_assoc old.core.history (Sched entry ∷ []) (Ended mid.core.failed mid.core.starved ∷ []) ∙ ap (λ (s : ℕ). old.core.history ++ Sched entry ∷ Ended mid.core.failed s ∷ []) none_starved))
+    history_whole : closed.core.history ≡ with_abort old.core.history tx mid.core.failed
+    history_whole =
+        ap (λ (h : List Event). h ++ Ended mid.core.failed mid.core.starved ∷ []) history_mid
+        ∙ (append_assoc old.core.history (Sched entry ∷ []) (Ended mid.core.failed mid.core.starved ∷ []) ∙ ap (λ (s : ℕ). old.core.history ++ Sched entry ∷ Ended mid.core.failed s ∷ []) none_starved)
 
-      position_new : (b : ℕ) → position_at new.core b ≡ position_at mid.core b
-      position_new b = ap (λ (w : WorldState). position_at w.core b) ended
+    last_new : last_number closed.core ≡ last_number mid.core
+    last_new = ap (λ (entries : List Entry). length entries) (log-same mid.core.history (Ended mid.core.failed mid.core.starved) refl)
 
-      last_new : last_number new.core ≡ last_number mid.core
-      last_new = ap (λ (h : List Event). length (log h)) history_new ∙ ap (λ (entries : List Entry). length entries) (log-same mid.core.history (Ended mid.core.failed mid.core.starved) refl)
+    on_new : (b : ℕ) (on failed : Bool) → is_enabled mid.core.history b ≡ on → in_mask mid.core.failed b ≡ failed → is_enabled closed.core.history b ≡ (on && not (failed || false))
+    on_new b on failed is masked =
+        enabled-push mid.core.history (Ended mid.core.failed mid.core.starved) b
+        ∙ (ap (λ (o : Bool). o && not (in_mask mid.core.failed b || in_mask mid.core.starved b)) is
+        ∙ (ap (λ (f : Bool). on && not (f || in_mask mid.core.starved b)) masked
+        ∙ ap (λ (s : Bool). on && not (failed || s)) (ap (λ (m : ℕ). in_mask m b) none_starved ∙ has-zero b)))
 
-      counted_new : (b : ℕ) → slice_get (faults_of new.cells) b ≡ slice_get (faults_of mid.cells) b
-      counted_new b = ap (λ (w : WorldState). slice_get (faults_of w.cells) b) ended
+    -- each backend stands as after a start again
+    after_it : (faults : List ℕ) (b : ℕ) → StandsBehind faults mid b → StandsAfterStart faults closed b
+    after_it faults b (inl done) = inl (on_new b true false done.on done.unmasked, done.taken.position ∙ ap (λ (n : ℕ). Some n) (sym last_new), done.taken.counted)
+    after_it faults b (inr (inl failed)) = inr (on_new b true true failed.on failed.masked, failed.out.position, failed.out.counted)
+    after_it faults b (inr (inr was)) = inr (on_new b false false was.off was.unmasked, was.out.position, was.out.counted)
 
-      on_new : (b : ℕ) (on failed : Bool) → is_enabled mid.core.history b ≡ on → in_mask mid.core.failed b ≡ failed → is_enabled new.core.history b ≡ (on && not (failed || false))
-      on_new b on failed is masked =
-          ap (λ (h : List Event). is_enabled h b) history_new
-          ∙ (enabled-push mid.core.history (Ended mid.core.failed mid.core.starved) b
-          ∙ (ap (λ (o : Bool). o && not (in_mask mid.core.failed b || in_mask mid.core.starved b)) is
-          ∙ (ap (λ (f : Bool). on && not (f || in_mask mid.core.starved b)) masked
-          ∙ ap (λ (s : Bool). on && not (failed || s)) (ap (λ (m : ℕ). in_mask m b) none_starved ∙ has-zero b))))
+    sessions_mid : mid.core.sessions ≡ old.core.sessions
+    sessions_mid = ap (λ (c : Core). c.sessions) only.core ∙ ap (λ (c : Core). c.sessions) core_then
 
-      -- each backend stands as after a start again
-      after_it : (faults : List ℕ) (b : ℕ) → StandsBehind faults mid b → StandsAfterStart faults new b
-      after_it faults b behind =
-          ⊎_elim
-          (λ (done : HasDone faults mid b).
-          inl (on_new b true false done.on done.unmasked, position_new b ∙ (done.taken.position ∙ ap (λ (n : ℕ). Some n) (sym last_new)), counted_new b ∙ done.taken.counted))
-          (λ (others : FailedInIt faults mid b ⊎ WasOut faults mid b).
-          ⊎_elim
-          (λ (failed : FailedInIt faults mid b). inr (on_new b true true failed.on failed.masked, position_new b ∙ failed.out.position, counted_new b ∙ failed.out.counted))
-          (λ (was : WasOut faults mid b). inr (on_new b false false was.off was.unmasked, position_new b ∙ was.out.position, counted_new b ∙ was.out.counted)) others)
-          behind
-
-      backends_new : new.core.placement.backends ≡ old.core.placement.backends
-      backends_new = ap (λ (w : WorldState). w.core.placement.backends) ended ∙ backends_mid
-
-      sessions_mid : mid.core.sessions ≡ old.core.sessions
-      sessions_mid = ap (λ (c : Core). c.sessions) only.core ∙ ap (λ (c : Core). c.sessions) core_then
-
-      sessions_new : old.core.sessions ≡ [] → new.core.sessions ≡ old.core.sessions
-      sessions_new alone =
-          ap (λ (w : WorldState). w.core.sessions) ended
-          ∙ (ap (λ (ss : List OpenSession). with_session ss 0 (answered_at (last_number mid.core))) (sessions_mid ∙ alone) ∙ sym alone)
-
-      -- the transaction was ended
-      pub transaction_ended : (tells : Bool) → IsWorld tells mid → is_idle old.core.history ≡ true → old.core.sessions ≡ [] → TransactionEnded tx old new
-      transaction_ended tells world idle alone =
-          let one = world.sound.one_open in
-          record {
-            failed = mid.core.failed;
-            history = history_whole;
-            idle = ap (λ (h : List Event). is_idle h) history_new ∙ free-ended mid.core.history mid.core.failed mid.core.starved (taken_open idle) one.0 one.1;
-            same =
-                record {
-                  placement = ap (λ (w : WorldState). w.core.placement) ended ∙ (ap (λ (c : Core). c.placement) only.core ∙ ap (λ (c : Core). c.placement) core_then);
-                  sessions = sessions_new alone;
-                  greatest = ap (λ (w : WorldState). w.core.greatest) ended ∙ (ap (λ (c : Core). c.greatest) only.core ∙ ap (λ (c : Core). c.greatest) core_then);
-                  setup = ap (λ (w : WorldState). w.setup) ended ∙ (only.setup ∙ ap (λ (w : WorldState). w.setup) came);
-                  cache = ap (λ (w : WorldState). w.cache) ended ∙ (only.cache ∙ ap (λ (w : WorldState). w.cache) came);
-                };
-            stands = λ faults stands b lt. after_it faults b (behind_it faults stands b (subst (λ p. b < p) backends_new lt));
-          }
+    -- the transaction was ended
+    pub transaction_ended : (now : WorldState) → now ≡ with_core mid (ended_for mid.core 0) → (tells : Bool) → IsWorld tells mid → is_idle old.core.history ≡ true → old.core.sessions ≡ [] → TransactionEnded tx old now
+    transaction_ended now is tells world idle alone =
+        let one = world.sound.one_open in
+        subst (TransactionEnded tx old) (sym is)
+        (record {
+          failed = mid.core.failed;
+          history = history_whole;
+          idle = free-ended mid.core.history mid.core.failed mid.core.starved (taken_open idle) one.0 one.1;
+          same =
+              record {
+                placement = ap (λ (c : Core). c.placement) only.core ∙ ap (λ (c : Core). c.placement) core_then;
+                sessions = ap (λ (ss : List OpenSession). with_session ss 0 (answered_at (last_number mid.core))) (sessions_mid ∙ alone) ∙ sym alone;
+                greatest = ap (λ (c : Core). c.greatest) only.core ∙ ap (λ (c : Core). c.greatest) core_then;
+                setup = only.setup ∙ ap (λ (w : WorldState). w.setup) came;
+                cache = only.cache ∙ ap (λ (w : WorldState). w.cache) came;
+              };
+          stands = λ faults stands b lt. after_it faults b (behind_it faults stands b (subst (λ p. b < p) backends_mid lt));
+        })
 
 -- ---- which are open
 
@@ -200,6 +144,13 @@ numbered_still entries e n some most =
     let there : slice_get entries (n - 1) ≡ Some (get_or entries (n - 1) e) = slice_get-get_or entries (n - 1) e lt in
     cond-false (n == 0) None (slice_get (entries ++ e ∷ []) (n - 1)) (ne_eqb n 0 ne)
     ∙ (get_left entries (e ∷ []) (n - 1) (get_or entries (n - 1) e) there ∙ (sym there ∙ sym (cond-false (n == 0) None (slice_get entries (n - 1)) (ne_eqb n 0 ne))))
+
+-- an entry's transaction is open as before, where it is its session's as before and the sessions are the same
+pub orphan_of_same : (c d : Core) (t : ℕ) (o : Option Entry) → c.sessions ≡ d.sessions → ((s : ℕ) → (tx_of (log c.history) s == t) ≡ (tx_of (log d.history) s == t)) → is_orphan_of c t o ≡ is_orphan_of d t o
+orphan_of_same c d t None sessions same = refl
+orphan_of_same c d t (Some begin) sessions same =
+    ap (λ (own : Bool). own && not (is_open c begin.session)) (same begin.session)
+    ∙ ap (λ (ss : List OpenSession). (tx_of (log d.history) begin.session == t) && not (is_some (find_session ss begin.session))) sessions
 
 module _ (old new : WorldState) (tx failed : ℕ) (history : new.core.history ≡ with_abort old.core.history tx failed) (sessions : new.core.sessions ≡ old.core.sessions) where
   abbrev last : Entry
@@ -224,17 +175,11 @@ module _ (old new : WorldState) (tx failed : ℕ) (history : new.core.history �
       ap (λ (n : ℕ). n == t) (ap (λ (entries : List Entry). tx_of entries s) entries_grown ∙ tx_of_end_other (log old.core.history) last s refl others))
       (cases_eq tx (tx_of (log old.core.history) s))
 
-  same_orphan : (t : ℕ) (o : Option Entry) → t ≢ tx → 0 < t → is_orphan_of new.core t o ≡ is_orphan_of old.core t o
-  same_orphan t None ne some = refl
-  same_orphan t (Some begin) ne some =
-      ap (λ (same : Bool). same && not (is_open new.core begin.session)) (same_tx begin.session t ne some)
-      ∙ ap (λ (ss : List OpenSession). (tx_of (log old.core.history) begin.session == t) && not (is_some (find_session ss begin.session))) sessions
-
   -- the others are open as before
   pub orphan_still : (t : ℕ) → t ≢ tx → 0 < t → t ≤ last_number old.core → is_orphan new.core t ≡ is_orphan old.core t
   orphan_still t ne some most =
       ap (λ (o : Option Entry). is_orphan_of new.core t o) (ap (λ (entries : List Entry). entry_numbered entries t) entries_grown ∙ numbered_still (log old.core.history) last t some most)
-      ∙ same_orphan t (entry_numbered (log old.core.history) t) ne some
+      ∙ orphan_of_same new.core old.core t (entry_numbered (log old.core.history) t) sessions (λ s. same_tx s t ne some)
 
 -- ---- all of them
 

@@ -1,31 +1,12 @@
 -- A start only adds to the history, and so to the log.
 use Rattle.std.proofs.Common.{◌≡◌, ◌⊎◌, inl, inr, ℕ, ◌+◌, Bool, false, List, [], ◌∷◌, ◌++◌, length, map, Result, Ok, Err, refl, ap, sym, ◌∙◌, subst, append_assoc}
-use Rattle.std.specs.Prelude.{IsErrAnd}
-use Rattle.std.specs.List.{fold}
+use Rattle.cj_core.proofs.Common.{AbortsEach, BookError, Core, core_aborted, CountsFaultOfPart, CountsFaultOfStart, Enabled, EnabledTo, Ended, Entry, Event, fold, HasStarted, IsErrAnd, IsLonger, IsOpening, IsPrefix, items_append, items_behind, items_of, KeepsItems, log, LogFailed, LogItem}
+use Rattle.cj_core.proofs.Common.{LosesNothing, Marker, next, OnlyReplays, OnlyTakes, OpensTo, Placement, prefix_self, prefix_trans, RefusesBytes, Sched, StartError, TransactionEnded, with_abort, WorldState}
 use Rattle.std.proofs.lemmas.List.Sums.{fold-append}
-use mathlib.Core.List.{IsPrefix}
-use Rattle.cj_model.specs.declared.request.Entry.{Entry}
-use Rattle.cj_model.specs.Cluster.Placements.{Placement}
-use Rattle.cj_outside.specs.Causes.{next}
-use Rattle.cj_cluster.specs.declared.event.Event.{Event}
-use Rattle.cj_cluster.specs.declared.event.Event.TheVariants.{Sched, Ended, LogFailed, Enabled, Marker}
-use Rattle.cj_cluster.specs.History.Histories.{log}
-use Rattle.cj_cluster.specs.Moves.Cores.{Core}
-use Rattle.cj_cluster.proofs.Pushed.{prefix_self, prefix_trans}
-use Rattle.cj_log.specs.declared.item.LogItem.{LogItem}
-use Rattle.cj_log.specs.Logs.{KeepsItems}
-use Rattle.cj_opening.specs.Openings.{IsOpening, OpensTo, items_behind, items_of}
-use Rattle.cj_opening.proofs.Longer.{items_append}
-use Rattle.cj_book.specs.declared.error.BookError.{BookError}
-use Rattle.cj_book.specs.declared.error.BookError.TheVariants.{InProgress, NoBackend, HistoryFull, LogFault, NoMemory}
-use Rattle.cj_book.specs.declared.error.StartError.{StartError}
+use Rattle.cj_book.specs.declared.error.BookError.TheVariants.{LogFault}
 use Rattle.cj_book.specs.declared.error.StartError.TheVariants as errors
 use Rattle.cj_book.specs.Books.{IsKeptIn, failed_after, last_write_failed}
 use Rattle.cj_book.specs.Starts.{Starts}
-use Rattle.cj_state.specs.Effects.{core_aborted}
-use Rattle.cj_state.specs.Worlds.{WorldState}
-use Rattle.cj_core.specs.Starts.{AbortsEach, CountsFaultOfStart, HasStarted, LosesNothing, RefusesBytes, with_abort}
-use Rattle.cj_core.specs.Proving.StartParts.{CountsFaultOfPart, EnabledTo, IsLonger, OnlyReplays, OnlyTakes, TransactionEnded}
 
 -- ---- from part to part
 
@@ -52,11 +33,8 @@ ended_longer tx old now e = (Sched _ ∷ Ended e.failed 0 ∷ [], sym e.history)
 
 aborted_history : (c : Core) (e : Entry) (r : Result ℕ BookError) → IsPrefix c.history (core_aborted c e r).history
 aborted_history c e (Ok n) = (Sched e ∷ [], refl)
-aborted_history c e (Err (InProgress n)) = prefix_self c.history
-aborted_history c e (Err NoBackend) = prefix_self c.history
-aborted_history c e (Err (HistoryFull n)) = prefix_self c.history
 aborted_history c e (Err LogFault) = (LogFailed e.session e.seq ∷ [], refl)
-aborted_history c e (Err NoMemory) = prefix_self c.history
+aborted_history c e _ = prefix_self c.history
 
 pub aborted_longer : (old now : WorldState) (e : Entry) (r : Result ℕ BookError) → now.core ≡ core_aborted old.core e r → IsLonger old now
 aborted_longer old now e r is = subst (λ (c : Core). IsPrefix old.core.history c.history) (sym is) (aborted_history old.core e r)
@@ -80,8 +58,7 @@ loses_nothing old new items opening h found opens p kept = let all = from kept.a
 refused_bytes : {S : Type 0} (W : Type 0) (held : S → List ℕ) (old : List ℕ) (error : StartError) (store : S) → Starts {S = S} held old (Err (error, store)) → RefusesBytes {W = W} held old (Err (error, store))
 refused_bytes W held old errors.StoreFault store only = inl only
 refused_bytes W held old errors.NoMemory store only = inl only
-refused_bytes W held old (errors.BadRecord offset) store bad = bad
-refused_bytes W held old (errors.BadEntry n) store bad = bad
+refused_bytes W held old _ store bad = bad
 
 pub refused_again : {S W : Type 0} (held : S → List ℕ) (old : List ℕ) (result : Result W (StartError × S)) (e : StartError × S) → IsErrAnd result (λ x. x ≡ e) → Starts {S = S} held old (Err e) → RefusesBytes held old result
 refused_again held old (Ok w) e is bytes = absurd is
@@ -91,15 +68,13 @@ refused_again {S = S} {W = W} held old (Err x) (error, store) is bytes = subst (
 pub refused_part : {S : Type 0} (T W : Type 0) (held : S → List ℕ) (old : List ℕ) (error : StartError) (store : S) (before now : ℕ) → CountsFaultOfPart {T = T} before (Err error) now → LosesNothing old (held store) → RefusesBytes {W = W} held old (Err (error, store))
 refused_part T W held old errors.StoreFault store before now counts nothing = nothing
 refused_part T W held old errors.NoMemory store before now counts nothing = nothing
-refused_part T W held old (errors.BadRecord offset) store before now counts nothing = absurd counts
-refused_part T W held old (errors.BadEntry n) store before now counts nothing = absurd counts
+refused_part T W held old _ store before now counts nothing = absurd counts
 
 -- what a part of a start counted is what the start counts
 pub fault_of_start : {S : Type 0} (T : Type 0) (faults : S → ℕ) (old : ℕ) (error : StartError) (store : S) (before now : ℕ) → before ≡ old → faults store ≡ now → CountsFaultOfPart {T = T} before (Err error) now → CountsFaultOfStart faults old (Err (error, store))
 fault_of_start T faults old errors.StoreFault store before now same is counts = is ∙ (counts ∙ ap next same)
 fault_of_start T faults old errors.NoMemory store before now same is counts = is ∙ (counts ∙ same)
-fault_of_start T faults old (errors.BadRecord offset) store before now same is counts = absurd counts
-fault_of_start T faults old (errors.BadEntry n) store before now same is counts = absurd counts
+fault_of_start T faults old _ store before now same is counts = absurd counts
 
 -- ---- behind a start no write has failed
 

@@ -1,27 +1,9 @@
 -- Backends replay the log in a start: where each stands, and what it has counted.
-use Rattle.std.proofs.Common.{◌≡◌, ◌≢◌, ◌⊎◌, inl, inr, ℕ, ◌+◌, ◌-◌, ◌<◌, ◌≤◌, Bool, true, false, cond, List, length, set, get_or, slice_get, Option, None, Some, Result, Ok, Err, OnOk, unwrap_or, refl, ap, sym, ◌∙◌, subst, arith, ⊎_elim}
-use Rattle.std.specs.Option.{option_map}
-use Rattle.std.proofs.lemmas.Bool.{cases_eq, cases_lt, ne_eqb}
-use Rattle.std.proofs.lemmas.List.{length-map, length-set, get_or-set_other, get_or-set_same}
-use Rattle.std.proofs.lemmas.Option.{slice_get-get_or, slice_get_past}
-use Rattle.cj_model.specs.Cluster.Placements.{Placement}
-use Rattle.cj_outside.specs.Causes.{next}
-use Rattle.cj_cluster.specs.declared.event.Event.{Event}
-use Rattle.cj_model.specs.declared.request.Entry.{Entry}
-use Rattle.cj_cluster.specs.declared.moves.Did.{Did}
+use Rattle.std.proofs.Common.{◌≡◌, zero, suc, [], ◌∷◌, ◌≢◌, ◌⊎◌, inl, inr, ℕ, ◌+◌, ◌-◌, ◌<◌, ◌≤◌, Bool, true, false, cond, List, length, set, get_or, slice_get, Option, None, Some, Result, Ok, Err, OnOk, unwrap_or, refl, ap, sym, ◌∙◌, subst, arith, ⊎_elim, below_more}
+use Rattle.cj_core.proofs.Common.{can_replay, CanReplay, cases_eq, Core, Did, did_fail, DoesWithEntry, Entry, Event, faults_after, faults_of, get_or-set_other, get_or-set_same, HasFailedOut, HasReplayed, HasTaken, is_enabled, IsSameAt, IsWorld, last_number}
+use Rattle.cj_core.proofs.Common.{log, ne_eqb, next, not_now, OnlyReplays, option_map, position_at, position_or_zero, Replay, Replayed, Replays, Stance, StartError, TakesEntry, TookNext, WorldState}
 use Rattle.cj_cluster.specs.declared.moves.Did.TheVariants as did
-use Rattle.cj_cluster.specs.declared.moves.Move.TheVariants.{Replay}
-use Rattle.cj_cluster.specs.declared.moves.Moved.TheVariants.{Replayed}
-use Rattle.cj_cluster.specs.History.Histories.{log, is_enabled}
-use Rattle.cj_cluster.specs.Moves.Cores.{Core, position_at}
-use Rattle.cj_cluster.specs.Moves.Moves.{DoesWithEntry, Replays, Stance, TakesEntry, last_number, not_now, position_or_zero}
-use Rattle.cj_cluster.proofs.Now.{CanReplay, can_replay}
-use Rattle.cj_book.specs.declared.error.StartError.{StartError}
-use Rattle.cj_replica.specs.Cells.{CellState}
-use Rattle.cj_state.specs.Faults.{did_fail, faults_of, faults_after}
-use Rattle.cj_state.specs.Worlds.{IsWorld, WorldState}
-use Rattle.cj_core.specs.Proving.StartParts.{HasFailedOut, HasReplayed, HasTaken, IsSameAt, OnlyReplays, TookNext}
-use Rattle.cj_core.proofs.SoloTaking.{cells_count}
+use Rattle.cj_core.proofs.SoloLogins.{got_or_set}
 
 pub same_some : (m n : ℕ) → Some m ≡ Some n → m ≡ n
 same_some m n is = ap (λ (o : Option ℕ). unwrap_or o 0) is
@@ -30,14 +12,7 @@ same_some m n is = ap (λ (o : Option ℕ). unwrap_or o 0) is
 
 -- what is counted at one place is not seen at another
 set_other : (counts : List ℕ) (b k x : ℕ) → k ≢ b → slice_get (set counts b x) k ≡ slice_get counts k
-set_other counts b k x ne =
-    let long : length (set counts b x) ≡ length counts = length-set counts b x in
-    ⊎_elim
-    (λ (lt : k < length counts).
-    let there : k < length (set counts b x) = omega arith in
-    slice_get-get_or (set counts b x) k 0 there ∙ (ap (λ (n : ℕ). Some n) (get_or-set_other counts b k x 0 ne) ∙ sym (slice_get-get_or counts k 0 lt)))
-    (λ (ge : length counts ≤ k). let past : length (set counts b x) ≤ k = omega arith in slice_get_past (set counts b x) k past ∙ sym (slice_get_past counts k ge))
-    (cases_lt k (length counts))
+set_other counts b k x ne = ⊎_elim (λ same. same) (λ here. absurd (ne here.0)) (got_or_set counts b k x)
 
 -- so others have counted no more, whether the backend failed or not
 counted_other : (was now : List ℕ) (b k : ℕ) (failed : Bool) → k ≢ b → now ≡ faults_after was (cond failed (Some b) None) → slice_get now k ≡ slice_get was k
@@ -45,13 +20,10 @@ counted_other was now b k true ne is = ap (λ (counts : List ℕ). slice_get cou
 counted_other was now b k false ne is = ap (λ (counts : List ℕ). slice_get counts k) is
 
 -- and the one that failed has counted one more
-counted_here : (was now : List ℕ) (b : ℕ) → b < length was → now ≡ faults_after was (Some b) → slice_get now b ≡ option_map next (slice_get was b)
-counted_here was now b lt is =
-    let one : ℕ = next (get_or was b 0) in
-    let long : length (set was b one) ≡ length was = length-set was b one in
-    let there : b < length (set was b one) = omega arith in
-    ap (λ (counts : List ℕ). slice_get counts b) is
-    ∙ (slice_get-get_or (set was b one) b 0 there ∙ (ap (λ (n : ℕ). Some n) (get_or-set_same was b one 0 lt) ∙ sym (ap (option_map next) (slice_get-get_or was b 0 lt))))
+counted_here : (was : List ℕ) (b : ℕ) → slice_get (faults_after was (Some b)) b ≡ option_map next (slice_get was b)
+counted_here [] b = refl
+counted_here (n ∷ was) zero = refl
+counted_here (n ∷ was) (suc b) = counted_here was b
 
 -- ---- one backend takes an entry
 
@@ -84,10 +56,7 @@ module _ (tells : Bool) (old new : WorldState) (b : ℕ) (d : Did) (now : Stance
 
     counted : did_fail d ≡ true → slice_get (faults_of new.cells) b ≡ option_map next (slice_get (faults_of old.cells) b)
     counted failed =
-        let long : length (faults_of old.cells) ≡ length old.cells = length-map old.cells (λ (x : CellState). x.faults) in
-        let cells : length old.cells ≡ old.core.placement.backends = cells_count tells old world in
-        let there : b < length (faults_of old.cells) = omega arith in
-        counted_here (faults_of old.cells) (faults_of new.cells) b there (counts ∙ ap (λ (f : Bool). faults_after (faults_of old.cells) (cond f (Some b) None)) failed)
+        ap (λ (cs : List ℕ). slice_get cs b) (counts ∙ ap (λ (f : Bool). faults_after (faults_of old.cells) (cond f (Some b) None)) failed) ∙ counted_here (faults_of old.cells) b
 
     -- and it has taken the entry at its position, or failed in it
     pub took_here : ((did_fail d ≡ false) × HasTaken (faults_of old.cells) new b (takes.p + 1)) ⊎ ((did_fail d ≡ true) × HasFailedOut (faults_of old.cells) new b)
@@ -191,24 +160,15 @@ module _ (old now new : WorldState) (b : ℕ) (before : ReplaysOn old now b) (du
   stood : took.p ≢ last_number now.core
   stood e = can.more (ap position_or_zero took.stood ∙ e)
 
-  was : (p : ℕ) → HasTaken (faults_of old.cells) now b p → took.p ≡ p
-  was p taken = same_some took.p p (sym took.stood ∙ taken.position)
+  on_its_way : (p : ℕ) × HasTaken (faults_of old.cells) now b p × (p ≤ last_number now.core)
+  on_its_way = ⊎_elim (λ way. way) (λ (out : HasFailedOut (faults_of old.cells) now b). absurd (cc (took.stood, out.position))) before.stands
 
   below : took.p < last_number now.core
   below =
-      ⊎_elim
-      (λ (within : (p : ℕ) × HasTaken (faults_of old.cells) now b p × (p ≤ last_number now.core)).
       let ne : took.p ≢ last_number now.core = stood in
-      let same : took.p ≡ within.0 = was within.0 within.1 in
-      let most : within.0 ≤ last_number now.core = within.2 in
-      omega (arith, ne))
-      (λ (out : HasFailedOut (faults_of old.cells) now b). absurd (cc (sym took.stood ∙ out.position)))
-      before.stands
-
-  counts_same : slice_get (faults_of now.cells) b ≡ slice_get (faults_of old.cells) b
-  counts_same =
-      ⊎_elim (λ (within : (p : ℕ) × HasTaken (faults_of old.cells) now b p × (p ≤ last_number now.core)). within.1.counted)
-      (λ (out : HasFailedOut (faults_of old.cells) now b). absurd (cc (sym took.stood ∙ out.position))) before.stands
+      let same : took.p ≡ on_its_way.0 = cc (took.stood, on_its_way.1.position) in
+      let most : on_its_way.0 ≤ last_number now.core = on_its_way.2 in
+      omega (arith, ne)
 
   pub replays_next : ReplaysOn old new b
   replays_next =
@@ -219,8 +179,8 @@ module _ (old now new : WorldState) (b : ℕ) (before : ReplaysOn old now b) (du
         others = λ k ne. same_then old now new k (before.others k ne) (took.others k ne);
         stands =
             ⊎_elim
-            (λ (taken : HasTaken (faults_of now.cells) new b (took.p + 1)). inl (took.p + 1, taken_from (faults_of now.cells) (faults_of old.cells) new b (took.p + 1) counts_same taken, omega arith))
-            (λ (out : HasFailedOut (faults_of now.cells) new b). inr (out_from (faults_of now.cells) (faults_of old.cells) new b counts_same out)) took.here;
+            (λ (taken : HasTaken (faults_of now.cells) new b (took.p + 1)). inl (took.p + 1, taken_from (faults_of now.cells) (faults_of old.cells) new b (took.p + 1) on_its_way.1.counted taken, omega arith))
+            (λ (out : HasFailedOut (faults_of now.cells) new b). inr (out_from (faults_of now.cells) (faults_of old.cells) new b on_its_way.1.counted out)) took.here;
         uncalled =
             λ none.
             let whole : last_number now.core ≡ last_number old.core = last_same old now before.only in
@@ -275,13 +235,12 @@ replayed_none w =
     }
 
 still_replayed : (faults : List ℕ) (old new : WorldState) (b : ℕ) → last_number new.core ≡ last_number old.core → IsSameAt old new b → HasReplayed faults old b → HasReplayed faults new b
-still_replayed faults old new b last same replays =
-    ⊎_elim (λ (taken : HasTaken faults old b (last_number old.core)). inl (subst (HasTaken faults new b) (sym last) (taken_still faults old new b (last_number old.core) same taken)))
-    (λ (out : HasFailedOut faults old b). inr (out_still faults old new b same out)) replays
+still_replayed faults old new b last same (inl taken) = inl (subst (HasTaken faults new b) (sym last) (taken_still faults old new b (last_number old.core) same taken))
+still_replayed faults old new b last same (inr out) = inr (out_still faults old new b same out)
 
 replayed_from : (was faults : List ℕ) (w : WorldState) (b : ℕ) → slice_get was b ≡ slice_get faults b → HasReplayed was w b → HasReplayed faults w b
-replayed_from was faults w b same replays =
-    ⊎_elim (λ (taken : HasTaken was w b (last_number w.core)). inl (taken_from was faults w b (last_number w.core) same taken)) (λ (out : HasFailedOut was w b). inr (out_from was faults w b same out)) replays
+replayed_from was faults w b same (inl taken) = inl (taken_from was faults w b (last_number w.core) same taken)
+replayed_from was faults w b same (inr out) = inr (out_from was faults w b same out)
 
 pub replayed_next : (old now new : WorldState) (i : ℕ) → ReplayedTo old now i → OnlyReplays now new → ((k : ℕ) → k ≢ i → IsSameAt now new k) → HasReplayed (faults_of now.cells) new i
     → (last_number now.core ≡ 0 → new ≡ now) → ReplayedTo old new (i + 1)
@@ -289,13 +248,9 @@ replayed_next old now new i to only others here uncalled =
     record {
       only = only_then old now new to.only only;
       before =
-          λ b lt.
-          ⊎_elim
-          (λ (first : b < i). let ne : b ≢ i = λ e. absurd (omega (arith, e)) in still_replayed (faults_of old.cells) now new b (last_same now new only) (others b ne) (to.before b first))
-          (λ (last : i ≤ b).
-          let e : i ≡ b = omega arith in
-          let le : i ≤ i = omega arith in
-          subst (HasReplayed (faults_of old.cells) new) e (replayed_from (faults_of now.cells) (faults_of old.cells) new i (to.behind i le).faults here)) (cases_lt b i);
+          below_more (HasReplayed (faults_of old.cells) new) i
+          (λ b first. let ne : b ≢ i = λ e. absurd (omega (arith, e)) in still_replayed (faults_of old.cells) now new b (last_same now new only) (others b ne) (to.before b first))
+          (let le : i ≤ i = omega arith in replayed_from (faults_of now.cells) (faults_of old.cells) new i (to.behind i le).faults here);
       behind =
           λ b le.
           let later : i ≤ b = omega arith in

@@ -1,42 +1,24 @@
 -- Backends take an entry that ends a transaction, in a start.
-use Rattle.std.proofs.Common.{◌≡◌, ◌≢◌, ◌⊎◌, inl, inr, ℕ, ◌+◌, ◌<◌, ◌≤◌, Bool, true, false, cond, List, set, None, Some, Result, Ok, Err, OnOk, refl, ap, sym, ◌∙◌, subst, arith, ⊎_elim}
-use Rattle.std.proofs.lemmas.Bool.{both_ways, cases_lt}
-use Rattle.cj_model.specs.Cluster.Masks.{in_mask}
-use Rattle.cj_model.proofs.Masks.{has-with_other, has-with_same}
-use Rattle.cj_cluster.specs.declared.moves.Did.{Did}
+use Rattle.std.proofs.Common.{◌≡◌, ◌≢◌, inl, inr, ℕ, ◌+◌, ◌<◌, ◌≤◌, Bool, true, false, cond, List, set, None, Some, Result, Ok, Err, OnOk, refl, ap, sym, ◌∙◌, subst, arith, ⊎_elim, below_more}
+use Rattle.cj_core.proofs.Common.{Applied, Applies, Apply, both_ways, can_apply, Core, Did, did_fail, failed_after, faults_after, faults_of, has-with_other, has-with_same, HasFailedOut, HasTaken, in_mask, is_enabled, IsDue, IsUntouched, IsWorld}
+use Rattle.cj_core.proofs.Common.{last_number, not_now, OnlyTakes, Stance, StandsBefore, StandsBehind, StartError, TakesEntry, TakesPast, WasOut, WorldState}
 use Rattle.cj_cluster.specs.declared.moves.Did.TheVariants as did
-use Rattle.cj_cluster.specs.declared.moves.Move.TheVariants.{Apply}
-use Rattle.cj_cluster.specs.declared.moves.Moved.TheVariants.{Applied}
-use Rattle.cj_cluster.specs.History.Histories.{is_idle, is_enabled}
-use Rattle.cj_cluster.specs.Moves.Cores.{Core}
-use Rattle.cj_cluster.specs.Moves.Moves.{Applies, Stance, TakesEntry, failed_after, last_number, not_now}
-use Rattle.cj_cluster.proofs.Now.{can_apply}
-use Rattle.cj_book.specs.declared.error.StartError.{StartError}
-use Rattle.cj_state.specs.Faults.{did_fail, faults_of, faults_after}
-use Rattle.cj_state.specs.Worlds.{IsWorld, WorldState}
-use Rattle.cj_core.specs.Proving.StartParts.{FailedInIt, HasDone, HasFailedOut, HasTaken, IsDue, IsUntouched, OnlyTakes, StandsBefore, StandsBehind, TakesPast, WasOut}
-use Rattle.cj_core.proofs.StartReplays.{others_same, out_from, out_still, same_some, same_then, taken_from, taken_still, took_here}
+use Rattle.cj_core.proofs.StartReplays.{others_same, out_from, out_still, same_then, taken_from, taken_still, took_here}
 
 -- ---- one backend
 
 -- the mask of those that failed
 mask_other : (mask b k : ℕ) (d : Did) → k ≢ b → in_mask (failed_after mask b d) k ≡ in_mask mask k
-mask_other mask b k (did.Done o) ne = refl
-mask_other mask b k did.Skipped ne = refl
 mask_other mask b k did.Failed ne = has-with_other mask b k ne
-mask_other mask b k did.Starved ne = refl
+mask_other mask b k _ ne = refl
 
 mask_went : (mask b : ℕ) (d : Did) → did_fail d ≡ false → failed_after mask b d ≡ mask
-mask_went mask b (did.Done o) went = refl
-mask_went mask b did.Skipped went = refl
 mask_went mask b did.Failed went = absurd (cc went)
-mask_went mask b did.Starved went = refl
+mask_went mask b _ went = refl
 
 mask_failed : (mask b : ℕ) (d : Did) → did_fail d ≡ true → in_mask (failed_after mask b d) b ≡ true
-mask_failed mask b (did.Done o) failed = absurd (cc failed)
-mask_failed mask b did.Skipped failed = absurd (cc failed)
 mask_failed mask b did.Failed failed = has-with_same mask b
-mask_failed mask b did.Starved failed = absurd (cc failed)
+mask_failed mask b _ failed = absurd (cc failed)
 
 module _ (tells : Bool) (old new : WorldState) (b : ℕ) (d : Did) (applies : Applies tells old.core b (Ok (Applied b d)) new.core) (counts : faults_of new.cells ≡ faults_after (faults_of old.cells) (cond (did_fail d) (Some b) None)) where
   abbrev stance : Stance
@@ -61,7 +43,7 @@ module _ (tells : Bool) (old new : WorldState) (b : ℕ) (d : Did) (applies : Ap
     was_due : (faults : List ℕ) → IsDue faults old b → StandsBehind faults new b
     was_due faults was =
         let on : is_enabled new.core.history b ≡ true = ap (λ (c : Core). is_enabled c.history b) applies.1.2 ∙ was.on in
-        let place : takes.p ≡ was.p = same_some takes.p was.p (sym takes.stands ∙ was.taken.position) in
+        let place : takes.p ≡ was.p = cc (takes.stands, was.taken.position) in
         let last : last_number new.core ≡ last_number old.core = ap (λ (c : Core). last_number c) applies.1.2 in
         let next : last_number old.core ≡ was.p + 1 = was.next in
         let end : takes.p + 1 ≡ last_number new.core = omega arith in
@@ -84,8 +66,8 @@ module _ (tells : Bool) (old new : WorldState) (b : ℕ) (d : Did) (applies : Ap
         (took_here tells old new b d stance takes positions counts world within went)
 
     takes_past : TakesPast old new b
-    takes_past faults before =
-        ⊎_elim (λ (was : IsDue faults old b). was_due faults was) (λ (out : WasOut faults old b). absurd (both_ways (is_enabled old.core.history b) out.off (can_apply old.core b due).on)) before
+    takes_past faults (inl was) = was_due faults was
+    takes_past faults (inr out) = absurd (both_ways (is_enabled old.core.history b) out.off (can_apply old.core b due).on)
 
 -- the backend took the entry and was not starved
 pub took_open : (tells : Bool) (old new : WorldState) (b : ℕ) (d : Did) (result : Result Unit StartError) → Applies tells old.core b (Ok (Applied b d)) new.core
@@ -119,21 +101,15 @@ module _ (faults : List ℕ) (old new : WorldState) (b : ℕ) (only : OnlyTakes 
   was_out_still was = record { off = on_still ∙ was.off; out = out_still faults old new b same.same was.out; unmasked = same.mask ∙ was.unmasked }
 
   before_still : StandsBefore faults old b → StandsBefore faults new b
-  before_still before =
-      ⊎_elim
-      (λ (due : IsDue faults old b).
-      inl (record { on = on_still ∙ due.on; p = due.p; taken = taken_still faults old new b due.p same.same due.taken; next = last_still ∙ due.next; unmasked = same.mask ∙ due.unmasked }))
-      (λ (was : WasOut faults old b). inr (was_out_still was)) before
+  before_still (inl due) =
+      inl (record { on = on_still ∙ due.on; p = due.p; taken = taken_still faults old new b due.p same.same due.taken; next = last_still ∙ due.next; unmasked = same.mask ∙ due.unmasked })
+  before_still (inr was) = inr (was_out_still was)
 
   behind_still : StandsBehind faults old b → StandsBehind faults new b
-  behind_still behind =
-      ⊎_elim
-      (λ (done : HasDone faults old b).
-      inl (record { on = on_still ∙ done.on; taken = subst (HasTaken faults new b) (sym last_still) (taken_still faults old new b (last_number old.core) same.same done.taken); unmasked = same.mask ∙ done.unmasked }))
-      (λ (others : FailedInIt faults old b ⊎ WasOut faults old b).
-      ⊎_elim (λ (failed : FailedInIt faults old b). inr (inl (record { on = on_still ∙ failed.on; out = out_still faults old new b same.same failed.out; masked = same.mask ∙ failed.masked })))
-      (λ (was : WasOut faults old b). inr (inr (was_out_still was))) others)
-      behind
+  behind_still (inl done) =
+      inl (record { on = on_still ∙ done.on; taken = subst (HasTaken faults new b) (sym last_still) (taken_still faults old new b (last_number old.core) same.same done.taken); unmasked = same.mask ∙ done.unmasked })
+  behind_still (inr (inl failed)) = inr (inl (record { on = on_still ∙ failed.on; out = out_still faults old new b same.same failed.out; masked = same.mask ∙ failed.masked }))
+  behind_still (inr (inr was)) = inr (inr (was_out_still was))
 
 -- ---- all of them
 
@@ -159,19 +135,12 @@ taken_on_next old now new i to only others here starved =
       only = takes_then old now new to.only only;
       starved = starved ∙ to.starved;
       before =
-          λ b lt.
-          ⊎_elim
-          (λ (first : b < i). let ne : b ≢ i = λ e. absurd (omega (arith, e)) in λ faults before. behind_still faults now new b only (others b ne) (to.before b first faults before))
-          (λ (last : i ≤ b).
-          let e : i ≡ b = omega arith in
-          let le : i ≤ i = omega arith in
-          subst (TakesPast old new) e (λ faults before. here faults (before_still faults old now i to.only (to.behind i le) before))) (cases_lt b i);
+          below_more (TakesPast old new) i
+          (λ b first. let ne : b ≢ i = λ e. absurd (omega (arith, e)) in λ faults before. behind_still faults now new b only (others b ne) (to.before b first faults before))
+          (let le : i ≤ i = omega arith in λ faults before. here faults (before_still faults old now i to.only (to.behind i le) before));
       behind =
           λ b le.
           let later : i ≤ b = omega arith in
           let ne : b ≢ i = λ e. absurd (omega (arith, e)) in
           untouched_then old now new b (to.behind b later) (others b ne);
     }
-
-pub still_open : (old now : WorldState) → OnlyTakes old now → is_idle old.core.history ≡ false → is_idle now.core.history ≡ false
-still_open old now only running = ap (λ (c : Core). is_idle c.history) only.core ∙ running

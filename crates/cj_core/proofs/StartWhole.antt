@@ -1,26 +1,10 @@
 -- A start from its parts.
-use Rattle.std.proofs.Common.{◌≡◌, ◌⊎◌, inl, inr, ℕ, ◌<◌, ◌==◌, ◌&&◌, not, Bool, true, false, cond, List, [], ◌∷◌, ◌++◌, length, map, replicate, slice_get, get_or, Option, None, Some, is_some, refl, ap, sym, ◌∙◌, subst, arith, ⊎_elim}
-use Rattle.std.specs.List.{filter, range_with_len}
-use Rattle.std.proofs.lemmas.List.{get_or-replicate}
-use Rattle.std.proofs.lemmas.Simd.{map-map}
-use Rattle.cj_model.specs.declared.request.Entry.{Entry}
-use Rattle.cj_model.specs.Cluster.Placements.{Placement}
-use Rattle.cj_cluster.specs.declared.event.Event.{Event}
-use Rattle.cj_cluster.specs.declared.event.Event.TheVariants.{Sched, Ended, Enabled, Marker}
-use Rattle.cj_cluster.specs.declared.moves.OpenSession.{OpenSession}
-use Rattle.cj_cluster.specs.History.Histories.{log, is_enabled, tx_of}
-use Rattle.cj_cluster.specs.Moves.Cores.{Core, find_session, position_at}
-use Rattle.cj_cluster.specs.Moves.Moves.{entry_numbered, is_open, is_orphan, is_orphan_of, last_number}
-use Rattle.cj_cluster.proofs.Effects.{is_there}
-use Rattle.cj_opening.specs.Openings.{IsOpening, OpensTo}
-use Rattle.cj_log.specs.declared.item.LogItem.{LogItem}
-use Rattle.cj_state.specs.Beginnings.{opened_core}
-use Rattle.cj_state.specs.Faults.{faults_of}
-use Rattle.cj_state.specs.Worlds.{IsWorld, WorldState}
-use Rattle.cj_core.specs.Starts.{AbortsEach, BackendState, HasStarted, StartsFrom, backend_of, orphans_of}
-use Rattle.cj_core.specs.Proving.StartParts.{AllStand, AreStanding, EnabledTo, EndedTo, HasFailedOut, HasReplayed, HasTaken, OnlyReplays}
+use Rattle.std.proofs.Common.{◌≡◌, inl, inr, ℕ, ◌<◌, ◌==◌, Bool, false, List, [], ◌∷◌, ◌++◌, length, map, slice_get, Option, None, Some, is_some, refl, ap, sym, ◌∙◌, subst, arith, ⊎_elim}
+use Rattle.cj_core.proofs.Common.{AbortsEach, AllStand, AreStanding, backend_of, BackendState, Core, Enabled, EnabledTo, Ended, EndedTo, Entry, entry_numbered, Event, faults_of, filter, get_or-replicate, HasFailedOut, HasReplayed, HasStarted, HasTaken, is_enabled}
+use Rattle.cj_core.proofs.Common.{filter_agree, is_orphan, is_orphan_of, is_there, IsOpening, IsWorld, last_number, log, LogItem, map-map, Marker, OnlyReplays, opened_core, OpensTo, orphans_of, Placement, position_at, range_with_len, Sched, StartsFrom, tx_of, WorldState}
 use Rattle.cj_core.proofs.StartEnables.{enabled_last, enabled_position}
-use Rattle.cj_core.proofs.StartReplays.{last_same, only_history, only_placement, same_some}
+use Rattle.cj_core.proofs.StartEnds.{orphan_of_same}
+use Rattle.cj_core.proofs.StartReplays.{only_history, only_placement, same_some}
 use Rattle.cj_core.proofs.SoloTaking.{cells_count}
 
 -- ---- what a log opens with
@@ -38,22 +22,12 @@ at_first c opened b lt = ap (λ (k : Core). position_at k b) opened ∙ get_or-r
 
 -- ---- which transactions are open, over the same log
 
-filter_same : (p q : ℕ → Bool) (ns : List ℕ) → ((n : ℕ) → p n ≡ q n) → filter p ns ≡ filter q ns
-filter_same p q [] same = refl
-filter_same p q (n ∷ ns) same = ap (λ (b : Bool). cond b (n ∷ filter p ns) (filter p ns)) (same n) ∙ ap (λ (ms : List ℕ). cond (q n) (n ∷ ms) ms) (filter_same p q ns same)
-
 module _ (c d : Core) (entries : log c.history ≡ log d.history) (sessions : c.sessions ≡ d.sessions) where
-  same_orphan_of : (tx : ℕ) (o : Option Entry) → is_orphan_of c tx o ≡ is_orphan_of d tx o
-  same_orphan_of tx None = refl
-  same_orphan_of tx (Some begin) =
-      ap (λ (es : List Entry). (tx_of es begin.session == tx) && not (is_open c begin.session)) entries
-      ∙ ap (λ (ss : List OpenSession). (tx_of (log d.history) begin.session == tx) && not (is_some (find_session ss begin.session))) sessions
-
   same_orphan : (tx : ℕ) → is_orphan c tx ≡ is_orphan d tx
-  same_orphan tx = ap (λ (es : List Entry). is_orphan_of c tx (entry_numbered es tx)) entries ∙ same_orphan_of tx (entry_numbered (log d.history) tx)
+  same_orphan tx = ap (λ (es : List Entry). is_orphan_of c tx (entry_numbered es tx)) entries ∙ orphan_of_same c d tx (entry_numbered (log d.history) tx) sessions (λ s. ap (λ (es : List Entry). tx_of es s == tx) entries)
 
   orphans_same : orphans_of c ≡ orphans_of d
-  orphans_same = ap (λ (es : List Entry). filter (is_orphan c) (range_with_len 1 (length es))) entries ∙ filter_same (is_orphan c) (is_orphan d) (range_with_len 1 (length (log d.history))) same_orphan
+  orphans_same = ap (λ (es : List Entry). filter (is_orphan c) (range_with_len 1 (length es))) entries ∙ filter_agree (is_orphan c) (is_orphan d) same_orphan (range_with_len 1 (length (log d.history)))
 
 -- ---- from part to part
 

@@ -1,22 +1,10 @@
 -- How backends move into cells, and what is seen of both.
-use Rattle.std.proofs.Common.{◌≡◌, Bool, true, ℕ, suc, ◌+◌, ◌<◌, ◌≤◌, List, [], ◌∷◌, ◌++◌, length, map, reverse, get_or, All, Option, Some, refl, ap, sym, ◌∙◌, subst, arith, length-append, append_assoc, append-nil, ⊎_elim}
-use Rattle.std.proofs.lemmas.Bool.{cases_lt}
-use Rattle.std.proofs.lemmas.List.{map_push, reverse-append, reverse-reverse, length-reverse, get_or_push, get_or_append_left, nil_from_length}
-use Rattle.std.proofs.lemmas.List.Elements.{All-nil, All-push}
-use Rattle.std.proofs.lemmas.Simd.{map-map}
-use Rattle.cj_model.specs.declared.database.Slot.{Slot}
-use Rattle.cj_model.specs.Cluster.Placements.{Placement}
+use Rattle.std.proofs.Common.{◌≡◌, Bool, true, ℕ, suc, ◌+◌, ◌<◌, ◌≤◌, List, [], ◌∷◌, ◌++◌, length, map, reverse, get_or, Option, Some, refl, ap, sym, ◌∙◌, subst, arith, length-append, append_assoc, append-nil, ⊎_elim}
+use Rattle.cj_core.proofs.Common.{All-nil, All-push, AreCellsAt, AreEmpty, AreFresh, AreNewCells, backend_of, BackendState, cases_lt, cell_board, CellState, get_or_append_left, get_or_push, HaveBegunNone, IsFresh, length-reverse, map-map, map_push}
+use Rattle.cj_core.proofs.Common.{All-head, All-tail, nil_from_length, Placement, reverse-append, reverse-reverse, SeatedCell, Slot, state_by}
 use Rattle.cj_backend.specs.Backends.{Arming}
-use Rattle.cj_replica.specs.Cells.{CellState}
-use Rattle.cj_core.specs.Starts.{BackendState, HaveBegunNone, backend_of, state_by}
 use Rattle.atomic_table.specs.Seated.{TableId}
 use Rattle.cj_board.specs.declared.seats.CellSeat.{CellSeat}
-use Rattle.cj_board.specs.declared.view.Role.TheVariants.{Cell}
-use Rattle.cj_board.specs.Seats.{cell_board, cell_view, AreNewCells}
-use Rattle.cj_board.specs.Views.{new_view}
-use Rattle.cj_replica.specs.Seated.{SeatedCell}
-use Rattle.cj_state.specs.Beginnings.{IsFresh, AreEmpty, AreFresh}
-use Rattle.cj_state.specs.Seats.{AreCellsAt}
 
 -- ---- what is seen of backends in their cells
 
@@ -37,10 +25,6 @@ moved_on : {A X Y : Type 0} (f : Y → A) (g : X → A) (all left : List X) (x :
 moved_on f g all left x moved y same was =
     ap (λ l. l ++ map g (reverse left)) (map_push f moved y)
     ∙ (append_assoc (map f moved) (f y ∷ []) (map g (reverse left)) ∙ (ap (λ z. map f moved ++ z ∷ map g (reverse left)) same ∙ (ap (λ l. map f moved ++ map g l) (sym (reverse-append left (x ∷ []))) ∙ was)))
-
--- what holds of all items holds of the first, and of the others
-all_first : {A : Type 0} (P : A → Type 0) (x : A) (xs : List A) → All P (x ∷ xs) → P x × All P xs
-all_first P x xs all = (all 0 x (omega arith), λ k d lt. all (suc k) d (omega arith))
 
 -- what moves into a cell: what is seen of the backend stays, and the cell has taken no entry
 pub made_fresh : (number : ℕ) (p : Placement) (s : BackendState) (y : CellState)
@@ -75,11 +59,11 @@ module _ {X : Type 0} {state_of : X → BackendState} {begun_of : X → List ℕ
     count = ap (λ m. length cells + m) (sym (ap length is ∙ length-append left (x ∷ []))) ∙ moving.as_many
 
     -- it has begun no transaction, and neither have the others
-    none_begun : (begun_of x ≡ []) × HaveBegunNone (map begun_of (reverse left))
-    none_begun = all_first (λ (ts : List ℕ). ts ≡ []) (begun_of x) (map begun_of (reverse left)) (subst (λ (xs : List X). HaveBegunNone (map begun_of xs)) (ap reverse is ∙ reverse-append left (x ∷ [])) moving.none)
+    none_begun : HaveBegunNone (begun_of x ∷ map begun_of (reverse left))
+    none_begun = subst (λ (xs : List X). HaveBegunNone (map begun_of xs)) (ap reverse is ∙ reverse-append left (x ∷ [])) moving.none
 
     pub moving_none : begun_of x ≡ []
-    moving_none = none_begun.0
+    moving_none = All-head (λ (ts : List ℕ). ts ≡ []) (begun_of x) (map begun_of (reverse left)) none_begun
 
     pub moving_room : (length cells < p.backends) × (length cells < capacity)
     moving_room =
@@ -95,7 +79,7 @@ module _ {X : Type 0} {state_of : X → BackendState} {begun_of : X → List ℕ
         rw (pushed, same)
         (record {
           as_many = omega arith;
-          none = none_begun.1;
+          none = All-tail (λ (ts : List ℕ). ts ≡ []) (begun_of x) (map begun_of (reverse left)) none_begun;
           each =
               λ k d lt.
               ⊎_elim (λ (c : k < length cells). subst (IsFresh p k) (sym (get_or_append_left cells (y ∷ []) d k c)) (moving.each k d c))
@@ -146,11 +130,8 @@ module _ {X : Type 0} {told_of : X → Option (List Slot)} {tells : Bool} {id : 
     empties : AreEmpty tells (told_of x ∷ map told_of (reverse left))
     empties = subst (λ (xs : List X). AreEmpty tells (map told_of xs)) (ap reverse is ∙ reverse-append left (x ∷ [])) seating.nothing
 
-    pub seating_seat : (cell_board seat ≡ id) × (cell_view seat ≡ new_view (Cell (length cells) 0))
-    seating_seat = (turned.1, turned.2)
-
     pub seating_nothing : tells ≡ true → told_of x ≡ Some []
-    seating_nothing on = (all_first (λ (t : Option (List Slot)). t ≡ Some []) (told_of x) (map told_of (reverse left)) (empties on)).0
+    seating_nothing on = All-head (λ (t : Option (List Slot)). t ≡ Some []) (told_of x) (map told_of (reverse left)) (empties on)
 
     pub seating_more : (y : SeatedCell) (now : List SeatedCell) → y.board ≡ cell_board seat → now ≡ cells ++ y ∷ [] → Seating told_of tells id left seats now
     seating_more y now at pushed =
@@ -160,6 +141,6 @@ module _ {X : Type 0} {told_of : X → Option (List Slot)} {tells : Bool} {id : 
         (record {
           as_many = omega (arith, count);
           free = subst (λ (n : ℕ). AreNewCells id n (reverse seats)) (sym more) turned.3;
-          nothing = λ on. (all_first (λ (t : Option (List Slot)). t ≡ Some []) (told_of x) (map told_of (reverse left)) (empties on)).1;
+          nothing = λ on. All-tail (λ (t : Option (List Slot)). t ≡ Some []) (told_of x) (map told_of (reverse left)) (empties on);
           at = All-push (λ (x : SeatedCell). x.board ≡ id) cells y seating.at (at ∙ turned.1);
         })

@@ -1,23 +1,8 @@
 -- What entries make of the result cache.
-use Rattle.std.proofs.Common.{◌≡◌, ℕ, Bool, true, false, cond, ◌==◌, List, [], ◌∷◌, ◌++◌, inl, refl, ap, sym, ◌∙◌, subst}
-use Rattle.std.proofs.lemmas.Bool.{cond_both}
-use Rattle.cj_model.specs.declared.answer.Refusal.{Refusal}
-use Rattle.cj_model.specs.declared.answer.Reply.{Reply}
-use Rattle.cj_model.specs.declared.codes.TheConstants.{LOG_FAULT}
+use Rattle.std.proofs.Common.{◌≡◌, ℕ, Bool, cond, ◌==◌, List, inl, refl, ap, sym, ◌∙◌, subst}
+use Rattle.cj_core.proofs.Common.{CacheFollowsLog, CacheState, cond_both, Core, Ended, Entry, EntryEnded, EntryRefused, follows_abort, follows_same, FollowsLog, happened, IsSameButLog, log, log-same, log-sched, LOG_FAULT, LogFailed, Refusal, refusal_of_code, Reply}
+use Rattle.cj_core.proofs.Common.{with_cache, with_core, with_entry, with_log, with_request_counted, WorldState}
 use Rattle.cj_model.specs.declared.request.Act.TheVariants as act
-use Rattle.cj_model.specs.declared.request.Entry.{Entry}
-use Rattle.cj_model.specs.Cluster.Caching.{CacheState}
-use Rattle.cj_model.specs.Database.Inserts.{refusal_of_code}
-use Rattle.cj_cluster.specs.declared.event.Event.TheVariants.{Ended, LogFailed, Sched}
-use Rattle.cj_cluster.specs.History.Histories.{log}
-use Rattle.cj_cluster.specs.Moves.Cores.{Core}
-use Rattle.cj_cluster.specs.Moves.Moves.{happened, with_entry, with_request_counted}
-use Rattle.cj_cluster.proofs.Pushed.{log-same, log-sched}
-use Rattle.cj_freshness.specs.Freshness.{FollowsLog}
-use Rattle.cj_freshness.proofs.Fresh.{follows_abort, follows_same}
-use Rattle.cj_state.specs.Effects.{with_core}
-use Rattle.cj_state.specs.Worlds.{LogView, WorldState, with_cache, with_log, CacheFollowsLog, IsSameButLog}
-use Rattle.cj_core.specs.Proving.SoloParts.{EntryEnded, EntryRefused, EntryScheduled}
 
 -- the whole world, from its core, its cache and its log
 module _ (old new : WorldState) (core : Core) (same : IsSameButLog (with_cache (with_core old new.core) new.cache) new) (core_is : new.core ≡ core) where

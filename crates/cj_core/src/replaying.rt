@@ -31,6 +31,7 @@ pub fn unless_starved(did: Did) -> Result<(), StartError>
 }
 
 /// The backend takes the log's next entry.
+#[tactic(auto, using(crate::proofs::StartReplays::took_next))]
 fn replay_next<B: Backend, S: Store>(state: &mut State<B, S>, b: u8) -> Result<(), StartError>
     requires within { b < state.old.core.placement.backends }
     requires now { not_now state.old.core (Move.Replay b) ≡ None }
@@ -100,6 +101,7 @@ fn enable_where_there<B: Backend, S: Store>(
 }
 
 /// Enables each backend that is not out, in the order of numbers.
+#[tactic(auto, using(crate::proofs::StartEnables::enabled_none, crate::proofs::StartEnables::enabled_next))]
 pub fn enable_everywhere<B: Backend, S: Store>(state: &mut State<B, S>) -> Result<(), StartError>
     requires free { is_idle state.old.core.history ≡ true }
     requires off { (b : ℕ) → histories.is_enabled state.old.core.history b ≡ false }

@@ -1,5 +1,5 @@
 -- The parts of a start.
-use Rattle.std.specs.Prelude.{◌≡◌, ◌≢◌, ◌⊎◌, ℕ, ◌+◌, ◌<◌, ◌≤◌, Bool, true, false, is_some, List, [], ◌∷◌, ◌++◌, filter, length, map, slice_get, All, Result, Ok, Err}
+use Rattle.std.specs.Prelude.{◌≡◌, ◌≢◌, ◌⊎◌, ℕ, ◌+◌, ◌<◌, ◌≤◌, Bool, true, false, is_some, List, ◌++◌, filter, map, slice_get, All, Result, Ok, Err}
 use Rattle.std.specs.List.{AllPairs, range_with_len}
 use mathlib.Core.List.{IsPrefix}
 use Rattle.std.specs.Option.{option_map}
@@ -10,12 +10,12 @@ use Rattle.cj_outside.specs.Causes.{next}
 use Rattle.cj_cluster.specs.declared.event.Event.TheVariants.{Enabled}
 use Rattle.cj_cluster.specs.History.Histories.{log, is_idle, is_enabled}
 use Rattle.cj_cluster.specs.Moves.Cores.{Core, position_at}
-use Rattle.cj_cluster.specs.Moves.Moves.{abort_entry, happened, is_orphan, last_number, with_entry}
+use Rattle.cj_cluster.specs.Moves.Moves.{happened, is_orphan, last_number}
 use Rattle.cj_book.specs.declared.error.StartError.{StartError}
 use Rattle.cj_book.specs.declared.error.StartError.TheVariants as errors
 use Rattle.cj_state.specs.Effects.{with_core}
 use Rattle.cj_state.specs.Faults.{faults_of}
-use Rattle.cj_state.specs.Worlds.{WorldState, IsSameButLog}
+use Rattle.cj_state.specs.Worlds.{WorldState}
 use Rattle.cj_core.specs.Starts.{AbortsEach, StandsAfterStart, with_abort}
 
 -- a part of a start counts one fault of the log's store exactly where it answers that this failed, and knows no other error but want of memory

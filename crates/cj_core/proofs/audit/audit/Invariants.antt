@@ -1,10 +1,6 @@
 use Rattle.std.proofs.Common.{◌≡◌, true}
-use Rattle.std.specs.List.{flat_map, range_with_len}
-use Rattle.cj_model.specs.Sql.Names.{IsText}
+use Rattle.cj_core.proofs.Common.{faults_of, flat_map, IsText, lines_at, logins_of, range_with_len}
 use Rattle.cj_state.specs.ArmedCells.{armings_of}
-use Rattle.cj_core.specs.Audits.{lines_at}
-use Rattle.cj_state.specs.Faults.{faults_of}
-use Rattle.cj_state.specs.CalledLogins.{logins_of}
 use Rattle.cj_core.proofs.audit.audit.Given as goal
 
 abbrev pub invariant-loop-b : goal.invariant-loop-b

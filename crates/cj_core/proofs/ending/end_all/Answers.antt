@@ -1,10 +1,7 @@
-use Rattle.std.proofs.Common.{◌≡◌, ◌<◌, ℕ, refl, ◌∙◌, subst}
-use Rattle.cj_core.proofs.StartEnds.{ended_next, ended_none, still_standing}
-use Rattle.cj_core.proofs.StartLonger.{longer_none, longer_then}
+use Rattle.std.proofs.Common.{◌<◌, ℕ, ◌∙◌, subst}
+use Rattle.cj_core.proofs.StartEnds.{ended_next}
+use Rattle.cj_core.proofs.StartLonger.{longer_then}
 use Rattle.cj_core.proofs.ending.end_all.Goals as goal
-
-pub loop-before-init : goal.loop-before-init
-loop-before-init g c = record { to = ended_none c.args.state.now c.requires.free; longer = longer_none c.args.state.now; log_faults = refl }
 
 pub loop-before-preserved : goal.loop-before-preserved
 loop-before-preserved g c =
@@ -16,6 +13,3 @@ loop-before-preserved g c =
       longer = longer_then c.args.state.now c.loop-before.state c.end_where_open.new.state before.longer c.end_where_open.ensures.longer;
       log_faults = c.in_ok-end_where_open.ensures.cause ∙ before.log_faults;
     }
-
-pub returns-in_err-end_where_open-clause-longer : goal.returns-in_err-end_where_open-clause-longer
-returns-in_err-end_where_open-clause-longer g c = longer_then c.args.state.now c.loop-before.state c.end_where_open.new.state c.loop-before.invariant.longer c.end_where_open.ensures.longer

@@ -1,6 +1,5 @@
-use Rattle.std.proofs.Common.{◌≡◌, refl, ap, ◌∙◌}
-use Rattle.cj_model.specs.declared.request.Entry.{Entry}
-use Rattle.cj_cluster.specs.Moves.Moves.{abort_entry, with_entry}
+use Rattle.std.proofs.Common.{refl, ap, ◌∙◌}
+use Rattle.cj_core.proofs.Common.{abort_entry, Entry, with_entry}
 use Rattle.cj_core.proofs.WriteCache.{aborted_after}
 use Rattle.cj_core.proofs.ending.schedule_end.Goals as goal
 

@@ -1,8 +1,5 @@
-use Rattle.cj_core.proofs.StartTakes.{taken_on_next, taken_on_none}
+use Rattle.cj_core.proofs.StartTakes.{taken_on_next}
 use Rattle.cj_core.proofs.ending.take_on_all.Goals as goal
-
-pub loop-b-init : goal.loop-b-init
-loop-b-init g c = taken_on_none c.args.state.now
 
 pub loop-b-preserved : goal.loop-b-preserved
 loop-b-preserved g c =

@@ -1,5 +1,4 @@
-use Rattle.cj_cluster.specs.Moves.Cores.{position_at}
-use Rattle.cj_cluster.specs.Moves.Moves.{last_number}
+use Rattle.cj_core.proofs.Common.{last_number, position_at}
 use Rattle.cj_core.proofs.StartReplays.{ReplaysOn, left_of}
 use Rattle.cj_core.proofs.replaying.replay_whole.Given as goal
 

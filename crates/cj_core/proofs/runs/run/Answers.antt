@@ -1,11 +1,5 @@
 use Rattle.std.proofs.Common.{◌≡◌, ◌+◌, ℕ, refl, List, [], ◌∷◌, length, length-append, take, get_or, map, sym, ap, ◌∙◌, subst, arith}
-use Rattle.std.proofs.lemmas.List.{take_all}
-use Rattle.cj_cluster.specs.declared.moves.Move.{Move}
-use Rattle.cj_cluster.specs.declared.moves.Made.{Made}
-use mathlib.Core.List.{IsPrefix}
-use Rattle.cj_cluster.specs.History.Legality.{IsLegal}
-use Rattle.cj_state.specs.Worlds.{WorldState}
-use Rattle.cj_core.specs.Played.{given_of, HasRun}
+use Rattle.cj_core.proofs.Common.{given_of, HasRun, IsLegal, IsPrefix, Made, Move, take_all, WorldState}
 use Rattle.cj_core.proofs.Making.{Making, making_none, making_more, making_longer, making_legal, making_run, making_part, making_met}
 use Rattle.cj_core.proofs.runs.run.Goals as goal
 

@@ -1,15 +1,7 @@
 use Rattle.std.proofs.Common.{◌≡◌, true, length, refl, ap, sym, ◌∙◌, subst, arith}
 use Rattle.cj_model.specs.declared.request.Request.TheVariants as requests
-use Rattle.cj_model.specs.declared.answer.Refusal.{Refusal}
-use Rattle.cj_model.specs.declared.answer.Reply.TheVariants.{Refused}
-use Rattle.cj_model.specs.Cluster.Masks.{in_mask}
-use Rattle.cj_cluster.specs.History.Answering.{CanServe}
-use Rattle.cj_cluster.specs.Moves.Cores.{Core}
-use Rattle.cj_state.specs.Worlds.{WorldState}
-use Rattle.cj_core.specs.Solos.{StandsBetweenCalls}
+use Rattle.cj_core.proofs.Common.{cache_answered, CanServe, Core, in_mask, log, StandsBetweenCalls, WorldState}
 use Rattle.cj_core.proofs.SoloReads.{QuerySoFar, query_begins, query_goes_on, query_stands, serves_still, serving_is_backend, same_log, in_vain, attempted_turn, counted_turn}
-use Rattle.cj_cluster.specs.History.Histories.{log}
-use Rattle.cj_core.specs.Proving.SoloParts.{cache_answered}
 use Rattle.cj_core.proofs.SoloCache.{not_kept}
 use Rattle.cj_core.proofs.solo_read.ask_in_turn.Goals as goal
 

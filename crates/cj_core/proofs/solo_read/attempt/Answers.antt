@@ -1,15 +1,7 @@
 use Rattle.std.proofs.Common.{Err, inl, ap, sym, ◌∙◌, subst}
-use Rattle.cj_state.specs.declared.cells.AskError.{AskError}
-use Rattle.cj_state.specs.Effects.{Asks}
-use Rattle.cj_state.specs.CalledLogins.{logins_of}
-use Rattle.cj_state.specs.Faults.{faults_of}
-use Rattle.cj_state.specs.Worlds.{WorldState, accounts_of}
-use Rattle.cj_core.specs.Solos.{AreCalledFor}
+use Rattle.cj_core.proofs.Common.{accounts_of, AreCalledFor, ask, AskError, Asks, Core, database_of, faults_of, log, logins_of, WorldState}
 use Rattle.cj_core.proofs.SoloLogins.{called_to_ask}
 use Rattle.cj_core.proofs.SoloReads.{not_out, not_behind, query_answered, right_at_end}
-use Rattle.cj_model.specs.Database.Queries.{ask}
-use Rattle.cj_cluster.specs.History.Histories.{database_of, log}
-use Rattle.cj_cluster.specs.Moves.Cores.{Core}
 use Rattle.cj_core.proofs.solo_read.attempt.Goals as goal
 
 pub unreachable-requires : goal.unreachable-requires
@@ -33,10 +25,6 @@ returns-in_default-clause-logins g c =
     let cells = ap (λ (w : WorldState). logins_of w.cells) c.answer_read.ensures ∙ ap (λ (w : WorldState). logins_of w.cells) c.in_default.ensures.ok in
     subst (AreCalledFor (accounts_of c.args.state.now) c.args.user.now (logins_of c.args.state.now.cells)) (sym cells)
     (called_to_ask (accounts_of c.args.state.now) c.args.user.now c.args.b c.ask.result (logins_of c.args.state.now.cells) (logins_of c.ask.new.self.cells) c.ask.ensures.logins)
-
-pub returns-in-Err-Failed-clause-logins : goal.returns-in-Err-Failed-clause-logins
-returns-in-Err-Failed-clause-logins g c =
-    called_to_ask (accounts_of c.args.state.now) c.args.user.now c.args.b c.ask.result (logins_of c.args.state.now.cells) (logins_of c.ask.new.self.cells) c.ask.ensures.logins
 
 pub returns-in-Err-Unnoted-clause-logins : goal.returns-in-Err-Unnoted-clause-logins
 returns-in-Err-Unnoted-clause-logins g c =

@@ -1,16 +1,6 @@
 use Rattle.std.proofs.Common.{◌≡◌, ℕ, List, length, ap, sym, ◌∙◌}
-use Rattle.std.proofs.Math.Seq.{take-length}
-use Rattle.cj_model.specs.declared.answer.Asked.{Asked}
+use Rattle.cj_core.proofs.Common.{Answer, ask, Asked, asked_reply, cache_answered, CacheState, database_after, database_of, Entry, log, Select, take-length, with_cache, WorldState}
 use Rattle.cj_model.specs.declared.answer.Asked.TheVariants.{Rows}
-use Rattle.cj_model.specs.declared.answer.Answer.{Answer}
-use Rattle.cj_model.specs.declared.request.Entry.{Entry}
-use Rattle.cj_model.specs.declared.select.Select.{Select}
-use Rattle.cj_model.specs.Cluster.Caching.{CacheState}
-use Rattle.cj_model.specs.Database.Queries.{ask}
-use Rattle.cj_model.specs.Wire.Replies.{asked_reply}
-use Rattle.cj_cluster.specs.History.Histories.{database_after, database_of, log}
-use Rattle.cj_state.specs.Worlds.{WorldState, with_cache}
-use Rattle.cj_core.specs.Proving.SoloParts.{cache_answered}
 use Rattle.cj_core.proofs.solo_read.keep.Goals as goal
 
 pub returns-then-keeps_none-clause-ok : goal.returns-then-keeps_none-clause-ok

@@ -1,23 +1,8 @@
-use Rattle.std.proofs.Common.{◌≡◌, ℕ, ◌<◌, ◌^◌, true, length, Option, None, Some, refl, ap, sym, ◌∙◌, subst, arith}
+use Rattle.std.proofs.Common.{◌≡◌, length, Option, None, Some, refl, ap, sym, ◌∙◌, subst, arith}
 use Rattle.cj_model.specs.declared.request.Request.TheVariants as requests
-use Rattle.cj_model.specs.declared.answer.Refusal.{Refusal}
-use Rattle.cj_model.specs.declared.answer.Reply.TheVariants.{Refused}
-use Rattle.cj_model.specs.Cluster.Masks.{in_mask}
-use Rattle.cj_cluster.specs.History.Answering.{CanServe}
-use Rattle.cj_cluster.specs.Moves.Cores.{Core}
-use Rattle.cj_state.specs.Worlds.{WorldState}
-use Rattle.cj_core.specs.Solos.{StandsBetweenCalls}
-use Rattle.cj_core.proofs.SoloReads.{QuerySoFar, query_begins, query_goes_on, query_stands, serves_still, serving_is_backend, unserved, in_vain, attempted_turn, counted_turn}
-use Rattle.std.specs.Prelude.{is_some}
-use Rattle.cj_model.specs.declared.select.Select.{Select}
-use Rattle.cj_model.specs.Cluster.Caching.{after_look, answer_kept}
-use Rattle.cj_model.proofs.CachingLaws.{all_looked, kept_looked}
-use Rattle.cj_cluster.specs.History.Histories.{log}
-use Rattle.cj_freshness.specs.Freshness.{IsFreshAnswer, IsFreshCache}
-use Rattle.cj_state.specs.Worlds.{with_cache}
-use Rattle.cj_model.specs.declared.answer.Answer.{Answer}
-use Rattle.cj_core.specs.Solos.{AnswersLookUp, WorldTurn, with_answer}
-use Rattle.cj_core.specs.Proving.SoloParts.{cache_answered, call_of, RepliesKept}
+use Rattle.cj_core.proofs.Common.{after_look, all_looked, Answer, answer_kept, AnswersLookUp, cache_answered, call_of, is_some, IsFreshAnswer, kept_looked, log, Refusal, Refused, RepliesKept, Select, with_answer, with_cache}
+use Rattle.cj_core.proofs.Common.{WorldState, WorldTurn}
+use Rattle.cj_core.proofs.SoloReads.{query_begins, unserved, counted_turn}
 use Rattle.cj_core.proofs.SoloCache.{found_kept, kept_inside, kept_turn, none_found, none_serve, replied_from_cache, some_serve, turn_before_look}
 use Rattle.cj_core.proofs.solo_read.serve_read.Goals as goal
 

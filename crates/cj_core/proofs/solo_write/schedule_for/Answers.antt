@@ -1,12 +1,5 @@
-use Rattle.std.proofs.Common.{◌≡◌, ◌==◌, Err, ap, sym, ◌∙◌}
-use Rattle.cj_model.specs.declared.answer.Refusal.{Refusal}
-use Rattle.cj_model.specs.declared.codes.TheConstants.{LOG_FAULT}
-use Rattle.cj_model.specs.declared.request.Entry.{Entry}
-use Rattle.cj_cluster.specs.declared.event.Event.TheVariants.{LogFailed}
-use Rattle.cj_cluster.specs.Moves.Moves.{happened}
-use Rattle.cj_book.specs.declared.error.BookError.{BookError}
-use Rattle.cj_moves.specs.Counting.{log_faults_after}
-use Rattle.cj_state.specs.Effects.{core_scheduled, own_entry}
+use Rattle.std.proofs.Common.{◌==◌, Err, ap, sym, ◌∙◌}
+use Rattle.cj_core.proofs.Common.{BookError, core_scheduled, Entry, happened, LOG_FAULT, log_faults_after, LogFailed, own_entry, Refusal}
 use Rattle.cj_core.proofs.WriteCache.{refused_after}
 use Rattle.cj_core.proofs.solo_write.schedule_for.Goals as goal
 

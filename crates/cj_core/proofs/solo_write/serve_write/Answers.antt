@@ -1,30 +1,22 @@
-use Rattle.std.proofs.Common.{List, ℕ, refl, ap, ◌∙◌, subst}
-use Rattle.cj_model.specs.declared.request.Entry.{Entry}
-use Rattle.cj_cluster.specs.Moves.Moves.{with_request_counted}
-use Rattle.cj_state.specs.Effects.{with_core}
-use Rattle.cj_state.specs.Worlds.{WorldState}
-use Rattle.cj_core.specs.Proving.SoloParts.{EntryEnded, open_user}
-use Rattle.cj_state.specs.Effects.{own_entry}
+use Rattle.std.proofs.Common.{List, ℕ, refl, subst}
+use Rattle.cj_core.proofs.Common.{EntryEnded, open_user, own_entry}
 use Rattle.cj_core.proofs.SoloWrites.{begun_running, begun_user, begun_waits, refused, stands_refused, wrote}
 use Rattle.cj_core.proofs.WriteCache.{ended_follows, refused_follows}
 use Rattle.cj_core.proofs.solo_write.serve_write.Goals as goal
 
 pub finish-requires-clause-open : goal.finish-requires-clause-open
 finish-requires-clause-open g c =
-    let entry : Entry = own_entry c.args.state.now.core c.args.s c.args.tx c.args.user.now c.args.act in
-    begun_running c.args.s entry c.args.state.now c.schedule_for.new.state c.requires.stands.idle c.in-Ok.ensures.ok
+    begun_running c.args.s _ c.args.state.now c.schedule_for.new.state c.requires.stands.idle c.in-Ok.ensures.ok
 
 pub finish-requires-clause-waits : goal.finish-requires-clause-waits
 finish-requires-clause-waits g c =
-    let entry : Entry = own_entry c.args.state.now.core c.args.s c.args.tx c.args.user.now c.args.act in
-    begun_waits c.args.s entry c.args.state.now c.schedule_for.new.state c.requires.stands.idle c.in-Ok.ensures.ok refl
+    begun_waits c.args.s _ c.args.state.now c.schedule_for.new.state c.requires.stands.idle c.in-Ok.ensures.ok refl
 
 pub returns-in-Ok-clause-turn : goal.returns-in-Ok-clause-turn
 returns-in-Ok-clause-turn g c =
     let old = c.args.state.now in
     let begun = c.schedule_for.new.state in
-    let entry : Entry = own_entry old.core c.args.s c.args.tx c.args.user.now c.args.act in
-    let user = begun_user c.args.s entry old begun c.requires.stands.idle c.in-Ok.ensures.ok in
+    let user = begun_user c.args.s _ old begun c.requires.stands.idle c.in-Ok.ensures.ok in
     let ended = subst (λ (u : List ℕ). EntryEnded g.B.Backend.TELLS c.args.s u begun c.finish.result c.finish.new.state) user c.finish.ensures in
     wrote g.B.Backend.TELLS c.args.s c.args.tx c.args.user.now c.args.act c.finish.result old begun c.finish.new.state c.in-Ok.number c.legal.ensures.world.sound c.requires.stands ended c.in-Ok.ensures.scheduled c.in-Ok.ensures.ok
 
@@ -44,5 +36,4 @@ returns-in-Ok-clause-cache g c =
 
 pub returns-in-Err-clause-cache : goal.returns-in-Err-clause-cache
 returns-in-Err-clause-cache g c =
-    let entry : Entry = own_entry c.args.state.now.core c.args.s c.args.tx c.args.user.now c.args.act in
-    refused_follows c.args.state.now c.schedule_for.new.state c.refuse.new.state c.args.s entry c.in-Err.refusal c.in-Err.ensures.err c.refuse.ensures.counted
+    refused_follows c.args.state.now c.schedule_for.new.state c.refuse.new.state c.args.s _ c.in-Err.refusal c.in-Err.ensures.err c.refuse.ensures.counted

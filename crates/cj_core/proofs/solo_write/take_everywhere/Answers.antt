@@ -1,7 +1,5 @@
 use Rattle.std.proofs.Common.{◌≡◌, ◌≤◌, ap, sym, ◌∙◌, subst, ℕ}
-use Rattle.cj_model.specs.Cluster.Placements.{Placement}
-use Rattle.cj_cluster.specs.Moves.Cores.{Core}
-use Rattle.cj_cluster.specs.History.Histories.{is_idle}
+use Rattle.cj_core.proofs.Common.{Core, is_idle, Placement}
 use Rattle.cj_core.proofs.SoloTaking.{taken_to_next, taken_everywhere}
 use Rattle.cj_core.proofs.solo_write.take_everywhere.Goals as goal
 

@@ -1,6 +1,5 @@
 use Rattle.std.proofs.Common.{◌≡◌, None, rules}
-use Rattle.cj_cluster.specs.declared.moves.Move.TheVariants.{Apply}
-use Rattle.cj_cluster.specs.Moves.Moves.{not_now}
+use Rattle.cj_core.proofs.Common.{Apply, not_now}
 use Rattle.cj_core.proofs.SoloTaking.{took}
 use Rattle.cj_core.proofs.solo_write.take_if_due.Goals as goal
 

@@ -1,9 +1,5 @@
-use Rattle.std.proofs.Common.{◌≡◌, ◌<◌, ◌≤◌, ◌++◌, ◌∷◌, [], List, length, map, reverse, vec_capacity, refl, ap, sym, ◌∙◌, subst}
-use Rattle.std.proofs.lemmas.List.{length-map, map_push, reverse-append}
-use Rattle.cj_replica.specs.Cells.{CellState}
-use Rattle.cj_replica.specs.Seated.{SeatedCell}
-use Rattle.cj_state.specs.Seats.{states_of}
-use Rattle.cj_core.specs.Starts.{backend_of, state_by}
+use Rattle.std.proofs.Common.{◌≡◌, ◌<◌, ◌≤◌, ◌++◌, ◌∷◌, [], List, map, reverse, vec_capacity, refl, ap, sym, ◌∙◌, subst}
+use Rattle.cj_core.proofs.Common.{backend_of, CellState, length-map, map_push, reverse-append, SeatedCell, state_by, states_of}
 use Rattle.cj_core.proofs.Leaving.{left_seen, leaving_first, leaving_room, leaving_more, leaving_last}
 use Rattle.cj_core.proofs.start.backends_of.Goals as goal
 

@@ -1,7 +1,5 @@
 use Rattle.std.proofs.Common.{List, ap, ◌∙◌}
-use Rattle.cj_cluster.specs.declared.event.Event.{Event}
-use Rattle.cj_cluster.specs.History.Histories.{is_enabled, is_idle}
-use Rattle.cj_opening.proofs.Longer.{idle_opening}
+use Rattle.cj_core.proofs.Common.{Event, idle_opening, is_enabled, is_idle}
 use Rattle.cj_core.proofs.StartReplays.{only_history}
 use Rattle.cj_core.proofs.StartWhole.{enabled_standing, none_on, has_started}
 use Rattle.cj_core.proofs.start.bring_up.Goals as goal

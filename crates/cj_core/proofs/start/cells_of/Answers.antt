@@ -1,15 +1,6 @@
-use Rattle.std.proofs.Common.{◌≡◌, ◌<◌, ◌≤◌, ◌∷◌, [], List, Some, length, vec_capacity, ap, sym, ◌∙◌, subst, arith}
-use Rattle.std.proofs.lemmas.List.{length-map, map_push, nil_from_length}
+use Rattle.std.proofs.Common.{◌≡◌, ◌<◌, ◌≤◌, [], Some, length, vec_capacity, ap, sym, ◌∙◌, subst, arith}
+use Rattle.cj_core.proofs.Common.{backend_of, IsFresh, Layout, length-map, map_push, placement_of, SeatedCell, state_by, states_of}
 use Rattle.cj_model.specs.declared.limits.TheConstants.{BACKEND_LIMIT}
-use Rattle.cj_board.specs.declared.view.Role.TheVariants.{Cell}
-use Rattle.cj_board.specs.Seats.{cell_view}
-use Rattle.cj_board.specs.Views.{new_view}
-use Rattle.cj_place.specs.Layouts.{Layout, placement_of}
-use Rattle.cj_replica.specs.Cells.{CellState}
-use Rattle.cj_replica.specs.Seated.{SeatedCell}
-use Rattle.cj_state.specs.Beginnings.{IsFresh}
-use Rattle.cj_state.specs.Seats.{states_of}
-use Rattle.cj_core.specs.Starts.{backend_of, state_by}
 use Rattle.cj_core.proofs.Starting.{made_fresh, moving_first, moving_more, moving_room, moving_none, moving_last, seating_first, seating_more, seating_nothing}
 use Rattle.cj_core.proofs.start.cells_of.Goals as goal
 

@@ -1,8 +1,5 @@
 use Rattle.std.proofs.Common.{length, vec_capacity}
-use Rattle.cj_place.specs.Layouts.{placement_of}
-use Rattle.cj_core.specs.Starts.{state_by}
-use Rattle.cj_board.specs.Seats.{board_id}
-use Rattle.cj_state.specs.Seats.{states_of}
+use Rattle.cj_core.proofs.Common.{board_id, placement_of, state_by, states_of}
 use Rattle.cj_core.proofs.Starting.{Moving, Seating}
 use Rattle.cj_core.proofs.start.cells_of.Given as goal
 

@@ -1,7 +1,6 @@
 use Rattle.std.proofs.Common.{map, sym, ap, ◌∙◌, subst}
 use Rattle.cj_core.proofs.Starting.{told_of_backends}
-use Rattle.cj_state.specs.Beginnings.{AreEmpty}
-use Rattle.cj_state.specs.Seats.{states_of}
+use Rattle.cj_core.proofs.Common.{AreEmpty, states_of}
 use Rattle.cj_core.proofs.start.seat_all.Goals as goal
 
 pub returns-clause-empty : goal.returns-clause-empty

@@ -1,7 +1,5 @@
 use Rattle.std.proofs.Common.{sym, ap, subst}
-use Rattle.cj_desk.specs.DeskStates.{query_skipped}
-use Rattle.cj_core.specs.Solos.{SoloState, SoloSteps, StandsBetweenCalls}
-use Rattle.cj_state.specs.Worlds.{WorldState}
+use Rattle.cj_core.proofs.Common.{query_skipped, SoloState, SoloSteps, StandsBetweenCalls, WorldState}
 use Rattle.cj_core.proofs.SoloMoves.{stands_counted}
 use Rattle.cj_core.proofs.SoloTurns.{solo_skipped}
 use Rattle.cj_core.proofs.solo.SoloDesk.skip.Goals as goal

@@ -1,9 +1,5 @@
 use Rattle.std.proofs.Common.{◌≡◌, refl, subst, sym}
-use Rattle.cj_model.specs.Sql.PlainRequests.{request_of}
-use Rattle.cj_cluster.specs.History.Legality.{FitsTx}
-use Rattle.cj_cluster.specs.History.Turns.{Call}
-use Rattle.cj_desk.specs.DeskStates.{IsEntryNumber, desk_tx, next_call, tx_after_write}
-use Rattle.cj_core.specs.Solos.{SoloState, desk_of}
+use Rattle.cj_core.proofs.Common.{Call, desk_of, desk_tx, FitsTx, IsEntryNumber, next_call, request_of, SoloState, tx_after_write}
 use Rattle.cj_core.proofs.SoloTurns.{number_added, tx_after_adding}
 use Rattle.cj_core.proofs.solo.SoloDesk.write.Goals as goal
 

@@ -1,7 +1,5 @@
 use Rattle.std.proofs.Common.{◌≡◌, ◌+◌, true, sym, subst}
-use Rattle.cj_cluster.specs.History.Histories.{is_idle}
-use Rattle.cj_core.specs.Solos.{StandsBetweenCalls}
-use Rattle.cj_state.specs.Worlds.{WorldState}
+use Rattle.cj_core.proofs.Common.{is_idle, StandsBetweenCalls, WorldState}
 use Rattle.cj_core.proofs.SoloMoves.{stands_opened}
 use Rattle.cj_core.proofs.world.World.desk.Goals as goal
 

@@ -1,6 +1,5 @@
 use Rattle.std.proofs.Common.{map, ap, ◌∙◌, subst}
-use Rattle.cj_state.specs.Worlds.{WorldState}
-use Rattle.cj_core.specs.Starts.{AreHolding, AreCurrent, backend_of, state_by}
+use Rattle.cj_core.proofs.Common.{AreCurrent, AreHolding, backend_of, state_by, WorldState}
 use Rattle.cj_core.proofs.Leaving.{are_holding, are_current}
 use Rattle.cj_core.proofs.Starting.{told_of_backends}
 use Rattle.cj_core.proofs.world.World.into_backends.Goals as goal

@@ -1,20 +1,7 @@
 use Rattle.std.proofs.Common.{ℕ, List, map, sym, ap, ◌∙◌, subst, ◌≡◌, true}
-use mathlib.Core.List.{IsPrefix}
-use Rattle.cj_board.specs.declared.view.SeatView.{SeatView}
-use Rattle.cj_cluster.specs.declared.event.Event.{Event}
-use Rattle.cj_cluster.specs.Moves.Cores.{Core}
-use Rattle.cj_log.specs.declared.item.LogItem.{LogItem}
-use Rattle.cj_log.specs.Logs.{KeepsItems}
-use Rattle.cj_opening.specs.Openings.{OpensTo, items_of}
-use Rattle.cj_place.specs.Layouts.{Layout, placement_of}
-use Rattle.cj_replica.specs.Cells.{CellState}
-use Rattle.cj_state.specs.Beginnings.{AreEmpty, opened_core}
-use Rattle.cj_state.specs.Worlds.{LogView, WorldState}
-use Rattle.cj_core.specs.Starts.{backend_of, state_by, LosesNothing}
-use Rattle.cj_core.proofs.Starting.{told_of_backends}
+use Rattle.cj_core.proofs.Common.{backend_of, CellState, Core, Event, IsPrefix, items_of, KeepsItems, Layout, LogItem, LogView, LosesNothing, opened_core, OpensTo, placement_of, state_by, WorldState}
 use Rattle.cj_core.proofs.StartLonger.{fault_of_start, loses_nothing, refused_again, refused_part, started_well}
 use Rattle.cj_core.proofs.StartWhole.{starts_from}
-use Rattle.cj_state.specs.Seats.{states_of}
 use Rattle.cj_core.proofs.world.World.start.Goals as goal
 
 pub returns-in-Ok-brought-clause-started : goal.returns-in-Ok-brought-clause-started
