@@ -3,6 +3,7 @@
 
 mod configured;
 mod files;
+mod generated;
 mod listed;
 mod piped;
 mod program;

@@ -17,6 +17,7 @@ ghost use Rattle.cj_words.specs.declared.asked.Asked.{Asked};
 ghost use Rattle.cj_words.specs.declared.asked.Command.{Command};
 
 use crate::configured::{Unconfigured, conf_of, tell_refusal};
+use crate::generated::run_gen;
 use crate::listed::{run_log, status_of_listing};
 use crate::piped::{PipeError, run_pipe};
 use crate::refused::stop_at_log;
@@ -123,8 +124,7 @@ fn run_configured<S: Store + Drop, I: Source, O: Sink, E: Sink, C: Clock>(
         Command::Pipe { .. } => pipe_command(alloc, conf, log, input, output, errors, clock),
         Command::Script { .. } => script_command(alloc, conf, log, input, output, errors),
         Command::Log { .. } => log_command(alloc, conf, log, output, errors),
-        // There is no workload yet.
-        Command::Gen { .. } => 2,
+        Command::Gen { seed, count, .. } => run_gen(alloc, conf, seed, count, output),
     }
 }
 

@@ -1,0 +1,4 @@
+pub mod Proving
+pub mod Statements
+pub mod Summaries
+pub mod Workloads
