@@ -1,3 +1,4 @@
+pub mod Holdings
 pub mod Proving
 pub mod Statements
 pub mod Summaries

@@ -2,6 +2,7 @@
 //! and then and are brought back from a dump; and its summary.
 #![tactic(auto)]
 
+mod asking;
 mod moving;
 mod playing;
 mod statements;

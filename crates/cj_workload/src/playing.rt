@@ -14,7 +14,7 @@ ghost use Rattle.cj_workload.specs.Workloads as workload;
 ghost use Rattle.cj_workload.specs.Workloads.{Begins, PlaysRound, PlaysRounds, PlaysWorkload, TakesTurn};
 
 use crate::moving::{arm, first_host, repair_each, take_dump};
-use crate::statements::{Statement, creation, statement};
+use crate::statements::{Statement, creation, next_statement};
 use crate::summary::{Summary, sum_up};
 use cj_backend::Backend;
 use cj_core::{Solo, World};
@@ -132,7 +132,7 @@ fn rounds<B: Backend, S: Store>(
     let mut enabled = 0;
     for done in 0..count {
         let i = done + 1;
-        let statement = statement(alloc, i, &mut draw)?;
+        let statement = next_statement(alloc, i, &mut draw)?;
         enabled += round(solo, user, i, statement)?;
     }
     Ok(enabled)

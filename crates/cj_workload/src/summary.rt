@@ -1,10 +1,10 @@
 //! What a workload came to.
 
+use crate::asking::{are_equal, ask_each, count_faults, count_of};
 use crate::playing::WorkloadError;
 use crate::statements::table;
 use cj_backend::{Backend, BackendError};
 use cj_core::World;
-use cj_model::{Db, Name, NoMemory, Rows, Same, Slot, has_bit};
 use cj_outside::Store;
 use std::alloc::Global;
 
@@ -26,61 +26,6 @@ pub struct Summary {
     pub equal: bool,
 }
 
-/// The rows that the database has of the table, if it has the table.
-fn rows_in(db: Db, table: &Name) -> Option<Rows>
-{
-    for slot in db.into_vec() {
-        let Slot { base, .. } = slot;
-        if base.schema.table.is(table) {
-            return Some(base.rows);
-        }
-    }
-    None
-}
-
-/// What the backends of the mask hold of the table.
-fn ask_each<B: Backend + Drop>(
-    alloc: Global,
-    mut backends: Vec<B>,
-    mask: u32,
-) -> Result<Vec<Option<Rows>>, BackendError>
-{
-    let table = table();
-    let mut held = Vec::new(alloc);
-    for (b, backend) in backends.iter_mut().enumerate() {
-        if has_bit(mask, b as u8) {
-            held.push(rows_in(backend.contents()?, &table)).map_err(|_| BackendError::NoMemory)?;
-        }
-    }
-    Ok(held)
-}
-
-/// Whether all are the same.
-fn are_equal(held: &[Option<Rows>]) -> bool
-{
-    match held {
-        [] => true,
-        [first, others @ ..] => others.iter().all(|rows| rows.is_same(first)),
-    }
-}
-
-fn count_of(held: &[Option<Rows>]) -> u64
-{
-    match held {
-        [Some(rows), ..] => rows.len() as u64,
-        _ => 0,
-    }
-}
-
-fn faults_of<B: Backend>(backends: &[B]) -> u64
-{
-    let mut faults: u64 = 0;
-    for backend in backends {
-        faults = faults.saturating_add(backend.counts().faults);
-    }
-    faults
-}
-
 /// Sums up what the world came to by these statements, in which so many backends were enabled.
 pub fn sum_up<B: Backend + Drop, S: Store + Drop>(
     alloc: Global,
@@ -94,7 +39,7 @@ pub fn sum_up<B: Backend + Drop, S: Store + Drop>(
     let hosts = world.placement().hosts(&table());
     let mask = hosts & world.enabled();
     let backends = world.into_backends().into_vec();
-    let faults = faults_of(&backends);
+    let faults = count_faults(&backends);
     if hosts != 0 && mask == 0 {
         return Err(WorkloadError::Untold);
     }
@@ -108,9 +53,9 @@ pub fn sum_up<B: Backend + Drop, S: Store + Drop>(
         entries,
         faults,
         enabled,
-        rows: count_of(&held),
+        rows: count_of(held.as_slice()),
         hits,
         misses,
-        equal: are_equal(&held),
+        equal: are_equal(held.as_slice()),
     })
 }
