@@ -1,5 +1,5 @@
 -- What a workload comes to.
-use Rattle.std.specs.Prelude.{◌≡◌, ℕ, ◌+◌, ◌-◌, ◌^◌, min, sum, Bool, true, false, List, length, count_by}
+use Rattle.std.specs.Prelude.{◌≡◌, ℕ, ◌+◌, ◌-◌, ◌^◌, min, sum, Bool, true, false, List, length, count_by, MatchOption}
 use Rattle.cj_cluster.specs.declared.event.Event.{Event}
 use Rattle.cj_cluster.specs.declared.event.Event.TheVariants.{Sched, Ended, ReadFailed, LogFailed, Disabled, Enabled, Marker}
 use Rattle.cj_cluster.specs.History.Histories.{log, database_of}
@@ -9,7 +9,7 @@ use Rattle.cj_state.specs.Worlds.{WorldState}
 use Rattle.cj_core.specs.Solos.{SoloState}
 use Rattle.cj_workload.specs.declared.summary.Summary.{Summary}
 use Rattle.cj_workload.specs.Holdings.{row_count, rows_in}
-use Rattle.cj_workload.specs.Workloads.{Begins, PlaysRounds, session_opened}
+use Rattle.cj_workload.specs.Workloads.{Begins, PlaysRounds, first_host, session_opened}
 
 -- ---- the history
 
@@ -35,7 +35,8 @@ pub record IsSummary (tells : Bool) (count : ℕ) (begun ended : WorldState) (s 
   -- all that the backends have counted
   pub faults : s.faults ≡ min (sum (faults_of ended.cells)) (2 ^ 64 - 1)
   pub enabled : enablings ended.core.history ≡ enablings begun.core.history + s.enabled
-  pub rows : tells ≡ true → s.rows ≡ row_count (rows_in (database_of (log ended.core.history)))
+  -- none where no backend hosts the table
+  pub rows : tells ≡ true → MatchOption (first_host ended.core.placement) (s.rows ≡ 0) (λ b. s.rows ≡ row_count (rows_in (database_of (log ended.core.history))))
   pub hits : s.hits ≡ ended.cache.hits
   pub misses : s.misses ≡ ended.cache.misses
   pub equal : tells ≡ true → s.equal ≡ true

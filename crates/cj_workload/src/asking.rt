@@ -1,6 +1,6 @@
 //! What the backends have counted, and what they hold of the table.
 
-ghost use Rattle.std.specs.Prelude.{◌≡◌, ◌↔◌, ◌<◌, ◌≤◌, ◌-◌, ◌^◌, ℕ, List, [], All, IfOk, IsTrue, true, length, map, min, option_copied, sum};
+ghost use Rattle.std.specs.Prelude.{◌≡◌, ◌↔◌, ◌<◌, ◌≤◌, ◌-◌, ◌^◌, ℕ, List, [], All, IfOk, IsTrue, true, false, length, map, min, option_copied, sum};
 ghost use Rattle.std.specs.declared.option.Option.{Option};
 ghost use Rattle.cj_model.specs.declared.limits.TheConstants.{BACKEND_LIMIT};
 ghost use Rattle.cj_model.specs.declared.value.Value.{Value};
@@ -49,6 +49,7 @@ pub fn ask_each<B: Backend + Drop>(
     requires { length backends.items ≤ BACKEND_LIMIT }
     ensures same { (rows : Option (List (List Value))) → EachHolds mask (map B.told backends.items) rows → IfOk result (λ held. All (λ db. spec.rows_in db ≡ rows) held) }
     ensures some { (b : ℕ) → b < length backends.items → in_mask mask b ≡ true → IfOk result (λ held. 0 < length held) }
+    ensures none { ((b : ℕ) → in_mask mask b ≡ false) → IfOk result (λ held. held ≡ []) }
 {
     let mut held = ListOf::new(alloc);
     let mut b: u8 = 0;

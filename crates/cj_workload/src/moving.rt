@@ -1,13 +1,13 @@
 //! The moves between the statements: backends are armed, one is dumped, and those that are out are brought back.
 
-ghost use Rattle.std.specs.Prelude.{◌≡◌, ◌<◌, ◌≤◌, ◌+◌, ◌^◌, ℕ, IfOk};
-ghost use Rattle.cj_cluster.specs.Moves.Moves.{last_number};
+ghost use Rattle.std.specs.Prelude.{◌≡◌, ◌<◌, ◌≤◌, ℕ, IfOk};
 ghost use Rattle.cj_core.specs.Played.{given_of};
 ghost use Rattle.cj_moves.specs.Steps.{IsMet};
 ghost use Rattle.cj_place.specs.Layouts.{placement_of};
-ghost use Rattle.cj_workload.specs.Proving.Keeping.{IsOfBackend, Keeps, enabled_by};
+ghost use Rattle.cj_workload.specs.Proving.Keeping as keeping;
+ghost use Rattle.cj_workload.specs.Proving.Keeping.{IsOfBackend, Keeps};
 ghost use Rattle.cj_workload.specs.Workloads as workload;
-ghost use Rattle.cj_workload.specs.Workloads.{Arms, Makes, Repairs, RepairsEach, TakesDump, TakesEntries};
+ghost use Rattle.cj_workload.specs.Workloads.{Arms, CatchesUp, Makes, MakesMove, Repairs, RepairsEach, TakesDump, TakesEntries};
 
 use crate::statements::{letter, table};
 use cj_backend::Backend;
@@ -22,7 +22,7 @@ fn make<B: Backend, S: Store>(solo: &mut Solo<B, S>, m: Move) -> Result<Made, No
     requires met { IsMet solo.old.world.core m }
     requires kind { IsOfBackend m }
     ensures made { IfOk result (λ made. Makes B.TELLS B.can_be_armed solo.old m (given_of made) solo.new) }
-    ensures keeps { IfOk result (λ made. Keeps 0 (enabled_by (given_of made)) solo.old solo.new) }
+    ensures keeps { IfOk result (λ made. Keeps 0 (keeping.enabled_by (given_of made)) solo.old solo.new) }
 {
     match solo.step(m) {
         Ok(Moved::Starved) => Err(NoMemory),
@@ -35,17 +35,27 @@ fn make<B: Backend, S: Store>(solo: &mut Solo<B, S>, m: Move) -> Result<Made, No
     }
 }
 
+/// How many backends the move enabled.
+fn enabled_by(made: &Made) -> u64
+    ensures same { result ≡ keeping.enabled_by (given_of made.now) }
+    ensures few { result ≤ 1 }
+{
+    match made {
+        Made::Moved(Moved::Enabled) => 1,
+        Made::Moved(_) => 0,
+        Made::NotNow(_) => 0,
+    }
+}
+
 /// Enables the backend, and answers how many were enabled by that.
 fn enable<B: Backend, S: Store>(solo: &mut Solo<B, S>, b: u8) -> Result<u64, NoMemory>
     requires { b < solo.old.world.core.placement.backends }
-    ensures made { IfOk result (λ _. workload.Enables B.TELLS B.can_be_armed b solo.old solo.new) }
+    ensures made { IfOk result (λ _. MakesMove B.TELLS B.can_be_armed solo.old (Move.Enable b) solo.new) }
     ensures keeps { IfOk result (λ enabled. Keeps 0 enabled solo.old solo.new) }
     ensures few { IfOk result (λ enabled. enabled ≤ 1) }
 {
-    match make(solo, Move::Enable { b })? {
-        Made::Moved(Moved::Enabled) => Ok(1),
-        _ => Ok(0),
-    }
+    let made = make(solo, Move::Enable { b })?;
+    Ok(enabled_by(&made))
 }
 
 /// Takes the dump that backends are brought back from, of a backend that is disabled for it.
@@ -77,6 +87,22 @@ fn take_entries<B: Backend, S: Store>(
     Ok(())
 }
 
+/// The backend takes the entries behind a position, and is enabled. Answers how many were enabled by that.
+fn catch_up<B: Backend, S: Store>(
+    solo: &mut Solo<B, S>,
+    b: u8,
+    position: u64,
+) -> Result<u64, NoMemory>
+    requires { b < solo.old.world.core.placement.backends }
+    ensures made { IfOk result (λ _. CatchesUp B.TELLS B.can_be_armed b position solo.old solo.new) }
+    ensures keeps { IfOk result (λ enabled. Keeps 0 enabled solo.old solo.new) }
+    ensures few { IfOk result (λ enabled. enabled ≤ 1) }
+{
+    let behind = solo.world().length().saturating_sub(position);
+    take_entries(solo, b, behind)?;
+    enable(solo, b)
+}
+
 /// Brings the backend back, where it is out and the dump covers what it hosts. Answers how many were enabled by that.
 fn repair<B: Backend, S: Store>(solo: &mut Solo<B, S>, b: u8) -> Result<u64, NoMemory>
     requires { b < solo.old.world.core.placement.backends }
@@ -88,12 +114,11 @@ fn repair<B: Backend, S: Store>(solo: &mut Solo<B, S>, b: u8) -> Result<u64, NoM
         return Ok(0);
     }
     let name = letter(b'd');
-    let Made::Moved(Moved::Loaded(position)) = make(solo, Move::Load { b, name })? else {
-        return Ok(0);
-    };
-    let behind = solo.world().length().saturating_sub(position);
-    take_entries(solo, b, behind)?;
-    enable(solo, b)
+    match make(solo, Move::Load { b, name })? {
+        Made::Moved(Moved::Loaded(position)) => catch_up(solo, b, position),
+        Made::Moved(_) => Ok(0),
+        Made::NotNow(_) => Ok(0),
+    }
 }
 
 /// Does so with each backend.

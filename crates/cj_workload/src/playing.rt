@@ -1,17 +1,16 @@
 //! The workload, statement by statement.
 
-ghost use Rattle.std.specs.Prelude.{◌≡◌, ◌<◌, ◌≤◌, ◌+◌, ◌*◌, ◌^◌, ℕ, [], false, true, suc, IfOk, IsErrOf};
-ghost use Rattle.cj_model.specs.declared.limits.TheConstants.{REQUEST_LIMIT};
-ghost use Rattle.cj_model.specs.declared.request.Request.TheVariants as requests;
+ghost use Rattle.std.specs.Prelude.{◌≡◌, ◌<◌, ◌≤◌, ◌+◌, ◌^◌, ℕ, [], true, IfOk, IsErrOf};
+ghost use Rattle.cj_model.specs.declared.limits.TheConstants.{REQUEST_LIMIT, SESSION_NUMBER_LIMIT};
+ghost use Rattle.cj_model.specs.Sql.PlainRequests.{request_of};
 ghost use Rattle.cj_model.specs.Sql.WrittenRequests.{IsWritten};
 ghost use Rattle.cj_cluster.specs.History.Histories.{is_idle};
 ghost use Rattle.cj_cluster.specs.Moves.Cores.{session_at};
-ghost use Rattle.cj_cluster.specs.Moves.Moves.{has_no_number};
-ghost use Rattle.cj_core.specs.Solos.{SoloState};
-ghost use Rattle.cj_workload.specs.Proving.Keeping.{Keeps};
+ghost use Rattle.cj_workload.specs.Proving.Keeping.{IsOutside, Keeps};
 ghost use Rattle.cj_workload.specs.Statements.{request_of_statement};
+ghost use Rattle.cj_workload.specs.Summaries.{PlaysWorkload};
 ghost use Rattle.cj_workload.specs.Workloads as workload;
-ghost use Rattle.cj_workload.specs.Workloads.{Begins, PlaysRound, PlaysRounds, PlaysWorkload, TakesTurn};
+ghost use Rattle.cj_workload.specs.Workloads.{Begins, PlaysRound, PlaysRounds, TakesTurn};
 
 use crate::moving::{arm, first_host, repair_each, take_dump};
 use crate::statements::{Statement, creation, next_statement};
@@ -79,6 +78,7 @@ fn write<B: Backend, S: Store>(
     requires written { IsWritten (request_of act) }
     requires kind { IsOutside act }
     ensures turn { IfOk result (λ _. TakesTurn B.TELLS solo.old (request_of act) solo.new) }
+    ensures keeps { IfOk result (λ _. Keeps 1 0 solo.old solo.new) }
 {
     let written = Desk::<()>::write(solo, &(), user, 0, act);
     if tells_want(&written.reply) {
@@ -93,6 +93,11 @@ fn take_turn<B: Backend, S: Store>(
     user: &Text,
     statement: Statement,
 ) -> Result<(), NoMemory>
+    requires user { user.now ≡ [] }
+    requires room { (session_at solo.old.world.core solo.old.session).queries < REQUEST_LIMIT }
+    requires written { IsWritten (request_of_statement statement) }
+    ensures turn { IfOk result (λ _. TakesTurn B.TELLS solo.old (request_of_statement statement) solo.new) }
+    ensures keeps { IfOk result (λ _. Keeps 1 0 solo.old solo.new) }
 {
     match statement {
         Statement::Change(change) => write(solo, user, Act::Write(change)),
@@ -113,6 +118,12 @@ fn round<B: Backend, S: Store>(
     i: u64,
     statement: Statement,
 ) -> Result<u64, NoMemory>
+    requires user { user.now ≡ [] }
+    requires room { (session_at solo.old.world.core solo.old.session).queries < REQUEST_LIMIT }
+    requires written { IsWritten (request_of_statement statement) }
+    ensures plays { IfOk result (λ _. PlaysRound B.TELLS B.can_be_armed i (request_of_statement statement) solo.old solo.new) }
+    ensures keeps { IfOk result (λ enabled. Keeps 1 enabled solo.old solo.new) }
+    ensures few { IfOk result (λ enabled. enabled ≤ 32) }
 {
     arm(solo, i)?;
     take_turn(solo, user, statement)?;
@@ -127,6 +138,11 @@ fn rounds<B: Backend, S: Store>(
     seed: u64,
     count: u64,
 ) -> Result<u64, NoMemory>
+    requires user { user.now ≡ [] }
+    requires few { count < 2 ^ 32 }
+    requires room { (session_at solo.old.world.core solo.old.session).queries + count ≤ REQUEST_LIMIT }
+    ensures plays { IfOk result (λ _. PlaysRounds B.TELLS B.can_be_armed seed count solo.old solo.new) }
+    ensures keeps { IfOk result (λ enabled. Keeps count enabled solo.old solo.new) }
 {
     let mut draw = PcgDraw::new(seed);
     let mut enabled = 0;
@@ -144,6 +160,10 @@ fn begin<B: Backend, S: Store>(
     alloc: Global,
     user: &Text,
 ) -> Result<(), NoMemory>
+    requires user { user.now ≡ [] }
+    requires room { (session_at solo.old.world.core solo.old.session).queries < REQUEST_LIMIT }
+    ensures begins { IfOk result (λ _. Begins B.TELLS B.can_be_armed solo.old solo.new) }
+    ensures keeps { IfOk result (λ _. (enabled : ℕ) × Keeps 1 enabled solo.old solo.new) }
 {
     let create = creation(alloc)?;
     write(solo, user, Act::Create(create))?;
@@ -153,13 +173,22 @@ fn begin<B: Backend, S: Store>(
     }
 }
 
-/// Plays the workload of so many statements, drawn from the seed, and sums it up.
+/// Plays the workload of so many statements, drawn from the seed, by a session of its own, and sums it up.
+///
+/// A table is made and dumped at its first host. Then come the statements, one after another; before some of them a backend is
+/// armed, and behind each one the backends that are out are brought back from the dump. Want of memory ends it, also where it is a
+/// backend's.
 pub fn play<B: Backend + Drop, S: Store + Drop>(
     alloc: Global,
     world: World<B, S>,
     seed: u64,
     count: u64,
 ) -> Result<Summary, WorkloadError>
+    requires fresh { world.core.sessions ≡ [] }
+    requires idle { is_idle world.core.history ≡ true }
+    requires few { count < 2 ^ 32 }
+    ensures played { IfOk result (PlaysWorkload B.TELLS B.can_be_armed seed count world) }
+    ensures full { IsErrOf result WorkloadError.SessionsFull → SESSION_NUMBER_LIMIT ≤ world.core.greatest }
 {
     world.legal();
     let Ok(mut solo) = world.desk() else {

@@ -1,5 +1,10 @@
 //! What a workload came to.
 
+ghost use Rattle.std.specs.Prelude.{◌≡◌, ◌+◌, true, IfOk};
+ghost use Rattle.cj_cluster.specs.History.Histories.{is_idle};
+ghost use Rattle.cj_state.specs.Worlds.{WorldState};
+ghost use Rattle.cj_workload.specs.Summaries.{IsSummary, enablings};
+
 use crate::asking::{are_equal, ask_each, count_faults, count_of};
 use crate::playing::WorkloadError;
 use crate::statements::table;
@@ -33,6 +38,8 @@ pub fn sum_up<B: Backend + Drop, S: Store + Drop>(
     statements: u64,
     enabled: u64,
 ) -> Result<Summary, WorkloadError>
+    requires { is_idle world.core.history ≡ true }
+    ensures { (begun : WorldState) → enablings world.core.history ≡ enablings begun.core.history + enabled → IfOk result (IsSummary B.TELLS statements begun world) }
 {
     let entries = world.length();
     let (hits, misses) = world.cache_counts();
@@ -40,6 +47,10 @@ pub fn sum_up<B: Backend + Drop, S: Store + Drop>(
     let mask = hosts & world.enabled();
     let backends = world.into_backends().into_vec();
     let faults = count_faults(&backends);
+    // A backend that was brought back had failed, which it has counted, or had wanted memory.
+    if enabled > faults {
+        return Err(WorkloadError::NoMemory);
+    }
     if hosts != 0 && mask == 0 {
         return Err(WorkloadError::Untold);
     }
