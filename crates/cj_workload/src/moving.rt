@@ -1,6 +1,6 @@
 //! The moves between the statements: backends are armed, one is dumped, and those that are out are brought back.
 
-ghost use Rattle.std.specs.Prelude.{◌≡◌, ◌<◌, ◌≤◌, ℕ, IfOk};
+ghost use Rattle.std.specs.Prelude.{◌≡◌, ◌<◌, ◌≤◌, ℕ, IfOk, Ok};
 ghost use Rattle.cj_core.specs.Played.{given_of};
 ghost use Rattle.cj_moves.specs.Steps.{IsMet};
 ghost use Rattle.cj_place.specs.Layouts.{placement_of};
@@ -17,6 +17,17 @@ use cj_model::{NoMemory, has_bit};
 use cj_outside::Store;
 use cj_place::Placement;
 
+/// Whether what a move gave says that a backend wanted memory.
+fn tells_want(moved: &Moved) -> bool
+    ensures { result ≡ workload.gives_want (Ok moved.now) }
+{
+    match moved {
+        Moved::Starved => true,
+        Moved::Replayed { did, .. } => matches!(did, Did::Starved),
+        _ => false,
+    }
+}
+
 /// Makes a move of one backend; one that can't be made now changes nothing.
 fn make<B: Backend, S: Store>(solo: &mut Solo<B, S>, m: Move) -> Result<Made, NoMemory>
     requires met { IsMet solo.old.world.core m }
@@ -25,11 +36,12 @@ fn make<B: Backend, S: Store>(solo: &mut Solo<B, S>, m: Move) -> Result<Made, No
     ensures keeps { IfOk result (λ made. Keeps 0 (keeping.enabled_by (given_of made)) solo.old solo.new) }
 {
     match solo.step(m) {
-        Ok(Moved::Starved) => Err(NoMemory),
-        Ok(Moved::Replayed {
-            did: Did::Starved, ..
-        }) => Err(NoMemory),
-        Ok(moved) => Ok(Made::Moved(moved)),
+        Ok(moved) => {
+            if tells_want(&moved) {
+                return Err(NoMemory);
+            }
+            Ok(Made::Moved(moved))
+        }
         Err(MoveError::NotNow(why)) => Ok(Made::NotNow(why)),
         Err(MoveError::NoMemory) => Err(NoMemory),
     }

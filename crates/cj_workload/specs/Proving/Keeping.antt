@@ -36,4 +36,4 @@ pub record Keeps (requests enabled : ℕ) (a z : SoloState) : Type 0 where
   pub placement : z.world.core.placement ≡ a.world.core.placement
   pub session : z.session ≡ a.session
   pub queries : (session_at z.world.core z.session).queries ≡ (session_at a.world.core a.session).queries + requests
-  pub enabled : enablings z.world.core.history ≡ enablings a.world.core.history + enabled
+  pub counted : enablings z.world.core.history ≡ enablings a.world.core.history + enabled
