@@ -29,3 +29,5 @@ mod row_limit_tests;
 mod sql_tests;
 #[cfg(test)]
 mod tests;
+#[cfg(test)]
+mod workload_tests;
