@@ -1,3 +1,5 @@
 pub mod Asked
 pub mod Kept
+pub mod Rounds
+pub mod Summing
 pub mod Written

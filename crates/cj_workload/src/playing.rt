@@ -168,7 +168,10 @@ fn begin<B: Backend, S: Store>(
     let create = creation(alloc)?;
     write(solo, user, Act::Create(create))?;
     match first_host(solo.world().placement()) {
-        Some(b) => take_dump(solo, b),
+        Some(b) => {
+            take_dump(solo, b)?;
+            Ok(())
+        }
         None => Ok(()),
     }
 }
@@ -197,5 +200,6 @@ pub fn play<B: Backend + Drop, S: Store + Drop>(
     let user = nobody(alloc);
     begin(&mut solo, alloc, &user)?;
     let enabled = rounds(&mut solo, alloc, &user, seed, count)?;
-    sum_up(alloc, solo.close(), count, enabled)
+    let summary = sum_up(alloc, solo.close(), count, enabled)?;
+    Ok(summary)
 }

@@ -1,6 +1,6 @@
 //! What a workload came to.
 
-ghost use Rattle.std.specs.Prelude.{◌≡◌, ◌+◌, true, IfOk};
+ghost use Rattle.std.specs.Prelude.{◌≡◌, ◌+◌, true, IfOk, IsErrOf};
 ghost use Rattle.cj_cluster.specs.History.Histories.{is_idle};
 ghost use Rattle.cj_state.specs.Worlds.{WorldState};
 ghost use Rattle.cj_workload.specs.Summaries.{IsSummary, enablings};
@@ -39,8 +39,10 @@ pub fn sum_up<B: Backend + Drop, S: Store + Drop>(
     enabled: u64,
 ) -> Result<Summary, WorkloadError>
     requires { is_idle world.core.history ≡ true }
-    ensures { (begun : WorldState) → enablings world.core.history ≡ enablings begun.core.history + enabled → IfOk result (IsSummary B.TELLS statements begun world) }
+    ensures summary { (begun : WorldState) → enablings world.core.history ≡ enablings begun.core.history + enabled → IfOk result (IsSummary B.TELLS statements begun world) }
+    ensures opened { IsErrOf result WorkloadError.SessionsFull → ⊥ }
 {
+    world.legal();
     let entries = world.length();
     let (hits, misses) = world.cache_counts();
     let hosts = world.placement().hosts(&table());
