@@ -1,13 +1,9 @@
 -- What the backends of a mask were asked for.
-use Rattle.std.proofs.Common.{◌≡◌, ◌∙◌, refl, sym, ap, subst, ℕ, ◌+◌, ◌<◌, true, List, [], ◌∷◌, ◌++◌, length, map, Option, Some, arith}
+use Rattle.std.proofs.Common.{◌≡◌, ◌∙◌, refl, sym, ap, subst, ℕ, ◌+◌, ◌<◌, true, List, ◌∷◌, ◌++◌, length, map, Option, Some, arith}
 use Rattle.std.specs.Prelude.{IfSome, slice_get, option_map}
-use Rattle.std.proofs.lemmas.List.{length-append, length-map, append_assoc}
 use Rattle.std.proofs.lemmas.Option.{slice_get-map, slice_get_read}
 use Rattle.std.proofs.Math.Seq.{get_or-append_seam}
-use Rattle.cj_model.specs.declared.database.Slot.{Slot}
-use Rattle.cj_model.specs.declared.value.Value.{Value}
-use Rattle.cj_model.specs.Cluster.Masks.{in_mask}
-use Rattle.cj_workload.specs.Holdings.{EachHolds, rows_in}
+use Rattle.cj_workload.proofs.Common.{EachHolds, in_mask, length-append, length-map, rows_in, Slot, Value}
 
 module _ {B : Type 0} (told : B → Option (List Slot)) (before rest items : List B) (x : B) (all : before ++ (x ∷ rest) ≡ items) where
   -- the next backend stands behind those that were asked
@@ -15,7 +11,7 @@ module _ {B : Type 0} (told : B → Option (List Slot)) (before rest items : Lis
   told_there =
       let long : length (before ++ (x ∷ rest)) ≡ length before + length (x ∷ rest) = length-append before (x ∷ rest) in
       let here : slice_get (before ++ (x ∷ rest)) (length before) ≡ Some x =
-          slice_get_read (before ++ (x ∷ rest)) (length (before ++ (x ∷ rest))) (length before) x refl (omega (arith, long)) (sym (get_or-append_seam before x rest x)) in
+      slice_get_read (before ++ (x ∷ rest)) (length (before ++ (x ∷ rest))) (length before) x refl (omega (arith, long)) (sym (get_or-append_seam before x rest x)) in
       slice_get-map told items (length before) ∙ ap (λ (l : List B). option_map told (slice_get l (length before))) (sym all) ∙ ap (option_map told) here
 
   pub place_within : length before < length items

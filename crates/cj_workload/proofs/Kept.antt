@@ -1,17 +1,16 @@
 -- What the moves of one backend keep, and what a turn does: the placement, the requests that each session has made, and how often backends were enabled.
-use Rattle.std.proofs.Common.{◌≡◌, ◌∙◌, refl, sym, ap, subst, ℕ, zero, suc, ◌+◌, add-zero, cond, Bool, true, false, List, [], ◌∷◌, ◌++◌, map, Option, None, Some, Ok, Err, arith, ⊎_elim}
+use Rattle.std.proofs.Common.{◌≡◌, ◌∙◌, refl, sym, ap, subst, ℕ, zero, suc, ◌+◌, add-zero, cond, Bool, List, [], ◌∷◌, ◌++◌, map, Option, None, Some, Ok, Err, arith, ⊎_elim}
 use Rattle.std.specs.Prelude.{count_by}
-use Rattle.std.proofs.lemmas.Bool.{cond_both}
 use Rattle.std.proofs.lemmas.List.Sums.{sum_by-append}
+use Rattle.cj_workload.proofs.Common.{cond_both, Core, session_at}
 use Rattle.cj_model.specs.declared.request.Act.{Act}
 use Rattle.cj_model.specs.Sql.PlainRequests.{act_of}
 use Rattle.cj_cluster.specs.declared.event.Event.{Event}
 use Rattle.cj_cluster.specs.declared.event.Event.TheVariants as event
 use Rattle.cj_cluster.specs.declared.moves.Move.{Move}
-use Rattle.cj_cluster.specs.declared.moves.Move.TheVariants.{Open, Close, Schedule, Abort, Apply, End, Read, Arm, Disable, Replay, Enable, Mark, Dump, Load}
+use Rattle.cj_cluster.specs.declared.moves.Move.TheVariants.{Arm, Disable, Replay, Enable, Dump, Load}
 use Rattle.cj_cluster.specs.declared.moves.Moved.TheVariants as moved
-use Rattle.cj_cluster.specs.declared.moves.MoveError.TheVariants.{NoMemory, NotNow}
-use Rattle.cj_cluster.specs.Moves.Cores.{Core, session_at}
+use Rattle.cj_cluster.specs.declared.moves.MoveError.TheVariants.{NoMemory}
 use Rattle.cj_cluster.specs.Moves.Moves.{MoveResult, MovesTo, DoesMove, Arms, Disables, Enables, Dumps, Loads, Replays, happened, not_now}
 use Rattle.cj_cluster.specs.History.Turns.{Call}
 use Rattle.cj_desk.specs.DeskStates.{turn_taken}

@@ -1,4 +1,5 @@
 pub mod Asked
+pub mod Common
 pub mod Kept
 pub mod Rounds
 pub mod Summing

@@ -1,17 +1,12 @@
 -- One round more, and how a workload begins.
-use Rattle.std.proofs.Common.{◌≡◌, ◌∙◌, refl, sym, ap, subst, ℕ, suc, ◌+◌, ◌<◌, ◌==◌, ◌&&◌, add-one, Bool, true, false, cond, List, [], ◌∷◌, Option, None, Some, nat_lt, arith}
-use Rattle.std.specs.Prelude.{find, All}
-use Rattle.std.specs.List.{range_with_len}
-use Rattle.std.proofs.lemmas.Bool.{and_parts, cond_both, ltb-true}
+use Rattle.std.proofs.Common.{◌≡◌, ◌∙◌, refl, sym, ap, subst, ℕ, suc, ◌+◌, ◌<◌, add-one, Bool, true, false, cond, List, [], ◌∷◌, Option, Some, nat_lt}
 use Rattle.std.proofs.lemmas.List.Elements.{All-nil}
-use Rattle.rand_pcg.specs.Lcg.{Lcg}
+use Rattle.cj_workload.proofs.Common.{All, and_parts, find, hosts, Lcg, ltb-true, Placement, range_with_len, SoloState}
 use Rattle.cj_model.specs.declared.request.Request.{Request}
-use Rattle.cj_model.specs.Cluster.Placements.{Placement, hosts}
 use Rattle.cj_cluster.specs.declared.moves.OpenSession.{OpenSession}
 use Rattle.cj_cluster.specs.Moves.Cores.{Core, find_session, new_session, session_at}
 use Rattle.cj_cluster.specs.Moves.Moves.{opened_for}
 use Rattle.cj_cluster.proofs.Sessions.{session_at-is, session_of-push_same}
-use Rattle.cj_core.specs.Solos.{SoloState}
 use Rattle.cj_workload.specs.Statements.{generator_after_step, generator_behind, next_statement, statement_of, table_name}
 use Rattle.cj_workload.specs.Workloads.{PlaysRound, PlaysRounds, first_host}
 
@@ -31,7 +26,7 @@ rounds_more tells armable seed n a m z g r is drawn plays round =
     let e : n + 1 ≡ suc n = add-one n in
     let same : r ≡ next_statement seed n = drawn ∙ (ap (λ (k : ℕ). statement_of g k) e ∙ ap (λ (x : Lcg). statement_of x (suc n)) is) in
     let next : PlaysRound tells armable (suc n) (next_statement seed n) m z =
-        subst (λ (k : ℕ). PlaysRound tells armable k (next_statement seed n) m z) e (subst (λ (q : Request). PlaysRound tells armable (n + 1) q m z) same round) in
+    subst (λ (k : ℕ). PlaysRound tells armable k (next_statement seed n) m z) e (subst (λ (q : Request). PlaysRound tells armable (n + 1) q m z) same round) in
     subst (λ (k : ℕ). PlaysRounds tells armable seed k a z) (sym e) (m, plays, next)
 
 -- ---- the beginning

@@ -1,26 +1,14 @@
 -- What is summed up of the backends that a world hands back.
-use Rattle.std.proofs.Common.{◌≡◌, ◌≢◌, ◌∙◌, ◌⊎◌, ⊎_elim, inl, inr, refl, sym, ap, subst, ℕ, zero, suc, ◌+◌, ◌<◌, ◌≤◌, ◌^◌, ◌&&◌, Bool, true, false, cond, List, [], ◌∷◌, length, map, Option, None, Some, bit_and, nat_lt, arith}
-use Rattle.std.specs.Prelude.{All, MatchOption, find, slice_get, option_map}
-use Rattle.std.specs.List.{range_with_len}
-use Rattle.std.proofs.Math.Nat.{eq-or-lt_of_le}
-use Rattle.std.proofs.lemmas.Bool.{and_parts, both_ways, ltb-true}
-use Rattle.std.proofs.lemmas.List.{length-map}
+use Rattle.std.proofs.Common.{◌≡◌, ◌≢◌, ◌∙◌, ◌⊎◌, ⊎_elim, inl, inr, refl, sym, ap, ℕ, zero, suc, ◌+◌, ◌<◌, ◌≤◌, ◌^◌, ◌&&◌, Bool, true, false, cond, List, [], ◌∷◌, length, map, Option, None, Some, bit_and, nat_lt, arith}
 use Rattle.std.proofs.lemmas.List.Elements.{All-head, All-tail}
-use Rattle.cj_model.specs.declared.database.Slot.{Slot}
-use Rattle.cj_model.specs.declared.value.Value.{Value}
-use Rattle.cj_model.specs.Cluster.Masks.{in_mask}
-use Rattle.cj_model.specs.Cluster.Placements.{Placement, hosts, part}
+use Rattle.cj_workload.proofs.Common.{All, and_parts, AreSame, both_ways, EachHolds, eq-or-lt_of_le, faults_of, find, first_count, first_host, hosts, in_mask, length-map, ltb-true, MatchOption, option_map, part, Placement, range_with_len, row_count, rows_in, slice_get, Slot, table_name, Value}
 use Rattle.cj_model.proofs.MaskBits.{has-and}
 use Rattle.cj_model.proofs.Masks.{has-zero, some_bit}
 use Rattle.cj_model.proofs.PartLaws.{found_in_part}
 use Rattle.cj_backend.specs.Backends.{Arming}
 use Rattle.cj_replica.specs.Cells.{CellState}
-use Rattle.cj_state.specs.Faults.{faults_of}
 use Rattle.cj_state.specs.Worlds.{WorldState, IsWorld}
 use Rattle.cj_core.specs.Starts.{BackendState, backend_of, state_by}
-use Rattle.cj_workload.specs.Holdings.{AreSame, EachHolds, first_count, row_count, rows_in}
-use Rattle.cj_workload.specs.Statements.{table_name}
-use Rattle.cj_workload.specs.Workloads.{first_host}
 use Rattle.cj_workload.proofs.Rounds.{found_passes}
 
 -- ---- the counts of backends

@@ -1,7 +1,6 @@
 -- Some text reads as each statement of the workload: its canonical one does.
-use Rattle.std.proofs.Common.{◌≡◌, refl, ap, ℕ, ◌+◌, ◌<◌, ◌≤◌, ◌^◌, ◌%◌, ◌==◌, true, false, List, [], ◌∷◌, codes, Option, None, Some, arith, lit≤}
-use Rattle.std.proofs.lemmas.Bool.{cond_both}
-use Rattle.rand_pcg.specs.Lcg.{Lcg}
+use Rattle.std.proofs.Common.{◌≡◌, refl, ap, ℕ, ◌+◌, ◌<◌, ◌≤◌, ◌^◌, ◌%◌, ◌==◌, true, codes, Option, None, Some, arith, lit≤}
+use Rattle.cj_workload.proofs.Common.{cond_both, IsWritten, Lcg}
 use Rattle.cj_model.specs.declared.request.Request.TheVariants as request
 use Rattle.cj_model.specs.declared.select.Item.{Item}
 use Rattle.cj_model.specs.declared.select.Item.TheVariants as item
@@ -9,7 +8,6 @@ use Rattle.cj_model.specs.Database.Conditions.{Condition}
 use Rattle.cj_model.specs.Sql.Grammar.{WhereFits, where_meant}
 use Rattle.cj_model.specs.Sql.PlainRequests.{is_plain_where}
 use Rattle.cj_model.specs.Sql.Lexical.{keyword}
-use Rattle.cj_model.specs.Sql.WrittenRequests.{IsWritten}
 use Rattle.cj_model.proofs.Spellable.{FineName, FineItem, FineWhere}
 use Rattle.cj_outside.specs.Draws.{of_generator, of_generator_below}
 use Rattle.cj_print.proofs.Forms.{where_form}

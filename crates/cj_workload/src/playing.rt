@@ -68,11 +68,7 @@ fn tells_want(reply: &Reply) -> bool
 }
 
 /// A write of the session.
-fn write<B: Backend, S: Store>(
-    solo: &mut Solo<B, S>,
-    user: &Text,
-    act: Act,
-) -> Result<(), NoMemory>
+fn write<B: Backend, S: Store>(solo: &mut Solo<B, S>, user: &Text, act: Act) -> Result<(), NoMemory>
     requires user { user.now ≡ [] }
     requires room { (session_at solo.old.world.core solo.old.session).queries < REQUEST_LIMIT }
     requires written { IsWritten (request_of act) }

@@ -1,10 +1,6 @@
 use Rattle.std.proofs.Common.{◌≡◌, ◌<◌, ◌++◌, ℕ, List, [], length, map, true, false}
-use Rattle.std.specs.Prelude.{All}
 use Rattle.std.specs.declared.option.Option.{Option}
-use Rattle.cj_model.specs.declared.database.Slot.{Slot}
-use Rattle.cj_model.specs.declared.value.Value.{Value}
-use Rattle.cj_model.specs.Cluster.Masks.{in_mask}
-use Rattle.cj_workload.specs.Holdings.{EachHolds, rows_in}
+use Rattle.cj_workload.proofs.Common.{All, EachHolds, in_mask, rows_in, Slot, Value}
 use Rattle.cj_workload.proofs.asking.ask_each.Given as goal
 
 abbrev pub invariant-loop-backend : goal.invariant-loop-backend

@@ -1,4 +1,3 @@
-use Rattle.std.proofs.Common.{Ok}
 use Rattle.cj_workload.proofs.Kept.{keeps_made}
 use Rattle.cj_workload.proofs.moving.make.Goals as goal
 

@@ -1,9 +1,7 @@
-use Rattle.std.proofs.Common.{◌≡◌, ◌<◌, ◌∙◌, ap, sym, subst, Some}
+use Rattle.std.proofs.Common.{◌∙◌, ap, sym, subst}
+use Rattle.cj_workload.proofs.Common.{first_host, IsWritten, WorldState}
 use Rattle.cj_model.specs.declared.schema.Create.{Create}
 use Rattle.cj_model.specs.declared.request.Request.TheVariants as request
-use Rattle.cj_model.specs.Sql.WrittenRequests.{IsWritten}
-use Rattle.cj_state.specs.Worlds.{WorldState}
-use Rattle.cj_workload.specs.Workloads.{first_host}
 use Rattle.cj_workload.proofs.Kept.{keeps_both}
 use Rattle.cj_workload.proofs.Rounds.{host_within}
 use Rattle.cj_workload.proofs.Written.{creation_written}

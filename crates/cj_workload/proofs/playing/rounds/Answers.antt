@@ -1,4 +1,4 @@
-use Rattle.std.proofs.Common.{◌≡◌, ◌+◌, ◌<◌, ◌≤◌, sym, subst, arith}
+use Rattle.std.proofs.Common.{◌+◌, sym, subst, arith}
 use Rattle.cj_model.specs.Sql.WrittenRequests.{IsWritten}
 use Rattle.cj_workload.proofs.Kept.{keeps_both}
 use Rattle.cj_workload.proofs.Rounds.{draws_more, rounds_more}

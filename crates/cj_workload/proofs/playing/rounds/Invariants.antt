@@ -1,7 +1,5 @@
 use Rattle.std.proofs.Common.{◌≡◌, ◌≤◌, ◌*◌}
-use Rattle.cj_workload.specs.Proving.Keeping.{Keeps}
-use Rattle.cj_workload.specs.Statements.{generator_behind}
-use Rattle.cj_workload.specs.Workloads.{PlaysRounds}
+use Rattle.cj_workload.proofs.Common.{generator_behind, Keeps, PlaysRounds}
 use Rattle.cj_workload.proofs.playing.rounds.Given as goal
 
 abbrev pub invariant-loop-done : goal.invariant-loop-done

@@ -1,4 +1,4 @@
-use Rattle.std.proofs.Common.{◌≡◌, ◌∙◌, sym, ap, refl, ◌&&◌, Bool, true, [], ◌∷◌, ◌||◌, arith}
+use Rattle.std.proofs.Common.{◌≡◌, ◌∙◌, sym, true, arith}
 use Rattle.std.proofs.lemmas.Bool.Decides.{nat_tests}
 use Rattle.cj_model.specs.Sql.Names.{begins_name, is_name}
 use Rattle.cj_workload.proofs.statements.letter.Goals as goal
