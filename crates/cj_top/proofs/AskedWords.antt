@@ -4,11 +4,20 @@ use Rattle.cj_words.specs.Words.{Asks, Says}
 use Rattle.cj_words.specs.declared.asked.Asked.{Asked}
 use Rattle.cj_words.specs.declared.asked.Asked.TheVariants as asked
 use Rattle.cj_words.specs.declared.asked.Command.{Command}
+use Rattle.cj_words.specs.declared.asked.Command.TheVariants.{Pipe, Script, Log, Gen}
 use Rattle.cj_words.specs.declared.asked.Topic.{Topic}
 use Rattle.cj_top.specs.Program.{AsksForText}
+use Rattle.cj_top.specs.Runs.{HasFewStatements}
+
+-- words ask for no more statements than they may
+pub few_said : (words : List (List ℕ)) (a : Command) → Says words a → HasFewStatements a
+few_said words (Pipe path) says = tt
+few_said words (Script path) says = tt
+few_said words (Log path) says = tt
+few_said words (Gen path seed count) says = says.2.most
 
 module _ (words : List (List ℕ)) (found : Option Asked) (reads : (a : Asked) → (found ≡ Some a) ↔ Asks words a) where
-  pub command_same : (a b : Command) → found ≡ Some (asked.Command a) → Says words b → a ≡ b
+  command_same : (a b : Command) → found ≡ Some (asked.Command a) → Says words b → a ≡ b
   command_same a b is says = let other = (reads (asked.Command b)).1 says in cc (is, other)
 
   -- what holds of the command that was read holds of each that the words are

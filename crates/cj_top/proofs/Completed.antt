@@ -26,6 +26,7 @@ use Rattle.cj_book.specs.declared.error.StartError.{StartError}
 use Rattle.cj_outside.specs.declared.sink.OutError.{OutError}
 use Rattle.cj_outside.specs.declared.sink.OutError.TheVariants as out_errors
 use Rattle.cj_place.specs.Layouts.{placement_of}
+use Rattle.cj_top.specs.Generated.{RunsGen}
 use Rattle.cj_top.specs.Listed.{ListsLog}
 use Rattle.cj_top.specs.Logs.{StopsAtLog}
 use Rattle.cj_top.proofs.Unopened.{start_status}
@@ -159,7 +160,7 @@ module _ (tells : Bool) (store : List ℕ) (left held held' : Option (List ℕ))
         ⊎_elim (λ (runs : RunsScript c found left left' held held' errors errors' before now status). script_completes c found left left' held held' errors errors' before now status one five six runs)
         (λ (s : StopsAtLog Refuses Tells Idle status). absurd (not_stopped s)) comes
     completes (Log path) comes = ⊎_elim (λ (lists : ListsLog c.placement.names found held held' status). listed_status lists.answer lists.status_is) (λ (s : StopsAtLog Refuses Tells Idle status). absurd (not_stopped s)) comes
-    completes (Gen path seed count) comes = comes.0
+    completes (Gen path seed count) comes = ⊎_elim (λ (runs : RunsGen c seed count held held' status). listed_status runs.answer runs.status_is) (λ (q : (status ≡ 1) × Quiet). absurd (one q.0)) comes
 
     -- an accepted one
     pub command_completes : (command : Command) (bytes : List ℕ) → AreConfBytes tells store bytes → conf_of bytes ≡ Ok c

@@ -169,4 +169,4 @@ abbrev pub CompletesCommand : Command → (left held held' : Option (List ℕ)) 
 CompletesCommand (Pipe path) left held held' status c = PipesInput (in_memory c) left held held' status
 CompletesCommand (Script path) left held held' status c = ScriptsInput c.placement.names left status
 CompletesCommand (Log path) left held held' status c = status ≡ 0
-CompletesCommand (Gen path seed count) left held held' status c = status ≡ 2
+CompletesCommand (Gen path seed count) left held held' status c = status ≡ 0

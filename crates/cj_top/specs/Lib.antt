@@ -1,5 +1,6 @@
 pub mod Completeness
 pub mod Configured
+pub mod Generated
 pub mod Listed
 pub mod Logs
 pub mod Piped

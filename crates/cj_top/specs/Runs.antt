@@ -8,6 +8,8 @@ use Rattle.std.specs.declared.option.Option.{Option}
 use Rattle.cj_log.specs.declared.item.LogItem.{LogItem}
 use Rattle.cj_words.specs.declared.asked.Command.{Command}
 use Rattle.cj_words.specs.declared.asked.Command.TheVariants.{Pipe, Script, Log, Gen}
+use Rattle.cj_words.specs.declared.parts.TheConstants.{COUNT_LIMIT}
+use Rattle.cj_top.specs.Generated.{ComesByGen}
 use Rattle.cj_top.specs.Listed.{ComesByLog}
 use Rattle.cj_top.specs.Piped.{ComesByPipe}
 use Rattle.cj_top.specs.Scripted.{ComesByScript}
@@ -45,5 +47,18 @@ abbrev pub ComesBy : Command → (c : Conf) (found : List LogItem → Type 0) (S
 ComesBy (Pipe path) c found Stops Quiet moment left left' held held' errors errors' before now status = ComesByPipe c found Stops Quiet moment left left' held held' status
 ComesBy (Script path) c found Stops Quiet moment left left' held held' errors errors' before now status = ComesByScript c found Stops left left' held held' errors errors' before now status
 ComesBy (Log path) c found Stops Quiet moment left left' held held' errors errors' before now status = ComesByLog c found Stops held held' status
--- there is no workload yet
-ComesBy (Gen path seed count) c found Stops Quiet moment left left' held held' errors errors' before now status = (status ≡ 2) × Quiet
+ComesBy (Gen path seed count) c found Stops Quiet moment left left' held held' errors errors' before now status = ComesByGen c seed count Quiet held held' status
+
+-- the command takes nothing of the input
+abbrev pub ReadsNoInput : Command → Type 0
+ReadsNoInput (Pipe path) = ⊥
+ReadsNoInput (Script path) = ⊥
+ReadsNoInput (Log path) = Unit {0}
+ReadsNoInput (Gen path seed count) = Unit {0}
+
+-- a workload of the command has no more statements than words may ask for
+abbrev pub HasFewStatements : Command → Type 0
+HasFewStatements (Pipe path) = Unit {0}
+HasFewStatements (Script path) = Unit {0}
+HasFewStatements (Log path) = Unit {0}
+HasFewStatements (Gen path seed count) = count ≤ COUNT_LIMIT

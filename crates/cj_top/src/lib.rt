@@ -3,6 +3,7 @@
 
 mod configured;
 mod files;
+mod generated;
 mod listed;
 mod piped;
 mod program;
@@ -28,3 +29,5 @@ mod row_limit_tests;
 mod sql_tests;
 #[cfg(test)]
 mod tests;
+#[cfg(test)]
+mod workload_tests;

@@ -10,13 +10,14 @@ ghost use Rattle.cj_top.specs.Listed.{ComesByLog};
 ghost use Rattle.cj_top.specs.Logs.{Found, HasFailed, RefusesLog, StopsAtLog, TellsRefusal};
 ghost use Rattle.cj_top.specs.Piped.{ComesByPipe};
 ghost use Rattle.cj_top.specs.Program.{AsksForText, WritesText};
-ghost use Rattle.cj_top.specs.Runs.{ComesBy, RunsCommand};
+ghost use Rattle.cj_top.specs.Runs.{ComesBy, HasFewStatements, ReadsNoInput, RunsCommand};
 ghost use Rattle.cj_top.specs.Scripted.{ComesByScript};
 ghost use Rattle.cj_words.specs.Words.{Asks, Says};
 ghost use Rattle.cj_words.specs.declared.asked.Asked.{Asked};
 ghost use Rattle.cj_words.specs.declared.asked.Command.{Command};
 
 use crate::configured::{Unconfigured, conf_of, tell_refusal};
+use crate::generated::run_gen;
 use crate::listed::{run_log, status_of_listing};
 use crate::piped::{PipeError, run_pipe};
 use crate::refused::stop_at_log;
@@ -110,10 +111,11 @@ fn run_configured<S: Store + Drop, I: Source, O: Sink, E: Sink, C: Clock>(
     clock: &C,
 ) -> u8
     requires usable { IsUsable conf }
+    requires few { HasFewStatements command }
     requires disk { S.TELLS ≡ true → Only (S.held log) (S.may log) }
     ensures comes { ComesBy command conf (Found S.TELLS (S.held log)) (StopsAtLog (RefusesLog S.faults log S.TELLS (S.held log)) (TellsRefusal (E.held errors.old) (E.held errors.new) (E.faults errors.old) (E.faults errors.new)) ((input.new ≡ input.old) × (output.new ≡ output.old)))
         ((input.new ≡ input.old) × (output.new ≡ output.old) × (errors.new ≡ errors.old)) (C.moment clock.now) (I.left input.old) (I.left input.new) (O.held output.old) (O.held output.new) (E.held errors.old) (E.held errors.new) (E.faults errors.old) (E.faults errors.new) result }
-    ensures unread { (path : List ℕ) → command ≡ Command.Log path → input.new ≡ input.old }
+    ensures unread { ReadsNoInput command → input.new ≡ input.old }
     ensures quiet { result ≢ 8 → result ≢ 10 → errors.new ≡ errors.old }
     ensures log { (result ≡ 7) × HasFailed S.faults log ⊎ (result ≢ 7) }
     ensures input { CountsFault (result ≡ 5) (I.faults input.old) (I.faults input.new) }
@@ -123,8 +125,7 @@ fn run_configured<S: Store + Drop, I: Source, O: Sink, E: Sink, C: Clock>(
         Command::Pipe { .. } => pipe_command(alloc, conf, log, input, output, errors, clock),
         Command::Script { .. } => script_command(alloc, conf, log, input, output, errors),
         Command::Log { .. } => log_command(alloc, conf, log, output, errors),
-        // There is no workload yet.
-        Command::Gen { .. } => 2,
+        Command::Gen { seed, count, .. } => run_gen(alloc, conf, seed, count, output),
     }
 }
 
@@ -139,11 +140,12 @@ fn run_command<F: Store, S: Store + Drop, I: Source, O: Sink, E: Sink, C: Clock>
     errors: &mut E,
     clock: &C,
 ) -> u8
-    requires { S.TELLS ≡ true → Only (S.held log) (S.may log) }
+    requires few { HasFewStatements command }
+    requires disk { S.TELLS ≡ true → Only (S.held log) (S.may log) }
     ensures runs { RunsCommand F.TELLS (F.held conf.old) (WritesRefusal (E.held errors.old) (E.held errors.new) (E.faults errors.old) (E.faults errors.new)) ((input.new ≡ input.old) × (output.new ≡ output.old)) ((input.new ≡ input.old) × (output.new ≡ output.old) × (errors.new ≡ errors.old))
         (λ c. ComesBy command c (Found S.TELLS (S.held log)) (StopsAtLog (RefusesLog S.faults log S.TELLS (S.held log)) (TellsRefusal (E.held errors.old) (E.held errors.new) (E.faults errors.old) (E.faults errors.new)) ((input.new ≡ input.old) × (output.new ≡ output.old)))
         ((input.new ≡ input.old) × (output.new ≡ output.old) × (errors.new ≡ errors.old)) (C.moment clock.now) (I.left input.old) (I.left input.new) (O.held output.old) (O.held output.new) (E.held errors.old) (E.held errors.new) (E.faults errors.old) (E.faults errors.new) result) result }
-    ensures unread { (path : List ℕ) → command ≡ Command.Log path → input.new ≡ input.old }
+    ensures unread { ReadsNoInput command → input.new ≡ input.old }
     ensures quiet { result ≢ 3 → result ≢ 8 → result ≢ 10 → errors.new ≡ errors.old }
     ensures stores { (result ≡ 7) × (F.faults conf.new ≡ next (F.faults conf.old)) ⊎ (result ≡ 7) × HasFailed S.faults log × (F.faults conf.new ≡ F.faults conf.old) ⊎ (result ≢ 7) × (F.faults conf.new ≡ F.faults conf.old) }
     ensures input { CountsFault (result ≡ 5) (I.faults input.old) (I.faults input.new) }
@@ -185,6 +187,9 @@ fn write_text<O: Sink>(text: Result<String, NoMemory>, output: &mut O) -> u8
 /// `script CONF` plays the lines of the input as moves over such backends, and writes what they come to: 0 where all were
 /// played, 10 where a line can't be, whose number is then written to `errors` where that can be done.
 ///
+/// `gen CONF --seed N --count N` plays a workload of so many statements over such backends and a log in memory, and writes its summary:
+/// 0 where it was written whole.
+///
 /// `log CONF` lists the items of the recovery log, whether or not they are a history's: 0 where all were written.
 ///
 /// `pipe` and `script` begin with the recovery log: the backends replay it, and what comes is appended. What is no log's bytes is refused with
@@ -193,7 +198,7 @@ fn write_text<O: Sink>(text: Result<String, NoMemory>, output: &mut O) -> u8
 /// Of all, 3 where the configuration is refused, which is then told to `errors` where that can be done; 5 and 6 where the
 /// input and the output failed, 7 where the configuration's store or the log's did, 11 where 2^62 bytes were taken, 1 for want of memory.
 /// `--help`, alone or behind the word of a command, and `--version` write their text: 0 where it was written whole.
-/// With other words the answer is 2, and nothing is touched. It is also 2 for `gen`, whose workload is not there yet.
+/// With other words the answer is 2, and nothing is touched.
 pub fn run<F: Store, S: Store + Drop, I: Source, O: Sink, E: Sink, C: Clock>(
     alloc: Global,
     words: &[String],
@@ -209,7 +214,7 @@ pub fn run<F: Store, S: Store + Drop, I: Source, O: Sink, E: Sink, C: Clock>(
         (WritesRefusal (E.held errors.old) (E.held errors.new) (E.faults errors.old) (E.faults errors.new)) ((input.new ≡ input.old) × (output.new ≡ output.old)) ((input.new ≡ input.old) × (output.new ≡ output.old) × (errors.new ≡ errors.old))
         (λ c. ComesBy command c (Found S.TELLS (S.held log)) (StopsAtLog (RefusesLog S.faults log S.TELLS (S.held log)) (TellsRefusal (E.held errors.old) (E.held errors.new) (E.faults errors.old) (E.faults errors.new)) ((input.new ≡ input.old) × (output.new ≡ output.old)))
         ((input.new ≡ input.old) × (output.new ≡ output.old) × (errors.new ≡ errors.old)) (C.moment clock.now) (I.left input.old) (I.left input.new) (O.held output.old) (O.held output.new) (E.held errors.old) (E.held errors.new) (E.faults errors.old) (E.faults errors.new) result) result }
-    ensures unread { (path : List ℕ) → Says (map string_bytes words.now) (Command.Log path) → input.new ≡ input.old }
+    ensures unread { (command : Command) → Says (map string_bytes words.now) command → ReadsNoInput command → input.new ≡ input.old }
     ensures text { AsksForText (map string_bytes words.now) → WritesText (O.held output.old) (O.held output.new) result × (conf.new ≡ conf.old) × (input.new ≡ input.old) × (errors.new ≡ errors.old) }
     ensures other { ((asked : Asked) → Asks (map string_bytes words.now) asked → ⊥) → (result ≡ 2) × (conf.new ≡ conf.old) × (input.new ≡ input.old) × (output.new ≡ output.old) × (errors.new ≡ errors.old) }
     ensures quiet { result ≢ 3 → result ≢ 8 → result ≢ 10 → errors.new ≡ errors.old }

@@ -25,7 +25,7 @@ use cj_script::{ScriptEnd, script};
 use std::alloc::Global;
 
 /// A world of these new backends, each so that it can be armed, as the configuration has them, over the log.
-fn flaky_world<B: Backend + Drop, S: Store + Drop>(
+pub fn flaky_world<B: Backend + Drop, S: Store + Drop>(
     alloc: Global,
     conf: Conf,
     log: S,

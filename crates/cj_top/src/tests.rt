@@ -499,7 +499,9 @@ fn other_words_are_refused(rt: HostRuntime) -> Result<(), Fail> {
         "--help --version",
         "pipe --version",
         "pipe c1 --help",
+        "pipe -- c1",
         "gen c1 --seed 1",
+        "gen c1 --seed 1 --seed 1 --count 4",
         "gen c1 --seed 1 --count 0",
         "gen c1 --seed 1 --count 200001",
     ] {

@@ -1,9 +1,14 @@
 use Rattle.std.proofs.Common.{◌≡◌, Some, map}
 use Rattle.std.specs.Prelude.{string_bytes}
 use Rattle.cj_words.specs.declared.asked.Asked.TheVariants as asked
-use Rattle.cj_words.specs.declared.asked.Command.TheVariants as command
-use Rattle.cj_top.proofs.AskedWords.{asks_for_no_text, asks_nothing, command_same, help_is_no_command, is_no_text, of_command, version_is_no_command}
+use Rattle.cj_top.proofs.AskedWords.{asks_for_no_text, asks_nothing, few_said, help_is_no_command, is_no_text, of_command, version_is_no_command}
 use Rattle.cj_top.proofs.program.run.Goals as goal
+
+pub run_command-requires-clause-few : goal.run_command-requires-clause-few
+run_command-requires-clause-few g c =
+    let r = c.in-Ok-Some-Command in
+    let is : r.field-0 ≡ Some (asked.Command r.command) = cc (r.field-0-is, r.field-0-0-is) in
+    few_said (map string_bytes c.args.words.now) r.command ((r.ensures.found (asked.Command r.command)).0 is)
 
 pub returns-in-Ok-Some-Command-clause-runs : goal.returns-in-Ok-Some-Command-clause-runs
 returns-in-Ok-Some-Command-clause-runs g c =
@@ -12,10 +17,10 @@ returns-in-Ok-Some-Command-clause-runs g c =
     of_command (map string_bytes c.args.words.now) r.field-0 r.ensures.found _ r.command is c.run_command.ensures.runs
 
 pub returns-in-Ok-Some-Command-clause-unread : goal.returns-in-Ok-Some-Command-clause-unread
-returns-in-Ok-Some-Command-clause-unread g c path says =
+returns-in-Ok-Some-Command-clause-unread g c =
     let r = c.in-Ok-Some-Command in
     let is : r.field-0 ≡ Some (asked.Command r.command) = cc (r.field-0-is, r.field-0-0-is) in
-    c.run_command.ensures.unread path (command_same (map string_bytes c.args.words.now) r.field-0 r.ensures.found r.command (command.Log path) is says)
+    of_command (map string_bytes c.args.words.now) r.field-0 r.ensures.found _ r.command is c.run_command.ensures.unread
 
 pub returns-in-Ok-Some-Command-clause-text : goal.returns-in-Ok-Some-Command-clause-text
 returns-in-Ok-Some-Command-clause-text g c asks =

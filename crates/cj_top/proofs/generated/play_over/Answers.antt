@@ -1,0 +1,14 @@
+use Rattle.std.proofs.Common.{◌≡◌, true, [], List, ℕ, ap, subst, ◌∙◌}
+use Rattle.cj_outside.specs.Memory.{State}
+use Rattle.cj_top.specs.Configured.{BeginsAsConfigured}
+use Rattle.cj_top.specs.Logs.{Found}
+use Rattle.cj_top.proofs.generated.play_over.Goals as goal
+
+pub returns-in-Ok-play : goal.returns-in-Ok-play
+returns-in-Ok-play g c =
+    let empty : c.new-log.result.bytes ≡ [] = ap (λ (s : State). s.bytes) c.new-log.ensures ∙ c.new.ensures.items in
+    record {
+      first = c.in-Ok.world;
+      begins = subst (λ (held : List ℕ). BeginsAsConfigured g.B.Backend.TELLS c.args.conf (Found true held) c.in-Ok.world) empty c.in-Ok.ensures.begins;
+      plays = c.in-Ok-play.ensures.played;
+    }

@@ -1,0 +1,112 @@
+//! The workload over backends that can be armed.
+
+ghost use Rattle.std.specs.Prelude.{◌≡◌, ◌≤◌, ◌++◌, ◌⊎◌, length, map, true, IfOk, IsErrOf, OnOk};
+ghost use Rattle.cj_conf.specs.Confs.{IsUsable};
+ghost use Rattle.cj_outside.specs.Causes.{CountsFault};
+ghost use Rattle.cj_outside.specs.Streams.{WritesAll};
+ghost use Rattle.cj_core.specs.Starts.{state_by};
+ghost use Rattle.cj_top.specs.Configured.{AreNew, in_memory};
+ghost use Rattle.cj_top.specs.Generated as spec;
+ghost use Rattle.cj_top.specs.Generated.{ComesByGen, PlaysAsConfigured, count_line, summary_text};
+ghost use Rattle.cj_words.specs.declared.parts.TheConstants.{COUNT_LIMIT};
+
+use crate::configured::{any_backends, are_in_memory, memory_backends};
+use crate::listed::status_of_listing;
+use crate::scripted::flaky_world;
+use cj_backend::Backend;
+use cj_conf::Conf;
+use cj_core::Backends;
+use cj_model::NoMemory;
+use cj_outside::{MemStore, OutError, Sink, write_all};
+use cj_workload::{Summary, play};
+use std::alloc::Global;
+
+/// Plays the workload on a world of these new backends, as the configuration has them, over a new log in memory.
+fn play_over<B: Backend + Drop>(
+    alloc: Global,
+    conf: Conf,
+    backends: Backends<B>,
+    seed: u64,
+    count: u64,
+) -> Result<Summary, NoMemory>
+    requires usable { IsUsable conf }
+    requires new { AreNew B.TELLS (length conf.placement.names) (map (state_by B.told B.faults B.asks B.login B.arming) backends) (map B.begun backends) }
+    requires few { count ≤ COUNT_LIMIT }
+    ensures { IfOk result (PlaysAsConfigured B.TELLS conf seed count) }
+{
+    let log = MemStore::new(Vec::new(alloc), Vec::new(alloc));
+    let Ok(world) = flaky_world(alloc, conf, log, backends) else {
+        return Err(NoMemory);
+    };
+    match play(alloc, world, seed, count) {
+        Ok(summary) => Ok(summary),
+        Err(_) => Err(NoMemory),
+    }
+}
+
+fn play_workload(alloc: Global, conf: Conf, seed: u64, count: u64) -> Result<Summary, NoMemory>
+    requires usable { IsUsable conf }
+    requires few { count ≤ COUNT_LIMIT }
+    ensures { IfOk result (PlaysAsConfigured (in_memory conf) conf seed count) }
+{
+    if are_in_memory(conf.kinds.as_slice()) {
+        let backends = memory_backends(alloc, conf.placement.count())?;
+        return play_over(alloc, conf, backends, seed, count);
+    }
+    let backends = any_backends(alloc, conf.kinds.as_slice())?;
+    play_over(alloc, conf, backends, seed, count)
+}
+
+fn add_count(alloc: Global, text: &mut Vec<u8>, name: &str, count: u64) -> Result<(), NoMemory>
+    ensures { OnOk result (text.new.items ≡ text.old.items ++ count_line name.now count) }
+{
+    let line = format!(in alloc; "{name} {count}\n")?;
+    text.extend_from_slice(line.as_bytes())?;
+    Ok(())
+}
+
+fn equal_line(equal: bool) -> &'static [u8]
+    ensures { result.now ≡ spec.equal_line equal }
+{
+    if equal { b"equal yes\n" } else { b"equal no\n" }
+}
+
+/// The lines of the summary.
+fn summary_lines(alloc: Global, summary: &Summary) -> Result<Vec<u8>, NoMemory>
+    ensures { IfOk result (λ text. text.items ≡ summary_text summary.now) }
+{
+    let mut text = Vec::new(alloc);
+    add_count(alloc, &mut text, "statements", summary.statements)?;
+    add_count(alloc, &mut text, "entries", summary.entries)?;
+    add_count(alloc, &mut text, "faults", summary.faults)?;
+    add_count(alloc, &mut text, "enabled", summary.enabled)?;
+    add_count(alloc, &mut text, "rows", summary.rows)?;
+    add_count(alloc, &mut text, "hits", summary.hits)?;
+    add_count(alloc, &mut text, "misses", summary.misses)?;
+    text.extend_from_slice(equal_line(summary.equal))?;
+    Ok(text)
+}
+
+fn write_summary<O: Sink>(alloc: Global, summary: &Summary, output: &mut O) -> Result<(), OutError>
+    ensures bytes { WritesAll (O.held output.old) (O.held output.new) (summary_text summary.now) result }
+    ensures cause { CountsFault (IsErrOf result OutError.Failed) (O.faults output.old) (O.faults output.new) }
+{
+    match summary_lines(alloc, summary) {
+        Ok(text) => write_all(output, &text),
+        Err(_) => Err(OutError::NoMemory),
+    }
+}
+
+/// The command `gen` with this configuration; the answer is the exit status.
+pub fn run_gen<O: Sink>(alloc: Global, conf: Conf, seed: u64, count: u64, output: &mut O) -> u8
+    requires usable { IsUsable conf }
+    requires few { count ≤ COUNT_LIMIT }
+    ensures comes { ComesByGen conf seed count (output.new ≡ output.old) (O.held output.old) (O.held output.new) result }
+    ensures output { CountsFault (result ≡ 6) (O.faults output.old) (O.faults output.new) }
+    ensures other { (result ≡ 0) ⊎ (result ≡ 1) ⊎ (result ≡ 6) }
+{
+    match play_workload(alloc, conf, seed, count) {
+        Ok(summary) => status_of_listing(write_summary(alloc, &summary, output)),
+        Err(NoMemory) => 1,
+    }
+}

@@ -1,0 +1,139 @@
+-- What the moves of one backend keep, and what a turn does: the placement, the requests that each session has made, and how often backends were enabled.
+use Rattle.std.proofs.Common.{◌≡◌, ◌∙◌, refl, sym, ap, subst, ℕ, zero, suc, ◌+◌, add-zero, cond, Bool, List, [], ◌∷◌, ◌++◌, map, Option, None, Some, Ok, Err, arith, ⊎_elim}
+use Rattle.std.specs.Prelude.{count_by}
+use Rattle.std.proofs.lemmas.List.Sums.{sum_by-append}
+use Rattle.cj_workload.proofs.Common.{cond_both, Core, session_at}
+use Rattle.cj_model.specs.declared.request.Act.{Act}
+use Rattle.cj_model.specs.Sql.PlainRequests.{act_of}
+use Rattle.cj_cluster.specs.declared.event.Event.{Event}
+use Rattle.cj_cluster.specs.declared.event.Event.TheVariants as event
+use Rattle.cj_cluster.specs.declared.moves.Move.{Move}
+use Rattle.cj_cluster.specs.declared.moves.Move.TheVariants.{Arm, Disable, Replay, Enable, Dump, Load}
+use Rattle.cj_cluster.specs.declared.moves.Moved.TheVariants as moved
+use Rattle.cj_cluster.specs.declared.moves.MoveError.TheVariants.{NoMemory}
+use Rattle.cj_cluster.specs.Moves.Moves.{MoveResult, MovesTo, DoesMove, Arms, Disables, Enables, Dumps, Loads, Replays, happened, not_now}
+use Rattle.cj_cluster.specs.History.Turns.{Call}
+use Rattle.cj_desk.specs.DeskStates.{turn_taken}
+use Rattle.cj_core.specs.Solos.{SoloState, SoloSteps, AddsEntry, AddsOwnEvents, LacksLast, log_failure_of, tells_log_failure}
+use Rattle.cj_cluster.proofs.Soundness.{by_reason}
+use Rattle.cj_workload.specs.Proving.Keeping.{IsOfBackend, Keeps, enabled_by}
+use Rattle.cj_workload.specs.Summaries.{enablings, is_enabling}
+
+-- from one core to another so many backends were enabled, and no request was made
+pub record KeepsCore (enabled : ℕ) (c z : Core) : Type 0 where
+  pub placement : z.placement ≡ c.placement
+  pub queries : (s : ℕ) → (session_at z s).queries ≡ (session_at c s).queries
+  pub counted : enablings z.history ≡ enablings c.history + enabled
+
+-- events more
+grown : (h more : List Event) (n : ℕ) → enablings more ≡ n → enablings (h ++ more) ≡ enablings h + n
+grown h more n is = sum_by-append (λ (e : Event). cond (is_enabling e) 1 0) h more ∙ ap (λ (k : ℕ). enablings h + k) is
+
+module _ (tells : Bool) (c z : Core) where
+  same_core : KeepsCore 0 c c
+  same_core = record { placement = refl; queries = λ s. refl; counted = omega arith }
+
+  as_it_was : z ≡ c → KeepsCore 0 c z
+  as_it_was is = subst (λ (x : Core). KeepsCore 0 c x) (sym is) same_core
+
+  -- an event more
+  with_event : (e : Event) (n : ℕ) → count_by is_enabling (e ∷ []) ≡ n → z ≡ happened c e → KeepsCore n c z
+  with_event e n is same =
+      subst (λ (x : Core). KeepsCore n c x) (sym same) (record { placement = refl; queries = λ s. refl; counted = grown c.history (e ∷ []) n is })
+
+  arms : (g : MoveResult) → Arms c g z → KeepsCore (enabled_by g) c z
+  arms (Ok moved.Armed) h = as_it_was h
+  arms _ h = absurd h
+
+  disables : (b : ℕ) (g : MoveResult) → Disables c b g z → KeepsCore (enabled_by g) c z
+  disables b (Ok moved.Disabled) h = with_event (event.Disabled b) 0 refl h.1
+  disables b (Ok (moved.Refused r)) h = as_it_was h.2
+  disables b (Err NoMemory) h = as_it_was h
+  disables b _ h = absurd h
+
+  enables : (b : ℕ) (g : MoveResult) → Enables c b g z → KeepsCore (enabled_by g) c z
+  enables b (Ok moved.Enabled) h = with_event (event.Enabled b) 1 refl h.1
+  enables b (Ok (moved.Refused r)) h = as_it_was h.2
+  enables b (Err NoMemory) h = as_it_was h
+  enables b _ h = absurd h
+
+  replays : (b : ℕ) (g : MoveResult) → Replays tells c b g z → KeepsCore (enabled_by g) c z
+  replays b (Ok (moved.Replayed n d)) h = subst (λ (x : Core). KeepsCore 0 c x) (sym h.1.2) (record { placement = refl; queries = λ s. refl; counted = omega arith })
+  replays b _ h = absurd h
+
+  dumps : (b : ℕ) (name : List ℕ) (g : MoveResult) → Dumps c b name g z → KeepsCore (enabled_by g) c z
+  dumps b name (Ok (moved.Dumped n)) h = subst (λ (x : Core). KeepsCore 0 c x) (sym h.1) (record { placement = refl; queries = λ s. refl; counted = omega arith })
+  dumps b name (Ok moved.Failed) h = as_it_was h
+  dumps b name (Err NoMemory) h = as_it_was h
+  dumps b name _ h = absurd h
+
+  loads : (b : ℕ) (name : List ℕ) (g : MoveResult) → Loads tells c b name g z → KeepsCore (enabled_by g) c z
+  loads b name (Ok (moved.Loaded n)) h = subst (λ (x : Core). KeepsCore 0 c x) (sym h.after) (record { placement = refl; queries = λ s. refl; counted = omega arith })
+  loads b name (Ok moved.Failed) h = as_it_was h
+  loads b name (Ok moved.Starved) h = as_it_was h
+  loads b name _ h = absurd h
+
+  does : (m : Move) (g : MoveResult) → IsOfBackend m → DoesMove tells c m g z → KeepsCore (enabled_by g) c z
+  does (Arm b) g kind h = arms g h
+  does (Disable b) g kind h = disables b g h
+  does (Replay b) g kind h = replays b g h
+  does (Enable b) g kind h = enables b g h
+  does (Dump b name) g kind h = dumps b name g h
+  does (Load b name) g kind h = loads b name g h
+  does _ g kind h = absurd kind
+
+  -- any move of one backend
+  pub keeps_moved : (m : Move) (g : MoveResult) → IsOfBackend m → MovesTo tells c m g z → KeepsCore (enabled_by g) c z
+  keeps_moved m g kind h = by_reason (not_now c m) (DoesMove tells c m g z) (KeepsCore (enabled_by g) c z) g c z h (λ now t. does m g kind t) (λ why is same. subst (λ (r : MoveResult). KeepsCore (enabled_by r) c z) (sym is) (as_it_was same))
+
+-- ---- a session
+
+module _ (tells : Bool) (a z : SoloState) where
+  -- a move
+  pub keeps_made : (m : Move) (g : MoveResult) → IsOfBackend m → MovesTo tells a.world.core m g z.world.core → z.session ≡ a.session → Keeps 0 (enabled_by g) a z
+  keeps_made m g kind moves session =
+      let kept = keeps_moved tells a.world.core z.world.core m g kind moves in
+      record {
+        placement = kept.placement;
+        session = session;
+        queries = kept.queries z.session ∙ (ap (λ (s : ℕ). (session_at a.world.core s).queries) session ∙ sym (add-zero _));
+        counted = kept.counted;
+      }
+
+  -- failures of reads enable nothing
+  no_enabling : (s q : ℕ) (failed : List ℕ) → enablings (map (event.ReadFailed s q) failed) ≡ 0
+  no_enabling s q [] = refl
+  no_enabling s q (b ∷ failed) = grown (event.ReadFailed s q b ∷ []) (map (event.ReadFailed s q) failed) 0 (no_enabling s q failed)
+
+  entry_adds : (n s : ℕ) (c : Call) (act : Act) (failed : List ℕ) (h g : List Event) → AddsEntry n s c act failed h g → enablings g ≡ enablings h + 0
+  entry_adds zero s c act failed h g adds = ap enablings adds.0 ∙ grown h (log_failure_of s c) 0 (cond_both (tells_log_failure c.reply) _ _ (λ (l : List Event). enablings l ≡ 0) (λ _. refl) (λ _. refl))
+  entry_adds (suc n) s c act failed h g adds = ap enablings adds.1.1 ∙ grown h _ 0 refl
+
+  own_events : (s : ℕ) (c : Call) (act : Option Act) (failed : List ℕ) (h g : List Event) → AddsOwnEvents s c act failed h g → enablings g ≡ enablings h + 0
+  own_events s c None failed h g adds =
+      ⊎_elim (λ (e : g ≡ h ++ map (event.ReadFailed s c.number) failed). ap enablings e ∙ grown h _ 0 (no_enabling s c.number failed))
+      (λ (l : LacksLast s c.number failed h g). ap enablings l.grew ∙ grown h _ 0 (no_enabling s c.number l.noted)) adds
+  own_events s c (Some act) failed h g adds = entry_adds adds.0 s c act failed h g adds.1
+
+  -- a turn
+  pub keeps_turn : (c : Call) → SoloSteps tells a (turn_taken c) z → Keeps 1 0 a z
+  keeps_turn c steps =
+      let turn = steps.1.1 in
+      record {
+        placement = turn.placement;
+        session = steps.1.0;
+        queries = steps.0.queries;
+        counted = own_events a.session c (act_of c.request) turn.failed a.world.core.history z.world.core.history turn.events;
+      }
+
+-- one after another
+pub keeps_both : (n m i j : ℕ) (a b z : SoloState) → Keeps n i a b → Keeps m j b z → Keeps (n + m) (i + j) a z
+keeps_both n m i j a b z h k =
+    let q = h.queries in
+    let r = k.queries in
+    let e = h.counted in
+    let f = k.counted in
+    record { placement = k.placement ∙ h.placement; session = k.session ∙ h.session; queries = omega (arith, q, r); counted = omega (arith, e, f) }
+
+pub keeps_none : (a : SoloState) → Keeps 0 0 a a
+keeps_none a = record { placement = refl; session = refl; queries = omega arith; counted = omega arith }

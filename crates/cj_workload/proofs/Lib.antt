@@ -1,0 +1,6 @@
+pub mod Asked
+pub mod Common
+pub mod Kept
+pub mod Rounds
+pub mod Summing
+pub mod Written

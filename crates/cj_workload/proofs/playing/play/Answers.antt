@@ -1,0 +1,37 @@
+use Rattle.std.proofs.Common.{◌≡◌, ◌∙◌, ◌+◌, ap, subst, arith}
+use Rattle.cj_workload.proofs.Common.{session_at, SoloState, WorldState}
+use Rattle.cj_workload.specs.Summaries.{IsSummary, enablings}
+use Rattle.cj_workload.specs.Workloads.{Begins}
+use Rattle.cj_workload.proofs.Rounds.{none_asked}
+use Rattle.cj_workload.proofs.playing.play.Goals as goal
+
+-- the session that was opened has made no request
+pub begin-requires-clause-room : goal.begin-requires-clause-room
+begin-requires-clause-room g c =
+    let none = ap (λ (s : SoloState). (session_at s.world.core s.session).queries) c.in-Ok.ensures.opened ∙ none_asked c.args.world.core c.requires.fresh in
+    omega (arith, none)
+
+-- and one for the table
+pub rounds-requires-clause-room : goal.rounds-requires-clause-room
+rounds-requires-clause-room g c =
+    let none = ap (λ (s : SoloState). (session_at s.world.core s.session).queries) c.in-Ok.ensures.opened ∙ none_asked c.args.world.core c.requires.fresh in
+    let made = c.in_ok-begin.ensures.keeps.1.queries in
+    let few = c.requires.few in
+    omega (arith, none, made, few)
+
+-- closing the session changes nothing that is summed up
+pub returns-clause-played : goal.returns-clause-played
+returns-clause-played g c =
+    let tells = g.B.Backend.TELLS in
+    let armable = g.B.Backend.can_be_armed in
+    let begun = c.begin.new.solo in
+    let ended = c.rounds.new.solo in
+    let n = c.in_ok-enabled.enabled in
+    let i = subst (λ (w : WorldState). enablings w.core.history ≡ enablings begun.world.core.history + n → IsSummary tells c.args.count begun.world w c.in_ok-summary.summary) c.close.ensures (c.in_ok-summary.ensures.summary begun.world) c.in_ok-enabled.ensures.keeps.counted in
+    record {
+      begun = begun;
+      begins = subst (λ (s : SoloState). Begins tells armable s begun) c.in-Ok.ensures.opened c.in_ok-begin.ensures.begins;
+      ended = ended;
+      rounds = c.in_ok-enabled.ensures.plays;
+      summary = record { statements = i.statements; entries = i.entries; faults = i.faults; enabled = i.enabled; rows = i.rows; hits = i.hits; misses = i.misses; equal = i.equal };
+    }

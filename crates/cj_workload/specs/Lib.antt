@@ -1,0 +1,5 @@
+pub mod Holdings
+pub mod Proving
+pub mod Statements
+pub mod Summaries
+pub mod Workloads

@@ -1,0 +1,201 @@
+//! The workload, statement by statement.
+
+ghost use Rattle.std.specs.Prelude.{◌≡◌, ◌<◌, ◌≤◌, ◌+◌, ◌^◌, ℕ, [], true, IfOk, IsErrOf};
+ghost use Rattle.cj_model.specs.declared.limits.TheConstants.{REQUEST_LIMIT, SESSION_NUMBER_LIMIT};
+ghost use Rattle.cj_model.specs.Sql.PlainRequests.{request_of};
+ghost use Rattle.cj_model.specs.Sql.WrittenRequests.{IsWritten};
+ghost use Rattle.cj_cluster.specs.History.Histories.{is_idle};
+ghost use Rattle.cj_cluster.specs.Moves.Cores.{session_at};
+ghost use Rattle.cj_workload.specs.Proving.Keeping.{IsOutside, Keeps};
+ghost use Rattle.cj_workload.specs.Statements.{request_of_statement};
+ghost use Rattle.cj_workload.specs.Summaries.{PlaysWorkload};
+ghost use Rattle.cj_workload.specs.Workloads as workload;
+ghost use Rattle.cj_workload.specs.Workloads.{Begins, PlaysRound, PlaysRounds, TakesTurn};
+
+use crate::moving::{arm, first_host, repair_each, take_dump};
+use crate::statements::{Statement, creation, next_statement};
+use crate::summary::{Summary, sum_up};
+use cj_backend::Backend;
+use cj_core::{Solo, World};
+use cj_desk::Desk;
+use cj_model::{Act, NO_MEMORY, NoMemory, Reply, STARVED_ALL, Text};
+use cj_outside::{PcgDraw, Store};
+use std::alloc::Global;
+use thiserror::Error;
+
+/// Why there is no summary.
+#[derive(Clone, Copy, Debug, PartialEq, Eq, Error)]
+pub enum WorkloadError {
+    /// The last number of a session was given.
+    #[error("no session more can be opened")]
+    SessionsFull,
+    /// A host failed when it was asked what it holds at the end, or none was enabled.
+    #[error("no host tells what it holds")]
+    Untold,
+    #[error("out of memory")]
+    NoMemory,
+}
+
+impl From<NoMemory> for WorkloadError {
+    ghost use Rattle.std.specs.Prelude.{◌≡◌};
+    ghost use Rattle.cj_workload.specs.declared.playing.WorkloadError.TheVariants as errors;
+
+    ghost from_gives = { λ _ e. e ≡ errors.NoMemory };
+
+    fn from(_error: NoMemory) -> WorkloadError {
+        WorkloadError::NoMemory
+    }
+}
+
+/// The empty text, which is the user's name.
+fn nobody(alloc: Global) -> Text
+    ensures { result ≡ [] }
+{
+    match Text::of(Vec::new(alloc)) {
+        Some(text) => text,
+        None => unreachable!(),
+    }
+}
+
+/// Whether the reply says that memory was wanting.
+fn tells_want(reply: &Reply) -> bool
+    ensures { result ≡ workload.tells_want reply.now }
+{
+    match reply {
+        Reply::Refused(refusal) => refusal.code == NO_MEMORY || refusal.code == STARVED_ALL,
+        _ => false,
+    }
+}
+
+/// A write of the session.
+fn write<B: Backend, S: Store>(solo: &mut Solo<B, S>, user: &Text, act: Act) -> Result<(), NoMemory>
+    requires user { user.now ≡ [] }
+    requires room { (session_at solo.old.world.core solo.old.session).queries < REQUEST_LIMIT }
+    requires written { IsWritten (request_of act) }
+    requires kind { IsOutside act }
+    ensures turn { IfOk result (λ _. TakesTurn B.TELLS solo.old (request_of act) solo.new) }
+    ensures keeps { IfOk result (λ _. Keeps 1 0 solo.old solo.new) }
+{
+    let written = Desk::<()>::write(solo, &(), user, 0, act);
+    if tells_want(&written.reply) {
+        return Err(NoMemory);
+    }
+    Ok(())
+}
+
+/// The session's next statement.
+fn take_turn<B: Backend, S: Store>(
+    solo: &mut Solo<B, S>,
+    user: &Text,
+    statement: Statement,
+) -> Result<(), NoMemory>
+    requires user { user.now ≡ [] }
+    requires room { (session_at solo.old.world.core solo.old.session).queries < REQUEST_LIMIT }
+    requires written { IsWritten (request_of_statement statement) }
+    ensures turn { IfOk result (λ _. TakesTurn B.TELLS solo.old (request_of_statement statement) solo.new) }
+    ensures keeps { IfOk result (λ _. Keeps 1 0 solo.old solo.new) }
+{
+    match statement {
+        Statement::Change(change) => write(solo, user, Act::Write(change)),
+        Statement::Query(select) => {
+            let reply = Desk::<()>::read(solo, &(), user, 0, &select);
+            if tells_want(&reply) {
+                return Err(NoMemory);
+            }
+            Ok(())
+        }
+    }
+}
+
+/// Round `i`: a backend may be armed, the statement is answered, and each backend that is out then is brought back.
+fn round<B: Backend, S: Store>(
+    solo: &mut Solo<B, S>,
+    user: &Text,
+    i: u64,
+    statement: Statement,
+) -> Result<u64, NoMemory>
+    requires user { user.now ≡ [] }
+    requires room { (session_at solo.old.world.core solo.old.session).queries < REQUEST_LIMIT }
+    requires written { IsWritten (request_of_statement statement) }
+    ensures plays { IfOk result (λ _. PlaysRound B.TELLS B.can_be_armed i (request_of_statement statement) solo.old solo.new) }
+    ensures keeps { IfOk result (λ enabled. Keeps 1 enabled solo.old solo.new) }
+    ensures few { IfOk result (λ enabled. enabled ≤ 32) }
+{
+    arm(solo, i)?;
+    take_turn(solo, user, statement)?;
+    repair_each(solo)
+}
+
+/// So many rounds. Answers how many backends were enabled in them.
+fn rounds<B: Backend, S: Store>(
+    solo: &mut Solo<B, S>,
+    alloc: Global,
+    user: &Text,
+    seed: u64,
+    count: u64,
+) -> Result<u64, NoMemory>
+    requires user { user.now ≡ [] }
+    requires few { count < 2 ^ 32 }
+    requires room { (session_at solo.old.world.core solo.old.session).queries + count ≤ REQUEST_LIMIT }
+    ensures plays { IfOk result (λ _. PlaysRounds B.TELLS B.can_be_armed seed count solo.old solo.new) }
+    ensures keeps { IfOk result (λ enabled. Keeps count enabled solo.old solo.new) }
+{
+    let mut draw = PcgDraw::new(seed);
+    let mut enabled = 0;
+    for done in 0..count {
+        let i = done + 1;
+        let statement = next_statement(alloc, i, &mut draw)?;
+        enabled += round(solo, user, i, statement)?;
+    }
+    Ok(enabled)
+}
+
+/// The table is made, and dumped at its first host.
+fn begin<B: Backend, S: Store>(
+    solo: &mut Solo<B, S>,
+    alloc: Global,
+    user: &Text,
+) -> Result<(), NoMemory>
+    requires user { user.now ≡ [] }
+    requires room { (session_at solo.old.world.core solo.old.session).queries < REQUEST_LIMIT }
+    ensures begins { IfOk result (λ _. Begins B.TELLS B.can_be_armed solo.old solo.new) }
+    ensures keeps { IfOk result (λ _. (enabled : ℕ) × Keeps 1 enabled solo.old solo.new) }
+{
+    let create = creation(alloc)?;
+    write(solo, user, Act::Create(create))?;
+    match first_host(solo.world().placement()) {
+        Some(b) => {
+            take_dump(solo, b)?;
+            Ok(())
+        }
+        None => Ok(()),
+    }
+}
+
+/// Plays the workload of so many statements, drawn from the seed, by a session of its own, and sums it up.
+///
+/// A table is made and dumped at its first host. Then come the statements, one after another; before some of them a backend is
+/// armed, and behind each one the backends that are out are brought back from the dump. Want of memory ends it, also where it is a
+/// backend's.
+pub fn play<B: Backend + Drop, S: Store + Drop>(
+    alloc: Global,
+    world: World<B, S>,
+    seed: u64,
+    count: u64,
+) -> Result<Summary, WorkloadError>
+    requires fresh { world.core.sessions ≡ [] }
+    requires idle { is_idle world.core.history ≡ true }
+    requires few { count < 2 ^ 32 }
+    ensures played { IfOk result (PlaysWorkload B.TELLS B.can_be_armed seed count world) }
+    ensures full { IsErrOf result WorkloadError.SessionsFull → SESSION_NUMBER_LIMIT ≤ world.core.greatest }
+{
+    world.legal();
+    let Ok(mut solo) = world.desk() else {
+        return Err(WorkloadError::SessionsFull);
+    };
+    let user = nobody(alloc);
+    begin(&mut solo, alloc, &user)?;
+    let enabled = rounds(&mut solo, alloc, &user, seed, count)?;
+    let summary = sum_up(alloc, solo.close(), count, enabled)?;
+    Ok(summary)
+}
