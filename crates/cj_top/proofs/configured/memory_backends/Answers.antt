@@ -1,4 +1,4 @@
-use Rattle.std.proofs.Common.{◌≡◌, ◌∷◌, [], ◌++◌, ℕ, List, replicate, ap, ◌∙◌, arith}
+use Rattle.std.proofs.Common.{◌≡◌, ◌∷◌, [], ◌++◌, ℕ, replicate, ap, ◌∙◌, arith}
 use Rattle.cj_mem.specs.MemoryBackends.{fresh_state}
 use Rattle.std.proofs.lemmas.List.{replicate_more}
 use Rattle.cj_top.proofs.configured.memory_backends.Goals as goal

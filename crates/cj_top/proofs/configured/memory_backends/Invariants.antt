@@ -1,4 +1,4 @@
-use Rattle.std.proofs.Common.{◌≡◌, [], replicate}
+use Rattle.std.proofs.Common.{◌≡◌, replicate}
 use Rattle.cj_mem.specs.MemoryBackends.{fresh_state}
 use Rattle.cj_top.proofs.configured.memory_backends.Given as goal
 

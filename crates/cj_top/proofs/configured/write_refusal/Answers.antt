@@ -1,9 +1,7 @@
-use Rattle.std.proofs.Common.{◌≡◌, ◌++◌, ◌<◌, [], List, ℕ, Option, Result, Err, length, take, refl, ap, sym, ◌∙◌, subst, arith, rules}
+use Rattle.std.proofs.Common.{[], List, ℕ, Err, ◌∙◌, subst, arith, rules}
 use Rattle.cj_outside.proofs.Joined.{appends_none}
 use Rattle.cj_outside.specs.Streams.{WritesAll}
-use Rattle.cj_outside.specs.declared.sink.OutError.{OutError}
 use Rattle.cj_outside.specs.declared.sink.OutError.TheVariants.{NoMemory}
-use Rattle.cj_top.specs.Configured.{refusal_line}
 use Rattle.cj_top.proofs.configured.write_refusal.Goals as goal
 
 pub returns-in-Ok : goal.returns-in-Ok

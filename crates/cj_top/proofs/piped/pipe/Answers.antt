@@ -1,16 +1,13 @@
-use Rattle.std.proofs.Common.{◌≡◌, ◌≢◌, ℕ, ℤ, Bool, true, List, Option, Result, Ok, Err, map, refl, sym, ap, ◌∙◌, subst}
+use Rattle.std.proofs.Common.{◌≡◌, Result, Ok, Err, map, refl, sym, ◌∙◌, subst}
 use Rattle.std.specs.Prelude.{IfErr, IfOk}
 use Rattle.std.specs.Result.{IsOkAnd}
-use Rattle.cj_outside.specs.Causes.{CountsFault}
 use Rattle.cj_auth.specs.Admission.{Register}
 use Rattle.cj_cluster.specs.declared.session.SessionEnd.{SessionEnd}
-use Rattle.cj_cluster.specs.declared.session.SessionEnd.TheVariants as ends
 use Rattle.cj_place.specs.Layouts.{Layout, placement_of}
 use Rattle.cj_state.specs.Worlds.{WorldState}
 use Rattle.cj_core.specs.Starts.{StartsFrom, state_by}
-use Rattle.cj_top.specs.Completeness.{CountsNoFault}
 use Rattle.cj_top.specs.Logs.{Found}
-use Rattle.cj_top.specs.Piped.{RefusesPipe, ServesOneSession}
+use Rattle.cj_top.specs.Piped.{RefusesPipe}
 use Rattle.cj_top.specs.declared.piped.PipeError.{PipeError}
 use Rattle.cj_top.proofs.Completed.{not_failed, pipe_answers}
 use Rattle.cj_top.proofs.Unopened.{refuses_log}

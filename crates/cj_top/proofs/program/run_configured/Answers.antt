@@ -1,4 +1,4 @@
-use Rattle.std.proofs.Common.{◌≡◌, inl, inr, refl, ⊎_elim}
+use Rattle.std.proofs.Common.{inl, inr, refl, ⊎_elim}
 use Rattle.cj_top.proofs.program.run_configured.Goals as goal
 
 pub returns-clause-comes : goal.returns-clause-comes

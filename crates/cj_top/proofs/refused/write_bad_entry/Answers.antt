@@ -1,4 +1,4 @@
-use Rattle.std.proofs.Common.{ℕ, List, sym, ◌∙◌, subst}
+use Rattle.std.proofs.Common.{ℕ, List, ◌∙◌, subst}
 use Rattle.cj_outside.specs.Streams.{WritesAll}
 use Rattle.cj_top.proofs.refused.write_bad_entry.Goals as goal
 
