@@ -1,26 +1,19 @@
 -- What the definitions tell of some documents.
 use Rattle.std.proofs.Common.{◌≡◌, ℕ, true, List, [], ◌∷◌, refl}
 use Rattle.std.specs.Prelude.{codes, pos, negsuc}
-use Rattle.std.specs.declared.option.Option.TheVariants.{None}
-use Rattle.std.specs.declared.result.Result.TheVariants.{Ok, Err}
+use Rattle.cj_conf.proofs.Common.{Backend, backend_of, backends_at, Err, name_at, None, number_at, Ok, parse_document, RoundRobin, settings_of}
 use Rattle.toml.proofs.OnLiterals.{toml_on_literals}
 use Rattle.toml.specs.Data.{Data, string, integer, boolean, array, table, no_items, item, Members, no_members, member}
-use Rattle.toml.specs.Parse.{parse_document}
 use Rattle.cj_model.specs.Sql.Names.{is_name}
 use Rattle.cj_place.specs.declared.error.PlaceError.TheVariants.{BackendCount}
 use Rattle.cj_auth.specs.declared.error.AuthError.TheVariants.{Twice}
-use Rattle.cj_conf.specs.declared.backend.Backend.{Backend}
 use Rattle.cj_conf.specs.declared.backend.BackendKind.TheVariants.{Memory, Sqlite}
 use Rattle.cj_conf.specs.declared.error.ConfError.TheVariants.{Missing, WrongType, Range, Unknown, Place, Auth}
 use Rattle.cj_conf.specs.declared.key.Key.TheVariants as key
 use Rattle.cj_model.specs.declared.account.Account.{Account}
 use Rattle.cj_model.specs.declared.placement.Level.TheVariants.{Raidb1}
-use Rattle.cj_model.specs.declared.policy.Policy.TheVariants.{RoundRobin}
 use Rattle.cj_conf.specs.declared.settings.Settings.{Settings}
 use Rattle.cj_conf.specs.Confs.{conf_from, weights_of}
-use Rattle.cj_conf.specs.Fields.{name_at, number_at}
-use Rattle.cj_conf.specs.Rows.{backend_of, backends_at}
-use Rattle.cj_conf.specs.Settings.{settings_of}
 
 -- ---- a backend
 

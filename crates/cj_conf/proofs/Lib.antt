@@ -1,3 +1,4 @@
+pub mod Common
 pub mod Documents
 pub mod Examples
 pub mod Making

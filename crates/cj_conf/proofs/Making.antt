@@ -1,18 +1,13 @@
 -- What a configuration is made of.
 use Rattle.std.proofs.Common.{◌≡◌, ℕ, ◌<◌, ◌≤◌, List, length, sym, ap, subst, arith, get_or, ⊎_elim}
 use Rattle.std.specs.Prelude.{All, slice_get}
-use Rattle.std.specs.declared.option.Option.TheVariants.{None, Some}
 use Rattle.std.specs.Option.{option_map_or}
 use Rattle.std.proofs.lemmas.List.{length-map}
 use Rattle.std.proofs.lemmas.List.Elements.{All-get_or}
 use Rattle.std.proofs.lemmas.List.FromFn.{get_or-map-range_with_len}
 use Rattle.std.proofs.lemmas.Option.{slice_get_cases}
-use Rattle.cj_model.specs.declared.limits.TheConstants.{BACKEND_LIMIT}
+use Rattle.cj_conf.proofs.Common.{AreWeights, Backend, BACKEND_LIMIT, IsWeighted, kinds_of, names_of, None, Some, weight_at, weights_of}
 use Rattle.cj_balance.specs.declared.balancer.TheConstants.{MOST_WEIGHT}
-use Rattle.cj_balance.specs.Kept.{AreWeights}
-use Rattle.cj_conf.specs.declared.backend.Backend.{Backend}
-use Rattle.cj_conf.specs.Confs.{kinds_of, names_of, weight_at, weights_of}
-use Rattle.cj_conf.specs.Weights.{IsWeighted}
 
 pub name_count : (backends : List Backend) → length (names_of backends) ≡ length backends
 name_count backends = length-map backends _

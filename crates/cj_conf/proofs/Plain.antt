@@ -2,19 +2,14 @@
 use Rattle.std.proofs.Common.{◌≡◌, ℕ, Bool, true, false, cond, List, [], ◌∷◌, sym, subst, ⊎_elim}
 use Rattle.std.specs.Prelude.{ℤ, pos, negsuc, IfErr}
 use Rattle.std.specs.declared.option.Option.{Option}
-use Rattle.std.specs.declared.option.Option.TheVariants.{None, Some}
-use Rattle.std.specs.declared.result.Result.{Result}
-use Rattle.std.specs.declared.result.Result.TheVariants.{Ok, Err}
+use Rattle.cj_conf.proofs.Common.{ConfError, Err, None, Ok, Result, RoundRobin, settings_of, Some}
 use Rattle.toml.specs.Data.{Data, Items, no_items, item, Members, as_array, as_integer, as_str, as_table}
-use Rattle.cj_model.specs.declared.policy.Policy.TheVariants.{RoundRobin}
-use Rattle.cj_conf.specs.declared.error.ConfError.{ConfError}
 use Rattle.cj_conf.specs.declared.error.ConfError.TheVariants as error
 use Rattle.cj_conf.specs.declared.key.Key.{Key}
 use Rattle.cj_conf.specs.declared.key.Key.TheVariants as key
 use Rattle.cj_conf.specs.Fields.{and_then, at, digest_at, in_range, kind_at, level_at, name_at, number_at, number_within, optional, policy_at, policy_named, required, text_as, unless, user_at}
 use Rattle.cj_conf.specs.Refusals.{Gives, TellsMemoryPlainly}
 use Rattle.cj_conf.specs.Rows.{account_of, backend_of, backends_at, each, each_of, hosts_at, is_table, is_text, logins_at, placed_of, row_of, rows_of, tables_at, texts_of, users_at}
-use Rattle.cj_conf.specs.Settings.{settings_of}
 
 abbrev pub IsPlain : {A : Type 0} → Result A ConfError → Type 0
 IsPlain r = IfErr r TellsMemoryPlainly

@@ -1,8 +1,6 @@
 -- How lists are read item by item.
 use Rattle.std.proofs.Common.{List, ◌++◌}
-use Rattle.std.specs.declared.result.Result.{Result}
-use Rattle.std.specs.declared.result.Result.TheVariants.{Ok, Err}
-use Rattle.cj_conf.specs.declared.error.ConfError.{ConfError}
+use Rattle.cj_conf.proofs.Common.{ConfError, Err, Ok, Result}
 
 -- the items that were read, and those that are read after them
 abbrev pub onto : {A : Type 0} → List A → Result (List A) ConfError → Result (List A) ConfError

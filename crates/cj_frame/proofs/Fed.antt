@@ -1,10 +1,7 @@
 -- What is held once a message was taken off.
 use Rattle.std.proofs.Common.{◌≡◌, ℕ, ◌-◌, List, [], ◌∷◌, ◌++◌, length, take, drop, sym, ap, ◌∙◌, arith, append_assoc, length-append}
-use Rattle.std.specs.List.{flat_map, AllByRecursion}
 use Rattle.std.proofs.lemmas.List.{take-append-drop, drop_at, append-nil}
-use Rattle.std.proofs.lemmas.List.Concat.{flat_map-cons}
-use Rattle.cj_model.specs.declared.message.Message.{Message}
-use Rattle.cj_model.specs.Wire.Frames.{frame, IsFramed}
+use Rattle.cj_frame.proofs.Common.{AllByRecursion, flat_map, flat_map-cons, frame, IsFramed, Message}
 use Rattle.cj_frame.specs.Feeding.{FeedStep, piece_fed, message_taken, FeedLeadsTo, FeedsGiveReadings}
 
 -- the bytes behind a front, counted from the end

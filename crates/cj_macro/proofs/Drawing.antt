@@ -1,13 +1,10 @@
 -- What the draws of a state are for two lists of bounds, and for a list of items that is rewritten item by item.
 use Rattle.std.proofs.Common.{◌≡◌, ◌∙◌, refl, sym, ap, ℕ, ◌+◌, ◌^◌, ◌<◌, true, List, [], ◌∷◌, ◌++◌, length, take, drop, get_or, set, fold, arith}
-use Rattle.std.specs.List.{All, flat_map}
-use Rattle.std.specs.Cmp.Derive.{both_true}
 use Rattle.std.proofs.lemmas.Bool.{lt-ltb}
 use Rattle.std.proofs.lemmas.List.{append_assoc, drop_more, drop-set-lt, take_more_set}
 use Rattle.std.proofs.lemmas.List.Sums.{fold-append}
 use Rattle.std.proofs.lemmas.List.Elements.{All-nil, All-cons, All-head, All-tail}
-use Rattle.cj_model.specs.Sql.Macros.{draws_from, generator_after_draws, draws_for, draws_behind, each_rewritten, IsDrawable}
-use Rattle.cj_macro.specs.Drawable.{are_drawable}
+use Rattle.cj_macro.proofs.Common.{All, are_drawable, both_true, draws_behind, draws_for, draws_from, each_rewritten, flat_map, generator_after_draws, IsDrawable}
 use Rattle.cj_macro.proofs.RewrittenTerms.{IsSmall}
 
 -- ---- draws

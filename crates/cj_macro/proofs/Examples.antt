@@ -2,17 +2,14 @@
 use Rattle.std.proofs.Common.{◌≡◌, refl, ℕ, List, [], ◌∷◌, codes, pos, negsuc, Some, None}
 use Rattle.std.specs.Prelude.{drop}
 use Rattle.std.specs.Fmt.{digits}
+use Rattle.cj_macro.proofs.Common.{And, bounds, draws_from, generator_after_draws, Not, Or, Request, rewritten, Term, Test}
 use Rattle.cj_outside.specs.Draws.{of_list}
-use Rattle.cj_model.specs.declared.term.Term.{Term}
 use Rattle.cj_model.specs.declared.term.Term.TheVariants as term
 use Rattle.cj_model.specs.declared.term.Expr.TheVariants as expr
 use Rattle.cj_model.specs.declared.term.Cmp.TheVariants as cmp
 use Rattle.cj_model.specs.declared.select.Items.TheVariants as items
 use Rattle.cj_model.specs.declared.write.Write.TheVariants as write
-use Rattle.cj_model.specs.declared.request.Request.{Request}
 use Rattle.cj_model.specs.declared.request.Request.TheVariants as request
-use Rattle.cj_model.specs.Database.Conditions.{Test, Not, And, Or}
-use Rattle.cj_model.specs.Sql.Macros.{bounds, draws_from, generator_after_draws, rewritten}
 use Rattle.cj_print.specs.Canonical.{canonical}
 
 abbrev col : List ℕ → Term

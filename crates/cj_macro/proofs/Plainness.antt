@@ -1,19 +1,10 @@
 -- A request with values in place of its calls is plain.
 use Rattle.std.proofs.Common.{◌≡◌, refl, ℕ, ℤ, Bool, true, List, [], ◌∷◌, Option, Some, None}
 use Rattle.std.specs.List.{flat_map, list_all}
-use Rattle.std.specs.Cmp.Derive.{both_true}
-use Rattle.cj_model.specs.declared.term.Term.{Term}
-use Rattle.cj_model.specs.declared.term.Term.TheVariants.{Lit, Col, Now, Rand}
-use Rattle.cj_model.specs.declared.term.Expr.{Expr}
-use Rattle.cj_model.specs.declared.term.Expr.TheVariants.{One, Plus, Minus}
-use Rattle.cj_model.specs.declared.write.Set.{Set}
-use Rattle.cj_model.specs.declared.write.Write.{Write}
+use Rattle.cj_macro.proofs.Common.{And, both_true, Col, Condition, condition_bounds, draws_behind, draws_for, each_rewritten, Expr, Lit, Minus, Not, Now, One, Or, Plus, Rand, Request, rewritten, rewritten_condition, rewritten_expr, rewritten_set, rewritten_term, rewritten_tuple, rewritten_where, rewritten_write, Set, set_bounds, Term, term_bounds, Test, tuple_bounds, Write}
 use Rattle.cj_model.specs.declared.write.Write.TheVariants as write
-use Rattle.cj_model.specs.declared.request.Request.{Request}
 use Rattle.cj_model.specs.declared.request.Request.TheVariants as request
-use Rattle.cj_model.specs.Database.Conditions.{Condition, Test, Not, And, Or}
 use Rattle.cj_model.specs.Sql.PlainRequests.{is_plain_term, is_plain_expr, is_plain_condition, is_plain_where, is_plain_write, is_plain}
-use Rattle.cj_model.specs.Sql.Macros.{term_bounds, condition_bounds, tuple_bounds, set_bounds, draws_for, draws_behind, rewritten_term, rewritten_expr, rewritten_condition, rewritten_where, each_rewritten, rewritten_tuple, rewritten_set, rewritten_write, rewritten}
 
 plain_term : (moment : ℤ) (draws : List ℕ) (t : Term) → is_plain_term (rewritten_term moment draws t) ≡ true
 plain_term moment draws (Lit v) = refl

@@ -1,15 +1,10 @@
 -- A condition with values in place of its calls can be spelled, nests no deeper and is what its form means.
 use Rattle.std.proofs.Common.{◌≡◌, ◌∙◌, refl, sym, ap, subst, ℕ, ℤ, zero, suc, ◌≤◌, List, Option, Some, None}
-use Rattle.std.specs.List.{All}
-use Rattle.std.proofs.lemmas.List.Elements.{All-nil, All-append}
+use Rattle.cj_macro.proofs.Common.{All, All-append, All-nil, And, Condition, condition_bounds, draws_behind, draws_for, IsConstant, IsDrawable, Not, Or, rewritten_condition, rewritten_where, term_bounds, TermFits, Test, where_bounds}
 use Rattle.cj_model.specs.declared.value.Value.TheVariants as value
-use Rattle.cj_model.specs.Database.Conditions.{Condition, Test, Not, And, Or}
-use Rattle.cj_model.specs.Sql.Literals.{IsConstant}
-use Rattle.cj_model.specs.Sql.TermForms.{TermFits}
 use Rattle.cj_model.specs.Sql.ConditionForms as c
 use Rattle.cj_model.specs.Sql.ConditionForms.{CondForm, OrsForm, ConjForm, AndsForm, PrimForm, cond_meant, comparisons, CondNests, OrsNest, ConjNests, AndsNest, PrimNests, CondFits}
 use Rattle.cj_model.specs.Sql.Grammar.{where_meant, WhereFits}
-use Rattle.cj_model.specs.Sql.Macros.{term_bounds, condition_bounds, where_bounds, IsDrawable, draws_for, draws_behind, rewritten_condition, rewritten_where}
 use Rattle.cj_model.proofs.Spellable.{FineCond, FineWhere}
 use Rattle.cj_print.proofs.Forms.{term_form, or_end, and_end, or_also, and_also, Forms, of_prim, of_conj, of_cond, forms, where_form}
 use Rattle.cj_print.proofs.FewestParentheses.{Meant, forms_mean, or_also_fits, and_also_fits}

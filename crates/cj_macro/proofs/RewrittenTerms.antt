@@ -1,14 +1,10 @@
 -- A term with a value in place of its call can be spelled, fits and is what its form means, where the term itself is so.
 use Rattle.std.proofs.Common.{◌≡◌, refl, ℕ, ℤ, ◌<◌, ◌^◌, List, [], ◌∷◌, pos, negsuc, arith}
 use Rattle.std.specs.Int.Signed.{mag}
-use Rattle.std.specs.List.{All}
 use Rattle.std.proofs.lemmas.List.Elements.{All-nil, All-cons, All-head, All-append, All-take, All-drop}
+use Rattle.cj_macro.proofs.Common.{All, Col, Expr, Lit, Minus, Now, One, Plus, Rand, Term}
 use Rattle.cj_model.specs.declared.value.Value.{Value}
 use Rattle.cj_model.specs.declared.value.Value.TheVariants as value
-use Rattle.cj_model.specs.declared.term.Term.{Term}
-use Rattle.cj_model.specs.declared.term.Term.TheVariants.{Lit, Col, Now, Rand}
-use Rattle.cj_model.specs.declared.term.Expr.{Expr}
-use Rattle.cj_model.specs.declared.term.Expr.TheVariants.{One, Plus, Minus}
 use Rattle.cj_model.specs.Sql.Literals.{form_of, IsConstant}
 use Rattle.cj_model.specs.Sql.TermForms.{const_meant, term_meant, expr_meant, ConstFits, TermFits, ExprFits}
 use Rattle.cj_model.specs.Sql.Macros.{term_bounds, expr_bounds, IsDrawable, draws_for, draws_behind, first_draw, rewritten_term, rewritten_expr}

@@ -1,24 +1,15 @@
 -- What some text reads as has drawable RANDs, and with values in place of its calls some text reads as it still.
 use Rattle.std.proofs.Common.{◌≡◌, ◌∙◌, refl, sym, ap, ap₂, subst, ℕ, ℤ, suc, ◌<◌, ◌≤◌, Bool, true, false, Option, List, [], ◌∷◌, length, map}
-use Rattle.std.specs.List.{All, flat_map}
 use Rattle.std.proofs.lemmas.List.{length-map}
-use Rattle.std.proofs.lemmas.List.Elements.{All-nil, All-append}
+use Rattle.cj_macro.proofs.Common.{All, All-append, All-nil, Condition, Expr, flat_map, IsConstant, IsWritten, Request, Set, Term, Write}
 use Rattle.cj_model.specs.declared.value.Value.TheVariants as value
-use Rattle.cj_model.specs.declared.term.Term.{Term}
-use Rattle.cj_model.specs.declared.term.Expr.{Expr}
 use Rattle.cj_model.specs.declared.select.Key.{Key}
 use Rattle.cj_model.specs.declared.select.Select.{Select}
-use Rattle.cj_model.specs.declared.write.Set.{Set}
-use Rattle.cj_model.specs.declared.write.Write.{Write}
 use Rattle.cj_model.specs.declared.write.Write.TheVariants as write
-use Rattle.cj_model.specs.declared.request.Request.{Request}
 use Rattle.cj_model.specs.declared.request.Request.TheVariants as request
-use Rattle.cj_model.specs.Database.Conditions.{Condition}
-use Rattle.cj_model.specs.Sql.Literals.{IsConstant}
 use Rattle.cj_model.specs.Sql.TermForms.{EachFits, SomeFit, const_meant, ConstFits}
 use Rattle.cj_model.specs.Sql.Grammar as g
 use Rattle.cj_model.specs.Sql.Grammar.{set_meant, select_meant, statement_meant, SetFits, StatementFits, TextReadsAs}
-use Rattle.cj_model.specs.Sql.WrittenRequests.{IsWritten}
 use Rattle.cj_model.specs.Sql.Macros.{term_bounds, tuple_bounds, set_bounds, where_bounds, write_bounds, IsDrawable, RandsAreDrawable, draws_for, draws_behind, rewritten_term, each_rewritten, rewritten_tuple, rewritten_set, rewritten_write, rewritten_select, rewritten}
 use Rattle.cj_model.proofs.Spellable.{FineConst, FineSet, FineWrite, FineRequest, request_fine}
 use Rattle.cj_print.proofs.Forms.{const_form, set_form, direction_form, key_form, select_form, form}

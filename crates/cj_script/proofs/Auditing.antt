@@ -1,11 +1,10 @@
 -- What an audit's line comes to.
 use Rattle.std.proofs.Common.{◌≡◌, ℕ, Bool, true, false, List, Option, Result, Ok, Err, Some, inr, refl}
 use Rattle.std.specs.Prelude.{◌↔◌, IsNone}
+use Rattle.cj_script.proofs.Common.{DoesLine, WorldState}
 use Rattle.cj_outside.specs.declared.sink.OutError.{OutError}
 use Rattle.cj_outside.specs.declared.sink.OutError.TheVariants as out_errors
 use Rattle.cj_outside.specs.Streams.{WritesAll}
-use Rattle.cj_state.specs.Worlds.{WorldState}
-use Rattle.cj_script.specs.Script.{DoesLine}
 use Rattle.cj_script.specs.Steps.{PlaysOrEnds, written_or_end}
 
 -- a line that was done, and what it gives was written, or a front of it

@@ -1,10 +1,8 @@
 -- Where words end.
 use Rattle.std.proofs.Common.{◌≡◌, ◌∙◌, refl, sym, ap, subst, ℕ, not, ◌==◌, List, [], ◌∷◌, ◌++◌, Some, None}
 use Rattle.std.specs.List.{list_all, position}
-use Rattle.std.specs.Str.{bytes_eq}
-use Rattle.std.proofs.lemmas.Bool.{and_parts, false≢true}
+use Rattle.cj_script.proofs.Common.{and_parts, bytes_eq, CutsWord, false≢true, IsNamed, IsNumbered}
 use Rattle.cj_cluster.specs.Script.Lines.{IsNumber, IsBackend, HasNoSpace}
-use Rattle.cj_script.specs.Reading.{CutsWord, IsNumbered, IsNamed}
 use Rattle.cj_script.proofs.Numbers.{number_word, number_one}
 
 -- what a word is after its first byte

@@ -1,10 +1,8 @@
 -- Lines that are not empty: what a move's line is like, and how many there are.
 use Rattle.std.proofs.Common.{◌≡◌, ℕ, ◌+◌, ◌*◌, ◌≤◌, Bool, not, List, [], ◌∷◌, ◌++◌, length, inl, inr, refl, ap, sym, subst, ◌∙◌, arith, length-append}
 use Rattle.std.proofs.lemmas.List.Elements.{filter-append}
-use Rattle.cj_cluster.specs.declared.moves.Move.{Move}
+use Rattle.cj_script.proofs.Common.{Move, MoveLine, WorldState}
 use Rattle.cj_cluster.specs.declared.moves.Move.TheVariants.{Open, Close, Schedule, Abort, Apply, End, Read, Arm, Disable, Replay, Enable, Mark, Dump, Load}
-use Rattle.cj_cluster.specs.Script.Lines.{MoveLine}
-use Rattle.cj_state.specs.Worlds.{WorldState}
 use Rattle.cj_script.specs.Script.{audit_line, is_empty, filled, PlaysLine}
 
 -- ---- the line of a move

@@ -1,4 +1,5 @@
 pub mod Auditing
+pub mod Common
 pub mod Cutting
 pub mod Filled
 pub mod InTurns

@@ -2,10 +2,8 @@
 use Rattle.std.proofs.Common.{◌≡◌, ◌∙◌, refl, sym, ap, subst, ℕ, List, [], ◌∷◌, ◌++◌, codes, map, Option, Some, None, Result, Ok, Err, IfOk, inl, inr}
 use Rattle.std.proofs.lemmas.Bool.{cases_Bool}
 use Rattle.std.proofs.lemmas.Slice.Eq.{bytes_eq-Decides}
-use Rattle.std.specs.Str.{bytes_eq}
-use Rattle.cj_cluster.specs.declared.moves.Move.{Move}
+use Rattle.cj_script.proofs.Common.{bytes_eq, HasNoSpace, Move, MoveLine}
 use Rattle.cj_cluster.specs.declared.moves.Move.TheVariants as move
-use Rattle.cj_cluster.specs.Script.Lines.{HasNoSpace, MoveLine}
 use Rattle.cj_script.specs.declared.verb.Verb.{Verb}
 use Rattle.cj_script.specs.declared.verb.Verb.TheVariants.{Open, Close, Write, Abort, Apply, End, Read, Arm, Disable, Replay, Enable, Mark, Dump, Load}
 use Rattle.cj_script.specs.declared.verb.TheConstants.{VERBS}

@@ -1,15 +1,9 @@
 -- Lines that are moves: how many can come.
 use Rattle.std.proofs.Common.{◌≡◌, ℕ, ◌+◌, ◌*◌, ◌-◌, ◌≤◌, ◌^◌, Bool, List, [], length, Option, Result, inl, inr, sym, ap, subst, arith}
-use Rattle.cj_outside.specs.Lines.{Reading}
-use Rattle.cj_outside.specs.Streams.{most}
-use Rattle.cj_cluster.specs.Moves.Cores.{Core}
-use Rattle.cj_state.specs.Worlds.{WorldState}
-use Rattle.cj_cluster.specs.Moves.Runs.{CanCountRequests}
+use Rattle.cj_script.proofs.Common.{CanCountRequests, Core, most, PlaysOrEnds, PlaysWritten, Reading, ScriptEnd, WorldState}
 use Rattle.cj_cluster.proofs.Growth.{moves_grow, can_count}
 use Rattle.cj_core.specs.Played.{given_of}
 use Rattle.cj_script.specs.Script.{PlaysLine, MakesMove}
-use Rattle.cj_script.specs.declared.play.ScriptEnd.{ScriptEnd}
-use Rattle.cj_script.specs.Steps.{PlaysWritten, PlaysOrEnds}
 use Rattle.cj_script.proofs.Filled.{move_line_long}
 use Rattle.cj_script.proofs.Playing.{Advances}
 

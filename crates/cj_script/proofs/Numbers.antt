@@ -1,9 +1,7 @@
 -- Numbers as words.
 use Rattle.std.proofs.Common.{◌≡◌, ◌∙◌, refl, sym, ap, subst, ℕ, zero, suc, ◌<◌, ◌^◌, true, false, not, ◌||◌, ◌==◌, List, [], ◌∷◌, length, get_or, Result, Ok, inl, inr, arith, rules}
 use Rattle.std.specs.Char.{is_ascii_digit}
-use Rattle.std.specs.List.{list_all}
 use Rattle.std.specs.Str.{IsUtf8}
-use Rattle.std.specs.Str.Parse.{ParsesUnsigned}
 use Rattle.std.specs.Fmt.{decimal}
 use Rattle.std.proofs.lemmas.Fmt.{digits_decimal, decimal_nonempty, first_decimal, decimal-digits_value, parse-decimal, decimal_injective, decimal_digit, IsAscii-decimal}
 use Rattle.std.proofs.lemmas.Str.{IsUtf8-from_ascii}
@@ -11,7 +9,7 @@ use Rattle.std.proofs.lemmas.Str.Parse.{IsNumeralModel, numerals_by_value, parse
 use Rattle.std.specs.Str.Parse.{digits_value}
 use Rattle.std.proofs.lemmas.Bool.{and_parts, and_from, or_cases, not-true, eqb-false, ne_eqb, false≢true}
 use Rattle.std.proofs.lemmas.Bool.Decides.{nat_tests}
-use Rattle.cj_cluster.specs.Script.Lines.{IsNumber, HasNoSpace}
+use Rattle.cj_script.proofs.Common.{HasNoSpace, IsNumber, list_all, ParsesUnsigned}
 use Rattle.cj_script.specs.Reading.{begins_number, is_numeral}
 
 -- the digits of the words are std's

@@ -1,21 +1,17 @@
 -- How a script comes from line to line.
 use Rattle.std.proofs.Common.{◌≡◌, ◌≢◌, ◌⊎◌, ℕ, ◌+◌, ◌*◌, ◌<◌, ◌≤◌, Bool, List, [], ◌∷◌, ◌++◌, length, Option, Some, None, Ok, Err, inl, inr, refl, sym, ap, subst, ◌∙◌, arith, append_assoc, append-nil, length-append}
 use Rattle.std.specs.Prelude.{IsSome}
-use Rattle.std.specs.List.{flat_map}
 use Rattle.std.proofs.lemmas.List.Concat.{flat_map-append, flat_map-cons}
 use Rattle.std.proofs.lemmas.List.Elements.{All-push, All-nil}
 use Rattle.std.specs.Global.{Vec}
 use Rattle.std.specs.Io.KnownBytes.{Consumes, Appends, IsAtEnd}
+use Rattle.cj_script.proofs.Common.{flat_map, PlaysOrEnds, PlaysWritten, ReadsLine, ScriptEnd, Stays, with_line_feed, WorldState}
 use Rattle.cj_outside.specs.declared.lines.Line.{Line}
 use Rattle.cj_outside.specs.Lines.{line_limit, Reading, IsInLine, IsLine, EndsLine, LastLine, TookBytes}
 use Rattle.cj_outside.proofs.Joined.{consumes_then, consumes_none, appends_then, appends_none}
-use Rattle.cj_state.specs.Worlds.{WorldState}
-use Rattle.cj_cluster.specs.Script.Lines.{with_line_feed}
 use Rattle.cj_outside.specs.declared.lines.Line.TheVariants.{Text, Long}
-use Rattle.cj_script.specs.declared.play.ScriptEnd.{ScriptEnd}
 use Rattle.cj_script.specs.declared.play.ScriptEnd.TheVariants.{Done, Line as Line', ReadFault, WriteFault, Spent, NoMemory}
 use Rattle.cj_script.specs.Script.{filled, IsShortLine, PlaysLine, Plays, LieIn, IsNextLine, Played, PlayedInPart, MakesInPart, CameTo}
-use Rattle.cj_script.specs.Steps.{ReadsLine, PlaysWritten, Stays, PlaysOrEnds}
 use Rattle.cj_script.proofs.Filled.{filled_more}
 
 -- ---- lines that play

@@ -1,14 +1,12 @@
 -- Requests of a line.
 use Rattle.std.proofs.Common.{◌≡◌, ◌∙◌, refl, sym, ap, subst, List, ℕ, true, false, Option, Some, None}
-use Rattle.std.proofs.lemmas.Bool.{false≢true}
+use Rattle.cj_script.proofs.Common.{false≢true, is_name, Move}
 use Rattle.cj_model.specs.declared.request.Request.{Request}
 use Rattle.cj_model.specs.declared.request.Request.TheVariants as request
 use Rattle.cj_model.specs.declared.select.Select.{Select}
-use Rattle.cj_cluster.specs.declared.moves.Move.{Move}
 use Rattle.cj_cluster.specs.declared.moves.Move.TheVariants as move
 use Rattle.cj_model.specs.Sql.PlainRequests.{is_plain}
 use Rattle.cj_cluster.specs.Script.Lines.{IsPlainSql, IsWrite}
-use Rattle.cj_model.specs.Sql.Names.{is_name}
 use Rattle.cj_script.specs.Reading.{IsNumbered, IsNamed, NamesDump, OfDump, Writes, Queries, IsQuery, Finds}
 use Rattle.cj_script.proofs.Cutting.{numbered_one, named_one}
 use Rattle.cj_model.specs.Sql.Grammar.{TextReadsAs, ReadsAsNothing}

@@ -1,3 +1,4 @@
+pub mod Common
 pub mod OneTranscript
 pub mod Sending
 pub mod StarvedTurns

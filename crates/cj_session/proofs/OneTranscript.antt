@@ -1,19 +1,10 @@
 -- Where the desk is deterministic and the clock tells, a message has one reply, unless memory is wanting.
 use Rattle.std.proofs.Common.{◌≡◌, ◌≢◌, ◌⊎◌, ℕ, ℤ, true, List, [], ◌∷◌, ◌++◌, Option, Some, None, IfSome, refl, sym, ap, subst, ◌∙◌, inl, inr, arith, lit≤}
-use Rattle.std.specs.List.{flat_map}
 use Rattle.std.proofs.lemmas.List.{append-nil, append_cancel_left}
-use Rattle.cj_model.specs.declared.message.FrameFault.{FrameFault}
-use Rattle.cj_cluster.specs.declared.session.SessionEnd.{SessionEnd}
+use Rattle.cj_session.proofs.Common.{Answer, Done, flat_map, FrameFault, Message, NO_MEMORY, Refused, Reply, reply_bytes, Request, Rows, SessionEnd, Stats}
 use Rattle.cj_cluster.specs.declared.session.SessionEnd.TheVariants as end
-use Rattle.cj_model.specs.Wire.Replies.{reply_bytes}
 use Rattle.cj_model.specs.Wire.Frames.{frame, Frames, fault_of}
-use Rattle.cj_model.specs.declared.message.Message.{Message}
 use Rattle.cj_model.specs.declared.message.Message.TheVariants as message
-use Rattle.cj_model.specs.declared.request.Request.{Request}
-use Rattle.cj_model.specs.declared.answer.Answer.{Answer}
-use Rattle.cj_model.specs.declared.answer.Reply.{Reply}
-use Rattle.cj_model.specs.declared.answer.Reply.TheVariants.{Done, Rows, Stats, Refused}
-use Rattle.cj_model.specs.declared.codes.TheConstants.{NO_MEMORY}
 use Rattle.cj_model.specs.Sql.Grammar.{TextReadsAs}
 use Rattle.cj_model.specs.Sql.Macros.{bounds, generator_after_draws}
 use Rattle.cj_model.specs.Sql.PlainRequests.{act_of}

@@ -1,10 +1,6 @@
 -- What is sent of a reply.
 use Rattle.std.proofs.Common.{◌≡◌, Bool, arith, ℕ, ◌≤◌, List, Result, Err, Option, refl, sym, ap, subst, inl, inr}
-use Rattle.cj_outside.specs.declared.sink.OutError.{OutError}
-use Rattle.cj_outside.specs.Streams.{WritesAll}
-use Rattle.cj_model.specs.declared.answer.Answer.{Answer}
-use Rattle.cj_model.specs.declared.answer.Reply.{Reply}
-use Rattle.cj_model.specs.declared.answer.Reply.TheVariants.{Done, Rows, Stats, Refused}
+use Rattle.cj_session.proofs.Common.{Answer, DeskState, DeskSteps, Done, OutError, Refusal, Refused, Reply, Rows, SendsReply, Stats, turn_taken, WritesAll}
 use Rattle.cj_model.specs.declared.codes.TheConstants.{TOO_LARGE}
 use Rattle.cj_model.specs.declared.limits.TheConstants.{FRAME_LIMIT}
 use Rattle.cj_model.specs.Database.Outcomes.{IsAnswer}
@@ -13,9 +9,6 @@ use Rattle.cj_model.specs.Wire.Replies.{reply_length, reply_bytes}
 use Rattle.cj_reply.specs.declared.reply.ReplyError.{ReplyError}
 use Rattle.cj_reply.specs.declared.reply.ReplyError.TheVariants as errors
 use Rattle.cj_reply.specs.Encode.{Encodes, IsSendable}
-use Rattle.cj_model.specs.declared.answer.Refusal.{Refusal}
-use Rattle.cj_desk.specs.DeskStates.{DeskState, turn_taken, DeskSteps}
-use Rattle.cj_desk.specs.SessionTranscripts.{SendsReply}
 use Rattle.cj_desk.proofs.TurnReplies.{turn_rows}
 use Rattle.cj_session.specs.Proving.Points.{SendsReplyTo, refusal_in_place}
 

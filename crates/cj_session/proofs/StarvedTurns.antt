@@ -1,14 +1,11 @@
 -- The turns of a desk that wants memory for all that it is asked.
 use Rattle.std.proofs.Common.{◌≡◌, ◌⊎◌, ℕ, ◌+◌, true, List, [], refl, inl, inr, arith}
-use Rattle.cj_model.specs.declared.request.Request.{Request}
+use Rattle.cj_session.proofs.Common.{NO_MEMORY, refused_reply, Reply, Request}
 use Rattle.cj_model.specs.declared.request.Act.{Act}
 use Rattle.cj_model.specs.declared.request.Act.TheVariants as act
-use Rattle.cj_model.specs.declared.answer.Reply.{Reply}
-use Rattle.cj_model.specs.declared.codes.TheConstants.{NO_MEMORY}
 use Rattle.cj_model.specs.Sql.PlainRequests.{request_of}
 use Rattle.cj_cluster.specs.History.Legality.{FitsTx}
 use Rattle.cj_cluster.specs.History.Turns.{starved}
-use Rattle.cj_cluster.specs.Wire.Sessions.{refused_reply}
 use Rattle.cj_cluster.proofs.Pushed.{prefix_self}
 use Rattle.cj_desk.specs.DeskStates.{turn_taken, next_call, DeskSteps}
 use Rattle.cj_session.specs.Proving.StarvedDesks.{starved_desk}

@@ -2,19 +2,12 @@
 use Rattle.std.proofs.Common.{◌≡◌, ℕ, ◌+◌, ◌^◌, ◌<◌, ◌≤◌, true, false, List, [], ◌∷◌, ◌++◌, length, take, Result, Err, Option, Some, None, refl, sym, ap, subst, ◌∙◌, inl, inr, MatchOption, arith, append_assoc, length-append}
 use Rattle.std.specs.List.{flat_map, list_any, AllByRecursion}
 use Rattle.std.specs.Io.KnownBytes.{Consumes, Appends}
-use Rattle.std.proofs.lemmas.List.{append-nil}
 use Rattle.std.proofs.lemmas.List.Concat.{flat_map-append, flat_map-cons}
 use Rattle.std.proofs.lemmas.List.Folds.{list_any-append}
-use Rattle.cj_outside.specs.declared.sink.OutError.{OutError}
-use Rattle.cj_outside.specs.Streams.{most, WritesAll}
+use Rattle.cj_session.proofs.Common.{append-nil, FrameFault, Message, most, OutError, Reply, reply_bytes, SessionEnd, WritesAll}
 use Rattle.cj_outside.proofs.Joined.{consumes_none, consumes_then, appends_none, appends_then}
-use Rattle.cj_model.specs.declared.message.Message.{Message}
 use Rattle.cj_model.specs.declared.message.Message.TheVariants as message
-use Rattle.cj_model.specs.declared.message.FrameFault.{FrameFault}
-use Rattle.cj_cluster.specs.declared.session.SessionEnd.{SessionEnd}
 use Rattle.cj_cluster.specs.declared.session.SessionEnd.TheVariants as end
-use Rattle.cj_model.specs.declared.answer.Reply.{Reply}
-use Rattle.cj_model.specs.Wire.Replies.{reply_bytes}
 use Rattle.cj_model.specs.Wire.Frames.{frame, IsFramed}
 use Rattle.cj_cluster.specs.Wire.Sessions.{is_quit}
 use Rattle.cj_desk.specs.SessionTranscripts.{SessionSetting, ClientState, MessageExchange, MessageExchanges, TranscriptSoFar, AwaitsMore, IsFaultyRest, IsWrittenWhole, IsCutShort, IsCutTranscript, EndsTranscript, bad_frame_reply, LeavesDesk}

@@ -1,36 +1,19 @@
 -- Calls in which nothing failed and memory was not wanting.
 use Rattle.std.proofs.Common.{◌≡◌, ◌≢◌, ◌⊎◌, ℕ, ℤ, Bool, true, List, [], ◌∷◌, ◌+◌, length, map, replicate, Option, None, Result, Ok, Err, refl, sym, ap, subst, ◌∙◌, arith, ⊎_elim}
-use Rattle.std.specs.Prelude.{IfOk}
-use Rattle.cj_model.specs.declared.answer.Reply.{Reply}
-use Rattle.cj_model.specs.declared.database.Slot.{Slot}
+use Rattle.cj_top.proofs.Common.{Arming, CellState, client_state, Command, Conf, faults_of, Gen, IfOk, in_memory, Log, LogItem, new_backend, OutError, Pipe, placement_of, Reply, Script, ScriptEnd, SessionEnd, Slot, StartError, WorldState}
 use Rattle.cj_outside.specs.Causes.{CountsFault}
-use Rattle.cj_backend.specs.Backends.{Arming}
-use Rattle.cj_cluster.specs.declared.session.SessionEnd.{SessionEnd}
 use Rattle.cj_cluster.specs.declared.session.SessionEnd.TheVariants as end
 use Rattle.cj_conf.specs.Confs.{conf_of}
-use Rattle.cj_conf.specs.declared.conf.Conf.{Conf}
 use Rattle.cj_conf.specs.declared.error.ConfError.{ConfError}
-use Rattle.cj_state.specs.Faults.{faults_of}
 use Rattle.cj_core.specs.QuietCalls.{BlamesNobody}
 use Rattle.cj_core.specs.Starts.{BackendState, backend_of, state_by}
-use Rattle.cj_state.specs.Worlds.{WorldState}
-use Rattle.cj_desk.specs.SessionTranscripts.{client_state}
-use Rattle.cj_replica.specs.Cells.{CellState}
-use Rattle.cj_log.specs.declared.item.LogItem.{LogItem}
-use Rattle.cj_script.specs.declared.play.ScriptEnd.{ScriptEnd}
 use Rattle.cj_script.specs.declared.play.ScriptEnd.TheVariants as script_end
 use Rattle.cj_top.specs.Completeness.{AnswersInput, ByConf, ByStore, CompletesCommand, CountNoFaults, CountsNoFault, PipesInput, PlaysInput, ScriptsInput, is_end_by_input, is_script_end_by_input}
-use Rattle.cj_words.specs.declared.asked.Command.{Command}
-use Rattle.cj_words.specs.declared.asked.Command.TheVariants.{Pipe, Script, Log, Gen}
-use Rattle.cj_book.specs.declared.error.StartError.{StartError}
-use Rattle.cj_outside.specs.declared.sink.OutError.{OutError}
 use Rattle.cj_outside.specs.declared.sink.OutError.TheVariants as out_errors
-use Rattle.cj_place.specs.Layouts.{placement_of}
 use Rattle.cj_top.specs.Generated.{RunsGen}
 use Rattle.cj_top.specs.Listed.{ListsLog}
 use Rattle.cj_top.specs.Logs.{StopsAtLog}
 use Rattle.cj_top.proofs.Unopened.{start_status}
-use Rattle.cj_top.specs.Configured.{in_memory, new_backend}
 use Rattle.cj_top.specs.Piped.{HasNoSession, RunsPipe, ServesOneSession, generator_of, opened_at, solo_setting}
 use Rattle.cj_top.specs.Program.{status_of_listing, status_of_script, status_of_session}
 use Rattle.cj_top.specs.Runs.{AreConfBytes, ComesBy}

@@ -1,16 +1,10 @@
 -- A script that ended by its input has played as far as that goes.
 use Rattle.std.proofs.Common.{◌≡◌, ◌≢◌, inl, inr, ℕ, ◌+◌, Bool, true, List, [], ◌∷◌, ◌++◌, length, All, Option, Some, None, refl, sym, ap, subst, ◌∙◌, arith, append_assoc, append-nil, length-append}
-use Rattle.std.specs.Prelude.{IfSome}
-use Rattle.std.specs.List.{flat_map}
-use Rattle.std.proofs.lemmas.Bool.{le-ltb, lt-ltb}
-use Rattle.std.proofs.lemmas.List.Concat.{flat_map-append, flat_map-cons}
 use Rattle.std.proofs.lemmas.List.Elements.{All-cons, All-head, All-nil, All-push, All-tail, All-weaker}
+use Rattle.cj_top.proofs.Common.{flat_map, flat_map-append, flat_map-cons, IfSome, le-ltb, lt-ltb, most, ScriptEnd, WorldState}
 use Rattle.cj_outside.specs.Lines.{IsInLine}
-use Rattle.cj_outside.specs.Streams.{most}
 use Rattle.cj_cluster.specs.Script.Lines.{with_line_feed}
-use Rattle.cj_state.specs.Worlds.{WorldState}
 use Rattle.cj_script.specs.Script.{CameTo, IsNextLine, IsShortLine, IsWrong, LieIn, Plays, PlaysLine}
-use Rattle.cj_script.specs.declared.play.ScriptEnd.{ScriptEnd}
 use Rattle.cj_script.specs.declared.play.ScriptEnd.TheVariants as end
 use Rattle.cj_top.specs.Completeness.{AreLines, EndsAtLine, IsFirstWrong, IsPlayable, PlaysInput, is_script_end_by_input, is_short_input}
 

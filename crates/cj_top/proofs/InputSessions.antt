@@ -1,14 +1,12 @@
 -- A session that ended by its input has answered all of it.
 use Rattle.std.proofs.Common.{◌≡◌, ℕ, ◌+◌, ◌-◌, ◌<◌, ◌≤◌, Bool, true, false, List, [], ◌∷◌, ◌++◌, length, take, All, Option, Some, None, refl, sym, ap, subst, ◌∙◌, arith, lit≤, append_assoc, append-nil, length-append}
-use Rattle.std.specs.Prelude.{IfSome}
 use Rattle.std.specs.List.{flat_map, list_any, AllByRecursion}
 use Rattle.std.specs.Io.KnownBytes.{Appends, Consumes}
 use Rattle.std.proofs.Math.Seq.{take-append-add}
 use Rattle.std.proofs.ByRecursion.{All-push as ByRecursion-push}
 use Rattle.std.proofs.lemmas.Bool.{le-ltb, lt-ltb, or_parts}
 use Rattle.std.proofs.lemmas.List.{take_all}
-use Rattle.std.proofs.lemmas.List.Concat.{flat_map-append, flat_map-cons}
-use Rattle.cj_model.specs.declared.answer.Reply.{Reply}
+use Rattle.cj_top.proofs.Common.{flat_map-append, flat_map-cons, IfSome, most, Reply, SessionEnd}
 use Rattle.cj_model.specs.declared.message.FrameFault.{FrameFault}
 use Rattle.cj_model.specs.declared.message.Message.{Message}
 use Rattle.cj_model.specs.declared.message.Message.TheVariants as message
@@ -16,8 +14,6 @@ use Rattle.cj_model.specs.Wire.Frames.{frame, IsFramed, BeginsNoFrame, Frames, f
 use Rattle.cj_model.specs.Wire.Replies.{reply_bytes}
 use Rattle.cj_model.proofs.FaultLaws.{faults_stay}
 use Rattle.cj_model.proofs.OneReading.{one_reading}
-use Rattle.cj_outside.specs.Streams.{most}
-use Rattle.cj_cluster.specs.declared.session.SessionEnd.{SessionEnd}
 use Rattle.cj_cluster.specs.declared.session.SessionEnd.TheVariants as end
 use Rattle.cj_cluster.specs.Wire.Sessions.{answered_messages, is_quit}
 use Rattle.cj_desk.specs.SessionTranscripts.{SessionSetting, ClientState, EndsTranscript, MessageExchanges, SessionTranscript}

@@ -1,4 +1,5 @@
 pub mod AskedWords
+pub mod Common
 pub mod Completed
 pub mod InputScripts
 pub mod InputSessions

@@ -7,26 +7,17 @@ use Rattle.std.proofs.lemmas.List.Elements.{All-replicate}
 use Rattle.std.proofs.lemmas.Simd.{map-map}
 use Rattle.std.proofs.lemmas.List.Sums.{sum_by-cons}
 use Rattle.std.proofs.lemmas.Option.{slice_get-get_or}
+use Rattle.cj_top.proofs.Common.{AreEmpty, Arming, BackendKind, BackendState, CellState, faults_of, fresh_state, HaveBegunNone, LogItem, MemoryState, never_armed, Slot, StartsFrom, state_by, WorldState}
 use Rattle.cj_outside.specs.Causes.{next}
 use Rattle.cj_model.specs.Cluster.Placements.{Placement}
 use Rattle.cj_cluster.specs.History.Histories.{is_enabled}
 use Rattle.cj_cluster.specs.Moves.Cores.{position_at}
 use Rattle.cj_cluster.specs.Moves.Moves.{last_number}
-use Rattle.cj_log.specs.declared.item.LogItem.{LogItem}
-use Rattle.cj_replica.specs.Cells.{CellState}
 use Rattle.cj_core.specs.QuietCalls.{CanCountMore}
-use Rattle.cj_core.specs.Starts.{BackendState, HaveBegunNone, StartsFrom, state_by}
-use Rattle.cj_state.specs.Faults.{faults_of}
-use Rattle.cj_state.specs.Worlds.{WorldState}
-use Rattle.cj_state.specs.Beginnings.{AreEmpty}
-use Rattle.cj_model.specs.declared.database.Slot.{Slot}
-use Rattle.cj_backend.specs.Backends.{Arming}
 use Rattle.cj_flaky.specs.FlakyBackends.{FlakyState, arming_of, faults_by, fresh_over, told_by}
-use Rattle.cj_mem.specs.MemoryBackends.{MemoryState, fresh_state, never_armed}
 use Rattle.cj_lite.specs.AnyBackends.{asks_of, begun_of, faults_of as faults_of_any, login_of}
 use Rattle.cj_lite.specs.LiteBackends.{untold}
 use Rattle.cj_lite.specs.declared.any_backend.AnyBackend.{AnyBackend}
-use Rattle.cj_conf.specs.declared.backend.BackendKind.{BackendKind}
 use Rattle.cj_conf.specs.declared.backend.BackendKind.TheVariants.{Memory, Sqlite}
 use Rattle.cj_top.specs.Configured.{AreNew, new_backend, new_of}
 

@@ -1,13 +1,9 @@
 -- A script over backends that begin.
 use Rattle.std.proofs.Common.{ℕ, Bool, true, List, Option, subst}
-use Rattle.cj_log.specs.declared.item.LogItem.{LogItem}
+use Rattle.cj_top.proofs.Common.{BeginsAsConfigured, Conf, LogItem, PlaysAsConfigured, ScriptEnd}
 use Rattle.cj_cluster.proofs.Standing.{between_none}
-use Rattle.cj_conf.specs.declared.conf.Conf.{Conf}
 use Rattle.cj_state.specs.Worlds.{WorldState, Setup}
 use Rattle.cj_script.specs.Script.{CameTo, InTurns}
-use Rattle.cj_script.specs.declared.play.ScriptEnd.{ScriptEnd}
-use Rattle.cj_top.specs.Configured.{BeginsAsConfigured}
-use Rattle.cj_top.specs.Scripted.{PlaysAsConfigured}
 
 -- what was played from there is what a script promises, and no session has begun there
 pub played_as_configured : (tells : Bool) (c : Conf) (found : List LogItem → Type 0) (left left' held held' : Option (List ℕ)) (ending : ScriptEnd) (first last : WorldState) → BeginsAsConfigured tells c found first → CameTo tells true first.setup.names left left' held held' first ending last

@@ -1,7 +1,6 @@
 -- Logs that are not opened.
 use Rattle.std.proofs.Common.{◌≡◌, ◌≢◌, ℕ, Bool, true, List, Err, refl}
-use Rattle.cj_state.specs.Worlds.{WorldState}
-use Rattle.cj_book.specs.declared.error.StartError.{StartError}
+use Rattle.cj_top.proofs.Common.{StartError, WorldState}
 use Rattle.cj_book.specs.declared.error.StartError.TheVariants as errors
 use Rattle.cj_core.specs.Starts.{CountsFaultOfStart, RefusesBytes}
 use Rattle.cj_top.specs.Logs.{RefusesLog, status_of_start}

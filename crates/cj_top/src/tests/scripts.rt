@@ -8,6 +8,8 @@ use std::test::Fail;
 
 const WRITE_T: &str = "write 1 CREATE TABLE t (k INTEGER PRIMARY KEY, v TEXT)";
 
+const WRITE_NUMBERS: &str = "write 1 CREATE TABLE t (k INTEGER PRIMARY KEY, v INTEGER)";
+
 const READ_B0: &str = "read 1 b0 SELECT * FROM t";
 
 const READ_B1: &str = "read 1 b1 SELECT * FROM t";
@@ -19,10 +21,7 @@ const SCRIPTS: [&[(&str, &str)]; 11] = [
         ("open ann", "session 1"),
         ("open ann", "session 2"),
         ("open ann", "session 3"),
-        (
-            "write 1 CREATE TABLE t (k INTEGER PRIMARY KEY, v INTEGER)",
-            "entry 1",
-        ),
+        (WRITE_NUMBERS, "entry 1"),
         ("apply b0", "b0 done 0"),
         ("apply b1", "b1 done 0"),
         ("end", "reply 1 done 0"),
@@ -166,10 +165,7 @@ const SCRIPTS: [&[(&str, &str)]; 11] = [
     &[
         ("open ann", "session 1"),
         ("open bob", "session 2"),
-        (
-            "write 1 CREATE TABLE t (k INTEGER PRIMARY KEY, v INTEGER)",
-            "entry 1",
-        ),
+        (WRITE_NUMBERS, "entry 1"),
         ("apply b0", "b0 done 0"),
         ("apply b1", "b1 done 0"),
         ("end", "reply 1 done 0"),
@@ -234,10 +230,7 @@ const SCRIPTS: [&[(&str, &str)]; 11] = [
     // a backend that is lost comes back from a dump and the log, with an entry that no other finished
     &[
         ("open ann", "session 1"),
-        (
-            "write 1 CREATE TABLE t (k INTEGER PRIMARY KEY, v INTEGER)",
-            "entry 1",
-        ),
+        (WRITE_NUMBERS, "entry 1"),
         ("apply b0", "b0 done 0"),
         ("apply b1", "b1 done 0"),
         ("end", "reply 1 done 0"),
@@ -258,10 +251,7 @@ const SCRIPTS: [&[(&str, &str)]; 11] = [
     // a dump has what an open transaction has changed
     &[
         ("open ann", "session 1"),
-        (
-            "write 1 CREATE TABLE t (k INTEGER PRIMARY KEY, v INTEGER)",
-            "entry 1",
-        ),
+        (WRITE_NUMBERS, "entry 1"),
         ("apply b0", "b0 done 0"),
         ("apply b1", "b1 done 0"),
         ("end", "reply 1 done 0"),

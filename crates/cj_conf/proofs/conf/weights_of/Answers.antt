@@ -1,8 +1,6 @@
 use Rattle.std.proofs.lemmas.List.FromFn.{fill_by_all}
 use Rattle.std.proofs.Common.{◌≢◌, ◌<◌, ◌∙◌, length, arith, get_or-set_other, get_or-set_same, below_more, length-set, subst, sym}
-use Rattle.cj_model.specs.declared.limits.TheConstants.{BACKEND_LIMIT}
-use Rattle.cj_balance.specs.Kept.{AreWeights}
-use Rattle.cj_conf.specs.Confs.{weight_at}
+use Rattle.cj_conf.proofs.Common.{AreWeights, BACKEND_LIMIT, weight_at}
 use Rattle.cj_conf.proofs.Making.{are_weights}
 use Rattle.cj_conf.proofs.conf.weights_of.Goals as goal
 

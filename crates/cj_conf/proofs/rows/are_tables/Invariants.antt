@@ -1,6 +1,5 @@
 use Rattle.std.proofs.Common.{◌≡◌, drop}
-use Rattle.toml.specs.View.{array_view, items_view}
-use Rattle.cj_conf.specs.Rows.{all_items, is_table}
+use Rattle.cj_conf.proofs.Common.{all_items, array_view, is_table, items_view}
 use Rattle.cj_conf.proofs.rows.are_tables.Given as goal
 
 abbrev pub invariant-loop-value : goal.invariant-loop-value

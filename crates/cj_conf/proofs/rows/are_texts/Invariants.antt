@@ -1,6 +1,5 @@
 use Rattle.std.proofs.Common.{◌≡◌, drop}
-use Rattle.toml.specs.View.{array_view, items_view}
-use Rattle.cj_conf.specs.Rows.{all_items, is_text}
+use Rattle.cj_conf.proofs.Common.{all_items, array_view, is_text, items_view}
 use Rattle.cj_conf.proofs.rows.are_texts.Given as goal
 
 abbrev pub invariant-loop-value : goal.invariant-loop-value

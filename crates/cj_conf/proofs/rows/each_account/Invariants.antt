@@ -1,8 +1,6 @@
 use Rattle.std.proofs.Common.{◌≡◌, drop}
-use Rattle.toml.specs.Data.{as_table}
-use Rattle.toml.specs.View.{array_view, items_view}
+use Rattle.cj_conf.proofs.Common.{account_of, array_view, as_table, each, items_view, row_of}
 use Rattle.cj_model.specs.Cluster.Accounts.{HasShortUsers}
-use Rattle.cj_conf.specs.Rows.{account_of, each, row_of}
 use Rattle.cj_conf.specs.declared.key.Key.TheVariants.{Users}
 use Rattle.cj_conf.proofs.Reading.{onto}
 use Rattle.cj_conf.proofs.rows.each_account.Given as goal

@@ -1,9 +1,5 @@
 use Rattle.std.proofs.Common.{◌≡◌, drop}
-use Rattle.std.specs.Prelude.{All}
-use Rattle.toml.specs.Data.{as_table}
-use Rattle.toml.specs.View.{array_view, items_view}
-use Rattle.cj_conf.specs.Rows.{backend_of, each, row_of}
-use Rattle.cj_conf.specs.Weights.{IsWeighted}
+use Rattle.cj_conf.proofs.Common.{All, array_view, as_table, backend_of, each, IsWeighted, items_view, row_of}
 use Rattle.cj_conf.specs.declared.key.Key.TheVariants.{Backends}
 use Rattle.cj_conf.proofs.Reading.{onto}
 use Rattle.cj_conf.proofs.rows.each_backend.Given as goal

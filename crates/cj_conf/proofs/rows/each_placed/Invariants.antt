@@ -1,7 +1,5 @@
 use Rattle.std.proofs.Common.{◌≡◌, drop}
-use Rattle.toml.specs.Data.{as_table}
-use Rattle.toml.specs.View.{array_view, items_view}
-use Rattle.cj_conf.specs.Rows.{each, placed_of, row_of}
+use Rattle.cj_conf.proofs.Common.{array_view, as_table, each, items_view, placed_of, row_of}
 use Rattle.cj_conf.specs.declared.key.Key.TheVariants.{Tables}
 use Rattle.cj_conf.proofs.Reading.{onto}
 use Rattle.cj_conf.proofs.rows.each_placed.Given as goal

@@ -1,7 +1,6 @@
 use Rattle.std.proofs.Common.{◌≡◌, drop}
-use Rattle.toml.specs.View.{array_view, items_view}
+use Rattle.cj_conf.proofs.Common.{array_view, each, items_view}
 use Rattle.cj_conf.specs.Fields.{name_in}
-use Rattle.cj_conf.specs.Rows.{each}
 use Rattle.cj_conf.specs.declared.key.Key.TheVariants.{Hosts}
 use Rattle.cj_conf.proofs.Reading.{onto}
 use Rattle.cj_conf.proofs.rows.names_of.Given as goal

@@ -1,7 +1,6 @@
 use Rattle.std.proofs.Common.{◌≡◌, ◌∙◌, sym, ap, subst, ℤ, w64}
 use Rattle.std.proofs.lemmas.Int.{to_z-of_z}
-use Rattle.cj_model.specs.Sql.WrittenRequests.{IsWritten}
-use Rattle.cj_model.specs.Sql.Macros.{bounds, draws_from, rewritten}
+use Rattle.cj_macro.proofs.Common.{bounds, draws_from, IsWritten, rewritten}
 use Rattle.cj_macro.proofs.Drawing.{draws_small}
 use Rattle.cj_macro.proofs.RewrittenTerms.{in_range}
 use Rattle.cj_macro.proofs.Written.{rewritten_is_written}

@@ -1,6 +1,5 @@
 use Rattle.std.proofs.Common.{◌≡◌, List, ℕ, Bool, true, false, cond, None, Some, refl, sym, ◌∙◌, subst}
-use Rattle.cj_model.specs.Sql.Names.{is_name}
-use Rattle.cj_script.specs.Reading.{Finds, NamesDump}
+use Rattle.cj_script.proofs.Common.{Finds, is_name, NamesDump}
 use Rattle.cj_script.proofs.Requests.{no_dump, no_dump_name, one_dump}
 use Rattle.cj_script.proofs.arguments.dump_named.Goals as goal
 

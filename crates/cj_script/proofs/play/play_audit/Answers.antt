@@ -1,10 +1,8 @@
 use Rattle.std.proofs.Common.{ℕ, List, Result, inl, inr, refl, sym, ap, subst}
+use Rattle.cj_script.proofs.Common.{audit_line, DoesLine, PlaysOrEnds, ScriptEnd}
 use Rattle.cj_cluster.specs.declared.moves.Reason.TheVariants.{EntryOpen}
 use Rattle.cj_cluster.specs.History.Histories.{is_idle}
 use Rattle.cj_cluster.specs.Script.Lines.{not_now_text, with_line_feed}
-use Rattle.cj_script.specs.declared.play.ScriptEnd.{ScriptEnd}
-use Rattle.cj_script.specs.Script.{DoesLine, audit_line}
-use Rattle.cj_script.specs.Steps.{PlaysOrEnds}
 use Rattle.cj_script.proofs.Auditing.{done_or_ends, not_idle}
 use Rattle.cj_script.proofs.play.play_audit.Goals as goal
 

@@ -1,10 +1,5 @@
 use Rattle.std.proofs.Common.{◌≡◌, ℕ, List, Result, inl, sym, ap, subst, ◌∙◌}
-use Rattle.cj_cluster.specs.Script.Lines.{MoveLine, moved_lines}
-use Rattle.cj_state.specs.Worlds.{Setup}
-use Rattle.cj_script.specs.declared.play.ScriptEnd.{ScriptEnd}
-use Rattle.cj_script.specs.Reading.{Finds}
-use Rattle.cj_script.specs.Script.{DoesLine}
-use Rattle.cj_script.specs.Steps.{PlaysOrEnds}
+use Rattle.cj_script.proofs.Common.{DoesLine, Finds, moved_lines, MoveLine, PlaysOrEnds, ScriptEnd, Setup}
 use Rattle.cj_script.proofs.Auditing.{done_or_ends}
 use Rattle.cj_script.proofs.play.play_line.Goals as goal
 

@@ -1,7 +1,6 @@
 use Rattle.std.proofs.Common.{◌≡◌, ◌++◌, length, List}
-use Rattle.std.specs.List.{flat_map}
+use Rattle.cj_script.proofs.Common.{flat_map, row_text, with_line_feed}
 use Rattle.cj_model.specs.declared.value.Value.{Value}
-use Rattle.cj_cluster.specs.Script.Lines.{with_line_feed, row_text}
 use Rattle.cj_script.proofs.print.append_rows.Given as goal
 
 -- what is there and what is to come are the rows' lines

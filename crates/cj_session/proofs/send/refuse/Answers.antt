@@ -1,8 +1,5 @@
 use Rattle.std.proofs.Common.{refl, subst}
-use Rattle.std.specs.Io.KnownBytes.{Appends}
-use Rattle.cj_model.specs.declared.answer.Refusal.{Refusal}
-use Rattle.cj_model.specs.declared.answer.Reply.TheVariants.{Refused}
-use Rattle.cj_model.specs.Wire.Replies.{reply_bytes}
+use Rattle.cj_session.proofs.Common.{Appends, Refusal, Refused, reply_bytes}
 use Rattle.cj_session.proofs.send.refuse.Goals as goal
 
 pub returns-in-Ok-clause-bytes : goal.returns-in-Ok-clause-bytes

@@ -1,7 +1,5 @@
 use Rattle.std.proofs.Common.{[], List, ℕ, Err, ◌∙◌, subst, arith, rules}
-use Rattle.cj_outside.proofs.Joined.{appends_none}
-use Rattle.cj_outside.specs.Streams.{WritesAll}
-use Rattle.cj_outside.specs.declared.sink.OutError.TheVariants.{NoMemory}
+use Rattle.cj_top.proofs.Common.{appends_none, NoMemory, WritesAll}
 use Rattle.cj_top.proofs.configured.write_refusal.Goals as goal
 
 pub returns-in-Ok : goal.returns-in-Ok

@@ -1,7 +1,6 @@
 use Rattle.std.proofs.Common.{◌≡◌, true, [], List, ℕ, ap, subst, ◌∙◌}
+use Rattle.cj_top.proofs.Common.{BeginsAsConfigured, Found}
 use Rattle.cj_outside.specs.Memory.{State}
-use Rattle.cj_top.specs.Configured.{BeginsAsConfigured}
-use Rattle.cj_top.specs.Logs.{Found}
 use Rattle.cj_top.proofs.generated.play_over.Goals as goal
 
 pub returns-in-Ok-play : goal.returns-in-Ok-play

@@ -1,6 +1,5 @@
 use Rattle.std.proofs.Common.{List, ℕ, arith, subst, ◌∙◌}
-use Rattle.cj_outside.proofs.Joined.{appends_none}
-use Rattle.cj_outside.specs.Streams.{WritesAll}
+use Rattle.cj_top.proofs.Common.{appends_none, WritesAll}
 use Rattle.cj_top.proofs.generated.write_summary.Goals as goal
 
 pub returns-in-Err-clause-bytes : goal.returns-in-Err-clause-bytes

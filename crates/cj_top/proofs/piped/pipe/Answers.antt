@@ -1,14 +1,6 @@
 use Rattle.std.proofs.Common.{◌≡◌, Result, Ok, Err, map, refl, sym, ◌∙◌, subst}
-use Rattle.std.specs.Prelude.{IfErr, IfOk}
 use Rattle.std.specs.Result.{IsOkAnd}
-use Rattle.cj_auth.specs.Admission.{Register}
-use Rattle.cj_cluster.specs.declared.session.SessionEnd.{SessionEnd}
-use Rattle.cj_place.specs.Layouts.{Layout, placement_of}
-use Rattle.cj_state.specs.Worlds.{WorldState}
-use Rattle.cj_core.specs.Starts.{StartsFrom, state_by}
-use Rattle.cj_top.specs.Logs.{Found}
-use Rattle.cj_top.specs.Piped.{RefusesPipe}
-use Rattle.cj_top.specs.declared.piped.PipeError.{PipeError}
+use Rattle.cj_top.proofs.Common.{Found, IfErr, IfOk, Layout, PipeError, placement_of, RefusesPipe, Register, SessionEnd, StartsFrom, state_by, WorldState}
 use Rattle.cj_top.proofs.Completed.{not_failed, pipe_answers}
 use Rattle.cj_top.proofs.Unopened.{refuses_log}
 use Rattle.cj_top.proofs.piped.pipe.Goals as goal

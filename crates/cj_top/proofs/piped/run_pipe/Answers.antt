@@ -1,19 +1,10 @@
-use Rattle.std.specs.Prelude.{IfErr}
 use Rattle.std.specs.Result.{IsErrAnd}
-use Rattle.cj_top.specs.declared.piped.PipeError.{PipeError}
 use Rattle.std.proofs.Common.{Ok, Err, Result, ◌≡◌, Bool, true, false, [], List, ℕ, Option, Some, get_or, length, map, replicate, sum, refl, sym, ap, ◌∙◌, subst, arith}
 use Rattle.std.proofs.lemmas.Bool.{both_ways}
-use Rattle.cj_model.specs.declared.database.Slot.{Slot}
-use Rattle.cj_mem.specs.MemoryBackends.{MemoryState, fresh_state, never_armed}
-use Rattle.cj_place.specs.Layouts.{placement_of}
-use Rattle.cj_core.specs.Starts.{BackendState, StartsFrom}
-use Rattle.cj_state.specs.Faults.{faults_of}
-use Rattle.cj_conf.specs.declared.backend.BackendKind.{BackendKind}
 use Rattle.cj_cluster.specs.declared.session.SessionEnd.TheVariants as ends
 use Rattle.std.specs.List.{list_all}
+use Rattle.cj_top.proofs.Common.{BackendKind, BackendState, faults_of, Found, fresh_state, IfErr, MemoryState, never_armed, PipeError, placement_of, RefusesPipe, RunsPipe, Slot, StartsFrom}
 use Rattle.cj_top.specs.Configured.{in_memory, is_memory, new_backend, new_of}
-use Rattle.cj_top.specs.Logs.{Found}
-use Rattle.cj_top.specs.Piped.{RefusesPipe, RunsPipe}
 use Rattle.cj_top.proofs.Completed.{cause_as_ok, same_cause, same_counts}
 use Rattle.cj_top.proofs.NewBackends.{all_alike, any_are_new, seen_alike, new_can_count, none_at, sum_of_none}
 use Rattle.cj_top.proofs.piped.run_pipe.Goals as goal

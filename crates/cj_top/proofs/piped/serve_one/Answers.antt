@@ -1,17 +1,13 @@
 use Rattle.std.proofs.Common.{◌≡◌, ◌+◌, ◌%◌, ◌^◌, ◌≤◌, ℕ, None, get_or, sum, ap, sym, ◌∙◌, subst, arith}
+use Rattle.cj_top.proofs.Common.{client_state, faults_of, generator_of, opened_at, ServesSession, solo_setting, WorldState}
 use Rattle.rand_pcg.specs.Lcg.{Lcg}
 use Rattle.cj_outside.specs.Draws.{seeded, of_generator, generator_after}
-use Rattle.cj_state.specs.Faults.{faults_of}
 use Rattle.cj_cluster.specs.History.Histories.{log}
 use Rattle.cj_cluster.proofs.OwnTransactions.{tx_of_unknown}
 use Rattle.cj_core.specs.Solos.{SoloState, desk_of}
 use Rattle.cj_desk.specs.DeskStates.{desk_tx}
-use Rattle.cj_state.specs.Worlds.{WorldState}
 use Rattle.cj_core.proofs.QuietSessions.{quiet_session, session_grows}
-use Rattle.cj_desk.specs.SessionTranscripts.{client_state}
 use Rattle.cj_desk.proofs.DeskChainLaws.{transcript_chained}
-use Rattle.cj_session.specs.Serving.{ServesSession}
-use Rattle.cj_top.specs.Piped.{generator_of, opened_at, solo_setting}
 use Rattle.cj_top.proofs.piped.serve_one.Goals as goal
 
 pub serve_session-end-requires-clause-closed : goal.serve_session-end-requires-clause-closed

@@ -1,6 +1,5 @@
 use Rattle.std.proofs.Common.{◌∷◌, [], Err, refl, arith}
-use Rattle.cj_outside.proofs.Joined.{appends_none}
-use Rattle.cj_outside.specs.declared.sink.OutError.TheVariants.{NoMemory}
+use Rattle.cj_top.proofs.Common.{appends_none, NoMemory}
 use Rattle.cj_top.proofs.program.write_text.Goals as goal
 
 pub returns-in-Err-clause-writes : goal.returns-in-Err-clause-writes

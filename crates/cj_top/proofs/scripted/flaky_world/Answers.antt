@@ -1,12 +1,5 @@
 use Rattle.std.proofs.Common.{◌≡◌, List, length, map, replicate, sym, ap, ◌∙◌, subst}
-use Rattle.cj_auth.specs.Admission.{Register}
-use Rattle.cj_flaky.specs.FlakyBackends.{FlakyState, told_by}
-use Rattle.cj_place.specs.Layouts.{Layout, placement_of}
-use Rattle.cj_core.specs.Starts.{BackendState, HaveBegunNone, StartsFrom}
-use Rattle.cj_state.specs.Beginnings.{AreEmpty}
-use Rattle.cj_state.specs.Worlds.{WorldState}
-use Rattle.cj_top.specs.Configured.{new_backend}
-use Rattle.cj_top.specs.Logs.{Found}
+use Rattle.cj_top.proofs.Common.{AreEmpty, BackendState, FlakyState, Found, HaveBegunNone, Layout, new_backend, placement_of, Register, StartsFrom, told_by, WorldState}
 use Rattle.cj_top.proofs.NewBackends.{flaky_count, flaky_empty, flaky_none, flaky_seen}
 use Rattle.cj_top.proofs.Unopened.{refuses_log}
 use Rattle.cj_top.proofs.scripted.flaky_world.Goals as goal

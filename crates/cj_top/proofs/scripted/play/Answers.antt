@@ -1,6 +1,5 @@
 use Rattle.std.proofs.Common.{length, true, false, ap, ◌∙◌, map}
-use Rattle.cj_top.specs.Configured.{new_of}
-use Rattle.cj_top.specs.Logs.{Found}
+use Rattle.cj_top.proofs.Common.{Found, new_of}
 use Rattle.cj_top.proofs.Completed.{plays_of}
 use Rattle.cj_top.proofs.NewBackends.{any_are_new, memory_are_new}
 use Rattle.cj_top.proofs.scripted.play.Goals as goal

@@ -1,7 +1,6 @@
 use Rattle.std.proofs.Common.{◌<◌, length, w64, of_z, to_z, arith}
 use Rattle.std.proofs.lemmas.Grind.{common_steps}
-use Rattle.std.specs.List.{flat_map}
-use Rattle.cj_model.specs.Sql.Macros.{generator_after_draws}
+use Rattle.cj_macro.proofs.Common.{flat_map, generator_after_draws}
 use Rattle.cj_macro.proofs.Drawing.{state_step, rest_rewritten, rest_step}
 use Rattle.cj_macro.proofs.part.ListOfPart.rewrite.Goals as goal
 

@@ -1,7 +1,5 @@
 use Rattle.std.proofs.Common.{◌≡◌, true, ◌++◌, take, drop}
-use Rattle.std.specs.List.{flat_map}
-use Rattle.cj_model.specs.Sql.Macros.{generator_after_draws}
-use Rattle.cj_macro.specs.Drawable.{are_drawable}
+use Rattle.cj_macro.proofs.Common.{are_drawable, flat_map, generator_after_draws}
 use Rattle.cj_macro.proofs.Drawing.{rest_rewritten}
 use Rattle.cj_macro.proofs.part.ListOfPart.rewrite.Given as goal
 

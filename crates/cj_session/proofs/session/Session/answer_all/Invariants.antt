@@ -1,6 +1,5 @@
 use Rattle.std.proofs.Common.{◌≡◌, ◌+◌, ◌-◌, ◌*◌, length}
-use Rattle.cj_outside.specs.Streams.{most}
-use Rattle.cj_desk.specs.SessionTranscripts.{client_state, setting}
+use Rattle.cj_session.proofs.Common.{client_state, most, setting}
 use Rattle.cj_session.specs.Proving.Points.{point, ServesUpTo}
 use Rattle.cj_session.specs.Proving.Works.{IsClientAt}
 use Rattle.cj_session.proofs.session.Session.answer_all.Given as goal

@@ -1,7 +1,5 @@
 use Rattle.std.proofs.Common.{refl, sym, subst, inl, arith, [], ◌∙◌}
-use Rattle.cj_outside.proofs.Joined.{consumes_none}
-use Rattle.cj_model.specs.declared.message.FrameFault.{FrameFault}
-use Rattle.cj_session.specs.Proving.Points.{RefusesFrame}
+use Rattle.cj_session.proofs.Common.{consumes_none, FrameFault, RefusesFrame}
 use Rattle.cj_session.proofs.Steps.{answered, ended, ended_quit, ended_faulty, ended_failed, ended_starved, filled}
 use Rattle.cj_session.proofs.session.Session.step.Goals as goal
 

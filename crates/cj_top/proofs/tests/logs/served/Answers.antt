@@ -1,6 +1,5 @@
 use Rattle.std.proofs.Common.{◌≡◌, [], List, ℕ, Option, Some, refl}
-use Rattle.cj_model.specs.declared.database.Slot.{Slot}
-use Rattle.cj_mem.specs.MemoryBackends.{MemoryState, fresh_state}
+use Rattle.cj_top.proofs.Common.{fresh_state, MemoryState, Slot}
 use Rattle.cj_top.proofs.NewBackends.{all_alike}
 use Rattle.cj_top.proofs.tests.logs.served.Goals as goal
 
