@@ -1,13 +1,9 @@
 -- The account of a user `ann`, whose password is `secret`, with logins at two backends.
 use Rattle.std.proofs.Common.{◌≡◌, ◌||◌, ℕ, true, false, List, [], ◌∷◌, refl, ap, ◌∙◌, Some, None, codes}
+use Rattle.cj_auth.proofs.Common.{Account, BadDigest, LoginCount, Twice, admits, login_of, refusal_of_accounts}
 use Rattle.sha2.specs.Sha256.{compress, digest_bytes, first_words, hash_after, rounds, schedule, sha256}
 use Rattle.hex.proofs.OnLiterals.{hex_on_literals}
-use Rattle.cj_model.specs.declared.account.Account.{Account}
-use Rattle.cj_model.specs.Cluster.Accounts.{login_of}
-use Rattle.cj_auth.specs.declared.error.AuthError.TheVariants.{Twice, BadDigest, LoginCount}
-use Rattle.cj_auth.specs.Admission.{admits}
 use Rattle.cj_auth.specs.Digests.{spells}
-use Rattle.cj_auth.specs.Refusals.{refusal_of_accounts}
 
 abbrev ann : Account
 ann = record {

@@ -1,26 +1,17 @@
 -- What accounts that are accepted keep, and what is found among them.
 use Rattle.std.proofs.Common.{◌≡◌, ℕ, ◌&&◌, ◌||◌, not, Bool, true, false, cond, List, [], ◌∷◌, ◌++◌, length, refl, sym, ap, ◌∙◌, subst, ⊎_elim}
-use Rattle.std.specs.Prelude.{All, find, slice_index_or}
 use Rattle.std.specs.declared.option.Option.{Option}
 use Rattle.std.specs.declared.option.Option.TheVariants.{None, Some}
 use Rattle.std.specs.Option.{option_map, option_map_or, option_or}
-use Rattle.std.specs.List.{list_any}
-use Rattle.std.specs.Str.{bytes_eq}
 use Rattle.std.specs.Bool.{OnTrue}
 use Rattle.std.proofs.lemmas.Bool.{and_parts, cases_Bool, eqb-true}
 use Rattle.std.proofs.lemmas.Slice.Eq.{bytes_eq-Decides}
 use Rattle.std.proofs.lemmas.List.Elements.{All-cons, All-head, All-nil, All-tail}
 use Rattle.std.proofs.lemmas.List.{append_assoc, map-append}
-use Rattle.sha2.specs.Sha256.{sha256}
-use Rattle.cj_model.specs.declared.account.Account.{Account}
+use Rattle.cj_auth.proofs.Common.{Account, All, BadDigest, Credential, HasKey, LoginCount, Twice, accounts_of, admits, bytes_eq, find, list_any, refusal_of_accounts, sha256, slice_index_or}
 use Rattle.cj_model.specs.Cluster.Accounts.{has_logins, is_account_of, login_of, repeated_user, user_where}
-use Rattle.cj_auth.specs.declared.credentials.Credential.{Credential}
 use Rattle.cj_auth.specs.declared.error.AuthError.{AuthError}
-use Rattle.cj_auth.specs.declared.error.AuthError.TheVariants.{Twice, BadDigest, LoginCount}
-use Rattle.cj_auth.specs.Admission.{admits}
 use Rattle.cj_auth.specs.Digests.{is_digest, reads_as, spells}
-use Rattle.cj_auth.specs.Kept.{HasKey, accounts_of}
-use Rattle.cj_auth.specs.Refusals.{refusal_of_accounts}
 
 on_bool : {G : Type 0} (b : Bool) → (b ≡ true → G) → (b ≡ false → G) → G
 on_bool b f g = ⊎_elim (λ (t : b ≡ true). f t) (λ (t : b ≡ false). g t) (cases_Bool b)

@@ -3,14 +3,13 @@ use Rattle.std.proofs.Common.{◌≡◌, ℕ, ◌<◌, ◌+◌, ◌==◌, ◌&&�
 use Rattle.std.specs.Result.{is_ok}
 use Rattle.std.specs.List.{list_all}
 use Rattle.std.specs.Int.Bits.{xor_add_and, xor_self, or_zero_l}
-use Rattle.std.specs.Str.{bytes_eq}
 use Rattle.std.proofs.lemmas.Bool.{and_from, and_parts, eq-eqb, eqb-true}
 use Rattle.std.proofs.lemmas.List.{drop_more}
 use Rattle.std.proofs.lemmas.List.Sums.{AllPass-from_list_all, list_all-from_AllPass}
 use Rattle.std.proofs.lemmas.Nat.{and_le_l, and_le_r, le_or_l, le_or_r}
+use Rattle.cj_auth.proofs.Common.{bytes_eq, is_digest}
 use Rattle.hex.specs.Hex.{decode_sized, is_hex_digit}
 use Rattle.hex.proofs.HexLemmas.{IsOk-decode_sized}
-use Rattle.cj_auth.specs.Digests.{is_digest}
 
 pub same_bool : (r s : Bool) → (r ≡ true → s ≡ true) → (s ≡ true → r ≡ true) → r ≡ s
 same_bool true s f g = sym (f refl)

@@ -8,16 +8,9 @@ use lib.ListN.{get_elem?, length-replicate}
 use lib.Seq.{set-get_or}
 use prog.Atomic.{either}
 use Rattle.std.proofs.lemmas.List.Elements.{All-append, All-nil, All-contains}
+use Rattle.cj_board.proofs.Common.{Book, Cell, Event, IsLegal, Pass, Role, SeatView, event_count_of, log, set_else}
 use Rattle.atomic_table.specs.Table.{State, Me, step, keeps, stepped, Allows, Splits, Joins, opening}
-use Rattle.atomic_table.proofs.Lists.{set_else}
-use Rattle.cj_cluster.specs.declared.event.Event.{Event}
-use Rattle.cj_cluster.specs.History.Histories.{log}
-use Rattle.cj_cluster.specs.History.Legality.{IsLegal}
 use Rattle.cj_cluster.proofs.Pushed.{legal_prefix, prefix_self}
-use Rattle.cj_board.specs.declared.view.SeatView.{SeatView}
-use Rattle.cj_board.specs.declared.view.Role.{Role}
-use Rattle.cj_board.specs.declared.view.Role.TheVariants.{Book, Cell, Pass}
-use Rattle.cj_board.specs.Counting.{event_count_of}
 use Rattle.cj_board.specs.Points.{AtEachSeat, position_word, fault_word, max_word, fault_tokens_of, HasSeat, BeginsHistory, IsInLog, KnowsPosition, IsPositionNote, IsFaultNote, KnowsFaults, IsCountNote, CountsSessions, OwnPassesCount, IsKept, IsKeptBoard}
 use Rattle.cj_board.specs.Steps.{HasPositionNotes, HasFaultTokens, HasCountNotes, after_append, at_position, with_faults, after_looking, after_count, after_split, one_fault_more, longer_of, after_join, after_learning, after_making_cell, after_opening, after_closing}
 use Rattle.cj_board.specs.Views.{IsBook, IsCellOf, IsPass, IsNotBook, role_position, cells_made, book_with_cells, empty_pass, position_note_of, fault_note_of, count_note_of, pass_of, pass_without_tokens, pass_without_notes, own_pass_of, next_cell_of}

@@ -1,14 +1,11 @@
 -- Where no entry is open, each enabled backend stands at the end of the log, at each step.
 use Rattle.std.proofs.Common.{◌≡◌, ◌≢◌, ℕ, ◌+◌, ◌*◌, Bool, true, false, not, ◌&&◌, ◌||◌, ◌==◌, List, [], ◌∷◌, ◌++◌, length, set, None, refl, sym, ap, ◌∙◌, subst, All, Contains, ne_eqb}
+use Rattle.cj_board.proofs.Common.{Disabled, Enabled, Ended, Event, HasPositionNotes, IsLegal, LogFailed, Marker, ReadFailed, Sched}
 use mathlib.Core.Logic.{dite}
 use native.Mathlib.Decide.{ℕ_discrete}
-use Rattle.cj_cluster.specs.declared.event.Event.{Event}
-use Rattle.cj_cluster.specs.declared.event.Event.TheVariants.{Sched, Ended, ReadFailed, LogFailed, Disabled, Enabled, Marker}
 use Rattle.cj_cluster.specs.History.Histories.{scheduled_entry, log, is_end_event, is_enabled, enabled_after_event}
-use Rattle.cj_cluster.specs.History.Legality.{IsLegal}
 use Rattle.cj_cluster.proofs.Pushed.{enabled-push, log-same, free-sched, free-same}
 use Rattle.cj_board.specs.Points.{position_word, IsPositionNote, EnabledAreAtEnd}
-use Rattle.cj_board.specs.Steps.{HasPositionNotes}
 use Rattle.cj_board.proofs.Histories.{last_allowed}
 use Rattle.cj_board.proofs.Words.{position_first, position_else, position_aside}
 

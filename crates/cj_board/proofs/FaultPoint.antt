@@ -4,14 +4,10 @@ use mathlib.Core.Logic.{dite}
 use mathlib.Core.Option.{some, some-injective, some-ne-none}
 use native.Mathlib.Decide.{ℕ_discrete}
 use lib.ListN.{get_elem?}
-use Rattle.atomic_table.proofs.Lists.{set_else}
 use Rattle.std.proofs.lemmas.List.Sums.{sum_by-cons, sum_by-append}
-use Rattle.cj_cluster.specs.declared.event.Event.{Event}
+use Rattle.cj_board.proofs.Common.{Book, Cell, Event, Pass, Role, SeatView, set_else}
 use Rattle.cj_cluster.specs.History.Histories.{notes_failure, failures_noted}
 use Rattle.cj_cluster.proofs.Pushed.{blame-push}
-use Rattle.cj_board.specs.declared.view.SeatView.{SeatView}
-use Rattle.cj_board.specs.declared.view.Role.{Role}
-use Rattle.cj_board.specs.declared.view.Role.TheVariants.{Book, Cell, Pass}
 use Rattle.cj_board.specs.Points.{max_word, fault_word, fault_tokens_of, all_fault_tokens_of, KnowsFaults, IsFaultNote, FailuresHaveFaults, HasSeat, SeatsAreKnown}
 use Rattle.cj_board.specs.Steps.{spend, HasFaultTokens}
 use Rattle.cj_board.proofs.EachSeat.{each_set, each_more}

@@ -1,10 +1,8 @@
 -- Each front begins the history, at each step.
 use Rattle.std.proofs.Common.{◌≡◌, ◌≢◌, ℕ, ◌+◌, ◌<◌, List, [], ◌∷◌, ◌++◌, length, set, sym, ◌∙◌, subst, length-append, get_or-set_same, get_or-set_other}
+use Rattle.cj_board.proofs.Common.{Event, IsLegal, SeatView}
 use mathlib.Core.List.{IsPrefix}
-use Rattle.cj_cluster.specs.declared.event.Event.{Event}
-use Rattle.cj_cluster.specs.History.Legality.{IsLegal}
 use Rattle.cj_cluster.proofs.Pushed.{prefix_self, prefix_push}
-use Rattle.cj_board.specs.declared.view.SeatView.{SeatView}
 use Rattle.cj_board.specs.Points.{BeginsHistory, FrontsBeginHistory}
 use Rattle.cj_board.specs.Steps.{after_append}
 use Rattle.cj_board.proofs.EachSeat.{each_set, each_more}

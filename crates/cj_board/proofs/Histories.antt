@@ -3,9 +3,7 @@ use Rattle.std.proofs.Common.{◌≡◌, ◌≤◌, leb, cond, Bool, true, false
 use mathlib.Core.List.{IsPrefix}
 use Rattle.std.proofs.lemmas.List.{get_or_push}
 use Rattle.std.proofs.Math.Seq.{take-append_seam}
-use Rattle.cj_cluster.specs.declared.event.Event.{Event}
-use Rattle.cj_cluster.specs.declared.event.Event.TheVariants.{Sched, Ended, ReadFailed, LogFailed, Disabled, Enabled, Marker}
-use Rattle.cj_cluster.specs.History.Histories.{log}
+use Rattle.cj_board.proofs.Common.{Disabled, Enabled, Ended, Event, LogFailed, Marker, ReadFailed, Sched, log}
 use Rattle.cj_cluster.specs.History.Legality.{IsAllowedEvent, IsLegal}
 use Rattle.cj_cluster.proofs.Pushed.{log-prefix, prefix_length, prefix_self}
 use Rattle.cj_board.specs.Steps.{longer_of}

@@ -1,9 +1,6 @@
 -- Who has which seat stays known at each step.
 use Rattle.std.proofs.Common.{◌≡◌, ◌≢◌, ℕ, suc, ◌+◌, ◌*◌, ◌<◌, List, [], ◌∷◌, ◌++◌, length, set, refl, sym, ap, ◌∙◌, subst, arith, length-set, eqb, cond, eq-eqb, ne_eqb}
-use Rattle.cj_cluster.specs.declared.event.Event.{Event}
-use Rattle.cj_board.specs.declared.view.SeatView.{SeatView}
-use Rattle.cj_board.specs.declared.view.Role.{Role}
-use Rattle.cj_board.specs.declared.view.Role.TheVariants.{Book, Cell, Pass}
+use Rattle.cj_board.proofs.Common.{Book, Cell, Event, Pass, Role, SeatView}
 use Rattle.cj_board.specs.Points.{HasSeat, SeatsAreKnown}
 use Rattle.cj_board.specs.Views.{IsNotBook}
 use Rattle.cj_board.proofs.EachSeat.{each_set, each_more}

@@ -1,8 +1,7 @@
 -- A new cell comes last.
 use Rattle.std.proofs.Common.{◌≡◌, ℕ, suc, ◌+◌, List, [], ◌∷◌, ◌++◌, length, ap, ◌∙◌, arith}
+use Rattle.cj_board.proofs.Common.{Cell, CellSeat}
 use Rattle.atomic_table.specs.Seated.{TableId}
-use Rattle.cj_board.specs.declared.seats.CellSeat.{CellSeat}
-use Rattle.cj_board.specs.declared.view.Role.TheVariants.{Cell}
 use Rattle.cj_board.specs.Seats.{cell_board, cell_view, AreNewCells}
 use Rattle.cj_board.specs.Views.{new_view}
 

@@ -1,10 +1,8 @@
 -- Notes of positions still hold, at each step.
 use Rattle.std.proofs.Common.{◌≢◌, ℕ, ◌+◌, ◌*◌, List, [], ◌∷◌, ◌++◌, length, get_or, set, sym, ap, ◌∙◌, arith, All}
+use Rattle.cj_board.proofs.Common.{Event, SeatView, log}
 use mathlib.Core.Logic.{dite}
 use native.Mathlib.Decide.{ℕ_discrete}
-use Rattle.cj_cluster.specs.declared.event.Event.{Event}
-use Rattle.cj_cluster.specs.History.Histories.{log}
-use Rattle.cj_board.specs.declared.view.SeatView.{SeatView}
 use Rattle.cj_board.specs.Points.{position_word, IsPositionNote, PositionNotesHold}
 use Rattle.cj_board.proofs.EachSeat.{each_set, each_more}
 use Rattle.cj_board.proofs.Histories.{log_grows}

@@ -1,11 +1,8 @@
 -- Positions are in the log, and cells know them, at each step.
 use Rattle.std.proofs.Common.{◌≡◌, ◌≢◌, ℕ, suc, ◌+◌, ◌*◌, ◌<◌, List, [], ◌∷◌, ◌++◌, set, sym, ap, ◌∙◌, subst, arith}
+use Rattle.cj_board.proofs.Common.{Book, Cell, Event, Pass, Role, SeatView}
 use mathlib.Core.Logic.{dite}
 use native.Mathlib.Decide.{ℕ_discrete}
-use Rattle.cj_cluster.specs.declared.event.Event.{Event}
-use Rattle.cj_board.specs.declared.view.SeatView.{SeatView}
-use Rattle.cj_board.specs.declared.view.Role.{Role}
-use Rattle.cj_board.specs.declared.view.Role.TheVariants.{Book, Cell, Pass}
 use Rattle.cj_board.specs.Points.{position_word, IsInLog, KnowsPosition, PositionsAreInLog, HasSeat, SeatsAreKnown}
 use Rattle.cj_board.proofs.EachSeat.{each_set, each_more}
 use Rattle.cj_board.proofs.Words.{position_first, position_same, position_else, position_aside}

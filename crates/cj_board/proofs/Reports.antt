@@ -1,9 +1,6 @@
 -- What a pass that is cut from a cell's seat notes.
 use Rattle.std.proofs.Common.{◌≡◌, ℕ, ◌<◌, Bool, true, false, leb, cond, List, [], ◌∷◌, ◌++◌, refl, sym, ap, ◌∙◌, subst, arith, leb-true, Contains}
-use Rattle.std.proofs.lemmas.List.Elements.{Contains-append_right}
-use Rattle.cj_board.specs.declared.view.Role.{Role}
-use Rattle.cj_board.specs.declared.view.Role.TheVariants.{Cell}
-use Rattle.cj_board.specs.Points.{max_word}
+use Rattle.cj_board.proofs.Common.{Cell, Contains-append_right, Role, max_word}
 use Rattle.cj_board.specs.Views.{IsCellOf, role_position, position_note_of, fault_note_of}
 
 note_in : (b p : ℕ) → p < max_word → position_note_of (Cell b p) ≡ (b, p) ∷ []

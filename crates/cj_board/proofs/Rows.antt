@@ -2,10 +2,9 @@
 use Rattle.std.proofs.Common.{◌≡◌, ◌+◌, ◌<◌, ◌≤◌, ℕ, true, false, List, [], ◌∷◌, ◌++◌, length, inl, refl, codes, sym, ap, ◌∙◌, subst, arith, length-append, ⊎_elim}
 use Rattle.std.specs.Prelude.{Contains}
 use Rattle.std.proofs.lemmas.Bool.{both_ways, cases_eq, ne_eqb}
+use Rattle.cj_board.proofs.Common.{Enabled, Ended, Entry, Event, IsFitEntry, IsLegal, Sched, USER_LIMIT, fault_tokens_of}
 use mathlib.Core.List.{IsPrefix}
-use Rattle.cj_model.specs.declared.limits.TheConstants.{USER_LIMIT}
 use Rattle.cj_model.specs.declared.request.Act.TheVariants as act
-use Rattle.cj_model.specs.declared.request.Entry.{Entry}
 use Rattle.cj_model.specs.declared.request.Request.TheVariants as request
 use Rattle.cj_model.specs.declared.token.Keyword.TheVariants as word
 use Rattle.cj_model.specs.declared.token.Token.TheVariants as token
@@ -14,12 +13,8 @@ use Rattle.cj_model.specs.Sql.Lexical.{keyword, Spells}
 use Rattle.cj_model.specs.Sql.WrittenRequests.{IsWritten}
 use Rattle.cj_model.specs.Cluster.Masks.{in_mask}
 use Rattle.cj_model.proofs.Masks.{has-zero, has-with_other}
-use Rattle.cj_cluster.specs.declared.event.Event.{Event}
-use Rattle.cj_cluster.specs.declared.event.Event.TheVariants.{Sched, Ended, Enabled}
 use Rattle.cj_cluster.specs.History.Histories.{log, is_enabled}
-use Rattle.cj_cluster.specs.History.Legality.{IsFitEntry, IsLegal}
 use Rattle.cj_cluster.proofs.Pushed.{legal_push, log-prefix}
-use Rattle.cj_board.specs.Points.{fault_tokens_of}
 use Rattle.cj_board.specs.Steps.{HasFaultTokens, HasPositionNotes}
 
 -- BEGIN is a request that some text reads as

@@ -5,11 +5,7 @@ use mathlib.Core.Option.{some}
 use native.Mathlib.Decide.{ℕ_discrete, dec_le}
 use lib.ListN.{get_elem?}
 use Rattle.std.proofs.lemmas.List.Elements.{All-nil, All-append, All-cons, All-contains, All-filter, All-contains_itself}
-use Rattle.cj_cluster.specs.declared.event.Event.{Event}
-use Rattle.cj_board.specs.declared.view.SeatView.{SeatView}
-use Rattle.cj_board.specs.declared.view.Role.{Role}
-use Rattle.cj_board.specs.declared.view.Role.TheVariants.{Book, Cell, Pass}
-use Rattle.cj_board.specs.Counting.{event_count_of}
+use Rattle.cj_board.proofs.Common.{Book, Cell, Event, Pass, Role, SeatView, event_count_of}
 use Rattle.cj_board.specs.Points.{KnowsGiven, IsCountNote, CountsSessions, OwnPassesCount, HasSeat, SeatsAreKnown}
 use Rattle.cj_board.specs.Steps.{HasCountNotes}
 use Rattle.cj_board.specs.Views.{count_note_of, IsBook, IsNotBook, cells_made, next_session}

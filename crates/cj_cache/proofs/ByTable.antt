@@ -5,12 +5,9 @@ use Rattle.std.specs.Map.{remove_entry}
 use Rattle.std.proofs.lemmas.Bool.{both_ways, cases_Bool}
 use Rattle.std.proofs.lemmas.List.Elements.{All-cons, All-head, All-nil, All-tail, All-weaker}
 use Rattle.std.proofs.lemmas.Map.Views.{All-map-remove_entry}
-use Rattle.cj_model.specs.declared.cached.Cached.{Cached}
-use Rattle.cj_model.specs.declared.select.Select.{Select}
+use Rattle.cj_cache.proofs.Common.{Cached, Held, Select, same_statement}
 use Rattle.cj_model.specs.Cluster.Caching.{brought_to_front, cached_entry, is_entry_for, without}
-use Rattle.cj_model.specs.Proving.SameStatements.{same_statement}
 use Rattle.cj_model.proofs.CachingLaws.{all_looked, all_put}
-use Rattle.cj_cache.specs.declared.held.Held.{Held}
 use Rattle.cj_cache.specs.Kept.{cached}
 use Rattle.cj_cache.specs.Proving.ByTable.{AreListed, ByTable, IsListed, StillLists}
 

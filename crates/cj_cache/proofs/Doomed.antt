@@ -5,7 +5,6 @@ use Rattle.std.specs.Cmp.{both_ways as same_answer}
 use Rattle.std.specs.List.{IsDistinct, cons_option, list_any}
 use Rattle.std.specs.declared.option.Option.{Option}
 use Rattle.std.specs.declared.option.Option.TheVariants.{None, Some}
-use Rattle.std.specs.Str.{bytes_eq}
 use Rattle.std.proofs.Math.Bool.{and-true, or-false, or-true, or_assoc}
 use Rattle.std.proofs.lemmas.Bool.{and_parts, both_ways, cases_Bool, false_from_ne_true, or_parts}
 use Rattle.std.proofs.lemmas.List.Elements.{All-cons, All-contains, All-from_recursion, All-head, All-nil, All-tail}
@@ -13,16 +12,14 @@ use Rattle.std.proofs.lemmas.List.Folds.{Any-from_list_any, list_any-append, lis
 use Rattle.std.proofs.lemmas.Map.Keys.{IsDistinct-head, IsDistinct-tail}
 use Rattle.std.proofs.lemmas.Map.Views.{Contains-from_any, any-filter_same, list_any-from_Contains}
 use Rattle.std.proofs.lemmas.Slice.Eq.{bytes_eq-Decides}
+use Rattle.cj_cache.proofs.Common.{Cached, Select, bytes_eq, without_each}
 use Rattle.indexmap.specs.IndexSet.{insert_all, insert_key}
-use Rattle.cj_model.specs.declared.cached.Cached.{Cached}
-use Rattle.cj_model.specs.declared.select.Select.{Select}
 use Rattle.cj_model.specs.Cluster.Caching.{cached_entry, is_entry_for, needs_one_of, without}
 use Rattle.cj_model.specs.Proving.SameStatements.{same_statement, same_statement-Decides, statement_equiv}
 use Rattle.cj_model.proofs.CachingLaws.{all_looked, none_without}
 use Rattle.cj_model.proofs.FilterLaws.{filter_goes, filter_stays, found_passes}
 use Rattle.cj_model.proofs.RisingLaws.{found_All}
 use Rattle.cj_cache.specs.Doomed.{HaveSame}
-use Rattle.cj_cache.specs.Kept.{without_each}
 use Rattle.cj_cache.specs.Proving.ByTable.{AreListed, ByTable, IsListed, all_listed, is_due, listed, lists}
 use Rattle.cj_cache.proofs.Maps.{none_left}
 

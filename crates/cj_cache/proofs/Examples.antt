@@ -1,14 +1,11 @@
 -- A cache of two answers over three tables, worked out.
 use Rattle.std.proofs.Common.{◌≡◌, ℕ, Bool, true, false, List, [], ◌∷◌, refl, sym, ap, ◌∙◌}
 use Rattle.std.specs.declared.option.Option.TheVariants.{None, Some}
-use Rattle.std.specs.Str.{bytes_eq}
 use Rattle.std.proofs.lemmas.Bool.{both_ways, false_from_ne_true}
+use Rattle.cj_cache.proofs.Common.{Cached, Select, bytes_eq, same_statement, same_statement-Decides}
 use Rattle.cj_model.specs.declared.answer.Answer.{Answer}
-use Rattle.cj_model.specs.declared.cached.Cached.{Cached}
-use Rattle.cj_model.specs.declared.select.Select.{Select}
 use Rattle.cj_model.specs.declared.select.Items.TheVariants as items
 use Rattle.cj_model.specs.Cluster.Caching.{CacheState, doomed, without_tables, empty_cache, answer_kept, after_look, after_keep}
-use Rattle.cj_model.specs.Proving.SameStatements.{same_statement, same_statement-Decides}
 
 -- `SELECT *` of the table whose name is this letter
 abbrev all_of : ℕ → Select

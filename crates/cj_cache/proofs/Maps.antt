@@ -9,13 +9,10 @@ use Rattle.std.specs.declared.option.Option.TheVariants.{None, Some}
 use Rattle.std.proofs.lemmas.Bool.{cases_Bool}
 use Rattle.std.proofs.lemmas.List.{length-map, take-map, take_all}
 use Rattle.std.proofs.lemmas.Simd.{map-map}
+use Rattle.cj_cache.proofs.Common.{Cached, Held, Select, same_statement, same_statement-Decides}
 use Rattle.lru.specs.LruCache.{LruCache, promoted, put_entries}
-use Rattle.cj_model.specs.declared.cached.Cached.{Cached}
-use Rattle.cj_model.specs.declared.select.Select.{Select}
 use Rattle.cj_model.specs.Cluster.Caching.{brought_to_front, cached_entry, without}
-use Rattle.cj_model.specs.Proving.SameStatements.{same_statement, same_statement-Decides}
 use Rattle.cj_model.proofs.CachingLaws.{none_without}
-use Rattle.cj_cache.specs.declared.held.Held.{Held}
 use Rattle.cj_cache.specs.Kept.{cached, popped_each, without_each}
 
 abbrev Pairs : Type 0

@@ -3,34 +3,15 @@ use Rattle.std.proofs.Common.{◌≡◌, ◌≢◌, ◌⊎◌, inl, inr, ℕ, �
 use mathlib.Core.List.{IsPrefix}
 use Rattle.std.specs.Option.{MatchOption}
 use Rattle.std.proofs.lemmas.Bool.{cases_eq, eqb-true, eqb-false, eq-eqb, ne_eqb, both_ways, cond_both, and_parts}
-use Rattle.cj_model.specs.declared.request.Request.{Request}
-use Rattle.cj_model.specs.declared.request.Act.{Act}
+use Rattle.cj_cluster.proofs.Common.{Abort, Act, Apply, Arm, Asked, BackendStands, Close, Core, CoreInvariant, Disable, Dump, Enable, End, Entry, Event, IsFitEntry, IsLegal, Load, Mark, Move, NoMemory, NotNow, Open, OpenSession, Placement, Read, Refusal, Replay, Reply, Request, Schedule, Select, Why, act_of, asked_reply, ended_count, entry_in_progress, events_left, is_end_event, is_entry_of, is_idle, is_log_fault, log, log_faults_of, new_session, scheduled_entry, session_at, tx_of, with_session}
 use Rattle.cj_model.specs.declared.request.Act.TheVariants as act
-use Rattle.cj_model.specs.declared.request.Entry.{Entry}
-use Rattle.cj_model.specs.declared.select.Select.{Select}
-use Rattle.cj_model.specs.declared.answer.Asked.{Asked}
 use Rattle.cj_model.specs.declared.answer.Asked.TheVariants as asked
-use Rattle.cj_model.specs.declared.answer.Refusal.{Refusal}
-use Rattle.cj_model.specs.declared.answer.Reply.{Reply}
 use Rattle.cj_model.specs.declared.answer.Reply.TheVariants.{Rows, Refused}
-use Rattle.cj_cluster.specs.declared.event.Event.{Event}
 use Rattle.cj_cluster.specs.declared.event.Event.TheVariants as event
-use Rattle.cj_cluster.specs.declared.moves.Move.{Move}
-use Rattle.cj_cluster.specs.declared.moves.Move.TheVariants.{Open, Close, Schedule, Abort, Apply, End, Read, Arm, Disable, Replay, Enable, Mark, Dump, Load}
 use Rattle.cj_cluster.specs.declared.moves.Moved.TheVariants as moved
-use Rattle.cj_cluster.specs.declared.moves.Why.{Why}
-use Rattle.cj_cluster.specs.declared.moves.MoveError.TheVariants.{NotNow, NoMemory}
-use Rattle.cj_cluster.specs.declared.moves.OpenSession.{OpenSession}
-use Rattle.cj_model.specs.Sql.PlainRequests.{act_of}
-use Rattle.cj_model.specs.Cluster.Placements.{Placement}
-use Rattle.cj_cluster.specs.History.Histories.{scheduled_entry, is_end_event, log, ended_count, is_idle, entry_in_progress, events_left, is_log_fault, log_faults_of, tx_of}
-use Rattle.cj_cluster.specs.History.Legality.{IsFitEntry, IsLegal}
 use Rattle.cj_cluster.specs.History.Answering.{HasServer, AnswersEntry}
-use Rattle.cj_model.specs.Wire.Replies.{asked_reply}
 use Rattle.cj_cluster.specs.History.Turns.{SessionView, Call, HasNoRoomFor, Turn}
-use Rattle.cj_cluster.specs.Moves.Cores.{Core, session_at, new_session, with_session, is_entry_of}
 use Rattle.cj_cluster.specs.Moves.Moves.{MoveResult, MovesTo, is_open, DoesMove, OpensSession, ClosesSession, SchedulesRequest, SchedulesAnyAct, SchedulesAct, ScheduleIsForbidden, ScheduleHasNoBackend, ScheduleHasNoRoom, ScheduleMeetsLogFault, RefusesSchedule, LacksRoomFor, MeetsLogFault, AbortsOrphan, Marks, Dumps, Loads, Applies, Replays, EndsEntry, AttemptsRead, AttemptsReadOrWaits, ReadIsAnswered, ReadHasNoBackend, ReadHasNoRoom, ReadFailedEverywhere, ReadFailedHere, ReadCameTooEarly, Arms, Disables, Enables, not_now, forbidden_by, tx_of_act, open_tx, next_entry, last_number, with_one_request, with_request_counted, abort_entry, answered_at, was_answered, still_reading, read_number, tried_of, tried_with, with_end}
-use Rattle.cj_cluster.specs.Proving.Invariants.{BackendStands, CoreInvariant}
 use Rattle.cj_cluster.specs.Moves.Runs.{reply_given, is_allowed_by_transaction, call_of_entry, call_of_act, call_at, seen_at, AwaitsEnd, StandsSince, IsBetweenReplies}
 use Rattle.cj_cluster.proofs.Pushed.{no_fault_of_other, prefix_self, prefix_length, opened-same, opened-free, opened-last, opened-ended}
 use Rattle.cj_cluster.proofs.Sessions.{without, session_of-other, session_of-without_other}

@@ -4,23 +4,9 @@ use mathlib.Core.List.{IsPrefix}
 use Rattle.std.proofs.lemmas.Bool.{cases_eq, eqb-true, eq-eqb, ne_eqb, both_ways}
 use Rattle.std.proofs.lemmas.List.{take-append-le}
 use Rattle.std.proofs.lemmas.List.Elements.{All-head, All-tail, All-get_or, All-weaker}
-use Rattle.std.proofs.lemmas.Option.{slice_get_within, get_or_from_slice_get}
-use Rattle.std.proofs.Math.Seq.{take-append_seam}
-use Rattle.cj_model.specs.declared.request.Entry.{Entry}
-use Rattle.cj_model.specs.declared.select.Select.{Select}
-use Rattle.cj_cluster.specs.declared.event.Event.{Event}
-use Rattle.cj_cluster.specs.declared.event.Event.TheVariants.{Sched, Ended, ReadFailed}
-use Rattle.cj_cluster.specs.declared.moves.OpenRead.{OpenRead}
-use Rattle.cj_cluster.specs.declared.moves.OpenSession.{OpenSession}
-use Rattle.cj_model.specs.Sql.PlainRequests.{request_of}
-use Rattle.cj_model.specs.Cluster.Placements.{Placement}
-use Rattle.cj_cluster.specs.History.Histories.{scheduled_entry, is_end_event, log, ended_count, is_idle, entry_in_progress, is_enabled, enabled_after_event, events_left, is_log_fault, log_faults_of, tx_of}
-use Rattle.cj_model.specs.Cluster.Masks.{in_mask, with_backend}
-use Rattle.cj_cluster.specs.History.Answering.{HasServer}
+use Rattle.cj_cluster.proofs.Common.{Core, CoreInvariant, Ended, Entry, Event, HasServer, IsSoundSession, OpenRead, OpenSession, Placement, ReadFailed, Sched, Select, enabled_after_event, ended_count, entry_in_progress, events_left, find_session, get_or_from_slice_get, in_mask, is_enabled, is_end_event, is_entry_of, is_idle, is_log_fault, log, log_faults_of, new_session, request_of, scheduled_entry, session_at, slice_get_within, take-append_seam, tx_of, with_backend, with_session}
 use Rattle.cj_cluster.specs.History.Turns.{SessionView, entry_count_of}
-use Rattle.cj_cluster.specs.Moves.Cores.{Core, find_session, session_at, new_session, with_session, is_entry_of}
 use Rattle.cj_cluster.specs.Moves.Moves.{is_open, read_number, tried_of, still_reading}
-use Rattle.cj_cluster.specs.Proving.Invariants.{IsSoundSession, CoreInvariant}
 use Rattle.cj_cluster.specs.Moves.Runs.{seen_at, AwaitsEnd, HasFailedSince, TriedSince, StandsSince, IsBetweenReplies}
 use Rattle.cj_cluster.proofs.Pushed.{log_faults-stay, log_faults-begin, all_begin, get_seam, get_left, prefix_self, prefix_trans, prefix_length, enabled-push, log-sched, log-same, done-same, opened-sched, opened-same, opened-free}
 use Rattle.cj_model.proofs.Masks.{has-zero, has-with_other}

@@ -1,13 +1,8 @@
 -- The replies to a session in a list of moves are a chain of turns.
 use Rattle.std.proofs.Common.{◌≡◌, ℕ, ◌+◌, ◌<◌, ◌≤◌, ◌^◌, Bool, List, [], ◌∷◌, ◌++◌, length, Option, None, Some, All, refl, ap, sym, subst, arith}
-use Rattle.std.proofs.lemmas.List.Elements.{All-head, All-tail}
-use Rattle.cj_model.specs.declared.answer.Reply.{Reply}
-use Rattle.cj_cluster.specs.declared.moves.Move.{Move}
-use Rattle.cj_model.specs.Cluster.Placements.{Placement}
+use Rattle.cj_cluster.proofs.Common.{All-head, All-tail, Core, CoreInvariant, Move, Placement, Reply, session_at}
 use Rattle.cj_cluster.specs.History.Turns.{SessionView, Chain}
-use Rattle.cj_cluster.specs.Moves.Cores.{Core, session_at}
 use Rattle.cj_cluster.specs.Moves.Moves.{MoveResult, MovesTo}
-use Rattle.cj_cluster.specs.Proving.Invariants.{CoreInvariant}
 use Rattle.cj_cluster.specs.Moves.Runs.{RunsMoves, IsMoveOfCluster, CanCountRequests, IsBetweenReplies, AreBetween, IsChained, last_seen, reply_given, call_at, calls_at, seen_at, seen_after}
 use Rattle.cj_cluster.proofs.Soundness.{moves_sound}
 use Rattle.cj_cluster.proofs.Growth.{can_count, moves_grow}

@@ -1,19 +1,11 @@
 -- Drafts of a log's database: each is of an open transaction that wrote its table. What is there can be dumped and loaded.
 use Rattle.std.proofs.Common.{◌≡◌, ◌≢◌, ℕ, ◌==◌, Bool, true, false, ◌&&◌, List, [], ◌∷◌, ◌++◌, All, refl, ap, sym, ◌∙◌, subst, ⊎_elim}
-use Rattle.std.specs.List.{list_any}
 use Rattle.std.proofs.lemmas.Bool.{eq-eqb, and_from, or_left, or_right}
-use Rattle.std.proofs.lemmas.Grind.{fold-append}
 use Rattle.std.proofs.lemmas.List.Elements.{All-nil}
-use Rattle.std.proofs.lemmas.List.Folds.{list_any-append}
 use Rattle.std.proofs.lemmas.Slice.Eq.{bytes_eq-Decides}
-use Rattle.cj_model.specs.declared.database.Slot.{Slot}
-use Rattle.cj_model.specs.declared.write.Write.{Write}
-use Rattle.cj_model.specs.declared.request.Act.{Act}
+use Rattle.cj_cluster.proofs.Common.{Act, Entry, FitsTx, IsAdministratorEntry, IsFitEntry, IsSessionEntry, Slot, Write, database_of, fold-append, list_any, list_any-append, tx_of}
 use Rattle.cj_model.specs.declared.request.Act.TheVariants as act
-use Rattle.cj_model.specs.declared.request.Entry.{Entry}
 use Rattle.cj_model.specs.Database.Steps.{table_written, acted, step}
-use Rattle.cj_cluster.specs.History.Histories.{database_of, tx_of}
-use Rattle.cj_cluster.specs.History.Legality.{IsFitEntry, FitsTx, IsSessionEntry, IsAdministratorEntry}
 use Rattle.cj_cluster.specs.History.Transactions.{AreFit, is_begin, is_end, is_write_of, has_written}
 use Rattle.cj_model.specs.Database.Storable.{IsStorable}
 use Rattle.cj_model.proofs.StorableLaws.{empty_storable, acted_storable}

@@ -2,26 +2,15 @@
 use Rattle.std.proofs.Common.{◌≡◌, ◌≢◌, ◌⊎◌, inl, inr, ℕ, ◌+◌, ◌-◌, ◌*◌, ◌^◌, ◌<◌, ◌≤◌, ◌==◌, not, Bool, true, false, List, [], ◌∷◌, ◌++◌, length, get_or, set, All, Option, None, Some, is_some, refl, ap, sym, ◌∙◌, subst, arith, length-append, ⊎_elim}
 use Rattle.std.proofs.lemmas.Bool.{cases_eq, cases_lt, eqb-true, eqb-false, and_parts, or_cases, both_ways, not-true, or_parts}
 use Rattle.std.proofs.lemmas.List.{get_or-set_same, get_or-set_other, get_or_past, length-set}
-use Rattle.std.proofs.lemmas.Option.{slice_get_within}
 use Rattle.std.proofs.lemmas.List.Elements.{All-nil, All-push, All-filter, All-weaker}
-use Rattle.cj_model.specs.declared.request.Entry.{Entry}
+use Rattle.cj_cluster.proofs.Common.{BackendStands, CoreInvariant, Disabled, Enabled, Ended, Entry, Event, IsAllowedEvent, IsFitEntry, IsSoundDump, IsSoundSession, LogFailed, Marker, OpenSession, Placement, ReadFailed, Rises, Sched, TakenDump, by_session_number, ended_count, entry_in_progress, events_left, has_marker, in_mask, is_enabled, is_end_event, is_idle, is_log_fault, log, log_faults_of, scheduled_entry, slice_get_within, with_backend}
 use Rattle.cj_model.specs.declared.answer.Outcome.{Outcome}
-use Rattle.cj_cluster.specs.declared.event.Event.{Event}
-use Rattle.cj_cluster.specs.declared.event.Event.TheVariants.{Sched, Ended, ReadFailed, LogFailed, Disabled, Enabled, Marker}
-use Rattle.cj_cluster.specs.declared.moves.OpenSession.{OpenSession}
-use Rattle.cj_cluster.specs.declared.moves.TakenDump.{TakenDump}
-use Rattle.cj_model.specs.Database.Tables.{Rises}
-use Rattle.cj_model.specs.Cluster.Placements.{Placement}
-use Rattle.cj_cluster.specs.History.Histories.{scheduled_entry, is_end_event, log, ended_count, is_idle, entry_in_progress, is_enabled, has_marker, events_left, is_log_fault, log_faults_of}
 use Rattle.cj_cluster.specs.History.Transactions.{begun_after}
-use Rattle.cj_model.specs.Cluster.Masks.{in_mask, with_backend}
-use Rattle.cj_cluster.specs.History.Legality.{IsAllowedEvent, IsFitEntry}
 use Rattle.cj_cluster.specs.Moves.Cores.{Core, position_at, begun_at, find_session, new_session, with_session, is_entry_of}
 use Rattle.cj_cluster.specs.declared.moves.Did.{Did}
 use Rattle.cj_cluster.specs.declared.moves.Did.TheVariants as did
 use Rattle.cj_model.specs.declared.limits.TheConstants.{SESSION_LIMIT, USER_LIMIT}
 use Rattle.cj_cluster.specs.Moves.Moves.{with_one_request, with_entry, Stance, out, TakesEntry, with_stance, failed_after, starved_after, dumped_as}
-use Rattle.cj_cluster.specs.Proving.Invariants.{CoreInvariant, IsSoundSession, IsSoundDump, BackendStands, by_session_number}
 use Rattle.cj_cluster.proofs.Pushed.{log_faults-same, log_faults-stay, no_fault_of_other, enabled-push, log-sched, log-same, done-same, done-ended, opened-sched, opened-same, legal_push}
 use Rattle.cj_model.proofs.Masks.{has-zero, has-with_same, has-with_other}
 use Rattle.cj_cluster.proofs.Sessions.{found_itself, is_open-with, is_open-push, all_with, length_with, rises_with, rises_push, without, session_of-without_other, rises_without, length_without}

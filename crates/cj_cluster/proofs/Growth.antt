@@ -1,29 +1,13 @@
 -- What every move keeps: the history grows at its end, and a session makes at most one request. Lists of moves.
 use Rattle.std.proofs.Common.{◌≡◌, ◌⊎◌, ℕ, ◌+◌, ◌≤◌, ◌==◌, ◌^◌, Bool, true, false, List, [], ◌∷◌, ◌++◌, length, cond, All, Option, None, Some, Ok, Err, unwrap_or, option_map, refl, ap, sym, ◌∙◌, subst, arith, ⊎_elim}
 use mathlib.Core.List.{IsPrefix}
-use Rattle.std.specs.Option.{option_or}
 use Rattle.std.proofs.lemmas.Bool.{cases_eq}
 use Rattle.std.proofs.lemmas.List.{length-set}
-use Rattle.std.proofs.lemmas.List.Elements.{All-head, All-tail}
-use Rattle.std.proofs.lemmas.List.Folds.{find-append}
-use Rattle.cj_model.specs.declared.request.Act.{Act}
-use Rattle.cj_model.specs.declared.answer.Refusal.{Refusal}
-use Rattle.cj_model.specs.declared.request.Request.{Request}
-use Rattle.cj_model.specs.declared.select.Select.{Select}
-use Rattle.cj_model.specs.declared.answer.Asked.{Asked}
-use Rattle.cj_cluster.specs.declared.event.Event.{Event}
-use Rattle.cj_cluster.specs.declared.moves.Move.{Move}
-use Rattle.cj_cluster.specs.declared.moves.Move.TheVariants.{Open, Close, Schedule, Abort, Apply, End, Read, Arm, Disable, Replay, Enable, Mark, Dump, Load}
+use Rattle.cj_cluster.proofs.Common.{Abort, Act, All-head, All-tail, Apply, Arm, Asked, Close, Core, CoreInvariant, Disable, Dump, Enable, End, Event, Load, Mark, Move, NoMemory, NotNow, Open, OpenSession, Placement, Read, Refusal, Replay, Request, Schedule, Select, act_of, find-append, find_session, new_session, option_or, session_at, with_session}
 use Rattle.cj_cluster.specs.declared.moves.Moved.TheVariants as moved
 use Rattle.cj_cluster.specs.declared.moves.Reason.TheVariants as reason
-use Rattle.cj_cluster.specs.declared.moves.MoveError.TheVariants.{NotNow, NoMemory}
-use Rattle.cj_cluster.specs.declared.moves.OpenSession.{OpenSession}
-use Rattle.cj_model.specs.Sql.PlainRequests.{act_of}
-use Rattle.cj_model.specs.Cluster.Placements.{Placement}
-use Rattle.cj_cluster.specs.Moves.Cores.{Core, find_session, session_at, new_session, with_session}
 use Rattle.cj_cluster.specs.Moves.Moves as moves
 use Rattle.cj_cluster.specs.Moves.Moves.{MoveResult, MovesTo, DoesMove, not_now, Stance, with_stance, with_one_request, answered_at, was_answered, still_reading, with_read, read_failed, tried_of, tried_with}
-use Rattle.cj_cluster.specs.Proving.Invariants.{CoreInvariant}
 use Rattle.cj_cluster.specs.Moves.Runs.{RunsMoves, IsMoveOfCluster, CanCountRequests}
 use Rattle.cj_cluster.proofs.Pushed.{prefix_self, prefix_trans}
 use Rattle.cj_cluster.proofs.Sessions.{session_at-is, session_of-same, session_of-other, session_of-without_same, session_of-without_other, without}

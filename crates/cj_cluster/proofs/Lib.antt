@@ -1,6 +1,7 @@
 pub mod Answered
 pub mod Between
 pub mod Chains
+pub mod Common
 pub mod DraftLaws
 pub mod Effects
 pub mod Growth

@@ -3,18 +3,14 @@ use Rattle.std.proofs.Common.{◌≡◌, ℕ, ◌==◌, ◌||◌, true, List, []
 use Rattle.std.specs.Prelude.{IfSome, flat_map, fold, option_map, option_to_list}
 use Rattle.std.specs.Ordering.{match_ordering, nat_cmp}
 use Rattle.std.proofs.lemmas.Bool.{eq-eqb, or_cases, or_left, or_right}
-use Rattle.std.proofs.lemmas.Grind.{fold-append}
 use Rattle.std.proofs.lemmas.List.Concat.{flat_map-cons}
 use Rattle.std.proofs.lemmas.List.Elements.{All-cons, All-nil}
 use Rattle.std.proofs.lemmas.Map.Lookups.{exact_unsigned}
-use Rattle.cj_model.specs.declared.database.Draft.{Draft}
-use Rattle.cj_model.specs.declared.database.Slot.{Slot}
-use Rattle.cj_model.specs.Cluster.Placements.{Placement, part}
+use Rattle.cj_cluster.proofs.Common.{CoversDrafts, Draft, Placement, Slot, fold-append, part}
 use Rattle.cj_model.specs.Database.Storable.{writers}
 use Rattle.cj_model.specs.Database.Tables.{put_by}
 use Rattle.cj_model.proofs.RisingLaws.{by_order}
 use Rattle.cj_cluster.specs.History.Transactions.{has_begun}
-use Rattle.cj_cluster.specs.Proving.Invariants.{CoversDrafts}
 
 -- ---- numbers put in their places
 

@@ -1,16 +1,8 @@
 -- What holds where a move can be made now.
 use Rattle.std.proofs.Common.{◌≡◌, ◌≢◌, ℕ, zero, suc, ◌+◌, ◌-◌, ◌<◌, ◌≤◌, ◌==◌, ◌&&◌, cond, Bool, true, false, nat_lt, List, [], ◌∷◌, length, get_or, slice_get, Option, None, Some, is_some, is_none, refl, ap, sym, ◌∙◌, subst, arith, ⊎_elim}
 use Rattle.std.proofs.lemmas.Bool.{eqb-true, eqb-false, cases_Bool, cond-true, cond-false, cond_both, not-true, not-false, and_parts, or_parts, ltb-true, ltb-false, and_cases, both_ways}
-use Rattle.cj_model.specs.declared.request.Entry.{Entry}
-use Rattle.cj_cluster.specs.declared.event.Event.{Event}
-use Rattle.cj_model.specs.declared.request.Request.{Request}
-use Rattle.cj_model.specs.declared.select.Select.{Select}
+use Rattle.cj_cluster.proofs.Common.{Abort, Apply, Close, Disable, Dump, Enable, End, Entry, Event, Load, Mark, OpenRead, Read, Replay, Request, Schedule, Select, TakenDump, Why, has_marker, is_enabled, is_idle, log, tx_of}
 use Rattle.cj_cluster.specs.declared.moves.Reason.{Reason}
-use Rattle.cj_cluster.specs.declared.moves.Why.{Why}
-use Rattle.cj_cluster.specs.declared.moves.OpenRead.{OpenRead}
-use Rattle.cj_cluster.specs.declared.moves.TakenDump.{TakenDump}
-use Rattle.cj_cluster.specs.declared.moves.Move.TheVariants.{Close, Schedule, Abort, Apply, End, Read, Disable, Replay, Enable, Mark, Dump, Load}
-use Rattle.cj_cluster.specs.History.Histories.{log, is_idle, is_enabled, has_marker, tx_of}
 use Rattle.cj_cluster.specs.Moves.Cores.{Core, position_at, find_dump, hosts_beyond, session_at}
 use Rattle.cj_cluster.specs.Moves.Moves.{reason_if, reason_of_dump, position_or_zero, first_lagging, reason_if_lagging, entry_numbered, is_orphan_of, is_orphan, not_now, is_open, is_waiting}
 

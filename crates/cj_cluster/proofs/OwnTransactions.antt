@@ -2,13 +2,8 @@
 use Rattle.std.proofs.Common.{◌≡◌, ◌≢◌, ◌⊎◌, inl, inr, ℕ, ◌+◌, ◌<◌, ◌==◌, Bool, true, false, cond, List, [], ◌∷◌, ◌++◌, length, fold, All, refl, ap, sym, ◌∙◌, arith, ⊎_elim}
 use mathlib.Core.List.{IsPrefix}
 use Rattle.std.proofs.lemmas.Bool.{ne_eqb}
-use Rattle.std.proofs.lemmas.List.Elements.{All-head, All-tail}
-use Rattle.cj_model.specs.declared.request.Act.{Act}
+use Rattle.cj_cluster.proofs.Common.{Act, All-head, All-tail, Entry, Event, FitsTx, IsAdministratorEntry, IsFitEntry, IsSessionEntry, TxState, log, tx_after_act, tx_of, tx_state_after}
 use Rattle.cj_model.specs.declared.request.Act.TheVariants as act
-use Rattle.cj_model.specs.declared.request.Entry.{Entry}
-use Rattle.cj_cluster.specs.declared.event.Event.{Event}
-use Rattle.cj_cluster.specs.History.Histories.{log, TxState, tx_after_act, tx_state_after, tx_of}
-use Rattle.cj_cluster.specs.History.Legality.{FitsTx, IsSessionEntry, IsAdministratorEntry, IsFitEntry}
 use Rattle.cj_cluster.specs.History.Transactions.{is_begin, is_end}
 use Rattle.cj_cluster.specs.History.Turns.{tx_after_entry}
 use Rattle.cj_cluster.proofs.Pushed.{all_begin}

@@ -1,23 +1,13 @@
 -- What a backend holds after one more entry of a log, and that it has begun the transactions whose drafts it holds.
 use Rattle.std.proofs.Common.{◌≡◌, ◌≢◌, ℕ, ◌+◌, ◌<◌, ◌==◌, ◌||◌, not, true, false, List, [], ◌∷◌, ◌++◌, length, take, filter, slice_get, All, Some, refl, ap, sym, ◌∙◌, subst, ⊎_elim}
-use Rattle.std.specs.List.{list_any}
 use Rattle.std.proofs.lemmas.Bool.{both_ways, cond_both, not_from_false, eqb-true, eq-eqb, ne_eqb, or_cases, or_left, or_right}
-use Rattle.std.proofs.lemmas.Grind.{fold-append}
 use Rattle.std.proofs.lemmas.List.{take_more}
-use Rattle.std.proofs.lemmas.List.Folds.{list_any-append}
 use Rattle.std.proofs.lemmas.Map.Views.{any-filter_same}
-use Rattle.std.proofs.lemmas.Option.{slice_get_within, get_or_from_slice_get}
-use Rattle.cj_model.specs.declared.database.Slot.{Slot}
-use Rattle.cj_model.specs.declared.write.Write.{Write}
-use Rattle.cj_model.specs.declared.request.Act.{Act}
+use Rattle.cj_cluster.proofs.Common.{Act, CoversDrafts, Entry, Placement, Slot, Write, database_after, database_of, fold-append, get_or_from_slice_get, list_any, list_any-append, part, slice_get_within}
 use Rattle.cj_model.specs.declared.request.Act.TheVariants as act
-use Rattle.cj_model.specs.declared.request.Entry.{Entry}
 use Rattle.cj_model.specs.Database.Tables.{IsDatabase}
 use Rattle.cj_model.specs.Database.Steps.{acted, step}
-use Rattle.cj_model.specs.Cluster.Placements.{Placement, part}
-use Rattle.cj_cluster.specs.History.Histories.{database_of, database_after}
 use Rattle.cj_cluster.specs.History.Transactions.{AreFit, has_begun, takes_part, begun_after}
-use Rattle.cj_cluster.specs.Proving.Invariants.{CoversDrafts}
 use Rattle.cj_model.proofs.PartLaws.{SameAtPart, acted_hosted, acted_elsewhere, committed_part, aborted_part}
 use Rattle.cj_cluster.proofs.StepDrafts.{HasDraftBy, drafts_weaker, written_drafts, created_drafts, dropped_drafts, committed_drafts, aborted_drafts, IsOther, committed_other, aborted_other}
 use Rattle.cj_cluster.proofs.TransactionLaws.{fit_take}

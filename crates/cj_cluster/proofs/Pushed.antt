@@ -1,7 +1,6 @@
 -- What one more event at the end of a history does, and what a history has in common with those that it began as.
 use Rattle.std.proofs.Common.{◌≡◌, ◌≢◌, ℕ, ◌+◌, ◌-◌, ◌*◌, ◌^◌, ◌<◌, ◌≤◌, true, false, cond, ◌==◌, List, [], ◌∷◌, ◌++◌, length, take, drop, get_or, slice_get, All, Option, option_map, None, Some, refl, ap, sym, ◌∙◌, subst, arith, length-append, append_assoc, take-append-drop, ⊎_elim}
 use mathlib.Core.List.{IsPrefix}
-use Rattle.std.proofs.lemmas.Grind.{fold-append}
 use Rattle.std.proofs.lemmas.Bool.{cases_lt, eqb-true, eqb-false, eq-eqb, ne_eqb}
 use Rattle.std.proofs.lemmas.List.{append-nil, get_or_push, take-append-le, get_or_append_left}
 use Rattle.std.proofs.lemmas.List.Elements.{filter_map-append, All-take}
@@ -9,12 +8,9 @@ use Rattle.std.proofs.lemmas.List.Recursion.{is_count_by}
 use Rattle.std.proofs.lemmas.List.Sums.{sum_by-append}
 use Rattle.std.proofs.lemmas.Option.{slice_get-get_or, slice_get_past, slice_get_within, get_or_from_slice_get}
 use Rattle.std.proofs.Math.Seq.{take-append_seam, get_or-append_seam}
-use Rattle.cj_model.specs.declared.request.Entry.{Entry}
-use Rattle.cj_cluster.specs.declared.event.Event.{Event}
-use Rattle.cj_cluster.specs.declared.event.Event.TheVariants.{Sched, Ended, ReadFailed, LogFailed, Disabled, Enabled, Marker}
+use Rattle.cj_cluster.proofs.Common.{Disabled, Enabled, Ended, Entry, Event, IsAllowedEvent, IsLegal, LogFailed, Marker, ReadFailed, Sched, fold-append}
 use Rattle.cj_model.specs.Database.Steps.{step}
 use Rattle.cj_cluster.specs.History.Histories.{database_of, database_after, outcome_of, scheduled_entry, log, is_end_event, ended_count, is_idle, entry_in_progress, is_enabled, enabled_after_event, events_left, masks_of_end, masks_of_ends, marker_name, markers, notes_failure, failures_noted, is_log_fault, log_faults_of}
-use Rattle.cj_cluster.specs.History.Legality.{IsAllowedEvent, IsLegal}
 
 -- ---- lists
 

@@ -3,15 +3,10 @@ use Rattle.std.proofs.Common.{IfSome, ◌≡◌, ◌≢◌, ℕ, ◌==◌, ◌<�
 use Rattle.std.proofs.lemmas.Bool.{cases_eq, eqb-true, eqb-false, eq-eqb, ne_eqb}
 use Rattle.std.proofs.lemmas.List.{length-map}
 use Rattle.std.proofs.lemmas.List.Elements.{All-nil, All-cons, All-head, All-tail, All-push, All-weaker}
-use Rattle.std.proofs.lemmas.List.Folds.{find-append}
-use Rattle.std.specs.Option.{option_or}
 use Rattle.std.specs.Cmp.{nat_cmp_is}
 use Rattle.std.proofs.lemmas.Cmp.{ranked}
 use Rattle.std.specs.declared.cmp.Ordering.TheVariants.{Less}
-use Rattle.cj_cluster.specs.declared.moves.OpenSession.{OpenSession}
-use Rattle.cj_model.specs.Database.Tables.{Rises}
-use Rattle.cj_cluster.specs.Moves.Cores.{Core, find_session, session_at, new_session, with_session}
-use Rattle.cj_cluster.specs.Proving.Invariants.{by_session_number}
+use Rattle.cj_cluster.proofs.Common.{Core, OpenSession, Rises, by_session_number, find-append, find_session, new_session, option_or, session_at, with_session}
 use Rattle.cj_model.proofs.RisingLaws.{found_All, rises_filter, rises_map}
 
 -- ---- the session of a number

@@ -1,35 +1,17 @@
 -- Every move keeps the state sound.
 use Rattle.std.proofs.Common.{◌≡◌, ◌≢◌, ◌⊎◌, inl, inr, ℕ, ◌+◌, ◌-◌, ◌<◌, ◌≤◌, ◌==◌, Bool, true, false, cond, List, [], ◌∷◌, ◌++◌, length, take, All, Option, IfSome, None, Some, Ok, Err, refl, ap, sym, ◌∙◌, subst, arith, ⊎_elim, MatchOption}
-use Rattle.std.specs.Str.{bytes_eq}
 use Rattle.std.proofs.lemmas.Bool.{eqb-true, eqb-false, or_parts, leb-false}
 use Rattle.std.proofs.lemmas.List.Elements.{All-weaker}
-use Rattle.cj_model.specs.declared.request.Act.{Act}
+use Rattle.cj_cluster.proofs.Common.{Abort, Act, Apply, Arm, Asked, Close, CoreInvariant, Disable, Dump, Enable, End, Ended, Entry, Event, FitsTx, IsFitEntry, IsSoundDump, IsSoundSession, Load, LogFailed, Mark, Move, NoMemory, NotNow, Open, OpenSession, Read, ReadFailed, Refusal, Replay, Request, Schedule, Select, TakenDump, Why, act_of, bytes_eq, events_left, is_idle, log, request_of}
 use Rattle.cj_model.specs.declared.request.Act.TheVariants as act
-use Rattle.cj_model.specs.declared.request.Request.{Request}
 use Rattle.cj_model.specs.declared.request.Request.TheVariants as request
-use Rattle.cj_model.specs.declared.request.Entry.{Entry}
-use Rattle.cj_model.specs.declared.select.Select.{Select}
-use Rattle.cj_model.specs.declared.answer.Asked.{Asked}
-use Rattle.cj_model.specs.declared.answer.Refusal.{Refusal}
-use Rattle.cj_cluster.specs.declared.event.Event.{Event}
-use Rattle.cj_cluster.specs.declared.event.Event.TheVariants.{Ended, ReadFailed, LogFailed}
-use Rattle.cj_cluster.specs.declared.moves.Move.{Move}
-use Rattle.cj_cluster.specs.declared.moves.Move.TheVariants.{Open, Close, Schedule, Abort, Apply, End, Read, Arm, Disable, Replay, Enable, Mark, Dump, Load}
 use Rattle.cj_cluster.specs.declared.moves.Moved.TheVariants as moved
 use Rattle.cj_cluster.specs.declared.moves.Reason.TheVariants as reason
-use Rattle.cj_cluster.specs.declared.moves.MoveError.TheVariants.{NotNow, NoMemory}
-use Rattle.cj_cluster.specs.declared.moves.Why.{Why}
-use Rattle.cj_cluster.specs.declared.moves.OpenSession.{OpenSession}
-use Rattle.cj_cluster.specs.declared.moves.TakenDump.{TakenDump}
 use Rattle.cj_model.specs.declared.limits.TheConstants.{REQUEST_LIMIT, SESSION_LIMIT, SESSION_NUMBER_LIMIT, USER_LIMIT}
-use Rattle.cj_model.specs.Sql.PlainRequests.{act_of, request_of}
-use Rattle.cj_cluster.specs.History.Histories.{log, is_idle, events_left}
-use Rattle.cj_cluster.specs.History.Legality.{IsFitEntry, FitsTx}
 use Rattle.cj_model.specs.Sql.WrittenRequests.{IsWritten}
 use Rattle.cj_cluster.specs.Moves.Cores.{Core, find_dump, session_at, new_session, with_session}
 use Rattle.cj_cluster.specs.Moves.Moves as moves
 use Rattle.cj_cluster.specs.Moves.Moves.{MoveResult, MovesTo, DoesMove, happened, not_now, is_open, is_reading, read_number, next_entry, abort_entry, entry_numbered, user_of, is_orphan, open_tx, forbidden_by, tx_of_act, with_one_request, answered_at, was_answered, still_reading, last_number, with_read, read_failed, with_end, tried_of, tried_with}
-use Rattle.cj_cluster.specs.Proving.Invariants.{CoreInvariant, IsSoundSession, IsSoundDump}
 use Rattle.cj_cluster.specs.Moves.Runs.{IsMoveOfCluster, CanCountRequests}
 use Rattle.cj_cluster.proofs.WrittenRollback.{rollback_written}
 use Rattle.cj_cluster.proofs.TransactionLaws.{fit_at, legal_fit}

@@ -1,20 +1,9 @@
 -- Each session stands between two replies: how what moves change keeps that, whatever the backends tell.
 use Rattle.std.proofs.Common.{◌≡◌, ◌≢◌, ℕ, ◌+◌, ◌<◌, ◌≤◌, Bool, true, false, List, [], ◌∷◌, ◌++◌, length, Option, option_map, None, Some, is_some, refl, ap, sym, ◌∙◌, subst, arith, ⊎_elim}
 use Rattle.std.proofs.lemmas.Bool.{cases_eq, eqb-true, both_ways}
-use Rattle.cj_model.specs.declared.request.Entry.{Entry}
-use Rattle.cj_model.specs.declared.select.Select.{Select}
-use Rattle.cj_cluster.specs.declared.event.Event.{Event}
-use Rattle.cj_cluster.specs.declared.event.Event.TheVariants.{Sched, Ended, ReadFailed, LogFailed}
-use Rattle.cj_cluster.specs.declared.moves.OpenSession.{OpenSession}
-use Rattle.cj_model.specs.Sql.PlainRequests.{request_of}
-use Rattle.cj_cluster.specs.History.Histories.{scheduled_entry, is_end_event, log, is_idle, entry_in_progress, is_enabled, enabled_after_event, events_left, is_log_fault, tx_of}
-use Rattle.cj_cluster.specs.History.Legality.{IsFitEntry}
-use Rattle.cj_model.specs.Cluster.Masks.{in_mask, with_backend}
-use Rattle.cj_cluster.specs.History.Answering.{HasServer}
+use Rattle.cj_cluster.proofs.Common.{Core, CoreInvariant, Ended, Entry, Event, HasServer, IsFitEntry, IsSoundSession, LogFailed, OpenSession, ReadFailed, Sched, Select, enabled_after_event, entry_in_progress, events_left, find_session, in_mask, is_enabled, is_end_event, is_entry_of, is_idle, is_log_fault, log, new_session, request_of, scheduled_entry, session_at, tx_of, with_backend, with_session}
 use Rattle.cj_cluster.specs.History.Turns.{SessionView}
-use Rattle.cj_cluster.specs.Moves.Cores.{Core, find_session, session_at, new_session, with_session, is_entry_of}
 use Rattle.cj_cluster.specs.Moves.Moves.{is_open, happened, with_one_request, with_entry, scheduled_as, abort_entry, answered_at, still_reading, read_number, tried_of, with_read}
-use Rattle.cj_cluster.specs.Proving.Invariants.{IsSoundSession, CoreInvariant}
 use Rattle.cj_cluster.specs.Moves.Runs.{seen_at, HasFailedSince, TriedSince, IsBetweenReplies, AreBetween}
 use Rattle.cj_cluster.proofs.Pushed.{no_fault_of_other, prefix_self, prefix_length, opened-same, opened-free}
 use Rattle.cj_cluster.proofs.Sessions.{session_at-is, found_number, found_all, found_open, session_of-same, session_of-other, is_open-with, without, session_of-without_other}

@@ -1,13 +1,10 @@
 -- Drafts: what each act leaves of them, and that the end of a transaction without any leaves the database.
 use Rattle.std.proofs.Common.{◌≡◌, ◌≢◌, ℕ, eqb, not, List, map, All, Option, None, Some, IfSome, Ok, Err, is_some, sym, refl, subst}
-use Rattle.std.specs.Str.{bytes_eq}
 use Rattle.std.proofs.lemmas.Bool.{cond_both, cond-false, eqb-false, ne_eqb}
 use Rattle.std.proofs.lemmas.List.Elements.{All-map, All-weaker, All-filter}
+use Rattle.cj_cluster.proofs.Common.{Draft, Slot, Write, bytes_eq}
 use Rattle.cj_model.specs.declared.schema.Create.{Create}
 use Rattle.cj_model.specs.declared.database.Table.{Table}
-use Rattle.cj_model.specs.declared.database.Draft.{Draft}
-use Rattle.cj_model.specs.declared.database.Slot.{Slot}
-use Rattle.cj_model.specs.declared.write.Write.{Write}
 use Rattle.cj_model.specs.Database.Tables.{by_table, table_of, slot_of}
 use Rattle.cj_model.specs.Database.Inserts.{Changed}
 use Rattle.cj_model.specs.Database.Updates.{change}

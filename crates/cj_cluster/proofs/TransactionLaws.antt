@@ -1,16 +1,9 @@
 -- Transactions of a log: what one more entry makes of them, whose drafts a database has, and what their ends leave.
 use Rattle.std.proofs.Common.{◌≡◌, ◌≢◌, ◌⊎◌, inl, inr, ℕ, ◌+◌, ◌<◌, ◌≤◌, ◌==◌, suc, Bool, true, false, cond, List, [], ◌∷◌, ◌++◌, length, take, get_or, fold, None, refl, ap, sym, ◌∙◌, subst, arith, length-append, append_assoc, ⊎_elim, zero, slice_get, Some}
 use Rattle.std.proofs.lemmas.Bool.{eqb-true, eq-eqb, ne_eqb, cond-true, cond-false}
-use Rattle.std.proofs.lemmas.Grind.{fold-append}
 use Rattle.std.proofs.lemmas.List.{append-nil}
-use Rattle.std.proofs.lemmas.Option.{slice_get_within, get_or_from_slice_get}
-use Rattle.cj_model.specs.declared.request.Act.{Act}
+use Rattle.cj_cluster.proofs.Common.{Act, Disabled, Enabled, Ended, Entry, Event, IsAllowedEvent, IsFitEntry, IsLegal, LogFailed, Marker, ReadFailed, Sched, TxState, fold-append, get_or_from_slice_get, log, scheduled_entry, slice_get_within, tx_after_act, tx_of, tx_state_after}
 use Rattle.cj_model.specs.declared.request.Act.TheVariants as act
-use Rattle.cj_model.specs.declared.request.Entry.{Entry}
-use Rattle.cj_cluster.specs.declared.event.Event.{Event}
-use Rattle.cj_cluster.specs.declared.event.Event.TheVariants.{Sched, Ended, ReadFailed, LogFailed, Disabled, Enabled, Marker}
-use Rattle.cj_cluster.specs.History.Histories.{scheduled_entry, log, TxState, tx_after_act, tx_state_after, tx_of}
-use Rattle.cj_cluster.specs.History.Legality.{IsAllowedEvent, IsLegal, IsFitEntry}
 use Rattle.cj_cluster.specs.History.Transactions.{AreFitBehind, AreFit, is_begin, is_end}
 use Rattle.cj_cluster.proofs.Pushed.{log-sched, log-same}
 

@@ -1,33 +1,18 @@
 -- The turn of each kind of reply, over plain values.
 use Rattle.std.proofs.Common.{◌≡◌, ◌≢◌, ℕ, ◌+◌, ◌<◌, ◌≤◌, ◌==◌, ◌||◌, ◌⊎◌, inl, inr, Bool, true, false, cond, List, [], ◌∷◌, ◌++◌, length, take, slice_get, Some, refl, ap, sym, ◌∙◌, subst, arith, ⊎_elim, length-append}
 use mathlib.Core.List.{IsPrefix}
-use Rattle.std.proofs.lemmas.Grind.{fold-append}
 use Rattle.std.proofs.lemmas.Bool.{both_ways}
 use Rattle.std.proofs.lemmas.List.{take-append-le, take_at, take_more}
-use Rattle.std.proofs.lemmas.List.Folds.{list_any-append}
-use Rattle.std.proofs.Math.Seq.{take-append_seam}
-use Rattle.std.proofs.lemmas.Option.{slice_get_within, get_or_from_slice_get}
+use Rattle.cj_cluster.proofs.Common.{Act, Asked, Ended, Entry, Event, FitsTx, IsAllowedEvent, IsFitEntry, IsLegal, LogFailed, ReadFailed, Reply, Sched, Select, act_of, asked_reply, database_after, ended_count, entry_in_progress, events_left, fold-append, get_or_from_slice_get, in_mask, is_enabled, is_idle, list_any-append, log, log_faults_of, request_of, slice_get_within, take-append_seam, tx_of}
 use Rattle.cj_model.specs.declared.request.Request.TheVariants as request
-use Rattle.cj_model.specs.declared.request.Act.{Act}
 use Rattle.cj_model.specs.declared.request.Act.TheVariants as act
-use Rattle.cj_model.specs.declared.request.Entry.{Entry}
-use Rattle.cj_model.specs.declared.select.Select.{Select}
-use Rattle.cj_model.specs.declared.answer.Asked.{Asked}
-use Rattle.cj_model.specs.declared.answer.Reply.{Reply}
 use Rattle.cj_model.specs.declared.answer.Reply.TheVariants.{Refused}
-use Rattle.cj_cluster.specs.declared.event.Event.{Event}
-use Rattle.cj_cluster.specs.declared.event.Event.TheVariants.{Sched, Ended, ReadFailed, LogFailed}
 use Rattle.cj_model.specs.declared.codes.TheConstants.{NO_BACKEND, READ_FAULT, LOG_FAULT, NO_MEMORY, HISTORY_FULL}
 use Rattle.cj_model.specs.Database.Inserts.{refusal_of_code}
 use Rattle.cj_model.specs.Database.Queries.{ask}
-use Rattle.cj_model.specs.Sql.PlainRequests.{act_of, request_of}
 use Rattle.cj_model.specs.Cluster.Placements.{Placement, writes_at, wrote_at, concerns}
-use Rattle.cj_cluster.specs.History.Histories.{log, ended_count, is_idle, entry_in_progress, is_enabled, events_left, database_after, log_faults_of, tx_of}
-use Rattle.cj_model.specs.Cluster.Masks.{in_mask}
-use Rattle.cj_cluster.specs.History.Legality.{FitsTx, IsFitEntry, IsAllowedEvent, IsLegal}
 use Rattle.cj_model.specs.Database.Outcomes.{IsAsked}
 use Rattle.cj_cluster.specs.History.Answering.{CanServe, HasServer, HasNoServer, IsTarget, Finished, Unfinished, AnswersEntry}
-use Rattle.cj_model.specs.Wire.Replies.{asked_reply}
 use Rattle.cj_cluster.specs.History.Turns.{SessionView, Call, IsMomentBetween, HasNoRoomFor, scheduled, no_backend, read, read_fault, log_fault, full, starved, entry_count_of, tx_after_entry, Turn}
 use Rattle.cj_cluster.specs.Moves.Runs.{AwaitsEnd, HasFailedSince, call_of_entry}
 use Rattle.cj_model.proofs.Masks.{has-zero}

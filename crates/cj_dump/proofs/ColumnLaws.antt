@@ -1,25 +1,18 @@
 -- Columns that fit their layout: free names, of which none stands twice.
 use Rattle.std.proofs.Common.{◌≡◌, ℕ, ◌≤◌, ◌<◌, Bool, true, false, ◌||◌, not, List, [], ◌∷◌, ◌++◌, length, refl, sym, ap, ◌∙◌, arith, nat_le}
-use Rattle.std.specs.Prelude.{All, is_some}
-use Rattle.std.specs.declared.option.Option.{Option}
-use Rattle.std.specs.declared.option.Option.TheVariants.{None, Some}
 use Rattle.std.specs.List.{list_any}
 use Rattle.std.specs.Str.{bytes_eq}
 use Rattle.std.proofs.lemmas.Bool.{and_parts, and_from, not-true, leb-true, le-leb, ltb-true, lt-ltb}
-use Rattle.std.proofs.lemmas.List.Elements.{All-nil, All-cons, All-head, All-tail}
 use Rattle.std.proofs.lemmas.Slice.Eq.{bytes_eq-Decides}
+use Rattle.cj_dump.proofs.Common.{All, All-cons, All-head, All-nil, All-tail, Column, None, Option, Schema, Some, fields_hold, is_some, listed_fits}
 use Rattle.cj_model.specs.declared.limits.TheConstants.{COLUMN_LIMIT}
 use Rattle.cj_model.specs.declared.token.Keyword.{Keyword}
 use Rattle.cj_model.specs.declared.value.Kind.{Kind}
 use Rattle.cj_model.specs.declared.value.Kind.TheVariants as kinds
-use Rattle.cj_model.specs.declared.schema.Column.{Column}
-use Rattle.cj_model.specs.declared.schema.Schema.{Schema}
 use Rattle.cj_model.specs.Database.Storable.{IsFreeName}
 use Rattle.cj_model.specs.Database.Tables.{column_names, is_distinct}
 use Rattle.cj_model.specs.Sql.Lexical.{keyword}
-use Rattle.cj_codec.proofs.Held.{fields_hold}
 use Rattle.cj_dump.specs.DumpLayout.{is_free, is_named, free_name, kind, column, rises_above, schema}
-use Rattle.cj_dump.specs.Layouts.{listed_fits}
 
 -- ---- names
 

@@ -1,16 +1,9 @@
 -- The names covered, read one after another, are a set as they stand.
 use Rattle.std.proofs.Common.{◌≡◌, ℕ, zero, suc, Bool, true, List, [], ◌∷◌, ◌++◌, Ok, refl, sym, ap, subst, ◌∙◌, append_assoc, append-nil, Ordering, Less, Greater}
-use Rattle.std.specs.Prelude.{All, fold}
-use Rattle.std.specs.Cmp.{IsTotalOrder}
-use Rattle.std.specs.Cmp.Lexicographic.{nat_list_cmp_total}
 use Rattle.std.specs.Ordering.{match_ordering, ordering_reverse}
-use Rattle.std.proofs.lemmas.List.Elements.{All-head, All-tail}
-use Rattle.cj_model.specs.Database.Tables.{Rises, name_cmp, put_by}
-use Rattle.cj_model.specs.Wire.Fields.{◌>>=◌}
+use Rattle.cj_dump.proofs.Common.{All, All-head, All-tail, DumpError, IsTotalOrder, Place, Rises, fold, name_cmp, nat_list_cmp_total, put_by, ◌>>=◌}
 use Rattle.cj_model.proofs.Fields.{bind_ok, ok_is, done}
 use Rattle.cj_codec.specs.Fields.{name}
-use Rattle.cj_codec.specs.Readings.{Place}
-use Rattle.cj_dump.specs.declared.error.DumpError.{DumpError}
 use Rattle.cj_dump.specs.DumpLayout.{last_of, rises_above, covered, covers_count, covers}
 use Rattle.cj_dump.specs.Layouts.{Reading, field, listed, listed_reads}
 use Rattle.cj_dump.proofs.LayoutLaws.{found_ok}

@@ -1,10 +1,7 @@
 -- What decoding comes to, and that bytes have one reading.
 use Rattle.std.proofs.Common.{◌≡◌, ◌≢◌, ◌⊎◌, ℕ, List, [], ◌∷◌, ◌++◌, length, Result, Ok, Err, refl, sym, ap, subst, ◌∙◌, append-nil, inl, inr}
+use Rattle.cj_dump.proofs.Common.{BadField, Cut, Dump, DumpError, NoMemory, Order, Place, offset}
 use Rattle.cj_codec.specs.Formats.{AreBytes}
-use Rattle.cj_codec.specs.Readings.{Place, offset}
-use Rattle.cj_dump.specs.declared.dump.Dump.{Dump}
-use Rattle.cj_dump.specs.declared.error.DumpError.{DumpError}
-use Rattle.cj_dump.specs.declared.error.DumpError.TheVariants.{Cut, BadField, Order, NoMemory}
 use Rattle.cj_dump.specs.DumpLayout.{dump}
 use Rattle.cj_dump.specs.Dumps.{dump_bytes, IsDump, start_of, Stops, Decodes, WrittenReadsBack, BytesHaveOneReading}
 use Rattle.cj_dump.specs.Layouts.{Reading, Between, Finds}

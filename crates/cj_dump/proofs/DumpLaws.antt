@@ -1,19 +1,10 @@
 -- The layout of a dump is one, and its bytes are those of a dump.
 use Rattle.std.proofs.Common.{◌≡◌, ℕ, suc, zero, Bool, true, false, List, [], ◌∷◌, ◌++◌, length, refl, sym, ap, ◌∙◌, arith, nat_le, nat_lt, ◌==◌, ◌||◌, eqb}
-use Rattle.std.specs.Prelude.{is_some, option_map}
-use Rattle.std.specs.declared.option.Option.{Option}
-use Rattle.std.specs.declared.option.Option.TheVariants.{None, Some}
-use Rattle.std.specs.List.{flat_map}
 use Rattle.std.specs.Int.{w16, w64, to_be_bytes}
 use Rattle.std.proofs.lemmas.Bool.{eqb-true, leb-true}
 use Rattle.std.proofs.lemmas.List.Concat.{flat_map-cons}
-use Rattle.cj_model.specs.declared.value.Value.{Value}
-use Rattle.cj_model.specs.declared.schema.Column.{Column}
-use Rattle.cj_model.specs.declared.schema.Schema.{Schema}
-use Rattle.cj_model.specs.declared.database.Draft.{Draft}
-use Rattle.cj_model.specs.declared.database.Slot.{Slot}
+use Rattle.cj_dump.proofs.Common.{Column, Draft, Dump, None, Option, Schema, Slot, Some, Value, flat_map, is_some, option_map, str16}
 use Rattle.cj_model.specs.Database.Tables.{table_of}
-use Rattle.cj_model.specs.Wire.Fields.{str16}
 use Rattle.cj_model.specs.Wire.Replies.{value_bytes, row_bytes}
 use Rattle.cj_codec.specs.Fields.{byte, number16, number64, name, value}
 use Rattle.cj_codec.specs.Formats.{Format, IsFormat, such_that}
@@ -23,7 +14,6 @@ use Rattle.cj_codec.proofs.Fields.{byte_law, number16_law, number64_law, name_la
 use Rattle.cj_dump.specs.Layouts.{Layout, field, rising_field, followed, pair, listed_bytes}
 use Rattle.cj_dump.specs.DumpLayout.{last_of, flag_byte, flag, kind_byte, kind_of_byte, kind, column_name, column, column_count, columns, is_free, free_name, rises_above, key, schema, last_key, column_value, row_value, row, row_count, rows, tx_in, rows_in, transaction, draft_behind, draft, slot_behind, slot, covered, covers_count, covers, slots, dump}
 use Rattle.cj_dump.specs.Dumps.{column_bytes, schema_bytes, rows_bytes, draft_bytes, slot_bytes, names_bytes, db_bytes, dump_bytes}
-use Rattle.cj_dump.specs.declared.dump.Dump.{Dump}
 use Rattle.cj_dump.proofs.LayoutLaws.{IsLayout, rising_law, field_law, known_law, behind_law, mapped_law, followed_law, pair_law, listed_law, list_law}
 
 -- ---- formats

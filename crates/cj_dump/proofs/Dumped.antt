@@ -1,26 +1,15 @@
 -- What fits the layout of a dump is a dump, and a dump fits it.
 use Rattle.std.proofs.Common.{◌≡◌, ℕ, ◌^◌, ◌<◌, Bool, true, false, ◌||◌, ◌==◌, not, List, [], length, refl, sym, ap, subst, ◌∙◌, arith}
-use Rattle.std.specs.Prelude.{All, IfSome, option_map}
-use Rattle.std.specs.declared.option.Option.{Option}
-use Rattle.std.specs.declared.option.Option.TheVariants.{None, Some}
-use Rattle.std.specs.Cmp.Lexicographic.{nat_list_cmp_total}
 use Rattle.std.proofs.lemmas.Bool.{eq-eqb, eqb-true, lt-ltb, ltb-true}
 use Rattle.std.proofs.lemmas.List.{nil_from_length}
-use Rattle.std.proofs.lemmas.List.Elements.{All-nil, All-weaker}
-use Rattle.cj_model.specs.declared.value.Value.{Value}
-use Rattle.cj_model.specs.declared.schema.Schema.{Schema}
+use Rattle.cj_dump.proofs.Common.{All, All-nil, All-weaker, Draft, Dump, IfSome, IsConstant, None, Option, Schema, Slot, Some, Value, fields_hold, nat_list_cmp_total, option_map}
 use Rattle.cj_model.specs.declared.database.Table.{Table}
-use Rattle.cj_model.specs.declared.database.Draft.{Draft}
-use Rattle.cj_model.specs.declared.database.Slot.{Slot}
 use Rattle.cj_model.specs.Database.Storable.{IsStorableSlot, IsStorableTable}
 use Rattle.cj_model.specs.Database.Tables.{IsTable, IsSlot, by_table, fits_columns, name_cmp, table_of}
-use Rattle.cj_model.specs.Sql.Literals.{IsConstant}
 use Rattle.cj_model.specs.Sql.Names.{is_name}
 use Rattle.cj_model.proofs.DatabaseLaws.{by_table_total}
-use Rattle.cj_codec.proofs.Held.{fields_hold}
 use Rattle.cj_dump.specs.DumpLayout.{last_of, rises_above, flag, rows, draft, slot, covered, covers, slots, dump}
 use Rattle.cj_dump.specs.Dumps.{HasSmallTransaction, IsDump}
-use Rattle.cj_dump.specs.declared.dump.Dump.{Dump}
 use Rattle.cj_dump.proofs.ColumnLaws.{IsSchema, schema_to, schema_from}
 use Rattle.cj_dump.proofs.RowLaws.{AreRows, rows_to, rows_from}
 use Rattle.cj_dump.proofs.Rising.{above, all_rise, each_rises, split, merge}

@@ -1,14 +1,11 @@
 -- Laws of layouts, each for every layout.
 use Rattle.std.proofs.Common.{◌≡◌, ℕ, zero, suc, Bool, true, false, cond, List, [], ◌∷◌, ◌++◌, length, drop, Result, Ok, Err, refl, sym, ap, subst, ◌∙◌, append_assoc, append-nil, arith, inl, inr}
 use Rattle.std.proofs.lemmas.List.{drop_at}
-use Rattle.cj_model.specs.Wire.Fields.{◌>>=◌}
+use Rattle.cj_dump.proofs.Common.{BadField, Cut, DumpError, NoMemory, Order, Place, offset, ◌>>=◌}
 use Rattle.cj_model.proofs.Fields.{bind_ok, bind_err, guard_else, guard_else_err, ok_is, err_is, done, failed, IsBytes_drop}
 use Rattle.cj_codec.specs.declared.error.Fault.{Fault}
 use Rattle.cj_codec.specs.declared.error.Fault.TheVariants as faults
 use Rattle.cj_codec.specs.Formats.{Format, AreBytes, IsFormat}
-use Rattle.cj_codec.specs.Readings.{Place, offset}
-use Rattle.cj_dump.specs.declared.error.DumpError.{DumpError}
-use Rattle.cj_dump.specs.declared.error.DumpError.TheVariants.{Cut, BadField, Order, NoMemory}
 use Rattle.cj_dump.specs.Layouts.{Reading, Between, Layout, field_stops, field_found, rising_field, field, known, behind, mapped, followed, pair, listed_bytes, listed_fits, listed_stops, listed_reads, listed, list}
 
 -- What is written reads back, whatever follows it; what is read was written; and reading fails exactly where the bytes stop, for the same reason.

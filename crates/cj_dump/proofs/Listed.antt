@@ -1,8 +1,6 @@
 -- What is taken one after another is what reading the list gives.
 use Rattle.std.proofs.Common.{◌≡◌, ℕ, suc, List, [], ◌∷◌, ◌++◌, Result, Ok, Err, sym, ap, ◌∙◌}
-use Rattle.cj_model.specs.Wire.Fields.{◌>>=◌}
-use Rattle.cj_codec.specs.Readings.{Place}
-use Rattle.cj_dump.specs.declared.error.DumpError.{DumpError}
+use Rattle.cj_dump.proofs.Common.{DumpError, Place, ◌>>=◌}
 use Rattle.cj_dump.specs.Layouts.{Reading, Layout, Finds, behind, listed_reads}
 
 -- the next is read, and what reading them all gives stays

@@ -1,14 +1,8 @@
 -- Lists in which each item stands above the one before it rise.
 use Rattle.std.proofs.Common.{◌≡◌, ◌-◌, Bool, true, List, [], ◌∷◌, ◌++◌, length, refl, sym, ap, subst, ◌∙◌, arith, length-append, Ordering, Less, Equal, Greater}
-use Rattle.std.specs.Prelude.{All, slice_get}
-use Rattle.std.specs.declared.option.Option.{Option}
-use Rattle.std.specs.declared.option.Option.TheVariants.{Some}
 use Rattle.std.specs.Option.{option_map_or}
-use Rattle.std.specs.Ordering.{is_lt}
-use Rattle.std.specs.Cmp.{IsTotalOrder}
-use Rattle.std.proofs.lemmas.List.Elements.{All-nil, All-cons, All-head, All-tail, All-weaker}
 use Rattle.std.proofs.lemmas.Option.{get_or_from_slice_get, slice_get_within}
-use Rattle.cj_model.specs.Database.Tables.{Rises}
+use Rattle.cj_dump.proofs.Common.{All, All-cons, All-head, All-nil, All-tail, All-weaker, IsTotalOrder, Option, Rises, Some, is_lt, slice_get}
 use Rattle.cj_dump.specs.DumpLayout.{last_of}
 use Rattle.cj_dump.specs.Layouts.{Layout, listed_fits}
 

@@ -1,25 +1,15 @@
 -- Rows that fit their layout: constants of the columns' kinds, in rising key.
 use Rattle.std.proofs.Common.{◌≡◌, ℕ, ◌+◌, ◌^◌, ◌≤◌, ◌<◌, zero, suc, pos, Bool, true, false, ◌||◌, ◌==◌, not, List, [], ◌∷◌, ◌++◌, length, refl, sym, ap, ◌∙◌, arith, length-append, append_assoc}
-use Rattle.std.specs.Prelude.{All, slice_get}
-use Rattle.std.specs.declared.option.Option.{Option}
-use Rattle.std.specs.declared.option.Option.TheVariants.{None, Some}
 use Rattle.std.specs.Option.{option_map_or, option_and_then}
-use Rattle.std.specs.Ordering.{is_lt}
 use Rattle.std.proofs.lemmas.Bool.{and_parts, and_from, leb-true, le-leb, eq-eqb, eqb-true}
-use Rattle.std.proofs.lemmas.List.Elements.{All-nil, All-cons, All-head, All-tail}
 use Rattle.std.proofs.lemmas.Option.{slice_get-get_or}
+use Rattle.cj_dump.proofs.Common.{All, All-cons, All-head, All-nil, All-tail, Column, IsConstant, None, Option, Schema, Some, Value, fields_hold, is_lt, listed_fits, slice_get}
 use Rattle.cj_model.specs.declared.limits.TheConstants.{ROW_LIMIT}
-use Rattle.cj_model.specs.declared.value.Value.{Value}
 use Rattle.cj_model.specs.declared.value.Value.TheVariants.{Int}
-use Rattle.cj_model.specs.declared.schema.Column.{Column}
-use Rattle.cj_model.specs.declared.schema.Schema.{Schema}
 use Rattle.cj_model.specs.Database.Tables.{Rises, by_key, cell, fits_columns, same_kind}
 use Rattle.cj_model.specs.Database.Values.{kind_of, value_cmp}
-use Rattle.cj_model.specs.Sql.Literals.{IsConstant}
 use Rattle.cj_model.proofs.TableLaws.{by_key_total}
-use Rattle.cj_codec.proofs.Held.{fields_hold}
 use Rattle.cj_dump.specs.DumpLayout.{last_of, is_of_column, last_key, key_rises, row_value, row, rows}
-use Rattle.cj_dump.specs.Layouts.{listed_fits}
 use Rattle.cj_dump.proofs.Rising.{above, all_rise, each_rises, split, merge, last_holds}
 
 -- ---- a row

@@ -1,20 +1,12 @@
 -- A database that can be dumped can be written.
 use Rattle.std.proofs.Common.{◌≡◌, ◌≢◌, ℕ, ◌≤◌, ◌<◌, ◌^◌, sym, true, List, [], ◌∷◌, length, refl, arith, subst, get_or}
-use Rattle.std.specs.Prelude.{All, IfSome}
-use Rattle.std.specs.declared.option.Option.{Option}
-use Rattle.std.specs.declared.option.Option.TheVariants.{None, Some}
 use Rattle.std.proofs.lemmas.Bool.{and_parts, leb-true}
-use Rattle.std.proofs.lemmas.List.Elements.{All-nil, All-cons, All-weaker}
-use Rattle.cj_model.specs.declared.value.Value.{Value}
+use Rattle.cj_dump.proofs.Common.{All, All-cons, All-nil, All-weaker, Draft, Dump, IfSome, IsConstant, None, Option, Slot, Some, Value}
 use Rattle.cj_model.specs.declared.value.Value.TheVariants.{Int, Text}
-use Rattle.cj_model.specs.declared.database.Draft.{Draft}
-use Rattle.cj_model.specs.declared.database.Slot.{Slot}
 use Rattle.cj_model.specs.Database.Storable.{IsStorable, IsStorableSlot, IsStorableTable}
 use Rattle.cj_model.specs.Database.Tables.{IsSlot, Rises, name_cmp}
-use Rattle.cj_model.specs.Sql.Literals.{IsConstant}
 use Rattle.cj_model.specs.Sql.Names.{is_name, IsNameOrEmpty}
 use Rattle.cj_codec.specs.Writings.{HasShortText}
-use Rattle.cj_dump.specs.declared.dump.Dump.{Dump}
 use Rattle.cj_dump.specs.Dumps.{CanEncode, HasSmallTransaction, IsDump}
 use Rattle.cj_dump.specs.Writable.{IsWritableDraft, IsWritableSlot}
 

@@ -4,5 +4,6 @@ mod PlaceLaws
 mod SettleLaws
 mod KnownLaws
 mod WalkLaws
-pub mod ReachLaws
 mod MovedLaws
+pub mod Common
+pub mod ReachLaws

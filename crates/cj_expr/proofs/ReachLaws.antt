@@ -1,16 +1,9 @@
 -- What conditions reach.
 use Rattle.std.proofs.Common.{◌≡◌, ℕ, Bool, true, false, Ordering, Less, Equal, Greater, is_eq, refl, ap, sym, ◌∙◌, ◌⊎◌, inl, inr, ⊎_elim}
 use Rattle.std.specs.Ordering.{is_ge, is_gt, is_le, is_lt, is_ne, ordering_reverse}
-use Rattle.std.specs.declared.option.Option.{Option}
-use Rattle.std.specs.declared.option.Option.TheVariants.{None, Some}
-use Rattle.std.proofs.lemmas.Bool.{and_parts, or_cases}
-use Rattle.cj_model.specs.declared.value.Value.{Value}
-use Rattle.cj_model.specs.declared.term.Cmp.{Cmp}
+use Rattle.cj_expr.proofs.Common.{And, Cell, Cmp, Compare, Constant, None, Option, Or, Predicate, Some, Value, and_parts, cell, is_true_in, or_cases, relation_holds}
 use Rattle.cj_model.specs.declared.term.Cmp.TheVariants.{Eq, Ne, Lt, Le, Gt, Ge}
 use Rattle.cj_model.specs.Database.Values.{value_cmp, value_total, value_exact}
-use Rattle.cj_model.specs.Database.Tables.{cell}
-use Rattle.cj_model.specs.Database.Predicates.{Predicate, Constant, Cell, Compare, And, Or}
-use Rattle.cj_model.specs.Database.Evaluation.{is_true_in, relation_holds}
 use Rattle.cj_expr.specs.declared.reach.Reach.{Reach}
 use Rattle.cj_expr.specs.Reaches.{IsAsWide, IsCommon, ReachesAll, ReachesRows, flipped, holds_to, is_from, is_reached, starts_first}
 

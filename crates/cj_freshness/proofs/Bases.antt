@@ -2,20 +2,16 @@
 use Rattle.std.proofs.Common.{◌≡◌, ◌≢◌, ℕ, ◌<◌, Bool, true, false, cond, ◌&&◌, ◌||◌, ◌==◌, List, [], ◌∷◌, map, get_or, All, Option, option_map, None, Some, IfSome, Ok, Err, refl, ap, sym, ◌∙◌, subst, arith, ⊎_elim, is_eq}
 use Rattle.std.specs.Prelude.{is_none, find}
 use Rattle.std.specs.List.{list_any, cons_option}
-use Rattle.std.specs.Str.{bytes_eq}
 use Rattle.std.proofs.lemmas.Bool.{both_ways, cond_both, cond-false, ne_eqb, and_cases, eqb-false, or_parts}
 use Rattle.std.proofs.lemmas.Bool.Decides.{same_from_decides}
 use Rattle.std.proofs.lemmas.List.Elements.{All-head, All-tail}
 use Rattle.std.proofs.lemmas.Slice.Eq.{bytes_eq-Decides}
+use Rattle.cj_freshness.proofs.Common.{Act, Entry, NO_TABLE, Select, bytes_eq, database_of}
 use Rattle.cj_model.specs.declared.database.Table.{Table}
 use Rattle.cj_model.specs.declared.database.Draft.{Draft}
 use Rattle.cj_model.specs.declared.database.Slot.{Slot}
 use Rattle.cj_model.specs.declared.write.Write.{Write}
-use Rattle.cj_model.specs.declared.request.Act.{Act}
 use Rattle.cj_model.specs.declared.request.Act.TheVariants as act
-use Rattle.cj_model.specs.declared.request.Entry.{Entry}
-use Rattle.cj_model.specs.declared.select.Select.{Select}
-use Rattle.cj_model.specs.declared.codes.TheConstants.{NO_TABLE}
 use Rattle.cj_model.specs.Cluster.Placements.{Placement, hosts}
 use Rattle.cj_model.specs.Database.Tables.{IsTable, IsSlot, IsDatabase, by_table, table_of, slot_of, put_by}
 use Rattle.cj_model.specs.Database.Inserts.{Changed, refusal_of_code, refuse_if}
@@ -25,7 +21,6 @@ use Rattle.cj_model.specs.Database.Queries.{answer_over, tables_seen, asked_by, 
 use Rattle.cj_model.proofs.RisingLaws.{found_All, found_put}
 use Rattle.cj_model.proofs.DatabaseLaws.{by_table_total, is_eq-by_table, found_is_slot, commit_behind-name, abort_behind-name}
 use Rattle.cj_model.proofs.PartLaws.{found_name, found_in_part, IsElsewhere, acted_elsewhere}
-use Rattle.cj_cluster.specs.History.Histories.{database_of}
 use Rattle.cj_cluster.specs.History.Transactions.{AreFit, has_written}
 use Rattle.cj_cluster.proofs.DraftLaws.{OpenWriter, IsDrafted, all_drafted, run_storable}
 use Rattle.cj_freshness.specs.Freshness.{touches_behind}

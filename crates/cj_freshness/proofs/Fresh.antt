@@ -2,26 +2,19 @@
 use Rattle.std.proofs.Common.{◌≡◌, ℕ, ◌+◌, ◌<◌, ◌≤◌, Bool, true, false, not, cond, ◌||◌, List, [], ◌∷◌, ◌++◌, length, take, get_or, None, Some, refl, ap, sym, ◌∙◌, subst, arith, length-append, ⊎_elim, slice_get}
 use Rattle.std.specs.Prelude.{filter}
 use Rattle.std.specs.List.{list_any}
-use Rattle.std.specs.Option.{option_map_or}
-use Rattle.std.specs.Str.{bytes_eq}
 use Rattle.std.proofs.lemmas.Bool.{cases_lt, not-true}
 use Rattle.std.proofs.lemmas.List.Elements.{All-filter, filter_passes}
 use Rattle.std.proofs.lemmas.List.{take-append-le}
-use Rattle.std.proofs.lemmas.Option.{slice_get_cases}
 use Rattle.cj_model.specs.declared.answer.Answer.{Answer}
 use Rattle.cj_model.specs.declared.answer.Asked.TheVariants.{Rows}
 use Rattle.cj_model.specs.declared.cached.Cached.{Cached}
 use Rattle.cj_model.specs.declared.request.Act.TheVariants as act
-use Rattle.cj_model.specs.declared.request.Entry.{Entry}
-use Rattle.cj_model.specs.declared.select.Select.{Select}
 use Rattle.cj_model.specs.Cluster.Caching.{CacheState, answer_kept, needs_one_of, without_tables}
-use Rattle.cj_model.specs.Database.Queries.{ask}
 use Rattle.cj_model.proofs.CachingLaws.{kept_answer}
 use Rattle.cj_model.specs.Database.Outcomes.{IsAnswer}
-use Rattle.cj_cluster.specs.History.Histories.{database_of}
-use Rattle.cj_cluster.specs.History.Transactions.{AreFit}
 use Rattle.cj_cluster.proofs.Pushed.{get_left, get_seam}
 use Rattle.std.proofs.Math.Seq.{take-append_seam}
+use Rattle.cj_freshness.proofs.Common.{AreFit, Entry, Select, ask, bytes_eq, database_of, option_map_or, slice_get_cases}
 use Rattle.cj_freshness.specs.Freshness.{touches_behind, touches, touches_query, IsAnswerAt, IsFreshAnswer, FollowsLog, IsFreshCache, without_touched}
 use Rattle.cj_freshness.proofs.Stays.{ask_stays}
 

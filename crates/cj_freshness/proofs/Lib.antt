@@ -1,4 +1,5 @@
 pub mod Bases
+pub mod Common
 pub mod Fresh
 pub mod Stays
 pub mod Worked

@@ -1,13 +1,7 @@
 -- A query is answered the same as long as no entry touches a table that it needs.
 use Rattle.std.proofs.Common.{◌≡◌, ℕ, ◌+◌, ◌-◌, ◌<◌, ◌≤◌, zero, suc, false, List, length, take, None, Some, ap, sym, ◌∙◌, arith, ⊎_elim, slice_get}
-use Rattle.std.specs.Option.{option_map_or}
-use Rattle.std.proofs.lemmas.Option.{slice_get_cases}
-use Rattle.cj_model.specs.declared.request.Entry.{Entry}
-use Rattle.cj_model.specs.declared.select.Select.{Select}
+use Rattle.cj_freshness.proofs.Common.{AreFit, Entry, Select, ask, database_after, option_map_or, slice_get_cases}
 use Rattle.cj_model.specs.Database.Tables.{IsDatabase}
-use Rattle.cj_model.specs.Database.Queries.{ask}
-use Rattle.cj_cluster.specs.History.Histories.{database_after}
-use Rattle.cj_cluster.specs.History.Transactions.{AreFit}
 use Rattle.cj_cluster.proofs.DraftLaws.{run_storable}
 use Rattle.cj_cluster.proofs.PartRuns.{at_next}
 use Rattle.cj_cluster.proofs.TransactionLaws.{fit_take}

@@ -2,23 +2,18 @@
 use Rattle.std.proofs.Common.{◌≡◌, ℕ, Bool, pos, true, false, List, [], ◌∷◌, map, replicate, refl}
 use Rattle.std.specs.Prelude.{codes}
 use Rattle.std.specs.declared.option.Option.TheVariants.{None}
+use Rattle.cj_freshness.proofs.Common.{Act, Entry, NO_TABLE, Select, ask, database_after}
 use Rattle.cj_model.specs.declared.value.Value.{Value}
 use Rattle.cj_model.specs.declared.value.Value.TheVariants.{Int}
 use Rattle.cj_model.specs.declared.value.Kind.TheVariants as kind
 use Rattle.cj_model.specs.declared.term.Term.TheVariants.{Lit}
 use Rattle.cj_model.specs.declared.schema.Create.{Create}
 use Rattle.cj_model.specs.declared.select.Items.TheVariants as items
-use Rattle.cj_model.specs.declared.select.Select.{Select}
 use Rattle.cj_model.specs.declared.write.Write.TheVariants.{Insert}
-use Rattle.cj_model.specs.declared.request.Act.{Act}
 use Rattle.cj_model.specs.declared.request.Act.TheVariants as act
-use Rattle.cj_model.specs.declared.request.Entry.{Entry}
 use Rattle.cj_model.specs.declared.answer.Asked.{Asked}
 use Rattle.cj_model.specs.declared.answer.Asked.TheVariants.{Rows, Refused}
-use Rattle.cj_model.specs.declared.codes.TheConstants.{NO_TABLE}
 use Rattle.cj_model.specs.Database.Inserts.{refusal_of_code}
-use Rattle.cj_model.specs.Database.Queries.{ask}
-use Rattle.cj_cluster.specs.History.Histories.{database_after}
 use Rattle.cj_freshness.specs.Freshness.{touches}
 
 -- an entry of session 1

@@ -1,8 +1,8 @@
 -- The body of an item is a format: its bytes are those of items, and it holds the items.
 use Rattle.std.proofs.Common.{◌≡◌, ◌==◌, ℕ, ◌^◌, ◌<◌, false, nat_le, List, [], ◌∷◌, ◌++◌, length, Option, Some, None, Result, Err, refl, sym, ap, subst, ◌∙◌, arith, inl, inr}
 use Rattle.std.proofs.lemmas.List.{append-nil}
-use Rattle.std.specs.List.{AllByRecursion}
 use Rattle.std.proofs.lemmas.Bool.{cases_eq, eqb-true, ne_eqb, leb-true, le-leb, and_parts, and_from}
+use Rattle.cj_log.proofs.Common.{AllByRecursion, LogItem, bodies_of}
 use Rattle.cj_model.specs.declared.limits.TheConstants.{USER_LIMIT}
 use Rattle.cj_model.specs.Sql.Names.{is_text, IsNameOrEmpty}
 use Rattle.cj_codec.specs.declared.error.CodecError.{CodecError}
@@ -15,11 +15,9 @@ use Rattle.cj_codec.specs.Fields.{number16}
 use Rattle.cj_codec.proofs.Formats.{behind_law, mapped_law, pair_law, such_that_law, choice_law, choice_holds, nothing_law, one_reading}
 use Rattle.cj_codec.proofs.Held.{fields_hold}
 use Rattle.cj_log.specs.declared.error.ItemError.{ItemError}
-use Rattle.cj_log.specs.declared.item.LogItem.{LogItem}
 use Rattle.cj_log.specs.declared.item.LogItem.TheVariants.{Entry, Marker}
 use Rattle.cj_log.specs.Items.{backend_byte, item_bytes, IsBackend, IsItem, IsNoItem, BodiesFixItems}
 use Rattle.cj_log.specs.Proving.ItemFormats.{is_user, user, text, backend_of, backend, entry_from, entry_in, entry, marker_from, marker_in, marker, kind_of, fields_of, item, item_error, item_found, item_of, items_in, FindsItem}
-use Rattle.cj_log.specs.Logs.{bodies_of}
 
 -- ---- the law of formats
 

@@ -1,3 +1,4 @@
+pub mod Common
 pub mod ItemFormats
 pub mod Listed
 pub mod OneLog

@@ -1,14 +1,12 @@
 -- Bodies that are read one after the other.
 use Rattle.std.proofs.Common.{◌≡◌, ℕ, zero, suc, ◌+◌, ◌-◌, ◌^◌, ◌<◌, ◌≤◌, min, List, [], ◌∷◌, ◌++◌, length, take, drop, Some, sym, ap, subst, ◌∙◌, arith, length-append}
-use Rattle.std.specs.Prelude.{slice_get}
 use Rattle.std.specs.List.{flat_map, AllByRecursion}
 use Rattle.std.proofs.lemmas.List.{map-append, flat_map_more, take-append-drop, take_more}
 use Rattle.std.proofs.lemmas.Option.{slice_get_within, get_or_from_slice_get}
 use Rattle.std.proofs.lemmas.List.Concat.{flat_map-append}
+use Rattle.cj_log.proofs.Common.{IsItem, IsNoItem, LogItem, item_bytes, slice_get}
 use Rattle.cj_records.specs.RecordFiles.{record_bytes, front_bytes}
 use Rattle.cj_records.proofs.Reach.{length-record}
-use Rattle.cj_log.specs.declared.item.LogItem.{LogItem}
-use Rattle.cj_log.specs.Items.{item_bytes, IsItem, IsNoItem}
 use Rattle.cj_log.specs.Logs.{log_magic, bodies_of, BadIn}
 
 -- a list is what stands before an item, the item, and what stands behind it

@@ -1,10 +1,6 @@
 -- The bytes of a log are those of one list of items.
 use Rattle.std.proofs.Common.{◌≡◌, List, [], ◌∷◌, Ok, refl, ap, ◌∙◌}
-use Rattle.std.specs.List.{AllByRecursion}
-use Rattle.cj_model.proofs.Fields.{ok_is}
-use Rattle.cj_records.proofs.OneList.{one_list}
-use Rattle.cj_log.specs.declared.item.LogItem.{LogItem}
-use Rattle.cj_log.specs.Items.{item_bytes, IsItem}
+use Rattle.cj_log.proofs.Common.{AllByRecursion, IsItem, LogItem, item_bytes, ok_is, one_list}
 use Rattle.cj_log.specs.Logs.{log_magic, bodies_of, BytesFixItems}
 use Rattle.cj_log.proofs.ItemFormats.{one_item}
 

@@ -1,18 +1,12 @@
 -- What a stop leaves of a log.
 use Rattle.std.proofs.Common.{◌≡◌, ◌⊎◌, inl, inr, ⊎_elim, ℕ, Bool, true, false, List, [], ◌∷◌, ◌++◌, length, Ok, Err, refl, sym, ap, subst, ◌∙◌}
-use Rattle.std.specs.List.{AllByRecursion}
 use Rattle.std.proofs.lemmas.List.{map-append, append_cancel_left}
-use Rattle.cj_model.proofs.Fields.{ok_is}
-use Rattle.cj_outside.specs.Stores.{LeavesOnly}
+use Rattle.cj_log.proofs.Common.{AllByRecursion, IsBeforeOrAfter, IsItem, KeepsAtLeast, KeepsItems, LeavesOnly, LogItem, LogState, bodies_of, item_bytes, log_magic, ok_is, one_list}
 use Rattle.cj_records.specs.RecordFiles.{Finds}
-use Rattle.cj_records.proofs.OneList.{one_list}
 use Rattle.cj_records.specs.declared.error.RecordsError.{RecordsError}
 use Rattle.cj_records.specs.declared.error.RecordsError.TheVariants as errors
 use Rattle.cj_records.specs.Records.{RecordList, SameRecords}
 use Rattle.cj_records.specs.Records as records
-use Rattle.cj_log.specs.declared.item.LogItem.{LogItem}
-use Rattle.cj_log.specs.Items.{item_bytes, IsItem}
-use Rattle.cj_log.specs.Logs.{LogState, log_magic, bodies_of, KeepsAtLeast, KeepsItems, IsBeforeOrAfter}
 use Rattle.cj_log.specs.Proving.Keeping.{IsBody, AgreesWithRecords}
 use Rattle.cj_log.specs.Proving.ItemFormats.{item_of, items_in}
 use Rattle.cj_log.proofs.ItemFormats.{item_back, items_back}

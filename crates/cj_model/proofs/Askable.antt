@@ -1,8 +1,7 @@
 -- What is known of a SELECT that some text reads as.
 use Rattle.std.proofs.Common.{◌≡◌, sym, subst, List, ℕ}
-use Rattle.cj_model.specs.declared.select.Items.{Items}
+use Rattle.cj_model.proofs.Common.{Items, Select}
 use Rattle.cj_model.specs.declared.select.Items.TheVariants.{All as Whole, Listed}
-use Rattle.cj_model.specs.declared.select.Select.{Select}
 use Rattle.cj_model.specs.declared.request.Request.TheVariants as request
 use Rattle.cj_model.specs.Sql.Grammar.{Statement, select, select_meant, statement_meant, StatementFits, ItemsFit, TextReadsAs}
 use Rattle.cj_model.proofs.QueryLaws.{HasItems, IsAskable}

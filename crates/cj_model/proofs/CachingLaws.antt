@@ -1,16 +1,14 @@
 -- Laws of the result cache.
 use Rattle.std.proofs.Common.{◌≡◌, ◌<◌, ◌≤◌, ℕ, zero, suc, length, take, arith, true, false, not, cond, List, [], ◌∷◌, refl, ap, sym, ◌∙◌, subst, ⊎_elim}
 use Rattle.std.specs.Prelude.{⊤, All, IfSome, min}
-use Rattle.std.specs.List.{cons_option}
 use Rattle.std.specs.Option.{option_map}
 use Rattle.std.specs.declared.option.Option.{Option}
 use Rattle.std.specs.declared.option.Option.TheVariants.{None, Some}
 use Rattle.std.proofs.lemmas.List.{length-take}
 use Rattle.std.proofs.lemmas.List.Elements.{All-cons, All-filter, All-head, All-tail, All-take, filter_passes}
 use Rattle.std.proofs.lemmas.Bool.{both_ways, cases_Bool}
-use Rattle.cj_model.specs.declared.answer.Answer.{Answer}
+use Rattle.cj_model.proofs.Common.{Answer, Select, cons_option}
 use Rattle.cj_model.specs.declared.cached.Cached.{Cached}
-use Rattle.cj_model.specs.declared.select.Select.{Select}
 use Rattle.cj_model.specs.Proving.SameStatements.{same_statement-Decides}
 use Rattle.cj_model.proofs.FilterLaws.{find-filter}
 use Rattle.cj_model.specs.Cluster.Caching.{CacheState, brought_to_front, without_tables, cached_entry, is_entry_for, answer_kept, after_look, needs_one_of, after_keep, without}

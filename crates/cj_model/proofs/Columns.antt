@@ -1,8 +1,7 @@
 -- What is known of the columns of a CREATE TABLE that some text reads as.
 use Rattle.std.proofs.Common.{◌≡◌, sym, subst, ℕ, ◌≤◌, List, length}
-use Rattle.cj_model.specs.declared.schema.Create.{Create}
+use Rattle.cj_model.proofs.Common.{COLUMN_LIMIT, Create}
 use Rattle.cj_model.specs.declared.request.Request.TheVariants as request
-use Rattle.cj_model.specs.declared.limits.TheConstants.{COLUMN_LIMIT}
 use Rattle.cj_model.specs.Sql.Grammar.{Statement, create, statement_meant, StatementFits, TextReadsAs}
 
 of_statement : (s : Statement) (c : Create) → StatementFits s → request.Create c ≡ statement_meant s → length c.columns ≤ COLUMN_LIMIT

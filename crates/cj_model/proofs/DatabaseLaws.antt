@@ -2,28 +2,15 @@
 use Rattle.std.proofs.Common.{◌≡◌, ℕ, ◌<◌, ◌≤◌, true, not, eqb, nat_lt, List, [], ◌∷◌, length, map, refl, ap, sym, ◌∙◌, subst, is_eq, arith}
 use Rattle.std.specs.Prelude.{IfOk, IfSome, count_by, position, unwrap_or, is_some}
 use Rattle.std.specs.List.{position_or_len}
-use Rattle.std.specs.Str.{bytes_eq}
 use Rattle.std.specs.declared.option.Option.{Option}
 use Rattle.std.specs.declared.option.Option.TheVariants.{None, Some}
 use Rattle.std.specs.declared.result.Result.TheVariants.{Ok, Err}
-use Rattle.std.specs.Cmp.{IsTotalOrder}
 use Rattle.std.proofs.lemmas.Bool.{and_parts, eqb-true, eqb-false, ltb-true, cond_both}
 use Rattle.std.proofs.lemmas.Cmp.{on_total, nat_list_cmp_total}
-use Rattle.std.proofs.lemmas.List.{length-map}
-use Rattle.std.proofs.lemmas.List.Elements.{All-nil, All-filter, All-map, All-weaker}
 use Rattle.std.proofs.lemmas.Map.Text.{is_eq-slice_cmp}
-use Rattle.cj_model.specs.declared.schema.ColDef.{ColDef}
-use Rattle.cj_model.specs.declared.schema.Create.{Create}
-use Rattle.cj_model.specs.declared.database.Table.{Table}
-use Rattle.cj_model.specs.declared.database.Draft.{Draft}
-use Rattle.cj_model.specs.declared.database.Slot.{Slot}
-use Rattle.cj_model.specs.declared.write.Write.{Write}
-use Rattle.cj_model.specs.declared.request.Act.{Act}
+use Rattle.cj_model.proofs.Common.{Act, All-filter, All-map, All-nil, All-weaker, COLUMN_LIMIT, Changed, ColDef, Create, Draft, IsTotalOrder, Slot, Table, Write, bytes_eq, change, length-map}
 use Rattle.cj_model.specs.declared.request.Act.TheVariants as act
-use Rattle.cj_model.specs.declared.limits.TheConstants.{COLUMN_LIMIT}
 use Rattle.cj_model.specs.Database.Tables.{IsTable, IsSlot, IsDatabase, by_table, name_cmp, table_of, slot_of, is_distinct, column_names}
-use Rattle.cj_model.specs.Database.Inserts.{Changed}
-use Rattle.cj_model.specs.Database.Updates.{change}
 use Rattle.cj_model.specs.Database.Steps.{Stepped, seen_behind, seen, other_writer, with_table, table_written, write_done, write_unless_locked, write_in, written, make_schema, schema_of, empty_slot, created, drop_unless_locked, drop_in, dropped, commit_behind, committed, abort_behind, aborted, acted}
 use Rattle.cj_model.proofs.RisingLaws.{found_All, all_put, rises_put, rises_filter, rises_map}
 use Rattle.cj_model.proofs.TableLaws.{IsTableWith}

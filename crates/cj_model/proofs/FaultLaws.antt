@@ -4,8 +4,7 @@ use Rattle.std.specs.Int.{w32, from_be_bytes}
 use Rattle.std.proofs.lemmas.Bool.{ltb-true, ltb-false, lt-ltb, le-ltb, eqb-true, eqb-false, eq-eqb, ne_eqb, not-true, not-false}
 use Rattle.std.proofs.lemmas.Option.{same_Some}
 use Rattle.std.proofs.lemmas.List.{take-append-le, get_or_append_left, take-append-drop, take_at}
-use Rattle.cj_model.specs.declared.message.Message.{Message}
-use Rattle.cj_model.specs.declared.message.Message.TheVariants.{Login, Query, Stats, Quit}
+use Rattle.cj_model.proofs.Common.{Login, Message, Query, Quit, Stats}
 use Rattle.cj_model.specs.declared.message.FrameFault.{FrameFault}
 use Rattle.cj_model.specs.declared.message.FrameFault.TheVariants.{LengthZero, LengthOver, Kind, Payload}
 use Rattle.cj_model.specs.declared.limits.TheConstants.{FRAME_LIMIT}

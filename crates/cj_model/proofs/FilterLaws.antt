@@ -2,11 +2,9 @@
 use Rattle.std.proofs.Common.{◌≡◌, Bool, true, false, ◌&&◌, cond, List, [], ◌∷◌, map, refl, ap, sym, ◌∙◌, Ordering, Less, Equal, ⊎_elim}
 use Rattle.std.specs.Prelude.{All, filter, find, IfSome}
 use Rattle.std.specs.declared.option.Option.TheVariants.{Some}
-use Rattle.std.specs.Cmp.{IsTotalOrder}
 use Rattle.std.specs.Ordering.{match_ordering}
 use Rattle.std.proofs.lemmas.Bool.{both_ways, cases_Bool, cond_both, cond-true, cond-false, false_from_ne_true}
-use Rattle.std.proofs.lemmas.List.Elements.{All-cons, All-head, All-tail, All-filter}
-use Rattle.cj_model.specs.Database.Tables.{Rises, put_by}
+use Rattle.cj_model.proofs.Common.{All-cons, All-filter, All-head, All-tail, IsTotalOrder, Rises, put_by}
 use Rattle.cj_model.proofs.RisingLaws.{by_order}
 
 -- what is found passes the test

@@ -2,6 +2,7 @@ pub mod Askable
 pub mod BalanceLaws
 pub mod CachingLaws
 pub mod Columns
+pub mod Common
 pub mod DatabaseLaws
 pub mod FaultLaws
 pub mod Fields

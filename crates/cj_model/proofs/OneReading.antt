@@ -4,8 +4,7 @@ use Rattle.std.specs.List.{flat_map, AllByRecursion}
 use Rattle.std.specs.Int.{w16, w32}
 use Rattle.std.proofs.lemmas.List.{append-nil}
 use Rattle.std.proofs.lemmas.List.Concat.{flat_map-cons}
-use Rattle.cj_model.specs.declared.message.Message.{Message}
-use Rattle.cj_model.specs.declared.message.Message.TheVariants.{Login, Query, Stats, Quit}
+use Rattle.cj_model.proofs.Common.{Login, Message, Query, Quit, Stats}
 use Rattle.cj_model.specs.Wire.Fields.{str16}
 use Rattle.cj_model.specs.Wire.Frames.{message_body, frame, IsFramed, BeginsNoFrame, Frames, HasTexts}
 use Rattle.cj_model.proofs.Fields.{wide16, wide32, text_same}

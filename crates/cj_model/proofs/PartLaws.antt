@@ -1,31 +1,19 @@
 -- What a backend holds of a database: acts on its tables do to its part what they do to the whole, and queries over them are answered the same.
 use Rattle.std.proofs.Common.{◌≡◌, ℕ, Bool, true, false, cond, not, ◌||◌, List, [], ◌∷◌, map, refl, ap, sym, ◌∙◌, subst, Equal, is_eq}
 use Rattle.std.specs.Prelude.{IfSome, is_some, is_none, option_map}
-use Rattle.std.specs.List.{list_any, cons_option}
-use Rattle.std.specs.Str.{bytes_eq}
 use Rattle.std.specs.declared.option.Option.{Option}
 use Rattle.std.specs.declared.option.Option.TheVariants.{None, Some}
 use Rattle.std.specs.declared.result.Result.TheVariants.{Ok, Err}
 use Rattle.std.proofs.lemmas.Bool.{and_parts, cond_both, not-false}
-use Rattle.std.proofs.lemmas.List.Elements.{All-filter}
 use Rattle.std.proofs.lemmas.Slice.Eq.{bytes_eq-Decides}
-use Rattle.cj_model.specs.declared.schema.Create.{Create}
-use Rattle.cj_model.specs.declared.database.Table.{Table}
-use Rattle.cj_model.specs.declared.database.Draft.{Draft}
-use Rattle.cj_model.specs.declared.database.Slot.{Slot}
-use Rattle.cj_model.specs.declared.write.Write.{Write}
+use Rattle.cj_model.proofs.Common.{Act, All-filter, Changed, Create, Draft, Select, Slot, Table, Write, answer_over, ask, asked_by, bytes_eq, change, cons_option, list_any, refusal_of_code, refuse_if, tables_seen}
 use Rattle.cj_model.specs.declared.answer.Outcome.TheVariants.{Done}
-use Rattle.cj_model.specs.declared.request.Act.{Act}
 use Rattle.cj_model.specs.declared.request.Act.TheVariants as act
-use Rattle.cj_model.specs.declared.select.Select.{Select}
 use Rattle.cj_model.specs.declared.codes.TheConstants.{NO_TABLE, TABLE_EXISTS, BAD_COLUMNS}
 use Rattle.cj_model.specs.Database.Tables.{IsSlot, IsDatabase, by_table, table_of, slot_of, put_by}
 use Rattle.cj_model.specs.Database.Storable.{IsStorableSlot, IsStorable}
 use Rattle.cj_model.specs.Cluster.Placements.{Placement, hosts, hosts_all, part}
-use Rattle.cj_model.specs.Database.Inserts.{Changed, refusal_of_code, refuse_if}
-use Rattle.cj_model.specs.Database.Updates.{change}
 use Rattle.cj_model.specs.Database.Steps.{Stepped, refuse, seen, other_writer, with_table, table_written, write_done, write_unless_locked, write_in, written, make_schema, empty_slot, created, drop_unless_locked, drop_in, dropped, committed, aborted, acted}
-use Rattle.cj_model.specs.Database.Queries.{answer_over, tables_seen, asked_by, ask}
 use Rattle.cj_model.proofs.RisingLaws.{rises_filter}
 use Rattle.cj_model.proofs.FilterLaws.{found_passes, find-filter, filter-map, filter_swap, filter_after, filter-put_goes, filter-put_stays}
 use Rattle.cj_model.proofs.DatabaseLaws.{by_table_total, is_eq-by_table, with_table-name, commit_behind-name, abort_behind-name}

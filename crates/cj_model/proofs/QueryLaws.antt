@@ -5,25 +5,14 @@ use Rattle.std.specs.declared.option.Option.{Option}
 use Rattle.std.specs.declared.option.Option.TheVariants.{None, Some}
 use Rattle.std.specs.declared.result.Result.{Result}
 use Rattle.std.specs.declared.result.Result.TheVariants.{Ok, Err}
-use Rattle.std.specs.List.{list_any, cons_option}
 use Rattle.std.proofs.lemmas.Bool.{or_parts}
 use Rattle.std.proofs.lemmas.List.{length-map, length-append}
-use Rattle.std.proofs.lemmas.List.Elements.{All-nil, All-cons, All-head, All-tail}
-use Rattle.cj_model.specs.declared.value.Value.{Value}
-use Rattle.cj_model.specs.declared.schema.Column.{Column}
-use Rattle.cj_model.specs.declared.schema.Schema.{Schema}
-use Rattle.cj_model.specs.declared.database.Slot.{Slot}
-use Rattle.cj_model.specs.declared.database.Table.{Table}
-use Rattle.cj_model.specs.declared.select.Items.{Items}
+use Rattle.cj_model.proofs.Common.{All-cons, All-head, All-nil, All-tail, Answer, Column, Items, Refusal, Schema, Select, Slot, Table, Value, cons_option, list_any, refusal_of_code, refuse_if}
 use Rattle.cj_model.specs.declared.select.Items.TheVariants.{All as Whole, Listed}
-use Rattle.cj_model.specs.declared.select.Select.{Select}
-use Rattle.cj_model.specs.declared.answer.Answer.{Answer}
 use Rattle.cj_model.specs.declared.answer.Asked.TheVariants.{Rows}
-use Rattle.cj_model.specs.declared.answer.Refusal.{Refusal}
 use Rattle.cj_model.specs.declared.codes.TheConstants.{NO_TABLE, NO_COLUMN, BAD_COLUMNS, OVERFLOW, WRONG_TYPE}
 use Rattle.cj_model.specs.declared.limits.TheConstants.{ANSWER_LIMIT, COLUMN_LIMIT, ITEM_LIMIT, TABLE_LIMIT}
 use Rattle.cj_model.specs.Database.Tables.{IsTable, IsSlot, IsDatabase, slot_of}
-use Rattle.cj_model.specs.Database.Inserts.{refusal_of_code, refuse_if}
 use Rattle.cj_model.specs.Database.Steps.{seen}
 use Rattle.cj_model.specs.Database.Scopes.{Scope, scope_of, is_unknown_column, where_has_unknown_column, where_mixes_kinds, predicate_of}
 use Rattle.cj_model.specs.Database.Evaluation.{satisfies}

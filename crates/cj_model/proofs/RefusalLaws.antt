@@ -4,21 +4,11 @@ use Rattle.std.specs.Prelude.{IfErr}
 use Rattle.std.specs.declared.option.Option.{Option}
 use Rattle.std.specs.declared.result.Result.{Result}
 use Rattle.std.specs.declared.result.Result.TheVariants.{Ok, Err}
-use Rattle.cj_model.specs.declared.value.Value.{Value}
-use Rattle.cj_model.specs.declared.term.Term.{Term}
-use Rattle.cj_model.specs.declared.database.Slot.{Slot}
-use Rattle.cj_model.specs.declared.database.Table.{Table}
-use Rattle.cj_model.specs.declared.write.Write.{Write}
-use Rattle.cj_model.specs.declared.write.Write.TheVariants.{Insert, Update, Delete}
-use Rattle.cj_model.specs.declared.select.Select.{Select}
-use Rattle.cj_model.specs.declared.answer.Answer.{Answer}
+use Rattle.cj_model.proofs.Common.{Answer, Delete, Insert, Refusal, Select, Slot, Table, Term, Update, Value, Write, answer_over, ask, asked_by, change, tables_seen}
 use Rattle.cj_model.specs.declared.answer.Asked.{Asked}
 use Rattle.cj_model.specs.declared.answer.Asked.TheVariants as asked
-use Rattle.cj_model.specs.declared.answer.Refusal.{Refusal}
 use Rattle.cj_model.specs.declared.codes.TheConstants.{NO_TABLE, NO_COLUMN, BAD_COLUMNS, OVERFLOW, DUPLICATE, WRONG_TYPE, ROWS_FULL}
 use Rattle.cj_model.specs.Database.Inserts.{refusal_of_code, refuse_if, too_many_rows, with_rows, inserted}
-use Rattle.cj_model.specs.Database.Updates.{change}
-use Rattle.cj_model.specs.Database.Queries.{answer_over, tables_seen, asked_by, ask}
 
 -- where there is a refusal, P holds of it
 record Refuses {A : Type 0} (P : Refusal → Type 0) (r : Result A Refusal) : Type 0 where

@@ -1,26 +1,16 @@
 -- What a text reads as has names, texts and numbers that can be spelled.
 use Rattle.std.proofs.Common.{◌≡◌, refl, sym, subst, ℕ, zero, suc, ◌≤◌, ◌^◌, Bool, true, false, List, [], ◌∷◌, length, map, pos, negsuc, Option, Some, None, arith}
-use Rattle.std.proofs.lemmas.Bool.Decides.{nat_tests}
-use Rattle.std.proofs.lemmas.List.{length-map}
 use Rattle.std.proofs.lemmas.Str.Ascii.{lowercase-lowercase}
+use Rattle.cj_model.proofs.Common.{ColDef, ColRef, Expr, Items, Key, Select, Set, Term, Write, length-map, nat_tests}
 use Rattle.cj_model.specs.declared.token.Token.{Token}
 use Rattle.cj_model.specs.declared.token.Token.TheVariants as token
 use Rattle.cj_model.specs.declared.token.Symbol.TheVariants as symbol
 use Rattle.cj_model.specs.declared.value.Value.TheVariants as value
-use Rattle.cj_model.specs.declared.term.ColRef.{ColRef}
-use Rattle.cj_model.specs.declared.term.Term.{Term}
 use Rattle.cj_model.specs.declared.term.Term.TheVariants as term
-use Rattle.cj_model.specs.declared.term.Expr.{Expr}
 use Rattle.cj_model.specs.declared.term.Expr.TheVariants as expr
-use Rattle.cj_model.specs.declared.schema.ColDef.{ColDef}
 use Rattle.cj_model.specs.declared.select.Item.{Item}
 use Rattle.cj_model.specs.declared.select.Item.TheVariants as item
-use Rattle.cj_model.specs.declared.select.Items.{Items}
 use Rattle.cj_model.specs.declared.select.Items.TheVariants as items
-use Rattle.cj_model.specs.declared.select.Key.{Key}
-use Rattle.cj_model.specs.declared.select.Select.{Select}
-use Rattle.cj_model.specs.declared.write.Set.{Set}
-use Rattle.cj_model.specs.declared.write.Write.{Write}
 use Rattle.cj_model.specs.declared.write.Write.TheVariants as write
 use Rattle.cj_model.specs.declared.request.Request.{Request}
 use Rattle.cj_model.specs.declared.request.Request.TheVariants as request

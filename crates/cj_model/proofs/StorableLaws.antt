@@ -4,35 +4,14 @@ use Rattle.std.specs.Prelude.{All, IfOk, IfSome, fold, option_map, position, unw
 use Rattle.std.specs.declared.option.Option.{Option}
 use Rattle.std.specs.declared.option.Option.TheVariants.{None, Some}
 use Rattle.std.specs.declared.result.Result.TheVariants.{Ok, Err}
-use Rattle.std.specs.List.{list_any}
-use Rattle.std.specs.Str.{bytes_eq}
 use Rattle.std.proofs.lemmas.Bool.{and_from, or_parts, cases_lt, cond_both, le-leb, ltb-false}
 use Rattle.std.proofs.lemmas.List.{get_or_past}
 use Rattle.std.proofs.lemmas.List.Elements.{All-nil, All-cons, All-head, All-tail, All-set, All-weaker, All-filter, All-map, All-get_or}
-use Rattle.cj_model.specs.declared.value.Value.{Value}
-use Rattle.cj_model.specs.declared.value.Value.TheVariants.{Int}
-use Rattle.cj_model.specs.declared.term.Term.{Term}
-use Rattle.cj_model.specs.declared.term.Term.TheVariants.{Lit, Col, Now, Rand}
-use Rattle.cj_model.specs.declared.term.Expr.{Expr}
-use Rattle.cj_model.specs.declared.term.Expr.TheVariants.{One, Plus, Minus}
-use Rattle.cj_model.specs.declared.schema.Column.{Column}
-use Rattle.cj_model.specs.declared.schema.ColDef.{ColDef}
-use Rattle.cj_model.specs.declared.schema.Create.{Create}
-use Rattle.cj_model.specs.declared.database.Table.{Table}
-use Rattle.cj_model.specs.declared.database.Draft.{Draft}
-use Rattle.cj_model.specs.declared.database.Slot.{Slot}
-use Rattle.cj_model.specs.declared.write.Set.{Set}
-use Rattle.cj_model.specs.declared.write.Write.{Write}
-use Rattle.cj_model.specs.declared.write.Write.TheVariants.{Insert, Update, Delete}
+use Rattle.cj_model.proofs.Common.{Act, BAD_COLUMNS, COLUMN_LIMIT, Col, ColDef, Column, Condition, Create, DUPLICATE, Delete, Draft, Expr, Insert, Int, Lit, Minus, NAME_LIMIT, NO_COLUMN, Now, OVERFLOW, One, Plus, Predicate, ROW_LIMIT, Rand, Set, Slot, Table, Term, Update, Value, WRONG_TYPE, Write, bytes_eq, list_any}
 use Rattle.cj_model.specs.declared.request.Request.TheVariants as request
-use Rattle.cj_model.specs.declared.request.Act.{Act}
 use Rattle.cj_model.specs.declared.request.Act.TheVariants as act
-use Rattle.cj_model.specs.declared.codes.TheConstants.{NO_COLUMN, BAD_COLUMNS, DUPLICATE, OVERFLOW, WRONG_TYPE}
-use Rattle.cj_model.specs.declared.limits.TheConstants.{COLUMN_LIMIT, NAME_LIMIT, ROW_LIMIT}
 use Rattle.cj_model.specs.Sql.Names.{is_spelled_as_name, is_name}
 use Rattle.cj_model.specs.Sql.Literals.{IsConstant}
-use Rattle.cj_model.specs.Database.Conditions.{Condition}
-use Rattle.cj_model.specs.Database.Predicates.{Predicate}
 use Rattle.cj_model.specs.Database.Tables.{IsSlot, cell, by_key, by_table, table_of, slot_of, put_by, fits_columns}
 use Rattle.cj_model.specs.Sql.TermForms as t
 use Rattle.cj_model.specs.Sql.TermForms.{ConstForm, TermForm, ExprForm, EachFits, SomeFit, const_meant, term_meant, expr_meant, ConstFits, TermFits, ExprFits}

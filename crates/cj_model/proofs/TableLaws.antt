@@ -4,20 +4,9 @@ use Rattle.std.specs.Prelude.{All, IfOk, fold}
 use Rattle.std.specs.declared.option.Option.{Option}
 use Rattle.std.specs.declared.result.Result.{Result}
 use Rattle.std.specs.declared.result.Result.TheVariants.{Ok}
-use Rattle.std.specs.List.{list_any}
-use Rattle.std.specs.Cmp.{IsTotalOrder}
 use Rattle.std.proofs.lemmas.Bool.{ltb-false, or_parts, not-false, and_parts}
 use Rattle.std.proofs.lemmas.Cmp.{on_total}
-use Rattle.std.proofs.lemmas.List.{length-map}
-use Rattle.std.proofs.lemmas.List.Elements.{All-nil, All-cons, All-weaker}
-use Rattle.cj_model.specs.declared.value.Value.{Value}
-use Rattle.cj_model.specs.declared.term.Term.{Term}
-use Rattle.cj_model.specs.declared.schema.Column.{Column}
-use Rattle.cj_model.specs.declared.schema.Schema.{Schema}
-use Rattle.cj_model.specs.declared.database.Table.{Table}
-use Rattle.cj_model.specs.declared.answer.Refusal.{Refusal}
-use Rattle.cj_model.specs.declared.codes.TheConstants.{NO_COLUMN, BAD_COLUMNS, DUPLICATE, WRONG_TYPE}
-use Rattle.cj_model.specs.declared.limits.TheConstants.{ROW_LIMIT}
+use Rattle.cj_model.proofs.Common.{All-cons, All-nil, All-weaker, BAD_COLUMNS, Column, DUPLICATE, IsTotalOrder, NO_COLUMN, ROW_LIMIT, Refusal, Schema, Table, Term, Value, WRONG_TYPE, length-map, list_any}
 use Rattle.cj_model.specs.Database.Values.{kind_of, value_total}
 use Rattle.cj_model.specs.Database.Tables.{IsTable, cell, by_key, put_by, fits_columns, column_names, same_kind}
 use Rattle.cj_model.specs.Database.Inserts.{Changed, refusal_of_code, refuse_if, row_of, lists_unknown_column, lists_unevenly, has_key, has_key_twice, too_many_rows, with_rows, inserted}

@@ -3,30 +3,14 @@ use Rattle.std.proofs.Common.{◌≡◌, ◌≢◌, ℕ, zero, suc, Bool, true, 
 use Rattle.std.specs.Prelude.{IfOk, count_by, option_map, slice_set}
 use Rattle.std.specs.declared.option.Option.{Option}
 use Rattle.std.specs.declared.result.Result.TheVariants.{Ok}
-use Rattle.std.specs.List.{list_any}
 use Rattle.std.proofs.lemmas.Bool.{or_parts, not-false, and_parts, and_from, cond_both, eqb-false}
 use Rattle.std.proofs.lemmas.List.{length-map, get_or-set_other}
 use Rattle.std.proofs.lemmas.List.Sums.{length-filter, count_by-le-length}
-use Rattle.std.proofs.lemmas.List.Elements.{All-weaker, All-filter, All-map}
-use Rattle.cj_model.specs.declared.value.Value.{Value}
-use Rattle.cj_model.specs.declared.value.Value.TheVariants.{Int}
+use Rattle.cj_model.proofs.Common.{All-filter, All-map, All-weaker, BAD_COLUMNS, Changed, Col, Column, Condition, Delete, Expr, Insert, Int, Lit, Minus, NO_COLUMN, Now, OVERFLOW, One, Plus, Predicate, Rand, Set, Table, Term, Update, Value, WRONG_TYPE, Write, list_any, refusal_of_code, refuse_if}
 use Rattle.cj_model.specs.declared.value.Kind.{Kind}
 use Rattle.cj_model.specs.declared.value.Kind.TheVariants as kind
-use Rattle.cj_model.specs.declared.term.Term.{Term}
-use Rattle.cj_model.specs.declared.term.Term.TheVariants.{Lit, Col, Now, Rand}
-use Rattle.cj_model.specs.declared.term.Expr.{Expr}
-use Rattle.cj_model.specs.declared.term.Expr.TheVariants.{One, Plus, Minus}
-use Rattle.cj_model.specs.declared.schema.Column.{Column}
-use Rattle.cj_model.specs.declared.database.Table.{Table}
-use Rattle.cj_model.specs.declared.write.Set.{Set}
-use Rattle.cj_model.specs.declared.write.Write.{Write}
-use Rattle.cj_model.specs.declared.write.Write.TheVariants.{Insert, Update, Delete}
-use Rattle.cj_model.specs.declared.codes.TheConstants.{NO_COLUMN, BAD_COLUMNS, OVERFLOW, WRONG_TYPE}
 use Rattle.cj_model.specs.Database.Values.{kind_of, value_cmp}
-use Rattle.cj_model.specs.Database.Conditions.{Condition}
-use Rattle.cj_model.specs.Database.Predicates.{Predicate}
 use Rattle.cj_model.specs.Database.Tables.{IsTable, cell, by_key, fits_columns, same_kind}
-use Rattle.cj_model.specs.Database.Inserts.{Changed, refusal_of_code, refuse_if}
 use Rattle.cj_model.specs.Database.Scopes.{Scope, scope_of, column_place, column_kind_at, where_has_unknown_column, kind_of_term, kind_of_expr, adds_text, where_mixes_kinds, operand_of, formula_of, predicate_of}
 use Rattle.cj_model.specs.Database.Evaluation.{satisfies, operand_value, value_of}
 use Rattle.cj_model.specs.Database.Updates.{column_set, set_has_unknown_column, sets_twice, sets_key, set_mixes_kinds, Assignment, assignment_of, assigned, overflows, with_new_values, updated, without_rows, deleted, change}

@@ -4,27 +4,14 @@ use Rattle.std.specs.Prelude.{codes}
 use Rattle.std.specs.declared.option.Option.{Option}
 use Rattle.std.specs.declared.option.Option.TheVariants.{None, Some}
 use Rattle.std.specs.declared.result.Result.TheVariants.{Ok, Err}
-use Rattle.cj_model.specs.declared.value.Value.{Value}
+use Rattle.cj_model.proofs.Common.{BAD_COLUMNS, Col, ColRef, Delete, Items, Key, Lit, NO_COLUMN, OVERFLOW, One, Plus, Select, Slot, Table, Update, Value, WRONG_TYPE, ask, change, refusal_of_code}
 use Rattle.cj_model.specs.declared.value.Value.TheVariants.{Int, Text}
 use Rattle.cj_model.specs.declared.value.Kind.TheVariants as kind
 use Rattle.cj_model.specs.declared.term.Cmp.TheVariants.{Eq, Lt, Ge}
-use Rattle.cj_model.specs.declared.term.ColRef.{ColRef}
-use Rattle.cj_model.specs.declared.term.Term.TheVariants.{Lit, Col}
-use Rattle.cj_model.specs.declared.term.Expr.TheVariants.{One, Plus}
-use Rattle.cj_model.specs.declared.database.Slot.{Slot}
-use Rattle.cj_model.specs.declared.database.Table.{Table}
 use Rattle.cj_model.specs.declared.select.Item.TheVariants as item
-use Rattle.cj_model.specs.declared.select.Items.{Items}
 use Rattle.cj_model.specs.declared.select.Items.TheVariants.{Listed}
-use Rattle.cj_model.specs.declared.select.Key.{Key}
-use Rattle.cj_model.specs.declared.select.Select.{Select}
-use Rattle.cj_model.specs.declared.write.Write.TheVariants.{Update, Delete}
 use Rattle.cj_model.specs.declared.answer.Asked.TheVariants.{Rows, Refused}
-use Rattle.cj_model.specs.declared.codes.TheConstants.{NO_COLUMN, BAD_COLUMNS, OVERFLOW, WRONG_TYPE}
 use Rattle.cj_model.specs.Database.Conditions.{Condition, Test}
-use Rattle.cj_model.specs.Database.Inserts.{refusal_of_code}
-use Rattle.cj_model.specs.Database.Updates.{change}
-use Rattle.cj_model.specs.Database.Queries.{ask}
 
 abbrev int : ℕ → Value
 int n = Int (pos n)

@@ -1,17 +1,12 @@
 -- A front of the items of an opening history is that of a front of the history.
 use Rattle.std.proofs.Common.{◌≡◌, false, ℕ, suc, ◌+◌, List, [], ◌∷◌, ◌++◌, length, take, None, refl, ap, sym, ◌∙◌, subst, arith}
-use Rattle.std.specs.List.{list_any}
-use Rattle.std.specs.Str.{bytes_eq}
 use Rattle.std.proofs.Math.Seq.{take-append_seam}
 use Rattle.std.proofs.lemmas.Option.{slice_get_within, get_or_from_slice_get}
-use Rattle.cj_cluster.specs.declared.event.Event.{Event}
-use Rattle.cj_cluster.specs.declared.event.Event.TheVariants.{Sched, Ended, Marker}
+use Rattle.cj_opening.proofs.Common.{Ended, Event, LogEntry, LogItem, Marker, Sched, bytes_eq, list_any}
 use Rattle.cj_cluster.specs.History.Histories.{log, markers}
 use Rattle.cj_cluster.specs.History.Legality.{IsAllowedEvent, IsLegal}
 use Rattle.cj_cluster.proofs.Pushed.{get_seam, legal_prefix}
-use Rattle.cj_log.specs.declared.item.LogEntry.{LogEntry}
 use Rattle.cj_log.specs.declared.item.LogMarker.{LogMarker}
-use Rattle.cj_log.specs.declared.item.LogItem.{LogItem}
 use Rattle.cj_log.specs.declared.item.LogItem.TheVariants as items
 use Rattle.cj_opening.specs.Openings.{entry_item, marker_item, items_behind, IsOpening, OpensTo}
 use Rattle.cj_opening.specs.Proving.Steps.{Brings}

@@ -1,7 +1,5 @@
 -- What is kept of a history with one more item.
 use Rattle.std.proofs.Common.{◌≡◌, ◌≢◌, ℕ, ◌<◌, ◌≤◌, ◌||◌, Bool, true, false, cond, List, [], ◌∷◌, ◌++◌, length, get_or, slice_get, option_and_then, Option, None, Some, refl, ap, sym, ◌∙◌, subst, arith, append_assoc, length-append, ⊎_elim}
-use Rattle.std.specs.List.{list_any}
-use Rattle.std.specs.Str.{bytes_eq}
 use Rattle.std.specs.BTreeMap.{BTreeMap, is_at}
 use Rattle.std.specs.Cmp.Lexicographic.{slice_cmp}
 use Rattle.std.specs.Ordering.{is_eq, nat_cmp}
@@ -12,12 +10,9 @@ use Rattle.std.proofs.lemmas.Bool.{cases_eq}
 use Rattle.std.proofs.lemmas.List.{get_or_append_left}
 use Rattle.std.proofs.lemmas.List.Folds.{list_any-append}
 use Rattle.std.proofs.lemmas.Option.{slice_get_cases, slice_get_past, slice_get-get_or, option_and_then_some}
-use Rattle.cj_model.specs.declared.request.Entry.{Entry}
-use Rattle.cj_cluster.specs.declared.event.Event.{Event}
-use Rattle.cj_cluster.specs.declared.event.Event.TheVariants.{Sched, Ended, Marker}
+use Rattle.cj_opening.proofs.Common.{Ended, Entry, Event, Marker, Sched, SessionSoFar, bytes_eq, list_any}
 use Rattle.cj_cluster.specs.History.Histories.{scheduled_entry, log, marker_name, markers}
 use Rattle.cj_cluster.proofs.Pushed.{get_seam, get_left, log-sched, log-same, markers-marker, markers-same}
-use Rattle.cj_opening.specs.declared.sessions.SessionSoFar.{SessionSoFar}
 use Rattle.cj_opening.specs.declared.markers.MarkerName.{MarkerName}
 use Rattle.cj_opening.specs.Proving.MarkerOrder.{marker_cmp, named}
 use Rattle.cj_opening.specs.Proving.Keeping.{entry_at, KeepsPlaces, KeepsSessions, KeepsMarkers, Keeps}

@@ -7,16 +7,13 @@ use Rattle.std.proofs.lemmas.Bool.{cases_eq, eq-eqb, ne_eqb, cond-true, cond-fal
 use Rattle.std.proofs.lemmas.Bool.Decides.{nat_tests}
 use Rattle.std.proofs.lemmas.List.{get_or_push, get_or_append_left}
 use Rattle.std.proofs.lemmas.List.Elements.{All-push, All-weaker, All-nil}
-use Rattle.cj_model.specs.declared.request.Act.{Act}
+use Rattle.cj_opening.proofs.Common.{Act, Entry, FitsTx, IsAdministratorEntry, IsFitEntry, IsSessionEntry, SessionSoFar}
 use Rattle.cj_model.specs.declared.request.Act.TheVariants as act
-use Rattle.cj_model.specs.declared.request.Entry.{Entry}
 use Rattle.cj_model.specs.declared.limits.TheConstants.{REQUEST_LIMIT, SESSION_NUMBER_LIMIT}
 use Rattle.cj_cluster.specs.History.Histories.{tx_of}
-use Rattle.cj_cluster.specs.History.Legality.{FitsTx, IsFitEntry, IsSessionEntry, IsAdministratorEntry}
 use Rattle.cj_cluster.specs.History.Transactions.{is_begin, is_end}
 use Rattle.cj_cluster.specs.Moves.Moves.{entry_numbered}
 use Rattle.cj_cluster.proofs.TransactionLaws.{one_session, tx_of_begin, tx_of_begin_other, tx_of_end, tx_of_end_other, tx_of_else}
-use Rattle.cj_opening.specs.declared.sessions.SessionSoFar.{SessionSoFar}
 use Rattle.cj_opening.specs.Proving.Keeping.{IsNextSeq, session_in, tx_behind, KeepsSessions, Began, owner_of, session_behind}
 
 -- ---- the entry of a number

@@ -1,14 +1,13 @@
 -- An opening history grows by one item.
 use Rattle.std.proofs.Common.{◌≡◌, ℕ, suc, ◌+◌, ◌^◌, ◌≤◌, true, List, [], ◌∷◌, ◌++◌, length, refl, ap, sym, ◌∙◌, subst, arith, append_assoc, length-append}
 use Rattle.std.proofs.lemmas.Bool.{eq-eqb, both_ways}
+use Rattle.cj_opening.proofs.Common.{Event, LogItem}
 use Rattle.cj_model.specs.Cluster.Masks.{in_mask}
 use Rattle.cj_model.proofs.Masks.{has-zero}
-use Rattle.cj_cluster.specs.declared.event.Event.{Event}
 use Rattle.cj_cluster.specs.declared.event.Event.TheVariants.{Sched, Ended, ReadFailed, LogFailed, Disabled, Enabled, Marker}
 use Rattle.cj_cluster.specs.History.Histories.{log, ended_count, is_idle, masks_of_ends}
 use Rattle.cj_cluster.specs.History.Legality.{AreFitMasks, IsLegal}
 use Rattle.cj_cluster.proofs.Pushed.{free-sched, legal_push, length-ends}
-use Rattle.cj_log.specs.declared.item.LogItem.{LogItem}
 use Rattle.cj_log.specs.declared.item.LogItem.TheVariants as items
 use Rattle.cj_opening.specs.Openings.{entry_item, marker_item, items_behind, IsOpening, OpensTo, HasBadEntry}
 use Rattle.cj_opening.specs.Proving.Steps.{Brings, BringsNothing}

@@ -1,24 +1,11 @@
 -- Items open to one history at most, and have a bad entry or open.
 use Rattle.std.proofs.Common.{◌≡◌, ◌⊎◌, inl, inr, ℕ, ◌+◌, List, [], ◌∷◌, ◌++◌, length, Option, Some, refl, ap, sym, ◌∙◌, subst, append_assoc, ⊎_elim}
 use Rattle.std.specs.List.{AllByRecursion}
-use Rattle.cj_model.specs.declared.request.Act.{Act}
+use Rattle.cj_opening.proofs.Common.{Act, Ended, Entry, Event, IsAdministratorEntry, IsFitEntry, IsSessionEntry, IsWritten, LogEntry, LogItem, Marker, Request, Sched, act_of, canonical, canonical_reads_back, log, request_of, text_one}
 use Rattle.cj_model.specs.declared.request.Act.TheVariants as act
-use Rattle.cj_model.specs.declared.request.Request.{Request}
-use Rattle.cj_model.specs.declared.request.Entry.{Entry}
 use Rattle.cj_model.specs.Sql.Grammar.{TextReadsAs}
-use Rattle.cj_model.specs.Sql.PlainRequests.{request_of, act_of}
-use Rattle.cj_model.specs.Sql.WrittenRequests.{IsWritten}
-use Rattle.cj_print.specs.Canonical.{canonical}
-use Rattle.cj_print.proofs.CanonicalReads.{canonical_reads_back}
-use Rattle.cj_sql.proofs.OneReading.{text_one}
-use Rattle.cj_cluster.specs.declared.event.Event.{Event}
-use Rattle.cj_cluster.specs.declared.event.Event.TheVariants.{Sched, Ended, Marker}
-use Rattle.cj_cluster.specs.History.Histories.{log}
-use Rattle.cj_cluster.specs.History.Legality.{IsFitEntry, IsSessionEntry, IsAdministratorEntry}
 use Rattle.cj_cluster.specs.History.Transactions.{AreFitBehind}
 use Rattle.cj_cluster.proofs.TransactionLaws.{legal_fit}
-use Rattle.cj_log.specs.declared.item.LogEntry.{LogEntry}
-use Rattle.cj_log.specs.declared.item.LogItem.{LogItem}
 use Rattle.cj_log.specs.declared.item.LogItem.TheVariants as items
 use Rattle.cj_opening.specs.Openings.{entry_item, marker_item, items_behind, IsOpening, OpensTo, HasBadEntry, ItemsFixTheOpening, OpeningsAreGood, OneBadEntry}
 use Rattle.cj_opening.specs.Proving.Steps.{IsTextOf, IsNextEntry}

@@ -1,15 +1,9 @@
 -- The act of a text.
 use Rattle.std.proofs.Common.{◌≡◌, ℕ, true, List, Option, None, Some, ap, sym, ◌∙◌, subst}
-use Rattle.cj_model.specs.declared.request.Act.{Act}
+use Rattle.cj_opening.proofs.Common.{Act, IsWritten, Request, act_of, canonical, canonical_reads_back, is_plain, request_of, text_one}
 use Rattle.cj_model.specs.declared.request.Act.TheVariants as act
-use Rattle.cj_model.specs.declared.request.Request.{Request}
 use Rattle.cj_model.specs.declared.request.Request.TheVariants as request
 use Rattle.cj_model.specs.Sql.Grammar.{TextReadsAs, ReadsAsNothing}
-use Rattle.cj_model.specs.Sql.PlainRequests.{request_of, act_of, is_plain}
-use Rattle.cj_model.specs.Sql.WrittenRequests.{IsWritten}
-use Rattle.cj_print.specs.Canonical.{canonical}
-use Rattle.cj_print.proofs.CanonicalReads.{canonical_reads_back}
-use Rattle.cj_sql.proofs.OneReading.{text_one}
 use Rattle.cj_opening.specs.Proving.Steps.{IsTextOf, FindsAct}
 use Rattle.cj_opening.proofs.OneOpening.{act_back}
 

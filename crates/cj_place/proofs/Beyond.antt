@@ -1,22 +1,10 @@
 -- The masks of the rows tell whether a backend hosts a table that another doesn't.
 use Rattle.std.proofs.Common.{◌≡◌, ℕ, ◌<◌, ◌&&◌, ◌||◌, Bool, true, false, not, List, [], ◌∷◌, length, get_or, refl, sym, ap, ◌∙◌, ⊎_elim}
-use Rattle.std.specs.Prelude.{All}
-use Rattle.std.specs.declared.option.Option.{Option}
-use Rattle.std.specs.Option.{option_map_or}
-use Rattle.std.specs.List.{list_any, flat_map}
 use Rattle.std.proofs.lemmas.Bool.{cases_Bool, or_from, or_parts, true_from_ne_false, both_ways}
-use Rattle.std.proofs.lemmas.Cmp.{nat_list_cmp_total, tied_itself}
 use Rattle.std.proofs.lemmas.List.{get_or_default}
-use Rattle.std.proofs.lemmas.List.Concat.{flat_map-cons}
 use Rattle.std.proofs.lemmas.List.Elements.{All-head, All-tail, All-map}
 use Rattle.std.proofs.lemmas.List.Folds.{list_any-append, list_any_none}
-use Rattle.cj_model.specs.declared.placement.PlaceRow.{PlaceRow}
-use Rattle.cj_model.specs.Cluster.Masks.{in_mask}
-use Rattle.cj_model.specs.Cluster.Placements.{Hosting, Placement, hosts}
-use Rattle.cj_model.specs.Database.Tables.{Rises}
-use Rattle.cj_place.specs.declared.rows.HostRow.{HostRow}
-use Rattle.cj_place.specs.Layouts.{backend_number, by_row, hosts_beyond, placement_of, row_hostings}
-use Rattle.cj_place.specs.Kept.{IsMasked, given_rows, mask_in}
+use Rattle.cj_place.proofs.Common.{All, HostRow, Hosting, IsMasked, Option, PlaceRow, Placement, Rises, backend_number, by_row, flat_map, flat_map-cons, given_rows, hosts, hosts_beyond, in_mask, list_any, mask_in, nat_list_cmp_total, option_map_or, placement_of, row_hostings, tied_itself}
 use Rattle.cj_place.proofs.Halves.{found_here}
 use Rattle.cj_place.proofs.Parts.{none_beyond}
 use Rattle.cj_place.proofs.Placing.{any_map, part_hosts}

@@ -1,10 +1,8 @@
 -- Rows that are refused, and what hosts what.
 use Rattle.std.proofs.Common.{◌≡◌, ℕ, true, false, List, [], ◌∷◌, refl}
 use Rattle.std.specs.Prelude.{codes}
-use Rattle.std.specs.declared.option.Option.TheVariants.{None, Some}
+use Rattle.cj_place.proofs.Common.{None, PlaceRow, Some, hosts}
 use Rattle.cj_model.specs.declared.placement.Level.TheVariants.{Raidb0, Raidb1, Raidb2}
-use Rattle.cj_model.specs.declared.placement.PlaceRow.{PlaceRow}
-use Rattle.cj_model.specs.Cluster.Placements.{hosts}
 use Rattle.cj_place.specs.declared.error.PlaceError.TheVariants.{BackendCount, Twice, Stranger, NoHost, ManyHosts, NotAll}
 use Rattle.cj_place.specs.Layouts.{layout_of, last_host, placement_of, tables_at}
 use Rattle.cj_place.specs.Refusals.{refusal_of_placement}

@@ -4,10 +4,8 @@ use Rattle.std.specs.List.{list_all, range_with_len}
 use Rattle.std.proofs.lemmas.Bool.{and_from, and_left, and_parts, both_ways, cases_eq, cases_lt, eq-eqb, le-ltb, ne_eqb, not-true, true_from_ne_false}
 use Rattle.std.proofs.lemmas.List.FromFn.{get_or-range_with_len, length-range_with_len}
 use Rattle.std.proofs.lemmas.List.Folds.{list_all_at}
-use Rattle.cj_model.specs.Cluster.Masks.{in_mask}
-use Rattle.cj_model.specs.Cluster.Placements.{Placement, hosts}
+use Rattle.cj_place.proofs.Common.{Placement, hosts, in_mask, is_last_host}
 use Rattle.cj_model.proofs.MaskBits.{has-and}
-use Rattle.cj_place.specs.Layouts.{is_last_host}
 
 same_bool : (r s : Bool) → (r ≡ true → s ≡ true) → (s ≡ true → r ≡ true) → r ≡ s
 same_bool true s f g = sym (f refl)

@@ -1,16 +1,13 @@
 -- A part of a part: where a backend hosts no listed table beyond another, it holds of the other's part what it holds of the whole.
 use Rattle.std.proofs.Common.{◌≡◌, ℕ, ◌<◌, ◌==◌, ◌&&◌, ◌||◌, Bool, true, false, not, nat_lt, List, get_or, ap, sym, ◌∙◌, ⊎_elim}
-use Rattle.std.specs.List.{list_any}
-use Rattle.std.specs.Str.{bytes_eq}
 use Rattle.std.proofs.Math.Bool.{and-true}
 use Rattle.std.proofs.lemmas.Bool.{and_from, and_parts, and_right, both_ways, cases_Bool, false_from_ne_true, lt-ltb, not_from_true, or_left}
 use Rattle.std.proofs.lemmas.List.Folds.{Any-from_list_any, list_any_at, list_any_none}
-use Rattle.std.proofs.lemmas.Slice.Eq.{bytes_eq-Decides}
+use Rattle.cj_place.proofs.Common.{bytes_eq, bytes_eq-Decides, hosts_beyond, list_any}
 use Rattle.cj_model.specs.declared.database.Slot.{Slot}
 use Rattle.cj_model.specs.Database.Tables.{table_of}
 use Rattle.cj_model.specs.Cluster.Placements.{Hosting, Placement, hosts, part}
 use Rattle.cj_model.proofs.FilterLaws.{filter_after}
-use Rattle.cj_place.specs.Layouts.{hosts_beyond}
 
 -- a table that is listed with a backend, and passes a test, is a listed table that passes it
 listed_passes : (test : List ℕ → Bool) (table : List ℕ) (b : ℕ) (hostings : List Hosting) → list_any (λ (h : Hosting). bytes_eq h.table table && h.backend == b) hostings ≡ true → test table ≡ true → list_any (λ (h : Hosting). test h.table) hostings ≡ true

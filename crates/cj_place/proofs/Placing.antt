@@ -1,26 +1,14 @@
 -- Rows with their masks, put in their places, and looked up.
 use Rattle.std.proofs.Common.{◌≡◌, ℕ, ◌==◌, ◌&&◌, ◌||◌, Bool, true, false, cond, nat_lt, List, [], ◌∷◌, length, map, refl, sym, ap, ◌∙◌, subst, Less, Equal, Greater, ⊎_elim}
-use Rattle.std.specs.Prelude.{All, find, fold}
-use Rattle.std.specs.declared.option.Option.TheVariants.{Some}
 use Rattle.std.specs.Cmp.{IsTotalOrder}
-use Rattle.std.specs.Option.{option_map_or}
 use Rattle.std.specs.Ordering.{match_ordering}
-use Rattle.std.specs.List.{list_any, flat_map}
-use Rattle.std.specs.Str.{bytes_eq}
 use Rattle.std.proofs.lemmas.Bool.{and_left, and_parts, cases_Bool, false_from_ne_true, leb-true, or_from}
 use Rattle.std.proofs.lemmas.Cmp.{nat_list_cmp_total, on_total, tied_itself}
-use Rattle.std.proofs.lemmas.List.Concat.{flat_map-cons}
 use Rattle.std.proofs.lemmas.List.Elements.{All-head, All-tail}
 use Rattle.std.proofs.lemmas.List.Folds.{list_any-append}
-use Rattle.std.proofs.lemmas.Slice.Eq.{bytes_eq-Decides}
-use Rattle.cj_model.specs.declared.placement.PlaceRow.{PlaceRow}
-use Rattle.cj_model.specs.Cluster.Masks.{in_mask}
-use Rattle.cj_model.specs.Cluster.Placements.{Hosting, hosts}
-use Rattle.cj_model.specs.Database.Tables.{Rises, name_cmp, put_by}
+use Rattle.cj_place.proofs.Common.{All, HostRow, Hosting, PlaceRow, Rises, Some, backend_number, by_row, bytes_eq, bytes_eq-Decides, find, flat_map, flat_map-cons, fold, hosts, in_mask, list_any, name_cmp, option_map_or, placement_of, put_by, row_hostings}
 use Rattle.cj_model.proofs.Masks.{has-zero}
 use Rattle.cj_model.proofs.RisingLaws.{rises_put_each}
-use Rattle.cj_place.specs.declared.rows.HostRow.{HostRow}
-use Rattle.cj_place.specs.Layouts.{by_row, backend_number, placement_of, row_hostings}
 use Rattle.cj_place.specs.Kept.{IsKeptPlacement, IsMasked, by_given, given_rows, mask_in}
 use Rattle.cj_place.specs.Refusals.{has_count}
 

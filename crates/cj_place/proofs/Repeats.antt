@@ -1,11 +1,7 @@
 -- Tables that are named twice.
 use Rattle.std.proofs.Common.{◌≡◌, ℕ, ◌+◌, ◌<◌, true, false, ◌||◌, cond, List, [], ◌∷◌, ◌++◌, length, get_or, take, drop, map, refl, sym, ap, ◌∙◌}
-use Rattle.std.specs.declared.option.Option.{Option}
-use Rattle.std.specs.declared.option.Option.TheVariants.{Some}
-use Rattle.std.specs.List.{list_any}
-use Rattle.std.specs.Str.{bytes_eq}
 use Rattle.std.proofs.lemmas.List.{drop_more, take_more, map-append}
-use Rattle.cj_model.specs.declared.placement.PlaceRow.{PlaceRow}
+use Rattle.cj_place.proofs.Common.{Option, PlaceRow, Some, bytes_eq, list_any}
 use Rattle.cj_place.specs.Refusals.{is_among, repeated}
 
 abbrev pub tables : List PlaceRow → List (List ℕ)

@@ -1,13 +1,8 @@
 -- The canonical form of what a statement means means the same, and fits where the statement does.
 use Rattle.std.proofs.Common.{◌≡◌, ◌∙◌, refl, ap, ℕ, Bool, List, [], ◌∷◌, length, map, Option, Some, None, arith}
-use Rattle.std.proofs.lemmas.List.{length-map}
-use Rattle.cj_model.specs.declared.term.Expr.{Expr}
-use Rattle.cj_model.specs.declared.select.Key.{Key}
-use Rattle.cj_model.specs.declared.select.Select.{Select}
-use Rattle.cj_model.specs.declared.write.Set.{Set}
+use Rattle.cj_print.proofs.Common.{Condition, Expr, Key, Select, Set, length-map}
 use Rattle.cj_model.specs.declared.write.Write.TheVariants as write
 use Rattle.cj_model.specs.declared.request.Request.TheVariants as request
-use Rattle.cj_model.specs.Database.Conditions.{Condition}
 use Rattle.cj_model.specs.Sql.TermForms.{EachFits, SomeFit, const_meant, ConstFits}
 use Rattle.cj_model.specs.Sql.ConditionForms.{CondForm}
 use Rattle.cj_model.specs.Sql.Grammar as g

@@ -1,7 +1,6 @@
 -- Wherever some text reads as a request, its canonical text reads as it.
 use Rattle.std.proofs.Common.{refl, sym, subst, [], false}
-use Rattle.std.proofs.lemmas.List.{append-nil}
-use Rattle.cj_model.specs.Sql.Lexical.{Tokens}
+use Rattle.cj_print.proofs.Common.{Tokens, append-nil}
 use Rattle.cj_model.specs.Sql.Grammar.{Statement, statement_tokens, statement_meant, StatementFits, end_tokens, TextReadsAs}
 use Rattle.cj_print.specs.Canonical.{canonical, CanonicalReadsBack}
 use Rattle.cj_print.proofs.Forms.{form}

@@ -1,21 +1,13 @@
 -- The canonical text of a request has the tokens of its canonical form.
 use Rattle.std.proofs.Common.{◌≡◌, refl, sym, ap, subst, ℕ, suc, Bool, true, false, ◌||◌, List, [], ◌∷◌, ◌++◌, map, codes, pos, negsuc, Option, Some, None}
-use Rattle.std.specs.Fmt.{decimal}
-use Rattle.std.proofs.lemmas.List.{append-nil, append_assoc}
-use Rattle.cj_model.specs.declared.token.Keyword.{Keyword}
+use Rattle.cj_print.proofs.Common.{And, ColRef, Condition, Expr, Key, Keyword, Not, Or, Request, Select, Set, Symbol, Term, Test, Token, Tokens, Value, Write, append-nil, append_assoc, decimal}
 use Rattle.cj_model.specs.declared.token.Keyword.TheVariants as word
-use Rattle.cj_model.specs.declared.token.Symbol.{Symbol}
 use Rattle.cj_model.specs.declared.token.Symbol.TheVariants as symbol
-use Rattle.cj_model.specs.declared.token.Token.{Token}
 use Rattle.cj_model.specs.declared.token.Token.TheVariants as token
-use Rattle.cj_model.specs.declared.value.Value.{Value}
 use Rattle.cj_model.specs.declared.value.Value.TheVariants as value
 use Rattle.cj_model.specs.declared.value.Kind.{Kind}
 use Rattle.cj_model.specs.declared.value.Kind.TheVariants as kind
-use Rattle.cj_model.specs.declared.term.ColRef.{ColRef}
-use Rattle.cj_model.specs.declared.term.Term.{Term}
 use Rattle.cj_model.specs.declared.term.Term.TheVariants as term
-use Rattle.cj_model.specs.declared.term.Expr.{Expr}
 use Rattle.cj_model.specs.declared.term.Expr.TheVariants as expr
 use Rattle.cj_model.specs.declared.term.Cmp.{Cmp}
 use Rattle.cj_model.specs.declared.term.Cmp.TheVariants as cmp
@@ -24,15 +16,8 @@ use Rattle.cj_model.specs.declared.select.Item.{Item}
 use Rattle.cj_model.specs.declared.select.Item.TheVariants as item
 use Rattle.cj_model.specs.declared.select.Items.{Items}
 use Rattle.cj_model.specs.declared.select.Items.TheVariants as items
-use Rattle.cj_model.specs.declared.select.Key.{Key}
-use Rattle.cj_model.specs.declared.select.Select.{Select}
-use Rattle.cj_model.specs.declared.write.Set.{Set}
-use Rattle.cj_model.specs.declared.write.Write.{Write}
 use Rattle.cj_model.specs.declared.write.Write.TheVariants as write
-use Rattle.cj_model.specs.declared.request.Request.{Request}
 use Rattle.cj_model.specs.declared.request.Request.TheVariants as request
-use Rattle.cj_model.specs.Database.Conditions.{Condition, Test, Not, And, Or}
-use Rattle.cj_model.specs.Sql.Lexical.{Tokens}
 use Rattle.cj_model.specs.Sql.Literals.{literal, form_of}
 use Rattle.cj_model.specs.Sql.TermForms.{EachFits, commas, const_tokens, qualifier_tokens, col_tokens, term_tokens, expr_tokens}
 use Rattle.cj_model.specs.Sql.ConditionForms as c

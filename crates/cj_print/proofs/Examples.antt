@@ -1,20 +1,16 @@
 -- Statements of each kind, and their canonical texts, by computing.
 use Rattle.std.proofs.Common.{◌≡◌, refl, ℕ, true, false, List, [], ◌∷◌, codes, pos, negsuc, Some, None}
 use Rattle.std.specs.Fmt.{digits}
+use Rattle.cj_print.proofs.Common.{And, ColRef, Condition, Not, Or, Request, Term, Test, canonical}
 use Rattle.cj_model.specs.declared.value.Value.TheVariants as value
 use Rattle.cj_model.specs.declared.value.Kind.TheVariants as kind
-use Rattle.cj_model.specs.declared.term.ColRef.{ColRef}
-use Rattle.cj_model.specs.declared.term.Term.{Term}
 use Rattle.cj_model.specs.declared.term.Term.TheVariants as term
 use Rattle.cj_model.specs.declared.term.Expr.TheVariants as expr
 use Rattle.cj_model.specs.declared.term.Cmp.TheVariants as cmp
 use Rattle.cj_model.specs.declared.select.Item.TheVariants as item
 use Rattle.cj_model.specs.declared.select.Items.TheVariants as items
 use Rattle.cj_model.specs.declared.write.Write.TheVariants as write
-use Rattle.cj_model.specs.declared.request.Request.{Request}
 use Rattle.cj_model.specs.declared.request.Request.TheVariants as request
-use Rattle.cj_model.specs.Database.Conditions.{Condition, Test, Not, And, Or}
-use Rattle.cj_print.specs.Canonical.{canonical}
 
 abbrev col : List ℕ → ColRef
 col name = record { table = None; column = name }

@@ -1,17 +1,10 @@
 -- What is written of a request in its canonical text.
 use Rattle.std.proofs.Common.{Bool, true, false, map, pos, negsuc, Option, Some, None}
-use Rattle.cj_model.specs.declared.term.Term.{Term}
+use Rattle.cj_print.proofs.Common.{And, Condition, Expr, Key, Not, Or, Request, Select, Set, Term, Test, Write}
 use Rattle.cj_model.specs.declared.term.Term.TheVariants as term
-use Rattle.cj_model.specs.declared.term.Expr.{Expr}
 use Rattle.cj_model.specs.declared.term.Expr.TheVariants as expr
-use Rattle.cj_model.specs.declared.select.Key.{Key}
-use Rattle.cj_model.specs.declared.select.Select.{Select}
-use Rattle.cj_model.specs.declared.write.Set.{Set}
-use Rattle.cj_model.specs.declared.write.Write.{Write}
 use Rattle.cj_model.specs.declared.write.Write.TheVariants as write
-use Rattle.cj_model.specs.declared.request.Request.{Request}
 use Rattle.cj_model.specs.declared.request.Request.TheVariants as request
-use Rattle.cj_model.specs.Database.Conditions.{Condition, Test, Not, And, Or}
 use Rattle.cj_model.specs.Sql.Literals.{form_of}
 use Rattle.cj_model.specs.Sql.TermForms as t
 use Rattle.cj_model.specs.Sql.TermForms.{ConstForm, TermForm, ExprForm}

@@ -2,6 +2,7 @@ pub mod Appended
 pub mod CanonicalForm
 pub mod CanonicalReads
 pub mod CanonicalTokens
+pub mod Common
 pub mod Examples
 pub mod FewestParentheses
 pub mod Forms

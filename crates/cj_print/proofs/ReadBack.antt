@@ -1,12 +1,8 @@
 -- The literal of a value reads as that value.
 use Rattle.std.proofs.Common.{refl, sym, ℕ, suc, ◌≤◌, ◌<◌, ◌^◌, ◌==◌, List, [], ◌∷◌, length, arith, pos, negsuc}
-use Rattle.std.specs.Char.{is_ascii_digit}
-use Rattle.std.specs.Fmt.{decimal}
 use Rattle.std.proofs.lemmas.Fmt.{digits_decimal, digits_value-decimal, decimal_nonempty}
-use Rattle.std.proofs.lemmas.List.{append-nil}
-use Rattle.std.proofs.lemmas.Bool.Decides.{nat_tests}
+use Rattle.cj_print.proofs.Common.{Token, append-nil, decimal, is_ascii_digit, nat_tests}
 use Rattle.cj_model.specs.declared.token.Symbol.TheVariants as symbol
-use Rattle.cj_model.specs.declared.token.Token.{Token}
 use Rattle.cj_model.specs.declared.token.Token.TheVariants as token
 use Rattle.cj_model.specs.declared.value.Value.TheVariants as value
 use Rattle.cj_model.specs.Sql.Lexical.{EachByte, EndsBefore, IsDigits, Spells, EndsToken, Tokens}

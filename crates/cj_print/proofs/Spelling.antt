@@ -1,14 +1,9 @@
 -- How texts of a token or some are put before others.
 use Rattle.std.proofs.Common.{◌≡◌, refl, sym, ℕ, ◌≤◌, ◌^◌, ◌<◌, false, ◌==◌, List, [], ◌∷◌, ◌++◌, inl, codes, arith}
-use Rattle.std.specs.Fmt.{decimal}
-use Rattle.std.proofs.lemmas.List.{append_assoc}
-use Rattle.std.proofs.lemmas.Bool.Decides.{nat_tests}
 use Rattle.std.proofs.lemmas.Fmt.{digits_value-decimal}
-use Rattle.cj_model.specs.declared.token.Keyword.{Keyword}
+use Rattle.cj_print.proofs.Common.{Keyword, Symbol, Token, append_assoc, decimal, nat_tests}
 use Rattle.cj_model.specs.declared.token.Keyword.TheVariants as word
-use Rattle.cj_model.specs.declared.token.Symbol.{Symbol}
 use Rattle.cj_model.specs.declared.token.Symbol.TheVariants as symbol
-use Rattle.cj_model.specs.declared.token.Token.{Token}
 use Rattle.cj_model.specs.declared.token.Token.TheVariants as token
 use Rattle.cj_model.specs.Sql.Lexical.{is_word, EndsBefore, IsDigits, doubled, keyword, Spells, EndsToken, Tokens}
 use Rattle.cj_print.proofs.Texts.{numerals}

@@ -3,13 +3,10 @@ use Rattle.std.proofs.Common.{◌≡◌, ◌∙◌, refl, ap, subst, ℕ, ◌<�
 use Rattle.std.specs.Prelude.{All, IfSome, option_map, option_to_list, slice_index_or}
 use Rattle.std.specs.List.{list_all, enumerate_from}
 use Rattle.std.proofs.lemmas.Bool.{and_parts, leb-true}
-use Rattle.std.proofs.lemmas.Bool.Decides.{nat_tests}
-use Rattle.std.proofs.lemmas.List.{append-nil, length-map}
 use Rattle.std.proofs.lemmas.List.Elements.{All-nil, All-cons, All-head, All-tail, All-append}
 use Rattle.std.proofs.lemmas.List.FromFn.{length-enumerate_from}
-use Rattle.cj_model.specs.declared.value.Value.{Value}
+use Rattle.cj_print.proofs.Common.{Request, Term, Value, append-nil, canonical, length-map, nat_tests}
 use Rattle.cj_model.specs.declared.value.Value.TheVariants.{Int, Text}
-use Rattle.cj_model.specs.declared.term.Term.{Term}
 use Rattle.cj_model.specs.declared.term.Term.TheVariants.{Lit}
 use Rattle.cj_model.specs.declared.schema.Column.{Column}
 use Rattle.cj_model.specs.declared.schema.Schema.{Schema}
@@ -17,7 +14,6 @@ use Rattle.cj_model.specs.declared.database.Table.{Table}
 use Rattle.cj_model.specs.declared.database.Draft.{Draft}
 use Rattle.cj_model.specs.declared.database.Slot.{Slot}
 use Rattle.cj_model.specs.declared.write.Write.TheVariants.{Insert}
-use Rattle.cj_model.specs.declared.request.Request.{Request}
 use Rattle.cj_model.specs.declared.request.Request.TheVariants as request
 use Rattle.cj_model.specs.Sql.Names.{lower, begins_name, continues_name, is_spelled_as_name, is_name}
 use Rattle.cj_model.specs.Sql.Lexical.{is_letter, is_word, EachByte, IsWordSpelling, Tokens}
@@ -30,7 +26,6 @@ use Rattle.cj_model.specs.Sql.WrittenRequests.{IsWritten}
 use Rattle.cj_model.specs.Database.Storable.{IsFreeName, IsStorableTable, IsStorableSlot}
 use Rattle.cj_model.proofs.Spellable.{FineName, FineTerm, FineConst, FineColDef, FineRequest}
 use Rattle.cj_model.proofs.TableLaws.{table_is_even}
-use Rattle.cj_print.specs.Canonical.{canonical}
 use Rattle.cj_print.specs.Stored.{coldef_of, create_of, insert_of, tables_in, IsWrittenTable, StorableIsWritten}
 use Rattle.cj_print.proofs.CanonicalTokens.{canonical_spelled}
 use Rattle.cj_print.proofs.Forms.{const_form, form}

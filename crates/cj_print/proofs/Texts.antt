@@ -2,7 +2,6 @@
 use Rattle.std.proofs.Common.{◌≡◌, ◌∙◌, refl, ℕ, suc, ◌+◌, ◌-◌, ◌*◌, fold, ◌≤◌, ◌<◌, ◌^◌, Bool, true, false, not, ◌==◌, List, [], ◌∷◌, ◌++◌, length, cond, arith, rules, ℤ, pos, negsuc, Option, IsSome, inl, inr, get_or, take, ap, nat_lt}
 use Rattle.std.proofs.Math.Utf8.{scalar, scalars, encode, encodes, low_scalar}
 use Rattle.std.specs.Int.Signed.{mag}
-use Rattle.std.specs.Char.{is_ascii_digit}
 use Rattle.std.specs.List.{list_all}
 use Rattle.std.specs.Str.{IsUtf8, is_utf8}
 use Rattle.std.specs.Fmt.{decimal, signed_decimal}
@@ -12,8 +11,8 @@ use Rattle.std.proofs.lemmas.Str.Parse.{IsNumeralModel, numerals_by_fold}
 use Rattle.std.proofs.lemmas.List.{append-nil, take_more}
 use Rattle.std.proofs.lemmas.List.Folds.{list_all-append}
 use Rattle.std.proofs.lemmas.Bool.{and_parts, and_from, le-ltb, cases_lt, cond_both, ne_eqb}
-use Rattle.std.proofs.lemmas.Bool.Decides.{nat_tests}
 use Rattle.std.specs.Prelude.{nat_le}
+use Rattle.cj_print.proofs.Common.{is_ascii_digit, nat_tests}
 use Rattle.cj_model.specs.Sql.Names.{begins_name, continues_name, is_name, is_spelled_as_name, IsNameOrEmpty, is_text, IsText, text_of}
 use Rattle.cj_model.specs.Sql.Lexical.{EachByte, number_spelled, doubled}
 use Rattle.cj_print.specs.Ascii.{is_ascii_byte, IsAsciiText}

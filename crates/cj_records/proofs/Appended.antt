@@ -2,19 +2,12 @@
 use Rattle.std.proofs.Common.{◌≡◌, ◌≢◌, ◌⊎◌, ℕ, ◌+◌, ◌^◌, ◌<◌, ◌≤◌, Bool, true, false, List, [], ◌∷◌, ◌++◌, length, get_or, take, drop, Result, Ok, Err, refl, sym, ap, subst, ◌∙◌, append_assoc, arith, length-append, length-take}
 use Rattle.std.specs.Prelude.{IsErrAnd}
 use Rattle.std.proofs.lemmas.List.{take_at, drop_at, get_or_at, drop-drop}
-use Rattle.cj_outside.specs.declared.sink.OutError.{OutError}
+use Rattle.cj_records.proofs.Common.{AgreesWithStore, AllWithin, Appends, Laid, OutError, Place, Reaches, RecordList, RecordsError, Refuses, ShowsPart, bodies_at, body_at, body_behind, overwritten, str64}
 use Rattle.cj_outside.specs.declared.sink.OutError.TheVariants as out
-use Rattle.cj_outside.specs.Stores.{overwritten}
 use Rattle.cj_outside.specs.Streams.{most}
-use Rattle.cj_codec.specs.Fields.{str64}
-use Rattle.cj_records.specs.declared.place.Place.{Place}
-use Rattle.cj_records.specs.declared.error.RecordsError.{RecordsError}
 use Rattle.cj_records.specs.Refusals.{of_out}
 use Rattle.cj_records.specs.RecordFiles.{record_bytes}
 use Rattle.cj_records.specs.Proving.Parts.{KeepsFront, SameButGate, ShutsGate, WritesRecord}
-use Rattle.cj_records.specs.Proving.Places.{body_at, bodies_at, AllWithin, Reaches}
-use Rattle.cj_records.specs.Records.{RecordList, Appends, Refuses}
-use Rattle.cj_records.specs.Proving.Keeping.{body_behind, Laid, AgreesWithStore, ShowsPart}
 use Rattle.cj_records.proofs.Reach.{reaches_more, bodies_same, bodies_more, within_more, length-record}
 
 -- the records stay where the bytes before the gate stay

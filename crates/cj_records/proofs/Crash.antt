@@ -1,12 +1,8 @@
 -- What a stop at any moment of an append leaves.
 use Rattle.std.proofs.Common.{◌≡◌, ◌⊎◌, inl, inr, ⊎_elim, ℕ, ◌+◌, ◌≤◌, Bool, true, false, List, [], ◌∷◌, ◌++◌, length, Ok, Err, refl, sym, subst, arith}
-use Rattle.cj_outside.specs.declared.sink.OutError.{OutError}
+use Rattle.cj_records.proofs.Common.{Finds, IsBeforeOrAfter, OutError, Place, bodies_at}
 use Rattle.cj_outside.specs.Stores.{Torn, Only, Stepped, Steps, LeavesOnly, overwritten}
-use Rattle.cj_records.specs.declared.place.Place.{Place}
 use Rattle.cj_records.specs.Proving.Parts.{SameButGate, RecordStep, RecordSince, RecordImages}
-use Rattle.cj_records.specs.Proving.Places.{bodies_at}
-use Rattle.cj_records.specs.RecordFiles.{Finds}
-use Rattle.cj_records.specs.Records.{IsBeforeOrAfter}
 use Rattle.cj_records.specs.Proving.Keeping.{Laid, HasRecordBehind, body_behind, SurvivesStop}
 use Rattle.cj_records.proofs.Begun.{laid_finds}
 use Rattle.cj_records.proofs.Appended.{kept_at}

@@ -1,11 +1,9 @@
 -- What stands at a gate, by the bytes that were read from there on.
 use Rattle.std.proofs.Common.{◌≡◌, ℕ, suc, ◌+◌, ◌≤◌, List, ◌∷◌, ◌++◌, length, take, drop, sym, ap, ◌∙◌, append_assoc, arith, length-take, length-drop}
-use Rattle.std.specs.Int.{w64, to_be_bytes, from_be_bytes}
 use Rattle.std.proofs.lemmas.List.{take-append-drop, drop-drop}
-use Rattle.cj_codec.specs.Fields.{str64}
+use Rattle.cj_records.proofs.Common.{StandsAt, from_be_bytes, str64, to_be_bytes, w64}
 use Rattle.cj_model.proofs.Fields.{IsBytes, wide64}
 use Rattle.cj_records.specs.declared.gate.Gate.TheVariants.{Open}
-use Rattle.cj_records.specs.Proving.Places.{StandsAt}
 
 -- an open gate with a whole record behind it
 pub whole_stands : (size behind : List ℕ) (n : ℕ) → IsBytes size → size ≡ take 8 behind → 8 ≤ length size → n ≡ from_be_bytes w64 size → 9 + n ≤ suc (length behind) → StandsAt (1 ∷ behind) (Open n)

@@ -1,12 +1,10 @@
 -- Records that stand one after another, and what a write leaves of them.
 use Rattle.std.proofs.Common.{◌≡◌, ℕ, ◌+◌, ◌≤◌, List, [], ◌∷◌, ◌++◌, length, take, drop, refl, sym, ap, subst, ◌∙◌, arith, length-append}
 use Rattle.std.specs.List.{AllByRecursion}
-use Rattle.std.specs.Int.{w64, to_be_bytes}
 use Rattle.std.proofs.lemmas.List.{take-append-drop, take_at, take-take, drop-take, flat_map_more, map-append}
 use Rattle.std.proofs.Math.Seq.{take-add}
-use Rattle.cj_records.specs.declared.place.Place.{Place}
+use Rattle.cj_records.proofs.Common.{AllWithin, Place, Reaches, bodies_at, body_at, end_of, to_be_bytes, w64}
 use Rattle.cj_records.specs.RecordFiles.{record_bytes, front_bytes, HasLength, StartsWithRecords}
-use Rattle.cj_records.specs.Proving.Places.{body_at, bodies_at, end_of, AllWithin, Reaches}
 
 pub length-record : (body : List ℕ) → length (record_bytes body) ≡ 9 + length body
 length-record body = omega (arith, length-append (to_be_bytes w64 (length body)) body)

@@ -1,14 +1,12 @@
 -- What a stop may leave of records while one is appended.
 use Rattle.std.proofs.Common.{◌≡◌, ◌≢◌, ◌⊎◌, inl, inr, ℕ, ◌+◌, ◌<◌, false, List, [], ◌∷◌, ◌++◌, length, get_or, take, drop, Ok, refl, sym, ap, subst, ◌∙◌, append_assoc, arith, length-append, length-take}
-use Rattle.std.specs.Int.{w64, to_be_bytes, from_be_bytes}
 use Rattle.std.proofs.lemmas.Bool.{cases_eq}
 use Rattle.std.proofs.lemmas.List.{take_at, drop_at, drop-drop, drop_more, get_or-take, take-take, take-append-le}
+use Rattle.cj_records.proofs.Common.{Reaches, from_be_bytes, str64, to_be_bytes, w64}
 use Rattle.cj_outside.specs.Stores.{Torn, overwritten}
-use Rattle.cj_codec.specs.Fields.{str64}
 use Rattle.cj_model.proofs.Fields.{wide64}
 use Rattle.cj_records.specs.RecordFiles.{record_bytes, HasLength, IsClosed, Finds}
 use Rattle.cj_records.specs.Proving.Parts.{SameButGate}
-use Rattle.cj_records.specs.Proving.Places.{Reaches}
 use Rattle.cj_records.specs.Proving.Keeping.{Laid, HasRecordBehind, body_behind}
 use Rattle.cj_records.proofs.Reach.{reaches_more, length-record}
 use Rattle.cj_records.proofs.Begun.{walked_finds}

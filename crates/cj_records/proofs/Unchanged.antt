@@ -2,13 +2,9 @@
 use Rattle.std.proofs.Common.{◌≡◌, ℕ, zero, suc, ◌+◌, ◌<◌, ◌≤◌, Bool, true, List, [], ◌∷◌, length, get_or, drop, Result, Ok, Err, Some, refl, sym, ap, subst, ◌∙◌, arith, length-take, length-drop}
 use Rattle.std.specs.Prelude.{slice_get}
 use Rattle.std.specs.Global.{Vec}
-use Rattle.std.proofs.lemmas.List.{length-map}
-use Rattle.cj_records.specs.declared.place.Place.{Place}
-use Rattle.cj_records.specs.declared.error.RecordsError.{RecordsError}
+use Rattle.cj_records.proofs.Common.{AllWithin, Laid, Place, ReadsPart, RecordsError, bodies_at, body_at, body_behind, end_of, length-map}
 use Rattle.cj_records.specs.declared.error.RecordsError.TheVariants as errors
-use Rattle.cj_records.specs.Proving.Places.{body_at, bodies_at, end_of, AllWithin}
 use Rattle.cj_records.specs.Records.{RecordList, SameRecords, Reads}
-use Rattle.cj_records.specs.Proving.Keeping.{Laid, body_behind, ReadsPart}
 use Rattle.cj_records.proofs.Appended.{kept_at}
 
 pub same_then : {S : Type 0} (tells : Bool) (held : S → List ℕ) (a b c : RecordList S) → SameRecords tells held a b → SameRecords tells held b c → SameRecords tells held a c

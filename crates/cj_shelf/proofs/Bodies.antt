@@ -2,9 +2,8 @@
 use Rattle.std.proofs.Common.{◌≡◌, ◌≢◌, ℕ, List, [], ◌∷◌, ◌++◌, length, Ok, Err, refl, sym, ap, subst, ◌∙◌, append-nil}
 use Rattle.std.specs.List.{AllByRecursion}
 use Rattle.std.proofs.lemmas.List.{map-append}
+use Rattle.cj_shelf.proofs.Common.{Dump, ShelfError, one_list}
 use Rattle.cj_model.proofs.Fields.{ok_is, err_is}
-use Rattle.cj_records.proofs.OneList.{one_list}
-use Rattle.cj_dump.specs.declared.dump.Dump.{Dump}
 use Rattle.cj_dump.specs.declared.error.DumpError.{DumpError}
 use Rattle.cj_dump.specs.declared.error.DumpError.TheVariants.{Cut, BadField, Order, NoMemory}
 use Rattle.cj_dump.specs.DumpLayout.{dump}
@@ -13,7 +12,6 @@ use Rattle.cj_dump.specs.Layouts.{Reading}
 use Rattle.cj_dump.proofs.DumpLaws.{dump_law, dump_spelled}
 use Rattle.cj_dump.proofs.Dumped.{dump_fits}
 use Rattle.cj_dump.proofs.Decoded.{one_reading}
-use Rattle.cj_shelf.specs.declared.error.ShelfError.{ShelfError}
 use Rattle.cj_shelf.specs.Shelves.{shelf_magic, bodies_of, IsNoDump, BytesFixDumps}
 use Rattle.cj_shelf.specs.Proving.{refusal_at, FindsDump, read_dump, dumps_in, AreBodies}
 

@@ -1,4 +1,5 @@
 pub mod Bodies
+pub mod Common
 pub mod Listed
 pub mod Looked
 pub mod NoBytes

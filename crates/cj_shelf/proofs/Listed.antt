@@ -6,14 +6,10 @@ use Rattle.std.specs.List.{flat_map}
 use Rattle.std.proofs.lemmas.List.{map-append, flat_map_more, take-append-drop, take_more}
 use Rattle.std.proofs.lemmas.List.Concat.{flat_map-append}
 use Rattle.std.proofs.lemmas.Option.{slice_get_within, get_or_from_slice_get}
+use Rattle.cj_shelf.proofs.Common.{Dump, IsDump, Label, RecordList, ShelfError, dump_bytes}
 use Rattle.cj_records.specs.RecordFiles.{record_bytes, front_bytes}
-use Rattle.cj_records.specs.Records.{RecordList}
 use Rattle.cj_records.proofs.Reach.{length-record}
-use Rattle.cj_dump.specs.declared.dump.Dump.{Dump}
-use Rattle.cj_dump.specs.Dumps.{dump_bytes, IsDump}
-use Rattle.cj_shelf.specs.declared.error.ShelfError.{ShelfError}
 use Rattle.cj_shelf.specs.declared.error.ShelfError.TheVariants as errors
-use Rattle.cj_shelf.specs.declared.label.Label.{Label}
 use Rattle.cj_shelf.specs.Shelves.{shelf_magic, names_of, IsNoDump, BadIn}
 use Rattle.cj_shelf.specs.Proving.{dumps_in, AreBodies, Labels, AgreesWithRecords, FindsDump, LabelsOf}
 use Rattle.cj_shelf.proofs.Bodies.{bodies_more, dumps_are}

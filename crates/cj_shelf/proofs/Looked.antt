@@ -1,17 +1,12 @@
 -- A name among names, and the dump that has it.
 use Rattle.std.proofs.Common.{◌≡◌, ℕ, zero, suc, ◌+◌, ◌<◌, true, false, List, [], ◌∷◌, length, get_or, take, Option, None, Some, Result, Ok, Err, refl, sym, ap, subst, ◌∙◌, arith}
 use Rattle.std.specs.Prelude.{slice_get, is_some, option_map, IsErrAnd}
-use Rattle.std.specs.Str.{bytes_eq}
 use Rattle.std.proofs.lemmas.Bool.{or_parts}
 use Rattle.std.proofs.lemmas.List.{length-map}
 use Rattle.std.proofs.lemmas.List.Folds.{list_any-append}
 use Rattle.std.proofs.lemmas.Option.{slice_get-map, slice_get_read, slice_get_within}
-use Rattle.std.proofs.lemmas.Slice.Eq.{bytes_eq-Decides}
-use Rattle.cj_dump.specs.declared.dump.Dump.{Dump}
-use Rattle.cj_dump.specs.Dumps.{dump_bytes, IsDump}
-use Rattle.cj_shelf.specs.declared.error.ShelfError.{ShelfError}
+use Rattle.cj_shelf.proofs.Common.{Dump, IsDump, Label, ShelfError, bytes_eq, bytes_eq-Decides, dump_bytes}
 use Rattle.cj_shelf.specs.declared.error.ShelfError.TheVariants as errors
-use Rattle.cj_shelf.specs.declared.label.Label.{Label}
 use Rattle.cj_shelf.specs.Shelves.{bodies_of, names_of, is_among, first_of, GivesFirst}
 use Rattle.cj_shelf.specs.Proving.{labelled, IsFirstPlace, dumps_in, AreBodies, Labels, FindsDump}
 use Rattle.cj_shelf.proofs.Bodies.{one_dump}

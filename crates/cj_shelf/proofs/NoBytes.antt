@@ -1,9 +1,6 @@
 -- A shelf of no bytes: no record of it is bad.
 use Rattle.std.proofs.Common.{◌≡◌, inl, inr, List, [], ◌∷◌, length, Ok, Err, ℕ, refl, ap, arith, length-append}
-use Rattle.cj_model.proofs.Fields.{ok_is}
-use Rattle.cj_records.specs.RecordFiles.{Finds}
-use Rattle.cj_records.proofs.OneList.{one_list}
-use Rattle.cj_shelf.specs.declared.error.ShelfError.{ShelfError}
+use Rattle.cj_shelf.proofs.Common.{Finds, ShelfError, ok_is, one_list}
 use Rattle.cj_shelf.specs.declared.error.ShelfError.TheVariants as errors
 use Rattle.cj_shelf.specs.Shelves.{shelf_magic, bodies_of, BadIn, Opens}
 use Rattle.cj_shelf.specs.Proving.{IsNoBadRecord}

@@ -1,15 +1,8 @@
 -- What a stop leaves of a shelf.
 use Rattle.std.proofs.Common.{◌≡◌, inl, inr, ⊎_elim, ℕ, Bool, true, List, [], ◌∷◌, ◌++◌, length, Ok, ap, subst}
 use Rattle.std.proofs.lemmas.List.{append_cancel_left}
-use Rattle.cj_model.proofs.Fields.{ok_is}
-use Rattle.cj_outside.specs.Stores.{LeavesOnly}
-use Rattle.cj_records.specs.RecordFiles.{Finds}
-use Rattle.cj_records.proofs.OneList.{one_list}
-use Rattle.cj_records.specs.Records.{RecordList}
+use Rattle.cj_shelf.proofs.Common.{Dump, Finds, IsDump, Label, LeavesOnly, RecordList, dump_bytes, ok_is, one_list}
 use Rattle.cj_records.specs.Records as records
-use Rattle.cj_dump.specs.declared.dump.Dump.{Dump}
-use Rattle.cj_dump.specs.Dumps.{dump_bytes, IsDump}
-use Rattle.cj_shelf.specs.declared.label.Label.{Label}
 use Rattle.cj_shelf.specs.Shelves.{ShelfState, shelf_magic, KeepsAtLeast, KeepsDumps, IsBeforeOrAfter}
 use Rattle.cj_shelf.specs.Proving.{labelled, dumps_in, AreBodies, AgreesWithRecords}
 use Rattle.cj_shelf.proofs.Bodies.{bodies_more}

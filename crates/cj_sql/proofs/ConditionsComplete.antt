@@ -1,17 +1,13 @@
 -- A condition of the grammar is read.
 use Rattle.std.proofs.Common.{◌≡◌, refl, ℕ, zero, suc, ◌+◌, ◌-◌, ◌<◌, ◌≤◌, nat_lt, true, false, List, ◌∷◌, arith}
-use Rattle.std.proofs.lemmas.Bool.Decides.{nat_tests}
-use Rattle.cj_model.specs.declared.token.Token.{Token}
+use Rattle.cj_sql.proofs.Common.{AndsForm, AndsNest, Cmp, CondForm, CondNests, ConjForm, ConjNests, Connective, OrsForm, OrsNest, PrimForm, PrimNests, Token, ands_meant, ands_tokens, cmp_token, comparisons, cond_meant, cond_tokens, conj_meant, conj_tokens, nat_tests, ors_meant, ors_tokens, prim_meant, prim_tokens}
 use Rattle.cj_model.specs.declared.token.Token.TheVariants as token
 use Rattle.cj_model.specs.declared.token.Keyword.TheVariants as word
 use Rattle.cj_model.specs.declared.token.Symbol.TheVariants as symbol
-use Rattle.cj_model.specs.declared.term.Cmp.{Cmp}
 use Rattle.cj_model.specs.declared.term.Cmp.TheVariants as cmp
 use Rattle.cj_model.specs.Database.Conditions.{Condition, Test, Not, And, Or}
 use Rattle.cj_model.specs.Sql.TermForms.{TermForm, term_tokens, term_meant, TermFits}
-use Rattle.cj_model.specs.Sql.ConditionForms.{CondForm, OrsForm, ConjForm, AndsForm, PrimForm, cmp_token, cond_tokens, ors_tokens, conj_tokens, ands_tokens, prim_tokens, cond_meant, ors_meant, conj_meant, ands_meant, prim_meant, CondNests, OrsNest, ConjNests, AndsNest, PrimNests, comparisons}
 use Rattle.cj_model.specs.Sql.ConditionForms as form
-use Rattle.cj_sql.specs.declared.conditions.Connective.{Connective}
 use Rattle.cj_sql.specs.declared.conditions.Connective.TheVariants as connective
 use Rattle.cj_sql.specs.Proving.Reader.{read, same_word, same_symbol, sees_word, symbol_at, expect_symbol}
 use Rattle.cj_sql.specs.Proving.ConditionReader.{input_at, Conditions, comparison, compared, keyword_of, compound, more_connected, connected, conj, cond, parens, prim}

@@ -1,11 +1,9 @@
 -- What was read of the token at the front.
 use Rattle.std.proofs.Common.{◌≡◌, refl, ap, ℕ, true, List, [], ◌∷◌, drop, rules}
+use Rattle.cj_sql.proofs.Common.{Keyword, Symbol, Token}
 use denote.Enum.Bare.{same_true, true_same}
 use Rattle.cj_model.specs.contracts.token.Keyword as keyword_type
 use Rattle.cj_model.specs.contracts.token.Symbol as symbol_type
-use Rattle.cj_model.specs.declared.token.Keyword.{Keyword}
-use Rattle.cj_model.specs.declared.token.Symbol.{Symbol}
-use Rattle.cj_model.specs.declared.token.Token.{Token}
 use Rattle.cj_model.specs.declared.token.Token.TheVariants as token
 use Rattle.cj_sql.specs.Proving.Reader.{read, same_word, same_symbol, sees_word, sees_symbol, sees_end, expect_name, expect_number, expect_text, symbol_at, expect_word, expect_symbol}
 use Rattle.cj_sql.proofs.Binds.{branch, holds, fails}

@@ -1,4 +1,5 @@
 pub mod Binds
+pub mod Common
 pub mod ConditionsComplete
 pub mod ConditionsSound
 pub mod Filters

@@ -1,7 +1,6 @@
 -- A text reads as one request.
 use Rattle.std.proofs.Common.{◌≡◌, ℕ, List, subst}
-use Rattle.cj_model.specs.declared.token.Token.{Token}
-use Rattle.cj_model.specs.declared.request.Request.{Request}
+use Rattle.cj_sql.proofs.Common.{Request, Token}
 use Rattle.cj_model.specs.Sql.Grammar.{TextReadsAs, TokensReadAs}
 use Rattle.cj_lex.proofs.OneReading.{tokens_one}
 use Rattle.cj_sql.proofs.Statements.{whole_complete}

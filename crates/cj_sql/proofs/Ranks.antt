@@ -1,10 +1,8 @@
 -- What may follow a part of a statement: the rank of the token at the front says which parts it can't go on.
 use Rattle.std.proofs.Common.{◌≡◌, refl, ap, ℕ, ◌<◌, true, false, List, [], ◌∷◌, arith}
-use Rattle.cj_model.specs.declared.token.Keyword.{Keyword}
+use Rattle.cj_sql.proofs.Common.{Keyword, Symbol, Token}
 use Rattle.cj_model.specs.declared.token.Keyword.TheVariants as word
-use Rattle.cj_model.specs.declared.token.Symbol.{Symbol}
 use Rattle.cj_model.specs.declared.token.Symbol.TheVariants as symbol
-use Rattle.cj_model.specs.declared.token.Token.{Token}
 use Rattle.cj_model.specs.declared.token.Token.TheVariants as token
 use Rattle.cj_sql.specs.Proving.Reader.{sees_word, sees_symbol}
 use Rattle.cj_sql.proofs.Front.{word_seen, symbol_seen}

@@ -1,11 +1,9 @@
 -- The readers of the parts of a SELECT read exactly the forms of the grammar.
 use Rattle.std.proofs.Common.{◌≡◌, refl, ℕ, ◌^◌, ◌<◌, ◌≤◌, nat_lt, Bool, true, false, List, [], ◌∷◌, length, map, drop, Option, None, Some, arith}
-use Rattle.std.proofs.lemmas.Bool.Decides.{nat_tests}
-use Rattle.cj_model.specs.declared.token.Token.{Token}
+use Rattle.cj_sql.proofs.Common.{ColRef, Token, nat_tests}
 use Rattle.cj_model.specs.declared.token.Token.TheVariants as token
 use Rattle.cj_model.specs.declared.token.Keyword.TheVariants as word
 use Rattle.cj_model.specs.declared.token.Symbol.TheVariants as symbol
-use Rattle.cj_model.specs.declared.term.ColRef.{ColRef}
 use Rattle.cj_model.specs.declared.select.Item.{Item}
 use Rattle.cj_model.specs.declared.select.Item.TheVariants as item_of
 use Rattle.cj_model.specs.declared.select.Items.{Items}

@@ -2,15 +2,12 @@
 use Rattle.std.proofs.Common.{◌≡◌, refl, ℕ, ◌<◌, Bool, true, false, not, ◌||◌, ◌==◌, List, [], ◌∷◌, length, drop, Option, None, Some, arith}
 use Rattle.std.proofs.lemmas.Bool.Decides.{Decides-eqb}
 use Rattle.std.proofs.lemmas.Bool.{and_parts, and_from}
-use Rattle.cj_model.specs.declared.token.Token.{Token}
+use Rattle.cj_sql.proofs.Common.{ColRef, CondForm, Request, Token}
 use Rattle.cj_model.specs.declared.token.Token.TheVariants as token
 use Rattle.cj_model.specs.declared.token.Keyword.TheVariants as word
-use Rattle.cj_model.specs.declared.term.ColRef.{ColRef}
-use Rattle.cj_model.specs.declared.request.Request.{Request}
 use Rattle.cj_model.specs.declared.request.Request.TheVariants as request
 use Rattle.cj_model.specs.Database.Tables.{is_distinct}
 use Rattle.cj_model.specs.Sql.TermForms.{commas, SomeFit, AnyFits}
-use Rattle.cj_model.specs.Sql.ConditionForms.{CondForm}
 use Rattle.cj_model.specs.Sql.Grammar.{SelectForm, KeyForm, name_tokens, where_tokens, group_tokens, order_tokens, limit_tokens, select_tokens, select_meant, is_aggregate_query, SelectFits}
 use Rattle.cj_sql.specs.Proving.Reader.{read, same_word, expect_name, expect_word, items}
 use Rattle.cj_sql.specs.Proving.SelectReader.{is_allowed_select, select}

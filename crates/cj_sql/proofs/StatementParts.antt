@@ -1,12 +1,11 @@
 -- The readers of columns, tuples, lists of names and assignments read exactly the forms of the grammar.
 use Rattle.std.proofs.Common.{◌≡◌, refl, ℕ, ◌<◌, Bool, true, false, List, ◌∷◌, map, drop, Option, None, Some, arith}
-use Rattle.cj_model.specs.declared.token.Token.{Token}
+use Rattle.cj_sql.proofs.Common.{Term, Token}
 use Rattle.cj_model.specs.declared.token.Token.TheVariants as token
 use Rattle.cj_model.specs.declared.token.Keyword.TheVariants as word
 use Rattle.cj_model.specs.declared.token.Symbol.TheVariants as symbol
 use Rattle.cj_model.specs.declared.value.Kind.{Kind}
 use Rattle.cj_model.specs.declared.value.Kind.TheVariants as kind
-use Rattle.cj_model.specs.declared.term.Term.{Term}
 use Rattle.cj_model.specs.declared.schema.ColDef.{ColDef}
 use Rattle.cj_model.specs.declared.write.Set.{Set}
 use Rattle.cj_model.specs.Sql.TermForms.{ConstForm, commas, SomeFit, AnyFits, const_tokens, const_meant, ConstFits}

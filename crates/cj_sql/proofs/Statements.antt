@@ -1,10 +1,9 @@
 -- The readers of statements and requests read exactly the forms of the grammar.
 use Rattle.std.proofs.Common.{◌≡◌, ◌∙◌, refl, sym, ap, subst, ◌<◌, Bool, true, false, cond, List, [], ◌∷◌, drop, arith}
-use Rattle.cj_model.specs.declared.token.Token.{Token}
+use Rattle.cj_sql.proofs.Common.{Request, Token}
 use Rattle.cj_model.specs.declared.token.Token.TheVariants as token
 use Rattle.cj_model.specs.declared.token.Keyword.TheVariants as word
 use Rattle.cj_model.specs.declared.token.Symbol.TheVariants as symbol
-use Rattle.cj_model.specs.declared.request.Request.{Request}
 use Rattle.cj_model.specs.Sql.TermForms.{commas}
 use Rattle.cj_model.specs.Sql.Grammar.{SetForm, Statement, tuple_tokens, where_tokens, statement_tokens, statement_meant, StatementFits, end_tokens, TokensReadAs}
 use Rattle.cj_model.specs.Sql.Grammar as grammar

@@ -1,15 +1,10 @@
 -- The readers of constants, columns, terms and expressions read exactly the forms of the grammar.
 use Rattle.std.proofs.Common.{◌≡◌, refl, sym, subst, ℕ, ◌^◌, ◌<◌, nat_lt, nat_le, true, false, ◌&&◌, List, ◌∷◌, drop, Option, None, Some, arith}
-use Rattle.std.proofs.lemmas.Bool.Decides.{nat_tests}
 use Rattle.std.proofs.lemmas.Bool.{and_parts}
-use Rattle.cj_model.specs.declared.token.Token.{Token}
+use Rattle.cj_sql.proofs.Common.{ColRef, Keyword, Symbol, Term, Token, nat_tests}
 use Rattle.cj_model.specs.declared.token.Token.TheVariants as token
-use Rattle.cj_model.specs.declared.token.Keyword.{Keyword}
 use Rattle.cj_model.specs.declared.token.Keyword.TheVariants as word
-use Rattle.cj_model.specs.declared.token.Symbol.{Symbol}
 use Rattle.cj_model.specs.declared.token.Symbol.TheVariants as symbol
-use Rattle.cj_model.specs.declared.term.ColRef.{ColRef}
-use Rattle.cj_model.specs.declared.term.Term.{Term}
 use Rattle.cj_model.specs.declared.term.Expr.{Expr}
 use Rattle.cj_model.specs.Sql.TermForms.{AnyFits, ConstForm, TermForm, ExprForm, const_tokens, const_meant, ConstFits, qualifier_tokens, col_tokens, term_tokens, term_meant, TermFits, expr_tokens, expr_meant, ExprFits}
 use Rattle.cj_model.specs.Sql.TermForms as form

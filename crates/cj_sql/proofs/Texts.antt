@@ -2,8 +2,7 @@
 use Rattle.std.proofs.Common.{◌≡◌, subst, ℕ, List, Ok, Err, Result}
 use Rattle.std.specs.declared.alloc.Global.{Global}
 use Rattle.std.specs.declared.collections.VecDeque.{VecDeque}
-use Rattle.cj_model.specs.declared.token.Token.{Token}
-use Rattle.cj_model.specs.declared.request.Request.{Request}
+use Rattle.cj_sql.proofs.Common.{Request, Token}
 use Rattle.cj_model.specs.Sql.Grammar.{TextReadsAs}
 use Rattle.cj_model.specs.Sql.Grammar as grammar
 use Rattle.cj_model.specs.Sql.Lexical.{Tokens}

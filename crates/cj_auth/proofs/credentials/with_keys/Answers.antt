@@ -1,11 +1,7 @@
 use Rattle.std.proofs.Common.{◌≡◌, ◌≤◌, ◌++◌, List, length, true, ap, sym, ◌∙◌, subst}
-use Rattle.std.specs.Prelude.{All}
 use Rattle.std.proofs.lemmas.List.Elements.{All-push, All-rest}
-use Rattle.cj_model.specs.declared.account.Account.{Account}
+use Rattle.cj_auth.proofs.Common.{Account, All, Credential, HasKey, IsUserName, accounts_of, is_digest}
 use Rattle.cj_model.specs.declared.limits.TheConstants.{USER_LIMIT}
-use Rattle.cj_auth.specs.declared.credentials.Credential.{Credential}
-use Rattle.cj_auth.specs.Digests.{is_digest}
-use Rattle.cj_auth.specs.Kept.{HasKey, IsUserName, accounts_of}
 use Rattle.cj_auth.proofs.Keeping.{one_more}
 use Rattle.cj_auth.proofs.credentials.with_keys.Goals as goal
 

@@ -1,10 +1,6 @@
 use Rattle.std.proofs.Common.{◌≡◌, ◌++◌, true}
-use Rattle.std.specs.Prelude.{All}
-use Rattle.cj_model.specs.declared.account.Account.{Account}
+use Rattle.cj_auth.proofs.Common.{Account, All, Credential, HasKey, IsUserName, accounts_of, is_digest}
 use Rattle.cj_model.specs.Cluster.Accounts.{HasShortUsers}
-use Rattle.cj_auth.specs.declared.credentials.Credential.{Credential}
-use Rattle.cj_auth.specs.Digests.{is_digest}
-use Rattle.cj_auth.specs.Kept.{HasKey, IsUserName, accounts_of}
 use Rattle.cj_auth.proofs.credentials.with_keys.Given as goal
 
 abbrev pub invariant-loop-account : goal.invariant-loop-account

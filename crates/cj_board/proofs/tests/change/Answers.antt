@@ -1,12 +1,7 @@
 use Rattle.std.proofs.Common.{◌≡◌, ◌<◌, ◌++◌, ◌∷◌, [], ℕ, ap, sym, ◌∙◌, subst, arith}
 use Rattle.std.specs.Prelude.{List, Contains}
-use Rattle.cj_cluster.specs.declared.event.Event.{Event}
-use Rattle.cj_cluster.specs.declared.event.Event.TheVariants.{Sched, Ended, Enabled}
-use Rattle.cj_cluster.specs.History.Legality.{IsLegal}
-use Rattle.cj_board.specs.declared.view.SeatView.{SeatView}
-use Rattle.cj_board.specs.Points.{fault_tokens_of, max_word}
+use Rattle.cj_board.proofs.Common.{Enabled, Ended, Event, HasPositionNotes, IsLegal, Sched, SeatView, fault_tokens_of, max_word}
 use Rattle.cj_board.specs.Seats.{book_view, history}
-use Rattle.cj_board.specs.Steps.{HasPositionNotes}
 use Rattle.cj_board.proofs.Rows.{blamed_row, legal_row, open_row, stands_row}
 use Rattle.cj_board.proofs.tests.change.Goals as goal
 

@@ -1,7 +1,6 @@
 use Rattle.std.proofs.Common.{ℕ, sym, subst}
 use Rattle.std.specs.Prelude.{Contains}
-use Rattle.std.proofs.lemmas.List.Elements.{Contains-append_left, Contains-append_right}
-use Rattle.cj_board.specs.declared.view.SeatView.{SeatView}
+use Rattle.cj_board.proofs.Common.{Contains-append_left, Contains-append_right, SeatView}
 use Rattle.cj_board.specs.Seats.{position}
 use Rattle.cj_board.proofs.tests.hear_both.Goals as goal
 

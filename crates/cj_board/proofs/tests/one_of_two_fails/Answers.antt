@@ -1,8 +1,6 @@
 use Rattle.std.proofs.Common.{◌≡◌, ◌≤◌, ℕ, Bool, true, false, List, [], length, None, Some, sym, ◌∙◌, subst, arith}
 use Rattle.std.specs.Prelude.{if◌then◌else◌}
-use Rattle.cj_model.specs.declared.limits.TheConstants.{USER_LIMIT}
-use Rattle.cj_model.specs.declared.request.Entry.{Entry}
-use Rattle.cj_cluster.specs.History.Legality.{IsFitEntry}
+use Rattle.cj_board.proofs.Common.{Entry, IsFitEntry, USER_LIMIT}
 use Rattle.cj_board.proofs.Rows.{first_fits}
 use Rattle.cj_board.proofs.tests.one_of_two_fails.Goals as goal
 

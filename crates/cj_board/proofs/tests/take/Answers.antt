@@ -1,9 +1,7 @@
 use Rattle.std.proofs.Common.{◌≡◌, ◌<◌, ap, sym, ◌∙◌, subst}
 use mathlib.Core.List.{IsPrefix}
-use Rattle.cj_cluster.specs.declared.event.Event.{Event}
 use Rattle.std.specs.Prelude.{List, length}
-use Rattle.cj_cluster.specs.History.Histories.{log}
-use Rattle.cj_board.specs.declared.view.SeatView.{SeatView}
+use Rattle.cj_board.proofs.Common.{Event, SeatView, log}
 use Rattle.cj_board.specs.Seats.{history, position, seen}
 use Rattle.cj_board.specs.Views.{role_position}
 use Rattle.cj_board.proofs.Rows.{sees_one}

@@ -2,8 +2,7 @@ use Rattle.std.proofs.Common.{rules, ◌≡◌, sym, ap, ◌∙◌}
 use Rattle.std.specs.Prelude.{option_map}
 use Rattle.std.specs.Map.{lookup}
 use Rattle.std.specs.declared.option.Option.TheVariants.{None, Some}
-use Rattle.cj_model.specs.Proving.SameStatements.{same_statement}
-use Rattle.cj_cache.specs.declared.held.Held.{Held}
+use Rattle.cj_cache.proofs.Common.{Held, same_statement}
 use Rattle.cj_cache.proofs.Maps.{answer_shown}
 use Rattle.cj_cache.proofs.held.answer_of.Goals as goal
 

@@ -1,10 +1,7 @@
 use Rattle.std.proofs.Common.{rules, ◌≡◌, [], filter, sym, subst, arith}
 use Rattle.std.proofs.lemmas.Grind.{common_steps}
 use Rattle.std.specs.List.{IsDistinct}
-use Rattle.indexmap.specs.IndexSet.{insert_all}
-use Rattle.cj_model.specs.Proving.SameStatements.{same_statement}
-use Rattle.cj_cache.specs.Kept.{entries_of_map}
-use Rattle.cj_cache.specs.Proving.ByTable.{all_listed, is_due}
+use Rattle.cj_cache.proofs.Common.{all_listed, entries_of_map, insert_all, is_due, same_statement}
 use Rattle.cj_cache.proofs.Doomed.{due_doomed}
 use Rattle.cj_cache.proofs.held.copy_doomed.Goals as goal
 

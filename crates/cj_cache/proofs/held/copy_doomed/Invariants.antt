@@ -1,8 +1,5 @@
 use Rattle.std.proofs.Common.{◌≡◌, [], drop, filter}
-use Rattle.indexmap.specs.IndexSet.{insert_all}
-use Rattle.cj_model.specs.Proving.SameStatements.{same_statement}
-use Rattle.cj_cache.specs.Kept.{entries_of_map}
-use Rattle.cj_cache.specs.Proving.ByTable.{all_listed, is_due}
+use Rattle.cj_cache.proofs.Common.{all_listed, entries_of_map, insert_all, is_due, same_statement}
 use Rattle.cj_cache.proofs.held.copy_doomed.Given as goal
 
 abbrev pub invariant-loop-table : goal.invariant-loop-table

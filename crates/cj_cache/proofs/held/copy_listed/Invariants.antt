@@ -1,7 +1,5 @@
 use Rattle.std.proofs.Common.{◌≡◌, filter, take}
-use Rattle.indexmap.specs.IndexSet.{insert_all}
-use Rattle.cj_model.specs.Proving.SameStatements.{same_statement}
-use Rattle.cj_cache.specs.Kept.{entries_of_map}
+use Rattle.cj_cache.proofs.Common.{entries_of_map, insert_all, same_statement}
 use Rattle.cj_cache.specs.Proving.ByTable.{is_due, listed}
 use Rattle.cj_cache.proofs.held.copy_listed.Given as goal
 

@@ -1,7 +1,6 @@
 use Rattle.std.proofs.Common.{rules, ◌≡◌, ap, ◌∙◌}
+use Rattle.cj_cache.proofs.Common.{entries_of_map, same_statement}
 use Rattle.lru.specs.LruCache.{lru_cache, put_entries}
-use Rattle.cj_model.specs.Proving.SameStatements.{same_statement}
-use Rattle.cj_cache.specs.Kept.{entries_of_map}
 use Rattle.cj_cache.proofs.Maps.{put_shown}
 use Rattle.cj_cache.proofs.held.push_front.Goals as goal
 

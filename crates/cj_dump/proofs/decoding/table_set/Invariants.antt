@@ -1,6 +1,5 @@
 use Rattle.std.proofs.Common.{◌≡◌, [], drop}
-use Rattle.std.specs.Prelude.{fold}
-use Rattle.cj_model.specs.Database.Tables.{name_cmp, put_by}
+use Rattle.cj_dump.proofs.Common.{fold, name_cmp, put_by}
 use Rattle.cj_dump.proofs.decoding.table_set.Given as goal
 
 abbrev pub invariant-loop-name : goal.invariant-loop-name

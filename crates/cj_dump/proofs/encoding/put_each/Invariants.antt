@@ -1,6 +1,5 @@
 use Rattle.std.proofs.Common.{◌≡◌, ◌++◌, take}
-use Rattle.std.specs.List.{flat_map}
-use Rattle.cj_model.specs.Wire.Fields.{str16}
+use Rattle.cj_dump.proofs.Common.{flat_map, str16}
 use Rattle.cj_dump.proofs.encoding.put_each.Given as goal
 
 abbrev pub invariant-loop-name : goal.invariant-loop-name

@@ -1,8 +1,6 @@
 use Rattle.std.proofs.Common.{◌≡◌, ◌+◌, ◌-◌, ◌^◌, min, ℕ, true, List, length, Some, ◌∙◌, sym, ap, subst, arith}
-use Rattle.std.specs.Prelude.{slice_get}
-use Rattle.cj_records.specs.RecordFiles.{front_bytes}
+use Rattle.cj_log.proofs.Common.{IsNoItem, front_bytes, item_bytes, slice_get}
 use Rattle.cj_records.proofs.Unchanged.{same_then}
-use Rattle.cj_log.specs.Items.{IsNoItem, item_bytes}
 use Rattle.cj_log.proofs.Listed.{bad_in, bodies_more, each_more, there_more}
 use Rattle.cj_log.proofs.log.read_items.Goals as goal
 

@@ -1,9 +1,6 @@
 use Rattle.std.proofs.Common.{◌≡◌, true, length, take}
-use Rattle.std.specs.List.{AllByRecursion}
-use Rattle.cj_records.specs.RecordFiles.{front_bytes}
+use Rattle.cj_log.proofs.Common.{AllByRecursion, IsItem, bodies_of, front_bytes, log_magic}
 use Rattle.cj_records.specs.Records.{SameRecords}
-use Rattle.cj_log.specs.Items.{IsItem}
-use Rattle.cj_log.specs.Logs.{log_magic, bodies_of}
 use Rattle.cj_log.proofs.log.read_items.Given as goal
 
 abbrev pub invariant-loop-n : goal.invariant-loop-n

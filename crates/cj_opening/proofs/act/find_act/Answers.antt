@@ -1,6 +1,5 @@
 use Rattle.std.proofs.Common.{◌∙◌, sym}
-use Rattle.std.proofs.lemmas.Bool.{both_ways}
-use Rattle.cj_model.specs.Sql.PlainRequests.{is_plain}
+use Rattle.cj_opening.proofs.Common.{both_ways, is_plain}
 use Rattle.cj_opening.proofs.Texts.{no_act}
 use Rattle.cj_opening.proofs.act.find_act.Goals as goal
 

@@ -1,11 +1,9 @@
 use Rattle.std.proofs.Common.{◌≡◌, ◌+◌, ◌≤◌, List, [], ◌∷◌, ◌++◌, length, take, drop, Result, Err, ap, sym, ◌∙◌, subst, arith, length-append}
 use Rattle.std.proofs.lemmas.List.{take-append-drop, take_more, drop_more}
 use Rattle.std.specs.Prelude.{IsErrAnd}
-use Rattle.cj_cluster.specs.declared.event.Event.{Event}
-use Rattle.cj_log.specs.declared.item.LogItem.{LogItem}
+use Rattle.cj_opening.proofs.Common.{Event, LogItem, OpensTo}
 use Rattle.cj_opening.specs.declared.error.OpeningError.{OpeningError}
 use Rattle.cj_opening.specs.declared.error.OpeningError.TheVariants.{BadEntry}
-use Rattle.cj_opening.specs.Openings.{OpensTo}
 use Rattle.cj_opening.proofs.Longer.{opens_more, bad_next, brought_short}
 use Rattle.cj_opening.proofs.history.opening.Goals as goal
 

@@ -1,6 +1,5 @@
 use Rattle.std.proofs.Common.{◌+◌, ◌≤◌, length, take}
-use Rattle.cj_opening.specs.Openings.{OpensTo}
-use Rattle.cj_opening.specs.Proving.Keeping.{Keeps}
+use Rattle.cj_opening.proofs.Common.{Keeps, OpensTo}
 use Rattle.cj_opening.proofs.history.opening.Given as goal
 
 abbrev pub invariant-loop-item : goal.invariant-loop-item

@@ -1,12 +1,7 @@
 use Rattle.std.proofs.Common.{◌≡◌, ◌≢◌, ℕ, ◌<◌, ◌+◌, ◌-◌, ◌/◌, ◌==◌, false, List, length, take, drop, Less, Equal, Greater, ap, sym, subst, ◌∙◌, arith, length-drop}
-use Rattle.std.specs.Prelude.{find}
-use Rattle.std.specs.Str.{bytes_eq}
 use Rattle.std.proofs.lemmas.Bool.{eqb-false}
 use Rattle.std.proofs.lemmas.List.{length-take-le, take_all}
-use Rattle.cj_model.specs.Database.Tables.{Rises, name_cmp}
-use Rattle.cj_place.specs.declared.rows.HostRow.{HostRow}
-use Rattle.cj_place.specs.Layouts.{by_row}
-use Rattle.cj_place.specs.Kept.{given_rows}
+use Rattle.cj_place.proofs.Common.{HostRow, Rises, by_row, bytes_eq, find, given_rows, name_cmp}
 use Rattle.cj_place.proofs.Halves.{earlier_rises, later_rises, found_earlier, found_here, found_later}
 use Rattle.cj_place.proofs.rows.+find_row.Goals as goal
 

@@ -1,11 +1,6 @@
 use Rattle.std.proofs.Common.{◌∙◌, List, sym, ap, subst}
-use Rattle.std.specs.Prelude.{All, fold}
-use Rattle.cj_model.specs.declared.placement.PlaceRow.{PlaceRow}
-use Rattle.cj_model.specs.Database.Tables.{put_by}
+use Rattle.cj_place.proofs.Common.{All, HostRow, IsMasked, PlaceRow, by_given, by_row, fold, given_rows, put_by}
 use Rattle.cj_model.proofs.RisingLaws.{all_put}
-use Rattle.cj_place.specs.declared.rows.HostRow.{HostRow}
-use Rattle.cj_place.specs.Layouts.{by_row}
-use Rattle.cj_place.specs.Kept.{IsMasked, by_given, given_rows}
 use Rattle.cj_place.proofs.Placing.{given_put}
 use Rattle.cj_place.proofs.rows.host_rows.Goals as goal
 

@@ -1,8 +1,5 @@
 use Rattle.std.proofs.Common.{◌≡◌, []}
-use Rattle.std.specs.Prelude.{All, fold}
-use Rattle.cj_model.specs.Database.Tables.{put_by}
-use Rattle.cj_place.specs.Layouts.{by_row}
-use Rattle.cj_place.specs.Kept.{IsMasked, given_rows}
+use Rattle.cj_place.proofs.Common.{All, IsMasked, by_row, fold, given_rows, put_by}
 use Rattle.cj_place.proofs.rows.host_rows.Given as goal
 
 abbrev pub invariant-loop-row : goal.invariant-loop-row

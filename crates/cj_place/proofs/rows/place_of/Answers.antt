@@ -1,7 +1,6 @@
 use Rattle.std.proofs.Common.{◌≡◌, Equal, sym, ap, ◌∙◌}
-use Rattle.cj_model.specs.Database.Tables.{name_cmp}
+use Rattle.cj_place.proofs.Common.{by_given, name_cmp}
 use Rattle.cj_model.proofs.RisingLaws.{put_over}
-use Rattle.cj_place.specs.Kept.{by_given}
 use Rattle.cj_place.proofs.rows.place_of.Goals as goal
 
 pub returns-in-Equal : goal.returns-in-Equal

@@ -1,6 +1,5 @@
 use Rattle.std.proofs.Common.{◌≡◌, ◌++◌, take, drop}
-use Rattle.cj_model.specs.Database.Tables.{put_by}
-use Rattle.cj_place.specs.Kept.{by_given}
+use Rattle.cj_place.proofs.Common.{by_given, put_by}
 use Rattle.cj_place.proofs.rows.place_of.Given as goal
 
 abbrev pub invariant-loop-i : goal.invariant-loop-i

@@ -1,9 +1,8 @@
 use Rattle.std.proofs.Common.{◌≡◌, ◌+◌, ◌-◌, [], ◌∷◌, ◌++◌, length, take, drop, ◌∙◌, ap, subst, arith, rules, length-drop}
+use Rattle.cj_records.proofs.Common.{ShowsPart, bodies_at}
 use Rattle.cj_outside.proofs.Stopped.{stays_then}
 use Rattle.cj_records.proofs.Reach.{within_more}
 use Rattle.cj_records.proofs.Walked.{walk_more, walk_breaks}
-use Rattle.cj_records.specs.Proving.Places.{bodies_at}
-use Rattle.cj_records.specs.Proving.Keeping.{ShowsPart}
 use Rattle.cj_records.proofs.index.walk.Goals as goal
 
 pub records-preserved : goal.records-preserved

@@ -1,7 +1,6 @@
 use Rattle.std.proofs.Common.{◌≡◌, ◌-◌, ◌≤◌, true}
+use Rattle.cj_records.proofs.Common.{AllWithin, Reaches, ShowsPart, bodies_at}
 use Rattle.cj_outside.specs.Stores.{Stays, Steps}
-use Rattle.cj_records.specs.Proving.Places.{bodies_at, AllWithin, Reaches}
-use Rattle.cj_records.specs.Proving.Keeping.{ShowsPart}
 use Rattle.cj_records.proofs.index.walk.Given as goal
 
 abbrev pub invariant-records : goal.invariant-records

@@ -1,9 +1,8 @@
 use Rattle.std.proofs.Common.{◌≡◌, ◌+◌, ◌^◌, ◌-◌, min, ℕ, true, List, ◌++◌, length, Some, Err, ◌∙◌, sym, ap, subst, arith, length-append, ◌∷◌, []}
 use Rattle.std.specs.Prelude.{slice_get}
+use Rattle.cj_shelf.proofs.Common.{Label, dump_bytes}
 use Rattle.cj_records.specs.RecordFiles.{front_bytes}
 use Rattle.cj_records.proofs.Unchanged.{same_then}
-use Rattle.cj_dump.specs.Dumps.{dump_bytes}
-use Rattle.cj_shelf.specs.declared.label.Label.{Label}
 use Rattle.cj_shelf.specs.Proving.{Labels, FindsDump}
 use Rattle.cj_shelf.proofs.Listed.{one_more, there_more, labels_more, labels_refused}
 use Rattle.cj_shelf.proofs.reading.read_labels.Goals as goal

@@ -1,11 +1,5 @@
 use Rattle.std.proofs.Common.{◌&&◌, Bool, ap, sym, ◌∙◌}
-use Rattle.std.specs.List.{list_any}
-use Rattle.std.specs.Str.{bytes_eq}
-use Rattle.sha2.specs.Sha256.{sha256}
-use Rattle.cj_model.specs.Cluster.Accounts.{is_account_of}
-use Rattle.cj_auth.specs.declared.credentials.Credential.{Credential}
-use Rattle.cj_auth.specs.Admission.{Register, admits}
-use Rattle.cj_auth.specs.Kept.{IsUserName}
+use Rattle.cj_auth.proofs.Common.{Credential, IsUserName, Register, admits, bytes_eq, is_account_of, list_any, sha256}
 use Rattle.cj_auth.proofs.Keeping.{admitted_user, on_true, same_admitted}
 use Rattle.cj_auth.proofs.accounts.Accounts.check.Goals as goal
 

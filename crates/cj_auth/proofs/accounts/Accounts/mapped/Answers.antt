@@ -1,9 +1,6 @@
 use Rattle.std.proofs.Common.{◌≡◌, ℕ, length, List, [], ap, sym, ◌∙◌, arith}
-use Rattle.std.specs.Prelude.{find, slice_index_or}
 use Rattle.std.proofs.lemmas.List.{get_or_read_under}
-use Rattle.cj_model.specs.Cluster.Accounts.{is_account_of, login_of}
-use Rattle.cj_auth.specs.declared.credentials.Credential.{Credential}
-use Rattle.cj_auth.specs.Admission.{Register}
+use Rattle.cj_auth.proofs.Common.{Credential, Register, find, is_account_of, login_of, slice_index_or}
 use Rattle.cj_auth.proofs.Keeping.{login_count, login_found, login_missing}
 use Rattle.cj_auth.proofs.accounts.Accounts.mapped.Goals as goal
 

@@ -1,12 +1,10 @@
 use Rattle.std.proofs.Common.{◌≡◌, ◌∙◌, ◌&&◌, true, List, [], refl, ap, sym, subst}
-use Rattle.std.specs.Prelude.{All}
 use Rattle.std.specs.Option.{is_some}
 use Rattle.std.specs.declared.option.Option.TheVariants.{Some}
 use Rattle.std.proofs.lemmas.Str.{IsUtf8-nil, is_utf8-from_IsUtf8}
-use Rattle.cj_model.specs.declared.account.Account.{Account}
+use Rattle.cj_auth.proofs.Common.{Account, All, refusal_of_accounts}
 use Rattle.cj_model.specs.Cluster.Accounts.{has_logins}
 use Rattle.cj_model.specs.Sql.Names.{is_text, text_of}
-use Rattle.cj_auth.specs.Refusals.{refusal_of_accounts}
 use Rattle.cj_auth.proofs.Keeping.{all_credentials, have_digests, have_logins}
 use Rattle.cj_auth.proofs.accounts.Accounts.new.Goals as goal
 

@@ -1,7 +1,5 @@
 use Rattle.std.proofs.Common.{◌≡◌, ℕ, arith, ap, sym, subst, ◌∙◌}
-use Rattle.atomic_table.specs.Table.{Me}
-use Rattle.cj_cluster.specs.declared.event.Event.{Event}
-use Rattle.cj_board.specs.declared.view.SeatView.{SeatView}
+use Rattle.cj_board.proofs.Common.{Event, Me, SeatView}
 use Rattle.cj_board.specs.Steps.{with_faults, one_fault_more}
 use Rattle.cj_board.specs.Views.{IsCellOf}
 use Rattle.cj_board.proofs.AllowedSteps.{load_faults_allowed, store_faults_allowed, sum_is}

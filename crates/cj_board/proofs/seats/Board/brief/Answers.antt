@@ -1,9 +1,5 @@
 use Rattle.std.proofs.Common.{◌≡◌, ℕ, ◌++◌, Contains, ap, sym, ◌∙◌, subst, arith}
-use Rattle.atomic_table.specs.Table.{Me}
-use Rattle.std.proofs.lemmas.List.Elements.{Contains-append_left, Contains-append_right}
-use Rattle.cj_cluster.specs.declared.event.Event.{Event}
-use Rattle.cj_board.specs.declared.view.SeatView.{SeatView}
-use Rattle.cj_board.specs.Steps.{after_join}
+use Rattle.cj_board.proofs.Common.{Contains-append_left, Contains-append_right, Event, Me, SeatView, after_join}
 use Rattle.cj_board.specs.Views.{IsCellOf, fault_note_of, pass_without_tokens}
 use Rattle.cj_board.proofs.seats.Board.brief.Goals as goal
 

@@ -1,9 +1,8 @@
 use Rattle.std.proofs.Common.{arith, ◌≡◌, ◌∷◌, [], ◌+◌, ◌∙◌, suc, ap, sym, subst, ℕ, List, length, length-append}
-use Rattle.cj_board.specs.declared.seats.CellSeat.{CellSeat}
+use Rattle.cj_board.proofs.Common.{Cell, CellSeat}
 use Rattle.cj_board.specs.Seats.{board_id, AreNewCells}
 use Rattle.cj_board.specs.Steps.{after_making_cell}
 use Rattle.cj_board.specs.Views.{book_with_cells, new_view, next_cell_of}
-use Rattle.cj_board.specs.declared.view.Role.TheVariants.{Cell}
 use Rattle.cj_board.proofs.NewCells.{cells_push}
 use Rattle.cj_board.proofs.seats.Board.make_cells.Goals as goal
 

@@ -1,8 +1,5 @@
 use Rattle.std.proofs.Common.{◌≡◌, ℕ, Contains, ap, sym, ◌∙◌, subst}
-use Rattle.atomic_table.specs.Table.{Me}
-use Rattle.cj_cluster.specs.declared.event.Event.{Event}
-use Rattle.cj_board.specs.declared.view.SeatView.{SeatView}
-use Rattle.cj_board.specs.Steps.{after_join}
+use Rattle.cj_board.proofs.Common.{Event, Me, SeatView, after_join}
 use Rattle.cj_board.specs.Views.{role_position, pass_of}
 use Rattle.cj_board.proofs.Reports.{position_noted, faults_noted}
 use Rattle.cj_board.proofs.seats.Board.report.Goals as goal

@@ -1,8 +1,7 @@
 use Rattle.std.proofs.Common.{List, IfOk, sym, subst}
-use Rattle.cj_model.specs.declared.cached.Cached.{Cached}
+use Rattle.cj_cache.proofs.Common.{Cached, entries_held}
 use Rattle.cj_model.specs.Cluster.Caching.{CacheState}
 use Rattle.cj_cache.specs.Doomed.{ListsDoomed}
-use Rattle.cj_cache.specs.Kept.{entries_held}
 use Rattle.cj_cache.proofs.cache.Cache.doomed.Goals as goal
 
 pub returns-in-Some : goal.returns-in-Some

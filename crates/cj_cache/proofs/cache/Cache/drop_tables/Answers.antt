@@ -1,8 +1,7 @@
 use Rattle.std.proofs.Common.{rules, List, ap, ◌∙◌}
-use Rattle.cj_model.specs.declared.cached.Cached.{Cached}
+use Rattle.cj_cache.proofs.Common.{Cached, entries_held, without_each}
 use Rattle.cj_model.specs.Cluster.Caching.{CacheState, without_tables}
 use Rattle.cj_cache.specs.Doomed.{HaveSame}
-use Rattle.cj_cache.specs.Kept.{entries_held, without_each}
 use Rattle.cj_cache.proofs.Doomed.{doomed_dropped, doomed_of}
 use Rattle.cj_cache.proofs.cache.Cache.drop_tables.Goals as goal
 

@@ -1,9 +1,7 @@
 use Rattle.std.proofs.Common.{◌≡◌, ℕ, List, ◌∷◌, take, Option, None, ap, sym, subst}
+use Rattle.cj_cache.proofs.Common.{Cached, Held, Select}
 use Rattle.lru.specs.LruCache.{LruCache}
-use Rattle.cj_model.specs.declared.cached.Cached.{Cached}
-use Rattle.cj_model.specs.declared.select.Select.{Select}
 use Rattle.cj_model.specs.Cluster.Caching.{CacheState, after_keep, without}
-use Rattle.cj_cache.specs.declared.held.Held.{Held}
 use Rattle.cj_cache.specs.Kept.{HasCapacity, entries_held}
 use Rattle.cj_cache.proofs.cache.Cache.keeps_none.Goals as goal
 

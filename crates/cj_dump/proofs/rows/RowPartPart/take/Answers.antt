@@ -1,7 +1,6 @@
 use Rattle.std.proofs.Common.{ℕ, length, subst}
 use Rattle.std.specs.Prelude.{option_copied}
-use Rattle.std.specs.declared.option.Option.{Option}
-use Rattle.cj_model.specs.declared.value.Value.{Value}
+use Rattle.cj_dump.proofs.Common.{Option, Value}
 use Rattle.cj_dump.specs.DumpLayout.{row_value}
 use Rattle.cj_dump.specs.Layouts.{Finds, listed}
 use Rattle.cj_dump.proofs.rows.RowPartPart.take.Goals as goal

@@ -1,9 +1,6 @@
 use Rattle.std.proofs.Common.{[], ◌∷◌, ◌++◌, ap, refl, sym, subst, ◌∙◌}
-use Rattle.cj_outside.specs.Stores.{LeavesOnly}
+use Rattle.cj_log.proofs.Common.{IsBeforeOrAfter, LeavesOnly, LogState, item_bytes, items_in}
 use Rattle.cj_records.specs.Records as records
-use Rattle.cj_log.specs.Items.{item_bytes}
-use Rattle.cj_log.specs.Logs.{LogState, IsBeforeOrAfter}
-use Rattle.cj_log.specs.Proving.ItemFormats.{items_in}
 use Rattle.cj_log.proofs.Stops.{agrees_more, items_more, keeps, leaves_map, logged_at, items_of}
 use Rattle.cj_log.proofs.log.Log.append.Goals as goal
 

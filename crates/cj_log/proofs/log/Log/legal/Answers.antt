@@ -1,7 +1,5 @@
 use Rattle.std.proofs.Common.{subst}
-use Rattle.cj_outside.specs.Stores.{LeavesOnly}
-use Rattle.cj_log.specs.Logs.{LogState, KeepsAtLeast, IsBeforeOrAfter}
-use Rattle.cj_log.specs.Proving.ItemFormats.{items_in}
+use Rattle.cj_log.proofs.Common.{IsBeforeOrAfter, KeepsAtLeast, LeavesOnly, LogState, items_in}
 use Rattle.cj_log.proofs.Stops.{keeps_at_least, leaves_now}
 use Rattle.cj_log.proofs.log.Log.legal.Goals as goal
 

@@ -1,7 +1,5 @@
 use Rattle.std.proofs.Common.{List, ap, refl, sym, subst, ◌∙◌}
-use Rattle.cj_log.specs.declared.item.LogItem.{LogItem}
-use Rattle.cj_log.specs.Logs.{log_magic, KeepsItems}
-use Rattle.cj_log.specs.Proving.ItemFormats.{items_in}
+use Rattle.cj_log.proofs.Common.{KeepsItems, LogItem, items_in, log_magic}
 use Rattle.cj_log.proofs.ItemFormats.{items_back}
 use Rattle.cj_log.proofs.Stops.{agrees_opened, keeps}
 use Rattle.cj_log.proofs.log.Log.open.Goals as goal

@@ -1,7 +1,5 @@
 use Rattle.std.proofs.Common.{rules, ◌≡◌, List, [], ◌∷◌, ◌++◌, length, refl, ap, ◌∙◌, append_assoc}
-use Rattle.cj_model.specs.declared.request.Entry.{Entry}
-use Rattle.cj_cluster.specs.declared.event.Event.{Event}
-use Rattle.cj_cluster.specs.declared.event.Event.TheVariants.{Sched, Ended}
+use Rattle.cj_opening.proofs.Common.{Ended, Entry, Event, Sched}
 use Rattle.cj_opening.proofs.Kept.{keeps_entry}
 use Rattle.cj_opening.proofs.grown.Grown.add_entry.Goals as goal
 

@@ -1,7 +1,5 @@
 use Rattle.std.proofs.Common.{List, ℕ, [], ◌∷◌, ◌++◌, ◌∙◌, sym, subst}
-use Rattle.cj_cluster.specs.declared.event.Event.{Event}
-use Rattle.cj_cluster.specs.declared.event.Event.TheVariants.{Marker}
-use Rattle.cj_opening.specs.Proving.Keeping.{Keeps}
+use Rattle.cj_opening.proofs.Common.{Event, Keeps, Marker}
 use Rattle.cj_opening.proofs.Kept.{keeps_marker, added_name}
 use Rattle.cj_opening.proofs.grown.Grown.add_marker_of.Goals as goal
 

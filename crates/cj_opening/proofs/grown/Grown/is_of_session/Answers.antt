@@ -1,8 +1,5 @@
 use Rattle.std.proofs.Common.{rules, sym, subst}
-use Rattle.std.proofs.lemmas.Bool.{both_ways}
-use Rattle.cj_cluster.specs.History.Histories.{log}
-use Rattle.cj_cluster.specs.History.Legality.{FitsTx}
-use Rattle.cj_opening.specs.declared.sessions.SessionSoFar.{SessionSoFar}
+use Rattle.cj_opening.proofs.Common.{FitsTx, SessionSoFar, both_ways, log}
 use Rattle.cj_opening.proofs.KeptSessions.{as_known, from_known}
 use Rattle.cj_opening.proofs.grown.Grown.is_of_session.Goals as goal
 

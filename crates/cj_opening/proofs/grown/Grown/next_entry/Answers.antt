@@ -1,6 +1,5 @@
 use Rattle.std.proofs.Common.{refl, sym, ◌∙◌, subst}
-use Rattle.std.proofs.lemmas.Bool.{both_ways}
-use Rattle.cj_model.specs.declared.request.Entry.{Entry}
+use Rattle.cj_opening.proofs.Common.{Entry, both_ways}
 use Rattle.cj_opening.specs.Proving.Steps.{FindsAct}
 use Rattle.cj_opening.proofs.OneOpening.{no_next_entry}
 use Rattle.cj_opening.proofs.grown.Grown.next_entry.Goals.{then-is_of_session, else-is_of_session}

@@ -1,6 +1,5 @@
 use Rattle.std.proofs.Common.{List, ℕ, ap, sym, ◌∙◌, subst}
-use Rattle.std.specs.Prelude.{All}
-use Rattle.cj_place.specs.Kept.{IsMasked, given_rows}
+use Rattle.cj_place.proofs.Common.{All, IsMasked, given_rows}
 use Rattle.cj_place.proofs.Placing.{makes_kept}
 use Rattle.cj_place.proofs.placement.Placement.build.Goals as goal
 

@@ -1,16 +1,8 @@
 use Rattle.std.proofs.Common.{◌≡◌, List, ℕ, [], true, false, map, ap, sym, ◌∙◌, subst}
-use Rattle.std.specs.Prelude.{All, filter, fold}
-use Rattle.std.proofs.lemmas.Bool.{cond-false}
 use Rattle.std.proofs.lemmas.List.Elements.{All-nil, filter_passes}
 use Rattle.std.proofs.lemmas.Result.{IfOk-weaker}
-use Rattle.std.proofs.lemmas.Simd.{map-map}
-use Rattle.cj_model.specs.declared.placement.PlaceRow.{PlaceRow}
-use Rattle.cj_model.specs.Cluster.Placements.{hosts}
-use Rattle.cj_model.specs.Database.Tables.{name_cmp, put_by}
-use Rattle.cj_model.specs.Sql.Names.{is_name}
+use Rattle.cj_place.proofs.Common.{All, HostRow, Layout, PlaceRow, cond-false, filter, fold, hosts, is_name, map-map, name_cmp, placement_of, put_by}
 use Rattle.cj_model.proofs.RisingLaws.{all_put_each}
-use Rattle.cj_place.specs.declared.rows.HostRow.{HostRow}
-use Rattle.cj_place.specs.Layouts.{Layout, placement_of}
 use Rattle.cj_place.proofs.placement.Placement.covered.Goals as goal
 
 -- the names among some tables

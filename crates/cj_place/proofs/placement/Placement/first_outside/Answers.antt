@@ -1,9 +1,5 @@
 use Rattle.std.proofs.Common.{◌≡◌, map, ap, sym, ◌∙◌}
-use Rattle.std.specs.Prelude.{find}
-use Rattle.std.proofs.lemmas.Simd.{map-map}
-use Rattle.cj_model.specs.declared.placement.PlaceRow.{PlaceRow}
-use Rattle.cj_place.specs.declared.rows.HostRow.{HostRow}
-use Rattle.cj_place.specs.Layouts.{Layout, is_outside, placement_of}
+use Rattle.cj_place.proofs.Common.{HostRow, Layout, PlaceRow, find, is_outside, map-map, placement_of}
 use Rattle.cj_place.proofs.placement.Placement.first_outside.Goals as goal
 
 pub returns : goal.returns

@@ -1,11 +1,6 @@
 use Rattle.std.proofs.Common.{◌≡◌, List, ℕ, [], map, ap, sym, ◌∙◌, subst}
 use Rattle.std.specs.Prelude.{IfOk, filter, fold}
-use Rattle.std.proofs.lemmas.Simd.{map-map}
-use Rattle.cj_model.specs.declared.placement.PlaceRow.{PlaceRow}
-use Rattle.cj_model.specs.Cluster.Placements.{hosts}
-use Rattle.cj_model.specs.Database.Tables.{name_cmp, put_by}
-use Rattle.cj_place.specs.declared.rows.HostRow.{HostRow}
-use Rattle.cj_place.specs.Layouts.{Layout, placement_of}
+use Rattle.cj_place.proofs.Common.{HostRow, Layout, PlaceRow, hosts, map-map, name_cmp, placement_of, put_by}
 use Rattle.cj_place.proofs.placement.Placement.hosted.Goals as goal
 
 pub returns : goal.returns

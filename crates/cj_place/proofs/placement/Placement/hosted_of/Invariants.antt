@@ -1,9 +1,5 @@
 use Rattle.std.proofs.Common.{◌≡◌, [], drop, map}
-use Rattle.std.specs.Prelude.{filter, fold}
-use Rattle.cj_model.specs.Cluster.Placements.{hosts}
-use Rattle.cj_model.specs.Database.Tables.{name_cmp, put_by}
-use Rattle.cj_place.specs.declared.rows.HostRow.{HostRow}
-use Rattle.cj_place.specs.Layouts.{placement_of}
+use Rattle.cj_place.proofs.Common.{HostRow, filter, fold, hosts, name_cmp, placement_of, put_by}
 use Rattle.cj_place.proofs.placement.Placement.hosted_of.Given as goal
 
 abbrev pub invariant-loop-row : goal.invariant-loop-row

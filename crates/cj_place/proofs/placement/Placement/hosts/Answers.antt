@@ -1,9 +1,6 @@
 use Rattle.std.proofs.Common.{List, ap, ◌∙◌}
-use Rattle.cj_model.specs.Cluster.Masks.{in_mask}
+use Rattle.cj_place.proofs.Common.{HostRow, Layout, in_mask, mask_in, placement_of}
 use Rattle.cj_model.specs.Cluster.Placements as placements
-use Rattle.cj_place.specs.declared.rows.HostRow.{HostRow}
-use Rattle.cj_place.specs.Kept.{mask_in}
-use Rattle.cj_place.specs.Layouts.{Layout, placement_of}
 use Rattle.cj_place.proofs.Placing.{part_hosts}
 use Rattle.cj_place.proofs.placement.Placement.hosts.Goals as goal
 

@@ -1,8 +1,5 @@
 use Rattle.std.proofs.Common.{◌≡◌, ◌<◌, ◌&&◌, not, true, length, ap, sym, ◌∙◌, subst}
-use Rattle.std.specs.List.{list_any}
-use Rattle.cj_model.specs.Cluster.Masks.{in_mask}
-use Rattle.cj_place.specs.declared.rows.HostRow.{HostRow}
-use Rattle.cj_place.specs.Layouts.{Layout, hosts_beyond, placement_of}
+use Rattle.cj_place.proofs.Common.{HostRow, Layout, hosts_beyond, in_mask, list_any, placement_of}
 use Rattle.cj_place.proofs.Beyond.{masks_tell}
 use Rattle.cj_place.proofs.Parts.{none_beyond_full}
 use Rattle.cj_place.proofs.placement.Placement.hosts_beyond.Goals as goal

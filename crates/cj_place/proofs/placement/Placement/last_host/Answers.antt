@@ -1,10 +1,5 @@
 use Rattle.std.proofs.Common.{◌≡◌, false, map, ap, sym, ◌∙◌}
-use Rattle.std.specs.Prelude.{find}
-use Rattle.std.proofs.lemmas.Bool.{cond-false}
-use Rattle.std.proofs.lemmas.Simd.{map-map}
-use Rattle.cj_model.specs.declared.placement.PlaceRow.{PlaceRow}
-use Rattle.cj_place.specs.declared.rows.HostRow.{HostRow}
-use Rattle.cj_place.specs.Layouts.{Layout, is_last_host, placement_of}
+use Rattle.cj_place.proofs.Common.{HostRow, Layout, PlaceRow, cond-false, find, is_last_host, map-map, placement_of}
 use Rattle.cj_place.proofs.placement.Placement.last_host.Goals as goal
 
 pub returns : goal.returns

@@ -1,7 +1,5 @@
 use Rattle.std.proofs.Common.{◌≡◌, drop, map}
-use Rattle.std.specs.Prelude.{find}
-use Rattle.cj_place.specs.declared.rows.HostRow.{HostRow}
-use Rattle.cj_place.specs.Layouts.{is_last_host, placement_of}
+use Rattle.cj_place.proofs.Common.{HostRow, find, is_last_host, placement_of}
 use Rattle.cj_place.proofs.placement.Placement.last_of.Given as goal
 
 abbrev pub invariant-loop-row : goal.invariant-loop-row

@@ -1,11 +1,5 @@
 use Rattle.std.proofs.Common.{◌≡◌, ◌+◌, ℕ, false, true, List, [], ◌∷◌, ◌++◌, length, Ok, Err, ◌∙◌, sym, ap, subst, inl, inr}
-use Rattle.cj_outside.specs.declared.sink.OutError.{OutError}
-use Rattle.cj_records.specs.declared.place.Place.{Place}
-use Rattle.cj_records.specs.Proving.Places.{bodies_at}
-use Rattle.cj_outside.specs.Stores.{LeavesOnly, overwritten}
-use Rattle.cj_records.specs.RecordFiles.{Finds}
-use Rattle.cj_records.specs.Records.{RecordList, Appends, Refuses, IsBeforeOrAfter}
-use Rattle.cj_records.specs.Proving.Keeping.{AgreesWithStore, Laid, body_behind}
+use Rattle.cj_records.proofs.Common.{AgreesWithStore, Appends, Finds, IsBeforeOrAfter, Laid, LeavesOnly, OutError, Place, RecordList, Refuses, bodies_at, body_behind, overwritten}
 use Rattle.cj_records.proofs.Reach.{bodies_same}
 use Rattle.cj_records.proofs.Appended.{laid_front, keeps_front, kept_front, kept_at, shut_refused, write_refused, refused_list, refuses, Written, written, kept_more}
 use Rattle.cj_records.proofs.Begun.{laid_finds}

@@ -1,9 +1,7 @@
 use Rattle.std.proofs.Common.{◌≡◌, false, Ok, subst, refl}
-use Rattle.cj_records.specs.RecordFiles.{Finds}
+use Rattle.cj_records.proofs.Common.{Finds, LeavesOnly, bodies_at}
 use Rattle.cj_records.specs.Records.{RecordList, KeepsAtLeast, LeavesList, IsBeforeOrAfter}
-use Rattle.cj_outside.specs.Stores.{LeavesOnly}
 use Rattle.cj_records.proofs.Crash.{held_at_least, started, safe_tells}
-use Rattle.cj_records.specs.Proving.Places.{bodies_at}
 use Rattle.cj_records.proofs.Begun.{laid_finds}
 use Rattle.cj_records.proofs.records.Records.legal.Goals as goal
 

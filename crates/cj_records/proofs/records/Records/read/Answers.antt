@@ -1,8 +1,5 @@
 use Rattle.std.proofs.Common.{◌≡◌, ◌<◌, length, ap, sym, subst, arith}
-use Rattle.std.proofs.lemmas.List.{length-map}
-use Rattle.cj_records.specs.Proving.Places.{body_at, bodies_at}
-use Rattle.cj_records.specs.Records.{RecordList}
-use Rattle.cj_records.specs.Proving.Keeping.{ReadsPart}
+use Rattle.cj_records.proofs.Common.{ReadsPart, RecordList, bodies_at, body_at, length-map}
 use Rattle.cj_records.proofs.Unchanged.{reads}
 use Rattle.cj_records.proofs.records.Records.read.Goals as goal
 

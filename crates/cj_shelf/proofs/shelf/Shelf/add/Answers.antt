@@ -1,7 +1,5 @@
 use Rattle.std.proofs.Common.{List, refl, sym, ap, subst, ◌++◌, ◌∷◌, [], ◌∙◌}
-use Rattle.cj_outside.specs.Stores.{LeavesOnly}
-use Rattle.cj_dump.specs.Dumps.{dump_bytes}
-use Rattle.cj_shelf.specs.declared.label.Label.{Label}
+use Rattle.cj_shelf.proofs.Common.{Label, LeavesOnly, dump_bytes}
 use Rattle.cj_shelf.specs.Shelves.{ShelfState, IsBeforeOrAfter}
 use Rattle.cj_shelf.specs.Proving.{dumps_in}
 use Rattle.cj_shelf.proofs.Listed.{agrees_more, dumps_more}

@@ -1,8 +1,5 @@
 use Rattle.std.proofs.Common.{◌≡◌, ℕ, List, true, Some, Err, ◌∙◌, sym, ap, subst}
-use Rattle.std.specs.Str.{bytes_eq}
-use Rattle.std.proofs.lemmas.Slice.Eq.{bytes_eq-Decides}
-use Rattle.cj_dump.specs.Dumps.{dump_bytes}
-use Rattle.cj_shelf.specs.declared.label.Label.{Label}
+use Rattle.cj_shelf.proofs.Common.{Label, bytes_eq, bytes_eq-Decides, dump_bytes}
 use Rattle.cj_shelf.specs.Shelves.{ShelfState, is_among, first_of, GivesFirst}
 use Rattle.cj_shelf.specs.Proving.{labelled, IsFirstPlace, dumps_in, FindsDump}
 use Rattle.cj_shelf.proofs.Looked.{none_first, found, refused}
