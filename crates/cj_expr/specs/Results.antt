@@ -1,8 +1,11 @@
 -- What binding and evaluating give.
-use Rattle.std.specs.Prelude.{◌≡◌, true, false, ⊤, IsOk}
+use Rattle.std.specs.Prelude.{◌≡◌, ℤ, true, false, ⊤, IsOk, if◌then◌else◌}
+use Rattle.std.specs.declared.option.Option.{Option}
+use Rattle.std.specs.declared.option.Option.TheVariants.{None, Some}
 use Rattle.std.specs.declared.result.Result.{Result}
 use Rattle.std.specs.declared.result.Result.TheVariants.{Ok, Err}
 use Rattle.cj_model.specs.declared.value.Value.{Value}
+use Rattle.cj_model.specs.declared.value.Value.TheVariants.{Int, Text}
 use Rattle.cj_model.specs.declared.term.Expr.{Expr}
 use Rattle.cj_model.specs.declared.answer.Refusal.{Refusal}
 use Rattle.cj_model.specs.declared.codes.TheConstants.{NO_COLUMN, WRONG_TYPE}
@@ -49,3 +52,8 @@ abbrev pub IsValueOf : Value → Result Value ValueError → Type 0
 IsValueOf v (Ok w) = (is_out_of_range v ≡ false) × (w ≡ v)
 IsValueOf v (Err value_error.Overflow) = is_out_of_range v ≡ true
 IsValueOf v (Err value_error.NoMemory) = ⊤
+
+-- the INTEGER that a value is, where it has 64 bits
+abbrev pub integer_within : Value → Option ℤ
+integer_within (Int z) = if is_out_of_range (Int z) then None else Some z
+integer_within (Text t) = None

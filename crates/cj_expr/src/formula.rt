@@ -3,7 +3,7 @@
 ghost use Rattle.std.specs.Prelude.{◌≡◌, pos, IfOk};
 ghost use Rattle.cj_model.specs.Database.Evaluation.{value_of};
 ghost use Rattle.cj_expr.specs.Shapes.{formula};
-ghost use Rattle.cj_expr.specs.Results.{IsValueOf};
+ghost use Rattle.cj_expr.specs.Results.{IsValueOf, integer_within};
 
 use crate::operand::Operand;
 use cj_model::{NoMemory, Value};
@@ -39,6 +39,16 @@ impl From<NoMemory> for ValueError {
     }
 }
 
+/// The number in 64 bits, if it has no more.
+fn within(number: i128) -> Option<i64>
+    ensures { result ≡ integer_within (Value.Int number) }
+{
+    if number < -9_223_372_036_854_775_808 || 9_223_372_036_854_775_807 < number {
+        return None;
+    }
+    Some(number as i64)
+}
+
 /// The number as a value; Overflow exactly where it lies outside 64 bits.
 pub fn narrowed(number: i128) -> Result<Value, ValueError>
     ensures { IsValueOf (Value.Int number) result }
@@ -65,6 +75,25 @@ impl Formula {
                 let left = i128::from(left.number_in(row));
                 let right = i128::from(right.number_in(row));
                 narrowed(left - right)
+            }
+        }
+    }
+
+    /// The INTEGER in a row, which takes no memory; none where it is a TEXT, or lies outside 64 bits.
+    pub fn integer_in(&self, row: &[Value]) -> Option<i64>
+        ensures { result ≡ integer_within (value_of row.now (formula self.now)) }
+    {
+        match self {
+            Formula::Just(operand) => operand.integer_in(row),
+            Formula::Sum(left, right) => {
+                let left = i128::from(left.number_in(row));
+                let right = i128::from(right.number_in(row));
+                within(left + right)
+            }
+            Formula::Difference(left, right) => {
+                let left = i128::from(left.number_in(row));
+                let right = i128::from(right.number_in(row));
+                within(left - right)
             }
         }
     }

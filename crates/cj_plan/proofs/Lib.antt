@@ -1,4 +1,5 @@
 pub mod Common
+pub mod InPlace
 pub mod Inserted
 pub mod PlanLaws
 pub mod UpdateRefusals

@@ -1,3 +1,5 @@
 pub mod Assignments
+pub mod Changes
 pub mod Inserts
 pub mod Plans
+pub mod Rewritings

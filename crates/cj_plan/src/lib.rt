@@ -6,7 +6,9 @@ mod delete;
 mod insert;
 mod names;
 mod plan;
+mod rewriting;
 mod update;
 
 pub use names::is_distinct;
-pub use plan::{Plan, Planned, planned};
+pub use plan::{Change, Changed, Plan, changed};
+pub use rewriting::Rewriting;

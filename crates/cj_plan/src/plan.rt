@@ -2,10 +2,11 @@
 
 ghost use Rattle.std.specs.Prelude.{◌≡◌};
 ghost use Rattle.cj_model.specs.Database.Updates.{change};
-ghost use Rattle.cj_plan.specs.Plans.{PlansChange};
+ghost use Rattle.cj_plan.specs.Changes.{MakesChange, keyed};
 
 use crate::delete::deleted;
 use crate::insert::inserted;
+use crate::rewriting::Rewriting;
 use crate::update::updated;
 use cj_model::{NoMemory, Refusal, Write};
 use cj_rows::{RowMap, View};
@@ -24,13 +25,48 @@ pub struct Plan {
 /// A plan, or the refusal of the write.
 pub type Planned = Result<Plan, Refusal>;
 
-/// What a write is to change of a table.
-pub fn planned(alloc: Global, view: &View, write: &Write) -> Result<Planned, NoMemory>
-    ensures { PlansChange view.now (change view.now write.now) result }
+/// How a table is changed.
+#[derive(Drop)]
+pub enum Change {
+    ByKey(Plan),
+    /// Each row in its place, which takes no memory, where no transaction has a draft of the table.
+    InPlace {
+        rewriting: Rewriting,
+        /// The number of rows that are written.
+        written: u64,
+    },
+}
+
+/// A change, or the refusal of the write.
+pub type Changed = Result<Change, Refusal>;
+
+fn by_key(planned: Planned) -> Changed
+    ensures { result ≡ keyed planned }
+{
+    match planned {
+        Ok(plan) => Ok(Change::ByKey(plan)),
+        Err(refusal) => Err(refusal),
+    }
+}
+
+/// How a write is to change a table; in place only where it is free of drafts.
+pub fn changed(
+    alloc: Global,
+    view: &View,
+    is_free: bool,
+    write: &Write,
+) -> Result<Changed, NoMemory>
+    ensures { MakesChange is_free view.now (change view.now write.now) result }
 {
     match write {
-        Write::Insert { columns, rows, .. } => inserted(alloc, view, columns, rows.as_slice()),
-        Write::Update { sets, cond, .. } => updated(alloc, view, sets.as_slice(), cond),
-        Write::Delete { cond, .. } => deleted(alloc, view, cond),
+        Write::Insert { columns, rows, .. } => {
+            let planned = inserted(alloc, view, columns, rows.as_slice())?;
+            Ok(by_key(planned))
+        }
+        Write::Update { sets, cond, .. } => updated(alloc, view, is_free, sets.as_slice(), cond),
+        Write::Delete { cond, .. } => {
+            let planned = deleted(alloc, view, cond)?;
+            Ok(by_key(planned))
+        }
     }
 }

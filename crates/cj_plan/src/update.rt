@@ -1,6 +1,6 @@
 //! UPDATE.
 
-ghost use Rattle.std.specs.Prelude.{◌≡◌, ◌||◌, cond, map, None, Some, option_map, slice_set, IfOk};
+ghost use Rattle.std.specs.Prelude.{◌≡◌, ◌||◌, true, cond, length, map, None, Some, All, is_some, option_map, slice_set, IfOk};
 ghost use Rattle.std.specs.List.{list_any};
 ghost use Rattle.std.specs.Map.Iter.{deref};
 ghost use Rattle.cj_model.specs.Database.Evaluation.{is_out_of_range, value_of};
@@ -8,12 +8,15 @@ ghost use Rattle.cj_model.specs.Database.Scopes as scopes;
 ghost use Rattle.cj_model.specs.Database.Updates as updates;
 ghost use Rattle.cj_expr.specs.Shapes.{formula};
 ghost use Rattle.cj_plan.specs.Assignments.{KeepsKey, assignment_by_place, assignments, values_or_none};
-ghost use Rattle.cj_plan.specs.Plans.{PlansChange};
+ghost use Rattle.cj_expr.specs.Results.{integer_within};
+ghost use Rattle.cj_plan.specs.Changes.{MakesChange};
+ghost use Rattle.cj_plan.specs.Rewritings.{GetIntegers, SetsInPlace};
 ghost use Rattle.cj_rows.specs.RowEntries as entries;
 
 use crate::conditions::{bound, has_unknown_column, matching, mixes_kinds};
 use crate::names::is_distinct;
-use crate::plan::{Plan, Planned};
+use crate::plan::{Change, Changed, Plan};
+use crate::rewriting::Rewriting;
 use cj_expr::{Formula, Predicate, Scope, ValueError, formula_of};
 use cj_model::{
     BAD_COLUMNS, ColRef, Cond, Duplicate, NO_COLUMN, Names, NoMemory, OVERFLOW, Refusal, Row, Set,
@@ -182,24 +185,69 @@ fn new_rows(
     Ok(Some(changes))
 }
 
+fn are_integers(value: &Formula, rows: &[&Row]) -> bool
+    ensures { result ≡ true → All (λ row. is_some (integer_within (value_of row.now (formula value.now))) ≡ true) rows.now }
+{
+    rows.iter()
+        .all(|row| value.integer_in(row.as_slice()).is_some())
+}
+
+/// Whether more than an eighth of a table's rows are given an INTEGER of 64 bits in one column, and
+/// nothing else. Fewer rows cost less by their keys than a walk over all.
+fn get_integers(count: usize, rows: &[&Row], assigns: &[Assignment]) -> bool
+    ensures { result ≡ true → GetIntegers (assignments assigns.now) (map deref rows.now) }
+{
+    match assigns {
+        [assign] => rows.len() > count / 8 && are_integers(&assign.value, rows),
+        _ => false,
+    }
+}
+
+/// One assignment, made in place.
+fn in_place(
+    mut assigns: Vec<Assignment>,
+    condition: Option<Predicate>,
+    written: u64,
+) -> Change
+    requires { length assigns.items ≡ 1 }
+    ensures { SetsInPlace (assignments assigns.items) condition written result }
+{
+    let Some(Assignment { place, value }) = assigns.pop() else {
+        unreachable!()
+    };
+    Change::InPlace {
+        rewriting: Rewriting {
+            place,
+            value,
+            condition,
+        },
+        written,
+    }
+}
+
 /// What gives the rows that meet the condition their new values.
 fn with_new_values(
     alloc: Global,
     view: &View,
-    assigns: &[Assignment],
-    condition: &Option<Predicate>,
-) -> Result<Planned, NoMemory>
-    requires { KeepsKey view.now.schema.key (assignments assigns.now) }
-    ensures { PlansChange view.now (updates.with_new_values view.now.rows (assignments assigns.now) condition.now) result }
+    is_free: bool,
+    assigns: Vec<Assignment>,
+    condition: Option<Predicate>,
+) -> Result<Changed, NoMemory>
+    requires { KeepsKey view.now.schema.key (assignments assigns.items) }
+    ensures { MakesChange is_free view.now (updates.with_new_values view.now.rows (assignments assigns.items) condition) result }
 {
     view.legal();
-    let rows = matching(alloc, view, condition)?;
-    match new_rows(alloc, view.schema().key as usize, &rows, assigns)? {
-        Some(changes) => Ok(Ok(Plan {
+    let rows = matching(alloc, view, &condition)?;
+    let written = rows.len() as u64;
+    if is_free && get_integers(view.count(), &rows, &assigns) {
+        return Ok(Ok(in_place(assigns, condition, written)));
+    }
+    match new_rows(alloc, view.schema().key as usize, &rows, &assigns)? {
+        Some(changes) => Ok(Ok(Change::ByKey(Plan {
             changes,
             count: view.count(),
-            written: rows.len() as u64,
-        })),
+            written,
+        }))),
         None => Ok(Err(Refusal::of_code(OVERFLOW))),
     }
 }
@@ -208,27 +256,29 @@ fn with_new_values(
 fn with_assignments(
     alloc: Global,
     view: &View,
+    is_free: bool,
     scope: &Scope,
     sets: &[Set],
     when: &Option<Cond>,
-) -> Result<Planned, NoMemory>
+) -> Result<Changed, NoMemory>
     requires { KeepsKey view.now.schema.key (map (updates.assignment_of scope.now) sets.now) }
-    ensures { PlansChange view.now (updates.with_new_values view.now.rows (map (updates.assignment_of scope.now) sets.now) (option_map (scopes.predicate_of scope.now) when.now)) result }
+    ensures { MakesChange is_free view.now (updates.with_new_values view.now.rows (map (updates.assignment_of scope.now) sets.now) (option_map (scopes.predicate_of scope.now) when.now)) result }
 {
     let assigns = assignments_of(alloc, scope, sets)?;
     let condition = bound(alloc, scope, when)?;
-    let planned = with_new_values(alloc, view, &assigns, &condition)?;
-    Ok(planned)
+    let changed = with_new_values(alloc, view, is_free, assigns, condition)?;
+    Ok(changed)
 }
 
-/// What an UPDATE is to change of a table.
+/// How an UPDATE is to change a table; in place only where it is free of drafts.
 pub fn updated(
     alloc: Global,
     view: &View,
+    is_free: bool,
     sets: &[Set],
     when: &Option<Cond>,
-) -> Result<Planned, NoMemory>
-    ensures { PlansChange view.now (updates.updated view.now sets.now when.now) result }
+) -> Result<Changed, NoMemory>
+    ensures { MakesChange is_free view.now (updates.updated view.now sets.now when.now) result }
 {
     let schema = view.schema();
     let scope = Scope::of(alloc, &[schema])?;
@@ -241,6 +291,6 @@ pub fn updated(
     if has_mixed_kinds(&scope, sets, when) {
         return Ok(Err(Refusal::of_code(WRONG_TYPE)));
     }
-    let planned = with_assignments(alloc, view, &scope, sets, when)?;
-    Ok(planned)
+    let changed = with_assignments(alloc, view, is_free, &scope, sets, when)?;
+    Ok(changed)
 }

@@ -9,8 +9,8 @@ use Rattle.cj_plan.proofs.update.with_new_values.Goals as goal
 pub returns-in-Some : goal.returns-in-Some
 returns-in-Some c =
     let t = c.args.view.now in
-    let as' = assignments c.args.assigns.now in
-    let test = satisfies c.args.condition.now in
+    let as' = assignments c.args.assigns.items in
+    let test = satisfies c.args.condition in
     let rows = c.in_ok-rows.rows in
     let size : length rows.items ≡ length (filter test t.rows) = sym (length-map rows.items deref) ∙ ap length c.in_ok-rows.ensures in
     let made : Some c.in-Some.changes ≡ values_or_none t.schema.key as' (filter test t.rows) = sym c.in-Some.is ∙ c.in_ok-changes.ensures
@@ -23,8 +23,8 @@ returns-in-Some c =
 pub returns : goal.returns
 returns c =
     let t = c.args.view.now in
-    let as' = assignments c.args.assigns.now in
-    let test = satisfies c.args.condition.now in
+    let as' = assignments c.args.assigns.items in
+    let test = satisfies c.args.condition in
     let made : None ≡ values_or_none t.schema.key as' (filter test t.rows) = sym c.in-None.is ∙ c.in_ok-changes.ensures
     ∙ ap (λ (s : Schema). values_or_none s.key as' (map deref c.deref.result.now)) c.schema.ensures
     ∙ ap (λ l. values_or_none t.schema.key as' (map deref l)) c.deref.ensures.value ∙ ap (values_or_none t.schema.key as') c.in_ok-rows.ensures in

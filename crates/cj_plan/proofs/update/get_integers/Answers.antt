@@ -1,0 +1,15 @@
+use Rattle.std.proofs.Common.{◌≡◌, true, List, map, sym, subst}
+use Rattle.std.specs.Prelude.{is_some}
+use Rattle.std.proofs.lemmas.List.Elements.{All-map}
+use Rattle.cj_plan.proofs.Common.{assignments, deref, Value}
+use Rattle.cj_model.specs.Database.Evaluation.{value_of}
+use Rattle.cj_expr.specs.Results.{integer_within}
+use Rattle.cj_expr.specs.Shapes.{formula}
+use Rattle.cj_plan.specs.Rewritings.{GetIntegers}
+use Rattle.cj_plan.proofs.InPlace.{one_item}
+use Rattle.cj_plan.proofs.update.get_integers.Goals as goal
+
+pub returns-then-rows-count : goal.returns-then-rows-count
+returns-then-rows-count c = λ is.
+    subst (λ sets. GetIntegers (assignments sets) (map deref c.args.rows.now)) (sym (one_item c.args.assigns.now c.assign-item.result c.in-len1.len_at_least c.in-len1.len_below c.assign-item.is))
+    (All-map (λ (row : List Value). is_some (integer_within (value_of row (formula c.assign-item.result.value))) ≡ true) deref c.args.rows.now (c.are_integers.ensures is))

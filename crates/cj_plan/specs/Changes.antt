@@ -1,0 +1,36 @@
+-- How a table is changed.
+use Rattle.std.specs.Prelude.{◌≡◌, ℕ, Bool, true, List, map, IfOk}
+use Rattle.std.specs.declared.result.Result.{Result}
+use Rattle.std.specs.declared.result.Result.TheVariants.{Ok, Err}
+use Rattle.cj_model.specs.declared.value.Value.{Value}
+use Rattle.cj_model.specs.declared.memory.NoMemory.{NoMemory}
+use Rattle.cj_model.specs.declared.database.Table.{Table}
+use Rattle.cj_model.specs.declared.answer.Refusal.{Refusal}
+use Rattle.cj_model.specs.Database.Inserts.{Changed}
+use Rattle.cj_rows.specs.Stored.{KeepsKeys}
+use Rattle.cj_plan.specs.declared.plan.Plan.{Plan}
+use Rattle.cj_plan.specs.declared.plan.Change.{Change}
+use Rattle.cj_plan.specs.declared.plan.Change.TheVariants.{ByKey, InPlace}
+use Rattle.cj_plan.specs.Plans.{Leaves}
+use Rattle.cj_plan.specs.Rewritings.{rewritten}
+
+-- the change leaves these rows, and has written so many; rows are changed in their places only of a table that is free
+abbrev pub Changes : Bool → Table → Change → List (List Value) → ℕ → Type 0
+Changes free t (ByKey p) rows n = Leaves t p rows n
+Changes free t (InPlace r written) rows n = (free ≡ true) × KeepsKeys t.schema.key (rewritten r) × (map (rewritten r) t.rows ≡ rows) × (written ≡ n)
+
+-- a change that leaves the rows that are meant, or the refusal that is meant
+abbrev pub Makes : Bool → Table → Changed → Result Change Refusal → Type 0
+Makes free t (Ok (rows, n)) (Ok c) = Changes free t c rows n
+Makes free t (Ok (rows, n)) (Err r) = ⊥
+Makes free t (Err refusal) (Ok c) = ⊥
+Makes free t (Err refusal) (Err r) = r ≡ refusal
+
+-- the same, where there is memory
+abbrev pub MakesChange : Bool → Table → Changed → Result (Result Change Refusal) NoMemory → Type 0
+MakesChange free t change result = IfOk result (Makes free t change)
+
+-- a plan as a change
+abbrev pub keyed : Result Plan Refusal → Result Change Refusal
+keyed (Ok p) = Ok (ByKey p)
+keyed (Err r) = Err r
