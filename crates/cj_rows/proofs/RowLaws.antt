@@ -1,11 +1,11 @@
 -- Rows with their keys: look-ups, rows put and rows taken out.
 use Rattle.std.proofs.Common.{◌≡◌, ℕ, Bool, true, false, cond, List, [], ◌∷◌, map, refl, ap, sym, ◌∙◌, subst, ⊎_elim, Ordering, Less, Equal, Greater, is_eq}
+use Rattle.std.proofs.lemmas.List.{length-map}
 use Rattle.std.specs.Prelude.{All, filter, fold, length, not, option_map}
 use Rattle.cj_rows.proofs.Common.{All-cons, All-head, All-nil, All-tail, at, by_key, cases_Bool, cell, changed, cond-false, cond-true, insert_entry, is_at, kept, KeysAbove, KeysRise, match_ordering, merged, None, Option, ordering_reverse, put_by, remove_entry, Rises, row_with_key, Some, tied_itself, Value, value_cmp, value_exact, value_total, values_of}
 use Rattle.cj_model.proofs.RisingLaws.{by_order}
 use Rattle.cj_rows.specs.RowEntries.{RowEntries, keyed, puts, removals}
 use Rattle.cj_rows.specs.Stored.{AreRows, KeepsKeys}
-use Rattle.std.proofs.lemmas.List.{length-map}
 use Rattle.cj_rows.proofs.EntryLaws.{note_change, merged_none, rise_insert}
 
 abbrev Entries : Type 0
