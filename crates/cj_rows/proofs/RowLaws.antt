@@ -1,9 +1,11 @@
 -- Rows with their keys: look-ups, rows put and rows taken out.
 use Rattle.std.proofs.Common.{◌≡◌, ℕ, Bool, true, false, cond, List, [], ◌∷◌, map, refl, ap, sym, ◌∙◌, subst, ⊎_elim, Ordering, Less, Equal, Greater, is_eq}
-use Rattle.std.specs.Prelude.{All, filter, fold, not}
-use Rattle.cj_rows.proofs.Common.{All-cons, All-head, All-nil, All-tail, at, by_key, cases_Bool, cell, changed, cond-false, cond-true, insert_entry, is_at, KeysAbove, KeysRise, match_ordering, merged, None, Option, ordering_reverse, put_by, remove_entry, Rises, row_with_key, Some, tied_itself, Value, value_cmp, value_exact, value_total, values_of}
+use Rattle.std.proofs.lemmas.List.{length-map}
+use Rattle.std.specs.Prelude.{All, filter, fold, length, not, option_map}
+use Rattle.cj_rows.proofs.Common.{All-cons, All-head, All-nil, All-tail, at, by_key, cases_Bool, cell, changed, cond-false, cond-true, insert_entry, is_at, kept, KeysAbove, KeysRise, match_ordering, merged, None, Option, ordering_reverse, put_by, remove_entry, Rises, row_with_key, Some, tied_itself, Value, value_cmp, value_exact, value_total, values_of}
 use Rattle.cj_model.proofs.RisingLaws.{by_order}
 use Rattle.cj_rows.specs.RowEntries.{RowEntries, keyed, puts, removals}
+use Rattle.cj_rows.specs.Stored.{AreRows, KeepsKeys}
 use Rattle.cj_rows.proofs.EntryLaws.{note_change, merged_none, rise_insert}
 
 abbrev Entries : Type 0
@@ -143,3 +145,41 @@ module _ (k : ℕ) (p : List Value → Bool) (f : List Value → List Value) (ke
       ∙ ap (λ (l : List (List Value)). r ∷ l) (put_changed rs h.1)
       ∙ ap (λ (x : List Value). x ∷ map (λ r. cond (p r) (f r) r) rs) (sym (cond-false _ _ _ n)))
       (cases_Bool (p r))
+
+-- ---- rows made anew
+
+module _ (f : List Value → List Value) where
+  abbrev pub anew : RowEntries → RowEntries
+  anew es = map (λ e. (e.0, option_map f e.1)) es
+
+  abbrev values_anew : Entries → Entries
+  values_anew es = map (λ e. (e.0, f e.1)) es
+
+  above_anew : (v : Value) (es : RowEntries) → KeysAbove value_cmp v es → KeysAbove value_cmp v (anew es)
+  above_anew v [] h = tt
+  above_anew v (e ∷ es) h = (h.0, above_anew v es h.1)
+
+  pub rise_anew : (es : RowEntries) → KeysRise value_cmp es → KeysRise value_cmp (anew es)
+  rise_anew [] h = tt
+  rise_anew (e ∷ es) h = (above_anew e.0 es h.0, rise_anew es h.1)
+
+  kept_anew : (es : RowEntries) → kept (anew es) ≡ values_anew (kept es)
+  kept_anew [] = refl
+  kept_anew ((v, None) ∷ es) = kept_anew es
+  kept_anew ((v, Some r) ∷ es) = ap (λ (l : Entries). (v, f r) ∷ l) (kept_anew es)
+
+  pub rows_anew : (es : RowEntries) → values_of (kept (anew es)) ≡ map f (values_of (kept es))
+  rows_anew [] = refl
+  rows_anew ((v, None) ∷ es) = rows_anew es
+  rows_anew ((v, Some r) ∷ es) = ap (λ (l : List (List Value)). f r ∷ l) (rows_anew es)
+
+  module _ (k : ℕ) (keeps : KeepsKeys k f) where
+    keyed_anew : (rows : List (List Value)) → values_anew (keyed k rows) ≡ keyed k (map f rows)
+    keyed_anew [] = refl
+    keyed_anew (r ∷ rows) = ap (λ (v : Value). (v, f r) ∷ values_anew (keyed k rows)) (sym (keeps.same r)) ∙ ap (λ (l : Entries). (cell (f r) k, f r) ∷ l) (keyed_anew rows)
+
+    pub own_anew : (es : RowEntries) (n : ℕ) → AreRows k (kept es) n → AreRows k (kept (anew es)) n
+    own_anew es n a = record {
+      own_keys = kept_anew es ∙ ap values_anew a.own_keys ∙ keyed_anew (values_of (kept es)) ∙ sym (ap (keyed k) (rows_anew es));
+      count = a.count ∙ sym (ap length (rows_anew es) ∙ length-map (values_of (kept es)) f);
+    }

@@ -1,14 +1,14 @@
 -- What a stored table shows, and what changes of it leave.
-use Rattle.std.proofs.Common.{◌≡◌, ℕ, ◌<◌, true, false, List, [], ap, sym, ◌∙◌, subst, arith, ⊎_elim}
+use Rattle.std.proofs.Common.{◌≡◌, ℕ, ◌<◌, true, false, List, [], map, ap, sym, ◌∙◌, subst, arith, ⊎_elim}
 use Rattle.std.specs.Prelude.{◌==◌, OnErr}
 use Rattle.std.specs.declared.result.Result.{Result}
 use Rattle.std.specs.declared.result.Result.TheVariants.{Ok, Err}
 use Rattle.std.proofs.lemmas.Bool.{cases_Bool, cond-true, cond-false, eq-eqb, ne_eqb, eqb-true}
 use Rattle.cj_rows.proofs.Common.{at, Extends, from_key, HasKeysOf, kept, keyed, KeysRise, knows, KnowsKeys, merged, None, Option, other_writer, overlaid, row_with_key, RowEntries, rows_from, Schema, seen, Slot, Some, Table, Value, value_cmp, values_of}
 use Rattle.cj_rows.specs.declared.stored.StoredDraft.{StoredDraft}
-use Rattle.cj_rows.specs.Stored.{slot_shown, shown_draft, AreRows, DraftHolds, HoldsTable, rows_after, changed_slot, IsChangeOf}
+use Rattle.cj_rows.specs.Stored.{slot_shown, shown_draft, AreRows, DraftHolds, HoldsTable, KeepsKeys, rows_after, changed_slot, IsChangeOf}
 use Rattle.cj_rows.proofs.FromLaws.{own_part}
-use Rattle.cj_rows.proofs.RowLaws.{at_keyed}
+use Rattle.cj_rows.proofs.RowLaws.{anew, at_keyed, own_anew, rise_anew, rows_anew}
 use Rattle.cj_rows.proofs.RowEntryLaws.{known_still}
 
 pub on_err : {A B : Type 0} {P : Type 0} (r : Result A B) → P → OnErr r P
@@ -198,3 +198,14 @@ module _ (schema : Schema) (base : RowEntries) (n tx : ℕ) (changes : RowEntrie
           draft_shown (merged value_cmp (keyed schema.key (seen (slot_shown schema base (Some d₀)) tx).rows) changes) (es ∙ ap (λ (l : List (List Value)). merged value_cmp (keyed schema.key l) changes) (sym rows))
           ∙ ap (λ (m : ℕ). record { base = record { schema = schema; rows = values_of (kept base) }; draft = Some (record { tx = m; table = record { schema = schema; rows = rows_after schema.key (seen (slot_shown schema base (Some d₀)) tx).rows changes } }) }) t
           ∙ sym (cond-false _ _ _ (ne_eqb _ _ z))
+
+-- ---- rows made anew
+
+module _ (schema : Schema) (base : RowEntries) (f : List Value → List Value) where
+  pub anew_holds : (n : ℕ) (o : Option StoredDraft) → shown_draft schema base o ≡ None → KeepsKeys schema.key f → HoldsTable schema.key base n o → HoldsTable schema.key (anew f base) n o
+  anew_holds n None i keeps h = record { rises = rise_anew f base h.rises; rows = own_anew f schema.key keeps base n h.rows; draft = tt }
+  anew_holds n (Some d) i keeps h = cc i
+
+  pub anew_shown : (o : Option StoredDraft) → shown_draft schema base o ≡ None → slot_shown schema (anew f base) o ≡ record { base = record { schema = schema; rows = map f (values_of (kept base)) }; draft = None }
+  anew_shown None i = ap (λ (rows : List (List Value)). record { base = record { schema = schema; rows = rows }; draft = None }) (rows_anew f base)
+  anew_shown (Some d) i = cc i

@@ -9,6 +9,7 @@ use Rattle.cj_model.specs.declared.database.Draft.{Draft}
 use Rattle.cj_model.specs.declared.database.Slot.{Slot}
 use Rattle.cj_model.specs.Database.Values.{value_cmp}
 use Rattle.cj_model.specs.Database.Steps.{seen, with_table}
+use Rattle.cj_model.specs.Database.Tables.{cell}
 use Rattle.cj_rows.specs.declared.stored.StoredDraft.{StoredDraft}
 use Rattle.cj_rows.specs.Entries.{KeysRise}
 use Rattle.cj_rows.specs.Layers.{kept, merged}
@@ -54,3 +55,7 @@ changed_slot s tx changes = with_table s tx (record { schema = s.base.schema; ro
 pub record IsChangeOf (k : ℕ) (old : List (List Value)) (changes : RowEntries) (n : ℕ) : Type 0 where
   pub rises : KeysRise value_cmp changes
   pub rows : AreRows k (merged value_cmp (keyed k old) changes) n
+
+-- no row gets another key
+pub record KeepsKeys (k : ℕ) (f : List Value → List Value) : Type 0 where
+  pub same : (row : List Value) → cell (f row) k ≡ cell row k

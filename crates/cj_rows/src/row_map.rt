@@ -1,6 +1,6 @@
 //! Rows by their keys.
 
-ghost use Rattle.std.specs.Prelude.{◌≡◌, ◌↔◌, ◌∷◌, [], true, None, Some, option_copied, reverse, IfOk, IsTrue, OnOk, OnErr};
+ghost use Rattle.std.specs.Prelude.{◌≡◌, ◌↔◌, ◌∷◌, [], true, None, Some, map, option_copied, option_map, reverse, IfOk, IsTrue, OnOk, OnErr};
 ghost use Rattle.std.specs.BTreeMap.{insert_entry, is_at};
 ghost use Rattle.std.specs.Map.{remove_entry, values_of};
 ghost use Rattle.std.specs.declared.cmp.Ordering.TheVariants.{Less};
@@ -9,6 +9,7 @@ ghost use Rattle.cj_rows.specs.Entries.{KeysRise, at};
 ghost use Rattle.cj_rows.specs.Layers.{changed, kept, merged};
 ghost use Rattle.cj_rows.specs.RowEntries as entries;
 
+use crate::rewriting::Rewriter;
 use crate::scan::{Entries, Scan};
 use crate::scan_back::ScanBack;
 use cj_model::{Duplicate, NoMemory, Row, Same, Value};
@@ -114,10 +115,10 @@ impl RowMap {
     fn knows_all(&self, changes: &RowMap) -> bool
         ensures { result ≡ true → entries.KnowsKeys self.now changes.now }
     {
-        let mut known = self.all_entries();
         if changes.rows.len() <= self.rows.len() / 4 {
             return false;
         }
+        let mut known = self.all_entries();
         for (key, _) in &changes.rows {
             if !reaches(&mut known, key) {
                 return false;
@@ -260,6 +261,18 @@ impl RowMap {
 }
 
 impl RowMap {
+    /// Makes each row anew in its place, which takes no memory.
+    pub fn rewrite<R: Rewriter>(&mut self, by: &R)
+        ensures { self.new ≡ map (λ e. (e.0, option_map (R.rewritten by.now) e.1)) self.old }
+    {
+        self.rows.retain(|_key, row| {
+            rewrite_row(row, by);
+            true
+        });
+    }
+}
+
+impl RowMap {
     fn all_entries(&self) -> Entries<'_>
         ensures { result ≡ self.now }
     {
@@ -353,5 +366,13 @@ fn copied(alloc: Global, row: Option<&Row>) -> Result<Option<Row>, NoMemory>
     match row {
         Some(row) => Ok(Some(row.copy(alloc)?)),
         None => Ok(None),
+    }
+}
+
+fn rewrite_row<R: Rewriter>(row: &mut Option<Row>, by: &R)
+    ensures { row.new ≡ option_map (R.rewritten by.now) row.old }
+{
+    if let Some(row) = row {
+        by.rewrite(row);
     }
 }

@@ -1,6 +1,6 @@
 //! A table as it is kept: its rows by their keys, and what a transaction has changed.
 
-ghost use Rattle.std.specs.Prelude.{◌≡◌, [], None, length, option_copied, option_map, reverse, OnOk, OnErr};
+ghost use Rattle.std.specs.Prelude.{◌≡◌, [], None, length, map, option_copied, option_map, reverse, OnOk, OnErr};
 ghost use Rattle.cj_model.specs.Database.Steps.{aborted, committed, seen};
 ghost use Rattle.cj_model.specs.Database.Steps as steps;
 ghost use Rattle.cj_model.specs.Database.Values.{value_cmp};
@@ -8,8 +8,9 @@ ghost use Rattle.cj_rows.specs.Entries.{KeysRise};
 ghost use Rattle.cj_rows.specs.Layers.{merged};
 ghost use Rattle.cj_rows.specs.Lookups.{row_with_key, rows_from};
 ghost use Rattle.cj_rows.specs.RowEntries.{HasKeysOf, overlaid};
-ghost use Rattle.cj_rows.specs.Stored.{IsChangeOf, changed_slot};
+ghost use Rattle.cj_rows.specs.Stored.{IsChangeOf, KeepsKeys, changed_slot};
 
+use crate::rewriting::Rewriter;
 use crate::row_map::RowMap;
 use crate::scan::Scan;
 use crate::scan_back::ScanBack;
@@ -145,6 +146,16 @@ impl StoredTable {
                 Ok(())
             }
         }
+    }
+
+    /// Makes each row anew in its place, which takes no memory. No transaction may have a draft, and
+    /// each row keeps its key.
+    pub fn rewrite<R: Rewriter>(&mut self, by: &R)
+        requires free { self.old.draft ≡ None }
+        requires keys { KeepsKeys self.old.base.schema.key (R.rewritten by.now) }
+        ensures { self.new ≡ record { base = record { schema = self.old.base.schema; rows = map (R.rewritten by.now) self.old.base.rows }; draft = None } }
+    {
+        self.base.rewrite(by);
     }
 
     /// Makes the transaction's draft the base, which takes no memory.

@@ -1,0 +1,15 @@
+//! Rows made anew in their places.
+
+ghost use Rattle.std.specs.Prelude.{◌≡◌, List};
+ghost use Rattle.cj_model.specs.declared.value.Value.{Value};
+
+use cj_model::Row;
+
+/// A way to make a row anew in its place, which takes no memory.
+pub trait Rewriter {
+    /// The row that it makes of a row.
+    ghost rewritten: { Self → List Value → List Value };
+
+    fn rewrite(&self, row: &mut Row)
+        ensures { row.new ≡ rewritten self.now row.old };
+}
