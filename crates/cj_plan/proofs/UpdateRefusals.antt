@@ -1,16 +1,18 @@
 -- The refusals of UPDATE in their order.
 use Rattle.std.proofs.Common.{◌≡◌, Bool, true, false, List, [], ◌∷◌, map, ap, sym, ◌∙◌, subst}
 use Rattle.std.specs.Prelude.{◌||◌, option_map}
-use Rattle.cj_plan.proofs.Common.{Changed, Err, list_any, Option, or_parts, Plan, Plans, Refusal, refusal_of_code, refuse_if, Result, Set, Table}
+use Rattle.cj_plan.proofs.Common.{Changed, Err, list_any, Option, or_parts, Refusal, refusal_of_code, refuse_if, Result, Set, Table}
 use Rattle.cj_model.specs.declared.codes.TheConstants.{NO_COLUMN, BAD_COLUMNS, WRONG_TYPE}
 use Rattle.cj_model.specs.Database.Conditions.{Condition}
 use Rattle.cj_model.specs.Database.Scopes.{Scope, scope_of, where_has_unknown_column, where_mixes_kinds, predicate_of}
 use Rattle.cj_model.specs.Database.Updates.{set_has_unknown_column, sets_twice, sets_key, set_mixes_kinds, assignment_of, with_new_values, updated}
 use Rattle.cj_model.proofs.UpdateLaws.{key_assigned}
 use Rattle.cj_plan.specs.Assignments.{KeepsKey}
-use Rattle.cj_plan.proofs.PlanLaws.{refused, past}
+use Rattle.cj_plan.specs.Changes.{Makes}
+use Rattle.cj_plan.specs.declared.plan.Change.{Change}
+use Rattle.cj_plan.proofs.InPlace.{makes_refused, makes_past}
 
-module _ (t : Table) (sets : List Set) (when : Option Condition) where
+module _ (free : Bool) (t : Table) (sets : List Set) (when : Option Condition) where
   abbrev unknown : Scope → Bool
   unknown s = list_any (set_has_unknown_column s) sets || where_has_unknown_column s when
 
@@ -33,18 +35,18 @@ module _ (t : Table) (sets : List Set) (when : Option Condition) where
   after_names = refuse_if (bad own) (refusal_of_code BAD_COLUMNS) after_columns
 
   module _ (s : Scope) (is : s ≡ own) where
-    pub first_refused : (r : Refusal) → unknown s ≡ true → r ≡ refusal_of_code NO_COLUMN → Plans t (updated t sets when) (Err r)
-    first_refused r h e = refused t (unknown own) (refusal_of_code NO_COLUMN) r after_names (ap unknown (sym is) ∙ h) e
+    pub first_refused : (r : Refusal) → unknown s ≡ true → r ≡ refusal_of_code NO_COLUMN → Makes free t (updated t sets when) (Err r)
+    first_refused r h e = makes_refused free t (unknown own) (refusal_of_code NO_COLUMN) r after_names (ap unknown (sym is) ∙ h) e
 
-    pub second_refused : (r : Refusal) → unknown s ≡ false → bad s ≡ true → r ≡ refusal_of_code BAD_COLUMNS → Plans t (updated t sets when) (Err r)
-    second_refused r f h e = past t (unknown own) (refusal_of_code NO_COLUMN) after_names (Err r) (ap unknown (sym is) ∙ f) (refused t (bad own) (refusal_of_code BAD_COLUMNS) r after_columns (ap bad (sym is) ∙ h) e)
+    pub second_refused : (r : Refusal) → unknown s ≡ false → bad s ≡ true → r ≡ refusal_of_code BAD_COLUMNS → Makes free t (updated t sets when) (Err r)
+    second_refused r f h e = makes_past free t (unknown own) (refusal_of_code NO_COLUMN) after_names (Err r) (ap unknown (sym is) ∙ f) (makes_refused free t (bad own) (refusal_of_code BAD_COLUMNS) r after_columns (ap bad (sym is) ∙ h) e)
 
-    pub third_refused : (r : Refusal) → unknown s ≡ false → bad s ≡ false → mixed s ≡ true → r ≡ refusal_of_code WRONG_TYPE → Plans t (updated t sets when) (Err r)
-    third_refused r f g h e = past t (unknown own) (refusal_of_code NO_COLUMN) after_names (Err r) (ap unknown (sym is) ∙ f) (past t (bad own) (refusal_of_code BAD_COLUMNS) after_columns (Err r) (ap bad (sym is) ∙ g) (refused t (mixed own) (refusal_of_code WRONG_TYPE) r (made own) (ap mixed (sym is) ∙ h) e))
+    pub third_refused : (r : Refusal) → unknown s ≡ false → bad s ≡ false → mixed s ≡ true → r ≡ refusal_of_code WRONG_TYPE → Makes free t (updated t sets when) (Err r)
+    third_refused r f g h e = makes_past free t (unknown own) (refusal_of_code NO_COLUMN) after_names (Err r) (ap unknown (sym is) ∙ f) (makes_past free t (bad own) (refusal_of_code BAD_COLUMNS) after_columns (Err r) (ap bad (sym is) ∙ g) (makes_refused free t (mixed own) (refusal_of_code WRONG_TYPE) r (made own) (ap mixed (sym is) ∙ h) e))
 
-    pub all_past : (x : Result Plan Refusal) → unknown s ≡ false → bad s ≡ false → mixed s ≡ false → Plans t (made s) x → Plans t (updated t sets when) x
+    pub all_past : (x : Result Change Refusal) → unknown s ≡ false → bad s ≡ false → mixed s ≡ false → Makes free t (made s) x → Makes free t (updated t sets when) x
     all_past x f g h p =
-        past t (unknown own) (refusal_of_code NO_COLUMN) after_names x (ap unknown (sym is) ∙ f) (past t (bad own) (refusal_of_code BAD_COLUMNS) after_columns x (ap bad (sym is) ∙ g) (past t (mixed own) (refusal_of_code WRONG_TYPE) (made own) x (ap mixed (sym is) ∙ h) (subst (λ s. Plans t (made s) x) is p)))
+        makes_past free t (unknown own) (refusal_of_code NO_COLUMN) after_names x (ap unknown (sym is) ∙ f) (makes_past free t (bad own) (refusal_of_code BAD_COLUMNS) after_columns x (ap bad (sym is) ∙ g) (makes_past free t (mixed own) (refusal_of_code WRONG_TYPE) (made own) x (ap mixed (sym is) ∙ h) (subst (λ s. Makes free t (made s) x) is p)))
 
     pub keeps_key : bad s ≡ false → KeepsKey t.schema.key (map (assignment_of s) sets)
     keeps_key g = record { same = λ row. key_assigned t.schema.table t.schema.columns t.schema.key s sets row row (or_parts (sets_twice sets) (list_any (sets_key s t.schema.key) sets) g).1 }

@@ -12,12 +12,12 @@ use Rattle.cj_plan.specs.declared.plan.Plan.{Plan}
 use Rattle.cj_plan.specs.declared.plan.Change.{Change}
 use Rattle.cj_plan.specs.declared.plan.Change.TheVariants.{ByKey, InPlace}
 use Rattle.cj_plan.specs.Plans.{Leaves}
-use Rattle.cj_plan.specs.Rewritings.{rewritten}
+use Rattle.cj_plan.specs.ColumnEdits.{edited}
 
 -- the change leaves these rows, and has written so many; rows are changed in their places only of a table that is free
 abbrev pub Changes : Bool → Table → Change → List (List Value) → ℕ → Type 0
 Changes free t (ByKey p) rows n = Leaves t p rows n
-Changes free t (InPlace r written) rows n = (free ≡ true) × KeepsKeys t.schema.key (rewritten r) × (map (rewritten r) t.rows ≡ rows) × (written ≡ n)
+Changes free t (InPlace r written) rows n = (free ≡ true) × KeepsKeys t.schema.key (edited r) × (map (edited r) t.rows ≡ rows) × (written ≡ n)
 
 -- a change that leaves the rows that are meant, or the refusal that is meant
 abbrev pub Makes : Bool → Table → Changed → Result Change Refusal → Type 0

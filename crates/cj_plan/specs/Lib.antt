@@ -2,4 +2,4 @@ pub mod Assignments
 pub mod Changes
 pub mod Inserts
 pub mod Plans
-pub mod Rewritings
+pub mod ColumnEdits

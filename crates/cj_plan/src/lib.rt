@@ -1,14 +1,14 @@
 //! What INSERT, UPDATE and DELETE change of a table, or the first refusal.
 #![tactic(auto)]
 
+mod column_edit;
 mod conditions;
 mod delete;
 mod insert;
 mod names;
 mod plan;
-mod rewriting;
 mod update;
 
+pub use column_edit::ColumnEdit;
 pub use names::is_distinct;
 pub use plan::{Change, Changed, Plan, changed};
-pub use rewriting::Rewriting;

@@ -4,9 +4,9 @@ ghost use Rattle.std.specs.Prelude.{◌≡◌};
 ghost use Rattle.cj_model.specs.Database.Updates.{change};
 ghost use Rattle.cj_plan.specs.Changes.{MakesChange, keyed};
 
+use crate::column_edit::ColumnEdit;
 use crate::delete::deleted;
 use crate::insert::inserted;
-use crate::rewriting::Rewriting;
 use crate::update::updated;
 use cj_model::{NoMemory, Refusal, Write};
 use cj_rows::{RowMap, View};
@@ -31,7 +31,7 @@ pub enum Change {
     ByKey(Plan),
     /// Each row in its place, which takes no memory, where no transaction has a draft of the table.
     InPlace {
-        rewriting: Rewriting,
+        edit: ColumnEdit,
         /// The number of rows that are written.
         written: u64,
     },

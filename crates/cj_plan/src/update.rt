@@ -10,13 +10,13 @@ ghost use Rattle.cj_expr.specs.Shapes.{formula};
 ghost use Rattle.cj_plan.specs.Assignments.{KeepsKey, assignment_by_place, assignments, values_or_none};
 ghost use Rattle.cj_expr.specs.Results.{integer_within};
 ghost use Rattle.cj_plan.specs.Changes.{MakesChange};
-ghost use Rattle.cj_plan.specs.Rewritings.{GetIntegers, SetsInPlace};
+ghost use Rattle.cj_plan.specs.ColumnEdits.{GetIntegers, SetsInPlace};
 ghost use Rattle.cj_rows.specs.RowEntries as entries;
 
+use crate::column_edit::ColumnEdit;
 use crate::conditions::{bound, has_unknown_column, matching, mixes_kinds};
 use crate::names::is_distinct;
 use crate::plan::{Change, Changed, Plan};
-use crate::rewriting::Rewriting;
 use cj_expr::{Formula, Predicate, Scope, ValueError, formula_of};
 use cj_model::{
     BAD_COLUMNS, ColRef, Cond, Duplicate, NO_COLUMN, Names, NoMemory, OVERFLOW, Refusal, Row, Set,
@@ -195,7 +195,8 @@ fn are_integers(value: &Formula, rows: &[&Row]) -> bool
 /// Whether more than an eighth of a table's rows are given an INTEGER of 64 bits in one column, and
 /// nothing else. Fewer rows cost less by their keys than a walk over all.
 fn get_integers(count: usize, rows: &[&Row], assigns: &[Assignment]) -> bool
-    ensures { result ≡ true → GetIntegers (assignments assigns.now) (map deref rows.now) }
+    ensures integers { result ≡ true → GetIntegers (assignments assigns.now) (map deref rows.now) }
+    ensures one { result ≡ true → length assigns.now ≡ 1 }
 {
     match assigns {
         [assign] => rows.len() > count / 8 && are_integers(&assign.value, rows),
@@ -204,11 +205,7 @@ fn get_integers(count: usize, rows: &[&Row], assigns: &[Assignment]) -> bool
 }
 
 /// One assignment, made in place.
-fn in_place(
-    mut assigns: Vec<Assignment>,
-    condition: Option<Predicate>,
-    written: u64,
-) -> Change
+fn in_place(mut assigns: Vec<Assignment>, condition: Option<Predicate>, written: u64) -> Change
     requires { length assigns.items ≡ 1 }
     ensures { SetsInPlace (assignments assigns.items) condition written result }
 {
@@ -216,7 +213,7 @@ fn in_place(
         unreachable!()
     };
     Change::InPlace {
-        rewriting: Rewriting {
+        edit: ColumnEdit {
             place,
             value,
             condition,

@@ -2,7 +2,7 @@
 #![tactic(auto)]
 
 mod keys;
-mod rewriting;
+mod row_edit;
 mod row_map;
 mod scan;
 mod scan_back;
@@ -10,7 +10,7 @@ mod stored;
 mod view;
 
 pub use keys::{key_in, key_of};
-pub use rewriting::Rewriter;
+pub use row_edit::RowEdit;
 pub use row_map::RowMap;
 pub use scan::Scan;
 pub use scan_back::ScanBack;

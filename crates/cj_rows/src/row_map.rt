@@ -9,7 +9,7 @@ ghost use Rattle.cj_rows.specs.Entries.{KeysRise, at};
 ghost use Rattle.cj_rows.specs.Layers.{changed, kept, merged};
 ghost use Rattle.cj_rows.specs.RowEntries as entries;
 
-use crate::rewriting::Rewriter;
+use crate::row_edit::RowEdit;
 use crate::scan::{Entries, Scan};
 use crate::scan_back::ScanBack;
 use cj_model::{Duplicate, NoMemory, Row, Same, Value};
@@ -262,11 +262,11 @@ impl RowMap {
 
 impl RowMap {
     /// Makes each row anew in its place, which takes no memory.
-    pub fn rewrite<R: Rewriter>(&mut self, by: &R)
-        ensures { self.new ≡ map (λ e. (e.0, option_map (R.rewritten by.now) e.1)) self.old }
+    pub fn edit_rows<R: RowEdit>(&mut self, by: &R)
+        ensures { self.new ≡ map (λ e. (e.0, option_map (R.edited by.now) e.1)) self.old }
     {
         self.rows.retain(|_key, row| {
-            rewrite_row(row, by);
+            edit_row(row, by);
             true
         });
     }
@@ -369,10 +369,10 @@ fn copied(alloc: Global, row: Option<&Row>) -> Result<Option<Row>, NoMemory>
     }
 }
 
-fn rewrite_row<R: Rewriter>(row: &mut Option<Row>, by: &R)
-    ensures { row.new ≡ option_map (R.rewritten by.now) row.old }
+fn edit_row<R: RowEdit>(row: &mut Option<Row>, by: &R)
+    ensures { row.new ≡ option_map (R.edited by.now) row.old }
 {
     if let Some(row) = row {
-        by.rewrite(row);
+        by.edit(row);
     }
 }

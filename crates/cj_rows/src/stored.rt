@@ -10,7 +10,7 @@ ghost use Rattle.cj_rows.specs.Lookups.{row_with_key, rows_from};
 ghost use Rattle.cj_rows.specs.RowEntries.{HasKeysOf, overlaid};
 ghost use Rattle.cj_rows.specs.Stored.{IsChangeOf, KeepsKeys, changed_slot};
 
-use crate::rewriting::Rewriter;
+use crate::row_edit::RowEdit;
 use crate::row_map::RowMap;
 use crate::scan::Scan;
 use crate::scan_back::ScanBack;
@@ -150,12 +150,12 @@ impl StoredTable {
 
     /// Makes each row anew in its place, which takes no memory. No transaction may have a draft, and
     /// each row keeps its key.
-    pub fn rewrite<R: Rewriter>(&mut self, by: &R)
+    pub fn edit_rows<R: RowEdit>(&mut self, by: &R)
         requires free { self.old.draft ≡ None }
-        requires keys { KeepsKeys self.old.base.schema.key (R.rewritten by.now) }
-        ensures { self.new ≡ record { base = record { schema = self.old.base.schema; rows = map (R.rewritten by.now) self.old.base.rows }; draft = None } }
+        requires keys { KeepsKeys self.old.base.schema.key (R.edited by.now) }
+        ensures { self.new ≡ record { base = record { schema = self.old.base.schema; rows = map (R.edited by.now) self.old.base.rows }; draft = None } }
     {
-        self.base.rewrite(by);
+        self.base.edit_rows(by);
     }
 
     /// Makes the transaction's draft the base, which takes no memory.

@@ -1,5 +1,5 @@
 -- What a call that changes a database gives.
-use Rattle.std.specs.Prelude.{◌≡◌, ℕ, List}
+use Rattle.std.specs.Prelude.{◌≡◌, ℕ, Bool, List, not, is_some, ◌&&◌, ◌==◌}
 use Rattle.std.specs.declared.option.Option.{Option}
 use Rattle.std.specs.declared.option.Option.TheVariants.{None, Some}
 use Rattle.std.specs.declared.result.Result.{Result}
@@ -36,3 +36,7 @@ CarriesSlot old tx (Ok (rows, count)) (Ok o) new = (o ≡ Done count) × (new �
 CarriesSlot old tx (Err refusal) (Ok o) new = (o ≡ outcome.Refused refusal) × (new ≡ old)
 CarriesSlot old tx (Ok (rows, count)) (Err e) new = new ≡ old
 CarriesSlot old tx (Err refusal) (Err e) new = new ≡ old
+
+-- rows may be changed in their places: nobody has a draft of the table, and the write makes none
+abbrev pub is_free : Slot → ℕ → Bool
+is_free s tx = tx == 0 && not (is_some s.draft)

@@ -1,10 +1,24 @@
-use Rattle.std.proofs.Common.{◌≡◌, length, map, arith, sym, ap, ◌∙◌}
+use Rattle.std.proofs.Common.{◌≡◌, length, map, arith, sym, ap, subst, ◌∙◌}
 use Rattle.std.specs.declared.option.Option.TheVariants.{None, Some}
+use Rattle.std.proofs.lemmas.List.Sums.{length-filter}
 use Rattle.cj_plan.proofs.Common.{deref, filter, length-map, satisfies, Schema}
 use Rattle.cj_model.specs.Database.Updates.{overflows, assigned}
 use Rattle.cj_plan.specs.Assignments.{assignments, values_or_none}
-use Rattle.cj_plan.proofs.PlanLaws.{from_none, from_some, any_both, past, refused, update_leaves}
+use Rattle.cj_plan.specs.ColumnEdits.{GetIntegers}
+use Rattle.cj_plan.proofs.InPlace.{in_place, makes_past, makes_refused}
+use Rattle.cj_plan.proofs.PlanLaws.{from_none, from_some, any_both, update_leaves}
 use Rattle.cj_plan.proofs.update.with_new_values.Goals as goal
+
+pub returns-then-get_integers : goal.returns-then-get_integers
+returns-then-get_integers c =
+    let t = c.args.view.now in
+    let sets = assignments c.args.assigns.items in
+    let test = satisfies c.args.condition in
+    let rows = c.in_ok-rows.rows in
+    let size : length rows.items ≡ length (filter test t.rows) = sym (length-map rows.items deref) ∙ ap length c.in_ok-rows.ensures in
+    let integers : GetIntegers sets (filter test t.rows) = subst (λ l. GetIntegers sets l) (ap (map deref) c.deref.ensures.value ∙ c.in_ok-rows.ensures)
+    (subst (λ l. GetIntegers (assignments l) (map deref c.deref.result.now)) c.deref-then-is_free.ensures.value (c.get_integers.ensures.integers c.if-get_integers.true)) in
+    in_place c.args.is_free t sets c.args.condition c.len-written.result c.in_place.result c.if-is_free.true c.requires integers (omega (arith, c.len-written.ensures, size, length-filter test t.rows)) c.in_place.ensures
 
 pub returns-in-Some : goal.returns-in-Some
 returns-in-Some c =
@@ -14,11 +28,13 @@ returns-in-Some c =
     let rows = c.in_ok-rows.rows in
     let size : length rows.items ≡ length (filter test t.rows) = sym (length-map rows.items deref) ∙ ap length c.in_ok-rows.ensures in
     let made : Some c.in-Some.changes ≡ values_or_none t.schema.key as' (filter test t.rows) = sym c.in-Some.is ∙ c.in_ok-changes.ensures
-    ∙ ap (λ (s : Schema). values_or_none s.key as' (map deref c.deref.result.now)) c.schema.ensures
-    ∙ ap (λ l. values_or_none t.schema.key as' (map deref l)) c.deref.ensures.value ∙ ap (values_or_none t.schema.key as') c.in_ok-rows.ensures in
+    ∙ ap (λ (s : Schema). values_or_none s.key (assignments c.deref-3.result.now) (map deref c.deref-2.result.now)) c.schema.ensures
+    ∙ ap (λ l. values_or_none t.schema.key (assignments c.deref-3.result.now) (map deref l)) c.deref-2.ensures.value
+    ∙ ap (λ l. values_or_none t.schema.key (assignments l) (map deref c.in_ok-rows.rows.items)) c.deref-3.ensures.value
+    ∙ ap (values_or_none t.schema.key as') c.in_ok-rows.ensures in
     let parts = from_some _ _ _ made in
-    past t _ _ _ _ (sym (any_both test (overflows as') t.rows) ∙ parts.0)
-    (update_leaves t c.legal.ensures _ test (assigned as') c.requires.same parts.1 c.count.ensures (omega (arith, c.len.ensures, size)))
+    makes_past c.args.is_free t _ _ _ _ (sym (any_both test (overflows as') t.rows) ∙ parts.0)
+    (update_leaves t c.legal.ensures _ test (assigned as') c.requires.same parts.1 c.count-in-Some.ensures (omega (arith, c.len-written.ensures, size)))
 
 pub returns : goal.returns
 returns c =
@@ -26,6 +42,8 @@ returns c =
     let as' = assignments c.args.assigns.items in
     let test = satisfies c.args.condition in
     let made : None ≡ values_or_none t.schema.key as' (filter test t.rows) = sym c.in-None.is ∙ c.in_ok-changes.ensures
-    ∙ ap (λ (s : Schema). values_or_none s.key as' (map deref c.deref.result.now)) c.schema.ensures
-    ∙ ap (λ l. values_or_none t.schema.key as' (map deref l)) c.deref.ensures.value ∙ ap (values_or_none t.schema.key as') c.in_ok-rows.ensures in
-    refused t _ _ _ _ (sym (any_both test (overflows as') t.rows) ∙ from_none _ _ made) c.of_code.ensures
+    ∙ ap (λ (s : Schema). values_or_none s.key (assignments c.deref-3.result.now) (map deref c.deref-2.result.now)) c.schema.ensures
+    ∙ ap (λ l. values_or_none t.schema.key (assignments c.deref-3.result.now) (map deref l)) c.deref-2.ensures.value
+    ∙ ap (λ l. values_or_none t.schema.key (assignments l) (map deref c.in_ok-rows.rows.items)) c.deref-3.ensures.value
+    ∙ ap (values_or_none t.schema.key as') c.in_ok-rows.ensures in
+    makes_refused c.args.is_free t _ _ _ _ (sym (any_both test (overflows as') t.rows) ∙ from_none _ _ made) c.of_code.ensures

@@ -6,10 +6,10 @@ ghost use Rattle.cj_model.specs.declared.value.Value.{Value};
 use cj_model::Row;
 
 /// A way to make a row anew in its place, which takes no memory.
-pub trait Rewriter {
+pub trait RowEdit {
     /// The row that it makes of a row.
-    ghost rewritten: { Self → List Value → List Value };
+    ghost edited: { Self → List Value → List Value };
 
-    fn rewrite(&self, row: &mut Row)
-        ensures { row.new ≡ rewritten self.now row.old };
+    fn edit(&self, row: &mut Row)
+        ensures { row.new ≡ edited self.now row.old };
 }

@@ -5,13 +5,13 @@ ghost use Rattle.cj_model.specs.declared.value.Value.TheVariants as value;
 
 use cj_expr::{Formula, Predicate};
 use cj_model::{Row, Value};
-use cj_rows::Rewriter;
+use cj_rows::RowEdit;
 use cj_search::satisfies;
 
 /// A column that is set to an INTEGER in each row that meets a condition. A row in which the value
 /// is none of 64 bits stays as it is.
 #[derive(Drop)]
-pub struct Rewriting {
+pub struct ColumnEdit {
     pub place: usize,
     pub value: Formula,
     pub condition: Option<Predicate>,
@@ -25,12 +25,12 @@ fn set_integer(row: &mut Row, place: usize, number: i64)
     }
 }
 
-impl Rewriter for Rewriting {
-    ghost use Rattle.cj_plan.specs.Rewritings.{rewritten};
+impl RowEdit for ColumnEdit {
+    ghost use Rattle.cj_plan.specs.ColumnEdits.{edited};
 
-    ghost rewritten = { rewritten };
+    ghost edited = { edited };
 
-    fn rewrite(&self, row: &mut Row) {
+    fn edit(&self, row: &mut Row) {
         if !satisfies(&self.condition, row) {
             return;
         }

@@ -11,15 +11,15 @@ use Rattle.cj_expr.specs.Shapes.{formula}
 use Rattle.cj_model.specs.Database.Predicates.{Predicate}
 use Rattle.cj_plan.specs.declared.plan.Change.{Change}
 use Rattle.cj_plan.specs.declared.plan.Change.TheVariants.{ByKey, InPlace}
-use Rattle.cj_plan.specs.declared.rewriting.Rewriting.{Rewriting}
+use Rattle.cj_plan.specs.declared.column_edit.ColumnEdit.{ColumnEdit}
 
 abbrev pub with_integer : List Value → ℕ → Option ℤ → List Value
 with_integer row place None = row
 with_integer row place (Some z) = slice_set row place (Int z)
 
 -- the row with its new value, where it meets the condition and the value is an INTEGER of 64 bits
-abbrev pub rewritten : Rewriting → List Value → List Value
-rewritten r row = if satisfies r.condition row then with_integer row r.place (integer_within (value_of row (formula r.value))) else row
+abbrev pub edited : ColumnEdit → List Value → List Value
+edited r row = if satisfies r.condition row then with_integer row r.place (integer_within (value_of row (formula r.value))) else row
 
 -- one value is set, and is an INTEGER of 64 bits in each of the rows
 abbrev pub GetIntegers : List Assignment → List (List Value) → Type 0
