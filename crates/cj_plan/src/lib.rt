@@ -8,5 +8,6 @@ mod names;
 mod plan;
 mod update;
 
+pub use insert::{has_misfit, is_column, puts};
 pub use names::is_distinct;
 pub use plan::{Plan, Planned, planned};
