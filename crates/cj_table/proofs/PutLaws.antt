@@ -37,7 +37,7 @@ module _ (s : Schema) (rows : List (List Value)) (cs : RowEntries) (once : (has_
       ap (λ (u : Slot). Some (changed_slot u 0 cs)) none
       ∙ ap (λ (es : RowEntries). Some (changed_slot (slot_with s []) 0 es)) once.1
       ∙ ap (λ (l : List (List Value)). Some (record { base = record { schema = s; rows = l }; draft = None }))
-        (ap values_of (merged_puts s.key [] rows tt) ∙ values_keyed s.key (fold (put_by (by_key s.key)) [] rows))
+      (ap values_of (merged_puts s.key [] rows tt) ∙ values_keyed s.key (fold (put_by (by_key s.key)) [] rows))
       ∙ sym (cond-true _ _ _ (and_from _ _ may (not_from_false _ once.0)))
 
 abbrev Fits : List Column → List Value → Type 0
