@@ -108,6 +108,9 @@ fn tables_named<'a>(
 }
 
 fn scope_of(alloc: Global, tables: &[&LiteTable]) -> Result<Scope, LiteError> {
+    if let [table] = tables {
+        return Ok(Scope::of(alloc, &[table.schema()])?);
+    }
     let mut schemas = Vec::new(alloc);
     for table in tables {
         schemas.push(table.schema())?;

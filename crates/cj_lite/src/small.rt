@@ -8,27 +8,12 @@ ghost use Rattle.cj_model.specs.Database.Outcomes.{IsOutcome, IsAsked};
 
 use crate::error::LiteError;
 use cj_model::{
-    Asked, COLUMN_LIMIT, ColDef, ColDefs, Create, Duplicate, Name, NoMemory, Outcome, Row, Schema,
-    Select, Term, Tuple, Tuples, Write,
+    Asked, Create, Duplicate, Name, NoMemory, Outcome, Row, Rows, Schema, Select, Term, Tuple,
+    Tuples, Write,
 };
 use cj_query::select;
 use cj_table::Tables;
 use std::alloc::Global;
-
-fn create_of(alloc: Global, schema: &Schema) -> Result<Create, NoMemory> {
-    let mut columns = ColDefs::new(alloc);
-    for (place, column) in schema.columns.as_slice().iter().enumerate() {
-        columns.push(ColDef {
-            name: column.name.copy(),
-            kind: column.kind,
-            key: place == usize::from(schema.key),
-        })?;
-    }
-    Ok(Create {
-        table: schema.table.copy(),
-        columns,
-    })
-}
 
 fn tuple_of(alloc: Global, row: Row) -> Result<Tuple, NoMemory> {
     let mut tuple = Tuple::new(alloc);
@@ -54,35 +39,18 @@ fn done(outcome: Outcome) -> Result<(), LiteError> {
     }
 }
 
-/// Adds rows to what a transaction, 0 for none, sees of a table.
-pub fn add_rows(
-    alloc: Global,
-    small: &mut Tables,
-    tx: u64,
-    table: &Name,
-    rows: Vec<Row>,
-) -> Result<(), LiteError> {
-    let insert = Write::Insert {
-        table: table.copy(),
-        columns: None,
-        rows: tuples_of(alloc, rows)?,
-    };
-    done(small.write(tx, &insert)?)
-}
-
-/// Adds a table with these rows.
+/// Adds a table with these rows, which come in any order.
 pub fn add_table(
     alloc: Global,
     small: &mut Tables,
     schema: &Schema,
     rows: Vec<Row>,
 ) -> Result<(), LiteError> {
-    let create = create_of(alloc, schema)?;
-    if create.columns.len() > COLUMN_LIMIT {
+    let schema = schema.copy(alloc)?;
+    if !small.put_table(schema, Rows::from_vec(rows))? {
         return Err(LiteError::Fault);
     }
-    done(small.create(&create)?)?;
-    add_rows(alloc, small, 0, &schema.table, rows)
+    Ok(())
 }
 
 /// Makes these the rows that a transaction has in its draft of a table.
@@ -98,7 +66,12 @@ pub fn add_draft(
         cond: None,
     };
     done(small.write(tx, &delete)?)?;
-    add_rows(alloc, small, tx, table, rows)
+    let insert = Write::Insert {
+        table: table.copy(),
+        columns: None,
+        rows: tuples_of(alloc, rows)?,
+    };
+    done(small.write(tx, &insert)?)
 }
 
 /// Copies of the rows that a transaction, 0 for none, sees of a table.

@@ -15,7 +15,7 @@ pub fn parameter(value: &Value) -> ValueRef<'_> {
 
 /// The values of a row as parameters.
 pub fn parameters<'a>(alloc: Global, row: &'a Row) -> Result<Vec<ValueRef<'a>>, LiteError> {
-    let mut out = Vec::new(alloc);
+    let mut out = Vec::with_capacity(alloc, row.len())?;
     for value in row.as_slice() {
         out.push(parameter(value))?;
     }
@@ -39,10 +39,11 @@ fn value_of(alloc: Global, given: ValueRef<'_>) -> Result<Value, LiteError> {
 
 /// The row that SQLite gives.
 pub fn row_of(alloc: Global, given: &sqlite::Row) -> Result<Row, LiteError> {
-    let mut row = Row::new(alloc);
-    for at in 0..given.column_count() {
+    let count = given.column_count();
+    let mut values = Vec::with_capacity(alloc, count)?;
+    for at in 0..count {
         let value = given.get_ref(at)?;
-        row.push(value_of(alloc, value)?)?;
+        values.push(value_of(alloc, value)?)?;
     }
-    Ok(row)
+    Ok(Row::from_vec(values))
 }

@@ -115,7 +115,8 @@ fn rows_of(
     Ok(rows)
 }
 
-fn is_column(mut columns: &[Column], name: &Name) -> bool
+/// Whether a column has this name.
+pub fn is_column(mut columns: &[Column], name: &Name) -> bool
     ensures { result ≡ list_any (bytes_eq name.now) (tables.column_names columns.entry.now) }
 {
     while let [column, rest @ ..] = columns {
@@ -161,7 +162,7 @@ fn has_uneven(width: usize, tuples: &[Tuple]) -> bool
 }
 
 /// Whether a row has a value of another kind than its column's.
-fn has_misfit(columns: &[Column], rows: &[Row]) -> bool
+pub fn has_misfit(columns: &[Column], rows: &[Row]) -> bool
     ensures { result ≡ list_any (λ r. not (tables.fits_columns columns.now r)) rows.now }
 {
     rows.iter()
@@ -185,7 +186,7 @@ fn has_key_of(view: &View, rows: &[Row]) -> bool
 }
 
 /// The changes that put the rows at their keys; none where two have one key.
-fn puts(alloc: Global, place: usize, rows: Rows) -> Result<Option<RowMap>, NoMemory>
+pub fn puts(alloc: Global, place: usize, rows: Rows) -> Result<Option<RowMap>, NoMemory>
     ensures { IfOk result (λ changes. changes ≡ puts_once place rows) }
 {
     let mut changes = RowMap::new(alloc);

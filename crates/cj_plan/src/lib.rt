@@ -10,5 +10,6 @@ mod plan;
 mod update;
 
 pub use column_edit::ColumnEdit;
+pub use insert::{has_misfit, is_column, puts};
 pub use names::is_distinct;
 pub use plan::{Change, Changed, Plan, changed};

@@ -1,3 +1,4 @@
 pub mod CarriedLaws
 pub mod Common
+pub mod PutLaws
 pub mod WrittenLaws

@@ -3,6 +3,7 @@
 
 mod conversion;
 mod ends;
+mod put;
 mod schemas;
 mod slots;
 mod tables;

@@ -126,7 +126,8 @@ fn place_of(slots: &[StoredTable], slot: &StoredTable) -> Result<usize, usize>
     Err(slots.len())
 }
 
-fn put_slot(slots: &mut Vec<StoredTable>, slot: StoredTable) -> Result<(), NoMemory>
+/// Puts a slot in place of the one of its table; want of memory changes nothing.
+pub fn put_slot(slots: &mut Vec<StoredTable>, slot: StoredTable) -> Result<(), NoMemory>
     ensures ok { OnOk result (slots.new.items ≡ put_by by_table slots.old.items slot) }
     ensures err { OnErr result (slots.new.items ≡ slots.old.items) }
 {

@@ -5,12 +5,14 @@ ghost use Rattle.cj_model.specs.Database.Storable.{writers};
 ghost use Rattle.cj_model.specs.Database.Steps.{aborted, committed, created, dropped, seen, written};
 ghost use Rattle.cj_model.specs.Database.Tables.{IsDatabase, slot_of};
 ghost use Rattle.cj_table.specs.Carried.{Carries};
+ghost use Rattle.cj_table.specs.Put.{PutsTable};
 
 use crate::conversion::{copied_slots, stored_slots};
 use crate::ends::{abort_slots, commit_slots, drop_slot};
+use crate::put::put_table;
 use crate::slots::{create_slot, find, write_slots};
 use crate::writers::writers_in;
-use cj_model::{COLUMN_LIMIT, Create, Db, Name, NoMemory, Outcome, Write};
+use cj_model::{COLUMN_LIMIT, Create, Db, Name, NoMemory, Outcome, Rows, Schema, Write};
 use cj_rows::{StoredTable, View};
 use std::alloc::Global;
 use std::marker::Model;
@@ -59,6 +61,14 @@ impl Tables {
         ensures { Carries self.old (created self.old create.now) result self.new }
     {
         create_slot(self.alloc, &mut self.slots, create)
+    }
+
+    /// Puts a table with these rows, which come in any order, in place of one of its name. False, and
+    /// nothing is changed, where they make no table; want of memory changes nothing.
+    pub fn put_table(&mut self, schema: Schema, rows: Rows) -> Result<bool, NoMemory>
+        ensures { PutsTable self.old schema rows result self.new }
+    {
+        put_table(self.alloc, &mut self.slots, schema, rows)
     }
 
     /// INSERT, UPDATE or DELETE of transaction `tx`, 0 for none; want of memory changes nothing.
