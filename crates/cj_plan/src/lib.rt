@@ -7,8 +7,10 @@ mod delete;
 mod insert;
 mod names;
 mod plan;
+mod unmet;
 mod update;
 
 pub use column_edit::ColumnEdit;
 pub use names::is_distinct;
 pub use plan::{Change, Changed, Plan, changed};
+pub use unmet::Unmet;
