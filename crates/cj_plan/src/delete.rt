@@ -41,12 +41,8 @@ fn without_rows(
     let count = view.count() - rows.len();
     let written = rows.len() as u64;
     if is_free && are_many(rows.len(), view.count()) {
-        let test = Unmet { condition };
-        return Ok(Ok(Change::Removal {
-            test,
-            count,
-            written,
-        }));
+        let by = Unmet { condition };
+        return Ok(Ok(Change::Removal { by, count, written }));
     }
     let changes = removals(alloc, view.schema().key as usize, &rows)?;
     Ok(Ok(Change::ByKey(Plan {

@@ -39,7 +39,7 @@ pub enum Change {
     /// Only the rows that pass stay, by one walk, which takes no memory, where no transaction has a
     /// draft of the table.
     Removal {
-        test: Unmet,
+        by: Unmet,
         /// The number of rows that stay.
         count: usize,
         /// The number of rows that go.
