@@ -17,7 +17,7 @@ use Rattle.cj_plan.specs.Assignments.{KeepsKey}
 use Rattle.cj_plan.specs.Changes.{Makes, keyed}
 use Rattle.cj_plan.specs.ColumnEdits.{GetIntegers, SetsInPlace, edited, with_integer}
 use Rattle.cj_plan.specs.declared.plan.Change.{Change}
-use Rattle.cj_plan.specs.declared.plan.Change.TheVariants.{ByKey, InPlace}
+use Rattle.cj_plan.specs.declared.plan.Change.TheVariants.{ByKey, InPlace, Removal}
 use Rattle.cj_plan.specs.declared.column_edit.ColumnEdit.{ColumnEdit}
 use Rattle.cj_plan.proofs.PlanLaws.{from_some, or-false}
 
@@ -95,6 +95,7 @@ module _ (r : ColumnEdit) where
 pub in_place : (free : Bool) (t : Table) (sets : List Assignment) (condition : Option Predicate) (n : ℕ) (c : Change) → free ≡ true → KeepsKey t.schema.key sets → GetIntegers sets (filter (satisfies condition) t.rows)
     → n ≡ count_by (satisfies condition) t.rows → SetsInPlace sets condition n c → Makes free t (with_new_values t.rows sets condition) (Ok c)
 in_place free t sets condition n (ByKey p) f k h e s = elim s [ ]
+in_place free t sets condition n (Removal u c w) f k h e s = elim s [ ]
 in_place free t sets condition n (InPlace r w) f k h e s =
     let k' = subst (λ sets. KeepsKey t.schema.key sets) s.0 k in
     let h' = subst (λ c. GetIntegers (own r ∷ []) (filter (satisfies c) t.rows)) (sym s.1) (subst (λ sets. GetIntegers sets (filter (satisfies condition) t.rows)) s.0 h) in

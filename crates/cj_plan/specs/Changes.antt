@@ -1,5 +1,5 @@
 -- How a table is changed.
-use Rattle.std.specs.Prelude.{◌≡◌, ℕ, Bool, true, List, map, IfOk}
+use Rattle.std.specs.Prelude.{◌≡◌, ℕ, Bool, true, List, filter, length, map, IfOk}
 use Rattle.std.specs.declared.result.Result.{Result}
 use Rattle.std.specs.declared.result.Result.TheVariants.{Ok, Err}
 use Rattle.cj_model.specs.declared.value.Value.{Value}
@@ -10,14 +10,16 @@ use Rattle.cj_model.specs.Database.Inserts.{Changed}
 use Rattle.cj_rows.specs.Stored.{KeepsKeys}
 use Rattle.cj_plan.specs.declared.plan.Plan.{Plan}
 use Rattle.cj_plan.specs.declared.plan.Change.{Change}
-use Rattle.cj_plan.specs.declared.plan.Change.TheVariants.{ByKey, InPlace}
+use Rattle.cj_plan.specs.declared.plan.Change.TheVariants.{ByKey, InPlace, Removal}
 use Rattle.cj_plan.specs.Plans.{Leaves}
 use Rattle.cj_plan.specs.ColumnEdits.{edited}
+use Rattle.cj_plan.specs.Removals.{fails}
 
--- the change leaves these rows, and has written so many; rows are changed in their places only of a table that is free
+-- the change leaves these rows, and has written so many; a walk over all rows is made only of a table that is free
 abbrev pub Changes : Bool → Table → Change → List (List Value) → ℕ → Type 0
 Changes free t (ByKey p) rows n = Leaves t p rows n
 Changes free t (InPlace r written) rows n = (free ≡ true) × KeepsKeys t.schema.key (edited r) × (map (edited r) t.rows ≡ rows) × (written ≡ n)
+Changes free t (Removal u count written) rows n = (free ≡ true) × (count ≡ length (filter (fails u) t.rows)) × (filter (fails u) t.rows ≡ rows) × (written ≡ n)
 
 -- a change that leaves the rows that are meant, or the refusal that is meant
 abbrev pub Makes : Bool → Table → Changed → Result Change Refusal → Type 0

@@ -10,7 +10,7 @@ use Rattle.cj_expr.specs.Results.{integer_within}
 use Rattle.cj_expr.specs.Shapes.{formula}
 use Rattle.cj_model.specs.Database.Predicates.{Predicate}
 use Rattle.cj_plan.specs.declared.plan.Change.{Change}
-use Rattle.cj_plan.specs.declared.plan.Change.TheVariants.{ByKey, InPlace}
+use Rattle.cj_plan.specs.declared.plan.Change.TheVariants.{ByKey, InPlace, Removal}
 use Rattle.cj_plan.specs.declared.column_edit.ColumnEdit.{ColumnEdit}
 
 abbrev pub with_integer : List Value → ℕ → Option ℤ → List Value
@@ -30,4 +30,5 @@ GetIntegers (a ∷ b ∷ as') rows = ⊥
 -- the change sets the one value in its place
 abbrev pub SetsInPlace : List Assignment → Option Predicate → ℕ → Change → Type 0
 SetsInPlace as' condition n (ByKey p) = ⊥
+SetsInPlace as' condition n (Removal u count written) = ⊥
 SetsInPlace as' condition n (InPlace r written) = (as' ≡ record { place = r.place; value = formula r.value } ∷ []) × (r.condition ≡ condition) × (written ≡ n)

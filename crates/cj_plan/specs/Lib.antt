@@ -1,5 +1,6 @@
 pub mod Assignments
 pub mod Changes
+pub mod ColumnEdits
 pub mod Inserts
 pub mod Plans
-pub mod ColumnEdits
+pub mod Removals

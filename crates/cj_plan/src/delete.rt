@@ -4,11 +4,12 @@ ghost use Rattle.std.specs.Prelude.{◌≡◌, map, option_map, IfOk};
 ghost use Rattle.std.specs.Map.Iter.{deref};
 ghost use Rattle.cj_model.specs.Database.Scopes as scopes;
 ghost use Rattle.cj_model.specs.Database.Updates as updates;
-ghost use Rattle.cj_plan.specs.Plans.{PlansChange};
+ghost use Rattle.cj_plan.specs.Changes.{MakesChange};
 ghost use Rattle.cj_rows.specs.RowEntries as entries;
 
-use crate::conditions::{bound, has_unknown_column, matching, mixes_kinds};
-use crate::plan::{Plan, Planned};
+use crate::conditions::{are_many, bound, has_unknown_column, matching, mixes_kinds};
+use crate::plan::{Change, Changed, Plan};
+use crate::unmet::Unmet;
 use cj_expr::{Predicate, Scope};
 use cj_model::{Cond, NO_COLUMN, NoMemory, Refusal, Row, WRONG_TYPE};
 use cj_rows::{RowMap, View, key_of};
@@ -30,23 +31,35 @@ fn removals(alloc: Global, place: usize, rows: &[&Row]) -> Result<RowMap, NoMemo
 fn without_rows(
     alloc: Global,
     view: &View,
-    condition: &Option<Predicate>,
-) -> Result<Planned, NoMemory>
-    ensures { PlansChange view.now (updates.without_rows view.now.rows condition.now) result }
+    is_free: bool,
+    condition: Option<Predicate>,
+) -> Result<Changed, NoMemory>
+    ensures { MakesChange is_free view.now (updates.without_rows view.now.rows condition) result }
 {
     view.legal();
-    let rows = matching(alloc, view, condition)?;
+    let rows = matching(alloc, view, &condition)?;
+    let count = view.count() - rows.len();
+    let written = rows.len() as u64;
+    if is_free && are_many(rows.len(), view.count()) {
+        let by = Unmet { condition };
+        return Ok(Ok(Change::Removal { by, count, written }));
+    }
     let changes = removals(alloc, view.schema().key as usize, &rows)?;
-    Ok(Ok(Plan {
+    Ok(Ok(Change::ByKey(Plan {
         changes,
-        count: view.count() - rows.len(),
-        written: rows.len() as u64,
-    }))
+        count,
+        written,
+    })))
 }
 
-/// What a DELETE is to change of a table.
-pub fn deleted(alloc: Global, view: &View, cond: &Option<Cond>) -> Result<Planned, NoMemory>
-    ensures { PlansChange view.now (updates.deleted view.now cond.now) result }
+/// How a DELETE is to change a table; by a walk over all rows only where it is free of drafts.
+pub fn deleted(
+    alloc: Global,
+    view: &View,
+    is_free: bool,
+    cond: &Option<Cond>,
+) -> Result<Changed, NoMemory>
+    ensures { MakesChange is_free view.now (updates.deleted view.now cond.now) result }
 {
     let scope = Scope::of(alloc, &[view.schema()])?;
     if has_unknown_column(&scope, cond) {
@@ -56,6 +69,6 @@ pub fn deleted(alloc: Global, view: &View, cond: &Option<Cond>) -> Result<Planne
         return Ok(Err(Refusal::of_code(WRONG_TYPE)));
     }
     let condition = bound(alloc, &scope, cond)?;
-    let planned = without_rows(alloc, view, &condition)?;
-    Ok(planned)
+    let changed = without_rows(alloc, view, is_free, condition)?;
+    Ok(changed)
 }

@@ -7,9 +7,11 @@ mod delete;
 mod insert;
 mod names;
 mod plan;
+mod unmet;
 mod update;
 
 pub use column_edit::ColumnEdit;
 pub use insert::{has_misfit, is_column, puts};
 pub use names::is_distinct;
 pub use plan::{Change, Changed, Plan, changed};
+pub use unmet::Unmet;

@@ -7,6 +7,7 @@ ghost use Rattle.cj_plan.specs.Changes.{MakesChange, keyed};
 use crate::column_edit::ColumnEdit;
 use crate::delete::deleted;
 use crate::insert::inserted;
+use crate::unmet::Unmet;
 use crate::update::updated;
 use cj_model::{NoMemory, Refusal, Write};
 use cj_rows::{RowMap, View};
@@ -35,6 +36,15 @@ pub enum Change {
         /// The number of rows that are written.
         written: u64,
     },
+    /// Only the rows that pass stay, by one walk, which takes no memory, where no transaction has a
+    /// draft of the table.
+    Removal {
+        by: Unmet,
+        /// The number of rows that stay.
+        count: usize,
+        /// The number of rows that go.
+        written: u64,
+    },
 }
 
 /// A change, or the refusal of the write.
@@ -49,7 +59,7 @@ fn by_key(planned: Planned) -> Changed
     }
 }
 
-/// How a write is to change a table; in place only where it is free of drafts.
+/// How a write is to change a table; by a walk over all rows only where it is free of drafts.
 pub fn changed(
     alloc: Global,
     view: &View,
@@ -64,9 +74,6 @@ pub fn changed(
             Ok(by_key(planned))
         }
         Write::Update { sets, cond, .. } => updated(alloc, view, is_free, sets.as_slice(), cond),
-        Write::Delete { cond, .. } => {
-            let planned = deleted(alloc, view, cond)?;
-            Ok(by_key(planned))
-        }
+        Write::Delete { cond, .. } => deleted(alloc, view, is_free, cond),
     }
 }

@@ -14,7 +14,7 @@ ghost use Rattle.cj_plan.specs.ColumnEdits.{GetIntegers, SetsInPlace};
 ghost use Rattle.cj_rows.specs.RowEntries as entries;
 
 use crate::column_edit::ColumnEdit;
-use crate::conditions::{bound, has_unknown_column, matching, mixes_kinds};
+use crate::conditions::{are_many, bound, has_unknown_column, matching, mixes_kinds};
 use crate::names::is_distinct;
 use crate::plan::{Change, Changed, Plan};
 use cj_expr::{Formula, Predicate, Scope, ValueError, formula_of};
@@ -192,14 +192,13 @@ fn are_integers(value: &Formula, rows: &[&Row]) -> bool
         .all(|row| value.integer_in(row.as_slice()).is_some())
 }
 
-/// Whether more than an eighth of a table's rows are given an INTEGER of 64 bits in one column, and
-/// nothing else. Fewer rows cost less by their keys than a walk over all.
+/// Whether many of a table's rows are given an INTEGER of 64 bits in one column, and nothing else.
 fn get_integers(count: usize, rows: &[&Row], assigns: &[Assignment]) -> bool
     ensures integers { result ≡ true → GetIntegers (assignments assigns.now) (map deref rows.now) }
     ensures one { result ≡ true → length assigns.now ≡ 1 }
 {
     match assigns {
-        [assign] => rows.len() > count / 8 && are_integers(&assign.value, rows),
+        [assign] => are_many(rows.len(), count) && are_integers(&assign.value, rows),
         _ => false,
     }
 }

@@ -1,7 +1,7 @@
 -- Rows with their keys: look-ups, rows put and rows taken out.
 use Rattle.std.proofs.Common.{◌≡◌, ℕ, Bool, true, false, cond, List, [], ◌∷◌, map, refl, ap, sym, ◌∙◌, subst, ⊎_elim, Ordering, Less, Equal, Greater, is_eq}
 use Rattle.std.proofs.lemmas.List.{length-map}
-use Rattle.std.specs.Prelude.{All, filter, fold, length, not, option_map}
+use Rattle.std.specs.Prelude.{All, filter, fold, length, not, option_map, unwrap_or}
 use Rattle.cj_rows.proofs.Common.{All-cons, All-head, All-nil, All-tail, at, by_key, cases_Bool, cell, changed, cond-false, cond-true, insert_entry, is_at, kept, KeysAbove, KeysRise, match_ordering, merged, None, Option, ordering_reverse, put_by, remove_entry, Rises, row_with_key, Some, tied_itself, Value, value_cmp, value_exact, value_total, values_of}
 use Rattle.cj_model.proofs.RisingLaws.{by_order}
 use Rattle.cj_rows.specs.RowEntries.{RowEntries, keyed, puts, removals}
@@ -183,3 +183,39 @@ module _ (f : List Value → List Value) where
       own_keys = kept_anew es ∙ ap values_anew a.own_keys ∙ keyed_anew (values_of (kept es)) ∙ sym (ap (keyed k) (rows_anew es));
       count = a.count ∙ sym (ap length (rows_anew es) ∙ length-map (values_of (kept es)) f);
     }
+
+-- ---- rows that pass
+
+module _ (p : List Value → Bool) where
+  abbrev pub passing : Entries → Entries
+  passing es = filter (λ e. p e.1) es
+
+  abbrev entries_passing : RowEntries → RowEntries
+  entries_passing es = filter (λ e. unwrap_or (option_map p e.1) false) es
+
+  pub kept_passing : (es : RowEntries) → kept (entries_passing es) ≡ passing (kept es)
+  kept_passing [] = refl
+  kept_passing ((v, None) ∷ es) = kept_passing es
+  kept_passing ((v, Some r) ∷ es) = elim (p r) as (λ b. kept (cond b ((v, Some r) ∷ entries_passing es) (entries_passing es)) ≡ cond b ((v, r) ∷ passing (kept es)) (passing (kept es))) [
+    | true ↦ ap (λ (l : Entries). (v, r) ∷ l) (kept_passing es)
+    | false ↦ kept_passing es
+  ]
+
+  pub rows_passing : (es : Entries) → values_of (passing es) ≡ filter p (values_of es)
+  rows_passing [] = refl
+  rows_passing (e ∷ es) = elim (p e.1) as (λ b. values_of (cond b (e ∷ passing es) (passing es)) ≡ cond b (e.1 ∷ filter p (values_of es)) (filter p (values_of es))) [
+    | true ↦ ap (λ (l : List (List Value)). e.1 ∷ l) (rows_passing es)
+    | false ↦ rows_passing es
+  ]
+
+  keyed_passing : (k : ℕ) (rows : List (List Value)) → passing (keyed k rows) ≡ keyed k (filter p rows)
+  keyed_passing k [] = refl
+  keyed_passing k (r ∷ rows) = elim (p r) as (λ b. cond b ((cell r k, r) ∷ passing (keyed k rows)) (passing (keyed k rows)) ≡ keyed k (cond b (r ∷ filter p rows) (filter p rows))) [
+    | true ↦ ap (λ (l : Entries). (cell r k, r) ∷ l) (keyed_passing k rows)
+    | false ↦ keyed_passing k rows
+  ]
+
+  pub own_passing : (k : ℕ) (es new : Entries) → new ≡ passing es → es ≡ keyed k (values_of es) → AreRows k new (length (filter p (values_of es)))
+  own_passing k es new e own =
+      let rows : values_of new ≡ filter p (values_of es) = ap values_of e ∙ rows_passing es in
+      record { own_keys = e ∙ ap passing own ∙ keyed_passing k (values_of es) ∙ sym (ap (keyed k) rows); count = sym (ap length rows) }

@@ -1,14 +1,14 @@
 -- What a stored table shows, and what changes of it leave.
-use Rattle.std.proofs.Common.{◌≡◌, ℕ, ◌<◌, true, false, List, [], map, ap, sym, ◌∙◌, subst, arith, ⊎_elim}
+use Rattle.std.proofs.Common.{◌≡◌, ℕ, ◌<◌, Bool, true, false, List, [], length, map, ap, sym, ◌∙◌, subst, arith, ⊎_elim}
 use Rattle.std.specs.Prelude.{◌==◌, OnErr}
 use Rattle.std.specs.declared.result.Result.{Result}
 use Rattle.std.specs.declared.result.Result.TheVariants.{Ok, Err}
 use Rattle.std.proofs.lemmas.Bool.{cases_Bool, cond-true, cond-false, eq-eqb, ne_eqb, eqb-true}
-use Rattle.cj_rows.proofs.Common.{at, Extends, from_key, HasKeysOf, kept, keyed, KeysRise, knows, KnowsKeys, merged, None, Option, other_writer, overlaid, row_with_key, RowEntries, rows_from, Schema, seen, Slot, Some, Table, Value, value_cmp, values_of}
+use Rattle.cj_rows.proofs.Common.{at, Extends, filter, from_key, HasKeysOf, kept, keyed, KeysRise, knows, KnowsKeys, merged, None, Option, other_writer, overlaid, row_with_key, RowEntries, rows_from, Schema, seen, Slot, Some, Table, Value, value_cmp, values_of}
 use Rattle.cj_rows.specs.declared.stored.StoredDraft.{StoredDraft}
 use Rattle.cj_rows.specs.Stored.{slot_shown, shown_draft, AreRows, DraftHolds, HoldsTable, KeepsKeys, rows_after, changed_slot, IsChangeOf}
 use Rattle.cj_rows.proofs.FromLaws.{own_part}
-use Rattle.cj_rows.proofs.RowLaws.{anew, at_keyed, own_anew, rise_anew, rows_anew}
+use Rattle.cj_rows.proofs.RowLaws.{anew, at_keyed, own_anew, own_passing, rise_anew, rows_anew, rows_passing}
 use Rattle.cj_rows.proofs.RowEntryLaws.{known_still}
 
 pub on_err : {A B : Type 0} {P : Type 0} (r : Result A B) → P → OnErr r P
@@ -209,3 +209,14 @@ module _ (schema : Schema) (base : RowEntries) (f : List Value → List Value) w
   pub anew_shown : (o : Option StoredDraft) → shown_draft schema base o ≡ None → slot_shown schema (anew f base) o ≡ record { base = record { schema = schema; rows = map f (values_of (kept base)) }; draft = None }
   anew_shown None i = ap (λ (rows : List (List Value)). record { base = record { schema = schema; rows = rows }; draft = None }) (rows_anew f base)
   anew_shown (Some d) i = cc i
+
+-- ---- rows that pass
+
+module _ (schema : Schema) (base base' : RowEntries) (p : List Value → Bool) (e : kept base' ≡ filter (λ e. p e.1) (kept base)) where
+  pub passing_holds : (n n' : ℕ) (o : Option StoredDraft) → shown_draft schema base o ≡ None → KeysRise value_cmp base' → n' ≡ length (filter p (values_of (kept base))) → HoldsTable schema.key base n o → HoldsTable schema.key base' n' o
+  passing_holds n n' None i r c h = record { rises = r; rows = subst (AreRows schema.key (kept base')) (sym c) (own_passing p schema.key (kept base) (kept base') e h.rows.own_keys); draft = tt }
+  passing_holds n n' (Some d) i r c h = cc i
+
+  pub passing_shown : (o : Option StoredDraft) → shown_draft schema base o ≡ None → slot_shown schema base' o ≡ record { base = record { schema = schema; rows = filter p (values_of (kept base)) }; draft = None }
+  passing_shown None i = ap (λ (rows : List (List Value)). record { base = record { schema = schema; rows = rows }; draft = None }) (ap values_of e ∙ rows_passing p (kept base))
+  passing_shown (Some d) i = cc i

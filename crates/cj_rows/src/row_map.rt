@@ -1,6 +1,6 @@
 //! Rows by their keys.
 
-ghost use Rattle.std.specs.Prelude.{◌≡◌, ◌↔◌, ◌∷◌, [], true, None, Some, map, option_copied, option_map, reverse, IfOk, IsTrue, OnOk, OnErr};
+ghost use Rattle.std.specs.Prelude.{◌≡◌, ◌↔◌, ◌∷◌, [], true, false, None, Some, filter, map, option_copied, option_map, reverse, unwrap_or, IfOk, IsTrue, OnOk, OnErr};
 ghost use Rattle.std.specs.BTreeMap.{insert_entry, is_at};
 ghost use Rattle.std.specs.Map.{remove_entry, values_of};
 ghost use Rattle.std.specs.declared.cmp.Ordering.TheVariants.{Less};
@@ -10,6 +10,7 @@ ghost use Rattle.cj_rows.specs.Layers.{changed, kept, merged};
 ghost use Rattle.cj_rows.specs.RowEntries as entries;
 
 use crate::row_edit::RowEdit;
+use crate::row_test::RowTest;
 use crate::scan::{Entries, Scan};
 use crate::scan_back::ScanBack;
 use cj_model::{Duplicate, NoMemory, Row, Same, Value};
@@ -270,6 +271,14 @@ impl RowMap {
             true
         });
     }
+
+    /// Leaves the rows that pass, which takes no memory. Keys without a row go.
+    pub fn keep_rows<T: RowTest>(&mut self, by: &T)
+        ensures kept { kept self.new ≡ filter (λ e. T.passes by.now e.1) (kept self.old) }
+        ensures rises { KeysRise value_cmp self.new }
+    {
+        self.rows.retain(|_key, row| has_passing(row, by));
+    }
 }
 
 impl RowMap {
@@ -374,5 +383,14 @@ fn edit_row<R: RowEdit>(row: &mut Option<Row>, by: &R)
 {
     if let Some(row) = row {
         by.edit(row);
+    }
+}
+
+fn has_passing<T: RowTest>(row: &Option<Row>, by: &T) -> bool
+    ensures { result ≡ unwrap_or (option_map (T.passes by.now) row.now) false }
+{
+    match row {
+        Some(row) => by.test(row),
+        None => false,
     }
 }

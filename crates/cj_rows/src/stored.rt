@@ -1,6 +1,6 @@
 //! A table as it is kept: its rows by their keys, and what a transaction has changed.
 
-ghost use Rattle.std.specs.Prelude.{◌≡◌, [], None, length, map, option_copied, option_map, reverse, OnOk, OnErr};
+ghost use Rattle.std.specs.Prelude.{◌≡◌, [], None, filter, length, map, option_copied, option_map, reverse, OnOk, OnErr};
 ghost use Rattle.cj_model.specs.Database.Steps.{aborted, committed, seen};
 ghost use Rattle.cj_model.specs.Database.Steps as steps;
 ghost use Rattle.cj_model.specs.Database.Values.{value_cmp};
@@ -12,6 +12,7 @@ ghost use Rattle.cj_rows.specs.Stored.{IsChangeOf, KeepsKeys, changed_slot};
 
 use crate::row_edit::RowEdit;
 use crate::row_map::RowMap;
+use crate::row_test::RowTest;
 use crate::scan::Scan;
 use crate::scan_back::ScanBack;
 use cj_model::{NoMemory, Row, Schema, Value};
@@ -156,6 +157,17 @@ impl StoredTable {
         ensures { self.new ≡ record { base = record { schema = self.old.base.schema; rows = map (R.edited by.now) self.old.base.rows }; draft = None } }
     {
         self.base.edit_rows(by);
+    }
+
+    /// Leaves the rows that pass, which are so many; this takes no memory. No transaction may have a
+    /// draft.
+    pub fn keep_rows<T: RowTest>(&mut self, by: &T, count: usize)
+        requires free { self.old.draft ≡ None }
+        requires count { count ≡ length (filter (T.passes by.now) self.old.base.rows) }
+        ensures { self.new ≡ record { base = record { schema = self.old.base.schema; rows = filter (T.passes by.now) self.old.base.rows }; draft = None } }
+    {
+        self.base.keep_rows(by);
+        self.count = count;
     }
 
     /// Makes the transaction's draft the base, which takes no memory.

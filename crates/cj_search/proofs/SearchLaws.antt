@@ -2,11 +2,11 @@
 use Rattle.std.proofs.Common.{◌≡◌, ℕ, ◌+◌, ◌≤◌, Bool, true, false, cond, Ordering, Less, Equal, Greater, List, [], ◌∷◌, ◌++◌, length, refl, ap, sym, subst, ◌∙◌, ⊎_elim, arith, append_assoc}
 use Rattle.std.specs.Prelude.{All, filter}
 use Rattle.std.specs.Ordering.{is_gt, is_le}
-use Rattle.std.proofs.lemmas.Bool.{cases_Bool, cond-true, cond-false, false_from_ne_true, both_ways}
+use Rattle.std.proofs.lemmas.Bool.{cases_Bool, cond-true, cond-false, false_from_ne_true}
 use Rattle.std.proofs.lemmas.List.{length-append}
 use Rattle.std.proofs.lemmas.List.Elements.{All-nil, All-cons, All-head, All-tail}
 use Rattle.std.specs.declared.option.Option.{Option}
-use Rattle.std.specs.declared.option.Option.TheVariants.{None, Some}
+use Rattle.std.specs.declared.option.Option.TheVariants.{Some}
 use Rattle.cj_model.specs.declared.value.Value.{Value}
 use Rattle.cj_model.specs.Database.Values.{value_cmp}
 use Rattle.cj_model.specs.Database.Tables.{Rises, by_key, cell}

@@ -88,6 +88,10 @@ fn write_slot(
             slot.edit_rows(&edit);
             Ok(Outcome::Done(written))
         }
+        Ok(Change::Removal { by, count, written }) => {
+            slot.keep_rows(&by, count);
+            Ok(Outcome::Done(written))
+        }
         Err(refusal) => Ok(Outcome::Refused(refusal)),
     }
 }

@@ -8,7 +8,3 @@ pub returns-in_ok-planned-in-Insert : goal.returns-in_ok-planned-in-Insert
 returns-in_ok-planned-in-Insert c =
     let t = c.args.view.now in
     keyed_makes c.args.is_free t _ _ c.in_ok-planned-in-Insert.planned c.by_key.result (ap (change t) c.in-Insert.is ∙ ap (inserted t c.in-Insert.columns) (sym c.as_slice.ensures)) c.by_key.ensures c.in_ok-planned-in-Insert.ensures
-
-pub returns-in_ok-planned-in-Delete : goal.returns-in_ok-planned-in-Delete
-returns-in_ok-planned-in-Delete c =
-    keyed_makes c.args.is_free c.args.view.now _ _ c.in_ok-planned-in-Delete.planned c.by_key-in-Delete.result (ap (change c.args.view.now) c.in-Delete.is) c.by_key-in-Delete.ensures c.in_ok-planned-in-Delete.ensures

@@ -1,0 +1,9 @@
+-- Rows that a removal leaves.
+use Rattle.std.specs.Prelude.{Bool, List, not}
+use Rattle.cj_model.specs.declared.value.Value.{Value}
+use Rattle.cj_model.specs.Database.Evaluation.{satisfies}
+use Rattle.cj_plan.specs.declared.unmet.Unmet.{Unmet}
+
+-- the row does not meet the condition
+abbrev pub fails : Unmet → List Value → Bool
+fails u row = not (satisfies u.condition row)
