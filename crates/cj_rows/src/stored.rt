@@ -8,7 +8,7 @@ ghost use Rattle.cj_rows.specs.Entries.{KeysRise};
 ghost use Rattle.cj_rows.specs.Layers.{merged};
 ghost use Rattle.cj_rows.specs.Lookups.{row_with_key, rows_from};
 ghost use Rattle.cj_rows.specs.RowEntries.{HasKeysOf, overlaid};
-ghost use Rattle.cj_rows.specs.Stored.{IsChangeOf, KeepsKeys, changed_slot};
+ghost use Rattle.cj_rows.specs.Stored.{IsChangeOf, KeepsKeys, changed_slot, rows_after};
 
 use crate::row_edit::RowEdit;
 use crate::row_map::RowMap;
@@ -85,6 +85,19 @@ impl StoredTable {
             schema,
             base: RowMap::new(alloc),
             count: 0,
+            draft: None,
+        }
+    }
+
+    /// A table with the rows of changes over none, of which there are so many. It takes no memory.
+    pub fn of(schema: Schema, changes: RowMap, count: usize) -> StoredTable
+        requires { IsChangeOf schema.key [] changes count }
+        ensures { result ≡ record { base = record { schema = schema; rows = rows_after schema.key [] changes }; draft = None } }
+    {
+        StoredTable {
+            schema,
+            base: changes,
+            count,
             draft: None,
         }
     }

@@ -4,7 +4,7 @@ use Rattle.std.specs.List.{list_any}
 use Rattle.std.specs.Map.{values_of}
 use Rattle.std.proofs.lemmas.Bool.{and_from, and_parts, or_parts, not-false, not-true, not_from_false, ltb-true, ltb-false, cond-true, cond_both}
 use Rattle.std.proofs.lemmas.List.Elements.{All-nil, All-cons}
-use Rattle.cj_table.proofs.Common.{All, by_table, change_into, Err, fold, IsDatabase, IsSlot, NoMemory, None, Ok, put_by, Result, Schema, seen, Slot, Some, Value}
+use Rattle.cj_table.proofs.Common.{All, by_table, change_into, Err, fold, IsDatabase, IsSlot, NoMemory, None, Ok, put_by, Result, Schema, Slot, Some, Value}
 use Rattle.cj_model.specs.declared.schema.Column.{Column}
 use Rattle.cj_model.specs.declared.limits.TheConstants.{COLUMN_LIMIT, ROW_LIMIT}
 use Rattle.cj_model.specs.Database.Inserts.{has_key, has_key_twice}
@@ -14,7 +14,7 @@ use Rattle.cj_model.proofs.TableLaws.{by_key_total}
 use Rattle.cj_model.proofs.DatabaseLaws.{by_table_total}
 use Rattle.cj_plan.proofs.PlanLaws.{length_put}
 use Rattle.cj_rows.specs.RowEntries.{RowEntries, puts}
-use Rattle.cj_rows.specs.Stored.{IsChangeOf, changed_slot}
+use Rattle.cj_rows.specs.Stored.{IsChangeOf, rows_after}
 use Rattle.cj_rows.proofs.ConversionLaws.{puts_rise}
 use Rattle.cj_rows.proofs.RowLaws.{merged_puts, values_keyed}
 use Rattle.cj_table.specs.Put.{is_schema, may_be_table, makes_table, slot_made, slot_with, PutsTable}
@@ -23,21 +23,18 @@ none_known : (k : ℕ) (rows : List (List Value)) → list_any (has_key k []) ro
 none_known k [] = refl
 none_known k (r ∷ rows) = none_known k rows
 
--- the changes that put the rows, made in a table without rows
-module _ (s : Schema) (rows : List (List Value)) (cs : RowEntries) (once : (has_key_twice s.key rows ≡ false) × (cs ≡ puts s.key rows)) (t : Slot) (none : t ≡ slot_with s []) where
-  pub putting : (n : ℕ) → n ≡ length rows → IsChangeOf t.base.schema.key (seen t 0).rows cs n
+-- the changes that put the rows, over none
+module _ (s : Schema) (rows : List (List Value)) (cs : RowEntries) (once : (has_key_twice s.key rows ≡ false) × (cs ≡ puts s.key rows)) where
+  pub putting : (n : ℕ) → n ≡ length rows → IsChangeOf s.key [] cs n
   putting n count =
-      subst (λ (u : Slot). IsChangeOf u.base.schema.key (seen u 0).rows cs n) (sym none)
-      (subst (λ (es : RowEntries). IsChangeOf s.key [] es n) (sym once.1)
+      subst (λ (es : RowEntries). IsChangeOf s.key [] es n) (sym once.1)
       (change_into s.key [] (fold (put_by (by_key s.key)) [] rows) (puts s.key rows) n (puts_rise s.key rows) (merged_puts s.key [] rows tt)
-      (omega (arith, count, length_put s.key [] rows (none_known s.key rows) once.0))))
+      (omega (arith, count, length_put s.key [] rows (none_known s.key rows) once.0)))
 
-  pub slot_put : may_be_table s rows ≡ true → Some (changed_slot t 0 cs) ≡ slot_made s rows
+  pub slot_put : may_be_table s rows ≡ true → Some (record { base = record { schema = s; rows = rows_after s.key [] cs }; draft = None }) ≡ slot_made s rows
   slot_put may =
-      ap (λ (u : Slot). Some (changed_slot u 0 cs)) none
-      ∙ ap (λ (es : RowEntries). Some (changed_slot (slot_with s []) 0 es)) once.1
-      ∙ ap (λ (l : List (List Value)). Some (record { base = record { schema = s; rows = l }; draft = None }))
-      (ap values_of (merged_puts s.key [] rows tt) ∙ values_keyed s.key (fold (put_by (by_key s.key)) [] rows))
+      ap (λ (l : List (List Value)). Some (record { base = record { schema = s; rows = l }; draft = None }))
+      (ap (rows_after s.key []) once.1 ∙ ap values_of (merged_puts s.key [] rows tt) ∙ values_keyed s.key (fold (put_by (by_key s.key)) [] rows))
       ∙ sym (cond-true _ _ _ (and_from _ _ may (not_from_false _ once.0)))
 
 abbrev Fits : List Column → List Value → Type 0

@@ -44,9 +44,7 @@ fn stored_table(alloc: Global, table: Table) -> Result<StoredTable, NoMemory>
     let Table { schema, rows } = table;
     let count = rows.len();
     let changes = puts(alloc, schema.key as usize, rows)?;
-    let mut stored = StoredTable::new(alloc, schema);
-    stored.change(alloc, 0, changes, count)?;
-    Ok(stored)
+    Ok(StoredTable::of(schema, changes, count))
 }
 
 /// Makes this the draft of a table that has none.

@@ -51,9 +51,7 @@ fn slot_made(alloc: Global, schema: Schema, rows: Rows) -> Result<Option<StoredT
     let Some(changes) = puts(alloc, schema.key as usize, rows)? else {
         return Ok(None);
     };
-    let mut stored = StoredTable::new(alloc, schema);
-    stored.change(alloc, 0, changes, count)?;
-    Ok(Some(stored))
+    Ok(Some(StoredTable::of(schema, changes, count)))
 }
 
 /// Puts the table with these rows in place of one of its name.

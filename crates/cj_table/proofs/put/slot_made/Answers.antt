@@ -4,12 +4,11 @@ use Rattle.cj_plan.proofs.PlanLaws.{from_some}
 use Rattle.cj_table.proofs.PutLaws.{putting, slot_put}
 use Rattle.cj_table.proofs.put.slot_made.Goals as goal
 
-pub change-requires-clause-change : goal.change-requires-clause-change
-change-requires-clause-change c =
-    putting c.args.schema c.args.rows c.in-Some.changes (from_some _ _ _ (sym c.in-Some.is ∙ c.in_ok-changes.ensures)) c.new-stored.result c.new-stored.ensures c.len-count.result c.len-count.ensures
+pub of-requires : goal.of-requires
+of-requires c = putting c.args.schema c.args.rows c.in-Some.changes (from_some _ _ _ (sym c.in-Some.is ∙ c.in_ok-changes.ensures)) c.len-count.result c.len-count.ensures
 
 pub returns : goal.returns
 returns c =
-    ap Some c.in_ok-change.ensures.ok
-    ∙ slot_put c.args.schema c.args.rows c.in-Some.changes (from_some _ _ _ (sym c.in-Some.is ∙ c.in_ok-changes.ensures)) c.new-stored.result c.new-stored.ensures
+    ap Some c.of.ensures
+    ∙ slot_put c.args.schema c.args.rows c.in-Some.changes (from_some _ _ _ (sym c.in-Some.is ∙ c.in_ok-changes.ensures))
     (sym c.may_be_table.ensures ∙ c.if-not-may_be_table.false)
