@@ -11,7 +11,7 @@ use Rattle.std.proofs.lemmas.List.{length-map, map-append, map_more}
 use Rattle.std.proofs.lemmas.List.Elements.{All-head, All-tail}
 use Rattle.std.proofs.lemmas.List.Filters.{length-filter_both}
 use Rattle.std.proofs.lemmas.List.Sums.{length-filter, count_by-le-length}
-use Rattle.cj_plan.proofs.Common.{Changed, Err, has_key, has_key_twice, insert_entry, IsKeyOf, list_any, Option, Plan, Refusal, refuse_if, Result, row_with_key, satisfies, Table, Value}
+use Rattle.cj_plan.proofs.Common.{Changed, has_key, has_key_twice, insert_entry, IsKeyOf, list_any, Option, Plan, Refusal, refuse_if, Result, row_with_key, satisfies, Table, Value}
 use Rattle.cj_model.specs.Database.Values.{value_cmp, value_total, value_exact}
 use Rattle.cj_model.specs.Database.Tables.{IsTable, cell, by_key, put_by, Rises}
 use Rattle.cj_model.specs.Database.Predicates.{Predicate}
@@ -228,10 +228,6 @@ insert_leaves t is p new there twice e c w = leaves t p (fold (put_by (by_key t.
     w
 
 -- ---- refusals
-
-pub refused : (t : Table) (b : Bool) (r r' : Refusal) (rest : Changed) → b ≡ true → r' ≡ r → Plans t (refuse_if b r rest) (Err r')
-refused t true r r' rest h e = e
-refused t false r r' rest h e = cc h
 
 pub past : (t : Table) (b : Bool) (r : Refusal) (rest : Changed) (x : Result Plan Refusal) → b ≡ false → Plans t rest x → Plans t (refuse_if b r rest) x
 past t true r rest x h p = cc h
