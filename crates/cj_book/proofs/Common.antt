@@ -19,7 +19,7 @@ pub use Rattle.cj_book.specs.declared.sessions.BookSession.{BookSession}
 pub use Rattle.cj_book.specs.declared.transactions.OpenTransaction.{OpenTransaction}
 pub use Rattle.cj_cluster.proofs.Pushed.{enabled-push, get_seam, legal_prefix, legal_push, log-same, log-sched, opened-free, take_whole}
 pub use Rattle.cj_cluster.proofs.TransactionLaws.{legal_fit}
-pub use Rattle.cj_cluster.specs.History.Answering.{HasServer}
+pub use Rattle.cj_cluster.proofs.Common.{HasServer, bytes_eq, in_mask, list_any, request_of}
 pub use Rattle.cj_cluster.specs.History.Histories.{enabled_after_event, ended_count, events_left, is_enabled, is_end_event, is_idle, log, marker_name, markers, scheduled_entry, tx_of}
 pub use Rattle.cj_cluster.specs.History.Legality.{AreFitMasks, IsAdministratorEntry, IsAllowedEvent, IsFitEntry, IsLegal, IsSessionEntry}
 pub use Rattle.cj_cluster.specs.History.Transactions.{has_written, is_end}
@@ -31,9 +31,7 @@ pub use Rattle.cj_log.specs.declared.error.LogError.{LogError}
 pub use Rattle.cj_log.specs.declared.item.LogItem.{LogItem}
 pub use Rattle.cj_model.proofs.MaskBits.{has-and, has_without}
 pub use Rattle.cj_model.proofs.Masks.{has-zero}
-pub use Rattle.cj_model.specs.Cluster.Masks.{in_mask}
 pub use Rattle.cj_model.specs.Cluster.Placements.{Placement, concerns, hosts, hosts_all, needs}
-pub use Rattle.cj_model.specs.Sql.PlainRequests.{request_of}
 pub use Rattle.cj_model.specs.declared.request.Act.{Act}
 pub use Rattle.cj_model.specs.declared.request.Entry.{Entry}
 pub use Rattle.cj_model.specs.declared.request.Request.{Request}
@@ -44,7 +42,7 @@ pub use Rattle.cj_opening.specs.Proving.MarkerOrder.{marker_cmp, named}
 pub use Rattle.cj_opening.specs.declared.markers.MarkerName.{MarkerName}
 pub use Rattle.cj_outside.specs.Causes.{next}
 pub use Rattle.cj_outside.specs.Stores.{LeavesOnly}
-pub use Rattle.cj_place.specs.Layouts.{Layout, placement_of}
+pub use Rattle.cj_place.proofs.Common.{Layout, bytes_eq-Decides, placement_of}
 pub use Rattle.cj_usage.specs.Changed.{table_changed}
 pub use Rattle.std.proofs.lemmas.Bool.{and_parts, both_ways, cases_lt, eq-eqb, eqb-false, le-leb}
 pub use Rattle.std.proofs.lemmas.List.{append-nil}
@@ -53,8 +51,5 @@ pub use Rattle.std.proofs.lemmas.List.Sorted.{answers_always}
 pub use Rattle.std.proofs.lemmas.List.Sums.{fold-append}
 pub use Rattle.std.proofs.lemmas.Map.Text.{is_eq-slice_cmp}
 pub use Rattle.std.proofs.lemmas.Option.{get_or_from_slice_get, slice_get-get_or, slice_get_within}
-pub use Rattle.std.proofs.lemmas.Slice.Eq.{bytes_eq-Decides}
 pub use Rattle.std.specs.BTreeSet.{BTreeSet, contains}
-pub use Rattle.std.specs.List.{list_any}
 pub use Rattle.std.specs.Prelude.{IfErr, IsErrAnd}
-pub use Rattle.std.specs.Str.{bytes_eq}

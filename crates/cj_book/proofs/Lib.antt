@@ -1,5 +1,6 @@
 pub mod Announcing
 pub mod Begun
+pub mod Cited
 pub mod Common
 pub mod Counted
 pub mod Following

@@ -7,8 +7,7 @@ use Rattle.cj_model.specs.declared.request.Act.TheVariants as act
 use Rattle.cj_model.specs.declared.write.Write.{Write}
 use Rattle.cj_model.specs.Cluster.Placements.{Placement, writes_at, wrote_at, concerns}
 use Rattle.cj_model.proofs.MaskBits.{has-or}
-use Rattle.cj_cluster.specs.History.Histories.{log, tx_of, tx_after_act}
-use Rattle.cj_cluster.specs.History.Legality.{FitsTx, IsFitEntry, IsSessionEntry, IsAdministratorEntry}
+use Rattle.cj_cluster.proofs.Common.{FitsTx, IsAdministratorEntry, IsFitEntry, IsSessionEntry, log, tx_after_act, tx_of}
 use Rattle.cj_cluster.specs.History.Transactions.{AreFit, is_begin, is_end}
 use Rattle.cj_cluster.proofs.Pushed.{get_left, get_seam}
 use Rattle.cj_cluster.proofs.TransactionLaws.{by_items, by_fit_entries, tx_of-push, tx_of_begin, tx_of_begin_other, tx_of_end, tx_of_end_other, tx_of_else, tx_of_below, one_session}

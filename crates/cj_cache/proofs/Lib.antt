@@ -1,4 +1,5 @@
 pub mod ByTable
+pub mod Cited
 pub mod Common
 pub mod Doomed
 pub mod Examples

@@ -3,7 +3,7 @@ pub use Rattle.cj_board.specs.Seats.{AreNewCells, board_id, cell_board}
 pub use Rattle.cj_book.specs.declared.error.BookError.{BookError}
 pub use Rattle.cj_book.specs.declared.error.StartError.{StartError}
 pub use Rattle.cj_cluster.proofs.Between.{between_follows, between_fresh, follows_own, follows_rest, seen_sched, session_owes}
-pub use Rattle.cj_cluster.proofs.Effects.{is_there}
+pub use Rattle.cj_state.proofs.Common.{Core, Layout, SeatedCell, did_fail, faults_after, faults_of, find_session, is_entry_of, is_there, login_of, new_session, next, placement_of, position_at, session_at, with_session}
 pub use Rattle.cj_cluster.proofs.Now.{CanApply, CanReplay, all_at_end, can_apply, can_end, can_replay}
 pub use Rattle.cj_cluster.proofs.OwnTransactions.{own_tx, tx_of_own}
 pub use Rattle.cj_cluster.proofs.Pushed.{enabled-push, ends-prefix, ends-same, free-ended, free-same, free-sched, get_left, get_seam, legal_push, length-ends, log-same, log-sched, log_faults-same, opened-free, opened-sched, prefix_length, prefix_self, prefix_trans, take_whole}
@@ -12,9 +12,8 @@ pub use Rattle.cj_cluster.proofs.TransactionLaws.{legal_fit, tx_of_end, tx_of_en
 pub use Rattle.cj_cluster.proofs.TurnCases.{Rests, act_of_request, entries-same, entries-sched, turn_full, turn_in_vain, turn_log_fault, turn_read, turn_starved, turn_unserved}
 pub use Rattle.cj_cluster.specs.History.Answering.{AnswersEntry, CanServe, HasNoServer, HasServer}
 pub use Rattle.cj_cluster.specs.History.Histories.{database_after, database_of, ended_count, entry_in_progress, events_left, is_enabled, is_end_event, is_idle, log, log_faults_of, masks_of_end, masks_of_ends, scheduled_entry, tx_of}
-pub use Rattle.cj_cluster.specs.History.Legality.{FitsTx, IsLegal}
+pub use Rattle.cj_cluster.proofs.Common.{FitsTx, IsLegal, act_of, in_mask, request_of, with_backend}
 pub use Rattle.cj_cluster.specs.History.Turns.{Call, HasNoRoomFor, ReadFaultTurn, ScheduledTurn, SessionView, Turn, TurnCase, entry_count_of, entry_of_call, full, log_fault, no_backend, read, read_fault, scheduled, starved, tx_after_entry}
-pub use Rattle.cj_cluster.specs.Moves.Cores.{Core, find_session, is_entry_of, new_session, position_at, session_at, with_session}
 pub use Rattle.cj_cluster.specs.Moves.Moves.{Applies, Arms, Disables, DoesMove, DoesWithEntry, Dumps, Enables, EndsEntry, IsServingMask, LacksRoomFor, Loads, Marks, MeetsLogFault, MoveResult, MovesTo, OpensSession, Replays, Stance, TakesEntry, abort_entry, answered_at, ended_for}
 pub use Rattle.cj_cluster.specs.Moves.Moves.{entry_numbered, failed_after, first_lagging, forbidden_by, happened, is_open, is_orphan, is_orphan_of, is_waiting, last_number, not_now, open_tx, opened_for, position_or_zero, scheduled_as, was_answered, with_end, with_entry}
 pub use Rattle.cj_cluster.specs.Moves.Moves.{with_one_request, with_read, with_request_counted}
@@ -45,15 +44,11 @@ pub use Rattle.cj_log.specs.Logs.{KeepsItems}
 pub use Rattle.cj_log.specs.declared.item.LogItem.{LogItem}
 pub use Rattle.cj_model.proofs.CachingLaws.{all_looked, kept_answer, kept_looked}
 pub use Rattle.cj_model.proofs.Masks.{has-with_other, has-with_same, has-zero, some_bit}
-pub use Rattle.cj_model.specs.Cluster.Accounts.{login_of}
 pub use Rattle.cj_model.specs.Cluster.Caching.{CacheState, after_look, answer_kept, cached_entry, has_answer}
-pub use Rattle.cj_model.specs.Cluster.Masks.{in_mask, with_backend}
 pub use Rattle.cj_model.specs.Cluster.Placements.{Placement, everywhere, hosts_all, needs, part}
-pub use Rattle.cj_model.specs.Database.Inserts.{refusal_of_code}
+pub use Rattle.cj_model.proofs.Common.{ask, refusal_of_code}
 pub use Rattle.cj_model.specs.Database.Outcomes.{IsAnswer, IsAsked, IsOutcome, IsQueryCode}
-pub use Rattle.cj_model.specs.Database.Queries.{ask}
 pub use Rattle.cj_model.specs.Sql.Names.{IsText}
-pub use Rattle.cj_model.specs.Sql.PlainRequests.{act_of, request_of}
 pub use Rattle.cj_model.specs.Wire.Replies.{asked_reply, outcome_reply}
 pub use Rattle.cj_model.specs.declared.answer.Answer.{Answer}
 pub use Rattle.cj_model.specs.declared.answer.Asked.{Asked}
@@ -69,15 +64,11 @@ pub use Rattle.cj_model.specs.declared.select.Select.{Select}
 pub use Rattle.cj_moves.specs.Counting.{blamed, log_faults_after, tells_log_fault}
 pub use Rattle.cj_opening.proofs.Longer.{idle_opening, items_append}
 pub use Rattle.cj_opening.specs.Openings.{IsOpening, OpensTo, items_behind, items_of}
-pub use Rattle.cj_outside.specs.Causes.{next}
-pub use Rattle.cj_place.specs.Layouts.{Layout, placement_of}
 pub use Rattle.cj_replica.specs.Cells.{CellState, KeepsBegun}
-pub use Rattle.cj_replica.specs.Seated.{SeatedCell}
 pub use Rattle.cj_state.proofs.CellsKept.{at_log_end}
 pub use Rattle.cj_state.specs.Beginnings.{AreEmpty, AreFresh, IsFresh, opened_core}
 pub use Rattle.cj_state.specs.CalledLogins.{CallsUnder, LogsInToAsk, LogsInToTake, MayCallUnder, login_to_take, logins_of, next_user}
 pub use Rattle.cj_state.specs.Effects.{Asks, SchedulesAs, core_aborted, core_scheduled, own_entry, with_core}
-pub use Rattle.cj_state.specs.Faults.{did_fail, faults_after, faults_of}
 pub use Rattle.cj_state.specs.Seats.{AreCellsAt, states_of}
 pub use Rattle.cj_state.specs.Worlds.{CacheFollowsLog, IsCell, IsSameButLog, IsWorld, LogView, Setup, WorldState, accounts_of, with_cache, with_log}
 pub use Rattle.cj_state.specs.declared.cells.AskError.{AskError}

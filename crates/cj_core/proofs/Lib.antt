@@ -1,4 +1,5 @@
 pub mod Auditing
+pub mod Cited
 pub mod Common
 pub mod Leaving
 pub mod Making

@@ -2,11 +2,9 @@
 use Rattle.std.proofs.Common.{◌≡◌, ◌⊎◌, inl, inr, ℕ, ◌+◌, Bool, false, List, [], ◌∷◌, ◌++◌, length, map, Result, Ok, Err, refl, ap, sym, ◌∙◌, subst, append_assoc}
 use Rattle.cj_core.proofs.Common.{AbortsEach, BookError, Core, core_aborted, CountsFaultOfPart, CountsFaultOfStart, Enabled, EnabledTo, Ended, Entry, Event, fold, HasStarted, IsErrAnd, IsLonger, IsOpening, IsPrefix, items_append, items_behind, items_of, KeepsItems, log, LogFailed, LogItem}
 use Rattle.cj_core.proofs.Common.{LosesNothing, Marker, next, OnlyReplays, OnlyTakes, OpensTo, Placement, prefix_self, prefix_trans, RefusesBytes, Sched, StartError, TransactionEnded, with_abort, WorldState}
-use Rattle.std.proofs.lemmas.List.Sums.{fold-append}
+use Rattle.cj_book.proofs.Common.{IsKeptIn, Starts, failed_after, fold-append, last_write_failed}
 use Rattle.cj_book.specs.declared.error.BookError.TheVariants.{LogFault}
 use Rattle.cj_book.specs.declared.error.StartError.TheVariants as errors
-use Rattle.cj_book.specs.Books.{IsKeptIn, failed_after, last_write_failed}
-use Rattle.cj_book.specs.Starts.{Starts}
 
 -- ---- from part to part
 

@@ -2,8 +2,7 @@
 use Rattle.std.proofs.Common.{◌≡◌, Bool, true, ℕ, suc, ◌+◌, ◌<◌, ◌≤◌, List, [], ◌∷◌, ◌++◌, length, map, reverse, get_or, Option, Some, refl, ap, sym, ◌∙◌, subst, arith, length-append, append_assoc, append-nil, ⊎_elim}
 use Rattle.cj_core.proofs.Common.{All-nil, All-push, AreCellsAt, AreEmpty, AreFresh, AreNewCells, backend_of, BackendState, cases_lt, cell_board, CellState, get_or_append_left, get_or_push, HaveBegunNone, IsFresh, length-reverse, map-map, map_push}
 use Rattle.cj_core.proofs.Common.{All-head, All-tail, nil_from_length, Placement, reverse-append, reverse-reverse, SeatedCell, Slot, state_by}
-use Rattle.cj_backend.specs.Backends.{Arming}
-use Rattle.atomic_table.specs.Seated.{TableId}
+use Rattle.cj_state.proofs.Common.{Arming, TableId}
 use Rattle.cj_board.specs.declared.seats.CellSeat.{CellSeat}
 
 -- ---- what is seen of backends in their cells

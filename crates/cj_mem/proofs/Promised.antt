@@ -11,10 +11,8 @@ use Rattle.cj_model.specs.declared.answer.Asked.{Asked}
 use Rattle.cj_model.specs.declared.answer.Asked.TheVariants.{Rows, Refused}
 use Rattle.cj_model.specs.declared.answer.Outcome.{Outcome}
 use Rattle.cj_model.specs.Database.Tables.{IsDatabase, slot_of}
-use Rattle.cj_model.specs.Database.Inserts.{Changed}
-use Rattle.cj_model.specs.Database.Updates.{change}
+use Rattle.cj_model.proofs.Common.{Changed, ask, change}
 use Rattle.cj_model.specs.Database.Steps.{seen, other_writer, table_written, write_done, write_unless_locked, write_in, written}
-use Rattle.cj_model.specs.Database.Queries.{ask}
 use Rattle.cj_model.proofs.QueryLaws.{IsAskable, ask_has_columns}
 use Rattle.cj_model.proofs.RefusalLaws.{IsChangeRefusal, IsQueryRefusal, IfRefused, write_coded, ask_coded}
 use Rattle.cj_model.specs.Database.Outcomes.{IsOutcome, IsAsked}

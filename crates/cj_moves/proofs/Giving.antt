@@ -4,12 +4,10 @@ use Rattle.cj_model.specs.declared.request.Act.{Act}
 use Rattle.cj_model.specs.declared.request.Request.{Request}
 use Rattle.cj_model.specs.declared.request.Entry.{Entry}
 use Rattle.cj_model.specs.declared.codes.TheConstants.{HISTORY_FULL, LOG_FAULT}
-use Rattle.cj_model.specs.Sql.PlainRequests.{act_of, request_of}
+use Rattle.cj_cluster.proofs.Common.{Core, HasServer, act_of, request_of}
 use Rattle.cj_model.specs.Database.Inserts.{refusal_of_code}
 use Rattle.cj_cluster.specs.declared.event.Event.TheVariants.{LogFailed}
 use Rattle.cj_cluster.specs.declared.moves.Moved.TheVariants as moved
-use Rattle.cj_cluster.specs.History.Answering.{HasServer}
-use Rattle.cj_cluster.specs.Moves.Cores.{Core}
 use Rattle.cj_cluster.specs.Moves.Moves.{MoveResult, forbidden_by, open_tx, next_entry, SchedulesAct, SchedulesAnyAct, SchedulesRequest, scheduled_as, happened, with_request_counted}
 use Rattle.cj_cluster.proofs.Soundness.{request_of-act}
 use Rattle.cj_book.specs.declared.error.BookError.TheVariants.{HistoryFull, LogFault}

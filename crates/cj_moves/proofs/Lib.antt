@@ -1,2 +1,3 @@
+pub mod Cited
 pub mod Giving
 pub mod Reading

@@ -1,22 +1,17 @@
 -- What a read gives.
 use Rattle.std.proofs.Common.{◌≡◌, ◌≢◌, ◌⊎◌, inl, inr, ℕ, ◌<◌, ◌≤◌, ◌^◌, Bool, true, false, List, length, Option, None, Some, is_some, Ok, Err, refl, ap, sym, ◌∙◌, subst, arith}
-use Rattle.std.proofs.lemmas.Bool.{both_ways}
+use Rattle.cj_state.proofs.Common.{AreBetween, CallsUnder, Core, CoreInvariant, MayCallUnder, both_ways, find_session, in_mask, log, position_at, session_at}
 use Rattle.cj_model.specs.declared.select.Select.{Select}
 use Rattle.cj_model.specs.declared.request.Request.TheVariants as request
 use Rattle.cj_model.specs.declared.answer.Asked.{Asked}
 use Rattle.cj_model.specs.declared.answer.Asked.TheVariants as asked
 use Rattle.cj_model.specs.declared.codes.TheConstants.{READ_FAULT, HISTORY_FULL}
-use Rattle.cj_model.specs.Cluster.Masks.{in_mask}
 use Rattle.cj_cluster.specs.declared.moves.Moved.{Moved}
 use Rattle.cj_cluster.specs.declared.moves.Moved.TheVariants as moved
 use Rattle.cj_cluster.specs.declared.moves.Reason.TheVariants as reason
 use Rattle.cj_cluster.specs.declared.moves.MoveError.TheVariants.{NotNow}
 use Rattle.cj_cluster.specs.declared.moves.OpenSession.{OpenSession}
-use Rattle.cj_cluster.specs.History.Histories.{log}
 use Rattle.cj_cluster.specs.History.Answering.{CanServe}
-use Rattle.cj_cluster.specs.Moves.Cores.{Core, position_at, find_session, session_at}
-use Rattle.cj_cluster.specs.Moves.Runs.{AreBetween}
-use Rattle.cj_cluster.specs.Proving.Invariants.{CoreInvariant}
 use Rattle.cj_cluster.proofs.Pushed.{prefix_self}
 use Rattle.cj_cluster.proofs.Sessions.{session_at-is}
 use Rattle.cj_cluster.proofs.Standing.{open_above, still_tried}
@@ -28,7 +23,6 @@ use Rattle.cj_state.specs.declared.cells.AskError.TheVariants as errors
 use Rattle.cj_moves.specs.Counting.{tells_fault}
 use Rattle.cj_state.specs.Effects.{Asks, asked_core, HaveFailed}
 use Rattle.cj_moves.specs.Proving.ReadParts.{RefusesOrStays, answer_given}
-use Rattle.cj_state.specs.CalledLogins.{CallsUnder, MayCallUnder}
 use Rattle.cj_moves.specs.Logins.{LogsInByMove}
 
 -- ---- what was tried

@@ -7,13 +7,10 @@ use Rattle.std.specs.declared.cmp.Ordering.TheVariants.{Less}
 use Rattle.std.proofs.lemmas.Bool.{cases_lt, eqb-false, eq-eqb, ne_eqb}
 use Rattle.std.proofs.lemmas.Cmp.{ranked}
 use Rattle.std.proofs.lemmas.Option.{slice_get-get_or, slice_get_within, get_or_from_slice_get}
-use Rattle.std.proofs.lemmas.List.Elements.{All-cons, All-head, All-tail, All-weaker}
+use Rattle.cj_model.proofs.Common.{All-cons, All-head, All-tail, All-weaker, nat_tests}
 use Rattle.std.proofs.lemmas.List.Sorted.{IsNonDecreasingBy-from_default}
-use Rattle.std.proofs.lemmas.Bool.Decides.{nat_tests}
 use Rattle.cj_cluster.specs.declared.moves.OpenSession.{OpenSession}
-use Rattle.cj_model.specs.Database.Tables.{Rises}
-use Rattle.cj_cluster.specs.Moves.Cores.{find_session, new_session, with_session}
-use Rattle.cj_cluster.specs.Proving.Invariants.{by_session_number}
+use Rattle.cj_cluster.proofs.Common.{Rises, by_session_number, find_session, new_session, with_session}
 use Rattle.cj_cluster.proofs.Sessions.{found_itself, found_none, found_number, rises_with, rises_without, without}
 use Rattle.cj_open_sessions.specs.Places.{IsPlaceOf}
 

@@ -2,9 +2,8 @@
 pub use Rattle.cj_model.specs.Database.Evaluation.{satisfies}
 pub use Rattle.cj_model.specs.Database.Inserts.{Changed, has_key, has_key_twice, lists_unevenly, lists_unknown_column, refusal_of_code, refuse_if, row_of}
 pub use Rattle.cj_model.specs.Database.Scopes.{scope_of}
-pub use Rattle.cj_model.specs.Database.Tables.{cell}
+pub use Rattle.cj_rows.proofs.Common.{at, cell, filter, insert_entry, is_some, value_cmp}
 pub use Rattle.cj_model.specs.Database.Updates.{assignment_of, overflows, sets_key, sets_twice}
-pub use Rattle.cj_model.specs.Database.Values.{value_cmp}
 pub use Rattle.cj_model.specs.declared.answer.Refusal.{Refusal}
 pub use Rattle.cj_model.specs.declared.codes.TheConstants.{WRONG_TYPE}
 pub use Rattle.cj_model.specs.declared.database.Table.{Table}
@@ -16,15 +15,11 @@ pub use Rattle.cj_plan.specs.Assignments.{assignment_by_place, assignments}
 pub use Rattle.cj_plan.specs.Inserts.{with_fitting_rows}
 pub use Rattle.cj_plan.specs.Plans.{Plans}
 pub use Rattle.cj_plan.specs.declared.plan.Plan.{Plan}
-pub use Rattle.cj_rows.specs.Entries.{at}
 pub use Rattle.cj_rows.specs.Lookups.{IsKeyOf, row_with_key}
 pub use Rattle.cj_rows.specs.RowEntries.{RowEntries, puts}
 pub use Rattle.std.proofs.lemmas.Bool.{cond-true, or_parts, or_right}
-pub use Rattle.std.proofs.lemmas.List.{length-map}
-pub use Rattle.std.specs.BTreeMap.{insert_entry}
-pub use Rattle.std.specs.List.{list_any}
+pub use Rattle.cj_model.proofs.Common.{length-map, list_any}
 pub use Rattle.std.specs.Map.Iter.{deref}
-pub use Rattle.std.specs.Prelude.{filter, is_some}
 pub use Rattle.std.specs.declared.option.Option.{Option}
 pub use Rattle.std.specs.declared.result.Result.{Result}
 pub use Rattle.std.specs.declared.result.Result.TheVariants.{Err}

@@ -7,8 +7,7 @@ use Rattle.std.proofs.lemmas.List.Elements.{All-head, All-tail}
 use Rattle.cj_plan.proofs.Common.{Changed, filter, list_any, Option, overflows, Plan, Plans, Refusal, refuse_if, Result, satisfies, Table, Value}
 use Rattle.cj_model.specs.declared.value.Value.TheVariants.{Int, Text}
 use Rattle.cj_model.specs.Database.Evaluation.{is_out_of_range, value_of}
-use Rattle.cj_model.specs.Database.Predicates.{Predicate}
-use Rattle.cj_model.specs.Database.Tables.{cell}
+use Rattle.cj_expr.proofs.Common.{Predicate, cell}
 use Rattle.cj_model.specs.Database.Updates.{Assignment, assigned, with_new_values}
 use Rattle.cj_expr.specs.Results.{integer_within}
 use Rattle.cj_expr.specs.Shapes.{formula}

@@ -1,3 +1,4 @@
+pub mod Cited
 pub mod Common
 pub mod InPlace
 pub mod Inserted

@@ -1,26 +1,18 @@
 -- What INSERT, UPDATE and DELETE are to change of a table.
 use Rattle.std.proofs.Common.{◌≡◌, ℕ, zero, suc, ◌+◌, ◌<◌, ◌≤◌, Bool, true, false, cond, List, [], ◌∷◌, ◌++◌, length, map, get_or, take, refl, ap, sym, ◌∙◌, subst, ⊎_elim, Ordering, Less, Equal, Greater, is_eq, arith}
 use Rattle.std.specs.Prelude.{All, filter, find, fold, not, is_some, count_by, ◌||◌, ◌&&◌, option_copied}
-use Rattle.std.specs.Borrow.{Bor}
+use Rattle.cj_rows.proofs.Common.{Bor, IsChangeOf, KeysRise, at, match_ordering, merged, option_as_list, tied_itself, value_cmp, value_exact, value_total, values_of}
 use Rattle.std.specs.declared.option.Option.TheVariants.{None, Some}
-use Rattle.std.specs.Ordering.{match_ordering}
-use Rattle.std.specs.Map.{values_of}
 use Rattle.std.proofs.lemmas.Bool.{cases_Bool, cond-true, cond-false, or_left, or_right, or_parts, false_from_ne_true}
-use Rattle.std.proofs.lemmas.Cmp.{tied_itself}
 use Rattle.std.proofs.lemmas.List.{length-map, map-append, map_more}
-use Rattle.std.proofs.lemmas.List.Elements.{All-head, All-tail}
+use Rattle.cj_model.proofs.Common.{All-head, All-tail, Predicate}
 use Rattle.std.proofs.lemmas.List.Filters.{length-filter_both}
 use Rattle.std.proofs.lemmas.List.Sums.{length-filter, count_by-le-length}
 use Rattle.cj_plan.proofs.Common.{Changed, has_key, has_key_twice, insert_entry, IsKeyOf, list_any, Option, Plan, Refusal, refuse_if, Result, row_with_key, satisfies, Table, Value}
-use Rattle.cj_model.specs.Database.Values.{value_cmp, value_total, value_exact}
 use Rattle.cj_model.specs.Database.Tables.{IsTable, cell, by_key, put_by, Rises}
-use Rattle.cj_model.specs.Database.Predicates.{Predicate}
 use Rattle.cj_model.proofs.RisingLaws.{by_order, found_put}
 use Rattle.cj_model.proofs.TableLaws.{by_key_total}
-use Rattle.cj_rows.specs.Entries.{KeysRise, at}
-use Rattle.cj_rows.specs.Layers.{merged, option_as_list}
 use Rattle.cj_rows.specs.RowEntries.{RowEntries, keyed, puts, removals}
-use Rattle.cj_rows.specs.Stored.{IsChangeOf}
 use Rattle.cj_plan.specs.Plans.{Leaves, Plans}
 use Rattle.cj_rows.proofs.EntryLaws.{at_insert}
 use Rattle.cj_rows.proofs.RowLaws.{values_keyed, is_eq-flip, merged_puts, merged_removals, put_changed, rise_each}

@@ -3,13 +3,12 @@ pub use Rattle.cj_expr.specs.Behind.{FollowsBehind}
 pub use Rattle.cj_expr.specs.declared.formula.ValueError.{ValueError}
 pub use Rattle.cj_model.proofs.RisingLaws.{by_order, equal_from}
 pub use Rattle.cj_model.specs.Database.Evaluation.{integer_of, is_true_in, satisfies}
-pub use Rattle.cj_model.specs.Database.Inserts.{refusal_of_code, refuse_if}
+pub use Rattle.cj_model.proofs.Common.{Predicate, refusal_of_code, refuse_if}
 pub use Rattle.cj_model.specs.Database.Order.{SortKey, at_most, by_sort_key, by_sort_keys, insert_before, product, sorted_by, sorts_before}
-pub use Rattle.cj_model.specs.Database.Predicates.{Predicate}
 pub use Rattle.cj_model.specs.Database.Queries.{answer_of, answer_over, answer_row, asked_by, columns_named, first_row, gathered, groups_answered, has_aggregate, has_bad_columns, is_sum_out_of_range, item_value, items_listed, names_answered, rows_with, sort_key_of, sums_text, tables_seen}
 pub use Rattle.cj_model.specs.Database.Scopes.{Scope, column_place, is_unknown_column, predicate_of, scope_of, where_has_unknown_column, where_mixes_kinds}
 pub use Rattle.cj_model.specs.Database.Tables.{IsTable, Rises, by_key, cell, slot_of}
-pub use Rattle.cj_model.specs.Database.Values.{value_cmp, value_exact, value_total}
+pub use Rattle.cj_rows.proofs.Common.{row_with_key, tied_itself, value_cmp, value_exact, value_total}
 pub use Rattle.cj_model.specs.declared.answer.Asked.{Asked}
 pub use Rattle.cj_model.specs.declared.answer.Asked.TheVariants.{Refused, Rows}
 pub use Rattle.cj_model.specs.declared.answer.Refusal.{Refusal}
@@ -39,9 +38,7 @@ pub use Rattle.cj_query.specs.Sides.{TableBy, found_by, tables_of}
 pub use Rattle.cj_query.specs.Taken.{taken}
 pub use Rattle.cj_query.specs.Turned.{IsAlike, total}
 pub use Rattle.cj_query.specs.declared.ranked.Ranked.{Ranked}
-pub use Rattle.cj_rows.specs.Lookups.{row_with_key}
 pub use Rattle.std.proofs.lemmas.Bool.{and_parts, cases_Bool, cond-false, cond-true, false_from_ne_true, not-true}
-pub use Rattle.std.proofs.lemmas.Cmp.{tied_itself}
 pub use Rattle.std.proofs.lemmas.Fn.{always_returns_same}
 pub use Rattle.std.proofs.lemmas.List.{append-nil, get_or_append_left, length-drop, length-map, map-append, nil_from_length, take-append-le, take-map, take_all, take_more}
 pub use Rattle.std.proofs.lemmas.List.Elements.{All-append, All-cons, All-filter, All-head, All-map, All-nil, All-tail, All-take, All-weaker, filter-append}

@@ -5,6 +5,7 @@ mod AlikeLaws
 mod RiseLaws
 mod TurnLaws
 pub mod AskLaws
+pub mod Cited
 pub mod Common
 pub mod CountLaws
 pub mod EvenLaws

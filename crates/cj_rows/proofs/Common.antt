@@ -14,10 +14,9 @@ pub use Rattle.cj_rows.specs.Stored.{IsChangeOf, changed_slot, rows_after}
 pub use Rattle.std.proofs.lemmas.Bool.{cases_Bool, cond-false, cond-true, ne_eqb}
 pub use Rattle.std.proofs.lemmas.Cmp.{tied_itself}
 pub use Rattle.std.proofs.lemmas.List.{append-nil, append_assoc, map-append}
-pub use Rattle.std.proofs.lemmas.List.Elements.{All-cons, All-head, All-nil, All-tail}
+pub use Rattle.cj_model.proofs.Common.{All-cons, All-head, All-nil, All-tail, IsTotalOrder}
 pub use Rattle.std.specs.BTreeMap.{insert_entry, is_at}
 pub use Rattle.std.specs.Borrow.{Bor}
-pub use Rattle.std.specs.Cmp.{IsTotalOrder}
 pub use Rattle.std.specs.Map.{remove_entry, values_of}
 pub use Rattle.std.specs.Map.Iter.{deref_pair}
 pub use Rattle.std.specs.Ordering.{match_ordering, ordering_reverse}

@@ -1,6 +1,6 @@
 -- The names that most proofs of this crate cite, passed on from one place. Declares nothing.
-pub use Rattle.cj_cluster.specs.Moves.Cores.{Core}
-pub use Rattle.cj_cluster.specs.Moves.Runs.{CanCountRequests}
+pub use Rattle.cj_cluster.proofs.Common.{Core, bytes_eq}
+pub use Rattle.cj_core.proofs.Common.{CanCountRequests, Setup, WorldState, flat_map, list_all}
 pub use Rattle.cj_cluster.specs.Script.Lines.{HasNoSpace, IsNumber, MoveLine, moved_lines, row_text, with_line_feed}
 pub use Rattle.cj_cluster.specs.declared.moves.Move.{Move}
 pub use Rattle.cj_model.specs.Sql.Names.{is_name}
@@ -10,10 +10,7 @@ pub use Rattle.cj_script.specs.Reading.{CutsWord, Finds, IsNamed, IsNumbered, Na
 pub use Rattle.cj_script.specs.Script.{DoesLine, audit_line}
 pub use Rattle.cj_script.specs.Steps.{PlaysOrEnds, PlaysWritten, ReadsLine, Stays}
 pub use Rattle.cj_script.specs.declared.play.ScriptEnd.{ScriptEnd}
-pub use Rattle.cj_state.specs.Worlds.{Setup, WorldState}
 pub use Rattle.std.proofs.lemmas.Bool.{and_parts, false≢true}
 pub use Rattle.std.proofs.lemmas.List.Concat.{flat_map-cons}
 pub use Rattle.std.specs.Io.KnownBytes.{Appends, Consumes}
-pub use Rattle.std.specs.List.{flat_map, list_all}
-pub use Rattle.std.specs.Str.{bytes_eq}
 pub use Rattle.std.specs.Str.Parse.{ParsesUnsigned}

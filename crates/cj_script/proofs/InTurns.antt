@@ -1,19 +1,15 @@
 -- The replies in a script's lines are turns.
 use Rattle.std.proofs.Common.{◌≡◌, ℕ, ◌+◌, ◌<◌, ◌≤◌, ◌^◌, Bool, List, [], ◌∷◌, ◌++◌, length, take, drop, All, Option, None, Err, inl, inr, sym, ap, subst, ◌∙◌, arith, append-nil, codes}
-use Rattle.std.proofs.lemmas.List.{take_all}
-use Rattle.std.proofs.lemmas.List.Elements.{All-nil, All-cons}
+use Rattle.cj_core.proofs.Common.{All-cons, All-nil, IsWorld, LogView, SessionView, WorldState, take_all, with_log}
 use Rattle.std.proofs.lemmas.List.Quantifiers.{position-Some}
 use Rattle.std.proofs.Math.Seq.{take-append_seam, drop-append_seam}
 use Rattle.cj_script.proofs.Common.{Appends, bytes_eq, Consumes, flat_map, flat_map-cons, most, Move, Reading, ScriptEnd}
 use Rattle.cj_outside.proofs.Joined.{appends_then, appends_more}
 use Rattle.cj_cluster.specs.declared.moves.Move.TheVariants.{Open, Close, Schedule, Abort, Apply, End, Read, Arm, Disable, Replay, Enable, Mark, Dump, Load}
-use Rattle.cj_cluster.specs.Moves.Cores.{Core, session_at}
+use Rattle.cj_state.proofs.Common.{Core, faults_after, faults_of, session_at}
 use Rattle.cj_cluster.specs.Moves.Runs.{RunsMoves, IsBetweenReplies, IsChained, IsMoveOfCluster, CanCountRequests}
 use Rattle.cj_cluster.specs.Script.Lines.{MoveLine, NamesBackend, moved_lines}
 use Rattle.cj_cluster.proofs.Chains.{run_chained}
-use Rattle.cj_state.specs.Worlds.{LogView, WorldState, IsWorld, with_log}
-use Rattle.cj_cluster.specs.History.Turns.{SessionView}
-use Rattle.cj_state.specs.Faults.{faults_after, faults_of}
 use Rattle.cj_script.specs.declared.play.ScriptEnd.TheVariants.{Done, Line as Line', ReadFault, WriteFault, Spent, NoMemory}
 use Rattle.cj_script.specs.Script.{audit_line, filled, moves_in, given_in, step_lines, faults_through, log_faults_through, AreSteps, MakesInPart, PlaysLine, Plays, LieIn, InTurns, Step}
 use Rattle.cj_script.specs.Script.Step.{Moves, Audits}

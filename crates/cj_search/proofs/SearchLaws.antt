@@ -1,18 +1,14 @@
 -- The rows that a walk leaves out do not meet the condition.
 use Rattle.std.proofs.Common.{◌≡◌, ℕ, ◌+◌, ◌≤◌, Bool, true, false, cond, Ordering, Less, Equal, Greater, List, [], ◌∷◌, ◌++◌, length, refl, ap, sym, subst, ◌∙◌, ⊎_elim, arith, append_assoc}
-use Rattle.std.specs.Prelude.{All, filter}
+use Rattle.cj_rows.proofs.Common.{All, Rises, by_key, cell, filter, rows_from, value_cmp}
 use Rattle.std.specs.Ordering.{is_gt, is_le}
 use Rattle.std.proofs.lemmas.Bool.{cases_Bool, cond-true, cond-false, false_from_ne_true}
 use Rattle.std.proofs.lemmas.List.{length-append}
-use Rattle.std.proofs.lemmas.List.Elements.{All-nil, All-cons, All-head, All-tail}
+use Rattle.cj_model.proofs.Common.{All-cons, All-head, All-nil, All-tail, Predicate}
 use Rattle.std.specs.declared.option.Option.{Option}
 use Rattle.std.specs.declared.option.Option.TheVariants.{Some}
 use Rattle.cj_model.specs.declared.value.Value.{Value}
-use Rattle.cj_model.specs.Database.Values.{value_cmp}
-use Rattle.cj_model.specs.Database.Tables.{Rises, by_key, cell}
 use Rattle.cj_model.specs.Database.Evaluation.{satisfies}
-use Rattle.cj_model.specs.Database.Predicates.{Predicate}
-use Rattle.cj_rows.specs.Lookups.{rows_from}
 use Rattle.cj_expr.specs.declared.reach.Reach.{Reach}
 use Rattle.cj_expr.specs.Reaches.{ReachesRows, is_reached}
 use Rattle.cj_expr.proofs.ReachLaws.{le_trans}

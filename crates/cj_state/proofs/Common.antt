@@ -1,6 +1,6 @@
 -- The names that most proofs of this crate cite, passed on from one place. Declares nothing.
 pub use Rattle.atomic_table.specs.Seated.{TableId}
-pub use Rattle.cj_auth.specs.Admission.{Register}
+pub use Rattle.cj_auth.proofs.Common.{Register, login_of}
 pub use Rattle.cj_backend.specs.Backends.{Arming, arming_after, spent}
 pub use Rattle.cj_board.proofs.FaultPoint.{tokens-append}
 pub use Rattle.cj_board.specs.Points.{fault_tokens_of}
@@ -13,14 +13,11 @@ pub use Rattle.cj_book.specs.declared.error.BookError.{BookError}
 pub use Rattle.cj_book.specs.declared.error.BookError.TheVariants.{HistoryFull, InProgress, LogFault, NoBackend, NoMemory}
 pub use Rattle.cj_cluster.proofs.Effects.{is_there}
 pub use Rattle.cj_cluster.proofs.Now.{behind_none, can_load}
-pub use Rattle.cj_cluster.proofs.Pushed.{log-same, log-sched, opened-free}
+pub use Rattle.cj_book.proofs.Common.{HasServer, IsFitEntry, Layout, has-zero, in_mask, legal_fit, log-same, log-sched, next, opened-free, placement_of, request_of}
 pub use Rattle.cj_cluster.proofs.Sessions.{without}
 pub use Rattle.cj_cluster.proofs.Soundness.{session_sound}
 pub use Rattle.cj_cluster.proofs.Standing.{stand_rest}
-pub use Rattle.cj_cluster.proofs.TransactionLaws.{legal_fit}
-pub use Rattle.cj_cluster.specs.History.Answering.{HasServer}
 pub use Rattle.cj_cluster.specs.History.Histories.{database_after, ended_count, entry_in_progress, events_left, has_marker, is_enabled, is_idle, log, outcome_of, scheduled_entry}
-pub use Rattle.cj_cluster.specs.History.Legality.{IsFitEntry}
 pub use Rattle.cj_cluster.specs.History.Transactions.{takes_part}
 pub use Rattle.cj_cluster.specs.Moves.Cores.{Core, find_dump, find_session, hosts_beyond, is_entry_of, new_session, position_at, session_at, with_session}
 pub use Rattle.cj_cluster.specs.Moves.Moves.{Applies, DoesWithEntry, Replays, Stance, abort_entry, entry_numbered, failed_after, first_lagging, is_open, is_orphan, is_waiting, last_number, not_now, open_tx, position_or_zero, tx_of_act, with_stance}
@@ -35,15 +32,11 @@ pub use Rattle.cj_cluster.specs.declared.moves.TakenDump.{TakenDump}
 pub use Rattle.cj_dump.specs.Coverage.{cut}
 pub use Rattle.cj_dump.specs.declared.dump.Dump.{Dump}
 pub use Rattle.cj_freshness.specs.Freshness.{FollowsLog, IsFreshAnswer}
-pub use Rattle.cj_model.proofs.Masks.{has-zero}
-pub use Rattle.cj_model.specs.Cluster.Accounts.{login_of}
 pub use Rattle.cj_model.specs.Cluster.Caching.{CacheState}
-pub use Rattle.cj_model.specs.Cluster.Masks.{in_mask}
 pub use Rattle.cj_model.specs.Cluster.Placements.{Placement, hosts_all, part}
 pub use Rattle.cj_model.specs.Database.Outcomes.{IsOutcome}
 pub use Rattle.cj_model.specs.Database.Steps.{step}
 pub use Rattle.cj_model.specs.Sql.Names.{is_name}
-pub use Rattle.cj_model.specs.Sql.PlainRequests.{request_of}
 pub use Rattle.cj_model.specs.declared.answer.Asked.{Asked}
 pub use Rattle.cj_model.specs.declared.answer.Outcome.{Outcome}
 pub use Rattle.cj_model.specs.declared.database.Slot.{Slot}
@@ -51,8 +44,6 @@ pub use Rattle.cj_model.specs.declared.limits.TheConstants.{USER_LIMIT}
 pub use Rattle.cj_model.specs.declared.request.Act.{Act}
 pub use Rattle.cj_model.specs.declared.request.Entry.{Entry}
 pub use Rattle.cj_model.specs.declared.select.Select.{Select}
-pub use Rattle.cj_outside.specs.Causes.{next}
-pub use Rattle.cj_place.specs.Layouts.{Layout, placement_of}
 pub use Rattle.cj_replica.specs.Cells.{CellState, HasCellCause, SpendsArmingIf, is_asked}
 pub use Rattle.cj_replica.specs.Seated.{SeatedCell}
 pub use Rattle.cj_replica.specs.declared.replica.Caught.{Caught}

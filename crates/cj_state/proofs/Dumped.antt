@@ -1,9 +1,8 @@
 -- The dumps of a world: what they hold of a log that grew, and one more.
 use Rattle.std.proofs.Common.{◌≡◌, ℕ, ◌<◌, ◌≤◌, cond, filter, slice_get, Bool, true, false, List, [], ◌∷◌, ◌++◌, length, map, All, IfSome, Option, None, Some, option_map, refl, ap, sym, ◌∙◌, subst, arith, length-append}
-use Rattle.std.specs.Str.{bytes_eq}
+use Rattle.cj_book.proofs.Common.{All-head, All-push, All-tail, All-weaker, bytes_eq}
 use Rattle.std.proofs.lemmas.List.{take-append-le, map_push}
 use Rattle.std.proofs.lemmas.Option.{same_Some}
-use Rattle.std.proofs.lemmas.List.Elements.{All-head, All-push, All-tail, All-weaker}
 use Rattle.cj_state.proofs.Common.{AreBetween, CellState, CoreInvariant, cut, Dump, Entry, Event, find_dump, first_of, HoldsPart, hosts_beyond, IsHeld, Kept, Layout, log-same, log-sched, OpenSession, Outcome, part, Placement, placement_of, position_at, Register, Sched, taken_of, TakenDump}
 use Rattle.cj_model.proofs.RisingLaws.{found_All}
 use Rattle.cj_cluster.specs.History.Histories.{log, scheduled_entry, database_of, database_after}

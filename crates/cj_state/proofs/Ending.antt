@@ -7,14 +7,12 @@ use Rattle.cj_model.specs.declared.answer.Outcome.TheVariants as outcome
 use Rattle.cj_model.specs.declared.answer.Refusal.{Refusal}
 use Rattle.cj_model.specs.declared.answer.Reply.TheVariants as reply
 use Rattle.cj_model.specs.declared.codes.TheConstants.{UNFINISHED, STARVED_ALL}
-use Rattle.cj_model.specs.Cluster.Placements.{hosts, hosts_all, concerns}
+use Rattle.cj_book.proofs.Common.{concerns, has-and, hosts, hosts_all, is_target_at}
 use Rattle.cj_model.specs.Database.Steps.{table_written, acted, step}
 use Rattle.cj_model.specs.Wire.Replies.{outcome_reply}
 use Rattle.cj_cluster.specs.History.Answering.{IsTarget, HasServer, AnswersEntry}
 use Rattle.cj_cluster.proofs.Pushed.{enabled-push, ends-last, log-same}
 use Rattle.cj_model.proofs.Masks.{has-zero, some_bit}
-use Rattle.cj_model.proofs.MaskBits.{has-and}
-use Rattle.cj_book.specs.Books.{is_target_at}
 use Rattle.cj_state.specs.Effects.{Refuses}
 
 module _ (tells : Bool) (reg : Register) (l : Layout) (h : List Event) (cells : List CellState) (f s : ℕ) (ss : List OpenSession) (g : ℕ) (ds : List Dump) (numbers : List ℕ) (first_outcome : Option Outcome) (kept : Kept tells (world_of reg l h cells f s ss g ds) numbers first_outcome)

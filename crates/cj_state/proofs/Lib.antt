@@ -2,6 +2,7 @@ pub mod Asking
 pub mod Catching
 pub mod CellsKept
 pub mod ChangedCell
+pub mod Cited
 pub mod Common
 pub mod Contents
 pub mod Counted

@@ -1,9 +1,8 @@
 -- The numbers of the open sessions, as a book has them, and the sessions themselves.
 use Rattle.std.proofs.Common.{◌≡◌, ℕ, ◌==◌, ◌||◌, ◌&&◌, not, Bool, true, false, cond, List, [], ◌∷◌, ◌++◌, filter, map, Option, None, Some, is_some, refl, ap, ◌∙◌}
-use Rattle.std.specs.List.{list_any}
+use Rattle.cj_book.proofs.Common.{list_any, log, tx_of}
 use Rattle.std.proofs.lemmas.List.{map-append}
 use Rattle.cj_state.proofs.Common.{CellState, core_of, Dump, Entry, entry_numbered, find_session, new_session, OpenSession, with_session, without}
-use Rattle.cj_cluster.specs.History.Histories.{log, tx_of}
 use Rattle.cj_cluster.specs.Moves.Moves as moves
 use Rattle.cj_book.specs.Books as books
 use Rattle.cj_book.specs.Books.{BookState, has_session, has_no_number}

@@ -8,14 +8,12 @@ use Rattle.cj_model.specs.declared.database.Draft.{Draft}
 use Rattle.cj_model.specs.declared.limits.TheConstants.{BACKEND_LIMIT}
 use Rattle.cj_model.specs.Cluster.Placements.{everywhere}
 use Rattle.cj_cluster.specs.History.Histories.{log, ended_count, is_idle, is_enabled, entry_in_progress, log_faults_of}
-use Rattle.cj_cluster.specs.History.Legality.{IsAdministratorEntry, IsLegal, IsSessionEntry}
+use Rattle.cj_book.proofs.Common.{IsAdministratorEntry, IsLegal, IsOpening, IsSessionEntry, greatest_session}
 use Rattle.cj_cluster.specs.History.Transactions.{AreFitBehind, has_begun}
 use Rattle.cj_cluster.specs.Proving.Invariants.{BackendStands, CoreInvariant, HasBegunDrafts, HoldsPart, IsSoundDump, IsSoundSession}
 use Rattle.cj_cluster.proofs.Standing.{stand_none}
-use Rattle.cj_opening.specs.Openings.{IsOpening}
 use Rattle.cj_opening.proofs.Longer.{idle_opening}
 use Rattle.cj_book.proofs.Recovering.{known_all}
-use Rattle.cj_book.specs.Starts.{greatest_session}
 use Rattle.cj_state.specs.Beginnings.{IsFresh, AreFresh, AreEmpty, opened_core}
 
 -- ---- at rest

@@ -12,8 +12,7 @@ use Rattle.cj_table.proofs.Common.{by_table, bytes_eq, Err, IsDatabase, name_cmp
 use Rattle.cj_model.specs.declared.database.Table.{Table}
 use Rattle.cj_model.specs.declared.write.Write.{Write}
 use Rattle.cj_model.specs.declared.codes.TheConstants.{NO_TABLE}
-use Rattle.cj_model.specs.Database.Inserts.{Changed, refusal_of_code}
-use Rattle.cj_model.specs.Database.Updates.{change}
+use Rattle.cj_model.proofs.Common.{Changed, change, refusal_of_code}
 use Rattle.cj_model.specs.Database.Steps.{refuse, seen, other_writer, with_table, table_written, write_done, write_unless_locked, write_in, written}
 use Rattle.cj_model.proofs.RisingLaws.{put_equal}
 use Rattle.cj_model.proofs.DatabaseLaws.{by_table_total, with_table-name}

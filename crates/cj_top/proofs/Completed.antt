@@ -5,8 +5,7 @@ use Rattle.cj_outside.specs.Causes.{CountsFault}
 use Rattle.cj_cluster.specs.declared.session.SessionEnd.TheVariants as end
 use Rattle.cj_conf.specs.Confs.{conf_of}
 use Rattle.cj_conf.specs.declared.error.ConfError.{ConfError}
-use Rattle.cj_core.specs.QuietCalls.{BlamesNobody}
-use Rattle.cj_core.specs.Starts.{BackendState, backend_of, state_by}
+use Rattle.cj_core.proofs.Common.{BackendState, BlamesNobody, backend_of, state_by}
 use Rattle.cj_script.specs.declared.play.ScriptEnd.TheVariants as script_end
 use Rattle.cj_top.specs.Completeness.{AnswersInput, ByConf, ByStore, CompletesCommand, CountNoFaults, CountsNoFault, PipesInput, PlaysInput, ScriptsInput, is_end_by_input, is_script_end_by_input}
 use Rattle.cj_outside.specs.declared.sink.OutError.TheVariants as out_errors

@@ -2,10 +2,9 @@
 use Rattle.std.proofs.Common.{◌≡◌, ℕ, ◌+◌, ◌-◌, ◌<◌, ◌≤◌, Bool, true, false, List, [], ◌∷◌, ◌++◌, length, take, All, Option, Some, None, refl, sym, ap, subst, ◌∙◌, arith, lit≤, append_assoc, append-nil, length-append}
 use Rattle.std.specs.List.{flat_map, list_any, AllByRecursion}
 use Rattle.std.specs.Io.KnownBytes.{Appends, Consumes}
-use Rattle.std.proofs.Math.Seq.{take-append-add}
+use Rattle.cj_core.proofs.Common.{take-append-add, take_all}
 use Rattle.std.proofs.ByRecursion.{All-push as ByRecursion-push}
 use Rattle.std.proofs.lemmas.Bool.{le-ltb, lt-ltb, or_parts}
-use Rattle.std.proofs.lemmas.List.{take_all}
 use Rattle.cj_top.proofs.Common.{flat_map-append, flat_map-cons, IfSome, most, Reply, SessionEnd}
 use Rattle.cj_model.specs.declared.message.FrameFault.{FrameFault}
 use Rattle.cj_model.specs.declared.message.Message.{Message}

@@ -1,4 +1,5 @@
 pub mod AskedWords
+pub mod Cited
 pub mod Common
 pub mod Completed
 pub mod InputScripts

@@ -1,19 +1,10 @@
 -- Worlds over backends that were just made.
 use Rattle.std.proofs.Common.{◌≡◌, ◌⊎◌, inl, inr, ⊎_elim, ℕ, zero, suc, ◌+◌, ◌-◌, ◌^◌, ◌<◌, ◌≤◌, Bool, true, false, List, [], ◌∷◌, map, length, replicate, get_or, slice_get, sum, unwrap_or, Option, None, Some, All, refl, ap, sym, ◌∙◌, subst, arith}
 use Rattle.std.specs.Prelude.{min, if◌then◌else◌}
-use Rattle.std.specs.Option.{option_map}
+use Rattle.cj_core.proofs.Common.{CanCountMore, Placement, is_enabled, last_number, map-map, next, option_map, position_at, slice_get-get_or, sum_by-cons}
 use Rattle.std.proofs.lemmas.List.{get_or-replicate, length-map, length-replicate}
 use Rattle.std.proofs.lemmas.List.Elements.{All-replicate}
-use Rattle.std.proofs.lemmas.Simd.{map-map}
-use Rattle.std.proofs.lemmas.List.Sums.{sum_by-cons}
-use Rattle.std.proofs.lemmas.Option.{slice_get-get_or}
 use Rattle.cj_top.proofs.Common.{AreEmpty, Arming, BackendKind, BackendState, CellState, faults_of, fresh_state, HaveBegunNone, LogItem, MemoryState, never_armed, Slot, StartsFrom, state_by, WorldState}
-use Rattle.cj_outside.specs.Causes.{next}
-use Rattle.cj_model.specs.Cluster.Placements.{Placement}
-use Rattle.cj_cluster.specs.History.Histories.{is_enabled}
-use Rattle.cj_cluster.specs.Moves.Cores.{position_at}
-use Rattle.cj_cluster.specs.Moves.Moves.{last_number}
-use Rattle.cj_core.specs.QuietCalls.{CanCountMore}
 use Rattle.cj_flaky.specs.FlakyBackends.{FlakyState, arming_of, faults_by, fresh_over, told_by}
 use Rattle.cj_lite.specs.AnyBackends.{asks_of, begun_of, faults_of as faults_of_any, login_of}
 use Rattle.cj_lite.specs.LiteBackends.{untold}

@@ -11,9 +11,7 @@ use Rattle.cj_cluster.specs.declared.moves.Move.{Move}
 use Rattle.cj_cluster.specs.declared.moves.Move.TheVariants.{Arm, Disable, Replay, Enable, Dump, Load}
 use Rattle.cj_cluster.specs.declared.moves.Moved.TheVariants as moved
 use Rattle.cj_cluster.specs.declared.moves.MoveError.TheVariants.{NoMemory}
-use Rattle.cj_cluster.specs.Moves.Moves.{MoveResult, MovesTo, DoesMove, Arms, Disables, Enables, Dumps, Loads, Replays, happened, not_now}
-use Rattle.cj_cluster.specs.History.Turns.{Call}
-use Rattle.cj_desk.specs.DeskStates.{turn_taken}
+use Rattle.cj_core.proofs.Common.{Arms, Call, Disables, DoesMove, Dumps, Enables, Loads, MoveResult, MovesTo, Replays, happened, not_now, turn_taken}
 use Rattle.cj_core.specs.Solos.{SoloState, SoloSteps, AddsEntry, AddsOwnEvents, LacksLast, log_failure_of, tells_log_failure}
 use Rattle.cj_cluster.proofs.Soundness.{by_reason}
 use Rattle.cj_workload.specs.Proving.Keeping.{IsOfBackend, Keeps, enabled_by}

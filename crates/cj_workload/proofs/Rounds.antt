@@ -1,12 +1,10 @@
 -- One round more, and how a workload begins.
 use Rattle.std.proofs.Common.{◌≡◌, ◌∙◌, refl, sym, ap, subst, ℕ, suc, ◌+◌, ◌<◌, add-one, Bool, true, false, cond, List, [], ◌∷◌, Option, Some, nat_lt}
-use Rattle.std.proofs.lemmas.List.Elements.{All-nil}
+use Rattle.cj_core.proofs.Common.{All-nil, opened_for, session_at-is, session_of-push_same}
 use Rattle.cj_workload.proofs.Common.{All, and_parts, find, hosts, Lcg, ltb-true, Placement, range_with_len, SoloState}
 use Rattle.cj_model.specs.declared.request.Request.{Request}
 use Rattle.cj_cluster.specs.declared.moves.OpenSession.{OpenSession}
 use Rattle.cj_cluster.specs.Moves.Cores.{Core, find_session, new_session, session_at}
-use Rattle.cj_cluster.specs.Moves.Moves.{opened_for}
-use Rattle.cj_cluster.proofs.Sessions.{session_at-is, session_of-push_same}
 use Rattle.cj_workload.specs.Statements.{generator_after_step, generator_behind, next_statement, statement_of, table_name}
 use Rattle.cj_workload.specs.Workloads.{PlaysRound, PlaysRounds, first_host}
 

@@ -1,14 +1,10 @@
 -- What is summed up of the backends that a world hands back.
 use Rattle.std.proofs.Common.{◌≡◌, ◌≢◌, ◌∙◌, ◌⊎◌, ⊎_elim, inl, inr, refl, sym, ap, ℕ, zero, suc, ◌+◌, ◌<◌, ◌≤◌, ◌^◌, ◌&&◌, Bool, true, false, cond, List, [], ◌∷◌, length, map, Option, None, Some, bit_and, nat_lt, arith}
-use Rattle.std.proofs.lemmas.List.Elements.{All-head, All-tail}
+use Rattle.cj_core.proofs.Common.{All-head, All-tail, BackendState, CellState, IsWorld, WorldState, backend_of, has-zero, some_bit, state_by}
 use Rattle.cj_workload.proofs.Common.{All, and_parts, AreSame, both_ways, EachHolds, eq-or-lt_of_le, faults_of, find, first_count, first_host, hosts, in_mask, length-map, ltb-true, MatchOption, option_map, part, Placement, range_with_len, row_count, rows_in, slice_get, Slot, table_name, Value}
 use Rattle.cj_model.proofs.MaskBits.{has-and}
-use Rattle.cj_model.proofs.Masks.{has-zero, some_bit}
 use Rattle.cj_model.proofs.PartLaws.{found_in_part}
 use Rattle.cj_backend.specs.Backends.{Arming}
-use Rattle.cj_replica.specs.Cells.{CellState}
-use Rattle.cj_state.specs.Worlds.{WorldState, IsWorld}
-use Rattle.cj_core.specs.Starts.{BackendState, backend_of, state_by}
 use Rattle.cj_workload.proofs.Rounds.{found_passes}
 
 -- ---- the counts of backends

@@ -1,8 +1,5 @@
 use Rattle.std.proofs.Common.{ap, sym, ◌∙◌, subst}
-use Rattle.cj_book.proofs.Common.{book_view, hearing, own_view, pass_view, SeatView}
-use Rattle.cj_board.specs.Steps.{HasCountNotes, HasPositionNotes, after_learning}
-use Rattle.cj_board.specs.Views.{pass_of}
-use Rattle.cj_book.specs.declared.counter.Counter.{Counter}
+use Rattle.cj_book.proofs.Cited.{Counter, HasCountNotes, HasPositionNotes, SeatView, after_learning, book_view, hearing, own_view, pass_of, pass_view}
 use Rattle.cj_book.proofs.counter.announce.Goals as goal
 
 pub append-requires-clause-positions : goal.append-requires-clause-positions

@@ -1,6 +1,5 @@
 use Rattle.std.proofs.Common.{◌≡◌, List, ℕ, not, ◌&&◌, subst}
-use Rattle.cj_book.proofs.Common.{bytes_eq, contains, marker_cmp, named}
-use Rattle.cj_book.proofs.Named.{removed_name}
+use Rattle.cj_book.proofs.Cited.{bytes_eq, contains, marker_cmp, named, removed_name}
 use Rattle.cj_book.proofs.events.forget.Goals as goal
 
 pub returns : goal.returns

@@ -1,6 +1,5 @@
 use Rattle.std.proofs.Common.{◌≡◌, ◌++◌, ◌∷◌, [], List, append_assoc, ap, refl, sym, subst, ◌∙◌, rules}
-use Rattle.cj_book.proofs.Common.{book_view, Event, history, IsOpening, legal_prefix, placement_of, SeatView}
-use Rattle.cj_book.proofs.Announcing.{opening_comes, opening_seen}
+use Rattle.cj_book.proofs.Cited.{Event, IsOpening, SeatView, book_view, history, legal_prefix, opening_comes, opening_seen, placement_of}
 use Rattle.cj_book.proofs.recovered.gather.Goals as goal
 
 pub loop-event-init : goal.loop-event-init

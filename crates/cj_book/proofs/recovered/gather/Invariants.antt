@@ -1,6 +1,5 @@
 use Rattle.std.proofs.Common.{◌≡◌, ◌++◌}
-use Rattle.cj_book.proofs.Common.{IsRecovered, placement_of}
-use Rattle.cj_board.specs.Seats.{book_board, book_view, history}
+use Rattle.cj_book.proofs.Cited.{IsRecovered, book_board, book_view, history, placement_of}
 use Rattle.cj_book.proofs.recovered.gather.Given as goal
 
 abbrev pub invariant-loop-event : goal.invariant-loop-event

@@ -1,6 +1,5 @@
 use Rattle.std.proofs.Common.{◌||◌, ap, sym, ◌∙◌, option_copied}
-use Rattle.cj_book.specs.Touching.{has_table, is_written_in}
-use Rattle.cj_book.proofs.Written.{put_has}
+use Rattle.cj_book.proofs.Cited.{has_table, is_written_in, put_has}
 use Rattle.cj_book.proofs.touching.add_written.Goals as goal
 
 pub returns : goal.returns

@@ -1,5 +1,4 @@
-use Rattle.cj_cluster.specs.History.Histories.{log}
-use Rattle.cj_freshness.specs.Freshness.{NoneTouches}
+use Rattle.cj_book.proofs.Cited.{NoneTouches, log}
 use Rattle.cj_book.proofs.touching.is_touched_behind.Given as goal
 
 abbrev pub invariant-loop-n : goal.invariant-loop-n

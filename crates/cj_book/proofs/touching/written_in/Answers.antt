@@ -1,7 +1,5 @@
 use Rattle.std.proofs.Common.{◌≡◌, ◌+◌, ◌<◌, ◌||◌, List, Option, length, slice_get, min, take, ap, sym, ◌∙◌, arith}
-use Rattle.std.proofs.Math.Nat.{min-le_left, min-eq_left}
-use Rattle.cj_book.proofs.Common.{Entry, has_table, has_written, is_written_in, legal_fit, log}
-use Rattle.cj_book.proofs.Written.{none_written, written_more}
+use Rattle.cj_book.proofs.Cited.{Entry, has_table, has_written, is_written_in, legal_fit, log, min-eq_left, min-le_left, none_written, written_more}
 use Rattle.cj_book.proofs.touching.written_in.Goals as goal
 
 pub loop-n-init : goal.loop-n-init

@@ -1,7 +1,5 @@
 use Rattle.std.proofs.Common.{rules, ◌≡◌, ℕ, List, length, true, slice_index_or, sym, ap, arith}
-use Rattle.std.proofs.lemmas.List.{take_all}
-use Rattle.std.proofs.lemmas.List.Elements.{All-more, All-same}
-use Rattle.cj_cache.specs.Proving.ByTable.{lists}
+use Rattle.cj_cache.proofs.Cited.{All-more, All-same, lists, take_all}
 use Rattle.cj_cache.proofs.by_table.list.Goals as goal
 
 pub loop-table-preserved : goal.loop-table-preserved

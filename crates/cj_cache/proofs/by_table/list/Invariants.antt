@@ -1,6 +1,5 @@
 use Rattle.std.proofs.Common.{◌≡◌, true, All, take}
-use Rattle.std.specs.Prelude.{⊤}
-use Rattle.cj_cache.specs.Proving.ByTable.{StillLists, lists}
+use Rattle.cj_cache.proofs.Cited.{StillLists, lists, ⊤}
 use Rattle.cj_cache.proofs.by_table.list.Given as goal
 
 abbrev pub invariant-loop-table : goal.invariant-loop-table

@@ -1,6 +1,5 @@
 use Rattle.std.proofs.Common.{◌≡◌, false}
-use Rattle.cj_model.specs.Proving.SameStatements.{same_statement}
-use Rattle.cj_cache.specs.Proving.ByTable.{StillLists}
+use Rattle.cj_cache.proofs.Cited.{StillLists, same_statement}
 use Rattle.cj_cache.proofs.by_table.unlist.Given as goal
 
 abbrev pub invariant-loop-table : goal.invariant-loop-table

@@ -1,9 +1,6 @@
 use Rattle.std.proofs.Common.{rules, ◌≡◌, sym, ap, ◌∙◌}
-use Rattle.std.specs.Prelude.{option_map}
-use Rattle.std.specs.Map.{lookup}
+use Rattle.cj_cache.proofs.Cited.{Held, answer_shown, lookup, option_map, same_statement}
 use Rattle.std.specs.declared.option.Option.TheVariants.{None, Some}
-use Rattle.cj_cache.proofs.Common.{Held, same_statement}
-use Rattle.cj_cache.proofs.Maps.{answer_shown}
 use Rattle.cj_cache.proofs.held.answer_of.Goals as goal
 
 pub returns-in-None : goal.returns-in-None

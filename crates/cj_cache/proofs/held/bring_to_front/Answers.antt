@@ -1,6 +1,5 @@
 use Rattle.std.proofs.Common.{ap, ◌∙◌}
-use Rattle.cj_cache.specs.Kept.{entries_of_map}
-use Rattle.cj_cache.proofs.Maps.{brought_shown, some_shown}
+use Rattle.cj_cache.proofs.Cited.{brought_shown, entries_of_map, some_shown}
 use Rattle.cj_cache.proofs.held.bring_to_front.Goals as goal
 
 pub returns-clause-found : goal.returns-clause-found

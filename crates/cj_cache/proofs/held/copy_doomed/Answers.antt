@@ -1,8 +1,5 @@
 use Rattle.std.proofs.Common.{rules, ◌≡◌, [], filter, sym, subst, arith}
-use Rattle.std.proofs.lemmas.Grind.{common_steps}
-use Rattle.std.specs.List.{IsDistinct}
-use Rattle.cj_cache.proofs.Common.{all_listed, entries_of_map, insert_all, is_due, same_statement}
-use Rattle.cj_cache.proofs.Doomed.{due_doomed}
+use Rattle.cj_cache.proofs.Cited.{IsDistinct, all_listed, common_steps, due_doomed, entries_of_map, insert_all, is_due, same_statement}
 use Rattle.cj_cache.proofs.held.copy_doomed.Goals as goal
 
 pub returns : goal.returns

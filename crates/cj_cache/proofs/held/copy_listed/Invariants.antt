@@ -1,6 +1,5 @@
 use Rattle.std.proofs.Common.{◌≡◌, filter, take}
-use Rattle.cj_cache.proofs.Common.{entries_of_map, insert_all, same_statement}
-use Rattle.cj_cache.specs.Proving.ByTable.{is_due, listed}
+use Rattle.cj_cache.proofs.Cited.{entries_of_map, insert_all, is_due, listed, same_statement}
 use Rattle.cj_cache.proofs.held.copy_listed.Given as goal
 
 abbrev pub invariant-loop-select : goal.invariant-loop-select

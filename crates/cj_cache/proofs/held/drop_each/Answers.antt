@@ -1,7 +1,5 @@
 use Rattle.std.proofs.Common.{map, ap, ◌∙◌, arith}
-use Rattle.std.proofs.lemmas.List.{take_all}
-use Rattle.cj_cache.specs.Kept.{cached, entries_of_map, popped_each}
-use Rattle.cj_cache.proofs.Maps.{popped_shown}
+use Rattle.cj_cache.proofs.Cited.{cached, entries_of_map, popped_each, popped_shown, take_all}
 use Rattle.cj_cache.proofs.held.drop_each.Goals as goal
 
 pub returns-clause-entries : goal.returns-clause-entries

@@ -1,7 +1,5 @@
 use Rattle.std.proofs.Common.{◌≡◌, take}
-use Rattle.lru.specs.LruCache.{lru_cache}
-use Rattle.cj_cache.specs.Kept.{entries_of_map, popped_each}
-use Rattle.cj_cache.specs.Proving.ByTable.{AreListed}
+use Rattle.cj_cache.proofs.Cited.{AreListed, entries_of_map, lru_cache, popped_each}
 use Rattle.cj_cache.proofs.held.drop_each.Given as goal
 
 abbrev pub invariant-loop-select : goal.invariant-loop-select

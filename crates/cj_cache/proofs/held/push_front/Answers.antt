@@ -1,7 +1,5 @@
 use Rattle.std.proofs.Common.{rules, ◌≡◌, ap, ◌∙◌}
-use Rattle.cj_cache.proofs.Common.{entries_of_map, same_statement}
-use Rattle.lru.specs.LruCache.{lru_cache, put_entries}
-use Rattle.cj_cache.proofs.Maps.{put_shown}
+use Rattle.cj_cache.proofs.Cited.{entries_of_map, lru_cache, put_entries, put_shown, same_statement}
 use Rattle.cj_cache.proofs.held.push_front.Goals as goal
 
 pub returns-in-Ok-clause-ok : goal.returns-in-Ok-clause-ok

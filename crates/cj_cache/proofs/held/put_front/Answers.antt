@@ -1,7 +1,5 @@
 use Rattle.std.proofs.Common.{rules}
-use Rattle.cj_cache.specs.Kept.{entries_of_map}
-use Rattle.cj_cache.specs.Proving.ByTable.{IsListed}
-use Rattle.cj_cache.proofs.ByTable.{put_listed}
+use Rattle.cj_cache.proofs.Cited.{IsListed, entries_of_map, put_listed}
 use Rattle.cj_cache.proofs.held.put_front.Goals as goal
 
 pub unlist_unkept-requires-in-Ok-Some : goal.unlist_unkept-requires-in-Ok-Some

@@ -1,6 +1,4 @@
-use Rattle.toml.specs.View.{table_view}
-use Rattle.std.proofs.lemmas.Result.{err_from_is_err_and}
-use Rattle.cj_conf.proofs.Plain.{plain_refusal}
+use Rattle.cj_conf.proofs.Cited.{err_from_is_err_and, plain_refusal, table_view}
 use Rattle.cj_conf.proofs.conf.read_conf.Goals as goal
 
 pub returns-in_err-settings-clause-memory : goal.returns-in_err-settings-clause-memory

@@ -1,7 +1,5 @@
-use Rattle.std.proofs.lemmas.List.FromFn.{fill_by_all}
+use Rattle.cj_conf.proofs.Cited.{AreWeights, BACKEND_LIMIT, are_weights, fill_by_all, weight_at}
 use Rattle.std.proofs.Common.{◌≢◌, ◌<◌, ◌∙◌, length, arith, get_or-set_other, get_or-set_same, below_more, length-set, subst, sym}
-use Rattle.cj_conf.proofs.Common.{AreWeights, BACKEND_LIMIT, weight_at}
-use Rattle.cj_conf.proofs.Making.{are_weights}
 use Rattle.cj_conf.proofs.conf.weights_of.Goals as goal
 
 pub loop-b-preserved : goal.loop-b-preserved

@@ -1,7 +1,5 @@
 use Rattle.std.proofs.Common.{◌∙◌, List, ℕ, ap}
-use Rattle.toml.proofs.Views.{table_get}
-use Rattle.toml.specs.Data.{get_member}
-use Rattle.toml.specs.View.{table_view}
+use Rattle.cj_conf.proofs.Cited.{get_member, table_get, table_view}
 use Rattle.cj_conf.proofs.fields.find.Goals as goal
 
 pub returns : goal.returns

@@ -1,6 +1,5 @@
 use Rattle.std.proofs.Common.{◌≡◌}
-use Rattle.toml.specs.View.{members_view}
-use Rattle.cj_conf.specs.Fields.{first_unknown}
+use Rattle.cj_conf.proofs.Cited.{first_unknown, members_view}
 use Rattle.cj_conf.proofs.fields.stranger.Given as goal
 
 abbrev pub invariant-keys : goal.invariant-keys

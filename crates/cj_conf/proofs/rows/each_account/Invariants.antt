@@ -1,8 +1,5 @@
 use Rattle.std.proofs.Common.{◌≡◌, drop}
-use Rattle.cj_conf.proofs.Common.{account_of, array_view, as_table, each, items_view, row_of}
-use Rattle.cj_model.specs.Cluster.Accounts.{HasShortUsers}
-use Rattle.cj_conf.specs.declared.key.Key.TheVariants.{Users}
-use Rattle.cj_conf.proofs.Reading.{onto}
+use Rattle.cj_conf.proofs.Cited.{HasShortUsers, Users, account_of, array_view, as_table, each, items_view, onto, row_of}
 use Rattle.cj_conf.proofs.rows.each_account.Given as goal
 
 abbrev pub invariant-loop-value : goal.invariant-loop-value

@@ -1,7 +1,5 @@
 use Rattle.std.proofs.Common.{◌≡◌, drop}
-use Rattle.cj_conf.proofs.Common.{All, array_view, as_table, backend_of, each, IsWeighted, items_view, row_of}
-use Rattle.cj_conf.specs.declared.key.Key.TheVariants.{Backends}
-use Rattle.cj_conf.proofs.Reading.{onto}
+use Rattle.cj_conf.proofs.Cited.{All, Backends, IsWeighted, array_view, as_table, backend_of, each, items_view, onto, row_of}
 use Rattle.cj_conf.proofs.rows.each_backend.Given as goal
 
 abbrev pub invariant-loop-value : goal.invariant-loop-value

@@ -1,7 +1,5 @@
 use Rattle.std.proofs.Common.{◌≡◌, drop}
-use Rattle.cj_conf.proofs.Common.{array_view, as_table, each, items_view, placed_of, row_of}
-use Rattle.cj_conf.specs.declared.key.Key.TheVariants.{Tables}
-use Rattle.cj_conf.proofs.Reading.{onto}
+use Rattle.cj_conf.proofs.Cited.{Tables, array_view, as_table, each, items_view, onto, placed_of, row_of}
 use Rattle.cj_conf.proofs.rows.each_placed.Given as goal
 
 abbrev pub invariant-loop-value : goal.invariant-loop-value

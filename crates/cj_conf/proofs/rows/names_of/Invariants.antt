@@ -1,8 +1,5 @@
 use Rattle.std.proofs.Common.{◌≡◌, drop}
-use Rattle.cj_conf.proofs.Common.{array_view, each, items_view}
-use Rattle.cj_conf.specs.Fields.{name_in}
-use Rattle.cj_conf.specs.declared.key.Key.TheVariants.{Hosts}
-use Rattle.cj_conf.proofs.Reading.{onto}
+use Rattle.cj_conf.proofs.Cited.{Hosts, array_view, each, items_view, name_in, onto}
 use Rattle.cj_conf.proofs.rows.names_of.Given as goal
 
 abbrev pub invariant-loop-value : goal.invariant-loop-value

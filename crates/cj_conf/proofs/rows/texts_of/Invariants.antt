@@ -1,8 +1,5 @@
 use Rattle.std.proofs.Common.{◌≡◌, drop}
-use Rattle.cj_conf.proofs.Common.{array_view, each, items_view}
-use Rattle.cj_conf.specs.Fields.{text_in}
-use Rattle.cj_conf.specs.declared.key.Key.TheVariants.{Logins}
-use Rattle.cj_conf.proofs.Reading.{onto}
+use Rattle.cj_conf.proofs.Cited.{Logins, array_view, each, items_view, onto, text_in}
 use Rattle.cj_conf.proofs.rows.texts_of.Given as goal
 
 abbrev pub invariant-loop-value : goal.invariant-loop-value

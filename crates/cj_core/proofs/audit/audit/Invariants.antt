@@ -1,6 +1,5 @@
 use Rattle.std.proofs.Common.{◌≡◌, true}
-use Rattle.cj_core.proofs.Common.{faults_of, flat_map, IsText, lines_at, logins_of, range_with_len}
-use Rattle.cj_state.specs.ArmedCells.{armings_of}
+use Rattle.cj_core.proofs.Cited.{IsText, armings_of, faults_of, flat_map, lines_at, logins_of, range_with_len}
 use Rattle.cj_core.proofs.audit.audit.Given as goal
 
 abbrev pub invariant-loop-b : goal.invariant-loop-b

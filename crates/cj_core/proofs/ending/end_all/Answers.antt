@@ -1,6 +1,5 @@
 use Rattle.std.proofs.Common.{◌<◌, ℕ, ◌∙◌, subst}
-use Rattle.cj_core.proofs.StartEnds.{ended_next}
-use Rattle.cj_core.proofs.StartLonger.{longer_then}
+use Rattle.cj_core.proofs.Cited.{ended_next, longer_then}
 use Rattle.cj_core.proofs.ending.end_all.Goals as goal
 
 pub loop-before-preserved : goal.loop-before-preserved

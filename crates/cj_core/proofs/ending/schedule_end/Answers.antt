@@ -1,6 +1,5 @@
 use Rattle.std.proofs.Common.{refl, ap, ◌∙◌}
-use Rattle.cj_core.proofs.Common.{abort_entry, Entry, with_entry}
-use Rattle.cj_core.proofs.WriteCache.{aborted_after}
+use Rattle.cj_core.proofs.Cited.{Entry, abort_entry, aborted_after, with_entry}
 use Rattle.cj_core.proofs.ending.schedule_end.Goals as goal
 
 pub returns-in-Ok-schedule_abort-clause-ok : goal.returns-in-Ok-schedule_abort-clause-ok

@@ -1,6 +1,5 @@
 use Rattle.std.proofs.Common.{◌≡◌, None, rules}
-use Rattle.cj_core.proofs.Common.{Apply, not_now}
-use Rattle.cj_core.proofs.StartTakes.{others_untouched, took_open}
+use Rattle.cj_core.proofs.Cited.{Apply, not_now, others_untouched, took_open}
 use Rattle.cj_core.proofs.ending.take_where_due.Goals as goal
 
 pub returns-clause-others : goal.returns-clause-others

@@ -1,5 +1,4 @@
-use Rattle.cj_core.proofs.Common.{last_number, position_at}
-use Rattle.cj_core.proofs.StartReplays.{ReplaysOn, left_of}
+use Rattle.cj_core.proofs.Cited.{ReplaysOn, last_number, left_of, position_at}
 use Rattle.cj_core.proofs.replaying.replay_whole.Given as goal
 
 abbrev pub invariant-loop-state : goal.invariant-loop-state

@@ -1,6 +1,5 @@
 use Rattle.std.proofs.Common.{◌≡◌, ◌+◌, ℕ, refl, List, [], ◌∷◌, length, length-append, take, get_or, map, sym, ap, ◌∙◌, subst, arith}
-use Rattle.cj_core.proofs.Common.{given_of, HasRun, IsLegal, IsPrefix, Made, Move, take_all, WorldState}
-use Rattle.cj_core.proofs.Making.{Making, making_none, making_more, making_longer, making_legal, making_run, making_part, making_met}
+use Rattle.cj_core.proofs.Cited.{HasRun, IsLegal, IsPrefix, Made, Making, Move, WorldState, given_of, making_legal, making_longer, making_met, making_more, making_none, making_part, making_run, take_all}
 use Rattle.cj_core.proofs.runs.run.Goals as goal
 
 pub returns-in_default-clause-runs : goal.returns-in_default-clause-runs

@@ -1,7 +1,6 @@
 use Rattle.std.proofs.Common.{◌≡◌, ◌&&◌, [], ◌==◌, not, Bool, true, ℕ, None, Some, refl, ap, sym, ◌∙◌}
-use Rattle.cj_core.proofs.Common.{list_all}
+use Rattle.cj_core.proofs.Cited.{IsUtf8-nil, is_utf8-from_IsUtf8, list_all}
 use Rattle.cj_model.specs.Sql.Names.{is_text, text_of}
-use Rattle.std.proofs.lemmas.Str.{IsUtf8-nil, is_utf8-from_IsUtf8}
 use Rattle.cj_core.proofs.solo.empty_text.Goals as goal
 
 no_bytes : is_text [] ≡ true

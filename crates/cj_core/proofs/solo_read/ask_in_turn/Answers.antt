@@ -1,8 +1,6 @@
 use Rattle.std.proofs.Common.{◌≡◌, true, length, refl, ap, sym, ◌∙◌, subst, arith}
 use Rattle.cj_model.specs.declared.request.Request.TheVariants as requests
-use Rattle.cj_core.proofs.Common.{cache_answered, CanServe, Core, in_mask, log, StandsBetweenCalls, WorldState}
-use Rattle.cj_core.proofs.SoloReads.{QuerySoFar, query_begins, query_goes_on, query_stands, serves_still, serving_is_backend, same_log, in_vain, attempted_turn, counted_turn}
-use Rattle.cj_core.proofs.SoloCache.{not_kept}
+use Rattle.cj_core.proofs.Cited.{CanServe, Core, QuerySoFar, StandsBetweenCalls, WorldState, attempted_turn, cache_answered, counted_turn, in_mask, in_vain, log, not_kept, query_begins, query_goes_on, query_stands, same_log, serves_still, serving_is_backend}
 use Rattle.cj_core.proofs.solo_read.ask_in_turn.Goals as goal
 
 pub loop-b-init : goal.loop-b-init

@@ -1,6 +1,5 @@
 use Rattle.std.proofs.Common.{◌≡◌, ◌<◌, ◌^◌}
-use Rattle.cj_model.specs.declared.limits.TheConstants.{BACKEND_LIMIT}
-use Rattle.cj_core.proofs.SoloReads.{QuerySoFar}
+use Rattle.cj_core.proofs.Cited.{BACKEND_LIMIT, QuerySoFar}
 use Rattle.cj_core.proofs.solo_read.ask_in_turn.Given as goal
 
 abbrev pub invariant-loop-b : goal.invariant-loop-b

@@ -1,7 +1,5 @@
 use Rattle.std.proofs.Common.{Err, inl, ap, sym, ◌∙◌, subst}
-use Rattle.cj_core.proofs.Common.{accounts_of, AreCalledFor, ask, AskError, Asks, Core, database_of, faults_of, log, logins_of, WorldState}
-use Rattle.cj_core.proofs.SoloLogins.{called_to_ask}
-use Rattle.cj_core.proofs.SoloReads.{not_out, not_behind, query_answered, right_at_end}
+use Rattle.cj_core.proofs.Cited.{AreCalledFor, AskError, Asks, Core, WorldState, accounts_of, ask, called_to_ask, database_of, faults_of, log, logins_of, not_behind, not_out, query_answered, right_at_end}
 use Rattle.cj_core.proofs.solo_read.attempt.Goals as goal
 
 pub unreachable-requires : goal.unreachable-requires

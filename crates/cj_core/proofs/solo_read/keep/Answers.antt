@@ -1,6 +1,5 @@
 use Rattle.std.proofs.Common.{◌≡◌, ℕ, List, length, ap, sym, ◌∙◌}
-use Rattle.cj_core.proofs.Common.{Answer, ask, Asked, asked_reply, cache_answered, CacheState, database_after, database_of, Entry, log, Select, take-length, with_cache, WorldState}
-use Rattle.cj_model.specs.declared.answer.Asked.TheVariants.{Rows}
+use Rattle.cj_core.proofs.Cited.{Answer, Asked, CacheState, Entry, Rows, Select, WorldState, ask, asked_reply, cache_answered, database_after, database_of, log, take-length, with_cache}
 use Rattle.cj_core.proofs.solo_read.keep.Goals as goal
 
 pub returns-then-keeps_none-clause-ok : goal.returns-then-keeps_none-clause-ok

@@ -1,9 +1,6 @@
 use Rattle.std.proofs.Common.{◌≡◌, length, Option, None, Some, refl, ap, sym, ◌∙◌, subst, arith}
 use Rattle.cj_model.specs.declared.request.Request.TheVariants as requests
-use Rattle.cj_core.proofs.Common.{after_look, all_looked, Answer, answer_kept, AnswersLookUp, cache_answered, call_of, is_some, IsFreshAnswer, kept_looked, log, Refusal, Refused, RepliesKept, Select, with_answer, with_cache}
-use Rattle.cj_core.proofs.Common.{WorldState, WorldTurn}
-use Rattle.cj_core.proofs.SoloReads.{query_begins, unserved, counted_turn}
-use Rattle.cj_core.proofs.SoloCache.{found_kept, kept_inside, kept_turn, none_found, none_serve, replied_from_cache, some_serve, turn_before_look}
+use Rattle.cj_core.proofs.Cited.{Answer, AnswersLookUp, IsFreshAnswer, Refusal, Refused, RepliesKept, Select, WorldState, WorldTurn, after_look, all_looked, answer_kept, cache_answered, call_of, counted_turn, found_kept, is_some, kept_inside, kept_looked, kept_turn, log, none_found, none_serve, query_begins, replied_from_cache, some_serve, turn_before_look, unserved, with_answer, with_cache}
 use Rattle.cj_core.proofs.solo_read.serve_read.Goals as goal
 
 pub returns-then-serving-eq0-clause-turn : goal.returns-then-serving-eq0-clause-turn

@@ -1,6 +1,5 @@
 use Rattle.std.proofs.Common.{◌==◌, Err, ap, sym, ◌∙◌}
-use Rattle.cj_core.proofs.Common.{BookError, core_scheduled, Entry, happened, LOG_FAULT, log_faults_after, LogFailed, own_entry, Refusal}
-use Rattle.cj_core.proofs.WriteCache.{refused_after}
+use Rattle.cj_core.proofs.Cited.{BookError, Entry, LOG_FAULT, LogFailed, Refusal, core_scheduled, happened, log_faults_after, own_entry, refused_after}
 use Rattle.cj_core.proofs.solo_write.schedule_for.Goals as goal
 
 pub returns-in-Err-LogFault-clause-err : goal.returns-in-Err-LogFault-clause-err

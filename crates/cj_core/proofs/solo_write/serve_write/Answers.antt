@@ -1,7 +1,5 @@
 use Rattle.std.proofs.Common.{List, ℕ, refl, subst}
-use Rattle.cj_core.proofs.Common.{EntryEnded, open_user, own_entry}
-use Rattle.cj_core.proofs.SoloWrites.{begun_running, begun_user, begun_waits, refused, stands_refused, wrote}
-use Rattle.cj_core.proofs.WriteCache.{ended_follows, refused_follows}
+use Rattle.cj_core.proofs.Cited.{EntryEnded, begun_running, begun_user, begun_waits, ended_follows, open_user, own_entry, refused, refused_follows, stands_refused, wrote}
 use Rattle.cj_core.proofs.solo_write.serve_write.Goals as goal
 
 pub finish-requires-clause-open : goal.finish-requires-clause-open

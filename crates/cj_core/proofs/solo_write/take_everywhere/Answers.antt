@@ -1,6 +1,5 @@
 use Rattle.std.proofs.Common.{◌≡◌, ◌≤◌, ap, sym, ◌∙◌, subst, ℕ}
-use Rattle.cj_core.proofs.Common.{Core, is_idle, Placement}
-use Rattle.cj_core.proofs.SoloTaking.{taken_to_next, taken_everywhere}
+use Rattle.cj_core.proofs.Cited.{Core, Placement, is_idle, taken_everywhere, taken_to_next}
 use Rattle.cj_core.proofs.solo_write.take_everywhere.Goals as goal
 
 pub loop-b-preserved : goal.loop-b-preserved

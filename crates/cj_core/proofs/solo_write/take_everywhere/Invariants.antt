@@ -1,6 +1,5 @@
 use Rattle.std.proofs.Common.{◌≡◌, false}
-use Rattle.cj_cluster.specs.History.Histories.{is_idle}
-use Rattle.cj_core.proofs.SoloTaking.{TakenTo}
+use Rattle.cj_core.proofs.Cited.{TakenTo, is_idle}
 use Rattle.cj_core.proofs.solo_write.take_everywhere.Given as goal
 
 abbrev pub invariant-loop-b : goal.invariant-loop-b

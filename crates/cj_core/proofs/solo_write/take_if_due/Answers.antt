@@ -1,6 +1,5 @@
 use Rattle.std.proofs.Common.{◌≡◌, None, rules}
-use Rattle.cj_core.proofs.Common.{Apply, not_now}
-use Rattle.cj_core.proofs.SoloTaking.{took}
+use Rattle.cj_core.proofs.Cited.{Apply, not_now, took}
 use Rattle.cj_core.proofs.solo_write.take_if_due.Goals as goal
 
 pub returns-then-is_none-clause-taken : goal.returns-then-is_none-clause-taken

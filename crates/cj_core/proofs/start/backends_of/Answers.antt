@@ -1,6 +1,5 @@
 use Rattle.std.proofs.Common.{◌≡◌, ◌<◌, ◌≤◌, ◌++◌, ◌∷◌, [], List, map, reverse, vec_capacity, refl, ap, sym, ◌∙◌, subst}
-use Rattle.cj_core.proofs.Common.{backend_of, CellState, length-map, map_push, reverse-append, SeatedCell, state_by, states_of}
-use Rattle.cj_core.proofs.Leaving.{left_seen, leaving_first, leaving_room, leaving_more, leaving_last}
+use Rattle.cj_core.proofs.Cited.{CellState, SeatedCell, backend_of, leaving_first, leaving_last, leaving_more, leaving_room, left_seen, length-map, map_push, reverse-append, state_by, states_of}
 use Rattle.cj_core.proofs.start.backends_of.Goals as goal
 
 map_reversed : {X Y : Type 0} (f : X → Y) (xs : List X) → map f (reverse xs) ≡ reverse (map f xs)

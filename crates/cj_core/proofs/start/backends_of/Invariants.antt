@@ -1,6 +1,5 @@
 use Rattle.std.proofs.Common.{length, vec_capacity}
-use Rattle.cj_core.proofs.Common.{state_by, states_of}
-use Rattle.cj_core.proofs.Leaving.{Leaving}
+use Rattle.cj_core.proofs.Cited.{Leaving, state_by, states_of}
 use Rattle.cj_core.proofs.start.backends_of.Given as goal
 
 abbrev pub invariant-loop-cell : goal.invariant-loop-cell

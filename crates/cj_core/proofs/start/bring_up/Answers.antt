@@ -1,7 +1,5 @@
 use Rattle.std.proofs.Common.{List, ap, ◌∙◌}
-use Rattle.cj_core.proofs.Common.{Event, idle_opening, is_enabled, is_idle}
-use Rattle.cj_core.proofs.StartReplays.{only_history}
-use Rattle.cj_core.proofs.StartWhole.{enabled_standing, none_on, has_started}
+use Rattle.cj_core.proofs.Cited.{Event, enabled_standing, has_started, idle_opening, is_enabled, is_idle, none_on, only_history}
 use Rattle.cj_core.proofs.start.bring_up.Goals as goal
 
 pub replay_everywhere-requires-clause-off : goal.replay_everywhere-requires-clause-off

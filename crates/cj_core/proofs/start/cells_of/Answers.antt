@@ -1,7 +1,5 @@
 use Rattle.std.proofs.Common.{◌≡◌, ◌<◌, ◌≤◌, [], Some, length, vec_capacity, ap, sym, ◌∙◌, subst, arith}
-use Rattle.cj_core.proofs.Common.{backend_of, IsFresh, Layout, length-map, map_push, placement_of, SeatedCell, state_by, states_of}
-use Rattle.cj_model.specs.declared.limits.TheConstants.{BACKEND_LIMIT}
-use Rattle.cj_core.proofs.Starting.{made_fresh, moving_first, moving_more, moving_room, moving_none, moving_last, seating_first, seating_more, seating_nothing}
+use Rattle.cj_core.proofs.Cited.{BACKEND_LIMIT, IsFresh, Layout, SeatedCell, backend_of, length-map, made_fresh, map_push, moving_first, moving_last, moving_more, moving_none, moving_room, placement_of, seating_first, seating_more, seating_nothing, state_by, states_of}
 use Rattle.cj_core.proofs.start.cells_of.Goals as goal
 
 pub loop-backend-init : goal.loop-backend-init

@@ -1,6 +1,5 @@
 use Rattle.std.proofs.Common.{length, vec_capacity}
-use Rattle.cj_core.proofs.Common.{board_id, placement_of, state_by, states_of}
-use Rattle.cj_core.proofs.Starting.{Moving, Seating}
+use Rattle.cj_core.proofs.Cited.{Moving, Seating, board_id, placement_of, state_by, states_of}
 use Rattle.cj_core.proofs.start.cells_of.Given as goal
 
 abbrev pub invariant-loop-backend : goal.invariant-loop-backend

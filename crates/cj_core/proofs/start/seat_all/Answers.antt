@@ -1,6 +1,5 @@
 use Rattle.std.proofs.Common.{map, sym, ap, ◌∙◌, subst}
-use Rattle.cj_core.proofs.Starting.{told_of_backends}
-use Rattle.cj_core.proofs.Common.{AreEmpty, states_of}
+use Rattle.cj_core.proofs.Cited.{AreEmpty, states_of, told_of_backends}
 use Rattle.cj_core.proofs.start.seat_all.Goals as goal
 
 pub returns-clause-empty : goal.returns-clause-empty

@@ -1,7 +1,5 @@
 use Rattle.std.proofs.Common.{ap, sym, ◌∙◌}
-use Rattle.std.proofs.lemmas.Bool.{eq-eqb}
-use Rattle.cj_cluster.specs.Moves.Cores.{is_entry_of}
-use Rattle.cj_state.specs.Worlds.{WorldState}
+use Rattle.cj_state.proofs.Common.{WorldState, eq-eqb, is_entry_of}
 use Rattle.cj_moves.proofs.end.end.Goals as goal
 
 pub end_entry-requires-clause-waits : goal.end_entry-requires-clause-waits

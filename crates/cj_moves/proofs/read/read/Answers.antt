@@ -1,22 +1,5 @@
 use Rattle.std.proofs.Common.{◌≡◌, ℕ, Bool, true, false, cond, None, Some, Ok, Err, refl, ap, sym, ◌∙◌, subst, arith}
-use Rattle.std.proofs.lemmas.Bool.{both_ways}
-use Rattle.cj_cluster.specs.declared.moves.Moved.{Moved}
-use Rattle.cj_cluster.specs.Moves.Cores.{Core, session_at, is_entry_of}
-use Rattle.cj_cluster.specs.Moves.Moves.{HasNoOtherRead, is_waiting, open_tx, read_number}
-use Rattle.cj_state.specs.declared.cells.AskError.{AskError}
-use Rattle.cj_cluster.specs.declared.event.Event.TheVariants.{ReadFailed}
-use Rattle.cj_cluster.proofs.Now.{can_read}
-use Rattle.cj_cluster.proofs.Pushed.{opened-same}
-use Rattle.cj_cluster.proofs.Standing.{open_above, tried_more}
-use Rattle.cj_state.specs.Worlds.{WorldState}
-use Rattle.cj_state.specs.CalledLogins.{logins_of, LogsInToAsk}
-use Rattle.cj_moves.specs.Logins.{login_to_ask}
-use Rattle.cj_state.specs.ArmedCells.{armings_of}
-use Rattle.cj_state.specs.Faults.{faults_of, faults_after}
-use Rattle.cj_moves.specs.Counting.{tells_fault}
-use Rattle.cj_state.specs.Effects.{Asks, asked_core, failed_asked, HaveFailed}
-use Rattle.cj_moves.specs.Proving.ReadParts.{RefusesOrStays}
-use Rattle.cj_moves.proofs.Reading.{not_serving, answered, failed, unnoted, is_out, is_behind, answers_blame_none, answers_log_in, asks_same, failures_blame, failures_log_in}
+use Rattle.cj_moves.proofs.Cited.{AskError, Asks, Core, HasNoOtherRead, HaveFailed, LogsInToAsk, Moved, ReadFailed, RefusesOrStays, WorldState, answered, answers_blame_none, answers_log_in, armings_of, asked_core, asks_same, both_ways, can_read, failed, failed_asked, failures_blame, failures_log_in, faults_after, faults_of, is_behind, is_entry_of, is_out, is_waiting, login_to_ask, logins_of, not_serving, open_above, open_tx, opened-same, read_number, session_at, tells_fault, tried_more, unnoted}
 use Rattle.cj_moves.proofs.read.read.Goals as goal
 
 pub has_bit-requires : goal.has_bit-requires

@@ -1,6 +1,5 @@
 use Rattle.std.proofs.Common.{ℕ, sym, subst}
-use Rattle.cj_state.specs.Effects.{HaveFailed}
-use Rattle.cj_moves.proofs.Reading.{tried_failed}
+use Rattle.cj_moves.proofs.Cited.{HaveFailed, tried_failed}
 use Rattle.cj_moves.proofs.read.wait.Goals as goal
 
 pub keep_reading-requires-clause-since : goal.keep_reading-requires-clause-since

@@ -1,13 +1,5 @@
 use Rattle.std.proofs.Common.{◌≡◌, None, Err, refl, ap, ◌∙◌, subst, rules}
-use Rattle.cj_cluster.specs.declared.event.Event.TheVariants.{LogFailed}
-use Rattle.cj_cluster.specs.Moves.Cores.{Core, is_entry_of}
-use Rattle.cj_cluster.specs.Moves.Moves.{forbidden_by, is_waiting, open_tx, with_request_counted}
-use Rattle.cj_cluster.proofs.Now.{can_schedule}
-use Rattle.cj_cluster.proofs.Pushed.{opened-free, opened-same}
-use Rattle.cj_book.specs.declared.error.BookError.{BookError}
-use Rattle.cj_state.specs.Worlds.{WorldState}
-use Rattle.cj_state.specs.Effects.{SchedulesAs, core_scheduled}
-use Rattle.cj_moves.proofs.Giving.{gives_entry, gives_full, gives_log_fault}
+use Rattle.cj_moves.proofs.Cited.{BookError, Core, LogFailed, SchedulesAs, WorldState, can_schedule, core_scheduled, forbidden_by, gives_entry, gives_full, gives_log_fault, is_entry_of, is_waiting, open_tx, opened-free, opened-same, with_request_counted}
 use Rattle.cj_moves.proofs.schedule.schedule.Goals as goal
 
 pub returns-in-Ok-schedule_entry-clause-moves : goal.returns-in-Ok-schedule_entry-clause-moves

@@ -1,7 +1,5 @@
 use Rattle.std.proofs.Common.{◌≡◌, List, map, subst}
-use Rattle.std.specs.Prelude.{IfOk}
-use Rattle.cj_plan.proofs.Common.{deref, IsKeyOf, Schema, Value}
-use Rattle.cj_plan.proofs.PlanLaws.{pinned_rows}
+use Rattle.cj_plan.proofs.Cited.{IfOk, IsKeyOf, Schema, Value, deref, pinned_rows}
 use Rattle.cj_plan.proofs.conditions.matching.Goals as goal
 
 pub returns-in-Some : goal.returns-in-Some

@@ -1,10 +1,7 @@
 use Rattle.std.proofs.Common.{◌≡◌, length, map, refl, arith, sym, ap, ◌∙◌}
 use Rattle.std.specs.Prelude.{not}
-use Rattle.std.proofs.lemmas.List.Filters.{length-filter_both}
-use Rattle.std.proofs.lemmas.List.Sums.{length-filter}
-use Rattle.cj_plan.proofs.Common.{deref, filter, length-map, satisfies, Schema}
+use Rattle.cj_plan.proofs.Cited.{Schema, delete_leaves, deref, filter, length-filter, length-filter_both, length-map, part-le, satisfies}
 use Rattle.cj_rows.specs.RowEntries as entries
-use Rattle.cj_plan.proofs.PlanLaws.{part-le, delete_leaves}
 use Rattle.cj_plan.proofs.delete.without_rows.Goals as goal
 
 pub overflow_sub-count : goal.overflow_sub-count

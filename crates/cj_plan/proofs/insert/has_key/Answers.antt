@@ -1,6 +1,5 @@
 use Rattle.std.proofs.Common.{ap, ◌∙◌}
-use Rattle.cj_plan.proofs.Common.{cell, is_some, row_with_key, Schema, Value}
-use Rattle.cj_plan.proofs.PlanLaws.{is_some-copied, found_key}
+use Rattle.cj_plan.proofs.Cited.{Schema, Value, cell, found_key, is_some, is_some-copied, row_with_key}
 use Rattle.cj_plan.proofs.insert.has_key.Goals as goal
 
 pub returns : goal.returns

@@ -1,6 +1,5 @@
 use Rattle.std.proofs.Common.{◌≡◌, false, not, ◌==◌, List, length, map, subst, sym, ap, ◌∙◌}
-use Rattle.cj_plan.proofs.Common.{Changed, list_any, lists_unevenly, lists_unknown_column, Plans, row_of, Schema, Term, with_fitting_rows}
-use Rattle.cj_plan.proofs.Inserted.{inserted_rows}
+use Rattle.cj_plan.proofs.Cited.{Changed, Plans, Schema, Term, inserted_rows, list_any, lists_unevenly, lists_unknown_column, row_of, with_fitting_rows}
 use Rattle.cj_plan.proofs.insert.inserted.Goals as goal
 
 pub returns : goal.returns

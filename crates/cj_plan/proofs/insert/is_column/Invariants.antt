@@ -1,6 +1,5 @@
 use Rattle.std.proofs.Common.{◌≡◌, length}
-use Rattle.std.specs.List.{list_any}
-use Rattle.std.specs.Str.{bytes_eq}
+use Rattle.cj_model.proofs.Common.{bytes_eq, list_any}
 use Rattle.cj_model.specs.Database.Tables as tables
 use Rattle.cj_plan.proofs.insert.is_column.Given as goal
 

@@ -1,8 +1,6 @@
 use Rattle.std.proofs.Common.{◌≡◌, true, false, List, [], ◌∷◌, ◌++◌, ap, sym, ◌∙◌, subst}
 use Rattle.std.specs.declared.option.Option.TheVariants.{Some}
-use Rattle.std.proofs.lemmas.List.{append_assoc}
-use Rattle.cj_plan.proofs.Common.{at, cell, cond-true, has_key, has_key_twice, insert_entry, is_some, or_right, RowEntries, Value, value_cmp}
-use Rattle.cj_plan.proofs.PlanLaws.{is_some-copied, known_put, twice_more, twice_still, none_of, put_one_more}
+use Rattle.cj_plan.proofs.Cited.{RowEntries, Value, append_assoc, at, cell, cond-true, has_key, has_key_twice, insert_entry, is_some, is_some-copied, known_put, none_of, or_right, put_one_more, twice_more, twice_still, value_cmp}
 use Rattle.cj_plan.proofs.insert.puts.Goals as goal
 
 pub returns-then-is_some : goal.returns-then-is_some

@@ -1,9 +1,5 @@
 use Rattle.std.proofs.Common.{◌≡◌, ◌+◌, false, length, arith, sym, ap, ◌∙◌}
-use Rattle.std.proofs.lemmas.Bool.{le-ltb}
-use Rattle.cj_plan.proofs.Common.{has_key, list_any, Schema}
-use Rattle.cj_model.specs.declared.limits.TheConstants.{ROW_LIMIT}
-use Rattle.cj_plan.specs.Inserts.{puts_once}
-use Rattle.cj_plan.proofs.PlanLaws.{from_some, none_of, past, insert_leaves}
+use Rattle.cj_plan.proofs.Cited.{ROW_LIMIT, Schema, from_some, has_key, insert_leaves, le-ltb, list_any, none_of, past, puts_once}
 use Rattle.cj_plan.proofs.insert.with_rows.Goals as goal
 
 pub returns : goal.returns

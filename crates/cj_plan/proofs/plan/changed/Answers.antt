@@ -1,7 +1,5 @@
 use Rattle.std.proofs.Common.{sym, ap, ◌∙◌}
-use Rattle.cj_model.specs.Database.Inserts.{inserted}
-use Rattle.cj_model.specs.Database.Updates.{change}
-use Rattle.cj_plan.proofs.InPlace.{keyed_makes}
+use Rattle.cj_plan.proofs.Cited.{change, inserted, keyed_makes}
 use Rattle.cj_plan.proofs.plan.changed.Goals as goal
 
 pub returns-in_ok-planned-in-Insert : goal.returns-in_ok-planned-in-Insert

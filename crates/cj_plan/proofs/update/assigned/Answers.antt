@@ -1,9 +1,5 @@
 use Rattle.std.proofs.Common.{◌≡◌, true, ap, sym, ◌∙◌}
-use Rattle.cj_plan.proofs.Common.{assignment_by_place, cond-true}
-use Rattle.cj_model.specs.Database.Evaluation.{is_out_of_range, value_of}
-use Rattle.cj_model.specs.Database.Updates.{Assignment}
-use Rattle.cj_expr.specs.Shapes.{formula}
-use Rattle.cj_plan.proofs.PlanLaws.{any_at, from_none}
+use Rattle.cj_plan.proofs.Cited.{Assignment, any_at, assignment_by_place, cond-true, formula, from_none, is_out_of_range, value_of}
 use Rattle.cj_plan.proofs.update.assigned.Goals as goal
 
 pub returns-in-None : goal.returns-in-None

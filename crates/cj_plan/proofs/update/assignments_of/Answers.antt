@@ -1,6 +1,5 @@
 use Rattle.std.proofs.Common.{ap, ◌∙◌}
-use Rattle.cj_plan.proofs.Common.{assignment_by_place, assignment_of, assignments}
-use Rattle.cj_plan.proofs.PlanLaws.{images_more}
+use Rattle.cj_plan.proofs.Cited.{assignment_by_place, assignment_of, assignments, images_more}
 use Rattle.cj_plan.proofs.update.assignments_of.Goals as goal
 
 pub loop-set-preserved : goal.loop-set-preserved

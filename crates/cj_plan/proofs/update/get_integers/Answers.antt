@@ -1,12 +1,5 @@
 use Rattle.std.proofs.Common.{◌≡◌, true, List, map, sym, subst}
-use Rattle.std.specs.Prelude.{is_some}
-use Rattle.std.proofs.lemmas.List.Elements.{All-map}
-use Rattle.cj_plan.proofs.Common.{assignments, deref, Value}
-use Rattle.cj_model.specs.Database.Evaluation.{value_of}
-use Rattle.cj_expr.specs.Results.{integer_within}
-use Rattle.cj_expr.specs.Shapes.{formula}
-use Rattle.cj_plan.specs.ColumnEdits.{GetIntegers}
-use Rattle.cj_plan.proofs.InPlace.{one_item}
+use Rattle.cj_plan.proofs.Cited.{All-map, GetIntegers, Value, assignments, deref, formula, integer_within, is_some, one_item, value_of}
 use Rattle.cj_plan.proofs.update.get_integers.Goals as goal
 
 pub returns-then-are_many-clause-integers : goal.returns-then-are_many-clause-integers

@@ -1,6 +1,5 @@
 use Rattle.std.proofs.Common.{◌≡◌, true, sym, ◌∙◌}
-use Rattle.cj_plan.proofs.Common.{assignments, cond-true, deref, overflows}
-use Rattle.cj_plan.proofs.PlanLaws.{any_at, from_none}
+use Rattle.cj_plan.proofs.Cited.{any_at, assignments, cond-true, deref, from_none, overflows}
 use Rattle.cj_plan.proofs.update.new_rows.Goals as goal
 
 pub returns-in-None : goal.returns-in-None

@@ -1,7 +1,5 @@
 use Rattle.std.proofs.Common.{◌∷◌, [], sym, ap, ◌∙◌}
-use Rattle.std.specs.Prelude.{◌||◌}
-use Rattle.cj_plan.proofs.Common.{list_any, Schema, scope_of, sets_key, sets_twice}
-use Rattle.cj_plan.proofs.UpdateRefusals.{keeps_key, first_refused, second_refused, third_refused, all_past}
+use Rattle.cj_plan.proofs.Cited.{Schema, all_past, first_refused, keeps_key, list_any, scope_of, second_refused, sets_key, sets_twice, third_refused, ◌||◌}
 use Rattle.cj_plan.proofs.update.updated.Goals as goal
 
 pub returns-then-names_unknown_column : goal.returns-then-names_unknown_column

@@ -1,12 +1,6 @@
 use Rattle.std.proofs.Common.{◌≡◌, length, map, arith, sym, ap, subst, ◌∙◌}
 use Rattle.std.specs.declared.option.Option.TheVariants.{None, Some}
-use Rattle.std.proofs.lemmas.List.Sums.{length-filter}
-use Rattle.cj_plan.proofs.Common.{deref, filter, length-map, satisfies, Schema}
-use Rattle.cj_model.specs.Database.Updates.{overflows, assigned}
-use Rattle.cj_plan.specs.Assignments.{assignments, values_or_none}
-use Rattle.cj_plan.specs.ColumnEdits.{GetIntegers}
-use Rattle.cj_plan.proofs.InPlace.{in_place, makes_past, makes_refused}
-use Rattle.cj_plan.proofs.PlanLaws.{from_none, from_some, any_both, update_leaves}
+use Rattle.cj_plan.proofs.Cited.{GetIntegers, Schema, any_both, assigned, assignments, deref, filter, from_none, from_some, in_place, length-filter, length-map, makes_past, makes_refused, overflows, satisfies, update_leaves, values_or_none}
 use Rattle.cj_plan.proofs.update.with_new_values.Goals as goal
 
 pub returns-then-get_integers : goal.returns-then-get_integers

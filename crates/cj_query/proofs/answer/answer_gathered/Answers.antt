@@ -1,6 +1,5 @@
 use Rattle.std.proofs.Common.{◌≡◌, Bool, List, map, subst, ap, ◌∙◌}
-use Rattle.cj_query.proofs.Common.{answer_of, asked_by, at_most, cut_into, deref, first_row, gathered, groups_answered, IfOk, rows_in, sort_key_of, sorted_by, SortKey, sorts_before, Value}
-use Rattle.cj_query.proofs.GroupLaws.{gathered_is}
+use Rattle.cj_query.proofs.Cited.{IfOk, SortKey, Value, answer_of, asked_by, at_most, cut_into, deref, first_row, gathered, gathered_is, groups_answered, rows_in, sort_key_of, sorted_by, sorts_before}
 use Rattle.cj_query.proofs.answer.answer_gathered.Goals as goal
 
 pub returns : goal.returns

@@ -1,6 +1,5 @@
 use Rattle.std.proofs.Common.{◌≡◌, [], ◌∷◌, List, map, subst, sym, ap, ◌∙◌}
-use Rattle.cj_query.proofs.Common.{answer_of, asked_by, at_most, deref, IfOk, keys_of, sort_key_of, sorted_by, sorts_before, Value}
-use Rattle.cj_query.proofs.PathLaws.{groups_ranked}
+use Rattle.cj_query.proofs.Cited.{IfOk, Value, answer_of, asked_by, at_most, deref, groups_ranked, keys_of, sort_key_of, sorted_by, sorts_before}
 use Rattle.cj_query.proofs.answer.answer_rows.Goals as goal
 
 pub returns-in_ok-rows-in-Some : goal.returns-in_ok-rows-in-Some

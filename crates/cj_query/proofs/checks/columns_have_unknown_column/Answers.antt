@@ -1,8 +1,7 @@
 use Rattle.std.proofs.Common.{◌≡◌, ◌||◌, ap, sym, ◌∙◌}
-use Rattle.cj_query.proofs.Common.{Key, list_any, option_to_list}
+use Rattle.cj_query.proofs.Cited.{Key, any_named, list_any, option_to_list}
 use Rattle.cj_model.specs.Database.Queries as queries
 use Rattle.cj_model.specs.Database.Scopes as scopes
-use Rattle.cj_query.proofs.NameLaws.{any_named}
 use Rattle.cj_query.proofs.checks.columns_have_unknown_column.Goals as goal
 
 pub returns-then-items_have_unknown_column : goal.returns-then-items_have_unknown_column

@@ -1,7 +1,6 @@
 use Rattle.std.proofs.Common.{map, refl}
-use Rattle.cj_query.proofs.Common.{deref, rows_of}
+use Rattle.cj_query.proofs.Cited.{deref, rows_of, run_left, run_within, runs_more}
 use Rattle.cj_query.specs.Gathered as gathered
-use Rattle.cj_query.proofs.RunLaws.{run_left, run_within, runs_more}
 use Rattle.cj_query.proofs.groups.runs.Goals as goal
 
 pub loop-start-preserved : goal.loop-start-preserved

@@ -1,6 +1,5 @@
 use Rattle.std.proofs.Common.{refl}
-use Rattle.cj_query.proofs.Common.{deref, rows_of}
-use Rattle.cj_query.proofs.RunLaws.{single_next}
+use Rattle.cj_query.proofs.Cited.{deref, rows_of, single_next}
 use Rattle.cj_query.proofs.groups.singles.Goals as goal
 
 pub loop-at-preserved : goal.loop-at-preserved

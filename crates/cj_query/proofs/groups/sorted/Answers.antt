@@ -1,6 +1,5 @@
 use Rattle.std.proofs.Common.{◌≡◌, List, map, ap, subst, ◌∙◌}
-use Rattle.cj_query.proofs.Common.{deref, IfOk, leads_before, led_by, RankedRow, rows_seen, sorted_by, take_all, Value}
-use Rattle.cj_query.proofs.RankLaws.{led_rows}
+use Rattle.cj_query.proofs.Cited.{IfOk, RankedRow, Value, deref, leads_before, led_by, led_rows, rows_seen, sorted_by, take_all}
 use Rattle.cj_query.proofs.groups.sorted.Goals as goal
 
 pub returns : goal.returns

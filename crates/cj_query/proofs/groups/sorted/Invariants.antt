@@ -1,6 +1,5 @@
 use Rattle.std.proofs.Common.{◌≡◌, map, take}
-use Rattle.std.specs.Map.Iter.{deref}
-use Rattle.cj_query.specs.Ranked.{led_by, seen}
+use Rattle.cj_query.proofs.Cited.{deref, led_by, seen}
 use Rattle.cj_query.proofs.groups.sorted.Given as goal
 
 abbrev pub invariant-loop-row : goal.invariant-loop-row

@@ -1,7 +1,5 @@
 use Rattle.std.proofs.Common.{rules, ◌≡◌, [], List, map, ap, sym, subst, ◌∙◌}
-use Rattle.cj_query.proofs.Common.{always_returns_same, first_row, nil_from_length, ranks_by, rows_in, rows_of, sorted_by, SortKey, sorts_before}
-use Rattle.cj_query.proofs.OrderLaws.{ordered_is, ordered-map}
-use Rattle.cj_query.proofs.KeyLaws.{by_sort_keys_total, always_in_order}
+use Rattle.cj_query.proofs.Cited.{SortKey, always_in_order, always_returns_same, by_sort_keys_total, first_row, nil_from_length, ordered-map, ordered_is, ranks_by, rows_in, rows_of, sorted_by, sorts_before}
 use Rattle.cj_query.proofs.order.sort_groups.Goals as goal
 
 pub returns-then-is_empty : goal.returns-then-is_empty

@@ -1,6 +1,5 @@
 use Rattle.std.proofs.Common.{List, [], ◌∷◌, ◌++◌, ap, ◌∙◌}
-use Rattle.cj_query.proofs.Common.{sort_key_of, SortKey}
-use Rattle.cj_query.proofs.WalkLaws.{map_next}
+use Rattle.cj_query.proofs.Cited.{SortKey, map_next, sort_key_of}
 use Rattle.cj_query.proofs.order.sort_keys.Goals as goal
 
 pub loop-key-preserved : goal.loop-key-preserved

@@ -1,6 +1,5 @@
 use Rattle.std.proofs.Common.{◌≡◌, map, take}
-use Rattle.std.specs.Map.Iter.{deref}
-use Rattle.cj_query.specs.Ranked.{seen}
+use Rattle.cj_query.proofs.Cited.{deref, seen}
 use Rattle.cj_query.proofs.ranked.rows_of.Given as goal
 
 abbrev pub invariant-loop-row : goal.invariant-loop-row

@@ -1,8 +1,5 @@
 use Rattle.std.proofs.Common.{rules, map, ap, ◌∙◌}
-use Rattle.cj_query.proofs.Common.{always_returns_same, ranks_by}
-use Rattle.cj_query.specs.Ranked.{leads_before, seen}
-use Rattle.cj_query.proofs.OrderLaws.{ordered_is, ordered-map}
-use Rattle.cj_query.proofs.RankLaws.{lead_total}
+use Rattle.cj_query.proofs.Cited.{always_returns_same, lead_total, leads_before, ordered-map, ordered_is, ranks_by, seen}
 use Rattle.cj_query.proofs.ranked.sort_by_lead.Goals as goal
 
 pub returns : goal.returns

@@ -1,6 +1,5 @@
 use Rattle.std.proofs.Common.{◌≡◌, ◌++◌, length, map}
-use Rattle.std.specs.Prelude.{filter}
-use Rattle.cj_query.proofs.Common.{at_most, deref, satisfies}
+use Rattle.cj_query.proofs.Cited.{at_most, deref, filter, satisfies}
 use Rattle.cj_query.proofs.rows.first_matching.Given as goal
 
 abbrev pub invariant-loop-rows : goal.invariant-loop-rows

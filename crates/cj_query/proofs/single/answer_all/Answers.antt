@@ -1,7 +1,5 @@
 use Rattle.std.proofs.Common.{◌≡◌, ◌∷◌, [], List, map, subst, sym, ap, ◌∙◌}
-use Rattle.std.specs.Prelude.{IfOk, filter}
-use Rattle.cj_query.proofs.Common.{answer_of, asked_by, at_most, deref, keys_of, satisfies, sort_key_of, sorted_by, sorts_before, Value}
-use Rattle.cj_query.proofs.PathLaws.{groups_ranked}
+use Rattle.cj_query.proofs.Cited.{IfOk, Value, answer_of, asked_by, at_most, deref, filter, groups_ranked, keys_of, satisfies, sort_key_of, sorted_by, sorts_before}
 use Rattle.cj_query.proofs.single.answer_all.Goals as goal
 
 pub returns-in-Some : goal.returns-in-Some

@@ -1,9 +1,6 @@
 use Rattle.std.proofs.Common.{◌≡◌, ℕ, List, sym, ap, subst, ◌∙◌}
-use Rattle.std.specs.Prelude.{IfOk, filter, option_copied, option_to_list}
-use Rattle.cj_query.proofs.Common.{answer_of, Asked, asked_by, groups_answered, PinsTo, satisfies, Value}
+use Rattle.cj_query.proofs.Cited.{Asked, IfOk, PinsTo, Value, answer_of, asked_by, counted_is, filter, groups_answered, option_copied, option_to_list, pinned_rows, satisfies}
 use Rattle.cj_query.specs.Counted as counted
-use Rattle.cj_query.proofs.CountLaws.{counted_is}
-use Rattle.cj_query.proofs.PathLaws.{pinned_rows}
 use Rattle.cj_query.proofs.single.answer_one.Goals as goal
 
 pub returns-then-counts_all : goal.returns-then-counts_all

@@ -1,9 +1,5 @@
 use Rattle.std.proofs.Common.{◌≡◌, [], ◌∷◌, List, map, sym, ap, subst, ◌∙◌}
-use Rattle.std.specs.Prelude.{IfOk, filter, reverse}
-use Rattle.cj_query.proofs.Common.{answer_of, asked_by, at_most, by_key, deref, follows_rows, groups_answered, reverses_rows, satisfies, Value}
-use Rattle.cj_model.proofs.RisingLaws.{rises_filter}
-use Rattle.cj_query.proofs.PathLaws.{groups_alone, groups_reversed}
-use Rattle.cj_query.proofs.ReverseLaws.{filter-reverse}
+use Rattle.cj_query.proofs.Cited.{IfOk, Value, answer_of, asked_by, at_most, by_key, deref, filter, filter-reverse, follows_rows, groups_alone, groups_answered, groups_reversed, reverse, reverses_rows, rises_filter, satisfies}
 use Rattle.cj_query.proofs.single.answer_scanned.Goals as goal
 
 pub returns-then-follows_rows : goal.returns-then-follows_rows

@@ -1,6 +1,5 @@
 use Rattle.std.proofs.Common.{◌≡◌, List, ◌++◌, map, sym, ap, subst, ◌∙◌}
-use Rattle.cj_query.proofs.Common.{append-nil, deref, IfOk, ranked_by, RankedRow, rows_kept, Value, wanted}
-use Rattle.cj_query.proofs.RankLaws.{wanted_rows}
+use Rattle.cj_query.proofs.Cited.{IfOk, RankedRow, Value, append-nil, deref, ranked_by, rows_kept, wanted, wanted_rows}
 use Rattle.cj_query.proofs.top.first_matching_ranked.Goals as goal
 
 pub returns : goal.returns

@@ -1,7 +1,5 @@
 use Rattle.std.proofs.Common.{◌≡◌, List, ◌++◌, map, sym, ap, subst, ◌∙◌}
-use Rattle.std.proofs.lemmas.List.{append-nil, drop_all}
-use Rattle.cj_query.proofs.Common.{deref, IfOk, ranked_by, RankedRow, rows_kept, Value, wanted}
-use Rattle.cj_query.proofs.RankLaws.{wanted_rows}
+use Rattle.cj_query.proofs.Cited.{IfOk, RankedRow, Value, append-nil, deref, drop_all, ranked_by, rows_kept, wanted, wanted_rows}
 use Rattle.cj_query.proofs.top.first_ranked.Goals as goal
 
 pub returns : goal.returns

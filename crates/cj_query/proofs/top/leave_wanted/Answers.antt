@@ -1,6 +1,5 @@
 use Rattle.std.proofs.Common.{map, take, sym, ap, ◌∙◌}
-use Rattle.cj_query.proofs.Common.{at_most, sorted_by, take-map}
-use Rattle.cj_query.specs.Ranked.{ranks_before, seen}
+use Rattle.cj_query.proofs.Cited.{at_most, ranks_before, seen, sorted_by, take-map}
 use Rattle.cj_query.proofs.top.leave_wanted.Goals as goal
 
 pub returns-in-Some : goal.returns-in-Some

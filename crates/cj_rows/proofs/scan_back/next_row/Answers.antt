@@ -1,6 +1,5 @@
 use Rattle.std.proofs.Common.{◌≡◌, ◌++◌, List, sym, ap, ◌∙◌}
-use Rattle.cj_rows.proofs.Common.{kept, Option, option_as_list, reverse, RowEntries, Value, values_of}
-use Rattle.cj_rows.proofs.LastLaws.{kept_back}
+use Rattle.cj_rows.proofs.Cited.{Option, RowEntries, Value, kept, kept_back, option_as_list, reverse, values_of}
 use Rattle.cj_rows.proofs.scan_back.next_row.Goals as goal
 
 pub returns-in-Some-row : goal.returns-in-Some-row

@@ -1,16 +1,8 @@
 use Rattle.std.proofs.Common.{◌≡◌, ◌<◌, ◌+◌, ◌-◌, List, length, get_or, slice_get, Option, None, Some, Result, Ok, Err, ℕ, Bor, ⊎_elim, ◌≤◌, refl, sym, ap, ◌∙◌, subst, arith}
-use Rattle.cj_state.proofs.Common.{Caught, CellError, did_of, Entry, IsPrefix, length-map, log, option_copied, position_or_zero, SeatView, slice_get_cases, states_of}
-use Rattle.cj_model.specs.declared.limits.TheConstants.{EVENT_LIMIT}
-use Rattle.cj_board.specs.Points.{fault_tokens_of, max_word}
-use Rattle.cj_board.specs.Steps.{after_fault, at_position}
+use Rattle.cj_state.proofs.Cited.{CatchesUp, Caught, CellError, CellState, EVENT_LIMIT, Entry, IsNextEntry, IsPrefix, SeatView, SeatedCell, after_fault, all_at, at_position, board_of, did_of, fault_tokens_of, length-map, log, log-prefix, max_word, one_token, option_copied, position_or_zero, prefix_get, seen_as, slice_get_cases, states_of, states_set, there_set, took, view_after_entry}
 use Rattle.cj_cluster.specs.declared.moves.Did.TheVariants as did
-use Rattle.cj_cluster.proofs.Pushed.{log-prefix, prefix_get}
 use Rattle.cj_replica.specs.declared.replica.Caught.TheVariants as caught
 use Rattle.cj_replica.specs.declared.replica.CellError.TheVariants as errors
-use Rattle.cj_replica.specs.Cells.{CatchesUp, CellState, IsNextEntry}
-use Rattle.cj_replica.specs.Seated.{SeatedCell, view_after_entry}
-use Rattle.cj_state.proofs.Catching.{took}
-use Rattle.cj_state.proofs.HeardOf.{all_at, board_of, one_token, seen_as, states_set, there_set}
 use Rattle.cj_state.proofs.cells.catch_up_at.Goals as goal
 
 -- the entry that was found is the one at the cell's position

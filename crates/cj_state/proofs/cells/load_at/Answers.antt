@@ -1,7 +1,5 @@
 use Rattle.std.proofs.Common.{◌≡◌, ◌<◌, ℕ, List, length, get_or, set, ap, sym, ◌∙◌, subst, arith}
-use Rattle.cj_state.proofs.Common.{CellState, database_after, Event, IsPrefix, length-map, log, part, SeatedCell, states_of}
-use Rattle.cj_cluster.proofs.Pushed.{at-prefix, log-prefix, prefix_length}
-use Rattle.cj_state.proofs.HeardOf.{all_at, board_of, seen_as, states_set}
+use Rattle.cj_state.proofs.Cited.{CellState, Event, IsPrefix, SeatedCell, all_at, at-prefix, board_of, database_after, length-map, log, log-prefix, part, prefix_length, seen_as, states_of, states_set}
 use Rattle.cj_state.proofs.cells.load_at.Goals as goal
 
 -- the cell as it was before it was told

@@ -1,7 +1,5 @@
 use Rattle.std.proofs.Common.{◌≤◌, ◌+◌, ◌==◌, cond, Err, inr, refl, ap, sym, subst}
-use Rattle.cj_state.proofs.Common.{BookError, CellReadError, fault_tokens_of, Notes, SeatView, SpendsAtMostOne}
-use Rattle.cj_state.specs.declared.cells.AskError.TheVariants.{Unnoted}
-use Rattle.cj_state.proofs.SeatsKept.{read_spends}
+use Rattle.cj_state.proofs.Cited.{BookError, CellReadError, Notes, SeatView, SpendsAtMostOne, Unnoted, fault_tokens_of, read_spends}
 use Rattle.cj_state.proofs.cells.noted.Goals as goal
 
 pub returns-in-Err-HistoryFull-clause-notes : goal.returns-in-Err-HistoryFull-clause-notes

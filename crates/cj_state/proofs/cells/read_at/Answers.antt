@@ -1,7 +1,5 @@
 use Rattle.std.proofs.Common.{◌≡◌, ◌+◌, ℕ, Result, ap, ◌∙◌, arith}
-use Rattle.cj_state.proofs.Common.{after_fault, Asked, CellReadError, CellState, fault_tokens_of, length-map, SeatView}
-use Rattle.cj_replica.specs.Seated.{SeatedCell, view_after_read}
-use Rattle.cj_state.proofs.HeardOf.{all_at, numbered_set, one_token, seen_as, states_set, there_set}
+use Rattle.cj_state.proofs.Cited.{Asked, CellReadError, CellState, SeatView, SeatedCell, after_fault, all_at, fault_tokens_of, length-map, numbered_set, one_token, seen_as, states_set, there_set, view_after_read}
 use Rattle.cj_state.proofs.cells.read_at.Goals as goal
 
 pub hear-requires-clause-at : goal.hear-requires-clause-at

@@ -1,6 +1,5 @@
 use Rattle.std.proofs.Common.{◌≡◌, ◌<◌, ◌≤◌, List, length, get_or, slice_get, None, Some, ⊎_elim, ap, sym, ◌∙◌, subst, arith}
-use Rattle.cj_state.proofs.Common.{BookState, CellState, IsPrefix, length-map, length-set, SeatedCell, slice_get_cases, states_of, TookEntry}
-use Rattle.cj_state.proofs.HeardOf.{heard_then}
+use Rattle.cj_state.proofs.Cited.{BookState, CellState, IsPrefix, SeatedCell, TookEntry, heard_then, length-map, length-set, slice_get_cases, states_of}
 use Rattle.cj_state.proofs.cells.take.Goals as goal
 
 pub returns-clause-heard : goal.returns-clause-heard

@@ -1,6 +1,5 @@
 use Rattle.std.proofs.Common.{◌≡◌, ◌<◌, ◌≤◌, ◌-◌, ◌*◌, ◌%◌, ◌^◌, ◌&&◌, not, ℕ, false, bit_and, ap, sym, ◌∙◌, arith, ⊎_elim, refl}
-use Rattle.cj_state.proofs.Common.{and_le_l, both_ways, cases_lt, eq-eqb, in_mask}
-use Rattle.cj_model.proofs.MaskBits.{has_cleared}
+use Rattle.cj_state.proofs.Cited.{and_le_l, both_ways, cases_lt, eq-eqb, has_cleared, in_mask}
 use Rattle.cj_state.proofs.cells.without_bit.Goals as goal
 
 pub returns-clause-less : goal.returns-clause-less

@@ -1,8 +1,5 @@
 use Rattle.std.proofs.Common.{◌≡◌, ℕ, ◌+◌, ◌<◌, ◌≤◌, List, Some, length, get_or, ap, sym, ◌∙◌, subst, arith}
-use Rattle.cj_state.proofs.Common.{CellState, Contains, Contains-append_left, fault_tokens_of, length-map, pass_view, SeatedCell, SeatView, slice_get-get_or, states_of, tokens-append}
-use Rattle.cj_board.specs.Views.{pass_of, position_note_of}
-use Rattle.cj_state.proofs.CellsKept.{position_of}
-use Rattle.cj_state.proofs.HeardOf.{all_at, board_of, learnt, learnt_note, learnt_tokens, state_of, states_stay}
+use Rattle.cj_state.proofs.Cited.{CellState, Contains, Contains-append_left, SeatView, SeatedCell, all_at, board_of, fault_tokens_of, learnt, learnt_note, learnt_tokens, length-map, pass_of, pass_view, position_note_of, position_of, slice_get-get_or, state_of, states_of, states_stay, tokens-append}
 use Rattle.cj_state.proofs.hearing.hear.Goals as goal
 
 pub report-requires : goal.report-requires

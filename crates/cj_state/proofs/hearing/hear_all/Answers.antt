@@ -1,6 +1,5 @@
 use Rattle.std.proofs.Common.{◌≡◌, ℕ, List, ap, sym, ◌∙◌, subst, arith, ⊎_elim}
-use Rattle.cj_state.proofs.Common.{cases_eq, CellState, Contains, position_in, states_of}
-use Rattle.cj_state.proofs.HeardOf.{heard_then}
+use Rattle.cj_state.proofs.Cited.{CellState, Contains, cases_eq, heard_then, position_in, states_of}
 use Rattle.cj_state.proofs.hearing.hear_all.Goals as goal
 
 pub loop-b-preserved : goal.loop-b-preserved

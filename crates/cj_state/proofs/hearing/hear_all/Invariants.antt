@@ -1,6 +1,5 @@
 use Rattle.std.proofs.Common.{◌≡◌}
-use Rattle.cj_state.proofs.Common.{board_id, pass_board, states_of}
-use Rattle.cj_state.specs.Proving.Seated.{AreAt, HasHeard, KnowsPositions}
+use Rattle.cj_state.proofs.Cited.{AreAt, HasHeard, KnowsPositions, board_id, pass_board, states_of}
 use Rattle.cj_state.proofs.hearing.hear_all.Given as goal
 
 abbrev pub invariant-loop-b : goal.invariant-loop-b

@@ -1,7 +1,5 @@
 use Rattle.std.proofs.Common.{List, ◌∙◌, subst}
-use Rattle.cj_state.proofs.Common.{Event, get_or-set_same, IsPrefix, pass_view}
-use Rattle.cj_board.specs.Views.{pass_without_notes}
-use Rattle.cj_state.proofs.HeardOf.{all_at, board_of, learnt, states_stay}
+use Rattle.cj_state.proofs.Cited.{Event, IsPrefix, all_at, board_of, get_or-set_same, learnt, pass_view, pass_without_notes, states_stay}
 use Rattle.cj_state.proofs.hearing.tell.Goals as goal
 
 pub brief-requires : goal.brief-requires

@@ -1,9 +1,5 @@
 use Rattle.std.proofs.Common.{◌≡◌, ◌∙◌, ◌++◌, ◌∷◌, List, [], map, sym, ap, subst}
-use Rattle.std.proofs.lemmas.List.{append-nil, append_assoc, map-append}
-use Rattle.cj_table.proofs.Common.{deref, Value}
-use Rattle.cj_model.specs.Database.Tables.{Rises, by_key}
-use Rattle.cj_rows.specs.RowEntries.{Settles, puts}
-use Rattle.cj_rows.proofs.ConversionLaws.{Turned, turned_all, turned_more}
+use Rattle.cj_table.proofs.Cited.{Rises, Settles, Turned, Value, append-nil, append_assoc, by_key, deref, map-append, puts, turned_all, turned_more}
 use Rattle.cj_table.proofs.conversion.changes_to.Goals as goal
 
 pub loop-row-preserved : goal.loop-row-preserved

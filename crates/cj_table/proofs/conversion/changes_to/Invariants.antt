@@ -1,6 +1,5 @@
 use Rattle.std.proofs.Common.{◌≡◌, ◌++◌, map}
-use Rattle.cj_table.proofs.Common.{deref, Turned, value_cmp}
-use Rattle.cj_rows.specs.Entries.{KeysRise}
+use Rattle.cj_table.proofs.Cited.{KeysRise, Turned, deref, value_cmp}
 use Rattle.cj_rows.specs.RowEntries as entries
 use Rattle.cj_table.proofs.conversion.changes_to.Given as goal
 

@@ -1,8 +1,5 @@
 use Rattle.std.proofs.Common.{◌≡◌, List, subst}
-use Rattle.std.specs.Prelude.{OnOk}
-use Rattle.cj_table.proofs.Common.{change_into, Schema, seen, Slot, Value}
-use Rattle.cj_rows.specs.RowEntries.{Turns}
-use Rattle.cj_rows.proofs.ConversionLaws.{draft_put}
+use Rattle.cj_table.proofs.Cited.{OnOk, Schema, Slot, Turns, Value, change_into, draft_put, seen}
 use Rattle.cj_table.proofs.conversion.put_draft.Goals as goal
 
 pub change-requires-clause-change : goal.change-requires-clause-change

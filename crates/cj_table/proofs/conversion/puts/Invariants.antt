@@ -1,7 +1,5 @@
 use Rattle.std.proofs.Common.{◌≡◌}
-use Rattle.std.specs.BTreeMap.{insert_entry}
-use Rattle.cj_table.proofs.Common.{fold, Some, value_cmp}
-use Rattle.cj_model.specs.Database.Tables.{cell}
+use Rattle.cj_table.proofs.Cited.{Some, cell, fold, insert_entry, value_cmp}
 use Rattle.cj_rows.specs.RowEntries as entries
 use Rattle.cj_table.proofs.conversion.puts.Given as goal
 

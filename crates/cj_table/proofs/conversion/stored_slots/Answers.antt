@@ -1,6 +1,5 @@
 use Rattle.std.proofs.Common.{◌∙◌, ◌++◌, ◌∷◌, List, [], sym, ap, subst}
-use Rattle.std.proofs.lemmas.List.Elements.{All-tail}
-use Rattle.cj_table.proofs.Common.{All, append_assoc, IsSlot, Slot}
+use Rattle.cj_table.proofs.Cited.{All, All-tail, IsSlot, Slot, append_assoc}
 use Rattle.cj_table.proofs.conversion.stored_slots.Goals as goal
 
 pub loop-slot-preserved : goal.loop-slot-preserved

@@ -1,8 +1,5 @@
 use Rattle.std.proofs.Common.{◌∙◌, [], sym, ap, subst}
-use Rattle.cj_table.proofs.Common.{change_into, None}
-use Rattle.cj_rows.specs.RowEntries.{RowEntries, puts}
-use Rattle.cj_rows.specs.Stored.{IsChangeOf, rows_after}
-use Rattle.cj_rows.proofs.ConversionLaws.{filled, puts_rise, table_filled}
+use Rattle.cj_table.proofs.Cited.{IsChangeOf, None, RowEntries, change_into, filled, puts, puts_rise, rows_after, table_filled}
 use Rattle.cj_table.proofs.conversion.stored_table.Goals as goal
 
 pub of-requires : goal.of-requires

@@ -1,6 +1,5 @@
 use Rattle.std.proofs.Common.{rules, not}
-use Rattle.std.proofs.lemmas.Fn.{filter_same}
-use Rattle.cj_table.proofs.Common.{bytes_eq, table_of}
+use Rattle.cj_table.proofs.Cited.{bytes_eq, filter_same, table_of}
 use Rattle.cj_table.proofs.ends.remove_slot.Goals as goal
 
 pub returns : goal.returns

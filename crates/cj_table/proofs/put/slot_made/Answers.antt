@@ -1,7 +1,5 @@
 use Rattle.std.proofs.Common.{sym, ap, ◌∙◌}
-use Rattle.cj_table.proofs.Common.{Some}
-use Rattle.cj_plan.proofs.PlanLaws.{from_some}
-use Rattle.cj_table.proofs.PutLaws.{putting, slot_put}
+use Rattle.cj_table.proofs.Cited.{Some, from_some, putting, slot_put}
 use Rattle.cj_table.proofs.put.slot_made.Goals as goal
 
 pub of-requires : goal.of-requires

@@ -1,6 +1,5 @@
 use Rattle.std.proofs.Common.{◌≡◌, get_or, Equal, sym, ap, ◌∙◌}
-use Rattle.cj_table.proofs.Common.{by_table, name_cmp, Schema, table_of}
-use Rattle.cj_model.proofs.RisingLaws.{put_over}
+use Rattle.cj_table.proofs.Cited.{Schema, by_table, name_cmp, put_over, table_of}
 use Rattle.cj_table.proofs.slots.place_of.Goals as goal
 
 pub returns-in-Equal : goal.returns-in-Equal

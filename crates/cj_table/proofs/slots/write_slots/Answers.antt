@@ -1,7 +1,5 @@
 use Rattle.std.proofs.Common.{◌≡◌, sym, ap, ◌∙◌}
-use Rattle.cj_table.proofs.Common.{bytes_eq, None, position, Some, table_of, table_written}
-use Rattle.cj_model.specs.declared.answer.Outcome.TheVariants.{Refused}
-use Rattle.cj_table.proofs.WrittenLaws.{written_missing, write_carries}
+use Rattle.cj_table.proofs.Cited.{None, Refused, Some, bytes_eq, position, table_of, table_written, write_carries, written_missing}
 use Rattle.cj_table.proofs.slots.write_slots.Goals as goal
 
 pub returns-in-None : goal.returns-in-None

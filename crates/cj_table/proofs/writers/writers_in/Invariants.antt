@@ -1,8 +1,5 @@
 use Rattle.std.proofs.Common.{◌≡◌, drop}
-use Rattle.std.specs.Prelude.{fold, flat_map, option_map, option_to_list}
-use Rattle.cj_table.proofs.Common.{nat_cmp, put_by, Slot}
-use Rattle.cj_model.specs.declared.database.Draft.{Draft}
-use Rattle.cj_model.specs.Database.Storable.{writers}
+use Rattle.cj_table.proofs.Cited.{Draft, Slot, flat_map, fold, nat_cmp, option_map, option_to_list, put_by, writers}
 use Rattle.cj_table.proofs.writers.writers_in.Given as goal
 
 abbrev pub invariant-loop-slot : goal.invariant-loop-slot

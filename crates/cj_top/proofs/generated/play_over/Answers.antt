@@ -1,6 +1,5 @@
 use Rattle.std.proofs.Common.{◌≡◌, true, [], List, ℕ, ap, subst, ◌∙◌}
-use Rattle.cj_top.proofs.Common.{BeginsAsConfigured, Found}
-use Rattle.cj_outside.specs.Memory.{State}
+use Rattle.cj_top.proofs.Cited.{BeginsAsConfigured, Found, State}
 use Rattle.cj_top.proofs.generated.play_over.Goals as goal
 
 pub returns-in-Ok-play : goal.returns-in-Ok-play

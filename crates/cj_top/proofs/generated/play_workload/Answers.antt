@@ -1,6 +1,5 @@
 use Rattle.std.proofs.Common.{length, ap, ◌∙◌, map}
-use Rattle.cj_top.specs.Configured.{new_of}
-use Rattle.cj_top.proofs.NewBackends.{any_are_new, memory_are_new}
+use Rattle.cj_top.proofs.Cited.{any_are_new, memory_are_new, new_of}
 use Rattle.cj_top.proofs.generated.play_workload.Goals as goal
 
 pub play_over-requires-clause-new : goal.play_over-requires-clause-new

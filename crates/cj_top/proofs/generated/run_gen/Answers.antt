@@ -1,6 +1,5 @@
 use Rattle.std.proofs.Common.{◌≡◌, ◌⊎◌, Result, Ok, Err, inl, inr, ℕ}
-use Rattle.cj_top.proofs.Common.{OutError, status_of_listing}
-use Rattle.cj_outside.specs.declared.sink.OutError.TheVariants.{Failed, NoMemory}
+use Rattle.cj_top.proofs.Cited.{Failed, NoMemory, OutError, status_of_listing}
 use Rattle.cj_top.proofs.generated.run_gen.Goals as goal
 
 listing_status : (answer : Result (Unit {0}) OutError) (n : ℕ) → n ≡ status_of_listing answer → (n ≡ 0) ⊎ (n ≡ 1) ⊎ (n ≡ 6)

@@ -1,8 +1,5 @@
 use Rattle.std.proofs.Common.{◌≡◌, Result, Ok, Err, map, refl, sym, ◌∙◌, subst}
-use Rattle.std.specs.Result.{IsOkAnd}
-use Rattle.cj_top.proofs.Common.{Found, IfErr, IfOk, Layout, PipeError, placement_of, RefusesPipe, Register, SessionEnd, StartsFrom, state_by, WorldState}
-use Rattle.cj_top.proofs.Completed.{not_failed, pipe_answers}
-use Rattle.cj_top.proofs.Unopened.{refuses_log}
+use Rattle.cj_top.proofs.Cited.{Found, IfErr, IfOk, IsOkAnd, Layout, PipeError, RefusesPipe, Register, SessionEnd, StartsFrom, WorldState, not_failed, pipe_answers, placement_of, refuses_log, state_by}
 use Rattle.cj_top.proofs.piped.pipe.Goals as goal
 
 -- what is promised of a session that was served

@@ -1,12 +1,6 @@
-use Rattle.std.specs.Result.{IsErrAnd}
+use Rattle.cj_top.proofs.Cited.{BackendKind, BackendState, Found, IfErr, IsErrAnd, MemoryState, PipeError, RefusesPipe, RunsPipe, Slot, StartsFrom, all_alike, any_are_new, both_ways, cause_as_ok, faults_of, fresh_state, in_memory, is_memory, list_all, never_armed, new_backend, new_can_count, new_of, none_at, placement_of, same_cause, same_counts, seen_alike, sum_of_none}
 use Rattle.std.proofs.Common.{Ok, Err, Result, ◌≡◌, Bool, true, false, [], List, ℕ, Option, Some, get_or, length, map, replicate, sum, refl, sym, ap, ◌∙◌, subst, arith}
-use Rattle.std.proofs.lemmas.Bool.{both_ways}
 use Rattle.cj_cluster.specs.declared.session.SessionEnd.TheVariants as ends
-use Rattle.std.specs.List.{list_all}
-use Rattle.cj_top.proofs.Common.{BackendKind, BackendState, faults_of, Found, fresh_state, IfErr, MemoryState, never_armed, PipeError, placement_of, RefusesPipe, RunsPipe, Slot, StartsFrom}
-use Rattle.cj_top.specs.Configured.{in_memory, is_memory, new_backend, new_of}
-use Rattle.cj_top.proofs.Completed.{cause_as_ok, same_cause, same_counts}
-use Rattle.cj_top.proofs.NewBackends.{all_alike, any_are_new, seen_alike, new_can_count, none_at, sum_of_none}
 use Rattle.cj_top.proofs.piped.run_pipe.Goals as goal
 
 pub pipe-requires-clause-empty : goal.pipe-requires-clause-empty

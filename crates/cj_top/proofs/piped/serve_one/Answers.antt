@@ -1,13 +1,5 @@
 use Rattle.std.proofs.Common.{◌≡◌, ◌+◌, ◌%◌, ◌^◌, ◌≤◌, ℕ, None, get_or, sum, ap, sym, ◌∙◌, subst, arith}
-use Rattle.cj_top.proofs.Common.{client_state, faults_of, generator_of, opened_at, ServesSession, solo_setting, WorldState}
-use Rattle.rand_pcg.specs.Lcg.{Lcg}
-use Rattle.cj_outside.specs.Draws.{seeded, of_generator, generator_after}
-use Rattle.cj_cluster.specs.History.Histories.{log}
-use Rattle.cj_cluster.proofs.OwnTransactions.{tx_of_unknown}
-use Rattle.cj_core.specs.Solos.{SoloState, desk_of}
-use Rattle.cj_desk.specs.DeskStates.{desk_tx}
-use Rattle.cj_core.proofs.QuietSessions.{quiet_session, session_grows}
-use Rattle.cj_desk.proofs.DeskChainLaws.{transcript_chained}
+use Rattle.cj_top.proofs.Cited.{Lcg, ServesSession, SoloState, WorldState, client_state, desk_of, desk_tx, faults_of, generator_after, generator_of, log, of_generator, opened_at, quiet_session, seeded, session_grows, solo_setting, transcript_chained, tx_of_unknown}
 use Rattle.cj_top.proofs.piped.serve_one.Goals as goal
 
 pub serve_session-end-requires-clause-closed : goal.serve_session-end-requires-clause-closed

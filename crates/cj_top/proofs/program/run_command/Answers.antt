@@ -1,6 +1,5 @@
 use Rattle.std.proofs.Common.{◌≡◌, refl, ap, Err, inr}
-use Rattle.cj_top.specs.Logs.{Found, RefusesLog, TellsRefusal}
-use Rattle.cj_top.proofs.Completed.{command_completes, not_failed, refusal_completes}
+use Rattle.cj_top.proofs.Cited.{Found, RefusesLog, TellsRefusal, command_completes, not_failed, refusal_completes}
 use Rattle.cj_top.proofs.program.run_command.Goals as goal
 
 pub returns-in-Err-Failed-clause-complete : goal.returns-in-Err-Failed-clause-complete

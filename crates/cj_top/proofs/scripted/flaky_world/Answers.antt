@@ -1,7 +1,5 @@
 use Rattle.std.proofs.Common.{◌≡◌, List, length, map, replicate, sym, ap, ◌∙◌, subst}
-use Rattle.cj_top.proofs.Common.{AreEmpty, BackendState, FlakyState, Found, HaveBegunNone, Layout, new_backend, placement_of, Register, StartsFrom, told_by, WorldState}
-use Rattle.cj_top.proofs.NewBackends.{flaky_count, flaky_empty, flaky_none, flaky_seen}
-use Rattle.cj_top.proofs.Unopened.{refuses_log}
+use Rattle.cj_top.proofs.Cited.{AreEmpty, BackendState, FlakyState, Found, HaveBegunNone, Layout, Register, StartsFrom, WorldState, flaky_count, flaky_empty, flaky_none, flaky_seen, new_backend, placement_of, refuses_log, told_by}
 use Rattle.cj_top.proofs.scripted.flaky_world.Goals as goal
 
 pub start-requires-clause-as_many : goal.start-requires-clause-as_many

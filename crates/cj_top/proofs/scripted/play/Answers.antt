@@ -1,7 +1,5 @@
 use Rattle.std.proofs.Common.{length, true, false, ap, ◌∙◌, map}
-use Rattle.cj_top.proofs.Common.{Found, new_of}
-use Rattle.cj_top.proofs.Completed.{plays_of}
-use Rattle.cj_top.proofs.NewBackends.{any_are_new, memory_are_new}
+use Rattle.cj_top.proofs.Cited.{Found, any_are_new, memory_are_new, new_of, plays_of}
 use Rattle.cj_top.proofs.scripted.play.Goals as goal
 
 pub play_over-requires-clause-new : goal.play_over-requires-clause-new

@@ -1,7 +1,5 @@
 use Rattle.cj_script.specs.declared.play.ScriptEnd.TheVariants as ends
-use Rattle.cj_top.proofs.Completed.{cause_as_ok}
-use Rattle.cj_top.specs.Logs.{Found}
-use Rattle.cj_top.proofs.PlayedOver.{played_as_configured}
+use Rattle.cj_top.proofs.Cited.{Found, cause_as_ok, played_as_configured}
 use Rattle.cj_top.proofs.scripted.play_over.Goals as goal
 
 pub returns-clause-played : goal.returns-clause-played

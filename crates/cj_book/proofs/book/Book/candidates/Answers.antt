@@ -1,6 +1,5 @@
 use Rattle.std.proofs.Common.{◌≡◌, ◌<◌, true, length, sym, subst, ◌∙◌, arith, rules}
-use Rattle.cj_book.proofs.Common.{and_parts, hosts, in_mask, is_enabled, placement_at, SeatedBook}
-use Rattle.cj_book.proofs.Serving.{candidates_more, mask_below}
+use Rattle.cj_book.proofs.Cited.{SeatedBook, and_parts, candidates_more, hosts, in_mask, is_enabled, mask_below, placement_at}
 use Rattle.cj_book.proofs.book.Book.candidates.Goals as goal
 
 pub loop-table-preserved : goal.loop-table-preserved

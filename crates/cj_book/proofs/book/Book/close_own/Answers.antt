@@ -1,6 +1,5 @@
 use Rattle.std.proofs.Common.{ℕ, List, Contains, ap, sym, subst}
-use Rattle.cj_book.proofs.Common.{book_view, pass_view, SeatView}
-use Rattle.cj_book.proofs.Owned.{closed_out}
+use Rattle.cj_book.proofs.Cited.{SeatView, book_view, closed_out, pass_view}
 use Rattle.cj_book.proofs.book.Book.close_own.Goals as goal
 
 pub returns-clause-closed : goal.returns-clause-closed

@@ -1,6 +1,4 @@
-use Rattle.cj_book.specs.Lists.{session_number}
-use Rattle.cj_book.proofs.Numbered.{numbers_without}
-use Rattle.cj_book.proofs.Following.{follows_closed}
+use Rattle.cj_book.proofs.Cited.{follows_closed, numbers_without, session_number}
 use Rattle.cj_book.proofs.book.Book.close_session.Goals as goal
 
 pub invariant_of-self : goal.invariant_of-self

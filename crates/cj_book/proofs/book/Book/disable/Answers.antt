@@ -1,7 +1,5 @@
 use Rattle.std.proofs.Common.{refl, rules}
-use Rattle.cj_book.proofs.Common.{book_view, Disabled}
-use Rattle.cj_book.proofs.Announcing.{no_counts}
-use Rattle.cj_book.proofs.Keeping.{kept_disabled}
+use Rattle.cj_book.proofs.Cited.{Disabled, book_view, kept_disabled, no_counts}
 use Rattle.cj_book.proofs.book.Book.disable.Goals as goal
 
 pub append-requires-clause-legal : goal.append-requires-clause-legal

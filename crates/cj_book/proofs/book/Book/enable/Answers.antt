@@ -1,7 +1,5 @@
 use Rattle.std.proofs.Common.{refl}
-use Rattle.cj_book.proofs.Common.{book_view, Enabled}
-use Rattle.cj_book.proofs.Announcing.{no_counts}
-use Rattle.cj_book.proofs.Keeping.{kept_enabled}
+use Rattle.cj_book.proofs.Cited.{Enabled, book_view, kept_enabled, no_counts}
 use Rattle.cj_book.proofs.book.Book.enable.Goals as goal
 
 pub append-requires-clause-legal : goal.append-requires-clause-legal

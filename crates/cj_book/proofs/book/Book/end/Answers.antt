@@ -1,7 +1,5 @@
 use Rattle.std.proofs.Common.{refl, rules}
-use Rattle.cj_book.proofs.Common.{book_view, Ended}
-use Rattle.cj_book.proofs.Announcing.{no_counts}
-use Rattle.cj_book.proofs.Keeping.{kept_ended}
+use Rattle.cj_book.proofs.Cited.{Ended, book_view, kept_ended, no_counts}
 use Rattle.cj_book.proofs.book.Book.end.Goals as goal
 
 pub append-requires-clause-legal : goal.append-requires-clause-legal

@@ -1,14 +1,5 @@
 use Rattle.std.proofs.Common.{◌≡◌, ◌+◌, [], ◌∷◌, ◌++◌, List, length, map, Some, Err, ap, sym, subst, refl, ◌∙◌, arith, length-append}
-use Rattle.cj_book.proofs.Common.{book_after, book_view, Entry, entry_item, Event, HasCountNotes, hearing, history, IsLegal, items_of, LeavesItems, legal_push, log, log-sched, LogError, LogFailed, LogItem, own_view, pass_after, placement_of, Sched, session_number, sessions_after, transactions_after}
-use Rattle.cj_freshness.proofs.Fresh.{by_tables}
-use Rattle.cj_freshness.specs.Freshness.{without_touched}
-use Rattle.cj_book.proofs.Announcing.{seen_after}
-use Rattle.cj_book.proofs.Begun.{followed, numbers_before, taken_off}
-use Rattle.cj_book.proofs.Following.{follows_log_failed, follows_sched}
-use Rattle.cj_book.proofs.Keeping.{kept_log_failed, kept_sched, kept_wanting}
-use Rattle.cj_book.proofs.Logged.{items_sched}
-use Rattle.cj_book.proofs.TransactionSteps.{numbers_after}
-use Rattle.cj_book.proofs.Unasked.{gate_refuses, not_ok, wanting}
+use Rattle.cj_book.proofs.Cited.{Entry, Event, HasCountNotes, IsLegal, LeavesItems, LogError, LogFailed, LogItem, Sched, book_after, book_view, by_tables, entry_item, followed, follows_log_failed, follows_sched, gate_refuses, hearing, history, items_of, items_sched, kept_log_failed, kept_sched, kept_wanting, legal_push, log, log-sched, not_ok, numbers_after, numbers_before, own_view, pass_after, placement_of, seen_after, session_number, sessions_after, taken_off, transactions_after, wanting, without_touched}
 use Rattle.cj_book.proofs.book.Book.enter.Goals as goal
 
 -- ---- memory is wanting

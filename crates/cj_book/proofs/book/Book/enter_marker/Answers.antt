@@ -1,10 +1,5 @@
 use Rattle.std.proofs.Common.{◌≡◌, ℕ, ◌++◌, ◌∷◌, ◌||◌, [], List, length, Err, refl, ap, sym, subst, ◌∙◌}
-use Rattle.cj_book.proofs.Common.{added_name, after_append, book_view, bytes_eq, contains, Event, history, IsLegal, items_of, KeepsMarkers, LeavesItems, log, log-same, LogError, LogItem, marked_more, Marker, marker_cmp, marker_item, named, SeatView}
-use Rattle.cj_book.proofs.Announcing.{no_counts}
-use Rattle.cj_book.proofs.Following.{follows_log_failed, follows_marker}
-use Rattle.cj_book.proofs.Keeping.{kept_log_failed, kept_marker, kept_wanting}
-use Rattle.cj_book.proofs.Logged.{items_marker}
-use Rattle.cj_book.proofs.Named.{taken_back}
+use Rattle.cj_book.proofs.Cited.{Event, IsLegal, KeepsMarkers, LeavesItems, LogError, LogItem, Marker, SeatView, added_name, after_append, book_view, bytes_eq, contains, follows_log_failed, follows_marker, history, items_marker, items_of, kept_log_failed, kept_marker, kept_wanting, log, log-same, marked_more, marker_cmp, marker_item, named, no_counts, taken_back}
 use Rattle.cj_book.proofs.book.Book.enter_marker.Goals as goal
 
 -- ---- memory is wanting

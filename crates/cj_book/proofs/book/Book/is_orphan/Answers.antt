@@ -1,7 +1,5 @@
 use Rattle.std.proofs.Common.{◌≡◌, Bool, true, false, not, is_some, ap, sym, subst, ◌∙◌}
-use Rattle.cj_book.proofs.Common.{has_session, KeepsTransactions, log, numbered, placement_of, SeatedBook, session_number}
-use Rattle.cj_book.proofs.Numbered.{found_among}
-use Rattle.cj_book.proofs.TransactionSteps.{orphan_found, orphan_none}
+use Rattle.cj_book.proofs.Cited.{KeepsTransactions, SeatedBook, found_among, has_session, log, numbered, orphan_found, orphan_none, placement_of, session_number}
 use Rattle.cj_book.proofs.book.Book.is_orphan.Goals as goal
 
 flipped : (a b : Bool) → a ≡ not b → b ≡ not a

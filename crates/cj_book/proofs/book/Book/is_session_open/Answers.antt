@@ -1,6 +1,5 @@
 use Rattle.std.proofs.Common.{◌≡◌, is_some, ap, sym, subst, ◌∙◌}
-use Rattle.cj_book.proofs.Common.{has_session, SeatedBook, session_number}
-use Rattle.cj_book.proofs.Numbered.{found_among}
+use Rattle.cj_book.proofs.Cited.{SeatedBook, found_among, has_session, session_number}
 use Rattle.cj_book.proofs.book.Book.is_session_open.Goals as goal
 
 pub returns : goal.returns

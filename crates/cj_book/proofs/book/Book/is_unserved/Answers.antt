@@ -1,6 +1,5 @@
 use Rattle.std.proofs.Common.{rules}
-use Rattle.cj_book.proofs.Common.{placement_at, request_of}
-use Rattle.cj_book.proofs.Serving.{served_by_some}
+use Rattle.cj_book.proofs.Cited.{placement_at, request_of, served_by_some}
 use Rattle.cj_book.proofs.book.Book.is_unserved.Goals as goal
 
 pub returns-else-servers-eq0-clause-served : goal.returns-else-servers-eq0-clause-served

@@ -1,7 +1,5 @@
 use Rattle.std.proofs.Common.{◌≡◌, ◌≤◌, false, subst}
-use Rattle.cj_book.proofs.Common.{Entry, HasCountedLogFaults, history, IsKeptIn, IsOfKnown, items_of, last_write_failed, LeavesItems, SeatedBook}
-use Rattle.cj_book.proofs.Following.{given_session}
-use Rattle.cj_book.proofs.Logged.{kept_in, shut_where}
+use Rattle.cj_book.proofs.Cited.{Entry, HasCountedLogFaults, IsKeptIn, IsOfKnown, LeavesItems, SeatedBook, given_session, history, items_of, kept_in, last_write_failed, shut_where}
 use Rattle.cj_book.proofs.book.Book.legal.Goals as goal
 
 pub returns-clause-kept : goal.returns-clause-kept

@@ -1,12 +1,5 @@
 use Rattle.std.proofs.Common.{◌≡◌, ℕ, ◌<◌, ◌≤◌, List, length, Err, ap, sym, ◌∙◌, subst, arith, refl}
-use Rattle.cj_book.proofs.Common.{book_view, HasBadEntry, history, LogItem, OpensTo, SeatView, Starts}
-use Rattle.cj_opening.specs.declared.error.OpeningError.TheVariants.{BadEntry}
-use Rattle.cj_book.specs.declared.error.StartError.{StartError}
-use Rattle.cj_book.proofs.Counted.{opening_counted}
-use Rattle.cj_book.proofs.Logged.{gate_shut}
-use Rattle.cj_book.proofs.Owned.{opening_gives}
-use Rattle.cj_book.proofs.Recovering.{follows_opening, keeps_opened}
-use Rattle.cj_book.proofs.Starting.{Begins, items_refused}
+use Rattle.cj_book.proofs.Cited.{BadEntry, Begins, HasBadEntry, LogItem, OpensTo, SeatView, StartError, Starts, book_view, follows_opening, gate_shut, history, items_refused, keeps_opened, opening_counted, opening_gives}
 use Rattle.cj_book.proofs.book.Book.open.Goals as goal
 
 pub invariant_of-result : goal.invariant_of-result

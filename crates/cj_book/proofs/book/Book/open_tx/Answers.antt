@@ -1,7 +1,5 @@
 use Rattle.std.proofs.Common.{◌≡◌, true, is_some, ap, sym, subst, ◌∙◌}
-use Rattle.cj_book.proofs.Common.{both_ways, has_session, log, numbered, SeatedBook, session_number, tx_of}
-use Rattle.cj_book.proofs.Numbered.{found_among}
-use Rattle.cj_book.proofs.Following.{tx_open}
+use Rattle.cj_book.proofs.Cited.{SeatedBook, both_ways, found_among, has_session, log, numbered, session_number, tx_of, tx_open}
 use Rattle.cj_book.proofs.book.Book.open_tx.Goals as goal
 
 pub returns-in-Some : goal.returns-in-Some

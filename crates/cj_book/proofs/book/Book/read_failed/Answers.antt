@@ -1,7 +1,5 @@
 use Rattle.std.proofs.Common.{refl}
-use Rattle.cj_book.proofs.Common.{book_view, ReadFailed}
-use Rattle.cj_book.proofs.Announcing.{no_counts, one_token}
-use Rattle.cj_book.proofs.Keeping.{kept_read_failed}
+use Rattle.cj_book.proofs.Cited.{ReadFailed, book_view, kept_read_failed, no_counts, one_token}
 use Rattle.cj_book.proofs.book.Book.read_failed.Goals as goal
 
 pub append-requires-clause-legal : goal.append-requires-clause-legal

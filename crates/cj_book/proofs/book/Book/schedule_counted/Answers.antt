@@ -1,6 +1,5 @@
 use Rattle.std.proofs.Common.{◌≡◌, subst}
-use Rattle.cj_book.proofs.Common.{IsBeforeOrAfter, LeavesOnly, LogItem, Refuses}
-use Rattle.cj_book.proofs.Scheduling.{always, no_other, not_full, not_open, not_unserved, unchecked, unprepared}
+use Rattle.cj_book.proofs.Cited.{IsBeforeOrAfter, LeavesOnly, LogItem, Refuses, always, no_other, not_full, not_open, not_unserved, unchecked, unprepared}
 use Rattle.cj_book.proofs.book.Book.schedule_counted.Goals as goal
 
 pub returns-in_err-check_schedule-clause-state : goal.returns-in_err-check_schedule-clause-state

@@ -1,6 +1,5 @@
 use Rattle.std.proofs.Common.{◌≡◌, ◌<◌, ◌≤◌, ◌+◌, ℕ, List, ap, sym, ◌∙◌, subst}
-use Rattle.cj_book.proofs.Common.{after_join, BookState, CanCount, Event, event_count_of, event_or_fault, IsLegal, LogFailed, next_session, pass_view, pass_without_tokens, Sched, SeatView, told_book, told_pass}
-use Rattle.cj_book.proofs.Owned.{entry_counts, failure_counts, low_sessions, own_can_count, own_front, own_gives, own_same, schedules_greatest, scheduled_own, still_own}
+use Rattle.cj_book.proofs.Cited.{BookState, CanCount, Event, IsLegal, LogFailed, Sched, SeatView, after_join, entry_counts, event_count_of, event_or_fault, failure_counts, low_sessions, next_session, own_can_count, own_front, own_gives, own_same, pass_view, pass_without_tokens, scheduled_own, schedules_greatest, still_own, told_book, told_pass}
 use Rattle.cj_book.proofs.book.Book.schedule_own.Goals as goal
 
 pub schedule_counted-result-requires-clause-counted : goal.schedule_counted-result-requires-clause-counted

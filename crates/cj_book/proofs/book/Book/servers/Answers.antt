@@ -1,6 +1,5 @@
 use Rattle.std.proofs.Common.{◌≡◌, ◌&&◌, bit_and, sym, subst}
-use Rattle.cj_book.proofs.Common.{history, hosts_all, in_mask, is_enabled, needs, placement_at, placement_of, request_of, SeatedBook}
-use Rattle.cj_book.proofs.Serving.{servers_of}
+use Rattle.cj_book.proofs.Cited.{SeatedBook, history, hosts_all, in_mask, is_enabled, needs, placement_at, placement_of, request_of, servers_of}
 use Rattle.cj_book.proofs.book.Book.servers.Goals as goal
 
 pub returns-in-Some : goal.returns-in-Some

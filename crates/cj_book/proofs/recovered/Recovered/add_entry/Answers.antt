@@ -1,7 +1,5 @@
 use Rattle.std.proofs.Common.{◌≡◌, ◌+◌, [], ◌∷◌, ◌++◌, length, refl, ap, sym, subst, ◌∙◌, arith}
-use Rattle.cj_book.proofs.Common.{Entry, IsLegal, IsRecovered, log, placement_of, Recovered, Sched, transactions_after}
-use Rattle.cj_book.proofs.Begun.{followed}
-use Rattle.cj_book.proofs.Recovering.{recovers_sched}
+use Rattle.cj_book.proofs.Cited.{Entry, IsLegal, IsRecovered, Recovered, Sched, followed, log, placement_of, recovers_sched, transactions_after}
 use Rattle.cj_book.proofs.recovered.Recovered.add_entry.Goals as goal
 
 pub returns : goal.returns

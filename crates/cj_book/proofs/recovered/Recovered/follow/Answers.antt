@@ -1,7 +1,5 @@
 use Rattle.std.proofs.Common.{◌≡◌, [], ◌∷◌, ◌++◌, List, OnOk, length, refl, ap, sym, subst, ◌∙◌}
-use Rattle.cj_book.proofs.Common.{added_name, Event, history, IsLegal, IsRecovered, log, marked_more, marked_same, Marker, placement_of, Recovered, Sched, SeatView}
-use Rattle.cj_book.proofs.Begun.{numbers_before}
-use Rattle.cj_book.proofs.Recovering.{none_marked, none_scheduled, recovers_same}
+use Rattle.cj_book.proofs.Cited.{Event, IsLegal, IsRecovered, Marker, Recovered, Sched, SeatView, added_name, history, log, marked_more, marked_same, none_marked, none_scheduled, numbers_before, placement_of, recovers_same}
 use Rattle.cj_book.proofs.recovered.Recovered.follow.Goals as goal
 
 pub add_entry-requires : goal.add_entry-requires

@@ -1,6 +1,5 @@
 use Rattle.std.proofs.Common.{List, refl, sym, subst, arith}
-use Rattle.cj_book.proofs.Common.{BookSession, IsPlaceOf, session_number}
-use Rattle.cj_book.proofs.Numbered.{changed, changed_rises, unchanged}
+use Rattle.cj_book.proofs.Cited.{BookSession, IsPlaceOf, changed, changed_rises, session_number, unchanged}
 use Rattle.cj_book.proofs.sessions.BookSessions.put_tx.Goals as goal
 
 pub invariant_of-self : goal.invariant_of-self

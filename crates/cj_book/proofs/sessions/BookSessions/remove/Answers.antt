@@ -1,6 +1,5 @@
 use Rattle.std.proofs.Common.{List, sym, subst, arith}
-use Rattle.cj_book.proofs.Common.{BookSession, IsPlaceOf, session_number}
-use Rattle.cj_book.proofs.Numbered.{removed, removed_rises, unremoved}
+use Rattle.cj_book.proofs.Cited.{BookSession, IsPlaceOf, removed, removed_rises, session_number, unremoved}
 use Rattle.cj_book.proofs.sessions.BookSessions.remove.Goals as goal
 
 pub invariant_of-self : goal.invariant_of-self

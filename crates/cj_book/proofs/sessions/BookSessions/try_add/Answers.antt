@@ -1,6 +1,5 @@
 use Rattle.std.proofs.Common.{arith}
-use Rattle.cj_book.specs.Lists.{new_session, session_number}
-use Rattle.cj_book.proofs.Numbered.{rises_push}
+use Rattle.cj_book.proofs.Cited.{new_session, rises_push, session_number}
 use Rattle.cj_book.proofs.sessions.BookSessions.try_add.Goals as goal
 
 pub invariant_of-self-2 : goal.invariant_of-self-2

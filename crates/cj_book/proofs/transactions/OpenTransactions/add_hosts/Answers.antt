@@ -1,6 +1,5 @@
 use Rattle.std.proofs.Common.{List, bit_or, refl, sym, subst}
-use Rattle.cj_book.proofs.Common.{IsPlaceOf, OpenTransaction, tx_number}
-use Rattle.cj_book.proofs.Numbered.{changed, changed_rises, unchanged}
+use Rattle.cj_book.proofs.Cited.{IsPlaceOf, OpenTransaction, changed, changed_rises, tx_number, unchanged}
 use Rattle.cj_book.proofs.transactions.OpenTransactions.add_hosts.Goals as goal
 
 pub invariant_of-self : goal.invariant_of-self

@@ -1,5 +1,4 @@
-use Rattle.cj_book.specs.Lists.{new_tx, tx_number}
-use Rattle.cj_book.proofs.Numbered.{rises_push}
+use Rattle.cj_book.proofs.Cited.{new_tx, rises_push, tx_number}
 use Rattle.cj_book.proofs.transactions.OpenTransactions.begin.Goals as goal
 
 pub invariant_of-self-2 : goal.invariant_of-self-2

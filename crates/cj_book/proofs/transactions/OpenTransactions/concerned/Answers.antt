@@ -1,6 +1,5 @@
 use Rattle.std.proofs.Common.{sym, ap, ◌∙◌}
-use Rattle.cj_book.proofs.Common.{in_mask, placement_of}
-use Rattle.cj_book.proofs.TransactionSteps.{concerns_tx}
+use Rattle.cj_book.proofs.Cited.{concerns_tx, in_mask, placement_of}
 use Rattle.cj_book.proofs.transactions.OpenTransactions.concerned.Goals as goal
 
 pub returns-in-None : goal.returns-in-None

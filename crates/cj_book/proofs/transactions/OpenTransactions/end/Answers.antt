@@ -1,6 +1,5 @@
 use Rattle.std.proofs.Common.{List, sym, subst}
-use Rattle.cj_book.proofs.Common.{IsPlaceOf, OpenTransaction, tx_number}
-use Rattle.cj_book.proofs.Numbered.{removed, removed_rises, unremoved}
+use Rattle.cj_book.proofs.Cited.{IsPlaceOf, OpenTransaction, removed, removed_rises, tx_number, unremoved}
 use Rattle.cj_book.proofs.transactions.OpenTransactions.end.Goals as goal
 
 pub invariant_of-self : goal.invariant_of-self

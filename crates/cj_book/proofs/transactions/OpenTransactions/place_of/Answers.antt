@@ -1,6 +1,5 @@
 use Rattle.std.proofs.Common.{Ok, Err, rules}
-use Rattle.cj_book.proofs.Common.{answers_always, tx_number}
-use Rattle.cj_book.proofs.Numbered.{searched}
+use Rattle.cj_book.proofs.Cited.{answers_always, searched, tx_number}
 use Rattle.cj_book.proofs.transactions.OpenTransactions.place_of.Goals as goal
 
 pub returns-in-Ok : goal.returns-in-Ok

@@ -1,7 +1,5 @@
 use Rattle.std.proofs.Common.{List, IfOk, sym, subst}
-use Rattle.cj_cache.proofs.Common.{Cached, entries_held}
-use Rattle.cj_model.specs.Cluster.Caching.{CacheState}
-use Rattle.cj_cache.specs.Doomed.{ListsDoomed}
+use Rattle.cj_cache.proofs.Cited.{CacheState, Cached, ListsDoomed, entries_held}
 use Rattle.cj_cache.proofs.cache.Cache.doomed.Goals as goal
 
 pub returns-in-Some : goal.returns-in-Some

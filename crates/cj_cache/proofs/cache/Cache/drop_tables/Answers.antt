@@ -1,8 +1,5 @@
 use Rattle.std.proofs.Common.{rules, List, ap, ◌∙◌}
-use Rattle.cj_cache.proofs.Common.{Cached, entries_held, without_each}
-use Rattle.cj_model.specs.Cluster.Caching.{CacheState, without_tables}
-use Rattle.cj_cache.specs.Doomed.{HaveSame}
-use Rattle.cj_cache.proofs.Doomed.{doomed_dropped, doomed_of}
+use Rattle.cj_cache.proofs.Cited.{CacheState, Cached, HaveSame, doomed_dropped, doomed_of, entries_held, without_each, without_tables}
 use Rattle.cj_cache.proofs.cache.Cache.drop_tables.Goals as goal
 
 pub invariant_of-self : goal.invariant_of-self

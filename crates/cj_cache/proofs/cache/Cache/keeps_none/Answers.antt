@@ -1,8 +1,5 @@
 use Rattle.std.proofs.Common.{◌≡◌, ℕ, List, ◌∷◌, take, Option, None, ap, sym, subst}
-use Rattle.cj_cache.proofs.Common.{Cached, Held, Select}
-use Rattle.lru.specs.LruCache.{LruCache}
-use Rattle.cj_model.specs.Cluster.Caching.{CacheState, after_keep, without}
-use Rattle.cj_cache.specs.Kept.{HasCapacity, entries_held}
+use Rattle.cj_cache.proofs.Cited.{CacheState, Cached, HasCapacity, Held, LruCache, Select, after_keep, entries_held, without}
 use Rattle.cj_cache.proofs.cache.Cache.keeps_none.Goals as goal
 
 none_fit : (held : Option (LruCache Select Held)) (n : ℕ) → held ≡ None → HasCapacity n held → (entries : List Cached) → take n entries ≡ entries_held held

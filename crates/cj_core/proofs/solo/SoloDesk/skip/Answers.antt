@@ -1,7 +1,5 @@
 use Rattle.std.proofs.Common.{sym, ap, subst}
-use Rattle.cj_core.proofs.Common.{query_skipped, SoloState, SoloSteps, StandsBetweenCalls, WorldState}
-use Rattle.cj_core.proofs.SoloMoves.{stands_counted}
-use Rattle.cj_core.proofs.SoloTurns.{solo_skipped}
+use Rattle.cj_core.proofs.Cited.{SoloState, SoloSteps, StandsBetweenCalls, WorldState, query_skipped, solo_skipped, stands_counted}
 use Rattle.cj_core.proofs.solo.SoloDesk.skip.Goals as goal
 
 pub invariant_of-self : goal.invariant_of-self

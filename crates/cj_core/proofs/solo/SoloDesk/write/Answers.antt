@@ -1,6 +1,5 @@
 use Rattle.std.proofs.Common.{◌≡◌, refl, subst, sym}
-use Rattle.cj_core.proofs.Common.{Call, desk_of, desk_tx, FitsTx, IsEntryNumber, next_call, request_of, SoloState, tx_after_write}
-use Rattle.cj_core.proofs.SoloTurns.{number_added, tx_after_adding}
+use Rattle.cj_core.proofs.Cited.{Call, FitsTx, IsEntryNumber, SoloState, desk_of, desk_tx, next_call, number_added, request_of, tx_after_adding, tx_after_write}
 use Rattle.cj_core.proofs.solo.SoloDesk.write.Goals as goal
 
 pub returns-clause-tx : goal.returns-clause-tx

@@ -1,6 +1,5 @@
 use Rattle.std.proofs.Common.{◌≡◌, ◌+◌, true, sym, subst}
-use Rattle.cj_core.proofs.Common.{is_idle, StandsBetweenCalls, WorldState}
-use Rattle.cj_core.proofs.SoloMoves.{stands_opened}
+use Rattle.cj_core.proofs.Cited.{StandsBetweenCalls, WorldState, is_idle, stands_opened}
 use Rattle.cj_core.proofs.world.World.desk.Goals as goal
 
 pub invariant_of-result : goal.invariant_of-result

@@ -1,7 +1,5 @@
 use Rattle.std.proofs.Common.{map, ap, ◌∙◌, subst}
-use Rattle.cj_core.proofs.Common.{AreCurrent, AreHolding, backend_of, state_by, WorldState}
-use Rattle.cj_core.proofs.Leaving.{are_holding, are_current}
-use Rattle.cj_core.proofs.Starting.{told_of_backends}
+use Rattle.cj_core.proofs.Cited.{AreCurrent, AreHolding, WorldState, are_current, are_holding, backend_of, state_by, told_of_backends}
 use Rattle.cj_core.proofs.world.World.into_backends.Goals as goal
 
 pub returns-clause-holding : goal.returns-clause-holding

@@ -1,7 +1,5 @@
 use Rattle.std.proofs.Common.{ℕ, List, map, sym, ap, ◌∙◌, subst, ◌≡◌, true}
-use Rattle.cj_core.proofs.Common.{backend_of, CellState, Core, Event, IsPrefix, items_of, KeepsItems, Layout, LogItem, LogView, LosesNothing, opened_core, OpensTo, placement_of, state_by, WorldState}
-use Rattle.cj_core.proofs.StartLonger.{fault_of_start, loses_nothing, refused_again, refused_part, started_well}
-use Rattle.cj_core.proofs.StartWhole.{starts_from}
+use Rattle.cj_core.proofs.Cited.{CellState, Core, Event, IsPrefix, KeepsItems, Layout, LogItem, LogView, LosesNothing, OpensTo, WorldState, backend_of, fault_of_start, items_of, loses_nothing, opened_core, placement_of, refused_again, refused_part, started_well, starts_from, state_by}
 use Rattle.cj_core.proofs.world.World.start.Goals as goal
 
 pub returns-in-Ok-brought-clause-started : goal.returns-in-Ok-brought-clause-started

@@ -1,7 +1,5 @@
 use Rattle.std.proofs.Common.{List, sym, ◌∙◌, subst, arith}
-use Rattle.cj_cluster.specs.declared.moves.OpenSession.{OpenSession}
-use Rattle.cj_open_sessions.specs.Places.{IsPlaceOf}
-use Rattle.cj_open_sessions.proofs.Seats.{removed, removed_rises, unremoved}
+use Rattle.cj_open_sessions.proofs.Cited.{IsPlaceOf, OpenSession, removed, removed_rises, unremoved}
 use Rattle.cj_open_sessions.proofs.sessions.Sessions.close.Goals as goal
 
 pub invariant_of-self : goal.invariant_of-self

@@ -1,6 +1,5 @@
 use Rattle.std.proofs.Common.{Ok, Err, rules}
-use Rattle.std.proofs.lemmas.List.Sorted.{answers_always}
-use Rattle.cj_open_sessions.proofs.Seats.{searched}
+use Rattle.cj_open_sessions.proofs.Cited.{answers_always, searched}
 use Rattle.cj_open_sessions.proofs.sessions.Sessions.place_of.Goals as goal
 
 pub returns-in-Ok : goal.returns-in-Ok

@@ -1,8 +1,5 @@
 use Rattle.std.proofs.Common.{List, refl, sym, subst, arith}
-use Rattle.cj_cluster.specs.declared.moves.OpenSession.{OpenSession}
-use Rattle.cj_cluster.specs.Moves.Moves.{was_answered}
-use Rattle.cj_open_sessions.specs.Places.{IsPlaceOf}
-use Rattle.cj_open_sessions.proofs.Seats.{changed, changed_rises, unchanged}
+use Rattle.cj_open_sessions.proofs.Cited.{IsPlaceOf, OpenSession, changed, changed_rises, unchanged, was_answered}
 use Rattle.cj_open_sessions.proofs.sessions.Sessions.refuse_read.Goals as goal
 
 pub invariant_of-self : goal.invariant_of-self

@@ -1,8 +1,5 @@
 use Rattle.std.proofs.Common.{[], ◌∷◌, sym, ap, ◌∙◌, append_assoc}
-use Rattle.cj_query.proofs.Common.{option_map, rows_kept}
-use Rattle.cj_query.specs.Ranked.{ranks_before, seen, wanted}
-use Rattle.cj_query.proofs.RankLaws.{rank_orders}
-use Rattle.cj_query.proofs.TopLaws.{bar_keeps_out}
+use Rattle.cj_query.proofs.Cited.{bar_keeps_out, option_map, rank_orders, ranks_before, rows_kept, seen, wanted}
 use Rattle.cj_query.proofs.top.Kept.add.Goals as goal
 
 pub returns-then-bars-clause-stands : goal.returns-then-bars-clause-stands

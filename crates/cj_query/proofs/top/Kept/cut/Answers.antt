@@ -1,8 +1,5 @@
 use Rattle.std.proofs.Common.{◌≡◌, ◌≤◌, ◌++◌, ◌-◌, Some, Option, ℕ, length, map, sym, ap, subst, ◌∙◌}
-use Rattle.cj_query.proofs.Common.{at_most, length-map, option_map, rows_kept, slice_get, sorted_by}
-use Rattle.cj_query.specs.Ranked.{Bars, ranks_before, seen, wanted}
-use Rattle.cj_query.proofs.RankLaws.{rank_orders}
-use Rattle.cj_query.proofs.TopLaws.{bars_after, cut_before, last_seen}
+use Rattle.cj_query.proofs.Cited.{Bars, at_most, bars_after, cut_before, last_seen, length-map, option_map, rank_orders, ranks_before, rows_kept, seen, slice_get, sorted_by, wanted}
 use Rattle.cj_query.proofs.top.Kept.cut.Goals as goal
 
 pub returns-clause-stands : goal.returns-clause-stands

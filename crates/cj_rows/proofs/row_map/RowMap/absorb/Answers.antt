@@ -1,7 +1,5 @@
 use Rattle.std.proofs.Common.{◌≡◌, ◌∙◌, ◌++◌, [], ◌∷◌, sym, ap, subst}
-use Rattle.cj_rows.proofs.Common.{append_assoc, KeysRise, KnowsKeys, merged, overlaid, RowEntries, value_cmp}
-use Rattle.cj_rows.proofs.EntryLaws.{merged_none}
-use Rattle.cj_rows.proofs.RowEntryLaws.{has_keys_itself, keys_then, next_shown, next_known, first_known, replaced, rest_rises}
+use Rattle.cj_rows.proofs.Cited.{KeysRise, KnowsKeys, RowEntries, append_assoc, first_known, has_keys_itself, keys_then, merged, merged_none, next_known, next_shown, overlaid, replaced, rest_rises, value_cmp}
 use Rattle.cj_rows.proofs.row_map.RowMap.absorb.Goals as goal
 
 pub returns-then-replaces-clause-shown : goal.returns-then-replaces-clause-shown

@@ -1,7 +1,5 @@
 use Rattle.std.proofs.Common.{rules, option_map, ap, sym, ◌∙◌, subst}
-use Rattle.std.proofs.lemmas.Map.Made.{map_same_pairs}
-use Rattle.cj_rows.proofs.Common.{KeysRise, value_cmp}
-use Rattle.cj_rows.proofs.RowLaws.{anew, rise_anew}
+use Rattle.cj_rows.proofs.Cited.{KeysRise, anew, map_same_pairs, rise_anew, value_cmp}
 use Rattle.cj_rows.proofs.row_map.RowMap.edit_rows.Goals as goal
 
 pub returns : goal.returns

@@ -1,6 +1,5 @@
 use Rattle.std.proofs.Common.{ap, ◌∙◌}
-use Rattle.cj_rows.specs.RowEntries.{from_key}
-use Rattle.cj_rows.proofs.FromLaws.{range_from}
+use Rattle.cj_rows.proofs.Cited.{from_key, range_from}
 use Rattle.cj_rows.proofs.row_map.RowMap.entries_from.Goals as goal
 
 pub returns : goal.returns

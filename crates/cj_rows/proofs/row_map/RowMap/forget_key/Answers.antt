@@ -1,6 +1,5 @@
 use Rattle.std.proofs.Common.{◌∙◌, sym, ap}
-use Rattle.cj_rows.specs.Layers.{kept}
-use Rattle.cj_rows.proofs.RowEntryLaws.{copied_none, forgotten}
+use Rattle.cj_rows.proofs.Cited.{copied_none, forgotten, kept}
 use Rattle.cj_rows.proofs.row_map.RowMap.forget_key.Goals as goal
 
 pub returns-then-is_none-clause-kept : goal.returns-then-is_none-clause-kept

@@ -1,5 +1,4 @@
-use Rattle.cj_model.specs.Database.Values.{value_cmp}
-use Rattle.cj_rows.proofs.EntryLaws.{rise_from}
+use Rattle.cj_rows.proofs.Cited.{rise_from, value_cmp}
 use Rattle.cj_rows.proofs.row_map.RowMap.insert.Goals as goal
 
 pub invariant_of-self-2 : goal.invariant_of-self-2

@@ -1,9 +1,5 @@
 use Rattle.std.proofs.Common.{false, rules, option_map, ap, ◌∙◌}
-use Rattle.std.specs.Prelude.{unwrap_or}
-use Rattle.std.proofs.lemmas.Map.Made.{filter_same_pairs}
-use Rattle.cj_rows.proofs.Common.{kept, value_cmp}
-use Rattle.cj_rows.proofs.EntryLaws.{rise_from}
-use Rattle.cj_rows.proofs.RowLaws.{kept_passing, passing}
+use Rattle.cj_rows.proofs.Cited.{filter_same_pairs, kept, kept_passing, passing, rise_from, unwrap_or, value_cmp}
 use Rattle.cj_rows.proofs.row_map.RowMap.keep_rows.Goals as goal
 
 pub returns-clause-kept : goal.returns-clause-kept

@@ -1,6 +1,5 @@
 use Rattle.std.proofs.Common.{◌≡◌, ◌∙◌, ◌++◌, [], ◌∷◌, map, sym, ap, subst}
-use Rattle.cj_rows.proofs.Common.{append-nil, append_assoc, deref_pair, KnowsKeys, map-append, RowEntries}
-use Rattle.cj_rows.proofs.RowEntryLaws.{known_more}
+use Rattle.cj_rows.proofs.Cited.{KnowsKeys, RowEntries, append-nil, append_assoc, deref_pair, known_more, map-append}
 use Rattle.cj_rows.proofs.row_map.RowMap.knows_all.Goals as goal
 
 pub loop-key-preserved : goal.loop-key-preserved

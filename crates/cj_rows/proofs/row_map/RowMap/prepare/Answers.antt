@@ -1,6 +1,5 @@
 use Rattle.std.proofs.Common.{◌≡◌, true, List, ◌∙◌, ◌++◌, [], ◌∷◌, map, sym, ap, subst}
-use Rattle.cj_rows.proofs.Common.{All-nil, append-nil, append_assoc, deref_pair, HasKeysOf, knows, KnowsKeys, map-append, Option, RowEntries, Value}
-use Rattle.cj_rows.proofs.RowEntryLaws.{extends_itself, has_keys_itself, extends_then, keys_then, keys_among, known_more}
+use Rattle.cj_rows.proofs.Cited.{All-nil, HasKeysOf, KnowsKeys, Option, RowEntries, Value, append-nil, append_assoc, deref_pair, extends_itself, extends_then, has_keys_itself, keys_among, keys_then, known_more, knows, map-append}
 use Rattle.cj_rows.proofs.row_map.RowMap.prepare.Goals as goal
 
 pub loop-key-init : goal.loop-key-init

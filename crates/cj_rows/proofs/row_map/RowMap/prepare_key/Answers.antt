@@ -1,7 +1,5 @@
 use Rattle.std.proofs.Common.{◌≡◌, ◌∙◌, [], ◌∷◌, sym, ap, subst}
-use Rattle.cj_rows.proofs.Common.{at, Extends, HasKeysOf, insert_entry, knows, None, RowEntries, Value, value_cmp, value_exact, value_total}
-use Rattle.cj_rows.proofs.EntryLaws.{known_itself}
-use Rattle.cj_rows.proofs.RowEntryLaws.{none_from, prepared_extends, prepared_keys}
+use Rattle.cj_rows.proofs.Cited.{Extends, HasKeysOf, None, RowEntries, Value, at, insert_entry, known_itself, knows, none_from, prepared_extends, prepared_keys, value_cmp, value_exact, value_total}
 use Rattle.cj_rows.proofs.row_map.RowMap.prepare_key.Goals as goal
 
 pub returns-clause-known : goal.returns-clause-known

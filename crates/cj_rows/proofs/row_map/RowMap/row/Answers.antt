@@ -1,6 +1,5 @@
 use Rattle.std.proofs.Common.{◌∙◌, sym, ap}
-use Rattle.cj_rows.proofs.Common.{at, kept, None, value_cmp, value_exact, value_total}
-use Rattle.cj_rows.proofs.EntryLaws.{at_kept, pick}
+use Rattle.cj_rows.proofs.Cited.{None, at, at_kept, kept, pick, value_cmp, value_exact, value_total}
 use Rattle.cj_rows.proofs.row_map.RowMap.row.Goals as goal
 
 pub returns-in-Some : goal.returns-in-Some

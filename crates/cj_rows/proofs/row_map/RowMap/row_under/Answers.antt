@@ -1,6 +1,5 @@
 use Rattle.std.proofs.Common.{sym, ap, ◌∙◌}
-use Rattle.cj_rows.proofs.Common.{at, kept, value_cmp, value_exact, value_total}
-use Rattle.cj_rows.proofs.EntryLaws.{at_merged, pick, rise_kept}
+use Rattle.cj_rows.proofs.Cited.{at, at_merged, kept, pick, rise_kept, value_cmp, value_exact, value_total}
 use Rattle.cj_rows.proofs.row_map.RowMap.row_under.Goals as goal
 
 pub returns-in-Some : goal.returns-in-Some

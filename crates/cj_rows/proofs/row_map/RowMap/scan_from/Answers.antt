@@ -1,6 +1,5 @@
 use Rattle.std.proofs.Common.{ap, ◌∙◌}
-use Rattle.cj_rows.proofs.Common.{kept, values_of}
-use Rattle.cj_rows.proofs.FromLaws.{kept_part}
+use Rattle.cj_rows.proofs.Cited.{kept, kept_part, values_of}
 use Rattle.cj_rows.proofs.row_map.RowMap.scan_from.Goals as goal
 
 pub returns : goal.returns

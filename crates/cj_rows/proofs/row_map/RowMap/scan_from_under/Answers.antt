@@ -1,6 +1,5 @@
 use Rattle.std.proofs.Common.{ap, ◌∙◌}
-use Rattle.cj_rows.proofs.Common.{from_key, overlaid, values_of}
-use Rattle.cj_rows.proofs.FromLaws.{overlaid_part}
+use Rattle.cj_rows.proofs.Cited.{from_key, overlaid, overlaid_part, values_of}
 use Rattle.cj_rows.proofs.row_map.RowMap.scan_from_under.Goals as goal
 
 pub returns : goal.returns

@@ -1,6 +1,5 @@
 use Rattle.std.proofs.Common.{◌∙◌, [], ◌∷◌, sym, ap, subst}
-use Rattle.cj_rows.proofs.Common.{HasKeysOf, knows, None, overlaid, RowEntries}
-use Rattle.cj_rows.proofs.RowEntryLaws.{none_from, copied_none, set_shown, gone_shown, gone_keys, set_knows, gone_knows, prepared_keys}
+use Rattle.cj_rows.proofs.Cited.{HasKeysOf, None, RowEntries, copied_none, gone_keys, gone_knows, gone_shown, knows, none_from, overlaid, prepared_keys, set_knows, set_shown}
 use Rattle.cj_rows.proofs.row_map.RowMap.set.Goals as goal
 
 pub returns-then-is_none-2-clause-shown : goal.returns-then-is_none-2-clause-shown

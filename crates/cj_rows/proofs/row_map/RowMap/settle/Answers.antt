@@ -1,7 +1,5 @@
 use Rattle.std.proofs.Common.{◌∙◌, sym, subst}
-use Rattle.cj_rows.specs.RowEntries.{RowEntries, Settles}
-use Rattle.cj_rows.proofs.ConversionLaws.{settles_changed, settles_gone, settles_same}
-use Rattle.cj_rows.proofs.RowEntryLaws.{none_from}
+use Rattle.cj_rows.proofs.Cited.{RowEntries, Settles, none_from, settles_changed, settles_gone, settles_same}
 use Rattle.cj_rows.proofs.row_map.RowMap.settle.Goals as goal
 
 pub returns-then-has-clause-settles : goal.returns-then-has-clause-settles

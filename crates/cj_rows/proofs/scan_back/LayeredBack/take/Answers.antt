@@ -1,6 +1,5 @@
 use Rattle.std.proofs.Common.{sym, ap, ◌∙◌}
-use Rattle.cj_rows.specs.RowEntries.{turn}
-use Rattle.cj_rows.proofs.ScanLaws.{both_turn, change_turn, entry_turn, only_change, only_entry, step_rises}
+use Rattle.cj_rows.proofs.Cited.{both_turn, change_turn, entry_turn, only_change, only_entry, step_rises, turn}
 use Rattle.cj_rows.proofs.scan_back.LayeredBack.take.Goals as goal
 
 pub returns-in-None-Some-clause-shown : goal.returns-in-None-Some-clause-shown

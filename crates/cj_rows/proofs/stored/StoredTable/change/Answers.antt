@@ -1,6 +1,5 @@
 use Rattle.std.proofs.Common.{◌≡◌, List, sym, ap, ◌∙◌, subst}
-use Rattle.cj_rows.proofs.Common.{changed_slot, Extends, IsChangeOf, merged, other_writer, overlaid, RowEntries, seen, Slot, Value, value_cmp}
-use Rattle.cj_rows.proofs.StoredLaws.{on_err, prepared_holds, prepared_shown, base_holds, base_shown, opened_holds, opened_shown, failed_holds, failed_shown, added_holds, added_shown}
+use Rattle.cj_rows.proofs.Cited.{Extends, IsChangeOf, RowEntries, Slot, Value, added_holds, added_shown, base_holds, base_shown, changed_slot, failed_holds, failed_shown, merged, on_err, opened_holds, opened_shown, other_writer, overlaid, prepared_holds, prepared_shown, seen, value_cmp}
 use Rattle.cj_rows.proofs.stored.StoredTable.change.Goals as goal
 
 pub invariant_of-self : goal.invariant_of-self

@@ -1,7 +1,5 @@
 use Rattle.std.proofs.Common.{map, ap, sym, ◌∙◌, subst}
-use Rattle.cj_rows.proofs.Common.{None, RowEntries, Slot}
-use Rattle.cj_rows.specs.Stored.{HoldsTable, KeepsKeys, slot_shown}
-use Rattle.cj_rows.proofs.StoredLaws.{anew_holds, anew_shown}
+use Rattle.cj_rows.proofs.Cited.{HoldsTable, KeepsKeys, None, RowEntries, Slot, anew_holds, anew_shown, slot_shown}
 use Rattle.cj_rows.proofs.stored.StoredTable.edit_rows.Goals as goal
 
 pub invariant_of-self : goal.invariant_of-self

@@ -1,6 +1,5 @@
 use Rattle.std.proofs.Common.{length, ap, sym, ◌∙◌}
-use Rattle.cj_rows.proofs.Common.{filter, None, Slot}
-use Rattle.cj_rows.proofs.StoredLaws.{passing_holds, passing_shown}
+use Rattle.cj_rows.proofs.Cited.{None, Slot, filter, passing_holds, passing_shown}
 use Rattle.cj_rows.proofs.stored.StoredTable.keep_rows.Goals as goal
 
 pub invariant_of-self : goal.invariant_of-self

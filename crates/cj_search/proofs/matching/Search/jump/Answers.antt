@@ -3,8 +3,7 @@ use Rattle.std.proofs.lemmas.Grind.{common_steps}
 use Rattle.std.specs.Ordering.{is_gt, is_le}
 use Rattle.cj_model.specs.declared.value.Value.{Value}
 use Rattle.cj_model.specs.Database.Evaluation.{satisfies}
-use Rattle.cj_model.specs.Database.Tables.{cell}
-use Rattle.cj_model.specs.Database.Values.{value_cmp}
+use Rattle.cj_expr.proofs.Common.{cell, value_cmp}
 use Rattle.cj_search.proofs.SearchLaws.{jump_ends, jump_fewer, jump_found, stays}
 use Rattle.cj_search.proofs.matching.Search.jump.Goals as goal
 

@@ -1,11 +1,9 @@
 use Rattle.std.proofs.Common.{◌≡◌, true, false, List, sym, ap, ◌∙◌, append_assoc, [], ◌∷◌, ◌++◌}
 use Rattle.std.specs.Ordering.{is_le}
-use Rattle.std.proofs.lemmas.Cmp.{tied_itself}
+use Rattle.cj_rows.proofs.Common.{cell, tied_itself, value_cmp, value_total}
 use Rattle.std.specs.declared.option.Option.TheVariants.{None}
 use Rattle.cj_model.specs.declared.value.Value.{Value}
 use Rattle.cj_model.specs.Database.Evaluation.{satisfies}
-use Rattle.cj_model.specs.Database.Tables.{cell}
-use Rattle.cj_model.specs.Database.Values.{value_cmp, value_total}
 use Rattle.cj_search.proofs.SearchLaws.{over, over_rest, reached}
 use Rattle.cj_search.proofs.matching.Search.seek.Goals as goal
 

@@ -1,7 +1,5 @@
 use Rattle.std.proofs.Common.{◌≡◌, ◌<◌, ◌-◌, Some, slice_get, sym, subst}
-use Rattle.cj_state.proofs.Common.{CoreInvariant, IsFitEntry, log, WorldState}
-use Rattle.cj_cluster.proofs.Soundness.{abort_fits}
-use Rattle.cj_state.proofs.Scheduling.{abort_is}
+use Rattle.cj_state.proofs.Cited.{CoreInvariant, IsFitEntry, WorldState, abort_fits, abort_is, log}
 use Rattle.cj_state.proofs.state.State.abort_entry.Goals as goal
 
 pub returns-clause-fits : goal.returns-clause-fits

@@ -1,8 +1,6 @@
 use Rattle.std.proofs.Common.{◌≡◌, false, sym, subst}
-use Rattle.cj_state.proofs.Common.{board_id, pass_board, states_of, WorldState}
-use Rattle.cj_cluster.specs.Moves.Moves.{has_no_number}
+use Rattle.cj_state.proofs.Cited.{WorldState, board_id, has_no_number, pass_board, seats_same, states_of}
 use Rattle.cj_state.proofs.Keeping.{kept_opened}
-use Rattle.cj_state.proofs.SeatsKept.{seats_same}
 use Rattle.cj_state.proofs.state.State.add_session.Goals as goal
 
 pub invariant_of-self : goal.invariant_of-self

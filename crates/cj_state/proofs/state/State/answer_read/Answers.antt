@@ -1,6 +1,5 @@
 use Rattle.std.proofs.Common.{◌≡◌, ◌≤◌, false, length, sym, subst}
-use Rattle.cj_state.proofs.Common.{is_waiting, log, states_of, WorldState}
-use Rattle.cj_state.proofs.Keeping.{kept_reached}
+use Rattle.cj_state.proofs.Cited.{WorldState, is_waiting, kept_reached, log, states_of}
 use Rattle.cj_state.proofs.state.State.answer_read.Goals as goal
 
 pub invariant_of-self : goal.invariant_of-self

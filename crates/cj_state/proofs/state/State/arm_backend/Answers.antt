@@ -1,8 +1,5 @@
 use Rattle.std.proofs.Common.{◌≡◌, false, List, get_or, set, refl, ap, sym, ◌∙◌, subst}
-use Rattle.cj_state.proofs.Common.{arming_after, CellState, get_or_default, length-map, states_of, WorldState}
-use Rattle.cj_state.specs.ArmedCells.{armed_at}
-use Rattle.cj_state.proofs.ChangedCell.{changed_armings, changed_faults, changed_logins, has_cell, kept_asked, same_core}
-use Rattle.cj_state.proofs.Counted.{armed_times}
+use Rattle.cj_state.proofs.Cited.{CellState, WorldState, armed_at, armed_times, arming_after, changed_armings, changed_faults, changed_logins, get_or_default, has_cell, kept_asked, length-map, same_core, states_of}
 use Rattle.cj_state.proofs.state.State.arm_backend.Goals as goal
 
 -- a cell that was armed changes in nothing else that asking may change

@@ -1,15 +1,5 @@
 use Rattle.std.proofs.Common.{ℕ, false, List, Ok, Err, Some, ap, sym, ◌∙◌, subst, refl}
-use Rattle.cj_state.proofs.Common.{board_id, BookState, CellReadError, faults_after, faults_of, is_asked, KeptFresh, length-map, login_of, Notes, option_copied, pass_board, placement_of, ReadFailed, states_of}
-use Rattle.cj_state.specs.Worlds.{WorldState, accounts_of, world_of}
-use Rattle.cj_state.specs.CalledLogins.{asked_for, logins_of, LogsInToAsk}
-use Rattle.cj_state.proofs.Asking.{answers, errs, notes_cases, noted_core, noted_fault, noted_logins, noted_want, wanted}
-use Rattle.cj_state.proofs.KeepingEvents.{kept_read_failed}
-use Rattle.cj_state.proofs.Counted.{spent_times}
-use Rattle.cj_state.proofs.Dumped.{dumps_event}
-use Rattle.cj_state.proofs.Fresh.{fresh_event}
-use Rattle.cj_state.proofs.ChangedCell.{changed_armings, changed_faults, changed_under, has_cell, kept_asked, same_core, world_stays}
-use Rattle.cj_state.proofs.HeardOf.{ready_heard}
-use Rattle.cj_state.proofs.SeatsKept.{at_book, ready_noted}
+use Rattle.cj_state.proofs.Cited.{BookState, CellReadError, KeptFresh, LogsInToAsk, Notes, ReadFailed, WorldState, accounts_of, answers, asked_for, at_book, board_id, changed_armings, changed_faults, changed_under, dumps_event, errs, faults_after, faults_of, fresh_event, has_cell, is_asked, kept_asked, kept_read_failed, length-map, login_of, logins_of, noted_core, noted_fault, noted_logins, noted_want, notes_cases, option_copied, pass_board, placement_of, ready_heard, ready_noted, same_core, spent_times, states_of, wanted, world_of, world_stays}
 use Rattle.cj_state.proofs.state.State.ask.Goals as goal
 
 pub invariant_of-self : goal.invariant_of-self

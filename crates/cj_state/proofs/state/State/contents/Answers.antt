@@ -1,8 +1,5 @@
 use Rattle.std.proofs.Common.{◌≡◌, true, false, ap, sym, refl, subst}
-use Rattle.cj_state.proofs.Common.{CellState, length-map}
-use Rattle.cj_state.proofs.ChangedCell.{caused_faults, changed_armings, changed_logins, has_cell, kept_asked, same_core, world_stays}
-use Rattle.cj_state.proofs.Contents.{contents_same}
-use Rattle.cj_state.proofs.Counted.{spent_times}
+use Rattle.cj_state.proofs.Cited.{CellState, caused_faults, changed_armings, changed_logins, contents_same, has_cell, kept_asked, length-map, same_core, spent_times, world_stays}
 use Rattle.cj_state.proofs.state.State.contents.Goals as goal
 
 -- a cell that changes in its faults and its arming changes in nothing else that asking may change

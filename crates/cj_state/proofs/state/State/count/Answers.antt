@@ -1,6 +1,5 @@
 use Rattle.std.proofs.Common.{◌≡◌, None, false, sym, subst}
-use Rattle.cj_state.proofs.Common.{is_waiting, session_at, states_of, WorldState}
-use Rattle.cj_state.proofs.Keeping.{kept_counted}
+use Rattle.cj_state.proofs.Cited.{WorldState, is_waiting, kept_counted, session_at, states_of}
 use Rattle.cj_state.proofs.state.State.count.Goals as goal
 
 pub invariant_of-self : goal.invariant_of-self

@@ -1,10 +1,5 @@
 use Rattle.std.proofs.Common.{◌≡◌, false, length, map, Option, option_map, None, Some, ap, sym, ◌∙◌, subst}
-use Rattle.std.specs.Prelude.{IfSome}
-use Rattle.cj_state.proofs.Common.{can_load, core_of, cut, database_after, Dump, find_dump, first_of, hosts_beyond, IsDumpOf, IsSoundDump, Layout, Load, log, not_now, part, placement_of, states_of, taken_of, TakenDump, WorldState}
-use Rattle.cj_model.specs.Database.Storable.{IsStorable}
-use Rattle.cj_model.proofs.PartLaws.{part_is_storable}
-use Rattle.cj_dump.specs.Dumps.{IsDump}
-use Rattle.cj_state.proofs.Dumped.{cut_holds, first_all, first_taken, taken_all}
+use Rattle.cj_state.proofs.Cited.{Dump, IfSome, IsDump, IsDumpOf, IsSoundDump, IsStorable, Layout, Load, TakenDump, WorldState, can_load, core_of, cut, cut_holds, database_after, find_dump, first_all, first_of, first_taken, hosts_beyond, log, not_now, part, part_is_storable, placement_of, states_of, taken_all, taken_of}
 use Rattle.cj_state.proofs.state.State.cut_dump.Goals as goal
 
 pub unreachable-requires : goal.unreachable-requires

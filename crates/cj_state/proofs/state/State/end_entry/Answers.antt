@@ -1,12 +1,5 @@
 use Rattle.std.proofs.Common.{◌≡◌, ◌<◌, ◌++◌, ◌∷◌, [], ℕ, List, Some, true, false, None, length, ap, sym, ◌∙◌, subst, refl}
-use Rattle.cj_state.proofs.Common.{board_id, BookState, CellState, Ended, first_lagging, is_idle, is_waiting, length-map, log, pass_board, placement_of, SeatedCell, states_of, with_event, WorldState}
-use Rattle.cj_cluster.proofs.Pushed.{free-ended, log-same}
-use Rattle.cj_state.proofs.CellsKept.{at_log_end}
-use Rattle.cj_state.proofs.HeardOf.{ready_heard}
-use Rattle.cj_state.proofs.Keeping.{kept_answered}
-use Rattle.cj_state.proofs.Dumped.{dumps_event}
-use Rattle.cj_state.proofs.Fresh.{fresh_event}
-use Rattle.cj_state.proofs.SeatsKept.{seats_cleared}
+use Rattle.cj_state.proofs.Cited.{BookState, CellState, Ended, SeatedCell, WorldState, at_log_end, board_id, dumps_event, first_lagging, free-ended, fresh_event, is_idle, is_waiting, kept_answered, length-map, log, log-same, pass_board, placement_of, ready_heard, seats_cleared, states_of, with_event}
 use Rattle.cj_state.proofs.state.State.end_entry.Goals as goal
 
 pub hear_all-requires-clause-few : goal.hear_all-requires-clause-few

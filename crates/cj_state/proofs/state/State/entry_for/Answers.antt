@@ -1,6 +1,5 @@
 use Rattle.std.proofs.Common.{◌+◌, ◌≤◌, ℕ, List, length, refl, ap, sym, subst}
-use Rattle.cj_state.proofs.Common.{CoreInvariant, USER_LIMIT, WorldState}
-use Rattle.cj_cluster.proofs.Soundness.{session_entry_fits}
+use Rattle.cj_state.proofs.Cited.{CoreInvariant, USER_LIMIT, WorldState, session_entry_fits}
 use Rattle.cj_state.proofs.state.State.entry_for.Goals as goal
 
 pub returns-clause-fits : goal.returns-clause-fits

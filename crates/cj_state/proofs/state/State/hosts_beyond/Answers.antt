@@ -1,6 +1,5 @@
 use Rattle.std.proofs.Common.{◌≡◌, ◌<◌, Some, map, sym, subst, length}
-use Rattle.cj_state.proofs.Common.{find_dump, IsSoundDump, Layout, taken_of, WorldState}
-use Rattle.cj_state.proofs.Dumped.{taken_all}
+use Rattle.cj_state.proofs.Cited.{IsSoundDump, Layout, WorldState, find_dump, taken_all, taken_of}
 use Rattle.cj_state.proofs.state.State.hosts_beyond.Goals as goal
 
 pub hosts_beyond-requires-clause-other : goal.hosts_beyond-requires-clause-other

@@ -1,6 +1,5 @@
 use Rattle.std.proofs.Common.{ap, ◌∙◌}
-use Rattle.cj_state.proofs.Common.{is_orphan, states_of, WorldState}
-use Rattle.cj_state.proofs.OpenNumbers.{orphan_is}
+use Rattle.cj_state.proofs.Cited.{WorldState, is_orphan, orphan_is, states_of}
 use Rattle.cj_state.proofs.state.State.is_orphan.Goals as goal
 
 pub returns : goal.returns

@@ -1,11 +1,5 @@
 use Rattle.std.proofs.Common.{◌≡◌, Bool, true, Ok, List, length, ap, sym, ◌∙◌, subst, arith}
-use Rattle.cj_state.proofs.Common.{board_id, BookState, Entry, KeptFresh, log, pass_board, states_of, world_of, WorldState}
-use Rattle.cj_model.specs.declared.answer.Asked.TheVariants.{Rows}
-use Rattle.cj_model.specs.declared.cached.Cached.{Cached}
-use Rattle.cj_model.proofs.CachingLaws.{all_put}
-use Rattle.cj_freshness.specs.Freshness.{IsAnswerAt, IsFreshAnswer, NoneTouches}
-use Rattle.cj_freshness.proofs.Fresh.{fresh_now}
-use Rattle.cj_state.proofs.SeatsKept.{seats_same}
+use Rattle.cj_state.proofs.Cited.{BookState, Cached, Entry, IsAnswerAt, IsFreshAnswer, KeptFresh, NoneTouches, Rows, WorldState, all_put, board_id, fresh_now, log, pass_board, seats_same, states_of, world_of}
 use Rattle.cj_state.proofs.state.State.keep.Goals as goal
 
 pub invariant_of-self : goal.invariant_of-self

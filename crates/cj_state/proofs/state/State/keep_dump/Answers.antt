@@ -1,9 +1,5 @@
 use Rattle.std.proofs.Common.{◌≡◌, Bool, true, cond, filter, fold, [], Some, ap, sym, ◌∙◌, subst}
-use Rattle.cj_state.proofs.Common.{core_of, Dump, is_name, IsHeld, position_at, states_of, WorldState}
-use Rattle.cj_model.specs.Database.Tables.{name_cmp, put_by}
-use Rattle.cj_place.specs.Layouts.{Layout, tables_at}
-use Rattle.cj_state.proofs.Dumped.{dumps_push, kept_dumped}
-use Rattle.cj_state.proofs.Logs.{name_some}
+use Rattle.cj_state.proofs.Cited.{Dump, IsHeld, Layout, WorldState, core_of, dumps_push, is_name, kept_dumped, name_cmp, name_some, position_at, put_by, states_of, tables_at}
 use Rattle.cj_state.proofs.state.State.keep_dump.Goals as goal
 
 pub add-requires : goal.add-requires

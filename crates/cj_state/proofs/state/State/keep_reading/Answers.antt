@@ -1,6 +1,5 @@
 use Rattle.std.proofs.Common.{◌≡◌, false, sym, subst}
-use Rattle.cj_state.proofs.Common.{HaveFailed, is_waiting, states_of, WorldState}
-use Rattle.cj_state.proofs.Keeping.{kept_reading}
+use Rattle.cj_state.proofs.Cited.{HaveFailed, WorldState, is_waiting, kept_reading, states_of}
 use Rattle.cj_state.proofs.state.State.keep_reading.Goals as goal
 
 pub invariant_of-self : goal.invariant_of-self

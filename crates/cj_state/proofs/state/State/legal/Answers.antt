@@ -1,6 +1,5 @@
 use Rattle.std.proofs.Common.{subst}
-use Rattle.cj_state.specs.Worlds.{IsWorld}
-use Rattle.cj_state.proofs.Logs.{world_with_log}
+use Rattle.cj_state.proofs.Cited.{IsWorld, world_with_log}
 use Rattle.cj_state.proofs.state.State.legal.Goals as goal
 
 pub returns-clause-world : goal.returns-clause-world

@@ -1,9 +1,5 @@
 use Rattle.std.proofs.Common.{false, Result, ap, refl, sym, ◌∙◌}
-use Rattle.cj_state.proofs.Common.{CellError, failed_contents, faults_after, faults_of, length-map, states_of, taken_of}
-use Rattle.cj_model.specs.Database.Storable.{writers}
-use Rattle.cj_state.proofs.CellsKept.{position_of}
-use Rattle.cj_state.proofs.ChangedCell.{caused_faults, changed_armings, changed_logins, has_cell}
-use Rattle.cj_state.proofs.HeardOf.{ready_heard}
+use Rattle.cj_state.proofs.Cited.{CellError, caused_faults, changed_armings, changed_logins, failed_contents, faults_after, faults_of, has_cell, length-map, position_of, ready_heard, states_of, taken_of, writers}
 use Rattle.cj_state.proofs.Loading.{armings_loaded, core_loaded, core_refused, failed_as, kept_loaded, kept_refused, loads_from, on_error}
 use Rattle.cj_state.proofs.state.State.load_dump.Goals as goal
 

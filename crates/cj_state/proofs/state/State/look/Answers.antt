@@ -1,6 +1,4 @@
-use Rattle.cj_state.proofs.Common.{board_id, IsFreshAnswer, log, pass_board}
-use Rattle.cj_model.proofs.CachingLaws.{all_looked}
-use Rattle.cj_state.proofs.SeatsKept.{seats_same}
+use Rattle.cj_state.proofs.Cited.{IsFreshAnswer, all_looked, board_id, log, pass_board, seats_same}
 use Rattle.cj_state.proofs.state.State.look.Goals as goal
 
 pub invariant_of-self : goal.invariant_of-self

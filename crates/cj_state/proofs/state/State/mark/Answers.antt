@@ -1,12 +1,5 @@
 use Rattle.std.proofs.Common.{◌≡◌, true, false, None, refl, sym, subst, arith}
-use Rattle.std.specs.Prelude.{IfOk}
-use Rattle.cj_state.proofs.Common.{board_id, BookState, event_or_fault, HadLoggedRoom, has_marker, is_idle, KeptFresh, last_number, LogFailed, Marker, pass_board, placement_of, states_of, world_of, WorldState}
-use Rattle.cj_state.proofs.KeepingEvents.{kept_log_failed, kept_marked}
-use Rattle.cj_state.proofs.Logs.{name_some}
-use Rattle.cj_state.proofs.Noting.{logged, had_logged_room, behind_as_many}
-use Rattle.cj_state.proofs.Dumped.{dumps_event}
-use Rattle.cj_state.proofs.Fresh.{fresh_event}
-use Rattle.cj_state.proofs.SeatsKept.{counted, quiet_or_fault, seats_after}
+use Rattle.cj_state.proofs.Cited.{BookState, HadLoggedRoom, IfOk, KeptFresh, LogFailed, Marker, WorldState, behind_as_many, board_id, counted, dumps_event, event_or_fault, fresh_event, had_logged_room, has_marker, is_idle, kept_log_failed, kept_marked, last_number, logged, name_some, pass_board, placement_of, quiet_or_fault, seats_after, states_of, world_of}
 use Rattle.cj_state.proofs.state.State.mark.Goals as goal
 
 pub invariant_of-self : goal.invariant_of-self

@@ -1,6 +1,5 @@
-use Rattle.cj_state.proofs.Common.{All-nil, IsDumpOf, IsFreshAnswer, log, placement_of, states_of}
+use Rattle.cj_state.proofs.Cited.{All-nil, IsDumpOf, IsFreshAnswer, log, placement_of, ready_none, states_of}
 use Rattle.cj_state.proofs.Resting.{kept_opened, core_opened}
-use Rattle.cj_state.proofs.HeardOf.{ready_none}
 use Rattle.cj_state.proofs.state.State.new.Goals as goal
 
 pub invariant_of-result : goal.invariant_of-result

@@ -1,7 +1,5 @@
 use Rattle.std.proofs.Common.{◌≡◌, true, Some, ap, sym, ◌∙◌, subst}
-use Rattle.cj_state.proofs.Common.{CoreInvariant, find_session, is_open, IsFitEntry, log, open_tx, states_of, tx_of_act, WorldState}
-use Rattle.cj_state.proofs.OpenNumbers.{open_is}
-use Rattle.cj_state.proofs.Scheduling.{next_is, next_fits}
+use Rattle.cj_state.proofs.Cited.{CoreInvariant, IsFitEntry, WorldState, find_session, is_open, log, next_fits, next_is, open_is, open_tx, states_of, tx_of_act}
 use Rattle.cj_state.proofs.state.State.next_entry.Goals as goal
 
 pub open_tx-requires : goal.open_tx-requires

@@ -1,6 +1,5 @@
 use Rattle.std.proofs.Common.{◌≡◌, true, sym, ◌∙◌, subst}
-use Rattle.cj_state.proofs.Common.{is_open, states_of, WorldState}
-use Rattle.cj_state.proofs.OpenNumbers.{open_is}
+use Rattle.cj_state.proofs.Cited.{WorldState, is_open, open_is, states_of}
 use Rattle.cj_state.proofs.state.State.open_tx.Goals as goal
 
 pub open_tx-requires : goal.open_tx-requires

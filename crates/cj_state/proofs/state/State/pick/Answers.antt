@@ -1,7 +1,5 @@
 use Rattle.std.proofs.Common.{sym, subst}
-use Rattle.cj_state.proofs.Common.{board_id, BookState, KeptFresh, pass_board, states_of, world_of}
-use Rattle.cj_book.proofs.Serving.{picked_below}
-use Rattle.cj_state.proofs.SeatsKept.{seats_same}
+use Rattle.cj_state.proofs.Cited.{BookState, KeptFresh, board_id, pass_board, picked_below, seats_same, states_of, world_of}
 use Rattle.cj_state.proofs.state.State.pick.Goals as goal
 
 pub ended-requires-clause-below : goal.ended-requires-clause-below

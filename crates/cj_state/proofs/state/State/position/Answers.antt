@@ -1,6 +1,5 @@
 use Rattle.std.proofs.Common.{◌≡◌, ◌<◌, Some, List, length, slice_get, ap, sym, ◌∙◌}
-use Rattle.cj_state.proofs.Common.{position_at, SeatedCell, slice_get-get_or, WorldState}
-use Rattle.cj_state.proofs.HeardOf.{stands_in}
+use Rattle.cj_state.proofs.Cited.{SeatedCell, WorldState, position_at, slice_get-get_or, stands_in}
 use Rattle.cj_state.proofs.state.State.position.Goals as goal
 
 pub returns-in-Some : goal.returns-in-Some

@@ -1,7 +1,5 @@
 use Rattle.std.proofs.Common.{◌≡◌, false, sym, subst}
-use Rattle.cj_state.proofs.Common.{board_id, is_waiting, pass_board, states_of, WorldState}
-use Rattle.cj_state.proofs.Keeping.{kept_closed}
-use Rattle.cj_state.proofs.SeatsKept.{seats_same}
+use Rattle.cj_state.proofs.Cited.{WorldState, board_id, is_waiting, kept_closed, pass_board, seats_same, states_of}
 use Rattle.cj_state.proofs.state.State.remove_session.Goals as goal
 
 pub invariant_of-self : goal.invariant_of-self

@@ -1,9 +1,7 @@
 use Rattle.std.proofs.Common.{◌≡◌, ◌≢◌, None, bit_and, sym, subst, rules}
-use Rattle.cj_state.proofs.Common.{first_lagging, states_of, WorldState}
+use Rattle.cj_state.proofs.Cited.{AnswersOpen, WorldState, first_lagging, heard, states_of, unfinished, unneeded}
 use Rattle.cj_model.specs.declared.answer.Outcome.TheVariants as outcome
 use Rattle.cj_model.specs.declared.answer.Reply.TheVariants as reply
-use Rattle.cj_state.specs.Effects.{AnswersOpen}
-use Rattle.cj_state.proofs.Ending.{unfinished, heard, unneeded}
 use Rattle.cj_state.proofs.state.State.reply.Goals as goal
 use Rattle.cj_state.proofs.state.State.reply.Goals.{else-targets-ne0-via-then-targets-ne0+else-targets-left-eq0, else-targets-ne0-via-else-targets-ne0}
 

@@ -1,11 +1,5 @@
 use Rattle.std.proofs.Common.{◌≡◌, arith, inr, Ok, Err, true, ap, sym, ◌∙◌, subst, refl, Some}
-use Rattle.cj_state.proofs.Common.{abort_entry, board_id, Entry, event_or_fault, FollowsLog, is_orphan, IsFitEntry, log, LogFailed, pass_board, placement_of, Sched, SchedulesAs, states_of, WorldState}
-use Rattle.cj_state.proofs.Keeping.{kept_aborted}
-use Rattle.cj_state.proofs.OpenNumbers.{orphan_is}
-use Rattle.cj_state.proofs.Noting.{follows_scheduled, follows_unscheduled, kept_unscheduled, scheduled_as, not_scheduled}
-use Rattle.cj_state.proofs.Dumped.{dumps_entry}
-use Rattle.cj_state.proofs.Fresh.{fresh_entry}
-use Rattle.cj_state.proofs.SeatsKept.{counted, quiet_or_fault, seats_after, seats_cleared}
+use Rattle.cj_state.proofs.Cited.{Entry, FollowsLog, IsFitEntry, LogFailed, Sched, SchedulesAs, WorldState, abort_entry, board_id, counted, dumps_entry, event_or_fault, follows_scheduled, follows_unscheduled, fresh_entry, is_orphan, kept_aborted, kept_unscheduled, log, not_scheduled, orphan_is, pass_board, placement_of, quiet_or_fault, scheduled_as, seats_after, seats_cleared, states_of}
 use Rattle.cj_state.proofs.state.State.schedule_abort.Goals as goal
 
 pub schedule-requires-clause-known : goal.schedule-requires-clause-known

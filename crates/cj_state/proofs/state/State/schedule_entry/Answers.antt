@@ -1,11 +1,5 @@
 use Rattle.std.proofs.Common.{◌≡◌, ◌+◌, ◌≤◌, ℕ, arith, inl, Ok, Err, None, true, ap, sym, ◌∙◌, subst, refl, Some}
-use Rattle.cj_state.proofs.Common.{board_id, Core, core_of, event_or_fault, FollowsLog, has_session, is_open, IsFitEntry, log, LogFailed, pass_board, placement_of, Sched, SchedulesAs, session_at, session_sound, states_of, WorldState}
-use Rattle.cj_state.proofs.Keeping.{kept_scheduled}
-use Rattle.cj_state.proofs.OpenNumbers.{open_is}
-use Rattle.cj_state.proofs.Noting.{follows_scheduled, follows_unscheduled, kept_unscheduled, scheduled_as, not_scheduled}
-use Rattle.cj_state.proofs.Dumped.{dumps_entry}
-use Rattle.cj_state.proofs.Fresh.{fresh_entry}
-use Rattle.cj_state.proofs.SeatsKept.{counted, quiet_or_fault, seats_after, seats_cleared}
+use Rattle.cj_state.proofs.Cited.{Core, FollowsLog, IsFitEntry, LogFailed, Sched, SchedulesAs, WorldState, board_id, core_of, counted, dumps_entry, event_or_fault, follows_scheduled, follows_unscheduled, fresh_entry, has_session, is_open, kept_scheduled, kept_unscheduled, log, not_scheduled, open_is, pass_board, placement_of, quiet_or_fault, scheduled_as, seats_after, seats_cleared, session_at, session_sound, states_of}
 use Rattle.cj_state.proofs.state.State.schedule_entry.Goals as goal
 
 pub schedule-requires-clause-known : goal.schedule-requires-clause-known

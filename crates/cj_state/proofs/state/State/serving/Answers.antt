@@ -1,6 +1,5 @@
 use Rattle.std.proofs.Common.{List, sym, ap, ◌∙◌, ℕ}
-use Rattle.cj_state.proofs.Common.{is_candidate, WorldState}
-use Rattle.cj_state.proofs.Serving.{candidates_serve}
+use Rattle.cj_state.proofs.Cited.{WorldState, candidates_serve, is_candidate}
 use Rattle.cj_state.proofs.state.State.serving.Goals as goal
 
 pub returns-clause-mask : goal.returns-clause-mask

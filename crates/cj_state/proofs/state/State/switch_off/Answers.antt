@@ -1,10 +1,5 @@
 use Rattle.std.proofs.Common.{◌≡◌, ℕ, ◌<◌, true, sym, subst, refl}
-use Rattle.cj_state.proofs.Common.{board_id, BookState, Disabled, event_at_ok, HadRoom, is_enabled, is_idle, KeptFresh, pass_board, placement_of, states_of, world_of, WorldState}
-use Rattle.cj_state.proofs.KeepingEvents.{kept_disabled}
-use Rattle.cj_state.proofs.Noting.{noted, had_room}
-use Rattle.cj_state.proofs.Dumped.{dumps_event}
-use Rattle.cj_state.proofs.Fresh.{fresh_event}
-use Rattle.cj_state.proofs.SeatsKept.{quiet_ok, seats_after}
+use Rattle.cj_state.proofs.Cited.{BookState, Disabled, HadRoom, KeptFresh, WorldState, board_id, dumps_event, event_at_ok, fresh_event, had_room, is_enabled, is_idle, kept_disabled, noted, pass_board, placement_of, quiet_ok, seats_after, states_of, world_of}
 use Rattle.cj_state.proofs.state.State.switch_off.Goals as goal
 
 pub invariant_of-self : goal.invariant_of-self

@@ -1,12 +1,5 @@
 use Rattle.std.proofs.Common.{◌≡◌, ℕ, ◌<◌, ◌∙◌, true, false, List, Some, length, map, sym, subst, refl}
-use Rattle.cj_state.proofs.Common.{board_id, BookState, CellState, Enabled, event_at_ok, HadRoom, is_enabled, is_idle, is_there, KeptFresh, length-map, log, pass_board, placement_of, position_at, position_in, SeatedCell, states_of, world_of, WorldState}
-use Rattle.cj_state.proofs.KeepingEvents.{kept_enabled}
-use Rattle.cj_state.proofs.Noting.{noted, had_room}
-use Rattle.cj_state.proofs.Dumped.{dumps_event}
-use Rattle.cj_state.proofs.Fresh.{fresh_event}
-use Rattle.cj_book.specs.Events.{Appends}
-use Rattle.cj_state.proofs.HeardOf.{ready_heard}
-use Rattle.cj_state.proofs.SeatsKept.{quiet_ok, seats_after}
+use Rattle.cj_state.proofs.Cited.{Appends, BookState, CellState, Enabled, HadRoom, KeptFresh, SeatedCell, WorldState, board_id, dumps_event, event_at_ok, fresh_event, had_room, is_enabled, is_idle, is_there, kept_enabled, length-map, log, noted, pass_board, placement_of, position_at, position_in, quiet_ok, ready_heard, seats_after, states_of, world_of}
 use Rattle.cj_state.proofs.state.State.switch_on.Goals as goal
 
 pub invariant_of-self : goal.invariant_of-self

@@ -1,11 +1,5 @@
 use Rattle.std.proofs.Common.{◌≡◌, ◌+◌, None, Ok, sym, subst}
-use Rattle.cj_state.proofs.Common.{core_of, not_now, position_at, position_or_zero, Replays, states_of, WorldState}
-use Rattle.cj_cluster.specs.declared.moves.Move.TheVariants.{Replay}
-use Rattle.cj_cluster.specs.declared.moves.Moved.TheVariants.{Replayed}
-use Rattle.cj_cluster.proofs.Now.{CanReplay, can_replay}
-use Rattle.cj_state.proofs.Catching.{can_take}
-use Rattle.cj_state.proofs.Taking.{kept_replayed, replays, took_counts, took_armings, took_logins}
-use Rattle.cj_state.proofs.HeardOf.{ready_heard}
+use Rattle.cj_state.proofs.Cited.{CanReplay, Replay, Replayed, Replays, WorldState, can_replay, can_take, core_of, kept_replayed, not_now, position_at, position_or_zero, ready_heard, replays, states_of, took_armings, took_counts, took_logins}
 use Rattle.cj_state.proofs.state.State.take_next.Goals as goal
 
 pub take-requires-clause-can : goal.take-requires-clause-can

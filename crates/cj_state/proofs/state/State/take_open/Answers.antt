@@ -1,11 +1,5 @@
 use Rattle.std.proofs.Common.{◌≡◌, None, Ok, sym, subst}
-use Rattle.cj_state.proofs.Common.{Applies, core_of, not_now, position_at, position_or_zero, states_of, WorldState}
-use Rattle.cj_cluster.specs.declared.moves.Move.TheVariants.{Apply}
-use Rattle.cj_cluster.specs.declared.moves.Moved.TheVariants.{Applied}
-use Rattle.cj_cluster.proofs.Now.{CanApply, can_apply}
-use Rattle.cj_state.proofs.Catching.{can_take}
-use Rattle.cj_state.proofs.Taking.{kept_applied, applies, took_counts, took_armings, took_logins}
-use Rattle.cj_state.proofs.HeardOf.{ready_taken}
+use Rattle.cj_state.proofs.Cited.{Applied, Applies, Apply, CanApply, WorldState, applies, can_apply, can_take, core_of, kept_applied, not_now, position_at, position_or_zero, ready_taken, states_of, took_armings, took_counts, took_logins}
 use Rattle.cj_state.proofs.state.State.take_open.Goals as goal
 
 pub take-did-requires-clause-can : goal.take-did-requires-clause-can

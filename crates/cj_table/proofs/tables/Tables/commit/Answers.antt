@@ -1,6 +1,5 @@
 use Rattle.std.proofs.Common.{sym, subst}
-use Rattle.cj_model.specs.Database.Tables.{IsDatabase}
-use Rattle.cj_model.proofs.DatabaseLaws.{committed_keeps}
+use Rattle.cj_table.proofs.Cited.{IsDatabase, committed_keeps}
 use Rattle.cj_table.proofs.tables.Tables.commit.Goals as goal
 
 pub invariant_of-self : goal.invariant_of-self

@@ -1,6 +1,4 @@
-use Rattle.cj_model.specs.Database.Steps.{created}
-use Rattle.cj_model.proofs.DatabaseLaws.{created_keeps}
-use Rattle.cj_table.proofs.CarriedLaws.{carried_is_database}
+use Rattle.cj_table.proofs.Cited.{carried_is_database, created, created_keeps}
 use Rattle.cj_table.proofs.tables.Tables.create.Goals as goal
 
 pub invariant_of-self : goal.invariant_of-self

@@ -1,6 +1,5 @@
 use Rattle.std.proofs.Common.{sym, subst}
-use Rattle.cj_model.specs.Database.Tables.{IsDatabase}
-use Rattle.cj_model.proofs.DatabaseLaws.{dropped_keeps}
+use Rattle.cj_table.proofs.Cited.{IsDatabase, dropped_keeps}
 use Rattle.cj_table.proofs.tables.Tables.drop_table.Goals as goal
 
 pub invariant_of-self : goal.invariant_of-self

@@ -1,7 +1,5 @@
 use Rattle.std.proofs.Common.{◌≡◌, List, sym, subst, ap, ◌∙◌}
-use Rattle.std.specs.Prelude.{IfSome}
-use Rattle.cj_table.proofs.Common.{IsSlot, Option, Slot, slot_of, Some}
-use Rattle.cj_model.proofs.DatabaseLaws.{found_is_slot}
+use Rattle.cj_table.proofs.Cited.{IfSome, IsSlot, Option, Slot, Some, found_is_slot, slot_of}
 use Rattle.cj_table.proofs.tables.Tables.view.Goals as goal
 
 pub of-requires : goal.of-requires

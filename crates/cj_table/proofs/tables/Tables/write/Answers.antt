@@ -1,6 +1,4 @@
-use Rattle.cj_model.specs.Database.Steps.{written}
-use Rattle.cj_table.proofs.CarriedLaws.{carried_is_database}
-use Rattle.cj_model.proofs.DatabaseLaws.{written_keeps}
+use Rattle.cj_table.proofs.Cited.{carried_is_database, written, written_keeps}
 use Rattle.cj_table.proofs.tables.Tables.write.Goals as goal
 
 pub invariant_of-self : goal.invariant_of-self

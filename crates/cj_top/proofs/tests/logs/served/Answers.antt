@@ -1,6 +1,5 @@
 use Rattle.std.proofs.Common.{◌≡◌, [], List, ℕ, Option, Some, refl}
-use Rattle.cj_top.proofs.Common.{fresh_state, MemoryState, Slot}
-use Rattle.cj_top.proofs.NewBackends.{all_alike}
+use Rattle.cj_top.proofs.Cited.{MemoryState, Slot, all_alike, fresh_state}
 use Rattle.cj_top.proofs.tests.logs.served.Goals as goal
 
 pub pipe-requires-clause-empty : goal.pipe-requires-clause-empty

@@ -1,0 +1,28 @@
+-- The names that answers of this crate cite, its own lemmas among them, passed on from one place. Declares nothing.
+pub use Rattle.cj_board.specs.Seats.{book_board}
+pub use Rattle.cj_board.specs.Steps.{HasPositionNotes, after_learning}
+pub use Rattle.cj_board.specs.Views.{pass_of}
+pub use Rattle.cj_book.proofs.Announcing.{no_counts, one_token, opening_comes, opening_seen, seen_after}
+pub use Rattle.cj_book.proofs.Begun.{followed, numbers_before, taken_off}
+pub use Rattle.cj_book.proofs.Common.{BookSession, BookState, CanCount, Disabled, Enabled, Ended, Entry, Event, HasBadEntry, HasCountNotes, HasCountedLogFaults, IsBeforeOrAfter, IsKeptIn, IsLegal, IsOfKnown, IsOpening, IsPlaceOf, IsRecovered, KeepsMarkers, KeepsTransactions, LeavesItems, LeavesOnly, LogError, LogFailed, LogItem, Marker, OpenTransaction, OpensTo, ReadFailed, Recovered, Refuses, Sched, SeatView, SeatedBook, Starts, added_name, after_append, after_join, and_parts, answers_always, book_after, book_view, both_ways, bytes_eq, contains, entry_item, event_count_of, event_or_fault, has_session, has_table, has_written, hearing, history, hosts, hosts_all, in_mask, is_enabled, is_written_in, items_of, last_write_failed, legal_fit, legal_prefix, legal_push, log, log-same, log-sched, marked_more, marked_same, marker_cmp, marker_item, named, needs, next_session, numbered, own_view, pass_after, pass_view, pass_without_tokens, placement_at, placement_of, request_of, session_number, sessions_after, told_book, told_pass, transactions_after, tx_number, tx_of}
+pub use Rattle.cj_book.proofs.Counted.{opening_counted}
+pub use Rattle.cj_book.proofs.Following.{follows_closed, follows_log_failed, follows_marker, follows_sched, given_session, tx_open}
+pub use Rattle.cj_book.proofs.Keeping.{kept_disabled, kept_enabled, kept_ended, kept_log_failed, kept_marker, kept_read_failed, kept_sched, kept_wanting}
+pub use Rattle.cj_book.proofs.Logged.{gate_shut, items_marker, items_sched, kept_in, shut_where}
+pub use Rattle.cj_book.proofs.Named.{removed_name, taken_back}
+pub use Rattle.cj_book.proofs.Numbered.{changed, changed_rises, found_among, numbers_without, removed, removed_rises, rises_push, searched, unchanged, unremoved}
+pub use Rattle.cj_book.proofs.Owned.{closed_out, entry_counts, failure_counts, low_sessions, opening_gives, own_can_count, own_front, own_gives, own_same, scheduled_own, schedules_greatest, still_own}
+pub use Rattle.cj_book.proofs.Recovering.{follows_opening, keeps_opened, none_marked, none_scheduled, recovers_same, recovers_sched}
+pub use Rattle.cj_book.proofs.Scheduling.{always, no_other, not_full, not_open, not_unserved, unchecked, unprepared}
+pub use Rattle.cj_book.proofs.Serving.{candidates_more, mask_below, served_by_some, servers_of}
+pub use Rattle.cj_book.proofs.Starting.{Begins, items_refused}
+pub use Rattle.cj_book.proofs.TransactionSteps.{concerns_tx, numbers_after, orphan_found, orphan_none}
+pub use Rattle.cj_book.proofs.Unasked.{gate_refuses, not_ok, wanting}
+pub use Rattle.cj_book.proofs.Written.{none_written, put_has, written_more}
+pub use Rattle.cj_book.specs.Lists.{new_session, new_tx}
+pub use Rattle.cj_book.specs.declared.counter.Counter.{Counter}
+pub use Rattle.cj_book.specs.declared.error.StartError.{StartError}
+pub use Rattle.cj_freshness.proofs.Fresh.{by_tables}
+pub use Rattle.cj_freshness.specs.Freshness.{NoneTouches, without_touched}
+pub use Rattle.cj_opening.specs.declared.error.OpeningError.TheVariants.{BadEntry}
+pub use Rattle.std.proofs.Math.Nat.{min-eq_left, min-le_left}
