@@ -10,7 +10,7 @@ use crate::lite_backend::remove;
 use cj_audit::append_backend;
 use cj_backend::Backend;
 use cj_mem::MemBackend;
-use cj_model::{Asked, Duplicate, Name, Outcome, Request, Same, Text, Write};
+use cj_model::{AnswerRows, Asked, Duplicate, Name, Outcome, Request, Same, Text, Write};
 use cj_sql::{is_plain, read};
 use cj_table::Tables;
 use std::alloc::Global;
@@ -146,12 +146,23 @@ enum Came {
     Asked(Asked),
 }
 
+fn are_same(rows: &AnswerRows, others: &AnswerRows) -> bool {
+    let mut others = others.iter();
+    for row in rows.iter() {
+        match others.next() {
+            Some(other) if row == other => {}
+            _ => return false,
+        }
+    }
+    others.next().is_none()
+}
+
 fn is_same(one: &Came, other: &Came) -> bool {
     match (one, other) {
         (Came::Ended, Came::Ended) => true,
         (Came::To(one), Came::To(other)) => one == other,
         (Came::Asked(Asked::Rows(one)), Came::Asked(Asked::Rows(other))) => {
-            one.columns.is_same(&other.columns) && one.rows.is_same(&other.rows)
+            one.columns.is_same(&other.columns) && are_same(&one.rows, &other.rows)
         }
         (Came::Asked(Asked::Refused(one)), Came::Asked(Asked::Refused(other))) => one == other,
         _ => false,

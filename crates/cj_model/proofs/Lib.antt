@@ -3,6 +3,7 @@ pub mod BalanceLaws
 pub mod CachingLaws
 pub mod Columns
 pub mod Common
+pub mod CutLaws
 pub mod DatabaseLaws
 pub mod FaultLaws
 pub mod Fields

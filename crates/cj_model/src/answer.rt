@@ -1,8 +1,9 @@
 //! What requests and messages are answered.
 
-use crate::database::Rows;
+use crate::lists::ListsOf;
 use crate::memory::{Duplicate, NoMemory};
 use crate::name::Names;
+use crate::value::Value;
 use std::alloc::Global;
 
 /// A refusal by its code (`codes`), with two numbers that the code gives a meaning.
@@ -25,11 +26,14 @@ impl Refusal {
     }
 }
 
+/// The rows of an answer, in one memory.
+pub type AnswerRows = ListsOf<Value>;
+
 /// The rows of a query: one value for each column.
 #[derive(Drop)]
 pub struct Answer {
     pub columns: Names,
-    pub rows: Rows,
+    pub rows: AnswerRows,
 }
 
 /// A reply to a client's message.

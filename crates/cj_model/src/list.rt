@@ -1,6 +1,6 @@
 //! The one list type behind all lists of the vocabulary.
 
-ghost use Rattle.std.specs.Prelude.{◌≡◌, ◌↔◌, ◌≤◌, List, [], ◌∷◌, ◌++◌, insert, length, IsTrue, OnOk, OnErr, Some, None};
+ghost use Rattle.std.specs.Prelude.{◌≡◌, ◌↔◌, ◌≤◌, List, [], ◌∷◌, ◌++◌, insert, length, IfOk, IsTrue, OnOk, OnErr, Some, None};
 
 use crate::memory::{Duplicate, NoMemory};
 use std::alloc::Global;
@@ -110,12 +110,21 @@ impl<T: Drop> ListOf<T> {
     }
 }
 
+/// Copies of the items, in memory for just so many.
+pub fn copies<T: Duplicate + Drop>(alloc: Global, items: &[T]) -> Result<Vec<T>, NoMemory>
+    ensures { IfOk result (λ copies. copies.items ≡ items.now) }
+{
+    let mut out = Vec::with_capacity(alloc, items.len())?;
+    for item in items {
+        out.push(item.copy(alloc)?)?;
+    }
+    Ok(out)
+}
+
 impl<T: Duplicate + Drop> Duplicate for ListOf<T> {
     fn copy(&self, alloc: Global) -> Result<Self, NoMemory> {
-        let mut items = Vec::with_capacity(alloc, self.items.len())?;
-        for item in &self.items {
-            items.push(item.copy(alloc)?)?;
-        }
-        Ok(ListOf { items })
+        Ok(ListOf {
+            items: copies(alloc, &self.items)?,
+        })
     }
 }

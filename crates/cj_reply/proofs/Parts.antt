@@ -1,8 +1,10 @@
 -- Parts one after another, counted and spelled.
-use Rattle.std.proofs.Common.{◌≡◌, ap, ℕ, suc, ◌+◌, ◌<◌, ◌≤◌, List, [], ◌∷◌, ◌++◌, length, get_or, arith, length-append}
+use Rattle.std.proofs.Common.{◌≡◌, refl, ap, sym, ◌∙◌, ℕ, suc, ◌+◌, ◌<◌, ◌≤◌, List, [], ◌∷◌, ◌++◌, length, get_or, arith, length-append}
 use Rattle.std.specs.List.{flat_map, All}
 use Rattle.std.specs.Int.{w32, to_be_bytes}
 use Rattle.std.proofs.lemmas.Bool.{and_parts, leb-true}
+use Rattle.std.proofs.lemmas.Grind.{flat_map-append}
+use Rattle.std.proofs.lemmas.List.Concat.{flat_map-cons}
 use Rattle.std.proofs.lemmas.List.Folds.{length-flat_map-take}
 use Rattle.cj_model.specs.declared.answer.Answer.{Answer}
 use Rattle.cj_model.specs.declared.answer.Reply.TheVariants.{Rows}
@@ -15,6 +17,13 @@ use Rattle.cj_model.specs.Wire.Replies.{value_bytes, row_bytes, reply_length, Is
 -- a part is no longer than all of them
 pub part_within : {X : Type 0} (f : X → List ℕ) (xs : List X) (i most : ℕ) (x : X) → i < length xs → x ≡ get_or xs i x → length (flat_map f xs) ≤ most → length (f x) ≤ most
 part_within f xs i most x h is all = omega (arith, length-flat_map-take f xs i x h, ap (λ y. length (f y)) is)
+
+-- the parts of lists, one list behind another
+pub parts_together : {X : Type 0} (f : X → List ℕ) (lists : List (List X)) → flat_map f (flat_map (λ list. list) lists) ≡ flat_map (flat_map f) lists
+parts_together f [] = refl
+parts_together f (l ∷ ls) =
+    ap (flat_map f) (flat_map-cons (λ list. list) l ls) ∙ flat_map-append f l (flat_map (λ list. list) ls)
+    ∙ ap (λ bytes. flat_map f l ++ bytes) (parts_together f ls) ∙ sym (flat_map-cons (flat_map f) l ls)
 
 -- parts that have bytes are no more than all of their bytes
 pub count_within : {X : Type 0} (f : X → List ℕ) (xs : List X) → All (λ x. 0 < length (f x)) xs → length xs ≤ length (flat_map f xs)

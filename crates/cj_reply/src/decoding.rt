@@ -7,7 +7,7 @@ ghost use Rattle.cj_reply.specs.Proving.ReplyFormats as formats;
 
 use crate::reply::ReplyError;
 use cj_codec::{CodecError, Field, NameField, Reader, Repeated, ValueField, read_whole};
-use cj_model::{Answer, FRAME_LIMIT, Names, Refusal, Reply};
+use cj_model::{Answer, AnswerRows, FRAME_LIMIT, Names, Refusal, Reply};
 use std::alloc::Global;
 
 impl From<CodecError> for ReplyError {
@@ -44,6 +44,7 @@ fn take_answer(reader: &mut Reader<'_>, alloc: Global) -> Result<Answer, CodecEr
         count: columns.len() as u64,
     };
     let rows = reader.list32(alloc, &row)?;
+    let rows = AnswerRows::of(alloc, rows)?;
     Ok(Answer { columns, rows })
 }
 

@@ -7,9 +7,9 @@ ghost use Rattle.cj_model.specs.Wire.Replies.{value_bytes};
 ghost use Rattle.cj_reply.specs.Encode.{capped};
 
 use cj_codec::{put_str16, put_value};
-use cj_model::{FRAME_LIMIT, ListOf, Name, NoMemory, Value};
+use cj_model::{FRAME_LIMIT, ListOf, ListsOf, Name, NoMemory, Value};
 
-/// A part of a payload: a name behind its length, a value behind its kind, or a list of such parts.
+/// A part of a payload: a name behind its length, a value behind its kind, or a list of such parts or of lists of them.
 pub trait Part {
     ghost bytes: { Self → List ℕ };
 
@@ -50,21 +50,49 @@ impl Part for Value {
     }
 }
 
+/// How many bytes the parts have; 2^64-1 where there are more.
+fn parts_size<T: Part>(parts: &[T]) -> u64
+    ensures { result ≡ capped (length (flat_map T.bytes parts.now)) }
+{
+    let mut total: u64 = 0;
+    for part in parts {
+        total = total.saturating_add(part.size());
+    }
+    total
+}
+
+fn append_parts<T: Part>(frame: &mut Vec<u8>, parts: &[T]) -> Result<(), NoMemory>
+    requires { length (flat_map T.bytes parts.now) ≤ FRAME_LIMIT }
+    ensures { OnOk result (frame.new.items ≡ frame.old.items ++ flat_map T.bytes parts.now) }
+{
+    for part in parts {
+        part.append(frame)?;
+    }
+    Ok(())
+}
+
 impl<T: Part> Part for ListOf<T> {
     ghost bytes = { flat_map T.bytes };
 
     fn size(&self) -> u64 {
-        let mut total: u64 = 0;
-        for part in self.as_slice() {
-            total = total.saturating_add(part.size());
-        }
-        total
+        parts_size(self.as_slice())
     }
 
     fn append(&self, frame: &mut Vec<u8>) -> Result<(), NoMemory> {
-        for part in self.as_slice() {
-            part.append(frame)?;
-        }
-        Ok(())
+        append_parts(frame, self.as_slice())
+    }
+}
+
+impl<T: Part> Part for ListsOf<T> {
+    ghost bytes = { flat_map (flat_map T.bytes) };
+
+    #[tactic(auto, using(crate::proofs::Parts::parts_together))]
+    fn size(&self) -> u64 {
+        parts_size(self.items())
+    }
+
+    #[tactic(auto, using(crate::proofs::Parts::parts_together))]
+    fn append(&self, frame: &mut Vec<u8>) -> Result<(), NoMemory> {
+        append_parts(frame, self.items())
     }
 }

@@ -6,7 +6,7 @@ ghost use Rattle.cj_cluster.specs.Script.Lines.{did_text, with_line_feed, moved_
 ghost use Rattle.cj_cluster.specs.Script.Lines as lines;
 
 use cj_cluster::{Did, Made, Moved, Why};
-use cj_model::{Answer, Names, NoMemory, Outcome, Refusal, Reply, Row, Value};
+use cj_model::{AnswerRows, Names, NoMemory, Outcome, Refusal, Reply, Value};
 use cj_print::write_value;
 use std::alloc::Global;
 
@@ -114,13 +114,12 @@ fn append_row(alloc: Global, lines: &mut Vec<u8>, mut values: &[Value]) -> Resul
 }
 
 /// Adds a line for each of the rows.
-fn append_rows(alloc: Global, lines: &mut Vec<u8>, mut rows: &[Row]) -> Result<(), NoMemory>
-    ensures { OnOk result (lines.new.items ≡ lines.old.items ++ flat_map (λ row. with_line_feed (row_text row)) rows.entry.now) }
+fn append_rows(alloc: Global, lines: &mut Vec<u8>, rows: &AnswerRows) -> Result<(), NoMemory>
+    ensures { OnOk result (lines.new.items ≡ lines.old.items ++ flat_map (λ row. with_line_feed (row_text row)) rows.now) }
 {
-    while let [row, rest @ ..] = rows {
-        append_row(alloc, lines, row.as_slice())?;
+    for row in rows.iter() {
+        append_row(alloc, lines, row)?;
         lines.push(b'\n')?;
-        rows = rest;
     }
     Ok(())
 }
@@ -131,7 +130,7 @@ fn print_moved(alloc: Global, names: &Names, moved: &Moved) -> Result<Vec<u8>, N
     let mut lines = moved_words(alloc, names, moved)?;
     lines.push(b'\n')?;
     if let Moved::Rows(answer) = moved {
-        append_rows(alloc, &mut lines, answer.rows.as_slice())?;
+        append_rows(alloc, &mut lines, &answer.rows)?;
     }
     Ok(lines)
 }

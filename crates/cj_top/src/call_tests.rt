@@ -7,8 +7,8 @@ use cj_cache::Cache;
 use cj_dump::{DumpError, decode};
 use cj_expr::{BindError, Scope, bind, bind_expr};
 use cj_model::{
-    Account, Answer, Column, Cond, Kind, Level, ListOf, NO_COLUMN, Name, PlaceRow, Request, Schema,
-    Select, TableSet, Text, USER_LIMIT, Value, Write,
+    Account, Answer, AnswerRows, Column, Cond, Kind, Level, ListOf, NO_COLUMN, Name, PlaceRow,
+    Request, Schema, Select, TableSet, Text, USER_LIMIT, Value, Write,
 };
 use cj_place::Placement;
 use cj_print::write_sql;
@@ -223,10 +223,12 @@ fn a_user_is_let_in(rt: HostRuntime) -> Result<(), Fail> {
 
 /// The row of one value.
 fn answer(rt: &impl Abort, alloc: Global, value: i64) -> Result<Answer, Fail> {
+    let mut rows = AnswerRows::new(alloc);
     let row = ListOf::from_vec(Vec::from_array(alloc, [Value::Int(value)])?);
+    assert!(rt; rows.push(row).is_ok());
     Ok(Answer {
         columns: ListOf::from_vec(Vec::from_array(alloc, [name(rt, "v")])?),
-        rows: ListOf::from_vec(Vec::from_array(alloc, [row])?),
+        rows,
     })
 }
 

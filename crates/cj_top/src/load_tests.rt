@@ -50,10 +50,8 @@ fn totals<B: Backend>(
     match backend.ask(login, tx, &select) {
         Ok(Asked::Rows(answer)) => {
             let mut totals = Vec::new(alloc);
-            for row in answer.rows.as_slice() {
-                for value in row.as_slice() {
-                    totals.push(value.copy(alloc)?)?;
-                }
+            for value in answer.rows.items() {
+                totals.push(value.copy(alloc)?)?;
             }
             Ok(totals)
         }

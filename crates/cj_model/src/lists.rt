@@ -1,0 +1,165 @@
+//! Lists of one type, one behind another in one memory.
+
+ghost use Rattle.std.specs.Prelude.{◌≡◌, [], ◌∷◌, ◌++◌, length, take, drop, IfOk, OnOk};
+ghost use Rattle.std.specs.List.{flat_map};
+ghost use Rattle.std.specs.Iterator.{YieldsFirstRef, item_count};
+
+use crate::list::{ListOf, copies};
+use crate::memory::{Duplicate, NoMemory};
+use std::alloc::Global;
+use std::marker::Model;
+
+/// Lists in one memory, which contracts see as a list of lists. Each takes the memory of its items and of a number.
+#[derive(Drop)]
+pub struct ListsOf<T> {
+    items: Vec<T>,
+    /// How many of the items are each list's.
+    lengths: Vec<usize>,
+}
+
+/// The lists, one after another, which contracts see as those that are left.
+#[derive(Drop)]
+pub struct Walk<'a, T> {
+    items: &'a [T],
+    lengths: &'a [usize],
+}
+
+impl<T> Model for ListsOf<T> {
+    ghost use Rattle.std.specs.Prelude.{List};
+    ghost use Rattle.std.specs.Coded.{coded_list};
+    ghost use Rattle.cj_model.specs.Proving.Cuts.{cut, AreCut};
+
+    ghost Value = { List (List T) };
+
+    ghost coded = { coded_list (coded_list T.code) };
+
+    ghost view = { λ lists. cut lists.lengths.items lists.items.items };
+
+    ghost invariant = { λ lists. AreCut lists.lengths.items lists.items.items };
+}
+
+impl<'a, T> Model for Walk<'a, T> {
+    ghost use Rattle.std.specs.Prelude.{List};
+    ghost use Rattle.std.specs.Coded.{coded_list};
+    ghost use Rattle.cj_model.specs.Proving.Cuts.{cut, AreCut};
+
+    ghost Value = { List (List T) };
+
+    ghost coded = { coded_list (coded_list T.code) };
+
+    ghost view = { λ walk. cut walk.lengths.now walk.items.now };
+
+    ghost invariant = { λ walk. AreCut walk.lengths.now walk.items.now };
+}
+
+impl<T: Drop> ListsOf<T> {
+    /// No lists, which take no memory.
+    pub fn new(alloc: Global) -> Self
+        ensures { result ≡ [] }
+    {
+        ListsOf {
+            items: Vec::new(alloc),
+            lengths: Vec::new(alloc),
+        }
+    }
+
+    /// Adds a list at the end; want of memory leaves the others as they were.
+    pub fn push(&mut self, list: ListOf<T>) -> Result<(), NoMemory>
+        ensures { OnOk result (self.new ≡ self.old ++ list ∷ []) }
+    {
+        let length = list.len();
+        let mut items = list.into_vec();
+        self.lengths.reserve(1)?;
+        self.items.append(&mut items)?;
+        self.lengths.push_reserved(length);
+        Ok(())
+    }
+
+    /// Leaves at most so many lists, from the front.
+    pub fn truncate(&mut self, count: usize)
+        ensures { self.new ≡ take count self.old }
+    {
+        let behind = self.behind(count);
+        let kept = self.items().len() - behind;
+        self.lengths.truncate(count);
+        self.items.truncate(kept);
+    }
+
+    /// The lists, which are moved out of their memory.
+    pub fn of(alloc: Global, lists: ListOf<ListOf<T>>) -> Result<Self, NoMemory>
+        ensures { IfOk result (λ made. made ≡ lists) }
+    {
+        let mut made = ListsOf::new(alloc);
+        for list in lists.into_vec() {
+            made.push(list)?;
+        }
+        Ok(made)
+    }
+}
+
+impl<T> ListsOf<T> {
+    #[tactic(auto, using(crate::proofs::CutLaws::cut_count))]
+    pub fn len(&self) -> usize
+        ensures { result ≡ length self.now }
+    {
+        self.lengths.len()
+    }
+
+    /// The items of all lists, one behind another.
+    #[tactic(auto, using(crate::proofs::CutLaws::cut_together))]
+    pub fn items(&self) -> &[T]
+        ensures { result.now ≡ flat_map (λ list. list) self.now }
+    {
+        &self.items
+    }
+
+    /// How many items stand behind the first lists.
+    fn behind(&self, count: usize) -> usize
+        ensures { result ≡ length (flat_map (λ list. list) (drop count self.now)) }
+    {
+        let mut walk = self.iter();
+        for _ in 0..count {
+            walk.next();
+        }
+        walk.items.len()
+    }
+
+    pub fn iter(&self) -> Walk<'_, T>
+        ensures { result ≡ self.now }
+    {
+        Walk {
+            items: &self.items,
+            lengths: &self.lengths,
+        }
+    }
+}
+
+impl<'a, T> Iterator for Walk<'a, T> {
+    type Item = &'a [T];
+
+    ghost next_gives = { YieldsFirstRef (λ s. s) };
+
+    ghost remaining = { item_count (λ s. s) };
+
+    fn next(&mut self) -> Option<&'a [T]> {
+        let lengths = self.lengths;
+        let [length, rest @ ..] = lengths else {
+            return None;
+        };
+        let (list, behind) = self.items.split_at(*length);
+        *self = Walk {
+            items: behind,
+            lengths: rest,
+        };
+        Some(list)
+    }
+}
+
+impl<T: Duplicate + Drop> Duplicate for ListsOf<T> {
+    fn copy(&self, alloc: Global) -> Result<Self, NoMemory> {
+        Ok(ListsOf {
+            items: copies(alloc, &self.items)?,
+            lengths: Vec::from_slice(alloc, &self.lengths)?,
+        })
+    }
+}
