@@ -10,7 +10,6 @@ use Rattle.std.proofs.lemmas.List.Elements.{All-cons, All-head, All-nil, All-tai
 use Rattle.std.proofs.lemmas.List.{append_assoc, map-append}
 use Rattle.cj_auth.proofs.Common.{Account, All, BadDigest, Credential, HasKey, LoginCount, Twice, accounts_of, admits, bytes_eq, find, list_any, refusal_of_accounts, sha256, slice_index_or}
 use Rattle.cj_model.specs.Cluster.Accounts.{has_logins, is_account_of, login_of, repeated_user, user_where}
-use Rattle.cj_auth.specs.declared.error.AuthError.{AuthError}
 use Rattle.cj_auth.specs.Digests.{is_digest, reads_as, spells}
 
 on_bool : {G : Type 0} (b : Bool) → (b ≡ true → G) → (b ≡ false → G) → G
@@ -36,8 +35,6 @@ none_fails q (x ∷ rows) h =
     (λ f. let e : Some x.user ≡ None = sym (ap found f) ∙ h in cc)
 
 module _ (rows : List Account) (backends : ℕ) (is : refusal_of_accounts rows backends ≡ None) where
-  later : Option AuthError
-  later = option_or (option_map BadDigest (user_where (λ account. not (is_digest account.digest)) rows)) (option_map LoginCount (user_where (λ account. not (has_logins backends account)) rows))
 
   behind : (option_map BadDigest (user_where (λ account. not (is_digest account.digest)) rows) ≡ None) × (option_map LoginCount (user_where (λ account. not (has_logins backends account)) rows) ≡ None)
   behind = neither _ _ (neither (option_map Twice (repeated_user [] rows)) _ is).1

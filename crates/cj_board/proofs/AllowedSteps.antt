@@ -28,9 +28,6 @@ M = Me Event SeatView
 pub pass_not_book : (r : Role) → IsPass r → IsNotBook r
 pass_not_book r e m f = cc
 
-pub cell_not_book : (b : ℕ) (r : Role) → IsCellOf b r → IsNotBook r
-cell_not_book b r e m f = cc
-
 -- the fit of a view in the state
 abbrev Fit : (n : ℕ) (s : State Event SeatView) → IsKeptBoard n s → ℕ → SeatView → Type 0
 Fit n s k j v = Fits n k.made k.who k.history s.words j v

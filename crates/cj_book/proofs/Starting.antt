@@ -2,27 +2,15 @@
 use Rattle.std.proofs.Common.{◌≡◌, inl, ℕ, ◌<◌, ◌≤◌, cond, nat_le, List, [], ◌∷◌, ◌++◌, length, Err, refl, ap, sym, ◌∙◌, arith, ⊎_elim}
 use Rattle.std.proofs.lemmas.Bool.{cases_lt, le-leb, lt-leb}
 use Rattle.cj_book.proofs.Common.{HasBadEntry, LogItem}
-use Rattle.cj_records.specs.declared.error.RecordsError.{RecordsError}
-use Rattle.cj_records.specs.declared.error.RecordsError.TheVariants as records
 use Rattle.cj_records.specs.Records.{begun, WritesOnlyNew}
-use Rattle.cj_log.specs.Logs.{log_magic, KeepsItems, Opens, CountsOpenFault}
+use Rattle.cj_log.specs.Logs.{log_magic, KeepsItems}
 use Rattle.cj_log.proofs.OneLog.{one_log}
 use Rattle.cj_opening.specs.declared.error.OpeningError.{OpeningError}
 use Rattle.cj_opening.specs.declared.error.OpeningError.TheVariants as openings
-use Rattle.cj_book.specs.Found.{start_error_of, entry_error_of}
-use Rattle.cj_book.specs.Starts.{Starts, CountsStartFault}
+use Rattle.cj_book.specs.Found.{entry_error_of}
+use Rattle.cj_book.specs.Starts.{Starts}
 
 -- ---- the log wasn't opened
-
-pub log_refused : {S : Type 0} (held : S → List ℕ) (old : List ℕ) (error : RecordsError) (store : S) → Opens held old (Err (error, store)) → Starts held old (Err (start_error_of error, store))
-log_refused held old records.Failed store o = o
-log_refused held old (records.BadRecord offset) store o = o
-log_refused held old records.NoMemory store o = o
-
-pub log_fault : {S : Type 0} (faults : S → ℕ) (before : ℕ) (error : RecordsError) (store : S) → CountsOpenFault faults before (Err (error, store)) → CountsStartFault faults before (Err (start_error_of error, store))
-log_fault faults before records.Failed store o = o
-log_fault faults before (records.BadRecord offset) store o = o
-log_fault faults before records.NoMemory store o = o
 
 -- ---- or it was, and its items are no history's
 

@@ -305,16 +305,6 @@ between_fresh z s w idle none =
       later = λ lt. ap (λ (x : OpenSession). x.least) (session_at-is z s None (new_unknown z s w lt));
     }
 
--- a session that has no number yet has seen nothing
-pub between_new : (c : Core) (s : ℕ) → CoreInvariant c → c.greatest < s → IsBetweenReplies (record { front = []; least = 0 }) c s
-between_new c s w lt =
-    record {
-      longer = (c.history, refl);
-      owes = (let le : 0 ≤ length (log []) = omega arith in le);
-      here = λ t. absurd (both_ways (is_open c s) (ap is_some (new_unknown c s w lt)) t);
-      later = λ more. refl;
-    }
-
 -- ---- sessions that open and close
 
 -- no entry is by a session that has no number yet

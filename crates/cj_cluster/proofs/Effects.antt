@@ -2,8 +2,8 @@
 use Rattle.std.proofs.Common.{◌≡◌, ◌≢◌, ◌⊎◌, inl, inr, ℕ, ◌+◌, ◌-◌, ◌*◌, ◌^◌, ◌<◌, ◌≤◌, ◌==◌, not, Bool, true, false, List, [], ◌∷◌, ◌++◌, length, get_or, set, All, Option, None, Some, is_some, refl, ap, sym, ◌∙◌, subst, arith, length-append, ⊎_elim}
 use Rattle.std.proofs.lemmas.Bool.{cases_eq, cases_lt, eqb-true, eqb-false, and_parts, or_cases, both_ways, not-true, or_parts}
 use Rattle.std.proofs.lemmas.List.{get_or-set_same, get_or-set_other, get_or_past, length-set}
-use Rattle.std.proofs.lemmas.List.Elements.{All-nil, All-push, All-filter, All-weaker}
-use Rattle.cj_cluster.proofs.Common.{BackendStands, CoreInvariant, Disabled, Enabled, Ended, Entry, Event, IsAllowedEvent, IsFitEntry, IsSoundDump, IsSoundSession, LogFailed, Marker, OpenSession, Placement, ReadFailed, Rises, Sched, TakenDump, by_session_number, ended_count, entry_in_progress, events_left, has_marker, in_mask, is_enabled, is_end_event, is_idle, is_log_fault, log, log_faults_of, scheduled_entry, slice_get_within, with_backend}
+use Rattle.std.proofs.lemmas.List.Elements.{All-push, All-filter, All-weaker}
+use Rattle.cj_cluster.proofs.Common.{BackendStands, CoreInvariant, Disabled, Enabled, Ended, Entry, Event, IsAllowedEvent, IsFitEntry, IsSoundDump, IsSoundSession, LogFailed, Marker, OpenSession, ReadFailed, Rises, Sched, TakenDump, by_session_number, ended_count, entry_in_progress, events_left, has_marker, in_mask, is_enabled, is_end_event, is_idle, is_log_fault, log, log_faults_of, scheduled_entry, slice_get_within, with_backend}
 use Rattle.cj_model.specs.declared.answer.Outcome.{Outcome}
 use Rattle.cj_cluster.specs.History.Transactions.{begun_after}
 use Rattle.cj_cluster.specs.Moves.Cores.{Core, position_at, begun_at, find_session, new_session, with_session, is_entry_of}
@@ -236,35 +236,6 @@ is_there ps b p is =
 -- where a backend stands that is not out
 pub stands_there : (c : Core) (b p : ℕ) → CoreInvariant c → position_at c b ≡ Some p → BackendStands c.history c.failed c.starved b (Some p)
 stands_there c b p s is = subst (λ (x : Option ℕ). BackendStands c.history c.failed c.starved b x) is (s.stands b (is_there c.positions b p is))
-
--- nothing has happened, and each backend has taken no entry, or is out
-pub sound_start : (placement : Placement) (positions : List (Option ℕ)) (begun : List (List ℕ)) → length positions ≡ placement.backends → length begun ≡ placement.backends
-    → ((b q : ℕ) → get_or positions b None ≡ Some q → q ≡ 0)
-    → CoreInvariant (record { placement = placement; history = []; positions = positions; begun = begun; failed = 0; starved = 0; sessions = []; greatest = 0; dumps = [] })
-sound_start placement positions begun cells begun_cells begin =
-    record {
-      legal = record { short = omega arith; each = λ k d lt. absurd (omega arith) };
-      short = omega arith;
-      one_open = (omega arith, omega arith);
-      cells = cells;
-      hosts = λ b on. absurd (cc on);
-      stands = λ b lt. one b (get_or positions b None) (begin b);
-      in_masks = λ b. (λ t. absurd (both_ways (in_mask 0 b) (has-zero b) t), λ t. absurd (both_ways (in_mask 0 b) (has-zero b) t));
-      clear = λ _. (refl, refl);
-      begun_cells = begun_cells;
-      dumps = All-nil (IsSoundDump placement.backends []);
-      sessions = All-nil (IsSoundSession [] 0);
-      rises = tt;
-      few = omega arith;
-      numbers = omega arith;
-      known = All-nil (λ (e : Entry). e.session ≤ 0);
-      log_faults = λ s q lt. refl;
-      waits = λ e is. absurd (cc is);
-    }
-  where
-    one : (b : ℕ) (p : Option ℕ) → ((q : ℕ) → p ≡ Some q → q ≡ 0) → BackendStands [] 0 0 b p
-    one b (Some q) zero = (let z : q ≡ 0 = zero q refl in omega arith, λ on. absurd (cc on), has-zero b, has-zero b)
-    one b None zero = λ on. absurd (cc on)
 
 -- the sessions alone are changed
 pub sound_sessions : (c : Core) (ss : List OpenSession) (g : ℕ) → CoreInvariant c → SessionsAre c.history g ss → CoreInvariant (record c { sessions = ss; greatest = g })

@@ -6,7 +6,7 @@ use Rattle.std.proofs.lemmas.Bool.{eq-eqb, or_cases, or_left, or_right}
 use Rattle.std.proofs.lemmas.List.Concat.{flat_map-cons}
 use Rattle.std.proofs.lemmas.List.Elements.{All-cons, All-nil}
 use Rattle.std.proofs.lemmas.Map.Lookups.{exact_unsigned}
-use Rattle.cj_cluster.proofs.Common.{CoversDrafts, Draft, Placement, Slot, fold-append, part}
+use Rattle.cj_cluster.proofs.Common.{CoversDrafts, Draft, Slot, fold-append}
 use Rattle.cj_model.specs.Database.Storable.{writers}
 use Rattle.cj_model.specs.Database.Tables.{put_by}
 use Rattle.cj_model.proofs.RisingLaws.{by_order}
@@ -72,7 +72,3 @@ covers_behind begun (s ∷ db) =
 -- the transactions that have a draft in a database are those of all its drafts
 pub writers_cover : (db : List Slot) → CoversDrafts (writers db) db
 writers_cover db = covers_behind [] db
-
--- and so for what a backend holds of it
-pub part_covers : (p : Placement) (b : ℕ) (db : List Slot) → CoversDrafts (writers (part p b db)) (part p b db)
-part_covers p b db = writers_cover (part p b db)

@@ -1,7 +1,7 @@
 -- What holds where a move can be made now.
 use Rattle.std.proofs.Common.{◌≡◌, ◌≢◌, ℕ, zero, suc, ◌+◌, ◌-◌, ◌<◌, ◌≤◌, ◌==◌, ◌&&◌, cond, Bool, true, false, nat_lt, List, [], ◌∷◌, length, get_or, slice_get, Option, None, Some, is_some, is_none, refl, ap, sym, ◌∙◌, subst, arith, ⊎_elim}
 use Rattle.std.proofs.lemmas.Bool.{eqb-true, eqb-false, cases_Bool, cond-true, cond-false, cond_both, not-true, not-false, and_parts, or_parts, ltb-true, ltb-false, and_cases, both_ways}
-use Rattle.cj_cluster.proofs.Common.{Abort, Apply, Close, Disable, Dump, Enable, End, Entry, Event, Load, Mark, OpenRead, Read, Replay, Request, Schedule, Select, TakenDump, Why, has_marker, is_enabled, is_idle, log, tx_of}
+use Rattle.cj_cluster.proofs.Common.{Abort, Apply, Close, Disable, Enable, End, Entry, Event, Load, Mark, OpenRead, Read, Replay, Request, Schedule, Select, TakenDump, Why, has_marker, is_enabled, is_idle, log, tx_of}
 use Rattle.cj_cluster.specs.declared.moves.Reason.{Reason}
 use Rattle.cj_cluster.specs.Moves.Cores.{Core, position_at, find_dump, hosts_beyond, session_at}
 use Rattle.cj_cluster.specs.Moves.Moves.{reason_if, reason_of_dump, position_or_zero, first_lagging, reason_if_lagging, entry_numbered, is_orphan_of, is_orphan, not_now, is_open, is_waiting}
@@ -184,21 +184,6 @@ can_mark c name e =
     let p = because_none _ _ _ _ e in
     let q = because_none _ _ _ _ p.1 in
     record { is_free = not-false _ p.0; fresh = (or_parts _ _ q.0).0 }
-
--- no entry is open, and the backend is not enabled
-pub record CanDump (c : Core) (b : ℕ) : Type 0 where
-  pub is_free : is_idle c.history ≡ true
-  pub off : is_enabled c.history b ≡ false
-  pub at : position_at c b ≡ Some (position_or_zero (position_at c b))
-
--- what a Dump that can be made now says
-pub can_dump : (c : Core) (b : ℕ) (name : List ℕ) → not_now c (Dump b name) ≡ None → CanDump c b
-can_dump c b name e =
-    let p = because_none _ _ _ _ e in
-    let q = because_none _ _ _ _ p.1 in
-    let r = because_none _ _ _ _ q.1 in
-    let s = because_none _ _ _ _ r.1 in
-    record { is_free = not-false _ p.0; off = q.0; at = stands_at _ s.0 }
 
 -- no entry is open, the backend is out and not enabled, and a dump of the name covers its tables
 pub record CanLoad (c : Core) (b : ℕ) (name : List ℕ) : Type 0 where

@@ -1,5 +1,5 @@
 -- What one more event at the end of a history does, and what a history has in common with those that it began as.
-use Rattle.std.proofs.Common.{◌≡◌, ◌≢◌, ℕ, ◌+◌, ◌-◌, ◌*◌, ◌^◌, ◌<◌, ◌≤◌, true, false, cond, ◌==◌, List, [], ◌∷◌, ◌++◌, length, take, drop, get_or, slice_get, All, Option, option_map, None, Some, refl, ap, sym, ◌∙◌, subst, arith, length-append, append_assoc, take-append-drop, ⊎_elim}
+use Rattle.std.proofs.Common.{◌≡◌, ◌≢◌, ℕ, ◌+◌, ◌-◌, ◌^◌, ◌<◌, ◌≤◌, true, false, cond, ◌==◌, List, [], ◌∷◌, ◌++◌, length, take, drop, get_or, slice_get, All, Option, None, Some, refl, ap, sym, ◌∙◌, subst, arith, length-append, append_assoc, take-append-drop, ⊎_elim}
 use mathlib.Core.List.{IsPrefix}
 use Rattle.std.proofs.lemmas.Bool.{cases_lt, eqb-true, eqb-false, eq-eqb, ne_eqb}
 use Rattle.std.proofs.lemmas.List.{append-nil, get_or_push, take-append-le, get_or_append_left}
@@ -9,8 +9,7 @@ use Rattle.std.proofs.lemmas.List.Sums.{sum_by-append}
 use Rattle.std.proofs.lemmas.Option.{slice_get-get_or, slice_get_past, slice_get_within, get_or_from_slice_get}
 use Rattle.std.proofs.Math.Seq.{take-append_seam, get_or-append_seam}
 use Rattle.cj_cluster.proofs.Common.{Disabled, Enabled, Ended, Entry, Event, IsAllowedEvent, IsLegal, LogFailed, Marker, ReadFailed, Sched, fold-append}
-use Rattle.cj_model.specs.Database.Steps.{step}
-use Rattle.cj_cluster.specs.History.Histories.{database_of, database_after, outcome_of, scheduled_entry, log, is_end_event, ended_count, is_idle, entry_in_progress, is_enabled, enabled_after_event, events_left, masks_of_end, masks_of_ends, marker_name, markers, notes_failure, failures_noted, is_log_fault, log_faults_of}
+use Rattle.cj_cluster.specs.History.Histories.{database_of, database_after, scheduled_entry, log, is_end_event, ended_count, is_idle, entry_in_progress, is_enabled, enabled_after_event, masks_of_end, masks_of_ends, marker_name, markers, notes_failure, failures_noted, is_log_fault, log_faults_of}
 
 -- ---- lists
 
@@ -216,30 +215,6 @@ opened-last h e hi is =
 
 -- ---- room
 
--- an entry takes the room of its own event, and keeps that of its end
-pub room-sched : (h : List Event) (e : Entry) → ended_count h ≤ length (log h) → events_left (h ++ Sched e ∷ []) ≡ events_left h - 3
-room-sched h e lo =
-    let l : length (log (h ++ Sched e ∷ [])) ≡ length (log h) + 1 = ap length (log-sched h e) ∙ length-append (log h) (e ∷ []) in
-    let d : ended_count (h ++ Sched e ∷ []) ≡ ended_count h = done-same h (Sched e) refl in
-    let n : length (h ++ Sched e ∷ []) ≡ length h + 1 = length-append h (Sched e ∷ []) in
-    omega arith
-
--- an end takes one of the two that were kept for it, and gives back the other
-pub room-ended : (h : List Event) (f s : ℕ) → ended_count h < length (log h) → length h + 2 * (length (log h) - ended_count h) ≤ 2 ^ 62 → events_left (h ++ Ended f s ∷ []) ≡ events_left h + 1
-room-ended h f s lt short =
-    let l : length (log (h ++ Ended f s ∷ [])) ≡ length (log h) = ap length (log-same h (Ended f s) refl) in
-    let d : ended_count (h ++ Ended f s ∷ []) ≡ ended_count h + 1 = done-ended h f s in
-    let n : length (h ++ Ended f s ∷ []) ≡ length h + 1 = length-append h (Ended f s ∷ []) in
-    omega arith
-
--- each other event takes the room of one
-pub room-same : (h : List Event) (e : Event) → scheduled_entry e ≡ None → is_end_event e ≡ false → events_left (h ++ e ∷ []) ≡ events_left h - 1
-room-same h e is stays =
-    let l : length (log (h ++ e ∷ [])) ≡ length (log h) = ap length (log-same h e is) in
-    let d : ended_count (h ++ e ∷ []) ≡ ended_count h = done-same h e stays in
-    let n : length (h ++ e ∷ []) ≡ length h + 1 = length-append h (e ∷ []) in
-    omega arith
-
 -- ---- histories that one began as
 
 -- the log of a beginning is a beginning of the log
@@ -249,10 +224,6 @@ log-prefix f h p = (log p.0, sym (filter_map-append scheduled_entry f p.0) ∙ a
 -- and so are its ends
 pub ends-prefix : (f h : List Event) → IsPrefix f h → IsPrefix (masks_of_ends f) (masks_of_ends h)
 ends-prefix f h p = (masks_of_ends p.0, sym (filter_map-append masks_of_end f p.0) ∙ ap masks_of_ends p.1)
-
--- and its markers
-pub markers-prefix : (f h : List Event) → IsPrefix f h → IsPrefix (markers f) (markers h)
-markers-prefix f h p = (markers p.0, sym (filter_map-append marker_name f p.0) ∙ ap markers p.1)
 
 -- where a history has no fault in a request, nor has what it began as
 pub log_faults-begin : (f h : List Event) (s q : ℕ) → IsPrefix f h → log_faults_of s q h ≡ 0 → log_faults_of s q f ≡ 0
@@ -267,14 +238,6 @@ all_begin P f h p all = subst (All P) (take_whole (log f) (log h) (log-prefix f 
 -- the database after some entries is the same in each log that begins so
 pub at-prefix : (xs ys : List Entry) (n : ℕ) → IsPrefix xs ys → n ≤ length xs → database_after ys n ≡ database_after xs n
 at-prefix xs ys n p le = ap database_of (take_prefix xs ys n p le)
-
--- and so is what an entry comes to
-pub said-prefix : (xs ys : List Entry) (i : ℕ) (e : Entry) → IsPrefix xs ys → slice_get xs i ≡ Some e → outcome_of ys i ≡ outcome_of xs i
-said-prefix xs ys i e p is =
-    let lt : i < length xs = slice_get_within xs i e is in
-    let le : i ≤ length xs = omega arith in
-    ap (λ (o : Option Entry). option_map (λ d. (step (database_after ys i) d).outcome) o) (prefix_get xs ys i e p is ∙ sym is)
-    ∙ ap (λ db. option_map (λ d. (step db d).outcome) (slice_get xs i)) (at-prefix xs ys i p le)
 
 -- ---- legal histories
 
@@ -307,7 +270,3 @@ legal_prefix f h p l =
           let old : IsAllowedEvent (take k (f ++ p.0)) (get_or (f ++ p.0) k d) = subst (λ (w : List Event). IsAllowedEvent (take k w) (get_or w k d)) (sym p.1) (l.each k d (omega arith)) in
           subst (λ (w : List Event). IsAllowedEvent w (get_or f k d)) (take-append-le k f p.0 le) (subst (λ (x : Event). IsAllowedEvent (take k (f ++ p.0)) x) (get_or_append_left f p.0 d k lt) old);
     }
-
--- the first events of a legal history are one
-pub legal_take : (h : List Event) (n : ℕ) → IsLegal h → IsLegal (take n h)
-legal_take h n l = legal_prefix (take n h) h (prefix_take n h) l

@@ -136,10 +136,6 @@ is_open-push ss y t here = rw (find-append (λ (x : OpenSession). x.number == t)
     one None p on = absurd (cc on)
     one (Some x) p on = refl
 
--- the session that is added, in a state
-pub session_at-pushed : (z : Core) (ss : List OpenSession) (y : OpenSession) → z.sessions ≡ ss ++ y ∷ [] → All (λ (x : OpenSession). x.number < y.number) ss → session_at z y.number ≡ y
-session_at-pushed z ss y is all = session_at-is z y.number (Some y) (ap (λ w. find_session w y.number) is ∙ session_of-push_same ss y all)
-
 -- rising numbers still rise
 pub rises_push : (ss : List OpenSession) (y : OpenSession) → All (λ (x : OpenSession). x.number < y.number) ss → Rises by_session_number ss → Rises by_session_number (ss ++ y ∷ [])
 rises_push [] y all r = (All-nil (λ (x : OpenSession). by_session_number y x ≡ Less), tt)

@@ -193,23 +193,8 @@ passing_next p i =
     let next : 1 + i ≡ i + 1 = omega arith in
     sym (ap (filter p) (map-id (range_with_len 1 (i + 1)))) ∙ (filter_of_map_range_with_len_more p (λ n. n) 1 i (i + 1) next ∙ ap (λ (ns : List ℕ). filter p ns ++ cond (p (i + 1)) ((i + 1) ∷ []) []) (map-id (range_with_len 1 i)))
 
-same_cluster : (w : WorldState) → IsSameCluster w w
-same_cluster w = record { placement = refl; sessions = refl; greatest = refl; setup = refl; cache = refl }
-
 cluster_then : (old mid new : WorldState) → IsSameCluster old mid → IsSameCluster mid new → IsSameCluster old new
 cluster_then old mid new x y = record { placement = y.placement ∙ x.placement; sessions = y.sessions ∙ x.sessions; greatest = y.greatest ∙ x.greatest; setup = y.setup ∙ x.setup; cache = y.cache ∙ x.cache }
-
-pub ended_none : (w : WorldState) → is_idle w.core.history ≡ true → EndedTo w w 0
-ended_none w idle =
-    record {
-      history = refl;
-      later = λ tx lt most. refl;
-      longer = omega arith;
-      idle = idle;
-      same = same_cluster w;
-      stands = λ faults stands. stands;
-      uncalled = λ _. refl;
-    }
 
 module _ (old now new : WorldState) (i : ℕ) (to : EndedTo old now i) (within : i < last_number old.core) where
   was_open : is_orphan now.core (i + 1) ≡ is_orphan old.core (i + 1)
@@ -263,6 +248,3 @@ module _ (old now new : WorldState) (i : ℕ) (to : EndedTo old now i) (within :
   -- and so was this one, if it was open
   pub ended_next : EndedWhere (is_orphan now.core (i + 1)) (i + 1) now new → EndedTo old new (i + 1)
   ended_next ends = ended_where (is_orphan now.core (i + 1)) refl ends
-
-pub still_standing : (old now : WorldState) (i : ℕ) → EndedTo old now i → AreStanding old → AreStanding now
-still_standing old now i to standing = (standing.0, to.stands standing.0 standing.1)

@@ -1,41 +1,14 @@
 -- A start only adds to the history, and so to the log.
 use Rattle.std.proofs.Common.{◌≡◌, ◌⊎◌, inl, inr, ℕ, ◌+◌, Bool, false, List, [], ◌∷◌, ◌++◌, length, map, Result, Ok, Err, refl, ap, sym, ◌∙◌, subst, append_assoc}
-use Rattle.cj_core.proofs.Common.{AbortsEach, BookError, Core, core_aborted, CountsFaultOfPart, CountsFaultOfStart, Enabled, EnabledTo, Ended, Entry, Event, fold, HasStarted, IsErrAnd, IsLonger, IsOpening, IsPrefix, items_append, items_behind, items_of, KeepsItems, log, LogFailed, LogItem}
-use Rattle.cj_core.proofs.Common.{LosesNothing, Marker, next, OnlyReplays, OnlyTakes, OpensTo, Placement, prefix_self, prefix_trans, RefusesBytes, Sched, StartError, TransactionEnded, with_abort, WorldState}
+use Rattle.cj_core.proofs.Common.{AbortsEach, CountsFaultOfPart, CountsFaultOfStart, Enabled, Ended, Event, fold, HasStarted, IsErrAnd, IsLonger, IsOpening, IsPrefix, items_append, items_behind, items_of, KeepsItems, log, LogItem}
+use Rattle.cj_core.proofs.Common.{LosesNothing, Marker, next, OpensTo, Placement, prefix_trans, RefusesBytes, Sched, StartError, with_abort, WorldState}
 use Rattle.cj_book.proofs.Common.{IsKeptIn, Starts, failed_after, fold-append, last_write_failed}
-use Rattle.cj_book.specs.declared.error.BookError.TheVariants.{LogFault}
 use Rattle.cj_book.specs.declared.error.StartError.TheVariants as errors
 
 -- ---- from part to part
 
-pub longer_none : (w : WorldState) → IsLonger w w
-longer_none w = prefix_self w.core.history
-
-pub longer_same : (old now : WorldState) → now.core.history ≡ old.core.history → IsLonger old now
-longer_same old now same = subst (λ (h : List Event). IsPrefix old.core.history h) (sym same) (prefix_self old.core.history)
-
 pub longer_then : (old mid now : WorldState) → IsLonger old mid → IsLonger mid now → IsLonger old now
 longer_then old mid now p q = prefix_trans old.core.history mid.core.history now.core.history p q
-
-pub replays_longer : (old now : WorldState) → OnlyReplays old now → IsLonger old now
-replays_longer old now only = longer_same old now (ap (λ (c : Core). c.history) only.core)
-
-pub takes_longer : (old now : WorldState) → OnlyTakes old now → IsLonger old now
-takes_longer old now only = longer_same old now (ap (λ (c : Core). c.history) only.core)
-
-pub enables_longer : (old now : WorldState) (i : ℕ) → EnabledTo old now i → IsLonger old now
-enables_longer old now i to = (map Enabled to.enabled, sym (ap (λ (w : WorldState). w.core.history) to.after))
-
-pub ended_longer : (tx : ℕ) (old now : WorldState) → TransactionEnded tx old now → IsLonger old now
-ended_longer tx old now e = (Sched _ ∷ Ended e.failed 0 ∷ [], sym e.history)
-
-aborted_history : (c : Core) (e : Entry) (r : Result ℕ BookError) → IsPrefix c.history (core_aborted c e r).history
-aborted_history c e (Ok n) = (Sched e ∷ [], refl)
-aborted_history c e (Err LogFault) = (LogFailed e.session e.seq ∷ [], refl)
-aborted_history c e _ = prefix_self c.history
-
-pub aborted_longer : (old now : WorldState) (e : Entry) (r : Result ℕ BookError) → now.core ≡ core_aborted old.core e r → IsLonger old now
-aborted_longer old now e r is = subst (λ (c : Core). IsPrefix old.core.history c.history) (sym is) (aborted_history old.core e r)
 
 -- ---- what the bytes keep of it
 

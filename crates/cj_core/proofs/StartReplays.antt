@@ -1,12 +1,9 @@
 -- Backends replay the log in a start: where each stands, and what it has counted.
-use Rattle.std.proofs.Common.{◌≡◌, zero, suc, [], ◌∷◌, ◌≢◌, ◌⊎◌, inl, inr, ℕ, ◌+◌, ◌-◌, ◌<◌, ◌≤◌, Bool, true, false, cond, List, length, set, get_or, slice_get, Option, None, Some, Result, Ok, Err, OnOk, unwrap_or, refl, ap, sym, ◌∙◌, subst, arith, ⊎_elim, below_more}
-use Rattle.cj_core.proofs.Common.{can_replay, CanReplay, cases_eq, Core, Did, did_fail, DoesWithEntry, Entry, Event, faults_after, faults_of, get_or-set_other, get_or-set_same, HasFailedOut, HasReplayed, HasTaken, is_enabled, IsSameAt, IsWorld, last_number}
-use Rattle.cj_core.proofs.Common.{log, ne_eqb, next, not_now, OnlyReplays, option_map, position_at, position_or_zero, Replay, Replayed, Replays, Stance, StartError, TakesEntry, TookNext, WorldState}
+use Rattle.std.proofs.Common.{◌≡◌, zero, suc, [], ◌∷◌, ◌≢◌, ◌⊎◌, inl, inr, ℕ, ◌+◌, ◌-◌, ◌<◌, ◌≤◌, Bool, true, false, cond, List, length, set, get_or, slice_get, Option, None, Some, Result, Ok, Err, OnOk, refl, ap, ◌∙◌, arith, ⊎_elim}
+use Rattle.cj_core.proofs.Common.{can_replay, CanReplay, Core, Did, did_fail, DoesWithEntry, Entry, faults_after, faults_of, get_or-set_other, get_or-set_same, HasFailedOut, HasReplayed, HasTaken, IsSameAt, IsWorld, last_number}
+use Rattle.cj_core.proofs.Common.{next, not_now, OnlyReplays, option_map, position_at, position_or_zero, Replay, Replayed, Replays, Stance, StartError, TakesEntry, TookNext, WorldState}
 use Rattle.cj_cluster.specs.declared.moves.Did.TheVariants as did
 use Rattle.cj_core.proofs.SoloLogins.{got_or_set}
-
-pub same_some : (m n : ℕ) → Some m ≡ Some n → m ≡ n
-same_some m n is = ap (λ (o : Option ℕ). unwrap_or o 0) is
 
 -- ---- counts
 
@@ -108,20 +105,8 @@ taken_from was faults w b p same taken = record { position = taken.position; cou
 pub out_from : (was faults : List ℕ) (w : WorldState) (b : ℕ) → slice_get was b ≡ slice_get faults b → HasFailedOut was w b → HasFailedOut faults w b
 out_from was faults w b same out = record { position = out.position; counted = out.counted ∙ ap (option_map next) same }
 
-only_then : (old mid new : WorldState) → OnlyReplays old mid → OnlyReplays mid new → OnlyReplays old new
-only_then old mid new x y =
-    record {
-      core = y.core ∙ ap (λ (k : Core). record k { positions = new.core.positions; begun = new.core.begun }) x.core;
-      setup = y.setup ∙ x.setup;
-      recovery_log = y.recovery_log ∙ x.recovery_log;
-      cache = y.cache ∙ x.cache;
-    }
-
 pub only_history : (old now : WorldState) → OnlyReplays old now → now.core.history ≡ old.core.history
 only_history old now only = ap (λ (c : Core). c.history) only.core
-
-pub last_same : (old now : WorldState) → OnlyReplays old now → last_number now.core ≡ last_number old.core
-last_same old now only = ap (λ (h : List Event). length (log h)) (only_history old now only)
 
 pub only_placement : (old now : WorldState) → OnlyReplays old now → now.core.placement ≡ old.core.placement
 only_placement old now only = ap (λ (c : Core). c.placement) only.core
@@ -139,15 +124,6 @@ pub record ReplaysOn (old now : WorldState) (b : ℕ) : Type 0 where
   pub stands : IsOnItsWay (faults_of old.cells) now b
   pub uncalled : last_number old.core ≡ 0 → now ≡ old
 
-pub replays_none : (w : WorldState) (b : ℕ) → position_at w.core b ≡ Some 0 → ReplaysOn w w b
-replays_none w b first =
-    record {
-      only = record { core = refl; setup = refl; recovery_log = refl; cache = refl };
-      others = λ k ne. record { position = refl; faults = refl };
-      stands = inl (0, record { position = first; counted = refl }, omega arith);
-      uncalled = λ _. refl;
-    }
-
 -- how many entries it has left
 abbrev pub left_of : ℕ → Option ℕ → ℕ
 left_of last None = 0
@@ -160,62 +136,6 @@ module _ (old now new : WorldState) (b : ℕ) (before : ReplaysOn old now b) (du
   stood : took.p ≢ last_number now.core
   stood e = can.more (ap position_or_zero took.stood ∙ e)
 
-  on_its_way : (p : ℕ) × HasTaken (faults_of old.cells) now b p × (p ≤ last_number now.core)
-  on_its_way = ⊎_elim (λ way. way) (λ (out : HasFailedOut (faults_of old.cells) now b). absurd (cc (took.stood, out.position))) before.stands
-
-  below : took.p < last_number now.core
-  below =
-      let ne : took.p ≢ last_number now.core = stood in
-      let same : took.p ≡ on_its_way.0 = cc (took.stood, on_its_way.1.position) in
-      let most : on_its_way.0 ≤ last_number now.core = on_its_way.2 in
-      omega (arith, ne)
-
-  pub replays_next : ReplaysOn old new b
-  replays_next =
-      let last : last_number new.core ≡ last_number now.core = last_same now new only in
-      let lt : took.p < last_number now.core = below in
-      record {
-        only = only_then old now new before.only only;
-        others = λ k ne. same_then old now new k (before.others k ne) (took.others k ne);
-        stands =
-            ⊎_elim
-            (λ (taken : HasTaken (faults_of now.cells) new b (took.p + 1)). inl (took.p + 1, taken_from (faults_of now.cells) (faults_of old.cells) new b (took.p + 1) on_its_way.1.counted taken, omega arith))
-            (λ (out : HasFailedOut (faults_of now.cells) new b). inr (out_from (faults_of now.cells) (faults_of old.cells) new b on_its_way.1.counted out)) took.here;
-        uncalled =
-            λ none.
-            let whole : last_number now.core ≡ last_number old.core = last_same old now before.only in
-            absurd (omega arith);
-      }
-
-  -- it has fewer left
-  pub replays_fewer : left_of (last_number new.core) (position_at new.core b) < left_of (last_number now.core) (position_at now.core b)
-  replays_fewer =
-      let last : last_number new.core ≡ last_number now.core = last_same now new only in
-      let lt : took.p < last_number now.core = below in
-      let had : left_of (last_number now.core) (position_at now.core b) ≡ last_number now.core - took.p = ap (left_of (last_number now.core)) took.stood in
-      ⊎_elim
-      (λ (taken : HasTaken (faults_of now.cells) new b (took.p + 1)).
-      let has : left_of (last_number new.core) (position_at new.core b) ≡ last_number new.core - (took.p + 1) = ap (left_of (last_number new.core)) taken.position in
-      omega arith)
-      (λ (out : HasFailedOut (faults_of now.cells) new b).
-      let has : left_of (last_number new.core) (position_at new.core b) ≡ 0 = ap (left_of (last_number new.core)) out.position in
-      omega arith)
-      took.here
-
--- a backend that isn't enabled and stands below the log's end can replay
-replay_due : (c : Core) (b p : ℕ) → is_enabled c.history b ≡ false → position_at c b ≡ Some p → p ≢ last_number c → not_now c (Replay b) ≡ None
-replay_due c b p off at ne = rw (off, at, ne_eqb p (last_number c) ne) refl
-
--- so where it can't, it has taken the whole log or failed
-pub replayed : (old now : WorldState) (b : ℕ) → is_enabled old.core.history b ≡ false → ReplaysOn old now b → not_now now.core (Replay b) ≢ None → HasReplayed (faults_of old.cells) now b
-replayed old now b off on stays =
-    let still : is_enabled now.core.history b ≡ false = ap (λ (h : List Event). is_enabled h b) (only_history old now on.only) ∙ off in
-    ⊎_elim
-    (λ (within : (p : ℕ) × HasTaken (faults_of old.cells) now b p × (p ≤ last_number now.core)).
-    ⊎_elim (λ (end : within.0 ≡ last_number now.core). inl (subst (HasTaken (faults_of old.cells) now b) end within.1))
-    (λ (more : within.0 ≡ last_number now.core → ⊥). absurd (stays (replay_due now.core b within.0 still within.1.position more))) (cases_eq within.0 (last_number now.core)))
-    (λ (out : HasFailedOut (faults_of old.cells) now b). inr out) on.stands
-
 -- ---- all of them
 
 -- the backends below i have replayed the whole log
@@ -224,37 +144,3 @@ pub record ReplayedTo (old now : WorldState) (i : ℕ) : Type 0 where
   pub before : (b : ℕ) → b < i → HasReplayed (faults_of old.cells) now b
   pub behind : (b : ℕ) → i ≤ b → IsSameAt old now b
   pub uncalled : last_number old.core ≡ 0 → now ≡ old
-
-pub replayed_none : (w : WorldState) → ReplayedTo w w 0
-replayed_none w =
-    record {
-      only = record { core = refl; setup = refl; recovery_log = refl; cache = refl };
-      before = λ b lt. absurd (omega arith);
-      behind = λ b le. record { position = refl; faults = refl };
-      uncalled = λ _. refl;
-    }
-
-still_replayed : (faults : List ℕ) (old new : WorldState) (b : ℕ) → last_number new.core ≡ last_number old.core → IsSameAt old new b → HasReplayed faults old b → HasReplayed faults new b
-still_replayed faults old new b last same (inl taken) = inl (subst (HasTaken faults new b) (sym last) (taken_still faults old new b (last_number old.core) same taken))
-still_replayed faults old new b last same (inr out) = inr (out_still faults old new b same out)
-
-replayed_from : (was faults : List ℕ) (w : WorldState) (b : ℕ) → slice_get was b ≡ slice_get faults b → HasReplayed was w b → HasReplayed faults w b
-replayed_from was faults w b same (inl taken) = inl (taken_from was faults w b (last_number w.core) same taken)
-replayed_from was faults w b same (inr out) = inr (out_from was faults w b same out)
-
-pub replayed_next : (old now new : WorldState) (i : ℕ) → ReplayedTo old now i → OnlyReplays now new → ((k : ℕ) → k ≢ i → IsSameAt now new k) → HasReplayed (faults_of now.cells) new i
-    → (last_number now.core ≡ 0 → new ≡ now) → ReplayedTo old new (i + 1)
-replayed_next old now new i to only others here uncalled =
-    record {
-      only = only_then old now new to.only only;
-      before =
-          below_more (HasReplayed (faults_of old.cells) new) i
-          (λ b first. let ne : b ≢ i = λ e. absurd (omega (arith, e)) in still_replayed (faults_of old.cells) now new b (last_same now new only) (others b ne) (to.before b first))
-          (let le : i ≤ i = omega arith in replayed_from (faults_of now.cells) (faults_of old.cells) new i (to.behind i le).faults here);
-      behind =
-          λ b le.
-          let later : i ≤ b = omega arith in
-          let ne : b ≢ i = λ e. absurd (omega (arith, e)) in
-          same_then old now new b (to.behind b later) (others b ne);
-      uncalled = λ none. uncalled (last_same old now to.only ∙ none) ∙ to.uncalled none;
-    }

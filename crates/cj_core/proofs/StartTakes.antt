@@ -120,15 +120,6 @@ pub record TakenOnTo (old now : WorldState) (i : ℕ) : Type 0 where
   pub before : (b : ℕ) → b < i → TakesPast old now b
   pub behind : (b : ℕ) → i ≤ b → IsUntouched old now b
 
-pub taken_on_none : (w : WorldState) → TakenOnTo w w 0
-taken_on_none w =
-    record {
-      only = record { core = refl; setup = refl; recovery_log = refl; cache = refl };
-      starved = refl;
-      before = λ b lt. absurd (omega arith);
-      behind = λ b le. record { same = record { position = refl; faults = refl }; mask = refl };
-    }
-
 pub taken_on_next : (old now new : WorldState) (i : ℕ) → TakenOnTo old now i → OnlyTakes now new → ((k : ℕ) → k ≢ i → IsUntouched now new k) → TakesPast now new i → new.core.starved ≡ now.core.starved → TakenOnTo old new (i + 1)
 taken_on_next old now new i to only others here starved =
     record {

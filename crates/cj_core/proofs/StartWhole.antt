@@ -1,10 +1,10 @@
 -- A start from its parts.
-use Rattle.std.proofs.Common.{◌≡◌, inl, inr, ℕ, ◌<◌, ◌==◌, Bool, false, List, [], ◌∷◌, ◌++◌, length, map, slice_get, Option, None, Some, is_some, refl, ap, sym, ◌∙◌, subst, arith, ⊎_elim}
-use Rattle.cj_core.proofs.Common.{AbortsEach, AllStand, AreStanding, backend_of, BackendState, Core, Enabled, EnabledTo, Ended, EndedTo, Entry, entry_numbered, Event, faults_of, filter, get_or-replicate, HasFailedOut, HasReplayed, HasStarted, HasTaken, is_enabled}
-use Rattle.cj_core.proofs.Common.{filter_agree, is_orphan, is_orphan_of, is_there, IsOpening, IsWorld, last_number, log, LogItem, map-map, Marker, OnlyReplays, opened_core, OpensTo, orphans_of, Placement, position_at, range_with_len, Sched, StartsFrom, tx_of, WorldState}
+use Rattle.std.proofs.Common.{◌≡◌, inl, inr, ℕ, ◌<◌, ◌==◌, Bool, false, List, [], ◌∷◌, ◌++◌, length, map, slice_get, Option, Some, is_some, refl, ap, sym, ◌∙◌, subst, ⊎_elim}
+use Rattle.cj_core.proofs.Common.{AbortsEach, AllStand, AreStanding, backend_of, BackendState, Core, Enabled, EnabledTo, Ended, EndedTo, Entry, entry_numbered, Event, faults_of, filter, HasFailedOut, HasReplayed, HasStarted, HasTaken, is_enabled}
+use Rattle.cj_core.proofs.Common.{filter_agree, is_orphan, is_orphan_of, IsOpening, IsWorld, last_number, log, LogItem, map-map, Marker, OnlyReplays, opened_core, OpensTo, orphans_of, Placement, position_at, range_with_len, Sched, StartsFrom, tx_of, WorldState}
 use Rattle.cj_core.proofs.StartEnables.{enabled_last, enabled_position}
 use Rattle.cj_core.proofs.StartEnds.{orphan_of_same}
-use Rattle.cj_core.proofs.StartReplays.{only_history, only_placement, same_some}
+use Rattle.cj_core.proofs.StartReplays.{only_history, only_placement}
 use Rattle.cj_core.proofs.SoloTaking.{cells_count}
 
 -- ---- what a log opens with
@@ -15,10 +15,6 @@ none_on [] o b = refl
 none_on (Sched e ∷ Ended f s ∷ h) o b = none_on h o.2 b
 none_on (Marker name m ∷ h) o b = none_on h o b
 none_on _ o b = absurd o
-
--- and none has taken an entry
-pub at_first : (c : Core) → c ≡ opened_core c.placement c.history → (b : ℕ) → b < c.placement.backends → position_at c b ≡ Some 0
-at_first c opened b lt = ap (λ (k : Core). position_at k b) opened ∙ get_or-replicate c.placement.backends b (Some 0) None lt
 
 -- ---- which transactions are open, over the same log
 
@@ -32,15 +28,6 @@ module _ (c d : Core) (entries : log c.history ≡ log d.history) (sessions : c.
 -- ---- from part to part
 
 module _ (old rep : WorldState) (only : OnlyReplays old rep) (all : (b : ℕ) → b < old.core.placement.backends → HasReplayed (faults_of old.cells) rep b) where
-  -- each backend that has replayed the log and isn't out stands at its end
-  pub replayed_there : (tells : Bool) → IsWorld tells rep → (b p : ℕ) → position_at rep.core b ≡ Some p → p ≡ last_number rep.core
-  replayed_there tells world b p at =
-      let there : b < length rep.core.positions = is_there rep.core.positions b p at in
-      let cells : length rep.core.positions ≡ rep.core.placement.backends = world.sound.cells in
-      let same : rep.core.placement.backends ≡ old.core.placement.backends = ap (λ (q : Placement). q.backends) (only_placement old rep only) in
-      let within : b < old.core.placement.backends = omega arith in
-      ⊎_elim (λ (taken : HasTaken (faults_of old.cells) rep b (last_number rep.core)). same_some p (last_number rep.core) (sym at ∙ taken.position))
-      (λ (out : HasFailedOut (faults_of old.cells) rep b). absurd (cc (sym at ∙ out.position))) (all b within)
 
   module _ (en : WorldState) (to : EnabledTo rep en rep.core.placement.backends) where
     position_en : (b : ℕ) → position_at en.core b ≡ position_at rep.core b

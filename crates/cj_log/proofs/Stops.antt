@@ -1,13 +1,11 @@
 -- What a stop leaves of a log.
-use Rattle.std.proofs.Common.{◌≡◌, ◌⊎◌, inl, inr, ⊎_elim, ℕ, Bool, true, false, List, [], ◌∷◌, ◌++◌, length, Ok, Err, refl, sym, ap, subst, ◌∙◌}
+use Rattle.std.proofs.Common.{◌≡◌, ◌⊎◌, inl, inr, ⊎_elim, ℕ, Bool, true, false, List, [], ◌∷◌, ◌++◌, length, Ok, sym, ap, subst, ◌∙◌}
 use Rattle.std.proofs.lemmas.List.{map-append, append_cancel_left}
 use Rattle.cj_log.proofs.Common.{AllByRecursion, IsBeforeOrAfter, IsItem, KeepsAtLeast, KeepsItems, LeavesOnly, LogItem, LogState, bodies_of, item_bytes, log_magic, ok_is, one_list}
 use Rattle.cj_records.specs.RecordFiles.{Finds}
-use Rattle.cj_records.specs.declared.error.RecordsError.{RecordsError}
-use Rattle.cj_records.specs.declared.error.RecordsError.TheVariants as errors
 use Rattle.cj_records.specs.Records.{RecordList, SameRecords}
 use Rattle.cj_records.specs.Records as records
-use Rattle.cj_log.specs.Proving.Keeping.{IsBody, AgreesWithRecords}
+use Rattle.cj_log.specs.Proving.Keeping.{AgreesWithRecords}
 use Rattle.cj_log.specs.Proving.ItemFormats.{item_of, items_in}
 use Rattle.cj_log.proofs.ItemFormats.{item_back, items_back}
 use Rattle.cj_log.proofs.Listed.{each_more}
@@ -79,22 +77,6 @@ keeps_at_least tells kept items bytes t l (inr (up, f)) =
     inr (up, r.0, keeps bytes kept.magic (kept.list ++ kept.refused ∷ []) (items ++ r.0 ∷ []) l.magic (more kept.list items r.0 kept.refused (l.bodies t) r.2) (each_more items r.0 (l.each t) r.1) f)
 
 -- ---- what holds of the fields after a refused append
-
-pub list_stays : {S : Type 0} (old new : RecordList S) (body : List ℕ) (e : RecordsError) → records.Appends old body new (Err e) → new.list ≡ old.list
-list_stays old new body errors.Failed a = a
-list_stays old new body errors.NoMemory a = a.0
-list_stays old new body (errors.BadRecord offset) a = absurd a
-
-pub log_refused : {S : Type 0} (tells : Bool) (old new : RecordList S) (items items' : List LogItem) (item : LogItem) (body : List ℕ) (e : RecordsError) → AgreesWithRecords tells old items → items' ≡ items → new.magic ≡ old.magic → (tells ≡ true → records.Appends old body new (Err e)) → IsItem item → item_bytes item ≡ body
-    → (tells ≡ true → new.torn ≡ true → (new.refused ≡ body) ⊎ (old.torn ≡ true) × (new.refused ≡ old.refused)) → AgreesWithRecords tells new items'
-log_refused tells old new items items' item body e l same magic list is its refused = record {
-  magic = magic ∙ l.magic;
-  bodies = λ t. list_stays old new body e (list t) ∙ l.bodies t ∙ ap bodies_of (sym same);
-  each = λ t. subst (λ (xs : List LogItem). AllByRecursion IsItem xs) (sym same) (l.each t);
-  refused = λ t up. ⊎_elim
-      (λ now. subst IsBody (sym now) (item, is, its))
-      (λ was. subst IsBody (sym was.1) (l.refused t was.0)) (refused t up);
-}
 
 -- ---- the items are those of the bodies
 

@@ -28,10 +28,6 @@ module _ {T : Type 0} where
   pub cut_together : (ns : List ℕ) (xs : List T) → AreCut ns xs → xs ≡ together (cut ns xs)
   cut_together ns xs h = h.items_are ∙ ap together (sym (are_cut ns xs h))
 
-  -- no lists
-  pub cut_none : AreCut {T = T} [] []
-  cut_none = record { lists = []; lengths_are = refl; items_are = refl }
-
   -- one more list at the end
   pub cut_more : (ns : List ℕ) (xs l : List T) → AreCut ns xs → AreCut (ns ++ length l ∷ []) (xs ++ l)
   cut_more ns xs l h = record {

@@ -4,7 +4,7 @@ use Rattle.std.specs.Int.{Width, w16, w32, w64, byte_len, from_be_bytes, to_be_b
 use Rattle.std.proofs.lemmas.Bool.{cases_lt, ltb-false, le-ltb}
 use Rattle.std.proofs.lemmas.List.{take_at, drop_at, take-append-drop, length-append, length-take, get_or-drop, get_or-take, get_or_past}
 use Rattle.std.proofs.lemmas.Nat.{be_bytes_2, be_bytes_4, be_bytes_8, from_be_bytes-to_be_bytes_2, from_be_bytes-to_be_bytes_4, from_be_bytes-to_be_bytes_8}
-use Rattle.cj_model.specs.Wire.Fields.{◌>>=◌, number_at, bytes_at, str16, str32}
+use Rattle.cj_model.specs.Wire.Fields.{◌>>=◌, number_at, bytes_at, str16}
 
 -- numbers that are bytes
 abbrev pub IsBytes : List ℕ → Type 0
@@ -188,14 +188,6 @@ str16_takes short bytes x fits e = text_takes short w16 (2 ^ 16) wide16 bytes x 
 -- a text behind two bytes of length is read again, whatever follows
 pub str16_again : {E : Type 0} (short : E) (text rest : List ℕ) → length text < 2 ^ 16 → text_at short w16 (str16 text ++ rest) ≡ Ok (text, rest)
 str16_again short text rest lt = text_again short w16 (2 ^ 16) wide16 text rest lt
-
--- a text behind four bytes of length that is read is that length and its bytes
-pub str32_takes : {E : Type 0} (short : E) (bytes : List ℕ) (x : List ℕ × List ℕ) → IsBytes bytes → text_at short w32 bytes ≡ Ok x → Takes bytes (str32 x.0) x.1 × (length x.0 < 2 ^ 32) × IsBytes x.0
-str32_takes short bytes x fits e = text_takes short w32 (2 ^ 32) wide32 bytes x fits e
-
--- a text behind four bytes of length is read again, whatever follows
-pub str32_again : {E : Type 0} (short : E) (text rest : List ℕ) → length text < 2 ^ 32 → text_at short w32 (str32 text ++ rest) ≡ Ok (text, rest)
-str32_again short text rest lt = text_again short w32 (2 ^ 32) wide32 text rest lt
 
 -- two texts behind their lengths, with what follows them, are the same bytes only where they are the same texts
 pub text_same : (w : Width) (limit : ℕ) (wide : IsWide w limit) (a b r s : List ℕ) → length a < limit → length b < limit

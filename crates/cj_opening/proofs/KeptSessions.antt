@@ -1,12 +1,12 @@
 -- What is known of sessions, with one more entry of the log.
-use Rattle.std.proofs.Common.{◌≡◌, ◌≢◌, ℕ, zero, suc, ◌+◌, ◌-◌, ◌<◌, ◌≤◌, ◌==◌, true, false, List, [], ◌∷◌, ◌++◌, length, slice_get, unwrap_or, None, Some, All, refl, ap, sym, ◌∙◌, subst, arith, length-append, ⊎_elim}
+use Rattle.std.proofs.Common.{◌≡◌, ◌≢◌, ℕ, ◌+◌, ◌-◌, ◌<◌, ◌≤◌, ◌==◌, true, false, List, [], ◌∷◌, ◌++◌, length, slice_get, unwrap_or, None, Some, All, refl, ap, sym, ◌∙◌, subst, arith, length-append, ⊎_elim}
 use Rattle.std.specs.Option.{option_map}
 use Rattle.std.specs.Ordering.{nat_cmp}
 use Rattle.std.specs.BTreeMap.{BTreeMap, get, is_at}
 use Rattle.std.proofs.lemmas.Bool.{cases_eq, eq-eqb, ne_eqb, cond-true, cond-false}
 use Rattle.std.proofs.lemmas.Bool.Decides.{nat_tests}
 use Rattle.std.proofs.lemmas.List.{get_or_push, get_or_append_left}
-use Rattle.std.proofs.lemmas.List.Elements.{All-push, All-weaker, All-nil}
+use Rattle.std.proofs.lemmas.List.Elements.{All-push, All-weaker}
 use Rattle.cj_opening.proofs.Common.{Act, Entry, FitsTx, IsAdministratorEntry, IsFitEntry, IsSessionEntry, SessionSoFar}
 use Rattle.cj_model.specs.declared.request.Act.TheVariants as act
 use Rattle.cj_model.specs.declared.limits.TheConstants.{REQUEST_LIMIT, SESSION_NUMBER_LIMIT}
@@ -14,7 +14,7 @@ use Rattle.cj_cluster.specs.History.Histories.{tx_of}
 use Rattle.cj_cluster.specs.History.Transactions.{is_begin, is_end}
 use Rattle.cj_cluster.specs.Moves.Moves.{entry_numbered}
 use Rattle.cj_cluster.proofs.TransactionLaws.{one_session, tx_of_begin, tx_of_begin_other, tx_of_end, tx_of_end_other, tx_of_else}
-use Rattle.cj_opening.specs.Proving.Keeping.{IsNextSeq, session_in, tx_behind, KeepsSessions, Began, owner_of, session_behind}
+use Rattle.cj_opening.specs.Proving.Keeping.{IsNextSeq, session_in, tx_behind, KeepsSessions, owner_of, session_behind}
 
 -- ---- the entry of a number
 
@@ -24,30 +24,13 @@ numbered_entry entries i =
     let e : i + 1 - 1 ≡ i = omega arith in
     cond-false (i + 1 == 0) None (slice_get entries (i + 1 - 1)) (ne_eqb (i + 1) 0 ne) ∙ ap (λ n. slice_get entries n) e
 
-pub place_numbered : (entries : List Entry) (n : ℕ) (d : Entry) → entry_numbered entries n ≡ Some d → (i : ℕ) × (n ≡ i + 1) × (slice_get entries i ≡ Some d)
-place_numbered entries zero d is = absurd (cc is)
-place_numbered entries (suc i) d is = let e : suc i ≡ i + 1 = omega arith in (i, e, sym (numbered_entry entries i) ∙ (ap (entry_numbered entries) (sym e) ∙ is))
-
 -- ---- the administrator's end
-
--- it is one where the entry of that number began the open transaction of its session for this user
-pub is_administrators : (entries : List Entry) (begin e : Entry) → e.session ≡ 0 → e.seq ≡ 0 → e.act ≡ act.Abort → entry_numbered entries e.tx ≡ Some begin → Began entries begin e → IsAdministratorEntry entries e
-is_administrators entries begin e session seq aborts numbered began =
-    let p = place_numbered entries e.tx begin numbered in
-    record { session = session; seq = seq; aborts = aborts; begin = begin; at = p.0; tx = p.1; began = p.2; is_open = began.0; user = began.1 }
 
 -- and only there
 pub administrators_begin : (entries : List Entry) (e : Entry) (a : IsAdministratorEntry entries e) → entry_numbered entries e.tx ≡ Some a.begin
 administrators_begin entries e a = ap (entry_numbered entries) a.tx ∙ (numbered_entry entries a.at ∙ a.began)
 
-pub administrators_began : (entries : List Entry) (e begin : Entry) → IsAdministratorEntry entries e → entry_numbered entries e.tx ≡ Some begin → Began entries begin e
-administrators_began entries e begin a numbered =
-    let same : a.begin ≡ begin = cc (sym (administrators_begin entries e a) ∙ numbered) in subst (λ (d : Entry). Began entries d e) same (a.is_open, a.user)
-
 -- ---- the next request of a session
-
-pub no_seq : (s : ℕ) → IsNextSeq [] s 0
-no_seq s = record { above = All-nil (λ (d : Entry). d.session ≡ s → d.seq < 0); least = λ m all. omega arith }
 
 -- the entry is newer than those before it exactly where its number is not below the next
 pub newer_from : (entries : List Entry) (e : Entry) (n : ℕ) → IsNextSeq entries e.session n → n ≤ e.seq → All (λ (d : Entry). d.session ≡ e.session → d.seq < e.seq) entries

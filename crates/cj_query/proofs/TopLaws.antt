@@ -4,7 +4,7 @@ use Rattle.std.specs.Prelude.{All, nat_le, option_map, slice_get}
 use Rattle.std.specs.List.{filter}
 use Rattle.std.specs.declared.option.Option.{Option}
 use Rattle.std.specs.declared.option.Option.TheVariants.{None, Some}
-use Rattle.std.proofs.lemmas.List.{take-append-le, take-append-drop, take_all, length-take-le, length-append, length-map}
+use Rattle.std.proofs.lemmas.List.{take-append-le, take-append-drop, take_all, length-take-le, length-map}
 use Rattle.cj_query.proofs.Common.{All-cons, All-head, All-nil, All-tail, at_most, cases_Bool, cond-false, cond-true, filter-append, insert_before, IsStrictWeakOrder, not-true, sorted_by, ties}
 use Rattle.cj_query.specs.Ranked.{Bars, is_barred}
 use Rattle.cj_query.proofs.OrderLaws.{IsInOrder, NoneBefore, none_before_put, none_chain, not_before_itself, ordered_rises, ordered_stable, unique}
@@ -216,14 +216,6 @@ module _ {X : Type 0} (lt : X → X → Bool) (o : IsStrictWeakOrder lt) where
       let len : length (sorted_by lt xs) ≡ length xs = length-sorted xs in
       let taken : length (take n (sorted_by lt xs)) ≡ n = length-take-le n (sorted_by lt xs) (omega (arith, l, len)) in
       bars_last n rows bar e (ap length is ∙ taken) (subst (IsInOrder lt) (sym is) (in_order_taken n (sorted_by lt xs) (ordered_rises lt o xs)))
-
-  -- the bar of rows in front
-  pub bars_more : (limit : Option ℕ) (xs ys : List X) (bar : Option X) → Bars lt limit xs bar → Bars lt limit (xs ++ ys) bar
-  bars_more limit xs ys None h = tt
-  bars_more None xs ys (Some b) h = h
-  bars_more (Some n) xs ys (Some b) h =
-      let l : n ≤ length xs = h.0 in
-      (let e : length (xs ++ ys) ≡ length xs + length ys = length-append xs ys in omega (arith, l, e), subst (All (λ y. lt b y ≡ false)) (sym (take-append-le n xs ys l)) h.1)
 
 got-map : {A B : Type 0} (f : A → B) (xs : List A) (i : ℕ) → slice_get (map f xs) i ≡ option_map f (slice_get xs i)
 got-map f [] i = refl

@@ -1,9 +1,9 @@
 -- Tables of the vocabulary as trees: rows put into an empty table, and changes that turn rows into new ones.
 use Rattle.std.proofs.Common.{◌≡◌, ℕ, true, false, cond, List, [], ◌∷◌, ◌++◌, refl, ap, sym, ◌∙◌, subst, ⊎_elim, Less, is_eq, arith}
-use Rattle.cj_rows.proofs.Common.{All-head, at, cases_Bool, changed_slot, cond-false, cond-true, fold, insert_entry, is_at, is_some, KeysRise, merged, ne_eqb, None, Option, ordering_reverse, remove_entry, rows_after, Schema, Slot, Some, Table, tied_itself, unwrap_or, Value, value_cmp, value_exact, value_total, values_of}
+use Rattle.cj_rows.proofs.Common.{All-head, at, cases_Bool, changed_slot, cond-false, cond-true, fold, insert_entry, is_at, is_some, KeysRise, merged, ne_eqb, None, Option, ordering_reverse, remove_entry, rows_after, Schema, Slot, Some, tied_itself, unwrap_or, Value, value_cmp, value_exact, value_total, values_of}
 use Rattle.cj_model.specs.declared.database.Draft.{Draft}
 use Rattle.cj_model.specs.Database.Tables.{IsSlot, Rises, by_key, cell, put_by}
-use Rattle.cj_model.specs.Database.Steps.{seen, seen_behind}
+use Rattle.cj_model.specs.Database.Steps.{seen}
 use Rattle.cj_model.proofs.RisingLaws.{equal_from}
 use Rattle.cj_rows.specs.RowEntries.{RowEntries, Settles, Turns, keyed, knows, puts}
 use Rattle.cj_rows.proofs.EntryLaws.{at_insert, at_kept, at_merged, at_remove, rise_merged, same_entries}
@@ -112,14 +112,6 @@ table_filled schema rows h =
     (ap values_of (filled schema.key rows h) ∙ values_keyed schema.key rows)
 
 module _ (s : Slot) (d : Draft) (none : s.draft ≡ None) (is : IsSlot (record { base = s.base; draft = Some d })) where
-  sees_base : seen s d.tx ≡ s.base
-  sees_base = ap (seen_behind s.base d.tx) none
-
-  pub base_rises : Rises (by_key s.base.schema.key) (seen s d.tx).rows
-  base_rises = subst (λ (t : Table). Rises (by_key s.base.schema.key) t.rows) (sym sees_base) is.base.rises
-
-  pub draft_rises : Rises (by_key s.base.schema.key) d.table.rows
-  draft_rises = subst (λ (c : Schema). Rises (by_key c.key) d.table.rows) is.draft.2 is.draft.1.rises
 
   -- changes that turn the base's rows into the draft's
   pub draft_put : (changes : RowEntries) → Turns s.base.schema.key (seen s d.tx).rows d.table.rows changes → changed_slot s d.tx changes ≡ record { base = s.base; draft = Some d }

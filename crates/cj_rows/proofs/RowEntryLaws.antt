@@ -123,13 +123,6 @@ eq_back Less = refl
 eq_back Equal = refl
 eq_back Greater = refl
 
--- what is left has no other keys
-pub known_behind : (es more : RowEntries) (key : Value) (row : Option (List Value)) (q : Value) → es ≡ (key, row) ∷ more → knows more q ≡ true → knows es q ≡ true
-known_behind es more key row q is h = ap (λ l. knows l q) is ∙ ⊎_elim
-    (λ (t : is_at (value_cmp q) key ≡ true). ap is_some (cond-true _ _ _ t))
-    (λ (f : is_at (value_cmp q) key ≡ false). ap is_some (cond-false _ _ _ f) ∙ h)
-    (cases_Bool (is_at (value_cmp q) key))
-
 pub known_here : (es more : RowEntries) (key : Value) (row : Option (List Value)) (q : Value) → es ≡ (key, row) ∷ more → value_cmp key q ≡ Equal → knows es q ≡ true
 known_here es more key row q is h =
     ap (λ l. knows l q) is ∙ ap is_some (cond-true _ _ _ (ap is_eq (value_total.antisymm q key) ∙ eq_back (value_cmp key q) ∙ ap is_eq h))

@@ -1,5 +1,5 @@
 -- Where words end.
-use Rattle.std.proofs.Common.{◌≡◌, ◌∙◌, refl, sym, ap, subst, ℕ, not, ◌==◌, List, [], ◌∷◌, ◌++◌, Some, None}
+use Rattle.std.proofs.Common.{◌≡◌, ◌∙◌, refl, sym, ap, subst, ℕ, not, ◌==◌, List, [], ◌∷◌, ◌++◌, Some}
 use Rattle.std.specs.List.{list_all, position}
 use Rattle.cj_script.proofs.Common.{and_parts, bytes_eq, CutsWord, false≢true, IsNamed, IsNumbered}
 use Rattle.cj_cluster.specs.Script.Lines.{IsNumber, IsBackend, HasNoSpace}
@@ -29,10 +29,6 @@ one_cut (a ∷ w) (b ∷ v) y z p q e =
 -- where a line was cut, it is no other word and no other rest
 pub cut_one : (line word rest w z : List ℕ) → CutsWord line word (Some rest) → HasNoSpace w → line ≡ w ++ 32 ∷ z → (word ≡ w) × (rest ≡ z)
 cut_one line word rest w z c h e = one_cut word w rest z c.0 h (sym c.1 ∙ e)
-
--- where it wasn't, it holds no space
-pub cut_none : (line word w z : List ℕ) → CutsWord line word None → line ≡ w ++ 32 ∷ z → ⊥
-cut_none line word w z c e = no_space w z (subst HasNoSpace e c.0)
 
 -- the number and what follows it are one
 pub numbered_one : (rest : List ℕ) (m n : ℕ) (y z : List ℕ) → IsNumbered rest m y → IsNumbered rest n z → (m ≡ n) × (y ≡ z)

@@ -99,10 +99,6 @@ module _ (k : ℕ) (p : List Value → Bool) (rows before rest : List (List Valu
   behind : All (λ s. is_at_least k (cell row k) s ≡ true) rest
   behind = below_row k row rest here.0
 
-  -- the others stand behind one more
-  pub ends_behind : rows ≡ (before ++ row ∷ []) ++ rest
-  ends_behind = ends ∙ sym (append_assoc before (row ∷ []) rest)
-
   module _ (v : Value) (above : is_gt (value_cmp v (cell row k)) ≡ true) where
     part : rows_from k v rows ≡ rows_from k v rest
     part = ap (rows_from k v) ends ∙ left_out k v row before rest above whole
@@ -134,9 +130,6 @@ module _ (n k : ℕ) (place : n ≡ k) (row : List Value) (key : Value) (is_key 
       let at : ReachesRows k pred (cell row k) reach = subst (λ w. ReachesRows k pred w reach) is_key (subst (λ m. ReachesRows m pred key reach) place reaches) in
       at.at r l (sym (ap (λ o. satisfies o r) is) ∙ t)
 
-  pub reached_from : (r : List Value) → is_le (value_cmp key (cell r k)) ≡ true → satisfies cond r ≡ true → is_reached reach (cell r k) ≡ true
-  reached_from r l t = reached r (subst (λ w. is_le (value_cmp w (cell r k)) ≡ true) is_key l) t
-
 -- ---- walks
 
 -- one that stays where it is goes on
@@ -145,12 +138,4 @@ stays s row at = record {
   found = refl;
   fewer = omega arith;
   search = record { table = at.table; before = at.before ++ row ∷ []; ends = at.ends ∙ sym (append_assoc at.before (row ∷ []) s.scan) };
-}
-
--- what goes on from a walk with another end
-pub goes_on_after : (s t new : Search) (row : List Value) → t.cond.now ≡ s.cond.now → t.scan ≡ s.scan → GoesOn t row new → GoesOn s row new
-goes_on_after s t new row c e g = record {
-  found = g.found ∙ ap (λ o. filter (satisfies o) (row ∷ t.scan)) c ∙ ap (λ l. filter (satisfies s.cond.now) (row ∷ l)) e;
-  fewer = subst (λ l. length new.scan ≤ length l) e g.fewer;
-  search = g.search;
 }

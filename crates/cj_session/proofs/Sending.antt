@@ -1,15 +1,12 @@
 -- What is sent of a reply.
-use Rattle.std.proofs.Common.{◌≡◌, Bool, arith, ℕ, ◌≤◌, List, Result, Err, Option, refl, sym, ap, subst, inl, inr}
-use Rattle.cj_session.proofs.Common.{Answer, DeskState, DeskSteps, Done, OutError, Refusal, Refused, Reply, Rows, SendsReply, Stats, turn_taken, WritesAll}
+use Rattle.std.proofs.Common.{◌≡◌, ℕ, ◌≤◌, List, Result, Err, Option, refl, sym, ap, subst, inl, inr}
+use Rattle.cj_session.proofs.Common.{Answer, OutError, Refusal, Refused, Reply, Rows, SendsReply, WritesAll}
 use Rattle.cj_model.specs.declared.codes.TheConstants.{TOO_LARGE}
 use Rattle.cj_model.specs.declared.limits.TheConstants.{FRAME_LIMIT}
-use Rattle.cj_model.specs.Database.Outcomes.{IsAnswer}
-use Rattle.cj_cluster.specs.History.Turns.{Call}
 use Rattle.cj_model.specs.Wire.Replies.{reply_length, reply_bytes}
 use Rattle.cj_reply.specs.declared.reply.ReplyError.{ReplyError}
 use Rattle.cj_reply.specs.declared.reply.ReplyError.TheVariants as errors
-use Rattle.cj_reply.specs.Encode.{Encodes, IsSendable}
-use Rattle.cj_desk.proofs.TurnReplies.{turn_rows}
+use Rattle.cj_reply.specs.Encode.{Encodes}
 use Rattle.cj_session.specs.Proving.Points.{SendsReplyTo, refusal_in_place}
 
 pub sends_to : (held held' : Option (List ℕ)) (r sent : Reply) (bytes : List ℕ) (result : Result (Unit {0}) OutError) → SendsReply r sent → bytes ≡ reply_bytes sent → WritesAll held held' bytes result → SendsReplyTo held held' r result
@@ -33,14 +30,3 @@ pub sends_in_place : (held held' : Option (List ℕ)) (r : Reply) (e : ReplyErro
 sends_in_place held held' r e refusal result (a, is) encodes said wrote =
     let stands : SendsReply (Rows a) (Refused refusal) = subst (λ (x : Refusal). SendsReply (Rows a) (Refused x)) (sym said) (in_place a e (subst (λ (x : Reply). Encodes x (Err e)) is encodes)) in
     record { sent = Refused refusal; stands = subst (λ (x : Reply). SendsReply x (Refused refusal)) (sym is) stands; wrote = wrote }
-
--- a reply whose rows are an answer's can be sent
-answer_sendable : (r : Reply) → ((a : Answer) → r ≡ Rows a → IsAnswer a) → IsSendable r
-answer_sendable (Done count) rows = tt
-answer_sendable (Rows a) rows = let is = rows a refl in record { some = is.some; most = omega (arith, is.few); each = is.each }
-answer_sendable (Stats hits misses) rows = tt
-answer_sendable (Refused refusal) rows = tt
-
--- so can what a desk answers a write or a read
-pub turn_sendable : (tells : Bool) (a z : DeskState) (c : Call) → DeskSteps tells a (turn_taken c) z → IsSendable c.reply
-turn_sendable tells a z c t = answer_sendable c.reply (turn_rows tells a.placement a.session a.seen c z.seen t.turn)

@@ -1,5 +1,5 @@
 -- How serving a session goes on, and how it ends.
-use Rattle.std.proofs.Common.{◌≡◌, ℕ, ◌+◌, ◌^◌, ◌<◌, ◌≤◌, true, false, List, [], ◌∷◌, ◌++◌, length, take, Result, Err, Option, Some, None, refl, sym, ap, subst, ◌∙◌, inl, inr, MatchOption, arith, append_assoc, length-append}
+use Rattle.std.proofs.Common.{◌≡◌, ℕ, ◌+◌, ◌<◌, ◌≤◌, true, false, List, [], ◌∷◌, ◌++◌, length, take, Result, Err, Option, Some, None, refl, sym, ap, subst, ◌∙◌, inl, inr, MatchOption, arith, append_assoc, length-append}
 use Rattle.std.specs.List.{flat_map, list_any, AllByRecursion}
 use Rattle.std.specs.Io.KnownBytes.{Consumes, Appends}
 use Rattle.std.proofs.lemmas.List.Concat.{flat_map-append, flat_map-cons}
@@ -310,10 +310,6 @@ ended_starved w p left held z rest m result e same few is framed goes_on failed 
     cut_exchange w p left held end.NoMemory z rest m x.sent wrote.0 same (omega (arith, few)) is framed goes_on x.exchange wrote.1 wrote.2 (λ (c : IsCutTranscript rest (x.sent ∷ []) (take wrote.0 (reply_bytes x.sent))). inr c)
 
 -- ---- a session
-
--- a session that began with few queries leaves room for two more
-pub serves_room : {S D : Type 0} (w : SessionSetting S D) (p q : SessionPoint S D) → p.rest ≡ [] → p.count ≡ 0 → (w.state_of p.client.desk).queries ≤ 2 ^ 61 → ServesUpTo w p q → (w.state_of q.client.desk).queries + 1 < 2 ^ 62
-serves_room w p q none zero_count few t = omega (arith, ap length none, zero_count, few, t.paid, t.few, t.count_is)
 
 pub served : {S D : Type 0} (w : SessionSetting S D) (p : SessionPoint S D) (left held : Option (List ℕ)) (ending : SessionEnd) (z : ClientState S D) (desk : S)
     → p.rest ≡ [] → p.count ≡ 0 → ServesToEnd w p left held ending z → LeavesDesk w.state_of w.leads_to z.user z.desk desk → ServesSession w p.left left p.held held p.client ending desk z.draws
