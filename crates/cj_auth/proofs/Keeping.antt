@@ -35,7 +35,6 @@ none_fails q (x ∷ rows) h =
     (λ f. let e : Some x.user ≡ None = sym (ap found f) ∙ h in cc)
 
 module _ (rows : List Account) (backends : ℕ) (is : refusal_of_accounts rows backends ≡ None) where
-
   behind : (option_map BadDigest (user_where (λ account. not (is_digest account.digest)) rows) ≡ None) × (option_map LoginCount (user_where (λ account. not (has_logins backends account)) rows) ≡ None)
   behind = neither _ _ (neither (option_map Twice (repeated_user [] rows)) _ is).1
 

@@ -28,7 +28,6 @@ module _ (c d : Core) (entries : log c.history ≡ log d.history) (sessions : c.
 -- ---- from part to part
 
 module _ (old rep : WorldState) (only : OnlyReplays old rep) (all : (b : ℕ) → b < old.core.placement.backends → HasReplayed (faults_of old.cells) rep b) where
-
   module _ (en : WorldState) (to : EnabledTo rep en rep.core.placement.backends) where
     position_en : (b : ℕ) → position_at en.core b ≡ position_at rep.core b
     position_en b = enabled_position rep en rep.core.placement.backends to b

@@ -33,7 +33,7 @@ module _ {T : Type 0} where
   cut_more ns xs l h = record {
     lists = h.lists ++ l ∷ [];
     lengths_are = ap (λ n. n ++ length l ∷ []) h.lengths_are ∙ sym (map-append length h.lists (l ∷ []));
-    items_are = ap (λ x. x ++ l) h.items_are ∙ flat_map_more (λ list. list) [] h.lists l
+    items_are = ap (λ x. x ++ l) h.items_are ∙ flat_map_more (λ list. list) [] h.lists l;
   }
 
   pub cut_pushed : (ns : List ℕ) (xs l : List T) → AreCut ns xs → cut (ns ++ length l ∷ []) (xs ++ l) ≡ cut ns xs ++ l ∷ []
@@ -49,12 +49,14 @@ module _ {T : Type 0} where
   from_lists n ns xs [] e i = absurd (cc e)
   from_lists n ns xs (l ∷ ls) e i =
       let first : n ≡ length l = ap (λ list. get_or list 0 0) e in
-      let all : xs ≡ l ++ together ls = i ∙ flat_map-cons (λ list. list) l ls in
-      (omega (arith, first, ap length all, length-append l (together ls)), record {
-        lists = ls;
-        lengths_are = ap (drop 1) e;
-        items_are = ap (λ m. drop m xs) first ∙ ap (drop (length l)) all ∙ drop-append_seam l (together ls)
-      })
+      let all : xs ≡ l ++ together ls = i ∙ flat_map-cons (λ list. list) l ls in (
+        omega (arith, first, ap length all, length-append l (together ls)),
+        record {
+          lists = ls;
+          lengths_are = ap (drop 1) e;
+          items_are = ap (λ m. drop m xs) first ∙ ap (drop (length l)) all ∙ drop-append_seam l (together ls);
+        },
+      )
 
   -- the first list is there, and the others stand behind it
   pub cut_first : (ns : List ℕ) (xs : List T) → AreCut ns xs → 1 ≤ length ns → (slice_index_or ns 0 0 ≤ length xs) × AreCut (take (length ns - 1) (drop 1 ns)) (drop (slice_index_or ns 0 0) xs)

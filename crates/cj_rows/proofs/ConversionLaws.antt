@@ -112,7 +112,6 @@ table_filled schema rows h =
     (ap values_of (filled schema.key rows h) ∙ values_keyed schema.key rows)
 
 module _ (s : Slot) (d : Draft) (none : s.draft ≡ None) (is : IsSlot (record { base = s.base; draft = Some d })) where
-
   -- changes that turn the base's rows into the draft's
   pub draft_put : (changes : RowEntries) → Turns s.base.schema.key (seen s d.tx).rows d.table.rows changes → changed_slot s d.tx changes ≡ record { base = s.base; draft = Some d }
   draft_put changes t =
