@@ -69,6 +69,10 @@ module _ {K : Type 0} (R : K → K → Ordering) where
       | Greater ↦ below_given a c.0 c.1 (onto R rest b cs) h.0 (below_onto a l r cs h.1)
     ]
 
+  below_merged : {X : Type 0} (a : K) (es : List (K × X)) → KeysBelow a es → (cs : List (K × Option X)) → KeysBelow a cs → KeysBelow a (merged R es cs)
+  below_merged a [] h cs g = below_kept a cs g
+  below_merged a (b ∷ bs) h cs g = below_onto b (λ ds. merged R bs ds) a h.0 (below_merged a bs h.1) cs g
+
   module _ (o : IsTotalOrder R) (exact : (x y : K) → R x y ≡ Equal → x ≡ y) where
     greater : (k q : K) → R q k ≡ Less → R k q ≡ Greater
     greater k q l = o.antisymm k q ∙ ap ordering_reverse l
