@@ -14,7 +14,7 @@ use crate::paths::ranking_of;
 use crate::project::{counts_row, names_of, project};
 use crate::top::first_ranked;
 use cj_expr::{Scope, ValueError};
-use cj_model::{Answer, Asked, NoMemory, OVERFLOW, Refusal, Row, Rows, Select};
+use cj_model::{Answer, AnswerRows, Asked, NoMemory, OVERFLOW, Refusal, Row, Select};
 use std::alloc::Global;
 
 /// Keeps at most so many groups, from the front.
@@ -96,10 +96,10 @@ pub fn answer_rows(
 }
 
 /// The rows of the answer to a query for nothing but the number of rows.
-fn count_rows(alloc: Global, select: &Select, count: usize) -> Result<Rows, NoMemory>
+fn count_rows(alloc: Global, select: &Select, count: usize) -> Result<AnswerRows, NoMemory>
     ensures { IfOk result (λ rows. rows ≡ at_most select.now.limit (counted.counts_row (queries.items_listed select.now.items) count ∷ [])) }
 {
-    let mut rows = Rows::new(alloc);
+    let mut rows = AnswerRows::new(alloc);
     if select.limit != Some(0) {
         rows.push(counts_row(alloc, listed(&select.items), count)?)?;
     }
