@@ -53,10 +53,22 @@ fn within(number: i128) -> Option<i64>
 pub fn narrowed(number: i128) -> Result<Value, ValueError>
     ensures { IsValueOf (Value.Int number) result }
 {
-    if number < -9_223_372_036_854_775_808 || 9_223_372_036_854_775_807 < number {
-        return Err(ValueError::Overflow);
+    match within(number) {
+        Some(number) => Ok(Value::Int(number)),
+        None => Err(ValueError::Overflow),
     }
-    Ok(Value::Int(number as i64))
+}
+
+fn sum(left: &Operand, right: &Operand, row: &[Value]) -> i128
+    ensures { Value.Int result ≡ value_of row.now (formula (Formula.Sum left.now right.now)) }
+{
+    i128::from(left.number_in(row)) + i128::from(right.number_in(row))
+}
+
+fn difference(left: &Operand, right: &Operand, row: &[Value]) -> i128
+    ensures { Value.Int result ≡ value_of row.now (formula (Formula.Difference left.now right.now)) }
+{
+    i128::from(left.number_in(row)) - i128::from(right.number_in(row))
 }
 
 impl Formula {
@@ -66,16 +78,8 @@ impl Formula {
     {
         match self {
             Formula::Just(operand) => Ok(operand.value_in(alloc, row)?),
-            Formula::Sum(left, right) => {
-                let left = i128::from(left.number_in(row));
-                let right = i128::from(right.number_in(row));
-                narrowed(left + right)
-            }
-            Formula::Difference(left, right) => {
-                let left = i128::from(left.number_in(row));
-                let right = i128::from(right.number_in(row));
-                narrowed(left - right)
-            }
+            Formula::Sum(left, right) => narrowed(sum(left, right, row)),
+            Formula::Difference(left, right) => narrowed(difference(left, right, row)),
         }
     }
 
@@ -85,16 +89,8 @@ impl Formula {
     {
         match self {
             Formula::Just(operand) => operand.integer_in(row),
-            Formula::Sum(left, right) => {
-                let left = i128::from(left.number_in(row));
-                let right = i128::from(right.number_in(row));
-                within(left + right)
-            }
-            Formula::Difference(left, right) => {
-                let left = i128::from(left.number_in(row));
-                let right = i128::from(right.number_in(row));
-                within(left - right)
-            }
+            Formula::Sum(left, right) => within(sum(left, right, row)),
+            Formula::Difference(left, right) => within(difference(left, right, row)),
         }
     }
 }

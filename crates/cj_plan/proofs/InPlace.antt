@@ -13,7 +13,7 @@ use Rattle.cj_expr.specs.Results.{integer_within}
 use Rattle.cj_expr.specs.Shapes.{formula}
 use Rattle.cj_rows.specs.Stored.{KeepsKeys}
 use Rattle.cj_plan.specs.Assignments.{KeepsKey}
-use Rattle.cj_plan.specs.Changes.{Makes, keyed}
+use Rattle.cj_plan.specs.Changes.{Makes, as_change}
 use Rattle.cj_plan.specs.ColumnEdits.{GetIntegers, SetsInPlace, edited, with_integer}
 use Rattle.cj_plan.specs.declared.plan.Change.{Change}
 use Rattle.cj_plan.specs.declared.plan.Change.TheVariants.{ByKey, InPlace, Removal}
@@ -29,14 +29,14 @@ makes_past free t true r rest x h p = cc h
 makes_past free t false r rest x h p = p
 
 -- a plan by keys is a change
-makes_keyed : (free : Bool) (t : Table) (change : Changed) (planned : Result Plan Refusal) → Plans t change planned → Makes free t change (keyed planned)
-makes_keyed free t (Ok r) (Ok p) h = h
-makes_keyed free t (Ok r) (Err e) h = h
-makes_keyed free t (Err e) (Ok p) h = h
-makes_keyed free t (Err e) (Err f) h = h
+makes_as_change : (free : Bool) (t : Table) (change : Changed) (planned : Result Plan Refusal) → Plans t change planned → Makes free t change (as_change planned)
+makes_as_change free t (Ok r) (Ok p) h = h
+makes_as_change free t (Ok r) (Err e) h = h
+makes_as_change free t (Err e) (Ok p) h = h
+makes_as_change free t (Err e) (Err f) h = h
 
-pub keyed_makes : (free : Bool) (t : Table) (meant change : Changed) (planned : Result Plan Refusal) (made : Result Change Refusal) → meant ≡ change → made ≡ keyed planned → Plans t change planned → Makes free t meant made
-keyed_makes free t meant change planned made m k h = subst (λ c. Makes free t c made) (sym m) (subst (Makes free t change) (sym k) (makes_keyed free t change planned h))
+pub plan_makes : (free : Bool) (t : Table) (meant change : Changed) (planned : Result Plan Refusal) (made : Result Change Refusal) → meant ≡ change → made ≡ as_change planned → Plans t change planned → Makes free t meant made
+plan_makes free t meant change planned made m k h = subst (λ c. Makes free t c made) (sym m) (subst (Makes free t change) (sym k) (makes_as_change free t change planned h))
 
 integer_is : (v : Value) (z : ℤ) → Some z ≡ integer_within v → (is_out_of_range v ≡ false) × (v ≡ Int z)
 integer_is (Int y) z e = let p = from_some (is_out_of_range (Int y)) z y e in (p.0, ap Int (sym p.1))

@@ -13,17 +13,17 @@ use Rattle.cj_plan.specs.declared.plan.Change.{Change}
 use Rattle.cj_plan.specs.declared.plan.Change.TheVariants.{ByKey, InPlace, Removal}
 use Rattle.cj_plan.specs.Plans.{Leaves}
 use Rattle.cj_plan.specs.ColumnEdits.{edited}
-use Rattle.cj_plan.specs.Removals.{fails}
+use Rattle.cj_plan.specs.Removals.{is_unmet}
 
--- the change leaves these rows, and has written so many; a walk over all rows is made only of a table that is free
-abbrev pub Changes : Bool → Table → Change → List (List Value) → ℕ → Type 0
-Changes free t (ByKey p) rows n = Leaves t p rows n
-Changes free t (InPlace r written) rows n = (free ≡ true) × KeepsKeys t.schema.key (edited r) × (map (edited r) t.rows ≡ rows) × (written ≡ n)
-Changes free t (Removal u count written) rows n = (free ≡ true) × (count ≡ length (filter (fails u) t.rows)) × (filter (fails u) t.rows ≡ rows) × (written ≡ n)
+-- the change leaves these rows, and has written so many; a walk over all rows is made only of a table without drafts
+abbrev pub ChangeLeaves : Bool → Table → Change → List (List Value) → ℕ → Type 0
+ChangeLeaves free t (ByKey p) rows n = Leaves t p rows n
+ChangeLeaves free t (InPlace r written) rows n = (free ≡ true) × KeepsKeys t.schema.key (edited r) × (map (edited r) t.rows ≡ rows) × (written ≡ n)
+ChangeLeaves free t (Removal u count written) rows n = (free ≡ true) × (count ≡ length (filter (is_unmet u) t.rows)) × (filter (is_unmet u) t.rows ≡ rows) × (written ≡ n)
 
 -- a change that leaves the rows that are meant, or the refusal that is meant
 abbrev pub Makes : Bool → Table → Changed → Result Change Refusal → Type 0
-Makes free t (Ok (rows, n)) (Ok c) = Changes free t c rows n
+Makes free t (Ok (rows, n)) (Ok c) = ChangeLeaves free t c rows n
 Makes free t (Ok (rows, n)) (Err r) = ⊥
 Makes free t (Err refusal) (Ok c) = ⊥
 Makes free t (Err refusal) (Err r) = r ≡ refusal
@@ -33,6 +33,6 @@ abbrev pub MakesChange : Bool → Table → Changed → Result (Result Change Re
 MakesChange free t change result = IfOk result (Makes free t change)
 
 -- a plan as a change
-abbrev pub keyed : Result Plan Refusal → Result Change Refusal
-keyed (Ok p) = Ok (ByKey p)
-keyed (Err r) = Err r
+abbrev pub as_change : Result Plan Refusal → Result Change Refusal
+as_change (Ok p) = Ok (ByKey p)
+as_change (Err r) = Err r

@@ -5,5 +5,5 @@ use Rattle.cj_model.specs.Database.Evaluation.{satisfies}
 use Rattle.cj_plan.specs.declared.unmet.Unmet.{Unmet}
 
 -- the row does not meet the condition
-abbrev pub fails : Unmet → List Value → Bool
-fails u row = not (satisfies u.condition row)
+abbrev pub is_unmet : Unmet → List Value → Bool
+is_unmet u row = not (satisfies u.condition row)

@@ -8,7 +8,7 @@ ghost use Rattle.cj_plan.specs.Changes.{MakesChange};
 ghost use Rattle.cj_rows.specs.RowEntries as entries;
 
 use crate::conditions::{are_many, bound, has_unknown_column, matching, mixes_kinds};
-use crate::plan::{Change, Changed, Plan};
+use crate::plan::{Change, Decided, Plan};
 use crate::unmet::Unmet;
 use cj_expr::{Predicate, Scope};
 use cj_model::{Cond, NO_COLUMN, NoMemory, Refusal, Row, WRONG_TYPE};
@@ -31,16 +31,16 @@ fn removals(alloc: Global, place: usize, rows: &[&Row]) -> Result<RowMap, NoMemo
 fn without_rows(
     alloc: Global,
     view: &View,
-    is_free: bool,
+    is_undrafted: bool,
     condition: Option<Predicate>,
-) -> Result<Changed, NoMemory>
-    ensures { MakesChange is_free view.now (updates.without_rows view.now.rows condition) result }
+) -> Result<Decided, NoMemory>
+    ensures { MakesChange is_undrafted view.now (updates.without_rows view.now.rows condition) result }
 {
     view.legal();
     let rows = matching(alloc, view, &condition)?;
     let count = view.count() - rows.len();
     let written = rows.len() as u64;
-    if is_free && are_many(rows.len(), view.count()) {
+    if is_undrafted && are_many(rows.len(), view.count()) {
         let by = Unmet { condition };
         return Ok(Ok(Change::Removal { by, count, written }));
     }
@@ -56,10 +56,10 @@ fn without_rows(
 pub fn deleted(
     alloc: Global,
     view: &View,
-    is_free: bool,
+    is_undrafted: bool,
     cond: &Option<Cond>,
-) -> Result<Changed, NoMemory>
-    ensures { MakesChange is_free view.now (updates.deleted view.now cond.now) result }
+) -> Result<Decided, NoMemory>
+    ensures { MakesChange is_undrafted view.now (updates.deleted view.now cond.now) result }
 {
     let scope = Scope::of(alloc, &[view.schema()])?;
     if has_unknown_column(&scope, cond) {
@@ -69,6 +69,6 @@ pub fn deleted(
         return Ok(Err(Refusal::of_code(WRONG_TYPE)));
     }
     let condition = bound(alloc, &scope, cond)?;
-    let changed = without_rows(alloc, view, is_free, condition)?;
-    Ok(changed)
+    let decided = without_rows(alloc, view, is_undrafted, condition)?;
+    Ok(decided)
 }

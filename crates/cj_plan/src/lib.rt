@@ -13,5 +13,5 @@ mod update;
 pub use column_edit::ColumnEdit;
 pub use insert::{has_misfit, is_column, puts};
 pub use names::is_distinct;
-pub use plan::{Change, Changed, Plan, changed};
+pub use plan::{Change, Decided, Plan, decided};
 pub use unmet::Unmet;

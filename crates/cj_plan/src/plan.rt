@@ -2,7 +2,7 @@
 
 ghost use Rattle.std.specs.Prelude.{◌≡◌};
 ghost use Rattle.cj_model.specs.Database.Updates.{change};
-ghost use Rattle.cj_plan.specs.Changes.{MakesChange, keyed};
+ghost use Rattle.cj_plan.specs.Changes.{MakesChange, as_change};
 
 use crate::column_edit::ColumnEdit;
 use crate::delete::deleted;
@@ -36,8 +36,7 @@ pub enum Change {
         /// The number of rows that are written.
         written: u64,
     },
-    /// Only the rows that pass stay, by one walk, which takes no memory, where no transaction has a
-    /// draft of the table.
+    /// Only the rows that pass stay, by one walk, which takes no memory, of a table without drafts.
     Removal {
         by: Unmet,
         /// The number of rows that stay.
@@ -48,10 +47,10 @@ pub enum Change {
 }
 
 /// A change, or the refusal of the write.
-pub type Changed = Result<Change, Refusal>;
+pub type Decided = Result<Change, Refusal>;
 
-fn by_key(planned: Planned) -> Changed
-    ensures { result ≡ keyed planned }
+fn as_change(planned: Planned) -> Decided
+    ensures { result ≡ as_change planned }
 {
     match planned {
         Ok(plan) => Ok(Change::ByKey(plan)),
@@ -60,20 +59,21 @@ fn by_key(planned: Planned) -> Changed
 }
 
 /// How a write is to change a table; by a walk over all rows only where it is free of drafts.
-pub fn changed(
+pub fn decided(
     alloc: Global,
     view: &View,
-    is_free: bool,
+    is_undrafted: bool,
     write: &Write,
-) -> Result<Changed, NoMemory>
-    ensures { MakesChange is_free view.now (change view.now write.now) result }
+) -> Result<Decided, NoMemory>
+    ensures { MakesChange is_undrafted view.now (change view.now write.now) result }
 {
     match write {
         Write::Insert { columns, rows, .. } => {
             let planned = inserted(alloc, view, columns, rows.as_slice())?;
-            Ok(by_key(planned))
+            Ok(as_change(planned))
         }
-        Write::Update { sets, cond, .. } => updated(alloc, view, is_free, sets.as_slice(), cond),
-        Write::Delete { cond, .. } => deleted(alloc, view, is_free, cond),
+        Write::Update { sets, cond, .. } =>
+            updated(alloc, view, is_undrafted, sets.as_slice(), cond),
+        Write::Delete { cond, .. } => deleted(alloc, view, is_undrafted, cond),
     }
 }

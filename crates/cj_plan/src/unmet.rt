@@ -14,9 +14,9 @@ pub struct Unmet {
 }
 
 impl RowTest for Unmet {
-    ghost use Rattle.cj_plan.specs.Removals.{fails};
+    ghost use Rattle.cj_plan.specs.Removals.{is_unmet};
 
-    ghost passes = { fails };
+    ghost passes = { is_unmet };
 
     fn test(&self, row: &Row) -> bool {
         !satisfies(&self.condition, row)

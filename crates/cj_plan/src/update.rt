@@ -16,7 +16,7 @@ ghost use Rattle.cj_rows.specs.RowEntries as entries;
 use crate::column_edit::ColumnEdit;
 use crate::conditions::{are_many, bound, has_unknown_column, matching, mixes_kinds};
 use crate::names::is_distinct;
-use crate::plan::{Change, Changed, Plan};
+use crate::plan::{Change, Decided, Plan};
 use cj_expr::{Formula, Predicate, Scope, ValueError, formula_of};
 use cj_model::{
     BAD_COLUMNS, ColRef, Cond, Duplicate, NO_COLUMN, Names, NoMemory, OVERFLOW, Refusal, Row, Set,
@@ -225,17 +225,17 @@ fn in_place(mut assigns: Vec<Assignment>, condition: Option<Predicate>, written:
 fn with_new_values(
     alloc: Global,
     view: &View,
-    is_free: bool,
+    is_undrafted: bool,
     assigns: Vec<Assignment>,
     condition: Option<Predicate>,
-) -> Result<Changed, NoMemory>
+) -> Result<Decided, NoMemory>
     requires { KeepsKey view.now.schema.key (assignments assigns.items) }
-    ensures { MakesChange is_free view.now (updates.with_new_values view.now.rows (assignments assigns.items) condition) result }
+    ensures { MakesChange is_undrafted view.now (updates.with_new_values view.now.rows (assignments assigns.items) condition) result }
 {
     view.legal();
     let rows = matching(alloc, view, &condition)?;
     let written = rows.len() as u64;
-    if is_free && get_integers(view.count(), &rows, &assigns) {
+    if is_undrafted && get_integers(view.count(), &rows, &assigns) {
         return Ok(Ok(in_place(assigns, condition, written)));
     }
     match new_rows(alloc, view.schema().key as usize, &rows, &assigns)? {
@@ -252,29 +252,29 @@ fn with_new_values(
 fn with_assignments(
     alloc: Global,
     view: &View,
-    is_free: bool,
+    is_undrafted: bool,
     scope: &Scope,
     sets: &[Set],
     when: &Option<Cond>,
-) -> Result<Changed, NoMemory>
+) -> Result<Decided, NoMemory>
     requires { KeepsKey view.now.schema.key (map (updates.assignment_of scope.now) sets.now) }
-    ensures { MakesChange is_free view.now (updates.with_new_values view.now.rows (map (updates.assignment_of scope.now) sets.now) (option_map (scopes.predicate_of scope.now) when.now)) result }
+    ensures { MakesChange is_undrafted view.now (updates.with_new_values view.now.rows (map (updates.assignment_of scope.now) sets.now) (option_map (scopes.predicate_of scope.now) when.now)) result }
 {
     let assigns = assignments_of(alloc, scope, sets)?;
     let condition = bound(alloc, scope, when)?;
-    let changed = with_new_values(alloc, view, is_free, assigns, condition)?;
-    Ok(changed)
+    let decided = with_new_values(alloc, view, is_undrafted, assigns, condition)?;
+    Ok(decided)
 }
 
 /// How an UPDATE is to change a table; in place only where it is free of drafts.
 pub fn updated(
     alloc: Global,
     view: &View,
-    is_free: bool,
+    is_undrafted: bool,
     sets: &[Set],
     when: &Option<Cond>,
-) -> Result<Changed, NoMemory>
-    ensures { MakesChange is_free view.now (updates.updated view.now sets.now when.now) result }
+) -> Result<Decided, NoMemory>
+    ensures { MakesChange is_undrafted view.now (updates.updated view.now sets.now when.now) result }
 {
     let schema = view.schema();
     let scope = Scope::of(alloc, &[schema])?;
@@ -287,6 +287,6 @@ pub fn updated(
     if has_mixed_kinds(&scope, sets, when) {
         return Ok(Err(Refusal::of_code(WRONG_TYPE)));
     }
-    let changed = with_assignments(alloc, view, is_free, &scope, sets, when)?;
-    Ok(changed)
+    let decided = with_assignments(alloc, view, is_undrafted, &scope, sets, when)?;
+    Ok(decided)
 }

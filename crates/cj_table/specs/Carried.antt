@@ -38,5 +38,5 @@ CarriesSlot old tx (Ok (rows, count)) (Err e) new = new ≡ old
 CarriesSlot old tx (Err refusal) (Err e) new = new ≡ old
 
 -- rows may be changed in their places: nobody has a draft of the table, and the write makes none
-abbrev pub is_free : Slot → ℕ → Bool
-is_free s tx = tx == 0 && not (is_some s.draft)
+abbrev pub is_undrafted : Slot → ℕ → Bool
+is_undrafted s tx = tx == 0 && not (is_some s.draft)

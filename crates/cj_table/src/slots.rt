@@ -7,7 +7,7 @@ ghost use Rattle.cj_model.specs.Database.Steps as steps;
 ghost use Rattle.cj_model.specs.Database.Steps.{written};
 ghost use Rattle.cj_model.specs.Database.Updates.{change};
 ghost use Rattle.cj_model.specs.Database.Tables.{IsDatabase, IsSlot, by_table, put_by, slot_of, table_of};
-ghost use Rattle.cj_table.specs.Carried.{Carries, CarriesSlot, change_of, is_free};
+ghost use Rattle.cj_table.specs.Carried.{Carries, CarriesSlot, change_of, is_undrafted};
 ghost use Rattle.cj_plan.specs.Changes.{MakesChange};
 
 use crate::schemas::{empty_table, makes_schema};
@@ -15,7 +15,7 @@ use cj_model::{
     BAD_COLUMNS, COLUMN_LIMIT, Create, LOCKED, NO_TABLE, Name, NoMemory, Outcome, Refusal,
     TABLE_EXISTS, Write,
 };
-use cj_plan::{Change, Changed, changed};
+use cj_plan::{Change, Decided, decided};
 use cj_rows::{StoredTable, View};
 use std::alloc::Global;
 use std::cmp::Ordering;
@@ -43,24 +43,24 @@ fn table_written(write: &Write) -> &Name
 }
 
 /// Whether rows may be changed in their places: nobody has a draft, nor is one to be made.
-fn is_free(slot: &StoredTable, tx: u64) -> bool
-    ensures { result ≡ is_free slot.now tx }
+fn is_undrafted(slot: &StoredTable, tx: u64) -> bool
+    ensures { result ≡ is_undrafted slot.now tx }
 {
     tx == 0 && slot.writer().is_none()
 }
 
 /// How a write is to change the table that its transaction sees.
-fn changed_for(
+fn decided_for(
     alloc: Global,
     slot: &StoredTable,
     tx: u64,
     write: &Write,
-) -> Result<Changed, NoMemory>
+) -> Result<Decided, NoMemory>
     requires { IsSlot slot.now }
-    ensures { MakesChange (is_free slot.now tx) (steps.seen slot.now tx) (change (steps.seen slot.now tx) write.now) result }
+    ensures { MakesChange (is_undrafted slot.now tx) (steps.seen slot.now tx) (change (steps.seen slot.now tx) write.now) result }
 {
     let view = View::of(slot, tx);
-    changed(alloc, &view, is_free(slot, tx), write)
+    decided(alloc, &view, is_undrafted(slot, tx), write)
 }
 
 fn write_slot(
@@ -79,7 +79,7 @@ fn write_slot(
             b: 0,
         }));
     }
-    match changed_for(alloc, slot, tx, write)? {
+    match decided_for(alloc, slot, tx, write)? {
         Ok(Change::ByKey(plan)) => {
             slot.change(alloc, tx, plan.changes, plan.count)?;
             Ok(Outcome::Done(plan.written))

@@ -17,7 +17,7 @@ returns-then-are_many c =
     let test = satisfies c.args.condition in
     let rows = c.in_ok-rows.rows in
     let size : length rows.items ≡ length (filter test t.rows) = sym (length-map rows.items deref) ∙ ap length c.in_ok-rows.ensures in
-    (c.if-is_free.true, omega (arith, c.len.ensures, c.count.ensures, size, length-filter_both test (λ r. not (test r)) (λ r. refl) t.rows), refl, omega (arith, c.len-written.ensures, size, length-filter test t.rows))
+    (c.if-is_undrafted.true, omega (arith, c.len.ensures, c.count.ensures, size, length-filter_both test (λ r. not (test r)) (λ r. refl) t.rows), refl, omega (arith, c.len-written.ensures, size, length-filter test t.rows))
 
 pub returns : goal.returns
 returns c =

@@ -11,8 +11,8 @@ returns-then-get_integers c =
     let rows = c.in_ok-rows.rows in
     let size : length rows.items ≡ length (filter test t.rows) = sym (length-map rows.items deref) ∙ ap length c.in_ok-rows.ensures in
     let integers : GetIntegers sets (filter test t.rows) = subst (λ l. GetIntegers sets l) (ap (map deref) c.deref.ensures.value ∙ c.in_ok-rows.ensures)
-    (subst (λ l. GetIntegers (assignments l) (map deref c.deref.result.now)) c.deref-then-is_free.ensures.value (c.get_integers.ensures.integers c.if-get_integers.true)) in
-    in_place c.args.is_free t sets c.args.condition c.len-written.result c.in_place.result c.if-is_free.true c.requires integers (omega (arith, c.len-written.ensures, size, length-filter test t.rows)) c.in_place.ensures
+    (subst (λ l. GetIntegers (assignments l) (map deref c.deref.result.now)) c.deref-then-is_undrafted.ensures.value (c.get_integers.ensures.integers c.if-get_integers.true)) in
+    in_place c.args.is_undrafted t sets c.args.condition c.len-written.result c.in_place.result c.if-is_undrafted.true c.requires integers (omega (arith, c.len-written.ensures, size, length-filter test t.rows)) c.in_place.ensures
 
 pub returns-in-Some : goal.returns-in-Some
 returns-in-Some c =
@@ -27,7 +27,7 @@ returns-in-Some c =
     ∙ ap (λ l. values_or_none t.schema.key (assignments l) (map deref c.in_ok-rows.rows.items)) c.deref-3.ensures.value
     ∙ ap (values_or_none t.schema.key as') c.in_ok-rows.ensures in
     let parts = from_some _ _ _ made in
-    makes_past c.args.is_free t _ _ _ _ (sym (any_both test (overflows as') t.rows) ∙ parts.0)
+    makes_past c.args.is_undrafted t _ _ _ _ (sym (any_both test (overflows as') t.rows) ∙ parts.0)
     (update_leaves t c.legal.ensures _ test (assigned as') c.requires.same parts.1 c.count-in-Some.ensures (omega (arith, c.len-written.ensures, size)))
 
 pub returns : goal.returns
@@ -40,4 +40,4 @@ returns c =
     ∙ ap (λ l. values_or_none t.schema.key (assignments c.deref-3.result.now) (map deref l)) c.deref-2.ensures.value
     ∙ ap (λ l. values_or_none t.schema.key (assignments l) (map deref c.in_ok-rows.rows.items)) c.deref-3.ensures.value
     ∙ ap (values_or_none t.schema.key as') c.in_ok-rows.ensures in
-    makes_refused c.args.is_free t _ _ _ _ (sym (any_both test (overflows as') t.rows) ∙ from_none _ _ made) c.of_code.ensures
+    makes_refused c.args.is_undrafted t _ _ _ _ (sym (any_both test (overflows as') t.rows) ∙ from_none _ _ made) c.of_code.ensures
