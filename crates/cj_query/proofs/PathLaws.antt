@@ -1,14 +1,16 @@
 -- Where less than all rows are looked at, the answer is the same.
-use Rattle.std.proofs.Common.{◌≡◌, ℕ, ◌≤◌, Bool, true, false, not, cond, eqb, List, [], ◌∷◌, length, map, get_or, refl, ap, sym, ◌∙◌, ⊎_elim, Less, Greater, is_eq, arith}
+use Rattle.std.proofs.Common.{◌≡◌, ℕ, ◌≤◌, Bool, true, false, not, cond, eqb, List, [], ◌∷◌, ◌++◌, length, map, get_or, refl, ap, sym, ◌∙◌, ⊎_elim, Less, is_eq, arith}
 use Rattle.std.specs.Prelude.{All, filter, option_to_list, is_none, reverse}
 use Rattle.std.specs.declared.option.Option.{Option}
 use Rattle.std.specs.declared.option.Option.TheVariants.{None, Some}
-use Rattle.cj_query.proofs.Common.{All-cons, All-head, All-nil, All-tail, and_parts, at_most, by_key, by_sort_key, by_sort_keys, cases_Bool, cell, ColRef, column_place, cond-false, cond-true, false_from_ne_true, first_row, gathered, groups_answered, has_aggregate, is_lt, Key, nil_from_length, not-true, ordering_reverse, ordering_then, ranks_by, Rises, row_with_key, Scope, Select, sort_key_of, sorted_by, SortKey, sorts_before, tied_itself, Value, value_cmp, value_total}
-use Rattle.cj_query.specs.Paths.{PinsTo, answers_each, falls_by, follows_rows, is_falling_at, is_led_by, is_rising_at, follows_join, reverses_rows}
-use Rattle.cj_query.proofs.KeyLaws.{by_sort_keys_total, always_in_order}
+use Rattle.cj_query.proofs.Common.{All-cons, All-head, All-nil, All-tail, and_parts, at_most, by_key, by_sort_key, by_sort_keys, cases_Bool, cell, ColRef, column_place, cond-false, cond-true, false_from_ne_true, first_row, gathered, groups_answered, has_aggregate, is_lt, Key, nil_from_length, not-true, ordering_then, Rises, row_with_key, Scope, Select, sort_key_of, sorted_by, SortKey, sorts_before, tied_itself, Value, value_cmp, value_total}
+use Rattle.cj_query.specs.Paths.{OrdersAs, PinsTo, answers_each, falls_by, follows_rows, is_falling_at, is_led_by, is_rising_at, follows_join, reverses_rows}
+use Rattle.std.proofs.lemmas.Bool.{eqb-true}
+use Rattle.cj_query.proofs.KeyLaws.{always_in_order}
 use Rattle.cj_query.proofs.MapLaws.{cut-map}
-use Rattle.cj_query.proofs.OrderLaws.{IsInOrder, NoneBefore, ordered-map, ordered_same}
+use Rattle.cj_query.proofs.OrderLaws.{ordered-map}
 use Rattle.cj_query.proofs.ReverseLaws.{IsFalling, map-reverse, ordered_falling}
+use Rattle.cj_query.proofs.RiseLaws.{keys_ordered, rises_weaker}
 
 -- ---- a look-up
 
@@ -40,18 +42,13 @@ pub led_by_first : (scope : Scope) (n : ℕ) (keys : List Key) (k : Key) → 1 �
 led_by_first scope n [] k l is = absurd (omega (arith, l))
 led_by_first scope n (x ∷ keys) k l is = ap (is_rising_at scope n) is
 
-same_place : (a b : ℕ) → eqb a b ≡ true → a ≡ b
-same_place a b h = grind arith
-
--- a row above another is not before it
-not_before_above : (scope : Scope) (n : ℕ) (k : Key) (keys : List SortKey) (r s : List Value) → is_rising_at scope n k ≡ true → by_key n r s ≡ Less → sorts_before (sort_key_of scope k ∷ keys) s r ≡ false
-not_before_above scope n k keys r s h l =
-    let parts = and_parts (not k.desc) (eqb (column_place scope k.col) n) h in
-    let greater : by_key n s r ≡ Greater = value_total.antisymm (cell s n) (cell r n) ∙ ap ordering_reverse l in
-    let first : by_sort_key (sort_key_of scope k) s r ≡ Greater
-    = ap (λ b. cond b (by_key (column_place scope k.col) r s) (by_key (column_place scope k.col) s r)) (not-true _ parts.0)
-    ∙ ap (λ m. by_key m s r) (same_place (column_place scope k.col) n parts.1) ∙ greater in
-    ap (λ o. is_lt (ordering_then o (by_sort_keys keys s r))) first
+-- rows that rise at a place stand as they are by a key that rises there
+pub orders_as : (n : ℕ) (front rest : List SortKey) (k : SortKey) → k.desc ≡ false → k.place ≡ n → OrdersAs n front (front ++ k ∷ rest)
+orders_as n front rest k d p =
+    let less : (r s : List Value) → by_key n r s ≡ Less → by_sort_keys (k ∷ rest) r s ≡ Less = λ r s l.
+    ap (λ b. ordering_then (cond b (by_key k.place s r) (by_key k.place r s)) (by_sort_keys rest r s)) d
+    ∙ ap (λ m. ordering_then (by_key m r s) (by_sort_keys rest r s)) p ∙ ap (λ o. ordering_then o (by_sort_keys rest r s)) l in
+    record { at = λ rows r. sym (keys_ordered front (k ∷ rest) rows rows (record { at = λ f. refl }) (rises_weaker (by_key n) (by_sort_keys (k ∷ rest)) less rows r)) }
 
 abbrev earlier : Scope → List Key → List (List Value) → List (List Value) → Bool
 earlier scope keys g h = sorts_before (map (sort_key_of scope) keys) (first_row g) (first_row h)
@@ -59,20 +56,13 @@ earlier scope keys g h = sorts_before (map (sort_key_of scope) keys) (first_row 
 abbrev alone : List (List Value) → List (List (List Value))
 alone rows = map (λ r. r ∷ []) rows
 
-none_before_first : (scope : Scope) (n : ℕ) (k : Key) (keys : List Key) (r : List Value) (rows : List (List Value)) → is_rising_at scope n k ≡ true → All (λ s. by_key n r s ≡ Less) rows → NoneBefore (earlier scope (k ∷ keys)) (r ∷ []) (alone rows)
-none_before_first scope n k keys r [] h a = tt
-none_before_first scope n k keys r (s ∷ rows) h a = (
-  not_before_above scope n k (map (sort_key_of scope) keys) r s h (All-head (λ s. by_key n r s ≡ Less) s rows a),
-  none_before_first scope n k keys r rows h (All-tail (λ s. by_key n r s ≡ Less) s rows a),
-)
-
-rows_in_order : (scope : Scope) (n : ℕ) (k : Key) (keys : List Key) (rows : List (List Value)) → is_rising_at scope n k ≡ true → Rises (by_key n) rows → IsInOrder (earlier scope (k ∷ keys)) (alone rows)
-rows_in_order scope n k keys [] h r = tt
-rows_in_order scope n k keys (row ∷ rows) h r = (none_before_first scope n k keys row rows h r.0, rows_in_order scope n k keys rows h r.1)
-
 ordered_alone : (scope : Scope) (n : ℕ) (keys : List Key) (rows : List (List Value)) → is_led_by scope n keys ≡ true → Rises (by_key n) rows → sorted_by (earlier scope keys) (alone rows) ≡ alone rows
 ordered_alone scope n [] rows h r = always_in_order (alone rows)
-ordered_alone scope n (k ∷ keys) rows h r = ordered_same (earlier scope (k ∷ keys)) (ranks_by (by_sort_keys_total (map (sort_key_of scope) (k ∷ keys))) first_row) (alone rows) (rows_in_order scope n k keys rows h r)
+ordered_alone scope n (k ∷ keys) rows h r =
+    let parts = and_parts (not k.desc) (eqb (column_place scope k.col) n) h in
+    sym (ordered-map (λ r. r ∷ []) (earlier scope (k ∷ keys)) rows)
+    ∙ ap alone (sym ((orders_as n [] (map (sort_key_of scope) keys) (sort_key_of scope k) (not-true _ parts.0) (eqb-true _ n parts.1)).at rows r))
+    ∙ ordered-map (λ r. r ∷ []) (earlier scope []) rows ∙ always_in_order (alone rows)
 
 gathered_alone : (scope : Scope) (s : Select) (group : Option ColRef) (rows : List (List Value)) → is_none group ≡ true → has_aggregate s.items ≡ false → gathered scope s.items group rows ≡ map (λ r. r ∷ []) rows
 gathered_alone scope s None rows g a = cond-false _ _ _ a
@@ -127,7 +117,7 @@ before_below scope n k keys r s h l =
     let parts = and_parts k.desc (eqb (column_place scope k.col) n) h in
     let first : by_sort_key (sort_key_of scope k) s r ≡ Less
     = ap (λ b. cond b (by_key (column_place scope k.col) r s) (by_key (column_place scope k.col) s r)) parts.0
-    ∙ ap (λ m. by_key m r s) (same_place (column_place scope k.col) n parts.1) ∙ l in
+    ∙ ap (λ m. by_key m r s) (eqb-true (column_place scope k.col) n parts.1) ∙ l in
     ap (λ o. is_lt (ordering_then o (by_sort_keys keys s r))) first
 
 all_before : (scope : Scope) (n : ℕ) (k : Key) (keys : List Key) (r : List Value) (rows : List (List Value)) → is_falling_at scope n k ≡ true → All (λ s. by_key n r s ≡ Less) rows → All (λ g. earlier scope (k ∷ keys) g (r ∷ []) ≡ true) (alone rows)

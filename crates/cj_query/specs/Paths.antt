@@ -12,8 +12,8 @@ use Rattle.cj_model.specs.declared.select.Key.{Key}
 use Rattle.cj_model.specs.declared.select.Select.{Select}
 use Rattle.cj_model.specs.Database.Queries.{has_aggregate}
 use Rattle.cj_model.specs.Database.Scopes.{Scope, column_place}
-use Rattle.cj_model.specs.Database.Tables.{cell}
-use Rattle.cj_model.specs.Database.Order.{SortKey}
+use Rattle.cj_model.specs.Database.Tables.{Rises, by_key, cell}
+use Rattle.cj_model.specs.Database.Order.{SortKey, sorted_by, sorts_before}
 use Rattle.cj_query.specs.declared.ranked.Ranking.{Ranking}
 use Rattle.cj_query.specs.Ranked.{keys_of}
 
@@ -60,6 +60,10 @@ pub record RanksBy (s : Select) (order : List SortKey) (ranking : Ranking) : Typ
   pub each : answers_each s ≡ true
   pub keys : keys_of ranking ≡ order
   pub limit : ranking.limit ≡ s.limit
+
+-- rows that rise at the place stand by these keys as by all
+pub record OrdersAs (place : ℕ) (these keys : List SortKey) : Type 0 where
+  pub at : (rows : List (List Value)) → Rises (by_key place) rows → sorted_by (sorts_before these) rows ≡ sorted_by (sorts_before keys) rows
 
 abbrev pub is_count : Item → Bool
 is_count (item.Col r) = false

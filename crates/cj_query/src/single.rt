@@ -5,7 +5,7 @@ ghost use Rattle.cj_query.specs.Seen.{answer_from};
 
 use crate::answer::{answer_counts, answer_each, answer_rows};
 use crate::order::sort_keys;
-use crate::paths::{counts_all, follows_rows, pinned, ranking_of, reverses_rows};
+use crate::paths::{counts_all, follows_rows, pinned, ranking_of, reverses_rows, telling};
 use crate::rows::{all_of, first_matching, first_of, matching_row};
 use crate::top::first_matching_ranked;
 use cj_expr::{Predicate, Scope};
@@ -38,8 +38,9 @@ fn answer_all(
 ) -> Result<Asked, NoMemory>
     ensures { IfOk result (λ asked. asked ≡ answer_from scope.now select.now cond.now view.now.rows) }
 {
+    view.legal();
     let keys = sort_keys(alloc, select.order.as_slice(), scope)?;
-    match ranking_of(select, &keys) {
+    match ranking_of(select, telling(&keys, usize::from(view.schema().key))) {
         Some(ranking) => {
             let rows = first_matching_ranked(alloc, Matching::of(view, cond), &ranking)?;
             answer_each(alloc, scope, select, &rows)
