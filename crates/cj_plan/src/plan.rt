@@ -72,8 +72,13 @@ pub fn decided(
             let planned = inserted(alloc, view, columns, rows.as_slice())?;
             Ok(as_change(planned))
         }
-        Write::Update { sets, cond, .. } =>
-            updated(alloc, view, is_undrafted, sets.as_slice(), cond),
+        Write::Update { sets, cond, .. } => updated(
+            alloc,
+            view,
+            is_undrafted,
+            sets.as_slice(),
+            cond,
+        ),
         Write::Delete { cond, .. } => deleted(alloc, view, is_undrafted, cond),
     }
 }

@@ -10,6 +10,6 @@ returns-in_err-rows c =
 pub returns : goal.returns
 returns c = (
   answer_taken c.in_ok-columns.columns c.in_ok-rows.rows c.len.result c.args.reader.now.rest c.take_columns.new.reader.rest c.list32.new.self.rest c.in_ok-columns.ensures.0 c.len.ensures c.in_ok-rows.ensures.0
-  ∙ ap (λ (rows : List (List Value)). Ok (record { columns = c.in_ok-columns.columns; rows = rows }, c.list32.new.self.rest)) (sym c.in_ok-rows-2.ensures),
+      ∙ ap (λ (rows : List (List Value)). Ok (record { columns = c.in_ok-columns.columns; rows = rows }, c.list32.new.self.rest)) (sym c.in_ok-rows-2.ensures),
   c.in_ok-rows.ensures.1 ∙ c.in_ok-columns.ensures.1,
 )
