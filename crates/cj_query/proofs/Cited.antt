@@ -11,7 +11,7 @@ pub use Rattle.cj_query.proofs.KeyLaws.{always_in_order, by_sort_keys_total}
 pub use Rattle.cj_query.proofs.KnownRowLaws.{first_known, first_missing, known_answered, none_answered, none_said, ok_each, stands_itself}
 pub use Rattle.cj_query.proofs.LimitLaws.{enough, first_twice, found_next, keys_order, unordered}
 pub use Rattle.cj_query.proofs.MadeLaws.{err_given, err_kept}
-pub use Rattle.cj_query.proofs.MapLaws.{map_itself}
+pub use Rattle.cj_query.proofs.MapLaws.{cut-map, map_itself}
 pub use Rattle.cj_query.proofs.NameLaws.{any_named}
 pub use Rattle.cj_query.proofs.OrderLaws.{IsInOrder, ordered-map, ordered_is, ordered_rises}
 pub use Rattle.cj_query.proofs.PathLaws.{groups_alone, groups_ranked, groups_reversed, pinned_rows}

@@ -1,15 +1,20 @@
 //! Queries over one table.
 
-ghost use Rattle.std.specs.Prelude.{◌≡◌, option_copied, option_to_list, IfOk};
+ghost use Rattle.std.specs.Prelude.{◌≡◌, [], ◌∷◌, true, map, option_copied, option_to_list, IfOk};
+ghost use Rattle.cj_model.specs.Database.Order.{at_most};
+ghost use Rattle.cj_model.specs.Database.Queries.{answer_of, asked_by};
+ghost use Rattle.cj_query.specs.Paths.{answers_each};
 ghost use Rattle.cj_query.specs.Seen.{answer_from};
 
 use crate::answer::{answer_counts, answer_each, answer_rows};
+use crate::columns::columns_asked;
 use crate::order::sort_keys;
 use crate::paths::{counts_all, follows_rows, pinned, ranking_of, reverses_rows, telling};
-use crate::rows::{all_of, first_matching, first_of, matching_row};
+use crate::project::names_of;
+use crate::rows::{all_of, first_matching, first_taken, matching_row};
 use crate::top::first_matching_ranked;
 use cj_expr::{Predicate, Scope};
-use cj_model::{Asked, NoMemory, Row, Select};
+use cj_model::{Answer, Asked, NoMemory, Row, Select};
 use cj_search::Matching;
 use cj_table::View;
 use std::alloc::Global;
@@ -26,6 +31,24 @@ fn answer_found(
 {
     let rows = matching_row(alloc, row, cond)?;
     answer_rows(alloc, scope, select, rows)
+}
+
+/// The answer from the first of the rows that are found, of each of which what is asked is taken at once.
+fn answer_as_found(
+    alloc: Global,
+    scope: &Scope,
+    select: &Select,
+    rows: Matching,
+) -> Result<Asked, NoMemory>
+    requires { answers_each select.now ≡ true }
+    ensures { IfOk result (λ asked. asked ≡ asked_by (answer_of scope.now select.now (map (λ row. row ∷ []) (at_most select.now.limit rows.entry)))) }
+{
+    let columns = columns_asked(alloc, scope, &select.items)?;
+    let rows = first_taken(alloc, rows, &columns, select.limit)?;
+    Ok(Asked::Rows(Answer {
+        columns: names_of(alloc, scope, &select.items)?,
+        rows,
+    }))
 }
 
 /// The answer from all rows that meet the condition, of which no more are kept than are needed.
@@ -65,8 +88,7 @@ fn answer_scanned(
     view.legal();
     let key = usize::from(view.schema().key);
     if follows_rows(scope, select, key) {
-        let rows = first_of(alloc, Matching::of(view, cond), select.limit)?;
-        return answer_each(alloc, scope, select, &rows);
+        return answer_as_found(alloc, scope, select, Matching::of(view, cond));
     }
     if reverses_rows(scope, select, key) {
         let rows = first_matching(alloc, view.scan_back(), cond, select.limit)?;

@@ -1,6 +1,10 @@
 use Rattle.std.proofs.Common.{◌≡◌, [], ◌∷◌, List, map, sym, ap, subst, ◌∙◌}
 use Rattle.cj_query.proofs.Cited.{IfOk, Value, answer_of, asked_by, at_most, by_key, deref, filter, filter-reverse, follows_rows, groups_alone, groups_answered, groups_reversed, reverse, reverses_rows, rises_filter, satisfies}
+use Rattle.std.proofs.lemmas.Bool.{and_parts}
 use Rattle.cj_query.proofs.single.answer_scanned.Goals as goal
+
+pub answer_as_found-requires : goal.answer_as_found-requires
+answer_as_found-requires c = (and_parts _ _ (sym c.follows_rows.ensures ∙ c.if-follows_rows.true)).0
 
 pub returns-then-follows_rows : goal.returns-then-follows_rows
 returns-then-follows_rows c =
@@ -9,12 +13,10 @@ returns-then-follows_rows c =
     let p = satisfies c.args.cond.now in
     let table = c.args.view.now in
     let key : c.from-key.result ≡ table.schema.key = c.from-key.ensures ∙ ap (λ s. s.key) c.schema.ensures in
-    let found : map deref c.deref.result.now ≡ at_most s.limit (filter p table.rows)
-    = ap (map deref) c.deref.ensures.value ∙ c.in_ok-rows.ensures ∙ ap (at_most s.limit) c.of.ensures in
     let groups : groups_answered scope s (filter p table.rows) ≡ map (λ r. r ∷ []) (at_most s.limit (filter p table.rows))
     = groups_alone scope s table.schema.key (filter p table.rows) (ap (follows_rows scope s) (sym key) ∙ sym c.follows_rows.ensures ∙ c.if-follows_rows.true) (rises_filter (by_key table.schema.key) p table.rows c.legal.ensures.rises) in
-    subst (λ (gs : List (List (List Value))). IfOk c.answer_each.result (λ asked. asked ≡ asked_by (answer_of scope s gs)))
-    (ap (map (λ r. r ∷ [])) found ∙ sym groups) c.answer_each.ensures
+    subst (λ (gs : List (List (List Value))). IfOk c.answer_as_found.result (λ asked. asked ≡ asked_by (answer_of scope s gs)))
+    (ap (λ rows. map (λ r. r ∷ []) (at_most s.limit rows)) c.of.ensures ∙ sym groups) c.answer_as_found.ensures
 
 pub returns-then-reverses_rows : goal.returns-then-reverses_rows
 returns-then-reverses_rows c =
@@ -23,10 +25,10 @@ returns-then-reverses_rows c =
     let p = satisfies c.args.cond.now in
     let table = c.args.view.now in
     let key : c.from-key.result ≡ table.schema.key = c.from-key.ensures ∙ ap (λ s. s.key) c.schema.ensures in
-    let found : map deref c.deref-then-reverses_rows.result.now ≡ at_most s.limit (reverse (filter p table.rows))
-    = ap (map deref) c.deref-then-reverses_rows.ensures.value ∙ c.in_ok-rows-2.ensures
+    let found : map deref c.deref.result.now ≡ at_most s.limit (reverse (filter p table.rows))
+    = ap (map deref) c.deref.ensures.value ∙ c.in_ok-rows.ensures
     ∙ ap (at_most s.limit) (ap (filter p) c.scan_back.ensures ∙ filter-reverse p table.rows) in
     let groups : groups_answered scope s (filter p table.rows) ≡ map (λ r. r ∷ []) (at_most s.limit (reverse (filter p table.rows)))
     = groups_reversed scope s table.schema.key (filter p table.rows) (ap (reverses_rows scope s) (sym key) ∙ sym c.reverses_rows.ensures ∙ c.if-reverses_rows.true) (rises_filter (by_key table.schema.key) p table.rows c.legal.ensures.rises) in
-    subst (λ (gs : List (List (List Value))). IfOk c.answer_each-then-reverses_rows.result (λ asked. asked ≡ asked_by (answer_of scope s gs)))
-    (ap (map (λ r. r ∷ [])) found ∙ sym groups) c.answer_each-then-reverses_rows.ensures
+    subst (λ (gs : List (List (List Value))). IfOk c.answer_each.result (λ asked. asked ≡ asked_by (answer_of scope s gs)))
+    (ap (map (λ r. r ∷ [])) found ∙ sym groups) c.answer_each.ensures
