@@ -79,6 +79,9 @@ impl<T: Drop> ListsOf<T> {
     pub fn truncate(&mut self, count: usize)
         ensures { self.new ≡ take count self.old }
     {
+        if self.len() <= count {
+            return;
+        }
         let behind = self.behind(count);
         let kept = self.items().len() - behind;
         self.lengths.truncate(count);
