@@ -1,18 +1,16 @@
 -- What the moves of one backend keep, and what a turn does: the placement, the requests that each session has made, and how often backends were enabled.
-use Rattle.std.proofs.Common.{◌≡◌, ◌∙◌, refl, sym, ap, subst, ℕ, zero, suc, ◌+◌, add-zero, cond, Bool, List, [], ◌∷◌, ◌++◌, map, Option, None, Some, Ok, Err, arith, ⊎_elim}
+use Rattle.std.proofs.Common.{◌≡◌, ◌∙◌, refl, sym, ap, subst, ℕ, ◌+◌, add-zero, cond, Bool, List, [], ◌∷◌, ◌++◌, Ok, Err, arith}
 use Rattle.std.specs.Prelude.{count_by}
 use Rattle.std.proofs.lemmas.List.Sums.{sum_by-append}
-use Rattle.cj_workload.proofs.Common.{cond_both, Core, session_at}
-use Rattle.cj_model.specs.declared.request.Act.{Act}
-use Rattle.cj_model.specs.Sql.PlainRequests.{act_of}
+use Rattle.cj_workload.proofs.Common.{Core, session_at}
 use Rattle.cj_cluster.specs.declared.event.Event.{Event}
 use Rattle.cj_cluster.specs.declared.event.Event.TheVariants as event
 use Rattle.cj_cluster.specs.declared.moves.Move.{Move}
 use Rattle.cj_cluster.specs.declared.moves.Move.TheVariants.{Arm, Disable, Replay, Enable, Dump, Load}
 use Rattle.cj_cluster.specs.declared.moves.Moved.TheVariants as moved
 use Rattle.cj_cluster.specs.declared.moves.MoveError.TheVariants.{NoMemory}
-use Rattle.cj_core.proofs.Common.{Arms, Call, Disables, DoesMove, Dumps, Enables, Loads, MoveResult, MovesTo, Replays, happened, not_now, turn_taken}
-use Rattle.cj_core.specs.Solos.{SoloState, SoloSteps, AddsEntry, AddsOwnEvents, LacksLast, log_failure_of, tells_log_failure}
+use Rattle.cj_core.proofs.Common.{Arms, Disables, DoesMove, Dumps, Enables, Loads, MoveResult, MovesTo, Replays, happened, not_now}
+use Rattle.cj_core.specs.Solos.{SoloState}
 use Rattle.cj_cluster.proofs.Soundness.{by_reason}
 use Rattle.cj_workload.specs.Proving.Keeping.{IsOfBackend, Keeps, enabled_by}
 use Rattle.cj_workload.specs.Summaries.{enablings, is_enabling}
@@ -98,32 +96,6 @@ module _ (tells : Bool) (a z : SoloState) where
         counted = kept.counted;
       }
 
-  -- failures of reads enable nothing
-  no_enabling : (s q : ℕ) (failed : List ℕ) → enablings (map (event.ReadFailed s q) failed) ≡ 0
-  no_enabling s q [] = refl
-  no_enabling s q (b ∷ failed) = grown (event.ReadFailed s q b ∷ []) (map (event.ReadFailed s q) failed) 0 (no_enabling s q failed)
-
-  entry_adds : (n s : ℕ) (c : Call) (act : Act) (failed : List ℕ) (h g : List Event) → AddsEntry n s c act failed h g → enablings g ≡ enablings h + 0
-  entry_adds zero s c act failed h g adds = ap enablings adds.0 ∙ grown h (log_failure_of s c) 0 (cond_both (tells_log_failure c.reply) _ _ (λ (l : List Event). enablings l ≡ 0) (λ _. refl) (λ _. refl))
-  entry_adds (suc n) s c act failed h g adds = ap enablings adds.1.1 ∙ grown h _ 0 refl
-
-  own_events : (s : ℕ) (c : Call) (act : Option Act) (failed : List ℕ) (h g : List Event) → AddsOwnEvents s c act failed h g → enablings g ≡ enablings h + 0
-  own_events s c None failed h g adds =
-      ⊎_elim (λ (e : g ≡ h ++ map (event.ReadFailed s c.number) failed). ap enablings e ∙ grown h _ 0 (no_enabling s c.number failed))
-      (λ (l : LacksLast s c.number failed h g). ap enablings l.grew ∙ grown h _ 0 (no_enabling s c.number l.noted)) adds
-  own_events s c (Some act) failed h g adds = entry_adds adds.0 s c act failed h g adds.1
-
-  -- a turn
-  pub keeps_turn : (c : Call) → SoloSteps tells a (turn_taken c) z → Keeps 1 0 a z
-  keeps_turn c steps =
-      let turn = steps.1.1 in
-      record {
-        placement = turn.placement;
-        session = steps.1.0;
-        queries = steps.0.queries;
-        counted = own_events a.session c (act_of c.request) turn.failed a.world.core.history z.world.core.history turn.events;
-      }
-
 -- one after another
 pub keeps_both : (n m i j : ℕ) (a b z : SoloState) → Keeps n i a b → Keeps m j b z → Keeps (n + m) (i + j) a z
 keeps_both n m i j a b z h k =
@@ -132,6 +104,3 @@ keeps_both n m i j a b z h k =
     let e = h.counted in
     let f = k.counted in
     record { placement = k.placement ∙ h.placement; session = k.session ∙ h.session; queries = omega (arith, q, r); counted = omega (arith, e, f) }
-
-pub keeps_none : (a : SoloState) → Keeps 0 0 a a
-keeps_none a = record { placement = refl; session = refl; queries = omega arith; counted = omega arith }

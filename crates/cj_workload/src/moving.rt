@@ -83,6 +83,16 @@ pub fn take_dump<B: Backend, S: Store>(solo: &mut Solo<B, S>, b: u8) -> Result<(
     Ok(())
 }
 
+/// The backend takes an entry, if it can.
+fn take_entry<B: Backend, S: Store>(solo: &mut Solo<B, S>, b: u8) -> Result<(), NoMemory>
+    requires { b < solo.old.world.core.placement.backends }
+    ensures made { IfOk result (λ _. MakesMove B.TELLS B.can_be_armed solo.old (Move.Replay b) solo.new) }
+    ensures keeps { IfOk result (λ _. Keeps 0 0 solo.old solo.new) }
+{
+    make(solo, Move::Replay { b })?;
+    Ok(())
+}
+
 /// The backend takes so many entries, as far as it can.
 fn take_entries<B: Backend, S: Store>(
     solo: &mut Solo<B, S>,
@@ -94,7 +104,7 @@ fn take_entries<B: Backend, S: Store>(
     ensures keeps { IfOk result (λ _. Keeps 0 0 solo.old solo.new) }
 {
     for _ in 0..count {
-        make(solo, Move::Replay { b })?;
+        take_entry(solo, b)?;
     }
     Ok(())
 }

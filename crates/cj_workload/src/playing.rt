@@ -1,6 +1,7 @@
 //! The workload, statement by statement.
 
 ghost use Rattle.std.specs.Prelude.{◌≡◌, ◌<◌, ◌≤◌, ◌+◌, ◌^◌, ℕ, [], true, IfOk, IsErrOf};
+ghost use Rattle.cj_model.specs.declared.request.Request.TheVariants as request;
 ghost use Rattle.cj_model.specs.declared.limits.TheConstants.{REQUEST_LIMIT, SESSION_NUMBER_LIMIT};
 ghost use Rattle.cj_model.specs.Sql.PlainRequests.{request_of};
 ghost use Rattle.cj_model.specs.Sql.WrittenRequests.{IsWritten};
@@ -18,7 +19,7 @@ use crate::summary::{Summary, sum_up};
 use cj_backend::Backend;
 use cj_core::{Solo, World};
 use cj_desk::Desk;
-use cj_model::{Act, NO_MEMORY, NoMemory, Reply, STARVED_ALL, Text};
+use cj_model::{Act, NO_MEMORY, NoMemory, Reply, STARVED_ALL, Select, Text};
 use cj_outside::{PcgDraw, Store};
 use std::alloc::Global;
 use thiserror::Error;
@@ -83,6 +84,25 @@ fn write<B: Backend, S: Store>(solo: &mut Solo<B, S>, user: &Text, act: Act) -> 
     Ok(())
 }
 
+/// A read of the session.
+fn read<B: Backend, S: Store>(
+    solo: &mut Solo<B, S>,
+    user: &Text,
+    select: &Select,
+) -> Result<(), NoMemory>
+    requires user { user.now ≡ [] }
+    requires room { (session_at solo.old.world.core solo.old.session).queries < REQUEST_LIMIT }
+    requires written { IsWritten (request.Select select.now) }
+    ensures turn { IfOk result (λ _. TakesTurn B.TELLS solo.old (request.Select select.now) solo.new) }
+    ensures keeps { IfOk result (λ _. Keeps 1 0 solo.old solo.new) }
+{
+    let reply = Desk::<()>::read(solo, &(), user, 0, select);
+    if tells_want(&reply) {
+        return Err(NoMemory);
+    }
+    Ok(())
+}
+
 /// The session's next statement.
 fn take_turn<B: Backend, S: Store>(
     solo: &mut Solo<B, S>,
@@ -97,13 +117,7 @@ fn take_turn<B: Backend, S: Store>(
 {
     match statement {
         Statement::Change(change) => write(solo, user, Act::Write(change)),
-        Statement::Query(select) => {
-            let reply = Desk::<()>::read(solo, &(), user, 0, &select);
-            if tells_want(&reply) {
-                return Err(NoMemory);
-            }
-            Ok(())
-        }
+        Statement::Query(select) => read(solo, user, &select),
     }
 }
 
