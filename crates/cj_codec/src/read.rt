@@ -126,7 +126,7 @@ pub fn value_of(alloc: Global, bytes: &[u8]) -> Result<(Value, &[u8]), Stop>
         }
         [2, rest @ ..] => {
             let (text, rest) = text_of(alloc, rest)?;
-            Ok((Value::Text(text), rest))
+            Ok((Value::of_text(alloc, text)?, rest))
         }
         _ => Err(Stop::Fault(Fault::BadField)),
     }

@@ -34,7 +34,7 @@ fn least(alloc: Global, kind: Kind) -> Result<Value, LiteError> {
     match kind {
         Kind::Integer => Ok(Value::Int(i64::MIN)),
         Kind::Text => match Text::of(Vec::new(alloc)) {
-            Some(text) => Ok(Value::Text(text)),
+            Some(text) => Ok(Value::of_text(alloc, text)?),
             None => Err(LiteError::Fault),
         },
     }

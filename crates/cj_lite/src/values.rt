@@ -29,7 +29,7 @@ fn value_of(alloc: Global, given: ValueRef<'_>) -> Result<Value, LiteError> {
         ValueRef::Text(bytes) => {
             let bytes = Vec::from_slice(alloc, bytes)?;
             match Text::of(bytes) {
-                Some(text) => Ok(Value::Text(text)),
+                Some(text) => Ok(Value::of_text(alloc, text)?),
                 None => Err(LiteError::Fault),
             }
         }

@@ -1,17 +1,15 @@
 -- Laws of the result cache.
-use Rattle.std.proofs.Common.{◌≡◌, ◌<◌, ◌≤◌, ℕ, zero, suc, length, take, arith, true, false, not, cond, List, [], ◌∷◌, refl, ap, sym, ◌∙◌, subst, ⊎_elim}
-use Rattle.std.specs.Prelude.{⊤, All, IfSome, min}
+use Rattle.std.proofs.Common.{◌≡◌, true, false, cond, List, [], ◌∷◌, refl, ap, sym, ◌∙◌, subst, ⊎_elim}
+use Rattle.std.specs.Prelude.{⊤, All, IfSome}
 use Rattle.std.specs.Option.{option_map}
 use Rattle.std.specs.declared.option.Option.{Option}
 use Rattle.std.specs.declared.option.Option.TheVariants.{None, Some}
-use Rattle.std.proofs.lemmas.List.{length-take}
-use Rattle.std.proofs.lemmas.List.Elements.{All-cons, All-filter, All-head, All-tail, All-take, filter_passes}
+use Rattle.std.proofs.lemmas.List.Elements.{All-cons, All-head, All-tail, All-take}
 use Rattle.std.proofs.lemmas.Bool.{both_ways, cases_Bool}
 use Rattle.cj_model.proofs.Common.{Answer, Select, cons_option}
 use Rattle.cj_model.specs.declared.cached.Cached.{Cached}
 use Rattle.cj_model.specs.Proving.SameStatements.{same_statement-Decides}
-use Rattle.cj_model.proofs.FilterLaws.{find-filter}
-use Rattle.cj_model.specs.Cluster.Caching.{CacheState, brought_to_front, without_tables, cached_entry, is_entry_for, answer_kept, after_look, needs_one_of, after_keep, without}
+use Rattle.cj_model.specs.Cluster.Caching.{CacheState, brought_to_front, cached_entry, is_entry_for, answer_kept, after_look, after_keep, without}
 
 no : {A : Type 0} → false ≡ true → A
 no e = absurd (both_ways false refl e)
@@ -52,13 +50,6 @@ all_looked P s c all = from (cached_entry s c.entries) (entry_found P s c.entrie
 pub all_put : (P : Cached → Type 0) (e : Cached) (c : CacheState) → P e → All P c.entries → All P (after_keep e c).entries
 all_put P e c here all = All-take P c.capacity (e ∷ without e.select c.entries) (All-cons P e (without e.select c.entries) here (all_without P e.select c.entries all))
 
--- behind a change of these tables, what is left needs none of them
-pub all_dropped : (P : Cached → Type 0) (set : List (List ℕ)) (c : CacheState) → All P c.entries → All P (without_tables set c).entries
-all_dropped P set c all = All-filter (λ (e : Cached). not (needs_one_of set e.select)) P c.entries all
-
-pub none_needs : (set : List (List ℕ)) (c : CacheState) → All (λ (e : Cached). not (needs_one_of set e.select) ≡ true) (without_tables set c).entries
-none_needs set c = filter_passes (λ (e : Cached). not (needs_one_of set e.select)) c.entries
-
 -- ---- which answer is kept
 
 pub none_without : (s : Select) (entries : List Cached) → cached_entry s entries ≡ None → without s entries ≡ entries
@@ -82,31 +73,3 @@ found_in_front s entries = from (cached_entry s entries) refl (entry_found (λ _
 -- a look-up keeps the answer that it finds
 pub kept_looked : (s : Select) (c : CacheState) → answer_kept s (after_look s c) ≡ answer_kept s c
 kept_looked s c = ap (option_map (λ (e : Cached). e.answer)) (found_in_front s c.entries)
-
--- what was put is found, unless nothing may be kept
-pub kept_put : (e : Cached) (c : CacheState) → 0 < c.capacity → answer_kept e.select (after_keep e c) ≡ Some e.answer
-kept_put e c some = from c.capacity some
-  where
-    from : (n : ℕ) → 0 < n → option_map (λ (f : Cached). f.answer) (cached_entry e.select (take n (e ∷ without e.select c.entries))) ≡ Some e.answer
-    from zero lt = absurd (omega arith)
-    from (suc n) lt = ap (λ b. option_map (λ (f : Cached). f.answer) (cond b (Some e) (cached_entry e.select (take n (without e.select c.entries))))) ((same_statement-Decides e.select e.select).1 refl)
-
--- no more entries are kept than may be
-pub put_within : (e : Cached) (c : CacheState) → length (after_keep e c).entries ≤ c.capacity
-put_within e c =
-    let few : length (take c.capacity (e ∷ without e.select c.entries)) ≡ min c.capacity (length (e ∷ without e.select c.entries)) = length-take c.capacity (e ∷ without e.select c.entries) in
-    omega arith
-
--- a change of tables drops the answer of each statement that needs one of them
-pub kept_changed : (set : List (List ℕ)) (s : Select) (c : CacheState) → needs_one_of set s ≡ true → answer_kept s (without_tables set c) ≡ None
-kept_changed set s c needs = from (cached_entry s (without_tables set c).entries) (entry_found (λ (e : Cached). not (needs_one_of set e.select) ≡ true) s (without_tables set c).entries (none_needs set c))
-  where
-    from : (o : Option Cached) → IfSome o (λ e. (e.select ≡ s) × (not (needs_one_of set e.select) ≡ true)) → option_map (λ (e : Cached). e.answer) o ≡ None
-    from None h = refl
-    from (Some e) h = no (ap not (sym needs) ∙ ap (λ t. not (needs_one_of set t)) (sym h.0) ∙ h.1)
-
--- and leaves that of each other statement
-pub kept_unchanged : (set : List (List ℕ)) (s : Select) (c : CacheState) → needs_one_of set s ≡ false → answer_kept s (without_tables set c) ≡ answer_kept s c
-kept_unchanged set s c other =
-    let stays : (e : Cached) → is_entry_for s e ≡ true → not (needs_one_of set e.select) ≡ true = λ e same. ap (λ t. not (needs_one_of set t)) (sym ((same_statement-Decides s e.select).0 same)) ∙ ap not other in
-    ap (option_map (λ (e : Cached). e.answer)) (find-filter (λ (e : Cached). not (needs_one_of set e.select)) (is_entry_for s) stays c.entries)

@@ -8,10 +8,9 @@ use Rattle.std.specs.declared.result.Result.TheVariants.{Ok, Err}
 use Rattle.std.proofs.lemmas.Bool.{and_parts, eqb-true, eqb-false, ltb-true, cond_both}
 use Rattle.std.proofs.lemmas.Cmp.{on_total, nat_list_cmp_total}
 use Rattle.std.proofs.lemmas.Map.Text.{is_eq-slice_cmp}
-use Rattle.cj_model.proofs.Common.{Act, All-filter, All-map, All-nil, All-weaker, COLUMN_LIMIT, Changed, ColDef, Create, Draft, IsTotalOrder, Slot, Table, Write, bytes_eq, change, length-map}
-use Rattle.cj_model.specs.declared.request.Act.TheVariants as act
+use Rattle.cj_model.proofs.Common.{All-filter, All-map, All-nil, All-weaker, COLUMN_LIMIT, Changed, ColDef, Create, Draft, IsTotalOrder, Slot, Table, Write, bytes_eq, change, length-map}
 use Rattle.cj_model.specs.Database.Tables.{IsTable, IsSlot, IsDatabase, by_table, name_cmp, table_of, slot_of, is_distinct, column_names}
-use Rattle.cj_model.specs.Database.Steps.{Stepped, seen_behind, seen, other_writer, with_table, table_written, write_done, write_unless_locked, write_in, written, make_schema, schema_of, empty_slot, created, drop_unless_locked, drop_in, dropped, commit_behind, committed, abort_behind, aborted, acted}
+use Rattle.cj_model.specs.Database.Steps.{Stepped, seen_behind, seen, other_writer, with_table, table_written, write_done, write_unless_locked, write_in, written, make_schema, schema_of, empty_slot, created, drop_unless_locked, drop_in, dropped, commit_behind, committed, abort_behind, aborted}
 use Rattle.cj_model.proofs.RisingLaws.{found_All, all_put, rises_put, rises_filter, rises_map}
 use Rattle.cj_model.proofs.TableLaws.{IsTableWith}
 use Rattle.cj_model.proofs.UpdateLaws.{change_keeps}
@@ -182,22 +181,3 @@ committed_keeps tx db is = each_keeps (committed tx) (λ s p. commit_behind_is_s
 
 pub aborted_keeps : (tx : ℕ) (db : List Slot) → IsDatabase db → IsDatabase (map (aborted tx) db)
 aborted_keeps tx db is = each_keeps (aborted tx) (λ s p. abort_behind_is_slot s.base tx s.draft p.base p.draft) (λ s p. abort_behind-name s.base tx s.draft) db is
-
--- ---- any act
-
--- a CREATE is within the limit of columns
-abbrev pub HasFewColumns : Act → Type 0
-HasFewColumns (act.Create c) = length c.columns ≤ COLUMN_LIMIT
-HasFewColumns act.Begin = Unit {0}
-HasFewColumns (act.Write w) = Unit {0}
-HasFewColumns (act.Drop name) = Unit {0}
-HasFewColumns act.Commit = Unit {0}
-HasFewColumns act.Abort = Unit {0}
-
-pub acted_keeps : (db : List Slot) (tx : ℕ) (a : Act) → HasFewColumns a → IsDatabase db → IsDatabase (acted db tx a).db
-acted_keeps db tx act.Begin few is = is
-acted_keeps db tx (act.Write w) few is = written_keeps db tx w is
-acted_keeps db tx (act.Create c) few is = created_keeps db c few is
-acted_keeps db tx (act.Drop name) few is = dropped_keeps db name is
-acted_keeps db tx act.Commit few is = committed_keeps tx db is
-acted_keeps db tx act.Abort few is = aborted_keeps tx db is

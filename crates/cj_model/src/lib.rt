@@ -131,6 +131,7 @@ pub use term::Cmp;
 pub use term::ColRef;
 pub use term::Expr;
 pub use term::Term;
+pub use text::BoxedText;
 pub use text::Text;
 pub use token::KEYWORDS;
 pub use token::Keyword;

@@ -1,6 +1,6 @@
 //! Lists of one type, one behind another in one memory.
 
-ghost use Rattle.std.specs.Prelude.{◌≡◌, [], ◌∷◌, ◌++◌, length, take, drop, IfOk, OnOk};
+ghost use Rattle.std.specs.Prelude.{◌≡◌, [], ◌∷◌, ◌++◌, length, take, drop, IfOk, OnErr, OnOk};
 ghost use Rattle.std.specs.List.{flat_map};
 ghost use Rattle.std.specs.Iterator.{YieldsFirstRef, item_count};
 
@@ -65,7 +65,8 @@ impl<T: Drop> ListsOf<T> {
 
     /// Adds a list at the end; want of memory leaves the others as they were.
     pub fn push(&mut self, list: ListOf<T>) -> Result<(), NoMemory>
-        ensures { OnOk result (self.new ≡ self.old ++ list ∷ []) }
+        ensures ok { OnOk result (self.new ≡ self.old ++ list ∷ []) }
+        ensures err { OnErr result (self.new ≡ self.old) }
     {
         let length = list.len();
         let mut items = list.into_vec();

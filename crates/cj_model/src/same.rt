@@ -7,7 +7,7 @@ use crate::list::ListOf;
 use crate::name::Name;
 use crate::select::{Item, Items, Key, Select};
 use crate::term::{Cmp, ColRef, Term};
-use crate::text::Text;
+use crate::text::{BoxedText, Text};
 use crate::value::Value;
 
 /// A value that can be told from another of its type.
@@ -76,6 +76,12 @@ impl Same for Name {
 
 impl Same for Text {
     fn is_same(&self, other: &Text) -> bool {
+        self.as_slice() == other.as_slice()
+    }
+}
+
+impl Same for BoxedText {
+    fn is_same(&self, other: &BoxedText) -> bool {
         self.as_slice() == other.as_slice()
     }
 }

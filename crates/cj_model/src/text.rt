@@ -1,6 +1,6 @@
 //! Texts: UTF-8 without byte 0.
 
-ghost use Rattle.std.specs.Prelude.{◌≡◌, ◌↔◌, ◌==◌, not, [], length, IsTrue};
+ghost use Rattle.std.specs.Prelude.{◌≡◌, ◌↔◌, ◌==◌, not, [], length, IfOk, IsTrue};
 ghost use Rattle.std.specs.List.{list_all};
 ghost use Rattle.std.specs.Str as str;
 ghost use Rattle.cj_model.specs.Sql.Names.{text_of, IsText};
@@ -84,6 +84,54 @@ impl Text {
         ensures { IsTrue result ↔ (self.now ≡ []) }
     {
         self.bytes.is_empty()
+    }
+}
+
+/// A text behind one pointer, so that what may be a number or a text takes no more than two numbers.
+pub struct BoxedText {
+    text: Box<Text>,
+}
+
+impl Model for BoxedText {
+    ghost use Rattle.std.specs.Prelude.{List, ℕ};
+
+    ghost Value = { List ℕ };
+
+    ghost view = { λ boxed. boxed.text.value };
+}
+
+impl Drop for BoxedText {
+    fn drop(self) {
+        let BoxedText { text } = self;
+        drop(Box::into_inner(text));
+    }
+}
+
+impl BoxedText {
+    pub fn of(alloc: Global, text: Text) -> Result<BoxedText, NoMemory>
+        ensures { IfOk result (λ boxed. boxed ≡ text) }
+    {
+        Ok(BoxedText {
+            text: Box::new(alloc, text)?,
+        })
+    }
+
+    pub fn as_text(&self) -> &Text
+        ensures { result.now ≡ self.now }
+    {
+        &self.text
+    }
+
+    pub fn as_slice(&self) -> &[u8]
+        ensures { result.now ≡ self.now }
+    {
+        self.text.as_slice()
+    }
+}
+
+impl Duplicate for BoxedText {
+    fn copy(&self, alloc: Global) -> Result<BoxedText, NoMemory> {
+        BoxedText::of(alloc, self.text.copy(alloc)?)
     }
 }
 

@@ -1,7 +1,7 @@
 //! Values of columns, and their kinds.
 
 use crate::memory::{Duplicate, NoMemory};
-use crate::text::Text;
+use crate::text::{BoxedText, Text};
 use std::alloc::Global;
 use std::cmp::Ordering;
 
@@ -16,12 +16,19 @@ pub enum Kind {
 #[derive(Drop)]
 pub enum Value {
     Int(i64),
-    Text(Text),
+    Text(BoxedText),
 }
 
 impl Value {
-    ghost use Rattle.std.specs.Prelude.{◌≡◌};
+    ghost use Rattle.std.specs.Prelude.{◌≡◌, IfOk};
+    ghost use Rattle.cj_model.specs.declared.value.Value.TheVariants as value;
     ghost use Rattle.cj_model.specs.Database.Values.{kind_of};
+
+    pub fn of_text(alloc: Global, text: Text) -> Result<Value, NoMemory>
+        ensures { IfOk result (λ made. made ≡ value.Text text) }
+    {
+        Ok(Value::Text(BoxedText::of(alloc, text)?))
+    }
 
     pub fn kind(&self) -> Kind
         ensures { result ≡ kind_of self.now }

@@ -61,6 +61,6 @@ pub fn write_value(alloc: Global, value: &Value) -> Result<Text, NoMemory>
 {
     match value {
         Value::Int(number) => write_number(alloc, *number),
-        Value::Text(text) => write_text(alloc, text),
+        Value::Text(text) => write_text(alloc, text.as_text()),
     }
 }

@@ -41,7 +41,7 @@ fn lead_at<'a>(row: &'a [Value], place: usize) -> Lead<'a>
 {
     match row.get(place) {
         Some(Value::Int(number)) => Lead::Int(*number),
-        Some(Value::Text(text)) => Lead::Text(text),
+        Some(Value::Text(text)) => Lead::Text(text.as_text()),
         None => Lead::Int(0),
     }
 }

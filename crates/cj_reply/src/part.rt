@@ -41,7 +41,7 @@ impl Part for Value {
     fn size(&self) -> u64 {
         match self {
             Value::Int(_) => 9,
-            Value::Text(text) => (text.len() as u64).saturating_add(5),
+            Value::Text(text) => (text.as_slice().len() as u64).saturating_add(5),
         }
     }
 

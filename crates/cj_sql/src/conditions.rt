@@ -88,9 +88,9 @@ fn test(alloc: Global, tokens: &mut Tokens, tests: &mut usize) -> Result<Box<Con
     if *tests == 0 {
         return Err(SqlError::Syntax);
     }
-    let left = term(tokens)?;
+    let left = term(alloc, tokens)?;
     let cmp = comparison(tokens)?;
-    let right = term(tokens)?;
+    let right = term(alloc, tokens)?;
     *tests -= 1;
     Ok(Box::new(alloc, CondNode::Test(cmp, left, right))?)
 }

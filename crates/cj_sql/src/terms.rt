@@ -36,11 +36,11 @@ fn negative(tokens: &mut Tokens) -> Result<Term, SqlError>
 }
 
 #[tactic(auto, unfolding(crate::specs::Proving::TermReader::string))]
-fn string(tokens: &mut Tokens) -> Result<Term, SqlError>
+fn string(alloc: Global, tokens: &mut Tokens) -> Result<Term, SqlError>
     ensures { ReadsAs spec.string tokens.old result tokens.new }
 {
     let text = tokens.text()?;
-    Ok(Term::Lit(Value::Text(text)))
+    Ok(Term::Lit(Value::of_text(alloc, text)?))
 }
 
 /// What follows NOW.
@@ -69,7 +69,7 @@ fn rand(tokens: &mut Tokens) -> Result<Term, SqlError>
 }
 
 #[tactic(auto, unfolding(crate::specs::Proving::TermReader::const_term))]
-fn constant(tokens: &mut Tokens) -> Result<Term, SqlError>
+fn constant(alloc: Global, tokens: &mut Tokens) -> Result<Term, SqlError>
     ensures { ReadsAs spec.const_term tokens.old result tokens.new }
 {
     if tokens.eat_symbol(Symbol::Minus) {
@@ -84,7 +84,7 @@ fn constant(tokens: &mut Tokens) -> Result<Term, SqlError>
     if tokens.eat_word(Keyword::Rand) {
         return rand(tokens);
     }
-    string(tokens)
+    string(alloc, tokens)
 }
 
 /// A list of terms is a tuple's, which has constants alone.
@@ -93,8 +93,8 @@ impl Element for Term {
 
     ghost reader = { const_term };
 
-    fn read(_alloc: Global, tokens: &mut Tokens) -> Result<Term, SqlError> {
-        constant(tokens)
+    fn read(alloc: Global, tokens: &mut Tokens) -> Result<Term, SqlError> {
+        constant(alloc, tokens)
     }
 }
 
@@ -127,28 +127,28 @@ pub fn column(tokens: &mut Tokens) -> Result<ColRef, SqlError>
 
 /// A constant or a column.
 #[tactic(auto, unfolding(crate::specs::Proving::TermReader::term))]
-pub fn term(tokens: &mut Tokens) -> Result<Term, SqlError>
+pub fn term(alloc: Global, tokens: &mut Tokens) -> Result<Term, SqlError>
     ensures { ReadsAs spec.term tokens.old result tokens.new }
 {
     if tokens.sees_name() {
         let column = column(tokens)?;
         Ok(Term::Col(column))
     } else {
-        constant(tokens)
+        constant(alloc, tokens)
     }
 }
 
 /// The rest of an expression, after its first term.
 #[tactic(auto, unfolding(crate::specs::Proving::TermReader::combined))]
-fn combined(tokens: &mut Tokens, left: Term) -> Result<Expr, SqlError>
+fn combined(alloc: Global, tokens: &mut Tokens, left: Term) -> Result<Expr, SqlError>
     ensures { ReadsAs (spec.combined left) tokens.old result tokens.new }
 {
     if tokens.eat_symbol(Symbol::Plus) {
-        let right = term(tokens)?;
+        let right = term(alloc, tokens)?;
         return Ok(Expr::Plus(left, right));
     }
     if tokens.eat_symbol(Symbol::Minus) {
-        let right = term(tokens)?;
+        let right = term(alloc, tokens)?;
         return Ok(Expr::Minus(left, right));
     }
     Ok(Expr::One(left))
@@ -156,9 +156,9 @@ fn combined(tokens: &mut Tokens, left: Term) -> Result<Expr, SqlError>
 
 /// A term, or two with a plus or a minus between them.
 #[tactic(auto, unfolding(crate::specs::Proving::TermReader::expr))]
-pub fn expr(tokens: &mut Tokens) -> Result<Expr, SqlError>
+pub fn expr(alloc: Global, tokens: &mut Tokens) -> Result<Expr, SqlError>
     ensures { ReadsAs spec.expr tokens.old result tokens.new }
 {
-    let left = term(tokens)?;
-    combined(tokens, left)
+    let left = term(alloc, tokens)?;
+    combined(alloc, tokens, left)
 }

@@ -17,10 +17,10 @@ impl Element for Set {
     ghost reader = { set_clause };
 
     #[tactic(auto, unfolding(crate::specs::Proving::StatementReader::set_clause))]
-    fn read(_alloc: Global, tokens: &mut Tokens) -> Result<Set, SqlError> {
+    fn read(alloc: Global, tokens: &mut Tokens) -> Result<Set, SqlError> {
         let column = tokens.name()?;
         tokens.expect_symbol(Symbol::Eq)?;
-        let value = expr(tokens)?;
+        let value = expr(alloc, tokens)?;
         Ok(Set { column, value })
     }
 }

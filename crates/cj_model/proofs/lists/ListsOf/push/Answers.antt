@@ -14,5 +14,5 @@ module _ (g : given.Over) (c : goal.After-drop-items-2 g) where
 pub invariant_of-self-2 : goal.invariant_of-self-2
 invariant_of-self-2 g c = subst (λ ns. AreCut ns c.append.new.self.items) (sym (lengths g c)) (subst (AreCut _) (sym (items g c)) (cut_more c.self.inside.lengths.items c.self.inside.items.items c.args.list c.self.invariant))
 
-pub returns : goal.returns
-returns g c = ap (λ ns. cut ns c.append.new.self.items) (lengths g c) ∙ ap (cut _) (items g c) ∙ cut_pushed c.self.inside.lengths.items c.self.inside.items.items c.args.list c.self.invariant ∙ ap (λ lists. lists ++ c.args.list ∷ []) c.self.view_is
+pub returns-clause-ok : goal.returns-clause-ok
+returns-clause-ok g c = ap (λ ns. cut ns c.append.new.self.items) (lengths g c) ∙ ap (cut _) (items g c) ∙ cut_pushed c.self.inside.lengths.items c.self.inside.items.items c.args.list c.self.invariant ∙ ap (λ lists. lists ++ c.args.list ∷ []) c.self.view_is
