@@ -43,6 +43,16 @@ pub enum Stop {
     NoMemory,
 }
 
+impl From<NoMemory> for Stop {
+    ghost use Rattle.cj_codec.specs.declared.error.Stop.TheVariants.{NoMemory};
+
+    ghost from_gives = { λ _ stop. stop ≡ NoMemory };
+
+    fn from(_error: NoMemory) -> Stop {
+        Stop::NoMemory
+    }
+}
+
 impl From<AllocError> for Stop {
     ghost use Rattle.cj_codec.specs.declared.error.Stop.TheVariants.{NoMemory};
 
