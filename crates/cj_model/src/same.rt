@@ -46,7 +46,8 @@ impl<T: Same> Same for Option<T> {
     }
 }
 
-fn are_same<T: Same>(mut one: &[T], mut two: &[T]) -> bool
+/// Whether the two have the same items.
+pub fn are_same<T: Same>(mut one: &[T], mut two: &[T]) -> bool
     ensures { IsTrue result ↔ (one.entry.now ≡ two.entry.now) }
 {
     while let [first, rest @ ..] = one {
