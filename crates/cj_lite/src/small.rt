@@ -9,7 +9,7 @@ ghost use Rattle.cj_model.specs.Database.Outcomes.{IsOutcome, IsAsked};
 use crate::error::LiteError;
 use cj_model::{
     Asked, Create, Duplicate, Name, NoMemory, Outcome, Row, Rows, Schema, Select, Term, Tuple,
-    Tuples, Write,
+    Tuples, Write, copies,
 };
 use cj_query::select;
 use cj_table::Tables;
@@ -86,7 +86,7 @@ pub fn rows_seen(
     };
     let mut rows = Vec::new(alloc);
     for row in view.scan() {
-        rows.push(row.copy(alloc)?)?;
+        rows.push(Row::from_vec(copies(alloc, row)?))?;
     }
     Ok(rows)
 }

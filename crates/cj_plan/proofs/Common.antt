@@ -15,7 +15,7 @@ pub use Rattle.cj_plan.specs.Assignments.{assignment_by_place, assignments}
 pub use Rattle.cj_plan.specs.Inserts.{with_fitting_rows}
 pub use Rattle.cj_plan.specs.Plans.{Plans}
 pub use Rattle.cj_plan.specs.declared.plan.Plan.{Plan}
-pub use Rattle.cj_rows.specs.Lookups.{IsKeyOf, row_with_key}
+pub use Rattle.cj_rows.specs.Lookups.{row_with_key}
 pub use Rattle.cj_rows.specs.RowEntries.{RowEntries, puts}
 pub use Rattle.std.proofs.lemmas.Bool.{cond-true, or_parts, or_right}
 pub use Rattle.cj_model.proofs.Common.{length-map, list_any}

@@ -1,15 +1,14 @@
 -- What INSERT, UPDATE and DELETE are to change of a table.
-use Rattle.std.proofs.Common.{◌≡◌, ℕ, zero, suc, ◌+◌, ◌<◌, ◌≤◌, Bool, true, false, cond, List, [], ◌∷◌, ◌++◌, length, map, get_or, take, refl, ap, sym, ◌∙◌, subst, ⊎_elim, Ordering, Less, Equal, Greater, is_eq, arith}
-use Rattle.std.specs.Prelude.{All, filter, find, fold, not, is_some, count_by, ◌||◌, ◌&&◌, option_copied}
-use Rattle.cj_rows.proofs.Common.{Bor, IsChangeOf, KeysRise, at, match_ordering, merged, option_as_list, tied_itself, value_cmp, value_exact, value_total, values_of}
+use Rattle.std.proofs.Common.{◌≡◌, ℕ, zero, suc, ◌+◌, ◌<◌, ◌≤◌, Bool, true, false, cond, List, [], ◌∷◌, ◌++◌, length, map, get_or, take, refl, ap, sym, ◌∙◌, subst, ⊎_elim, Ordering, is_eq, arith}
+use Rattle.std.specs.Prelude.{filter, find, fold, not, is_some, count_by, ◌||◌, ◌&&◌, option_copied}
+use Rattle.cj_rows.proofs.Common.{Bor, IsChangeOf, KeysRise, at, match_ordering, merged, value_cmp, value_exact, value_total, values_of}
 use Rattle.std.specs.declared.option.Option.TheVariants.{None, Some}
-use Rattle.std.proofs.lemmas.Bool.{cases_Bool, cond-true, cond-false, or_left, or_right, or_parts, false_from_ne_true}
+use Rattle.std.proofs.lemmas.Bool.{cases_Bool, or_left, or_right, or_parts}
 use Rattle.std.proofs.lemmas.List.{length-map, map-append, map_more}
-use Rattle.cj_model.proofs.Common.{All-head, All-tail, Predicate}
 use Rattle.std.proofs.lemmas.List.Filters.{length-filter_both}
 use Rattle.std.proofs.lemmas.List.Sums.{length-filter, count_by-le-length}
-use Rattle.cj_plan.proofs.Common.{Changed, has_key, has_key_twice, insert_entry, IsKeyOf, list_any, Option, Plan, Refusal, refuse_if, Result, row_with_key, satisfies, Table, Value}
-use Rattle.cj_model.specs.Database.Tables.{IsTable, cell, by_key, put_by, Rises}
+use Rattle.cj_plan.proofs.Common.{Changed, has_key, has_key_twice, insert_entry, list_any, Option, Plan, Refusal, refuse_if, Result, row_with_key, Table, Value}
+use Rattle.cj_model.specs.Database.Tables.{IsTable, cell, by_key, put_by}
 use Rattle.cj_model.proofs.RisingLaws.{by_order, found_put}
 use Rattle.cj_model.proofs.TableLaws.{by_key_total}
 use Rattle.cj_rows.specs.RowEntries.{RowEntries, keyed, puts, removals}
@@ -58,31 +57,6 @@ pub found_key : (k : ℕ) (rows : List (List Value)) (r : List Value) → is_som
 found_key k rows r =
     is_some-find (λ x. is_eq (value_cmp (cell x k) (cell r k))) rows
     ∙ any_same (λ x. is_eq (value_cmp (cell x k) (cell r k))) (λ x. is_eq (by_key k r x)) (λ x. is_eq-flip (cell x k) (cell r k)) rows
-
-module _ (k : ℕ) (v : Value) (c : Option Predicate) (p : IsKeyOf k c v) where
-  fails : (r : List Value) → is_eq (value_cmp (cell r k) v) ≡ false → satisfies c r ≡ false
-  fails r n = false_from_ne_true _ (λ h. let e : true ≡ false = sym (ap is_eq (tied_itself value_total v)) ∙ ap (λ (w : Value). is_eq (value_cmp w v)) (sym (p.at r h)) ∙ n in cc e)
-
-  none_meet : (r : List Value) → cell r k ≡ v → (rs : List (List Value)) → All (λ s. by_key k r s ≡ Less) rs → filter (satisfies c) rs ≡ []
-  none_meet r e [] h = refl
-  none_meet r e (s ∷ rs) h =
-      let l : value_cmp v (cell s k) ≡ Less = ap (λ (w : Value). value_cmp w (cell s k)) (sym e) ∙ All-head (λ s. by_key k r s ≡ Less) s rs h in
-      cond-false _ _ _ (fails s (is_eq-flip (cell s k) v ∙ ap is_eq l)) ∙ none_meet r e rs (All-tail (λ s. by_key k r s ≡ Less) s rs h)
-
-  equal : (o : Ordering) → is_eq o ≡ true → o ≡ Equal
-  equal Less h = cc h
-  equal Equal h = refl
-  equal Greater h = cc h
-
-  -- one row at most has the key of all that meet a condition
-  pub pinned_rows : (rs : List (List Value)) → Rises (by_key k) rs → filter (satisfies c) (option_as_list (row_with_key k rs v)) ≡ filter (satisfies c) rs
-  pinned_rows [] h = refl
-  pinned_rows (r ∷ rs) h = ⊎_elim
-      (λ (t : is_eq (value_cmp (cell r k) v) ≡ true). ap (λ o. filter (satisfies c) (option_as_list o)) (cond-true _ _ _ t)
-      ∙ ap (λ (l : List (List Value)). cond (satisfies c r) (r ∷ l) l) (sym (none_meet r (value_exact _ _ (equal _ t)) rs h.0)))
-      (λ (f : is_eq (value_cmp (cell r k) v) ≡ false). ap (λ o. filter (satisfies c) (option_as_list o)) (cond-false _ _ _ f) ∙ pinned_rows rs h.1
-      ∙ sym (cond-false _ _ _ (fails r f)))
-      (cases_Bool (is_eq (value_cmp (cell r k) v)))
 
 -- ---- keys that stand twice
 

@@ -4,7 +4,7 @@ ghost use Rattle.std.specs.Prelude.{◌≡◌, slice_set};
 ghost use Rattle.cj_model.specs.declared.value.Value.TheVariants as value;
 
 use cj_expr::{Formula, Predicate};
-use cj_model::{Row, Value};
+use cj_model::Value;
 use cj_rows::RowEdit;
 use cj_search::satisfies;
 
@@ -17,11 +17,11 @@ pub struct ColumnEdit {
     pub condition: Option<Predicate>,
 }
 
-fn set_integer(row: &mut Row, place: usize, number: i64)
+fn set_integer(row: &mut [Value], place: usize, number: i64)
     ensures { row.new ≡ slice_set row.old place (value.Int number) }
 {
     if place < row.len() {
-        row.as_mut_slice()[place] = Value::Int(number);
+        row[place] = Value::Int(number);
     }
 }
 
@@ -30,11 +30,11 @@ impl RowEdit for ColumnEdit {
 
     ghost edited = { edited };
 
-    fn edit(&self, row: &mut Row) {
+    fn edit(&self, row: &mut [Value]) {
         if !satisfies(&self.condition, row) {
             return;
         }
-        if let Some(number) = self.value.integer_in(row.as_slice()) {
+        if let Some(number) = self.value.integer_in(row) {
             set_integer(row, self.place, number);
         }
     }

@@ -7,21 +7,21 @@ ghost use Rattle.cj_model.specs.Database.Updates as updates;
 ghost use Rattle.cj_plan.specs.Changes.{MakesChange};
 ghost use Rattle.cj_rows.specs.RowEntries as entries;
 
-use crate::conditions::{are_many, bound, has_unknown_column, matching, mixes_kinds};
-use crate::plan::{Change, Decided, Plan};
+use crate::plan::{Change, Decided, Plan, are_many};
 use crate::unmet::Unmet;
 use cj_expr::{Predicate, Scope};
-use cj_model::{Cond, NO_COLUMN, NoMemory, Refusal, Row, WRONG_TYPE};
+use cj_model::{Cond, NO_COLUMN, NoMemory, Refusal, Value, WRONG_TYPE};
 use cj_rows::{RowMap, View, key_of};
+use cj_search::{bound_where, matching_rows, where_has_unknown_column, where_mixes_kinds};
 use std::alloc::Global;
 
 /// The changes that take the rows out.
-fn removals(alloc: Global, place: usize, rows: &[&Row]) -> Result<RowMap, NoMemory>
+fn removals(alloc: Global, place: usize, rows: &[&[Value]]) -> Result<RowMap, NoMemory>
     ensures { IfOk result (λ changes. changes ≡ entries.removals place (map deref rows.now)) }
 {
     let mut changes = RowMap::new(alloc);
     for row in rows {
-        let key = key_of(alloc, *row, place)?;
+        let key = key_of(alloc, row, place)?;
         changes.insert(key, None)?;
     }
     Ok(changes)
@@ -37,7 +37,7 @@ fn without_rows(
     ensures { MakesChange is_undrafted view.now (updates.without_rows view.now.rows condition) result }
 {
     view.legal();
-    let rows = matching(alloc, view, &condition)?;
+    let rows = matching_rows(alloc, view, &condition)?;
     let count = view.count() - rows.len();
     let written = rows.len() as u64;
     if is_undrafted && are_many(rows.len(), view.count()) {
@@ -62,13 +62,13 @@ pub fn deleted(
     ensures { MakesChange is_undrafted view.now (updates.deleted view.now cond.now) result }
 {
     let scope = Scope::of(alloc, &[view.schema()])?;
-    if has_unknown_column(&scope, cond) {
+    if where_has_unknown_column(&scope, cond) {
         return Ok(Err(Refusal::of_code(NO_COLUMN)));
     }
-    if mixes_kinds(&scope, cond) {
+    if where_mixes_kinds(&scope, cond) {
         return Ok(Err(Refusal::of_code(WRONG_TYPE)));
     }
-    let condition = bound(alloc, &scope, cond)?;
+    let condition = bound_where(alloc, &scope, cond)?;
     let decided = without_rows(alloc, view, is_undrafted, condition)?;
     Ok(decided)
 }

@@ -170,7 +170,7 @@ pub fn has_misfit(columns: &[Column], rows: &[Row]) -> bool
 }
 
 /// Whether a row of the table has this row's key.
-fn has_key(view: &View, row: &Row) -> bool
+fn has_key(view: &View, row: &[Value]) -> bool
     ensures { result ≡ inserts.has_key view.now.schema.key view.now.rows row.now }
 {
     let zero = Value::Int(0);
@@ -182,7 +182,7 @@ fn has_key(view: &View, row: &Row) -> bool
 fn has_key_of(view: &View, rows: &[Row]) -> bool
     ensures { result ≡ list_any (inserts.has_key view.now.schema.key view.now.rows) rows.now }
 {
-    rows.iter().any(|row| has_key(view, row))
+    rows.iter().any(|row| has_key(view, row.as_slice()))
 }
 
 /// The changes that put the rows at their keys; none where two have one key.
@@ -191,8 +191,8 @@ pub fn puts(alloc: Global, place: usize, rows: Rows) -> Result<Option<RowMap>, N
 {
     let mut changes = RowMap::new(alloc);
     for row in rows.into_vec() {
-        let key = key_of(alloc, &row, place)?;
-        if changes.get(&key).is_some() {
+        let key = key_of(alloc, row.as_slice(), place)?;
+        if changes.knows(&key) {
             return Ok(None);
         }
         changes.insert(key, Some(row))?;

@@ -2,7 +2,6 @@
 #![tactic(auto)]
 
 mod column_edit;
-mod conditions;
 mod delete;
 mod insert;
 mod names;

@@ -82,3 +82,9 @@ pub fn decided(
         Write::Delete { cond, .. } => deleted(alloc, view, is_undrafted, cond),
     }
 }
+
+/// Whether so many rows are more than an eighth of all: fewer cost less by their keys than a walk
+/// over all.
+pub fn are_many(rows: usize, all: usize) -> bool {
+    rows > all / 8
+}

@@ -3,7 +3,7 @@
 ghost use Rattle.std.specs.Prelude.{◌≡◌};
 
 use cj_expr::Predicate;
-use cj_model::Row;
+use cj_model::Value;
 use cj_rows::RowTest;
 use cj_search::satisfies;
 
@@ -18,7 +18,7 @@ impl RowTest for Unmet {
 
     ghost passes = { is_unmet };
 
-    fn test(&self, row: &Row) -> bool {
+    fn test(&self, row: &[Value]) -> bool {
         !satisfies(&self.condition, row)
     }
 }

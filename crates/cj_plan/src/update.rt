@@ -14,15 +14,15 @@ ghost use Rattle.cj_plan.specs.ColumnEdits.{GetIntegers, SetsInPlace};
 ghost use Rattle.cj_rows.specs.RowEntries as entries;
 
 use crate::column_edit::ColumnEdit;
-use crate::conditions::{are_many, bound, has_unknown_column, matching, mixes_kinds};
 use crate::names::is_distinct;
-use crate::plan::{Change, Decided, Plan};
+use crate::plan::{Change, Decided, Plan, are_many};
 use cj_expr::{Formula, Predicate, Scope, ValueError, formula_of};
 use cj_model::{
-    BAD_COLUMNS, ColRef, Cond, Duplicate, NO_COLUMN, Names, NoMemory, OVERFLOW, Refusal, Row, Set,
-    Value, WRONG_TYPE,
+    BAD_COLUMNS, ColRef, Cond, NO_COLUMN, Names, NoMemory, OVERFLOW, Refusal, Row, Set, Value,
+    WRONG_TYPE, copies,
 };
 use cj_rows::{RowMap, View, key_of};
+use cj_search::{bound_where, matching_rows, where_has_unknown_column, where_mixes_kinds};
 use std::alloc::Global;
 
 /// A place of a row, and what is put there.
@@ -70,7 +70,7 @@ fn any_has_unknown_column(scope: &Scope, sets: &[Set]) -> bool
 fn names_unknown_column(scope: &Scope, sets: &[Set], when: &Option<Cond>) -> bool
     ensures { result ≡ (list_any (updates.set_has_unknown_column scope.now) sets.now || scopes.where_has_unknown_column scope.now when.now) }
 {
-    any_has_unknown_column(scope, sets) || has_unknown_column(scope, when)
+    any_has_unknown_column(scope, sets) || where_has_unknown_column(scope, when)
 }
 
 fn any_sets_key(scope: &Scope, key: usize, sets: &[Set]) -> bool
@@ -89,7 +89,7 @@ fn any_mixes_kinds(scope: &Scope, sets: &[Set]) -> bool
 fn has_mixed_kinds(scope: &Scope, sets: &[Set], when: &Option<Cond>) -> bool
     ensures { result ≡ (list_any (updates.set_mixes_kinds scope.now) sets.now || scopes.where_mixes_kinds scope.now when.now) }
 {
-    any_mixes_kinds(scope, sets) || mixes_kinds(scope, when)
+    any_mixes_kinds(scope, sets) || where_mixes_kinds(scope, when)
 }
 
 fn names_of(alloc: Global, sets: &[Set]) -> Result<Names, NoMemory>
@@ -150,12 +150,12 @@ fn put(values: &mut Vec<Value>, place: usize, value: Value)
 }
 
 /// The row with its new values, all computed from the old row; none where one lies outside 64 bits.
-fn assigned(alloc: Global, row: &Row, assigns: &[Assignment]) -> Result<Option<Row>, NoMemory>
+fn assigned(alloc: Global, row: &[Value], assigns: &[Assignment]) -> Result<Option<Row>, NoMemory>
     ensures { IfOk result (λ new. new ≡ cond (updates.overflows (assignments assigns.now) row.now) None (Some (updates.assigned (assignments assigns.now) row.now))) }
 {
-    let mut values = row.copy(alloc)?.into_vec();
+    let mut values = copies(alloc, row)?;
     for assign in assigns {
-        match value_in(alloc, &assign.value, row.as_slice())? {
+        match value_in(alloc, &assign.value, row)? {
             Some(value) => put(&mut values, assign.place, value),
             None => return Ok(None),
         }
@@ -167,16 +167,16 @@ fn assigned(alloc: Global, row: &Row, assigns: &[Assignment]) -> Result<Option<R
 fn new_rows(
     alloc: Global,
     place: usize,
-    rows: &[&Row],
+    rows: &[&[Value]],
     assigns: &[Assignment],
 ) -> Result<Option<RowMap>, NoMemory>
     ensures { IfOk result (λ changes. changes ≡ values_or_none place (assignments assigns.now) (map deref rows.now)) }
 {
     let mut changes = RowMap::new(alloc);
     for row in rows {
-        match assigned(alloc, *row, assigns)? {
+        match assigned(alloc, row, assigns)? {
             Some(new) => {
-                let key = key_of(alloc, &new, place)?;
+                let key = key_of(alloc, new.as_slice(), place)?;
                 changes.insert(key, Some(new))?;
             }
             None => return Ok(None),
@@ -185,15 +185,14 @@ fn new_rows(
     Ok(Some(changes))
 }
 
-fn are_integers(value: &Formula, rows: &[&Row]) -> bool
+fn are_integers(value: &Formula, rows: &[&[Value]]) -> bool
     ensures { result ≡ true → All (λ row. is_some (integer_within (value_of row.now (formula value.now))) ≡ true) rows.now }
 {
-    rows.iter()
-        .all(|row| value.integer_in(row.as_slice()).is_some())
+    rows.iter().all(|row| value.integer_in(row).is_some())
 }
 
 /// Whether many of a table's rows are given an INTEGER of 64 bits in one column, and nothing else.
-fn get_integers(count: usize, rows: &[&Row], assigns: &[Assignment]) -> bool
+fn get_integers(count: usize, rows: &[&[Value]], assigns: &[Assignment]) -> bool
     ensures integers { result ≡ true → GetIntegers (assignments assigns.now) (map deref rows.now) }
     ensures one { result ≡ true → length assigns.now ≡ 1 }
 {
@@ -233,7 +232,7 @@ fn with_new_values(
     ensures { MakesChange is_undrafted view.now (updates.with_new_values view.now.rows (assignments assigns.items) condition) result }
 {
     view.legal();
-    let rows = matching(alloc, view, &condition)?;
+    let rows = matching_rows(alloc, view, &condition)?;
     let written = rows.len() as u64;
     if is_undrafted && get_integers(view.count(), &rows, &assigns) {
         return Ok(Ok(in_place(assigns, condition, written)));
@@ -261,7 +260,7 @@ fn with_assignments(
     ensures { MakesChange is_undrafted view.now (updates.with_new_values view.now.rows (map (updates.assignment_of scope.now) sets.now) (option_map (scopes.predicate_of scope.now) when.now)) result }
 {
     let assigns = assignments_of(alloc, scope, sets)?;
-    let condition = bound(alloc, scope, when)?;
+    let condition = bound_where(alloc, scope, when)?;
     let decided = with_new_values(alloc, view, is_undrafted, assigns, condition)?;
     Ok(decided)
 }

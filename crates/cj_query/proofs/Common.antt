@@ -29,7 +29,7 @@ pub use Rattle.cj_query.specs.Joined.{Suffices, all_joined, extended_rows, first
 pub use Rattle.cj_query.specs.Kept.{IsBarred, rows_kept}
 pub use Rattle.cj_query.specs.KnownRows.{IsSaid, StandsBehind}
 pub use Rattle.cj_query.specs.Made.{MakesValue}
-pub use Rattle.cj_query.specs.Paths.{PinsTo, answers_each, follows_join, follows_rows, is_enough, reverses_rows}
+pub use Rattle.cj_query.specs.Paths.{answers_each, follows_join, follows_rows, is_enough, reverses_rows}
 pub use Rattle.cj_query.specs.Projections.{bound_item_value, has_bound_sum_out_of_range, is_row_outside, projected_row}
 pub use Rattle.cj_query.specs.Ranked.{RankedRow, keys_of, leads_before, led_by, ranked_by, rows_seen, wanted}
 pub use Rattle.cj_query.specs.Refused.{code_of}

@@ -1,40 +1,16 @@
 -- Where less than all rows are looked at, the answer is the same.
-use Rattle.std.proofs.Common.{◌≡◌, ℕ, ◌≤◌, Bool, true, false, not, cond, eqb, List, [], ◌∷◌, ◌++◌, length, map, get_or, refl, ap, sym, ◌∙◌, ⊎_elim, Less, is_eq, arith}
-use Rattle.std.specs.Prelude.{All, filter, option_to_list, is_none, reverse}
+use Rattle.std.proofs.Common.{◌≡◌, ℕ, ◌≤◌, Bool, true, false, not, cond, eqb, List, [], ◌∷◌, ◌++◌, length, map, get_or, refl, ap, sym, ◌∙◌, Less, arith}
+use Rattle.std.specs.Prelude.{All, is_none, reverse}
 use Rattle.std.specs.declared.option.Option.{Option}
 use Rattle.std.specs.declared.option.Option.TheVariants.{None, Some}
-use Rattle.cj_query.proofs.Common.{All-cons, All-head, All-nil, All-tail, and_parts, at_most, by_key, by_sort_key, by_sort_keys, cases_Bool, cell, ColRef, column_place, cond-false, cond-true, false_from_ne_true, first_row, gathered, groups_answered, has_aggregate, is_lt, Key, nil_from_length, not-true, ordering_then, Rises, row_with_key, Scope, Select, sort_key_of, sorted_by, SortKey, sorts_before, tied_itself, Value, value_cmp, value_total}
-use Rattle.cj_query.specs.Paths.{OrdersAs, PinsTo, answers_each, falls_by, follows_rows, is_falling_at, is_led_by, is_rising_at, follows_join, reverses_rows}
+use Rattle.cj_query.proofs.Common.{All-cons, All-head, All-nil, All-tail, and_parts, at_most, by_key, by_sort_key, by_sort_keys, ColRef, column_place, cond-false, first_row, gathered, groups_answered, has_aggregate, is_lt, Key, nil_from_length, not-true, ordering_then, Rises, Scope, Select, sort_key_of, sorted_by, SortKey, sorts_before, Value}
+use Rattle.cj_query.specs.Paths.{OrdersAs, answers_each, falls_by, follows_rows, is_falling_at, is_led_by, is_rising_at, follows_join, reverses_rows}
 use Rattle.std.proofs.lemmas.Bool.{eqb-true}
 use Rattle.cj_query.proofs.KeyLaws.{always_in_order}
 use Rattle.cj_query.proofs.MapLaws.{cut-map}
 use Rattle.cj_query.proofs.OrderLaws.{ordered-map}
 use Rattle.cj_query.proofs.ReverseLaws.{IsFalling, map-reverse, ordered_falling}
 use Rattle.cj_query.proofs.RiseLaws.{keys_ordered, rises_weaker}
-
--- ---- a look-up
-
-module _ (k : ℕ) (v : Value) (p : List Value → Bool) (pins : PinsTo k p v) where
-  other_fails : (row : List Value) → is_eq (value_cmp (cell row k) v) ≡ false → p row ≡ false
-  other_fails row f = false_from_ne_true _ (λ t. cc (sym f ∙ ap (λ w. is_eq (value_cmp w v)) (pins.at row t) ∙ ap is_eq (tied_itself value_total v)))
-
-  none_above : (row : List Value) (rows : List (List Value)) → is_eq (value_cmp (cell row k) v) ≡ true → All (λ s. by_key k row s ≡ Less) rows → filter p rows ≡ []
-  none_above row [] e a = refl
-  none_above row (s ∷ rows) e a =
-      let less : value_cmp (cell row k) (cell s k) ≡ Less = All-head (λ s. by_key k row s ≡ Less) s rows a in
-      cond-false _ _ _ (false_from_ne_true _ (λ (t : p s ≡ true). cc (sym (ap is_eq less) ∙ ap (λ w. is_eq (value_cmp (cell row k) w)) (pins.at s t) ∙ e)))
-      ∙ none_above row rows e (All-tail (λ s. by_key k row s ≡ Less) s rows a)
-
-  -- where the key is pinned, the row with that key is the only one that may pass
-  pub pinned_rows : (rows : List (List Value)) → Rises (by_key k) rows → filter p (option_to_list (row_with_key k rows v)) ≡ filter p rows
-  pinned_rows [] r = refl
-  pinned_rows (row ∷ rows) r = ⊎_elim
-      (λ (t : is_eq (value_cmp (cell row k) v) ≡ true).
-      ap (λ o. filter p (option_to_list o)) (cond-true _ _ _ t)
-      ∙ ap (λ l. cond (p row) (row ∷ l) l) (sym (none_above row rows t r.0)))
-      (λ (f : is_eq (value_cmp (cell row k) v) ≡ false).
-      ap (λ o. filter p (option_to_list o)) (cond-false _ _ _ f) ∙ pinned_rows rows r.1 ∙ sym (cond-false _ _ _ (other_fails row f)))
-      (cases_Bool (is_eq (value_cmp (cell row k) v)))
 
 -- ---- the order of the rows
 

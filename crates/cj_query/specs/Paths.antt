@@ -12,14 +12,10 @@ use Rattle.cj_model.specs.declared.select.Key.{Key}
 use Rattle.cj_model.specs.declared.select.Select.{Select}
 use Rattle.cj_model.specs.Database.Queries.{has_aggregate}
 use Rattle.cj_model.specs.Database.Scopes.{Scope, column_place}
-use Rattle.cj_model.specs.Database.Tables.{Rises, by_key, cell}
+use Rattle.cj_model.specs.Database.Tables.{Rises, by_key}
 use Rattle.cj_model.specs.Database.Order.{SortKey, sorted_by, sorts_before}
 use Rattle.cj_query.specs.declared.ranked.Ranking.{Ranking}
 use Rattle.cj_query.specs.Ranked.{keys_of}
-
--- each row that passes the test has this value at the place
-pub record PinsTo (column_place : ℕ) (p : List Value → Bool) (v : Value) : Type 0 where
-  pub at : (row : List Value) → p row ≡ true → cell row column_place ≡ v
 
 -- the rising key at this place
 abbrev pub is_rising_at : Scope → ℕ → Key → Bool

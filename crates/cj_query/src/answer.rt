@@ -1,24 +1,25 @@
 //! The answer to a query whose columns are there and fit.
 
-ghost use Rattle.std.specs.Prelude.{◌≡◌, [], ◌∷◌, map, IfOk};
+ghost use Rattle.std.specs.Prelude.{◌≡◌, [], ◌∷◌, true, map, IfOk};
 ghost use Rattle.std.specs.Map.Iter.{deref};
+ghost use Rattle.cj_model.specs.declared.answer.Asked.TheVariants.{Rows};
 ghost use Rattle.cj_model.specs.Database.Order.{at_most};
 ghost use Rattle.cj_model.specs.Database.Queries as queries;
 ghost use Rattle.cj_query.specs.Counted as counted;
 ghost use Rattle.cj_query.specs.Groups.{rows_in};
+ghost use Rattle.cj_query.specs.Paths.{answers_each};
 
 use crate::checks::listed;
-use crate::groups::{arranged, gather, singles};
-use crate::order::{SortKey, sort_groups, sort_keys};
-use crate::paths::ranking_of;
+use crate::columns::{columns_asked, take_refs};
+use crate::groups::{arranged, gather};
+use crate::order::{sort_groups, sort_keys};
 use crate::project::{counts_row, names_of, project};
-use crate::top::first_ranked;
 use cj_expr::{Scope, ValueError};
-use cj_model::{Answer, AnswerRows, Asked, NoMemory, OVERFLOW, Refusal, Row, Select};
+use cj_model::{Answer, AnswerRows, Asked, NoMemory, OVERFLOW, Refusal, Select, Value};
 use std::alloc::Global;
 
 /// Keeps at most so many groups, from the front.
-fn cut_groups(groups: &mut Vec<&[&Row]>, limit: Option<u64>)
+fn cut_groups(groups: &mut Vec<&[&[Value]]>, limit: Option<u64>)
     ensures { rows_in groups.new.items ≡ at_most limit (rows_in groups.old.items) }
 {
     if let Some(most) = limit {
@@ -26,54 +27,48 @@ fn cut_groups(groups: &mut Vec<&[&Row]>, limit: Option<u64>)
     }
 }
 
+/// The answer with these rows.
+pub fn answer_with(
+    alloc: Global,
+    scope: &Scope,
+    select: &Select,
+    rows: AnswerRows,
+) -> Result<Asked, NoMemory>
+    ensures { IfOk result (λ asked. asked ≡ Rows (record { columns = queries.names_answered scope.now select.now.items; rows = rows })) }
+{
+    let columns = names_of(alloc, scope, &select.items)?;
+    Ok(Asked::Rows(Answer { columns, rows }))
+}
+
 /// The answer with a row for each group.
 fn answer_groups(
     alloc: Global,
     scope: &Scope,
     select: &Select,
-    groups: &[&[&Row]],
+    groups: &[&[&[Value]]],
 ) -> Result<Asked, NoMemory>
     ensures { IfOk result (λ asked. asked ≡ queries.asked_by (queries.answer_of scope.now select.now (rows_in groups.now))) }
 {
     match project(alloc, scope, &select.items, groups) {
-        Ok(rows) => {
-            let columns = names_of(alloc, scope, &select.items)?;
-            Ok(Asked::Rows(Answer { columns, rows }))
-        }
+        Ok(rows) => answer_with(alloc, scope, select, rows),
         Err(ValueError::Overflow) => Ok(Asked::Refused(Refusal::of_code(OVERFLOW))),
         Err(ValueError::NoMemory) => Err(NoMemory),
     }
 }
 
-/// The answer with a row for each of these.
+/// The answer with what is asked of each of these rows.
 pub fn answer_each(
     alloc: Global,
     scope: &Scope,
     select: &Select,
-    rows: &[&Row],
+    rows: &[&[Value]],
 ) -> Result<Asked, NoMemory>
+    requires { answers_each select.now ≡ true }
     ensures { IfOk result (λ asked. asked ≡ queries.asked_by (queries.answer_of scope.now select.now (map (λ row. row ∷ []) (map deref rows.now)))) }
 {
-    let groups = singles(alloc, rows)?;
-    answer_groups(alloc, scope, select, &groups)
-}
-
-/// The answer from rows that are gathered into groups, in the order of keys.
-fn answer_gathered(
-    alloc: Global,
-    scope: &Scope,
-    select: &Select,
-    keys: &[SortKey],
-    rows: Vec<&Row>,
-) -> Result<Asked, NoMemory>
-    requires { keys.now ≡ map (queries.sort_key_of scope.now) select.now.order }
-    ensures { IfOk result (λ asked. asked ≡ queries.asked_by (queries.answer_of scope.now select.now (queries.groups_answered scope.now select.now (map deref rows.entry.items)))) }
-{
-    let rows = arranged(alloc, scope, &select.group, rows)?;
-    let mut groups = gather(alloc, scope, &select.items, &select.group, &rows)?;
-    sort_groups(&mut groups, keys)?;
-    cut_groups(&mut groups, select.limit);
-    answer_groups(alloc, scope, select, &groups)
+    let columns = columns_asked(alloc, scope, &select.items)?;
+    let rows = take_refs(alloc, rows, &columns)?;
+    answer_with(alloc, scope, select, rows)
 }
 
 /// The answer from the rows that meet the condition.
@@ -81,18 +76,16 @@ pub fn answer_rows(
     alloc: Global,
     scope: &Scope,
     select: &Select,
-    rows: Vec<&Row>,
+    rows: Vec<&[Value]>,
 ) -> Result<Asked, NoMemory>
     ensures { IfOk result (λ asked. asked ≡ queries.asked_by (queries.answer_of scope.now select.now (queries.groups_answered scope.now select.now (map deref rows.entry.items)))) }
 {
+    let rows = arranged(alloc, scope, &select.group, rows)?;
+    let mut groups = gather(alloc, scope, &select.items, &select.group, &rows)?;
     let keys = sort_keys(alloc, select.order.as_slice(), scope)?;
-    match ranking_of(select, &keys) {
-        Some(ranking) => {
-            let rows = first_ranked(alloc, &rows, &ranking)?;
-            answer_each(alloc, scope, select, &rows)
-        }
-        None => answer_gathered(alloc, scope, select, &keys, rows),
-    }
+    sort_groups(&mut groups, &keys)?;
+    cut_groups(&mut groups, select.limit);
+    answer_groups(alloc, scope, select, &groups)
 }
 
 /// The rows of the answer to a query for nothing but the number of rows.
@@ -115,7 +108,6 @@ pub fn answer_counts(
 ) -> Result<Asked, NoMemory>
     ensures { IfOk result (λ asked. asked ≡ counted.answer scope.now select.now count) }
 {
-    let columns = names_of(alloc, scope, &select.items)?;
     let rows = count_rows(alloc, select, count)?;
-    Ok(Asked::Rows(Answer { columns, rows }))
+    answer_with(alloc, scope, select, rows)
 }

@@ -8,7 +8,8 @@ ghost use Rattle.cj_model.specs.Database.Scopes as scopes;
 ghost use Rattle.cj_query.specs.Refused as refused;
 
 use cj_expr::{Scope, same_kind};
-use cj_model::{BAD_COLUMNS, ColRef, Cond, Item, Items, Key, Kind, NO_COLUMN, Select, WRONG_TYPE};
+use cj_model::{BAD_COLUMNS, ColRef, Item, Items, Key, Kind, NO_COLUMN, Select, WRONG_TYPE};
+use cj_search::{where_has_unknown_column, where_mixes_kinds};
 
 /// The place of a column. One that is not there stands for the first.
 pub fn place_in(scope: &Scope, column: &ColRef) -> usize
@@ -58,15 +59,6 @@ fn group_has_unknown_column(scope: &Scope, group: &Option<ColRef>) -> bool
 {
     match group {
         Some(column) => scope.is_unknown_column(column),
-        None => false,
-    }
-}
-
-fn where_has_unknown_column(scope: &Scope, cond: &Option<Cond>) -> bool
-    ensures { result ≡ scopes.where_has_unknown_column scope.now cond.now }
-{
-    match cond {
-        Some(cond) => scope.has_unknown_column(cond),
         None => false,
     }
 }
@@ -174,15 +166,6 @@ fn any_sums_text(scope: &Scope, items: &[Item]) -> bool
     ensures { result ≡ list_any (queries.sums_text scope.now) items.now }
 {
     items.iter().any(|item| sums_text(scope, item))
-}
-
-fn where_mixes_kinds(scope: &Scope, cond: &Option<Cond>) -> bool
-    ensures { result ≡ scopes.where_mixes_kinds scope.now cond.now }
-{
-    match cond {
-        Some(cond) => scope.mixes_kinds(cond),
-        None => false,
-    }
 }
 
 fn mixes_kinds(scope: &Scope, select: &Select) -> bool

@@ -11,17 +11,17 @@ use crate::checks::{aggregates, place_in};
 use crate::order::compare_at;
 use crate::ranked::{Ranked, rows_of, sort_by_lead};
 use cj_expr::Scope;
-use cj_model::{ColRef, Items, NoMemory, Row};
+use cj_model::{ColRef, Items, NoMemory, Value};
 use std::alloc::Global;
 
-fn is_same(left: &Row, right: &Row, place: usize) -> bool
+fn is_same(left: &[Value], right: &[Value], place: usize) -> bool
     ensures { result ≡ same_at place left.now right.now }
 {
-    compare_at(place, left.as_slice(), right.as_slice()).is_eq()
+    compare_at(place, left, right).is_eq()
 }
 
 /// How many rows at the front have this row's value at a place.
-fn same_len(first: &Row, rows: &[&Row], place: usize) -> usize
+fn same_len(first: &[Value], rows: &[&[Value]], place: usize) -> usize
     ensures is { result ≡ prefix_len (same_at place first.now) (map deref rows.now) }
     ensures within { result ≤ length rows.now }
 {
@@ -36,7 +36,7 @@ fn same_len(first: &Row, rows: &[&Row], place: usize) -> usize
 }
 
 /// How many rows at the front have the first one's value at a place.
-fn run_len(rows: &[&Row], place: usize) -> usize
+fn run_len(rows: &[&[Value]], place: usize) -> usize
     ensures is { result ≡ run_length place (map deref rows.now) }
     ensures within { result ≤ length rows.now }
     ensures some { 0 < length rows.now → 0 < result }
@@ -50,9 +50,9 @@ fn run_len(rows: &[&Row], place: usize) -> usize
 /// The rows cut where the value at a place changes.
 fn runs<'b, 'a>(
     alloc: Global,
-    rows: &'b [&'a Row],
+    rows: &'b [&'a [Value]],
     place: usize,
-) -> Result<Vec<&'b [&'a Row]>, NoMemory>
+) -> Result<Vec<&'b [&'a [Value]]>, NoMemory>
     ensures { IfOk result (λ groups. rows_in groups.items ≡ gathered.runs place (map deref rows.now)) }
 {
     let mut out = Vec::new(alloc);
@@ -66,7 +66,10 @@ fn runs<'b, 'a>(
 }
 
 /// Each row by itself.
-pub fn singles<'b, 'a>(alloc: Global, rows: &'b [&'a Row]) -> Result<Vec<&'b [&'a Row]>, NoMemory>
+pub fn singles<'b, 'a>(
+    alloc: Global,
+    rows: &'b [&'a [Value]],
+) -> Result<Vec<&'b [&'a [Value]]>, NoMemory>
     ensures { IfOk result (λ groups. rows_in groups.items ≡ map (λ row. row ∷ []) (map deref rows.now)) }
 {
     let mut out = Vec::with_capacity(alloc, rows.len())?;
@@ -77,7 +80,7 @@ pub fn singles<'b, 'a>(alloc: Global, rows: &'b [&'a Row]) -> Result<Vec<&'b [&'
 }
 
 /// All rows together.
-fn whole<'b, 'a>(alloc: Global, rows: &'b [&'a Row]) -> Result<Vec<&'b [&'a Row]>, NoMemory>
+fn whole<'b, 'a>(alloc: Global, rows: &'b [&'a [Value]]) -> Result<Vec<&'b [&'a [Value]]>, NoMemory>
     ensures { IfOk result (λ groups. rows_in groups.items ≡ map deref rows.now ∷ []) }
 {
     let mut out = Vec::new(alloc);
@@ -86,7 +89,11 @@ fn whole<'b, 'a>(alloc: Global, rows: &'b [&'a Row]) -> Result<Vec<&'b [&'a Row]
 }
 
 /// The rows in rising order of the values at a place; rows that tie stay as they are.
-fn sorted<'a>(alloc: Global, rows: &[&'a Row], place: usize) -> Result<Vec<&'a Row>, NoMemory>
+fn sorted<'a>(
+    alloc: Global,
+    rows: &[&'a [Value]],
+    place: usize,
+) -> Result<Vec<&'a [Value]>, NoMemory>
     ensures { IfOk result (λ out. map deref out.items ≡ gathered.sorted_at place (map deref rows.now)) }
 {
     let mut ranked = Vec::with_capacity(alloc, rows.len())?;
@@ -102,8 +109,8 @@ pub fn arranged<'a>(
     alloc: Global,
     scope: &Scope,
     group: &Option<ColRef>,
-    rows: Vec<&'a Row>,
-) -> Result<Vec<&'a Row>, NoMemory>
+    rows: Vec<&'a [Value]>,
+) -> Result<Vec<&'a [Value]>, NoMemory>
     ensures { IfOk result (λ out. map deref out.items ≡ gathered.arranged scope.now group.now (map deref rows.entry.items)) }
 {
     match group {
@@ -118,8 +125,8 @@ pub fn gather<'b, 'a>(
     scope: &Scope,
     items: &Items,
     group: &Option<ColRef>,
-    rows: &'b [&'a Row],
-) -> Result<Vec<&'b [&'a Row]>, NoMemory>
+    rows: &'b [&'a [Value]],
+) -> Result<Vec<&'b [&'a [Value]]>, NoMemory>
     ensures { IfOk result (λ groups. rows_in groups.items ≡ cut_into scope.now items.now group.now (map deref rows.now)) }
 {
     match group {

@@ -10,7 +10,7 @@ ghost use Rattle.cj_model.specs.Database.Tables.{by_key};
 ghost use Rattle.cj_query.specs.Groups.{rows_in};
 
 use cj_expr::Scope;
-use cj_model::{Key, NoMemory, Row, Value};
+use cj_model::{Key, NoMemory, Value};
 use std::alloc::Global;
 use std::cmp::Ordering;
 use std::marker::Model;
@@ -108,17 +108,17 @@ pub fn compare(keys: &[SortKey], left: &[Value], right: &[Value]) -> Ordering
 }
 
 /// The values of a group's first row, none of an empty group.
-pub fn first_values<'a>(group: &[&'a Row]) -> &'a [Value]
+pub fn first_values<'a>(group: &[&'a [Value]]) -> &'a [Value]
     ensures { result.now ≡ first_row (map deref group.now) }
 {
     match group.first() {
-        Some(row) => row.as_slice(),
+        Some(row) => *row,
         None => &[],
     }
 }
 
 /// Puts groups in the order of their first rows by the keys; groups that tie stay as they are.
-pub fn sort_groups(groups: &mut Vec<&[&Row]>, keys: &[SortKey]) -> Result<(), NoMemory>
+pub fn sort_groups(groups: &mut Vec<&[&[Value]]>, keys: &[SortKey]) -> Result<(), NoMemory>
     ensures { OnOk result (rows_in groups.new.items ≡ sorted_by (λ g h. sorts_before keys.now (first_row g) (first_row h)) (rows_in groups.old.items)) }
 {
     if keys.is_empty() {

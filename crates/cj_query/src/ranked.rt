@@ -9,7 +9,7 @@ ghost use Rattle.cj_model.specs.Database.Values.{value_cmp};
 ghost use Rattle.cj_query.specs.Ranked as ranks;
 
 use crate::order::{SortKey, compare};
-use cj_model::{NoMemory, Row, Text, Value};
+use cj_model::{NoMemory, Text, Value};
 use std::alloc::Global;
 use std::cmp::Ordering;
 
@@ -32,7 +32,7 @@ pub enum Lead<'a> {
 #[derive(Clone, Copy)]
 pub struct Ranked<'a> {
     lead: Lead<'a>,
-    row: &'a Row,
+    row: &'a [Value],
 }
 
 /// The value at a place of a row; 0 past its end.
@@ -47,18 +47,18 @@ fn lead_at<'a>(row: &'a [Value], place: usize) -> Lead<'a>
 }
 
 impl<'a> Ranked<'a> {
-    pub fn of(row: &'a Row, ranking: &Ranking) -> Ranked<'a>
+    pub fn of(row: &'a [Value], ranking: &Ranking) -> Ranked<'a>
         ensures { ranks.seen result ≡ ranks.ranked_by ranking.now row.now }
     {
         Ranked::at(row, ranking.first.place())
     }
 
     /// A row with its value at a place.
-    pub fn at(row: &'a Row, place: usize) -> Ranked<'a>
+    pub fn at(row: &'a [Value], place: usize) -> Ranked<'a>
         ensures { ranks.seen result ≡ ranks.led_by place row.now }
     {
         Ranked {
-            lead: lead_at(row.as_slice(), place),
+            lead: lead_at(row, place),
             row,
         }
     }
@@ -75,7 +75,7 @@ impl<'a> Ranked<'a> {
         }
     }
 
-    pub fn row(&self) -> &'a Row
+    pub fn row(&self) -> &'a [Value]
         ensures { result.now ≡ self.now.row.now }
     {
         self.row
@@ -112,7 +112,7 @@ pub fn compare_ranked(ranking: &Ranking, left: &Ranked, right: &Ranked) -> Order
     if order.is_ne() {
         return order;
     }
-    compare(ranking.rest, left.row.as_slice(), right.row.as_slice())
+    compare(ranking.rest, left.row, right.row)
 }
 
 /// Puts rows in order; rows that tie stay as they are.
@@ -132,7 +132,7 @@ pub fn sort_by_lead(rows: &mut Vec<Ranked>) -> Result<(), NoMemory>
 }
 
 /// The rows, as they stand.
-pub fn rows_of<'a>(alloc: Global, ranked: &[Ranked<'a>]) -> Result<Vec<&'a Row>, NoMemory>
+pub fn rows_of<'a>(alloc: Global, ranked: &[Ranked<'a>]) -> Result<Vec<&'a [Value]>, NoMemory>
     ensures { IfOk result (λ out. map deref out.items ≡ ranks.rows_seen ranked.now) }
 {
     let mut out = Vec::new(alloc);

@@ -1,37 +1,22 @@
 //! Queries over one table.
 
-ghost use Rattle.std.specs.Prelude.{◌≡◌, [], ◌∷◌, true, map, option_copied, option_to_list, IfOk};
+ghost use Rattle.std.specs.Prelude.{◌≡◌, [], ◌∷◌, true, map, IfOk};
 ghost use Rattle.cj_model.specs.Database.Order.{at_most};
 ghost use Rattle.cj_model.specs.Database.Queries.{answer_of, asked_by};
 ghost use Rattle.cj_query.specs.Paths.{answers_each};
 ghost use Rattle.cj_query.specs.Seen.{answer_from};
 
-use crate::answer::{answer_counts, answer_each, answer_rows};
+use crate::answer::{answer_counts, answer_each, answer_rows, answer_with};
 use crate::columns::columns_asked;
 use crate::order::sort_keys;
-use crate::paths::{counts_all, follows_rows, pinned, ranking_of, reverses_rows, telling};
-use crate::project::names_of;
-use crate::rows::{all_of, first_matching, first_taken, matching_row};
+use crate::paths::{counts_all, follows_rows, ranking_of, reverses_rows, says_key, telling};
+use crate::rows::{first_matching, first_taken};
 use crate::top::first_matching_ranked;
 use cj_expr::{Predicate, Scope};
-use cj_model::{Answer, Asked, NoMemory, Row, Select};
-use cj_search::Matching;
+use cj_model::{Asked, NoMemory, Select};
+use cj_search::{Matching, matching_rows};
 use cj_table::View;
 use std::alloc::Global;
-
-/// The answer from a row, if there is one.
-fn answer_found(
-    alloc: Global,
-    scope: &Scope,
-    select: &Select,
-    row: Option<&Row>,
-    cond: &Option<Predicate>,
-) -> Result<Asked, NoMemory>
-    ensures { IfOk result (λ asked. asked ≡ answer_from scope.now select.now cond.now (option_to_list (option_copied row.entry))) }
-{
-    let rows = matching_row(alloc, row, cond)?;
-    answer_rows(alloc, scope, select, rows)
-}
 
 /// The answer from the first of the rows that are found, of each of which what is asked is taken at once.
 fn answer_as_found(
@@ -45,10 +30,7 @@ fn answer_as_found(
 {
     let columns = columns_asked(alloc, scope, &select.items)?;
     let rows = first_taken(alloc, rows, &columns, select.limit)?;
-    Ok(Asked::Rows(Answer {
-        columns: names_of(alloc, scope, &select.items)?,
-        rows,
-    }))
+    answer_with(alloc, scope, select, rows)
 }
 
 /// The answer from all rows that meet the condition, of which no more are kept than are needed.
@@ -69,35 +51,13 @@ fn answer_all(
             answer_each(alloc, scope, select, &rows)
         }
         None => {
-            let rows = all_of(alloc, Matching::of(view, cond))?;
+            let rows = matching_rows(alloc, view, cond)?;
             answer_rows(alloc, scope, select, rows)
         }
     }
 }
 
-/// The answer from the rows that meet the condition, of which as few are looked at as are needed.
-fn answer_scanned(
-    alloc: Global,
-    scope: &Scope,
-    select: &Select,
-    view: &View,
-    cond: &Option<Predicate>,
-) -> Result<Asked, NoMemory>
-    ensures { IfOk result (λ asked. asked ≡ answer_from scope.now select.now cond.now view.now.rows) }
-{
-    view.legal();
-    let key = usize::from(view.schema().key);
-    if follows_rows(scope, select, key) {
-        return answer_as_found(alloc, scope, select, Matching::of(view, cond));
-    }
-    if reverses_rows(scope, select, key) {
-        let rows = first_matching(alloc, view.scan_back(), cond, select.limit)?;
-        return answer_each(alloc, scope, select, &rows);
-    }
-    answer_all(alloc, scope, select, view, cond)
-}
-
-/// The answer from one table.
+/// The answer from one table, of which as few rows are looked at as are needed.
 pub fn answer_one(
     alloc: Global,
     scope: &Scope,
@@ -111,8 +71,13 @@ pub fn answer_one(
         return answer_counts(alloc, scope, select, view.count());
     }
     view.legal();
-    match pinned(cond, usize::from(view.schema().key)) {
-        Some(key) => answer_found(alloc, scope, select, view.find(key), cond),
-        None => answer_scanned(alloc, scope, select, view, cond),
+    let key = usize::from(view.schema().key);
+    if follows_rows(scope, select, key) {
+        return answer_as_found(alloc, scope, select, Matching::of(view, cond));
     }
+    if reverses_rows(scope, select, key) && !says_key(cond, key) {
+        let rows = first_matching(alloc, view.scan_back(), cond, select.limit)?;
+        return answer_each(alloc, scope, select, &rows);
+    }
+    answer_all(alloc, scope, select, view, cond)
 }

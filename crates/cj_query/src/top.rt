@@ -7,7 +7,7 @@ ghost use Rattle.cj_query.specs.Kept as kept_rows;
 ghost use Rattle.cj_query.specs.Ranked as ranks;
 
 use crate::ranked::{Ranked, Ranking, compare_ranked, rows_of, sort_ranked};
-use cj_model::{NoMemory, Row};
+use cj_model::{NoMemory, Value};
 use cj_search::Matching;
 use std::alloc::Global;
 
@@ -100,7 +100,11 @@ impl<'a> Kept<'a> {
 }
 
 /// The wanted rows of those that were kept, in order.
-fn finished<'a>(alloc: Global, kept: Kept<'a>, ranking: &Ranking) -> Result<Vec<&'a Row>, NoMemory>
+fn finished<'a>(
+    alloc: Global,
+    kept: Kept<'a>,
+    ranking: &Ranking,
+) -> Result<Vec<&'a [Value]>, NoMemory>
     ensures { IfOk result (λ out. map deref out.items ≡ map (λ r. r.1) (ranks.wanted ranking.now (kept_rows.rows_kept kept.entry))) }
 {
     let Kept { mut rows, .. } = kept;
@@ -113,27 +117,12 @@ pub fn first_matching_ranked<'a>(
     alloc: Global,
     rows: Matching<'_, 'a>,
     ranking: &Ranking,
-) -> Result<Vec<&'a Row>, NoMemory>
+) -> Result<Vec<&'a [Value]>, NoMemory>
     ensures { IfOk result (λ out. map deref out.items ≡ at_most ranking.now.limit (sorted_by (sorts_before (ranks.keys_of ranking.now)) rows.entry)) }
 {
     let mut kept = Kept::new(alloc);
     for row in rows {
         kept.add(Ranked::of(row, ranking), ranking)?;
-    }
-    finished(alloc, kept, ranking)
-}
-
-/// The first of the rows in the order of the keys.
-pub fn first_ranked<'a>(
-    alloc: Global,
-    rows: &[&'a Row],
-    ranking: &Ranking,
-) -> Result<Vec<&'a Row>, NoMemory>
-    ensures { IfOk result (λ out. map deref out.items ≡ at_most ranking.now.limit (sorted_by (sorts_before (ranks.keys_of ranking.now)) (map deref rows.now))) }
-{
-    let mut kept = Kept::new(alloc);
-    for row in rows {
-        kept.add(Ranked::of(*row, ranking), ranking)?;
     }
     finished(alloc, kept, ranking)
 }

@@ -1,5 +1,5 @@
 -- The names that answers of this crate cite, its own lemmas among them, passed on from one place. Declares nothing.
-pub use Rattle.cj_rows.proofs.Common.{All-nil, Extends, HasKeysOf, IsChangeOf, KeysRise, KnowsKeys, None, Option, RowEntries, Slot, Value, append-nil, append_assoc, at, changed_slot, deref_pair, filter, from_key, insert_entry, kept, knows, map-append, merged, option_as_list, other_writer, overlaid, reverse, seen, value_cmp, value_exact, value_total, values_of}
+pub use Rattle.cj_rows.proofs.Common.{All-nil, Extends, HasKeysOf, IsChangeOf, KeysRise, KnowsKeys, None, Option, RowEntries, Slot, Value, append-nil, append_assoc, at, changed_slot, deref_pair, filter, from_key, insert_entry, kept, knows, map-append, merged, option_as_list, option_copied, other_writer, overlaid, reverse, seen, value_cmp, value_exact, value_total, values_of}
 pub use Rattle.cj_rows.proofs.ConversionLaws.{settles_changed, settles_gone, settles_same}
 pub use Rattle.cj_rows.proofs.EntryLaws.{at_kept, at_merged, known_itself, merged_none, pick, rise_from, rise_kept}
 pub use Rattle.cj_rows.proofs.FromLaws.{kept_part, overlaid_part, range_from}

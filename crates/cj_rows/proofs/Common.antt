@@ -20,6 +20,6 @@ pub use Rattle.std.specs.Borrow.{Bor}
 pub use Rattle.std.specs.Map.{remove_entry, values_of}
 pub use Rattle.std.specs.Map.Iter.{deref_pair}
 pub use Rattle.std.specs.Ordering.{match_ordering, ordering_reverse}
-pub use Rattle.std.specs.Prelude.{All, filter, fold, is_some, reverse, unwrap_or}
+pub use Rattle.std.specs.Prelude.{All, filter, fold, is_some, option_copied, reverse, unwrap_or}
 pub use Rattle.std.specs.declared.option.Option.{Option}
 pub use Rattle.std.specs.declared.option.Option.TheVariants.{None, Some}

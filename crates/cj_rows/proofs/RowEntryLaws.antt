@@ -1,8 +1,8 @@
 -- What making entries for keys, and laying changes over them, does to rows by their keys.
 use Rattle.std.proofs.Common.{◌≡◌, true, false, List, [], ◌∷◌, refl, ap, sym, ◌∙◌, subst, Ordering, Less, Equal, Greater, is_eq, ⊎_elim}
-use Rattle.std.specs.Prelude.{All, is_some, ◌++◌, option_copied}
+use Rattle.std.specs.Prelude.{All, is_some, ◌++◌}
 use Rattle.std.proofs.lemmas.List.Elements.{All-nil, All-cons, All-head, All-tail, All-weaker, All-append}
-use Rattle.cj_rows.proofs.Common.{at, Bor, cases_Bool, changed, cond-false, cond-true, Extends, HasKeysOf, insert_entry, is_at, kept, KeysAbove, KeysRise, knows, KnowsKeys, merged, None, Option, ordering_reverse, overlaid, remove_entry, RowEntries, Some, Value, value_cmp, value_exact, value_total}
+use Rattle.cj_rows.proofs.Common.{at, Bor, cases_Bool, changed, cond-false, cond-true, Extends, HasKeysOf, insert_entry, is_at, kept, KeysAbove, KeysRise, knows, KnowsKeys, merged, None, Option, option_copied, ordering_reverse, overlaid, remove_entry, RowEntries, Some, Value, value_cmp, value_exact, value_total}
 use Rattle.cj_rows.proofs.EntryLaws.{at_merged, eq_true, pick, same_entries, at_remove, remove_absent, taken_back, note_change, commit_change, all_remove, rise_kept, rise_merged, prepared, known_after, all_insert}
 
 abbrev Rising : RowEntries → Type 0

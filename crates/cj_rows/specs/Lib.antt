@@ -4,3 +4,4 @@ pub mod Lookups
 pub mod RowEntries
 pub mod Scans
 pub mod Stored
+pub mod StoredRows

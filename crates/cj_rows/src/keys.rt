@@ -3,22 +3,22 @@
 ghost use Rattle.std.specs.Prelude.{◌≡◌, pos, IfOk};
 ghost use Rattle.cj_model.specs.Database.Tables.{cell};
 
-use cj_model::{Duplicate, NoMemory, Row, Value};
+use cj_model::{Duplicate, NoMemory, Value};
 use std::alloc::Global;
 
 /// The value at a place of the row; past its end what stands for 0.
-pub fn key_in<'a>(row: &'a Row, place: usize, zero: &'a Value) -> &'a Value
+pub fn key_in<'a>(row: &'a [Value], place: usize, zero: &'a Value) -> &'a Value
     requires { zero.now ≡ Value.Int (pos 0) }
     ensures { result.now ≡ cell row.now place }
 {
-    row.as_slice().get(place).unwrap_or(zero)
+    row.get(place).unwrap_or(zero)
 }
 
 /// A copy of the value at a place of the row; 0 past its end.
-pub fn key_of(alloc: Global, row: &Row, place: usize) -> Result<Value, NoMemory>
+pub fn key_of(alloc: Global, row: &[Value], place: usize) -> Result<Value, NoMemory>
     ensures { IfOk result (λ key. key ≡ cell row.now place) }
 {
-    match row.as_slice().get(place) {
+    match row.get(place) {
         Some(value) => value.copy(alloc),
         None => Ok(Value::Int(0)),
     }

@@ -8,6 +8,7 @@ mod row_test;
 mod scan;
 mod scan_back;
 mod stored;
+mod stored_row;
 mod view;
 
 pub use keys::{key_in, key_of};

@@ -13,7 +13,8 @@ use crate::row_edit::RowEdit;
 use crate::row_test::RowTest;
 use crate::scan::{Entries, Scan};
 use crate::scan_back::ScanBack;
-use cj_model::{Duplicate, NoMemory, Row, Same, Value};
+use crate::stored_row::StoredRow;
+use cj_model::{Duplicate, NoMemory, Row, Value, are_same, copies};
 use std::alloc::Global;
 use std::cmp::Ordering;
 use std::collections::BTreeMap;
@@ -24,7 +25,7 @@ use std::marker::Model;
 /// nothing; it keeps a place, so that a row can be put there without memory.
 #[derive(Drop)]
 pub struct RowMap {
-    rows: BTreeMap<Value, Option<Row>>,
+    rows: BTreeMap<Value, StoredRow>,
 }
 
 impl Model for RowMap {
@@ -57,23 +58,23 @@ impl RowMap {
     }
 
     /// What is known of a key.
-    pub fn get(&self, key: &Value) -> Option<&Option<Row>>
+    fn get(&self, key: &Value) -> Option<&StoredRow>
         ensures { option_copied result ≡ at value_cmp key.now self.now }
     {
         self.rows.get(key)
     }
 
     /// The row at a key.
-    pub fn row(&self, key: &Value) -> Option<&Row>
+    pub fn row(&self, key: &Value) -> Option<&[Value]>
         ensures { option_copied result ≡ at value_cmp key.now (kept self.now) }
     {
         match self.rows.get(key) {
-            Some(row) => row.as_ref(),
+            Some(row) => row.values(),
             None => None,
         }
     }
 
-    fn knows(&self, key: &Value) -> bool
+    pub fn knows(&self, key: &Value) -> bool
         ensures { result ≡ entries.knows self.now key.now }
     {
         self.rows.contains_key(key)
@@ -81,7 +82,7 @@ impl RowMap {
 
     /// Puts a row or none at a key; want of memory leaves all as it was, and comes only at a key
     /// that is not known.
-    pub fn insert(&mut self, key: Value, row: Option<Row>) -> Result<(), NoMemory>
+    fn put(&mut self, key: Value, row: StoredRow) -> Result<(), NoMemory>
         ensures ok { OnOk result (self.new ≡ insert_entry value_cmp self.old key row) }
         ensures err { OnErr result (self.new ≡ self.old) }
         ensures unknown { OnErr result (at value_cmp key self.old ≡ None) }
@@ -90,6 +91,16 @@ impl RowMap {
     {
         self.rows.insert(key, row)?;
         Ok(())
+    }
+
+    /// Puts a row or none at a key; want of memory leaves all as it was.
+    pub fn insert(&mut self, key: Value, row: Option<Row>) -> Result<(), NoMemory>
+        ensures ok { OnOk result (self.new ≡ insert_entry value_cmp self.old key row) }
+        ensures err { OnErr result (self.new ≡ self.old) }
+        ensures rises { KeysRise value_cmp self.new }
+        ensures rose { KeysRise value_cmp self.old }
+    {
+        self.put(key, StoredRow::of(row))
     }
 
     /// Makes an entry for a key, at which what shows over `below` stays as it is.
@@ -160,7 +171,7 @@ impl RowMap {
 
     /// Makes one change, which takes no memory. Where nothing shows below, no entry is kept for a
     /// row that goes.
-    fn set(&mut self, below: &RowMap, key: Value, row: Option<Row>)
+    fn set(&mut self, below: &RowMap, key: Value, row: StoredRow)
         requires { entries.knows self.old key ≡ true }
         ensures shown { entries.overlaid below.now self.new ≡ changed value_cmp (entries.overlaid below.now self.old) key row }
         ensures keys { entries.HasKeysOf self.old ((key, None) ∷ []) self.new }
@@ -168,11 +179,11 @@ impl RowMap {
         ensures above { (other : Value) → value_cmp key other ≡ Less → entries.knows self.old other ≡ true → entries.knows self.new other ≡ true }
     {
         below.rises();
-        if row.is_none() && below.row(&key).is_none() {
+        if !row.is_some() && below.row(&key).is_none() {
             self.remove(&key);
             return;
         }
-        let Ok(()) = self.insert(key, row) else {
+        let Ok(()) = self.put(key, row) else {
             unreachable!()
         };
     }
@@ -208,19 +219,18 @@ impl RowMap {
 }
 
 impl RowMap {
-    fn has(&self, key: &Value, row: &Row) -> bool
+    fn has(&self, key: &Value, row: &[Value]) -> bool
         ensures { IsTrue result ↔ (at value_cmp key.now self.now ≡ Some (Some row.now)) }
     {
         match self.rows.get(key) {
-            Some(Some(found)) => found.is_same(row),
-            Some(None) => false,
+            Some(found) => holds(found, row),
             None => false,
         }
     }
 
     /// Fits the change at a row's key to the row: there is none where the row stays as it is, and one
     /// that takes the row out where there was none.
-    pub fn settle(&mut self, key: Value, row: &Row) -> Result<(), NoMemory>
+    pub fn settle(&mut self, key: Value, row: &[Value]) -> Result<(), NoMemory>
         ensures settles { OnOk result (entries.Settles key row.now self.old self.new) }
         ensures rises { OnOk result (KeysRise value_cmp self.new) }
     {
@@ -267,7 +277,7 @@ impl RowMap {
         ensures { self.new ≡ map (λ e. (e.0, option_map (R.edited by.now) e.1)) self.old }
     {
         self.rows.retain(|_key, row| {
-            edit_row(row, by);
+            row.edit(by);
             true
         });
     }
@@ -277,7 +287,7 @@ impl RowMap {
         ensures kept { kept self.new ≡ filter (λ e. T.passes by.now e.1) (kept self.old) }
         ensures rises { KeysRise value_cmp self.new }
     {
-        self.rows.retain(|_key, row| has_passing(row, by));
+        self.rows.retain(|_key, row| row.passes(by));
     }
 }
 
@@ -342,13 +352,13 @@ impl RowMap {
     }
 
     /// The row at a key that changes leave of these rows.
-    pub fn row_under<'a>(&'a self, changes: &'a RowMap, key: &Value) -> Option<&'a Row>
+    pub fn row_under<'a>(&'a self, changes: &'a RowMap, key: &Value) -> Option<&'a [Value]>
         ensures { option_copied result ≡ at value_cmp key.now (entries.overlaid self.now changes.now) }
     {
         self.rises();
         changes.rises();
         match changes.get(key) {
-            Some(row) => row.as_ref(),
+            Some(row) => row.values(),
             None => self.row(key),
         }
     }
@@ -369,28 +379,21 @@ fn reaches(rest: &mut Entries, key: &Value) -> bool
     false
 }
 
-fn copied(alloc: Global, row: Option<&Row>) -> Result<Option<Row>, NoMemory>
+fn copied(alloc: Global, row: Option<&[Value]>) -> Result<Option<Row>, NoMemory>
     ensures { IfOk result (λ copy. copy ≡ option_copied row.entry) }
 {
     match row {
-        Some(row) => Ok(Some(row.copy(alloc)?)),
+        Some(row) => Ok(Some(Row::from_vec(copies(alloc, row)?))),
         None => Ok(None),
     }
 }
 
-fn edit_row<R: RowEdit>(row: &mut Option<Row>, by: &R)
-    ensures { row.new ≡ option_map (R.edited by.now) row.old }
+/// Whether the row that is kept is this one.
+fn holds(kept: &StoredRow, row: &[Value]) -> bool
+    ensures { IsTrue result ↔ (kept.now ≡ Some row.now) }
 {
-    if let Some(row) = row {
-        by.edit(row);
-    }
-}
-
-fn has_passing<T: RowTest>(row: &Option<Row>, by: &T) -> bool
-    ensures { result ≡ unwrap_or (option_map (T.passes by.now) row.now) false }
-{
-    match row {
-        Some(row) => by.test(row),
+    match kept.values() {
+        Some(values) => are_same(values, row),
         None => false,
     }
 }

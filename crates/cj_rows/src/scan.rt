@@ -8,16 +8,17 @@ ghost use Rattle.cj_rows.specs.RowEntries.{overlaid};
 ghost use Rattle.cj_rows.specs.RowEntries as row_entries;
 ghost use Rattle.cj_rows.specs.Scans.{TakesRow, entry_count, rows_shown};
 
-use cj_model::{Row, Value};
+use crate::stored_row::StoredRow;
+use cj_model::Value;
 use std::cmp::Ordering;
 use std::collections::btree_map::Range;
 use std::marker::Model;
 
 /// The entries of a tree that are left.
-pub(crate) type Entries<'a> = Range<'a, Value, Option<Row>>;
+pub(crate) type Entries<'a> = Range<'a, Value, StoredRow>;
 
 /// A key, with its row or with none.
-pub(crate) type Entry<'a> = (&'a Value, &'a Option<Row>);
+pub(crate) type Entry<'a> = (&'a Value, &'a StoredRow);
 
 /// Entries, with changes laid over them. The first of each that is left is taken ahead, so that their
 /// keys can be compared.
@@ -53,13 +54,10 @@ impl<'a> Model for Scan<'a> {
 
 /// Which comes first, an entry or a change, where their keys have this order. An entry without a
 /// row is passed over at once.
-pub(crate) fn turn(row: &Option<Row>, order: Ordering) -> Ordering
+pub(crate) fn turn(row: &StoredRow, order: Ordering) -> Ordering
     ensures { result ≡ row_entries.turn row.now order }
 {
-    match row {
-        None => Ordering::Less,
-        Some(_) => order,
-    }
+    if row.is_some() { order } else { Ordering::Less }
 }
 
 impl<'a> Layered<'a> {
@@ -75,7 +73,7 @@ impl<'a> Layered<'a> {
     }
 
     /// Takes the first of the entries and changes, which may be without a row.
-    fn take(&mut self) -> Option<&'a Option<Row>>
+    fn take(&mut self) -> Option<&'a StoredRow>
         ensures shown { TakesRow rows_shown self.old result self.new }
         ensures fewer { OnSome result (entry_count self.new < entry_count self.old) }
     {
@@ -108,11 +106,11 @@ impl<'a> Layered<'a> {
     }
 
     /// The next row that there is.
-    fn next_row(&mut self) -> Option<&'a Row>
+    fn next_row(&mut self) -> Option<&'a [Value]>
         ensures { YieldsFirstRef rows_shown self.old result self.new }
     {
         while let Some(row) = self.take() {
-            if let Some(row) = row {
+            if let Some(row) = row.values() {
                 return Some(row);
             }
         }
@@ -121,11 +119,11 @@ impl<'a> Layered<'a> {
 }
 
 /// The next row that there is.
-fn next_row<'a>(entries: &mut Entries<'a>) -> Option<&'a Row>
+fn next_row<'a>(entries: &mut Entries<'a>) -> Option<&'a [Value]>
     ensures { YieldsFirstRef (λ es. values_of (kept es)) entries.old result entries.new }
 {
     while let Some((_, row)) = entries.next() {
-        if let Some(row) = row {
+        if let Some(row) = row.values() {
             return Some(row);
         }
     }
@@ -153,13 +151,13 @@ impl<'a> Scan<'a> {
 }
 
 impl<'a> Iterator for Scan<'a> {
-    type Item = &'a Row;
+    type Item = &'a [Value];
 
     ghost next_gives = { YieldsFirstRef (λ s. s) };
 
     ghost remaining = { item_count (λ s. s) };
 
-    fn next(&mut self) -> Option<&'a Row> {
+    fn next(&mut self) -> Option<&'a [Value]> {
         match &mut self.source {
             Source::Entries(entries) => next_row(entries),
             Source::Layered(layered) => layered.next_row(),

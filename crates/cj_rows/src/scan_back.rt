@@ -10,7 +10,8 @@ ghost use Rattle.cj_rows.specs.RowEntries.{overlaid};
 ghost use Rattle.cj_rows.specs.Scans.{LayersRise, TakesRow, entry_count_back, rows_shown_back};
 
 use crate::scan::{Entries, Entry, turn};
-use cj_model::Row;
+use crate::stored_row::StoredRow;
+use cj_model::Value;
 use std::cmp::Ordering;
 use std::iter::DoubleEndedIterator;
 use std::marker::Model;
@@ -65,7 +66,7 @@ impl<'a> LayeredBack<'a> {
     }
 
     /// Takes the last of the entries and changes, which may be without a row.
-    fn take(&mut self) -> Option<&'a Option<Row>>
+    fn take(&mut self) -> Option<&'a StoredRow>
         requires { LayersRise self.old }
         ensures shown { TakesRow rows_shown_back self.old result self.new }
         ensures fewer { OnSome result (entry_count_back self.new < entry_count_back self.old) }
@@ -100,13 +101,13 @@ impl<'a> LayeredBack<'a> {
     }
 
     /// The next row that there is.
-    fn next_row(&mut self) -> Option<&'a Row>
+    fn next_row(&mut self) -> Option<&'a [Value]>
         requires { LayersRise self.old }
         ensures row { YieldsFirstRef rows_shown_back self.old result self.new }
         ensures rises { LayersRise self.new }
     {
         while let Some(row) = self.take() {
-            if let Some(row) = row {
+            if let Some(row) = row.values() {
                 return Some(row);
             }
         }
@@ -115,11 +116,11 @@ impl<'a> LayeredBack<'a> {
 }
 
 /// The next row that there is.
-fn next_row<'a>(entries: &mut Entries<'a>) -> Option<&'a Row>
+fn next_row<'a>(entries: &mut Entries<'a>) -> Option<&'a [Value]>
     ensures { YieldsFirstRef (λ es. reverse (values_of (kept es))) entries.old result entries.new }
 {
     while let Some((_, row)) = entries.next_back() {
-        if let Some(row) = row {
+        if let Some(row) = row.values() {
             return Some(row);
         }
     }
@@ -149,13 +150,13 @@ impl<'a> ScanBack<'a> {
 }
 
 impl<'a> Iterator for ScanBack<'a> {
-    type Item = &'a Row;
+    type Item = &'a [Value];
 
     ghost next_gives = { YieldsFirstRef (λ s. s) };
 
     ghost remaining = { item_count (λ s. s) };
 
-    fn next(&mut self) -> Option<&'a Row> {
+    fn next(&mut self) -> Option<&'a [Value]> {
         match &mut self.source {
             SourceBack::Entries(entries) => next_row(entries),
             SourceBack::Layered(layered) => layered.next_row(),

@@ -15,7 +15,7 @@ use crate::row_map::RowMap;
 use crate::row_test::RowTest;
 use crate::scan::Scan;
 use crate::scan_back::ScanBack;
-use cj_model::{NoMemory, Row, Schema, Value};
+use cj_model::{NoMemory, Schema, Value};
 use std::alloc::Global;
 use std::marker::Model;
 
@@ -250,7 +250,7 @@ impl StoredTable {
     }
 
     /// The row with this key that a transaction sees.
-    pub fn find(&self, tx: u64, key: &Value) -> Option<&Row>
+    pub fn find(&self, tx: u64, key: &Value) -> Option<&[Value]>
         ensures { option_copied result ≡ row_with_key self.now.base.schema.key (seen self.now tx).rows key.now }
     {
         match &self.draft {

@@ -8,7 +8,7 @@ ghost use Rattle.cj_rows.specs.Lookups.{row_with_key, rows_from};
 use crate::scan::Scan;
 use crate::scan_back::ScanBack;
 use crate::stored::StoredTable;
-use cj_model::{Row, Schema, Value};
+use cj_model::{Schema, Value};
 use std::marker::Model;
 
 /// A table as a transaction sees it.
@@ -83,7 +83,7 @@ impl<'a> View<'a> {
     }
 
     /// The row with this key.
-    pub fn find(&self, key: &Value) -> Option<&'a Row>
+    pub fn find(&self, key: &Value) -> Option<&'a [Value]>
         ensures { option_copied result ≡ row_with_key self.now.schema.key self.now.rows key.now }
     {
         let stored = self.stored;

@@ -1,7 +1,8 @@
 -- The rows that a walk leaves out do not meet the condition.
 use Rattle.std.proofs.Common.{◌≡◌, ℕ, ◌+◌, ◌≤◌, Bool, true, false, cond, Ordering, Less, Equal, Greater, List, [], ◌∷◌, ◌++◌, length, refl, ap, sym, subst, ◌∙◌, ⊎_elim, arith, append_assoc}
-use Rattle.cj_rows.proofs.Common.{All, Rises, by_key, cell, filter, rows_from, value_cmp}
-use Rattle.std.specs.Ordering.{is_gt, is_le}
+use Rattle.cj_rows.proofs.Common.{All, Rises, by_key, cell, filter, row_with_key, rows_from, tied_itself, value_cmp, value_total}
+use Rattle.std.specs.Ordering.{is_eq, is_gt, is_le}
+use Rattle.std.specs.Prelude.{option_to_list}
 use Rattle.std.proofs.lemmas.Bool.{cases_Bool, cond-true, cond-false, false_from_ne_true}
 use Rattle.std.proofs.lemmas.List.{length-append}
 use Rattle.cj_model.proofs.Common.{All-cons, All-head, All-nil, All-tail, Predicate}
@@ -12,6 +13,7 @@ use Rattle.cj_model.specs.Database.Evaluation.{satisfies}
 use Rattle.cj_expr.specs.declared.reach.Reach.{Reach}
 use Rattle.cj_expr.specs.Reaches.{ReachesRows, is_reached}
 use Rattle.cj_expr.proofs.ReachLaws.{le_trans}
+use Rattle.cj_rows.specs.Lookups.{IsKeyOf}
 use Rattle.cj_search.specs.declared.matching.Search.{Search}
 use Rattle.cj_search.specs.Searches.{GoesOn, IsAtRow}
 
@@ -139,3 +141,27 @@ stays s row at = record {
   fewer = omega arith;
   search = record { table = at.table; before = at.before ++ row ∷ []; ends = at.ends ∙ sym (append_assoc at.before (row ∷ []) s.scan) };
 }
+
+-- ---- a look-up
+
+module _ (k : ℕ) (v : Value) (condition : Option Predicate) (is : IsKeyOf k condition v) where
+  other_fails : (row : List Value) → is_eq (value_cmp (cell row k) v) ≡ false → satisfies condition row ≡ false
+  other_fails row f = false_from_ne_true _ (λ t. cc (sym f ∙ ap (λ w. is_eq (value_cmp w v)) (is.at row t) ∙ ap is_eq (tied_itself value_total v)))
+
+  none_above : (row : List Value) (rows : List (List Value)) → is_eq (value_cmp (cell row k) v) ≡ true → All (λ s. by_key k row s ≡ Less) rows → filter (satisfies condition) rows ≡ []
+  none_above row [] e a = refl
+  none_above row (s ∷ rows) e a =
+      let less : value_cmp (cell row k) (cell s k) ≡ Less = All-head (λ s. by_key k row s ≡ Less) s rows a in
+      cond-false _ _ _ (false_from_ne_true _ (λ (t : satisfies condition s ≡ true). cc (sym (ap is_eq less) ∙ ap (λ w. is_eq (value_cmp (cell row k) w)) (is.at s t) ∙ e)))
+      ∙ none_above row rows e (All-tail (λ s. by_key k row s ≡ Less) s rows a)
+
+  -- where the condition says the key, the row with that key is the only one that may meet it
+  pub said_rows : (rows : List (List Value)) → Rises (by_key k) rows → filter (satisfies condition) (option_to_list (row_with_key k rows v)) ≡ filter (satisfies condition) rows
+  said_rows [] r = refl
+  said_rows (row ∷ rows) r = ⊎_elim
+      (λ (t : is_eq (value_cmp (cell row k) v) ≡ true).
+      ap (λ o. filter (satisfies condition) (option_to_list o)) (cond-true _ _ _ t)
+      ∙ ap (λ l. cond (satisfies condition row) (row ∷ l) l) (sym (none_above row rows t r.0)))
+      (λ (f : is_eq (value_cmp (cell row k) v) ≡ false).
+      ap (λ o. filter (satisfies condition) (option_to_list o)) (cond-false _ _ _ f) ∙ said_rows rows r.1 ∙ sym (cond-false _ _ _ (other_fails row f)))
+      (cases_Bool (is_eq (value_cmp (cell row k) v)))

@@ -1,5 +1,5 @@
 -- Walks over the rows of a table that leave out where none meets the condition.
-use Rattle.std.specs.Prelude.{◌≡◌, ◌≤◌, true, List, [], ◌∷◌, ◌++◌, filter, length}
+use Rattle.std.specs.Prelude.{◌≡◌, ◌≤◌, true, ⊤, List, [], ◌∷◌, ◌++◌, filter, length, option_copied, option_to_list}
 use Rattle.std.specs.Ordering.{is_le}
 use Rattle.std.specs.declared.option.Option.{Option}
 use Rattle.cj_model.specs.declared.value.Value.{Value}
@@ -8,6 +8,8 @@ use Rattle.cj_model.specs.Database.Tables.{IsTable, cell}
 use Rattle.cj_model.specs.Database.Values.{value_cmp}
 use Rattle.cj_expr.specs.Reaches.{is_from}
 use Rattle.cj_search.specs.declared.matching.Search.{Search}
+use Rattle.cj_search.specs.declared.matching.Way.{Way}
+use Rattle.cj_search.specs.declared.matching.Way.TheVariants.{Key, Walk}
 
 -- the rows that are left and meet the condition
 abbrev pub rows_found : Search → List (List Value)
@@ -40,3 +42,13 @@ pub record IsOver (old : Search) (row : List Value) (new : Search) : Type 0 wher
   pub none : filter (satisfies old.cond.now) (row ∷ old.scan) ≡ []
   pub found : rows_found new ≡ []
   pub search : IsSearch new
+
+-- ---- both ways
+
+abbrev pub rows_left : Way → List (List Value)
+rows_left (Key row) = option_to_list (option_copied row)
+rows_left (Walk s) = rows_found s
+
+abbrev pub IsWay : Way → Type 0
+IsWay (Key row) = ⊤
+IsWay (Walk s) = IsSearch s

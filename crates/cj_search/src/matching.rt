@@ -1,24 +1,27 @@
 //! The rows of a table that meet a condition, one after another.
 
-ghost use Rattle.std.specs.Prelude.{◌≡◌, true, false, Some, filter, option_copied};
+ghost use Rattle.std.specs.Prelude.{◌≡◌, true, false, Some, filter, map, option_copied, option_to_list, IfOk, IfSome};
 ghost use Rattle.std.specs.Ordering.{is_gt};
 ghost use Rattle.std.specs.Iterator.{YieldsFirstRef, item_count};
+ghost use Rattle.std.specs.Map.Iter.{deref};
 ghost use Rattle.cj_model.specs.Database.Evaluation as evaluation;
 ghost use Rattle.cj_model.specs.Database.Tables.{cell};
 ghost use Rattle.cj_model.specs.Database.Values.{value_cmp};
+ghost use Rattle.cj_rows.specs.Lookups.{IsKeyOf, row_with_key};
 ghost use Rattle.cj_search.specs.Searches as searches;
 
 use cj_expr::{Predicate, Reach};
-use cj_model::{Row, Value};
+use cj_model::{NoMemory, Value};
 use cj_rows::{Scan, View};
+use std::alloc::Global;
 use std::marker::Model;
 
 /// Whether a row meets the condition, if there is one.
-pub fn satisfies(cond: &Option<Predicate>, row: &Row) -> bool
+pub fn satisfies(cond: &Option<Predicate>, row: &[Value]) -> bool
     ensures { result ≡ evaluation.satisfies cond.now row.now }
 {
     match cond {
-        Some(predicate) => predicate.holds(row.as_slice()),
+        Some(predicate) => predicate.holds(row),
         None => true,
     }
 }
@@ -43,23 +46,31 @@ struct Search<'v, 'a> {
     end: End<'v>,
 }
 
+/// How rows are found: by the key that the condition says, or by a walk.
+#[derive(Drop)]
+enum Way<'v, 'a> {
+    Key(Option<&'a [Value]>),
+    Walk(Search<'v, 'a>),
+}
+
 /// The rows of a table that meet a condition, one after another in rising key, which contracts see
-/// as those that are left.
+/// as those that are left. Where the condition says what the key is, one look-up finds them, else a
+/// walk that leaves out the keys which the condition excludes.
 #[derive(Drop)]
 pub struct Matching<'v, 'a> {
-    search: Search<'v, 'a>,
+    way: Way<'v, 'a>,
 }
 
 impl<'v, 'a> Model for Matching<'v, 'a> {
     ghost use Rattle.cj_rows.specs.RowEntries.{Rows};
     ghost use Rattle.cj_model.specs.Database.Values.{value_cmp};
-    ghost use Rattle.cj_search.specs.Searches.{IsSearch, rows_found};
+    ghost use Rattle.cj_search.specs.Searches.{IsWay, rows_left};
 
     ghost Value = { Rows };
 
-    ghost view = { λ matching. rows_found matching.search };
+    ghost view = { λ matching. rows_left matching.way };
 
-    ghost invariant = { λ matching. IsSearch matching.search };
+    ghost invariant = { λ matching. IsWay matching.way };
 }
 
 fn is_within(end: &End, key: &Value) -> bool {
@@ -85,7 +96,7 @@ fn end_of<'v>(reach: &Reach<'v>) -> End<'v> {
 
 impl<'v, 'a> Search<'v, 'a> {
     /// Goes on at this key, where it is above the row's.
-    fn jump(&mut self, start: &Value, key: &Value, row: &Row)
+    fn jump(&mut self, start: &Value, key: &Value, row: &[Value])
         requires at { searches.IsAtRow self.old row.now }
         requires key { key.now ≡ cell row.now self.old.view.now.schema.key }
         requires none { searches.NoneBetween self.old key.now (Some start.now) }
@@ -98,7 +109,7 @@ impl<'v, 'a> Search<'v, 'a> {
     }
 
     /// Goes on at this key, if there is one and it is above the row's.
-    fn begin(&mut self, start: Option<&Value>, key: &Value, row: &Row)
+    fn begin(&mut self, start: Option<&Value>, key: &Value, row: &[Value])
         requires at { searches.IsAtRow self.old row.now }
         requires key { key.now ≡ cell row.now self.old.view.now.schema.key }
         requires none { searches.NoneBetween self.old key.now (option_copied start) }
@@ -112,7 +123,7 @@ impl<'v, 'a> Search<'v, 'a> {
 
     /// Goes on at the next range that may have rows that meet the condition; false where there is
     /// none.
-    fn seek(&mut self, predicate: &'v Predicate, key: &Value, row: &Row) -> bool
+    fn seek(&mut self, predicate: &'v Predicate, key: &Value, row: &[Value]) -> bool
         requires at { searches.IsAtRow self.old row.now }
         requires cond { self.old.cond.now ≡ Some predicate.now }
         requires key { key.now ≡ cell row.now self.old.view.now.schema.key }
@@ -132,13 +143,13 @@ impl<'v, 'a> Search<'v, 'a> {
 
     /// Whether a row may come that meets the condition, from this row on. Ranges that have none are
     /// left out behind it.
-    fn goes_on(&mut self, row: &Row) -> bool
+    fn goes_on(&mut self, row: &[Value]) -> bool
         requires at { searches.IsAtRow self.old row.now }
         ensures more { result ≡ true → searches.GoesOn self.old row.now self.new }
         ensures over { result ≡ false → searches.IsOver self.old row.now self.new }
     {
         let place = usize::from(self.view.schema().key);
-        match (self.cond, row.as_slice().get(place)) {
+        match (self.cond, row.get(place)) {
             (Some(predicate), Some(key)) => {
                 if is_within(&self.end, key) {
                     return true;
@@ -149,7 +160,7 @@ impl<'v, 'a> Search<'v, 'a> {
         }
     }
 
-    fn next_row(&mut self) -> Option<&'a Row>
+    fn next_row(&mut self) -> Option<&'a [Value]>
         requires { searches.IsSearch self.old }
         ensures row { YieldsFirstRef searches.rows_found self.old result self.new }
         ensures search { searches.IsSearch self.new }
@@ -166,31 +177,79 @@ impl<'v, 'a> Search<'v, 'a> {
     }
 }
 
+/// The key that each row that meets the condition has, where the condition says it.
+fn key_said(cond: &Option<Predicate>, place: usize) -> Option<&Value>
+    ensures { IfSome result (λ key. IsKeyOf place cond.now key.now) }
+{
+    match cond {
+        Some(predicate) => predicate.key_of(place),
+        None => None,
+    }
+}
+
+/// The row with this key, if it meets the condition.
+fn row_found<'a>(view: &View<'a>, cond: &Option<Predicate>, key: &Value) -> Option<&'a [Value]>
+    ensures { option_to_list (option_copied result) ≡ filter (evaluation.satisfies cond.now) (option_to_list (row_with_key view.now.schema.key view.now.rows key.now)) }
+{
+    match view.find(key) {
+        Some(row) if satisfies(cond, row) => Some(row),
+        _ => None,
+    }
+}
+
+fn way_to<'v, 'a>(view: &'v View<'a>, cond: &'v Option<Predicate>) -> Way<'v, 'a>
+    ensures rows { searches.rows_left result ≡ filter (evaluation.satisfies cond.now) view.now.rows }
+    ensures way { searches.IsWay result }
+{
+    view.legal();
+    match key_said(cond, usize::from(view.schema().key)) {
+        Some(key) => Way::Key(row_found(view, cond, key)),
+        None => Way::Walk(Search {
+            view,
+            cond,
+            scan: view.scan(),
+            end: End::Unknown,
+        }),
+    }
+}
+
 impl<'v, 'a> Matching<'v, 'a> {
     /// The rows of the table that meet the condition.
     pub fn of(view: &'v View<'a>, cond: &'v Option<Predicate>) -> Matching<'v, 'a>
         ensures { result ≡ filter (evaluation.satisfies cond.now) view.now.rows }
     {
-        view.legal();
         Matching {
-            search: Search {
-                view,
-                cond,
-                scan: view.scan(),
-                end: End::Unknown,
-            },
+            way: way_to(view, cond),
         }
     }
 }
 
 impl<'v, 'a> Iterator for Matching<'v, 'a> {
-    type Item = &'a Row;
+    type Item = &'a [Value];
 
     ghost next_gives = { YieldsFirstRef (λ s. s) };
 
     ghost remaining = { item_count (λ s. s) };
 
-    fn next(&mut self) -> Option<&'a Row> {
-        self.search.next_row()
+    fn next(&mut self) -> Option<&'a [Value]> {
+        match &mut self.way {
+            Way::Key(row) => row.take(),
+            Way::Walk(search) => search.next_row(),
+        }
     }
+}
+
+/// The rows of the table that meet the condition, in rising key.
+pub fn matching_rows<'a>(
+    alloc: Global,
+    view: &View<'a>,
+    cond: &Option<Predicate>,
+) -> Result<Vec<&'a [Value]>, NoMemory>
+    ensures { IfOk result (λ rows. map deref rows.items ≡ filter (evaluation.satisfies cond.now) view.now.rows) }
+{
+    let mut rows = Vec::new(alloc);
+    for row in Matching::of(view, cond) {
+        rows.push(row)?;
+    }
+    Ok(rows)
 }

@@ -5,7 +5,7 @@ ghost use Rattle.cj_model.specs.Database.Tables.{IsSlot, IsTable, Rises, by_key}
 ghost use Rattle.cj_rows.specs.RowEntries.{Turns};
 ghost use Rattle.cj_rows.specs.RowEntries as entries;
 
-use cj_model::{Db, Draft, Duplicate, NoMemory, Rows, Slot, Table};
+use cj_model::{Db, Draft, Duplicate, NoMemory, Row, Rows, Slot, Table, copies};
 use cj_rows::{RowMap, Scan, StoredTable, View, key_of};
 use std::alloc::Global;
 
@@ -15,7 +15,7 @@ fn puts(alloc: Global, place: usize, rows: Rows) -> Result<RowMap, NoMemory>
 {
     let mut changes = RowMap::new(alloc);
     for row in rows.into_vec() {
-        let key = key_of(alloc, &row, place)?;
+        let key = key_of(alloc, row.as_slice(), place)?;
         changes.insert(key, Some(row))?;
     }
     Ok(changes)
@@ -94,7 +94,7 @@ fn copied_rows(alloc: Global, scan: Scan) -> Result<Rows, NoMemory>
 {
     let mut rows = Rows::new(alloc);
     for row in scan {
-        rows.push(row.copy(alloc)?)?;
+        rows.push(Row::from_vec(copies(alloc, row)?))?;
     }
     Ok(rows)
 }

@@ -1,6 +1,0 @@
-use Rattle.std.proofs.Common.{◌≡◌, ◌++◌, map}
-use Rattle.std.specs.Map.Iter.{deref}
-use Rattle.cj_query.proofs.rows.all_of.Given as goal
-
-abbrev pub invariant-loop-row : goal.invariant-loop-row
-invariant-loop-row l = map deref l.out.items ++ l.row-iterator ≡ l.fn.rows
