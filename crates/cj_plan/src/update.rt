@@ -1,16 +1,15 @@
 //! UPDATE.
 
-ghost use Rattle.std.specs.Prelude.{◌≡◌, ◌||◌, true, cond, length, map, None, Some, All, is_some, option_map, slice_set, IfOk};
+ghost use Rattle.std.specs.Prelude.{◌≡◌, ◌||◌, cond, filter, length, map, None, Some, option_map, slice_set, IfOk, IfSome};
 ghost use Rattle.std.specs.List.{list_any};
 ghost use Rattle.std.specs.Map.Iter.{deref};
-ghost use Rattle.cj_model.specs.Database.Evaluation.{is_out_of_range, value_of};
+ghost use Rattle.cj_model.specs.Database.Evaluation.{is_out_of_range, satisfies, value_of};
 ghost use Rattle.cj_model.specs.Database.Scopes as scopes;
 ghost use Rattle.cj_model.specs.Database.Updates as updates;
 ghost use Rattle.cj_expr.specs.Shapes.{formula};
 ghost use Rattle.cj_plan.specs.Assignments.{KeepsKey, assignment_by_place, assignments, values_or_none};
-ghost use Rattle.cj_expr.specs.Results.{integer_within};
 ghost use Rattle.cj_plan.specs.Changes.{MakesChange};
-ghost use Rattle.cj_plan.specs.ColumnEdits.{GetIntegers, SetsInPlace};
+ghost use Rattle.cj_plan.specs.ColumnEdits.{CountsIntegers, GetIntegers, SetsInPlace};
 ghost use Rattle.cj_rows.specs.RowEntries as entries;
 
 use crate::column_edit::ColumnEdit;
@@ -22,7 +21,9 @@ use cj_model::{
     WRONG_TYPE, copies,
 };
 use cj_rows::{RowMap, View, key_of};
-use cj_search::{bound_where, matching_rows, where_has_unknown_column, where_mixes_kinds};
+use cj_search::{
+    Matching, bound_where, matching_rows, says_key, where_has_unknown_column, where_mixes_kinds,
+};
 use std::alloc::Global;
 
 /// A place of a row, and what is put there.
@@ -185,20 +186,38 @@ fn new_rows(
     Ok(Some(changes))
 }
 
-fn are_integers(value: &Formula, rows: &[&[Value]]) -> bool
-    ensures { result ≡ true → All (λ row. is_some (integer_within (value_of row.now (formula value.now))) ≡ true) rows.now }
+/// How many rows meet the condition, where an expression is an INTEGER of 64 bits in each of them.
+fn count_integers(view: &View, condition: &Option<Predicate>, value: &Formula) -> Option<usize>
+    ensures { IfSome result (λ count. CountsIntegers (formula value.now) (filter (satisfies condition.now) view.now.rows) count) }
 {
-    rows.iter().all(|row| value.integer_in(row).is_some())
+    let mut count: usize = 0;
+    for row in Matching::of(view, condition) {
+        value.integer_in(row)?;
+        count = count.checked_add(1)?;
+    }
+    Some(count)
 }
 
-/// Whether many of a table's rows are given an INTEGER of 64 bits in one column, and nothing else.
-fn get_integers(count: usize, rows: &[&[Value]], assigns: &[Assignment]) -> bool
-    ensures integers { result ≡ true → GetIntegers (assignments assigns.now) (map deref rows.now) }
-    ensures one { result ≡ true → length assigns.now ≡ 1 }
+/// How many rows are changed in their places: many of a table's, which are given an INTEGER of 64 bits in one column, and nothing else.
+fn count_in_place(
+    view: &View,
+    condition: &Option<Predicate>,
+    assigns: &[Assignment],
+) -> Option<usize>
+    ensures one { IfSome result (λ count. length assigns.now ≡ 1) }
+    ensures integers { IfSome result (λ count. GetIntegers (assignments assigns.now) (filter (satisfies condition.now) view.now.rows)) }
+    ensures count { IfSome result (λ count. count ≡ length (filter (satisfies condition.now) view.now.rows)) }
 {
     match assigns {
-        [assign] => are_many(rows.len(), count) && are_integers(&assign.value, rows),
-        _ => false,
+        [assign] if !says_key(condition, usize::from(view.schema().key)) => {
+            let count = count_integers(view, condition, &assign.value)?;
+            if are_many(count, view.count()) {
+                Some(count)
+            } else {
+                None
+            }
+        }
+        _ => None,
     }
 }
 
@@ -232,11 +251,13 @@ fn with_new_values(
     ensures { MakesChange is_undrafted view.now (updates.with_new_values view.now.rows (assignments assigns.items) condition) result }
 {
     view.legal();
+    if is_undrafted {
+        if let Some(count) = count_in_place(view, &condition, &assigns) {
+            return Ok(Ok(in_place(assigns, condition, count as u64)));
+        }
+    }
     let rows = matching_rows(alloc, view, &condition)?;
     let written = rows.len() as u64;
-    if is_undrafted && get_integers(view.count(), &rows, &assigns) {
-        return Ok(Ok(in_place(assigns, condition, written)));
-    }
     match new_rows(alloc, view.schema().key as usize, &rows, &assigns)? {
         Some(changes) => Ok(Ok(Change::ByKey(Plan {
             changes,

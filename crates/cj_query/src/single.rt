@@ -9,12 +9,12 @@ ghost use Rattle.cj_query.specs.Seen.{answer_from};
 use crate::answer::{answer_counts, answer_each, answer_rows, answer_with};
 use crate::columns::columns_asked;
 use crate::order::sort_keys;
-use crate::paths::{counts_all, follows_rows, ranking_of, reverses_rows, says_key, telling};
+use crate::paths::{counts_all, follows_rows, ranking_of, reverses_rows, telling};
 use crate::rows::{first_matching, first_taken};
 use crate::top::first_matching_ranked;
 use cj_expr::{Predicate, Scope};
 use cj_model::{Asked, NoMemory, Select};
-use cj_search::{Matching, matching_rows};
+use cj_search::{Matching, matching_rows, says_key};
 use cj_table::View;
 use std::alloc::Global;
 

@@ -5,4 +5,4 @@ mod conditions;
 mod matching;
 
 pub use conditions::{bound_where, where_has_unknown_column, where_mixes_kinds};
-pub use matching::{Matching, matching_rows, satisfies};
+pub use matching::{Matching, matching_rows, satisfies, says_key};

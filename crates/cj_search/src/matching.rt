@@ -187,6 +187,11 @@ fn key_said(cond: &Option<Predicate>, place: usize) -> Option<&Value>
     }
 }
 
+/// Whether the condition says the value at this place: where the key stands there, one look-up finds the rows.
+pub fn says_key(cond: &Option<Predicate>, place: usize) -> bool {
+    key_said(cond, place).is_some()
+}
+
 /// The row with this key, if it meets the condition.
 fn row_found<'a>(view: &View<'a>, cond: &Option<Predicate>, key: &Value) -> Option<&'a [Value]>
     ensures { option_to_list (option_copied result) ≡ filter (evaluation.satisfies cond.now) (option_to_list (row_with_key view.now.schema.key view.now.rows key.now)) }
