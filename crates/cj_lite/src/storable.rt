@@ -58,7 +58,7 @@ fn is_constant(value: &Value) -> bool
             let _number = *number;
             true
         }
-        Value::Text(text) => text.as_slice().len() <= TEXT_LIMIT,
+        Value::Text(text) => text.as_text().as_slice().len() <= TEXT_LIMIT,
     }
 }
 
