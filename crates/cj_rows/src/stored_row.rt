@@ -1,17 +1,20 @@
 //! Rows as the tree keeps them.
 
 ghost use Rattle.std.specs.Prelude.{◌≡◌, false, Some, is_some, option_copied, option_map, unwrap_or};
-ghost use Rattle.cj_rows.specs.StoredRows.{row_kept};
+ghost use Rattle.cj_rows.specs.StoredRows.{row_held};
 
 use crate::row_edit::RowEdit;
 use crate::row_test::RowTest;
 use cj_model::{Row, Value};
 use std::marker::Model;
 
+/// Where a row's values stand.
 #[derive(Drop)]
-enum Kept {
+enum Storage {
     None,
+    /// Beside the key, in the tree's own memory.
     Pair([Value; 2]),
+    /// In memory of their own.
     Own(Row),
 }
 
@@ -19,23 +22,23 @@ enum Kept {
 /// through the tree's memory alone. Others have memory of their own.
 #[derive(Drop)]
 pub(crate) struct StoredRow {
-    kept: Kept,
+    storage: Storage,
 }
 
 impl Model for StoredRow {
-    ghost use Rattle.cj_rows.specs.StoredRows.{RowOrNone, row_kept};
+    ghost use Rattle.cj_rows.specs.StoredRows.{RowOrNone, row_held};
 
     ghost Value = { RowOrNone };
 
-    ghost view = { λ row. row_kept row.kept };
+    ghost view = { λ row. row_held row.storage };
 }
 
-fn kept_of(row: Row) -> Kept
-    ensures { row_kept result ≡ Some row }
+fn storage_of(row: Row) -> Storage
+    ensures { row_held result ≡ Some row }
 {
     match <[Value; 2]>::try_from(row.into_vec()) {
-        Ok(pair) => Kept::Pair(pair),
-        Err(values) => Kept::Own(Row::from_vec(values)),
+        Ok(pair) => Storage::Pair(pair),
+        Err(values) => Storage::Own(Row::from_vec(values)),
     }
 }
 
@@ -44,9 +47,9 @@ impl StoredRow {
         ensures { result ≡ row }
     {
         StoredRow {
-            kept: match row {
-                None => Kept::None,
-                Some(row) => kept_of(row),
+            storage: match row {
+                None => Storage::None,
+                Some(row) => storage_of(row),
             },
         }
     }
@@ -54,17 +57,17 @@ impl StoredRow {
     pub fn is_some(&self) -> bool
         ensures { result ≡ is_some self.now }
     {
-        !matches!(self.kept, Kept::None)
+        !matches!(self.storage, Storage::None)
     }
 
     /// The row's values.
     pub fn values(&self) -> Option<&[Value]>
         ensures { option_copied result ≡ self.now }
     {
-        match &self.kept {
-            Kept::None => None,
-            Kept::Pair(pair) => Some(pair),
-            Kept::Own(row) => Some(row.as_slice()),
+        match &self.storage {
+            Storage::None => None,
+            Storage::Pair(pair) => Some(pair),
+            Storage::Own(row) => Some(row.as_slice()),
         }
     }
 
@@ -72,10 +75,10 @@ impl StoredRow {
     pub fn edit<R: RowEdit>(&mut self, by: &R)
         ensures { self.new ≡ option_map (R.edited by.now) self.old }
     {
-        match &mut self.kept {
-            Kept::None => {}
-            Kept::Pair(pair) => by.edit(pair),
-            Kept::Own(row) => by.edit(row.as_mut_slice()),
+        match &mut self.storage {
+            Storage::None => {}
+            Storage::Pair(pair) => by.edit(pair),
+            Storage::Own(row) => by.edit(row.as_mut_slice()),
         }
     }
 
