@@ -4,7 +4,7 @@ pub use Rattle.cj_rows.proofs.ConversionLaws.{settles_changed, settles_gone, set
 pub use Rattle.cj_rows.proofs.EntryLaws.{at_kept, at_merged, known_itself, merged_none, pick, rise_from, rise_kept}
 pub use Rattle.cj_rows.proofs.FromLaws.{kept_part, overlaid_part, range_from}
 pub use Rattle.cj_rows.proofs.LastLaws.{kept_back}
-pub use Rattle.cj_rows.proofs.RowEntryLaws.{copied_none, extends_itself, extends_then, first_known, forgotten, gone_keys, gone_knows, gone_shown, has_keys_itself, keys_among, keys_then, known_more, next_known, next_shown, none_from, prepared_extends, prepared_keys, replaced, rest_rises, set_knows, set_shown}
+pub use Rattle.cj_rows.proofs.RowEntryLaws.{copied_none, extends_itself, extends_then, first_known, forgotten, gone_keys, gone_knows, gone_shown, has_keys_itself, keys_more, keys_twice, known_more, next_known, next_shown, none_from, prepared_extends, prepared_keys, replaced, rest_rises, set_knows, set_shown}
 pub use Rattle.cj_rows.proofs.RowLaws.{anew, kept_passing, passing, rise_anew}
 pub use Rattle.cj_rows.proofs.ScanLaws.{both_turn, change_turn, entry_turn, only_change, only_entry, step_rises}
 pub use Rattle.cj_rows.proofs.StoredLaws.{added_holds, added_shown, anew_holds, anew_shown, base_holds, base_shown, failed_holds, failed_shown, on_err, opened_holds, opened_shown, passing_holds, passing_shown, prepared_holds, prepared_shown}

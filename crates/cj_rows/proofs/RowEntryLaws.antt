@@ -57,10 +57,6 @@ module _ (below old : RowEntries) (key : Value) (row : Option (List Value)) (b :
 
 -- ---- one key after another
 
-all_front : {A : Type 0} (P : A → Type 0) (xs ys : List A) → All P (xs ++ ys) → All P xs
-all_front P [] ys a = All-nil P
-all_front P (x ∷ xs) ys a = All-cons P x xs (All-head P x (xs ++ ys) a) (all_front P xs ys (All-tail P x (xs ++ ys) a))
-
 pub all_back : {A : Type 0} (P : A → Type 0) (xs ys : List A) → All P (xs ++ ys) → All P ys
 all_back P [] ys a = a
 all_back P (x ∷ xs) ys a = all_back P xs ys (All-tail P x (xs ++ ys) a)
@@ -68,14 +64,12 @@ all_back P (x ∷ xs) ys a = all_back P xs ys (All-tail P x (xs ++ ys) a)
 pub extends_then : {below a b c : RowEntries} → Extends below a b → Extends below b c → Extends below a c
 extends_then h g = record { shown = g.shown ∙ h.shown; knows = λ key k. g.knows key (h.knows key k) }
 
-pub keys_then : (old xs mid new : RowEntries) (key : Value) (row : Option (List Value)) → HasKeysOf old xs mid → HasKeysOf mid ((key, None) ∷ []) new → HasKeysOf old (xs ++ (key, row) ∷ []) new
-keys_then old xs mid new key row h g = record {
-  each = λ p a b. g.each p (h.each p a (all_front (λ c. p c.0 ≡ true) xs ((key, row) ∷ []) b))
-      (All-cons (λ c. p c.0 ≡ true) (key, None) [] (All-head (λ c. p c.0 ≡ true) (key, row) [] (all_back (λ c. p c.0 ≡ true) xs ((key, row) ∷ []) b)) (All-nil (λ c. p c.0 ≡ true)));
+-- one more of the keys
+pub keys_more : (old cs xs ys mid new : RowEntries) (key : Value) (row : Option (List Value)) → xs ++ (key, row) ∷ ys ≡ cs → HasKeysOf old cs mid → HasKeysOf mid ((key, None) ∷ []) new → HasKeysOf old cs new
+keys_more old cs xs ys mid new key row is h g = record {
+  each = λ p a b. g.each p (h.each p a b)
+      (All-cons (λ c. p c.0 ≡ true) (key, None) [] (All-head (λ c. p c.0 ≡ true) (key, row) ys (all_back (λ c. p c.0 ≡ true) xs ((key, row) ∷ ys) (subst (All (λ c. p c.0 ≡ true)) (sym is) b))) (All-nil (λ c. p c.0 ≡ true)));
 }
-
-pub keys_among : (old xs ys new : RowEntries) → HasKeysOf old xs new → HasKeysOf old (xs ++ ys) new
-keys_among old xs ys new h = record { each = λ p a b. h.each p a (all_front (λ c. p c.0 ≡ true) xs ys b) }
 
 pub known_more : (mid new xs : RowEntries) (key : Value) (row : Option (List Value)) → KnowsKeys mid xs → ((q : Value) → knows mid q ≡ true → knows new q ≡ true) → knows new key ≡ true → KnowsKeys new (xs ++ (key, row) ∷ [])
 known_more mid new xs key row a more h = All-append (λ c. knows new c.0 ≡ true) xs ((key, row) ∷ [])

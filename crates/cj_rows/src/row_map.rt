@@ -139,7 +139,33 @@ impl RowMap {
         true
     }
 
-    /// Makes entries for the keys of changes, at which what shows over `below` stays as it is.
+    /// Makes entries for the keys of changes, or for every second one of them alone.
+    fn prepare_keys(
+        &mut self,
+        alloc: Global,
+        below: &RowMap,
+        changes: &RowMap,
+        every_second: bool,
+    ) -> Result<(), NoMemory>
+        ensures known { every_second ≡ false → OnOk result (entries.KnowsKeys self.new changes.now) }
+        ensures extends { entries.Extends below.now self.old self.new }
+        ensures keys { entries.HasKeysOf self.old changes.now self.new }
+        ensures rises { KeysRise value_cmp self.new }
+    {
+        self.rises();
+        let mut skips = every_second;
+        for (key, _) in &changes.rows {
+            if !skips {
+                self.prepare_key(alloc, below, key)?;
+            }
+            skips = skips != every_second;
+        }
+        Ok(())
+    }
+
+    /// Makes entries for the keys of changes, at which what shows over `below` stays as it is. The
+    /// tree's leaves get half of their entries from keys that come in rising order, and the others from
+    /// those that come in between.
     pub fn prepare(
         &mut self,
         alloc: Global,
@@ -155,10 +181,8 @@ impl RowMap {
         if self.knows_all(changes) {
             return Ok(());
         }
-        for (key, _) in &changes.rows {
-            self.prepare_key(alloc, below, key)?;
-        }
-        Ok(())
+        self.prepare_keys(alloc, below, changes, true)?;
+        self.prepare_keys(alloc, below, changes, false)
     }
 
     fn remove(&mut self, key: &Value)

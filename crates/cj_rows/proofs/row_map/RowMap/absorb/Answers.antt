@@ -1,5 +1,5 @@
 use Rattle.std.proofs.Common.{◌≡◌, ◌∙◌, ◌++◌, [], ◌∷◌, sym, ap, subst}
-use Rattle.cj_rows.proofs.Cited.{KeysRise, KnowsKeys, RowEntries, append_assoc, first_known, has_keys_itself, keys_then, merged, merged_none, next_known, next_shown, overlaid, replaced, rest_rises, value_cmp}
+use Rattle.cj_rows.proofs.Cited.{KeysRise, KnowsKeys, RowEntries, append_assoc, first_known, has_keys_itself, keys_more, merged, merged_none, next_known, next_shown, overlaid, replaced, rest_rises, value_cmp}
 use Rattle.cj_rows.proofs.row_map.RowMap.absorb.Goals as goal
 
 pub returns-then-replaces-clause-shown : goal.returns-then-replaces-clause-shown
@@ -15,7 +15,7 @@ loop-key-init c =
       shown = ap (λ (es : RowEntries). merged value_cmp (overlaid c.args.below.now c.args.self.now) es) all;
       known = subst (KnowsKeys c.args.self.now) (sym all) c.requires;
       rest = subst (KeysRise value_cmp) (sym all) (subst (KeysRise value_cmp) c.changes.view_is c.changes.invariant);
-      keys = has_keys_itself c.args.self.now [];
+      keys = has_keys_itself c.args.self.now c.args.changes;
       all = all;
       rises = c.rises.ensures;
     }
@@ -33,14 +33,15 @@ loop-key-preserved c =
     let is : s ≡ (c.in-Some.key, c.in-Some.row) ∷ t = c.in-Some.ensures.steps in
     let b = c.rises-2.ensures in
     let i = c.loop-key.invariant in
+    let all : c.loop-key.yielded ++ (c.in-Some.key, c.in-Some.row) ∷ t ≡ c.args.changes = ap (λ (es : RowEntries). c.loop-key.yielded ++ es) (sym is) ∙ i.all in
     record {
       can_next = tt;
       is_finite = tt;
       shown = next_shown below mid new s t c.in-Some.key c.in-Some.row is b i.rises i.rest c.set.ensures.shown ∙ i.shown;
       known = next_known below mid new s t c.in-Some.key c.in-Some.row is b i.rises i.rest c.set.ensures.above i.known;
       rest = rest_rises below mid new s t c.in-Some.key c.in-Some.row is b i.rises i.rest;
-      keys = keys_then c.args.self.now c.loop-key.yielded mid new c.in-Some.key c.in-Some.row i.keys c.set.ensures.keys;
-      all = append_assoc c.loop-key.yielded ((c.in-Some.key, c.in-Some.row) ∷ []) t ∙ ap (λ (es : RowEntries). c.loop-key.yielded ++ es) (sym is) ∙ i.all;
+      keys = keys_more c.args.self.now c.args.changes c.loop-key.yielded t mid new c.in-Some.key c.in-Some.row all i.keys c.set.ensures.keys;
+      all = append_assoc c.loop-key.yielded ((c.in-Some.key, c.in-Some.row) ∷ []) t ∙ all;
       rises = c.set.ensures.rises;
     }
 

@@ -9,7 +9,7 @@ invariant-loop-key l = record {
   shown : merged value_cmp (overlaid l.below l.self) l.key-iterator ≡ merged value_cmp (overlaid l.below l.fn.self) l.fn.changes;
   known : KnowsKeys l.self l.key-iterator;
   rest : KeysRise value_cmp l.key-iterator;
-  keys : HasKeysOf l.fn.self l.yielded l.self;
+  keys : HasKeysOf l.fn.self l.fn.changes l.self;
   all : l.yielded ++ l.key-iterator ≡ l.fn.changes;
   rises : KeysRise value_cmp l.self;
 }
