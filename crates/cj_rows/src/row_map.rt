@@ -82,6 +82,7 @@ impl RowMap {
 
     /// Puts a row or none at a key; want of memory leaves all as it was, and comes only at a key
     /// that is not known.
+    #[tactic(auto, using(crate::proofs::EntryLaws::rise_from))]
     fn put(&mut self, key: Value, row: StoredRow) -> Result<(), NoMemory>
         ensures ok { OnOk result (self.new ≡ insert_entry value_cmp self.old key row) }
         ensures err { OnErr result (self.new ≡ self.old) }
@@ -185,6 +186,7 @@ impl RowMap {
         self.prepare_keys(alloc, below, changes, false)
     }
 
+    #[tactic(auto, using(crate::proofs::EntryLaws::rise_from))]
     fn remove(&mut self, key: &Value)
         ensures entries { self.new ≡ remove_entry (is_at (value_cmp key.now)) self.old }
         ensures rises { KeysRise value_cmp self.new }
@@ -273,6 +275,7 @@ impl RowMap {
 
 impl RowMap {
     /// Forgets a key that has no row.
+    #[tactic(auto, using(crate::proofs::RowEntryLaws::copied_none, crate::proofs::RowEntryLaws::forgotten))]
     fn forget_key(&mut self, key: &Value)
         ensures kept { kept self.new ≡ kept self.old }
         ensures rises { KeysRise value_cmp self.new }
@@ -323,6 +326,7 @@ impl RowMap {
     }
 
     /// The entries from this key on.
+    #[tactic(auto, using(crate::proofs::FromLaws::range_from))]
     fn entries_from(&self, key: &Value) -> Entries<'_>
         ensures { result ≡ entries.from_key key.now self.now }
     {
@@ -344,6 +348,7 @@ impl RowMap {
     }
 
     /// The rows from this key on, in rising key.
+    #[tactic(auto, using(crate::proofs::FromLaws::kept_part))]
     pub fn scan_from(&self, key: &Value) -> Scan<'_>
         ensures { result ≡ values_of (entries.from_key key.now (kept self.now)) }
     {
@@ -351,6 +356,7 @@ impl RowMap {
     }
 
     /// The rows from this key on that changes leave of these, in rising key.
+    #[tactic(auto, using(crate::proofs::FromLaws::overlaid_part))]
     pub fn scan_from_under<'a>(&'a self, changes: &'a RowMap, key: &Value) -> Scan<'a>
         ensures { result ≡ values_of (entries.from_key key.now (entries.overlaid self.now changes.now)) }
     {

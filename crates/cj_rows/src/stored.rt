@@ -54,6 +54,7 @@ impl Model for StoredTable {
 impl StoredDraft {
     /// Lays more changes over those of the draft, with which it has so many rows. Want of memory
     /// leaves what is shown over the base as it was.
+    #[tactic(auto, using(crate::proofs::RowEntryLaws::keys_twice))]
     fn add(
         &mut self,
         alloc: Global,
