@@ -214,11 +214,13 @@ impl RowMap {
         };
     }
 
-    /// Whether the changes alone show what they show over these entries, and each has a row.
+    /// Whether the changes alone show what they show over these entries, and each has a row. Where the
+    /// first entry has none, all may be new: these stay, since their leaves are fuller.
     fn replaces(&self, old: &RowMap) -> bool
         ensures { result ≡ true → entries.KnowsKeys self.now old.now }
     {
         self.rows.len() == old.rows.len()
+            && old.rows.values().take(1).all(|row| row.is_some())
             && self.rows.values().all(|row| row.is_some())
             && self.knows_all(old)
     }
