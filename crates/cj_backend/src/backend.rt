@@ -33,7 +33,7 @@ impl From<NoMemory> for BackendError {
 }
 
 /// What a backend has counted.
-#[derive(Clone, Copy, Debug, PartialEq, Eq)]
+#[derive(Clone, Copy, PartialEq, Eq)]
 pub struct Counts {
     /// The faults, up to 2^64 - 1.
     pub faults: u64,

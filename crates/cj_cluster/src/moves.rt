@@ -42,7 +42,7 @@ pub enum Move {
 pub type Moves = ListOf<Move>;
 
 /// What a backend did with an entry.
-#[derive(Clone, Copy, Debug, PartialEq, Eq)]
+#[derive(Clone, Copy, PartialEq, Eq)]
 pub enum Did {
     Done(Outcome),
     /// The entry concerns no table that it hosts.

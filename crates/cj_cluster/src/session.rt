@@ -3,7 +3,7 @@
 use cj_model::FrameFault;
 
 /// How a session over a source and a sink ended.
-#[derive(Clone, Copy, Debug, PartialEq, Eq)]
+#[derive(Clone, Copy, PartialEq, Eq)]
 pub enum SessionEnd {
     /// By a Quit.
     Quit,

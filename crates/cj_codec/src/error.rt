@@ -30,14 +30,14 @@ impl From<NoMemory> for CodecError {
 }
 
 /// What is wrong with the bytes of a field.
-#[derive(Clone, Copy, Debug, PartialEq, Eq)]
+#[derive(Clone, Copy, PartialEq, Eq)]
 pub enum Fault {
     Cut,
     BadField,
 }
 
 /// Why a step of reading stopped.
-#[derive(Clone, Copy, Debug, PartialEq, Eq)]
+#[derive(Clone, Copy, PartialEq, Eq)]
 pub enum Stop {
     Fault(Fault),
     NoMemory,

@@ -21,15 +21,15 @@ pub trait Field {
 }
 
 /// A name behind its number of two bytes.
-#[derive(Clone, Copy, Debug)]
+#[derive(Clone, Copy)]
 pub struct NameField;
 
 /// A value behind its tag.
-#[derive(Clone, Copy, Debug)]
+#[derive(Clone, Copy)]
 pub struct ValueField;
 
 /// So many fields of one format, one after another.
-#[derive(Clone, Copy, Debug)]
+#[derive(Clone, Copy)]
 pub struct Repeated<F> {
     pub field: F,
     pub count: u64,

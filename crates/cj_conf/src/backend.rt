@@ -3,7 +3,7 @@
 use cj_model::{ListOf, Name};
 
 /// What holds the tables of a backend.
-#[derive(Clone, Copy, Debug, PartialEq, Eq)]
+#[derive(Clone, Copy, PartialEq, Eq)]
 pub enum BackendKind {
     Memory,
     Sqlite,

@@ -48,7 +48,7 @@ pub enum Reply {
 }
 
 /// What an entry of the log came to.
-#[derive(Clone, Copy, Debug, PartialEq, Eq)]
+#[derive(Clone, Copy, PartialEq, Eq)]
 pub enum Outcome {
     Done(u64),
     Refused(Refusal),

@@ -6,7 +6,7 @@ use crate::name::{Name, Names};
 use std::alloc::Global;
 
 /// How often a table is held.
-#[derive(Clone, Copy, Debug, PartialEq, Eq)]
+#[derive(Clone, Copy, PartialEq, Eq)]
 pub enum Level {
     /// Partitioned: each table is on one backend.
     Raidb0,

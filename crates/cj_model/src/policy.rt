@@ -1,7 +1,7 @@
 //! How the backend is picked that a read is sent to.
 
 /// Which of the candidates takes the next read.
-#[derive(Clone, Copy, Debug, PartialEq, Eq)]
+#[derive(Clone, Copy, PartialEq, Eq)]
 pub enum Policy {
     /// The first one after the last picked, in rising order and round again.
     RoundRobin,

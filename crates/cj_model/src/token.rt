@@ -4,7 +4,7 @@ use crate::name::Name;
 use crate::text::Text;
 
 /// A reserved word.
-#[derive(Clone, Copy, Debug, PartialEq, Eq)]
+#[derive(Clone, Copy, PartialEq, Eq)]
 pub enum Keyword {
     And,
     Asc,
@@ -77,7 +77,7 @@ pub const KEYWORDS: [(&[u8], Keyword); 32] = [
 ];
 
 /// A symbol; `<>` and `!=` are one.
-#[derive(Clone, Copy, Debug, PartialEq, Eq)]
+#[derive(Clone, Copy, PartialEq, Eq)]
 pub enum Symbol {
     Open,
     Close,

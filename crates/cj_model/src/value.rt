@@ -6,7 +6,7 @@ use std::alloc::Global;
 use std::cmp::Ordering;
 
 /// The kind of a column's values.
-#[derive(Clone, Copy, Debug, PartialEq, Eq)]
+#[derive(Clone, Copy, PartialEq, Eq)]
 pub enum Kind {
     Integer,
     Text,

@@ -24,7 +24,7 @@ use std::mem;
 use thiserror::Error;
 
 /// What a cell did with an entry.
-#[derive(Clone, Copy, Debug, PartialEq, Eq)]
+#[derive(Clone, Copy)]
 pub enum Caught {
     /// Its backend has no part in the entry.
     Skipped,

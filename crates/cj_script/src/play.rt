@@ -21,7 +21,7 @@ use cj_outside::{Line, LineError, Lines, OutError, Sink, Source, Store, write_al
 use std::alloc::Global;
 
 /// How a script ended.
-#[derive(Clone, Copy, Debug, PartialEq, Eq)]
+#[derive(Clone, Copy)]
 pub enum ScriptEnd {
     /// All lines were played.
     Done,

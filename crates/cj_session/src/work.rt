@@ -21,7 +21,7 @@ pub enum DeskWork {
 }
 
 /// What an act does to the transaction of its session.
-#[derive(Clone, Copy, Debug, PartialEq, Eq)]
+#[derive(Clone, Copy)]
 pub enum TxEffect {
     Opens,
     Closes,

@@ -3,7 +3,7 @@
 use crate::conf::ConfPath;
 
 /// A command by its name alone.
-#[derive(Clone, Copy, Debug, PartialEq, Eq)]
+#[derive(Clone, Copy, PartialEq, Eq)]
 pub enum Verb {
     Pipe,
     Script,
@@ -12,14 +12,14 @@ pub enum Verb {
 }
 
 /// What a help text is about.
-#[derive(Clone, Copy, Debug, PartialEq, Eq)]
+#[derive(Clone, Copy, PartialEq, Eq)]
 pub enum Topic {
     Program,
     Command(Verb),
 }
 
 /// What the program is to do.
-#[derive(Debug, Drop)]
+#[derive(Drop)]
 pub enum Command {
     /// Serve a session.
     Pipe {
@@ -42,7 +42,7 @@ pub enum Command {
 }
 
 /// What a user asks for.
-#[derive(Debug, Drop)]
+#[derive(Drop)]
 pub enum Asked {
     Command(Command),
     Help(Topic),

@@ -14,7 +14,7 @@ use cj_outside::Store;
 use std::alloc::Global;
 
 /// What a workload came to.
-#[derive(Clone, Copy, Debug, PartialEq, Eq)]
+#[derive(Clone, Copy)]
 pub struct Summary {
     pub statements: u64,
     /// The length of the log.
