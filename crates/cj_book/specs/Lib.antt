@@ -4,6 +4,7 @@ pub mod Events
 pub mod Found
 pub mod Kept
 pub mod Lists
+pub mod Refusals
 pub mod Seated
 pub mod Starts
 pub mod Touching

@@ -1,6 +1,6 @@
 //! Why an event didn't come into the history, or no book was opened.
 
-use cj_model::NoMemory;
+use cj_model::{HISTORY_FULL, LOG_FAULT, NO_BACKEND, NoMemory, Refusal};
 use std::alloc::{AllocError, AllocFailed};
 use thiserror::Error;
 
@@ -21,6 +21,28 @@ pub enum BookError {
     LogFault,
     #[error("out of memory")]
     NoMemory,
+}
+
+impl BookError {
+    ghost use Rattle.std.specs.Prelude.{◌≡◌};
+    ghost use Rattle.cj_book.specs.Refusals.{refusal_of};
+
+    /// What a request is told of which no entry was scheduled; nothing where memory was wanting, or
+    /// another entry is in progress, whose end it waits for.
+    pub fn refusal(self) -> Option<Refusal>
+        ensures { result ≡ refusal_of self }
+    {
+        match self {
+            BookError::NoBackend => Some(Refusal::of_code(NO_BACKEND)),
+            BookError::HistoryFull(events) => Some(Refusal {
+                code: HISTORY_FULL,
+                a: events,
+                b: 0,
+            }),
+            BookError::LogFault => Some(Refusal::of_code(LOG_FAULT)),
+            BookError::InProgress(_) | BookError::NoMemory => None,
+        }
+    }
 }
 
 impl From<AllocError> for BookError {

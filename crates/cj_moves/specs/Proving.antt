@@ -1,2 +1,3 @@
 -- The contracts of parts of moves, for proofs alone.
 pub mod ReadParts
+pub mod ScheduleParts

@@ -9,14 +9,15 @@ ghost use Rattle.cj_cluster.specs.Moves.Moves as moves;
 ghost use Rattle.cj_cluster.specs.Moves.Cores.{session_at};
 ghost use Rattle.cj_cluster.specs.Moves.Moves.{SchedulesRequest, not_now};
 ghost use Rattle.cj_cluster.specs.Moves.Runs.{IsForLog};
-ghost use Rattle.cj_state.specs.Worlds.{CacheFollowsLog, IsSameButLog};
+ghost use Rattle.cj_state.specs.Effects.{with_core};
+ghost use Rattle.cj_state.specs.Worlds.{CacheFollowsLog, IsSameButLog, with_cache};
 ghost use Rattle.cj_moves.specs.Counting.{HasLogCauses};
+ghost use Rattle.cj_moves.specs.Proving.ScheduleParts.{SchedulesUncounted, schedule_given};
 
 use crate::reason::why;
 use cj_backend::Backend;
-use cj_book::BookError;
 use cj_cluster::{Move, MoveError, Moved, Reason, Why};
-use cj_model::{Act, HISTORY_FULL, LOG_FAULT, NO_BACKEND, REQUEST_LIMIT, Refusal, Request, Select};
+use cj_model::{Act, REQUEST_LIMIT, Refusal, Request, Select};
 use cj_open_sessions::forbidden_by;
 use cj_outside::Store;
 use cj_state::State;
@@ -54,6 +55,36 @@ pub fn not_now_schedule<B: Backend, S: Store>(state: &State<B, S>, s: u64) -> Op
     None
 }
 
+/// Schedules the request as the session's next entry, and answers the entry's number. Else it answers the refusal,
+/// of a request that is yet to be counted; none where memory was wanting.
+fn schedule_uncounted<B: Backend, S: Store>(
+    state: &mut State<B, S>,
+    s: u64,
+    request: Request,
+) -> Result<u64, Option<Refusal>>
+    requires written { IsWritten request }
+    requires for_log { IsForLog request }
+    requires counts { (session_at state.old.core s).queries < REQUEST_LIMIT }
+    requires now { not_now state.old.core (Move.Schedule s request) ≡ None }
+    ensures moves { SchedulesUncounted state.old.core s request result state.new.core }
+    ensures log_causes { HasLogCauses state.old state.new (Move.Schedule s request) (schedule_given result) }
+    ensures same { IsSameButLog (with_cache (with_core state.old state.new.core) state.new.cache) state.new }
+    ensures want { IsErrOf result None → IsSameButLog state.old state.new }
+    ensures cache { CacheFollowsLog state.old state.new }
+{
+    let act = act_of(request);
+    if let Some(refusal) = forbidden_by(state.open_tx(s), &act) {
+        return Err(Some(refusal));
+    }
+    let Ok(entry) = state.next_entry(s, act) else {
+        return Err(None);
+    };
+    match state.schedule_entry(s, entry) {
+        Ok(number) => Ok(number),
+        Err(error) => Err(error.refusal()),
+    }
+}
+
 pub fn schedule<B: Backend, S: Store>(
     state: &mut State<B, S>,
     s: u64,
@@ -70,33 +101,12 @@ pub fn schedule<B: Backend, S: Store>(
     ensures setup { state.new.setup ≡ state.old.setup }
     ensures cache { CacheFollowsLog state.old state.new }
 {
-    let act = act_of(request);
-    if let Some(refusal) = forbidden_by(state.open_tx(s), &act) {
-        state.count(s);
-        return Ok(Moved::Refused(refusal));
-    }
-    let Ok(entry) = state.next_entry(s, act) else {
-        return Err(MoveError::NoMemory);
-    };
-    match state.schedule_entry(s, entry) {
+    match schedule_uncounted(state, s, request) {
         Ok(number) => Ok(Moved::Entry(number)),
-        Err(BookError::NoBackend) => {
+        Err(Some(refusal)) => {
             state.count(s);
-            Ok(Moved::Refused(Refusal::of_code(NO_BACKEND)))
+            Ok(Moved::Refused(refusal))
         }
-        Err(BookError::HistoryFull(events)) => {
-            state.count(s);
-            Ok(Moved::Refused(Refusal {
-                code: HISTORY_FULL,
-                a: events,
-                b: 0,
-            }))
-        }
-        Err(BookError::LogFault) => {
-            state.count(s);
-            Ok(Moved::Refused(Refusal::of_code(LOG_FAULT)))
-        }
-        Err(BookError::NoMemory) => Err(MoveError::NoMemory),
-        Err(BookError::InProgress(_)) => unreachable!(),
+        Err(None) => Err(MoveError::NoMemory),
     }
 }

@@ -1,0 +1,27 @@
+-- The contracts of the parts of a Schedule.
+use Rattle.std.specs.Prelude.{◌≡◌, ℕ, ◌<◌, false, Option, None, Some, Result, Ok, Err}
+use Rattle.cj_model.specs.declared.answer.Refusal.{Refusal}
+use Rattle.cj_model.specs.declared.limits.TheConstants.{REQUEST_LIMIT}
+use Rattle.cj_model.specs.declared.request.Request.{Request}
+use Rattle.cj_cluster.specs.declared.moves.MoveError.TheVariants.{NoMemory}
+use Rattle.cj_cluster.specs.declared.moves.Moved.TheVariants as moved
+use Rattle.cj_cluster.specs.Moves.Cores.{Core, session_at}
+use Rattle.cj_cluster.specs.Moves.Moves.{MoveResult, SchedulesRequest, is_waiting, with_request_counted}
+
+-- the session can count one request more
+pub record CanCountOne (c : Core) (s : ℕ) : Type 0 where
+  pub counts : (session_at c s).queries < REQUEST_LIMIT
+  pub idle : is_waiting c s ≡ false
+  pub no_read : (session_at c s).reading ≡ None
+
+-- what a move gives of which this came: an entry's number, or a refusal; none where memory was wanting
+abbrev pub schedule_given : Result ℕ (Option Refusal) → MoveResult
+schedule_given (Ok n) = Ok (moved.Entry n)
+schedule_given (Err (Some refusal)) = Ok (moved.Refused refusal)
+schedule_given (Err None) = Err NoMemory
+
+-- A request of session s was scheduled, or not; where it was refused it is yet to be counted.
+abbrev pub SchedulesUncounted : Core → ℕ → Request → Result ℕ (Option Refusal) → Core → Type 0
+SchedulesUncounted c s r (Ok n) z = SchedulesRequest c s r (Ok (moved.Entry n)) z
+SchedulesUncounted c s r (Err (Some refusal)) z = CanCountOne z s × SchedulesRequest c s r (Ok (moved.Refused refusal)) (with_request_counted z s)
+SchedulesUncounted c s r (Err None) z = SchedulesRequest c s r (Err NoMemory) z
