@@ -1,7 +1,5 @@
 -- The names that answers of this crate cite, its own lemmas among them, passed on from one place. Declares nothing.
-pub use Rattle.cj_audit.proofs.AuditTexts.{empty_text}
-pub use Rattle.cj_core.proofs.Auditing.{lines_added}
-pub use Rattle.cj_core.proofs.Common.{Answer, AnswersLookUp, Apply, AreCalledFor, AreCurrent, AreEmpty, AreHolding, AskError, Asked, Asks, BookError, CacheState, Call, CanServe, CellState, Core, Entry, EntryEnded, Event, FitsTx, HasRun, IsEntryNumber, IsFresh, IsFreshAnswer, IsLegal, IsPrefix, IsText, KeepsItems, LOG_FAULT, Layout, LogFailed, LogItem, LogView, LosesNothing, Made, Move, OpensTo, Placement, Refusal, Refused, RepliesKept, SeatedCell, Select, SoloState, SoloSteps, StandsBetweenCalls, WorldState, WorldTurn, abort_entry, accounts_of, after_look, all_looked, answer_kept, ask, asked_reply, backend_of, board_id, cache_answered, call_of, core_scheduled, database_after, database_of, desk_of, desk_tx, faults_of, flat_map, given_of, happened, idle_opening, in_mask, is_enabled, is_idle, is_some, items_of, kept_looked, last_number, length-map, lines_at, list_all, log, log_faults_after, logins_of, map_push, next_call, not_now, open_user, opened_core, own_entry, placement_of, position_at, query_skipped, range_with_len, request_of, reverse-append, state_by, states_of, take-length, take_all, tx_after_write, with_answer, with_cache, with_entry}
+pub use Rattle.cj_core.proofs.Common.{Answer, AnswersLookUp, Apply, AreCalledFor, AreCurrent, AreEmpty, AreHolding, AskError, Asked, Asks, BookError, CacheState, Call, CanServe, CellState, Core, Entry, EntryEnded, Event, FitsTx, HasRun, IsEntryNumber, IsFresh, IsFreshAnswer, IsLegal, IsPrefix, KeepsItems, LOG_FAULT, Layout, LogFailed, LogItem, LogView, LosesNothing, Made, Move, OpensTo, Placement, Refusal, Refused, RepliesKept, SeatedCell, Select, SoloState, SoloSteps, StandsBetweenCalls, WorldState, WorldTurn, abort_entry, accounts_of, after_look, all_looked, answer_kept, ask, asked_reply, backend_of, board_id, cache_answered, call_of, core_scheduled, database_after, database_of, desk_of, desk_tx, faults_of, given_of, happened, idle_opening, in_mask, is_enabled, is_idle, is_some, items_of, kept_looked, last_number, length-map, list_all, log, log_faults_after, logins_of, map_push, next_call, not_now, open_user, opened_core, own_entry, placement_of, position_at, query_skipped, request_of, reverse-append, state_by, states_of, take-length, take_all, tx_after_write, with_answer, with_cache, with_entry}
 pub use Rattle.cj_core.proofs.Leaving.{Leaving, are_current, are_holding, leaving_first, leaving_last, leaving_more, leaving_room, left_seen}
 pub use Rattle.cj_core.proofs.Making.{Making, making_legal, making_longer, making_met, making_more, making_none, making_part, making_run}
 pub use Rattle.cj_core.proofs.SoloCache.{found_kept, kept_inside, kept_turn, none_found, none_serve, not_kept, replied_from_cache, some_serve, turn_before_look}
@@ -20,5 +18,4 @@ pub use Rattle.cj_core.proofs.Starting.{Moving, Seating, made_fresh, moving_firs
 pub use Rattle.cj_core.proofs.WriteCache.{aborted_after, ended_follows, refused_after, refused_follows}
 pub use Rattle.cj_model.specs.declared.answer.Asked.TheVariants.{Rows}
 pub use Rattle.cj_model.specs.declared.limits.TheConstants.{BACKEND_LIMIT}
-pub use Rattle.cj_state.specs.ArmedCells.{armings_of}
 pub use Rattle.std.proofs.lemmas.Str.{IsUtf8-nil, is_utf8-from_IsUtf8}

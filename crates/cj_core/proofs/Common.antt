@@ -28,7 +28,6 @@ pub use Rattle.cj_cluster.specs.declared.moves.Move.TheVariants.{Apply, Arm, Dis
 pub use Rattle.cj_cluster.specs.declared.moves.MoveError.TheVariants.{NoMemory, NotNow}
 pub use Rattle.cj_cluster.specs.declared.moves.Moved.TheVariants.{Applied, Replayed, Replied}
 pub use Rattle.cj_cluster.specs.declared.moves.OpenSession.{OpenSession}
-pub use Rattle.cj_core.specs.Audits.{lines_at}
 pub use Rattle.cj_core.specs.Played.{HasRun, HasRunInPart, HaveCauses, MovesWorld, RunsWorld, faults_over, given_of, log_faults_over}
 pub use Rattle.cj_core.specs.Proving.SoloParts.{AttemptsQuery, EntryEnded, EntryRefused, EntryScheduled, EntryTaken, HasTakenEntry, QueryAnswered, QueryFailed, QueryUnnoted, RepliesKept, SchedulesOrRefuses, cache_answered, call_of, open_user}
 pub use Rattle.cj_core.specs.Proving.StartParts.{AllStand, AreStanding, CountsFaultOfPart, EnabledTo, EndedTo, EndedWhere, HasFailedOut, HasReplayed, HasTaken, IsDue, IsLonger, IsSameAt, IsSameCluster, IsUntouched, OnlyReplays, OnlyTakes, StandsBefore, StandsBehind}

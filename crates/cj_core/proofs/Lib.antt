@@ -1,4 +1,3 @@
-pub mod Auditing
 pub mod Cited
 pub mod Common
 pub mod Leaving

@@ -1,4 +1,3 @@
-pub mod Audits
 pub mod Played
 pub mod Proving
 pub mod QuietCalls

@@ -2,7 +2,6 @@
 //! every list of moves.
 #![tactic(auto)]
 
-mod audit;
 mod emptied;
 mod ending;
 mod laws;
@@ -14,7 +13,7 @@ mod solo_write;
 mod start;
 mod world;
 
-pub use audit::AuditError;
+pub use cj_world_audit::AuditError;
 pub use laws::{quiet_calls_blame_nobody, quiet_sessions_blame_nobody};
 pub use solo::Solo;
 pub use start::{Backends, Parts};

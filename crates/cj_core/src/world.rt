@@ -10,7 +10,7 @@ ghost use Rattle.cj_moves.specs.Caches.{HasCacheAfter};
 ghost use Rattle.cj_moves.specs.Counting.{HasCauses, HasLogCauses};
 ghost use Rattle.cj_moves.specs.Logins.{HasLogins};
 ghost use Rattle.cj_moves.specs.Steps.{IsMet};
-ghost use Rattle.cj_core.specs.Audits.{audit_text, failed_audit};
+ghost use Rattle.cj_world_audit.specs.Audits.{audit_text, failed_audit};
 ghost use Rattle.cj_core.specs.Played.{given_of, HasRun, HasRunInPart};
 ghost use Rattle.cj_state.specs.ArmedCells.{armings_of};
 ghost use Rattle.cj_state.specs.CalledLogins.{logins_of};
@@ -23,7 +23,6 @@ ghost use Rattle.cj_cluster.specs.Moves.Moves as moves;
 ghost use Rattle.cj_place.specs.Layouts.{placement_of};
 ghost use Rattle.cj_state.specs.Worlds.{IsFresh, IsSameButLog, IsWorld, KeepsHistory};
 
-use crate::audit::{AuditError, audit};
 use crate::emptied::Emptied;
 use crate::runs::{make, run};
 use cj_backend::Backend;
@@ -33,6 +32,7 @@ use cj_moves::step;
 use cj_outside::Store;
 use cj_place::Placement;
 use cj_state::State;
+use cj_world_audit::{AuditError, audit};
 use std::marker::Model;
 
 /// The core over these backends.

@@ -18,7 +18,7 @@ use Rattle.cj_cluster.specs.Script.Lines.{MoveLine, moved_lines, not_now_text, w
 use Rattle.cj_state.specs.Worlds.{WorldState, IsSameButLog}
 use Rattle.cj_moves.specs.Armings.{HasArmings}
 use Rattle.cj_state.specs.ArmedCells.{armings_of}
-use Rattle.cj_core.specs.Audits.{audit_text}
+use Rattle.cj_world_audit.specs.Audits.{audit_text}
 use Rattle.cj_moves.specs.Counting.{HasCauses, HasLogCauses, blamed, log_faults_after, tells_log_fault}
 use Rattle.cj_state.specs.Faults.{faults_after, faults_of}
 use Rattle.cj_state.specs.CalledLogins.{logins_of}

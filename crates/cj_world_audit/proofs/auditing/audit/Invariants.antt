@@ -1,6 +1,11 @@
 use Rattle.std.proofs.Common.{◌≡◌, true}
-use Rattle.cj_core.proofs.Cited.{IsText, armings_of, faults_of, flat_map, lines_at, logins_of, range_with_len}
-use Rattle.cj_core.proofs.audit.audit.Given as goal
+use Rattle.cj_model.specs.Sql.Names.{IsText}
+use Rattle.cj_state.specs.ArmedCells.{armings_of}
+use Rattle.cj_state.specs.CalledLogins.{logins_of}
+use Rattle.cj_state.specs.Faults.{faults_of}
+use Rattle.cj_world_audit.specs.Audits.{lines_at}
+use Rattle.std.specs.List.{flat_map, range_with_len}
+use Rattle.cj_world_audit.proofs.auditing.audit.Given as goal
 
 abbrev pub invariant-loop-b : goal.invariant-loop-b
 invariant-loop-b g l =

@@ -5,8 +5,8 @@ ghost use Rattle.cj_audit.specs.Audits.{StaysText};
 ghost use Rattle.cj_cluster.specs.History.Histories as histories;
 ghost use Rattle.cj_cluster.specs.History.Histories.{is_idle};
 ghost use Rattle.cj_state.specs.ArmedCells.{armings_of};
-ghost use Rattle.cj_core.specs.Audits as audits;
-ghost use Rattle.cj_core.specs.Audits.{audit_text, failed_audit, lines_at};
+ghost use Rattle.cj_world_audit.specs.Audits as audits;
+ghost use Rattle.cj_world_audit.specs.Audits.{audit_text, failed_audit, lines_at};
 ghost use Rattle.cj_state.specs.Faults.{faults_after, faults_of};
 ghost use Rattle.cj_state.specs.CalledLogins.{logins_of};
 
@@ -30,7 +30,7 @@ pub enum AuditError {
 
 impl From<NoMemory> for AuditError {
     ghost use Rattle.std.specs.Prelude.{◌≡◌};
-    ghost use Rattle.cj_core.specs.declared.audit.AuditError.TheVariants as errors;
+    ghost use Rattle.cj_world_audit.specs.declared.auditing.AuditError.TheVariants as errors;
 
     ghost from_gives = { λ _ e. e ≡ errors.NoMemory };
 

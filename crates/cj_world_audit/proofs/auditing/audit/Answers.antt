@@ -1,6 +1,8 @@
 use Rattle.std.proofs.Common.{refl, sym, ◌∙◌, subst}
-use Rattle.cj_core.proofs.Cited.{IsText, empty_text, lines_added}
-use Rattle.cj_core.proofs.audit.audit.Goals as goal
+use Rattle.cj_audit.proofs.AuditTexts.{empty_text}
+use Rattle.cj_model.specs.Sql.Names.{IsText}
+use Rattle.cj_world_audit.proofs.LinesAdded.{lines_added}
+use Rattle.cj_world_audit.proofs.auditing.audit.Goals as goal
 
 pub loop-b-init : goal.loop-b-init
 loop-b-init g c =

@@ -11,8 +11,8 @@ use Rattle.cj_cluster.specs.History.Histories.{log, is_enabled, database_of}
 use Rattle.cj_cluster.specs.Moves.Cores.{Core}
 use Rattle.cj_replica.specs.declared.replica.CellError.{CellError}
 use Rattle.cj_replica.specs.declared.replica.CellError.TheVariants as cell_errors
-use Rattle.cj_core.specs.declared.audit.AuditError.{AuditError}
-use Rattle.cj_core.specs.declared.audit.AuditError.TheVariants as errors
+use Rattle.cj_world_audit.specs.declared.auditing.AuditError.{AuditError}
+use Rattle.cj_world_audit.specs.declared.auditing.AuditError.TheVariants as errors
 
 -- the lines of backend b: where it is enabled, those of its part of the database after the whole log
 abbrev pub lines_at : List (List ℕ) → Core → ℕ → List ℕ

@@ -1,7 +1,13 @@
 -- The lines of an audit, backend after backend.
 use Rattle.std.proofs.Common.{◌≡◌, ℕ, ◌+◌, List, [], ◌∷◌, ◌++◌, ap, sym, ◌∙◌, arith, append-nil}
-use Rattle.cj_core.proofs.Common.{Core, flat_map, flat_map-append, lines_at, map-id, map-range_with_len_more, range_with_len, Setup, WorldState}
+use Rattle.cj_cluster.specs.Moves.Cores.{Core}
+use Rattle.cj_state.specs.Worlds.{Setup, WorldState}
+use Rattle.cj_world_audit.specs.Audits.{lines_at}
+use Rattle.std.proofs.lemmas.Grind.{flat_map-append}
+use Rattle.std.proofs.lemmas.List.{map-id}
 use Rattle.std.proofs.lemmas.List.Concat.{flat_map-cons}
+use Rattle.std.proofs.lemmas.List.FromFn.{map-range_with_len_more}
+use Rattle.std.specs.List.{flat_map, range_with_len}
 
 range_next : (b : ℕ) → range_with_len 0 (b + 1) ≡ range_with_len 0 b ++ b ∷ []
 range_next b =
