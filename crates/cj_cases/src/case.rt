@@ -1,0 +1,177 @@
+//! What a run is handed.
+
+ghost use Rattle.std.specs.Prelude.{◌≡◌, map, string_bytes};
+
+use std::alloc::Global;
+use std::marker::Model;
+
+/// The numbers of the calls that are to fail, counted from 1, of each object of a run.
+#[derive(Drop)]
+pub(crate) struct Fails {
+    pub(crate) configuration: Vec<u64>,
+    pub(crate) log: Vec<u64>,
+    pub(crate) input: Vec<u64>,
+    pub(crate) output: Vec<u64>,
+    pub(crate) errors: Vec<u64>,
+}
+
+impl Fails {
+    ghost use Rattle.cj_cases.specs.Cases.{no_fails};
+    ghost use Rattle.cj_cases.specs.Failing.{calls_of};
+
+    /// No call fails.
+    pub(crate) fn none(alloc: Global) -> Fails
+        ensures { calls_of result ≡ no_fails }
+    {
+        Fails {
+            configuration: Vec::new(alloc),
+            log: Vec::new(alloc),
+            input: Vec::new(alloc),
+            output: Vec::new(alloc),
+            errors: Vec::new(alloc),
+        }
+    }
+}
+
+/// A case, as far as its lines have said it.
+#[derive(Drop)]
+pub struct Case {
+    pub(crate) number: u64,
+    pub(crate) name: Vec<u8>,
+    pub(crate) words: Vec<String>,
+    pub(crate) configuration: Vec<u8>,
+    pub(crate) log: Vec<u8>,
+    pub(crate) input: Vec<u8>,
+    pub(crate) piece_limit: u64,
+    pub(crate) fails: Fails,
+    pub(crate) shows_log: bool,
+}
+
+impl Model for Case {
+    ghost use Rattle.std.specs.Prelude.{map, string_bytes};
+    ghost use Rattle.cj_cases.specs.Cases.{CaseState};
+    ghost use Rattle.cj_cases.specs.Failing.{calls_of};
+
+    ghost Value = { CaseState };
+
+    ghost view = { λ c. record {
+      number = c.number;
+      name = c.name.items;
+      words = map string_bytes c.words.items;
+      configuration = c.configuration.items;
+      log = c.log.items;
+      input = c.input.items;
+      piece_limit = c.piece_limit;
+      fails = calls_of c.fails;
+      shows_log = c.shows_log;
+    } };
+}
+
+impl Case {
+    ghost use Rattle.cj_cases.specs.Cases.{no_case};
+
+    /// No case yet, with nothing said.
+    pub(crate) fn none(alloc: Global) -> Case
+        ensures { result ≡ no_case }
+    {
+        Case {
+            number: 0,
+            name: Vec::new(alloc),
+            words: Vec::new(alloc),
+            configuration: Vec::new(alloc),
+            log: Vec::new(alloc),
+            input: Vec::new(alloc),
+            piece_limit: u64::MAX,
+            fails: Fails::none(alloc),
+            shows_log: false,
+        }
+    }
+
+    /// The case's number among the cases, from 1.
+    pub fn number(&self) -> u64
+        ensures { result ≡ self.now.number }
+    {
+        self.number
+    }
+
+    pub fn name(&self) -> &[u8]
+        ensures { result.now ≡ self.now.name }
+    {
+        &self.name
+    }
+
+    /// The words of the command.
+    pub fn words(&self) -> &[String]
+        ensures { map string_bytes result.now ≡ self.now.words }
+    {
+        &self.words
+    }
+
+    pub fn configuration(&self) -> &[u8]
+        ensures { result.now ≡ self.now.configuration }
+    {
+        &self.configuration
+    }
+
+    /// The bytes of the log before the run.
+    pub fn log(&self) -> &[u8]
+        ensures { result.now ≡ self.now.log }
+    {
+        &self.log
+    }
+
+    pub fn input(&self) -> &[u8]
+        ensures { result.now ≡ self.now.input }
+    {
+        &self.input
+    }
+
+    /// The most bytes that the input gives at a call, at least 1 where a line said it.
+    pub fn piece_limit(&self) -> u64
+        ensures { result ≡ self.now.piece_limit }
+    {
+        self.piece_limit
+    }
+
+    /// Which calls of the configuration fail, counted from 1.
+    pub fn configuration_fails(&self) -> &[u64]
+        ensures { result.now ≡ self.now.fails.configuration }
+    {
+        &self.fails.configuration
+    }
+
+    /// Which calls of the log fail.
+    pub fn log_fails(&self) -> &[u64]
+        ensures { result.now ≡ self.now.fails.log }
+    {
+        &self.fails.log
+    }
+
+    /// Which calls of the input fail.
+    pub fn input_fails(&self) -> &[u64]
+        ensures { result.now ≡ self.now.fails.input }
+    {
+        &self.fails.input
+    }
+
+    /// Which calls of the output fail.
+    pub fn output_fails(&self) -> &[u64]
+        ensures { result.now ≡ self.now.fails.output }
+    {
+        &self.fails.output
+    }
+
+    /// Which calls of the errors fail.
+    pub fn errors_fails(&self) -> &[u64]
+        ensures { result.now ≡ self.now.fails.errors }
+    {
+        &self.fails.errors
+    }
+
+    /// Whether the log's bytes are shown behind the run.
+    pub fn shows_log(&self) -> bool
+        ensures { result ≡ self.now.shows_log }
+    {
+        self.shows_log
+    }
+}
