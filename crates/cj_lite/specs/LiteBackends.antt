@@ -9,8 +9,8 @@ use Rattle.cj_model.specs.declared.database.Slot.{Slot}
 use Rattle.cj_backend.specs.declared.backend.BackendError.{BackendError}
 use Rattle.cj_backend.specs.declared.backend.BackendError.TheVariants as backend
 use Rattle.cj_backend.specs.Backends.{Arming}
-use Rattle.cj_lite.specs.declared.error.LiteError.{LiteError}
-use Rattle.cj_lite.specs.declared.error.LiteError.TheVariants as lite
+use Rattle.cj_lite_tables.specs.declared.error.LiteError.{LiteError}
+use Rattle.cj_lite_tables.specs.declared.error.LiteError.TheVariants as lite
 
 -- what it has counted; nothing is seen of what it holds
 pub record LiteState : Type 0 where

@@ -2,9 +2,8 @@
 
 ghost use Rattle.std.specs.Prelude.{◌≡◌, ◌↔◌, ◌==◌, Some, None, IfOk, IsTrue, filter, not};
 
-use crate::database::Database;
-use crate::error::LiteError;
 use cj_backend::{Backend, BackendError, Counts};
+use cj_lite_tables::{Database, LiteError};
 use cj_model::{Asked, Create, Db, Duplicate, Name, NoMemory, Outcome, Select, Text, Write};
 use std::alloc::Global;
 use std::marker::Model;
@@ -43,7 +42,7 @@ fn is_login(last: &Option<Text>, user: &Text) -> bool
     }
 }
 
-pub fn remove(begun: &mut Vec<u64>, tx: u64)
+fn remove(begun: &mut Vec<u64>, tx: u64)
     ensures { begun.new.items ≡ filter (λ t. not (t == tx)) begun.old.items }
 {
     begun.retain(|other| *other != tx);

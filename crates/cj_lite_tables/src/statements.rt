@@ -5,18 +5,48 @@ use crate::error::LiteError;
 use cj_model::{Column, Kind, Name, Schema};
 use sqlite::{Connection, MemStore, Statement};
 use std::alloc::Global;
+use std::marker::Model;
+
+/// A statement that is prepared, of which contracts see nothing.
+pub struct Prepared {
+    statement: Statement,
+}
+
+impl Model for Prepared {
+    ghost Value = { Unit {0} };
+
+    ghost view = { λ _. tt };
+}
+
+// It is written out, so that a caller does not prove again how each part is dropped.
+impl Drop for Prepared {
+    fn drop(self) {
+        let Prepared { statement: _ } = self;
+    }
+}
 
 /// What is run again and again of a table, prepared once.
-#[derive(Drop)]
 pub struct Statements {
     /// Puts a row, in place of the one with its key.
-    pub put: Statement,
+    pub put: Prepared,
     /// Takes out the row of a key.
-    pub remove: Statement,
+    pub remove: Prepared,
     /// Gives the row of a key.
-    pub find: Statement,
+    pub find: Prepared,
     /// Gives the rows from a key on, in rising key.
-    pub scan: Statement,
+    pub scan: Prepared,
+}
+
+// It is written out, so that a caller does not prove again how each part is dropped.
+impl Drop for Statements {
+    fn drop(self) {
+        let Statements {
+            put: _,
+            remove: _,
+            find: _,
+            scan: _,
+        } = self;
+    }
 }
 
 fn push_table(out: &mut Vec<u8>, words: &[u8], table: &Name) -> Result<(), LiteError> {
@@ -101,13 +131,6 @@ fn scan_words(alloc: Global, schema: &Schema, key: &Name) -> Result<Vec<u8>, Lit
     Ok(out)
 }
 
-fn prepared(conn: &mut Connection<MemStore>, words: &[u8]) -> Result<Statement, LiteError> {
-    match std::str::from_utf8(words) {
-        Ok(sql) => Ok(conn.prepare(sql)?),
-        Err(_) => Err(LiteError::Fault),
-    }
-}
-
 fn run(conn: &mut Connection<MemStore>, words: &[u8]) -> Result<(), LiteError> {
     match std::str::from_utf8(words) {
         Ok(sql) => {
@@ -116,6 +139,52 @@ fn run(conn: &mut Connection<MemStore>, words: &[u8]) -> Result<(), LiteError> {
         }
         Err(_) => Err(LiteError::Fault),
     }
+}
+
+impl Prepared {
+    fn of_words(conn: &mut Connection<MemStore>, words: &[u8]) -> Result<Prepared, LiteError> {
+        match std::str::from_utf8(words) {
+            Ok(sql) => Ok(Prepared {
+                statement: conn.prepare(sql)?,
+            }),
+            Err(_) => Err(LiteError::Fault),
+        }
+    }
+
+    pub fn as_statement(&self) -> &Statement {
+        &self.statement
+    }
+}
+
+fn prepare_put(
+    alloc: Global,
+    conn: &mut Connection<MemStore>,
+    schema: &Schema,
+) -> Result<Prepared, LiteError> {
+    let words = put_words(alloc, schema)?;
+    Prepared::of_words(conn, &words)
+}
+
+/// Prepares a statement of these words on the row of a key.
+fn prepare_at_key(
+    alloc: Global,
+    conn: &mut Connection<MemStore>,
+    words: &[u8],
+    schema: &Schema,
+    key: &Name,
+) -> Result<Prepared, LiteError> {
+    let words = key_words(alloc, words, schema, key, b" = ?")?;
+    Prepared::of_words(conn, &words)
+}
+
+fn prepare_scan(
+    alloc: Global,
+    conn: &mut Connection<MemStore>,
+    schema: &Schema,
+    key: &Name,
+) -> Result<Prepared, LiteError> {
+    let words = scan_words(alloc, schema, key)?;
+    Prepared::of_words(conn, &words)
 }
 
 impl Statements {
@@ -129,15 +198,11 @@ impl Statements {
         else {
             return Err(LiteError::Fault);
         };
-        let put = put_words(alloc, schema)?;
-        let remove = key_words(alloc, b"DELETE FROM ", schema, key, b" = ?")?;
-        let find = key_words(alloc, b"SELECT * FROM ", schema, key, b" = ?")?;
-        let scan = scan_words(alloc, schema, key)?;
         Ok(Statements {
-            put: prepared(conn, &put)?,
-            remove: prepared(conn, &remove)?,
-            find: prepared(conn, &find)?,
-            scan: prepared(conn, &scan)?,
+            put: prepare_put(alloc, conn, schema)?,
+            remove: prepare_at_key(alloc, conn, b"DELETE FROM ", schema, key)?,
+            find: prepare_at_key(alloc, conn, b"SELECT * FROM ", schema, key)?,
+            scan: prepare_scan(alloc, conn, schema, key)?,
         })
     }
 

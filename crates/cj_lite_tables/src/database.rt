@@ -26,12 +26,29 @@ use sqlite::{Connection, MemStore};
 use std::alloc::Global;
 use std::marker::Model;
 
-/// Tables in SQLite, of which contracts see nothing.
-#[derive(Drop)]
+/// A database of tables whose rows stand in SQLite, in memory. Contracts see nothing of what it holds.
+///
+/// What a transaction changes is kept beside SQLite as the draft of a table, and laid over what SQLite
+/// gives, until it is committed. A table has the draft of one transaction at a time. The database
+/// doesn't know which transactions are begun: a write makes a draft where there is none.
+///
+/// Each call may answer `Fault`, where SQLite refuses a statement or gives back what was never stored,
+/// and `NoMemory`, but for `open`, which answers `NoMemory` alone, and `abort`, which answers no error.
 pub struct Database {
     alloc: Global,
     conn: Connection<MemStore>,
     tables: Vec<LiteTable>,
+}
+
+// It is written out, so that a caller does not prove again how each part is dropped.
+impl Drop for Database {
+    fn drop(self) {
+        let Database {
+            alloc: _,
+            conn: _,
+            tables: _,
+        } = self;
+    }
 }
 
 impl Model for Database {
@@ -109,7 +126,7 @@ fn stored(whole: &Tables) -> Result<Db, LiteError>
 }
 
 impl Database {
-    /// A database of no tables.
+    /// A database of no tables, which takes its memory from here.
     pub fn open(alloc: Global) -> Result<Database, NoMemory> {
         let conn = Connection::open_in_memory(alloc)?;
         Ok(Database {
@@ -119,7 +136,9 @@ impl Database {
         })
     }
 
-    /// A database that is loaded, and the transactions that have a draft in it.
+    /// A database that holds this one, drafts included, and the transactions that have a draft in it.
+    ///
+    /// An error leaves nothing: what was made until then is dropped.
     pub fn of_db(alloc: Global, db: Db) -> Result<(Database, Vec<u64>), LiteError>
         requires { IsDatabase db }
         ensures { IfOk result (λ made. made.1.items ≡ writers db) }
@@ -137,7 +156,10 @@ impl Database {
         Ok(())
     }
 
-    /// A write of transaction `tx`, 0 for none.
+    /// Carries out a write of transaction `tx`, 0 for none, or refuses it and changes nothing.
+    ///
+    /// After an error with `tx` 0 nothing is changed. With another it may be that some of the rows are
+    /// changed in the transaction's draft.
     pub fn write(&mut self, tx: u64, write: &Write) -> Result<Outcome, LiteError>
         ensures { IfOk result IsOutcome }
     {
@@ -150,7 +172,10 @@ impl Database {
         }
     }
 
-    /// CREATE TABLE.
+    /// CREATE TABLE, or its refusal.
+    ///
+    /// After an error the database has no such table, but SQLite may have it: then a later CREATE TABLE
+    /// of that name is a fault.
     pub fn create(&mut self, create: &Create) -> Result<Outcome, LiteError>
         requires { IsWritten (request.Create create.now) }
         ensures { IfOk result IsOutcome }
@@ -167,7 +192,9 @@ impl Database {
         }
     }
 
-    /// DROP TABLE, unless a transaction has a draft of the table.
+    /// DROP TABLE, which is refused where a transaction has a draft of the table.
+    ///
+    /// After an error the table is there as before.
     pub fn drop_table(&mut self, name: &Name) -> Result<Outcome, LiteError>
         ensures { IfOk result IsOutcome }
     {
@@ -187,6 +214,8 @@ impl Database {
     }
 
     /// Makes the drafts of a transaction stand, all or none.
+    ///
+    /// After an error they are still drafts, and may be committed again or forgotten.
     pub fn commit(&mut self, tx: u64) -> Result<(), LiteError> {
         run_drafts(self.alloc, &mut self.conn, &self.tables, tx)?;
         for table in self.tables.iter_mut() {
@@ -195,14 +224,16 @@ impl Database {
         Ok(())
     }
 
-    /// Forgets the drafts of a transaction.
+    /// Forgets the drafts of a transaction, if it has any.
     pub fn abort(&mut self, tx: u64) {
         for table in self.tables.iter_mut() {
             table.abort(tx);
         }
     }
 
-    /// What a query of transaction `tx`, 0 for none, is answered.
+    /// What a query of transaction `tx`, 0 for none, is answered: rows, or a refusal.
+    ///
+    /// Nothing is changed by it, nor by an error.
     pub fn ask(&mut self, tx: u64, select: &Select) -> Result<Asked, LiteError>
         requires { IsWritten (request.Select select.now) }
         ensures { IfOk result IsAsked }
@@ -211,7 +242,9 @@ impl Database {
         Ok(asked(self.alloc, &small, select)?)
     }
 
-    /// A copy of the database, drafts included.
+    /// A copy of the database, drafts included. A fault where it can't be stored.
+    ///
+    /// Nothing is changed by it, nor by an error.
     pub fn contents(&mut self) -> Result<Db, LiteError>
         ensures { IfOk result IsStorable }
     {

@@ -10,7 +10,6 @@ use sqlite::{Connection, MemStore, Rows, Transaction};
 use std::alloc::Global;
 
 /// What a transaction has changed of a table, and not yet committed. It isn't in SQLite.
-#[derive(Drop)]
 pub struct LiteDraft {
     /// The transaction, above 0.
     pub tx: u64,
@@ -19,14 +18,36 @@ pub struct LiteDraft {
     pub count: usize,
 }
 
+// It is written out, so that a caller does not prove again how each part is dropped.
+impl Drop for LiteDraft {
+    fn drop(self) {
+        let LiteDraft {
+            tx: _,
+            changes: _,
+            count: _,
+        } = self;
+    }
+}
+
 /// A table whose rows, as committed, stand in SQLite.
-#[derive(Drop)]
 pub struct LiteTable {
     schema: Schema,
     statements: Statements,
     /// How many rows stand in SQLite.
     count: usize,
     draft: Option<LiteDraft>,
+}
+
+// It is written out, so that a caller does not prove again how each part is dropped.
+impl Drop for LiteTable {
+    fn drop(self) {
+        let LiteTable {
+            schema: _,
+            statements: _,
+            count: _,
+            draft: _,
+        } = self;
+    }
 }
 
 /// A value that stands above no other of its kind.
@@ -180,7 +201,8 @@ impl LiteTable {
         conn: &mut Connection<MemStore>,
         key: &Value,
     ) -> Result<Option<Row>, LiteError> {
-        let found = self.statements.find.query_all(conn, &[parameter(key)])?;
+        let find = self.statements.find.as_statement();
+        let found = find.query_all(conn, &[parameter(key)])?;
         match found.first() {
             Some(given) => Ok(Some(row_of(alloc, given)?)),
             None => Ok(None),
@@ -216,7 +238,8 @@ impl LiteTable {
     ) -> Result<Vec<Row>, LiteError> {
         let least = least(alloc, self.key_kind())?;
         let start = search.start(&least).unwrap_or(&least);
-        let mut rows = self.statements.scan.query(conn, &[parameter(start)])?;
+        let scan = self.statements.scan.as_statement();
+        let mut rows = scan.query(conn, &[parameter(start)])?;
         taken(alloc, &mut rows, self.key(), self.changes_of(tx), search)
     }
 

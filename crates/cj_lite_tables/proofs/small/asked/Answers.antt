@@ -1,6 +1,6 @@
 use Rattle.cj_model.proofs.Askable.{read_askable}
 use Rattle.cj_mem.proofs.Promised.{asked_is}
-use Rattle.cj_lite.proofs.small.asked.Goals as goal
+use Rattle.cj_lite_tables.proofs.small.asked.Goals as goal
 
 pub returns : goal.returns
 returns c =

@@ -23,7 +23,7 @@ fn put_all(
     for row in rows.values() {
         if let Some(row) = row {
             let values = parameters(alloc, row)?;
-            conn.execute_prepared(&statements.put, &values)?;
+            conn.execute_prepared(statements.put.as_statement(), &values)?;
         }
     }
     Ok(())
@@ -77,7 +77,7 @@ impl Changes {
     ) -> Result<(), LiteError> {
         for (key, row) in self.rows.iter().rev() {
             if row.is_none() {
-                conn.execute_prepared(&statements.remove, &[parameter(key)])?;
+                conn.execute_prepared(statements.remove.as_statement(), &[parameter(key)])?;
             }
         }
         put_all(alloc, conn, statements, &self.rows)

@@ -5,12 +5,13 @@ use sqlite::ErrorCode;
 use std::alloc::{AllocError, AllocFailed};
 use thiserror::Error;
 
-/// Why a call was not carried out.
+/// Why a call of the database was not carried out.
 #[derive(Clone, Copy, Debug, PartialEq, Eq, Error)]
 pub enum LiteError {
     /// SQLite refused a statement that was found right, or gave back what was never stored.
     #[error("a fault of the database")]
     Fault,
+    /// There was no memory for it.
     #[error("out of memory")]
     NoMemory,
 }
