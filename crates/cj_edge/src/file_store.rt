@@ -1,93 +1,20 @@
 //! A file as a store.
 
 ghost use Rattle.std.specs.Prelude.{◌≡◌, ◌+◌, ◌≤◌, false, [], length, OnOk};
-ghost use Rattle.std.specs.Io.{ReadsAtMost};
 ghost use Rattle.cj_outside.specs.Causes.{next};
 ghost use Rattle.cj_outside.specs.Streams.{most};
 
+use crate::standing::{LockedFile, Standing, has_bytes_at};
 use cj_outside::{Failed, MOST, OutError, Store, is_past_most};
-use std::fs::{File, OpenOptions};
+use std::fs::File;
 use std::io::{self, ErrorKind};
-use std::os::unix::fs::FileExt;
-use std::path::Path;
 use std::rt::Files;
 
-/// What stands at the path of a store.
-#[derive(Drop)]
-enum Standing {
-    Opened(File),
-    /// No file yet. The first write makes it.
-    Missing,
-    /// A file that can't be opened.
-    Refused(io::Error),
-}
-
-impl Standing {
-    fn of(opened: io::Result<File>) -> Standing {
-        match opened {
-            Ok(file) => Standing::Opened(file),
-            Err(error) => Standing::Refused(error),
-        }
-    }
-
-    fn len(&self) -> io::Result<u64> {
-        match self {
-            Standing::Opened(file) => len_of(file),
-            Standing::Missing => Ok(0),
-            Standing::Refused(error) => Err(*error),
-        }
-    }
-
-    fn read_at(&self, at: u64, buf: &mut [u8]) -> io::Result<usize>
-        ensures bound { ReadsAtMost result buf.new }
-    {
-        match self {
-            Standing::Refused(error) => Err(*error),
-            Standing::Opened(file) if at < MOST => file.read_at(buf, at),
-            // No byte of a store stands there.
-            Standing::Opened(_) | Standing::Missing => Ok(0),
-        }
-    }
-
-    fn sync(&self) -> io::Result<()> {
-        match self {
-            Standing::Opened(file) => file.sync_data(),
-            Standing::Missing => Ok(()),
-            Standing::Refused(error) => Err(*error),
-        }
-    }
-}
-
-/// The length of a regular file. Of anything else, as a pipe or a folder, none is known.
-fn len_of(file: &File) -> io::Result<u64> {
-    let found = file.metadata()?;
-    if !found.is_file() {
-        return Err(ErrorKind::Unsupported.into());
-    }
-    Ok(found.len())
-}
-
-/// Makes the file at `path`, where nothing may stand, and has its folder keep the name.
-fn make(rt: &impl Files<File = File>, path: &str) -> io::Result<File> {
-    let file = OpenOptions::new()
-        .read(true)
-        .write(true)
-        .create_new(true)
-        .open(rt, path)?;
-    File::open(rt, folder(path))?.sync_all()?;
-    Ok(file)
-}
-
-fn folder(path: &str) -> &str {
-    match Path::new(path).parent() {
-        Some(folder) if !folder.as_str().is_empty() => folder.as_str(),
-        _ => ".",
-    }
-}
-
-/// A file as a store. It tells nothing of its bytes or of stops, and counts each error of the system, an interrupted read among them.
+/// A file as a store. It tells nothing of its bytes or of stops, and counts each error of the system, an interrupted
+/// read among them.
 ///
-/// A length above `MOST` is an error too. Nothing keeps other programs from the file.
+/// A length above `MOST` is an error too. A file that is written is locked as long as the store stands, against
+/// programs that lock it too.
 #[derive(Drop)]
 pub struct FileStore<R> {
     rt: R,
@@ -99,17 +26,35 @@ pub struct FileStore<R> {
 impl<R: Files<File = File>> FileStore<R> {
     /// The file at `path`, to be read and written.
     ///
-    /// Where there is none it is a store without bytes, and the first write makes the file: a write fails where another program has made it since. Where it can't
-    /// be opened each call fails.
+    /// Where there is none it is a store without bytes, and the first write makes the file: a write fails where another
+    /// program has made it since. Where it can't be opened, or another program has locked it, each call fails.
     pub fn open(rt: R, path: String) -> FileStore<R> {
-        let opened = OpenOptions::new()
-            .read(true)
-            .write(true)
-            .open(&rt, path.as_str());
-        let standing = match opened {
-            Err(error) if error.kind() == ErrorKind::NotFound => Standing::Missing,
-            other => Standing::of(other),
-        };
+        let opened = LockedFile::open(&rt, path.as_str()).map(Standing::Written);
+        FileStore::new(rt, path, Standing::of_made_later(opened))
+    }
+
+    /// The file at `path`, to be read alone: each write fails. Where it can't be opened, or is not there, each call
+    /// fails.
+    pub fn open_to_read(rt: R, path: String) -> FileStore<R> {
+        let opened = File::open(&rt, path.as_str()).map(Standing::Read);
+        FileStore::new(rt, path, Standing::of(opened))
+    }
+
+    /// The file at `path`, to be read, whether or not another program has locked it or it may be written.
+    ///
+    /// Only a write that would change it opens it as `open` does, and fails where that fails. Where there is none, the
+    /// first write makes it.
+    pub fn open_to_list(rt: R, path: String) -> FileStore<R> {
+        let opened = File::open(&rt, path.as_str()).map(Standing::Listed);
+        FileStore::new(rt, path, Standing::of_made_later(opened))
+    }
+
+    /// No file: each call fails, and none touches a file.
+    pub fn none(rt: R, path: String) -> FileStore<R> {
+        FileStore::new(rt, path, Standing::Refused(ErrorKind::Unsupported.into()))
+    }
+
+    fn new(rt: R, path: String, standing: Standing) -> FileStore<R> {
         FileStore {
             rt,
             path,
@@ -118,15 +63,19 @@ impl<R: Files<File = File>> FileStore<R> {
         }
     }
 
-    /// The file at `path`, to be read alone: each write fails. Where it can't be opened, or is not there, each call fails.
-    pub fn open_to_read(rt: R, path: String) -> FileStore<R> {
-        let standing = Standing::of(File::open(&rt, path.as_str()));
-        FileStore {
-            rt,
-            path,
-            standing,
-            faults: 0,
-        }
+    /// Opens the file to be written, or makes it, where these bytes at `at` would change it and it isn't open so.
+    /// Answers whether they have to be written.
+    fn prepare(&mut self, at: u64, bytes: &[u8]) -> io::Result<bool>
+        ensures faults { self.new.faults ≡ self.old.faults }
+    {
+        let locked = match &self.standing {
+            Standing::Written(_) | Standing::Read(_) | Standing::Refused(_) => return Ok(true),
+            Standing::Listed(file) if has_bytes_at(file, at, bytes) => return Ok(false),
+            Standing::Listed(_) => LockedFile::open(&self.rt, self.path.as_str())?,
+            Standing::Missing => LockedFile::make(&self.rt, self.path.as_str())?,
+        };
+        self.standing = Standing::Written(locked);
+        Ok(true)
     }
 
     fn write(&mut self, at: u64, bytes: &[u8]) -> io::Result<()>
@@ -136,15 +85,17 @@ impl<R: Files<File = File>> FileStore<R> {
         if is_past_most(at, bytes.len()) {
             return Err(ErrorKind::FileTooLarge.into());
         }
-        match &self.standing {
-            Standing::Opened(file) => file.write_all_at(bytes, at),
-            Standing::Missing => {
-                let file = make(&self.rt, self.path.as_str())?;
-                let written = file.write_all_at(bytes, at);
-                self.standing = Standing::Opened(file);
-                written
+        if !self.prepare(at, bytes)? {
+            return Ok(());
+        }
+        match &mut self.standing {
+            Standing::Written(locked) => {
+                locked.write_at(&self.rt, self.path.as_str(), at, bytes)
             }
             Standing::Refused(error) => Err(*error),
+            Standing::Read(_) | Standing::Listed(_) | Standing::Missing => {
+                Err(ErrorKind::ReadOnlyFilesystem.into())
+            }
         }
     }
 

@@ -1,11 +1,33 @@
-//! The program, run as `cjc pipe CONF`: one session on standard input and output.
+//! The program: hands files, the standard streams and the clock to the command that its words say.
 #![tactic(auto)]
 
-use cj_edge::{FileStore, StdSink, StdSource, SystemClock, WordsError, words};
+use cj_edge::{
+    FileStore, Patient, StdSink, StdSource, SystemClock, WordsError, fill_standard_streams, words,
+};
 use cj_top::{paths, run};
+use std::fs::File;
 use std::process::ExitCode;
+use std::rt::Files;
+
+/// The recovery log as the command uses it. `log` leaves it to the program that writes it; `gen`, and words that are no
+/// command, touch none.
+fn log_store<R: Files<File = File>>(rt: R, words: &[String], path: String) -> FileStore<R> {
+    let verb = words.first().map_or("", |word| word.as_str());
+    if verb == "gen" || paths(words).is_none() {
+        return FileStore::none(rt, path);
+    }
+    if verb == "log" {
+        return FileStore::open_to_list(rt, path);
+    }
+    FileStore::open(rt, path)
+}
 
 fn main(rt: HostRuntime) -> ExitCode {
+    // Before the first file, which would take the place of a stream that is closed. Which one that is isn't known, and
+    // none was used yet, so the status is that of want of memory.
+    if fill_standard_streams(&rt).is_err() {
+        return ExitCode::from(1);
+    }
     let words = match words(&rt) {
         Ok(words) => words,
         Err(WordsError::NoMemory) => return ExitCode::from(1),
@@ -21,11 +43,10 @@ fn main(rt: HostRuntime) -> ExitCode {
         return ExitCode::from(1);
     };
     let mut conf = FileStore::open_to_read(rt, conf_path);
-    // The log is made by the first write to it.
-    let log = FileStore::open(rt, log_path);
-    let mut input = StdSource::new(rt.reader());
-    let mut output = StdSink::new(rt.stdout());
-    let mut errors = StdSink::new(rt.stderr());
+    let log = log_store(rt, &words, log_path);
+    let mut input = StdSource::new(Patient::new(rt.reader(), rt));
+    let mut output = StdSink::new(Patient::new(rt.stdout(), rt));
+    let mut errors = StdSink::new(Patient::new(rt.stderr(), rt));
     let clock = SystemClock::new(rt);
     ExitCode::from(run(
         rt.alloc(),
