@@ -12,6 +12,5 @@ pub mod NewCells
 pub mod NotePoint
 pub mod PositionPoint
 pub mod Reports
-pub mod Rows
 pub mod SessionPoint
 pub mod Words

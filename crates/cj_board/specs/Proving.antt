@@ -1,3 +1,2 @@
 -- What exists for proofs alone. Nothing here has to be believed.
 pub mod Told
-pub mod Rows

@@ -10,8 +10,6 @@ mod rule;
 mod seat_steps;
 mod seats;
 mod steps;
-#[cfg(test)]
-mod tests;
 mod view;
 
 pub use seats::{Board, BookSeat, CellSeat, CellSeats, Pass};

@@ -20,6 +20,3 @@ pub use dump::Dump;
 pub use encoding::encode;
 pub use error::DumpError;
 pub use laws::{bytes_have_one_reading, written_reads_back};
-
-#[cfg(test)]
-mod tests;

@@ -1,4 +1,3 @@
 -- How far serving has come, and what the code makes of requests: for proofs alone.
 pub mod Points
-pub mod StarvedDesks
 pub mod Works

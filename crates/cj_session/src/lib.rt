@@ -12,6 +12,3 @@ mod work;
 
 pub use laws::bytes_have_one_session_transcript;
 pub use session::serve_session;
-
-#[cfg(test)]
-mod tests;

@@ -16,18 +16,3 @@ pub use piped::{PipeError, pipe};
 pub use program::run;
 pub use scripted::play;
 pub use words::paths;
-
-#[cfg(test)]
-mod call_tests;
-#[cfg(test)]
-mod load_tests;
-#[cfg(test)]
-mod placement_tests;
-#[cfg(test)]
-mod row_limit_tests;
-#[cfg(test)]
-mod sql_tests;
-#[cfg(test)]
-mod tests;
-#[cfg(test)]
-mod workload_tests;

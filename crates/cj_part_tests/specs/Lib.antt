@@ -1,0 +1,2 @@
+pub mod BoardRows
+pub mod StarvedDesks

@@ -1,0 +1,66 @@
+//! What calls are given: requests, names and texts that are right as they are spelled.
+
+ghost use Rattle.cj_model.specs.Sql.WrittenRequests.{IsWritten};
+
+use cj_model::{Cond, Name, Request, Select, Text};
+use cj_sql::{is_plain, read};
+use std::alloc::Global;
+use std::process::Abort;
+use std::test::Fail;
+
+pub fn request(rt: &impl Abort, alloc: Global, text: &str) -> Request {
+    match read(alloc, text.as_bytes()) {
+        Ok(request) => request,
+        Err(_) => panic!(rt; "{text}"),
+    }
+}
+
+/// The plain request that a text reads as.
+pub fn plain_request(rt: &impl Abort, alloc: Global, text: &str) -> Request
+    ensures { IsWritten result }
+{
+    match read(alloc, text.as_bytes()) {
+        Ok(request) if is_plain(&request) => request,
+        _ => panic!(rt; "{text}"),
+    }
+}
+
+pub fn select(rt: &impl Abort, alloc: Global, text: &str) -> Select {
+    match request(rt, alloc, text) {
+        Request::Select(select) => select,
+        _ => panic!(rt; "{text}"),
+    }
+}
+
+/// The condition of a SELECT.
+pub fn condition(rt: &impl Abort, alloc: Global, text: &str) -> Cond {
+    let Select { cond, .. } = select(rt, alloc, text);
+    match cond {
+        Some(cond) => cond,
+        None => panic!(rt; "{text}"),
+    }
+}
+
+pub fn name(rt: &impl Abort, word: &str) -> Name {
+    match Name::of(word.as_bytes()) {
+        Some(name) => name,
+        None => panic!(rt; "{word}"),
+    }
+}
+
+pub fn text(rt: &impl Abort, alloc: Global, word: &str) -> Result<Text, Fail> {
+    match Text::of(word.as_bytes().to_vec(alloc)?) {
+        Some(text) => Ok(text),
+        None => panic!(rt; "{word}"),
+    }
+}
+
+/// The names, with a space behind each.
+pub fn spelled(alloc: Global, names: &[Name]) -> Result<Vec<u8>, Fail> {
+    let mut bytes = Vec::new(alloc);
+    for name in names {
+        bytes.extend_from_slice(name.as_slice())?;
+        bytes.push(b' ')?;
+    }
+    Ok(bytes)
+}

@@ -1,0 +1,57 @@
+//! The cache of answers.
+
+use crate::given::{name, select};
+use cj_cache::Cache;
+use cj_model::{Answer, AnswerRows, ListOf, Select, TableSet, Value};
+use std::alloc::Global;
+use std::process::Abort;
+use std::test::Fail;
+
+/// The row of one value.
+fn answer(rt: &impl Abort, alloc: Global, value: i64) -> Result<Answer, Fail> {
+    let mut rows = AnswerRows::new(alloc);
+    let row = ListOf::from_vec(Vec::from_array(alloc, [Value::Int(value)])?);
+    assert!(rt; rows.push(row).is_ok());
+    Ok(Answer {
+        columns: ListOf::from_vec(Vec::from_array(alloc, [name(rt, "v")])?),
+        rows,
+    })
+}
+
+/// A SELECT of a table.
+fn of_table(rt: &impl Abort, alloc: Global, table: &str) -> Result<Select, Fail> {
+    let text = format!(in alloc; "SELECT v FROM {table}")?;
+    Ok(select(rt, alloc, &text))
+}
+
+fn keep(rt: &impl Abort, alloc: Global, cache: &mut Cache, table: &str) -> Result<(), Fail> {
+    let given = answer(rt, alloc, 5)?;
+    let asked = of_table(rt, alloc, table)?;
+    assert!(rt; cache.keep(asked, given, 1).is_ok());
+    Ok(())
+}
+
+/// The least recently used answer makes room, and a table's answers are dropped with it.
+#[test]
+fn answers_are_kept(rt: HostRuntime) -> Result<(), Fail> {
+    let alloc = rt.alloc();
+    let Ok(mut cache) = Cache::new(alloc, 2) else {
+        panic!(&rt; "cache")
+    };
+    keep(&rt, alloc, &mut cache, "a")?;
+    keep(&rt, alloc, &mut cache, "b")?;
+    assert!(rt; cache.touch(&of_table(&rt, alloc, "a")?));
+    keep(&rt, alloc, &mut cache, "c")?;
+    assert!(rt; cache.kept(&of_table(&rt, alloc, "b")?).is_none());
+    let mut set = TableSet::new(alloc);
+    assert!(rt; set.insert(&name(&rt, "a")).is_ok());
+    let Ok(doomed) = cache.doomed(&set) else {
+        panic!(&rt; "doomed")
+    };
+    assert_eq!(rt; doomed.len(), 1);
+    cache.drop_tables(&set, &doomed);
+    assert!(rt; !cache.touch(&of_table(&rt, alloc, "a")?));
+    assert!(rt; cache.kept(&of_table(&rt, alloc, "c")?).is_some());
+    assert_eq!(rt; cache.counts(), (1, 1));
+    Ok(())
+}
