@@ -1,0 +1,69 @@
+-- What a run of the program over memory gives.
+use Rattle.std.specs.Prelude.{◌≡◌, ◌≢◌, ◌⊎◌, ℕ, Bool, true, List, [], map}
+use Rattle.std.specs.declared.option.Option.TheVariants.{Some}
+use Rattle.cj_outside.specs.Causes.{CountsFault, next}
+use Rattle.cj_outside.specs.Memory.{State}
+use Rattle.cj_cases.specs.Cases.{CaseState}
+use Rattle.cj_cases.specs.declared.runner.Outcome.{Outcome}
+use Rattle.cj_words.specs.Words.{Asks, Says}
+use Rattle.cj_words.specs.declared.asked.Asked.{Asked}
+use Rattle.cj_words.specs.declared.asked.Command.{Command}
+use Rattle.cj_top.specs.Completeness.{ByStore, CompletesCommand, CountsNoFault}
+use Rattle.cj_top.specs.Configured.{WritesRefusal}
+use Rattle.cj_top.specs.Logs.{Found, HasFailed, RefusesLog, StopsAtLog, TellsRefusal}
+use Rattle.cj_top.specs.Program.{AsksForText, WritesText}
+use Rattle.cj_top.specs.Runs.{ComesBy, ReadsNoInput, RunsCommand}
+use Rattle.cjc_cases.specs.declared.program.TheConstants.{MOMENT}
+
+-- an object in memory that holds these bytes, of which no call was made, and whose calls with these numbers fail
+abbrev pub handed : List ℕ → List ℕ → State
+handed bytes fails = record { bytes = bytes; fails = fails; calls = 0; faults = 0 }
+
+-- What the program is handed in a run beside the words, or what has become of it.
+pub record Objects : Type 0 where
+  pub configuration : State
+  pub input : State
+  pub output : State
+  pub errors : State
+
+-- the objects of a case
+abbrev pub objects_of : CaseState → Objects
+objects_of c = record {
+  configuration = handed c.configuration c.fails.configuration;
+  input = handed c.input c.fails.input;
+  output = handed [] c.fails.output;
+  errors = handed [] c.fails.errors;
+}
+
+-- the input and the output were not touched
+abbrev pub AreIdle : Objects → Objects → Type 0
+AreIdle a z = (z.input ≡ a.input) × (z.output ≡ a.output)
+
+-- nor were the errors
+abbrev pub AreQuiet : Objects → Objects → Type 0
+AreQuiet a z = (z.input ≡ a.input) × (z.output ≡ a.output) × (z.errors ≡ a.errors)
+
+-- how a command stops at its log
+abbrev pub StopsAt : State → Objects → Objects → ℕ → Type 0
+StopsAt log a z = StopsAtLog (RefusesLog (λ s. s.faults) log true log.bytes) (TellsRefusal (Some a.errors.bytes) (Some z.errors.bytes) a.errors.faults z.errors.faults) (AreIdle a z)
+
+-- All that `run` of `cj_top` promises of a run with these words, over this log and these objects, that ends with this status.
+pub record KeepsPromises (words : List (List ℕ)) (log : State) (a z : Objects) (status : ℕ) : Type 0 where
+  pub runs : (command : Command) → Says words command → RunsCommand true a.configuration.bytes (WritesRefusal (Some a.errors.bytes) (Some z.errors.bytes) a.errors.faults z.errors.faults) (AreIdle a z) (AreQuiet a z)
+      (λ c. ComesBy command c (Found true log.bytes) (StopsAt log a z) (AreQuiet a z) (Some MOMENT) (Some a.input.bytes) (Some z.input.bytes) (Some a.output.bytes) (Some z.output.bytes) (Some a.errors.bytes) (Some z.errors.bytes) a.errors.faults z.errors.faults status) status
+  pub unread : (command : Command) → Says words command → ReadsNoInput command → z.input ≡ a.input
+  pub text : AsksForText words → WritesText (Some a.output.bytes) (Some z.output.bytes) status × (z.configuration ≡ a.configuration) × (z.input ≡ a.input) × (z.errors ≡ a.errors)
+  pub other : ((asked : Asked) → Asks words asked → ⊥) → (status ≡ 2) × (z.configuration ≡ a.configuration) × (z.input ≡ a.input) × (z.output ≡ a.output) × (z.errors ≡ a.errors)
+  pub quiet : status ≢ 3 → status ≢ 8 → status ≢ 10 → z.errors ≡ a.errors
+  pub stores : (status ≡ 7) × (z.configuration.faults ≡ next a.configuration.faults) ⊎ (status ≡ 7) × HasFailed (λ s. s.faults) log × (z.configuration.faults ≡ a.configuration.faults) ⊎ (status ≢ 7) × (z.configuration.faults ≡ a.configuration.faults)
+  pub input : CountsFault (status ≡ 5) a.input.faults z.input.faults
+  pub output : CountsFault (status ≡ 6) a.output.faults z.output.faults
+  pub complete : (command : Command) → Says words command → CountsNoFault a.configuration.faults z.configuration.faults → CountsNoFault a.input.faults z.input.faults → CountsNoFault a.output.faults z.output.faults → status ≢ 1 → status ≢ 7 → status ≢ 8 → status ≢ 12 →
+      ByStore true a.configuration.bytes (CompletesCommand command (Some a.input.bytes) (Some a.output.bytes) (Some z.output.bytes) status) status
+
+-- A run of the case gave this: its status, and what it wrote, are those of the program over the objects of the case.
+pub record GivesAsRun (c : CaseState) (outcome : Outcome) : Type 0 where
+  pub left : Objects
+  pub keeps : KeepsPromises c.words (handed c.log c.fails.log) (objects_of c) left outcome.status
+  pub output : outcome.output.items ≡ left.output.bytes
+  pub errors : outcome.errors.items ≡ left.errors.bytes
