@@ -1,5 +1,5 @@
 -- What a run of the program over memory gives.
-use Rattle.std.specs.Prelude.{◌≡◌, ◌≢◌, ◌⊎◌, ℕ, Bool, true, List, [], map}
+use Rattle.std.specs.Prelude.{◌≡◌, ◌≢◌, ◌⊎◌, ℕ, ℤ, true, List, []}
 use Rattle.std.specs.declared.option.Option.TheVariants.{Some}
 use Rattle.cj_outside.specs.Causes.{CountsFault, next}
 use Rattle.cj_outside.specs.Memory.{State}
@@ -13,18 +13,12 @@ use Rattle.cj_top.specs.Configured.{WritesRefusal}
 use Rattle.cj_top.specs.Logs.{Found, HasFailed, RefusesLog, StopsAtLog, TellsRefusal}
 use Rattle.cj_top.specs.Program.{AsksForText, WritesText}
 use Rattle.cj_top.specs.Runs.{ComesBy, ReadsNoInput, RunsCommand}
+use Rattle.cjc_cases.specs.declared.program.Objects.{Objects}
 use Rattle.cjc_cases.specs.declared.program.TheConstants.{MOMENT}
 
 -- an object in memory that holds these bytes, of which no call was made, and whose calls with these numbers fail
 abbrev pub handed : List ℕ → List ℕ → State
 handed bytes fails = record { bytes = bytes; fails = fails; calls = 0; faults = 0 }
-
--- What the program is handed in a run beside the words, or what has become of it.
-pub record Objects : Type 0 where
-  pub configuration : State
-  pub input : State
-  pub output : State
-  pub errors : State
 
 -- the objects of a case
 abbrev pub objects_of : CaseState → Objects
@@ -47,10 +41,10 @@ AreQuiet a z = (z.input ≡ a.input) × (z.output ≡ a.output) × (z.errors ≡
 abbrev pub StopsAt : State → Objects → Objects → ℕ → Type 0
 StopsAt log a z = StopsAtLog (RefusesLog (λ s. s.faults) log true log.bytes) (TellsRefusal (Some a.errors.bytes) (Some z.errors.bytes) a.errors.faults z.errors.faults) (AreIdle a z)
 
--- All that `run` of `cj_top` promises of a run with these words, over this log and these objects, that ends with this status.
-pub record KeepsPromises (words : List (List ℕ)) (log : State) (a z : Objects) (status : ℕ) : Type 0 where
+-- All that `run` of `cj_top` promises of a run with these words, over this log and these objects at this moment, that ends with this status.
+pub record KeepsPromises (words : List (List ℕ)) (log : State) (moment : ℤ) (a z : Objects) (status : ℕ) : Type 0 where
   pub runs : (command : Command) → Says words command → RunsCommand true a.configuration.bytes (WritesRefusal (Some a.errors.bytes) (Some z.errors.bytes) a.errors.faults z.errors.faults) (AreIdle a z) (AreQuiet a z)
-      (λ c. ComesBy command c (Found true log.bytes) (StopsAt log a z) (AreQuiet a z) (Some MOMENT) (Some a.input.bytes) (Some z.input.bytes) (Some a.output.bytes) (Some z.output.bytes) (Some a.errors.bytes) (Some z.errors.bytes) a.errors.faults z.errors.faults status) status
+      (λ c. ComesBy command c (Found true log.bytes) (StopsAt log a z) (AreQuiet a z) (Some moment) (Some a.input.bytes) (Some z.input.bytes) (Some a.output.bytes) (Some z.output.bytes) (Some a.errors.bytes) (Some z.errors.bytes) a.errors.faults z.errors.faults status) status
   pub unread : (command : Command) → Says words command → ReadsNoInput command → z.input ≡ a.input
   pub text : AsksForText words → WritesText (Some a.output.bytes) (Some z.output.bytes) status × (z.configuration ≡ a.configuration) × (z.input ≡ a.input) × (z.errors ≡ a.errors)
   pub other : ((asked : Asked) → Asks words asked → ⊥) → (status ≡ 2) × (z.configuration ≡ a.configuration) × (z.input ≡ a.input) × (z.output ≡ a.output) × (z.errors ≡ a.errors)
@@ -64,6 +58,6 @@ pub record KeepsPromises (words : List (List ℕ)) (log : State) (a z : Objects)
 -- A run of the case gave this: its status, and what it wrote, are those of the program over the objects of the case.
 pub record GivesAsRun (c : CaseState) (outcome : Outcome) : Type 0 where
   pub left : Objects
-  pub keeps : KeepsPromises c.words (handed c.log c.fails.log) (objects_of c) left outcome.status
+  pub keeps : KeepsPromises c.words (handed c.log c.fails.log) MOMENT (objects_of c) left outcome.status
   pub output : outcome.output.items ≡ left.output.bytes
   pub errors : outcome.errors.items ≡ left.errors.bytes

@@ -1,7 +1,7 @@
 //! The program on a case, over memory.
 
-ghost use Rattle.std.specs.Prelude.{◌≡◌, [], IfOk};
-ghost use Rattle.cjc_cases.specs.Runs.{handed};
+ghost use Rattle.std.specs.Prelude.{◌≡◌, [], IfOk, map, string_bytes};
+ghost use Rattle.cjc_cases.specs.Runs.{KeepsPromises, handed, objects_of};
 
 use cj_cases::{Case, LeftStore, Outcome, Pieces, Runner, Slot};
 use cj_model::NoMemory;
@@ -12,11 +12,20 @@ use std::cell::RefCell;
 use std::rc::Rc;
 
 /// The moment at which each case is run, in Unix seconds.
-pub const MOMENT: i64 = 1_700_000_000;
+const MOMENT: i64 = 1_700_000_000;
 
 /// The product's program.
 #[derive(Drop)]
 pub struct Program;
+
+/// What the program is handed beside the words, the log and the clock.
+#[derive(Drop)]
+pub struct Objects {
+    configuration: MemStore,
+    input: Pieces,
+    output: MemSink,
+    errors: MemSink,
+}
 
 fn store(alloc: Global, content: &[u8], fails: &[u64]) -> Result<MemStore, NoMemory>
     ensures { IfOk result (λ store. store ≡ handed content.now fails.now) }
@@ -38,6 +47,45 @@ fn sink(alloc: Global, fails: &[u64]) -> Result<MemSink, NoMemory>
     Ok(MemSink::new(Vec::new(alloc), fails.to_vec(alloc)?))
 }
 
+fn handed_objects(alloc: Global, case: &Case) -> Result<Objects, NoMemory>
+    ensures { IfOk result (λ objects. objects ≡ objects_of case.now) }
+{
+    Ok(Objects {
+        configuration: store(alloc, case.configuration(), case.configuration_fails())?,
+        input: source(alloc, case)?,
+        output: sink(alloc, case.output_fails())?,
+        errors: sink(alloc, case.errors_fails())?,
+    })
+}
+
+/// The status of the program with these words, over these objects.
+fn run_over(
+    alloc: Global,
+    words: &[String],
+    log: LeftStore,
+    objects: &mut Objects,
+    clock: &FixedClock,
+) -> u8
+    ensures { KeepsPromises (map string_bytes words.now) log clock.entry.now objects.old objects.new result }
+{
+    run(
+        alloc,
+        words,
+        &mut objects.configuration,
+        log,
+        &mut objects.input,
+        &mut objects.output,
+        &mut objects.errors,
+        clock,
+    )
+}
+
+fn copied(alloc: Global, sink: &MemSink) -> Result<Vec<u8>, NoMemory>
+    ensures { IfOk result (λ bytes. bytes.items ≡ sink.now.bytes) }
+{
+    Ok(sink.content().to_vec(alloc)?)
+}
+
 /// The bytes of the store that was left; none where there is none.
 fn left(alloc: Global, slot: &Slot) -> Result<Vec<u8>, NoMemory> {
     match slot.try_borrow() {
@@ -55,27 +103,16 @@ impl Runner for Program {
     ghost gives = { GivesAsRun };
 
     fn run(&mut self, alloc: Global, case: &Case) -> Result<Outcome, NoMemory> {
-        let mut configuration = store(alloc, case.configuration(), case.configuration_fails())?;
         let slot = Rc::new(alloc, RefCell::new(None))?;
-        let log = LeftStore::new(store(alloc, case.log(), case.log_fails())?, slot.clone()?);
-        let mut input = source(alloc, case)?;
-        let mut output = sink(alloc, case.output_fails())?;
-        let mut errors = sink(alloc, case.errors_fails())?;
+        let store = store(alloc, case.log(), case.log_fails())?;
+        let log = LeftStore::new(store, slot.clone()?);
+        let mut objects = handed_objects(alloc, case)?;
         let clock = FixedClock::new(MOMENT);
-        let status = run(
-            alloc,
-            case.words(),
-            &mut configuration,
-            log,
-            &mut input,
-            &mut output,
-            &mut errors,
-            &clock,
-        );
+        let status = run_over(alloc, case.words(), log, &mut objects, &clock);
         Ok(Outcome {
             status,
-            output: output.content().to_vec(alloc)?,
-            errors: errors.content().to_vec(alloc)?,
+            output: copied(alloc, &objects.output)?,
+            errors: copied(alloc, &objects.errors)?,
             log: left(alloc, &slot)?,
         })
     }
