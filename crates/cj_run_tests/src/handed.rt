@@ -84,8 +84,6 @@ pub struct Handed {
     pub conf: MemStore,
     /// The bytes of the log that each command opens.
     pub log: Vec<u8>,
-    /// The numbers of the calls of the log's store that fail.
-    pub log_fails: Vec<u64>,
     pub input: MemSource,
     pub output: MemSink,
     pub errors: MemSink,
@@ -97,7 +95,6 @@ impl Handed {
         Ok(Handed {
             conf: MemStore::new(conf.as_bytes().to_vec(alloc)?, Vec::new(alloc)),
             log: Vec::new(alloc),
-            log_fails: Vec::new(alloc),
             input: MemSource::new(input.to_vec(alloc)?, Vec::new(alloc)),
             output: sink(alloc, &[])?,
             errors: sink(alloc, &[])?,
@@ -115,7 +112,7 @@ impl Handed {
     pub fn run(&mut self, alloc: Global, command: &str) -> Result<u8, Fail> {
         let words = words(alloc, command)?;
         let clock = FixedClock::new(1_700_000_000);
-        let log = MemStore::new(self.log.to_vec(alloc)?, self.log_fails.to_vec(alloc)?);
+        let log = MemStore::new(self.log.to_vec(alloc)?, Vec::new(alloc));
         Ok(run(
             alloc,
             &words,

@@ -1,10 +1,10 @@
-//! Tests of `run`, the program's one call, and of whole worlds: those that a list of inputs and outputs can't say.
+//! Tests of `run`, the program's one call: those that a list of inputs and outputs can't say.
 //!
 //! Nothing but tests stands here, so that each crate of functions is proved once.
 #![tactic(auto)]
 
 #[cfg(test)]
-mod draws;
+mod cut_inputs;
 #[cfg(test)]
 mod handed;
 #[cfg(test)]
@@ -13,7 +13,3 @@ mod help;
 mod limits;
 #[cfg(test)]
 mod logs;
-#[cfg(test)]
-mod streams;
-#[cfg(test)]
-mod worlds;

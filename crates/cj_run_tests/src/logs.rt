@@ -1,6 +1,6 @@
-//! Recovery logs that were cut or changed, and stores of a log that fail.
+//! Recovery logs that were cut or changed.
 
-use crate::handed::{C1, CREATE, Handed, INSERT, LOGIN, SELECT, session};
+use crate::handed::{CREATE, Handed, INSERT};
 use std::alloc::Global;
 use std::process::Abort;
 use std::test::Fail;
@@ -82,56 +82,5 @@ fn a_log_that_was_changed_is_opened_or_refused(rt: HostRuntime) -> Result<(), Fa
         let told = handed.errors();
         assert!(rt; told.is_empty() == (status == 0), "at {place}");
     }
-    Ok(())
-}
-
-/// What a session comes to whose log's store fails at this call.
-fn with_failing_log(alloc: Global, call: u64) -> Result<(u8, usize), Fail> {
-    let input = session(alloc, &[CREATE, INSERT, SELECT])?;
-    let mut handed = Handed::of(alloc, C1, &input)?;
-    handed.log_fails = Vec::from_array(alloc, [call])?;
-    let status = handed.run(alloc, "pipe c1.toml")?;
-    Ok((status, handed.output().len()))
-}
-
-#[test]
-fn a_failing_log_is_a_status_or_a_reply(rt: HostRuntime) -> Result<(), Fail> {
-    let alloc = rt.alloc();
-    // opening, then the entry of CREATE, then that of INSERT, each of a write, a sync, a write and a sync
-    for (calls, status, length) in [
-        (1..4u64, 7u8, 0usize),
-        (4..8, 0, 13 + 23 * 3),
-        (8..12, 0, 13 + 13 + 23 + 17),
-    ] {
-        for call in calls {
-            let came = with_failing_log(alloc, call)?;
-            assert_eq!(rt; came, (status, length), "call {call}");
-        }
-    }
-    Ok(())
-}
-
-/// The log of one entry, that of CREATE, which ann's session 1 asked at the second place.
-pub const CREATED: &[u8] = b"CJL1\x01\x00\x00\x00\x00\x00\x00\x00\x5c\x01\
-    \x00\x00\x00\x00\x00\x00\x00\x01\x00\x00\x00\x00\x00\x00\x00\x01\x00\x00\x00\x00\x00\x00\x00\x02\x00\x00\x00\x00\x00\x00\x00\x00\
-    \x00\x03ann\x00\x00\x00\x00\x00\x00\x00\x2eCREATE TABLE t (k INTEGER PRIMARY KEY, v TEXT)\x00";
-
-#[test]
-fn no_session_comes_behind_the_last_number(rt: HostRuntime) -> Result<(), Fail> {
-    let alloc = rt.alloc();
-    let mut log = CREATED.to_vec(alloc)?;
-    // the session's field, at 2^62
-    let last: [u8; 8] = (1u64 << 62).to_be_bytes();
-    for (place, byte) in last.iter().enumerate() {
-        if let Some(field) = log.get_mut(22usize.wrapping_add(place)) {
-            *field = *byte;
-        }
-    }
-    let mut served = Handed::over(alloc, &log, LOGIN)?;
-    assert_eq!(rt; served.run(alloc, "pipe c1.toml")?, 12);
-    assert_eq!(rt; served.output().len(), 0);
-    let mut played = Handed::over(alloc, &log, b"open ann\n")?;
-    assert_eq!(rt; played.run(alloc, "script c1.toml")?, 0);
-    assert!(rt; played.output() == b"refused 46 0 0\n".as_slice());
     Ok(())
 }
