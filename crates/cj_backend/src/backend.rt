@@ -56,9 +56,7 @@ pub trait Backend {
 
     /// Whether it tells what it holds: at all times but from a change that was not carried out to
     /// the next load that is.
-    const TELLS: bool;
-
-    ghost TELLS: { Bool };
+    ghost tells: { Bool };
 
     /// What it holds, or `None` where that is not told.
     ghost told: { Self → Option (List Slot) };
@@ -174,7 +172,7 @@ pub trait Backend {
     /// are begun.
     fn load(&mut self, db: Db) -> Result<(), BackendError>
         requires { IsStorable db }
-        ensures told { told self.new ≡ told_loaded TELLS db result }
+        ensures told { told self.new ≡ told_loaded tells db result }
         ensures cause { HasBackendCause (faults self.old) (faults self.new) result }
         ensures login { login self.new ≡ login self.old }
         ensures begun { begun self.new ≡ begun_loaded (begun self.old) db result }

@@ -102,7 +102,7 @@ impl<S: Store> Model for Book<S> {
       faults_at_opening = S.faults book.opened_with.value;
     } };
 
-    ghost invariant = { λ book. IsKeptBook S.TELLS book.placement (book_view book.seat).front book.entries.items book.done book.enabled book.greatest book.targets book.sessions book.transactions book.marker_names book.recovery_log.items book.recovery_log.torn (S.faults book.opened_with.value) (S.faults book.recovery_log.store) };
+    ghost invariant = { λ book. IsKeptBook S.tells book.placement (book_view book.seat).front book.entries.items book.done book.enabled book.greatest book.targets book.sessions book.transactions book.marker_names book.recovery_log.items book.recovery_log.torn (S.faults book.opened_with.value) (S.faults book.recovery_log.store) };
 }
 
 /// Why the log wasn't opened.
@@ -139,11 +139,11 @@ impl<S: Store> Book<S> {
         board: &Board,
         seat: BookSeat,
     ) -> Result<Book<S>, (StartError, S)>
-        requires store { S.TELLS ≡ true → Only (S.held store) (S.may store) }
+        requires store { S.tells ≡ true → Only (S.held store) (S.may store) }
         requires board { book_board seat ≡ board_id board.now }
         requires none { ((book_view seat).front ≡ []) × ((book_view seat).given ≡ []) }
         ensures started { IfOk result (λ book. IsStarted parts.placement parts.balancer parts.cache book.state) }
-        ensures bytes { S.TELLS ≡ true → Starts S.held (S.held store) (opened_state result) }
+        ensures bytes { S.tells ≡ true → Starts S.held (S.held store) (opened_state result) }
         ensures cause { CountsStartFault S.faults (S.faults store) (opened_state result) }
         ensures board { IfOk result (λ book. book.board ≡ board_id board.now) }
         ensures opening { IfOk result (λ book. book.faults_at_opening ≡ S.faults store) }
@@ -192,10 +192,10 @@ impl<S: Store> Book<S> {
         ensures front { self.now.view.front ≡ self.now.state.history }
         ensures given { (e : Entry) → IsOfKnown self.now.state e → e.session ≤ self.now.state.greatest }
         ensures faults { HasCountedLogFaults self.now.state.history self.now.faults_at_opening (S.faults self.now.state.recovery_log.store) }
-        ensures logged { S.TELLS ≡ true → items_of self.now.state.history ≡ self.now.state.recovery_log.items }
-        ensures kept { S.TELLS ≡ true → IsKeptIn (S.held self.now.state.recovery_log.store) self.now.state.history }
-        ensures safe { S.TELLS ≡ true → last_write_failed self.now.state.history ≡ false → LeavesItems (S.may self.now.state.recovery_log.store) (items_of self.now.state.history) }
-        ensures now { S.TELLS ≡ true → (item : LogItem) → LeavesOnly S.moment S.since self.now.state.recovery_log.store self.now.state.recovery_log.store (IsBeforeOrAfter self.now.state.recovery_log item) }
+        ensures logged { S.tells ≡ true → items_of self.now.state.history ≡ self.now.state.recovery_log.items }
+        ensures kept { S.tells ≡ true → IsKeptIn (S.held self.now.state.recovery_log.store) self.now.state.history }
+        ensures safe { S.tells ≡ true → last_write_failed self.now.state.history ≡ false → LeavesItems (S.may self.now.state.recovery_log.store) (items_of self.now.state.history) }
+        ensures now { S.tells ≡ true → (item : LogItem) → LeavesOnly S.moment S.since self.now.state.recovery_log.store self.now.state.recovery_log.store (IsBeforeOrAfter self.now.state.recovery_log item) }
     {
         self.recovery_log.legal();
     }

@@ -92,7 +92,7 @@ impl<S: Store> Book<S> {
         requires fit { is_idle self.old.state.history ≡ true → IsFitEntry (log self.old.state.history) e }
         requires known { IsOfKnown self.old.state e }
         requires counted { IsCounted self.old (Event.Sched e) × IsCounted self.old (Event.LogFailed e.session e.seq) }
-        ensures state { Schedules S.TELLS S.faults S.moment S.since S.may self.old.state e result self.new.state }
+        ensures state { Schedules S.tells S.faults S.moment S.since S.may self.old.state e result self.new.state }
         ensures board { self.new.board ≡ self.old.board }
         ensures opening { self.new.faults_at_opening ≡ self.old.faults_at_opening }
         ensures seat { self.new.view ≡ view_after (event_or_fault (Event.Sched e) (Event.LogFailed e.session e.seq) result) self.old.view }
@@ -112,7 +112,7 @@ impl<S: Store> Book<S> {
         requires fit { is_idle self.old.state.history ≡ true → IsFitEntry (log self.old.state.history) e }
         requires known { IsOfKnown self.old.state e }
         requires counted { CanCount self.old (own_view counter.old) (Event.Sched e) × CanCount self.old (own_view counter.old) (Event.LogFailed e.session e.seq) }
-        ensures state { Schedules S.TELLS S.faults S.moment S.since S.may self.old.state e result self.new.state }
+        ensures state { Schedules S.tells S.faults S.moment S.since S.may self.old.state e result self.new.state }
         ensures board { self.new.board ≡ self.old.board }
         ensures opening { self.new.faults_at_opening ≡ self.old.faults_at_opening }
         ensures seat { self.new.view ≡ book_after (event_or_fault (Event.Sched e) (Event.LogFailed e.session e.seq) result) (own_view counter.old) self.old.view }
@@ -146,10 +146,10 @@ impl<S: Store> Book<S> {
         ensures log_fault { IsErrOf result BookError.LogFault → IsSameButLog (with_event self.old.state (Event.LogFailed e.session e.seq)) self.new.state }
         ensures same { OnErr result (¬ IsErrOf result BookError.LogFault → IsSameButLog self.old.state self.new.state) }
         ensures cause { CountsFault (IsErrOf result BookError.LogFault) (S.faults self.old.state.recovery_log.store) (S.faults self.new.state.recovery_log.store) }
-        ensures memory { S.TELLS ≡ true → IsErrOf result BookError.NoMemory → self.new.state.recovery_log.torn ≡ true → self.old.state.recovery_log.torn ≡ true }
-        ensures any_moment { S.TELLS ≡ true → LeavesOnly S.moment S.since self.old.state.recovery_log.store self.new.state.recovery_log.store (IsBeforeOrAfter self.old.state.recovery_log prepared.item) }
-        ensures refused { S.TELLS ≡ true → Refuses self.old.state.recovery_log prepared.item self.new.state.recovery_log result }
-        ensures safe { S.TELLS ≡ true → OnOk result (LeavesItems (S.may self.new.state.recovery_log.store) (items_of self.new.state.history)) }
+        ensures memory { S.tells ≡ true → IsErrOf result BookError.NoMemory → self.new.state.recovery_log.torn ≡ true → self.old.state.recovery_log.torn ≡ true }
+        ensures any_moment { S.tells ≡ true → LeavesOnly S.moment S.since self.old.state.recovery_log.store self.new.state.recovery_log.store (IsBeforeOrAfter self.old.state.recovery_log prepared.item) }
+        ensures refused { S.tells ≡ true → Refuses self.old.state.recovery_log prepared.item self.new.state.recovery_log result }
+        ensures safe { S.tells ≡ true → OnOk result (LeavesItems (S.may self.new.state.recovery_log.store) (items_of self.new.state.history)) }
         ensures board { self.new.board ≡ self.old.board }
         ensures opening { self.new.faults_at_opening ≡ self.old.faults_at_opening }
         ensures seat { self.new.view ≡ book_after (event_or_fault (Event.Sched e) (Event.LogFailed e.session e.seq) result) (own_view counter.old) self.old.view }
@@ -274,7 +274,7 @@ impl<S: Store> Book<S> {
         requires named { name.now ≢ [] }
         requires backend { b ≢ Some 255 }
         requires counted { IsCounted self.old (Event.LogFailed 0 0) }
-        ensures state { Marks S.TELLS S.faults S.moment S.since S.may self.old.state name.now b result self.new.state }
+        ensures state { Marks S.tells S.faults S.moment S.since S.may self.old.state name.now b result self.new.state }
         ensures board { self.new.board ≡ self.old.board }
         ensures opening { self.new.faults_at_opening ≡ self.old.faults_at_opening }
         ensures seat { self.new.view ≡ view_after (event_or_fault (Event.Marker name.now b) (Event.LogFailed 0 0) result) self.old.view }
@@ -299,10 +299,10 @@ impl<S: Store> Book<S> {
         ensures log_fault { IsErrOf result BookError.LogFault → IsSameButLog (with_event self.old.state (Event.LogFailed 0 0)) self.new.state }
         ensures same { OnErr result (¬ IsErrOf result BookError.LogFault → IsSameButLog self.old.state self.new.state) }
         ensures cause { CountsFault (IsErrOf result BookError.LogFault) (S.faults self.old.state.recovery_log.store) (S.faults self.new.state.recovery_log.store) }
-        ensures memory { S.TELLS ≡ true → IsErrOf result BookError.NoMemory → self.new.state.recovery_log.torn ≡ true → self.old.state.recovery_log.torn ≡ true }
-        ensures any_moment { S.TELLS ≡ true → LeavesOnly S.moment S.since self.old.state.recovery_log.store self.new.state.recovery_log.store (IsBeforeOrAfter self.old.state.recovery_log (openings.marker_item (length (log self.old.state.history)) name.now b)) }
-        ensures refused { S.TELLS ≡ true → Refuses self.old.state.recovery_log (openings.marker_item (length (log self.old.state.history)) name.now b) self.new.state.recovery_log result }
-        ensures safe { S.TELLS ≡ true → OnOk result (LeavesItems (S.may self.new.state.recovery_log.store) (items_of self.new.state.history)) }
+        ensures memory { S.tells ≡ true → IsErrOf result BookError.NoMemory → self.new.state.recovery_log.torn ≡ true → self.old.state.recovery_log.torn ≡ true }
+        ensures any_moment { S.tells ≡ true → LeavesOnly S.moment S.since self.old.state.recovery_log.store self.new.state.recovery_log.store (IsBeforeOrAfter self.old.state.recovery_log (openings.marker_item (length (log self.old.state.history)) name.now b)) }
+        ensures refused { S.tells ≡ true → Refuses self.old.state.recovery_log (openings.marker_item (length (log self.old.state.history)) name.now b) self.new.state.recovery_log result }
+        ensures safe { S.tells ≡ true → OnOk result (LeavesItems (S.may self.new.state.recovery_log.store) (items_of self.new.state.history)) }
         ensures board { self.new.board ≡ self.old.board }
         ensures opening { self.new.faults_at_opening ≡ self.old.faults_at_opening }
         ensures seat { self.new.view ≡ view_after (event_or_fault (Event.Marker name.now b) (Event.LogFailed 0 0) result) self.old.view }

@@ -53,7 +53,7 @@ impl<S: Store> Book<S> {
         requires own { ((pass_view p.old).own_session ≡ e.session) × (0 < e.session) }
         requires fit { is_idle self.old.state.history ≡ true → IsFitEntry (log self.old.state.history) e }
         requires known { IsOfKnown self.old.state e }
-        ensures state { Schedules S.TELLS S.faults S.moment S.since S.may self.old.state e result self.new.state }
+        ensures state { Schedules S.tells S.faults S.moment S.since S.may self.old.state e result self.new.state }
         ensures board { (self.new.board ≡ self.old.board) × (pass_board p.new ≡ pass_board p.old) }
         ensures opening { self.new.faults_at_opening ≡ self.old.faults_at_opening }
         ensures seat { self.new.view ≡ own_book_after (event_or_fault (Event.Sched e) (Event.LogFailed e.session e.seq) result) (told_book self.old.view (pass_view p.old)) (told_pass self.old.view (pass_view p.old)) }

@@ -46,13 +46,9 @@ impl Drop for LeftStore {
 }
 
 impl Store for LeftStore {
-    const TELLS: bool = true;
+    ghost tells = { true };
 
-    ghost TELLS = { true };
-
-    const DISK: bool = false;
-
-    ghost DISK = { false };
+    ghost has_disk = { false };
 
     ghost held = { λ s. s.bytes };
 

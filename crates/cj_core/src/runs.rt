@@ -24,7 +24,7 @@ use std::alloc::Global;
 /// behind its items.
 pub fn make<B: Backend, S: Store>(state: &mut State<B, S>, m: Move) -> Result<Made, NoMemory>
     requires { IsMet state.old.core m }
-    ensures made { IfOk result (λ made. MovesTo B.TELLS state.old.core m (given_of made) state.new.core) }
+    ensures made { IfOk result (λ made. MovesTo B.tells state.old.core m (given_of made) state.new.core) }
     ensures causes { IfOk result (λ made. HasCauses state.old state.new m (given_of made)) }
     ensures log_causes { IfOk result (λ made. HasLogCauses state.old state.new m (given_of made)) }
     ensures armings { IfOk result (λ made. HasArmings B.can_be_armed state.old state.new m (given_of made)) }
@@ -47,7 +47,7 @@ fn make_copy<B: Backend, S: Store>(
     m: &Move,
 ) -> Result<Made, NoMemory>
     requires { IsMet state.old.core m.now }
-    ensures made { IfOk result (λ made. MovesTo B.TELLS state.old.core m.now (given_of made) state.new.core) }
+    ensures made { IfOk result (λ made. MovesTo B.tells state.old.core m.now (given_of made) state.new.core) }
     ensures causes { IfOk result (λ made. HasCauses state.old state.new m.now (given_of made)) }
     ensures log_causes { IfOk result (λ made. HasLogCauses state.old state.new m.now (given_of made)) }
     ensures armings { IfOk result (λ made. HasArmings B.can_be_armed state.old state.new m.now (given_of made)) }
@@ -68,7 +68,7 @@ pub fn run<B: Backend, S: Store>(
 ) -> Result<MovedList, NoMemory>
     requires are { All (IsMoveOfCluster state.old.core.placement.backends) moves.now }
     requires count { CanCountRequests state.old.core (length moves.now) }
-    ensures runs { MatchResult result (λ made. HasRun B.TELLS B.can_be_armed state.old moves.now (map given_of made) state.new) (λ _. HasRunInPart B.TELLS B.can_be_armed state.old moves.now state.new) }
+    ensures runs { MatchResult result (λ made. HasRun B.tells B.can_be_armed state.old moves.now (map given_of made) state.new) (λ _. HasRunInPart B.tells B.can_be_armed state.old moves.now state.new) }
     ensures longer { IsPrefix state.old.core.history state.new.core.history }
     ensures legal { IsLegal state.new.core.history }
     ensures setup { state.new.setup ≡ state.old.setup }

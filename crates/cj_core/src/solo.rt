@@ -122,7 +122,7 @@ impl<B: Backend, S: Store> World<B, S> {
         requires short { length user.now ≤ USER_LIMIT }
         requires written { IsWritten (request_of act) }
         requires fits { FitsTx (moves.open_tx self.old.core s) tx act }
-        ensures turn { WorldTurn B.TELLS s self.old (call_of self.old.core s tx user.now (request_of act) result.reply) self.new }
+        ensures turn { WorldTurn B.tells s self.old (call_of self.old.core s tx user.now (request_of act) result.reply) self.new }
         ensures entry { (failed : List ℕ) × AddsEntry result.number s (call_of self.old.core s tx user.now (request_of act) result.reply) act failed self.old.core.history self.new.core.history }
         ensures cache { CacheFollowsLog self.old self.new }
     {
@@ -134,7 +134,7 @@ impl<B: Backend, S: Store> World<B, S> {
         requires counts { (session_at self.old.core s).queries < REQUEST_LIMIT }
         requires written { IsWritten (requests.Select select.now) }
         requires tx { (tx ≡ 0) ⊎ (tx ≡ moves.open_tx self.old.core s) }
-        ensures turn { WorldTurn B.TELLS s self.old (call_of self.old.core s tx user.now (requests.Select select.now) result) self.new }
+        ensures turn { WorldTurn B.tells s self.old (call_of self.old.core s tx user.now (requests.Select select.now) result) self.new }
         ensures cache { ReadsWithCache select.now self.old (call_of self.old.core s tx user.now (requests.Select select.now) result) self.new }
     {
         serve_read(&mut self.state, s, user, tx, select)
@@ -164,7 +164,7 @@ impl<B: Backend, S: Store> Solo<B, S> {
     pub fn step(&mut self, m: Move) -> Result<Moved, MoveError>
         requires met { IsMet self.old.world.core m }
         requires sessions { IsMoveOfNoSession m }
-        ensures moves { MovesTo B.TELLS self.old.world.core m result self.new.world.core }
+        ensures moves { MovesTo B.tells self.old.world.core m result self.new.world.core }
         ensures causes { HasCauses self.old.world self.new.world m result }
         ensures log_causes { HasLogCauses self.old.world self.new.world m result }
         ensures armings { HasArmings B.can_be_armed self.old.world self.new.world m result }
@@ -180,11 +180,11 @@ impl<B: Backend, S: Store> Solo<B, S> {
 }
 
 impl<R, B: Backend, S: Store> Desk<R> for Solo<B, S> {
-    ghost tells = { B.TELLS };
+    ghost tells = { B.tells };
 
     ghost state_of = { desk_of };
 
-    ghost leads_to = { SoloSteps B.TELLS };
+    ghost leads_to = { SoloSteps B.tells };
 
     ghost promised = { λ a z x h. h.0 };
 

@@ -46,7 +46,7 @@ fn keep<B: Backend, S: Store>(
     answer: &Asked,
 ) -> Result<(), NoMemory>
     requires possible { IsAsked answer.now }
-    requires right { B.TELLS ≡ true → answer.now ≡ ask (database_of (log state.old.core.history)) tx select.now }
+    requires right { B.tells ≡ true → answer.now ≡ ask (database_of (log state.old.core.history)) tx select.now }
     ensures ok { OnOk result (state.new ≡ with_cache state.old (cache_answered tx select.now (moves.last_number state.old.core) (asked_reply answer.now) state.old.cache)) }
     ensures err { OnErr result (state.new ≡ state.old) }
 {
@@ -80,7 +80,7 @@ fn attempt<B: Backend, S: Store>(
     requires serves { CanServe state.old.core.placement state.old.core.history (requests.Select select.now) b }
     requires counts { (session_at state.old.core s).queries < REQUEST_LIMIT }
     requires written { IsWritten (requests.Select select.now) }
-    ensures came { AttemptsQuery B.TELLS s b tx select.now state.old result state.new }
+    ensures came { AttemptsQuery B.tells s b tx select.now state.old result state.new }
     ensures logins { AreCalledFor (accounts_of state.old) user.now (logins_of state.old.cells) (logins_of state.new.cells) }
     ensures setup { state.new.setup ≡ state.old.setup }
     ensures recovery_log { state.new.recovery_log ≡ state.old.recovery_log }
@@ -151,7 +151,7 @@ fn ask_in_turn<B: Backend, S: Store>(
     requires serving { IsServingMask state.old.core select.now serving }
     requires below { serving < 2 ^ BACKEND_LIMIT }
     requires some { serving ≢ 0 }
-    ensures turn { WorldTurn B.TELLS s state.old (call_of state.old.core s tx user.now (requests.Select select.now) result) state.new }
+    ensures turn { WorldTurn B.tells s state.old (call_of state.old.core s tx user.now (requests.Select select.now) result) state.new }
     ensures cache { state.new.cache ≡ cache_answered tx select.now (moves.last_number state.old.core) result state.old.cache }
 {
     state.legal();
@@ -186,7 +186,7 @@ pub fn serve_read<B: Backend, S: Store>(
     requires counts { (session_at state.old.core s).queries < REQUEST_LIMIT }
     requires written { IsWritten (requests.Select select.now) }
     requires tx { (tx ≡ 0) ⊎ (tx ≡ moves.open_tx state.old.core s) }
-    ensures turn { WorldTurn B.TELLS s state.old (call_of state.old.core s tx user.now (requests.Select select.now) result) state.new }
+    ensures turn { WorldTurn B.tells s state.old (call_of state.old.core s tx user.now (requests.Select select.now) result) state.new }
     ensures cache { ReadsWithCache select.now state.old (call_of state.old.core s tx user.now (requests.Select select.now) result) state.new }
 {
     state.legal();

@@ -68,7 +68,7 @@ fn take_everywhere<B: Backend, S: Store>(state: &mut State<B, S>)
 fn finish<B: Backend, S: Store>(state: &mut State<B, S>, s: u64) -> Reply
     requires open { is_idle state.old.core.history ≡ false }
     requires waits { moves.is_waiting state.old.core s ≡ true }
-    ensures { EntryEnded B.TELLS s (open_user state.old.core) state.old result state.new }
+    ensures { EntryEnded B.tells s (open_user state.old.core) state.old result state.new }
 {
     take_everywhere(state);
     let reply = state.reply();
@@ -125,7 +125,7 @@ pub fn serve_write<B: Backend, S: Store>(
     requires short { length user.now ≤ USER_LIMIT }
     requires written { IsWritten (request_of act) }
     requires fits { FitsTx (moves.open_tx state.old.core s) tx act }
-    ensures turn { WorldTurn B.TELLS s state.old (call_of state.old.core s tx user.now (request_of act) result.reply) state.new }
+    ensures turn { WorldTurn B.tells s state.old (call_of state.old.core s tx user.now (request_of act) result.reply) state.new }
     ensures entry { (failed : List ℕ) × AddsEntry result.number s (call_of state.old.core s tx user.now (request_of act) result.reply) act failed state.old.core.history state.new.core.history }
     ensures cache { CacheFollowsLog state.old state.new }
 {

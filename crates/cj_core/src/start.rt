@@ -53,7 +53,7 @@ fn cells_of<B: Backend + Drop>(
 ) -> Result<Vec<Cell<B>>, NoMemory>
     requires as_many { length backends.old.items ≡ length placement.now.names }
     requires none { HaveBegunNone (map B.begun backends.old.items) }
-    requires nothing { AreEmpty B.TELLS (map B.told backends.old.items) }
+    requires nothing { AreEmpty B.tells (map B.told backends.old.items) }
     requires seats { (length seats.items ≡ length backends.old.items) × AreNewCells (board_id board.now) 0 seats.items }
     ensures few { OnOk result (length placement.now.names ≤ BACKEND_LIMIT) }
     ensures empty { OnOk result (backends.new.items ≡ []) }
@@ -94,12 +94,12 @@ fn seat_all<B: Backend + Drop>(
 ) -> Result<Seated<B>, NoMemory>
     requires as_many { length backends ≡ length placement.now.names }
     requires none { HaveBegunNone (map B.begun backends) }
-    requires nothing { AreEmpty B.TELLS (map B.told backends) }
+    requires nothing { AreEmpty B.tells (map B.told backends) }
     ensures few { OnOk result (length placement.now.names ≤ BACKEND_LIMIT) }
     ensures at { IfOk result (λ s. AreAt (board_id s.board) (pass_board s.pass) (book_board s.book_seat) s.cells.items) }
     ensures unseen { IfOk result (λ s. ((book_view s.book_seat).front ≡ []) × ((book_view s.book_seat).given ≡ [])) }
     ensures fresh { IfOk result (λ s. AreFresh (placement_of placement.now) (states_of s.cells.items)) }
-    ensures empty { IfOk result (λ s. AreEmpty B.TELLS (map (λ (x : CellState). x.told) (states_of s.cells.items))) }
+    ensures empty { IfOk result (λ s. AreEmpty B.tells (map (λ (x : CellState). x.told) (states_of s.cells.items))) }
     ensures same { IfOk result (λ s. map backend_of (states_of s.cells.items) ≡ map (state_by B.told B.faults B.asks B.login B.arming) backends) }
     ensures none { IfOk result (λ s. (s.sessions ≡ []) × (s.dumps ≡ [])) }
 {
@@ -166,15 +166,15 @@ impl<B: Backend + Drop, S: Store + Drop> World<B, S> {
     ) -> Result<World<B, S>, (StartError, S)>
         requires as_many { length backends ≡ length parts.book.placement.names }
         requires registered { parts.accounts.backends ≡ length parts.book.placement.names }
-        requires empty { AreEmpty B.TELLS (map B.told backends) }
+        requires empty { AreEmpty B.tells (map B.told backends) }
         requires none { HaveBegunNone (map B.begun backends) }
-        requires disk { S.TELLS ≡ true → Only (S.held log) (S.may log) }
+        requires disk { S.tells ≡ true → Only (S.held log) (S.may log) }
         requires cache { parts.book.cache ≡ empty_cache parts.book.cache.capacity }
-        ensures started { IfOk result (StartsFrom (λ items. S.TELLS ≡ true → KeepsItems (S.held log) items) (placement_of parts.book.placement) (map (state_by B.told B.faults B.asks B.login B.arming) backends)) }
+        ensures started { IfOk result (StartsFrom (λ items. S.tells ≡ true → KeepsItems (S.held log) items) (placement_of parts.book.placement) (map (state_by B.told B.faults B.asks B.login B.arming) backends)) }
         ensures setup { IfOk result (λ world. world.setup ≡ record { names = parts.book.placement.names; register = parts.accounts }) }
         ensures cache { IfOk result (λ world. world.cache ≡ parts.book.cache) }
-        ensures kept { S.TELLS ≡ true → IfOk result (λ world. KeepsItems world.recovery_log.bytes (items_of world.core.history)) }
-        ensures bytes { S.TELLS ≡ true → RefusesBytes S.held (S.held log) result }
+        ensures kept { S.tells ≡ true → IfOk result (λ world. KeepsItems world.recovery_log.bytes (items_of world.core.history)) }
+        ensures bytes { S.tells ≡ true → RefusesBytes S.held (S.held log) result }
         ensures cause { CountsFaultOfStart S.faults (S.faults log) result }
     {
         let Parts { book, accounts } = parts;
@@ -213,8 +213,8 @@ impl<B: Backend + Drop, S: Store + Drop> World<B, S> {
     pub fn into_backends(self) -> Backends<B>
         ensures same { map (state_by B.told B.faults B.asks B.login B.arming) result ≡ map backend_of self.cells }
         ensures begun { KeepEachBegun self.cells (map B.begun result) }
-        ensures holding { AreHolding B.TELLS self.core (map B.told result) }
-        ensures current { AreCurrent B.TELLS self.core (map B.told result) }
+        ensures holding { AreHolding B.tells self.core (map B.told result) }
+        ensures current { AreCurrent B.tells self.core (map B.told result) }
     {
         let World { state, emptied } = self;
         ListOf::from_vec(backends_of(state.into_cells(), emptied.into_vec()))

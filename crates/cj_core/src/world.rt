@@ -59,9 +59,9 @@ impl<B: Backend, S: Store> Model for World<B, S> {
 impl<B: Backend, S: Store> World<B, S> {
     /// Shows what holds of every world.
     pub fn legal(&self)
-        ensures world { IsWorld B.TELLS self.now }
-        ensures logged { S.TELLS ≡ true → KeepsHistory self.now }
-        ensures fresh { IsFresh B.TELLS self.now }
+        ensures world { IsWorld B.tells self.now }
+        ensures logged { S.tells ≡ true → KeepsHistory self.now }
+        ensures fresh { IsFresh B.tells self.now }
     {
         self.state.legal();
     }
@@ -107,7 +107,7 @@ impl<B: Backend, S: Store> World<B, S> {
     /// maybe the log's bytes behind its items; where it is the backend's that takes an entry, the move says so and the backend is out.
     pub fn step(&mut self, m: Move) -> Result<Moved, MoveError>
         requires { IsMet self.old.core m }
-        ensures moves { MovesTo B.TELLS self.old.core m result self.new.core }
+        ensures moves { MovesTo B.tells self.old.core m result self.new.core }
         ensures causes { HasCauses self.old self.new m result }
         ensures log_causes { HasLogCauses self.old self.new m result }
         ensures armings { HasArmings B.can_be_armed self.old self.new m result }
@@ -123,7 +123,7 @@ impl<B: Backend, S: Store> World<B, S> {
     /// Makes a move, or answers why it can't be made now. Want of memory changes nothing but maybe the log's bytes behind its items.
     pub fn make(&mut self, m: Move) -> Result<Made, NoMemory>
         requires { IsMet self.old.core m }
-        ensures made { IfOk result (λ made. MovesTo B.TELLS self.old.core m (given_of made) self.new.core) }
+        ensures made { IfOk result (λ made. MovesTo B.tells self.old.core m (given_of made) self.new.core) }
         ensures causes { IfOk result (λ made. HasCauses self.old self.new m (given_of made)) }
         ensures log_causes { IfOk result (λ made. HasLogCauses self.old self.new m (given_of made)) }
         ensures armings { IfOk result (λ made. HasArmings B.can_be_armed self.old self.new m (given_of made)) }
@@ -140,7 +140,7 @@ impl<B: Backend, S: Store> World<B, S> {
     pub fn run(&mut self, moves: &Moves) -> Result<MovedList, NoMemory>
         requires are { All (IsMoveOfCluster self.old.core.placement.backends) moves.now }
         requires count { CanCountRequests self.old.core (length moves.now) }
-        ensures runs { MatchResult result (λ made. HasRun B.TELLS B.can_be_armed self.old moves.now (map given_of made) self.new) (λ _. HasRunInPart B.TELLS B.can_be_armed self.old moves.now self.new) }
+        ensures runs { MatchResult result (λ made. HasRun B.tells B.can_be_armed self.old moves.now (map given_of made) self.new) (λ _. HasRunInPart B.tells B.can_be_armed self.old moves.now self.new) }
         ensures longer { IsPrefix self.old.core.history self.new.core.history }
         ensures legal { IsLegal self.new.core.history }
         ensures setup { self.new.setup ≡ self.old.setup }
@@ -152,7 +152,7 @@ impl<B: Backend, S: Store> World<B, S> {
     /// rows, and one for each row. Asks each enabled backend for its contents, and stops at the first that fails.
     pub fn audit(&mut self) -> Result<Text, AuditError>
         requires { is_idle self.old.core.history ≡ true }
-        ensures text { IfOk result (λ text. B.TELLS ≡ true → text ≡ audit_text self.old.setup.names self.old.core) }
+        ensures text { IfOk result (λ text. B.tells ≡ true → text ≡ audit_text self.old.setup.names self.old.core) }
         ensures same { failed_audit result ≡ None → self.new ≡ self.old }
         ensures faults { faults_of self.new.cells ≡ faults_after (faults_of self.old.cells) (failed_audit result) }
         ensures enabled { (b : ℕ) → IsErrOf result (AuditError.Fault b) → histories.is_enabled self.old.core.history b ≡ true }

@@ -109,13 +109,9 @@ impl<R: Files<File = File>> FileStore<R> {
 impl<R: Files<File = File>> Store for FileStore<R> {
     ghost use Rattle.cj_outside.specs.Stores.{no_moment, no_image, no_past};
 
-    const TELLS: bool = false;
+    ghost tells = { false };
 
-    ghost TELLS = { false };
-
-    const DISK: bool = false;
-
-    ghost DISK = { false };
+    ghost has_disk = { false };
 
     ghost held = { λ _. [] };
 

@@ -136,7 +136,7 @@ module _ {B : Type 0} (g : Ghosts B) (old : B) where
     pub arming : SpendsArming (g.arming old) (g.arming new) result
 
   pub record PassesLoad (db : List Slot) (result : Result Unit BackendError) (new : B) : Type 0 where
-    pub told : g.told new ≡ told_loaded g.TELLS db result
+    pub told : g.told new ≡ told_loaded g.tells db result
     pub cause : HasBackendCause (g.faults old) (g.faults new) result
     pub login : g.login new ≡ g.login old
     pub begun : g.begun new ≡ begun_loaded (g.begun old) db result

@@ -116,9 +116,7 @@ impl<B: Backend> Backend for Flaky<B> {
     ghost use Rattle.cj_backend.specs.Backends.{HasBackendCause, SaysOutcome, SaysAnswer, told_after, LogsIn, LogsInToAsk, IsBegun, begun_with, begun_without, told_loaded, begun_loaded, asks_after, SpendsArming};
     ghost use Rattle.cj_flaky.specs.FlakyBackends.{CallsAsListed, ChangesAsListed, LoadsAsListed, PassesAsk, PassesBegin, PassesContents, PassesEnd, PassesLoad, PassesWrite, arming_of, faults_by, told_by};
 
-    const TELLS: bool = B::TELLS;
-
-    ghost TELLS = { B.TELLS };
+    ghost tells = { B.tells };
 
     ghost told = { λ f. told_by B.told f };
 
@@ -258,7 +256,7 @@ impl<B: Backend> Backend for Flaky<B> {
     /// The inner backend then holds what was loaded, whatever was not passed on to it before.
     fn load(&mut self, db: Db) -> Result<(), BackendError>
         requires { IsStorable db }
-        ensures told { told_by B.told self.new ≡ told_loaded B.TELLS db result }
+        ensures told { told_by B.told self.new ≡ told_loaded B.tells db result }
         ensures cause { HasBackendCause (faults_by B.faults self.old) (faults_by B.faults self.new) result }
         ensures login { B.login self.new.inner ≡ B.login self.old.inner }
         ensures begun { B.begun self.new.inner ≡ begun_loaded (B.begun self.old.inner) db result }

@@ -17,9 +17,7 @@ impl Backend for AnyBackend {
     ghost use Rattle.cj_lite.specs.AnyBackends.{asks_of, begun_of, faults_of, login_of};
     ghost use Rattle.cj_lite.specs.LiteBackends.{never_armed, untold};
 
-    const TELLS: bool = false;
-
-    ghost TELLS = { false };
+    ghost tells = { false };
 
     ghost told = { λ _. untold };
 

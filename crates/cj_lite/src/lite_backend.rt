@@ -104,9 +104,7 @@ impl Backend for LiteBackend {
     ghost use Rattle.std.specs.Prelude.{false};
     ghost use Rattle.cj_lite.specs.LiteBackends.{never_armed, untold};
 
-    const TELLS: bool = false;
-
-    ghost TELLS = { false };
+    ghost tells = { false };
 
     ghost told = { λ _. untold };
 

@@ -29,9 +29,9 @@ fn read_items<S: Store>(
     records: &mut Records<S>,
 ) -> Result<Vec<LogItem>, RecordsError>
     requires { records.old.magic ≡ log_magic }
-    ensures items { S.TELLS ≡ true → ItemsOf records.old.list result }
+    ensures items { S.tells ≡ true → ItemsOf records.old.list result }
     ensures each { IfOk result (λ items. AllByRecursion IsItem items.items) }
-    ensures same { SameRecords S.TELLS S.held records.old records.new }
+    ensures same { SameRecords S.tells S.held records.old records.new }
     ensures cause { CountsFault (IsErrOf result RecordsError.Failed) (S.faults records.old.store) (S.faults records.new.store) }
 {
     records.legal();
@@ -75,7 +75,7 @@ impl<S: Store> Model for Log<S> {
 
     ghost view = { λ log. record { store = log.records.store; items = items_in log.records.list; torn = log.records.torn; refused = log.records.refused } };
 
-    ghost invariant = { λ log. AgreesWithRecords S.TELLS log.records (items_in log.records.list) };
+    ghost invariant = { λ log. AgreesWithRecords S.tells log.records (items_in log.records.list) };
 }
 
 impl<S: Store> Log<S> {
@@ -85,8 +85,8 @@ impl<S: Store> Log<S> {
     /// the bytes are no log. Refused, it hands the store back, in which nothing was written but the
     /// bytes of a new file.
     pub fn open(alloc: Global, store: S) -> Result<(Log<S>, LogItems), (RecordsError, S)>
-        requires { S.TELLS ≡ true → Only (S.held store) (S.may store) }
-        ensures bytes { S.TELLS ≡ true → log.Opens S.held (S.held store) result }
+        requires { S.tells ≡ true → Only (S.held store) (S.may store) }
+        ensures bytes { S.tells ≡ true → log.Opens S.held (S.held store) result }
         ensures each { IfOk result (λ opened. AllByRecursion IsItem opened.1) }
         ensures shut { IfOk result (λ opened. opened.0.torn ≡ false) }
         ensures cause { log.CountsOpenFault S.faults (S.faults store) result }
@@ -105,15 +105,15 @@ impl<S: Store> Log<S> {
     /// of the item is opened.
     pub fn append(&mut self, item: LogItem) -> Result<(), LogError>
         requires { CanAppend item }
-        ensures items { S.TELLS ≡ true → Adds self.old.items item self.new.items result }
-        ensures memory { S.TELLS ≡ true → IsErrOf result LogError.NoMemory → self.new.torn ≡ true → self.old.torn ≡ true }
+        ensures items { S.tells ≡ true → Adds self.old.items item self.new.items result }
+        ensures memory { S.tells ≡ true → IsErrOf result LogError.NoMemory → self.new.torn ≡ true → self.old.torn ≡ true }
         ensures cause { CountsFault (IsErrOf result LogError.Failed) (S.faults self.old.store) (S.faults self.new.store) }
 
         // A stop at any moment of the call leaves the items from before it, or one more; after `Ok` a stop
         // leaves the new list.
-        ensures any_moment { S.TELLS ≡ true → LeavesOnly S.moment S.since self.old.store self.new.store (log.IsBeforeOrAfter self.old item) }
-        ensures refused { S.TELLS ≡ true → log.Refuses self.old item self.new result }
-        ensures safe { S.TELLS ≡ true → OnOk result (log.LeavesItems (S.may self.new.store) self.new.items) }
+        ensures any_moment { S.tells ≡ true → LeavesOnly S.moment S.since self.old.store self.new.store (log.IsBeforeOrAfter self.old item) }
+        ensures refused { S.tells ≡ true → log.Refuses self.old item self.new result }
+        ensures safe { S.tells ≡ true → OnOk result (log.LeavesItems (S.may self.new.store) self.new.items) }
     {
         self.records.legal();
         legal_item(&item);
@@ -129,14 +129,14 @@ impl<S: Store> Log<S> {
     /// Shows what holds of all logs: the bytes, and what a stop leaves of them, keep these items; where
     /// an append was refused while it opened a gate, maybe that item too.
     pub fn legal(&self)
-        ensures each { S.TELLS ≡ true → AllByRecursion IsItem self.now.items }
-        ensures items { S.TELLS ≡ true → self.now.torn ≡ false → KeepsItems (S.held self.now.store) self.now.items }
-        ensures at_least { S.TELLS ≡ true → KeepsAtLeast (S.held self.now.store) self.now.items self.now.torn }
-        ensures safe { S.TELLS ≡ true → self.now.torn ≡ false → log.LeavesItems (S.may self.now.store) self.now.items }
+        ensures each { S.tells ≡ true → AllByRecursion IsItem self.now.items }
+        ensures items { S.tells ≡ true → self.now.torn ≡ false → KeepsItems (S.held self.now.store) self.now.items }
+        ensures at_least { S.tells ≡ true → KeepsAtLeast (S.held self.now.store) self.now.items self.now.torn }
+        ensures safe { S.tells ≡ true → self.now.torn ≡ false → log.LeavesItems (S.may self.now.store) self.now.items }
 
         // Between two calls a stop leaves these items, whatever is appended next, or them with the one that
         // was refused.
-        ensures now { S.TELLS ≡ true → (item : LogItem) → LeavesOnly S.moment S.since self.now.store self.now.store (log.IsBeforeOrAfter self.now item) }
+        ensures now { S.tells ≡ true → (item : LogItem) → LeavesOnly S.moment S.since self.now.store self.now.store (log.IsBeforeOrAfter self.now item) }
     {
         self.records.legal();
     }

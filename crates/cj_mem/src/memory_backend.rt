@@ -136,9 +136,7 @@ impl Backend for MemBackend {
     ghost use Rattle.cj_backend.specs.Backends.{HasBackendCause, SaysOutcome, SaysAnswer, told_after, LogsIn, LogsInToAsk, IsBegun, begun_with, begun_without, told_loaded, begun_loaded, asks_after, SpendsArming};
     ghost use Rattle.cj_mem.specs.MemoryBackends.{held_after, held_loaded, never_armed};
 
-    const TELLS: bool = true;
-
-    ghost TELLS = { true };
+    ghost tells = { true };
 
     ghost told = { λ b. b.told };
 

@@ -56,7 +56,7 @@ fn why_not_now<B: Backend, S: Store>(state: &State<B, S>, m: &Move) -> Option<Wh
 /// is the backend's that takes an entry, the move says so and the backend is out.
 pub fn step<B: Backend, S: Store>(state: &mut State<B, S>, m: Move) -> Result<Moved, MoveError>
     requires { IsMet state.old.core m }
-    ensures moves { MovesTo B.TELLS state.old.core m result state.new.core }
+    ensures moves { MovesTo B.tells state.old.core m result state.new.core }
     ensures causes { HasCauses state.old state.new m result }
     ensures log_causes { HasLogCauses state.old state.new m result }
     ensures armings { HasArmings B.can_be_armed state.old state.new m result }

@@ -32,7 +32,7 @@ pub fn not_now_apply<B: Backend, S: Store>(state: &State<B, S>, b: u8) -> Option
 pub fn apply<B: Backend, S: Store>(state: &mut State<B, S>, b: u8) -> Moved
     requires within { b < state.old.core.placement.backends }
     requires now { not_now state.old.core (Move.Apply b) ≡ None }
-    ensures moves { Applies B.TELLS state.old.core b (Ok result) state.new.core }
+    ensures moves { Applies B.tells state.old.core b (Ok result) state.new.core }
     ensures causes { HasCauses state.old state.new (Move.Apply b) (Ok result) }
     ensures logins { HasLogins state.old state.new (Move.Apply b) (Ok result) }
     ensures armings { armings_of state.new.cells ≡ armings_of state.old.cells }

@@ -24,7 +24,7 @@ pub fn not_now_end<B: Backend, S: Store>(state: &State<B, S>) -> Option<Why>
 
 pub fn end<B: Backend, S: Store>(state: &mut State<B, S>) -> Moved
     requires { not_now state.old.core Move.End ≡ None }
-    ensures moves { EndsEntry B.TELLS state.old.core (Ok result) state.new.core }
+    ensures moves { EndsEntry B.tells state.old.core (Ok result) state.new.core }
     ensures cells { state.new.cells ≡ state.old.cells }
     ensures setup { state.new.setup ≡ state.old.setup }
     ensures recovery_log { state.new.recovery_log ≡ state.old.recovery_log }

@@ -40,7 +40,7 @@ pub fn not_now_load<B: Backend, S: Store>(state: &State<B, S>, b: u8, name: &Nam
 pub fn load<B: Backend, S: Store>(state: &mut State<B, S>, b: u8, name: &Name) -> Moved
     requires within { b < state.old.core.placement.backends }
     requires now { not_now state.old.core (Move.Load b name.now) ≡ None }
-    ensures moves { Loads B.TELLS state.old.core b name.now (Ok result) state.new.core }
+    ensures moves { Loads B.tells state.old.core b name.now (Ok result) state.new.core }
     ensures causes { HasCauses state.old state.new (Move.Load b name.now) (Ok result) }
     ensures armings { armings_of state.new.cells ≡ armings_of state.old.cells }
     ensures logins { logins_of state.new.cells ≡ logins_of state.old.cells }

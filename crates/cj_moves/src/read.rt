@@ -45,7 +45,7 @@ pub fn read<B: Backend, S: Store>(
     requires now { not_now state.old.core (Move.Read s b select) ≡ None }
     requires written { IsWritten (requests.Select select) }
     requires counts { (session_at state.old.core s).queries < REQUEST_LIMIT }
-    ensures moves { AttemptsReadOrWaits B.TELLS state.old.core s b select result state.new.core }
+    ensures moves { AttemptsReadOrWaits B.tells state.old.core s b select result state.new.core }
     ensures causes { HasCauses state.old state.new (Move.Read s b select) result }
     ensures logins { HasLogins state.old state.new (Move.Read s b select) result }
     ensures armings { armings_of state.new.cells ≡ armings_of state.old.cells }

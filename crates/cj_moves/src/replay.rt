@@ -29,7 +29,7 @@ pub fn not_now_replay<B: Backend, S: Store>(state: &State<B, S>, b: u8) -> Optio
 pub fn replay<B: Backend, S: Store>(state: &mut State<B, S>, b: u8) -> Moved
     requires within { b < state.old.core.placement.backends }
     requires now { not_now state.old.core (Move.Replay b) ≡ None }
-    ensures moves { Replays B.TELLS state.old.core b (Ok result) state.new.core }
+    ensures moves { Replays B.tells state.old.core b (Ok result) state.new.core }
     ensures causes { HasCauses state.old state.new (Move.Replay b) (Ok result) }
     ensures logins { HasLogins state.old state.new (Move.Replay b) (Ok result) }
     ensures armings { armings_of state.new.cells ≡ armings_of state.old.cells }

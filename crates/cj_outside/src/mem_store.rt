@@ -69,13 +69,9 @@ impl MemStore {
 }
 
 impl Store for MemStore {
-    const TELLS: bool = true;
+    ghost tells = { true };
 
-    ghost TELLS = { true };
-
-    const DISK: bool = false;
-
-    ghost DISK = { false };
+    ghost has_disk = { false };
 
     ghost held = { λ s. s.bytes };
 

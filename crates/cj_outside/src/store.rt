@@ -19,14 +19,10 @@ pub trait Store {
     ghost use Rattle.cj_outside.specs.Stores.{TellsLength, ReadsAt, Writes, KeepsLimit, Torn, Only};
 
     /// Whether it tells the bytes that it holds.
-    const TELLS: bool;
-
-    ghost TELLS: { Bool };
+    ghost tells: { Bool };
 
     /// Whether it tells what a stop may leave of them.
-    const DISK: bool;
-
-    ghost DISK: { Bool };
+    ghost has_disk: { Bool };
 
     /// The bytes that it holds, where it tells them.
     ghost held: { Self → List ℕ };
@@ -46,8 +42,8 @@ pub trait Store {
     /// How many bytes it has.
     fn len(&mut self) -> Result<u64, Failed>
         ensures limit { IfOk result (λ n. n ≤ most) }
-        ensures count { TELLS ≡ true → TellsLength (held self.old) result }
-        ensures bytes { TELLS ≡ true → held self.new ≡ held self.old }
+        ensures count { tells ≡ true → TellsLength (held self.old) result }
+        ensures bytes { tells ≡ true → held self.new ≡ held self.old }
         ensures cause { CountsFault (IsErr result) (faults self.old) (faults self.new) }
         ensures disk { Steps moment may since Stays self.old self.new };
 
@@ -56,8 +52,8 @@ pub trait Store {
     /// 0 with room in `buf` is the end, and comes exactly where no byte stands at `at`, if the object tells.
     fn read_at(&mut self, at: u64, buf: &mut [u8]) -> Result<usize, Failed>
         ensures bound { ReadsAtMost result buf.new }
-        ensures read { TELLS ≡ true → IfOk result (λ count. ReadsAt (held self.old) at buf.new count) }
-        ensures bytes { TELLS ≡ true → held self.new ≡ held self.old }
+        ensures read { tells ≡ true → IfOk result (λ count. ReadsAt (held self.old) at buf.new count) }
+        ensures bytes { tells ≡ true → held self.new ≡ held self.old }
         ensures cause { CountsFault (IsErr result) (faults self.old) (faults self.new) }
         ensures disk { Steps moment may since Stays self.old self.new };
 
@@ -66,22 +62,22 @@ pub trait Store {
     /// After a refusal those in the range may be any; the others are as they were. `NoMemory` comes only where the range passes the last byte, of an object that
     /// tells. A range that passes `MOST` is `Failed`.
     fn write_at(&mut self, at: u64, bytes: &[u8]) -> Result<(), OutError>
-        requires { TELLS ≡ true → at ≤ length (held self.old) }
+        requires { tells ≡ true → at ≤ length (held self.old) }
         ensures limit { KeepsLimit (at + length bytes.now) result }
-        ensures memory { IsErrOf result OutError.NoMemory → (TELLS ≡ true) × (length (held self.old) < at + length bytes.now) }
-        ensures bytes { TELLS ≡ true → Writes (held self.old) at bytes.now (held self.new) result }
+        ensures memory { IsErrOf result OutError.NoMemory → (tells ≡ true) × (length (held self.old) < at + length bytes.now) }
+        ensures bytes { tells ≡ true → Writes (held self.old) at bytes.now (held self.new) result }
         ensures cause { CountsFault (IsErrOf result OutError.Failed) (faults self.old) (faults self.new) }
         ensures disk { Steps moment may since (Torn at (length bytes.now)) self.old self.new };
 
     /// Makes what was written safe: a stop afterwards leaves it.
     fn sync(&mut self) -> Result<(), Failed>
-        ensures bytes { TELLS ≡ true → held self.new ≡ held self.old }
+        ensures bytes { tells ≡ true → held self.new ≡ held self.old }
         ensures cause { CountsFault (IsErr result) (faults self.old) (faults self.new) }
         ensures disk { Steps moment may since Stays self.old self.new }
         ensures safe { OnOk result (Only (held self.new) (may self.new)) };
 
     /// The bytes as they are may be left.
-    ghost stands: { (store : Self) → DISK ≡ true → may store (held store) };
+    ghost stands: { (store : Self) → has_disk ≡ true → may store (held store) };
 
     /// This moment is one of those since an earlier one.
     ghost counts_now: { (store : Self) (t : ℕ) (image : List ℕ) → t ≤ moment store → may store image → since store t image };
@@ -133,9 +129,9 @@ impl From<AllocError> for StoreReadError {
 /// It asks for the length first, and reads no more than that many bytes. A store that doesn't tell may come to its end sooner: the bytes up to there are answered.
 /// On an error those that were read are lost.
 pub fn read_store<S: Store>(alloc: Global, store: &mut S) -> Result<Vec<u8>, StoreReadError>
-    ensures whole { S.TELLS ≡ true → IfOk result (λ bytes. bytes.items ≡ S.held store.old) }
+    ensures whole { S.tells ≡ true → IfOk result (λ bytes. bytes.items ≡ S.held store.old) }
     ensures limit { IfOk result (λ bytes. length bytes.items ≤ most) }
-    ensures bytes { S.TELLS ≡ true → S.held store.new ≡ S.held store.old }
+    ensures bytes { S.tells ≡ true → S.held store.new ≡ S.held store.old }
     ensures cause { CountsFault (IsErrOf result StoreReadError.Failed) (S.faults store.old) (S.faults store.new) }
     ensures disk { Steps S.moment S.may S.since Stays store.old store.new }
 {

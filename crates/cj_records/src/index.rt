@@ -39,13 +39,13 @@ fn walk<S: Store>(
 ) -> Result<Index, RecordsError>
     requires limit { size ≤ most }
     requires long { 4 ≤ size }
-    requires size { S.TELLS ≡ true → size ≡ length (S.held store.old) }
-    requires magic { S.TELLS ≡ true → take 4 (S.held store.old) ≡ magic.now }
-    requires shown { S.TELLS ≡ true → ShowsPart (S.held store.old) window.old.from window.old.bytes }
+    requires size { S.tells ≡ true → size ≡ length (S.held store.old) }
+    requires magic { S.tells ≡ true → take 4 (S.held store.old) ≡ magic.now }
+    requires shown { S.tells ≡ true → ShowsPart (S.held store.old) window.old.from window.old.bytes }
     ensures within { IfOk result (λ index. AllWithin index.end index.places.items × (index.end ≤ size)) }
-    ensures records { S.TELLS ≡ true → Walks magic.now (S.held store.old) result }
-    ensures shown { S.TELLS ≡ true → ShowsPart (S.held store.old) window.new.from window.new.bytes }
-    ensures bytes { S.TELLS ≡ true → S.held store.new ≡ S.held store.old }
+    ensures records { S.tells ≡ true → Walks magic.now (S.held store.old) result }
+    ensures shown { S.tells ≡ true → ShowsPart (S.held store.old) window.new.from window.new.bytes }
+    ensures bytes { S.tells ≡ true → S.held store.new ≡ S.held store.old }
     ensures cause { CountsFault (IsErrOf result RecordsError.Failed) (S.faults store.old) (S.faults store.new) }
     ensures disk { Steps S.moment S.may S.since Stays store.old store.new }
 {
@@ -66,8 +66,8 @@ fn walk<S: Store>(
 
 /// Writes a new file without records.
 fn begin<S: Store>(store: &mut S, magic: &[u8; 4]) -> Result<(), OutError>
-    requires { S.TELLS ≡ true → length (S.held store.old) ≤ 5 }
-    ensures bytes { S.TELLS ≡ true → Begins magic.now (S.held store.new) result }
+    requires { S.tells ≡ true → length (S.held store.old) ≤ 5 }
+    ensures bytes { S.tells ≡ true → Begins magic.now (S.held store.new) result }
     ensures cause { CountsFault (IsErrOf result OutError.Failed) (S.faults store.old) (S.faults store.new) }
     ensures disk { Steps S.moment S.may S.since (Torn 0 5) store.old store.new }
     ensures safe { OnOk result (Only (S.held store.new) (S.may store.new)) }
@@ -84,10 +84,10 @@ pub fn read_index<S: Store>(
 ) -> Result<Index, RecordsError>
     requires { window.old.bytes ≡ [] }
     ensures within { IfOk result (λ index. AllWithin index.end index.places.items × (index.end ≤ most)) }
-    ensures records { S.TELLS ≡ true → Indexes magic.now (S.held store.old) (S.held store.new) result }
-    ensures shown { S.TELLS ≡ true → OnOk result (ShowsPart (S.held store.new) window.new.from window.new.bytes) }
+    ensures records { S.tells ≡ true → Indexes magic.now (S.held store.old) (S.held store.new) result }
+    ensures shown { S.tells ≡ true → OnOk result (ShowsPart (S.held store.new) window.new.from window.new.bytes) }
     ensures cause { CountsFault (IsErrOf result RecordsError.Failed) (S.faults store.old) (S.faults store.new) }
-    ensures safe { S.TELLS ≡ true → Only (S.held store.old) (S.may store.old) → OnOk result (Only (S.held store.new) (S.may store.new)) }
+    ensures safe { S.tells ≡ true → Only (S.held store.old) (S.may store.old) → OnOk result (Only (S.held store.new) (S.may store.new)) }
 {
     let size = store.len()?;
     if size <= NEW {

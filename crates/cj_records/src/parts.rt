@@ -13,8 +13,8 @@ pub fn fill<S: Store>(store: &mut S, at: u64, buf: &mut [u8]) -> Result<usize, F
     requires at { at ≤ most }
     requires len { length buf.old ≤ most }
     ensures bound { IfOk result (λ count. count ≤ length buf.new) }
-    ensures read { S.TELLS ≡ true → Fills (S.held store.old) at buf.new result }
-    ensures bytes { S.TELLS ≡ true → S.held store.new ≡ S.held store.old }
+    ensures read { S.tells ≡ true → Fills (S.held store.old) at buf.new result }
+    ensures bytes { S.tells ≡ true → S.held store.new ≡ S.held store.old }
     ensures cause { CountsFault (IsErr result) (S.faults store.old) (S.faults store.new) }
     ensures disk { Steps S.moment S.may S.since Stays store.old store.new }
 {
@@ -31,10 +31,10 @@ pub fn fill<S: Store>(store: &mut S, at: u64, buf: &mut [u8]) -> Result<usize, F
 
 /// Writes the bytes from `at` on, and makes them safe.
 pub fn write_synced<S: Store>(store: &mut S, at: u64, bytes: &[u8]) -> Result<(), OutError>
-    requires { S.TELLS ≡ true → at ≤ length (S.held store.old) }
+    requires { S.tells ≡ true → at ≤ length (S.held store.old) }
     ensures limit { KeepsLimit (at + length bytes.now) result }
-    ensures memory { IsErrOf result OutError.NoMemory → (S.TELLS ≡ true) × (length (S.held store.old) < at + length bytes.now) }
-    ensures bytes { S.TELLS ≡ true → Writes (S.held store.old) at bytes.now (S.held store.new) result }
+    ensures memory { IsErrOf result OutError.NoMemory → (S.tells ≡ true) × (length (S.held store.old) < at + length bytes.now) }
+    ensures bytes { S.tells ≡ true → Writes (S.held store.old) at bytes.now (S.held store.new) result }
     ensures cause { CountsFault (IsErrOf result OutError.Failed) (S.faults store.old) (S.faults store.new) }
     ensures disk { Steps S.moment S.may S.since (Torn at (length bytes.now)) store.old store.new }
     ensures safe { OnOk result (Only (S.held store.new) (S.may store.new)) }
@@ -49,10 +49,10 @@ pub fn write_synced<S: Store>(store: &mut S, at: u64, bytes: &[u8]) -> Result<()
 /// Closes the gate at `end` where it is `torn`, which means that it may stand open.
 pub fn shut_gate<S: Store>(store: &mut S, end: u64, torn: &mut bool) -> Result<(), OutError>
     requires limit { end ≤ most }
-    requires gate { S.TELLS ≡ true → end < length (S.held store.old) }
+    requires gate { S.tells ≡ true → end < length (S.held store.old) }
     ensures memory { ¬ IsErrOf result OutError.NoMemory }
     ensures torn { OnOk result (torn.new ≡ false) }
-    ensures bytes { S.TELLS ≡ true → ShutsGate end (S.held store.old) torn.old (S.held store.new) torn.new result }
+    ensures bytes { S.tells ≡ true → ShutsGate end (S.held store.old) torn.old (S.held store.new) torn.new result }
     ensures cause { CountsFault (IsErrOf result OutError.Failed) (S.faults store.old) (S.faults store.new) }
     ensures disk { Steps S.moment S.may S.since (Torn end 1) store.old store.new }
     ensures safe { OnOk result (torn.old ≡ true → Only (S.held store.new) (S.may store.new)) }
@@ -75,15 +75,15 @@ pub fn write_record<S: Store>(
     torn: &mut bool,
 ) -> Result<(), OutError>
     requires limit { end ≤ most }
-    requires gate { S.TELLS ≡ true → end < length (S.held store.old) }
+    requires gate { S.tells ≡ true → end < length (S.held store.old) }
     requires shut { torn.old ≡ false }
     ensures limit { OnOk result (end + 1 + length tail.now ≤ most) }
     ensures memory { IsErrOf result OutError.NoMemory → torn.new ≡ false }
     ensures torn { OnOk result (torn.new ≡ false) }
-    ensures bytes { S.TELLS ≡ true → WritesRecord end (S.held store.old) tail.now (S.held store.new) torn.new result }
+    ensures bytes { S.tells ≡ true → WritesRecord end (S.held store.old) tail.now (S.held store.new) torn.new result }
     ensures cause { CountsFault (IsErrOf result OutError.Failed) (S.faults store.old) (S.faults store.new) }
-    ensures images { S.TELLS ≡ true → RecordImages end tail.now (S.held store.old) (S.may store.old) torn.new (S.held store.new) (S.may store.new) result }
-    ensures since { S.TELLS ≡ true → RecordSince S.moment S.may S.since end tail.now (S.held store.old) store.old store.new }
+    ensures images { S.tells ≡ true → RecordImages end tail.now (S.held store.old) (S.may store.old) torn.new (S.held store.new) (S.may store.new) result }
+    ensures since { S.tells ≡ true → RecordSince S.moment S.may S.since end tail.now (S.held store.old) store.old store.new }
 {
     write_synced(store, end + 1, tail)?;
     *torn = true;

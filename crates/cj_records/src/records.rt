@@ -46,7 +46,7 @@ impl<S: Store> Model for Records<S> {
 
     ghost view = { λ r. record { store = r.store; magic = r.magic; list = bodies_at (S.held r.store) r.places.items; end = r.end; torn = r.torn; refused = body_behind (S.held r.store) r.end } };
 
-    ghost invariant = { λ r. AgreesWithStore S.TELLS (S.held r.store) r.magic r.places.items r.end r.torn r.window.from r.window.bytes × SurvivesStop S.TELLS (S.held r.store) (S.may r.store) r.magic r.places.items r.end r.torn };
+    ghost invariant = { λ r. AgreesWithStore S.tells (S.held r.store) r.magic r.places.items r.end r.torn r.window.from r.window.bytes × SurvivesStop S.tells (S.held r.store) (S.may r.store) r.magic r.places.items r.end r.torn };
 }
 
 /// What stands behind the gate of a record: the length of the body, the body, and a closed gate.
@@ -66,8 +66,8 @@ impl<S: Store> Records<S> {
     /// Refused, it hands the store back, in which nothing was written but the bytes of a new file.
     /// `BadRecord` comes exactly where the bytes are no record file with this magic.
     pub fn open(alloc: Global, store: S, magic: [u8; 4]) -> Result<Records<S>, (RecordsError, S)>
-        requires { S.TELLS ≡ true → Only (S.held store) (S.may store) }
-        ensures bytes { S.TELLS ≡ true → Opens S.held magic (S.held store) result }
+        requires { S.tells ≡ true → Only (S.held store) (S.may store) }
+        ensures bytes { S.tells ≡ true → Opens S.held magic (S.held store) result }
         ensures magic { IfOk result (λ records. records.magic ≡ magic) }
         ensures shut { IfOk result (λ records. records.torn ≡ false) }
         ensures cause { CountsOpenFault S.faults (S.faults store) result }
@@ -94,15 +94,15 @@ impl<S: Store> Records<S> {
     /// Shows what holds of all records: their bytes are a record file with this list, or with one body
     /// more where an append was refused while it opened a gate.
     pub fn legal(&self)
-        ensures list { S.TELLS ≡ true → self.now.torn ≡ false → Finds self.now.magic (S.held self.now.store) (Ok self.now.list) }
-        ensures at_least { S.TELLS ≡ true → KeepsAtLeast self.now (S.held self.now.store) }
-        ensures end { S.TELLS ≡ true → self.now.end ≡ length (front_bytes self.now.magic self.now.list) }
+        ensures list { S.tells ≡ true → self.now.torn ≡ false → Finds self.now.magic (S.held self.now.store) (Ok self.now.list) }
+        ensures at_least { S.tells ≡ true → KeepsAtLeast self.now (S.held self.now.store) }
+        ensures end { S.tells ≡ true → self.now.end ≡ length (front_bytes self.now.magic self.now.list) }
         ensures limit { self.now.end ≤ most }
-        ensures safe { S.TELLS ≡ true → self.now.torn ≡ false → LeavesList (S.may self.now.store) self.now.magic self.now.list }
+        ensures safe { S.tells ≡ true → self.now.torn ≡ false → LeavesList (S.may self.now.store) self.now.magic self.now.list }
 
         // Between two calls a stop leaves this list, whatever is appended next, or it with the body that was
         // refused.
-        ensures now { S.TELLS ≡ true → (body : List ℕ) → LeavesOnly S.moment S.since self.now.store self.now.store (IsBeforeOrAfter self.now body) }
+        ensures now { S.tells ≡ true → (body : List ℕ) → LeavesOnly S.moment S.since self.now.store self.now.store (IsBeforeOrAfter self.now body) }
     {
         let _ = &self.store;
     }
@@ -118,8 +118,8 @@ impl<S: Store> Records<S> {
     fn read_small(&mut self, place: Place) -> Result<Vec<u8>, RecordsError>
         requires piece { place.len ≤ PIECE }
         requires end { end_of place ≤ most }
-        ensures body { S.TELLS ≡ true → ReadsPart (S.held self.old.store) place result }
-        ensures same { SameRecords S.TELLS S.held self.old self.new }
+        ensures body { S.tells ≡ true → ReadsPart (S.held self.old.store) place result }
+        ensures same { SameRecords S.tells S.held self.old self.new }
         ensures cause { CountsFault (IsErrOf result RecordsError.Failed) (S.faults self.old.store) (S.faults self.new.store) }
         ensures disk { Steps S.moment S.may S.since Stays self.old.store self.new.store }
     {
@@ -135,8 +135,8 @@ impl<S: Store> Records<S> {
     /// Reads a long body past the window.
     fn read_large(&mut self, place: Place) -> Result<Vec<u8>, RecordsError>
         requires end { end_of place ≤ most }
-        ensures body { S.TELLS ≡ true → ReadsPart (S.held self.old.store) place result }
-        ensures same { SameRecords S.TELLS S.held self.old self.new }
+        ensures body { S.tells ≡ true → ReadsPart (S.held self.old.store) place result }
+        ensures same { SameRecords S.tells S.held self.old self.new }
         ensures cause { CountsFault (IsErrOf result RecordsError.Failed) (S.faults self.old.store) (S.faults self.new.store) }
         ensures disk { Steps S.moment S.may S.since Stays self.old.store self.new.store }
     {
@@ -153,8 +153,8 @@ impl<S: Store> Records<S> {
     /// `BadRecord` comes only over a store that tells nothing, where fewer bytes came back.
     pub fn read(&mut self, n: u64) -> Result<Vec<u8>, RecordsError>
         requires { n < length self.old.list }
-        ensures body { S.TELLS ≡ true → Reads self.old n result }
-        ensures same { SameRecords S.TELLS S.held self.old self.new }
+        ensures body { S.tells ≡ true → Reads self.old n result }
+        ensures same { SameRecords S.tells S.held self.old self.new }
         ensures cause { CountsFault (IsErrOf result RecordsError.Failed) (S.faults self.old.store) (S.faults self.new.store) }
         ensures disk { Steps S.moment S.may S.since Stays self.old.store self.new.store }
     {
@@ -171,16 +171,16 @@ impl<S: Store> Records<S> {
     /// Refused, it leaves the list and the offset of the next record. `NoMemory` comes only before
     /// the gate is opened.
     pub fn append(&mut self, body: &[u8]) -> Result<u64, RecordsError>
-        ensures list { S.TELLS ≡ true → Appends self.old body.now self.new result }
+        ensures list { S.tells ≡ true → Appends self.old body.now self.new result }
         ensures counts { CountsRecords self.old (length body.now) self.new result }
         ensures magic { self.new.magic ≡ self.old.magic }
         ensures cause { CountsFault (IsErrOf result RecordsError.Failed) (S.faults self.old.store) (S.faults self.new.store) }
 
         // A stop at any moment of the call leaves the list from before it, or one body more; after `Ok` a
         // stop leaves the new list.
-        ensures any_moment { S.TELLS ≡ true → LeavesOnly S.moment S.since self.old.store self.new.store (IsBeforeOrAfter self.old body.now) }
-        ensures safe { S.TELLS ≡ true → OnOk result (LeavesList (S.may self.new.store) self.new.magic self.new.list) }
-        ensures refused { S.TELLS ≡ true → Refuses self.old body.now self.new result }
+        ensures any_moment { S.tells ≡ true → LeavesOnly S.moment S.since self.old.store self.new.store (IsBeforeOrAfter self.old body.now) }
+        ensures safe { S.tells ≡ true → OnOk result (LeavesList (S.may self.new.store) self.new.magic self.new.list) }
+        ensures refused { S.tells ≡ true → Refuses self.old body.now self.new result }
     {
         let tail = tail_of(self.alloc, body)?;
         self.places.reserve(1)?;

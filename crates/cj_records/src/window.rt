@@ -57,9 +57,9 @@ impl Window {
     fn load<S: Store>(&mut self, store: &mut S, at: u64) -> Result<(), Failed>
         requires { at ≤ most }
         ensures from { self.new.from ≡ at }
-        ensures shown { S.TELLS ≡ true → OnOk result (self.new.bytes ≡ take PIECE (drop at (S.held store.old))) }
-        ensures part { S.TELLS ≡ true → ShowsPart (S.held store.old) self.new.from self.new.bytes }
-        ensures bytes { S.TELLS ≡ true → S.held store.new ≡ S.held store.old }
+        ensures shown { S.tells ≡ true → OnOk result (self.new.bytes ≡ take PIECE (drop at (S.held store.old))) }
+        ensures part { S.tells ≡ true → ShowsPart (S.held store.old) self.new.from self.new.bytes }
+        ensures bytes { S.tells ≡ true → S.held store.new ≡ S.held store.old }
         ensures cause { CountsFault (IsErr result) (S.faults store.old) (S.faults store.new) }
         ensures disk { Steps S.moment S.may S.since Stays store.old store.new }
     {
@@ -82,11 +82,11 @@ impl Window {
     pub fn show<S: Store>(&mut self, store: &mut S, at: u64, n: usize) -> Result<(), Failed>
         requires at { at ≤ most }
         requires n { n ≤ PIECE }
-        requires part { S.TELLS ≡ true → ShowsPart (S.held store.old) self.old.from self.old.bytes }
+        requires part { S.tells ≡ true → ShowsPart (S.held store.old) self.old.from self.old.bytes }
         ensures from { OnOk result (self.new.from ≤ at) }
-        ensures shown { S.TELLS ≡ true → OnOk result (take n (drop (at - self.new.from) self.new.bytes) ≡ take n (drop at (S.held store.old))) }
-        ensures part { S.TELLS ≡ true → ShowsPart (S.held store.old) self.new.from self.new.bytes }
-        ensures bytes { S.TELLS ≡ true → S.held store.new ≡ S.held store.old }
+        ensures shown { S.tells ≡ true → OnOk result (take n (drop (at - self.new.from) self.new.bytes) ≡ take n (drop at (S.held store.old))) }
+        ensures part { S.tells ≡ true → ShowsPart (S.held store.old) self.new.from self.new.bytes }
+        ensures bytes { S.tells ≡ true → S.held store.new ≡ S.held store.old }
         ensures cause { CountsFault (IsErr result) (S.faults store.old) (S.faults store.new) }
         ensures disk { Steps S.moment S.may S.since Stays store.old store.new }
     {

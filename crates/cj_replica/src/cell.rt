@@ -46,7 +46,7 @@ impl<B: Backend> Model for Cell<B> {
 
     ghost view = { λ c. record { state = c.replica; board = cell_board c.seat; view = cell_view c.seat; faults_before = c.faults_before } };
 
-    ghost invariant = { λ c. IsSeated B.TELLS (record { state = c.replica; board = cell_board c.seat; view = cell_view c.seat; faults_before = c.faults_before }) };
+    ghost invariant = { λ c. IsSeated B.tells (record { state = c.replica; board = cell_board c.seat; view = cell_view c.seat; faults_before = c.faults_before }) };
 }
 
 // The seat's steps, apart from the replica.
@@ -114,7 +114,7 @@ impl<B: Backend> Cell<B> {
     /// Backend `b` of the placement, which has taken no entry, at a seat that has seen none.
     pub fn new(alloc: Global, b: u8, placement: Placement, backend: B, seat: CellSeat) -> Cell<B>
         requires begun { B.begun backend ≡ [] }
-        requires empty { B.TELLS ≡ true → B.told backend ≡ Some [] }
+        requires empty { B.tells ≡ true → B.told backend ≡ Some [] }
         requires seat { cell_view seat ≡ new_view (role.Cell b 0) }
         ensures { result ≡ record { state = record { b = b; placement = placement_of placement; position = Some 0; begun = []; login = B.login backend; told = B.told backend; faults = B.faults backend; asks = B.asks backend; arming = B.arming backend }; board = cell_board seat; view = cell_view seat; faults_before = B.faults backend } }
     {
@@ -168,8 +168,8 @@ impl<B: Backend> Cell<B> {
         requires out { self.old.state.position ≡ None }
         requires storable { IsStorable db }
         requires within { position ≤ length (log self.old.view.front) }
-        requires right { B.TELLS ≡ true → db ≡ part self.old.state.placement self.old.state.b (database_after (log self.old.view.front) position) }
-        ensures state { Loads B.TELLS self.old.state db position result self.new.state }
+        requires right { B.tells ≡ true → db ≡ part self.old.state.placement self.old.state.b (database_after (log self.old.view.front) position) }
+        ensures state { Loads B.tells self.old.state db position result self.new.state }
         ensures seat { self.new.view ≡ view_after_load self.old.state.b position self.old.view result }
         ensures same { IsSameSeat self.old self.new }
     {
@@ -274,7 +274,7 @@ impl<B: Backend> Cell<B> {
 
     /// The seat says where the replica stands, which holds its part of what the seat has seen.
     pub fn legal(&self)
-        ensures { IsSeated B.TELLS self.now }
+        ensures { IsSeated B.tells self.now }
     {
         let _ = &self.seat;
     }

@@ -188,7 +188,7 @@ impl<B: Backend> Replica<B> {
     pub fn load(&mut self, db: Db, position: u64) -> Result<(), CellError>
         requires out { self.old.position ≡ None }
         requires storable { IsStorable db }
-        ensures { Loads B.TELLS self.old db position result self.new }
+        ensures { Loads B.tells self.old db position result self.new }
     {
         // The list comes before the backend: want of memory for it leaves the backend as it was.
         let begun = writers_of(*self.begun.allocator(), db.as_slice())?;

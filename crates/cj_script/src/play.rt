@@ -93,7 +93,7 @@ fn play_audit<B: Backend, S: Store, O: Sink>(
     world: &mut World<B, S>,
     output: &mut O,
 ) -> Result<(), ScriptEnd>
-    ensures plays { (number : ℕ) → PlaysOrEnds B.TELLS B.can_be_armed world.old.setup.names (O.held output.old) (O.held output.new) world.old audit_line number result world.new }
+    ensures plays { (number : ℕ) → PlaysOrEnds B.tells B.can_be_armed world.old.setup.names (O.held output.old) (O.held output.new) world.old audit_line number result world.new }
     ensures setup { world.new.setup ≡ world.old.setup }
     ensures cause { CountsFault (IsErrOf result ends.WriteFault) (O.faults output.old) (O.faults output.new) }
 {
@@ -121,7 +121,7 @@ fn play_line<B: Backend, S: Store, O: Sink>(
     output: &mut O,
 ) -> Result<(), ScriptEnd>
     requires { 2 ≤ length line.now → CanCountRequests world.old.core 1 }
-    ensures plays { PlaysOrEnds B.TELLS B.can_be_armed world.old.setup.names (O.held output.old) (O.held output.new) world.old line.now number result world.new }
+    ensures plays { PlaysOrEnds B.tells B.can_be_armed world.old.setup.names (O.held output.old) (O.held output.new) world.old line.now number result world.new }
     ensures setup { world.new.setup ≡ world.old.setup }
     ensures cause { CountsFault (IsErrOf result ends.WriteFault) (O.faults output.old) (O.faults output.new) }
 {
@@ -155,8 +155,8 @@ pub fn script<B: Backend, S: Store, I: Source, O: Sink>(
     output: &mut O,
 ) -> ScriptEnd
     requires { CanCountRequests world.old.core (2 ^ 61) }
-    ensures came { CameTo B.TELLS B.can_be_armed world.old.setup.names (I.left input.old) (I.left input.new) (O.held output.old) (O.held output.new) world.old result world.new }
-    ensures turns { InTurns B.TELLS world.old.setup.names (I.left input.old) (I.left input.new) (O.held output.old) (O.held output.new) world.old world.new }
+    ensures came { CameTo B.tells B.can_be_armed world.old.setup.names (I.left input.old) (I.left input.new) (O.held output.old) (O.held output.new) world.old result world.new }
+    ensures turns { InTurns B.tells world.old.setup.names (I.left input.old) (I.left input.new) (O.held output.old) (O.held output.new) world.old world.new }
     ensures setup { world.new.setup ≡ world.old.setup }
     ensures input { CountsFault (result ≡ ends.ReadFault) (I.faults input.old) (I.faults input.new) }
     ensures output { CountsFault (result ≡ ends.WriteFault) (O.faults output.old) (O.faults output.new) }

@@ -43,9 +43,9 @@ pub fn read_labels<D: Store>(
     records: &mut Records<D>,
 ) -> Result<Vec<Label>, ShelfError>
     requires { records.old.magic ≡ shelf_magic }
-    ensures labels { D.TELLS ≡ true → LabelsOf records.old.list result }
+    ensures labels { D.tells ≡ true → LabelsOf records.old.list result }
     ensures count { IfOk result (λ labels. length labels.items ≡ length records.old.list) }
-    ensures same { SameRecords D.TELLS D.held records.old records.new }
+    ensures same { SameRecords D.tells D.held records.old records.new }
     ensures cause { CountsFault (IsErrOf result ShelfError.Failed) (D.faults records.old.store) (D.faults records.new.store) }
 {
     records.legal();

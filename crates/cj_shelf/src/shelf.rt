@@ -39,7 +39,7 @@ impl<D: Store> Model for Shelf<D> {
 
     ghost view = { λ shelf. record { store = shelf.records.store; names = labelled shelf.labels.items; dumps = dumps_in shelf.records.list; torn = shelf.records.torn; refused = shelf.records.refused } };
 
-    ghost invariant = { λ shelf. AgreesWithRecords D.TELLS shelf.records shelf.labels.items };
+    ghost invariant = { λ shelf. AgreesWithRecords D.tells shelf.records shelf.labels.items };
 }
 
 impl<D: Store> Shelf<D> {
@@ -49,8 +49,8 @@ impl<D: Store> Shelf<D> {
     /// the bytes are no shelf. Refused, it hands the store back, in which nothing was written but the
     /// bytes of a new file.
     pub fn open(alloc: Global, store: D) -> Result<Shelf<D>, (ShelfError, D)>
-        requires { D.TELLS ≡ true → Only (D.held store) (D.may store) }
-        ensures bytes { D.TELLS ≡ true → shelves.Opens D.held (D.held store) result }
+        requires { D.tells ≡ true → Only (D.held store) (D.may store) }
+        ensures bytes { D.tells ≡ true → shelves.Opens D.held (D.held store) result }
         ensures shut { IfOk result (λ shelf. shelf.torn ≡ false) }
         ensures cause { shelves.CountsOpenFault D.faults (D.faults store) result }
     {
@@ -73,15 +73,15 @@ impl<D: Store> Shelf<D> {
     pub fn add(&mut self, d: &Dump) -> Result<(), ShelfError>
         requires { CanEncode d.now }
         ensures names { Adds self.old.names d.now.name self.new.names result }
-        ensures dumps { D.TELLS ≡ true → Adds self.old.dumps d.now self.new.dumps result }
-        ensures memory { D.TELLS ≡ true → IsErrOf result ShelfError.NoMemory → self.new.torn ≡ true → self.old.torn ≡ true }
+        ensures dumps { D.tells ≡ true → Adds self.old.dumps d.now self.new.dumps result }
+        ensures memory { D.tells ≡ true → IsErrOf result ShelfError.NoMemory → self.new.torn ≡ true → self.old.torn ≡ true }
         ensures cause { CountsFault (IsErrOf result ShelfError.Failed) (D.faults self.old.store) (D.faults self.new.store) }
 
         // A stop at any moment of the call leaves the dumps from before it, or one more; after `Ok` a stop
         // leaves the new list.
-        ensures any_moment { D.TELLS ≡ true → LeavesOnly D.moment D.since self.old.store self.new.store (shelves.IsBeforeOrAfter self.old d.now) }
-        ensures refused { D.TELLS ≡ true → shelves.Refuses self.old d.now self.new result }
-        ensures safe { D.TELLS ≡ true → OnOk result (shelves.LeavesDumps (D.may self.new.store) self.new.dumps) }
+        ensures any_moment { D.tells ≡ true → LeavesOnly D.moment D.since self.old.store self.new.store (shelves.IsBeforeOrAfter self.old d.now) }
+        ensures refused { D.tells ≡ true → shelves.Refuses self.old d.now self.new result }
+        ensures safe { D.tells ≡ true → OnOk result (shelves.LeavesDumps (D.may self.new.store) self.new.dumps) }
     {
         self.records.legal();
         if self.labels.reserve(1).is_err() {
@@ -97,15 +97,15 @@ impl<D: Store> Shelf<D> {
     /// Shows what holds of all shelves: the bytes, and what a stop leaves of them, keep these dumps; where
     /// a dump was refused while its gate was opened, maybe that one too.
     pub fn legal(&self)
-        ensures each { D.TELLS ≡ true → AllByRecursion IsDump self.now.dumps }
-        ensures names { D.TELLS ≡ true → self.now.names ≡ names_of self.now.dumps }
-        ensures dumps { D.TELLS ≡ true → self.now.torn ≡ false → KeepsDumps (D.held self.now.store) self.now.dumps }
-        ensures at_least { D.TELLS ≡ true → KeepsAtLeast (D.held self.now.store) self.now.dumps self.now.torn }
-        ensures safe { D.TELLS ≡ true → self.now.torn ≡ false → shelves.LeavesDumps (D.may self.now.store) self.now.dumps }
+        ensures each { D.tells ≡ true → AllByRecursion IsDump self.now.dumps }
+        ensures names { D.tells ≡ true → self.now.names ≡ names_of self.now.dumps }
+        ensures dumps { D.tells ≡ true → self.now.torn ≡ false → KeepsDumps (D.held self.now.store) self.now.dumps }
+        ensures at_least { D.tells ≡ true → KeepsAtLeast (D.held self.now.store) self.now.dumps self.now.torn }
+        ensures safe { D.tells ≡ true → self.now.torn ≡ false → shelves.LeavesDumps (D.may self.now.store) self.now.dumps }
 
         // Between two calls a stop leaves these dumps, whatever is added next, or them with the one that was
         // refused.
-        ensures now { D.TELLS ≡ true → (d : Dump) → LeavesOnly D.moment D.since self.now.store self.now.store (shelves.IsBeforeOrAfter self.now d) }
+        ensures now { D.tells ≡ true → (d : Dump) → LeavesOnly D.moment D.since self.now.store self.now.store (shelves.IsBeforeOrAfter self.now d) }
     {
         self.records.legal();
     }
@@ -123,10 +123,10 @@ impl<D: Store> Shelf<D> {
     /// longer that of a dump of the name.
     #[tactic(auto, using(crate::proofs::Looked::place_within, crate::proofs::Looked::place_tells))]
     pub fn find(&mut self, name: &Name) -> Result<Option<Dump>, ShelfError>
-        ensures first { D.TELLS ≡ true → GivesFirst name.now self.old.dumps result }
+        ensures first { D.tells ≡ true → GivesFirst name.now self.old.dumps result }
         ensures some { IfOk result (λ found. is_some found ≡ is_among name.now self.old.names) }
         ensures named { IfOk result (λ found. IfSome found (λ d. (d.name ≡ name.now) × IsDump d)) }
-        ensures same { SameShelf D.TELLS D.held self.old self.new }
+        ensures same { SameShelf D.tells D.held self.old self.new }
         ensures cause { CountsFault (IsErrOf result ShelfError.Failed) (D.faults self.old.store) (D.faults self.new.store) }
         ensures disk { Steps D.moment D.may D.since Stays self.old.store self.new.store }
     {

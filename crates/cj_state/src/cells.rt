@@ -126,13 +126,13 @@ pub fn take<B: Backend, S: Store>(
     accounts: &Accounts,
     b: u8,
 ) -> Did
-    requires can { CanTake B.TELLS book.old.state.layout book.old.state.history (states_of cells.old.items) b }
+    requires can { CanTake B.tells book.old.state.layout book.old.state.history (states_of cells.old.items) b }
     requires registered { b < accounts.now.backends }
     requires numbered { AreNumbered (states_of cells.old.items) }
     requires at { AreAt (board_id board.now) (pass_board pass.old) book.old.board cells.old.items }
     ensures at { AreAt (board_id board.now) (pass_board pass.new) book.new.board cells.new.items }
     ensures heard { HasHeard book.old book.new }
-    ensures took { TookEntry B.TELLS accounts.now.accounts book.old.state.layout book.old.state.history (states_of cells.old.items) b result (states_of cells.new.items) }
+    ensures took { TookEntry B.tells accounts.now.accounts book.old.state.layout book.old.state.history (states_of cells.old.items) b result (states_of cells.new.items) }
     ensures token { result ≡ Did.Failed → 0 < fault_tokens_of b book.new.view.fault_tokens }
 {
     tell(board, pass, book, cells, b);
@@ -148,12 +148,12 @@ fn catch_up_at<B: Backend, S: Store>(
     accounts: &Accounts,
     b: u8,
 ) -> Did
-    requires can { CanTake B.TELLS book.now.state.layout book.now.state.history (states_of cells.old.items) b }
+    requires can { CanTake B.tells book.now.state.layout book.now.state.history (states_of cells.old.items) b }
     requires registered { b < accounts.now.backends }
     requires at { AreCellsAt (board_id board.now) cells.old.items }
     requires told { (d : SeatedCell) → IsPrefix book.now.state.history (slice_index_or cells.old.items b d).view.front }
     ensures at { AreCellsAt (board_id board.now) cells.new.items }
-    ensures took { TookEntry B.TELLS accounts.now.accounts book.now.state.layout book.now.state.history (states_of cells.old.items) b result (states_of cells.new.items) }
+    ensures took { TookEntry B.tells accounts.now.accounts book.now.state.layout book.now.state.history (states_of cells.old.items) b result (states_of cells.new.items) }
     ensures token { result ≡ Did.Failed → (x : SeatedCell) → slice_get cells.new.items b ≡ Some x → 0 < fault_tokens_of b x.view.fault_tokens }
 {
     let next = place(cells[b as usize].position()) + 1;
@@ -228,10 +228,10 @@ pub fn load_at<B: Backend, S: Store>(
     requires out { (d : CellState) → (slice_index_or (states_of cells.old.items) b d).position ≡ None }
     requires storable { IsStorable db }
     requires logged { position ≤ length (log book.old.state.history) }
-    requires held { (d : CellState) → B.TELLS ≡ true → db ≡ part (slice_index_or (states_of cells.old.items) b d).placement (slice_index_or (states_of cells.old.items) b d).b (database_after (log book.old.state.history) position) }
+    requires held { (d : CellState) → B.tells ≡ true → db ≡ part (slice_index_or (states_of cells.old.items) b d).placement (slice_index_or (states_of cells.old.items) b d).b (database_after (log book.old.state.history) position) }
     ensures at { AreAt (board_id board.now) (pass_board pass.new) book.new.board cells.new.items }
     ensures heard { HasHeard book.old book.new }
-    ensures loaded { ChangesCell (states_of cells.old.items) b (λ x y. Loads B.TELLS x db position result y) (states_of cells.new.items) }
+    ensures loaded { ChangesCell (states_of cells.old.items) b (λ x y. Loads B.tells x db position result y) (states_of cells.new.items) }
 {
     tell(board, pass, book, cells, b);
     cells[b as usize].load(board, db, position)

@@ -106,7 +106,7 @@ impl<B: Backend, S: Store> Model for State<B, S> {
 
     ghost view = { λ w. with_cache (with_log (world_of w.accounts w.book.state.layout w.book.state.history (states_of w.cells.items) w.failed w.starved w.sessions w.book.state.greatest w.dumps) (log_view S.faults S.held w.book.state.recovery_log)) w.book.state.cache };
 
-    ghost invariant = { λ w. KeptSeated B.TELLS (world_of w.accounts w.book.state.layout w.book.state.history (states_of w.cells.items) w.failed w.starved w.sessions w.book.state.greatest w.dumps) w.book.state.sessions w.first_outcome w.book.state.cache w.dumps
+    ghost invariant = { λ w. KeptSeated B.tells (world_of w.accounts w.book.state.layout w.book.state.history (states_of w.cells.items) w.failed w.starved w.sessions w.book.state.greatest w.dumps) w.book.state.sessions w.first_outcome w.book.state.cache w.dumps
         (AreAt (board_id w.board) (pass_board w.pass) w.book.board w.cells.items × IsReady w.book.view w.failed) };
 }
 
@@ -184,7 +184,7 @@ impl<B: Backend + Drop, S: Store + Drop> State<B, S> {
         requires few { length book.state.layout.names ≤ BACKEND_LIMIT }
         requires registered { accounts.backends ≡ length book.state.layout.names }
         requires fresh { AreFresh (placement_of book.state.layout) (states_of cells.items) }
-        requires empty { AreEmpty B.TELLS (map (λ (x : CellState). x.told) (states_of cells.items)) }
+        requires empty { AreEmpty B.tells (map (λ (x : CellState). x.told) (states_of cells.items)) }
         requires cache { book.state.cache ≡ empty_cache book.state.cache.capacity }
         requires no_dump { dumps ≡ [] }
         requires at { AreAt (board_id board) (pass_board pass) book.board cells.items }
@@ -218,7 +218,7 @@ impl<B: Backend + Drop, S: Store + Drop> State<B, S> {
     pub fn into_cells(self) -> Vec<Cell<B>>
         ensures cells { states_of result.items ≡ self.cells }
         ensures few { length self.cells ≤ BACKEND_LIMIT }
-        ensures legal { IsWorld B.TELLS self }
+        ensures legal { IsWorld B.tells self }
     {
         let State { cells, .. } = self;
         cells
@@ -239,9 +239,9 @@ impl<B: Backend + Drop, S: Store + Drop> State<B, S> {
 impl<B: Backend, S: Store> State<B, S> {
     /// Shows what holds of every world.
     pub fn legal(&self)
-        ensures world { IsWorld B.TELLS self.now }
-        ensures logged { S.TELLS ≡ true → KeepsHistory self.now }
-        ensures fresh { IsFresh B.TELLS self.now }
+        ensures world { IsWorld B.tells self.now }
+        ensures logged { S.tells ≡ true → KeepsHistory self.now }
+        ensures fresh { IsFresh B.tells self.now }
     {
         self.book.legal();
     }
@@ -538,7 +538,7 @@ impl<B: Backend, S: Store> State<B, S> {
     pub fn reply(&self) -> Reply
         requires open { is_idle self.now.core.history ≡ false }
         requires behind { moves.first_lagging self.now.core.history 0 self.now.core.positions ≡ None }
-        ensures { AnswersOpen B.TELLS self.now.core result }
+        ensures { AnswersOpen B.tells self.now.core result }
     {
         let targets = self.book.targets();
         let left = self.book.left(self.failed, self.starved);
@@ -721,7 +721,7 @@ impl<B: Backend, S: Store> State<B, S> {
     pub fn take_open(&mut self, b: u8) -> Did
         requires within { b < self.old.core.placement.backends }
         requires now { not_now self.old.core (Move.Apply b) ≡ None }
-        ensures applies { Applies B.TELLS self.old.core b (Ok (Moved.Applied b result)) self.new.core }
+        ensures applies { Applies B.tells self.old.core b (Ok (Moved.Applied b result)) self.new.core }
         ensures counts { faults_of self.new.cells ≡ faults_after (faults_of self.old.cells) (if did_fail result then Some b else None) }
         ensures armings { armings_of self.new.cells ≡ armings_of self.old.cells }
         ensures logins { LogsInToTake b (login_to_take self.old b) result (logins_of self.old.cells) (logins_of self.new.cells) }
@@ -747,7 +747,7 @@ impl<B: Backend, S: Store> State<B, S> {
     pub fn take_next(&mut self, b: u8) -> Did
         requires within { b < self.old.core.placement.backends }
         requires now { not_now self.old.core (Move.Replay b) ≡ None }
-        ensures replays { Replays B.TELLS self.old.core b (Ok (Moved.Replayed (moves.position_or_zero (position_at self.old.core b) + 1) result)) self.new.core }
+        ensures replays { Replays B.tells self.old.core b (Ok (Moved.Replayed (moves.position_or_zero (position_at self.old.core b) + 1) result)) self.new.core }
         ensures counts { faults_of self.new.cells ≡ faults_after (faults_of self.old.cells) (if did_fail result then Some b else None) }
         ensures armings { armings_of self.new.cells ≡ armings_of self.old.cells }
         ensures logins { LogsInToTake b (login_to_take self.old b) result (logins_of self.old.cells) (logins_of self.new.cells) }
@@ -782,7 +782,7 @@ impl<B: Backend, S: Store> State<B, S> {
         requires written { IsWritten (request.Select select.now) }
         requires counts { (session_at self.old.core s).queries < REQUEST_LIMIT }
         ensures core { self.new.core ≡ asked_core self.old.core s b result }
-        ensures asks { Asks B.TELLS self.old.core s b tx select.now result }
+        ensures asks { Asks B.tells self.old.core s b tx select.now result }
         ensures counts { faults_of self.new.cells ≡ faults_after (faults_of self.old.cells) (failed_asked b result) }
         ensures armings { armings_of self.new.cells ≡ armings_of self.old.cells }
         ensures logins { LogsInToAsk b (login_of (accounts_of self.old) (asked_for self.old.core.sessions s (option_copied user.entry)) b) result (logins_of self.old.cells) (logins_of self.new.cells) }
@@ -816,7 +816,7 @@ impl<B: Backend, S: Store> State<B, S> {
     /// its faults and its arming.
     pub fn contents(&mut self, b: u8) -> Result<Db, CellError>
         requires { b < self.old.core.placement.backends }
-        ensures held { IfOk result (IsHeld B.TELLS self.old.core b) }
+        ensures held { IfOk result (IsHeld B.tells self.old.core b) }
         ensures storable { IfOk result IsStorable }
         ensures same { failed_contents b result ≡ None → self.new ≡ self.old }
         ensures core { self.new.core ≡ self.old.core }
@@ -919,7 +919,7 @@ impl<B: Backend, S: Store> State<B, S> {
         requires now { not_now self.old.core (Move.Dump b name.now) ≡ None }
         requires named { is_name name.now ≡ true }
         requires storable { IsStorable db }
-        requires held { IsHeld B.TELLS self.old.core b db }
+        requires held { IsHeld B.tells self.old.core b db }
         ensures position { IfOk result (λ n. position_at self.old.core b ≡ Some n) }
         ensures ok { IfOk result (λ n. self.new ≡ with_core self.old (dumped_as self.old.core b name.now n)) }
         ensures err { OnErr result (self.new ≡ self.old) }
@@ -946,7 +946,7 @@ impl<B: Backend, S: Store> State<B, S> {
         requires now { not_now self.old.core (Move.Load b name.now) ≡ None }
         ensures storable { IfOk result (λ d. IsStorable d.db) }
         ensures found { IfOk result (λ d. find_dump self.old.core.dumps name.now ≡ Some (taken_of d)) }
-        ensures held { IfOk result (λ d. B.TELLS ≡ true → d.db ≡ part self.old.core.placement b (database_after (log self.old.core.history) d.position)) }
+        ensures held { IfOk result (λ d. B.tells ≡ true → d.db ≡ part self.old.core.placement b (database_after (log self.old.core.history) d.position)) }
         ensures same { self.new ≡ self.old }
     {
         match self.dumps.read(name)? {
@@ -960,7 +960,7 @@ impl<B: Backend, S: Store> State<B, S> {
     pub fn load_dump(&mut self, b: u8, name: &Name) -> Result<u64, CellError>
         requires within { b < self.old.core.placement.backends }
         requires now { not_now self.old.core (Move.Load b name.now) ≡ None }
-        ensures ok { IfOk result (λ n. LoadsDump B.TELLS self.old.core b name.now n self.new.core) }
+        ensures ok { IfOk result (λ n. LoadsDump B.tells self.old.core b name.now n self.new.core) }
         ensures err { OnErr result (self.new.core ≡ self.old.core) }
         ensures faults { faults_of self.new.cells ≡ faults_after (faults_of self.old.cells) (failed_contents b result) }
         ensures armings { armings_of self.new.cells ≡ armings_of self.old.cells }
@@ -1002,7 +1002,7 @@ impl<B: Backend, S: Store> State<B, S> {
     /// Keeps what the query is answered at the log's end.
     pub fn keep(&mut self, select: Select, answer: Answer) -> Result<(), NoMemory>
         requires possible { IsAnswer answer }
-        requires right { B.TELLS ≡ true → IsAnswerAt (log self.old.core.history) (moves.last_number self.old.core) select (Rows answer) }
+        requires right { B.tells ≡ true → IsAnswerAt (log self.old.core.history) (moves.last_number self.old.core) select (Rows answer) }
         ensures ok { OnOk result (self.new ≡ with_cache self.old (after_keep (record { select = select; answer = answer; at = moves.last_number self.old.core }) self.old.cache)) }
         ensures err { OnErr result (self.new ≡ self.old) }
     {

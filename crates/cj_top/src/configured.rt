@@ -46,8 +46,8 @@ pub fn are_in_memory(kinds: &[BackendKind]) -> bool
 
 /// The configuration that the store holds.
 pub fn conf_of<F: Store>(alloc: Global, store: &mut F) -> Result<Conf, Unconfigured>
-    ensures accepted { IfOk result (λ conf. (bytes : List ℕ) × AreConfBytes F.TELLS (F.held store.old) bytes × (conf_of bytes ≡ Ok conf)) }
-    ensures refused { (e : ConfError) → IsErrOf result (unconfigured.Refused e) → (bytes : List ℕ) × AreConfBytes F.TELLS (F.held store.old) bytes × (conf_of bytes ≡ Err e) }
+    ensures accepted { IfOk result (λ conf. (bytes : List ℕ) × AreConfBytes F.tells (F.held store.old) bytes × (conf_of bytes ≡ Ok conf)) }
+    ensures refused { (e : ConfError) → IsErrOf result (unconfigured.Refused e) → (bytes : List ℕ) × AreConfBytes F.tells (F.held store.old) bytes × (conf_of bytes ≡ Err e) }
     ensures usable { IfOk result IsUsable }
     ensures cause { CountsFault (IsErrOf result unconfigured.Failed) (F.faults store.old) (F.faults store.new) }
 {

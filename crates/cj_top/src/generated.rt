@@ -30,9 +30,9 @@ fn play_over<B: Backend + Drop>(
     count: u64,
 ) -> Result<Summary, NoMemory>
     requires usable { IsUsable conf }
-    requires new { AreNew B.TELLS (length conf.placement.names) (map (state_by B.told B.faults B.asks B.login B.arming) backends) (map B.begun backends) }
+    requires new { AreNew B.tells (length conf.placement.names) (map (state_by B.told B.faults B.asks B.login B.arming) backends) (map B.begun backends) }
     requires few { count ≤ COUNT_LIMIT }
-    ensures { IfOk result (PlaysAsConfigured B.TELLS conf seed count) }
+    ensures { IfOk result (PlaysAsConfigured B.tells conf seed count) }
 {
     let log = MemStore::new(Vec::new(alloc), Vec::new(alloc));
     let Ok(world) = flaky_world(alloc, conf, log, backends) else {

@@ -18,9 +18,9 @@ use std::alloc::Global;
 
 /// The items of the store's log, which are not looked at as a history.
 fn items_found<S: Store + Drop>(alloc: Global, store: S) -> Result<LogItems, StartError>
-    requires { S.TELLS ≡ true → Only (S.held store) (S.may store) }
-    ensures found { IfOk result (λ items. Found S.TELLS (S.held store) items) }
-    ensures refused { IfErr result (RefusesLog S.faults store S.TELLS (S.held store)) }
+    requires { S.tells ≡ true → Only (S.held store) (S.may store) }
+    ensures found { IfOk result (λ items. Found S.tells (S.held store) items) }
+    ensures refused { IfErr result (RefusesLog S.faults store S.tells (S.held store)) }
 {
     match Log::open(alloc, store) {
         Ok((_, items)) => Ok(items),
@@ -48,9 +48,9 @@ pub fn run_log<S: Store + Drop, O: Sink>(
     log: S,
     output: &mut O,
 ) -> Result<u8, StartError>
-    requires { S.TELLS ≡ true → Only (S.held log) (S.may log) }
-    ensures lists { IfOk result (ListsLog conf.placement.names (Found S.TELLS (S.held log)) (O.held output.old) (O.held output.new)) }
-    ensures refused { IfErr result (RefusesLog S.faults log S.TELLS (S.held log)) }
+    requires { S.tells ≡ true → Only (S.held log) (S.may log) }
+    ensures lists { IfOk result (ListsLog conf.placement.names (Found S.tells (S.held log)) (O.held output.old) (O.held output.new)) }
+    ensures refused { IfErr result (RefusesLog S.faults log S.tells (S.held log)) }
     ensures unlisted { OnErr result (output.new ≡ output.old) }
     ensures output { CountsFault (result ≡ Ok 6) (O.faults output.old) (O.faults output.new) }
 {

@@ -55,7 +55,7 @@ fn serve_one<B: Backend + Drop, S: Store + Drop, I: Source, O: Sink, C: Clock>(
 ) -> Result<(SessionEnd, World<B, S>), PipeError>
     requires fresh { world.core.sessions ≡ [] }
     requires idle { is_idle world.core.history ≡ true }
-    ensures serves { IfOk result (λ (ending, last). ServesOneSession B.TELLS seed (C.moment clock.now) (I.left input.old) (I.left input.new) (O.held output.old) (O.held output.new) world ending last) }
+    ensures serves { IfOk result (λ (ending, last). ServesOneSession B.tells seed (C.moment clock.now) (I.left input.old) (I.left input.new) (O.held output.old) (O.held output.new) world ending last) }
     ensures full { IfErr result (λ error. (error ≡ PipeError.SessionsFull) × (SESSION_NUMBER_LIMIT ≤ world.core.greatest)) }
     ensures unserved { OnErr result ((input.new ≡ input.old) × (output.new ≡ output.old)) }
     ensures input { CountsFault (IsOkAnd result (λ (ending, _). ending ≡ ends.ReadFault)) (I.faults input.old) (I.faults input.new) }
@@ -86,16 +86,16 @@ pub fn pipe<B: Backend + Drop, S: Store + Drop, I: Source, O: Sink, C: Clock>(
 ) -> Result<(SessionEnd, World<B, S>), PipeError>
     requires usable { IsUsable conf }
     requires as_many { length backends ≡ length conf.placement.names }
-    requires empty { AreEmpty B.TELLS (map B.told backends) }
+    requires empty { AreEmpty B.tells (map B.told backends) }
     requires none { HaveBegunNone (map B.begun backends) }
-    requires disk { S.TELLS ≡ true → Only (S.held log) (S.may log) }
+    requires disk { S.tells ≡ true → Only (S.held log) (S.may log) }
     // The last part is of a call in which nothing failed and memory was not wanting.
-    ensures served { IfOk result (λ (ending, last). (first : WorldState) × StartsFrom (Found S.TELLS (S.held log)) (placement_of conf.placement) (map (state_by B.told B.faults B.asks B.login B.arming) backends) first
+    ensures served { IfOk result (λ (ending, last). (first : WorldState) × StartsFrom (Found S.tells (S.held log)) (placement_of conf.placement) (map (state_by B.told B.faults B.asks B.login B.arming) backends) first
         × (first.setup ≡ record { names = conf.placement.names; register = conf.accounts }) × (first.cache ≡ empty_cache conf.cache)
-        × ServesOneSession B.TELLS conf.seed (C.moment clock.now) (I.left input.old) (I.left input.new) (O.held output.old) (O.held output.new) first ending last
+        × ServesOneSession B.tells conf.seed (C.moment clock.now) (I.left input.old) (I.left input.new) (O.held output.old) (O.held output.new) first ending last
         × (CountsNoFault (I.faults input.old) (I.faults input.new) → CountsNoFault (O.faults output.old) (O.faults output.new) → ending ≢ ends.NoMemory →
         AnswersInput (λ reply. CountNoFaults (faults_of first.cells) (faults_of last.cells) → BlamesNobody reply) (I.left input.old) (O.held output.old) (O.held output.new) ending)) }
-    ensures refused { IfErr result (RefusesPipe S.faults log S.TELLS (S.held log) (placement_of conf.placement) (map (state_by B.told B.faults B.asks B.login B.arming) backends)) }
+    ensures refused { IfErr result (RefusesPipe S.faults log S.tells (S.held log) (placement_of conf.placement) (map (state_by B.told B.faults B.asks B.login B.arming) backends)) }
     ensures unserved { OnErr result ((input.new ≡ input.old) × (output.new ≡ output.old)) }
     ensures input { CountsFault (IsOkAnd result (λ (ending, _). ending ≡ ends.ReadFault)) (I.faults input.old) (I.faults input.new) }
     ensures output { CountsFault (IsOkAnd result (λ (ending, _). ending ≡ ends.WriteFault)) (O.faults output.old) (O.faults output.new) }
@@ -136,9 +136,9 @@ pub fn run_pipe<S: Store + Drop, I: Source, O: Sink, C: Clock>(
     clock: &C,
 ) -> Result<u8, PipeError>
     requires usable { IsUsable conf }
-    requires disk { S.TELLS ≡ true → Only (S.held log) (S.may log) }
-    ensures runs { IfOk result (λ status. RunsPipe (in_memory conf) conf (Found S.TELLS (S.held log)) (C.moment clock.now) (I.left input.old) (I.left input.new) (O.held output.old) (O.held output.new) status) }
-    ensures refused { IfErr result (RefusesPipe S.faults log S.TELLS (S.held log) (placement_of conf.placement) (replicate (length conf.placement.names) (new_backend (in_memory conf)))) }
+    requires disk { S.tells ≡ true → Only (S.held log) (S.may log) }
+    ensures runs { IfOk result (λ status. RunsPipe (in_memory conf) conf (Found S.tells (S.held log)) (C.moment clock.now) (I.left input.old) (I.left input.new) (O.held output.old) (O.held output.new) status) }
+    ensures refused { IfErr result (RefusesPipe S.faults log S.tells (S.held log) (placement_of conf.placement) (replicate (length conf.placement.names) (new_backend (in_memory conf)))) }
     ensures unserved { OnErr result ((input.new ≡ input.old) × (output.new ≡ output.old)) }
     ensures input { CountsFault (result ≡ Ok 5) (I.faults input.old) (I.faults input.new) }
     ensures output { CountsFault (result ≡ Ok 6) (O.faults output.old) (O.faults output.new) }

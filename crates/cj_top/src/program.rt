@@ -39,8 +39,8 @@ fn pipe_command<S: Store + Drop, I: Source, O: Sink, E: Sink, C: Clock>(
     clock: &C,
 ) -> u8
     requires usable { IsUsable conf }
-    requires disk { S.TELLS ≡ true → Only (S.held log) (S.may log) }
-    ensures comes { ComesByPipe conf (Found S.TELLS (S.held log)) (StopsAtLog (RefusesLog S.faults log S.TELLS (S.held log)) (TellsRefusal (E.held errors.old) (E.held errors.new) (E.faults errors.old) (E.faults errors.new)) ((input.new ≡ input.old) × (output.new ≡ output.old)))
+    requires disk { S.tells ≡ true → Only (S.held log) (S.may log) }
+    ensures comes { ComesByPipe conf (Found S.tells (S.held log)) (StopsAtLog (RefusesLog S.faults log S.tells (S.held log)) (TellsRefusal (E.held errors.old) (E.held errors.new) (E.faults errors.old) (E.faults errors.new)) ((input.new ≡ input.old) × (output.new ≡ output.old)))
         ((input.new ≡ input.old) × (output.new ≡ output.old) × (errors.new ≡ errors.old)) (C.moment clock.now) (I.left input.old) (I.left input.new) (O.held output.old) (O.held output.new) result }
     ensures quiet { result ≢ 8 → errors.new ≡ errors.old }
     ensures log { (result ≡ 7) × HasFailed S.faults log ⊎ (result ≢ 7) }
@@ -64,8 +64,8 @@ fn script_command<S: Store + Drop, I: Source, O: Sink, E: Sink>(
     errors: &mut E,
 ) -> u8
     requires usable { IsUsable conf }
-    requires disk { S.TELLS ≡ true → Only (S.held log) (S.may log) }
-    ensures comes { ComesByScript conf (Found S.TELLS (S.held log)) (StopsAtLog (RefusesLog S.faults log S.TELLS (S.held log)) (TellsRefusal (E.held errors.old) (E.held errors.new) (E.faults errors.old) (E.faults errors.new)) ((input.new ≡ input.old) × (output.new ≡ output.old)))
+    requires disk { S.tells ≡ true → Only (S.held log) (S.may log) }
+    ensures comes { ComesByScript conf (Found S.tells (S.held log)) (StopsAtLog (RefusesLog S.faults log S.tells (S.held log)) (TellsRefusal (E.held errors.old) (E.held errors.new) (E.faults errors.old) (E.faults errors.new)) ((input.new ≡ input.old) × (output.new ≡ output.old)))
         (I.left input.old) (I.left input.new) (O.held output.old) (O.held output.new) (E.held errors.old) (E.held errors.new) (E.faults errors.old) (E.faults errors.new) result }
     ensures quiet { result ≢ 8 → result ≢ 10 → errors.new ≡ errors.old }
     ensures log { (result ≡ 7) × HasFailed S.faults log ⊎ (result ≢ 7) }
@@ -86,8 +86,8 @@ fn log_command<S: Store + Drop, O: Sink, E: Sink>(
     output: &mut O,
     errors: &mut E,
 ) -> u8
-    requires { S.TELLS ≡ true → Only (S.held log) (S.may log) }
-    ensures comes { ComesByLog conf (Found S.TELLS (S.held log)) (StopsAtLog (RefusesLog S.faults log S.TELLS (S.held log)) (TellsRefusal (E.held errors.old) (E.held errors.new) (E.faults errors.old) (E.faults errors.new)) (output.new ≡ output.old)) (O.held output.old) (O.held output.new) result }
+    requires { S.tells ≡ true → Only (S.held log) (S.may log) }
+    ensures comes { ComesByLog conf (Found S.tells (S.held log)) (StopsAtLog (RefusesLog S.faults log S.tells (S.held log)) (TellsRefusal (E.held errors.old) (E.held errors.new) (E.faults errors.old) (E.faults errors.new)) (output.new ≡ output.old)) (O.held output.old) (O.held output.new) result }
     ensures quiet { result ≢ 8 → errors.new ≡ errors.old }
     ensures log { (result ≡ 7) × HasFailed S.faults log ⊎ (result ≢ 7) }
     ensures output { CountsFault (result ≡ 6) (O.faults output.old) (O.faults output.new) }
@@ -112,8 +112,8 @@ fn run_configured<S: Store + Drop, I: Source, O: Sink, E: Sink, C: Clock>(
 ) -> u8
     requires usable { IsUsable conf }
     requires few { HasFewStatements command }
-    requires disk { S.TELLS ≡ true → Only (S.held log) (S.may log) }
-    ensures comes { ComesBy command conf (Found S.TELLS (S.held log)) (StopsAtLog (RefusesLog S.faults log S.TELLS (S.held log)) (TellsRefusal (E.held errors.old) (E.held errors.new) (E.faults errors.old) (E.faults errors.new)) ((input.new ≡ input.old) × (output.new ≡ output.old)))
+    requires disk { S.tells ≡ true → Only (S.held log) (S.may log) }
+    ensures comes { ComesBy command conf (Found S.tells (S.held log)) (StopsAtLog (RefusesLog S.faults log S.tells (S.held log)) (TellsRefusal (E.held errors.old) (E.held errors.new) (E.faults errors.old) (E.faults errors.new)) ((input.new ≡ input.old) × (output.new ≡ output.old)))
         ((input.new ≡ input.old) × (output.new ≡ output.old) × (errors.new ≡ errors.old)) (C.moment clock.now) (I.left input.old) (I.left input.new) (O.held output.old) (O.held output.new) (E.held errors.old) (E.held errors.new) (E.faults errors.old) (E.faults errors.new) result }
     ensures unread { ReadsNoInput command → input.new ≡ input.old }
     ensures quiet { result ≢ 8 → result ≢ 10 → errors.new ≡ errors.old }
@@ -141,9 +141,9 @@ fn run_command<F: Store, S: Store + Drop, I: Source, O: Sink, E: Sink, C: Clock>
     clock: &C,
 ) -> u8
     requires few { HasFewStatements command }
-    requires disk { S.TELLS ≡ true → Only (S.held log) (S.may log) }
-    ensures runs { RunsCommand F.TELLS (F.held conf.old) (WritesRefusal (E.held errors.old) (E.held errors.new) (E.faults errors.old) (E.faults errors.new)) ((input.new ≡ input.old) × (output.new ≡ output.old)) ((input.new ≡ input.old) × (output.new ≡ output.old) × (errors.new ≡ errors.old))
-        (λ c. ComesBy command c (Found S.TELLS (S.held log)) (StopsAtLog (RefusesLog S.faults log S.TELLS (S.held log)) (TellsRefusal (E.held errors.old) (E.held errors.new) (E.faults errors.old) (E.faults errors.new)) ((input.new ≡ input.old) × (output.new ≡ output.old)))
+    requires disk { S.tells ≡ true → Only (S.held log) (S.may log) }
+    ensures runs { RunsCommand F.tells (F.held conf.old) (WritesRefusal (E.held errors.old) (E.held errors.new) (E.faults errors.old) (E.faults errors.new)) ((input.new ≡ input.old) × (output.new ≡ output.old)) ((input.new ≡ input.old) × (output.new ≡ output.old) × (errors.new ≡ errors.old))
+        (λ c. ComesBy command c (Found S.tells (S.held log)) (StopsAtLog (RefusesLog S.faults log S.tells (S.held log)) (TellsRefusal (E.held errors.old) (E.held errors.new) (E.faults errors.old) (E.faults errors.new)) ((input.new ≡ input.old) × (output.new ≡ output.old)))
         ((input.new ≡ input.old) × (output.new ≡ output.old) × (errors.new ≡ errors.old)) (C.moment clock.now) (I.left input.old) (I.left input.new) (O.held output.old) (O.held output.new) (E.held errors.old) (E.held errors.new) (E.faults errors.old) (E.faults errors.new) result) result }
     ensures unread { ReadsNoInput command → input.new ≡ input.old }
     ensures quiet { result ≢ 3 → result ≢ 8 → result ≢ 10 → errors.new ≡ errors.old }
@@ -151,7 +151,7 @@ fn run_command<F: Store, S: Store + Drop, I: Source, O: Sink, E: Sink, C: Clock>
     ensures input { CountsFault (result ≡ 5) (I.faults input.old) (I.faults input.new) }
     ensures output { CountsFault (result ≡ 6) (O.faults output.old) (O.faults output.new) }
     ensures complete { CountsNoFault (F.faults conf.old) (F.faults conf.new) → CountsNoFault (I.faults input.old) (I.faults input.new) → CountsNoFault (O.faults output.old) (O.faults output.new) → result ≢ 1 → result ≢ 7 → result ≢ 8 → result ≢ 12 →
-        ByStore F.TELLS (F.held conf.old) (CompletesCommand command (I.left input.old) (O.held output.old) (O.held output.new) result) result }
+        ByStore F.tells (F.held conf.old) (CompletesCommand command (I.left input.old) (O.held output.old) (O.held output.new) result) result }
 {
     let configured = match conf_of(alloc, conf) {
         Ok(configured) => configured,
@@ -209,10 +209,10 @@ pub fn run<F: Store, S: Store + Drop, I: Source, O: Sink, E: Sink, C: Clock>(
     errors: &mut E,
     clock: &C,
 ) -> u8
-    requires { S.TELLS ≡ true → Only (S.held log) (S.may log) }
-    ensures runs { (command : Command) → Says (map string_bytes words.now) command → RunsCommand F.TELLS (F.held conf.old)
+    requires { S.tells ≡ true → Only (S.held log) (S.may log) }
+    ensures runs { (command : Command) → Says (map string_bytes words.now) command → RunsCommand F.tells (F.held conf.old)
         (WritesRefusal (E.held errors.old) (E.held errors.new) (E.faults errors.old) (E.faults errors.new)) ((input.new ≡ input.old) × (output.new ≡ output.old)) ((input.new ≡ input.old) × (output.new ≡ output.old) × (errors.new ≡ errors.old))
-        (λ c. ComesBy command c (Found S.TELLS (S.held log)) (StopsAtLog (RefusesLog S.faults log S.TELLS (S.held log)) (TellsRefusal (E.held errors.old) (E.held errors.new) (E.faults errors.old) (E.faults errors.new)) ((input.new ≡ input.old) × (output.new ≡ output.old)))
+        (λ c. ComesBy command c (Found S.tells (S.held log)) (StopsAtLog (RefusesLog S.faults log S.tells (S.held log)) (TellsRefusal (E.held errors.old) (E.held errors.new) (E.faults errors.old) (E.faults errors.new)) ((input.new ≡ input.old) × (output.new ≡ output.old)))
         ((input.new ≡ input.old) × (output.new ≡ output.old) × (errors.new ≡ errors.old)) (C.moment clock.now) (I.left input.old) (I.left input.new) (O.held output.old) (O.held output.new) (E.held errors.old) (E.held errors.new) (E.faults errors.old) (E.faults errors.new) result) result }
     ensures unread { (command : Command) → Says (map string_bytes words.now) command → ReadsNoInput command → input.new ≡ input.old }
     ensures text { AsksForText (map string_bytes words.now) → WritesText (O.held output.old) (O.held output.new) result × (conf.new ≡ conf.old) × (input.new ≡ input.old) × (errors.new ≡ errors.old) }
@@ -228,7 +228,7 @@ pub fn run<F: Store, S: Store + Drop, I: Source, O: Sink, E: Sink, C: Clock>(
     // Where none of them did, the log was opened and a session can be, and memory was not wanting, the bytes of the configuration and of
     // the input fix the status.
     ensures complete { (command : Command) → Says (map string_bytes words.now) command → CountsNoFault (F.faults conf.old) (F.faults conf.new) → CountsNoFault (I.faults input.old) (I.faults input.new) → CountsNoFault (O.faults output.old) (O.faults output.new) → result ≢ 1 → result ≢ 7 → result ≢ 8 → result ≢ 12 →
-        ByStore F.TELLS (F.held conf.old) (CompletesCommand command (I.left input.old) (O.held output.old) (O.held output.new) result) result }
+        ByStore F.tells (F.held conf.old) (CompletesCommand command (I.left input.old) (O.held output.old) (O.held output.new) result) result }
 {
     match read(alloc, words) {
         Ok(Some(Asked::Command(command))) => {

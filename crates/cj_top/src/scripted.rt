@@ -32,10 +32,10 @@ pub fn flaky_world<B: Backend + Drop, S: Store + Drop>(
     backends: Backends<B>,
 ) -> Result<World<Flaky<B>, S>, StartError>
     requires usable { IsUsable conf }
-    requires new { AreNew B.TELLS (length conf.placement.names) (map (state_by B.told B.faults B.asks B.login B.arming) backends) (map B.begun backends) }
-    requires disk { S.TELLS ≡ true → Only (S.held log) (S.may log) }
-    ensures begins { IfOk result (BeginsAsConfigured B.TELLS conf (Found S.TELLS (S.held log))) }
-    ensures refused { IfErr result (RefusesLog S.faults log S.TELLS (S.held log)) }
+    requires new { AreNew B.tells (length conf.placement.names) (map (state_by B.told B.faults B.asks B.login B.arming) backends) (map B.begun backends) }
+    requires disk { S.tells ≡ true → Only (S.held log) (S.may log) }
+    ensures begins { IfOk result (BeginsAsConfigured B.tells conf (Found S.tells (S.held log))) }
+    ensures refused { IfErr result (RefusesLog S.faults log S.tells (S.held log)) }
 {
     let Ok(backends) = flaky(alloc, backends) else {
         return Err(StartError::NoMemory);
@@ -59,10 +59,10 @@ fn play_over<B: Backend + Drop, S: Store + Drop, I: Source, O: Sink>(
     output: &mut O,
 ) -> Result<ScriptEnd, StartError>
     requires usable { IsUsable conf }
-    requires new { AreNew B.TELLS (length conf.placement.names) (map (state_by B.told B.faults B.asks B.login B.arming) backends) (map B.begun backends) }
-    requires disk { S.TELLS ≡ true → Only (S.held log) (S.may log) }
-    ensures played { IfOk result (λ end. PlaysAsConfigured B.TELLS conf (Found S.TELLS (S.held log)) (I.left input.old) (I.left input.new) (O.held output.old) (O.held output.new) end) }
-    ensures refused { IfErr result (RefusesLog S.faults log S.TELLS (S.held log)) }
+    requires new { AreNew B.tells (length conf.placement.names) (map (state_by B.told B.faults B.asks B.login B.arming) backends) (map B.begun backends) }
+    requires disk { S.tells ≡ true → Only (S.held log) (S.may log) }
+    ensures played { IfOk result (λ end. PlaysAsConfigured B.tells conf (Found S.tells (S.held log)) (I.left input.old) (I.left input.new) (O.held output.old) (O.held output.new) end) }
+    ensures refused { IfErr result (RefusesLog S.faults log S.tells (S.held log)) }
     ensures unbegun { OnErr result ((input.new ≡ input.old) × (output.new ≡ output.old)) }
     ensures input { CountsFault (result ≡ Ok ends.ReadFault) (I.faults input.old) (I.faults input.new) }
     ensures output { CountsFault (result ≡ Ok ends.WriteFault) (O.faults output.old) (O.faults output.new) }
@@ -82,9 +82,9 @@ pub fn play<S: Store + Drop, I: Source, O: Sink>(
     output: &mut O,
 ) -> Result<ScriptEnd, StartError>
     requires usable { IsUsable conf }
-    requires disk { S.TELLS ≡ true → Only (S.held log) (S.may log) }
-    ensures played { IfOk result (λ end. PlaysAsConfigured (in_memory conf) conf (Found S.TELLS (S.held log)) (I.left input.old) (I.left input.new) (O.held output.old) (O.held output.new) end) }
-    ensures refused { IfErr result (RefusesLog S.faults log S.TELLS (S.held log)) }
+    requires disk { S.tells ≡ true → Only (S.held log) (S.may log) }
+    ensures played { IfOk result (λ end. PlaysAsConfigured (in_memory conf) conf (Found S.tells (S.held log)) (I.left input.old) (I.left input.new) (O.held output.old) (O.held output.new) end) }
+    ensures refused { IfErr result (RefusesLog S.faults log S.tells (S.held log)) }
     ensures unbegun { OnErr result ((input.new ≡ input.old) × (output.new ≡ output.old)) }
     ensures input { CountsFault (result ≡ Ok ends.ReadFault) (I.faults input.old) (I.faults input.new) }
     ensures output { CountsFault (result ≡ Ok ends.WriteFault) (O.faults output.old) (O.faults output.new) }
@@ -155,9 +155,9 @@ pub fn run_script<S: Store + Drop, I: Source, O: Sink, E: Sink>(
     errors: &mut E,
 ) -> Result<u8, StartError>
     requires usable { IsUsable conf }
-    requires disk { S.TELLS ≡ true → Only (S.held log) (S.may log) }
-    ensures runs { IfOk result (λ status. RunsScript conf (Found S.TELLS (S.held log)) (I.left input.old) (I.left input.new) (O.held output.old) (O.held output.new) (E.held errors.old) (E.held errors.new) (E.faults errors.old) (E.faults errors.new) status) }
-    ensures refused { IfErr result (RefusesLog S.faults log S.TELLS (S.held log)) }
+    requires disk { S.tells ≡ true → Only (S.held log) (S.may log) }
+    ensures runs { IfOk result (λ status. RunsScript conf (Found S.tells (S.held log)) (I.left input.old) (I.left input.new) (O.held output.old) (O.held output.new) (E.held errors.old) (E.held errors.new) (E.faults errors.old) (E.faults errors.new) status) }
+    ensures refused { IfErr result (RefusesLog S.faults log S.tells (S.held log)) }
     ensures unbegun { OnErr result ((input.new ≡ input.old) × (output.new ≡ output.old)) }
     ensures quiet { result ≢ Ok 10 → errors.new ≡ errors.old }
     ensures input { CountsFault (result ≡ Ok 5) (I.faults input.old) (I.faults input.new) }

@@ -32,7 +32,7 @@ fn tells_want(moved: &Moved) -> bool
 fn make<B: Backend, S: Store>(solo: &mut Solo<B, S>, m: Move) -> Result<Made, NoMemory>
     requires met { IsMet solo.old.world.core m }
     requires kind { IsOfBackend m }
-    ensures made { IfOk result (λ made. Makes B.TELLS B.can_be_armed solo.old m (given_of made) solo.new) }
+    ensures made { IfOk result (λ made. Makes B.tells B.can_be_armed solo.old m (given_of made) solo.new) }
     ensures keeps { IfOk result (λ made. Keeps 0 (keeping.enabled_by (given_of made)) solo.old solo.new) }
 {
     match solo.step(m) {
@@ -62,7 +62,7 @@ fn enabled_by(made: &Made) -> u64
 /// Enables the backend, and answers how many were enabled by that.
 fn enable<B: Backend, S: Store>(solo: &mut Solo<B, S>, b: u8) -> Result<u64, NoMemory>
     requires { b < solo.old.world.core.placement.backends }
-    ensures made { IfOk result (λ _. MakesMove B.TELLS B.can_be_armed solo.old (Move.Enable b) solo.new) }
+    ensures made { IfOk result (λ _. MakesMove B.tells B.can_be_armed solo.old (Move.Enable b) solo.new) }
     ensures keeps { IfOk result (λ enabled. Keeps 0 enabled solo.old solo.new) }
     ensures few { IfOk result (λ enabled. enabled ≤ 1) }
 {
@@ -73,7 +73,7 @@ fn enable<B: Backend, S: Store>(solo: &mut Solo<B, S>, b: u8) -> Result<u64, NoM
 /// Takes the dump that backends are brought back from, of a backend that is disabled for it.
 pub fn take_dump<B: Backend, S: Store>(solo: &mut Solo<B, S>, b: u8) -> Result<(), NoMemory>
     requires { b < solo.old.world.core.placement.backends }
-    ensures made { IfOk result (λ _. TakesDump B.TELLS B.can_be_armed b solo.old solo.new) }
+    ensures made { IfOk result (λ _. TakesDump B.tells B.can_be_armed b solo.old solo.new) }
     ensures keeps { IfOk result (λ _. (enabled : ℕ) × Keeps 0 enabled solo.old solo.new) }
 {
     make(solo, Move::Disable { b })?;
@@ -86,7 +86,7 @@ pub fn take_dump<B: Backend, S: Store>(solo: &mut Solo<B, S>, b: u8) -> Result<(
 /// The backend takes an entry, if it can.
 fn take_entry<B: Backend, S: Store>(solo: &mut Solo<B, S>, b: u8) -> Result<(), NoMemory>
     requires { b < solo.old.world.core.placement.backends }
-    ensures made { IfOk result (λ _. MakesMove B.TELLS B.can_be_armed solo.old (Move.Replay b) solo.new) }
+    ensures made { IfOk result (λ _. MakesMove B.tells B.can_be_armed solo.old (Move.Replay b) solo.new) }
     ensures keeps { IfOk result (λ _. Keeps 0 0 solo.old solo.new) }
 {
     make(solo, Move::Replay { b })?;
@@ -100,7 +100,7 @@ fn take_entries<B: Backend, S: Store>(
     count: u64,
 ) -> Result<(), NoMemory>
     requires { b < solo.old.world.core.placement.backends }
-    ensures made { IfOk result (λ _. TakesEntries B.TELLS B.can_be_armed b count solo.old solo.new) }
+    ensures made { IfOk result (λ _. TakesEntries B.tells B.can_be_armed b count solo.old solo.new) }
     ensures keeps { IfOk result (λ _. Keeps 0 0 solo.old solo.new) }
 {
     for _ in 0..count {
@@ -116,7 +116,7 @@ fn catch_up<B: Backend, S: Store>(
     position: u64,
 ) -> Result<u64, NoMemory>
     requires { b < solo.old.world.core.placement.backends }
-    ensures made { IfOk result (λ _. CatchesUp B.TELLS B.can_be_armed b position solo.old solo.new) }
+    ensures made { IfOk result (λ _. CatchesUp B.tells B.can_be_armed b position solo.old solo.new) }
     ensures keeps { IfOk result (λ enabled. Keeps 0 enabled solo.old solo.new) }
     ensures few { IfOk result (λ enabled. enabled ≤ 1) }
 {
@@ -128,7 +128,7 @@ fn catch_up<B: Backend, S: Store>(
 /// Brings the backend back, where it is out and the dump covers what it hosts. Answers how many were enabled by that.
 fn repair<B: Backend, S: Store>(solo: &mut Solo<B, S>, b: u8) -> Result<u64, NoMemory>
     requires { b < solo.old.world.core.placement.backends }
-    ensures made { IfOk result (λ _. Repairs B.TELLS B.can_be_armed b solo.old solo.new) }
+    ensures made { IfOk result (λ _. Repairs B.tells B.can_be_armed b solo.old solo.new) }
     ensures keeps { IfOk result (λ enabled. Keeps 0 enabled solo.old solo.new) }
     ensures few { IfOk result (λ enabled. enabled ≤ 1) }
 {
@@ -145,7 +145,7 @@ fn repair<B: Backend, S: Store>(solo: &mut Solo<B, S>, b: u8) -> Result<u64, NoM
 
 /// Does so with each backend.
 pub fn repair_each<B: Backend, S: Store>(solo: &mut Solo<B, S>) -> Result<u64, NoMemory>
-    ensures made { IfOk result (λ _. RepairsEach B.TELLS B.can_be_armed solo.old.world.core.placement.backends solo.old solo.new) }
+    ensures made { IfOk result (λ _. RepairsEach B.tells B.can_be_armed solo.old.world.core.placement.backends solo.old solo.new) }
     ensures keeps { IfOk result (λ enabled. Keeps 0 enabled solo.old solo.new) }
     ensures few { IfOk result (λ enabled. enabled ≤ 32) }
 {
@@ -181,7 +181,7 @@ fn due(placement: &Placement, i: u64) -> Option<u8>
 
 /// Arms the backend that is due before statement `i`.
 pub fn arm<B: Backend, S: Store>(solo: &mut Solo<B, S>, i: u64) -> Result<(), NoMemory>
-    ensures made { IfOk result (λ _. Arms B.TELLS B.can_be_armed (workload.due solo.old.world.core.placement i) solo.old solo.new) }
+    ensures made { IfOk result (λ _. Arms B.tells B.can_be_armed (workload.due solo.old.world.core.placement i) solo.old solo.new) }
     ensures keeps { IfOk result (λ _. Keeps 0 0 solo.old solo.new) }
 {
     if let Some(b) = due(solo.world().placement(), i) {

@@ -74,7 +74,7 @@ fn write<B: Backend, S: Store>(solo: &mut Solo<B, S>, user: &Text, act: Act) -> 
     requires room { (session_at solo.old.world.core solo.old.session).queries < REQUEST_LIMIT }
     requires written { IsWritten (request_of act) }
     requires kind { IsOutside act }
-    ensures turn { IfOk result (λ _. TakesTurn B.TELLS solo.old (request_of act) solo.new) }
+    ensures turn { IfOk result (λ _. TakesTurn B.tells solo.old (request_of act) solo.new) }
     ensures keeps { IfOk result (λ _. Keeps 1 0 solo.old solo.new) }
 {
     let written = Desk::<()>::write(solo, &(), user, 0, act);
@@ -93,7 +93,7 @@ fn read<B: Backend, S: Store>(
     requires user { user.now ≡ [] }
     requires room { (session_at solo.old.world.core solo.old.session).queries < REQUEST_LIMIT }
     requires written { IsWritten (request.Select select.now) }
-    ensures turn { IfOk result (λ _. TakesTurn B.TELLS solo.old (request.Select select.now) solo.new) }
+    ensures turn { IfOk result (λ _. TakesTurn B.tells solo.old (request.Select select.now) solo.new) }
     ensures keeps { IfOk result (λ _. Keeps 1 0 solo.old solo.new) }
 {
     let reply = Desk::<()>::read(solo, &(), user, 0, select);
@@ -112,7 +112,7 @@ fn take_turn<B: Backend, S: Store>(
     requires user { user.now ≡ [] }
     requires room { (session_at solo.old.world.core solo.old.session).queries < REQUEST_LIMIT }
     requires written { IsWritten (request_of_statement statement) }
-    ensures turn { IfOk result (λ _. TakesTurn B.TELLS solo.old (request_of_statement statement) solo.new) }
+    ensures turn { IfOk result (λ _. TakesTurn B.tells solo.old (request_of_statement statement) solo.new) }
     ensures keeps { IfOk result (λ _. Keeps 1 0 solo.old solo.new) }
 {
     match statement {
@@ -131,7 +131,7 @@ fn round<B: Backend, S: Store>(
     requires user { user.now ≡ [] }
     requires room { (session_at solo.old.world.core solo.old.session).queries < REQUEST_LIMIT }
     requires written { IsWritten (request_of_statement statement) }
-    ensures plays { IfOk result (λ _. PlaysRound B.TELLS B.can_be_armed i (request_of_statement statement) solo.old solo.new) }
+    ensures plays { IfOk result (λ _. PlaysRound B.tells B.can_be_armed i (request_of_statement statement) solo.old solo.new) }
     ensures keeps { IfOk result (λ enabled. Keeps 1 enabled solo.old solo.new) }
     ensures few { IfOk result (λ enabled. enabled ≤ 32) }
 {
@@ -151,7 +151,7 @@ fn rounds<B: Backend, S: Store>(
     requires user { user.now ≡ [] }
     requires few { count < 2 ^ 32 }
     requires room { (session_at solo.old.world.core solo.old.session).queries + count ≤ REQUEST_LIMIT }
-    ensures plays { IfOk result (λ _. PlaysRounds B.TELLS B.can_be_armed seed count solo.old solo.new) }
+    ensures plays { IfOk result (λ _. PlaysRounds B.tells B.can_be_armed seed count solo.old solo.new) }
     ensures keeps { IfOk result (λ enabled. Keeps count enabled solo.old solo.new) }
 {
     let mut draw = PcgDraw::new(seed);
@@ -172,7 +172,7 @@ fn begin<B: Backend, S: Store>(
 ) -> Result<(), NoMemory>
     requires user { user.now ≡ [] }
     requires room { (session_at solo.old.world.core solo.old.session).queries < REQUEST_LIMIT }
-    ensures begins { IfOk result (λ _. Begins B.TELLS B.can_be_armed solo.old solo.new) }
+    ensures begins { IfOk result (λ _. Begins B.tells B.can_be_armed solo.old solo.new) }
     ensures keeps { IfOk result (λ _. (enabled : ℕ) × Keeps 1 enabled solo.old solo.new) }
 {
     let create = creation(alloc)?;
@@ -200,7 +200,7 @@ pub fn play<B: Backend + Drop, S: Store + Drop>(
     requires fresh { world.core.sessions ≡ [] }
     requires idle { is_idle world.core.history ≡ true }
     requires few { count < 2 ^ 32 }
-    ensures played { IfOk result (PlaysWorkload B.TELLS B.can_be_armed seed count world) }
+    ensures played { IfOk result (PlaysWorkload B.tells B.can_be_armed seed count world) }
     ensures full { IsErrOf result WorkloadError.SessionsFull → SESSION_NUMBER_LIMIT ≤ world.core.greatest }
 {
     world.legal();

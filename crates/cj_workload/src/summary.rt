@@ -39,7 +39,7 @@ pub fn sum_up<B: Backend + Drop, S: Store + Drop>(
     enabled: u64,
 ) -> Result<Summary, WorkloadError>
     requires { is_idle world.core.history ≡ true }
-    ensures summary { (begun : WorldState) → enablings world.core.history ≡ enablings begun.core.history + enabled → IfOk result (IsSummary B.TELLS statements begun world) }
+    ensures summary { (begun : WorldState) → enablings world.core.history ≡ enablings begun.core.history + enabled → IfOk result (IsSummary B.tells statements begun world) }
     ensures opened { IsErrOf result WorkloadError.SessionsFull → ⊥ }
 {
     world.legal();

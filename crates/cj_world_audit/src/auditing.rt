@@ -56,7 +56,7 @@ fn audit_backend<B: Backend, S: Store>(
 ) -> Result<(), AuditError>
     requires within { b < state.old.core.placement.backends }
     requires idle { is_idle state.old.core.history ≡ true }
-    ensures lines { OnOk result (B.TELLS ≡ true → text.new.items ≡ text.old.items ++ lines_at state.old.setup.names state.old.core b) }
+    ensures lines { OnOk result (B.tells ≡ true → text.new.items ≡ text.old.items ++ lines_at state.old.setup.names state.old.core b) }
     ensures text { OnOk result (StaysText text.old.items text.new.items) }
     ensures same { failed_audit result ≡ None → state.new ≡ state.old }
     ensures faults { faults_of state.new.cells ≡ faults_after (faults_of state.old.cells) (failed_audit result) }
@@ -84,7 +84,7 @@ fn audit_backend<B: Backend, S: Store>(
 /// rows, and one for each row. Asks each enabled backend for its contents, and stops at the first that fails.
 pub fn audit<B: Backend, S: Store>(state: &mut State<B, S>) -> Result<Text, AuditError>
     requires { is_idle state.old.core.history ≡ true }
-    ensures text { IfOk result (λ text. B.TELLS ≡ true → text ≡ audit_text state.old.setup.names state.old.core) }
+    ensures text { IfOk result (λ text. B.tells ≡ true → text ≡ audit_text state.old.setup.names state.old.core) }
     ensures same { failed_audit result ≡ None → state.new ≡ state.old }
     ensures faults { faults_of state.new.cells ≡ faults_after (faults_of state.old.cells) (failed_audit result) }
     ensures enabled { (b : ℕ) → IsErrOf result (AuditError.Fault b) → histories.is_enabled state.old.core.history b ≡ true }

@@ -11,7 +11,7 @@ pub end_entry-requires-clause-waits : goal.end_entry-requires-clause-waits
 end_entry-requires-clause-waits g c = taken_waits c.args.tx c.args.state.now c.schedule_end.new.state c.in_ok-schedule_end.ensures.ok c.take_on_all.new.state c.take_on_all.ensures.only c.in_ok-take_on_all.ensures.all c.in_ok-take_on_all.ensures.starved c.requires.free
 
 pub end_entry-requires-clause-behind : goal.end_entry-requires-clause-behind
-end_entry-requires-clause-behind g c = taken_by_all c.args.tx c.args.state.now c.schedule_end.new.state c.in_ok-schedule_end.ensures.ok c.take_on_all.new.state c.take_on_all.ensures.only c.in_ok-take_on_all.ensures.all c.in_ok-take_on_all.ensures.starved g.B.Backend.TELLS c.legal.ensures.world c.requires.stands
+end_entry-requires-clause-behind g c = taken_by_all c.args.tx c.args.state.now c.schedule_end.new.state c.in_ok-schedule_end.ensures.ok c.take_on_all.new.state c.take_on_all.ensures.only c.in_ok-take_on_all.ensures.all c.in_ok-take_on_all.ensures.starved g.B.Backend.tells c.legal.ensures.world c.requires.stands
 
 pub returns-clause-ended : goal.returns-clause-ended
-returns-clause-ended g c = transaction_ended c.args.tx c.args.state.now c.schedule_end.new.state c.in_ok-schedule_end.ensures.ok c.take_on_all.new.state c.take_on_all.ensures.only c.in_ok-take_on_all.ensures.all c.in_ok-take_on_all.ensures.starved c.end_entry.new.self c.end_entry.ensures g.B.Backend.TELLS c.legal.ensures.world c.requires.free c.requires.alone
+returns-clause-ended g c = transaction_ended c.args.tx c.args.state.now c.schedule_end.new.state c.in_ok-schedule_end.ensures.ok c.take_on_all.new.state c.take_on_all.ensures.only c.in_ok-take_on_all.ensures.all c.in_ok-take_on_all.ensures.starved c.end_entry.new.self c.end_entry.ensures g.B.Backend.tells c.legal.ensures.world c.requires.free c.requires.alone

@@ -21,7 +21,7 @@ attempt-requires-clause-serves g c =
     let there : in_mask c.args.serving c.in-Some.b ≡ true = so_far.within c.in-Some.b c.in-Some.ensures.some in
     subst (λ (w : WorldState). CanServe w.core.placement w.core.history (requests.Select c.args.select.now) c.in-Some.b) (sym c.pick.ensures.same)
     (subst (λ (p : Core). CanServe p.placement c.loop-b.state.core.history (requests.Select c.args.select.now) c.in-Some.b) (sym so_far.core)
-    (serves_still g.B.Backend.TELLS c.args.s c.args.tx c.args.user.now c.args.select.now c.args.state.now c.loop-b.state c.args.serving c.loop-b.left c.legal.ensures.world.sound c.requires.tx
+    (serves_still g.B.Backend.tells c.args.s c.args.tx c.args.user.now c.args.select.now c.args.state.now c.loop-b.state c.args.serving c.loop-b.left c.legal.ensures.world.sound c.requires.tx
     c.requires.serving so_far c.in-Some.b ((c.requires.serving c.in-Some.b).1 there)))
 
 pub returns-in-Some-attempt-clause-turn : goal.returns-in-Some-attempt-clause-turn
@@ -32,9 +32,9 @@ returns-in-Some-attempt-clause-turn g c =
     subst (QuerySoFar c.args.s c.args.user.now old c.args.serving c.loop-b.left) (sym c.pick.ensures.same) c.loop-b.invariant.so_far
     in
     let there : in_mask c.args.serving c.in-Some.b ≡ true = so_far.within c.in-Some.b c.in-Some.ensures.some in
-    attempted_turn g.B.Backend.TELLS c.args.s c.args.tx c.args.user.now c.args.select.now old now c.args.serving c.loop-b.left c.legal.ensures.world.sound c.requires.tx c.requires.serving so_far
+    attempted_turn g.B.Backend.tells c.args.s c.args.tx c.args.user.now c.args.select.now old now c.args.serving c.loop-b.left c.legal.ensures.world.sound c.requires.tx c.requires.serving so_far
     (query_stands c.args.s c.args.user.now old now c.args.serving c.loop-b.left c.requires.stands so_far) c.attempt.new.state c.attempt.ensures.setup c.attempt.ensures.recovery_log c.attempt.ensures.logins c.in-Some-attempt.reply c.in-Some.b
-    (serving_is_backend g.B.Backend.TELLS old c.args.select.now c.args.serving c.in-Some.b c.legal.ensures.world c.requires.serving there) there c.in-Some-attempt.ensures.came
+    (serving_is_backend g.B.Backend.tells old c.args.select.now c.args.serving c.in-Some.b c.legal.ensures.world c.requires.serving there) there c.in-Some-attempt.ensures.came
 
 pub loop-b-preserved : goal.loop-b-preserved
 loop-b-preserved g c =
@@ -48,7 +48,7 @@ loop-b-preserved g c =
     record {
       so_far =
           query_goes_on c.args.s c.args.user.now old now c.attempt.new.state c.args.serving c.loop-b.left c.without_bit-left.result c.in-Some.b
-          (serving_is_backend g.B.Backend.TELLS old c.args.select.now c.args.serving c.in-Some.b c.legal.ensures.world c.requires.serving (so_far.within c.in-Some.b c.in-Some.ensures.some)) so_far c.in_default-attempt.ensures.came c.attempt.ensures.setup c.attempt.ensures.recovery_log
+          (serving_is_backend g.B.Backend.tells old c.args.select.now c.args.serving c.in-Some.b c.legal.ensures.world c.requires.serving (so_far.within c.in-Some.b c.in-Some.ensures.some)) so_far c.in_default-attempt.ensures.came c.attempt.ensures.setup c.attempt.ensures.recovery_log
           c.attempt.ensures.logins c.without_bit-left.ensures.bits c.in-Some.ensures.some;
       below = omega (arith, less, below);
       cache = c.in_default-attempt.ensures.cache ∙ (ap (λ (w : WorldState). w.cache) c.pick.ensures.same ∙ c.loop-b.invariant.cache);
@@ -66,16 +66,16 @@ returns-clause-turn g c =
     let so_far : QuerySoFar c.args.s c.args.user.now old c.args.serving c.loop-b.left now =
     subst (QuerySoFar c.args.s c.args.user.now old c.args.serving c.loop-b.left) (sym c.pick.ensures.same) c.loop-b.invariant.so_far
     in
-    counted_turn g.B.Backend.TELLS c.args.s c.args.tx c.args.user.now c.args.select.now old now c.args.serving c.loop-b.left c.legal.ensures.world.sound c.requires.tx c.requires.serving so_far
+    counted_turn g.B.Backend.tells c.args.s c.args.tx c.args.user.now c.args.select.now old now c.args.serving c.loop-b.left c.legal.ensures.world.sound c.requires.tx c.requires.serving so_far
     (query_stands c.args.s c.args.user.now old now c.args.serving c.loop-b.left c.requires.stands so_far) c.refuse.new.state c.refuse.result c.refuse.ensures.counted
-    (in_vain g.B.Backend.TELLS c.args.s c.args.tx c.args.user.now c.args.select.now old now c.args.serving c.loop-b.left c.legal.ensures.world.sound c.requires.tx c.requires.serving so_far
+    (in_vain g.B.Backend.tells c.args.s c.args.tx c.args.user.now c.args.select.now old now c.args.serving c.loop-b.left c.legal.ensures.world.sound c.requires.tx c.requires.serving so_far
     c.refuse.result (c.in_default.ensures.none.0 refl) c.requires.some c.refuse.ensures.reply)
 
 pub returns-in-Some-attempt-clause-cache : goal.returns-in-Some-attempt-clause-cache
 returns-in-Some-attempt-clause-cache g c =
     let old : WorldState = c.args.state.now in
     let now : WorldState = c.loop-b.state in
-    let as_long = ap length (same_log g.B.Backend.TELLS c.args.s c.args.tx c.args.user.now c.args.select.now old now c.args.serving c.loop-b.left c.legal.ensures.world.sound c.requires.tx c.requires.serving c.loop-b.invariant.so_far) in
+    let as_long = ap length (same_log g.B.Backend.tells c.args.s c.args.tx c.args.user.now c.args.select.now old now c.args.serving c.loop-b.left c.legal.ensures.world.sound c.requires.tx c.requires.serving c.loop-b.invariant.so_far) in
     c.in-Some-attempt.ensures.cache
     ∙ (ap (λ (w : WorldState). cache_answered c.args.tx c.args.select.now (length (log w.core.history)) c.in-Some-attempt.reply w.cache) c.pick.ensures.same
     ∙ (ap (λ n. cache_answered c.args.tx c.args.select.now n c.in-Some-attempt.reply now.cache) as_long

@@ -15,14 +15,14 @@ returns-in-Ok-clause-turn g c =
     let old = c.args.state.now in
     let begun = c.schedule_for.new.state in
     let user = begun_user c.args.s _ old begun c.requires.stands.idle c.in-Ok.ensures.ok in
-    let ended = subst (λ (u : List ℕ). EntryEnded g.B.Backend.TELLS c.args.s u begun c.finish.result c.finish.new.state) user c.finish.ensures in
-    wrote g.B.Backend.TELLS c.args.s c.args.tx c.args.user.now c.args.act c.finish.result old begun c.finish.new.state c.in-Ok.number c.legal.ensures.world.sound c.requires.stands ended c.in-Ok.ensures.scheduled c.in-Ok.ensures.ok
+    let ended = subst (λ (u : List ℕ). EntryEnded g.B.Backend.tells c.args.s u begun c.finish.result c.finish.new.state) user c.finish.ensures in
+    wrote g.B.Backend.tells c.args.s c.args.tx c.args.user.now c.args.act c.finish.result old begun c.finish.new.state c.in-Ok.number c.legal.ensures.world.sound c.requires.stands ended c.in-Ok.ensures.scheduled c.in-Ok.ensures.ok
 
 pub returns-in-Err-clause-turn : goal.returns-in-Err-clause-turn
 returns-in-Err-clause-turn g c =
     let old = c.args.state.now in
     rw (c.refuse.ensures.reply)
-    (refused g.B.Backend.TELLS c.args.s c.args.tx c.args.user.now c.args.act old c.schedule_for.new.state c.refuse.new.state c.in-Err.refusal c.legal.ensures.world.sound c.requires.stands c.requires.fits c.in-Err.ensures.err c.refuse.ensures.counted c.in-Err.ensures.scheduled)
+    (refused g.B.Backend.tells c.args.s c.args.tx c.args.user.now c.args.act old c.schedule_for.new.state c.refuse.new.state c.in-Err.refusal c.legal.ensures.world.sound c.requires.stands c.requires.fits c.in-Err.ensures.err c.refuse.ensures.counted c.in-Err.ensures.scheduled)
 
 pub refuse-requires-clause-stands : goal.refuse-requires-clause-stands
 refuse-requires-clause-stands g c =
@@ -30,7 +30,7 @@ refuse-requires-clause-stands g c =
 
 pub returns-in-Ok-clause-cache : goal.returns-in-Ok-clause-cache
 returns-in-Ok-clause-cache g c =
-    ended_follows g.B.Backend.TELLS c.args.s (open_user c.schedule_for.new.state.core) c.args.state.now c.schedule_for.new.state c.finish.new.state c.finish.result c.in-Ok.ensures.ok.cache c.finish.ensures
+    ended_follows g.B.Backend.tells c.args.s (open_user c.schedule_for.new.state.core) c.args.state.now c.schedule_for.new.state c.finish.new.state c.finish.result c.in-Ok.ensures.ok.cache c.finish.ensures
 
 pub returns-in-Err-clause-cache : goal.returns-in-Err-clause-cache
 returns-in-Err-clause-cache g c =

@@ -20,4 +20,4 @@ end_all-requires-clause-stands g c =
 pub returns-clause-started : goal.returns-clause-started
 returns-clause-started g c =
     has_started c.args.state.now c.replay_everywhere.new.state c.replay_everywhere.ensures.only c.in_ok-replay_everywhere.ensures.all c.enable_everywhere.new.state c.in_ok-enable_everywhere.ensures.ok c.requires.opened
-    c.end_all.new.state c.in_ok-end_all.ensures.ended g.B.Backend.TELLS c.legal-2.ensures.world
+    c.end_all.new.state c.in_ok-end_all.ensures.ended g.B.Backend.tells c.legal-2.ensures.world

@@ -47,14 +47,14 @@ wait-requires-in-Err-Behind-clause-idle g c =
 pub returns-then-not-has_bit-clause-moves : goal.returns-then-not-has_bit-clause-moves
 returns-then-not-has_bit-clause-moves g c =
     let same : HasNoOtherRead (session_at c.args.state.now.core c.args.s) c.args.select = c.if-reads_other.ensures in
-    not_serving g.B.Backend.TELLS c.args.state.now.core c.args.s c.args.b c.args.select same c.serving-serving.result c.serving-serving.type_inv c.if-serving-eq0.false c.serving-serving.ensures.mask
+    not_serving g.B.Backend.tells c.args.state.now.core c.args.s c.args.b c.args.select same c.serving-serving.result c.serving-serving.type_inv c.if-serving-eq0.false c.serving-serving.ensures.mask
     (λ serves. both_ways c.has_bit.result c.if-not-has_bit.true (c.has_bit.ensures ∙ (c.serving-serving.ensures.mask c.args.b).0 serves))
 
 pub returns-in-Ok-clause-moves : goal.returns-in-Ok-clause-moves
 returns-in-Ok-clause-moves g c =
     let same : HasNoOtherRead (session_at c.args.state.now.core c.args.s) c.args.select = c.if-reads_other.ensures in
-    answered g.B.Backend.TELLS c.args.state.now.core c.args.s c.args.b c.args.select same ((c.serving-serving.ensures.mask c.args.b).1 (sym c.has_bit.ensures ∙ c.if-not-has_bit.false)) c.in-Ok.answer c.in-Ok.position c.ask.new.self.core c.give_answer.new.state.core
-    c.give_answer.result (subst (λ (t : ℕ). Asks g.B.Backend.TELLS c.args.state.now.core c.args.s c.args.b t c.args.select (Ok (c.in-Ok.answer, c.in-Ok.position))) c.open_tx-tx.ensures c.in-Ok.ensures.asks) c.in-Ok.ensures.core (ap (λ (w : WorldState). w.core) c.give_answer.ensures.ok) c.give_answer.ensures.moved
+    answered g.B.Backend.tells c.args.state.now.core c.args.s c.args.b c.args.select same ((c.serving-serving.ensures.mask c.args.b).1 (sym c.has_bit.ensures ∙ c.if-not-has_bit.false)) c.in-Ok.answer c.in-Ok.position c.ask.new.self.core c.give_answer.new.state.core
+    c.give_answer.result (subst (λ (t : ℕ). Asks g.B.Backend.tells c.args.state.now.core c.args.s c.args.b t c.args.select (Ok (c.in-Ok.answer, c.in-Ok.position))) c.open_tx-tx.ensures c.in-Ok.ensures.asks) c.in-Ok.ensures.core (ap (λ (w : WorldState). w.core) c.give_answer.ensures.ok) c.give_answer.ensures.moved
 
 pub returns-in-Ok-clause-causes : goal.returns-in-Ok-clause-causes
 returns-in-Ok-clause-causes g c =
@@ -64,9 +64,9 @@ returns-in-Ok-clause-causes g c =
 pub returns-in-Err-Failed-clause-moves : goal.returns-in-Err-Failed-clause-moves
 returns-in-Err-Failed-clause-moves g c =
     let same : HasNoOtherRead (session_at c.args.state.now.core c.args.s) c.args.select = c.if-reads_other.ensures in
-    let asks = asks_same g.B.Backend.TELLS c.args.state.now.core c.args.s c.args.b c.args.select c.open_tx-tx.result (open_tx c.args.state.now.core c.args.s) _ _ c.open_tx-tx.ensures c.in-Err-Failed.field-0-is c.in-Err-Failed.ensures.asks in
+    let asks = asks_same g.B.Backend.tells c.args.state.now.core c.args.s c.args.b c.args.select c.open_tx-tx.result (open_tx c.args.state.now.core c.args.s) _ _ c.open_tx-tx.ensures c.in-Err-Failed.field-0-is c.in-Err-Failed.ensures.asks in
     let core = subst (λ (e : AskError). c.ask.new.self.core ≡ asked_core c.args.state.now.core c.args.s c.args.b (Err e)) c.in-Err-Failed.field-0-is c.in-Err-Failed.ensures.core in
-    failed g.B.Backend.TELLS c.args.state.now.core c.args.s c.args.b c.args.select same ((c.serving-serving.ensures.mask c.args.b).1 (sym c.has_bit.ensures ∙ c.if-not-has_bit.false)) c.ask.new.self.core c.refuse_or_stay.new.state.core c.refuse_or_stay.result c.serving-serving.result c.serving-serving.ensures.mask asks core
+    failed g.B.Backend.tells c.args.state.now.core c.args.s c.args.b c.args.select same ((c.serving-serving.ensures.mask c.args.b).1 (sym c.has_bit.ensures ∙ c.if-not-has_bit.false)) c.ask.new.self.core c.refuse_or_stay.new.state.core c.refuse_or_stay.result c.serving-serving.result c.serving-serving.ensures.mask asks core
     (subst (λ (tried : ℕ). RefusesOrStays c.ask.new.self.core c.args.s c.args.select tried c.serving-serving.result c.refuse_or_stay.result c.refuse_or_stay.new.state.core) c.tried_with-tried.ensures c.refuse_or_stay.ensures.moves)
 
 pub returns-in-Err-Failed-clause-causes : goal.returns-in-Err-Failed-clause-causes
@@ -78,9 +78,9 @@ returns-in-Err-Failed-clause-causes g c =
 pub returns-in-Err-Unnoted-clause-moves : goal.returns-in-Err-Unnoted-clause-moves
 returns-in-Err-Unnoted-clause-moves g c =
     let same : HasNoOtherRead (session_at c.args.state.now.core c.args.s) c.args.select = c.if-reads_other.ensures in
-    let asks = asks_same g.B.Backend.TELLS c.args.state.now.core c.args.s c.args.b c.args.select c.open_tx-tx.result (open_tx c.args.state.now.core c.args.s) _ _ c.open_tx-tx.ensures c.in-Err-Unnoted.field-0-is c.in-Err-Unnoted.ensures.asks in
+    let asks = asks_same g.B.Backend.tells c.args.state.now.core c.args.s c.args.b c.args.select c.open_tx-tx.result (open_tx c.args.state.now.core c.args.s) _ _ c.open_tx-tx.ensures c.in-Err-Unnoted.field-0-is c.in-Err-Unnoted.ensures.asks in
     let core = subst (λ (e : AskError). c.ask.new.self.core ≡ asked_core c.args.state.now.core c.args.s c.args.b (Err e)) c.in-Err-Unnoted.field-0-is c.in-Err-Unnoted.ensures.core in
-    unnoted g.B.Backend.TELLS c.args.state.now.core c.args.s c.args.b c.args.select same ((c.serving-serving.ensures.mask c.args.b).1 (sym c.has_bit.ensures ∙ c.if-not-has_bit.false)) c.in-Err-Unnoted.events c.ask.new.self.core c.refuse_unnoted.new.state.core c.refuse_unnoted.result asks core c.refuse_unnoted.ensures.moved
+    unnoted g.B.Backend.tells c.args.state.now.core c.args.s c.args.b c.args.select same ((c.serving-serving.ensures.mask c.args.b).1 (sym c.has_bit.ensures ∙ c.if-not-has_bit.false)) c.in-Err-Unnoted.events c.ask.new.self.core c.refuse_unnoted.new.state.core c.refuse_unnoted.result asks core c.refuse_unnoted.ensures.moved
     (ap (λ (w : WorldState). w.core) c.refuse_unnoted.ensures.ok)
 
 pub returns-in-Err-Unnoted-clause-causes : goal.returns-in-Err-Unnoted-clause-causes
@@ -92,9 +92,9 @@ returns-in-Err-Unnoted-clause-causes g c =
 pub returns-in-Err-Out-clause-moves : goal.returns-in-Err-Out-clause-moves
 returns-in-Err-Out-clause-moves g c =
     let same : HasNoOtherRead (session_at c.args.state.now.core c.args.s) c.args.select = c.if-reads_other.ensures in
-    let asks = asks_same g.B.Backend.TELLS c.args.state.now.core c.args.s c.args.b c.args.select c.open_tx-tx.result (open_tx c.args.state.now.core c.args.s) _ _ c.open_tx-tx.ensures c.in-Err-Out.field-0-is c.in-Err-Out.ensures.asks in
+    let asks = asks_same g.B.Backend.tells c.args.state.now.core c.args.s c.args.b c.args.select c.open_tx-tx.result (open_tx c.args.state.now.core c.args.s) _ _ c.open_tx-tx.ensures c.in-Err-Out.field-0-is c.in-Err-Out.ensures.asks in
     let core = subst (λ (e : AskError). c.ask.new.self.core ≡ asked_core c.args.state.now.core c.args.s c.args.b (Err e)) c.in-Err-Out.field-0-is c.in-Err-Out.ensures.core in
-    is_out g.B.Backend.TELLS c.args.state.now.core c.args.s c.args.b c.args.select same ((c.serving-serving.ensures.mask c.args.b).1 (sym c.has_bit.ensures ∙ c.if-not-has_bit.false)) c.ask.new.self.core c.wait.new.state.core asks core (ap (λ (w : WorldState). w.core) c.wait.ensures)
+    is_out g.B.Backend.tells c.args.state.now.core c.args.s c.args.b c.args.select same ((c.serving-serving.ensures.mask c.args.b).1 (sym c.has_bit.ensures ∙ c.if-not-has_bit.false)) c.ask.new.self.core c.wait.new.state.core asks core (ap (λ (w : WorldState). w.core) c.wait.ensures)
 
 pub returns-in-Err-Out-clause-causes : goal.returns-in-Err-Out-clause-causes
 returns-in-Err-Out-clause-causes g c =
@@ -104,9 +104,9 @@ returns-in-Err-Out-clause-causes g c =
 pub returns-in-Err-Behind-clause-moves : goal.returns-in-Err-Behind-clause-moves
 returns-in-Err-Behind-clause-moves g c =
     let same : HasNoOtherRead (session_at c.args.state.now.core c.args.s) c.args.select = c.if-reads_other.ensures in
-    let asks = asks_same g.B.Backend.TELLS c.args.state.now.core c.args.s c.args.b c.args.select c.open_tx-tx.result (open_tx c.args.state.now.core c.args.s) _ _ c.open_tx-tx.ensures c.in-Err-Behind.field-0-is c.in-Err-Behind.ensures.asks in
+    let asks = asks_same g.B.Backend.tells c.args.state.now.core c.args.s c.args.b c.args.select c.open_tx-tx.result (open_tx c.args.state.now.core c.args.s) _ _ c.open_tx-tx.ensures c.in-Err-Behind.field-0-is c.in-Err-Behind.ensures.asks in
     let core = subst (λ (e : AskError). c.ask.new.self.core ≡ asked_core c.args.state.now.core c.args.s c.args.b (Err e)) c.in-Err-Behind.field-0-is c.in-Err-Behind.ensures.core in
-    is_behind g.B.Backend.TELLS c.args.state.now.core c.args.s c.args.b c.args.select same ((c.serving-serving.ensures.mask c.args.b).1 (sym c.has_bit.ensures ∙ c.if-not-has_bit.false)) c.in-Err-Behind.position c.ask.new.self.core
+    is_behind g.B.Backend.tells c.args.state.now.core c.args.s c.args.b c.args.select same ((c.serving-serving.ensures.mask c.args.b).1 (sym c.has_bit.ensures ∙ c.if-not-has_bit.false)) c.in-Err-Behind.position c.ask.new.self.core
     c.wait-in-Err-Behind.new.state.core asks core (ap (λ (w : WorldState). w.core) c.wait-in-Err-Behind.ensures)
 
 pub returns-in-Err-Behind-clause-causes : goal.returns-in-Err-Behind-clause-causes

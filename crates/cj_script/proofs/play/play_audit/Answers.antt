@@ -8,7 +8,7 @@ use Rattle.cj_script.proofs.play.play_audit.Goals as goal
 
 pub returns-in-Some-clause-plays : goal.returns-in-Some-clause-plays
 returns-in-Some-clause-plays g c number =
-    let tells = g.B.Backend.TELLS in
+    let tells = g.B.Backend.tells in
     let can = g.B.Backend.can_be_armed in
     let held = g.O.Sink.held c.args.output.now in
     let held' = g.O.Sink.held c.write_made.new.output in

@@ -5,7 +5,7 @@ use Rattle.cj_script.proofs.play.play_line.Goals as goal
 
 pub returns-clause-plays : goal.returns-clause-plays
 returns-clause-plays g c =
-    let tells = g.B.Backend.TELLS in
+    let tells = g.B.Backend.tells in
     let can = g.B.Backend.can_be_armed in
     let held = g.O.Sink.held c.args.output.now in
     let held' = g.O.Sink.held c.write_made.new.output in

@@ -8,7 +8,7 @@ abbrev pub invariant-loop-line : goal.invariant-loop-line
 invariant-loop-line g l =
     record {
       playing :
-          Playing g.B.Backend.TELLS g.B.Backend.can_be_armed l.fn.world.setup.names (g.I.Source.left l.fn.input) (g.I.Source.left l.input) (g.O.Sink.held l.fn.output) (g.O.Sink.held l.output) l.fn.world l.lines.rest l.lines.taken l.number l.world;
+          Playing g.B.Backend.tells g.B.Backend.can_be_armed l.fn.world.setup.names (g.I.Source.left l.fn.input) (g.I.Source.left l.input) (g.O.Sink.held l.fn.output) (g.O.Sink.held l.output) l.fn.world l.lines.rest l.lines.taken l.number l.world;
       few : l.lines.taken ≤ most;
       numbers : l.number + length l.lines.rest ≤ l.lines.taken;
       counting : Counting (length l.lines.rest) l.lines.taken l.world;

@@ -23,12 +23,12 @@ loop-n-preserved g c =
     let i = c.loop-n.invariant in
     let pushed = c.in-Ok.ensures.items in
     let label : Label = record { name = c.copy-name.result; at = c.loop-n.at } in
-    let read = λ (t : g.D.Store.TELLS ≡ true). subst (λ (xs : List (List ℕ)). slice_get xs n ≡ Some body) (i.same.list t) (c.in_ok-body.ensures.body t) in
+    let read = λ (t : g.D.Store.tells ≡ true). subst (λ (xs : List (List ℕ)). slice_get xs n ≡ Some body) (i.same.list t) (c.in_ok-body.ensures.body t) in
     let is : body ≡ dump_bytes c.in_ok-d.d = sym c.deref.ensures.value ∙ c.in_ok-d.ensures.0 in
     let len : c.len.result ≡ length body = c.len.ensures ∙ sym c.deref.ensures.len ∙ ap length c.deref.ensures.value in
     let sum : c.saturating_add-at.result ≡ min (c.loop-n.at + (9 + length body)) (2 ^ 64 - 1) = c.saturating_add-at.ensures ∙ ap (λ (k : ℕ). min (c.loop-n.at + (9 + k)) (2 ^ 64 - 1)) len in
     record {
-      same = same_then g.D.Store.TELLS g.D.Store.held c.args.records.now c.loop-n.records c.read.new.self i.same c.in_ok-body.ensures.same;
+      same = same_then g.D.Store.tells g.D.Store.held c.args.records.now c.loop-n.records c.read.new.self i.same c.in_ok-body.ensures.same;
       labels = λ t. rw pushed (subst (λ (bs : List (List ℕ)). Labels bs (c.loop-n.labels.items ++ label ∷ [])) (sym (one_more list n body (read t))) (labels_more _ c.loop-n.labels.items body c.in_ok-d.d label (i.labels t) c.in_ok-d.ensures.1 is c.copy-name.ensures));
       there = λ t. there_more list n c.loop-n.at c.args.records.now.end c.saturating_add-at.result body (i.there t) sum (c.legal.ensures.end t ∙ ap (λ (m : List ℕ). length (front_bytes m list)) c.requires) (omega (arith, c.legal.ensures.limit)) (read t);
       count = rw pushed (length-append c.loop-n.labels.items (label ∷ []) ∙ ap (λ (k : ℕ). k + 1) i.count);

@@ -8,9 +8,9 @@ use Rattle.cj_shelf.proofs.reading.read_labels.Given as goal
 abbrev pub invariant-loop-n : goal.invariant-loop-n
 invariant-loop-n g l =
     record {
-      same : SameRecords g.D.Store.TELLS g.D.Store.held l.fn.records l.records;
-      labels : g.D.Store.TELLS ≡ true → Labels (take l.n l.fn.records.list) l.labels.items;
-      there : g.D.Store.TELLS ≡ true → l.at ≡ length (front_bytes shelf_magic (take l.n l.fn.records.list));
+      same : SameRecords g.D.Store.tells g.D.Store.held l.fn.records l.records;
+      labels : g.D.Store.tells ≡ true → Labels (take l.n l.fn.records.list) l.labels.items;
+      there : g.D.Store.tells ≡ true → l.at ≡ length (front_bytes shelf_magic (take l.n l.fn.records.list));
       count : length l.labels.items ≡ l.n;
       faults : g.D.Store.faults l.records.store ≡ g.D.Store.faults l.fn.records.store;
     }

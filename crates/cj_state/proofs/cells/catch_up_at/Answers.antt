@@ -77,7 +77,7 @@ returns-clause-took g c =
     let how = subst (λ (n : ℕ). CatchesUp y.state n c.in-Some.entry.now c.mapped-login.result.now c.catch_up.result c.catch_up.new.self.state) next c.catch_up.ensures.state in
     let value = seen_as c.args.cells.now.items c.args.b y (cell_in c.args.cells.now.items c.args.b can.within) c.index_mut.ensures.value in
     rw c.did_of.ensures
-    (took g.B.Backend.TELLS c.args.accounts.now.accounts c.args.book.now.state.layout c.args.book.now.state.history (states_of c.args.cells.now.items) c.args.b can y.state c.catch_up.new.self.state value
+    (took g.B.Backend.tells c.args.accounts.now.accounts c.args.book.now.state.layout c.args.book.now.state.history (states_of c.args.cells.now.items) c.args.b can y.state c.catch_up.new.self.state value
     c.in-Some.entry.now entry c.catch_up.result _ c.mapped-login.result.now (states_set c.args.cells.now.items c.args.b c.catch_up.new.self) how c.mapped-login.ensures)
 
 pub returns-clause-token : goal.returns-clause-token

@@ -7,6 +7,6 @@ returns-in-Ok-play g c =
     let empty : c.new-log.result.bytes ≡ [] = ap (λ (s : State). s.bytes) c.new-log.ensures ∙ c.new.ensures.items in
     record {
       first = c.in-Ok.world;
-      begins = subst (λ (held : List ℕ). BeginsAsConfigured g.B.Backend.TELLS c.args.conf (Found true held) c.in-Ok.world) empty c.in-Ok.ensures.begins;
+      begins = subst (λ (held : List ℕ). BeginsAsConfigured g.B.Backend.tells c.args.conf (Found true held) c.in-Ok.world) empty c.in-Ok.ensures.begins;
       plays = c.in-Ok-play.ensures.played;
     }

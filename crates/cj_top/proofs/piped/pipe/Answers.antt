@@ -19,7 +19,7 @@ refused_at (Err e) a gives = gives e a
 pub returns-in-Err-clause-refused : goal.returns-in-Err-clause-refused
 returns-in-Err-clause-refused g c =
     let s = g.S.Store in
-    refuses_log s.faults s.held c.args.log s.TELLS c.in-Err.error c.in-Err.field-0-1 c.in-Err.ensures.bytes c.in-Err.ensures.cause
+    refuses_log s.faults s.held c.args.log s.tells c.in-Err.error c.in-Err.field-0-1 c.in-Err.ensures.bytes c.in-Err.ensures.cause
 
 pub serve_one-requires-clause-fresh : goal.serve_one-requires-clause-fresh
 serve_one-requires-clause-fresh g c = c.in-Ok-start.ensures.started.started.sessions
@@ -34,7 +34,7 @@ returns-clause-served g c =
     subst (λ (r : Register). first.setup ≡ record { names = c.args.conf.placement.names; register = r }) c.in-Ok.ensures.accounts
     (subst (λ (l : Layout). first.setup ≡ record { names = l.names; register = c.in-Ok.parts.accounts }) c.in-Ok.ensures.placement c.in-Ok-start.ensures.setup)
     in
-    let starts = subst (λ (l : Layout). StartsFrom (Found g.S.Store.TELLS (g.S.Store.held c.args.log)) (placement_of l) (map (state_by g.B.Backend.told g.B.Backend.faults g.B.Backend.asks g.B.Backend.login g.B.Backend.arming) c.args.backends) first) c.in-Ok.ensures.placement c.in-Ok-start.ensures.started in
+    let starts = subst (λ (l : Layout). StartsFrom (Found g.S.Store.tells (g.S.Store.held c.args.log)) (placement_of l) (map (state_by g.B.Backend.told g.B.Backend.faults g.B.Backend.asks g.B.Backend.login g.B.Backend.arming) c.args.backends) first) c.in-Ok.ensures.placement c.in-Ok-start.ensures.started in
     served_at c.serve_one.result c.serve_one.ensures.serves
     (λ ending last is serves. (
       first,
@@ -43,15 +43,15 @@ returns-clause-served g c =
       c.in-Ok-start.ensures.cache ∙ c.in-Ok.ensures.cache,
       serves,
       λ input output memory.
-          pipe_answers g.B.Backend.TELLS c.args.conf.seed (g.C.Clock.moment c.args.clock.now) (g.I.Source.left c.args.input.now) (g.I.Source.left c.serve_one.new.input) (g.O.Sink.held c.args.output.now) (g.O.Sink.held c.serve_one.new.output) first last ending serves
+          pipe_answers g.B.Backend.tells c.args.conf.seed (g.C.Clock.moment c.args.clock.now) (g.I.Source.left c.args.input.now) (g.I.Source.left c.serve_one.new.input) (g.O.Sink.held c.args.output.now) (g.O.Sink.held c.serve_one.new.output) first last ending serves
           (λ e. not_failed _ _ _ c.serve_one.ensures.input input (ended_so c.serve_one.result ending last _ is e)) (λ e. not_failed _ _ _ c.serve_one.ensures.output output (ended_so c.serve_one.result ending last _ is e)) memory,
     ))
 
 pub returns-clause-refused : goal.returns-clause-refused
 returns-clause-refused g c =
     let first : WorldState = c.in-Ok-start.world in
-    let starts = subst (λ (l : Layout). StartsFrom (Found g.S.Store.TELLS (g.S.Store.held c.args.log)) (placement_of l) (map (state_by g.B.Backend.told g.B.Backend.faults g.B.Backend.asks g.B.Backend.login g.B.Backend.arming) c.args.backends) first) c.in-Ok.ensures.placement c.in-Ok-start.ensures.started in
+    let starts = subst (λ (l : Layout). StartsFrom (Found g.S.Store.tells (g.S.Store.held c.args.log)) (placement_of l) (map (state_by g.B.Backend.told g.B.Backend.faults g.B.Backend.asks g.B.Backend.login g.B.Backend.arming) c.args.backends) first) c.in-Ok.ensures.placement c.in-Ok-start.ensures.started in
     refused_at c.serve_one.result c.serve_one.ensures.full
     (λ e full.
-    subst (RefusesPipe g.S.Store.faults c.args.log g.S.Store.TELLS (g.S.Store.held c.args.log) (placement_of c.args.conf.placement) (map (state_by g.B.Backend.told g.B.Backend.faults g.B.Backend.asks g.B.Backend.login g.B.Backend.arming) c.args.backends)) (sym full.0)
+    subst (RefusesPipe g.S.Store.faults c.args.log g.S.Store.tells (g.S.Store.held c.args.log) (placement_of c.args.conf.placement) (map (state_by g.B.Backend.told g.B.Backend.faults g.B.Backend.asks g.B.Backend.login g.B.Backend.arming) c.args.backends)) (sym full.0)
     (record { first = first; starts = starts; last_given = full.1 }))

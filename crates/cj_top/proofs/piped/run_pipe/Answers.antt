@@ -20,7 +20,7 @@ by_kinds kinds given found answer same finds is = sym (ap (list_all is_memory) s
 pub returns-then-are_in_memory-clause-runs : goal.returns-then-are_in_memory-clause-runs
 returns-then-are_in_memory-clause-runs g c =
     let served = c.in_ok-end.ensures.served in
-    let found = Found g.S.Store.TELLS (g.S.Store.held c.args.log) in
+    let found = Found g.S.Store.tells (g.S.Store.held c.args.log) in
     let p = placement_of c.args.conf.placement in
     let seen = seen_alike _ c.count.result (length c.args.conf.placement.names) fresh_state c.in-Ok.backends c.in-Ok.ensures c.count.ensures.count in
     let starts : StartsFrom found p (replicate (length c.args.conf.placement.names) (new_backend true)) served.0 = subst (λ (backends : List BackendState). StartsFrom found p backends served.0) seen served.1 in
@@ -49,7 +49,7 @@ returns-then-are_in_memory-clause-runs g c =
 pub returns-clause-runs : goal.returns-clause-runs
 returns-clause-runs g c =
     let served = c.in_ok-end-2.ensures.served in
-    let found = Found g.S.Store.TELLS (g.S.Store.held c.args.log) in
+    let found = Found g.S.Store.tells (g.S.Store.held c.args.log) in
     let p = placement_of c.args.conf.placement in
     let new = any_are_new (length c.args.conf.placement.names) c.args.conf.kinds c.in-Ok-any_backends.backends (c.in-Ok-any_backends.ensures ∙ ap (map new_of) c.as_slice-2.ensures) c.requires.usable.kinds in
     let starts : StartsFrom found p (replicate (length c.args.conf.placement.names) (new_backend false)) served.0 = subst (λ (backends : List BackendState). StartsFrom found p backends served.0) new.seen served.1 in
@@ -85,7 +85,7 @@ refused_so P (Err x) e is p = subst P (sym is) p
 pub returns-in_err-end-clause-refused : goal.returns-in_err-end-clause-refused
 returns-in_err-end-clause-refused g c =
     let s = g.S.Store in
-    let refuses : List BackendState → PipeError → Type 0 = λ backends. RefusesPipe s.faults c.args.log s.TELLS (s.held c.args.log) (placement_of c.args.conf.placement) backends in
+    let refuses : List BackendState → PipeError → Type 0 = λ backends. RefusesPipe s.faults c.args.log s.tells (s.held c.args.log) (placement_of c.args.conf.placement) backends in
     let n = length c.args.conf.placement.names in
     let memory : in_memory c.args.conf ≡ true = by_kinds c.args.conf.kinds c.as_slice.result.now c.are_in_memory.result true c.as_slice.ensures c.are_in_memory.ensures c.if-are_in_memory.true in
     let seen = seen_alike _ c.count.result n fresh_state c.in-Ok.backends c.in-Ok.ensures c.count.ensures.count ∙ ap (λ (t : Bool). replicate n (new_backend t)) (sym memory) in
@@ -95,7 +95,7 @@ returns-in_err-end-clause-refused g c =
 pub returns-in_err-end-2-clause-refused : goal.returns-in_err-end-2-clause-refused
 returns-in_err-end-2-clause-refused g c =
     let s = g.S.Store in
-    let refuses : List BackendState → PipeError → Type 0 = λ backends. RefusesPipe s.faults c.args.log s.TELLS (s.held c.args.log) (placement_of c.args.conf.placement) backends in
+    let refuses : List BackendState → PipeError → Type 0 = λ backends. RefusesPipe s.faults c.args.log s.tells (s.held c.args.log) (placement_of c.args.conf.placement) backends in
     let n = length c.args.conf.placement.names in
     let other : in_memory c.args.conf ≡ false = by_kinds c.args.conf.kinds c.as_slice.result.now c.are_in_memory.result false c.as_slice.ensures c.are_in_memory.ensures c.if-are_in_memory.false in
     let new = any_are_new n c.args.conf.kinds c.in-Ok-any_backends.backends (c.in-Ok-any_backends.ensures ∙ ap (map new_of) c.as_slice-2.ensures) c.requires.usable.kinds in

@@ -10,7 +10,7 @@ serve_session-end-requires-clause-closed g c =
 
 pub returns-clause-serves : goal.returns-clause-serves
 returns-clause-serves g c =
-    let tells = g.B.Backend.TELLS in
+    let tells = g.B.Backend.tells in
     let moment = g.C.Clock.moment c.args.clock.now in
     let end = c.serve_session-end in
     let number : c.session.result ≡ c.args.world.core.greatest + 1 = c.session.ensures ∙ ap (λ (d : SoloState). d.session) c.in-Ok.ensures.opened in

@@ -13,10 +13,10 @@ pub returns-then-are_in_memory-clause-complete : goal.returns-then-are_in_memory
 returns-then-are_in_memory-clause-complete g c =
     let ran = c.play_over in
     λ input output.
-    plays_of true c.args.conf (Found g.S.Store.TELLS (g.S.Store.held c.args.log)) (g.I.Source.left c.args.input.now) (g.I.Source.left ran.new.input) (g.O.Sink.held c.args.output.now) (g.O.Sink.held ran.new.output) ran.result _ _ _ _ ran.ensures.played ran.ensures.input ran.ensures.output input output
+    plays_of true c.args.conf (Found g.S.Store.tells (g.S.Store.held c.args.log)) (g.I.Source.left c.args.input.now) (g.I.Source.left ran.new.input) (g.O.Sink.held c.args.output.now) (g.O.Sink.held ran.new.output) ran.result _ _ _ _ ran.ensures.played ran.ensures.input ran.ensures.output input output
 
 pub returns-clause-complete : goal.returns-clause-complete
 returns-clause-complete g c =
     let ran = c.play_over-2 in
     λ input output.
-    plays_of false c.args.conf (Found g.S.Store.TELLS (g.S.Store.held c.args.log)) (g.I.Source.left c.args.input.now) (g.I.Source.left ran.new.input) (g.O.Sink.held c.args.output.now) (g.O.Sink.held ran.new.output) ran.result _ _ _ _ ran.ensures.played ran.ensures.input ran.ensures.output input output
+    plays_of false c.args.conf (Found g.S.Store.tells (g.S.Store.held c.args.log)) (g.I.Source.left c.args.input.now) (g.I.Source.left ran.new.input) (g.O.Sink.held c.args.output.now) (g.O.Sink.held ran.new.output) ran.result _ _ _ _ ran.ensures.played ran.ensures.input ran.ensures.output input output

@@ -8,7 +8,7 @@ returns-clause-played g c =
     let left' = g.I.Source.left c.script.new.input in
     let held = g.O.Sink.held c.args.output.now in
     let held' = g.O.Sink.held c.script.new.output in
-    played_as_configured g.B.Backend.TELLS c.args.conf (Found g.S.Store.TELLS (g.S.Store.held c.args.log)) left left' held held' c.script.result c.in_ok-world.world c.script.new.world c.in_ok-world.ensures.begins c.script.ensures.came c.script.ensures.turns
+    played_as_configured g.B.Backend.tells c.args.conf (Found g.S.Store.tells (g.S.Store.held c.args.log)) left left' held held' c.script.result c.in_ok-world.world c.script.new.world c.in_ok-world.ensures.begins c.script.ensures.came c.script.ensures.turns
 
 pub returns-clause-input : goal.returns-clause-input
 returns-clause-input g c = cause_as_ok c.script.result ends.ReadFault _ _ c.script.ensures.input

@@ -5,7 +5,7 @@ use Rattle.cj_workload.proofs.moving.repair_each.Given as goal
 
 abbrev pub invariant-loop-b : goal.invariant-loop-b
 invariant-loop-b g l = record {
-  repairs : RepairsEach g.B.Backend.TELLS g.B.Backend.can_be_armed l.b l.fn.solo l.solo;
+  repairs : RepairsEach g.B.Backend.tells g.B.Backend.can_be_armed l.b l.fn.solo l.solo;
   keeps : Keeps 0 l.enabled l.fn.solo l.solo;
   few : l.enabled ≤ l.b;
 }

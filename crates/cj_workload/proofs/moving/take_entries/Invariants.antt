@@ -4,6 +4,6 @@ use Rattle.cj_workload.proofs.moving.take_entries.Given as goal
 
 abbrev pub invariant-loop : goal.invariant-loop
 invariant-loop g l = record {
-  takes : TakesEntries g.B.Backend.TELLS g.B.Backend.can_be_armed l.b l.counter l.fn.solo l.solo;
+  takes : TakesEntries g.B.Backend.tells g.B.Backend.can_be_armed l.b l.counter l.fn.solo l.solo;
   keeps : Keeps 0 0 l.fn.solo l.solo;
 }

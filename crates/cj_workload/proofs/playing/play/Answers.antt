@@ -22,7 +22,7 @@ rounds-requires-clause-room g c =
 -- closing the session changes nothing that is summed up
 pub returns-clause-played : goal.returns-clause-played
 returns-clause-played g c =
-    let tells = g.B.Backend.TELLS in
+    let tells = g.B.Backend.tells in
     let armable = g.B.Backend.can_be_armed in
     let begun = c.begin.new.solo in
     let ended = c.rounds.new.solo in

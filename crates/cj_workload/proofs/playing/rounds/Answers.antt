@@ -16,7 +16,7 @@ loop-done-preserved g c =
     record {
       draws = draws_more c.args.seed c.loop-done.done c.loop-done.draw c.next_statement.new.draw i.draws c.in_ok-statement.ensures.later;
       plays =
-          rounds_more g.B.Backend.TELLS g.B.Backend.can_be_armed c.args.seed c.loop-done.done c.args.solo.now c.loop-done.solo c.round.new.solo c.loop-done.draw _ i.draws c.in_ok-statement.ensures.drawn i.plays c.in_ok-enabled.ensures.plays;
+          rounds_more g.B.Backend.tells g.B.Backend.can_be_armed c.args.seed c.loop-done.done c.args.solo.now c.loop-done.solo c.round.new.solo c.loop-done.draw _ i.draws c.in_ok-statement.ensures.drawn i.plays c.in_ok-enabled.ensures.plays;
       keeps = keeps_both c.loop-done.done 1 c.loop-done.enabled c.in_ok-enabled.field-0 _ _ _ i.keeps c.in_ok-enabled.ensures.keeps;
       few = omega (arith, few, more);
     }

@@ -11,7 +11,7 @@ ask_each-requires g c =
     let b = g.B.Backend in
     let world = c.legal.ensures.world in
     let many : length c.into_vec-backends.result.items ≡ c.args.world.core.placement.backends =
-    ap length c.into_vec-backends.ensures ∙ (as_many b.told b.faults b.asks b.login b.arming c.args.world.cells c.into_backends.result c.into_backends.ensures.same ∙ cells_of b.TELLS c.args.world world) in
+    ap length c.into_vec-backends.ensures ∙ (as_many b.told b.faults b.asks b.login b.arming c.args.world.cells c.into_backends.result c.into_backends.ensures.same ∙ cells_of b.tells c.args.world world) in
     let few = world.few in
     omega (arith, many, few)
 
@@ -29,11 +29,11 @@ returns-clause-summary g c =
     λ k. c.hosts-hosts.ensures k ∙ (ap (λ (q : Placement). hosts q k c.table.result) c.placement.ensures.placement ∙ ap (λ (t : List ℕ). hosts p k t) c.table.ensures) in
     let is_on : (k : ℕ) → in_mask enabled k ≡ is_enabled core.history k = λ k. c.enabled.ensures k in
     let told : List (Option (List Slot)) = map b.told c.into_vec-backends.result.items in
-    let current : b.TELLS ≡ true → (k : ℕ) → is_enabled core.history k ≡ true → slice_get told k ≡ Some (Some (part p k db)) =
+    let current : b.tells ≡ true → (k : ℕ) → is_enabled core.history k ≡ true → slice_get told k ≡ Some (Some (part p k db)) =
     λ tells k on. subst (λ (l : List g.row.B.Denot). slice_get (map b.told l) k ≡ Some (Some (part p k db))) (sym c.into_vec-backends.ensures) (c.into_backends.ensures.current tells c.requires k on) in
-    let same : b.TELLS ≡ true → All P held = λ tells. c.in-Ok.ensures.same (rows_in db) (each_holds p db hosting enabled (is_enabled core.history) is_host is_on told (current tells)) in
+    let same : b.tells ≡ true → All P held = λ tells. c.in-Ok.ensures.same (rows_in db) (each_holds p db hosting enabled (is_enabled core.history) is_host is_on told (current tells)) in
     let many : length c.into_vec-backends.result.items ≡ p.backends =
-    ap length c.into_vec-backends.ensures ∙ (as_many b.told b.faults b.asks b.login b.arming c.args.world.cells c.into_backends.result c.into_backends.ensures.same ∙ cells_of b.TELLS c.args.world c.legal.ensures.world) in
+    ap length c.into_vec-backends.ensures ∙ (as_many b.told b.faults b.asks b.login b.arming c.args.world.cells c.into_backends.result c.into_backends.ensures.same ∙ cells_of b.tells c.args.world c.legal.ensures.world) in
     let either : (hosting ≡ 0) ⊎ (bit_and hosting enabled ≢ 0) =
     elim c.else-hosts-ne0.branch [ else-hosts-ne0-via-then-hosts-ne0+else-mask-eq0 w ↦ inr w.if-mask-eq0.false | else-hosts-ne0-via-else-hosts-ne0 w ↦ inl w.if-hosts-ne0.false ] in
     let faults : map b.faults c.deref.result.now ≡ faults_of c.args.world.cells =

@@ -18,5 +18,5 @@ invariant-loop-b g l =
       logins : logins_of l.state.cells ≡ logins_of l.fn.state.cells;
       armings : armings_of l.state.cells ≡ armings_of l.fn.state.cells;
       text : IsText l.text.items;
-      lines : g.B.Backend.TELLS ≡ true → l.text.items ≡ flat_map (lines_at l.fn.state.setup.names l.fn.state.core) (range_with_len 0 l.b);
+      lines : g.B.Backend.tells ≡ true → l.text.items ≡ flat_map (lines_at l.fn.state.setup.names l.fn.state.core) (range_with_len 0 l.b);
     }

@@ -5,7 +5,7 @@ use Rattle.cj_book.proofs.book.Book.mark.Goals as goal
 pub returns-in_err-check_room-clause-state : goal.returns-in_err-check_room-clause-state
 returns-in_err-check_room-clause-state g c =
     let s = g.S.Store in
-    unmarked s.TELLS s.faults s.moment s.since s.may c.args.self.now.state c.legal.ensures.now c.args.name.now c.args.b c.from_residual.result c.in_err-check_room.field-0.0 c.from_residual.ensures.1 c.in_err-check_room.ensures
+    unmarked s.tells s.faults s.moment s.since s.may c.args.self.now.state c.legal.ensures.now c.args.name.now c.args.b c.from_residual.result c.in_err-check_room.field-0.0 c.from_residual.ensures.1 c.in_err-check_room.ensures
 
 pub returns-clause-state : goal.returns-clause-state
 returns-clause-state g c =

@@ -21,7 +21,7 @@ invariant_of-result g c =
       follows = rw c.in-Ok-new.ensures (follows_opening layout items h opens found kept);
       marked = kept.marked;
       logged = λ t. opens.same ∙ sym (c.in-Ok.ensures.bytes t).1;
-      gate = gate_shut g.S.Store.TELLS c.in-Ok.opened.0.torn h (λ t. c.in-Ok.ensures.shut);
+      gate = gate_shut g.S.Store.tells c.in-Ok.opened.0.torn h (λ t. c.in-Ok.ensures.shut);
       faults = opening_counted h (faults c.of-opened_with.result.value) (faults c.in-Ok.opened.0.store) opens.opening (c.in-Ok.ensures.cause ∙ sym (ap faults c.of-opened_with.ensures));
     }
 

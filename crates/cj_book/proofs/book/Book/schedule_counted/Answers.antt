@@ -5,12 +5,12 @@ use Rattle.cj_book.proofs.book.Book.schedule_counted.Goals as goal
 pub returns-in_err-check_schedule-clause-state : goal.returns-in_err-check_schedule-clause-state
 returns-in_err-check_schedule-clause-state g c =
     let s = g.S.Store in
-    unchecked s.TELLS s.faults s.moment s.since s.may c.args.self.now.state c.legal.ensures.now c.args.e c.from_residual.result c.in_err-check_schedule.field-0.0 c.from_residual.ensures.1 c.in_err-check_schedule.ensures
+    unchecked s.tells s.faults s.moment s.since s.may c.args.self.now.state c.legal.ensures.now c.args.e c.from_residual.result c.in_err-check_schedule.field-0.0 c.from_residual.ensures.1 c.in_err-check_schedule.ensures
 
 pub returns-in_err-prepared-clause-state : goal.returns-in_err-prepared-clause-state
 returns-in_err-prepared-clause-state g c =
     let s = g.S.Store in
-    unprepared s.TELLS s.faults s.moment s.since s.may c.args.self.now.state c.legal.ensures.now c.args.e c.from_residual-in_err-prepared.result c.from_residual-in_err-prepared.ensures.1 c.in_ok-check_schedule.ensures
+    unprepared s.tells s.faults s.moment s.since s.may c.args.self.now.state c.legal.ensures.now c.args.e c.from_residual-in_err-prepared.result c.from_residual-in_err-prepared.ensures.1 c.in_ok-check_schedule.ensures
 
 pub returns-clause-state : goal.returns-clause-state
 returns-clause-state g c =

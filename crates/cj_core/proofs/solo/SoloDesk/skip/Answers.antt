@@ -12,5 +12,5 @@ returns g c =
     let solo = c.self.inside in
     let old : SoloState = record { world = solo.world; session = solo.session } in
     let new : SoloState = record { world = c.count.new.self; session = solo.session } in
-    subst (λ (a : SoloState). SoloSteps g.B.Backend.TELLS a query_skipped new) c.self.view_is
-    (solo_skipped g.B.Backend.TELLS old new c.self.invariant.here (ap (λ (w : WorldState). record { world = w; session = solo.session }) c.count.ensures))
+    subst (λ (a : SoloState). SoloSteps g.B.Backend.tells a query_skipped new) c.self.view_is
+    (solo_skipped g.B.Backend.tells old new c.self.invariant.here (ap (λ (w : WorldState). record { world = w; session = solo.session }) c.count.ensures))

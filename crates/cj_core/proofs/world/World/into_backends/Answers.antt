@@ -7,13 +7,13 @@ returns-clause-holding g c =
     let b = g.B.Backend in
     let w = c.self.inside.state in
     let seen = ap (map (state_by b.told b.faults b.asks b.login b.arming)) c.from_vec.ensures ∙ (c.backends_of.ensures.same ∙ ap (map backend_of) c.into_cells.ensures.cells) in
-    subst (λ (x : WorldState). AreHolding b.TELLS x.core (map b.told c.from_vec.result)) c.self.view_is
-    (are_holding b.TELLS w c.into_cells.ensures.legal (map b.told c.from_vec.result) (told_of_backends b.told b.faults b.asks b.login b.arming c.from_vec.result w.cells seen))
+    subst (λ (x : WorldState). AreHolding b.tells x.core (map b.told c.from_vec.result)) c.self.view_is
+    (are_holding b.tells w c.into_cells.ensures.legal (map b.told c.from_vec.result) (told_of_backends b.told b.faults b.asks b.login b.arming c.from_vec.result w.cells seen))
 
 pub returns-clause-current : goal.returns-clause-current
 returns-clause-current g c =
     let b = g.B.Backend in
     let w = c.self.inside.state in
     let seen = ap (map (state_by b.told b.faults b.asks b.login b.arming)) c.from_vec.ensures ∙ (c.backends_of.ensures.same ∙ ap (map backend_of) c.into_cells.ensures.cells) in
-    subst (λ (x : WorldState). AreCurrent b.TELLS x.core (map b.told c.from_vec.result)) c.self.view_is
-    (are_current b.TELLS w c.into_cells.ensures.legal (map b.told c.from_vec.result) (told_of_backends b.told b.faults b.asks b.login b.arming c.from_vec.result w.cells seen))
+    subst (λ (x : WorldState). AreCurrent b.tells x.core (map b.told c.from_vec.result)) c.self.view_is
+    (are_current b.tells w c.into_cells.ensures.legal (map b.told c.from_vec.result) (told_of_backends b.told b.faults b.asks b.login b.arming c.from_vec.result w.cells seen))

@@ -8,7 +8,7 @@ returns-in-Ok-brought-clause-started g c =
     let book = c.in_ok-book.book.state in
     let opened = c.in_ok-book.ensures.started in
     let went = c.in-Ok-brought.ensures in
-    starts_from (λ (items : List LogItem). g.S.Store.TELLS ≡ true → KeepsItems (g.S.Store.held c.args.log) items) (items_of book.history) (placement_of c.args.parts.book.placement) book.history
+    starts_from (λ (items : List LogItem). g.S.Store.tells ≡ true → KeepsItems (g.S.Store.held c.args.log) items) (items_of book.history) (placement_of c.args.parts.book.placement) book.history
     (map (state_by b.told b.faults b.asks b.login b.arming) c.args.backends) c.new-state.result c.bring_up-brought.new.state (λ tells. (c.in_ok-book.ensures.bytes tells).0) opened.opens
     (c.new-state.ensures.core ∙ ap (λ (l : Layout). opened_core (placement_of l) book.history) opened.layout)
     (ap (λ (cells : List CellState). map backend_of cells) c.new-state.ensures.cells ∙ c.in-Ok.ensures.same) went.started went.uncalled

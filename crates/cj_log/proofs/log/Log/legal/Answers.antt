@@ -7,10 +7,10 @@ pub returns-clause-at_least : goal.returns-clause-at_least
 returns-clause-at_least g c = λ t.
     let s = g.S.Store in
     subst (λ (v : LogState g.row.S.Denot). KeepsAtLeast (s.held v.store) v.items v.torn) c.self.view_is
-    (keeps_at_least s.TELLS c.self.inside.records (items_in c.self.inside.records.list) (s.held c.self.inside.records.store) t c.self.invariant (c.legal.ensures.at_least t))
+    (keeps_at_least s.tells c.self.inside.records (items_in c.self.inside.records.list) (s.held c.self.inside.records.store) t c.self.invariant (c.legal.ensures.at_least t))
 
 pub returns-clause-now : goal.returns-clause-now
 returns-clause-now g c = λ t item.
     let s = g.S.Store in
     subst (λ (v : LogState g.row.S.Denot). LeavesOnly s.moment s.since v.store v.store (IsBeforeOrAfter v item)) c.self.view_is
-    (leaves_now s.TELLS c.self.inside.records (items_in c.self.inside.records.list) item t c.self.invariant s.moment s.since (c.legal.ensures.now t))
+    (leaves_now s.tells c.self.inside.records (items_in c.self.inside.records.list) item t c.self.invariant s.moment s.since (c.legal.ensures.now t))

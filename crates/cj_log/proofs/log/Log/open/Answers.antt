@@ -7,7 +7,7 @@ use Rattle.cj_log.proofs.log.Log.open.Goals as goal
 pub invariant_of-result : goal.invariant_of-result
 invariant_of-result g c =
     let read = c.in-Ok-read_items.ensures in
-    agrees_opened g.S.Store.TELLS g.S.Store.held c.in-Ok.records c.read_items.new.records c.in-Ok-read_items.items.items c.in-Ok.ensures.magic c.in-Ok.ensures.shut read.same read.items read.each
+    agrees_opened g.S.Store.tells g.S.Store.held c.in-Ok.records c.read_items.new.records c.in-Ok-read_items.items.items c.in-Ok.ensures.magic c.in-Ok.ensures.shut read.same read.items read.each
 
 pub returns-in-Ok-read_items-clause-bytes : goal.returns-in-Ok-read_items-clause-bytes
 returns-in-Ok-read_items-clause-bytes g c = λ t.

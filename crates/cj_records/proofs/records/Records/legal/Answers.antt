@@ -16,7 +16,7 @@ returns-clause-at_least g c = λ t.
     let s = g.S.Store in
     let r = c.self.inside in
     subst (λ (v : RecordList g.row.S.Denot). KeepsAtLeast v (s.held v.store)) c.self.view_is
-    (held_at_least (s.held r.store) (s.may r.store) r.magic r.places.items r.end r.torn (c.self.invariant.0.laid t) (safe_tells s.TELLS (s.held r.store) (s.may r.store) r.magic r.places.items r.end r.torn t c.self.invariant.1))
+    (held_at_least (s.held r.store) (s.may r.store) r.magic r.places.items r.end r.torn (c.self.invariant.0.laid t) (safe_tells s.tells (s.held r.store) (s.may r.store) r.magic r.places.items r.end r.torn t c.self.invariant.1))
 
 pub returns-clause-safe : goal.returns-clause-safe
 returns-clause-safe g c = λ t.
@@ -30,4 +30,4 @@ returns-clause-now g c = λ t body.
     let s = g.S.Store in
     let r = c.self.inside in
     subst (λ (v : RecordList g.row.S.Denot). LeavesOnly s.moment s.since v.store v.store (IsBeforeOrAfter v body)) c.self.view_is
-    (started s.moment s.may s.since s.held r.magic r.places.items r.end r.torn body r.store (c.self.invariant.0.laid t) (safe_tells s.TELLS (s.held r.store) (s.may r.store) r.magic r.places.items r.end r.torn t c.self.invariant.1) (λ image left. g.met.S.Store.only_now r.store image left))
+    (started s.moment s.may s.since s.held r.magic r.places.items r.end r.torn body r.store (c.self.invariant.0.laid t) (safe_tells s.tells (s.held r.store) (s.may r.store) r.magic r.places.items r.end r.torn t c.self.invariant.1) (λ image left. g.met.S.Store.only_now r.store image left))

@@ -8,5 +8,5 @@ pub returns-then-count-place-clause-same : goal.returns-then-count-place-clause-
 returns-then-count-place-clause-same g c =
     let s = g.S.Store in
     let r = c.self.inside in
-    subst (λ (v : RecordList g.row.S.Denot). SameRecords s.TELLS s.held v (kept_at s.held c.fill.new.store r.magic r.places.items r.end r.torn)) c.self.view_is
-    (kept_same s.TELLS s.held r.store c.fill.new.store r.magic r.places.items r.end r.torn c.fill.ensures.bytes)
+    subst (λ (v : RecordList g.row.S.Denot). SameRecords s.tells s.held v (kept_at s.held c.fill.new.store r.magic r.places.items r.end r.torn)) c.self.view_is
+    (kept_same s.tells s.held r.store c.fill.new.store r.magic r.places.items r.end r.torn c.fill.ensures.bytes)

@@ -13,5 +13,5 @@ invariant_of-self g c =
     seated_load _ _ _ _ _ _ _ _ c.self.invariant c.args.db n c.load-loaded.result
     (subst (λ (s : SeatedCell). s.state.position ≡ None) (sym c.self.view_is) c.requires.out)
     (subst (λ (s : SeatedCell). n ≤ length (log s.view.front)) (sym c.self.view_is) c.requires.within)
-    (subst (λ (s : SeatedCell). g.B.Backend.TELLS ≡ true → c.args.db ≡ part s.state.placement s.state.b (database_after (log s.view.front) n)) (sym c.self.view_is) c.requires.right)
+    (subst (λ (s : SeatedCell). g.B.Backend.tells ≡ true → c.args.db ≡ part s.state.placement s.state.b (database_after (log s.view.front) n)) (sym c.self.view_is) c.requires.right)
     c.load-loaded.ensures (subst (λ b. cell_view c.note_load.new.seat ≡ view_after_load b n (cell_view c.self.inside.seat) c.load-loaded.result) number c.note_load.ensures.view)

@@ -28,13 +28,13 @@ invariant_of-self-in-Err g c =
     let notes = subst (λ (k : BookState g.row.S.Denot). Notes k c.args.s c.read_number-number.result c.args.b c.in-Err.error c.noted.result c.noted.new.book.state) c.read_at.ensures.heard.state c.noted.ensures.notes in
     let kept = kept_asked c.self.invariant.0 c.self.view_is c.requires.within ch ch.how.same in
     let q =
-    notes_cases (λ _ (k : BookState g.row.S.Denot). KeptFresh g.B.Backend.TELLS (world_of w.accounts k.layout k.history now w.failed w.starved w.sessions k.greatest w.dumps) k.sessions w.first_outcome k.cache w.dumps)
+    notes_cases (λ _ (k : BookState g.row.S.Denot). KeptFresh g.B.Backend.tells (world_of w.accounts k.layout k.history now w.failed w.starved w.sessions k.greatest w.dumps) k.sessions w.first_outcome k.cache w.dumps)
     w.book.state c.noted.new.book.state c.args.s c.read_number-number.result c.args.b c.in-Err.error c.noted.result notes
     (λ was. (kept, c.self.invariant.1, c.self.invariant.2)) (λ p was. (kept, c.self.invariant.1, c.self.invariant.2)) (λ was. (kept, c.self.invariant.1, c.self.invariant.2))
     (λ was space. (
-      kept_read_failed g.B.Backend.TELLS w.accounts w.book.state.layout w.book.state.history now w.failed w.starved w.sessions w.book.state.greatest w.dumps w.book.state.sessions w.first_outcome kept c.args.s c.read_number-number.result c.args.b space,
-      fresh_event w.book.state.history w.book.state.cache g.B.Backend.TELLS (ReadFailed c.args.s c.read_number-number.result c.args.b) refl c.self.invariant.1,
-      dumps_event g.B.Backend.TELLS (placement_of w.book.state.layout) w.book.state.history w.dumps c.self.invariant.2 (ReadFailed c.args.s c.read_number-number.result c.args.b) refl,
+      kept_read_failed g.B.Backend.tells w.accounts w.book.state.layout w.book.state.history now w.failed w.starved w.sessions w.book.state.greatest w.dumps w.book.state.sessions w.first_outcome kept c.args.s c.read_number-number.result c.args.b space,
+      fresh_event w.book.state.history w.book.state.cache g.B.Backend.tells (ReadFailed c.args.s c.read_number-number.result c.args.b) refl c.self.invariant.1,
+      dumps_event g.B.Backend.tells (placement_of w.book.state.layout) w.book.state.history w.dumps c.self.invariant.2 (ReadFailed c.args.s c.read_number-number.result c.args.b) refl,
     ))
     (λ was n full. (kept, c.self.invariant.1, c.self.invariant.2))
     in

@@ -24,7 +24,7 @@ returns-clause-found g c =
 pub returns-clause-held : goal.returns-clause-held
 returns-clause-held g c on =
     let w = c.self.inside in
-    let tells = g.B.Backend.TELLS in
+    let tells = g.B.Backend.tells in
     let d : Dump = c.in-Some.dump in
     let can = can_load (core_of w.book.state.layout w.book.state.history (states_of w.cells.items) w.failed w.starved w.sessions w.book.state.greatest w.dumps) c.args.b c.args.name.now (subst (λ (x : WorldState). not_now x.core (Load c.args.b c.args.name.now) ≡ None) (sym c.self.view_is) c.requires.now) in
     let there : first_of c.args.name.now w.dumps ≡ Some d = sym c.in_ok-dump.ensures.first ∙ c.in-Some.is in

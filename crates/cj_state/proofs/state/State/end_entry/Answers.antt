@@ -16,7 +16,7 @@ end-requires-clause-positions g c =
     let none = subst (λ (x : WorldState). first_lagging x.core.history 0 x.core.positions ≡ None) (sym c.self.view_is) c.requires.behind in
     let waiting = subst (λ (x : WorldState). is_waiting x.core c.args.s ≡ true) (sym c.self.view_is) c.requires.waits in
     let e = Ended w.failed w.starved in
-    let now = kept_answered g.B.Backend.TELLS w.accounts w.book.state.layout w.book.state.history cells w.failed w.starved w.sessions w.book.state.greatest w.dumps w.book.state.sessions w.first_outcome c.self.invariant.0 c.args.s waiting open_now none in
+    let now = kept_answered g.B.Backend.tells w.accounts w.book.state.layout w.book.state.history cells w.failed w.starved w.sessions w.book.state.greatest w.dumps w.book.state.sessions w.first_outcome c.self.invariant.0 c.args.s waiting open_now none in
     let one = c.self.invariant.0.world.sound.one_open in
     let idle : is_idle (w.book.state.history ++ e ∷ []) ≡ true = free-ended w.book.state.history w.failed w.starved open_now one.0 one.1 in
     rw c.hear_all.ensures.heard.state
@@ -36,9 +36,9 @@ invariant_of-self g c =
     let number = c.length-number.ensures in
     let ready = ready_heard w.book c.hear_all.new.book w.failed c.self.invariant.3.1 c.hear_all.ensures.heard in
     rw (ended, c.hear_all.ensures.cells, c.answer.ensures, number) (
-      kept_answered g.B.Backend.TELLS w.accounts w.book.state.layout w.book.state.history (states_of w.cells.items) w.failed w.starved w.sessions w.book.state.greatest w.dumps w.book.state.sessions w.first_outcome c.self.invariant.0 c.args.s waiting open_now none,
-      fresh_event w.book.state.history w.book.state.cache g.B.Backend.TELLS e refl c.self.invariant.1,
-      dumps_event g.B.Backend.TELLS (placement_of w.book.state.layout) w.book.state.history w.dumps c.self.invariant.2 e refl,
+      kept_answered g.B.Backend.tells w.accounts w.book.state.layout w.book.state.history (states_of w.cells.items) w.failed w.starved w.sessions w.book.state.greatest w.dumps w.book.state.sessions w.first_outcome c.self.invariant.0 c.args.s waiting open_now none,
+      fresh_event w.book.state.history w.book.state.cache g.B.Backend.tells e refl c.self.invariant.1,
+      dumps_event g.B.Backend.tells (placement_of w.book.state.layout) w.book.state.history w.dumps c.self.invariant.2 e refl,
       seats_cleared (board_id w.board) (pass_board c.hear_all.new.pass) c.hear_all.new.book c.end.new.self c.hear_all.new.cells.items w.failed c.hear_all.ensures.at ready (Some e) c.end.ensures.board c.end.ensures.seat,
     )
 

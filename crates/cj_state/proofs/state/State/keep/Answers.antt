@@ -6,14 +6,14 @@ pub invariant_of-self : goal.invariant_of-self
 invariant_of-self g c =
     let w = c.self.inside in
     let same : c.keep.new.self.state ≡ w.book.state = c.keep.ensures.same (λ is. cc (is, c.in_err-keep.was)) in
-    let q = subst (λ (k : BookState g.row.S.Denot). KeptFresh g.B.Backend.TELLS (world_of w.accounts k.layout k.history (states_of w.cells.items) w.failed w.starved w.sessions k.greatest w.dumps) k.sessions w.first_outcome k.cache w.dumps) (sym same) (c.self.invariant.0, c.self.invariant.1, c.self.invariant.2) in
+    let q = subst (λ (k : BookState g.row.S.Denot). KeptFresh g.B.Backend.tells (world_of w.accounts k.layout k.history (states_of w.cells.items) w.failed w.starved w.sessions k.greatest w.dumps) k.sessions w.first_outcome k.cache w.dumps) (sym same) (c.self.invariant.0, c.self.invariant.1, c.self.invariant.2) in
     (q.0, q.1, q.2, seats_same (board_id w.board) (pass_board w.pass) w.book c.keep.new.self w.cells.items w.failed c.self.invariant.3.0 c.self.invariant.3.1 c.keep.ensures.seat)
 
 pub invariant_of-self-2 : goal.invariant_of-self-2
 invariant_of-self-2 g c =
     let w = c.self.inside in
     let entries : List Entry = log w.book.state.history in
-    let tells = g.B.Backend.TELLS in
+    let tells = g.B.Backend.tells in
     let end = c.length-end.result in
     let here : end ≡ length entries = c.length-end.ensures in
     let none : NoneTouches entries end (length entries) c.args.select = λ n low high. absurd (omega (arith, here, low, high)) in

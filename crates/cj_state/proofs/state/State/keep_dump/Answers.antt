@@ -18,7 +18,7 @@ add-requires g c =
 pub invariant_of-self-2 : goal.invariant_of-self-2
 invariant_of-self-2 g c =
     let w = c.self.inside in
-    let tells = g.B.Backend.TELLS in
+    let tells = g.B.Backend.tells in
     let d : Dump = record { position = c.in-Some.position; source = c.args.b; name = c.copy.result; all = c.all.result; covers = c.in_ok-covers.covers; db = c.args.db } in
     let at : position_at (core_of w.book.state.layout w.book.state.history (states_of w.cells.items) w.failed w.starved w.sessions w.book.state.greatest w.dumps) c.args.b ≡ Some c.in-Some.position =
     subst (λ (x : WorldState). position_at x.core c.args.b ≡ Some c.in-Some.position) (sym c.self.view_is) (sym c.position.ensures ∙ c.in-Some.is)

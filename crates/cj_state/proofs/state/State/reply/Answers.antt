@@ -8,9 +8,9 @@ use Rattle.cj_state.proofs.state.State.reply.Goals.{else-targets-ne0-via-then-ta
 pub returns-then-targets-left-eq0 : goal.returns-then-targets-left-eq0
 returns-then-targets-left-eq0 g c =
     let w = c.self.inside in
-    subst (λ (x : WorldState). AnswersOpen g.B.Backend.TELLS x.core (reply.Refused c.unfinished.result)) c.self.view_is
+    subst (λ (x : WorldState). AnswersOpen g.B.Backend.tells x.core (reply.Refused c.unfinished.result)) c.self.view_is
     (λ e is.
-    unfinished g.B.Backend.TELLS w.accounts w.book.state.layout w.book.state.history (states_of w.cells.items) w.failed w.starved w.sessions w.book.state.greatest w.dumps w.book.state.sessions w.first_outcome c.self.invariant.0 c.targets-targets.result c.left-left.result c.targets-targets.ensures c.left-left.ensures
+    unfinished g.B.Backend.tells w.accounts w.book.state.layout w.book.state.history (states_of w.cells.items) w.failed w.starved w.sessions w.book.state.greatest w.dumps w.book.state.sessions w.first_outcome c.self.invariant.0 c.targets-targets.result c.left-left.result c.targets-targets.ensures c.left-left.ensures
     c.targets-targets.type_inv e is c.unfinished.result c.if-targets-ne0.true c.if-targets-left-eq0.true c.unfinished.ensures)
 
 pub returns-in-Some-Done : goal.returns-in-Some-Done
@@ -22,9 +22,9 @@ returns-in-Some-Done g c =
       | else-targets-ne0-via-else-targets-ne0 q ↦ λ ne z. ne q.if-targets-ne0.false
     ]
     in
-    subst (λ (x : WorldState). AnswersOpen g.B.Backend.TELLS x.core (reply.Done c.in-Some-Done.count)) c.self.view_is
+    subst (λ (x : WorldState). AnswersOpen g.B.Backend.tells x.core (reply.Done c.in-Some-Done.count)) c.self.view_is
     (λ e is.
-    heard g.B.Backend.TELLS w.accounts w.book.state.layout w.book.state.history (states_of w.cells.items) w.failed w.starved w.sessions w.book.state.greatest w.dumps w.book.state.sessions w.first_outcome c.self.invariant.0 c.targets-targets.result c.left-left.result c.targets-targets.ensures c.left-left.ensures
+    heard g.B.Backend.tells w.accounts w.book.state.layout w.book.state.history (states_of w.cells.items) w.failed w.starved w.sessions w.book.state.greatest w.dumps w.book.state.sessions w.first_outcome c.self.invariant.0 c.targets-targets.result c.left-left.result c.targets-targets.ensures c.left-left.ensures
     c.targets-targets.type_inv e is some (outcome.Done c.in-Some-Done.count) (search rules))
 
 pub returns-in-Some-Refused : goal.returns-in-Some-Refused
@@ -36,9 +36,9 @@ returns-in-Some-Refused g c =
       | else-targets-ne0-via-else-targets-ne0 q ↦ λ ne z. ne q.if-targets-ne0.false
     ]
     in
-    subst (λ (x : WorldState). AnswersOpen g.B.Backend.TELLS x.core (reply.Refused c.in-Some-Refused.refusal)) c.self.view_is
+    subst (λ (x : WorldState). AnswersOpen g.B.Backend.tells x.core (reply.Refused c.in-Some-Refused.refusal)) c.self.view_is
     (λ e is.
-    heard g.B.Backend.TELLS w.accounts w.book.state.layout w.book.state.history (states_of w.cells.items) w.failed w.starved w.sessions w.book.state.greatest w.dumps w.book.state.sessions w.first_outcome c.self.invariant.0 c.targets-targets.result c.left-left.result c.targets-targets.ensures c.left-left.ensures
+    heard g.B.Backend.tells w.accounts w.book.state.layout w.book.state.history (states_of w.cells.items) w.failed w.starved w.sessions w.book.state.greatest w.dumps w.book.state.sessions w.first_outcome c.self.invariant.0 c.targets-targets.result c.left-left.result c.targets-targets.ensures c.left-left.ensures
     c.targets-targets.type_inv e is some (outcome.Refused c.in-Some-Refused.refusal) (search rules))
 
 pub returns-in-None : goal.returns-in-None
@@ -51,7 +51,7 @@ returns-in-None g c =
       | else-targets-ne0-via-else-targets-ne0 q ↦ λ ne z. ne q.if-targets-ne0.false
     ]
     in
-    subst (λ (x : WorldState). AnswersOpen g.B.Backend.TELLS x.core (reply.Done 0)) c.self.view_is
+    subst (λ (x : WorldState). AnswersOpen g.B.Backend.tells x.core (reply.Done 0)) c.self.view_is
     (λ e is.
-    unneeded g.B.Backend.TELLS w.accounts w.book.state.layout w.book.state.history (states_of w.cells.items) w.failed w.starved w.sessions w.book.state.greatest w.dumps w.book.state.sessions w.first_outcome c.self.invariant.0 c.targets-targets.result c.left-left.result c.targets-targets.ensures c.left-left.ensures
+    unneeded g.B.Backend.tells w.accounts w.book.state.layout w.book.state.history (states_of w.cells.items) w.failed w.starved w.sessions w.book.state.greatest w.dumps w.book.state.sessions w.first_outcome c.self.invariant.0 c.targets-targets.result c.left-left.result c.targets-targets.ensures c.left-left.ensures
     c.targets-targets.type_inv e is none c.in-None.is some)

@@ -10,8 +10,8 @@ invariant_of-self g c =
     let there = subst (λ (x : WorldState). position_at x.core c.args.b ≡ Some (length (log x.core.history))) (sym c.self.view_is) c.requires.there in
     let was = c.hear.ensures.heard.heard in
     let came = subst (λ (k : BookState g.row.S.Denot). Appends k (Enabled c.args.b) c.enable.result c.enable.new.self.state) was.state c.enable.ensures.state in
-    let q = noted c.enable.result w.book.state c.enable.new.self.state (Enabled c.args.b) (λ (b : BookState g.row.S.Denot). KeptFresh g.B.Backend.TELLS (world_of w.accounts b.layout b.history (states_of w.cells.items) w.failed w.starved w.sessions b.greatest w.dumps) b.sessions w.first_outcome b.cache w.dumps) came.ok came.err came.space
-    (λ space. (kept_enabled g.B.Backend.TELLS w.accounts w.book.state.layout w.book.state.history (states_of w.cells.items) w.failed w.starved w.sessions w.book.state.greatest w.dumps w.book.state.sessions w.first_outcome c.self.invariant.0 c.args.b fr off there space, fresh_event w.book.state.history w.book.state.cache g.B.Backend.TELLS (Enabled c.args.b) refl c.self.invariant.1, dumps_event g.B.Backend.TELLS (placement_of w.book.state.layout) w.book.state.history w.dumps c.self.invariant.2 (Enabled c.args.b) refl)) (c.self.invariant.0, c.self.invariant.1, c.self.invariant.2)
+    let q = noted c.enable.result w.book.state c.enable.new.self.state (Enabled c.args.b) (λ (b : BookState g.row.S.Denot). KeptFresh g.B.Backend.tells (world_of w.accounts b.layout b.history (states_of w.cells.items) w.failed w.starved w.sessions b.greatest w.dumps) b.sessions w.first_outcome b.cache w.dumps) came.ok came.err came.space
+    (λ space. (kept_enabled g.B.Backend.tells w.accounts w.book.state.layout w.book.state.history (states_of w.cells.items) w.failed w.starved w.sessions w.book.state.greatest w.dumps w.book.state.sessions w.first_outcome c.self.invariant.0 c.args.b fr off there space, fresh_event w.book.state.history w.book.state.cache g.B.Backend.tells (Enabled c.args.b) refl c.self.invariant.1, dumps_event g.B.Backend.tells (placement_of w.book.state.layout) w.book.state.history w.dumps c.self.invariant.2 (Enabled c.args.b) refl)) (c.self.invariant.0, c.self.invariant.1, c.self.invariant.2)
     in
     let ready = ready_heard w.book c.hear.new.book w.failed c.self.invariant.3.1 was in
     rw c.hear.ensures.cells
