@@ -11,9 +11,9 @@ use Rattle.std.proofs.lemmas.List.Elements.{All-append, All-nil, All-contains}
 use Rattle.cj_board.proofs.Common.{Book, Cell, Event, IsLegal, Pass, Role, SeatView, event_count_of, log, set_else}
 use Rattle.atomic_table.specs.Table.{State, Me, step, keeps, stepped, Allows, Splits, Joins, opening}
 use Rattle.cj_cluster.proofs.Pushed.{legal_prefix, prefix_self, prefix_trans}
-use Rattle.cj_board.specs.Points.{AtEachSeat, position_word, fault_word, max_word, fault_tokens_of, HasSeat, BeginsHistory, IsInLog, KnowsPosition, IsPositionNote, IsFaultNote, KnowsFaults, StandsAtEnd, CellStandsAtEnd, IsCountNote, CountsSessions, OwnPassesCount, IsKept, IsKeptBoard}
+use Rattle.cj_board.specs.Points.{AtEachSeat, position_word, fault_word, max_word, fault_tokens_of, HasSeat, BeginsHistory, IsInLog, KnowsPosition, IsPositionNote, IsFaultNote, KnowsFaults, StandsAtEnd, CellStandsAtEnd, IsCountNote, KnowsGiven, CountsSessions, OwnPassesCount, IsKept, IsKeptBoard}
 use Rattle.cj_board.specs.Steps.{HasPositionNotes, HasFaultTokens, HasCountNotes, after_append, at_position, with_faults, after_looking, after_count, after_split, one_fault_more, longer_of, after_join, after_learning, after_making_cell, after_opening, after_closing}
-use Rattle.cj_board.specs.Views.{IsBook, IsCellOf, IsPass, IsNotBook, role_position, cells_made, book_with_cells, empty_pass, position_note_of, fault_note_of, count_note_of, pass_of, pass_without_tokens, pass_without_notes, own_pass_of, next_cell_of}
+use Rattle.cj_board.specs.Views.{IsBook, IsCellOf, IsPass, IsNotBook, role_position, cells_made, book_with_cells, empty_pass, position_note_of, fault_note_of, count_note_of, pass_of, pass_without_tokens, own_pass_of, next_cell_of}
 use Rattle.cj_board.specs.Proving.Told.{ToldAppend, ToldAdvance, ToldStoredPosition, ToldPosition, ToldStoredFaults, ToldFaults, ToldFronts, ToldCell, ToldOfCell, ToldCountUp, ToldCount}
 use Rattle.cj_board.proofs.Counts.{counts_of_prefix}
 use Rattle.cj_board.proofs.FaultPoint.{tokens-append}
@@ -254,7 +254,15 @@ sum_is n f more full = by_test (leb max_word n) refl
 -- ---- loads that tell what the rule says of a view
 
 pub compare_allowed : (n slots id : ℕ) (me : M) → Allows (IsKeptBoard n) slots id me 0 (λ x. x) (ToldFronts (step slots 0 0 0 none) me)
-compare_allowed n slots id me s k _ at _ = let f = fit_at n s k id me.0 at in (me.0, keeps, tt, loads n s k id 0 me.1 me.0 me.0 at f refl (same_all me.0), (refl, f.begins.1, f.begins.2, legal_prefix me.0.front k.history f.begins.0 k.kept.begin.legal))
+compare_allowed n slots id me s k _ at _ =
+    let f = fit_at n s k id me.0 at in
+    let counts = k.kept.counts in
+    let mine = counts.seats id me.0 at in
+    let given : IsBook me.0.role → (t m : ℕ) → Contains me.0.count_notes (t, m) → t ≤ me.0.last_given = λ book t m c.
+    let knows : KnowsGiven counts.given counts.last (Book (cells_made me.0.role)) me.0.given me.0.last_given = subst (λ (r : Role). KnowsGiven counts.given counts.last r me.0.given me.0.last_given) book mine.book in
+    let last = knows.1 in
+    let top = (All-contains (IsCountNote counts.last counts.count_of) me.0.count_notes (t, m) mine.notes c).1 in omega arith in
+    (me.0, keeps, tt, loads n s k id 0 me.1 me.0 me.0 at f refl (same_all me.0), (refl, f.begins.1, f.begins.2, legal_prefix me.0.front k.history f.begins.0 k.kept.begin.legal, given))
 
 pub count_allowed : (n slots id : ℕ) (me : M) → 0 < me.0.own_session → Allows (IsKeptBoard n) slots id me 0 (λ x. x) (ToldCountUp (step slots 0 0 0 none) me)
 count_allowed n slots id me lt s k _ at _ = (
@@ -347,9 +355,6 @@ split_allowed n id v = cuts_off n id v (pass_of v) [] refl refl refl refl (notes
 
 pub split_without_tokens_allowed : (n id : ℕ) (v : SeatView) → Splits (IsKeptBoard n) id v v (pass_without_tokens v)
 split_without_tokens_allowed n id v = cuts_off n id v (pass_without_tokens v) v.fault_tokens refl refl refl refl (notes_of_pass n id v) (λ b. omega arith) refl (inl refl)
-
-pub split_without_notes_allowed : (n id : ℕ) (v : SeatView) → Splits (IsKeptBoard n) id v v (pass_without_notes v)
-split_without_notes_allowed n id v = cuts_off n id v (pass_without_notes v) v.fault_tokens refl refl refl refl (λ s k at. (All-nil (IsPositionNote k.history s.words), All-nil (IsFaultNote s.words))) (λ b. omega arith) refl (inr refl)
 
 pub cell_allowed : (n id m : ℕ) (v : SeatView) → v.role ≡ Book m → m < n → Splits (IsKeptBoard n) id v (after_making_cell v) (next_cell_of v)
 cell_allowed n id m v role lt s k at = record {

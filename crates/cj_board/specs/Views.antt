@@ -86,11 +86,7 @@ fault_note_of Pass faults = []
 abbrev pub count_note_of : ℕ → ℕ → List (ℕ × ℕ)
 count_note_of own count = cond (eqb own 0) [] ((own, count) ∷ [])
 
--- a pass with the front alone
-abbrev pub pass_without_notes : SeatView → SeatView
-pass_without_notes v = record empty_pass { front = v.front }
-
--- a pass with the notes too
+-- a pass with the front and the notes
 abbrev pub pass_without_tokens : SeatView → SeatView
 pass_without_tokens v = record empty_pass {
   front = v.front;

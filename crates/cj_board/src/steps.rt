@@ -8,11 +8,11 @@ ghost use Rattle.cj_board.specs.Counting.{event_count_of};
 ghost use Rattle.cj_board.specs.Points.{max_word, IsInLog, StandsAtEnd};
 ghost use Rattle.cj_board.specs.Seats.{board_id, book_board, cell_board, pass_board, book_view, cell_view, pass_view, history, seen, front, position};
 ghost use Rattle.cj_board.specs.Steps.{HasPositionNotes, HasFaultTokens, HasCountNotes, after_append, at_position, after_fault, after_looking, word_of_position, after_count, after_split, after_join, after_learning, after_opening, after_closing};
-ghost use Rattle.cj_board.specs.Views.{role_position, pass_of, pass_without_tokens, pass_without_notes, own_pass_of, next_session};
+ghost use Rattle.cj_board.specs.Views.{role_position, pass_of, pass_without_tokens, own_pass_of, next_session};
 
 use crate::rule::{
-    AdvancePosition, AppendEvent, CheckCell, CheckCount, CountUp, JoinOwnPass, SplitOwnPass,
-    StorePosition,
+    AdvancePosition, AppendEvent, CheckCell, CheckCount, CompareFronts, CountUp, JoinOwnPass,
+    SplitOwnPass, StorePosition,
 };
 use crate::seats::{Board, BookSeat, CellSeat, Pass};
 use cj_cluster::Event;
@@ -36,28 +36,31 @@ impl Board {
         s.events = events + 1;
     }
 
-    /// The pass has seen the book's history, and has its notes. The fault tokens stay.
+    /// The pass has seen the book's history, and each has the other's notes. The fault tokens stay.
+    /// The session of an own pass is one that the book gave.
     pub fn tell(&self, s: &mut BookSeat, p: &mut Pass)
         requires board { (book_board s.old ≡ board_id self.now) × (pass_board p.old ≡ board_id self.now) }
         ensures board { (book_board s.new ≡ book_board s.old) × (pass_board p.new ≡ pass_board p.old) }
-        ensures book { book_view s.new ≡ after_learning (book_view s.old) (pass_without_notes (pass_view p.old)) }
+        ensures book { book_view s.new ≡ after_learning (book_view s.old) (pass_without_tokens (pass_view p.old)) }
         ensures pass { pass_view p.new ≡ after_join (pass_view p.old) (pass_without_tokens (book_view s.new)) }
         ensures told { front p.new ≡ history s.old }
         ensures longer { IsPrefix (front p.old) (front p.new) }
+        ensures given { (pass_view p.old).own_session ≤ (book_view s.old).last_given }
     {
-        let before = self.split_without_notes(&mut p.seat);
+        let before = self.split_without_tokens(&mut p.seat);
         self.join_to_book(&mut s.seat, before);
         let told = self.split_without_tokens(&mut s.seat);
         self.join(&mut p.seat, told);
     }
 
-    /// The book has the pass's notes, and takes its fault tokens.
+    /// The book has the pass's notes, and takes its fault tokens. The session of an own pass is one that the book gave.
     pub fn learn(&self, s: &mut BookSeat, p: &mut Pass)
         requires board { (book_board s.old ≡ board_id self.now) × (pass_board p.old ≡ board_id self.now) }
         ensures board { (book_board s.new ≡ book_board s.old) × (pass_board p.new ≡ pass_board p.old) }
         ensures book { book_view s.new ≡ after_learning (book_view s.old) (pass_of (pass_view p.old)) }
         ensures pass { pass_view p.new ≡ after_split (pass_view p.old) }
         ensures seen { IsPrefix (front p.old) (history s.new) }
+        ensures given { (pass_view p.old).own_session ≤ (book_view s.old).last_given }
     {
         let copy = self.split_pass(&mut p.seat);
         self.join_to_book(&mut s.seat, copy);
@@ -76,17 +79,19 @@ impl Board {
         Pass { seat }
     }
 
-    /// Takes an own pass back: its session counts its events no longer.
+    /// Takes an own pass back, which has seen a beginning of the history: its session counts its events no longer.
     pub fn close_own(&self, s: &mut BookSeat, p: Pass)
         requires board { (book_board s.old ≡ board_id self.now) × (pass_board p ≡ board_id self.now) }
         requires own { 0 < (pass_view p).own_session }
         ensures board { book_board s.new ≡ book_board s.old }
         ensures book { book_view s.new ≡ after_closing (book_view s.old) (pass_view p) }
+        ensures seen { IsPrefix (front p) (history s.new) }
     {
         let Pass { seat } = p;
         self.table
             .shared
             .join_seat::<JoinOwnPass>(&mut s.seat, seat);
+        self.table.shared.load::<CompareFronts>(&mut s.seat, 0);
     }
 }
 
@@ -174,6 +179,7 @@ impl Board {
     }
 
     /// The pass has seen the cell's history, has its notes, one of its faults and, unless it is out, one of its position, and takes its fault tokens.
+    /// The position stands as `check_cell` says.
     pub fn report(&self, c: &mut CellSeat, p: &mut Pass)
         requires board { (cell_board c.old ≡ board_id self.now) × (pass_board p.old ≡ board_id self.now) }
         ensures board { (cell_board c.new ≡ cell_board c.old) × (c.new.b ≡ c.old.b) × (pass_board p.new ≡ pass_board p.old) }
@@ -184,9 +190,11 @@ impl Board {
         ensures seen { IsPrefix (seen c.old) (front p.new) }
         ensures longer { IsPrefix (front p.old) (front p.new) }
         ensures legal { IsLegal (front p.new) }
+        ensures stands { StandsAtEnd c.old.b (position c.old) (seen c.old) (seen c.old) }
     {
         let copy = self.split_pass(&mut c.seat);
         self.join(&mut p.seat, copy);
+        self.check_cell(c);
     }
 }
 

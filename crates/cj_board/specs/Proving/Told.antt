@@ -9,7 +9,7 @@ use Rattle.cj_model.specs.declared.limits.TheConstants.{EVENT_LIMIT}
 use Rattle.cj_board.specs.declared.view.SeatView.{SeatView}
 use Rattle.cj_board.specs.Counting.{event_count_of}
 use Rattle.cj_board.specs.Points.{max_word, IsInLog, StandsAtEnd}
-use Rattle.cj_board.specs.Views.{IsCellOf, role_position}
+use Rattle.cj_board.specs.Views.{IsBook, IsCellOf, role_position}
 use Rattle.cj_board.specs.Steps.{after_append, at_position, with_faults, after_looking, after_count}
 
 abbrev pub SeatNow : Type 0
@@ -36,9 +36,9 @@ ToldStoredFaults st m n m' = (b : ℕ) → st.word ≡ 2 * b + 2 → m' ≡ (wit
 abbrev pub ToldFaults : StepNow → SeatNow → ℕ → SeatNow → Type 0
 ToldFaults st m n m' = (m' ≡ m) × (n ≡ m.0.faults)
 
--- the fronts of the last join begin the front, which is legal
+-- the fronts of the last join begin the front, which is legal; and the book gave each session whose count it has noted
 abbrev pub ToldFronts : StepNow → SeatNow → ℕ → SeatNow → Type 0
-ToldFronts st m n m' = (m' ≡ m) × IsPrefix m.0.front_before m.0.front × IsPrefix m.0.front_joined m.0.front × IsLegal m.0.front
+ToldFronts st m n m' = (m' ≡ m) × IsPrefix m.0.front_before m.0.front × IsPrefix m.0.front_joined m.0.front × IsLegal m.0.front × (IsBook m.0.role → (s k : ℕ) → Contains m.0.count_notes (s, k) → s ≤ m.0.last_given)
 
 -- what the rule says of backend b, at its cell's seat: the faults that are noted of it, and where it stands
 pub record ToldOfCell (b : ℕ) (v : SeatView) : Type 0 where
