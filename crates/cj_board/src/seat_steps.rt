@@ -9,8 +9,8 @@ ghost use Rattle.cj_board.specs.Steps.{after_fault, after_join, after_learning, 
 ghost use Rattle.cj_board.specs.Views.{IsBook, IsCellOf, IsNotBook, pass_of, pass_without_tokens};
 
 use crate::rule::{
-    CompareFronts, JoinPass, JoinToBook, LoadFaults, LoadPosition, SplitPass,
-    SplitWithoutTokens, StoreFaults,
+    CompareFronts, JoinPass, JoinToBook, LoadFaults, LoadPosition, SplitPass, SplitWithoutTokens,
+    StoreFaults,
 };
 use crate::seats::Board;
 use crate::view::SeatView;

@@ -14,5 +14,5 @@ pub returns-clause-given : goal.returns-clause-given
 returns-clause-given c s n has =
     let v : SeatView = c.args.seat.now.me.0 in
     let w : SeatView = c.args.other.me.0 in
-    let told = subst (λ (m : Me Event SeatView). IsBook m.0.role → (t k : ℕ) → Contains m.0.count_notes (t, k) → t ≤ m.0.last_given) c.join_seat.ensures.1 c.load.ensures.2.4 in
+    let told = subst (λ (m : Me Event SeatView). IsBook m.0.role → (t k : ℕ) → Contains m.0.count_notes (t, k) → t ≤ m.0.last_given) c.join_seat.ensures.2 c.load.ensures.2.4 in
     told c.requires.roles.0 s n (Contains-append_right v.count_notes w.count_notes (s, n) has)
