@@ -1,5 +1,5 @@
 -- Cells stand at the end of each log at which their backends were enabled, until they have seen a longer one, at each step.
-use Rattle.std.proofs.Common.{◌≡◌, ℕ, suc, ◌+◌, ◌<◌, ◌≤◌, true, List, [], ◌∷◌, ◌++◌, length, set, refl, sym, ap, ◌∙◌, subst, arith, ◌⊎◌, inl, inr, ⊎_elim}
+use Rattle.std.proofs.Common.{◌≡◌, ℕ, suc, ◌<◌, ◌≤◌, true, List, [], ◌∷◌, ◌++◌, length, set, refl, sym, ap, ◌∙◌, subst, arith, ◌⊎◌, inl, inr, ⊎_elim}
 use mathlib.Core.List.{IsPrefix}
 use Rattle.cj_board.proofs.Common.{Book, Cell, Event, IsLegal, Pass, Role, SeatView, log, max_word}
 use Rattle.cj_cluster.specs.History.Histories.{is_enabled, is_idle}

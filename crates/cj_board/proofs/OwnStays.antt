@@ -1,8 +1,8 @@
 -- A session of which no event came is as it was.
-use Rattle.std.proofs.Common.{◌≡◌, ◌≢◌, ℕ, ◌+◌, ◌<◌, ◌≤◌, ◌==◌, Bool, false, cond, List, [], ◌∷◌, ◌++◌, length, get_or, All, Contains, None, refl, ap, sym, ◌∙◌, subst, arith, inl, ⊎_elim, append_assoc, append-nil, eq-eqb, ne_eqb}
+use Rattle.std.proofs.Common.{◌≡◌, ◌≢◌, ℕ, ◌+◌, ◌<◌, ◌≤◌, ◌==◌, Bool, false, cond, List, [], ◌∷◌, ◌++◌, get_or, All, Contains, None, refl, ap, sym, ◌∙◌, subst, arith, inl, ⊎_elim, append_assoc, append-nil, eq-eqb, ne_eqb}
 use mathlib.Core.List.{IsPrefix}
 use Rattle.std.proofs.lemmas.List.Elements.{All-contains, All-contains_itself, All-push}
-use Rattle.cj_board.proofs.Common.{Contains-append_left, Disabled, Enabled, Ended, Entry, Event, IsFitEntry, IsLegal, LogFailed, Marker, ReadFailed, Sched, event_count_of, log}
+use Rattle.cj_board.proofs.Common.{Disabled, Enabled, Ended, Entry, Event, IsFitEntry, IsLegal, LogFailed, Marker, ReadFailed, Sched, event_count_of, log}
 use Rattle.cj_cluster.specs.History.Histories.{is_log_fault, log_faults_of, scheduled_entry, tx_of}
 use Rattle.cj_cluster.specs.History.Legality.{FitsTx, IsAdministratorEntry, IsSessionEntry}
 use Rattle.cj_cluster.specs.History.Transactions.{is_end}

@@ -1,4 +1,4 @@
-use Rattle.std.proofs.Common.{◌≡◌, ◌∙◌, ℕ, ◌<◌, ◌≤◌, ◌==◌, not, length, arith, subst, sym}
+use Rattle.std.proofs.Common.{◌≡◌, ◌∙◌, ◌<◌, ◌≤◌, ◌==◌, not, length, arith, subst, sym}
 use Rattle.std.proofs.lemmas.List.Elements.{All-filter}
 use Rattle.cj_board.proofs.Common.{Event, Me, SeatView}
 use Rattle.cj_board.specs.Steps.{after_closing}
