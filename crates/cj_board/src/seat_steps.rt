@@ -49,7 +49,8 @@ impl Board {
         self.table.shared.load::<CompareFronts>(seat, 0);
     }
 
-    // The book has the other's notes and tokens. It has seen what the other has already, and gave each session whose count is noted.
+    // The book has the other's notes and tokens. It has seen what the other has already, and gave each session of a count
+    // that the other has noted.
     pub(crate) fn join_to_book(
         &self,
         seat: &mut Seat<Event, SeatView>,

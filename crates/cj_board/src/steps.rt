@@ -149,7 +149,8 @@ impl Board {
     }
 
     /// The backend has at least the faults that its cell has noted, and its position is in the log that the cell has seen.
-    /// Wherever that history was idle with the backend enabled, it stands at the end of the log, or the cell has seen a longer one.
+    /// Wherever the history seen was idle with the backend enabled, it stands at the end of that log, or the cell has seen
+    /// a longer one.
     pub fn check_cell(&self, c: &mut CellSeat)
         requires board { cell_board c.old ≡ board_id self.now }
         ensures board { (cell_board c.new ≡ cell_board c.old) × (c.new.b ≡ c.old.b) }
@@ -162,7 +163,7 @@ impl Board {
     }
 
     /// The cell has seen the pass's history, which is legal, and its backend has at least the faults that the pass noted.
-    /// Wherever that history was idle with the backend enabled, it stands at the end of the log, or the cell has seen a longer one.
+    /// It stands where `check_cell` says.
     pub fn brief(&self, c: &mut CellSeat, p: &mut Pass)
         requires board { (cell_board c.old ≡ board_id self.now) × (pass_board p.old ≡ board_id self.now) }
         ensures board { (cell_board c.new ≡ cell_board c.old) × (c.new.b ≡ c.old.b) × (pass_board p.new ≡ pass_board p.old) }
@@ -178,8 +179,8 @@ impl Board {
         self.check_cell(c);
     }
 
-    /// The pass has seen the cell's history, has its notes, one of its faults and, unless it is out, one of its position, and takes its fault tokens.
-    /// The position stands as `check_cell` says.
+    /// The pass has seen the cell's history, has its notes, one of its faults and, unless it is out, one of its position, and
+    /// takes its fault tokens. The backend stands where `check_cell` says.
     pub fn report(&self, c: &mut CellSeat, p: &mut Pass)
         requires board { (cell_board c.old ≡ board_id self.now) × (pass_board p.old ≡ board_id self.now) }
         ensures board { (cell_board c.new ≡ cell_board c.old) × (c.new.b ≡ c.old.b) × (pass_board p.new ≡ pass_board p.old) }
