@@ -24,7 +24,7 @@ count_none p (x ∷ xs) none =
     let first : cond {A = ℕ} (p x) 1 0 ≡ 0 = ap (λ t. cond {A = ℕ} t 1 0) (All-head (λ y. p y ≡ false) x xs none) in
     sum_by-cons (λ y. cond (p y) 1 0) x xs ∙ omega arith
 
-count_weaker : {A : Type 0} (p q : A → Bool) (xs : List A) → ((x : A) → p x ≡ true → q x ≡ true) → count_by p xs ≤ count_by q xs
+pub count_weaker : {A : Type 0} (p q : A → Bool) (xs : List A) → ((x : A) → p x ≡ true → q x ≡ true) → count_by p xs ≤ count_by q xs
 count_weaker p q xs f = sum_by-le-sum_by (λ x. cond (p x) 1 0) (λ x. cond (q x) 1 0) xs (λ x. by_test (p x) (q x) (f x))
   where
     by_test : (s t : Bool) → (s ≡ true → t ≡ true) → cond {A = ℕ} s 1 0 ≤ cond {A = ℕ} t 1 0
@@ -33,7 +33,7 @@ count_weaker p q xs f = sum_by-le-sum_by (λ x. cond (p x) 1 0) (λ x. cond (q x
 
 -- ---- beginnings
 
-entry_of_prefix : (s n : ℕ) (xs ys : List Entry) → IsPrefix xs ys → is_entry_of s (entry_numbered xs n) ≡ true → is_entry_of s (entry_numbered ys n) ≡ true
+pub entry_of_prefix : (s n : ℕ) (xs ys : List Entry) → IsPrefix xs ys → is_entry_of s (entry_numbered xs n) ≡ true → is_entry_of s (entry_numbered ys n) ≡ true
 entry_of_prefix s n xs ys p is = by_test (n == 0) is
   where
     by_found : (o : Option Entry) → slice_get xs (n - 1) ≡ o → is_entry_of s o ≡ true → is_entry_of s (slice_get ys (n - 1)) ≡ true
@@ -44,7 +44,7 @@ entry_of_prefix s n xs ys p is = by_test (n == 0) is
     by_test true is = is
     by_test false is = by_found (slice_get xs (n - 1)) refl is
 
-and_weaker : (t x y : Bool) → (x ≡ true → y ≡ true) → (t && x) ≡ true → (t && y) ≡ true
+pub and_weaker : (t x y : Bool) → (x ≡ true → y ≡ true) → (t && x) ≡ true → (t && y) ≡ true
 and_weaker true x y f is = f is
 and_weaker false x y f is = is
 

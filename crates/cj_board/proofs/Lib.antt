@@ -3,6 +3,8 @@ pub mod Common
 pub mod Counts
 pub mod EachSeat
 pub mod EnabledPoint
+pub mod EndPoint
+pub mod EventCounts
 pub mod FaultPoint
 pub mod FrontPoint
 pub mod Histories
@@ -10,6 +12,8 @@ pub mod KeptSteps
 pub mod KnownSeats
 pub mod NewCells
 pub mod NotePoint
+pub mod OpenEntry
+pub mod OwnStays
 pub mod PositionPoint
 pub mod Reports
 pub mod SessionPoint

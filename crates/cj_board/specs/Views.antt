@@ -1,5 +1,5 @@
 -- Views of the seats that are made, and of those that are cut from others.
-use Rattle.std.specs.Prelude.{◌≡◌, ◌≢◌, ℕ, leb, eqb, cond, List, [], ◌∷◌, ◌++◌}
+use Rattle.std.specs.Prelude.{◌≡◌, ◌≢◌, ℕ, ◌<◌, ◌≤◌, leb, eqb, cond, List, [], ◌∷◌, ◌++◌, All}
 use Rattle.cj_board.specs.declared.view.SeatView.{SeatView}
 use Rattle.cj_board.specs.declared.view.Role.{Role}
 use Rattle.cj_board.specs.declared.view.Role.TheVariants.{Book, Cell, Pass}
@@ -31,6 +31,12 @@ IsPass r = r ≡ Pass
 
 abbrev pub IsNotBook : Role → Type 0
 IsNotBook r = (m : ℕ) → r ≢ Book m
+
+-- ---- sessions
+
+-- the sessions that were given an own pass are above 0, and none is above the last
+abbrev pub AreGiven : List ℕ → ℕ → Type 0
+AreGiven given last = All (λ s. (0 < s) × (s ≤ last)) given
 
 -- ---- views that know nothing yet
 
@@ -86,11 +92,7 @@ fault_note_of Pass faults = []
 abbrev pub count_note_of : ℕ → ℕ → List (ℕ × ℕ)
 count_note_of own count = cond (eqb own 0) [] ((own, count) ∷ [])
 
--- a pass with the front alone
-abbrev pub pass_without_notes : SeatView → SeatView
-pass_without_notes v = record empty_pass { front = v.front }
-
--- a pass with the notes too
+-- a pass with the front and the notes
 abbrev pub pass_without_tokens : SeatView → SeatView
 pass_without_tokens v = record empty_pass {
   front = v.front;

@@ -6,11 +6,11 @@ ghost use Rattle.cj_cluster.specs.History.Legality.{IsLegal};
 ghost use Rattle.cj_board.specs.Points.{max_word};
 ghost use Rattle.cj_board.specs.Seats.{board_id};
 ghost use Rattle.cj_board.specs.Steps.{after_fault, after_join, after_learning, after_looking, after_split};
-ghost use Rattle.cj_board.specs.Views.{IsBook, IsCellOf, IsNotBook, pass_of, pass_without_notes, pass_without_tokens};
+ghost use Rattle.cj_board.specs.Views.{IsBook, IsCellOf, IsNotBook, pass_of, pass_without_tokens};
 
 use crate::rule::{
-    CheckFaultNotes, CompareFronts, JoinPass, JoinToBook, LoadFaults, LoadPosition, SplitPass,
-    SplitWithoutNotes, SplitWithoutTokens, StoreFaults,
+    CompareFronts, JoinPass, JoinToBook, LoadFaults, LoadPosition, SplitPass, SplitWithoutTokens,
+    StoreFaults,
 };
 use crate::seats::Board;
 use crate::view::SeatView;
@@ -37,17 +37,6 @@ impl Board {
         self.table.shared.split_seat::<SplitWithoutTokens>(seat)
     }
 
-    // The same with no notes either.
-    pub(crate) fn split_without_notes(
-        &self,
-        seat: &mut Seat<Event, SeatView>,
-    ) -> Seat<Event, SeatView>
-        requires { seat.old.table_id ≡ board_id self.now }
-        ensures { (seat.new.table_id ≡ seat.old.table_id) × (seat.new.me ≡ seat.old.me) × (result.table_id ≡ seat.old.table_id) × (result.me ≡ (pass_without_notes seat.old.me.0, [])) }
-    {
-        self.table.shared.split_seat::<SplitWithoutNotes>(seat)
-    }
-
     // The seat has seen what the other has, and has its notes and tokens.
     pub(crate) fn join(&self, seat: &mut Seat<Event, SeatView>, other: Seat<Event, SeatView>)
         requires board { (seat.old.table_id ≡ board_id self.now) × (other.table_id ≡ board_id self.now) }
@@ -60,7 +49,8 @@ impl Board {
         self.table.shared.load::<CompareFronts>(seat, 0);
     }
 
-    // The book has the other's notes and tokens. It has seen what the other has already.
+    // The book has the other's notes and tokens. It has seen what the other has already, and gave each session of a count
+    // that the other has noted.
     pub(crate) fn join_to_book(
         &self,
         seat: &mut Seat<Event, SeatView>,
@@ -70,6 +60,7 @@ impl Board {
         requires roles { IsBook seat.old.me.0.role × (other.me.1 ≡ []) }
         ensures view { (seat.new.table_id ≡ seat.old.table_id) × (seat.new.me ≡ (after_learning seat.old.me.0 other.me.0, seat.old.me.1)) }
         ensures fronts { IsPrefix other.me.0.front seat.new.me.0.front }
+        ensures given { (s n : ℕ) → Contains other.me.0.count_notes (s, n) → s ≤ seat.old.me.0.last_given }
     {
         self.table.shared.join_seat::<JoinToBook>(seat, other);
         self.table.shared.load::<CompareFronts>(seat, 0);
@@ -96,14 +87,5 @@ impl Board {
         let known = self.table.shared.load::<LoadFaults>(seat, word);
         let next = known.saturating_add(1);
         self.table.shared.store::<StoreFaults>(seat, word, next);
-    }
-
-    // The cell's backend has at least the faults that the seat has noted of it.
-    pub(crate) fn check_faults(&self, seat: &mut Seat<Event, SeatView>)
-        requires board { seat.old.table_id ≡ board_id self.now }
-        ensures same { (seat.new.table_id ≡ seat.old.table_id) × (seat.new.me ≡ seat.old.me) }
-        ensures noted { (b n : ℕ) → IsCellOf b seat.old.me.0.role → Contains seat.old.me.0.fault_notes (b, n) → n ≤ seat.old.me.0.faults }
-    {
-        self.table.shared.load::<CheckFaultNotes>(seat, 0);
     }
 }

@@ -2,7 +2,7 @@
 
 ghost use Rattle.std.specs.Prelude.{◌≡◌, ◌+◌, ◌*◌, ◌<◌, ◌≤◌, [], length};
 ghost use Rattle.cj_model.specs.declared.limits.TheConstants.{BACKEND_LIMIT};
-ghost use Rattle.cj_board.specs.Views.{IsBook, IsCellOf, IsPass};
+ghost use Rattle.cj_board.specs.Views.{AreGiven, IsBook, IsCellOf, IsPass};
 
 use crate::rule::BoardRule;
 use crate::view::SeatView;
@@ -28,6 +28,7 @@ pub struct BookSeat {
     ghost counts: { events ≡ length seat.me.0.front },
     ghost is_book: { IsBook seat.me.0.role },
     ghost not_own: { seat.me.0.own_session ≡ 0 },
+    ghost given: { AreGiven seat.me.0.given seat.me.0.last_given },
 }
 
 /// The seat of one backend's cell, which knows the backend's position and its faults.

@@ -5,13 +5,14 @@ ghost use Rattle.cj_model.specs.declared.limits.TheConstants.{EVENT_LIMIT};
 ghost use Rattle.cj_cluster.specs.History.Histories.{log};
 ghost use Rattle.cj_cluster.specs.History.Legality.{IsLegal};
 ghost use Rattle.cj_board.specs.Counting.{event_count_of};
-ghost use Rattle.cj_board.specs.Points.{max_word};
+ghost use Rattle.cj_board.specs.Points.{max_word, IsInLog, StandsAtEnd};
 ghost use Rattle.cj_board.specs.Seats.{board_id, book_board, cell_board, pass_board, book_view, cell_view, pass_view, history, seen, front, position};
 ghost use Rattle.cj_board.specs.Steps.{HasPositionNotes, HasFaultTokens, HasCountNotes, after_append, at_position, after_fault, after_looking, word_of_position, after_count, after_split, after_join, after_learning, after_opening, after_closing};
-ghost use Rattle.cj_board.specs.Views.{role_position, pass_of, pass_without_tokens, pass_without_notes, own_pass_of, next_session};
+ghost use Rattle.cj_board.specs.Views.{role_position, pass_of, pass_without_tokens, own_pass_of, next_session};
 
 use crate::rule::{
-    AdvancePosition, AppendEvent, CheckCount, CountUp, JoinOwnPass, SplitOwnPass, StorePosition,
+    AdvancePosition, AppendEvent, CheckCell, CheckCount, CompareFronts, CountUp, JoinOwnPass,
+    SplitOwnPass, StorePosition,
 };
 use crate::seats::{Board, BookSeat, CellSeat, Pass};
 use cj_cluster::Event;
@@ -35,28 +36,31 @@ impl Board {
         s.events = events + 1;
     }
 
-    /// The pass has seen the book's history, and has its notes. The fault tokens stay.
+    /// The pass has seen the book's history, and each has the other's notes. The fault tokens stay.
+    /// The session of an own pass is one that the book gave.
     pub fn tell(&self, s: &mut BookSeat, p: &mut Pass)
         requires board { (book_board s.old ≡ board_id self.now) × (pass_board p.old ≡ board_id self.now) }
         ensures board { (book_board s.new ≡ book_board s.old) × (pass_board p.new ≡ pass_board p.old) }
-        ensures book { book_view s.new ≡ after_learning (book_view s.old) (pass_without_notes (pass_view p.old)) }
+        ensures book { book_view s.new ≡ after_learning (book_view s.old) (pass_without_tokens (pass_view p.old)) }
         ensures pass { pass_view p.new ≡ after_join (pass_view p.old) (pass_without_tokens (book_view s.new)) }
         ensures told { front p.new ≡ history s.old }
         ensures longer { IsPrefix (front p.old) (front p.new) }
+        ensures given { (pass_view p.old).own_session ≤ (book_view s.old).last_given }
     {
-        let before = self.split_without_notes(&mut p.seat);
+        let before = self.split_without_tokens(&mut p.seat);
         self.join_to_book(&mut s.seat, before);
         let told = self.split_without_tokens(&mut s.seat);
         self.join(&mut p.seat, told);
     }
 
-    /// The book has the pass's notes, and takes its fault tokens.
+    /// The book has the pass's notes, and takes its fault tokens. The session of an own pass is one that the book gave.
     pub fn learn(&self, s: &mut BookSeat, p: &mut Pass)
         requires board { (book_board s.old ≡ board_id self.now) × (pass_board p.old ≡ board_id self.now) }
         ensures board { (book_board s.new ≡ book_board s.old) × (pass_board p.new ≡ pass_board p.old) }
         ensures book { book_view s.new ≡ after_learning (book_view s.old) (pass_of (pass_view p.old)) }
         ensures pass { pass_view p.new ≡ after_split (pass_view p.old) }
         ensures seen { IsPrefix (front p.old) (history s.new) }
+        ensures given { (pass_view p.old).own_session ≤ (book_view s.old).last_given }
     {
         let copy = self.split_pass(&mut p.seat);
         self.join_to_book(&mut s.seat, copy);
@@ -75,17 +79,19 @@ impl Board {
         Pass { seat }
     }
 
-    /// Takes an own pass back: its session counts its events no longer.
+    /// Takes an own pass back, which has seen a beginning of the history: its session counts its events no longer.
     pub fn close_own(&self, s: &mut BookSeat, p: Pass)
         requires board { (book_board s.old ≡ board_id self.now) × (pass_board p ≡ board_id self.now) }
         requires own { 0 < (pass_view p).own_session }
         ensures board { book_board s.new ≡ book_board s.old }
         ensures book { book_view s.new ≡ after_closing (book_view s.old) (pass_view p) }
+        ensures seen { IsPrefix (front p) (history s.new) }
     {
         let Pass { seat } = p;
         self.table
             .shared
             .join_seat::<JoinOwnPass>(&mut s.seat, seat);
+        self.table.shared.load::<CompareFronts>(&mut s.seat, 0);
     }
 }
 
@@ -142,7 +148,22 @@ impl Board {
         self.add_fault(&mut c.seat, b);
     }
 
+    /// The backend has at least the faults that its cell has noted, and its position is in the log that the cell has seen.
+    /// Wherever the history seen was idle with the backend enabled, it stands at the end of that log, or the cell has seen
+    /// a longer one.
+    pub fn check_cell(&self, c: &mut CellSeat)
+        requires board { cell_board c.old ≡ board_id self.now }
+        ensures board { (cell_board c.new ≡ cell_board c.old) × (c.new.b ≡ c.old.b) }
+        ensures cell { cell_view c.new ≡ cell_view c.old }
+        ensures faults { (n : ℕ) → Contains (cell_view c.old).fault_notes (c.old.b, n) → n ≤ (cell_view c.old).faults }
+        ensures within { IsInLog (position c.old) (seen c.old) }
+        ensures stands { StandsAtEnd c.old.b (position c.old) (seen c.old) (seen c.old) }
+    {
+        self.table.shared.load::<CheckCell>(&mut c.seat, 0);
+    }
+
     /// The cell has seen the pass's history, which is legal, and its backend has at least the faults that the pass noted.
+    /// It stands where `check_cell` says.
     pub fn brief(&self, c: &mut CellSeat, p: &mut Pass)
         requires board { (cell_board c.old ≡ board_id self.now) × (pass_board p.old ≡ board_id self.now) }
         ensures board { (cell_board c.new ≡ cell_board c.old) × (c.new.b ≡ c.old.b) × (pass_board p.new ≡ pass_board p.old) }
@@ -151,13 +172,15 @@ impl Board {
         ensures seen { IsPrefix (front p.old) (seen c.new) × IsPrefix (seen c.old) (seen c.new) }
         ensures legal { IsLegal (seen c.new) }
         ensures faults { (n : ℕ) → Contains (pass_view p.old).fault_notes (c.old.b, n) → n ≤ (cell_view c.new).faults }
+        ensures stands { StandsAtEnd c.old.b (position c.new) (seen c.new) (seen c.new) }
     {
         let copy = self.split_without_tokens(&mut p.seat);
         self.join(&mut c.seat, copy);
-        self.check_faults(&mut c.seat);
+        self.check_cell(c);
     }
 
-    /// The pass has seen the cell's history, has its notes, one of its faults and, unless it is out, one of its position, and takes its fault tokens.
+    /// The pass has seen the cell's history, has its notes, one of its faults and, unless it is out, one of its position, and
+    /// takes its fault tokens. The backend stands where `check_cell` says.
     pub fn report(&self, c: &mut CellSeat, p: &mut Pass)
         requires board { (cell_board c.old ≡ board_id self.now) × (pass_board p.old ≡ board_id self.now) }
         ensures board { (cell_board c.new ≡ cell_board c.old) × (c.new.b ≡ c.old.b) × (pass_board p.new ≡ pass_board p.old) }
@@ -168,9 +191,11 @@ impl Board {
         ensures seen { IsPrefix (seen c.old) (front p.new) }
         ensures longer { IsPrefix (front p.old) (front p.new) }
         ensures legal { IsLegal (front p.new) }
+        ensures stands { StandsAtEnd c.old.b (position c.old) (seen c.old) (seen c.old) }
     {
         let copy = self.split_pass(&mut c.seat);
         self.join(&mut p.seat, copy);
+        self.check_cell(c);
     }
 }
 
