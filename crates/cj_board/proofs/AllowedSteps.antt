@@ -10,13 +10,14 @@ use prog.Atomic.{either}
 use Rattle.std.proofs.lemmas.List.Elements.{All-append, All-nil, All-contains}
 use Rattle.cj_board.proofs.Common.{Book, Cell, Event, IsLegal, Pass, Role, SeatView, event_count_of, log, set_else}
 use Rattle.atomic_table.specs.Table.{State, Me, step, keeps, stepped, Allows, Splits, Joins, opening}
-use Rattle.cj_cluster.proofs.Pushed.{legal_prefix, prefix_self}
-use Rattle.cj_board.specs.Points.{AtEachSeat, position_word, fault_word, max_word, fault_tokens_of, HasSeat, BeginsHistory, IsInLog, KnowsPosition, IsPositionNote, IsFaultNote, KnowsFaults, IsCountNote, CountsSessions, OwnPassesCount, IsKept, IsKeptBoard}
+use Rattle.cj_cluster.proofs.Pushed.{legal_prefix, prefix_self, prefix_trans}
+use Rattle.cj_board.specs.Points.{AtEachSeat, position_word, fault_word, max_word, fault_tokens_of, HasSeat, BeginsHistory, IsInLog, KnowsPosition, IsPositionNote, IsFaultNote, KnowsFaults, StandsAtEnd, CellStandsAtEnd, IsCountNote, CountsSessions, OwnPassesCount, IsKept, IsKeptBoard}
 use Rattle.cj_board.specs.Steps.{HasPositionNotes, HasFaultTokens, HasCountNotes, after_append, at_position, with_faults, after_looking, after_count, after_split, one_fault_more, longer_of, after_join, after_learning, after_making_cell, after_opening, after_closing}
 use Rattle.cj_board.specs.Views.{IsBook, IsCellOf, IsPass, IsNotBook, role_position, cells_made, book_with_cells, empty_pass, position_note_of, fault_note_of, count_note_of, pass_of, pass_without_tokens, pass_without_notes, own_pass_of, next_cell_of}
-use Rattle.cj_board.specs.Proving.Told.{ToldAppend, ToldAdvance, ToldStoredPosition, ToldPosition, ToldStoredFaults, ToldFaults, ToldFronts, ToldFaultNotes, ToldCountUp, ToldCount}
+use Rattle.cj_board.specs.Proving.Told.{ToldAppend, ToldAdvance, ToldStoredPosition, ToldPosition, ToldStoredFaults, ToldFaults, ToldFronts, ToldCell, ToldOfCell, ToldCountUp, ToldCount}
 use Rattle.cj_board.proofs.Counts.{counts_of_prefix}
 use Rattle.cj_board.proofs.FaultPoint.{tokens-append}
+use Rattle.cj_board.proofs.EndPoint.{stands_first, stands_moved, stands_seen}
 use Rattle.cj_board.proofs.Histories.{log_bound, log_of_prefix, longer_begins}
 use Rattle.cj_board.proofs.KeptSteps.{Fits, fits, same_counts, stands_append, stands_move, stands_fault, stands_set, stands_split, stands_join, stands_cell, stands_count}
 use Rattle.cj_board.proofs.KnownSeats.{put}
@@ -80,6 +81,7 @@ opens n = let ws : List ℕ = replicate (2 * n + 1) 0 in record {
     positions = record { in_log = λ b ne. let z = zeros_at (2 * n + 1) (2 * b + 1) in omega arith; known = one_seat (λ j v. KnowsPosition ws v.role v.front) tt };
     notes = one_seat (λ j v. All (IsPositionNote [] ws) v.position_notes) (All-nil (IsPositionNote [] ws));
     enabled = λ idle b on. absurd cc;
+    ends = record { cells = one_seat (λ j v. CellStandsAtEnd [] v.role v.front) tt; unmade = λ b le. stands_first b };
     faults = record {
       notes = one_seat (λ j v. All (IsFaultNote ws) v.fault_notes) (All-nil (IsFaultNote ws));
       known = one_seat (λ j v. KnowsFaults ws v.role v.faults) tt;
@@ -136,7 +138,8 @@ advances n slots id b me cell lt s k _ at _ =
     let top = log_bound h k.kept.begin.legal in
     let seen = log_of_prefix me.0.front h f.begins.0 in
     let next : (x + 1) % 2 ^ 64 ≡ x + 1 = omega arith in
-    let small : x < 4611686018427387904 = omega arith in (
+    let small : x < 4611686018427387904 = omega arith in
+    let end : StandsAtEnd b p me.0.front h = subst (λ (r : Role). CellStandsAtEnd h r me.0.front) cell f.end in (
       at_position (x + 1) me.0,
       keeps,
       tt,
@@ -145,7 +148,7 @@ advances n slots id b me cell lt s k _ at _ =
         who = k.who;
         history = h;
         kept = subst (λ (z : ℕ). IsKept n k.made k.who h (set s.words (2 * b + 1) z) (set s.views id (at_position (x + 1) me.0))) (sym next)
-            (stands_move n k.made k.who h s.words s.views id b p (x + 1) me.0 k.kept at cell (λ _. omega arith) (λ _. omega arith) (λ e. omega arith));
+            (stands_move n k.made k.who h s.words s.views id b p (x + 1) me.0 k.kept at cell (λ _. omega arith) (λ _. omega arith) (λ e. omega arith) (stands_moved b p (x + 1) me.0.front h k.kept.begin.legal (inl lt) end));
       },
       (refl, sym x_is, small),
     )
@@ -163,7 +166,8 @@ places n slots id b q me cell seen from s k _ at _ =
     let p : ℕ = role_position me.0.role in
     let top = log_bound h k.kept.begin.legal in
     let grows = log_of_prefix me.0.front h f.begins.0 in
-    let off : p ≢ length (log h) = λ e. ⊎_elim (λ (lt : p < length (log me.0.front)). omega arith) (λ (o : p ≡ max_word). omega arith) from in (
+    let off : p ≢ length (log h) = λ e. ⊎_elim (λ (lt : p < length (log me.0.front)). omega arith) (λ (o : p ≡ max_word). omega arith) from in
+    let end : StandsAtEnd b p me.0.front h = subst (λ (r : Role). CellStandsAtEnd h r me.0.front) cell f.end in (
       at_position q me.0,
       keeps,
       tt,
@@ -171,7 +175,7 @@ places n slots id b q me cell seen from s k _ at _ =
         made = k.made;
         who = k.who;
         history = h;
-        kept = stands_move n k.made k.who h s.words s.views id b p q me.0 k.kept at cell seen (λ ne. let i = seen ne in omega arith) off;
+        kept = stands_move n k.made k.who h s.words s.views id b p q me.0 k.kept at cell seen (λ ne. let i = seen ne in omega arith) off (stands_moved b p q me.0.front h k.kept.begin.legal from end);
       },
       refl,
     )
@@ -191,7 +195,7 @@ looks n slots id b me s k _ at _ =
       w b,
       keeps,
       tt,
-      loads n s k id (2 * b + 1) me.1 me.0 (w b) at record { seat = f.seat; begins = f.begins; position = f.position; positions = f.positions; faults = f.faults; fault = f.fault } refl (same_counts me.0 (w b) refl refl refl refl refl refl),
+      loads n s k id (2 * b + 1) me.1 me.0 (w b) at record { seat = f.seat; begins = f.begins; position = f.position; end = f.end; positions = f.positions; faults = f.faults; fault = f.fault } refl (same_counts me.0 (w b) refl refl refl refl refl refl),
       λ c e. (ap (λ (z : ℕ). let m : M = (w z, me.1) in m) (let same : b ≡ c = omega arith in same), within),
     )
 
@@ -224,13 +228,20 @@ load_faults_allowed n slots id b i me e cell = subst (λ (z : ℕ). Allows (IsKe
     let knows : KnowsFaults s.words (Cell b (role_position me.0.role)) me.0.faults = subst (λ (r : Role). KnowsFaults s.words r me.0.faults) cell g.fault in
     (me.0, keeps, tt, loads n s k id (2 * b + 2) me.1 me.0 me.0 at g refl (same_all me.0), (refl, sym knows)))
 
-pub check_faults_allowed : (n slots id : ℕ) (me : M) → Allows (IsKeptBoard n) slots id me 0 (λ x. x) (ToldFaultNotes (step slots 0 0 0 none) me)
-check_faults_allowed n slots id me s k _ at _ =
+pub check_cell_allowed : (n slots id : ℕ) (me : M) → Allows (IsKeptBoard n) slots id me 0 (λ x. x) (ToldCell (step slots 0 0 0 none) me)
+check_cell_allowed n slots id me s k _ at _ =
     let g = fit_at n s k id me.0 at in
-    let noted : (b m : ℕ) → IsCellOf b me.0.role → Contains me.0.fault_notes (b, m) → m ≤ me.0.faults = λ b m cell c.
-    let knows : KnowsFaults s.words (Cell b (role_position me.0.role)) me.0.faults = subst (λ (r : Role). KnowsFaults s.words r me.0.faults) cell g.fault in
-    let note = All-contains (IsFaultNote s.words) me.0.fault_notes (b, m) g.faults c in omega arith in
-    (me.0, keeps, tt, loads n s k id 0 me.1 me.0 me.0 at g refl (same_all me.0), (refl, noted))
+    let p : ℕ = role_position me.0.role in
+    let told : (b : ℕ) → IsCellOf b me.0.role → ToldOfCell b me.0 = λ b cell.
+    let knows : KnowsFaults s.words (Cell b p) me.0.faults = subst (λ (r : Role). KnowsFaults s.words r me.0.faults) cell g.fault in
+    let stands : StandsAtEnd b p me.0.front k.history = subst (λ (r : Role). CellStandsAtEnd k.history r me.0.front) cell g.end in
+    let position : KnowsPosition s.words (Cell b p) me.0.front = subst (λ (r : Role). KnowsPosition s.words r me.0.front) cell g.position in
+    record {
+      faults = λ m c. let note = All-contains (IsFaultNote s.words) me.0.fault_notes (b, m) g.faults c in omega arith;
+      within = position.1;
+      stands = λ m begins. stands m (prefix_trans m me.0.front k.history begins g.begins.0);
+    } in
+    (me.0, keeps, tt, loads n s k id 0 me.1 me.0 me.0 at g refl (same_all me.0), (refl, told))
 
 -- one more, by a sum that stops at the last word
 pub sum_is : (n f : ℕ) → (n < max_word → f ≡ n + 1) → (max_word ≤ n → f ≡ n) → f ≡ one_fault_more n
@@ -289,7 +300,7 @@ cuts_off n id v w ts role front before joined noted less own counts s k at =
       who = k.who;
       history = k.history;
       kept = stands_split n k.made k.who k.history s.words s.views id v (keeping ts v) w k.kept at
-          record { seat = f.seat; begins = f.begins; position = f.position; positions = f.positions; faults = f.faults; fault = f.fault }
+          record { seat = f.seat; begins = f.begins; position = f.position; end = f.end; positions = f.positions; faults = f.faults; fault = f.fault }
           record {
             seat = subst (λ (r : Role). HasSeat n k.made k.who k.history (length (set s.views id (keeping ts v))) r w.front) (sym role) tt;
             begins = (
@@ -298,6 +309,7 @@ cuts_off n id v w ts role front before joined noted less own counts s k at =
               subst (λ (l : List Event). IsPrefix l w.front) (sym joined) (w.front, refl),
             );
             position = subst (λ (r : Role). KnowsPosition s.words r w.front) (sym role) tt;
+            end = subst (λ (r : Role). CellStandsAtEnd k.history r w.front) (sym role) tt;
             positions = (noted s k at).0;
             faults = (noted s k at).1;
             fault = subst (λ (r : Role). KnowsFaults s.words r w.faults) (sym role) tt;
@@ -357,8 +369,8 @@ own_pass_allowed n id v book s k at =
       who = k.who;
       history = k.history;
       kept = stands_split n k.made k.who k.history s.words s.views id v (after_opening v) (own_pass_of v) k.kept at
-          record { seat = f.seat; begins = f.begins; position = f.position; positions = f.positions; faults = f.faults; fault = f.fault }
-          record { seat = tt; begins = (f.begins.0, (v.front, refl), (v.front, refl)); position = tt; positions = o.0; faults = o.1; fault = tt } (λ b. omega arith)
+          record { seat = f.seat; begins = f.begins; position = f.position; end = f.end; positions = f.positions; faults = f.faults; fault = f.fault }
+          record { seat = tt; begins = (f.begins.0, (v.front, refl), (v.front, refl)); position = tt; end = tt; positions = o.0; faults = o.1; fault = tt } (λ b. omega arith)
           (counts_open n k.made k.who k.history s.words s.views id v (after_opening v) (own_pass_of v) k.kept.known seat.0 k.kept.counts at book seat.2 refl refl refl refl refl refl refl refl refl refl);
     }
 
@@ -385,7 +397,7 @@ takes n s k id other v w both at apart there f ts counts = record {
   who = k.who;
   history = k.history;
   kept = stands_join n k.made k.who k.history s.words s.views id other v w both empty_pass k.kept at apart there f
-      record { seat = tt; begins = ((k.history, refl), ([], refl), ([], refl)); position = tt; positions = All-nil (IsPositionNote k.history s.words); faults = All-nil (IsFaultNote s.words); fault = tt }
+      record { seat = tt; begins = ((k.history, refl), ([], refl), ([], refl)); position = tt; end = tt; positions = All-nil (IsPositionNote k.history s.words); faults = All-nil (IsFaultNote s.words); fault = tt }
       (λ b. let t : fault_tokens_of b both.fault_tokens ≡ fault_tokens_of b (v.fault_tokens ++ w.fault_tokens) = ap (fault_tokens_of b) ts in let a = tokens-append b v.fault_tokens w.fault_tokens in omega arith) counts;
 }
 
@@ -400,6 +412,7 @@ join_allowed n id other v w not s k at apart there =
       seat = seat_more n k.made k.who k.history id v.role v.front (longer_of v.front w.front) not f.seat;
       begins = b;
       position = knows_more s.words v.role v.front (longer_of v.front w.front) (log_of_prefix v.front (longer_of v.front w.front) b.1) f.position;
+      end = stands_seen k.history v.role v.front (longer_of v.front w.front) (log_of_prefix v.front (longer_of v.front w.front) b.1) f.end;
       positions = All-append (IsPositionNote k.history s.words) v.position_notes w.position_notes f.positions g.positions;
       faults = All-append (IsFaultNote s.words) v.fault_notes w.fault_notes f.faults g.faults;
       fault = f.fault;
@@ -413,6 +426,7 @@ book_fits n s k id other v w book f g =
       seat = f.seat;
       begins = (f.begins.0, prefix_self v.front, subst (λ (l : List Event). IsPrefix w.front l) (sym seat.2) g.begins.0);
       position = f.position;
+      end = f.end;
       positions = All-append (IsPositionNote k.history s.words) v.position_notes w.position_notes f.positions g.positions;
       faults = All-append (IsFaultNote s.words) v.fault_notes w.fault_notes f.faults g.faults;
       fault = f.fault;
@@ -433,5 +447,5 @@ close_allowed n id other v w book own is_own s k at apart there =
     let g = fit_at n s k other w was in
     let l = book_fits n s k id other v w book f g in
     let seat : HasSeat n k.made k.who k.history id (Book (cells_made v.role)) v.front = subst (λ (r : Role). HasSeat n k.made k.who k.history id r v.front) book f.seat in
-    takes n s k id other v w (after_closing v w) at apart was record { seat = l.seat; begins = l.begins; position = l.position; positions = l.positions; faults = l.faults; fault = l.fault } refl
+    takes n s k id other v w (after_closing v w) at apart was record { seat = l.seat; begins = l.begins; position = l.position; end = l.end; positions = l.positions; faults = l.faults; fault = l.fault } refl
     (counts_close n k.made k.who k.history s.words s.views id other v w (after_closing v w) empty_pass k.kept.known seat.0 k.kept.counts at was apart book is_own refl own refl refl refl pass_is_none refl refl)

@@ -3,6 +3,7 @@ pub mod Common
 pub mod Counts
 pub mod EachSeat
 pub mod EnabledPoint
+pub mod EndPoint
 pub mod FaultPoint
 pub mod FrontPoint
 pub mod Histories

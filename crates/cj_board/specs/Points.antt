@@ -1,7 +1,7 @@
 -- The board's rule: what holds between any two steps, one definition for each point.
 -- Word 0 is the length of the history. Word 2 b + 1 is the position of backend b, or that it is out, and word 2 b + 2 its number of faults.
 -- Each seat has a number, in the order in which they were made, and a view.
-use Rattle.std.specs.Prelude.{◌≡◌, ◌≢◌, ℕ, suc, ◌+◌, ◌*◌, ◌<◌, ◌≤◌, ◌==◌, true, List, length, slice_index, count_by, sum_by, All, Contains}
+use Rattle.std.specs.Prelude.{◌≡◌, ◌≢◌, ◌⊎◌, ℕ, suc, ◌+◌, ◌*◌, ◌<◌, ◌≤◌, ◌==◌, true, List, [], length, slice_index, count_by, sum_by, All, Contains}
 use mathlib.Core.Option.{some}
 use mathlib.Core.List.{IsPrefix}
 use lib.ListN.{get_elem?}
@@ -77,6 +77,22 @@ pub record PositionsAreInLog (h : List Event) (ws : List ℕ) (vs : List SeatVie
 abbrev pub EnabledAreAtEnd : List Event → List ℕ → Type 0
 EnabledAreAtEnd h ws = is_idle h ≡ true → (b : ℕ) → is_enabled h b ≡ true → position_word ws b ≡ length (log h)
 
+-- ---- cells were at the end of the log
+
+-- Wherever history h was idle with backend b enabled, p is the end of the log of that moment, or a longer log was seen.
+abbrev pub StandsAtEnd : ℕ → ℕ → List Event → List Event → Type 0
+StandsAtEnd b p front h = (m : List Event) → IsPrefix m h → is_idle m ≡ true → is_enabled m b ≡ true → (p ≡ length (log m)) ⊎ (length (log m) < length (log front))
+
+abbrev pub CellStandsAtEnd : List Event → Role → List Event → Type 0
+CellStandsAtEnd h (Book m) front = Unit {0}
+CellStandsAtEnd h (Cell b p) front = StandsAtEnd b p front h
+CellStandsAtEnd h Pass front = Unit {0}
+
+-- Each cell stands at the end of each log at which no entry was open and its backend was enabled, until it has seen a longer one. A cell not made yet stands at 0.
+pub record CellsStandAtEnd (made : ℕ) (h : List Event) (vs : List SeatView) : Type 0 where
+  pub cells : AtEachSeat vs (λ j v. CellStandsAtEnd h v.role v.front)
+  pub unmade : (b : ℕ) → made ≤ b → StandsAtEnd b 0 [] h
+
 -- ---- notes of positions
 
 -- backend b stood at n: n is in the log, and where that is still the end, b is still there
@@ -148,6 +164,7 @@ pub record IsKept (n made : ℕ) (who : ℕ → ℕ) (h : List Event) (ws : List
   pub positions : PositionsAreInLog h ws vs
   pub notes : PositionNotesHold h ws vs
   pub enabled : EnabledAreAtEnd h ws
+  pub ends : CellsStandAtEnd made h vs
   pub faults : FailuresHaveFaults h ws vs
   pub counts : OwnPassesCount h vs
 

@@ -1,6 +1,6 @@
 // The rule of the board, and the kinds of step.
 ghost use Rattle.cj_board.specs.Points.{IsKeptBoard};
-ghost use Rattle.cj_board.specs.Proving.Told.{ToldAppend, ToldAdvance, ToldStoredPosition, ToldStoredFaults, ToldFaults, ToldPosition, ToldFronts, ToldFaultNotes, ToldCountUp, ToldCount};
+ghost use Rattle.cj_board.specs.Proving.Told.{ToldAppend, ToldAdvance, ToldStoredPosition, ToldStoredFaults, ToldFaults, ToldPosition, ToldFronts, ToldCell, ToldCountUp, ToldCount};
 ghost use Rattle.cj_board.specs.Views.{book_with_cells, empty_pass, pass_of, pass_without_tokens, pass_without_notes, own_pass_of, next_cell_of};
 ghost use Rattle.cj_board.specs.Steps.{after_split, after_making_cell, after_join, after_learning, after_opening, after_closing};
 
@@ -58,10 +58,10 @@ impl Play<Event, SeatView> for CompareFronts {
     ghost then = { ToldFronts };
 }
 
-pub struct CheckFaultNotes;
+pub struct CheckCell;
 
-impl Play<Event, SeatView> for CheckFaultNotes {
-    ghost then = { ToldFaultNotes };
+impl Play<Event, SeatView> for CheckCell {
+    ghost then = { ToldCell };
 }
 
 pub struct CountUp;

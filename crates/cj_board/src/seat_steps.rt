@@ -1,5 +1,5 @@
 // Single steps of any seat, from which the public ones are made.
-ghost use Rattle.std.specs.Prelude.{◌≡◌, ◌≢◌, ℕ, ◌+◌, ◌*◌, ◌<◌, ◌≤◌, [], Contains};
+ghost use Rattle.std.specs.Prelude.{◌≡◌, ◌≢◌, ℕ, ◌+◌, ◌*◌, ◌<◌, ◌≤◌, []};
 ghost use mathlib.Core.List.{IsPrefix};
 ghost use Rattle.cj_model.specs.declared.limits.TheConstants.{EVENT_LIMIT};
 ghost use Rattle.cj_cluster.specs.History.Legality.{IsLegal};
@@ -9,8 +9,8 @@ ghost use Rattle.cj_board.specs.Steps.{after_fault, after_join, after_learning, 
 ghost use Rattle.cj_board.specs.Views.{IsBook, IsCellOf, IsNotBook, pass_of, pass_without_notes, pass_without_tokens};
 
 use crate::rule::{
-    CheckFaultNotes, CompareFronts, JoinPass, JoinToBook, LoadFaults, LoadPosition, SplitPass,
-    SplitWithoutNotes, SplitWithoutTokens, StoreFaults,
+    CompareFronts, JoinPass, JoinToBook, LoadFaults, LoadPosition, SplitPass, SplitWithoutNotes,
+    SplitWithoutTokens, StoreFaults,
 };
 use crate::seats::Board;
 use crate::view::SeatView;
@@ -96,14 +96,5 @@ impl Board {
         let known = self.table.shared.load::<LoadFaults>(seat, word);
         let next = known.saturating_add(1);
         self.table.shared.store::<StoreFaults>(seat, word, next);
-    }
-
-    // The cell's backend has at least the faults that the seat has noted of it.
-    pub(crate) fn check_faults(&self, seat: &mut Seat<Event, SeatView>)
-        requires board { seat.old.table_id ≡ board_id self.now }
-        ensures same { (seat.new.table_id ≡ seat.old.table_id) × (seat.new.me ≡ seat.old.me) }
-        ensures noted { (b n : ℕ) → IsCellOf b seat.old.me.0.role → Contains seat.old.me.0.fault_notes (b, n) → n ≤ seat.old.me.0.faults }
-    {
-        self.table.shared.load::<CheckFaultNotes>(seat, 0);
     }
 }

@@ -5,13 +5,14 @@ ghost use Rattle.cj_model.specs.declared.limits.TheConstants.{EVENT_LIMIT};
 ghost use Rattle.cj_cluster.specs.History.Histories.{log};
 ghost use Rattle.cj_cluster.specs.History.Legality.{IsLegal};
 ghost use Rattle.cj_board.specs.Counting.{event_count_of};
-ghost use Rattle.cj_board.specs.Points.{max_word};
+ghost use Rattle.cj_board.specs.Points.{max_word, IsInLog, StandsAtEnd};
 ghost use Rattle.cj_board.specs.Seats.{board_id, book_board, cell_board, pass_board, book_view, cell_view, pass_view, history, seen, front, position};
 ghost use Rattle.cj_board.specs.Steps.{HasPositionNotes, HasFaultTokens, HasCountNotes, after_append, at_position, after_fault, after_looking, word_of_position, after_count, after_split, after_join, after_learning, after_opening, after_closing};
 ghost use Rattle.cj_board.specs.Views.{role_position, pass_of, pass_without_tokens, pass_without_notes, own_pass_of, next_session};
 
 use crate::rule::{
-    AdvancePosition, AppendEvent, CheckCount, CountUp, JoinOwnPass, SplitOwnPass, StorePosition,
+    AdvancePosition, AppendEvent, CheckCell, CheckCount, CountUp, JoinOwnPass, SplitOwnPass,
+    StorePosition,
 };
 use crate::seats::{Board, BookSeat, CellSeat, Pass};
 use cj_cluster::Event;
@@ -142,7 +143,21 @@ impl Board {
         self.add_fault(&mut c.seat, b);
     }
 
+    /// The backend has at least the faults that its cell has noted, and its position is in the log that the cell has seen.
+    /// Wherever that history was idle with the backend enabled, it stands at the end of the log, or the cell has seen a longer one.
+    pub fn check_cell(&self, c: &mut CellSeat)
+        requires board { cell_board c.old ≡ board_id self.now }
+        ensures board { (cell_board c.new ≡ cell_board c.old) × (c.new.b ≡ c.old.b) }
+        ensures cell { cell_view c.new ≡ cell_view c.old }
+        ensures faults { (n : ℕ) → Contains (cell_view c.old).fault_notes (c.old.b, n) → n ≤ (cell_view c.old).faults }
+        ensures within { IsInLog (position c.old) (seen c.old) }
+        ensures stands { StandsAtEnd c.old.b (position c.old) (seen c.old) (seen c.old) }
+    {
+        self.table.shared.load::<CheckCell>(&mut c.seat, 0);
+    }
+
     /// The cell has seen the pass's history, which is legal, and its backend has at least the faults that the pass noted.
+    /// Wherever that history was idle with the backend enabled, it stands at the end of the log, or the cell has seen a longer one.
     pub fn brief(&self, c: &mut CellSeat, p: &mut Pass)
         requires board { (cell_board c.old ≡ board_id self.now) × (pass_board p.old ≡ board_id self.now) }
         ensures board { (cell_board c.new ≡ cell_board c.old) × (c.new.b ≡ c.old.b) × (pass_board p.new ≡ pass_board p.old) }
@@ -151,10 +166,11 @@ impl Board {
         ensures seen { IsPrefix (front p.old) (seen c.new) × IsPrefix (seen c.old) (seen c.new) }
         ensures legal { IsLegal (seen c.new) }
         ensures faults { (n : ℕ) → Contains (pass_view p.old).fault_notes (c.old.b, n) → n ≤ (cell_view c.new).faults }
+        ensures stands { StandsAtEnd c.old.b (position c.new) (seen c.new) (seen c.new) }
     {
         let copy = self.split_without_tokens(&mut p.seat);
         self.join(&mut c.seat, copy);
-        self.check_faults(&mut c.seat);
+        self.check_cell(c);
     }
 
     /// The pass has seen the cell's history, has its notes, one of its faults and, unless it is out, one of its position, and takes its fault tokens.

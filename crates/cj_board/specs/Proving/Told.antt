@@ -8,7 +8,7 @@ use Rattle.cj_cluster.specs.History.Legality.{IsLegal}
 use Rattle.cj_model.specs.declared.limits.TheConstants.{EVENT_LIMIT}
 use Rattle.cj_board.specs.declared.view.SeatView.{SeatView}
 use Rattle.cj_board.specs.Counting.{event_count_of}
-use Rattle.cj_board.specs.Points.{max_word}
+use Rattle.cj_board.specs.Points.{max_word, IsInLog, StandsAtEnd}
 use Rattle.cj_board.specs.Views.{IsCellOf, role_position}
 use Rattle.cj_board.specs.Steps.{after_append, at_position, with_faults, after_looking, after_count}
 
@@ -40,9 +40,14 @@ ToldFaults st m n m' = (m' ≡ m) × (n ≡ m.0.faults)
 abbrev pub ToldFronts : StepNow → SeatNow → ℕ → SeatNow → Type 0
 ToldFronts st m n m' = (m' ≡ m) × IsPrefix m.0.front_before m.0.front × IsPrefix m.0.front_joined m.0.front × IsLegal m.0.front
 
--- a cell's backend has at least the faults that are noted of it
-abbrev pub ToldFaultNotes : StepNow → SeatNow → ℕ → SeatNow → Type 0
-ToldFaultNotes st m n m' = (m' ≡ m) × ((b k : ℕ) → IsCellOf b m.0.role → Contains m.0.fault_notes (b, k) → k ≤ m.0.faults)
+-- what the rule says of backend b, at its cell's seat: the faults that are noted of it, and where it stands
+pub record ToldOfCell (b : ℕ) (v : SeatView) : Type 0 where
+  pub faults : (n : ℕ) → Contains v.fault_notes (b, n) → n ≤ v.faults
+  pub within : IsInLog (role_position v.role) v.front
+  pub stands : StandsAtEnd b (role_position v.role) v.front v.front
+
+abbrev pub ToldCell : StepNow → SeatNow → ℕ → SeatNow → Type 0
+ToldCell st m n m' = (m' ≡ m) × ((b : ℕ) → IsCellOf b m.0.role → ToldOfCell b m.0)
 
 abbrev pub ToldCountUp : StepNow → SeatNow → ℕ → SeatNow → Type 0
 ToldCountUp st m n m' = m' ≡ (after_count m.0, m.1)
