@@ -10,7 +10,8 @@ use Rattle.cj_model.specs.declared.request.Entry.{Entry}
 use Rattle.cj_model.specs.Cluster.Placements.{part}
 use Rattle.cj_model.specs.Sql.PlainRequests.{request_of}
 use Rattle.cj_model.specs.Sql.WrittenRequests.{IsWritten}
-use Rattle.cj_cluster.specs.History.Histories.{database_after, log}
+use Rattle.cj_cluster.specs.declared.event.Event.{Event}
+use Rattle.cj_cluster.specs.History.Histories.{database_after, is_enabled, is_idle, log}
 use Rattle.cj_cluster.specs.History.Legality.{IsLegal}
 use Rattle.cj_cluster.specs.Proving.Invariants.{HasBegunDrafts, HoldsPart}
 use Rattle.cj_cluster.proofs.Pushed.{log-prefix, prefix_length}
@@ -18,7 +19,7 @@ use Rattle.cj_cluster.proofs.TransactionLaws.{fit_at, legal_fit}
 use Rattle.cj_board.specs.declared.view.SeatView.{SeatView}
 use Rattle.cj_board.specs.declared.view.Role.{Role}
 use Rattle.cj_board.specs.declared.view.Role.TheVariants.{Cell}
-use Rattle.cj_board.specs.Points.{max_word}
+use Rattle.cj_board.specs.Points.{StandsAtEnd, max_word}
 use Rattle.cj_board.specs.Steps.{one_fault_more, with_position, word_of_position}
 use Rattle.cj_board.specs.Views.{IsCellOf, role_position}
 use Rattle.cj_board.proofs.Histories.{log_bound}
@@ -148,6 +149,20 @@ module _ (tells : Bool) (x : CellState) (id : TableId) (v : SeatView) (f : ℕ) 
       let taken : CatchesUp x (s.0 + 1) e given r y = subst (λ m. CatchesUp x m e given r y) next_is takes in
       subst (λ m. IsLoggedOutcome (log v.front) m r) (sym next_is)
       (outcome_logged tells x.placement x.b (log v.front) (legal_fit v.front is.legal) s.0 e there x y given r taken refl refl s.1 is.holds is.drafts on)
+
+-- the board says where the word of its position stands, which is its position: that of a backend that is out is past every log
+pub stands_seen : (b : ℕ) (q : Option ℕ) (v : SeatView) → v.role ≡ Cell b (word_of_position q) → IsLegal v.front → StandsAtEnd b (role_position v.role) v.front v.front → (m : List Event) → IsPrefix m v.front → is_idle m ≡ true → is_enabled m b ≡ true
+    → (q ≡ Some (length (log m))) ⊎ (length (log m) < length (log v.front))
+stands_seen b q v role legal stands m begins idle on =
+    ⊎_elim (λ (at : role_position v.role ≡ length (log m)). inl (placed q (sym (ap role_position role) ∙ at))) (λ (later : length (log m) < length (log v.front)). inr later) (stands m begins idle on)
+  where
+    placed : (p : Option ℕ) → word_of_position p ≡ length (log m) → p ≡ Some (length (log m))
+    placed None at =
+        let word : max_word ≡ length (log m) = at in
+        let le = prefix_length (log m) (log v.front) (log-prefix m v.front begins) in
+        let top = log_bound v.front legal in
+        absurd (omega arith)
+    placed (Some p) at = ap (λ (n : ℕ). Some n) at
 
 -- ---- the calls
 

@@ -116,7 +116,7 @@ impl<B: Backend, D: Store> Cell<B, D> {
     ghost use Rattle.cj_place.specs.Layouts.{placement_of};
     ghost use Rattle.cj_replica.specs.Cells.{CatchesUp, GivesContents, IsNextEntry, KeepsBegun, Loads, Reads};
     ghost use Rattle.cj_replica.specs.Logged.{IsLoggedAnswer, IsLoggedOutcome, IsLoggedPart};
-    ghost use Rattle.cj_replica.specs.Seated.{HasBackend, IsSameSeat, IsSeated};
+    ghost use Rattle.cj_replica.specs.Seated.{HasBackend, IsSameSeat, IsSeated, StandsWhereEnabled};
 
     /// Backend `b` of the placement, which has taken no entry, at a seat that has seen none.
     pub fn new(alloc: Global, b: u8, placement: Placement, backend: B, seat: CellSeat) -> Cell<B, D>
@@ -211,6 +211,7 @@ impl<B: Backend, D: Store> Cell<B, D> {
     }
 
     /// Has seen the pass's history too, and its backend has at least the faults that the pass noted.
+    /// Where that history was idle with the backend enabled, it stands at the end of the log of then, or has seen a longer one.
     pub fn brief(&mut self, board: &Board, pass: &mut Pass)
         requires board { (self.old.board ≡ board_id board.now) × (pass_board pass.old ≡ board_id board.now) }
         ensures board { pass_board pass.new ≡ pass_board pass.old }
@@ -218,6 +219,7 @@ impl<B: Backend, D: Store> Cell<B, D> {
         ensures pass { pass_view pass.new ≡ pass_view pass.old }
         ensures seen { IsPrefix (front pass.old) self.new.view.front × IsPrefix self.old.view.front self.new.view.front }
         ensures faults { (n : ℕ) → Contains (pass_view pass.old).fault_notes (self.old.state.b, n) → n ≤ self.new.view.faults }
+        ensures stands { StandsWhereEnabled self.new }
         ensures state { self.new.state ≡ self.old.state }
         ensures same { IsSameSeat self.old self.new }
     {

@@ -1,5 +1,5 @@
-use Rattle.std.proofs.Common.{sym, ap, ◌∙◌, subst}
-use Rattle.cj_replica.specs.Seated.{SeatedCell, HasBackend}
+use Rattle.std.proofs.Common.{ap, ◌∙◌}
+use Rattle.cj_replica.specs.Seated.{SeatedCell}
 use Rattle.cj_replica.proofs.SeatedCalls.{number_of}
 use Rattle.cj_replica.proofs.cell.Cell.number.Goals as goal
 
