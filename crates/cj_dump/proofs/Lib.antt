@@ -1,6 +1,7 @@
 pub mod ColumnLaws
 pub mod Common
 pub mod Covers
+pub mod Cuts
 pub mod Decoded
 pub mod DumpLaws
 pub mod Dumped

@@ -1,3 +1,4 @@
 pub mod Begun
 pub mod HeldParts
+pub mod Numbers
 pub mod SeatedCalls

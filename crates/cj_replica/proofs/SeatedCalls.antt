@@ -1,6 +1,7 @@
 -- A cell stays seated over its calls.
-use Rattle.std.proofs.Common.{◌≡◌, ◌≢◌, ◌⊎◌, inl, inr, ⊎_elim, ℕ, ◌+◌, ◌-◌, ◌<◌, ◌≤◌, Bool, true, false, leb, cond, List, length, Option, None, Some, IfSome, Result, Ok, Err, slice_get, refl, ap, sym, ◌∙◌, subst, arith}
+use Rattle.std.proofs.Common.{◌≡◌, ◌⊎◌, inl, inr, ⊎_elim, ℕ, ◌+◌, ◌-◌, ◌<◌, ◌≤◌, min, Bool, true, false, leb, cond, List, length, Option, None, Some, IfSome, Result, Ok, Err, slice_get, refl, ap, sym, ◌∙◌, subst, arith}
 use mathlib.Core.List.{IsPrefix}
+use Rattle.std.proofs.lemmas.Bool.{leb-true}
 use Rattle.std.proofs.lemmas.Option.{slice_get_within}
 use Rattle.atomic_table.specs.Seated.{TableId}
 use Rattle.cj_outside.specs.Causes.{next}
@@ -9,7 +10,8 @@ use Rattle.cj_model.specs.declared.request.Entry.{Entry}
 use Rattle.cj_model.specs.Cluster.Placements.{part}
 use Rattle.cj_model.specs.Sql.PlainRequests.{request_of}
 use Rattle.cj_model.specs.Sql.WrittenRequests.{IsWritten}
-use Rattle.cj_cluster.specs.History.Histories.{database_after, log}
+use Rattle.cj_cluster.specs.declared.event.Event.{Event}
+use Rattle.cj_cluster.specs.History.Histories.{database_after, is_enabled, is_idle, log}
 use Rattle.cj_cluster.specs.History.Legality.{IsLegal}
 use Rattle.cj_cluster.specs.Proving.Invariants.{HasBegunDrafts, HoldsPart}
 use Rattle.cj_cluster.proofs.Pushed.{log-prefix, prefix_length}
@@ -17,7 +19,7 @@ use Rattle.cj_cluster.proofs.TransactionLaws.{fit_at, legal_fit}
 use Rattle.cj_board.specs.declared.view.SeatView.{SeatView}
 use Rattle.cj_board.specs.declared.view.Role.{Role}
 use Rattle.cj_board.specs.declared.view.Role.TheVariants.{Cell}
-use Rattle.cj_board.specs.Points.{max_word}
+use Rattle.cj_board.specs.Points.{StandsAtEnd, max_word}
 use Rattle.cj_board.specs.Steps.{one_fault_more, with_position, word_of_position}
 use Rattle.cj_board.specs.Views.{IsCellOf, role_position}
 use Rattle.cj_board.proofs.Histories.{log_bound}
@@ -25,8 +27,9 @@ use Rattle.cj_replica.specs.declared.replica.Caught.{Caught}
 use Rattle.cj_replica.specs.declared.replica.CellError.{CellError}
 use Rattle.cj_replica.specs.declared.replica.CellError.TheVariants.{Failed, Starved}
 use Rattle.cj_replica.specs.Cells.{CellState, CatchesUp, Loads, HasCellCause, IsNextEntry, position_after}
+use Rattle.cj_replica.specs.Logged.{IsLoggedOutcome}
 use Rattle.cj_replica.specs.Seated.{SeatedCell, IsSeated, view_after_entry, view_after_load}
-use Rattle.cj_replica.proofs.HeldParts.{holds_taken, drafts_taken, holds_loaded, drafts_loaded, holds_longer, drafts_longer}
+use Rattle.cj_replica.proofs.HeldParts.{outcome_logged, holds_taken, drafts_taken, holds_dump, drafts_dump, holds_longer, drafts_longer}
 
 abbrev at_seat : CellState → TableId → SeatView → ℕ → SeatedCell
 at_seat x id v f = record { state = x; board = id; view = v; faults_before = f }
@@ -35,19 +38,14 @@ at_seat x id v f = record { state = x; board = id; view = v; faults_before = f }
 abbrev pub CountsBoth : ℕ → ℕ → ℕ → ℕ → Type 0
 CountsBoth faults faults' known known' = ((faults' ≡ faults) × (known' ≡ known)) ⊎ ((faults' ≡ next faults) × (known' ≡ one_fault_more known))
 
-still_covered : (f n n' m m' : ℕ) → CountsBoth n n' m m' → (n ≢ max_word → f + m ≤ n) → n' ≢ max_word → f + m' ≤ n'
-still_covered f n n' m m' both covered ne =
-    ⊎_elim (λ (s : (n' ≡ n) × (m' ≡ m)). let a = s.0 in let b = s.1 in let c = covered (λ e. ne (a ∙ e)) in omega arith)
-    (λ (s : (n' ≡ next n) × (m' ≡ one_fault_more m)).
-    let a : n' ≡ next n = s.0 in
-    let b : one_fault_more m ≤ m + 1 = by_test (leb max_word m) refl in
-    let same = s.1 in
-    let low : n ≢ max_word = λ e. ne (omega arith) in
-    let c = covered low in omega arith) both
+still_counted : (f n n' m m' : ℕ) → CountsBoth n n' m m' → n ≡ min (f + m) max_word → n' ≡ min (f + m') max_word
+still_counted f n n' m m' both counted =
+    ⊎_elim (λ (s : (n' ≡ n) × (m' ≡ m)). let a = s.0 in let b = s.1 in omega arith)
+    (λ (s : (n' ≡ next n) × (m' ≡ one_fault_more m)). by_test (leb max_word m) refl s.0 s.1) both
   where
-    by_test : (t : Bool) → leb max_word m ≡ t → cond t m (m + 1) ≤ m + 1
-    by_test true e = omega arith
-    by_test false e = omega arith
+    by_test : (t : Bool) → leb max_word m ≡ t → n' ≡ next n → m' ≡ cond t m (m + 1) → n' ≡ min (f + m') max_word
+    by_test true e more known = let full = leb-true max_word m e in let known_is : m' ≡ m = known in omega arith
+    by_test false e more known = let known_is : m' ≡ m + 1 = known in omega arith
 
 module _ (tells : Bool) (x y : CellState) (id id' : TableId) (v w : SeatView) (f : ℕ) (is : IsSeated tells (at_seat x id v f)) where
   -- where it has seen the same
@@ -59,7 +57,7 @@ module _ (tells : Bool) (x y : CellState) (id id' : TableId) (v w : SeatView) (f
     within = rw front within;
     holds = rw (front, number, placement) holds;
     drafts = rw (front, number, placement) drafts;
-    covered = still_covered f x.faults y.faults v.faults w.faults counts is.covered;
+    counted = still_counted f x.faults y.faults v.faults w.faults counts is.counted;
   }
 
   -- where it has seen more
@@ -72,7 +70,7 @@ module _ (tells : Bool) (x y : CellState) (id id' : TableId) (v w : SeatView) (f
         within = more (prefix_length (log v.front) (log w.front) logs) x.position is.within;
         holds = holds_longer tells x.placement x.b (log v.front) (log w.front) logs x.told x.position is.within is.holds;
         drafts = drafts_longer tells x.placement x.b (log v.front) (log w.front) logs x.begun x.position is.within is.drafts;
-        covered = λ ne. let c = is.covered ne in omega arith;
+        counted = is.counted ∙ ap (λ (m : ℕ). min (f + m) max_word) (sym faults);
       }
     where
       more : {m n : ℕ} → m ≤ n → (q : Option ℕ) → IfSome q (λ p. p ≤ m) → IfSome q (λ p. p ≤ n)
@@ -141,6 +139,31 @@ module _ (tells : Bool) (x : CellState) (id : TableId) (v : SeatView) (f : ℕ) 
       let inside = slice_get_within (log v.front) s.0 e there in
       (omega arith, omega arith, (fit_at (log v.front) s.0 e (legal_fit v.front is.legal) there).written)
 
+  -- what the replica did is what the entry comes to
+  pub entry_logged : (y : CellState) (n : ℕ) (e : Entry) (given : List ℕ) (r : Result Caught CellError) → IsNextEntry x.position n → slice_get (log v.front) (n - 1) ≡ Some e → CatchesUp x n e given r y → tells ≡ true → IsLoggedOutcome (log v.front) n r
+  entry_logged y n e given r follows entry takes on =
+      let s = stands_at x.position n follows in
+      let next_is = s.2 in
+      let place : n - 1 ≡ s.0 = omega arith in
+      let there : slice_get (log v.front) s.0 ≡ Some e = ap (slice_get (log v.front)) (sym place) ∙ entry in
+      let taken : CatchesUp x (s.0 + 1) e given r y = subst (λ m. CatchesUp x m e given r y) next_is takes in
+      subst (λ m. IsLoggedOutcome (log v.front) m r) (sym next_is)
+      (outcome_logged tells x.placement x.b (log v.front) (legal_fit v.front is.legal) s.0 e there x y given r taken refl refl s.1 is.holds is.drafts on)
+
+-- the board says where the word of its position stands, which is its position: that of a backend that is out is past every log
+pub stands_seen : (b : ℕ) (q : Option ℕ) (v : SeatView) → v.role ≡ Cell b (word_of_position q) → IsLegal v.front → StandsAtEnd b (role_position v.role) v.front v.front → (m : List Event) → IsPrefix m v.front → is_idle m ≡ true → is_enabled m b ≡ true
+    → (q ≡ Some (length (log m))) ⊎ (length (log m) < length (log v.front))
+stands_seen b q v role legal stands m begins idle on =
+    ⊎_elim (λ (at : role_position v.role ≡ length (log m)). inl (placed q (sym (ap role_position role) ∙ at))) (λ (later : length (log m) < length (log v.front)). inr later) (stands m begins idle on)
+  where
+    placed : (p : Option ℕ) → word_of_position p ≡ length (log m) → p ≡ Some (length (log m))
+    placed None at =
+        let word : max_word ≡ length (log m) = at in
+        let le = prefix_length (log m) (log v.front) (log-prefix m v.front begins) in
+        let top = log_bound v.front legal in
+        absurd (omega arith)
+    placed (Some p) at = ap (λ (n : ℕ). Some n) at
+
 -- ---- the calls
 
 module _ (tells : Bool) (x y : CellState) (id id' : TableId) (v w : SeatView) (f : ℕ) (is : IsSeated tells (at_seat x id v f)) where
@@ -165,15 +188,15 @@ module _ (tells : Bool) (x y : CellState) (id id' : TableId) (v w : SeatView) (f
       in_log le (Ok c) = le
       in_log le (Err d) = tt
 
-  pub seated_load : (db : List Slot) (n : ℕ) (r : Result Unit CellError) → x.position ≡ None → n ≤ length (log v.front) → (tells ≡ true → db ≡ part x.placement x.b (database_after (log v.front) n)) → Loads tells x db n r y → w ≡ view_after_load x.b n v r
+  pub seated_load : (cell_tells : Bool) → (tells ≡ true → cell_tells ≡ true) → (db : List Slot) (n : ℕ) (r : Result Unit CellError) → x.position ≡ None → n ≤ length (log v.front) → (tells ≡ true → db ≡ part x.placement x.b (database_after (log v.front) n)) → Loads cell_tells x db n r y → w ≡ view_after_load x.b n v r
       → IsSeated tells (at_seat y id' w f)
-  seated_load db n r out within right loads view =
+  seated_load cell_tells tells_too db n r out within right loads view =
       seated_same tells x y id id' v w f is loads.b loads.placement
       (ap (λ (u : SeatView). u.role) view ∙ (load_role x.b n v r (is.role ∙ ap (λ q. Cell x.b (word_of_position q)) out) ∙ ap (λ q. Cell x.b (word_of_position q)) (sym loads.place)))
       (ap (λ (u : SeatView). u.front) view ∙ load_front x.b n v r)
       (subst (λ q. IfSome q (λ p. p ≤ length (log v.front))) (sym loads.place) (in_log r))
-      (holds_loaded tells x.placement x.b (log v.front) db n right x y r loads)
-      (drafts_loaded tells x.placement x.b (log v.front) db n right x y r loads)
+      (holds_dump cell_tells tells tells_too x.placement x.b (log v.front) db n right x y r loads)
+      (drafts_dump cell_tells tells tells_too x.placement x.b (log v.front) db n right x y r loads)
       (subst (CountsBoth x.faults y.faults v.faults) (sym (ap (λ (u : SeatView). u.faults) view)) (load_counts x.b n v x.faults y.faults r loads.cause))
     where
       in_log : (q : Result Unit CellError) → IfSome (position_after n q) (λ p. p ≤ length (log v.front))

@@ -179,40 +179,55 @@ pub record Loads (tells : Bool) (before : CellState) (db : List Slot) (position 
 abbrev pub SaysReadAnswer : Option (List Slot) → ℕ → Select → Asked → Type 0
 SaysReadAnswer told tx select answer = IfSome told (λ db. answer ≡ ask db tx select)
 
--- the same of a read
-abbrev pub HasCellReadCause : ℕ → ℕ → Result (Asked × ℕ) CellReadError → Type 0
-HasCellReadCause before now result = CountsFault (IsErrOf result read_errors.Failed) before now
+-- a fault is counted exactly where the cell answers that its backend failed
+abbrev pub HasReadCause : {A : Type 0} → ℕ → ℕ → Result A CellReadError → Type 0
+HasReadCause before now result = CountsFault (IsErrOf result read_errors.Failed) before now
 
 -- the backend was asked
-abbrev pub is_asked : Result (Asked × ℕ) CellReadError → Bool
-is_asked (Ok answer) = true
-is_asked (Err read_errors.Out) = false
-is_asked (Err (read_errors.Behind p)) = false
-is_asked (Err read_errors.Failed) = true
-is_asked (Err read_errors.NoMemory) = true
+abbrev pub was_asked : {A : Type 0} → Result A CellReadError → Bool
+was_asked (Ok answer) = true
+was_asked (Err read_errors.Out) = false
+was_asked (Err (read_errors.Behind p)) = false
+was_asked (Err read_errors.Failed) = true
+was_asked (Err read_errors.NoMemory) = true
 
 -- where its backend answered, the login of the last call is the one given, and where it failed maybe the one before; else it is as before
-abbrev pub LogsInForRead : Option (List ℕ) → List ℕ → Result (Asked × ℕ) CellReadError → Option (List ℕ) → Type 0
-LogsInForRead before given (Ok answer) now = now ≡ Some given
-LogsInForRead before given (Err read_errors.Out) now = now ≡ before
-LogsInForRead before given (Err (read_errors.Behind p)) now = now ≡ before
-LogsInForRead before given (Err read_errors.Failed) now = (now ≡ Some given) ⊎ (now ≡ before)
-LogsInForRead before given (Err read_errors.NoMemory) now = now ≡ before
+abbrev pub LogsInForAnswer : {A : Type 0} → Option (List ℕ) → List ℕ → Result A CellReadError → Option (List ℕ) → Type 0
+LogsInForAnswer before given (Ok answer) now = now ≡ Some given
+LogsInForAnswer before given (Err read_errors.Out) now = now ≡ before
+LogsInForAnswer before given (Err (read_errors.Behind p)) now = now ≡ before
+LogsInForAnswer before given (Err read_errors.Failed) now = (now ≡ Some given) ⊎ (now ≡ before)
+LogsInForAnswer before given (Err read_errors.NoMemory) now = now ≡ before
 
 abbrev pub read_error_of : BackendError → CellReadError
 read_error_of backend_errors.Failed = read_errors.Failed
 read_error_of backend_errors.NoMemory = read_errors.NoMemory
 
--- it answers a query of a transaction, at a position not below the least, under the login given
-pub record Reads (before : CellState) (given : List ℕ) (tx : ℕ) (select : Select) (least : ℕ) (result : Result (Asked × ℕ) CellReadError) (after : CellState) : Type 0 where
+-- It answers from what its backend holds, at a position not below the least, under the login given. What an answer is of the database that is told, and of any, and how it is counted, is said for each kind of answer.
+pub record AnswersAt {A : Type 0} (SaysOf : Option (List Slot) → A → Type 0) (IsPossible : A → Type 0) (counted : ℕ → Result (A × ℕ) CellReadError → ℕ)
+    (before : CellState) (given : List ℕ) (least : ℕ) (result : Result (A × ℕ) CellReadError) (after : CellState) : Type 0 where
   pub out : (result ≡ Err read_errors.Out) ↔ (before.position ≡ None)
   pub behind : (p : ℕ) → (result ≡ Err (read_errors.Behind p)) ↔ ((before.position ≡ Some p) × (p < least))
-  pub answer : IfOk result (λ x. SaysReadAnswer before.told tx select x.0)
-  pub possible : IfOk result (λ x. IsAsked x.0)
+  pub answer : IfOk result (λ x. SaysOf before.told x.0)
+  pub possible : IfOk result (λ x. IsPossible x.0)
   pub at : IfOk result (λ x. before.position ≡ Some x.1)
   pub owed : IfOk result (λ x. least ≤ x.1)
-  pub cause : HasCellReadCause before.faults after.faults result
-  pub asks : after.asks ≡ asks_after before.asks result
-  pub arming : SpendsArmingIf (is_asked result) (result ≡ Err read_errors.Failed) before.arming after.arming
-  pub login : LogsInForRead before.login given result after.login
+  pub cause : HasReadCause before.faults after.faults result
+  pub asks : after.asks ≡ counted before.asks result
+  pub arming : SpendsArmingIf (was_asked result) (result ≡ Err read_errors.Failed) before.arming after.arming
+  pub login : LogsInForAnswer before.login given result after.login
   pub same : after ≡ record before { login = after.login; faults = after.faults; asks = after.asks; arming = after.arming }
+
+-- it answers a query of a transaction, 0 for none
+abbrev pub Reads : CellState → List ℕ → ℕ → Select → ℕ → Result (Asked × ℕ) CellReadError → CellState → Type 0
+Reads before given tx select least result after = AnswersAt (λ told answer. SaysReadAnswer told tx select answer) IsAsked asks_after before given least result after
+
+-- the words of an answer, of that to a query
+abbrev pub HasCellReadCause : ℕ → ℕ → Result (Asked × ℕ) CellReadError → Type 0
+HasCellReadCause before now result = HasReadCause before now result
+
+abbrev pub is_asked : Result (Asked × ℕ) CellReadError → Bool
+is_asked result = was_asked result
+
+abbrev pub LogsInForRead : Option (List ℕ) → List ℕ → Result (Asked × ℕ) CellReadError → Option (List ℕ) → Type 0
+LogsInForRead before given result now = LogsInForAnswer before given result now

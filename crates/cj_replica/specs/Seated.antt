@@ -1,9 +1,12 @@
 -- What contracts see of a cell: a replica at its seat at a board.
-use Rattle.std.specs.Prelude.{◌≡◌, ◌≢◌, ℕ, ◌+◌, ◌≤◌, Bool, length, IfSome}
+use Rattle.std.specs.Prelude.{◌≡◌, ◌⊎◌, ℕ, ◌+◌, ◌*◌, ◌<◌, ◌≤◌, min, Bool, true, List, length, IfSome}
+use mathlib.Core.List.{IsPrefix}
+use Rattle.std.specs.declared.option.Option.TheVariants.{Some}
 use Rattle.std.specs.declared.result.Result.{Result}
 use Rattle.std.specs.declared.result.Result.TheVariants.{Ok, Err}
 use Rattle.atomic_table.specs.Seated.{TableId}
-use Rattle.cj_cluster.specs.History.Histories.{log}
+use Rattle.cj_cluster.specs.declared.event.Event.{Event}
+use Rattle.cj_cluster.specs.History.Histories.{is_enabled, is_idle, log}
 use Rattle.cj_cluster.specs.History.Legality.{IsLegal}
 use Rattle.cj_cluster.specs.Proving.Invariants.{HasBegunDrafts, HoldsPart}
 use Rattle.cj_board.specs.declared.view.SeatView.{SeatView}
@@ -33,8 +36,16 @@ pub record IsSeated (tells : Bool) (c : SeatedCell) : Type 0 where
   pub within : IfSome c.state.position (λ p. p ≤ length (log c.view.front))
   pub holds : HoldsPart tells c.state.placement c.state.b (log c.view.front) c.state.told c.state.position
   pub drafts : HasBegunDrafts tells c.state.placement c.state.b (log c.view.front) c.state.begun c.state.position
-  -- each fault of its word is one that its backend counted since, unless that count is full
-  pub covered : c.state.faults ≢ max_word → c.faults_before + c.view.faults ≤ c.state.faults
+  -- its backend's faults are those from before the seat and those that the seat knows of, up to the last value of a word
+  pub counted : c.state.faults ≡ min (c.faults_before + c.view.faults) max_word
+
+-- the board of this table of words has a backend of this number: the first word is the history's length, and two are each backend's
+abbrev pub HasBackend : TableId → ℕ → Type 0
+HasBackend board b = 2 * b + 1 < board.words
+
+-- Wherever the history that the seat has seen was idle with the backend enabled, the replica stands at the end of the log of that moment, or the seat has seen a longer log.
+abbrev pub StandsWhereEnabled : SeatedCell → Type 0
+StandsWhereEnabled c = (m : List Event) → IsPrefix m c.view.front → is_idle m ≡ true → is_enabled m c.state.b ≡ true → (c.state.position ≡ Some (length (log m))) ⊎ (length (log m) < length (log c.view.front))
 
 -- it is at the same board, and its backend's faults are counted from the same number
 pub record IsSameSeat (before after : SeatedCell) : Type 0 where

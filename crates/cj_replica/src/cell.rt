@@ -5,6 +5,7 @@ ghost use mathlib.Core.List.{IsPrefix};
 ghost use Rattle.cj_model.specs.declared.request.Request.TheVariants as request;
 ghost use Rattle.cj_model.specs.Cluster.Placements.{part};
 ghost use Rattle.cj_model.specs.Database.Storable.{IsStorable};
+ghost use Rattle.cj_model.specs.declared.limits.TheConstants.{BACKEND_LIMIT};
 ghost use Rattle.cj_model.specs.Sql.WrittenRequests.{IsWritten};
 ghost use Rattle.cj_cluster.specs.History.Histories.{database_after, log};
 ghost use Rattle.cj_cluster.specs.History.Legality.{IsLegal};
@@ -20,20 +21,24 @@ use crate::replica::{Caught, CellError, CellReadError, Replica};
 use cj_backend::Backend;
 use cj_board::{Board, CellSeat, Pass};
 use cj_model::{Asked, Db, Entry, Select, Text};
+use cj_outside::{MemStore, Store};
 use cj_place::Placement;
 use std::alloc::Global;
-use std::marker::Model;
+use std::marker::{Model, PhantomData};
 
 /// A replica at its seat at a board. The board knows its position, and each fault of its backend since it took the seat.
+/// What it loads stands in stores of the kind `D`, which tell their bytes or don't.
 #[derive(Drop)]
-pub struct Cell<B: Backend> {
+pub struct Cell<B: Backend, D: Store = MemStore> {
     replica: Replica<B>,
     seat: CellSeat,
     /// How many faults the backend had counted when it took the seat.
     faults_before: u64,
+    dumps: PhantomData<D>,
 }
 
-impl<B: Backend> Model for Cell<B> {
+impl<B: Backend, D: Store> Model for Cell<B, D> {
+    ghost use Rattle.std.specs.Prelude.{◌&&◌};
     ghost use Rattle.cj_board.specs.Seats.{cell_board, cell_view};
     ghost use Rattle.cj_replica.specs.Seated.{IsSeated, SeatedCell};
 
@@ -46,7 +51,7 @@ impl<B: Backend> Model for Cell<B> {
 
     ghost view = { λ c. record { state = c.replica; board = cell_board c.seat; view = cell_view c.seat; faults_before = c.faults_before } };
 
-    ghost invariant = { λ c. IsSeated B.tells (record { state = c.replica; board = cell_board c.seat; view = cell_view c.seat; faults_before = c.faults_before }) };
+    ghost invariant = { λ c. IsSeated (D.tells && B.tells) (record { state = c.replica; board = cell_board c.seat; view = cell_view c.seat; faults_before = c.faults_before }) };
 }
 
 // The seat's steps, apart from the replica.
@@ -106,15 +111,17 @@ fn note_read(board: &Board, seat: &mut CellSeat, answer: &Result<(Asked, u64), C
     }
 }
 
-impl<B: Backend> Cell<B> {
+impl<B: Backend, D: Store> Cell<B, D> {
+    ghost use Rattle.std.specs.Prelude.{◌&&◌};
     ghost use Rattle.cj_place.specs.Layouts.{placement_of};
     ghost use Rattle.cj_replica.specs.Cells.{CatchesUp, GivesContents, IsNextEntry, KeepsBegun, Loads, Reads};
-    ghost use Rattle.cj_replica.specs.Seated.{IsSameSeat, IsSeated};
+    ghost use Rattle.cj_replica.specs.Logged.{IsLoggedAnswer, IsLoggedOutcome, IsLoggedPart};
+    ghost use Rattle.cj_replica.specs.Seated.{HasBackend, IsSameSeat, IsSeated, StandsWhereEnabled};
 
     /// Backend `b` of the placement, which has taken no entry, at a seat that has seen none.
-    pub fn new(alloc: Global, b: u8, placement: Placement, backend: B, seat: CellSeat) -> Cell<B>
+    pub fn new(alloc: Global, b: u8, placement: Placement, backend: B, seat: CellSeat) -> Cell<B, D>
         requires begun { B.begun backend ≡ [] }
-        requires empty { B.tells ≡ true → B.told backend ≡ Some [] }
+        requires empty { (D.tells && B.tells) ≡ true → B.told backend ≡ Some [] }
         requires seat { cell_view seat ≡ new_view (role.Cell b 0) }
         ensures { result ≡ record { state = record { b = b; placement = placement_of placement; position = Some 0; begun = []; login = B.login backend; told = B.told backend; faults = B.faults backend; asks = B.asks backend; arming = B.arming backend }; board = cell_board seat; view = cell_view seat; faults_before = B.faults backend } }
     {
@@ -124,6 +131,7 @@ impl<B: Backend> Cell<B> {
             replica,
             seat,
             faults_before,
+            dumps: PhantomData,
         }
     }
 
@@ -140,6 +148,7 @@ impl<B: Backend> Cell<B> {
         requires next { IsNextEntry self.old.state.position n }
         requires entry { slice_get (log self.old.view.front) (n - 1) ≡ Some e.now }
         ensures state { CatchesUp self.old.state n e.now login.now result self.new.state }
+        ensures logged { (D.tells && B.tells) ≡ true → IsLoggedOutcome (log self.old.view.front) n result }
         ensures seat { self.new.view ≡ view_after_entry self.old.state.b n self.old.view result }
         ensures same { IsSameSeat self.old self.new }
     {
@@ -152,6 +161,7 @@ impl<B: Backend> Cell<B> {
     pub fn contents(&mut self, board: &Board) -> Result<Db, CellError>
         requires board { self.old.board ≡ board_id board.now }
         ensures state { GivesContents self.old.state result self.new.state }
+        ensures logged { (D.tells && B.tells) ≡ true → IsLoggedPart self.old.state.placement self.old.state.b (log self.old.view.front) self.old.state.position result }
         ensures seat { self.new.view ≡ view_after_call self.old.state.b self.old.view result }
         ensures same { IsSameSeat self.old self.new }
     {
@@ -168,7 +178,7 @@ impl<B: Backend> Cell<B> {
         requires out { self.old.state.position ≡ None }
         requires storable { IsStorable db }
         requires within { position ≤ length (log self.old.view.front) }
-        requires right { B.tells ≡ true → db ≡ part self.old.state.placement self.old.state.b (database_after (log self.old.view.front) position) }
+        requires right { (D.tells && B.tells) ≡ true → db ≡ part self.old.state.placement self.old.state.b (database_after (log self.old.view.front) position) }
         ensures state { Loads B.tells self.old.state db position result self.new.state }
         ensures seat { self.new.view ≡ view_after_load self.old.state.b position self.old.view result }
         ensures same { IsSameSeat self.old self.new }
@@ -191,6 +201,7 @@ impl<B: Backend> Cell<B> {
         requires board { self.old.board ≡ board_id board.now }
         requires written { IsWritten (request.Select select.now) }
         ensures state { Reads self.old.state login.now tx select.now least result self.new.state }
+        ensures logged { (D.tells && B.tells) ≡ true → IsLoggedAnswer self.old.state.placement self.old.state.b (log self.old.view.front) tx select.now result }
         ensures seat { self.new.view ≡ view_after_read self.old.state.b self.old.view result }
         ensures same { IsSameSeat self.old self.new }
     {
@@ -200,6 +211,7 @@ impl<B: Backend> Cell<B> {
     }
 
     /// Has seen the pass's history too, and its backend has at least the faults that the pass noted.
+    /// Where that history was idle with the backend enabled, it stands at the end of the log of then, or has seen a longer one.
     pub fn brief(&mut self, board: &Board, pass: &mut Pass)
         requires board { (self.old.board ≡ board_id board.now) × (pass_board pass.old ≡ board_id board.now) }
         ensures board { pass_board pass.new ≡ pass_board pass.old }
@@ -207,6 +219,7 @@ impl<B: Backend> Cell<B> {
         ensures pass { pass_view pass.new ≡ pass_view pass.old }
         ensures seen { IsPrefix (front pass.old) self.new.view.front × IsPrefix self.old.view.front self.new.view.front }
         ensures faults { (n : ℕ) → Contains (pass_view pass.old).fault_notes (self.old.state.b, n) → n ≤ self.new.view.faults }
+        ensures stands { StandsWhereEnabled self.new }
         ensures state { self.new.state ≡ self.old.state }
         ensures same { IsSameSeat self.old self.new }
     {
@@ -229,6 +242,14 @@ impl<B: Backend> Cell<B> {
         ensures same { IsSameSeat self.old self.new }
     {
         board.report(&mut self.seat, pass);
+    }
+
+    /// The backend's number, which is below the number of backends of its board.
+    pub fn number(&self) -> u8
+        ensures number { result ≡ self.now.state.b }
+        ensures known { HasBackend self.now.board result × (result < BACKEND_LIMIT) }
+    {
+        self.seat.backend()
     }
 
     /// How many entries it has taken; none where it is out.
@@ -274,7 +295,7 @@ impl<B: Backend> Cell<B> {
 
     /// The seat says where the replica stands, which holds its part of what the seat has seen.
     pub fn legal(&self)
-        ensures { IsSeated B.tells self.now }
+        ensures { IsSeated (D.tells && B.tells) self.now }
     {
         let _ = &self.seat;
     }

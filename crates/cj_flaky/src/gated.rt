@@ -1,0 +1,103 @@
+//! A backend whose queries and writes pass a gate, over another backend.
+
+ghost use Rattle.std.specs.Prelude.{◌≡◌};
+
+use cj_backend::{Backend, BackendError, Counts};
+use cj_model::{Asked, Create, Db, Name, Outcome, Select, Text, Write};
+
+/// What a call waits at before it goes on.
+pub trait Gate {
+    /// Is called before each query.
+    fn pass(&mut self);
+
+    /// Is called before each write.
+    fn pass_write(&mut self) {}
+}
+
+/// A backend that passes every call on to another one, and tells what that tells. Before each query
+/// and each write it passes its gate.
+#[derive(Drop)]
+pub struct Gated<B: Backend, G: Gate> {
+    inner: B,
+    gate: G,
+}
+
+impl<B: Backend, G: Gate> Gated<B, G> {
+    /// This backend behind this gate.
+    pub fn new(backend: B, gate: G) -> Gated<B, G>
+        ensures { (result.inner ≡ backend) × (result.gate ≡ gate) }
+    {
+        Gated {
+            inner: backend,
+            gate,
+        }
+    }
+}
+
+impl<B: Backend, G: Gate> Backend for Gated<B, G> {
+    ghost tells = { B.tells };
+
+    ghost told = { λ g. B.told g.inner };
+
+    ghost faults = { λ g. B.faults g.inner };
+
+    ghost asks = { λ g. B.asks g.inner };
+
+    ghost begun = { λ g. B.begun g.inner };
+
+    ghost login = { λ g. B.login g.inner };
+
+    ghost can_be_armed = { B.can_be_armed };
+
+    ghost arming = { λ g. B.arming g.inner };
+
+    fn begin(&mut self, user: &Text, tx: u64) -> Result<(), BackendError> {
+        self.inner.begin(user, tx)
+    }
+
+    fn write(&mut self, user: &Text, tx: u64, write: &Write) -> Result<Outcome, BackendError> {
+        self.gate.pass_write();
+        self.inner.write(user, tx, write)
+    }
+
+    fn create(&mut self, user: &Text, create: &Create) -> Result<Outcome, BackendError> {
+        self.inner.create(user, create)
+    }
+
+    fn drop_table(&mut self, user: &Text, table: &Name) -> Result<Outcome, BackendError> {
+        self.inner.drop_table(user, table)
+    }
+
+    fn commit(&mut self, user: &Text, tx: u64) -> Result<(), BackendError> {
+        self.inner.commit(user, tx)
+    }
+
+    fn abort(&mut self, user: &Text, tx: u64) -> Result<(), BackendError> {
+        self.inner.abort(user, tx)
+    }
+
+    fn ask(&mut self, user: &Text, tx: u64, select: &Select) -> Result<Asked, BackendError> {
+        self.gate.pass();
+        self.inner.ask(user, tx, select)
+    }
+
+    fn contents(&mut self) -> Result<Db, BackendError> {
+        self.inner.contents()
+    }
+
+    fn load(&mut self, db: Db) -> Result<(), BackendError> {
+        self.inner.load(db)
+    }
+
+    fn counts(&self) -> Counts {
+        self.inner.counts()
+    }
+
+    fn login(&self) -> Option<&Text> {
+        self.inner.login()
+    }
+
+    fn arm(&mut self) {
+        self.inner.arm();
+    }
+}
