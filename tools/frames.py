@@ -1,4 +1,4 @@
-"""Requests as frames and replies in words, by docs/FORMATS.md, for the programs of this folder that talk to `cjc pipe`.
+"""Requests as frames and replies in words, by docs/FORMATS.md, for the programs that talk to `cjc pipe`.
 
 A line is LOGIN USER PASSWORD, STATS, QUIT or a statement of SQL.
 """

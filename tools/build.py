@@ -1,4 +1,4 @@
-"""Proves and builds the program `cjc`, and says on standard error how far that is. `demo` and `bench/run` get the program from here."""
+"""Proves and builds the program `cjc`, and says on standard error how far that is. `demo`, the checks and `bench/run` get the program from here."""
 import os
 import re
 import select
@@ -6,7 +6,7 @@ import subprocess
 import sys
 import time
 
-ROOT = os.path.dirname(os.path.abspath(__file__))
+ROOT = os.path.dirname(os.path.dirname(os.path.abspath(__file__)))
 CRATE = os.path.join(ROOT, "crates", "cjc")
 PROGRAM = os.path.join(CRATE, "out", "cjc")
 CONF = os.path.join(ROOT, "example", "c1.toml")
