@@ -7,7 +7,7 @@ use Rattle.cj_cluster.specs.declared.event.Event.{Event}
 use Rattle.cj_board.specs.declared.view.SeatView.{SeatView}
 use Rattle.cj_board.specs.Counting.{log_failure_sessions}
 use Rattle.cj_board.specs.Steps.{HasPositionNotes, HasFaultTokens, HasCountNotes, after_append, after_count, after_join, after_learning, after_split}
-use Rattle.cj_board.specs.Views.{next_session, pass_of, pass_without_notes, pass_without_tokens}
+use Rattle.cj_board.specs.Views.{next_session, pass_of, pass_without_tokens}
 use Rattle.cj_book.specs.declared.error.BookError.{BookError}
 use Rattle.cj_book.specs.declared.error.BookError.TheVariants.{InProgress, NoBackend, HistoryFull, LogFault, NoMemory}
 use Rattle.cj_book.specs.declared.error.StartError.{StartError}
@@ -72,7 +72,7 @@ GivesOwnPassesOnly book = book.state.greatest + 1 ≡ next_session book.view
 
 -- the book and a pass where the book told the pass
 abbrev pub told_book : SeatView → SeatView → SeatView
-told_book v w = after_learning v (pass_without_notes w)
+told_book v w = after_learning v (pass_without_tokens w)
 
 abbrev pub told_pass : SeatView → SeatView → SeatView
 told_pass v w = after_join w (pass_without_tokens (told_book v w))

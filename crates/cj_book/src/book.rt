@@ -18,7 +18,7 @@ ghost use Rattle.cj_outside.specs.Stores.{LeavesOnly, Only};
 ghost use Rattle.cj_board.specs.Points.{fault_tokens_of};
 ghost use Rattle.cj_board.specs.Seats.{board_id, book_board, book_view, front, pass_board, pass_view};
 ghost use Rattle.cj_board.specs.Steps.{after_append, after_join, after_learning, after_split, HasFaultTokens, HasPositionNotes};
-ghost use Rattle.cj_board.specs.Views.{pass_of, pass_without_notes, pass_without_tokens};
+ghost use Rattle.cj_board.specs.Views.{pass_of, pass_without_tokens};
 ghost use Rattle.cj_book.specs.Books.{last_write_failed, with_entry, with_event, CanSchedule, IsKeptIn, IsOfKnown, IsPrepared, IsSameButLog};
 ghost use Rattle.cj_book.specs.Events.{Appends, Marks, Schedules};
 ghost use Rattle.cj_book.specs.Found.{start_error_of, entry_error_of};

@@ -16,7 +16,7 @@ ghost use Rattle.cj_outside.specs.Stores.{LeavesOnly, Only};
 ghost use Rattle.cj_board.specs.Points.{fault_tokens_of};
 ghost use Rattle.cj_board.specs.Seats.{board_id, book_board, book_view, front, history, pass_board, pass_view};
 ghost use Rattle.cj_board.specs.Steps.{after_append, after_join, after_learning, after_split, HasCountNotes, HasFaultTokens, HasPositionNotes};
-ghost use Rattle.cj_board.specs.Views.{pass_of, pass_without_notes, pass_without_tokens};
+ghost use Rattle.cj_board.specs.Views.{pass_of, pass_without_tokens};
 ghost use Rattle.cj_book.specs.Books.{last_write_failed, with_entry, with_event, CanSchedule, IsKeptIn, IsOfKnown, IsPrepared, IsSameButLog};
 ghost use Rattle.cj_book.specs.Counters.{book_after, hearing, own_view, pass_after, CanCount, IsOn};
 ghost use Rattle.cj_book.specs.Events.{Appends, Marks, Schedules};
@@ -339,7 +339,7 @@ impl<S: Store> Book<S> {
         ensures board { (self.new.board ≡ self.old.board) × (pass_board p.new ≡ pass_board p.old) }
         ensures opening { self.new.faults_at_opening ≡ self.old.faults_at_opening }
         ensures state { self.new.state ≡ self.old.state }
-        ensures book { self.new.view ≡ after_learning self.old.view (pass_without_notes (pass_view p.old)) }
+        ensures book { self.new.view ≡ after_learning self.old.view (pass_without_tokens (pass_view p.old)) }
         ensures pass { pass_view p.new ≡ after_join (pass_view p.old) (pass_without_tokens self.new.view) }
         ensures told { front p.new ≡ self.old.state.history }
         ensures longer { IsPrefix (front p.old) (front p.new) }

@@ -1,7 +1,7 @@
 -- The names that answers of this crate cite, its own lemmas among them, passed on from one place. Declares nothing.
 pub use Rattle.cj_board.specs.Points.{max_word}
 pub use Rattle.cj_board.specs.Steps.{at_position}
-pub use Rattle.cj_board.specs.Views.{pass_of, pass_without_notes, position_note_of}
+pub use Rattle.cj_board.specs.Views.{pass_of, pass_without_tokens, position_note_of}
 pub use Rattle.cj_book.proofs.Serving.{picked_below}
 pub use Rattle.cj_book.specs.Events.{Appends}
 pub use Rattle.cj_cluster.proofs.Now.{CanApply, CanReplay, can_apply, can_replay}

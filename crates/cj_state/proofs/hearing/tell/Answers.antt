@@ -1,5 +1,5 @@
 use Rattle.std.proofs.Common.{List, ◌∙◌, subst}
-use Rattle.cj_state.proofs.Cited.{Event, IsPrefix, all_at, board_of, get_or-set_same, learnt, pass_view, pass_without_notes, states_stay}
+use Rattle.cj_state.proofs.Cited.{Event, IsPrefix, all_at, board_of, get_or-set_same, learnt, pass_view, pass_without_tokens, states_stay}
 use Rattle.cj_state.proofs.hearing.tell.Goals as goal
 
 pub brief-requires : goal.brief-requires
@@ -14,7 +14,7 @@ returns-clause-at g c =
     }
 
 pub returns-clause-heard : goal.returns-clause-heard
-returns-clause-heard g c = learnt c.args.book.now c.tell.new.self (pass_without_notes (pass_view c.args.pass.now)) c.tell.ensures.state c.tell.ensures.book
+returns-clause-heard g c = learnt c.args.book.now c.tell.new.self (pass_without_tokens (pass_view c.args.pass.now)) c.tell.ensures.state c.tell.ensures.book
 
 pub returns-clause-cells : goal.returns-clause-cells
 returns-clause-cells g c = states_stay c.args.cells.now.items c.args.b c.index_mut.result.now c.brief.new.self c.requires.within c.index_mut.ensures.value c.brief.ensures.state
