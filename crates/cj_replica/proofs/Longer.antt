@@ -1,16 +1,15 @@
 -- What a cell says in the words of a log holds of each log that begins so.
-use Rattle.std.proofs.Common.{◌≡◌, ℕ, ◌+◌, ◌-◌, ◌<◌, ◌≤◌, true, List, length, Option, None, Some, option_map, IfOk, IfSome, Result, Ok, Err, slice_get, refl, ap, sym, ◌∙◌, subst, arith, ⊎_elim}
+use Rattle.std.proofs.Common.{◌≡◌, ℕ, ◌-◌, ◌≤◌, List, length, Option, None, Some, option_map, IfOk, IfSome, Result, Ok, Err, slice_get, ap, sym, ◌∙◌, arith}
 use mathlib.Core.List.{IsPrefix}
 use Rattle.std.proofs.lemmas.Option.{slice_get_within}
 use Rattle.cj_model.specs.declared.answer.Asked.{Asked}
-use Rattle.cj_model.specs.declared.answer.Outcome.{Outcome}
 use Rattle.cj_model.specs.declared.database.Slot.{Slot}
 use Rattle.cj_model.specs.declared.request.Entry.{Entry}
 use Rattle.cj_model.specs.declared.select.Select.{Select}
 use Rattle.cj_model.specs.Database.Queries.{ask}
 use Rattle.cj_model.specs.Database.Steps.{step}
 use Rattle.cj_model.specs.Cluster.Placements.{Placement, part}
-use Rattle.cj_cluster.specs.History.Histories.{database_after, outcome_of}
+use Rattle.cj_cluster.specs.History.Histories.{database_after}
 use Rattle.cj_cluster.proofs.Pushed.{at-prefix, prefix_get}
 use Rattle.cj_replica.specs.declared.replica.Caught.{Caught}
 use Rattle.cj_replica.specs.declared.replica.Caught.TheVariants.{Skipped, Did}
