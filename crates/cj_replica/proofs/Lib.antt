@@ -1,4 +1,5 @@
 pub mod Begun
 pub mod HeldParts
+pub mod Longer
 pub mod Numbers
 pub mod SeatedCalls
