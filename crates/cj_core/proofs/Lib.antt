@@ -4,6 +4,7 @@ pub mod Leaving
 pub mod Making
 pub mod QuietCalls
 pub mod QuietSessions
+pub mod SoloAsks
 pub mod SoloCache
 pub mod SoloLogins
 pub mod SoloMoves

@@ -1,5 +1,6 @@
 -- A call over which no backend counted a fault blames nobody.
-use Rattle.std.proofs.Common.{◌≡◌, ◌≢◌, inl, inr, ℕ, zero, suc, ◌+◌, ◌-◌, ◌==◌, ◌/◌, ◌%◌, ◌^◌, ◌<◌, ◌≤◌, Bool, true, List, [], ◌∷◌, ◌++◌, length, take, get_or, slice_get, All, Option, None, Some, refl, ap, sym, ◌∙◌, subst, arith, ⊎_elim, length-append}
+use Rattle.std.proofs.Common.{◌≡◌, ◌≢◌, inl, inr, ℕ, zero, suc, ◌+◌, ◌-◌, ◌==◌, ◌/◌, ◌%◌, ◌^◌, ◌<◌, ◌≤◌, ◌&&◌, is_some, Bool, true, false, List, [], ◌∷◌, ◌++◌, length, take, get_or, slice_get, All, Option, None, Some, refl, ap, sym, ◌∙◌, subst, arith, ⊎_elim, length-append}
+use Rattle.cj_core.proofs.Common.{BlamesNoStore, both_ways, eq-eqb, log_failed_in, log_faults_after, ne_eqb, tells_log_failure}
 use Rattle.cj_core.proofs.Common.{Act, act_of, AddsEntry, AddsOwnEvents, All-head, AnswersEntry, append-nil, Asked, asked_reply, BlamesNobody, Call, CanCountMore, cases_eq, CellState, Ended, ended_count, ends-prefix, ends-same, entry_of_call, eqb-true, Event, faults_after}
 use Rattle.cj_core.proofs.Common.{faults_counted, faults_of, filter_map-append, full, get_or-set_same, HISTORY_FULL, in_mask, is_idle, IsAsked, IsOutcome, IsPrefix, IsQueryCode, length-ends, length-map, log, log_failure_of, LOG_FAULT, log_fault, LogFailed}
 use Rattle.cj_core.proofs.Common.{masks_of_end, masks_of_ends, next, NO_BACKEND, no_backend, NO_MEMORY, Outcome, outcome_reply, Placement, prefix_length, read, READ_FAULT, read_fault, ReadFaultTurn, Refusal, refusal_of_code, Refused, Reply, Sched, scheduled, ScheduledTurn, seen_at}
@@ -9,6 +10,7 @@ use Rattle.cj_model.specs.declared.answer.Asked.TheVariants as asked
 use Rattle.cj_model.specs.declared.answer.Outcome.TheVariants as outcome
 use Rattle.cj_core.proofs.SoloTurns.{refused_keeps}
 use Rattle.cj_core.proofs.SoloReads.{no_code}
+use Rattle.cj_core.proofs.SoloWrites.{answered_without}
 
 -- ---- counts
 
@@ -160,3 +162,29 @@ quiet_turn tells s old new c t no_more small =
     subst (λ (failed : List ℕ). AddsOwnEvents s c (act_of c.request) failed old.core.history new.core.history) none t.events
     in
     case_blames_nobody tells old.core.placement s (seen_at old.core s) c (seen_at new.core s) events t.turn.case
+
+-- ---- a call over which the log's store counted no fault
+
+-- what a query came to is no failure of that
+asked_without : (a : Asked) → IsAsked a → tells_log_failure (asked_reply a) ≡ false
+asked_without (asked.Rows rows) possible = refl
+asked_without (asked.Refused r) possible = ne_eqb r.code LOG_FAULT (λ is. no_code LOG_FAULT (inr (omega arith)) (subst IsQueryCode is possible))
+
+store_case : (tells : Bool) (p : Placement) (s : ℕ) (a : SessionView) (c : Call) (z : SessionView) → TurnCase tells p s a c z → log_failed_in c ≡ false → tells_log_failure c.reply ≡ false
+store_case tells p s a c z (scheduled x) none = answered_without tells p (take x.m z.front) z.front (length (log (take x.m z.front))) (entry_of_call s c x.act) c.reply x.answer
+store_case tells p s a c z (no_backend x) none = ap tells_log_failure x.replied
+store_case tells p s a c z (read x) none = ap tells_log_failure x.replied ∙ asked_without x.answer x.possible
+store_case tells p s a c z (read_fault x) none = ap tells_log_failure x.replied
+store_case tells p s a c z (log_fault x) none = sym (ap (λ (o : Option Act). is_some o && tells_log_failure c.reply) x.is) ∙ none
+store_case tells p s a c z (full x) none = ap tells_log_failure x.replied
+store_case tells p s a c z (starved x) none = ap tells_log_failure x.replied
+
+none_counted : (t : Bool) (before now : ℕ) → now ≡ log_faults_after before t → now ≤ before → before < 2 ^ 64 - 1 → t ≡ false
+none_counted true before now is no_more small = absurd (omega (arith, is, no_more, small))
+none_counted false before now is no_more small = refl
+
+pub quiet_store : (tells : Bool) (s : ℕ) (old new : WorldState) (c : Call) → WorldTurn tells s old c new → new.recovery_log.faults ≤ old.recovery_log.faults → old.recovery_log.faults < 2 ^ 64 - 1 → BlamesNoStore c.reply
+quiet_store tells s old new c t no_more small r is blamed =
+    let none : log_failed_in c ≡ false = none_counted (log_failed_in c) old.recovery_log.faults new.recovery_log.faults t.log_faults no_more small in
+    let quiet : tells_log_failure c.reply ≡ false = store_case tells old.core.placement s (seen_at old.core s) c (seen_at new.core s) t.turn.case none in
+    both_ways (tells_log_failure c.reply) quiet (ap tells_log_failure is ∙ eq-eqb r.code LOG_FAULT blamed)

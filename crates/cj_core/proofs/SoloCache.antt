@@ -1,13 +1,13 @@
 -- A session's reads and the result cache.
 use Rattle.std.proofs.Common.{◌≡◌, ◌≢◌, ◌⊎◌, ℕ, ◌<◌, ◌^◌, Bool, true, false, ◌==◌, List, Option, option_map, None, Some, inl, inr, refl, ap, sym, ◌∙◌, subst, ⊎_elim}
-use Rattle.cj_core.proofs.Common.{accounts_of, cond_both, after_look, Answer, answer_kept, answered_at, AnswersFromCache, ask, both_ways, cache_answered, cached_entry, CacheState, Call, call_of, cond-false, Core, CoreInvariant, database_of, Entry, faults_of, given_at_end, has-zero, has_answer}
-use Rattle.cj_core.proofs.Common.{HasNoServer, HasServer, hosts_all, in_mask, is_some, IsAnswer, IsFreshAnswer, IsFreshCache, IsServingMask, kept_answer, last_number, legal_fit, log, logins_of, ne_eqb, needs, NO_MEMORY, open_tx, Refusal, refusal_of_code, Refused, RepliesKept, Reply, Rows}
+use Rattle.cj_core.proofs.Common.{cond_both, after_look, Answer, answer_kept, answered_at, AnswersFromCache, ask, both_ways, cache_answered, cached_entry, CacheState, Call, call_of, cond-false, Core, CoreInvariant, database_of, Entry, faults_of, given_at_end, has-zero, has_answer}
+use Rattle.cj_core.proofs.Common.{HasNoServer, HasServer, hosts_all, in_mask, is_some, IsAnswer, IsFreshAnswer, IsFreshCache, IsServingMask, kept_answer, last_number, legal_fit, log, ne_eqb, needs, NO_MEMORY, open_tx, Refusal, refusal_of_code, Refused, RepliesKept, Reply, Rows}
+use Rattle.cj_core.proofs.Common.{Act, act_of, AsksBackends, CallsBackends, kept_looked, RepeatsAnswer}
 use Rattle.cj_core.proofs.Common.{Select, some_bit, StandsBetweenCalls, take-length, was_answered, with_answer, with_cache, with_core, with_read, with_request_counted, WorldState, WorldTurn}
 use Rattle.cj_model.specs.declared.answer.Asked.TheVariants as asked
 use Rattle.cj_model.specs.declared.cached.Cached.{Cached}
 use Rattle.cj_model.specs.declared.request.Request.TheVariants as request
-use Rattle.cj_core.proofs.SoloLogins.{called_none}
-use Rattle.cj_core.proofs.SoloReads.{answered_turn, counted_turn, query_begins, starves}
+use Rattle.cj_core.proofs.SoloReads.{answered_turn, asks_no_more, counted_turn, left_disabled, query_begins, starves}
 
 -- a refusal is not kept
 pub not_kept : (tx : ℕ) (s : Select) (n : ℕ) (refusal : Refusal) (reply : Reply) (cache : CacheState) → reply ≡ Refused refusal → cache_answered tx s n reply cache ≡ cache
@@ -38,23 +38,56 @@ none_found s c none = one (answer_kept s c) (found_kept s c ∙ none)
     one None is = refl
     one (Some a) is = cc is
 
--- a turn doesn't hang on what the cache was
-pub turn_before_look : (tells : Bool) (s : ℕ) (old : WorldState) (cache : CacheState) (c : Call) (new : WorldState) → WorldTurn tells s (with_cache old cache) c new → WorldTurn tells s old c new
-turn_before_look tells s old cache c new t = record {
-  placement = t.placement;
-  setup = t.setup;
-  number = t.number;
-  queries = t.queries;
-  turn = t.turn;
-  at_end = t.at_end;
-  stands = t.stands;
-  failed = t.failed;
-  backends = t.backends;
-  events = t.events;
-  faults = t.faults;
-  log_faults = t.log_faults;
-  logins = t.logins;
-}
+-- what is kept of a query does not hang on whether another was looked up
+kept_still : (select : Select) (old : WorldState) (c : Call) → RepeatsAnswer c (after_look select old.cache) → c.request ≡ request.Select select → RepeatsAnswer c old.cache
+kept_still select old c r is =
+    let same : r.select ≡ select = (let both : request.Select r.select ≡ request.Select select = sym r.query ∙ is in cc both) in
+    record {
+      outside = r.outside;
+      select = r.select;
+      query = r.query;
+      answer = r.answer;
+      kept = sym (kept_looked r.select old.cache) ∙ (ap (λ (q : Select). answer_kept r.select (after_look q old.cache)) same ∙ r.kept);
+      replied = r.replied;
+    }
+
+asks_still : (select : Select) (old : WorldState) (c : Call) (failed : List ℕ) (new : WorldState) → c.request ≡ request.Select select → AsksBackends c failed (with_cache old (after_look select old.cache)) new → AsksBackends c failed old new
+asks_still select old c failed new is q =
+    record {
+      last = q.last;
+      picks = q.picks;
+      answered = q.answered;
+      came = q.came;
+      asks = q.asks;
+      logins = q.logins;
+      replied = λ answer possible same. ⊎_elim (λ some. inl some) (λ kept. inr (kept_still select old c kept is)) (q.replied answer possible same);
+    }
+
+-- a turn doesn't hang on whether its query was looked up
+pub turn_before_look : (tells : Bool) (s : ℕ) (select : Select) (old : WorldState) (c : Call) (new : WorldState) → c.request ≡ request.Select select → WorldTurn tells s (with_cache old (after_look select old.cache)) c new → WorldTurn tells s old c new
+turn_before_look tells s select old c new is t =
+    let reads : act_of c.request ≡ None = ap act_of is in
+    record {
+      placement = t.placement;
+      dumps = t.dumps;
+      greatest = t.greatest;
+      others = t.others;
+      disabled = t.disabled;
+      setup = t.setup;
+      number = t.number;
+      queries = t.queries;
+      turn = t.turn;
+      at_end = t.at_end;
+      stands = t.stands;
+      failed = t.failed;
+      backends = t.backends;
+      events = t.events;
+      faults = t.faults;
+      log_faults = t.log_faults;
+      calls =
+          subst (λ (o : Option Act). CallsBackends s c o t.failed old new) (sym reads)
+          (asks_still select old c t.failed new is (subst (λ (o : Option Act). CallsBackends s c o t.failed (with_cache old (after_look select old.cache)) new) reads t.calls));
+    }
 
 -- what a fresh cache gives is an answer, and the one at the log's end
 pub fresh_answer : (tells : Bool) (s : Select) (cache : CacheState) (w : WorldState) (a : Answer) → IsFreshCache tells (log w.core.history) cache → answer_kept s cache ≡ Some a → IsAnswer a
@@ -84,8 +117,8 @@ module _ (tells : Bool) (s tx : ℕ) (user : List ℕ) (select : Select) (old : 
       let bit = some_bit serving some few in
       ⊎_elim
       (λ (q : (reply ≡ Rows k.answer) × (new ≡ with_core old (with_read old.core s (λ x. answered_at (last_number old.core) (was_answered x))))).
-      answered_turn tells s tx user select old old serving serving w in_own serves begins stands new (ap (λ (x : WorldState). x.setup) q.1) (ap (λ (x : WorldState). x.recovery_log) q.1)
-      (called_none (accounts_of old) user (logins_of old.cells) (logins_of new.cells) (ap (λ (x : WorldState). logins_of x.cells) q.1)) reply bit.0 bit.2
+      let cells = ap (λ (x : WorldState). x.cells) q.1 in
+      answered_turn tells s tx user select old old serving serving w in_own serves old.balance begins stands new (ap (λ (x : WorldState). x.setup) q.1) (ap (λ (x : WorldState). x.recovery_log) q.1) reply bit.0 bit.2
       (record {
         answer = asked.Rows k.answer;
         possible = fresh_answer tells select old.cache old k.answer fresh k.kept;
@@ -93,18 +126,21 @@ module _ (tells : Bool) (s tx : ℕ) (user : List ℕ) (select : Select) (old : 
         replied = q.0;
         after = ap (λ (x : WorldState). x.core) q.1;
         faults = ap (λ (x : WorldState). faults_of x.cells) q.1;
-      }))
+      })
+      (asks_no_more tells s tx user select old old serving serving w in_own serves old.balance begins new cells reply (ap (λ (x : WorldState). x.balance) q.1)
+      (λ answer possible same. record { outside = outside; select = select; query = refl; answer = k.answer; kept = k.kept; replied = q.0 }))
+      (left_disabled tells s tx user select old old serving serving w in_own serves old.balance begins new cells))
       (λ (q : (reply ≡ Refused (refusal_of_code NO_MEMORY)) × (new ≡ with_core old (with_request_counted old.core s))).
-      counted_turn tells s tx user select old old serving serving w in_own serves begins stands new reply q.1 (starves tells s tx user select old old serving serving w in_own serves begins reply q.0))
+      counted_turn tells s tx user select old old serving serving w in_own serves old.balance begins stands refl new reply q.1 (starves tells s tx user select old old serving serving w in_own serves old.balance begins reply q.0))
       k.came
 
 -- a kept answer was replied, of a cache that was looked into
 pub replied_from_cache : (s : ℕ) (select : Select) (old : WorldState) (cache : CacheState) (reply : Reply) (new : WorldState) (c : Call) (k : RepliesKept s select (with_cache old cache) reply new) → cache ≡ after_look select old.cache → c.reply ≡ reply → AnswersFromCache select k.answer old c new
 replied_from_cache s select old cache reply new c k is same = ⊎_elim
     (λ (q : (reply ≡ Rows k.answer) × (new ≡ with_core (with_cache old cache) (with_read old.core s (λ x. answered_at (last_number old.core) (was_answered x))))).
-    record { replied = inl (same ∙ q.0); cells = ap (λ (w : WorldState). w.cells) q.1; looked = ap (λ (w : WorldState). w.cache) q.1 ∙ is })
+    record { replied = inl (same ∙ q.0); cells = ap (λ (w : WorldState). w.cells) q.1; balance = ap (λ (w : WorldState). w.balance) q.1; looked = ap (λ (w : WorldState). w.cache) q.1 ∙ is })
     (λ (q : (reply ≡ Refused (refusal_of_code NO_MEMORY)) × (new ≡ with_core (with_cache old cache) (with_request_counted old.core s))).
-    record { replied = inr (same ∙ q.0); cells = ap (λ (w : WorldState). w.cells) q.1; looked = ap (λ (w : WorldState). w.cache) q.1 ∙ is })
+    record { replied = inr (same ∙ q.0); cells = ap (λ (w : WorldState). w.cells) q.1; balance = ap (λ (w : WorldState). w.balance) q.1; looked = ap (λ (w : WorldState). w.cache) q.1 ∙ is })
     k.came
 
 -- a mask of some backends serves something

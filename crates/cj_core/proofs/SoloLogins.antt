@@ -27,7 +27,7 @@ module _ (accounts : List Account) (user : List ℕ) where
       (λ here. inr (ap (λ xs. slice_get xs k) calls ∙ (here.1 ∙ ap (λ (i : ℕ). Some (Some (login_of accounts user i))) (sym here.0))))
       (got_or_set old b k (Some (login_of accounts user b)))
 
-  may_be_called : (b : ℕ) (old new : List (Option (List ℕ))) → MayCallUnder b (login_of accounts user b) old new → AreCalledFor accounts user old new
+  pub may_be_called : (b : ℕ) (old new : List (Option (List ℕ))) → MayCallUnder b (login_of accounts user b) old new → AreCalledFor accounts user old new
   may_be_called b old new calls = ⊎_elim (called_none old new) (called_under b old new) calls
 
   pub called_to_take : (b : ℕ) (d : Did) (old new : List (Option (List ℕ))) → LogsInToTake b (login_of accounts user b) d old new → AreCalledFor accounts user old new

@@ -112,7 +112,7 @@ refused_keeps part s c same h g is =
     ap part is ∙ cond_both (tells_log_failure c.reply) (LogFailed s c.number ∷ []) [] (λ (es : List Event). part (h ++ es) ≡ part h) (λ _. same h) (λ _. ap part (append-nil h))
 
 -- the log among it
-log_refused : (s : ℕ) (c : Call) (h g : List Event) → g ≡ h ++ log_failure_of s c → log g ≡ log h
+pub log_refused : (s : ℕ) (c : Call) (h g : List Event) → g ≡ h ++ log_failure_of s c → log g ≡ log h
 log_refused s c h g is = refused_keeps log s c (λ k. log-same k (LogFailed s c.number) refl) h g is
 
 -- the transaction that the session is in then

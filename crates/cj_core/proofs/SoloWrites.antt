@@ -1,21 +1,21 @@
 -- A session's write over a whole world, from its entry to the end of that.
-use Rattle.std.proofs.Common.{◌≡◌, ◌⊎◌, inl, inr, ℕ, suc, ◌+◌, ◌<◌, ◌≤◌, ◌==◌, ◌&&◌, Bool, true, false, cond, is_some, List, [], ◌∷◌, ◌++◌, length, Option, Some, Ok, Err, refl, ap, sym, ◌∙◌, subst, ⊎_elim, append_assoc, arith}
+use Rattle.std.proofs.Common.{◌≡◌, ◌⊎◌, inl, inr, ℕ, suc, ◌+◌, ◌<◌, ◌≤◌, ◌==◌, ◌&&◌, Bool, true, false, cond, is_some, List, [], ◌∷◌, ◌++◌, length, slice_get, Option, Some, Ok, Err, refl, ap, sym, ◌∙◌, subst, ⊎_elim, append_assoc, length-append, arith}
 use Rattle.cj_core.proofs.Common.{accounts_of, Act, act_of, act_of_request, AddsEntry, AddsOwnEvents, All-nil, answered_at, AnswersEntry, append-nil, AreBackendsOf, AreCalledFor, Call, call_of, Core, CoreInvariant, Ended, ended_for, Entry, entry_in_progress, entry_of_call, EntryEnded}
 use Rattle.cj_core.proofs.Common.{EntryRefused, EntryScheduled, eq-eqb, Event, events_left, faults_counted, faults_of, FitsTx, follows_own, follows_rest, free-ended, free-same, free-sched, happened, HasNoRoomFor, HasServer, is_entry_of, is_idle}
 use Rattle.cj_core.proofs.Common.{is_open, is_open-with, is_waiting, IsOutcome, IsReadAtEnd, IsSameButLog, last_number, legal_push, log, log_failed_in, log_failure_of, LOG_FAULT, log_faults_after, LogFailed, logins_of, LogView, mask_with, ne_eqb, open_tx, open_user}
+use Rattle.cj_core.proofs.Common.{asks_of, at_log_end, CallsBackends, CallsExactly, CarriesOut, CellState, enabled-push, false_from_ne_true, find_session, is_enabled, is_masked, IsDue, IsPartOf, login_of, position_at, session_of-other, takes_part_in}
 use Rattle.cj_core.proofs.Common.{cond_both, opened-sched, OpenSession, option_map_or, Outcome, outcome_reply, own_entry, own_tx, Placement, prefix_self, Refusal, refusal_of_code, Refused, Reply, request_of, Rests, Sched, scheduled_as, SchedulesAs, SchedulesOrRefuses, seen_at, session_at}
 use Rattle.cj_core.proofs.Common.{session_owes, SessionView, StandsBetweenCalls, tells_log_failure, Turn, turn_full, turn_log_fault, turn_starved, turn_unserved, with_cache, with_core, with_one_request, with_request_counted, WorldState, WorldTurn}
 use Rattle.cj_model.specs.declared.answer.Outcome.TheVariants as outcome
 use Rattle.cj_cluster.proofs.Standing.{open_above}
-use Rattle.cj_core.proofs.SoloLogins.{called_none}
-use Rattle.cj_core.proofs.SoloTurns.{between_scheduled, between_taken, turn_ended}
+use Rattle.cj_core.proofs.SoloTurns.{between_scheduled, between_taken, log_refused, turn_ended}
 
 -- what an entry comes to is no failure of the log's store
 outcome_without : (o : Outcome) → IsOutcome o → tells_log_failure (outcome_reply o) ≡ false
 outcome_without (outcome.Done n) possible = refl
 outcome_without (outcome.Refused r) possible = let high : r.code ≤ 29 = possible.1 in ne_eqb r.code LOG_FAULT (λ is. omega (arith, is))
 
-answered_without : (tells : Bool) (p : Placement) (then h : List Event) (i : ℕ) (e : Entry) (reply : Reply) → AnswersEntry tells p then h i e reply → tells_log_failure reply ≡ false
+pub answered_without : (tells : Bool) (p : Placement) (then h : List Event) (i : ℕ) (e : Entry) (reply : Reply) → AnswersEntry tells p then h i e reply → tells_log_failure reply ≡ false
 answered_without tells p then h i e reply (inl f) = ap tells_log_failure f.replied ∙ outcome_without f.outcome f.possible
 answered_without tells p then h i e reply (inr u) = ⊎_elim (λ q. ap tells_log_failure q.1) (λ q. ap tells_log_failure q.1) u.replied
 
@@ -123,10 +123,84 @@ module _ (tells : Bool) (s tx : ℕ) (user : List ℕ) (act : Act) (reply : Repl
       ),
     )
 
+    -- ---- what the backends did
+
+    -- the entry is the open one
+    opened_now : entry_in_progress begun.core.history ≡ Some entry
+    opened_now = ap (λ (c : Core). entry_in_progress c.history) begun_core ∙ opened-sched old.core.history entry stands.idle
+
+    still_on : (b : ℕ) → is_enabled begun.core.history b ≡ is_enabled old.core.history b
+    still_on b = ap (λ (c : Core). is_enabled c.history b) begun_core ∙ enabled-push old.core.history (Sched entry) b
+
+    still_part : (b : ℕ) → takes_part_in begun.core b entry ≡ takes_part_in old.core b entry
+    still_part b = ap (λ (c : Core). takes_part_in c b entry) begun_core
+
+    -- each enabled backend has yet to take it
+    due : (b : ℕ) → is_enabled old.core.history b ≡ true → IsDue begun.core b
+    due b on =
+        let longer : last_number begun.core ≡ last_number old.core + 1 =
+        ap (λ (c : Core). length (log c.history)) begun_core ∙ (ap length (log-sched old.core.history entry) ∙ length-append (log old.core.history) (entry ∷ []))
+        in
+        record {
+          p = last_number old.core;
+          stands = ap (λ (c : Core). position_at c b) begun_core ∙ at_log_end old.core w stands.idle b on;
+          more = λ same. absurd (omega (arith, same, longer));
+        }
+
+    -- the cells and the accounts are those of before and after
+    cells_begun : begun.cells ≡ old.cells
+    cells_begun = ap (λ (x : WorldState). x.cells) after
+
+    cells_new : new.cells ≡ ended.mid.cells
+    cells_new = ap (λ (x : WorldState). x.cells) ended.ended
+
+    masked : (b : ℕ) → is_masked ended.mid.core.failed ended.mid.core.starved b ≡ is_masked (mask_with 0 ended.taken.failed) ended.mid.core.starved b
+    masked b = ap (λ (m : ℕ). is_masked m ended.mid.core.starved b) failed_mask
+
+    called_exactly : CallsExactly (accounts_of old) user (λ b. IsPartOf old.core entry b × (is_masked (mask_with 0 ended.taken.failed) ended.mid.core.starved b ≡ false)) (λ b. is_masked (mask_with 0 ended.taken.failed) ended.mid.core.starved b ≡ true)
+        (logins_of old.cells) (logins_of new.cells)
+    called_exactly =
+        record {
+          only =
+              subst (λ (x : WorldState). AreCalledFor (accounts_of old) user (logins_of old.cells) (logins_of x.cells)) (sym ended.ended)
+              (subst (λ (x : WorldState). AreCalledFor (accounts_of x) user (logins_of x.cells) (logins_of ended.mid.cells)) after ended.taken.logins);
+          did =
+              λ b x.
+              ap (λ (xs : List CellState). slice_get (logins_of xs) b) cells_new
+              ∙ ((ended.each b).did entry opened_now (due b x.0.0) (still_on b ∙ x.0.0, still_part b ∙ x.0.1) (masked b ∙ x.1)
+              ∙ ap (λ (y : WorldState). Some (Some (login_of (accounts_of y) user b))) after);
+          others =
+              λ b no none.
+              let unmasked = false_from_ne_true (is_masked (mask_with 0 ended.taken.failed) ended.mid.core.starved b) none in
+              ap (λ (xs : List CellState). slice_get (logins_of xs) b) cells_new
+              ∙ ((ended.each b).skipped entry opened_now (λ part. no ((sym (still_on b) ∙ part.0, sym (still_part b) ∙ part.1), unmasked))
+              ∙ ap (λ (xs : List CellState). slice_get (logins_of xs) b) cells_begun);
+        }
+
+    carried_out : CarriesOut s call act ended.taken.failed old new
+    carried_out =
+        record {
+          handed = inr (record { starved = ended.mid.core.starved; ended = entry_added.1.1; logins = called_exactly });
+          asks = ap asks_of cells_new ∙ (ended.taken.asks ∙ ap asks_of cells_begun);
+          balance = ap (λ (x : WorldState). x.balance) ended.ended ∙ (ended.taken.balance ∙ ap (λ (x : WorldState). x.balance) after);
+        }
+
     pub wrote : WorldTurn tells s old call new
     wrote =
         record {
           placement = ap (λ (c : Core). c.placement) new_core ∙ placed;
+          dumps = ap (λ (c : Core). c.dumps) new_core ∙ (ap (λ (c : Core). c.dumps) ended.taken.core ∙ ap (λ (c : Core). c.dumps) begun_core);
+          greatest = ap (λ (c : Core). c.greatest) new_core ∙ (ap (λ (c : Core). c.greatest) ended.taken.core ∙ ap (λ (c : Core). c.greatest) begun_core);
+          others =
+              λ t other.
+              ap (λ (c : Core). find_session c.sessions t) new_core
+              ∙ (session_of-other (answered_at (last_number ended.mid.core)) (λ x. refl) ended.mid.core.sessions s t other
+              ∙ (ap (λ (c : Core). find_session c.sessions t) ended.taken.core
+              ∙ (ap (λ (c : Core). find_session c.sessions t) begun_core ∙ session_of-other with_one_request (λ x. refl) old.core.sessions s t other)));
+          disabled =
+              λ b off.
+              ap (λ (xs : List CellState). slice_get xs b) cells_new
+              ∙ ((ended.each b).disabled (still_on b ∙ off) ∙ ap (λ (xs : List CellState). slice_get xs b) cells_begun);
           setup = ap (λ (x : WorldState). x.setup) ended.ended ∙ (ended.taken.setup ∙ ap (λ (x : WorldState). x.setup) after);
           number = refl;
           queries = ap (λ (x : OpenSession). x.queries) new_session_is;
@@ -142,9 +216,7 @@ module _ (tells : Bool) (s tx : ℕ) (user : List ℕ) (act : Act) (reply : Repl
               ap (λ (x : WorldState). x.recovery_log.faults) ended.ended ∙ (ap (λ (l : LogView). l.faults) ended.taken.recovery_log ∙ (scheduled.log_faults
               ∙ ap (log_faults_after old.recovery_log.faults) (sym (replied_without_log call act (act_of_request act) (answered_without tells _ _ _ _ entry reply (ended.answer entry in_progress))))));
           faults = ap (λ (x : WorldState). faults_of x.cells) ended.ended ∙ (ended.taken.faults ∙ ap (λ (x : WorldState). faults_counted (faults_of x.cells) ended.taken.failed) after);
-          logins =
-              subst (λ (x : WorldState). AreCalledFor (accounts_of old) user (logins_of old.cells) (logins_of x.cells)) (sym ended.ended)
-              (subst (λ (x : WorldState). AreCalledFor (accounts_of x) user (logins_of x.cells) (logins_of ended.mid.cells)) after ended.taken.logins);
+          calls = subst (λ (o : Option Act). CallsBackends s call o ended.taken.failed old new) (sym (act_of_request act)) carried_out;
         }
 
 -- the session has seen all that there is
@@ -153,7 +225,7 @@ nothing_more c s = record { entries = refl; tx = refl; log_faults = λ q. refl }
 
 -- Nothing was scheduled, and the session counted its request.
 module _ (tells : Bool) (s tx : ℕ) (user : List ℕ) (act : Act) (old new : WorldState) (refusal : Refusal) (w : CoreInvariant old.core) (stands : StandsBetweenCalls old.core s) (fits : FitsTx (open_tx old.core s) tx act)
-    (setup : new.setup ≡ old.setup) (cells : new.cells ≡ old.cells) (log_faults : new.recovery_log.faults ≡ log_faults_after old.recovery_log.faults (refusal.code == LOG_FAULT)) where
+    (setup : new.setup ≡ old.setup) (cells : new.cells ≡ old.cells) (log_faults : new.recovery_log.faults ≡ log_faults_after old.recovery_log.faults (refusal.code == LOG_FAULT)) (balance : new.balance ≡ old.balance) where
   abbrev pub refusing : Call
   refusing = call_of old.core s tx user (request_of act) (Refused refusal)
 
@@ -171,8 +243,13 @@ module _ (tells : Bool) (s tx : ℕ) (user : List ℕ) (act : Act) (old new : Wo
         let seen : record { front = old.core.history ++ more; least = (session_at old.core s).least } ≡ seen_at new.core s =
         sym (ap (λ (c : Core). record { front = c.history; least = (session_at new.core s).least }) after ∙ ap (λ (x : OpenSession). record { front = old.core.history ++ more; least = x.least }) refused_session)
         in
+        let grew : new.core.history ≡ old.core.history ++ log_failure_of s refusing = ap (λ (c : Core). c.history) after ∙ ap (λ (es : List Event). old.core.history ++ es) (sym events) in
         record {
           placement = ap (λ (c : Core). c.placement) after;
+          dumps = ap (λ (c : Core). c.dumps) after;
+          greatest = ap (λ (c : Core). c.greatest) after;
+          others = λ t other. ap (λ (c : Core). find_session c.sessions t) after ∙ session_of-other with_one_request (λ x. refl) old.core.sessions s t other;
+          disabled = λ b off. ap (λ (xs : List CellState). slice_get xs b) cells;
           setup = setup;
           number = refl;
           queries = ap (λ (x : OpenSession). x.queries) refused_session;
@@ -188,10 +265,12 @@ module _ (tells : Bool) (s tx : ℕ) (user : List ℕ) (act : Act) (old new : Wo
           backends = All-nil (λ (b : ℕ). b < length old.cells);
           events =
               subst (λ (o : Option Act). AddsOwnEvents s refusing o [] old.core.history new.core.history) (sym (act_of_request act))
-              (0, (ap (λ (c : Core). c.history) after ∙ ap (λ (es : List Event). old.core.history ++ es) (sym events), refl));
+              (0, (grew, refl));
           faults = ap faults_of cells;
           log_faults = log_faults ∙ ap (log_faults_after old.recovery_log.faults) (sym (ap (λ (o : Option Act). is_some o && (refusal.code == LOG_FAULT)) (act_of_request act)));
-          logins = called_none (accounts_of old) user (logins_of old.cells) (logins_of new.cells) (ap logins_of cells);
+          calls =
+              subst (λ (o : Option Act). CallsBackends s refusing o [] old new) (sym (act_of_request act))
+              (record { handed = inl (record { unscheduled = log_refused s refusing old.core.history new.core.history grew; cells = cells }); asks = ap asks_of cells; balance = balance });
         }
 
   -- it is no failure of the log's store, so the history has no event more
@@ -229,6 +308,9 @@ module _ (tells : Bool) (s tx : ℕ) (user : List ℕ) (act : Act) (old mid new 
   cells_are : new.cells ≡ old.cells
   cells_are = ap (λ (x : WorldState). x.cells) after ∙ ap (λ (x : WorldState). x.cells) gone.after
 
+  balance_is : new.balance ≡ old.balance
+  balance_is = ap (λ (x : WorldState). x.balance) after ∙ ap (λ (x : WorldState). x.balance) gone.after
+
   faults_are : new.recovery_log.faults ≡ log_faults_after old.recovery_log.faults (refusal.code == LOG_FAULT)
   faults_are = ap (λ (x : WorldState). x.recovery_log.faults) after ∙ gone.log_faults
 
@@ -241,7 +323,7 @@ module _ (tells : Bool) (s tx : ℕ) (user : List ℕ) (act : Act) (old mid new 
   call_refused = call_of old.core s tx user (request_of act) (Refused refusal)
 
   quietly : (refusal.code == LOG_FAULT) ≡ false → Turn tells old.core.placement s (seen_at old.core s) call_refused (seen_at old.core s) → WorldTurn tells s old call_refused new
-  quietly other turn = refused_quietly tells s tx user act old new refusal w stands fits setup_is cells_are faults_are other (core_is false other) turn
+  quietly other turn = refused_quietly tells s tx user act old new refusal w stands fits setup_is cells_are faults_are balance_is other (core_is false other) turn
 
   own_again : (tx ≡ 0) ⊎ (tx ≡ open_tx old.core s)
   own_again = own_tx (open_tx old.core s) tx act fits
@@ -258,4 +340,4 @@ module _ (tells : Bool) (s tx : ℕ) (user : List ℕ) (act : Act) (old mid new 
       quietly (ap (λ (r : Refusal). r.code == LOG_FAULT) want)
       (turn_starved tells old.core.placement s (seen_at old.core s) old.core.history w.legal (prefix_self old.core.history) (session_owes old.core s w) (nothing_more old.core s) call_refused own_again (ap (λ r. Refused r) want))
   refused (inr (inr (inr faulted))) =
-      refused_by_log tells s tx user act old new refusal w stands fits setup_is cells_are faults_are faulted.2 faulted.0 faulted.1 (core_is true (ap (λ (r : Refusal). r.code == LOG_FAULT) faulted.2))
+      refused_by_log tells s tx user act old new refusal w stands fits setup_is cells_are faults_are balance_is faulted.2 faulted.0 faulted.1 (core_is true (ap (λ (r : Refusal). r.code == LOG_FAULT) faulted.2))

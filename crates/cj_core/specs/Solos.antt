@@ -1,9 +1,10 @@
 -- A session over a whole world: what contracts see of it, and where its calls lead.
-use Rattle.std.specs.Prelude.{◌≡◌, ◌≢◌, ◌⊎◌, ℕ, zero, suc, ◌+◌, ◌<◌, ◌==◌, ◌&&◌, Bool, true, false, is_some, if◌then◌else◌, List, [], ◌∷◌, ◌++◌, length, map, fold, slice_get, All}
+use Rattle.std.specs.Prelude.{◌≡◌, ◌≢◌, ◌⊎◌, ℕ, zero, suc, ◌+◌, ◌<◌, ◌==◌, ◌&&◌, ◌||◌, not, Bool, true, false, is_some, if◌then◌else◌, List, [], ◌∷◌, ◌++◌, length, map, fold, slice_get, All, Contains}
 use Rattle.std.specs.declared.option.Option.{Option}
 use Rattle.std.specs.declared.option.Option.TheVariants.{None, Some}
 use Rattle.cj_model.specs.declared.account.Account.{Account}
 use Rattle.cj_model.specs.declared.request.Act.{Act}
+use Rattle.cj_model.specs.declared.request.Entry.{Entry}
 use Rattle.cj_model.specs.declared.answer.Answer.{Answer}
 use Rattle.cj_model.specs.declared.answer.Asked.{Asked}
 use Rattle.cj_model.specs.declared.request.Request.{Request}
@@ -16,21 +17,24 @@ use Rattle.cj_model.specs.Database.Outcomes.{IsAsked}
 use Rattle.cj_model.specs.Wire.Replies.{asked_reply}
 use Rattle.cj_model.specs.Sql.PlainRequests.{act_of}
 use Rattle.cj_model.specs.Cluster.Accounts.{login_of}
+use Rattle.cj_model.specs.Cluster.Balancing.{Balance}
 use Rattle.cj_model.specs.Cluster.Caching.{CacheState, after_keep, after_look, answer_kept}
 use Rattle.cj_model.specs.Database.Inserts.{refusal_of_code}
-use Rattle.cj_model.specs.Cluster.Masks.{with_backend}
+use Rattle.cj_model.specs.Cluster.Masks.{in_mask, with_backend}
+use Rattle.cj_model.specs.Cluster.Placements.{hosts_all, needs}
 use Rattle.cj_auth.specs.Admission.{admits}
 use Rattle.cj_cluster.specs.declared.event.Event.{Event}
 use Rattle.cj_cluster.specs.declared.event.Event.TheVariants.{Sched, Ended, ReadFailed, LogFailed}
 use Rattle.cj_cluster.specs.declared.moves.Move.{Move}
 use Rattle.cj_cluster.specs.declared.moves.Move.TheVariants.{Open, Close, Schedule, Abort, Apply, End, Read, Arm, Disable, Replay, Enable, Mark, Dump, Load}
 use Rattle.cj_cluster.specs.History.Answering.{HasServer, HasNoServer}
-use Rattle.cj_cluster.specs.History.Histories.{log, is_idle, events_left}
+use Rattle.cj_cluster.specs.History.Histories.{log, is_enabled, is_idle, events_left}
 use Rattle.cj_cluster.specs.History.Turns.{SessionView, Call, Turn, entry_of_call}
-use Rattle.cj_cluster.specs.Moves.Cores.{Core, session_at}
-use Rattle.cj_cluster.specs.Moves.Moves.{is_open, with_request_counted}
+use Rattle.cj_cluster.specs.Moves.Cores.{Core, find_session, session_at}
+use Rattle.cj_cluster.specs.Moves.Moves.{is_open, takes_part_in, with_request_counted}
 use Rattle.cj_cluster.specs.Moves.Runs.{seen_at}
 use Rattle.cj_desk.specs.DeskStates.{DeskState, DeskCall, DeskSteps, turn_taken, query_skipped, cache_counted}
+use Rattle.cj_state.specs.Asking.{asks_of, asks_with, read_over, PicksFirst}
 use Rattle.cj_state.specs.CalledLogins.{logins_of}
 use Rattle.cj_state.specs.Worlds.{WorldState, accounts_of, CacheFollowsLog}
 use Rattle.cj_state.specs.Faults.{faults_of, faults_after}
@@ -64,6 +68,12 @@ pub record StandsBetweenCalls (c : Core) (s : ℕ) : Type 0 where
 -- backends were called under the login that this user has at each, and under no other
 abbrev pub AreCalledFor : List Account → List ℕ → List (Option (List ℕ)) → List (Option (List ℕ)) → Type 0
 AreCalledFor accounts user old new = (b : ℕ) → (slice_get new b ≡ slice_get old b) ⊎ (slice_get new b ≡ Some (Some (login_of accounts user b)))
+
+-- Of a user's calls some backends did their part and some failed: the former were called under the login that the user has at each, the latter maybe, and no other was called.
+pub record CallsExactly (accounts : List Account) (user : List ℕ) (Did Failed : ℕ → Type 0) (old new : List (Option (List ℕ))) : Type 0 where
+  pub only : AreCalledFor accounts user old new
+  pub did : (b : ℕ) → Did b → slice_get new b ≡ Some (Some (login_of accounts user b))
+  pub others : (b : ℕ) → (Did b → ⊥) → (Failed b → ⊥) → slice_get new b ≡ slice_get old b
 
 -- these are numbers of backends of this world
 abbrev pub AreBackendsOf : WorldState → List ℕ → Type 0
@@ -111,6 +121,76 @@ abbrev pub AddsOwnEvents : ℕ → Call → Option Act → List ℕ → List Eve
 AddsOwnEvents s c None failed h g = (g ≡ h ++ map (ReadFailed s c.number) failed) ⊎ LacksLast s c.number failed h g
 AddsOwnEvents s c (Some act) failed h g = (number : ℕ) × AddsEntry number s c act failed h g
 
+-- ---- a query at the backends
+
+-- whether backend b serves the request
+abbrev pub serves_request : Core → Request → ℕ → Bool
+serves_request c r b = is_enabled c.history b && hosts_all c.placement b (needs r)
+
+-- the policy picks these of the candidates, one after another and each once, and the balancer stands so then
+abbrev pub PicksInTurn : Balance → (ℕ → Bool) → List ℕ → Balance → Type 0
+PicksInTurn before candidate [] after = after ≡ before
+PicksInTurn before candidate (b ∷ others) after =
+    (mask : ℕ) × ((k : ℕ) → in_mask mask k ≡ candidate k) × PicksFirst before mask b × PicksInTurn (read_over before b) (λ k. candidate k && not (k == b)) others after
+
+-- those that failed, and behind them the last that was asked, where that didn't fail
+abbrev pub asked_in : List ℕ → Option ℕ → List ℕ
+asked_in failed None = failed
+asked_in failed (Some b) = failed ++ b ∷ []
+
+-- The reply is an answer that was kept of a query outside of transactions.
+pub record RepeatsAnswer (c : Call) (cache : CacheState) : Type 0 where
+  pub outside : c.tx ≡ 0
+  pub select : Select
+  pub query : c.request ≡ request.Select select
+  pub answer : Answer
+  pub kept : answer_kept select cache ≡ Some answer
+  pub replied : c.reply ≡ Rows answer
+
+-- A query is asked of the backends that serve it, one after another as the policy picks them, until one doesn't fail. That one answers, unless memory is wanting.
+pub record AsksBackends (c : Call) (failed : List ℕ) (old new : WorldState) : Type 0 where
+  pub last : Option ℕ
+  pub picks : PicksInTurn old.balance (serves_request old.core c.request) (asked_in failed last) new.balance
+  pub answered : Option ℕ
+  pub came : (answered ≡ last) ⊎ ((answered ≡ None) × (c.reply ≡ Refused (refusal_of_code NO_MEMORY)))
+  pub asks : asks_of new.cells ≡ asks_with (asks_of old.cells) answered
+  pub logins : CallsExactly (accounts_of old) c.user (λ b. answered ≡ Some b) (Contains failed) (logins_of old.cells) (logins_of new.cells)
+  -- what a backend may answer one did answer, or it was kept
+  pub replied : (answer : Asked) → IsAsked answer → c.reply ≡ asked_reply answer → (answered ≢ None) ⊎ RepeatsAnswer c old.cache
+
+-- ---- an entry at the backends
+
+-- backend b is enabled, and takes part in the entry
+abbrev pub IsPartOf : Core → Entry → ℕ → Type 0
+IsPartOf c e b = (is_enabled c.history b ≡ true) × (takes_part_in c b e ≡ true)
+
+-- whether it failed in an entry or wanted memory for it, by the masks of those that did
+abbrev pub is_masked : ℕ → ℕ → ℕ → Bool
+is_masked failed starved b = in_mask failed b || in_mask starved b
+
+-- The entry was handed to each enabled backend. Those that took part in it and are in neither mask did it for the call's user.
+pub record HandsOutEntry (s : ℕ) (c : Call) (act : Act) (failed : List ℕ) (old new : WorldState) : Type 0 where
+  pub starved : ℕ
+  pub ended : new.core.history ≡ old.core.history ++ Sched (entry_of_call s c act) ∷ Ended (mask_with 0 failed) starved ∷ []
+  pub logins : CallsExactly (accounts_of old) c.user (λ b. IsPartOf old.core (entry_of_call s c act) b × (is_masked (mask_with 0 failed) starved b ≡ false)) (λ b. is_masked (mask_with 0 failed) starved b ≡ true)
+      (logins_of old.cells) (logins_of new.cells)
+
+-- Nothing was scheduled, and no backend was called.
+pub record CallsNone (old new : WorldState) : Type 0 where
+  pub unscheduled : log new.core.history ≡ log old.core.history
+  pub cells : new.cells ≡ old.cells
+
+-- An entry asks nobody, and the balancer picks nobody for it.
+pub record CarriesOut (s : ℕ) (c : Call) (act : Act) (failed : List ℕ) (old new : WorldState) : Type 0 where
+  pub handed : CallsNone old new ⊎ HandsOutEntry s c act failed old new
+  pub asks : asks_of new.cells ≡ asks_of old.cells
+  pub balance : new.balance ≡ old.balance
+
+-- what a call does at the backends, of which these failed
+abbrev pub CallsBackends : ℕ → Call → Option Act → List ℕ → WorldState → WorldState → Type 0
+CallsBackends s c None failed old new = AsksBackends c failed old new
+CallsBackends s c (Some act) failed old new = CarriesOut s c act failed old new
+
 -- what a backend may answer to a query was answered at the log's end
 abbrev pub IsReadAtEnd : Call → SessionView → Type 0
 IsReadAtEnd c z = act_of c.request ≡ None → (answer : Asked) → IsAsked answer → c.reply ≡ asked_reply answer → z.least ≡ length (log z.front)
@@ -118,6 +198,11 @@ IsReadAtEnd c z = act_of c.request ≡ None → (answer : Asked) → IsAsked ans
 -- A call of session s leads a world to another.
 pub record WorldTurn (tells : Bool) (s : ℕ) (old : WorldState) (c : Call) (new : WorldState) : Type 0 where
   pub placement : new.core.placement ≡ old.core.placement
+  pub dumps : new.core.dumps ≡ old.core.dumps
+  pub greatest : new.core.greatest ≡ old.core.greatest
+  -- each other session is open as before, or not open as before
+  pub others : (t : ℕ) → t ≢ s → find_session new.core.sessions t ≡ find_session old.core.sessions t
+  pub disabled : (b : ℕ) → is_enabled old.core.history b ≡ false → slice_get new.cells b ≡ slice_get old.cells b
   pub setup : new.setup ≡ old.setup
   pub number : c.number ≡ (session_at old.core s).queries + 1
   pub queries : (session_at new.core s).queries ≡ (session_at old.core s).queries + 1
@@ -131,7 +216,7 @@ pub record WorldTurn (tells : Bool) (s : ℕ) (old : WorldState) (c : Call) (new
   pub faults : faults_of new.cells ≡ faults_counted (faults_of old.cells) failed
   -- and the log's store, where the reply to a write says so
   pub log_faults : new.recovery_log.faults ≡ log_faults_after old.recovery_log.faults (log_failed_in c)
-  pub logins : AreCalledFor (accounts_of old) c.user (logins_of old.cells) (logins_of new.cells)
+  pub calls : CallsBackends s c (act_of c.request) failed old new
 
 -- ---- the result cache
 
@@ -146,6 +231,7 @@ with_answer s n (Stats hits misses) cache = cache
 pub record AnswersFromCache (s : Select) (answer : Answer) (old : WorldState) (c : Call) (new : WorldState) : Type 0 where
   pub replied : (c.reply ≡ Rows answer) ⊎ (c.reply ≡ Refused (refusal_of_code NO_MEMORY))
   pub cells : new.cells ≡ old.cells
+  pub balance : new.balance ≡ old.balance
   pub looked : new.cache ≡ after_look s old.cache
 
 -- where none is kept, backends are asked, and rows that they answer are kept

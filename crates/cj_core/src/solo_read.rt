@@ -8,10 +8,8 @@ ghost use Rattle.cj_model.specs.Sql.WrittenRequests.{IsWritten};
 ghost use Rattle.cj_cluster.specs.History.Answering.{CanServe};
 ghost use Rattle.cj_cluster.specs.Moves.Cores.{session_at};
 ghost use Rattle.cj_cluster.specs.Moves.Moves as moves;
-ghost use Rattle.cj_state.specs.CalledLogins.{logins_of};
-ghost use Rattle.cj_state.specs.Worlds.{accounts_of};
 ghost use Rattle.cj_core.specs.Proving.SoloParts.{cache_answered, cache_attempted, call_of, AttemptsQuery, RepliesKept};
-ghost use Rattle.cj_core.specs.Solos.{with_answer, AreCalledFor, ReadsWithCache, StandsBetweenCalls, WorldTurn};
+ghost use Rattle.cj_core.specs.Solos.{with_answer, ReadsWithCache, StandsBetweenCalls, WorldTurn};
 ghost use Rattle.cj_cluster.specs.History.Histories.{database_of, log};
 ghost use Rattle.cj_cluster.specs.Moves.Moves.{IsServingMask};
 ghost use Rattle.cj_model.specs.Cluster.Caching.{answer_kept};
@@ -80,8 +78,7 @@ fn attempt<B: Backend, S: Store>(
     requires serves { CanServe state.old.core.placement state.old.core.history (requests.Select select.now) b }
     requires counts { (session_at state.old.core s).queries < REQUEST_LIMIT }
     requires written { IsWritten (requests.Select select.now) }
-    ensures came { AttemptsQuery B.tells s b tx select.now state.old result state.new }
-    ensures logins { AreCalledFor (accounts_of state.old) user.now (logins_of state.old.cells) (logins_of state.new.cells) }
+    ensures came { AttemptsQuery B.tells s b user.now tx select.now state.old result state.new }
     ensures setup { state.new.setup ≡ state.old.setup }
     ensures recovery_log { state.new.recovery_log ≡ state.old.recovery_log }
     ensures cache { state.new.cache ≡ cache_attempted tx select.now (moves.last_number state.old.core) result state.old.cache }

@@ -6,13 +6,13 @@ ghost use Rattle.cj_model.specs.Sql.PlainRequests.{request_of};
 ghost use Rattle.cj_model.specs.Sql.WrittenRequests.{IsWritten};
 ghost use Rattle.cj_cluster.specs.History.Histories.{is_idle};
 ghost use Rattle.cj_cluster.specs.History.Legality.{FitsTx};
-ghost use Rattle.cj_cluster.specs.Moves.Cores.{position_at, session_at};
+ghost use Rattle.cj_cluster.specs.Moves.Cores.{session_at};
 ghost use Rattle.cj_cluster.specs.Moves.Moves as moves;
 ghost use Rattle.cj_cluster.specs.Proving.Invariants.{CoreInvariant};
 ghost use Rattle.cj_cluster.specs.Moves.Moves.{with_request_counted};
 ghost use Rattle.cj_model.specs.declared.answer.Reply.TheVariants as replies;
 ghost use Rattle.cj_state.specs.Effects.{with_core};
-ghost use Rattle.cj_core.specs.Proving.SoloParts.{open_user, call_of, EntryEnded, EntryRefused, EntryScheduled, EntryTaken, HasTakenEntry, SchedulesOrRefuses};
+ghost use Rattle.cj_core.specs.Proving.SoloParts.{open_user, call_of, EntryEnded, EntryRefused, EntryScheduled, EntryTaken, HasTakenEntry, IsLeft, SchedulesOrRefuses, TakesOpen};
 ghost use Rattle.cj_state.specs.Effects.{own_entry};
 ghost use Rattle.cj_state.specs.Worlds.{CacheFollowsLog};
 ghost use Rattle.cj_core.specs.Solos.{AddsEntry, StandsBetweenCalls, WorldTurn};
@@ -43,7 +43,8 @@ fn take_if_due<B: Backend, S: Store>(state: &mut State<B, S>, b: u8)
     requires within { b < state.old.core.placement.backends }
     ensures taken { EntryTaken (open_user state.old.core) state.old state.new }
     ensures at_end { HasTakenEntry state.new.core b }
-    ensures others { (k : ℕ) → k ≢ b → position_at state.new.core k ≡ position_at state.old.core k }
+    ensures here { TakesOpen state.old state.new b }
+    ensures others { (k : ℕ) → k ≢ b → IsLeft state.old state.new k }
 {
     state.legal();
     if not_now_apply(state, b).is_none() {
@@ -56,6 +57,7 @@ fn take_everywhere<B: Backend, S: Store>(state: &mut State<B, S>)
     requires open { is_idle state.old.core.history ≡ false }
     ensures taken { EntryTaken (open_user state.old.core) state.old state.new }
     ensures at_end { moves.first_lagging state.new.core.history 0 state.new.core.positions ≡ None }
+    ensures each { (b : ℕ) → TakesOpen state.old state.new b }
     ensures sound { CoreInvariant state.new.core }
 {
     for b in 0..state.placement().count() {

@@ -1,3 +1,4 @@
 pub mod AnsweredLaws
+pub mod ChainEntries
 pub mod DeskChainLaws
 pub mod KeptCountLaws

@@ -1,13 +1,13 @@
 //! Laws of the definitions, each the contract of a function that does nothing.
 
-ghost use Rattle.std.specs.Prelude.{◌≤◌, ℕ, ℤ, List};
+ghost use Rattle.std.specs.Prelude.{◌≤◌, ℕ, ℤ, Bool, List};
 ghost use Rattle.std.specs.declared.option.Option.{Option};
 ghost use Rattle.cj_model.specs.declared.message.Message.{Message};
 ghost use Rattle.cj_model.specs.Wire.Frames.{Frames};
 ghost use Rattle.cj_cluster.specs.declared.session.SessionEnd.{SessionEnd};
 ghost use Rattle.cj_desk.specs.AnsweredMessages.{AreAnsweredMessages};
-ghost use Rattle.cj_desk.specs.DeskChains.{IsDeskChain};
-ghost use Rattle.cj_desk.specs.DeskStates.{DeskCall};
+ghost use Rattle.cj_desk.specs.DeskChains.{IsDeskChain, StandsOver};
+ghost use Rattle.cj_desk.specs.DeskStates.{DeskCall, DeskState};
 ghost use Rattle.cj_desk.specs.KeptCounts.{KeepsCount};
 ghost use Rattle.cj_desk.specs.SessionTranscripts.{setting, ClientState, SessionTranscript};
 
@@ -17,6 +17,12 @@ use crate::desk::Desk;
 pub fn transcripts_are_chains<R, K: Desk<R>, T>()
     ensures { (drawn : T → ℕ → ℕ) (later : T → ℕ → T) (moment : Option ℤ) (a : ClientState K T) (taken written : List ℕ) (ending : SessionEnd) (desk : K) (draws : T) →
         SessionTranscript (setting K.state_of K.leads_to drawn later moment) a taken written ending desk draws → IsDeskChain K.tells (K.state_of a.desk) (K.state_of desk) }
+{}
+
+/// A chain of a session's turns stands over the history that it ends at: there the session has, past the chain's start,
+/// the entries that its calls scheduled, in order and each once.
+pub fn chains_stand_over_their_histories()
+    ensures { (tells : Bool) (a z : DeskState) (chain : IsDeskChain tells a z) → StandsOver tells a z chain }
 {}
 
 /// The messages of a transcript are those of the one reading of the bytes taken, up to the first Quit.

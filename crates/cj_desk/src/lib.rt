@@ -8,5 +8,6 @@ mod laws;
 
 pub use desk::{Desk, Written};
 pub use laws::{
-    kept_counts_are_kept_by_each_call, transcripts_are_chains, transcripts_follow_the_reading,
+    chains_stand_over_their_histories, kept_counts_are_kept_by_each_call, transcripts_are_chains,
+    transcripts_follow_the_reading,
 };

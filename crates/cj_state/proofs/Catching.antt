@@ -110,6 +110,7 @@ module _ (tells : Bool) (accounts : List Account) (l : Layout) (h : List Event) 
             };
         faults = subst (λ (z : CellState). y.faults ≡ cond (did_fail (did_of r)) (next z.faults) z.faults) (sym same_cell) (counted r how.cause);
         armings = spent_times (not (is_skipped r)) x.arming y.arming how.arming.after ∙ ap (λ (z : CellState). z.arming.times) (sym same_cell);
+        asks = how.asks ∙ ap (λ (z : CellState). z.asks) (sym same_cell);
         logins =
             subst (λ (k : List ℕ). LogsInToTake b k (did_of r) (logins_of cells) (logins_of now)) (is_given ∙ ap (λ (u : List ℕ). login_of accounts u b) (sym user_is))
             (subst (λ (xs : List CellState). LogsInToTake b given (did_of r) (logins_of cells) (logins_of xs)) (sym is_set) (logs_in r given how.login));

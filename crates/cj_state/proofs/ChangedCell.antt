@@ -1,16 +1,16 @@
 -- A world of which one cell has changed: what it keeps, and what callers see of it.
-use Rattle.std.proofs.Common.{◌≡◌, ◌⊎◌, inl, inr, ℕ, ◌<◌, Bool, cond, List, length, map, get_or, set, Option, None, Some, Result, refl, ap, sym, ◌∙◌, subst, ⊎_elim}
+use Rattle.std.proofs.Common.{◌≡◌, ◌≢◌, ◌⊎◌, inl, inr, ℕ, ◌<◌, Bool, cond, List, length, map, get_or, set, slice_get, Option, None, Some, Result, refl, ap, sym, ◌∙◌, subst, ⊎_elim}
 use Rattle.std.proofs.lemmas.List.{length-map, get_or_default, set-get_or}
-use Rattle.cj_state.proofs.Common.{armings_after, armings_of, CacheState, CallsUnder, CellError, CellState, ChangesCell, Core, CoreInvariant, failed_contents, faults_after, faults_of, HasCellCause, IsCell, IsWorld, Kept, log, logins_of, LogView, map-set_same, MayCallUnder, next, Outcome, position_at, stand_rest, with_cache, with_log, WorldState}
+use Rattle.cj_state.proofs.Common.{armings_after, armings_of, asks_of, asks_with, Balance, CacheState, CallsUnder, CellError, CellState, ChangesCell, Core, CoreInvariant, failed_contents, faults_after, faults_of, HasCellCause, IsCell, IsWorld, Kept, log, logins_of, LogView, map-set_same, MayCallUnder, next, Outcome, position_at, stand_rest, with_balance, with_cache, with_log, WorldState}
 use Rattle.cj_state.proofs.CellsKept.{cells_set, position_of}
 use Rattle.cj_state.proofs.Contents.{contents_fault}
-use Rattle.cj_state.proofs.Counted.{armings_set, counts_set, logins_same, logins_set}
+use Rattle.cj_state.proofs.Counted.{armings_set, asks_set, counts_set, got_other, logins_same, logins_set}
 
 -- the world with these cells
 abbrev pub with_cells : WorldState → List CellState → WorldState
 with_cells w cells = record w { core = record w.core { positions = map (λ (x : CellState). x.position) cells; begun = map (λ (x : CellState). x.begun) cells }; cells = cells }
 
-module _ {tells : Bool} {w : WorldState} {numbers : List ℕ} {first_outcome : Option Outcome} (kept : Kept tells w numbers first_outcome) {seen_log : LogView} {cache : CacheState} {old : WorldState} (seen : with_cache (with_log w seen_log) cache ≡ old)
+module _ {tells : Bool} {w : WorldState} {numbers : List ℕ} {first_outcome : Option Outcome} (kept : Kept tells w numbers first_outcome) {seen_log : LogView} {cache : CacheState} {balance : Balance} {old : WorldState} (seen : with_balance (with_cache (with_log w seen_log) cache) balance ≡ old)
     {b : ℕ} (within : b < old.core.placement.backends) where
   -- each backend of the placement has a cell
   pub has_cell : b < length w.cells
@@ -50,6 +50,16 @@ module _ {tells : Bool} {w : WorldState} {numbers : List ℕ} {first_outcome : O
         ap armings_of ch.set
         ∙ (armings_set w.cells b ch.after armed has_cell (subst (λ (z : CellState). ch.after.arming.times ≡ cond armed (next z.arming.times) z.arming.times) (sym was) counted)
         ∙ ap (λ (z : WorldState). armings_after (armings_of z.cells) (cond armed (Some b) None)) seen)
+
+    pub changed_asks : (answered : Bool) → ch.after.asks ≡ cond answered (next ch.before.asks) ch.before.asks → asks_of now ≡ asks_with (asks_of old.cells) (cond answered (Some b) None)
+    changed_asks answered counted =
+        ap asks_of ch.set
+        ∙ (asks_set w.cells b ch.after answered has_cell (subst (λ (z : CellState). ch.after.asks ≡ cond answered (next z.asks) z.asks) (sym was) counted)
+        ∙ ap (λ (z : WorldState). asks_with (asks_of z.cells) (cond answered (Some b) None)) seen)
+
+    -- every other cell is as it was
+    pub changed_others : (k : ℕ) → k ≢ b → slice_get now k ≡ slice_get old.cells k
+    changed_others k other = ap (λ (xs : List CellState). slice_get xs k) ch.set ∙ (got_other w.cells b k ch.after other ∙ ap (λ (z : WorldState). slice_get z.cells k) seen)
 
     pub changed_logins : ch.after.login ≡ ch.before.login → logins_of now ≡ logins_of old.cells
     changed_logins same = ap logins_of ch.set ∙ (logins_same w.cells b ch.after (same ∙ ap (λ (z : CellState). z.login) (sym was)) ∙ ap (λ (z : WorldState). logins_of z.cells) seen)
@@ -107,11 +117,12 @@ module _ {tells : Bool} {w : WorldState} {numbers : List ℕ} {first_outcome : O
           }
 
     -- a cell that has not changed either leaves the world as it was
-    pub world_stays : ch.after ≡ ch.before → with_cache (with_log (with_cells w now) seen_log) cache ≡ old
+    pub world_stays : ch.after ≡ ch.before → with_balance (with_cache (with_log (with_cells w now) seen_log) cache) balance ≡ old
     world_stays same =
         let core = same_inside (ap (λ (z : CellState). z.position) same) (ap (λ (z : CellState). z.begun) same) in
         let cells : now ≡ w.cells = ch.set ∙ (ap (set w.cells b) (same ∙ ch.value) ∙ set-get_or w.cells b ch.before) in
-        ap (λ (c : Core). with_cache (with_log (record w { core = c; cells = now }) seen_log) cache) core ∙ (ap (λ (xs : List CellState). with_cache (with_log (record w { cells = xs }) seen_log) cache) cells ∙ seen)
+        ap (λ (c : Core). with_balance (with_cache (with_log (record w { core = c; cells = now }) seen_log) cache) balance) core
+        ∙ (ap (λ (xs : List CellState). with_balance (with_cache (with_log (record w { cells = xs }) seen_log) cache) balance) cells ∙ seen)
 
     -- it changes in what asking and arming change
     module _ (same : ch.after ≡ record ch.before { login = ch.after.login; faults = ch.after.faults; asks = ch.after.asks; arming = ch.after.arming }) where

@@ -32,6 +32,7 @@ pub use Rattle.cj_cluster.specs.declared.moves.TakenDump.{TakenDump}
 pub use Rattle.cj_dump.specs.Coverage.{cut}
 pub use Rattle.cj_dump.specs.declared.dump.Dump.{Dump}
 pub use Rattle.cj_freshness.specs.Freshness.{FollowsLog, IsFreshAnswer}
+pub use Rattle.cj_model.specs.Cluster.Balancing.{Balance}
 pub use Rattle.cj_model.specs.Cluster.Caching.{CacheState}
 pub use Rattle.cj_model.specs.Cluster.Placements.{Placement, hosts_all, part}
 pub use Rattle.cj_model.specs.Database.Outcomes.{IsOutcome}
@@ -52,6 +53,7 @@ pub use Rattle.cj_replica.specs.declared.replica.CellReadError.{CellReadError}
 pub use Rattle.cj_shelf.specs.MemoryShelves.{taken_of}
 pub use Rattle.cj_shelf.specs.Shelves.{first_of}
 pub use Rattle.cj_state.specs.ArmedCells.{armings_after, armings_of}
+pub use Rattle.cj_state.specs.Asking.{answered_by, asks_of, asks_with}
 pub use Rattle.cj_state.specs.CalledLogins.{CallsUnder, LogsInToAsk, LogsInToTake, MayCallUnder, logins_of, next_user}
 pub use Rattle.cj_state.specs.Effects.{HadLoggedRoom, HadRoom, HaveFailed, Notes, SchedulesAs}
 pub use Rattle.cj_state.specs.Faults.{did_fail, faults_after, faults_of}
@@ -60,7 +62,7 @@ pub use Rattle.cj_state.specs.Proving.Kept.{Kept, KeptFresh}
 pub use Rattle.cj_state.specs.Proving.Seated.{SpendsAtMostOne, position_in}
 pub use Rattle.cj_state.specs.Proving.Taking.{TookEntry, did_of}
 pub use Rattle.cj_state.specs.Seats.{ChangesCell, states_of}
-pub use Rattle.cj_state.specs.Worlds.{IsCell, IsDumpOf, IsWorld, LogView, WorldState, core_of, with_cache, with_log, world_of}
+pub use Rattle.cj_state.specs.Worlds.{IsCell, IsDumpOf, IsWorld, LogView, WorldState, core_of, with_balance, with_cache, with_log, world_of}
 pub use Rattle.std.proofs.Math.Seq.{map-set_same}
 pub use Rattle.std.proofs.lemmas.Bool.{and_cases, and_parts, both_ways, cases_eq, cases_lt, eq-eqb, eqb-true, false_from_ne_true, not-false}
 pub use Rattle.std.proofs.lemmas.List.{get_or-map, get_or-set_other, get_or-set_same, get_or_default, length-map, length-set, map-set}

@@ -1,6 +1,6 @@
--- Counts of faults and of armings, and logins, where one cell changes.
-use Rattle.std.proofs.Common.{◌≡◌, ◌⊎◌, inl, inr, ℕ, ◌<◌, Bool, true, false, cond, List, length, get_or, set, None, Some, ap, sym, ◌∙◌, refl, ⊎_elim}
-use Rattle.cj_state.proofs.Common.{Arming, arming_after, armings_after, armings_of, CallsUnder, CellState, faults_after, faults_of, get_or-map, logins_of, map-set, map-set_same, MayCallUnder, next, spent}
+-- Counts of faults, of armings and of asks, and logins, where one cell changes.
+use Rattle.std.proofs.Common.{◌≡◌, ◌≢◌, ◌⊎◌, inl, inr, ℕ, zero, suc, ◌<◌, Bool, true, false, cond, List, [], ◌∷◌, length, get_or, set, slice_get, None, Some, ap, sym, ◌∙◌, refl, ⊎_elim}
+use Rattle.cj_state.proofs.Common.{Arming, arming_after, armings_after, armings_of, asks_of, asks_with, CallsUnder, CellState, faults_after, faults_of, get_or-map, logins_of, map-set, map-set_same, MayCallUnder, next, spent}
 
 -- the backend of cell b failed or did not, and this cell alone has changed
 pub counts_set : (cells : List CellState) (b : ℕ) (y : CellState) (failed : Bool) → b < length cells → y.faults ≡ cond failed (next (get_or cells b y).faults) (get_or cells b y).faults
@@ -17,6 +17,22 @@ armings_set cells b y true lt counted =
     let was : get_or (armings_of cells) b 0 ≡ (get_or cells b y).arming.times = get_or-map (λ (x : CellState). x.arming.times) cells b y 0 lt in
     map-set (λ (x : CellState). x.arming.times) cells b y ∙ ap (set (armings_of cells) b) (counted ∙ ap next (sym was))
 armings_set cells b y false lt same = map-set_same (λ (x : CellState). x.arming.times) cells b y y same
+
+-- the backend of cell b answered a query or did not, and this cell alone has changed
+pub asks_set : (cells : List CellState) (b : ℕ) (y : CellState) (answered : Bool) → b < length cells → y.asks ≡ cond answered (next (get_or cells b y).asks) (get_or cells b y).asks
+    → asks_of (set cells b y) ≡ asks_with (asks_of cells) (cond answered (Some b) None)
+asks_set cells b y true lt counted =
+    let was : get_or (asks_of cells) b 0 ≡ (get_or cells b y).asks = get_or-map (λ (x : CellState). x.asks) cells b y 0 lt in
+    map-set (λ (x : CellState). x.asks) cells b y ∙ ap (set (asks_of cells) b) (counted ∙ ap next (sym was))
+asks_set cells b y false lt same = map-set_same (λ (x : CellState). x.asks) cells b y y same
+
+-- where one place of a list is set, the others are as they were
+pub got_other : {A : Type 0} (xs : List A) (b k : ℕ) (v : A) → k ≢ b → slice_get (set xs b v) k ≡ slice_get xs k
+got_other [] b k v other = refl
+got_other (x ∷ xs) zero zero v other = absurd (other refl)
+got_other (x ∷ xs) zero (suc k) v other = refl
+got_other (x ∷ xs) (suc b) zero v other = refl
+got_other (x ∷ xs) (suc b) (suc k) v other = got_other xs b k v (λ same. other (ap suc same))
 
 -- arming counts once, of those that can be armed
 pub armed_times : (can : Bool) (a : Arming) → (arming_after can a).times ≡ cond can (next a.times) a.times

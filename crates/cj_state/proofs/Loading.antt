@@ -1,7 +1,7 @@
 -- A cell that was out, and holds what a dump has of its tables.
 use Rattle.std.proofs.Common.{◌≡◌, ℕ, ◌<◌, ◌≤◌, Bool, true, false, List, length, map, get_or, set, OnErr, Option, None, Some, Result, Ok, Err, refl, ap, sym, ◌∙◌, subst, ⊎_elim}
 use Rattle.std.specs.Prelude.{IsErrAnd}
-use Rattle.cj_state.proofs.Common.{Arming, both_ways, CacheState, can_load, cases_eq, CellError, ChangesCell, CoreInvariant, database_after, Dump, failed_contents, find_dump, get_or-set_other, HasBegunDrafts, HoldsPart, is_enabled, is_idle, IsCell, IsSoundDump, Kept, length-map, Load, log, LogView, map-set, not_now, Outcome, part, position_at, Slot, spent, Stance, taken_of, with_cache, with_log, with_stance, WorldState}
+use Rattle.cj_state.proofs.Common.{Arming, Balance, both_ways, CacheState, can_load, cases_eq, CellError, ChangesCell, CoreInvariant, database_after, Dump, failed_contents, find_dump, get_or-set_other, HasBegunDrafts, HoldsPart, is_enabled, is_idle, IsCell, IsSoundDump, Kept, length-map, Load, log, LogView, map-set, not_now, Outcome, part, position_at, Slot, spent, Stance, taken_of, with_balance, with_cache, with_log, with_stance, WorldState}
 use Rattle.cj_cluster.proofs.Effects.{sound_loaded}
 use Rattle.cj_replica.specs.declared.replica.CellError.TheVariants as errors
 use Rattle.cj_replica.specs.Cells.{CellState, Loads, SpendsArmingAtLoad}
@@ -39,7 +39,7 @@ pub record CanLoadFrom (tells : Bool) (w : WorldState) (b : ℕ) (db : List Slot
   pub logged : n ≤ length (log w.core.history)
   pub right : tells ≡ true → db ≡ part w.core.placement b (database_after (log w.core.history) n)
 
-module _ {tells : Bool} {w : WorldState} {numbers : List ℕ} {first_outcome : Option Outcome} (kept : Kept tells w numbers first_outcome) {seen_log : LogView} {cache : CacheState} {old : WorldState} (seen : with_cache (with_log w seen_log) cache ≡ old)
+module _ {tells : Bool} {w : WorldState} {numbers : List ℕ} {first_outcome : Option Outcome} (kept : Kept tells w numbers first_outcome) {seen_log : LogView} {cache : CacheState} {balance : Balance} {old : WorldState} (seen : with_balance (with_cache (with_log w seen_log) cache) balance ≡ old)
     {b : ℕ} where
   pub loads_from : (name : List ℕ) (d : Dump) → not_now old.core (Load b name) ≡ None → find_dump old.core.dumps name ≡ Some (taken_of d) → (tells ≡ true → d.db ≡ part old.core.placement b (database_after (log old.core.history) d.position))
       → CanLoadFrom tells w b d.db d.position

@@ -1,6 +1,6 @@
 -- What a world keeps where a backend takes an entry.
 use Rattle.std.proofs.Common.{◌≡◌, ◌≢◌, ℕ, ◌+◌, ◌<◌, ◌≤◌, Bool, true, false, cond, List, [], length, map, get_or, set, slice_get, Option, None, Some, IsSome, Ok, refl, ap, sym, ◌∙◌, subst, arith, ⊎_elim}
-use Rattle.cj_state.proofs.Common.{Act, armings_of, both_ways, CacheState, cases_eq, CellState, ChangesCell, core_of, CoreInvariant, Did, did_fail, Dump, ended_count, Entry, entry_in_progress, Event, faults_after, faults_of, get_or-set_other, get_or-set_same, get_or_default, is_enabled, is_idle, IsCell, IsOutcome, IsWorld, Kept, Layout, log, login_of, LogView, map-set, OpenSession, Outcome, outcome_of, Placement, placement_of, Register, slice_get_within, stand_rest, takes_part, with_cache, with_log, world_of, WorldState}
+use Rattle.cj_state.proofs.Common.{Act, armings_of, asks_of, Balance, both_ways, CacheState, cases_eq, CellState, ChangesCell, core_of, CoreInvariant, Did, did_fail, Dump, ended_count, Entry, entry_in_progress, Event, faults_after, faults_of, get_or-set_other, get_or-set_same, get_or_default, is_enabled, is_idle, IsCell, IsOutcome, IsWorld, Kept, Layout, log, login_of, LogView, map-set, OpenSession, Outcome, outcome_of, Placement, placement_of, Register, slice_get_within, stand_rest, takes_part, with_balance, with_cache, with_log, world_of, WorldState}
 use Rattle.cj_model.specs.declared.request.Act.TheVariants as act
 use Rattle.cj_cluster.specs.declared.moves.Did.TheVariants as did
 use Rattle.cj_cluster.specs.declared.moves.Moved.TheVariants as moved
@@ -9,7 +9,7 @@ use Rattle.cj_cluster.specs.Moves.Moves.{Stance, position_or_zero, TakesEntry, D
 use Rattle.cj_cluster.proofs.Effects.{sound_applied, sound_replayed, stands_there, is_there}
 use Rattle.cj_state.specs.Proving.Taking.{TookEntry, first_outcome_after}
 use Rattle.cj_state.specs.CalledLogins.{logins_of, login_to_take, next_user, LogsInToTake}
-use Rattle.cj_state.proofs.ChangedCell.{changed_armings, changed_faults, has_cell}
+use Rattle.cj_state.proofs.ChangedCell.{changed_armings, changed_asks, changed_faults, changed_others, has_cell}
 use Rattle.cj_state.proofs.CellsKept.{cells_set, position_of}
 
 -- who takes part in an act with no transaction begun does so with any
@@ -161,7 +161,7 @@ module _ (tells : Bool) (reg : Register) (l : Layout) (h : List Event) (cells : 
 
 -- ---- what is counted
 
-module _ {tells : Bool} {w : WorldState} {numbers : List ℕ} {first_outcome : Option Outcome} (kept : Kept tells w numbers first_outcome) {seen_log : LogView} {cache : CacheState} {old : WorldState} (seen : with_cache (with_log w seen_log) cache ≡ old)
+module _ {tells : Bool} {w : WorldState} {numbers : List ℕ} {first_outcome : Option Outcome} (kept : Kept tells w numbers first_outcome) {seen_log : LogView} {cache : CacheState} {balance : Balance} {old : WorldState} (seen : with_balance (with_cache (with_log w seen_log) cache) balance ≡ old)
     {b : ℕ} (within : b < old.core.placement.backends) {l : Layout} {d : Did} {now : List CellState} (took : TookEntry tells w.setup.register.accounts l w.core.history w.cells b d now) where
   abbrev change : ChangesCell w.cells b (λ x y. Unit) now
   change = record { before = get_or w.cells b took.cell; after = took.cell; value = get_or_default w.cells b took.cell (get_or w.cells b took.cell) (has_cell kept seen within); set = took.set; how = tt }
@@ -172,6 +172,13 @@ module _ {tells : Bool} {w : WorldState} {numbers : List ℕ} {first_outcome : O
   -- it arms no backend
   pub took_armings : armings_of now ≡ armings_of old.cells
   took_armings = changed_armings kept seen within change false took.armings
+
+  -- it answers no query
+  pub took_asks : asks_of now ≡ asks_of old.cells
+  took_asks = changed_asks kept seen within change false took.asks
+
+  pub took_others : (k : ℕ) → k ≢ b → slice_get now k ≡ slice_get old.cells k
+  took_others k other = changed_others kept seen within change k other
 
   -- it is called under the login of the entry's user
   pub took_logins : LogsInToTake b (login_to_take old b) d (logins_of old.cells) (logins_of now)

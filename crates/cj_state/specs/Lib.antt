@@ -1,4 +1,5 @@
 pub mod ArmedCells
+pub mod Asking
 pub mod Beginnings
 pub mod CalledLogins
 pub mod Effects

@@ -5,6 +5,8 @@ use Rattle.cj_model.specs.declared.request.Entry.{Entry}
 use Rattle.cj_cluster.specs.declared.event.Event.{Event}
 use Rattle.cj_cluster.specs.declared.moves.OpenSession.{OpenSession}
 use Rattle.cj_model.specs.declared.limits.TheConstants.{BACKEND_LIMIT}
+use Rattle.cj_model.specs.declared.policy.Policy.TheVariants.{RoundRobin}
+use Rattle.cj_model.specs.Cluster.Balancing.{Balance, at_rest}
 use Rattle.cj_model.specs.Cluster.Caching.{CacheState, empty_cache}
 use Rattle.cj_model.specs.Cluster.Placements.{Placement, part}
 use Rattle.cj_cluster.specs.History.Histories.{log, database_after}
@@ -30,13 +32,14 @@ pub record LogView : Type 0 where
   pub faults : ℕ
   pub bytes : List ℕ
 
--- the state that moves change, the cells of the backends by their numbers, what no move changes, what is seen of the recovery log, and the answers kept of queries
+-- the state that moves change, the cells of the backends by their numbers, what no move changes, what is seen of the recovery log, the answers kept of queries, and what the balancer knows of its picks
 pub record WorldState : Type 0 where
   pub core : Core
   pub cells : List CellState
   pub setup : Setup
   pub recovery_log : LogView
   pub cache : CacheState
+  pub balance : Balance
 
 -- what is seen of a log
 abbrev pub log_view : {S : Type 0} → (S → ℕ) → (S → List ℕ) → LogState S → LogView
@@ -49,6 +52,10 @@ with_log w log = record w { recovery_log = log }
 -- the world with this cache
 abbrev pub with_cache : WorldState → CacheState → WorldState
 with_cache w cache = record w { cache = cache }
+
+-- the world with this balance
+abbrev pub with_balance : WorldState → Balance → WorldState
+with_balance w balance = record w { balance = balance }
 
 -- the world's cache has fresh answers alone
 abbrev pub IsFresh : Bool → WorldState → Type 0
@@ -89,10 +96,14 @@ core_of l h cells failed starved sessions greatest dumps =
 abbrev pub unseen_log : LogView
 unseen_log = record { faults = 0; bytes = [] }
 
--- the world of these, but for its log and its cache
+-- a balancer without backends
+abbrev pub unseen_balance : Balance
+unseen_balance = record { policy = RoundRobin; weights = []; standing = at_rest }
+
+-- the world of these, but for its log, its cache and its balance
 abbrev pub world_of : Register → Layout → List Event → List CellState → ℕ → ℕ → List OpenSession → ℕ → List Dump → WorldState
 world_of register l h cells failed starved sessions greatest dumps =
-    record { core = core_of l h cells failed starved sessions greatest dumps; cells = cells; setup = record { names = l.names; register = register }; recovery_log = unseen_log; cache = empty_cache 0 }
+    record { core = core_of l h cells failed starved sessions greatest dumps; cells = cells; setup = record { names = l.names; register = register }; recovery_log = unseen_log; cache = empty_cache 0; balance = unseen_balance }
 
 -- the cell of backend b that holds its part of the database after the entries that it has taken
 pub record IsCell (tells : Bool) (p : Placement) (entries : List Entry) (b : ℕ) (x : CellState) : Type 0 where

@@ -1,6 +1,6 @@
 //! The state of a world, and the parts of moves: each a change of it that keeps it whole.
 
-ghost use Rattle.std.specs.Prelude.{option_copied, ◌≡◌, ◌↔◌, ℕ, List, ◌+◌, ◌<◌, ◌≤◌, ◌^◌, ◌==◌, ◌||◌, true, false, [], length, map, is_some, IsNone, IfSome, IfOk, IsErrOf, MatchBool, OnOk, OnErr, Some, None, Ok, Err, if◌then◌else◌};
+ghost use Rattle.std.specs.Prelude.{option_copied, ◌≡◌, ◌↔◌, ℕ, List, ◌+◌, ◌<◌, ◌≤◌, ◌^◌, ◌==◌, ◌||◌, true, false, [], length, map, slice_get, is_some, ◌≢◌, IsNone, IfSome, IfOk, IsErrOf, MatchBool, OnOk, OnErr, Some, None, Ok, Err, if◌then◌else◌};
 ghost use Rattle.cj_model.specs.declared.request.Entry.{Entry};
 ghost use Rattle.cj_model.specs.declared.request.Request.TheVariants as request;
 ghost use Rattle.cj_model.specs.Sql.PlainRequests.{request_of};
@@ -18,7 +18,7 @@ ghost use Rattle.std.specs.Bool.{OnTrue};
 ghost use Rattle.cj_auth.specs.Admission.{admits};
 ghost use Rattle.cj_auth.specs.Kept.{IsUserName};
 ghost use Rattle.cj_replica.specs.Cells.{CellState};
-ghost use Rattle.cj_state.specs.Worlds.{accounts_of, log_view, with_cache, CacheFollowsLog, IsFresh, IsSameButLog, IsWorld, KeepsHistory};
+ghost use Rattle.cj_state.specs.Worlds.{accounts_of, log_view, with_balance, with_cache, CacheFollowsLog, IsFresh, IsSameButLog, IsWorld, KeepsHistory};
 ghost use Rattle.cj_model.specs.declared.cached.Cached.{Cached};
 ghost use Rattle.cj_model.specs.Cluster.Caching.{after_keep, after_look, answer_kept, empty_cache, has_answer};
 ghost use Rattle.cj_model.specs.declared.answer.Asked.TheVariants.{Rows};
@@ -34,6 +34,7 @@ ghost use Rattle.cj_outside.specs.Causes.{CountsFault};
 ghost use Rattle.cj_place.specs.Layouts.{placement_of};
 ghost use Rattle.cj_state.specs.Beginnings.{AreEmpty, AreFresh, opened_core};
 ghost use Rattle.cj_state.specs.ArmedCells.{armed_at, armings_after, armings_of};
+ghost use Rattle.cj_state.specs.Asking.{answered_by, asks_of, asks_with, read_over, PicksFirst};
 ghost use Rattle.cj_state.specs.Held.{failed_contents, IsHeld};
 ghost use Rattle.cj_state.specs.Proving.Seated.{AreAt};
 ghost use Rattle.cj_state.specs.Seats.{states_of};
@@ -90,7 +91,7 @@ pub struct State<B: Backend, S: Store> {
 }
 
 impl<B: Backend, S: Store> Model for State<B, S> {
-    ghost use Rattle.cj_state.specs.Worlds.{WorldState, log_view, with_cache, with_log, world_of};
+    ghost use Rattle.cj_state.specs.Worlds.{WorldState, log_view, with_balance, with_cache, with_log, world_of};
 
     ghost Value = { WorldState };
 
@@ -104,7 +105,7 @@ impl<B: Backend, S: Store> Model for State<B, S> {
     ghost use Rattle.cj_state.specs.Proving.Seated.{AreAt, IsReady};
     ghost use Rattle.cj_state.specs.Seats.{states_of};
 
-    ghost view = { λ w. with_cache (with_log (world_of w.accounts w.book.state.layout w.book.state.history (states_of w.cells.items) w.failed w.starved w.sessions w.book.state.greatest w.dumps) (log_view S.faults S.held w.book.state.recovery_log)) w.book.state.cache };
+    ghost view = { λ w. with_balance (with_cache (with_log (world_of w.accounts w.book.state.layout w.book.state.history (states_of w.cells.items) w.failed w.starved w.sessions w.book.state.greatest w.dumps) (log_view S.faults S.held w.book.state.recovery_log)) w.book.state.cache) w.book.state.balance };
 
     ghost invariant = { λ w. KeptSeated B.tells (world_of w.accounts w.book.state.layout w.book.state.history (states_of w.cells.items) w.failed w.starved w.sessions w.book.state.greatest w.dumps) w.book.state.sessions w.first_outcome w.book.state.cache w.dumps
         (AreAt (board_id w.board) (pass_board w.pass) w.book.board w.cells.items × IsReady w.book.view w.failed) };
@@ -194,6 +195,7 @@ impl<B: Backend + Drop, S: Store + Drop> State<B, S> {
         ensures setup { result.setup ≡ record { names = book.state.layout.names; register = accounts } }
         ensures recovery_log { result.recovery_log ≡ log_view S.faults S.held book.state.recovery_log }
         ensures cache { result.cache ≡ book.state.cache }
+        ensures balance { result.balance ≡ book.state.balance }
     {
         State {
             alloc,
@@ -596,8 +598,9 @@ impl<B: Backend, S: Store> State<B, S> {
     pub fn pick(&mut self, candidates: u32) -> Option<u8>
         requires { candidates < 2 ^ BACKEND_LIMIT }
         ensures none { IsNone result ↔ (candidates ≡ 0) }
-        ensures some { IfSome result (λ b. in_mask candidates b ≡ true) }
-        ensures same { self.new ≡ self.old }
+        ensures first { IfSome result (PicksFirst self.old.balance candidates) }
+        ensures picked { IfSome result (λ b. self.new ≡ with_balance self.old (read_over self.old.balance b)) }
+        ensures same { IsNone result → self.new ≡ self.old }
     {
         let b = self.book.pick(candidates)?;
         self.book.ended(b);
@@ -724,10 +727,13 @@ impl<B: Backend, S: Store> State<B, S> {
         ensures applies { Applies B.tells self.old.core b (Ok (Moved.Applied b result)) self.new.core }
         ensures counts { faults_of self.new.cells ≡ faults_after (faults_of self.old.cells) (if did_fail result then Some b else None) }
         ensures armings { armings_of self.new.cells ≡ armings_of self.old.cells }
+        ensures asks { asks_of self.new.cells ≡ asks_of self.old.cells }
+        ensures others { (k : ℕ) → k ≢ b → slice_get self.new.cells k ≡ slice_get self.old.cells k }
         ensures logins { LogsInToTake b (login_to_take self.old b) result (logins_of self.old.cells) (logins_of self.new.cells) }
         ensures recovery_log { self.new.recovery_log ≡ self.old.recovery_log }
         ensures setup { self.new.setup ≡ self.old.setup }
         ensures cache { self.new.cache ≡ self.old.cache }
+        ensures balance { self.new.balance ≡ self.old.balance }
     {
         let did = take(
             &self.board,
@@ -754,6 +760,7 @@ impl<B: Backend, S: Store> State<B, S> {
         ensures recovery_log { self.new.recovery_log ≡ self.old.recovery_log }
         ensures setup { self.new.setup ≡ self.old.setup }
         ensures cache { self.new.cache ≡ self.old.cache }
+        ensures balance { self.new.balance ≡ self.old.balance }
     {
         take(
             &self.board,
@@ -784,12 +791,15 @@ impl<B: Backend, S: Store> State<B, S> {
         ensures core { self.new.core ≡ asked_core self.old.core s b result }
         ensures asks { Asks B.tells self.old.core s b tx select.now result }
         ensures counts { faults_of self.new.cells ≡ faults_after (faults_of self.old.cells) (failed_asked b result) }
+        ensures answered { asks_of self.new.cells ≡ asks_with (asks_of self.old.cells) (answered_by b result) }
+        ensures others { (k : ℕ) → k ≢ b → slice_get self.new.cells k ≡ slice_get self.old.cells k }
         ensures armings { armings_of self.new.cells ≡ armings_of self.old.cells }
         ensures logins { LogsInToAsk b (login_of (accounts_of self.old) (asked_for self.old.core.sessions s (option_copied user.entry)) b) result (logins_of self.old.cells) (logins_of self.new.cells) }
         ensures want { IsErrOf result AskError.NoMemory → self.new ≡ self.old }
         ensures recovery_log { self.new.recovery_log ≡ self.old.recovery_log }
         ensures setup { self.new.setup ≡ self.old.setup }
         ensures cache { self.new.cache ≡ self.old.cache }
+        ensures balance { self.new.balance ≡ self.old.balance }
     {
         let least = self.least(s);
         let number = self.read_number(s);
@@ -826,6 +836,7 @@ impl<B: Backend, S: Store> State<B, S> {
         ensures recovery_log { self.new.recovery_log ≡ self.old.recovery_log }
         ensures setup { self.new.setup ≡ self.old.setup }
         ensures cache { self.new.cache ≡ self.old.cache }
+        ensures balance { self.new.balance ≡ self.old.balance }
     {
         contents_at(&self.board, &mut self.cells, b)
     }
@@ -841,6 +852,7 @@ impl<B: Backend, S: Store> State<B, S> {
         ensures recovery_log { self.new.recovery_log ≡ self.old.recovery_log }
         ensures setup { self.new.setup ≡ self.old.setup }
         ensures cache { self.new.cache ≡ self.old.cache }
+        ensures balance { self.new.balance ≡ self.old.balance }
     {
         arm_at(&mut self.cells, b);
     }
@@ -968,6 +980,7 @@ impl<B: Backend, S: Store> State<B, S> {
         ensures recovery_log { self.new.recovery_log ≡ self.old.recovery_log }
         ensures setup { self.new.setup ≡ self.old.setup }
         ensures cache { self.new.cache ≡ self.old.cache }
+        ensures balance { self.new.balance ≡ self.old.balance }
     {
         let Dump { position, db, .. } = self.cut_dump(b, name)?;
         load_at(

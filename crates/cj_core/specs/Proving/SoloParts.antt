@@ -1,5 +1,5 @@
 -- The parts of a call of a session over a whole world.
-use Rattle.std.specs.Prelude.{◌≡◌, ◌⊎◌, ℕ, ◌+◌, ◌<◌, ◌≤◌, ◌==◌, if◌then◌else◌, Bool, true, List, [], length, Result, Ok, Err}
+use Rattle.std.specs.Prelude.{◌≡◌, ◌≢◌, ◌⊎◌, ℕ, ◌+◌, ◌<◌, ◌≤◌, ◌==◌, if◌then◌else◌, Bool, true, false, List, [], length, slice_get, Result, Ok, Err}
 use Rattle.std.specs.Option.{option_map_or}
 use Rattle.std.specs.declared.option.Option.{Option}
 use Rattle.std.specs.declared.option.Option.TheVariants.{None, Some}
@@ -21,16 +21,19 @@ use Rattle.cj_cluster.specs.declared.event.Event.TheVariants.{LogFailed, ReadFai
 use Rattle.cj_cluster.specs.History.Histories.{log, is_enabled, entry_in_progress, events_left, database_of}
 use Rattle.cj_cluster.specs.History.Answering.{HasServer, HasNoServer}
 use Rattle.cj_cluster.specs.History.Turns.{Call}
-use Rattle.cj_cluster.specs.Moves.Cores.{Core, position_at, session_at}
+use Rattle.cj_cluster.specs.Moves.Cores.{Core, begun_at, position_at, session_at}
 use Rattle.cj_cluster.specs.Moves.Moves.{last_number, history_full, scheduled_as, first_lagging, with_request_counted, with_read, answered_at, was_answered, happened, ended_for}
 use Rattle.cj_cluster.specs.Proving.Invariants.{CoreInvariant}
-use Rattle.cj_state.specs.CalledLogins.{logins_of}
+use Rattle.cj_model.specs.Cluster.Accounts.{login_of}
+use Rattle.cj_model.specs.Cluster.Masks.{in_mask}
+use Rattle.cj_state.specs.Asking.{asks_of, asks_with}
+use Rattle.cj_state.specs.CalledLogins.{logins_of, CallsUnder, MayCallUnder}
 use Rattle.cj_state.specs.Worlds.{WorldState, accounts_of, with_cache, CacheFollowsLog, IsSameButLog}
 use Rattle.cj_state.specs.Faults.{faults_of, faults_after}
 use Rattle.cj_state.specs.Effects.{with_core, AnswersOpen, SchedulesAs}
 use Rattle.cj_moves.specs.Counting.{log_faults_after}
 use Rattle.cj_model.specs.Cluster.Caching.{CacheState, answer_kept}
-use Rattle.cj_core.specs.Solos.{AreBackendsOf, AreCalledFor, faults_counted, mask_with, with_answer}
+use Rattle.cj_core.specs.Solos.{AreBackendsOf, AreCalledFor, IsPartOf, faults_counted, is_masked, mask_with, with_answer}
 
 -- the session's next request
 abbrev pub call_of : Core → ℕ → ℕ → List ℕ → Request → Reply → Call
@@ -71,6 +74,29 @@ pub record EntryTaken (user : List ℕ) (old new : WorldState) : Type 0 where
   pub mask : new.core.failed ≡ mask_with old.core.failed failed
   pub faults : faults_of new.cells ≡ faults_counted (faults_of old.cells) failed
   pub logins : AreCalledFor (accounts_of old) user (logins_of old.cells) (logins_of new.cells)
+  pub asks : asks_of new.cells ≡ asks_of old.cells
+  pub balance : new.balance ≡ old.balance
+
+-- the backend is neither out nor at the log's end
+pub record IsDue (c : Core) (b : ℕ) : Type 0 where
+  pub p : ℕ
+  pub stands : position_at c b ≡ Some p
+  pub more : p ≢ last_number c
+
+-- Backend b has taken the open entry for its user, where it takes part in that; one that isn't enabled is as it was.
+pub record TakesOpen (old new : WorldState) (b : ℕ) : Type 0 where
+  pub did : (e : Entry) → entry_in_progress old.core.history ≡ Some e → IsDue old.core b → IsPartOf old.core e b → is_masked new.core.failed new.core.starved b ≡ false
+      → slice_get (logins_of new.cells) b ≡ Some (Some (login_of (accounts_of old) e.user b))
+  pub skipped : (e : Entry) → entry_in_progress old.core.history ≡ Some e → (IsPartOf old.core e b → ⊥) → slice_get (logins_of new.cells) b ≡ slice_get (logins_of old.cells) b
+  pub disabled : is_enabled old.core.history b ≡ false → slice_get new.cells b ≡ slice_get old.cells b
+
+-- Backend b has nothing to do with what happened: its cell, where it stands, and the masks.
+pub record IsLeft (old new : WorldState) (b : ℕ) : Type 0 where
+  pub cell : slice_get new.cells b ≡ slice_get old.cells b
+  pub position : position_at new.core b ≡ position_at old.core b
+  pub begun : begun_at new.core b ≡ begun_at old.core b
+  pub failed : in_mask new.core.failed b ≡ in_mask old.core.failed b
+  pub starved : in_mask new.core.starved b ≡ in_mask old.core.starved b
 
 -- the backend stands at the log's end, where it is enabled and not out
 abbrev pub HasTakenEntry : Core → ℕ → Type 0
@@ -81,10 +107,24 @@ pub record EntryEnded (tells : Bool) (s : ℕ) (user : List ℕ) (old : WorldSta
   pub mid : WorldState
   pub taken : EntryTaken user old mid
   pub everywhere : first_lagging mid.core.history 0 mid.core.positions ≡ None
+  pub each : (b : ℕ) → TakesOpen old mid b
   pub answer : AnswersOpen tells mid.core reply
   pub ended : new ≡ with_core mid (ended_for mid.core s)
   pub was_sound : CoreInvariant mid.core
   pub is_sound : CoreInvariant new.core
+
+-- Backend b alone was called for this user, and did or didn't answer a query.
+pub record CallsOne (user : List ℕ) (b : ℕ) (answered : Bool) (old new : WorldState) : Type 0 where
+  pub asks : asks_of new.cells ≡ asks_with (asks_of old.cells) (if answered then Some b else None)
+  pub under : answered ≡ true → CallsUnder b (login_of (accounts_of old) user b) (logins_of old.cells) (logins_of new.cells)
+  pub maybe : MayCallUnder b (login_of (accounts_of old) user b) (logins_of old.cells) (logins_of new.cells)
+  pub others : (k : ℕ) → k ≢ b → slice_get new.cells k ≡ slice_get old.cells k
+  pub balance : new.balance ≡ old.balance
+
+-- no backend was called
+pub record CallsNobody (old new : WorldState) : Type 0 where
+  pub cells : new.cells ≡ old.cells
+  pub balance : new.balance ≡ old.balance
 
 -- the backend answered, at the log's end
 pub record QueryAnswered (tells : Bool) (s tx : ℕ) (select : Select) (old : WorldState) (reply : Reply) (new : WorldState) : Type 0 where
@@ -116,9 +156,10 @@ pub record QueryFailed (s b : ℕ) (old new : WorldState) : Type 0 where
   pub faults : faults_of new.cells ≡ faults_after (faults_of old.cells) (Some b)
 
 -- what backend b was asked by session s came to: an answer or a refusal, or none where it failed
-abbrev pub AttemptsQuery : Bool → ℕ → ℕ → ℕ → Select → WorldState → Option Reply → WorldState → Type 0
-AttemptsQuery tells s b tx select old (Some reply) new = QueryAnswered tells s tx select old reply new ⊎ QueryUnnoted s b old reply new ⊎ QueryStarved s old reply new
-AttemptsQuery tells s b tx select old None new = QueryFailed s b old new
+abbrev pub AttemptsQuery : Bool → ℕ → ℕ → List ℕ → ℕ → Select → WorldState → Option Reply → WorldState → Type 0
+AttemptsQuery tells s b user tx select old (Some reply) new =
+    (QueryAnswered tells s tx select old reply new × CallsOne user b true old new) ⊎ (QueryUnnoted s b old reply new × CallsOne user b false old new) ⊎ (QueryStarved s old reply new × (CallsOne user b true old new ⊎ CallsNobody old new))
+AttemptsQuery tells s b user tx select old None new = QueryFailed s b old new × CallsOne user b false old new
 
 -- ---- the result cache
 

@@ -53,6 +53,7 @@ pub record TookEntry (tells : Bool) (accounts : List Account) (l : Layout) (h : 
   pub takes : (failed starved : ℕ) (sessions : List OpenSession) (greatest : ℕ) (dumps : List Dump) → TakesEntry tells (core_of l h cells failed starved sessions greatest dumps) b d (record { position = cell.position; begun = cell.begun })
   pub faults : cell.faults ≡ (if did_fail d then next (slice_index_or cells b cell).faults else (slice_index_or cells b cell).faults)
   pub armings : cell.arming.times ≡ (slice_index_or cells b cell).arming.times
+  pub asks : cell.asks ≡ (slice_index_or cells b cell).asks
   pub logins : LogsInToTake b (login_of accounts (next_user (log h) (slice_index_or cells b cell).position) b) d (logins_of cells) (logins_of now)
 
 -- what the open entry came to, after a backend took it

@@ -7,9 +7,9 @@ pub returns-then-serving-eq0-clause-turn : goal.returns-then-serving-eq0-clause-
 returns-then-serving-eq0-clause-turn g c =
     let old : WorldState = c.args.state.now in
     let begins = query_begins c.args.s c.args.user.now old c.serving-serving.result c.legal.ensures.world.sound in
-    counted_turn g.B.Backend.tells c.args.s c.args.tx c.args.user.now c.args.select.now old old c.serving-serving.result c.serving-serving.result c.legal.ensures.world.sound c.requires.tx c.serving-serving.ensures.mask begins
-    c.requires.stands c.refuse.new.state c.refuse.result c.refuse.ensures.counted
-    (unserved g.B.Backend.tells c.args.s c.args.tx c.args.user.now c.args.select.now old old c.serving-serving.result c.serving-serving.result c.legal.ensures.world.sound c.requires.tx c.serving-serving.ensures.mask begins
+    counted_turn g.B.Backend.tells c.args.s c.args.tx c.args.user.now c.args.select.now old old c.serving-serving.result c.serving-serving.result c.legal.ensures.world.sound c.requires.tx c.serving-serving.ensures.mask old.balance begins
+    c.requires.stands refl c.refuse.new.state c.refuse.result c.refuse.ensures.counted
+    (unserved g.B.Backend.tells c.args.s c.args.tx c.args.user.now c.args.select.now old old c.serving-serving.result c.serving-serving.result c.legal.ensures.world.sound c.requires.tx c.serving-serving.ensures.mask old.balance begins
     c.refuse.result c.if-serving-eq0.true (c.refuse.ensures.reply ∙ ap (λ (r : Refusal). Refused r) c.of_code.ensures))
 
 pub returns-then-serving-eq0-clause-cache : goal.returns-then-serving-eq0-clause-cache
@@ -50,7 +50,7 @@ returns-then-look-clause-turn g c =
     (all_looked (IsFreshAnswer g.B.Backend.tells (log old.core.history)) s old.cache c.legal.ensures.fresh) outside c.serving-serving.ensures.mask c.if-serving-eq0.false (omega arith) c.requires.stands c.reply_kept.new.state c.reply_kept.result)
     c.reply_kept.ensures
     in
-    turn_before_look g.B.Backend.tells c.args.s old (after_look s old.cache) (call_of old.core c.args.s c.args.tx c.args.user.now (requests.Select s) c.reply_kept.result) c.reply_kept.new.state
+    turn_before_look g.B.Backend.tells c.args.s s old (call_of old.core c.args.s c.args.tx c.args.user.now (requests.Select s) c.reply_kept.result) c.reply_kept.new.state refl
     (subst (λ (w : WorldState). WorldTurn g.B.Backend.tells c.args.s w (call_of w.core c.args.s c.args.tx c.args.user.now (requests.Select s) c.reply_kept.result) c.reply_kept.new.state) is turn)
 
 pub returns-then-look-clause-cache : goal.returns-then-look-clause-cache
@@ -70,7 +70,7 @@ pub returns-clause-turn : goal.returns-clause-turn
 returns-clause-turn g c =
     let old : WorldState = c.args.state.now in
     let s : Select = c.args.select.now in
-    turn_before_look g.B.Backend.tells c.args.s old (after_look s old.cache) (call_of old.core c.args.s c.args.tx c.args.user.now (requests.Select s) c.ask_in_turn-2.result) c.ask_in_turn-2.new.state
+    turn_before_look g.B.Backend.tells c.args.s s old (call_of old.core c.args.s c.args.tx c.args.user.now (requests.Select s) c.ask_in_turn-2.result) c.ask_in_turn-2.new.state refl
     (subst (λ (w : WorldState). WorldTurn g.B.Backend.tells c.args.s w (call_of w.core c.args.s c.args.tx c.args.user.now (requests.Select s) c.ask_in_turn-2.result) c.ask_in_turn-2.new.state) c.look.ensures.looked c.ask_in_turn-2.ensures.turn)
 
 pub returns-clause-cache : goal.returns-clause-cache

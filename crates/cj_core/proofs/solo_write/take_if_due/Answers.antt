@@ -1,5 +1,5 @@
-use Rattle.std.proofs.Common.{◌≡◌, None, rules}
-use Rattle.cj_core.proofs.Cited.{Apply, not_now, took}
+use Rattle.std.proofs.Common.{◌≡◌, false, None, rules}
+use Rattle.cj_core.proofs.Cited.{Apply, is_idle, left_alone, left_same, not_due, not_now, took, takes_open}
 use Rattle.cj_core.proofs.solo_write.take_if_due.Goals as goal
 
 pub returns-then-is_none-clause-taken : goal.returns-then-is_none-clause-taken
@@ -7,3 +7,21 @@ returns-then-is_none-clause-taken g c =
     let now : not_now c.args.state.now.core (Apply c.args.b) ≡ None = search rules in
     let took_open = c.take_open.ensures in
     took g.B.Backend.tells c.args.state.now c.take_open.new.self c.args.b c.take_open.result took_open.applies c.legal.ensures.world c.requires.within now took_open.counts took_open.logins took_open.setup took_open.recovery_log took_open.cache
+    took_open.asks took_open.balance
+
+pub returns-then-is_none-clause-here : goal.returns-then-is_none-clause-here
+returns-then-is_none-clause-here g c =
+    let now : not_now c.args.state.now.core (Apply c.args.b) ≡ None = search rules in
+    let took_open = c.take_open.ensures in
+    takes_open g.B.Backend.tells c.args.state.now c.take_open.new.self c.args.b c.take_open.result took_open.applies c.legal.ensures.world c.requires.within now took_open.logins
+
+pub returns-then-is_none-clause-others : goal.returns-then-is_none-clause-others
+returns-then-is_none-clause-others g c = λ k other.
+    let took_open = c.take_open.ensures in
+    left_alone g.B.Backend.tells c.args.state.now c.take_open.new.self c.args.b c.take_open.result took_open.applies k other (took_open.others k other)
+
+pub returns-clause-here : goal.returns-clause-here
+returns-clause-here g c = not_due c.args.state.now c.args.b c.requires.open (λ now. search rules)
+
+pub returns-clause-others : goal.returns-clause-others
+returns-clause-others g c = λ k other. left_same c.args.state.now k

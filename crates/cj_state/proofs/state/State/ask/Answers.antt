@@ -1,5 +1,5 @@
 use Rattle.std.proofs.Common.{ℕ, false, List, Ok, Err, Some, ap, sym, ◌∙◌, subst, refl}
-use Rattle.cj_state.proofs.Cited.{BookState, CellReadError, KeptFresh, LogsInToAsk, Notes, ReadFailed, WorldState, accounts_of, answers, asked_for, at_book, board_id, changed_armings, changed_faults, changed_under, dumps_event, errs, faults_after, faults_of, fresh_event, has_cell, is_asked, kept_asked, kept_read_failed, length-map, login_of, logins_of, noted_core, noted_fault, noted_logins, noted_want, notes_cases, option_copied, pass_board, placement_of, ready_heard, ready_noted, same_core, spent_times, states_of, wanted, world_of, world_stays}
+use Rattle.cj_state.proofs.Cited.{BookState, CellReadError, KeptFresh, LogsInToAsk, Notes, ReadFailed, WorldState, accounts_of, answers, asked_for, at_book, board_id, changed_armings, changed_asks, changed_faults, changed_others, changed_under, dumps_event, errs, faults_after, faults_of, fresh_event, has_cell, is_asked, kept_asked, kept_read_failed, length-map, login_of, logins_of, noted_core, noted_fault, noted_logins, noted_want, notes_cases, option_copied, pass_board, placement_of, ready_heard, ready_noted, same_core, spent_times, states_of, wanted, world_of, world_stays}
 use Rattle.cj_state.proofs.state.State.ask.Goals as goal
 
 pub invariant_of-self : goal.invariant_of-self
@@ -19,6 +19,18 @@ returns-in-Ok-clause-asks g c =
 
 pub returns-in-Ok-clause-counts : goal.returns-in-Ok-clause-counts
 returns-in-Ok-clause-counts g c = let ch = c.in-Ok.ensures.read in changed_faults c.self.invariant.0 c.self.view_is c.requires.within ch false (ch.how.cause.uncounted (λ failed. cc failed))
+
+pub returns-in-Ok-clause-answered : goal.returns-in-Ok-clause-answered
+returns-in-Ok-clause-answered g c = let ch = c.in-Ok.ensures.read in changed_asks c.self.invariant.0 c.self.view_is c.requires.within ch true ch.how.asks
+
+pub returns-in-Ok-clause-others : goal.returns-in-Ok-clause-others
+returns-in-Ok-clause-others g c = λ k other. changed_others c.self.invariant.0 c.self.view_is c.requires.within c.in-Ok.ensures.read k other
+
+pub returns-in-Err-clause-answered : goal.returns-in-Err-clause-answered
+returns-in-Err-clause-answered g c = let ch = c.in-Err.ensures.read in changed_asks c.self.invariant.0 c.self.view_is c.requires.within ch false ch.how.asks
+
+pub returns-in-Err-clause-others : goal.returns-in-Err-clause-others
+returns-in-Err-clause-others g c = λ k other. changed_others c.self.invariant.0 c.self.view_is c.requires.within c.in-Err.ensures.read k other
 
 pub invariant_of-self-in-Err : goal.invariant_of-self-in-Err
 invariant_of-self-in-Err g c =

@@ -3,4 +3,4 @@ use Rattle.cj_state.proofs.Cited.{IsWorld, world_with_log}
 use Rattle.cj_state.proofs.state.State.legal.Goals as goal
 
 pub returns-clause-world : goal.returns-clause-world
-returns-clause-world g c = subst (IsWorld g.B.Backend.tells) c.self.view_is (world_with_log g.B.Backend.tells _ _ _ c.self.invariant.0.world)
+returns-clause-world g c = subst (IsWorld g.B.Backend.tells) c.self.view_is (world_with_log g.B.Backend.tells _ _ _ _ c.self.invariant.0.world)

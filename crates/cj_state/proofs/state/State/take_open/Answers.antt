@@ -1,5 +1,5 @@
 use Rattle.std.proofs.Common.{◌≡◌, None, Ok, sym, subst}
-use Rattle.cj_state.proofs.Cited.{Applied, Applies, Apply, CanApply, WorldState, applies, can_apply, can_take, core_of, kept_applied, not_now, position_at, position_or_zero, ready_taken, states_of, took_armings, took_counts, took_logins}
+use Rattle.cj_state.proofs.Cited.{Applied, Applies, Apply, CanApply, WorldState, applies, can_apply, can_take, core_of, kept_applied, not_now, position_at, position_or_zero, ready_taken, states_of, took_armings, took_asks, took_counts, took_logins, took_others}
 use Rattle.cj_state.proofs.state.State.take_open.Goals as goal
 
 pub take-did-requires-clause-can : goal.take-did-requires-clause-can
@@ -30,6 +30,12 @@ returns-clause-armings g c = took_armings c.self.invariant.0 c.self.view_is c.re
 
 pub returns-clause-logins : goal.returns-clause-logins
 returns-clause-logins g c = took_logins c.self.invariant.0 c.self.view_is c.requires.within c.take-did.ensures.took
+
+pub returns-clause-asks : goal.returns-clause-asks
+returns-clause-asks g c = took_asks c.self.invariant.0 c.self.view_is c.requires.within c.take-did.ensures.took
+
+pub returns-clause-others : goal.returns-clause-others
+returns-clause-others g c = took_others c.self.invariant.0 c.self.view_is c.requires.within c.take-did.ensures.took
 
 pub take-did-requires-clause-numbered : goal.take-did-requires-clause-numbered
 take-did-requires-clause-numbered g c = λ b d lt. (c.self.invariant.0.world.cells b d lt).number
