@@ -5,6 +5,7 @@
 mod asking;
 mod moving;
 mod playing;
+mod starving;
 mod statements;
 mod summary;
 

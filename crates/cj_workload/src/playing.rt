@@ -1,6 +1,6 @@
 //! The workload, statement by statement.
 
-ghost use Rattle.std.specs.Prelude.{◌≡◌, ◌<◌, ◌≤◌, ◌+◌, ◌^◌, ℕ, [], true, IfOk, IsErrOf};
+ghost use Rattle.std.specs.Prelude.{◌≡◌, ◌<◌, ◌≤◌, ◌+◌, ◌^◌, ℕ, [], false, true, IfOk, IsErrOf, OnOk};
 ghost use Rattle.cj_model.specs.declared.request.Request.TheVariants as request;
 ghost use Rattle.cj_model.specs.declared.limits.TheConstants.{REQUEST_LIMIT, SESSION_NUMBER_LIMIT};
 ghost use Rattle.cj_model.specs.Sql.PlainRequests.{request_of};
@@ -10,16 +10,16 @@ ghost use Rattle.cj_cluster.specs.Moves.Cores.{session_at};
 ghost use Rattle.cj_workload.specs.Proving.Keeping.{IsOutside, Keeps};
 ghost use Rattle.cj_workload.specs.Statements.{request_of_statement};
 ghost use Rattle.cj_workload.specs.Summaries.{PlaysWorkload};
-ghost use Rattle.cj_workload.specs.Workloads as workload;
-ghost use Rattle.cj_workload.specs.Workloads.{Begins, PlaysRound, PlaysRounds, TakesTurn};
+ghost use Rattle.cj_workload.specs.Workloads.{Begins, PlaysRound, PlaysRounds, TakesTurn, ends_workload};
 
 use crate::moving::{arm, first_host, repair_each, take_dump};
+use crate::starving::{has_starved, standing_of};
 use crate::statements::{Statement, creation, next_statement};
 use crate::summary::{Summary, sum_up};
 use cj_backend::Backend;
 use cj_core::{Solo, World};
 use cj_desk::Desk;
-use cj_model::{Act, NO_MEMORY, NoMemory, Reply, STARVED_ALL, Select, Text};
+use cj_model::{Act, LOG_FAULT, NO_MEMORY, NoMemory, Reply, STARVED_ALL, Select, Text};
 use cj_outside::{PcgDraw, Store};
 use std::alloc::Global;
 use thiserror::Error;
@@ -33,18 +33,41 @@ pub enum WorkloadError {
     /// A host failed when it was asked what it holds at the end, or none was enabled.
     #[error("no host tells what it holds")]
     Untold,
+    #[error("the log failed")]
+    LogFault,
     #[error("out of memory")]
     NoMemory,
 }
 
-impl From<NoMemory> for WorkloadError {
+/// What ends a workload amid its statements.
+#[derive(Clone, Copy)]
+enum Stop {
+    LogFault,
+    NoMemory,
+}
+
+impl From<NoMemory> for Stop {
     ghost use Rattle.std.specs.Prelude.{◌≡◌};
+    ghost use Rattle.cj_workload.specs.declared.playing.Stop.TheVariants as stops;
+
+    ghost from_gives = { λ _ e. e ≡ stops.NoMemory };
+
+    fn from(_error: NoMemory) -> Stop {
+        Stop::NoMemory
+    }
+}
+
+impl From<Stop> for WorkloadError {
+    ghost use Rattle.std.specs.Prelude.{◌≡◌, ◌⊎◌};
     ghost use Rattle.cj_workload.specs.declared.playing.WorkloadError.TheVariants as errors;
 
-    ghost from_gives = { λ _ e. e ≡ errors.NoMemory };
+    ghost from_gives = { λ _ e. (e ≡ errors.LogFault) ⊎ (e ≡ errors.NoMemory) };
 
-    fn from(_error: NoMemory) -> WorkloadError {
-        WorkloadError::NoMemory
+    fn from(stop: Stop) -> WorkloadError {
+        match stop {
+            Stop::LogFault => WorkloadError::LogFault,
+            Stop::NoMemory => WorkloadError::NoMemory,
+        }
     }
 }
 
@@ -58,18 +81,23 @@ fn nobody(alloc: Global) -> Text
     }
 }
 
-/// Whether the reply says that memory was wanting.
-fn tells_want(reply: &Reply) -> bool
-    ensures { result ≡ workload.tells_want reply.now }
+/// Goes on, unless the reply says that the log's store failed or memory was wanting.
+fn go_on(reply: &Reply) -> Result<(), Stop>
+    ensures { OnOk result (ends_workload reply.now ≡ false) }
 {
-    match reply {
-        Reply::Refused(refusal) => refusal.code == NO_MEMORY || refusal.code == STARVED_ALL,
-        _ => false,
+    if let Reply::Refused(refusal) = reply {
+        if refusal.code == LOG_FAULT {
+            return Err(Stop::LogFault);
+        }
+        if refusal.code == NO_MEMORY || refusal.code == STARVED_ALL {
+            return Err(Stop::NoMemory);
+        }
     }
+    Ok(())
 }
 
 /// A write of the session.
-fn write<B: Backend, S: Store>(solo: &mut Solo<B, S>, user: &Text, act: Act) -> Result<(), NoMemory>
+fn write<B: Backend, S: Store>(solo: &mut Solo<B, S>, user: &Text, act: Act) -> Result<(), Stop>
     requires user { user.now ≡ [] }
     requires room { (session_at solo.old.world.core solo.old.session).queries < REQUEST_LIMIT }
     requires written { IsWritten (request_of act) }
@@ -77,9 +105,11 @@ fn write<B: Backend, S: Store>(solo: &mut Solo<B, S>, user: &Text, act: Act) -> 
     ensures turn { IfOk result (λ _. TakesTurn B.tells solo.old (request_of act) solo.new) }
     ensures keeps { IfOk result (λ _. Keeps 1 0 solo.old solo.new) }
 {
+    let before = standing_of(solo.world());
     let written = Desk::<()>::write(solo, &(), user, 0, act);
-    if tells_want(&written.reply) {
-        return Err(NoMemory);
+    go_on(&written.reply)?;
+    if has_starved(solo.world(), &before) {
+        return Err(Stop::NoMemory);
     }
     Ok(())
 }
@@ -89,7 +119,7 @@ fn read<B: Backend, S: Store>(
     solo: &mut Solo<B, S>,
     user: &Text,
     select: &Select,
-) -> Result<(), NoMemory>
+) -> Result<(), Stop>
     requires user { user.now ≡ [] }
     requires room { (session_at solo.old.world.core solo.old.session).queries < REQUEST_LIMIT }
     requires written { IsWritten (request.Select select.now) }
@@ -97,10 +127,7 @@ fn read<B: Backend, S: Store>(
     ensures keeps { IfOk result (λ _. Keeps 1 0 solo.old solo.new) }
 {
     let reply = Desk::<()>::read(solo, &(), user, 0, select);
-    if tells_want(&reply) {
-        return Err(NoMemory);
-    }
-    Ok(())
+    go_on(&reply)
 }
 
 /// The session's next statement.
@@ -108,7 +135,7 @@ fn take_turn<B: Backend, S: Store>(
     solo: &mut Solo<B, S>,
     user: &Text,
     statement: Statement,
-) -> Result<(), NoMemory>
+) -> Result<(), Stop>
     requires user { user.now ≡ [] }
     requires room { (session_at solo.old.world.core solo.old.session).queries < REQUEST_LIMIT }
     requires written { IsWritten (request_of_statement statement) }
@@ -127,7 +154,7 @@ fn round<B: Backend, S: Store>(
     user: &Text,
     i: u64,
     statement: Statement,
-) -> Result<u64, NoMemory>
+) -> Result<u64, Stop>
     requires user { user.now ≡ [] }
     requires room { (session_at solo.old.world.core solo.old.session).queries < REQUEST_LIMIT }
     requires written { IsWritten (request_of_statement statement) }
@@ -137,7 +164,7 @@ fn round<B: Backend, S: Store>(
 {
     arm(solo, i)?;
     take_turn(solo, user, statement)?;
-    repair_each(solo)
+    Ok(repair_each(solo)?)
 }
 
 /// So many rounds. Answers how many backends were enabled in them.
@@ -147,7 +174,7 @@ fn rounds<B: Backend, S: Store>(
     user: &Text,
     seed: u64,
     count: u64,
-) -> Result<u64, NoMemory>
+) -> Result<u64, Stop>
     requires user { user.now ≡ [] }
     requires few { count < 2 ^ 32 }
     requires room { (session_at solo.old.world.core solo.old.session).queries + count ≤ REQUEST_LIMIT }
@@ -169,7 +196,7 @@ fn begin<B: Backend, S: Store>(
     solo: &mut Solo<B, S>,
     alloc: Global,
     user: &Text,
-) -> Result<(), NoMemory>
+) -> Result<(), Stop>
     requires user { user.now ≡ [] }
     requires room { (session_at solo.old.world.core solo.old.session).queries < REQUEST_LIMIT }
     ensures begins { IfOk result (λ _. Begins B.tells B.can_be_armed solo.old solo.new) }
@@ -189,8 +216,8 @@ fn begin<B: Backend, S: Store>(
 /// Plays the workload of so many statements, drawn from the seed, by a session of its own, and sums it up.
 ///
 /// A table is made and dumped at its first host. Then come the statements, one after another; before some of them a backend is
-/// armed, and behind each one the backends that are out are brought back from the dump. Want of memory ends it, also where it is a
-/// backend's.
+/// armed, and behind each one the backends that are out are brought back from the dump. Want of memory ends it, also where it is one
+/// backend's in an entry that others carried out, and so does a failure of the log's store.
 pub fn play<B: Backend + Drop, S: Store + Drop>(
     alloc: Global,
     world: World<B, S>,
