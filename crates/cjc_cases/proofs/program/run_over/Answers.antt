@@ -7,6 +7,7 @@ returns c = record {
   text = c.run.ensures.text;
   other = c.run.ensures.other;
   quiet = c.run.ensures.quiet;
+  configuration = c.run.ensures.conf;
   stores = c.run.ensures.stores;
   input = c.run.ensures.input;
   output = c.run.ensures.output;
