@@ -10,6 +10,8 @@ pub use Rattle.cj_top.proofs.Common.{AreEmpty, BackendKind, BackendState, Begins
 pub use Rattle.cj_top.proofs.Completed.{answers_whole, cause_as_ok, command_completes, not_failed, refusal_completes, same_cause, same_counts}
 pub use Rattle.cj_top.proofs.NewBackends.{all_alike, any_are_new, flaky_count, flaky_empty, flaky_none, flaky_seen, memory_are_new, new_can_count, none_at, seen_alike, sum_of_none}
 pub use Rattle.cj_top.proofs.PlayedOver.{played_as_configured}
+pub use Rattle.cj_top.proofs.StoresKept.{untouched}
+pub use Rattle.cj_top.proofs.ToldLines.{line_told, line_untold}
 pub use Rattle.cj_top.proofs.Unopened.{failed_where, refuses_log, untouched_log}
 pub use Rattle.cj_top.specs.Configured.{in_memory, is_memory}
 pub use Rattle.cj_state.specs.Worlds.{KeepsHistory}

@@ -6,4 +6,6 @@ pub mod InputScripts
 pub mod InputSessions
 pub mod NewBackends
 pub mod PlayedOver
+pub mod StoresKept
+pub mod ToldLines
 pub mod Unopened

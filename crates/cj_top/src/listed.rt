@@ -24,11 +24,12 @@ fn items_found<S: Store + Drop>(alloc: Global, store: S) -> Result<LogItems, Sta
     ensures opened { IfOk result (λ _. LeavesStore S.faults S.held S.tells store (S.faults store) IsOpened) }
     ensures refused { IfErr result (RefusesLog S.faults S.held store S.tells WritesOnlyNew) }
 {
+    // What is given up shows how the store stands.
     match Log::open(alloc, store) {
-        Ok((_, items)) => Ok(items),
-        Err((RecordsError::Failed, _)) => Err(StartError::StoreFault),
-        Err((RecordsError::BadRecord(offset), _)) => Err(StartError::BadRecord(offset)),
-        Err((RecordsError::NoMemory, _)) => Err(StartError::NoMemory),
+        Ok((_log, items)) => Ok(items),
+        Err((RecordsError::Failed, _store)) => Err(StartError::StoreFault),
+        Err((RecordsError::BadRecord(offset), _store)) => Err(StartError::BadRecord(offset)),
+        Err((RecordsError::NoMemory, _store)) => Err(StartError::NoMemory),
     }
 }
 
