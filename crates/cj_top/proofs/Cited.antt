@@ -1,6 +1,6 @@
 -- The names that answers of this crate cite, its own lemmas among them, passed on from one place. Declares nothing.
 pub use Rattle.cj_cluster.proofs.OwnTransactions.{tx_of_unknown}
-pub use Rattle.cj_core.proofs.Common.{BlamesNobody, CanCountMore, SoloState, both_ways, desk_of, desk_tx, list_all, log}
+pub use Rattle.cj_core.proofs.Common.{BlamesNobody, CanCountMore, LosesNothing, SoloState, both_ways, desk_of, desk_tx, list_all, log}
 pub use Rattle.cj_core.proofs.QuietSessions.{quiet_session, session_grows}
 pub use Rattle.cj_desk.proofs.DeskChainLaws.{transcript_chained}
 pub use Rattle.cj_outside.specs.Draws.{generator_after, of_generator, seeded}
@@ -16,6 +16,7 @@ pub use Rattle.cj_top.proofs.Unopened.{failed_where, refuses_log, untouched_log}
 pub use Rattle.cj_top.specs.Configured.{in_memory, is_memory}
 pub use Rattle.cj_state.specs.Worlds.{KeepsHistory}
 pub use Rattle.cj_top.specs.Logs.{GoesOnIn, IsOpened, LeavesStore, RefusesLog, TellsRefusal}
+pub use Rattle.cj_records.specs.Records.{WritesOnlyNew}
 pub use Rattle.rand_pcg.specs.Lcg.{Lcg}
 pub use Rattle.cj_top.specs.Told.{TellsWords}
 pub use Rattle.std.specs.Result.{IsErrAnd, IsOkAnd}

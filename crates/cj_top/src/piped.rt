@@ -54,7 +54,8 @@ fn serve_one<B: Backend + Drop, S: Store + Drop, I: Source, O: Sink, C: Clock>(
     requires idle { is_idle world.core.history ≡ true }
     ensures serves { IfOk result (λ (ending, last). ServesOneSession B.tells seed (C.moment clock.now) (I.left input.old) (I.left input.new) (O.held output.old) (O.held output.new) world ending last) }
     ensures logged { IfOk result (λ (_, last). S.tells ≡ true → KeepsHistory last) }
-    ensures full { IfErr result (λ error. (error ≡ PipeError.SessionsFull) × (SESSION_NUMBER_LIMIT ≤ world.core.greatest) × GoesOnIn S.faults S.held S.tells world.recovery_log.faults world world) }
+    ensures full { IfErr result (λ error. (error ≡ PipeError.SessionsFull) × (SESSION_NUMBER_LIMIT ≤ world.core.greatest)) }
+    ensures full_log { OnErr result (GoesOnIn S.faults S.held S.tells world.recovery_log.faults world world) }
     ensures unserved { OnErr result ((input.new ≡ input.old) × (output.new ≡ output.old)) }
     ensures input { CountsFault (IsOkAnd result (λ (ending, _). ending ≡ ends.ReadFault)) (I.faults input.old) (I.faults input.new) }
     ensures output { CountsFault (IsOkAnd result (λ (ending, _). ending ≡ ends.WriteFault)) (O.faults output.old) (O.faults output.new) }
@@ -80,6 +81,7 @@ fn serve_one<B: Backend + Drop, S: Store + Drop, I: Source, O: Sink, C: Clock>(
 ///
 /// Where it is refused there was no session, and the input and the output were not touched; want of memory in a session is an end of
 /// its own.
+#[tactic(auto, using(crate::proofs::Unopened::untouched_log))]
 pub fn pipe<B: Backend + Drop, S: Store + Drop, I: Source, O: Sink, C: Clock>(
     alloc: Global,
     conf: Conf,
@@ -130,6 +132,7 @@ fn status_of_session(end: SessionEnd) -> u8
 }
 
 /// The command `pipe` with this configuration and this log, over what it is handed; the answer is the exit status.
+#[tactic(auto, using(crate::proofs::Unopened::untouched_log))]
 pub fn run_pipe<S: Store + Drop, I: Source, O: Sink, C: Clock>(
     alloc: Global,
     conf: Conf,

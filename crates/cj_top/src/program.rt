@@ -228,6 +228,7 @@ fn write_text<O: Sink>(text: Result<String, NoMemory>, output: &mut O) -> u8
 /// With other words the answer is 2, and nothing else is touched.
 ///
 /// At the statuses 2, 3, 4, 7, 8, 10 and 12 the errors are told why in words, where that can be done.
+#[tactic(auto, using(crate::proofs::StoresKept::untouched))]
 pub fn run<F: Store, S: Store + Drop, I: Source, O: Sink, E: Sink, C: Clock>(
     alloc: Global,
     words: &[String],

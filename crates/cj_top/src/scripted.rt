@@ -24,6 +24,7 @@ use cj_script::{ScriptEnd, script};
 use std::alloc::Global;
 
 /// A world of these new backends, each so that it can be armed, as the configuration has them, over the log.
+#[tactic(auto, using(crate::proofs::Unopened::untouched_log))]
 pub fn flaky_world<B: Backend + Drop, S: Store + Drop>(
     alloc: Global,
     conf: Conf,
@@ -78,6 +79,7 @@ fn play_over<B: Backend + Drop, S: Store + Drop, I: Source, O: Sink>(
 /// Plays the lines of the input on a world of new backends, as the configuration has them, over the log, and writes what they come to.
 ///
 /// Refused, the script has not begun; want of memory in it is an end of its own.
+#[tactic(auto, using(crate::proofs::Unopened::untouched_log))]
 pub fn play<S: Store + Drop, I: Source, O: Sink>(
     alloc: Global,
     conf: Conf,

@@ -1,7 +1,7 @@
 use Rattle.cj_top.proofs.listed.items_found.Goals as goal
 
 pub returns-in-Ok-clause-opened : goal.returns-in-Ok-clause-opened
-returns-in-Ok-clause-opened g c = record { after = c.in-Ok._log.store; counted = c.in-Ok.ensures.cause; bytes = λ t. (c.in-Ok.ensures.bytes t).2.2 }
+returns-in-Ok-clause-opened g c = record { after = c.in-Ok._log.store; counted = c.in-Ok.ensures.cause; bytes = λ t. (c.in-Ok.ensures.bytes t).2 }
 
 pub returns-in-Err-Failed-clause-refused : goal.returns-in-Err-Failed-clause-refused
 returns-in-Err-Failed-clause-refused g c = record { after = c.in-Err-Failed._store; counted = c.in-Err-Failed.ensures.cause; bytes = c.in-Err-Failed.ensures.bytes }

@@ -1,5 +1,6 @@
 use Rattle.std.proofs.Common.{◌≡◌, ℕ, Result, Ok, Err, map, refl, sym, true, ◌∙◌, subst}
-use Rattle.cj_top.proofs.Cited.{Found, GoesOnIn, IfErr, IfOk, KeepsHistory, Layout, PipeError, RefusesPipe, Register, SessionEnd, StartsFrom, WorldState, placement_of, refuses_log, state_by, untouched_log}
+use Rattle.std.specs.Prelude.{OnErr}
+use Rattle.cj_top.proofs.Cited.{Found, GoesOnIn, IfErr, IfOk, KeepsHistory, Layout, PipeError, RefusesPipe, Register, SessionEnd, StartsFrom, WorldState, placement_of, refuses_log, state_by}
 use Rattle.cj_top.proofs.piped.pipe.Goals as goal
 
 -- what is promised of a session that was served
@@ -8,14 +9,9 @@ served_at : {A : SessionEnd → WorldState → Type 0} {B : SessionEnd → World
 served_at (Ok (ending, last)) a gives = gives ending last refl a
 served_at (Err e) a gives = tt
 
-refused_at : {A B : PipeError → Type 0} (r : Result (SessionEnd × WorldState) PipeError) → IfErr r A → ((e : PipeError) → A e → B e) → IfErr r B
-refused_at (Ok x) a gives = tt
-refused_at (Err e) a gives = gives e a
-
-pub returns-clause-refused : goal.returns-clause-refused
-returns-clause-refused g c =
-    let s = g.S.Store in
-    untouched_log s.faults s.held c.args.log s.tells
+refused_at : {A B : PipeError → Type 0} {P : Type 0} (r : Result (SessionEnd × WorldState) PipeError) → IfErr r A → OnErr r P → ((e : PipeError) → A e → P → B e) → IfErr r B
+refused_at (Ok x) a p gives = tt
+refused_at (Err e) a p gives = gives e a p
 
 pub returns-in-Err-clause-refused : goal.returns-in-Err-clause-refused
 returns-in-Err-clause-refused g c =
@@ -47,12 +43,12 @@ returns-clause-served g c =
       serves,
     ))
 
-pub returns-clause-refused-2 : goal.returns-clause-refused-2
-returns-clause-refused-2 g c =
+pub returns-clause-refused : goal.returns-clause-refused
+returns-clause-refused g c =
     let s = g.S.Store in
     let first : WorldState = c.in-Ok-start.world in
     let starts = subst (λ (l : Layout). StartsFrom (Found s.tells (s.held c.args.log)) (placement_of l) (map (state_by g.B.Backend.told g.B.Backend.faults g.B.Backend.asks g.B.Backend.login g.B.Backend.arming) c.args.backends) first) c.in-Ok.ensures.placement c.in-Ok-start.ensures.started in
-    refused_at c.serve_one.result c.serve_one.ensures.full
-    (λ e full.
+    refused_at c.serve_one.result c.serve_one.ensures.full c.serve_one.ensures.full_log
+    (λ e full log.
     subst (RefusesPipe s.faults s.held c.args.log s.tells (placement_of c.args.conf.placement) (map (state_by g.B.Backend.told g.B.Backend.faults g.B.Backend.asks g.B.Backend.login g.B.Backend.arming) c.args.backends)) (sym full.0)
-    (record { first = first; starts = starts; last_given = full.1; log = subst (λ (n : ℕ). GoesOnIn s.faults s.held s.tells n first first) c.in-Ok-start.ensures.cause full.2 }))
+    (record { first = first; starts = starts; last_given = full.1; log = subst (λ (n : ℕ). GoesOnIn s.faults s.held s.tells n first first) c.in-Ok-start.ensures.cause log }))

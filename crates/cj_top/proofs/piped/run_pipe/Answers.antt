@@ -1,4 +1,4 @@
-use Rattle.cj_top.proofs.Cited.{BackendKind, BackendState, Found, GoesOnIn, IfErr, IsErrAnd, MemoryState, PipeError, RefusesPipe, RunsPipe, Slot, untouched_log, StartsFrom, all_alike, any_are_new, both_ways, cause_as_ok, faults_of, fresh_state, in_memory, is_memory, list_all, never_armed, new_backend, new_can_count, new_of, none_at, placement_of, same_cause, same_counts, seen_alike, sum_of_none}
+use Rattle.cj_top.proofs.Cited.{BackendKind, BackendState, Found, GoesOnIn, IfErr, IsErrAnd, MemoryState, PipeError, RefusesPipe, RunsPipe, Slot, StartsFrom, all_alike, any_are_new, both_ways, cause_as_ok, faults_of, fresh_state, in_memory, is_memory, list_all, never_armed, new_backend, new_can_count, new_of, none_at, placement_of, same_cause, same_counts, seen_alike, sum_of_none}
 use Rattle.std.proofs.Common.{Ok, Err, Result, ◌≡◌, Bool, true, false, [], List, ℕ, Option, Some, get_or, length, map, replicate, sum, refl, sym, ap, ◌∙◌, subst, arith}
 use Rattle.cj_cluster.specs.declared.session.SessionEnd.TheVariants as ends
 use Rattle.cj_top.proofs.piped.run_pipe.Goals as goal
@@ -107,8 +107,3 @@ returns-in_err-end-2-clause-refused g c =
     let new = any_are_new n c.args.conf.kinds c.in-Ok-any_backends.backends (c.in-Ok-any_backends.ensures ∙ ap (map new_of) c.as_slice-2.ensures) c.requires.usable.kinds in
     refused_so (refuses (replicate n (new_backend (in_memory c.args.conf)))) c.from_residual-in_err-end-2.result c.in_err-end-2.field-0.0 c.from_residual-in_err-end-2.ensures.1
     (subst (λ (backends : List BackendState). refuses backends c.in_err-end-2.field-0.0) (new.seen ∙ ap (λ (t : Bool). replicate n (new_backend t)) (sym other)) c.in_err-end-2.ensures.refused)
-
-pub returns-clause-refused : goal.returns-clause-refused
-returns-clause-refused g c =
-    let s = g.S.Store in
-    untouched_log s.faults s.held c.args.log s.tells

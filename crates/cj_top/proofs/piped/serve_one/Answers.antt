@@ -8,6 +8,18 @@ serve_session-end-requires-clause-closed g c =
     subst (λ (d : SoloState). desk_tx (desk_of d) ≡ 0) (sym c.in-Ok.ensures.opened)
     (tx_of_unknown (core.greatest + 1) (log core.history) (λ k d lt. let le = c.legal.ensures.world.sound.known k d lt in omega (arith, le)))
 
+pub returns-in-Err-clause-full_log : goal.returns-in-Err-clause-full_log
+returns-in-Err-clause-full_log g c =
+    let log = c.into_log-log in
+    let same = c.in-Err.ensures.full.2 in
+    record {
+      began = refl;
+      after = log.result;
+      counted = log.ensures.faults ∙ ap (λ (w : WorldState). w.recovery_log.faults) same;
+      bytes = log.ensures.bytes ∙ ap (λ (w : WorldState). w.recovery_log.bytes) same;
+      kept = c.legal.ensures.logged;
+    }
+
 pub returns-clause-serves : goal.returns-clause-serves
 returns-clause-serves g c =
     let tells = g.B.Backend.tells in

@@ -8,4 +8,3 @@ play_over-requires-clause-new g c = memory_are_new c.count.result (length c.args
 pub play_over-requires-2-clause-new : goal.play_over-requires-2-clause-new
 play_over-requires-2-clause-new g c =
     any_are_new (length c.args.conf.placement.names) c.args.conf.kinds c.in-Ok-any_backends.backends (c.in-Ok-any_backends.ensures ∙ ap (map new_of) c.as_slice-2.ensures) c.requires.usable.kinds
-
