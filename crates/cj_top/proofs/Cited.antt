@@ -9,6 +9,7 @@ pub use Rattle.cj_outside.specs.declared.sink.OutError.TheVariants.{Failed, NoMe
 pub use Rattle.cj_top.proofs.Common.{AreEmpty, BackendKind, BackendState, BeginsAsConfigured, FlakyState, Found, HaveBegunNone, IfErr, IfOk, Layout, MemoryState, OutError, PipeError, RefusesPipe, Register, RunsPipe, ServesSession, SessionEnd, Slot, StartsFrom, WorldState, client_state, faults_of, fresh_state, generator_of, never_armed, new_backend, new_of, opened_at, placement_of, solo_setting, state_by, status_of_listing, told_by}
 pub use Rattle.cj_top.proofs.Completed.{answers_whole, cause_as_ok, command_completes, not_failed, refusal_completes, same_cause, same_counts}
 pub use Rattle.cj_top.proofs.NewBackends.{all_alike, any_are_new, flaky_count, flaky_empty, flaky_none, flaky_seen, memory_are_new, new_can_count, none_at, seen_alike, sum_of_none}
+pub use Rattle.cj_top.proofs.OpensWell.{opens_else, opens_well_by}
 pub use Rattle.cj_top.proofs.PlayedOver.{played_as_configured}
 pub use Rattle.cj_top.proofs.StoresKept.{untouched}
 pub use Rattle.cj_top.proofs.ToldLines.{line_told, line_untold}

@@ -1,5 +1,5 @@
 -- The log that a command opens, and how a command stops at it.
-use Rattle.std.specs.Prelude.{◌≡◌, ◌⊎◌, ℕ, Bool, true, List, [], ◌∷◌, codes, length, nat_le, if◌then◌else◌, Err}
+use Rattle.std.specs.Prelude.{◌≡◌, ◌≢◌, ◌⊎◌, ℕ, ◌<◌, Bool, true, List, [], ◌∷◌, codes, length, nat_le, if◌then◌else◌, Err}
 use Rattle.std.specs.declared.option.Option.{Option}
 use Rattle.std.specs.Fmt.{decimal}
 use Rattle.cj_outside.specs.Causes.{next}
@@ -11,7 +11,11 @@ use Rattle.cj_log.specs.declared.item.LogItem.{LogItem}
 use Rattle.cj_log.specs.Logs.{HasBadItem, KeepsItems, log_magic}
 use Rattle.cj_book.specs.declared.error.StartError.{StartError}
 use Rattle.cj_book.specs.declared.error.StartError.TheVariants as errors
-use Rattle.cj_book.specs.Starts.{KeepsBadEntry}
+use Rattle.cj_book.specs.Starts.{KeepsBadEntry, greatest_session}
+use Rattle.cj_cluster.specs.declared.event.Event.{Event}
+use Rattle.cj_cluster.specs.History.Histories as histories
+use Rattle.cj_model.specs.declared.limits.TheConstants.{SESSION_NUMBER_LIMIT}
+use Rattle.cj_opening.specs.Openings.{OpensTo}
 use Rattle.cj_cluster.specs.Script.Lines.{with_line_feed, words}
 
 -- the log's store keeps these items, where it tells its bytes
@@ -57,6 +61,16 @@ RefusesLog faults held log tells Becomes errors.StoreFault = LeavesStore faults 
 RefusesLog faults held log tells Becomes errors.NoMemory = LeavesStore faults held tells log (faults log) Becomes
 RefusesLog faults held log tells Becomes (errors.BadRecord offset) = LeavesStore faults held tells log (faults log) (λ old new. (Finds log_magic old (Err offset) ⊎ HasBadItem old offset) × (new ≡ old))
 RefusesLog faults held log tells Becomes (errors.BadEntry n) = LeavesStore faults held tells log (faults log) (λ old new. KeepsBadEntry old n × (new ≡ old))
+
+-- these bytes are those of a log that opens with this history
+pub record IsLogOf (bytes : List ℕ) (opening : List Event) : Type 0 where
+  pub items : List LogItem
+  pub kept : KeepsItems bytes items
+  pub opens : OpensTo items opening
+
+-- A command over a log that opens doesn't end with 8, nor with 12 where the log leaves a number for a session. `held` are its store's bytes, where it tells them.
+abbrev pub OpensWell : Bool → List ℕ → ℕ → Type 0
+OpensWell tells held status = tells ≡ true → (opening : List Event) → IsLogOf held opening → (status ≢ 8) × (greatest_session (histories.log opening) < SESSION_NUMBER_LIMIT → status ≢ 12)
 
 -- what the errors are told of that
 abbrev pub TellsRefusal : (errors errors' : Option (List ℕ)) → (before now : ℕ) → StartError → Type 0

@@ -10,7 +10,7 @@ ghost use Rattle.cj_core.specs.Starts.{LosesNothing};
 ghost use Rattle.cj_records.specs.Records.{WritesOnlyNew};
 ghost use Rattle.cj_top.specs.Configured.{OnlyReads, WritesRefusal};
 ghost use Rattle.cj_top.specs.Listed.{ComesByLog};
-ghost use Rattle.cj_top.specs.Logs.{Found, GoesOnIn, HasFailed, IsOpened, LeavesStore, RefusesLog, StopsAtLog, TellsRefusal};
+ghost use Rattle.cj_top.specs.Logs.{Found, GoesOnIn, HasFailed, IsOpened, LeavesStore, OpensWell, RefusesLog, StopsAtLog, TellsRefusal};
 ghost use Rattle.cj_top.specs.Piped.{ComesByPipe};
 ghost use Rattle.cj_top.specs.Program.{AsksForText, WritesText};
 ghost use Rattle.cj_top.specs.Runs.{ComesBy, HasFewStatements, ReadsNoInput, RunsCommand};
@@ -174,6 +174,7 @@ fn run_command<F: Store, S: Store + Drop, I: Source, O: Sink, E: Sink, C: Clock>
     ensures stores { (result ≡ 7) × (F.faults conf.new ≡ next (F.faults conf.old)) ⊎ (result ≡ 7) × HasFailed S.faults log × (F.faults conf.new ≡ F.faults conf.old) ⊎ (result ≢ 7) × (F.faults conf.new ≡ F.faults conf.old) }
     ensures input { CountsFault (result ≡ 5) (I.faults input.old) (I.faults input.new) }
     ensures output { CountsFault (result ≡ 6) (O.faults output.old) (O.faults output.new) }
+    ensures opened { OpensWell S.tells (S.held log) result }
     ensures complete { CountsNoFault (F.faults conf.old) (F.faults conf.new) → CountsNoFault (I.faults input.old) (I.faults input.new) → CountsNoFault (O.faults output.old) (O.faults output.new) → result ≢ 1 → result ≢ 7 → result ≢ 8 → result ≢ 12 →
         ByStore F.tells (F.held conf.old) (CompletesCommand command (I.left input.old) (O.held output.old) (O.held output.new) result) result }
 {
@@ -256,6 +257,9 @@ pub fn run<F: Store, S: Store + Drop, I: Source, O: Sink, E: Sink, C: Clock>(
     ensures stores { (result ≡ 7) × (F.faults conf.new ≡ next (F.faults conf.old)) ⊎ (result ≡ 7) × HasFailed S.faults log × (F.faults conf.new ≡ F.faults conf.old) ⊎ (result ≢ 7) × (F.faults conf.new ≡ F.faults conf.old) }
     ensures input { CountsFault (result ≡ 5) (I.faults input.old) (I.faults input.new) }
     ensures output { CountsFault (result ≡ 6) (O.faults output.old) (O.faults output.new) }
+
+    // A log that opens stops no command, and where it leaves a number for a session one is opened.
+    ensures opened { (command : Command) → Says (map string_bytes words.now) command → OpensWell S.tells (S.held log) result }
 
     // Where none of them did, the log was opened and a session can be, and memory was not wanting, the bytes of the configuration and of
     // the input fix the status.

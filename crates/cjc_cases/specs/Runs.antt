@@ -12,7 +12,7 @@ use Rattle.cj_outside.specs.Stores.{no_image, no_moment, no_past}
 use Rattle.cj_top.specs.Answered.{CountsNoFault}
 use Rattle.cj_top.specs.Completeness.{ByStore, CompletesCommand}
 use Rattle.cj_top.specs.Configured.{OnlyReads, WritesRefusal}
-use Rattle.cj_top.specs.Logs.{Found, GoesOnIn, HasFailed, IsOpened, LeavesStore, RefusesLog, StopsAtLog, TellsRefusal}
+use Rattle.cj_top.specs.Logs.{Found, GoesOnIn, HasFailed, IsOpened, LeavesStore, OpensWell, RefusesLog, StopsAtLog, TellsRefusal}
 use Rattle.cj_top.specs.Program.{AsksForText, WritesText}
 use Rattle.cj_top.specs.Runs.{ComesBy, ReadsNoInput, RunsCommand}
 use Rattle.cj_top.specs.Told.{TellsWords}
@@ -61,6 +61,7 @@ pub record KeepsPromises (words : List (List ℕ)) (log : State) (moment : ℤ) 
   pub stores : (status ≡ 7) × (z.configuration.faults ≡ next a.configuration.faults) ⊎ (status ≡ 7) × HasFailed (λ s. s.faults) log × (z.configuration.faults ≡ a.configuration.faults) ⊎ (status ≢ 7) × (z.configuration.faults ≡ a.configuration.faults)
   pub input : CountsFault (status ≡ 5) a.input.faults z.input.faults
   pub output : CountsFault (status ≡ 6) a.output.faults z.output.faults
+  pub opened : (command : Command) → Says words command → OpensWell true log.bytes status
   pub complete : (command : Command) → Says words command → CountsNoFault a.configuration.faults z.configuration.faults → CountsNoFault a.input.faults z.input.faults → CountsNoFault a.output.faults z.output.faults → status ≢ 1 → status ≢ 7 → status ≢ 8 → status ≢ 12 →
       ByStore true a.configuration.bytes (CompletesCommand command (Some a.input.bytes) (Some a.output.bytes) (Some z.output.bytes) status) status
 

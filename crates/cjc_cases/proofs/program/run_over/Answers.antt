@@ -11,5 +11,6 @@ returns c = record {
   stores = c.run.ensures.stores;
   input = c.run.ensures.input;
   output = c.run.ensures.output;
+  opened = c.run.ensures.opened;
   complete = c.run.ensures.complete;
 }
