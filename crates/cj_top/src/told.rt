@@ -1,6 +1,6 @@
 //! What is told on the errors.
 
-ghost use Rattle.std.specs.Prelude.{◌≡◌, ◌++◌, ℕ, List, [], string_bytes, IfOk};
+ghost use Rattle.std.specs.Prelude.{◌≡◌, ◌++◌, ℕ, List, string_bytes, IfOk};
 ghost use Rattle.cj_top.specs.Told.{TellsLine, TellsWords};
 
 use cj_model::NoMemory;
