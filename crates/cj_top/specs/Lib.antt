@@ -1,3 +1,4 @@
+pub mod Answered
 pub mod Completeness
 pub mod Configured
 pub mod Generated
@@ -7,3 +8,4 @@ pub mod Piped
 pub mod Program
 pub mod Runs
 pub mod Scripted
+pub mod Told

@@ -9,6 +9,7 @@ mod piped;
 mod program;
 mod refused;
 mod scripted;
+mod told;
 mod words;
 
 pub use files::Paths;
