@@ -99,6 +99,11 @@ module _ (v : SeatView) (e : Event) (rest : List Event) (o : IsOpening (v.front 
   pub opening_seen : after_append e v ≡ record v { front = v.front ++ e ∷ [] }
   opening_seen = after_harmless e v (no_failures e next_event)
 
+-- the sessions that have an own pass stay
+pub given_after : (e : Event) (own : Option SeatView) (v : SeatView) {u : SeatView} → u ≡ book_after (Some e) own v → u.given ≡ v.given
+given_after e None v is = ap (λ (x : SeatView). x.given) is
+given_after e (Some w) v is = ap (λ (x : SeatView). x.given) is
+
 -- an event that came stands behind those that were seen, whether a pass counted it or none
 pub seen_after : (e : Event) (own : Option SeatView) (v : SeatView) {u : SeatView} → u ≡ book_after (Some e) own v → u.front ≡ v.front ++ e ∷ []
 seen_after e None v is = ap (λ (x : SeatView). x.front) is

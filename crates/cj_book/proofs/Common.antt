@@ -4,7 +4,7 @@ pub use Rattle.cj_board.specs.Seats.{book_view, history, pass_view}
 pub use Rattle.cj_board.specs.Steps.{HasCountNotes, after_append, after_join}
 pub use Rattle.cj_board.specs.Views.{next_session, pass_without_tokens}
 pub use Rattle.cj_board.specs.declared.view.SeatView.{SeatView}
-pub use Rattle.cj_book.specs.Books.{BookState, IsKeptIn, IsOfKnown, failed_after, has_session, is_orphan, is_orphan_of, is_target_at, last_write_failed, placement_at}
+pub use Rattle.cj_book.specs.Books.{BookState, IsKeptIn, IsOfGiven, IsOfKnown, failed_after, has_session, is_orphan, is_orphan_of, is_target_at, last_write_failed, marker_in, markers_of, placement_at}
 pub use Rattle.cj_book.specs.Counters.{CanCount, book_after, hearing, own_view, pass_after}
 pub use Rattle.cj_book.specs.Found.{IsRecovered}
 pub use Rattle.cj_book.specs.Kept.{Follows, IsKeptSession, KeepsHistory, KeepsTransactions}
@@ -29,17 +29,14 @@ pub use Rattle.cj_cluster.specs.declared.event.Event.TheVariants.{Disabled, Enab
 pub use Rattle.cj_log.specs.Logs.{IsBeforeOrAfter, LeavesItems, Refuses}
 pub use Rattle.cj_log.specs.declared.error.LogError.{LogError}
 pub use Rattle.cj_log.specs.declared.item.LogItem.{LogItem}
+pub use Rattle.cj_log.specs.declared.item.LogMarker.{LogMarker}
 pub use Rattle.cj_model.proofs.MaskBits.{has-and, has_without}
 pub use Rattle.cj_model.proofs.Masks.{has-zero}
 pub use Rattle.cj_model.specs.Cluster.Placements.{Placement, concerns, hosts, hosts_all, needs}
 pub use Rattle.cj_model.specs.declared.request.Act.{Act}
 pub use Rattle.cj_model.specs.declared.request.Entry.{Entry}
 pub use Rattle.cj_model.specs.declared.request.Request.{Request}
-pub use Rattle.cj_opening.proofs.Kept.{added_name, marked_more, marked_same}
 pub use Rattle.cj_opening.specs.Openings.{HasBadEntry, IsOpening, OpensTo, entry_item, items_behind, items_of, marker_item}
-pub use Rattle.cj_opening.specs.Proving.Keeping.{KeepsMarkers}
-pub use Rattle.cj_opening.specs.Proving.MarkerOrder.{marker_cmp, named}
-pub use Rattle.cj_opening.specs.declared.markers.MarkerName.{MarkerName}
 pub use Rattle.cj_outside.specs.Causes.{next}
 pub use Rattle.cj_outside.specs.Stores.{LeavesOnly}
 pub use Rattle.cj_place.proofs.Common.{Layout, bytes_eq-Decides, placement_of}
@@ -51,5 +48,4 @@ pub use Rattle.std.proofs.lemmas.List.Sorted.{answers_always}
 pub use Rattle.std.proofs.lemmas.List.Sums.{fold-append}
 pub use Rattle.std.proofs.lemmas.Map.Text.{is_eq-slice_cmp}
 pub use Rattle.std.proofs.lemmas.Option.{get_or_from_slice_get, slice_get-get_or, slice_get_within}
-pub use Rattle.std.specs.BTreeSet.{BTreeSet, contains}
 pub use Rattle.std.specs.Prelude.{IfErr, IsErrAnd}

@@ -1,7 +1,7 @@
 -- What follows from a history with one more event.
 use Rattle.std.proofs.Common.{◌≡◌, ◌≢◌, inl, inr, ℕ, ◌+◌, ◌-◌, ◌*◌, ◌^◌, ◌<◌, ◌≤◌, ◌==◌, ◌&&◌, not, Bool, true, false, List, [], ◌∷◌, ◌++◌, length, map, Option, None, Some, is_some, bit_and, refl, ap, sym, ◌∙◌, subst, arith, ⊎_elim}
 use Rattle.std.proofs.lemmas.List.Elements.{All-filter}
-use Rattle.cj_book.proofs.Common.{and_parts, AreFitMasks, BookSession, BookState, bytes_eq, concerns, Disabled, Enabled, Ended, Entry, entry_numbered, eqb-false, Event, has-and, has-zero, has_session, in_mask, is_end, is_orphan, is_orphan_of, is_target_at, IsAdministratorEntry, IsAllowedEvent, IsFitEntry, IsOfKnown, IsSessionEntry, Layout, legal_fit, list_any, LogFailed, Marker, new_session, numbered, OpenTransaction, Placement, placement_of, ReadFailed, Sched, session_number, sessions_after, transactions_after, without}
+use Rattle.cj_book.proofs.Common.{and_parts, AreFitMasks, BookSession, BookState, bytes_eq, concerns, Disabled, Enabled, Ended, Entry, entry_numbered, eqb-false, Event, has-and, has-zero, has_session, in_mask, is_end, is_orphan, is_orphan_of, is_target_at, IsAdministratorEntry, IsAllowedEvent, IsFitEntry, IsOfGiven, IsOfKnown, IsSessionEntry, Layout, legal_fit, list_any, LogFailed, Marker, new_session, numbered, OpenTransaction, Placement, placement_of, ReadFailed, Sched, session_number, sessions_after, transactions_after, without}
 use Rattle.cj_model.specs.Cluster.Caching.{CacheState}
 use Rattle.cj_model.specs.Cluster.Balancing.{Balance}
 use Rattle.cj_cluster.specs.History.Histories.{scheduled_entry, is_end_event, log, ended_count, is_idle, entry_in_progress, is_enabled, events_left, markers, tx_of}
@@ -114,9 +114,15 @@ module _ (layout : Layout) (h : List Event) (greatest mask : ℕ) (ss : List Boo
         off true n = absurd (cc n)
         off false n = refl
 
+    pub given_known : IsOfKnown book e → IsOfGiven book e
+    given_known known = ⊎_elim (λ (here : has_session book e.session ≡ true). inl (given_number here)) (λ (q : (e.session ≡ 0) × (is_orphan book e.tx ≡ true)). inr q) known
+
+    within : IsOfGiven book e → e.session ≤ greatest
+    within given = ⊎_elim (λ (here : (0 < e.session) × (e.session ≤ greatest)). here.1) (λ (q : (e.session ≡ 0) × (is_orphan book e.tx ≡ true)). let z : e.session ≡ 0 = q.0 in omega arith) given
+
     -- whose transaction it ends
-    pub ends_of : IsFitEntry (log h) e → IsOfKnown book e → is_end e.act ≡ true → EndsOf (log h) ss e
-    ends_of fit known is =
+    pub ends_of : IsFitEntry (log h) e → IsOfGiven book e → is_end e.act ≡ true → EndsOf (log h) ss e
+    ends_of fit given is =
         ⊎_elim
         (λ (s : IsSessionEntry (log h) e). let q = own_end (log h) e s is in record { owner = e.session; tx = sym q.1; some = q.0; whose = inl refl })
         (λ (a : IsAdministratorEntry (log h) e).
@@ -124,18 +130,18 @@ module _ (layout : Layout) (h : List Event) (greatest mask : ℕ) (ss : List Boo
         let none : e.session ≡ 0 = a.session in
         let some : e.tx ≢ 0 = omega arith in
         ⊎_elim
-        (λ (here : has_session book e.session ≡ true). let low : 0 < e.session = (given_number here).0 in absurd (omega arith))
+        (λ (here : (0 < e.session) × (e.session ≤ greatest)). let low : 0 < e.session = here.0 in absurd (omega arith))
         (λ (q : (e.session ≡ 0) × (is_orphan book e.tx ≡ true)).
-        record { owner = a.begin.session; tx = a.is_open; some = some; whose = inr (none, closed a.begin a.at tx (numbered_entry (log h) a.at ∙ a.began) q.1) }) known)
+        record { owner = a.begin.session; tx = a.is_open; some = some; whose = inr (none, closed a.begin a.at tx (numbered_entry (log h) a.at ∙ a.began) q.1) }) given)
         fit.by
 
-    pub follows_sched : (hosts on : ℕ) → IsFitEntry (log h) e → IsOfKnown book e → is_idle h ≡ true → length h < 2 ^ 62 → ((b : ℕ) → in_mask hosts b ≡ concerns p b (log h) e.tx e.act) → ((b : ℕ) → in_mask on b ≡ is_enabled h b)
+    pub follows_sched : (hosts on : ℕ) → IsFitEntry (log h) e → IsOfGiven book e → is_idle h ≡ true → length h < 2 ^ 62 → ((b : ℕ) → in_mask hosts b ≡ concerns p b (log h) e.tx e.act) → ((b : ℕ) → in_mask on b ≡ is_enabled h b)
         → Follows layout (h ++ Sched e ∷ []) greatest (bit_and on hosts) (sessions_after ss (length (log h) + 1) e e.act) (transactions_after ts (length (log h) + 1) hosts e e.act)
-    follows_sched hosts on fit known idle space concerned enabled =
+    follows_sched hosts on fit given idle space concerned enabled =
         let entries : log (h ++ Sched e ∷ []) ≡ log h ++ e ∷ [] = log-sched h e in
         record {
           legal = legal_push h (Sched e) f.legal space (idle, fit);
-          sessions = subst (λ (l : List Entry). KeepsSessions l greatest (sessions_after ss (length (log h) + 1) e e.act)) (sym entries) (sessions_push (log h) e greatest ss f.sessions (given_session known) (ends_of fit known));
+          sessions = subst (λ (l : List Entry). KeepsSessions l greatest (sessions_after ss (length (log h) + 1) e e.act)) (sym entries) (sessions_push (log h) e greatest ss f.sessions (within given) (ends_of fit given));
           transactions =
               subst (λ (l : List Entry). KeepsTransactions p l (transactions_after ts (length (log h) + 1) hosts e e.act)) (sym entries)
               (transactions_push (log h) e p ts f.transactions (legal_fit h f.legal) fit hosts concerned);

@@ -6,9 +6,10 @@ pub mod Counted
 pub mod Following
 pub mod Keeping
 pub mod Logged
-pub mod Named
+pub mod Marked
 pub mod Numbered
 pub mod Owned
+pub mod Owners
 pub mod Recovering
 pub mod Scheduling
 pub mod Serving

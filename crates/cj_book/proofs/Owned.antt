@@ -4,15 +4,17 @@ use mathlib.Core.List.{IsPrefix}
 use Rattle.std.proofs.lemmas.List.{append-nil, map-append}
 use Rattle.std.proofs.lemmas.List.Elements.{filter_map-append, All-cons, All-contains, All-nil, Contains-append_right}
 use Rattle.std.proofs.lemmas.List.Sums.{sum_by-cons, sum_by-append}
+use Rattle.std.proofs.Math.Nat.{le-max_left}
 use Rattle.std.proofs.lemmas.Result.{on_err_weaker, on_ok_weaker}
-use Rattle.cj_book.proofs.Common.{after_join, book_after, BookError, CanCount, Entry, entry_numbered, eqb-false, Event, greatest_session, HasCountNotes, hearing, HistoryFull, InProgress, IsAdministratorEntry, IsFitEntry, IsLegal, IsOpening, IsSessionEntry, le-leb, legal_fit, log, LogFailed, LogFault, NoBackend, NoMemory, pass_after, Sched, scheduled_entry, SeatView}
+use Rattle.cj_book.proofs.Common.{after_join, book_after, BookError, CanCount, Entry, entry_numbered, eqb-false, Event, greatest_session, HasCountNotes, hearing, HistoryFull, InProgress, IsAdministratorEntry, IsFitEntry, IsLegal, IsOpening, IsSessionEntry, le-leb, legal_fit, log, LogFailed, LogFault, Marker, NoBackend, NoMemory, pass_after, Sched, scheduled_entry, SeatView}
 use Rattle.cj_cluster.specs.History.Transactions.{AreFitBehind}
 use Rattle.cj_cluster.specs.Moves.Cores.{is_entry_of}
 use Rattle.cj_cluster.proofs.Pushed.{log-same, log-sched, prefix_get, prefix_trans}
 use Rattle.cj_board.specs.Counting.{ends_transaction_of, event_count_of, greatest_of, log_failure_session, log_failure_sessions, session_after, sessions_in}
 use Rattle.cj_board.specs.Views.{count_note_of, next_session, pass_without_tokens}
 use Rattle.cj_book.specs.Books.{BookState, IsSameButLog, with_entry, with_event}
-use Rattle.cj_book.specs.Seated.{event_or_fault, own_book_after, own_pass_after, told_book, told_pass, GivesOwnPassesOnly, SeatedBook}
+use Rattle.cj_board.specs.Steps.{after_append}
+use Rattle.cj_book.specs.Seated.{event_or_fault, own_book_after, own_opened, own_pass_after, told_book, told_pass, view_after, GivesOwnPassesOnly, SeatedBook}
 use Rattle.cj_book.proofs.Announcing.{failures_same}
 use Rattle.cj_book.proofs.Counted.{opening_unfailed}
 use Rattle.cj_book.proofs.TransactionSteps.{numbered_entry}
@@ -50,16 +52,22 @@ count_one p xs x =
     omega (arith, a, b, c)
 
 module _ (t : ℕ) (h : List Event) where
-  pub entry_counts : (e : Entry) → IsLegal h → 0 < e.session → event_count_of t (h ++ Sched e ∷ []) ≡ event_count_of t h + cond (e.session == t) 1 0
-  entry_counts e legal some =
+  pub counts_more : (e : Entry) → IsLegal h → event_count_of t (h ++ Sched e ∷ []) ≡ event_count_of t h + cond (e.session == t) 1 0 + cond (ends_transaction_of t (log h ++ e ∷ []) e) 1 0
+  counts_more e legal =
       let l = log h in
       let m : List Entry = l ++ e ∷ [] in
       let own = count_one (λ (x : Entry). x.session == t) l e in
       let ends = count_one (ends_transaction_of t m) l e in
       let same = ended_same t l m [] l (legal_fit h legal) ([], append-nil l) (e ∷ [], refl) in
+      rw (log-sched h e, failures_same h (Sched e) refl) (omega (arith, own, ends, same))
+
+  pub entry_counts : (e : Entry) → IsLegal h → 0 < e.session → event_count_of t (h ++ Sched e ∷ []) ≡ event_count_of t h + cond (e.session == t) 1 0
+  entry_counts e legal some =
+      let m : List Entry = log h ++ e ∷ [] in
       let other : e.session ≢ 0 = omega arith in
       let none : cond {A = ℕ} (ends_transaction_of t m e) 1 0 ≡ 0 = ap (λ b. cond {A = ℕ} (b && is_entry_of t (entry_numbered m e.tx)) 1 0) (ne_eqb e.session 0 other) in
-      rw (log-sched h e, failures_same h (Sched e) refl) (omega (arith, own, ends, same, none))
+      let more = counts_more e legal in
+      omega (arith, more, none)
 
   pub failure_counts : (s q : ℕ) → event_count_of t (h ++ LogFailed s q ∷ []) ≡ event_count_of t h + cond (s == t) 1 0
   failure_counts s q =
@@ -95,6 +103,22 @@ sessions_more g h =
 -- it stays where events come of no greater session than was given
 pub next_stays : (greatest last : ℕ) (g h : List Event) → greatest + 1 ≡ session_after last g → greatest_of (sessions_in h) ≤ greatest → greatest + 1 ≡ session_after last (g ++ h)
 next_stays greatest last g h is low = let all = sessions_more g h in omega (arith, all)
+
+-- after an event of no session
+pub next_after : (greatest : ℕ) (v : SeatView) (x : Event) → greatest_of (sessions_in (x ∷ [])) ≡ 0 → greatest + 1 ≡ next_session v → greatest + 1 ≡ next_session (after_append x v)
+next_after greatest v x none gives = next_stays greatest v.last_given v.front (x ∷ []) gives (omega (arith, none))
+
+-- the last that was given an own pass
+pub given_low : (greatest : ℕ) (v : SeatView) → greatest + 1 ≡ next_session v → v.last_given ≤ greatest
+given_low greatest v gives =
+    let next : next_session v ≡ max v.last_given (greatest_of (sessions_in v.front)) + 1 = omega arith in
+    let low = le-max_left v.last_given (greatest_of (sessions_in v.front)) in
+    omega (arith, gives, next, low)
+
+-- or one that came or didn't, of a session that was given
+pub came_gives : (greatest : ℕ) (v : SeatView) (o : Option Event) → ((x : Event) → o ≡ Some x → greatest_of (sessions_in (x ∷ [])) ≤ greatest) → greatest + 1 ≡ next_session v → greatest + 1 ≡ next_session (view_after o v)
+came_gives greatest v None low gives = gives
+came_gives greatest v (Some e) low gives = next_stays greatest v.last_given v.front (e ∷ []) gives (low e refl)
 
 -- and is the next of a book that was just opened
 folded : (n : ℕ) (entries : List Entry) → fold (λ k (e : Entry). max k e.session) n entries ≡ max n (greatest_of (map (λ (e : Entry). e.session) entries))
@@ -136,14 +160,23 @@ schedules_greatest old e result new ok failed same = by_result (new.greatest ≡
     (λ is. ap (λ (b : BookState _). b.greatest) (failed is))
     (on_err_weaker result (λ well no_fault. ap (λ (b : BookState _). b.greatest) (well no_fault)) same)
 
-noted_own : (own s k : ℕ) → own ≡ s → 0 < s → count_note_of own k ≡ (s, k) ∷ []
+pub noted_own : (own s k : ℕ) → own ≡ s → 0 < s → count_note_of own k ≡ (s, k) ∷ []
 noted_own own s k is some = let other : own ≢ 0 = omega arith in ap (λ b. cond b [] ((own, k) ∷ [])) (ne_eqb own 0 other) ∙ ap (λ z. (z, k) ∷ []) is
+
+own_noted : (own s k : ℕ) → own ≡ s → 0 < s → Contains (count_note_of own k) (s, k)
+own_noted own s k is some = subst (λ (ns : List (ℕ × ℕ)). Contains ns (s, k)) (sym (noted_own own s k is some)) (0, omega arith, refl)
+
+-- the book that gave a session its own pass has a note of it
+pub opened_note : (v : SeatView) (s : ℕ) → next_session v ≡ s → 0 < s → Contains (own_opened v).count_notes (s, 0)
+opened_note v s is some =
+    let notes = v.count_notes ++ count_note_of v.own_session v.count in
+    Contains-append_right v.count_notes (notes ++ count_note_of (next_session v) 0) (s, 0) (Contains-append_right notes (count_note_of (next_session v) 0) (s, 0) (own_noted (next_session v) s 0 is some))
 
 -- the book that learned from the pass how far that counts may hear of an event of the session
 pub own_can_count : {S : Type 0} (book : SeatedBook S) (w : SeatView) (x : Event) (s : ℕ) → w.own_session ≡ s → 0 < s → event_count_of s book.state.history ≤ w.count
     → ((t : ℕ) → event_count_of t (book.state.history ++ x ∷ []) ≡ event_count_of t book.state.history + cond (s == t) 1 0) → CanCount book (Some w) x
 own_can_count book w x s own some few counts =
-    let note : Contains (count_note_of w.own_session (w.count + 1)) (s, w.count + 1) = subst (λ (ns : List (ℕ × ℕ)). Contains ns (s, w.count + 1)) (sym (noted_own w.own_session s (w.count + 1) own some)) (0, omega arith, refl) in
+    let note = own_noted w.own_session s (w.count + 1) own some in
     let noted = Contains-append_right book.view.count_notes (w.count_notes ++ count_note_of w.own_session (w.count + 1)) (s, w.count + 1) (Contains-append_right w.count_notes (count_note_of w.own_session (w.count + 1)) (s, w.count + 1) note) in
     own_counted book.view.given book.state.history (hearing (Some w) book.view).count_notes x s w.count counts few noted
 
@@ -183,6 +216,27 @@ low_sessions greatest e result low =
     let one : greatest_of (sessions_in (Sched e ∷ [])) ≡ max e.session 0 = refl in
     let other : greatest_of (sessions_in (LogFailed e.session e.seq ∷ [])) ≡ max e.session 0 = refl in
     or_fault (λ x. greatest_of (sessions_in (x ∷ [])) ≤ greatest) (Sched e) (LogFailed e.session e.seq) result (omega arith) (omega arith)
+
+pub marks_greatest : {S : Type 0} (old : BookState S) (name : List ℕ) (b : Option ℕ) (result : Result ℕ BookError) (new : BookState S) → OnOk result (IsSameButLog (with_event old (Marker name b)) new) → (IsErrOf result LogFault → IsSameButLog (with_event old (LogFailed 0 0)) new)
+    → OnErr result (¬ IsErrOf result LogFault → IsSameButLog old new) → new.greatest ≡ old.greatest
+marks_greatest old name b result new ok failed same = by_result (new.greatest ≡ old.greatest) result
+    (on_ok_weaker result (λ is. ap (λ (b : BookState _). b.greatest) is) ok)
+    (λ is. ap (λ (b : BookState _). b.greatest) (failed is))
+    (on_err_weaker result (λ well no_fault. ap (λ (b : BookState _). b.greatest) (well no_fault)) same)
+
+pub mark_sessions : {T : Type 0} (greatest : ℕ) (name : List ℕ) (b : Option ℕ) (result : Result T BookError) → (x : Event) → event_or_fault (Marker name b) (LogFailed 0 0) result ≡ Some x → greatest_of (sessions_in (x ∷ [])) ≤ greatest
+mark_sessions greatest name b result =
+    let one : greatest_of (sessions_in (Marker name b ∷ [])) ≡ 0 = refl in
+    let other : greatest_of (sessions_in (LogFailed 0 0 ∷ [])) ≡ 0 = refl in
+    or_fault (λ x. greatest_of (sessions_in (x ∷ [])) ≤ greatest) (Marker name b) (LogFailed 0 0) result (omega arith) (omega arith)
+
+-- what was seen before is a beginning of what is seen then
+pub schedules_longer : {S : Type 0} (old : BookState S) (e : Entry) (result : Result ℕ BookError) (new : BookState S) → OnOk result (IsSameButLog (with_entry old e) new) → (IsErrOf result LogFault → IsSameButLog (with_event old (LogFailed e.session e.seq)) new)
+    → OnErr result (¬ IsErrOf result LogFault → IsSameButLog old new) → IsPrefix old.history new.history
+schedules_longer old e result new ok failed same = by_result (IsPrefix old.history new.history) result
+    (on_ok_weaker result (λ is. (Sched e ∷ [], sym (ap (λ (b : BookState _). b.history) is))) ok)
+    (λ is. (LogFailed e.session e.seq ∷ [], sym (ap (λ (b : BookState _). b.history) (failed is))))
+    (on_err_weaker result (λ well no_fault. ([], append-nil old.history ∙ sym (ap (λ (b : BookState _). b.history) (well no_fault)))) same)
 
 -- a session that was closed has no own pass
 pub closed_out : (s : ℕ) (given : List ℕ) → ¬ Contains (filter (λ t. not (t == s)) given) s

@@ -1,13 +1,16 @@
 -- What a book keeps of the history that its log opens with.
-use Rattle.std.proofs.Common.{◌≡◌, ℕ, ◌+◌, ◌^◌, ◌<◌, ◌≤◌, true, false, List, [], ◌∷◌, ◌++◌, length, get_or, max, All, Option, None, refl, ap, sym, ◌∙◌, subst, arith, length-append}
+use Rattle.std.proofs.Common.{◌≡◌, ℕ, ◌+◌, ◌^◌, ◌<◌, ◌≤◌, true, false, List, [], ◌∷◌, ◌++◌, length, get_or, max, All, Option, None, refl, ap, sym, ◌∙◌, subst, arith, length-append, ⊎_elim}
 use Rattle.std.specs.Prelude.{fold}
 use Rattle.std.specs.List.{AllByRecursion}
 use Rattle.std.proofs.lemmas.Bool.{eqb-true, both_ways}
 use Rattle.std.proofs.lemmas.List.Elements.{All-nil, All-from_recursion}
 use Rattle.std.proofs.Math.Nat.{le-max_left, le-max_right}
 use Rattle.std.proofs.Math.Seq.{take-length}
-use Rattle.cj_book.proofs.Common.{concerns, Disabled, Enabled, Ended, ended_count, Entry, Event, fold-append, Follows, get_or_from_slice_get, get_seam, greatest_session, has-zero, in_mask, is_enabled, is_idle, is_target_at, IsAllowedEvent, IsFitEntry, IsKeptSession, IsLegal, IsOpening, IsRecovered, KeepsHistory, KeepsMarkers, KeepsTransactions, Layout, legal_fit, legal_prefix, log, log-same, log-sched, LogFailed, LogItem, marked_same, Marker, marker_name, opened-free, OpensTo, Placement, placement_of, ReadFailed, Recovered, Sched, scheduled_entry, take_whole, transactions_after}
+use Rattle.cj_book.proofs.Common.{concerns, Disabled, Enabled, Ended, ended_count, Entry, Event, fold-append, Follows, get_or_from_slice_get, get_seam, greatest_session, has-zero, in_mask, is_enabled, is_idle, is_target_at, IsAdministratorEntry, IsAllowedEvent, IsFitEntry, IsKeptSession, IsSessionEntry, items_behind, IsLegal, IsOpening, IsRecovered, KeepsHistory, KeepsTransactions, Layout, legal_fit, legal_prefix, log, log-same, log-sched, LogFailed, LogItem, LogMarker, Marker, markers_of, opened-free, OpensTo, Placement, placement_of, ReadFailed, Recovered, Sched, scheduled_entry, take_whole, transactions_after}
 use Rattle.cj_opening.proofs.Longer.{idle_opening}
+use Rattle.cj_book.proofs.Marked.{marked_sched}
+use Rattle.cj_cluster.specs.History.Transactions.{AreFitBehind}
+use Rattle.cj_model.specs.declared.limits.TheConstants.{SESSION_NUMBER_LIMIT}
 use Rattle.cj_book.proofs.Announcing.{opening_off}
 use Rattle.cj_book.proofs.TransactionSteps.{transactions_push}
 
@@ -34,6 +37,16 @@ none_above n (e ∷ es) =
 pub known_all : (es : List Entry) → All (λ (e : Entry). e.session ≤ greatest_session es) es
 known_all es = All-from_recursion (λ (e : Entry). e.session ≤ greatest_session es) es (none_above 0 es)
 
+-- each number is within the limit
+numbers_within : (before rest : List Entry) → AreFitBehind before rest → (n : ℕ) → n ≤ SESSION_NUMBER_LIMIT → fold larger n rest ≤ SESSION_NUMBER_LIMIT
+numbers_within before [] fits n le = le
+numbers_within before (e ∷ rest) fits n le =
+    let low : e.session ≤ SESSION_NUMBER_LIMIT = ⊎_elim (λ (s : IsSessionEntry before e). s.session.1) (λ (a : IsAdministratorEntry before e). let none : e.session ≡ 0 = a.session in omega arith) fits.0.by in
+    numbers_within (before ++ e ∷ []) rest fits.1 (max n e.session) (omega arith)
+
+pub greatest_within : (h : List Event) → IsLegal h → greatest_session (log h) ≤ SESSION_NUMBER_LIMIT
+greatest_within h legal = numbers_within [] (log h) (legal_fit h legal) 0 (omega arith)
+
 -- one more entry
 pub greatest_push : (es : List Entry) (e : Entry) → greatest_session (es ++ e ∷ []) ≡ max (greatest_session es) e.session
 greatest_push es e = fold-append larger 0 es (e ∷ [])
@@ -50,7 +63,7 @@ allowed_last h e legal =
 module _ (p : Placement) (h : List Event) (found new : Recovered) (k : IsRecovered p h found) where
   -- an entry
   pub recovers_sched : (e : Entry) (hosts : ℕ) → IsLegal (h ++ Sched e ∷ []) → (IsFitEntry (log h) e → (b : ℕ) → in_mask hosts b ≡ concerns p b (log h) e.tx e.act) → new.entries.items ≡ found.entries.items ++ e ∷ []
-      → new.transactions ≡ transactions_after found.transactions (length (log h) + 1) hosts e e.act → new.marker_names ≡ found.marker_names → new.greatest ≡ max found.greatest e.session → IsRecovered p (h ++ Sched e ∷ []) new
+      → new.transactions ≡ transactions_after found.transactions (length (log h) + 1) hosts e e.act → new.markers.items ≡ found.markers.items → new.greatest ≡ max found.greatest e.session → IsRecovered p (h ++ Sched e ∷ []) new
   recovers_sched e hosts legal concerned pushed followed named most =
       let entries : log (h ++ Sched e ∷ []) ≡ log h ++ e ∷ [] = log-sched h e in
       let before : IsLegal h = legal_prefix h (h ++ Sched e ∷ []) (Sched e ∷ [], refl) legal in
@@ -60,12 +73,12 @@ module _ (p : Placement) (h : List Event) (found new : Recovered) (k : IsRecover
         transactions =
             rw followed (subst (λ (l : List Entry). KeepsTransactions p l (transactions_after found.transactions (length (log h) + 1) hosts e e.act)) (sym entries)
             (transactions_push (log h) e p found.transactions k.transactions (legal_fit h before) fit hosts (concerned fit)));
-        marked = rw named (marked_same h found.marker_names (Sched e) refl k.marked);
+        marked = named ∙ (k.marked ∙ sym (marked_sched h e));
         greatest = most ∙ (ap (λ n. max n e.session) k.greatest ∙ (sym (greatest_push (log h) e) ∙ ap greatest_session (sym entries)));
       }
 
   -- an event that schedules nothing
-  pub recovers_same : (e : Event) → scheduled_entry e ≡ None → KeepsMarkers (h ++ e ∷ []) new.marker_names → new.entries.items ≡ found.entries.items → new.transactions ≡ found.transactions → new.greatest ≡ found.greatest → IsRecovered p (h ++ e ∷ []) new
+  pub recovers_same : (e : Event) → scheduled_entry e ≡ None → new.markers.items ≡ markers_of (h ++ e ∷ []) → new.entries.items ≡ found.entries.items → new.transactions ≡ found.transactions → new.greatest ≡ found.greatest → IsRecovered p (h ++ e ∷ []) new
   recovers_same e no_entry marked entries transactions most =
       let same : log (h ++ e ∷ []) ≡ log h = log-same h e no_entry in
       record {
@@ -123,11 +136,11 @@ none_scheduled (Disabled b) never = refl
 none_scheduled (Enabled b) never = refl
 none_scheduled (Marker name b) never = refl
 
-pub none_marked : (d : Event) → ((name : List ℕ) (b : Option ℕ) → d ≡ Marker name b → ⊥) → marker_name d ≡ None
-none_marked (Sched e) never = refl
-none_marked (Ended f s) never = refl
-none_marked (ReadFailed s q b) never = refl
-none_marked (LogFailed s q) never = refl
-none_marked (Disabled b) never = refl
-none_marked (Enabled b) never = refl
-none_marked (Marker name b) never = absurd (never name b refl)
+pub none_logged : (d : Event) → ((e : Entry) → d ≡ Sched e → ⊥) → ((name : List ℕ) (b : Option ℕ) → d ≡ Marker name b → ⊥) → (n : ℕ) → items_behind n (d ∷ []) ≡ []
+none_logged (Sched e) never no_marker n = absurd (never e refl)
+none_logged (Ended f s) never no_marker n = refl
+none_logged (ReadFailed s q b) never no_marker n = refl
+none_logged (LogFailed s q) never no_marker n = refl
+none_logged (Disabled b) never no_marker n = refl
+none_logged (Enabled b) never no_marker n = refl
+none_logged (Marker name b) never no_marker n = absurd (no_marker name b refl)

@@ -1,5 +1,5 @@
 -- What contracts see of a book, and when an event can't come into it.
-use Rattle.std.specs.Prelude.{◌≡◌, ◌⊎◌, ℕ, ◌+◌, ◌^◌, ◌<◌, ◌≤◌, ◌==◌, ◌&&◌, ◌||◌, not, Bool, true, false, List, [], ◌∷◌, ◌++◌, length, filter, fold, nat_le, slice_index, if◌then◌else◌, Result, Ok, Err}
+use Rattle.std.specs.Prelude.{◌≡◌, ◌⊎◌, filter_map, ℕ, ◌+◌, ◌^◌, ◌<◌, ◌≤◌, ◌==◌, ◌&&◌, ◌||◌, not, Bool, true, false, List, [], ◌∷◌, ◌++◌, length, filter, fold, nat_le, slice_index, if◌then◌else◌, Result, Ok, Err}
 use Rattle.std.specs.List.{list_any}
 use Rattle.std.specs.declared.option.Option.{Option}
 use Rattle.std.specs.declared.option.Option.TheVariants.{None, Some}
@@ -20,6 +20,8 @@ use Rattle.cj_cluster.specs.Moves.Moves.{entry_numbered}
 use Rattle.cj_freshness.specs.Freshness.{touches_behind, without_touched}
 use Rattle.cj_place.specs.Layouts.{Layout, placement_of}
 use Rattle.cj_log.specs.declared.item.LogItem.{LogItem}
+use Rattle.cj_log.specs.declared.item.LogItem.TheVariants as items
+use Rattle.cj_log.specs.declared.item.LogMarker.{LogMarker}
 use Rattle.cj_log.specs.Items.{CanAppend}
 use Rattle.cj_log.specs.Logs.{LogState, KeepsItems}
 use Rattle.cj_opening.specs.Openings.{entry_item, items_of}
@@ -92,7 +94,23 @@ pub record IsKeptIn (bytes : List ℕ) (h : List Event) : Type 0 where
   pub whole : last_write_failed h ≡ false → KeepsItems bytes (items_of h)
   pub at_least : KeepsItems bytes (items_of h) ⊎ (refused : LogItem) × KeepsItems bytes (items_of h ++ refused ∷ [])
 
+-- ---- markers
+
+-- the marker that an item is, where it is one
+abbrev pub marker_in : LogItem → Option LogMarker
+marker_in (items.Entry x) = None
+marker_in (items.Marker m) = Some m
+
+-- the markers of a history in order, each with how many entries stand before it
+abbrev pub markers_of : List Event → List LogMarker
+markers_of h = filter_map marker_in (items_of h)
+
 -- ---- sessions and transactions
+
+-- the session is among the open ones, and is not the administrator's
+pub record IsOpenSession (sessions : List ℕ) (s : ℕ) : Type 0 where
+  pub some : 0 < s
+  pub is_open : list_any (λ n. n == s) sessions ≡ true
 
 -- the session is open
 abbrev pub has_session : {S : Type 0} → BookState S → ℕ → Bool
@@ -127,6 +145,10 @@ is_orphan b tx = is_orphan_of b tx (entry_numbered (log b.history) tx)
 -- the entry is of a session that is open, or ends an orphan
 abbrev pub IsOfKnown : {S : Type 0} → BookState S → Entry → Type 0
 IsOfKnown b e = (has_session b e.session ≡ true) ⊎ ((e.session ≡ 0) × (is_orphan b e.tx ≡ true))
+
+-- the entry's session was given, also where it isn't open any more; or the entry ends an orphan
+abbrev pub IsOfGiven : {S : Type 0} → BookState S → Entry → Type 0
+IsOfGiven b e = ((0 < e.session) × (e.session ≤ b.greatest)) ⊎ ((e.session ≡ 0) × (is_orphan b e.tx ≡ true))
 
 -- ---- backends
 

@@ -7,18 +7,18 @@ use Rattle.cj_records.specs.declared.error.RecordsError.{RecordsError}
 use Rattle.cj_records.specs.declared.error.RecordsError.TheVariants as records
 use Rattle.cj_opening.specs.declared.error.OpeningError.{OpeningError}
 use Rattle.cj_opening.specs.declared.error.OpeningError.TheVariants as openings
-use Rattle.cj_opening.specs.Proving.Keeping.{KeepsMarkers}
 use Rattle.cj_book.specs.declared.recovered.Recovered.{Recovered}
 use Rattle.cj_book.specs.declared.error.StartError.{StartError}
 use Rattle.cj_book.specs.declared.error.StartError.TheVariants.{StoreFault, BadRecord, BadEntry, NoMemory}
+use Rattle.cj_book.specs.Books.{markers_of}
 use Rattle.cj_book.specs.Kept.{KeepsTransactions}
 use Rattle.cj_book.specs.Starts.{greatest_session}
 
--- the entries, the open transactions, the names of the markers and the greatest session number
+-- the entries, the open transactions, the markers and the greatest session number
 pub record IsRecovered (p : Placement) (h : List Event) (found : Recovered) : Type 0 where
   pub entries : found.entries.items ≡ log h
   pub transactions : KeepsTransactions p (log h) found.transactions
-  pub marked : KeepsMarkers h found.marker_names
+  pub marked : found.markers.items ≡ markers_of h
   pub greatest : found.greatest ≡ greatest_session (log h)
 
 -- the refusal of the log's records, as the book tells it

@@ -1,24 +1,22 @@
 -- What a book keeps of its history.
-use Rattle.std.specs.Prelude.{◌≡◌, ◌≢◌, ℕ, ◌+◌, ◌-◌, ◌*◌, ◌<◌, ◌≤◌, ◌==◌, Bool, true, List, length, All}
+use Rattle.std.specs.Prelude.{◌≡◌, ◌≢◌, ℕ, ◌+◌, ◌-◌, ◌*◌, ◌<◌, ◌≤◌, ◌==◌, Bool, true, List, length, map, All}
 use Rattle.std.specs.List.{list_any}
-use Rattle.std.specs.BTreeSet.{BTreeSet}
 use Rattle.cj_model.specs.declared.request.Entry.{Entry}
 use Rattle.cj_cluster.specs.declared.event.Event.{Event}
 use Rattle.cj_cluster.specs.History.Histories.{log, ended_count, entry_in_progress, is_enabled, tx_of}
 use Rattle.cj_cluster.specs.History.Legality.{IsLegal}
 use Rattle.cj_model.specs.Cluster.Masks.{in_mask}
 use Rattle.cj_model.specs.Cluster.Placements.{Placement, wrote_at}
-use Rattle.cj_opening.specs.declared.markers.MarkerName.{MarkerName}
 use Rattle.cj_log.specs.declared.item.LogItem.{LogItem}
+use Rattle.cj_log.specs.declared.item.LogMarker.{LogMarker}
 use Rattle.cj_opening.specs.Openings.{items_of}
-use Rattle.cj_opening.specs.Proving.Keeping.{KeepsMarkers}
 use Rattle.cj_place.specs.Layouts.{Layout, placement_of}
-use Rattle.cj_book.specs.Books.{is_target_at, last_write_failed}
+use Rattle.cj_book.specs.Books.{is_target_at, last_write_failed, markers_of, IsOpenSession}
 use Rattle.cj_book.specs.Lists.{by_number, session_number, tx_number}
 use Rattle.cj_book.specs.Seated.{HasCountedLogFaults}
 use Rattle.cj_book.specs.declared.sessions.BookSession.{BookSession}
 use Rattle.cj_book.specs.declared.transactions.OpenTransaction.{OpenTransaction}
-use Rattle.cj_model.specs.declared.limits.TheConstants.{BACKEND_LIMIT, EVENT_LIMIT, SESSION_LIMIT}
+use Rattle.cj_model.specs.declared.limits.TheConstants.{BACKEND_LIMIT, EVENT_LIMIT, SESSION_LIMIT, SESSION_NUMBER_LIMIT}
 use Rattle.cj_model.specs.Database.Tables.{Rises}
 
 -- For so many backends: the entries of the history, how many of them ended, and the mask of the enabled backends.
@@ -71,10 +69,13 @@ pub record KeepsRoom (ss : List BookSession) (capacity : ℕ) : Type 0 where
   pub room : SESSION_LIMIT ≤ capacity
 
 -- what a book keeps beside what contracts see of it
-pub record IsKeptBook (tells : Bool) (layout : Layout) (h : List Event) (kept : List Entry) (ended on greatest targets : ℕ) (ss : List BookSession) (ts : List OpenTransaction) (names : BTreeSet MarkerName) (items : List LogItem) (torn : Bool) (before now : ℕ) : Type 0 where
+pub record IsKeptBook (tells : Bool) (layout : Layout) (h : List Event) (kept : List Entry) (ended on greatest targets : ℕ) (ss : List BookSession) (ts : List OpenTransaction) (marks : List LogMarker) (given : List ℕ) (items : List LogItem) (torn : Bool) (before now : ℕ) : Type 0 where
   pub history : KeepsHistory (length layout.names) h kept ended on
   pub follows : Follows layout h greatest targets ss ts
-  pub marked : KeepsMarkers h names
+  pub marked : marks ≡ markers_of h
+  pub within : greatest ≤ SESSION_NUMBER_LIMIT
+  -- each session that has an own pass is open
+  pub owned : All (IsOpenSession (map session_number ss)) given
   pub logged : tells ≡ true → items_of h ≡ items
   -- the gate behind the items is torn only behind a write that failed
   pub gate : tells ≡ true → torn ≡ true → last_write_failed h ≡ true

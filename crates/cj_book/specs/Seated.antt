@@ -1,17 +1,17 @@
 -- What contracts see of a book at its seat.
-use Rattle.std.specs.Prelude.{◌≡◌, ◌⊎◌, ℕ, ◌+◌, ◌-◌, ◌^◌, ◌≤◌, List, length, Result, Ok, Err}
+use Rattle.std.specs.Prelude.{◌≡◌, ◌⊎◌, ℕ, ◌+◌, ◌-◌, ◌^◌, ◌≤◌, List, length, All, Result, Ok, Err}
 use Rattle.std.specs.declared.option.Option.{Option}
 use Rattle.std.specs.declared.option.Option.TheVariants.{None, Some}
 use Rattle.atomic_table.specs.Seated.{TableId}
 use Rattle.cj_cluster.specs.declared.event.Event.{Event}
 use Rattle.cj_board.specs.declared.view.SeatView.{SeatView}
 use Rattle.cj_board.specs.Counting.{log_failure_sessions}
-use Rattle.cj_board.specs.Steps.{HasPositionNotes, HasFaultTokens, HasCountNotes, after_append, after_count, after_join, after_learning, after_split}
-use Rattle.cj_board.specs.Views.{next_session, pass_of, pass_without_tokens}
+use Rattle.cj_board.specs.Steps.{HasPositionNotes, HasFaultTokens, HasCountNotes, after_append, after_count, after_join, after_learning, after_opening, after_split}
+use Rattle.cj_board.specs.Views.{next_session, own_pass_of, pass_of, pass_without_tokens}
 use Rattle.cj_book.specs.declared.error.BookError.{BookError}
 use Rattle.cj_book.specs.declared.error.BookError.TheVariants.{InProgress, NoBackend, HistoryFull, LogFault, NoMemory}
 use Rattle.cj_book.specs.declared.error.StartError.{StartError}
-use Rattle.cj_book.specs.Books.{BookState}
+use Rattle.cj_book.specs.Books.{BookState, IsOpenSession}
 
 -- A book: what follows from its history, of which board its seat is, and what the seat knows, which has the history in front. Beside it, how many faults the log's store had counted when the book was opened.
 pub record SeatedBook (S : Type 0) : Type 0 where
@@ -69,6 +69,14 @@ view_after (Some e) v = after_append e v
 -- the next session of the book is the next of its board: each was opened with an own pass
 abbrev pub GivesOwnPassesOnly : {S : Type 0} → SeatedBook S → Type 0
 GivesOwnPassesOnly book = book.state.greatest + 1 ≡ next_session book.view
+
+-- each session that has an own pass is open, and none is the administrator's
+abbrev pub OwnersAreOpen : {S : Type 0} → SeatedBook S → Type 0
+OwnersAreOpen book = All (IsOpenSession book.state.sessions) book.view.given
+
+-- the book that gave the next session its own pass, and knows of its count
+abbrev pub own_opened : SeatView → SeatView
+own_opened v = after_learning (after_opening v) (pass_of (own_pass_of v))
 
 -- the book and a pass where the book told the pass
 abbrev pub told_book : SeatView → SeatView → SeatView

@@ -1,6 +1,6 @@
 //! What changes of a book beside its history: its sessions, the reads that the balancer counts, and the cache.
 
-ghost use Rattle.std.specs.Prelude.{◌≡◌, ◌≢◌, ◌↔◌, ◌+◌, ◌^◌, ◌<◌, ◌≤◌, true, length, slice_index, IsNone, IfSome, IfOk, IfErr, OnOk, OnErr, IsErr, Ok};
+ghost use Rattle.std.specs.Prelude.{◌≡◌, ◌≢◌, ◌↔◌, ◌+◌, ◌^◌, ◌<◌, ◌≤◌, true, length, Contains, slice_index, IsNone, IfSome, IfOk, IfErr, OnOk, OnErr, IsErr, Ok};
 ghost use Rattle.cj_model.specs.Cluster.Balancing.{one_less};
 ghost use Rattle.cj_model.specs.Cluster.Caching.{after_keep, after_look, has_answer};
 ghost use Rattle.cj_cluster.specs.History.Histories.{log};
@@ -48,8 +48,9 @@ impl<S: Store> Book<S> {
         Ok(self.greatest)
     }
 
-    /// Closes a session; a transaction that it has open is then an orphan.
+    /// Closes a session that has no own pass; a transaction that it has open is then an orphan.
     pub fn close_session(&mut self, session: u64)
+        requires unowned { ¬ Contains self.old.view.given session }
         ensures state { self.new.state ≡ without_session self.old.state session }
         ensures seat { HasSameSeat self.old self.new }
     {
@@ -71,14 +72,15 @@ impl<S: Store> Book<S> {
         Some(b)
     }
 
-    /// A read ended at the backend, which has some pending.
+    /// A read ended at the backend. Where none is pending there, nothing changes.
     pub fn ended(&mut self, b: u8)
         requires below { b < BACKEND_LIMIT }
-        requires some { 0 < slice_index self.old.state.balance.standing.pending b }
         ensures state { self.new.state ≡ record self.old.state { balance = record self.old.state.balance { standing = record self.old.state.balance.standing { pending = one_less self.old.state.balance.standing.pending b } } } }
         ensures seat { HasSameSeat self.old self.new }
     {
-        self.balancer.ended(b);
+        if self.balancer.pending(b) > 0 {
+            self.balancer.ended(b);
+        }
     }
 
     /// Whether the answer of the query is kept, which is then in front. This counts a hit or a miss.

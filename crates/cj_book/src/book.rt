@@ -1,12 +1,13 @@
 //! A book at its seat of a board.
 
-ghost use Rattle.std.specs.Prelude.{List, not, ◌≡◌, ◌≢◌, ◌⊎◌, Some, ◌↔◌, ◌+◌, ◌<◌, ◌≤◌, ◌&&◌, ℕ, true, false, [], ◌∷◌, ◌++◌, length, Contains, IfOk, IfErr, OnOk, OnErr, IsErrOf};
+ghost use Rattle.std.specs.Prelude.{List, not, ◌≡◌, ◌≢◌, ◌⊎◌, Some, ◌↔◌, ◌+◌, ◌-◌, ◌*◌, ◌<◌, ◌≤◌, ◌&&◌, ℕ, true, false, [], ◌∷◌, ◌++◌, length, Contains, IfOk, IfErr, OnOk, OnErr, IsErrOf};
 ghost use Rattle.std.specs.BTreeSet.{contains};
 ghost use Rattle.std.specs.Str.{bytes_eq};
 ghost use mathlib.Core.List.{IsPrefix};
+ghost use Rattle.cj_model.specs.declared.limits.TheConstants.{EVENT_LIMIT, SESSION_NUMBER_LIMIT};
 ghost use Rattle.cj_model.specs.declared.request.Entry.{Entry};
 ghost use Rattle.cj_cluster.specs.declared.event.Event.{Event};
-ghost use Rattle.cj_cluster.specs.History.Histories.{has_marker, is_enabled, is_idle, log};
+ghost use Rattle.cj_cluster.specs.History.Histories.{ended_count, has_marker, is_enabled, is_idle, log};
 ghost use Rattle.cj_cluster.specs.History.Legality.{AreFitMasks, IsFitEntry, IsLegal};
 ghost use Rattle.cj_log.specs.declared.item.LogItem.{LogItem};
 ghost use Rattle.cj_log.specs.Logs.{IsBeforeOrAfter, LeavesItems, Refuses};
@@ -22,7 +23,7 @@ ghost use Rattle.cj_board.specs.Views.{pass_of, pass_without_tokens};
 ghost use Rattle.cj_book.specs.Books.{last_write_failed, with_entry, with_event, CanSchedule, IsKeptIn, IsOfKnown, IsPrepared, IsSameButLog};
 ghost use Rattle.cj_book.specs.Events.{Appends, Marks, Schedules};
 ghost use Rattle.cj_book.specs.Found.{start_error_of, entry_error_of};
-ghost use Rattle.cj_book.specs.Seated.{event_at_ok, event_or_fault, opened_state, view_after, GivesOwnPassesOnly, HasCountedLogFaults, IsCounted};
+ghost use Rattle.cj_book.specs.Seated.{event_at_ok, event_or_fault, opened_state, view_after, GivesOwnPassesOnly, HasCountedLogFaults, IsCounted, OwnersAreOpen};
 ghost use Rattle.cj_book.specs.Starts.{CountsStartFault, IsStarted, Starts};
 
 use crate::error::StartError;
@@ -33,13 +34,12 @@ use cj_balance::Balancer;
 use cj_board::{Board, BookSeat};
 use cj_cache::Cache;
 use cj_cluster::BoxedEntry;
-use cj_log::Log;
-use cj_opening::{MarkerName, OpeningError};
+use cj_log::{Log, LogMarker};
+use cj_opening::OpeningError;
 use cj_outside::Store;
 use cj_place::Placement;
 use cj_records::RecordsError;
 use std::alloc::Global;
-use std::collections::BTreeSet;
 use std::marker::Model;
 use std::snapshot::Snapshot;
 
@@ -74,7 +74,8 @@ pub struct Book<S: Store> {
     /// The greatest session number given.
     pub(crate) greatest: u64,
     pub(crate) transactions: OpenTransactions,
-    pub(crate) marker_names: BTreeSet<MarkerName>,
+    /// The markers of the history.
+    pub(crate) markers: Vec<LogMarker>,
     pub(crate) recovery_log: Log<S>,
     /// The log's store as it was before the opening.
     pub(crate) opened_with: Snapshot<S>,
@@ -102,7 +103,7 @@ impl<S: Store> Model for Book<S> {
       faults_at_opening = S.faults book.opened_with.value;
     } };
 
-    ghost invariant = { λ book. IsKeptBook S.tells book.placement (book_view book.seat).front book.entries.items book.done book.enabled book.greatest book.targets book.sessions book.transactions book.marker_names book.recovery_log.items book.recovery_log.torn (S.faults book.opened_with.value) (S.faults book.recovery_log.store) };
+    ghost invariant = { λ book. IsKeptBook S.tells book.placement (book_view book.seat).front book.entries.items book.done book.enabled book.greatest book.targets book.sessions book.transactions book.markers.items (book_view book.seat).given book.recovery_log.items book.recovery_log.torn (S.faults book.opened_with.value) (S.faults book.recovery_log.store) };
 }
 
 /// Why the log wasn't opened.
@@ -174,7 +175,7 @@ impl<S: Store> Book<S> {
                 sessions,
                 greatest: found.greatest,
                 transactions: found.transactions,
-                marker_names: found.marker_names,
+                markers: found.markers,
                 recovery_log,
                 opened_with,
                 seat,
@@ -186,11 +187,16 @@ impl<S: Store> Book<S> {
     /// Shows what holds of all books: the history is one that can be, the seat has seen it, the numbers of open sessions were given,
     /// and the log's items are the history's entries and markers. The bytes of the log, and what a stop leaves of them, keep these
     /// items; behind a write that failed, maybe the item that was refused too. For each failure of the log's store that the history
-    /// tells of, the store has counted a fault since the opening.
+    /// tells of, the store has counted a fault since the opening. At most one entry is open, and its end has room in the history. A
+    /// session that has an own pass is open.
     pub fn legal(&self)
         ensures legal { IsLegal self.now.state.history }
         ensures front { self.now.view.front ≡ self.now.state.history }
+        ensures one_open { (ended_count self.now.state.history ≤ length (log self.now.state.history)) × (length (log self.now.state.history) ≤ ended_count self.now.state.history + 1) }
+        ensures room { length self.now.state.history + 2 * (length (log self.now.state.history) - ended_count self.now.state.history) ≤ EVENT_LIMIT }
         ensures given { (e : Entry) → IsOfKnown self.now.state e → e.session ≤ self.now.state.greatest }
+        ensures within { self.now.state.greatest ≤ SESSION_NUMBER_LIMIT }
+        ensures owned { OwnersAreOpen self.now }
         ensures faults { HasCountedLogFaults self.now.state.history self.now.faults_at_opening (S.faults self.now.state.recovery_log.store) }
         ensures logged { S.tells ≡ true → items_of self.now.state.history ≡ self.now.state.recovery_log.items }
         ensures kept { S.tells ≡ true → IsKeptIn (S.held self.now.state.recovery_log.store) self.now.state.history }

@@ -1,8 +1,6 @@
 //! The events of a book.
 
-ghost use Rattle.std.specs.Prelude.{List, not, ◌≡◌, ◌≢◌, ◌⊎◌, None, Some, ◌↔◌, ◌+◌, ◌<◌, ◌&&◌, ℕ, true, false, [], ◌∷◌, ◌++◌, length, vec_capacity, Contains, IfOk, IfErr, OnOk, OnErr, IsErrOf};
-ghost use Rattle.std.specs.BTreeSet.{contains};
-ghost use Rattle.std.specs.Str.{bytes_eq};
+ghost use Rattle.std.specs.Prelude.{List, not, ◌≡◌, ◌≢◌, ◌⊎◌, None, Some, ◌↔◌, ◌+◌, ◌<◌, ◌≤◌, ◌&&◌, ℕ, true, false, [], ◌∷◌, ◌++◌, length, vec_capacity, Contains, IfOk, IfErr, OnOk, OnErr, IsErrOf};
 ghost use mathlib.Core.List.{IsPrefix};
 ghost use Rattle.cj_cluster.specs.declared.event.Event.{Event};
 ghost use Rattle.cj_cluster.specs.History.Histories.{events_left, has_marker, is_enabled, is_idle, log};
@@ -10,18 +8,17 @@ ghost use Rattle.cj_cluster.specs.History.Legality.{AreFitMasks, IsFitEntry, IsL
 ghost use Rattle.cj_log.specs.Logs.{IsBeforeOrAfter, LeavesItems, Refuses};
 ghost use Rattle.cj_opening.specs.Openings.{entry_item, items_of};
 ghost use Rattle.cj_opening.specs.Openings as openings;
-ghost use Rattle.cj_opening.specs.Proving.MarkerOrder.{marker_cmp, named};
 ghost use Rattle.cj_outside.specs.Causes.{CountsFault};
 ghost use Rattle.cj_outside.specs.Stores.{LeavesOnly, Only};
 ghost use Rattle.cj_board.specs.Points.{fault_tokens_of};
 ghost use Rattle.cj_board.specs.Seats.{board_id, book_board, book_view, front, history, pass_board, pass_view};
 ghost use Rattle.cj_board.specs.Steps.{after_append, after_join, after_learning, after_split, HasCountNotes, HasFaultTokens, HasPositionNotes};
 ghost use Rattle.cj_board.specs.Views.{pass_of, pass_without_tokens};
-ghost use Rattle.cj_book.specs.Books.{last_write_failed, with_entry, with_event, CanSchedule, IsKeptIn, IsOfKnown, IsPrepared, IsSameButLog};
+ghost use Rattle.cj_book.specs.Books.{last_write_failed, with_entry, with_event, CanSchedule, IsKeptIn, IsOfGiven, IsOfKnown, IsPrepared, IsSameButLog};
 ghost use Rattle.cj_book.specs.Counters.{book_after, hearing, own_view, pass_after, CanCount, IsOn};
 ghost use Rattle.cj_book.specs.Events.{Appends, Marks, Schedules};
 ghost use Rattle.cj_book.specs.Found.{start_error_of, entry_error_of};
-ghost use Rattle.cj_book.specs.Seated.{event_at_ok, event_or_fault, opened_state, view_after, IsCounted};
+ghost use Rattle.cj_book.specs.Seated.{event_at_ok, event_or_fault, opened_state, view_after, GivesOwnPassesOnly, IsCounted};
 ghost use Rattle.cj_book.specs.Starts.{CountsStartFault, IsStarted, Starts};
 
 use crate::book::Book;
@@ -32,26 +29,17 @@ use cj_board::{Board, BookSeat, Pass};
 use cj_cluster::{BoxedEntry, Event};
 use cj_log::{LogError, LogItem, LogMarker};
 use cj_model::{Entry, Name};
-use cj_opening::MarkerName;
 use cj_outside::Store;
-use std::collections::BTreeSet;
 
-/// A marker as an item, to be appended.
-fn marker_of(after: u64, name: &Name, b: Option<u8>) -> LogItem
-    ensures { result ≡ openings.marker_item after name.now b }
+/// A marker behind so many entries.
+fn marker_of(after: u64, name: &Name, b: Option<u8>) -> LogMarker
+    ensures { result ≡ record { after = after; name = name.now; b = b } }
 {
-    LogItem::Marker(LogMarker {
+    LogMarker {
         after,
         name: name.copy(),
         b,
-    })
-}
-
-/// Takes a name back.
-fn forget(names: &mut BTreeSet<MarkerName>, name: &Name)
-    ensures { (q : List ℕ) → contains marker_cmp names.new (named q) ≡ (not (bytes_eq q name.now) && contains marker_cmp names.old (named q)) }
-{
-    names.remove(&MarkerName { name: name.copy() });
+    }
 }
 
 /// An entry comes to the board, and then behind the others, where there is room for it.
@@ -96,7 +84,9 @@ impl<S: Store> Book<S> {
         ensures board { self.new.board ≡ self.old.board }
         ensures opening { self.new.faults_at_opening ≡ self.old.faults_at_opening }
         ensures seat { self.new.view ≡ view_after (event_or_fault (Event.Sched e) (Event.LogFailed e.session e.seq) result) self.old.view }
+        ensures still_gives { GivesOwnPassesOnly self.old → GivesOwnPassesOnly self.new }
     {
+        self.legal();
         self.schedule_counted(board, &mut Counter::Nobody, e)
     }
 
@@ -110,7 +100,7 @@ impl<S: Store> Book<S> {
         requires board { self.old.board ≡ board_id board.now }
         requires on { IsOn (board_id board.now) counter.old }
         requires fit { is_idle self.old.state.history ≡ true → IsFitEntry (log self.old.state.history) e }
-        requires known { IsOfKnown self.old.state e }
+        requires given { IsOfGiven self.old.state e }
         requires counted { CanCount self.old (own_view counter.old) (Event.Sched e) × CanCount self.old (own_view counter.old) (Event.LogFailed e.session e.seq) }
         ensures state { Schedules S.tells S.faults S.moment S.since S.may self.old.state e result self.new.state }
         ensures board { self.new.board ≡ self.old.board }
@@ -137,7 +127,7 @@ impl<S: Store> Book<S> {
         requires on { IsOn (board_id board.now) counter.old }
         requires can { CanSchedule self.old.state e.act }
         requires fit { IsFitEntry (log self.old.state.history) e }
-        requires known { IsOfKnown self.old.state e }
+        requires given { IsOfGiven self.old.state e }
         requires counted { CanCount self.old (own_view counter.old) (Event.Sched e) × CanCount self.old (own_view counter.old) (Event.LogFailed e.session e.seq) }
         requires prepared { IsPrepared self.old.state e prepared }
         ensures ok { OnOk result (IsSameButLog (with_entry self.old.state e) self.new.state) }
@@ -203,6 +193,7 @@ impl<S: Store> Book<S> {
         ensures board { self.new.board ≡ self.old.board }
         ensures opening { self.new.faults_at_opening ≡ self.old.faults_at_opening }
         ensures seat { self.new.view ≡ after_append (Event.Ended failed starved) self.old.view }
+        ensures still_gives { GivesOwnPassesOnly self.old → GivesOwnPassesOnly self.new }
     {
         board.append(&mut self.seat, &Event::Ended { failed, starved });
         self.done += 1;
@@ -220,6 +211,7 @@ impl<S: Store> Book<S> {
         ensures board { self.new.board ≡ self.old.board }
         ensures opening { self.new.faults_at_opening ≡ self.old.faults_at_opening }
         ensures seat { self.new.view ≡ view_after (event_at_ok (Event.Disabled b) result) self.old.view }
+        ensures still_gives { GivesOwnPassesOnly self.old → GivesOwnPassesOnly self.new }
     {
         self.check_room()?;
         board.append(&mut self.seat, &Event::Disabled { b });
@@ -238,6 +230,7 @@ impl<S: Store> Book<S> {
         ensures board { self.new.board ≡ self.old.board }
         ensures opening { self.new.faults_at_opening ≡ self.old.faults_at_opening }
         ensures seat { self.new.view ≡ view_after (event_at_ok (Event.Enabled b) result) self.old.view }
+        ensures still_gives { GivesOwnPassesOnly self.old → GivesOwnPassesOnly self.new }
     {
         self.check_room()?;
         board.append(&mut self.seat, &Event::Enabled { b });
@@ -259,6 +252,7 @@ impl<S: Store> Book<S> {
         ensures board { self.new.board ≡ self.old.board }
         ensures opening { self.new.faults_at_opening ≡ self.old.faults_at_opening }
         ensures seat { self.new.view ≡ view_after (event_at_ok (Event.ReadFailed session seq b) result) self.old.view }
+        ensures still_gives { GivesOwnPassesOnly self.old → GivesOwnPassesOnly self.new }
     {
         self.check_room()?;
         board.append(&mut self.seat, &Event::ReadFailed { session, seq, b });
@@ -278,6 +272,7 @@ impl<S: Store> Book<S> {
         ensures board { self.new.board ≡ self.old.board }
         ensures opening { self.new.faults_at_opening ≡ self.old.faults_at_opening }
         ensures seat { self.new.view ≡ view_after (event_or_fault (Event.Marker name.now b) (Event.LogFailed 0 0) result) self.old.view }
+        ensures still_gives { GivesOwnPassesOnly self.old → GivesOwnPassesOnly self.new }
     {
         self.legal();
         self.check_room()?;
@@ -310,15 +305,12 @@ impl<S: Store> Book<S> {
         self.recovery_log.legal();
         let number = self.length();
         // As for an entry, all memory is taken before.
-        self.marker_names.insert(MarkerName { name: name.copy() })?;
-        match self.recovery_log.append(marker_of(number, name, b)) {
+        self.markers.reserve(1)?;
+        let item = LogItem::Marker(marker_of(number, name, b));
+        match self.recovery_log.append(item) {
             Ok(()) => {}
-            Err(LogError::NoMemory) => {
-                forget(&mut self.marker_names, name);
-                return Err(BookError::NoMemory);
-            }
+            Err(LogError::NoMemory) => return Err(BookError::NoMemory),
             Err(LogError::Failed) => {
-                forget(&mut self.marker_names, name);
                 board.append(&mut self.seat, &Event::LogFailed { session: 0, seq: 0 });
                 return Err(BookError::LogFault);
             }
@@ -330,10 +322,12 @@ impl<S: Store> Book<S> {
                 b,
             },
         );
+        self.markers.push_reserved(marker_of(number, name, b));
         Ok(number)
     }
 
-    /// The pass has seen the history, and has the book's notes. The fault tokens stay.
+    /// The pass has seen the history, and each has the other's notes. The fault tokens stay. The session of an own pass is one that
+    /// the book gave.
     pub fn tell(&mut self, board: &Board, p: &mut Pass)
         requires board { (self.old.board ≡ board_id board.now) × (pass_board p.old ≡ board_id board.now) }
         ensures board { (self.new.board ≡ self.old.board) × (pass_board p.new ≡ pass_board p.old) }
@@ -343,6 +337,8 @@ impl<S: Store> Book<S> {
         ensures pass { pass_view p.new ≡ after_join (pass_view p.old) (pass_without_tokens self.new.view) }
         ensures told { front p.new ≡ self.old.state.history }
         ensures longer { IsPrefix (front p.old) (front p.new) }
+        ensures given { (pass_view p.old).own_session ≤ self.old.view.last_given }
+        ensures still_gives { GivesOwnPassesOnly self.old → GivesOwnPassesOnly self.new }
     {
         board.tell(&mut self.seat, p);
     }
@@ -356,6 +352,7 @@ impl<S: Store> Book<S> {
         ensures book { self.new.view ≡ after_learning self.old.view (pass_of (pass_view p.old)) }
         ensures pass { pass_view p.new ≡ after_split (pass_view p.old) }
         ensures seen { IsPrefix (front p.old) self.new.state.history }
+        ensures still_gives { GivesOwnPassesOnly self.old → GivesOwnPassesOnly self.new }
     {
         board.learn(&mut self.seat, p);
     }

@@ -1,16 +1,17 @@
 //! Sessions with an own pass, which counts their events.
 
 ghost use Rattle.std.specs.Prelude.{ℕ, ◌≡◌, ◌↔◌, ◌+◌, ◌<◌, ◌≤◌, true, Contains, IfOk, OnErr, OnOk, IsErrOf};
+ghost use mathlib.Core.List.{IsPrefix};
 ghost use Rattle.cj_cluster.specs.declared.event.Event.{Event};
 ghost use Rattle.cj_cluster.specs.History.Histories.{is_idle, log};
 ghost use Rattle.cj_cluster.specs.History.Legality.{IsFitEntry};
 ghost use Rattle.cj_board.specs.Counting.{event_count_of};
 ghost use Rattle.cj_board.specs.Seats.{board_id, front, pass_board, pass_view};
-ghost use Rattle.cj_board.specs.Steps.{after_closing, after_opening};
+ghost use Rattle.cj_board.specs.Steps.{after_closing};
 ghost use Rattle.cj_board.specs.Views.{own_pass_of};
-ghost use Rattle.cj_book.specs.Books.{with_session, without_session, HasGivenAll, IsOfKnown};
+ghost use Rattle.cj_book.specs.Books.{with_session, without_session, HasGivenAll};
 ghost use Rattle.cj_book.specs.Events.{Schedules};
-ghost use Rattle.cj_book.specs.Seated.{count_after, event_or_fault, own_book_after, own_pass_after, told_book, told_pass, GivesOwnPassesOnly};
+ghost use Rattle.cj_book.specs.Seated.{count_after, event_or_fault, own_book_after, own_opened, own_pass_after, told_book, told_pass, GivesOwnPassesOnly};
 
 use crate::book::Book;
 use crate::counter::Counter;
@@ -21,7 +22,7 @@ use cj_outside::Store;
 
 impl<S: Store> Book<S> {
     /// Opens a session of the next number with its own pass, which has seen the history and has counted nothing.
-    /// It takes memory where many are open.
+    /// The book has a note of that count. It takes memory where many are open.
     pub fn open_own(&mut self, board: &Board) -> Result<(u64, Pass), OwnError>
         requires board { self.old.board ≡ board_id board.now }
         requires gives { GivesOwnPassesOnly self.old }
@@ -29,7 +30,8 @@ impl<S: Store> Book<S> {
         ensures number { IfOk result (λ opened. opened.0 ≡ self.old.state.greatest + 1) }
         ensures own { IfOk result (λ opened. (pass_view opened.1).own_session ≡ opened.0) }
         ensures pass { IfOk result (λ opened. (pass_board opened.1 ≡ self.old.board) × (pass_view opened.1 ≡ own_pass_of self.old.view)) }
-        ensures seat { OnOk result (self.new.view ≡ after_opening self.old.view) }
+        ensures seat { OnOk result (self.new.view ≡ own_opened self.old.view) }
+        ensures noted { IfOk result (λ opened. Contains self.new.view.count_notes (opened.0, 0)) }
         ensures full { (n : ℕ) → IsErrOf result (OwnError.SessionsFull n) ↔ HasGivenAll self.old.state n }
         ensures err { OnErr result (self.new ≡ self.old) }
         ensures board { self.new.board ≡ self.old.board }
@@ -42,7 +44,8 @@ impl<S: Store> Book<S> {
         let session = self.greatest + 1;
         self.sessions.try_add(session)?;
         self.greatest = session;
-        let p = board.open_own(&mut self.seat, session);
+        let mut p = board.open_own(&mut self.seat, session);
+        board.learn(&mut self.seat, &mut p);
         Ok((session, p))
     }
 
@@ -52,7 +55,7 @@ impl<S: Store> Book<S> {
         requires board { (self.old.board ≡ board_id board.now) × (pass_board p.old ≡ board_id board.now) }
         requires own { ((pass_view p.old).own_session ≡ e.session) × (0 < e.session) }
         requires fit { is_idle self.old.state.history ≡ true → IsFitEntry (log self.old.state.history) e }
-        requires known { IsOfKnown self.old.state e }
+        requires gives { GivesOwnPassesOnly self.old }
         ensures state { Schedules S.tells S.faults S.moment S.since S.may self.old.state e result self.new.state }
         ensures board { (self.new.board ≡ self.old.board) × (pass_board p.new ≡ pass_board p.old) }
         ensures opening { self.new.faults_at_opening ≡ self.old.faults_at_opening }
@@ -62,8 +65,9 @@ impl<S: Store> Book<S> {
         ensures count { (pass_view p.new).count ≡ count_after (event_or_fault (Event.Sched e) (Event.LogFailed e.session e.seq) result) (pass_view p.old).count }
         ensures counted { event_count_of e.session self.new.state.history ≤ (pass_view p.new).count }
         ensures told { front p.new ≡ self.new.state.history }
+        ensures seen { IsPrefix (front p.old) self.old.state.history × IsPrefix (front p.old) (front p.new) }
         ensures given { (self.new.view.given ≡ self.old.view.given) × (self.new.view.last_given ≡ self.old.view.last_given) }
-        ensures still_gives { GivesOwnPassesOnly self.old → GivesOwnPassesOnly self.new }
+        ensures still_gives { GivesOwnPassesOnly self.new }
     {
         self.legal();
         self.tell(board, p);
@@ -84,10 +88,11 @@ impl<S: Store> Book<S> {
         ensures board { self.new.board ≡ self.old.board }
         ensures opening { self.new.faults_at_opening ≡ self.old.faults_at_opening }
         ensures seat { self.new.view ≡ after_closing self.old.view (pass_view p) }
+        ensures seen { IsPrefix (front p) self.old.state.history }
         ensures closed { ¬ Contains self.new.view.given session }
         ensures still_gives { GivesOwnPassesOnly self.old → GivesOwnPassesOnly self.new }
     {
-        self.close_session(session);
+        self.sessions.remove(session);
         board.close_own(&mut self.seat, p);
     }
 }

@@ -1,6 +1,8 @@
 //! What is read of a book.
 
 ghost use Rattle.std.specs.Prelude.{◌≡◌, ◌↔◌, ◌-◌, ◌^◌, ◌<◌, ◌&&◌, ℕ, true, [], ◌∷◌, ◌++◌, length, slice_get, option_copied, IsNone, IfSome, IfOk, IsTrue};
+ghost use Rattle.std.specs.List.{list_any};
+ghost use Rattle.std.specs.Str.{bytes_eq};
 ghost use Rattle.cj_model.specs.Sql.PlainRequests.{request_of};
 ghost use Rattle.cj_model.specs.Cluster.Placements as placements;
 ghost use Rattle.cj_model.specs.Cluster.Placements.{concerns, hosts_all, needs};
@@ -20,11 +22,11 @@ use crate::error::BookError;
 use crate::touching::touched_behind;
 use cj_cache::Selects;
 use cj_cluster::BoxedEntry;
-use cj_log::LogItem;
+use cj_log::{LogItem, LogMarker};
 use cj_model::{
     Act, Answer, BACKEND_LIMIT, EVENT_LIMIT, Entry, Name, NoMemory, Select, TableSet, has_bit,
 };
-use cj_opening::{MarkerName, entry_item};
+use cj_opening::entry_item;
 use cj_outside::Store;
 use cj_place::Placement;
 use cj_usage::written;
@@ -52,6 +54,13 @@ fn needs_backend(act: &Act) -> bool
     !matches!(act, Act::Abort)
 }
 
+/// Whether one of the markers has the name.
+fn is_named(markers: &[LogMarker], name: &Name) -> bool
+    ensures { result ≡ list_any (λ marker. bytes_eq name.now marker.name) markers.now }
+{
+    markers.iter().any(|marker| name.is(&marker.name))
+}
+
 impl<S: Store> Book<S> {
     /// Which backends host which tables.
     pub fn placement(&self) -> &Placement
@@ -72,6 +81,13 @@ impl<S: Store> Book<S> {
         ensures { result ≡ length (log self.now.state.history) }
     {
         self.entries.len() as u64
+    }
+
+    /// How many entries have ended.
+    pub fn ended_count(&self) -> u64
+        ensures { result ≡ histories.ended_count self.now.state.history }
+    {
+        self.done as u64
     }
 
     /// Whether no entry is open.
@@ -220,8 +236,14 @@ impl<S: Store> Book<S> {
     pub fn is_taken(&self, name: &Name) -> bool
         ensures { result ≡ histories.has_marker self.now.state.history name.now }
     {
-        self.marker_names
-            .contains(&MarkerName { name: name.copy() })
+        is_named(self.markers.as_slice(), name)
+    }
+
+    /// The markers in order, each with how many entries stand before it, and the backend whose dump it names.
+    pub fn markers(&self) -> &[LogMarker]
+        ensures { result.now ≡ books.markers_of self.now.state.history }
+    {
+        self.markers.as_slice()
     }
 
     /// How many sessions are open.

@@ -18,20 +18,18 @@ ghost use Rattle.cj_book.specs.Seated.{CanCome};
 use crate::transactions::OpenTransactions;
 use cj_board::{Board, BookSeat};
 use cj_cluster::{BoxedEntry, Event};
-use cj_log::LogItem;
+use cj_log::{LogItem, LogMarker};
 use cj_model::NoMemory;
-use cj_opening::{MarkerName, OpeningError, opening};
+use cj_opening::{OpeningError, opening};
 use cj_place::Placement;
 use std::alloc::Global;
-use std::collections::BTreeSet;
 
 /// What is kept of the events so far.
 #[derive(Drop)]
 pub struct Recovered {
     pub entries: Vec<BoxedEntry>,
     pub transactions: OpenTransactions,
-    /// The names of the markers.
-    pub marker_names: BTreeSet<MarkerName>,
+    pub markers: Vec<LogMarker>,
     /// The greatest session number of an entry.
     pub greatest: u64,
 }
@@ -43,7 +41,7 @@ impl Recovered {
         Recovered {
             entries: Vec::new(alloc),
             transactions: OpenTransactions::new(alloc),
-            marker_names: BTreeSet::new(alloc),
+            markers: Vec::new(alloc),
             greatest: 0,
         }
     }
@@ -82,8 +80,9 @@ impl Recovered {
         board.append(seat, &event);
         match event {
             Event::Sched(boxed) => self.add_entry(placement, boxed),
-            Event::Marker { name, .. } => {
-                self.marker_names.insert(MarkerName { name })?;
+            Event::Marker { name, b } => {
+                let after = self.entries.len() as u64;
+                self.markers.push(LogMarker { after, name, b })?;
                 Ok(())
             }
             _ => Ok(()),

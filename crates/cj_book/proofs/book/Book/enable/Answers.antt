@@ -1,5 +1,5 @@
 use Rattle.std.proofs.Common.{refl}
-use Rattle.cj_book.proofs.Cited.{Enabled, book_view, kept_enabled, no_counts}
+use Rattle.cj_book.proofs.Cited.{Enabled, book_view, kept_enabled, next_after, no_counts}
 use Rattle.cj_book.proofs.book.Book.enable.Goals as goal
 
 pub append-requires-clause-legal : goal.append-requires-clause-legal
@@ -20,3 +20,6 @@ invariant_of-self g c =
     let was = rw (← c.self.view_is) at c.requires.is_disabled in
     let named = rw (← c.self.view_is) at c.requires.below in
     rw c.append.ensures.book (kept_enabled c.self.invariant c.args.b named space idle was)
+
+pub returns-clause-still_gives : goal.returns-clause-still_gives
+returns-clause-still_gives g c = rw (← c.self.view_is, c.append.ensures.book) (next_after c.self.inside.greatest (book_view c.self.inside.seat) (Enabled c.args.b) refl)

@@ -1,5 +1,5 @@
 use Rattle.std.proofs.Common.{refl, rules}
-use Rattle.cj_book.proofs.Cited.{Ended, book_view, kept_ended, no_counts}
+use Rattle.cj_book.proofs.Cited.{Ended, book_view, kept_ended, next_after, no_counts}
 use Rattle.cj_book.proofs.book.Book.end.Goals as goal
 
 pub append-requires-clause-legal : goal.append-requires-clause-legal
@@ -16,3 +16,6 @@ invariant_of-self g c =
     let is_open = rw (← c.self.view_is) at c.requires.«open» in
     let masks = rw (← c.self.view_is) at c.requires.masks in
     rw c.append.ensures.book (kept_ended c.self.invariant c.args.failed c.args.starved (search rules) (search rules) (search rules) is_open masks)
+
+pub returns-clause-still_gives : goal.returns-clause-still_gives
+returns-clause-still_gives g c = rw (← c.self.view_is, c.append.ensures.book) (next_after c.self.inside.greatest (book_view c.self.inside.seat) (Ended c.args.failed c.args.starved) refl)

@@ -1,5 +1,5 @@
 use Rattle.std.proofs.Common.{◌≡◌, ◌+◌, [], ◌∷◌, ◌++◌, List, length, map, Some, Err, ap, sym, subst, refl, ◌∙◌, arith, length-append}
-use Rattle.cj_book.proofs.Cited.{Entry, Event, HasCountNotes, IsLegal, LeavesItems, LogError, LogFailed, LogItem, Sched, book_after, book_view, by_tables, entry_item, followed, follows_log_failed, follows_sched, gate_refuses, hearing, history, items_of, items_sched, kept_log_failed, kept_sched, kept_wanting, legal_push, log, log-sched, not_ok, numbers_after, numbers_before, own_view, pass_after, placement_of, seen_after, session_number, sessions_after, taken_off, transactions_after, wanting, without_touched}
+use Rattle.cj_book.proofs.Cited.{Entry, Event, HasCountNotes, IsLegal, LeavesItems, LogError, LogFailed, LogItem, Sched, book_after, book_view, by_tables, entry_item, followed, follows_log_failed, follows_sched, gate_refuses, given_after, hearing, history, items_of, items_sched, kept_log_failed, kept_sched, kept_wanting, legal_push, log, log-sched, not_ok, numbers_after, numbers_before, own_view, pass_after, placement_of, seen_after, session_number, sessions_after, taken_off, transactions_after, wanting, without_touched}
 use Rattle.cj_book.proofs.book.Book.enter.Goals as goal
 
 -- ---- memory is wanting
@@ -40,7 +40,7 @@ invariant_of-self-in-Err-NoMemory g c =
     let count = rw (← c.self.view_is) at c.length-number.ensures in
     let back : c.end.new.self ≡ b.transactions =
     taken_off (placement_of b.placement) (log (history b.seat)) b.transactions c.prepare.new.self c.end.new.self c.length-number.result c.args.e c.self.invariant.follows.transactions count c.in_ok-prepare.ensures.ok c.end.ensures in
-    rw (c.reserve.ensures.items, back) (kept_wanting c.self.invariant c.self.invariant.marked c.in-Err-NoMemory.ensures.items (λ t up. c.in-Err-NoMemory.ensures.memory t (ap (λ (d : LogError). Err d) c.in-Err-NoMemory.field-0-is) up)
+    rw (c.reserve.ensures.items, back) (kept_wanting c.self.invariant c.in-Err-NoMemory.ensures.items (λ t up. c.in-Err-NoMemory.ensures.memory t (ap (λ (d : LogError). Err d) c.in-Err-NoMemory.field-0-is) up)
     (c.in-Err-NoMemory.ensures.cause.uncounted (λ is. absurd (cc (c.in-Err-NoMemory.field-0-is, is)))))
 
 -- ---- the log's store failed
@@ -68,8 +68,8 @@ invariant_of-self-in-Err-Failed g c =
     let count = rw (← c.self.view_is) at c.length-number.ensures in
     let back : c.end-in-Err-Failed.new.self ≡ b.transactions =
     taken_off (placement_of b.placement) (log (history b.seat)) b.transactions c.prepare.new.self c.end-in-Err-Failed.new.self c.length-number.result c.args.e c.self.invariant.follows.transactions count c.in_ok-prepare.ensures.ok c.end-in-Err-Failed.ensures in
-    rw (c.reserve.ensures.items, back, seen_after (LogFailed c.args.e.session c.args.e.seq) (own_view c.args.counter.now) (book_view c.self.inside.seat) c.announce.ensures.book)
-    (kept_log_failed c.self.invariant c.args.e.session c.args.e.seq (omega (arith, space)) can.is_free c.self.invariant.marked c.in-Err-Failed.ensures.items (c.in-Err-Failed.ensures.cause.counted (ap (λ (d : LogError). Err d) c.in-Err-Failed.field-0-is)))
+    rw (c.reserve.ensures.items, back, seen_after (LogFailed c.args.e.session c.args.e.seq) (own_view c.args.counter.now) (book_view c.self.inside.seat) c.announce.ensures.book, given_after (LogFailed c.args.e.session c.args.e.seq) (own_view c.args.counter.now) (book_view c.self.inside.seat) c.announce.ensures.book)
+    (kept_log_failed c.self.invariant c.args.e.session c.args.e.seq (omega (arith, space)) can.is_free c.in-Err-Failed.ensures.items (c.in-Err-Failed.ensures.cause.counted (ap (λ (d : LogError). Err d) c.in-Err-Failed.field-0-is)))
 
 -- ---- the entry comes
 
@@ -103,7 +103,7 @@ invariant_of-self-2 g c =
     let hosts = c.args.prepared.hosts in
     let can = rw (← c.self.view_is) at c.requires.can in
     let fit = rw (← c.self.view_is) at c.requires.fit in
-    let known = rw (← c.self.view_is) at c.requires.known in
+    let given = rw (← c.self.view_is) at c.requires.given in
     let prepared = rw (← c.self.view_is) at c.requires.prepared in
     let count = rw (← c.self.view_is) at c.length-number.ensures in
     let space = can.space in
@@ -113,9 +113,10 @@ invariant_of-self-2 g c =
     let sessions : c.follow-2.new.self ≡ sessions_after b.sessions (length (log h) + 1) e e.act = c.follow-2.ensures ∙ ap (λ n. sessions_after b.sessions (n + 1) e e.act) count in
     let transactions : c.follow.new.self ≡ transactions_after b.transactions (length (log h) + 1) hosts e e.act =
     followed b.transactions c.prepare.new.self c.follow.new.self c.length-number.result (length (log h)) hosts e count c.in_ok-prepare.ensures.ok c.follow.ensures in
-    let follows = follows_sched _ _ _ _ _ _ k.follows b.recovery_log b.balancer b.cache e hosts b.enabled fit known can.is_free (omega (arith, space)) prepared.hosts k.history.mask in
-    rw (entries, events, sessions, transactions)
-    (kept_sched k e can.is_free space follows (λ t. c.in-Ok.ensures.items t ∙ ap (λ (i : LogItem). b.recovery_log.items ++ i ∷ []) prepared.item.0) (λ t. c.in-Ok.ensures.refused t) (c.in-Ok.ensures.cause.uncounted (λ is. absurd (cc is))))
+    let follows = follows_sched _ _ _ _ _ _ k.follows b.recovery_log b.balancer b.cache e hosts b.enabled fit given can.is_free (omega (arith, space)) prepared.hosts k.history.mask in
+    let owners = given_after (Sched c.filled.result) (own_view c.args.counter.now) (book_view b.seat) c.put_entry.ensures.view in
+    rw (entries, events, owners, sessions, transactions)
+    (kept_sched k e can.is_free space follows (numbers_after (log h) e b.sessions (length (log h) + 1)) (λ t. c.in-Ok.ensures.items t ∙ ap (λ (i : LogItem). b.recovery_log.items ++ i ∷ []) prepared.item.0) (λ t. c.in-Ok.ensures.refused t) (c.in-Ok.ensures.cause.uncounted (λ is. absurd (cc is))))
 
 pub returns-clause-ok : goal.returns-clause-ok
 returns-clause-ok g c =

@@ -25,6 +25,18 @@ returns-clause-given g c =
     subst (λ (v : SeatedBook g.row.S.Denot). (e : Entry) → IsOfKnown v.state e → e.session ≤ v.state.greatest) c.self.view_is
     (given_session b.placement (history b.seat) b.greatest b.targets b.sessions b.transactions c.self.invariant.follows b.recovery_log b.balancer b.cache)
 
+pub returns-clause-one_open : goal.returns-clause-one_open
+returns-clause-one_open g c = rw (← c.self.view_is) c.self.invariant.history.one_open
+
+pub returns-clause-room : goal.returns-clause-room
+returns-clause-room g c = rw (← c.self.view_is) c.self.invariant.history.short
+
+pub returns-clause-within : goal.returns-clause-within
+returns-clause-within g c = rw (← c.self.view_is) c.self.invariant.within
+
+pub returns-clause-owned : goal.returns-clause-owned
+returns-clause-owned g c = rw (← c.self.view_is) c.self.invariant.owned
+
 pub returns-clause-faults : goal.returns-clause-faults
 returns-clause-faults g c =
     let faults = g.S.Store.faults in

@@ -1,5 +1,6 @@
-use Rattle.std.proofs.Common.{◌≡◌}
+use Rattle.std.proofs.Common.{◌≡◌, ℕ, ◌+◌, ap, sym, subst}
 use Rattle.cj_book.proofs.Scheduling.{always, has_room, no_other, unmarked, wants}
+use Rattle.cj_book.proofs.Cited.{BookState, LogFailed, Marker, came_gives, event_or_fault, marks_greatest, mark_sessions, next_session, SeatView}
 use Rattle.cj_book.proofs.book.Book.mark.Goals as goal
 
 pub returns-in_err-check_room-clause-state : goal.returns-in_err-check_room-clause-state
@@ -28,3 +29,12 @@ returns-clause-state g c =
       refused = i.refused;
       safe = i.safe;
     }
+
+pub returns-clause-still_gives : goal.returns-clause-still_gives
+returns-clause-still_gives g c = λ gives.
+    let old = c.args.self.now in
+    let i = c.enter_marker.ensures in
+    let same = marks_greatest old.state c.args.name.now c.args.b c.enter_marker.result c.enter_marker.new.self.state i.ok i.log_fault i.same in
+    let o = event_or_fault (Marker c.args.name.now c.args.b) (LogFailed 0 0) c.enter_marker.result in
+    let next = came_gives old.state.greatest old.view o (mark_sessions old.state.greatest c.args.name.now c.args.b c.enter_marker.result) gives in
+    subst (λ (x : ℕ × SeatView). x.0 + 1 ≡ next_session x.1) (λ k. (sym same k, sym i.seat k)) next

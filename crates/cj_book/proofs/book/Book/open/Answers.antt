@@ -1,5 +1,6 @@
 use Rattle.std.proofs.Common.{◌≡◌, ℕ, ◌<◌, ◌≤◌, List, length, Err, ap, sym, ◌∙◌, subst, arith, refl}
-use Rattle.cj_book.proofs.Cited.{BadEntry, Begins, HasBadEntry, LogItem, OpensTo, SeatView, StartError, Starts, book_view, follows_opening, gate_shut, history, items_refused, keeps_opened, opening_counted, opening_gives}
+use Rattle.cj_book.proofs.Cited.{BadEntry, Begins, HasBadEntry, LogItem, OpensTo, SeatView, StartError, Starts, book_view, follows_opening, gate_shut, greatest_within, history, items_refused, keeps_opened, opening_counted, opening_gives}
+use Rattle.std.proofs.lemmas.List.Elements.{All-nil}
 use Rattle.cj_book.proofs.book.Book.open.Goals as goal
 
 pub invariant_of-result : goal.invariant_of-result
@@ -20,6 +21,8 @@ invariant_of-result g c =
       history = rw done (keeps_opened layout items h opens (length layout.names) found.entries.items backends kept.entries);
       follows = rw c.in-Ok-new.ensures (follows_opening layout items h opens found kept);
       marked = kept.marked;
+      within = rw kept.greatest (greatest_within h opens.legal);
+      owned = rw (ap (λ (v : SeatView). v.given) c.in-Ok-recover.ensures.view ∙ c.requires.none.1) (All-nil _);
       logged = λ t. opens.same ∙ sym (c.in-Ok.ensures.bytes t).1;
       gate = gate_shut g.S.Store.tells c.in-Ok.opened.0.torn h (λ t. c.in-Ok.ensures.shut);
       faults = opening_counted h (faults c.of-opened_with.result.value) (faults c.in-Ok.opened.0.store) opens.opening (c.in-Ok.ensures.cause ∙ sym (ap faults c.of-opened_with.ensures));

@@ -1,5 +1,5 @@
 use Rattle.std.proofs.Common.{refl}
-use Rattle.cj_book.proofs.Cited.{ReadFailed, book_view, kept_read_failed, no_counts, one_token}
+use Rattle.cj_book.proofs.Cited.{ReadFailed, book_view, kept_read_failed, next_after, no_counts, one_token}
 use Rattle.cj_book.proofs.book.Book.read_failed.Goals as goal
 
 pub append-requires-clause-legal : goal.append-requires-clause-legal
@@ -19,3 +19,6 @@ pub invariant_of-self : goal.invariant_of-self
 invariant_of-self g c =
     let space = rw (← c.self.view_is) at c.in_ok-check_room.ensures in
     rw c.append.ensures.book (kept_read_failed c.self.invariant c.args.session c.args.seq c.args.b space)
+
+pub returns-clause-still_gives : goal.returns-clause-still_gives
+returns-clause-still_gives g c = rw (← c.self.view_is, c.append.ensures.book) (next_after c.self.inside.greatest (book_view c.self.inside.seat) (ReadFailed c.args.session c.args.seq c.args.b) refl)

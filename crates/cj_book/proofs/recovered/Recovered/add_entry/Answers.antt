@@ -14,6 +14,6 @@ returns c = λ h legal k.
     let entries : c.push.new.self.items ≡ old.entries.items ++ e ∷ [] = c.in_ok-push.ensures.items ∙ ap (λ (x : Entry). old.entries.items ++ x ∷ []) (sym is) in
     let transactions : c.follow.new.self ≡ transactions_after old.transactions (length (log h) + 1) hosts e e.act =
     followed old.transactions c.prepare.new.self c.follow.new.self c.len.result (length (log h)) hosts e count c.in_ok-prepare.ensures.ok c.follow.ensures in
-    let new : Recovered = record { entries = c.push.new.self; transactions = c.follow.new.self; marker_names = old.marker_names; greatest = c.max-self.result } in
+    let new : Recovered = record { entries = c.push.new.self; transactions = c.follow.new.self; markers = old.markers; greatest = c.max-self.result } in
     subst (λ (x : Entry). IsRecovered p (h ++ Sched x ∷ []) new) is
     (recovers_sched p h old new k e hosts (subst (λ (x : Entry). IsLegal (h ++ Sched x ∷ [])) (sym is) legal) (λ fit. c.concerned-hosts.ensures (log h) k.transactions fit) entries transactions refl c.max-self.ensures)

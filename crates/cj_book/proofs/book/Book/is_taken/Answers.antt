@@ -1,0 +1,9 @@
+use Rattle.std.proofs.Common.{◌≡◌, ap, sym, ◌∙◌}
+use Rattle.cj_book.proofs.Cited.{LogMarker, has_named, history, list_any}
+use Rattle.cj_book.proofs.Marked.{has_name}
+use Rattle.cj_book.proofs.book.Book.is_taken.Goals as goal
+
+pub returns : goal.returns
+returns g c =
+    let name = c.args.name.now in
+    rw (← c.self.view_is) (c.is_named.ensures ∙ (ap (list_any (has_name name)) (c.as_slice.ensures.value ∙ c.self.invariant.marked) ∙ sym (has_named (history c.self.inside.seat) name)))
