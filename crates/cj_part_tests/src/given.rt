@@ -1,9 +1,7 @@
 //! What calls are given: requests, names and texts that are right as they are spelled.
 
-ghost use Rattle.cj_model.specs.Sql.WrittenRequests.{IsWritten};
-
 use cj_model::{Cond, Name, Request, Select, Text};
-use cj_sql::{is_plain, read};
+use cj_sql::read;
 use std::alloc::Global;
 use std::process::Abort;
 use std::test::Fail;
@@ -12,16 +10,6 @@ pub fn request(rt: &impl Abort, alloc: Global, text: &str) -> Request {
     match read(alloc, text.as_bytes()) {
         Ok(request) => request,
         Err(_) => panic!(rt; "{text}"),
-    }
-}
-
-/// The plain request that a text reads as.
-pub fn plain_request(rt: &impl Abort, alloc: Global, text: &str) -> Request
-    ensures { IsWritten result }
-{
-    match read(alloc, text.as_bytes()) {
-        Ok(request) if is_plain(&request) => request,
-        _ => panic!(rt; "{text}"),
     }
 }
 

@@ -8,11 +8,7 @@ mod accounts;
 #[cfg(test)]
 mod board;
 #[cfg(test)]
-mod drafts;
-#[cfg(test)]
 mod dumps;
-#[cfg(test)]
-mod engines;
 #[cfg(test)]
 mod expressions;
 #[cfg(test)]
