@@ -1,5 +1,5 @@
 -- What a world keeps where an event comes that schedules nothing and ends nothing.
-use Rattle.std.proofs.Common.{◌≡◌, ℕ, ◌<◌, ◌≤◌, Bool, true, false, List, [], ◌∷◌, ◌++◌, length, map, Option, None, Some, refl, ap, sym, ◌∙◌}
+use Rattle.std.proofs.Common.{◌≡◌, ℕ, ◌<◌, ◌≤◌, Bool, true, false, List, [], ◌∷◌, ◌++◌, length, map, Option, None, Some, refl, ap, sym, ◌∙◌, subst}
 use Rattle.cj_state.proofs.Common.{AreBetween, both_ways, CellState, core_of, CoreInvariant, Disabled, Dump, Enabled, Entry, Event, is_entry_of, IsTallyOf, Kept, Layout, LogFailed, Marker, OpenSession, placement_of, position_at, ReadFailed, Register, session_at, taken_of, Tally, world_of}
 use Rattle.cj_cluster.specs.History.Histories.{scheduled_entry, is_end_event, log, ended_count, is_idle, entry_in_progress, is_enabled, has_marker, events_left, outcome_of}
 use Rattle.cj_cluster.proofs.Pushed.{enabled-push, log-same, log_faults-same, done-same, opened-same, opened-free}

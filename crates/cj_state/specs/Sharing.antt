@@ -29,13 +29,13 @@ pub record IsBookOf {S : Type 0} (w : WorldState) (b : BookState S) : Type 0 whe
   pub cache : b.cache ≡ w.cache
 
 -- The parts of a world: all seats are at one board, the book's seat has seen the history, and the cells and dumps are those of the world. No session has an own pass, and each further one can be given one where the numbers follow the history.
-pub record IsTakenApart {S : Type 0} (tells : Bool) (w : WorldState) (id pass : TableId) (book : SeatedBook S) (cells : List SeatedCell) (accounts : Register) (dumps : List Dump) : Type 0 where
-  pub at : AreAt id pass book.board cells
-  pub book : IsBookOf w book.state
-  pub front : book.view.front ≡ book.state.history
-  pub unowned : book.view.given ≡ []
-  pub gives : NumbersFollowHistory w → GivesOwnPassesOnly book
-  pub cells : states_of cells ≡ w.cells
-  pub accounts : accounts ≡ w.setup.register
-  pub dumps : map taken_of dumps ≡ w.core.dumps
-  pub held : AreDumpsOf tells w.core.placement (log w.core.history) dumps
+pub record IsTakenApart {S : Type 0} (tells : Bool) (w : WorldState) (id pass : TableId) (b : SeatedBook S) (xs : List SeatedCell) (register : Register) (taken : List Dump) : Type 0 where
+  pub at : AreAt id pass b.board xs
+  pub book : IsBookOf w b.state
+  pub front : b.view.front ≡ b.state.history
+  pub unowned : b.view.given ≡ []
+  pub gives : NumbersFollowHistory w → GivesOwnPassesOnly b
+  pub cells : states_of xs ≡ w.cells
+  pub accounts : register ≡ w.setup.register
+  pub dumps : map taken_of taken ≡ w.core.dumps
+  pub held : AreDumpsOf tells w.core.placement (log w.core.history) taken
