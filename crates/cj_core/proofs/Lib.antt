@@ -15,6 +15,7 @@ pub mod SoloWrites
 pub mod StartEnables
 pub mod StartEnds
 pub mod StartLonger
+pub mod StartNumbers
 pub mod StartReplays
 pub mod StartTakes
 pub mod StartWhole

@@ -13,8 +13,8 @@ mod solo_write;
 mod start;
 mod world;
 
+pub use cj_state::{Backends, Parts, Shared};
 pub use cj_world_audit::AuditError;
 pub use laws::{quiet_calls_blame_nobody, quiet_sessions_blame_nobody};
 pub use solo::Solo;
-pub use start::{Backends, Parts};
 pub use world::World;

@@ -93,10 +93,10 @@ fn enable_where_there<B: Backend, S: Store>(
     match state.switch_on(b) {
         Ok(()) => Ok(()),
         Err(BookError::HistoryFull(_)) => Err(StartError::NoMemory),
-        Err(BookError::NoMemory) => Err(StartError::NoMemory),
         Err(BookError::InProgress(_)) => unreachable!(),
         Err(BookError::NoBackend) => unreachable!(),
         Err(BookError::LogFault) => unreachable!(),
+        Err(BookError::NoMemory) => unreachable!(),
     }
 }
 

@@ -1,6 +1,6 @@
 //! How a world begins, and how it is given up.
 
-ghost use Rattle.std.specs.Prelude.{◌≡◌, ◌≤◌, true, [], length, map, vec_capacity, IfOk, OnOk};
+ghost use Rattle.std.specs.Prelude.{◌≡◌, ◌≤◌, ℕ, true, List, [], length, map, vec_capacity, IfOk, OnOk};
 ghost use Rattle.cj_cluster.specs.History.Histories.{log};
 ghost use Rattle.cj_core.specs.Starts.{backend_of, state_by, AreHolding, AreCurrent, CountsFaultOfStart, HasStarted, HaveBegunNone, KeepEachBegun, RefusesBytes, StartsFrom};
 ghost use Rattle.cj_core.specs.Proving.StartParts.{CountsFaultOfPart, IsLonger};
@@ -11,6 +11,9 @@ ghost use Rattle.cj_replica.specs.Cells.{CellState};
 ghost use Rattle.cj_state.specs.Proving.Seated.{AreAt};
 ghost use Rattle.cj_state.specs.Faults.{faults_of};
 ghost use Rattle.cj_state.specs.Seats.{states_of, AreCellsAt};
+ghost use Rattle.cj_state.specs.Sharing.{IsTakenApart, NumbersFollowHistory};
+ghost use Rattle.cj_state.specs.Worlds.{log_view, IsFresh, IsWorld};
+ghost use Rattle.cj_book.specs.Books.{IsKeptIn};
 ghost use Rattle.cj_log.specs.Logs.{KeepsItems};
 ghost use Rattle.cj_outside.specs.Stores.{Only};
 ghost use Rattle.cj_model.specs.Cluster.Caching.{empty_cache};
@@ -23,25 +26,15 @@ use crate::world::World;
 use cj_auth::Accounts;
 use cj_backend::Backend;
 use cj_board::{Board, BookSeat, CellSeat, Pass};
-use cj_book::{Book, BookParts, StartError};
+use cj_book::{Book, StartError};
 use cj_model::{BACKEND_LIMIT, Duplicate, ListOf, NoMemory};
 use cj_open_sessions::Sessions;
 use cj_outside::Store;
 use cj_place::Placement;
 use cj_replica::Cell;
 use cj_shelf::MemoryShelf;
-use cj_state::State;
+use cj_state::{Backends, Parts, Shared, State};
 use std::alloc::Global;
-
-/// What a world is made of beside its backends. Each account has a login at each of them.
-#[derive(Drop)]
-pub struct Parts {
-    pub book: BookParts,
-    pub accounts: Accounts,
-}
-
-/// Backends in the order of their numbers.
-pub type Backends<B> = ListOf<B>;
 
 /// Moves the backends into cells by their numbers, at their seats, which leaves their list empty.
 fn cells_of<B: Backend + Drop>(
@@ -98,6 +91,7 @@ fn seat_all<B: Backend + Drop>(
     ensures few { OnOk result (length placement.now.names ≤ BACKEND_LIMIT) }
     ensures at { IfOk result (λ s. AreAt (board_id s.board) (pass_board s.pass) (book_board s.book_seat) s.cells.items) }
     ensures unseen { IfOk result (λ s. ((book_view s.book_seat).front ≡ []) × ((book_view s.book_seat).given ≡ [])) }
+    ensures none_given { IfOk result (λ s. (book_view s.book_seat).last_given ≡ 0) }
     ensures fresh { IfOk result (λ s. AreFresh (placement_of placement.now) (states_of s.cells.items)) }
     ensures empty { IfOk result (λ s. AreEmpty B.tells (map (λ (x : CellState). x.told) (states_of s.cells.items))) }
     ensures same { IfOk result (λ s. map backend_of (states_of s.cells.items) ≡ map (state_by B.told B.faults B.asks B.login B.arming) backends) }
@@ -172,6 +166,7 @@ impl<B: Backend + Drop, S: Store + Drop> World<B, S> {
         requires cache { parts.book.cache ≡ empty_cache parts.book.cache.capacity }
         ensures started { IfOk result (StartsFrom (λ items. S.tells ≡ true → KeepsItems (S.held log) items) (placement_of parts.book.placement) (map (state_by B.told B.faults B.asks B.login B.arming) backends)) }
         ensures setup { IfOk result (λ world. world.setup ≡ record { names = parts.book.placement.names; register = parts.accounts }) }
+        ensures numbers { IfOk result NumbersFollowHistory }
         ensures cache { IfOk result (λ world. world.cache ≡ parts.book.cache) }
         ensures kept { S.tells ≡ true → IfOk result (λ world. KeepsItems world.recovery_log.bytes (items_of world.core.history)) }
         ensures bytes { S.tells ≡ true → RefusesBytes S.held (S.held log) result }
@@ -200,13 +195,28 @@ impl<B: Backend + Drop, S: Store + Drop> World<B, S> {
         }
     }
 
-    /// The log's store, as it is.
+    /// The log's store, as it is. Its bytes keep the history, and so does whatever a stop at this moment leaves of them.
     pub fn into_log(self) -> S
         ensures faults { S.faults result ≡ self.recovery_log.faults }
         ensures bytes { S.held result ≡ self.recovery_log.bytes }
+        ensures kept { S.tells ≡ true → IsKeptIn (S.held result) self.core.history }
+        ensures stop { S.tells ≡ true → (image : List ℕ) → S.may result image → IsKeptIn image self.core.history }
     {
         let World { state, .. } = self;
         state.into_log()
+    }
+
+    /// Takes the world apart: its board, and the book and the cells at the board's seats. It takes no memory.
+    pub fn into_shared(self) -> Shared<B, S>
+        ensures world { IsWorld B.tells self }
+        ensures fresh { IsFresh B.tells self }
+        ensures parts { IsTakenApart B.tells self (board_id result.board) (pass_board result.pass) result.book result.cells.items result.accounts result.dumps }
+        ensures recovery_log { log_view S.faults S.held result.book.state.recovery_log ≡ self.recovery_log }
+        ensures emptied { result.emptied.items ≡ [] }
+        ensures room { BACKEND_LIMIT ≤ vec_capacity result.emptied }
+    {
+        let World { state, emptied } = self;
+        state.into_shared(emptied.into_vec())
     }
 
     /// The backends in the order of their numbers, as they stand. It takes no memory.

@@ -1,13 +1,13 @@
 //! A backend is disabled.
 
-ghost use Rattle.std.specs.Prelude.{◌≡◌, ◌<◌, ◌≤◌, length, IsErrOf, None, Ok};
+ghost use Rattle.std.specs.Prelude.{◌≡◌, ◌<◌, ◌≤◌, length, None, Ok};
 ghost use Rattle.cj_cluster.specs.Moves.Moves as moves;
 ghost use Rattle.cj_cluster.specs.Moves.Moves.{Disables, not_now};
 
 use crate::reason::why;
 use cj_backend::Backend;
 use cj_book::BookError;
-use cj_cluster::{Move, MoveError, Moved, Reason, Why};
+use cj_cluster::{Move, Moved, Reason, Why};
 use cj_outside::Store;
 use cj_state::State;
 
@@ -23,21 +23,22 @@ pub fn not_now_disable<B: Backend, S: Store>(state: &State<B, S>, b: u8) -> Opti
     None
 }
 
-pub fn disable<B: Backend, S: Store>(state: &mut State<B, S>, b: u8) -> Result<Moved, MoveError>
+pub fn disable<B: Backend, S: Store>(state: &mut State<B, S>, b: u8) -> Moved
     requires { not_now state.old.core (Move.Disable b) ≡ None }
-    ensures moves { Disables state.old.core b result state.new.core }
+    ensures moves { Disables state.old.core b (Ok result) state.new.core }
     ensures cells { state.new.cells ≡ state.old.cells }
-    ensures want { IsErrOf result MoveError.NoMemory → state.new ≡ state.old }
     ensures setup { state.new.setup ≡ state.old.setup }
     ensures cache { state.new.cache ≡ state.old.cache }
     ensures recovery_log { state.new.recovery_log ≡ state.old.recovery_log }
 {
     match state.switch_off(b) {
-        Ok(()) => Ok(Moved::Disabled),
-        Err(BookError::HistoryFull(_)) => Ok(Moved::Refused(state.history_full())),
-        Err(BookError::NoMemory) => Err(MoveError::NoMemory),
-        Err(BookError::InProgress(_)) | Err(BookError::NoBackend) | Err(BookError::LogFault) => {
-            unreachable!()
-        }
+        Ok(()) => Moved::Disabled,
+        Err(BookError::HistoryFull(_)) => Moved::Refused(state.history_full()),
+        Err(
+            BookError::InProgress(_)
+            | BookError::NoBackend
+            | BookError::LogFault
+            | BookError::NoMemory,
+        ) => unreachable!(),
     }
 }

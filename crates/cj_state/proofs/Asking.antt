@@ -1,7 +1,7 @@
 -- What a world keeps where a backend is asked, and what it answers.
 use Rattle.std.proofs.Common.{◌≡◌, ℕ, ◌<◌, ◌≤◌, Bool, true, false, cond, List, length, get_or, Option, None, Some, IfSome, Result, Ok, Err, refl, ap, sym, ◌∙◌, subst, arith, ⊎_elim}
 use Rattle.std.specs.Prelude.{◌↔◌, IsErrOf}
-use Rattle.cj_state.proofs.Common.{Asked, Balance, BookState, CacheState, cases_lt, CellReadError, ChangesCell, Core, core_of, CoreInvariant, database_after, Dump, Event, events_left, false_from_ne_true, HasNoRoomForOne, HoldsPart, hosts_all, Kept, log, logins_of, LogsInToAsk, LogView, OpenSession, Outcome, part, position_at, ReadFailed, Select, session_at, Slot, with_balance, with_cache, with_event, with_log, WorldState}
+use Rattle.cj_state.proofs.Common.{Asked, BookState, CacheState, cases_lt, CellReadError, ChangesCell, Core, core_of, CoreInvariant, database_after, Dump, Event, events_left, false_from_ne_true, HasNoRoomForOne, HoldsPart, hosts_all, Kept, log, logins_of, LogsInToAsk, LogView, OpenSession, part, position_at, ReadFailed, Select, session_at, Slot, Tally, with_cache, with_event, with_log, WorldState, Balance, with_balance}
 use Rattle.cj_model.specs.Database.Queries.{ask}
 use Rattle.cj_model.specs.Database.Outcomes.{IsAsked}
 use Rattle.cj_cluster.specs.Moves.Moves.{happened, read_number, IsFarEnough}
@@ -29,7 +29,7 @@ notes_cases Q old new s q b errors.Failed e notes out behind want came full =
     (λ (none : (k : ℕ) × (e ≡ ask_errors.Unnoted k) × HasNoRoomForOne old k × (new ≡ old)). rw (none.1, none.3) (full refl none.0 none.2))
     notes
 
-module _ {tells : Bool} {w : WorldState} {numbers : List ℕ} {first_outcome : Option Outcome} (kept : Kept tells w numbers first_outcome) {seen_log : LogView} {cache : CacheState} {balance : Balance} {old : WorldState} (seen : with_balance (with_cache (with_log w seen_log) cache) balance ≡ old)
+module _ {tells : Bool} {w : WorldState} {numbers : List ℕ} {tally : Tally} (kept : Kept tells w numbers tally) {seen_log : LogView} {cache : CacheState} {balance : Balance} {old : WorldState} (seen : with_balance (with_cache (with_log w seen_log) cache) balance ≡ old)
     {b : ℕ} (within : b < old.core.placement.backends) where
   -- what backend b answered a session's query
   module _ {x : CellState} (there : x ≡ get_or w.cells b x) (number : ℕ) {least : ℕ} (is_least : least ≡ (session_at old.core number).least) where

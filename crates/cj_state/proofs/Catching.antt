@@ -1,7 +1,7 @@
 -- What a cell that takes its next entry makes of the cells.
 use Rattle.std.proofs.Common.{◌≡◌, ◌≢◌, ◌⊎◌, inl, inr, ℕ, ◌+◌, ◌<◌, ◌≤◌, not, Bool, true, cond, List, [], ◌∷◌, length, map, get_or, set, slice_get, Option, Some, option_map, IfSome, IfOk, Result, Ok, Err, refl, ap, sym, ◌∙◌, subst, arith, ⊎_elim}
 use Rattle.std.specs.Option.{option_map_or}
-use Rattle.cj_state.proofs.Common.{Caught, CellError, core_of, database_after, did_fail, Disabled, DoesWithEntry, Dump, Enabled, Ended, Entry, Event, get_or_default, is_there, IsCell, Kept, Layout, legal_fit, length-map, log, LogFailed, login_of, logins_of, LogsInToTake, Marker, MayCallUnder, next, next_user, OpenSession, Outcome, part, placement_of, position_at, ReadFailed, Register, Sched, Slot, step, takes_part, world_of}
+use Rattle.cj_state.proofs.Common.{Caught, CellError, core_of, database_after, did_fail, Disabled, DoesWithEntry, Dump, Enabled, Ended, Entry, Event, get_or_default, is_there, IsCell, Kept, Layout, legal_fit, length-map, log, LogFailed, login_of, logins_of, LogsInToTake, Marker, MayCallUnder, next, next_user, OpenSession, part, placement_of, position_at, ReadFailed, Register, Sched, Slot, step, takes_part, Tally, world_of}
 use Rattle.cj_model.specs.declared.account.Account.{Account}
 use Rattle.cj_cluster.specs.Proving.Invariants.{HoldsPart, HasBegunDrafts, CoversDrafts}
 use Rattle.cj_cluster.proofs.PartRuns.{part_at_taken}
@@ -130,9 +130,9 @@ log_length (Enabled b ∷ h) = let le = log_length h in omega arith
 log_length (Marker name b ∷ h) = let le = log_length h in omega arith
 
 -- a backend that stands below the log's end
-pub can_take : (tells : Bool) (reg : Register) (l : Layout) (h : List Event) (cells : List CellState) (f s : ℕ) (ss : List OpenSession) (g : ℕ) (ds : List Dump) (numbers : List ℕ) (first_outcome : Option Outcome)
-    → Kept tells (world_of reg l h cells f s ss g ds) numbers first_outcome → (b p : ℕ) → position_at (core_of l h cells f s ss g ds) b ≡ Some p → p ≢ length (log h) → CanTake tells l h cells b
-can_take tells reg l h cells f s ss g ds numbers first_outcome kept b p there more =
+pub can_take : (tells : Bool) (reg : Register) (l : Layout) (h : List Event) (cells : List CellState) (f s : ℕ) (ss : List OpenSession) (g : ℕ) (ds : List Dump) (numbers : List ℕ) (tally : Tally)
+    → Kept tells (world_of reg l h cells f s ss g ds) numbers tally → (b p : ℕ) → position_at (core_of l h cells f s ss g ds) b ≡ Some p → p ≢ length (log h) → CanTake tells l h cells b
+can_take tells reg l h cells f s ss g ds numbers tally kept b p there more =
     let w = kept.world in
     let within : b < length (map (λ (x : CellState). x.position) cells) = is_there (map (λ (x : CellState). x.position) cells) b p there in
     let lt : b < length cells = rw length-map at within in

@@ -1,7 +1,7 @@
 -- A world of which one cell has changed: what it keeps, and what callers see of it.
 use Rattle.std.proofs.Common.{◌≡◌, ◌≢◌, ◌⊎◌, inl, inr, ℕ, ◌<◌, Bool, cond, List, length, map, get_or, set, slice_get, Option, None, Some, Result, refl, ap, sym, ◌∙◌, subst, ⊎_elim}
 use Rattle.std.proofs.lemmas.List.{length-map, get_or_default, set-get_or}
-use Rattle.cj_state.proofs.Common.{armings_after, armings_of, asks_of, asks_with, Balance, CacheState, CallsUnder, CellError, CellState, ChangesCell, Core, CoreInvariant, failed_contents, faults_after, faults_of, HasCellCause, IsCell, IsWorld, Kept, log, logins_of, LogView, map-set_same, MayCallUnder, next, Outcome, position_at, stand_rest, with_balance, with_cache, with_log, WorldState}
+use Rattle.cj_state.proofs.Common.{armings_after, armings_of, CacheState, CallsUnder, CellError, CellState, ChangesCell, Core, CoreInvariant, failed_contents, faults_after, faults_of, HasCellCause, IsCell, IsWorld, Kept, log, logins_of, LogView, map-set_same, MayCallUnder, next, position_at, stand_rest, Tally, with_cache, with_log, WorldState, asks_of, asks_with, Balance, with_balance}
 use Rattle.cj_state.proofs.CellsKept.{cells_set, position_of}
 use Rattle.cj_state.proofs.Contents.{contents_fault}
 use Rattle.cj_state.proofs.Counted.{armings_set, asks_set, counts_set, got_other, logins_same, logins_set}
@@ -10,7 +10,7 @@ use Rattle.cj_state.proofs.Counted.{armings_set, asks_set, counts_set, got_other
 abbrev pub with_cells : WorldState → List CellState → WorldState
 with_cells w cells = record w { core = record w.core { positions = map (λ (x : CellState). x.position) cells; begun = map (λ (x : CellState). x.begun) cells }; cells = cells }
 
-module _ {tells : Bool} {w : WorldState} {numbers : List ℕ} {first_outcome : Option Outcome} (kept : Kept tells w numbers first_outcome) {seen_log : LogView} {cache : CacheState} {balance : Balance} {old : WorldState} (seen : with_balance (with_cache (with_log w seen_log) cache) balance ≡ old)
+module _ {tells : Bool} {w : WorldState} {numbers : List ℕ} {tally : Tally} (kept : Kept tells w numbers tally) {seen_log : LogView} {cache : CacheState} {balance : Balance} {old : WorldState} (seen : with_balance (with_cache (with_log w seen_log) cache) balance ≡ old)
     {b : ℕ} (within : b < old.core.placement.backends) where
   -- each backend of the placement has a cell
   pub has_cell : b < length w.cells
@@ -106,14 +106,14 @@ module _ {tells : Bool} {w : WorldState} {numbers : List ℕ} {first_outcome : O
       pub core_stays : (with_cells w now).core ≡ old.core
       core_stays = same_inside ∙ ap (λ (z : WorldState). z.core) seen
 
-      pub kept_cell : IsCell tells w.core.placement (log w.core.history) b ch.after → Kept tells (with_cells w now) numbers first_outcome
+      pub kept_cell : IsCell tells w.core.placement (log w.core.history) b ch.after → Kept tells (with_cells w now) numbers tally
       kept_cell is =
           record {
             world = world_with_cell (subst CoreInvariant (sym same_inside) kept.world.sound) is;
             numbers_are = kept.numbers_are;
             served = kept.served;
-            right = kept.right;
-            whole = λ e k running part on end. kept.whole e k running part on (ap (λ (ps : List (Option ℕ)). get_or ps k None) (sym same_places) ∙ end);
+            tallied = kept.tallied;
+            taken = λ e k running on end. kept.taken e k running on (ap (λ (ps : List (Option ℕ)). get_or ps k None) (sym same_places) ∙ end);
           }
 
     -- a cell that has not changed either leaves the world as it was
@@ -129,7 +129,7 @@ module _ {tells : Bool} {w : WorldState} {numbers : List ℕ} {first_outcome : O
       pub same_core : (with_cells w now).core ≡ old.core
       same_core = core_stays (ap (λ (z : CellState). z.position) same) (ap (λ (z : CellState). z.begun) same)
 
-      pub kept_asked : Kept tells (with_cells w now) numbers first_outcome
+      pub kept_asked : Kept tells (with_cells w now) numbers tally
       kept_asked =
           let is = cell_there ch.before ch.value in
           kept_cell (ap (λ (z : CellState). z.position) same) (ap (λ (z : CellState). z.begun) same)

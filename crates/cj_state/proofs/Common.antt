@@ -62,7 +62,10 @@ pub use Rattle.cj_state.specs.Proving.Kept.{Kept, KeptFresh}
 pub use Rattle.cj_state.specs.Proving.Seated.{SpendsAtMostOne, position_in}
 pub use Rattle.cj_state.specs.Proving.Taking.{TookEntry, did_of}
 pub use Rattle.cj_state.specs.Seats.{ChangesCell, states_of}
-pub use Rattle.cj_state.specs.Worlds.{IsCell, IsDumpOf, IsWorld, LogView, WorldState, core_of, with_balance, with_cache, with_log, world_of}
+pub use Rattle.cj_state.specs.Worlds.{IsCell, IsDumpOf, IsWorld, LogView, WorldState, core_of, with_cache, with_log, world_of, with_balance}
+pub use Rattle.cj_tally.proofs.Reports.{none_tallied, report_tallied}
+pub use Rattle.cj_tally.specs.Tallies.{IsTallyOf, no_reports}
+pub use Rattle.cj_tally.specs.declared.tally.Tally.{Tally}
 pub use Rattle.std.proofs.Math.Seq.{map-set_same}
 pub use Rattle.std.proofs.lemmas.Bool.{and_cases, and_parts, both_ways, cases_eq, cases_lt, eq-eqb, eqb-true, false_from_ne_true, not-false}
 pub use Rattle.std.proofs.lemmas.List.{get_or-map, get_or-set_other, get_or-set_same, get_or_default, length-map, length-set, map-set}

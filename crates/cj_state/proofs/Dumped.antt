@@ -3,7 +3,7 @@ use Rattle.std.proofs.Common.{◌≡◌, ℕ, ◌<◌, ◌≤◌, cond, filter, 
 use Rattle.cj_book.proofs.Common.{All-head, All-push, All-tail, All-weaker, bytes_eq}
 use Rattle.std.proofs.lemmas.List.{take-append-le, map_push}
 use Rattle.std.proofs.lemmas.Option.{same_Some}
-use Rattle.cj_state.proofs.Common.{AreBetween, CellState, CoreInvariant, cut, Dump, Entry, Event, find_dump, first_of, HoldsPart, hosts_beyond, IsHeld, Kept, Layout, log-same, log-sched, OpenSession, Outcome, part, Placement, placement_of, position_at, Register, Sched, taken_of, TakenDump}
+use Rattle.cj_state.proofs.Common.{AreBetween, CellState, CoreInvariant, cut, Dump, Entry, Event, find_dump, first_of, HoldsPart, hosts_beyond, IsHeld, Kept, Layout, log-same, log-sched, OpenSession, part, Placement, placement_of, position_at, Register, Sched, taken_of, TakenDump, Tally}
 use Rattle.cj_model.proofs.RisingLaws.{found_All}
 use Rattle.cj_cluster.specs.History.Histories.{log, scheduled_entry, database_of, database_after}
 use Rattle.cj_cluster.specs.Moves.Moves.{dumped_as}
@@ -32,7 +32,7 @@ module _ (tells : Bool) (p : Placement) (h : List Event) (dumps : List Dump) (ar
 
 -- ---- one more
 
-module _ (tells : Bool) (reg : Register) (l : Layout) (h : List Event) (cells : List CellState) (f s : ℕ) (ss : List OpenSession) (g : ℕ) (ds : List Dump) (numbers : List ℕ) (first_outcome : Option Outcome) (kept : Kept tells (world_of reg l h cells f s ss g ds) numbers first_outcome)
+module _ (tells : Bool) (reg : Register) (l : Layout) (h : List Event) (cells : List CellState) (f s : ℕ) (ss : List OpenSession) (g : ℕ) (ds : List Dump) (numbers : List ℕ) (tally : Tally) (kept : Kept tells (world_of reg l h cells f s ss g ds) numbers tally)
     (d : Dump) (at : position_at (core_of l h cells f s ss g ds) d.source ≡ Some d.position) where
   pub core_dumped : core_of l h cells f s ss g (ds ++ d ∷ []) ≡ dumped_as (core_of l h cells f s ss g ds) d.source d.name d.position
   core_dumped = ap (λ (ts : List TakenDump). record (core_of l h cells f s ss g ds) { dumps = ts }) (map_push taken_of ds d)
@@ -40,7 +40,7 @@ module _ (tells : Bool) (reg : Register) (l : Layout) (h : List Event) (cells : 
   between : AreBetween (core_of l h cells f s ss g (ds ++ d ∷ []))
   between n some = let q = kept.world.between n some in (q.0, record { longer = q.1.longer; owes = q.1.owes; here = q.1.here; later = q.1.later })
 
-  pub kept_dumped : Kept tells (world_of reg l h cells f s ss g (ds ++ d ∷ [])) numbers first_outcome
+  pub kept_dumped : Kept tells (world_of reg l h cells f s ss g (ds ++ d ∷ [])) numbers tally
   kept_dumped =
       record {
         world =
@@ -48,8 +48,8 @@ module _ (tells : Bool) (reg : Register) (l : Layout) (h : List Event) (cells : 
             (subst CoreInvariant (sym core_dumped) (sound_dumped (core_of l h cells f s ss g ds) d.source d.name d.position kept.world.sound at)) between;
         numbers_are = kept.numbers_are;
         served = kept.served;
-        right = kept.right;
-        whole = kept.whole;
+        tallied = kept.tallied;
+        taken = kept.taken;
       }
 
   -- it holds what its backend held

@@ -17,6 +17,7 @@ heard_then a b c p q =
     record {
       state = q.state ∙ p.state;
       given = q.given ∙ p.given;
+      last_given = q.last_given ∙ p.last_given;
       tokens = λ k. (let m : fault_tokens_of k a.view.fault_tokens ≤ fault_tokens_of k b.view.fault_tokens = p.tokens k in let n : fault_tokens_of k b.view.fault_tokens ≤ fault_tokens_of k c.view.fault_tokens = q.tokens k in omega arith);
       notes = λ x there. q.notes x (p.notes x there);
     }
@@ -31,6 +32,7 @@ module _ {S : Type 0} (old new : SeatedBook S) (w : SeatView) (state : new.state
       record {
         state = state;
         given = ap (λ (v : SeatView). v.given) view;
+        last_given = ap (λ (v : SeatView). v.last_given) view;
         tokens = λ k. (let e : fault_tokens_of k new.view.fault_tokens ≡ fault_tokens_of k old.view.fault_tokens + fault_tokens_of k w.fault_tokens = learnt_tokens k in omega arith);
         notes = λ x there. subst (λ (v : SeatView). Contains v.position_notes x) (sym view) (Contains-append_left old.view.position_notes w.position_notes x there);
       }
@@ -42,6 +44,7 @@ pub ready_heard : {S : Type 0} (old new : SeatedBook S) (failed : ℕ) → IsRea
 ready_heard old new failed ready heard =
     record {
       unowned = heard.given ∙ ready.unowned;
+      none_given = heard.last_given ∙ ready.none_given;
       tokens = λ k on. (let some : 0 < fault_tokens_of k old.view.fault_tokens = ready.tokens k on in let more : fault_tokens_of k old.view.fault_tokens ≤ fault_tokens_of k new.view.fault_tokens = heard.tokens k in omega arith);
     }
 
@@ -54,6 +57,7 @@ ready_taken old new failed b did.Failed ready heard token =
     let was = ready_heard old new failed ready heard in
     record {
       unowned = was.unowned;
+      none_given = was.none_given;
       tokens =
           λ k on.
           ⊎_elim (λ (same : k ≡ b). subst (λ (n : ℕ). 0 < fault_tokens_of n new.view.fault_tokens) (sym same) (token refl))
@@ -61,8 +65,8 @@ ready_taken old new failed b did.Failed ready heard token =
     }
 
 -- a mask of none asks for no token
-pub ready_none : (book : SeatView) → book.given ≡ [] → IsReady book 0
-ready_none book unowned = record { unowned = unowned; tokens = λ k on. absurd (both_ways (in_mask 0 k) (has-zero k) on) }
+pub ready_none : (book : SeatView) → book.given ≡ [] → book.last_given ≡ 0 → IsReady book 0
+ready_none book unowned none_given = record { unowned = unowned; none_given = none_given; tokens = λ k on. absurd (both_ways (in_mask 0 k) (has-zero k) on) }
 
 -- a token more
 pub one_token : (b : ℕ) (ts : List ℕ) → fault_tokens_of b (b ∷ ts) ≡ 1 + fault_tokens_of b ts

@@ -1,7 +1,7 @@
 -- Each change of sessions and entries keeps what a world keeps.
 use Rattle.std.proofs.Common.{◌≡◌, ℕ, ◌+◌, ◌==◌, ◌<◌, ◌≤◌, not, Bool, true, false, List, [], ◌∷◌, ◌++◌, filter, length, map, get_or, Option, None, refl, ap, sym, ◌∙◌, subst, arith, length-append}
 use Rattle.std.proofs.lemmas.Bool.{or_parts, leb-false}
-use Rattle.cj_state.proofs.Common.{AreBetween, CellState, core_of, CoreInvariant, Dump, Ended, Entry, entry_in_progress, Event, events_left, HasServer, HaveFailed, is_entry_of, is_idle, IsCell, IsFitEntry, Kept, Layout, log, new_session, OpenSession, Outcome, placement_of, Register, request_of, Sched, Select, session_at, taken_of, with_session, world_of}
+use Rattle.cj_state.proofs.Common.{AreBetween, CellState, core_of, CoreInvariant, Dump, Ended, ended_count, Entry, entry_in_progress, Event, events_left, HasServer, HaveFailed, is_entry_of, is_idle, IsCell, IsFitEntry, Kept, Layout, log, new_session, no_reports, none_tallied, OpenSession, placement_of, Register, request_of, Sched, Select, session_at, taken_of, Tally, with_session, world_of}
 use Rattle.cj_model.specs.declared.limits.TheConstants.{SESSION_LIMIT, SESSION_NUMBER_LIMIT, USER_LIMIT}
 use Rattle.cj_model.specs.Cluster.Placements.{hosts_all, needs as needed, needs_backend}
 use Rattle.cj_cluster.specs.Moves.Moves.{first_lagging, is_open, is_orphan, has_no_number, abort_entry, with_one_request, answered_at, was_answered, still_reading}
@@ -16,10 +16,10 @@ use Rattle.cj_state.proofs.OpenNumbers.{numbers_opened, numbers_without, numbers
 
 -- ---- changes
 
-module _ (tells : Bool) (reg : Register) (l : Layout) (h : List Event) (cells : List CellState) (f s : ℕ) (ss : List OpenSession) (g : ℕ) (ds : List Dump) (numbers : List ℕ) (first_outcome : Option Outcome) (kept : Kept tells (world_of reg l h cells f s ss g ds) numbers first_outcome) where
+module _ (tells : Bool) (reg : Register) (l : Layout) (h : List Event) (cells : List CellState) (f s : ℕ) (ss : List OpenSession) (g : ℕ) (ds : List Dump) (numbers : List ℕ) (tally : Tally) (kept : Kept tells (world_of reg l h cells f s ss g ds) numbers tally) where
   -- the sessions alone are changed
   kept_sessions : (ss' : List OpenSession) (g' : ℕ) (numbers' : List ℕ) → SessionsAre h g' ss' → (CoreInvariant (core_of l h cells f s ss' g' ds) → AreBetween (core_of l h cells f s ss' g' ds))
-      → numbers' ≡ map (λ (x : OpenSession). x.number) ss' → Kept tells (world_of reg l h cells f s ss' g' ds) numbers' first_outcome
+      → numbers' ≡ map (λ (x : OpenSession). x.number) ss' → Kept tells (world_of reg l h cells f s ss' g' ds) numbers' tally
   kept_sessions ss' g' numbers' are stand numbers_are =
       let w = kept.world in
       let sound = sound_sessions (core_of l h cells f s ss g ds) ss' g' w.sound are in
@@ -27,45 +27,45 @@ module _ (tells : Bool) (reg : Register) (l : Layout) (h : List Event) (cells : 
         world = world_behind w h f s ss' g' (map taken_of ds) refl sound (stand sound);
         numbers_are = numbers_are;
         served = kept.served;
-        right = kept.right;
-        whole = kept.whole;
+        tallied = kept.tallied;
+        taken = kept.taken;
       }
 
   -- a session is changed
   kept_with : (number : ℕ) (change : OpenSession → OpenSession) → KeepsSession (length (log h)) change
       → (CoreInvariant (core_of l h cells f s (with_session ss number change) g ds) → AreBetween (core_of l h cells f s (with_session ss number change) g ds))
-      → Kept tells (world_of reg l h cells f s (with_session ss number change) g ds) numbers first_outcome
+      → Kept tells (world_of reg l h cells f s (with_session ss number change) g ds) numbers tally
   kept_with number change keeps stand =
       kept_sessions (with_session ss number change) g numbers
       (are_with h h g ss number change (sessions_are (core_of l h cells f s ss g ds) kept.world.sound) keeps refl (λ s q lt. refl) (λ e on. on)) stand
       (kept.numbers_are ∙ sym (numbers_with change keeps.number ss number))
 
   -- it has made one request more, and reads nothing
-  pub kept_counted : (number : ℕ) → (session_at (core_of l h cells f s ss g ds) number).reading ≡ None → is_entry_of number (entry_in_progress h) ≡ false → Kept tells (world_of reg l h cells f s (with_session ss number with_one_request) g ds) numbers first_outcome
+  pub kept_counted : (number : ℕ) → (session_at (core_of l h cells f s ss g ds) number).reading ≡ None → is_entry_of number (entry_in_progress h) ≡ false → Kept tells (world_of reg l h cells f s (with_session ss number with_one_request) g ds) numbers tally
   kept_counted number none idle =
       kept_with number with_one_request (keeps_counted (length (log h))) (λ sound. stand_counted (core_of l h cells f s ss g ds) number with_one_request (λ x. refl) kept.world.between (λ x. refl) none sound idle)
 
   -- its read was refused
-  pub kept_refused : (number : ℕ) → is_entry_of number (entry_in_progress h) ≡ false → Kept tells (world_of reg l h cells f s (with_session ss number was_answered) g ds) numbers first_outcome
+  pub kept_refused : (number : ℕ) → is_entry_of number (entry_in_progress h) ≡ false → Kept tells (world_of reg l h cells f s (with_session ss number was_answered) g ds) numbers tally
   kept_refused number idle =
       kept_with number was_answered (keeps_was_answered (length (log h))) (λ sound. stand_answered (core_of l h cells f s ss g ds) number was_answered (λ x. refl) kept.world.between (λ x. refl) sound idle)
 
   -- its read was answered at a position
-  pub kept_reached : (number p : ℕ) → p ≤ length (log h) → is_entry_of number (entry_in_progress h) ≡ false → Kept tells (world_of reg l h cells f s (with_session ss number (λ x. answered_at p (was_answered x))) g ds) numbers first_outcome
+  pub kept_reached : (number p : ℕ) → p ≤ length (log h) → is_entry_of number (entry_in_progress h) ≡ false → Kept tells (world_of reg l h cells f s (with_session ss number (λ x. answered_at p (was_answered x))) g ds) numbers tally
   kept_reached number p le idle =
       kept_with number (λ x. answered_at p (was_answered x)) (keeps_reached (length (log h)) p le)
       (λ sound. stand_answered (core_of l h cells f s ss g ds) number (λ x. answered_at p (was_answered x)) (λ x. refl) kept.world.between (λ x. refl) sound idle)
 
   -- its read stays open
   pub kept_reading : (number : ℕ) (select : Select) (tried : ℕ) → is_entry_of number (entry_in_progress h) ≡ false → HaveFailed (core_of l h cells f s ss g ds) number tried
-      → Kept tells (world_of reg l h cells f s (with_session ss number (still_reading select tried)) g ds) numbers first_outcome
+      → Kept tells (world_of reg l h cells f s (with_session ss number (still_reading select tried)) g ds) numbers tally
   kept_reading number select tried idle since =
       kept_with number (still_reading select tried) (keeps_still_reading (length (log h)) select tried)
       (λ sound. stand_reading (core_of l h cells f s ss g ds) number select tried kept.world.between idle since.0 since.1 since.2)
 
   -- a session is opened
   pub kept_opened : (user : List ℕ) → has_no_number (core_of l h cells f s ss g ds) ≡ false → length user ≤ USER_LIMIT
-      → Kept tells (world_of reg l h cells f s (ss ++ new_session (g + 1) user ∷ []) (g + 1) ds) (numbers ++ (g + 1) ∷ []) first_outcome
+      → Kept tells (world_of reg l h cells f s (ss ++ new_session (g + 1) user ∷ []) (g + 1) ds) (numbers ++ (g + 1) ∷ []) tally
   kept_opened user free_number fits =
       let full = or_parts _ _ free_number in
       let few : length ss < SESSION_LIMIT = leb-false _ _ full.0 in
@@ -74,7 +74,7 @@ module _ (tells : Bool) (reg : Register) (l : Layout) (h : List Event) (cells : 
       (λ _. stand_opened (core_of l h cells f s ss g ds) user kept.world.sound kept.world.between) (ap (λ ns. ns ++ (g + 1) ∷ []) kept.numbers_are ∙ sym (numbers_opened ss (g + 1) user))
 
   -- a session is closed
-  pub kept_closed : (number : ℕ) → is_entry_of number (entry_in_progress h) ≡ false → Kept tells (world_of reg l h cells f s (without number ss) g ds) (filter (λ n. not (n == number)) numbers) first_outcome
+  pub kept_closed : (number : ℕ) → is_entry_of number (entry_in_progress h) ≡ false → Kept tells (world_of reg l h cells f s (without number ss) g ds) (filter (λ n. not (n == number)) numbers) tally
   kept_closed number idle =
       kept_sessions (without number ss) g (filter (λ n. not (n == number)) numbers) (are_closed h g ss number (sessions_are (core_of l h cells f s ss g ds) kept.world.sound) idle)
       (λ _. stand_closed (core_of l h cells f s ss g ds) number kept.world.between) (ap (filter (λ n. not (n == number))) kept.numbers_are ∙ sym (numbers_without ss number))
@@ -82,7 +82,7 @@ module _ (tells : Bool) (reg : Register) (l : Layout) (h : List Event) (cells : 
   -- an entry is scheduled, which some backend serves
   kept_sched : (e : Entry) (ss' : List OpenSession) → is_idle h ≡ true → IsFitEntry (log h) e → 3 ≤ events_left h → HasServer (placement_of l) h (request_of e.act)
       → SessionsAre (h ++ Sched e ∷ []) g ss' → AreBetween (core_of l (h ++ Sched e ∷ []) cells 0 0 ss' g ds) → numbers ≡ map (λ (x : OpenSession). x.number) ss'
-      → Kept tells (world_of reg l (h ++ Sched e ∷ []) cells 0 0 ss' g ds) numbers None
+      → Kept tells (world_of reg l (h ++ Sched e ∷ []) cells 0 0 ss' g ds) numbers no_reports
   kept_sched e ss' fr fit space served are stand numbers_are =
       let w = kept.world in
       let longer : log (h ++ Sched e ∷ []) ≡ log h ++ e ∷ [] = log-sched h e in
@@ -108,9 +108,9 @@ module _ (tells : Bool) (reg : Register) (l : Layout) (h : List Event) (cells : 
             let same : e ≡ d = cc (opened-sched h e fr, on) in
             let q = served (subst (λ (x : Entry). needs_backend (request_of x.act) ≡ true) (sym same) needs) in
             (q.0, (enabled-push h (Sched e) q.0 ∙ q.1.0, subst (λ (x : Entry). hosts_all (placement_of l) q.0 (needed (request_of x.act)) ≡ true) same q.1.1));
-        right = λ o is. absurd (cc is);
-        whole =
-            λ d k on takes now there.
+        tallied = λ d on. none_tallied tells (placement_of l) (log (h ++ Sched e ∷ [])) (ended_count (h ++ Sched e ∷ [])) d;
+        taken =
+            λ d k on now there.
             let le : length (log (h ++ Sched e ∷ [])) ≤ length (log h) = position_within (core_of l h cells f s ss g ds) w.sound k (length (log (h ++ Sched e ∷ []))) there in
             absurd (omega arith);
       }
@@ -118,7 +118,7 @@ module _ (tells : Bool) (reg : Register) (l : Layout) (h : List Event) (cells : 
   -- an entry of a session is scheduled
   pub kept_scheduled : (number : ℕ) (e : Entry) → is_open (core_of l h cells f s ss g ds) number ≡ true → e.session ≡ number → e.seq ≡ (session_at (core_of l h cells f s ss g ds) number).queries + 1 → is_idle h ≡ true → IsFitEntry (log h) e
       → 3 ≤ events_left h → (session_at (core_of l h cells f s ss g ds) number).reading ≡ None → HasServer (placement_of l) h (request_of e.act)
-      → Kept tells (world_of reg l (h ++ Sched e ∷ []) cells 0 0 (with_session ss number with_one_request) g ds) numbers None
+      → Kept tells (world_of reg l (h ++ Sched e ∷ []) cells 0 0 (with_session ss number with_one_request) g ds) numbers no_reports
   kept_scheduled number e here session seq fr fit space none served =
       let x = session_sound (core_of l h cells f s ss g ds) number kept.world.sound here in
       let high : (session_at (core_of l h cells f s ss g ds) number).number ≤ g = x.0.number.1 in
@@ -131,7 +131,7 @@ module _ (tells : Bool) (reg : Register) (l : Layout) (h : List Event) (cells : 
 
   -- the administrator's end of an orphan is scheduled
   pub kept_aborted : (e : Entry) → is_orphan (core_of l h cells f s ss g ds) e.tx ≡ true → e ≡ abort_entry (core_of l h cells f s ss g ds) e.tx → is_idle h ≡ true → IsFitEntry (log h) e
-      → 3 ≤ events_left h → HasServer (placement_of l) h (request_of e.act) → Kept tells (world_of reg l (h ++ Sched e ∷ []) cells 0 0 ss g ds) numbers None
+      → 3 ≤ events_left h → HasServer (placement_of l) h (request_of e.act) → Kept tells (world_of reg l (h ++ Sched e ∷ []) cells 0 0 ss g ds) numbers no_reports
   kept_aborted e orphan is fr fit space served =
       kept_sched e ss fr fit space served (are_sched_without h g ss e (sessions_are (core_of l h cells f s ss g ds) kept.world.sound) fr (ap (λ (d : Entry). d.session) is))
       (subst (λ (d : Entry). AreBetween (core_of l (h ++ Sched d ∷ []) cells 0 0 ss g ds)) (sym is)
@@ -141,7 +141,7 @@ module _ (tells : Bool) (reg : Register) (l : Layout) (h : List Event) (cells : 
   -- the open entry ends
   kept_ended : (ss' : List OpenSession) → is_idle h ≡ false → first_lagging h 0 (map (λ (x : CellState). x.position) cells) ≡ None
       → SessionsAre (h ++ Ended f s ∷ []) g ss' → (CoreInvariant (core_of l (h ++ Ended f s ∷ []) cells 0 0 ss' g ds) → AreBetween (core_of l (h ++ Ended f s ∷ []) cells 0 0 ss' g ds))
-      → numbers ≡ map (λ (x : OpenSession). x.number) ss' → Kept tells (world_of reg l (h ++ Ended f s ∷ []) cells 0 0 ss' g ds) numbers None
+      → numbers ≡ map (λ (x : OpenSession). x.number) ss' → Kept tells (world_of reg l (h ++ Ended f s ∷ []) cells 0 0 ss' g ds) numbers no_reports
   kept_ended ss' fr none are stand numbers_are =
       let w = kept.world in
       let sound = sound_ended (core_of l h cells f s ss g ds) ss' w.sound fr (λ b q is on. behind_none h (map (λ (x : CellState). x.position) cells) none b q is on) are in
@@ -151,13 +151,13 @@ module _ (tells : Bool) (reg : Register) (l : Layout) (h : List Event) (cells : 
         world = world_behind w (h ++ Ended f s ∷ []) 0 0 ss' g (map taken_of ds) same sound (stand sound);
         numbers_are = numbers_are;
         served = λ d on. absurd (cc (closed, on));
-        right = λ o is. absurd (cc is);
-        whole = λ d k on takes now there. absurd (cc (closed, on));
+        tallied = λ d on. absurd (cc (closed, on));
+        taken = λ d k on now there. absurd (cc (closed, on));
       }
 
   -- the open entry ends, and its session is answered
   pub kept_answered : (number : ℕ) → is_entry_of number (entry_in_progress h) ≡ true → is_idle h ≡ false → first_lagging h 0 (map (λ (x : CellState). x.position) cells) ≡ None
-      → Kept tells (world_of reg l (h ++ Ended f s ∷ []) cells 0 0 (with_session ss number (answered_at (length (log h)))) g ds) numbers None
+      → Kept tells (world_of reg l (h ++ Ended f s ∷ []) cells 0 0 (with_session ss number (answered_at (length (log h)))) g ds) numbers no_reports
   kept_answered number waiting fr none =
       let w = kept.world in
       let closed = opened-ended h f s fr w.sound.one_open.0 w.sound.one_open.1 in

@@ -21,4 +21,5 @@ pub mod Resting
 pub mod Scheduling
 pub mod SeatsKept
 pub mod Serving
+pub mod Sharing
 pub mod Taking

@@ -1,7 +1,7 @@
 -- A cell that was out, and holds what a dump has of its tables.
 use Rattle.std.proofs.Common.{◌≡◌, ℕ, ◌<◌, ◌≤◌, Bool, true, false, List, length, map, get_or, set, OnErr, Option, None, Some, Result, Ok, Err, refl, ap, sym, ◌∙◌, subst, ⊎_elim}
 use Rattle.std.specs.Prelude.{IsErrAnd}
-use Rattle.cj_state.proofs.Common.{Arming, Balance, both_ways, CacheState, can_load, cases_eq, CellError, ChangesCell, CoreInvariant, database_after, Dump, failed_contents, find_dump, get_or-set_other, HasBegunDrafts, HoldsPart, is_enabled, is_idle, IsCell, IsSoundDump, Kept, length-map, Load, log, LogView, map-set, not_now, Outcome, part, position_at, Slot, spent, Stance, taken_of, with_balance, with_cache, with_log, with_stance, WorldState}
+use Rattle.cj_state.proofs.Common.{Arming, both_ways, CacheState, can_load, cases_eq, CellError, ChangesCell, CoreInvariant, database_after, Dump, failed_contents, find_dump, get_or-set_other, HasBegunDrafts, HoldsPart, is_enabled, is_idle, IsCell, IsSoundDump, Kept, length-map, Load, log, LogView, map-set, not_now, part, position_at, Slot, spent, Stance, taken_of, Tally, with_cache, with_log, with_stance, WorldState, Balance, with_balance}
 use Rattle.cj_cluster.proofs.Effects.{sound_loaded}
 use Rattle.cj_replica.specs.declared.replica.CellError.TheVariants as errors
 use Rattle.cj_replica.specs.Cells.{CellState, Loads, SpendsArmingAtLoad}
@@ -39,7 +39,7 @@ pub record CanLoadFrom (tells : Bool) (w : WorldState) (b : ℕ) (db : List Slot
   pub logged : n ≤ length (log w.core.history)
   pub right : tells ≡ true → db ≡ part w.core.placement b (database_after (log w.core.history) n)
 
-module _ {tells : Bool} {w : WorldState} {numbers : List ℕ} {first_outcome : Option Outcome} (kept : Kept tells w numbers first_outcome) {seen_log : LogView} {cache : CacheState} {balance : Balance} {old : WorldState} (seen : with_balance (with_cache (with_log w seen_log) cache) balance ≡ old)
+module _ {tells : Bool} {w : WorldState} {numbers : List ℕ} {tally : Tally} (kept : Kept tells w numbers tally) {seen_log : LogView} {cache : CacheState} {balance : Balance} {old : WorldState} (seen : with_balance (with_cache (with_log w seen_log) cache) balance ≡ old)
     {b : ℕ} where
   pub loads_from : (name : List ℕ) (d : Dump) → not_now old.core (Load b name) ≡ None → find_dump old.core.dumps name ≡ Some (taken_of d) → (tells ≡ true → d.db ≡ part old.core.placement b (database_after (log old.core.history) d.position))
       → CanLoadFrom tells w b d.db d.position
@@ -63,7 +63,7 @@ module _ {tells : Bool} {w : WorldState} {numbers : List ℕ} {first_outcome : O
     pub core_refused : ch.after.position ≡ None → ch.after.begun ≡ ch.before.begun → (with_cells w now).core ≡ old.core
     core_refused out begun = core_stays kept seen within ch (out ∙ sym was_out) begun
 
-    pub kept_refused : ch.after.position ≡ None → ch.after.begun ≡ ch.before.begun → Kept tells (with_cells w now) numbers first_outcome
+    pub kept_refused : ch.after.position ≡ None → ch.after.begun ≡ ch.before.begun → Kept tells (with_cells w now) numbers tally
     kept_refused out begun =
         let was = cell_there kept seen within ch.before ch.value in
         kept_cell kept seen within ch (out ∙ sym was_out) begun
@@ -105,7 +105,7 @@ module _ {tells : Bool} {w : WorldState} {numbers : List ℕ} {first_outcome : O
           }
 
       -- it is not enabled, so that nothing else hangs on where it stands
-      pub kept_loaded : Kept tells (with_cells w now) numbers first_outcome
+      pub kept_loaded : Kept tells (with_cells w now) numbers tally
       kept_loaded =
           let lt : b < length w.core.positions = subst (λ (ps : List (Option ℕ)). b < length ps) (sym kept.world.positions) (rw length-map (has_cell kept seen within)) in
           let sound = sound_loaded w.core b n ch.after.begun kept.world.sound lt can.free can.off can.logged in
@@ -113,9 +113,9 @@ module _ {tells : Bool} {w : WorldState} {numbers : List ℕ} {first_outcome : O
             world = world_with_cell kept seen within ch (subst CoreInvariant (sym loaded_inside) sound) is_cell;
             numbers_are = kept.numbers_are;
             served = kept.served;
-            right = kept.right;
-            whole =
-                λ e k running part on end.
+            tallied = kept.tallied;
+            taken =
+                λ e k running on end.
                 ⊎_elim (λ (same : k ≡ b). absurd (both_ways (is_enabled w.core.history b) can.off (subst (λ (m : ℕ). is_enabled w.core.history m ≡ true) same on)))
-                (λ (ne : k ≡ b → ⊥). kept.whole e k running part on (sym (ap (λ (ps : List (Option ℕ)). get_or ps k None) places ∙ get_or-set_other w.core.positions b k (Some n) None ne) ∙ end)) (cases_eq k b);
+                (λ (ne : k ≡ b → ⊥). kept.taken e k running on (sym (ap (λ (ps : List (Option ℕ)). get_or ps k None) places ∙ get_or-set_other w.core.positions b k (Some n) None ne) ∙ end)) (cases_eq k b);
           }

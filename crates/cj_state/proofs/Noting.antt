@@ -1,7 +1,7 @@
 -- What the book's answers say of the core.
 use Rattle.std.proofs.Common.{◌≡◌, ℕ, ◌+◌, ◌<◌, ◌++◌, ◌∷◌, [], List, length, None, Result, Ok, Err, OnOk, OnErr, ⊎_elim, ap, sym, ◌∙◌, subst, refl, arith, length-append, Bool, inl, Option, ◌≤◌}
 use Rattle.std.specs.Prelude.{IfOk, IfErr, ◌↔◌, ◌⊎◌}
-use Rattle.cj_state.proofs.Common.{BookError, CellState, core_of, Dump, Entry, Event, events_left, FollowsLog, HadLoggedRoom, HadRoom, HistoryFull, InProgress, KeptFresh, log, log-same, log-sched, LogFailed, LogFault, NoBackend, NoMemory, OpenSession, Outcome, placement_of, Register, Sched, scheduled_entry, SchedulesAs, session_at, world_of}
+use Rattle.cj_state.proofs.Common.{BookError, CellState, core_of, Dump, Entry, Event, events_left, FollowsLog, HadLoggedRoom, HadRoom, HistoryFull, InProgress, KeptFresh, log, log-same, log-sched, LogFailed, LogFault, NoBackend, NoMemory, OpenSession, placement_of, Register, Sched, scheduled_entry, SchedulesAs, session_at, Tally, world_of}
 use Rattle.cj_book.specs.Books.{BookState, IsSameButLog, with_event, HasNoRoomForOne, CanSchedule, IsFull, IsWant, with_entry}
 use Rattle.cj_book.specs.Events.{Schedules}
 use Rattle.cj_state.proofs.Dumped.{dumps_event}
@@ -25,7 +25,7 @@ had_room cells f s ss g ds b (Err (HistoryFull n)) space full want =
     let lt : events_left b.history < 1 = q.full in
     (omega arith, q.events)
 had_room cells f s ss g ds b (Err LogFault) space full want = want
-had_room cells f s ss g ds b (Err NoMemory) space full want = tt
+had_room cells f s ss g ds b (Err NoMemory) space full want = want
 
 -- the same of what stands in the log first
 pub had_logged_room : {S T : Type 0} (cells : List CellState) (f s : ℕ) (ss : List OpenSession) (g : ℕ) (ds : List Dump) (b : BookState S) (r : Result T BookError) → OnOk r (0 < events_left b.history) → ((n : ℕ) → r ≡ Err (HistoryFull n) ↔ HasNoRoomForOne b n)
@@ -103,15 +103,15 @@ module _ {S : Type 0} {tells : Bool} {faults moment : S → ℕ} {since : S → 
       unscheduled d is (λ (b : BookState S). FollowsLog (log old.history) (log b.history) old.cache b.cache) (λ can. follows_event old.history old.cache (LogFailed e.session e.seq) refl) (inl (refl, refl))
 
   -- a fault of the log is one in a request of a session that reads nothing, or in the administrator's move
-  pub kept_unscheduled : (reg : Register) (cells : List CellState) (f s : ℕ) (ss : List OpenSession) (ds : List Dump) (first_outcome : Option Outcome) (backends : Bool) (d : BookError) → r ≡ Err d
-      → KeptFresh backends (world_of reg old.layout old.history cells f s ss old.greatest ds) old.sessions first_outcome old.cache ds → e.session ≤ old.greatest
+  pub kept_unscheduled : (reg : Register) (cells : List CellState) (f s : ℕ) (ss : List OpenSession) (ds : List Dump) (tally : Tally) (backends : Bool) (d : BookError) → r ≡ Err d
+      → KeptFresh backends (world_of reg old.layout old.history cells f s ss old.greatest ds) old.sessions tally old.cache ds → e.session ≤ old.greatest
       → (0 < e.session → (session_at (core_of old.layout old.history cells f s ss old.greatest ds) e.session).reading ≡ None)
-      → KeptFresh backends (world_of reg new.layout new.history cells f s ss new.greatest ds) new.sessions first_outcome new.cache ds
-  kept_unscheduled reg cells f s ss ds first_outcome backends d is kept given none =
-      unscheduled d is (λ (b : BookState S). KeptFresh backends (world_of reg b.layout b.history cells f s ss b.greatest ds) b.sessions first_outcome b.cache ds)
+      → KeptFresh backends (world_of reg new.layout new.history cells f s ss new.greatest ds) new.sessions tally new.cache ds
+  kept_unscheduled reg cells f s ss ds tally backends d is kept given none =
+      unscheduled d is (λ (b : BookState S). KeptFresh backends (world_of reg b.layout b.history cells f s ss b.greatest ds) b.sessions tally b.cache ds)
       (λ can.
       let space : 3 ≤ events_left old.history = can.space in (
-        kept_log_failed backends reg old.layout old.history cells f s ss old.greatest ds old.sessions first_outcome kept.0 e.session e.seq can.is_free given (omega arith) none,
+        kept_log_failed backends reg old.layout old.history cells f s ss old.greatest ds old.sessions tally kept.0 e.session e.seq can.is_free given (omega arith) none,
         fresh_event old.history old.cache backends (LogFailed e.session e.seq) refl kept.1,
         dumps_event backends (placement_of old.layout) old.history ds kept.2 (LogFailed e.session e.seq) refl,
       ))

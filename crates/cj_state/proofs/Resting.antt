@@ -3,7 +3,7 @@ use Rattle.std.proofs.Common.{◌≡◌, ℕ, ◌^◌, ◌<◌, ◌≤◌, Bool,
 use Rattle.std.specs.Prelude.{IfSome}
 use Rattle.std.proofs.lemmas.List.{length-map, get_or-map, get_or-replicate, length-replicate, ext_get_or}
 use Rattle.std.proofs.lemmas.List.Elements.{All-cons, All-get_or, All-head, All-nil, All-tail}
-use Rattle.cj_state.proofs.Common.{both_ways, CellState, Core, core_of, Ended, Entry, eqb-true, Event, has-zero, in_mask, Kept, Layout, legal_fit, Marker, opened-free, placement_of, position_at, Register, Sched, Slot, world_of}
+use Rattle.cj_state.proofs.Common.{both_ways, CellState, Core, core_of, Ended, Entry, eqb-true, Event, has-zero, in_mask, Kept, Layout, legal_fit, Marker, no_reports, opened-free, placement_of, position_at, Register, Sched, Slot, world_of}
 use Rattle.cj_model.specs.declared.database.Draft.{Draft}
 use Rattle.cj_model.specs.declared.limits.TheConstants.{BACKEND_LIMIT}
 use Rattle.cj_model.specs.Cluster.Placements.{everywhere}
@@ -125,7 +125,7 @@ module _ (l : Layout) (cells : List CellState) (fresh : AreFresh (placement_of l
         ∙ ap (λ (ts : List (List ℕ)). record (opened_core (placement_of l) h) { begun = ts }) (all_are (λ (x : CellState). x.begun) [] [] (λ b x f. f.begun))
 
     pub kept_opened : (tells : Bool) (reg : Register) → reg.backends ≡ length l.names → length l.names ≤ BACKEND_LIMIT → AreEmpty tells (map (λ (x : CellState). x.told) cells)
-        → Kept tells (world_of reg l h cells 0 0 [] (greatest_session (log h)) []) [] None
+        → Kept tells (world_of reg l h cells 0 0 [] (greatest_session (log h)) []) [] no_reports
     kept_opened tells reg registered few empty =
         record {
           world =
@@ -152,6 +152,6 @@ module _ (l : Layout) (cells : List CellState) (fresh : AreFresh (placement_of l
               };
           numbers_are = refl;
           served = λ e is. absurd (cc (sym no_entry ∙ is));
-          right = λ o is. absurd (cc is);
-          whole = λ e b is. absurd (cc (sym no_entry ∙ is));
+          tallied = λ e is. absurd (cc (sym no_entry ∙ is));
+          taken = λ e b is. absurd (cc (sym no_entry ∙ is));
         }

@@ -18,6 +18,10 @@ given_after : (e : Option Event) (v : SeatView) → (view_after e v).given ≡ v
 given_after None v = refl
 given_after (Some e) v = refl
 
+last_given_after : (e : Option Event) (v : SeatView) → (view_after e v).last_given ≡ v.last_given
+last_given_after None v = refl
+last_given_after (Some e) v = refl
+
 -- both of the events that a call may bring are quiet
 pub quiet_ok : {T : Type 0} (e : Event) (r : Result T BookError) → IsQuiet (Some e) → IsQuiet (event_at_ok e r)
 quiet_ok e (Ok x) quiet = quiet
@@ -47,6 +51,7 @@ module _ {S : Type 0} (id pass : TableId) (old new : SeatedBook S) (cells : List
     at_book same.0,
     record {
       unowned = ap (λ (v : SeatView). v.given) same.1 ∙ ready.unowned;
+      none_given = ap (λ (v : SeatView). v.last_given) same.1 ∙ ready.none_given;
       tokens = λ k on. subst (λ (v : SeatView). 0 < fault_tokens_of k v.fault_tokens) (sym same.1) (ready.tokens k on);
     },
   )
@@ -56,6 +61,7 @@ module _ {S : Type 0} (id pass : TableId) (old new : SeatedBook S) (cells : List
     at_book same,
     record {
       unowned = ap (λ (v : SeatView). v.given) view ∙ (given_after e old.view ∙ ready.unowned);
+      none_given = ap (λ (v : SeatView). v.last_given) view ∙ (last_given_after e old.view ∙ ready.none_given);
       tokens =
           λ k on.
           let was : 0 < fault_tokens_of k old.view.fault_tokens = ready.tokens k on in
@@ -66,7 +72,7 @@ module _ {S : Type 0} (id pass : TableId) (old new : SeatedBook S) (cells : List
 
   -- where no failure is to be told any more
   pub seats_cleared : (e : Option Event) → new.board ≡ old.board → new.view ≡ view_after e old.view → AreAt id pass new.board cells × IsReady new.view 0
-  seats_cleared e same view = (at_book same, ready_none new.view (ap (λ (v : SeatView). v.given) view ∙ (given_after e old.view ∙ ready.unowned)))
+  seats_cleared e same view = (at_book same, ready_none new.view (ap (λ (v : SeatView). v.given) view ∙ (given_after e old.view ∙ ready.unowned)) (ap (λ (v : SeatView). v.last_given) view ∙ (last_given_after e old.view ∙ ready.none_given)))
 
 -- a failure of a read spends one token of its backend
 pub read_spends : (s q b k : ℕ) (v : SeatView) → fault_tokens_of k v.fault_tokens ≤ fault_tokens_of k (after_append (ReadFailed s q b) v).fault_tokens + cond (k == b) 1 0
@@ -82,9 +88,9 @@ read_spends s q b k v = by_test (k == b) refl
 
 -- A backend was asked that may have failed: the book heard of a fault more, and spent a token of it at most.
 pub ready_noted : {S : Type 0} (old mid new : SeatedBook S) (failed b : ℕ) (error : CellReadError) → IsReady old.view failed → HasHeard old mid → (error ≡ read_errors.Failed → fault_tokens_of b old.view.fault_tokens < fault_tokens_of b mid.view.fault_tokens)
-    → new.view.given ≡ mid.view.given → SpendsAtMostOne error b mid.view.fault_tokens new.view.fault_tokens → IsReady new.view failed
-ready_noted old mid new failed b error ready heard more given spent =
-    record { unowned = given ∙ (heard.given ∙ ready.unowned); tokens = λ k on. some error k (ready.tokens k on) (heard.tokens k) more spent }
+    → new.view.given ≡ mid.view.given → new.view.last_given ≡ mid.view.last_given → SpendsAtMostOne error b mid.view.fault_tokens new.view.fault_tokens → IsReady new.view failed
+ready_noted old mid new failed b error ready heard more given last_given spent =
+    record { unowned = given ∙ (heard.given ∙ ready.unowned); none_given = last_given ∙ (heard.last_given ∙ ready.none_given); tokens = λ k on. some error k (ready.tokens k on) (heard.tokens k) more spent }
   where
     some : (d : CellReadError) (k : ℕ) → 0 < fault_tokens_of k old.view.fault_tokens → fault_tokens_of k old.view.fault_tokens ≤ fault_tokens_of k mid.view.fault_tokens
         → (d ≡ read_errors.Failed → fault_tokens_of b old.view.fault_tokens < fault_tokens_of b mid.view.fault_tokens) → SpendsAtMostOne d b mid.view.fault_tokens new.view.fault_tokens → 0 < fault_tokens_of k new.view.fault_tokens

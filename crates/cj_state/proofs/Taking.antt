@@ -7,21 +7,26 @@ use Rattle.cj_cluster.specs.declared.moves.Moved.TheVariants as moved
 use Rattle.cj_cluster.specs.Moves.Cores.{position_at, begun_at}
 use Rattle.cj_cluster.specs.Moves.Moves.{Stance, position_or_zero, TakesEntry, DoesWithEntry, with_stance, Applies, Replays, failed_after, starved_after}
 use Rattle.cj_cluster.proofs.Effects.{sound_applied, sound_replayed, stands_there, is_there}
-use Rattle.cj_state.specs.Proving.Taking.{TookEntry, first_outcome_after}
+use Rattle.cj_model.proofs.Masks.{has-with_other, has-with_same}
+use Rattle.cj_model.specs.Cluster.Masks.{in_mask}
+use Rattle.cj_tally.proofs.Reports.{report_tallied}
+use Rattle.cj_tally.specs.declared.tally.Tally.{Tally}
+use Rattle.cj_tally.specs.Tallies.{taken_after, with_report, IsReportOf}
+use Rattle.cj_state.specs.Proving.Taking.{TookEntry}
 use Rattle.cj_state.specs.CalledLogins.{logins_of, login_to_take, next_user, LogsInToTake}
 use Rattle.cj_state.proofs.ChangedCell.{changed_armings, changed_asks, changed_faults, changed_others, has_cell}
 use Rattle.cj_state.proofs.CellsKept.{cells_set, position_of}
 
--- who takes part in an act with no transaction begun does so with any
-takes_more : (p : Placement) (b : ℕ) (begun : List ℕ) (tx : ℕ) (a : Act) → takes_part p b [] tx a ≡ true → takes_part p b begun tx a ≡ true
-takes_more p b begun tx act.Begin part = absurd (cc part)
-takes_more p b begun tx (act.Write w) part = part
-takes_more p b begun tx (act.Create c) part = part
-takes_more p b begun tx (act.Drop table) part = part
-takes_more p b begun tx act.Commit part = absurd (cc part)
-takes_more p b begun tx act.Abort part = absurd (cc part)
+-- who takes no part in an act takes none with no transaction begun
+takes_less : (p : Placement) (b : ℕ) (begun : List ℕ) (tx : ℕ) (a : Act) → takes_part p b begun tx a ≡ false → takes_part p b [] tx a ≡ false
+takes_less p b begun tx act.Begin none = refl
+takes_less p b begun tx (act.Write w) none = none
+takes_less p b begun tx (act.Create c) none = none
+takes_less p b begun tx (act.Drop table) none = none
+takes_less p b begun tx act.Commit none = refl
+takes_less p b begun tx act.Abort none = refl
 
-module _ (tells : Bool) (reg : Register) (l : Layout) (h : List Event) (cells : List CellState) (f s : ℕ) (ss : List OpenSession) (g : ℕ) (ds : List Dump) (numbers : List ℕ) (first_outcome : Option Outcome) (kept : Kept tells (world_of reg l h cells f s ss g ds) numbers first_outcome)
+module _ (tells : Bool) (reg : Register) (l : Layout) (h : List Event) (cells : List CellState) (f s : ℕ) (ss : List OpenSession) (g : ℕ) (ds : List Dump) (numbers : List ℕ) (tally : Tally) (kept : Kept tells (world_of reg l h cells f s ss g ds) numbers tally)
     (b : ℕ) (d : Did) (now : List CellState) (took : TookEntry tells reg.accounts l h cells b d now) where
   -- how it stands then
   abbrev stance : Stance
@@ -86,61 +91,59 @@ module _ (tells : Bool) (reg : Register) (l : Layout) (h : List Event) (cells : 
     is_open : (e : Entry) → entry_in_progress h ≡ Some e → takes.entry ≡ e
     is_open e running = cc (sym takes.there ∙ (ap (slice_get (log h)) open_there ∙ running))
 
-    heard_right : (d' : Did) → d ≡ d' → (o : Outcome) → first_outcome_after first_outcome d' ≡ Some o → IsOutcome o × (tells ≡ true → outcome_of (log h) (ended_count h) ≡ Some o)
-    heard_right (did.Done r) is o there =
-        let did_so = does (did.Done r) is in
-        let same : r ≡ o = cc there in
-        (subst IsOutcome same did_so.1, λ t. ap (outcome_of (log h)) (sym open_there) ∙ (did_so.2 t ∙ there))
-    heard_right did.Skipped is o there = kept.right o there
-    heard_right did.Failed is o there = kept.right o there
-    heard_right did.Starved is o there = kept.right o there
-
-    -- one that hosts the table of the entry, and is not out then, did it
-    heard_here : (d' : Did) → d ≡ d' → (e : Entry) → entry_in_progress h ≡ Some e → takes_part (placement_of l) b [] e.tx e.act ≡ true → took.cell.position ≡ Some (length (log h)) → IsSome (first_outcome_after first_outcome d')
-    heard_here (did.Done r) is e running part there = refl
-    heard_here did.Skipped is e running part there =
+    -- what it did is a right report of the entry
+    reported : (d' : Did) → d ≡ d' → (e : Entry) → entry_in_progress h ≡ Some e → IsReportOf tells (placement_of l) (log h) (ended_count h) e b d'
+    reported (did.Done r) is e running = let did_so = does (did.Done r) is in (did_so.1, λ t. ap (outcome_of (log h)) (sym open_there) ∙ did_so.2 t)
+    reported did.Skipped is e running =
         let begun : List ℕ = begun_at (core_of l h cells f s ss g ds) b in
-        let mine : takes_part (placement_of l) b [] takes.entry.tx takes.entry.act ≡ true = subst (λ (x : Entry). takes_part (placement_of l) b [] x.tx x.act ≡ true) (sym (is_open e running)) part in
-        absurd (both_ways (takes_part (placement_of l) b begun takes.entry.tx takes.entry.act) (does did.Skipped is).0 (takes_more (placement_of l) b begun takes.entry.tx takes.entry.act mine))
-    heard_here did.Failed is e running part there = let gone = ap (λ (x : Stance). x.position) (does did.Failed is).1 in absurd (cc (gone, there))
-    heard_here did.Starved is e running part there = let gone = ap (λ (x : Stance). x.position) (does did.Starved is).1 in absurd (cc (gone, there))
+        takes_less (placement_of l) b begun e.tx e.act (subst (λ (x : Entry). takes_part (placement_of l) b begun x.tx x.act ≡ false) (is_open e running) (does did.Skipped is).0)
+    reported did.Failed is e running = tt
+    reported did.Starved is e running = tt
 
-    heard_still : (d' : Did) → IsSome first_outcome → IsSome (first_outcome_after first_outcome d')
-    heard_still (did.Done r) some = refl
-    heard_still did.Skipped some = some
-    heard_still did.Failed some = some
-    heard_still did.Starved some = some
+    -- a backend that is not out then took it
+    taken_here : (d' : Did) → d ≡ d' → took.cell.position ≡ Some (length (log h)) → in_mask (taken_after tally.taken b d') b ≡ true
+    taken_here (did.Done r) is there = has-with_same tally.taken b
+    taken_here did.Skipped is there = has-with_same tally.taken b
+    taken_here did.Failed is there = let gone = ap (λ (x : Stance). x.position) (does did.Failed is).1 in absurd (cc (gone, there))
+    taken_here did.Starved is there = let gone = ap (λ (x : Stance). x.position) (does did.Starved is).1 in absurd (cc (gone, there))
+
+    -- who took it before did so
+    taken_still : (d' : Did) (k : ℕ) → k ≢ b → in_mask tally.taken k ≡ true → in_mask (taken_after tally.taken b d') k ≡ true
+    taken_still (did.Done r) k ne on = has-with_other tally.taken b k ne ∙ on
+    taken_still did.Skipped k ne on = has-with_other tally.taken b k ne ∙ on
+    taken_still did.Failed k ne on = on
+    taken_still did.Starved k ne on = on
 
     -- an enabled backend took the open entry
-    pub kept_applied : Kept tells (world_of reg l h now (failed_after f b d) (starved_after s b d) ss g ds) numbers (first_outcome_after first_outcome d)
+    pub kept_applied : Kept tells (world_of reg l h now (failed_after f b d) (starved_after s b d) ss g ds) numbers (with_report tally b d)
     kept_applied =
         record {
           world = taken_world (failed_after f b d) (starved_after s b d) (sound_applied tells (core_of l h cells f s ss g ds) b kept.world.sound fr on d stance takes);
           numbers_are = kept.numbers_are;
           served = kept.served;
-          right = heard_right d refl;
-          whole =
-              λ e k running part now_on there.
+          tallied = λ e running. report_tallied tells (placement_of l) (log h) (ended_count h) e tally b d (kept.tallied e running) (reported d refl e running);
+          taken =
+              λ e k running now_on there.
               ⊎_elim
               (λ (same : k ≡ b).
-              heard_here d refl e running (subst (λ (x : ℕ). takes_part (placement_of l) x [] e.tx e.act ≡ true) same part)
-              (sym place_same ∙ (ap (λ (x : ℕ). get_or (map (λ (y : CellState). y.position) now) x None) (sym same) ∙ there)))
-              (λ (ne : k ≡ b → ⊥). heard_still d (kept.whole e k running part now_on (sym (place_other k ne) ∙ there))) (cases_eq k b);
+              subst (λ (n : ℕ). in_mask (taken_after tally.taken b d) n ≡ true) (sym same)
+              (taken_here d refl (sym place_same ∙ (ap (λ (x : ℕ). get_or (map (λ (y : CellState). y.position) now) x None) (sym same) ∙ there))))
+              (λ (ne : k ≡ b → ⊥). taken_still d k ne (kept.taken e k running now_on (sym (place_other k ne) ∙ there))) (cases_eq k b);
         }
 
   -- another backend took the log's next
-  pub kept_replayed : is_enabled h b ≡ false → Kept tells (world_of reg l h now f s ss g ds) numbers first_outcome
+  pub kept_replayed : is_enabled h b ≡ false → Kept tells (world_of reg l h now f s ss g ds) numbers tally
   kept_replayed off =
       record {
         world = taken_world f s (sound_replayed tells (core_of l h cells f s ss g ds) b kept.world.sound off d stance takes);
         numbers_are = kept.numbers_are;
         served = kept.served;
-        right = kept.right;
-        whole =
-            λ e k running part now_on there.
+        tallied = kept.tallied;
+        taken =
+            λ e k running now_on there.
             ⊎_elim
             (λ (same : k ≡ b). absurd (both_ways (is_enabled h b) off (subst (λ (x : ℕ). is_enabled h x ≡ true) same now_on)))
-            (λ (ne : k ≡ b → ⊥). kept.whole e k running part now_on (sym (place_other k ne) ∙ there)) (cases_eq k b);
+            (λ (ne : k ≡ b → ⊥). kept.taken e k running now_on (sym (place_other k ne) ∙ there)) (cases_eq k b);
       }
 
   -- what the move gives and leaves
@@ -161,7 +164,7 @@ module _ (tells : Bool) (reg : Register) (l : Layout) (h : List Event) (cells : 
 
 -- ---- what is counted
 
-module _ {tells : Bool} {w : WorldState} {numbers : List ℕ} {first_outcome : Option Outcome} (kept : Kept tells w numbers first_outcome) {seen_log : LogView} {cache : CacheState} {balance : Balance} {old : WorldState} (seen : with_balance (with_cache (with_log w seen_log) cache) balance ≡ old)
+module _ {tells : Bool} {w : WorldState} {numbers : List ℕ} {tally : Tally} (kept : Kept tells w numbers tally) {seen_log : LogView} {cache : CacheState} {balance : Balance} {old : WorldState} (seen : with_balance (with_cache (with_log w seen_log) cache) balance ≡ old)
     {b : ℕ} (within : b < old.core.placement.backends) {l : Layout} {d : Did} {now : List CellState} (took : TookEntry tells w.setup.register.accounts l w.core.history w.cells b d now) where
   abbrev change : ChangesCell w.cells b (λ x y. Unit) now
   change = record { before = get_or w.cells b took.cell; after = took.cell; value = get_or_default w.cells b took.cell (get_or w.cells b took.cell) (has_cell kept seen within); set = took.set; how = tt }

@@ -1,15 +1,13 @@
 -- What the parts of moves make of a world.
-use Rattle.std.specs.Prelude.{◌≡◌, ◌≢◌, ◌⊎◌, ℕ, ◌+◌, ◌<◌, ◌≤◌, Bool, true, false, List, length, Result, Ok, Err}
+use Rattle.std.specs.Prelude.{◌≡◌, ◌⊎◌, ℕ, ◌+◌, ◌<◌, ◌≤◌, Bool, true, false, List, length, Result, Ok, Err}
 use Rattle.std.specs.declared.option.Option.{Option}
 use Rattle.std.specs.declared.option.Option.TheVariants.{None, Some}
 use Rattle.cj_model.specs.declared.request.Act.{Act}
 use Rattle.cj_model.specs.declared.request.Entry.{Entry}
-use Rattle.cj_model.specs.declared.answer.Refusal.{Refusal}
 use Rattle.cj_model.specs.declared.answer.Reply.{Reply}
 use Rattle.cj_model.specs.declared.answer.Asked.{Asked}
 use Rattle.cj_model.specs.declared.select.Select.{Select}
 use Rattle.cj_cluster.specs.declared.event.Event.TheVariants as event
-use Rattle.cj_model.specs.declared.codes.TheConstants.{UNFINISHED, STARVED_ALL}
 use Rattle.cj_model.specs.Database.Outcomes.{IsAsked}
 use Rattle.cj_model.specs.Sql.PlainRequests.{request_of}
 use Rattle.cj_model.specs.Database.Queries.{ask}
@@ -49,7 +47,7 @@ HadRoom c (Err (InProgress n)) = ⊥
 HadRoom c (Err NoBackend) = ⊥
 HadRoom c (Err (HistoryFull n)) = (events_left c.history ≡ 0) × (n ≡ length c.history)
 HadRoom c (Err LogFault) = ⊥
-HadRoom c (Err NoMemory) = Unit {0}
+HadRoom c (Err NoMemory) = ⊥
 
 -- the same of what stands in the log first
 abbrev pub HadLoggedRoom : {T : Type 0} → Core → Result T BookError → Type 0
@@ -86,11 +84,6 @@ core_marked c name (Err NoBackend) = c
 core_marked c name (Err (HistoryFull n)) = c
 core_marked c name (Err LogFault) = happened c (event.LogFailed 0 0)
 core_marked c name (Err NoMemory) = c
-
--- the refusal of an entry that no backend finished
-abbrev pub Refuses : ℕ → ℕ → Refusal → Type 0
-Refuses failed starved refusal =
-    ((failed ≢ 0) × (refusal ≡ record { code = UNFINISHED; a = failed; b = starved })) ⊎ ((failed ≡ 0) × (refusal ≡ record { code = STARVED_ALL; a = 0; b = starved }))
 
 -- what the open entry is answered
 abbrev pub AnswersOpen : Bool → Core → Reply → Type 0

@@ -7,4 +7,5 @@ pub mod Faults
 pub mod Held
 pub mod Proving
 pub mod Seats
+pub mod Sharing
 pub mod Worlds

@@ -27,7 +27,7 @@ use cj_backend::Backend;
 use cj_board::{Board, Pass};
 use cj_book::{Book, BookError};
 use cj_cluster::Did;
-use cj_model::{Asked, Db, NoMemory, Outcome, Select, Text, with_bit};
+use cj_model::{Asked, Db, NoMemory, Select, Text};
 use cj_outside::Store;
 use cj_replica::{Caught, Cell, CellError, CellReadError};
 use thiserror::Error;
@@ -76,38 +76,6 @@ pub fn without_bit(mask: u32, b: u8) -> u32
     ensures bits { (k : ℕ) → in_mask result k ≡ (in_mask mask k && not (k == b)) }
 {
     mask & !(1 << b)
-}
-
-/// The mask of those that failed in the open entry, after a backend took it.
-pub fn failed_after(mask: u32, b: u8, did: Did) -> u32
-    requires { b < 32 }
-    ensures { result ≡ moves.failed_after mask b did }
-{
-    match did {
-        Did::Failed => with_bit(mask, b),
-        Did::Done(_) | Did::Skipped | Did::Starved => mask,
-    }
-}
-
-/// The mask of those that wanted memory.
-pub fn starved_after(mask: u32, b: u8, did: Did) -> u32
-    requires { b < 32 }
-    ensures { result ≡ moves.starved_after mask b did }
-{
-    match did {
-        Did::Starved => with_bit(mask, b),
-        Did::Done(_) | Did::Skipped | Did::Failed => mask,
-    }
-}
-
-/// What the open entry came to, after a backend took it.
-pub fn first_outcome_after(first_outcome: Option<Outcome>, did: Did) -> Option<Outcome>
-    ensures { result ≡ taking.first_outcome_after first_outcome did }
-{
-    match did {
-        Did::Done(outcome) => Some(outcome),
-        Did::Skipped | Did::Failed | Did::Starved => first_outcome,
-    }
 }
 
 /// A position, or 0 for none.
@@ -251,6 +219,7 @@ pub fn noted<S: Store>(
     ensures notes { Notes book.old.state session seq b error result book.new.state }
     ensures at { book.new.board ≡ book.old.board }
     ensures given { book.new.view.given ≡ book.old.view.given }
+    ensures last_given { book.new.view.last_given ≡ book.old.view.last_given }
     ensures tokens { SpendsAtMostOne error b book.old.view.fault_tokens book.new.view.fault_tokens }
 {
     match error {

@@ -4,7 +4,9 @@
 
 mod cells;
 mod hearing;
+mod parts;
 mod state;
 
 pub use cells::{AskError, covers, without_bit};
+pub use parts::{Backends, Parts, Shared};
 pub use state::State;

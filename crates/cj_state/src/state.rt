@@ -29,6 +29,7 @@ ghost use Rattle.cj_model.specs.Database.Storable.{IsStorable};
 ghost use Rattle.cj_model.specs.Cluster.Placements.{part};
 ghost use Rattle.cj_shelf.specs.MemoryShelves.{taken_of};
 ghost use Rattle.cj_opening.specs.Openings.{OpensTo, items_of};
+ghost use Rattle.cj_book.specs.Books.{IsKeptIn};
 ghost use Rattle.cj_book.specs.Starts.{greatest_session};
 ghost use Rattle.cj_outside.specs.Causes.{CountsFault};
 ghost use Rattle.cj_place.specs.Layouts.{placement_of};
@@ -38,17 +39,16 @@ ghost use Rattle.cj_state.specs.Asking.{answered_by, asks_of, asks_with, read_ov
 ghost use Rattle.cj_state.specs.Held.{failed_contents, IsHeld};
 ghost use Rattle.cj_state.specs.Proving.Seated.{AreAt};
 ghost use Rattle.cj_state.specs.Seats.{states_of};
+ghost use Rattle.cj_state.specs.Sharing.{IsTakenApart};
 ghost use Rattle.cj_board.specs.Seats.{board_id, pass_board};
 ghost use Rattle.cj_state.specs.CalledLogins.{asked_for, login_to_take, logins_of, LogsInToAsk, LogsInToTake};
 ghost use Rattle.cj_state.specs.Effects.{own_entry};
 ghost use Rattle.cj_state.specs.Faults.{did_fail, faults_after, faults_of};
-ghost use Rattle.cj_state.specs.Effects.{AnswersOpen, Asks, asked_core, failed_asked, HaveFailed, Refuses, with_core, core_aborted, core_marked, core_scheduled, SchedulesAs, HadLoggedRoom, HadRoom};
+ghost use Rattle.cj_state.specs.Effects.{AnswersOpen, Asks, asked_core, failed_asked, HaveFailed, with_core, core_aborted, core_marked, core_scheduled, SchedulesAs, HadLoggedRoom, HadRoom};
 
-use crate::cells::{
-    AskError, arm_at, contents_at, failed_after, first_outcome_after, load_at, noted, place,
-    read_at, starved_after, take,
-};
+use crate::cells::{AskError, arm_at, contents_at, load_at, noted, place, read_at, take};
 use crate::hearing::{hear, hear_all};
+use crate::parts::Shared;
 use cj_auth::Accounts;
 use cj_backend::Backend;
 use cj_board::{Board, Pass};
@@ -56,15 +56,16 @@ use cj_book::{Book, BookError};
 use cj_cluster::{Did, Event, Move, Moved, OpenRead, OpenSession, TakenDump};
 use cj_dump::{Dump, cut};
 use cj_model::{
-    Act, Answer, Asked, BACKEND_LIMIT, Db, Duplicate, Entry, HISTORY_FULL, Name, NoMemory, Outcome,
-    REQUEST_LIMIT, Refusal, Reply, SESSION_LIMIT, SESSION_NUMBER_LIMIT, SESSIONS_FULL, STARVED_ALL,
-    Same, Select, Text, UNFINISHED, USER_LIMIT, with_bit,
+    Act, Answer, Asked, BACKEND_LIMIT, Db, Duplicate, Entry, HISTORY_FULL, Name, NoMemory,
+    REQUEST_LIMIT, Refusal, Reply, SESSION_LIMIT, SESSION_NUMBER_LIMIT, SESSIONS_FULL, Same,
+    Select, Text, USER_LIMIT, with_bit,
 };
 use cj_open_sessions::{Sessions, read_number, tx_of_act};
 use cj_outside::Store;
 use cj_place::Placement;
 use cj_replica::{Cell, CellError};
 use cj_shelf::MemoryShelf;
+use cj_tally::Tally;
 use std::alloc::Global;
 use std::marker::Model;
 
@@ -79,12 +80,8 @@ pub struct State<B: Backend, S: Store> {
     book: Book<S>,
     /// By the numbers of their backends.
     cells: Vec<Cell<B>>,
-    /// While an entry is open, the mask of the backends that failed in it.
-    failed: u32,
-    /// And of those that wanted memory.
-    starved: u32,
-    /// What the open entry came to, from the first backend that did it.
-    first_outcome: Option<Outcome>,
+    /// What the backends did with the open entry; without reports where none is open.
+    tally: Tally,
     sessions: Sessions,
     accounts: Accounts,
     dumps: MemoryShelf,
@@ -105,29 +102,10 @@ impl<B: Backend, S: Store> Model for State<B, S> {
     ghost use Rattle.cj_state.specs.Proving.Seated.{AreAt, IsReady};
     ghost use Rattle.cj_state.specs.Seats.{states_of};
 
-    ghost view = { λ w. with_balance (with_cache (with_log (world_of w.accounts w.book.state.layout w.book.state.history (states_of w.cells.items) w.failed w.starved w.sessions w.book.state.greatest w.dumps) (log_view S.faults S.held w.book.state.recovery_log)) w.book.state.cache) w.book.state.balance };
+    ghost view = { λ w. with_balance (with_cache (with_log (world_of w.accounts w.book.state.layout w.book.state.history (states_of w.cells.items) w.tally.failed w.tally.starved w.sessions w.book.state.greatest w.dumps) (log_view S.faults S.held w.book.state.recovery_log)) w.book.state.cache) w.book.state.balance };
 
-    ghost invariant = { λ w. KeptSeated B.tells (world_of w.accounts w.book.state.layout w.book.state.history (states_of w.cells.items) w.failed w.starved w.sessions w.book.state.greatest w.dumps) w.book.state.sessions w.first_outcome w.book.state.cache w.dumps
-        (AreAt (board_id w.board) (pass_board w.pass) w.book.board w.cells.items × IsReady w.book.view w.failed) };
-}
-
-/// The refusal of an entry that no backend finished.
-fn unfinished(failed: u32, starved: u32) -> Refusal
-    ensures { Refuses failed starved result }
-{
-    if failed != 0 {
-        Refusal {
-            code: UNFINISHED,
-            a: failed as u64,
-            b: starved as u64,
-        }
-    } else {
-        Refusal {
-            code: STARVED_ALL,
-            a: 0,
-            b: starved as u64,
-        }
-    }
+    ghost invariant = { λ w. KeptSeated B.tells (world_of w.accounts w.book.state.layout w.book.state.history (states_of w.cells.items) w.tally.failed w.tally.starved w.sessions w.book.state.greatest w.dumps) w.book.state.sessions w.tally w.book.state.cache w.dumps
+        (AreAt (board_id w.board) (pass_board w.pass) w.book.board w.cells.items × IsReady w.book.view w.tally.failed) };
 }
 
 /// Whether a read of the session is open that is not of this query.
@@ -189,7 +167,7 @@ impl<B: Backend + Drop, S: Store + Drop> State<B, S> {
         requires cache { book.state.cache ≡ empty_cache book.state.cache.capacity }
         requires no_dump { dumps ≡ [] }
         requires at { AreAt (board_id board) (pass_board pass) book.board cells.items }
-        requires unowned { book.view.given ≡ [] }
+        requires unowned { (book.view.given ≡ []) × (book.view.last_given ≡ 0) }
         ensures core { result.core ≡ opened_core (placement_of book.state.layout) book.state.history }
         ensures cells { result.cells ≡ states_of cells.items }
         ensures setup { result.setup ≡ record { names = book.state.layout.names; register = accounts } }
@@ -197,15 +175,14 @@ impl<B: Backend + Drop, S: Store + Drop> State<B, S> {
         ensures cache { result.cache ≡ book.state.cache }
         ensures balance { result.balance ≡ book.state.balance }
     {
+        let tally = Tally::new();
         State {
             alloc,
             board,
             pass,
             book,
             cells,
-            failed: 0,
-            starved: 0,
-            first_outcome: None,
+            tally,
             sessions,
             accounts,
             dumps,
@@ -226,11 +203,14 @@ impl<B: Backend + Drop, S: Store + Drop> State<B, S> {
         cells
     }
 
-    /// The log's store, as it is.
+    /// The log's store, as it is. Its bytes keep the history, and so does whatever a stop at this moment leaves of them.
     pub fn into_log(self) -> S
         ensures faults { S.faults result ≡ self.recovery_log.faults }
         ensures bytes { S.held result ≡ self.recovery_log.bytes }
+        ensures kept { S.tells ≡ true → IsKeptIn (S.held result) self.core.history }
+        ensures stop { S.tells ≡ true → (image : List ℕ) → S.may result image → IsKeptIn image self.core.history }
     {
+        self.book.legal();
         let State { book, .. } = self;
         book.into_log()
     }
@@ -244,6 +224,35 @@ impl<B: Backend + Drop, S: Store + Drop> State<B, S> {
     {
         let State { cells, book, .. } = self;
         (cells, book.into_log())
+    }
+
+    /// Its board, and the book and the cells at the board's seats, beside this empty list for the backends.
+    pub fn into_shared(self, emptied: Vec<B>) -> Shared<B, S>
+        ensures world { IsWorld B.tells self }
+        ensures fresh { IsFresh B.tells self }
+        ensures parts { IsTakenApart B.tells self (board_id result.board) (pass_board result.pass) result.book result.cells.items result.accounts result.dumps }
+        ensures recovery_log { log_view S.faults S.held result.book.state.recovery_log ≡ self.recovery_log }
+        ensures emptied { result.emptied ≡ emptied }
+    {
+        self.book.legal();
+        let State {
+            board,
+            pass,
+            book,
+            cells,
+            accounts,
+            dumps,
+            ..
+        } = self;
+        Shared {
+            board,
+            pass,
+            book,
+            cells,
+            accounts,
+            dumps,
+            emptied,
+        }
     }
 }
 
@@ -563,24 +572,14 @@ impl<B: Backend, S: Store> State<B, S> {
         requires behind { moves.first_lagging self.now.core.history 0 self.now.core.positions ≡ None }
         ensures { AnswersOpen B.tells self.now.core result }
     {
-        let targets = self.book.targets();
-        let left = self.book.left(self.failed, self.starved);
-        if targets != 0 && targets & left == 0 {
-            return Reply::Refused(unfinished(self.failed, self.starved));
-        }
-        match self.first_outcome {
-            Some(Outcome::Done(count)) => Reply::Done(count),
-            Some(Outcome::Refused(refusal)) => Reply::Refused(refusal),
-            // No backend had a part in it: it begins or ends a transaction.
-            None => Reply::Done(0),
-        }
+        self.tally.reply(self.book.targets())
     }
 }
 
 // ---- what moves change
 
 impl<B: Backend, S: Store> State<B, S> {
-    /// Opens a session of the next number. It takes no memory.
+    /// Opens a session of the next number, without an own pass. It takes no memory.
     pub fn add_session(&mut self, user: Text) -> u64
         requires number { moves.has_no_number self.old.core ≡ false }
         requires user { length user ≤ USER_LIMIT }
@@ -614,8 +613,10 @@ impl<B: Backend, S: Store> State<B, S> {
         self.sessions.count(s);
     }
 
-    /// Picks the backend of a read among the candidates; none exactly where there are none. The read is over before
-    /// another is picked, so it is pending at none of the picks.
+    /// Picks the backend of a read among the candidates; none exactly where there are none.
+    ///
+    /// Here a read is over before another is picked, so it is pending at none of the picks. Where reads go on side by
+    /// side, each ends only once its backend has answered.
     pub fn pick(&mut self, candidates: u32) -> Option<u8>
         requires { candidates < 2 ^ BACKEND_LIMIT }
         ensures none { IsNone result ↔ (candidates ≡ 0) }
@@ -675,9 +676,7 @@ impl<B: Backend, S: Store> State<B, S> {
         match self.book.schedule(&self.board, entry) {
             Ok(number) => {
                 self.sessions.count(s);
-                self.failed = 0;
-                self.starved = 0;
-                self.first_outcome = None;
+                self.tally = Tally::new();
                 Ok(number)
             }
             Err(error) => Err(error),
@@ -698,9 +697,7 @@ impl<B: Backend, S: Store> State<B, S> {
     {
         match self.book.schedule(&self.board, entry) {
             Ok(number) => {
-                self.failed = 0;
-                self.starved = 0;
-                self.first_outcome = None;
+                self.tally = Tally::new();
                 Ok(number)
             }
             Err(error) => Err(error),
@@ -711,7 +708,7 @@ impl<B: Backend, S: Store> State<B, S> {
     pub fn starved(&self) -> u32
         ensures { result ≡ self.now.core.starved }
     {
-        self.starved
+        self.tally.starved
     }
 
     /// The session of the open entry.
@@ -735,10 +732,9 @@ impl<B: Backend, S: Store> State<B, S> {
         let number = self.book.length();
         self.sessions.answer(s, number);
         hear_all(&self.board, &mut self.pass, &mut self.book, &mut self.cells);
-        self.book.end(&self.board, self.failed, self.starved);
-        self.failed = 0;
-        self.starved = 0;
-        self.first_outcome = None;
+        self.book
+            .end(&self.board, self.tally.failed, self.tally.starved);
+        self.tally = Tally::new();
     }
 
     /// The backend takes the open entry.
@@ -764,9 +760,7 @@ impl<B: Backend, S: Store> State<B, S> {
             &self.accounts,
             b,
         );
-        self.failed = failed_after(self.failed, b, did);
-        self.starved = starved_after(self.starved, b, did);
-        self.first_outcome = first_outcome_after(self.first_outcome, did);
+        self.tally.took(b, did);
         did
     }
 

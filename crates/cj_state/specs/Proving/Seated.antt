@@ -25,15 +25,17 @@ pub record AreAt (id pass book : TableId) (cells : List SeatedCell) : Type 0 whe
   pub of_book : book ≡ id
   pub of_cells : AreCellsAt id cells
 
--- no session has an own pass, and the book has a fault token of each backend of the mask
+-- no session was given an own pass, and the book has a fault token of each backend of the mask
 pub record IsReady (book : SeatView) (failed : ℕ) : Type 0 where
   pub unowned : book.given ≡ []
+  pub none_given : book.last_given ≡ 0
   pub tokens : (k : ℕ) → in_mask failed k ≡ true → 0 < fault_tokens_of k book.fault_tokens
 
 -- the book has heard more, and nothing else of it has changed
 pub record HasHeard {S : Type 0} (old new : SeatedBook S) : Type 0 where
   pub state : new.state ≡ old.state
   pub given : new.view.given ≡ old.view.given
+  pub last_given : new.view.last_given ≡ old.view.last_given
   pub tokens : (k : ℕ) → fault_tokens_of k old.view.fault_tokens ≤ fault_tokens_of k new.view.fault_tokens
   pub notes : (x : ℕ × ℕ) → Contains old.view.position_notes x → Contains new.view.position_notes x
 

@@ -5,7 +5,6 @@ use Rattle.std.specs.declared.result.Result.TheVariants.{Ok, Err}
 use Rattle.std.specs.declared.option.Option.{Option}
 use Rattle.std.specs.declared.option.Option.TheVariants.{Some}
 use Rattle.cj_outside.specs.Causes.{next}
-use Rattle.cj_model.specs.declared.answer.Outcome.{Outcome}
 use Rattle.cj_cluster.specs.declared.event.Event.{Event}
 use Rattle.cj_cluster.specs.declared.moves.Did.{Did}
 use Rattle.cj_cluster.specs.declared.moves.Did.TheVariants as did
@@ -55,10 +54,3 @@ pub record TookEntry (tells : Bool) (accounts : List Account) (l : Layout) (h : 
   pub armings : cell.arming.times ≡ (slice_index_or cells b cell).arming.times
   pub asks : cell.asks ≡ (slice_index_or cells b cell).asks
   pub logins : LogsInToTake b (login_of accounts (next_user (log h) (slice_index_or cells b cell).position) b) d (logins_of cells) (logins_of now)
-
--- what the open entry came to, after a backend took it
-abbrev pub first_outcome_after : Option Outcome → Did → Option Outcome
-first_outcome_after first_outcome (did.Done o) = Some o
-first_outcome_after first_outcome did.Skipped = first_outcome
-first_outcome_after first_outcome did.Failed = first_outcome
-first_outcome_after first_outcome did.Starved = first_outcome

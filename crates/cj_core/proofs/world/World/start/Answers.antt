@@ -1,5 +1,6 @@
 use Rattle.std.proofs.Common.{ℕ, List, map, sym, ap, ◌∙◌, subst, ◌≡◌, true}
 use Rattle.cj_core.proofs.Cited.{CellState, Core, Event, IsPrefix, KeepsItems, Layout, LogItem, LogView, LosesNothing, OpensTo, WorldState, backend_of, fault_of_start, items_of, loses_nothing, opened_core, placement_of, refused_again, refused_part, started_well, starts_from, state_by}
+use Rattle.cj_core.proofs.StartNumbers.{started_numbers}
 use Rattle.cj_core.proofs.world.World.start.Goals as goal
 
 pub returns-in-Ok-brought-clause-started : goal.returns-in-Ok-brought-clause-started
@@ -20,6 +21,13 @@ returns-in-Ok-brought-clause-kept g c = λ t.
     let core = c.new-state.ensures.core in
     let opens : OpensTo (items_of c.new-state.result.core.history) c.new-state.result.core.history = subst (λ (h : List Event). OpensTo (items_of h) h) (sym (ap (λ (k : Core). k.history) core)) opened.opens in
     (c.legal.ensures.logged t).whole (started_well (items_of c.new-state.result.core.history) _ _ _ c.bring_up-brought.new.state opens c.in-Ok-brought.ensures.started)
+
+pub returns-in-Ok-brought-clause-numbers : goal.returns-in-Ok-brought-clause-numbers
+returns-in-Ok-brought-clause-numbers g c =
+    let opened = c.in_ok-book.ensures.started in
+    let core = c.new-state.ensures.core in
+    let opens : OpensTo (items_of c.new-state.result.core.history) c.new-state.result.core.history = subst (λ (h : List Event). OpensTo (items_of h) h) (sym (ap (λ (k : Core). k.history) core)) opened.opens in
+    started_numbers _ _ _ c.bring_up-brought.new.state opens.opening c.in-Ok-brought.ensures.started
 
 pub returns-in_err-book-clause-bytes : goal.returns-in_err-book-clause-bytes
 returns-in_err-book-clause-bytes g c = λ t. refused_again g.S.Store.held (g.S.Store.held c.args.log) c.from_residual.result c.in_err-book.field-0.0 c.from_residual.ensures.1 (c.in_err-book.ensures.bytes t)

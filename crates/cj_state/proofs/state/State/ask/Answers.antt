@@ -7,7 +7,7 @@ invariant_of-self g c =
     let w = c.self.inside in
     let ch = c.in-Ok.ensures.read in
     rw c.read_at.ensures.heard.state
-    (kept_asked c.self.invariant.0 c.self.view_is c.requires.within ch ch.how.same, c.self.invariant.1, c.self.invariant.2, (c.read_at.ensures.at, ready_heard w.book c.read_at.new.book w.failed c.self.invariant.3.1 c.read_at.ensures.heard))
+    (kept_asked c.self.invariant.0 c.self.view_is c.requires.within ch ch.how.same, c.self.invariant.1, c.self.invariant.2, (c.read_at.ensures.at, ready_heard w.book c.read_at.new.book w.tally.failed c.self.invariant.3.1 c.read_at.ensures.heard))
 
 pub returns-in-Ok-clause-core : goal.returns-in-Ok-clause-core
 returns-in-Ok-clause-core g c = let ch = c.in-Ok.ensures.read in rw c.read_at.ensures.heard.state (same_core c.self.invariant.0 c.self.view_is c.requires.within ch ch.how.same)
@@ -40,25 +40,25 @@ invariant_of-self-in-Err g c =
     let notes = subst (λ (k : BookState g.row.S.Denot). Notes k c.args.s c.read_number-number.result c.args.b c.in-Err.error c.noted.result c.noted.new.book.state) c.read_at.ensures.heard.state c.noted.ensures.notes in
     let kept = kept_asked c.self.invariant.0 c.self.view_is c.requires.within ch ch.how.same in
     let q =
-    notes_cases (λ _ (k : BookState g.row.S.Denot). KeptFresh g.B.Backend.tells (world_of w.accounts k.layout k.history now w.failed w.starved w.sessions k.greatest w.dumps) k.sessions w.first_outcome k.cache w.dumps)
+    notes_cases (λ _ (k : BookState g.row.S.Denot). KeptFresh g.B.Backend.tells (world_of w.accounts k.layout k.history now w.tally.failed w.tally.starved w.sessions k.greatest w.dumps) k.sessions w.tally k.cache w.dumps)
     w.book.state c.noted.new.book.state c.args.s c.read_number-number.result c.args.b c.in-Err.error c.noted.result notes
     (λ was. (kept, c.self.invariant.1, c.self.invariant.2)) (λ p was. (kept, c.self.invariant.1, c.self.invariant.2)) (λ was. (kept, c.self.invariant.1, c.self.invariant.2))
     (λ was space. (
-      kept_read_failed g.B.Backend.tells w.accounts w.book.state.layout w.book.state.history now w.failed w.starved w.sessions w.book.state.greatest w.dumps w.book.state.sessions w.first_outcome kept c.args.s c.read_number-number.result c.args.b space,
+      kept_read_failed g.B.Backend.tells w.accounts w.book.state.layout w.book.state.history now w.tally.failed w.tally.starved w.sessions w.book.state.greatest w.dumps w.book.state.sessions w.tally kept c.args.s c.read_number-number.result c.args.b space,
       fresh_event w.book.state.history w.book.state.cache g.B.Backend.tells (ReadFailed c.args.s c.read_number-number.result c.args.b) refl c.self.invariant.1,
       dumps_event g.B.Backend.tells (placement_of w.book.state.layout) w.book.state.history w.dumps c.self.invariant.2 (ReadFailed c.args.s c.read_number-number.result c.args.b) refl,
     ))
     (λ was n full. (kept, c.self.invariant.1, c.self.invariant.2))
     in
-    let ready = ready_noted w.book c.read_at.new.book c.noted.new.book w.failed c.args.b c.in-Err.error c.self.invariant.3.1 c.read_at.ensures.heard (λ is. c.in-Err.ensures.token (ap (λ (d : CellReadError). Err d) is)) c.noted.ensures.given c.noted.ensures.tokens in
-    (q.0, q.1, q.2, (at_book (board_id w.board) (pass_board c.read_at.new.pass) c.read_at.new.book c.noted.new.book c.read_at.new.cells.items w.failed c.read_at.ensures.at (ready_heard w.book c.read_at.new.book w.failed c.self.invariant.3.1 c.read_at.ensures.heard) c.noted.ensures.at, ready))
+    let ready = ready_noted w.book c.read_at.new.book c.noted.new.book w.tally.failed c.args.b c.in-Err.error c.self.invariant.3.1 c.read_at.ensures.heard (λ is. c.in-Err.ensures.token (ap (λ (d : CellReadError). Err d) is)) c.noted.ensures.given c.noted.ensures.last_given c.noted.ensures.tokens in
+    (q.0, q.1, q.2, (at_book (board_id w.board) (pass_board c.read_at.new.pass) c.read_at.new.book c.noted.new.book c.read_at.new.cells.items w.tally.failed c.read_at.ensures.at (ready_heard w.book c.read_at.new.book w.tally.failed c.self.invariant.3.1 c.read_at.ensures.heard) c.noted.ensures.at, ready))
 
 pub returns-in-Err-clause-core : goal.returns-in-Err-clause-core
 returns-in-Err-clause-core g c =
     let w = c.self.inside in
     let ch = c.in-Err.ensures.read in
     let notes = subst (λ (k : BookState g.row.S.Denot). Notes k c.args.s c.read_number-number.result c.args.b c.in-Err.error c.noted.result c.noted.new.book.state) c.read_at.ensures.heard.state c.noted.ensures.notes in
-    noted_core (states_of c.read_at.new.cells.items) w.failed w.starved w.sessions w.dumps w.book.state c.noted.new.book.state c.args.s c.read_number-number.result c.args.b c.in-Err.error c.noted.result c.args.self.now.core notes
+    noted_core (states_of c.read_at.new.cells.items) w.tally.failed w.tally.starved w.sessions w.dumps w.book.state c.noted.new.book.state c.args.s c.read_number-number.result c.args.b c.in-Err.error c.noted.result c.args.self.now.core notes
     (same_core c.self.invariant.0 c.self.view_is c.requires.within ch ch.how.same) c.read_number-number.ensures
 
 pub returns-in-Err-clause-asks : goal.returns-in-Err-clause-asks

@@ -5,7 +5,7 @@ use Rattle.cj_state.proofs.state.State.cut_dump.Goals as goal
 pub unreachable-requires : goal.unreachable-requires
 unreachable-requires g c =
     let w = c.self.inside in
-    let can = can_load (core_of w.book.state.layout w.book.state.history (states_of w.cells.items) w.failed w.starved w.sessions w.book.state.greatest w.dumps) c.args.b c.args.name.now (subst (λ (x : WorldState). not_now x.core (Load c.args.b c.args.name.now) ≡ None) (sym c.self.view_is) c.requires.now) in
+    let can = can_load (core_of w.book.state.layout w.book.state.history (states_of w.cells.items) w.tally.failed w.tally.starved w.sessions w.book.state.greatest w.dumps) c.args.b c.args.name.now (subst (λ (x : WorldState). not_now x.core (Load c.args.b c.args.name.now) ≡ None) (sym c.self.view_is) c.requires.now) in
     let none : first_of c.args.name.now w.dumps ≡ None = sym c.in_ok-dump.ensures.first ∙ c.in-None.is in
     absurd (cc (sym can.found ∙ (first_taken c.args.name.now w.dumps ∙ ap (option_map taken_of) none)))
 
@@ -26,7 +26,7 @@ returns-clause-held g c on =
     let w = c.self.inside in
     let tells = g.B.Backend.tells in
     let d : Dump = c.in-Some.dump in
-    let can = can_load (core_of w.book.state.layout w.book.state.history (states_of w.cells.items) w.failed w.starved w.sessions w.book.state.greatest w.dumps) c.args.b c.args.name.now (subst (λ (x : WorldState). not_now x.core (Load c.args.b c.args.name.now) ≡ None) (sym c.self.view_is) c.requires.now) in
+    let can = can_load (core_of w.book.state.layout w.book.state.history (states_of w.cells.items) w.tally.failed w.tally.starved w.sessions w.book.state.greatest w.dumps) c.args.b c.args.name.now (subst (λ (x : WorldState). not_now x.core (Load c.args.b c.args.name.now) ≡ None) (sym c.self.view_is) c.requires.now) in
     let there : first_of c.args.name.now w.dumps ≡ Some d = sym c.in_ok-dump.ensures.first ∙ c.in-Some.is in
     let found : find_dump (map taken_of w.dumps) c.args.name.now ≡ Some (taken_of d) = first_taken c.args.name.now w.dumps ∙ ap (option_map taken_of) there in
     let same : can.taken ≡ taken_of d = cc (sym can.found ∙ found) in

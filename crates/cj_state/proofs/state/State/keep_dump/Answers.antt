@@ -20,13 +20,13 @@ invariant_of-self-2 g c =
     let w = c.self.inside in
     let tells = g.B.Backend.tells in
     let d : Dump = record { position = c.in-Some.position; source = c.args.b; name = c.copy.result; all = c.all.result; covers = c.in_ok-covers.covers; db = c.args.db } in
-    let at : position_at (core_of w.book.state.layout w.book.state.history (states_of w.cells.items) w.failed w.starved w.sessions w.book.state.greatest w.dumps) c.args.b ≡ Some c.in-Some.position =
+    let at : position_at (core_of w.book.state.layout w.book.state.history (states_of w.cells.items) w.tally.failed w.tally.starved w.sessions w.book.state.greatest w.dumps) c.args.b ≡ Some c.in-Some.position =
     subst (λ (x : WorldState). position_at x.core c.args.b ≡ Some c.in-Some.position) (sym c.self.view_is) (sym c.position.ensures ∙ c.in-Some.is)
     in
     let held = subst (λ (x : WorldState). IsHeld tells x.core c.args.b c.args.db) (sym c.self.view_is) c.requires.held in
     rw c.in_ok-add.ensures.ok (
-      kept_dumped tells w.accounts w.book.state.layout w.book.state.history (states_of w.cells.items) w.failed w.starved w.sessions w.book.state.greatest w.dumps w.book.state.sessions w.first_outcome c.self.invariant.0 d at,
+      kept_dumped tells w.accounts w.book.state.layout w.book.state.history (states_of w.cells.items) w.tally.failed w.tally.starved w.sessions w.book.state.greatest w.dumps w.book.state.sessions w.tally c.self.invariant.0 d at,
       c.self.invariant.1,
-      dumps_push tells w.accounts w.book.state.layout w.book.state.history (states_of w.cells.items) w.failed w.starved w.sessions w.book.state.greatest w.dumps w.book.state.sessions w.first_outcome c.self.invariant.0 d at held c.self.invariant.2,
+      dumps_push tells w.accounts w.book.state.layout w.book.state.history (states_of w.cells.items) w.tally.failed w.tally.starved w.sessions w.book.state.greatest w.dumps w.book.state.sessions w.tally c.self.invariant.0 d at held c.self.invariant.2,
       c.self.invariant.3,
     )

@@ -9,14 +9,14 @@ invariant_of-self g c =
     let fresh = subst (λ (x : WorldState). has_marker x.core.history c.args.name.now ≡ false) (sym c.self.view_is) c.requires.fresh in
     let came = c.mark.ensures.state in
     let q = logged c.mark.result w.book.state c.mark.new.self.state (Marker c.args.name.now None) (LogFailed 0 0)
-    (λ (b : BookState g.row.S.Denot). KeptFresh g.B.Backend.tells (world_of w.accounts b.layout b.history (states_of w.cells.items) w.failed w.starved w.sessions b.greatest w.dumps) b.sessions w.first_outcome b.cache w.dumps)
+    (λ (b : BookState g.row.S.Denot). KeptFresh g.B.Backend.tells (world_of w.accounts b.layout b.history (states_of w.cells.items) w.tally.failed w.tally.starved w.sessions b.greatest w.dumps) b.sessions w.tally b.cache w.dumps)
     came.ok came.log_fault came.same came.space came.faulted
-    (λ space. (kept_marked g.B.Backend.tells w.accounts w.book.state.layout w.book.state.history (states_of w.cells.items) w.failed w.starved w.sessions w.book.state.greatest w.dumps w.book.state.sessions w.first_outcome c.self.invariant.0 c.args.name.now None fr fresh space, fresh_event w.book.state.history w.book.state.cache g.B.Backend.tells (Marker c.args.name.now None) refl c.self.invariant.1, dumps_event g.B.Backend.tells (placement_of w.book.state.layout) w.book.state.history w.dumps c.self.invariant.2 (Marker c.args.name.now None) refl))
+    (λ space. (kept_marked g.B.Backend.tells w.accounts w.book.state.layout w.book.state.history (states_of w.cells.items) w.tally.failed w.tally.starved w.sessions w.book.state.greatest w.dumps w.book.state.sessions w.tally c.self.invariant.0 c.args.name.now None fr fresh space, fresh_event w.book.state.history w.book.state.cache g.B.Backend.tells (Marker c.args.name.now None) refl c.self.invariant.1, dumps_event g.B.Backend.tells (placement_of w.book.state.layout) w.book.state.history w.dumps c.self.invariant.2 (Marker c.args.name.now None) refl))
     (λ space.
-    (kept_log_failed g.B.Backend.tells w.accounts w.book.state.layout w.book.state.history (states_of w.cells.items) w.failed w.starved w.sessions w.book.state.greatest w.dumps w.book.state.sessions w.first_outcome c.self.invariant.0 0 0 fr (omega arith) space (λ some. absurd (omega (arith, some))), fresh_event w.book.state.history w.book.state.cache g.B.Backend.tells (LogFailed 0 0) refl c.self.invariant.1, dumps_event g.B.Backend.tells (placement_of w.book.state.layout) w.book.state.history w.dumps c.self.invariant.2 (LogFailed 0 0) refl))
+    (kept_log_failed g.B.Backend.tells w.accounts w.book.state.layout w.book.state.history (states_of w.cells.items) w.tally.failed w.tally.starved w.sessions w.book.state.greatest w.dumps w.book.state.sessions w.tally c.self.invariant.0 0 0 fr (omega arith) space (λ some. absurd (omega (arith, some))), fresh_event w.book.state.history w.book.state.cache g.B.Backend.tells (LogFailed 0 0) refl c.self.invariant.1, dumps_event g.B.Backend.tells (placement_of w.book.state.layout) w.book.state.history w.dumps c.self.invariant.2 (LogFailed 0 0) refl))
     (c.self.invariant.0, c.self.invariant.1, c.self.invariant.2)
     in
-    (q.0, q.1, q.2, seats_after (board_id w.board) (pass_board w.pass) w.book c.mark.new.self w.cells.items w.failed c.self.invariant.3.0 c.self.invariant.3.1 (event_or_fault (Marker c.args.name.now None) (LogFailed 0 0) c.mark.result) (quiet_or_fault (Marker c.args.name.now None) (LogFailed 0 0) c.mark.result (λ b. refl) (λ b. refl)) c.mark.ensures.board c.mark.ensures.seat)
+    (q.0, q.1, q.2, seats_after (board_id w.board) (pass_board w.pass) w.book c.mark.new.self w.cells.items w.tally.failed c.self.invariant.3.0 c.self.invariant.3.1 (event_or_fault (Marker c.args.name.now None) (LogFailed 0 0) c.mark.result) (quiet_or_fault (Marker c.args.name.now None) (LogFailed 0 0) c.mark.result (λ b. refl) (λ b. refl)) c.mark.ensures.board c.mark.ensures.seat)
 
 pub mark-requires-clause-counted : goal.mark-requires-clause-counted
 mark-requires-clause-counted g c = counted c.self.inside.book (LogFailed 0 0) c.self.invariant.3.1.unowned
@@ -25,7 +25,7 @@ pub returns-clause-room : goal.returns-clause-room
 returns-clause-room g c =
     let w = c.self.inside in
     subst (λ (x : WorldState). HadLoggedRoom x.core c.mark.result) c.self.view_is
-    (had_logged_room (states_of w.cells.items) w.failed w.starved w.sessions w.book.state.greatest w.dumps w.book.state c.mark.result c.mark.ensures.state.space c.mark.ensures.state.full c.mark.ensures.state.want c.mark.ensures.state.faulted)
+    (had_logged_room (states_of w.cells.items) w.tally.failed w.tally.starved w.sessions w.book.state.greatest w.dumps w.book.state c.mark.result c.mark.ensures.state.space c.mark.ensures.state.full c.mark.ensures.state.want c.mark.ensures.state.faulted)
 
 pub returns-clause-number : goal.returns-clause-number
 returns-clause-number g c =

@@ -6,4 +6,4 @@ pub invariant_of-self : goal.invariant_of-self
 invariant_of-self g c =
     let w = c.self.inside in
     let idle = subst (λ (x : WorldState). is_waiting x.core c.args.s ≡ false) (sym c.self.view_is) c.requires in
-    rw (c.close.ensures, c.close_session.ensures.state) (kept_closed g.B.Backend.tells w.accounts w.book.state.layout w.book.state.history (states_of w.cells.items) w.failed w.starved w.sessions w.book.state.greatest w.dumps w.book.state.sessions w.first_outcome c.self.invariant.0 c.args.s idle, c.self.invariant.1, c.self.invariant.2, seats_same (board_id w.board) (pass_board w.pass) w.book c.close_session.new.self w.cells.items w.failed c.self.invariant.3.0 c.self.invariant.3.1 c.close_session.ensures.seat)
+    rw (c.close.ensures, c.close_session.ensures.state) (kept_closed g.B.Backend.tells w.accounts w.book.state.layout w.book.state.history (states_of w.cells.items) w.tally.failed w.tally.starved w.sessions w.book.state.greatest w.dumps w.book.state.sessions w.tally c.self.invariant.0 c.args.s idle, c.self.invariant.1, c.self.invariant.2, seats_same (board_id w.board) (pass_board w.pass) w.book c.close_session.new.self w.cells.items w.tally.failed c.self.invariant.3.0 c.self.invariant.3.1 c.close_session.ensures.seat)

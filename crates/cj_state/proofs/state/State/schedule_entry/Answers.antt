@@ -6,7 +6,7 @@ pub schedule-requires-clause-known : goal.schedule-requires-clause-known
 schedule-requires-clause-known g c =
     let w = c.self.inside in
     let here = subst (λ (x : WorldState). is_open x.core c.args.s ≡ true) (sym c.self.view_is) c.requires.here in
-    inl (ap (has_session w.book.state) c.requires.session ∙ (open_is w.book.state (states_of w.cells.items) w.failed w.starved w.sessions w.dumps c.self.invariant.0.numbers_are c.args.s ∙ here))
+    inl (ap (has_session w.book.state) c.requires.session ∙ (open_is w.book.state (states_of w.cells.items) w.tally.failed w.tally.starved w.sessions w.dumps c.self.invariant.0.numbers_are c.args.s ∙ here))
 
 pub invariant_of-self : goal.invariant_of-self
 invariant_of-self g c =
@@ -16,24 +16,24 @@ invariant_of-self g c =
     let fits = subst (λ (x : WorldState). IsFitEntry (log x.core.history) c.args.entry) (sym c.self.view_is) c.requires.fits in
     let no_read = subst (λ (x : WorldState). (session_at x.core c.args.s).reading ≡ None) (sym c.self.view_is) c.requires.no_read in
     let ready = c.in-Ok.ensures.state.ready in
-    rw (c.in-Ok.ensures.state.ok, c.count.ensures) (
-      kept_scheduled g.B.Backend.tells w.accounts w.book.state.layout w.book.state.history (states_of w.cells.items) w.failed w.starved w.sessions w.book.state.greatest w.dumps w.book.state.sessions w.first_outcome c.self.invariant.0 c.args.s c.args.entry here c.requires.session number ready.is_free fits
+    rw (c.in-Ok.ensures.state.ok, c.count.ensures, c.new-self-inside.ensures) (
+      kept_scheduled g.B.Backend.tells w.accounts w.book.state.layout w.book.state.history (states_of w.cells.items) w.tally.failed w.tally.starved w.sessions w.book.state.greatest w.dumps w.book.state.sessions w.tally c.self.invariant.0 c.args.s c.args.entry here c.requires.session number ready.is_free fits
           ready.space no_read ready.served,
       fresh_entry w.book.state.history w.book.state.cache g.B.Backend.tells c.args.entry c.self.invariant.1,
       dumps_entry g.B.Backend.tells (placement_of w.book.state.layout) w.book.state.history w.dumps c.self.invariant.2 c.args.entry,
-      seats_cleared (board_id w.board) (pass_board w.pass) w.book c.schedule.new.self w.cells.items w.failed c.self.invariant.3.0 c.self.invariant.3.1 (Some (Sched c.args.entry)) c.in-Ok.ensures.board c.in-Ok.ensures.seat,
+      seats_cleared (board_id w.board) (pass_board w.pass) w.book c.schedule.new.self w.cells.items w.tally.failed c.self.invariant.3.0 c.self.invariant.3.1 (Some (Sched c.args.entry)) c.in-Ok.ensures.board c.in-Ok.ensures.seat,
     )
 
 pub returns-in-Ok-clause-scheduled : goal.returns-in-Ok-clause-scheduled
 returns-in-Ok-clause-scheduled g c =
     let w = c.self.inside in
-    subst (λ (x : WorldState). SchedulesAs x.core c.args.entry (Ok c.in-Ok.number)) c.self.view_is (scheduled_as c.in-Ok.ensures.state (states_of w.cells.items) w.failed w.starved w.sessions w.dumps c.in-Ok.number refl)
+    subst (λ (x : WorldState). SchedulesAs x.core c.args.entry (Ok c.in-Ok.number)) c.self.view_is (scheduled_as c.in-Ok.ensures.state (states_of w.cells.items) w.tally.failed w.tally.starved w.sessions w.dumps c.in-Ok.number refl)
 
 pub returns-in-Err-clause-scheduled : goal.returns-in-Err-clause-scheduled
 returns-in-Err-clause-scheduled g c =
     let w = c.self.inside in
     subst (λ (x : WorldState). SchedulesAs x.core c.args.entry (Err c.in-Err.error)) c.self.view_is
-    (not_scheduled c.schedule.ensures.state (states_of w.cells.items) w.failed w.starved w.sessions w.dumps c.in-Err.error c.in-Err.is)
+    (not_scheduled c.schedule.ensures.state (states_of w.cells.items) w.tally.failed w.tally.starved w.sessions w.dumps c.in-Err.error c.in-Err.is)
 
 pub invariant_of-self-in-Err : goal.invariant_of-self-in-Err
 invariant_of-self-in-Err g c =
@@ -41,14 +41,14 @@ invariant_of-self-in-Err g c =
     let e = c.args.entry in
     let here = subst (λ (x : WorldState). is_open x.core c.args.s ≡ true) (sym c.self.view_is) c.requires.here in
     let no_read = subst (λ (x : WorldState). (session_at x.core c.args.s).reading ≡ None) (sym c.self.view_is) c.requires.no_read in
-    let core : Core = core_of w.book.state.layout w.book.state.history (states_of w.cells.items) w.failed w.starved w.sessions w.book.state.greatest w.dumps in
+    let core : Core = core_of w.book.state.layout w.book.state.history (states_of w.cells.items) w.tally.failed w.tally.starved w.sessions w.book.state.greatest w.dumps in
     let sound = session_sound core c.args.s c.self.invariant.0.world.sound here in
     let high : (session_at core c.args.s).number ≤ w.book.state.greatest = sound.0.number.1 in
     let own : (session_at core c.args.s).number ≡ c.args.s = sound.1 in
     let session : e.session ≡ c.args.s = c.requires.session in
-    let q = kept_unscheduled c.schedule.ensures.state w.accounts (states_of w.cells.items) w.failed w.starved w.sessions w.dumps w.first_outcome g.B.Backend.tells c.in-Err.error c.in-Err.is
+    let q = kept_unscheduled c.schedule.ensures.state w.accounts (states_of w.cells.items) w.tally.failed w.tally.starved w.sessions w.dumps w.tally g.B.Backend.tells c.in-Err.error c.in-Err.is
     (c.self.invariant.0, c.self.invariant.1, c.self.invariant.2) (omega arith) (λ some. subst (λ (k : ℕ). (session_at core k).reading ≡ None) (sym session) no_read) in
-    (q.0, q.1, q.2, seats_after (board_id w.board) (pass_board w.pass) w.book c.schedule.new.self w.cells.items w.failed c.self.invariant.3.0 c.self.invariant.3.1 (event_or_fault (Sched e) (LogFailed e.session e.seq) c.schedule.result) (quiet_or_fault (Sched e) (LogFailed e.session e.seq) c.schedule.result (λ b. refl) (λ b. refl)) c.schedule.ensures.board c.schedule.ensures.seat)
+    (q.0, q.1, q.2, seats_after (board_id w.board) (pass_board w.pass) w.book c.schedule.new.self w.cells.items w.tally.failed c.self.invariant.3.0 c.self.invariant.3.1 (event_or_fault (Sched e) (LogFailed e.session e.seq) c.schedule.result) (quiet_or_fault (Sched e) (LogFailed e.session e.seq) c.schedule.result (λ b. refl) (λ b. refl)) c.schedule.ensures.board c.schedule.ensures.seat)
 
 pub schedule-requires-clause-counted : goal.schedule-requires-clause-counted
 schedule-requires-clause-counted g c =
