@@ -15,16 +15,15 @@ pub spent_entering : (fails : List ℕ) (armed : Bool) (armings faults : ℕ) �
 spent_entering fails true armings faults spent none = ⊎_elim (λ (le : faults + 1 ≤ armings). inl (omega (arith, le))) (λ full. inr full) (spent none)
 spent_entering fails false armings faults spent none = spent none
 
--- a backend that was armed, and failed
-spent_armed : (armings faults : ℕ) → (faults + 1 ≤ armings) ⊎ (armings ≡ 2 ^ 64 - 1) → (next faults + 0 ≤ armings) ⊎ (armings ≡ 2 ^ 64 - 1)
-spent_armed armings faults (inl le) = inl (omega (arith, le))
-spent_armed armings faults (inr full) = inr full
-
+-- a call that is to fail spends an arming, which is left
 module _ {B : Type 0} where
-  -- a call that is to fail
-  pub spent_failing : (s : FlakyState B) → SpentArmings s.fails s.armed s.armings s.faults → IsToFail s → SpentArmings s.fails false s.armings (next s.faults)
-  spent_failing s spent (inl armed) none = spent_armed s.armings s.faults (subst (λ (b : Bool). (s.faults + cond b 1 0 ≤ s.armings) ⊎ (s.armings ≡ 2 ^ 64 - 1)) armed (spent none))
-  spent_failing s spent (inr listed) none = let there = subst (λ (fails : List ℕ). Contains fails (next s.calls)) none listed in let within = there.1 in absurd (omega (arith, within))
+  pub arming_left : (s : FlakyState B) → SpentArmings s.fails s.armed s.armings s.faults → IsToFail s → SpentArmings s.fails true s.armings s.faults
+  arming_left s spent (inl armed) none = subst (λ (b : Bool). (s.faults + cond b 1 0 ≤ s.armings) ⊎ (s.armings ≡ 2 ^ 64 - 1)) armed (spent none)
+  arming_left s spent (inr listed) none = let there = subst (λ (fails : List ℕ). Contains fails (next s.calls)) none listed in let within = there.1 in absurd (omega (arith, within))
+
+-- and then it is spent
+pub spent_failing : (fails : List ℕ) (armings faults : ℕ) → SpentArmings fails true armings faults → SpentArmings fails false armings (next faults)
+spent_failing fails armings faults left none = ⊎_elim (λ (le : faults + 1 ≤ armings). inl (omega (arith, le))) (λ (full : armings ≡ 2 ^ 64 - 1). inr full) (left none)
 
 -- one arming more, unless there can be no more of them
 room : (armings faults : ℕ) → faults ≤ armings → (faults + 1 ≤ next armings) ⊎ (next armings ≡ 2 ^ 64 - 1)

@@ -40,7 +40,7 @@ impl<B: Backend> Model for Flaky<B> {
 }
 
 impl<B: Backend> Flaky<B> {
-    ghost use Rattle.cj_flaky.specs.FlakyBackends.{EntersAsListed, EntersChange, FailsOnlyArmed, IsToFail, fresh_over, numbered};
+    ghost use Rattle.cj_flaky.specs.FlakyBackends.{EntersAsListed, EntersChange, FailsOnlyArmed, IsToFail, SpentArmings, fresh_over, numbered};
 
     /// Over this backend; the calls with the numbers in `fails` fail.
     pub fn new(backend: B, fails: ListOf<u64>) -> Flaky<B>
@@ -63,6 +63,7 @@ impl<B: Backend> Flaky<B> {
     pub fn legal(&self)
         ensures { B.faults self.now.inner ≡ 0 → FailsOnlyArmed B.faults self.now }
     {
+        let _ = &self.inner;
     }
 
     /// The inner backend, as it stands.
@@ -81,9 +82,11 @@ impl<B: Backend> Flaky<B> {
     }
 
     /// Numbers the next call and answers whether it is to fail.
+    #[tactic(auto, using(crate::proofs::Armings::arming_left, crate::proofs::Armings::spent_entering))]
     fn is_next_to_fail(&mut self) -> bool
         ensures fails { IsTrue result ↔ IsToFail self.old }
         ensures numbered { self.new ≡ numbered self.old }
+        ensures left { IsTrue result → SpentArmings self.new.fails true self.new.armings self.new.faults }
     {
         self.calls = self.calls.saturating_add(1);
         let listed = self.fails.as_slice().contains(&self.calls);
@@ -93,7 +96,7 @@ impl<B: Backend> Flaky<B> {
     }
 
     /// Enters the next call, unless it is to fail.
-    #[tactic(auto, using(crate::proofs::Armings::spent_failing, crate::proofs::Armings::spent_entering))]
+    #[tactic(auto, using(crate::proofs::Armings::spent_failing))]
     fn enter(&mut self) -> Result<(), BackendError>
         ensures { EntersAsListed self.old result self.new }
     {

@@ -14,7 +14,11 @@ use Rattle.cj_cluster.specs.declared.event.Event.{Event}
 use Rattle.cj_cluster.specs.declared.event.Event.TheVariants.{Sched, Ended, ReadFailed}
 use Rattle.cj_cluster.specs.History.Histories.{enabled_after_event, is_enabled, masks_of_end, masks_of_ends}
 use Rattle.cj_cluster.specs.History.Legality.{IsAllowedEvent, IsLegal}
-use Rattle.cj_state.specs.Faults.{faults_after}
+use Rattle.cj_model.specs.declared.limits.TheConstants.{BACKEND_LIMIT}
+use Rattle.cj_state.specs.Faults.{faults_after, faults_of}
+use Rattle.cj_state.specs.Worlds.{WorldState}
+use Rattle.cj_workload.specs.Proving.Standings.{IsStandingOf, LostByFaults}
+use Rattle.cj_workload.specs.declared.starving.Standing.{Standing}
 use Rattle.cj_core.specs.Solos.{faults_counted, mask_with}
 use Rattle.cj_workload.specs.Workloads.{EndsUnstarved}
 
@@ -94,6 +98,11 @@ pub ends_unstarved : (h g : List Event) (e : Entry) (counts failed : List ℕ) (
 ends_unstarved h g e counts failed starved is legal each =
     let none = none_starved h g e counts failed starved is legal each in
     inr (mask_with 0 failed, ap masks_of_ends is ∙ (filter_map-append masks_of_end h (Sched e ∷ Ended (mask_with 0 failed) starved ∷ []) ∙ ap (λ (n : ℕ). masks_of_ends h ++ (mask_with 0 failed, n) ∷ []) none))
+
+-- so it is found by how the backends stood before
+pub lost_by_faults : (w old : WorldState) (s : Standing) → ((b : ℕ) → b < BACKEND_LIMIT → in_mask s.enabled b ≡ true → is_enabled w.core.history b ≡ false → slice_index_or (faults_of w.cells) b 0 ≢ slice_index_or s.faults b 0)
+    → IsStandingOf old s → LostByFaults old w
+lost_by_faults w old s quiet stood b on off same = quiet b (stood.within b on) (stood.enabled b ∙ on) off (same ∙ sym (stood.faults b (stood.within b on)))
 
 -- ---- a read
 

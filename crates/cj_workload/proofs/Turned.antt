@@ -23,6 +23,7 @@ use Rattle.cj_workload.proofs.Common.{session_at}
 use Rattle.cj_workload.proofs.Kept.{grown}
 use Rattle.cj_workload.proofs.Starving.{ends_unstarved, more_end_none, read_ends_none}
 use Rattle.cj_workload.specs.Proving.Keeping.{Keeps}
+use Rattle.cj_workload.specs.Proving.Standings.{LostByFaults}
 use Rattle.cj_workload.specs.Summaries.{enablings}
 use Rattle.cj_workload.specs.Workloads.{EndsUnstarved, ends_workload}
 
@@ -89,8 +90,7 @@ module _ (tells : Bool) (a z : SoloState) (tx : ℕ) (user : List ℕ) (r : Requ
       }
 
   -- each backend that was disabled has counted a fault
-  pub fed_turn : IsLegal z.world.core.history → ((b : ℕ) → is_enabled a.world.core.history b ≡ true → is_enabled z.world.core.history b ≡ false → get_or (faults_of z.world.cells) b 0 ≢ get_or (faults_of a.world.cells) b 0)
-      → EndsUnstarved a.world.core.history z.world.core.history
+  pub fed_turn : IsLegal z.world.core.history → LostByFaults a.world z.world → EndsUnstarved a.world.core.history z.world.core.history
   fed_turn legal each =
       let turn = steps.1.1 in
       turn_unstarved a.session call (act_of r) turn.failed a.world.core.history z.world.core.history (faults_of a.world.cells) turn.events legal

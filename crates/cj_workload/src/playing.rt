@@ -97,6 +97,7 @@ fn go_on(reply: &Reply) -> Result<(), Stop>
 }
 
 /// A write of the session.
+#[tactic(auto, using(crate::proofs::Turned::keeps_turned, crate::proofs::Turned::fed_turn))]
 fn write<B: Backend, S: Store>(solo: &mut Solo<B, S>, user: &Text, act: Act) -> Result<(), Stop>
     requires user { user.now ≡ [] }
     requires room { (session_at solo.old.world.core solo.old.session).queries < REQUEST_LIMIT }
@@ -115,6 +116,7 @@ fn write<B: Backend, S: Store>(solo: &mut Solo<B, S>, user: &Text, act: Act) -> 
 }
 
 /// A read of the session.
+#[tactic(auto, using(crate::proofs::Turned::keeps_turned, crate::proofs::Turned::fed_read))]
 fn read<B: Backend, S: Store>(
     solo: &mut Solo<B, S>,
     user: &Text,

@@ -1,11 +1,9 @@
 //! Whether a backend wanted memory in an entry: the entry's end disabled it, and it has counted no fault.
 
-ghost use Rattle.std.specs.Prelude.{◌≡◌, ◌≢◌, ◌<◌, ℕ, false, true, slice_index_or};
-ghost use Rattle.cj_model.specs.declared.limits.TheConstants.{BACKEND_LIMIT};
-ghost use Rattle.cj_model.specs.Cluster.Masks.{in_mask};
-ghost use Rattle.cj_cluster.specs.History.Histories.{is_enabled};
+ghost use Rattle.std.specs.Prelude.{◌≡◌, false};
 ghost use Rattle.cj_cluster.specs.History.Legality.{IsLegal};
-ghost use Rattle.cj_state.specs.Faults.{faults_of};
+ghost use Rattle.cj_state.specs.Worlds.{WorldState};
+ghost use Rattle.cj_workload.specs.Proving.Standings.{IsStandingOf, LostByFaults};
 
 use cj_backend::Backend;
 use cj_core::World;
@@ -21,9 +19,7 @@ pub struct Standing {
 
 /// How the backends stand.
 pub fn standing_of<B: Backend, S: Store>(world: &World<B, S>) -> Standing
-    ensures enabled { (b : ℕ) → in_mask result.enabled b ≡ is_enabled world.now.core.history b }
-    ensures within { (b : ℕ) → is_enabled world.now.core.history b ≡ true → b < BACKEND_LIMIT }
-    ensures faults { (b : ℕ) → b < BACKEND_LIMIT → slice_index_or result.faults b 0 ≡ slice_index_or (faults_of world.now.cells) b 0 }
+    ensures { IsStandingOf world.now result }
 {
     world.legal();
     let mut faults = [0; 16];
@@ -37,8 +33,9 @@ pub fn standing_of<B: Backend, S: Store>(world: &World<B, S>) -> Standing
 }
 
 /// Whether one that was enabled isn't any more, and has counted no fault since.
+#[tactic(auto, using(crate::proofs::Starving::lost_by_faults))]
 pub fn has_starved<B: Backend, S: Store>(world: &World<B, S>, before: &Standing) -> bool
-    ensures fed { result ≡ false → (b : ℕ) → b < BACKEND_LIMIT → in_mask before.now.enabled b ≡ true → is_enabled world.now.core.history b ≡ false → slice_index_or (faults_of world.now.cells) b 0 ≢ slice_index_or before.now.faults b 0 }
+    ensures fed { (old : WorldState) → IsStandingOf old before.now → result ≡ false → LostByFaults old world.now }
     ensures legal { IsLegal world.now.core.history }
 {
     world.legal();
