@@ -48,6 +48,7 @@ fn explained(line: String, explanation: &str) -> Result<Vec<u8>, NoMemory>
 }
 
 /// Tells the line, and what explains it. That this fails changes nothing else.
+#[tactic(auto, using(crate::proofs::ToldLines::line_untold))]
 pub fn tell<E: Sink>(line: Result<String, NoMemory>, explanation: &str, errors: &mut E)
     ensures { (bytes : List ℕ) → IfOk line (λ text. string_bytes text ≡ bytes) → TellsLine (E.held errors.old) (E.held errors.new) (E.faults errors.old) (E.faults errors.new) bytes }
 {
