@@ -35,7 +35,6 @@ module _ (counts : WorldState → List ℕ) (same_core : (w : WorldState) (c : C
     (turn_grows : (tells : Bool) (s : ℕ) (old new : WorldState) (c : Call) → WorldTurn tells s old c new → (low k : ℕ) → low < 2 ^ 64 - 1 → low < get_or (counts old) k 0 → low < get_or (counts new) k 0)
     (Blamed : ℕ → Type 0) (high : (n : ℕ) → Blamed n → (UNFINISHED ≤ n) × (n ≤ LOG_FAULT))
     (quiet_call : (tells : Bool) (s : ℕ) (old new : WorldState) (c : Call) → WorldTurn tells s old c new → ((k : ℕ) → get_or (counts new) k 0 ≤ get_or (counts old) k 0) → CanCountMore (counts old) → (r : Refusal) → c.reply ≡ Refused r → Blamed r.code → ⊥) where
-
   -- the count at place k
   abbrev count_at : SoloState → ℕ → ℕ
   count_at a k = get_or (counts a.world) k 0

@@ -238,6 +238,9 @@ impl<B: Backend + Drop, S: Store + Drop> World<B, S> {
     {
         let World { state, emptied } = self;
         let (cells, log) = state.into_parts();
-        (ListOf::from_vec(backends_of(cells, emptied.into_vec())), log)
+        (
+            ListOf::from_vec(backends_of(cells, emptied.into_vec())),
+            log,
+        )
     }
 }
