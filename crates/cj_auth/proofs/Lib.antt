@@ -1,4 +1,5 @@
 pub mod Common
 pub mod Examples
 pub mod Keeping
+pub mod Seen
 pub mod Spelling

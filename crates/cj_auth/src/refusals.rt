@@ -1,6 +1,6 @@
 //! What is refused as a list of accounts.
 
-ghost use Rattle.std.specs.Prelude.{◌≡◌, ◌⊎◌, [], length, not, option_copied, IfErr, IsOk, None, Some};
+ghost use Rattle.std.specs.Prelude.{◌≡◌, ◌⊎◌, [], length, not, option_copied, IfErr, IfOk, IsOk, None, Some};
 ghost use Rattle.cj_model.specs.Cluster.Accounts as accounts;
 ghost use Rattle.cj_model.specs.Cluster.Accounts.{has_logins, user_where};
 ghost use Rattle.cj_auth.specs.Digests.{is_digest};
@@ -9,26 +9,21 @@ ghost use Rattle.cj_auth.specs.declared.error.AuthError.TheVariants as error;
 
 use crate::digests;
 use crate::error::AuthError;
-use cj_model::{Account, Duplicate, Text};
+use cj_model::{Account, Duplicate, NoMemory, Text};
 use std::alloc::Global;
-
-fn has_user(rows: &[Account], user: &Text) -> bool
-    ensures { result ≡ accounts.has_user rows.now user.now }
-{
-    rows.iter()
-        .any(|account| account.user.as_slice() == user.as_slice())
-}
+use std::collections::BTreeSet;
 
 /// The first user that has an account before its own.
-fn repeated_user(rows: &[Account]) -> Option<&Text>
-    ensures { option_copied result ≡ accounts.repeated_user [] rows.now }
+fn repeated_user(alloc: Global, rows: &[Account]) -> Result<Option<&Text>, NoMemory>
+    ensures { IfOk result (λ user. option_copied user ≡ accounts.repeated_user [] rows.now) }
 {
-    for (i, account) in rows.iter().enumerate() {
-        if has_user(&rows[..i], &account.user) {
-            return Some(&account.user);
+    let mut seen = BTreeSet::new(alloc);
+    for account in rows {
+        if !seen.insert(account.user.as_slice())? {
+            return Ok(Some(&account.user));
         }
     }
-    None
+    Ok(None)
 }
 
 /// The first user whose digest isn't one.
@@ -54,7 +49,7 @@ pub fn refuse(alloc: Global, rows: &[Account], backends: u8) -> Result<(), AuthE
     ensures passed { IsOk result → refusal_of_accounts rows.now backends ≡ None }
     ensures refused { IfErr result (λ e. (e ≡ error.NoMemory) ⊎ (refusal_of_accounts rows.now backends ≡ Some e)) }
 {
-    if let Some(user) = repeated_user(rows) {
+    if let Some(user) = repeated_user(alloc, rows)? {
         return Err(AuthError::Twice(user.copy(alloc)?));
     }
     if let Some(user) = user_without_digest(rows) {

@@ -4,7 +4,7 @@ pub use Rattle.cj_model.specs.Cluster.Placements.{Hosting, Placement, hosts}
 pub use Rattle.cj_model.specs.Database.Tables.{Rises, name_cmp, put_by}
 pub use Rattle.cj_model.specs.Sql.Names.{is_name}
 pub use Rattle.cj_model.specs.declared.placement.PlaceRow.{PlaceRow}
-pub use Rattle.cj_place.specs.Kept.{IsMasked, by_given, given_rows, mask_in}
+pub use Rattle.cj_place.specs.Kept.{IsMasked, given_rows, mask_in}
 pub use Rattle.cj_place.specs.Layouts.{Layout, backend_number, by_row, hosts_beyond, is_last_host, is_outside, placement_of, row_hostings}
 pub use Rattle.cj_place.specs.declared.rows.HostRow.{HostRow}
 pub use Rattle.std.proofs.lemmas.Bool.{cond-false}

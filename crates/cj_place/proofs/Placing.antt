@@ -1,27 +1,55 @@
 -- Rows with their masks, put in their places, and looked up.
-use Rattle.std.proofs.Common.{◌≡◌, ℕ, ◌==◌, ◌&&◌, ◌||◌, Bool, true, false, cond, nat_lt, List, [], ◌∷◌, length, map, refl, sym, ap, ◌∙◌, subst, Less, Equal, Greater, ⊎_elim}
+use Rattle.std.proofs.Common.{◌≡◌, ℕ, ◌==◌, ◌&&◌, ◌||◌, Bool, true, false, cond, nat_lt, List, [], ◌∷◌, length, map, refl, sym, ap, ◌∙◌, subst, Ordering, Less, Equal, Greater, ⊎_elim}
+use Rattle.std.specs.BTreeMap.{insert_entry}
 use Rattle.std.specs.Cmp.{IsTotalOrder}
+use Rattle.std.specs.Global.{Vec}
+use Rattle.std.specs.Map.{values_of}
 use Rattle.std.specs.Ordering.{match_ordering}
 use Rattle.std.proofs.lemmas.Bool.{and_left, and_parts, cases_Bool, false_from_ne_true, leb-true, or_from}
 use Rattle.std.proofs.lemmas.Cmp.{nat_list_cmp_total, on_total, tied_itself}
-use Rattle.std.proofs.lemmas.List.Elements.{All-head, All-tail}
+use Rattle.std.proofs.lemmas.List.Elements.{All-cons, All-head, All-tail}
+use Rattle.std.proofs.lemmas.Map.Lookups.{exact_bytes}
 use Rattle.std.proofs.lemmas.List.Folds.{list_any-append}
 use Rattle.cj_place.proofs.Common.{All, HostRow, Hosting, PlaceRow, Rises, Some, backend_number, by_row, bytes_eq, bytes_eq-Decides, find, flat_map, flat_map-cons, fold, hosts, in_mask, list_any, name_cmp, option_map_or, placement_of, put_by, row_hostings}
 use Rattle.cj_model.proofs.Masks.{has-zero}
-use Rattle.cj_model.proofs.RisingLaws.{rises_put_each}
-use Rattle.cj_place.specs.Kept.{IsKeptPlacement, IsMasked, by_given, given_rows, mask_in}
+use Rattle.cj_model.proofs.RisingLaws.{by_order, rises_put_each}
+use Rattle.cj_place.specs.Kept.{IsKeptPlacement, IsMasked, given_rows, mask_in}
 use Rattle.cj_place.specs.Refusals.{has_count}
 
 -- ---- putting in
 
+-- the key is the name of the row's table
+abbrev pub HasTable : Vec ℕ × HostRow → Type 0
+HasTable e = e.0.items ≡ e.1.given.table
+
+abbrev pub bytes_cmp : Vec ℕ → Vec ℕ → Ordering
+bytes_cmp k l = name_cmp k.items l.items
+
+-- keys go as the rows by their tables
+same_order : (k : Vec ℕ) (row : HostRow) (e : Vec ℕ × HostRow) → HasTable (k, row) → HasTable e → bytes_cmp k e.0 ≡ by_row row.given e.1.given
+same_order k row e is has = ap (λ n. name_cmp n e.0.items) is ∙ ap (name_cmp row.given.table) has
+
 -- a row with its mask is put where the row is put
-pub given_put : (rows : List HostRow) (row : HostRow) → given_rows (put_by by_given rows row) ≡ put_by by_row (given_rows rows) row.given
-given_put [] row = refl
-given_put (r ∷ rows) row = elim (by_row row.given r.given) as (λ o. given_rows (match_ordering o (row ∷ r ∷ rows) (row ∷ rows) (r ∷ put_by by_given rows row)) ≡ match_ordering o (row.given ∷ r.given ∷ given_rows rows) (row.given ∷ given_rows rows) (r.given ∷ put_by by_row (given_rows rows) row.given)) [
-  | Less ↦ refl
-  | Equal ↦ refl
-  | Greater ↦ ap (λ (rs : List PlaceRow). r.given ∷ rs) (given_put rows row)
-]
+pub given_put : (es : List (Vec ℕ × HostRow)) (k : Vec ℕ) (row : HostRow) → HasTable (k, row) → All HasTable es → given_rows (values_of (insert_entry bytes_cmp es k row)) ≡ put_by by_row (given_rows (values_of es)) row.given
+given_put [] k row is all = refl
+given_put (e ∷ es) k row is all =
+    let made : Ordering → List PlaceRow = λ o. given_rows (values_of (match_ordering o ((k, row) ∷ e ∷ es) ((e.0, row) ∷ es) (e ∷ insert_entry bytes_cmp es k row))) in
+    ap made (same_order k row e is (All-head HasTable e es all))
+    ∙ elim (by_row row.given e.1.given) as (λ o. made o ≡ match_ordering o (row.given ∷ e.1.given ∷ given_rows (values_of es)) (row.given ∷ given_rows (values_of es)) (e.1.given ∷ put_by by_row (given_rows (values_of es)) row.given)) [
+      | Less ↦ refl
+      | Equal ↦ refl
+      | Greater ↦ ap (λ (rs : List PlaceRow). e.1.given ∷ rs) (given_put es k row is (All-tail HasTable e es all))
+    ]
+
+-- its key stays the name of its table
+pub tables_put : (es : List (Vec ℕ × HostRow)) (k : Vec ℕ) (row : HostRow) → HasTable (k, row) → All HasTable es → All HasTable (insert_entry bytes_cmp es k row)
+tables_put [] k row is all = All-cons HasTable (k, row) [] is all
+tables_put (e ∷ es) k row is all =
+    let behind = All-tail HasTable e es all in
+    by_order (bytes_cmp k e.0)
+    (λ l. subst (λ o. All HasTable (match_ordering o ((k, row) ∷ e ∷ es) ((e.0, row) ∷ es) (e ∷ insert_entry bytes_cmp es k row))) (sym l) (All-cons HasTable (k, row) (e ∷ es) is all))
+    (λ q. subst (λ o. All HasTable (match_ordering o ((k, row) ∷ e ∷ es) ((e.0, row) ∷ es) (e ∷ insert_entry bytes_cmp es k row))) (sym q) (All-cons HasTable (e.0, row) es (sym (exact_bytes k.items e.0.items q) ∙ is) behind))
+    (λ g. subst (λ o. All HasTable (match_ordering o ((k, row) ∷ e ∷ es) ((e.0, row) ∷ es) (e ∷ insert_entry bytes_cmp es k row))) (sym g) (All-cons HasTable e (insert_entry bytes_cmp es k row) (All-head HasTable e es all) (tables_put es k row is behind)))
 
 -- rows have a total order by their tables
 by_row_total : IsTotalOrder by_row

@@ -2,7 +2,6 @@
 use Rattle.std.specs.Prelude.{◌≡◌, ℕ, ◌<◌, ◌≤◌, ◌&&◌, ◌==◌, nat_lt, List, [], length, map, find, All}
 use Rattle.std.specs.Option.{option_map_or}
 use Rattle.std.specs.Str.{bytes_eq}
-use Rattle.std.specs.declared.cmp.Ordering.{Ordering}
 use Rattle.std.specs.List.{list_any}
 use Rattle.cj_model.specs.declared.placement.PlaceRow.{PlaceRow}
 use Rattle.cj_model.specs.declared.limits.TheConstants.{BACKEND_LIMIT}
@@ -18,10 +17,6 @@ HasMask names hosts mask = (b : ℕ) → in_mask mask b ≡ (nat_lt b (length na
 -- the row has the mask of its hosts
 abbrev pub IsMasked : List (List ℕ) → HostRow → Type 0
 IsMasked names row = HasMask names row.given.hosts row.mask
-
--- rows by the name of their table
-abbrev pub by_given : HostRow → HostRow → Ordering
-by_given r s = by_row r.given s.given
 
 -- the rows without their masks
 abbrev pub given_rows : List HostRow → List PlaceRow

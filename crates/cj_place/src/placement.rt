@@ -74,7 +74,7 @@ impl Placement {
     ) -> Result<Placement, PlaceError>
         ensures { MakesLayout (refusal_of_placement level backends rows) (layout_of level backends rows) result }
     {
-        if let Some(refusal) = refusal(level, backends.as_slice(), rows.as_slice()) {
+        if let Some(refusal) = refusal(alloc, level, backends.as_slice(), rows.as_slice()) {
             return Err(refusal);
         }
         match Placement::build(alloc, level, backends, rows) {

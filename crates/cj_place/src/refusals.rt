@@ -1,13 +1,15 @@
 //! What is refused as a placement.
 
-ghost use Rattle.std.specs.Prelude.{◌≡◌, [], find, length, map, not, option_copied, option_map, true};
+ghost use Rattle.std.specs.Prelude.{◌≡◌, [], find, length, map, not, option_copied, option_map, true, IfOk};
 ghost use Rattle.std.specs.List.{list_all, list_any};
 ghost use Rattle.std.specs.Str.{bytes_eq};
 ghost use Rattle.cj_place.specs.Refusals.{bad_level, has_count, is_among, refusal_of_placement, some_row};
 ghost use Rattle.cj_place.specs.Refusals as refusals;
 
 use crate::error::PlaceError;
-use cj_model::{BACKEND_LIMIT, Level, Name, PlaceRow};
+use cj_model::{BACKEND_LIMIT, Level, ListOf, Name, Names, NoMemory, PlaceRow};
+use std::alloc::Global;
+use std::collections::BTreeSet;
 
 fn is_among(names: &[Name], name: &Name) -> bool
     ensures { result ≡ refusals.is_among names.now name.now }
@@ -21,8 +23,21 @@ fn has_table(rows: &[PlaceRow], table: &Name) -> bool
     rows.iter().any(|row| row.table.is(table))
 }
 
-/// The first name that stands among those before it.
-fn repeated(names: &[Name]) -> Option<Name>
+/// The first name that stands among those before it, which are kept in a set.
+fn repeated_by_set(alloc: Global, names: &[Name]) -> Result<Option<Name>, NoMemory>
+    ensures { IfOk result (λ name. name ≡ refusals.repeated [] names.now) }
+{
+    let mut seen = BTreeSet::new(alloc);
+    for name in names {
+        if !seen.insert(name.as_slice())? {
+            return Ok(Some(name.copy()));
+        }
+    }
+    Ok(None)
+}
+
+/// The first name that stands among those before it, by a look at each of those. It takes no memory.
+fn repeated_by_scan(names: &[Name]) -> Option<Name>
     ensures { result ≡ refusals.repeated [] names.now }
 {
     for (i, name) in names.iter().enumerate() {
@@ -33,7 +48,27 @@ fn repeated(names: &[Name]) -> Option<Name>
     None
 }
 
-fn repeated_table(rows: &[PlaceRow]) -> Option<Name>
+/// The first name that stands among those before it. Where there is no memory for a set it takes longer.
+fn repeated(alloc: Global, names: &[Name]) -> Option<Name>
+    ensures { result ≡ refusals.repeated [] names.now }
+{
+    match repeated_by_set(alloc, names) {
+        Ok(name) => name,
+        Err(_) => repeated_by_scan(names),
+    }
+}
+
+fn tables_of(alloc: Global, rows: &[PlaceRow]) -> Result<Names, NoMemory>
+    ensures { IfOk result (λ tables. tables ≡ map (λ row. row.table) rows.now) }
+{
+    let mut tables = ListOf::new(alloc);
+    for row in rows {
+        tables.push(row.table.copy())?;
+    }
+    Ok(tables)
+}
+
+fn repeated_table_by_scan(rows: &[PlaceRow]) -> Option<Name>
     ensures { result ≡ refusals.repeated [] (map (λ row. row.table) rows.now) }
 {
     for (i, row) in rows.iter().enumerate() {
@@ -44,27 +79,36 @@ fn repeated_table(rows: &[PlaceRow]) -> Option<Name>
     None
 }
 
-fn repeated_host(rows: &[PlaceRow]) -> Option<Name>
+fn repeated_table(alloc: Global, rows: &[PlaceRow]) -> Option<Name>
+    ensures { result ≡ refusals.repeated [] (map (λ row. row.table) rows.now) }
+{
+    match tables_of(alloc, rows) {
+        Ok(tables) => repeated(alloc, tables.as_slice()),
+        Err(_) => repeated_table_by_scan(rows),
+    }
+}
+
+fn repeated_host(alloc: Global, rows: &[PlaceRow]) -> Option<Name>
     ensures { result ≡ some_row (λ row. refusals.repeated [] row.hosts) rows.now }
 {
     for row in rows {
-        if let Some(name) = repeated(row.hosts.as_slice()) {
+        if let Some(name) = repeated(alloc, row.hosts.as_slice()) {
             return Some(name);
         }
     }
     None
 }
 
-fn twice(backends: &[Name], rows: &[PlaceRow]) -> Option<Name>
+fn twice(alloc: Global, backends: &[Name], rows: &[PlaceRow]) -> Option<Name>
     ensures { result ≡ refusals.twice backends.now rows.now }
 {
-    if let Some(name) = repeated(backends) {
+    if let Some(name) = repeated(alloc, backends) {
         return Some(name);
     }
-    if let Some(name) = repeated_table(rows) {
+    if let Some(name) = repeated_table(alloc, rows) {
         return Some(name);
     }
-    repeated_host(rows)
+    repeated_host(alloc, rows)
 }
 
 fn stranger_of(backends: &[Name], hosts: &[Name]) -> Option<Name>
@@ -137,13 +181,18 @@ fn refused_by_level(level: Level, backends: &[Name], rows: &[PlaceRow]) -> Optio
 }
 
 /// Why the rows make no placement, if they don't.
-pub fn refusal(level: Level, backends: &[Name], rows: &[PlaceRow]) -> Option<PlaceError>
+pub fn refusal(
+    alloc: Global,
+    level: Level,
+    backends: &[Name],
+    rows: &[PlaceRow],
+) -> Option<PlaceError>
     ensures { result ≡ refusal_of_placement level backends.now rows.now }
 {
     if backends.is_empty() || backends.len() > BACKEND_LIMIT as usize {
         return Some(PlaceError::BackendCount);
     }
-    if let Some(name) = twice(backends, rows) {
+    if let Some(name) = twice(alloc, backends, rows) {
         return Some(PlaceError::Twice(name));
     }
     if let Some(name) = stranger(backends, rows) {

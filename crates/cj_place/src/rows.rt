@@ -1,18 +1,19 @@
 //! Tables with the masks of their hosts.
 
-ghost use Rattle.std.specs.Prelude.{◌≡◌, ◌<◌, ◌≤◌, ◌==◌, ◌||◌, ◌&&◌, [], All, ℕ, find, fold, length, map, nat_lt, not, option_copied, position, IfOk, OnOk};
+ghost use Rattle.std.specs.Prelude.{◌≡◌, ◌<◌, ◌≤◌, ◌==◌, ◌||◌, ◌&&◌, [], All, ℕ, find, fold, length, map, nat_lt, not, option_copied, position, IfOk};
+ghost use Rattle.std.specs.BTreeMap.{values};
 ghost use Rattle.std.specs.List.{list_any};
 ghost use Rattle.std.specs.Str.{bytes_eq};
-ghost use Rattle.cj_model.specs.Proving.Gaps.{IsPlace};
 ghost use Rattle.cj_model.specs.Cluster.Masks.{in_mask};
 ghost use Rattle.cj_model.specs.Database.Tables.{Rises, put_by};
 ghost use Rattle.cj_place.specs.Layouts.{by_row};
 ghost use Rattle.cj_place.specs.Layouts as layouts;
-ghost use Rattle.cj_place.specs.Kept.{HasMask, IsMasked, by_given, mask_in};
+ghost use Rattle.cj_place.specs.Kept.{HasMask, IsMasked, mask_in};
 
 use cj_model::{BACKEND_LIMIT, Duplicate, Name, NoMemory, PlaceRow, PlaceRows, has_bit, with_bit};
 use std::alloc::Global;
 use std::cmp::Ordering;
+use std::collections::BTreeMap;
 
 /// A row, and the mask of its hosts.
 #[derive(Drop)]
@@ -77,29 +78,22 @@ fn host_row(names: &[Name], given: PlaceRow) -> HostRow
     HostRow { given, mask }
 }
 
-/// Where a row of the table is put: at the place of the table, or in front of the one at a place.
-fn place_of(rows: &[HostRow], row: &HostRow) -> Result<usize, usize>
-    ensures { IsPlace by_given rows.now row.now result }
+/// The rows by the bytes of their table's name, with their masks.
+fn rows_by_table(
+    alloc: Global,
+    names: &[Name],
+    rows: PlaceRows,
+) -> Result<BTreeMap<Vec<u8>, HostRow>, NoMemory>
+    requires { length names.now ≤ BACKEND_LIMIT }
+    ensures masks { IfOk result (λ placed. All (IsMasked names.now) (values placed)) }
+    ensures rows { IfOk result (λ placed. map (λ row. row.given) (values placed) ≡ fold (put_by by_row) [] rows) }
 {
-    let table = row.given.table.as_slice();
-    for (i, other) in rows.iter().enumerate() {
-        match table.cmp(other.given.table.as_slice()) {
-            Ordering::Less => return Err(i),
-            Ordering::Equal => return Ok(i),
-            Ordering::Greater => {}
-        }
+    let mut placed = BTreeMap::new(alloc);
+    for row in rows.into_vec() {
+        let table = Vec::from_slice(alloc, row.table.as_slice())?;
+        placed.insert(table, host_row(names, row))?;
     }
-    Err(rows.len())
-}
-
-fn put_row(rows: &mut Vec<HostRow>, row: HostRow) -> Result<(), NoMemory>
-    ensures { OnOk result (rows.new.items ≡ put_by by_given rows.old.items row) }
-{
-    match place_of(rows, &row) {
-        Ok(place) => rows[place] = row,
-        Err(place) => rows.insert(place, row)?,
-    }
-    Ok(())
+    Ok(placed)
 }
 
 /// The rows in rising name of their table, with their masks.
@@ -108,9 +102,10 @@ pub fn host_rows(alloc: Global, names: &[Name], rows: PlaceRows) -> Result<Vec<H
     ensures masks { IfOk result (λ made. All (IsMasked names.now) made.items) }
     ensures rows { IfOk result (λ made. map (λ row. row.given) made.items ≡ fold (put_by by_row) [] rows) }
 {
-    let mut made = Vec::new(alloc);
-    for row in rows.into_vec() {
-        put_row(&mut made, host_row(names, row))?;
+    let placed = rows_by_table(alloc, names, rows)?;
+    let mut made = Vec::with_capacity(alloc, placed.len())?;
+    for row in placed.into_values() {
+        made.push(row)?;
     }
     Ok(made)
 }

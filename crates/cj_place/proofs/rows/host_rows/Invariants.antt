@@ -1,4 +1,4 @@
-use Rattle.std.proofs.Common.{◌≡◌, []}
+use Rattle.std.proofs.Common.{◌≡◌, ◌++◌, []}
 use Rattle.cj_place.proofs.Common.{All, IsMasked, by_row, fold, given_rows, put_by}
 use Rattle.cj_place.proofs.rows.host_rows.Given as goal
 
@@ -6,6 +6,7 @@ abbrev pub invariant-loop-row : goal.invariant-loop-row
 invariant-loop-row l = record {
   can_next : (goal.iterator-loop-row).can_next l.row-iterator;
   is_finite : (goal.iterator-loop-row).is_finite l.row-iterator;
-  masks : All (IsMasked l.names) l.made.items;
-  all : fold (put_by by_row) (given_rows l.made.items) l.row-iterator.rest.items ≡ fold (put_by by_row) [] l.fn.rows;
+  masks : All (IsMasked l.fn.names) l.made.items;
+  left : All (IsMasked l.fn.names) l.row-iterator;
+  all : given_rows l.made.items ++ given_rows l.row-iterator ≡ fold (put_by by_row) [] l.fn.rows;
 }

@@ -1,7 +1,7 @@
 use Rattle.std.proofs.Common.{◌≡◌, [], take, drop, map}
 use Rattle.cj_model.specs.declared.placement.PlaceRow.{PlaceRow}
 use Rattle.cj_place.specs.Refusals as refusals
-use Rattle.cj_place.proofs.refusals.repeated_table.Given as goal
+use Rattle.cj_place.proofs.refusals.repeated_table_by_scan.Given as goal
 
 abbrev pub invariant-loop-i : goal.invariant-loop-i
 invariant-loop-i l =

@@ -2,7 +2,7 @@ use Rattle.std.proofs.Common.{◌∙◌, ap, sym, []}
 use Rattle.std.specs.declared.option.Option.TheVariants.{Some}
 use Rattle.cj_place.specs.Refusals.{repeated}
 use Rattle.cj_place.proofs.Repeats.{tables, repeated_found, repeated_passed}
-use Rattle.cj_place.proofs.refusals.repeated_table.Goals as goal
+use Rattle.cj_place.proofs.refusals.repeated_table_by_scan.Goals as goal
 
 pub returns-then-has_table : goal.returns-then-has_table
 returns-then-has_table c =
