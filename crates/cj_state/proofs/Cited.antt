@@ -42,7 +42,7 @@ pub use Rattle.cj_state.proofs.Logs.{name_some, world_with_log}
 pub use Rattle.cj_state.proofs.Noting.{behind_as_many, follows_scheduled, follows_unscheduled, had_logged_room, had_room, kept_unscheduled, logged, not_scheduled, noted, scheduled_as}
 pub use Rattle.cj_state.proofs.OpenNumbers.{open_is, orphan_is}
 pub use Rattle.cj_state.proofs.Scheduling.{abort_is, next_fits, next_is}
-pub use Rattle.cj_state.proofs.SeatsKept.{at_book, counted, quiet_ok, quiet_or_fault, read_spends, ready_noted, seats_after, seats_cleared, seats_same}
+pub use Rattle.cj_state.proofs.SeatsKept.{at_book, counted, owns_none, quiet_ok, quiet_or_fault, read_spends, ready_noted, seats_after, seats_cleared, seats_same}
 pub use Rattle.cj_state.proofs.Serving.{candidates_serve}
 pub use Rattle.cj_state.proofs.Taking.{applies, kept_applied, kept_replayed, replays, took_armings, took_asks, took_counts, took_logins, took_others}
 pub use Rattle.cj_state.specs.ArmedCells.{armed_at}

@@ -35,6 +35,13 @@ quiet_or_fault e fault (Err (HistoryFull n)) quiet also = tt
 quiet_or_fault e fault (Err LogFault) quiet also = also
 quiet_or_fault e fault (Err NoMemory) quiet also = tt
 
+-- where no session has an own pass, this one has none
+pub owns_none : {S : Type 0} (book : SeatedBook S) (s : ℕ) → book.view.given ≡ [] → Contains book.view.given s → ⊥
+owns_none book s unowned there =
+    let nowhere : Contains [] s = subst (λ (given : List ℕ). Contains given s) unowned there in
+    let lt : nowhere.0 < 0 = nowhere.1 in
+    absurd (omega arith)
+
 -- where no session has an own pass, none has to be counted
 pub counted : {S : Type 0} (book : SeatedBook S) (e : Event) → book.view.given ≡ [] → IsCounted book e
 counted book e unowned = subst (λ (given : List ℕ). HasCountNotes given book.state.history book.view.count_notes e) (sym unowned) (λ s there. absurd (nowhere s there))

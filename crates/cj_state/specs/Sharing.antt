@@ -19,7 +19,7 @@ use Rattle.cj_state.specs.Worlds.{WorldState, AreDumpsOf}
 abbrev pub NumbersFollowHistory : WorldState → Type 0
 NumbersFollowHistory w = w.core.greatest + 1 ≡ session_after 0 w.core.history
 
--- the book of a world: its history, its layout, its sessions and its cache
+-- the book of a world: its history, its layout, its sessions, its cache and its balancer
 pub record IsBookOf {S : Type 0} (w : WorldState) (b : BookState S) : Type 0 where
   pub history : b.history ≡ w.core.history
   pub placement : placement_of b.layout ≡ w.core.placement
@@ -27,6 +27,7 @@ pub record IsBookOf {S : Type 0} (w : WorldState) (b : BookState S) : Type 0 whe
   pub sessions : b.sessions ≡ map (λ (x : OpenSession). x.number) w.core.sessions
   pub greatest : b.greatest ≡ w.core.greatest
   pub cache : b.cache ≡ w.cache
+  pub balance : b.balance ≡ w.balance
 
 -- The parts of a world: all seats are at one board, the book's seat has seen the history, and the cells and dumps are those of the world. No session has an own pass, and each further one can be given one where the numbers follow the history.
 pub record IsTakenApart {S : Type 0} (tells : Bool) (w : WorldState) (id pass : TableId) (b : SeatedBook S) (xs : List SeatedCell) (register : Register) (taken : List Dump) : Type 0 where

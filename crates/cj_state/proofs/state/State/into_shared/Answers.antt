@@ -5,7 +5,7 @@ use Rattle.cj_state.specs.Sharing.{IsTakenApart}
 use Rattle.cj_state.proofs.state.State.into_shared.Goals as goal
 
 pub returns-clause-world : goal.returns-clause-world
-returns-clause-world g c = subst (IsWorld g.B.Backend.tells) c.self.view_is (world_with_log g.B.Backend.tells _ _ _ c.self.invariant.0.world)
+returns-clause-world g c = subst (IsWorld g.B.Backend.tells) c.self.view_is (world_with_log g.B.Backend.tells _ _ _ _ c.self.invariant.0.world)
 
 pub returns-clause-parts : goal.returns-clause-parts
 returns-clause-parts g c =
@@ -22,6 +22,7 @@ returns-clause-parts g c =
             sessions = c.self.invariant.0.numbers_are;
             greatest = refl;
             cache = refl;
+            balance = refl;
           };
       front = c.legal.ensures.front;
       unowned = ready.unowned;
