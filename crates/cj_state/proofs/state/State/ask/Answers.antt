@@ -1,4 +1,4 @@
-use Rattle.std.proofs.Common.{ℕ, false, List, Ok, Err, Some, ap, sym, ◌∙◌, subst, refl}
+use Rattle.std.proofs.Common.{true, ℕ, false, List, Ok, Err, Some, ap, sym, ◌∙◌, subst, refl}
 use Rattle.cj_state.proofs.Cited.{BookState, CellReadError, KeptFresh, LogsInToAsk, Notes, ReadFailed, WorldState, accounts_of, answers, asked_for, at_book, board_id, changed_armings, changed_asks, changed_faults, changed_others, changed_under, dumps_event, errs, faults_after, faults_of, fresh_event, has_cell, is_asked, kept_asked, kept_read_failed, length-map, login_of, logins_of, noted_core, noted_fault, noted_logins, noted_want, notes_cases, option_copied, pass_board, placement_of, ready_heard, ready_noted, same_core, spent_times, states_of, wanted, world_of, world_stays}
 use Rattle.cj_state.proofs.state.State.ask.Goals as goal
 
