@@ -113,14 +113,14 @@ module _ {S : Type 0} (book : SeatedBook S) (owners : OwnersAreOpen book) where
   pub orphan_counted : (e : Entry) → IsLegal book.state.history → e.session ≡ 0 → is_orphan book.state e.tx ≡ true → IsCounted book (Sched e) × IsCounted book (LogFailed e.session e.seq)
   orphan_counted e legal admin orphan = (
     λ s here more.
-    let own = All-contains (IsOpenSession book.state.sessions) book.view.given s owners here in
-    let some : 0 < s = own.some in
-    let counts = counts_more s book.state.history e legal in
-    let other : e.session ≢ s = omega (arith, admin, some) in
-    let none : cond {A = ℕ} (e.session == s) 1 0 ≡ 0 = ap (λ b. cond {A = ℕ} b 1 0) (ne_eqb e.session s other) in
-    let ends : cond {A = ℕ} (ends_transaction_of s (log book.state.history ++ e ∷ []) e) 1 0 ≡ 0 =
-    ap (λ b. cond {A = ℕ} ((e.session == 0) && b) 1 0) (orphan_session s e.tx e (entry_numbered (log book.state.history) e.tx) refl orphan own.is_open) ∙ never (e.session == 0) in
-    absurd (omega (arith, counts, none, ends, more)),
+        let own = All-contains (IsOpenSession book.state.sessions) book.view.given s owners here in
+        let some : 0 < s = own.some in
+        let counts = counts_more s book.state.history e legal in
+        let other : e.session ≢ s = omega (arith, admin, some) in
+        let none : cond {A = ℕ} (e.session == s) 1 0 ≡ 0 = ap (λ b. cond {A = ℕ} b 1 0) (ne_eqb e.session s other) in
+        let ends : cond {A = ℕ} (ends_transaction_of s (log book.state.history ++ e ∷ []) e) 1 0 ≡ 0 =
+        ap (λ b. cond {A = ℕ} ((e.session == 0) && b) 1 0) (orphan_session s e.tx e (entry_numbered (log book.state.history) e.tx) refl orphan own.is_open) ∙ never (e.session == 0) in
+        absurd (omega (arith, counts, none, ends, more)),
     subst (λ n. IsCounted book (LogFailed n e.seq)) (sym admin) (nobody_failed e.seq),
   )
     where

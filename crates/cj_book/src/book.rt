@@ -20,7 +20,7 @@ ghost use Rattle.cj_board.specs.Points.{fault_tokens_of};
 ghost use Rattle.cj_board.specs.Seats.{board_id, book_board, book_view, front, pass_board, pass_view};
 ghost use Rattle.cj_board.specs.Steps.{after_append, after_join, after_learning, after_split, HasFaultTokens, HasPositionNotes};
 ghost use Rattle.cj_board.specs.Views.{pass_of, pass_without_tokens};
-ghost use Rattle.cj_book.specs.Books.{last_write_failed, with_entry, with_event, CanSchedule, IsKeptIn, IsOfKnown, IsPrepared, IsSameButLog};
+ghost use Rattle.cj_book.specs.Books.{last_write_failed, with_entry, with_event, CanSchedule, IsKeptIn, IsOfGiven, IsOfKnown, IsPrepared, IsSameButLog};
 ghost use Rattle.cj_book.specs.Events.{Appends, Marks, Schedules};
 ghost use Rattle.cj_book.specs.Found.{start_error_of, entry_error_of};
 ghost use Rattle.cj_book.specs.Seated.{event_at_ok, event_or_fault, opened_state, view_after, GivesOwnPassesOnly, HasCountedLogFaults, IsCounted, OwnersAreOpen};
@@ -195,6 +195,7 @@ impl<S: Store> Book<S> {
         ensures one_open { (ended_count self.now.state.history ≤ length (log self.now.state.history)) × (length (log self.now.state.history) ≤ ended_count self.now.state.history + 1) }
         ensures room { length self.now.state.history + 2 * (length (log self.now.state.history) - ended_count self.now.state.history) ≤ EVENT_LIMIT }
         ensures given { (e : Entry) → IsOfKnown self.now.state e → e.session ≤ self.now.state.greatest }
+        ensures known { (e : Entry) → IsOfKnown self.now.state e → IsOfGiven self.now.state e }
         ensures within { self.now.state.greatest ≤ SESSION_NUMBER_LIMIT }
         ensures owned { OwnersAreOpen self.now }
         ensures faults { HasCountedLogFaults self.now.state.history self.now.faults_at_opening (S.faults self.now.state.recovery_log.store) }

@@ -1,5 +1,5 @@
 use Rattle.std.proofs.Common.{◌≡◌, ◌+◌, ◌<◌, arith, ℕ, ◌++◌, ◌∷◌, ◌||◌, [], List, length, Option, Err, refl, ap, sym, subst, ◌∙◌}
-use Rattle.cj_book.proofs.Cited.{Event, IsLegal, LeavesItems, LogError, LogItem, LogMarker, Marker, SeatView, after_append, book_view, follows_log_failed, follows_marker, history, items_marker, items_of, kept_log_failed, kept_marker, kept_wanting, log, log-same, marker_behind, marker_item, no_counts,}
+use Rattle.cj_book.proofs.Cited.{Event, IsLegal, LeavesItems, LogError, LogItem, LogMarker, Marker, SeatView, after_append, book_view, follows_log_failed, follows_marker, history, items_marker, items_of, kept_log_failed, kept_marker, kept_wanting, log, log-same, marker_behind, marker_item, no_counts}
 use Rattle.cj_log.specs.declared.item.LogItem.TheVariants as items
 use Rattle.cj_book.proofs.book.Book.enter_marker.Goals as goal
 

@@ -1,5 +1,5 @@
 use Rattle.std.proofs.Common.{◌≡◌, ◌≤◌, false, subst}
-use Rattle.cj_book.proofs.Cited.{Entry, HasCountedLogFaults, IsKeptIn, IsOfKnown, LeavesItems, SeatedBook, given_session, history, items_of, kept_in, last_write_failed, shut_where}
+use Rattle.cj_book.proofs.Cited.{Entry, HasCountedLogFaults, IsKeptIn, IsOfGiven, IsOfKnown, LeavesItems, SeatedBook, given_known, given_session, history, items_of, kept_in, last_write_failed, shut_where}
 use Rattle.cj_book.proofs.book.Book.legal.Goals as goal
 
 pub returns-clause-kept : goal.returns-clause-kept
@@ -24,6 +24,12 @@ returns-clause-given g c =
     let b = c.self.inside in
     subst (λ (v : SeatedBook g.row.S.Denot). (e : Entry) → IsOfKnown v.state e → e.session ≤ v.state.greatest) c.self.view_is
     (given_session b.placement (history b.seat) b.greatest b.targets b.sessions b.transactions c.self.invariant.follows b.recovery_log b.balancer b.cache)
+
+pub returns-clause-known : goal.returns-clause-known
+returns-clause-known g c =
+    let b = c.self.inside in
+    subst (λ (v : SeatedBook g.row.S.Denot). (e : Entry) → IsOfKnown v.state e → IsOfGiven v.state e) c.self.view_is
+    (given_known b.placement (history b.seat) b.greatest b.targets b.sessions b.transactions c.self.invariant.follows b.recovery_log b.balancer b.cache)
 
 pub returns-clause-one_open : goal.returns-clause-one_open
 returns-clause-one_open g c = rw (← c.self.view_is) c.self.invariant.history.one_open

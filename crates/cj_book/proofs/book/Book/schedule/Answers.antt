@@ -1,12 +1,9 @@
 use Rattle.std.proofs.Common.{◌≡◌, ℕ, ◌+◌, ap, sym, subst}
-use Rattle.cj_book.proofs.Cited.{LogFailed, Sched, SeatView, came_gives, event_or_fault, given_known, history, low_sessions, next_session, schedules_greatest}
+use Rattle.cj_book.proofs.Cited.{LogFailed, Sched, SeatView, came_gives, event_or_fault, low_sessions, next_session, schedules_greatest}
 use Rattle.cj_book.proofs.book.Book.schedule.Goals as goal
 
 pub schedule_counted-requires-clause-given : goal.schedule_counted-requires-clause-given
-schedule_counted-requires-clause-given g c =
-    let b = c.self.inside in
-    let known = rw (← c.self.view_is) at c.requires.known in
-    rw (← c.self.view_is) (given_known b.placement (history b.seat) b.greatest b.targets b.sessions b.transactions c.self.invariant.follows b.recovery_log b.balancer b.cache c.args.e known)
+schedule_counted-requires-clause-given g c = c.legal.ensures.known c.args.e c.requires.known
 
 pub returns-clause-still_gives : goal.returns-clause-still_gives
 returns-clause-still_gives g c = λ gives.
