@@ -74,9 +74,6 @@ module _ (old rep : WorldState) (only : OnlyReplays old rep) (all : (b : ℕ) �
         greatest_en : en.core.greatest ≡ old.core.greatest
         greatest_en = ap (λ (w : WorldState). w.core.greatest) to.after ∙ ap (λ (c : Core). c.greatest) only.core
 
-        dumps_en : en.core.dumps ≡ old.core.dumps
-        dumps_en = ap (λ (w : WorldState). w.core.dumps) to.after ∙ ap (λ (c : Core). c.dumps) only.core
-
         placement_new : new.core.placement ≡ old.core.placement
         placement_new = ends.same.placement ∙ placement_en
 
@@ -93,7 +90,6 @@ module _ (old rep : WorldState) (only : OnlyReplays old rep) (all : (b : ℕ) �
               idle = ends.idle;
               sessions = ends.same.sessions ∙ enabled_alone;
               greatest = ends.same.greatest ∙ (greatest_en ∙ ap (λ (c : Core). c.greatest) opened);
-              dumps = ends.same.dumps ∙ (dumps_en ∙ ap (λ (c : Core). c.dumps) opened);
               backends = λ b lt. ends.stands (faults_of old.cells) all_stand b (subst (λ (p : Placement). b < p.backends) (sym placement_new) lt);
             }
 

@@ -93,7 +93,6 @@ pub record HasStarted (p : Placement) (opening : List Event) (faults : List ℕ)
   pub idle : is_idle w.core.history ≡ true
   pub sessions : w.core.sessions ≡ []
   pub greatest : w.core.greatest ≡ greatest_session (log opening)
-  pub dumps : w.core.dumps ≡ []
   pub cells : length w.cells ≡ p.backends
   pub backends : (b : ℕ) → b < p.backends → StandsAfterStart faults w b
 

@@ -1,6 +1,6 @@
 //! A world: its state, changed by moves alone.
 
-ghost use Rattle.std.specs.Prelude.{◌≡◌, ◌↔◌, ◌≤◌, ℕ, length, map, slice_index_or, true, All, IsNone, IfSome, IfOk, IsErrOf, MatchResult, OnErr, None, Ok};
+ghost use Rattle.std.specs.Prelude.{◌≡◌, ◌↔◌, ◌≤◌, ℕ, length, map, true, All, IsNone, IfSome, IfOk, IsErrOf, MatchResult, OnErr, None, Ok};
 ghost use mathlib.Core.List.{IsPrefix};
 ghost use Rattle.cj_cluster.specs.History.Legality.{IsLegal};
 ghost use Rattle.cj_cluster.specs.Moves.Moves.{MovesTo};
@@ -93,13 +93,6 @@ impl<B: Backend, S: Store> World<B, S> {
         ensures { result ≡ position_at self.now.core b }
     {
         self.state.position(b)
-    }
-
-    /// How many faults the backend has counted, up to 2^64 - 1; 0 where there is no such backend.
-    pub fn faults(&self, b: u8) -> u64
-        ensures { result ≡ slice_index_or (faults_of self.now.cells) b 0 }
-    {
-        self.state.faults(b)
     }
 
     /// Which backends host which tables, and what they are called.

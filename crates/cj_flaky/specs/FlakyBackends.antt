@@ -1,5 +1,5 @@
 -- What contracts see of a flaky backend, and what its calls do to it.
-use Rattle.std.specs.Prelude.{◌≡◌, ◌⊎◌, ℕ, ◌+◌, ◌-◌, ◌^◌, ◌≤◌, if◌then◌else◌, min, Bool, true, false, List, [], ◌∷◌, IfOk, IfSome, Contains}
+use Rattle.std.specs.Prelude.{◌≡◌, ◌⊎◌, ℕ, ◌+◌, ◌-◌, ◌^◌, min, Bool, true, false, List, IfOk, IfSome, Contains}
 use Rattle.std.specs.declared.option.Option.{Option}
 use Rattle.std.specs.declared.option.Option.TheVariants.{None}
 use Rattle.std.specs.declared.result.Result.{Result}
@@ -150,20 +150,9 @@ abbrev pub told_where_passed : Bool → Option (List Slot) → Option (List Slot
 told_where_passed true told = told
 told_where_passed false told = None
 
--- ---- how often it was armed
-
--- how often it was; one with listed calls counts as armed as often as can be
-abbrev pub times_armed : List ℕ → ℕ → ℕ
-times_armed [] armings = armings
-times_armed (call ∷ fails) armings = 2 ^ 64 - 1
-
--- Where no call is listed, each that failed here spent an arming, and while it is armed there is one more.
-abbrev pub SpentArmings : List ℕ → Bool → (armings faults : ℕ) → Type 0
-SpentArmings fails armed armings faults = fails ≡ [] → (faults + (if armed then 1 else 0) ≤ armings) ⊎ (armings ≡ 2 ^ 64 - 1)
-
 module _ {B : Type 0} where
   abbrev pub arming_of : FlakyState B → Arming
-  arming_of s = record { armed = s.armed; times = times_armed s.fails s.armings }
+  arming_of s = record { armed = s.armed; times = s.armings }
 
   -- the same of a flaky backend, by what inner backends tell
   abbrev pub told_by : (B → Option (List Slot)) → FlakyState B → Option (List Slot)
@@ -172,7 +161,3 @@ module _ {B : Type 0} where
   -- what was counted here and in the inner backend, up to the largest `u64`
   abbrev pub faults_by : (B → ℕ) → FlakyState B → ℕ
   faults_by faults s = min (s.faults + faults s.inner) (2 ^ 64 - 1)
-
-  -- it has failed at most as often as it was armed
-  abbrev pub FailsOnlyArmed : (B → ℕ) → FlakyState B → Type 0
-  FailsOnlyArmed faults s = faults_by faults s ≤ (arming_of s).times

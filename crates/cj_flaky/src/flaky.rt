@@ -30,17 +30,15 @@ pub struct Flaky<B: Backend> {
 }
 
 impl<B: Backend> Model for Flaky<B> {
-    ghost use Rattle.cj_flaky.specs.FlakyBackends.{FlakyState, SpentArmings};
+    ghost use Rattle.cj_flaky.specs.FlakyBackends.{FlakyState};
 
     ghost Value = { FlakyState B };
-
-    ghost invariant = { λ f. SpentArmings f.fails f.armed f.armings f.faults };
 
     ghost view = { λ f. record { inner = f.inner; fails = f.fails; calls = f.calls; armed = f.armed; armings = f.armings; passed = f.passed; faults = f.faults } };
 }
 
 impl<B: Backend> Flaky<B> {
-    ghost use Rattle.cj_flaky.specs.FlakyBackends.{EntersAsListed, EntersChange, FailsOnlyArmed, IsToFail, SpentArmings, fresh_over, numbered};
+    ghost use Rattle.cj_flaky.specs.FlakyBackends.{EntersAsListed, EntersChange, IsToFail, fresh_over, numbered};
 
     /// Over this backend; the calls with the numbers in `fails` fail.
     pub fn new(backend: B, fails: ListOf<u64>) -> Flaky<B>
@@ -55,15 +53,6 @@ impl<B: Backend> Flaky<B> {
             passed: true,
             faults: 0,
         }
-    }
-
-    /// Shows that it has failed at most as often as it was armed, where the inner backend never fails. One with listed calls counts as
-    /// armed as often as can be.
-    #[tactic(auto, using(crate::proofs::Armings::only_armed))]
-    pub fn legal(&self)
-        ensures { B.faults self.now.inner ≡ 0 → FailsOnlyArmed B.faults self.now }
-    {
-        let _ = &self.inner;
     }
 
     /// The inner backend, as it stands.
@@ -82,11 +71,9 @@ impl<B: Backend> Flaky<B> {
     }
 
     /// Numbers the next call and answers whether it is to fail.
-    #[tactic(auto, using(crate::proofs::Armings::arming_left, crate::proofs::Armings::spent_entering))]
     fn is_next_to_fail(&mut self) -> bool
         ensures fails { IsTrue result ↔ IsToFail self.old }
         ensures numbered { self.new ≡ numbered self.old }
-        ensures left { IsTrue result → SpentArmings self.new.fails true self.new.armings self.new.faults }
     {
         self.calls = self.calls.saturating_add(1);
         let listed = self.fails.as_slice().contains(&self.calls);
@@ -96,7 +83,6 @@ impl<B: Backend> Flaky<B> {
     }
 
     /// Enters the next call, unless it is to fail.
-    #[tactic(auto, using(crate::proofs::Armings::spent_failing))]
     fn enter(&mut self) -> Result<(), BackendError>
         ensures { EntersAsListed self.old result self.new }
     {
@@ -298,7 +284,6 @@ impl<B: Backend> Backend for Flaky<B> {
     }
 
     /// The next numbered call fails. The inner backend is not armed.
-    #[tactic(auto, using(crate::proofs::Armings::times_next, crate::proofs::Armings::spent_arming))]
     fn arm(&mut self)
         ensures { self.new ≡ record self.old { armed = true; armings = next self.old.armings } }
     {

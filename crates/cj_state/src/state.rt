@@ -1,6 +1,6 @@
 //! The state of a world, and the parts of moves: each a change of it that keeps it whole.
 
-ghost use Rattle.std.specs.Prelude.{option_copied, ◌≡◌, ◌↔◌, ℕ, List, ◌+◌, ◌<◌, ◌≤◌, ◌^◌, ◌==◌, ◌||◌, true, false, [], length, map, slice_get, slice_index_or, is_some, ◌≢◌, IsNone, IfSome, IfOk, IsErrOf, MatchBool, OnOk, OnErr, Some, None, Ok, Err, if◌then◌else◌};
+ghost use Rattle.std.specs.Prelude.{option_copied, ◌≡◌, ◌↔◌, ℕ, List, ◌+◌, ◌<◌, ◌≤◌, ◌^◌, ◌==◌, ◌||◌, true, false, [], length, map, slice_get, is_some, ◌≢◌, IsNone, IfSome, IfOk, IsErrOf, MatchBool, OnOk, OnErr, Some, None, Ok, Err, if◌then◌else◌};
 ghost use Rattle.cj_model.specs.declared.request.Entry.{Entry};
 ghost use Rattle.cj_model.specs.declared.request.Request.TheVariants as request;
 ghost use Rattle.cj_model.specs.Sql.PlainRequests.{request_of};
@@ -297,16 +297,6 @@ impl<B: Backend, S: Store> State<B, S> {
         match self.cells.get(b as usize) {
             Some(cell) => cell.position(),
             None => None,
-        }
-    }
-
-    /// How many faults the backend has counted, up to 2^64 - 1; 0 where there is no such backend.
-    pub fn faults(&self, b: u8) -> u64
-        ensures { result ≡ slice_index_or (faults_of self.now.cells) b 0 }
-    {
-        match self.cells.get(b as usize) {
-            Some(cell) => cell.backend().counts().faults,
-            None => 0,
         }
     }
 

@@ -2,7 +2,5 @@ pub mod Asked
 pub mod Common
 pub mod Kept
 pub mod Rounds
-pub mod Starving
 pub mod Summing
-pub mod Turned
 pub mod Written

@@ -1,42 +1,35 @@
 -- The workload as it is played by one session over a world: rounds of a statement each, between which backends are armed, and brought back from a dump.
-use Rattle.std.specs.Prelude.{◌≡◌, ◌⊎◌, ℕ, zero, suc, ◌+◌, ◌-◌, ◌/◌, ◌%◌, ◌==◌, ◌&&◌, ◌||◌, Bool, true, false, if◌then◌else◌, List, [], ◌∷◌, ◌++◌, codes, find, Ok, Err, MatchOption}
+use Rattle.std.specs.Prelude.{◌≡◌, ℕ, zero, suc, ◌+◌, ◌-◌, ◌/◌, ◌%◌, ◌==◌, ◌&&◌, ◌||◌, Bool, true, false, if◌then◌else◌, List, [], codes, find, Ok, Err, MatchOption}
 use Rattle.std.specs.declared.option.Option.{Option}
 use Rattle.std.specs.declared.option.Option.TheVariants.{None, Some}
 use Rattle.std.specs.List.{range_with_len}
 use Rattle.cj_model.specs.declared.answer.Reply.{Reply}
 use Rattle.cj_model.specs.declared.answer.Reply.TheVariants.{Done, Rows, Refused, Stats}
-use Rattle.cj_model.specs.declared.codes.TheConstants.{LOG_FAULT, NO_MEMORY, STARVED_ALL}
+use Rattle.cj_model.specs.declared.codes.TheConstants.{NO_MEMORY, STARVED_ALL}
 use Rattle.cj_model.specs.declared.request.Request.{Request}
 use Rattle.cj_model.specs.declared.request.Request.TheVariants as request
 use Rattle.cj_model.specs.Cluster.Placements.{Placement, hosts}
-use Rattle.cj_cluster.specs.declared.event.Event.{Event}
 use Rattle.cj_cluster.specs.declared.moves.Did.TheVariants as did
 use Rattle.cj_cluster.specs.declared.moves.Move.{Move}
 use Rattle.cj_cluster.specs.declared.moves.Move.TheVariants.{Arm, Disable, Replay, Enable, Dump, Load}
 use Rattle.cj_cluster.specs.declared.moves.Moved.TheVariants as moved
 use Rattle.cj_cluster.specs.declared.moves.MoveError.TheVariants.{NoMemory}
-use Rattle.cj_cluster.specs.History.Histories.{masks_of_ends}
 use Rattle.cj_cluster.specs.Moves.Cores.{position_at}
 use Rattle.cj_cluster.specs.Moves.Moves.{MoveResult, last_number, opened_for}
 use Rattle.cj_desk.specs.DeskStates.{next_call, turn_taken}
 use Rattle.cj_state.specs.Worlds.{WorldState}
 use Rattle.cj_state.specs.Effects.{with_core}
-use Rattle.cj_moves.specs.Caches.{HasCacheAfter}
 use Rattle.cj_core.specs.Played.{MovesWorld}
 use Rattle.cj_core.specs.Solos.{SoloState, SoloSteps, desk_of}
 use Rattle.cj_workload.specs.Statements.{creation, next_statement, table_name}
 
--- ---- what ends a workload: a failure of the log's store, and want of memory
+-- ---- want of memory, which ends a workload
 
-abbrev pub ends_workload : Reply → Bool
-ends_workload (Refused refusal) = refusal.code == LOG_FAULT || refusal.code == NO_MEMORY || refusal.code == STARVED_ALL
-ends_workload (Done count) = false
-ends_workload (Rows answer) = false
-ends_workload (Stats hits misses) = false
-
--- from the one history to the other no entry ended, or one did and no backend wanted memory in it
-abbrev pub EndsUnstarved : List Event → List Event → Type 0
-EndsUnstarved h g = (masks_of_ends g ≡ masks_of_ends h) ⊎ ((failed : ℕ) × (masks_of_ends g ≡ masks_of_ends h ++ (failed, 0) ∷ []))
+abbrev pub tells_want : Reply → Bool
+tells_want (Refused refusal) = refusal.code == NO_MEMORY || refusal.code == STARVED_ALL
+tells_want (Done count) = false
+tells_want (Rows answer) = false
+tells_want (Stats hits misses) = false
 
 abbrev pub gives_want : MoveResult → Bool
 gives_want (Ok moved.Starved) = true
@@ -64,17 +57,15 @@ dump_name = codes "d"
 
 -- ---- statements and moves
 
--- The session asks for this outside of transactions, for a user without a name; it is answered as by one database. The log's store doesn't fail, and no memory is wanting, neither for the reply nor at a backend.
+-- The session asks for this outside of transactions, for a user without a name; it is answered as by one database, and no memory is wanting.
 pub record TakesTurn (tells : Bool) (a : SoloState) (r : Request) (z : SoloState) : Type 0 where
   pub reply : Reply
   pub turn : SoloSteps tells a (turn_taken (next_call (desk_of a) 0 [] r reply)) z
-  pub goes_on : ends_workload reply ≡ false
-  pub fed : EndsUnstarved a.world.core.history z.world.core.history
+  pub fed : tells_want reply ≡ false
 
--- A move of no session gives this; where it can't be made now it changes nothing. It looks nothing up in the result cache and keeps nothing there, and no memory is wanting.
+-- A move of no session gives this; where it can't be made now it changes nothing. No memory is wanting.
 pub record Makes (tells armable : Bool) (a : SoloState) (m : Move) (given : MoveResult) (z : SoloState) : Type 0 where
   pub moves : MovesWorld tells armable a.world m given z.world
-  pub cache : HasCacheAfter a.world z.world m
   pub session : z.session ≡ a.session
   pub fed : gives_want given ≡ false
 

@@ -5,7 +5,6 @@
 mod asking;
 mod moving;
 mod playing;
-mod starving;
 mod statements;
 mod summary;
 

@@ -1,6 +1,6 @@
 //! The workload, statement by statement.
 
-ghost use Rattle.std.specs.Prelude.{◌≡◌, ◌<◌, ◌≤◌, ◌+◌, ◌^◌, ℕ, [], false, true, IfOk, IsErrOf, OnOk};
+ghost use Rattle.std.specs.Prelude.{◌≡◌, ◌<◌, ◌≤◌, ◌+◌, ◌^◌, ℕ, [], true, IfOk, IsErrOf};
 ghost use Rattle.cj_model.specs.declared.request.Request.TheVariants as request;
 ghost use Rattle.cj_model.specs.declared.limits.TheConstants.{REQUEST_LIMIT, SESSION_NUMBER_LIMIT};
 ghost use Rattle.cj_model.specs.Sql.PlainRequests.{request_of};
@@ -10,16 +10,16 @@ ghost use Rattle.cj_cluster.specs.Moves.Cores.{session_at};
 ghost use Rattle.cj_workload.specs.Proving.Keeping.{IsOutside, Keeps};
 ghost use Rattle.cj_workload.specs.Statements.{request_of_statement};
 ghost use Rattle.cj_workload.specs.Summaries.{PlaysWorkload};
-ghost use Rattle.cj_workload.specs.Workloads.{Begins, PlaysRound, PlaysRounds, TakesTurn, ends_workload};
+ghost use Rattle.cj_workload.specs.Workloads as workload;
+ghost use Rattle.cj_workload.specs.Workloads.{Begins, PlaysRound, PlaysRounds, TakesTurn};
 
 use crate::moving::{arm, first_host, repair_each, take_dump};
-use crate::starving::{has_starved, standing_of};
 use crate::statements::{Statement, creation, next_statement};
 use crate::summary::{Summary, sum_up};
 use cj_backend::Backend;
 use cj_core::{Solo, World};
 use cj_desk::Desk;
-use cj_model::{Act, LOG_FAULT, NO_MEMORY, NoMemory, Reply, STARVED_ALL, Select, Text};
+use cj_model::{Act, NO_MEMORY, NoMemory, Reply, STARVED_ALL, Select, Text};
 use cj_outside::{PcgDraw, Store};
 use std::alloc::Global;
 use thiserror::Error;
@@ -33,41 +33,18 @@ pub enum WorkloadError {
     /// A host failed when it was asked what it holds at the end, or none was enabled.
     #[error("no host tells what it holds")]
     Untold,
-    #[error("the log failed")]
-    LogFault,
     #[error("out of memory")]
     NoMemory,
 }
 
-/// What ends a workload amid its statements.
-#[derive(Clone, Copy)]
-enum Stop {
-    LogFault,
-    NoMemory,
-}
-
-impl From<NoMemory> for Stop {
+impl From<NoMemory> for WorkloadError {
     ghost use Rattle.std.specs.Prelude.{◌≡◌};
-    ghost use Rattle.cj_workload.specs.declared.playing.Stop.TheVariants as stops;
-
-    ghost from_gives = { λ _ e. e ≡ stops.NoMemory };
-
-    fn from(_error: NoMemory) -> Stop {
-        Stop::NoMemory
-    }
-}
-
-impl From<Stop> for WorkloadError {
-    ghost use Rattle.std.specs.Prelude.{◌≡◌, ◌⊎◌};
     ghost use Rattle.cj_workload.specs.declared.playing.WorkloadError.TheVariants as errors;
 
-    ghost from_gives = { λ _ e. (e ≡ errors.LogFault) ⊎ (e ≡ errors.NoMemory) };
+    ghost from_gives = { λ _ e. e ≡ errors.NoMemory };
 
-    fn from(stop: Stop) -> WorkloadError {
-        match stop {
-            Stop::LogFault => WorkloadError::LogFault,
-            Stop::NoMemory => WorkloadError::NoMemory,
-        }
+    fn from(_error: NoMemory) -> WorkloadError {
+        WorkloadError::NoMemory
     }
 }
 
@@ -81,24 +58,18 @@ fn nobody(alloc: Global) -> Text
     }
 }
 
-/// Goes on, unless the reply says that the log's store failed or memory was wanting.
-fn go_on(reply: &Reply) -> Result<(), Stop>
-    ensures { OnOk result (ends_workload reply.now ≡ false) }
+/// Whether the reply says that memory was wanting.
+fn tells_want(reply: &Reply) -> bool
+    ensures { result ≡ workload.tells_want reply.now }
 {
-    if let Reply::Refused(refusal) = reply {
-        if refusal.code == LOG_FAULT {
-            return Err(Stop::LogFault);
-        }
-        if refusal.code == NO_MEMORY || refusal.code == STARVED_ALL {
-            return Err(Stop::NoMemory);
-        }
+    match reply {
+        Reply::Refused(refusal) => refusal.code == NO_MEMORY || refusal.code == STARVED_ALL,
+        _ => false,
     }
-    Ok(())
 }
 
 /// A write of the session.
-#[tactic(auto, using(crate::proofs::Turned::keeps_turned, crate::proofs::Turned::fed_turn))]
-fn write<B: Backend, S: Store>(solo: &mut Solo<B, S>, user: &Text, act: Act) -> Result<(), Stop>
+fn write<B: Backend, S: Store>(solo: &mut Solo<B, S>, user: &Text, act: Act) -> Result<(), NoMemory>
     requires user { user.now ≡ [] }
     requires room { (session_at solo.old.world.core solo.old.session).queries < REQUEST_LIMIT }
     requires written { IsWritten (request_of act) }
@@ -106,22 +77,19 @@ fn write<B: Backend, S: Store>(solo: &mut Solo<B, S>, user: &Text, act: Act) -> 
     ensures turn { IfOk result (λ _. TakesTurn B.tells solo.old (request_of act) solo.new) }
     ensures keeps { IfOk result (λ _. Keeps 1 0 solo.old solo.new) }
 {
-    let before = standing_of(solo.world());
     let written = Desk::<()>::write(solo, &(), user, 0, act);
-    go_on(&written.reply)?;
-    if has_starved(solo.world(), &before) {
-        return Err(Stop::NoMemory);
+    if tells_want(&written.reply) {
+        return Err(NoMemory);
     }
     Ok(())
 }
 
 /// A read of the session.
-#[tactic(auto, using(crate::proofs::Turned::keeps_turned, crate::proofs::Turned::fed_read))]
 fn read<B: Backend, S: Store>(
     solo: &mut Solo<B, S>,
     user: &Text,
     select: &Select,
-) -> Result<(), Stop>
+) -> Result<(), NoMemory>
     requires user { user.now ≡ [] }
     requires room { (session_at solo.old.world.core solo.old.session).queries < REQUEST_LIMIT }
     requires written { IsWritten (request.Select select.now) }
@@ -129,7 +97,10 @@ fn read<B: Backend, S: Store>(
     ensures keeps { IfOk result (λ _. Keeps 1 0 solo.old solo.new) }
 {
     let reply = Desk::<()>::read(solo, &(), user, 0, select);
-    go_on(&reply)
+    if tells_want(&reply) {
+        return Err(NoMemory);
+    }
+    Ok(())
 }
 
 /// The session's next statement.
@@ -137,7 +108,7 @@ fn take_turn<B: Backend, S: Store>(
     solo: &mut Solo<B, S>,
     user: &Text,
     statement: Statement,
-) -> Result<(), Stop>
+) -> Result<(), NoMemory>
     requires user { user.now ≡ [] }
     requires room { (session_at solo.old.world.core solo.old.session).queries < REQUEST_LIMIT }
     requires written { IsWritten (request_of_statement statement) }
@@ -156,7 +127,7 @@ fn round<B: Backend, S: Store>(
     user: &Text,
     i: u64,
     statement: Statement,
-) -> Result<u64, Stop>
+) -> Result<u64, NoMemory>
     requires user { user.now ≡ [] }
     requires room { (session_at solo.old.world.core solo.old.session).queries < REQUEST_LIMIT }
     requires written { IsWritten (request_of_statement statement) }
@@ -166,7 +137,7 @@ fn round<B: Backend, S: Store>(
 {
     arm(solo, i)?;
     take_turn(solo, user, statement)?;
-    Ok(repair_each(solo)?)
+    repair_each(solo)
 }
 
 /// So many rounds. Answers how many backends were enabled in them.
@@ -176,7 +147,7 @@ fn rounds<B: Backend, S: Store>(
     user: &Text,
     seed: u64,
     count: u64,
-) -> Result<u64, Stop>
+) -> Result<u64, NoMemory>
     requires user { user.now ≡ [] }
     requires few { count < 2 ^ 32 }
     requires room { (session_at solo.old.world.core solo.old.session).queries + count ≤ REQUEST_LIMIT }
@@ -198,7 +169,7 @@ fn begin<B: Backend, S: Store>(
     solo: &mut Solo<B, S>,
     alloc: Global,
     user: &Text,
-) -> Result<(), Stop>
+) -> Result<(), NoMemory>
     requires user { user.now ≡ [] }
     requires room { (session_at solo.old.world.core solo.old.session).queries < REQUEST_LIMIT }
     ensures begins { IfOk result (λ _. Begins B.tells B.can_be_armed solo.old solo.new) }
@@ -218,8 +189,8 @@ fn begin<B: Backend, S: Store>(
 /// Plays the workload of so many statements, drawn from the seed, by a session of its own, and sums it up.
 ///
 /// A table is made and dumped at its first host. Then come the statements, one after another; before some of them a backend is
-/// armed, and behind each one the backends that are out are brought back from the dump. Want of memory ends it, also where it is one
-/// backend's in an entry that others carried out, and so does a failure of the log's store.
+/// armed, and behind each one the backends that are out are brought back from the dump. Want of memory ends it, also where it is a
+/// backend's.
 pub fn play<B: Backend + Drop, S: Store + Drop>(
     alloc: Global,
     world: World<B, S>,

@@ -49,6 +49,10 @@ pub fn sum_up<B: Backend + Drop, S: Store + Drop>(
     let mask = hosts & world.enabled();
     let backends = world.into_backends().into_vec();
     let faults = count_faults(&backends);
+    // A backend that was brought back had failed, which it has counted, or had wanted memory.
+    if enabled > faults {
+        return Err(WorkloadError::NoMemory);
+    }
     if hosts != 0 && mask == 0 {
         return Err(WorkloadError::Untold);
     }

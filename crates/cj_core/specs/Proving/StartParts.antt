@@ -151,7 +151,6 @@ pub record IsSameCluster (old now : WorldState) : Type 0 where
   pub placement : now.core.placement ≡ old.core.placement
   pub sessions : now.core.sessions ≡ old.core.sessions
   pub greatest : now.core.greatest ≡ old.core.greatest
-  pub dumps : now.core.dumps ≡ old.core.dumps
   pub setup : now.setup ≡ old.setup
   pub cache : now.cache ≡ old.cache
 

@@ -31,10 +31,9 @@ IsOutside (act.Write w) = Unit {0}
 IsOutside (act.Create c) = Unit {0}
 IsOutside _ = ⊥
 
--- From a to z the session made so many requests, backends were enabled so often, and the log's store didn't fail.
+-- From a to z the session made so many requests, and backends were enabled so often.
 pub record Keeps (requests enabled : ℕ) (a z : SoloState) : Type 0 where
   pub placement : z.world.core.placement ≡ a.world.core.placement
   pub session : z.session ≡ a.session
   pub queries : (session_at z.world.core z.session).queries ≡ (session_at a.world.core a.session).queries + requests
   pub counted : enablings z.world.core.history ≡ enablings a.world.core.history + enabled
-  pub log_faults : z.world.recovery_log.faults ≡ a.world.recovery_log.faults
