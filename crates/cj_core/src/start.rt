@@ -229,18 +229,4 @@ impl<B: Backend + Drop, S: Store + Drop> World<B, S> {
         let World { state, emptied } = self;
         ListOf::from_vec(backends_of(state.into_cells(), emptied.into_vec()))
     }
-
-    /// The backends and the log's store, as they stand. It takes no memory.
-    pub fn into_parts(self) -> (Backends<B>, S)
-        ensures same { map (state_by B.told B.faults B.asks B.login B.arming) result.0 ≡ map backend_of self.cells }
-        ensures faults { S.faults result.1 ≡ self.recovery_log.faults }
-        ensures bytes { S.held result.1 ≡ self.recovery_log.bytes }
-    {
-        let World { state, emptied } = self;
-        let (cells, log) = state.into_parts();
-        (
-            ListOf::from_vec(backends_of(cells, emptied.into_vec())),
-            log,
-        )
-    }
 }

@@ -215,17 +215,6 @@ impl<B: Backend + Drop, S: Store + Drop> State<B, S> {
         book.into_log()
     }
 
-    /// Its cells and the log's store.
-    pub fn into_parts(self) -> (Vec<Cell<B>>, S)
-        ensures cells { states_of result.0.items ≡ self.cells }
-        ensures few { length self.cells ≤ BACKEND_LIMIT }
-        ensures faults { S.faults result.1 ≡ self.recovery_log.faults }
-        ensures bytes { S.held result.1 ≡ self.recovery_log.bytes }
-    {
-        let State { cells, book, .. } = self;
-        (cells, book.into_log())
-    }
-
     /// Its board, and the book and the cells at the board's seats, beside this empty list for the backends.
     pub fn into_shared(self, emptied: Vec<B>) -> Shared<B, S>
         ensures world { IsWorld B.tells self }

@@ -6,7 +6,7 @@ use Rattle.cj_outside.specs.Lines.{IsInLine}
 use Rattle.cj_cluster.specs.Script.Lines.{with_line_feed}
 use Rattle.cj_script.specs.Script.{CameTo, IsNextLine, IsShortLine, IsWrong, LieIn, Plays, PlaysLine}
 use Rattle.cj_script.specs.declared.play.ScriptEnd.TheVariants as end
-use Rattle.cj_top.specs.Answered.{AreLines, EndsAtLine, IsFirstWrong, IsPlayable, PlaysInput, is_script_end_by_input, is_short_input}
+use Rattle.cj_top.specs.Completeness.{AreLines, EndsAtLine, IsFirstWrong, IsPlayable, PlaysInput, is_script_end_by_input, is_short_input}
 
 -- ---- one way to be lines
 
@@ -171,14 +171,5 @@ ends_at_line tells names (Some xs) (Some ys) held held' end.Spent c z came by = 
     le-ltb (length xs) most (omega (arith, size, all))
 ends_at_line tells names (Some xs) left' held held' end.NoMemory c z came by = absurd cc
 
-by_input : (ending : ScriptEnd) → (ending ≢ end.ReadFault) → (ending ≢ end.WriteFault) → (ending ≢ end.NoMemory) → is_script_end_by_input ending ≡ true
-by_input end.Done read write memory = refl
-by_input (end.Line number) read write memory = refl
-by_input end.ReadFault read write memory = absurd (read refl)
-by_input end.WriteFault read write memory = absurd (write refl)
-by_input end.Spent read write memory = refl
-by_input end.NoMemory read write memory = absurd (memory refl)
-
-pub script_plays : (tells : Bool) (names : List (List ℕ)) (left left' held held' : Option (List ℕ)) (ending : ScriptEnd) (c z : WorldState) → CameTo tells true names left left' held held' c ending z → (ending ≢ end.ReadFault) → (ending ≢ end.WriteFault) → (ending ≢ end.NoMemory) → PlaysInput names left ending
-script_plays tells names left left' held held' ending c z came read write memory =
-    let by = by_input ending read write memory in record { by_input = by; as_read = ends_at_line tells names left left' held held' ending c z came by }
+pub script_plays : (tells : Bool) (names : List (List ℕ)) (left left' held held' : Option (List ℕ)) (ending : ScriptEnd) (c z : WorldState) → CameTo tells true names left left' held held' c ending z → is_script_end_by_input ending ≡ true → PlaysInput names left ending
+script_plays tells names left left' held held' ending c z came by = record { by_input = by; as_read = ends_at_line tells names left left' held held' ending c z came by }

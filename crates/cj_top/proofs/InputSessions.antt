@@ -18,7 +18,7 @@ use Rattle.cj_cluster.specs.Wire.Sessions.{answered_messages, is_quit}
 use Rattle.cj_desk.specs.SessionTranscripts.{SessionSetting, ClientState, EndsTranscript, MessageExchanges, SessionTranscript}
 use Rattle.cj_desk.proofs.AnsweredLaws.{front_of_reading}
 use Rattle.cj_session.specs.Serving.{ReachesEnd, ServesSession}
-use Rattle.cj_top.specs.Answered.{AnswersInput, end_by_rest, end_of_reading, end_of_short, is_end_by_input, is_short_input, replies_at_end}
+use Rattle.cj_top.specs.Completeness.{AnswersInput, end_by_rest, end_of_reading, end_of_short, is_end_by_input, is_short_input, replies_at_end}
 
 -- ---- replies
 
@@ -191,9 +191,10 @@ module _ {S D : Type 0} (w : SessionSetting S D) (a : ClientState S D) (ending :
       (one_each w t.so_far.messages t.replies a t.last t.so_far.exchanges) t.ends by (fits_taken xs taken ys ending bytes reaches) f
 
   pub session_answers : (Is : Reply → Type 0) (left left' held held' : Option (List ℕ)) (s : ServesSession w left left' held held' a ending desk draws) → is_end_by_input ending ≡ true → All Is s.transcript.replies
-      → AnswersInput Is s.transcript.replies left held held' ending
+      → AnswersInput Is left held held' ending
   session_answers Is left left' held held' s by each = record {
     by_input = by;
+    replies = s.transcript.replies;
     each = each;
     wrote = subst (λ (x : List ℕ). Appends held held' x) (sym (written_at_end s.transcript.rest s.transcript.replies s.written ending s.transcript.ends by)) s.wrote;
     as_read = read_as left left' s.taken s.written s.transcript s.bytes s.reaches by;

@@ -5,8 +5,5 @@ pub mod Completed
 pub mod InputScripts
 pub mod InputSessions
 pub mod NewBackends
-pub mod OpensWell
 pub mod PlayedOver
-pub mod StoresKept
-pub mod ToldLines
 pub mod Unopened

@@ -1,10 +1,13 @@
 -- What a command is configured with, and how it is refused.
-use Rattle.std.specs.Prelude.{◌≡◌, ℕ, Bool, true, false, List, [], ◌∷◌, ◌++◌, length, replicate, codes, if◌then◌else◌}
+use Rattle.std.specs.Prelude.{◌≡◌, ℕ, Bool, true, false, List, [], ◌∷◌, ◌++◌, length, replicate, codes, if◌then◌else◌, Result, IsErrOf}
 use Rattle.std.specs.declared.option.Option.{Option}
 use Rattle.std.specs.declared.option.Option.TheVariants.{None, Some}
 use Rattle.std.specs.List.{list_all}
 use Rattle.std.specs.Fmt.{decimal}
-use Rattle.cj_outside.specs.Stores.{Stays, Steps}
+use Rattle.cj_outside.specs.Causes.{CountsFault}
+use Rattle.cj_outside.specs.Streams.{WritesAll}
+use Rattle.cj_outside.specs.declared.sink.OutError.{OutError}
+use Rattle.cj_outside.specs.declared.sink.OutError.TheVariants as out_errors
 use Rattle.cj_cluster.specs.Script.Lines.{with_line_feed, words}
 use Rattle.cj_model.specs.Cluster.Caching.{empty_cache}
 use Rattle.cj_place.specs.Layouts.{placement_of}
@@ -20,14 +23,6 @@ use Rattle.cj_conf.specs.Refusals.{error_number, key_text}
 use Rattle.cj_core.specs.Starts.{BackendState, HaveBegunNone, StartsFrom}
 use Rattle.cj_log.specs.declared.item.LogItem.{LogItem}
 use Rattle.cj_state.specs.Worlds.{WorldState}
-use Rattle.cj_top.specs.Told.{TellsLine}
-
--- ---- its store
-
--- The store was read alone: it holds what it held, where it tells that, and a stop leaves what it might have left.
-pub record OnlyReads {D : Type 0} (tells : Bool) (held : D → List ℕ) (moment : D → ℕ) (may : D → List ℕ → Type 0) (since : D → ℕ → List ℕ → Type 0) (old new : D) : Type 0 where
-  pub bytes : tells ≡ true → held new ≡ held old
-  pub images : Steps moment may since Stays old new
 
 -- ---- the backends that it has
 
@@ -73,6 +68,9 @@ last_word (first ∷ rest) = 32 ∷ first ∷ rest
 abbrev pub refusal_line : ConfError → List ℕ
 refusal_line e = with_line_feed (words (codes "configuration" ∷ codes "refused:" ∷ decimal (error_number e) ∷ []) ++ last_word (key_text e))
 
--- That line is told, and what explains it. `before` and `now` are the errors' counts of faults.
-abbrev pub WritesRefusal : (errors errors' : Option (List ℕ)) (before now : ℕ) → ConfError → Type 0
-WritesRefusal errors errors' before now e = TellsLine errors errors' before now (refusal_line e)
+-- That line was written, and behind it an explanation; or the errors failed in it, which they counted, or memory was wanting. `before` and `now` are the errors' counts of faults.
+pub record WritesRefusal (errors errors' : Option (List ℕ)) (before now : ℕ) (e : ConfError) : Type 0 where
+  pub explanation : List ℕ
+  pub answer : Result (Unit {0}) OutError
+  pub bytes : WritesAll errors errors' (refusal_line e ++ explanation) answer
+  pub cause : CountsFault (IsErrOf answer out_errors.Failed) before now

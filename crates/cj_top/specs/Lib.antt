@@ -1,4 +1,3 @@
-pub mod Answered
 pub mod Completeness
 pub mod Configured
 pub mod Generated
@@ -8,4 +7,3 @@ pub mod Piped
 pub mod Program
 pub mod Runs
 pub mod Scripted
-pub mod Told

@@ -8,15 +8,14 @@ use Rattle.cj_listing.specs.Listing.{listing}
 use Rattle.cj_conf.specs.declared.conf.Conf.{Conf}
 use Rattle.cj_top.specs.Program.{status_of_listing}
 
--- The items that were found were listed, or a front of that; backends go by these names. `Opened` says how the log's store stands then.
-pub record ListsLog (names : List (List ℕ)) (found : List LogItem → Type 0) (Opened : Type 0) (held held' : Option (List ℕ)) (status : ℕ) : Type 0 where
+-- The items that were found were listed, or a front of that; backends go by these names.
+pub record ListsLog (names : List (List ℕ)) (found : List LogItem → Type 0) (held held' : Option (List ℕ)) (status : ℕ) : Type 0 where
   pub items : List LogItem
   pub found_in : found items
-  pub opened : Opened
   pub answer : Result (Unit {0}) OutError
   pub bytes : WritesAll held held' (listing names items) answer
   pub status_is : status ≡ status_of_listing answer
 
 -- `log` with this configuration: the log was listed, or the command stopped at it
-abbrev pub ComesByLog : (c : Conf) (found : List LogItem → Type 0) (Opened : Type 0) (Stops : ℕ → Type 0) (held held' : Option (List ℕ)) → ℕ → Type 0
-ComesByLog c found Opened Stops held held' status = ListsLog c.placement.names found Opened held held' status ⊎ Stops status
+abbrev pub ComesByLog : (c : Conf) (found : List LogItem → Type 0) (Stops : ℕ → Type 0) (held held' : Option (List ℕ)) → ℕ → Type 0
+ComesByLog c found Stops held held' status = ListsLog c.placement.names found held held' status ⊎ Stops status

@@ -9,9 +9,6 @@ use Rattle.cj_log.specs.declared.item.LogItem.{LogItem}
 use Rattle.cj_words.specs.declared.asked.Command.{Command}
 use Rattle.cj_words.specs.declared.asked.Command.TheVariants.{Pipe, Script, Log, Gen}
 use Rattle.cj_words.specs.declared.parts.TheConstants.{COUNT_LIMIT}
-use Rattle.cj_core.specs.Starts.{LosesNothing}
-use Rattle.cj_records.specs.Records.{WritesOnlyNew}
-use Rattle.cj_state.specs.Worlds.{WorldState}
 use Rattle.cj_top.specs.Generated.{ComesByGen}
 use Rattle.cj_top.specs.Listed.{ComesByLog}
 use Rattle.cj_top.specs.Piped.{ComesByPipe}
@@ -40,17 +37,17 @@ pub record RunsConfigured (tells : Bool) (held : List ℕ) (Runs : Conf → Type
   pub accepted : conf_of bytes ≡ Ok conf
   pub runs : Runs conf
 
--- The configuration's store failed, of which the errors were told in words (`Told`); or memory was wanting, and nothing else was touched (`Quiet`); or the configuration was refused; or the command ran. Where the first or the third holds the input and the output were not touched (`Idle`).
-abbrev pub RunsCommand : Bool → List ℕ → (ConfError → Type 0) → (Idle Told Quiet : Type 0) → (Conf → Type 0) → ℕ → Type 0
-RunsCommand tells held Tells Idle Told Quiet Runs status =
-    (status ≡ 7) × Idle × Told ⊎ (status ≡ 1) × Quiet ⊎ RefusesConf tells held Tells Idle status ⊎ RunsConfigured tells held Runs
+-- The configuration's store failed or memory was wanting, and nothing else was touched (`Quiet`); or the configuration was refused, and the input and the output were not touched (`Idle`); or the command ran.
+abbrev pub RunsCommand : Bool → List ℕ → (ConfError → Type 0) → Type 0 → Type 0 → (Conf → Type 0) → ℕ → Type 0
+RunsCommand tells held Tells Idle Quiet Runs status =
+    (((status ≡ 7) ⊎ (status ≡ 1)) × Quiet) ⊎ RefusesConf tells held Tells Idle status ⊎ RunsConfigured tells held Runs
 
--- What a command comes to with this configuration, over the log that was found. `GoesOn` says in which store the log goes on from one world to another, `Opened` how the store stands when the log was opened alone, and `Stops` how the command stops at its log, and what is made of the bytes then. `Quiet`: nothing was touched; `Idle`: the input and the output were not touched; `Told`: the errors were told in words; `before` and `now` are the errors' counts of faults.
-abbrev pub ComesBy : Command → (c : Conf) (found : List LogItem → Type 0) (GoesOn : WorldState → WorldState → Type 0) (Opened : Type 0) (Stops : (List ℕ → List ℕ → Type 0) → ℕ → Type 0) (Idle Told Quiet : Type 0) (moment : Option ℤ) (left left' held held' errors errors' : Option (List ℕ)) (before now : ℕ) → ℕ → Type 0
-ComesBy (Pipe path) c found GoesOn Opened Stops Idle Told Quiet moment left left' held held' errors errors' before now status = ComesByPipe c found GoesOn (Stops LosesNothing) Idle Told moment left left' held held' status
-ComesBy (Script path) c found GoesOn Opened Stops Idle Told Quiet moment left left' held held' errors errors' before now status = ComesByScript c found GoesOn (Stops LosesNothing) left left' held held' errors errors' before now status
-ComesBy (Log path) c found GoesOn Opened Stops Idle Told Quiet moment left left' held held' errors errors' before now status = ComesByLog c found Opened (Stops WritesOnlyNew) held held' status
-ComesBy (Gen path seed count) c found GoesOn Opened Stops Idle Told Quiet moment left left' held held' errors errors' before now status = ComesByGen c seed count Quiet held held' status
+-- What a command comes to with this configuration, over the log that was found. `Stops` says how it stops at its log, and `Quiet` that nothing was touched; `before` and `now` are the errors' counts of faults.
+abbrev pub ComesBy : Command → (c : Conf) (found : List LogItem → Type 0) (Stops : ℕ → Type 0) (Quiet : Type 0) (moment : Option ℤ) (left left' held held' errors errors' : Option (List ℕ)) (before now : ℕ) → ℕ → Type 0
+ComesBy (Pipe path) c found Stops Quiet moment left left' held held' errors errors' before now status = ComesByPipe c found Stops Quiet moment left left' held held' status
+ComesBy (Script path) c found Stops Quiet moment left left' held held' errors errors' before now status = ComesByScript c found Stops left left' held held' errors errors' before now status
+ComesBy (Log path) c found Stops Quiet moment left left' held held' errors errors' before now status = ComesByLog c found Stops held held' status
+ComesBy (Gen path seed count) c found Stops Quiet moment left left' held held' errors errors' before now status = ComesByGen c seed count Quiet held held' status
 
 -- the command takes nothing of the input
 abbrev pub ReadsNoInput : Command → Type 0

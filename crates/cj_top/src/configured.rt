@@ -11,7 +11,7 @@ ghost use Rattle.cj_mem.specs.MemoryBackends.{fresh_state};
 ghost use Rattle.cj_conf.specs.Confs.{IsUsable, conf_of};
 ghost use Rattle.cj_conf.specs.declared.error.ConfError.{ConfError};
 ghost use Rattle.cj_top.specs.Configured as configured;
-ghost use Rattle.cj_top.specs.Configured.{OnlyReads, WritesRefusal, refusal_line};
+ghost use Rattle.cj_top.specs.Configured.{WritesRefusal, refusal_line};
 ghost use Rattle.cj_top.specs.Runs.{AreConfBytes};
 ghost use Rattle.cj_top.specs.declared.configured.Unconfigured.TheVariants as unconfigured;
 
@@ -49,7 +49,6 @@ pub fn conf_of<F: Store>(alloc: Global, store: &mut F) -> Result<Conf, Unconfigu
     ensures accepted { IfOk result (λ conf. (bytes : List ℕ) × AreConfBytes F.tells (F.held store.old) bytes × (conf_of bytes ≡ Ok conf)) }
     ensures refused { (e : ConfError) → IsErrOf result (unconfigured.Refused e) → (bytes : List ℕ) × AreConfBytes F.tells (F.held store.old) bytes × (conf_of bytes ≡ Err e) }
     ensures usable { IfOk result IsUsable }
-    ensures store { OnlyReads F.tells F.held F.moment F.may F.since store.old store.new }
     ensures cause { CountsFault (IsErrOf result unconfigured.Failed) (F.faults store.old) (F.faults store.new) }
 {
     let bytes = match read_store(alloc, store) {

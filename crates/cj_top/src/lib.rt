@@ -9,7 +9,6 @@ mod piped;
 mod program;
 mod refused;
 mod scripted;
-mod told;
 mod words;
 
 pub use files::Paths;

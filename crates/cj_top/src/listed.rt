@@ -5,8 +5,7 @@ ghost use Rattle.cj_outside.specs.Causes.{CountsFault};
 ghost use Rattle.cj_outside.specs.Stores.{Only};
 ghost use Rattle.cj_outside.specs.declared.sink.OutError.TheVariants as out_errors;
 ghost use Rattle.cj_top.specs.Listed.{ListsLog};
-ghost use Rattle.cj_records.specs.Records.{WritesOnlyNew};
-ghost use Rattle.cj_top.specs.Logs.{Found, IsOpened, LeavesStore, RefusesLog};
+ghost use Rattle.cj_top.specs.Logs.{Found, RefusesLog};
 ghost use Rattle.cj_top.specs.Program as top;
 
 use cj_book::StartError;
@@ -21,15 +20,13 @@ use std::alloc::Global;
 fn items_found<S: Store + Drop>(alloc: Global, store: S) -> Result<LogItems, StartError>
     requires { S.tells ≡ true → Only (S.held store) (S.may store) }
     ensures found { IfOk result (λ items. Found S.tells (S.held store) items) }
-    ensures opened { IfOk result (λ _. LeavesStore S.faults S.held S.tells store (S.faults store) IsOpened) }
-    ensures refused { IfErr result (RefusesLog S.faults S.held store S.tells WritesOnlyNew) }
+    ensures refused { IfErr result (RefusesLog S.faults store S.tells (S.held store)) }
 {
-    // What is given up shows how the store stands.
     match Log::open(alloc, store) {
-        Ok((_log, items)) => Ok(items),
-        Err((RecordsError::Failed, _store)) => Err(StartError::StoreFault),
-        Err((RecordsError::BadRecord(offset), _store)) => Err(StartError::BadRecord(offset)),
-        Err((RecordsError::NoMemory, _store)) => Err(StartError::NoMemory),
+        Ok((_, items)) => Ok(items),
+        Err((RecordsError::Failed, _)) => Err(StartError::StoreFault),
+        Err((RecordsError::BadRecord(offset), _)) => Err(StartError::BadRecord(offset)),
+        Err((RecordsError::NoMemory, _)) => Err(StartError::NoMemory),
     }
 }
 
@@ -52,8 +49,8 @@ pub fn run_log<S: Store + Drop, O: Sink>(
     output: &mut O,
 ) -> Result<u8, StartError>
     requires { S.tells ≡ true → Only (S.held log) (S.may log) }
-    ensures lists { IfOk result (ListsLog conf.placement.names (Found S.tells (S.held log)) (LeavesStore S.faults S.held S.tells log (S.faults log) IsOpened) (O.held output.old) (O.held output.new)) }
-    ensures refused { IfErr result (RefusesLog S.faults S.held log S.tells WritesOnlyNew) }
+    ensures lists { IfOk result (ListsLog conf.placement.names (Found S.tells (S.held log)) (O.held output.old) (O.held output.new)) }
+    ensures refused { IfErr result (RefusesLog S.faults log S.tells (S.held log)) }
     ensures unlisted { OnErr result (output.new ≡ output.old) }
     ensures output { CountsFault (result ≡ Ok 6) (O.faults output.old) (O.faults output.new) }
 {

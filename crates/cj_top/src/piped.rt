@@ -1,6 +1,6 @@
 //! One session over a world of its own.
 
-ghost use Rattle.std.specs.Prelude.{◌≡◌, ◌↔◌, ◌≤◌, true, [], length, map, replicate, IfErr, IfOk, OnErr, Ok};
+ghost use Rattle.std.specs.Prelude.{◌≡◌, ◌≢◌, ◌↔◌, ◌≤◌, true, [], length, map, replicate, IfErr, IfOk, OnErr, Ok};
 ghost use Rattle.std.specs.Result.{IsOkAnd};
 ghost use Rattle.cj_outside.specs.Causes.{CountsFault};
 ghost use Rattle.cj_outside.specs.Stores.{Only};
@@ -10,11 +10,14 @@ ghost use Rattle.cj_cluster.specs.declared.session.SessionEnd.TheVariants as end
 ghost use Rattle.cj_conf.specs.Confs.{IsUsable};
 ghost use Rattle.cj_model.specs.Cluster.Caching.{empty_cache};
 ghost use Rattle.cj_state.specs.Beginnings.{AreEmpty};
-ghost use Rattle.cj_state.specs.Worlds.{KeepsHistory, WorldState};
+ghost use Rattle.cj_state.specs.Faults.{faults_of};
+ghost use Rattle.cj_state.specs.Worlds.{WorldState};
+ghost use Rattle.cj_core.specs.QuietCalls.{BlamesNobody};
 ghost use Rattle.cj_core.specs.Starts.{HaveBegunNone, StartsFrom, state_by};
 ghost use Rattle.cj_place.specs.Layouts.{placement_of};
+ghost use Rattle.cj_top.specs.Completeness.{AnswersInput, CountNoFaults, CountsNoFault};
 ghost use Rattle.cj_top.specs.Configured.{in_memory, new_backend};
-ghost use Rattle.cj_top.specs.Logs.{Found, GoesOnIn};
+ghost use Rattle.cj_top.specs.Logs.{Found};
 ghost use Rattle.cj_top.specs.Piped.{RefusesPipe, RunsPipe, ServesOneSession};
 ghost use Rattle.cj_top.specs.Program as top;
 
@@ -53,27 +56,18 @@ fn serve_one<B: Backend + Drop, S: Store + Drop, I: Source, O: Sink, C: Clock>(
     requires fresh { world.core.sessions ≡ [] }
     requires idle { is_idle world.core.history ≡ true }
     ensures serves { IfOk result (λ (ending, last). ServesOneSession B.tells seed (C.moment clock.now) (I.left input.old) (I.left input.new) (O.held output.old) (O.held output.new) world ending last) }
-    ensures logged { IfOk result (λ (_, last). S.tells ≡ true → KeepsHistory last) }
     ensures full { IfErr result (λ error. (error ≡ PipeError.SessionsFull) × (SESSION_NUMBER_LIMIT ≤ world.core.greatest)) }
-    ensures full_log { OnErr result (GoesOnIn S.faults S.held S.tells world.recovery_log.faults world world) }
     ensures unserved { OnErr result ((input.new ≡ input.old) × (output.new ≡ output.old)) }
     ensures input { CountsFault (IsOkAnd result (λ (ending, _). ending ≡ ends.ReadFault)) (I.faults input.old) (I.faults input.new) }
     ensures output { CountsFault (IsOkAnd result (λ (ending, _). ending ≡ ends.WriteFault)) (O.faults output.old) (O.faults output.new) }
 {
     world.legal();
-    let mut desk = match world.desk() {
-        Ok(desk) => desk,
-        Err((_, world)) => {
-            // What is given up shows how the log stands.
-            let _log = world.into_log();
-            return Err(PipeError::SessionsFull);
-        }
+    let Ok(mut desk) = world.desk() else {
+        return Err(PipeError::SessionsFull);
     };
     let mut draw = PcgDraw::new(seed.wrapping_add(Desk::<()>::session(&desk)));
     let end = serve_session(&(), alloc, &mut desk, input, output, clock, &mut draw);
-    let last = desk.close();
-    last.legal();
-    Ok((end, last))
+    Ok((end, desk.close()))
 }
 
 /// One session over the input and the output, at a world of these backends and this log, as the configuration has them. Hands the
@@ -81,7 +75,6 @@ fn serve_one<B: Backend + Drop, S: Store + Drop, I: Source, O: Sink, C: Clock>(
 ///
 /// Where it is refused there was no session, and the input and the output were not touched; want of memory in a session is an end of
 /// its own.
-#[tactic(auto, using(crate::proofs::Unopened::untouched_log))]
 pub fn pipe<B: Backend + Drop, S: Store + Drop, I: Source, O: Sink, C: Clock>(
     alloc: Global,
     conf: Conf,
@@ -96,11 +89,13 @@ pub fn pipe<B: Backend + Drop, S: Store + Drop, I: Source, O: Sink, C: Clock>(
     requires empty { AreEmpty B.tells (map B.told backends) }
     requires none { HaveBegunNone (map B.begun backends) }
     requires disk { S.tells ≡ true → Only (S.held log) (S.may log) }
+    // The last part is of a call in which nothing failed and memory was not wanting.
     ensures served { IfOk result (λ (ending, last). (first : WorldState) × StartsFrom (Found S.tells (S.held log)) (placement_of conf.placement) (map (state_by B.told B.faults B.asks B.login B.arming) backends) first
         × (first.setup ≡ record { names = conf.placement.names; register = conf.accounts }) × (first.cache ≡ empty_cache conf.cache)
-        × (first.recovery_log.faults ≡ S.faults log) × (S.tells ≡ true → KeepsHistory last)
-        × ServesOneSession B.tells conf.seed (C.moment clock.now) (I.left input.old) (I.left input.new) (O.held output.old) (O.held output.new) first ending last) }
-    ensures refused { IfErr result (RefusesPipe S.faults S.held log S.tells (placement_of conf.placement) (map (state_by B.told B.faults B.asks B.login B.arming) backends)) }
+        × ServesOneSession B.tells conf.seed (C.moment clock.now) (I.left input.old) (I.left input.new) (O.held output.old) (O.held output.new) first ending last
+        × (CountsNoFault (I.faults input.old) (I.faults input.new) → CountsNoFault (O.faults output.old) (O.faults output.new) → ending ≢ ends.NoMemory →
+        AnswersInput (λ reply. CountNoFaults (faults_of first.cells) (faults_of last.cells) → BlamesNobody reply) (I.left input.old) (O.held output.old) (O.held output.new) ending)) }
+    ensures refused { IfErr result (RefusesPipe S.faults log S.tells (S.held log) (placement_of conf.placement) (map (state_by B.told B.faults B.asks B.login B.arming) backends)) }
     ensures unserved { OnErr result ((input.new ≡ input.old) × (output.new ≡ output.old)) }
     ensures input { CountsFault (IsOkAnd result (λ (ending, _). ending ≡ ends.ReadFault)) (I.faults input.old) (I.faults input.new) }
     ensures output { CountsFault (IsOkAnd result (λ (ending, _). ending ≡ ends.WriteFault)) (O.faults output.old) (O.faults output.new) }
@@ -132,7 +127,6 @@ fn status_of_session(end: SessionEnd) -> u8
 }
 
 /// The command `pipe` with this configuration and this log, over what it is handed; the answer is the exit status.
-#[tactic(auto, using(crate::proofs::Unopened::untouched_log))]
 pub fn run_pipe<S: Store + Drop, I: Source, O: Sink, C: Clock>(
     alloc: Global,
     conf: Conf,
@@ -143,8 +137,8 @@ pub fn run_pipe<S: Store + Drop, I: Source, O: Sink, C: Clock>(
 ) -> Result<u8, PipeError>
     requires usable { IsUsable conf }
     requires disk { S.tells ≡ true → Only (S.held log) (S.may log) }
-    ensures runs { IfOk result (λ status. RunsPipe (in_memory conf) conf (Found S.tells (S.held log)) (GoesOnIn S.faults S.held S.tells (S.faults log)) (C.moment clock.now) (I.left input.old) (I.left input.new) (O.held output.old) (O.held output.new) status) }
-    ensures refused { IfErr result (RefusesPipe S.faults S.held log S.tells (placement_of conf.placement) (replicate (length conf.placement.names) (new_backend (in_memory conf)))) }
+    ensures runs { IfOk result (λ status. RunsPipe (in_memory conf) conf (Found S.tells (S.held log)) (C.moment clock.now) (I.left input.old) (I.left input.new) (O.held output.old) (O.held output.new) status) }
+    ensures refused { IfErr result (RefusesPipe S.faults log S.tells (S.held log) (placement_of conf.placement) (replicate (length conf.placement.names) (new_backend (in_memory conf)))) }
     ensures unserved { OnErr result ((input.new ≡ input.old) × (output.new ≡ output.old)) }
     ensures input { CountsFault (result ≡ Ok 5) (I.faults input.old) (I.faults input.new) }
     ensures output { CountsFault (result ≡ Ok 6) (O.faults output.old) (O.faults output.new) }
@@ -154,14 +148,13 @@ pub fn run_pipe<S: Store + Drop, I: Source, O: Sink, C: Clock>(
             return Err(PipeError::Start(StartError::NoMemory));
         };
         let (end, world) = pipe(alloc, conf, log, backends, input, output, clock)?;
-        // What is given up shows that no backend has counted a fault, and how the log stands.
-        let _parts = world.into_parts();
+        // What is given up shows that none of them has counted a fault.
+        let _backends = world.into_backends();
         return Ok(status_of_session(end));
     }
     let Ok(backends) = any_backends(alloc, conf.kinds.as_slice()) else {
         return Err(PipeError::Start(StartError::NoMemory));
     };
-    let (end, world) = pipe(alloc, conf, log, backends, input, output, clock)?;
-    let _log = world.into_log();
+    let (end, _world) = pipe(alloc, conf, log, backends, input, output, clock)?;
     Ok(status_of_session(end))
 }

@@ -4,18 +4,14 @@ ghost use Rattle.std.specs.Prelude.{◌≡◌, ◌≢◌, ◌⊎◌, ℕ, List, 
 ghost use Rattle.cj_outside.specs.Causes.{CountsFault, next};
 ghost use Rattle.cj_outside.specs.Stores.{Only};
 ghost use Rattle.cj_conf.specs.Confs.{IsUsable};
-ghost use Rattle.cj_top.specs.Answered.{CountsNoFault};
-ghost use Rattle.cj_top.specs.Completeness.{ByStore, CompletesCommand};
-ghost use Rattle.cj_core.specs.Starts.{LosesNothing};
-ghost use Rattle.cj_records.specs.Records.{WritesOnlyNew};
-ghost use Rattle.cj_top.specs.Configured.{OnlyReads, WritesRefusal};
+ghost use Rattle.cj_top.specs.Completeness.{ByStore, CompletesCommand, CountsNoFault};
+ghost use Rattle.cj_top.specs.Configured.{WritesRefusal};
 ghost use Rattle.cj_top.specs.Listed.{ComesByLog};
-ghost use Rattle.cj_top.specs.Logs.{Found, GoesOnIn, HasFailed, IsOpened, LeavesStore, OpensWell, RefusesLog, StopsAtLog, TellsRefusal};
+ghost use Rattle.cj_top.specs.Logs.{Found, HasFailed, RefusesLog, StopsAtLog, TellsRefusal};
 ghost use Rattle.cj_top.specs.Piped.{ComesByPipe};
 ghost use Rattle.cj_top.specs.Program.{AsksForText, WritesText};
 ghost use Rattle.cj_top.specs.Runs.{ComesBy, HasFewStatements, ReadsNoInput, RunsCommand};
 ghost use Rattle.cj_top.specs.Scripted.{ComesByScript};
-ghost use Rattle.cj_top.specs.Told.{TellsWords};
 ghost use Rattle.cj_words.specs.Words.{Asks, Says};
 ghost use Rattle.cj_words.specs.declared.asked.Asked.{Asked};
 ghost use Rattle.cj_words.specs.declared.asked.Command.{Command};
@@ -26,22 +22,11 @@ use crate::listed::{run_log, status_of_listing};
 use crate::piped::{PipeError, run_pipe};
 use crate::refused::stop_at_log;
 use crate::scripted::run_script;
-use crate::told::{BAD_INPUT, CONF_FAILED, SESSIONS_FULL, USAGE, say};
 use cj_conf::Conf;
 use cj_model::NoMemory;
 use cj_outside::{Clock, Sink, Source, Store, write_all};
 use cj_words::{Asked, Command, help_text, read, version_text};
 use std::alloc::Global;
-
-/// Says why a session ended with status 4, and nothing of another end.
-fn explain_end<E: Sink>(status: u8, errors: &mut E)
-    ensures told { status ≡ 4 → TellsWords (E.held errors.old) (E.held errors.new) (E.faults errors.old) (E.faults errors.new) }
-    ensures quiet { status ≢ 4 → errors.new ≡ errors.old }
-{
-    if status == 4 {
-        say(BAD_INPUT, errors);
-    }
-}
 
 /// The command `pipe`; what stops at the log is told.
 fn pipe_command<S: Store + Drop, I: Source, O: Sink, E: Sink, C: Clock>(
@@ -55,23 +40,17 @@ fn pipe_command<S: Store + Drop, I: Source, O: Sink, E: Sink, C: Clock>(
 ) -> u8
     requires usable { IsUsable conf }
     requires disk { S.tells ≡ true → Only (S.held log) (S.may log) }
-    ensures comes { ComesByPipe conf (Found S.tells (S.held log)) (GoesOnIn S.faults S.held S.tells (S.faults log)) (StopsAtLog (RefusesLog S.faults S.held log S.tells LosesNothing) (TellsRefusal (E.held errors.old) (E.held errors.new) (E.faults errors.old) (E.faults errors.new)) ((input.new ≡ input.old) × (output.new ≡ output.old)))
-        ((input.new ≡ input.old) × (output.new ≡ output.old)) (TellsWords (E.held errors.old) (E.held errors.new) (E.faults errors.old) (E.faults errors.new)) (C.moment clock.now) (I.left input.old) (I.left input.new) (O.held output.old) (O.held output.new) result }
-    ensures quiet { result ≢ 4 → result ≢ 7 → result ≢ 8 → result ≢ 12 → errors.new ≡ errors.old }
+    ensures comes { ComesByPipe conf (Found S.tells (S.held log)) (StopsAtLog (RefusesLog S.faults log S.tells (S.held log)) (TellsRefusal (E.held errors.old) (E.held errors.new) (E.faults errors.old) (E.faults errors.new)) ((input.new ≡ input.old) × (output.new ≡ output.old)))
+        ((input.new ≡ input.old) × (output.new ≡ output.old) × (errors.new ≡ errors.old)) (C.moment clock.now) (I.left input.old) (I.left input.new) (O.held output.old) (O.held output.new) result }
+    ensures quiet { result ≢ 8 → errors.new ≡ errors.old }
     ensures log { (result ≡ 7) × HasFailed S.faults log ⊎ (result ≢ 7) }
     ensures input { CountsFault (result ≡ 5) (I.faults input.old) (I.faults input.new) }
     ensures output { CountsFault (result ≡ 6) (O.faults output.old) (O.faults output.new) }
 {
     match run_pipe(alloc, conf, log, input, output, clock) {
-        Ok(status) => {
-            explain_end(status, errors);
-            status
-        }
+        Ok(status) => status,
         Err(PipeError::Start(error)) => stop_at_log(alloc, error, errors),
-        Err(PipeError::SessionsFull) => {
-            say(SESSIONS_FULL, errors);
-            12
-        }
+        Err(PipeError::SessionsFull) => 12,
     }
 }
 
@@ -86,9 +65,9 @@ fn script_command<S: Store + Drop, I: Source, O: Sink, E: Sink>(
 ) -> u8
     requires usable { IsUsable conf }
     requires disk { S.tells ≡ true → Only (S.held log) (S.may log) }
-    ensures comes { ComesByScript conf (Found S.tells (S.held log)) (GoesOnIn S.faults S.held S.tells (S.faults log)) (StopsAtLog (RefusesLog S.faults S.held log S.tells LosesNothing) (TellsRefusal (E.held errors.old) (E.held errors.new) (E.faults errors.old) (E.faults errors.new)) ((input.new ≡ input.old) × (output.new ≡ output.old)))
+    ensures comes { ComesByScript conf (Found S.tells (S.held log)) (StopsAtLog (RefusesLog S.faults log S.tells (S.held log)) (TellsRefusal (E.held errors.old) (E.held errors.new) (E.faults errors.old) (E.faults errors.new)) ((input.new ≡ input.old) × (output.new ≡ output.old)))
         (I.left input.old) (I.left input.new) (O.held output.old) (O.held output.new) (E.held errors.old) (E.held errors.new) (E.faults errors.old) (E.faults errors.new) result }
-    ensures quiet { result ≢ 7 → result ≢ 8 → result ≢ 10 → errors.new ≡ errors.old }
+    ensures quiet { result ≢ 8 → result ≢ 10 → errors.new ≡ errors.old }
     ensures log { (result ≡ 7) × HasFailed S.faults log ⊎ (result ≢ 7) }
     ensures input { CountsFault (result ≡ 5) (I.faults input.old) (I.faults input.new) }
     ensures output { CountsFault (result ≡ 6) (O.faults output.old) (O.faults output.new) }
@@ -108,8 +87,8 @@ fn log_command<S: Store + Drop, O: Sink, E: Sink>(
     errors: &mut E,
 ) -> u8
     requires { S.tells ≡ true → Only (S.held log) (S.may log) }
-    ensures comes { ComesByLog conf (Found S.tells (S.held log)) (LeavesStore S.faults S.held S.tells log (S.faults log) IsOpened) (StopsAtLog (RefusesLog S.faults S.held log S.tells WritesOnlyNew) (TellsRefusal (E.held errors.old) (E.held errors.new) (E.faults errors.old) (E.faults errors.new)) (output.new ≡ output.old)) (O.held output.old) (O.held output.new) result }
-    ensures quiet { result ≢ 7 → result ≢ 8 → errors.new ≡ errors.old }
+    ensures comes { ComesByLog conf (Found S.tells (S.held log)) (StopsAtLog (RefusesLog S.faults log S.tells (S.held log)) (TellsRefusal (E.held errors.old) (E.held errors.new) (E.faults errors.old) (E.faults errors.new)) (output.new ≡ output.old)) (O.held output.old) (O.held output.new) result }
+    ensures quiet { result ≢ 8 → errors.new ≡ errors.old }
     ensures log { (result ≡ 7) × HasFailed S.faults log ⊎ (result ≢ 7) }
     ensures output { CountsFault (result ≡ 6) (O.faults output.old) (O.faults output.new) }
     ensures no_input_fault { result ≢ 5 }
@@ -134,11 +113,10 @@ fn run_configured<S: Store + Drop, I: Source, O: Sink, E: Sink, C: Clock>(
     requires usable { IsUsable conf }
     requires few { HasFewStatements command }
     requires disk { S.tells ≡ true → Only (S.held log) (S.may log) }
-    ensures comes { ComesBy command conf (Found S.tells (S.held log)) (GoesOnIn S.faults S.held S.tells (S.faults log)) (LeavesStore S.faults S.held S.tells log (S.faults log) IsOpened)
-        (λ becomes. StopsAtLog (RefusesLog S.faults S.held log S.tells becomes) (TellsRefusal (E.held errors.old) (E.held errors.new) (E.faults errors.old) (E.faults errors.new)) ((input.new ≡ input.old) × (output.new ≡ output.old)))
-        ((input.new ≡ input.old) × (output.new ≡ output.old)) (TellsWords (E.held errors.old) (E.held errors.new) (E.faults errors.old) (E.faults errors.new)) ((input.new ≡ input.old) × (output.new ≡ output.old) × (errors.new ≡ errors.old)) (C.moment clock.now) (I.left input.old) (I.left input.new) (O.held output.old) (O.held output.new) (E.held errors.old) (E.held errors.new) (E.faults errors.old) (E.faults errors.new) result }
+    ensures comes { ComesBy command conf (Found S.tells (S.held log)) (StopsAtLog (RefusesLog S.faults log S.tells (S.held log)) (TellsRefusal (E.held errors.old) (E.held errors.new) (E.faults errors.old) (E.faults errors.new)) ((input.new ≡ input.old) × (output.new ≡ output.old)))
+        ((input.new ≡ input.old) × (output.new ≡ output.old) × (errors.new ≡ errors.old)) (C.moment clock.now) (I.left input.old) (I.left input.new) (O.held output.old) (O.held output.new) (E.held errors.old) (E.held errors.new) (E.faults errors.old) (E.faults errors.new) result }
     ensures unread { ReadsNoInput command → input.new ≡ input.old }
-    ensures quiet { result ≢ 4 → result ≢ 7 → result ≢ 8 → result ≢ 10 → result ≢ 12 → errors.new ≡ errors.old }
+    ensures quiet { result ≢ 8 → result ≢ 10 → errors.new ≡ errors.old }
     ensures log { (result ≡ 7) × HasFailed S.faults log ⊎ (result ≢ 7) }
     ensures input { CountsFault (result ≡ 5) (I.faults input.old) (I.faults input.new) }
     ensures output { CountsFault (result ≡ 6) (O.faults output.old) (O.faults output.new) }
@@ -164,26 +142,20 @@ fn run_command<F: Store, S: Store + Drop, I: Source, O: Sink, E: Sink, C: Clock>
 ) -> u8
     requires few { HasFewStatements command }
     requires disk { S.tells ≡ true → Only (S.held log) (S.may log) }
-    ensures runs { RunsCommand F.tells (F.held conf.old) (WritesRefusal (E.held errors.old) (E.held errors.new) (E.faults errors.old) (E.faults errors.new)) ((input.new ≡ input.old) × (output.new ≡ output.old)) (TellsWords (E.held errors.old) (E.held errors.new) (E.faults errors.old) (E.faults errors.new)) ((input.new ≡ input.old) × (output.new ≡ output.old) × (errors.new ≡ errors.old))
-        (λ c. ComesBy command c (Found S.tells (S.held log)) (GoesOnIn S.faults S.held S.tells (S.faults log)) (LeavesStore S.faults S.held S.tells log (S.faults log) IsOpened)
-        (λ becomes. StopsAtLog (RefusesLog S.faults S.held log S.tells becomes) (TellsRefusal (E.held errors.old) (E.held errors.new) (E.faults errors.old) (E.faults errors.new)) ((input.new ≡ input.old) × (output.new ≡ output.old)))
-        ((input.new ≡ input.old) × (output.new ≡ output.old)) (TellsWords (E.held errors.old) (E.held errors.new) (E.faults errors.old) (E.faults errors.new)) ((input.new ≡ input.old) × (output.new ≡ output.old) × (errors.new ≡ errors.old)) (C.moment clock.now) (I.left input.old) (I.left input.new) (O.held output.old) (O.held output.new) (E.held errors.old) (E.held errors.new) (E.faults errors.old) (E.faults errors.new) result) result }
+    ensures runs { RunsCommand F.tells (F.held conf.old) (WritesRefusal (E.held errors.old) (E.held errors.new) (E.faults errors.old) (E.faults errors.new)) ((input.new ≡ input.old) × (output.new ≡ output.old)) ((input.new ≡ input.old) × (output.new ≡ output.old) × (errors.new ≡ errors.old))
+        (λ c. ComesBy command c (Found S.tells (S.held log)) (StopsAtLog (RefusesLog S.faults log S.tells (S.held log)) (TellsRefusal (E.held errors.old) (E.held errors.new) (E.faults errors.old) (E.faults errors.new)) ((input.new ≡ input.old) × (output.new ≡ output.old)))
+        ((input.new ≡ input.old) × (output.new ≡ output.old) × (errors.new ≡ errors.old)) (C.moment clock.now) (I.left input.old) (I.left input.new) (O.held output.old) (O.held output.new) (E.held errors.old) (E.held errors.new) (E.faults errors.old) (E.faults errors.new) result) result }
     ensures unread { ReadsNoInput command → input.new ≡ input.old }
-    ensures quiet { result ≢ 3 → result ≢ 4 → result ≢ 7 → result ≢ 8 → result ≢ 10 → result ≢ 12 → errors.new ≡ errors.old }
-    ensures conf { OnlyReads F.tells F.held F.moment F.may F.since conf.old conf.new }
+    ensures quiet { result ≢ 3 → result ≢ 8 → result ≢ 10 → errors.new ≡ errors.old }
     ensures stores { (result ≡ 7) × (F.faults conf.new ≡ next (F.faults conf.old)) ⊎ (result ≡ 7) × HasFailed S.faults log × (F.faults conf.new ≡ F.faults conf.old) ⊎ (result ≢ 7) × (F.faults conf.new ≡ F.faults conf.old) }
     ensures input { CountsFault (result ≡ 5) (I.faults input.old) (I.faults input.new) }
     ensures output { CountsFault (result ≡ 6) (O.faults output.old) (O.faults output.new) }
-    ensures opened { OpensWell S.tells (S.held log) result }
     ensures complete { CountsNoFault (F.faults conf.old) (F.faults conf.new) → CountsNoFault (I.faults input.old) (I.faults input.new) → CountsNoFault (O.faults output.old) (O.faults output.new) → result ≢ 1 → result ≢ 7 → result ≢ 8 → result ≢ 12 →
         ByStore F.tells (F.held conf.old) (CompletesCommand command (I.left input.old) (O.held output.old) (O.held output.new) result) result }
 {
     let configured = match conf_of(alloc, conf) {
         Ok(configured) => configured,
-        Err(Unconfigured::Failed) => {
-            say(CONF_FAILED, errors);
-            return 7;
-        }
+        Err(Unconfigured::Failed) => return 7,
         Err(Unconfigured::NoMemory) => return 1,
         Err(Unconfigured::Refused(error)) => {
             tell_refusal(alloc, &error, errors);
@@ -226,10 +198,7 @@ fn write_text<O: Sink>(text: Result<String, NoMemory>, output: &mut O) -> u8
 /// Of all, 3 where the configuration is refused, which is then told to `errors` where that can be done; 5 and 6 where the
 /// input and the output failed, 7 where the configuration's store or the log's did, 11 where 2^62 bytes were taken, 1 for want of memory.
 /// `--help`, alone or behind the word of a command, and `--version` write their text: 0 where it was written whole.
-/// With other words the answer is 2, and nothing else is touched.
-///
-/// At the statuses 2, 3, 4, 7, 8, 10 and 12 the errors are told why in words, where that can be done.
-#[tactic(auto, using(crate::proofs::StoresKept::untouched))]
+/// With other words the answer is 2, and nothing is touched.
 pub fn run<F: Store, S: Store + Drop, I: Source, O: Sink, E: Sink, C: Clock>(
     alloc: Global,
     words: &[String],
@@ -242,24 +211,19 @@ pub fn run<F: Store, S: Store + Drop, I: Source, O: Sink, E: Sink, C: Clock>(
 ) -> u8
     requires { S.tells ≡ true → Only (S.held log) (S.may log) }
     ensures runs { (command : Command) → Says (map string_bytes words.now) command → RunsCommand F.tells (F.held conf.old)
-        (WritesRefusal (E.held errors.old) (E.held errors.new) (E.faults errors.old) (E.faults errors.new)) ((input.new ≡ input.old) × (output.new ≡ output.old)) (TellsWords (E.held errors.old) (E.held errors.new) (E.faults errors.old) (E.faults errors.new)) ((input.new ≡ input.old) × (output.new ≡ output.old) × (errors.new ≡ errors.old))
-        (λ c. ComesBy command c (Found S.tells (S.held log)) (GoesOnIn S.faults S.held S.tells (S.faults log)) (LeavesStore S.faults S.held S.tells log (S.faults log) IsOpened)
-        (λ becomes. StopsAtLog (RefusesLog S.faults S.held log S.tells becomes) (TellsRefusal (E.held errors.old) (E.held errors.new) (E.faults errors.old) (E.faults errors.new)) ((input.new ≡ input.old) × (output.new ≡ output.old)))
-        ((input.new ≡ input.old) × (output.new ≡ output.old)) (TellsWords (E.held errors.old) (E.held errors.new) (E.faults errors.old) (E.faults errors.new)) ((input.new ≡ input.old) × (output.new ≡ output.old) × (errors.new ≡ errors.old)) (C.moment clock.now) (I.left input.old) (I.left input.new) (O.held output.old) (O.held output.new) (E.held errors.old) (E.held errors.new) (E.faults errors.old) (E.faults errors.new) result) result }
+        (WritesRefusal (E.held errors.old) (E.held errors.new) (E.faults errors.old) (E.faults errors.new)) ((input.new ≡ input.old) × (output.new ≡ output.old)) ((input.new ≡ input.old) × (output.new ≡ output.old) × (errors.new ≡ errors.old))
+        (λ c. ComesBy command c (Found S.tells (S.held log)) (StopsAtLog (RefusesLog S.faults log S.tells (S.held log)) (TellsRefusal (E.held errors.old) (E.held errors.new) (E.faults errors.old) (E.faults errors.new)) ((input.new ≡ input.old) × (output.new ≡ output.old)))
+        ((input.new ≡ input.old) × (output.new ≡ output.old) × (errors.new ≡ errors.old)) (C.moment clock.now) (I.left input.old) (I.left input.new) (O.held output.old) (O.held output.new) (E.held errors.old) (E.held errors.new) (E.faults errors.old) (E.faults errors.new) result) result }
     ensures unread { (command : Command) → Says (map string_bytes words.now) command → ReadsNoInput command → input.new ≡ input.old }
     ensures text { AsksForText (map string_bytes words.now) → WritesText (O.held output.old) (O.held output.new) result × (conf.new ≡ conf.old) × (input.new ≡ input.old) × (errors.new ≡ errors.old) }
-    ensures other { ((asked : Asked) → Asks (map string_bytes words.now) asked → ⊥) → (result ≡ 2) × (conf.new ≡ conf.old) × (input.new ≡ input.old) × (output.new ≡ output.old) × TellsWords (E.held errors.old) (E.held errors.new) (E.faults errors.old) (E.faults errors.new) }
-    ensures quiet { result ≢ 2 → result ≢ 3 → result ≢ 4 → result ≢ 7 → result ≢ 8 → result ≢ 10 → result ≢ 12 → errors.new ≡ errors.old }
-    ensures conf { OnlyReads F.tells F.held F.moment F.may F.since conf.old conf.new }
+    ensures other { ((asked : Asked) → Asks (map string_bytes words.now) asked → ⊥) → (result ≡ 2) × (conf.new ≡ conf.old) × (input.new ≡ input.old) × (output.new ≡ output.old) × (errors.new ≡ errors.old) }
+    ensures quiet { result ≢ 3 → result ≢ 8 → result ≢ 10 → errors.new ≡ errors.old }
 
     // Each counted a fault exactly where its status says so: 7 is that of the configuration's store and of the log's. What the errors counted
-    // at the statuses at which they are told something is above.
+    // at 3, 8 and 10 is above.
     ensures stores { (result ≡ 7) × (F.faults conf.new ≡ next (F.faults conf.old)) ⊎ (result ≡ 7) × HasFailed S.faults log × (F.faults conf.new ≡ F.faults conf.old) ⊎ (result ≢ 7) × (F.faults conf.new ≡ F.faults conf.old) }
     ensures input { CountsFault (result ≡ 5) (I.faults input.old) (I.faults input.new) }
     ensures output { CountsFault (result ≡ 6) (O.faults output.old) (O.faults output.new) }
-
-    // A log that opens stops no command, and where it leaves a number for a session one is opened.
-    ensures opened { (command : Command) → Says (map string_bytes words.now) command → OpensWell S.tells (S.held log) result }
 
     // Where none of them did, the log was opened and a session can be, and memory was not wanting, the bytes of the configuration and of
     // the input fix the status.
@@ -272,10 +236,7 @@ pub fn run<F: Store, S: Store + Drop, I: Source, O: Sink, E: Sink, C: Clock>(
         }
         Ok(Some(Asked::Help(topic))) => write_text(help_text(alloc, topic), output),
         Ok(Some(Asked::Version)) => write_text(version_text(alloc), output),
-        Ok(None) => {
-            say(USAGE, errors);
-            2
-        }
+        Ok(None) => 2,
         Err(NoMemory) => 1,
     }
 }

@@ -8,14 +8,11 @@ use Rattle.cj_cases.specs.declared.runner.Outcome.{Outcome}
 use Rattle.cj_words.specs.Words.{Asks, Says}
 use Rattle.cj_words.specs.declared.asked.Asked.{Asked}
 use Rattle.cj_words.specs.declared.asked.Command.{Command}
-use Rattle.cj_outside.specs.Stores.{no_image, no_moment, no_past}
-use Rattle.cj_top.specs.Answered.{CountsNoFault}
-use Rattle.cj_top.specs.Completeness.{ByStore, CompletesCommand}
-use Rattle.cj_top.specs.Configured.{OnlyReads, WritesRefusal}
-use Rattle.cj_top.specs.Logs.{Found, GoesOnIn, HasFailed, IsOpened, LeavesStore, OpensWell, RefusesLog, StopsAtLog, TellsRefusal}
+use Rattle.cj_top.specs.Completeness.{ByStore, CompletesCommand, CountsNoFault}
+use Rattle.cj_top.specs.Configured.{WritesRefusal}
+use Rattle.cj_top.specs.Logs.{Found, HasFailed, RefusesLog, StopsAtLog, TellsRefusal}
 use Rattle.cj_top.specs.Program.{AsksForText, WritesText}
 use Rattle.cj_top.specs.Runs.{ComesBy, ReadsNoInput, RunsCommand}
-use Rattle.cj_top.specs.Told.{TellsWords}
 use Rattle.cjc_cases.specs.declared.program.Objects.{Objects}
 use Rattle.cjc_cases.specs.declared.program.TheConstants.{MOMENT}
 
@@ -40,28 +37,21 @@ AreIdle a z = (z.input ≡ a.input) × (z.output ≡ a.output)
 abbrev pub AreQuiet : Objects → Objects → Type 0
 AreQuiet a z = (z.input ≡ a.input) × (z.output ≡ a.output) × (z.errors ≡ a.errors)
 
--- how a command stops at its log, and what is made of its bytes then
-abbrev pub StopsAt : State → Objects → Objects → (List ℕ → List ℕ → Type 0) → ℕ → Type 0
-StopsAt log a z becomes = StopsAtLog (RefusesLog (λ s. s.faults) (λ s. s.bytes) log true becomes) (TellsRefusal (Some a.errors.bytes) (Some z.errors.bytes) a.errors.faults z.errors.faults) (AreIdle a z)
-
--- the errors were told in words
-abbrev pub AreTold : Objects → Objects → Type 0
-AreTold a z = TellsWords (Some a.errors.bytes) (Some z.errors.bytes) a.errors.faults z.errors.faults
+-- how a command stops at its log
+abbrev pub StopsAt : State → Objects → Objects → ℕ → Type 0
+StopsAt log a z = StopsAtLog (RefusesLog (λ s. s.faults) log true log.bytes) (TellsRefusal (Some a.errors.bytes) (Some z.errors.bytes) a.errors.faults z.errors.faults) (AreIdle a z)
 
 -- All that `run` of `cj_top` promises of a run with these words, over this log and these objects at this moment, that ends with this status.
 pub record KeepsPromises (words : List (List ℕ)) (log : State) (moment : ℤ) (a z : Objects) (status : ℕ) : Type 0 where
-  pub runs : (command : Command) → Says words command → RunsCommand true a.configuration.bytes (WritesRefusal (Some a.errors.bytes) (Some z.errors.bytes) a.errors.faults z.errors.faults) (AreIdle a z) (AreTold a z) (AreQuiet a z)
-      (λ c. ComesBy command c (Found true log.bytes) (GoesOnIn {S = State} (λ s. s.faults) (λ s. s.bytes) true log.faults) (LeavesStore (λ s. s.faults) (λ s. s.bytes) true log log.faults IsOpened) (StopsAt log a z) (AreIdle a z) (AreTold a z) (AreQuiet a z)
-      (Some moment) (Some a.input.bytes) (Some z.input.bytes) (Some a.output.bytes) (Some z.output.bytes) (Some a.errors.bytes) (Some z.errors.bytes) a.errors.faults z.errors.faults status) status
+  pub runs : (command : Command) → Says words command → RunsCommand true a.configuration.bytes (WritesRefusal (Some a.errors.bytes) (Some z.errors.bytes) a.errors.faults z.errors.faults) (AreIdle a z) (AreQuiet a z)
+      (λ c. ComesBy command c (Found true log.bytes) (StopsAt log a z) (AreQuiet a z) (Some moment) (Some a.input.bytes) (Some z.input.bytes) (Some a.output.bytes) (Some z.output.bytes) (Some a.errors.bytes) (Some z.errors.bytes) a.errors.faults z.errors.faults status) status
   pub unread : (command : Command) → Says words command → ReadsNoInput command → z.input ≡ a.input
   pub text : AsksForText words → WritesText (Some a.output.bytes) (Some z.output.bytes) status × (z.configuration ≡ a.configuration) × (z.input ≡ a.input) × (z.errors ≡ a.errors)
-  pub other : ((asked : Asked) → Asks words asked → ⊥) → (status ≡ 2) × (z.configuration ≡ a.configuration) × (z.input ≡ a.input) × (z.output ≡ a.output) × AreTold a z
-  pub quiet : status ≢ 2 → status ≢ 3 → status ≢ 4 → status ≢ 7 → status ≢ 8 → status ≢ 10 → status ≢ 12 → z.errors ≡ a.errors
-  pub configuration : OnlyReads true (λ (s : State). s.bytes) no_moment no_image no_past a.configuration z.configuration
+  pub other : ((asked : Asked) → Asks words asked → ⊥) → (status ≡ 2) × (z.configuration ≡ a.configuration) × (z.input ≡ a.input) × (z.output ≡ a.output) × (z.errors ≡ a.errors)
+  pub quiet : status ≢ 3 → status ≢ 8 → status ≢ 10 → z.errors ≡ a.errors
   pub stores : (status ≡ 7) × (z.configuration.faults ≡ next a.configuration.faults) ⊎ (status ≡ 7) × HasFailed (λ s. s.faults) log × (z.configuration.faults ≡ a.configuration.faults) ⊎ (status ≢ 7) × (z.configuration.faults ≡ a.configuration.faults)
   pub input : CountsFault (status ≡ 5) a.input.faults z.input.faults
   pub output : CountsFault (status ≡ 6) a.output.faults z.output.faults
-  pub opened : (command : Command) → Says words command → OpensWell true log.bytes status
   pub complete : (command : Command) → Says words command → CountsNoFault a.configuration.faults z.configuration.faults → CountsNoFault a.input.faults z.input.faults → CountsNoFault a.output.faults z.output.faults → status ≢ 1 → status ≢ 7 → status ≢ 8 → status ≢ 12 →
       ByStore true a.configuration.bytes (CompletesCommand command (Some a.input.bytes) (Some a.output.bytes) (Some z.output.bytes) status) status
 

@@ -1,6 +1,5 @@
-use Rattle.std.proofs.Common.{◌≡◌, ℕ, Result, Ok, Err, map, refl, sym, true, ◌∙◌, subst}
-use Rattle.std.specs.Prelude.{OnErr}
-use Rattle.cj_top.proofs.Cited.{Found, GoesOnIn, IfErr, IfOk, KeepsHistory, Layout, PipeError, RefusesPipe, Register, SessionEnd, StartsFrom, WorldState, placement_of, refuses_log, state_by}
+use Rattle.std.proofs.Common.{◌≡◌, Result, Ok, Err, map, refl, sym, ◌∙◌, subst}
+use Rattle.cj_top.proofs.Cited.{Found, IfErr, IfOk, IsOkAnd, Layout, PipeError, RefusesPipe, Register, SessionEnd, StartsFrom, WorldState, not_failed, pipe_answers, placement_of, refuses_log, state_by}
 use Rattle.cj_top.proofs.piped.pipe.Goals as goal
 
 -- what is promised of a session that was served
@@ -9,9 +8,13 @@ served_at : {A : SessionEnd → WorldState → Type 0} {B : SessionEnd → World
 served_at (Ok (ending, last)) a gives = gives ending last refl a
 served_at (Err e) a gives = tt
 
-refused_at : {A B : PipeError → Type 0} {P : Type 0} (r : Result (SessionEnd × WorldState) PipeError) → IfErr r A → OnErr r P → ((e : PipeError) → A e → P → B e) → IfErr r B
-refused_at (Ok x) a p gives = tt
-refused_at (Err e) a p gives = gives e a p
+-- an end that was come to
+ended_so : (r : Result (SessionEnd × WorldState) PipeError) (ending : SessionEnd) (last : WorldState) (end : SessionEnd) → r ≡ Ok (ending, last) → ending ≡ end → IsOkAnd r (λ (x : SessionEnd × WorldState). x.0 ≡ end)
+ended_so r ending last end is e = subst (λ (q : Result (SessionEnd × WorldState) PipeError). IsOkAnd q (λ (x : SessionEnd × WorldState). x.0 ≡ end)) (sym is) e
+
+refused_at : {A B : PipeError → Type 0} (r : Result (SessionEnd × WorldState) PipeError) → IfErr r A → ((e : PipeError) → A e → B e) → IfErr r B
+refused_at (Ok x) a gives = tt
+refused_at (Err e) a gives = gives e a
 
 pub returns-in-Err-clause-refused : goal.returns-in-Err-clause-refused
 returns-in-Err-clause-refused g c =
@@ -38,17 +41,17 @@ returns-clause-served g c =
       starts,
       setup,
       c.in-Ok-start.ensures.cache ∙ c.in-Ok.ensures.cache,
-      c.in-Ok-start.ensures.cause,
-      subst (λ (q : Result (SessionEnd × WorldState) PipeError). IfOk q (λ (x : SessionEnd × WorldState). g.S.Store.tells ≡ true → KeepsHistory x.1)) is c.serve_one.ensures.logged,
       serves,
+      λ input output memory.
+          pipe_answers g.B.Backend.tells c.args.conf.seed (g.C.Clock.moment c.args.clock.now) (g.I.Source.left c.args.input.now) (g.I.Source.left c.serve_one.new.input) (g.O.Sink.held c.args.output.now) (g.O.Sink.held c.serve_one.new.output) first last ending serves
+          (λ e. not_failed _ _ _ c.serve_one.ensures.input input (ended_so c.serve_one.result ending last _ is e)) (λ e. not_failed _ _ _ c.serve_one.ensures.output output (ended_so c.serve_one.result ending last _ is e)) memory,
     ))
 
 pub returns-clause-refused : goal.returns-clause-refused
 returns-clause-refused g c =
-    let s = g.S.Store in
     let first : WorldState = c.in-Ok-start.world in
-    let starts = subst (λ (l : Layout). StartsFrom (Found s.tells (s.held c.args.log)) (placement_of l) (map (state_by g.B.Backend.told g.B.Backend.faults g.B.Backend.asks g.B.Backend.login g.B.Backend.arming) c.args.backends) first) c.in-Ok.ensures.placement c.in-Ok-start.ensures.started in
-    refused_at c.serve_one.result c.serve_one.ensures.full c.serve_one.ensures.full_log
-    (λ e full log.
-    subst (RefusesPipe s.faults s.held c.args.log s.tells (placement_of c.args.conf.placement) (map (state_by g.B.Backend.told g.B.Backend.faults g.B.Backend.asks g.B.Backend.login g.B.Backend.arming) c.args.backends)) (sym full.0)
-    (record { first = first; starts = starts; last_given = full.1; log = subst (λ (n : ℕ). GoesOnIn s.faults s.held s.tells n first first) c.in-Ok-start.ensures.cause log }))
+    let starts = subst (λ (l : Layout). StartsFrom (Found g.S.Store.tells (g.S.Store.held c.args.log)) (placement_of l) (map (state_by g.B.Backend.told g.B.Backend.faults g.B.Backend.asks g.B.Backend.login g.B.Backend.arming) c.args.backends) first) c.in-Ok.ensures.placement c.in-Ok-start.ensures.started in
+    refused_at c.serve_one.result c.serve_one.ensures.full
+    (λ e full.
+    subst (RefusesPipe g.S.Store.faults c.args.log g.S.Store.tells (g.S.Store.held c.args.log) (placement_of c.args.conf.placement) (map (state_by g.B.Backend.told g.B.Backend.faults g.B.Backend.asks g.B.Backend.login g.B.Backend.arming) c.args.backends)) (sym full.0)
+    (record { first = first; starts = starts; last_given = full.1 }))

@@ -1,5 +1,5 @@
-use Rattle.std.proofs.Common.{◌≡◌, ◌+◌, ◌%◌, ◌^◌, ◌≤◌, ℕ, All, None, get_or, sum, ap, refl, sym, ◌∙◌, subst, arith}
-use Rattle.cj_top.proofs.Cited.{BlamesNobody, CanCountMore, GoesOnIn, answers_whole, Lcg, ServesSession, SoloState, WorldState, client_state, desk_of, desk_tx, faults_of, generator_after, generator_of, log, of_generator, opened_at, quiet_session, seeded, session_grows, solo_setting, transcript_chained, tx_of_unknown}
+use Rattle.std.proofs.Common.{◌≡◌, ◌+◌, ◌%◌, ◌^◌, ◌≤◌, ℕ, None, get_or, sum, ap, sym, ◌∙◌, subst, arith}
+use Rattle.cj_top.proofs.Cited.{Lcg, ServesSession, SoloState, WorldState, client_state, desk_of, desk_tx, faults_of, generator_after, generator_of, log, of_generator, opened_at, quiet_session, seeded, session_grows, solo_setting, transcript_chained, tx_of_unknown}
 use Rattle.cj_top.proofs.piped.serve_one.Goals as goal
 
 pub serve_session-end-requires-clause-closed : goal.serve_session-end-requires-clause-closed
@@ -7,18 +7,6 @@ serve_session-end-requires-clause-closed g c =
     let core = c.args.world.core in
     subst (λ (d : SoloState). desk_tx (desk_of d) ≡ 0) (sym c.in-Ok.ensures.opened)
     (tx_of_unknown (core.greatest + 1) (log core.history) (λ k d lt. let le = c.legal.ensures.world.sound.known k d lt in omega (arith, le)))
-
-pub returns-in-Err-clause-full_log : goal.returns-in-Err-clause-full_log
-returns-in-Err-clause-full_log g c =
-    let log = c.into_log-log in
-    let same = c.in-Err.ensures.full.2 in
-    record {
-      began = refl;
-      after = log.result;
-      counted = log.ensures.faults ∙ ap (λ (w : WorldState). w.recovery_log.faults) same;
-      bytes = log.ensures.bytes ∙ ap (λ (w : WorldState). w.recovery_log.bytes) same;
-      kept = c.legal.ensures.logged;
-    }
 
 pub returns-clause-serves : goal.returns-clause-serves
 returns-clause-serves g c =
@@ -37,12 +25,6 @@ returns-clause-serves g c =
     subst (λ (d : Lcg). ServesSession (solo_setting tells moment) (g.I.Source.left c.args.input.now) (g.I.Source.left end.new.input) (g.O.Sink.held c.args.output.now) (g.O.Sink.held end.new.output) (client_state None (opened_at c.args.world) d) end.result end.new.desk end.new.draw)
     draw from_desk
     in
-    let last : WorldState = c.close-last.result in
-    let blameless : sum (faults_of last.cells) ≡ sum (faults_of c.args.world.cells) → CanCountMore (faults_of c.args.world.cells) → All BlamesNobody served.transcript.replies =
-    λ same small.
-    quiet_session tells of_generator (λ generator n. generator_after generator) moment (client_state None (opened_at c.args.world) (generator_of c.args.seed (c.args.world.core.greatest + 1))) served.taken
-    served.written end.result end.new.desk end.new.draw served.transcript (sym (ap (λ (w : WorldState). sum (faults_of w.cells)) c.close-last.ensures) ∙ same) small
-    in
     record {
       desk = end.new.desk;
       draws = end.new.draw;
@@ -50,14 +32,14 @@ returns-clause-serves g c =
       turns =
           transcript_chained (solo_setting tells moment) tells (λ a x z h. h.0) (client_state None (opened_at c.args.world) (generator_of c.args.seed (c.args.world.core.greatest + 1))) served.taken served.written end.result
           end.new.desk end.new.draw served.transcript;
-      blameless = blameless;
-      closed = c.close-last.ensures;
-      answers =
-          λ read write memory.
-          answers_whole tells c.args.seed moment (g.I.Source.left c.args.input.now) (g.I.Source.left end.new.input) (g.O.Sink.held c.args.output.now) (g.O.Sink.held end.new.output) c.args.world last end.result end.new.desk end.new.draw served blameless read write memory;
+      blameless =
+          λ same small.
+          quiet_session tells of_generator (λ generator n. generator_after generator) moment (client_state None (opened_at c.args.world) (generator_of c.args.seed (c.args.world.core.greatest + 1))) served.taken
+          served.written end.result end.new.desk end.new.draw served.transcript (sym (ap (λ (w : WorldState). sum (faults_of w.cells)) c.close.ensures) ∙ same) small;
+      closed = c.close.ensures;
       grown =
           λ small k.
-          subst (λ (w : WorldState). get_or (faults_of c.args.world.cells) k 0 ≤ get_or (faults_of w.cells) k 0) (sym c.close-last.ensures)
+          subst (λ (w : WorldState). get_or (faults_of c.args.world.cells) k 0 ≤ get_or (faults_of w.cells) k 0) (sym c.close.ensures)
           (session_grows tells of_generator (λ generator n. generator_after generator) moment (client_state None (opened_at c.args.world) (generator_of c.args.seed (c.args.world.core.greatest + 1))) served.taken
           served.written end.result end.new.desk end.new.draw served.transcript small k);
     }

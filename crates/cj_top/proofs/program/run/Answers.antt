@@ -2,7 +2,6 @@ use Rattle.std.proofs.Common.{◌≡◌, Some, map}
 use Rattle.std.specs.Prelude.{string_bytes}
 use Rattle.cj_words.specs.declared.asked.Asked.TheVariants as asked
 use Rattle.cj_top.proofs.AskedWords.{asks_for_no_text, asks_nothing, few_said, help_is_no_command, is_no_text, of_command, version_is_no_command}
-use Rattle.cj_top.proofs.Cited.{opens_else}
 use Rattle.cj_top.proofs.program.run.Goals as goal
 
 pub run_command-requires-clause-few : goal.run_command-requires-clause-few
@@ -90,25 +89,3 @@ returns-in-Ok-None-clause-complete g c command says =
 
 pub returns-in-Err-clause-other : goal.returns-in-Err-clause-other
 returns-in-Err-clause-other g c none = let said = c.in-Err.ensures.memory in absurd (none (asked.Command said.0) said.1)
-
-pub returns-in-Ok-Some-Command-clause-opened : goal.returns-in-Ok-Some-Command-clause-opened
-returns-in-Ok-Some-Command-clause-opened g c command says = c.run_command.ensures.opened
-
-pub returns-in-Ok-Some-Help-clause-opened : goal.returns-in-Ok-Some-Help-clause-opened
-returns-in-Ok-Some-Help-clause-opened g c command says =
-    let r = c.in-Ok-Some-Help in
-    let is : r.field-0 ≡ Some (asked.Help r.topic) = cc (r.field-0-is, r.field-0-0-is) in
-    absurd (help_is_no_command (map string_bytes c.args.words.now) r.field-0 r.ensures.found r.topic command is says)
-
-pub returns-in-Ok-Some-Version-clause-opened : goal.returns-in-Ok-Some-Version-clause-opened
-returns-in-Ok-Some-Version-clause-opened g c command says =
-    let r = c.in-Ok-Some-Version in
-    let is : r.field-0 ≡ Some asked.Version = cc (r.field-0-is, r.field-0-0-is) in
-    absurd (version_is_no_command (map string_bytes c.args.words.now) r.field-0 r.ensures.found command is says)
-
-pub returns-in-Ok-None-clause-opened : goal.returns-in-Ok-None-clause-opened
-returns-in-Ok-None-clause-opened g c command says =
-    absurd (asks_nothing (map string_bytes c.args.words.now) c.in-Ok-None.field-0 c.in-Ok-None.ensures.found c.in-Ok-None.field-0-is (asked.Command command) says)
-
-pub returns-in-Err-clause-opened : goal.returns-in-Err-clause-opened
-returns-in-Err-clause-opened g c command says = opens_else g.S.Store.tells (g.S.Store.held c.args.log) 1 (λ e. absurd cc) (λ e. absurd cc)

@@ -1,5 +1,5 @@
 use Rattle.std.proofs.Common.{◌≡◌, refl, ap, Err, inr}
-use Rattle.cj_top.proofs.Cited.{Found, GoesOnIn, IsOpened, LeavesStore, RefusesLog, TellsRefusal, TellsWords, command_completes, not_failed, opens_else, opens_well_by, refusal_completes}
+use Rattle.cj_top.proofs.Cited.{Found, RefusesLog, TellsRefusal, command_completes, not_failed, refusal_completes}
 use Rattle.cj_top.proofs.program.run_command.Goals as goal
 
 pub returns-in-Err-Failed-clause-complete : goal.returns-in-Err-Failed-clause-complete
@@ -18,13 +18,13 @@ returns-in-Err-Refused-clause-complete g c =
 pub returns-clause-runs : goal.returns-clause-runs
 returns-clause-runs g c =
     let accepted = c.in-Ok.ensures.accepted in
-    inr (inr (inr (record {
+    inr (inr (record {
       bytes = accepted.0;
       are = accepted.1;
       conf = c.in-Ok.configured;
       accepted = accepted.2;
       runs = c.run_configured.ensures.comes;
-    })))
+    }))
 
 pub returns-clause-complete : goal.returns-clause-complete
 returns-clause-complete g c = λ conf input output one seven eight twelve.
@@ -34,34 +34,8 @@ returns-clause-complete g c = λ conf input output one seven eight twelve.
     let errors = c.args.errors.now in
     let ran = c.run_configured in
     let accepted = c.in-Ok.ensures.accepted in
-    let goes = GoesOnIn store.faults store.held store.tells (store.faults c.args.log) in
-    let opened = LeavesStore store.faults store.held store.tells c.args.log (store.faults c.args.log) IsOpened in
     let idle = (ran.new.input ≡ c.args.input.now) × (ran.new.output ≡ c.args.output.now) in
     let quiet = (ran.new.input ≡ c.args.input.now) × (ran.new.output ≡ c.args.output.now) × (ran.new.errors ≡ errors) in
-    command_completes g.F.Store.tells (g.F.Store.held c.args.conf.now) (g.I.Source.left c.args.input.now) (g.O.Sink.held c.args.output.now) (g.O.Sink.held ran.new.output) ran.result c.in-Ok.configured (Found store.tells (store.held c.args.log)) goes opened
-    (λ becomes. RefusesLog store.faults store.held c.args.log store.tells becomes) (TellsRefusal (held errors) (held ran.new.errors) (faults errors) (faults ran.new.errors)) idle (TellsWords (held errors) (held ran.new.errors) (faults errors) (faults ran.new.errors)) quiet
-    (g.C.Clock.moment c.args.clock.now) (g.I.Source.left ran.new.input) (held errors) (held ran.new.errors) (faults errors)
+    command_completes g.F.Store.tells (g.F.Store.held c.args.conf.now) (g.I.Source.left c.args.input.now) (g.O.Sink.held c.args.output.now) (g.O.Sink.held ran.new.output) ran.result c.in-Ok.configured (Found store.tells (store.held c.args.log))
+    (RefusesLog store.faults c.args.log store.tells (store.held c.args.log)) (TellsRefusal (held errors) (held ran.new.errors) (faults errors) (faults ran.new.errors)) idle quiet (g.C.Clock.moment c.args.clock.now) (g.I.Source.left ran.new.input) (held errors) (held ran.new.errors) (faults errors)
     (faults ran.new.errors) one (λ e. not_failed _ _ _ ran.ensures.input input e) (λ e. not_failed _ _ _ ran.ensures.output output e) seven eight twelve c.args.command accepted.0 accepted.1 accepted.2 ran.ensures.comes
-
-pub returns-in-Err-Failed-clause-opened : goal.returns-in-Err-Failed-clause-opened
-returns-in-Err-Failed-clause-opened g c = opens_else g.S.Store.tells (g.S.Store.held c.args.log) 7 (λ e. absurd cc) (λ e. absurd cc)
-
-pub returns-in-Err-NoMemory-clause-opened : goal.returns-in-Err-NoMemory-clause-opened
-returns-in-Err-NoMemory-clause-opened g c = opens_else g.S.Store.tells (g.S.Store.held c.args.log) 1 (λ e. absurd cc) (λ e. absurd cc)
-
-pub returns-in-Err-Refused-clause-opened : goal.returns-in-Err-Refused-clause-opened
-returns-in-Err-Refused-clause-opened g c = opens_else g.S.Store.tells (g.S.Store.held c.args.log) 3 (λ e. absurd cc) (λ e. absurd cc)
-
-pub returns-clause-opened : goal.returns-clause-opened
-returns-clause-opened g c =
-    let store = g.S.Store in
-    let held = g.E.Sink.held in
-    let faults = g.E.Sink.faults in
-    let errors = c.args.errors.now in
-    let ran = c.run_configured in
-    let goes = GoesOnIn store.faults store.held store.tells (store.faults c.args.log) in
-    let opened = LeavesStore store.faults store.held store.tells c.args.log (store.faults c.args.log) IsOpened in
-    let idle = (ran.new.input ≡ c.args.input.now) × (ran.new.output ≡ c.args.output.now) in
-    let quiet = (ran.new.input ≡ c.args.input.now) × (ran.new.output ≡ c.args.output.now) × (ran.new.errors ≡ errors) in
-    opens_well_by store.faults store.held c.args.log store.tells c.in-Ok.configured goes opened (TellsRefusal (held errors) (held ran.new.errors) (faults errors) (faults ran.new.errors)) idle (TellsWords (held errors) (held ran.new.errors) (faults errors) (faults ran.new.errors)) quiet
-    (g.C.Clock.moment c.args.clock.now) (g.I.Source.left c.args.input.now) (g.I.Source.left ran.new.input) (g.O.Sink.held c.args.output.now) (g.O.Sink.held ran.new.output) (held errors) (held ran.new.errors) (faults errors) (faults ran.new.errors) ran.result c.args.command ran.ensures.comes

@@ -1,4 +1,3 @@
-use Rattle.cj_top.proofs.Cited.{LosesNothing, failed_where}
 use Rattle.cj_top.proofs.Completed.{cause_of_ok}
 use Rattle.cj_top.proofs.program.script_command.Goals as goal
 
@@ -7,8 +6,3 @@ returns-in-Ok-clause-input g c = cause_of_ok c.in-Ok.status 5 _ _ c.in-Ok.ensure
 
 pub returns-in-Ok-clause-output : goal.returns-in-Ok-clause-output
 returns-in-Ok-clause-output g c = cause_of_ok c.in-Ok.status 6 _ _ c.in-Ok.ensures.output
-
-pub returns-in-Err-clause-log : goal.returns-in-Err-clause-log
-returns-in-Err-clause-log g c =
-    let s = g.S.Store in
-    failed_where s.faults s.held c.args.log s.tells LosesNothing c.in-Err.error c.stop_at_log.result c.in-Err.ensures.refused c.stop_at_log.ensures.status

@@ -7,10 +7,8 @@ returns c = record {
   text = c.run.ensures.text;
   other = c.run.ensures.other;
   quiet = c.run.ensures.quiet;
-  configuration = c.run.ensures.conf;
   stores = c.run.ensures.stores;
   input = c.run.ensures.input;
   output = c.run.ensures.output;
-  opened = c.run.ensures.opened;
   complete = c.run.ensures.complete;
 }
