@@ -3,7 +3,7 @@ use Rattle.cj_state.proofs.Cited.{BookState, KeptFresh, WorldState, board_id, lo
 use Rattle.cj_state.proofs.state.State.pick.Goals as goal
 
 pub ended-requires : goal.ended-requires
-ended-requires g c = picked_below c.args.candidates c.in_ok-b.b c.requires c.in_ok-b.ensures.some.first.candidate
+ended-requires g c = record { below = picked_below c.args.candidates c.in_ok-b.b c.requires c.in_ok-b.ensures.some.first.candidate }
 
 pub invariant_of-self-2 : goal.invariant_of-self-2
 invariant_of-self-2 g c =
