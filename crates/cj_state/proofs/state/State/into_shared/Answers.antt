@@ -2,10 +2,14 @@ use Rattle.std.proofs.Common.{◌≡◌, ◌∙◌, refl, ap, sym, subst}
 use Rattle.cj_state.proofs.Cited.{IsWorld, WorldState, board_id, pass_board, states_of, world_with_log}
 use Rattle.cj_state.proofs.Sharing.{gives_next}
 use Rattle.cj_state.specs.Sharing.{IsTakenApart}
+use Rattle.cj_state.specs.Worlds.{IsFresh}
 use Rattle.cj_state.proofs.state.State.into_shared.Goals as goal
 
 pub returns-clause-world : goal.returns-clause-world
 returns-clause-world g c = subst (IsWorld g.B.Backend.tells) c.self.view_is (world_with_log g.B.Backend.tells _ _ _ _ c.self.invariant.0.world)
+
+pub returns-clause-fresh : goal.returns-clause-fresh
+returns-clause-fresh g c = subst (IsFresh g.B.Backend.tells) c.self.view_is c.self.invariant.1
 
 pub returns-clause-parts : goal.returns-clause-parts
 returns-clause-parts g c =

@@ -15,6 +15,9 @@ add-requires g c =
       db = c.requires.storable;
     }
 
+pub invariant_of-self : goal.invariant_of-self
+invariant_of-self g c = rw c.in_err-add.ensures.err c.self.invariant
+
 pub invariant_of-self-2 : goal.invariant_of-self-2
 invariant_of-self-2 g c =
     let w = c.self.inside in

@@ -2,8 +2,8 @@ use Rattle.std.proofs.Common.{ap, sym, ◌∙◌, subst}
 use Rattle.cj_state.proofs.Cited.{BookState, KeptFresh, WorldState, board_id, log_view, one_less, pass_board, picked_below, read_over, seats_same, states_of, with_balance, with_cache, with_log, world_of}
 use Rattle.cj_state.proofs.state.State.pick.Goals as goal
 
-pub ended-requires-clause-below : goal.ended-requires-clause-below
-ended-requires-clause-below g c = picked_below c.args.candidates c.in_ok-b.b c.requires c.in_ok-b.ensures.some.first.candidate
+pub ended-requires : goal.ended-requires
+ended-requires g c = record { below = picked_below c.args.candidates c.in_ok-b.b c.requires c.in_ok-b.ensures.some.first.candidate }
 
 pub invariant_of-self-2 : goal.invariant_of-self-2
 invariant_of-self-2 g c =
