@@ -29,7 +29,7 @@ pub use Rattle.cj_cluster.specs.declared.moves.MoveError.TheVariants.{NoMemory, 
 pub use Rattle.cj_cluster.specs.declared.moves.Moved.TheVariants.{Applied, Replayed, Replied}
 pub use Rattle.cj_cluster.specs.declared.moves.OpenSession.{OpenSession}
 pub use Rattle.cj_core.specs.Played.{HasRun, HasRunInPart, HaveCauses, MovesWorld, RunsWorld, faults_over, given_of, log_faults_over}
-pub use Rattle.cj_core.specs.Proving.SoloParts.{AttemptsQuery, CallsNobody, CallsOne, EntryEnded, EntryRefused, EntryScheduled, EntryTaken, HasTakenEntry, IsDue, IsLeft, QueryAnswered, QueryFailed, QueryStarved, QueryUnnoted, RepliesKept, TakesOpen, SchedulesOrRefuses, cache_answered, call_of, open_user}
+pub use Rattle.cj_core.specs.Proving.SoloParts.{AttemptsQuery, CallsNobody, CallsOne, EntryEnded, EntryRefused, EntryScheduled, EntryTaken, HasTakenEntry, IsBeforeEnd, IsLeft, QueryAnswered, QueryFailed, QueryStarved, QueryUnnoted, RepliesKept, TakesOpen, SchedulesOrRefuses, cache_answered, call_of, open_user}
 pub use Rattle.cj_core.specs.Proving.StartParts.{AllStand, AreStanding, CountsFaultOfPart, EnabledTo, EndedTo, EndedWhere, HasFailedOut, HasReplayed, HasTaken, IsDue, IsLonger, IsSameAt, IsSameCluster, IsUntouched, OnlyReplays, OnlyTakes, StandsBefore, StandsBehind}
 pub use Rattle.cj_core.specs.Proving.StartParts.{TakesPast, TookNext, TransactionEnded, WasOut, enabled_where}
 pub use Rattle.cj_core.specs.QuietCalls.{BlamesNoStore, BlamesNobody, CanCountMore}

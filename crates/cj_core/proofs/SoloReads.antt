@@ -409,7 +409,7 @@ module _ (tells : Bool) (s tx : ℕ) (user : List ℕ) (select : Select) (old no
 
     -- it failed, and there was no room to say so
     pub asks_failing : (reply : Reply) → answered ≡ false → IsNoAnswer reply → AsksBackends (call reply) (so_far.failed ++ b ∷ []) old new
-    asks_failing reply did no =
+    asks_failing reply did never =
         record {
           last = None;
           picks = one_picks;
@@ -422,7 +422,7 @@ module _ (tells : Bool) (s tx : ℕ) (user : List ℕ) (select : Select) (old no
                 did = λ k is. absurd (cc is);
                 others = λ k other none. one_others k (not_last so_far.failed b k none) (not_before so_far.failed b k none);
               };
-          replied = λ answer possible is. absurd (no answer possible is);
+          replied = λ answer possible is. absurd (never answer possible is);
         }
 
   -- ---- each way that the read ends
@@ -488,15 +488,15 @@ module _ (tells : Bool) (s tx : ℕ) (user : List ℕ) (select : Select) (old no
 -- ---- one attempt
 
 module _ (tells : Bool) (s b tx : ℕ) (select : Select) (old : WorldState) (w : CoreInvariant old.core) (stands : StandsBetweenCalls old.core s) (serves : CanServe old.core.placement old.core.history (request.Select select) b) where
-  there : position_at old.core b ≡ Some (last_number old.core)
-  there = at_log_end old.core w stands.idle b serves.0
+  there_now : position_at old.core b ≡ Some (last_number old.core)
+  there_now = at_log_end old.core w stands.idle b serves.0
 
   pub not_out : Asks tells old.core s b tx select (Err errors.Out) → ⊥
-  not_out none = cc (there, none)
+  not_out none = cc (there_now, none)
 
   pub not_behind : (p : ℕ) → Asks tells old.core s b tx select (Err (errors.Behind p)) → ⊥
   not_behind p early =
-      let same : last_number old.core ≡ p = cc (there, early.0) in
+      let same : last_number old.core ≡ p = cc (there_now, early.0) in
       let owes : (session_at old.core s).least ≤ last_number old.core = session_owes old.core s w in
       let low : p < (session_at old.core s).least = early.1 in
       absurd (omega arith)
@@ -504,7 +504,7 @@ module _ (tells : Bool) (s b tx : ℕ) (select : Select) (old : WorldState) (w :
   -- what it answered is right at the log's end
   pub right_at_end : (answer : Asked) (p : ℕ) → Asks tells old.core s b tx select (Ok (answer, p)) → tells ≡ true → answer ≡ ask (database_of (log old.core.history)) tx select
   right_at_end answer p asks on =
-      let last : p ≡ last_number old.core = cc (there, asks.0) in
+      let last : p ≡ last_number old.core = cc (there_now, asks.0) in
       asks.4 on ∙ (ap (λ (n : ℕ). ask (database_after (log old.core.history) n) tx select) last
       ∙ ap (λ (l : List Entry). ask (database_of l) tx select) (take_whole (log old.core.history) (log old.core.history) (prefix_self (log old.core.history))))
 
@@ -512,7 +512,7 @@ module _ (tells : Bool) (s b tx : ℕ) (select : Select) (old : WorldState) (w :
   pub query_answered : (answer : Asked) (p : ℕ) (mid new : WorldState) (reply : Reply) → Asks tells old.core s b tx select (Ok (answer, p)) → mid.core ≡ old.core → faults_of mid.cells ≡ faults_of old.cells → reply ≡ asked_reply answer
       → new ≡ with_core mid (with_read mid.core s (λ x. answered_at p (was_answered x))) → QueryAnswered tells s tx select old reply new
   query_answered answer p mid new reply asks same counts is after =
-      let last : p ≡ last_number old.core = cc (there, asks.0) in
+      let last : p ≡ last_number old.core = cc (there_now, asks.0) in
       record {
         answer = answer;
         possible = asks.3;

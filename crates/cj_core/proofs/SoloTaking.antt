@@ -2,7 +2,7 @@
 use Rattle.std.proofs.Common.{◌≡◌, ◌≢◌, ℕ, ◌+◌, ◌<◌, ◌≤◌, ◌==◌, ◌||◌, Bool, true, false, cond, List, [], ◌∷◌, ◌++◌, length, slice_get, All, Option, None, Some, Ok, refl, ap, sym, ◌∙◌, subst, arith, below_more, ⊎_elim}
 use Rattle.cj_core.proofs.Common.{accounts_of, All-append, All-cons, All-nil, all_at_end, Applied, Applies, Apply, AreBackendsOf, AreCalledFor, BackendStands, can_apply, CanApply, CellState, Core, CoreInvariant, Did, did_fail, ended_count, EntryTaken, failed_after, faults_after}
 use Rattle.cj_core.proofs.Common.{faults_counted, faults_of, first_lagging, fold-append, HasTakenEntry, is_enabled, IsWorld, length-map, length-set, log, login_of, login_to_take, logins_of, LogsInToTake, mask_with, next_user, not_now, open_user, position_at, position_or_zero, Setup}
-use Rattle.cj_core.proofs.Common.{asks_of, begun_at, both_ways, cases_lt, DoesWithEntry, Entry, entry_in_progress, get_or-set_other, has-with_other, has-with_same, in_mask, is_idle, is_masked, IsDue, IsLeft, last_number, ne_eqb, option_map_or, or_parts, Placement, Stance, starved_after, takes_part, takes_part_in, TakesOpen}
+use Rattle.cj_core.proofs.Common.{asks_of, begun_at, both_ways, cases_lt, DoesWithEntry, Entry, entry_in_progress, get_or-set_other, has-with_other, has-with_same, in_mask, is_idle, is_masked, IsBeforeEnd, IsLeft, last_number, ne_eqb, option_map_or, or_parts, Placement, Stance, starved_after, takes_part, takes_part_in, TakesOpen}
 use Rattle.cj_core.proofs.Common.{with_backend, WorldState}
 use Rattle.cj_cluster.specs.declared.moves.Did.TheVariants as did
 use Rattle.cj_core.proofs.SoloAsks.{got_set, same_login}
@@ -85,10 +85,10 @@ did_login b did.Starved old new login tells c p e now lt logs does part none =
 -- and one that took no part was not called
 skipped_login : (b : ℕ) (d : Did) (old new : WorldState) (login : List ℕ) (tells : Bool) (c : Core) (p : ℕ) (e : Entry) (now : Stance) → LogsInToTake b login d (logins_of old.cells) (logins_of new.cells) → DoesWithEntry tells c b p e d now
     → (takes_part_in c b e ≡ true → ⊥) → slice_get (logins_of new.cells) b ≡ slice_get (logins_of old.cells) b
-skipped_login b (did.Done o) old new login tells c p e now logs does no = absurd (no does.0)
-skipped_login b did.Skipped old new login tells c p e now logs does no = ap (λ xs. slice_get xs b) logs
-skipped_login b did.Failed old new login tells c p e now logs does no = absurd (no does.0)
-skipped_login b did.Starved old new login tells c p e now logs does no = absurd (no does.0)
+skipped_login b (did.Done o) old new login tells c p e now logs does apart = absurd (apart does.0)
+skipped_login b did.Skipped old new login tells c p e now logs does apart = ap (λ xs. slice_get xs b) logs
+skipped_login b did.Failed old new login tells c p e now logs does apart = absurd (apart does.0)
+skipped_login b did.Starved old new login tells c p e now logs does apart = absurd (apart does.0)
 
 module _ (tells : Bool) (old new : WorldState) (b : ℕ) (d : Did) (applies : Applies tells old.core b (Ok (Applied b d)) new.core) where
   pub took : IsWorld tells old → b < old.core.placement.backends → not_now old.core (Apply b) ≡ None → faults_of new.cells ≡ faults_after (faults_of old.cells) (cond (did_fail d) (Some b) None)
@@ -155,12 +155,12 @@ module _ (tells : Bool) (old new : WorldState) (b : ℕ) (d : Did) (applies : Ap
     takes_open =
         record {
           did = λ e is due part none. did_login b d old new (login_of (accounts_of old) e.user b) tells old.core applies.1.1.p e applies.1.0 has_login (called e is) (does e is) part.1 (unmasked none);
-          skipped = λ e is no. skipped_login b d old new (login_of (accounts_of old) e.user b) tells old.core applies.1.1.p e applies.1.0 (called e is) (does e is) (λ part. no (on, part));
+          skipped = λ e is apart. skipped_login b d old new (login_of (accounts_of old) e.user b) tells old.core applies.1.1.p e applies.1.0 (called e is) (does e is) (λ part. apart (on, part));
           disabled = λ off. absurd (both_ways (is_enabled old.core.history b) off on);
         }
 
 -- where it is enabled and due, it can take the open entry now
-due_now : (c : Core) (b : ℕ) → is_idle c.history ≡ false → is_enabled c.history b ≡ true → IsDue c b → not_now c (Apply b) ≡ None
+due_now : (c : Core) (b : ℕ) → is_idle c.history ≡ false → is_enabled c.history b ≡ true → IsBeforeEnd c b → not_now c (Apply b) ≡ None
 due_now c b running on due = let ne : (due.p == last_number c) ≡ false = ne_eqb due.p (last_number c) due.more in rw (running, on, due.stands, ne) refl
 
 -- ---- all of them
@@ -197,7 +197,7 @@ takes_then_left old mid new b x y =
     let login = same_login new.cells mid.cells b y.cell in
     record {
       did = λ e is due part none. login ∙ x.did e is due part (ap (λ (t : Bool). t || in_mask mid.core.starved b) (sym y.failed) ∙ (ap (λ (t : Bool). in_mask new.core.failed b || t) (sym y.starved) ∙ none));
-      skipped = λ e is no. login ∙ x.skipped e is no;
+      skipped = λ e is apart. login ∙ x.skipped e is apart;
       disabled = λ off. y.cell ∙ x.disabled off;
     }
 
@@ -215,7 +215,7 @@ left_then_takes old mid new b core setup x y =
           λ e is due has none.
           y.did e (open_then e is) (record { p = due.p; stands = x.position ∙ due.stands; more = λ same. due.more (same ∙ ap (λ h. length (log h)) history) }) (on ∙ has.0, part e ∙ has.1) none
           ∙ ap (λ (s : Setup). Some (Some (login_of s.register.accounts e.user b))) setup;
-      skipped = λ e is no. y.skipped e (open_then e is) (λ has. no (sym on ∙ has.0, sym (part e) ∙ has.1)) ∙ same_login mid.cells old.cells b x.cell;
+      skipped = λ e is apart. y.skipped e (open_then e is) (λ has. apart (sym on ∙ has.0, sym (part e) ∙ has.1)) ∙ same_login mid.cells old.cells b x.cell;
       disabled = λ off. y.disabled (on ∙ off) ∙ x.cell;
     }
 
@@ -224,7 +224,7 @@ pub not_due : (w : WorldState) (b : ℕ) → is_idle w.core.history ≡ false �
 not_due w b running never =
     record {
       did = λ e is due part none. absurd (never (due_now w.core b running part.0 due));
-      skipped = λ e is no. refl;
+      skipped = λ e is apart. refl;
       disabled = λ off. refl;
     }
 
@@ -290,7 +290,7 @@ each_taken old now i w all to b =
     in
     record {
       did = λ e is due part none. absurd (nobody part.0);
-      skipped = λ e is no. same_login now.cells old.cells b left.cell;
+      skipped = λ e is apart. same_login now.cells old.cells b left.cell;
       disabled = λ off. left.cell;
     })
     (cases_lt b i)

@@ -2,8 +2,8 @@
 use Rattle.std.proofs.Common.{◌≡◌, ◌⊎◌, inl, inr, ℕ, suc, ◌+◌, ◌<◌, ◌≤◌, ◌==◌, ◌&&◌, Bool, true, false, cond, is_some, List, [], ◌∷◌, ◌++◌, length, slice_get, Option, Some, Ok, Err, refl, ap, sym, ◌∙◌, subst, ⊎_elim, append_assoc, length-append, arith}
 use Rattle.cj_core.proofs.Common.{accounts_of, Act, act_of, act_of_request, AddsEntry, AddsOwnEvents, All-nil, answered_at, AnswersEntry, append-nil, AreBackendsOf, AreCalledFor, Call, call_of, Core, CoreInvariant, Ended, ended_for, Entry, entry_in_progress, entry_of_call, EntryEnded}
 use Rattle.cj_core.proofs.Common.{EntryRefused, EntryScheduled, eq-eqb, Event, events_left, faults_counted, faults_of, FitsTx, follows_own, follows_rest, free-ended, free-same, free-sched, happened, HasNoRoomFor, HasServer, is_entry_of, is_idle}
-use Rattle.cj_core.proofs.Common.{is_open, is_open-with, is_waiting, IsOutcome, IsReadAtEnd, IsSameButLog, last_number, legal_push, log, log_failed_in, log_failure_of, LOG_FAULT, log_faults_after, LogFailed, logins_of, LogView, mask_with, ne_eqb, open_tx, open_user}
-use Rattle.cj_core.proofs.Common.{asks_of, at_log_end, CallsBackends, CallsExactly, CarriesOut, CellState, enabled-push, false_from_ne_true, find_session, is_enabled, is_masked, IsDue, IsPartOf, login_of, position_at, session_of-other, takes_part_in}
+use Rattle.cj_core.proofs.Common.{is_open, is_open-with, is_waiting, IsOutcome, IsReadAtEnd, IsSameButLog, last_number, legal_push, log, log-sched, log_failed_in, log_failure_of, LOG_FAULT, log_faults_after, LogFailed, logins_of, LogView, mask_with, ne_eqb, open_tx, open_user}
+use Rattle.cj_core.proofs.Common.{asks_of, at_log_end, CallsBackends, CallsExactly, CarriesOut, CellState, enabled-push, false_from_ne_true, find_session, is_enabled, is_masked, IsBeforeEnd, IsPartOf, login_of, position_at, session_of-other, takes_part_in}
 use Rattle.cj_core.proofs.Common.{cond_both, opened-sched, OpenSession, option_map_or, Outcome, outcome_reply, own_entry, own_tx, Placement, prefix_self, Refusal, refusal_of_code, Refused, Reply, request_of, Rests, Sched, scheduled_as, SchedulesAs, SchedulesOrRefuses, seen_at, session_at}
 use Rattle.cj_core.proofs.Common.{session_owes, SessionView, StandsBetweenCalls, tells_log_failure, Turn, turn_full, turn_log_fault, turn_starved, turn_unserved, with_cache, with_core, with_one_request, with_request_counted, WorldState, WorldTurn}
 use Rattle.cj_model.specs.declared.answer.Outcome.TheVariants as outcome
@@ -111,17 +111,15 @@ module _ (tells : Bool) (s tx : ℕ) (user : List ℕ) (act : Act) (reply : Repl
     failed_mask : ended.mid.core.failed ≡ mask_with 0 ended.taken.failed
     failed_mask = ended.taken.mask ∙ ap (λ (c : Core). mask_with c.failed ended.taken.failed) begun_core
 
-    pub entry_added : AddsEntry (suc (length (log old.core.history))) s call act ended.taken.failed old.core.history new.core.history
-    entry_added = (
-      refl,
-      (
-        ended.mid.core.starved,
+    history_then : new.core.history ≡ old.core.history ++ Sched entry ∷ Ended (mask_with 0 ended.taken.failed) ended.mid.core.starved ∷ []
+    history_then =
         ap (λ (c : Core). c.history) new_core
-            ∙ (ap (λ (h : List Event). h ++ Ended ended.mid.core.failed ended.mid.core.starved ∷ []) mid_history
-            ∙ (append_assoc old.core.history (Sched entry ∷ []) (Ended ended.mid.core.failed ended.mid.core.starved ∷ [])
-            ∙ ap (λ (m : ℕ). old.core.history ++ Sched entry ∷ Ended m ended.mid.core.starved ∷ []) failed_mask)),
-      ),
-    )
+        ∙ (ap (λ (h : List Event). h ++ Ended ended.mid.core.failed ended.mid.core.starved ∷ []) mid_history
+        ∙ (append_assoc old.core.history (Sched entry ∷ []) (Ended ended.mid.core.failed ended.mid.core.starved ∷ [])
+        ∙ ap (λ (m : ℕ). old.core.history ++ Sched entry ∷ Ended m ended.mid.core.starved ∷ []) failed_mask))
+
+    pub entry_added : AddsEntry (suc (length (log old.core.history))) s call act ended.taken.failed old.core.history new.core.history
+    entry_added = (refl, (ended.mid.core.starved, history_then))
 
     -- ---- what the backends did
 
@@ -136,7 +134,7 @@ module _ (tells : Bool) (s tx : ℕ) (user : List ℕ) (act : Act) (reply : Repl
     still_part b = ap (λ (c : Core). takes_part_in c b entry) begun_core
 
     -- each enabled backend has yet to take it
-    due : (b : ℕ) → is_enabled old.core.history b ≡ true → IsDue begun.core b
+    due : (b : ℕ) → is_enabled old.core.history b ≡ true → IsBeforeEnd begun.core b
     due b on =
         let longer : last_number begun.core ≡ last_number old.core + 1 =
         ap (λ (c : Core). length (log c.history)) begun_core ∙ (ap length (log-sched old.core.history entry) ∙ length-append (log old.core.history) (entry ∷ []))
@@ -170,17 +168,17 @@ module _ (tells : Bool) (s tx : ℕ) (user : List ℕ) (act : Act) (reply : Repl
               ∙ ((ended.each b).did entry opened_now (due b x.0.0) (still_on b ∙ x.0.0, still_part b ∙ x.0.1) (masked b ∙ x.1)
               ∙ ap (λ (y : WorldState). Some (Some (login_of (accounts_of y) user b))) after);
           others =
-              λ b no none.
+              λ b apart none.
               let unmasked = false_from_ne_true (is_masked (mask_with 0 ended.taken.failed) ended.mid.core.starved b) none in
               ap (λ (xs : List CellState). slice_get (logins_of xs) b) cells_new
-              ∙ ((ended.each b).skipped entry opened_now (λ part. no ((sym (still_on b) ∙ part.0, sym (still_part b) ∙ part.1), unmasked))
+              ∙ ((ended.each b).skipped entry opened_now (λ part. apart ((sym (still_on b) ∙ part.0, sym (still_part b) ∙ part.1), unmasked))
               ∙ ap (λ (xs : List CellState). slice_get (logins_of xs) b) cells_begun);
         }
 
     carried_out : CarriesOut s call act ended.taken.failed old new
     carried_out =
         record {
-          handed = inr (record { starved = ended.mid.core.starved; ended = entry_added.1.1; logins = called_exactly });
+          handed = inr (record { starved = ended.mid.core.starved; ended = history_then; logins = called_exactly });
           asks = ap asks_of cells_new ∙ (ended.taken.asks ∙ ap asks_of cells_begun);
           balance = ap (λ (x : WorldState). x.balance) ended.ended ∙ (ended.taken.balance ∙ ap (λ (x : WorldState). x.balance) after);
         }

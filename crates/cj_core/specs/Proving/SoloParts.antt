@@ -78,14 +78,14 @@ pub record EntryTaken (user : List ℕ) (old new : WorldState) : Type 0 where
   pub balance : new.balance ≡ old.balance
 
 -- the backend is neither out nor at the log's end
-pub record IsDue (c : Core) (b : ℕ) : Type 0 where
+pub record IsBeforeEnd (c : Core) (b : ℕ) : Type 0 where
   pub p : ℕ
   pub stands : position_at c b ≡ Some p
   pub more : p ≢ last_number c
 
 -- Backend b has taken the open entry for its user, where it takes part in that; one that isn't enabled is as it was.
 pub record TakesOpen (old new : WorldState) (b : ℕ) : Type 0 where
-  pub did : (e : Entry) → entry_in_progress old.core.history ≡ Some e → IsDue old.core b → IsPartOf old.core e b → is_masked new.core.failed new.core.starved b ≡ false
+  pub did : (e : Entry) → entry_in_progress old.core.history ≡ Some e → IsBeforeEnd old.core b → IsPartOf old.core e b → is_masked new.core.failed new.core.starved b ≡ false
       → slice_get (logins_of new.cells) b ≡ Some (Some (login_of (accounts_of old) e.user b))
   pub skipped : (e : Entry) → entry_in_progress old.core.history ≡ Some e → (IsPartOf old.core e b → ⊥) → slice_get (logins_of new.cells) b ≡ slice_get (logins_of old.cells) b
   pub disabled : is_enabled old.core.history b ≡ false → slice_get new.cells b ≡ slice_get old.cells b

@@ -58,7 +58,7 @@ returns-in-Err-Unnoted-clause-came g c =
     let after = c.refuse-in-Err-Unnoted.ensures.counted in
     let one = one_failed c.args.user.now c.args.b c.args.state.now c.ask.new.self asked.answered logins asked.others asked.balance in
     inr (inl (
-      query_unnoted g.B.Backend.tells c.args.s c.args.b c.args.tx c.args.select.now c.args.state.now c.legal.ensures.world.sound c.requires.stands c.requires.serves c.in-Err-Unnoted.field-0-0 c.ask.new.self c.refuse-in-Err-Unnoted.new.state c.refuse-in-Err-Unnoted.result asks core counts c.refuse-in-Err-Unnoted.ensures.reply after,
+      query_unnoted g.B.Backend.tells c.args.s c.args.b c.args.tx c.args.select.now c.args.state.now c.legal.ensures.world.sound c.requires.stands c.requires.serves c.in-Err-Unnoted.events c.ask.new.self c.refuse-in-Err-Unnoted.new.state c.refuse-in-Err-Unnoted.result asks core counts c.refuse-in-Err-Unnoted.ensures.reply after,
       called_one c.args.user.now c.args.b false c.args.state.now c.ask.new.self c.refuse-in-Err-Unnoted.new.state one (ap (λ (w : WorldState). w.cells) after) (ap (λ (w : WorldState). w.balance) after),
     ))
 

@@ -1,5 +1,5 @@
-use Rattle.std.proofs.Common.{◌≡◌, false, None, rules}
-use Rattle.cj_core.proofs.Cited.{Apply, is_idle, left_alone, left_same, not_due, not_now, took, takes_open}
+use Rattle.std.proofs.Common.{◌≡◌, ◌∙◌, None, ap, is_some, not, rules}
+use Rattle.cj_core.proofs.Cited.{Apply, both_ways, left_alone, left_same, not_due, not_now, took, takes_open}
 use Rattle.cj_core.proofs.solo_write.take_if_due.Goals as goal
 
 pub returns-then-is_none-clause-taken : goal.returns-then-is_none-clause-taken
@@ -20,8 +20,10 @@ returns-then-is_none-clause-others g c = λ k other.
     let took_open = c.take_open.ensures in
     left_alone g.B.Backend.tells c.args.state.now c.take_open.new.self c.args.b c.take_open.result took_open.applies k other (took_open.others k other)
 
-pub returns-clause-here : goal.returns-clause-here
-returns-clause-here g c = not_due c.args.state.now c.args.b c.requires.open (λ now. search rules)
+pub returns-else-is_none-clause-here : goal.returns-else-is_none-clause-here
+returns-else-is_none-clause-here g c =
+    not_due c.args.state.now c.args.b c.requires.open
+    (λ now. both_ways (is_some c.not_now_apply.result) (ap is_some (c.not_now_apply.ensures ∙ now)) (c.is_none.ensures ∙ ap not c.if-is_none.false))
 
-pub returns-clause-others : goal.returns-clause-others
-returns-clause-others g c = λ k other. left_same c.args.state.now k
+pub returns-else-is_none-clause-others : goal.returns-else-is_none-clause-others
+returns-else-is_none-clause-others g c = λ k other. left_same c.args.state.now k
