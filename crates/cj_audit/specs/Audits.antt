@@ -14,33 +14,33 @@ use Rattle.cj_model.specs.Sql.Literals.{literal}
 use Rattle.cj_model.specs.Sql.Names.{IsNameOrEmpty, IsText}
 use Rattle.cj_print.specs.Canonical.{separated}
 
--- these words, with one space between each two
-abbrev pub words : List (List ℕ) → List ℕ
-words = join_with_byte 32
+-- these joined_words, with one space between each two
+abbrev pub joined_words : List (List ℕ) → List ℕ
+joined_words = join_with_byte 32
 
 -- a line with its LF
-abbrev pub with_line_feed : List ℕ → List ℕ
-with_line_feed line = line ++ 10 ∷ []
+abbrev pub fed_line : List ℕ → List ℕ
+fed_line line = line ++ 10 ∷ []
 
 -- the literals of a row's values, with a comma and a space between each two
-abbrev pub row_text : List Value → List ℕ
-row_text = separated literal
+abbrev pub table_row_text : List Value → List ℕ
+table_row_text = separated literal
 
 -- a line for each row
 abbrev pub row_lines : List (List Value) → List ℕ
-row_lines = flat_map (λ row. with_line_feed (row_text row))
+row_lines = flat_map (λ row. fed_line (table_row_text row))
 
 -- the names of the backend and the table, the state in which the table stands there, and how many rows it has
 abbrev pub table_head : List ℕ → List ℕ → Table → List ℕ
-table_head name state t = words (name ∷ t.schema.table ∷ state ∷ decimal (length t.rows) ∷ [])
+table_head name state t = joined_words (name ∷ t.schema.table ∷ state ∷ decimal (length t.rows) ∷ [])
 
 -- and under that line its rows
 abbrev pub table_lines : List ℕ → List ℕ → Table → List ℕ
-table_lines name state t = with_line_feed (table_head name state t) ++ row_lines t.rows
+table_lines name state t = fed_line (table_head name state t) ++ row_lines t.rows
 
 -- the state of a draft: that it is one, and of which transaction
 abbrev pub draft_state : ℕ → List ℕ
-draft_state tx = words (codes "draft" ∷ decimal tx ∷ [])
+draft_state tx = joined_words (codes "draft" ∷ decimal tx ∷ [])
 
 -- a draft that nobody has made takes no line
 abbrev pub draft_lines : List ℕ → Option Draft → List ℕ

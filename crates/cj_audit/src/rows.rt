@@ -3,7 +3,7 @@
 ghost use Rattle.std.specs.Prelude.{◌≡◌, ◌++◌, OnOk};
 ghost use Rattle.cj_model.specs.Sql.Literals.{literal};
 ghost use Rattle.cj_print.specs.Canonical.{behind_commas};
-ghost use Rattle.cj_audit.specs.Audits.{StaysText, row_lines, row_text};
+ghost use Rattle.cj_audit.specs.Audits.{StaysText, row_lines, table_row_text};
 
 use crate::pieces::{append_ascii, append_value};
 use cj_model::{NoMemory, Row, Value};
@@ -22,7 +22,7 @@ fn append_behind_commas(text: &mut Vec<u8>, values: &[Value]) -> Result<(), NoMe
 
 /// Adds the values' literals, with a comma and a space between each two.
 fn append_row(text: &mut Vec<u8>, values: &[Value]) -> Result<(), NoMemory>
-    ensures ok { OnOk result (text.new.items ≡ text.old.items ++ row_text values.now) }
+    ensures ok { OnOk result (text.new.items ≡ text.old.items ++ table_row_text values.now) }
     ensures text { OnOk result (StaysText text.old.items text.new.items) }
 {
     match values {

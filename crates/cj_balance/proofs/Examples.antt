@@ -5,14 +5,14 @@ use Rattle.std.proofs.lemmas.Nat.Bits.{bit_at_above}
 use Rattle.cj_model.specs.declared.policy.Policy.{Policy}
 use Rattle.cj_model.specs.declared.policy.Policy.TheVariants.{RoundRobin, Weighted, LeastPending}
 use Rattle.cj_model.specs.Cluster.Masks.{in_mask}
-use Rattle.cj_model.specs.Cluster.Balancing.{Standing, Picks, at_rest, is_ahead, picked}
+use Rattle.cj_model.specs.Cluster.Balancing.{BalanceState, Picks, at_rest, is_ahead, picked}
 
 -- backend 0 has the weight 2, and each other one 1
 abbrev weights : List ℕ
 weights = 2 ∷ replicate 15 1
 
 -- from this state, with backends 0 and 1 as candidates each time, the policy picks these backends one after the other
-abbrev ArePicked : Policy → Standing → List ℕ → Type 0
+abbrev ArePicked : Policy → BalanceState → List ℕ → Type 0
 ArePicked policy s [] = Unit {0}
 ArePicked policy s (b ∷ bs) = Picks policy weights s 3 b (picked policy s b) × ArePicked policy (picked policy s b) bs
 
@@ -24,7 +24,7 @@ of_two P a b (suc (suc k)) h =
     let none : in_mask 3 (suc (suc k)) ≡ false = ap (λ n. n == 1) (bit_at_above 3 2 (suc (suc k)) (lit< tt) (omega arith)) in
     absurd (both_ways (in_mask 3 (suc (suc k))) none h)
 
-zero_picked : (policy : Policy) (s : Standing) → is_ahead policy weights s 0 0 ≡ false → is_ahead policy weights s 1 0 ≡ false → Picks policy weights s 3 0 (picked policy s 0)
+zero_picked : (policy : Policy) (s : BalanceState) → is_ahead policy weights s 0 0 ≡ false → is_ahead policy weights s 1 0 ≡ false → Picks policy weights s 3 0 (picked policy s 0)
 zero_picked policy s itself other = record {
   first = record {
     candidate = refl;
@@ -34,7 +34,7 @@ zero_picked policy s itself other = record {
   stands = refl;
 }
 
-one_picked : (policy : Policy) (s : Standing) → is_ahead policy weights s 0 1 ≡ false → is_ahead policy weights s 1 1 ≡ false → is_ahead policy weights s 1 0 ≡ true → Picks policy weights s 3 1 (picked policy s 1)
+one_picked : (policy : Policy) (s : BalanceState) → is_ahead policy weights s 0 1 ≡ false → is_ahead policy weights s 1 1 ≡ false → is_ahead policy weights s 1 0 ≡ true → Picks policy weights s 3 1 (picked policy s 1)
 one_picked policy s other itself ahead = record {
   first = record {
     candidate = refl;

@@ -4,13 +4,13 @@ use Rattle.std.proofs.lemmas.Bool.{cases_Bool, cases_lt, both_ways}
 use Rattle.std.proofs.lemmas.Nat.Bits.{bit_at_above}
 use Rattle.cj_model.specs.declared.policy.Policy.{Policy}
 use Rattle.cj_model.specs.Cluster.Masks.{in_mask}
-use Rattle.cj_model.specs.Cluster.Balancing.{Standing, IsFirst, is_ahead}
+use Rattle.cj_model.specs.Cluster.Balancing.{BalanceState, IsFirst, is_ahead}
 use Rattle.cj_model.proofs.BalanceLaws.{ahead_one_way, ahead_chain, candidates_below}
 use Rattle.cj_model.proofs.Masks.{no_bit}
 use Rattle.cj_balance.specs.Kept.{AreWeights, IsFirstBelow}
 
 -- where number i is a candidate and ahead of the first of those below it, it is ahead of all of them
-ahead_of_all : (policy : Policy) (weights : List ℕ) (s : Standing) (candidates i b : ℕ) → AreWeights weights → i ≤ 16 → IsFirstBelow (is_ahead policy weights s) candidates i b → is_ahead policy weights s i b ≡ true → (k : ℕ) → k < i → in_mask candidates k ≡ true → is_ahead policy weights s i k ≡ true
+ahead_of_all : (policy : Policy) (weights : List ℕ) (s : BalanceState) (candidates i b : ℕ) → AreWeights weights → i ≤ 16 → IsFirstBelow (is_ahead policy weights s) candidates i b → is_ahead policy weights s i b ≡ true → (k : ℕ) → k < i → in_mask candidates k ≡ true → is_ahead policy weights s i k ≡ true
 ahead_of_all policy weights s candidates i b ok le f h k lt here =
     ⊎_elim
     (λ (yes : is_ahead policy weights s i k ≡ true). yes)
@@ -20,7 +20,7 @@ ahead_of_all policy weights s candidates i b ok le f h k lt here =
     (cases_Bool (is_ahead policy weights s i k))
 
 -- no backend is ahead of itself
-not_ahead_of_itself : (policy : Policy) (weights : List ℕ) (s : Standing) (i : ℕ) → is_ahead policy weights s i i ≡ false
+not_ahead_of_itself : (policy : Policy) (weights : List ℕ) (s : BalanceState) (i : ℕ) → is_ahead policy weights s i i ≡ false
 not_ahead_of_itself policy weights s i =
     ⊎_elim
     (λ (yes : is_ahead policy weights s i i ≡ true). ahead_one_way policy weights s i i yes)
@@ -28,7 +28,7 @@ not_ahead_of_itself policy weights s i =
     (cases_Bool (is_ahead policy weights s i i))
 
 -- and it is then the first up to itself
-pub first_taken : (policy : Policy) (weights : List ℕ) (s : Standing) (candidates i b : ℕ) → AreWeights weights → i < 16 → in_mask candidates i ≡ true → IsFirstBelow (is_ahead policy weights s) candidates i b → is_ahead policy weights s i b ≡ true → IsFirstBelow (is_ahead policy weights s) candidates (i + 1) i
+pub first_taken : (policy : Policy) (weights : List ℕ) (s : BalanceState) (candidates i b : ℕ) → AreWeights weights → i < 16 → in_mask candidates i ≡ true → IsFirstBelow (is_ahead policy weights s) candidates i b → is_ahead policy weights s i b ≡ true → IsFirstBelow (is_ahead policy weights s) candidates (i + 1) i
 first_taken policy weights s candidates i b ok lt here f h =
     let all = ahead_of_all policy weights s candidates i b ok (omega arith) f h in
     record {

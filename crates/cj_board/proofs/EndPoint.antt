@@ -2,7 +2,7 @@
 use Rattle.std.proofs.Common.{◌≡◌, ℕ, suc, ◌<◌, ◌≤◌, true, List, [], ◌∷◌, ◌++◌, length, set, refl, sym, ap, ◌∙◌, subst, arith, ◌⊎◌, inl, inr, ⊎_elim}
 use mathlib.Core.List.{IsPrefix}
 use Rattle.cj_board.proofs.Common.{Book, Cell, Event, IsLegal, Pass, Role, SeatView, log, max_word}
-use Rattle.cj_cluster.specs.History.Histories.{is_enabled, is_idle}
+use Rattle.cj_cluster.specs.History.Histories.{is_enabled, is_free}
 use Rattle.cj_board.specs.Points.{AtEachSeat, CellStandsAtEnd, CellsStandAtEnd, EnabledAreAtEnd, KnowsPosition, StandsAtEnd, position_word}
 use Rattle.cj_board.proofs.EachSeat.{each_set, each_more}
 use Rattle.cj_board.proofs.Histories.{log_bound, log_of_prefix}
@@ -19,10 +19,10 @@ begins_longer (x ∷ m) (y ∷ h) e p =
 
 -- ---- one backend
 
-stands_longer : (b p : ℕ) (front h : List Event) (e : Event) → (is_idle (h ++ e ∷ []) ≡ true → is_enabled (h ++ e ∷ []) b ≡ true → p ≡ length (log (h ++ e ∷ []))) → StandsAtEnd b p front h → StandsAtEnd b p front (h ++ e ∷ [])
+stands_longer : (b p : ℕ) (front h : List Event) (e : Event) → (is_free (h ++ e ∷ []) ≡ true → is_enabled (h ++ e ∷ []) b ≡ true → p ≡ length (log (h ++ e ∷ []))) → StandsAtEnd b p front h → StandsAtEnd b p front (h ++ e ∷ [])
 stands_longer b p front h e now old m begins idle on = ⊎_elim
     (λ (q : IsPrefix m h). old m q idle on)
-    (λ (q : m ≡ h ++ e ∷ []). inl (subst (λ (l : List Event). is_idle l ≡ true → is_enabled l b ≡ true → p ≡ length (log l)) (sym q) now idle on))
+    (λ (q : m ≡ h ++ e ∷ []). inl (subst (λ (l : List Event). is_free l ≡ true → is_enabled l b ≡ true → p ≡ length (log l)) (sym q) now idle on))
     (begins_longer m h e begins)
 
 -- a cell that moves has seen a longer log, or was out

@@ -5,7 +5,7 @@ use Rattle.std.proofs.lemmas.Bool.{both_ways}
 use Rattle.std.proofs.lemmas.List.{append-nil}
 use Rattle.std.proofs.lemmas.List.Sums.{sum_by-append}
 use Rattle.cj_board.proofs.Common.{Disabled, Enabled, Ended, Event, IsLegal, LogFailed, Marker, ReadFailed, Sched, log}
-use Rattle.cj_cluster.specs.History.Histories.{ended_count, is_enabled, is_end_event, is_idle}
+use Rattle.cj_cluster.specs.History.Histories.{ended_count, is_enabled, is_end_event, is_free}
 use Rattle.cj_cluster.proofs.Pushed.{done-push, done-same, enabled-push, free-same, legal_prefix, log-same, log-sched}
 use Rattle.cj_cluster.proofs.TransactionLaws.{by_items}
 use Rattle.cj_board.proofs.Histories.{last_allowed}
@@ -25,7 +25,7 @@ one_open_push h (Ended f s) legal one =
     let busy = (last_allowed h (Ended f s) legal).0 in
     let l : length (log (h ++ Ended f s ∷ [])) ≡ length (log h) = ap length (log-same h (Ended f s) refl) in
     let d : ended_count (h ++ Ended f s ∷ []) ≡ ended_count h + 1 = done-push h (Ended f s) in
-    let ne : ended_count h ≢ length (log h) = λ same. both_ways (is_idle h) busy (eq-eqb (ended_count h) (length (log h)) same) in
+    let ne : ended_count h ≢ length (log h) = λ same. both_ways (is_free h) busy (eq-eqb (ended_count h) (length (log h)) same) in
     let lo = one.0 in
     let hi = one.1 in
     (omega arith, omega arith)
@@ -39,20 +39,20 @@ pub one_open : (h : List Event) → IsLegal h → OneOpen h
 one_open = by_items (λ h. IsLegal h → OneOpen h) (λ legal. (omega arith, omega arith)) (λ h x one legal. one_open_push h x legal (one (legal_prefix h (h ++ x ∷ []) (x ∷ [], refl) legal)))
 
 -- one event more while an entry is open, which is not its end
-enabled_push : (h : List Event) (x : Event) → IsLegal (h ++ x ∷ []) → is_idle h ≡ false → ended_count (h ++ x ∷ []) ≡ ended_count h
-    → ((b : ℕ) → is_enabled (h ++ x ∷ []) b ≡ is_enabled h b) × (is_idle (h ++ x ∷ []) ≡ false)
-enabled_push h (Sched e) legal busy same = absurd (both_ways (is_idle h) busy (last_allowed h (Sched e) legal).0)
+enabled_push : (h : List Event) (x : Event) → IsLegal (h ++ x ∷ []) → is_free h ≡ false → ended_count (h ++ x ∷ []) ≡ ended_count h
+    → ((b : ℕ) → is_enabled (h ++ x ∷ []) b ≡ is_enabled h b) × (is_free (h ++ x ∷ []) ≡ false)
+enabled_push h (Sched e) legal busy same = absurd (both_ways (is_free h) busy (last_allowed h (Sched e) legal).0)
 enabled_push h (Ended f s) legal busy same = let d : ended_count (h ++ Ended f s ∷ []) ≡ ended_count h + 1 = done-push h (Ended f s) in absurd (omega arith)
 enabled_push h (ReadFailed s q b) legal busy same = (λ k. enabled-push h (ReadFailed s q b) k, free-same h (ReadFailed s q b) refl refl ∙ busy)
 enabled_push h (LogFailed s q) legal busy same = (λ k. enabled-push h (LogFailed s q) k, free-same h (LogFailed s q) refl refl ∙ busy)
-enabled_push h (Disabled b) legal busy same = absurd (both_ways (is_idle h) busy (last_allowed h (Disabled b) legal).0)
-enabled_push h (Enabled b) legal busy same = absurd (both_ways (is_idle h) busy (last_allowed h (Enabled b) legal).0)
+enabled_push h (Disabled b) legal busy same = absurd (both_ways (is_free h) busy (last_allowed h (Disabled b) legal).0)
+enabled_push h (Enabled b) legal busy same = absurd (both_ways (is_free h) busy (last_allowed h (Enabled b) legal).0)
 enabled_push h (Marker name b) legal busy same = (λ k. enabled-push h (Marker name b) k, free-same h (Marker name b) refl refl ∙ busy)
 
 ended_of_prefix : (g h : List Event) → IsPrefix g h → ended_count g ≤ ended_count h
 ended_of_prefix g h p = let all : ended_count h ≡ ended_count g + ended_count p.0 = ap ended_count (sym p.1) ∙ sum_by-append (λ x. cond (is_end_event x) 1 0) g p.0 in omega arith
 
-enabled_from : (g rest : List Event) → IsLegal (g ++ rest) → is_idle g ≡ false → ended_count (g ++ rest) ≡ ended_count g → (b : ℕ) → is_enabled (g ++ rest) b ≡ is_enabled g b
+enabled_from : (g rest : List Event) → IsLegal (g ++ rest) → is_free g ≡ false → ended_count (g ++ rest) ≡ ended_count g → (b : ℕ) → is_enabled (g ++ rest) b ≡ is_enabled g b
 enabled_from g [] legal busy same b = ap (λ h. is_enabled h b) (append-nil g)
 enabled_from g (x ∷ rest) legal busy same b =
     let split : (g ++ x ∷ []) ++ rest ≡ g ++ x ∷ rest = append_assoc g (x ∷ []) rest in
@@ -65,6 +65,6 @@ enabled_from g (x ∷ rest) legal busy same b =
     ap (λ h. is_enabled h b) (sym split) ∙ (enabled_from (g ++ x ∷ []) rest whole one.1 (omega arith) b ∙ one.0 b)
 
 -- while an entry is open the same backends are enabled
-pub still_enabled : (g h : List Event) → IsPrefix g h → IsLegal h → is_idle g ≡ false → ended_count h ≡ ended_count g → (b : ℕ) → is_enabled h b ≡ is_enabled g b
+pub still_enabled : (g h : List Event) → IsPrefix g h → IsLegal h → is_free g ≡ false → ended_count h ≡ ended_count g → (b : ℕ) → is_enabled h b ≡ is_enabled g b
 still_enabled g h p legal busy same b =
     ap (λ x. is_enabled x b) (sym p.1) ∙ enabled_from g p.0 (subst IsLegal (sym p.1) legal) busy (ap ended_count p.1 ∙ same) b

@@ -7,7 +7,7 @@ use mathlib.Core.List.{IsPrefix}
 use lib.ListN.{get_elem?}
 use Rattle.atomic_table.specs.Table.{State}
 use Rattle.cj_cluster.specs.declared.event.Event.{Event}
-use Rattle.cj_cluster.specs.History.Histories.{log, is_idle, is_enabled, failures_noted}
+use Rattle.cj_cluster.specs.History.Histories.{log, is_free, is_enabled, failures_noted}
 use Rattle.cj_cluster.specs.History.Legality.{IsLegal}
 use Rattle.cj_board.specs.declared.view.SeatView.{SeatView}
 use Rattle.cj_board.specs.declared.view.Role.{Role}
@@ -75,13 +75,13 @@ pub record PositionsAreInLog (h : List Event) (ws : List ℕ) (vs : List SeatVie
 
 -- Where no entry is open, each enabled backend stands at the end of the log.
 abbrev pub EnabledAreAtEnd : List Event → List ℕ → Type 0
-EnabledAreAtEnd h ws = is_idle h ≡ true → (b : ℕ) → is_enabled h b ≡ true → position_word ws b ≡ length (log h)
+EnabledAreAtEnd h ws = is_free h ≡ true → (b : ℕ) → is_enabled h b ≡ true → position_word ws b ≡ length (log h)
 
 -- ---- cells were at the end of the log
 
 -- Wherever history h was idle with backend b enabled, p is the end of the log of that moment, or a longer log was seen.
 abbrev pub StandsAtEnd : ℕ → ℕ → List Event → List Event → Type 0
-StandsAtEnd b p front h = (m : List Event) → IsPrefix m h → is_idle m ≡ true → is_enabled m b ≡ true → (p ≡ length (log m)) ⊎ (length (log m) < length (log front))
+StandsAtEnd b p front h = (m : List Event) → IsPrefix m h → is_free m ≡ true → is_enabled m b ≡ true → (p ≡ length (log m)) ⊎ (length (log m) < length (log front))
 
 abbrev pub CellStandsAtEnd : List Event → Role → List Event → Type 0
 CellStandsAtEnd h (Book m) front = Unit {0}

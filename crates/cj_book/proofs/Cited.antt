@@ -4,7 +4,7 @@ pub use Rattle.cj_board.specs.Steps.{HasPositionNotes, after_learning}
 pub use Rattle.cj_board.specs.Views.{pass_of}
 pub use Rattle.cj_book.proofs.Announcing.{given_after, no_counts, one_token, opening_comes, opening_seen, seen_after}
 pub use Rattle.cj_book.proofs.Begun.{followed, numbers_before, taken_off}
-pub use Rattle.cj_book.proofs.Common.{BookSession, BookState, CanCount, Disabled, Enabled, Ended, Entry, Event, HasBadEntry, HasCountNotes, HasCountedLogFaults, IsBeforeOrAfter, IsKeptIn, IsLegal, IsOfGiven, IsOfKnown, IsOpening, IsPlaceOf, IsRecovered, KeepsTransactions, LeavesItems, LeavesOnly, LogError, LogFailed, LogItem, LogMarker, Marker, OpenTransaction, OpensTo, ReadFailed, Recovered, Refuses, Sched, SeatView, SeatedBook, Starts, after_append, after_join, and_parts, answers_always, book_after, book_view, both_ways, bytes_eq, entry_item, event_count_of, event_or_fault, has_session, has_table, has_written, hearing, list_any, history, hosts, hosts_all, in_mask, is_enabled, is_written_in, items_of, last_write_failed, legal_fit, legal_prefix, legal_push, log, log-same, log-sched, marker_item, markers_of, needs, next_session, numbered, own_view, pass_after, pass_view, pass_without_tokens, placement_at, placement_of, request_of, session_number, sessions_after, told_book, told_pass, transactions_after, tx_number, tx_of}
+pub use Rattle.cj_book.proofs.Common.{BookSession, BookState, CanCount, Disabled, Enabled, Ended, Entry, Event, HasBadEntry, HasCountNotes, HasCountedLogFaults, IsBeforeOrAfter, IsKeptIn, IsLegal, IsOfGiven, IsOfKnown, IsOpening, IsIndexOf, IsRecovered, KeepsTransactions, LeavesItems, LeavesOnly, LogError, LogFailed, LogItem, LogMarker, Marker, OpenTransaction, OpensTo, ReadFailed, Recovered, Refuses, Sched, SeatView, SeatedBook, Starts, after_append, after_join, and_parts, answers_always, book_after, book_view, both_ways, bytes_eq, entry_item, event_count_of, event_or_fault, has_session, has_table, has_written, hearing, list_any, history, hosts, hosts_all, in_mask, is_enabled, is_written_in, items_of, last_write_failed, legal_fit, legal_prefix, legal_push, log, log-same, log-sched, marker_item, markers_of, needs, next_session, numbered, own_view, pass_after, pass_view, pass_without_tokens, placement_at, placement_of, request_of, session_number, sessions_after, told_book, told_pass, transactions_after, tx_number, tx_of}
 pub use Rattle.cj_book.proofs.Counted.{opening_counted}
 pub use Rattle.cj_book.proofs.Following.{follows_closed, follows_log_failed, follows_marker, follows_sched, given_known, given_session, tx_open}
 pub use Rattle.cj_book.proofs.Keeping.{kept_disabled, kept_enabled, kept_ended, kept_log_failed, kept_marker, kept_read_failed, kept_sched, kept_wanting, marker_behind}
@@ -22,7 +22,7 @@ pub use Rattle.cj_book.proofs.Written.{none_written, put_has, written_more}
 pub use Rattle.cj_book.specs.Lists.{new_session, new_tx}
 pub use Rattle.cj_book.specs.declared.counter.Counter.{Counter}
 pub use Rattle.cj_book.specs.declared.error.StartError.{StartError}
-pub use Rattle.cj_freshness.proofs.Fresh.{by_tables}
-pub use Rattle.cj_freshness.specs.Freshness.{NoneTouches, without_touched}
-pub use Rattle.cj_opening.specs.declared.error.OpeningError.TheVariants.{BadEntry}
+pub use Rattle.cj_cluster.proofs.FreshAnswers.{by_tables}
+pub use Rattle.cj_cluster.specs.History.Freshness.{NoneTouches, without_touched}
+pub use Rattle.cj_recovery.specs.declared.error.OpeningError.TheVariants.{BadEntry}
 pub use Rattle.std.proofs.Math.Nat.{min-eq_left, min-le_left}

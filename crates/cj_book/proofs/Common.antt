@@ -8,7 +8,7 @@ pub use Rattle.cj_book.specs.Books.{BookState, IsKeptIn, IsOfGiven, IsOfKnown, f
 pub use Rattle.cj_book.specs.Counters.{CanCount, book_after, hearing, own_view, pass_after}
 pub use Rattle.cj_book.specs.Found.{IsRecovered}
 pub use Rattle.cj_book.specs.Kept.{Follows, IsKeptSession, KeepsHistory, KeepsTransactions}
-pub use Rattle.cj_book.specs.Lists.{IsPlaceOf, new_session, numbered, session_number, sessions_after, transactions_after, tx_number, without}
+pub use Rattle.cj_book.specs.Lists.{IsIndexOf, new_session, numbered, session_number, sessions_after, transactions_after, tx_number, without}
 pub use Rattle.cj_book.specs.Seated.{HasCountedLogFaults, SeatedBook, event_or_fault, told_book, told_pass}
 pub use Rattle.cj_book.specs.Starts.{Starts, greatest_session}
 pub use Rattle.cj_book.specs.Touching.{has_table, is_written_in}
@@ -20,7 +20,7 @@ pub use Rattle.cj_book.specs.declared.transactions.OpenTransaction.{OpenTransact
 pub use Rattle.cj_cluster.proofs.Pushed.{enabled-push, get_seam, legal_prefix, legal_push, log-same, log-sched, opened-free, take_whole}
 pub use Rattle.cj_cluster.proofs.TransactionLaws.{legal_fit}
 pub use Rattle.cj_cluster.proofs.Common.{HasServer, bytes_eq, in_mask, list_any, request_of}
-pub use Rattle.cj_cluster.specs.History.Histories.{enabled_after_event, ended_count, events_left, is_enabled, is_end_event, is_idle, log, marker_name, markers, scheduled_entry, tx_of}
+pub use Rattle.cj_cluster.specs.History.Histories.{enabled_after_event, ended_count, events_left, is_enabled, is_end_event, is_free, log, marker_name, markers, scheduled_entry, tx_of}
 pub use Rattle.cj_cluster.specs.History.Legality.{AreFitMasks, IsAdministratorEntry, IsAllowedEvent, IsFitEntry, IsLegal, IsSessionEntry}
 pub use Rattle.cj_cluster.specs.History.Transactions.{has_written, is_end}
 pub use Rattle.cj_cluster.specs.Moves.Moves.{entry_numbered}
@@ -36,7 +36,7 @@ pub use Rattle.cj_model.specs.Cluster.Placements.{Placement, concerns, hosts, ho
 pub use Rattle.cj_model.specs.declared.request.Act.{Act}
 pub use Rattle.cj_model.specs.declared.request.Entry.{Entry}
 pub use Rattle.cj_model.specs.declared.request.Request.{Request}
-pub use Rattle.cj_opening.specs.Openings.{HasBadEntry, IsOpening, OpensTo, entry_item, items_behind, items_of, marker_item}
+pub use Rattle.cj_recovery.specs.Openings.{HasBadEntry, IsOpening, OpensTo, entry_item, items_behind, items_of, marker_item}
 pub use Rattle.cj_outside.specs.Causes.{next}
 pub use Rattle.cj_outside.specs.Stores.{LeavesOnly}
 pub use Rattle.cj_place.proofs.Common.{Layout, bytes_eq-Decides, placement_of}

@@ -4,7 +4,7 @@ use Rattle.std.proofs.lemmas.List.Elements.{All-filter}
 use Rattle.cj_book.proofs.Common.{and_parts, AreFitMasks, BookSession, BookState, bytes_eq, concerns, Disabled, Enabled, Ended, Entry, entry_numbered, eqb-false, Event, has-and, has-zero, has_session, in_mask, is_end, is_orphan, is_orphan_of, is_target_at, IsAdministratorEntry, IsAllowedEvent, IsFitEntry, IsOfGiven, IsOfKnown, IsSessionEntry, Layout, legal_fit, list_any, LogFailed, Marker, new_session, numbered, OpenTransaction, Placement, placement_of, ReadFailed, Sched, session_number, sessions_after, transactions_after, without}
 use Rattle.cj_model.specs.Cluster.Caching.{CacheState}
 use Rattle.cj_model.specs.Cluster.Balancing.{Balance}
-use Rattle.cj_cluster.specs.History.Histories.{scheduled_entry, is_end_event, log, ended_count, is_idle, entry_in_progress, is_enabled, events_left, markers, tx_of}
+use Rattle.cj_cluster.specs.History.Histories.{scheduled_entry, is_end_event, log, ended_count, is_free, open_entry_of, is_enabled, events_left, markers, tx_of}
 use Rattle.cj_cluster.proofs.Pushed.{enabled-push, log-sched, log-same, legal_push, opened-sched, opened-same, opened-free, opened-ended}
 use Rattle.cj_log.specs.Logs.{LogState}
 use Rattle.cj_book.specs.Kept.{IsKeptSession, KeepsSessions, KeepsTransactions, KeepsTargets, Follows}
@@ -32,15 +32,15 @@ module _ (layout : Layout) (h : List Event) (greatest mask : ℕ) (ss : List Boo
       }
 
   -- while no entry is open, there is no target
-  no_targets : (new : Event) → scheduled_entry new ≡ None → is_end_event new ≡ false → is_idle h ≡ true → KeepsTargets p (h ++ new ∷ []) mask
+  no_targets : (new : Event) → scheduled_entry new ≡ None → is_end_event new ≡ false → is_free h ≡ true → KeepsTargets p (h ++ new ∷ []) mask
   no_targets new no_entry no_end idle b =
-      let before : entry_in_progress h ≡ None = opened-free h idle in
+      let before : open_entry_of h ≡ None = opened-free h idle in
       f.targets b ∙ (ap (λ o. is_target_at p h o b) before ∙ sym (ap (λ o. is_target_at p (h ++ new ∷ []) o b) (opened-same h new no_entry no_end ∙ before)))
 
-  pub follows_disabled : (b : ℕ) → 0 < events_left h → is_idle h ≡ true → is_enabled h b ≡ true → Follows layout (h ++ Disabled b ∷ []) greatest mask ss ts
+  pub follows_disabled : (b : ℕ) → 0 < events_left h → is_free h ≡ true → is_enabled h b ≡ true → Follows layout (h ++ Disabled b ∷ []) greatest mask ss ts
   follows_disabled b space idle on = follows_same (Disabled b) mask refl (omega arith) (idle, on) (no_targets (Disabled b) refl refl idle)
 
-  pub follows_enabled : (b : ℕ) → 0 < events_left h → is_idle h ≡ true → is_enabled h b ≡ false → Follows layout (h ++ Enabled b ∷ []) greatest mask ss ts
+  pub follows_enabled : (b : ℕ) → 0 < events_left h → is_free h ≡ true → is_enabled h b ≡ false → Follows layout (h ++ Enabled b ∷ []) greatest mask ss ts
   follows_enabled b space idle off = follows_same (Enabled b) mask refl (omega arith) (idle, off) (no_targets (Enabled b) refl refl idle)
 
   pub follows_read_failed : (s q b : ℕ) → 0 < events_left h → Follows layout (h ++ ReadFailed s q b ∷ []) greatest mask ss ts
@@ -48,16 +48,16 @@ module _ (layout : Layout) (h : List Event) (greatest mask : ℕ) (ss : List Boo
       follows_same (ReadFailed s q b) mask refl (omega arith) tt
       (λ k.
       f.targets k
-      ∙ (sym (target_same p (h ++ ReadFailed s q b ∷ []) h (entry_in_progress h) k (enabled-push h (ReadFailed s q b) k) (log-same h (ReadFailed s q b) refl))
+      ∙ (sym (target_same p (h ++ ReadFailed s q b ∷ []) h (open_entry_of h) k (enabled-push h (ReadFailed s q b) k) (log-same h (ReadFailed s q b) refl))
       ∙ sym (ap (λ o. is_target_at p (h ++ ReadFailed s q b ∷ []) o k) (opened-same h (ReadFailed s q b) refl refl))))
 
-  pub follows_log_failed : (s q : ℕ) → 0 < events_left h → is_idle h ≡ true → Follows layout (h ++ LogFailed s q ∷ []) greatest mask ss ts
+  pub follows_log_failed : (s q : ℕ) → 0 < events_left h → is_free h ≡ true → Follows layout (h ++ LogFailed s q ∷ []) greatest mask ss ts
   follows_log_failed s q space idle = follows_same (LogFailed s q) mask refl (omega arith) idle (no_targets (LogFailed s q) refl refl idle)
 
-  pub follows_marker : (name : List ℕ) (b : Option ℕ) → 0 < events_left h → is_idle h ≡ true → list_any (bytes_eq name) (markers h) ≡ false → Follows layout (h ++ Marker name b ∷ []) greatest mask ss ts
+  pub follows_marker : (name : List ℕ) (b : Option ℕ) → 0 < events_left h → is_free h ≡ true → list_any (bytes_eq name) (markers h) ≡ false → Follows layout (h ++ Marker name b ∷ []) greatest mask ss ts
   follows_marker name b space idle fresh = follows_same (Marker name b) mask refl (omega arith) (idle, fresh) (no_targets (Marker name b) refl refl idle)
 
-  pub follows_ended : (failed starved : ℕ) → length h + 2 * (length (log h) - ended_count h) ≤ 2 ^ 62 → is_idle h ≡ false → (ended_count h ≤ length (log h)) × (length (log h) ≤ ended_count h + 1) → AreFitMasks h failed starved
+  pub follows_ended : (failed starved : ℕ) → length h + 2 * (length (log h) - ended_count h) ≤ 2 ^ 62 → is_free h ≡ false → (ended_count h ≤ length (log h)) × (length (log h) ≤ ended_count h + 1) → AreFitMasks h failed starved
       → Follows layout (h ++ Ended failed starved ∷ []) greatest 0 ss ts
   follows_ended failed starved short is_open one_open masks =
       let ends : ended_count h ≢ length (log h) = eqb-false _ _ is_open in
@@ -135,7 +135,7 @@ module _ (layout : Layout) (h : List Event) (greatest mask : ℕ) (ss : List Boo
         record { owner = a.begin.session; tx = a.is_open; some = some; whose = inr (none, closed a.begin a.at tx (numbered_entry (log h) a.at ∙ a.began) q.1) }) given)
         fit.by
 
-    pub follows_sched : (hosts on : ℕ) → IsFitEntry (log h) e → IsOfGiven book e → is_idle h ≡ true → length h < 2 ^ 62 → ((b : ℕ) → in_mask hosts b ≡ concerns p b (log h) e.tx e.act) → ((b : ℕ) → in_mask on b ≡ is_enabled h b)
+    pub follows_sched : (hosts on : ℕ) → IsFitEntry (log h) e → IsOfGiven book e → is_free h ≡ true → length h < 2 ^ 62 → ((b : ℕ) → in_mask hosts b ≡ concerns p b (log h) e.tx e.act) → ((b : ℕ) → in_mask on b ≡ is_enabled h b)
         → Follows layout (h ++ Sched e ∷ []) greatest (bit_and on hosts) (sessions_after ss (length (log h) + 1) e e.act) (transactions_after ts (length (log h) + 1) hosts e e.act)
     follows_sched hosts on fit given idle space concerned enabled =
         let entries : log (h ++ Sched e ∷ []) ≡ log h ++ e ∷ [] = log-sched h e in

@@ -1,7 +1,7 @@
 -- A book with one more event.
 use Rattle.std.proofs.Common.{◌≡◌, ◌≢◌, Bool, ℕ, ◌+◌, ◌-◌, ◌*◌, ◌^◌, ◌%◌, ◌<◌, ◌≤◌, ◌==◌, ◌&&◌, ◌||◌, not, true, false, List, [], ◌∷◌, ◌++◌, length, map, All, Option, None, bit_and, bit_or, refl, ap, sym, ◌∙◌, subst, arith, length-append, ⊎_elim}
 use Rattle.std.proofs.lemmas.Bool.{eqb-true, eqb-false, and_parts, or_cases}
-use Rattle.cj_book.proofs.Common.{AreFitMasks, BookSession, bytes_eq, Disabled, Enabled, enabled_after_event, Ended, ended_count, Entry, entry_item, Event, events_left, failed_after, in_mask, is_enabled, is_end_event, is_idle, items_behind, Layout, list_any, log, log_failure_session, LogFailed, LogItem, LogMarker, Marker, marker_item, markers, next, OpenTransaction, ReadFailed, Sched, scheduled_entry, session_number}
+use Rattle.cj_book.proofs.Common.{AreFitMasks, BookSession, bytes_eq, Disabled, Enabled, enabled_after_event, Ended, ended_count, Entry, entry_item, Event, events_left, failed_after, in_mask, is_enabled, is_end_event, is_free, items_behind, Layout, list_any, log, log_failure_session, LogFailed, LogItem, LogMarker, Marker, marker_item, markers, next, OpenTransaction, ReadFailed, Sched, scheduled_entry, session_number}
 use Rattle.cj_cluster.proofs.Pushed.{enabled-push, log-sched, log-same, done-same, done-ended}
 use Rattle.cj_book.proofs.Marked.{marked_more, marked_same, marked_sched}
 use Rattle.cj_book.specs.Books.{IsOpenSession}
@@ -15,7 +15,7 @@ use Rattle.cj_model.proofs.MaskBits.{has_without, has_cleared, has_set}
 
 module _ {n : ℕ} {h : List Event} {kept : List Entry} {ended on : ℕ} (k : KeepsHistory n h kept ended on) where
   -- an entry that is scheduled
-  keeps_sched : (e : Entry) → is_idle h ≡ true → 3 ≤ events_left h → KeepsHistory n (h ++ Sched e ∷ []) (kept ++ e ∷ []) ended on
+  keeps_sched : (e : Entry) → is_free h ≡ true → 3 ≤ events_left h → KeepsHistory n (h ++ Sched e ∷ []) (kept ++ e ∷ []) ended on
   keeps_sched e idle space =
       let at_end : ended_count h ≡ length (log h) = eqb-true _ _ idle in
       let entries : log (h ++ Sched e ∷ []) ≡ log h ++ e ∷ [] = log-sched h e in
@@ -62,7 +62,7 @@ module _ {n : ℕ} {h : List Event} {kept : List Entry} {ended on : ℕ} (k : Ke
       keeps_same new on no_entry no_end space (λ b. k.mask b ∙ sym (same b)) (λ b is. k.below b (sym (same b) ∙ is))
 
   -- the end of the open entry
-  keeps_ended : (f s : ℕ) → on < 2 ^ 32 → f < 2 ^ 32 → s < 2 ^ 32 → is_idle h ≡ false → KeepsHistory n (h ++ Ended f s ∷ []) kept (ended + 1) (bit_and on (4294967295 - bit_or f s))
+  keeps_ended : (f s : ℕ) → on < 2 ^ 32 → f < 2 ^ 32 → s < 2 ^ 32 → is_free h ≡ false → KeepsHistory n (h ++ Ended f s ∷ []) kept (ended + 1) (bit_and on (4294967295 - bit_or f s))
   keeps_ended f s fits p q is_open =
       let entries : log (h ++ Ended f s ∷ []) ≡ log h = log-same h (Ended f s) refl in
       let as_many : length (log (h ++ Ended f s ∷ [])) ≡ length (log h) = ap length entries in
@@ -125,18 +125,18 @@ module _ {tells : Bool} {layout : Layout} {h : List Event} {kept : List Entry} {
     faults = counted_more h before now k.faults e unfailed;
   }
 
-  pub kept_disabled : (b : ℕ) → on < 2 ^ 32 → b < length layout.names → 0 < events_left h → is_idle h ≡ true → is_enabled h b ≡ true
+  pub kept_disabled : (b : ℕ) → on < 2 ^ 32 → b < length layout.names → 0 < events_left h → is_free h ≡ true → is_enabled h b ≡ true
       → IsKeptBook tells layout (h ++ Disabled b ∷ []) kept ended (bit_and on (4294967295 - 1 * 2 ^ b % 4294967296)) greatest targets ss ts marks given items torn before now
   kept_disabled b fits named space idle was = kept_more (Disabled b) refl (λ n. refl) (λ f. refl) (keeps_disabled k.history b fits named space) (follows_disabled _ _ _ _ _ _ k.follows b space idle was)
 
-  pub kept_enabled : (b : ℕ) → b < length layout.names → 0 < events_left h → is_idle h ≡ true → is_enabled h b ≡ false
+  pub kept_enabled : (b : ℕ) → b < length layout.names → 0 < events_left h → is_free h ≡ true → is_enabled h b ≡ false
       → IsKeptBook tells layout (h ++ Enabled b ∷ []) kept ended (bit_or on (1 * 2 ^ b % 4294967296)) greatest targets ss ts marks given items torn before now
   kept_enabled b named space idle was = kept_more (Enabled b) refl (λ n. refl) (λ f. refl) (keeps_enabled k.history b named space) (follows_enabled _ _ _ _ _ _ k.follows b space idle was)
 
   pub kept_read_failed : (s q b : ℕ) → 0 < events_left h → IsKeptBook tells layout (h ++ ReadFailed s q b ∷ []) kept ended on greatest targets ss ts marks given items torn before now
   kept_read_failed s q b space = kept_more (ReadFailed s q b) refl (λ n. refl) (λ f. refl) (keeps_quiet k.history (ReadFailed s q b) refl refl (λ x t. refl) space) (follows_read_failed _ _ _ _ _ _ k.follows s q b space)
 
-  pub kept_ended : (f s : ℕ) → on < 2 ^ 32 → f < 2 ^ 32 → s < 2 ^ 32 → is_idle h ≡ false → AreFitMasks h f s
+  pub kept_ended : (f s : ℕ) → on < 2 ^ 32 → f < 2 ^ 32 → s < 2 ^ 32 → is_free h ≡ false → AreFitMasks h f s
       → IsKeptBook tells layout (h ++ Ended f s ∷ []) kept (ended + 1) (bit_and on (4294967295 - bit_or f s)) greatest 0 ss ts marks given items torn before now
   kept_ended f s fits p q is_open masks =
       kept_more (Ended f s) refl (λ n. refl) (λ f. refl) (keeps_ended k.history f s fits p q is_open) (follows_ended _ _ _ _ _ _ k.follows f s k.history.short is_open k.history.one_open masks)
@@ -158,7 +158,7 @@ module _ {tells : Bool} {layout : Layout} {h : List Event} {kept : List Entry} {
   }
 
   -- or since the store failed
-  pub kept_log_failed : (s q : ℕ) {items' : List LogItem} {torn' : Bool} {now' : ℕ} → 0 < events_left h → is_idle h ≡ true → (tells ≡ true → items' ≡ items) → now' ≡ next now
+  pub kept_log_failed : (s q : ℕ) {items' : List LogItem} {torn' : Bool} {now' : ℕ} → 0 < events_left h → is_free h ≡ true → (tells ≡ true → items' ≡ items) → now' ≡ next now
       → IsKeptBook tells layout (h ++ LogFailed s q ∷ []) kept ended on greatest targets ss ts marks given items' torn' before now'
   kept_log_failed s q space idle same count = record {
     history = keeps_quiet k.history (LogFailed s q) refl refl (λ x t. refl) space;
@@ -172,7 +172,7 @@ module _ {tells : Bool} {layout : Layout} {h : List Event} {kept : List Entry} {
   }
 
   -- a marker stands in it
-  pub kept_marker : (name : List ℕ) (b : Option ℕ) {items' : List LogItem} {torn' : Bool} {now' : ℕ} → 0 < events_left h → is_idle h ≡ true → list_any (bytes_eq name) (markers h) ≡ false
+  pub kept_marker : (name : List ℕ) (b : Option ℕ) {items' : List LogItem} {torn' : Bool} {now' : ℕ} → 0 < events_left h → is_free h ≡ true → list_any (bytes_eq name) (markers h) ≡ false
       → (tells ≡ true → items' ≡ items ++ marker_item (length (log h)) name b ∷ []) → (tells ≡ true → torn' ≡ false) → now' ≡ now → IsKeptBook tells layout (h ++ Marker name b ∷ []) kept ended on greatest targets ss ts (marks ++ marker_behind h name b ∷ []) given items' torn' before now'
   kept_marker name b {torn' = torn'} space idle fresh added shut count = record {
     history = keeps_quiet k.history (Marker name b) refl refl (λ x t. refl) space;
@@ -186,7 +186,7 @@ module _ {tells : Bool} {layout : Layout} {h : List Event} {kept : List Entry} {
   }
 
   -- an entry stands in it
-  pub kept_sched : (e : Entry) {targets' : ℕ} {ss' : List BookSession} {ts' : List OpenTransaction} {items' : List LogItem} {torn' : Bool} {now' : ℕ} → is_idle h ≡ true → 3 ≤ events_left h → Follows layout (h ++ Sched e ∷ []) greatest targets' ss' ts' → map session_number ss' ≡ map session_number ss
+  pub kept_sched : (e : Entry) {targets' : ℕ} {ss' : List BookSession} {ts' : List OpenTransaction} {items' : List LogItem} {torn' : Bool} {now' : ℕ} → is_free h ≡ true → 3 ≤ events_left h → Follows layout (h ++ Sched e ∷ []) greatest targets' ss' ts' → map session_number ss' ≡ map session_number ss
       → (tells ≡ true → items' ≡ items ++ entry_item (length (log h) + 1) e ∷ []) → (tells ≡ true → torn' ≡ false) → now' ≡ now → IsKeptBook tells layout (h ++ Sched e ∷ []) (kept ++ e ∷ []) ended on greatest targets' ss' ts' marks given items' torn' before now'
   kept_sched e {torn' = torn'} idle space follows numbers added shut count = record {
     history = keeps_sched k.history e idle space;

@@ -1,7 +1,7 @@
 -- The items of a history with one more event.
 use Rattle.std.proofs.Common.{◌≡◌, inl, inr, refl, Bool, true, false, ℕ, ◌+◌, [], ◌∷◌, ◌++◌, List, length, Option, arith, ap, ◌∙◌}
 use Rattle.cj_book.proofs.Common.{append-nil, Entry, entry_item, Event, failed_after, fold-append, IsKeptIn, items_behind, items_of, last_write_failed, log, LogItem, Marker, marker_item, Sched}
-use Rattle.cj_opening.proofs.Longer.{items_append}
+use Rattle.cj_recovery.proofs.Longer.{items_append}
 use Rattle.cj_log.specs.Logs.{KeepsAtLeast, KeepsItems}
 
 -- an event that brings no item

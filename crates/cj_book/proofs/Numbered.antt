@@ -12,7 +12,7 @@ use Rattle.std.proofs.lemmas.Cmp.{ranked}
 use Rattle.std.proofs.lemmas.Option.{slice_get_cases, slice_get-get_or, slice_get_within, get_or_from_slice_get}
 use Rattle.std.proofs.lemmas.List.Elements.{All-nil, All-cons, All-head, All-tail, All-weaker, All-push}
 use Rattle.cj_model.proofs.RisingLaws.{rises_filter, rises_map}
-use Rattle.cj_book.specs.Lists.{by_number, numbered, without, IsPlaceOf}
+use Rattle.cj_book.specs.Lists.{by_number, numbered, without, IsIndexOf}
 
 module _ {A : Type 0} (number : A → ℕ) where
   -- the items of no such number
@@ -95,7 +95,7 @@ module _ {A : Type 0} (number : A → ℕ) where
 
     -- it finds the item, if it is there
     pub searched : (q : Result ℕ ℕ) → IsSearchInRange q (length xs) → IsBinarySearchResult (λ x. nat_cmp (number x) n) xs q
-        → MatchResult q (IsPlaceOf number xs n) (λ i. numbered number xs n ≡ None)
+        → MatchResult q (IsIndexOf number xs n) (λ i. numbered number xs n ≡ None)
     searched (Ok i) in_range equal =
         ⊎_elim
         (λ (q : (x : A) × (i < length xs) × (slice_get xs i ≡ Some x) × (get_or xs i x ≡ x)).
@@ -155,7 +155,7 @@ module _ {A : Type 0} (number : A → ℕ) where
       same x true = keeps x
       same x false = refl
 
-  module _ (xs : List A) (r : Rises (by_number number) xs) (n place : ℕ) (at : IsPlaceOf number xs n place) where
+  module _ (xs : List A) (r : Rises (by_number number) xs) (n place : ℕ) (at : IsIndexOf number xs n place) where
     -- the item at the place
     pub there : (x : A) → x ≡ get_or xs place x → slice_get xs place ≡ Some x
     there x read = slice_get-get_or xs place x at.within ∙ ap (λ y. Some y) (sym read)

@@ -6,8 +6,8 @@ use Rattle.std.proofs.lemmas.Bool.{eqb-true, both_ways}
 use Rattle.std.proofs.lemmas.List.Elements.{All-nil, All-from_recursion}
 use Rattle.std.proofs.Math.Nat.{le-max_left, le-max_right}
 use Rattle.std.proofs.Math.Seq.{take-length}
-use Rattle.cj_book.proofs.Common.{concerns, Disabled, Enabled, Ended, ended_count, Entry, Event, fold-append, Follows, get_or_from_slice_get, get_seam, greatest_session, has-zero, in_mask, is_enabled, is_idle, is_target_at, IsAdministratorEntry, IsAllowedEvent, IsFitEntry, IsKeptSession, IsSessionEntry, items_behind, IsLegal, IsOpening, IsRecovered, KeepsHistory, KeepsTransactions, Layout, legal_fit, legal_prefix, log, log-same, log-sched, LogFailed, LogItem, LogMarker, Marker, markers_of, opened-free, OpensTo, Placement, placement_of, ReadFailed, Recovered, Sched, scheduled_entry, take_whole, transactions_after}
-use Rattle.cj_opening.proofs.Longer.{idle_opening}
+use Rattle.cj_book.proofs.Common.{concerns, Disabled, Enabled, Ended, ended_count, Entry, Event, fold-append, Follows, get_or_from_slice_get, get_seam, greatest_session, has-zero, in_mask, is_enabled, is_free, is_target_at, IsAdministratorEntry, IsAllowedEvent, IsFitEntry, IsKeptSession, IsSessionEntry, items_behind, IsLegal, IsOpening, IsRecovered, KeepsHistory, KeepsTransactions, Layout, legal_fit, legal_prefix, log, log-same, log-sched, LogFailed, LogItem, LogMarker, Marker, markers_of, opened-free, OpensTo, Placement, placement_of, ReadFailed, Recovered, Sched, scheduled_entry, take_whole, transactions_after}
+use Rattle.cj_recovery.proofs.Longer.{idle_opening}
 use Rattle.cj_book.proofs.Marked.{marked_sched}
 use Rattle.cj_cluster.specs.History.Transactions.{AreFitBehind}
 use Rattle.cj_model.specs.declared.limits.TheConstants.{SESSION_NUMBER_LIMIT}
@@ -95,7 +95,7 @@ off : (h : List Event) (b : ℕ) → IsOpening h → is_enabled h b ≡ false
 off h b o = subst (λ (w : List Event). is_enabled w b ≡ false) (take-length h) (opening_off h (length h) b o)
 
 module _ (layout : Layout) (items : List LogItem) (h : List Event) (o : OpensTo items h) where
-  idle : is_idle h ≡ true
+  idle : is_free h ≡ true
   idle = idle_opening h o.opening
 
   ended : ended_count h ≡ length (log h)

@@ -1,7 +1,7 @@
 -- Why what could come into the history didn't.
 use Rattle.std.proofs.Common.{◌≡◌, ◌⊎◌, inl, inr, ℕ, ◌+◌, ◌<◌, ◌≤◌, Bool, true, List, length, Option, Result, Ok, Err, OnOk, OnErr, refl, ap, sym, ◌∙◌, arith, subst, ⊎_elim}
 use Rattle.std.specs.Prelude.{◌↔◌, IfErr, IsErrAnd}
-use Rattle.cj_book.proofs.Common.{Act, BookError, both_ways, Entry, entry_item, Event, events_left, HistoryFull, hosts_all, InProgress, is_idle, IsBeforeOrAfter, LeavesOnly, log, LogFault, LogItem, marker_item, needs, NoBackend, NoMemory, Placement, Request, request_of}
+use Rattle.cj_book.proofs.Common.{Act, BookError, both_ways, Entry, entry_item, Event, events_left, HistoryFull, hosts_all, InProgress, is_free, IsBeforeOrAfter, LeavesOnly, log, LogFault, LogItem, marker_item, needs, NoBackend, NoMemory, Placement, Request, request_of}
 use Rattle.cj_cluster.specs.History.Answering.{HasNoServer, HasServer}
 use Rattle.cj_book.specs.Books.{BookState, CanSchedule, Checks, HasNoBackend, HasNoRoomForOne, HasRoom, IsInProgress, IsWant, LacksRoom, placement_at}
 use Rattle.cj_book.specs.Events.{Marks, Schedules}
@@ -22,7 +22,7 @@ module _ (r : Result ℕ BookError) (want : IfErr r (λ error. (error ≡ LogFau
     pub not_open : (n : ℕ) → r ≡ Err (InProgress n) ↔ IsInProgress old n
     not_open n = (
       λ is. ⊎_elim (λ (e : InProgress n ≡ LogFault). cc e) (λ (e : InProgress n ≡ NoMemory). cc e) (one_of (InProgress n) is),
-      λ p. absurd (both_ways (is_idle old.history) p.open_now can.is_free),
+      λ p. absurd (both_ways (is_free old.history) p.open_now can.is_free),
     )
 
     pub not_unserved : r ≡ Err NoBackend ↔ HasNoBackend old a
@@ -80,14 +80,14 @@ module _ {S : Type 0} (tells : Bool) (faults moment : S → ℕ) (since : S → 
     checked_out : (d : BookError) → Checks {T = Unit} old e.act (Err d) → Schedules tells faults moment since may old e (Err d) old
     checked_out (InProgress n) p = refused_as (InProgress n) (λ is. absurd (cc is))
         (λ m. (λ is. let same : n ≡ m = cc is in subst (IsInProgress old) same p, λ q. ap (λ k. InProgress k) (p.number ∙ sym q.number)))
-        (λ is. absurd (cc is), λ q. absurd (both_ways (is_idle old.history) p.open_now q.is_free))
-        (λ m. (λ is. absurd (cc is), λ q. absurd (both_ways (is_idle old.history) p.open_now q.is_free)))
+        (λ is. absurd (cc is), λ q. absurd (both_ways (is_free old.history) p.open_now q.is_free))
+        (λ m. (λ is. absurd (cc is), λ q. absurd (both_ways (is_free old.history) p.open_now q.is_free)))
     checked_out NoBackend p = refused_as NoBackend (λ is. absurd (cc is))
-        (λ m. (λ is. absurd (cc is), λ q. absurd (both_ways (is_idle old.history) q.open_now p.is_free)))
+        (λ m. (λ is. absurd (cc is), λ q. absurd (both_ways (is_free old.history) q.open_now p.is_free)))
         (λ is. p, λ q. refl)
         (λ m. (λ is. absurd (cc is), λ q. absurd (unserved (placement_at old) old.history (request_of e.act) p.unserved q.served)))
     checked_out (HistoryFull n) p = refused_as (HistoryFull n) (λ is. absurd (cc is))
-        (λ m. (λ is. absurd (cc is), λ q. absurd (both_ways (is_idle old.history) q.open_now p.is_free)))
+        (λ m. (λ is. absurd (cc is), λ q. absurd (both_ways (is_free old.history) q.open_now p.is_free)))
         (λ is. absurd (cc is), λ q. absurd (unserved (placement_at old) old.history (request_of e.act) q.unserved p.served))
         (λ m. (λ is. let same : n ≡ m = cc is in subst (LacksRoom old e.act) same p, λ q. ap (λ k. HistoryFull k) (p.events ∙ sym q.events)))
     checked_out LogFault p = absurd p
@@ -102,7 +102,7 @@ module _ {S : Type 0} (tells : Bool) (faults moment : S → ℕ) (since : S → 
     unprepared (Ok n) is can = absurd is
     unprepared (Err x) is can = subst (λ (y : BookError). Schedules tells faults moment since may old e (Err y) old) (sym is)
         (refused_as NoMemory (λ is. absurd (cc is))
-        (λ m. (λ is. absurd (cc is), λ q. absurd (both_ways (is_idle old.history) q.open_now can.is_free)))
+        (λ m. (λ is. absurd (cc is), λ q. absurd (both_ways (is_free old.history) q.open_now can.is_free)))
         (λ is. absurd (cc is), λ q. absurd (unserved (placement_at old) old.history (request_of e.act) q.unserved can.served))
         (λ m. (λ is. absurd (cc is), λ q. let few : events_left old.history < 3 = q.full in let space : 3 ≤ events_left old.history = can.space in absurd (omega arith))))
 

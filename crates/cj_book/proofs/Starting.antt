@@ -5,8 +5,8 @@ use Rattle.cj_book.proofs.Common.{HasBadEntry, LogItem}
 use Rattle.cj_records.specs.Records.{begun, WritesOnlyNew}
 use Rattle.cj_log.specs.Logs.{log_magic, KeepsItems}
 use Rattle.cj_log.proofs.OneLog.{one_log}
-use Rattle.cj_opening.specs.declared.error.OpeningError.{OpeningError}
-use Rattle.cj_opening.specs.declared.error.OpeningError.TheVariants as openings
+use Rattle.cj_recovery.specs.declared.error.OpeningError.{OpeningError}
+use Rattle.cj_recovery.specs.declared.error.OpeningError.TheVariants as openings
 use Rattle.cj_book.specs.Found.{entry_error_of}
 use Rattle.cj_book.specs.Starts.{Starts}
 

@@ -14,17 +14,17 @@ use Rattle.cj_model.specs.Cluster.Caching.{CacheState}
 use Rattle.cj_cache.specs.Doomed.{ListsDoomed}
 use Rattle.cj_model.specs.Cluster.Masks.{in_mask}
 use Rattle.cj_model.specs.Cluster.Placements.{Placement, hosts_all, concerns}
-use Rattle.cj_cluster.specs.History.Histories.{log, is_idle, is_enabled, events_left, tx_of}
+use Rattle.cj_cluster.specs.History.Histories.{log, is_free, is_enabled, events_left, tx_of}
 use Rattle.cj_cluster.specs.History.Answering.{HasServer, HasNoServer}
 use Rattle.cj_cluster.specs.Moves.Moves.{entry_numbered}
-use Rattle.cj_freshness.specs.Freshness.{touches_behind, without_touched}
+use Rattle.cj_cluster.specs.History.Freshness.{touches_behind, without_touched}
 use Rattle.cj_place.specs.Layouts.{Layout, placement_of}
 use Rattle.cj_log.specs.declared.item.LogItem.{LogItem}
 use Rattle.cj_log.specs.declared.item.LogItem.TheVariants as items
 use Rattle.cj_log.specs.declared.item.LogMarker.{LogMarker}
 use Rattle.cj_log.specs.Items.{CanAppend}
 use Rattle.cj_log.specs.Logs.{LogState, KeepsItems}
-use Rattle.cj_opening.specs.Openings.{entry_item, items_of}
+use Rattle.cj_recovery.specs.Openings.{entry_item, items_of}
 use Rattle.cj_book.specs.declared.reading.Doomed.{Doomed}
 use Rattle.cj_book.specs.declared.reading.Prepared.{Prepared}
 use Rattle.cj_book.specs.declared.error.BookError.{BookError}
@@ -167,12 +167,12 @@ is_target b e k = is_target_at (placement_at b) b.history e k
 -- ---- reads
 
 -- one more read is pending at b, as far as 32 bits count
-abbrev pub with_read : List ℕ → ℕ → List ℕ
-with_read pending b = if slice_index pending b + 1 == 2 ^ 32 then pending else one_more pending b
+abbrev pub with_pending_read : List ℕ → ℕ → List ℕ
+with_pending_read pending b = if slice_index pending b + 1 == 2 ^ 32 then pending else one_more pending b
 
 -- backend b was picked, and a read began there
 abbrev pub read_at : Balance → ℕ → Balance
-read_at balance b = record balance { standing = record (picked balance.policy balance.standing b) { pending = with_read balance.standing.pending b } }
+read_at balance b = record balance { standing = record (picked balance.policy balance.standing b) { pending = with_pending_read balance.standing.pending b } }
 
 -- the balancer picks b of the candidates, and a read begins there
 pub record PicksOf {S : Type 0} (old new : BookState S) (candidates b : ℕ) : Type 0 where
@@ -183,17 +183,17 @@ pub record PicksOf {S : Type 0} (old new : BookState S) (candidates b : ℕ) : T
 
 -- entry n is open
 pub record IsInProgress {S : Type 0} (b : BookState S) (n : ℕ) : Type 0 where
-  pub open_now : is_idle b.history ≡ false
+  pub open_now : is_free b.history ≡ false
   pub number : n ≡ length (log b.history)
 
 -- no entry is open, and no enabled backend serves the act, which needs one
 pub record HasNoBackend {S : Type 0} (b : BookState S) (a : Act) : Type 0 where
-  pub is_free : is_idle b.history ≡ true
+  pub is_free : is_free b.history ≡ true
   pub unserved : HasNoServer (placement_at b) b.history (request_of a)
 
 -- the act could be scheduled but for the room in the history of n events
 pub record LacksRoom {S : Type 0} (b : BookState S) (a : Act) (n : ℕ) : Type 0 where
-  pub is_free : is_idle b.history ≡ true
+  pub is_free : is_free b.history ≡ true
   pub served : HasServer (placement_at b) b.history (request_of a)
   pub full : events_left b.history < 3
   pub events : n ≡ length b.history
@@ -205,7 +205,7 @@ pub record HasNoRoomForOne {S : Type 0} (b : BookState S) (n : ℕ) : Type 0 whe
 
 -- an entry of this act can be scheduled
 pub record CanSchedule {S : Type 0} (b : BookState S) (a : Act) : Type 0 where
-  pub is_free : is_idle b.history ≡ true
+  pub is_free : is_free b.history ≡ true
   pub served : HasServer (placement_at b) b.history (request_of a)
   pub space : 3 ≤ events_left b.history
 

@@ -8,7 +8,7 @@ use Rattle.cj_cluster.specs.History.Histories.{log, events_left}
 use Rattle.cj_outside.specs.Causes.{CountsFault}
 use Rattle.cj_outside.specs.Stores.{LeavesOnly}
 use Rattle.cj_log.specs.Logs.{IsBeforeOrAfter, LeavesItems, Refuses}
-use Rattle.cj_opening.specs.Openings.{entry_item, marker_item, items_of}
+use Rattle.cj_recovery.specs.Openings.{entry_item, marker_item, items_of}
 use Rattle.cj_book.specs.declared.error.BookError.{BookError}
 use Rattle.cj_book.specs.declared.error.BookError.TheVariants.{InProgress, NoBackend, HistoryFull, LogFault, NoMemory}
 use Rattle.cj_book.specs.Books.{BookState, CanSchedule, HasNoBackend, HasNoRoomForOne, IsFull, IsInProgress, IsSameButLog, IsWant, LacksRoom, with_entry, with_event}

@@ -5,8 +5,8 @@ use Rattle.cj_cluster.specs.declared.event.Event.{Event}
 use Rattle.cj_cluster.specs.History.Histories.{log}
 use Rattle.cj_records.specs.declared.error.RecordsError.{RecordsError}
 use Rattle.cj_records.specs.declared.error.RecordsError.TheVariants as records
-use Rattle.cj_opening.specs.declared.error.OpeningError.{OpeningError}
-use Rattle.cj_opening.specs.declared.error.OpeningError.TheVariants as openings
+use Rattle.cj_recovery.specs.declared.error.OpeningError.{OpeningError}
+use Rattle.cj_recovery.specs.declared.error.OpeningError.TheVariants as openings
 use Rattle.cj_book.specs.declared.recovered.Recovered.{Recovered}
 use Rattle.cj_book.specs.declared.error.StartError.{StartError}
 use Rattle.cj_book.specs.declared.error.StartError.TheVariants.{StoreFault, BadRecord, BadEntry, NoMemory}

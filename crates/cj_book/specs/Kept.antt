@@ -3,13 +3,13 @@ use Rattle.std.specs.Prelude.{◌≡◌, ◌≢◌, ℕ, ◌+◌, ◌-◌, ◌*�
 use Rattle.std.specs.List.{list_any}
 use Rattle.cj_model.specs.declared.request.Entry.{Entry}
 use Rattle.cj_cluster.specs.declared.event.Event.{Event}
-use Rattle.cj_cluster.specs.History.Histories.{log, ended_count, entry_in_progress, is_enabled, tx_of}
+use Rattle.cj_cluster.specs.History.Histories.{log, ended_count, open_entry_of, is_enabled, tx_of}
 use Rattle.cj_cluster.specs.History.Legality.{IsLegal}
 use Rattle.cj_model.specs.Cluster.Masks.{in_mask}
 use Rattle.cj_model.specs.Cluster.Placements.{Placement, wrote_at}
 use Rattle.cj_log.specs.declared.item.LogItem.{LogItem}
 use Rattle.cj_log.specs.declared.item.LogMarker.{LogMarker}
-use Rattle.cj_opening.specs.Openings.{items_of}
+use Rattle.cj_recovery.specs.Openings.{items_of}
 use Rattle.cj_place.specs.Layouts.{Layout, placement_of}
 use Rattle.cj_book.specs.Books.{is_target_at, last_write_failed, markers_of, IsOpenSession}
 use Rattle.cj_book.specs.Lists.{by_number, session_number, tx_number}
@@ -54,7 +54,7 @@ pub record KeepsTransactions (p : Placement) (entries : List Entry) (ts : List O
 
 -- the mask of the targets of the open entry
 abbrev pub KeepsTargets : Placement → List Event → ℕ → Type 0
-KeepsTargets p h targets = (b : ℕ) → in_mask targets b ≡ is_target_at p h (entry_in_progress h) b
+KeepsTargets p h targets = (b : ℕ) → in_mask targets b ≡ is_target_at p h (open_entry_of h) b
 
 -- what follows from the history
 pub record Follows (layout : Layout) (h : List Event) (greatest mask : ℕ) (ss : List BookSession) (ts : List OpenTransaction) : Type 0 where

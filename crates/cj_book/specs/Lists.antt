@@ -25,7 +25,7 @@ abbrev pub without : {A : Type 0} → (A → ℕ) → ℕ → List A → List A
 without number n xs = filter (λ x. not (number x == n)) xs
 
 -- the item of this number stands at this place
-pub record IsPlaceOf {A : Type 0} (number : A → ℕ) (xs : List A) (n place : ℕ) : Type 0 where
+pub record IsIndexOf {A : Type 0} (number : A → ℕ) (xs : List A) (n place : ℕ) : Type 0 where
   pub within : place < length xs
   pub found : numbered number xs n ≡ slice_get xs place
 

@@ -10,7 +10,7 @@ use Rattle.cj_records.specs.RecordFiles.{Finds}
 use Rattle.cj_records.specs.Records.{begun, WritesOnlyNew}
 use Rattle.cj_log.specs.declared.item.LogItem.{LogItem}
 use Rattle.cj_log.specs.Logs.{log_magic, HasBadItem, KeepsItems}
-use Rattle.cj_opening.specs.Openings.{HasBadEntry, OpensTo, items_of}
+use Rattle.cj_recovery.specs.Openings.{HasBadEntry, OpensTo, items_of}
 use Rattle.cj_book.specs.Books.{BookState}
 use Rattle.cj_book.specs.declared.error.StartError.{StartError}
 use Rattle.cj_book.specs.declared.error.StartError.TheVariants.{StoreFault, BadRecord, BadEntry, NoMemory}

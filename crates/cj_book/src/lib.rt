@@ -6,15 +6,17 @@
 //! before it comes into the history, and `open` finds it there again.
 #![tactic(auto)]
 
-mod beside;
 mod book;
 mod counter;
+mod end;
 mod error;
-mod events;
-mod own;
+mod marker;
+mod own_pass;
 mod reading;
 mod recovered;
+mod schedule;
 mod sessions;
+mod sessions_and_cache;
 mod touching;
 mod transactions;
 

@@ -11,7 +11,7 @@ ghost use Rattle.cj_model.specs.Cluster.Caching.{after_keep, answer_kept};
 ghost use Rattle.cj_model.specs.declared.cached.Cached.{Cached};
 ghost use Rattle.cj_cluster.specs.declared.event.Event.{Event};
 ghost use Rattle.cj_cluster.specs.History.Histories as histories;
-ghost use Rattle.cj_cluster.specs.History.Histories.{log, is_idle, tx_of};
+ghost use Rattle.cj_cluster.specs.History.Histories.{log, is_free, tx_of};
 ghost use Rattle.cj_cluster.specs.History.Legality.{IsFitEntry};
 ghost use Rattle.cj_cluster.specs.History.Answering.{HasServer, HasNoServer};
 ghost use Rattle.cj_book.specs.Books as books;
@@ -26,7 +26,7 @@ use cj_log::{LogItem, LogMarker};
 use cj_model::{
     Act, Answer, BACKEND_LIMIT, EVENT_LIMIT, Entry, Name, NoMemory, Select, TableSet, has_bit,
 };
-use cj_opening::entry_item;
+use cj_recovery::entry_item;
 use cj_outside::Store;
 use cj_place::Placement;
 use cj_usage::written;
@@ -92,14 +92,14 @@ impl<S: Store> Book<S> {
 
     /// Whether no entry is open.
     pub fn is_free(&self) -> bool
-        ensures { result ≡ is_idle self.now.state.history }
+        ensures { result ≡ is_free self.now.state.history }
     {
         self.done == self.entries.len()
     }
 
     /// The number of the open entry.
     pub fn open_entry(&self) -> Option<u64>
-        ensures none { IsNone result ↔ (is_idle self.now.state.history ≡ true) }
+        ensures none { IsNone result ↔ (is_free self.now.state.history ≡ true) }
         ensures number { IfSome result (λ n. n ≡ length (log self.now.state.history)) }
     {
         if self.is_free() {
@@ -117,7 +117,7 @@ impl<S: Store> Book<S> {
 
     /// The open entry.
     pub fn opened(&self) -> Option<&Entry>
-        ensures { option_copied result ≡ histories.entry_in_progress self.now.state.history }
+        ensures { option_copied result ≡ histories.open_entry_of self.now.state.history }
     {
         self.entry_of(self.done)
     }
@@ -203,7 +203,7 @@ impl<S: Store> Book<S> {
 
     /// The mask of the backends that the open entry is for, which are enabled; 0 where no entry is open.
     pub fn targets(&self) -> u32
-        ensures { (b : ℕ) → in_mask result b ≡ is_target self.now.state (histories.entry_in_progress self.now.state.history) b }
+        ensures { (b : ℕ) → in_mask result b ≡ is_target self.now.state (histories.open_entry_of self.now.state.history) b }
     {
         self.targets
     }

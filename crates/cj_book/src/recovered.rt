@@ -7,7 +7,7 @@ ghost use Rattle.cj_cluster.specs.declared.event.Event.{Event};
 ghost use Rattle.cj_cluster.specs.declared.event.Event.TheVariants.{Sched};
 ghost use Rattle.cj_cluster.specs.History.Legality.{IsLegal};
 ghost use Rattle.cj_log.specs.Items.{IsItem};
-ghost use Rattle.cj_opening.specs.Openings.{HasBadEntry, IsOpening, OpensTo};
+ghost use Rattle.cj_recovery.specs.Openings.{HasBadEntry, IsOpening, OpensTo};
 ghost use Rattle.cj_place.specs.Layouts.{placement_of};
 ghost use Rattle.cj_board.specs.Seats.{board_id, book_board, book_view, history};
 ghost use Rattle.cj_board.specs.Steps.{after_append};
@@ -20,7 +20,7 @@ use cj_board::{Board, BookSeat};
 use cj_cluster::{BoxedEntry, Event};
 use cj_log::{LogItem, LogMarker};
 use cj_model::NoMemory;
-use cj_opening::{OpeningError, opening};
+use cj_recovery::{OpeningError, opening};
 use cj_place::Placement;
 use std::alloc::Global;
 

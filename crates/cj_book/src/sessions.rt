@@ -1,7 +1,7 @@
 //! The open sessions, with their transactions.
 
 ghost use Rattle.std.specs.Prelude.{◌≡◌, ◌<◌, [], ◌∷◌, ◌++◌, length, All, IfOk, OnErr, OnOk, MatchOption, None};
-ghost use Rattle.cj_book.specs.Lists.{IsPlaceOf, new_session, numbered, session_number, with_tx, without};
+ghost use Rattle.cj_book.specs.Lists.{IsIndexOf, new_session, numbered, session_number, with_tx, without};
 ghost use Rattle.cj_book.specs.Lists as lists;
 
 use cj_model::{Act, Entry, NoMemory, SESSION_LIMIT};
@@ -52,7 +52,7 @@ impl BookSessions {
     }
 
     fn place_of(&self, number: u64) -> Option<usize>
-        ensures { MatchOption result (numbered session_number self.now number ≡ None) (IsPlaceOf session_number self.now number) }
+        ensures { MatchOption result (numbered session_number self.now number ≡ None) (IsIndexOf session_number self.now number) }
     {
         match self.open.binary_search_by_key(&number, |s| s.number) {
             Ok(place) => Some(place),

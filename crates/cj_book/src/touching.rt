@@ -5,8 +5,8 @@ ghost use Rattle.std.specs.Option.{option_map_or};
 ghost use Rattle.std.specs.Str.{bytes_eq};
 ghost use Rattle.cj_cluster.specs.History.Histories.{log};
 ghost use Rattle.cj_cluster.specs.History.Transactions.{has_written};
-ghost use Rattle.cj_freshness.specs.Freshness as freshness;
-ghost use Rattle.cj_freshness.specs.Freshness.{NoneTouches, touches_behind};
+ghost use Rattle.cj_cluster.specs.History.Freshness as freshness;
+ghost use Rattle.cj_cluster.specs.History.Freshness.{NoneTouches, touches_behind};
 ghost use Rattle.cj_book.specs.Touching.{has_table, is_written_in};
 
 use crate::book::Book;

@@ -7,7 +7,7 @@ ghost use Rattle.cj_model.specs.Cluster.Placements.{concerns};
 ghost use Rattle.cj_cluster.specs.History.Legality.{IsFitEntry};
 ghost use Rattle.cj_place.specs.Layouts.{placement_of};
 ghost use Rattle.cj_book.specs.Kept.{KeepsTransactions};
-ghost use Rattle.cj_book.specs.Lists.{IsPlaceOf, new_tx, numbered, tx_number, with_wrote, without, wrote_of};
+ghost use Rattle.cj_book.specs.Lists.{IsIndexOf, new_tx, numbered, tx_number, with_wrote, without, wrote_of};
 ghost use Rattle.cj_book.specs.Lists as lists;
 
 use cj_model::{Act, Entry, NoMemory};
@@ -56,7 +56,7 @@ impl OpenTransactions {
     }
 
     fn place_of(&self, number: u64) -> Option<usize>
-        ensures { MatchOption result (numbered tx_number self.now number ≡ None) (IsPlaceOf tx_number self.now number) }
+        ensures { MatchOption result (numbered tx_number self.now number ≡ None) (IsIndexOf tx_number self.now number) }
     {
         match self.open.binary_search_by_key(&number, |t| t.number) {
             Ok(place) => Some(place),

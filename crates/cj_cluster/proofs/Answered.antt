@@ -3,7 +3,7 @@ use Rattle.std.proofs.Common.{◌≡◌, ◌≢◌, ◌⊎◌, inl, inr, ℕ, �
 use mathlib.Core.List.{IsPrefix}
 use Rattle.std.specs.Option.{MatchOption}
 use Rattle.std.proofs.lemmas.Bool.{cases_eq, eqb-true, eqb-false, eq-eqb, ne_eqb, both_ways, cond_both, and_parts}
-use Rattle.cj_cluster.proofs.Common.{Abort, Act, Apply, Arm, Asked, BackendStands, Close, Core, CoreInvariant, Disable, Dump, Enable, End, Entry, Event, IsFitEntry, IsLegal, Load, Mark, Move, NoMemory, NotNow, Open, OpenSession, Placement, Read, Refusal, Replay, Reply, Request, Schedule, Select, Why, act_of, asked_reply, ended_count, entry_in_progress, events_left, is_end_event, is_entry_of, is_idle, is_log_fault, log, log_faults_of, new_session, scheduled_entry, session_at, tx_of, with_session}
+use Rattle.cj_cluster.proofs.Common.{Abort, Act, Apply, Arm, Asked, BackendStands, Close, Core, CoreInvariant, Disable, Dump, Enable, End, Entry, Event, IsFitEntry, IsLegal, Load, Mark, Move, NoMemory, NotNow, Open, OpenSession, Placement, Read, Refusal, Replay, Reply, Request, Schedule, Select, Why, act_of, asked_reply, ended_count, open_entry_of, events_left, is_end_event, is_entry_of, is_free, is_log_fault, log, log_faults_of, new_session, scheduled_entry, session_at, tx_of, with_session}
 use Rattle.cj_model.specs.declared.request.Act.TheVariants as act
 use Rattle.cj_model.specs.declared.answer.Asked.TheVariants as asked
 use Rattle.cj_model.specs.declared.answer.Reply.TheVariants.{Rows, Refused}
@@ -47,13 +47,13 @@ to_other : (t s : ℕ) (r : Reply) (P : Option Reply → Type 0) → (t ≡ s �
 to_other t s r P ne h = cond_both (t == s) (Some r) None P (λ e. absurd (ne (eqb-true t s e))) (λ f. h)
 
 -- the turn up to where the session stands now, from which it goes on
-replied : (tells : Bool) (p : Placement) (a : SessionView) (c z : Core) (h : List Event) (s : ℕ) (x : OpenSession) (call : Call) (n : ℕ) → CoreInvariant z → Follows c z h s x → is_entry_of s (entry_in_progress h) ≡ false → x.reading ≡ None
+replied : (tells : Bool) (p : Placement) (a : SessionView) (c z : Core) (h : List Event) (s : ℕ) (x : OpenSession) (call : Call) (n : ℕ) → CoreInvariant z → Follows c z h s x → is_entry_of s (open_entry_of h) ≡ false → x.reading ≡ None
     → x.least ≡ n → Turn tells p s a call (record { front = h; least = n }) → Turn tells p s a call (seen_at z s) × IsBetweenReplies (seen_at z s) z s
 replied tells p a c z h s x call n v f idle none least turn =
     let now : (session_at z s).least ≡ n = ap (λ (y : OpenSession). y.least) f.session ∙ least in (
       subst (λ (g : List Event). Turn tells p s a call (record { front = g; least = (session_at z s).least })) (sym f.history)
           (subst (λ (m : ℕ). Turn tells p s a call (record { front = h; least = m })) (sym now) turn),
-      between_fresh z s v (ap (λ g. is_entry_of s (entry_in_progress g)) f.history ∙ idle) (ap (λ (y : OpenSession). y.reading) f.session ∙ none),
+      between_fresh z s v (ap (λ g. is_entry_of s (open_entry_of g)) f.history ∙ idle) (ap (λ (y : OpenSession). y.reading) f.session ∙ none),
     )
 
 -- ---- moves
@@ -103,10 +103,10 @@ module _ (tells : Bool) (a : SessionView) (c z : Core) (s : ℕ) (some : 0 < s) 
   arms b _ h = absurd h
 
   -- an event while no entry is open, which is no fault of the log's store in the session's requests
-  while_free : (ev : Event) → scheduled_entry ev ≡ None → is_end_event ev ≡ false → ((q : ℕ) → is_log_fault s q ev ≡ false) → is_idle c.history ≡ true → z ≡ record c { history = c.history ++ ev ∷ [] } → IsBetweenReplies a z s
+  while_free : (ev : Event) → scheduled_entry ev ≡ None → is_end_event ev ≡ false → ((q : ℕ) → is_log_fault s q ev ≡ false) → is_free c.history ≡ true → z ≡ record c { history = c.history ++ ev ∷ [] } → IsBetweenReplies a z s
   while_free ev none stays no_fault fr is =
       between_follows a c z (c.history ++ ev ∷ []) s (session_at c s) j (follows_rest c z s is refl (ev ∷ [], refl) refl refl)
-      (λ q. seen_event c.placement a c.history s (session_at c s) q ev none stays no_fault (λ t. absurd (both_ways (is_entry_of s (entry_in_progress c.history)) (ap (is_entry_of s) (opened-free c.history fr)) t)))
+      (λ q. seen_event c.placement a c.history s (session_at c s) q ev none stays no_fault (λ t. absurd (both_ways (is_entry_of s (open_entry_of c.history)) (ap (is_entry_of s) (opened-free c.history fr)) t)))
 
   -- a backend is disabled
   disables : (b : ℕ) (g : MoveResult) → CanDisable c b → Disables c b g z → After tells a c s (Disable b) z (reply_given c s (Disable b) g)
@@ -123,17 +123,17 @@ module _ (tells : Bool) (a : SessionView) (c z : Core) (s : ℕ) (some : 0 < s) 
   enables b _ can h = absurd h
 
   -- the session of the open entry is open, where it is this one
-  waiting_open : (e : Entry) → entry_in_progress c.history ≡ Some e → s ≡ e.session → is_open c s ≡ true
+  waiting_open : (e : Entry) → open_entry_of c.history ≡ Some e → s ≡ e.session → is_open c s ≡ true
   waiting_open e is own =
       ⊎_elim (λ (none : e.session ≡ 0). absurd (omega (arith, own, none, some))) (λ (here : is_open c e.session ≡ true). subst (λ (k : ℕ). is_open c k ≡ true) (sym own) here) (w.waits e is)
 
   -- the end of the session's own entry
-  ends_own : (e : Entry) (reply : Reply) → CanEnd c → entry_in_progress c.history ≡ Some e → s ≡ e.session
+  ends_own : (e : Entry) (reply : Reply) → CanEnd c → open_entry_of c.history ≡ Some e → s ≡ e.session
       → Follows c z (with_end c) s (answered_at (last_number c) (session_at c s)) → AnswersEntry tells c.placement c.history (with_end c) (ended_count c.history) e reply
       → After tells a c s End z (Some reply)
   ends_own e reply can is own f answer =
       let here : is_open c s ≡ true = waiting_open e is own in
-      let waiting : is_entry_of s (entry_in_progress c.history) ≡ true = ap (is_entry_of s) is ∙ eq-eqb e.session s (sym own) in
+      let waiting : is_entry_of s (open_entry_of c.history) ≡ true = ap (is_entry_of s) is ∙ eq-eqb e.session s (sym own) in
       let seen_so : StandsSince c.placement a c.history s (session_at c s) = j.here here in
       let q = seen_so.waits waiting in
       let last = opened-last c.history e w.one_open.1 is in
@@ -142,12 +142,12 @@ module _ (tells : Bool) (a : SessionView) (c z : Core) (s : ℕ) (some : 0 < s) 
       turn_end tells c.placement a c.history c.failed c.starved e reply legal j.longer j.owes (subst (AwaitsEnd c.placement a.front c.history) own q.0) is (omega (arith, own, some)) last.1
       (subst (λ (k : ℕ). (i : ℕ) → log_faults_of k i c.history ≡ log_faults_of k i a.front) own seen_so.log_faults) answer
       in
-      let mine : Turn tells c.placement s a (call_of_entry (entry_in_progress c.history) reply) (record { front = with_end c; least = length (log c.history) }) =
-      subst (λ (k : ℕ). Turn tells c.placement k a (call_of_entry (entry_in_progress c.history) reply) (record { front = with_end c; least = length (log c.history) })) (sym own)
+      let mine : Turn tells c.placement s a (call_of_entry (open_entry_of c.history) reply) (record { front = with_end c; least = length (log c.history) }) =
+      subst (λ (k : ℕ). Turn tells c.placement k a (call_of_entry (open_entry_of c.history) reply) (record { front = with_end c; least = length (log c.history) })) (sym own)
       (subst (λ (o : Option Entry). Turn tells c.placement e.session a (call_of_entry o reply) (record { front = with_end c; least = length (log c.history) })) (sym is) turn)
       in
-      let none : entry_in_progress (with_end c) ≡ None = opened-ended c.history c.failed c.starved can.is_running w.one_open.0 w.one_open.1 in
-      replied tells c.placement a c z (with_end c) s (answered_at (last_number c) (session_at c s)) (call_of_entry (entry_in_progress c.history) reply) (length (log c.history)) v f (ap (is_entry_of s) none) q.1 refl mine
+      let none : open_entry_of (with_end c) ≡ None = opened-ended c.history c.failed c.starved can.is_running w.one_open.0 w.one_open.1 in
+      replied tells c.placement a c z (with_end c) s (answered_at (last_number c) (session_at c s)) (call_of_entry (open_entry_of c.history) reply) (length (log c.history)) v f (ap (is_entry_of s) none) q.1 refl mine
 
   -- an entry ends, which answers its session and no other
   ends : (g : MoveResult) → CanEnd c → EndsEntry tells c g z → After tells a c s End z (reply_given c s End g)
@@ -163,8 +163,8 @@ module _ (tells : Bool) (a : SessionView) (c z : Core) (s : ℕ) (some : 0 < s) 
       h.3)
       (λ is.
       let other : s ≢ t = λ q. eqb-false t s is (sym q) in
-      let not_own : is_entry_of s (entry_in_progress c.history) ≡ false = ap (is_entry_of s) h.1 ∙ ne_eqb e.session s (λ q. other (sym (h.2 ∙ q))) in
-      let none : entry_in_progress (with_end c) ≡ None = opened-ended c.history c.failed c.starved can.is_running w.one_open.0 w.one_open.1 in
+      let not_own : is_entry_of s (open_entry_of c.history) ≡ false = ap (is_entry_of s) h.1 ∙ ne_eqb e.session s (λ q. other (sym (h.2 ∙ q))) in
+      let none : open_entry_of (with_end c) ≡ None = opened-ended c.history c.failed c.starved can.is_running w.one_open.0 w.one_open.1 in
       between_follows a c z (with_end c) s (session_at c s) j (follows_rest c z s h.4 refl longer refl (session_of-other (answered_at (last_number c)) (λ x. refl) c.sessions t s other))
       (λ q. seen_ended c.placement a c.history s (session_at c s) q c.failed c.starved not_own none))
   ends _ can h = absurd h
@@ -172,7 +172,7 @@ module _ (tells : Bool) (a : SessionView) (c z : Core) (s : ℕ) (some : 0 < s) 
   -- ---- what is scheduled, or refused
 
   -- no entry was scheduled since the session's last reply, and the log's store did not fail
-  rested : is_open c s ≡ true → is_entry_of s (entry_in_progress c.history) ≡ false → Rests s a c.history
+  rested : is_open c s ≡ true → is_entry_of s (open_entry_of c.history) ≡ false → Rests s a c.history
   rested here idle = let q = (j.here here).rests idle in record { entries = q.0; tx = q.1; log_faults = (j.here here).log_faults }
 
   -- what the session owes is what it has seen
@@ -232,7 +232,7 @@ module _ (tells : Bool) (a : SessionView) (c z : Core) (s : ℕ) (some : 0 < s) 
     -- the log's store fails in it, which answers it
     own_faulted : (refusal : Refusal) → CanSchedule c s → ScheduleMeetsLogFault c s r act refusal z → After tells a c s (Schedule s r) z (reply_given c s (Schedule s r) (Ok (moved.Refused refusal)))
     own_faulted refusal can h =
-        let n : ℕ = (session_at c s).queries + 1 in
+        let n : ℕ = (session_at c s).requests + 1 in
         let ev : Event = event.LogFailed s n in
         let call : Option Act → Call = λ o. call_of_act c s r o (Refused refusal) in
         let f = follows_own c z s h.after refl (ev ∷ [], refl) refl with_one_request (λ x. refl) refl can.here in
@@ -244,7 +244,7 @@ module _ (tells : Bool) (a : SessionView) (c z : Core) (s : ℕ) (some : 0 < s) 
         let turn : Turn tells c.placement s a (call (Some act)) (record { front = c.history ++ ev ∷ []; least = a.least }) =
         turn_log_fault tells c.placement s a c.history (call (Some act)) act legal j.longer j.owes rests tx is (ap (λ o. Refused o) h.refused) can.is_free h.served h.space
         in
-        let idle : is_entry_of s (entry_in_progress (c.history ++ ev ∷ [])) ≡ false = ap (is_entry_of s) (opened-same c.history ev refl refl) ∙ can.idle in
+        let idle : is_entry_of s (open_entry_of (c.history ++ ev ∷ [])) ≡ false = ap (is_entry_of s) (opened-same c.history ev refl refl) ∙ can.idle in
         let both : ((s == s) && is_allowed_by_transaction c s (act_of r)) ≡ true = rw (eq-eqb s s refl) allowed in
         cond_both ((s == s) && is_allowed_by_transaction c s (act_of r)) (Some (Refused refusal)) None (After tells a c s (Schedule s r) z)
         (λ _.
@@ -269,7 +269,7 @@ module _ (tells : Bool) (a : SessionView) (c z : Core) (s : ℕ) (some : 0 < s) 
         let rest = session_of-other with_one_request (λ x. refl) c.sessions k s other in
         ⊎_elim (λ (x : RefusesAtOnce k refusal). stays (follows_rest c z s (refused_after k refusal x) refl (prefix_self c.history) refl rest))
         (λ (x : ScheduleMeetsLogFault c k r act refusal z).
-        let n : ℕ = (session_at c k).queries + 1 in
+        let n : ℕ = (session_at c k).requests + 1 in
         let ev : Event = event.LogFailed k n in
         between_follows a c z (c.history ++ ev ∷ []) s (session_at c s) j (follows_rest c z s x.after refl (ev ∷ [], refl) refl rest)
         (λ q. seen_event c.placement a c.history s (session_at c s) q ev refl refl (λ i. no_fault_of_other k n s i (λ o. other (sym o))) (λ t b. refl)))
@@ -309,7 +309,7 @@ module _ (tells : Bool) (a : SessionView) (c z : Core) (s : ℕ) (some : 0 < s) 
       of (Some act) is t = schedules_act r act is k g can t
 
   -- the administrator's move is refused
-  administrator_refused : (n : ℕ) (refusal : Refusal) → is_idle c.history ≡ true → LacksRoomFor n c refusal z ⊎ MeetsLogFault n c refusal z → IsBetweenReplies a z s
+  administrator_refused : (n : ℕ) (refusal : Refusal) → is_free c.history ≡ true → LacksRoomFor n c refusal z ⊎ MeetsLogFault n c refusal z → IsBetweenReplies a z s
   administrator_refused n refusal fr h =
       ⊎_elim (λ (q : LacksRoomFor n c refusal z). same q.after)
       (λ (q : MeetsLogFault n c refusal z). while_free (event.LogFailed 0 0) refl refl (λ i. no_fault_of_other 0 0 s i (λ is. omega (arith, is, some))) fr q.after) h
@@ -398,7 +398,7 @@ module _ (tells : Bool) (a : SessionView) (c z : Core) (s : ℕ) (some : 0 < s) 
         let ev : Event = event.ReadFailed s (read_number x) b in
         let g : List Event = c.history ++ ev ∷ [] in
         let f : Follows c z g s (was_answered x) = follows_failed ev was_answered (λ y. refl) h.after in
-        let idle : is_entry_of s (entry_in_progress g) ≡ false = ap (is_entry_of s) (opened-same c.history ev refl refl) ∙ can.idle in
+        let idle : is_entry_of s (open_entry_of g) ≡ false = ap (is_entry_of s) (opened-same c.history ev refl refl) ∙ can.idle in
         replied tells c.placement a c z g s (was_answered x) call a.least v f idle refl (owes_same can.here)
         (turn_fault tells c.placement s a c.history b call select h.mask (tried_of x.reading) (subst IsLegal f.history v.legal) j.longer j.owes (rested can.here can.idle) in_own refl (ap (λ o. Refused o) h.refused)
         (prior a.front c.history s x (j.here can.here).reads) h.serving
@@ -419,7 +419,7 @@ module _ (tells : Bool) (a : SessionView) (c z : Core) (s : ℕ) (some : 0 < s) 
         let ev : Event = event.ReadFailed s (read_number x) b in
         let g : List Event = c.history ++ ev ∷ [] in
         let y : OpenSession = still_reading select (tried_with c s b) x in
-        let idle : is_entry_of s (entry_in_progress g) ≡ false = ap (is_entry_of s) (opened-same c.history ev refl refl) ∙ can.idle in
+        let idle : is_entry_of s (open_entry_of g) ≡ false = ap (is_entry_of s) (opened-same c.history ev refl refl) ∙ can.idle in
         between_follows a c z g s y j (follows_failed ev (still_reading select (tried_with c s b)) (λ q. refl) h.after)
         (λ q.
         seen_changed c.placement a g s x (seen_event c.placement a c.history s x q ev refl refl (λ k. refl) (λ t k. refl)) y idle refl

@@ -4,7 +4,7 @@ use mathlib.Core.List.{IsPrefix}
 use Rattle.std.proofs.lemmas.Bool.{cases_eq, eqb-true, eq-eqb, ne_eqb, both_ways}
 use Rattle.std.proofs.lemmas.List.{take-append-le}
 use Rattle.std.proofs.lemmas.List.Elements.{All-head, All-tail, All-get_or, All-weaker}
-use Rattle.cj_cluster.proofs.Common.{Core, CoreInvariant, Ended, Entry, Event, HasServer, IsSoundSession, OpenRead, OpenSession, Placement, ReadFailed, Sched, Select, enabled_after_event, ended_count, entry_in_progress, events_left, find_session, get_or_from_slice_get, in_mask, is_enabled, is_end_event, is_entry_of, is_idle, is_log_fault, log, log_faults_of, new_session, request_of, scheduled_entry, session_at, slice_get_within, take-append_seam, tx_of, with_backend, with_session}
+use Rattle.cj_cluster.proofs.Common.{Core, CoreInvariant, Ended, Entry, Event, HasServer, IsSoundSession, OpenRead, OpenSession, Placement, ReadFailed, Sched, Select, enabled_after_event, ended_count, open_entry_of, events_left, find_session, get_or_from_slice_get, in_mask, is_enabled, is_end_event, is_entry_of, is_free, is_log_fault, log, log_faults_of, new_session, request_of, scheduled_entry, session_at, slice_get_within, take-append_seam, tx_of, with_backend, with_session}
 use Rattle.cj_cluster.specs.History.Turns.{SessionView, entry_count_of}
 use Rattle.cj_cluster.specs.Moves.Moves.{is_open, read_number, tried_of, still_reading}
 use Rattle.cj_cluster.specs.Moves.Runs.{seen_at, AwaitsEnd, HasFailedSince, TriedSince, StandsSince, IsBetweenReplies}
@@ -25,7 +25,7 @@ failed_push front h ev s q b x =
 
 -- and so has all that was tried
 tried_push : (front h : List Event) (ev : Event) (s : ℕ) (x : OpenSession) → TriedSince front h s x → TriedSince front (h ++ ev ∷ []) s x
-tried_push front h ev s x tried r b is t = failed_push front h ev s x.queries b (tried r b is t)
+tried_push front h ev s x tried r b is t = failed_push front h ev s x.requests b (tried r b is t)
 
 -- where no read is open, none was tried
 pub tried_none : (front h : List Event) (s : ℕ) (x : OpenSession) → x.reading ≡ None → TriedSince front h s x
@@ -33,7 +33,7 @@ tried_none front h s x none r b is t = absurd (cc (none, is))
 
 -- by whether a read is open
 prior_in : (front h : List Event) (s : ℕ) (x : OpenSession) → TriedSince front h s x → (o : Option OpenRead) → x.reading ≡ o → (b : ℕ) → in_mask (tried_of o) b ≡ true
-    → HasFailedSince front h s (cond (is_some o) x.queries (x.queries + 1)) b
+    → HasFailedSince front h s (cond (is_some o) x.requests (x.requests + 1)) b
 prior_in front h s x tried None is b t = absurd (both_ways (in_mask 0 b) (has-zero b) t)
 prior_in front h s x tried (Some r) is b t = tried r b is t
 
@@ -78,7 +78,7 @@ unanswered_push p front h ev s none stays same o =
       m = o.m;
       low = o.low;
       high = omega arith;
-      was_free = ap is_idle part ∙ o.was_free;
+      was_free = ap is_free part ∙ o.was_free;
       served = subst (λ (x : List Event). HasServer p x (request_of o.e.act)) (sym part) o.served;
       space = subst (λ (x : List Event). 3 ≤ events_left x) (sym part) o.space;
       next = get_left h (ev ∷ []) o.m (Sched o.e) o.next;
@@ -90,15 +90,15 @@ unanswered_push p front h ev s none stays same o =
 
 module _ (p : Placement) (a : SessionView) (h : List Event) (s : ℕ) (x : OpenSession) (w : StandsSince p a h s x) where
   -- such an event, or one that enables or disables while the session's entry is not open, if it is no fault of the log's store in the session's requests
-  pub seen_event : (ev : Event) → scheduled_entry ev ≡ None → is_end_event ev ≡ false → ((q : ℕ) → is_log_fault s q ev ≡ false) → (is_entry_of s (entry_in_progress h) ≡ true → (b : ℕ) → enabled_after_event b (is_enabled h b) ev ≡ is_enabled h b)
+  pub seen_event : (ev : Event) → scheduled_entry ev ≡ None → is_end_event ev ≡ false → ((q : ℕ) → is_log_fault s q ev ≡ false) → (is_entry_of s (open_entry_of h) ≡ true → (b : ℕ) → enabled_after_event b (is_enabled h b) ev ≡ is_enabled h b)
       → StandsSince p a (h ++ ev ∷ []) s x
   seen_event ev none stays no_fault same =
-      let op : entry_in_progress (h ++ ev ∷ []) ≡ entry_in_progress h = opened-same h ev none stays in
+      let op : open_entry_of (h ++ ev ∷ []) ≡ open_entry_of h = opened-same h ev none stays in
       record {
         least = w.least;
         waits =
             λ t.
-            let was : is_entry_of s (entry_in_progress h) ≡ true = ap (is_entry_of s) (sym op) ∙ t in
+            let was : is_entry_of s (open_entry_of h) ≡ true = ap (is_entry_of s) (sym op) ∙ t in
             let q = w.waits was in
             (unanswered_push p a.front h ev s none stays (same was) q.0, q.1);
         rests = λ t. as_in_push a.front h ev s none (w.rests (ap (is_entry_of s) (sym op) ∙ t));
@@ -107,39 +107,39 @@ module _ (p : Placement) (a : SessionView) (h : List Event) (s : ℕ) (x : OpenS
       }
 
   -- the end of another session's entry
-  pub seen_ended : (failed starved : ℕ) → is_entry_of s (entry_in_progress h) ≡ false → entry_in_progress (h ++ Ended failed starved ∷ []) ≡ None → StandsSince p a (h ++ Ended failed starved ∷ []) s x
+  pub seen_ended : (failed starved : ℕ) → is_entry_of s (open_entry_of h) ≡ false → open_entry_of (h ++ Ended failed starved ∷ []) ≡ None → StandsSince p a (h ++ Ended failed starved ∷ []) s x
   seen_ended failed starved other none =
       let ev : Event = Ended failed starved in
       record {
         least = w.least;
-        waits = λ t. absurd (both_ways (is_entry_of s (entry_in_progress (h ++ ev ∷ []))) (ap (is_entry_of s) none) t);
+        waits = λ t. absurd (both_ways (is_entry_of s (open_entry_of (h ++ ev ∷ []))) (ap (is_entry_of s) none) t);
         rests = λ t. as_in_push a.front h ev s refl (w.rests other);
         reads = tried_push a.front h ev s x w.reads;
         log_faults = faults_push a.front h ev s (λ q. refl) w.log_faults;
       }
 
   -- an entry that is not the session's, and leaves its transaction
-  pub seen_other : (e : Entry) → is_idle h ≡ true → e.session ≢ s → tx_of (log h ++ e ∷ []) s ≡ tx_of (log h) s → StandsSince p a (h ++ Sched e ∷ []) s x
+  pub seen_other : (e : Entry) → is_free h ≡ true → e.session ≢ s → tx_of (log h ++ e ∷ []) s ≡ tx_of (log h) s → StandsSince p a (h ++ Sched e ∷ []) s x
   seen_other e fr other leaves =
       let not_own : (e.session == s) ≡ false = ne_eqb e.session s other in
-      let op : is_entry_of s (entry_in_progress (h ++ Sched e ∷ [])) ≡ false = ap (is_entry_of s) (opened-sched h e fr) ∙ not_own in
+      let op : is_entry_of s (open_entry_of (h ++ Sched e ∷ [])) ≡ false = ap (is_entry_of s) (opened-sched h e fr) ∙ not_own in
       let was : IsAsIn a.front h s = w.rests (ap (is_entry_of s) (opened-free h fr)) in
       let more : entry_count_of s (h ++ Sched e ∷ []) ≡ entry_count_of s h + 0 = entries-sched s h e ∙ rw not_own refl in
       record {
         least = w.least;
-        waits = λ t. absurd (both_ways (is_entry_of s (entry_in_progress (h ++ Sched e ∷ []))) op t);
+        waits = λ t. absurd (both_ways (is_entry_of s (open_entry_of (h ++ Sched e ∷ []))) op t);
         rests = λ t. ((let n = was.0 in omega (arith, more, n)), ap (λ l. tx_of l s) (log-sched h e) ∙ (leaves ∙ was.1));
         reads = tried_push a.front h (Sched e) s x w.reads;
         log_faults = faults_push a.front h (Sched e) s (λ q. refl) w.log_faults;
       }
 
   -- the session's own entry
-  pub seen_sched : (e : Entry) (y : OpenSession) → is_idle h ≡ true → e.session ≡ s → HasServer p h (request_of e.act) → 3 ≤ events_left h → IsPrefix a.front h
+  pub seen_sched : (e : Entry) (y : OpenSession) → is_free h ≡ true → e.session ≡ s → HasServer p h (request_of e.act) → 3 ≤ events_left h → IsPrefix a.front h
       → y.least ≡ x.least → y.reading ≡ None → StandsSince p a (h ++ Sched e ∷ []) s y
   seen_sched e y fr own served space longer least none =
       let g : List Event = h ++ Sched e ∷ [] in
       let its : (e.session == s) ≡ true = eq-eqb e.session s own in
-      let op : is_entry_of s (entry_in_progress g) ≡ true = ap (is_entry_of s) (opened-sched h e fr) ∙ its in
+      let op : is_entry_of s (open_entry_of g) ≡ true = ap (is_entry_of s) (opened-sched h e fr) ∙ its in
       let was : IsAsIn a.front h s = w.rests (ap (is_entry_of s) (opened-free h fr)) in
       let more : entry_count_of s g ≡ entry_count_of s h + 1 = entries-sched s h e ∙ rw its refl in
       let low : length a.front ≤ length h = prefix_length a.front h longer in
@@ -155,7 +155,7 @@ module _ (p : Placement) (a : SessionView) (h : List Event) (s : ℕ) (x : OpenS
                 m = length h;
                 low = low;
                 high = omega arith;
-                was_free = ap is_idle part ∙ fr;
+                was_free = ap is_free part ∙ fr;
                 served = subst (λ (z : List Event). HasServer p z (request_of e.act)) (sym part) served;
                 space = subst (λ (z : List Event). 3 ≤ events_left z) (sym part) space;
                 next = get_seam h [] (Sched e);
@@ -166,28 +166,28 @@ module _ (p : Placement) (a : SessionView) (h : List Event) (s : ℕ) (x : OpenS
               },
               none,
             );
-        rests = λ t. absurd (both_ways (is_entry_of s (entry_in_progress g)) t op);
+        rests = λ t. absurd (both_ways (is_entry_of s (open_entry_of g)) t op);
         reads = tried_none a.front g s y none;
         log_faults = faults_push a.front h (Sched e) s (λ q. refl) w.log_faults;
       }
 
   -- the session changes while no entry of it is open
-  pub seen_changed : (y : OpenSession) → is_entry_of s (entry_in_progress h) ≡ false → y.least ≡ x.least → TriedSince a.front h s y → StandsSince p a h s y
+  pub seen_changed : (y : OpenSession) → is_entry_of s (open_entry_of h) ≡ false → y.least ≡ x.least → TriedSince a.front h s y → StandsSince p a h s y
   seen_changed y idle least tried =
       record {
         least = least ∙ w.least;
-        waits = λ t. absurd (both_ways (is_entry_of s (entry_in_progress h)) idle t);
+        waits = λ t. absurd (both_ways (is_entry_of s (open_entry_of h)) idle t);
         rests = w.rests;
         reads = tried;
         log_faults = w.log_faults;
       }
 
 -- a session that was answered has seen all
-pub seen_fresh : (p : Placement) (h : List Event) (s : ℕ) (x : OpenSession) → is_entry_of s (entry_in_progress h) ≡ false → x.reading ≡ None → StandsSince p (record { front = h; least = x.least }) h s x
+pub seen_fresh : (p : Placement) (h : List Event) (s : ℕ) (x : OpenSession) → is_entry_of s (open_entry_of h) ≡ false → x.reading ≡ None → StandsSince p (record { front = h; least = x.least }) h s x
 seen_fresh p h s x idle none =
     record {
       least = refl;
-      waits = λ t. absurd (both_ways (is_entry_of s (entry_in_progress h)) idle t);
+      waits = λ t. absurd (both_ways (is_entry_of s (open_entry_of h)) idle t);
       rests = λ t. (refl, refl);
       reads = tried_none h h s x none;
       log_faults = λ q. refl;
@@ -296,7 +296,7 @@ new_unknown c s w lt =
     found_none c.sessions s (All-weaker (IsSoundSession c.history c.greatest) (λ (x : OpenSession). x.number ≢ s) (λ x q. let le : x.number ≤ c.greatest = q.number.1 in omega arith) c.sessions w.sessions)
 
 -- a session that was answered has seen the whole history
-pub between_fresh : (z : Core) (s : ℕ) → CoreInvariant z → is_entry_of s (entry_in_progress z.history) ≡ false → (session_at z s).reading ≡ None → IsBetweenReplies (seen_at z s) z s
+pub between_fresh : (z : Core) (s : ℕ) → CoreInvariant z → is_entry_of s (open_entry_of z.history) ≡ false → (session_at z s).reading ≡ None → IsBetweenReplies (seen_at z s) z s
 between_fresh z s w idle none =
     record {
       longer = prefix_self z.history;
@@ -319,14 +319,14 @@ entries_begin : (s : ℕ) (front h : List Event) → IsPrefix front h → All (�
 entries_begin s front h longer all = entries_none s (log front) (all_begin (λ (e : Entry). e.session < s) front h longer all)
 
 -- what holds of each entry holds of the open one
-pub opened_all : (P : Entry → Type 0) (h : List Event) (e : Entry) → All P (log h) → entry_in_progress h ≡ Some e → P e
+pub opened_all : (P : Entry → Type 0) (h : List Event) (e : Entry) → All P (log h) → open_entry_of h ≡ Some e → P e
 opened_all P h e all is = subst P (get_or_from_slice_get (log h) (ended_count h) e e is) (All-get_or P (log h) (ended_count h) e (slice_get_within (log h) (ended_count h) e is) all)
 
 -- nor is the open entry by it
-idle_new : (s : ℕ) (h : List Event) → All (λ (e : Entry). e.session < s) (log h) → is_entry_of s (entry_in_progress h) ≡ false
-idle_new s h all = one (entry_in_progress h) refl
+idle_new : (s : ℕ) (h : List Event) → All (λ (e : Entry). e.session < s) (log h) → is_entry_of s (open_entry_of h) ≡ false
+idle_new s h all = one (open_entry_of h) refl
   where
-    one : (o : Option Entry) → entry_in_progress h ≡ o → is_entry_of s o ≡ false
+    one : (o : Option Entry) → open_entry_of h ≡ o → is_entry_of s o ≡ false
     one None is = refl
     one (Some e) is = let lt : e.session < s = opened_all (λ (x : Entry). x.session < s) h e all is in ne_eqb e.session s (omega arith)
 
@@ -343,12 +343,12 @@ between_opened a c z s user w j new is =
     let hist : z.history ≡ c.history = ap (λ (y : Core). y.history) is in
     let here : session_at z s ≡ x = session_at-is z s (Some x) (ap (λ (y : Core). find_session y.sessions s) is ∙ found) in
     let n : z.greatest ≡ s = ap (λ (y : Core). y.greatest) is in
-    let idle : is_entry_of s (entry_in_progress c.history) ≡ false = idle_new s c.history younger in
+    let idle : is_entry_of s (open_entry_of c.history) ≡ false = idle_new s c.history younger in
     let owes : a.least ≡ 0 = j.later (omega arith) in
     let begun : StandsSince z.placement a c.history s x =
     record {
       least = sym owes;
-      waits = λ t. absurd (both_ways (is_entry_of s (entry_in_progress c.history)) idle t);
+      waits = λ t. absurd (both_ways (is_entry_of s (open_entry_of c.history)) idle t);
       rests =
           λ t. (
             entries_none s (log c.history) younger ∙ sym (entries_begin s a.front c.history j.longer younger),

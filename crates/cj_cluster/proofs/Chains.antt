@@ -38,8 +38,8 @@ run_chained tells c [] [] z w are count runs s a some j =
 run_chained tells c (m ∷ ms) (g ∷ gs) z w are count runs s a some j =
     let mid : Core = runs.0 in
     let grows = moves_grow tells c m g mid runs.1 in
-    let once : CanCountRequests c 1 = λ k. (let can = count k in let le : (session_at c k).queries + 1 ≤ 2 ^ 62 = omega arith in le) in
-    let more : CanCountRequests c (1 + length ms) = λ k. (let can = count k in let le : (session_at c k).queries + (1 + length ms) ≤ 2 ^ 62 = omega arith in le) in
+    let once : CanCountRequests c 1 = λ k. (let can = count k in let le : (session_at c k).requests + 1 ≤ 2 ^ 62 = omega arith in le) in
+    let more : CanCountRequests c (1 + length ms) = λ k. (let can = count k in let le : (session_at c k).requests + (1 + length ms) ≤ 2 ^ 62 = omega arith in le) in
     let v : CoreInvariant mid = moves_sound tells c m g mid (All-head (IsMoveOfCluster c.placement.backends) m ms are) once w runs.1 in
     let rest : All (IsMoveOfCluster mid.placement.backends) ms =
     subst (λ (p : Placement). All (IsMoveOfCluster p.backends) ms) (sym grows.placement) (All-tail (IsMoveOfCluster c.placement.backends) m ms are)

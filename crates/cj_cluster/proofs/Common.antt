@@ -1,6 +1,6 @@
 -- The names that most proofs of this crate cite, passed on from one place. Declares nothing.
 pub use Rattle.cj_cluster.specs.History.Answering.{HasServer}
-pub use Rattle.cj_cluster.specs.History.Histories.{TxState, database_after, database_of, enabled_after_event, ended_count, entry_in_progress, events_left, has_marker, is_enabled, is_end_event, is_idle, is_log_fault, log, log_faults_of, scheduled_entry, tx_after_act, tx_of, tx_state_after}
+pub use Rattle.cj_cluster.specs.History.Histories.{TxState, database_after, database_of, enabled_after_event, ended_count, open_entry_of, events_left, has_marker, is_enabled, is_end_event, is_free, is_log_fault, log, log_faults_of, scheduled_entry, tx_after_act, tx_of, tx_state_after}
 pub use Rattle.cj_cluster.specs.History.Legality.{FitsTx, IsAdministratorEntry, IsAllowedEvent, IsFitEntry, IsLegal, IsSessionEntry}
 pub use Rattle.cj_cluster.specs.Moves.Cores.{Core, find_session, is_entry_of, new_session, session_at, with_session}
 pub use Rattle.cj_cluster.specs.Proving.Invariants.{BackendStands, CoreInvariant, CoversDrafts, IsSoundDump, IsSoundSession, by_session_number}

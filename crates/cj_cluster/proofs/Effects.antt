@@ -3,7 +3,7 @@ use Rattle.std.proofs.Common.{◌≡◌, ◌≢◌, ◌⊎◌, inl, inr, ℕ, �
 use Rattle.std.proofs.lemmas.Bool.{cases_eq, cases_lt, eqb-true, eqb-false, and_parts, or_cases, both_ways, not-true, or_parts}
 use Rattle.std.proofs.lemmas.List.{get_or-set_same, get_or-set_other, get_or_past, length-set}
 use Rattle.std.proofs.lemmas.List.Elements.{All-push, All-filter, All-weaker}
-use Rattle.cj_cluster.proofs.Common.{BackendStands, CoreInvariant, Disabled, Enabled, Ended, Entry, Event, IsAllowedEvent, IsFitEntry, IsSoundDump, IsSoundSession, LogFailed, Marker, OpenSession, ReadFailed, Rises, Sched, TakenDump, by_session_number, ended_count, entry_in_progress, events_left, has_marker, in_mask, is_enabled, is_end_event, is_idle, is_log_fault, log, log_faults_of, scheduled_entry, slice_get_within, with_backend}
+use Rattle.cj_cluster.proofs.Common.{BackendStands, CoreInvariant, Disabled, Enabled, Ended, Entry, Event, IsAllowedEvent, IsFitEntry, IsSoundDump, IsSoundSession, LogFailed, Marker, OpenSession, ReadFailed, Rises, Sched, TakenDump, by_session_number, ended_count, open_entry_of, events_left, has_marker, in_mask, is_enabled, is_end_event, is_free, is_log_fault, log, log_faults_of, scheduled_entry, slice_get_within, with_backend}
 use Rattle.cj_model.specs.declared.answer.Outcome.{Outcome}
 use Rattle.cj_cluster.specs.History.Transactions.{begun_after}
 use Rattle.cj_cluster.specs.Moves.Cores.{Core, position_at, begun_at, find_session, new_session, with_session, is_entry_of}
@@ -25,7 +25,7 @@ pub record SessionsAre (h : List Event) (greatest : ℕ) (ss : List OpenSession)
   pub numbers : greatest ≤ 2 ^ 62
   pub known : All (λ (e : Entry). e.session ≤ greatest) (log h)
   pub log_faults : (s q : ℕ) → greatest < s → log_faults_of s q h ≡ 0
-  pub waits : (e : Entry) → entry_in_progress h ≡ Some e → (e.session ≡ 0) ⊎ (is_some (find_session ss e.session) ≡ true)
+  pub waits : (e : Entry) → open_entry_of h ≡ Some e → (e.session ≡ 0) ⊎ (is_some (find_session ss e.session) ≡ true)
 
 -- the sessions of a sound state
 pub sessions_are : (c : Core) → CoreInvariant c → SessionsAre c.history c.greatest c.sessions
@@ -35,7 +35,7 @@ sessions_are c s = record { sessions = s.sessions; rises = s.rises; few = s.few;
 pub record KeepsSession (n : ℕ) (f : OpenSession → OpenSession) : Type 0 where
   pub number : (x : OpenSession) → (f x).number ≡ x.number
   pub user : (x : OpenSession) → (f x).user ≡ x.user
-  pub queries : (x : OpenSession) → x.queries ≤ (f x).queries
+  pub requests : (x : OpenSession) → x.requests ≤ (f x).requests
   pub least : (x : OpenSession) → x.least ≤ n → (f x).least ≤ n
 
 -- a session is added
@@ -67,7 +67,7 @@ are_opened h g ss user a few lt fits =
     }
 
 -- a session whose own entry is not open is removed
-pub are_closed : (h : List Event) (g : ℕ) (ss : List OpenSession) (s : ℕ) → SessionsAre h g ss → is_entry_of s (entry_in_progress h) ≡ false → SessionsAre h g (without s ss)
+pub are_closed : (h : List Event) (g : ℕ) (ss : List OpenSession) (s : ℕ) → SessionsAre h g ss → is_entry_of s (open_entry_of h) ≡ false → SessionsAre h g (without s ss)
 are_closed h g ss s a idle =
     let n = length_without ss s in
     let le = a.few in
@@ -86,7 +86,7 @@ are_closed h g ss s a idle =
 
 -- a session is changed, at a history with the same log, and the same faults of its store for sessions that have no number yet
 pub are_with : (h h' : List Event) (g : ℕ) (ss : List OpenSession) (s : ℕ) (f : OpenSession → OpenSession) → SessionsAre h g ss → KeepsSession (length (log h)) f → log h' ≡ log h → ((t q : ℕ) → g < t → log_faults_of t q h' ≡ log_faults_of t q h)
-    → ((e : Entry) → entry_in_progress h' ≡ Some e → entry_in_progress h ≡ Some e) → SessionsAre h' g (with_session ss s f)
+    → ((e : Entry) → open_entry_of h' ≡ Some e → open_entry_of h ≡ Some e) → SessionsAre h' g (with_session ss s f)
 are_with h h' g ss s f a k same faults was =
     record {
       sessions = all_with (IsSoundSession h g) (IsSoundSession h' g) f ss s here there a.sessions;
@@ -106,7 +106,7 @@ are_with h h' g ss s f a k same faults was =
           number = i.number;
           user = i.user;
           owes = subst (λ (l : List Entry). x.least ≤ length l) (sym same) i.owes;
-          entries = subst (All (λ (e : Entry). e.session ≡ x.number → e.seq ≤ x.queries)) (sym same) i.entries;
+          entries = subst (All (λ (e : Entry). e.session ≡ x.number → e.seq ≤ x.requests)) (sym same) i.entries;
         }
 
     here : (x : OpenSession) → x.number ≡ s → IsSoundSession h g x → IsSoundSession h' g (f x)
@@ -116,13 +116,13 @@ are_with h h' g ss s f a k same faults was =
           user = rw (k.user x) i.user;
           owes = subst (λ (l : List Entry). (f x).least ≤ length l) (sym same) (k.least x i.owes);
           entries =
-              subst (All (λ (e : Entry). e.session ≡ (f x).number → e.seq ≤ (f x).queries)) (sym same)
-              (All-weaker (λ (e : Entry). e.session ≡ x.number → e.seq ≤ x.queries) (λ (e : Entry). e.session ≡ (f x).number → e.seq ≤ (f x).queries)
-              (λ e old now. let le = old (now ∙ k.number x) in let more = k.queries x in omega arith) (log h) i.entries);
+              subst (All (λ (e : Entry). e.session ≡ (f x).number → e.seq ≤ (f x).requests)) (sym same)
+              (All-weaker (λ (e : Entry). e.session ≡ x.number → e.seq ≤ x.requests) (λ (e : Entry). e.session ≡ (f x).number → e.seq ≤ (f x).requests)
+              (λ e old now. let le = old (now ∙ k.number x) in let more = k.requests x in omega arith) (log h) i.entries);
         }
 
 -- no session is changed, at such a history
-pub are_kept : (h h' : List Event) (g : ℕ) (ss : List OpenSession) → SessionsAre h g ss → log h' ≡ log h → ((t q : ℕ) → g < t → log_faults_of t q h' ≡ log_faults_of t q h) → ((e : Entry) → entry_in_progress h' ≡ Some e → entry_in_progress h ≡ Some e) → SessionsAre h' g ss
+pub are_kept : (h h' : List Event) (g : ℕ) (ss : List OpenSession) → SessionsAre h g ss → log h' ≡ log h → ((t q : ℕ) → g < t → log_faults_of t q h' ≡ log_faults_of t q h) → ((e : Entry) → open_entry_of h' ≡ Some e → open_entry_of h ≡ Some e) → SessionsAre h' g ss
 are_kept h h' g ss a same faults was =
     let again : (x : OpenSession) → IsSoundSession h g x → IsSoundSession h' g x =
     λ x i.
@@ -130,7 +130,7 @@ are_kept h h' g ss a same faults was =
       number = i.number;
       user = i.user;
       owes = subst (λ (l : List Entry). x.least ≤ length l) (sym same) i.owes;
-      entries = subst (All (λ (e : Entry). e.session ≡ x.number → e.seq ≤ x.queries)) (sym same) i.entries;
+      entries = subst (All (λ (e : Entry). e.session ≡ x.number → e.seq ≤ x.requests)) (sym same) i.entries;
     }
     in
     record {
@@ -144,8 +144,8 @@ are_kept h h' g ss a same faults was =
     }
 
 -- a session's next entry is scheduled
-pub are_sched : (h : List Event) (g : ℕ) (ss : List OpenSession) (s : ℕ) (e : Entry) (x : OpenSession) → SessionsAre h g ss → find_session ss s ≡ Some x → is_idle h ≡ true
-    → e.session ≡ s → e.seq ≡ x.queries + 1 → s ≤ g → SessionsAre (h ++ Sched e ∷ []) g (with_session ss s with_one_request)
+pub are_sched : (h : List Event) (g : ℕ) (ss : List OpenSession) (s : ℕ) (e : Entry) (x : OpenSession) → SessionsAre h g ss → find_session ss s ≡ Some x → is_free h ≡ true
+    → e.session ≡ s → e.seq ≡ x.requests + 1 → s ≤ g → SessionsAre (h ++ Sched e ∷ []) g (with_session ss s with_one_request)
 are_sched h g ss s e x a found fr by seq le =
     record {
       sessions = all_with Before (IsSoundSession (h ++ Sched e ∷ []) g) with_one_request ss s here there (λ k d lt. (a.sessions k d lt, found_itself ss a.rises k d lt));
@@ -173,27 +173,27 @@ are_sched h g ss s e x a found fr by seq le =
           user = b.0.user;
           owes = let le = b.0.owes in omega (arith, longer);
           entries =
-              subst (All (λ (d : Entry). d.session ≡ y.number → d.seq ≤ y.queries)) (sym (log-sched h e))
-              (All-push (λ (d : Entry). d.session ≡ y.number → d.seq ≤ y.queries) (log h) e b.0.entries (λ is. absurd (ne (sym is ∙ by))));
+              subst (All (λ (d : Entry). d.session ≡ y.number → d.seq ≤ y.requests)) (sym (log-sched h e))
+              (All-push (λ (d : Entry). d.session ≡ y.number → d.seq ≤ y.requests) (log h) e b.0.entries (λ is. absurd (ne (sym is ∙ by))));
         }
 
     here : (y : OpenSession) → y.number ≡ s → Before y → IsSoundSession (h ++ Sched e ∷ []) g (with_one_request y)
     here y is b =
         let same : x ≡ y = cc (sym found ∙ subst (λ (n : ℕ). find_session ss n ≡ Some y) is b.1) in
-        let last : e.seq ≤ y.queries + 1 = subst (λ (w : OpenSession). e.seq ≤ w.queries + 1) same (omega arith) in
+        let last : e.seq ≤ y.requests + 1 = subst (λ (w : OpenSession). e.seq ≤ w.requests + 1) same (omega arith) in
         record {
           number = b.0.number;
           user = b.0.user;
           owes = let le = b.0.owes in omega (arith, longer);
           entries =
-              subst (All (λ (d : Entry). d.session ≡ y.number → d.seq ≤ y.queries + 1)) (sym (log-sched h e))
-              (All-push (λ (d : Entry). d.session ≡ y.number → d.seq ≤ y.queries + 1) (log h) e
-              (All-weaker (λ (d : Entry). d.session ≡ y.number → d.seq ≤ y.queries) (λ (d : Entry). d.session ≡ y.number → d.seq ≤ y.queries + 1) (λ d old now. let le = old now in omega arith) (log h) b.0.entries)
+              subst (All (λ (d : Entry). d.session ≡ y.number → d.seq ≤ y.requests + 1)) (sym (log-sched h e))
+              (All-push (λ (d : Entry). d.session ≡ y.number → d.seq ≤ y.requests + 1) (log h) e
+              (All-weaker (λ (d : Entry). d.session ≡ y.number → d.seq ≤ y.requests) (λ (d : Entry). d.session ≡ y.number → d.seq ≤ y.requests + 1) (λ d old now. let le = old now in omega arith) (log h) b.0.entries)
               (λ is. last));
         }
 
 -- the administrator's next entry is scheduled
-pub are_sched_without : (h : List Event) (g : ℕ) (ss : List OpenSession) (e : Entry) → SessionsAre h g ss → is_idle h ≡ true → e.session ≡ 0 → SessionsAre (h ++ Sched e ∷ []) g ss
+pub are_sched_without : (h : List Event) (g : ℕ) (ss : List OpenSession) (e : Entry) → SessionsAre h g ss → is_free h ≡ true → e.session ≡ 0 → SessionsAre (h ++ Sched e ∷ []) g ss
 are_sched_without h g ss e a fr by =
     record {
       sessions = All-weaker (IsSoundSession h g) (IsSoundSession (h ++ Sched e ∷ []) g) again ss a.sessions;
@@ -215,8 +215,8 @@ are_sched_without h g ss e a fr by =
           user = i.user;
           owes = let le = i.owes in omega (arith, longer);
           entries =
-              subst (All (λ (d : Entry). d.session ≡ x.number → d.seq ≤ x.queries)) (sym (log-sched h e))
-              (All-push (λ (d : Entry). d.session ≡ x.number → d.seq ≤ x.queries) (log h) e i.entries (λ is. let some : 0 < x.number = i.number.0 in absurd (omega arith)));
+              subst (All (λ (d : Entry). d.session ≡ x.number → d.seq ≤ x.requests)) (sym (log-sched h e))
+              (All-push (λ (d : Entry). d.session ≡ x.number → d.seq ≤ x.requests) (log h) e i.entries (λ is. let some : 0 < x.number = i.number.0 in absurd (omega arith)));
         }
 
 -- ---- dumps
@@ -273,7 +273,7 @@ sched_stands h e f s b None f0 s0 st =
     (⊎_elim (λ (t : in_mask f b ≡ true). both_ways (in_mask f b) (ap (λ m. in_mask m b) f0 ∙ has-zero b) t) (λ (t : in_mask s b ≡ true). both_ways (in_mask s b) (ap (λ m. in_mask m b) s0 ∙ has-zero b) t) q)
 
 -- an entry is scheduled
-pub sound_sched : (c : Core) (e : Entry) (ss : List OpenSession) → CoreInvariant c → is_idle c.history ≡ true → IsFitEntry (log c.history) e → 3 ≤ events_left c.history
+pub sound_sched : (c : Core) (e : Entry) (ss : List OpenSession) → CoreInvariant c → is_free c.history ≡ true → IsFitEntry (log c.history) e → 3 ≤ events_left c.history
     → SessionsAre (c.history ++ Sched e ∷ []) c.greatest ss
     → CoreInvariant (record (with_entry c e) { sessions = ss })
 sound_sched c e ss s fr fit space a =
@@ -302,7 +302,7 @@ sound_sched c e ss s fr fit space a =
     }
 
 -- a backend stands after an end where it stood, or is no longer enabled
-ended_stands : (h : List Event) (f s b : ℕ) (p : Option ℕ) → is_idle h ≡ false → ended_count h ≤ length (log h) → length (log h) ≤ ended_count h + 1
+ended_stands : (h : List Event) (f s b : ℕ) (p : Option ℕ) → is_free h ≡ false → ended_count h ≤ length (log h) → length (log h) ≤ ended_count h + 1
     → ((q : ℕ) → p ≡ Some q → is_enabled h b ≡ true → length (log h) ≤ q)
     → BackendStands h f s b p → BackendStands (h ++ Ended f s ∷ []) 0 0 b p
 ended_stands h f s b (Some p) fr lo hi all st =
@@ -324,7 +324,7 @@ ended_stands h f s b None fr lo hi all st =
     absurd (⊎_elim (λ (t : in_mask f b ≡ true). both_ways (in_mask f b) out.0 t) (λ (t : in_mask s b ≡ true). both_ways (in_mask s b) out.1 t) (st both.0))
 
 -- the open entry ends
-pub sound_ended : (c : Core) (ss : List OpenSession) → CoreInvariant c → is_idle c.history ≡ false
+pub sound_ended : (c : Core) (ss : List OpenSession) → CoreInvariant c → is_free c.history ≡ false
     → ((b q : ℕ) → position_at c b ≡ Some q → is_enabled c.history b ≡ true → length (log c.history) ≤ q)
     → SessionsAre (c.history ++ Ended c.failed c.starved ∷ []) c.greatest ss
     → CoreInvariant (record c { history = c.history ++ Ended c.failed c.starved ∷ []; failed = 0; starved = 0; sessions = ss })
@@ -422,7 +422,7 @@ sound_read_failed c t q b ss s space a =
     a
 
 -- no backend is in a mask where no entry is open
-pub no_masks : (c : Core) → CoreInvariant c → is_idle c.history ≡ true → (b : ℕ) → (in_mask c.failed b ≡ true) ⊎ (in_mask c.starved b ≡ true) → ⊥
+pub no_masks : (c : Core) → CoreInvariant c → is_free c.history ≡ true → (b : ℕ) → (in_mask c.failed b ≡ true) ⊎ (in_mask c.starved b ≡ true) → ⊥
 no_masks c s fr b w =
     ⊎_elim (λ (t : in_mask c.failed b ≡ true). both_ways (in_mask c.failed b) (ap (λ m. in_mask m b) (s.clear fr).0 ∙ has-zero b) t)
     (λ (t : in_mask c.starved b ≡ true). both_ways (in_mask c.starved b) (ap (λ m. in_mask m b) (s.clear fr).1 ∙ has-zero b) t) w
@@ -432,13 +432,13 @@ kept_by : (c : Core) (e : Event) → CoreInvariant c → scheduled_entry e ≡ N
 kept_by c e s is stays none = are_kept c.history (c.history ++ e ∷ []) c.greatest c.sessions (sessions_are c s) (log-same c.history e is) (λ t q lt. log_faults-stay c.history e t q (none t q lt)) (λ d on. sym (opened-same c.history e is stays) ∙ on)
 
 -- a backend is disabled
-pub sound_disabled : (c : Core) (b : ℕ) → CoreInvariant c → is_idle c.history ≡ true → is_enabled c.history b ≡ true → 0 < events_left c.history → CoreInvariant (record c { history = c.history ++ Disabled b ∷ [] })
+pub sound_disabled : (c : Core) (b : ℕ) → CoreInvariant c → is_free c.history ≡ true → is_enabled c.history b ≡ true → 0 < events_left c.history → CoreInvariant (record c { history = c.history ++ Disabled b ∷ [] })
 sound_disabled c b s fr on space =
     sound_same c (Disabled b) c.sessions s (fr, on) refl refl space (λ k now. inl (and_parts _ _ (sym (enabled-push c.history (Disabled b) k) ∙ now)).0)
     (λ k w. absurd (no_masks c s fr k w)) (kept_by c (Disabled b) s refl refl (λ t q lt. refl))
 
 -- a backend at the log's end is enabled
-pub sound_enabled : (c : Core) (b : ℕ) → CoreInvariant c → is_idle c.history ≡ true → is_enabled c.history b ≡ false → b < length c.positions → position_at c b ≡ Some (length (log c.history)) → 0 < events_left c.history
+pub sound_enabled : (c : Core) (b : ℕ) → CoreInvariant c → is_free c.history ≡ true → is_enabled c.history b ≡ false → b < length c.positions → position_at c b ≡ Some (length (log c.history)) → 0 < events_left c.history
     → CoreInvariant (record c { history = c.history ++ Enabled b ∷ [] })
 sound_enabled c b s fr off lt at_end space =
     let can : CanBeOn c.history c.positions b = (lt, (length (log c.history), at_end, s.one_open.0)) in
@@ -449,17 +449,17 @@ sound_enabled c b s fr off lt at_end space =
     (λ k w. absurd (no_masks c s fr k w)) (kept_by c (Enabled b) s refl refl (λ t q lt. refl))
 
 -- an event while no entry is open that enables and disables nothing
-sound_noted : (c : Core) (e : Event) (ss : List OpenSession) → CoreInvariant c → IsAllowedEvent c.history e → is_idle c.history ≡ true → scheduled_entry e ≡ None → is_end_event e ≡ false
+sound_noted : (c : Core) (e : Event) (ss : List OpenSession) → CoreInvariant c → IsAllowedEvent c.history e → is_free c.history ≡ true → scheduled_entry e ≡ None → is_end_event e ≡ false
     → ((b : ℕ) → is_enabled (c.history ++ e ∷ []) b ≡ is_enabled c.history b) → 0 < events_left c.history → SessionsAre (c.history ++ e ∷ []) c.greatest ss → CoreInvariant (record c { history = c.history ++ e ∷ []; sessions = ss })
 sound_noted c e ss s allowed fr is stays same space a = sound_same c e ss s allowed is stays space (λ k on. inl (sym (same k) ∙ on)) (λ k w. absurd (no_masks c s fr k w)) a
 
 -- a marker of a name that none has
-pub sound_marked : (c : Core) (name : List ℕ) (b : Option ℕ) → CoreInvariant c → is_idle c.history ≡ true → has_marker c.history name ≡ false → 0 < events_left c.history → CoreInvariant (record c { history = c.history ++ Marker name b ∷ [] })
+pub sound_marked : (c : Core) (name : List ℕ) (b : Option ℕ) → CoreInvariant c → is_free c.history ≡ true → has_marker c.history name ≡ false → 0 < events_left c.history → CoreInvariant (record c { history = c.history ++ Marker name b ∷ [] })
 sound_marked c name b s fr fresh space =
     sound_noted c (Marker name b) c.sessions s (fr, fresh) fr refl refl (λ k. enabled-push c.history (Marker name b) k) space (kept_by c (Marker name b) s refl refl (λ t q lt. refl))
 
 -- the log's store failed in a request of session s, which has a number
-pub sound_log_failed : (c : Core) (s n : ℕ) → CoreInvariant c → is_idle c.history ≡ true → s ≤ c.greatest → 0 < events_left c.history → CoreInvariant (record c { history = c.history ++ LogFailed s n ∷ [] })
+pub sound_log_failed : (c : Core) (s n : ℕ) → CoreInvariant c → is_free c.history ≡ true → s ≤ c.greatest → 0 < events_left c.history → CoreInvariant (record c { history = c.history ++ LogFailed s n ∷ [] })
 sound_log_failed c s n w fr le space =
     sound_noted c (LogFailed s n) c.sessions w fr fr refl refl (λ k. enabled-push c.history (LogFailed s n) k) space
     (kept_by c (LogFailed s n) w refl refl (λ t q lt. no_fault_of_other s n t q (λ same. omega arith)))
@@ -477,7 +477,7 @@ FitsMasks h f s k = (in_mask f k ≡ true → (is_enabled h k ≡ true) × (in_m
 
 -- backend b comes to stand elsewhere, and maybe into a mask
 pub sound_moved : (c : Core) (b f s : ℕ) (now : Stance) → CoreInvariant c → b < length c.positions → BackendStands c.history f s b now.position → FitsMasks c.history f s b
-    → ((k : ℕ) → k ≢ b → (in_mask f k ≡ in_mask c.failed k) × (in_mask s k ≡ in_mask c.starved k)) → (is_idle c.history ≡ true → (f ≡ 0) × (s ≡ 0))
+    → ((k : ℕ) → k ≢ b → (in_mask f k ≡ in_mask c.failed k) × (in_mask s k ≡ in_mask c.starved k)) → (is_free c.history ≡ true → (f ≡ 0) × (s ≡ 0))
     → CoreInvariant (record (with_stance c b now) { failed = f; starved = s })
 sound_moved c b f s now w lt stands masks others clear =
     record {
@@ -530,16 +530,16 @@ module _ (c : Core) (b p : ℕ) (w : CoreInvariant c) (is : position_at c b ≡ 
       sound_moved c b c.failed c.starved (record { position = Some (p + 1); begun = begun }) w lt now (w.in_masks b) (λ k ne. (refl, refl)) w.clear
 
   -- it failed in the open entry
-  pub sound_failed : is_idle c.history ≡ false → is_enabled c.history b ≡ true → CoreInvariant (record (with_stance c b out) { failed = with_backend c.failed b })
+  pub sound_failed : is_free c.history ≡ false → is_enabled c.history b ≡ true → CoreInvariant (record (with_stance c b out) { failed = with_backend c.failed b })
   sound_failed fr on =
       sound_moved c b (with_backend c.failed b) c.starved out w lt (λ _. inl (has-with_same c.failed b)) (λ _. (on, was.3), λ _. on)
-      (λ k ne. (has-with_other c.failed b k ne, refl)) (λ t. absurd (both_ways (is_idle c.history) fr t))
+      (λ k ne. (has-with_other c.failed b k ne, refl)) (λ t. absurd (both_ways (is_free c.history) fr t))
 
   -- it wanted memory in the open entry
-  pub sound_starved : is_idle c.history ≡ false → is_enabled c.history b ≡ true → CoreInvariant (record (with_stance c b out) { starved = with_backend c.starved b })
+  pub sound_starved : is_free c.history ≡ false → is_enabled c.history b ≡ true → CoreInvariant (record (with_stance c b out) { starved = with_backend c.starved b })
   sound_starved fr on =
       sound_moved c b c.failed (with_backend c.starved b) out w lt (λ _. inr (has-with_same c.starved b))
-      (λ t. absurd (both_ways (in_mask c.failed b) was.2 t), λ _. on) (λ k ne. (refl, has-with_other c.starved b k ne)) (λ t. absurd (both_ways (is_idle c.history) fr t))
+      (λ t. absurd (both_ways (in_mask c.failed b) was.2 t), λ _. on) (λ k ne. (refl, has-with_other c.starved b k ne)) (λ t. absurd (both_ways (is_free c.history) fr t))
 
   -- it is out, and was not enabled
   pub sound_dropped : is_enabled c.history b ≡ false → CoreInvariant (with_stance c b out)
@@ -565,7 +565,7 @@ module _ (tells : Bool) (c : Core) (b : ℕ) (w : CoreInvariant c) where
       (sound_next c b t.p w t.stands (begun_at c b) (slice_get_within (log c.history) t.p t.entry t.there))
 
   -- an enabled backend takes the open entry
-  pub sound_applied : is_idle c.history ≡ false → is_enabled c.history b ≡ true → (d : Did) (now : Stance) → TakesEntry tells c b d now → CoreInvariant (taken (failed_after c.failed b d) (starved_after c.starved b d) now)
+  pub sound_applied : is_free c.history ≡ false → is_enabled c.history b ≡ true → (d : Did) (now : Stance) → TakesEntry tells c b d now → CoreInvariant (taken (failed_after c.failed b d) (starved_after c.starved b d) now)
   sound_applied fr on (did.Done o) now t = done o now t
   sound_applied fr on did.Skipped now t = skipped now t
   sound_applied fr on did.Failed now t = subst (λ (x : Stance). CoreInvariant (taken (with_backend c.failed b) c.starved x)) (sym t.does.1) (sound_failed c b t.p w t.stands fr on)
@@ -606,7 +606,7 @@ sound_dumped c b name n w is =
     }
 
 -- a backend that is not enabled comes to stand at a position within the log
-pub sound_loaded : (c : Core) (b n : ℕ) (begun : List ℕ) → CoreInvariant c → b < length c.positions → is_idle c.history ≡ true → is_enabled c.history b ≡ false → n ≤ length (log c.history)
+pub sound_loaded : (c : Core) (b n : ℕ) (begun : List ℕ) → CoreInvariant c → b < length c.positions → is_free c.history ≡ true → is_enabled c.history b ≡ false → n ≤ length (log c.history)
     → CoreInvariant (with_stance c b (record { position = Some n; begun = begun }))
 sound_loaded c b n begun w lt fr off le =
     let clear = w.clear fr in

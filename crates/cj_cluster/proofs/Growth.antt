@@ -18,13 +18,13 @@ use Rattle.cj_cluster.proofs.Soundness.{by_reason, read_counts, moves_sound}
 -- how many requests a session has made, or 0 where it is not open
 abbrev pub queries_in : Option OpenSession → ℕ
 queries_in None = 0
-queries_in (Some x) = x.queries
+queries_in (Some x) = x.requests
 
 -- the same, in a state
-pub queries_at : (c : Core) (s : ℕ) → (session_at c s).queries ≡ queries_in (find_session c.sessions s)
-queries_at c s = ap (λ (x : OpenSession). x.queries) (session_at-is c s (find_session c.sessions s) refl) ∙ one (find_session c.sessions s)
+pub queries_at : (c : Core) (s : ℕ) → (session_at c s).requests ≡ queries_in (find_session c.sessions s)
+queries_at c s = ap (λ (x : OpenSession). x.requests) (session_at-is c s (find_session c.sessions s) refl) ∙ one (find_session c.sessions s)
   where
-    one : (o : Option OpenSession) → (unwrap_or o (new_session s [])).queries ≡ queries_in o
+    one : (o : Option OpenSession) → (unwrap_or o (new_session s [])).requests ≡ queries_in o
     one None = refl
     one (Some x) = refl
 
@@ -37,7 +37,7 @@ counts_same : (ss : List OpenSession) → CountsBy 1 ss ss
 counts_same ss s = omega arith
 
 -- a session was changed that has made one more at most
-counts_with : (ss : List OpenSession) (s : ℕ) (f : OpenSession → OpenSession) → ((x : OpenSession) → (f x).number ≡ x.number) → ((x : OpenSession) → (f x).queries ≤ x.queries + 1) → CountsBy 1 (with_session ss s f) ss
+counts_with : (ss : List OpenSession) (s : ℕ) (f : OpenSession → OpenSession) → ((x : OpenSession) → (f x).number ≡ x.number) → ((x : OpenSession) → (f x).requests ≤ x.requests + 1) → CountsBy 1 (with_session ss s f) ss
 counts_with ss s f keeps one t =
     ⊎_elim (λ (e : t ≡ s). rw (e, session_of-same f keeps ss s) (mapped (find_session ss s))) (λ (ne : t ≡ s → ⊥). rw (session_of-other f keeps ss s t ne) (omega arith)) (cases_eq t s)
   where
@@ -108,7 +108,7 @@ module _ (c z : Core) where
       subst (Grows 1 c) (sym e) (record { longer = prefix_self c.history; placement = refl; cells = length-set c.positions b now.position; counts = counts_same c.sessions; greatest = omega arith })
 
 -- a request counts once
-counted_once : (x : OpenSession) → (with_one_request x).queries ≤ x.queries + 1
+counted_once : (x : OpenSession) → (with_one_request x).requests ≤ x.requests + 1
 counted_once x = omega arith
 
 -- a session is opened, or none can be
@@ -170,11 +170,11 @@ grow_replay tells c b _ z h = absurd h
 -- the open entry ends, and its session is answered
 grow_end : (tells : Bool) (c : Core) (g : MoveResult) (z : Core) → moves.EndsEntry tells c g z → Grows 1 c z
 grow_end tells c (Ok (moved.Replied s reply)) z h =
-    grows_to c z _ 0 0 (with_session c.sessions s (answered_at (moves.last_number c))) (counts_with c.sessions s (answered_at (moves.last_number c)) (λ x. refl) (λ x. (let le : x.queries ≤ x.queries + 1 = omega arith in le))) h.4
+    grows_to c z _ 0 0 (with_session c.sessions s (answered_at (moves.last_number c))) (counts_with c.sessions s (answered_at (moves.last_number c)) (λ x. refl) (λ x. (let le : x.requests ≤ x.requests + 1 = omega arith in le))) h.4
 grow_end tells c _ z h = absurd h
 
 -- a read that changes its session alone, or adds one event
-module _ (c z : Core) (s b : ℕ) (f : OpenSession → OpenSession) (number : (x : OpenSession) → (f x).number ≡ x.number) (once : (x : OpenSession) → (f x).queries ≤ x.queries + 1) where
+module _ (c z : Core) (s b : ℕ) (f : OpenSession → OpenSession) (number : (x : OpenSession) → (f x).number ≡ x.number) (once : (x : OpenSession) → (f x).requests ≤ x.requests + 1) where
   -- the session alone
   grow_with : z ≡ with_read c s f → Grows 1 c z
   grow_with e = grows_in c z (with_session c.sessions s f) c.greatest (counts_with c.sessions s f number once) (omega arith) e
@@ -298,8 +298,8 @@ runs_sound tells c [] [] z are count w runs = subst CoreInvariant runs w
 runs_sound tells c (m ∷ ms) (g ∷ gs) z are count w runs =
     let d = runs.0 in
     let grows = moves_grow tells c m g d runs.1 in
-    let once : CanCountRequests c 1 = λ s. (let can = count s in let le : (session_at c s).queries + 1 ≤ 2 ^ 62 = omega arith in le) in
-    let more : CanCountRequests c (1 + length ms) = λ s. (let can = count s in let le : (session_at c s).queries + (1 + length ms) ≤ 2 ^ 62 = omega arith in le) in
+    let once : CanCountRequests c 1 = λ s. (let can = count s in let le : (session_at c s).requests + 1 ≤ 2 ^ 62 = omega arith in le) in
+    let more : CanCountRequests c (1 + length ms) = λ s. (let can = count s in let le : (session_at c s).requests + (1 + length ms) ≤ 2 ^ 62 = omega arith in le) in
     let sound : CoreInvariant d = moves_sound tells c m g d (All-head (IsMoveOfCluster c.placement.backends) m ms are) once w runs.1 in
     let rest : All (IsMoveOfCluster d.placement.backends) ms =
     subst (λ (p : Placement). All (IsMoveOfCluster p.backends) ms) (sym grows.placement) (All-tail (IsMoveOfCluster c.placement.backends) m ms are)

@@ -1,9 +1,13 @@
 pub mod Answered
+pub mod AnswersStay
+pub mod Bases
 pub mod Between
 pub mod Chains
 pub mod Common
 pub mod DraftLaws
 pub mod Effects
+pub mod FreshAnswers
+pub mod FreshWorked
 pub mod Growth
 pub mod Loaded
 pub mod Now
@@ -12,7 +16,7 @@ pub mod PartRuns
 pub mod Pushed
 pub mod Sessions
 pub mod Soundness
-pub mod Standing
+pub mod BalanceState
 pub mod StepDrafts
 pub mod TransactionLaws
 pub mod TurnCases

@@ -1,7 +1,7 @@
 -- What holds where a move can be made now.
 use Rattle.std.proofs.Common.{◌≡◌, ◌≢◌, ℕ, zero, suc, ◌+◌, ◌-◌, ◌<◌, ◌≤◌, ◌==◌, ◌&&◌, cond, Bool, true, false, nat_lt, List, [], ◌∷◌, length, get_or, slice_get, Option, None, Some, is_some, is_none, refl, ap, sym, ◌∙◌, subst, arith, ⊎_elim}
 use Rattle.std.proofs.lemmas.Bool.{eqb-true, eqb-false, cases_Bool, cond-true, cond-false, cond_both, not-true, not-false, and_parts, or_parts, ltb-true, ltb-false, and_cases, both_ways}
-use Rattle.cj_cluster.proofs.Common.{Abort, Apply, Close, Disable, Enable, End, Entry, Event, Load, Mark, OpenRead, Read, Replay, Request, Schedule, Select, TakenDump, Why, has_marker, is_enabled, is_idle, log, tx_of}
+use Rattle.cj_cluster.proofs.Common.{Abort, Apply, Close, Disable, Enable, End, Entry, Event, Load, Mark, OpenRead, Read, Replay, Request, Schedule, Select, TakenDump, Why, has_marker, is_enabled, is_free, log, tx_of}
 use Rattle.cj_cluster.specs.declared.moves.Reason.{Reason}
 use Rattle.cj_cluster.specs.Moves.Cores.{Core, position_at, find_dump, hosts_beyond, session_at}
 use Rattle.cj_cluster.specs.Moves.Moves.{reason_if, reason_of_dump, position_or_zero, first_lagging, reason_if_lagging, entry_numbered, is_orphan_of, is_orphan, not_now, is_open, is_waiting}
@@ -40,7 +40,7 @@ pub record CanSchedule (c : Core) (s : ℕ) : Type 0 where
   pub here : is_open c s ≡ true
   pub idle : is_waiting c s ≡ false
   pub no_read : (session_at c s).reading ≡ None
-  pub is_free : is_idle c.history ≡ true
+  pub is_free : is_free c.history ≡ true
 
 -- what a Schedule that can be made now says
 pub can_schedule : (c : Core) (s : ℕ) (r : Request) → not_now c (Schedule s r) ≡ None → CanSchedule c s
@@ -77,7 +77,7 @@ pub record CanAbort (c : Core) (tx : ℕ) : Type 0 where
   pub began : slice_get (log c.history) (tx - 1) ≡ Some begin
   pub of_session : tx_of (log c.history) begin.session ≡ tx
   pub gone : is_open c begin.session ≡ false
-  pub is_free : is_idle c.history ≡ true
+  pub is_free : is_free c.history ≡ true
 
 -- what an Abort that can be made now says
 pub can_abort : (c : Core) (tx : ℕ) → not_now c (Abort tx) ≡ None → CanAbort c tx
@@ -90,7 +90,7 @@ can_abort c tx e =
 
 -- an entry is open, and the backend is enabled, not out and not yet at the log's end
 pub record CanApply (c : Core) (b : ℕ) : Type 0 where
-  pub is_running : is_idle c.history ≡ false
+  pub is_running : is_free c.history ≡ false
   pub on : is_enabled c.history b ≡ true
   pub at : position_at c b ≡ Some (position_or_zero (position_at c b))
   pub more : position_or_zero (position_at c b) ≢ length (log c.history)
@@ -106,7 +106,7 @@ can_apply c b e =
 
 -- an entry is open, and no enabled backend is behind
 pub record CanEnd (c : Core) : Type 0 where
-  pub is_running : is_idle c.history ≡ false
+  pub is_running : is_free c.history ≡ false
   pub none_behind : first_lagging c.history 0 c.positions ≡ None
 
 -- no reason where no backend is behind
@@ -134,7 +134,7 @@ can_read c s b select e =
 
 -- no entry is open, and the backend is enabled
 pub record CanDisable (c : Core) (b : ℕ) : Type 0 where
-  pub is_free : is_idle c.history ≡ true
+  pub is_free : is_free c.history ≡ true
   pub on : is_enabled c.history b ≡ true
 
 -- what a Disable that can be made now says
@@ -160,7 +160,7 @@ can_replay c b e =
 
 -- no entry is open, and the backend is not enabled, and at the log's end
 pub record CanEnable (c : Core) (b : ℕ) : Type 0 where
-  pub is_free : is_idle c.history ≡ true
+  pub is_free : is_free c.history ≡ true
   pub off : is_enabled c.history b ≡ false
   pub at : position_at c b ≡ Some (length (log c.history))
 
@@ -175,7 +175,7 @@ can_enable c b e =
 
 -- no entry is open, and no marker has the name
 pub record CanMark (c : Core) (name : List ℕ) : Type 0 where
-  pub is_free : is_idle c.history ≡ true
+  pub is_free : is_free c.history ≡ true
   pub fresh : has_marker c.history name ≡ false
 
 -- what a Mark that can be made now says
@@ -187,7 +187,7 @@ can_mark c name e =
 
 -- no entry is open, the backend is out and not enabled, and a dump of the name covers its tables
 pub record CanLoad (c : Core) (b : ℕ) (name : List ℕ) : Type 0 where
-  pub is_free : is_idle c.history ≡ true
+  pub is_free : is_free c.history ≡ true
   pub off : is_enabled c.history b ≡ false
   pub taken : TakenDump
   pub found : find_dump c.dumps name ≡ Some taken

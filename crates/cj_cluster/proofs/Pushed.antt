@@ -9,7 +9,7 @@ use Rattle.std.proofs.lemmas.List.Sums.{sum_by-append}
 use Rattle.std.proofs.lemmas.Option.{slice_get-get_or, slice_get_past, slice_get_within, get_or_from_slice_get}
 use Rattle.std.proofs.Math.Seq.{take-append_seam, get_or-append_seam}
 use Rattle.cj_cluster.proofs.Common.{Disabled, Enabled, Ended, Entry, Event, IsAllowedEvent, IsLegal, LogFailed, Marker, ReadFailed, Sched, fold-append}
-use Rattle.cj_cluster.specs.History.Histories.{database_of, database_after, scheduled_entry, log, is_end_event, ended_count, is_idle, entry_in_progress, is_enabled, enabled_after_event, masks_of_end, masks_of_ends, marker_name, markers, notes_failure, failures_noted, is_log_fault, log_faults_of}
+use Rattle.cj_cluster.specs.History.Histories.{database_of, database_after, scheduled_entry, log, is_end_event, ended_count, is_free, open_entry_of, is_enabled, enabled_after_event, masks_of_end, masks_of_ends, marker_name, markers, notes_failure, failures_noted, is_log_fault, log_faults_of}
 
 -- ---- lists
 
@@ -168,7 +168,7 @@ log_faults-same h e none s q = log_faults-stay h e s q (none s q)
 -- ---- whether an entry is open
 
 -- an entry that is scheduled is open
-pub free-sched : (h : List Event) (e : Entry) → is_idle h ≡ true → is_idle (h ++ Sched e ∷ []) ≡ false
+pub free-sched : (h : List Event) (e : Entry) → is_free h ≡ true → is_free (h ++ Sched e ∷ []) ≡ false
 free-sched h e fr =
     let l : length (log (h ++ Sched e ∷ [])) ≡ length (log h) + 1 = ap length (log-sched h e) ∙ length-append (log h) (e ∷ []) in
     let d : ended_count (h ++ Sched e ∷ []) ≡ ended_count h = done-same h (Sched e) refl in
@@ -177,7 +177,7 @@ free-sched h e fr =
     ne_eqb _ _ ne
 
 -- the end of the one open entry leaves none
-pub free-ended : (h : List Event) (f s : ℕ) → is_idle h ≡ false → ended_count h ≤ length (log h) → length (log h) ≤ ended_count h + 1 → is_idle (h ++ Ended f s ∷ []) ≡ true
+pub free-ended : (h : List Event) (f s : ℕ) → is_free h ≡ false → ended_count h ≤ length (log h) → length (log h) ≤ ended_count h + 1 → is_free (h ++ Ended f s ∷ []) ≡ true
 free-ended h f s fr lo hi =
     let l : length (log (h ++ Ended f s ∷ [])) ≡ length (log h) = ap length (log-same h (Ended f s) refl) in
     let d : ended_count (h ++ Ended f s ∷ []) ≡ ended_count h + 1 = done-ended h f s in
@@ -185,29 +185,29 @@ free-ended h f s fr lo hi =
     eq-eqb _ _ (omega arith)
 
 -- an event that schedules and ends nothing leaves an entry open, or none
-pub free-same : (h : List Event) (e : Event) → scheduled_entry e ≡ None → is_end_event e ≡ false → is_idle (h ++ e ∷ []) ≡ is_idle h
+pub free-same : (h : List Event) (e : Event) → scheduled_entry e ≡ None → is_end_event e ≡ false → is_free (h ++ e ∷ []) ≡ is_free h
 free-same h e is stays = ap (λ n. n == length (log (h ++ e ∷ []))) (done-same h e stays) ∙ ap (λ (w : List Entry). ended_count h == length w) (log-same h e is)
 
 -- the entry that is scheduled is the open one
-pub opened-sched : (h : List Event) (e : Entry) → is_idle h ≡ true → entry_in_progress (h ++ Sched e ∷ []) ≡ Some e
+pub opened-sched : (h : List Event) (e : Entry) → is_free h ≡ true → open_entry_of (h ++ Sched e ∷ []) ≡ Some e
 opened-sched h e fr =
     let z : ended_count (h ++ Sched e ∷ []) ≡ length (log h) = done-same h (Sched e) refl ∙ eqb-true _ _ fr in
     ap (λ n. slice_get (log (h ++ Sched e ∷ [])) n) z ∙ (ap (λ (w : List Entry). slice_get w (length (log h))) (log-sched h e) ∙ get_seam (log h) [] e)
 
 -- an event that schedules and ends nothing leaves the open entry
-pub opened-same : (h : List Event) (e : Event) → scheduled_entry e ≡ None → is_end_event e ≡ false → entry_in_progress (h ++ e ∷ []) ≡ entry_in_progress h
+pub opened-same : (h : List Event) (e : Event) → scheduled_entry e ≡ None → is_end_event e ≡ false → open_entry_of (h ++ e ∷ []) ≡ open_entry_of h
 opened-same h e is stays = ap (λ n. slice_get (log (h ++ e ∷ [])) n) (done-same h e stays) ∙ ap (λ (w : List Entry). slice_get w (ended_count h)) (log-same h e is)
 
 -- where no entry is open there is no open entry
-pub opened-free : (h : List Event) → is_idle h ≡ true → entry_in_progress h ≡ None
+pub opened-free : (h : List Event) → is_free h ≡ true → open_entry_of h ≡ None
 opened-free h fr = let z : ended_count h ≡ length (log h) = eqb-true _ _ fr in slice_get_past (log h) (ended_count h) (omega arith)
 
 -- nor is there one after the end of the only one
-pub opened-ended : (h : List Event) (f s : ℕ) → is_idle h ≡ false → ended_count h ≤ length (log h) → length (log h) ≤ ended_count h + 1 → entry_in_progress (h ++ Ended f s ∷ []) ≡ None
+pub opened-ended : (h : List Event) (f s : ℕ) → is_free h ≡ false → ended_count h ≤ length (log h) → length (log h) ≤ ended_count h + 1 → open_entry_of (h ++ Ended f s ∷ []) ≡ None
 opened-ended h f s fr lo hi = opened-free (h ++ Ended f s ∷ []) (free-ended h f s fr lo hi)
 
 -- an entry that is open is the log's last
-pub opened-last : (h : List Event) (e : Entry) → length (log h) ≤ ended_count h + 1 → entry_in_progress h ≡ Some e → (is_idle h ≡ false) × (length (log h) ≡ ended_count h + 1)
+pub opened-last : (h : List Event) (e : Entry) → length (log h) ≤ ended_count h + 1 → open_entry_of h ≡ Some e → (is_free h ≡ false) × (length (log h) ≡ ended_count h + 1)
 opened-last h e hi is =
     let lt : ended_count h < length (log h) = slice_get_within (log h) (ended_count h) e is in
     let ne : ended_count h ≢ length (log h) = omega arith in

@@ -2,7 +2,7 @@
 use Rattle.std.proofs.Common.{◌≡◌, ◌≢◌, ◌⊎◌, inl, inr, ℕ, ◌+◌, ◌-◌, ◌<◌, ◌≤◌, ◌==◌, Bool, true, false, cond, List, [], ◌∷◌, ◌++◌, length, take, All, Option, IfSome, None, Some, Ok, Err, refl, ap, sym, ◌∙◌, subst, arith, ⊎_elim, MatchOption}
 use Rattle.std.proofs.lemmas.Bool.{eqb-true, eqb-false, or_parts, leb-false}
 use Rattle.std.proofs.lemmas.List.Elements.{All-weaker}
-use Rattle.cj_cluster.proofs.Common.{Abort, Act, Apply, Arm, Asked, Close, CoreInvariant, Disable, Dump, Enable, End, Ended, Entry, Event, FitsTx, IsFitEntry, IsSoundDump, IsSoundSession, Load, LogFailed, Mark, Move, NoMemory, NotNow, Open, OpenSession, Read, ReadFailed, Refusal, Replay, Request, Schedule, Select, TakenDump, Why, act_of, bytes_eq, events_left, is_idle, log, request_of}
+use Rattle.cj_cluster.proofs.Common.{Abort, Act, Apply, Arm, Asked, Close, CoreInvariant, Disable, Dump, Enable, End, Ended, Entry, Event, FitsTx, IsFitEntry, IsSoundDump, IsSoundSession, Load, LogFailed, Mark, Move, NoMemory, NotNow, Open, OpenSession, Read, ReadFailed, Refusal, Replay, Request, Schedule, Select, TakenDump, Why, act_of, bytes_eq, events_left, is_free, log, request_of}
 use Rattle.cj_model.specs.declared.request.Act.TheVariants as act
 use Rattle.cj_model.specs.declared.request.Request.TheVariants as request
 use Rattle.cj_cluster.specs.declared.moves.Moved.TheVariants as moved
@@ -82,8 +82,8 @@ allowed_tx tx act.Commit allowed = (eqb-false tx 0 (allowed_else (tx == 0) _ all
 allowed_tx tx act.Abort allowed = (eqb-false tx 0 (allowed_else (tx == 0) _ allowed), refl)
 
 -- an entry of an open session may be scheduled, where it is of the session's next request, its act is written and of a transaction that it may have
-pub session_entry_fits : (c : Core) (s : ℕ) (e : Entry) → e.session ≡ s → e.seq ≡ (session_at c s).queries + 1 → IsWritten (request_of e.act) → length e.user ≤ USER_LIMIT → FitsTx (open_tx c s) e.tx e.act
-    → (session_at c s).queries < REQUEST_LIMIT → CoreInvariant c → is_open c s ≡ true → IsFitEntry (log c.history) e
+pub session_entry_fits : (c : Core) (s : ℕ) (e : Entry) → e.session ≡ s → e.seq ≡ (session_at c s).requests + 1 → IsWritten (request_of e.act) → length e.user ≤ USER_LIMIT → FitsTx (open_tx c s) e.tx e.act
+    → (session_at c s).requests < REQUEST_LIMIT → CoreInvariant c → is_open c s ≡ true → IsFitEntry (log c.history) e
 session_entry_fits c s e session seq written user tx count w here =
     let x = session_sound c s w here in
     let i = x.0 in
@@ -100,14 +100,14 @@ session_entry_fits c s e session seq written user tx count w here =
             session = (omega arith, omega arith);
             limit = omega arith;
             newer =
-                All-weaker (λ (d : Entry). d.session ≡ (session_at c s).number → d.seq ≤ (session_at c s).queries) (λ (d : Entry). d.session ≡ e.session → d.seq < e.seq)
+                All-weaker (λ (d : Entry). d.session ≡ (session_at c s).number → d.seq ≤ (session_at c s).requests) (λ (d : Entry). d.session ≡ e.session → d.seq < e.seq)
                 (λ d old by. let le = old (by ∙ (session ∙ sym number)) in omega arith) (log c.history) i.entries;
             tx = subst (λ (k : ℕ). FitsTx (open_tx c k) e.tx e.act) (sym session) tx;
           };
     }
 
 -- and so its next entry
-pub entry_fits : (c : Core) (s : ℕ) (a : Act) → IsWritten (request_of a) → FitsTx (open_tx c s) (tx_of_act (open_tx c s) a) a → (session_at c s).queries < REQUEST_LIMIT → CoreInvariant c → is_open c s ≡ true
+pub entry_fits : (c : Core) (s : ℕ) (a : Act) → IsWritten (request_of a) → FitsTx (open_tx c s) (tx_of_act (open_tx c s) a) a → (session_at c s).requests < REQUEST_LIMIT → CoreInvariant c → is_open c s ≡ true
     → IsFitEntry (log c.history) (next_entry c s a)
 entry_fits c s a written tx count w here = session_entry_fits c s (next_entry c s a) refl refl written (session_sound c s w here).0.user tx count w here
 
@@ -115,12 +115,12 @@ entry_fits c s a written tx count w here = session_entry_fits c s (next_entry c 
 next_fits : (c : Core) (s : ℕ) (r : Request) (a : Act) → act_of r ≡ Some a → IsWritten r → forbidden_by (open_tx c s) a ≡ None → CanCountRequests c 1 → CoreInvariant c → is_open c s ≡ true
     → IsFitEntry (log c.history) (next_entry c s a)
 next_fits c s r a is written allowed count w here =
-    let more : (session_at c s).queries + 1 ≤ REQUEST_LIMIT = count s in
+    let more : (session_at c s).requests + 1 ≤ REQUEST_LIMIT = count s in
     entry_fits c s a (subst IsWritten (sym (request_of-act r a is)) written) (allowed_tx (open_tx c s) a allowed) (omega arith) w here
 
 -- a request more
 pub keeps_counted : (n : ℕ) → KeepsSession n with_one_request
-keeps_counted n = record { number = λ x. refl; user = λ x. refl; queries = λ x. (let le : x.queries ≤ x.queries + 1 = omega arith in le); least = λ x le. le }
+keeps_counted n = record { number = λ x. refl; user = λ x. refl; requests = λ x. (let le : x.requests ≤ x.requests + 1 = omega arith in le); least = λ x le. le }
 
 -- an act is scheduled, or refused
 sound_act : (c : Core) (s : ℕ) (r : Request) (a : Act) (g : MoveResult) (z : Core) → act_of r ≡ Some a → IsWritten r → CanCountRequests c 1 → CoreInvariant c → CanSchedule c s
@@ -139,7 +139,7 @@ sound_act c s r a (Ok (moved.Refused refusal)) z is written count w can h =
   where
     faulted : moves.ScheduleMeetsLogFault c s r a refusal z → CoreInvariant z
     faulted q =
-        let n : ℕ = (session_at c s).queries + 1 in
+        let n : ℕ = (session_at c s).requests + 1 in
         let x = session_sound c s w can.here in
         let high : (session_at c s).number ≤ c.greatest = x.0.number.1 in
         let number : (session_at c s).number ≡ s = x.1 in
@@ -185,7 +185,7 @@ abort_fits c tx w is =
     }
 
 -- the administrator's move is refused
-sound_refused : (n : ℕ) (c : Core) (refusal : Refusal) (z : Core) → CoreInvariant c → is_idle c.history ≡ true → 0 < n → moves.LacksRoomFor n c refusal z ⊎ moves.MeetsLogFault n c refusal z → CoreInvariant z
+sound_refused : (n : ℕ) (c : Core) (refusal : Refusal) (z : Core) → CoreInvariant c → is_free c.history ≡ true → 0 < n → moves.LacksRoomFor n c refusal z ⊎ moves.MeetsLogFault n c refusal z → CoreInvariant z
 sound_refused n c refusal z w fr some h =
     ⊎_elim (λ (q : moves.LacksRoomFor n c refusal z). subst CoreInvariant (sym q.after) w)
     (λ (q : moves.MeetsLogFault n c refusal z). let space : n ≤ events_left c.history = q.space in subst CoreInvariant (sym q.after) (sound_log_failed c 0 0 w fr (omega arith) (omega arith))) h
@@ -213,7 +213,7 @@ sound_replay tells c b _ z w can h = absurd h
 
 -- a reply at a position within the log
 pub keeps_answered : (n p : ℕ) → p ≤ n → KeepsSession n (answered_at p)
-keeps_answered n p le = record { number = λ x. refl; user = λ x. refl; queries = λ x. (let le : x.queries ≤ x.queries = omega arith in le); least = λ x old. le }
+keeps_answered n p le = record { number = λ x. refl; user = λ x. refl; requests = λ x. (let le : x.requests ≤ x.requests = omega arith in le); least = λ x old. le }
 
 -- the open entry ends, and its session is answered
 sound_end : (tells : Bool) (c : Core) (g : MoveResult) (z : Core) → CoreInvariant c → CanEnd c → moves.EndsEntry tells c g z → CoreInvariant z
@@ -229,24 +229,24 @@ sound_end tells c _ z w can h = absurd h
 -- ---- reads
 
 -- a read counts once at most
-pub read_counts : (x : OpenSession) → (x.queries ≤ read_number x) × (read_number x ≤ x.queries + 1)
+pub read_counts : (x : OpenSession) → (x.requests ≤ read_number x) × (read_number x ≤ x.requests + 1)
 read_counts x = one (is_reading x)
   where
-    one : (b : Bool) → (x.queries ≤ cond b x.queries (x.queries + 1)) × (cond b x.queries (x.queries + 1) ≤ x.queries + 1)
+    one : (b : Bool) → (x.requests ≤ cond b x.requests (x.requests + 1)) × (cond b x.requests (x.requests + 1) ≤ x.requests + 1)
     one true = (omega arith, omega arith)
     one false = (omega arith, omega arith)
 
 -- a read that was answered
 pub keeps_was_answered : (n : ℕ) → KeepsSession n was_answered
-keeps_was_answered n = record { number = λ x. refl; user = λ x. refl; queries = λ x. (read_counts x).0; least = λ x le. le }
+keeps_was_answered n = record { number = λ x. refl; user = λ x. refl; requests = λ x. (read_counts x).0; least = λ x le. le }
 
 -- a read that goes on
 pub keeps_still_reading : (n : ℕ) (select : Select) (tried : ℕ) → KeepsSession n (still_reading select tried)
-keeps_still_reading n select tried = record { number = λ x. refl; user = λ x. refl; queries = λ x. (read_counts x).0; least = λ x le. le }
+keeps_still_reading n select tried = record { number = λ x. refl; user = λ x. refl; requests = λ x. (read_counts x).0; least = λ x le. le }
 
 -- a read that was answered at a position within the log
 pub keeps_reached : (n p : ℕ) → p ≤ n → KeepsSession n (λ x. answered_at p (was_answered x))
-keeps_reached n p le = record { number = λ x. refl; user = λ x. refl; queries = λ x. (read_counts x).0; least = λ x old. le }
+keeps_reached n p le = record { number = λ x. refl; user = λ x. refl; requests = λ x. (read_counts x).0; least = λ x old. le }
 
 -- a backend failed in a read, which goes on or was answered
 failed_sound : (c : Core) (s b : ℕ) (f : OpenSession → OpenSession) (z : Core) → CoreInvariant c → KeepsSession (length (log c.history)) f → 0 < events_left c.history → z ≡ read_failed c s b f → CoreInvariant z

@@ -1,7 +1,7 @@
 -- Each session stands between two replies: how what moves change keeps that, whatever the backends tell.
 use Rattle.std.proofs.Common.{◌≡◌, ◌≢◌, ℕ, ◌+◌, ◌<◌, ◌≤◌, Bool, true, false, List, [], ◌∷◌, ◌++◌, length, Option, option_map, None, Some, is_some, refl, ap, sym, ◌∙◌, subst, arith, ⊎_elim}
 use Rattle.std.proofs.lemmas.Bool.{cases_eq, eqb-true, both_ways}
-use Rattle.cj_cluster.proofs.Common.{Core, CoreInvariant, Ended, Entry, Event, HasServer, IsFitEntry, IsSoundSession, LogFailed, OpenSession, ReadFailed, Sched, Select, enabled_after_event, entry_in_progress, events_left, find_session, in_mask, is_enabled, is_end_event, is_entry_of, is_idle, is_log_fault, log, new_session, request_of, scheduled_entry, session_at, tx_of, with_backend, with_session}
+use Rattle.cj_cluster.proofs.Common.{Core, CoreInvariant, Ended, Entry, Event, HasServer, IsFitEntry, IsSoundSession, LogFailed, OpenSession, ReadFailed, Sched, Select, enabled_after_event, open_entry_of, events_left, find_session, in_mask, is_enabled, is_end_event, is_entry_of, is_free, is_log_fault, log, new_session, request_of, scheduled_entry, session_at, tx_of, with_backend, with_session}
 use Rattle.cj_cluster.specs.History.Turns.{SessionView}
 use Rattle.cj_cluster.specs.Moves.Moves.{is_open, happened, with_one_request, with_entry, scheduled_as, abort_entry, answered_at, still_reading, read_number, tried_of, with_read}
 use Rattle.cj_cluster.specs.Moves.Runs.{seen_at, HasFailedSince, TriedSince, IsBetweenReplies, AreBetween}
@@ -37,7 +37,7 @@ stand_rest c ps begun f t between s some =
 
 -- an event that schedules nothing, ends nothing and is no fault of the log's store in a session's request, and enables or disables nothing while an entry is open
 pub stand_event : (c : Core) (ev : Event) → scheduled_entry ev ≡ None → is_end_event ev ≡ false → ((s q : ℕ) → 0 < s → is_log_fault s q ev ≡ false)
-    → ((s : ℕ) → is_entry_of s (entry_in_progress c.history) ≡ true → (b : ℕ) → enabled_after_event b (is_enabled c.history b) ev ≡ is_enabled c.history b) → AreBetween c → AreBetween (record c { history = c.history ++ ev ∷ [] })
+    → ((s : ℕ) → is_entry_of s (open_entry_of c.history) ≡ true → (b : ℕ) → enabled_after_event b (is_enabled c.history b) ev ≡ is_enabled c.history b) → AreBetween c → AreBetween (record c { history = c.history ++ ev ∷ [] })
 stand_event c ev none stays no_fault same between s some =
     let q = between s some in
     let z : Core = record c { history = c.history ++ ev ∷ [] } in (
@@ -106,23 +106,23 @@ module _ (c : Core) (k : ℕ) (f : OpenSession → OpenSession) (keeps : (x : Op
       (cases_eq s k)
 
   -- it reads nothing then, and no entry of its own is open
-  stand_fresh : CoreInvariant (with_read c k f) → is_entry_of k (entry_in_progress c.history) ≡ false → (session_at (with_read c k f) k).reading ≡ None → AreBetween (with_read c k f)
+  stand_fresh : CoreInvariant (with_read c k f) → is_entry_of k (open_entry_of c.history) ≡ false → (session_at (with_read c k f) k).reading ≡ None → AreBetween (with_read c k f)
   stand_fresh v idle none = stand_with (seen_at (with_read c k f) k) (between_fresh (with_read c k f) k v idle none)
 
   -- its read was answered
-  pub stand_answered : ((x : OpenSession) → (f x).reading ≡ None) → CoreInvariant (with_read c k f) → is_entry_of k (entry_in_progress c.history) ≡ false → AreBetween (with_read c k f)
+  pub stand_answered : ((x : OpenSession) → (f x).reading ≡ None) → CoreInvariant (with_read c k f) → is_entry_of k (open_entry_of c.history) ≡ false → AreBetween (with_read c k f)
   stand_answered none v idle = stand_fresh v idle (none_reading c (with_read c k f) k f keeps refl (λ x e. none x))
 
   -- it read nothing, and reads nothing still
-  pub stand_counted : ((x : OpenSession) → (f x).reading ≡ x.reading) → (session_at c k).reading ≡ None → CoreInvariant (with_read c k f) → is_entry_of k (entry_in_progress c.history) ≡ false → AreBetween (with_read c k f)
+  pub stand_counted : ((x : OpenSession) → (f x).reading ≡ x.reading) → (session_at c k).reading ≡ None → CoreInvariant (with_read c k f) → is_entry_of k (open_entry_of c.history) ≡ false → AreBetween (with_read c k f)
   stand_counted same none v idle = stand_fresh v idle (still_none c (with_read c k f) k f keeps refl same none)
 
 -- The log's store failed in a request of session k, which reads nothing, or in the administrator's move, where k is 0.
-pub stand_log_failed : (c : Core) (k n : ℕ) → CoreInvariant (happened c (LogFailed k n)) → is_idle c.history ≡ true → (0 < k → (session_at c k).reading ≡ None) → AreBetween c → AreBetween (happened c (LogFailed k n))
+pub stand_log_failed : (c : Core) (k n : ℕ) → CoreInvariant (happened c (LogFailed k n)) → is_free c.history ≡ true → (0 < k → (session_at c k).reading ≡ None) → AreBetween c → AreBetween (happened c (LogFailed k n))
 stand_log_failed c k n v fr none between s some =
     let ev : Event = LogFailed k n in
     let z : Core = happened c ev in
-    let idle : is_entry_of k (entry_in_progress z.history) ≡ false = ap (is_entry_of k) (opened-same c.history ev refl refl ∙ opened-free c.history fr) in
+    let idle : is_entry_of k (open_entry_of z.history) ≡ false = ap (is_entry_of k) (opened-same c.history ev refl refl ∙ opened-free c.history fr) in
     ⊎_elim
     (λ (is : s ≡ k). subst (λ (i : ℕ). (a : SessionView) × IsBetweenReplies a z i) (sym is) (seen_at z k, between_fresh z k v idle (none (omega (arith, is, some)))))
     (λ (is : s ≡ k → ⊥).
@@ -182,7 +182,7 @@ tried_more c s b n select some is between =
     )
 
 -- its read stays open, and each backend that was tried in it has failed since what the session has seen
-pub stand_reading : (c : Core) (k : ℕ) (select : Select) (tried : ℕ) → AreBetween c → is_entry_of k (entry_in_progress c.history) ≡ false → (a : SessionView) → IsBetweenReplies a c k
+pub stand_reading : (c : Core) (k : ℕ) (select : Select) (tried : ℕ) → AreBetween c → is_entry_of k (open_entry_of c.history) ≡ false → (a : SessionView) → IsBetweenReplies a c k
     → ((b : ℕ) → in_mask tried b ≡ true → HasFailedSince a.front c.history k (read_number (session_at c k)) b) → AreBetween (with_read c k (still_reading select tried))
 stand_reading c k select tried between idle a j each =
     stand_with c k f (λ x. refl) between a (one (is_open c k) refl)
@@ -209,7 +209,7 @@ stand_reading c k select tried between idle a j each =
 -- ---- entries
 
 -- an entry of a session is scheduled, which reads nothing
-pub stand_sched : (c : Core) (k : ℕ) (e : Entry) → CoreInvariant c → is_idle c.history ≡ true → IsFitEntry (log c.history) e → e.session ≡ k → is_open c k ≡ true → (session_at c k).reading ≡ None
+pub stand_sched : (c : Core) (k : ℕ) (e : Entry) → CoreInvariant c → is_free c.history ≡ true → IsFitEntry (log c.history) e → e.session ≡ k → is_open c k ≡ true → (session_at c k).reading ≡ None
     → HasServer c.placement c.history (request_of e.act) → 3 ≤ events_left c.history → AreBetween c → AreBetween (scheduled_as c k e)
 stand_sched c k e w fr fit own here none served space between s some =
     let g : List Event = c.history ++ Sched e ∷ [] in
@@ -252,8 +252,8 @@ stand_aborted c tx can between s some =
 
 -- The open entry ends, and its session is answered, where it has one.
 pub stand_ended : (c z : Core) (k n f t : ℕ) → z ≡ record c { history = c.history ++ Ended f t ∷ []; failed = 0; starved = 0; sessions = with_session c.sessions k (answered_at n) }
-    → CoreInvariant z → is_entry_of k (entry_in_progress c.history) ≡ true → entry_in_progress (c.history ++ Ended f t ∷ []) ≡ None → AreBetween c → AreBetween z
-stand_ended c z k n f t is v waiting none between s some = one (is_entry_of s (entry_in_progress c.history)) refl
+    → CoreInvariant z → is_entry_of k (open_entry_of c.history) ≡ true → open_entry_of (c.history ++ Ended f t ∷ []) ≡ None → AreBetween c → AreBetween z
+stand_ended c z k n f t is v waiting none between s some = one (is_entry_of s (open_entry_of c.history)) refl
   where
     g : List Event
     g = c.history ++ Ended f t ∷ []
@@ -262,19 +262,19 @@ stand_ended c z k n f t is v waiting none between s some = one (is_entry_of s (e
     alone None a b = absurd (cc a)
     alone (Some e) a b = sym (eqb-true e.session s a) ∙ eqb-true e.session k b
 
-    reads_none : (b : Bool) → is_open c s ≡ b → is_entry_of s (entry_in_progress c.history) ≡ true → (session_at c s).reading ≡ None
+    reads_none : (b : Bool) → is_open c s ≡ b → is_entry_of s (open_entry_of c.history) ≡ true → (session_at c s).reading ≡ None
     reads_none true here own = (((between s some).1.here here).waits own).1
     reads_none false shut own = shut_reads c s shut
 
-    one : (b : Bool) → is_entry_of s (entry_in_progress c.history) ≡ b → (a : SessionView) × IsBetweenReplies a z s
+    one : (b : Bool) → is_entry_of s (open_entry_of c.history) ≡ b → (a : SessionView) × IsBetweenReplies a z s
     one true own =
-        let same : s ≡ k = alone (entry_in_progress c.history) own waiting in
-        let ended_now : is_entry_of s (entry_in_progress z.history) ≡ false = ap (λ (x : Core). is_entry_of s (entry_in_progress x.history)) is ∙ ap (is_entry_of s) none in
+        let same : s ≡ k = alone (open_entry_of c.history) own waiting in
+        let ended_now : is_entry_of s (open_entry_of z.history) ≡ false = ap (λ (x : Core). is_entry_of s (open_entry_of x.history)) is ∙ ap (is_entry_of s) none in
         let changed : z.sessions ≡ with_session c.sessions s (answered_at n) = ap (λ (x : Core). x.sessions) is ∙ ap (λ (i : ℕ). with_session c.sessions i (answered_at n)) (sym same) in
         (seen_at z s, between_fresh z s v ended_now (still_none c z s (answered_at n) (λ x. refl) changed (λ x. refl) (reads_none (is_open c s) refl own)))
     one false other =
         let q = between s some in
-        let differs : s ≡ k → ⊥ = λ e. both_ways (is_entry_of s (entry_in_progress c.history)) other (subst (λ (i : ℕ). is_entry_of i (entry_in_progress c.history) ≡ true) (sym e) waiting) in (
+        let differs : s ≡ k → ⊥ = λ e. both_ways (is_entry_of s (open_entry_of c.history)) other (subst (λ (i : ℕ). is_entry_of i (open_entry_of c.history) ≡ true) (sym e) waiting) in (
           q.0,
           between_follows q.0 c z g s (session_at c s) q.1
               (follows_rest c z s is refl (Ended f t ∷ [], refl) refl (session_of-other (answered_at n) (λ x. refl) c.sessions k s differs))

@@ -3,7 +3,7 @@ use Rattle.std.proofs.Common.{◌≡◌, ◌≢◌, ℕ, ◌+◌, ◌<◌, ◌�
 use mathlib.Core.List.{IsPrefix}
 use Rattle.std.proofs.lemmas.Bool.{both_ways}
 use Rattle.std.proofs.lemmas.List.{take-append-le, take_at, take_more}
-use Rattle.cj_cluster.proofs.Common.{Act, Asked, Ended, Entry, Event, FitsTx, IsAllowedEvent, IsFitEntry, IsLegal, LogFailed, ReadFailed, Reply, Sched, Select, act_of, asked_reply, database_after, ended_count, entry_in_progress, events_left, fold-append, get_or_from_slice_get, in_mask, is_enabled, is_idle, list_any-append, log, log_faults_of, request_of, slice_get_within, take-append_seam, tx_of}
+use Rattle.cj_cluster.proofs.Common.{Act, Asked, Ended, Entry, Event, FitsTx, IsAllowedEvent, IsFitEntry, IsLegal, LogFailed, ReadFailed, Reply, Sched, Select, act_of, asked_reply, database_after, ended_count, open_entry_of, events_left, fold-append, get_or_from_slice_get, in_mask, is_enabled, is_free, list_any-append, log, log_faults_of, request_of, slice_get_within, take-append_seam, tx_of}
 use Rattle.cj_model.specs.declared.request.Request.TheVariants as request
 use Rattle.cj_model.specs.declared.request.Act.TheVariants as act
 use Rattle.cj_model.specs.declared.answer.Reply.TheVariants.{Refused}
@@ -128,7 +128,7 @@ pub record Rests (s : ℕ) (a : SessionView) (h : List Event) : Type 0 where
 -- the end of an entry answers its session
 pub turn_end : (tells : Bool) (p : Placement) (a : SessionView) (h : List Event) (failed starving : ℕ) (e : Entry) (r : Reply)
     → IsLegal (h ++ Ended failed starving ∷ []) → IsPrefix a.front h → a.least ≤ length (log a.front) → AwaitsEnd p a.front h e.session
-    → entry_in_progress h ≡ Some e → 0 < e.session → length (log h) ≡ ended_count h + 1
+    → open_entry_of h ≡ Some e → 0 < e.session → length (log h) ≡ ended_count h + 1
     → ((q : ℕ) → log_faults_of e.session q h ≡ log_faults_of e.session q a.front)
     → AnswersEntry tells p h (h ++ Ended failed starving ∷ []) (ended_count h) e r
     → Turn tells p e.session a (call_of_entry (Some e) r) (record { front = h ++ Ended failed starving ∷ []; least = length (log h) })
@@ -161,7 +161,7 @@ turn_end tells p a h failed starving e r legal longer owes o is some one_open fa
             moment = record { low = low; high = omega arith };
             act = e.act;
             is = act_of_request e.act;
-            was_free = ap is_idle part ∙ o.was_free;
+            was_free = ap is_free part ∙ o.was_free;
             served = subst (λ (x : List Event). HasServer p x (request_of e.act)) (sym part) served;
             space = subst (λ (x : List Event). 3 ≤ events_left x) (sym part) o.space;
             next = next;
@@ -357,7 +357,7 @@ turn_fault tells p s a h b c select mask tried legal longer owes rests tx is rep
 pub turn_log_fault : (tells : Bool) (p : Placement) (s : ℕ) (a : SessionView) (h : List Event) (c : Call) (act : Act)
     → IsLegal (h ++ LogFailed s c.number ∷ []) → IsPrefix a.front h → a.least ≤ length (log a.front) → Rests s a h
     → (c.tx ≡ 0) ⊎ (c.tx ≡ tx_of (log a.front) s) → act_of c.request ≡ Some act → c.reply ≡ Refused (refusal_of_code LOG_FAULT)
-    → is_idle h ≡ true → HasServer p h c.request → 3 ≤ events_left h
+    → is_free h ≡ true → HasServer p h c.request → 3 ≤ events_left h
     → Turn tells p s a c (record { front = h ++ LogFailed s c.number ∷ []; least = a.least })
 turn_log_fault tells p s a h c act legal longer owes rests tx is replied fr served space =
     let ev : Event = LogFailed s c.number in
@@ -378,7 +378,7 @@ turn_log_fault tells p s a h c act legal longer owes rests tx is replied fr serv
             moment = record { low = low; high = omega arith };
             act = act;
             is = is;
-            was_free = ap is_idle part ∙ fr;
+            was_free = ap is_free part ∙ fr;
             served = subst (λ (x : List Event). HasServer p x c.request) (sym part) served;
             space = subst (λ (x : List Event). 3 ≤ events_left x) (sym part) space;
             next = get_seam h [] ev;

@@ -186,7 +186,7 @@ pub struct OpenSession {
     pub number: u64,
     pub user: Text,
     /// How many requests it has made.
-    pub queries: u64,
+    pub requests: u64,
     /// The position that its reads need at least.
     pub least: u64,
     pub reading: Option<OpenRead>,
@@ -282,7 +282,7 @@ impl Duplicate for OpenSession {
         Ok(OpenSession {
             number: self.number,
             user: self.user.copy(alloc)?,
-            queries: self.queries,
+            queries: self.requests,
             least: self.least,
             reading: self.reading.copy(alloc)?,
         })

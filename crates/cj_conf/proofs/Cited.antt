@@ -1,5 +1,5 @@
 -- The names that answers of this crate cite, its own lemmas among them, passed on from one place. Declares nothing.
-pub use Rattle.cj_conf.proofs.Common.{All, AreWeights, BACKEND_LIMIT, IsWeighted, account_of, array_view, as_table, backend_of, each, items_view, placed_of, row_of, weight_at}
+pub use Rattle.cj_conf.proofs.Common.{All, AreWeights, BACKEND_LIMIT, IsWeighted, account_of, array_view, as_table, backend_row, each, items_view, placed_of, config_row, weight_at}
 pub use Rattle.cj_conf.proofs.Making.{are_weights}
 pub use Rattle.cj_conf.proofs.Plain.{plain_refusal}
 pub use Rattle.cj_conf.proofs.Reading.{onto}

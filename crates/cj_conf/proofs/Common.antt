@@ -1,8 +1,8 @@
 -- The names that most proofs of this crate cite, passed on from one place. Declares nothing.
 pub use Rattle.cj_balance.specs.Kept.{AreWeights}
 pub use Rattle.cj_conf.specs.Confs.{kinds_of, names_of, weight_at, weights_of}
-pub use Rattle.cj_conf.specs.Fields.{name_at, number_at}
-pub use Rattle.cj_conf.specs.Rows.{account_of, all_items, backend_of, backends_at, each, is_table, is_text, placed_of, row_of}
+pub use Rattle.cj_conf.specs.Fields.{name_field, number_at}
+pub use Rattle.cj_conf.specs.Rows.{account_of, all_items, backend_row, backends_at, each, is_table, is_text, placed_of, config_row}
 pub use Rattle.cj_conf.specs.Settings.{settings_of}
 pub use Rattle.cj_conf.specs.Weights.{IsWeighted}
 pub use Rattle.cj_conf.specs.declared.backend.Backend.{Backend}

@@ -1,7 +1,7 @@
 -- What the definitions tell of some documents.
 use Rattle.std.proofs.Common.{◌≡◌, ℕ, true, List, [], ◌∷◌, refl}
 use Rattle.std.specs.Prelude.{codes, pos, negsuc}
-use Rattle.cj_conf.proofs.Common.{Backend, backend_of, backends_at, Err, name_at, None, number_at, Ok, parse_document, RoundRobin, settings_of}
+use Rattle.cj_conf.proofs.Common.{Backend, backend_row, backends_at, Err, name_field, None, number_at, Ok, parse_document, RoundRobin, settings_of}
 use Rattle.toml.proofs.OnLiterals.{toml_on_literals}
 use Rattle.toml.specs.Data.{Data, string, integer, boolean, array, table, no_items, item, Members, no_members, member}
 use Rattle.cj_model.specs.Sql.Names.{is_name}
@@ -20,24 +20,24 @@ use Rattle.cj_conf.specs.Confs.{conf_from, weights_of}
 abbrev b0 : Members
 b0 = member (codes "kind") (string (codes "memory")) (member (codes "name") (string (codes "b0")) no_members)
 
-is_b0 : backend_of b0 ≡ Ok (record { name = codes "b0"; kind = Memory; weight = 1 })
+is_b0 : backend_row b0 ≡ Ok (record { name = codes "b0"; kind = Memory; weight = 1 })
 unfolding is_name
 is_b0 = refl
 
 -- a capital letter, a digit at the front, a byte 0, and no byte
-no_capital : name_at (member (codes "name") (string (codes "B0")) no_members) ≡ Err (Range key.Name)
+no_capital : name_field (member (codes "name") (string (codes "B0")) no_members) ≡ Err (Range key.Name)
 unfolding is_name
 no_capital = refl
 
-no_digit_first : name_at (member (codes "name") (string (codes "0b")) no_members) ≡ Err (Range key.Name)
+no_digit_first : name_field (member (codes "name") (string (codes "0b")) no_members) ≡ Err (Range key.Name)
 unfolding is_name
 no_digit_first = refl
 
-no_byte_0 : name_at (member (codes "name") (string (98 ∷ 0 ∷ [])) no_members) ≡ Err (Range key.Name)
+no_byte_0 : name_field (member (codes "name") (string (98 ∷ 0 ∷ [])) no_members) ≡ Err (Range key.Name)
 unfolding is_name
 no_byte_0 = refl
 
-not_empty : name_at (member (codes "name") (string []) no_members) ≡ Err (Range key.Name)
+not_empty : name_field (member (codes "name") (string []) no_members) ≡ Err (Range key.Name)
 unfolding is_name
 not_empty = refl
 

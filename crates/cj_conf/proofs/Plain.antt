@@ -7,9 +7,9 @@ use Rattle.toml.specs.Data.{Data, Items, no_items, item, Members, as_array, as_i
 use Rattle.cj_conf.specs.declared.error.ConfError.TheVariants as error
 use Rattle.cj_conf.specs.declared.key.Key.{Key}
 use Rattle.cj_conf.specs.declared.key.Key.TheVariants as key
-use Rattle.cj_conf.specs.Fields.{and_then, at, digest_at, in_range, kind_at, level_at, name_at, number_at, number_within, optional, policy_at, policy_named, required, text_as, unless, user_at}
+use Rattle.cj_conf.specs.Fields.{and_then, at, digest_at, in_range, kind_at, level_at, name_field, number_at, number_within, optional, policy_at, policy_named, required, text_as, unless, user_at}
 use Rattle.cj_conf.specs.Refusals.{Gives, TellsMemoryPlainly}
-use Rattle.cj_conf.specs.Rows.{account_of, backend_of, backends_at, each, each_of, hosts_at, is_table, is_text, logins_at, placed_of, row_of, rows_of, tables_at, texts_of, users_at}
+use Rattle.cj_conf.specs.Rows.{account_of, backend_row, backends_at, each, each_of, hosts_at, is_table, is_text, logins_at, placed_of, config_row, rows_of, tables_at, texts_of, users_at}
 
 abbrev pub IsPlain : {A : Type 0} → Result A ConfError → Type 0
 IsPlain r = IfErr r TellsMemoryPlainly
@@ -57,7 +57,7 @@ plain_each_of : {A : Type 0} (k : Key) (is_kind : Data → Bool) (read : Data �
 plain_each_of k is_kind read None p = tt
 plain_each_of k is_kind read (Some ds) p = plain_if _ (each read ds) (Err (error.WrongType k)) (plain_each read ds p) tt
 
-plain_row : {A : Type 0} (k : Key) (read : Members → Result A ConfError) (o : Option Members) → ((ms : Members) → IsPlain (read ms)) → IsPlain (row_of k read o)
+plain_row : {A : Type 0} (k : Key) (read : Members → Result A ConfError) (o : Option Members) → ((ms : Members) → IsPlain (read ms)) → IsPlain (config_row k read o)
 plain_row k read None p = tt
 plain_row k read (Some ms) p = p ms
 
@@ -75,16 +75,16 @@ plain_texts_at k read ms = plain_required k _ (at k ms) (λ d. plain_each_of k i
 plain_rows : {A : Type 0} (k : Key) (read : Members → Result A ConfError) (d : Data) → ((ms : Members) → IsPlain (read ms)) → IsPlain (rows_of k read d)
 plain_rows k read d p = plain_each_of k is_table _ (as_array d) (λ row. plain_row k read (as_table row) p)
 
-plain_backend : (ms : Members) → IsPlain (backend_of ms)
+plain_backend : (ms : Members) → IsPlain (backend_row ms)
 plain_backend ms =
-    plain_then (name_at ms) _ (plain_word_at key.Name _ ms) (λ name.
+    plain_then (name_field ms) _ (plain_word_at key.Name _ ms) (λ name.
     plain_then (kind_at ms) _ (plain_word_at key.Kind _ ms) (λ kind.
     plain_then (number_at key.Weight 1 1000 1 ms) _ (plain_number_at key.Weight 1 1000 1 ms) (λ weight.
     plain_unknown _ _)))
 
 plain_placed : (ms : Members) → IsPlain (placed_of ms)
 plain_placed ms =
-    plain_then (name_at ms) _ (plain_word_at key.Name _ ms) (λ name.
+    plain_then (name_field ms) _ (plain_word_at key.Name _ ms) (λ name.
     plain_then (hosts_at ms) _ (plain_texts_at key.Hosts _ ms) (λ hosts.
     plain_unknown _ _))
 
@@ -102,7 +102,7 @@ plain_settings ms =
     plain_then (number_at key.Cache 0 65536 64 ms) _ (plain_number_at key.Cache 0 65536 64 ms) (λ cache.
     plain_then (number_at key.Seed 0 9223372036854775807 0 ms) _ (plain_number_at key.Seed 0 9223372036854775807 0 ms) (λ seed.
     plain_then (number_at key.Connections 0 9223372036854775807 0 ms) _ (plain_number_at key.Connections 0 9223372036854775807 0 ms) (λ connections.
-    plain_then (backends_at ms) _ (plain_required key.Backends _ (at key.Backends ms) (λ d. plain_rows key.Backends backend_of d plain_backend)) (λ backends.
+    plain_then (backends_at ms) _ (plain_required key.Backends _ (at key.Backends ms) (λ d. plain_rows key.Backends backend_row d plain_backend)) (λ backends.
     plain_then (tables_at ms) _ (plain_optional [] _ (at key.Tables ms) (λ d. plain_rows key.Tables placed_of d plain_placed)) (λ tables.
     plain_then (users_at ms) _ (plain_required key.Users _ (at key.Users ms) (λ d. plain_rows key.Users account_of d plain_account)) (λ users.
     plain_unknown _ _))))))))

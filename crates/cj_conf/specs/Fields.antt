@@ -84,8 +84,8 @@ abbrev pub is_user : List ℕ → Bool
 is_user s = nat_le 1 (length s) && nat_le (length s) USER_LIMIT
 
 -- a text without byte 0 that is a user's name
-abbrev pub user_of : List ℕ → Option (List ℕ)
-user_of s = if is_user s then names.text_of s else None
+abbrev pub user_text : List ℕ → Option (List ℕ)
+user_text s = if is_user s then names.text_of s else None
 
 -- the levels, policies and kinds by their words
 abbrev pub level_named : List ℕ → Option Level
@@ -119,11 +119,11 @@ policy_at ms = optional RoundRobin (λ d. text_as key.Policy policy_named (as_st
 abbrev pub kind_at : Members → Result BackendKind ConfError
 kind_at ms = required key.Kind (λ d. text_as key.Kind kind_named (as_str d)) (at key.Kind ms)
 
-abbrev pub name_at : Members → Result (List ℕ) ConfError
-name_at ms = required key.Name (name_in key.Name) (at key.Name ms)
+abbrev pub name_field : Members → Result (List ℕ) ConfError
+name_field ms = required key.Name (name_in key.Name) (at key.Name ms)
 
 abbrev pub user_at : Members → Result (List ℕ) ConfError
-user_at ms = required key.Name (λ d. text_as key.Name user_of (as_str d)) (at key.Name ms)
+user_at ms = required key.Name (λ d. text_as key.Name user_text (as_str d)) (at key.Name ms)
 
 abbrev pub digest_at : Members → Result (List ℕ) ConfError
 digest_at ms = required key.Sha256 (text_in key.Sha256) (at key.Sha256 ms)

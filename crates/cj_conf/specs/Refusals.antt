@@ -21,15 +21,15 @@ error_number (Auth e) = 7
 error_number NoMemory = 8
 
 -- the key that is told with it: none where the whole text is at fault, `tables` for a placement, `users` for accounts
-abbrev pub key_text : ConfError → List ℕ
-key_text NotToml = []
-key_text (Missing key) = key_name key
-key_text (WrongType key) = key_name key
-key_text (Range key) = key_name key
-key_text (Unknown key) = key
-key_text (Place e) = key_name Tables
-key_text (Auth e) = key_name Users
-key_text NoMemory = []
+abbrev pub config_key_text : ConfError → List ℕ
+config_key_text NotToml = []
+config_key_text (Missing key) = key_name key
+config_key_text (WrongType key) = key_name key
+config_key_text (Range key) = key_name key
+config_key_text (Unknown key) = key
+config_key_text (Place e) = key_name Tables
+config_key_text (Auth e) = key_name Users
+config_key_text NoMemory = []
 
 -- want of memory is told as such, and never as a refusal of a placement or of accounts
 abbrev pub TellsMemoryPlainly : ConfError → Type 0

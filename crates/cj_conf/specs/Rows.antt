@@ -13,7 +13,7 @@ use Rattle.cj_conf.specs.declared.key.Key.{Key}
 use Rattle.cj_conf.specs.declared.key.Key.TheVariants as key
 use Rattle.cj_conf.specs.declared.error.ConfError.{ConfError}
 use Rattle.cj_conf.specs.declared.error.ConfError.TheVariants.{WrongType}
-use Rattle.cj_conf.specs.Fields.{and_then, at, digest_at, kind_at, name_at, name_in, number_at, optional, required, text_in, user_at, with_only}
+use Rattle.cj_conf.specs.Fields.{and_then, at, digest_at, kind_at, name_field, name_in, number_at, optional, required, text_in, user_at, with_only}
 
 -- ---- lists
 
@@ -43,20 +43,20 @@ abbrev pub texts_of : {A : Type 0} → Key → (Data → Result A ConfError) →
 texts_of k read d = each_of k is_text read (as_array d)
 
 -- a table of a list
-abbrev pub row_of : {A : Type 0} → Key → (Members → Result A ConfError) → Option Members → Result A ConfError
-row_of k read None = Err (WrongType k)
-row_of k read (Some ms) = read ms
+abbrev pub config_row : {A : Type 0} → Key → (Members → Result A ConfError) → Option Members → Result A ConfError
+config_row k read None = Err (WrongType k)
+config_row k read (Some ms) = read ms
 
 -- a list of tables
 abbrev pub rows_of : {A : Type 0} → Key → (Members → Result A ConfError) → Data → Result (List A) ConfError
-rows_of k read d = each_of k is_table (λ row. row_of k read (as_table row)) (as_array d)
+rows_of k read d = each_of k is_table (λ row. config_row k read (as_table row)) (as_array d)
 
 -- ---- rows
 
 -- a backend: its name, what holds its tables, its weight
-abbrev pub backend_of : Members → Result Backend ConfError
-backend_of ms =
-    and_then (name_at ms) (λ name.
+abbrev pub backend_row : Members → Result Backend ConfError
+backend_row ms =
+    and_then (name_field ms) (λ name.
     and_then (kind_at ms) (λ kind.
     and_then (number_at key.Weight 1 1000 1 ms) (λ weight.
     with_only (key.Name ∷ key.Kind ∷ key.Weight ∷ []) ms (record { name = name; kind = kind; weight = weight }))))
@@ -68,7 +68,7 @@ hosts_at ms = required key.Hosts (texts_of key.Hosts (name_in key.Hosts)) (at ke
 -- a table and its hosts
 abbrev pub placed_of : Members → Result PlaceRow ConfError
 placed_of ms =
-    and_then (name_at ms) (λ table.
+    and_then (name_field ms) (λ table.
     and_then (hosts_at ms) (λ hosts.
     with_only (key.Name ∷ key.Hosts ∷ []) ms (record { table = table; hosts = hosts })))
 
@@ -87,7 +87,7 @@ account_of ms =
 -- ---- the lists
 
 abbrev pub backends_at : Members → Result (List Backend) ConfError
-backends_at ms = required key.Backends (rows_of key.Backends backend_of) (at key.Backends ms)
+backends_at ms = required key.Backends (rows_of key.Backends backend_row) (at key.Backends ms)
 
 abbrev pub tables_at : Members → Result (List PlaceRow) ConfError
 tables_at ms = optional [] (rows_of key.Tables placed_of) (at key.Tables ms)

@@ -1,7 +1,7 @@
 //! Why a configuration is refused.
 
 ghost use Rattle.std.specs.Prelude.{◌≡◌, IfOk};
-ghost use Rattle.cj_conf.specs.Refusals.{error_number, key_text};
+ghost use Rattle.cj_conf.specs.Refusals.{error_number, config_key_text};
 
 use crate::key::Key;
 use cj_auth::AuthError;
@@ -137,7 +137,7 @@ impl ConfError {
 
     /// The key at which the configuration is refused; no bytes where there is none.
     pub fn key(&self) -> &[u8]
-        ensures { result.now ≡ key_text self.now }
+        ensures { result.now ≡ config_key_text self.now }
     {
         match self {
             ConfError::NotToml => b"",

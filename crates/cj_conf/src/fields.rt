@@ -119,7 +119,7 @@ pub fn name_in(value: &Value, key: Key) -> Result<Name, ConfError>
 
 /// The name of a backend or a table.
 pub fn name_at(table: &Table) -> Result<Name, ConfError>
-    ensures { result ≡ fields.name_at (table_view table.now) }
+    ensures { result ≡ fields.name_field (table_view table.now) }
 {
     match find(table, Key::Name) {
         None => Err(ConfError::Missing(Key::Name)),
@@ -150,7 +150,7 @@ pub fn text_in(alloc: Global, value: &Value, key: Key) -> Result<Text, ConfError
 }
 
 fn user_in(alloc: Global, value: &Value) -> Result<Text, ConfError>
-    ensures user { Gives (text_as Key.Name fields.user_of (as_str (view value.now))) result }
+    ensures user { Gives (text_as Key.Name fields.user_text (as_str (view value.now))) result }
     ensures short { IfOk result (λ user. length user ≤ USER_LIMIT) }
 {
     match value.as_str() {

@@ -8,7 +8,7 @@ ghost use Rattle.cj_model.specs.declared.limits.TheConstants.{USER_LIMIT};
 ghost use Rattle.cj_conf.specs.Fields.{name_in, text_in};
 ghost use Rattle.cj_conf.specs.Refusals.{Gives};
 ghost use Rattle.cj_conf.specs.Rows as rows;
-ghost use Rattle.cj_conf.specs.Rows.{all_items, backend_of, each, is_table, is_text, row_of};
+ghost use Rattle.cj_conf.specs.Rows.{all_items, backend_row, each, is_table, is_text, config_row};
 ghost use Rattle.cj_conf.specs.Weights.{IsWeighted};
 
 use crate::backend::{Backend, Backends};
@@ -89,7 +89,7 @@ fn logins_at(alloc: Global, table: &Table) -> Result<Texts, ConfError>
 }
 
 fn backend_of(alloc: Global, table: &Table) -> Result<Backend, ConfError>
-    ensures backend { Gives (backend_of (table_view table.now)) result }
+    ensures backend { Gives (backend_row (table_view table.now)) result }
     ensures weight { IfOk result IsWeighted }
 {
     let name = fields::name_at(table)?;
@@ -128,7 +128,7 @@ fn account_of(alloc: Global, table: &Table) -> Result<Account, ConfError>
 }
 
 fn each_backend(alloc: Global, array: &Array) -> Result<Backends, ConfError>
-    ensures backends { Gives (each (λ row. row_of Key.Backends backend_of (as_table row)) (array_view array.now)) result }
+    ensures backends { Gives (each (λ row. config_row Key.Backends backend_row (as_table row)) (array_view array.now)) result }
     ensures weights { IfOk result (All IsWeighted) }
 {
     let mut backends = ListOf::new(alloc);
@@ -142,7 +142,7 @@ fn each_backend(alloc: Global, array: &Array) -> Result<Backends, ConfError>
 }
 
 fn each_placed(alloc: Global, array: &Array) -> Result<PlaceRows, ConfError>
-    ensures { Gives (each (λ row. row_of Key.Tables rows.placed_of (as_table row)) (array_view array.now)) result }
+    ensures { Gives (each (λ row. config_row Key.Tables rows.placed_of (as_table row)) (array_view array.now)) result }
 {
     let mut tables = ListOf::new(alloc);
     for value in array {
@@ -155,7 +155,7 @@ fn each_placed(alloc: Global, array: &Array) -> Result<PlaceRows, ConfError>
 }
 
 fn each_account(alloc: Global, array: &Array) -> Result<AccountRows, ConfError>
-    ensures accounts { Gives (each (λ row. row_of Key.Users rows.account_of (as_table row)) (array_view array.now)) result }
+    ensures accounts { Gives (each (λ row. config_row Key.Users rows.account_of (as_table row)) (array_view array.now)) result }
     ensures short { IfOk result HasShortUsers }
 {
     let mut accounts = ListOf::new(alloc);

@@ -11,7 +11,7 @@ pub use Rattle.cj_cluster.proofs.Sessions.{session_of-other, is_open-push, is_op
 pub use Rattle.cj_cluster.proofs.TransactionLaws.{legal_fit, tx_of_end, tx_of_end_other}
 pub use Rattle.cj_cluster.proofs.TurnCases.{Rests, act_of_request, entries-same, entries-sched, turn_full, turn_in_vain, turn_log_fault, turn_read, turn_starved, turn_unserved}
 pub use Rattle.cj_cluster.specs.History.Answering.{AnswersEntry, CanServe, HasNoServer, HasServer}
-pub use Rattle.cj_cluster.specs.History.Histories.{database_after, database_of, ended_count, entry_in_progress, events_left, is_enabled, is_end_event, is_idle, log, log_faults_of, masks_of_end, masks_of_ends, scheduled_entry, tx_of}
+pub use Rattle.cj_cluster.specs.History.Histories.{database_after, database_of, ended_count, open_entry_of, events_left, is_enabled, is_end_event, is_free, log, log_faults_of, masks_of_end, masks_of_ends, scheduled_entry, tx_of}
 pub use Rattle.cj_cluster.proofs.Common.{FitsTx, IsLegal, act_of, in_mask, request_of, with_backend}
 pub use Rattle.cj_cluster.specs.History.Turns.{Call, HasNoRoomFor, ReadFaultTurn, ScheduledTurn, SessionView, Turn, TurnCase, entry_count_of, entry_of_call, full, log_fault, no_backend, read, read_fault, scheduled, starved, tx_after_entry}
 pub use Rattle.cj_cluster.specs.Moves.Moves.{Applies, Arms, Disables, DoesMove, DoesWithEntry, Dumps, Enables, EndsEntry, IsServingMask, LacksRoomFor, Loads, Marks, MeetsLogFault, MoveResult, MovesTo, OpensSession, Replays, Stance, TakesEntry, abort_entry, answered_at, ended_for}
@@ -35,10 +35,10 @@ pub use Rattle.cj_core.specs.Proving.StartParts.{TakesPast, TookNext, Transactio
 pub use Rattle.cj_core.specs.QuietCalls.{BlamesNoStore, BlamesNobody, CanCountMore}
 pub use Rattle.cj_core.specs.Solos.{AddsEntry, AddsOwnEvents, AnswersFromCache, AnswersLookUp, AreBackendsOf, AreCalledFor, AsksBackends, CallsBackends, CallsExactly, CallsNone, CarriesOut, HandsOutEntry, IsMoveOfNoSession, IsPartOf, IsReadAtEnd, PicksInTurn, RepeatsAnswer, is_masked, serves_request, SoloState, SoloSteps, StandsBetweenCalls, WorldTurn, desk_of, faults_counted, log_failed_in, log_failure_of, mask_with}
 pub use Rattle.cj_core.specs.Solos.{tells_log_failure, with_answer}
-pub use Rattle.cj_core.specs.Starts.{AbortsEach, AreCurrent, AreHolding, BackendState, CountsFaultOfStart, HasStarted, HaveBegunNone, KeepEachBegun, LosesNothing, RefusesBytes, StandsAfterStart, StartsFrom, backend_of, orphans_of, state_by, with_abort}
+pub use Rattle.cj_core.specs.Starts.{AbortsEach, AreCurrent, AreHolding, BackendState, CountsFaultOfStart, HasStarted, HaveBegunNone, KeepEachBegun, LosesNothing, RefusesBytes, StandsAfterStart, StartsFrom, started_backend, orphans_of, state_by, with_abort}
 pub use Rattle.cj_desk.specs.DeskStates.{DeskCall, IsEntryNumber, cache_counted, desk_tx, next_call, query_skipped, turn_taken, tx_after_write}
-pub use Rattle.cj_freshness.proofs.Fresh.{follows_abort, follows_same, given_at_end}
-pub use Rattle.cj_freshness.specs.Freshness.{FollowsLog, IsFreshAnswer, IsFreshCache}
+pub use Rattle.cj_cluster.proofs.FreshAnswers.{follows_abort, follows_same, given_at_end}
+pub use Rattle.cj_cluster.specs.History.Freshness.{FollowsLog, IsFreshAnswer, IsFreshCache}
 pub use Rattle.cj_log.specs.Logs.{KeepsItems}
 pub use Rattle.cj_log.specs.declared.item.LogItem.{LogItem}
 pub use Rattle.cj_model.proofs.CachingLaws.{all_looked, kept_answer, kept_looked}
@@ -61,8 +61,8 @@ pub use Rattle.cj_model.specs.declared.request.Act.{Act}
 pub use Rattle.cj_model.specs.declared.request.Entry.{Entry}
 pub use Rattle.cj_model.specs.declared.select.Select.{Select}
 pub use Rattle.cj_moves.specs.Counting.{blamed, log_faults_after, tells_log_fault}
-pub use Rattle.cj_opening.proofs.Longer.{idle_opening, items_append}
-pub use Rattle.cj_opening.specs.Openings.{IsOpening, OpensTo, items_behind, items_of}
+pub use Rattle.cj_recovery.proofs.Longer.{idle_opening, items_append}
+pub use Rattle.cj_recovery.specs.Openings.{IsOpening, OpensTo, items_behind, items_of}
 pub use Rattle.cj_replica.specs.Cells.{CellState, KeepsBegun}
 pub use Rattle.cj_state.proofs.CellsKept.{at_log_end}
 pub use Rattle.cj_cluster.specs.History.Transactions.{takes_part}

@@ -1,6 +1,6 @@
 -- How backends leave their cells, and what they hold then.
 use Rattle.std.proofs.Common.{◌≡◌, ℕ, ◌+◌, ◌<◌, ◌≤◌, Bool, List, [], ◌∷◌, ◌++◌, length, map, reverse, get_or, slice_get, Option, None, Some, refl, ap, sym, ◌∙◌, subst, arith, length-append, append_assoc, append-nil, false}
-use Rattle.cj_core.proofs.Common.{AreCurrent, AreHolding, at_log_end, backend_of, BackendState, CellState, database_after, database_of, everywhere, get_or-map, HoldsPart, is_there, IsCell, IsWorld, KeepEachBegun, KeepsBegun, length-map, length-reverse, log, map_push, nil_from_length, part}
+use Rattle.cj_core.proofs.Common.{AreCurrent, AreHolding, at_log_end, started_backend, BackendState, CellState, database_after, database_of, everywhere, get_or-map, HoldsPart, is_there, IsCell, IsWorld, KeepEachBegun, KeepsBegun, length-map, length-reverse, log, map_push, nil_from_length, part}
 use Rattle.cj_core.proofs.Common.{reverse-append, reverse-reverse, slice_get-get_or, Slot, take_all, WorldState}
 
 -- ---- out of the cells
@@ -12,14 +12,14 @@ keep_pushed (y ∷ cells) (a ∷ begun) x b all one = (all.0, keep_pushed cells 
 keep_pushed _ _ x b all one = absurd all
 
 -- what is seen of a backend that left its cell, part by part
-pub left_seen : (s : BackendState) (x : CellState) → s.told ≡ x.told → s.faults ≡ x.faults → s.asks ≡ x.asks → s.login ≡ x.login → s.arming ≡ x.arming → s ≡ backend_of x
+pub left_seen : (s : BackendState) (x : CellState) → s.told ≡ x.told → s.faults ≡ x.faults → s.asks ≡ x.asks → s.login ≡ x.login → s.arming ≡ x.arming → s ≡ started_backend x
 left_seen s x told faults asks login arming = rw (sym told, sym faults, sym asks, sym login, sym arming) refl
 
 -- The cells that were left already, and those that are left, last first, are all; each backend that left its cell is as that says, and there is room for the others.
 pub record Leaving {X : Type 0} (state_of : X → BackendState) (begun_of : X → List ℕ) (all left : List CellState) (backends : List X) (capacity : ℕ) : Type 0 where
   pub moved : List CellState
   pub whole : moved ++ reverse left ≡ all
-  pub shown : map state_of backends ≡ map backend_of moved
+  pub shown : map state_of backends ≡ map started_backend moved
   pub begun : KeepEachBegun moved (map begun_of backends)
   pub room : length backends + length left ≤ capacity
 
@@ -38,7 +38,7 @@ module _ {X : Type 0} {state_of : X → BackendState} {begun_of : X → List ℕ
     pub leaving_room : length backends < capacity
     leaving_room = let all_of : length backends + (length left + 1) ≤ capacity = count in omega arith
 
-    pub leaving_more : (y : X) (now : List X) (capacity_now : ℕ) → state_of y ≡ backend_of x → KeepsBegun x.position x.begun (begun_of y) → now ≡ backends ++ y ∷ [] → capacity_now ≡ capacity → Leaving state_of begun_of all left now capacity_now
+    pub leaving_more : (y : X) (now : List X) (capacity_now : ℕ) → state_of y ≡ started_backend x → KeepsBegun x.position x.begun (begun_of y) → now ≡ backends ++ y ∷ [] → capacity_now ≡ capacity → Leaving state_of begun_of all left now capacity_now
     leaving_more y now capacity_now seen kept pushed same =
         let more = length-append backends (y ∷ []) in
         let all_of : length backends + (length left + 1) ≤ capacity = count in
@@ -46,17 +46,17 @@ module _ {X : Type 0} {state_of : X → BackendState} {begun_of : X → List ℕ
         (record {
           moved = leaving.moved ++ x ∷ [];
           whole = append_assoc leaving.moved (x ∷ []) (reverse left) ∙ (ap (λ l. leaving.moved ++ l) (sym (ap reverse is ∙ reverse-append left (x ∷ []))) ∙ leaving.whole);
-          shown = map_push state_of backends y ∙ (ap (λ l. l ++ state_of y ∷ []) leaving.shown ∙ (ap (λ s. map backend_of leaving.moved ++ s ∷ []) seen ∙ sym (map_push backend_of leaving.moved x)));
+          shown = map_push state_of backends y ∙ (ap (λ l. l ++ state_of y ∷ []) leaving.shown ∙ (ap (λ s. map started_backend leaving.moved ++ s ∷ []) seen ∙ sym (map_push started_backend leaving.moved x)));
           begun = subst (KeepEachBegun (leaving.moved ++ x ∷ [])) (sym (map_push begun_of backends y)) (keep_pushed leaving.moved (map begun_of backends) x (begun_of y) leaving.begun kept);
           room = omega arith;
         })
 
   -- where none is left, all backends have left
-  pub leaving_last : {left : List CellState} {backends : List X} {capacity : ℕ} → length left ≡ 0 → Leaving state_of begun_of all left backends capacity → (map state_of backends ≡ map backend_of all) × KeepEachBegun all (map begun_of backends)
+  pub leaving_last : {left : List CellState} {backends : List X} {capacity : ℕ} → length left ≡ 0 → Leaving state_of begun_of all left backends capacity → (map state_of backends ≡ map started_backend all) × KeepEachBegun all (map begun_of backends)
   leaving_last {left} {backends} empty leaving =
       let none : left ≡ [] = nil_from_length left empty in
       let every : leaving.moved ≡ all = sym (append-nil leaving.moved) ∙ (ap (λ l. leaving.moved ++ reverse l) (sym none) ∙ leaving.whole) in
-      (leaving.shown ∙ ap (map backend_of) every, subst (λ (cells : List CellState). KeepEachBegun cells (map begun_of backends)) every leaving.begun)
+      (leaving.shown ∙ ap (map started_backend) every, subst (λ (cells : List CellState). KeepEachBegun cells (map begun_of backends)) every leaving.begun)
 
 -- ---- what they hold
 

@@ -100,7 +100,7 @@ module _ (tells armable : Bool) (old : WorldState) (moves : List Move) (n : ℕ)
   -- the next move can be asked for
   pub making_met : (m : Move) → n < length moves → m ≡ get_or moves n m → IsMet now.core m
   making_met m lt is =
-      let room : CanCountRequests old.core (length (take n moves) + 1) = λ s. (let can = count s in let e = front_length in let le : (session_at old.core s).queries + (length (take n moves) + 1) ≤ 2 ^ 62 = omega arith in le) in
+      let room : CanCountRequests old.core (length (take n moves) + 1) = λ s. (let can = count s in let e = front_length in let le : (session_at old.core s).requests + (length (take n moves) + 1) ≤ 2 ^ 62 = omega arith in le) in
       let here : IsMoveOfCluster old.core.placement.backends m = subst (IsMoveOfCluster old.core.placement.backends) (sym is) (All-get_or (IsMoveOfCluster old.core.placement.backends) moves n m lt are) in
       (subst (λ (p : Placement). IsMoveOfCluster p.backends m) (sym grown.placement) here, can_ask now.core (can_count (length (take n moves)) 1 old.core now.core grown room) m)
 

@@ -2,7 +2,7 @@
 use Rattle.std.proofs.Common.{◌≡◌, ◌≢◌, inl, inr, ℕ, zero, suc, ◌+◌, ◌-◌, ◌==◌, ◌/◌, ◌%◌, ◌^◌, ◌<◌, ◌≤◌, ◌&&◌, is_some, Bool, true, false, List, [], ◌∷◌, ◌++◌, length, take, get_or, slice_get, All, Option, None, Some, refl, ap, sym, ◌∙◌, subst, arith, ⊎_elim, length-append}
 use Rattle.cj_core.proofs.Common.{BlamesNoStore, both_ways, eq-eqb, log_failed_in, log_faults_after, ne_eqb, tells_log_failure}
 use Rattle.cj_core.proofs.Common.{Act, act_of, AddsEntry, AddsOwnEvents, All-head, AnswersEntry, append-nil, Asked, asked_reply, BlamesNobody, Call, CanCountMore, cases_eq, CellState, Ended, ended_count, ends-prefix, ends-same, entry_of_call, eqb-true, Event, faults_after}
-use Rattle.cj_core.proofs.Common.{faults_counted, faults_of, filter_map-append, full, get_or-set_same, HISTORY_FULL, in_mask, is_idle, IsAsked, IsOutcome, IsPrefix, IsQueryCode, length-ends, length-map, log, log_failure_of, LOG_FAULT, log_fault, LogFailed}
+use Rattle.cj_core.proofs.Common.{faults_counted, faults_of, filter_map-append, full, get_or-set_same, HISTORY_FULL, in_mask, is_free, IsAsked, IsOutcome, IsPrefix, IsQueryCode, length-ends, length-map, log, log_failure_of, LOG_FAULT, log_fault, LogFailed}
 use Rattle.cj_core.proofs.Common.{masks_of_end, masks_of_ends, next, NO_BACKEND, no_backend, NO_MEMORY, Outcome, outcome_reply, Placement, prefix_length, read, READ_FAULT, read_fault, ReadFaultTurn, Refusal, refusal_of_code, Refused, Reply, Sched, scheduled, ScheduledTurn, seen_at}
 use Rattle.cj_core.proofs.Common.{SessionView, slice_get_past, slice_get_within, starved, STARVED_ALL, take-append-add, TurnCase, UNFINISHED, WorldState, WorldTurn}
 use Rattle.std.proofs.lemmas.Nat.Bits.{bit_at_lowest, bit_at-suc}
@@ -86,7 +86,7 @@ prefix_beyond f h n p le =
     (take (n - length f) p.0, sym (take-append-add f p.0 (n - length f)) ∙ (ap (λ (k : ℕ). take k (f ++ p.0)) e ∙ ap (take n) p.1))
 
 -- the entry that the history grew by has ended with no failed backend
-no_failed_mask : (number s : ℕ) (c : Call) (act : Act) (h g : List Event) (m failed wanting : ℕ) → AddsEntry number s c act [] h g → length h ≤ m → m < length g → is_idle (take m g) ≡ true
+no_failed_mask : (number s : ℕ) (c : Call) (act : Act) (h g : List Event) (m failed wanting : ℕ) → AddsEntry number s c act [] h g → length h ≤ m → m < length g → is_free (take m g) ≡ true
     → slice_get (masks_of_ends g) (length (log (take m g))) ≡ Some (failed, wanting) → failed ≡ 0
 no_failed_mask zero s c act h g m failed wanting adds low high idle masks =
     let is : g ≡ h ++ log_failure_of s c = adds.0 in

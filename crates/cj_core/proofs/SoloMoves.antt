@@ -1,6 +1,6 @@
 -- What leaves a session between its calls: a move of no session, and a request counted; and how it begins.
 use Rattle.std.proofs.Common.{◌≡◌, ◌≢◌, ℕ, ◌+◌, ◌<◌, ◌≤◌, Bool, true, false, List, All, None, Some, is_some, Ok, Err, refl, ap, sym, ◌∙◌, subst, arith, ⊎_elim}
-use Rattle.cj_core.proofs.Common.{All-weaker, Apply, Arm, Arms, both_ways, can_apply, can_end, Core, CoreInvariant, Disable, Disables, DoesMove, Dump, Dumps, Enable, Enables, End, Event, find_session, free-same, happened, is_end_event, is_idle, is_open-push, is_open-with}
+use Rattle.cj_core.proofs.Common.{All-weaker, Apply, Arm, Arms, both_ways, can_apply, can_end, Core, CoreInvariant, Disable, Disables, DoesMove, Dump, Dumps, Enable, Enables, End, Event, find_session, free-same, happened, is_end_event, is_free, is_open-push, is_open-with}
 use Rattle.cj_core.proofs.Common.{IsMoveOfNoSession, IsSoundSession, LacksRoomFor, Load, Loads, Mark, Marks, MeetsLogFault, Move, MoveResult, MovesTo, new_session, NoMemory, not_now, Open, opened_for, OpenSession, OpensSession, Replay, Replays, scheduled_entry, session_at}
 use Rattle.cj_core.proofs.Common.{session_at-is, session_of-push_other, session_of-push_same, StandsBetweenCalls, with_one_request, with_request_counted}
 use Rattle.cj_cluster.specs.declared.event.Event.TheVariants as event
@@ -79,8 +79,8 @@ module _ (tells : Bool) (c z : Core) (s : ℕ) (w : CoreInvariant c) (stands : S
   -- a move that can be made
   does : (m : Move) (g : MoveResult) → IsMoveOfNoSession m → not_now c m ≡ None → DoesMove tells c m g z → StandsBetweenCalls z s
   does (Open user) g none now h = opens user g h
-  does (Apply b) g none now h = absurd (both_ways (is_idle c.history) (can_apply c b now).is_running stands.idle)
-  does End g none now h = absurd (both_ways (is_idle c.history) (can_end c now).is_running stands.idle)
+  does (Apply b) g none now h = absurd (both_ways (is_free c.history) (can_apply c b now).is_running stands.idle)
+  does End g none now h = absurd (both_ways (is_free c.history) (can_end c now).is_running stands.idle)
   does (Arm b) g none now h = arms g h
   does (Disable b) g none now h = disables b g h
   does (Replay b) g none now h = replays b g h
@@ -97,7 +97,7 @@ module _ (tells : Bool) (c z : Core) (s : ℕ) (w : CoreInvariant c) (stands : S
 -- ---- how it begins
 
 -- the session that was opened last stands between its calls, where no entry is open
-pub stands_opened : (c : Core) (user : List ℕ) → CoreInvariant c → is_idle c.history ≡ true → StandsBetweenCalls (opened_for c user) (c.greatest + 1)
+pub stands_opened : (c : Core) (user : List ℕ) → CoreInvariant c → is_free c.history ≡ true → StandsBetweenCalls (opened_for c user) (c.greatest + 1)
 stands_opened c user w idle =
     let y : OpenSession = new_session (c.greatest + 1) user in
     let below : All (λ (x : OpenSession). x.number < y.number) c.sessions =

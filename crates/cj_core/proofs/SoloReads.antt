@@ -1,7 +1,7 @@
 -- A session's read over a whole world, as backend after backend fails in it.
 use Rattle.std.proofs.Common.{Option, Ok, Err, ◌≡◌, ◌≢◌, ◌⊎◌, inl, inr, ℕ, ◌+◌, ◌<◌, ◌≤◌, ◌==◌, ◌&&◌, not, Bool, true, false, cond, List, [], ◌∷◌, ◌++◌, length, map, slice_get, All, None, Some, refl, ap, sym, ◌∙◌, subst, arith, ⊎_elim, append_assoc}
 use Rattle.cj_core.proofs.Common.{accounts_of, AddsOwnEvents, All-nil, and_parts, answered_at, append-nil, AreBackendsOf, AreCalledFor, ask, Asked, asked_reply, Asks, at_log_end, AttemptsQuery, both_ways, Call, call_of, CanServe, cases_eq, Core, CoreInvariant}
-use Rattle.cj_core.proofs.Common.{database_after, database_of, entries-same, Entry, Event, events_left, faults_after, faults_counted, faults_of, fold-append, follows_own, has-zero, HasFailedSince, HISTORY_FULL, hosts_all, in_mask, is_enabled, is_idle, is_open, is_open-with, IsQueryCode}
+use Rattle.cj_core.proofs.Common.{database_after, database_of, entries-same, Entry, Event, events_left, faults_after, faults_counted, faults_of, fold-append, follows_own, has-zero, HasFailedSince, HISTORY_FULL, hosts_all, in_mask, is_enabled, is_free, is_open, is_open-with, IsQueryCode}
 use Rattle.cj_core.proofs.Common.{IsReadAtEnd, IsServingMask, IsWorld, last_number, log, log_faults-same, log_faults_of, logins_of, LogView, map-append, ne_eqb, needs, NO_BACKEND, NO_MEMORY, NO_TABLE, open_tx, OpenSession, position_at, prefix_length, prefix_self, QueryAnswered}
 use Rattle.cj_core.proofs.Common.{QueryFailed, QueryUnnoted, READ_FAULT, ReadFailed, Refusal, refusal_of_code, Refused, Reply, Rests, seen_at, Select, session_at, session_owes, SessionView, Setup, StandsBetweenCalls, take_whole, Turn, turn_full, turn_in_vain, turn_read}
 use Rattle.cj_core.proofs.Common.{All-contains, asked_core, asks_of, asks_with, AsksBackends, Balance, CallsExactly, CallsNobody, CallsOne, CellState, Contains, find_session, happened, IsAsked, length-map, login_of, PicksFirst, PicksInTurn, QueryStarved, read_number, read_over, RepeatsAnswer, serves_request, session_of-other, with_balance}
@@ -16,14 +16,14 @@ use Rattle.cj_core.proofs.SoloTurns.{failed_before, failed_now, failures_keep, i
 
 -- the history with the failures of the session's next read
 abbrev pub with_failures : Core → ℕ → List ℕ → List Event
-with_failures c s failed = c.history ++ map (ReadFailed s ((session_at c s).queries + 1)) failed
+with_failures c s failed = c.history ++ map (ReadFailed s ((session_at c s).requests + 1)) failed
 
 -- what holds of the accounts of a world holds of those of a later one
 called_since : (old now : WorldState) (logins : List (Option (List ℕ))) (user : List ℕ) → now.setup ≡ old.setup → AreCalledFor (accounts_of old) user (logins_of old.cells) (logins_of now.cells)
     → AreCalledFor (accounts_of now) user (logins_of now.cells) logins → AreCalledFor (accounts_of old) user (logins_of old.cells) logins
 called_since old now logins user same was calls =
     called_then (accounts_of old) user (logins_of old.cells) (logins_of now.cells) logins was
-    (subst (λ (s : Setup). AreCalledFor s.register.accounts user (logins_of now.cells) logins) same calls)
+    (subst (λ (s : Setup). AreCalledFor s.accounts.accounts user (logins_of now.cells) logins) same calls)
 
 -- one that serves the read is a backend
 pub serving_is_backend : (tells : Bool) (w : WorldState) (select : Select) (serving b : ℕ) → IsWorld tells w → IsServingMask w.core select serving → in_mask serving b ≡ true → b < length w.cells
@@ -41,7 +41,7 @@ pub record QuerySoFar (s : ℕ) (user : List ℕ) (old : WorldState) (serving le
   pub setup : now.setup ≡ old.setup
   pub recovery_log : now.recovery_log ≡ old.recovery_log
   pub faults : faults_of now.cells ≡ faults_counted (faults_of old.cells) failed
-  pub tried : (b : ℕ) → in_mask serving b ≡ true → (in_mask left b ≡ true) ⊎ HasFailedSince old.core.history now.core.history s ((session_at old.core s).queries + 1) b
+  pub tried : (b : ℕ) → in_mask serving b ≡ true → (in_mask left b ≡ true) ⊎ HasFailedSince old.core.history now.core.history s ((session_at old.core s).requests + 1) b
   pub within : (b : ℕ) → in_mask left b ≡ true → in_mask serving b ≡ true
   pub sound : CoreInvariant now.core
   pub logins : AreCalledFor (accounts_of old) user (logins_of old.cells) (logins_of now.cells)
@@ -98,16 +98,16 @@ query_picks s user old now mid serving left balance more is q =
 pub query_stands : (s : ℕ) (user : List ℕ) (old now : WorldState) (serving left : ℕ) (balance : Balance) → StandsBetweenCalls old.core s → QuerySoFar s user old serving left balance now → StandsBetweenCalls now.core s
 query_stands s user old now serving left balance stands so_far =
     subst (λ (c : Core). StandsBetweenCalls c s) (sym so_far.core)
-    (record { idle = idle_failures s ((session_at old.core s).queries + 1) old.core.history so_far.failed ∙ stands.idle; here = stands.here; no_read = stands.no_read })
+    (record { idle = idle_failures s ((session_at old.core s).requests + 1) old.core.history so_far.failed ∙ stands.idle; here = stands.here; no_read = stands.no_read })
 
 -- one backend more has failed
 pub query_goes_on : (s : ℕ) (user : List ℕ) (old now new : WorldState) (serving left less b : ℕ) (balance : Balance) → b < length old.cells → QuerySoFar s user old serving left balance now → QueryFailed s b now new → CallsOne user b false now new
     → new.setup ≡ now.setup → new.recovery_log ≡ now.recovery_log
     → ((k : ℕ) → in_mask less k ≡ (in_mask left k && not (k == b))) → PicksFirst balance left b → now.balance ≡ read_over balance b → QuerySoFar s user old serving less new.balance new
 query_goes_on s user old now new serving left less b balance place so_far fails one setup recovery_log bits first picked =
-    let q : ℕ = (session_at old.core s).queries + 1 in
+    let q : ℕ = (session_at old.core s).requests + 1 in
     let ev : Event = ReadFailed s q b in
-    let same : (session_at now.core s).queries + 1 ≡ q = ap (λ (c : Core). (session_at c s).queries + 1) so_far.core in
+    let same : (session_at now.core s).requests + 1 ≡ q = ap (λ (c : Core). (session_at c s).requests + 1) so_far.core in
     let grew : new.core ≡ record now.core { history = now.core.history ++ ev ∷ [] } =
     fails.after ∙ ap (λ (n : ℕ). record now.core { history = now.core.history ++ ReadFailed s n b ∷ [] }) same
     in
@@ -183,7 +183,7 @@ module _ (tells : Bool) (s tx : ℕ) (user : List ℕ) (select : Select) (old no
 
   -- the failures leave the log, and what follows from it
   pub same_log : log now.core.history ≡ log old.core.history
-  same_log = ap log grown ∙ log_failures s ((session_at old.core s).queries + 1) old.core.history so_far.failed
+  same_log = ap log grown ∙ log_failures s ((session_at old.core s).requests + 1) old.core.history so_far.failed
 
   -- nothing was scheduled for the session, and the log's store did not fail
   rested : Rests s (seen_at old.core s) now.core.history
@@ -194,19 +194,19 @@ module _ (tells : Bool) (s tx : ℕ) (user : List ℕ) (select : Select) (old no
         log_faults =
             λ k.
             ap (log_faults_of s k) grown
-            ∙ failures_keep (log_faults_of s k) s ((session_at old.core s).queries + 1) (λ h b. log_faults-same h (ReadFailed s ((session_at old.core s).queries + 1) b) (λ t i. refl) s k) old.core.history so_far.failed;
+            ∙ failures_keep (log_faults_of s k) s ((session_at old.core s).requests + 1) (λ h b. log_faults-same h (ReadFailed s ((session_at old.core s).requests + 1) b) (λ t i. refl) s k) old.core.history so_far.failed;
       }
 
   -- the backends that serve the query are those that did
   pub still_serves : (k : ℕ) → CanServe old.core.placement now.core.history (request.Select select) k → CanServe old.core.placement old.core.history (request.Select select) k
-  still_serves k on = (sym (enabled_failures s ((session_at old.core s).queries + 1) old.core.history so_far.failed k) ∙ (sym (ap (λ h. is_enabled h k) grown) ∙ on.0), on.1)
+  still_serves k on = (sym (enabled_failures s ((session_at old.core s).requests + 1) old.core.history so_far.failed k) ∙ (sym (ap (λ h. is_enabled h k) grown) ∙ on.0), on.1)
 
   pub serves_still : (k : ℕ) → CanServe old.core.placement old.core.history (request.Select select) k → CanServe old.core.placement now.core.history (request.Select select) k
-  serves_still k on = (ap (λ h. is_enabled h k) grown ∙ (enabled_failures s ((session_at old.core s).queries + 1) old.core.history so_far.failed k ∙ on.0), on.1)
+  serves_still k on = (ap (λ h. is_enabled h k) grown ∙ (enabled_failures s ((session_at old.core s).requests + 1) old.core.history so_far.failed k ∙ on.0), on.1)
 
   -- memory is wanting
   pub starves : (reply : Reply) → reply ≡ Refused (refusal_of_code NO_MEMORY) → RefusesTo tells s old.core (call reply) (record { front = now.core.history; least = (session_at old.core s).least })
-  starves reply is = (turn_starved tells old.core.placement s (seen_at old.core s) now.core.history so_far.sound.legal (map (ReadFailed s ((session_at old.core s).queries + 1)) so_far.failed, sym grown) (session_owes old.core s w) rested (call reply) in_own is, no_answer reply (refusal_of_code NO_MEMORY) is (no_code NO_MEMORY (inr (omega arith))))
+  starves reply is = (turn_starved tells old.core.placement s (seen_at old.core s) now.core.history so_far.sound.legal (map (ReadFailed s ((session_at old.core s).requests + 1)) so_far.failed, sym grown) (session_owes old.core s w) rested (call reply) in_own is, no_answer reply (refusal_of_code NO_MEMORY) is (no_code NO_MEMORY (inr (omega arith))))
 
   -- no backend serves it
   pub unserved : (reply : Reply) → serving ≡ 0 → reply ≡ Refused (refusal_of_code NO_BACKEND) → RefusesTo tells s old.core (call reply) (record { front = now.core.history; least = (session_at old.core s).least })
@@ -214,7 +214,7 @@ module _ (tells : Bool) (s tx : ℕ) (user : List ℕ) (select : Select) (old no
       let serves_none : (b : ℕ) → CanServe old.core.placement old.core.history (request.Select select) b → ⊥ =
       λ b can. both_ways (in_mask serving b) (ap (λ (m : ℕ). in_mask m b) none ∙ has-zero b) ((serves b).0 can)
       in (
-        turn_unserved tells old.core.placement s (seen_at old.core s) now.core.history so_far.sound.legal (map (ReadFailed s ((session_at old.core s).queries + 1)) so_far.failed, sym grown) (session_owes old.core s w) rested (call reply) in_own is
+        turn_unserved tells old.core.placement s (seen_at old.core s) now.core.history so_far.sound.legal (map (ReadFailed s ((session_at old.core s).requests + 1)) so_far.failed, sym grown) (session_owes old.core s w) rested (call reply) in_own is
             (refl, λ b on. false_from_ne_true (hosts_all old.core.placement b (needs (request.Select select))) (λ hosts. serves_none b (still_serves b (on, hosts)))),
         no_answer reply (refusal_of_code NO_BACKEND) is (no_code NO_BACKEND (inl (omega arith))),
       )
@@ -223,9 +223,9 @@ module _ (tells : Bool) (s tx : ℕ) (user : List ℕ) (select : Select) (old no
   pub in_vain : (reply : Reply) → left ≡ 0 → serving ≢ 0 → reply ≡ Refused (record { code = READ_FAULT; a = serving; b = 0 })
       → RefusesTo tells s old.core (call reply) (record { front = now.core.history; least = (session_at old.core s).least })
   in_vain reply none some is = (
-    turn_in_vain tells old.core.placement s (seen_at old.core s) now.core.history so_far.sound.legal (map (ReadFailed s ((session_at old.core s).queries + 1)) so_far.failed, sym grown) (session_owes old.core s w) rested (call reply) select serving in_own
+    turn_in_vain tells old.core.placement s (seen_at old.core s) now.core.history so_far.sound.legal (map (ReadFailed s ((session_at old.core s).requests + 1)) so_far.failed, sym grown) (session_owes old.core s w) rested (call reply) select serving in_own
         refl is some (λ k. ((λ on. (serves k).0 (still_serves k on)), λ t. serves_still k ((serves k).1 t)))
-        (λ k t. ⊎_elim (λ (on : in_mask left k ≡ true). absurd (both_ways (in_mask left k) (ap (λ (m : ℕ). in_mask m k) none ∙ has-zero k) on)) (λ (failed : HasFailedSince old.core.history now.core.history s ((session_at old.core s).queries + 1) k). failed) (so_far.tried k t)),
+        (λ k t. ⊎_elim (λ (on : in_mask left k ≡ true). absurd (both_ways (in_mask left k) (ap (λ (m : ℕ). in_mask m k) none ∙ has-zero k) on)) (λ (failed : HasFailedSince old.core.history now.core.history s ((session_at old.core s).requests + 1) k). failed) (so_far.tried k t)),
     no_answer reply (record { code = READ_FAULT; a = serving; b = 0 }) is (no_code READ_FAULT (inr (omega arith))),
   )
 
@@ -236,7 +236,7 @@ module _ (tells : Bool) (s tx : ℕ) (user : List ℕ) (select : Select) (old no
       let owed : (session_at old.core s).least ≤ length (log old.core.history) = session_owes old.core s w in
       let same : length (log now.core.history) ≡ length (log old.core.history) = ap length same_log in
       let past = so_far.sound.one_open.0 in (
-        turn_read tells old.core.placement s (seen_at old.core s) now.core.history so_far.sound.legal (map (ReadFailed s ((session_at old.core s).queries + 1)) so_far.failed, sym grown) (session_owes old.core s w) rested (call reply) select
+        turn_read tells old.core.placement s (seen_at old.core s) now.core.history so_far.sound.legal (map (ReadFailed s ((session_at old.core s).requests + 1)) so_far.failed, sym grown) (session_owes old.core s w) rested (call reply) select
             (length (log now.core.history)) answered.answer in_own refl answered.replied answered.possible
             (λ on. answered.says on ∙ ap (λ (l : List Entry). ask (database_of l) tx select) (sym (take_whole (log now.core.history) (log now.core.history) (prefix_self (log now.core.history)))))
             (λ t. (b, serves_still b ((serves b).1 there))) (omega arith) past (omega arith),
@@ -249,7 +249,7 @@ module _ (tells : Bool) (s tx : ℕ) (user : List ℕ) (select : Select) (old no
   unnoted b reply new there full =
       let none : events_left now.core.history ≡ 0 = full.full in
       let small : events_left now.core.history < 1 = omega arith in (
-        turn_full tells old.core.placement s (seen_at old.core s) now.core.history so_far.sound.legal (map (ReadFailed s ((session_at old.core s).queries + 1)) so_far.failed, sym grown) (session_owes old.core s w) rested (call reply) in_own
+        turn_full tells old.core.placement s (seen_at old.core s) now.core.history so_far.sound.legal (map (ReadFailed s ((session_at old.core s).requests + 1)) so_far.failed, sym grown) (session_owes old.core s w) rested (call reply) in_own
             full.replied (λ t. (b, serves_still b ((serves b).1 there))) small,
         no_answer reply (record { code = HISTORY_FULL; a = length now.core.history; b = 0 }) full.replied (no_code HISTORY_FULL (inr (omega arith))),
       )
@@ -258,7 +258,7 @@ module _ (tells : Bool) (s tx : ℕ) (user : List ℕ) (select : Select) (old no
 
   -- the session was changed, which is its answer
   module _ (new : WorldState) (change : OpenSession → OpenSession) (keeps : (x : OpenSession) → (change x).number ≡ x.number) (after : new.core ≡ record now.core { sessions = with_session now.core.sessions s change })
-      (least : ℕ) (needs : (change (session_at now.core s)).least ≡ least) (counted : (change (session_at now.core s)).queries ≡ (session_at now.core s).queries + 1) (closed : (change (session_at now.core s)).reading ≡ None)
+      (least : ℕ) (needs : (change (session_at now.core s)).least ≡ least) (counted : (change (session_at now.core s)).requests ≡ (session_at now.core s).requests + 1) (closed : (change (session_at now.core s)).reading ≡ None)
       (stands : StandsBetweenCalls now.core s) where
     new_session_is : session_at new.core s ≡ change (session_at now.core s)
     new_session_is = (follows_own now.core new.core s after refl (prefix_self now.core.history) refl change keeps refl stands.here).session
@@ -288,12 +288,12 @@ module _ (tells : Bool) (s tx : ℕ) (user : List ℕ) (select : Select) (old no
           disabled = disabled;
           setup = setup ∙ so_far.setup;
           number = refl;
-          queries = ap (λ (x : OpenSession). x.queries) new_session_is ∙ (counted ∙ ap (λ (c : Core). (session_at c s).queries + 1) so_far.core);
+          queries = ap (λ (x : OpenSession). x.requests) new_session_is ∙ (counted ∙ ap (λ (c : Core). (session_at c s).requests + 1) so_far.core);
           turn = turn.0;
           at_end = turn.1;
           stands =
               record {
-                idle = ap is_idle same_history ∙ stands.idle;
+                idle = ap is_free same_history ∙ stands.idle;
                 here = subst (λ (c : Core). is_open c s ≡ true) (sym after) (is_open-with change keeps now.core.sessions s s ∙ stands.here);
                 no_read = ap (λ (x : OpenSession). x.reading) new_session_is ∙ closed;
               };
@@ -401,7 +401,7 @@ module _ (tells : Bool) (s tx : ℕ) (user : List ℕ) (select : Select) (old no
                     let same : b ≡ k = cc is in
                     subst (λ (i : ℕ). slice_get (logins_of new.cells) i ≡ Some (Some (login_of (accounts_of old) user i))) same
                     (ap (λ xs. slice_get xs b) under ∙ (got_set (logins_of now.cells) b (Some (login_of (accounts_of now) user b)) lt
-                    ∙ ap (λ (x : Setup). Some (Some (login_of x.register.accounts user b))) so_far.setup));
+                    ∙ ap (λ (x : Setup). Some (Some (login_of x.accounts.accounts user b))) so_far.setup));
                 others = λ k other none. one_others k (λ same. other (ap (λ (i : ℕ). Some i) (sym same))) none;
               };
           replied = λ answer possible is. inl (λ none. cc none);
@@ -528,7 +528,7 @@ module _ (tells : Bool) (s b tx : ℕ) (select : Select) (old : WorldState) (w :
   pub query_failed : (mid : WorldState) → Asks tells old.core s b tx select (Err errors.Failed) → mid.core ≡ asked_core old.core s b (Err errors.Failed) → CoreInvariant mid.core
       → faults_of mid.cells ≡ faults_after (faults_of old.cells) (Some b) → QueryFailed s b old mid
   query_failed mid asks core sound counts =
-      let number : read_number (session_at old.core s) ≡ (session_at old.core s).queries + 1 = rw stands.no_read refl in
+      let number : read_number (session_at old.core s) ≡ (session_at old.core s).requests + 1 = rw stands.no_read refl in
       record { room = asks.1; after = core ∙ ap (λ (n : ℕ). happened old.core (ReadFailed s n b)) number; is_sound = sound; faults = counts }
 
   -- it failed, and the history has no room to say so

@@ -2,7 +2,7 @@
 use Rattle.std.proofs.Common.{◌≡◌, ◌≢◌, ℕ, ◌+◌, ◌<◌, ◌≤◌, ◌==◌, ◌||◌, Bool, true, false, cond, List, [], ◌∷◌, ◌++◌, length, slice_get, All, Option, None, Some, Ok, refl, ap, sym, ◌∙◌, subst, arith, below_more, ⊎_elim}
 use Rattle.cj_core.proofs.Common.{accounts_of, All-append, All-cons, All-nil, all_at_end, Applied, Applies, Apply, AreBackendsOf, AreCalledFor, BackendStands, can_apply, CanApply, CellState, Core, CoreInvariant, Did, did_fail, ended_count, EntryTaken, failed_after, faults_after}
 use Rattle.cj_core.proofs.Common.{faults_counted, faults_of, first_lagging, fold-append, HasTakenEntry, is_enabled, IsWorld, length-map, length-set, log, login_of, login_to_take, logins_of, LogsInToTake, mask_with, next_user, not_now, open_user, position_at, position_or_zero, Setup}
-use Rattle.cj_core.proofs.Common.{asks_of, begun_at, both_ways, cases_lt, DoesWithEntry, Entry, entry_in_progress, get_or-set_other, has-with_other, has-with_same, in_mask, is_idle, is_masked, IsBeforeEnd, IsLeft, last_number, ne_eqb, option_map_or, or_parts, Placement, Stance, starved_after, takes_part, takes_part_in, TakesOpen}
+use Rattle.cj_core.proofs.Common.{asks_of, begun_at, both_ways, cases_lt, DoesWithEntry, Entry, open_entry_of, get_or-set_other, has-with_other, has-with_same, in_mask, is_free, is_masked, IsBeforeEnd, IsLeft, last_number, ne_eqb, option_map_or, or_parts, Placement, Stance, starved_after, takes_part, takes_part_in, TakesOpen}
 use Rattle.cj_core.proofs.Common.{with_backend, WorldState}
 use Rattle.cj_cluster.specs.declared.moves.Did.TheVariants as did
 use Rattle.cj_core.proofs.SoloAsks.{got_set, same_login}
@@ -127,7 +127,7 @@ module _ (tells : Bool) (old new : WorldState) (b : ℕ) (d : Did) (applies : Ap
     on = (can_apply old.core b now).on
 
     -- which is the one that it did something with
-    open_there : (e : Entry) → entry_in_progress old.core.history ≡ Some e → applies.1.1.entry ≡ e
+    open_there : (e : Entry) → open_entry_of old.core.history ≡ Some e → applies.1.1.entry ≡ e
     open_there e is =
         let can = can_apply old.core b now in
         let here = stands_open old b world.sound within can in
@@ -136,13 +136,13 @@ module _ (tells : Bool) (old new : WorldState) (b : ℕ) (d : Did) (applies : Ap
         let both : Some applies.1.1.entry ≡ Some e = sym there ∙ (ap (λ (n : ℕ). slice_get (log old.core.history) n) p ∙ is) in
         cc both
 
-    called : (e : Entry) → entry_in_progress old.core.history ≡ Some e → LogsInToTake b (login_of (accounts_of old) e.user b) d (logins_of old.cells) (logins_of new.cells)
+    called : (e : Entry) → open_entry_of old.core.history ≡ Some e → LogsInToTake b (login_of (accounts_of old) e.user b) d (logins_of old.cells) (logins_of new.cells)
     called e is =
         let user : open_user old.core ≡ e.user = ap (λ (o : Option Entry). option_map_or (λ (x : Entry). x.user) o []) is in
         subst (λ (name : List ℕ). LogsInToTake b name d (logins_of old.cells) (logins_of new.cells))
         (login_to_take_open old b world.sound within (can_apply old.core b now) ∙ ap (λ (u : List ℕ). login_of (accounts_of old) u b) user) logs
 
-    does : (e : Entry) → entry_in_progress old.core.history ≡ Some e → DoesWithEntry tells old.core b applies.1.1.p e d applies.1.0
+    does : (e : Entry) → open_entry_of old.core.history ≡ Some e → DoesWithEntry tells old.core b applies.1.1.p e d applies.1.0
     does e is = subst (λ (x : Entry). DoesWithEntry tells old.core b applies.1.1.p x d applies.1.0) (open_there e is) applies.1.1.does
 
     has_login : b < length (logins_of old.cells)
@@ -160,7 +160,7 @@ module _ (tells : Bool) (old new : WorldState) (b : ℕ) (d : Did) (applies : Ap
         }
 
 -- where it is enabled and due, it can take the open entry now
-due_now : (c : Core) (b : ℕ) → is_idle c.history ≡ false → is_enabled c.history b ≡ true → IsBeforeEnd c b → not_now c (Apply b) ≡ None
+due_now : (c : Core) (b : ℕ) → is_free c.history ≡ false → is_enabled c.history b ≡ true → IsBeforeEnd c b → not_now c (Apply b) ≡ None
 due_now c b running on due = let ne : (due.p == last_number c) ≡ false = ne_eqb due.p (last_number c) due.more in rw (running, on, due.stands, ne) refl
 
 -- ---- all of them
@@ -181,7 +181,7 @@ taken_then old mid new user x y =
           ∙ (ap (λ (counts : List ℕ). faults_counted counts y.failed) x.faults ∙ sym (fold-append (λ (counts : List ℕ) (k : ℕ). faults_after counts (Some k)) (faults_of old.cells) x.failed y.failed));
       logins =
           called_then (accounts_of old) user (logins_of old.cells) (logins_of mid.cells) (logins_of new.cells) x.logins
-          (subst (λ (setup : Setup). AreCalledFor setup.register.accounts user (logins_of mid.cells) (logins_of new.cells)) x.setup y.logins);
+          (subst (λ (setup : Setup). AreCalledFor setup.accounts.accounts user (logins_of mid.cells) (logins_of new.cells)) x.setup y.logins);
       asks = y.asks ∙ x.asks;
       balance = y.balance ∙ x.balance;
     }
@@ -209,18 +209,18 @@ left_then_takes old mid new b core setup x y =
     let placed : mid.core.placement ≡ old.core.placement = ap (λ (c : Core). c.placement) core in
     let part : (e : Entry) → takes_part_in mid.core b e ≡ takes_part_in old.core b e = λ e. ap (λ (p : Placement). takes_part p b (begun_at mid.core b) e.tx e.act) placed ∙ ap (λ (ts : List ℕ). takes_part old.core.placement b ts e.tx e.act) x.begun in
     let on : is_enabled mid.core.history b ≡ is_enabled old.core.history b = ap (λ h. is_enabled h b) history in
-    let open_then : (e : Entry) → entry_in_progress old.core.history ≡ Some e → entry_in_progress mid.core.history ≡ Some e = λ e is. ap entry_in_progress history ∙ is in
+    let open_then : (e : Entry) → open_entry_of old.core.history ≡ Some e → open_entry_of mid.core.history ≡ Some e = λ e is. ap open_entry_of history ∙ is in
     record {
       did =
           λ e is due has none.
           y.did e (open_then e is) (record { p = due.p; stands = x.position ∙ due.stands; more = λ same. due.more (same ∙ ap (λ h. length (log h)) history) }) (on ∙ has.0, part e ∙ has.1) none
-          ∙ ap (λ (s : Setup). Some (Some (login_of s.register.accounts e.user b))) setup;
+          ∙ ap (λ (s : Setup). Some (Some (login_of s.accounts.accounts e.user b))) setup;
       skipped = λ e is apart. y.skipped e (open_then e is) (λ has. apart (sym on ∙ has.0, sym (part e) ∙ has.1)) ∙ same_login mid.cells old.cells b x.cell;
       disabled = λ off. y.disabled (on ∙ off) ∙ x.cell;
     }
 
 -- one that can't take the entry is not due, or isn't enabled
-pub not_due : (w : WorldState) (b : ℕ) → is_idle w.core.history ≡ false → (not_now w.core (Apply b) ≡ None → ⊥) → TakesOpen w w b
+pub not_due : (w : WorldState) (b : ℕ) → is_free w.core.history ≡ false → (not_now w.core (Apply b) ≡ None → ⊥) → TakesOpen w w b
 not_due w b running never =
     record {
       did = λ e is due part none. absurd (never (due_now w.core b running part.0 due));

@@ -1,7 +1,7 @@
 -- A session's calls over a whole world are turns of its desk.
 use Rattle.std.proofs.Common.{◌≡◌, ℕ, zero, suc, ◌+◌, ◌<◌, ◌≤◌, Bool, true, false, cond, List, [], ◌∷◌, ◌++◌, length, map, slice_get, Option, None, Some, Ok, Err, refl, ap, sym, ◌∙◌, subst, arith, append_assoc, length-append}
-use Rattle.cj_core.proofs.Common.{Act, AddsEntry, AnswersEntry, append-nil, between_follows, between_fresh, Call, call_of_entry, Core, CoreInvariant, desk_of, enabled-push, End, Ended, ended_count, ended_for, EndsEntry, entries-same, entries-sched, Entry, entry_count_of, entry_in_progress}
-use Rattle.cj_core.proofs.Common.{entry_of_call, EntryTaken, eq-eqb, Event, events_left, first_lagging, FitsTx, follows_own, follows_rest, free-same, get_left, get_seam, HasFailedSince, HasServer, is_enabled, is_entry_of, is_idle, is_open, is_waiting, IsBetweenReplies, IsEntryNumber, log}
+use Rattle.cj_core.proofs.Common.{Act, AddsEntry, AnswersEntry, append-nil, between_follows, between_fresh, Call, call_of_entry, Core, CoreInvariant, desk_of, enabled-push, End, Ended, ended_count, ended_for, EndsEntry, entries-same, entries-sched, Entry, entry_count_of, open_entry_of}
+use Rattle.cj_core.proofs.Common.{entry_of_call, EntryTaken, eq-eqb, Event, events_left, first_lagging, FitsTx, follows_own, follows_rest, free-same, get_left, get_seam, HasFailedSince, HasServer, is_enabled, is_entry_of, is_free, is_open, is_waiting, IsBetweenReplies, IsEntryNumber, log}
 use Rattle.cj_core.proofs.Common.{log-same, log-sched, log_failure_of, LogFailed, mask_with, MatchOption, MovesTo, not_now, NotNow, opened-free, OpenSession, prefix_self, query_skipped, ReadFailed, Replied, Reply, reply_given, request_of, Sched, scheduled_as, seen_at, seen_sched}
 use Rattle.cj_core.proofs.Common.{cond_both, session_at, SessionView, SoloState, SoloSteps, StandsBetweenCalls, tells_log_failure, Turn, tx_after_entry, tx_after_write, tx_of, tx_of_own, with_core, with_end, with_one_request, with_request_counted, WorldState}
 use Rattle.cj_cluster.specs.declared.moves.Why.{Why}
@@ -21,7 +21,7 @@ counted_session c s here = (follows_own c (with_request_counted c s) s refl refl
 pub solo_skipped : (tells : Bool) (a z : SoloState) → is_open a.world.core a.session ≡ true → z ≡ record a { world = with_core a.world (with_request_counted a.world.core a.session) } → SoloSteps tells a query_skipped z
 solo_skipped tells a z here is =
     let counted = counted_session a.world.core a.session here in
-    (ap desk_of is ∙ ap (λ (x : OpenSession). record (desk_of a) { seen = record { front = a.world.core.history; least = x.least }; queries = x.queries }) counted, is)
+    (ap desk_of is ∙ ap (λ (x : OpenSession). record (desk_of a) { seen = record { front = a.world.core.history; least = x.least }; requests = x.requests }) counted, is)
 
 -- ---- a write
 
@@ -29,7 +29,7 @@ solo_skipped tells a z here is =
 pub between_scheduled : (c z : Core) (s : ℕ) (e : Entry) → CoreInvariant c → StandsBetweenCalls c s → e.session ≡ s → HasServer c.placement c.history (request_of e.act) → 3 ≤ events_left c.history → z ≡ scheduled_as c s e
     → IsBetweenReplies (seen_at c s) z s
 between_scheduled c z s e w stands own served space is =
-    let idle : is_entry_of s (entry_in_progress c.history) ≡ false = stands_idle c s stands in
+    let idle : is_entry_of s (open_entry_of c.history) ≡ false = stands_idle c s stands in
     between_follows (seen_at c s) c z (c.history ++ Sched e ∷ []) s (with_one_request (session_at c s)) (between_fresh c s w idle stands.no_read)
     (follows_own c z s is refl (Sched e ∷ [], refl) refl with_one_request (λ x. refl) refl stands.here)
     (λ q. seen_sched c.placement (seen_at c s) c.history s (session_at c s) q e (with_one_request (session_at c s)) stands.idle own served space (prefix_self c.history) refl stands.no_read)
@@ -40,8 +40,8 @@ between_taken a old mid s user t j =
     between_follows a old.core mid.core old.core.history s (session_at old.core s) j (follows_rest old.core mid.core s t.core refl (prefix_self old.core.history) refl refl) (λ x. x)
 
 -- and it ends, which is the turn
-pub turn_ended : (tells : Bool) (a : SessionView) (c z : Core) (s : ℕ) (e : Entry) (reply : Reply) → 0 < s → CoreInvariant c → CoreInvariant z → IsBetweenReplies a c s → is_idle c.history ≡ false
-    → first_lagging c.history 0 c.positions ≡ None → entry_in_progress c.history ≡ Some e → e.session ≡ s → AnswersEntry tells c.placement c.history (with_end c) (ended_count c.history) e reply → z ≡ ended_for c s
+pub turn_ended : (tells : Bool) (a : SessionView) (c z : Core) (s : ℕ) (e : Entry) (reply : Reply) → 0 < s → CoreInvariant c → CoreInvariant z → IsBetweenReplies a c s → is_free c.history ≡ false
+    → first_lagging c.history 0 c.positions ≡ None → open_entry_of c.history ≡ Some e → e.session ≡ s → AnswersEntry tells c.placement c.history (with_end c) (ended_count c.history) e reply → z ≡ ended_for c s
     → Turn tells c.placement s a (call_of_entry (Some e) reply) (seen_at z s)
 turn_ended tells a c z s e reply some w v j running everywhere is own answer after =
     let now : not_now c End ≡ None = rw (running, everywhere) refl in
@@ -84,8 +84,8 @@ pub log_failures : (s q : ℕ) (h : List Event) (failed : List ℕ) → log (h +
 log_failures s q h failed = failures_keep log s q (λ g b. log-same g (ReadFailed s q b) refl) h failed
 
 -- whether an entry is open
-pub idle_failures : (s q : ℕ) (h : List Event) (failed : List ℕ) → is_idle (h ++ map (ReadFailed s q) failed) ≡ is_idle h
-idle_failures s q h failed = failures_keep is_idle s q (λ g b. free-same g (ReadFailed s q b) refl refl) h failed
+pub idle_failures : (s q : ℕ) (h : List Event) (failed : List ℕ) → is_free (h ++ map (ReadFailed s q) failed) ≡ is_free h
+idle_failures s q h failed = failures_keep is_free s q (λ g b. free-same g (ReadFailed s q b) refl refl) h failed
 
 -- which backends are enabled
 pub enabled_failures : (s q : ℕ) (h : List Event) (failed : List ℕ) (k : ℕ) → is_enabled (h ++ map (ReadFailed s q) failed) k ≡ is_enabled h k

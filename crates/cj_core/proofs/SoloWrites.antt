@@ -1,7 +1,7 @@
 -- A session's write over a whole world, from its entry to the end of that.
 use Rattle.std.proofs.Common.{◌≡◌, ◌⊎◌, inl, inr, ℕ, suc, ◌+◌, ◌<◌, ◌≤◌, ◌==◌, ◌&&◌, Bool, true, false, cond, is_some, List, [], ◌∷◌, ◌++◌, length, slice_get, Option, Some, Ok, Err, refl, ap, sym, ◌∙◌, subst, ⊎_elim, append_assoc, length-append, arith}
-use Rattle.cj_core.proofs.Common.{accounts_of, Act, act_of, act_of_request, AddsEntry, AddsOwnEvents, All-nil, answered_at, AnswersEntry, append-nil, AreBackendsOf, AreCalledFor, Call, call_of, Core, CoreInvariant, Ended, ended_for, Entry, entry_in_progress, entry_of_call, EntryEnded}
-use Rattle.cj_core.proofs.Common.{EntryRefused, EntryScheduled, eq-eqb, Event, events_left, faults_counted, faults_of, FitsTx, follows_own, follows_rest, free-ended, free-same, free-sched, happened, HasNoRoomFor, HasServer, is_entry_of, is_idle}
+use Rattle.cj_core.proofs.Common.{accounts_of, Act, act_of, act_of_request, AddsEntry, AddsOwnEvents, All-nil, answered_at, AnswersEntry, append-nil, AreBackendsOf, AreCalledFor, Call, call_of, Core, CoreInvariant, Ended, ended_for, Entry, open_entry_of, entry_of_call, EntryEnded}
+use Rattle.cj_core.proofs.Common.{EntryRefused, EntryScheduled, eq-eqb, Event, events_left, faults_counted, faults_of, FitsTx, follows_own, follows_rest, free-ended, free-same, free-sched, happened, HasNoRoomFor, HasServer, is_entry_of, is_free}
 use Rattle.cj_core.proofs.Common.{is_open, is_open-with, is_waiting, IsOutcome, IsReadAtEnd, IsSameButLog, last_number, legal_push, log, log-sched, log_failed_in, log_failure_of, LOG_FAULT, log_faults_after, LogFailed, logins_of, LogView, mask_with, ne_eqb, open_tx, open_user}
 use Rattle.cj_core.proofs.Common.{asks_of, at_log_end, CallsBackends, CallsExactly, CarriesOut, CellState, enabled-push, false_from_ne_true, find_session, is_enabled, is_masked, IsBeforeEnd, IsPartOf, login_of, position_at, session_of-other, takes_part_in}
 use Rattle.cj_core.proofs.Common.{cond_both, opened-sched, OpenSession, option_map_or, Outcome, outcome_reply, own_entry, own_tx, Placement, prefix_self, Refusal, refusal_of_code, Refused, Reply, request_of, Rests, Sched, scheduled_as, SchedulesAs, SchedulesOrRefuses, seen_at, session_at}
@@ -27,15 +27,15 @@ pub reads_nothing : (c : Call) (z : SessionView) (act : Act) → act_of c.reques
 reads_nothing c z act is = λ none answer possible replied. absurd (cc (none, is))
 
 -- The entry was scheduled, so it is the open one.
-module _ (s : ℕ) (entry : Entry) (old begun : WorldState) (idle : is_idle old.core.history ≡ true) (after : EntryScheduled s entry old begun) where
+module _ (s : ℕ) (entry : Entry) (old begun : WorldState) (idle : is_free old.core.history ≡ true) (after : EntryScheduled s entry old begun) where
   begun_history : begun.core.history ≡ old.core.history ++ Sched entry ∷ []
   begun_history = ap (λ (x : WorldState). x.core.history) after.after
 
-  opened : entry_in_progress begun.core.history ≡ Some entry
-  opened = ap entry_in_progress begun_history ∙ opened-sched old.core.history entry idle
+  opened : open_entry_of begun.core.history ≡ Some entry
+  opened = ap open_entry_of begun_history ∙ opened-sched old.core.history entry idle
 
-  pub begun_running : is_idle begun.core.history ≡ false
-  begun_running = ap is_idle begun_history ∙ free-sched old.core.history entry idle
+  pub begun_running : is_free begun.core.history ≡ false
+  begun_running = ap is_free begun_history ∙ free-sched old.core.history entry idle
 
   pub begun_waits : entry.session ≡ s → is_waiting begun.core s ≡ true
   begun_waits own = ap (is_entry_of s) opened ∙ eq-eqb entry.session s own
@@ -68,11 +68,11 @@ module _ (tells : Bool) (s tx : ℕ) (user : List ℕ) (act : Act) (reply : Repl
     mid_history : ended.mid.core.history ≡ old.core.history ++ Sched entry ∷ []
     mid_history = ap (λ (c : Core). c.history) ended.taken.core ∙ ap (λ (c : Core). c.history) begun_core
 
-    running : is_idle ended.mid.core.history ≡ false
-    running = ap is_idle mid_history ∙ free-sched old.core.history entry stands.idle
+    running : is_free ended.mid.core.history ≡ false
+    running = ap is_free mid_history ∙ free-sched old.core.history entry stands.idle
 
-    in_progress : entry_in_progress ended.mid.core.history ≡ Some entry
-    in_progress = ap entry_in_progress mid_history ∙ opened-sched old.core.history entry stands.idle
+    in_progress : open_entry_of ended.mid.core.history ≡ Some entry
+    in_progress = ap open_entry_of mid_history ∙ opened-sched old.core.history entry stands.idle
 
     -- the session, as it stands then
     mid_open : is_open ended.mid.core s ≡ true
@@ -94,7 +94,7 @@ module _ (tells : Bool) (s tx : ℕ) (user : List ℕ) (act : Act) (reply : Repl
     still_stands =
         let one = ended.was_sound.one_open in
         record {
-          idle = ap (λ (c : Core). is_idle c.history) new_core ∙ free-ended ended.mid.core.history ended.mid.core.failed ended.mid.core.starved running one.0 one.1;
+          idle = ap (λ (c : Core). is_free c.history) new_core ∙ free-ended ended.mid.core.history ended.mid.core.failed ended.mid.core.starved running one.0 one.1;
           here =
               subst (λ (c : Core). is_open c s ≡ true) (sym new_core)
               (is_open-with (answered_at (last_number ended.mid.core)) (λ x. refl) ended.mid.core.sessions s s ∙ mid_open);
@@ -124,8 +124,8 @@ module _ (tells : Bool) (s tx : ℕ) (user : List ℕ) (act : Act) (reply : Repl
     -- ---- what the backends did
 
     -- the entry is the open one
-    opened_now : entry_in_progress begun.core.history ≡ Some entry
-    opened_now = ap (λ (c : Core). entry_in_progress c.history) begun_core ∙ opened-sched old.core.history entry stands.idle
+    opened_now : open_entry_of begun.core.history ≡ Some entry
+    opened_now = ap (λ (c : Core). open_entry_of c.history) begun_core ∙ opened-sched old.core.history entry stands.idle
 
     still_on : (b : ℕ) → is_enabled begun.core.history b ≡ is_enabled old.core.history b
     still_on b = ap (λ (c : Core). is_enabled c.history b) begun_core ∙ enabled-push old.core.history (Sched entry) b
@@ -201,7 +201,7 @@ module _ (tells : Bool) (s tx : ℕ) (user : List ℕ) (act : Act) (reply : Repl
               ∙ ((ended.each b).disabled (still_on b ∙ off) ∙ ap (λ (xs : List CellState). slice_get xs b) cells_begun);
           setup = ap (λ (x : WorldState). x.setup) ended.ended ∙ (ended.taken.setup ∙ ap (λ (x : WorldState). x.setup) after);
           number = refl;
-          queries = ap (λ (x : OpenSession). x.queries) new_session_is;
+          queries = ap (λ (x : OpenSession). x.requests) new_session_is;
           turn = turn;
           at_end = reads_nothing call (seen_at new.core s) act (act_of_request act);
           stands = still_stands;
@@ -231,7 +231,7 @@ module _ (tells : Bool) (s tx : ℕ) (user : List ℕ) (act : Act) (old new : Wo
   own = own_tx (open_tx old.core s) tx act fits
 
   -- the history may have an event more
-  module _ (more : List Event) (after : new.core ≡ with_request_counted (record old.core { history = old.core.history ++ more }) s) (idle : is_idle (old.core.history ++ more) ≡ true) (events : log_failure_of s refusing ≡ more)
+  module _ (more : List Event) (after : new.core ≡ with_request_counted (record old.core { history = old.core.history ++ more }) s) (idle : is_free (old.core.history ++ more) ≡ true) (events : log_failure_of s refusing ≡ more)
       (turn : Turn tells old.core.placement s (seen_at old.core s) refusing (record { front = old.core.history ++ more; least = (session_at old.core s).least })) where
     refused_session : session_at new.core s ≡ with_one_request (session_at old.core s)
     refused_session = (follows_own old.core new.core s after refl (more, refl) refl with_one_request (λ x. refl) refl stands.here).session
@@ -250,12 +250,12 @@ module _ (tells : Bool) (s tx : ℕ) (user : List ℕ) (act : Act) (old new : Wo
           disabled = λ b off. ap (λ (xs : List CellState). slice_get xs b) cells;
           setup = setup;
           number = refl;
-          queries = ap (λ (x : OpenSession). x.queries) refused_session;
+          queries = ap (λ (x : OpenSession). x.requests) refused_session;
           turn = subst (Turn tells old.core.placement s (seen_at old.core s) refusing) seen turn;
           at_end = reads_nothing refusing (seen_at new.core s) act (act_of_request act);
           stands =
               record {
-                idle = ap (λ (c : Core). is_idle c.history) after ∙ idle;
+                idle = ap (λ (c : Core). is_free c.history) after ∙ idle;
                 here = subst (λ (c : Core). is_open c s ≡ true) (sym after) (is_open-with with_one_request (λ x. refl) old.core.sessions s s ∙ stands.here);
                 no_read = ap (λ (x : OpenSession). x.reading) refused_session ∙ stands.no_read;
               };
@@ -276,7 +276,7 @@ module _ (tells : Bool) (s tx : ℕ) (user : List ℕ) (act : Act) (old new : Wo
     pub refused_quietly : WorldTurn tells s old refusing new
     refused_quietly =
         let same : old.core.history ≡ old.core.history ++ [] = sym (append-nil old.core.history) in
-        refused_as [] (after ∙ ap (λ (h : List Event). with_request_counted (record old.core { history = h }) s) same) (ap is_idle (sym same) ∙ stands.idle)
+        refused_as [] (after ∙ ap (λ (h : List Event). with_request_counted (record old.core { history = h }) s) same) (ap is_free (sym same) ∙ stands.idle)
         (ap (λ (t : Bool). cond t (LogFailed s refusing.number ∷ []) []) other)
         (subst (λ (h : List Event). Turn tells old.core.placement s (seen_at old.core s) refusing (record { front = h; least = (session_at old.core s).least })) same turn)
 
@@ -312,10 +312,10 @@ module _ (tells : Bool) (s tx : ℕ) (user : List ℕ) (act : Act) (old mid new 
   faults_are : new.recovery_log.faults ≡ log_faults_after old.recovery_log.faults (refusal.code == LOG_FAULT)
   faults_are = ap (λ (x : WorldState). x.recovery_log.faults) after ∙ gone.log_faults
 
-  core_is : (t : Bool) → (refusal.code == LOG_FAULT) ≡ t → new.core ≡ with_request_counted (cond t (happened old.core (LogFailed s ((session_at old.core s).queries + 1))) old.core) s
+  core_is : (t : Bool) → (refusal.code == LOG_FAULT) ≡ t → new.core ≡ with_request_counted (cond t (happened old.core (LogFailed s ((session_at old.core s).requests + 1))) old.core) s
   core_is t is =
       ap (λ (x : WorldState). x.core) after ∙ ap (λ (c : Core). with_request_counted c s)
-      (ap (λ (x : WorldState). x.core) gone.after ∙ ap (λ (b : Bool). cond b (happened old.core (LogFailed s ((session_at old.core s).queries + 1))) old.core) is)
+      (ap (λ (x : WorldState). x.core) gone.after ∙ ap (λ (b : Bool). cond b (happened old.core (LogFailed s ((session_at old.core s).requests + 1))) old.core) is)
 
   abbrev call_refused : Call
   call_refused = call_of old.core s tx user (request_of act) (Refused refusal)

@@ -1,11 +1,11 @@
 -- Backends are enabled in a start, one after another.
 use Rattle.std.proofs.Common.{◌≡◌, ◌≢◌, ℕ, ◌+◌, ◌<◌, ◌≤◌, ◌==◌, ◌||◌, Bool, true, false, List, [], ◌∷◌, ◌++◌, All, length, map, get_or, Option, None, Some, is_some, refl, ap, sym, ◌∙◌, subst, arith, append_assoc, append-nil, below_more}
-use Rattle.cj_core.proofs.Common.{All-nil, All-push, Enabled, enabled-push, enabled_where, EnabledTo, Entry, eq-eqb, Event, free-same, happened, is_enabled, is_idle, last_number, log, log-same, map_push, ne_eqb, position_at, with_core, WorldState}
+use Rattle.cj_core.proofs.Common.{All-nil, All-push, Enabled, enabled-push, enabled_where, EnabledTo, Entry, eq-eqb, Event, free-same, happened, is_enabled, is_free, last_number, log, log-same, map_push, ne_eqb, position_at, with_core, WorldState}
 use Rattle.std.proofs.Math.Bool.{or-false}
 use Rattle.std.proofs.lemmas.List.Quantifiers.{all_pairs_push}
 
 -- at first none is
-pub enabled_none : (w : WorldState) → is_idle w.core.history ≡ true → ((b : ℕ) → is_enabled w.core.history b ≡ false) → EnabledTo w w 0
+pub enabled_none : (w : WorldState) → is_free w.core.history ≡ true → ((b : ℕ) → is_enabled w.core.history b ≡ false) → EnabledTo w w 0
 enabled_none w idle off =
     record {
       enabled = [];
@@ -72,7 +72,7 @@ module _ (old now : WorldState) (i : ℕ) (to : EnabledTo old now i) where
               ∙ (ap (λ (w : WorldState). with_core w (happened w.core (Enabled i))) to.after
               ∙ ap (λ (h : List Event). with_core old (record old.core { history = h }))
               (append_assoc old.core.history (map Enabled to.enabled) (Enabled i ∷ []) ∙ ap (λ (events : List Event). old.core.history ++ events) (sym (map_push Enabled to.enabled i))));
-          idle = ap (λ (h : List Event). is_idle h) history ∙ (free-same now.core.history (Enabled i) refl refl ∙ to.idle);
+          idle = ap (λ (h : List Event). is_free h) history ∙ (free-same now.core.history (Enabled i) refl refl ∙ to.idle);
           entries = ap (λ (h : List Event). log h) history ∙ (log-same now.core.history (Enabled i) refl ∙ to.entries);
           on =
               below_more (λ (b : ℕ). is_enabled new.core.history b ≡ is_some (position_at old.core b)) i

@@ -1,7 +1,7 @@
 -- Transactions are ended in a start, one after another.
 use Rattle.std.proofs.Common.{◌≡◌, ◌≢◌, inl, inr, ℕ, ◌+◌, ◌-◌, ◌<◌, ◌≤◌, ◌==◌, ◌&&◌, ◌||◌, not, Bool, true, false, cond, List, [], ◌∷◌, ◌++◌, length, get_or, slice_get, Option, None, Some, is_some, refl, ap, sym, ◌∙◌, subst, arith, append_assoc, append-nil, length-append, ⊎_elim}
-use Rattle.cj_core.proofs.Common.{abort_entry, AbortsEach, all_at_end, AllStand, answered_at, AreStanding, cases_eq, cond-false, Core, enabled-push, Ended, ended_for, EndedTo, EndedWhere, Entry, entry_in_progress, entry_numbered, Event}
-use Rattle.cj_core.proofs.Common.{faults_of, filter, filter_map-append, filter_of_map_range_with_len_more, find_session, first_lagging, free-ended, free-sched, get_left, has-zero, in_mask, is_enabled, is_entry_of, is_idle, is_open, is_orphan}
+use Rattle.cj_core.proofs.Common.{abort_entry, AbortsEach, all_at_end, AllStand, answered_at, AreStanding, cases_eq, cond-false, Core, enabled-push, Ended, ended_for, EndedTo, EndedWhere, Entry, open_entry_of, entry_numbered, Event}
+use Rattle.cj_core.proofs.Common.{faults_of, filter, filter_map-append, filter_of_map_range_with_len_more, find_session, first_lagging, free-ended, free-sched, get_left, has-zero, in_mask, is_enabled, is_entry_of, is_free, is_open, is_orphan}
 use Rattle.cj_core.proofs.Common.{is_orphan_of, is_there, is_waiting, IsSameButLog, IsSameCluster, IsWorld, last_number, log, log-same, log-sched, map-id, ne_eqb, OnlyTakes, opened-sched, OpenSession, position_at, range_with_len, Sched, scheduled_entry, slice_get-get_or}
 use Rattle.cj_core.proofs.Common.{StandsAfterStart, StandsBefore, StandsBehind, TakesPast, TransactionEnded, tx_of, tx_of_end, tx_of_end_other, with_abort, with_core, with_entry, with_session, WorldState}
 
@@ -17,8 +17,8 @@ module _ (tx : ℕ) (old sched : WorldState) (came : IsSameButLog (with_core old
   history_then : sched.core.history ≡ old.core.history ++ Sched entry ∷ []
   history_then = ap (λ (c : Core). c.history) core_then
 
-  pub scheduled_open : is_idle old.core.history ≡ true → is_idle sched.core.history ≡ false
-  scheduled_open idle = ap (λ (h : List Event). is_idle h) history_then ∙ free-sched old.core.history entry idle
+  pub scheduled_open : is_free old.core.history ≡ true → is_free sched.core.history ≡ false
+  scheduled_open idle = ap (λ (h : List Event). is_free h) history_then ∙ free-sched old.core.history entry idle
 
   on_then : (b : ℕ) → is_enabled sched.core.history b ≡ is_enabled old.core.history b
   on_then b = ap (λ (h : List Event). is_enabled h b) history_then ∙ enabled-push old.core.history (Sched entry) b
@@ -60,12 +60,12 @@ module _ (tx : ℕ) (old sched : WorldState) (came : IsSameButLog (with_core old
     backends_mid : mid.core.placement.backends ≡ old.core.placement.backends
     backends_mid = ap (λ (c : Core). c.placement.backends) only.core ∙ ap (λ (c : Core). c.placement.backends) core_then
 
-    pub taken_open : is_idle old.core.history ≡ true → is_idle mid.core.history ≡ false
-    taken_open idle = ap (λ (c : Core). is_idle c.history) only.core ∙ scheduled_open idle
+    pub taken_open : is_free old.core.history ≡ true → is_free mid.core.history ≡ false
+    taken_open idle = ap (λ (c : Core). is_free c.history) only.core ∙ scheduled_open idle
 
     -- the administrator waits for it
-    pub taken_waits : is_idle old.core.history ≡ true → is_waiting mid.core 0 ≡ true
-    taken_waits idle = ap (λ (h : List Event). is_entry_of 0 (entry_in_progress h)) history_mid ∙ ap (λ (o : Option Entry). is_entry_of 0 o) (opened-sched old.core.history entry idle)
+    pub taken_waits : is_free old.core.history ≡ true → is_waiting mid.core 0 ≡ true
+    taken_waits idle = ap (λ (h : List Event). is_entry_of 0 (open_entry_of h)) history_mid ∙ ap (λ (o : Option Entry). is_entry_of 0 o) (opened-sched old.core.history entry idle)
 
     at_end : (faults : List ℕ) (b q : ℕ) → position_at mid.core b ≡ Some q → StandsBehind faults mid b → q ≡ last_number mid.core
     at_end faults b q at (inl done) = cc (at, done.taken.position)
@@ -115,7 +115,7 @@ module _ (tx : ℕ) (old sched : WorldState) (came : IsSameButLog (with_core old
     sessions_mid = ap (λ (c : Core). c.sessions) only.core ∙ ap (λ (c : Core). c.sessions) core_then
 
     -- the transaction was ended
-    pub transaction_ended : (now : WorldState) → now ≡ with_core mid (ended_for mid.core 0) → (tells : Bool) → IsWorld tells mid → is_idle old.core.history ≡ true → old.core.sessions ≡ [] → TransactionEnded tx old now
+    pub transaction_ended : (now : WorldState) → now ≡ with_core mid (ended_for mid.core 0) → (tells : Bool) → IsWorld tells mid → is_free old.core.history ≡ true → old.core.sessions ≡ [] → TransactionEnded tx old now
     transaction_ended now is tells world idle alone =
         let one = world.sound.one_open in
         subst (TransactionEnded tx old) (sym is)

@@ -1,6 +1,6 @@
 -- A start from its parts.
 use Rattle.std.proofs.Common.{◌≡◌, inl, inr, ℕ, ◌<◌, ◌==◌, Bool, false, List, [], ◌∷◌, ◌++◌, length, map, slice_get, Option, Some, is_some, refl, ap, sym, ◌∙◌, subst, ⊎_elim}
-use Rattle.cj_core.proofs.Common.{AbortsEach, AllStand, AreStanding, backend_of, BackendState, Core, Enabled, EnabledTo, Ended, EndedTo, Entry, entry_numbered, Event, faults_of, filter, HasFailedOut, HasReplayed, HasStarted, HasTaken, is_enabled}
+use Rattle.cj_core.proofs.Common.{AbortsEach, AllStand, AreStanding, started_backend, BackendState, Core, Enabled, EnabledTo, Ended, EndedTo, Entry, entry_numbered, Event, faults_of, filter, HasFailedOut, HasReplayed, HasStarted, HasTaken, is_enabled}
 use Rattle.cj_core.proofs.Common.{filter_agree, is_orphan, is_orphan_of, IsOpening, IsWorld, last_number, log, LogItem, map-map, Marker, OnlyReplays, opened_core, OpensTo, orphans_of, Placement, position_at, range_with_len, Sched, StartsFrom, tx_of, WorldState}
 use Rattle.cj_core.proofs.StartEnables.{enabled_last, enabled_position}
 use Rattle.cj_core.proofs.StartEnds.{orphan_of_same}
@@ -97,11 +97,11 @@ module _ (old rep : WorldState) (only : OnlyReplays old rep) (all : (b : ℕ) �
 
 -- a start of cells over an opened history is one of the backends in them
 pub starts_from : (found : List LogItem → Type 0) (items : List LogItem) (p : Placement) (opening : List Event) (backends : List BackendState) (old new : WorldState) → found items → OpensTo items opening
-    → old.core ≡ opened_core p opening → map backend_of old.cells ≡ backends → HasStarted old.core.placement old.core.history (faults_of old.cells) new → (log old.core.history ≡ [] → new.cells ≡ old.cells) → StartsFrom found p backends new
+    → old.core ≡ opened_core p opening → map started_backend old.cells ≡ backends → HasStarted old.core.placement old.core.history (faults_of old.cells) new → (log old.core.history ≡ [] → new.cells ≡ old.cells) → StartsFrom found p backends new
 starts_from found items p opening backends old new found_in opens opened same started uncalled =
     let placement : old.core.placement ≡ p = ap (λ (c : Core). c.placement) opened in
     let history : old.core.history ≡ opening = ap (λ (c : Core). c.history) opened in
-    let faults : faults_of old.cells ≡ map (λ (s : BackendState). s.faults) backends = sym (map-map (λ (s : BackendState). s.faults) backend_of old.cells) ∙ ap (map (λ (s : BackendState). s.faults)) same in
+    let faults : faults_of old.cells ≡ map (λ (s : BackendState). s.faults) backends = sym (map-map (λ (s : BackendState). s.faults) started_backend old.cells) ∙ ap (map (λ (s : BackendState). s.faults)) same in
     record {
       items = items;
       found_in = found_in;
@@ -110,5 +110,5 @@ starts_from found items p opening backends old new found_in opens opened same st
       started =
           subst (λ (counts : List ℕ). HasStarted p opening counts new) faults
           (subst (λ (h : List Event). HasStarted p h (faults_of old.cells) new) history (subst (λ (q : Placement). HasStarted q old.core.history (faults_of old.cells) new) placement started));
-      uncalled = λ none. ap (map backend_of) (uncalled (ap (λ (h : List Event). log h) history ∙ none)) ∙ same;
+      uncalled = λ none. ap (map started_backend) (uncalled (ap (λ (h : List Event). log h) history ∙ none)) ∙ same;
     }

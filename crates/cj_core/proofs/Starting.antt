@@ -1,6 +1,6 @@
 -- How backends move into cells, and what is seen of both.
 use Rattle.std.proofs.Common.{◌≡◌, Bool, true, ℕ, suc, ◌+◌, ◌<◌, ◌≤◌, List, [], ◌∷◌, ◌++◌, length, map, reverse, get_or, Option, Some, refl, ap, sym, ◌∙◌, subst, arith, length-append, append_assoc, append-nil, ⊎_elim}
-use Rattle.cj_core.proofs.Common.{All-nil, All-push, AreCellsAt, AreEmpty, AreFresh, AreNewCells, backend_of, BackendState, cases_lt, cell_board, CellState, get_or_append_left, get_or_push, HaveBegunNone, IsFresh, length-reverse, map-map, map_push}
+use Rattle.cj_core.proofs.Common.{All-nil, All-push, AreCellsAt, AreEmpty, AreFresh, AreNewCells, started_backend, BackendState, cases_lt, cell_board, CellState, get_or_append_left, get_or_push, HaveBegunNone, IsFresh, length-reverse, map-map, map_push}
 use Rattle.cj_core.proofs.Common.{All-head, All-tail, nil_from_length, Placement, reverse-append, reverse-reverse, SeatedCell, Slot, state_by}
 use Rattle.cj_state.proofs.Common.{Arming, TableId}
 use Rattle.cj_board.specs.declared.seats.CellSeat.{CellSeat}
@@ -13,8 +13,8 @@ same_part f g part xs ys same = sym (map-map part f xs) ∙ (ap (map part) same 
 
 -- so do backends and their cells in what is told
 pub told_of_backends : {X : Type 0} (told : X → Option (List Slot)) (faults asks : X → ℕ) (login : X → Option (List ℕ)) (arming : X → Arming) (backends : List X) (cells : List CellState)
-    → map (state_by told faults asks login arming) backends ≡ map backend_of cells → map told backends ≡ map (λ (x : CellState). x.told) cells
-told_of_backends told faults asks login arming backends cells = same_part (state_by told faults asks login arming) backend_of (λ (s : BackendState). s.told) backends cells
+    → map (state_by told faults asks login arming) backends ≡ map started_backend cells → map told backends ≡ map (λ (x : CellState). x.told) cells
+told_of_backends told faults asks login arming backends cells = same_part (state_by told faults asks login arming) started_backend (λ (s : BackendState). s.told) backends cells
 
 -- ---- into the cells
 
@@ -27,15 +27,15 @@ moved_on f g all left x moved y same was =
 
 -- what moves into a cell: what is seen of the backend stays, and the cell has taken no entry
 pub made_fresh : (number : ℕ) (p : Placement) (s : BackendState) (y : CellState)
-    → y ≡ record { b = number; placement = p; position = Some 0; begun = []; login = s.login; told = s.told; faults = s.faults; asks = s.asks; arming = s.arming } → IsFresh p number y × (backend_of y ≡ s)
-made_fresh number p s y made = (rw made (record { number = refl; placement = refl; position = refl; begun = refl }), ap backend_of made)
+    → y ≡ record { b = number; placement = p; position = Some 0; begun = []; login = s.login; told = s.told; faults = s.faults; asks = s.asks; arming = s.arming } → IsFresh p number y × (started_backend y ≡ s)
+made_fresh number p s y made = (rw made (record { number = refl; placement = refl; position = refl; begun = refl }), ap started_backend made)
 
 -- The backends left, last first, and those that have moved into cells by their numbers, are all. Those left have begun no transaction.
 pub record Moving {X : Type 0} (state_of : X → BackendState) (begun_of : X → List ℕ) (p : Placement) (all left : List X) (cells : List CellState) (capacity : ℕ) : Type 0 where
   pub as_many : length cells + length left ≡ p.backends
   pub none : HaveBegunNone (map begun_of (reverse left))
   pub each : (b : ℕ) (d : CellState) → b < length cells → IsFresh p b (get_or cells b d)
-  pub shown : map backend_of cells ++ map state_of (reverse left) ≡ map state_of all
+  pub shown : map started_backend cells ++ map state_of (reverse left) ≡ map state_of all
   pub room : p.backends ≤ capacity
 
 module _ {X : Type 0} {state_of : X → BackendState} {begun_of : X → List ℕ} {p : Placement} {all : List X} {cells : List CellState} {capacity : ℕ} where
@@ -70,7 +70,7 @@ module _ {X : Type 0} {state_of : X → BackendState} {begun_of : X → List ℕ
         let room : p.backends ≤ capacity = moving.room in
         (omega arith, omega arith)
 
-    pub moving_more : (y : CellState) (now : List CellState) (capacity_now : ℕ) → IsFresh p (length cells) y × (backend_of y ≡ state_of x) → now ≡ cells ++ y ∷ [] → capacity_now ≡ capacity
+    pub moving_more : (y : CellState) (now : List CellState) (capacity_now : ℕ) → IsFresh p (length cells) y × (started_backend y ≡ state_of x) → now ≡ cells ++ y ∷ [] → capacity_now ≡ capacity
         → Moving state_of begun_of p all left now capacity_now
     moving_more y now capacity_now made pushed same =
         let more = length-append cells (y ∷ []) in
@@ -86,17 +86,17 @@ module _ {X : Type 0} {state_of : X → BackendState} {begun_of : X → List ℕ
               let e : length cells ≡ k = omega arith in
               subst (IsFresh p k) (sym (get_or_push cells y d k e)) (subst (λ (n : ℕ). IsFresh p n y) e made.0))
               (cases_lt k (length cells));
-          shown = moved_on backend_of state_of all left x cells y made.1 (subst (λ l. map backend_of cells ++ map state_of (reverse l) ≡ map state_of all) is moving.shown);
+          shown = moved_on started_backend state_of all left x cells y made.1 (subst (λ l. map started_backend cells ++ map state_of (reverse l) ≡ map state_of all) is moving.shown);
           room = moving.room;
         })
 
   -- each backend has its cell
-  pub moving_last : {left : List X} → length left ≡ 0 → Moving state_of begun_of p all left cells capacity → AreFresh p cells × (map backend_of cells ≡ map state_of all)
+  pub moving_last : {left : List X} → length left ≡ 0 → Moving state_of begun_of p all left cells capacity → AreFresh p cells × (map started_backend cells ≡ map state_of all)
   moving_last {left} empty moving =
       let as_many : length cells + length left ≡ p.backends = moving.as_many in
       let none : left ≡ [] = nil_from_length left empty in (
         record { as_many = omega arith; each = moving.each },
-        sym (append-nil (map backend_of cells)) ∙ (ap (λ l. map backend_of cells ++ map state_of (reverse l)) (sym none) ∙ moving.shown),
+        sym (append-nil (map started_backend cells)) ∙ (ap (λ l. map started_backend cells ++ map state_of (reverse l)) (sym none) ∙ moving.shown),
       )
 
 -- ---- their seats

@@ -28,7 +28,7 @@ use Rattle.cj_cluster.specs.declared.event.Event.TheVariants.{Sched, Ended, Read
 use Rattle.cj_cluster.specs.declared.moves.Move.{Move}
 use Rattle.cj_cluster.specs.declared.moves.Move.TheVariants.{Open, Close, Schedule, Abort, Apply, End, Read, Arm, Disable, Replay, Enable, Mark, Dump, Load}
 use Rattle.cj_cluster.specs.History.Answering.{HasServer, HasNoServer}
-use Rattle.cj_cluster.specs.History.Histories.{log, is_enabled, is_idle, events_left}
+use Rattle.cj_cluster.specs.History.Histories.{log, is_enabled, is_free, events_left}
 use Rattle.cj_cluster.specs.History.Turns.{SessionView, Call, Turn, entry_of_call}
 use Rattle.cj_cluster.specs.Moves.Cores.{Core, find_session, session_at}
 use Rattle.cj_cluster.specs.Moves.Moves.{is_open, takes_part_in, with_request_counted}
@@ -54,12 +54,12 @@ desk_of d =
       admits = admits (accounts_of d.world);
       session = d.session;
       seen = seen_at d.world.core d.session;
-      queries = (session_at d.world.core d.session).queries;
+      queries = (session_at d.world.core d.session).requests;
     }
 
 -- Between two calls of the session it is open and reads nothing, and no entry is open.
 pub record StandsBetweenCalls (c : Core) (s : ℕ) : Type 0 where
-  pub idle : is_idle c.history ≡ true
+  pub idle : is_free c.history ≡ true
   pub here : is_open c s ≡ true
   pub no_read : (session_at c s).reading ≡ None
 
@@ -204,8 +204,8 @@ pub record WorldTurn (tells : Bool) (s : ℕ) (old : WorldState) (c : Call) (new
   pub others : (t : ℕ) → t ≢ s → find_session new.core.sessions t ≡ find_session old.core.sessions t
   pub disabled : (b : ℕ) → is_enabled old.core.history b ≡ false → slice_get new.cells b ≡ slice_get old.cells b
   pub setup : new.setup ≡ old.setup
-  pub number : c.number ≡ (session_at old.core s).queries + 1
-  pub queries : (session_at new.core s).queries ≡ (session_at old.core s).queries + 1
+  pub number : c.number ≡ (session_at old.core s).requests + 1
+  pub requests : (session_at new.core s).requests ≡ (session_at old.core s).requests + 1
   pub turn : Turn tells old.core.placement s (seen_at old.core s) c (seen_at new.core s)
   pub at_end : IsReadAtEnd c (seen_at new.core s)
   pub stands : StandsBetweenCalls new.core s

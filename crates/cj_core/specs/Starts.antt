@@ -10,7 +10,7 @@ use Rattle.cj_model.specs.declared.request.Act.TheVariants as act
 use Rattle.cj_model.specs.Cluster.Placements.{Placement, part}
 use Rattle.cj_cluster.specs.declared.event.Event.{Event}
 use Rattle.cj_cluster.specs.declared.event.Event.TheVariants.{Enabled, Ended, Sched}
-use Rattle.cj_cluster.specs.History.Histories.{log, is_idle, is_enabled, database_of, database_after}
+use Rattle.cj_cluster.specs.History.Histories.{log, is_free, is_enabled, database_of, database_after}
 use Rattle.cj_cluster.specs.Moves.Cores.{Core, position_at}
 use Rattle.cj_cluster.specs.Moves.Moves.{entry_numbered, is_orphan, last_number, user_of}
 use Rattle.cj_backend.specs.Backends.{Arming}
@@ -19,7 +19,7 @@ use Rattle.cj_records.specs.RecordFiles.{Finds}
 use Rattle.cj_records.specs.Records.{WritesOnlyNew}
 use Rattle.cj_log.specs.declared.item.LogItem.{LogItem}
 use Rattle.cj_log.specs.Logs.{HasBadItem, KeepsItems, log_magic}
-use Rattle.cj_opening.specs.Openings.{OpensTo}
+use Rattle.cj_recovery.specs.Openings.{OpensTo}
 use Rattle.cj_book.specs.declared.error.StartError.{StartError}
 use Rattle.cj_book.specs.declared.error.StartError.TheVariants as errors
 use Rattle.cj_book.specs.Starts.{KeepsBadEntry, greatest_session}
@@ -40,8 +40,8 @@ abbrev pub state_by : {X : Type 0} → (X → Option (List Slot)) → (X → ℕ
 state_by told faults asks login arming x = record { told = told x; faults = faults x; asks = asks x; login = login x; arming = arming x }
 
 -- of the backend of a cell
-abbrev pub backend_of : CellState → BackendState
-backend_of x = record { told = x.told; faults = x.faults; asks = x.asks; login = x.login; arming = x.arming }
+abbrev pub started_backend : CellState → BackendState
+started_backend x = record { told = x.told; faults = x.faults; asks = x.asks; login = x.login; arming = x.arming }
 
 -- each backend that is not out has begun what its cell says
 abbrev pub KeepEachBegun : List CellState → List (List ℕ) → Type 0
@@ -61,7 +61,7 @@ AreHolding tells c told = tells ≡ true → (b p : ℕ) → position_at c b ≡
 -- where no entry is open, each enabled backend holds its part of the database after the whole log
 abbrev pub AreCurrent : Bool → Core → List (Option (List Slot)) → Type 0
 AreCurrent tells c told =
-    tells ≡ true → is_idle c.history ≡ true → (b : ℕ) → is_enabled c.history b ≡ true → slice_get told b ≡ Some (Some (part c.placement b (database_of (log c.history))))
+    tells ≡ true → is_free c.history ≡ true → (b : ℕ) → is_enabled c.history b ≡ true → slice_get told b ≡ Some (Some (part c.placement b (database_of (log c.history))))
 
 -- ---- what a start leads to
 
@@ -90,7 +90,7 @@ pub record HasStarted (p : Placement) (opening : List Event) (faults : List ℕ)
   pub enabled : List ℕ
   pub rises : AllPairs (λ (a b : ℕ). a < b) enabled
   pub history : AbortsEach (opening ++ map Enabled enabled) (orphans_of (opened_core p opening)) w.core.history
-  pub idle : is_idle w.core.history ≡ true
+  pub idle : is_free w.core.history ≡ true
   pub sessions : w.core.sessions ≡ []
   pub greatest : w.core.greatest ≡ greatest_session (log opening)
   pub cells : length w.cells ≡ p.backends
@@ -103,7 +103,7 @@ pub record StartsFrom (found : List LogItem → Type 0) (p : Placement) (backend
   pub opening : List Event
   pub opens : OpensTo items opening
   pub started : HasStarted p opening (map (λ (x : BackendState). x.faults) backends) w
-  pub uncalled : log opening ≡ [] → map backend_of w.cells ≡ backends
+  pub uncalled : log opening ≡ [] → map started_backend w.cells ≡ backends
 
 -- The bytes keep the items that they kept, and maybe more behind them; or only a new file was written.
 abbrev pub LosesNothing : List ℕ → List ℕ → Type 0

@@ -1,7 +1,7 @@
 //! The transactions that a log leaves open are ended.
 
 ghost use Rattle.std.specs.Prelude.{◌≡◌, ◌≢◌, ◌+◌, ◌<◌, ℕ, [], OnOk, false, true};
-ghost use Rattle.cj_cluster.specs.History.Histories.{is_idle};
+ghost use Rattle.cj_cluster.specs.History.Histories.{is_free};
 ghost use Rattle.cj_cluster.specs.Moves.Moves as moves;
 ghost use Rattle.cj_cluster.specs.Moves.Moves.{abort_entry, with_entry};
 ghost use Rattle.cj_state.specs.Effects.{with_core};
@@ -18,7 +18,7 @@ use cj_state::State;
 /// Schedules the administrator's end of the transaction.
 fn schedule_end<B: Backend, S: Store>(state: &mut State<B, S>, tx: u64) -> Result<(), StartError>
     requires orphan { moves.is_orphan state.old.core tx ≡ true }
-    requires free { is_idle state.old.core.history ≡ true }
+    requires free { is_free state.old.core.history ≡ true }
     ensures ok { OnOk result (IsSameButLog (with_core state.old (with_entry state.old.core (abort_entry state.old.core tx))) state.new) }
     ensures longer { IsLonger state.old state.new }
     ensures cause { CountsFaultOfPart state.old.recovery_log.faults result state.new.recovery_log.faults }
@@ -38,7 +38,7 @@ fn schedule_end<B: Backend, S: Store>(state: &mut State<B, S>, tx: u64) -> Resul
 
 /// The backend takes the open entry, where it is enabled and hasn't taken it.
 fn take_where_due<B: Backend, S: Store>(state: &mut State<B, S>, b: u8) -> Result<(), StartError>
-    requires open { is_idle state.old.core.history ≡ false }
+    requires open { is_free state.old.core.history ≡ false }
     requires within { b < state.old.core.placement.backends }
     ensures only { OnlyTakes state.old state.new }
     ensures others { (k : ℕ) → k ≢ b → IsUntouched state.old state.new k }
@@ -50,12 +50,12 @@ fn take_where_due<B: Backend, S: Store>(state: &mut State<B, S>, b: u8) -> Resul
     if not_now_apply(state, b).is_some() {
         return Ok(());
     }
-    unless_starved(state.take_open(b))
+    unless_starved(state.catch_up_open(b))
 }
 
 /// Each enabled backend takes the open entry.
 fn take_on_all<B: Backend, S: Store>(state: &mut State<B, S>) -> Result<(), StartError>
-    requires { is_idle state.old.core.history ≡ false }
+    requires { is_free state.old.core.history ≡ false }
     ensures only { OnlyTakes state.old state.new }
     ensures all { OnOk result ((b : ℕ) → b < state.old.core.placement.backends → TakesPast state.old state.new b) }
     ensures starved { OnOk result (state.new.core.starved ≡ state.old.core.starved) }
@@ -70,7 +70,7 @@ fn take_on_all<B: Backend, S: Store>(state: &mut State<B, S>) -> Result<(), Star
 /// Ends the transaction, which is open.
 fn end_transaction<B: Backend, S: Store>(state: &mut State<B, S>, tx: u64) -> Result<(), StartError>
     requires orphan { moves.is_orphan state.old.core tx ≡ true }
-    requires free { is_idle state.old.core.history ≡ true }
+    requires free { is_free state.old.core.history ≡ true }
     requires alone { state.old.core.sessions ≡ [] }
     requires stands { AreStanding state.old }
     ensures ended { OnOk result (TransactionEnded tx state.old state.new) }
@@ -86,7 +86,7 @@ fn end_transaction<B: Backend, S: Store>(state: &mut State<B, S>, tx: u64) -> Re
 
 /// Ends the transaction of this number, where there is one that is open.
 fn end_where_open<B: Backend, S: Store>(state: &mut State<B, S>, tx: u64) -> Result<(), StartError>
-    requires free { is_idle state.old.core.history ≡ true }
+    requires free { is_free state.old.core.history ≡ true }
     requires alone { state.old.core.sessions ≡ [] }
     requires stands { AreStanding state.old }
     ensures ended { OnOk result (EndedWhere (moves.is_orphan state.old.core tx) tx state.old state.new) }
@@ -102,7 +102,7 @@ fn end_where_open<B: Backend, S: Store>(state: &mut State<B, S>, tx: u64) -> Res
 
 /// Ends each transaction that is open, in the order of their numbers. No session is open.
 pub fn end_all<B: Backend, S: Store>(state: &mut State<B, S>) -> Result<(), StartError>
-    requires free { is_idle state.old.core.history ≡ true }
+    requires free { is_free state.old.core.history ≡ true }
     requires alone { state.old.core.sessions ≡ [] }
     requires stands { AreStanding state.old }
     ensures ended { OnOk result (EndedTo state.old state.new (moves.last_number state.old.core)) }

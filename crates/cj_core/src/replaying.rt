@@ -2,7 +2,7 @@
 
 ghost use Rattle.std.specs.Prelude.{◌≡◌, ◌≢◌, ◌<◌, ℕ, OnOk, IfErr, Some, None, false, true};
 ghost use Rattle.cj_cluster.specs.History.Histories as histories;
-ghost use Rattle.cj_cluster.specs.History.Histories.{is_idle};
+ghost use Rattle.cj_cluster.specs.History.Histories.{is_free};
 ghost use Rattle.cj_cluster.specs.Moves.Cores.{position_at};
 ghost use Rattle.cj_cluster.specs.Moves.Moves as moves;
 ghost use Rattle.cj_cluster.specs.Moves.Moves.{not_now};
@@ -40,7 +40,7 @@ fn replay_next<B: Backend, S: Store>(state: &mut State<B, S>, b: u8) -> Result<(
     ensures cause { CountsFaultOfPart state.old.recovery_log.faults result state.new.recovery_log.faults }
 {
     state.legal();
-    unless_starved(state.take_next(b))
+    unless_starved(state.catch_up_next(b))
 }
 
 /// The backend, which has taken no entry, takes the whole log, or fails.
@@ -80,7 +80,7 @@ fn enable_where_there<B: Backend, S: Store>(
     state: &mut State<B, S>,
     b: u8,
 ) -> Result<(), StartError>
-    requires free { is_idle state.old.core.history ≡ true }
+    requires free { is_free state.old.core.history ≡ true }
     requires off { histories.is_enabled state.old.core.history b ≡ false }
     requires there { (p : ℕ) → position_at state.old.core b ≡ Some p → p ≡ moves.last_number state.old.core }
     ensures ok { OnOk result (state.new ≡ with_core state.old (enabled_where (position_at state.old.core b) b state.old.core)) }
@@ -90,7 +90,7 @@ fn enable_where_there<B: Backend, S: Store>(
     if state.position(b).is_none() {
         return Ok(());
     }
-    match state.switch_on(b) {
+    match state.enable(b) {
         Ok(()) => Ok(()),
         Err(BookError::HistoryFull(_)) => Err(StartError::NoMemory),
         Err(BookError::InProgress(_)) => unreachable!(),
@@ -103,7 +103,7 @@ fn enable_where_there<B: Backend, S: Store>(
 /// Enables each backend that is not out, in the order of numbers.
 #[tactic(auto, using(crate::proofs::StartEnables::enabled_none, crate::proofs::StartEnables::enabled_next))]
 pub fn enable_everywhere<B: Backend, S: Store>(state: &mut State<B, S>) -> Result<(), StartError>
-    requires free { is_idle state.old.core.history ≡ true }
+    requires free { is_free state.old.core.history ≡ true }
     requires off { (b : ℕ) → histories.is_enabled state.old.core.history b ≡ false }
     requires there { (b p : ℕ) → position_at state.old.core b ≡ Some p → p ≡ moves.last_number state.old.core }
     ensures ok { OnOk result (EnabledTo state.old state.new state.old.core.placement.backends) }

@@ -10,7 +10,7 @@ ghost use Rattle.cj_model.specs.Sql.WrittenRequests.{IsWritten};
 ghost use Rattle.cj_cluster.specs.History.Legality.{FitsTx};
 ghost use Rattle.cj_model.specs.declared.answer.Reply.TheVariants as replies;
 ghost use Rattle.cj_model.specs.declared.limits.TheConstants.{REQUEST_LIMIT, USER_LIMIT};
-ghost use Rattle.cj_cluster.specs.History.Histories.{is_idle};
+ghost use Rattle.cj_cluster.specs.History.Histories.{is_free};
 ghost use Rattle.cj_cluster.specs.Moves.Cores.{session_at};
 ghost use Rattle.cj_cluster.specs.Moves.Moves as moves;
 ghost use Rattle.cj_cluster.specs.Moves.Moves.{opened_for, closed_for, with_request_counted, MovesTo};
@@ -73,7 +73,7 @@ impl<B: Backend, S: Store> Model for Solo<B, S> {
 impl<B: Backend, S: Store> World<B, S> {
     /// Opens a session for a user to come, and serves it. It takes no memory.
     pub fn desk(self) -> Result<Solo<B, S>, (SessionsFull, World<B, S>)>
-        requires { is_idle self.core.history ≡ true }
+        requires { is_free self.core.history ≡ true }
         ensures opened { IfOk result (λ solo. solo ≡ record { world = with_core self (opened_for self.core []); session = self.core.greatest + 1 }) }
         ensures free { IfOk result (λ _. moves.has_no_number self.core ≡ false) }
         ensures full { IfErr result (λ (full, world). (moves.has_no_number self.core ≡ true) × (full.sessions ≡ length self.core.sessions) × (world ≡ self)) }
@@ -108,7 +108,7 @@ impl<B: Backend, S: Store> World<B, S> {
     }
 
     fn count(&mut self, s: u64)
-        requires counts { (session_at self.old.core s).queries < REQUEST_LIMIT }
+        requires counts { (session_at self.old.core s).requests < REQUEST_LIMIT }
         requires idle { moves.is_waiting self.old.core s ≡ false }
         requires no_read { (session_at self.old.core s).reading ≡ None }
         ensures { self.new ≡ with_core self.old (with_request_counted self.old.core s) }
@@ -118,7 +118,7 @@ impl<B: Backend, S: Store> World<B, S> {
 
     fn serve_write(&mut self, s: u64, user: &Text, tx: u64, act: Act) -> Written
         requires stands { StandsBetweenCalls self.old.core s }
-        requires counts { (session_at self.old.core s).queries < REQUEST_LIMIT }
+        requires counts { (session_at self.old.core s).requests < REQUEST_LIMIT }
         requires short { length user.now ≤ USER_LIMIT }
         requires written { IsWritten (request_of act) }
         requires fits { FitsTx (moves.open_tx self.old.core s) tx act }
@@ -131,7 +131,7 @@ impl<B: Backend, S: Store> World<B, S> {
 
     fn serve_read(&mut self, s: u64, user: &Text, tx: u64, select: &Select) -> Reply
         requires stands { StandsBetweenCalls self.old.core s }
-        requires counts { (session_at self.old.core s).queries < REQUEST_LIMIT }
+        requires counts { (session_at self.old.core s).requests < REQUEST_LIMIT }
         requires written { IsWritten (requests.Select select.now) }
         requires tx { (tx ≡ 0) ⊎ (tx ≡ moves.open_tx self.old.core s) }
         ensures turn { WorldTurn B.tells s self.old (call_of self.old.core s tx user.now (requests.Select select.now) result) self.new }

@@ -76,7 +76,7 @@ fn attempt<B: Backend, S: Store>(
     requires within { b < state.old.core.placement.backends }
     requires stands { StandsBetweenCalls state.old.core s }
     requires serves { CanServe state.old.core.placement state.old.core.history (requests.Select select.now) b }
-    requires counts { (session_at state.old.core s).queries < REQUEST_LIMIT }
+    requires counts { (session_at state.old.core s).requests < REQUEST_LIMIT }
     requires written { IsWritten (requests.Select select.now) }
     ensures came { AttemptsQuery B.tells s b user.now tx select.now state.old result state.new }
     ensures setup { state.new.setup ≡ state.old.setup }
@@ -114,7 +114,7 @@ fn attempt<B: Backend, S: Store>(
 /// Replies the answer that is kept of a query.
 fn reply_kept<B: Backend, S: Store>(state: &mut State<B, S>, s: u64, select: &Select) -> Reply
     requires stands { StandsBetweenCalls state.old.core s }
-    requires counts { (session_at state.old.core s).queries < REQUEST_LIMIT }
+    requires counts { (session_at state.old.core s).requests < REQUEST_LIMIT }
     requires kept { is_some (answer_kept select.now state.old.cache) ≡ true }
     ensures { RepliesKept s select.now state.old result state.new }
 {
@@ -142,7 +142,7 @@ fn ask_in_turn<B: Backend, S: Store>(
     select: &Select,
 ) -> Reply
     requires stands { StandsBetweenCalls state.old.core s }
-    requires counts { (session_at state.old.core s).queries < REQUEST_LIMIT }
+    requires counts { (session_at state.old.core s).requests < REQUEST_LIMIT }
     requires written { IsWritten (requests.Select select.now) }
     requires tx { (tx ≡ 0) ⊎ (tx ≡ moves.open_tx state.old.core s) }
     requires serving { IsServingMask state.old.core select.now serving }
@@ -180,7 +180,7 @@ pub fn serve_read<B: Backend, S: Store>(
     select: &Select,
 ) -> Reply
     requires stands { StandsBetweenCalls state.old.core s }
-    requires counts { (session_at state.old.core s).queries < REQUEST_LIMIT }
+    requires counts { (session_at state.old.core s).requests < REQUEST_LIMIT }
     requires written { IsWritten (requests.Select select.now) }
     requires tx { (tx ≡ 0) ⊎ (tx ≡ moves.open_tx state.old.core s) }
     ensures turn { WorldTurn B.tells s state.old (call_of state.old.core s tx user.now (requests.Select select.now) result) state.new }

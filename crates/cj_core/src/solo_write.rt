@@ -4,7 +4,7 @@ ghost use Rattle.std.specs.Prelude.{◌≡◌, ◌≢◌, ◌≤◌, ◌<◌, �
 ghost use Rattle.cj_model.specs.declared.limits.TheConstants.{REQUEST_LIMIT, USER_LIMIT};
 ghost use Rattle.cj_model.specs.Sql.PlainRequests.{request_of};
 ghost use Rattle.cj_model.specs.Sql.WrittenRequests.{IsWritten};
-ghost use Rattle.cj_cluster.specs.History.Histories.{is_idle};
+ghost use Rattle.cj_cluster.specs.History.Histories.{is_free};
 ghost use Rattle.cj_cluster.specs.History.Legality.{FitsTx};
 ghost use Rattle.cj_cluster.specs.Moves.Cores.{session_at};
 ghost use Rattle.cj_cluster.specs.Moves.Moves as moves;
@@ -29,7 +29,7 @@ use cj_state::State;
 #[tactic(auto, using(crate::proofs::SoloTurns::stands_idle))]
 pub fn refuse<B: Backend, S: Store>(state: &mut State<B, S>, s: u64, refusal: Refusal) -> Reply
     requires stands { StandsBetweenCalls state.old.core s }
-    requires counts { (session_at state.old.core s).queries < REQUEST_LIMIT }
+    requires counts { (session_at state.old.core s).requests < REQUEST_LIMIT }
     ensures reply { result ≡ replies.Refused refusal }
     ensures counted { state.new ≡ with_core state.old (with_request_counted state.old.core s) }
 {
@@ -39,7 +39,7 @@ pub fn refuse<B: Backend, S: Store>(state: &mut State<B, S>, s: u64, refusal: Re
 
 /// The backend takes the open entry, where it is enabled and hasn't taken it.
 fn take_if_due<B: Backend, S: Store>(state: &mut State<B, S>, b: u8)
-    requires open { is_idle state.old.core.history ≡ false }
+    requires open { is_free state.old.core.history ≡ false }
     requires within { b < state.old.core.placement.backends }
     ensures taken { EntryTaken (open_user state.old.core) state.old state.new }
     ensures at_end { HasTakenEntry state.new.core b }
@@ -48,13 +48,13 @@ fn take_if_due<B: Backend, S: Store>(state: &mut State<B, S>, b: u8)
 {
     state.legal();
     if not_now_apply(state, b).is_none() {
-        state.take_open(b);
+        state.catch_up_open(b);
     }
 }
 
 /// Each enabled backend takes the open entry.
 fn take_everywhere<B: Backend, S: Store>(state: &mut State<B, S>)
-    requires open { is_idle state.old.core.history ≡ false }
+    requires open { is_free state.old.core.history ≡ false }
     ensures taken { EntryTaken (open_user state.old.core) state.old state.new }
     ensures at_end { moves.first_lagging state.new.core.history 0 state.new.core.positions ≡ None }
     ensures each { (b : ℕ) → TakesOpen state.old state.new b }
@@ -68,7 +68,7 @@ fn take_everywhere<B: Backend, S: Store>(state: &mut State<B, S>)
 
 /// Ends the open entry, which is of this session, once each enabled backend has taken it.
 fn finish<B: Backend, S: Store>(state: &mut State<B, S>, s: u64) -> Reply
-    requires open { is_idle state.old.core.history ≡ false }
+    requires open { is_free state.old.core.history ≡ false }
     requires waits { moves.is_waiting state.old.core s ≡ true }
     ensures { EntryEnded B.tells s (open_user state.old.core) state.old result state.new }
 {
@@ -88,7 +88,7 @@ fn schedule_for<B: Backend, S: Store>(
     act: Act,
 ) -> Result<u64, Refusal>
     requires stands { StandsBetweenCalls state.old.core s }
-    requires counts { (session_at state.old.core s).queries < REQUEST_LIMIT }
+    requires counts { (session_at state.old.core s).requests < REQUEST_LIMIT }
     requires short { length user.now ≤ USER_LIMIT }
     requires written { IsWritten (request_of act) }
     requires fits { FitsTx (moves.open_tx state.old.core s) tx act }
@@ -123,7 +123,7 @@ pub fn serve_write<B: Backend, S: Store>(
     act: Act,
 ) -> Written
     requires stands { StandsBetweenCalls state.old.core s }
-    requires counts { (session_at state.old.core s).queries < REQUEST_LIMIT }
+    requires counts { (session_at state.old.core s).requests < REQUEST_LIMIT }
     requires short { length user.now ≤ USER_LIMIT }
     requires written { IsWritten (request_of act) }
     requires fits { FitsTx (moves.open_tx state.old.core s) tx act }

@@ -2,9 +2,9 @@
 
 ghost use Rattle.std.specs.Prelude.{◌≡◌, ◌≤◌, ℕ, true, List, [], length, map, vec_capacity, IfOk, OnOk};
 ghost use Rattle.cj_cluster.specs.History.Histories.{log};
-ghost use Rattle.cj_core.specs.Starts.{backend_of, state_by, AreHolding, AreCurrent, CountsFaultOfStart, HasStarted, HaveBegunNone, KeepEachBegun, RefusesBytes, StartsFrom};
+ghost use Rattle.cj_core.specs.Starts.{started_backend, state_by, AreHolding, AreCurrent, CountsFaultOfStart, HasStarted, HaveBegunNone, KeepEachBegun, RefusesBytes, StartsFrom};
 ghost use Rattle.cj_core.specs.Proving.StartParts.{CountsFaultOfPart, IsLonger};
-ghost use Rattle.cj_opening.specs.Openings.{IsOpening, items_of};
+ghost use Rattle.cj_recovery.specs.Openings.{IsOpening, items_of};
 ghost use Rattle.cj_state.specs.Beginnings.{AreEmpty, AreFresh, opened_core};
 ghost use Rattle.cj_board.specs.Seats.{board_id, book_board, book_view, pass_board, AreNewCells};
 ghost use Rattle.cj_replica.specs.Cells.{CellState};
@@ -51,7 +51,7 @@ fn cells_of<B: Backend + Drop>(
     ensures few { OnOk result (length placement.now.names ≤ BACKEND_LIMIT) }
     ensures empty { OnOk result (backends.new.items ≡ []) }
     ensures fresh { IfOk result (λ cells. AreFresh (placement_of placement.now) (states_of cells.items)) }
-    ensures same { IfOk result (λ cells. map backend_of (states_of cells.items) ≡ map (state_by B.told B.faults B.asks B.login B.arming) backends.old.items) }
+    ensures same { IfOk result (λ cells. map started_backend (states_of cells.items) ≡ map (state_by B.told B.faults B.asks B.login B.arming) backends.old.items) }
     ensures at { IfOk result (λ cells. AreCellsAt (board_id board.now) cells.items) }
 {
     let mut cells = Vec::with_capacity(alloc, placement.count() as usize)?;
@@ -94,7 +94,7 @@ fn seat_all<B: Backend + Drop>(
     ensures none_given { IfOk result (λ s. (book_view s.book_seat).last_given ≡ 0) }
     ensures fresh { IfOk result (λ s. AreFresh (placement_of placement.now) (states_of s.cells.items)) }
     ensures empty { IfOk result (λ s. AreEmpty B.tells (map (λ (x : CellState). x.told) (states_of s.cells.items))) }
-    ensures same { IfOk result (λ s. map backend_of (states_of s.cells.items) ≡ map (state_by B.told B.faults B.asks B.login B.arming) backends) }
+    ensures same { IfOk result (λ s. map started_backend (states_of s.cells.items) ≡ map (state_by B.told B.faults B.asks B.login B.arming) backends) }
     ensures none { IfOk result (λ s. (s.sessions ≡ []) × (s.dumps ≡ [])) }
 {
     let mut list = backends.into_vec();
@@ -115,7 +115,7 @@ fn seat_all<B: Backend + Drop>(
 fn backends_of<B: Backend + Drop>(mut cells: Vec<Cell<B>>, mut backends: Vec<B>) -> Vec<B>
     requires empty { backends.items ≡ [] }
     requires room { length cells.items ≤ vec_capacity backends }
-    ensures same { map (state_by B.told B.faults B.asks B.login B.arming) result.items ≡ map backend_of (states_of cells.items) }
+    ensures same { map (state_by B.told B.faults B.asks B.login B.arming) result.items ≡ map started_backend (states_of cells.items) }
     ensures begun { KeepEachBegun (states_of cells.items) (map B.begun result.items) }
 {
     cells.reverse();
@@ -165,7 +165,7 @@ impl<B: Backend + Drop, S: Store + Drop> World<B, S> {
         requires disk { S.tells ≡ true → Only (S.held log) (S.may log) }
         requires cache { parts.book.cache ≡ empty_cache parts.book.cache.capacity }
         ensures started { IfOk result (StartsFrom (λ items. S.tells ≡ true → KeepsItems (S.held log) items) (placement_of parts.book.placement) (map (state_by B.told B.faults B.asks B.login B.arming) backends)) }
-        ensures setup { IfOk result (λ world. world.setup ≡ record { names = parts.book.placement.names; register = parts.accounts }) }
+        ensures setup { IfOk result (λ world. world.setup ≡ record { names = parts.book.placement.names; accounts = parts.accounts }) }
         ensures numbers { IfOk result NumbersFollowHistory }
         ensures cache { IfOk result (λ world. world.cache ≡ parts.book.cache) }
         ensures kept { S.tells ≡ true → IfOk result (λ world. KeepsItems world.recovery_log.bytes (items_of world.core.history)) }
@@ -221,7 +221,7 @@ impl<B: Backend + Drop, S: Store + Drop> World<B, S> {
 
     /// The backends in the order of their numbers, as they stand. It takes no memory.
     pub fn into_backends(self) -> Backends<B>
-        ensures same { map (state_by B.told B.faults B.asks B.login B.arming) result ≡ map backend_of self.cells }
+        ensures same { map (state_by B.told B.faults B.asks B.login B.arming) result ≡ map started_backend self.cells }
         ensures begun { KeepEachBegun self.cells (map B.begun result) }
         ensures holding { AreHolding B.tells self.core (map B.told result) }
         ensures current { AreCurrent B.tells self.core (map B.told result) }

@@ -17,7 +17,7 @@ ghost use Rattle.cj_state.specs.CalledLogins.{logins_of};
 ghost use Rattle.cj_state.specs.Faults.{faults_after, faults_of};
 ghost use Rattle.cj_model.specs.Cluster.Masks.{in_mask};
 ghost use Rattle.cj_cluster.specs.History.Histories as histories;
-ghost use Rattle.cj_cluster.specs.History.Histories.{is_idle};
+ghost use Rattle.cj_cluster.specs.History.Histories.{is_free};
 ghost use Rattle.cj_cluster.specs.Moves.Cores.{position_at};
 ghost use Rattle.cj_cluster.specs.Moves.Moves as moves;
 ghost use Rattle.cj_place.specs.Layouts.{placement_of};
@@ -75,7 +75,7 @@ impl<B: Backend, S: Store> World<B, S> {
 
     /// The number of the open entry.
     pub fn open_entry(&self) -> Option<u64>
-        ensures none { IsNone result ↔ (is_idle self.now.core.history ≡ true) }
+        ensures none { IsNone result ↔ (is_free self.now.core.history ≡ true) }
         ensures number { IfSome result (λ n. n ≡ moves.last_number self.now.core) }
     {
         self.state.open_entry()
@@ -151,7 +151,7 @@ impl<B: Backend, S: Store> World<B, S> {
     /// What the enabled backends hold, in the order of their numbers: a line for each table with its number of
     /// rows, and one for each row. Asks each enabled backend for its contents, and stops at the first that fails.
     pub fn audit(&mut self) -> Result<Text, AuditError>
-        requires { is_idle self.old.core.history ≡ true }
+        requires { is_free self.old.core.history ≡ true }
         ensures text { IfOk result (λ text. B.tells ≡ true → text ≡ audit_text self.old.setup.names self.old.core) }
         ensures same { failed_audit result ≡ None → self.new ≡ self.old }
         ensures faults { faults_of self.new.cells ≡ faults_after (faults_of self.old.cells) (failed_audit result) }

@@ -20,7 +20,7 @@ pub record DeskState : Type 0 where
   -- what the session has seen
   pub seen : SessionView
   -- how many Queries of the session were counted: its writes, its reads, and those that never reached the desk
-  pub queries : ℕ
+  pub requests : ℕ
 
 -- the session's open transaction, or 0
 abbrev pub desk_tx : DeskState → ℕ
@@ -37,23 +37,23 @@ pub record DeskTurn (tells : Bool) (a : DeskState) (c : Call) (z : DeskState) : 
   pub placement : z.placement ≡ a.placement
   pub admits : z.admits ≡ a.admits
   pub session : z.session ≡ a.session
-  pub queries : z.queries ≡ a.queries + 1
-  pub number : c.number ≡ a.queries + 1
+  pub requests : z.requests ≡ a.requests + 1
+  pub number : c.number ≡ a.requests + 1
   pub turn : Turn tells a.placement a.session a.seen c z.seen
 
 -- the call leads a desk from state a to state z; `tells`: its backends tell what they hold
 abbrev pub DeskSteps : Bool → DeskState → DeskCall → DeskState → Type 0
 DeskSteps tells a (turn_taken c) z = DeskTurn tells a c z
-DeskSteps tells a query_skipped z = z ≡ record a { queries = a.queries + 1 }
+DeskSteps tells a query_skipped z = z ≡ record a { requests = a.requests + 1 }
 DeskSteps tells a (cache_counted hits misses) z = z ≡ a
 
 -- the session's next write or read
 abbrev pub next_call : DeskState → ℕ → List ℕ → Request → Reply → Call
-next_call a tx user request reply = record { number = a.queries + 1; tx = tx; user = user; request = request; reply = reply }
+next_call a tx user request reply = record { number = a.requests + 1; tx = tx; user = user; request = request; reply = reply }
 
 -- a desk may be asked for this
 pub record CanAskDesk (a : DeskState) (user : List ℕ) (request : Request) : Type 0 where
-  pub room : a.queries < REQUEST_LIMIT
+  pub room : a.requests < REQUEST_LIMIT
   pub short : length user ≤ USER_LIMIT
   pub written : IsWritten request
 

@@ -67,7 +67,7 @@ pub trait Desk<R> {
 
     /// Counts a Query that never reached the desk.
     fn skip(&mut self)
-        requires { (state_of self.old).queries < REQUEST_LIMIT }
+        requires { (state_of self.old).requests < REQUEST_LIMIT }
         ensures { leads_to self.old query_skipped self.new };
 
     /// Hits and misses of the result cache.

@@ -24,13 +24,13 @@ backend_text names (Some b) = unwrap_or (slice_get names b) (decimal b)
 abbrev pub marker_text : List (List ℕ) → LogMarker → List ℕ
 marker_text names m = words (codes "marker" ∷ m.name ∷ codes "after" ∷ decimal m.after ∷ (codes "backend=" ++ backend_text names m.b) ∷ [])
 
-abbrev pub item_text : List (List ℕ) → LogItem → List ℕ
-item_text names (Entry e) = entry_text e
-item_text names (Marker m) = marker_text names m
+abbrev pub log_item_text : List (List ℕ) → LogItem → List ℕ
+log_item_text names (Entry e) = entry_text e
+log_item_text names (Marker m) = marker_text names m
 
 -- a line of an item, where backends go by these names
 abbrev pub item_line : List (List ℕ) → LogItem → List ℕ
-item_line names item = with_line_feed (item_text names item)
+item_line names item = with_line_feed (log_item_text names item)
 
 -- a line for each item
 abbrev pub listing : List (List ℕ) → List LogItem → List ℕ

@@ -1,7 +1,7 @@
 //! The line of an item, made in memory.
 
 ghost use Rattle.std.specs.Prelude.{◌≡◌, IfOk};
-ghost use Rattle.cj_listing.specs.Listing.{backend_text, entry_text, item_line, item_text, marker_text};
+ghost use Rattle.cj_listing.specs.Listing.{backend_text, entry_text, item_line, log_item_text, marker_text};
 
 use cj_log::{LogEntry, LogItem, LogMarker};
 use cj_model::{Names, NoMemory};
@@ -46,7 +46,7 @@ fn marker_words(alloc: Global, names: &Names, marker: &LogMarker) -> Result<Vec<
 }
 
 fn item_words(alloc: Global, names: &Names, item: &LogItem) -> Result<Vec<u8>, NoMemory>
-    ensures { IfOk result (λ text. text.items ≡ item_text names.now item.now) }
+    ensures { IfOk result (λ text. text.items ≡ log_item_text names.now item.now) }
 {
     match item {
         LogItem::Entry(entry) => entry_words(alloc, entry),

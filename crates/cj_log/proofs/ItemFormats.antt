@@ -16,8 +16,8 @@ use Rattle.cj_codec.proofs.Formats.{behind_law, mapped_law, pair_law, such_that_
 use Rattle.cj_codec.proofs.Held.{fields_hold}
 use Rattle.cj_log.specs.declared.error.ItemError.{ItemError}
 use Rattle.cj_log.specs.declared.item.LogItem.TheVariants.{Entry, Marker}
-use Rattle.cj_log.specs.Items.{backend_byte, item_bytes, IsBackend, IsItem, IsNoItem, BodiesFixItems}
-use Rattle.cj_log.specs.Proving.ItemFormats.{is_user, user, text, backend_of, backend, entry_from, entry_in, entry, marker_from, marker_in, marker, kind_of, fields_of, item, item_error, item_found, item_of, items_in, FindsItem}
+use Rattle.cj_log.specs.Items.{backend_byte, item_bytes, FitsBackendByte, IsItem, IsNoItem, BodiesFixItems}
+use Rattle.cj_log.specs.Proving.ItemFormats.{is_user, user, text, backend_of_byte, backend, entry_from, entry_in, entry, marker_from, marker_in, marker, kind_of, fields_of, item, item_error, item_found, item_of, items_in, FindsItem}
 
 -- ---- the law of formats
 
@@ -28,7 +28,7 @@ text_law : IsFormat text
 text_law = such_that_law is_text string64 (string_law number64 number64_law)
 
 -- a backend's byte is its byte again
-byte_back : (b : ℕ) → backend_byte (backend_of b) ≡ b
+byte_back : (b : ℕ) → backend_byte (backend_of_byte b) ≡ b
 byte_back b =
     elim (cases_eq b 255) [
       | inl is ↦ rw is refl
@@ -36,7 +36,7 @@ byte_back b =
     ]
 
 backend_law : IsFormat backend
-backend_law = mapped_law backend_of backend_byte byte byte_law (λ b fits. byte_back b)
+backend_law = mapped_law backend_of_byte backend_byte byte byte_law (λ b fits. byte_back b)
 
 entry_law : IsFormat entry
 entry_law =
@@ -73,15 +73,15 @@ bytes_same (Marker m) = refl
 
 -- ---- what is held
 
-backend_held : (b : Option ℕ) → IsBackend b → backend.fits b
+backend_held : (b : Option ℕ) → FitsBackendByte b → backend.fits b
 backend_held None is = (omega arith, refl)
 backend_held (Some b) is = let no : (b == 255) ≡ false = ne_eqb b 255 (λ e. omega (arith, e, is)) in (omega (arith, is), rw no refl)
 
-held_backend : (b : Option ℕ) → backend.fits b → IsBackend b
+held_backend : (b : Option ℕ) → backend.fits b → FitsBackendByte b
 held_backend None held = tt
 held_backend (Some b) held =
     elim (cases_eq b 255) [
-      | inl is ↦ let none : backend_of b ≡ None = rw is refl in let no : None ≡ Some b = sym none ∙ held.1 in absurd cc
+      | inl is ↦ let none : backend_of_byte b ≡ None = rw is refl in let no : None ≡ Some b = sym none ∙ held.1 in absurd cc
       | inr other ↦ omega (arith, held.0, other)
     ]
 

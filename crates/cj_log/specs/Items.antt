@@ -34,15 +34,15 @@ pub record IsEntry (e : LogEntry) : Type 0 where
   pub long : length e.text < 2 ^ 64
 
 -- the backend of a marker
-abbrev pub IsBackend : Option ℕ → Type 0
-IsBackend None = Unit {0}
-IsBackend (Some b) = b < 255
+abbrev pub FitsBackendByte : Option ℕ → Type 0
+FitsBackendByte None = Unit {0}
+FitsBackendByte (Some b) = b < 255
 
 -- a marker that has such a body
 pub record IsMarker (m : LogMarker) : Type 0 where
   pub after : m.after < 2 ^ 64
   pub name : is_name m.name ≡ true
-  pub backend : IsBackend m.b
+  pub backend : FitsBackendByte m.b
 
 abbrev pub IsItem : LogItem → Type 0
 IsItem (Entry e) = IsEntry e

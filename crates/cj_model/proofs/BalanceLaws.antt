@@ -8,7 +8,7 @@ use Rattle.cj_model.specs.declared.policy.Policy.{Policy}
 use Rattle.cj_model.specs.declared.policy.Policy.TheVariants.{RoundRobin, Weighted, LeastPending}
 use Rattle.cj_model.specs.declared.limits.TheConstants.{BACKEND_LIMIT}
 use Rattle.cj_model.specs.Cluster.Masks.{in_mask}
-use Rattle.cj_model.specs.Cluster.Balancing.{Standing, IsFirst, Picks, is_ahead, picked, steps_from, steps_to}
+use Rattle.cj_model.specs.Cluster.Balancing.{BalanceState, IsFirst, Picks, is_ahead, picked, steps_from, steps_to}
 
 -- of two first candidates neither has the lower number
 none_lower : (ahead : ℕ → ℕ → Bool) (candidates b c : ℕ) → IsFirst ahead candidates b → IsFirst ahead candidates c → b < c → ⊥
@@ -22,7 +22,7 @@ first_is_one ahead candidates b c p q =
     omega arith
 
 -- two picks from one state are equal, and lead to one state
-pub picks_one : (policy : Policy) (weights : List ℕ) (s : Standing) (candidates b c : ℕ) (y z : Standing) → Picks policy weights s candidates b y → Picks policy weights s candidates c z → (b ≡ c) × (y ≡ z)
+pub picks_one : (policy : Policy) (weights : List ℕ) (s : BalanceState) (candidates b c : ℕ) (y z : BalanceState) → Picks policy weights s candidates b y → Picks policy weights s candidates c z → (b ≡ c) × (y ≡ z)
 picks_one policy weights s candidates b c y z p q =
     let e : b ≡ c = first_is_one (is_ahead policy weights s) candidates b c p.first q.first in
     (e, p.stands ∙ ap (λ n. picked policy s n) e ∙ sym q.stands)
@@ -61,13 +61,13 @@ candidates_below candidates k fits here =
     (cases_lt k BACKEND_LIMIT)
 
 -- the round robin goes on after the last picked: where a candidate is above that one, it picks the lowest such one, and else the lowest of all
-pub next_in_turn : (weights : List ℕ) (s after : Standing) (candidates l b k : ℕ) → s.last ≡ Some l → l < BACKEND_LIMIT → candidates < 2 ^ BACKEND_LIMIT → Picks RoundRobin weights s candidates b after → in_mask candidates k ≡ true → (l < k → (l < b) × (b ≤ k)) × (b ≤ l → b ≤ k)
+pub next_in_turn : (weights : List ℕ) (s after : BalanceState) (candidates l b k : ℕ) → s.last ≡ Some l → l < BACKEND_LIMIT → candidates < 2 ^ BACKEND_LIMIT → Picks RoundRobin weights s candidates b after → in_mask candidates k ≡ true → (l < k → (l < b) × (b ≤ k)) × (b ≤ l → b ≤ k)
 next_in_turn weights s after candidates l b k e small fits p here =
     let le : steps_to s.last b ≤ steps_to s.last k = ltb-false (steps_to s.last k) (steps_to s.last b) (p.first.none_ahead k here) in
     steps_in_turn l b k small (candidates_below candidates b fits p.first.candidate) (candidates_below candidates k fits here) (rw e at le)
 
 -- and at first it picks the lowest of all
-pub lowest_at_first : (weights : List ℕ) (s after : Standing) (candidates b k : ℕ) → s.last ≡ None → Picks RoundRobin weights s candidates b after → in_mask candidates k ≡ true → b ≤ k
+pub lowest_at_first : (weights : List ℕ) (s after : BalanceState) (candidates b k : ℕ) → s.last ≡ None → Picks RoundRobin weights s candidates b after → in_mask candidates k ≡ true → b ≤ k
 lowest_at_first weights s after candidates b k e p here =
     let le : steps_to s.last b ≤ steps_to s.last k = ltb-false (steps_to s.last k) (steps_to s.last b) (p.first.none_ahead k here) in
     rw e at le
@@ -99,13 +99,13 @@ fraction_less_chain a b c u v w pos p q =
 -- ---- the order of claims
 
 -- of two backends one at most is ahead
-pub ahead_one_way : (policy : Policy) (weights : List ℕ) (s : Standing) (a b : ℕ) → is_ahead policy weights s a b ≡ true → is_ahead policy weights s b a ≡ false
+pub ahead_one_way : (policy : Policy) (weights : List ℕ) (s : BalanceState) (a b : ℕ) → is_ahead policy weights s a b ≡ true → is_ahead policy weights s b a ≡ false
 ahead_one_way RoundRobin weights s a b h = less_one_way (steps_to s.last a) (steps_to s.last b) h
 ahead_one_way Weighted weights s a b h = less_one_way (slice_index s.used a * slice_index weights b) (slice_index s.used b * slice_index weights a) h
 ahead_one_way LeastPending weights s a b h = less_one_way (slice_index s.pending a) (slice_index s.pending b) h
 
 -- a backend that isn't ahead of another, which has a weight and isn't ahead of a third, isn't ahead of the third
-pub ahead_chain : (policy : Policy) (weights : List ℕ) (s : Standing) (a b c : ℕ) → 0 < slice_index weights b → is_ahead policy weights s a b ≡ false → is_ahead policy weights s b c ≡ false → is_ahead policy weights s a c ≡ false
+pub ahead_chain : (policy : Policy) (weights : List ℕ) (s : BalanceState) (a b c : ℕ) → 0 < slice_index weights b → is_ahead policy weights s a b ≡ false → is_ahead policy weights s b c ≡ false → is_ahead policy weights s a c ≡ false
 ahead_chain RoundRobin weights s a b c pos p q = less_chain (steps_to s.last a) (steps_to s.last b) (steps_to s.last c) p q
 ahead_chain Weighted weights s a b c pos p q =
     fraction_less_chain (slice_index s.used a) (slice_index s.used b) (slice_index s.used c) (slice_index weights a) (slice_index weights b) (slice_index weights c) pos p q

@@ -24,11 +24,11 @@ use Rattle.cj_book.specs.Refusals.{refusal_of}
 use Rattle.cj_outside.specs.Causes.{CountsFault}
 use Rattle.cj_state.specs.Effects.{SchedulesAs, core_scheduled, with_core}
 use Rattle.cj_state.specs.Worlds.{CacheFollowsLog, IsSameButLog, WorldState, with_cache, with_log}
-use Rattle.cj_moves.specs.Counting.{is_log_fault, log_faults_after}
+use Rattle.cj_moves.specs.Counting.{answers_log_fault, log_faults_after}
 use Rattle.cj_moves.specs.Proving.ScheduleParts.{CanCountOne, SchedulesUncounted, schedule_given}
 
 -- a request that can be scheduled now can be counted
-pub can_count : (c : Core) (s : ℕ) (r : Request) → not_now c (Schedule s r) ≡ None → (session_at c s).queries < REQUEST_LIMIT → CanCountOne c s
+pub can_count : (c : Core) (s : ℕ) (r : Request) → not_now c (Schedule s r) ≡ None → (session_at c s).requests < REQUEST_LIMIT → CanCountOne c s
 can_count c s r now counts = let can = can_schedule c s r now in record { counts = counts; idle = can.idle; no_read = can.no_read }
 
 module _ (c : Core) (s : ℕ) (r : Request) (a : Act) (is : act_of r ≡ Some a) where
@@ -100,7 +100,7 @@ module _ (c : Core) (s : ℕ) (r : Request) (a : Act) (is : act_of r ≡ Some a)
 abbrev scheduled_or : BookError → Result ℕ BookError
 scheduled_or error = Err error
 
-pub refusal_causes : (error : BookError) (before now : ℕ) → CountsFault (IsErrOf (scheduled_or error) LogFault) before now → now ≡ log_faults_after before (is_log_fault (schedule_given (Err (refusal_of error))))
+pub refusal_causes : (error : BookError) (before now : ℕ) → CountsFault (IsErrOf (scheduled_or error) LogFault) before now → now ≡ log_faults_after before (answers_log_fault (schedule_given (Err (refusal_of error))))
 refusal_causes (InProgress n) before now counts = counts.uncounted (λ is. cc is)
 refusal_causes NoBackend before now counts = counts.uncounted (λ is. cc is)
 refusal_causes (HistoryFull n) before now counts = counts.uncounted (λ is. cc is)

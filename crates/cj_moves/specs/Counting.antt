@@ -57,16 +57,16 @@ abbrev pub HasCauses : WorldState → WorldState → Move → MoveResult → Typ
 HasCauses old new m g = faults_of new.cells ≡ faults_after (faults_of old.cells) (blamed m g)
 
 -- a refusal says that the log's store failed
-abbrev pub is_log_fault : MoveResult → Bool
-is_log_fault (Ok (moved.Refused r)) = r.code == LOG_FAULT
-is_log_fault _ = false
+abbrev pub answers_log_fault : MoveResult → Bool
+answers_log_fault (Ok (moved.Refused r)) = r.code == LOG_FAULT
+answers_log_fault _ = false
 
 -- the move says that the log's store failed, which an entry or a marker is written to
 abbrev pub tells_log_fault : Move → MoveResult → Bool
 tells_log_fault (Open user) g = false
 tells_log_fault (Close s) g = false
-tells_log_fault (Schedule s r) g = is_log_fault g
-tells_log_fault (Abort tx) g = is_log_fault g
+tells_log_fault (Schedule s r) g = answers_log_fault g
+tells_log_fault (Abort tx) g = answers_log_fault g
 tells_log_fault (Apply b) g = false
 tells_log_fault End g = false
 tells_log_fault (Read s b select) g = false
@@ -74,7 +74,7 @@ tells_log_fault (Arm b) g = false
 tells_log_fault (Disable b) g = false
 tells_log_fault (Replay b) g = false
 tells_log_fault (Enable b) g = false
-tells_log_fault (Mark name) g = is_log_fault g
+tells_log_fault (Mark name) g = answers_log_fault g
 tells_log_fault (Dump b name) g = false
 tells_log_fault (Load b name) g = false
 

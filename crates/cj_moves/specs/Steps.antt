@@ -10,11 +10,11 @@ use Rattle.cj_cluster.specs.Moves.Runs.{IsMoveOfCluster}
 abbrev pub CanAsk : Core → Move → Type 0
 CanAsk c (Open user) = Unit {0}
 CanAsk c (Close s) = Unit {0}
-CanAsk c (Schedule s r) = (session_at c s).queries < REQUEST_LIMIT
+CanAsk c (Schedule s r) = (session_at c s).requests < REQUEST_LIMIT
 CanAsk c (Abort tx) = Unit {0}
 CanAsk c (Apply b) = Unit {0}
 CanAsk c End = Unit {0}
-CanAsk c (Read s b select) = (session_at c s).queries < REQUEST_LIMIT
+CanAsk c (Read s b select) = (session_at c s).requests < REQUEST_LIMIT
 CanAsk c (Arm b) = Unit {0}
 CanAsk c (Disable b) = Unit {0}
 CanAsk c (Replay b) = Unit {0}

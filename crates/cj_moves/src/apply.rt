@@ -42,6 +42,6 @@ pub fn apply<B: Backend, S: Store>(state: &mut State<B, S>, b: u8) -> Moved
 {
     Moved::Applied {
         b,
-        did: state.take_open(b),
+        did: state.catch_up_open(b),
     }
 }

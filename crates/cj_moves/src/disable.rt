@@ -31,7 +31,7 @@ pub fn disable<B: Backend, S: Store>(state: &mut State<B, S>, b: u8) -> Moved
     ensures cache { state.new.cache ≡ state.old.cache }
     ensures recovery_log { state.new.recovery_log ≡ state.old.recovery_log }
 {
-    match state.switch_off(b) {
+    match state.disable(b) {
         Ok(()) => Moved::Disabled,
         Err(BookError::HistoryFull(_)) => Moved::Refused(state.history_full()),
         Err(

@@ -35,7 +35,7 @@ pub fn enable<B: Backend, S: Store>(state: &mut State<B, S>, b: u8) -> Moved
     ensures cache { state.new.cache ≡ state.old.cache }
     ensures recovery_log { state.new.recovery_log ≡ state.old.recovery_log }
 {
-    match state.switch_on(b) {
+    match state.enable(b) {
         Ok(()) => Moved::Enabled,
         Err(BookError::HistoryFull(_)) => Moved::Refused(state.history_full()),
         Err(

@@ -44,7 +44,7 @@ pub fn read<B: Backend, S: Store>(
     requires within { b < state.old.core.placement.backends }
     requires now { not_now state.old.core (Move.Read s b select) ≡ None }
     requires written { IsWritten (requests.Select select) }
-    requires counts { (session_at state.old.core s).queries < REQUEST_LIMIT }
+    requires counts { (session_at state.old.core s).requests < REQUEST_LIMIT }
     ensures moves { AttemptsReadOrWaits B.tells state.old.core s b select result state.new.core }
     ensures causes { HasCauses state.old state.new (Move.Read s b select) result }
     ensures logins { HasLogins state.old state.new (Move.Read s b select) result }
@@ -92,7 +92,7 @@ pub fn read<B: Backend, S: Store>(
 
 /// The session's read stays open as it is.
 fn wait<B: Backend, S: Store>(state: &mut State<B, S>, s: u64, select: Select)
-    requires counts { (session_at state.old.core s).queries < REQUEST_LIMIT }
+    requires counts { (session_at state.old.core s).requests < REQUEST_LIMIT }
     requires idle { moves.is_waiting state.old.core s ≡ false }
     ensures { state.new ≡ with_core state.old (with_read state.old.core s (still_reading select (moves.tried_of (session_at state.old.core s).reading))) }
 {
@@ -108,7 +108,7 @@ fn give_answer<B: Backend, S: Store>(
     position: u64,
     answer: Asked,
 ) -> Moved
-    requires counts { (session_at state.old.core s).queries < REQUEST_LIMIT }
+    requires counts { (session_at state.old.core s).requests < REQUEST_LIMIT }
     requires idle { moves.is_waiting state.old.core s ≡ false }
     requires within { position ≤ moves.last_number state.old.core }
     ensures moved { result ≡ answer_given answer }
@@ -130,7 +130,7 @@ fn refuse_or_stay<B: Backend, S: Store>(
     tried: u32,
     serving: u32,
 ) -> Moved
-    requires counts { (session_at state.old.core s).queries < REQUEST_LIMIT }
+    requires counts { (session_at state.old.core s).requests < REQUEST_LIMIT }
     requires idle { moves.is_waiting state.old.core s ≡ false }
     requires since { HaveFailed state.old.core s tried }
     ensures moves { RefusesOrStays state.old.core s select tried serving result state.new.core }
@@ -154,7 +154,7 @@ fn refuse_or_stay<B: Backend, S: Store>(
 
 /// The session's read is refused, since the history of so many events has no room to note a failure.
 fn refuse_unnoted<B: Backend, S: Store>(state: &mut State<B, S>, s: u64, events: u64) -> Moved
-    requires counts { (session_at state.old.core s).queries < REQUEST_LIMIT }
+    requires counts { (session_at state.old.core s).requests < REQUEST_LIMIT }
     requires idle { moves.is_waiting state.old.core s ≡ false }
     ensures moved { result ≡ Moved.Refused (record { code = HISTORY_FULL; a = events; b = 0 }) }
     ensures ok { state.new ≡ with_core state.old (with_read state.old.core s was_answered) }

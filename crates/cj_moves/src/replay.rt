@@ -40,6 +40,6 @@ pub fn replay<B: Backend, S: Store>(state: &mut State<B, S>, b: u8) -> Moved
     let number = state.next_of(b);
     Moved::Replayed {
         number,
-        did: state.take_next(b),
+        did: state.catch_up_next(b),
     }
 }

@@ -64,7 +64,7 @@ fn schedule_uncounted<B: Backend, S: Store>(
 ) -> Result<u64, Option<Refusal>>
     requires written { IsWritten request }
     requires for_log { IsForLog request }
-    requires counts { (session_at state.old.core s).queries < REQUEST_LIMIT }
+    requires counts { (session_at state.old.core s).requests < REQUEST_LIMIT }
     requires now { not_now state.old.core (Move.Schedule s request) ≡ None }
     ensures moves { SchedulesUncounted state.old.core s request result state.new.core }
     ensures log_causes { HasLogCauses state.old state.new (Move.Schedule s request) (schedule_given result) }
@@ -92,7 +92,7 @@ pub fn schedule<B: Backend, S: Store>(
 ) -> Result<Moved, MoveError>
     requires written { IsWritten request }
     requires for_log { IsForLog request }
-    requires counts { (session_at state.old.core s).queries < REQUEST_LIMIT }
+    requires counts { (session_at state.old.core s).requests < REQUEST_LIMIT }
     requires now { not_now state.old.core (Move.Schedule s request) ≡ None }
     ensures moves { SchedulesRequest state.old.core s request result state.new.core }
     ensures log_causes { HasLogCauses state.old state.new (Move.Schedule s request) result }

@@ -13,7 +13,7 @@ pub record IsPlaceOf (sessions : List OpenSession) (number place : ℕ) : Type 0
 
 -- the session of this number, where it is open, can make one request more
 abbrev pub CanCountOne : List OpenSession → ℕ → Type 0
-CanCountOne sessions number = IfSome (find_session sessions number) (λ x. x.queries < REQUEST_LIMIT)
+CanCountOne sessions number = IfSome (find_session sessions number) (λ x. x.requests < REQUEST_LIMIT)
 
 -- the sessions rise in number, and there is room for as many as there can be
 pub record KeepsRoom (sessions : List OpenSession) (capacity : ℕ) : Type 0 where

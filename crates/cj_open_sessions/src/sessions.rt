@@ -37,31 +37,31 @@ impl Model for Sessions {
 
 /// The number of the session's open read, or of the next request.
 pub fn read_number(session: &OpenSession) -> u64
-    requires { session.now.queries < REQUEST_LIMIT }
+    requires { session.now.requests < REQUEST_LIMIT }
     ensures { result ≡ moves.read_number session.now }
 {
     if session.reading.is_some() {
-        session.queries
+        session.requests
     } else {
-        session.queries + 1
+        session.requests + 1
     }
 }
 
 /// Closes the session's read.
 fn close_read(session: &mut OpenSession)
-    requires { session.old.queries < REQUEST_LIMIT }
+    requires { session.old.requests < REQUEST_LIMIT }
     ensures { session.new ≡ moves.was_answered session.old }
 {
-    session.queries = read_number(session);
+    session.requests = read_number(session);
     session.reading = None;
 }
 
 /// Keeps the session's read open.
 fn put_read(session: &mut OpenSession, select: Select, tried: u32)
-    requires { session.old.queries < REQUEST_LIMIT }
+    requires { session.old.requests < REQUEST_LIMIT }
     ensures { session.new ≡ moves.still_reading select tried session.old }
 {
-    session.queries = read_number(session);
+    session.requests = read_number(session);
     session.reading = Some(OpenRead { select, tried });
 }
 
@@ -111,7 +111,7 @@ impl Sessions {
         self.open.push_reserved(OpenSession {
             number,
             user,
-            queries: 0,
+            requests: 0,
             least: 0,
             reading: None,
         });
@@ -132,7 +132,7 @@ impl Sessions {
     {
         if let Some(place) = self.place_of(number) {
             let session = &mut self.open[place];
-            session.queries += 1;
+            session.requests += 1;
         }
     }
 

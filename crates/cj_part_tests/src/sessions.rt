@@ -16,7 +16,7 @@ use std::test::Fail;
 #[derive(Drop)]
 struct StarvedDesk {
     user: Text,
-    queries: u64,
+    requests: u64,
 }
 
 fn starved() -> Reply
@@ -28,9 +28,9 @@ fn starved() -> Reply
 impl<R> Desk<R> for StarvedDesk {
     ghost tells = { true };
 
-    ghost state_of = { λ desk. starved_desk desk.user desk.queries };
+    ghost state_of = { λ desk. starved_desk desk.user desk.requests };
 
-    ghost leads_to = { λ a x z. DeskSteps true (starved_desk a.user a.queries) x (starved_desk z.user z.queries) };
+    ghost leads_to = { λ a x z. DeskSteps true (starved_desk a.user a.requests) x (starved_desk z.user z.requests) };
 
     ghost promised = { λ a z x h. h };
 
@@ -40,7 +40,7 @@ impl<R> Desk<R> for StarvedDesk {
 
     #[tactic(auto, using(crate::proofs::StarvedTurns::starved_write))]
     fn write(&mut self, _rt: &R, _user: &Text, _tx: u64, _act: Act) -> Written {
-        self.queries += 1;
+        self.requests += 1;
         Written {
             number: 0,
             reply: starved(),
@@ -49,12 +49,12 @@ impl<R> Desk<R> for StarvedDesk {
 
     #[tactic(auto, using(crate::proofs::StarvedTurns::starved_read))]
     fn read(&mut self, _rt: &R, _user: &Text, _tx: u64, _select: &Select) -> Reply {
-        self.queries += 1;
+        self.requests += 1;
         starved()
     }
 
     fn skip(&mut self) {
-        self.queries += 1;
+        self.requests += 1;
     }
 
     fn stats(&mut self, _rt: &R) -> (u64, u64) {

@@ -8,7 +8,7 @@ pub use Rattle.cj_model.specs.Database.Order.{SortKey, at_most, by_sort_key, by_
 pub use Rattle.cj_model.specs.Database.Queries.{answer_of, answer_over, answer_row, asked_by, columns_named, first_row, gathered, groups_answered, has_aggregate, has_bad_columns, is_sum_out_of_range, item_value, items_listed, names_answered, rows_with, sort_key_of, sums_text, tables_seen}
 pub use Rattle.cj_model.specs.Database.Scopes.{Scope, column_place, is_unknown_column, predicate_of, scope_of, where_has_unknown_column, where_mixes_kinds}
 pub use Rattle.cj_model.specs.Database.Tables.{IsTable, Rises, by_key, cell, slot_of}
-pub use Rattle.cj_rows.proofs.Common.{row_with_key, tied_itself, value_cmp, value_exact, value_total}
+pub use Rattle.cj_rowstore.proofs.Common.{row_with_key, tied_itself, value_cmp, value_exact, value_total}
 pub use Rattle.cj_model.specs.declared.answer.Asked.{Asked}
 pub use Rattle.cj_model.specs.declared.answer.Asked.TheVariants.{Refused, Rows}
 pub use Rattle.cj_model.specs.declared.answer.Refusal.{Refusal}

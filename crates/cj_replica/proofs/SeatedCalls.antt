@@ -11,7 +11,7 @@ use Rattle.cj_model.specs.Cluster.Placements.{part}
 use Rattle.cj_model.specs.Sql.PlainRequests.{request_of}
 use Rattle.cj_model.specs.Sql.WrittenRequests.{IsWritten}
 use Rattle.cj_cluster.specs.declared.event.Event.{Event}
-use Rattle.cj_cluster.specs.History.Histories.{database_after, is_enabled, is_idle, log}
+use Rattle.cj_cluster.specs.History.Histories.{database_after, is_enabled, is_free, log}
 use Rattle.cj_cluster.specs.History.Legality.{IsLegal}
 use Rattle.cj_cluster.specs.Proving.Invariants.{HasBegunDrafts, HoldsPart}
 use Rattle.cj_cluster.proofs.Pushed.{log-prefix, prefix_length}
@@ -151,7 +151,7 @@ module _ (tells : Bool) (x : CellState) (id : TableId) (v : SeatView) (f : ℕ) 
       (outcome_logged tells x.placement x.b (log v.front) (legal_fit v.front is.legal) s.0 e there x y given r taken refl refl s.1 is.holds is.drafts on)
 
 -- the board says where the word of its position stands, which is its position: that of a backend that is out is past every log
-pub stands_seen : (b : ℕ) (q : Option ℕ) (v : SeatView) → v.role ≡ Cell b (word_of_position q) → IsLegal v.front → StandsAtEnd b (role_position v.role) v.front v.front → (m : List Event) → IsPrefix m v.front → is_idle m ≡ true → is_enabled m b ≡ true
+pub stands_seen : (b : ℕ) (q : Option ℕ) (v : SeatView) → v.role ≡ Cell b (word_of_position q) → IsLegal v.front → StandsAtEnd b (role_position v.role) v.front v.front → (m : List Event) → IsPrefix m v.front → is_free m ≡ true → is_enabled m b ≡ true
     → (q ≡ Some (length (log m))) ⊎ (length (log m) < length (log v.front))
 stands_seen b q v role legal stands m begins idle on =
     ⊎_elim (λ (at : role_position v.role ≡ length (log m)). inl (placed q (sym (ap role_position role) ∙ at))) (λ (later : length (log m) < length (log v.front)). inr later) (stands m begins idle on)

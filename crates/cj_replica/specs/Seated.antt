@@ -6,7 +6,7 @@ use Rattle.std.specs.declared.result.Result.{Result}
 use Rattle.std.specs.declared.result.Result.TheVariants.{Ok, Err}
 use Rattle.atomic_table.specs.Seated.{TableId}
 use Rattle.cj_cluster.specs.declared.event.Event.{Event}
-use Rattle.cj_cluster.specs.History.Histories.{is_enabled, is_idle, log}
+use Rattle.cj_cluster.specs.History.Histories.{is_enabled, is_free, log}
 use Rattle.cj_cluster.specs.History.Legality.{IsLegal}
 use Rattle.cj_cluster.specs.Proving.Invariants.{HasBegunDrafts, HoldsPart}
 use Rattle.cj_board.specs.declared.view.SeatView.{SeatView}
@@ -45,7 +45,7 @@ HasBackend board b = 2 * b + 1 < board.words
 
 -- Wherever the history that the seat has seen was idle with the backend enabled, the replica stands at the end of the log of that moment, or the seat has seen a longer log.
 abbrev pub StandsWhereEnabled : SeatedCell → Type 0
-StandsWhereEnabled c = (m : List Event) → IsPrefix m c.view.front → is_idle m ≡ true → is_enabled m c.state.b ≡ true → (c.state.position ≡ Some (length (log m))) ⊎ (length (log m) < length (log c.view.front))
+StandsWhereEnabled c = (m : List Event) → IsPrefix m c.view.front → is_free m ≡ true → is_enabled m c.state.b ≡ true → (c.state.position ≡ Some (length (log m))) ⊎ (length (log m) < length (log c.view.front))
 
 -- it is at the same board, and its backend's faults are counted from the same number
 pub record IsSameSeat (before after : SeatedCell) : Type 0 where

@@ -121,7 +121,7 @@ module _ (tells armable : Bool) (names : List (List ℕ)) (c : WorldState) (worl
   in_turns left left' held held' taken lines rest written count z consumed lie plays few appended =
       let q = steps_of tells armable names c lines written z plays in
       let same = moves_length names (filled lines) q.steps q.are in
-      let once : CanCountRequests c.core (length (moves_in q.steps)) = λ s. (let room = can s in let le : (session_at c.core s).queries + length (moves_in q.steps) ≤ 2 ^ 62 = omega arith in le) in
+      let once : CanCountRequests c.core (length (moves_in q.steps)) = λ s. (let room = can s in let le : (session_at c.core s).requests + length (moves_in q.steps) ≤ 2 ^ 62 = omega arith in le) in
       record {
         taken = taken;
         lines = lines;

@@ -9,7 +9,7 @@ use Rattle.cj_outside.specs.Streams.{most}
 use Rattle.cj_cluster.specs.declared.moves.Move.{Move}
 use Rattle.cj_cluster.specs.declared.moves.Made.{Made}
 use Rattle.cj_cluster.specs.declared.moves.Reason.TheVariants.{EntryOpen}
-use Rattle.cj_cluster.specs.History.Histories.{is_idle, is_enabled}
+use Rattle.cj_cluster.specs.History.Histories.{is_free, is_enabled}
 use Rattle.cj_cluster.specs.History.Turns.{SessionView}
 use Rattle.cj_cluster.specs.Moves.Cores.{Core}
 use Rattle.cj_cluster.specs.Moves.Moves.{MoveResult, MovesTo, last_number}
@@ -49,7 +49,7 @@ audit_line = codes "audit"
 
 -- An entry is open: nothing is done, and its number is given.
 pub record AuditsLater (c : WorldState) (written : List ℕ) (z : WorldState) : Type 0 where
-  pub runs : is_idle c.core.history ≡ false
+  pub runs : is_free c.core.history ≡ false
   pub same : z ≡ c
   pub gives : written ≡ with_line_feed (not_now_text (record { reason = EntryOpen; value = last_number c.core }))
 
@@ -60,7 +60,7 @@ GivesAudit tells names c (Some b) written = (is_enabled c.history b ≡ true) ×
 
 -- No entry is open: the enabled backends are asked what they hold, until one fails, which it counts. No login is used, no backend is armed, and where none fails nothing is done.
 pub record AuditsNow (tells : Bool) (names : List (List ℕ)) (c : WorldState) (failed : Option ℕ) (written : List ℕ) (z : WorldState) : Type 0 where
-  pub idle : is_idle c.core.history ≡ true
+  pub idle : is_free c.core.history ≡ true
   pub core : z.core ≡ c.core
   pub faults : faults_of z.cells ≡ faults_after (faults_of c.cells) failed
   pub logins : logins_of z.cells ≡ logins_of c.cells

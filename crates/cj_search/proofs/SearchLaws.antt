@@ -1,6 +1,6 @@
 -- The rows that a walk leaves out do not meet the condition.
 use Rattle.std.proofs.Common.{◌≡◌, ℕ, ◌+◌, ◌≤◌, Bool, true, false, cond, Ordering, Less, Equal, Greater, List, [], ◌∷◌, ◌++◌, length, refl, ap, sym, subst, ◌∙◌, ⊎_elim, arith, append_assoc}
-use Rattle.cj_rows.proofs.Common.{All, Rises, by_key, cell, filter, row_with_key, rows_from, tied_itself, value_cmp, value_total}
+use Rattle.cj_rowstore.proofs.Common.{All, Rises, by_key, cell, filter, row_with_key, rows_from, tied_itself, value_cmp, value_total}
 use Rattle.std.specs.Ordering.{is_eq, is_gt, is_le}
 use Rattle.std.specs.Prelude.{option_to_list}
 use Rattle.std.proofs.lemmas.Bool.{cases_Bool, cond-true, cond-false, false_from_ne_true}
@@ -13,7 +13,7 @@ use Rattle.cj_model.specs.Database.Evaluation.{satisfies}
 use Rattle.cj_expr.specs.declared.reach.Reach.{Reach}
 use Rattle.cj_expr.specs.Reaches.{ReachesRows, is_reached}
 use Rattle.cj_expr.proofs.ReachLaws.{le_trans}
-use Rattle.cj_rows.specs.Lookups.{IsKeyOf}
+use Rattle.cj_rowstore.specs.Lookups.{IsKeyOf}
 use Rattle.cj_search.specs.declared.matching.Search.{Search}
 use Rattle.cj_search.specs.Searches.{GoesOn, IsAtRow}
 

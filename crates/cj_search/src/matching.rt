@@ -7,12 +7,12 @@ ghost use Rattle.std.specs.Map.Iter.{deref};
 ghost use Rattle.cj_model.specs.Database.Evaluation as evaluation;
 ghost use Rattle.cj_model.specs.Database.Tables.{cell};
 ghost use Rattle.cj_model.specs.Database.Values.{value_cmp};
-ghost use Rattle.cj_rows.specs.Lookups.{IsKeyOf, row_with_key};
+ghost use Rattle.cj_rowstore.specs.Lookups.{IsKeyOf, row_with_key};
 ghost use Rattle.cj_search.specs.Searches as searches;
 
 use cj_expr::{Predicate, Reach};
 use cj_model::{NoMemory, Value};
-use cj_rows::{Scan, View};
+use cj_rowstore::{Scan, View};
 use std::alloc::Global;
 use std::marker::Model;
 
@@ -62,7 +62,7 @@ pub struct Matching<'v, 'a> {
 }
 
 impl<'v, 'a> Model for Matching<'v, 'a> {
-    ghost use Rattle.cj_rows.specs.RowEntries.{Rows};
+    ghost use Rattle.cj_rowstore.specs.RowEntries.{Rows};
     ghost use Rattle.cj_model.specs.Database.Values.{value_cmp};
     ghost use Rattle.cj_search.specs.Searches.{IsWay, rows_left};
 

@@ -160,7 +160,7 @@ serves_to_end_then w p q left held ending z a b =
 -- a message more has its reply
 pub answered : {S D : Type 0} (w : SessionSetting S D) (p q : SessionPoint S D) (m : Message) (r : Reply)
     → p.rest ≡ frame m ++ q.rest → IsFramed m → is_quit m ≡ false → q.left ≡ p.left → q.count ≡ p.count → p.count ≤ most
-    → (w.state_of q.client.desk).queries ≤ (w.state_of p.client.desk).queries + 1
+    → (w.state_of q.client.desk).requests ≤ (w.state_of p.client.desk).requests + 1
     → MessageExchange w p.client m r q.client → Appends p.held q.held (reply_bytes r) → ServesUpTo w p q
 answered w p q m r is framed goes_on left count few queries exchange wrote =
     record {
@@ -185,7 +185,7 @@ took {S} {D} w p q piece t unmoved held =
       few = t.few;
       wrote = subst (λ (x : Option (List ℕ)). Appends p.held x []) (sym held) (appends_none p.held);
       so_far = record { messages = []; whole = sym t.holds; each = tt; no_quit = refl; exchanges = unmoved };
-      paid = omega (arith, ap (λ (x : ClientState S D). (w.state_of x.desk).queries) unmoved, ap length t.holds, length-append p.rest piece);
+      paid = omega (arith, ap (λ (x : ClientState S D). (w.state_of x.desk).requests) unmoved, ap length t.holds, length-append p.rest piece);
     }
 
 -- ---- the end

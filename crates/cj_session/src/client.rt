@@ -108,11 +108,11 @@ impl Client {
         text: &[u8],
     ) -> Reply
         requires at { IsClientAt self.old.user self.old.tx (K.state_of desk.old) }
-        requires room { (K.state_of desk.old).queries < REQUEST_LIMIT }
+        requires room { (K.state_of desk.old).requests < REQUEST_LIMIT }
         ensures answers { AnswersQuery (setting K.state_of K.leads_to D.drawn D.later (C.moment clock.now)) self.old.user
             (client_state self.old.user desk.old draw.old) text.now result (client_state self.new.user desk.new draw.new) }
         ensures at { IsClientAt self.new.user self.new.tx (K.state_of desk.new) }
-        ensures queries { (K.state_of desk.new).queries ≤ (K.state_of desk.old).queries + 1 }
+        ensures queries { (K.state_of desk.new).requests ≤ (K.state_of desk.old).requests + 1 }
         ensures sendable { IsSendable result }
     {
         let Some(user) = &self.user else {
@@ -143,12 +143,12 @@ impl Client {
         message: Message,
     ) -> Reply
         requires at { IsClientAt self.old.user self.old.tx (K.state_of desk.old) }
-        requires room { (K.state_of desk.old).queries < REQUEST_LIMIT }
+        requires room { (K.state_of desk.old).requests < REQUEST_LIMIT }
         requires goes_on { sessions.is_quit message ≡ false }
         ensures answers { AnswersMessage (setting K.state_of K.leads_to D.drawn D.later (C.moment clock.now))
             (client_state self.old.user desk.old draw.old) message result (client_state self.new.user desk.new draw.new) }
         ensures at { IsClientAt self.new.user self.new.tx (K.state_of desk.new) }
-        ensures queries { (K.state_of desk.new).queries ≤ (K.state_of desk.old).queries + 1 }
+        ensures queries { (K.state_of desk.new).requests ≤ (K.state_of desk.old).requests + 1 }
         ensures sendable { IsSendable result }
     {
         match message {
@@ -173,12 +173,12 @@ impl Client {
         message: Message,
     ) -> Result<(), OutError>
         requires at { IsClientAt self.old.user self.old.tx (K.state_of desk.old) }
-        requires room { (K.state_of desk.old).queries < REQUEST_LIMIT }
+        requires room { (K.state_of desk.old).requests < REQUEST_LIMIT }
         requires goes_on { sessions.is_quit message ≡ false }
         ensures exchanged { ExchangesMessage (setting K.state_of K.leads_to D.drawn D.later (C.moment clock.now)) (O.held output.old) (O.held output.new)
             (client_state self.old.user desk.old draw.old) message (client_state self.new.user desk.new draw.new) result }
         ensures at { IsClientAt self.new.user self.new.tx (K.state_of desk.new) }
-        ensures queries { (K.state_of desk.new).queries ≤ (K.state_of desk.old).queries + 1 }
+        ensures queries { (K.state_of desk.new).requests ≤ (K.state_of desk.old).requests + 1 }
         ensures cause { CountsFault (IsErrOf result OutError.Failed) (O.faults output.old) (O.faults output.new) }
     {
         let reply = self.answer(rt, alloc, desk, clock, draw, message);
@@ -188,7 +188,7 @@ impl Client {
     /// Rolls back what is open.
     pub fn leave<R, K: Desk<R>>(&self, rt: &R, desk: &mut K)
         requires at { IsClientAt self.now.user self.now.tx (K.state_of desk.old) }
-        requires room { (K.state_of desk.old).queries < REQUEST_LIMIT }
+        requires room { (K.state_of desk.old).requests < REQUEST_LIMIT }
         ensures { LeavesDesk K.state_of K.leads_to self.now.user desk.old desk.new }
     {
         if self.tx == 0 {

@@ -89,7 +89,7 @@ impl Session {
         draw: &mut D,
     ) -> Option<SessionEnd>
         requires at { IsClientAt self.old.client.user self.old.client.tx (K.state_of desk.old) }
-        requires room { (K.state_of desk.old).queries < REQUEST_LIMIT }
+        requires room { (K.state_of desk.old).requests < REQUEST_LIMIT }
         requires few { self.old.taken ≤ most }
         ensures goes { MatchOption result
             (ServesUpTo (setting K.state_of K.leads_to D.drawn D.later (C.moment clock.now))
@@ -99,7 +99,7 @@ impl Session {
             (point (I.left input.old) (O.held output.old) (client_state self.old.client.user desk.old draw.old) self.old.feed self.old.taken)
             (I.left input.new) (O.held output.new) ending (client_state self.new.client.user desk.new draw.new)) }
         ensures at { IsClientAt self.new.client.user self.new.client.tx (K.state_of desk.new) }
-        ensures queries { (K.state_of desk.new).queries ≤ (K.state_of desk.old).queries + 1 }
+        ensures queries { (K.state_of desk.new).requests ≤ (K.state_of desk.old).requests + 1 }
         ensures smaller { IfNone result (2 * (most - self.new.taken) + length self.new.feed < 2 * (most - self.old.taken) + length self.old.feed) }
         ensures input { CountsFault (result ≡ Some SessionEnd.ReadFault) (I.faults input.old) (I.faults input.new) }
         ensures output { CountsFault (result ≡ Some SessionEnd.WriteFault) (O.faults output.old) (O.faults output.new) }
@@ -138,12 +138,12 @@ impl Session {
         requires at { IsClientAt self.old.client.user self.old.client.tx (K.state_of desk.old) }
         requires nothing_held { self.old.feed ≡ [] }
         requires nothing_taken { self.old.taken ≡ 0 }
-        requires few { (K.state_of desk.old).queries ≤ 2 ^ 61 }
+        requires few { (K.state_of desk.old).requests ≤ 2 ^ 61 }
         ensures served { ServesToEnd (setting K.state_of K.leads_to D.drawn D.later (C.moment clock.now))
             (point (I.left input.old) (O.held output.old) (client_state self.old.client.user desk.old draw.old) self.old.feed self.old.taken)
             (I.left input.new) (O.held output.new) result (client_state self.new.client.user desk.new draw.new) }
         ensures at { IsClientAt self.new.client.user self.new.client.tx (K.state_of desk.new) }
-        ensures room { (K.state_of desk.new).queries < REQUEST_LIMIT }
+        ensures room { (K.state_of desk.new).requests < REQUEST_LIMIT }
         ensures input { CountsFault (result ≡ SessionEnd.ReadFault) (I.faults input.old) (I.faults input.new) }
         ensures output { CountsFault (result ≡ SessionEnd.WriteFault) (O.faults output.old) (O.faults output.new) }
     {
@@ -167,7 +167,7 @@ pub fn serve_session<R, K: Desk<R>, I: Source, O: Sink, C: Clock, D: Draw>(
     clock: &C,
     draw: &mut D,
 ) -> SessionEnd
-    requires few { (K.state_of desk.old).queries ≤ 2 ^ 61 }
+    requires few { (K.state_of desk.old).requests ≤ 2 ^ 61 }
     requires closed { desk_tx (K.state_of desk.old) ≡ 0 }
     ensures served { ServesSession (setting K.state_of K.leads_to D.drawn D.later (C.moment clock.now)) (I.left input.old) (I.left input.new) (O.held output.old) (O.held output.new)
         (client_state None desk.old draw.old) result desk.new draw.new }

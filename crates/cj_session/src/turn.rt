@@ -38,7 +38,7 @@ pub fn turn<R, K: Desk<R>, C: Clock, D: Draw>(
     tx: u64,
     request: Request,
 ) -> (u64, Reply)
-    requires room { (K.state_of desk.old).queries < REQUEST_LIMIT }
+    requires room { (K.state_of desk.old).requests < REQUEST_LIMIT }
     requires short { length user.now ≤ USER_LIMIT }
     requires text { IsReadFromText request }
     requires tx { tx ≡ desk_tx (K.state_of desk.old) }

@@ -1,6 +1,6 @@
 -- The cells of a world: where they stand, what they hold of a log that grew, and how one of them is changed.
 use Rattle.std.proofs.Common.{◌≡◌, ℕ, ◌<◌, ◌≤◌, Bool, true, List, [], ◌∷◌, ◌++◌, length, map, get_or, set, Option, None, Some, IfSome, refl, ap, sym, ◌∙◌, subst, arith, ⊎_elim}
-use Rattle.cj_state.proofs.Common.{AreBetween, BackendStands, cases_eq, CellState, Core, CoreInvariant, ended_count, Entry, eqb-true, Event, get_or-map, get_or-set_other, get_or-set_same, is_enabled, is_idle, IsCell, IsWorld, last_number, length-set, log, OpenSession, Placement, position_at, TakenDump, WorldState}
+use Rattle.cj_state.proofs.Common.{AreBetween, BackendStands, cases_eq, CellState, Core, CoreInvariant, ended_count, Entry, eqb-true, Event, get_or-map, get_or-set_other, get_or-set_same, is_enabled, is_free, IsCell, IsWorld, last_number, length-set, log, OpenSession, Placement, position_at, TakenDump, WorldState}
 use Rattle.cj_cluster.proofs.Effects.{stands_there, no_masks}
 use Rattle.cj_replica.proofs.HeldParts.{drafts_longer, holds_longer}
 
@@ -39,7 +39,7 @@ pub position_within : (c : Core) → CoreInvariant c → (b p : ℕ) → positio
 position_within c w b p is = (stands_there c b p w is).0
 
 -- while no entry is open, an enabled backend stands at the log's end
-module _ (c : Core) (w : CoreInvariant c) (idle : is_idle c.history ≡ true) (b : ℕ) (on : is_enabled c.history b ≡ true) where
+module _ (c : Core) (w : CoreInvariant c) (idle : is_free c.history ≡ true) (b : ℕ) (on : is_enabled c.history b ≡ true) where
   stands_at : (p : Option ℕ) → p ≡ position_at c b → BackendStands c.history c.failed c.starved b p → position_at c b ≡ Some (last_number c)
   stands_at None is stands = absurd (no_masks c w idle b (stands on))
   stands_at (Some p) is stands =

@@ -11,8 +11,8 @@ pub use Rattle.cj_cluster.specs.Moves.Moves.{has_no_number}
 pub use Rattle.cj_cluster.specs.declared.moves.Move.TheVariants.{Apply, Replay}
 pub use Rattle.cj_cluster.specs.declared.moves.Moved.TheVariants.{Applied, Replayed}
 pub use Rattle.cj_dump.specs.Dumps.{IsDump}
-pub use Rattle.cj_freshness.proofs.Fresh.{fresh_now}
-pub use Rattle.cj_freshness.specs.Freshness.{IsAnswerAt, NoneTouches}
+pub use Rattle.cj_cluster.proofs.FreshAnswers.{fresh_now}
+pub use Rattle.cj_cluster.specs.History.Freshness.{IsAnswerAt, NoneTouches}
 pub use Rattle.cj_model.proofs.CachingLaws.{all_looked, all_put}
 pub use Rattle.cj_model.specs.Cluster.Balancing.{one_less}
 pub use Rattle.cj_model.proofs.MaskBits.{has_cleared}
@@ -29,7 +29,7 @@ pub use Rattle.cj_state.proofs.Asking.{answers, errs, noted_core, noted_fault, n
 pub use Rattle.cj_state.proofs.Catching.{can_take, took}
 pub use Rattle.cj_state.proofs.CellsKept.{at_log_end, position_of}
 pub use Rattle.cj_state.proofs.ChangedCell.{caused_faults, changed_armings, changed_faults, changed_logins, changed_under, has_cell, kept_asked, same_core, world_stays, changed_asks, changed_others}
-pub use Rattle.cj_state.proofs.Common.{All-nil, Applies, Asked, BookError, BookState, Caught, CellError, CellReadError, CellState, Contains, Contains-append_left, Core, CoreInvariant, Disabled, Dump, Enabled, Ended, Entry, Event, FollowsLog, HadLoggedRoom, HadRoom, HaveFailed, IsDumpOf, IsFitEntry, IsFreshAnswer, IsHeld, IsPrefix, IsSoundDump, KeptFresh, Layout, Load, LogFailed, Marker, Notes, ReadFailed, Replays, Sched, SchedulesAs, SeatView, SeatedCell, SpendsAtMostOne, TakenDump, Tally, TookEntry, USER_LIMIT, WorldState, abort_entry, after_fault, and_le_l, arming_after, board_id, both_ways, can_load, cases_eq, cases_lt, core_of, cut, database_after, did_of, eq-eqb, event_at_ok, event_or_fault, failed_contents, fault_tokens_of, faults_after, faults_of, find_dump, find_session, first_lagging, first_of, get_or-set_same, get_or_default, has_marker, has_session, hosts_beyond, in_mask, is_asked, is_candidate, is_enabled, is_idle, is_name, is_open, is_orphan, is_there, is_waiting, last_number, length-map, length-set, log, login_of, not_now, open_tx, option_copied, part, pass_board, pass_view, placement_of, position_at, position_in, position_or_zero, session_at, session_sound, slice_get-get_or, slice_get_cases, states_of, taken_of, tokens-append, tx_of_act, with_event, world_of}
+pub use Rattle.cj_state.proofs.Common.{All-nil, Applies, Asked, BookError, BookState, Caught, CellError, CellReadError, CellState, Contains, Contains-append_left, Core, CoreInvariant, Disabled, Dump, Enabled, Ended, Entry, Event, FollowsLog, HadLoggedRoom, HadRoom, HaveFailed, IsDumpOf, IsFitEntry, IsFreshAnswer, IsHeld, IsPrefix, IsSoundDump, KeptFresh, Layout, Load, LogFailed, Marker, Notes, ReadFailed, Replays, Sched, SchedulesAs, SeatView, SeatedCell, SpendsAtMostOne, TakenDump, Tally, TookEntry, USER_LIMIT, WorldState, abort_entry, after_fault, and_le_l, arming_after, board_id, both_ways, can_load, cases_eq, cases_lt, core_of, cut, database_after, did_of, eq-eqb, event_at_ok, event_or_fault, failed_contents, fault_tokens_of, faults_after, faults_of, find_dump, find_session, first_lagging, first_of, get_or-set_same, get_or_default, has_marker, has_session, hosts_beyond, in_mask, is_asked, is_candidate, is_enabled, is_free, is_name, is_open, is_orphan, is_there, is_waiting, last_number, length-map, length-set, log, login_of, not_now, open_tx, option_copied, part, pass_board, pass_view, placement_of, position_at, position_in, position_or_zero, session_at, session_sound, slice_get-get_or, slice_get_cases, states_of, taken_of, tokens-append, tx_of_act, with_event, world_of}
 pub use Rattle.cj_state.proofs.Contents.{contents_same}
 pub use Rattle.cj_state.proofs.Counted.{armed_times, spent_times}
 pub use Rattle.cj_state.proofs.Dumped.{cut_holds, dumps_entry, dumps_event, dumps_push, first_all, first_taken, kept_dumped, taken_all}
@@ -49,7 +49,7 @@ pub use Rattle.cj_state.specs.ArmedCells.{armed_at}
 pub use Rattle.cj_state.specs.Asking.{read_over}
 pub use Rattle.cj_state.specs.CalledLogins.{LogsInToAsk, asked_for, logins_of}
 pub use Rattle.cj_state.specs.Effects.{AnswersOpen}
-pub use Rattle.cj_state.specs.Proving.Seated.{AreAt, HasHeard, KnowsPositions}
+pub use Rattle.cj_state.specs.Proving.Seated.{AreAt, HasLearned, KnowsPositions}
 pub use Rattle.cj_state.specs.Worlds.{IsWorld, accounts_of, log_view, with_balance, with_cache, with_log}
 pub use Rattle.cj_state.specs.declared.cells.AskError.TheVariants.{Unnoted}
 pub use Rattle.std.specs.Prelude.{IfOk, IfSome}

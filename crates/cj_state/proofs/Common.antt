@@ -17,7 +17,7 @@ pub use Rattle.cj_book.proofs.Common.{HasServer, IsFitEntry, Layout, has-zero, i
 pub use Rattle.cj_cluster.proofs.Sessions.{without}
 pub use Rattle.cj_cluster.proofs.Soundness.{session_sound}
 pub use Rattle.cj_cluster.proofs.Standing.{stand_rest}
-pub use Rattle.cj_cluster.specs.History.Histories.{database_after, ended_count, entry_in_progress, events_left, has_marker, is_enabled, is_idle, log, outcome_of, scheduled_entry}
+pub use Rattle.cj_cluster.specs.History.Histories.{database_after, ended_count, open_entry_of, events_left, has_marker, is_enabled, is_free, log, outcome_of, scheduled_entry}
 pub use Rattle.cj_cluster.specs.History.Transactions.{takes_part}
 pub use Rattle.cj_cluster.specs.Moves.Cores.{Core, find_dump, find_session, hosts_beyond, is_entry_of, new_session, position_at, session_at, with_session}
 pub use Rattle.cj_cluster.specs.Moves.Moves.{Applies, DoesWithEntry, Replays, Stance, abort_entry, entry_numbered, failed_after, first_lagging, is_open, is_orphan, is_waiting, last_number, not_now, open_tx, position_or_zero, tx_of_act, with_stance}
@@ -31,7 +31,7 @@ pub use Rattle.cj_cluster.specs.declared.moves.OpenSession.{OpenSession}
 pub use Rattle.cj_cluster.specs.declared.moves.TakenDump.{TakenDump}
 pub use Rattle.cj_dump.specs.Coverage.{cut}
 pub use Rattle.cj_dump.specs.declared.dump.Dump.{Dump}
-pub use Rattle.cj_freshness.specs.Freshness.{FollowsLog, IsFreshAnswer}
+pub use Rattle.cj_cluster.specs.History.Freshness.{FollowsLog, IsFreshAnswer}
 pub use Rattle.cj_model.specs.Cluster.Balancing.{Balance}
 pub use Rattle.cj_model.specs.Cluster.Caching.{CacheState}
 pub use Rattle.cj_model.specs.Cluster.Placements.{Placement, hosts_all, part}

@@ -1,14 +1,14 @@
 -- What an end answers.
 use Rattle.std.proofs.Common.{◌≡◌, ◌⊎◌, inl, inr, ℕ, ◌≤◌, ◌&&◌, Bool, true, List, [], ◌∷◌, ◌++◌, length, map, Option, None, Some, refl, ap, sym, ◌∙◌, arith}
 use Rattle.std.proofs.lemmas.Bool.{and_parts}
-use Rattle.cj_state.proofs.Common.{BackendStands, behind_none, CellState, core_of, Dump, Ended, ended_count, Entry, entry_in_progress, Event, first_lagging, in_mask, is_enabled, Kept, Layout, log, OpenSession, placement_of, position_at, Register, Tally, world_of}
+use Rattle.cj_state.proofs.Common.{BackendStands, behind_none, CellState, core_of, Dump, Ended, ended_count, Entry, open_entry_of, Event, first_lagging, in_mask, is_enabled, Kept, Layout, log, OpenSession, placement_of, position_at, Register, Tally, world_of}
 use Rattle.cj_model.specs.declared.answer.Reply.{Reply}
 use Rattle.cj_book.proofs.Common.{concerns, is_target_at}
 use Rattle.cj_cluster.specs.History.Answering.{IsTarget, AnswersEntry}
 use Rattle.cj_tally.specs.Tallies.{AnswersByTally, AreTargets, HaveReported}
 
 module _ (tells : Bool) (reg : Register) (l : Layout) (h : List Event) (cells : List CellState) (ss : List OpenSession) (g : ℕ) (ds : List Dump) (numbers : List ℕ) (tally : Tally) (kept : Kept tells (world_of reg l h cells tally.failed tally.starved ss g ds) numbers tally)
-    (targets : ℕ) (are : (b : ℕ) → in_mask targets b ≡ is_target_at (placement_of l) h (entry_in_progress h) b) (e : Entry) (is : entry_in_progress h ≡ Some e) where
+    (targets : ℕ) (are : (b : ℕ) → in_mask targets b ≡ is_target_at (placement_of l) h (open_entry_of h) b) (e : Entry) (is : open_entry_of h ≡ Some e) where
   target_is : (b : ℕ) → in_mask targets b ≡ (is_enabled h b && concerns (placement_of l) b (log h) e.tx e.act)
   target_is b = are b ∙ ap (λ (o : Option Entry). is_target_at (placement_of l) h o b) is
 

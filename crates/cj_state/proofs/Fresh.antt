@@ -1,8 +1,8 @@
 -- The cache along the log.
 use Rattle.std.proofs.Common.{◌≡◌, inl, inr, Bool, List, [], ◌∷◌, ◌++◌, None, refl, sym, subst}
 use Rattle.cj_state.proofs.Common.{CacheState, Entry, Event, log, log-same, log-sched, Sched, scheduled_entry}
-use Rattle.cj_freshness.specs.Freshness.{FollowsLog, IsFreshCache, without_touched}
-use Rattle.cj_freshness.proofs.Fresh.{fresh_next}
+use Rattle.cj_cluster.specs.History.Freshness.{FollowsLog, IsFreshCache, without_touched}
+use Rattle.cj_cluster.proofs.FreshAnswers.{fresh_next}
 
 module _ (h : List Event) (c : CacheState) where
   -- an event that is no entry leaves it fresh

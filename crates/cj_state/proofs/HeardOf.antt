@@ -7,12 +7,12 @@ use Rattle.cj_state.proofs.Common.{both_ways, cases_eq, CellState, Did, eq-eqb, 
 use Rattle.cj_model.proofs.Masks.{has-with_other, has-zero}
 use Rattle.cj_board.specs.Steps.{after_learning}
 use Rattle.cj_cluster.specs.declared.moves.Did.TheVariants as did
-use Rattle.cj_state.specs.Proving.Seated.{AreNumbered, HasHeard, IsReady, position_in}
+use Rattle.cj_state.specs.Proving.Seated.{AreNumbered, HasLearned, IsReady, position_in}
 use Rattle.cj_state.proofs.CellsKept.{position_of}
 
 -- ---- what a book has heard
 
-pub heard_then : {S : Type 0} (a b c : SeatedBook S) → HasHeard a b → HasHeard b c → HasHeard a c
+pub heard_then : {S : Type 0} (a b c : SeatedBook S) → HasLearned a b → HasLearned b c → HasLearned a c
 heard_then a b c p q =
     record {
       state = q.state ∙ p.state;
@@ -27,7 +27,7 @@ module _ {S : Type 0} (old new : SeatedBook S) (w : SeatView) (state : new.state
   pub learnt_tokens : (k : ℕ) → fault_tokens_of k new.view.fault_tokens ≡ fault_tokens_of k old.view.fault_tokens + fault_tokens_of k w.fault_tokens
   learnt_tokens k = ap (λ (v : SeatView). fault_tokens_of k v.fault_tokens) view ∙ tokens-append k old.view.fault_tokens w.fault_tokens
 
-  pub learnt : HasHeard old new
+  pub learnt : HasLearned old new
   learnt =
       record {
         state = state;
@@ -40,7 +40,7 @@ module _ {S : Type 0} (old new : SeatedBook S) (w : SeatView) (state : new.state
   pub learnt_note : (x : ℕ × ℕ) → Contains w.position_notes x → Contains new.view.position_notes x
   learnt_note x there = subst (λ (v : SeatView). Contains v.position_notes x) (sym view) (Contains-append_right old.view.position_notes w.position_notes x there)
 
-pub ready_heard : {S : Type 0} (old new : SeatedBook S) (failed : ℕ) → IsReady old.view failed → HasHeard old new → IsReady new.view failed
+pub ready_heard : {S : Type 0} (old new : SeatedBook S) (failed : ℕ) → IsReady old.view failed → HasLearned old new → IsReady new.view failed
 ready_heard old new failed ready heard =
     record {
       unowned = heard.given ∙ ready.unowned;
@@ -49,7 +49,7 @@ ready_heard old new failed ready heard =
     }
 
 -- the book heard of the backend that failed
-pub ready_taken : {S : Type 0} (old new : SeatedBook S) (failed b : ℕ) (d : Did) → IsReady old.view failed → HasHeard old new → (d ≡ did.Failed → 0 < fault_tokens_of b new.view.fault_tokens) → IsReady new.view (failed_after failed b d)
+pub ready_taken : {S : Type 0} (old new : SeatedBook S) (failed b : ℕ) (d : Did) → IsReady old.view failed → HasLearned old new → (d ≡ did.Failed → 0 < fault_tokens_of b new.view.fault_tokens) → IsReady new.view (failed_after failed b d)
 ready_taken old new failed b (did.Done o) ready heard token = ready_heard old new failed ready heard
 ready_taken old new failed b did.Skipped ready heard token = ready_heard old new failed ready heard
 ready_taken old new failed b did.Starved ready heard token = ready_heard old new failed ready heard

@@ -1,7 +1,7 @@
 -- Each change of sessions and entries keeps what a world keeps.
 use Rattle.std.proofs.Common.{◌≡◌, ℕ, ◌+◌, ◌==◌, ◌<◌, ◌≤◌, not, Bool, true, false, List, [], ◌∷◌, ◌++◌, filter, length, map, get_or, Option, None, refl, ap, sym, ◌∙◌, subst, arith, length-append}
 use Rattle.std.proofs.lemmas.Bool.{or_parts, leb-false}
-use Rattle.cj_state.proofs.Common.{AreBetween, CellState, core_of, CoreInvariant, Dump, Ended, ended_count, Entry, entry_in_progress, Event, events_left, HasServer, HaveFailed, is_entry_of, is_idle, IsCell, IsFitEntry, Kept, Layout, log, new_session, no_reports, none_tallied, OpenSession, placement_of, Register, request_of, Sched, Select, session_at, taken_of, Tally, with_session, world_of}
+use Rattle.cj_state.proofs.Common.{AreBetween, CellState, core_of, CoreInvariant, Dump, Ended, ended_count, Entry, open_entry_of, Event, events_left, HasServer, HaveFailed, is_entry_of, is_free, IsCell, IsFitEntry, Kept, Layout, log, new_session, no_reports, none_tallied, OpenSession, placement_of, Register, request_of, Sched, Select, session_at, taken_of, Tally, with_session, world_of}
 use Rattle.cj_model.specs.declared.limits.TheConstants.{SESSION_LIMIT, SESSION_NUMBER_LIMIT, USER_LIMIT}
 use Rattle.cj_model.specs.Cluster.Placements.{hosts_all, needs as needed, needs_backend}
 use Rattle.cj_cluster.specs.Moves.Moves.{first_lagging, is_open, is_orphan, has_no_number, abort_entry, with_one_request, answered_at, was_answered, still_reading}
@@ -41,23 +41,23 @@ module _ (tells : Bool) (reg : Register) (l : Layout) (h : List Event) (cells : 
       (kept.numbers_are ∙ sym (numbers_with change keeps.number ss number))
 
   -- it has made one request more, and reads nothing
-  pub kept_counted : (number : ℕ) → (session_at (core_of l h cells f s ss g ds) number).reading ≡ None → is_entry_of number (entry_in_progress h) ≡ false → Kept tells (world_of reg l h cells f s (with_session ss number with_one_request) g ds) numbers tally
+  pub kept_counted : (number : ℕ) → (session_at (core_of l h cells f s ss g ds) number).reading ≡ None → is_entry_of number (open_entry_of h) ≡ false → Kept tells (world_of reg l h cells f s (with_session ss number with_one_request) g ds) numbers tally
   kept_counted number none idle =
       kept_with number with_one_request (keeps_counted (length (log h))) (λ sound. stand_counted (core_of l h cells f s ss g ds) number with_one_request (λ x. refl) kept.world.between (λ x. refl) none sound idle)
 
   -- its read was refused
-  pub kept_refused : (number : ℕ) → is_entry_of number (entry_in_progress h) ≡ false → Kept tells (world_of reg l h cells f s (with_session ss number was_answered) g ds) numbers tally
+  pub kept_refused : (number : ℕ) → is_entry_of number (open_entry_of h) ≡ false → Kept tells (world_of reg l h cells f s (with_session ss number was_answered) g ds) numbers tally
   kept_refused number idle =
       kept_with number was_answered (keeps_was_answered (length (log h))) (λ sound. stand_answered (core_of l h cells f s ss g ds) number was_answered (λ x. refl) kept.world.between (λ x. refl) sound idle)
 
   -- its read was answered at a position
-  pub kept_reached : (number p : ℕ) → p ≤ length (log h) → is_entry_of number (entry_in_progress h) ≡ false → Kept tells (world_of reg l h cells f s (with_session ss number (λ x. answered_at p (was_answered x))) g ds) numbers tally
+  pub kept_reached : (number p : ℕ) → p ≤ length (log h) → is_entry_of number (open_entry_of h) ≡ false → Kept tells (world_of reg l h cells f s (with_session ss number (λ x. answered_at p (was_answered x))) g ds) numbers tally
   kept_reached number p le idle =
       kept_with number (λ x. answered_at p (was_answered x)) (keeps_reached (length (log h)) p le)
       (λ sound. stand_answered (core_of l h cells f s ss g ds) number (λ x. answered_at p (was_answered x)) (λ x. refl) kept.world.between (λ x. refl) sound idle)
 
   -- its read stays open
-  pub kept_reading : (number : ℕ) (select : Select) (tried : ℕ) → is_entry_of number (entry_in_progress h) ≡ false → HaveFailed (core_of l h cells f s ss g ds) number tried
+  pub kept_reading : (number : ℕ) (select : Select) (tried : ℕ) → is_entry_of number (open_entry_of h) ≡ false → HaveFailed (core_of l h cells f s ss g ds) number tried
       → Kept tells (world_of reg l h cells f s (with_session ss number (still_reading select tried)) g ds) numbers tally
   kept_reading number select tried idle since =
       kept_with number (still_reading select tried) (keeps_still_reading (length (log h)) select tried)
@@ -74,13 +74,13 @@ module _ (tells : Bool) (reg : Register) (l : Layout) (h : List Event) (cells : 
       (λ _. stand_opened (core_of l h cells f s ss g ds) user kept.world.sound kept.world.between) (ap (λ ns. ns ++ (g + 1) ∷ []) kept.numbers_are ∙ sym (numbers_opened ss (g + 1) user))
 
   -- a session is closed
-  pub kept_closed : (number : ℕ) → is_entry_of number (entry_in_progress h) ≡ false → Kept tells (world_of reg l h cells f s (without number ss) g ds) (filter (λ n. not (n == number)) numbers) tally
+  pub kept_closed : (number : ℕ) → is_entry_of number (open_entry_of h) ≡ false → Kept tells (world_of reg l h cells f s (without number ss) g ds) (filter (λ n. not (n == number)) numbers) tally
   kept_closed number idle =
       kept_sessions (without number ss) g (filter (λ n. not (n == number)) numbers) (are_closed h g ss number (sessions_are (core_of l h cells f s ss g ds) kept.world.sound) idle)
       (λ _. stand_closed (core_of l h cells f s ss g ds) number kept.world.between) (ap (filter (λ n. not (n == number))) kept.numbers_are ∙ sym (numbers_without ss number))
 
   -- an entry is scheduled, which some backend serves
-  kept_sched : (e : Entry) (ss' : List OpenSession) → is_idle h ≡ true → IsFitEntry (log h) e → 3 ≤ events_left h → HasServer (placement_of l) h (request_of e.act)
+  kept_sched : (e : Entry) (ss' : List OpenSession) → is_free h ≡ true → IsFitEntry (log h) e → 3 ≤ events_left h → HasServer (placement_of l) h (request_of e.act)
       → SessionsAre (h ++ Sched e ∷ []) g ss' → AreBetween (core_of l (h ++ Sched e ∷ []) cells 0 0 ss' g ds) → numbers ≡ map (λ (x : OpenSession). x.number) ss'
       → Kept tells (world_of reg l (h ++ Sched e ∷ []) cells 0 0 ss' g ds) numbers no_reports
   kept_sched e ss' fr fit space served are stand numbers_are =
@@ -116,7 +116,7 @@ module _ (tells : Bool) (reg : Register) (l : Layout) (h : List Event) (cells : 
       }
 
   -- an entry of a session is scheduled
-  pub kept_scheduled : (number : ℕ) (e : Entry) → is_open (core_of l h cells f s ss g ds) number ≡ true → e.session ≡ number → e.seq ≡ (session_at (core_of l h cells f s ss g ds) number).queries + 1 → is_idle h ≡ true → IsFitEntry (log h) e
+  pub kept_scheduled : (number : ℕ) (e : Entry) → is_open (core_of l h cells f s ss g ds) number ≡ true → e.session ≡ number → e.seq ≡ (session_at (core_of l h cells f s ss g ds) number).requests + 1 → is_free h ≡ true → IsFitEntry (log h) e
       → 3 ≤ events_left h → (session_at (core_of l h cells f s ss g ds) number).reading ≡ None → HasServer (placement_of l) h (request_of e.act)
       → Kept tells (world_of reg l (h ++ Sched e ∷ []) cells 0 0 (with_session ss number with_one_request) g ds) numbers no_reports
   kept_scheduled number e here session seq fr fit space none served =
@@ -130,7 +130,7 @@ module _ (tells : Bool) (reg : Register) (l : Layout) (h : List Event) (cells : 
       (kept.numbers_are ∙ sym (numbers_with with_one_request (λ x. refl) ss number))
 
   -- the administrator's end of an orphan is scheduled
-  pub kept_aborted : (e : Entry) → is_orphan (core_of l h cells f s ss g ds) e.tx ≡ true → e ≡ abort_entry (core_of l h cells f s ss g ds) e.tx → is_idle h ≡ true → IsFitEntry (log h) e
+  pub kept_aborted : (e : Entry) → is_orphan (core_of l h cells f s ss g ds) e.tx ≡ true → e ≡ abort_entry (core_of l h cells f s ss g ds) e.tx → is_free h ≡ true → IsFitEntry (log h) e
       → 3 ≤ events_left h → HasServer (placement_of l) h (request_of e.act) → Kept tells (world_of reg l (h ++ Sched e ∷ []) cells 0 0 ss g ds) numbers no_reports
   kept_aborted e orphan is fr fit space served =
       kept_sched e ss fr fit space served (are_sched_without h g ss e (sessions_are (core_of l h cells f s ss g ds) kept.world.sound) fr (ap (λ (d : Entry). d.session) is))
@@ -139,14 +139,14 @@ module _ (tells : Bool) (reg : Register) (l : Layout) (h : List Event) (cells : 
       kept.numbers_are
 
   -- the open entry ends
-  kept_ended : (ss' : List OpenSession) → is_idle h ≡ false → first_lagging h 0 (map (λ (x : CellState). x.position) cells) ≡ None
+  kept_ended : (ss' : List OpenSession) → is_free h ≡ false → first_lagging h 0 (map (λ (x : CellState). x.position) cells) ≡ None
       → SessionsAre (h ++ Ended f s ∷ []) g ss' → (CoreInvariant (core_of l (h ++ Ended f s ∷ []) cells 0 0 ss' g ds) → AreBetween (core_of l (h ++ Ended f s ∷ []) cells 0 0 ss' g ds))
       → numbers ≡ map (λ (x : OpenSession). x.number) ss' → Kept tells (world_of reg l (h ++ Ended f s ∷ []) cells 0 0 ss' g ds) numbers no_reports
   kept_ended ss' fr none are stand numbers_are =
       let w = kept.world in
       let sound = sound_ended (core_of l h cells f s ss g ds) ss' w.sound fr (λ b q is on. behind_none h (map (λ (x : CellState). x.position) cells) none b q is on) are in
       let same : log (h ++ Ended f s ∷ []) ≡ log h = log-same h (Ended f s) refl in
-      let closed : entry_in_progress (h ++ Ended f s ∷ []) ≡ None = opened-ended h f s fr w.sound.one_open.0 w.sound.one_open.1 in
+      let closed : open_entry_of (h ++ Ended f s ∷ []) ≡ None = opened-ended h f s fr w.sound.one_open.0 w.sound.one_open.1 in
       record {
         world = world_behind w (h ++ Ended f s ∷ []) 0 0 ss' g (map taken_of ds) same sound (stand sound);
         numbers_are = numbers_are;
@@ -156,7 +156,7 @@ module _ (tells : Bool) (reg : Register) (l : Layout) (h : List Event) (cells : 
       }
 
   -- the open entry ends, and its session is answered
-  pub kept_answered : (number : ℕ) → is_entry_of number (entry_in_progress h) ≡ true → is_idle h ≡ false → first_lagging h 0 (map (λ (x : CellState). x.position) cells) ≡ None
+  pub kept_answered : (number : ℕ) → is_entry_of number (open_entry_of h) ≡ true → is_free h ≡ false → first_lagging h 0 (map (λ (x : CellState). x.position) cells) ≡ None
       → Kept tells (world_of reg l (h ++ Ended f s ∷ []) cells 0 0 (with_session ss number (answered_at (length (log h)))) g ds) numbers no_reports
   kept_answered number waiting fr none =
       let w = kept.world in

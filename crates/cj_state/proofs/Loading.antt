@@ -1,7 +1,7 @@
 -- A cell that was out, and holds what a dump has of its tables.
 use Rattle.std.proofs.Common.{◌≡◌, ℕ, ◌<◌, ◌≤◌, Bool, true, false, List, length, map, get_or, set, OnErr, Option, None, Some, Result, Ok, Err, refl, ap, sym, ◌∙◌, subst, ⊎_elim}
 use Rattle.std.specs.Prelude.{IsErrAnd}
-use Rattle.cj_state.proofs.Common.{Arming, both_ways, CacheState, can_load, cases_eq, CellError, ChangesCell, CoreInvariant, database_after, Dump, failed_contents, find_dump, get_or-set_other, HasBegunDrafts, HoldsPart, is_enabled, is_idle, IsCell, IsSoundDump, Kept, length-map, Load, log, LogView, map-set, not_now, part, position_at, Slot, spent, Stance, taken_of, Tally, with_cache, with_log, with_stance, WorldState, Balance, with_balance}
+use Rattle.cj_state.proofs.Common.{Arming, both_ways, CacheState, can_load, cases_eq, CellError, ChangesCell, CoreInvariant, database_after, Dump, failed_contents, find_dump, get_or-set_other, HasBegunDrafts, HoldsPart, is_enabled, is_free, IsCell, IsSoundDump, Kept, length-map, Load, log, LogView, map-set, not_now, part, position_at, Slot, spent, Stance, taken_of, Tally, with_cache, with_log, with_stance, WorldState, Balance, with_balance}
 use Rattle.cj_cluster.proofs.Effects.{sound_loaded}
 use Rattle.cj_replica.specs.declared.replica.CellError.TheVariants as errors
 use Rattle.cj_replica.specs.Cells.{CellState, Loads, SpendsArmingAtLoad}
@@ -34,7 +34,7 @@ armings_loaded before now (Err errors.Starved) spends =
 -- what is known of a load of backend b with this database, which is what the first dump of a name has of its tables
 pub record CanLoadFrom (tells : Bool) (w : WorldState) (b : ℕ) (db : List Slot) (n : ℕ) : Type 0 where
   pub out : position_at w.core b ≡ None
-  pub free : is_idle w.core.history ≡ true
+  pub free : is_free w.core.history ≡ true
   pub off : is_enabled w.core.history b ≡ false
   pub logged : n ≤ length (log w.core.history)
   pub right : tells ≡ true → db ≡ part w.core.placement b (database_after (log w.core.history) n)

@@ -7,12 +7,12 @@ use Rattle.cj_state.proofs.Common.{both_ways, CellState, Core, core_of, Ended, E
 use Rattle.cj_model.specs.declared.database.Draft.{Draft}
 use Rattle.cj_model.specs.declared.limits.TheConstants.{BACKEND_LIMIT}
 use Rattle.cj_model.specs.Cluster.Placements.{everywhere}
-use Rattle.cj_cluster.specs.History.Histories.{log, ended_count, is_idle, is_enabled, entry_in_progress, log_faults_of}
+use Rattle.cj_cluster.specs.History.Histories.{log, ended_count, is_free, is_enabled, open_entry_of, log_faults_of}
 use Rattle.cj_book.proofs.Common.{IsAdministratorEntry, IsLegal, IsOpening, IsSessionEntry, greatest_session}
 use Rattle.cj_cluster.specs.History.Transactions.{AreFitBehind, has_begun}
 use Rattle.cj_cluster.specs.Proving.Invariants.{BackendStands, CoreInvariant, HasBegunDrafts, HoldsPart, IsSoundDump, IsSoundSession}
 use Rattle.cj_cluster.proofs.Standing.{stand_none}
-use Rattle.cj_opening.proofs.Longer.{idle_opening}
+use Rattle.cj_recovery.proofs.Longer.{idle_opening}
 use Rattle.cj_book.proofs.Recovering.{known_all}
 use Rattle.cj_state.specs.Beginnings.{IsFresh, AreFresh, AreEmpty, opened_core}
 
@@ -82,10 +82,10 @@ module _ (l : Layout) (cells : List CellState) (fresh : AreFresh (placement_of l
     abbrev opened : Core
     opened = core_of l h cells 0 0 [] (greatest_session (log h)) []
 
-    idle : is_idle h ≡ true
+    idle : is_free h ≡ true
     idle = idle_opening h o
 
-    no_entry : entry_in_progress h ≡ None
+    no_entry : open_entry_of h ≡ None
     no_entry = opened-free h idle
 
     off : (b : ℕ) → is_enabled h b ≡ true → ⊥

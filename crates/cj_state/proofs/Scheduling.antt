@@ -12,15 +12,15 @@ use Rattle.cj_cluster.proofs.Soundness.{allowed_tx, entry_fits}
 -- ---- the next entry
 
 pub next_is : (c : Core) (s : ℕ) (a : Act) (x : OpenSession) (tx : ℕ) (user : List ℕ) → find_session c.sessions s ≡ Some x → tx ≡ tx_of_act (open_tx c s) a → user ≡ x.user
-    → record { session = s; seq = x.queries + 1; tx = tx; user = user; act = a } ≡ next_entry c s a
+    → record { session = s; seq = x.requests + 1; tx = tx; user = user; act = a } ≡ next_entry c s a
 next_is c s a x tx user is tx_is user_is =
     let same : x ≡ session_at c s = sym (session_at-is c s (Some x) is) in
-    ap (λ (t : ℕ). record { session = s; seq = x.queries + 1; tx = t; user = user; act = a }) tx_is
-    ∙ (ap (λ (u : List ℕ). record { session = s; seq = x.queries + 1; tx = tx_of_act (open_tx c s) a; user = u; act = a }) user_is
-    ∙ ap (λ (y : OpenSession). record { session = s; seq = y.queries + 1; tx = tx_of_act (open_tx c s) a; user = y.user; act = a }) same)
+    ap (λ (t : ℕ). record { session = s; seq = x.requests + 1; tx = t; user = user; act = a }) tx_is
+    ∙ (ap (λ (u : List ℕ). record { session = s; seq = x.requests + 1; tx = tx_of_act (open_tx c s) a; user = u; act = a }) user_is
+    ∙ ap (λ (y : OpenSession). record { session = s; seq = y.requests + 1; tx = tx_of_act (open_tx c s) a; user = y.user; act = a }) same)
 
 -- it may be scheduled
-pub next_fits : (c : Core) (s : ℕ) (a : Act) → CoreInvariant c → IsWritten (request_of a) → is_open c s ≡ true → (session_at c s).queries < REQUEST_LIMIT → forbidden_by (open_tx c s) a ≡ None
+pub next_fits : (c : Core) (s : ℕ) (a : Act) → CoreInvariant c → IsWritten (request_of a) → is_open c s ≡ true → (session_at c s).requests < REQUEST_LIMIT → forbidden_by (open_tx c s) a ≡ None
     → IsFitEntry (log c.history) (next_entry c s a)
 next_fits c s a w written here count allowed = entry_fits c s a written (allowed_tx (open_tx c s) a allowed) count w here
 

@@ -6,7 +6,7 @@ use Rattle.cj_board.specs.Steps.{after_append, spend, HasCountNotes}
 use Rattle.cj_board.proofs.FaultPoint.{spend_none, spend_one}
 use Rattle.cj_book.specs.Seated.{SeatedBook, HasSameSeat, IsCounted, event_at_ok, event_or_fault, view_after}
 use Rattle.cj_replica.specs.declared.replica.CellReadError.TheVariants as read_errors
-use Rattle.cj_state.specs.Proving.Seated.{AreAt, HasHeard, IsQuiet, IsReady, SpendsAtMostOne}
+use Rattle.cj_state.specs.Proving.Seated.{AreAt, HasLearned, IsQuiet, IsReady, SpendsAtMostOne}
 use Rattle.cj_state.proofs.HeardOf.{ready_none}
 
 -- an event that no failure is told by spends no token
@@ -94,7 +94,7 @@ read_spends s q b k v = by_test (k == b) refl
     by_test false is = let same = spend_none (λ c. c == b) k v.fault_tokens is in omega arith
 
 -- A backend was asked that may have failed: the book heard of a fault more, and spent a token of it at most.
-pub ready_noted : {S : Type 0} (old mid new : SeatedBook S) (failed b : ℕ) (error : CellReadError) → IsReady old.view failed → HasHeard old mid → (error ≡ read_errors.Failed → fault_tokens_of b old.view.fault_tokens < fault_tokens_of b mid.view.fault_tokens)
+pub ready_noted : {S : Type 0} (old mid new : SeatedBook S) (failed b : ℕ) (error : CellReadError) → IsReady old.view failed → HasLearned old mid → (error ≡ read_errors.Failed → fault_tokens_of b old.view.fault_tokens < fault_tokens_of b mid.view.fault_tokens)
     → new.view.given ≡ mid.view.given → new.view.last_given ≡ mid.view.last_given → SpendsAtMostOne error b mid.view.fault_tokens new.view.fault_tokens → IsReady new.view failed
 ready_noted old mid new failed b error ready heard more given last_given spent =
     record { unowned = given ∙ (heard.given ∙ ready.unowned); none_given = last_given ∙ (heard.last_given ∙ ready.none_given); tokens = λ k on. some error k (ready.tokens k on) (heard.tokens k) more spent }

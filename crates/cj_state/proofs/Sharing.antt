@@ -7,7 +7,7 @@ use Rattle.cj_cluster.specs.declared.event.Event.{Event}
 use Rattle.cj_log.specs.declared.item.LogItem.{LogItem}
 use Rattle.cj_log.specs.Items.{item_bytes}
 use Rattle.cj_log.specs.Logs.{LogState, IsBeforeOrAfter, KeepsItems}
-use Rattle.cj_opening.specs.Openings.{items_of, marker_item}
+use Rattle.cj_recovery.specs.Openings.{items_of, marker_item}
 
 -- a book of which no session was given an own pass gives the next one
 pub gives_next : {S : Type 0} (book : SeatedBook S) → book.view.front ≡ book.state.history → book.view.last_given ≡ 0 → book.state.greatest + 1 ≡ session_after 0 book.state.history → GivesOwnPassesOnly book

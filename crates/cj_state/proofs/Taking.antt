@@ -1,6 +1,6 @@
 -- What a world keeps where a backend takes an entry.
 use Rattle.std.proofs.Common.{◌≡◌, ◌≢◌, ℕ, ◌+◌, ◌<◌, ◌≤◌, Bool, true, false, cond, List, [], length, map, get_or, set, slice_get, Option, None, Some, IsSome, Ok, refl, ap, sym, ◌∙◌, subst, arith, ⊎_elim}
-use Rattle.cj_state.proofs.Common.{Act, armings_of, asks_of, Balance, both_ways, CacheState, cases_eq, CellState, ChangesCell, core_of, CoreInvariant, Did, did_fail, Dump, ended_count, Entry, entry_in_progress, Event, faults_after, faults_of, get_or-set_other, get_or-set_same, get_or_default, is_enabled, is_idle, IsCell, IsOutcome, IsWorld, Kept, Layout, log, login_of, LogView, map-set, OpenSession, Outcome, outcome_of, Placement, placement_of, Register, slice_get_within, stand_rest, takes_part, with_balance, with_cache, with_log, world_of, WorldState}
+use Rattle.cj_state.proofs.Common.{Act, armings_of, asks_of, Balance, both_ways, CacheState, cases_eq, CellState, ChangesCell, core_of, CoreInvariant, Did, did_fail, Dump, ended_count, Entry, open_entry_of, Event, faults_after, faults_of, get_or-set_other, get_or-set_same, get_or_default, is_enabled, is_free, IsCell, IsOutcome, IsWorld, Kept, Layout, log, login_of, LogView, map-set, OpenSession, Outcome, outcome_of, Placement, placement_of, Register, slice_get_within, stand_rest, takes_part, with_balance, with_cache, with_log, world_of, WorldState}
 use Rattle.cj_model.specs.declared.request.Act.TheVariants as act
 use Rattle.cj_cluster.specs.declared.moves.Did.TheVariants as did
 use Rattle.cj_cluster.specs.declared.moves.Moved.TheVariants as moved
@@ -79,7 +79,7 @@ module _ (tells : Bool) (reg : Register) (l : Layout) (h : List Event) (cells : 
   does : (d' : Did) → d ≡ d' → DoesWithEntry tells (core_of l h cells f s ss g ds) b takes.p takes.entry d' stance
   does d' is = subst (λ (x : Did). DoesWithEntry tells (core_of l h cells f s ss g ds) b takes.p takes.entry x stance) is takes.does
 
-  module _ (fr : is_idle h ≡ false) (on : is_enabled h b ≡ true) where
+  module _ (fr : is_free h ≡ false) (on : is_enabled h b ≡ true) where
     -- the entry is the open one
     open_there : takes.p ≡ ended_count h
     open_there =
@@ -88,11 +88,11 @@ module _ (tells : Bool) (reg : Register) (l : Layout) (h : List Event) (cells : 
         let hi : length (log h) ≤ ended_count h + 1 = kept.world.sound.one_open.1 in
         omega arith
 
-    is_open : (e : Entry) → entry_in_progress h ≡ Some e → takes.entry ≡ e
+    is_open : (e : Entry) → open_entry_of h ≡ Some e → takes.entry ≡ e
     is_open e running = cc (sym takes.there ∙ (ap (slice_get (log h)) open_there ∙ running))
 
     -- what it did is a right report of the entry
-    reported : (d' : Did) → d ≡ d' → (e : Entry) → entry_in_progress h ≡ Some e → IsReportOf tells (placement_of l) (log h) (ended_count h) e b d'
+    reported : (d' : Did) → d ≡ d' → (e : Entry) → open_entry_of h ≡ Some e → IsReportOf tells (placement_of l) (log h) (ended_count h) e b d'
     reported (did.Done r) is e running = let did_so = does (did.Done r) is in (did_so.1, λ t. ap (outcome_of (log h)) (sym open_there) ∙ did_so.2 t)
     reported did.Skipped is e running =
         let begun : List ℕ = begun_at (core_of l h cells f s ss g ds) b in
@@ -165,7 +165,7 @@ module _ (tells : Bool) (reg : Register) (l : Layout) (h : List Event) (cells : 
 -- ---- what is counted
 
 module _ {tells : Bool} {w : WorldState} {numbers : List ℕ} {tally : Tally} (kept : Kept tells w numbers tally) {seen_log : LogView} {cache : CacheState} {balance : Balance} {old : WorldState} (seen : with_balance (with_cache (with_log w seen_log) cache) balance ≡ old)
-    {b : ℕ} (within : b < old.core.placement.backends) {l : Layout} {d : Did} {now : List CellState} (took : TookEntry tells w.setup.register.accounts l w.core.history w.cells b d now) where
+    {b : ℕ} (within : b < old.core.placement.backends) {l : Layout} {d : Did} {now : List CellState} (took : TookEntry tells w.setup.accounts.accounts l w.core.history w.cells b d now) where
   abbrev change : ChangesCell w.cells b (λ x y. Unit) now
   change = record { before = get_or w.cells b took.cell; after = took.cell; value = get_or_default w.cells b took.cell (get_or w.cells b took.cell) (has_cell kept seen within); set = took.set; how = tt }
 
@@ -188,4 +188,4 @@ module _ {tells : Bool} {w : WorldState} {numbers : List ℕ} {tally : Tally} (k
   took_logins =
       let place : position_at w.core b ≡ (get_or w.cells b took.cell).position = ap (λ (ps : List (Option ℕ)). get_or ps b None) kept.world.positions ∙ position_of w.cells b took.cell (has_cell kept seen within) in
       subst (λ (z : WorldState). LogsInToTake b (login_to_take z b) d (logins_of z.cells) (logins_of now)) seen
-      (subst (λ (q : Option ℕ). LogsInToTake b (login_of w.setup.register.accounts (next_user (log w.core.history) q) b) d (logins_of w.cells) (logins_of now)) (sym place) took.logins)
+      (subst (λ (q : Option ℕ). LogsInToTake b (login_of w.setup.accounts.accounts (next_user (log w.core.history) q) b) d (logins_of w.cells) (logins_of now)) (sym place) took.logins)

@@ -11,7 +11,7 @@ use Rattle.cj_cluster.specs.declared.event.Event.TheVariants as event
 use Rattle.cj_model.specs.Database.Outcomes.{IsAsked}
 use Rattle.cj_model.specs.Sql.PlainRequests.{request_of}
 use Rattle.cj_model.specs.Database.Queries.{ask}
-use Rattle.cj_cluster.specs.History.Histories.{log, ended_count, is_idle, entry_in_progress, events_left, database_after}
+use Rattle.cj_cluster.specs.History.Histories.{log, ended_count, is_free, open_entry_of, events_left, database_after}
 use Rattle.cj_model.specs.Cluster.Masks.{in_mask}
 use Rattle.cj_cluster.specs.History.Answering.{HasServer, HasNoServer, AnswersEntry}
 use Rattle.cj_cluster.specs.Moves.Cores.{Core, position_at, session_at}
@@ -34,7 +34,7 @@ with_core w c = record w { core = c }
 -- whether the entry was scheduled, or why not
 abbrev pub SchedulesAs : Core → Entry → Result ℕ BookError → Type 0
 SchedulesAs c e (Ok n) = (n ≡ last_number c + 1) × HasServer c.placement c.history (request_of e.act) × (3 ≤ events_left c.history)
-SchedulesAs c e (Err (InProgress n)) = is_idle c.history ≡ false
+SchedulesAs c e (Err (InProgress n)) = is_free c.history ≡ false
 SchedulesAs c e (Err NoBackend) = HasNoServer c.placement c.history (request_of e.act)
 SchedulesAs c e (Err (HistoryFull n)) = (n ≡ length c.history) × HasServer c.placement c.history (request_of e.act) × (events_left c.history < 3)
 SchedulesAs c e (Err LogFault) = HasServer c.placement c.history (request_of e.act) × (3 ≤ events_left c.history)
@@ -87,7 +87,7 @@ core_marked c name (Err NoMemory) = c
 
 -- what the open entry is answered
 abbrev pub AnswersOpen : Bool → Core → Reply → Type 0
-AnswersOpen tells c reply = (e : Entry) → entry_in_progress c.history ≡ Some e → AnswersEntry tells c.placement c.history (with_end c) (ended_count c.history) e reply
+AnswersOpen tells c reply = (e : Entry) → open_entry_of c.history ≡ Some e → AnswersEntry tells c.placement c.history (with_end c) (ended_count c.history) e reply
 
 -- what backend b answered a session's query of transaction tx, or why it did not
 abbrev pub Asks : Bool → Core → ℕ → ℕ → ℕ → Select → Result (Asked × ℕ) AskError → Type 0
@@ -135,4 +135,4 @@ HaveFailed c s mask = (a : SessionView) × IsBetweenReplies a c s × ((b : ℕ) 
 
 -- the entry of that, where it is an act
 abbrev pub own_entry : Core → ℕ → ℕ → List ℕ → Act → Entry
-own_entry c s tx user act = record { session = s; seq = (session_at c s).queries + 1; tx = tx; user = user; act = act }
+own_entry c s tx user act = record { session = s; seq = (session_at c s).requests + 1; tx = tx; user = user; act = act }

@@ -37,6 +37,6 @@ pub record IsTakenApart {S : Type 0} (tells : Bool) (w : WorldState) (id pass : 
   pub unowned : b.view.given ≡ []
   pub gives : NumbersFollowHistory w → GivesOwnPassesOnly b
   pub cells : states_of xs ≡ w.cells
-  pub accounts : register ≡ w.setup.register
+  pub accounts : register ≡ w.setup.accounts
   pub dumps : map taken_of taken ≡ w.core.dumps
   pub held : AreDumpsOf tells w.core.placement (log w.core.history) taken

@@ -13,7 +13,7 @@ use Rattle.cj_cluster.specs.History.Histories.{log, database_after}
 use Rattle.cj_cluster.specs.Moves.Cores.{Core}
 use Rattle.cj_cluster.specs.Proving.Invariants.{CoreInvariant, HasBegunDrafts, HoldsPart}
 use Rattle.cj_cluster.specs.Moves.Runs.{AreBetween}
-use Rattle.cj_freshness.specs.Freshness.{FollowsLog, IsFreshCache}
+use Rattle.cj_cluster.specs.History.Freshness.{FollowsLog, IsFreshCache}
 use Rattle.cj_auth.specs.Admission.{Register}
 use Rattle.cj_place.specs.Layouts.{Layout, placement_of}
 use Rattle.cj_dump.specs.declared.dump.Dump.{Dump}
@@ -25,7 +25,7 @@ use Rattle.cj_replica.specs.Cells.{CellState}
 -- what no move changes: what the backends are called, and the accounts of the users
 pub record Setup : Type 0 where
   pub names : List (List ℕ)
-  pub register : Register
+  pub accounts : Register
 
 -- what is seen of the recovery log: the faults that its store has counted, and the bytes that the store holds
 pub record LogView : Type 0 where
@@ -75,7 +75,7 @@ KeepsHistory w = IsKeptIn w.recovery_log.bytes w.core.history
 
 -- the accounts of the users
 abbrev pub accounts_of : WorldState → List Account
-accounts_of w = w.setup.register.accounts
+accounts_of w = w.setup.accounts.accounts
 
 -- the state of a core over these cells, of backends laid out so, with these dumps
 abbrev pub core_of : Layout → List Event → List CellState → ℕ → ℕ → List OpenSession → ℕ → List Dump → Core
@@ -103,7 +103,7 @@ unseen_balance = record { policy = RoundRobin; weights = []; standing = at_rest 
 -- the world of these, but for its log, its cache and its balance
 abbrev pub world_of : Register → Layout → List Event → List CellState → ℕ → ℕ → List OpenSession → ℕ → List Dump → WorldState
 world_of register l h cells failed starved sessions greatest dumps =
-    record { core = core_of l h cells failed starved sessions greatest dumps; cells = cells; setup = record { names = l.names; register = register }; recovery_log = unseen_log; cache = empty_cache 0; balance = unseen_balance }
+    record { core = core_of l h cells failed starved sessions greatest dumps; cells = cells; setup = record { names = l.names; accounts = register }; recovery_log = unseen_log; cache = empty_cache 0; balance = unseen_balance }
 
 -- the cell of backend b that holds its part of the database after the entries that it has taken
 pub record IsCell (tells : Bool) (p : Placement) (entries : List Entry) (b : ℕ) (x : CellState) : Type 0 where
@@ -125,7 +125,7 @@ pub record IsWorld (tells : Bool) (w : WorldState) : Type 0 where
   pub sound : CoreInvariant w.core
   pub named : length w.setup.names ≡ w.core.placement.backends
   -- each account has a login at each backend
-  pub registered : w.setup.register.backends ≡ w.core.placement.backends
+  pub registered : w.setup.accounts.backends ≡ w.core.placement.backends
   pub few : w.core.placement.backends ≤ BACKEND_LIMIT
   pub positions : w.core.positions ≡ map (λ (x : CellState). x.position) w.cells
   pub begun : w.core.begun ≡ map (λ (x : CellState). x.begun) w.cells

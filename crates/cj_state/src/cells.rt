@@ -14,7 +14,7 @@ ghost use Rattle.cj_board.specs.Seats.{board_id, pass_board};
 ghost use Rattle.cj_cluster.specs.History.Histories.{database_after, log};
 ghost use Rattle.cj_replica.specs.Cells.{CellState, GivesContents, Loads, Reads};
 ghost use Rattle.cj_replica.specs.Seated.{SeatedCell};
-ghost use Rattle.cj_state.specs.Proving.Seated.{AreAt, AreNumbered, HasHeard, SpendsAtMostOne};
+ghost use Rattle.cj_state.specs.Proving.Seated.{AreAt, AreNumbered, HasLearned, SpendsAtMostOne};
 ghost use Rattle.cj_state.specs.Proving.Taking.{CanTake, TookEntry};
 ghost use Rattle.cj_state.specs.Proving.Taking as taking;
 ghost use Rattle.cj_state.specs.Effects.{Covers, Notes};
@@ -99,7 +99,7 @@ pub fn take<B: Backend, S: Store>(
     requires numbered { AreNumbered (states_of cells.old.items) }
     requires at { AreAt (board_id board.now) (pass_board pass.old) book.old.board cells.old.items }
     ensures at { AreAt (board_id board.now) (pass_board pass.new) book.new.board cells.new.items }
-    ensures heard { HasHeard book.old book.new }
+    ensures heard { HasLearned book.old book.new }
     ensures took { TookEntry B.tells accounts.now.accounts book.old.state.layout book.old.state.history (states_of cells.old.items) b result (states_of cells.new.items) }
     ensures token { result ≡ Did.Failed → 0 < fault_tokens_of b book.new.view.fault_tokens }
 {
@@ -149,7 +149,7 @@ pub fn read_at<B: Backend, S: Store>(
     requires numbered { AreNumbered (states_of cells.old.items) }
     requires at { AreAt (board_id board.now) (pass_board pass.old) book.old.board cells.old.items }
     ensures at { AreAt (board_id board.now) (pass_board pass.new) book.new.board cells.new.items }
-    ensures heard { HasHeard book.old book.new }
+    ensures heard { HasLearned book.old book.new }
     ensures read { ChangesCell (states_of cells.old.items) b (λ x y. Reads x login.now tx select.now least result y) (states_of cells.new.items) }
     ensures token { IsErrOf result CellReadError.Failed → fault_tokens_of b book.old.view.fault_tokens < fault_tokens_of b book.new.view.fault_tokens }
 {
@@ -198,7 +198,7 @@ pub fn load_at<B: Backend, S: Store>(
     requires logged { position ≤ length (log book.old.state.history) }
     requires held { (d : CellState) → B.tells ≡ true → db ≡ part (slice_index_or (states_of cells.old.items) b d).placement (slice_index_or (states_of cells.old.items) b d).b (database_after (log book.old.state.history) position) }
     ensures at { AreAt (board_id board.now) (pass_board pass.new) book.new.board cells.new.items }
-    ensures heard { HasHeard book.old book.new }
+    ensures heard { HasLearned book.old book.new }
     ensures loaded { ChangesCell (states_of cells.old.items) b (λ x y. Loads B.tells x db position result y) (states_of cells.new.items) }
 {
     tell(board, pass, book, cells, b);

@@ -5,7 +5,7 @@ ghost use mathlib.Core.List.{IsPrefix};
 ghost use Rattle.cj_board.specs.Seats.{board_id, pass_board};
 ghost use Rattle.cj_model.specs.declared.limits.TheConstants.{BACKEND_LIMIT};
 ghost use Rattle.cj_replica.specs.Seated.{SeatedCell};
-ghost use Rattle.cj_state.specs.Proving.Seated.{AreAt, AreNumbered, HasHeard, HasHeardOf, KnowsPositions};
+ghost use Rattle.cj_state.specs.Proving.Seated.{AreAt, AreNumbered, HasLearned, HasLearnedOf, KnowsPositions};
 ghost use Rattle.cj_state.specs.Seats.{states_of};
 
 use cj_backend::Backend;
@@ -25,7 +25,7 @@ pub fn tell<B: Backend, S: Store>(
     requires within { b < length cells.old.items }
     requires at { AreAt (board_id board.now) (pass_board pass.old) book.old.board cells.old.items }
     ensures at { AreAt (board_id board.now) (pass_board pass.new) book.new.board cells.new.items }
-    ensures heard { HasHeard book.old book.new }
+    ensures heard { HasLearned book.old book.new }
     ensures cells { states_of cells.new.items ≡ states_of cells.old.items }
     ensures told { (d : SeatedCell) → IsPrefix book.old.state.history (slice_index_or cells.new.items b d).view.front }
 {
@@ -45,7 +45,7 @@ pub fn hear<B: Backend, S: Store>(
     requires numbered { AreNumbered (states_of cells.old.items) }
     requires at { AreAt (board_id board.now) (pass_board pass.old) book.old.board cells.old.items }
     ensures at { AreAt (board_id board.now) (pass_board pass.new) book.new.board cells.new.items }
-    ensures heard { HasHeardOf book.old cells.old.items b book.new }
+    ensures heard { HasLearnedOf book.old cells.old.items b book.new }
     ensures cells { states_of cells.new.items ≡ states_of cells.old.items }
 {
     cells[b as usize].report(board, pass);
@@ -63,7 +63,7 @@ pub fn hear_all<B: Backend, S: Store>(
     requires at { AreAt (board_id board.now) (pass_board pass.old) book.old.board cells.old.items }
     requires numbered { AreNumbered (states_of cells.old.items) }
     ensures at { AreAt (board_id board.now) (pass_board pass.new) book.new.board cells.new.items }
-    ensures heard { HasHeard book.old book.new }
+    ensures heard { HasLearned book.old book.new }
     ensures cells { states_of cells.new.items ≡ states_of cells.old.items }
     ensures known { KnowsPositions book.new (states_of cells.old.items) (length cells.old.items) }
 {

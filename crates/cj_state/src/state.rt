@@ -5,7 +5,7 @@ ghost use Rattle.cj_model.specs.declared.request.Entry.{Entry};
 ghost use Rattle.cj_model.specs.declared.request.Request.TheVariants as request;
 ghost use Rattle.cj_model.specs.Sql.PlainRequests.{request_of};
 ghost use Rattle.cj_cluster.specs.History.Histories as histories;
-ghost use Rattle.cj_cluster.specs.History.Histories.{log, is_idle, database_after};
+ghost use Rattle.cj_cluster.specs.History.Histories.{log, is_free, database_after};
 ghost use Rattle.cj_model.specs.Cluster.Masks.{in_mask};
 ghost use Rattle.cj_cluster.specs.History.Legality.{FitsTx, IsFitEntry};
 ghost use Rattle.cj_model.specs.Sql.WrittenRequests.{IsWritten};
@@ -23,12 +23,12 @@ ghost use Rattle.cj_model.specs.declared.cached.Cached.{Cached};
 ghost use Rattle.cj_model.specs.Cluster.Caching.{after_keep, after_look, answer_kept, empty_cache, has_answer};
 ghost use Rattle.cj_model.specs.declared.answer.Asked.TheVariants.{Rows};
 ghost use Rattle.cj_model.specs.Database.Outcomes.{IsAnswer};
-ghost use Rattle.cj_freshness.specs.Freshness.{IsAnswerAt};
+ghost use Rattle.cj_cluster.specs.History.Freshness.{IsAnswerAt};
 ghost use Rattle.cj_model.specs.Sql.Names.{is_name};
 ghost use Rattle.cj_model.specs.Database.Storable.{IsStorable};
 ghost use Rattle.cj_model.specs.Cluster.Placements.{part};
 ghost use Rattle.cj_shelf.specs.MemoryShelves.{taken_of};
-ghost use Rattle.cj_opening.specs.Openings.{OpensTo, items_of};
+ghost use Rattle.cj_recovery.specs.Openings.{OpensTo, items_of};
 ghost use Rattle.cj_book.specs.Books.{IsKeptIn};
 ghost use Rattle.cj_book.specs.Starts.{greatest_session};
 ghost use Rattle.cj_outside.specs.Causes.{CountsFault};
@@ -170,7 +170,7 @@ impl<B: Backend + Drop, S: Store + Drop> State<B, S> {
         requires unowned { (book.view.given ≡ []) × (book.view.last_given ≡ 0) }
         ensures core { result.core ≡ opened_core (placement_of book.state.layout) book.state.history }
         ensures cells { result.cells ≡ states_of cells.items }
-        ensures setup { result.setup ≡ record { names = book.state.layout.names; register = accounts } }
+        ensures setup { result.setup ≡ record { names = book.state.layout.names; accounts = accounts } }
         ensures recovery_log { result.recovery_log ≡ log_view S.faults S.held book.state.recovery_log }
         ensures cache { result.cache ≡ book.state.cache }
         ensures balance { result.balance ≡ book.state.balance }
@@ -266,7 +266,7 @@ impl<B: Backend, S: Store> State<B, S> {
 
     /// The number of the open entry.
     pub fn open_entry(&self) -> Option<u64>
-        ensures none { IsNone result ↔ (is_idle self.now.core.history ≡ true) }
+        ensures none { IsNone result ↔ (is_free self.now.core.history ≡ true) }
         ensures number { IfSome result (λ n. n ≡ moves.last_number self.now.core) }
     {
         self.book.open_entry()
@@ -311,7 +311,7 @@ impl<B: Backend, S: Store> State<B, S> {
     }
 
     pub fn is_free(&self) -> bool
-        ensures { result ≡ is_idle self.now.core.history }
+        ensures { result ≡ is_free self.now.core.history }
     {
         self.book.is_free()
     }
@@ -348,11 +348,11 @@ impl<B: Backend, S: Store> State<B, S> {
     }
 
     /// How many requests the session has made.
-    fn queries(&self, s: u64) -> u64
-        ensures { result ≡ (session_at self.now.core s).queries }
+    fn requests(&self, s: u64) -> u64
+        ensures { result ≡ (session_at self.now.core s).requests }
     {
         match self.sessions.get(s) {
-            Some(session) => session.queries,
+            Some(session) => session.requests,
             None => 0,
         }
     }
@@ -393,7 +393,7 @@ impl<B: Backend, S: Store> State<B, S> {
     /// The session's next entry.
     pub fn next_entry(&self, s: u64, act: Act) -> Result<Entry, NoMemory>
         requires here { moves.is_open self.now.core s ≡ true }
-        requires counts { (session_at self.now.core s).queries < REQUEST_LIMIT }
+        requires counts { (session_at self.now.core s).requests < REQUEST_LIMIT }
         requires written { IsWritten (request_of act) }
         requires allowed { forbidden_by (moves.open_tx self.now.core s) act ≡ None }
         ensures next { IfOk result (λ e. e ≡ next_entry self.now.core s act) }
@@ -402,7 +402,7 @@ impl<B: Backend, S: Store> State<B, S> {
         match self.sessions.get(s) {
             Some(session) => Ok(Entry {
                 session: s,
-                seq: session.queries + 1,
+                seq: session.requests + 1,
                 tx: tx_of_act(self.book.open_tx(s), &act),
                 user: session.user.copy(self.alloc)?,
                 act,
@@ -414,7 +414,7 @@ impl<B: Backend, S: Store> State<B, S> {
     /// The entry of the session's next request, for this user and in this transaction, 0 for none.
     pub fn entry_for(&self, s: u64, user: &Text, tx: u64, act: Act) -> Result<Entry, NoMemory>
         requires here { moves.is_open self.now.core s ≡ true }
-        requires counts { (session_at self.now.core s).queries < REQUEST_LIMIT }
+        requires counts { (session_at self.now.core s).requests < REQUEST_LIMIT }
         requires short { length user.now ≤ USER_LIMIT }
         requires written { IsWritten (request_of act) }
         requires allowed { FitsTx (moves.open_tx self.now.core s) tx act }
@@ -423,7 +423,7 @@ impl<B: Backend, S: Store> State<B, S> {
     {
         Ok(Entry {
             session: s,
-            seq: self.queries(s) + 1,
+            seq: self.requests(s) + 1,
             tx,
             user: user.copy(self.alloc)?,
             act,
@@ -460,7 +460,7 @@ impl<B: Backend, S: Store> State<B, S> {
 
     /// The number of the session's read.
     pub fn read_number(&self, s: u64) -> u64
-        requires { (session_at self.now.core s).queries < REQUEST_LIMIT }
+        requires { (session_at self.now.core s).requests < REQUEST_LIMIT }
         ensures { result ≡ moves.read_number (session_at self.now.core s) }
     {
         match self.sessions.get(s) {
@@ -547,7 +547,7 @@ impl<B: Backend, S: Store> State<B, S> {
 
     /// What the open entry is answered, where no backend is behind.
     pub fn reply(&self) -> Reply
-        requires open { is_idle self.now.core.history ≡ false }
+        requires open { is_free self.now.core.history ≡ false }
         requires behind { moves.first_lagging self.now.core.history 0 self.now.core.positions ≡ None }
         ensures { AnswersOpen B.tells self.now.core result }
     {
@@ -584,7 +584,7 @@ impl<B: Backend, S: Store> State<B, S> {
 
     /// The session has made one request more.
     pub fn count(&mut self, s: u64)
-        requires counts { (session_at self.old.core s).queries < REQUEST_LIMIT }
+        requires counts { (session_at self.old.core s).requests < REQUEST_LIMIT }
         requires idle { moves.is_waiting self.old.core s ≡ false }
         requires no_read { (session_at self.old.core s).reading ≡ None }
         ensures { self.new ≡ with_core self.old (with_request_counted self.old.core s) }
@@ -610,7 +610,7 @@ impl<B: Backend, S: Store> State<B, S> {
 
     /// The session's read was refused.
     pub fn refuse_read(&mut self, s: u64)
-        requires counts { (session_at self.old.core s).queries < REQUEST_LIMIT }
+        requires counts { (session_at self.old.core s).requests < REQUEST_LIMIT }
         requires idle { moves.is_waiting self.old.core s ≡ false }
         ensures { self.new ≡ with_core self.old (with_read self.old.core s was_answered) }
     {
@@ -619,7 +619,7 @@ impl<B: Backend, S: Store> State<B, S> {
 
     /// The session's read was answered at a position.
     pub fn answer_read(&mut self, s: u64, position: u64)
-        requires counts { (session_at self.old.core s).queries < REQUEST_LIMIT }
+        requires counts { (session_at self.old.core s).requests < REQUEST_LIMIT }
         requires within { position ≤ moves.last_number self.old.core }
         requires idle { moves.is_waiting self.old.core s ≡ false }
         ensures { self.new ≡ with_core self.old (with_read self.old.core s (λ x. answered_at position (was_answered x))) }
@@ -629,7 +629,7 @@ impl<B: Backend, S: Store> State<B, S> {
 
     /// The session's read stays open, and the backends of the mask have failed in it.
     pub fn keep_reading(&mut self, s: u64, select: Select, tried: u32)
-        requires counts { (session_at self.old.core s).queries < REQUEST_LIMIT }
+        requires counts { (session_at self.old.core s).requests < REQUEST_LIMIT }
         requires idle { moves.is_waiting self.old.core s ≡ false }
         requires since { HaveFailed self.old.core s tried }
         ensures { self.new ≡ with_core self.old (with_read self.old.core s (still_reading select tried)) }
@@ -640,10 +640,10 @@ impl<B: Backend, S: Store> State<B, S> {
     /// Schedules an entry of the session. Where it is refused, the request is yet to be counted.
     pub fn schedule_entry(&mut self, s: u64, entry: Entry) -> Result<u64, BookError>
         requires here { moves.is_open self.old.core s ≡ true }
-        requires counts { (session_at self.old.core s).queries < REQUEST_LIMIT }
+        requires counts { (session_at self.old.core s).requests < REQUEST_LIMIT }
         requires no_read { (session_at self.old.core s).reading ≡ None }
         requires session { entry.session ≡ s }
-        requires number { entry.seq ≡ (session_at self.old.core s).queries + 1 }
+        requires number { entry.seq ≡ (session_at self.old.core s).requests + 1 }
         requires fits { IsFitEntry (log self.old.core.history) entry }
         ensures scheduled { SchedulesAs self.old.core entry result }
         ensures core { self.new.core ≡ core_scheduled self.old.core s entry result }
@@ -692,8 +692,8 @@ impl<B: Backend, S: Store> State<B, S> {
 
     /// The session of the open entry.
     pub fn waiting(&self) -> u64
-        requires { is_idle self.now.core.history ≡ false }
-        ensures { (e : Entry) × (histories.entry_in_progress self.now.core.history ≡ Some e) × (result ≡ e.session) }
+        requires { is_free self.now.core.history ≡ false }
+        ensures { (e : Entry) × (histories.open_entry_of self.now.core.history ≡ Some e) × (result ≡ e.session) }
     {
         match self.book.opened() {
             Some(entry) => entry.session,
@@ -703,7 +703,7 @@ impl<B: Backend, S: Store> State<B, S> {
 
     /// Ends the open entry, which is of this session.
     pub fn end_entry(&mut self, s: u64)
-        requires open { is_idle self.old.core.history ≡ false }
+        requires open { is_free self.old.core.history ≡ false }
         requires waits { moves.is_waiting self.old.core s ≡ true }
         requires behind { moves.first_lagging self.old.core.history 0 self.old.core.positions ≡ None }
         ensures { self.new ≡ with_core self.old (ended_for self.old.core s) }
@@ -717,7 +717,7 @@ impl<B: Backend, S: Store> State<B, S> {
     }
 
     /// The backend takes the open entry.
-    pub fn take_open(&mut self, b: u8) -> Did
+    pub fn catch_up_open(&mut self, b: u8) -> Did
         requires within { b < self.old.core.placement.backends }
         requires now { not_now self.old.core (Move.Apply b) ≡ None }
         ensures applies { Applies B.tells self.old.core b (Ok (Moved.Applied b result)) self.new.core }
@@ -744,7 +744,7 @@ impl<B: Backend, S: Store> State<B, S> {
     }
 
     /// A backend that isn't enabled takes the log's next entry.
-    pub fn take_next(&mut self, b: u8) -> Did
+    pub fn catch_up_next(&mut self, b: u8) -> Did
         requires within { b < self.old.core.placement.backends }
         requires now { not_now self.old.core (Move.Replay b) ≡ None }
         ensures replays { Replays B.tells self.old.core b (Ok (Moved.Replayed (moves.position_or_zero (position_at self.old.core b) + 1) result)) self.new.core }
@@ -781,7 +781,7 @@ impl<B: Backend, S: Store> State<B, S> {
         requires here { moves.is_open self.old.core s ≡ true }
         requires serves { CanServe self.old.core.placement self.old.core.history (request.Select select.now) b }
         requires written { IsWritten (request.Select select.now) }
-        requires counts { (session_at self.old.core s).queries < REQUEST_LIMIT }
+        requires counts { (session_at self.old.core s).requests < REQUEST_LIMIT }
         ensures core { self.new.core ≡ asked_core self.old.core s b result }
         ensures asks { Asks B.tells self.old.core s b tx select.now result }
         ensures counts { faults_of self.new.cells ≡ faults_after (faults_of self.old.cells) (failed_asked b result) }
@@ -851,8 +851,8 @@ impl<B: Backend, S: Store> State<B, S> {
         arm_at(&mut self.cells, b);
     }
 
-    pub fn switch_off(&mut self, b: u8) -> Result<(), BookError>
-        requires free { is_idle self.old.core.history ≡ true }
+    pub fn disable(&mut self, b: u8) -> Result<(), BookError>
+        requires free { is_free self.old.core.history ≡ true }
         requires on { histories.is_enabled self.old.core.history b ≡ true }
         ensures room { HadRoom self.old.core result }
         ensures ok { OnOk result (self.new ≡ with_core self.old (happened self.old.core (Event.Disabled b))) }
@@ -861,8 +861,8 @@ impl<B: Backend, S: Store> State<B, S> {
         self.book.disable(&self.board, b)
     }
 
-    pub fn switch_on(&mut self, b: u8) -> Result<(), BookError>
-        requires free { is_idle self.old.core.history ≡ true }
+    pub fn enable(&mut self, b: u8) -> Result<(), BookError>
+        requires free { is_free self.old.core.history ≡ true }
         requires off { histories.is_enabled self.old.core.history b ≡ false }
         requires there { position_at self.old.core b ≡ Some (moves.last_number self.old.core) }
         ensures room { HadRoom self.old.core result }
@@ -888,7 +888,7 @@ impl<B: Backend, S: Store> State<B, S> {
 
     /// Marks a checkpoint of a name that no marker has, and answers how many entries stand before it.
     pub fn mark(&mut self, name: &Name) -> Result<u64, BookError>
-        requires free { is_idle self.old.core.history ≡ true }
+        requires free { is_free self.old.core.history ≡ true }
         requires fresh { histories.has_marker self.old.core.history name.now ≡ false }
         requires name { is_name name.now ≡ true }
         ensures room { HadLoggedRoom self.old.core result }

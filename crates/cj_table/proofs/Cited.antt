@@ -6,12 +6,12 @@ pub use Rattle.cj_model.specs.Database.Storable.{writers}
 pub use Rattle.cj_model.specs.Database.Tables.{IsDatabase}
 pub use Rattle.cj_model.specs.declared.answer.Outcome.TheVariants.{Refused}
 pub use Rattle.cj_model.specs.declared.database.Draft.{Draft}
-pub use Rattle.cj_plan.proofs.PlanLaws.{from_some}
-pub use Rattle.cj_rows.proofs.Common.{Rises, append-nil, by_key, cell, insert_entry, map-append}
-pub use Rattle.cj_rows.proofs.ConversionLaws.{draft_put, filled, puts_rise, table_filled, turned_all, turned_more}
-pub use Rattle.cj_rows.specs.Entries.{KeysRise}
-pub use Rattle.cj_rows.specs.RowEntries.{RowEntries, Settles, Turns, puts}
-pub use Rattle.cj_rows.specs.Stored.{IsChangeOf, rows_after}
+pub use Rattle.cj_dml.proofs.PlanLaws.{from_some}
+pub use Rattle.cj_rowstore.proofs.Common.{Rises, append-nil, by_key, cell, insert_entry, map-append}
+pub use Rattle.cj_rowstore.proofs.ConversionLaws.{draft_put, filled, puts_rise, table_filled, turned_all, turned_more}
+pub use Rattle.cj_rowstore.specs.Entries.{KeysRise}
+pub use Rattle.cj_rowstore.specs.RowEntries.{RowEntries, Settles, Turns, puts}
+pub use Rattle.cj_rowstore.specs.Stored.{IsChangeOf, rows_after}
 pub use Rattle.cj_table.proofs.CarriedLaws.{carried_is_database}
 pub use Rattle.cj_table.proofs.Common.{All, IsSlot, None, Option, Schema, Slot, Some, Turned, Value, append_assoc, by_table, bytes_eq, change_into, deref, fold, name_cmp, nat_cmp, position, put_by, seen, slot_of, table_of, table_written, value_cmp}
 pub use Rattle.cj_table.proofs.PutLaws.{putting, slot_put}

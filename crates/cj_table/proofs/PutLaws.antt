@@ -1,19 +1,19 @@
 -- Rows that come in any order make a table.
 use Rattle.std.proofs.Common.{◌≡◌, ℕ, Bool, true, false, not, ◌&&◌, nat_lt, List, [], ◌∷◌, length, refl, ap, sym, ◌∙◌, subst, arith}
 use Rattle.cj_model.proofs.Common.{All-cons, All-nil, list_any}
-use Rattle.cj_rows.proofs.Common.{IsChangeOf, rows_after, values_of}
+use Rattle.cj_rowstore.proofs.Common.{IsChangeOf, rows_after, values_of}
 use Rattle.std.proofs.lemmas.Bool.{and_from, and_parts, or_parts, not-false, not-true, not_from_false, ltb-true, ltb-false, cond-true, cond_both}
 use Rattle.cj_table.proofs.Common.{All, by_table, change_into, Err, fold, IsDatabase, IsSlot, NoMemory, None, Ok, put_by, Result, Schema, Slot, Some, Value}
 use Rattle.cj_model.specs.declared.schema.Column.{Column}
 use Rattle.cj_model.specs.declared.limits.TheConstants.{COLUMN_LIMIT, ROW_LIMIT}
-use Rattle.cj_plan.proofs.Common.{RowEntries, has_key, has_key_twice, puts}
+use Rattle.cj_dml.proofs.Common.{RowEntries, has_key, has_key_twice, puts}
 use Rattle.cj_model.specs.Database.Tables.{by_key, column_names, fits_columns, is_distinct}
 use Rattle.cj_model.proofs.RisingLaws.{all_put, all_put_each, length-put_each, rises_put, rises_put_each}
 use Rattle.cj_model.proofs.TableLaws.{by_key_total}
 use Rattle.cj_model.proofs.DatabaseLaws.{by_table_total}
-use Rattle.cj_plan.proofs.PlanLaws.{length_put}
-use Rattle.cj_rows.proofs.ConversionLaws.{puts_rise}
-use Rattle.cj_rows.proofs.RowLaws.{merged_puts, values_keyed}
+use Rattle.cj_dml.proofs.PlanLaws.{length_put}
+use Rattle.cj_rowstore.proofs.ConversionLaws.{puts_rise}
+use Rattle.cj_rowstore.proofs.RowLaws.{merged_puts, values_keyed}
 use Rattle.cj_table.specs.Put.{is_schema, may_be_table, makes_table, slot_made, slot_with, PutsTable}
 
 none_known : (k : ℕ) (rows : List (List Value)) → list_any (has_key k []) rows ≡ false

@@ -2,11 +2,11 @@
 
 ghost use Rattle.std.specs.Prelude.{◌≡◌, All, None, Some, IfOk, OnOk};
 ghost use Rattle.cj_model.specs.Database.Tables.{IsSlot, IsTable, Rises, by_key};
-ghost use Rattle.cj_rows.specs.RowEntries.{Turns};
-ghost use Rattle.cj_rows.specs.RowEntries as entries;
+ghost use Rattle.cj_rowstore.specs.RowEntries.{Turns};
+ghost use Rattle.cj_rowstore.specs.RowEntries as entries;
 
 use cj_model::{Db, Draft, Duplicate, NoMemory, Row, Rows, Slot, Table, copies};
-use cj_rows::{RowMap, Scan, StoredTable, View, key_of};
+use cj_rowstore::{RowMap, Scan, StoredTable, View, key_of};
 use std::alloc::Global;
 
 /// The changes that put the rows at their keys.

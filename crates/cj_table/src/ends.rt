@@ -7,7 +7,7 @@ ghost use Rattle.cj_model.specs.Database.Tables.{table_of};
 
 use crate::slots::find;
 use cj_model::{LOCKED, NO_TABLE, Name, Outcome, Refusal};
-use cj_rows::StoredTable;
+use cj_rowstore::StoredTable;
 use std::alloc::Global;
 
 fn remove_slot(slots: &mut Vec<StoredTable>, name: &Name)

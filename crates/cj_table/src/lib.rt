@@ -9,5 +9,5 @@ mod slots;
 mod tables;
 mod writers;
 
-pub use cj_rows::{Scan, ScanBack, View};
+pub use cj_rowstore::{Scan, ScanBack, View};
 pub use tables::Tables;

@@ -6,8 +6,8 @@ ghost use Rattle.cj_table.specs.Put as put;
 
 use crate::slots::put_slot;
 use cj_model::{COLUMN_LIMIT, Column, NoMemory, ROW_LIMIT, Rows, Schema};
-use cj_plan::{has_misfit, is_column, puts};
-use cj_rows::StoredTable;
+use cj_dml::{has_misfit, is_column, puts};
+use cj_rowstore::StoredTable;
 use std::alloc::Global;
 
 /// Whether all columns have different names.

@@ -4,8 +4,8 @@ ghost use Rattle.std.specs.Prelude.{◌≡◌, ◌<◌, ◌≤◌, ◌==◌, cou
 ghost use Rattle.cj_model.specs.Database.Steps as steps;
 
 use cj_model::{COLUMN_LIMIT, ColDef, Column, Columns, Create, Names, NoMemory, Schema};
-use cj_plan::is_distinct;
-use cj_rows::StoredTable;
+use cj_dml::is_distinct;
+use cj_rowstore::StoredTable;
 use std::alloc::Global;
 
 fn names_of(alloc: Global, columns: &[ColDef]) -> Result<Names, NoMemory>

@@ -8,15 +8,15 @@ ghost use Rattle.cj_model.specs.Database.Steps.{written};
 ghost use Rattle.cj_model.specs.Database.Updates.{change};
 ghost use Rattle.cj_model.specs.Database.Tables.{IsDatabase, IsSlot, by_table, put_by, slot_of, table_of};
 ghost use Rattle.cj_table.specs.Carried.{Carries, CarriesSlot, change_of, is_undrafted};
-ghost use Rattle.cj_plan.specs.Changes.{MakesChange};
+ghost use Rattle.cj_dml.specs.Changes.{MakesChange};
 
 use crate::schemas::{empty_table, makes_schema};
 use cj_model::{
     BAD_COLUMNS, COLUMN_LIMIT, Create, LOCKED, NO_TABLE, Name, NoMemory, Outcome, Refusal,
     TABLE_EXISTS, Write,
 };
-use cj_plan::{Change, Decided, decided};
-use cj_rows::{StoredTable, View};
+use cj_dml::{Change, Decided, decided};
+use cj_rowstore::{StoredTable, View};
 use std::alloc::Global;
 use std::cmp::Ordering;
 

@@ -13,7 +13,7 @@ use crate::put::put_table;
 use crate::slots::{create_slot, find, write_slots};
 use crate::writers::writers_in;
 use cj_model::{COLUMN_LIMIT, Create, Db, Name, NoMemory, Outcome, Rows, Schema, Write};
-use cj_rows::{StoredTable, View};
+use cj_rowstore::{StoredTable, View};
 use std::alloc::Global;
 use std::marker::Model;
 

@@ -7,7 +7,7 @@ ghost use Rattle.cj_model.specs.Database.Tables.{put_by};
 ghost use Rattle.cj_model.specs.Proving.Gaps.{IsGap};
 
 use cj_model::NoMemory;
-use cj_rows::StoredTable;
+use cj_rowstore::StoredTable;
 use std::alloc::Global;
 use std::cmp::Ordering;
 

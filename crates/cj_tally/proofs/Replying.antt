@@ -22,7 +22,7 @@ use Rattle.cj_model.specs.Wire.Replies.{outcome_reply}
 use Rattle.cj_cluster.specs.declared.event.Event.{Event}
 use Rattle.cj_cluster.specs.declared.event.Event.TheVariants.{Ended}
 use Rattle.cj_cluster.specs.History.Answering.{AnswersEntry, HasServer, IsTarget}
-use Rattle.cj_cluster.specs.History.Histories.{database_after, ended_count, entry_in_progress, is_enabled, log}
+use Rattle.cj_cluster.specs.History.Histories.{database_after, ended_count, open_entry_of, is_enabled, log}
 use Rattle.cj_cluster.specs.History.Transactions.{takes_part}
 use Rattle.cj_cluster.proofs.Pushed.{ends-last, log-same}
 use Rattle.cj_tally.specs.declared.tally.Tally.{Tally}
@@ -86,7 +86,7 @@ module _ (t : Tally) (targets : ℕ) (fits : targets < 2 ^ 32) (fits_failed : t.
   pub replies_finished : (z : Reply) → (targets ≢ 0 → spared_of targets t.failed t.starved ≡ 0 → ⊥) → z ≡ outcome_reply (outcome_or_done t.first_outcome) → RepliesTo t targets z
   replies_finished z some is = record { unfinished = λ u. absurd (finished_not (by_masks some) u); finished = λ no. is }
 
-  module _ (z : Reply) (replies : RepliesTo t targets z) (tells : Bool) (p : Placement) (h : List Event) (e : Entry) (is : entry_in_progress h ≡ Some e) (served : HasServer p h (request_of e.act)) (are : AreTargets p h e targets) (heard : HaveReported targets t)
+  module _ (z : Reply) (replies : RepliesTo t targets z) (tells : Bool) (p : Placement) (h : List Event) (e : Entry) (is : open_entry_of h ≡ Some e) (served : HasServer p h (request_of e.act)) (are : AreTargets p h e targets) (heard : HaveReported targets t)
       (tally : IsTallyOf tells p (log h) (ended_count h) e t) where
     abbrev Answered : Type 0
     Answered = AnswersEntry tells p h (h ++ Ended t.failed t.starved ∷ []) (ended_count h) e z

@@ -19,7 +19,7 @@ use Rattle.cj_cluster.specs.declared.event.Event.TheVariants.{Ended}
 use Rattle.cj_cluster.specs.declared.moves.Did.{Did}
 use Rattle.cj_cluster.specs.declared.moves.Did.TheVariants as did
 use Rattle.cj_cluster.specs.History.Answering.{AnswersEntry, HasServer, IsTarget}
-use Rattle.cj_cluster.specs.History.Histories.{log, ended_count, entry_in_progress, outcome_of}
+use Rattle.cj_cluster.specs.History.Histories.{log, ended_count, open_entry_of, outcome_of}
 use Rattle.cj_cluster.specs.History.Transactions.{takes_part}
 use Rattle.cj_cluster.specs.Moves.Moves.{failed_after, starved_after}
 use Rattle.cj_tally.specs.declared.tally.Tally.{Tally}
@@ -105,5 +105,5 @@ HaveReported targets t = (b : ℕ) → in_mask targets b ≡ true → (in_mask t
 -- Each target of an entry that is open and served has reported, and rightly: the entry is answered so once it ends with the masks of the tally.
 abbrev pub AnswersByTally : Tally → ℕ → Reply → Type 0
 AnswersByTally t targets reply =
-    (tells : Bool) (p : Placement) (h : List Event) (e : Entry) → entry_in_progress h ≡ Some e → HasServer p h (request_of e.act) → AreTargets p h e targets → HaveReported targets t → IsTallyOf tells p (log h) (ended_count h) e t
+    (tells : Bool) (p : Placement) (h : List Event) (e : Entry) → open_entry_of h ≡ Some e → HasServer p h (request_of e.act) → AreTargets p h e targets → HaveReported targets t → IsTallyOf tells p (log h) (ended_count h) e t
     → AnswersEntry tells p h (h ++ Ended t.failed t.starved ∷ []) (ended_count h) e reply

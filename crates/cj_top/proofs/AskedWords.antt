@@ -1,10 +1,10 @@
 -- What follows from what words were read as.
 use Rattle.std.proofs.Common.{◌≡◌, ◌↔◌, inl, inr, ℕ, List, Option, None, Some, subst}
 use Rattle.cj_top.proofs.Common.{Command, Gen, Log, Pipe, Script}
-use Rattle.cj_words.specs.Words.{Asks, Says}
-use Rattle.cj_words.specs.declared.asked.Asked.{Asked}
-use Rattle.cj_words.specs.declared.asked.Asked.TheVariants as asked
-use Rattle.cj_words.specs.declared.asked.Topic.{Topic}
+use Rattle.cj_args.specs.Words.{Asks, Says}
+use Rattle.cj_args.specs.declared.asked.Asked.{Asked}
+use Rattle.cj_args.specs.declared.asked.Asked.TheVariants as asked
+use Rattle.cj_args.specs.declared.asked.Topic.{Topic}
 use Rattle.cj_top.specs.Program.{AsksForText}
 use Rattle.cj_top.specs.Runs.{HasFewStatements}
 

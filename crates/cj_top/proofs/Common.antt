@@ -22,8 +22,8 @@ pub use Rattle.cj_top.specs.Piped.{RefusesPipe, RunsPipe, generator_of, opened_a
 pub use Rattle.cj_top.specs.Program.{status_of_listing}
 pub use Rattle.cj_top.specs.Scripted.{PlaysAsConfigured}
 pub use Rattle.cj_top.specs.declared.piped.PipeError.{PipeError}
-pub use Rattle.cj_words.specs.declared.asked.Command.{Command}
-pub use Rattle.cj_words.specs.declared.asked.Command.TheVariants.{Gen, Log, Pipe, Script}
+pub use Rattle.cj_args.specs.declared.asked.Command.{Command}
+pub use Rattle.cj_args.specs.declared.asked.Command.TheVariants.{Gen, Log, Pipe, Script}
 pub use Rattle.std.proofs.lemmas.Bool.{le-ltb, lt-ltb}
 pub use Rattle.std.proofs.lemmas.List.Concat.{flat_map-append, flat_map-cons}
 pub use Rattle.std.specs.Prelude.{IfErr, IfOk, IfSome}

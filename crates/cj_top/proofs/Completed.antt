@@ -5,7 +5,7 @@ use Rattle.cj_outside.specs.Causes.{CountsFault}
 use Rattle.cj_cluster.specs.declared.session.SessionEnd.TheVariants as end
 use Rattle.cj_conf.specs.Confs.{conf_of}
 use Rattle.cj_conf.specs.declared.error.ConfError.{ConfError}
-use Rattle.cj_core.proofs.Common.{BackendState, BlamesNobody, backend_of, state_by}
+use Rattle.cj_core.proofs.Common.{BackendState, BlamesNobody, started_backend, state_by}
 use Rattle.cj_script.specs.declared.play.ScriptEnd.TheVariants as script_end
 use Rattle.cj_top.specs.Completeness.{AnswersInput, ByConf, ByStore, CompletesCommand, CountNoFaults, CountsNoFault, PipesInput, PlaysInput, ScriptsInput, is_end_by_input, is_script_end_by_input}
 use Rattle.cj_outside.specs.declared.sink.OutError.TheVariants as out_errors
@@ -63,7 +63,7 @@ script_by_input script_end.NoMemory read write memory = absurd (memory refl)
 
 -- ---- the counts of backends
 
-counts_seen : (cells : List CellState) → map (λ (s : BackendState). s.faults) (map backend_of cells) ≡ faults_of cells
+counts_seen : (cells : List CellState) → map (λ (s : BackendState). s.faults) (map started_backend cells) ≡ faults_of cells
 counts_seen [] = refl
 counts_seen (x ∷ cells) = ap (λ (ns : List ℕ). x.faults ∷ ns) (counts_seen cells)
 
@@ -73,7 +73,7 @@ module _ {X : Type 0} (told : X → Option (List Slot)) (faults asks : X → ℕ
   counts_by (x ∷ xs) = ap (λ (ns : List ℕ). faults x ∷ ns) (counts_by xs)
 
   -- the cells count what their backends do
-  pub same_counts : (cells : List CellState) (xs : List X) → map backend_of cells ≡ map (state_by told faults asks login arming) xs → faults_of cells ≡ map faults xs
+  pub same_counts : (cells : List CellState) (xs : List X) → map started_backend cells ≡ map (state_by told faults asks login arming) xs → faults_of cells ≡ map faults xs
   same_counts cells xs same = sym (counts_seen cells) ∙ ap (map (λ (s : BackendState). s.faults)) same ∙ counts_by xs
 
 -- ---- one session

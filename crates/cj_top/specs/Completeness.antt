@@ -25,8 +25,8 @@ use Rattle.cj_script.specs.Script.{IsWrong, audit_line}
 use Rattle.cj_script.specs.declared.play.ScriptEnd.{ScriptEnd}
 use Rattle.cj_script.specs.declared.play.ScriptEnd.TheVariants as script_ends
 use Rattle.cj_top.specs.Configured.{in_memory}
-use Rattle.cj_words.specs.declared.asked.Command.{Command}
-use Rattle.cj_words.specs.declared.asked.Command.TheVariants.{Pipe, Script, Log, Gen}
+use Rattle.cj_args.specs.declared.asked.Command.{Command}
+use Rattle.cj_args.specs.declared.asked.Command.TheVariants.{Pipe, Script, Log, Gen}
 use Rattle.cj_top.specs.Program.{status_of_script, status_of_session}
 use Rattle.cj_top.specs.Runs.{AreConfBytes}
 

@@ -19,7 +19,7 @@ use Rattle.cj_conf.specs.declared.backend.BackendKind.{BackendKind}
 use Rattle.cj_conf.specs.declared.backend.BackendKind.TheVariants.{Memory, Sqlite}
 use Rattle.cj_conf.specs.declared.conf.Conf.{Conf}
 use Rattle.cj_conf.specs.declared.error.ConfError.{ConfError}
-use Rattle.cj_conf.specs.Refusals.{error_number, key_text}
+use Rattle.cj_conf.specs.Refusals.{error_number, config_key_text}
 use Rattle.cj_core.specs.Starts.{BackendState, HaveBegunNone, StartsFrom}
 use Rattle.cj_log.specs.declared.item.LogItem.{LogItem}
 use Rattle.cj_state.specs.Worlds.{WorldState}
@@ -52,7 +52,7 @@ pub record AreNew (tells : Bool) (count : ℕ) (backends : List BackendState) (b
 
 -- The world that a start makes of new backends, as a configuration has them, over the log that was found: each has replayed the log, and no session is open. `tells`: the backends tell what they hold.
 pub record BeginsAsConfigured (tells : Bool) (c : Conf) (found : List LogItem → Type 0) (w : WorldState) : Type 0 where
-  pub setup : w.setup ≡ record { names = c.placement.names; register = c.accounts }
+  pub setup : w.setup ≡ record { names = c.placement.names; accounts = c.accounts }
   pub starts : StartsFrom found (placement_of c.placement) (replicate (length c.placement.names) (new_backend tells)) w
   -- its result cache has kept and counted nothing
   pub cache : w.cache ≡ empty_cache c.cache
@@ -66,7 +66,7 @@ last_word (first ∷ rest) = 32 ∷ first ∷ rest
 
 -- the line that tells a refusal by its number and key: "configuration refused: N KEY"
 abbrev pub refusal_line : ConfError → List ℕ
-refusal_line e = with_line_feed (words (codes "configuration" ∷ codes "refused:" ∷ decimal (error_number e) ∷ []) ++ last_word (key_text e))
+refusal_line e = with_line_feed (words (codes "configuration" ∷ codes "refused:" ∷ decimal (error_number e) ∷ []) ++ last_word (config_key_text e))
 
 -- That line was written, and behind it an explanation; or the errors failed in it, which they counted, or memory was wanting. `before` and `now` are the errors' counts of faults.
 pub record WritesRefusal (errors errors' : Option (List ℕ)) (before now : ℕ) (e : ConfError) : Type 0 where

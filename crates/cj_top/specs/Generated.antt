@@ -28,7 +28,7 @@ summary_text s =
     ++ count_line (codes "rows") s.rows ++ count_line (codes "hits") s.hits ++ count_line (codes "misses") s.misses ++ equal_line s.equal
 
 -- From new backends, as the configuration has them, each so that it can be armed, and a new log in memory a workload came to this summary; `tells`: the backends are in memory, and tell what they hold.
-pub record PlaysAsConfigured (tells : Bool) (c : Conf) (seed count : ℕ) (s : Summary) : Type 0 where
+pub record GeneratesAsConfigured (tells : Bool) (c : Conf) (seed count : ℕ) (s : Summary) : Type 0 where
   pub first : WorldState
   pub begins : BeginsAsConfigured tells c (Found true []) first
   pub plays : PlaysWorkload tells true seed count first s
@@ -36,7 +36,7 @@ pub record PlaysAsConfigured (tells : Bool) (c : Conf) (seed count : ℕ) (s : S
 -- A workload was played, and its summary written; where the output failed in it or memory was wanting, the status says so.
 pub record RunsGen (c : Conf) (seed count : ℕ) (held held' : Option (List ℕ)) (status : ℕ) : Type 0 where
   pub summary : Summary
-  pub played : PlaysAsConfigured (in_memory c) c seed count summary
+  pub played : GeneratesAsConfigured (in_memory c) c seed count summary
   pub answer : Result (Unit {0}) OutError
   pub bytes : WritesAll held held' (summary_text summary) answer
   pub status_is : status ≡ status_of_listing answer

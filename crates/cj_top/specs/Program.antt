@@ -4,9 +4,9 @@ use Rattle.std.specs.declared.option.Option.{Option}
 use Rattle.cj_outside.specs.Streams.{WritesAll}
 use Rattle.cj_outside.specs.declared.sink.OutError.{OutError}
 use Rattle.cj_outside.specs.declared.sink.OutError.TheVariants as out_errors
-use Rattle.cj_words.specs.Words.{Asks}
-use Rattle.cj_words.specs.declared.asked.Asked.TheVariants as asked
-use Rattle.cj_words.specs.declared.asked.Topic.{Topic}
+use Rattle.cj_args.specs.Words.{Asks}
+use Rattle.cj_args.specs.declared.asked.Asked.TheVariants as asked
+use Rattle.cj_args.specs.declared.asked.Topic.{Topic}
 use Rattle.cj_cluster.specs.declared.session.SessionEnd.{SessionEnd}
 use Rattle.cj_cluster.specs.declared.session.SessionEnd.TheVariants as end
 use Rattle.cj_script.specs.declared.play.ScriptEnd.{ScriptEnd}

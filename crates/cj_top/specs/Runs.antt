@@ -6,9 +6,9 @@ use Rattle.cj_conf.specs.declared.error.ConfError.{ConfError}
 use Rattle.cj_conf.specs.Confs.{conf_of}
 use Rattle.std.specs.declared.option.Option.{Option}
 use Rattle.cj_log.specs.declared.item.LogItem.{LogItem}
-use Rattle.cj_words.specs.declared.asked.Command.{Command}
-use Rattle.cj_words.specs.declared.asked.Command.TheVariants.{Pipe, Script, Log, Gen}
-use Rattle.cj_words.specs.declared.parts.TheConstants.{COUNT_LIMIT}
+use Rattle.cj_args.specs.declared.asked.Command.{Command}
+use Rattle.cj_args.specs.declared.asked.Command.TheVariants.{Pipe, Script, Log, Gen}
+use Rattle.cj_args.specs.declared.parts.TheConstants.{COUNT_LIMIT}
 use Rattle.cj_top.specs.Generated.{ComesByGen}
 use Rattle.cj_top.specs.Listed.{ComesByLog}
 use Rattle.cj_top.specs.Piped.{ComesByPipe}

@@ -7,8 +7,8 @@ ghost use Rattle.cj_outside.specs.Streams.{WritesAll};
 ghost use Rattle.cj_core.specs.Starts.{state_by};
 ghost use Rattle.cj_top.specs.Configured.{AreNew, in_memory};
 ghost use Rattle.cj_top.specs.Generated as spec;
-ghost use Rattle.cj_top.specs.Generated.{ComesByGen, PlaysAsConfigured, count_line, summary_text};
-ghost use Rattle.cj_words.specs.declared.parts.TheConstants.{COUNT_LIMIT};
+ghost use Rattle.cj_top.specs.Generated.{ComesByGen, GeneratesAsConfigured, count_line, summary_text};
+ghost use Rattle.cj_args.specs.declared.parts.TheConstants.{COUNT_LIMIT};
 
 use crate::configured::{any_backends, are_in_memory, memory_backends};
 use crate::listed::status_of_listing;
@@ -32,7 +32,7 @@ fn play_over<B: Backend + Drop>(
     requires usable { IsUsable conf }
     requires new { AreNew B.tells (length conf.placement.names) (map (state_by B.told B.faults B.asks B.login B.arming) backends) (map B.begun backends) }
     requires few { count ≤ COUNT_LIMIT }
-    ensures { IfOk result (PlaysAsConfigured B.tells conf seed count) }
+    ensures { IfOk result (GeneratesAsConfigured B.tells conf seed count) }
 {
     let log = MemStore::new(Vec::new(alloc), Vec::new(alloc));
     let Ok(world) = flaky_world(alloc, conf, log, backends) else {
@@ -47,7 +47,7 @@ fn play_over<B: Backend + Drop>(
 fn play_workload(alloc: Global, conf: Conf, seed: u64, count: u64) -> Result<Summary, NoMemory>
     requires usable { IsUsable conf }
     requires few { count ≤ COUNT_LIMIT }
-    ensures { IfOk result (PlaysAsConfigured (in_memory conf) conf seed count) }
+    ensures { IfOk result (GeneratesAsConfigured (in_memory conf) conf seed count) }
 {
     if are_in_memory(conf.kinds.as_slice()) {
         let backends = memory_backends(alloc, conf.placement.count())?;

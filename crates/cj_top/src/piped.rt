@@ -5,7 +5,7 @@ ghost use Rattle.std.specs.Result.{IsOkAnd};
 ghost use Rattle.cj_outside.specs.Causes.{CountsFault};
 ghost use Rattle.cj_outside.specs.Stores.{Only};
 ghost use Rattle.cj_model.specs.declared.limits.TheConstants.{SESSION_NUMBER_LIMIT};
-ghost use Rattle.cj_cluster.specs.History.Histories.{is_idle};
+ghost use Rattle.cj_cluster.specs.History.Histories.{is_free};
 ghost use Rattle.cj_cluster.specs.declared.session.SessionEnd.TheVariants as ends;
 ghost use Rattle.cj_conf.specs.Confs.{IsUsable};
 ghost use Rattle.cj_model.specs.Cluster.Caching.{empty_cache};
@@ -54,7 +54,7 @@ fn serve_one<B: Backend + Drop, S: Store + Drop, I: Source, O: Sink, C: Clock>(
     clock: &C,
 ) -> Result<(SessionEnd, World<B, S>), PipeError>
     requires fresh { world.core.sessions ≡ [] }
-    requires idle { is_idle world.core.history ≡ true }
+    requires idle { is_free world.core.history ≡ true }
     ensures serves { IfOk result (λ (ending, last). ServesOneSession B.tells seed (C.moment clock.now) (I.left input.old) (I.left input.new) (O.held output.old) (O.held output.new) world ending last) }
     ensures full { IfErr result (λ error. (error ≡ PipeError.SessionsFull) × (SESSION_NUMBER_LIMIT ≤ world.core.greatest)) }
     ensures unserved { OnErr result ((input.new ≡ input.old) × (output.new ≡ output.old)) }
@@ -91,7 +91,7 @@ pub fn pipe<B: Backend + Drop, S: Store + Drop, I: Source, O: Sink, C: Clock>(
     requires disk { S.tells ≡ true → Only (S.held log) (S.may log) }
     // The last part is of a call in which nothing failed and memory was not wanting.
     ensures served { IfOk result (λ (ending, last). (first : WorldState) × StartsFrom (Found S.tells (S.held log)) (placement_of conf.placement) (map (state_by B.told B.faults B.asks B.login B.arming) backends) first
-        × (first.setup ≡ record { names = conf.placement.names; register = conf.accounts }) × (first.cache ≡ empty_cache conf.cache)
+        × (first.setup ≡ record { names = conf.placement.names; accounts = conf.accounts }) × (first.cache ≡ empty_cache conf.cache)
         × ServesOneSession B.tells conf.seed (C.moment clock.now) (I.left input.old) (I.left input.new) (O.held output.old) (O.held output.new) first ending last
         × (CountsNoFault (I.faults input.old) (I.faults input.new) → CountsNoFault (O.faults output.old) (O.faults output.new) → ending ≢ ends.NoMemory →
         AnswersInput (λ reply. CountNoFaults (faults_of first.cells) (faults_of last.cells) → BlamesNobody reply) (I.left input.old) (O.held output.old) (O.held output.new) ending)) }

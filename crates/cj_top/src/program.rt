@@ -12,9 +12,9 @@ ghost use Rattle.cj_top.specs.Piped.{ComesByPipe};
 ghost use Rattle.cj_top.specs.Program.{AsksForText, WritesText};
 ghost use Rattle.cj_top.specs.Runs.{ComesBy, HasFewStatements, ReadsNoInput, RunsCommand};
 ghost use Rattle.cj_top.specs.Scripted.{ComesByScript};
-ghost use Rattle.cj_words.specs.Words.{Asks, Says};
-ghost use Rattle.cj_words.specs.declared.asked.Asked.{Asked};
-ghost use Rattle.cj_words.specs.declared.asked.Command.{Command};
+ghost use Rattle.cj_args.specs.Words.{Asks, Says};
+ghost use Rattle.cj_args.specs.declared.asked.Asked.{Asked};
+ghost use Rattle.cj_args.specs.declared.asked.Command.{Command};
 
 use crate::configured::{Unconfigured, conf_of, tell_refusal};
 use crate::generated::run_gen;
@@ -25,7 +25,7 @@ use crate::scripted::run_script;
 use cj_conf::Conf;
 use cj_model::NoMemory;
 use cj_outside::{Clock, Sink, Source, Store, write_all};
-use cj_words::{Asked, Command, help_text, read, version_text};
+use cj_args::{Asked, Command, help_text, read, version_text};
 use std::alloc::Global;
 
 /// The command `pipe`; what stops at the log is told.

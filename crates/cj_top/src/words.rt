@@ -1,11 +1,11 @@
 //! The files of the command that the words are.
 
 ghost use Rattle.std.specs.Prelude.{◌≡◌, ◌↔◌, map, string_bytes, IfSome, IsNone};
-ghost use Rattle.cj_words.specs.Words.{Says, file_of};
-ghost use Rattle.cj_words.specs.declared.asked.Command.{Command};
+ghost use Rattle.cj_args.specs.Words.{Says, file_of};
+ghost use Rattle.cj_args.specs.declared.asked.Command.{Command};
 
 use crate::files::Paths;
-use cj_words::conf_word;
+use cj_args::conf_word;
 
 /// The files that the words name; None exactly where they are no command.
 pub fn paths(words: &[String]) -> Option<Paths<'_>>

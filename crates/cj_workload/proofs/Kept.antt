@@ -18,7 +18,7 @@ use Rattle.cj_workload.specs.Summaries.{enablings, is_enabling}
 -- from one core to another so many backends were enabled, and no request was made
 pub record KeepsCore (enabled : ℕ) (c z : Core) : Type 0 where
   pub placement : z.placement ≡ c.placement
-  pub queries : (s : ℕ) → (session_at z s).queries ≡ (session_at c s).queries
+  pub requests : (s : ℕ) → (session_at z s).requests ≡ (session_at c s).requests
   pub counted : enablings z.history ≡ enablings c.history + enabled
 
 -- events more
@@ -27,7 +27,7 @@ grown h more n is = sum_by-append (λ (e : Event). cond (is_enabling e) 1 0) h m
 
 module _ (tells : Bool) (c z : Core) where
   same_core : KeepsCore 0 c c
-  same_core = record { placement = refl; queries = λ s. refl; counted = omega arith }
+  same_core = record { placement = refl; requests = λ s. refl; counted = omega arith }
 
   as_it_was : z ≡ c → KeepsCore 0 c z
   as_it_was is = subst (λ (x : Core). KeepsCore 0 c x) (sym is) same_core
@@ -35,7 +35,7 @@ module _ (tells : Bool) (c z : Core) where
   -- an event more
   with_event : (e : Event) (n : ℕ) → count_by is_enabling (e ∷ []) ≡ n → z ≡ happened c e → KeepsCore n c z
   with_event e n is same =
-      subst (λ (x : Core). KeepsCore n c x) (sym same) (record { placement = refl; queries = λ s. refl; counted = grown c.history (e ∷ []) n is })
+      subst (λ (x : Core). KeepsCore n c x) (sym same) (record { placement = refl; requests = λ s. refl; counted = grown c.history (e ∷ []) n is })
 
   arms : (g : MoveResult) → Arms c g z → KeepsCore (enabled_by g) c z
   arms (Ok moved.Armed) h = as_it_was h
@@ -54,17 +54,17 @@ module _ (tells : Bool) (c z : Core) where
   enables b _ h = absurd h
 
   replays : (b : ℕ) (g : MoveResult) → Replays tells c b g z → KeepsCore (enabled_by g) c z
-  replays b (Ok (moved.Replayed n d)) h = subst (λ (x : Core). KeepsCore 0 c x) (sym h.1.2) (record { placement = refl; queries = λ s. refl; counted = omega arith })
+  replays b (Ok (moved.Replayed n d)) h = subst (λ (x : Core). KeepsCore 0 c x) (sym h.1.2) (record { placement = refl; requests = λ s. refl; counted = omega arith })
   replays b _ h = absurd h
 
   dumps : (b : ℕ) (name : List ℕ) (g : MoveResult) → Dumps c b name g z → KeepsCore (enabled_by g) c z
-  dumps b name (Ok (moved.Dumped n)) h = subst (λ (x : Core). KeepsCore 0 c x) (sym h.1) (record { placement = refl; queries = λ s. refl; counted = omega arith })
+  dumps b name (Ok (moved.Dumped n)) h = subst (λ (x : Core). KeepsCore 0 c x) (sym h.1) (record { placement = refl; requests = λ s. refl; counted = omega arith })
   dumps b name (Ok moved.Failed) h = as_it_was h
   dumps b name (Err NoMemory) h = as_it_was h
   dumps b name _ h = absurd h
 
   loads : (b : ℕ) (name : List ℕ) (g : MoveResult) → Loads tells c b name g z → KeepsCore (enabled_by g) c z
-  loads b name (Ok (moved.Loaded n)) h = subst (λ (x : Core). KeepsCore 0 c x) (sym h.after) (record { placement = refl; queries = λ s. refl; counted = omega arith })
+  loads b name (Ok (moved.Loaded n)) h = subst (λ (x : Core). KeepsCore 0 c x) (sym h.after) (record { placement = refl; requests = λ s. refl; counted = omega arith })
   loads b name (Ok moved.Failed) h = as_it_was h
   loads b name (Ok moved.Starved) h = as_it_was h
   loads b name _ h = absurd h
@@ -92,15 +92,15 @@ module _ (tells : Bool) (a z : SoloState) where
       record {
         placement = kept.placement;
         session = session;
-        queries = kept.queries z.session ∙ (ap (λ (s : ℕ). (session_at a.world.core s).queries) session ∙ sym (add-zero _));
+        queries = kept.requests z.session ∙ (ap (λ (s : ℕ). (session_at a.world.core s).requests) session ∙ sym (add-zero _));
         counted = kept.counted;
       }
 
 -- one after another
 pub keeps_both : (n m i j : ℕ) (a b z : SoloState) → Keeps n i a b → Keeps m j b z → Keeps (n + m) (i + j) a z
 keeps_both n m i j a b z h k =
-    let q = h.queries in
-    let r = k.queries in
+    let q = h.requests in
+    let r = k.requests in
     let e = h.counted in
     let f = k.counted in
-    record { placement = k.placement ∙ h.placement; session = k.session ∙ h.session; queries = omega (arith, q, r); counted = omega (arith, e, f) }
+    record { placement = k.placement ∙ h.placement; session = k.session ∙ h.session; requests = omega (arith, q, r); counted = omega (arith, e, f) }

@@ -42,9 +42,9 @@ pub host_within : (p : Placement) (b : ℕ) → first_host p ≡ Some b → b < 
 host_within p b h = ltb-true b p.backends (and_parts (nat_lt b p.backends) _ (found_passes (λ (k : ℕ). hosts p k table_name) (range_with_len 0 p.backends) b h)).0
 
 -- a session that has just begun has made no request
-pub none_asked : (c : Core) → c.sessions ≡ [] → (session_at (opened_for c []) (c.greatest + 1)).queries ≡ 0
+pub none_asked : (c : Core) → c.sessions ≡ [] → (session_at (opened_for c []) (c.greatest + 1)).requests ≡ 0
 none_asked c none =
     let y : OpenSession = new_session (c.greatest + 1) [] in
     let below : All (λ (x : OpenSession). x.number < y.number) c.sessions = subst (λ (l : List OpenSession). All (λ (x : OpenSession). x.number < y.number) l) (sym none) (All-nil (λ (x : OpenSession). x.number < y.number)) in
     let found : find_session (opened_for c []).sessions (c.greatest + 1) ≡ Some y = session_of-push_same c.sessions y below in
-    ap (λ (x : OpenSession). x.queries) (session_at-is (opened_for c []) (c.greatest + 1) (Some y) found)
+    ap (λ (x : OpenSession). x.requests) (session_at-is (opened_for c []) (c.greatest + 1) (Some y) found)

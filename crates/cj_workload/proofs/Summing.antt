@@ -1,6 +1,6 @@
 -- What is summed up of the backends that a world hands back.
 use Rattle.std.proofs.Common.{◌≡◌, ◌≢◌, ◌∙◌, ◌⊎◌, ⊎_elim, inl, inr, refl, sym, ap, ℕ, zero, suc, ◌+◌, ◌<◌, ◌≤◌, ◌^◌, ◌&&◌, Bool, true, false, cond, List, [], ◌∷◌, length, map, Option, None, Some, bit_and, nat_lt, arith}
-use Rattle.cj_core.proofs.Common.{All-head, All-tail, BackendState, CellState, IsWorld, WorldState, backend_of, has-zero, some_bit, state_by}
+use Rattle.cj_core.proofs.Common.{All-head, All-tail, BackendState, CellState, IsWorld, WorldState, started_backend, has-zero, some_bit, state_by}
 use Rattle.cj_workload.proofs.Common.{All, and_parts, AreSame, both_ways, EachHolds, eq-or-lt_of_le, faults_of, find, first_count, first_host, hosts, in_mask, length-map, ltb-true, MatchOption, option_map, part, Placement, range_with_len, row_count, rows_in, slice_get, Slot, table_name, Value}
 use Rattle.cj_model.proofs.MaskBits.{has-and}
 use Rattle.cj_model.proofs.PartLaws.{found_in_part}
@@ -9,7 +9,7 @@ use Rattle.cj_workload.proofs.Rounds.{found_passes}
 
 -- ---- the counts of backends
 
-counts_seen : (cells : List CellState) → map (λ (s : BackendState). s.faults) (map backend_of cells) ≡ faults_of cells
+counts_seen : (cells : List CellState) → map (λ (s : BackendState). s.faults) (map started_backend cells) ≡ faults_of cells
 counts_seen [] = refl
 counts_seen (x ∷ cells) = ap (λ (ns : List ℕ). x.faults ∷ ns) (counts_seen cells)
 
@@ -19,12 +19,12 @@ module _ {X : Type 0} (told : X → Option (List Slot)) (faults asks : X → ℕ
   counts_by (x ∷ xs) = ap (λ (ns : List ℕ). faults x ∷ ns) (counts_by xs)
 
   -- the backends count what their cells did
-  pub same_counts : (cells : List CellState) (xs : List X) → map (state_by told faults asks login arming) xs ≡ map backend_of cells → map faults xs ≡ faults_of cells
+  pub same_counts : (cells : List CellState) (xs : List X) → map (state_by told faults asks login arming) xs ≡ map started_backend cells → map faults xs ≡ faults_of cells
   same_counts cells xs same = sym (counts_by xs) ∙ (ap (map (λ (s : BackendState). s.faults)) same ∙ counts_seen cells)
 
   -- and there are as many
-  pub as_many : (cells : List CellState) (xs : List X) → map (state_by told faults asks login arming) xs ≡ map backend_of cells → length xs ≡ length cells
-  as_many cells xs same = sym (length-map xs (state_by told faults asks login arming)) ∙ (ap length same ∙ length-map cells backend_of)
+  pub as_many : (cells : List CellState) (xs : List X) → map (state_by told faults asks login arming) xs ≡ map started_backend cells → length xs ≡ length cells
+  as_many cells xs same = sym (length-map xs (state_by told faults asks login arming)) ∙ (ap length same ∙ length-map cells started_backend)
 
 -- each backend of a world has a cell
 pub cells_of : (tells : Bool) (w : WorldState) → IsWorld tells w → length w.cells ≡ w.core.placement.backends

@@ -5,7 +5,7 @@ ghost use Rattle.cj_model.specs.declared.request.Request.TheVariants as request;
 ghost use Rattle.cj_model.specs.declared.limits.TheConstants.{REQUEST_LIMIT, SESSION_NUMBER_LIMIT};
 ghost use Rattle.cj_model.specs.Sql.PlainRequests.{request_of};
 ghost use Rattle.cj_model.specs.Sql.WrittenRequests.{IsWritten};
-ghost use Rattle.cj_cluster.specs.History.Histories.{is_idle};
+ghost use Rattle.cj_cluster.specs.History.Histories.{is_free};
 ghost use Rattle.cj_cluster.specs.Moves.Cores.{session_at};
 ghost use Rattle.cj_workload.specs.Proving.Keeping.{IsOutside, Keeps};
 ghost use Rattle.cj_workload.specs.Statements.{request_of_statement};
@@ -71,7 +71,7 @@ fn tells_want(reply: &Reply) -> bool
 /// A write of the session.
 fn write<B: Backend, S: Store>(solo: &mut Solo<B, S>, user: &Text, act: Act) -> Result<(), NoMemory>
     requires user { user.now ≡ [] }
-    requires room { (session_at solo.old.world.core solo.old.session).queries < REQUEST_LIMIT }
+    requires room { (session_at solo.old.world.core solo.old.session).requests < REQUEST_LIMIT }
     requires written { IsWritten (request_of act) }
     requires kind { IsOutside act }
     ensures turn { IfOk result (λ _. TakesTurn B.tells solo.old (request_of act) solo.new) }
@@ -91,7 +91,7 @@ fn read<B: Backend, S: Store>(
     select: &Select,
 ) -> Result<(), NoMemory>
     requires user { user.now ≡ [] }
-    requires room { (session_at solo.old.world.core solo.old.session).queries < REQUEST_LIMIT }
+    requires room { (session_at solo.old.world.core solo.old.session).requests < REQUEST_LIMIT }
     requires written { IsWritten (request.Select select.now) }
     ensures turn { IfOk result (λ _. TakesTurn B.tells solo.old (request.Select select.now) solo.new) }
     ensures keeps { IfOk result (λ _. Keeps 1 0 solo.old solo.new) }
@@ -110,7 +110,7 @@ fn take_turn<B: Backend, S: Store>(
     statement: Statement,
 ) -> Result<(), NoMemory>
     requires user { user.now ≡ [] }
-    requires room { (session_at solo.old.world.core solo.old.session).queries < REQUEST_LIMIT }
+    requires room { (session_at solo.old.world.core solo.old.session).requests < REQUEST_LIMIT }
     requires written { IsWritten (request_of_statement statement) }
     ensures turn { IfOk result (λ _. TakesTurn B.tells solo.old (request_of_statement statement) solo.new) }
     ensures keeps { IfOk result (λ _. Keeps 1 0 solo.old solo.new) }
@@ -129,7 +129,7 @@ fn round<B: Backend, S: Store>(
     statement: Statement,
 ) -> Result<u64, NoMemory>
     requires user { user.now ≡ [] }
-    requires room { (session_at solo.old.world.core solo.old.session).queries < REQUEST_LIMIT }
+    requires room { (session_at solo.old.world.core solo.old.session).requests < REQUEST_LIMIT }
     requires written { IsWritten (request_of_statement statement) }
     ensures plays { IfOk result (λ _. PlaysRound B.tells B.can_be_armed i (request_of_statement statement) solo.old solo.new) }
     ensures keeps { IfOk result (λ enabled. Keeps 1 enabled solo.old solo.new) }
@@ -150,7 +150,7 @@ fn rounds<B: Backend, S: Store>(
 ) -> Result<u64, NoMemory>
     requires user { user.now ≡ [] }
     requires few { count < 2 ^ 32 }
-    requires room { (session_at solo.old.world.core solo.old.session).queries + count ≤ REQUEST_LIMIT }
+    requires room { (session_at solo.old.world.core solo.old.session).requests + count ≤ REQUEST_LIMIT }
     ensures plays { IfOk result (λ _. PlaysRounds B.tells B.can_be_armed seed count solo.old solo.new) }
     ensures keeps { IfOk result (λ enabled. Keeps count enabled solo.old solo.new) }
 {
@@ -171,7 +171,7 @@ fn begin<B: Backend, S: Store>(
     user: &Text,
 ) -> Result<(), NoMemory>
     requires user { user.now ≡ [] }
-    requires room { (session_at solo.old.world.core solo.old.session).queries < REQUEST_LIMIT }
+    requires room { (session_at solo.old.world.core solo.old.session).requests < REQUEST_LIMIT }
     ensures begins { IfOk result (λ _. Begins B.tells B.can_be_armed solo.old solo.new) }
     ensures keeps { IfOk result (λ _. (enabled : ℕ) × Keeps 1 enabled solo.old solo.new) }
 {
@@ -198,7 +198,7 @@ pub fn play<B: Backend + Drop, S: Store + Drop>(
     count: u64,
 ) -> Result<Summary, WorkloadError>
     requires fresh { world.core.sessions ≡ [] }
-    requires idle { is_idle world.core.history ≡ true }
+    requires idle { is_free world.core.history ≡ true }
     requires few { count < 2 ^ 32 }
     ensures played { IfOk result (PlaysWorkload B.tells B.can_be_armed seed count world) }
     ensures full { IsErrOf result WorkloadError.SessionsFull → SESSION_NUMBER_LIMIT ≤ world.core.greatest }

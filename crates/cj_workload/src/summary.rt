@@ -1,7 +1,7 @@
 //! What a workload came to.
 
 ghost use Rattle.std.specs.Prelude.{◌≡◌, ◌+◌, true, IfOk, IsErrOf};
-ghost use Rattle.cj_cluster.specs.History.Histories.{is_idle};
+ghost use Rattle.cj_cluster.specs.History.Histories.{is_free};
 ghost use Rattle.cj_state.specs.Worlds.{WorldState};
 ghost use Rattle.cj_workload.specs.Summaries.{IsSummary, enablings};
 
@@ -38,7 +38,7 @@ pub fn sum_up<B: Backend + Drop, S: Store + Drop>(
     statements: u64,
     enabled: u64,
 ) -> Result<Summary, WorkloadError>
-    requires { is_idle world.core.history ≡ true }
+    requires { is_free world.core.history ≡ true }
     ensures summary { (begun : WorldState) → enablings world.core.history ≡ enablings begun.core.history + enabled → IfOk result (IsSummary B.tells statements begun world) }
     ensures opened { IsErrOf result WorkloadError.SessionsFull → ⊥ }
 {

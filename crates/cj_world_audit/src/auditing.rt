@@ -3,7 +3,7 @@
 ghost use Rattle.std.specs.Prelude.{◌≡◌, ◌<◌, ◌++◌, ℕ, true, IfOk, IsErrOf, None, OnOk};
 ghost use Rattle.cj_audit.specs.Audits.{StaysText};
 ghost use Rattle.cj_cluster.specs.History.Histories as histories;
-ghost use Rattle.cj_cluster.specs.History.Histories.{is_idle};
+ghost use Rattle.cj_cluster.specs.History.Histories.{is_free};
 ghost use Rattle.cj_state.specs.ArmedCells.{armings_of};
 ghost use Rattle.cj_world_audit.specs.Audits as audits;
 ghost use Rattle.cj_world_audit.specs.Audits.{audit_text, failed_audit, lines_at};
@@ -55,7 +55,7 @@ fn audit_backend<B: Backend, S: Store>(
     b: u8,
 ) -> Result<(), AuditError>
     requires within { b < state.old.core.placement.backends }
-    requires idle { is_idle state.old.core.history ≡ true }
+    requires idle { is_free state.old.core.history ≡ true }
     ensures lines { OnOk result (B.tells ≡ true → text.new.items ≡ text.old.items ++ lines_at state.old.setup.names state.old.core b) }
     ensures text { OnOk result (StaysText text.old.items text.new.items) }
     ensures same { failed_audit result ≡ None → state.new ≡ state.old }
@@ -83,7 +83,7 @@ fn audit_backend<B: Backend, S: Store>(
 /// What the enabled backends hold, in the order of their numbers: a line for each table with its number of
 /// rows, and one for each row. Asks each enabled backend for its contents, and stops at the first that fails.
 pub fn audit<B: Backend, S: Store>(state: &mut State<B, S>) -> Result<Text, AuditError>
-    requires { is_idle state.old.core.history ≡ true }
+    requires { is_free state.old.core.history ≡ true }
     ensures text { IfOk result (λ text. B.tells ≡ true → text ≡ audit_text state.old.setup.names state.old.core) }
     ensures same { failed_audit result ≡ None → state.new ≡ state.old }
     ensures faults { faults_of state.new.cells ≡ faults_after (faults_of state.old.cells) (failed_audit result) }

@@ -5,9 +5,9 @@ use Rattle.cj_outside.specs.Causes.{CountsFault, next}
 use Rattle.cj_outside.specs.Memory.{State}
 use Rattle.cj_cases.specs.Cases.{CaseState}
 use Rattle.cj_cases.specs.declared.runner.Outcome.{Outcome}
-use Rattle.cj_words.specs.Words.{Asks, Says}
-use Rattle.cj_words.specs.declared.asked.Asked.{Asked}
-use Rattle.cj_words.specs.declared.asked.Command.{Command}
+use Rattle.cj_args.specs.Words.{Asks, Says}
+use Rattle.cj_args.specs.declared.asked.Asked.{Asked}
+use Rattle.cj_args.specs.declared.asked.Command.{Command}
 use Rattle.cj_top.specs.Completeness.{ByStore, CompletesCommand, CountsNoFault}
 use Rattle.cj_top.specs.Configured.{WritesRefusal}
 use Rattle.cj_top.specs.Logs.{Found, HasFailed, RefusesLog, StopsAtLog, TellsRefusal}

@@ -58,12 +58,12 @@ abbrev pub ended_count : List Event → ℕ
 ended_count h = count_by is_end_event h
 
 -- no entry is open
-abbrev pub is_idle : List Event → Bool
-is_idle h = ended_count h == length (log h)
+abbrev pub is_free : List Event → Bool
+is_free h = ended_count h == length (log h)
 
 -- the open entry
-abbrev pub entry_in_progress : List Event → Option Entry
-entry_in_progress h = slice_get (log h) (ended_count h)
+abbrev pub open_entry_of : List Event → Option Entry
+open_entry_of h = slice_get (log h) (ended_count h)
 
 abbrev pub enabled_after_event : ℕ → Bool → Event → Bool
 enabled_after_event b on (Sched e) = on

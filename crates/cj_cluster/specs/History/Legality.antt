@@ -9,7 +9,7 @@ use Rattle.cj_cluster.specs.declared.event.Event.TheVariants.{Sched, Ended, Read
 use Rattle.cj_model.specs.declared.limits.TheConstants.{EVENT_LIMIT, REQUEST_LIMIT, SESSION_NUMBER_LIMIT, USER_LIMIT}
 use Rattle.cj_model.specs.Sql.WrittenRequests.{IsWritten}
 use Rattle.cj_model.specs.Sql.PlainRequests.{request_of}
-use Rattle.cj_cluster.specs.History.Histories.{log, is_idle, is_enabled, has_marker, tx_of}
+use Rattle.cj_cluster.specs.History.Histories.{log, is_free, is_enabled, has_marker, tx_of}
 use Rattle.cj_model.specs.Cluster.Masks.{in_mask}
 
 -- the transaction that an act may have, where the session's open one is t
@@ -53,13 +53,13 @@ AreFitMasks h failed starved =
 
 -- the event may come next
 abbrev pub IsAllowedEvent : List Event → Event → Type 0
-IsAllowedEvent h (Sched e) = (is_idle h ≡ true) × IsFitEntry (log h) e
-IsAllowedEvent h (Ended failed starved) = (is_idle h ≡ false) × AreFitMasks h failed starved
+IsAllowedEvent h (Sched e) = (is_free h ≡ true) × IsFitEntry (log h) e
+IsAllowedEvent h (Ended failed starved) = (is_free h ≡ false) × AreFitMasks h failed starved
 IsAllowedEvent h (ReadFailed s q b) = Unit {0}
-IsAllowedEvent h (LogFailed s q) = is_idle h ≡ true
-IsAllowedEvent h (Disabled b) = (is_idle h ≡ true) × (is_enabled h b ≡ true)
-IsAllowedEvent h (Enabled b) = (is_idle h ≡ true) × (is_enabled h b ≡ false)
-IsAllowedEvent h (Marker name b) = (is_idle h ≡ true) × (has_marker h name ≡ false)
+IsAllowedEvent h (LogFailed s q) = is_free h ≡ true
+IsAllowedEvent h (Disabled b) = (is_free h ≡ true) × (is_enabled h b ≡ true)
+IsAllowedEvent h (Enabled b) = (is_free h ≡ true) × (is_enabled h b ≡ false)
+IsAllowedEvent h (Marker name b) = (is_free h ≡ true) × (has_marker h name ≡ false)
 
 -- not too many events, each allowed by those before it
 pub record IsLegal (h : List Event) : Type 0 where

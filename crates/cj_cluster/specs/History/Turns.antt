@@ -20,7 +20,7 @@ use Rattle.cj_model.specs.Database.Queries.{ask}
 use Rattle.cj_model.specs.Wire.Replies.{asked_reply}
 use Rattle.cj_model.specs.Sql.PlainRequests.{act_of}
 use Rattle.cj_model.specs.Cluster.Placements.{Placement}
-use Rattle.cj_cluster.specs.History.Histories.{log, ended_count, is_idle, events_left, database_after, log_faults_of, tx_of}
+use Rattle.cj_cluster.specs.History.Histories.{log, ended_count, is_free, events_left, database_after, log_faults_of, tx_of}
 use Rattle.cj_model.specs.Cluster.Masks.{in_mask}
 use Rattle.cj_cluster.specs.History.Legality.{IsLegal}
 use Rattle.cj_model.specs.Database.Outcomes.{IsAsked}
@@ -55,7 +55,7 @@ pub record ScheduledTurn (tells : Bool) (p : Placement) (s : ℕ) (a : SessionVi
   pub moment : IsMomentBetween a.front z.front m
   pub act : Act
   pub is : act_of c.request ≡ Some act
-  pub was_free : is_idle (take m z.front) ≡ true
+  pub was_free : is_free (take m z.front) ≡ true
   pub served : HasServer p (take m z.front) c.request
   pub space : 3 ≤ events_left (take m z.front)
   pub next : slice_get z.front m ≡ Some (Sched (entry_of_call s c act))
@@ -104,7 +104,7 @@ pub record LogFaultTurn (p : Placement) (s : ℕ) (a : SessionView) (c : Call) (
   pub moment : IsMomentBetween a.front z.front m
   pub act : Act
   pub is : act_of c.request ≡ Some act
-  pub was_free : is_idle (take m z.front) ≡ true
+  pub was_free : is_free (take m z.front) ≡ true
   pub served : HasServer p (take m z.front) c.request
   pub space : 3 ≤ events_left (take m z.front)
   pub next : slice_get z.front m ≡ Some (LogFailed s c.number)
@@ -114,7 +114,7 @@ pub record LogFaultTurn (p : Placement) (s : ℕ) (a : SessionView) (c : Call) (
 -- a read without room for one event, or another request without room for three where no entry is open
 abbrev pub HasNoRoomFor : List Event → Option Act → Type 0
 HasNoRoomFor h None = events_left h < 1
-HasNoRoomFor h (Some act) = (is_idle h ≡ true) × (events_left h < 3)
+HasNoRoomFor h (Some act) = (is_free h ≡ true) × (events_left h < 3)
 
 pub record FullTurn (p : Placement) (a : SessionView) (c : Call) (z : SessionView) : Type 0 where
   pub m : ℕ

@@ -54,7 +54,7 @@ find_session sessions s = find (λ (x : OpenSession). x.number == s) sessions
 
 -- a session that has just begun
 abbrev pub new_session : ℕ → List ℕ → OpenSession
-new_session n user = record { number = n; user = user; queries = 0; least = 0; reading = None }
+new_session n user = record { number = n; user = user; requests = 0; least = 0; reading = None }
 
 -- the session with this number, where it is open
 abbrev pub session_at : Core → ℕ → OpenSession

@@ -35,7 +35,7 @@ use Rattle.cj_model.specs.Database.Outcomes.{IsOutcome, IsAsked}
 use Rattle.cj_model.specs.Database.Storable.{writers}
 use Rattle.cj_model.specs.Sql.PlainRequests.{act_of}
 use Rattle.cj_cluster.specs.History.Transactions.{takes_part, begun_after}
-use Rattle.cj_cluster.specs.History.Histories.{log, ended_count, is_idle, entry_in_progress, is_enabled, has_marker, events_left, database_after, outcome_of, tx_of}
+use Rattle.cj_cluster.specs.History.Histories.{log, ended_count, is_free, open_entry_of, is_enabled, has_marker, events_left, database_after, outcome_of, tx_of}
 use Rattle.cj_model.specs.Cluster.Masks.{in_mask, with_backend}
 use Rattle.cj_model.specs.Cluster.Placements.{part}
 use Rattle.cj_cluster.specs.History.Answering.{CanServe, HasServer, HasNoServer, AnswersEntry}
@@ -55,7 +55,7 @@ is_open c s = is_some (find_session c.sessions s)
 
 -- the session's own entry is open
 abbrev pub is_waiting : Core → ℕ → Bool
-is_waiting c s = is_entry_of s (entry_in_progress c.history)
+is_waiting c s = is_entry_of s (open_entry_of c.history)
 
 abbrev pub is_reading : OpenSession → Bool
 is_reading x = is_some x.reading
@@ -105,42 +105,42 @@ not_now c (Close s) =
 not_now c (Schedule s r) =
     reason_if (not (is_open c s)) reason.NoSession s
     (reason_if (is_waiting c s || is_reading (session_at c s)) reason.Waiting s
-    (reason_if (not (is_idle c.history)) reason.EntryOpen (last_number c) None))
+    (reason_if (not (is_free c.history)) reason.EntryOpen (last_number c) None))
 not_now c (Abort tx) =
     reason_if (not (is_orphan c tx)) reason.NotOrphan tx
-    (reason_if (not (is_idle c.history)) reason.EntryOpen (last_number c) None)
+    (reason_if (not (is_free c.history)) reason.EntryOpen (last_number c) None)
 not_now c (Apply b) =
-    reason_if (is_idle c.history) reason.NoEntryOpen 0
+    reason_if (is_free c.history) reason.NoEntryOpen 0
     (reason_if (not (is_enabled c.history b)) reason.NotEnabled b
     (reason_if (is_none (position_at c b)) reason.Out b
     (reason_if (position_or_zero (position_at c b) == last_number c) reason.AtEnd (position_or_zero (position_at c b)) None)))
-not_now c End = reason_if (is_idle c.history) reason.NoEntryOpen 0 (reason_if_lagging (first_lagging c.history 0 c.positions))
+not_now c End = reason_if (is_free c.history) reason.NoEntryOpen 0 (reason_if_lagging (first_lagging c.history 0 c.positions))
 not_now c (Read s b select) =
     reason_if (not (is_open c s)) reason.NoSession s
     (reason_if (is_waiting c s) reason.Waiting s None)
 not_now c (Arm b) = None
 not_now c (Disable b) =
-    reason_if (not (is_idle c.history)) reason.EntryOpen (last_number c)
+    reason_if (not (is_free c.history)) reason.EntryOpen (last_number c)
     (reason_if (not (is_enabled c.history b)) reason.NotEnabled b None)
 not_now c (Replay b) =
     reason_if (is_enabled c.history b) reason.Enabled b
     (reason_if (is_none (position_at c b)) reason.Out b
     (reason_if (position_or_zero (position_at c b) == last_number c) reason.AtEnd (position_or_zero (position_at c b)) None))
 not_now c (Enable b) =
-    reason_if (not (is_idle c.history)) reason.EntryOpen (last_number c)
+    reason_if (not (is_free c.history)) reason.EntryOpen (last_number c)
     (reason_if (is_enabled c.history b) reason.Enabled b
     (reason_if (is_none (position_at c b)) reason.Out b
     (reason_if (not (position_or_zero (position_at c b) == last_number c)) reason.Behind (position_or_zero (position_at c b)) None)))
 not_now c (Mark name) =
-    reason_if (not (is_idle c.history)) reason.EntryOpen (last_number c)
+    reason_if (not (is_free c.history)) reason.EntryOpen (last_number c)
     (reason_if (has_marker c.history name || is_dumped c name) reason.NameTaken 0 None)
 not_now c (Dump b name) =
-    reason_if (not (is_idle c.history)) reason.EntryOpen (last_number c)
+    reason_if (not (is_free c.history)) reason.EntryOpen (last_number c)
     (reason_if (is_enabled c.history b) reason.Enabled b
     (reason_if (has_marker c.history name || is_dumped c name) reason.NameTaken 0
     (reason_if (is_none (position_at c b)) reason.Out b None)))
 not_now c (Load b name) =
-    reason_if (not (is_idle c.history)) reason.EntryOpen (last_number c)
+    reason_if (not (is_free c.history)) reason.EntryOpen (last_number c)
     (reason_if (is_enabled c.history b) reason.Enabled b
     (reason_of_dump (find_dump c.dumps name) (λ d.
     reason_if (is_some (position_at c b)) reason.NotOut b
@@ -219,11 +219,11 @@ open_tx c s = tx_of (log c.history) s
 
 abbrev pub next_entry : Core → ℕ → Act → Entry
 next_entry c s a =
-    record { session = s; seq = (session_at c s).queries + 1; tx = tx_of_act (open_tx c s) a; user = (session_at c s).user; act = a }
+    record { session = s; seq = (session_at c s).requests + 1; tx = tx_of_act (open_tx c s) a; user = (session_at c s).user; act = a }
 
 -- the session has made one request more
 abbrev pub with_one_request : OpenSession → OpenSession
-with_one_request x = record x { queries = x.queries + 1 }
+with_one_request x = record x { requests = x.requests + 1 }
 
 abbrev pub with_request_counted : Core → ℕ → Core
 with_request_counted c s = record c { sessions = with_session c.sessions s with_one_request }
@@ -262,7 +262,7 @@ pub record ScheduleMeetsLogFault (c : Core) (s : ℕ) (r : Request) (a : Act) (r
   pub served : HasServer c.placement c.history r
   pub space : 3 ≤ events_left c.history
   pub refused : refusal ≡ refusal_of_code LOG_FAULT
-  pub after : z ≡ with_request_counted (happened c (event.LogFailed s ((session_at c s).queries + 1))) s
+  pub after : z ≡ with_request_counted (happened c (event.LogFailed s ((session_at c s).requests + 1))) s
 
 -- why nothing was scheduled
 abbrev pub RefusesSchedule : Core → ℕ → Request → Act → Refusal → Core → Type 0
@@ -377,7 +377,7 @@ ended_for c s = record c { history = with_end c; failed = 0; starved = 0; sessio
 
 abbrev pub EndsEntry : Bool → Core → MoveResult → Core → Type 0
 EndsEntry tells c (Ok (moved.Replied s reply)) z =
-    (e : Entry) × (entry_in_progress c.history ≡ Some e) × (s ≡ e.session)
+    (e : Entry) × (open_entry_of c.history ≡ Some e) × (s ≡ e.session)
     × AnswersEntry tells c.placement c.history (with_end c) (ended_count c.history) e reply
     × (z ≡ ended_for c s)
 EndsEntry tells c _ z = ⊥
@@ -386,7 +386,7 @@ EndsEntry tells c _ z = ⊥
 
 -- the number of the read, which all its attempts have
 abbrev pub read_number : OpenSession → ℕ
-read_number x = if is_reading x then x.queries else x.queries + 1
+read_number x = if is_reading x then x.requests else x.requests + 1
 
 abbrev pub tried_of : Option OpenRead → ℕ
 tried_of None = 0
@@ -394,11 +394,11 @@ tried_of (Some r) = r.tried
 
 -- the read is still open, and these backends have failed in it
 abbrev pub still_reading : Select → ℕ → OpenSession → OpenSession
-still_reading select tried x = record x { queries = read_number x; reading = Some (record { select = select; tried = tried }) }
+still_reading select tried x = record x { requests = read_number x; reading = Some (record { select = select; tried = tried }) }
 
 -- the read was answered
 abbrev pub was_answered : OpenSession → OpenSession
-was_answered x = record x { queries = read_number x; reading = None }
+was_answered x = record x { requests = read_number x; reading = None }
 
 -- another read of the session is open
 abbrev pub HasOtherRead : OpenSession → Select → Type 0

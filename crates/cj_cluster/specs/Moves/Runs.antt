@@ -19,7 +19,7 @@ use Rattle.cj_cluster.specs.declared.moves.OpenRead.{OpenRead}
 use Rattle.cj_cluster.specs.declared.moves.OpenSession.{OpenSession}
 use Rattle.cj_model.specs.declared.limits.TheConstants.{REQUEST_LIMIT, USER_LIMIT}
 use Rattle.cj_model.specs.Sql.PlainRequests.{act_of, request_of}
-use Rattle.cj_cluster.specs.History.Histories.{log, ended_count, is_idle, entry_in_progress, is_enabled, events_left, log_faults_of, tx_of}
+use Rattle.cj_cluster.specs.History.Histories.{log, ended_count, is_free, open_entry_of, is_enabled, events_left, log_faults_of, tx_of}
 use Rattle.cj_model.specs.Cluster.Masks.{in_mask}
 use Rattle.cj_model.specs.Sql.Names.{is_name}
 use Rattle.cj_model.specs.Sql.WrittenRequests.{IsWritten}
@@ -61,7 +61,7 @@ IsMoveOfCluster backends (Load b name) = (b < backends) × (is_name name ≡ tru
 
 -- each session can make n requests more
 abbrev pub CanCountRequests : Core → ℕ → Type 0
-CanCountRequests c n = (s : ℕ) → (session_at c s).queries + n ≤ REQUEST_LIMIT
+CanCountRequests c n = (s : ℕ) → (session_at c s).requests + n ≤ REQUEST_LIMIT
 
 -- ---- the calls of a session
 
@@ -89,14 +89,14 @@ call_of_entry (Some e) reply = record { number = e.seq; tx = e.tx; user = e.user
 abbrev pub call_of_act : Core → ℕ → Request → Option Act → Reply → Call
 call_of_act c s r None reply = record { number = 0; tx = 0; user = []; request = r; reply = reply }
 call_of_act c s r (Some a) reply =
-    record { number = (session_at c s).queries + 1; tx = tx_of_act (open_tx c s) a; user = (session_at c s).user; request = r; reply = reply }
+    record { number = (session_at c s).requests + 1; tx = tx_of_act (open_tx c s) a; user = (session_at c s).user; request = r; reply = reply }
 
 -- the call that a move answered
 abbrev pub call_at : Core → ℕ → Move → Reply → Call
 call_at c s (Schedule t r) reply = call_of_act c s r (act_of r) reply
 call_at c s (Read t b select) reply =
     record { number = read_number (session_at c s); tx = open_tx c s; user = (session_at c s).user; request = request.Select select; reply = reply }
-call_at c s m reply = call_of_entry (entry_in_progress c.history) reply
+call_at c s m reply = call_of_entry (open_entry_of c.history) reply
 
 abbrev pub calls_at : Core → ℕ → Move → Option Reply → List Call
 calls_at c s m None = []
@@ -130,11 +130,11 @@ last_seen a (b ∷ bs) = last_seen b bs
 -- The session's own entry is open: it was scheduled since, as its only one, in the transaction that the session was in, and nothing was enabled or disabled after it.
 pub record AwaitsEnd (p : Placement) (front h : List Event) (s : ℕ) : Type 0 where
   pub e : Entry
-  pub is : entry_in_progress h ≡ Some e
+  pub is : open_entry_of h ≡ Some e
   pub m : ℕ
   pub low : length front ≤ m
   pub high : m < length h
-  pub was_free : is_idle (take m h) ≡ true
+  pub was_free : is_free (take m h) ≡ true
   pub served : HasServer p (take m h) (request_of e.act)
   pub space : 3 ≤ events_left (take m h)
   pub next : slice_get h m ≡ Some (Sched e)
@@ -152,15 +152,15 @@ pub record HasFailedSince (front h : List Event) (s q b : ℕ) : Type 0 where
 
 -- Each backend that was tried in the open read of session s, as which x stands, has failed in it since.
 abbrev pub TriedSince : List Event → List Event → ℕ → OpenSession → Type 0
-TriedSince front h s x = (r : OpenRead) (b : ℕ) → x.reading ≡ Some r → in_mask r.tried b ≡ true → HasFailedSince front h s x.queries b
+TriedSince front h s x = (r : OpenRead) (b : ℕ) → x.reading ≡ Some r → in_mask r.tried b ≡ true → HasFailedSince front h s x.requests b
 
 -- How it stands with an open session s, as which x stands, that has seen a at its last reply.
 pub record StandsSince (p : Placement) (a : SessionView) (h : List Event) (s : ℕ) (x : OpenSession) : Type 0 where
   pub least : x.least ≡ a.least
   -- its own entry is open, and no read
-  pub waits : is_entry_of s (entry_in_progress h) ≡ true → AwaitsEnd p a.front h s × (x.reading ≡ None)
+  pub waits : is_entry_of s (open_entry_of h) ≡ true → AwaitsEnd p a.front h s × (x.reading ≡ None)
   -- no entry of its own is open: it has no new one, and is in the transaction that it was in
-  pub rests : is_entry_of s (entry_in_progress h) ≡ false → (entry_count_of s h ≡ entry_count_of s a.front) × (tx_of (log h) s ≡ tx_of (log a.front) s)
+  pub rests : is_entry_of s (open_entry_of h) ≡ false → (entry_count_of s h ≡ entry_count_of s a.front) × (tx_of (log h) s ≡ tx_of (log a.front) s)
   pub reads : TriedSince a.front h s x
   -- the log's store failed in none of its requests
   pub log_faults : (q : ℕ) → log_faults_of s q h ≡ log_faults_of s q a.front

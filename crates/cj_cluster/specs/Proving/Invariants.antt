@@ -13,7 +13,7 @@ use Rattle.cj_cluster.specs.declared.moves.TakenDump.{TakenDump}
 use Rattle.cj_model.specs.declared.limits.TheConstants.{EVENT_LIMIT, SESSION_LIMIT, SESSION_NUMBER_LIMIT, USER_LIMIT}
 use Rattle.cj_model.specs.Database.Tables.{Rises}
 use Rattle.cj_model.specs.Cluster.Placements.{Placement, part}
-use Rattle.cj_cluster.specs.History.Histories.{log, ended_count, is_idle, entry_in_progress, is_enabled, log_faults_of, database_after}
+use Rattle.cj_cluster.specs.History.Histories.{log, ended_count, is_free, open_entry_of, is_enabled, log_faults_of, database_after}
 use Rattle.cj_model.specs.Cluster.Masks.{in_mask}
 use Rattle.cj_cluster.specs.History.Legality.{IsLegal}
 use Rattle.cj_cluster.specs.Moves.Cores.{Core, position_at, find_session}
@@ -37,7 +37,7 @@ pub record IsSoundSession (h : List Event) (greatest : ℕ) (x : OpenSession) : 
   pub number : (0 < x.number) × (x.number ≤ greatest)
   pub user : length x.user ≤ USER_LIMIT
   pub owes : x.least ≤ length (log h)
-  pub entries : All (λ (e : Entry). e.session ≡ x.number → e.seq ≤ x.queries) (log h)
+  pub entries : All (λ (e : Entry). e.session ≡ x.number → e.seq ≤ x.requests) (log h)
 
 -- a dump of a backend, taken within the log
 pub record IsSoundDump (backends : ℕ) (h : List Event) (d : TakenDump) : Type 0 where
@@ -53,7 +53,7 @@ pub record CoreInvariant (c : Core) : Type 0 where
   pub hosts : (b : ℕ) → is_enabled c.history b ≡ true → b < length c.positions
   pub stands : (b : ℕ) → b < length c.positions → BackendStands c.history c.failed c.starved b (position_at c b)
   pub in_masks : (b : ℕ) → (in_mask c.failed b ≡ true → (is_enabled c.history b ≡ true) × (in_mask c.starved b ≡ false)) × (in_mask c.starved b ≡ true → is_enabled c.history b ≡ true)
-  pub clear : is_idle c.history ≡ true → (c.failed ≡ 0) × (c.starved ≡ 0)
+  pub clear : is_free c.history ≡ true → (c.failed ≡ 0) × (c.starved ≡ 0)
   pub begun_cells : length c.begun ≡ c.placement.backends
   pub dumps : All (IsSoundDump c.placement.backends c.history) c.dumps
   pub sessions : All (IsSoundSession c.history c.greatest) c.sessions
@@ -64,7 +64,7 @@ pub record CoreInvariant (c : Core) : Type 0 where
   -- the log's store failed for no session that has no number yet
   pub log_faults : (s q : ℕ) → c.greatest < s → log_faults_of s q c.history ≡ 0
   -- the session of the open entry is open, unless it is the administrator's
-  pub waits : (e : Entry) → entry_in_progress c.history ≡ Some e → (e.session ≡ 0) ⊎ (is_some (find_session c.sessions e.session) ≡ true)
+  pub waits : (e : Entry) → open_entry_of c.history ≡ Some e → (e.session ≡ 0) ⊎ (is_some (find_session c.sessions e.session) ≡ true)
 
 -- A backend that tells and is not out holds its part of the database after the entries that it has taken.
 abbrev pub HoldsPart : Bool → Placement → ℕ → List Entry → Option (List Slot) → Option ℕ → Type 0

@@ -18,7 +18,7 @@ use Rattle.cj_model.specs.Database.Queries.{ask}
 use Rattle.cj_model.specs.Wire.Replies.{asked_reply}
 use Rattle.cj_model.specs.Sql.PlainRequests.{request_of}
 use Rattle.cj_cluster.specs.declared.event.Event.TheVariants.{LogFailed, ReadFailed}
-use Rattle.cj_cluster.specs.History.Histories.{log, is_enabled, entry_in_progress, events_left, database_of}
+use Rattle.cj_cluster.specs.History.Histories.{log, is_enabled, open_entry_of, events_left, database_of}
 use Rattle.cj_cluster.specs.History.Answering.{HasServer, HasNoServer}
 use Rattle.cj_cluster.specs.History.Turns.{Call}
 use Rattle.cj_cluster.specs.Moves.Cores.{Core, begun_at, position_at, session_at}
@@ -37,7 +37,7 @@ use Rattle.cj_core.specs.Solos.{AreBackendsOf, AreCalledFor, IsPartOf, faults_co
 
 -- the session's next request
 abbrev pub call_of : Core → ℕ → ℕ → List ℕ → Request → Reply → Call
-call_of c s tx user request reply = record { number = (session_at c s).queries + 1; tx = tx; user = user; request = request; reply = reply }
+call_of c s tx user request reply = record { number = (session_at c s).requests + 1; tx = tx; user = user; request = request; reply = reply }
 
 -- the entry was scheduled, or the refusal that says why not
 abbrev pub SchedulesOrRefuses : Core → Entry → Result ℕ Refusal → Type 0
@@ -61,7 +61,7 @@ pub record EntryRefused (e : Entry) (refusal : Refusal) (old new : WorldState) :
 
 -- the user of the open entry
 abbrev pub open_user : Core → List ℕ
-open_user c = option_map_or (λ (e : Entry). e.user) (entry_in_progress c.history) []
+open_user c = option_map_or (λ (e : Entry). e.user) (open_entry_of c.history) []
 
 -- Backends have taken the open entry, which is this user's, and of them these failed. Else nothing was changed.
 pub record EntryTaken (user : List ℕ) (old new : WorldState) : Type 0 where
@@ -85,9 +85,9 @@ pub record IsBeforeEnd (c : Core) (b : ℕ) : Type 0 where
 
 -- Backend b has taken the open entry for its user, where it takes part in that; one that isn't enabled is as it was.
 pub record TakesOpen (old new : WorldState) (b : ℕ) : Type 0 where
-  pub did : (e : Entry) → entry_in_progress old.core.history ≡ Some e → IsBeforeEnd old.core b → IsPartOf old.core e b → is_masked new.core.failed new.core.starved b ≡ false
+  pub did : (e : Entry) → open_entry_of old.core.history ≡ Some e → IsBeforeEnd old.core b → IsPartOf old.core e b → is_masked new.core.failed new.core.starved b ≡ false
       → slice_get (logins_of new.cells) b ≡ Some (Some (login_of (accounts_of old) e.user b))
-  pub skipped : (e : Entry) → entry_in_progress old.core.history ≡ Some e → (IsPartOf old.core e b → ⊥) → slice_get (logins_of new.cells) b ≡ slice_get (logins_of old.cells) b
+  pub skipped : (e : Entry) → open_entry_of old.core.history ≡ Some e → (IsPartOf old.core e b → ⊥) → slice_get (logins_of new.cells) b ≡ slice_get (logins_of old.cells) b
   pub disabled : is_enabled old.core.history b ≡ false → slice_get new.cells b ≡ slice_get old.cells b
 
 -- Backend b has nothing to do with what happened: its cell, where it stands, and the masks.
@@ -151,7 +151,7 @@ pub record QueryStarved (s : ℕ) (old : WorldState) (reply : Reply) (new : Worl
 -- the backend failed, which the history says
 pub record QueryFailed (s b : ℕ) (old new : WorldState) : Type 0 where
   pub room : 0 < events_left old.core.history
-  pub after : new.core ≡ happened old.core (ReadFailed s ((session_at old.core s).queries + 1) b)
+  pub after : new.core ≡ happened old.core (ReadFailed s ((session_at old.core s).requests + 1) b)
   pub is_sound : CoreInvariant new.core
   pub faults : faults_of new.cells ≡ faults_after (faults_of old.cells) (Some b)
 

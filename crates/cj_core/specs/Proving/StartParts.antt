@@ -8,7 +8,7 @@ use Rattle.std.specs.declared.option.Option.TheVariants.{None, Some}
 use Rattle.cj_model.specs.Cluster.Masks.{in_mask}
 use Rattle.cj_outside.specs.Causes.{next}
 use Rattle.cj_cluster.specs.declared.event.Event.TheVariants.{Enabled}
-use Rattle.cj_cluster.specs.History.Histories.{log, is_idle, is_enabled}
+use Rattle.cj_cluster.specs.History.Histories.{log, is_free, is_enabled}
 use Rattle.cj_cluster.specs.Moves.Cores.{Core, position_at}
 use Rattle.cj_cluster.specs.Moves.Moves.{happened, is_orphan, last_number}
 use Rattle.cj_book.specs.declared.error.StartError.{StartError}
@@ -80,7 +80,7 @@ pub record EnabledTo (old now : WorldState) (i : ℕ) : Type 0 where
   pub rises : AllPairs (λ (a b : ℕ). a < b) enabled
   pub below : All (λ (b : ℕ). b < i) enabled
   pub after : now ≡ with_core old (record old.core { history = old.core.history ++ map Enabled enabled })
-  pub idle : is_idle now.core.history ≡ true
+  pub idle : is_free now.core.history ≡ true
   pub entries : log now.core.history ≡ log old.core.history
   pub on : (b : ℕ) → b < i → is_enabled now.core.history b ≡ is_some (position_at old.core b)
   pub off : (b : ℕ) → i ≤ b → is_enabled now.core.history b ≡ false
@@ -158,7 +158,7 @@ pub record IsSameCluster (old now : WorldState) : Type 0 where
 pub record TransactionEnded (tx : ℕ) (old now : WorldState) : Type 0 where
   pub failed : ℕ
   pub history : now.core.history ≡ with_abort old.core.history tx failed
-  pub idle : is_idle now.core.history ≡ true
+  pub idle : is_free now.core.history ≡ true
   pub same : IsSameCluster old now
   pub stands : (faults : List ℕ) → AllStand faults old → AllStand faults now
 
@@ -172,7 +172,7 @@ pub record EndedTo (old now : WorldState) (i : ℕ) : Type 0 where
   pub history : AbortsEach old.core.history (filter (is_orphan old.core) (range_with_len 1 i)) now.core.history
   pub later : (tx : ℕ) → i < tx → tx ≤ last_number old.core → is_orphan now.core tx ≡ is_orphan old.core tx
   pub longer : last_number old.core ≤ last_number now.core
-  pub idle : is_idle now.core.history ≡ true
+  pub idle : is_free now.core.history ≡ true
   pub same : IsSameCluster old now
   pub stands : (faults : List ℕ) → AllStand faults old → AllStand faults now
   pub uncalled : last_number old.core ≡ 0 → now.cells ≡ old.cells

@@ -27,11 +27,11 @@ user = such_that is_user string16
 abbrev pub text : Format (List ℕ)
 text = such_that is_text string64
 
-abbrev pub backend_of : ℕ → Option ℕ
-backend_of b = if b == 255 then None else Some b
+abbrev pub backend_of_byte : ℕ → Option ℕ
+backend_of_byte b = if b == 255 then None else Some b
 
 abbrev pub backend : Format (Option ℕ)
-backend = mapped backend_of backend_byte byte
+backend = mapped backend_of_byte backend_byte byte
 
 -- ---- what is in an item of this kind
 

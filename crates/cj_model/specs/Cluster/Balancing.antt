@@ -6,7 +6,7 @@ use Rattle.cj_model.specs.declared.limits.TheConstants.{BACKEND_LIMIT}
 use Rattle.cj_model.specs.Cluster.Masks.{in_mask}
 
 -- the backend that was picked last, and of each backend how often it was used and how many of its reads are pending
-pub record Standing : Type 0 where
+pub record BalanceState : Type 0 where
   pub last : Option ℕ
   pub used : List ℕ
   pub pending : List ℕ
@@ -15,14 +15,14 @@ pub record Standing : Type 0 where
 pub record Balance : Type 0 where
   pub policy : Policy
   pub weights : List ℕ
-  pub standing : Standing
+  pub standing : BalanceState
 
 -- 0 for each backend
 abbrev pub zeros : List ℕ
 zeros = replicate BACKEND_LIMIT 0
 
 -- nothing was picked yet, and no read is pending
-abbrev pub at_rest : Standing
+abbrev pub at_rest : BalanceState
 at_rest = record { last = None; used = zeros; pending = zeros }
 
 -- how many steps up it is from the last picked backend to b, where 0 comes after 15: 1 to the next one, and 16 to the last picked itself
@@ -36,7 +36,7 @@ steps_to (Some last) b = steps_from last b
 
 -- whether backend a has a better claim to the next read than b, by the policy: it comes sooner after the last picked, or its used / weight is less, compared exactly as fractions,
 -- or it has fewer reads pending
-abbrev pub is_ahead : Policy → List ℕ → Standing → ℕ → ℕ → Bool
+abbrev pub is_ahead : Policy → List ℕ → BalanceState → ℕ → ℕ → Bool
 is_ahead RoundRobin weights s a b = nat_lt (steps_to s.last a) (steps_to s.last b)
 is_ahead Weighted weights s a b = nat_lt (slice_index s.used a * slice_index weights b) (slice_index s.used b * slice_index weights a)
 is_ahead LeastPending weights s a b = nat_lt (slice_index s.pending a) (slice_index s.pending b)
@@ -65,10 +65,10 @@ used_after Weighted used b = one_more (with_room used b) b
 used_after LeastPending used b = used
 
 -- how things stand after b was picked
-abbrev pub picked : Policy → Standing → ℕ → Standing
+abbrev pub picked : Policy → BalanceState → ℕ → BalanceState
 picked policy s b = record s { last = Some b; used = used_after policy s.used b }
 
 -- the policy picks b of the candidates, after which things stand so; there is one such pick at most (`picks_one`)
-pub record Picks (policy : Policy) (weights : List ℕ) (before : Standing) (candidates b : ℕ) (after : Standing) : Type 0 where
+pub record Picks (policy : Policy) (weights : List ℕ) (before : BalanceState) (candidates b : ℕ) (after : BalanceState) : Type 0 where
   pub first : IsFirst (is_ahead policy weights before) candidates b
   pub stands : after ≡ picked policy before b

@@ -10,7 +10,7 @@ use Rattle.cj_cluster.specs.Moves.Moves.{MoveResult, SchedulesRequest, is_waitin
 
 -- the session can count one request more
 pub record CanCountOne (c : Core) (s : ℕ) : Type 0 where
-  pub counts : (session_at c s).queries < REQUEST_LIMIT
+  pub counts : (session_at c s).requests < REQUEST_LIMIT
   pub idle : is_waiting c s ≡ false
   pub no_read : (session_at c s).reading ≡ None
 

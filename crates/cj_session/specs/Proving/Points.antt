@@ -92,7 +92,7 @@ pub record ServesUpTo {S D : Type 0} (w : SessionSetting S D) (p q : SessionPoin
   pub wrote : Appends p.held q.held (flat_map reply_bytes replies)
   pub so_far : TranscriptSoFar w p.client (p.rest ++ taken) q.rest replies q.client
   -- each message takes five bytes at least
-  pub paid : 5 * (w.state_of q.client.desk).queries + length q.rest ≤ 5 * (w.state_of p.client.desk).queries + length p.rest + length taken
+  pub paid : 5 * (w.state_of q.client.desk).requests + length q.rest ≤ 5 * (w.state_of p.client.desk).requests + length p.rest + length taken
 
 -- from p the session came to this end, where the client's session is z
 pub record ServesToEnd {S D : Type 0} (w : SessionSetting S D) (p : SessionPoint S D) (left held : Option (List ℕ)) (ending : SessionEnd) (z : ClientState S D) : Type 0 where

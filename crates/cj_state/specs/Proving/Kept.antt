@@ -4,12 +4,12 @@ use Rattle.std.specs.declared.option.Option.TheVariants.{Some}
 use Rattle.cj_model.specs.declared.request.Entry.{Entry}
 use Rattle.cj_model.specs.Sql.PlainRequests.{request_of}
 use Rattle.cj_cluster.specs.declared.moves.OpenSession.{OpenSession}
-use Rattle.cj_cluster.specs.History.Histories.{log, ended_count, entry_in_progress, is_enabled}
+use Rattle.cj_cluster.specs.History.Histories.{log, ended_count, open_entry_of, is_enabled}
 use Rattle.cj_cluster.specs.History.Answering.{HasServer}
 use Rattle.cj_cluster.specs.Moves.Cores.{position_at}
 use Rattle.cj_model.specs.Cluster.Caching.{CacheState}
 use Rattle.cj_model.specs.Cluster.Masks.{in_mask}
-use Rattle.cj_freshness.specs.Freshness.{IsFreshCache}
+use Rattle.cj_cluster.specs.History.Freshness.{IsFreshCache}
 use Rattle.cj_dump.specs.declared.dump.Dump.{Dump}
 use Rattle.cj_tally.specs.declared.tally.Tally.{Tally}
 use Rattle.cj_tally.specs.Tallies.{IsTallyOf}
@@ -20,11 +20,11 @@ pub record Kept (tells : Bool) (w : WorldState) (numbers : List ℕ) (tally : Ta
   pub world : IsWorld tells w
   pub numbers_are : numbers ≡ map (λ (x : OpenSession). x.number) w.core.sessions
   -- while an entry is open, it is served
-  pub served : (e : Entry) → entry_in_progress w.core.history ≡ Some e → HasServer w.core.placement w.core.history (request_of e.act)
+  pub served : (e : Entry) → open_entry_of w.core.history ≡ Some e → HasServer w.core.placement w.core.history (request_of e.act)
   -- the tally is of that entry
-  pub tallied : (e : Entry) → entry_in_progress w.core.history ≡ Some e → IsTallyOf tells w.core.placement (log w.core.history) (ended_count w.core.history) e tally
+  pub tallied : (e : Entry) → open_entry_of w.core.history ≡ Some e → IsTallyOf tells w.core.placement (log w.core.history) (ended_count w.core.history) e tally
   -- and has each enabled backend that took it
-  pub taken : (e : Entry) (b : ℕ) → entry_in_progress w.core.history ≡ Some e → is_enabled w.core.history b ≡ true → position_at w.core b ≡ Some (length (log w.core.history)) → in_mask tally.taken b ≡ true
+  pub taken : (e : Entry) (b : ℕ) → open_entry_of w.core.history ≡ Some e → is_enabled w.core.history b ≡ true → position_at w.core b ≡ Some (length (log w.core.history)) → in_mask tally.taken b ≡ true
 
 -- and its cache has fresh answers alone, and its dumps hold what their backends had
 abbrev pub KeptFresh : Bool → WorldState → List ℕ → Tally → CacheState → List Dump → Type 0

@@ -32,7 +32,7 @@ pub record IsReady (book : SeatView) (failed : ℕ) : Type 0 where
   pub tokens : (k : ℕ) → in_mask failed k ≡ true → 0 < fault_tokens_of k book.fault_tokens
 
 -- the book has heard more, and nothing else of it has changed
-pub record HasHeard {S : Type 0} (old new : SeatedBook S) : Type 0 where
+pub record HasLearned {S : Type 0} (old new : SeatedBook S) : Type 0 where
   pub state : new.state ≡ old.state
   pub given : new.view.given ≡ old.view.given
   pub last_given : new.view.last_given ≡ old.view.last_given
@@ -40,8 +40,8 @@ pub record HasHeard {S : Type 0} (old new : SeatedBook S) : Type 0 where
   pub notes : (x : ℕ × ℕ) → Contains old.view.position_notes x → Contains new.view.position_notes x
 
 -- it has heard of the cell of backend b: where that stands, and each fault that it has a token of
-pub record HasHeardOf {S : Type 0} (old : SeatedBook S) (cells : List SeatedCell) (b : ℕ) (new : SeatedBook S) : Type 0 where
-  pub heard : HasHeard old new
+pub record HasLearnedOf {S : Type 0} (old : SeatedBook S) (cells : List SeatedCell) (b : ℕ) (new : SeatedBook S) : Type 0 where
+  pub heard : HasLearned old new
   pub position : (p : ℕ) → position_in (states_of cells) b ≡ Some p → Contains new.view.position_notes (b, p)
   pub fault : (x : SeatedCell) (k : ℕ) → slice_get cells b ≡ Some x → fault_tokens_of k old.view.fault_tokens + fault_tokens_of k x.view.fault_tokens ≤ fault_tokens_of k new.view.fault_tokens
 

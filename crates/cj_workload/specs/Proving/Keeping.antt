@@ -35,5 +35,5 @@ IsOutside _ = ⊥
 pub record Keeps (requests enabled : ℕ) (a z : SoloState) : Type 0 where
   pub placement : z.world.core.placement ≡ a.world.core.placement
   pub session : z.session ≡ a.session
-  pub queries : (session_at z.world.core z.session).queries ≡ (session_at a.world.core a.session).queries + requests
+  pub requests : (session_at z.world.core z.session).requests ≡ (session_at a.world.core a.session).requests + requests
   pub counted : enablings z.world.core.history ≡ enablings a.world.core.history + enabled

@@ -1,5 +1,5 @@
 use Rattle.std.proofs.Common.{sym, subst}
-use Rattle.cj_opening.specs.Openings.{OpensTo}
+use Rattle.cj_recovery.specs.Openings.{OpensTo}
 use Rattle.cj_book.proofs.recovered.recover.Goals as goal
 
 pub returns-clause-opens : goal.returns-clause-opens

@@ -1,5 +1,5 @@
 use Rattle.std.proofs.Common.{◌≡◌, ◌≤◌, ap, sym, ◌∙◌, subst, refl, ℕ}
-use Rattle.cj_core.proofs.Cited.{Core, Placement, each_taken, is_idle, taken_everywhere, taken_none, taken_to_next}
+use Rattle.cj_core.proofs.Cited.{Core, Placement, each_taken, is_free, taken_everywhere, taken_none, taken_to_next}
 use Rattle.cj_core.proofs.solo_write.take_everywhere.Goals as goal
 
 pub loop-b-preserved : goal.loop-b-preserved
@@ -8,7 +8,7 @@ loop-b-preserved g c =
     let takes = c.take_if_due.ensures in
     record {
       to = taken_to_next c.args.state.now c.loop-b.state c.take_if_due.new.state c.loop-b.b before.to takes.taken takes.at_end takes.here takes.others;
-      running = ap (λ (k : Core). is_idle k.history) takes.taken.core ∙ before.running;
+      running = ap (λ (k : Core). is_free k.history) takes.taken.core ∙ before.running;
       placement = ap (λ (k : Core). k.placement) takes.taken.core ∙ before.placement;
     }
 

@@ -5,20 +5,20 @@ use Rattle.cj_core.proofs.solo_write.take_if_due.Goals as goal
 pub returns-then-is_none-clause-taken : goal.returns-then-is_none-clause-taken
 returns-then-is_none-clause-taken g c =
     let now : not_now c.args.state.now.core (Apply c.args.b) ≡ None = search rules in
-    let took_open = c.take_open.ensures in
-    took g.B.Backend.tells c.args.state.now c.take_open.new.self c.args.b c.take_open.result took_open.applies c.legal.ensures.world c.requires.within now took_open.counts took_open.logins took_open.setup took_open.recovery_log took_open.cache
+    let took_open = c.catch_up_open.ensures in
+    took g.B.Backend.tells c.args.state.now c.catch_up_open.new.self c.args.b c.catch_up_open.result took_open.applies c.legal.ensures.world c.requires.within now took_open.counts took_open.logins took_open.setup took_open.recovery_log took_open.cache
     took_open.asks took_open.balance
 
 pub returns-then-is_none-clause-here : goal.returns-then-is_none-clause-here
 returns-then-is_none-clause-here g c =
     let now : not_now c.args.state.now.core (Apply c.args.b) ≡ None = search rules in
-    let took_open = c.take_open.ensures in
-    takes_open g.B.Backend.tells c.args.state.now c.take_open.new.self c.args.b c.take_open.result took_open.applies c.legal.ensures.world c.requires.within now took_open.logins
+    let took_open = c.catch_up_open.ensures in
+    takes_open g.B.Backend.tells c.args.state.now c.catch_up_open.new.self c.args.b c.catch_up_open.result took_open.applies c.legal.ensures.world c.requires.within now took_open.logins
 
 pub returns-then-is_none-clause-others : goal.returns-then-is_none-clause-others
 returns-then-is_none-clause-others g c = λ k other.
-    let took_open = c.take_open.ensures in
-    left_alone g.B.Backend.tells c.args.state.now c.take_open.new.self c.args.b c.take_open.result took_open.applies k other (took_open.others k other)
+    let took_open = c.catch_up_open.ensures in
+    left_alone g.B.Backend.tells c.args.state.now c.catch_up_open.new.self c.args.b c.catch_up_open.result took_open.applies k other (took_open.others k other)
 
 pub returns-else-is_none-clause-here : goal.returns-else-is_none-clause-here
 returns-else-is_none-clause-here g c =

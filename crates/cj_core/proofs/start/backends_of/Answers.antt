@@ -1,5 +1,5 @@
 use Rattle.std.proofs.Common.{◌≡◌, ◌<◌, ◌≤◌, ◌++◌, ◌∷◌, [], List, map, reverse, vec_capacity, refl, ap, sym, ◌∙◌, subst}
-use Rattle.cj_core.proofs.Cited.{CellState, SeatedCell, backend_of, leaving_first, leaving_last, leaving_more, leaving_room, left_seen, length-map, map_push, reverse-append, state_by, states_of}
+use Rattle.cj_core.proofs.Cited.{CellState, SeatedCell, started_backend, leaving_first, leaving_last, leaving_more, leaving_room, left_seen, length-map, map_push, reverse-append, state_by, states_of}
 use Rattle.cj_core.proofs.start.backends_of.Goals as goal
 
 map_reversed : {X Y : Type 0} (f : X → Y) (xs : List X) → map f (reverse xs) ≡ reverse (map f xs)
@@ -27,7 +27,7 @@ loop-cell-preserved g c =
     let x : CellState = c.in-Some.cell.state in
     let y = c.into_backend.result in
     let out = c.into_backend.ensures in
-    let seen : state_by g.B.Backend.told g.B.Backend.faults g.B.Backend.asks g.B.Backend.login g.B.Backend.arming y ≡ backend_of x = left_seen (state_by g.B.Backend.told g.B.Backend.faults g.B.Backend.asks g.B.Backend.login g.B.Backend.arming y) x out.told out.faults out.asks out.login out.arming in
+    let seen : state_by g.B.Backend.told g.B.Backend.faults g.B.Backend.asks g.B.Backend.login g.B.Backend.arming y ≡ started_backend x = left_seen (state_by g.B.Backend.told g.B.Backend.faults g.B.Backend.asks g.B.Backend.login g.B.Backend.arming y) x out.told out.faults out.asks out.login out.arming in
     leaving_more (states_of c.pop.new.self.items) x (last_state l.cells.items c.pop.new.self.items c.in-Some.cell c.in-Some.ensures.items) l.invariant y c.push_reserved.new.self.items (vec_capacity c.push_reserved.new.self) seen out.begun c.push_reserved.ensures.items c.push_reserved.ensures.capacity
 
 pub returns-clause-same : goal.returns-clause-same

@@ -1,5 +1,5 @@
 use Rattle.std.proofs.Common.{List, ap, ◌∙◌}
-use Rattle.cj_core.proofs.Cited.{Event, enabled_standing, has_started, idle_opening, is_enabled, is_idle, none_on, only_history}
+use Rattle.cj_core.proofs.Cited.{Event, enabled_standing, has_started, idle_opening, is_enabled, is_free, none_on, only_history}
 use Rattle.cj_core.proofs.start.bring_up.Goals as goal
 
 pub replay_everywhere-requires-clause-off : goal.replay_everywhere-requires-clause-off
@@ -7,7 +7,7 @@ replay_everywhere-requires-clause-off g c = none_on c.args.state.now.core.histor
 
 pub enable_everywhere-requires-clause-free : goal.enable_everywhere-requires-clause-free
 enable_everywhere-requires-clause-free g c =
-    ap (λ (h : List Event). is_idle h) (only_history c.args.state.now c.replay_everywhere.new.state c.replay_everywhere.ensures.only) ∙ idle_opening c.args.state.now.core.history c.requires.opening
+    ap (λ (h : List Event). is_free h) (only_history c.args.state.now c.replay_everywhere.new.state c.replay_everywhere.ensures.only) ∙ idle_opening c.args.state.now.core.history c.requires.opening
 
 pub enable_everywhere-requires-clause-off : goal.enable_everywhere-requires-clause-off
 enable_everywhere-requires-clause-off g c b =

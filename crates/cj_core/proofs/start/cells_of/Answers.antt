@@ -1,5 +1,5 @@
 use Rattle.std.proofs.Common.{◌≡◌, ◌<◌, ◌≤◌, [], Some, length, vec_capacity, ap, sym, ◌∙◌, subst, arith}
-use Rattle.cj_core.proofs.Cited.{BACKEND_LIMIT, IsFresh, Layout, SeatedCell, backend_of, length-map, made_fresh, map_push, moving_first, moving_last, moving_more, moving_none, moving_room, placement_of, seating_first, seating_more, seating_nothing, state_by, states_of}
+use Rattle.cj_core.proofs.Cited.{BACKEND_LIMIT, IsFresh, Layout, SeatedCell, started_backend, length-map, made_fresh, map_push, moving_first, moving_last, moving_more, moving_none, moving_room, placement_of, seating_first, seating_more, seating_nothing, state_by, states_of}
 use Rattle.cj_core.proofs.start.cells_of.Goals as goal
 
 pub loop-backend-init : goal.loop-backend-init
@@ -41,7 +41,7 @@ loop-backend-preserved g c =
     subst (λ (q : Layout). y.state ≡ record { b = c.len-b.result; placement = placement_of q; position = Some 0; begun = []; login = seen.login; told = seen.told; faults = seen.faults; asks = seen.asks; arming = seen.arming }) c.in_ok-placement.ensures (ap (λ (z : SeatedCell). z.state) c.new.ensures)
     in (
       moving_more c.pop.new.self.items x c.in-Some.ensures.items l.invariant.0 y.state (states_of c.push_reserved.new.self.items) (vec_capacity c.push_reserved.new.self)
-          (subst (λ n. IsFresh p n y.state × (backend_of y.state ≡ seen)) number (made_fresh c.len-b.result p seen y.state made)) (ap states_of c.push_reserved.ensures.items ∙ map_push (λ (z : SeatedCell). z.state) l.cells.items y) c.push_reserved.ensures.capacity,
+          (subst (λ n. IsFresh p n y.state × (started_backend y.state ≡ seen)) number (made_fresh c.len-b.result p seen y.state made)) (ap states_of c.push_reserved.ensures.items ∙ map_push (λ (z : SeatedCell). z.state) l.cells.items y) c.push_reserved.ensures.capacity,
       seating_more c.pop.new.self.items x c.in-Some.ensures.items c.pop-in-Some.new.self.items c.in-Some-pop.seat c.in-Some-pop.ensures.items l.cells.items l.invariant.1 y c.push_reserved.new.self.items (ap (λ (z : SeatedCell). z.board) c.new.ensures) c.push_reserved.ensures.items,
     )
 

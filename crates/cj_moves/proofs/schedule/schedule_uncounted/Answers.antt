@@ -1,5 +1,5 @@
 use Rattle.std.proofs.Common.{◌≡◌, None, Option, Err, rules, subst, sym, ◌∙◌}
-use Rattle.cj_moves.proofs.Cited.{Core, Refusal, SchedulesUncounted, can_count, forbidden_by, gives_entry, gives_refusal, is_log_fault, log_faults_after, open_tx, refusal_causes, refusal_want, schedule_given}
+use Rattle.cj_moves.proofs.Cited.{Core, Refusal, SchedulesUncounted, can_count, forbidden_by, gives_entry, gives_refusal, answers_log_fault, log_faults_after, open_tx, refusal_causes, refusal_want, schedule_given}
 use Rattle.cj_moves.proofs.schedule.schedule_uncounted.Goals as goal
 
 pub returns-in-Ok-schedule_entry-clause-moves : goal.returns-in-Ok-schedule_entry-clause-moves
@@ -22,7 +22,7 @@ pub returns-in-Err-clause-log_causes : goal.returns-in-Err-clause-log_causes
 returns-in-Err-clause-log_causes g c =
     let before = c.args.state.now.recovery_log.faults in
     let now = c.schedule_entry.new.self.recovery_log.faults in
-    subst (λ (o : Option Refusal). now ≡ log_faults_after before (is_log_fault (schedule_given (Err o)))) (sym c.refusal.ensures) (refusal_causes c.in-Err.error before now c.in-Err.ensures.cause)
+    subst (λ (o : Option Refusal). now ≡ log_faults_after before (answers_log_fault (schedule_given (Err o)))) (sym c.refusal.ensures) (refusal_causes c.in-Err.error before now c.in-Err.ensures.cause)
 
 pub returns-in-Err-clause-want : goal.returns-in-Err-clause-want
 returns-in-Err-clause-want g c none =

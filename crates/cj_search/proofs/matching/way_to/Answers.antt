@@ -1,6 +1,6 @@
 use Rattle.std.proofs.Common.{subst, ap, ◌∙◌}
 use Rattle.cj_model.specs.declared.schema.Schema.{Schema}
-use Rattle.cj_rows.specs.Lookups.{IsKeyOf}
+use Rattle.cj_rowstore.specs.Lookups.{IsKeyOf}
 use Rattle.cj_search.proofs.SearchLaws.{said_rows}
 use Rattle.cj_search.proofs.matching.way_to.Goals as goal
 

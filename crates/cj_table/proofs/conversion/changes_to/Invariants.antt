@@ -1,6 +1,6 @@
 use Rattle.std.proofs.Common.{◌≡◌, ◌++◌, map}
 use Rattle.cj_table.proofs.Cited.{KeysRise, Turned, deref, value_cmp}
-use Rattle.cj_rows.specs.RowEntries as entries
+use Rattle.cj_rowstore.specs.RowEntries as entries
 use Rattle.cj_table.proofs.conversion.changes_to.Given as goal
 
 abbrev pub invariant-loop-row : goal.invariant-loop-row

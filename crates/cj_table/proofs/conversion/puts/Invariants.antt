@@ -1,6 +1,6 @@
 use Rattle.std.proofs.Common.{◌≡◌}
 use Rattle.cj_table.proofs.Cited.{Some, cell, fold, insert_entry, value_cmp}
-use Rattle.cj_rows.specs.RowEntries as entries
+use Rattle.cj_rowstore.specs.RowEntries as entries
 use Rattle.cj_table.proofs.conversion.puts.Given as goal
 
 abbrev pub invariant-loop-row : goal.invariant-loop-row

@@ -30,9 +30,9 @@ serve_one-requires-clause-idle g c = c.in-Ok-start.ensures.started.started.idle
 pub returns-clause-served : goal.returns-clause-served
 returns-clause-served g c =
     let first : WorldState = c.in-Ok-start.world in
-    let setup : first.setup ≡ record { names = c.args.conf.placement.names; register = c.args.conf.accounts } =
-    subst (λ (r : Register). first.setup ≡ record { names = c.args.conf.placement.names; register = r }) c.in-Ok.ensures.accounts
-    (subst (λ (l : Layout). first.setup ≡ record { names = l.names; register = c.in-Ok.parts.accounts }) c.in-Ok.ensures.placement c.in-Ok-start.ensures.setup)
+    let setup : first.setup ≡ record { names = c.args.conf.placement.names; accounts = c.args.conf.accounts } =
+    subst (λ (r : Register). first.setup ≡ record { names = c.args.conf.placement.names; accounts = r }) c.in-Ok.ensures.accounts
+    (subst (λ (l : Layout). first.setup ≡ record { names = l.names; accounts = c.in-Ok.parts.accounts }) c.in-Ok.ensures.placement c.in-Ok-start.ensures.setup)
     in
     let starts = subst (λ (l : Layout). StartsFrom (Found g.S.Store.tells (g.S.Store.held c.args.log)) (placement_of l) (map (state_by g.B.Backend.told g.B.Backend.faults g.B.Backend.asks g.B.Backend.login g.B.Backend.arming) c.args.backends) first) c.in-Ok.ensures.placement c.in-Ok-start.ensures.started in
     served_at c.serve_one.result c.serve_one.ensures.serves

@@ -1,6 +1,6 @@
 use Rattle.std.proofs.Common.{◌≡◌, Some, map}
 use Rattle.std.specs.Prelude.{string_bytes}
-use Rattle.cj_words.specs.declared.asked.Asked.TheVariants as asked
+use Rattle.cj_args.specs.declared.asked.Asked.TheVariants as asked
 use Rattle.cj_top.proofs.AskedWords.{asks_for_no_text, asks_nothing, few_said, help_is_no_command, is_no_text, of_command, version_is_no_command}
 use Rattle.cj_top.proofs.program.run.Goals as goal
 

@@ -31,8 +31,8 @@ returns-in-Ok-start-clause-begins g c =
     in
     record {
       setup =
-          subst (λ (r : Register). w.setup ≡ record { names = c.args.conf.placement.names; register = r }) c.in-Ok-parts_of.ensures.accounts
-          (subst (λ (l : Layout). w.setup ≡ record { names = l.names; register = c.in-Ok-parts_of.parts.accounts }) c.in-Ok-parts_of.ensures.placement c.in-Ok-start.ensures.setup);
+          subst (λ (r : Register). w.setup ≡ record { names = c.args.conf.placement.names; accounts = r }) c.in-Ok-parts_of.ensures.accounts
+          (subst (λ (l : Layout). w.setup ≡ record { names = l.names; accounts = c.in-Ok-parts_of.parts.accounts }) c.in-Ok-parts_of.ensures.placement c.in-Ok-start.ensures.setup);
       starts =
           subst (λ (l : Layout). StartsFrom found (placement_of l) (replicate (length c.args.conf.placement.names) (new_backend b.tells)) w) c.in-Ok-parts_of.ensures.placement
           (subst (λ (backends : List BackendState). StartsFrom found (placement_of c.in-Ok-parts_of.parts.book.placement) backends w) seen c.in-Ok-start.ensures.started);

@@ -8,14 +8,14 @@ use Rattle.cj_workload.proofs.playing.play.Goals as goal
 -- the session that was opened has made no request
 pub begin-requires-clause-room : goal.begin-requires-clause-room
 begin-requires-clause-room g c =
-    let none = ap (λ (s : SoloState). (session_at s.world.core s.session).queries) c.in-Ok.ensures.opened ∙ none_asked c.args.world.core c.requires.fresh in
+    let none = ap (λ (s : SoloState). (session_at s.world.core s.session).requests) c.in-Ok.ensures.opened ∙ none_asked c.args.world.core c.requires.fresh in
     omega (arith, none)
 
 -- and one for the table
 pub rounds-requires-clause-room : goal.rounds-requires-clause-room
 rounds-requires-clause-room g c =
-    let none = ap (λ (s : SoloState). (session_at s.world.core s.session).queries) c.in-Ok.ensures.opened ∙ none_asked c.args.world.core c.requires.fresh in
-    let made = c.in_ok-begin.ensures.keeps.1.queries in
+    let none = ap (λ (s : SoloState). (session_at s.world.core s.session).requests) c.in-Ok.ensures.opened ∙ none_asked c.args.world.core c.requires.fresh in
+    let made = c.in_ok-begin.ensures.keeps.1.requests in
     let few = c.requires.few in
     omega (arith, none, made, few)
 

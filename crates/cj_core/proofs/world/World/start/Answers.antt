@@ -1,5 +1,5 @@
 use Rattle.std.proofs.Common.{ℕ, List, map, sym, ap, ◌∙◌, subst, ◌≡◌, true}
-use Rattle.cj_core.proofs.Cited.{CellState, Core, Event, IsPrefix, KeepsItems, Layout, LogItem, LogView, LosesNothing, OpensTo, WorldState, backend_of, fault_of_start, items_of, loses_nothing, opened_core, placement_of, refused_again, refused_part, started_well, starts_from, state_by}
+use Rattle.cj_core.proofs.Cited.{CellState, Core, Event, IsPrefix, KeepsItems, Layout, LogItem, LogView, LosesNothing, OpensTo, WorldState, started_backend, fault_of_start, items_of, loses_nothing, opened_core, placement_of, refused_again, refused_part, started_well, starts_from, state_by}
 use Rattle.cj_core.proofs.StartNumbers.{started_numbers}
 use Rattle.cj_core.proofs.world.World.start.Goals as goal
 
@@ -12,7 +12,7 @@ returns-in-Ok-brought-clause-started g c =
     starts_from (λ (items : List LogItem). g.S.Store.tells ≡ true → KeepsItems (g.S.Store.held c.args.log) items) (items_of book.history) (placement_of c.args.parts.book.placement) book.history
     (map (state_by b.told b.faults b.asks b.login b.arming) c.args.backends) c.new-state.result c.bring_up-brought.new.state (λ tells. (c.in_ok-book.ensures.bytes tells).0) opened.opens
     (c.new-state.ensures.core ∙ ap (λ (l : Layout). opened_core (placement_of l) book.history) opened.layout)
-    (ap (λ (cells : List CellState). map backend_of cells) c.new-state.ensures.cells ∙ c.in-Ok.ensures.same) went.started went.uncalled
+    (ap (λ (cells : List CellState). map started_backend cells) c.new-state.ensures.cells ∙ c.in-Ok.ensures.same) went.started went.uncalled
 
 pub returns-in-Ok-brought-clause-kept : goal.returns-in-Ok-brought-clause-kept
 returns-in-Ok-brought-clause-kept g c = λ t.

@@ -1,6 +1,6 @@
 use Rattle.std.proofs.Common.{◌≡◌, true, false, List, sym, ap, ◌∙◌, append_assoc, [], ◌∷◌, ◌++◌}
 use Rattle.std.specs.Ordering.{is_le}
-use Rattle.cj_rows.proofs.Common.{cell, tied_itself, value_cmp, value_total}
+use Rattle.cj_rowstore.proofs.Common.{cell, tied_itself, value_cmp, value_total}
 use Rattle.std.specs.declared.option.Option.TheVariants.{None}
 use Rattle.cj_model.specs.declared.value.Value.{Value}
 use Rattle.cj_model.specs.Database.Evaluation.{satisfies}

@@ -12,7 +12,7 @@ pub returns-in-Ok-clause-goes : goal.returns-in-Ok-clause-goes
 returns-in-Ok-clause-goes g c =
     let off = rw c.in-Ok-Some.field-0-is at c.in-Ok-Some.ensures in
     let x = c.in-Ok.ensures.exchanged in
-    answered _ _ _ c.in-Ok-Some.message x.sent off.0 off.1 (sym c.is_quit.ensures ∙ c.if-is_quit.false) refl refl c.requires.few c.exchange.ensures.queries x.exchange x.wrote
+    answered _ _ _ c.in-Ok-Some.message x.sent off.0 off.1 (sym c.is_quit.ensures ∙ c.if-is_quit.false) refl refl c.requires.few c.exchange.ensures.requests x.exchange x.wrote
 
 pub returns-in-Err-Failed-clause-goes : goal.returns-in-Err-Failed-clause-goes
 returns-in-Err-Failed-clause-goes g c =

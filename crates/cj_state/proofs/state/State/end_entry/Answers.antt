@@ -1,5 +1,5 @@
 use Rattle.std.proofs.Common.{◌≡◌, ◌<◌, ◌++◌, ◌∷◌, [], ℕ, List, Some, true, false, None, length, ap, sym, ◌∙◌, subst, refl}
-use Rattle.cj_state.proofs.Cited.{BookState, CellState, Ended, SeatedCell, WorldState, at_log_end, board_id, dumps_event, first_lagging, free-ended, fresh_event, is_idle, is_waiting, kept_answered, length-map, log, log-same, pass_board, placement_of, ready_heard, seats_cleared, states_of, with_event}
+use Rattle.cj_state.proofs.Cited.{BookState, CellState, Ended, SeatedCell, WorldState, at_log_end, board_id, dumps_event, first_lagging, free-ended, fresh_event, is_free, is_waiting, kept_answered, length-map, log, log-same, pass_board, placement_of, ready_heard, seats_cleared, states_of, with_event}
 use Rattle.cj_state.proofs.state.State.end_entry.Goals as goal
 
 pub hear_all-requires-clause-few : goal.hear_all-requires-clause-few
@@ -12,13 +12,13 @@ pub end-requires-clause-positions : goal.end-requires-clause-positions
 end-requires-clause-positions g c =
     let w = c.self.inside in
     let cells : List CellState = states_of w.cells.items in
-    let open_now = subst (λ (x : WorldState). is_idle x.core.history ≡ false) (sym c.self.view_is) c.requires.«open» in
+    let open_now = subst (λ (x : WorldState). is_free x.core.history ≡ false) (sym c.self.view_is) c.requires.«open» in
     let none = subst (λ (x : WorldState). first_lagging x.core.history 0 x.core.positions ≡ None) (sym c.self.view_is) c.requires.behind in
     let waiting = subst (λ (x : WorldState). is_waiting x.core c.args.s ≡ true) (sym c.self.view_is) c.requires.waits in
     let e = Ended w.tally.failed w.tally.starved in
     let now = kept_answered g.B.Backend.tells w.accounts w.book.state.layout w.book.state.history cells w.tally.failed w.tally.starved w.sessions w.book.state.greatest w.dumps w.book.state.sessions w.tally c.self.invariant.0 c.args.s waiting open_now none in
     let one = c.self.invariant.0.world.sound.one_open in
-    let idle : is_idle (w.book.state.history ++ e ∷ []) ≡ true = free-ended w.book.state.history w.tally.failed w.tally.starved open_now one.0 one.1 in
+    let idle : is_free (w.book.state.history ++ e ∷ []) ≡ true = free-ended w.book.state.history w.tally.failed w.tally.starved open_now one.0 one.1 in
     rw c.hear_all.ensures.heard.state
     (λ b on.
     let there = at_log_end _ now.world.sound idle b on in
@@ -28,7 +28,7 @@ end-requires-clause-positions g c =
 pub invariant_of-self : goal.invariant_of-self
 invariant_of-self g c =
     let w = c.self.inside in
-    let open_now = subst (λ (x : WorldState). is_idle x.core.history ≡ false) (sym c.self.view_is) c.requires.«open» in
+    let open_now = subst (λ (x : WorldState). is_free x.core.history ≡ false) (sym c.self.view_is) c.requires.«open» in
     let none = subst (λ (x : WorldState). first_lagging x.core.history 0 x.core.positions ≡ None) (sym c.self.view_is) c.requires.behind in
     let waiting = subst (λ (x : WorldState). is_waiting x.core c.args.s ≡ true) (sym c.self.view_is) c.requires.waits in
     let e = Ended w.tally.failed w.tally.starved in

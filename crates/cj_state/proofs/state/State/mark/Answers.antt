@@ -1,11 +1,11 @@
 use Rattle.std.proofs.Common.{◌≡◌, true, false, None, refl, sym, subst, arith}
-use Rattle.cj_state.proofs.Cited.{BookState, HadLoggedRoom, IfOk, KeptFresh, LogFailed, Marker, WorldState, behind_as_many, board_id, counted, dumps_event, event_or_fault, fresh_event, had_logged_room, has_marker, is_idle, kept_log_failed, kept_marked, last_number, logged, name_some, pass_board, placement_of, quiet_or_fault, seats_after, states_of, world_of}
+use Rattle.cj_state.proofs.Cited.{BookState, HadLoggedRoom, IfOk, KeptFresh, LogFailed, Marker, WorldState, behind_as_many, board_id, counted, dumps_event, event_or_fault, fresh_event, had_logged_room, has_marker, is_free, kept_log_failed, kept_marked, last_number, logged, name_some, pass_board, placement_of, quiet_or_fault, seats_after, states_of, world_of}
 use Rattle.cj_state.proofs.state.State.mark.Goals as goal
 
 pub invariant_of-self : goal.invariant_of-self
 invariant_of-self g c =
     let w = c.self.inside in
-    let fr = subst (λ (x : WorldState). is_idle x.core.history ≡ true) (sym c.self.view_is) c.requires.free in
+    let fr = subst (λ (x : WorldState). is_free x.core.history ≡ true) (sym c.self.view_is) c.requires.free in
     let fresh = subst (λ (x : WorldState). has_marker x.core.history c.args.name.now ≡ false) (sym c.self.view_is) c.requires.fresh in
     let came = c.mark.ensures.state in
     let q = logged c.mark.result w.book.state c.mark.new.self.state (Marker c.args.name.now None) (LogFailed 0 0)

@@ -12,7 +12,7 @@ pub invariant_of-self : goal.invariant_of-self
 invariant_of-self g c =
     let w = c.self.inside in
     let here = subst (λ (x : WorldState). is_open x.core c.args.s ≡ true) (sym c.self.view_is) c.requires.here in
-    let number = subst (λ (x : WorldState). c.args.entry.seq ≡ (session_at x.core c.args.s).queries + 1) (sym c.self.view_is) c.requires.number in
+    let number = subst (λ (x : WorldState). c.args.entry.seq ≡ (session_at x.core c.args.s).requests + 1) (sym c.self.view_is) c.requires.number in
     let fits = subst (λ (x : WorldState). IsFitEntry (log x.core.history) c.args.entry) (sym c.self.view_is) c.requires.fits in
     let no_read = subst (λ (x : WorldState). (session_at x.core c.args.s).reading ≡ None) (sym c.self.view_is) c.requires.no_read in
     let ready = c.in-Ok.ensures.state.ready in

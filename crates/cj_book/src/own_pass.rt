@@ -1,0 +1,129 @@
+//! Passes at the book: what the two tell each other, and sessions with an own pass, which counts their events.
+
+ghost use Rattle.std.specs.Prelude.{ℕ, ◌≡◌, ◌↔◌, ◌+◌, ◌<◌, ◌≤◌, true, Contains, IfOk, OnErr, OnOk, IsErrOf};
+ghost use mathlib.Core.List.{IsPrefix};
+ghost use Rattle.cj_cluster.specs.declared.event.Event.{Event};
+ghost use Rattle.cj_cluster.specs.History.Histories.{is_free, log};
+ghost use Rattle.cj_cluster.specs.History.Legality.{IsFitEntry};
+ghost use Rattle.cj_board.specs.Counting.{event_count_of};
+ghost use Rattle.cj_board.specs.Seats.{board_id, front, pass_board, pass_view, history};
+ghost use Rattle.cj_board.specs.Steps.{after_closing, after_join, after_learning, after_split};
+ghost use Rattle.cj_board.specs.Views.{own_pass_of, pass_of, pass_without_tokens};
+ghost use Rattle.cj_book.specs.Books.{with_session, without_session, HasGivenAll};
+ghost use Rattle.cj_book.specs.Events.{Schedules};
+ghost use Rattle.cj_book.specs.Seated.{count_after, event_or_fault, own_book_after, own_opened, own_pass_after, told_book, told_pass, GivesOwnPassesOnly};
+
+use cj_board::{Board, Pass};
+use cj_model::{Entry, SESSION_NUMBER_LIMIT};
+use cj_outside::Store;
+use crate::book::Book;
+use crate::counter::Counter;
+use crate::error::{BookError, OwnError};
+
+impl<S: Store> Book<S> {
+    /// Opens a session of the next number with its own pass, which has seen the history and has counted nothing.
+    /// The book has a note of that count. It takes memory where many are open.
+    pub fn open_own(&mut self, board: &Board) -> Result<(u64, Pass), OwnError>
+        requires board { self.old.board ≡ board_id board.now }
+        requires gives { GivesOwnPassesOnly self.old }
+        ensures ok { OnOk result (self.new.state ≡ with_session self.old.state) }
+        ensures number { IfOk result (λ opened. opened.0 ≡ self.old.state.greatest + 1) }
+        ensures own { IfOk result (λ opened. (pass_view opened.1).own_session ≡ opened.0) }
+        ensures pass { IfOk result (λ opened. (pass_board opened.1 ≡ self.old.board) × (pass_view opened.1 ≡ own_pass_of self.old.view)) }
+        ensures seat { OnOk result (self.new.view ≡ own_opened self.old.view) }
+        ensures noted { IfOk result (λ opened. Contains self.new.view.count_notes (opened.0, 0)) }
+        ensures full { (n : ℕ) → IsErrOf result (OwnError.SessionsFull n) ↔ HasGivenAll self.old.state n }
+        ensures err { OnErr result (self.new ≡ self.old) }
+        ensures board { self.new.board ≡ self.old.board }
+        ensures opening { self.new.faults_at_opening ≡ self.old.faults_at_opening }
+        ensures still_gives { GivesOwnPassesOnly self.new }
+    {
+        if self.greatest >= SESSION_NUMBER_LIMIT {
+            return Err(OwnError::SessionsFull(SESSION_NUMBER_LIMIT));
+        }
+        let session = self.greatest + 1;
+        self.sessions.try_add(session)?;
+        self.greatest = session;
+        let mut p = board.open_own(&mut self.seat, session);
+        board.learn(&mut self.seat, &mut p);
+        Ok((session, p))
+    }
+
+    /// Schedules an entry of a session with an own pass, as `schedule` does. The pass counts the event that comes, and has
+    /// seen the history then.
+    pub fn schedule_own(&mut self, board: &Board, p: &mut Pass, e: Entry) -> Result<u64, BookError>
+        requires board { (self.old.board ≡ board_id board.now) × (pass_board p.old ≡ board_id board.now) }
+        requires own { ((pass_view p.old).own_session ≡ e.session) × (0 < e.session) }
+        requires fit { is_free self.old.state.history ≡ true → IsFitEntry (log self.old.state.history) e }
+        requires gives { GivesOwnPassesOnly self.old }
+        ensures state { Schedules S.tells S.faults S.moment S.since S.may self.old.state e result self.new.state }
+        ensures board { (self.new.board ≡ self.old.board) × (pass_board p.new ≡ pass_board p.old) }
+        ensures opening { self.new.faults_at_opening ≡ self.old.faults_at_opening }
+        ensures seat { self.new.view ≡ own_book_after (event_or_fault (Event.Sched e) (Event.LogFailed e.session e.seq) result) (told_book self.old.view (pass_view p.old)) (told_pass self.old.view (pass_view p.old)) }
+        ensures pass { pass_view p.new ≡ own_pass_after (event_or_fault (Event.Sched e) (Event.LogFailed e.session e.seq) result) (told_book self.old.view (pass_view p.old)) (told_pass self.old.view (pass_view p.old)) }
+        ensures own { (pass_view p.new).own_session ≡ e.session }
+        ensures count { (pass_view p.new).count ≡ count_after (event_or_fault (Event.Sched e) (Event.LogFailed e.session e.seq) result) (pass_view p.old).count }
+        ensures counted { event_count_of e.session self.new.state.history ≤ (pass_view p.new).count }
+        ensures told { front p.new ≡ self.new.state.history }
+        ensures seen { IsPrefix (front p.old) self.old.state.history × IsPrefix (front p.old) (front p.new) }
+        ensures given { (self.new.view.given ≡ self.old.view.given) × (self.new.view.last_given ≡ self.old.view.last_given) }
+        ensures still_gives { GivesOwnPassesOnly self.new }
+    {
+        self.legal();
+        self.tell(board, p);
+        board.check_count(p);
+        let mut counter = Counter::taken(board, p);
+        let result = self.schedule_counted(board, &mut counter, e);
+        counter.put_back(p);
+        board.check_count(p);
+        self.legal();
+        result
+    }
+
+    /// Closes a session with an own pass, which the board takes back; a transaction that it has open is then an orphan.
+    pub fn close_own(&mut self, board: &Board, session: u64, p: Pass)
+        requires board { (self.old.board ≡ board_id board.now) × (pass_board p ≡ board_id board.now) }
+        requires own { ((pass_view p).own_session ≡ session) × (0 < session) }
+        ensures state { self.new.state ≡ without_session self.old.state session }
+        ensures board { self.new.board ≡ self.old.board }
+        ensures opening { self.new.faults_at_opening ≡ self.old.faults_at_opening }
+        ensures seat { self.new.view ≡ after_closing self.old.view (pass_view p) }
+        ensures seen { IsPrefix (front p) self.old.state.history }
+        ensures closed { ¬ Contains self.new.view.given session }
+        ensures still_gives { GivesOwnPassesOnly self.old → GivesOwnPassesOnly self.new }
+    {
+        self.sessions.remove(session);
+        board.close_own(&mut self.seat, p);
+    }
+
+    /// The pass has seen the history, and each has the other's notes. The fault tokens stay. The session of an own pass is one that
+    /// the book gave.
+    pub fn tell(&mut self, board: &Board, p: &mut Pass)
+        requires board { (self.old.board ≡ board_id board.now) × (pass_board p.old ≡ board_id board.now) }
+        ensures board { (self.new.board ≡ self.old.board) × (pass_board p.new ≡ pass_board p.old) }
+        ensures opening { self.new.faults_at_opening ≡ self.old.faults_at_opening }
+        ensures state { self.new.state ≡ self.old.state }
+        ensures book { self.new.view ≡ after_learning self.old.view (pass_without_tokens (pass_view p.old)) }
+        ensures pass { pass_view p.new ≡ after_join (pass_view p.old) (pass_without_tokens self.new.view) }
+        ensures told { front p.new ≡ self.old.state.history }
+        ensures longer { IsPrefix (front p.old) (front p.new) }
+        ensures given { (pass_view p.old).own_session ≤ self.old.view.last_given }
+        ensures still_gives { GivesOwnPassesOnly self.old → GivesOwnPassesOnly self.new }
+    {
+        board.tell(&mut self.seat, p);
+    }
+
+    /// The book has the pass's notes, and takes its fault tokens.
+    pub fn learn(&mut self, board: &Board, p: &mut Pass)
+        requires board { (self.old.board ≡ board_id board.now) × (pass_board p.old ≡ board_id board.now) }
+        ensures board { (self.new.board ≡ self.old.board) × (pass_board p.new ≡ pass_board p.old) }
+        ensures opening { self.new.faults_at_opening ≡ self.old.faults_at_opening }
+        ensures state { self.new.state ≡ self.old.state }
+        ensures book { self.new.view ≡ after_learning self.old.view (pass_of (pass_view p.old)) }
+        ensures pass { pass_view p.new ≡ after_split (pass_view p.old) }
+        ensures seen { IsPrefix (front p.old) self.new.state.history }
+        ensures still_gives { GivesOwnPassesOnly self.old → GivesOwnPassesOnly self.new }
+    {
+        board.learn(&mut self.seat, p);
+    }
+}

@@ -1,5 +1,0 @@
-pub mod Bases
-pub mod Common
-pub mod Fresh
-pub mod Stays
-pub mod Worked

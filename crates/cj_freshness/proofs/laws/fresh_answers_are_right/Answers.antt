@@ -1,8 +1,0 @@
-use Rattle.cj_freshness.proofs.Fresh.{right_at_end, given_at_end}
-use Rattle.cj_freshness.proofs.laws.fresh_answers_are_right.Goals as goal
-
-pub returns-clause-answer : goal.returns-clause-answer
-returns-clause-answer c = right_at_end
-
-pub returns-clause-cache : goal.returns-clause-cache
-returns-clause-cache c = given_at_end

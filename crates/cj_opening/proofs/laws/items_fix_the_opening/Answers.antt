@@ -1,5 +1,0 @@
-use Rattle.cj_opening.proofs.OneOpening.{items_fix}
-use Rattle.cj_opening.proofs.laws.items_fix_the_opening.Goals as goal
-
-pub returns : goal.returns
-returns c = items_fix

@@ -1,0 +1,77 @@
+-- Rows by their keys.
+use Rattle.std.specs.Prelude.{false, unwrap_or, ◌≡◌, ℕ, Bool, true, List, [], All, filter, map, fold, is_some}
+use Rattle.std.specs.declared.option.Option.{Option}
+use Rattle.std.specs.declared.option.Option.TheVariants.{None, Some}
+use Rattle.std.specs.declared.cmp.Ordering.{Ordering}
+use Rattle.std.specs.declared.cmp.Ordering.TheVariants.{Less}
+use Rattle.std.specs.Ordering.{is_le}
+use Rattle.std.specs.BTreeMap.{insert_entry, is_at}
+use Rattle.cj_model.specs.declared.value.Value.{Value}
+use Rattle.cj_model.specs.Database.Values.{value_cmp}
+use Rattle.cj_model.specs.Database.Tables.{cell}
+use Rattle.cj_rowstore.specs.Entries.{KeysRise, at}
+use Rattle.cj_rowstore.specs.Layers.{kept, merged}
+
+-- rows, each the list of its values
+abbrev pub Rows : Type 0
+Rows = List (List Value)
+
+-- keys in rising order, each with its row, or with none
+abbrev pub RowEntries : Type 0
+RowEntries = List (Value × Option (List Value))
+
+-- a key is known, with a row or with none
+abbrev pub knows : RowEntries → Value → Bool
+knows es key = is_some (at value_cmp key es)
+
+-- each key of the changes is known
+abbrev pub KnowsKeys : RowEntries → RowEntries → Type 0
+KnowsKeys es changes = All (λ c. knows es c.0 ≡ true) changes
+
+-- the rows with their keys, where the key stands at a place
+abbrev pub keyed : ℕ → List (List Value) → List (Value × List Value)
+keyed k rows = map (λ r. (cell r k, r)) rows
+
+-- the rows that are there, with changes laid over them
+abbrev pub overlaid : RowEntries → RowEntries → List (Value × List Value)
+overlaid es changes = merged value_cmp (kept es) changes
+
+-- the entries from a key on
+abbrev pub from_key : {X : Type 0} → Value → List (Value × X) → List (Value × X)
+from_key v es = filter (λ e. is_le (value_cmp v e.0)) es
+
+-- the changes that put these rows
+abbrev pub puts : ℕ → List (List Value) → RowEntries
+puts k rows = fold (λ changes r. insert_entry value_cmp changes (cell r k) (Some r)) [] rows
+
+-- the changes that take these rows out
+abbrev pub removals : ℕ → List (List Value) → RowEntries
+removals k rows = fold (λ changes r. insert_entry value_cmp changes (cell r k) None) [] rows
+
+-- which comes first, an entry or a change, where their keys have this order: an entry without a row is passed over
+abbrev pub turn : Option (List Value) → Ordering → Ordering
+turn None order = Less
+turn (Some row) order = order
+
+-- ---- entries made for keys that changes are to be laid over
+
+-- what the entries show is as before, and each key that was known still is
+pub record Extends (below old new : RowEntries) : Type 0 where
+  pub shown : overlaid below new ≡ overlaid below old
+  pub knows : (key : Value) → knows old key ≡ true → knows new key ≡ true
+
+-- each key is an old one, or one of the changes: what holds of these holds of it
+pub record HasKeysOf (old changes new : RowEntries) : Type 0 where
+  pub each : (p : Value → Bool) → All (λ e. p e.0 ≡ true) old → All (λ c. p c.0 ≡ true) changes → All (λ e. p e.0 ≡ true) new
+
+-- ---- changes that turn rows into new ones
+
+-- only the change at the row's key is another, and shows over the row what the old one showed over nothing
+pub record Settles (key : Value) (row : List Value) (old new : RowEntries) : Type 0 where
+  pub own : unwrap_or (at value_cmp key new) (Some row) ≡ unwrap_or (at value_cmp key old) None
+  pub others : (other : Value) → is_at (value_cmp other) key ≡ false → at value_cmp other new ≡ at value_cmp other old
+
+-- over the old rows the changes show the new ones
+pub record Turns (k : ℕ) (old new : List (List Value)) (changes : RowEntries) : Type 0 where
+  pub rises : KeysRise value_cmp changes
+  pub rows : merged value_cmp (keyed k old) changes ≡ keyed k new

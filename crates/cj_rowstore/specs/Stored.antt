@@ -1,0 +1,61 @@
+-- What a stored table keeps, and the slot that it shows.
+use Rattle.std.specs.Prelude.{◌≡◌, ℕ, ◌<◌, List, ⊤, length}
+use Rattle.std.specs.declared.option.Option.{Option}
+use Rattle.std.specs.declared.option.Option.TheVariants.{None, Some}
+use Rattle.std.specs.Map.{values_of}
+use Rattle.cj_model.specs.declared.value.Value.{Value}
+use Rattle.cj_model.specs.declared.schema.Schema.{Schema}
+use Rattle.cj_model.specs.declared.database.Draft.{Draft}
+use Rattle.cj_model.specs.declared.database.Slot.{Slot}
+use Rattle.cj_model.specs.Database.Values.{value_cmp}
+use Rattle.cj_model.specs.Database.Steps.{seen, with_table}
+use Rattle.cj_model.specs.Database.Tables.{cell}
+use Rattle.cj_rowstore.specs.declared.stored.StoredDraft.{StoredDraft}
+use Rattle.cj_rowstore.specs.Entries.{KeysRise}
+use Rattle.cj_rowstore.specs.Layers.{kept, merged}
+use Rattle.cj_rowstore.specs.RowEntries.{RowEntries, KnowsKeys, keyed, overlaid}
+
+-- ---- what is shown
+
+abbrev pub shown_draft : Schema → RowEntries → Option StoredDraft → Option Draft
+shown_draft schema base None = None
+shown_draft schema base (Some d) = Some (record { tx = d.tx; table = record { schema = schema; rows = values_of (overlaid base d.changes) } })
+
+abbrev pub slot_shown : Schema → RowEntries → Option StoredDraft → Slot
+slot_shown schema base draft = record { base = record { schema = schema; rows = values_of (kept base) }; draft = shown_draft schema base draft }
+
+-- ---- what is kept
+
+-- entries whose keys are their rows' own, and the number of them
+pub record AreRows (k : ℕ) (entries : List (Value × List Value)) (n : ℕ) : Type 0 where
+  pub own_keys : entries ≡ keyed k (values_of entries)
+  pub count : n ≡ length (values_of entries)
+
+-- a draft's changes are of keys that the base knows
+abbrev pub DraftHolds : ℕ → RowEntries → Option StoredDraft → Type 0
+DraftHolds k base None = ⊤
+DraftHolds k base (Some d) = (0 < d.tx) × KeysRise value_cmp d.changes × KnowsKeys base d.changes × AreRows k (overlaid base d.changes) d.count
+
+pub record HoldsTable (k : ℕ) (base : RowEntries) (n : ℕ) (d : Option StoredDraft) : Type 0 where
+  pub rises : KeysRise value_cmp base
+  pub rows : AreRows k (kept base) n
+  pub draft : DraftHolds k base d
+
+-- ---- changes
+
+-- the rows that changes leave of rows
+abbrev pub rows_after : ℕ → List (List Value) → RowEntries → List (List Value)
+rows_after k rows changes = values_of (merged value_cmp (keyed k rows) changes)
+
+-- the slot after changes of the rows that a transaction sees
+abbrev pub changed_slot : Slot → ℕ → RowEntries → Slot
+changed_slot s tx changes = with_table s tx (record { schema = s.base.schema; rows = rows_after s.base.schema.key (seen s tx).rows changes })
+
+-- changes of rows that leave rows under their own keys, and the number of these
+pub record IsChangeOf (k : ℕ) (old : List (List Value)) (changes : RowEntries) (n : ℕ) : Type 0 where
+  pub rises : KeysRise value_cmp changes
+  pub rows : AreRows k (merged value_cmp (keyed k old) changes) n
+
+-- no row gets another key
+pub record KeepsKeys (k : ℕ) (f : List Value → List Value) : Type 0 where
+  pub same : (row : List Value) → cell (f row) k ≡ cell row k
