@@ -14,13 +14,13 @@ use Rattle.cj_model.specs.Sql.Literals.{literal}
 use Rattle.cj_model.specs.Sql.Names.{IsNameOrEmpty, IsText}
 use Rattle.cj_print.specs.Canonical.{separated}
 
--- these joined_words, with one space between each two
+-- these words, with one space between each two
 abbrev pub joined_words : List (List ℕ) → List ℕ
 joined_words = join_with_byte 32
 
 -- a line with its LF
-abbrev pub fed_line : List ℕ → List ℕ
-fed_line line = line ++ 10 ∷ []
+abbrev pub ended_line : List ℕ → List ℕ
+ended_line line = line ++ 10 ∷ []
 
 -- the literals of a row's values, with a comma and a space between each two
 abbrev pub table_row_text : List Value → List ℕ
@@ -28,7 +28,7 @@ table_row_text = separated literal
 
 -- a line for each row
 abbrev pub row_lines : List (List Value) → List ℕ
-row_lines = flat_map (λ row. fed_line (table_row_text row))
+row_lines = flat_map (λ row. ended_line (table_row_text row))
 
 -- the names of the backend and the table, the state in which the table stands there, and how many rows it has
 abbrev pub table_head : List ℕ → List ℕ → Table → List ℕ
@@ -36,7 +36,7 @@ table_head name state t = joined_words (name ∷ t.schema.table ∷ state ∷ de
 
 -- and under that line its rows
 abbrev pub table_lines : List ℕ → List ℕ → Table → List ℕ
-table_lines name state t = fed_line (table_head name state t) ++ row_lines t.rows
+table_lines name state t = ended_line (table_head name state t) ++ row_lines t.rows
 
 -- the state of a draft: that it is one, and of which transaction
 abbrev pub draft_state : ℕ → List ℕ
