@@ -22,8 +22,8 @@ pub fn append_text(text: &mut Vec<u8>, bytes: &[u8]) -> Result<(), NoMemory>
 
 /// Adds words or signs of ASCII.
 pub fn append_ascii(text: &mut Vec<u8>, words: &[u8]) -> Result<(), NoMemory>
-    requires { IsAsciiText joined_words.now }
-    ensures ok { OnOk result (text.new.items ≡ text.old.items ++ joined_words.now) }
+    requires { IsAsciiText words.now }
+    ensures ok { OnOk result (text.new.items ≡ text.old.items ++ words.now) }
     ensures text { OnOk result (StaysText text.old.items text.new.items) }
 {
     append_text(text, words)
